@@ -1,0 +1,5 @@
+pub mod ShareLemmas
+pub mod SharedDigits
+pub mod PrefixLemmas
+pub mod SlotLemmas
+pub mod NameLemmas

@@ -1,0 +1,6 @@
+use Rattle.std.proofs.Common.{arith}
+use Rattle.ddt_path.proofs.PrefixLemmas.{is_front_test}
+use Rattle.ddt_path.proofs.masks.is_front32.Goals as goal
+
+pub returns : goal.returns
+returns c = is_front_test 32 c.args.len c.args.number c.front32.result c.requires c.ranges.number.fits (omega arith) c.front32.ensures

@@ -1,0 +1,8 @@
+use Rattle.ddt_path.specs.Path.{xeid_path}
+use Rattle.ddt_path.proofs.PrefixLemmas.{common_of_fronts}
+use Rattle.ddt_path.proofs.prefix.Prefix.longest_common.Goals as goal
+
+pub returns : goal.returns
+returns c =
+    rw (c.cut.ensures, c.min-2.ensures, c.min.ensures, c.shared-shared.ensures, c.len.ensures.digits, c.len-2.ensures.digits)
+    (common_of_fronts c.args.self c.args.other (xeid_path c.inner-x.result) (xeid_path c.inner.result) c.inner-x.ensures.front c.inner.ensures.front)

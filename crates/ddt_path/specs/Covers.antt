@@ -1,0 +1,26 @@
+-- How two paths stand to each other: covers, overlaps, strictly below (RFC 8111, section 3: a more specific XEID-prefix).
+use Rattle.std.specs.Prelude.{ℕ, ◌+◌, Bool, true, false, ◌==◌, ◌&&◌, ◌||◌, not, if◌then◌else◌, List, [], ◌∷◌}
+
+-- p covers q where p is an initial part of q, equality included
+abbrev pub covers : List ℕ → List ℕ → Bool
+covers [] q = true
+covers (d ∷ p) [] = false
+covers (d ∷ p) (e ∷ q) = d == e && covers p q
+
+-- two paths overlap where one covers the other
+abbrev pub overlaps : List ℕ → List ℕ → Bool
+overlaps p q = covers p q || covers q p
+
+-- one path: each covers the other
+abbrev pub is_same_path : List ℕ → List ℕ → Bool
+is_same_path p q = covers p q && covers q p
+
+-- p is strictly below q where q covers p and they differ
+abbrev pub is_strictly_below : List ℕ → List ℕ → Bool
+is_strictly_below p q = covers q p && not (covers p q)
+
+-- how many digits two paths share from their fronts
+abbrev pub shared_len : List ℕ → List ℕ → ℕ
+shared_len [] q = 0
+shared_len (d ∷ p) [] = 0
+shared_len (d ∷ p) (e ∷ q) = if d == e then 1 + shared_len p q else 0

@@ -1,0 +1,46 @@
+-- The prefix of a delegation hole: the least specific one that matches no delegated prefix (RFC 8111, section 7.3.2),
+-- kept inside the prefix of the authority.
+use Rattle.std.specs.Prelude.{ℕ, Bool, ◌&&◌, not, nat_lt, if◌then◌else◌, List, [], ◌∷◌, ◌++◌, length, take, drop, find, Option, None, Some}
+use Rattle.std.specs.List.{list_all}
+use Rattle.ddt_path.specs.Covers.{covers, overlaps}
+
+-- front, and front with one more digit of the rest after it, and so on up to all of it
+abbrev pub lengthened : List ℕ → List ℕ → List (List ℕ)
+lengthened front [] = front ∷ []
+lengthened front (d ∷ rest) = front ∷ lengthened (front ++ d ∷ []) rest
+
+-- the initial parts of x, by length from n upwards; x alone where n is at least its length
+abbrev pub parts_from : ℕ → List ℕ → List (List ℕ)
+parts_from n x = lengthened (take n x) (drop n x)
+
+-- q overlaps no member of s
+abbrev pub overlaps_none : List (List ℕ) → List ℕ → Bool
+overlaps_none s q = list_all (λ p. not (overlaps p q)) s
+
+-- The least specific free prefix: of the initial parts of x, by length from that of authority upwards, the first
+-- that overlaps no member of s; None where each overlaps one, which is where a member covers x. Where authority
+-- doesn't cover x the answer may lie outside it: no authority is asked for an identifier that it doesn't cover.
+abbrev pub free : List ℕ → List (List ℕ) → List ℕ → Option (List ℕ)
+free authority s x = find (overlaps_none s) (parts_from (length authority) x)
+
+-- The weak form: some prefix inside the authority that covers x and overlaps no member of s.
+abbrev pub is_free : List ℕ → List (List ℕ) → List ℕ → List ℕ → Bool
+is_free authority s x q = covers q x && (covers authority q && overlaps_none s q)
+
+-- Of the items whose prefix covers x, the one of the longest prefix; of equal prefixes the first.
+abbrev pub longer_of : {A : Type 0} → (A → List ℕ) → A → Option A → A
+longer_of prefix a None = a
+longer_of prefix a (Some b) = if nat_lt (length (prefix a)) (length (prefix b)) then b else a
+
+abbrev pub longest_match : {A : Type 0} → (A → List ℕ) → List A → List ℕ → Option A
+longest_match prefix [] x = None
+longest_match prefix (a ∷ others) x = if covers (prefix a) x then Some (longer_of prefix a (longest_match prefix others x)) else longest_match prefix others x
+
+-- Of the items whose prefix covers x, the one of the shortest prefix; of equal prefixes the first.
+abbrev pub shorter_of : {A : Type 0} → (A → List ℕ) → A → Option A → A
+shorter_of prefix a None = a
+shorter_of prefix a (Some b) = if nat_lt (length (prefix b)) (length (prefix a)) then b else a
+
+abbrev pub shortest_match : {A : Type 0} → (A → List ℕ) → List A → List ℕ → Option A
+shortest_match prefix [] x = None
+shortest_match prefix (a ∷ others) x = if covers (prefix a) x then Some (shorter_of prefix a (shortest_match prefix others x)) else shortest_match prefix others x

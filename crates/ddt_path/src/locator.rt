@@ -1,0 +1,66 @@
+//! A locator, and the address part of an identifier: an IPv4 or an IPv6 address (an RLOC of RFC 8111, section 3).
+
+use crate::masks::{front32, front128, is_front32, is_front128, shared32, shared128};
+
+/// An IPv4 or IPv6 address as a number, most significant digit first.
+#[derive(Clone, Copy, Debug, PartialEq, Eq, PartialOrd, Ord, Hash)]
+pub enum Locator {
+    /// 32 digits.
+    V4(u32),
+    /// 128 digits.
+    V6(u128),
+}
+
+impl Locator {
+    ghost use Rattle.std.specs.Prelude.{◌≡◌, ◌≤◌, ◌<◌, ◌-◌, ◌^◌, ◌++◌, take, drop, replicate};
+    ghost use Rattle.ddt_path.specs.Path.{address_width, address_number, address_digits, family, address_path, are_zero};
+    ghost use Rattle.ddt_path.specs.Covers.{shared_len};
+
+    /// How many digits an address of this family has: 32 or 128.
+    pub fn width(self) -> u8
+        ensures width { result ≡ address_width self }
+        ensures number { address_number self < 2 ^ result }
+    {
+        match self {
+            Locator::V4(_number) => 32,
+            Locator::V6(_number) => 128,
+        }
+    }
+
+    /// How many leading symbols the address parts of two paths share, the family symbol among them.
+    pub(crate) fn shared(self, other: Locator) -> u8
+        ensures digits { result ≡ shared_len (address_path self) (address_path other) }
+        ensures bound { result ≤ 129 }
+    {
+        match (self, other) {
+            (Locator::V4(a), Locator::V4(b)) => 1 + shared32(a, b),
+            (Locator::V6(a), Locator::V6(b)) => 1 + shared128(a, b),
+            _ => 0,
+        }
+    }
+
+    /// The address with 0 in place of each digit past the first `len`.
+    pub(crate) fn front(self, len: u8) -> Locator
+        requires { len ≤ address_width self }
+        ensures family { family result ≡ family self }
+        ensures width { address_width result ≡ address_width self }
+        ensures number { address_number result < 2 ^ address_width self }
+        ensures digits { address_digits result ≡ take len (address_digits self) ++ replicate (address_width self - len) 0 }
+    {
+        match self {
+            Locator::V4(a) => Locator::V4(front32(a, len)),
+            Locator::V6(a) => Locator::V6(front128(a, len)),
+        }
+    }
+
+    /// Whether each digit of the address past the first `len` is 0.
+    pub(crate) fn is_front(self, len: u8) -> bool
+        requires { len ≤ address_width self }
+        ensures { result ≡ are_zero (drop len (address_digits self)) }
+    {
+        match self {
+            Locator::V4(a) => is_front32(a, len),
+            Locator::V6(a) => is_front128(a, len),
+        }
+    }
+}

@@ -1,0 +1,189 @@
+//! A prefix, seen by contracts as its path (RFC 8111, section 3: an XEID-prefix).
+
+ghost use Rattle.std.specs.Prelude.{◌≡◌, ◌≤◌, ◌<◌, ◌==◌, IsTrue, take, length, Result};
+ghost use Rattle.std.specs.Cmp.Lexicographic.{pointwise, nat_list_eq_equiv};
+ghost use Rattle.std.specs.Cmp.{partial_equiv_from_equiv};
+ghost use Rattle.ddt_path.specs.Path.{path, xeid_path, prefix_of, IsForm};
+ghost use Rattle.ddt_path.specs.Covers.{covers, overlaps, shared_len};
+
+use crate::form::{Form, PrefixFault};
+use crate::locator::Locator;
+use crate::masks::{front32, is_front32};
+use crate::xeid::Xeid;
+use std::marker::Model;
+
+/// The first digits of the paths of identifiers: everything, a range of instances, or a block of addresses in one
+/// instance. Its length is from 0 to 65 or 161.
+#[derive(Clone, Copy, Debug)]
+pub struct Prefix {
+    form: Form,
+}
+
+impl Model for Prefix {
+    ghost use Rattle.std.specs.Prelude.{List, ℕ};
+
+    ghost Value = { List ℕ };
+
+    ghost use Rattle.ddt_path.specs.Path.{path, IsForm};
+    ghost use Rattle.ddt_path.specs.FormOf.{form_of};
+    ghost use Rattle.ddt_path.specs.FormLemmas.{form_of-path};
+    ghost use Rattle.ddt_path.specs.declared.form.Form.{Form};
+    ghost use Rattle.std.proofs.Common.{ap};
+
+    ghost view = { λ a. path a.form };
+
+    ghost invariant = { λ a. IsForm a.form };
+
+    ghost inverse = { λ ds. record { form = form_of ds } };
+
+    ghost inverse_ok = { λ a h. ap (λ (f : Form). record { form = f }) (form_of-path a.form h) };
+}
+
+impl Prefix {
+    /// The range of the instances whose Instance ID has the first `len` digits of `iid`; of length 0, everything.
+    /// Refused as 1 Length where `len` is above 32, then as 2 TailNotZero where a digit of `iid` past it isn't 0.
+    pub fn range(iid: u32, len: u8) -> Result<Prefix, PrefixFault>
+        ensures { result ≡ prefix_of (Form.Range iid len) }
+    {
+        if len > 32 {
+            return Err(PrefixFault::Length);
+        }
+        if !is_front32(iid, len) {
+            return Err(PrefixFault::TailNotZero);
+        }
+        Ok(Prefix {
+            form: Form::Range { iid, len },
+        })
+    }
+
+    /// The addresses of one instance and family that have the first `len` digits of `address`. Refused as 1 Length
+    /// where `len` is above the width, 32 or 128, then as 2 TailNotZero where a digit of `address` past it isn't 0.
+    pub fn block(iid: u32, address: Locator, len: u8) -> Result<Prefix, PrefixFault>
+        ensures { result ≡ prefix_of (Form.Block iid address len) }
+    {
+        if len > address.width() {
+            return Err(PrefixFault::Length);
+        }
+        if !address.is_front(len) {
+            return Err(PrefixFault::TailNotZero);
+        }
+        Ok(Prefix {
+            form: Form::Block { iid, address, len },
+        })
+    }
+
+    /// The prefix that covers this identifier alone.
+    pub fn host(x: Xeid) -> Prefix
+        ensures { result ≡ xeid_path x }
+    {
+        let len = x.address.width();
+        Prefix {
+            form: Form::Block {
+                iid: x.iid,
+                address: x.address,
+                len,
+            },
+        }
+    }
+
+    /// The first `len` digits of the identifier's path; `len` is at most 65 for IPv4 and 161 for IPv6.
+    pub fn cut(x: Xeid, len: u8) -> Prefix
+        requires { len ≤ length (xeid_path x) }
+        ensures { result ≡ take len (xeid_path x) }
+    {
+        if len <= 32 {
+            return Prefix {
+                form: Form::Range {
+                    iid: front32(x.iid, len),
+                    len,
+                },
+            };
+        }
+        let len = len - 33;
+        let address = x.address.front(len);
+        Prefix {
+            form: Form::Block {
+                iid: x.iid,
+                address,
+                len,
+            },
+        }
+    }
+
+    /// How the prefix is written down: a range, or a block.
+    pub fn form(self) -> Form
+        ensures path { path result ≡ self }
+        ensures kept { IsForm result }
+    {
+        self.form
+    }
+
+    /// The number of digits, 0 to 65 or 161.
+    pub fn len(self) -> u8
+        ensures digits { result ≡ length self }
+        ensures bound { result ≤ 161 }
+    {
+        match self.form {
+            Form::Range { len, .. } => len,
+            Form::Block { len, .. } => 33 + len,
+        }
+    }
+
+    /// An identifier that the prefix covers, as any of instance 0 for everything.
+    fn inner(self) -> Xeid
+        ensures front { take (length self) (xeid_path result) ≡ self }
+        ensures fits { length self ≤ length (xeid_path result) }
+    {
+        match self.form {
+            Form::Range { iid, .. } => Xeid {
+                iid,
+                address: Locator::V4(0),
+            },
+            Form::Block { iid, address, .. } => Xeid { iid, address },
+        }
+    }
+
+    /// Whether each identifier that `other` covers is covered by this prefix, itself included.
+    pub fn covers(self, other: Prefix) -> bool
+        ensures { result ≡ covers self other }
+    {
+        self.len() <= other.len() && self.len() <= self.inner().shared(other.inner())
+    }
+
+    /// Whether the prefix covers the identifier.
+    pub fn covers_xeid(self, x: Xeid) -> bool
+        ensures { result ≡ covers self (xeid_path x) }
+    {
+        self.covers(Prefix::host(x))
+    }
+
+    /// Whether one of the two covers the other.
+    pub fn overlaps(self, other: Prefix) -> bool
+        ensures { result ≡ overlaps self other }
+    {
+        self.covers(other) || other.covers(self)
+    }
+
+    /// The longest prefix that covers both.
+    pub fn longest_common(self, other: Prefix) -> Prefix
+        ensures { result ≡ take (shared_len self other) self }
+    {
+        let x = self.inner();
+        let shared = x.shared(other.inner());
+        Prefix::cut(x, shared.min(self.len()).min(other.len()))
+    }
+}
+
+impl PartialEq for Prefix {
+    ghost eq = { pointwise ◌==◌ };
+
+    ghost laws = { partial_equiv_from_equiv nat_list_eq_equiv };
+
+    fn eq(&self, other: &Prefix) -> bool {
+        self.covers(*other) && other.covers(*self)
+    }
+}
+
+impl Eq for Prefix {
+    ghost laws = { nat_list_eq_equiv };
+}

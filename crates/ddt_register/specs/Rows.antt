@@ -1,0 +1,33 @@
+-- The rows of a register. A row is 1 to 65,535; rows rise within each list, and no row stands twice.
+use Rattle.std.specs.Prelude.{ℕ, Bool, true, ◌==◌, ◌&&◌, not, nat_lt, nat_le, List, [], ◌∷◌, map}
+use Rattle.std.specs.List.{list_any, list_all}
+use Rattle.ddt_register.specs.declared.zone.Zone.{Zone}
+use Rattle.ddt_register.specs.declared.site.Site.{Site}
+use Rattle.ddt_register.specs.declared.group.Group.{Group}
+
+-- each row is above the one before it, the first above last, and none is above 65,535
+abbrev pub rise : ℕ → List ℕ → Bool
+rise last [] = true
+rise last (row ∷ rows) = (nat_lt last row && nat_le row 65535) && rise row rows
+
+-- whether a row is one of the list
+abbrev pub has_row : List ℕ → ℕ → Bool
+has_row rows row = list_any (λ r. r == row) rows
+
+-- no row of the one list stands in the other
+abbrev pub are_apart : List ℕ → List ℕ → Bool
+are_apart rows others = list_all (λ row. not (has_row others row)) rows
+
+abbrev pub zone_rows : List Zone → List ℕ
+zone_rows zones = map (λ z. z.row) zones
+
+abbrev pub site_rows : List Site → List ℕ
+site_rows sites = map (λ s. s.row) sites
+
+abbrev pub group_rows : List Group → List ℕ
+group_rows groups = map (λ g. g.row) groups
+
+abbrev pub are_rows : List Zone → List Site → List Group → Bool
+are_rows zones sites groups =
+    (rise 0 (zone_rows zones) && (rise 0 (site_rows sites) && rise 0 (group_rows groups)))
+    && (are_apart (zone_rows zones) (site_rows sites) && (are_apart (zone_rows zones) (group_rows groups) && are_apart (site_rows sites) (group_rows groups)))

@@ -1,5 +1,6 @@
 -- How two paths stand to each other: covers, overlaps, strictly below (RFC 8111, section 3: a more specific XEID-prefix).
 use Rattle.std.specs.Prelude.{ℕ, ◌+◌, Bool, true, false, ◌==◌, ◌&&◌, ◌||◌, not, if◌then◌else◌, List, [], ◌∷◌}
+use Rattle.std.specs.Cmp.Lexicographic.{pointwise}
 
 -- p covers q where p is an initial part of q, equality included
 abbrev pub covers : List ℕ → List ℕ → Bool
@@ -11,9 +12,9 @@ covers (d ∷ p) (e ∷ q) = d == e && covers p q
 abbrev pub overlaps : List ℕ → List ℕ → Bool
 overlaps p q = covers p q || covers q p
 
--- one path: each covers the other
+-- two paths are one: digit for digit the same
 abbrev pub is_same_path : List ℕ → List ℕ → Bool
-is_same_path p q = covers p q && covers q p
+is_same_path p q = pointwise ◌==◌ p q
 
 -- p is strictly below q where q covers p and they differ
 abbrev pub is_strictly_below : List ℕ → List ℕ → Bool

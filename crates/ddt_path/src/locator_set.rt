@@ -1,6 +1,6 @@
 //! The locators of a referral set or of a server group, in order (RFC 8111, section 3: a referral set).
 
-ghost use Rattle.std.specs.Prelude.{◌≡◌, ◌≤◌, length};
+ghost use Rattle.std.specs.Prelude.{◌≡◌, ◌≤◌, [], length};
 ghost use Rattle.std.specs.Option.{SomeIff};
 ghost use Rattle.std.specs.Cmp.Rules.{comparing};
 ghost use Rattle.std.proofs.Common.{rules};
@@ -55,6 +55,16 @@ impl LocatorSet {
             slots,
             len: locators.len(),
         })
+    }
+
+    /// The set of no locator.
+    pub fn none() -> LocatorSet
+        ensures { result ≡ [] }
+    {
+        LocatorSet {
+            slots: [FILLER; MOST_LOCATORS],
+            len: 0,
+        }
     }
 
     /// The locators in order.

@@ -1,0 +1,5 @@
+pub mod MatchLemmas
+pub mod ZoneLemmas
+pub mod LeastRowLemmas
+pub mod AcceptedLemmas
+pub mod HoleLemmas

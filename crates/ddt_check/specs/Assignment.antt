@@ -1,0 +1,45 @@
+-- What longest match over the register assigns to an identifier.
+use Rattle.std.specs.Prelude.{ℕ, ◌==◌, List, [], length, map, unwrap_or, if◌then◌else◌}
+use Rattle.std.specs.List.{filter}
+use Rattle.std.specs.Option.{option_map_or}
+use Rattle.ddt_path.specs.declared.record.Role.{Role}
+use Rattle.ddt_path.specs.declared.record.Role.TheVariants.{Node, Ms}
+use Rattle.ddt_path.specs.declared.record.Outcome.{Outcome}
+use Rattle.ddt_path.specs.declared.record.Outcome.TheVariants.{Registered, NotRegistered, Hole}
+use Rattle.ddt_path.specs.Covers.{covers, is_strictly_below}
+use Rattle.ddt_path.specs.Free.{free}
+use Rattle.ddt_register.specs.declared.zone.Zone.{Zone}
+use Rattle.ddt_register.specs.declared.site.Site.{Site}
+use Rattle.ddt_register.specs.declared.register.Register.{Register}
+use Rattle.ddt_check.specs.Zones.{zone_of, site_of, locators_of}
+
+-- the prefixes of the zones strictly below a zone
+abbrev pub prefixes_below : Register → Zone → List (List ℕ)
+prefixes_below r z = map (λ y. y.prefix) (filter (λ y. is_strictly_below y.prefix z.prefix) r.zones)
+
+-- the prefixes of the sites that a zone covers
+abbrev pub prefixes_within : Register → Zone → List (List ℕ)
+prefixes_within r z = map (λ s. s.prefix) (filter (λ s. covers z.prefix s.prefix) r.sites)
+
+-- what is delegated or registered inside a zone: zones in a zone of DDT nodes, sites in one of Map-Servers
+abbrev pub prefixes_in : Register → Zone → Role → List (List ℕ)
+prefixes_in r z Node = prefixes_below r z
+prefixes_in r z Ms = prefixes_within r z
+
+-- The hole of an identifier between prefixes inside an authority. Where a prefix covers the identifier there is no
+-- hole, and this gives the identifier itself; no case below asks for it then.
+abbrev pub hole_of : List ℕ → List (List ℕ) → List ℕ → List ℕ
+hole_of authority prefixes x = unwrap_or (free authority prefixes x) x
+
+-- a site that has an ETR is registered
+abbrev pub assigned_site : Register → Zone → Site → Outcome
+assigned_site r z s = if length s.etrs == 0 then NotRegistered s.prefix (locators_of r z.group) else Registered s.prefix (locators_of r z.group)
+
+abbrev pub assigned_in : Register → Zone → Role → List ℕ → Outcome
+assigned_in r z Node x = Hole (hole_of z.prefix (prefixes_in r z Node) x)
+assigned_in r z Ms x = option_map_or (assigned_site r z) (site_of r x) (Hole (hole_of z.prefix (prefixes_in r z Ms) x))
+
+-- The assignment, by the kind of the identifier's zone. Each identifier has a zone in an accepted register; for
+-- another register and an identifier that no zone covers this gives the hole of everything.
+abbrev pub assignment : Register → List ℕ → Outcome
+assignment r x = option_map_or (λ z. assigned_in r z z.kind x) (zone_of r x) (Hole [])

@@ -1,0 +1,4 @@
+pub mod Zones
+pub mod Rules
+pub mod Assignment
+pub mod Says

@@ -1,0 +1,135 @@
+-- The ten rules of a register, each as a test of its lists at one row. The delegation tree of RFC 8111, section 4,
+-- needs them: one root, one owner for each prefix, and Map-Servers as its leaves.
+use Rattle.std.specs.Prelude.{◌≡◌, ℕ, ◌<◌, Bool, true, false, ◌==◌, ◌&&◌, ◌||◌, not, nat_lt, if◌then◌else◌, List, [], ◌∷◌, length, is_some, find, Option, MatchOption}
+use Rattle.std.specs.List.{list_any}
+use Rattle.std.specs.Option.{option_map, option_map_or}
+use Rattle.ddt_path.specs.declared.locator.Locator.{Locator}
+use Rattle.ddt_path.specs.Covers.{overlaps, is_same_path, is_strictly_below}
+use Rattle.ddt_register.specs.declared.zone.Zone.{Zone}
+use Rattle.ddt_register.specs.declared.site.Site.{Site}
+use Rattle.ddt_register.specs.declared.group.Group.{Group}
+use Rattle.ddt_register.specs.declared.register.Register.{Register}
+use Rattle.ddt_check.specs.declared.fault.Rule.{Rule}
+use Rattle.ddt_check.specs.declared.fault.Rule.TheVariants as rules
+use Rattle.ddt_check.specs.Zones.{is_ms, is_same_role, is_same_name, lists, zone_of, group_named}
+
+-- some zone, site or group stands in the row and passes the test
+abbrev pub zone_at : Register → ℕ → (Zone → Bool) → Bool
+zone_at r row test = list_any (λ z. z.row == row && test z) r.zones
+
+abbrev pub site_at : Register → ℕ → (Site → Bool) → Bool
+site_at r row test = list_any (λ s. s.row == row && test s) r.sites
+
+abbrev pub group_at : Register → ℕ → (Group → Bool) → Bool
+group_at r row test = list_any (λ g. g.row == row && test g) r.groups
+
+-- some zone, site or group of an earlier row passes the test
+abbrev pub earlier_zone : Register → Zone → (Zone → Bool) → Bool
+earlier_zone r z test = list_any (λ y. nat_lt y.row z.row && test y) r.zones
+
+abbrev pub earlier_site : Register → Site → (Site → Bool) → Bool
+earlier_site r s test = list_any (λ t. nat_lt t.row s.row && test t) r.sites
+
+abbrev pub earlier_group : Register → Group → (Group → Bool) → Bool
+earlier_group r g test = list_any (λ h. nat_lt h.row g.row && test h) r.groups
+
+-- the zone of everything
+abbrev pub is_root : Zone → Bool
+is_root z = length z.prefix == 0
+
+-- A1: a root of Map-Servers, and a root after the first
+abbrev pub is_wrong_root : Register → Zone → Bool
+is_wrong_root r z = is_root z && (is_ms z.kind || earlier_zone r z is_root)
+
+-- A2: a zone whose prefix an earlier zone has
+abbrev pub is_duplicate_zone : Register → Zone → Bool
+is_duplicate_zone r z = earlier_zone r z (λ y. is_same_path y.prefix z.prefix)
+
+-- A3: a site that overlaps an earlier site
+abbrev pub is_overlapping_site : Register → Site → Bool
+is_overlapping_site r s = earlier_site r s (λ t. overlaps t.prefix s.prefix)
+
+-- A4: a zone whose group has no row
+abbrev pub is_of_unknown_group : Register → Zone → Bool
+is_of_unknown_group r z = not (is_some (group_named r z.group))
+
+-- A5: a zone whose kind isn't that of the first group row of its group's name
+abbrev pub is_of_other_role : Register → Zone → Bool
+is_of_other_role r z = option_map_or (λ g. not (is_same_role g.kind z.kind)) (group_named r z.group) false
+
+-- A6: a group with no locator, with more than 8, or with one that stands earlier, in its row or in an earlier group
+abbrev pub has_repeat : List Locator → Bool
+has_repeat [] = false
+has_repeat (l ∷ ls) = lists ls l || has_repeat ls
+
+abbrev pub share : List Locator → List Locator → Bool
+share ls ms = list_any (λ l. lists ms l) ls
+
+abbrev pub has_wrong_locators : Register → Group → Bool
+has_wrong_locators r g = (length g.locators == 0 || nat_lt 8 (length g.locators)) || (has_repeat g.locators || earlier_group r g (λ h. share h.locators g.locators))
+
+-- A7: a zone strictly below a zone of Map-Servers
+abbrev pub is_below_map_server : Register → Zone → Bool
+is_below_map_server r z = list_any (λ y. is_ms y.kind && is_strictly_below z.prefix y.prefix) r.zones
+
+-- A8: a site whose longest covering zone isn't of Map-Servers, or that no zone covers
+abbrev pub is_outside : Register → Site → Bool
+is_outside r s = option_map_or (λ z. not (is_ms z.kind)) (zone_of r s.prefix) true
+
+-- A9: a site with more than 8 ETRs
+abbrev pub has_too_many_etrs : Site → Bool
+has_too_many_etrs s = nat_lt 8 (length s.etrs)
+
+-- A10: a group whose name an earlier one has
+abbrev pub is_duplicate_group : Register → Group → Bool
+is_duplicate_group r g = earlier_group r g (λ h. is_same_name h.name g.name)
+
+-- where a rule is broken; A1 at row 0 where no zone is the root
+abbrev pub broken : Register → Rule → ℕ → Bool
+broken r rules.NoRoot row = if list_any is_root r.zones then zone_at r row (is_wrong_root r) else row == 0
+broken r rules.DuplicateZone row = zone_at r row (is_duplicate_zone r)
+broken r rules.SiteOverlap row = site_at r row (is_overlapping_site r)
+broken r rules.UnknownGroup row = zone_at r row (is_of_unknown_group r)
+broken r rules.Role row = zone_at r row (is_of_other_role r)
+broken r rules.Locators row = group_at r row (has_wrong_locators r)
+broken r rules.BelowMapServer row = zone_at r row (is_below_map_server r)
+broken r rules.SiteOutside row = site_at r row (is_outside r)
+broken r rules.TooManyEtrs row = site_at r row has_too_many_etrs
+broken r rules.DuplicateGroup row = group_at r row (is_duplicate_group r)
+
+-- no rule is broken at any row
+abbrev pub IsAccepted : Register → Type 0
+IsAccepted r = (rule : Rule) (row : ℕ) → broken r rule row ≡ false
+
+-- the place of a rule in the order in which faults are named
+abbrev pub rule_number : Rule → ℕ
+rule_number rules.NoRoot = 1
+rule_number rules.DuplicateZone = 2
+rule_number rules.SiteOverlap = 3
+rule_number rules.UnknownGroup = 4
+rule_number rules.Role = 5
+rule_number rules.Locators = 6
+rule_number rules.BelowMapServer = 7
+rule_number rules.SiteOutside = 8
+rule_number rules.TooManyEtrs = 9
+rule_number rules.DuplicateGroup = 10
+
+-- the broken rule of least number, and of that rule the least row
+pub record IsLeastFault (r : Register) (rule : Rule) (row : ℕ) : Type 0 where
+  pub breaks : broken r rule row ≡ true
+  pub least_rule : (earlier : Rule) (n : ℕ) → rule_number earlier < rule_number rule → broken r earlier n ≡ false
+  pub least_row : (n : ℕ) → n < row → broken r rule n ≡ false
+
+-- the row of the first zone, site or group that passes a test
+abbrev pub first_zone : Register → (Zone → Bool) → Option ℕ
+first_zone r test = option_map (λ z. z.row) (find test r.zones)
+
+abbrev pub first_site : Register → (Site → Bool) → Option ℕ
+first_site r test = option_map (λ s. s.row) (find test r.sites)
+
+abbrev pub first_group : Register → (Group → Bool) → Option ℕ
+first_group r test = option_map (λ g. g.row) (find test r.groups)
+
+-- the least row that a test holds at, where it holds at any
+abbrev pub IsLeastRow : (ℕ → Bool) → Option ℕ → Type 0
+IsLeastRow test found = MatchOption found ((n : ℕ) → test n ≡ false) (λ row. (test row ≡ true) × ((n : ℕ) → n < row → test n ≡ false))

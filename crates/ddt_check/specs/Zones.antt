@@ -1,0 +1,74 @@
+-- What is looked up in a register: a zone of an identifier, a group of a name, the locators of a group, served zones.
+use Rattle.std.specs.Prelude.{ℕ, Bool, true, false, ◌==◌, List, [], find, Option, None, Some}
+use Rattle.std.specs.List.{list_any, filter}
+use Rattle.std.specs.Option.{option_map_or}
+use Rattle.std.specs.Cmp.Lexicographic.{pointwise}
+use Rattle.ddt_path.specs.declared.locator.Locator.{Locator}
+use Rattle.ddt_path.specs.declared.locator.Locator.TheVariants.{V4, V6}
+use Rattle.ddt_path.specs.declared.record.Role.{Role}
+use Rattle.ddt_path.specs.declared.record.Role.TheVariants.{Node, Ms}
+use Rattle.ddt_path.specs.Free.{longest_match, longer_of, shorter_of}
+use Rattle.ddt_register.specs.declared.zone.Zone.{Zone}
+use Rattle.ddt_register.specs.declared.site.Site.{Site}
+use Rattle.ddt_register.specs.declared.group.Group.{Group}
+use Rattle.ddt_register.specs.declared.register.Register.{Register}
+
+abbrev pub is_ms : Role → Bool
+is_ms Node = false
+is_ms Ms = true
+
+abbrev pub is_same_role : Role → Role → Bool
+is_same_role Node Node = true
+is_same_role Ms Ms = true
+is_same_role Node Ms = false
+is_same_role Ms Node = false
+
+abbrev pub is_same_locator : Locator → Locator → Bool
+is_same_locator (V4 a) (V4 b) = a == b
+is_same_locator (V6 a) (V6 b) = a == b
+is_same_locator (V4 a) (V6 b) = false
+is_same_locator (V6 a) (V4 b) = false
+
+abbrev pub is_same_name : List ℕ → List ℕ → Bool
+is_same_name a b = pointwise ◌==◌ a b
+
+-- whether a locator is one of the list
+abbrev pub lists : List Locator → Locator → Bool
+lists locators l = list_any (λ m. is_same_locator m l) locators
+
+-- The zone of a path: the longest zone that covers it. An accepted register has one, and one alone, for each
+-- identifier; of another register this is the first of the longest.
+abbrev pub zone_of : Register → List ℕ → Option Zone
+zone_of r x = longest_match (λ z. z.prefix) r.zones x
+
+-- The site of a path: the longest site that covers it. In an accepted register at most one site covers it.
+abbrev pub site_of : Register → List ℕ → Option Site
+site_of r x = longest_match (λ s. s.prefix) r.sites x
+
+-- the first group row of a name
+abbrev pub group_named : Register → List ℕ → Option Group
+group_named r name = find (λ g. is_same_name g.name name) r.groups
+
+-- The locators of the group of that name. Where no row has the name there are none: an accepted register names
+-- no such group.
+abbrev pub locators_of : Register → List ℕ → List Locator
+locators_of r name = option_map_or (λ g. g.locators) (group_named r name) []
+
+-- the zones whose group lists a locator, in the order of their rows
+abbrev pub served_zones : Register → Locator → List Zone
+served_zones r l = filter (λ z. lists (locators_of r z.group) l) r.zones
+
+-- the longer of the zone so far and the next; of equal ones the first
+abbrev pub longer_so_far : Option Zone → Zone → Zone
+longer_so_far None z = z
+longer_so_far (Some y) z = longer_of (λ (w : Zone). w.prefix) y (Some z)
+
+-- the longer of the site so far and the next; of equal ones the first
+abbrev pub longer_site_so_far : Option Site → Site → Site
+longer_site_so_far None s = s
+longer_site_so_far (Some t) s = longer_of (λ (w : Site). w.prefix) t (Some s)
+
+-- the shorter of the zone so far and the next; of equal ones the first
+abbrev pub shorter_so_far : Option Zone → Zone → Zone
+shorter_so_far None z = z
+shorter_so_far (Some y) z = shorter_of (λ (w : Zone). w.prefix) y (Some z)

@@ -1,0 +1,20 @@
+//! The check of a register, and what an accepted one says: which Map-Servers or which hole it assigns to an
+//! identifier, and what an honest server answers.
+//!
+//! In reading order: `fault`, `accepted`, `checking` (with `rules` below it), `assigning`, `saying`.
+#![tactic(auto)]
+
+mod accepted;
+mod assigning;
+mod checking;
+mod fault;
+mod holes;
+mod lookup;
+mod rules;
+mod saying;
+
+pub use accepted::Accepted;
+pub use assigning::assign;
+pub use checking::check;
+pub use fault::{Fault, Rule};
+pub use saying::{HOLE_TTL, NOT_REGISTERED_TTL, POSITIVE_TTL, says};

@@ -2,3 +2,4 @@ pub mod Zones
 pub mod Rules
 pub mod Assignment
 pub mod Says
+pub mod Worked

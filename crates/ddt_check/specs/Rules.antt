@@ -1,5 +1,5 @@
 -- The ten rules of a register, each as a test of its lists at one row. The delegation tree of RFC 8111, section 4,
--- needs them: one root, one owner for each prefix, and Map-Servers as its leaves.
+-- wants one root, one owner of each prefix and Map-Servers as its leaves; the numbers are limits of ours.
 use Rattle.std.specs.Prelude.{◌≡◌, ℕ, ◌<◌, Bool, true, false, ◌==◌, ◌&&◌, ◌||◌, not, nat_lt, if◌then◌else◌, List, [], ◌∷◌, length, is_some, find, Option, MatchOption}
 use Rattle.std.specs.List.{list_any}
 use Rattle.std.specs.Option.{option_map, option_map_or}
@@ -37,27 +37,28 @@ earlier_group r g test = list_any (λ h. nat_lt h.row g.row && test h) r.groups
 abbrev pub is_root : Zone → Bool
 is_root z = length z.prefix == 0
 
--- A1: a root of Map-Servers, and a root after the first
+-- A1: a root that isn't the first, or that Map-Servers serve
 abbrev pub is_wrong_root : Register → Zone → Bool
 is_wrong_root r z = is_root z && (is_ms z.kind || earlier_zone r z is_root)
 
--- A2: a zone whose prefix an earlier zone has
+-- A2: a zone of the same prefix stands in an earlier row
 abbrev pub is_duplicate_zone : Register → Zone → Bool
 is_duplicate_zone r z = earlier_zone r z (λ y. is_same_path y.prefix z.prefix)
 
--- A3: a site that overlaps an earlier site
+-- A3: the site and one of an earlier row overlap
 abbrev pub is_overlapping_site : Register → Site → Bool
 is_overlapping_site r s = earlier_site r s (λ t. overlaps t.prefix s.prefix)
 
--- A4: a zone whose group has no row
+-- A4: no row defines the zone's group
 abbrev pub is_of_unknown_group : Register → Zone → Bool
 is_of_unknown_group r z = not (is_some (group_named r z.group))
 
--- A5: a zone whose kind isn't that of the first group row of its group's name
+-- A5: a zone of DDT nodes that names a group of Map-Servers, or the other way round; of two rows of one group name
+-- the first counts
 abbrev pub is_of_other_role : Register → Zone → Bool
 is_of_other_role r z = option_map_or (λ g. not (is_same_role g.kind z.kind)) (group_named r z.group) false
 
--- A6: a group with no locator, with more than 8, or with one that stands earlier, in its row or in an earlier group
+-- A6: a group whose locators are none, or above 8, or not all new: one repeats in the row, or is in an earlier group's
 abbrev pub has_repeat : List Locator → Bool
 has_repeat [] = false
 has_repeat (l ∷ ls) = lists ls l || has_repeat ls
@@ -68,19 +69,19 @@ share ls ms = list_any (λ l. lists ms l) ls
 abbrev pub has_wrong_locators : Register → Group → Bool
 has_wrong_locators r g = (length g.locators == 0 || nat_lt 8 (length g.locators)) || (has_repeat g.locators || earlier_group r g (λ h. share h.locators g.locators))
 
--- A7: a zone strictly below a zone of Map-Servers
+-- A7: some zone of Map-Servers holds this zone inside it
 abbrev pub is_below_map_server : Register → Zone → Bool
 is_below_map_server r z = list_any (λ y. is_ms y.kind && is_strictly_below z.prefix y.prefix) r.zones
 
--- A8: a site whose longest covering zone isn't of Map-Servers, or that no zone covers
+-- A8: the site's own zone is of nodes, or it has none; a zone equal to the site counts
 abbrev pub is_outside : Register → Site → Bool
 is_outside r s = option_map_or (λ z. not (is_ms z.kind)) (zone_of r s.prefix) true
 
--- A9: a site with more than 8 ETRs
+-- A9: above 8 ETRs
 abbrev pub has_too_many_etrs : Site → Bool
 has_too_many_etrs s = nat_lt 8 (length s.etrs)
 
--- A10: a group whose name an earlier one has
+-- A10: a group of the same name stands in an earlier row
 abbrev pub is_duplicate_group : Register → Group → Bool
 is_duplicate_group r g = earlier_group r g (λ h. is_same_name h.name g.name)
 
@@ -114,7 +115,7 @@ rule_number rules.SiteOutside = 8
 rule_number rules.TooManyEtrs = 9
 rule_number rules.DuplicateGroup = 10
 
--- the broken rule of least number, and of that rule the least row
+-- this rule is broken at this row, no rule before it is broken, and it is broken at no lower row
 pub record IsLeastFault (r : Register) (rule : Rule) (row : ℕ) : Type 0 where
   pub breaks : broken r rule row ≡ true
   pub least_rule : (earlier : Rule) (n : ℕ) → rule_number earlier < rule_number rule → broken r earlier n ≡ false

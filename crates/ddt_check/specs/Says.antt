@@ -1,4 +1,4 @@
--- The honest record: what a server with a locator says of an identifier (RFC 8111, sections 6.4 and 7).
+-- The honest record: what a server with a locator says of an identifier (RFC 8111, sections 6.1, 7.1 and 7.2).
 use Rattle.std.specs.Prelude.{ℕ, true, false, List, [], length, nat_lt, Option}
 use Rattle.std.specs.List.{filter}
 use Rattle.std.specs.Option.{option_map_or}
@@ -16,7 +16,7 @@ use Rattle.ddt_register.specs.declared.register.Register.{Register}
 use Rattle.ddt_check.specs.Zones.{served_zones, locators_of}
 use Rattle.ddt_check.specs.Assignment.{assignment}
 
--- how long an answer may be kept, in minutes (RFC 8111, section 6.4.1, leaves all but 0 open)
+-- how long an answer may be kept, in minutes, as the pseudocode of RFC 8111, section 8.3, has it
 abbrev pub positive_ttl : ℕ
 positive_ttl = 1440
 

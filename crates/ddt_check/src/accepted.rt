@@ -1,10 +1,22 @@
 //! A register that keeps all ten rules.
 
 ghost use Rattle.std.specs.Prelude.{◌≡◌, length};
+ghost use Rattle.std.specs.Option.{option_copied};
 ghost use Rattle.ddt_check.specs.Rules.{IsAccepted};
+ghost use Rattle.ddt_check.specs.Zones.{group_named as group_of_name};
 
-use ddt_register::Register;
+use crate::lookup;
+use ddt_path::Name;
+use ddt_register::{Group, Register};
 use std::marker::Model;
+
+/// How many items a register has.
+#[derive(Clone, Copy, Debug, PartialEq, Eq)]
+pub struct Counts {
+    pub zones: usize,
+    pub sites: usize,
+    pub groups: usize,
+}
 
 /// A register that was accepted. Contracts see the register.
 #[derive(Debug, Drop)]
@@ -38,5 +50,25 @@ impl Accepted {
         ensures accepted { IsAccepted self.now }
     {
         &self.register
+    }
+
+    /// How many zones, sites and groups it has.
+    pub fn counts(&self) -> Counts
+        ensures zones { result.zones ≡ length self.now.zones }
+        ensures sites { result.sites ≡ length self.now.sites }
+        ensures groups { result.groups ≡ length self.now.groups }
+    {
+        Counts {
+            zones: self.register.zones.as_slice().len(),
+            sites: self.register.sites.as_slice().len(),
+            groups: self.register.groups.as_slice().len(),
+        }
+    }
+
+    /// The group of a name; None where no row has it.
+    pub fn group_named(&self, name: Name) -> Option<&Group>
+        ensures { option_copied result ≡ group_of_name self.now name }
+    {
+        lookup::group_named(&self.register, name)
     }
 }

@@ -20,7 +20,7 @@ pub enum Rule {
     /// A zone is of its group's kind.
     #[error("A5 Role")]
     Role,
-    /// A group has 1 to 8 locators, and no locator stands twice.
+    /// A group has 1 to 8 locators, and no locator stands twice, in it or in two groups.
     #[error("A6 Locators")]
     Locators,
     /// Nothing is delegated below a zone of Map-Servers.

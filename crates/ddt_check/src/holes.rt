@@ -1,4 +1,4 @@
-//! The prefix of a delegation hole, by trial of each length (RFC 8111, section 7.3.2).
+//! The prefix of a delegation hole, by trial of each length (RFC 8111, section 7.1.2).
 
 ghost use Rattle.std.specs.Prelude.{◌≡◌, ◌&&◌, not};
 ghost use Rattle.std.specs.List.{list_any};

@@ -13,8 +13,11 @@ mod lookup;
 mod rules;
 mod saying;
 
-pub use accepted::Accepted;
+pub use accepted::{Accepted, Counts};
 pub use assigning::assign;
 pub use checking::check;
 pub use fault::{Fault, Rule};
 pub use saying::{HOLE_TTL, NOT_REGISTERED_TTL, POSITIVE_TTL, says};
+
+#[cfg(test)]
+mod tests;

@@ -11,6 +11,7 @@ ghost use Rattle.ddt_check.specs.Zones.{is_ms as is_ms_of, is_same_role as is_sa
 use ddt_path::{Locator, Name, Prefix, Role};
 use ddt_register::{Group, Register, Site, Zone};
 
+/// Whether a role is that of Map-Servers.
 pub fn is_ms(role: Role) -> bool
     ensures { result ≡ is_ms_of role }
 {
@@ -20,12 +21,14 @@ pub fn is_ms(role: Role) -> bool
     }
 }
 
+/// Whether two roles are one.
 pub fn is_same_role(a: Role, b: Role) -> bool
     ensures { result ≡ is_same_role_of a b }
 {
     is_ms(a) == is_ms(b)
 }
 
+/// Whether two locators are one: of one family, with one address.
 pub fn is_same_locator(a: Locator, b: Locator) -> bool
     ensures { result ≡ is_same_locator_of a b }
 {
@@ -57,12 +60,12 @@ pub fn zone_of(register: &Register, x: Prefix) -> Option<Zone>
 }
 
 /// The longer of two zones, where there is a first; of equal ones the first.
-pub fn longer(first: Option<Zone>, second: Zone) -> Zone
-    ensures { result ≡ longer_so_far first second }
+fn longer(best: Option<Zone>, next: Zone) -> Zone
+    ensures { result ≡ longer_so_far best next }
 {
-    match first {
-        Some(first) if first.prefix.len() >= second.prefix.len() => first,
-        _ => second,
+    match best {
+        Some(best) if best.prefix.len() >= next.prefix.len() => best,
+        _ => next,
     }
 }
 
@@ -105,12 +108,12 @@ fn is_longer(z: &Zone, len: u8, x: Prefix) -> bool
 }
 
 /// The shorter of two zones, where there is a first; of equal ones the first.
-fn shorter(first: Option<Zone>, second: Zone) -> Zone
-    ensures { result ≡ shorter_so_far first second }
+fn shorter(best: Option<Zone>, next: Zone) -> Zone
+    ensures { result ≡ shorter_so_far best next }
 {
-    match first {
-        Some(first) if first.prefix.len() <= second.prefix.len() => first,
-        _ => second,
+    match best {
+        Some(best) if best.prefix.len() <= next.prefix.len() => best,
+        _ => next,
     }
 }
 
@@ -127,12 +130,12 @@ pub fn site_of(register: &Register, x: Prefix) -> Option<&Site>
     longest
 }
 
-fn longer_site<'a>(first: Option<&'a Site>, second: &'a Site) -> &'a Site
-    ensures { result.now ≡ longer_site_so_far (option_copied first.entry) second.entry.now }
+fn longer_site<'a>(best: Option<&'a Site>, next: &'a Site) -> &'a Site
+    ensures { result.now ≡ longer_site_so_far (option_copied best.entry) next.entry.now }
 {
-    match first {
-        Some(first) if first.prefix.len() >= second.prefix.len() => first,
-        _ => second,
+    match best {
+        Some(site) if site.prefix.len() >= next.prefix.len() => site,
+        _ => next,
     }
 }
 

@@ -19,7 +19,7 @@ pub const HOLE_TTL: u32 = 15;
 /// How long it may be kept that a site isn't registered, in minutes.
 pub const NOT_REGISTERED_TTL: u32 = 1;
 
-/// The record that an honest server with this locator answers for an identifier (RFC 8111, sections 6.4 and 7):
+/// The record that an honest server with this locator answers for an identifier (RFC 8111, sections 6.1, 7.1 and 7.2):
 /// NOT-AUTHORITATIVE where none of its zones covers it, a referral where its longest one is delegated further, else
 /// the record of the assignment. It takes no memory.
 pub fn says(accepted: &Accepted, l: Locator, x: Xeid) -> ReferralRecord

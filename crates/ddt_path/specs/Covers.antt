@@ -1,14 +1,14 @@
--- How two paths stand to each other: covers, overlaps, strictly below (RFC 8111, section 3: a more specific XEID-prefix).
+-- How two paths stand to each other: the more specific one begins with the less specific one.
 use Rattle.std.specs.Prelude.{ℕ, ◌+◌, Bool, true, false, ◌==◌, ◌&&◌, ◌||◌, not, if◌then◌else◌, List, [], ◌∷◌}
 use Rattle.std.specs.Cmp.Lexicographic.{pointwise}
 
--- p covers q where p is an initial part of q, equality included
+-- q begins with all of p; a path covers itself
 abbrev pub covers : List ℕ → List ℕ → Bool
 covers [] q = true
 covers (d ∷ p) [] = false
 covers (d ∷ p) (e ∷ q) = d == e && covers p q
 
--- two paths overlap where one covers the other
+-- one of the two begins with the other
 abbrev pub overlaps : List ℕ → List ℕ → Bool
 overlaps p q = covers p q || covers q p
 
@@ -16,7 +16,7 @@ overlaps p q = covers p q || covers q p
 abbrev pub is_same_path : List ℕ → List ℕ → Bool
 is_same_path p q = pointwise ◌==◌ p q
 
--- p is strictly below q where q covers p and they differ
+-- p begins with q and goes on
 abbrev pub is_strictly_below : List ℕ → List ℕ → Bool
 is_strictly_below p q = covers q p && not (covers p q)
 

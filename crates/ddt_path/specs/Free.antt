@@ -1,5 +1,5 @@
--- The prefix of a delegation hole: the least specific one that matches no delegated prefix (RFC 8111, section 7.3.2),
--- kept inside the prefix of the authority.
+-- The prefix of a delegation hole. RFC 8111, section 7.1.2, asks for the least specific one that no delegation
+-- matches; here it is also kept inside the prefix of the authority that was asked.
 use Rattle.std.specs.Prelude.{ℕ, Bool, ◌&&◌, not, nat_lt, if◌then◌else◌, List, [], ◌∷◌, ◌++◌, length, take, drop, find, Option, None, Some}
 use Rattle.std.specs.List.{list_all}
 use Rattle.ddt_path.specs.Covers.{covers, overlaps}

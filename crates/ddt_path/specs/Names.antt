@@ -2,10 +2,10 @@
 use Rattle.std.specs.Prelude.{ℕ, Bool, ◌==◌, ◌&&◌, ◌||◌, nat_le, List, length}
 use Rattle.std.specs.List.{list_all}
 
--- a to z, 0 to 9 and -
+-- a lower-case letter, a digit or a hyphen
 abbrev pub is_name_byte : ℕ → Bool
 is_name_byte b = (nat_le 97 b && nat_le b 122) || ((nat_le 48 b && nat_le b 57) || b == 45)
 
--- 1 to 63 of them
+-- at least one of them and at most 63
 abbrev pub is_name : List ℕ → Bool
 is_name bytes = (nat_le 1 (length bytes) && nat_le (length bytes) 63) && list_all is_name_byte bytes

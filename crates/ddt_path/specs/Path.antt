@@ -1,5 +1,6 @@
--- The path of an XEID, and of a prefix: its binary digits, most significant first. RFC 8111, section 4.1,
--- orders an XEID as Instance ID, address family, address; a prefix is an initial part of such a path.
+-- The path of an XEID, and of a prefix: binary digits, most significant first. RFC 8111, section 4.1, puts the Instance
+-- ID, the address family and the address in this order, after a Database-ID that is always 0 and left out here. The
+-- family is one symbol, and the first digits of a path are a prefix.
 use Rattle.std.specs.Prelude.{ℕ, zero, suc, ◌/◌, ◌%◌, ◌^◌, ◌<◌, ◌≤◌, ◌≡◌, Bool, true, false, ◌==◌, ◌&&◌, ◌||◌, nat_le, nat_lt, if◌then◌else◌, List, [], ◌∷◌, ◌++◌, length, take, drop, Result, Ok, Err}
 use Rattle.std.specs.List.{list_all}
 use Rattle.ddt_path.specs.declared.locator.Locator.{Locator}

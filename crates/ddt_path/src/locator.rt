@@ -1,4 +1,4 @@
-//! A locator, and the address part of an identifier: an IPv4 or an IPv6 address (an RLOC of RFC 8111, section 3).
+//! A locator, and the address part of an identifier: an IPv4 or an IPv6 address (an RLOC of RFC 9300, section 3).
 
 use crate::masks::{front32, front128, is_front32, is_front128, shared32, shared128};
 

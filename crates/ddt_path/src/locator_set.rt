@@ -1,4 +1,4 @@
-//! The locators of a referral set or of a server group, in order (RFC 8111, section 3: a referral set).
+//! The locators of a referral set or of a server group, in order (RFC 8111, section 6.2).
 
 ghost use Rattle.std.specs.Prelude.{◌≡◌, ◌≤◌, [], length};
 ghost use Rattle.std.specs.Option.{SomeIff};

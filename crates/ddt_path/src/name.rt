@@ -12,7 +12,7 @@ use std::marker::Model;
 /// How many bytes a name has at most.
 pub const LONGEST_NAME: usize = 63;
 
-/// 1 to 63 of `a` to `z`, `0` to `9` and `-`.
+/// Lower-case letters, digits and hyphens: at least one, at most 63.
 #[derive(Clone, Copy, Debug)]
 pub struct Name {
     slots: [u8; LONGEST_NAME],

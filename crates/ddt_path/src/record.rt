@@ -1,4 +1,5 @@
-//! What a server answers, and what a lookup ends with (RFC 8111, sections 6.3 and 6.4: Map-Referral actions).
+//! What a server answers (RFC 8111, sections 6.1 to 6.3: action, referral set, the Incomplete flag), and what a lookup
+//! ends with.
 
 use crate::locator_set::LocatorSet;
 use crate::prefix::Prefix;

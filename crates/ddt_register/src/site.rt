@@ -1,4 +1,4 @@
-//! A site: an EID-prefix that registers at Map-Servers, and its ETRs (RFC 8111, section 3).
+//! A site: an EID-prefix that registers at Map-Servers, and its ETRs (RFC 9300, section 3).
 
 use ddt_path::{Listed, Locator, Prefix};
 

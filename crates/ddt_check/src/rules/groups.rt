@@ -43,7 +43,7 @@ fn has_wrong_locators(register: &Register, g: &Group) -> bool
         || (has_repeat(locators) || shares_with_earlier(register, g))
 }
 
-/// The least row of a group with no locator, with more than 8, or with one that stands earlier.
+/// The least row of a group whose locators are none, or above 8, or not all new.
 pub fn wrong_locators(register: &Register) -> Option<u32>
     ensures { result ≡ first_group register.now (has_wrong register.now) }
 {

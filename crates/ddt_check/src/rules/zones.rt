@@ -88,7 +88,7 @@ fn is_of_other_role(register: &Register, z: &Zone) -> bool
     }
 }
 
-/// The least row of a zone that isn't of its group's kind.
+/// The least row of a zone whose group is of the other kind.
 pub fn of_other_role(register: &Register) -> Option<u32>
     ensures { result ≡ first_zone register.now (is_of_other register.now) }
 {

@@ -1,0 +1,20 @@
+use Rattle.std.proofs.Common.{refl}
+use Rattle.ddt_path.specs.Path.{digits}
+use Rattle.ddt_check.proofs.tests.a_ninth_row_breaks_its_rule.Goals as goal
+
+pub returns : goal.returns
+unfolding digits
+returns c = record {
+  no_root = refl;
+  two_roots = refl;
+  duplicate_zone = refl;
+  site_overlap = refl;
+  unknown_group = refl;
+  role = refl;
+  taken_locator = refl;
+  no_locator = refl;
+  below_map_server = refl;
+  site_outside = refl;
+  duplicate_group = refl;
+  campus_is_whole = refl;
+}

@@ -1,0 +1,156 @@
+-- Two worked registers, and what the definitions give of them.
+use Rattle.std.specs.Prelude.{◌≡◌, ℕ, List, [], ◌∷◌, ◌++◌, Bool, true, false, codes, refl, Option, Some, None}
+use Rattle.ddt_path.specs.declared.locator.Locator.{Locator}
+use Rattle.ddt_path.specs.declared.locator.Locator.TheVariants.{V4, V6}
+use Rattle.ddt_path.specs.declared.xeid.Xeid.{Xeid}
+use Rattle.ddt_path.specs.declared.form.Form.TheVariants.{Range, Block}
+use Rattle.ddt_path.specs.declared.record.Role.TheVariants.{Node, Ms}
+use Rattle.ddt_path.specs.declared.record.Action.TheVariants.{NodeReferral, MsReferral, MsAck, MsNotRegistered, DelegationHole, NotAuthoritative}
+use Rattle.ddt_path.specs.declared.record.Outcome.TheVariants.{Registered, NotRegistered, Hole}
+use Rattle.ddt_path.specs.declared.record.ReferralRecord.{ReferralRecord}
+use Rattle.ddt_path.specs.Path.{path, xeid_path}
+use Rattle.ddt_path.specs.Free.{free}
+use Rattle.ddt_register.specs.declared.zone.Zone.{Zone}
+use Rattle.ddt_register.specs.declared.site.Site.{Site}
+use Rattle.ddt_register.specs.declared.group.Group.{Group}
+use Rattle.ddt_register.specs.declared.register.Register.{Register}
+use Rattle.ddt_check.specs.declared.fault.Rule.TheVariants as rules
+use Rattle.ddt_check.specs.Rules.{broken}
+use Rattle.ddt_check.specs.Assignment.{assignment}
+use Rattle.ddt_check.specs.Says.{says}
+
+-- [iid]a.b.c.d, as a path
+abbrev pub v4 : ℕ → ℕ → List ℕ
+v4 iid address = xeid_path (record { iid = iid; address = V4 address })
+
+-- [0]a.b.c.d/len, as a path
+abbrev pub block : ℕ → ℕ → List ℕ
+block address len = path (Block 0 (V4 address) len)
+
+abbrev pub root : List ℕ
+root = codes "root"
+
+abbrev pub ten : List ℕ
+ten = codes "ten"
+
+abbrev pub east : List ℕ
+east = codes "east"
+
+-- 127.0.0.1, 127.0.0.10, 127.0.1.1, 127.0.1.2 and 127.0.2.1
+abbrev pub at_root : Locator
+at_root = V4 0x7f000001
+
+abbrev pub at_ten : Locator
+at_ten = V4 0x7f00000a
+
+abbrev pub at_east : List Locator
+at_east = V4 0x7f000101 ∷ V4 0x7f000102 ∷ []
+
+abbrev pub root_group : Group
+root_group = record { name = root; kind = Node; locators = at_root ∷ []; row = 1 }
+
+abbrev pub ten_group : Group
+ten_group = record { name = ten; kind = Node; locators = at_ten ∷ []; row = 2 }
+
+abbrev pub east_group : Group
+east_group = record { name = east; kind = Ms; locators = at_east; row = 3 }
+
+abbrev pub root_zone : ℕ → Zone
+root_zone row = record { prefix = []; kind = Node; group = root; row = row }
+
+abbrev pub ten_zone : ℕ → Zone
+ten_zone row = record { prefix = block 0x0a000000 8; kind = Node; group = ten; row = row }
+
+abbrev pub east_zone : Zone
+east_zone = record { prefix = block 0x0a010000 16; kind = Ms; group = east; row = 6 }
+
+abbrev pub registered_site : Site
+registered_site = record { prefix = block 0x0a010200 24; etrs = V4 0x7f000201 ∷ []; row = 7 }
+
+abbrev pub silent_site : Site
+silent_site = record { prefix = block 0x0a010400 24; etrs = []; row = 8 }
+
+-- examples/campus.csv
+abbrev pub campus : Register
+campus = record { zones = root_zone 4 ∷ ten_zone 5 ∷ east_zone ∷ []; sites = registered_site ∷ silent_site ∷ []; groups = root_group ∷ ten_group ∷ east_group ∷ []; rows = refl }
+
+-- examples/shared_group.csv
+abbrev pub inner_root_zone : Zone
+inner_root_zone = record { prefix = block 0x0a010000 16; kind = Node; group = root; row = 5 }
+
+abbrev pub shared_group : Register
+shared_group = record { zones = root_zone 3 ∷ ten_zone 4 ∷ inner_root_zone ∷ []; sites = []; groups = root_group ∷ ten_group ∷ []; rows = refl }
+
+-- the root alone
+abbrev pub lone_root : Register
+lone_root = record { zones = root_zone 2 ∷ []; sites = []; groups = root_group ∷ []; rows = refl }
+
+-- what the campus assigns
+pub record CampusAssigns : Type 0 where
+  pub registered : assignment campus (v4 0 0x0a010203) ≡ Registered (block 0x0a010200 24) at_east
+  pub not_registered : assignment campus (v4 0 0x0a010407) ≡ NotRegistered (block 0x0a010400 24) at_east
+  pub beside_a_zone : assignment campus (v4 0 0x0a020001) ≡ Hole (block 0x0a020000 15)
+  pub beside_a_site : assignment campus (v4 0 0x0a010309) ≡ Hole (block 0x0a010300 24)
+  pub beside_ten : assignment campus (v4 0 0x0b000001) ≡ Hole (block 0x0b000000 8)
+  pub other_instance : assignment campus (v4 1 0x0a010203) ≡ Hole (path (Range 1 32))
+  pub far_instance : assignment campus (v4 2147483648 0x0a000001) ≡ Hole (path (Range 2147483648 1))
+  pub other_family : assignment campus (xeid_path (record { iid = 0; address = V6 0x20010db8000000000000000000000001 })) ≡ Hole (path (Block 0 (V6 0) 0))
+
+-- what the campus's servers say
+pub record CampusSays : Type 0 where
+  pub root_refers : says campus at_root (v4 0 0x0a010203) ≡ record { action = NodeReferral; prefix = block 0x0a000000 8; ttl = 1440; incomplete = false; servers = at_ten ∷ [] }
+  pub ten_refers : says campus at_ten (v4 0 0x0a010203) ≡ record { action = MsReferral; prefix = block 0x0a010000 16; ttl = 1440; incomplete = false; servers = at_east }
+  pub east_acknowledges : says campus (V4 0x7f000102) (v4 0 0x0a010203) ≡ record { action = MsAck; prefix = block 0x0a010200 24; ttl = 1440; incomplete = false; servers = at_east }
+  pub east_knows_the_silent_site : says campus (V4 0x7f000101) (v4 0 0x0a010407) ≡ record { action = MsNotRegistered; prefix = block 0x0a010400 24; ttl = 1; incomplete = false; servers = at_east }
+  pub root_says_a_hole : says campus at_root (v4 2147483648 0x0a000001) ≡ record { action = DelegationHole; prefix = path (Range 2147483648 1); ttl = 15; incomplete = false; servers = [] }
+  pub ten_is_not_in_charge : says campus at_ten (v4 0 0x0b000001) ≡ record { action = NotAuthoritative; prefix = v4 0 0x0b000001; ttl = 0; incomplete = true; servers = [] }
+
+-- where one group serves a zone inside another's, and where there is the root alone
+pub record OthersAssign : Type 0 where
+  pub hole_stays_inside : assignment shared_group (v4 0 0x0a010203) ≡ Hole (block 0x0a010000 16)
+  pub longest_authority : says shared_group at_root (v4 0 0x0a010203) ≡ record { action = DelegationHole; prefix = block 0x0a010000 16; ttl = 15; incomplete = false; servers = [] }
+  pub ten_refers_to_root : says shared_group at_ten (v4 0 0x0a010203) ≡ record { action = NodeReferral; prefix = block 0x0a010000 16; ttl = 1440; incomplete = false; servers = at_root ∷ [] }
+  pub everything : assignment lone_root (v4 7 0x01010101) ≡ Hole []
+  pub single_identifier : free [] (block 0x0a090909 32 ∷ []) (v4 0 0x0a090908) ≡ Some (block 0x0a090908 32)
+  pub free_beside_ten : free [] (block 0x0a000000 8 ∷ []) (v4 0 0x0b000001) ≡ Some (block 0x0b000000 8)
+  pub none_free : free [] (block 0x0a000000 8 ∷ []) (v4 0 0x0a010203) ≡ None
+
+-- the campus with one more zone, site or group in row 9
+abbrev pub with_zone : Zone → List Zone
+with_zone z = root_zone 4 ∷ ten_zone 5 ∷ east_zone ∷ z ∷ []
+
+abbrev pub zone_in_nine : ℕ → ℕ → Register
+zone_in_nine address len = record { zones = with_zone (record { prefix = block address len; kind = Node; group = ten; row = 9 }); sites = registered_site ∷ silent_site ∷ []; groups = root_group ∷ ten_group ∷ east_group ∷ []; rows = refl }
+
+abbrev pub ms_zone_of_ten : Register
+ms_zone_of_ten = record { zones = with_zone (record { prefix = block 0x0c000000 8; kind = Ms; group = ten; row = 9 }); sites = registered_site ∷ silent_site ∷ []; groups = root_group ∷ ten_group ∷ east_group ∷ []; rows = refl }
+
+abbrev pub zone_of_west : Register
+zone_of_west = record { zones = with_zone (record { prefix = block 0x0c000000 8; kind = Node; group = codes "west"; row = 9 }); sites = registered_site ∷ silent_site ∷ []; groups = root_group ∷ ten_group ∷ east_group ∷ []; rows = refl }
+
+abbrev pub second_root : Register
+second_root = record { zones = with_zone (root_zone 9); sites = registered_site ∷ silent_site ∷ []; groups = root_group ∷ ten_group ∷ east_group ∷ []; rows = refl }
+
+abbrev pub site_in_nine : ℕ → ℕ → Register
+site_in_nine address len = record { zones = root_zone 4 ∷ ten_zone 5 ∷ east_zone ∷ []; sites = registered_site ∷ silent_site ∷ (record { prefix = block address len; etrs = []; row = 9 }) ∷ []; groups = root_group ∷ ten_group ∷ east_group ∷ []; rows = refl }
+
+abbrev pub group_in_nine : List ℕ → List Locator → Register
+group_in_nine name locators = record { zones = root_zone 4 ∷ ten_zone 5 ∷ east_zone ∷ []; sites = registered_site ∷ silent_site ∷ []; groups = root_group ∷ ten_group ∷ east_group ∷ (record { name = name; kind = Node; locators = locators; row = 9 }) ∷ []; rows = refl }
+
+abbrev pub nothing : Register
+nothing = record { zones = []; sites = []; groups = []; rows = refl }
+
+-- the rule that each breaks, in row 9, or in row 0 where nothing stands
+pub record BreaksInNine : Type 0 where
+  pub no_root : broken nothing rules.NoRoot 0 ≡ true
+  pub two_roots : broken second_root rules.NoRoot 9 ≡ true
+  pub duplicate_zone : broken (zone_in_nine 0x0a000000 8) rules.DuplicateZone 9 ≡ true
+  pub site_overlap : broken (site_in_nine 0x0a010280 25) rules.SiteOverlap 9 ≡ true
+  pub unknown_group : broken zone_of_west rules.UnknownGroup 9 ≡ true
+  pub role : broken ms_zone_of_ten rules.Role 9 ≡ true
+  pub taken_locator : broken (group_in_nine (codes "west") (at_root ∷ [])) rules.Locators 9 ≡ true
+  pub no_locator : broken (group_in_nine (codes "west") []) rules.Locators 9 ≡ true
+  pub below_map_server : broken (zone_in_nine 0x0a010700 24) rules.BelowMapServer 9 ≡ true
+  pub site_outside : broken (site_in_nine 0x0a020000 24) rules.SiteOutside 9 ≡ true
+  pub duplicate_group : broken (group_in_nine east (V4 0x7f000109 ∷ [])) rules.DuplicateGroup 9 ≡ true
+  pub campus_is_whole : broken campus rules.SiteOutside 8 ≡ false

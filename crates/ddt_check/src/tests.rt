@@ -1,0 +1,27 @@
+//! What the definitions give of the worked registers, by computation.
+
+ghost use Rattle.ddt_check.specs.Worked.{CampusAssigns, CampusSays, OthersAssign, BreaksInNine};
+
+fn campus_assigns()
+    ensures { CampusAssigns }
+{}
+
+fn campus_says()
+    ensures { CampusSays }
+{}
+
+fn others_assign()
+    ensures { OthersAssign }
+{}
+
+fn a_ninth_row_breaks_its_rule()
+    ensures { BreaksInNine }
+{}
+
+#[test]
+fn definitions_give_the_worked_values() {
+    campus_assigns();
+    campus_says();
+    others_assign();
+    a_ninth_row_breaks_its_rule();
+}

@@ -1,0 +1,124 @@
+-- What a text is read as: the value that it spells, or the first fault, examined from left to right. Addresses are
+-- those of RFC 4291, section 2.2, without a dotted part, and dotted IPv4; brackets and lengths are this project's own.
+-- The bytes 42, 46, 47, 48, 91 and 93 are `*`, `.`, `/`, `0`, `[` and `]`.
+use Rattle.std.specs.Prelude.{ℕ, Bool, false, ◌==◌, ◌&&◌, ◌||◌, not, nat_le, if◌then◌else◌, List, [], ◌∷◌, length, take, drop, Option, Some, None, option_map, Result, Ok, Err}
+use Rattle.std.specs.List.{position_or_len, list_any, list_all}
+use Rattle.std.specs.Int.{w32, w128, from_be_bytes}
+use Rattle.std.specs.Char.{is_ascii_digit}
+use Rattle.std.specs.Str.Parse.{digits_value}
+use Rattle.std.specs.Net.Addr.{octets_of}
+use Rattle.std.specs.Net.Reader.{read_ipv4, read_ipv6, whole_value}
+use Rattle.ddt_path.specs.declared.locator.Locator.{Locator}
+use Rattle.ddt_path.specs.declared.locator.Locator.TheVariants.{V4, V6}
+use Rattle.ddt_path.specs.declared.xeid.Xeid.{Xeid}
+use Rattle.ddt_path.specs.declared.form.Form.{Form}
+use Rattle.ddt_path.specs.declared.form.Form.TheVariants.{Range, Block}
+use Rattle.ddt_path.specs.declared.form.PrefixFault.{PrefixFault}
+use Rattle.ddt_path.specs.declared.form.PrefixFault.TheVariants as Made
+use Rattle.ddt_path.specs.Path.{prefix_of}
+use Rattle.ddt_text.specs.declared.fault.TextFault.{TextFault}
+use Rattle.ddt_text.specs.declared.fault.TextFault.TheVariants.{Empty, Bracket, Instance, Address, Length, TailNotZero, Trailing}
+
+-- at least one decimal digit, and a leading 0 only where it is the whole number
+abbrev pub is_number : List ℕ → Bool
+is_number [] = false
+is_number (d ∷ ds) = list_all is_ascii_digit (d ∷ ds) && (not (d == 48) || length ds == 0)
+
+-- the number of at most `most` that a text writes
+abbrev pub number_in : ℕ → List ℕ → Option ℕ
+number_in most text = if is_number text && nat_le (digits_value 10 text) most then Some (digits_value 10 text) else None
+
+-- the address that a text spells: a dot stands in IPv4 alone
+abbrev pub address_in : List ℕ → Option Locator
+address_in text =
+    if list_any (λ b. b == 46) text then option_map (λ octets. V4 (from_be_bytes w32 octets)) (whole_value (read_ipv4 text))
+    else option_map (λ groups. V6 (from_be_bytes w128 (octets_of groups))) (whole_value (read_ipv6 text))
+
+-- what stands before the first such byte, and what begins with it
+abbrev pub before : ℕ → List ℕ → List ℕ
+before byte text = take (position_or_len (λ b. b == byte) text) text
+
+abbrev pub onward : ℕ → List ℕ → List ℕ
+onward byte text = drop (position_or_len (λ b. b == byte) text) text
+
+-- `next` on a value, and a fault as it is
+abbrev pub on_ok : {A B : Type 0} → Result A TextFault → (A → Result B TextFault) → Result B TextFault
+on_ok (Ok a) next = next a
+on_ok (Err fault) next = Err fault
+
+-- a value, or the fault of a part without one
+abbrev pub required : {A : Type 0} → TextFault → Option A → Result A TextFault
+required fault None = Err fault
+required fault (Some a) = Ok a
+
+-- What stands between `[` and the first `]`, and what follows it.
+abbrev pub closed : List ℕ → List ℕ → Result (List ℕ × List ℕ) TextFault
+closed inner [] = Err Bracket
+closed inner (bracket ∷ rest) = Ok (inner, rest)
+
+abbrev pub bracketed_in : List ℕ → Result (List ℕ × List ℕ) TextFault
+bracketed_in [] = Err Empty
+bracketed_in (first ∷ rest) = if first == 91 then closed (before 93 rest) (onward 93 rest) else Err Bracket
+
+abbrev pub iid_in : List ℕ → Result ℕ TextFault
+iid_in text = required Instance (number_in 4294967295 text)
+
+-- A locator: Empty, Address.
+abbrev pub locator_in : List ℕ → Result Locator TextFault
+locator_in [] = Err Empty
+locator_in (first ∷ rest) = required Address (address_in (first ∷ rest))
+
+-- An identifier: Empty, Bracket, Instance, Address, Trailing.
+abbrev pub alone : {A : Type 0} → A → List ℕ → Result A TextFault
+alone a [] = Ok a
+alone a (slash ∷ rest) = Err Trailing
+
+abbrev pub xeid_in : List ℕ → Result Xeid TextFault
+xeid_in text =
+    on_ok (bracketed_in text) λ parts.
+    on_ok (iid_in parts.0) λ iid.
+    on_ok (required Address (address_in (before 47 parts.1))) λ address.
+    alone (record { iid = iid; address = address }) (onward 47 parts.1)
+
+-- The prefix that a form names.
+abbrev pub made : Result (List ℕ) PrefixFault → Result (List ℕ) TextFault
+made (Ok path) = Ok path
+made (Err Made.Length) = Err Length
+made (Err Made.TailNotZero) = Err TailNotZero
+
+-- A range, behind its bracket: Address, Trailing, TailNotZero.
+abbrev pub starred : Form → List ℕ → Result (List ℕ) TextFault
+starred form [] = Err Address
+starred form (star ∷ rest) = if star == 42 then (if length rest == 0 then made (prefix_of form) else Err Trailing) else Err Address
+
+-- A range: Instance, Length, then these.
+abbrev pub range_in : List ℕ → List ℕ → List ℕ → Result (List ℕ) TextFault
+range_in iid len rest =
+    on_ok (iid_in iid) λ iid.
+    on_ok (required Length (number_in 32 len)) λ len.
+    if len == 0 then Err Length else starred (Range iid len) rest
+
+-- A block, behind its address: Length, TailNotZero.
+abbrev pub slashed : (ℕ → Form) → List ℕ → Result (List ℕ) TextFault
+slashed form [] = Err Length
+slashed form (slash ∷ len) = on_ok (required Length (number_in 128 len)) λ len. made (prefix_of (form len))
+
+-- A block: Instance, Address, then these.
+abbrev pub block_in : List ℕ → List ℕ → Result (List ℕ) TextFault
+block_in iid rest =
+    on_ok (iid_in iid) λ iid.
+    on_ok (required Address (address_in (before 47 rest))) λ address.
+    slashed (Block iid address) (onward 47 rest)
+
+-- A range where a `/` stands between the brackets, else a block.
+abbrev pub range_or_block : List ℕ → List ℕ → List ℕ → Result (List ℕ) TextFault
+range_or_block iid [] rest = block_in iid rest
+range_or_block iid (slash ∷ len) rest = range_in iid len rest
+
+abbrev pub bracketed_prefix_in : List ℕ → Result (List ℕ) TextFault
+bracketed_prefix_in text = on_ok (bracketed_in text) λ parts. range_or_block (before 47 parts.0) (onward 47 parts.0) parts.1
+
+-- A prefix: Empty, Trailing behind a `*` at the front, Bracket, then these.
+abbrev pub prefix_in : List ℕ → Result (List ℕ) TextFault
+prefix_in [] = Err Empty
+prefix_in (first ∷ rest) = if first == 42 then (if length rest == 0 then Ok [] else Err Trailing) else bracketed_prefix_in (first ∷ rest)

@@ -1,0 +1,20 @@
+//! The texts of locators, identifiers and prefixes. A parser answers a value exactly where the text spells it
+//! (specs/Grammar.antt), else the first fault from left to right (specs/FirstFault.antt); a writer appends the one text
+//! that is written (specs/Written.antt), which spells the value, so that it is read again. Parsers take no memory.
+//!
+//! In reading order: `fault`, `number`, `parts`, `locator_text`, `xeid_text`, `prefix_text`.
+#![tactic(auto)]
+
+mod fault;
+mod locator_text;
+mod number;
+mod parts;
+mod prefix_text;
+#[cfg(test)]
+mod tests;
+mod xeid_text;
+
+pub use fault::TextFault;
+pub use locator_text::{parse_locator, write_locator};
+pub use prefix_text::{parse_prefix, write_prefix};
+pub use xeid_text::{parse_xeid, write_xeid};

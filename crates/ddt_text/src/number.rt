@@ -1,0 +1,36 @@
+//! Decimal numbers without leading zeros.
+
+ghost use Rattle.std.specs.Prelude.{◌≡◌, ◌≤◌, IfSome};
+ghost use Rattle.std.specs.List.{list_all};
+ghost use Rattle.std.specs.Char.{is_ascii_digit};
+ghost use Rattle.ddt_text.specs.FirstFault.{is_number, number_in};
+
+use std::str;
+
+fn are_digits(text: &[u8]) -> bool
+    ensures { result ≡ list_all is_ascii_digit text.now }
+{
+    text.iter().all(|b| b.is_ascii_digit())
+}
+
+/// Whether the text is one decimal digit or more, without a leading zero.
+fn is_number(text: &[u8]) -> bool
+    ensures { result ≡ is_number text.now }
+{
+    let [first, rest @ ..] = text else {
+        return false;
+    };
+    are_digits(text) && (*first != b'0' || rest.is_empty())
+}
+
+/// The number of at most `most` that the text writes, if it does.
+pub(crate) fn read_number(text: &[u8], most: u32) -> Option<u32>
+    ensures value { result ≡ number_in most text.now }
+    ensures bound { IfSome result (λ number. number ≤ most) }
+{
+    if !is_number(text) {
+        return None;
+    }
+    let number = str::from_utf8(text).ok()?.parse::<u32>().ok()?;
+    (number <= most).then_some(number)
+}

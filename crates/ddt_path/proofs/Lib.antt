@@ -3,3 +3,4 @@ pub mod SharedDigits
 pub mod PrefixLemmas
 pub mod SlotLemmas
 pub mod NameLemmas
+pub mod PathTestLemmas

@@ -41,7 +41,7 @@ address_path a = family a ∷ address_digits a
 abbrev pub xeid_path : Xeid → List ℕ
 xeid_path x = digits 32 x.iid ++ address_path x.address
 
--- the initial part of such a path that a form names
+-- the front of such a path that a form names
 abbrev pub path : Form → List ℕ
 path (Range iid len) = take len (digits 32 iid)
 path (Block iid address len) = digits 32 iid ++ (family address ∷ take len (address_digits address))
@@ -57,7 +57,11 @@ is_address_part (symbol ∷ ds) = are_binary ds && ((symbol == 4 && length ds ==
 abbrev pub is_path : List ℕ → Bool
 is_path ds = are_binary (take 32 ds) && is_address_part (drop 32 ds)
 
--- Whether a list is an initial part of the path of an XEID.
+-- an identifier whose numbers fit their widths
+abbrev pub IsInRange : Xeid → Type 0
+IsInRange x = (x.iid < 2 ^ 32) × (address_number x.address < 2 ^ address_width x.address)
+
+-- Whether a list is the front of such a path.
 abbrev pub is_address_front : List ℕ → Bool
 is_address_front [] = true
 is_address_front (symbol ∷ ds) = are_binary ds && ((symbol == 4 && nat_le (length ds) 32) || (symbol == 6 && nat_le (length ds) 128))

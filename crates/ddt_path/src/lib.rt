@@ -19,3 +19,6 @@ pub use name::{LONGEST_NAME, Name};
 pub use prefix::Prefix;
 pub use record::{Action, Outcome, ReferralRecord, Role};
 pub use xeid::Xeid;
+
+#[cfg(test)]
+mod tests;

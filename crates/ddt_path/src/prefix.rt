@@ -1,9 +1,10 @@
 //! A prefix, seen by contracts as its path (RFC 8111, section 3: an XEID-prefix).
 
-ghost use Rattle.std.specs.Prelude.{◌≡◌, ◌≤◌, ◌<◌, ◌==◌, IsTrue, take, length, Result};
+ghost use Rattle.std.specs.Prelude.{◌≡◌, ◌≤◌, ◌==◌, IsTrue, List, ℕ, take, length};
 ghost use Rattle.std.specs.Cmp.Lexicographic.{pointwise, nat_list_eq_equiv};
 ghost use Rattle.std.specs.Cmp.{partial_equiv_from_equiv};
-ghost use Rattle.ddt_path.specs.Path.{path, xeid_path, prefix_of, IsForm};
+ghost use Rattle.ddt_path.specs.Path.{path, xeid_path, prefix_of, is_path, is_prefix_path, IsForm, IsInRange};
+ghost use Rattle.ddt_path.specs.declared.xeid.Xeid.{Xeid as AnXeid};
 ghost use Rattle.ddt_path.specs.Covers.{covers, overlaps, shared_len};
 
 use crate::form::{Form, PrefixFault};
@@ -72,9 +73,12 @@ impl Prefix {
         })
     }
 
-    /// The prefix that covers this identifier alone.
+    /// The prefix that covers this identifier alone. Being a path is a test on lists, which just the paths of
+    /// identifiers pass.
     pub fn host(x: Xeid) -> Prefix
-        ensures { result ≡ xeid_path x }
+        ensures whole { result ≡ xeid_path x }
+        ensures passes { IsTrue (is_path (xeid_path x)) }
+        ensures only { (ds : List ℕ) → IsTrue (is_path ds) → (y : AnXeid) × IsInRange y × (xeid_path y ≡ ds) }
     {
         let len = x.address.width();
         Prefix {
@@ -114,6 +118,7 @@ impl Prefix {
     pub fn form(self) -> Form
         ensures path { path result ≡ self }
         ensures kept { IsForm result }
+        ensures passes { IsTrue (is_prefix_path self) }
     {
         self.form
     }

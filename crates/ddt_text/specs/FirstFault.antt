@@ -1,4 +1,4 @@
--- What a text is read as: the value that it spells, or the first fault, examined from left to right. Addresses are
+-- What a text is read as: the value that it spells, or the first fault, examined from left to right; digits past the length come last. Addresses are
 -- those of RFC 4291, section 2.2, without a dotted part, and dotted IPv4; brackets and lengths are this project's own.
 -- The bytes 42, 46, 47, 48, 91 and 93 are `*`, `.`, `/`, `0`, `[` and `]`.
 use Rattle.std.specs.Prelude.{ℕ, Bool, false, ◌==◌, ◌&&◌, ◌||◌, not, nat_le, if◌then◌else◌, List, [], ◌∷◌, length, take, drop, Option, Some, None, option_map, Result, Ok, Err}

@@ -10,7 +10,8 @@ use Rattle.ddt_path.specs.declared.xeid.Xeid.{Xeid}
 use Rattle.ddt_path.specs.declared.form.Form.TheVariants.{Range, Block}
 use Rattle.ddt_path.specs.Path.{prefix_of}
 
--- Groups of 1 to 4 hexadecimal digits of either case, joined by colons, or nothing; no IPv4 address among them.
+-- Nothing, or hexadecimal groups with a colon between two of them: each has up to four digits, in upper or lower case.
+-- No IPv4 address stands among them.
 abbrev pub IsHexGroups : List ℕ → List ℕ → Type 0
 IsHexGroups text groups = IsGroups false text groups
 

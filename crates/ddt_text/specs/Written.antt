@@ -10,7 +10,8 @@ use Rattle.ddt_path.specs.declared.form.Form.{Form}
 use Rattle.ddt_path.specs.declared.form.Form.TheVariants.{Range, Block}
 use Rattle.ddt_path.specs.FormOf.{form_of}
 
--- In lower case, without leading zeros; the longest run of two or more zero groups, the first of equal ones, as `::`.
+-- Lower-case digits with no leading zero; `::` stands for the longest run of at least two zero groups, and of runs of
+-- one length for the first.
 abbrev pub written_locator : Locator → List ℕ
 written_locator (V4 address) = ipv4_text (to_be_bytes w32 address)
 written_locator (V6 address) = hex_groups_text (segments_of (to_be_bytes w128 address))

@@ -17,7 +17,7 @@ pub enum TextFault {
     /// No address stands where one must, or no `*` behind a range.
     #[error("4 Address")]
     Address,
-    /// The length is missing, has a leading zero, or is out of bounds.
+    /// The length is missing, is no number without leading zeros, or is out of bounds.
     #[error("5 Length")]
     Length,
     /// A digit past the length isn't 0.

@@ -4,45 +4,47 @@ use std::test::*;
 
 const DOCUMENTATION: u128 = 0x2001_0db8_0000_0000_0000_0000_0000_0000;
 
+/// A text that is read, the text that is written, and the address of both.
+const ADDRESSES: [(&str, &str, Locator); 10] = [
+    ("0.0.0.0", "0.0.0.0", Locator::V4(0)),
+    ("10.1.2.3", "10.1.2.3", Locator::V4(0x0a01_0203)),
+    (
+        "255.255.255.255",
+        "255.255.255.255",
+        Locator::V4(0xffff_ffff),
+    ),
+    ("::", "::", Locator::V6(0)),
+    ("0:0:0:0:0:0:0:1", "::1", Locator::V6(1)),
+    (
+        "::ffff:a01:203",
+        "::ffff:a01:203",
+        Locator::V6(0xffff_0a01_0203),
+    ),
+    (
+        "2001:DB8:0:0:1:0:0:1",
+        "2001:db8::1:0:0:1",
+        Locator::V6(DOCUMENTATION + 0x0001_0000_0000_0001),
+    ),
+    (
+        "2001:db8:0:1:1:1:1:1",
+        "2001:db8:0:1:1:1:1:1",
+        Locator::V6(DOCUMENTATION + 0x0001_0001_0001_0001_0001),
+    ),
+    (
+        "1:2:3:4:5:6:7::",
+        "1:2:3:4:5:6:7:0",
+        Locator::V6(0x0001_0002_0003_0004_0005_0006_0007_0000),
+    ),
+    (
+        "2001:0db8:0000:0000:0001::",
+        "2001:db8:0:0:1::",
+        Locator::V6(DOCUMENTATION + 0x0001_0000_0000_0000),
+    ),
+];
+
 #[test]
 fn locators_are_read_and_written(rt: HostRuntime) -> Result<(), Fail> {
-    let table = [
-        ("0.0.0.0", "0.0.0.0", Locator::V4(0)),
-        ("10.1.2.3", "10.1.2.3", Locator::V4(0x0a01_0203)),
-        (
-            "255.255.255.255",
-            "255.255.255.255",
-            Locator::V4(0xffff_ffff),
-        ),
-        ("::", "::", Locator::V6(0)),
-        ("0:0:0:0:0:0:0:1", "::1", Locator::V6(1)),
-        (
-            "::ffff:a01:203",
-            "::ffff:a01:203",
-            Locator::V6(0xffff_0a01_0203),
-        ),
-        (
-            "2001:DB8:0:0:1:0:0:1",
-            "2001:db8::1:0:0:1",
-            Locator::V6(DOCUMENTATION + 0x0001_0000_0000_0001),
-        ),
-        (
-            "2001:db8:0:1:1:1:1:1",
-            "2001:db8:0:1:1:1:1:1",
-            Locator::V6(DOCUMENTATION + 0x0001_0001_0001_0001_0001),
-        ),
-        (
-            "1:2:3:4:5:6:7::",
-            "1:2:3:4:5:6:7:0",
-            Locator::V6(0x0001_0002_0003_0004_0005_0006_0007_0000),
-        ),
-        (
-            "2001:0db8:0000:0000:0001::",
-            "2001:db8:0:0:1::",
-            Locator::V6(DOCUMENTATION + 0x0001_0000_0000_0000),
-        ),
-    ];
-    for (read, written, address) in table {
+    for (read, written, address) in ADDRESSES {
         assert_eq!(rt; parse_locator(read.as_bytes()), Ok(address), "at {read}");
         let mut text = Vec::from_slice(rt.alloc(), b"at ")?;
         write_locator(&mut text, address)?;
@@ -177,6 +179,11 @@ fn prefixes_are_read_and_written(rt: HostRuntime) -> Result<(), Fail> {
         assert_eq!(rt; &text[3..], written.as_bytes());
         assert_eq!(rt; &text[..3], b"at ".as_slice());
     }
+    Ok(())
+}
+
+#[test]
+fn a_block_is_read_field_by_field(rt: HostRuntime) -> Result<(), Fail> {
     assert_eq!(rt;
         parse_prefix(b"[7]10.0.0.0/8")?.form(),
         Form::Block {

@@ -1,0 +1,54 @@
+//! Prefixes from outside, and the texts of what is refused.
+
+use super::*;
+use std::test::Fail;
+
+fn block(address: u32, len: u8) -> Result<Prefix, PrefixFault> {
+    Prefix::block(0, Locator::V4(address), len)
+}
+
+#[test]
+fn the_longest_common_prefix_of_two(rt: HostRuntime) -> Result<(), Fail> {
+    let ten = block(0x0a00_0000, 8)?;
+    let rows = [
+        (block(0x0a01_0000, 16)?, block(0x0a02_0000, 15)?, block(0x0a00_0000, 14)?),
+        (ten, Prefix::block(0, Locator::V6(0), 0)?, Prefix::range(0, 32)?),
+        (ten, Prefix::block(0x8000_0000, Locator::V6(0), 0)?, Prefix::range(0, 0)?),
+    ];
+    for (p, q, common) in rows {
+        assert_eq!(rt; p.longest_common(q), common);
+        assert_eq!(rt; q.longest_common(p), common);
+        assert!(rt; common.covers(p) && common.covers(q));
+    }
+    Ok(())
+}
+
+#[test]
+fn a_length_above_the_width_comes_before_set_digits(rt: HostRuntime) -> Result<(), Fail> {
+    assert_eq!(rt; Prefix::range(16, 33), Err(PrefixFault::Length));
+    assert_eq!(rt; Prefix::range(17, 28), Err(PrefixFault::TailNotZero));
+    assert_eq!(rt; block(0x0a00_0001, 33), Err(PrefixFault::Length));
+    assert_eq!(rt; block(0x0a00_0001, 31), Err(PrefixFault::TailNotZero));
+    let alloc = rt.alloc();
+    assert_eq!(rt; format!(in alloc; "{}", PrefixFault::Length)?.as_str(), "1 Length");
+    assert_eq!(rt; format!(in alloc; "{}", PrefixFault::TailNotZero)?.as_str(), "2 TailNotZero");
+    Ok(())
+}
+
+#[test]
+fn sets_names_and_lists_hold_what_they_were_given(rt: HostRuntime) -> Result<(), Fail> {
+    let nine = [Locator::V4(1); 9];
+    assert!(rt; LocatorSet::of(&nine).is_none());
+    let eight = LocatorSet::of(&nine[..8]).ok_or("eight locators are a set")?;
+    assert_eq!(rt; eight.as_slice(), &nine[..8]);
+    assert_eq!(rt; LocatorSet::none().as_slice().len(), 0);
+    let longest = [b'z'; 64];
+    let name = Name::of(&longest[..63]).ok_or("63 letters are a name")?;
+    assert_eq!(rt; name.as_bytes(), &longest[..63]);
+    for bytes in [b"".as_slice(), b"Ten".as_slice(), b"a b".as_slice(), longest.as_slice()] {
+        assert!(rt; Name::of(bytes).is_none());
+    }
+    let items = vec![in rt.alloc(); 1u8, 2]?;
+    assert_eq!(rt; Listed::of(items).into_vec().as_slice(), [1, 2].as_slice());
+    Ok(())
+}

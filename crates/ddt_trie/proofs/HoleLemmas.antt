@@ -1,0 +1,160 @@
+-- The least specific free prefix, over the definitions. This file needs the specs of ddt_path and CoverLemmas alone.
+use Rattle.std.proofs.Common.{◌≡◌, ℕ, ◌+◌, ◌<◌, Bool, true, false, cond, List, [], ◌∷◌, ◌++◌, length, take, drop, Some, None, refl, sym, ap, ◌∙◌, arith, inl, inr}
+use Rattle.std.specs.Prelude.{find, not, ◌==◌, ◌&&◌}
+use Rattle.std.specs.List.{list_any}
+use Rattle.std.proofs.lemmas.Bool.{cond-true, cond-false, and_from, and_parts, or_cases, not-true, false≢true, eqb-true}
+use Rattle.std.proofs.lemmas.Option.{same_Some, cond_some}
+use Rattle.std.proofs.lemmas.List.{append_assoc, take-append-drop, drop_more, take_more, take_all, drop_all}
+use Rattle.ddt_path.specs.Covers.{covers, overlaps, is_same_path}
+use Rattle.ddt_path.specs.Free.{lengthened, parts_from, overlaps_none, free, is_free}
+use Rattle.ddt_trie.proofs.CoverLemmas.{covers_self, covers_trans, covers-append, take-covered, overlaps-take, next_digit}
+
+-- ---- the parts of a path
+
+pub parts_from_next : (n : ℕ) (x : List ℕ) → n < length x → parts_from n x ≡ take n x ∷ parts_from (n + 1) x
+parts_from_next n x lt =
+    ap (lengthened (take n x)) (drop_more x n 0 lt) ∙ ap (λ (f : List ℕ). take n x ∷ lengthened f (drop (n + 1) x)) (sym (take_more x n 0 lt))
+
+pub parts_from_last : (x : List ℕ) → parts_from (length x) x ≡ x ∷ []
+parts_from_last x = ap (λ (f : List ℕ). lengthened f (drop (length x) x)) (take_all (length x) x (omega arith)) ∙ ap (lengthened x) (drop_all (length x) x (omega arith))
+
+-- ---- the first part that passes a test
+
+passes : (test : List ℕ → Bool) (p : List ℕ) (ps : List (List ℕ)) (q : List ℕ) → test p ≡ true → find test (p ∷ ps) ≡ Some q → p ≡ q
+passes test p ps q t found = same_Some p q (sym (cond-true (test p) (Some p) (find test ps) t) ∙ found)
+
+fails : (test : List ℕ → Bool) (p : List ℕ) (ps : List (List ℕ)) → test p ≡ false → find test (p ∷ ps) ≡ find test ps
+fails test p ps t = cond-false (test p) (Some p) (find test ps) t
+
+-- each part begins with the front
+part-covered : (test : List ℕ → Bool) (f r q : List ℕ) → find test (lengthened f r) ≡ Some q → covers f q ≡ true
+part-covered test f [] q found = ap (covers f) (sym (cond_some (test f) f q found).1) ∙ covers_self f
+part-covered test f (d ∷ r) q found =
+    elim (test f) as (λ b. test f ≡ b → covers f q ≡ true) [
+      | true ↦ λ t. ap (covers f) (sym (passes test f (lengthened (f ++ d ∷ []) r) q t found)) ∙ covers_self f
+      | false ↦ λ t. covers_trans f (f ++ d ∷ []) q (covers-append f (d ∷ [])) (part-covered test (f ++ d ∷ []) r q (sym (fails test f (lengthened (f ++ d ∷ []) r) t) ∙ found))
+    ] refl
+
+-- the front alone, whatever follows it
+at_once : (test : List ℕ → Bool) (f r : List ℕ) → test f ≡ true → find test (lengthened f r) ≡ Some f
+at_once test f [] t = cond-true (test f) (Some f) None t
+at_once test f (d ∷ r) t = cond-true (test f) (Some f) (find test (lengthened (f ++ d ∷ []) r)) t
+
+-- behind one front, the first part that passes is the same for all that it covers
+same_part : (test : List ℕ → Bool) (f r q s : List ℕ) → find test (lengthened f r) ≡ Some q → covers q (f ++ s) ≡ true → find test (lengthened f s) ≡ Some q
+same_part test f [] q s found c =
+    let e = cond_some (test f) f q found in
+    at_once test f s e.0 ∙ ap (λ (p : List ℕ). Some p) e.1
+same_part test f (d ∷ r) q s found c =
+    elim (test f) as (λ b. test f ≡ b → find test (lengthened f s) ≡ Some q) [
+      | true ↦ λ t. at_once test f s t ∙ ap (λ (p : List ℕ). Some p) (passes test f (lengthened (f ++ d ∷ []) r) q t found)
+      | false ↦ λ t.
+          let later = sym (fails test f (lengthened (f ++ d ∷ []) r) t) ∙ found in
+          let n = next_digit f d s (covers_trans (f ++ d ∷ []) q (f ++ s) (part-covered test (f ++ d ∷ []) r q later) c) in
+          ap (λ (l : List ℕ). find test (lengthened f l)) n.1
+          ∙ fails test f (lengthened (f ++ d ∷ []) n.0) t
+          ∙ same_part test (f ++ d ∷ []) r q n.0 later (ap (covers q) (append_assoc f (d ∷ []) n.0) ∙ ap (λ (l : List ℕ). covers q (f ++ l)) (sym n.1) ∙ c)
+    ] refl
+
+-- ---- where the whole authority is free
+
+pub free_whole : (authority : List ℕ) (s : List (List ℕ)) (x : List ℕ) → covers authority x ≡ true → overlaps_none s authority ≡ true → free authority s x ≡ Some authority
+free_whole authority s x inside none =
+    let front : take (length authority) x ≡ authority = take-covered authority x inside in
+    ap (λ (f : List ℕ). find (overlaps_none s) (lengthened f (drop (length authority) x))) front ∙ at_once (overlaps_none s) authority (drop (length authority) x) none
+
+-- ---- a hole is the hole of all it covers
+
+pub hole_of_all : (authority : List ℕ) (s : List (List ℕ)) (x y q : List ℕ) → covers authority x ≡ true → free authority s x ≡ Some q → covers q y ≡ true → free authority s y ≡ Some q
+hole_of_all authority s x y q inside found c =
+    let n = length authority in
+    let test = overlaps_none s in
+    let front : take n x ≡ authority = take-covered authority x inside in
+    let begins : covers authority q ≡ true = ap (λ (f : List ℕ). covers f q) (sym front) ∙ part-covered test (take n x) (drop n x) q found in
+    let other : take n y ≡ authority = take-covered authority y (covers_trans authority q y begins c) in
+    let same : take n x ≡ take n y = front ∙ sym other in
+    let moved : find test (lengthened (take n y) (drop n x)) ≡ Some q = ap (λ (f : List ℕ). find test (lengthened f (drop n x))) (sym same) ∙ found in
+    same_part test (take n y) (drop n x) q (drop n y) moved (ap (covers q) (take-append-drop n y) ∙ c)
+
+-- ---- a hole is free
+
+-- each part ends with the whole
+part_covers : (test : List ℕ → Bool) (f r q : List ℕ) → find test (lengthened f r) ≡ Some q → covers q (f ++ r) ≡ true
+part_covers test f [] q found = ap (λ (p : List ℕ). covers p (f ++ [])) (sym (cond_some (test f) f q found).1) ∙ covers-append f []
+part_covers test f (d ∷ r) q found =
+    elim (test f) as (λ b. test f ≡ b → covers q (f ++ d ∷ r) ≡ true) [
+      | true ↦ λ t. ap (λ (p : List ℕ). covers p (f ++ d ∷ r)) (sym (passes test f (lengthened (f ++ d ∷ []) r) q t found)) ∙ covers-append f (d ∷ r)
+      | false ↦ λ t. ap (covers q) (sym (append_assoc f (d ∷ []) r)) ∙ part_covers test (f ++ d ∷ []) r q (sym (fails test f (lengthened (f ++ d ∷ []) r) t) ∙ found)
+    ] refl
+
+part_passes : (test : List ℕ → Bool) (f r q : List ℕ) → find test (lengthened f r) ≡ Some q → test q ≡ true
+part_passes test f [] q found = let e = cond_some (test f) f q found in ap test (sym e.1) ∙ e.0
+part_passes test f (d ∷ r) q found =
+    elim (test f) as (λ b. test f ≡ b → test q ≡ true) [
+      | true ↦ λ t. ap test (sym (passes test f (lengthened (f ++ d ∷ []) r) q t found)) ∙ t
+      | false ↦ λ t. part_passes test (f ++ d ∷ []) r q (sym (fails test f (lengthened (f ++ d ∷ []) r) t) ∙ found)
+    ] refl
+
+pub hole_is_free : (authority : List ℕ) (s : List (List ℕ)) (x q : List ℕ) → covers authority x ≡ true → free authority s x ≡ Some q → is_free authority s x q ≡ true
+hole_is_free authority s x q inside found =
+    let n = length authority in
+    let test = overlaps_none s in
+    and_from (covers q x) (covers authority q && test q)
+    (ap (covers q) (sym (take-append-drop n x)) ∙ part_covers test (take n x) (drop n x) q found)
+    (and_from (covers authority q) (test q)
+    (ap (λ (f : List ℕ). covers f q) (sym (take-covered authority x inside)) ∙ part-covered test (take n x) (drop n x) q found)
+    (part_passes test (take n x) (drop n x) q found))
+
+-- ---- no part passes a test that each front fails
+
+none_passes : (test : List ℕ → Bool) (f r : List ℕ) → ((p : List ℕ) → covers p (f ++ r) ≡ true → test p ≡ false) → find test (lengthened f r) ≡ None
+none_passes test f [] h = cond-false (test f) (Some f) None (h f (covers-append f []))
+none_passes test f (d ∷ r) h =
+    fails test f (lengthened (f ++ d ∷ []) r) (h f (covers-append f (d ∷ r)))
+    ∙ none_passes test (f ++ d ∷ []) r (λ p c. h p (ap (covers p) (sym (append_assoc f (d ∷ []) r)) ∙ c))
+
+pub none_free : (authority : List ℕ) (s : List (List ℕ)) (x : List ℕ) → ((p : List ℕ) → covers p x ≡ true → overlaps_none s p ≡ false) → free authority s x ≡ None
+none_free authority s x h =
+    let n = length authority in
+    none_passes (overlaps_none s) (take n x) (drop n x) (λ p c. h p (ap (covers p) (sym (take-append-drop n x)) ∙ c))
+
+-- ---- lists among which the same prefixes are free
+
+find_agree : (test other : List ℕ → Bool) (ps : List (List ℕ)) → ((p : List ℕ) → test p ≡ other p) → find test ps ≡ find other ps
+find_agree test other [] same = refl
+find_agree test other (p ∷ ps) same = ap (λ (b : Bool). cond b (Some p) (find test ps)) (same p) ∙ ap (cond (other p) (Some p)) (find_agree test other ps same)
+
+pub free_agree : (authority : List ℕ) (s t : List (List ℕ)) (x : List ℕ) → ((p : List ℕ) → overlaps_none s p ≡ overlaps_none t p) → free authority s x ≡ free authority t x
+free_agree authority s t x same = find_agree (overlaps_none s) (overlaps_none t) (parts_from (length authority) x) same
+
+-- ---- where a member covers x, nothing is free
+
+same_path-true : (p q : List ℕ) → is_same_path p q ≡ true → p ≡ q
+same_path-true [] [] e = refl
+same_path-true [] (h ∷ q) e = absurd (false≢true e)
+same_path-true (d ∷ p) [] e = absurd (false≢true e)
+same_path-true (d ∷ p) (h ∷ q) e =
+    let s = and_parts (d == h) (is_same_path p q) e in
+    ap (λ (k : ℕ). k ∷ p) (eqb-true d h s.0) ∙ ap (λ (l : List ℕ). h ∷ l) (same_path-true p q s.1)
+
+member_apart : (s : List (List ℕ)) (key p : List ℕ) → list_any (is_same_path key) s ≡ true → overlaps_none s p ≡ true → overlaps key p ≡ false
+member_apart [] key p is none = absurd (false≢true is)
+member_apart (k ∷ s) key p is none =
+    let parts = and_parts (not (overlaps k p)) (overlaps_none s p) none in
+    elim (or_cases (is_same_path key k) (list_any (is_same_path key) s) is) [
+      | inl same ↦ ap (λ (q : List ℕ). overlaps q p) (same_path-true key k same) ∙ not-true (overlaps k p) parts.0
+      | inr later ↦ member_apart s key p later parts.1
+    ]
+
+pub false_where : (b : Bool) → (b ≡ true → ⊥) → b ≡ false
+false_where true h = absurd (h refl)
+false_where false h = refl
+
+-- what covers x overlaps all else that covers x
+overlaps_front : (key x p : List ℕ) → covers key x ≡ true → covers p x ≡ true → overlaps key p ≡ true
+overlaps_front key x p c d = ap (overlaps key) (sym (take-covered p x d)) ∙ overlaps-take key x (length p) c
+
+pub member_covers_none : (authority : List ℕ) (s : List (List ℕ)) (x key : List ℕ) → list_any (is_same_path key) s ≡ true → covers key x ≡ true → free authority s x ≡ None
+member_covers_none authority s x key is c =
+    none_free authority s x (λ p d. false_where (overlaps_none s p) (λ none.
+    false≢true (sym (member_apart s key p is none) ∙ overlaps_front key x p c d)))

@@ -1,0 +1,9 @@
+pub mod EntryLemmas
+pub mod LongestLemmas
+pub mod RetainLemmas
+pub mod CoverLemmas
+pub mod HoleLemmas
+pub mod FormLemmas
+pub mod KeyLemmas
+pub mod MapLemmas
+pub mod MatchLemmas

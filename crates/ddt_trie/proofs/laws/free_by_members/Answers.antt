@@ -1,0 +1,5 @@
+use Rattle.ddt_trie.proofs.KeyLemmas.{members_free}
+use Rattle.ddt_trie.proofs.laws.free_by_members.Goals as goal
+
+pub returns : goal.returns
+returns g c = members_free

@@ -1,0 +1,5 @@
+use Rattle.ddt_trie.proofs.MapLemmas.{IsLongest-unique}
+use Rattle.ddt_trie.proofs.laws.one_longest.Goals as goal
+
+pub returns : goal.returns
+returns g c = IsLongest-unique

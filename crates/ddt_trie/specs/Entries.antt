@@ -1,0 +1,31 @@
+-- Entries in a list, each key once, as a finite map, and the longest of their keys (RFC 8111, section 7.1).
+use Rattle.std.specs.Prelude.{ℕ, ◌≡◌, Bool, true, IsTrue, ◌&&◌, ◌||◌, nat_le, not, List, [], ◌∷◌, length, is_some, Some, slice_get}
+use Rattle.std.specs.List.{list_all}
+use Rattle.std.specs.FinMap.{FinMap, find, from_entries}
+use Rattle.ddt_path.specs.Covers.{covers}
+use Rattle.ddt_trie.specs.PrefixMap.{path_cmp}
+
+-- whether no key stands twice
+abbrev pub are_distinct : {V : Type 0} → List (List ℕ × V) → Bool
+are_distinct [] = true
+are_distinct (e ∷ es) = not (is_some (find path_cmp e.0 es)) && are_distinct es
+
+-- the map of the entries
+abbrev pub map_of : {V : Type 0} → List (List ℕ × V) → FinMap path_cmp V
+map_of es = from_entries {R = path_cmp} es
+
+-- the entry at a place has the key p
+abbrev pub IsAt : {V : Type 0} → List (List ℕ × V) → ℕ → List ℕ → Type 0
+IsAt {V} es i p = (v : V) × (slice_get es i ≡ Some (p, v))
+
+-- whether no key covers x
+abbrev pub none_covers : {V : Type 0} → List (List ℕ × V) → List ℕ → Bool
+none_covers es x = list_all (λ e. not (covers e.0 x)) es
+
+-- whether no key that covers x has more than n digits
+abbrev pub none_longer : {V : Type 0} → List (List ℕ × V) → List ℕ → ℕ → Bool
+none_longer es x n = list_all (λ e. not (covers e.0 x) || nat_le (length e.0) n) es
+
+-- the entry at a place covers x, and no key of the list that covers x is longer
+abbrev pub IsLongestAt : {V : Type 0} → List (List ℕ × V) → List (List ℕ × V) → List ℕ → ℕ → Type 0
+IsLongestAt {V} all es x i = (p : List ℕ) × (v : V) × (slice_get all i ≡ Some (p, v)) × IsTrue (covers p x) × IsTrue (none_longer es x (length p))

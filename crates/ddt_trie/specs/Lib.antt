@@ -1,0 +1,2 @@
+pub mod PrefixMap
+pub mod Entries

@@ -1,0 +1,32 @@
+//! What holds of every map from prefixes, over the definitions alone: each law is the contract of a function that does
+//! nothing.
+
+ghost use Rattle.std.specs.Prelude.{◌≡◌, ℕ, IsTrue, List, Option, None, Some};
+ghost use Rattle.std.specs.List.{list_any};
+ghost use Rattle.std.specs.FinMap as map;
+ghost use Rattle.ddt_path.specs.Covers.{is_same_path};
+ghost use Rattle.ddt_path.specs.Free.{free, longest_match};
+ghost use Rattle.ddt_trie.specs.PrefixMap.{path_cmp, IsCovered, IsLongest};
+
+/// What is free among the keys of a map is what is free among any list with the same members.
+pub fn free_by_members<V>()
+    ensures { (m : map.FinMap path_cmp V) (members : List (List ℕ)) →
+        ((p : List ℕ) → map.contains_key m p ≡ list_any (is_same_path p) members) →
+        (authority x : List ℕ) → free authority (map.keys m) x ≡ free authority members x }
+{}
+
+/// The longest key of the map of some entries is the longest match among them.
+pub fn longest_by_entries<V>()
+    ensures found { (entries : List (List ℕ × V)) (x p : List ℕ) (v : V) →
+        IsLongest (map.from_entries {R = path_cmp} entries) x p v →
+        longest_match (λ e. e.0) entries x ≡ Some (p, v) }
+    ensures none { (entries : List (List ℕ × V)) (x : List ℕ) →
+        (IsCovered (map.from_entries {R = path_cmp} entries) x → ⊥) →
+        longest_match (λ e. e.0) entries x ≡ None }
+{}
+
+/// There is one longest key.
+pub fn one_longest<V>()
+    ensures { (m : map.FinMap path_cmp V) (x p q : List ℕ) (v w : V) →
+        IsLongest m x p v → IsLongest m x q w → (p ≡ q) × (v ≡ w) }
+{}

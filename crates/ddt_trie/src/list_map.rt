@@ -1,0 +1,135 @@
+//! A map from prefixes to values whose entries stand in one list. Each call looks at all of them.
+
+ghost use Rattle.std.specs.Prelude.{◌≡◌, ◌==◌, IsTrue, IfSome, IfNone, not};
+ghost use Rattle.std.specs.List.{position, list_all};
+ghost use Rattle.std.specs.Fn.{FnReturnsAt};
+ghost use Rattle.std.specs.Cmp.Lexicographic.{pointwise};
+ghost use Rattle.ddt_path.specs.Path.{xeid_path};
+ghost use Rattle.ddt_path.specs.Covers.{covers, overlaps};
+ghost use Rattle.ddt_trie.specs.Entries.{are_distinct, map_of, none_covers, IsLongestAt};
+
+use crate::prefix_map::PrefixMap;
+use ddt_path::{Prefix, Xeid};
+use std::alloc::Global;
+use std::mem;
+
+/// The plain form of a map from prefixes: its entries in the order in which they came.
+#[derive(Drop)]
+pub struct ListMap<V> {
+    entries: Vec<(Prefix, V)>,
+    ghost distinct: { IsTrue (are_distinct entries.items) },
+}
+
+/// The place of a prefix among the entries.
+fn place_of<V>(entries: &[(Prefix, V)], prefix: Prefix) -> Option<usize>
+    ensures { result ≡ position (λ e. pointwise ◌==◌ e.0 prefix) entries.now }
+{
+    entries.iter().position(|entry| entry.0 == prefix)
+}
+
+/// The place of the longest prefix that covers the identifier.
+fn place_of_longest<V>(entries: &[(Prefix, V)], x: Xeid) -> Option<usize>
+    ensures found { IfSome result (IsLongestAt entries.now entries.now (xeid_path x)) }
+    ensures none { IfNone result (IsTrue (none_covers entries.now (xeid_path x))) }
+{
+    let mut best: Option<usize> = None;
+    for at in 0..entries.len() {
+        let prefix = entries[at].0;
+        let is_longer = match best {
+            Some(longest) => entries[longest].0.len() < prefix.len(),
+            None => true,
+        };
+        if is_longer && prefix.covers_xeid(x) {
+            best = Some(at);
+        }
+    }
+    best
+}
+
+/// Whether the prefix overlaps none of the entries.
+fn overlaps_none_of<V>(entries: &[(Prefix, V)], prefix: Prefix) -> bool
+    ensures { result ≡ list_all (λ e. not (overlaps e.0 prefix)) entries.now }
+{
+    entries.iter().all(|entry| !entry.0.overlaps(prefix))
+}
+
+/// Whether the prefix covers the identifier, which is whether the two overlap.
+fn covers_alone(prefix: Prefix, x: Xeid) -> bool
+    ensures covers { result ≡ covers prefix (xeid_path x) }
+    ensures overlaps { result ≡ overlaps prefix (xeid_path x) }
+{
+    // The form tells the proof that no prefix goes on behind the path of an identifier.
+    let _form = prefix.form();
+    prefix.covers_xeid(x)
+}
+
+/// Whether no entry covers the identifier, which is whether it overlaps none of them.
+fn covers_none<V>(entries: &[(Prefix, V)], x: Xeid) -> bool
+    ensures covers { result ≡ none_covers entries.now (xeid_path x) }
+    ensures overlaps { result ≡ list_all (λ e. not (overlaps e.0 (xeid_path x))) entries.now }
+{
+    entries.iter().all(|entry| !covers_alone(entry.0, x))
+}
+
+impl<V: Drop> PrefixMap<V> for ListMap<V> {
+    ghost content = { λ m. map_of m.entries.items };
+
+    fn empty(alloc: Global) -> ListMap<V> {
+        ListMap {
+            entries: Vec::new(alloc),
+        }
+    }
+
+    fn len(&self) -> usize {
+        self.entries.len()
+    }
+
+    fn get(&self, prefix: Prefix) -> Option<&V> {
+        let at = place_of(&self.entries, prefix)?;
+        Some(&self.entries[at].1)
+    }
+
+    fn longest(&self, x: Xeid) -> Option<(Prefix, &V)> {
+        match place_of_longest(&self.entries, x) {
+            Some(at) => {
+                let (prefix, value) = &self.entries[at];
+                Some((*prefix, value))
+            }
+            None => None,
+        }
+    }
+
+    fn free(&self, from: Prefix, x: Xeid) -> Option<Prefix> {
+        for len in from.len()..x.path_len() {
+            let part = Prefix::cut(x, len);
+            if overlaps_none_of(&self.entries, part) {
+                return Some(part);
+            }
+        }
+        covers_none(&self.entries, x).then_some(Prefix::host(x))
+    }
+
+    fn insert(&mut self, prefix: Prefix, value: V) -> Result<Option<V>, (Prefix, V)> {
+        match place_of(&self.entries, prefix) {
+            Some(at) => Ok(Some(mem::replace(&mut self.entries[at].1, value))),
+            None => match self.entries.push((prefix, value)) {
+                Ok(()) => Ok(None),
+                Err(refused) => Err(refused.value),
+            },
+        }
+    }
+
+    fn remove(&mut self, prefix: Prefix) -> Option<V> {
+        let at = place_of(&self.entries, prefix)?;
+        Some(self.entries.remove(at).1)
+    }
+
+    fn retain<F: Fn(&V) -> bool>(&mut self, keep: &F) {
+        self.entries.retain(
+            |entry|
+                requires { F.IsAlwaysCallable keep.now }
+                ensures { FnReturnsAt F.Fn keep.entry.now entry.now.1 result }
+            { keep(&entry.1) },
+        );
+    }
+}

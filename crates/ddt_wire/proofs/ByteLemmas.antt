@@ -1,0 +1,133 @@
+-- Numbers as bytes: what is read of them is what was written, and what is written is what was read.
+use Rattle.std.proofs.Common.{◌≡◌, ℕ, zero, suc, ◌+◌, ◌*◌, ◌^◌, ◌<◌, ◌≤◌, List, [], ◌∷◌, ◌++◌, length, take, drop, refl, sym, ap, subst, ◌∙◌, arith, inl, inr, length-append, length-take, length-drop, append_assoc, add-one}
+use Rattle.std.proofs.Math.Seq.{drop-cons}
+use Rattle.std.specs.Prelude.{slice_index}
+use Rattle.std.specs.Int.{byte_at, bytes_high_first}
+use Rattle.std.proofs.lemmas.Bool.{cases_lt}
+use Rattle.std.proofs.lemmas.Nat.{same_from_place, mod_below}
+use Rattle.std.proofs.lemmas.List.{get_or-drop, get_or-take, get_or_past, append-nil, drop-drop, take-append-drop, take_at}
+use Rattle.byteorder.specs.Endian.{big_from, big_number}
+use Rattle.byteorder.specs.Numbers.{big_from-cons, big_from-take, big_from-lt, big_number-reads_back, length-bytes_high_first}
+use Rattle.ddt_wire.specs.Steps.{IsBytes}
+
+pub IsBytes-drop : (n : ℕ) (bytes : List ℕ) → IsBytes bytes → IsBytes (drop n bytes)
+IsBytes-drop n bytes h i = rw get_or-drop (h (n + i))
+
+pub IsBytes-take : (n : ℕ) (bytes : List ℕ) → IsBytes bytes → IsBytes (take n bytes)
+IsBytes-take n bytes h i =
+    elim (cases_lt i n) [
+      | inl lt ↦ rw (get_or-take n bytes i 0 lt) (h i)
+      | inr le ↦ rw (get_or_past (take n bytes) i 0 (omega (arith, length-take n bytes))) (omega arith)
+    ]
+
+IsBytes-rest : (b : ℕ) (bytes : List ℕ) → IsBytes (b ∷ bytes) → IsBytes bytes
+IsBytes-rest b bytes h i = h (suc i)
+
+pub IsBytes-cons : (b : ℕ) (bytes : List ℕ) → b < 256 → IsBytes bytes → IsBytes (b ∷ bytes)
+IsBytes-cons b bytes lt h zero = lt
+IsBytes-cons b bytes lt h (suc i) = h i
+
+pub IsBytes-nil : IsBytes []
+IsBytes-nil i = omega arith
+
+pub IsBytes-append : (xs ys : List ℕ) → IsBytes xs → IsBytes ys → IsBytes (xs ++ ys)
+IsBytes-append [] ys hx hy = hy
+IsBytes-append (x ∷ xs) ys hx hy = IsBytes-cons x (xs ++ ys) (hx 0) (IsBytes-append xs ys (IsBytes-rest x xs hx) hy)
+
+byte_at-lt : (i n : ℕ) → byte_at i n < 256
+byte_at-lt zero n = mod_below n 256 (omega arith)
+byte_at-lt (suc i) n = mod_below _ 256 (omega arith)
+
+pub IsBytes-number : (n x : ℕ) → IsBytes (bytes_high_first n x)
+IsBytes-number zero x = IsBytes-nil
+IsBytes-number (suc n) x = IsBytes-cons (byte_at n x) (bytes_high_first n x) (byte_at-lt n x) (IsBytes-number n x)
+
+-- bytes that read as one number are the same
+same_bytes : (n : ℕ) (xs ys : List ℕ) → IsBytes xs → IsBytes ys → length xs ≡ n → length ys ≡ n → big_from 0 n xs ≡ big_from 0 n ys → xs ≡ ys
+same_bytes zero [] [] hx hy ex ey e = refl
+same_bytes zero (x ∷ xs) ys hx hy ex ey e = absurd (omega arith)
+same_bytes zero [] (y ∷ ys) hx hy ex ey e = absurd (omega arith)
+same_bytes (suc n) [] ys hx hy ex ey e = absurd (omega arith)
+same_bytes (suc n) (x ∷ xs) [] hx hy ex ey e = absurd (omega arith)
+same_bytes (suc n) (x ∷ xs) (y ∷ ys) hx hy ex ey e =
+    let fx = IsBytes-rest x xs hx in
+    let fy = IsBytes-rest y ys hy in
+    let moved : x * 256 ^ n + big_from 0 n xs ≡ y * 256 ^ n + big_from 0 n ys = rw (← big_from-cons 0 n x xs, ← big_from-cons 0 n y ys) e in
+    let p = same_from_place x (big_from 0 n xs) y (big_from 0 n ys) (256 ^ n) (big_from-lt 0 n xs fx) (big_from-lt 0 n ys fy) moved in
+    let lx : length xs ≡ n = omega arith in
+    let ly : length ys ≡ n = omega arith in
+    rw (p.0, same_bytes n xs ys fx fy lx ly p.1) refl
+
+-- the bytes of the number that bytes read as
+pub bytes_back : (n : ℕ) (xs : List ℕ) → IsBytes xs → length xs ≡ n → bytes_high_first n (big_number n xs) ≡ xs
+bytes_back n xs h e =
+    let x = big_number n xs in
+    let again : big_from 0 n (bytes_high_first n x) ≡ x = ap (big_from 0 n) (sym (append-nil (bytes_high_first n x))) ∙ big_number-reads_back n x [] (big_from-lt 0 n xs h) in
+    same_bytes n (bytes_high_first n x) xs (IsBytes-number n x) h (length-bytes_high_first n x) e again
+
+-- ---- what stands at the front
+
+-- this text, and after it the bytes from place n on
+pub record Takes (bytes text : List ℕ) (n : ℕ) : Type 0 where
+  pub parts : bytes ≡ text ++ drop n bytes
+  pub len : length text ≡ n
+
+pub Takes-then : (bytes x y : List ℕ) (m n : ℕ) → Takes bytes x m → Takes (drop m bytes) y n → Takes bytes (x ++ y) (m + n)
+Takes-then bytes x y m n p q = record {
+  parts = p.parts ∙ ap (λ (t : List ℕ). x ++ t) (q.parts ∙ ap (λ (t : List ℕ). y ++ t) (drop-drop n m bytes)) ∙ sym (append_assoc x y (drop (m + n) bytes));
+  len = length-append x y ∙ omega (arith, p.len, q.len);
+}
+
+pub Takes-take : (bytes text : List ℕ) (n : ℕ) → Takes bytes text n → take n bytes ≡ text
+Takes-take bytes text n p = ap (take n) p.parts ∙ take_at text (drop n bytes) n p.len
+
+pub Takes-fits : (bytes text : List ℕ) (n : ℕ) → Takes bytes text n → n ≤ length bytes
+Takes-fits bytes text n p = omega (arith, ap length p.parts, length-append text (drop n bytes), p.len)
+
+pub front_taken : (n : ℕ) (bytes : List ℕ) → n ≤ length bytes → Takes bytes (take n bytes) n
+front_taken n bytes h = record { parts = sym (take-append-drop n bytes); len = length-take n bytes ∙ omega arith }
+
+-- the n bytes of the number at the front
+pub number_taken : (n : ℕ) (bytes : List ℕ) → IsBytes bytes → n ≤ length bytes → Takes bytes (bytes_high_first n (big_number n bytes)) n
+number_taken n bytes fits h =
+    let len : length (take n bytes) ≡ n = length-take n bytes ∙ omega arith in
+    let number : big_number n (take n bytes) ≡ big_number n bytes = big_from-take 0 n n bytes (omega arith) in
+    let e : bytes_high_first n (big_number n bytes) ≡ take n bytes = ap (bytes_high_first n) (sym number) ∙ bytes_back n (take n bytes) (IsBytes-take n bytes fits) len in
+    rw e (front_taken n bytes h)
+
+-- the same from a place on
+pub number_taken_at : (k n : ℕ) (bytes : List ℕ) → IsBytes bytes → k + n ≤ length bytes → Takes (drop k bytes) (bytes_high_first n (big_number n (drop k bytes))) n
+number_taken_at k n bytes fits h = number_taken n (drop k bytes) (IsBytes-drop k bytes fits) (omega (arith, length-drop k bytes))
+
+pub byte_taken : (k : ℕ) (bytes : List ℕ) → k < length bytes → Takes (drop k bytes) (slice_index bytes k ∷ []) 1
+byte_taken k bytes h =
+    let e : drop k bytes ≡ slice_index bytes k ∷ drop (suc k) bytes = drop-cons bytes k 0 h in
+    let d : drop 1 (drop k bytes) ≡ drop (suc k) bytes = drop-drop 1 k bytes ∙ ap (λ (n : ℕ). drop n bytes) (add-one k) in
+    record { parts = e ∙ ap (λ (t : List ℕ). slice_index bytes k ∷ t) (sym d); len = refl }
+
+pub number_fits : (n : ℕ) (bytes : List ℕ) → IsBytes bytes → big_number n bytes < 256 ^ n
+number_fits n bytes fits = big_from-lt 0 n bytes fits
+
+-- ---- what stands from one place to another
+
+abbrev pub Stands : List ℕ → ℕ → List ℕ → ℕ → Type 0
+Stands bytes k text m = drop k bytes ≡ text ++ drop m bytes
+
+pub joined : (bytes x y : List ℕ) (k m n : ℕ) → Stands bytes k x m → Stands bytes m y n → Stands bytes k (x ++ y) n
+joined bytes x y k m n p q = p ∙ ap (λ (t : List ℕ). x ++ t) q ∙ sym (append_assoc x y (drop n bytes))
+
+pub stands : (bytes text : List ℕ) (k n : ℕ) → Takes (drop k bytes) text n → Stands bytes k text (k + n)
+stands bytes text k n p = p.parts ∙ ap (λ (t : List ℕ). text ++ t) (drop-drop n k bytes)
+
+pub number_stands : (k n : ℕ) (bytes : List ℕ) → IsBytes bytes → k + n ≤ length bytes → Stands bytes k (bytes_high_first n (big_number n (drop k bytes))) (k + n)
+number_stands k n bytes fits h = stands bytes (bytes_high_first n (big_number n (drop k bytes))) k n (number_taken_at k n bytes fits h)
+
+-- the same for a number that is known
+pub known_stands : (k n x : ℕ) (bytes : List ℕ) → IsBytes bytes → k + n ≤ length bytes → big_number n (drop k bytes) ≡ x → Stands bytes k (bytes_high_first n x) (k + n)
+known_stands k n x bytes fits h e = subst (λ (y : ℕ). Stands bytes k (bytes_high_first n y) (k + n)) e (number_stands k n bytes fits h)
+
+pub byte_stands : (k : ℕ) (bytes : List ℕ) → k < length bytes → Stands bytes k (slice_index bytes k ∷ []) (k + 1)
+byte_stands k bytes h = stands bytes (slice_index bytes k ∷ []) k 1 (byte_taken k bytes h)
+
+pub known_byte : (k b : ℕ) (bytes : List ℕ) → k < length bytes → slice_index bytes k ≡ b → Stands bytes k (b ∷ []) (k + 1)
+known_byte k b bytes h e = subst (λ (y : ℕ). Stands bytes k (y ∷ []) (k + 1)) e (byte_stands k bytes h)

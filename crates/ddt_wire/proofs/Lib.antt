@@ -1,0 +1,12 @@
+pub mod AppendLemmas
+pub mod EidLemmas
+pub mod LocatorLoop
+pub mod LocatorLemmas
+pub mod MessageLemmas
+pub mod ByteLemmas
+pub mod StepLemmas
+pub mod AddressLaws
+pub mod EidLaws
+pub mod LocatorLaws
+pub mod MessageLaws
+pub mod WrittenLaws

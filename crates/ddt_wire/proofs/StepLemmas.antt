@@ -1,0 +1,38 @@
+-- What is known of steps that went well.
+use Rattle.std.proofs.Common.{◌≡◌, Bool, true, false, cond, Result, Ok, Err, refl, inl, inr}
+use Rattle.std.specs.Prelude.{◌⊎◌, OnOk}
+use Rattle.ddt_wire.specs.Steps.{◌>>=◌, in_words}
+
+-- the value of a step that did not fail
+pub bind_ok : {A B E : Type 0} (r : Result A E) (f : A → Result B E) (y : B) → (r >>= f) ≡ Ok y → (x : A) × (r ≡ Ok x) × (f x ≡ Ok y)
+bind_ok (Ok x) f y e = (x, refl, e)
+bind_ok (Err d) f y e = absurd cc
+
+-- a test that did not fail
+pub guard_ok : {A E : Type 0} (b : Bool) (d : E) (r : Result A E) (x : A) → cond b (Err d) r ≡ Ok x → (b ≡ false) × (r ≡ Ok x)
+guard_ok true d r x e = absurd cc
+guard_ok false d r x e = (refl, e)
+
+-- a test that had to hold
+pub held_ok : {A E : Type 0} (b : Bool) (d : E) (r : Result A E) (x : A) → cond b r (Err d) ≡ Ok x → (b ≡ true) × (r ≡ Ok x)
+held_ok true d r x e = (refl, e)
+held_ok false d r x e = absurd cc
+
+pub chosen : {A : Type 0} (b : Bool) (r s t : A) → cond b r s ≡ t → ((b ≡ true) × (r ≡ t)) ⊎ ((b ≡ false) × (s ≡ t))
+chosen true r s t e = inl (refl, e)
+chosen false r s t e = inr (refl, e)
+
+pub words_ok : {A D E : Type 0} (f : D → E) (r : Result A D) (x : A) → in_words f r ≡ Ok x → r ≡ Ok x
+words_ok f (Ok y) x e = cc
+words_ok f (Err d) x e = absurd cc
+
+abbrev done : {A E : Type 0} → A → Result A E
+done x = Ok x
+
+pub ok_is : {A E : Type 0} (x y : A) → done {E = E} x ≡ done y → x ≡ y
+ok_is x y e = cc
+
+-- what holds in any case
+pub always : {A E P : Type 0} (r : Result A E) → P → OnOk r P
+always (Ok x) p = p
+always (Err d) p = tt

@@ -1,0 +1,170 @@
+-- What is written spells what was to be written; and what spells something is bytes.
+use Rattle.std.proofs.Common.{◌≡◌, ℕ, zero, suc, ◌+◌, ◌^◌, ◌<◌, ◌≤◌, true, List, [], ◌∷◌, ◌++◌, length, take, drop, refl, sym, ap, subst, ◌∙◌, arith, Bool, Ok, Err, Result, ◌*◌}
+use Rattle.std.specs.Prelude.{◌↔◌, IfOk}
+use Rattle.std.specs.List.{flat_map, AllByRecursion}
+use Rattle.std.specs.Int.{w16, w32, w64, w128, to_be_bytes}
+use Rattle.std.specs.Result.{IsErr}
+use Rattle.std.proofs.Math.Dec.{eqb-suc-zero}
+use Rattle.std.proofs.lemmas.List.Concat.{flat_map-cons}
+use Rattle.ddt_path.specs.declared.locator.Locator.{Locator}
+use Rattle.ddt_path.specs.declared.locator.Locator.TheVariants.{V4, V6}
+use Rattle.ddt_path.specs.declared.form.Form.{Form}
+use Rattle.ddt_path.specs.declared.form.Form.TheVariants.{Range, Block}
+use Rattle.ddt_path.specs.declared.record.Action.{Action}
+use Rattle.ddt_path.specs.declared.record.ReferralRecord.{ReferralRecord}
+use Rattle.ddt_wire.specs.declared.eid.EidFault.{EidFault}
+use Rattle.ddt_wire.specs.declared.fault.ReferralFault.{ReferralFault}
+use Rattle.ddt_wire.proofs.StepLemmas.{ok_is}
+use Rattle.ddt_path.specs.Path.{path, IsForm}
+use Rattle.ddt_wire.specs.Steps.{IsBytes}
+use Rattle.ddt_wire.specs.Address.{family_and_address, IsAddress}
+use Rattle.ddt_wire.specs.Eid.{SpellsEid, Plain, Inside, Instances, IsInstance, instance_head, instance_lcaf, written_form, form_mask_len, written_eid, written_mask_len, eid_at}
+use Rattle.ddt_wire.specs.LocatorRecord.{SpellsLocator, SpellsLocators, written_locator}
+use Rattle.ddt_wire.specs.Referral.{Message, Ignored, Spells, act, bit, header, fields, written, message_of, message_in}
+use Rattle.ddt_wire.specs.Laws.{IsPrefix, IsRecord}
+use Rattle.ddt_wire.proofs.EidLemmas.{form_of-named}
+use Rattle.ddt_wire.proofs.ByteLemmas.{IsBytes-number, IsBytes-append, IsBytes-cons, IsBytes-nil, Takes-take, Takes-fits}
+use Rattle.ddt_wire.proofs.EidLaws.{eid_takes, eid_again}
+use Rattle.ddt_wire.proofs.MessageLaws.{message_takes, message_again}
+
+-- ---- written
+
+no_flags : (mask iid : ℕ) → mask < 256 → iid < 2 ^ 32 → IsInstance 0 0 mask iid
+no_flags mask iid m i = record { reserved_fits = omega arith; flags_fits = omega arith; mask_fits = m; iid_fits = i }
+
+form_spells : (form : Form) → IsForm form → SpellsEid (form_mask_len form) (written_form form) (path form)
+form_spells (Range iid len) h = Instances 0 0 len iid (no_flags len iid (omega (arith, h.1)) h.0) h.1 h.2 refl refl
+form_spells (Block zero a len) h = Plain a h.1 h.2 refl refl
+form_spells (Block (suc n) a len) h = Inside 0 0 0 (suc n) a (no_flags 0 (suc n) (omega arith) h.0) h.1 h.2 (rw (eqb-suc-zero n) refl) refl
+
+pub eid_spells : (p : List ℕ) → IsPrefix p → SpellsEid (written_mask_len p) (written_eid p) p
+eid_spells p (form, h, e) = rw (form_of-named p form e h) (subst (λ (q : List ℕ). SpellsEid (form_mask_len form) (written_form form) q) e (form_spells form h))
+
+locator_spells : (l : Locator) → IsAddress l → SpellsLocator (written_locator l) l
+locator_spells l fits = record {
+  priority = 1;
+  weight = 100;
+  m_priority = 255;
+  m_weight = 0;
+  flags = 1;
+  priority_fits = omega arith;
+  weight_fits = omega arith;
+  m_priority_fits = omega arith;
+  m_weight_fits = omega arith;
+  flags_fits = omega arith;
+  locator_fits = fits;
+  whole = refl;
+}
+
+locators_spell : (ls : List Locator) → AllByRecursion IsAddress ls → SpellsLocators (flat_map written_locator ls) ls
+locators_spell [] h = refl
+locators_spell (l ∷ ls) h = (written_locator l, flat_map written_locator ls, locator_spells l h.0, locators_spell ls h.1, flat_map-cons written_locator l ls)
+
+mask_small : (form : Form) → IsForm form → form_mask_len form < 256
+mask_small (Range iid len) h = omega arith
+mask_small (Block iid (V4 a) len) h = omega (arith, h.2)
+mask_small (Block iid (V6 a) len) h = omega (arith, h.2)
+
+pub written_spells : (nonce : ℕ) (r : ReferralRecord) → IsRecord nonce r → Spells (written nonce r) (message_of nonce r)
+written_spells nonce r h =
+    let none : Ignored = record { reserved = 0; authoritative = true; flags = 0; version = 0; reserved_fits = omega arith; flags_fits = omega arith; version_fits = omega arith } in
+    record {
+      ignored = none;
+      mask = written_mask_len r.prefix;
+      eid = written_eid r.prefix;
+      locators = flat_map written_locator r.servers;
+      nonce_fits = h.nonce_fits;
+      ttl_fits = h.ttl_fits;
+      mask_fits = rw (form_of-named r.prefix h.prefix_is.0 h.prefix_is.2 h.prefix_is.1) (mask_small h.prefix_is.0 h.prefix_is.1);
+      count_fits = omega (arith, h.count_fits);
+      spells_eid = eid_spells r.prefix h.prefix_is;
+      spells_locators = locators_spell r.servers h.servers_fit;
+      whole = refl;
+    }
+
+-- ---- bytes
+
+address_is_bytes : (a : Locator) → IsBytes (family_and_address a)
+address_is_bytes (V4 a) = IsBytes-append (to_be_bytes w16 1) (to_be_bytes w32 a) (IsBytes-number 2 1) (IsBytes-number 4 a)
+address_is_bytes (V6 a) = IsBytes-append (to_be_bytes w16 2) (to_be_bytes w128 a) (IsBytes-number 2 2) (IsBytes-number 16 a)
+
+four : (a b c d : ℕ) → a < 256 → b < 256 → c < 256 → d < 256 → IsBytes (a ∷ b ∷ c ∷ d ∷ [])
+four a b c d ha hb hc hd = IsBytes-cons a (b ∷ c ∷ d ∷ []) ha (IsBytes-cons b (c ∷ d ∷ []) hb (IsBytes-cons c (d ∷ []) hc (IsBytes-cons d [] hd IsBytes-nil)))
+
+lcaf_is_bytes : (r f m iid : ℕ) (inner : List ℕ) → IsInstance r f m iid → IsBytes inner → IsBytes (instance_lcaf r f m iid inner)
+lcaf_is_bytes r f m iid inner h i =
+    let a = IsBytes-append (to_be_bytes w16 16387) (r ∷ f ∷ 2 ∷ m ∷ []) (IsBytes-number 2 16387) (four r f 2 m h.reserved_fits h.flags_fits (omega arith) h.mask_fits) in
+    let b = IsBytes-append (to_be_bytes w16 16387 ++ (r ∷ f ∷ 2 ∷ m ∷ [])) (to_be_bytes w16 (4 + length inner)) a (IsBytes-number 2 (4 + length inner)) in
+    let c = IsBytes-append (to_be_bytes w16 16387 ++ (r ∷ f ∷ 2 ∷ m ∷ []) ++ to_be_bytes w16 (4 + length inner)) (to_be_bytes w32 iid) b (IsBytes-number 4 iid) in
+    IsBytes-append (instance_head r f m iid (length inner)) inner c i
+
+pub eid_is_bytes : (mask : ℕ) (bytes p : List ℕ) → SpellsEid mask bytes p → IsBytes bytes
+eid_is_bytes mask bytes p (Plain a fits le is value) = subst IsBytes (sym is) (address_is_bytes a)
+eid_is_bytes mask bytes p (Inside r f m iid a h fits le is value) = subst IsBytes (sym is) (lcaf_is_bytes r f m iid (family_and_address a) h (address_is_bytes a))
+eid_is_bytes mask bytes p (Instances r f len iid h le zeros is value) = subst IsBytes (sym is) (lcaf_is_bytes r f len iid (to_be_bytes w16 0) h (IsBytes-number 2 0))
+
+locator_is_bytes : (bytes : List ℕ) (l : Locator) → SpellsLocator bytes l → IsBytes bytes
+locator_is_bytes bytes l s =
+    let a = four s.priority s.weight s.m_priority s.m_weight s.priority_fits s.weight_fits s.m_priority_fits s.m_weight_fits in
+    let b = IsBytes-append (s.priority ∷ s.weight ∷ s.m_priority ∷ s.m_weight ∷ []) (to_be_bytes w16 s.flags) a (IsBytes-number 2 s.flags) in
+    subst IsBytes (sym s.whole) (IsBytes-append ((s.priority ∷ s.weight ∷ s.m_priority ∷ s.m_weight ∷ []) ++ to_be_bytes w16 s.flags) (family_and_address l) b (address_is_bytes l))
+
+locators_are_bytes : (ls : List Locator) (bytes : List ℕ) → SpellsLocators bytes ls → IsBytes bytes
+locators_are_bytes [] bytes s = subst IsBytes (sym s) IsBytes-nil
+locators_are_bytes (l ∷ ls) bytes (f, g, one, others, e) = subst IsBytes (sym e) (IsBytes-append f g (locator_is_bytes f l one) (locators_are_bytes ls g others))
+
+header_is_bytes : (r n : ℕ) → IsBytes (header r n)
+header_is_bytes r n = IsBytes-append (to_be_bytes w32 (6 * 2 ^ 28 + r * 2 ^ 8 + 1)) (to_be_bytes w64 n) (IsBytes-number 4 (6 * 2 ^ 28 + r * 2 ^ 8 + 1)) (IsBytes-number 8 n)
+
+fields_are_bytes : (ttl count mask : ℕ) (action : Action) (a i : Bool) (flags version : ℕ) → count < 256 → mask < 256 → IsBytes (fields ttl count mask action a i flags version)
+fields_are_bytes ttl count mask action a i flags version hc hm =
+    let word = act action * 2 ^ 13 + bit a * 2 ^ 12 + bit i * 2 ^ 11 + flags in
+    let one = IsBytes-append (to_be_bytes w32 ttl) (count ∷ mask ∷ []) (IsBytes-number 4 ttl) (IsBytes-cons count (mask ∷ []) hc (IsBytes-cons mask [] hm IsBytes-nil)) in
+    let two = IsBytes-append (to_be_bytes w32 ttl ++ (count ∷ mask ∷ [])) (to_be_bytes w16 word) one (IsBytes-number 2 word) in
+    IsBytes-append (to_be_bytes w32 ttl ++ (count ∷ mask ∷ []) ++ to_be_bytes w16 word) (to_be_bytes w16 version) two (IsBytes-number 2 version)
+
+pub message_is_bytes : (bytes : List ℕ) (v : Message) → Spells bytes v → IsBytes bytes
+message_is_bytes bytes v s =
+    let i = s.ignored in
+    let head = header i.reserved v.nonce in
+    let fields_ = fields v.ttl (length v.locators) s.mask v.action i.authoritative v.incomplete i.flags i.version in
+    let a = IsBytes-append head fields_ (header_is_bytes i.reserved v.nonce) (fields_are_bytes v.ttl (length v.locators) s.mask v.action i.authoritative v.incomplete i.flags i.version s.count_fits s.mask_fits) in
+    let b = IsBytes-append (head ++ fields_) s.eid a (eid_is_bytes s.mask s.eid v.prefix s.spells_eid) in
+    subst IsBytes (sym s.whole) (IsBytes-append (head ++ fields_ ++ s.eid) s.locators b (locators_are_bytes v.locators s.locators s.spells_locators))
+
+-- ---- at most one, and faults
+
+pub one_eid : (mask : ℕ) (bytes p q : List ℕ) → SpellsEid mask bytes p → SpellsEid mask bytes q → p ≡ q
+one_eid mask bytes p q a b = ap (λ (x : List ℕ × ℕ). x.0) (ok_is {E = EidFault} (p, length bytes) (q, length bytes) (sym (eid_again mask bytes p [] a) ∙ eid_again mask bytes q [] b))
+
+pub one_message : (bytes : List ℕ) (v w : Message) → Spells bytes v → Spells bytes w → v ≡ w
+one_message bytes v w a b = ok_is {E = ReferralFault} v w (sym (message_again bytes v a) ∙ message_again bytes w b)
+
+err_not_ok : {A E : Type 0} (r : Result A E) (x : A) → IsErr r → r ≡ Ok x → ⊥
+err_not_ok (Ok y) x e f = absurd cc
+err_not_ok (Err d) x e f = absurd cc
+
+err_unless : {A E : Type 0} (r : Result A E) → ((x : A) → r ≡ Ok x → ⊥) → IsErr r
+err_unless (Ok x) n = absurd (n x refl)
+err_unless (Err d) n = refl
+
+pub message_faults : (bytes : List ℕ) → IsBytes bytes → IsErr (message_in bytes) ↔ ((v : Message) → Spells bytes v → ⊥)
+message_faults bytes fits =
+    (λ e v s. err_not_ok (message_in bytes) v e (message_again bytes v s), λ n. err_unless (message_in bytes) (λ v e. n v (message_takes bytes v fits e)))
+
+pub eid_faults : (mask : ℕ) (bytes : List ℕ) → IsBytes bytes → IsErr (eid_at mask bytes) ↔ ((eid rest p : List ℕ) → SpellsEid mask eid p → bytes ≡ eid ++ rest → ⊥)
+eid_faults mask bytes fits = (
+  λ e eid rest p s is. err_not_ok (eid_at mask bytes) (p, length eid) e (ap (eid_at mask) is ∙ eid_again mask eid p rest s),
+  λ n. err_unless (eid_at mask bytes) (λ x e. let t = eid_takes mask bytes x fits e in n t.0 (drop x.1 bytes) x.0 t.2 t.1.parts),
+)
+
+-- what was read of a slice
+pub eid_found : (mask : ℕ) (bytes : List ℕ) (r : Result (List ℕ × ℕ) EidFault) → IsBytes bytes → r ≡ eid_at mask bytes → IfOk r (λ x. SpellsEid mask (take x.1 bytes) x.0 × (x.1 ≤ length bytes))
+eid_found mask bytes (Ok x) fits e =
+    let t = eid_takes mask bytes x fits (sym e) in
+    (subst (λ (text : List ℕ). SpellsEid mask text x.0) (sym (Takes-take bytes t.0 x.1 t.1)) t.2, Takes-fits bytes t.0 x.1 t.1)
+eid_found mask bytes (Err d) fits e = tt
+
+pub message_found : (bytes : List ℕ) (r : Result Message ReferralFault) → IsBytes bytes → r ≡ message_in bytes → IfOk r (λ v. Spells bytes v)
+message_found bytes (Ok v) fits e = message_takes bytes v fits (sym e)
+message_found bytes (Err d) fits e = tt

@@ -1,0 +1,53 @@
+-- What holds of every list of bytes and every value, whichever way they are read and written.
+use Rattle.std.specs.Prelude.{ℕ, ◌<◌, ◌≤◌, ◌^◌, ◌≡◌, ◌↔◌, List, ◌++◌, length}
+use Rattle.std.specs.List.{AllByRecursion}
+use Rattle.std.specs.Result.{IsErr}
+use Rattle.ddt_path.specs.declared.form.Form.{Form}
+use Rattle.ddt_path.specs.declared.record.ReferralRecord.{ReferralRecord}
+use Rattle.ddt_path.specs.Path.{path, IsForm}
+use Rattle.ddt_wire.specs.Steps.{IsBytes}
+use Rattle.ddt_wire.specs.Address.{IsAddress}
+use Rattle.ddt_wire.specs.Eid.{SpellsEid, written_eid, written_mask_len, eid_at}
+use Rattle.ddt_wire.specs.Referral.{Message, Spells, message_of, written, message_in}
+
+-- the path of a prefix
+abbrev pub IsPrefix : List ℕ → Type 0
+IsPrefix p = (form : Form) × IsForm form × (path form ≡ p)
+
+-- a nonce and a record whose numbers lie in the ranges of their types
+pub record IsRecord (nonce : ℕ) (r : ReferralRecord) : Type 0 where
+  pub nonce_fits : nonce < 2 ^ 64
+  pub ttl_fits : r.ttl < 2 ^ 32
+  pub prefix_is : IsPrefix r.prefix
+  pub count_fits : length r.servers ≤ 8
+  pub servers_fit : AllByRecursion IsAddress r.servers
+
+-- bytes spell at most one message
+abbrev pub OneMessage : Type 0
+OneMessage = (bytes : List ℕ) (v w : Message) → Spells bytes v → Spells bytes w → v ≡ w
+
+-- a list that spells a message has numbers of 0 to 255 alone
+abbrev pub MessagesAreBytes : Type 0
+MessagesAreBytes = (bytes : List ℕ) (v : Message) → Spells bytes v → IsBytes bytes
+
+-- there is a fault exactly where no message is spelled
+abbrev pub FaultsAreRight : Type 0
+FaultsAreRight = (bytes : List ℕ) → IsBytes bytes → IsErr (message_in bytes) ↔ ((v : Message) → Spells bytes v → ⊥)
+
+-- what is written spells what was to be written
+abbrev pub WrittenSpells : Type 0
+WrittenSpells = (nonce : ℕ) (r : ReferralRecord) → IsRecord nonce r → Spells (written nonce r) (message_of nonce r)
+
+-- the same four of an EID beside its mask length
+abbrev pub OneEid : Type 0
+OneEid = (mask : ℕ) (bytes p q : List ℕ) → SpellsEid mask bytes p → SpellsEid mask bytes q → p ≡ q
+
+abbrev pub EidsAreBytes : Type 0
+EidsAreBytes = (mask : ℕ) (bytes p : List ℕ) → SpellsEid mask bytes p → IsBytes bytes
+
+-- there is a fault exactly where no front of the bytes spells a prefix
+abbrev pub EidFaultsAreRight : Type 0
+EidFaultsAreRight = (mask : ℕ) (bytes : List ℕ) → IsBytes bytes → IsErr (eid_at mask bytes) ↔ ((eid rest p : List ℕ) → SpellsEid mask eid p → bytes ≡ eid ++ rest → ⊥)
+
+abbrev pub WrittenEidSpells : Type 0
+WrittenEidSpells = (p : List ℕ) → IsPrefix p → SpellsEid (written_mask_len p) (written_eid p) p

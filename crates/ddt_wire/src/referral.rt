@@ -1,0 +1,282 @@
+//! A Map-Referral of one record (RFC 8111, section 6.4).
+//!
+//! ```text
+//!  0        1        2        3
+//! +----+---+--------+--------+--------+
+//! |  6 |     reserved        | count 1|   0
+//! +----+---+--------+--------+--------+
+//! |              nonce                |   4
+//! |                                   |   8
+//! +-----------------------------------+
+//! |         TTL, in minutes           |  12
+//! +--------+--------+---+-+-+---------+
+//! |referral|EID mask|ACT|A|I| reserved|  16
+//! |  count |   len  |   | | |         |
+//! +----+---+--------+---+-+-+---------+
+//! |sigs| map version|     EID-AFI     |  20
+//! +----+------------+-----------------+
+//! |  EID, then the locators ...       |  24
+//! ```
+//!
+//! A, the map version and the reserved bits are ignored.
+
+ghost use Rattle.std.specs.Prelude.{◌≡◌, ◌+◌, ◌*◌, ◌^◌, ◌<◌, ◌≤◌, ◌++◌, length, take, Ok, OnOk, IfOk};
+ghost use Rattle.ddt_wire.specs.Referral.{written, written_header, written_fields, act as act_of, bit, head_at, action_of, message_in, Spells, Message, message_of, record_of};
+
+use crate::eid::{EidFault, eid, mask_len, write_eid};
+use crate::fault::ReferralFault;
+use crate::locator_record::{Locators, put_locators};
+use byteorder::{BigEndian, ByteOrder};
+use ddt_path::{Action, Prefix, ReferralRecord};
+use std::alloc::{AllocError, Global};
+use std::marker::Model;
+
+/// The type of a Map-Referral.
+const MAP_REFERRAL: u8 = 6;
+/// The type in the first four bits, and one record.
+const TYPE_AND_COUNT: u32 = 6 << 28 | 1;
+/// How many bytes stand before the EID's AFI.
+const BEFORE_EID: usize = 22;
+/// The place of ACT in its field.
+const ACT: u16 = 1 << 13;
+/// The bit A in that field.
+const AUTHORITATIVE: u16 = 1 << 12;
+/// The bit I in that field.
+const INCOMPLETE: u16 = 1 << 11;
+/// SigCnt 0 and map version 0.
+const NOT_SIGNED: u16 = 0;
+
+/// The number of an action.
+fn act(action: Action) -> u8
+    ensures number { result ≡ act_of action }
+    ensures bound { result ≤ 5 }
+{
+    match action {
+        Action::NodeReferral => 0,
+        Action::MsReferral => 1,
+        Action::MsAck => 2,
+        Action::MsNotRegistered => 3,
+        Action::DelegationHole => 4,
+        Action::NotAuthoritative => 5,
+    }
+}
+
+/// The field of ACT, A and I; A is written 1.
+fn action_field(referral: &ReferralRecord) -> u16
+    ensures { result ≡ act_of referral.now.action * 2 ^ 13 + 2 ^ 12 + bit referral.now.incomplete * 2 ^ 11 }
+{
+    let incomplete = if referral.incomplete { INCOMPLETE } else { 0 };
+    u16::from(act(referral.action)) * ACT + AUTHORITATIVE + incomplete
+}
+
+/// Appends what stands before the record.
+fn put_header(bytes: &mut Vec<u8>, nonce: u64) -> Result<(), AllocError>
+    ensures { OnOk result (bytes.new.items ≡ bytes.old.items ++ written_header nonce) }
+{
+    bytes.extend_from_slice(&TYPE_AND_COUNT.to_be_bytes())?;
+    bytes.extend_from_slice(&nonce.to_be_bytes())
+}
+
+/// Appends what stands before the EID in the record.
+fn put_fields(bytes: &mut Vec<u8>, referral: &ReferralRecord) -> Result<(), AllocError>
+    ensures written { OnOk result (bytes.new.items ≡ bytes.old.items ++ written_fields referral.now) }
+    ensures ttl { OnOk result (referral.now.ttl < 2 ^ 32) }
+    ensures count { length referral.now.servers ≤ 8 }
+{
+    let count = referral.servers.as_slice().len() as u8;
+    bytes.extend_from_slice(&referral.ttl.to_be_bytes())?;
+    bytes.extend_from_slice(&[count, mask_len(referral.prefix)])?;
+    bytes.extend_from_slice(&action_field(referral).to_be_bytes())?;
+    bytes.extend_from_slice(&NOT_SIGNED.to_be_bytes())
+}
+
+/// The one spelling of a Map-Referral with this nonce and record: A is 1, no signature and map version 0, each locator
+/// with priority 1, weight 100, multicast priority 255 and weight 0, and the flag R; reserved bits are 0. Refused for
+/// memory alone.
+pub fn write_referral(
+    alloc: Global,
+    nonce: u64,
+    referral: &ReferralRecord,
+) -> Result<Vec<u8>, AllocError>
+    ensures written { IfOk result (λ bytes. bytes.items ≡ written nonce referral.now) }
+    ensures spelled { IfOk result (λ bytes. Spells bytes.items (message_of nonce referral.now)) }
+{
+    let mut bytes = Vec::new(alloc);
+    put_header(&mut bytes, nonce)?;
+    put_fields(&mut bytes, referral)?;
+    write_eid(&mut bytes, referral.prefix)?;
+    put_locators(&mut bytes, referral.servers.as_slice())?;
+    Ok(bytes)
+}
+
+impl From<EidFault> for ReferralFault {
+    ghost use Rattle.std.specs.Prelude.{◌≡◌};
+    ghost use Rattle.ddt_wire.specs.Referral.{from_eid};
+
+    ghost from_gives = { λ d e. e ≡ from_eid d };
+
+    fn from(fault: EidFault) -> ReferralFault {
+        match fault {
+            EidFault::Short => ReferralFault::Short,
+            EidFault::EidFamily => ReferralFault::EidFamily,
+            EidFault::Lcaf => ReferralFault::Lcaf,
+            EidFault::MaskLength => ReferralFault::MaskLength,
+            EidFault::TailNotZero => ReferralFault::TailNotZero,
+        }
+    }
+}
+
+/// What a Map-Referral says. It lends the datagram for its locators.
+#[derive(Debug, Drop)]
+pub struct Referral<'a> {
+    nonce: u64,
+    action: Action,
+    prefix: Prefix,
+    ttl: u32,
+    incomplete: bool,
+    locators: Locators<'a>,
+}
+
+impl<'a> Model for Referral<'a> {
+    ghost use Rattle.ddt_wire.specs.Referral.{Message};
+
+    ghost Value = { Message };
+
+    ghost view = { λ a. record { nonce = a.nonce; action = a.action; prefix = a.prefix; ttl = a.ttl; incomplete = a.incomplete; locators = a.locators } };
+}
+
+impl<'a> Referral<'a> {
+    /// The nonce of the request that it answers.
+    pub fn nonce(&self) -> u64
+        ensures { result ≡ self.now.nonce }
+    {
+        self.nonce
+    }
+
+    /// The action.
+    pub fn action(&self) -> Action
+        ensures { result ≡ self.now.action }
+    {
+        self.action
+    }
+
+    /// The prefix that the record holds for.
+    pub fn prefix(&self) -> Prefix
+        ensures { result ≡ self.now.prefix }
+    {
+        self.prefix
+    }
+
+    /// How long it may be kept, in minutes.
+    pub fn ttl(&self) -> u32
+        ensures { result ≡ self.now.ttl }
+    {
+        self.ttl
+    }
+
+    /// The bit I: the referral set isn't the whole of it.
+    pub fn incomplete(&self) -> bool
+        ensures { result ≡ self.now.incomplete }
+    {
+        self.incomplete
+    }
+
+    /// All locators of the referral set in order, read from the datagram.
+    pub fn locators(&self) -> Locators<'a>
+        ensures { result ≡ self.now.locators }
+    {
+        self.locators.again()
+    }
+
+    /// The record with its first eight locators.
+    pub fn to_record(&self) -> ReferralRecord
+        ensures { result ≡ record_of self.now }
+    {
+        ReferralRecord {
+            action: self.action,
+            prefix: self.prefix,
+            ttl: self.ttl,
+            incomplete: self.incomplete,
+            servers: self.locators.again().first_eight(),
+        }
+    }
+}
+
+/// The action of a number; None for 6 and 7.
+fn read_action(number: u8) -> Option<Action>
+    ensures { result ≡ action_of number }
+{
+    match number {
+        0 => Some(Action::NodeReferral),
+        1 => Some(Action::MsReferral),
+        2 => Some(Action::MsAck),
+        3 => Some(Action::MsNotRegistered),
+        4 => Some(Action::DelegationHole),
+        5 => Some(Action::NotAuthoritative),
+        _ => None,
+    }
+}
+
+/// The action, where what stands before the EID is right.
+#[tactic(auto, unfolding(crate::specs::Referral::head_at))]
+fn read_head(bytes: &[u8]) -> Result<Action, ReferralFault>
+    ensures exact { result ≡ head_at bytes.now }
+    ensures len { OnOk result (24 ≤ length bytes.now) }
+{
+    if bytes.len() < 4 {
+        return Err(ReferralFault::Short);
+    }
+    if bytes[0] >> 4 != MAP_REFERRAL {
+        return Err(ReferralFault::MessageType);
+    }
+    if bytes[3] != 1 {
+        return Err(ReferralFault::RecordCount);
+    }
+    if bytes.len() < 24 {
+        return Err(ReferralFault::Short);
+    }
+    let action = read_action(bytes[18] >> 5).ok_or(ReferralFault::BadAction)?;
+    if bytes[20] >> 4 != 0 {
+        return Err(ReferralFault::Signed);
+    }
+    Ok(action)
+}
+
+/// The Map-Referral that the bytes are, or the first fault.
+#[tactic(auto, unfolding(crate::specs::Referral::message_in))]
+fn message(bytes: &[u8]) -> Result<Referral<'_>, ReferralFault>
+    ensures { result ≡ message_in bytes.now }
+{
+    let action = read_head(bytes)?;
+    let (_fields, from_eid) = bytes.split_at(BEFORE_EID);
+    let (prefix, taken) = eid(from_eid, bytes[17])?;
+    let (_eid, from_locators) = from_eid.split_at(taken);
+    let (locators, rest) = Locators::read(bytes[16], from_locators)?;
+    if !rest.is_empty() {
+        return Err(ReferralFault::Trailing);
+    }
+    Ok(Referral {
+        nonce: BigEndian::read_u64(&bytes[4..]),
+        action,
+        prefix,
+        ttl: BigEndian::read_u32(&bytes[12..]),
+        incomplete: (bytes[18] >> 3) % 2 == 1,
+        locators,
+    })
+}
+
+/// What the datagram says, all of it being one Map-Referral of one record. Refused, in this order, as 1 Short within 4
+/// bytes; 2 MessageType; 3 RecordCount; 1 Short within 24 bytes; 4 BadAction; 5 Signed; the EID's faults (1 Short, 6
+/// EidFamily, 7 Lcaf, 8 MaskLength, 9 TailNotZero) as of `read_eid`; for each locator 1 Short within 8 bytes, 10
+/// LocatorFamily, 1 Short without the address; then 11 Trailing. The bit A, the map version, reserved bits, and the
+/// priorities, weights and flags of locators are ignored (RFC 8111, section 6.4).
+pub fn read_referral(bytes: &[u8]) -> Result<Referral<'_>, ReferralFault>
+    // The bytes spell what is read.
+    ensures found { IfOk result (λ v. Spells bytes.now v) }
+    // What they spell is read.
+    ensures only { (v : Message) → Spells bytes.now v → result ≡ Ok v }
+    // Which fault it is.
+    ensures exact { result ≡ message_in bytes.now }
+{
+    message(bytes)
+}

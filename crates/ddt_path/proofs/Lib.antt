@@ -4,3 +4,5 @@ pub mod PrefixLemmas
 pub mod SlotLemmas
 pub mod NameLemmas
 pub mod PathTestLemmas
+pub mod CoverLemmas
+pub mod HoleLemmas

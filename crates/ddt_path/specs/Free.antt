@@ -9,17 +9,18 @@ abbrev pub lengthened : List ℕ → List ℕ → List (List ℕ)
 lengthened front [] = front ∷ []
 lengthened front (d ∷ rest) = front ∷ lengthened (front ++ d ∷ []) rest
 
--- the initial parts of x, by length from n upwards; x alone where n is at least its length
+-- the fronts of x, by length from n upwards up to all of it; none where x is shorter than n
 abbrev pub parts_from : ℕ → List ℕ → List (List ℕ)
-parts_from n x = lengthened (take n x) (drop n x)
+parts_from n x = if nat_lt (length x) n then [] else lengthened (take n x) (drop n x)
 
 -- q overlaps no member of s
 abbrev pub overlaps_none : List (List ℕ) → List ℕ → Bool
 overlaps_none s q = list_all (λ p. not (overlaps p q)) s
 
--- The least specific free prefix: of the initial parts of x, by length from that of authority upwards, the first
--- that overlaps no member of s; None where each overlaps one, which is where a member covers x. Where authority
--- doesn't cover x the answer may lie outside it: no authority is asked for an identifier that it doesn't cover.
+-- The least specific free prefix: the first of these fronts, from the length of the authority on, that overlaps no
+-- member of s. None where each overlaps one, which for a whole identifier and prefixes is where a member covers it, or
+-- where the authority is longer than x. No authority is asked for an identifier that it doesn't cover: there the answer
+-- may lie outside it.
 abbrev pub free : List ℕ → List (List ℕ) → List ℕ → Option (List ℕ)
 free authority s x = find (overlaps_none s) (parts_from (length authority) x)
 

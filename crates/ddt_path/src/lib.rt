@@ -2,6 +2,7 @@
 #![tactic(auto)]
 
 mod form;
+mod holes;
 mod listed;
 mod locator;
 mod locator_set;
@@ -12,6 +13,7 @@ mod record;
 mod xeid;
 
 pub use form::{Form, PrefixFault};
+pub use holes::{a_hole_is_free, no_hole_under_a_key, one_hole_for_all_it_covers};
 pub use listed::Listed;
 pub use locator::Locator;
 pub use locator_set::{LocatorSet, MOST_LOCATORS};

@@ -11,9 +11,21 @@ fn block(address: u32, len: u8) -> Result<Prefix, PrefixFault> {
 fn the_longest_common_prefix_of_two(rt: HostRuntime) -> Result<(), Fail> {
     let ten = block(0x0a00_0000, 8)?;
     let rows = [
-        (block(0x0a01_0000, 16)?, block(0x0a02_0000, 15)?, block(0x0a00_0000, 14)?),
-        (ten, Prefix::block(0, Locator::V6(0), 0)?, Prefix::range(0, 32)?),
-        (ten, Prefix::block(0x8000_0000, Locator::V6(0), 0)?, Prefix::range(0, 0)?),
+        (
+            block(0x0a01_0000, 16)?,
+            block(0x0a02_0000, 15)?,
+            block(0x0a00_0000, 14)?,
+        ),
+        (
+            ten,
+            Prefix::block(0, Locator::V6(0), 0)?,
+            Prefix::range(0, 32)?,
+        ),
+        (
+            ten,
+            Prefix::block(0x8000_0000, Locator::V6(0), 0)?,
+            Prefix::range(0, 0)?,
+        ),
     ];
     for (p, q, common) in rows {
         assert_eq!(rt; p.longest_common(q), common);
@@ -30,8 +42,14 @@ fn a_length_above_the_width_comes_before_set_digits(rt: HostRuntime) -> Result<(
     assert_eq!(rt; block(0x0a00_0001, 33), Err(PrefixFault::Length));
     assert_eq!(rt; block(0x0a00_0001, 31), Err(PrefixFault::TailNotZero));
     let alloc = rt.alloc();
-    assert_eq!(rt; format!(in alloc; "{}", PrefixFault::Length)?.as_str(), "1 Length");
-    assert_eq!(rt; format!(in alloc; "{}", PrefixFault::TailNotZero)?.as_str(), "2 TailNotZero");
+    assert_eq!(rt;
+        format!(in alloc; "{}", PrefixFault::Length)?.as_str(),
+        "1 Length"
+    );
+    assert_eq!(rt;
+        format!(in alloc; "{}", PrefixFault::TailNotZero)?.as_str(),
+        "2 TailNotZero"
+    );
     Ok(())
 }
 
@@ -45,7 +63,12 @@ fn sets_names_and_lists_hold_what_they_were_given(rt: HostRuntime) -> Result<(),
     let longest = [b'z'; 64];
     let name = Name::of(&longest[..63]).ok_or("63 letters are a name")?;
     assert_eq!(rt; name.as_bytes(), &longest[..63]);
-    for bytes in [b"".as_slice(), b"Ten".as_slice(), b"a b".as_slice(), longest.as_slice()] {
+    for bytes in [
+        b"".as_slice(),
+        b"Ten".as_slice(),
+        b"a b".as_slice(),
+        longest.as_slice(),
+    ] {
         assert!(rt; Name::of(bytes).is_none());
     }
     let items = vec![in rt.alloc(); 1u8, 2]?;

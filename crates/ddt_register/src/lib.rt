@@ -1,15 +1,23 @@
 //! The register of a mapping system: its zones, its sites and its server groups, each with the row that it stands in.
 //!
-//! In reading order: `zone`, `site`, `group`, `register`.
+//! In reading order: `zone`, `site`, `group`, `register`; `row`, `reading`, `fault`.
 #![tactic(auto)]
 
+mod fault;
 mod group;
+mod items;
+mod reading;
 mod register;
+mod row;
 mod rows;
 mod site;
+#[cfg(test)]
+mod tests;
 mod zone;
 
+pub use fault::ReadFault;
 pub use group::Group;
+pub use reading::read_register;
 pub use register::{MOST_ROWS, Register};
 pub use site::Site;
 pub use zone::Zone;

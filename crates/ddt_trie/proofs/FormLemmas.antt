@@ -11,7 +11,7 @@ use Rattle.ddt_path.specs.Path.{digits, path, address_width, address_digits, add
 use Rattle.ddt_path.specs.DigitLemmas.{length-digits}
 use Rattle.ddt_path.specs.Covers.{covers, overlaps}
 use Rattle.ddt_path.specs.declared.xeid.Xeid.{Xeid}
-use Rattle.ddt_trie.proofs.CoverLemmas.{covers_self, covered_same, covers_rest}
+use Rattle.ddt_path.proofs.CoverLemmas.{covers_self, covered_same, covers_rest}
 
 block_no_longer : (a b : Locator) (len : ℕ) (ds : List ℕ) → covers (family a ∷ ds) (family b ∷ take len (address_digits b)) ≡ true → length ds ≡ address_width a → length (take len (address_digits b)) ≤ address_width a
 block_no_longer (V4 a) (V4 b) len ds c n = omega (arith, length-take len (digits 32 b), length-digits 32 b)

@@ -12,8 +12,8 @@ use Rattle.ddt_trie.specs.PrefixMap.{path_cmp, IsCovered}
 use Rattle.ddt_trie.specs.Entries.{map_of, none_covers}
 use Rattle.ddt_trie.proofs.EntryLemmas.{tied, tied-true, tied_self, get-map_of}
 use Rattle.ddt_trie.proofs.LongestLemmas.{keys_pass}
-use Rattle.ddt_trie.proofs.CoverLemmas.{overlaps-take}
-use Rattle.ddt_trie.proofs.HoleLemmas.{parts_from_next, parts_from_last, free_agree}
+use Rattle.ddt_path.proofs.CoverLemmas.{overlaps-take}
+use Rattle.ddt_path.proofs.HoleLemmas.{parts_from_next, parts_from_last, free_agree}
 
 same_answers : (a b : Bool) → (a ≡ true → b ≡ true) → (b ≡ true → a ≡ true) → a ≡ b
 same_answers true true f g = refl

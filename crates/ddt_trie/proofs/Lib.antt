@@ -1,8 +1,6 @@
 pub mod EntryLemmas
 pub mod LongestLemmas
 pub mod RetainLemmas
-pub mod CoverLemmas
-pub mod HoleLemmas
 pub mod FormLemmas
 pub mod KeyLemmas
 pub mod MapLemmas

@@ -10,8 +10,8 @@ use Rattle.ddt_path.specs.Covers.{covers, overlaps}
 use Rattle.ddt_path.specs.Free.{overlaps_none, free}
 use Rattle.ddt_trie.specs.PrefixMap.{path_cmp, IsCovered, IsLongest, IsKept, IsRetained}
 use Rattle.ddt_trie.proofs.EntryLemmas.{tied, tied-true, tied_self, same_keys}
-use Rattle.ddt_trie.proofs.CoverLemmas.{take-covered, length-covered}
-use Rattle.ddt_trie.proofs.HoleLemmas.{free_whole}
+use Rattle.ddt_path.proofs.CoverLemmas.{take-covered, length-covered}
+use Rattle.ddt_path.proofs.HoleLemmas.{free_whole}
 use Rattle.ddt_trie.proofs.KeyLemmas.{all_from_members, member_passes}
 
 apart : (p q : List ℕ) → p ≢ q → tied q p ≡ false

@@ -9,7 +9,7 @@ use Rattle.ddt_trie.specs.PrefixMap.{path_cmp, IsCovered, IsLongest}
 use Rattle.ddt_trie.specs.Entries.{map_of, none_covers, none_longer}
 use Rattle.ddt_trie.proofs.EntryLemmas.{tied, tied-true, tied_self, get-map_of}
 use Rattle.ddt_trie.proofs.LongestLemmas.{keys_pass, is_found, only_short, covered_weaker, longer_weaker, uncovered}
-use Rattle.ddt_trie.proofs.HoleLemmas.{false_where}
+use Rattle.ddt_path.proofs.HoleLemmas.{false_where}
 use Rattle.ddt_trie.proofs.MapLemmas.{IsLongest-unique}
 
 module _ {V : Type 0} (x : List ℕ) where

@@ -4,14 +4,12 @@
 
 #[cfg(test)]
 mod callers;
-mod holes;
 mod laws;
 mod list_map;
 mod prefix_map;
 #[cfg(test)]
 mod tests;
 
-pub use holes::{a_hole_is_free, no_hole_under_a_key, one_hole_for_all_it_covers};
 pub use laws::{free_by_members, longest_by_entries, one_longest};
 pub use list_map::ListMap;
 pub use prefix_map::PrefixMap;

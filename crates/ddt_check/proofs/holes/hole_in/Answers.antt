@@ -1,8 +1,8 @@
-use Rattle.std.proofs.Common.{◌<◌, ◌∙◌, sym, ap, length, arith}
+use Rattle.std.proofs.Common.{◌<◌, ◌≤◌, ◌∙◌, sym, ap, length, arith}
 use Rattle.ddt_path.specs.Path.{xeid_path}
 use Rattle.ddt_path.specs.Free.{overlaps_none}
 use Rattle.ddt_check.specs.Assignment.{prefixes_in}
-use Rattle.ddt_check.proofs.HoleLemmas.{first_part-found, first_part-next}
+use Rattle.ddt_check.proofs.HoleLemmas.{first_part-found, first_part-next, first_part-end}
 use Rattle.ddt_check.proofs.holes.hole_in.Goals as goal
 
 pub returns-then-overlaps_none : goal.returns-then-overlaps_none
@@ -20,3 +20,10 @@ loop-len-preserved c =
     let short : c.loop-len.len < length x = omega (arith, c.path_len-longest.ensures) in
     let fails = ap test (sym c.cut-part.ensures) ∙ sym c.overlaps_none.ensures ∙ c.if-overlaps_none.false in
     sym (first_part-next test x c.loop-len.len short fails) ∙ c.loop-len.invariant
+
+pub returns : goal.returns
+returns c =
+    let test = overlaps_none (prefixes_in c.args.register.now c.args.zone.now c.args.zone.now.kind) in
+    let x = xeid_path c.args.x in
+    let end : length x ≤ c.loop-len.len = omega (arith, c.path_len-longest.ensures) in
+    c.host.ensures.whole ∙ sym (first_part-end test x c.loop-len.len end) ∙ c.loop-len.invariant

@@ -1,4 +1,4 @@
-use Rattle.std.proofs.Common.{◌≡◌, ap, ◌∙◌, sym}
+use Rattle.std.proofs.Common.{ap, ◌∙◌, sym}
 use Rattle.ddt_path.specs.Path.{is_prefix_path}
 use Rattle.ddt_path.proofs.PathTestLemmas.{is_prefix_path-path}
 use Rattle.ddt_path.proofs.prefix.Prefix.form.Goals as goal

@@ -9,8 +9,7 @@ ghost use Rattle.ddt_path.specs.Free.{free, is_free};
 /// The least specific free prefix that is found for one identifier is the one of each identifier that it covers.
 pub fn one_hole_for_all_it_covers()
     ensures { (authority : List ℕ) (keys : List (List ℕ)) (x y hole : List ℕ) →
-        IsTrue (covers authority x) → free authority keys x ≡ Some hole → IsTrue (covers hole y) →
-        free authority keys y ≡ Some hole }
+        free authority keys x ≡ Some hole → IsTrue (covers hole y) → free authority keys y ≡ Some hole }
 {}
 
 /// The least specific free prefix covers the identifier, lies inside the authority and overlaps no key.

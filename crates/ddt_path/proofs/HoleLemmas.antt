@@ -1,22 +1,32 @@
--- The least specific free prefix, over the definitions. This file needs the specs of ddt_path and CoverLemmas alone.
-use Rattle.std.proofs.Common.{◌≡◌, ℕ, ◌+◌, ◌<◌, Bool, true, false, cond, List, [], ◌∷◌, ◌++◌, length, take, drop, Some, None, refl, sym, ap, ◌∙◌, arith, inl, inr}
-use Rattle.std.specs.Prelude.{find, not, ◌==◌, ◌&&◌}
+-- The least specific free prefix, over the definitions.
+use Rattle.std.proofs.Common.{◌≡◌, ℕ, ◌+◌, ◌<◌, ◌≤◌, Bool, true, false, cond, List, [], ◌∷◌, ◌++◌, length, take, drop, Some, None, refl, sym, ap, ◌∙◌, arith, inl, inr}
+use Rattle.std.specs.Prelude.{find, nat_lt, not, Option, ◌==◌, ◌&&◌}
 use Rattle.std.specs.List.{list_any}
-use Rattle.std.proofs.lemmas.Bool.{cond-true, cond-false, and_from, and_parts, or_cases, not-true, false≢true, eqb-true}
+use Rattle.std.proofs.lemmas.Bool.{cond-true, cond-false, and_from, and_parts, or_cases, not-true, false≢true, eqb-true, lt-ltb, le-ltb, cases_lt}
 use Rattle.std.proofs.lemmas.Option.{same_Some, cond_some}
-use Rattle.std.proofs.lemmas.List.{append_assoc, take-append-drop, drop_more, take_more, take_all, drop_all}
+use Rattle.std.proofs.lemmas.List.{append_assoc, take-append-drop, length-take, drop_more, take_more, take_all, drop_all}
 use Rattle.ddt_path.specs.Covers.{covers, overlaps, is_same_path}
 use Rattle.ddt_path.specs.Free.{lengthened, parts_from, overlaps_none, free, is_free}
-use Rattle.ddt_trie.proofs.CoverLemmas.{covers_self, covers_trans, covers-append, take-covered, overlaps-take, next_digit}
+use Rattle.ddt_path.proofs.CoverLemmas.{covers_self, covers_trans, covers-append, take-covered, length-covered, overlaps-take, next_digit}
 
 -- ---- the parts of a path
 
+pub parts_from_fits : (n : ℕ) (x : List ℕ) → n ≤ length x → parts_from n x ≡ lengthened (take n x) (drop n x)
+parts_from_fits n x le = cond-false (nat_lt (length x) n) [] (lengthened (take n x) (drop n x)) (le-ltb (length x) n le)
+
+pub parts_from_past : (n : ℕ) (x : List ℕ) → length x < n → parts_from n x ≡ []
+parts_from_past n x lt = cond-true (nat_lt (length x) n) [] (lengthened (take n x) (drop n x)) (lt-ltb (length x) n lt)
+
 pub parts_from_next : (n : ℕ) (x : List ℕ) → n < length x → parts_from n x ≡ take n x ∷ parts_from (n + 1) x
 parts_from_next n x lt =
-    ap (lengthened (take n x)) (drop_more x n 0 lt) ∙ ap (λ (f : List ℕ). take n x ∷ lengthened f (drop (n + 1) x)) (sym (take_more x n 0 lt))
+    let le : n ≤ length x = omega arith in
+    let more : n + 1 ≤ length x = omega arith in
+    parts_from_fits n x le
+    ∙ ap (lengthened (take n x)) (drop_more x n 0 lt) ∙ ap (λ (f : List ℕ). take n x ∷ lengthened f (drop (n + 1) x)) (sym (take_more x n 0 lt))
+    ∙ ap (λ (ps : List (List ℕ)). take n x ∷ ps) (sym (parts_from_fits (n + 1) x more))
 
 pub parts_from_last : (x : List ℕ) → parts_from (length x) x ≡ x ∷ []
-parts_from_last x = ap (λ (f : List ℕ). lengthened f (drop (length x) x)) (take_all (length x) x (omega arith)) ∙ ap (lengthened x) (drop_all (length x) x (omega arith))
+parts_from_last x = parts_from_fits (length x) x (omega arith) ∙ ap (λ (f : List ℕ). lengthened f (drop (length x) x)) (take_all (length x) x (omega arith)) ∙ ap (lengthened x) (drop_all (length x) x (omega arith))
 
 -- ---- the first part that passes a test
 
@@ -61,20 +71,41 @@ same_part test f (d ∷ r) q s found c =
 pub free_whole : (authority : List ℕ) (s : List (List ℕ)) (x : List ℕ) → covers authority x ≡ true → overlaps_none s authority ≡ true → free authority s x ≡ Some authority
 free_whole authority s x inside none =
     let front : take (length authority) x ≡ authority = take-covered authority x inside in
-    ap (λ (f : List ℕ). find (overlaps_none s) (lengthened f (drop (length authority) x))) front ∙ at_once (overlaps_none s) authority (drop (length authority) x) none
+    ap (find (overlaps_none s)) (parts_from_fits (length authority) x (length-covered authority x inside))
+    ∙ ap (λ (f : List ℕ). find (overlaps_none s) (lengthened f (drop (length authority) x))) front ∙ at_once (overlaps_none s) authority (drop (length authority) x) none
+
+abbrev found_path : List ℕ → Option (List ℕ)
+found_path q = Some q
+
+abbrev nothing : Option (List ℕ)
+nothing = None
+
+none_not_some : (q : List ℕ) → nothing ≡ found_path q → ⊥
+none_not_some q e = cc
+
+-- what was found is found among the parts of a path that is long enough
+found_fits : (authority : List ℕ) (s : List (List ℕ)) (x q : List ℕ) → free authority s x ≡ Some q → length authority ≤ length x
+found_fits authority s x q found =
+    elim (cases_lt (length x) (length authority)) [
+      | inl lt ↦ absurd (none_not_some q (sym (ap (find (overlaps_none s)) (parts_from_past (length authority) x lt)) ∙ found))
+      | inr le ↦ le
+    ]
 
 -- ---- a hole is the hole of all it covers
 
-pub hole_of_all : (authority : List ℕ) (s : List (List ℕ)) (x y q : List ℕ) → covers authority x ≡ true → free authority s x ≡ Some q → covers q y ≡ true → free authority s y ≡ Some q
-hole_of_all authority s x y q inside found c =
+pub hole_of_all : (authority : List ℕ) (s : List (List ℕ)) (x y q : List ℕ) → free authority s x ≡ Some q → covers q y ≡ true → free authority s y ≡ Some q
+hole_of_all authority s x y q found c =
     let n = length authority in
     let test = overlaps_none s in
-    let front : take n x ≡ authority = take-covered authority x inside in
-    let begins : covers authority q ≡ true = ap (λ (f : List ℕ). covers f q) (sym front) ∙ part-covered test (take n x) (drop n x) q found in
-    let other : take n y ≡ authority = take-covered authority y (covers_trans authority q y begins c) in
-    let same : take n x ≡ take n y = front ∙ sym other in
-    let moved : find test (lengthened (take n y) (drop n x)) ≡ Some q = ap (λ (f : List ℕ). find test (lengthened f (drop n x))) (sym same) ∙ found in
-    same_part test (take n y) (drop n x) q (drop n y) moved (ap (covers q) (take-append-drop n y) ∙ c)
+    let fits = found_fits authority s x q found in
+    let among : find test (lengthened (take n x) (drop n x)) ≡ Some q = sym (ap (find test) (parts_from_fits n x fits)) ∙ found in
+    let begins : covers (take n x) q ≡ true = part-covered test (take n x) (drop n x) q among in
+    let inside : covers (take n x) y ≡ true = covers_trans (take n x) q y begins c in
+    let n-long : length (take n x) ≡ n = length-take n x ∙ omega arith in
+    let other : take n y ≡ take n x = ap (λ (k : ℕ). take k y) (sym n-long) ∙ take-covered (take n x) y inside in
+    let y-fits : n ≤ length y = omega (arith, length-covered (take n x) y inside, n-long) in
+    let moved : find test (lengthened (take n y) (drop n x)) ≡ Some q = ap (λ (f : List ℕ). find test (lengthened f (drop n x))) other ∙ among in
+    ap (find test) (parts_from_fits n y y-fits) ∙ same_part test (take n y) (drop n x) q (drop n y) moved (ap (covers q) (take-append-drop n y) ∙ c)
 
 -- ---- a hole is free
 
@@ -96,9 +127,10 @@ part_passes test f (d ∷ r) q found =
     ] refl
 
 pub hole_is_free : (authority : List ℕ) (s : List (List ℕ)) (x q : List ℕ) → covers authority x ≡ true → free authority s x ≡ Some q → is_free authority s x q ≡ true
-hole_is_free authority s x q inside found =
+hole_is_free authority s x q inside free_is =
     let n = length authority in
     let test = overlaps_none s in
+    let found : find test (lengthened (take n x) (drop n x)) ≡ Some q = sym (ap (find test) (parts_from_fits n x (found_fits authority s x q free_is))) ∙ free_is in
     and_from (covers q x) (covers authority q && test q)
     (ap (covers q) (sym (take-append-drop n x)) ∙ part_covers test (take n x) (drop n x) q found)
     (and_from (covers authority q) (test q)
@@ -113,10 +145,17 @@ none_passes test f (d ∷ r) h =
     fails test f (lengthened (f ++ d ∷ []) r) (h f (covers-append f (d ∷ r)))
     ∙ none_passes test (f ++ d ∷ []) r (λ p c. h p (ap (covers p) (sym (append_assoc f (d ∷ []) r)) ∙ c))
 
-pub none_free : (authority : List ℕ) (s : List (List ℕ)) (x : List ℕ) → ((p : List ℕ) → covers p x ≡ true → overlaps_none s p ≡ false) → free authority s x ≡ None
-none_free authority s x h =
+none_fits : (authority : List ℕ) (s : List (List ℕ)) (x : List ℕ) → ((p : List ℕ) → covers p x ≡ true → overlaps_none s p ≡ false) → find (overlaps_none s) (lengthened (take (length authority) x) (drop (length authority) x)) ≡ None
+none_fits authority s x h =
     let n = length authority in
     none_passes (overlaps_none s) (take n x) (drop n x) (λ p c. h p (ap (covers p) (sym (take-append-drop n x)) ∙ c))
+
+pub none_free : (authority : List ℕ) (s : List (List ℕ)) (x : List ℕ) → ((p : List ℕ) → covers p x ≡ true → overlaps_none s p ≡ false) → free authority s x ≡ None
+none_free authority s x h =
+    elim (cases_lt (length x) (length authority)) [
+      | inl lt ↦ ap (find (overlaps_none s)) (parts_from_past (length authority) x lt)
+      | inr le ↦ ap (find (overlaps_none s)) (parts_from_fits (length authority) x le) ∙ none_fits authority s x h
+    ]
 
 -- ---- lists among which the same prefixes are free
 

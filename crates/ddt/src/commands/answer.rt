@@ -1,0 +1,46 @@
+//! `ddt answer REGISTER GROUP XEID`: what the group's server answers to a request of nonce 1, in hexadecimal.
+
+use crate::answering::answer_hex;
+use crate::commands::inputs::{accepted_register, identifier};
+use crate::lines::{print_line, refuse};
+use crate::refusal::Refusal;
+use crate::status::Status;
+use ddt_path::Name;
+use std::alloc::Global;
+use std::io::{Read, Write};
+
+/// The words of the command.
+#[derive(Clone, Copy, Debug)]
+pub struct AnswerWords<'a> {
+    pub register: &'a str,
+    pub group: &'a str,
+    pub xeid: &'a str,
+}
+
+/// Answers for a register that could be opened, or not. Refusals, in this order: a bad identifier, a file that can't
+/// be opened, an unreadable register, one that breaks a rule, a word that names no group of it.
+pub fn answer<R: Read + Drop, W: Write, E: Write>(
+    alloc: Global,
+    source: Option<R>,
+    words: &AnswerWords<'_>,
+    out: &mut W,
+    err: &mut E,
+) -> Status {
+    match answer_line(alloc, source, words) {
+        Ok(line) => print_line(line.as_bytes(), out),
+        Err(refusal) => refuse(&refusal, err),
+    }
+}
+
+fn answer_line<'a, R: Read + Drop>(
+    alloc: Global,
+    source: Option<R>,
+    words: &AnswerWords<'a>,
+) -> Result<String, Refusal<'a>> {
+    let x = identifier(words.xeid)?;
+    let accepted = accepted_register(alloc, source, words.register)?;
+    let Some(group) = Name::of(words.group.as_bytes()) else {
+        return Err(Refusal::NoSuchGroup);
+    };
+    answer_hex(alloc, &accepted, group, x)?.ok_or(Refusal::NoSuchGroup)
+}

@@ -1,0 +1,41 @@
+//! `ddt assign REGISTER XEID`: what longest match over the register assigns to the identifier.
+
+use crate::commands::inputs::{accepted_register, identifier};
+use crate::lines::{outcome_line, print_line, refuse};
+use crate::refusal::Refusal;
+use crate::status::Status;
+use ddt_check::assign as assignment;
+use std::alloc::Global;
+use std::io::{Read, Write};
+
+/// The words of the command.
+#[derive(Clone, Copy, Debug)]
+pub struct AssignWords<'a> {
+    pub register: &'a str,
+    pub xeid: &'a str,
+}
+
+/// Prints the outcome of an identifier. Refusals, in this order: a bad identifier, a file that can't be opened, an
+/// unreadable register, one that breaks a rule.
+pub fn assign<R: Read + Drop, W: Write, E: Write>(
+    alloc: Global,
+    source: Option<R>,
+    words: &AssignWords<'_>,
+    out: &mut W,
+    err: &mut E,
+) -> Status {
+    match assign_line(alloc, source, words) {
+        Ok(line) => print_line(&line, out),
+        Err(refusal) => refuse(&refusal, err),
+    }
+}
+
+fn assign_line<'a, R: Read + Drop>(
+    alloc: Global,
+    source: Option<R>,
+    words: &AssignWords<'a>,
+) -> Result<Vec<u8>, Refusal<'a>> {
+    let x = identifier(words.xeid)?;
+    let accepted = accepted_register(alloc, source, words.register)?;
+    Ok(outcome_line(alloc, &assignment(&accepted, x))?)
+}

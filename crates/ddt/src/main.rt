@@ -1,0 +1,46 @@
+//! The program: one command over a register, its words, and what it prints.
+//!
+//! In reading order: `words`, `running`, `commands`, `answering`, `lines`, `refusal`, `status`.
+#![tactic(auto)]
+
+mod answering;
+mod commands;
+mod lines;
+mod refusal;
+mod running;
+mod status;
+mod words;
+
+#[cfg(test)]
+mod tests;
+
+use lines::refuse;
+use refusal::Refusal;
+use running::{run, show_usage};
+use std::io::ErrorKind;
+use std::process::ExitCode;
+use std::{env, fs, io};
+
+fn main(rt: HostRuntime) -> ExitCode {
+    let (mut out, mut err) = (rt.stdout(), rt.stderr());
+    let status = match words_of(&rt) {
+        Ok(words) => run(
+            rt.alloc(),
+            &words,
+            |path| fs::open(&rt, path).ok(),
+            &mut out,
+            &mut err,
+        ),
+        Err(error) if error.kind() == ErrorKind::OutOfMemory => {
+            refuse(&Refusal::OutOfMemory, &mut err)
+        }
+        // Words that are no text fit no command.
+        Err(_) => show_usage(&mut err),
+    };
+    ExitCode::from(status.number())
+}
+
+/// The words that the process was started with, the program's name first.
+fn words_of(rt: &HostRuntime) -> io::Result<Vec<String>> {
+    Ok(env::args(rt)?.collect(rt.alloc())?)
+}

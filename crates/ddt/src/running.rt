@@ -1,0 +1,74 @@
+//! From the words of the process to the command that they spell.
+
+use crate::commands::answer::{AnswerWords, answer};
+use crate::commands::assign::{AssignWords, assign};
+use crate::commands::check::check;
+use crate::status::Status;
+use crate::words::{Command, read_words};
+use std::alloc::Global;
+use std::io::{Read, Write};
+
+const USAGE: &str = "usage: ddt answer REGISTER GROUP XEID
+       ddt assign REGISTER XEID
+       ddt check REGISTER
+";
+
+/// Runs the command that the words spell, of which the first is the program's name. `open_file` gives a file, or None
+/// where it can't be opened. Words that fit no command end with status 2 and the usage on `err`.
+pub fn run<F, O, W, E>(alloc: Global, words: &[String], open_file: O, out: &mut W, err: &mut E) -> Status
+where
+    F: Read + Drop,
+    O: FnOnce(&str) -> Option<F> + Drop,
+    W: Write,
+    E: Write,
+    requires { O.IsAlwaysCallable open_file }
+{
+    match words {
+        [_, words @ ..] => match read_words(words) {
+            Some(command) => run_command(alloc, command, open_file, out, err),
+            None => show_usage(err),
+        },
+        [] => show_usage(err),
+    }
+}
+
+/// Shows the commands on `err`: the words fit none.
+pub fn show_usage<E: Write>(err: &mut E) -> Status {
+    let _ = err.write_all(USAGE.as_bytes());
+    Status::BadWords
+}
+
+fn run_command<F, O, W, E>(
+    alloc: Global,
+    command: Command<'_>,
+    open_file: O,
+    out: &mut W,
+    err: &mut E,
+) -> Status
+where
+    F: Read + Drop,
+    O: FnOnce(&str) -> Option<F> + Drop,
+    W: Write,
+    E: Write,
+    requires { O.IsAlwaysCallable open_file }
+{
+    match command {
+        Command::Answer {
+            register,
+            group,
+            xeid,
+        } => {
+            let words = AnswerWords {
+                register,
+                group,
+                xeid,
+            };
+            answer(alloc, open_file(register), &words, out, err)
+        }
+        Command::Assign { register, xeid } => {
+            let words = AssignWords { register, xeid };
+            assign(alloc, open_file(register), &words, out, err)
+        }
+        Command::Check { register } => check(alloc, open_file(register), register, out, err),
+    }
+}

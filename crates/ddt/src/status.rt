@@ -1,0 +1,28 @@
+//! How a command ended.
+
+/// The exit status of a command.
+#[derive(Clone, Copy, Debug, PartialEq, Eq)]
+pub enum Status {
+    /// 0: it answered.
+    Answered,
+    /// 1: it refused, gave up, or found nothing.
+    Refused,
+    /// 2: the words fit no command.
+    BadWords,
+}
+
+impl Status {
+    ghost use Rattle.std.specs.Prelude.{◌≡◌};
+    ghost use Rattle.ddt.specs.Status.{number_of};
+
+    /// The number that the process ends with.
+    pub fn number(self) -> u8
+        ensures { result ≡ number_of self }
+    {
+        match self {
+            Status::Answered => 0,
+            Status::Refused => 1,
+            Status::BadWords => 2,
+        }
+    }
+}

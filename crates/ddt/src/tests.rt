@@ -1,0 +1,5 @@
+//! Whole commands, over registers in memory: the exact line, its stream and the status.
+
+mod answer_lines;
+mod check_lines;
+mod harness;

@@ -1,0 +1,36 @@
+//! The words of the command line.
+
+/// A command and its arguments, as they were given.
+#[derive(Clone, Copy, Debug, PartialEq, Eq)]
+pub enum Command<'a> {
+    /// `answer REGISTER GROUP XEID`
+    Answer {
+        register: &'a str,
+        group: &'a str,
+        xeid: &'a str,
+    },
+    /// `assign REGISTER XEID`
+    Assign { register: &'a str, xeid: &'a str },
+    /// `check REGISTER`
+    Check { register: &'a str },
+}
+
+/// The command that the words spell; None where they fit none.
+pub fn read_words(words: &[String]) -> Option<Command<'_>> {
+    let (name, arguments) = words.split_first()?;
+    match (name.as_str(), arguments) {
+        ("answer", [register, group, xeid]) => Some(Command::Answer {
+            register: register.as_str(),
+            group: group.as_str(),
+            xeid: xeid.as_str(),
+        }),
+        ("assign", [register, xeid]) => Some(Command::Assign {
+            register: register.as_str(),
+            xeid: xeid.as_str(),
+        }),
+        ("check", [register]) => Some(Command::Check {
+            register: register.as_str(),
+        }),
+        _ => None,
+    }
+}

@@ -1,0 +1,61 @@
+-- The locators of a field, part after part.
+use Rattle.std.proofs.Common.{◌≡◌, List, [], ◌∷◌, ◌++◌, ℕ, Option, Some, None, Bor, Result, Ok, Err, refl, sym, ap, ◌∙◌, append_assoc}
+use Rattle.std.proofs.lemmas.List.{append-nil}
+use Rattle.std.proofs.lemmas.Iterator.{YieldsList}
+use Rattle.std.specs.Iterator.{AlwaysYields}
+use Rattle.ddt_path.specs.declared.locator.Locator.{Locator}
+use Rattle.ddt_text.specs.declared.fault.TextFault.{TextFault}
+use Rattle.ddt_text.specs.FirstFault.{locator_in}
+use Rattle.ddt_register.specs.declared.fault.ReadFault.{ReadFault}
+use Rattle.ddt_register.specs.Spelled.{on_ok, each_locator}
+
+-- what one call of `next` says of the list that an iterator has left
+ended : {S A B : Type 0} (steps : S → Option A → S → Type 0) (v : A → B) (left : List B) (old new : S) → AlwaysYields steps v old left → steps old None new → left ≡ []
+ended steps v [] old new h s = refl
+ended steps v (y ∷ ys) old new h s = absurd (h.0 new s)
+
+went : {S A B : Type 0} (steps : S → Option A → S → Type 0) (v : A → B) (left : List B) (old new : S) (x : A) → AlwaysYields steps v old left → steps old (Some x) new → (ys : List B) × (left ≡ v x ∷ ys) × AlwaysYields steps v new ys
+went steps v [] old new x h s = absurd (h x new s)
+went steps v (y ∷ ys) old new x h s = (ys, ap (λ w. w ∷ ys) (sym (h.1 x new s).0), (h.1 x new s).1)
+
+-- some locators, and then those of what is left
+abbrev pub onto : List Locator → Result (List Locator) ReadFault → Result (List Locator) ReadFault
+onto locators rest = on_ok rest λ more. Ok (locators ++ more)
+
+onto-cons : (locators : List Locator) (a : Locator) (rest : Result (List Locator) ReadFault) → onto locators (on_ok rest λ more. Ok (a ∷ more)) ≡ onto (locators ++ a ∷ []) rest
+onto-cons locators a (Ok more) = ap Ok (sym (append_assoc locators (a ∷ []) more))
+onto-cons locators a (Err why) = refl
+
+-- what is left of the parts, and that the parts so far give these locators
+pub record PartsLeft {S : Type 0} (steps : S → Option (Bor (List ℕ)) → S → Type 0) (iterator : S) (fault : ReadFault) (locators : List Locator) (all : Result (List Locator) ReadFault) : Type 0 where
+  pub left : List (List ℕ)
+  pub yields : YieldsList steps (λ x. x.now) iterator left
+  pub rest : all ≡ onto locators (each_locator fault left)
+
+pub PartsLeft-start : {S : Type 0} {steps : S → Option (Bor (List ℕ)) → S → Type 0} {iterator : S} (fault : ReadFault) (parts : List (List ℕ)) → YieldsList steps (λ x. x.now) iterator parts → PartsLeft steps iterator fault [] (each_locator fault parts)
+PartsLeft-start fault parts y = record { left = parts; yields = y; rest = start (each_locator fault parts) }
+  where
+    start : (r : Result (List Locator) ReadFault) → r ≡ onto [] r
+    start (Ok more) = refl
+    start (Err why) = refl
+
+pub PartsLeft-next : {S : Type 0} {steps : S → Option (Bor (List ℕ)) → S → Type 0} {fault : ReadFault} {locators : List Locator} {all : Result (List Locator) ReadFault} (old new : S) (part : Bor (List ℕ)) (a : Locator)
+    → PartsLeft steps old fault locators all → steps old (Some part) new → locator_in part.now ≡ Ok a → PartsLeft steps new fault (locators ++ a ∷ []) all
+PartsLeft-next {steps = steps} {fault = fault} {locators = locators} old new part a p s e =
+    let w = went steps (λ x. x.now) p.left old new part p.yields.runs s in
+    record {
+      left = w.0;
+      yields = record { runs = w.2 };
+      rest = p.rest ∙ ap (λ (l : List (List ℕ)). onto locators (each_locator fault l)) w.1 ∙ rw e (onto-cons locators a (each_locator fault w.0));
+    }
+
+pub PartsLeft-fault : {S : Type 0} {steps : S → Option (Bor (List ℕ)) → S → Type 0} {fault : ReadFault} {locators : List Locator} {all : Result (List Locator) ReadFault} (old new : S) (part : Bor (List ℕ)) (why : TextFault)
+    → PartsLeft steps old fault locators all → steps old (Some part) new → locator_in part.now ≡ Err why → all ≡ Err fault
+PartsLeft-fault {steps = steps} {fault = fault} {locators = locators} old new part why p s e =
+    let w = went steps (λ x. x.now) p.left old new part p.yields.runs s in
+    p.rest ∙ ap (λ (l : List (List ℕ)). onto locators (each_locator fault l)) w.1 ∙ rw e refl
+
+pub PartsLeft-end : {S : Type 0} {steps : S → Option (Bor (List ℕ)) → S → Type 0} {fault : ReadFault} {locators : List Locator} {all : Result (List Locator) ReadFault} (old new : S)
+    → PartsLeft steps old fault locators all → steps old None new → all ≡ Ok locators
+PartsLeft-end {steps = steps} {fault = fault} {locators = locators} old new p s =
+    p.rest ∙ ap (λ (l : List (List ℕ)). onto locators (each_locator fault l)) (ended steps (λ x. x.now) p.left old new p.yields.runs s) ∙ ap Ok (append-nil locators)

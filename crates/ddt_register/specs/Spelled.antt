@@ -1,0 +1,163 @@
+-- What CSV records spell: the items of a register, or the first fault. The first record names the four columns. Each
+-- record after it is a row, from 1 on, of one of five kinds. No record at all spells a register without items. Records
+-- are those of RFC 4180, section 2, as csv reads them; columns and kinds are this project's own.
+--
+--   kind                    prefix      group            addresses
+--   group-node, group-ms    empty       its name         its locators
+--   node, ms                the zone    serving group    empty
+--   site                    the site    empty            its ETRs
+use Rattle.std.specs.Prelude.{ℕ, ◌+◌, Bool, false, ◌==◌, ◌&&◌, nat_lt, if◌then◌else◌, List, [], ◌∷◌, length, Option, Some, None, Result, Ok, Err, codes, ⊤, ◌≡◌}
+use Rattle.std.specs.List.{slice_split}
+use Rattle.std.specs.Cmp.Lexicographic.{pointwise}
+use Rattle.ddt_path.specs.declared.locator.Locator.{Locator}
+use Rattle.ddt_path.specs.declared.record.Role.{Role}
+use Rattle.ddt_path.specs.declared.record.Role.TheVariants.{Node, Ms}
+use Rattle.ddt_path.specs.Names.{is_name}
+use Rattle.ddt_text.specs.FirstFault.{prefix_in, locator_in}
+use Rattle.ddt_register.specs.declared.zone.Zone.{Zone}
+use Rattle.ddt_register.specs.declared.site.Site.{Site}
+use Rattle.ddt_register.specs.declared.group.Group.{Group}
+use Rattle.ddt_register.specs.declared.register.Register.{Register}
+use Rattle.ddt_register.specs.declared.row.Row.{Row}
+use Rattle.ddt_register.specs.declared.row.Row.TheVariants as Of
+use Rattle.ddt_register.specs.declared.fault.ReadFault.{ReadFault}
+use Rattle.ddt_register.specs.declared.fault.ReadFault.TheVariants as Fault
+
+-- the row that a fault names
+abbrev pub fault_row : ReadFault → Option ℕ
+fault_row (Fault.Csv row) = Some row
+fault_row Fault.Columns = None
+fault_row (Fault.Kind row) = Some row
+fault_row (Fault.Prefix row) = Some row
+fault_row (Fault.Name row) = Some row
+fault_row (Fault.Address row) = Some row
+fault_row Fault.TooMany = None
+fault_row Fault.Read = None
+fault_row Fault.Memory = None
+
+-- `next` on a value, and a fault as it is
+abbrev pub on_ok : {A B : Type 0} → Result A ReadFault → (A → Result B ReadFault) → Result B ReadFault
+on_ok (Ok a) next = next a
+on_ok (Err fault) next = Err fault
+
+-- ---- the fields of a row
+
+-- what a field is read as, with one fault for whatever is wrong with it
+abbrev pub field_of : {A F : Type 0} → ReadFault → Result A F → Result A ReadFault
+field_of fault (Ok a) = Ok a
+field_of fault (Err why) = Err fault
+
+-- `next` where the field is empty
+abbrev pub if_empty : {A : Type 0} → ReadFault → List ℕ → Result A ReadFault → Result A ReadFault
+if_empty fault text next = if length text == 0 then next else Err fault
+
+abbrev pub name_in : ReadFault → List ℕ → Result (List ℕ) ReadFault
+name_in fault text = if is_name text then Ok text else Err fault
+
+-- the locator that each part spells
+abbrev pub each_locator : ReadFault → List (List ℕ) → Result (List Locator) ReadFault
+each_locator fault [] = Ok []
+each_locator fault (part ∷ parts) =
+    on_ok (field_of fault (locator_in part)) λ locator.
+    on_ok (each_locator fault parts) λ locators.
+    Ok (locator ∷ locators)
+
+-- no locator, or some with one space, the byte 32, between them
+abbrev pub locators_in : ReadFault → List ℕ → Result (List Locator) ReadFault
+locators_in fault text = if length text == 0 then Ok [] else each_locator fault (slice_split (λ b. b == 32) text)
+
+-- ---- a row of each kind: prefix, group and addresses are examined in this order
+
+abbrev pub group_in : Role → ℕ → List ℕ → List ℕ → List ℕ → Result Row ReadFault
+group_in role row prefix group addresses =
+    if_empty (Fault.Prefix row) prefix (
+    on_ok (name_in (Fault.Name row) group) λ name.
+    on_ok (locators_in (Fault.Address row) addresses) λ locators.
+    Ok (Of.Group (record { name = name; kind = role; locators = locators; row = row })))
+
+abbrev pub zone_in : Role → ℕ → List ℕ → List ℕ → List ℕ → Result Row ReadFault
+zone_in role row prefix group addresses =
+    on_ok (field_of (Fault.Prefix row) (prefix_in prefix)) λ path.
+    on_ok (name_in (Fault.Name row) group) λ name.
+    if_empty (Fault.Address row) addresses (
+    Ok (Of.Zone (record { prefix = path; kind = role; group = name; row = row })))
+
+abbrev pub site_in : ℕ → List ℕ → List ℕ → List ℕ → Result Row ReadFault
+site_in row prefix group addresses =
+    on_ok (field_of (Fault.Prefix row) (prefix_in prefix)) λ path.
+    if_empty (Fault.Name row) group (
+    on_ok (locators_in (Fault.Address row) addresses) λ etrs.
+    Ok (Of.Site (record { prefix = path; etrs = etrs; row = row })))
+
+-- whether a text is this one
+abbrev pub is_text : List ℕ → List ℕ → Bool
+is_text word text = pointwise ◌==◌ text word
+
+-- a row by its kind
+abbrev pub fields_in : ℕ → List ℕ → List ℕ → List ℕ → List ℕ → Result Row ReadFault
+fields_in row kind prefix group addresses =
+    if is_text (codes "group-node") kind then group_in Node row prefix group addresses
+    else if is_text (codes "group-ms") kind then group_in Ms row prefix group addresses
+    else if is_text (codes "node") kind then zone_in Node row prefix group addresses
+    else if is_text (codes "ms") kind then zone_in Ms row prefix group addresses
+    else if is_text (codes "site") kind then site_in row prefix group addresses
+    else Err (Fault.Kind row)
+
+-- a row has as many fields as there are columns, and there are at most 65,535 rows
+abbrev pub row_in : ℕ → List (List ℕ) → Result Row ReadFault
+row_in row (kind ∷ prefix ∷ group ∷ addresses ∷ []) =
+    if nat_lt 65535 row then Err Fault.TooMany else fields_in row kind prefix group addresses
+row_in row fields = Err (Fault.Csv row)
+
+-- ---- the register
+
+-- the lists of a register
+pub record Lists : Type 0 where
+  pub zones : List Zone
+  pub sites : List Site
+  pub groups : List Group
+
+abbrev pub no_items : Lists
+no_items = record { zones = []; sites = []; groups = [] }
+
+-- an item, and then those of the rows after it
+abbrev pub with_first : Row → Lists → Lists
+with_first (Of.Zone zone) lists = record lists { zones = zone ∷ lists.zones }
+with_first (Of.Site site) lists = record lists { sites = site ∷ lists.sites }
+with_first (Of.Group group) lists = record lists { groups = group ∷ lists.groups }
+
+-- the items of the rows from this row on
+abbrev pub rows_in : ℕ → List (List (List ℕ)) → Result Lists ReadFault
+rows_in row [] = Ok no_items
+rows_in row (fields ∷ records) =
+    on_ok (row_in row fields) λ item.
+    on_ok (rows_in (row + 1) records) λ items.
+    Ok (with_first item items)
+
+abbrev pub are_columns : List (List ℕ) → Bool
+are_columns (kind ∷ prefix ∷ group ∷ addresses ∷ []) =
+    is_text (codes "kind") kind && (is_text (codes "prefix") prefix && (is_text (codes "group") group && is_text (codes "addresses") addresses))
+are_columns fields = false
+
+-- the items that the records of a text spell, or their first fault
+abbrev pub spelled : List (List (List ℕ)) → Result Lists ReadFault
+spelled [] = Ok no_items
+spelled (columns ∷ rows) = if are_columns columns then rows_in 1 rows else Err Fault.Columns
+
+-- ---- an answer against what is spelled
+
+abbrev pub lists_of : Register → Lists
+lists_of register = record { zones = register.zones; sites = register.sites; groups = register.groups }
+
+-- An answer is what is meant, or want of memory.
+abbrev pub UnlessMemory : {A : Type 0} → Result A ReadFault → Result A ReadFault → Type 0
+UnlessMemory (Ok a) meant = meant ≡ Ok a
+UnlessMemory (Err Fault.Memory) meant = ⊤
+UnlessMemory (Err fault) meant = meant ≡ Err fault
+
+-- A failed reader and want of memory say nothing of the records.
+abbrev pub Gives : Result Register ReadFault → Result Lists ReadFault → Type 0
+Gives (Ok register) meant = meant ≡ Ok (lists_of register)
+Gives (Err Fault.Read) meant = ⊤
+Gives (Err Fault.Memory) meant = ⊤
+Gives (Err fault) meant = meant ≡ Err fault

@@ -1,0 +1,101 @@
+//! The register from CSV (RFC 4180), record after record.
+
+ghost use Rattle.std.specs.Prelude.{◌≡◌, ℕ, List, Some, None, IfOk, IfSome, length, take, true};
+ghost use Rattle.csv.specs.Reading.{default_config, expected_len, records, strip_bom};
+ghost use Rattle.csv.specs.Records.{fields_of};
+ghost use Rattle.ddt_register.specs.Left.{IsReading, IsLeft, Takes};
+ghost use Rattle.ddt_register.specs.Spelled.{spelled, rows_in, Gives};
+
+use crate::fault::ReadFault;
+use crate::items::Items;
+use crate::register::{MOST_ROWS, Register};
+use crate::row::{are_columns, read_row};
+use csv::{ByteRecord, ErrorKind, Reader, ReaderBuilder};
+use std::alloc::Global;
+use std::io::Read;
+
+/// Reads the next record, and answers whether there was one. A record of another length than the first is refused as
+/// Csv of this row.
+fn next_record<R: Read>(
+    reader: &mut Reader<R>,
+    fields: &mut ByteRecord,
+    row: u32,
+) -> Result<bool, ReadFault>
+    requires { IsReading reader.old }
+    ensures takes { (left : List (List (List ℕ))) → IsLeft R.remaining reader.old left → Takes R.remaining reader.old reader.new row (fields_of fields.new) left result }
+    ensures reading { IfOk result (λ found. found ≡ true → IsReading reader.new) }
+    ensures expected { IfOk result (λ found. found ≡ true → expected_len reader.new ≡ Some (length (fields_of fields.new))) }
+    ensures same { IfOk result (λ found. found ≡ true → IfSome (expected_len reader.old) (λ len. expected_len reader.new ≡ Some len)) }
+{
+    match reader.read_byte_record(fields) {
+        Ok(found) => Ok(found),
+        Err(error) => Err(match error.kind() {
+            ErrorKind::UnequalLengths { .. } => ReadFault::Csv(row),
+            ErrorKind::Io(_) => ReadFault::Read,
+            ErrorKind::OutOfMemory => ReadFault::Memory,
+            ErrorKind::Utf8 { .. } | ErrorKind::Serialize(_) | ErrorKind::Deserialize { .. } => {
+                unreachable!()
+            }
+        }),
+    }
+}
+
+/// The register that the rows spell, numbered from 1.
+fn read_rows<R: Read + Drop>(
+    alloc: Global,
+    mut reader: Reader<R>,
+    mut fields: ByteRecord,
+) -> Result<Register, ReadFault>
+    requires reading { IsReading reader }
+    requires columns { expected_len reader ≡ Some 4 }
+    ensures { (left : List (List (List ℕ))) → IsLeft R.remaining reader left → Gives result (rows_in 1 left) }
+{
+    let mut items = Items::new(alloc);
+    for row in 1..MOST_ROWS + 1 {
+        if !next_record(&mut reader, &mut fields, row)? {
+            return Ok(items.into_register());
+        }
+        items.push(read_row(alloc, row, &fields)?)?;
+    }
+    if next_record(&mut reader, &mut fields, MOST_ROWS + 1)? {
+        return Err(ReadFault::TooMany);
+    }
+    Ok(items.into_register())
+}
+
+/// The register that the records spell.
+fn read_records<R: Read + Drop>(alloc: Global, mut reader: Reader<R>) -> Result<Register, ReadFault>
+    requires reading { IsReading reader }
+    requires first { expected_len reader ≡ None }
+    ensures { (left : List (List (List ℕ))) → IsLeft R.remaining reader left → Gives result (spelled left) }
+{
+    let mut fields = ByteRecord::new(alloc);
+    if !next_record(&mut reader, &mut fields, 0)? {
+        return Ok(Items::new(alloc).into_register());
+    }
+    if !are_columns(&fields) {
+        return Err(ReadFault::Columns);
+    }
+    read_rows(alloc, reader, fields)
+}
+
+/// The register that a CSV text spells: commas between fields, quotes around a field that holds a comma, a quote or a
+/// line end, records of equal length. The first record is `kind,prefix,group,addresses`; row n is the nth record after
+/// it, from 1. A source without any record spells the register without items. Zones, sites and groups come in the order
+/// of their rows.
+///
+/// The first record with a fault decides. Refused, within a record in this order, as 1 Csv where the row has another
+/// number of fields than the first record; 2 Columns where the first record isn't the one above; 7 TooMany at the
+/// 65,536th row; 3 Kind where the kind is none of `group-node`, `group-ms`, `node`, `ms` and `site`; 4 Prefix, 5 Name
+/// and 6 Address where the field isn't one or must be empty and isn't: the prefix of a group, the group of a site, the
+/// addresses of a zone. Refused as 8 Read where the reader fails, and as 9 Memory where memory runs out. No
+/// other answer depends on what follows the 65,537th record.
+pub fn read_register<R: Read + Drop>(alloc: Global, reader: R) -> Result<Register, ReadFault>
+    ensures spelled { (bytes : List ℕ) → R.remaining reader ≡ Some bytes → Gives result (spelled (records default_config (strip_bom bytes))) }
+    ensures front { (bytes : List ℕ) → R.remaining reader ≡ Some bytes → Gives result (spelled (take 65537 (records default_config (strip_bom bytes)))) }
+{
+    let reader = ReaderBuilder::new()
+        .has_headers(false)
+        .from_reader(alloc, reader);
+    read_records(alloc, reader)
+}

@@ -1,0 +1,374 @@
+use super::*;
+use ddt_path::{Form, Locator, Role};
+use std::alloc::Global;
+use std::io;
+use std::io::Read;
+use std::test::*;
+
+const CAMPUS: &str = "kind,prefix,group,addresses
+group-node,,root,127.0.0.1
+group-node,,ten,127.0.0.10
+group-ms,,east,127.0.1.1 127.0.1.2
+node,*,root,
+node,[0]10.0.0.0/8,ten,
+ms,[0]10.1.0.0/16,east,
+site,[0]10.1.2.0/24,,127.0.2.1
+site,[0]10.1.4.0/24,,
+";
+
+const COLUMNS: &str = "kind,prefix,group,addresses\n";
+
+fn read(alloc: Global, text: &[u8]) -> Result<Register, ReadFault> {
+    read_register(alloc, text)
+}
+
+/// The fault of the campus register with one more row, the ninth.
+fn ninth_row(alloc: Global, row: &str) -> Result<Option<ReadFault>, Fail> {
+    let text = format!(in alloc; "{CAMPUS}{row}\n")?;
+    Ok(read(alloc, text.as_bytes()).err())
+}
+
+/// The fault of a register of these rows.
+fn fault_of(alloc: Global, rows: &str) -> Result<Option<ReadFault>, Fail> {
+    let text = format!(in alloc; "{COLUMNS}{rows}\n")?;
+    Ok(read(alloc, text.as_bytes()).err())
+}
+
+/// Whether it is the campus register.
+fn is_campus(register: &Register) -> bool {
+    let [first, second, third] = register.groups.as_slice() else {
+        return false;
+    };
+    are_campus_zones(register.zones.as_slice())
+        && are_campus_sites(register.sites.as_slice())
+        && is_group(first, b"root", Role::Node, &[0x7f00_0001], 1)
+        && is_group(second, b"ten", Role::Node, &[0x7f00_000a], 2)
+        && is_group(third, b"east", Role::Ms, &[0x7f00_0101, 0x7f00_0102], 3)
+}
+
+fn are_campus_zones(zones: &[Zone]) -> bool {
+    let [first, second, third] = zones else {
+        return false;
+    };
+    let everything = Form::Range { iid: 0, len: 0 };
+    is_zone(first, everything, Role::Node, b"root", 4)
+        && is_zone(second, block(0x0a00_0000, 8), Role::Node, b"ten", 5)
+        && is_zone(third, block(0x0a01_0000, 16), Role::Ms, b"east", 6)
+}
+
+fn are_campus_sites(sites: &[Site]) -> bool {
+    let [first, second] = sites else {
+        return false;
+    };
+    is_site(first, block(0x0a01_0200, 24), &[0x7f00_0201], 7)
+        && is_site(second, block(0x0a01_0400, 24), &[], 8)
+}
+
+fn block(address: u32, len: u8) -> Form {
+    Form::Block {
+        iid: 0,
+        address: Locator::V4(address),
+        len,
+    }
+}
+
+fn is_zone(zone: &Zone, prefix: Form, kind: Role, group: &[u8], row: u32) -> bool {
+    zone.prefix.form() == prefix
+        && zone.kind == kind
+        && zone.group.as_bytes() == group
+        && zone.row == row
+}
+
+fn is_site(site: &Site, prefix: Form, etrs: &[u32], row: u32) -> bool {
+    site.prefix.form() == prefix && are_ipv4(site.etrs.as_slice(), etrs) && site.row == row
+}
+
+fn is_group(group: &Group, name: &[u8], kind: Role, locators: &[u32], row: u32) -> bool {
+    group.name.as_bytes() == name
+        && group.kind == kind
+        && are_ipv4(group.locators.as_slice(), locators)
+        && group.row == row
+}
+
+fn are_ipv4(locators: &[Locator], addresses: &[u32]) -> bool {
+    locators.len() == addresses.len()
+        && locators
+            .iter()
+            .zip(addresses)
+            .all(|(locator, address)| *locator == Locator::V4(*address))
+}
+
+fn is_empty(register: &Register) -> bool {
+    register.zones.as_slice().is_empty()
+        && register.sites.as_slice().is_empty()
+        && register.groups.as_slice().is_empty()
+}
+
+#[test]
+fn the_campus_register_is_read(rt: HostRuntime) -> Result<(), Fail> {
+    assert!(rt; is_campus(&read(rt.alloc(), CAMPUS.as_bytes())?));
+    Ok(())
+}
+
+/// Under `rt try --test --fail-alloc N` each allocation is refused in turn.
+#[test]
+fn want_of_memory_is_the_only_other_answer(rt: HostRuntime) {
+    match read(rt.alloc(), CAMPUS.as_bytes()) {
+        Ok(register) => assert!(rt; is_campus(&register)),
+        Err(fault) => assert_eq!(rt; fault, ReadFault::Memory),
+    }
+}
+
+#[test]
+fn a_faulty_ninth_row_is_named(rt: HostRuntime) -> Result<(), Fail> {
+    for (row, fault) in [
+        ("node,*", ReadFault::Csv(9)),
+        ("zone,*,root,", ReadFault::Kind(9)),
+        ("node,[0]10.0.0.1/8,ten,", ReadFault::Prefix(9)),
+        ("node,[0]12.0.0.0/8,Ten,", ReadFault::Name(9)),
+        ("site,[0]10.1.5.0/24,,10.0.0.256", ReadFault::Address(9)),
+    ] {
+        assert_eq!(rt; ninth_row(rt.alloc(), row)?, Some(fault), "at {row}");
+    }
+    Ok(())
+}
+
+#[test]
+fn the_order_of_faults_in_a_row(rt: HostRuntime) -> Result<(), Fail> {
+    for (row, fault) in [
+        ("zone,[0]10.0.0.1/8,Ten,x,", ReadFault::Csv(1)),
+        ("zone,[0]10.0.0.1/8,Ten,x", ReadFault::Kind(1)),
+        ("node,[0]10.0.0.1/8,Ten,x", ReadFault::Prefix(1)),
+        ("node,[0]12.0.0.0/8,Ten,x", ReadFault::Name(1)),
+        ("ms,[0]12.0.0.0/8,ten,x", ReadFault::Address(1)),
+        ("site,,ten,x", ReadFault::Prefix(1)),
+        ("site,*,ten,x", ReadFault::Name(1)),
+        ("site,*,,x", ReadFault::Address(1)),
+        ("group-node,*,Ten,x", ReadFault::Prefix(1)),
+        ("group-ms,,,x", ReadFault::Name(1)),
+        ("group-ms,,ten,x", ReadFault::Address(1)),
+    ] {
+        assert_eq!(rt; fault_of(rt.alloc(), row)?, Some(fault), "at {row}");
+    }
+    Ok(())
+}
+
+#[test]
+fn a_field_that_must_be_empty(rt: HostRuntime) -> Result<(), Fail> {
+    for (row, fault) in [
+        ("group-node,*,ten,10.0.0.1", ReadFault::Prefix(1)),
+        ("node,*,ten,10.0.0.1", ReadFault::Address(1)),
+        ("site,*,ten,10.0.0.1", ReadFault::Name(1)),
+    ] {
+        assert_eq!(rt; fault_of(rt.alloc(), row)?, Some(fault), "at {row}");
+    }
+    assert_eq!(rt; fault_of(rt.alloc(), "group-node,,ten,\nsite,*,,")?, None);
+    Ok(())
+}
+
+#[test]
+fn one_space_stands_between_addresses(rt: HostRuntime) -> Result<(), Fail> {
+    assert_eq!(rt;
+        fault_of(rt.alloc(), "site,*,,10.0.0.1 ::1 10.0.0.2")?,
+        None
+    );
+    for row in [
+        "site,*,,10.0.0.1  10.0.0.2",
+        "site,*,, 10.0.0.1",
+        "site,*,,10.0.0.1 ",
+        "site,*,, ",
+        "site,*,,10.0.0.1\t10.0.0.2",
+    ] {
+        assert_eq!(rt;
+            fault_of(rt.alloc(), row)?,
+            Some(ReadFault::Address(1)),
+            "at {row}"
+        );
+    }
+    Ok(())
+}
+
+#[test]
+fn the_first_faulty_record_decides(rt: HostRuntime) -> Result<(), Fail> {
+    let first_address = "site,*,,x\nzone,*,root,\nnode,*\n";
+    assert_eq!(rt;
+        fault_of(rt.alloc(), first_address)?,
+        Some(ReadFault::Address(1))
+    );
+    let first_length = "node,*,root,\nnode,*\nzone,*,root,\n";
+    assert_eq!(rt;
+        fault_of(rt.alloc(), first_length)?,
+        Some(ReadFault::Csv(2))
+    );
+    let columns = read(rt.alloc(), b"kind,prefix,group\nnode,*\n").err();
+    assert_eq!(rt; columns, Some(ReadFault::Columns));
+    Ok(())
+}
+
+#[test]
+fn other_columns_are_refused(rt: HostRuntime) {
+    let table: [&[u8]; 8] = [
+        b"kind,prefix,group\n",
+        b"kind,prefix,group,addresses,\n",
+        b"prefix,kind,group,addresses\n",
+        b"Kind,prefix,group,addresses\n",
+        b"kind,prefix,group, addresses\n",
+        b"kind,prefix,group,address\n",
+        b"node,*,root,\n",
+        b"kind,prefix,group,addresse\xff\n",
+    ];
+    for text in table {
+        assert_eq!(rt; read(rt.alloc(), text).err(), Some(ReadFault::Columns));
+    }
+}
+
+#[test]
+fn no_row_is_the_register_without_items(rt: HostRuntime) -> Result<(), Fail> {
+    let table: [&[u8]; 5] = [
+        b"",
+        b"\n\r\n",
+        b"\xef\xbb\xbf",
+        b"kind,prefix,group,addresses",
+        b"kind,prefix,group,addresses\n\n",
+    ];
+    for text in table {
+        assert!(rt; is_empty(&read(rt.alloc(), text)?));
+    }
+    Ok(())
+}
+
+#[test]
+fn other_line_ends_blank_lines_and_quotes(rt: HostRuntime) -> Result<(), Fail> {
+    let alloc = rt.alloc();
+    let marked = format!(in alloc; "\u{feff}{CAMPUS}")?;
+    assert!(rt; is_campus(&read(alloc, marked.as_bytes())?));
+    let mut returns = Vec::new(alloc);
+    let mut blank = Vec::new(alloc);
+    for byte in CAMPUS.as_bytes() {
+        if *byte == b'\n' {
+            returns.push(b'\r')?;
+            blank.push(b'\n')?;
+        }
+        returns.push(*byte)?;
+        blank.push(*byte)?;
+    }
+    assert!(rt; is_campus(&read(alloc, returns.as_slice())?));
+    assert!(rt; is_campus(&read(alloc, blank.as_slice())?));
+    let quoted = "\"group-node\",\"\",\"ro\not\",\nzone,*,root,\n";
+    assert_eq!(rt; fault_of(alloc, quoted)?, Some(ReadFault::Name(1)));
+    let second = "\"group-node\",\"\",\"root\",\"127.0.0.1\"\n\n\"zo\nne\",*,root,\n";
+    assert_eq!(rt; fault_of(alloc, second)?, Some(ReadFault::Kind(2)));
+    Ok(())
+}
+
+#[test]
+fn bytes_that_are_no_text_are_faults_of_their_field(rt: HostRuntime) {
+    let table: [(&[u8], ReadFault); 4] = [
+        (b"\xff,,,", ReadFault::Kind(1)),
+        (b"node,\xff,ten,", ReadFault::Prefix(1)),
+        (b"node,*,t\xffn,", ReadFault::Name(1)),
+        (b"site,*,,\xff", ReadFault::Address(1)),
+    ];
+    for (row, fault) in table {
+        let mut text = Vec::new(rt.alloc());
+        let made = text.extend_from_slice(COLUMNS.as_bytes()).is_ok()
+            && text.extend_from_slice(row).is_ok();
+        assert!(rt; made);
+        assert_eq!(rt; read(rt.alloc(), text.as_slice()).err(), Some(fault));
+    }
+}
+
+/// The columns, this many rows, and then one more line.
+fn many_rows(alloc: Global, rows: u32, last: &str) -> Result<Vec<u8>, Fail> {
+    let mut text = Vec::from_slice(alloc, COLUMNS.as_bytes())?;
+    for _ in 0..rows {
+        text.extend_from_slice(b"site,*,,\n")?;
+    }
+    text.extend_from_slice(last.as_bytes())?;
+    Ok(text)
+}
+
+#[test]
+fn there_are_at_most_65535_rows(rt: HostRuntime) -> Result<(), Fail> {
+    let most = read(rt.alloc(), many_rows(rt.alloc(), 65_535, "")?.as_slice())?;
+    assert_eq!(rt; most.sites.as_slice().len(), 65_535);
+    assert!(rt;
+        most.sites
+            .as_slice()
+            .last()
+            .is_some_and(|site| site.row == 65_535)
+    );
+    for (last, fault) in [
+        ("site,*,,\n", ReadFault::TooMany),
+        ("zone,*,,\n", ReadFault::TooMany),
+        ("site,*\n", ReadFault::Csv(65_536)),
+        ("site,*,,\nsite,*\n", ReadFault::TooMany),
+    ] {
+        let text = many_rows(rt.alloc(), 65_535, last)?;
+        assert_eq!(rt;
+            read(rt.alloc(), text.as_slice()).err(),
+            Some(fault),
+            "at {last}"
+        );
+    }
+    Ok(())
+}
+
+/// Gives ten bytes at most with each call, and fails at one call.
+#[derive(Drop)]
+struct Failing<'a> {
+    text: &'a [u8],
+    calls_left: usize,
+}
+
+impl<'a> Read for Failing<'a> {
+    fn read(&mut self, buffer: &mut [u8]) -> io::Result<usize> {
+        if self.calls_left == 0 {
+            return Err(io::Error::from(io::ErrorKind::BrokenPipe));
+        }
+        self.calls_left -= 1;
+        let count = self.text.len().min(buffer.len()).min(10);
+        let (front, rest) = self.text.split_at(count);
+        buffer[..count].copy_from_slice(front);
+        self.text = rest;
+        Ok(count)
+    }
+}
+
+#[test]
+fn a_failed_reader_is_told(rt: HostRuntime) {
+    let calls = CAMPUS.len().div_ceil(10) + 1;
+    for calls_left in 0..calls {
+        let reader = Failing {
+            text: CAMPUS.as_bytes(),
+            calls_left,
+        };
+        let fault = read_register(rt.alloc(), reader).err();
+        assert_eq!(rt; fault, Some(ReadFault::Read), "at {calls_left}");
+    }
+    let reader = Failing {
+        text: CAMPUS.as_bytes(),
+        calls_left: calls,
+    };
+    assert!(rt; read_register(rt.alloc(), reader).is_ok());
+}
+
+#[test]
+fn faults_are_written_and_tell_their_row(rt: HostRuntime) -> Result<(), Fail> {
+    for (fault, written, row) in [
+        (ReadFault::Csv(9), "1 Csv", Some(9)),
+        (ReadFault::Columns, "2 Columns", None),
+        (ReadFault::Kind(1), "3 Kind", Some(1)),
+        (ReadFault::Prefix(2), "4 Prefix", Some(2)),
+        (ReadFault::Name(3), "5 Name", Some(3)),
+        (ReadFault::Address(65_535), "6 Address", Some(65_535)),
+        (ReadFault::TooMany, "7 TooMany", None),
+        (ReadFault::Read, "8 Read", None),
+        (ReadFault::Memory, "9 Memory", None),
+    ] {
+        let text = format!(in rt.alloc(); "{fault}")?;
+        assert_eq!(rt; text.as_str(), written);
+        assert_eq!(rt; fault.row(), row);
+    }
+    Ok(())
+}

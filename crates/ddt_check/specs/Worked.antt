@@ -14,6 +14,7 @@ use Rattle.ddt_register.specs.declared.zone.Zone.{Zone}
 use Rattle.ddt_register.specs.declared.site.Site.{Site}
 use Rattle.ddt_register.specs.declared.group.Group.{Group}
 use Rattle.ddt_register.specs.declared.register.Register.{Register}
+use Rattle.ddt_register.specs.Ranges.{is_in_range}
 use Rattle.ddt_check.specs.declared.fault.Rule.TheVariants as rules
 use Rattle.ddt_check.specs.Rules.{broken}
 use Rattle.ddt_check.specs.Assignment.{assignment}
@@ -154,3 +155,4 @@ pub record BreaksInNine : Type 0 where
   pub site_outside : broken (site_in_nine 0x0a020000 24) rules.SiteOutside 9 ≡ true
   pub duplicate_group : broken (group_in_nine east (V4 0x7f000109 ∷ [])) rules.DuplicateGroup 9 ≡ true
   pub campus_is_whole : broken campus rules.SiteOutside 8 ≡ false
+  pub campus_is_in_range : is_in_range campus ≡ true

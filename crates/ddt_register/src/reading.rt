@@ -80,8 +80,8 @@ fn read_records<R: Read + Drop>(alloc: Global, mut reader: Reader<R>) -> Result<
 }
 
 /// The register that a CSV text spells: commas between fields, quotes around a field that holds a comma, a quote or a
-/// line end, records of equal length. The first record is `kind,prefix,group,addresses`; row n is the nth record after
-/// it, from 1. A source without any record spells the register without items. Zones, sites and groups come in the order
+/// line end, as many fields in each record as in the first. That one names the columns, `kind,prefix,group,addresses`,
+/// and the records behind it are the rows, from 1 on. A source without any record spells the register without items. Zones, sites and groups come in the order
 /// of their rows.
 ///
 /// The first record with a fault decides. Refused, within a record in this order, as 1 Csv where the row has another

@@ -17,4 +17,5 @@ returns c = record {
   site_outside = refl;
   duplicate_group = refl;
   campus_is_whole = refl;
+  campus_is_in_range = refl;
 }

@@ -4,3 +4,4 @@ pub mod answer;
 pub mod assign;
 pub mod check;
 pub mod inputs;
+pub mod show;

@@ -2,7 +2,7 @@
 
 use crate::refusal::Refusal;
 use crate::status::Status;
-use ddt_path::{Outcome, Prefix};
+use ddt_path::{Action, Locator, Outcome};
 use ddt_text::{write_locator, write_prefix};
 use std::alloc::{AllocError, Global};
 use std::io;
@@ -40,8 +40,25 @@ pub fn outcome_line(alloc: Global, outcome: &Outcome) -> Result<Vec<u8>, AllocEr
         return Ok(line);
     };
     for locator in servers.as_slice() {
-        line.push(b' ')?;
-        write_locator(&mut line, *locator)?;
+        push_locator(&mut line, *locator)?;
     }
     Ok(line)
+}
+
+/// Appends a blank and the locator.
+pub fn push_locator(line: &mut Vec<u8>, locator: Locator) -> Result<(), AllocError> {
+    line.push(b' ')?;
+    write_locator(line, locator)
+}
+
+/// The name of an action (RFC 8111, section 6.1).
+pub fn action_name(action: Action) -> &'static str {
+    match action {
+        Action::NodeReferral => "NODE-REFERRAL",
+        Action::MsReferral => "MS-REFERRAL",
+        Action::MsAck => "MS-ACK",
+        Action::MsNotRegistered => "MS-NOT-REGISTERED",
+        Action::DelegationHole => "DELEGATION-HOLE",
+        Action::NotAuthoritative => "NOT-AUTHORITATIVE",
+    }
 }

@@ -9,10 +9,9 @@ mod lines;
 mod refusal;
 mod running;
 mod status;
-mod words;
-
 #[cfg(test)]
 mod tests;
+mod words;
 
 use lines::refuse;
 use refusal::Refusal;

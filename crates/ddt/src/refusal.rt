@@ -1,8 +1,10 @@
 //! Why a command gives no answer, and the line that says so.
 
 use ddt_check::Fault;
+use ddt_ecm::RequestFault;
 use ddt_register::ReadFault;
 use ddt_text::TextFault;
+use ddt_wire::ReferralFault;
 use std::alloc::AllocError;
 use std::fmt;
 
@@ -19,6 +21,14 @@ pub enum Refusal<'a> {
     Refused(Fault),
     /// The register has no group of the name that was asked for.
     NoSuchGroup,
+    /// A word is no hexadecimal text.
+    NotHex,
+    /// The datagram is empty, or its type is unknown.
+    UnknownMessage,
+    /// The datagram is of the type of a Map-Referral, and none.
+    NoReferral(ReferralFault),
+    /// The datagram is of the type of an encapsulated Map-Request, and none.
+    NoRequest(RequestFault),
     OutOfMemory,
 }
 
@@ -39,6 +49,10 @@ impl fmt::Display for Refusal<'_> {
             },
             Refusal::Refused(fault) => write!(f, "refused {fault}"),
             Refusal::NoSuchGroup => write!(f, "no such group"),
+            Refusal::NotHex => write!(f, "refused hex"),
+            Refusal::UnknownMessage => write!(f, "refused unknown message"),
+            Refusal::NoReferral(fault) => write!(f, "refused {fault}"),
+            Refusal::NoRequest(fault) => write!(f, "refused {fault}"),
             Refusal::OutOfMemory => write!(f, "out of memory"),
         }
     }

@@ -3,6 +3,7 @@
 use crate::commands::answer::{AnswerWords, answer};
 use crate::commands::assign::{AssignWords, assign};
 use crate::commands::check::check;
+use crate::commands::show::show;
 use crate::status::Status;
 use crate::words::{Command, read_words};
 use std::alloc::Global;
@@ -11,11 +12,18 @@ use std::io::{Read, Write};
 const USAGE: &str = "usage: ddt answer REGISTER GROUP XEID
        ddt assign REGISTER XEID
        ddt check REGISTER
+       ddt show HEX
 ";
 
 /// Runs the command that the words spell, of which the first is the program's name. `open_file` gives a file, or None
 /// where it can't be opened. Words that fit no command end with status 2 and the usage on `err`.
-pub fn run<F, O, W, E>(alloc: Global, words: &[String], open_file: O, out: &mut W, err: &mut E) -> Status
+pub fn run<F, O, W, E>(
+    alloc: Global,
+    words: &[String],
+    open_file: O,
+    out: &mut W,
+    err: &mut E,
+) -> Status
 where
     F: Read + Drop,
     O: FnOnce(&str) -> Option<F> + Drop,
@@ -70,5 +78,6 @@ where
             assign(alloc, open_file(register), &words, out, err)
         }
         Command::Check { register } => check(alloc, open_file(register), register, out, err),
+        Command::Show { hex } => show(alloc, hex, out, err),
     }
 }

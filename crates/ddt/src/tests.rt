@@ -3,3 +3,4 @@
 mod answer_lines;
 mod check_lines;
 mod harness;
+mod show_lines;

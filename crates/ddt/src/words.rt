@@ -10,9 +10,18 @@ pub enum Command<'a> {
         xeid: &'a str,
     },
     /// `assign REGISTER XEID`
-    Assign { register: &'a str, xeid: &'a str },
+    Assign {
+        register: &'a str,
+        xeid: &'a str,
+    },
     /// `check REGISTER`
-    Check { register: &'a str },
+    Check {
+        register: &'a str,
+    },
+    /// `show HEX`
+    Show {
+        hex: &'a str,
+    },
 }
 
 /// The command that the words spell; None where they fit none.
@@ -31,6 +40,7 @@ pub fn read_words(words: &[String]) -> Option<Command<'_>> {
         ("check", [register]) => Some(Command::Check {
             register: register.as_str(),
         }),
+        ("show", [hex]) => Some(Command::Show { hex: hex.as_str() }),
         _ => None,
     }
 }

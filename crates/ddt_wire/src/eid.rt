@@ -14,9 +14,7 @@
 //! +-----------------+-----------------+
 //! ```
 
-ghost use Rattle.std.specs.Prelude.{◌≡◌, ◌<◌, ◌++◌, ◌+◌, ◌≤◌, OnOk, OnErr, IsOk, List, ℕ, Ok, length, take, IfOk, vec_len, vec_capacity};
-ghost use Rattle.ddt_path.specs.declared.form.PrefixFault.{PrefixFault};
-ghost use Rattle.ddt_wire.specs.Steps.{in_words};
+ghost use Rattle.std.specs.Prelude.{◌≡◌, ◌++◌, ◌+◌, ◌≤◌, OnOk, OnErr, IsOk, List, ℕ, Ok, length, take, IfOk, vec_len, vec_capacity};
 ghost use Rattle.ddt_wire.specs.Eid.{written_eid, written_mask_len, instance_head, written_form, eid_at, lcaf_at, inside_at, block_at, has_length, from_prefix, from_address, SpellsEid};
 ghost use Rattle.ddt_wire.specs.Laws.{IsPrefix};
 

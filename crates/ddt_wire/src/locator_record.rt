@@ -12,7 +12,7 @@
 //!
 //! All but AFI and address is ignored (RFC 9301, section 5.4).
 
-ghost use Rattle.std.specs.Prelude.{◌≡◌, ◌≤◌, ◌+◌, ◌++◌, ℕ, List, Ok, Err, length, take, drop, All, OnOk, IfOk, IfErr};
+ghost use Rattle.std.specs.Prelude.{◌≡◌, ◌≤◌, ◌+◌, ◌++◌, List, Ok, Err, length, take, All, OnOk, IfOk, IfErr};
 ghost use Rattle.std.specs.List.{flat_map};
 ghost use Rattle.ddt_path.specs.declared.locator.Locator.{Locator};
 ghost use Rattle.std.specs.Iterator.{YieldsFirst, item_count};

@@ -20,7 +20,7 @@
 //!
 //! A, the map version and the reserved bits are ignored.
 
-ghost use Rattle.std.specs.Prelude.{◌≡◌, ◌+◌, ◌*◌, ◌^◌, ◌<◌, ◌≤◌, ◌++◌, length, take, Ok, OnOk, IfOk};
+ghost use Rattle.std.specs.Prelude.{◌≡◌, ◌+◌, ◌*◌, ◌^◌, ◌<◌, ◌≤◌, ◌++◌, length, Ok, OnOk, IfOk};
 ghost use Rattle.ddt_wire.specs.Referral.{written, written_header, written_fields, act as act_of, bit, head_at, action_of, message_in, Spells, Message, message_of, record_of};
 
 use crate::eid::{EidFault, eid, mask_len, write_eid};

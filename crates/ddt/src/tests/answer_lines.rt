@@ -4,22 +4,36 @@ use crate::status::Status::{Answered, BadWords, Refused};
 use crate::tests::harness::{CAMPUS, LONE_ROOT, SHARED_GROUP, USAGE, expect};
 use std::test::Fail;
 
-const ROOT_REFERS_TO_TEN: &str = "600000010000000000000001000005a001081000000000010a0000000164ff00000100017f00000a\n";
+const ROOT_REFERS_TO_TEN: &str =
+    "600000010000000000000001000005a001081000000000010a0000000164ff00000100017f00000a\n";
 
-const ROOT_SAYS_A_HOLE_OF_INSTANCES: &str = "6000000100000000000000010000000f0000900000004003000002010006800000000000\n";
+const ROOT_SAYS_A_HOLE_OF_INSTANCES: &str =
+    "6000000100000000000000010000000f0000900000004003000002010006800000000000\n";
 
-const LONE_ROOT_SAYS_A_HOLE_OF_EVERYTHING: &str = "6000000100000000000000010000000f0000900000004003000002000006000000000000\n";
+const LONE_ROOT_SAYS_A_HOLE_OF_EVERYTHING: &str =
+    "6000000100000000000000010000000f0000900000004003000002000006000000000000\n";
 
 const TEN_IS_NOT_IN_CHARGE: &str = "600000010000000000000001000000000020b800000000010b000001\n";
 
-const EAST_ACKNOWLEDGES: &str = "600000010000000000000001000005a002185000000000010a0102000164ff00000100017f0001010164ff00000100017f000102\n";
+const EAST_ACKNOWLEDGES: &str =
+    "600000010000000000000001000005a002185000000000010a0102000164ff00000100017f0001010164ff00000100017f000102\n";
 
 #[test]
 fn servers_answer_the_outside_vectors(rt: HostRuntime) -> Result<(), Fail> {
     let rows = [
         (CAMPUS, "root", "[0]10.1.2.3", ROOT_REFERS_TO_TEN),
-        (CAMPUS, "root", "[2147483648]10.0.0.1", ROOT_SAYS_A_HOLE_OF_INSTANCES),
-        (LONE_ROOT, "root", "[9]2001:db8::1", LONE_ROOT_SAYS_A_HOLE_OF_EVERYTHING),
+        (
+            CAMPUS,
+            "root",
+            "[2147483648]10.0.0.1",
+            ROOT_SAYS_A_HOLE_OF_INSTANCES,
+        ),
+        (
+            LONE_ROOT,
+            "root",
+            "[9]2001:db8::1",
+            LONE_ROOT_SAYS_A_HOLE_OF_EVERYTHING,
+        ),
         (CAMPUS, "ten", "[0]11.0.0.1", TEN_IS_NOT_IN_CHARGE),
         (CAMPUS, "east", "[0]10.1.2.3", EAST_ACKNOWLEDGES),
     ];
@@ -33,13 +47,55 @@ fn servers_answer_the_outside_vectors(rt: HostRuntime) -> Result<(), Fail> {
 #[test]
 fn answer_names_what_stands_in_its_way(rt: HostRuntime) -> Result<(), Fail> {
     let rows = [
-        (CAMPUS, "register.csv", "west", "[0]10.1.2.3", "no such group\n"),
-        (CAMPUS, "register.csv", "No Name", "[0]10.1.2.3", "no such group\n"),
-        (CAMPUS, "missing.csv", "root", "[0]10.1.2.3", "cannot open missing.csv\n"),
-        (CAMPUS, "register.csv", "root", "10.1.2.3", "bad identifier 2 Bracket\n"),
-        (CAMPUS, "missing.csv", "root", "[0]10.1.2", "bad identifier 4 Address\n"),
-        ("zone", "register.csv", "root", "[0]10.1.2.3", "unreadable 2 Columns\n"),
-        ("", "register.csv", "west", "[0]10.1.2.3", "refused A1 NoRoot row 0\n"),
+        (
+            CAMPUS,
+            "register.csv",
+            "west",
+            "[0]10.1.2.3",
+            "no such group\n",
+        ),
+        (
+            CAMPUS,
+            "register.csv",
+            "No Name",
+            "[0]10.1.2.3",
+            "no such group\n",
+        ),
+        (
+            CAMPUS,
+            "missing.csv",
+            "root",
+            "[0]10.1.2.3",
+            "cannot open missing.csv\n",
+        ),
+        (
+            CAMPUS,
+            "register.csv",
+            "root",
+            "10.1.2.3",
+            "bad identifier 2 Bracket\n",
+        ),
+        (
+            CAMPUS,
+            "missing.csv",
+            "root",
+            "[0]10.1.2",
+            "bad identifier 4 Address\n",
+        ),
+        (
+            "zone",
+            "register.csv",
+            "root",
+            "[0]10.1.2.3",
+            "unreadable 2 Columns\n",
+        ),
+        (
+            "",
+            "register.csv",
+            "west",
+            "[0]10.1.2.3",
+            "refused A1 NoRoot row 0\n",
+        ),
     ];
     for (register, path, group, x, line) in rows {
         let words = ["answer", path, group, x];
@@ -51,14 +107,22 @@ fn answer_names_what_stands_in_its_way(rt: HostRuntime) -> Result<(), Fail> {
 #[test]
 fn assign_prints_the_outcome_of_each_identifier(rt: HostRuntime) -> Result<(), Fail> {
     let rows = [
-        (CAMPUS, "[0]10.1.2.3", "registered [0]10.1.2.0/24 127.0.1.1 127.0.1.2\n"),
+        (
+            CAMPUS,
+            "[0]10.1.2.3",
+            "registered [0]10.1.2.0/24 127.0.1.1 127.0.1.2\n",
+        ),
         (CAMPUS, "[0]10.2.0.1", "hole [0]10.2.0.0/15\n"),
         (CAMPUS, "[0]11.0.0.1", "hole [0]11.0.0.0/8\n"),
         (CAMPUS, "[1]10.1.2.3", "hole [1/32]*\n"),
         (CAMPUS, "[2147483648]10.0.0.1", "hole [2147483648/1]*\n"),
         (CAMPUS, "[0]2001:db8::1", "hole [0]::/0\n"),
         (CAMPUS, "[0]10.1.3.9", "hole [0]10.1.3.0/24\n"),
-        (CAMPUS, "[0]10.1.4.7", "not-registered [0]10.1.4.0/24 127.0.1.1 127.0.1.2\n"),
+        (
+            CAMPUS,
+            "[0]10.1.4.7",
+            "not-registered [0]10.1.4.0/24 127.0.1.1 127.0.1.2\n",
+        ),
         (LONE_ROOT, "[4294967295]255.255.255.255", "hole *\n"),
         (SHARED_GROUP, "[0]10.1.2.3", "hole [0]10.1.0.0/16\n"),
         (FAR_HOST, "[0]10.9.9.8", "hole [0]10.9.9.8/32\n"),
@@ -82,7 +146,19 @@ node,[0]10.9.9.9/32,far,
 #[test]
 fn words_that_fit_no_command_show_the_usage(rt: HostRuntime) -> Result<(), Fail> {
     expect(&rt, rt.alloc(), CAMPUS, &[], (BadWords, "", USAGE))?;
-    expect(&rt, rt.alloc(), CAMPUS, &["answer", "register.csv", "root"], (BadWords, "", USAGE))?;
-    expect(&rt, rt.alloc(), CAMPUS, &["check", "register.csv", "root"], (BadWords, "", USAGE))?;
+    expect(
+        &rt,
+        rt.alloc(),
+        CAMPUS,
+        &["answer", "register.csv", "root"],
+        (BadWords, "", USAGE),
+    )?;
+    expect(
+        &rt,
+        rt.alloc(),
+        CAMPUS,
+        &["check", "register.csv", "root"],
+        (BadWords, "", USAGE),
+    )?;
     expect(&rt, rt.alloc(), CAMPUS, &["--help"], (BadWords, "", USAGE))
 }

@@ -10,6 +10,7 @@ use std::test::Fail;
 pub const USAGE: &str = "usage: ddt answer REGISTER GROUP XEID
        ddt assign REGISTER XEID
        ddt check REGISTER
+       ddt show HEX
 ";
 
 /// The register of a campus: the root, a node for 10.0.0.0/8, and Map-Servers for 10.1.0.0/16 with two sites.

@@ -1,4 +1,3 @@
-use Rattle.std.proofs.Common.{◌≡◌, ◌++◌, ◌∙◌}
 use Rattle.std.specs.Int.{w16, w128, to_be_bytes}
 use Rattle.ddt_wire.proofs.AppendLemmas.{appended_after}
 use Rattle.ddt_wire.proofs.address.write_address.Goals as goal

@@ -1,0 +1,9 @@
+pub mod ChecksumLemmas
+pub mod RlocLoop
+pub mod RlocLemmas
+pub mod HostLemmas
+pub mod WritingLemmas
+pub mod SumLaws
+pub mod RequestLaws
+pub mod PacketLaws
+pub mod WrittenLaws

@@ -1,0 +1,92 @@
+-- A Map-Request for one EID (RFC 9301, section 5.2).
+use Rattle.std.specs.Prelude.{ℕ, zero, suc, ◌+◌, ◌/◌, ◌%◌, ◌==◌, ◌&&◌, Bool, not, nat_lt, if◌then◌else◌, List, [], ◌∷◌, length, drop, slice_index, Result, Ok, Err}
+use Rattle.byteorder.specs.Endian.{big_number}
+use Rattle.ddt_path.specs.declared.locator.Locator.{Locator}
+use Rattle.ddt_path.specs.declared.xeid.Xeid.{Xeid}
+use Rattle.ddt_path.specs.declared.form.Form.{Form}
+use Rattle.ddt_path.specs.declared.form.Form.TheVariants.{Range, Block}
+use Rattle.ddt_path.specs.Path.{address_width}
+use Rattle.ddt_path.specs.FormOf.{form_of}
+use Rattle.ddt_wire.specs.declared.address.AddressFault.{AddressFault}
+use Rattle.ddt_wire.specs.declared.address.AddressFault.TheVariants as address_fault
+use Rattle.ddt_wire.specs.declared.eid.EidFault.{EidFault}
+use Rattle.ddt_wire.specs.declared.eid.EidFault.TheVariants as eid_fault
+use Rattle.ddt_wire.specs.Steps.{◌>>=◌, in_words}
+use Rattle.ddt_wire.specs.Address.{address_at}
+use Rattle.ddt_wire.specs.Eid.{eid_at}
+use Rattle.ddt_ecm.specs.declared.fault.RequestFault.{RequestFault}
+use Rattle.ddt_ecm.specs.declared.fault.RequestFault.TheVariants as fault
+
+-- ---- the first fault
+
+-- the source EID is skipped: its AFI, and nothing, an address, or an LCAF with its length
+abbrev pub skipped : ℕ → List ℕ → Result ℕ RequestFault
+skipped n bytes = if nat_lt (length bytes) n then Err fault.Short else Ok n
+
+unfoldable pub source_at : List ℕ → Result ℕ RequestFault
+source_at bytes =
+    if nat_lt (length bytes) 2 then Err fault.Short
+    else if big_number 2 bytes == 0 then Ok 2
+    else if big_number 2 bytes == 1 then skipped 6 bytes
+    else if big_number 2 bytes == 2 then skipped 18 bytes
+    else if big_number 2 bytes == 16387 then (if nat_lt (length bytes) 8 then Err fault.Short else skipped (8 + big_number 2 (drop 6 bytes)) bytes)
+    else Err fault.EidFamily
+
+abbrev pub from_address : AddressFault → RequestFault
+from_address address_fault.Short = fault.Short
+from_address address_fault.Family = fault.RlocFamily
+
+-- so many ITR-RLOCs from the front, and the bytes after them
+unfoldable pub rlocs_at : ℕ → List ℕ → Result (List Locator × List ℕ) RequestFault
+rlocs_at zero bytes = Ok ([], bytes)
+rlocs_at (suc n) bytes = do
+  first ← in_words from_address (address_at bytes)
+  others ← rlocs_at n (drop first.1 bytes)
+  Ok (first.0 ∷ others.0, others.1)
+
+abbrev pub read_rlocs : Result (List Locator × List ℕ) RequestFault → List Locator
+read_rlocs (Ok x) = x.0
+read_rlocs (Err e) = []
+
+-- the ITR-RLOCs of bytes that have so many
+abbrev pub rlocs_in : ℕ → List ℕ → List Locator
+rlocs_in n bytes = read_rlocs (rlocs_at n bytes)
+
+-- a request is for one identifier: a mask length that is too long or a range's is refused like one that is too short
+abbrev pub from_eid : EidFault → RequestFault
+from_eid eid_fault.Short = fault.Short
+from_eid eid_fault.EidFamily = fault.EidFamily
+from_eid eid_fault.Lcaf = fault.Lcaf
+from_eid eid_fault.MaskLength = fault.NotHost
+from_eid eid_fault.TailNotZero = fault.NotHost
+
+abbrev pub host_of : Form → Result Xeid RequestFault
+host_of (Range iid_ len) = Err fault.NotHost
+host_of (Block iid_ address_ len) = if len == address_width address_ then Ok (record { iid = iid_; address = address_ }) else Err fault.NotHost
+
+-- the identifier behind a reserved byte and its mask length, and how many bytes they take
+unfoldable pub xeid_at : List ℕ → Result (Xeid × ℕ) RequestFault
+xeid_at bytes =
+    if nat_lt (length bytes) 2 then Err fault.Short
+    else (in_words from_eid (eid_at (slice_index bytes 1) (drop 2 bytes)) >>= λ p. host_of (form_of p.0) >>= λ x. Ok (x, 2 + p.1))
+
+-- the 12 bytes up to the nonce
+unfoldable pub head_at : List ℕ → Result ℕ RequestFault
+head_at message =
+    if nat_lt (length message) 12 then Err fault.Short
+    else if not (slice_index message 0 / 16 == 1) then Err fault.RequestType
+    else if not (slice_index message 3 == 1) then Err fault.RecordCount
+    else Ok (slice_index message 2 % 32 + 1)
+
+-- the bit M is clear, and bytes are left
+abbrev pub trails : List ℕ → ℕ → List ℕ → Bool
+trails message taken rest = slice_index message 0 / 4 % 2 == 0 && not (length rest == taken)
+
+-- nonce, identifier and ITR-RLOCs
+unfoldable pub map_request_at : List ℕ → Result (ℕ × Xeid × List Locator) RequestFault
+map_request_at message = do
+  count ← head_at message
+  source ← source_at (drop 12 message)
+  rlocs ← rlocs_at count (drop source (drop 12 message))
+  xeid ← xeid_at rlocs.1
+  if trails message xeid.1 rlocs.1 then Err fault.Trailing else Ok (big_number 8 (drop 4 message), xeid.0, rlocs.0)

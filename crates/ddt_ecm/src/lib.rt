@@ -1,0 +1,21 @@
+//! Encapsulated Map-Requests: the one spelling that is written, and what any bytes say.
+#![tactic(auto)]
+
+mod checksum;
+mod fault;
+mod ip_header;
+mod laws;
+mod map_request;
+mod request;
+mod rlocs;
+mod udp_header;
+mod writing;
+
+pub use fault::RequestFault;
+pub use laws::request_laws;
+pub use request::{Request, read_request};
+pub use rlocs::Rlocs;
+pub use writing::write_request;
+
+#[cfg(test)]
+mod tests;

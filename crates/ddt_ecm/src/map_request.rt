@@ -1,0 +1,145 @@
+//! A Map-Request for one identifier (RFC 9301, section 5.2).
+//!
+//! ```text
+//!  0        1        2        3
+//! +----+-+-+--------+---+----+--------+
+//! |  1 |A|M| flags  |   |IRC | count 1|   0
+//! +----+-+-+--------+---+----+--------+
+//! |              nonce                |   4
+//! |                                   |   8
+//! +-----------------+-----------------+
+//! | source EID-AFI  | source EID ...  |  12
+//! +-----------------+-----------------+
+//! |  IRC + 1 ITR-RLOCs, each an AFI   |
+//! |  and an address ...               |
+//! +--------+--------+-----------------+
+//! |reserved|EID mask|  EID-AFI,       |
+//! |        |  len   |  EID ...        |
+//! +--------+--------+-----------------+
+//! ```
+//!
+//! IRC has five bits. The source EID is skipped, and all flags but M are ignored.
+
+ghost use Rattle.std.specs.Prelude.{◌≡◌, ◌≤◌, length, OnOk, IfOk};
+ghost use Rattle.ddt_path.specs.FormOf.{form_of};
+ghost use Rattle.ddt_ecm.specs.MapRequest.{source_at, host_of, xeid_at, head_at, map_request_at};
+
+use crate::fault::RequestFault;
+use crate::rlocs::Rlocs;
+use byteorder::{BigEndian, ByteOrder};
+use ddt_path::{Form, Prefix, Xeid};
+use ddt_wire::{EidFault, read_eid};
+
+/// The type of a Map-Request.
+const MAP_REQUEST: u8 = 1;
+/// How many bytes stand before the source EID.
+const BEFORE_SOURCE: usize = 12;
+
+impl From<EidFault> for RequestFault {
+    ghost use Rattle.std.specs.Prelude.{◌≡◌};
+    ghost use Rattle.ddt_ecm.specs.MapRequest.{from_eid};
+
+    ghost from_gives = { λ d e. e ≡ from_eid d };
+
+    fn from(fault: EidFault) -> RequestFault {
+        match fault {
+            EidFault::Short => RequestFault::Short,
+            EidFault::EidFamily => RequestFault::EidFamily,
+            EidFault::Lcaf => RequestFault::Lcaf,
+            EidFault::MaskLength | EidFault::TailNotZero => RequestFault::NotHost,
+        }
+    }
+}
+
+/// How many ITR-RLOCs follow, where what stands before the source EID is right.
+#[tactic(auto, unfolding(crate::specs::MapRequest::head_at))]
+fn read_head(message: &[u8]) -> Result<u8, RequestFault>
+    ensures exact { result ≡ head_at message.now }
+    ensures len { OnOk result (12 ≤ length message.now) }
+{
+    if message.len() < BEFORE_SOURCE {
+        return Err(RequestFault::Short);
+    }
+    if message[0] >> 4 != MAP_REQUEST {
+        return Err(RequestFault::RequestType);
+    }
+    if message[3] != 1 {
+        return Err(RequestFault::RecordCount);
+    }
+    Ok(message[2] % 32 + 1)
+}
+
+/// How many bytes the source EID takes, its AFI among them.
+#[tactic(auto, unfolding(crate::specs::MapRequest::source_at))]
+fn skip_source(bytes: &[u8]) -> Result<usize, RequestFault>
+    ensures exact { result ≡ source_at bytes.now }
+    ensures within { IfOk result (λ taken. taken ≤ length bytes.now) }
+{
+    if bytes.len() < 2 {
+        return Err(RequestFault::Short);
+    }
+    let taken = match BigEndian::read_u16(bytes) {
+        0 => 2,
+        1 => 6,
+        2 => 18,
+        16387 => {
+            if bytes.len() < 8 {
+                return Err(RequestFault::Short);
+            }
+            8 + usize::from(BigEndian::read_u16(&bytes[6..]))
+        }
+        _ => return Err(RequestFault::EidFamily),
+    };
+    if bytes.len() < taken {
+        return Err(RequestFault::Short);
+    }
+    Ok(taken)
+}
+
+/// The one identifier that a prefix covers.
+fn host(prefix: Prefix) -> Result<Xeid, RequestFault>
+    ensures { result ≡ host_of (form_of prefix) }
+{
+    match prefix.form() {
+        Form::Range { .. } => Err(RequestFault::NotHost),
+        Form::Block { iid, address, len } => {
+            if len == address.width() {
+                Ok(Xeid { iid, address })
+            } else {
+                Err(RequestFault::NotHost)
+            }
+        }
+    }
+}
+
+/// The identifier behind a reserved byte and its mask length, and how many bytes they take.
+#[tactic(auto, unfolding(crate::specs::MapRequest::xeid_at))]
+fn read_xeid(bytes: &[u8]) -> Result<(Xeid, usize), RequestFault>
+    ensures exact { result ≡ xeid_at bytes.now }
+    ensures within { IfOk result (λ x. x.1 ≤ length bytes.now) }
+{
+    if bytes.len() < 2 {
+        return Err(RequestFault::Short);
+    }
+    let (_mask, from_eid) = bytes.split_at(2);
+    let (prefix, taken) = read_eid(from_eid, bytes[1])?;
+    let xeid = host(prefix)?;
+    Ok((xeid, 2 + taken))
+}
+
+/// Nonce, identifier and ITR-RLOCs of a Map-Request.
+#[tactic(auto, unfolding(crate::specs::MapRequest::map_request_at))]
+pub(crate) fn read_map_request(message: &[u8]) -> Result<(u64, Xeid, Rlocs<'_>), RequestFault>
+    ensures { result ≡ map_request_at message.now }
+{
+    let count = read_head(message)?;
+    let (_head, from_source) = message.split_at(BEFORE_SOURCE);
+    let source = skip_source(from_source)?;
+    let (_source, from_rlocs) = from_source.split_at(source);
+    let (rlocs, rest) = Rlocs::read(count, from_rlocs)?;
+    let (xeid, taken) = read_xeid(rest)?;
+    if (message[0] >> 2) % 2 == 0 && rest.len() != taken {
+        return Err(RequestFault::Trailing);
+    }
+    Ok((BigEndian::read_u64(&message[4..]), xeid, rlocs))
+}

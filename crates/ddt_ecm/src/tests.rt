@@ -96,7 +96,7 @@ fn changed<const N: usize>(mut bytes: [u8; N], changes: &[(usize, u8)]) -> [u8; 
 }
 
 #[test]
-fn requests_are_refused_for_the_first_fault(rt: HostRuntime) {
+fn requests_that_end_early_are_refused(rt: HostRuntime) {
     assert_eq!(rt;
         read_request(&[0x84, 0, 0]).err(),
         Some(RequestFault::Short)
@@ -109,6 +109,10 @@ fn requests_are_refused_for_the_first_fault(rt: HostRuntime) {
         read_request(&IPV4_REQUEST[..59]).err(),
         Some(RequestFault::IpLength)
     );
+}
+
+#[test]
+fn the_first_fault_of_the_headers_is_named(rt: HostRuntime) {
     for (changes, fault) in [
         ([(0, 0x64), (4, 0x55)], RequestFault::MessageType),
         ([(0, 0x8c), (4, 0x55)], RequestFault::Security),
@@ -123,6 +127,10 @@ fn requests_are_refused_for_the_first_fault(rt: HostRuntime) {
         let bytes = changed(IPV4_REQUEST, &changes);
         assert_eq!(rt; read_request(&bytes).err(), Some(fault));
     }
+}
+
+#[test]
+fn the_first_fault_behind_the_headers_is_named(rt: HostRuntime) {
     let unchecked = changed(IPV4_REQUEST, &[(30, 0), (31, 0)]);
     assert!(rt; read_request(&unchecked).is_ok());
     for (changes, fault) in [

@@ -44,60 +44,62 @@ fn servers_answer_the_outside_vectors(rt: HostRuntime) -> Result<(), Fail> {
     Ok(())
 }
 
+/// A register, the words of `answer` after it, and the line that refuses.
+const REFUSALS: [(&str, &str, &str, &str, &str); 7] = [
+    (
+        CAMPUS,
+        "register.csv",
+        "west",
+        "[0]10.1.2.3",
+        "no such group\n",
+    ),
+    (
+        CAMPUS,
+        "register.csv",
+        "No Name",
+        "[0]10.1.2.3",
+        "no such group\n",
+    ),
+    (
+        CAMPUS,
+        "missing.csv",
+        "root",
+        "[0]10.1.2.3",
+        "cannot open missing.csv\n",
+    ),
+    (
+        CAMPUS,
+        "register.csv",
+        "root",
+        "10.1.2.3",
+        "bad identifier 2 Bracket\n",
+    ),
+    (
+        CAMPUS,
+        "missing.csv",
+        "root",
+        "[0]10.1.2",
+        "bad identifier 4 Address\n",
+    ),
+    (
+        "zone",
+        "register.csv",
+        "root",
+        "[0]10.1.2.3",
+        "unreadable 2 Columns\n",
+    ),
+    (
+        "",
+        "register.csv",
+        "west",
+        "[0]10.1.2.3",
+        "refused A1 NoRoot row 0\n",
+    ),
+];
+
 #[test]
 fn answer_names_what_stands_in_its_way(rt: HostRuntime) -> Result<(), Fail> {
-    let rows = [
-        (
-            CAMPUS,
-            "register.csv",
-            "west",
-            "[0]10.1.2.3",
-            "no such group\n",
-        ),
-        (
-            CAMPUS,
-            "register.csv",
-            "No Name",
-            "[0]10.1.2.3",
-            "no such group\n",
-        ),
-        (
-            CAMPUS,
-            "missing.csv",
-            "root",
-            "[0]10.1.2.3",
-            "cannot open missing.csv\n",
-        ),
-        (
-            CAMPUS,
-            "register.csv",
-            "root",
-            "10.1.2.3",
-            "bad identifier 2 Bracket\n",
-        ),
-        (
-            CAMPUS,
-            "missing.csv",
-            "root",
-            "[0]10.1.2",
-            "bad identifier 4 Address\n",
-        ),
-        (
-            "zone",
-            "register.csv",
-            "root",
-            "[0]10.1.2.3",
-            "unreadable 2 Columns\n",
-        ),
-        (
-            "",
-            "register.csv",
-            "west",
-            "[0]10.1.2.3",
-            "refused A1 NoRoot row 0\n",
-        ),
-    ];
-    for (register, path, group, x, line) in rows {
+    for (register, path, group, x, line) in REFUSALS {
         let words = ["answer", path, group, x];
         expect(&rt, rt.alloc(), register, &words, (Refused, "", line))?;
     }

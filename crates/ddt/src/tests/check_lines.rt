@@ -11,46 +11,48 @@ fn the_campus_is_accepted(rt: HostRuntime) -> Result<(), Fail> {
     expect(&rt, rt.alloc(), CAMPUS, &words, (Answered, line, ""))
 }
 
+/// A row behind the eight of the campus, and the verdict.
+const NINTH_ROWS: [(&str, &str); 16] = [
+    ("node,*,root,", "refused A1 NoRoot row 9\n"),
+    (
+        "node,[0]10.0.0.0/8,root,",
+        "refused A2 DuplicateZone row 9\n",
+    ),
+    ("site,[0]10.1.2.128/25,,", "refused A3 SiteOverlap row 9\n"),
+    (
+        "node,[0]12.0.0.0/8,west,",
+        "refused A4 UnknownGroup row 9\n",
+    ),
+    ("ms,[0]12.0.0.0/8,ten,", "refused A5 Role row 9\n"),
+    ("group-node,,west,127.0.0.1", "refused A6 Locators row 9\n"),
+    ("group-node,,west,", "refused A6 Locators row 9\n"),
+    (
+        "node,[0]10.1.7.0/24,ten,",
+        "refused A7 BelowMapServer row 9\n",
+    ),
+    ("site,[0]10.2.0.0/24,,", "refused A8 SiteOutside row 9\n"),
+    (
+        "site,[0]10.1.5.0/24,,1.0.0.1 1.0.0.2 1.0.0.3 1.0.0.4 1.0.0.5 1.0.0.6 1.0.0.7 1.0.0.8 1.0.0.9",
+        "refused A9 TooManyEtrs row 9\n",
+    ),
+    (
+        "group-ms,,east,127.0.1.9",
+        "refused A10 DuplicateGroup row 9\n",
+    ),
+    ("node,*", "unreadable 1 Csv row 9\n"),
+    ("zone,*,root,", "unreadable 3 Kind row 9\n"),
+    ("node,[0]10.0.0.1/8,ten,", "unreadable 4 Prefix row 9\n"),
+    ("node,[0]12.0.0.0/8,Ten,", "unreadable 5 Name row 9\n"),
+    (
+        "site,[0]10.1.5.0/24,,10.0.0.256",
+        "unreadable 6 Address row 9\n",
+    ),
+];
+
 #[test]
 fn a_ninth_row_is_refused_by_its_rule(rt: HostRuntime) -> Result<(), Fail> {
-    let rows = [
-        ("node,*,root,", "refused A1 NoRoot row 9\n"),
-        (
-            "node,[0]10.0.0.0/8,root,",
-            "refused A2 DuplicateZone row 9\n",
-        ),
-        ("site,[0]10.1.2.128/25,,", "refused A3 SiteOverlap row 9\n"),
-        (
-            "node,[0]12.0.0.0/8,west,",
-            "refused A4 UnknownGroup row 9\n",
-        ),
-        ("ms,[0]12.0.0.0/8,ten,", "refused A5 Role row 9\n"),
-        ("group-node,,west,127.0.0.1", "refused A6 Locators row 9\n"),
-        ("group-node,,west,", "refused A6 Locators row 9\n"),
-        (
-            "node,[0]10.1.7.0/24,ten,",
-            "refused A7 BelowMapServer row 9\n",
-        ),
-        ("site,[0]10.2.0.0/24,,", "refused A8 SiteOutside row 9\n"),
-        (
-            "site,[0]10.1.5.0/24,,1.0.0.1 1.0.0.2 1.0.0.3 1.0.0.4 1.0.0.5 1.0.0.6 1.0.0.7 1.0.0.8 1.0.0.9",
-            "refused A9 TooManyEtrs row 9\n",
-        ),
-        (
-            "group-ms,,east,127.0.1.9",
-            "refused A10 DuplicateGroup row 9\n",
-        ),
-        ("node,*", "unreadable 1 Csv row 9\n"),
-        ("zone,*,root,", "unreadable 3 Kind row 9\n"),
-        ("node,[0]10.0.0.1/8,ten,", "unreadable 4 Prefix row 9\n"),
-        ("node,[0]12.0.0.0/8,Ten,", "unreadable 5 Name row 9\n"),
-        (
-            "site,[0]10.1.5.0/24,,10.0.0.256",
-            "unreadable 6 Address row 9\n",
-        ),
-    ];
     let words = ["check", "register.csv"];
-    for (row, line) in rows {
+    for (row, line) in NINTH_ROWS {
         let register = format!(in rt.alloc(); "{CAMPUS}{row}\n")?;
         expect(
             &rt,

@@ -1,0 +1,60 @@
+-- The configuration of a server group: its zones, and in each of them what is delegated or registered there
+-- (RFC 8111, section 4).
+use Rattle.std.specs.Prelude.{Bool, ◌&&◌, not, List, map}
+use Rattle.std.specs.List.{list_any, filter}
+use Rattle.ddt_path.specs.declared.record.Role.{Role}
+use Rattle.ddt_path.specs.declared.record.Role.TheVariants.{Node, Ms}
+use Rattle.ddt_path.specs.Covers.{covers, is_strictly_below}
+use Rattle.ddt_register.specs.declared.zone.Zone.{Zone}
+use Rattle.ddt_register.specs.declared.site.Site.{Site}
+use Rattle.ddt_register.specs.declared.group.Group.{Group}
+use Rattle.ddt_register.specs.declared.register.Register.{Register}
+use Rattle.ddt_check.specs.Zones.{is_same_name, locators_of}
+use Rattle.ddt_config.specs.declared.config.Child.{Child}
+use Rattle.ddt_config.specs.declared.config.SiteEntry.{SiteEntry}
+use Rattle.ddt_config.specs.declared.config.Content.{Content}
+use Rattle.ddt_config.specs.declared.config.Content.TheVariants.{Children, Sites}
+use Rattle.ddt_config.specs.declared.config.Authority.{Authority}
+use Rattle.ddt_config.specs.Table.{Outline}
+
+-- a zone strictly below another, with no zone between
+abbrev pub is_between : Zone → Zone → Zone → Bool
+is_between z c y = is_strictly_below y.prefix z.prefix && is_strictly_below c.prefix y.prefix
+
+abbrev pub is_direct_child : Register → Zone → Zone → Bool
+is_direct_child r z c = is_strictly_below c.prefix z.prefix && not (list_any (is_between z c) r.zones)
+
+-- the referral to a zone: its kind, and the locators of its group
+abbrev pub child_of : Register → Zone → Child
+child_of r c = record { prefix = c.prefix; role = c.kind; locators = locators_of r c.group }
+
+abbrev pub children_of : Register → Zone → List Child
+children_of r z = map (child_of r) (filter (is_direct_child r z) r.zones)
+
+-- the sites that a zone covers
+abbrev pub is_site_in : Zone → Site → Bool
+is_site_in z s = covers z.prefix s.prefix
+
+abbrev pub entry_of : Site → SiteEntry
+entry_of s = record { prefix = s.prefix; etrs = s.etrs }
+
+abbrev pub sites_of : Register → Zone → List SiteEntry
+sites_of r z = map entry_of (filter (is_site_in z) r.sites)
+
+-- children in a zone of DDT nodes, sites in one of Map-Servers
+abbrev pub content_of : Register → Zone → Role → Content
+content_of r z Node = Children (children_of r z)
+content_of r z Ms = Sites (sites_of r z)
+
+abbrev pub authority_of : Register → Zone → Authority
+authority_of r z = record { prefix = z.prefix; content = content_of r z z.kind }
+
+-- the zones of a group, and the authority for each, in the order of their rows
+abbrev pub is_served_by : Group → Zone → Bool
+is_served_by g z = is_same_name g.name z.group
+
+abbrev pub authorities_of : Register → Group → List Authority
+authorities_of r g = map (authority_of r) (filter (is_served_by g) r.zones)
+
+abbrev pub group_config : Register → Group → Outline
+group_config r g = record { name = g.name; role = g.kind; locators = g.locators; authorities = authorities_of r g }

@@ -1,0 +1,82 @@
+use super::*;
+use ddt_check::check;
+use ddt_config::{ServerConfig, from_toml, to_toml};
+use ddt_path::Listed;
+use ddt_register::read_register;
+use std::alloc::Global;
+use std::test::*;
+
+const CAMPUS: &str = "kind,prefix,group,addresses
+group-node,,root,127.0.0.1
+group-node,,ten,127.0.0.10
+group-ms,,east,127.0.1.1 127.0.1.2
+node,*,root,
+node,[0]10.0.0.0/8,ten,
+ms,[0]10.1.0.0/16,east,
+site,[0]10.1.2.0/24,,127.0.2.1
+site,[0]10.1.4.0/24,,
+";
+
+const EAST: &str = r#"name = "east"
+kind = "ms"
+locators = ["127.0.1.1", "127.0.1.2"]
+[[authority]]
+prefix = "[0]10.1.0.0/16"
+[[authority.site]]
+prefix = "[0]10.1.2.0/24"
+etrs = ["127.0.2.1"]
+[[authority.site]]
+prefix = "[0]10.1.4.0/24"
+etrs = []
+"#;
+
+const TEN: &str = r#"name = "ten"
+kind = "node"
+locators = ["127.0.0.10"]
+[[authority]]
+prefix = "[0]10.0.0.0/8"
+[[authority.child]]
+prefix = "[0]10.1.0.0/16"
+kind = "ms"
+locators = ["127.0.1.1", "127.0.1.2"]
+"#;
+
+const ROOT: &str = r#"name = "root"
+kind = "node"
+locators = ["127.0.0.1"]
+[[authority]]
+prefix = "*"
+[[authority.child]]
+prefix = "[0]10.0.0.0/8"
+kind = "node"
+locators = ["127.0.0.10"]
+"#;
+
+fn compiled(alloc: Global, text: &str) -> Result<Listed<ServerConfig>, Fail> {
+    let Ok(register) = read_register(alloc, text.as_bytes()) else {
+        return Err("no register".into());
+    };
+    let Ok(accepted) = check(register) else {
+        return Err("not accepted".into());
+    };
+    Ok(compile(alloc, &accepted)?)
+}
+
+/// Whether a configuration is the one that a text stands for: both print alike.
+fn is_that_of(alloc: Global, config: &ServerConfig, text: &str) -> Result<bool, Fail> {
+    let wanted = to_toml(alloc, &from_toml(alloc, text)?)?;
+    Ok(to_toml(alloc, config)?.as_str() == wanted.as_str())
+}
+
+#[test]
+fn each_group_of_the_campus_is_compiled(rt: HostRuntime) -> Result<(), Fail> {
+    let alloc = rt.alloc();
+    let configs = compiled(alloc, CAMPUS)?;
+    let [root, ten, east] = configs.as_slice() else {
+        return Err("three groups".into());
+    };
+    assert!(rt; is_that_of(alloc, root, ROOT)?);
+    assert!(rt; is_that_of(alloc, ten, TEN)?);
+    assert!(rt; is_that_of(alloc, east, EAST)?);
+    Ok(())
+}

@@ -1,0 +1,6 @@
+pub mod EachLemmas
+pub mod ValueLemmas
+pub mod FitLemmas
+pub mod WriteLemmas
+pub mod AsciiLemmas
+pub mod SameLemmas

@@ -1,0 +1,41 @@
+-- A text stands for one configuration at most.
+use Rattle.std.proofs.Common.{◌≡◌, ◌≢◌, ◌⊎◌, ℕ, true, List, Some, Result, Ok, Err, refl, sym, ap, ◌∙◌, subst, inl, inr, rules}
+use Rattle.std.proofs.Math.Bool.{Bool-set}
+use Rattle.std.specs.Result.{IfOk, IfErr}
+use Rattle.toml.specs.Data.{Members}
+use Rattle.toml.specs.Parse.{parse_document}
+use Rattle.ddt_config.specs.declared.fault.ConfigFault.{ConfigFault}
+use Rattle.ddt_config.specs.declared.fault.ConfigFault.TheVariants.{Toml, Field, Value, Shape, Memory}
+use Rattle.ddt_config.specs.declared.config.ServerConfig.{ServerConfig}
+use Rattle.ddt_config.specs.Shaped.{is_shaped}
+use Rattle.ddt_config.specs.Table.{Outline, outline, config_in, config_in_document, StandsFor}
+
+abbrev made : (o : Outline) → is_shaped o.role o.locators o.authorities ≡ true → ServerConfig
+made o s = record { name = o.name; role = o.role; locators = o.locators; authorities = o.authorities; shaped = s }
+
+made-same : (o p : Outline) → o ≡ p → (s : is_shaped o.role o.locators o.authorities ≡ true) (t : is_shaped p.role p.locators p.authorities ≡ true) → made o s ≡ made p t
+made-same o p e s t = subst (λ (q : Outline). (u : is_shaped q.role q.locators q.authorities ≡ true) → made o s ≡ made q u) e (λ u. ap (made o) (Bool-set (is_shaped o.role o.locators o.authorities) true s u)) t
+
+same_outline : (c d : ServerConfig) → outline c ≡ outline d → c ≡ d
+same_outline c d e = made-same (outline c) (outline d) e c.shaped d.shaped
+
+abbrev ok_part : {A : Type 0} → A → Result A ConfigFault → A
+ok_part other (Ok a) = a
+ok_part other (Err fault) = other
+
+two_outcomes : {A : Type 0} (r : Result A ConfigFault) (a : A) (fault : ConfigFault) → r ≡ Ok a → r ≡ Err fault → ⊥
+two_outcomes r a fault e f = search (rules, e, f)
+
+among : (ms : Members) (r : Result ServerConfig ConfigFault) → IfOk r (λ c. config_in ms ≡ Ok (outline c)) → IfErr r (λ fault. fault ≢ Memory → config_in ms ≡ Err fault)
+    → (c : ServerConfig) → config_in ms ≡ Ok (outline c) → (r ≡ Ok c) ⊎ (r ≡ Err Memory)
+among ms (Ok d) found refused c stands = inl (ap Ok (same_outline d c (ap (ok_part (outline c)) (sym found ∙ stands))))
+among ms (Err Memory) found refused c stands = inr refl
+among ms (Err Toml) found refused c stands = absurd (two_outcomes (config_in ms) (outline c) Toml stands (refused (search rules)))
+among ms (Err (Field k)) found refused c stands = absurd (two_outcomes (config_in ms) (outline c) (Field k) stands (refused (search rules)))
+among ms (Err (Value k)) found refused c stands = absurd (two_outcomes (config_in ms) (outline c) (Value k) stands (refused (search rules)))
+among ms (Err Shape) found refused c stands = absurd (two_outcomes (config_in ms) (outline c) Shape stands (refused (search rules)))
+
+pub determined : (text : List ℕ) (ms : Members) → parse_document text ≡ Some ms → (r : Result ServerConfig ConfigFault)
+    → IfOk r (λ c. config_in ms ≡ Ok (outline c)) → IfErr r (λ fault. fault ≢ Memory → config_in ms ≡ Err fault)
+    → (c : ServerConfig) → StandsFor text c → (r ≡ Ok c) ⊎ (r ≡ Err Memory)
+determined text ms e r found refused c stands = among ms r found refused c (sym (ap config_in_document e) ∙ stands)

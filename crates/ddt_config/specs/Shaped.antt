@@ -1,0 +1,67 @@
+-- The shape of a configuration: a server is in charge of some prefixes, and what it delegates or registers lies inside
+-- one of them, each identifier in one place at most (RFC 8111, section 4).
+use Rattle.std.specs.Prelude.{ℕ, Bool, true, false, ◌==◌, ◌&&◌, not, nat_le, List, [], ◌∷◌, length}
+use Rattle.std.specs.List.{list_any, list_all}
+use Rattle.ddt_path.specs.declared.locator.Locator.{Locator}
+use Rattle.ddt_path.specs.declared.locator.Locator.TheVariants.{V4, V6}
+use Rattle.ddt_path.specs.declared.record.Role.{Role}
+use Rattle.ddt_path.specs.declared.record.Role.TheVariants.{Node, Ms}
+use Rattle.ddt_path.specs.Covers.{covers, overlaps, is_same_path, is_strictly_below}
+use Rattle.ddt_config.specs.declared.config.Child.{Child}
+use Rattle.ddt_config.specs.declared.config.SiteEntry.{SiteEntry}
+use Rattle.ddt_config.specs.declared.config.Content.{Content}
+use Rattle.ddt_config.specs.declared.config.Content.TheVariants.{Children, Sites}
+use Rattle.ddt_config.specs.declared.config.Authority.{Authority}
+
+-- at most 8 locators
+abbrev pub fits : List Locator → Bool
+fits locators = nat_le (length locators) 8
+
+-- 1 to 8 of them
+abbrev pub is_server_set : List Locator → Bool
+is_server_set locators = nat_le 1 (length locators) && fits locators
+
+abbrev pub is_same_locator : Locator → Locator → Bool
+is_same_locator (V4 a) (V4 b) = a == b
+is_same_locator (V6 a) (V6 b) = a == b
+is_same_locator (V4 a) (V6 b) = false
+is_same_locator (V6 a) (V4 b) = false
+
+-- no item clashes with a later one
+abbrev pub no_two : {A : Type 0} → (A → A → Bool) → List A → Bool
+no_two clash [] = true
+no_two clash (a ∷ rest) = not (list_any (clash a) rest) && no_two clash rest
+
+-- no locator stands twice
+abbrev pub are_distinct : List Locator → Bool
+are_distinct = no_two (λ l m. is_same_locator m l)
+
+-- no two have one prefix
+abbrev pub have_own_prefixes : {A : Type 0} → (A → List ℕ) → List A → Bool
+have_own_prefixes prefix = no_two (λ a b. is_same_path (prefix a) (prefix b))
+
+-- no two overlap
+abbrev pub are_apart : {A : Type 0} → (A → List ℕ) → List A → Bool
+are_apart prefix = no_two (λ a b. overlaps (prefix a) (prefix b))
+
+-- each child is strictly below its authority, and has servers
+abbrev pub is_child_of : List ℕ → Child → Bool
+is_child_of authority c = is_strictly_below c.prefix authority && is_server_set c.locators
+
+-- each site is covered by its authority, and may equal it
+abbrev pub is_site_of : List ℕ → SiteEntry → Bool
+is_site_of authority s = covers authority s.prefix && fits s.etrs
+
+-- the authority of a DDT node holds children, that of a Map-Server sites
+abbrev pub is_content_of : Role → List ℕ → Content → Bool
+is_content_of Node authority (Children cs) = list_all (is_child_of authority) cs && are_apart (λ c. c.prefix) cs
+is_content_of Ms authority (Sites ss) = list_all (is_site_of authority) ss && are_apart (λ s. s.prefix) ss
+is_content_of Node authority (Sites ss) = false
+is_content_of Ms authority (Children cs) = false
+
+abbrev pub is_authority_of : Role → Authority → Bool
+is_authority_of role a = is_content_of role a.prefix a.content
+
+abbrev pub is_shaped : Role → List Locator → List Authority → Bool
+is_shaped role locators authorities =
+    (is_server_set locators && are_distinct locators) && (have_own_prefixes (λ a. a.prefix) authorities && list_all (is_authority_of role) authorities)

@@ -1,0 +1,176 @@
+-- Which TOML table stands for which configuration of a node or a Map-Server (RFC 8111, section 4). The table's form is
+-- this project's own. The keys are examined in a fixed order, tables from first to last,
+-- and the first fault decides; the shape is examined last.
+use Rattle.std.specs.Prelude.{◌≡◌, ℕ, Bool, if◌then◌else◌, codes, List, [], ◌∷◌, Option, None, Some, Result, Ok, Err}
+use Rattle.std.specs.Option.{option_map}
+use Rattle.std.specs.Cmp.Lexicographic.{pointwise}
+use Rattle.std.specs.Prelude.{◌==◌}
+use Rattle.toml.specs.Data.{Data, Items, no_items, item, Members, get_member, as_str, as_array, as_table}
+use Rattle.toml.specs.Parse.{parse_document}
+use Rattle.ddt_path.specs.declared.locator.Locator.{Locator}
+use Rattle.ddt_path.specs.declared.record.Role.{Role}
+use Rattle.ddt_path.specs.declared.record.Role.TheVariants.{Node, Ms}
+use Rattle.ddt_path.specs.Names.{is_name}
+use Rattle.ddt_text.specs.declared.fault.TextFault.{TextFault}
+use Rattle.ddt_text.specs.FirstFault.{locator_in, prefix_in}
+use Rattle.ddt_config.specs.declared.fault.Key.{Key}
+use Rattle.ddt_config.specs.declared.fault.Key.TheVariants as key
+use Rattle.ddt_config.specs.declared.fault.ConfigFault.{ConfigFault}
+use Rattle.ddt_config.specs.declared.fault.ConfigFault.TheVariants.{Toml, Field, Value, Shape}
+use Rattle.ddt_config.specs.declared.config.Child.{Child}
+use Rattle.ddt_config.specs.declared.config.SiteEntry.{SiteEntry}
+use Rattle.ddt_config.specs.declared.config.Content.{Content}
+use Rattle.ddt_config.specs.declared.config.Content.TheVariants.{Children, Sites}
+use Rattle.ddt_config.specs.declared.config.Authority.{Authority}
+use Rattle.ddt_config.specs.declared.config.ServerConfig.{ServerConfig}
+use Rattle.ddt_config.specs.Shaped.{is_shaped}
+
+-- the words of the text
+abbrev pub key_text : Key → List ℕ
+key_text key.Name = codes "name"
+key_text key.Kind = codes "kind"
+key_text key.Locators = codes "locators"
+key_text key.Authority = codes "authority"
+key_text key.Prefix = codes "prefix"
+key_text key.Child = codes "child"
+key_text key.Site = codes "site"
+key_text key.Etrs = codes "etrs"
+
+abbrev pub role_text : Role → List ℕ
+role_text Node = codes "node"
+role_text Ms = codes "ms"
+
+-- `next` on a value, and a fault as it is
+abbrev pub on_ok : {A B : Type 0} → Result A ConfigFault → (A → Result B ConfigFault) → Result B ConfigFault
+on_ok (Ok a) next = next a
+on_ok (Err fault) next = Err fault
+
+-- a list examined from first to last
+abbrev pub each : {A B : Type 0} → (A → Result B ConfigFault) → List A → Result (List B) ConfigFault
+each examine [] = Ok []
+each examine (a ∷ rest) = on_ok (examine a) (λ b. on_ok (each examine rest) (λ bs. Ok (b ∷ bs)))
+
+-- a value of the kind that the key asks for
+abbrev pub of_kind : {A : Type 0} → Key → Option A → Result A ConfigFault
+of_kind k None = Err (Field k)
+of_kind k (Some a) = Ok a
+
+-- a value of the form that the key asks for
+abbrev pub of_form : {A : Type 0} → Key → Result A TextFault → Result A ConfigFault
+of_form k (Err fault) = Err (Value k)
+of_form k (Ok a) = Ok a
+
+-- the values of an array
+abbrev pub listed : Items → List Data
+listed no_items = []
+listed (item d ds) = d ∷ listed ds
+
+abbrev pub text_of : Key → Data → Result (List ℕ) ConfigFault
+text_of k d = of_kind k (as_str d)
+
+abbrev pub table_of : Key → Data → Result Members ConfigFault
+table_of k d = of_kind k (as_table d)
+
+abbrev pub array_of : Key → Data → Result (List Data) ConfigFault
+array_of k d = of_kind k (option_map listed (as_array d))
+
+-- the text at a key
+abbrev pub text_at : Key → Members → Result (List ℕ) ConfigFault
+text_at k ms = on_ok (of_kind k (get_member (key_text k) ms)) (text_of k)
+
+abbrev pub array_at : Key → Members → Result (List Data) ConfigFault
+array_at k ms = on_ok (of_kind k (get_member (key_text k) ms)) (array_of k)
+
+-- the texts at a key: each of them is a text before one is examined
+abbrev pub texts_at : Key → Members → Result (List (List ℕ)) ConfigFault
+texts_at k ms = on_ok (array_at k ms) (each (text_of k))
+
+-- the tables at a key, none where it is missing; each of them is a table before one is examined
+abbrev pub array_or_none : Key → Option Data → Result (List Data) ConfigFault
+array_or_none k None = Ok []
+array_or_none k (Some d) = array_of k d
+
+abbrev pub tables_at : Key → Members → Result (List Members) ConfigFault
+tables_at k ms = on_ok (array_or_none k (get_member (key_text k) ms)) (each (table_of k))
+
+-- the name of the group
+abbrev pub name_in : Members → Result (List ℕ) ConfigFault
+name_in ms = on_ok (text_at key.Name ms) (λ text. if is_name text then Ok text else Err (Value key.Name))
+
+-- `node` or `ms`
+abbrev pub is_text : List ℕ → List ℕ → Bool
+is_text a b = pointwise ◌==◌ a b
+
+abbrev pub role_of : List ℕ → Result Role ConfigFault
+role_of text = if is_text text (role_text Node) then Ok Node else if is_text text (role_text Ms) then Ok Ms else Err (Value key.Kind)
+
+abbrev pub role_in : Members → Result Role ConfigFault
+role_in ms = on_ok (text_at key.Kind ms) role_of
+
+abbrev pub locators_in : Key → Members → Result (List Locator) ConfigFault
+locators_in k ms = on_ok (texts_at k ms) (each (λ text. of_form k (locator_in text)))
+
+abbrev pub path_in : Members → Result (List ℕ) ConfigFault
+path_in ms = on_ok (text_at key.Prefix ms) (λ text. of_form key.Prefix (prefix_in text))
+
+abbrev pub child_in : Members → Result Child ConfigFault
+child_in ms =
+    on_ok (path_in ms) λ prefix.
+    on_ok (role_in ms) λ role.
+    on_ok (locators_in key.Locators ms) λ locators.
+    Ok (record { prefix = prefix; role = role; locators = locators })
+
+abbrev pub site_in : Members → Result SiteEntry ConfigFault
+site_in ms =
+    on_ok (path_in ms) λ prefix.
+    on_ok (locators_in key.Etrs ms) λ etrs.
+    Ok (record { prefix = prefix; etrs = etrs })
+
+-- the tables under `child` of a DDT node, under `site` of a Map-Server; the other key is ignored
+abbrev pub content_in : Role → Members → Result Content ConfigFault
+content_in Node ms = on_ok (on_ok (tables_at key.Child ms) (each child_in)) (λ children. Ok (Children children))
+content_in Ms ms = on_ok (on_ok (tables_at key.Site ms) (each site_in)) (λ sites. Ok (Sites sites))
+
+abbrev pub authority_in : Role → Members → Result Authority ConfigFault
+authority_in role ms =
+    on_ok (path_in ms) λ prefix.
+    on_ok (content_in role ms) λ content.
+    Ok (record { prefix = prefix; content = content })
+
+-- what a configuration holds
+pub record Outline : Type 0 where
+  pub name : List ℕ
+  pub role : Role
+  pub locators : List Locator
+  pub authorities : List Authority
+
+abbrev pub outline : ServerConfig → Outline
+outline c = record { name = c.name; role = c.role; locators = c.locators; authorities = c.authorities }
+
+-- what the keys hold, whatever its shape
+abbrev pub outline_in : Members → Result Outline ConfigFault
+outline_in ms =
+    on_ok (name_in ms) λ name.
+    on_ok (role_in ms) λ role.
+    on_ok (locators_in key.Locators ms) λ locators.
+    on_ok (on_ok (tables_at key.Authority ms) (each (authority_in role))) λ authorities.
+    Ok (record { name = name; role = role; locators = locators; authorities = authorities })
+
+abbrev pub with_shape : Outline → Result Outline ConfigFault
+with_shape o = if is_shaped o.role o.locators o.authorities then Ok o else Err Shape
+
+-- the configuration that a table stands for, or the first fault
+abbrev pub config_in : Members → Result Outline ConfigFault
+config_in ms = on_ok (outline_in ms) with_shape
+
+-- the same of a text, as TOML reads it
+abbrev pub config_in_document : Option Members → Result Outline ConfigFault
+config_in_document None = Err Toml
+config_in_document (Some ms) = config_in ms
+
+abbrev pub config_in_text : List ℕ → Result Outline ConfigFault
+config_in_text text = config_in_document (parse_document text)
+
+-- the text stands for the configuration
+abbrev pub StandsFor : List ℕ → ServerConfig → Type 0
+StandsFor text c = config_in_text text ≡ Ok (outline c)

@@ -1,0 +1,69 @@
+//! Why a text is no configuration.
+
+use std::alloc::AllocFailed;
+use thiserror::Error;
+
+/// The keys of a configuration's tables.
+#[derive(Clone, Copy, Debug, PartialEq, Eq)]
+pub enum Key {
+    Name,
+    Kind,
+    Locators,
+    Authority,
+    Prefix,
+    Child,
+    Site,
+    Etrs,
+}
+
+impl Key {
+    ghost use Rattle.std.specs.Prelude.{◌≡◌};
+    ghost use Rattle.ddt_config.specs.Table.{key_text};
+
+    /// The word that stands in the text.
+    pub fn text(self) -> &'static str
+        ensures { result.now ≡ key_text self }
+    {
+        match self {
+            Key::Name => "name",
+            Key::Kind => "kind",
+            Key::Locators => "locators",
+            Key::Authority => "authority",
+            Key::Prefix => "prefix",
+            Key::Child => "child",
+            Key::Site => "site",
+            Key::Etrs => "etrs",
+        }
+    }
+}
+
+/// The first fault of a text.
+#[derive(Clone, Copy, Debug, PartialEq, Eq, Error)]
+pub enum ConfigFault {
+    /// It is no TOML.
+    #[error("1 Toml")]
+    Toml,
+    /// A key that must be there is missing, or a key holds a value of another kind.
+    #[error("2 Field")]
+    Field(Key),
+    /// The text of a key isn't of the form that the key asks for.
+    #[error("3 Value")]
+    Value(Key),
+    /// The tables are well formed, but no server has such a configuration.
+    #[error("4 Shape")]
+    Shape,
+    /// Memory was refused.
+    #[error("5 Memory")]
+    Memory,
+}
+
+impl<T: Drop> From<AllocFailed<T>> for ConfigFault {
+    ghost use Rattle.std.specs.Prelude.{◌≡◌};
+    ghost use Rattle.ddt_config.specs.declared.fault.ConfigFault.TheVariants.{Memory};
+
+    ghost from_gives = { λ _ fault. fault ≡ Memory };
+
+    fn from(_refused: AllocFailed<T>) -> ConfigFault {
+        ConfigFault::Memory
+    }
+}

@@ -1,0 +1,285 @@
+use super::*;
+use ddt_path::{Locator, LocatorSet, Name, Prefix, Role};
+use ddt_text::parse_prefix;
+use std::alloc::Global;
+use std::test::*;
+
+/// A Map-Server group with one authority and two sites, of which the second has no ETR.
+const EAST: &str = r#"name = "east"
+kind = "ms"
+locators = ["127.0.1.1", "127.0.1.2"]
+[[authority]]
+prefix = "[0]10.1.0.0/16"
+[[authority.site]]
+prefix = "[0]10.1.2.0/24"
+etrs = ["127.0.2.1"]
+[[authority.site]]
+prefix = "[0]10.1.4.0/24"
+etrs = []
+"#;
+
+/// A node group with two authorities, the first with a node and a Map-Server below it.
+const ROOT: &str = r#"name = "root"
+kind = "node"
+locators = ["127.0.0.1", "2001:db8::1"]
+[[authority]]
+prefix = "*"
+[[authority.child]]
+prefix = "[0]10.0.0.0/8"
+kind = "node"
+locators = ["127.0.0.10"]
+[[authority.child]]
+prefix = "[16/28]*"
+kind = "ms"
+locators = ["127.0.1.1", "127.0.1.2"]
+[[authority]]
+prefix = "[7]2001:db8::/32"
+"#;
+
+fn prefix(text: &str) -> Option<Prefix> {
+    parse_prefix(text.as_bytes()).ok()
+}
+
+fn set(locators: &[Locator]) -> Option<LocatorSet> {
+    LocatorSet::of(locators)
+}
+
+/// Whether a configuration is that of `EAST`.
+fn is_east(config: &ServerConfig) -> bool {
+    if Some(config.name) != Name::of(b"east") || config.role != Role::Ms {
+        return false;
+    }
+    if Some(config.locators) != set(&[Locator::V4(0x7f00_0101), Locator::V4(0x7f00_0102)]) {
+        return false;
+    }
+    let [authority] = config.authorities.as_slice() else {
+        return false;
+    };
+    let Content::Sites(sites) = &authority.content else {
+        return false;
+    };
+    let [first, second] = sites.as_slice() else {
+        return false;
+    };
+    Some(authority.prefix) == prefix("[0]10.1.0.0/16")
+        && Some(first.prefix) == prefix("[0]10.1.2.0/24")
+        && Some(first.etrs) == set(&[Locator::V4(0x7f00_0201)])
+        && Some(second.prefix) == prefix("[0]10.1.4.0/24")
+        && Some(second.etrs) == set(&[])
+}
+
+/// Whether a configuration is that of `ROOT`.
+fn is_root(config: &ServerConfig) -> bool {
+    if Some(config.name) != Name::of(b"root") || config.role != Role::Node {
+        return false;
+    }
+    let [all, other] = config.authorities.as_slice() else {
+        return false;
+    };
+    let (Content::Children(below), Content::Children(none)) = (&all.content, &other.content) else {
+        return false;
+    };
+    let [node, server] = below.as_slice() else {
+        return false;
+    };
+    none.as_slice().is_empty()
+        && Some(other.prefix) == prefix("[7]2001:db8::/32")
+        && Some(node.prefix) == prefix("[0]10.0.0.0/8")
+        && (node.role, server.role) == (Role::Node, Role::Ms)
+        && Some(node.locators) == set(&[Locator::V4(0x7f00_000a)])
+        && Some(server.prefix) == prefix("[16/28]*")
+        && server.locators.as_slice().len() == 2
+}
+
+/// The text with the first such line replaced.
+fn replaced(alloc: Global, text: &str, old: &str, new: &str) -> Result<String, Fail> {
+    let (before, after) = text.split_once(old).ok_or("no such line")?;
+    let mut changed = String::from_str(alloc, before)?;
+    changed.push_str(new)?;
+    changed.push_str(after)?;
+    Ok(changed)
+}
+
+fn fault(alloc: Global, text: &str) -> Option<ConfigFault> {
+    from_toml(alloc, text).err()
+}
+
+#[test]
+fn a_text_is_read(rt: HostRuntime) -> Result<(), Fail> {
+    let alloc = rt.alloc();
+    assert!(rt; is_east(&from_toml(alloc, EAST)?));
+    assert!(rt; is_root(&from_toml(alloc, ROOT)?));
+    Ok(())
+}
+
+#[test]
+fn what_was_written_is_read_back(rt: HostRuntime) -> Result<(), Fail> {
+    let alloc = rt.alloc();
+    let east = to_toml(alloc, &from_toml(alloc, EAST)?)?;
+    assert!(rt; is_east(&from_toml(alloc, east.as_str())?));
+    let root = to_toml(alloc, &from_toml(alloc, ROOT)?)?;
+    assert!(rt; is_root(&from_toml(alloc, root.as_str())?));
+    Ok(())
+}
+
+#[test]
+fn no_authority_is_the_empty_list_and_other_keys_are_ignored(rt: HostRuntime) -> Result<(), Fail> {
+    let alloc = rt.alloc();
+    let bare = from_toml(
+        alloc,
+        "name = \"a-1\"\nkind = \"node\"\nlocators = [\"::1\"]\ncolour = 7\n",
+    )?;
+    assert!(rt; bare.authorities.as_slice().is_empty());
+    assert_eq!(rt; bare.name.as_bytes(), b"a-1".as_slice());
+    let other = replaced(
+        alloc,
+        EAST,
+        "[[authority.site]]",
+        "child = 3\n[[authority.site]]",
+    )?;
+    assert!(rt; is_east(&from_toml(alloc, other.as_str())?));
+    Ok(())
+}
+
+#[test]
+fn the_first_fault_decides(rt: HostRuntime) -> Result<(), Fail> {
+    let alloc = rt.alloc();
+    for (old, new, wanted) in [
+        ("name = \"east\"", "name =", ConfigFault::Toml),
+        ("name = \"east\"", "", ConfigFault::Field(Key::Name)),
+        ("name = \"east\"", "name = 5", ConfigFault::Field(Key::Name)),
+        (
+            "name = \"east\"",
+            "name = \"East\"",
+            ConfigFault::Value(Key::Name),
+        ),
+        (
+            "kind = \"ms\"",
+            "kind = [\"ms\"]",
+            ConfigFault::Field(Key::Kind),
+        ),
+        (
+            "kind = \"ms\"",
+            "kind = \"root\"",
+            ConfigFault::Value(Key::Kind),
+        ),
+        (
+            "kind = \"ms\"",
+            "kind = \"MS\"",
+            ConfigFault::Value(Key::Kind),
+        ),
+        ("\"127.0.1.2\"]", "5]", ConfigFault::Field(Key::Locators)),
+        (
+            "[\"127.0.1.1\",",
+            "[\"here\", 5,",
+            ConfigFault::Field(Key::Locators),
+        ),
+        (
+            "\"127.0.1.2\"",
+            "\"127.0.1\"",
+            ConfigFault::Value(Key::Locators),
+        ),
+        (
+            "prefix = \"[0]10.1.0.0/16\"",
+            "",
+            ConfigFault::Field(Key::Prefix),
+        ),
+        (
+            "[0]10.1.0.0/16",
+            "[0]10.1.0.1/16",
+            ConfigFault::Value(Key::Prefix),
+        ),
+        ("etrs = []", "", ConfigFault::Field(Key::Etrs)),
+        ("etrs = []", "etrs = [\"\"]", ConfigFault::Value(Key::Etrs)),
+        (EAST, "name = 5\nkind = 5", ConfigFault::Field(Key::Name)),
+        (
+            EAST,
+            "name = \"a\"\nkind = \"ms\"\nlocators = []\nauthority = [5]",
+            ConfigFault::Field(Key::Authority),
+        ),
+    ] {
+        let text = replaced(alloc, EAST, old, new)?;
+        assert_eq!(rt; fault(alloc, text.as_str()), Some(wanted), "at {new}");
+    }
+    let text = replaced(
+        alloc,
+        ROOT,
+        "[[authority]]\nprefix = \"[7]",
+        "[[authority]]\nchild = \"x\"\nprefix = \"[7]",
+    )?;
+    assert_eq!(rt;
+        fault(alloc, text.as_str()),
+        Some(ConfigFault::Field(Key::Child))
+    );
+    let text = replaced(
+        alloc,
+        EAST,
+        "prefix = \"[0]10.1.0.0/16\"\n[[authority.site]]\nprefix = \"[0]10.1.2.0/24\"\netrs = [\"127.0.2.1\"]\n[[authority.site]]\nprefix = \"[0]10.1.4.0/24\"\netrs = []",
+        "prefix = \"*\"\nsite = 1",
+    )?;
+    assert_eq!(rt;
+        fault(alloc, text.as_str()),
+        Some(ConfigFault::Field(Key::Site))
+    );
+    Ok(())
+}
+
+#[test]
+fn each_condition_of_the_shape_is_tested(rt: HostRuntime) -> Result<(), Fail> {
+    let alloc = rt.alloc();
+    let nine =
+        "locators = [\"1.0.0.1\", \"1.0.0.2\", \"1.0.0.3\", \"1.0.0.4\", \"1.0.0.5\", \"1.0.0.6\", \"1.0.0.7\", \"1.0.0.8\", \"1.0.0.9\"]";
+    let etrs =
+        "etrs = [\"1.0.0.1\", \"1.0.0.1\", \"1.0.0.1\", \"1.0.0.1\", \"1.0.0.1\", \"1.0.0.1\", \"1.0.0.1\", \"1.0.0.1\", \"1.0.0.1\"]";
+    for (whole, old, new) in [
+        (
+            EAST,
+            "locators = [\"127.0.1.1\", \"127.0.1.2\"]",
+            "locators = []",
+        ),
+        (EAST, "locators = [\"127.0.1.1\", \"127.0.1.2\"]", nine),
+        (EAST, "127.0.1.2", "127.0.1.1"),
+        (EAST, "etrs = []", etrs),
+        (EAST, "[0]10.1.4.0/24", "[0]10.2.4.0/24"),
+        (EAST, "[0]10.1.4.0/24", "[0]10.1.2.128/25"),
+        (ROOT, "locators = [\"127.0.0.10\"]", "locators = []"),
+        (ROOT, "locators = [\"127.0.0.10\"]", nine),
+        (ROOT, "[7]2001:db8::/32", "*"),
+        (ROOT, "[0]10.0.0.0/8", "*"),
+        (ROOT, "[16/28]*", "[0/8]*"),
+    ] {
+        let text = replaced(alloc, whole, old, new)?;
+        assert_eq!(rt;
+            fault(alloc, text.as_str()),
+            Some(ConfigFault::Shape),
+            "at {new}"
+        );
+    }
+    let text = replaced(alloc, EAST, "[0]10.1.0.0/16", "[0]10.1.2.0/24")?;
+    let text = replaced(alloc, text.as_str(), "[0]10.1.4.0/24", "[0]10.1.2.0/24")?;
+    assert_eq!(rt; fault(alloc, text.as_str()), Some(ConfigFault::Shape));
+    let text = replaced(
+        alloc,
+        EAST,
+        "[[authority.site]]\nprefix = \"[0]10.1.4.0/24\"\netrs = []\n",
+        "",
+    )?;
+    let text = replaced(alloc, text.as_str(), "[0]10.1.0.0/16", "[0]10.1.2.0/24")?;
+    assert!(rt; from_toml(alloc, text.as_str()).is_ok());
+    Ok(())
+}
+
+#[test]
+fn a_fault_prints_its_number_and_its_name(rt: HostRuntime) -> Result<(), Fail> {
+    let alloc = rt.alloc();
+    for (fault, text) in [
+        (ConfigFault::Toml, "1 Toml"),
+        (ConfigFault::Field(Key::Kind), "2 Field"),
+        (ConfigFault::Value(Key::Etrs), "3 Value"),
+        (ConfigFault::Shape, "4 Shape"),
+        (ConfigFault::Memory, "5 Memory"),
+    ] {
+        assert_eq!(rt; format!(in alloc; "{fault}")?.as_str(), text);
+    }
+    Ok(())
+}

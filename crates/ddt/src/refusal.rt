@@ -33,6 +33,11 @@ pub enum Refusal<'a> {
 }
 
 impl From<AllocError> for Refusal<'_> {
+    ghost use Rattle.std.specs.Prelude.{◌≡◌};
+    ghost use Rattle.ddt.specs.declared.refusal.Refusal.TheVariants.{OutOfMemory};
+
+    ghost from_gives = { λ e r. r ≡ OutOfMemory };
+
     fn from(_error: AllocError) -> Self {
         Refusal::OutOfMemory
     }

@@ -1,3 +1,4 @@
+pub mod PlaceLemmas
 pub mod ShareLemmas
 pub mod SharedDigits
 pub mod PrefixLemmas

@@ -6,3 +6,5 @@ pub mod Covers
 pub mod Free
 pub mod Names
 pub mod Slots
+pub mod Locators
+pub mod Records

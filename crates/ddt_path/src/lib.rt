@@ -15,11 +15,13 @@ mod xeid;
 pub use form::{Form, PrefixFault};
 pub use holes::{a_hole_is_free, no_hole_under_a_key, one_hole_for_all_it_covers};
 pub use listed::Listed;
-pub use locator::Locator;
+pub use locator::{Locator, is_same_locator, lists};
 pub use locator_set::{LocatorSet, MOST_LOCATORS};
 pub use name::{LONGEST_NAME, Name};
 pub use prefix::Prefix;
-pub use record::{Action, Outcome, ReferralRecord, Role};
+pub use record::{
+    Action, HOLE_TTL, NOT_REGISTERED_TTL, Outcome, POSITIVE_TTL, ReferralRecord, Role,
+};
 pub use xeid::Xeid;
 
 #[cfg(test)]

@@ -1,6 +1,11 @@
 //! A locator, and the address part of an identifier: an IPv4 or an IPv6 address (an RLOC of RFC 9300, section 3).
 
-use crate::masks::{front32, front128, is_front32, is_front128, shared32, shared128};
+ghost use Rattle.std.specs.Prelude.{◌≡◌};
+ghost use Rattle.ddt_path.specs.Locators.{is_same_locator as is_same_locator_of, lists as lists_of};
+
+use crate::masks::{
+    digit32, digit128, front32, front128, is_front32, is_front128, shared32, shared128,
+};
 
 /// An IPv4 or IPv6 address as a number, most significant digit first.
 #[derive(Clone, Copy, Debug, PartialEq, Eq, PartialOrd, Ord, Hash)]
@@ -12,7 +17,7 @@ pub enum Locator {
 }
 
 impl Locator {
-    ghost use Rattle.std.specs.Prelude.{◌≡◌, ◌≤◌, ◌<◌, ◌-◌, ◌^◌, ◌++◌, take, drop, replicate};
+    ghost use Rattle.std.specs.Prelude.{◌≡◌, ◌≤◌, ◌<◌, ◌-◌, ◌^◌, ◌++◌, take, drop, replicate, length, slice_get, Some};
     ghost use Rattle.ddt_path.specs.Path.{address_width, address_number, address_digits, family, address_path, are_zero};
     ghost use Rattle.ddt_path.specs.Covers.{shared_len};
 
@@ -36,6 +41,19 @@ impl Locator {
             (Locator::V4(a), Locator::V4(b)) => 1 + shared32(a, b),
             (Locator::V6(a), Locator::V6(b)) => 1 + shared128(a, b),
             _ => 0,
+        }
+    }
+
+    /// The symbol of the address part of a path at a place: the family symbol, 4 or 6, at 0, and behind it the digits.
+    pub(crate) fn symbol(self, at: u8) -> u8
+        requires { at < length (address_path self) }
+        ensures { slice_get (address_path self) at ≡ Some result }
+    {
+        match self {
+            Locator::V4(_number) if at == 0 => 4,
+            Locator::V4(number) => digit32(number, at - 1),
+            Locator::V6(_number) if at == 0 => 6,
+            Locator::V6(number) => digit128(number, at - 1),
         }
     }
 
@@ -63,4 +81,22 @@ impl Locator {
             Locator::V6(a) => is_front128(a, len),
         }
     }
+}
+
+/// Whether two locators are one: of one family, with one address.
+pub fn is_same_locator(a: Locator, b: Locator) -> bool
+    ensures { result ≡ is_same_locator_of a b }
+{
+    match (a, b) {
+        (Locator::V4(a), Locator::V4(b)) => a == b,
+        (Locator::V6(a), Locator::V6(b)) => a == b,
+        _ => false,
+    }
+}
+
+/// Whether a locator is one of the list.
+pub fn lists(locators: &[Locator], l: Locator) -> bool
+    ensures { result ≡ lists_of locators.now l }
+{
+    locators.iter().any(|m| is_same_locator(*m, l))
 }

@@ -1,6 +1,6 @@
 //! The binary digits of numbers by masks, in constant time. The contracts speak of digits.
 
-ghost use Rattle.std.specs.Prelude.{◌≡◌, ◌-◌, ◌≤◌, ◌++◌, take, drop, replicate};
+ghost use Rattle.std.specs.Prelude.{◌≡◌, ◌-◌, ◌<◌, ◌≤◌, ◌++◌, take, drop, replicate, slice_get, Some};
 ghost use Rattle.ddt_path.specs.Path.{digits, are_zero};
 ghost use Rattle.ddt_path.specs.Covers.{shared_len};
 
@@ -40,6 +40,22 @@ pub fn front128(number: u128, len: u8) -> u128
         return 0;
     }
     number & (u128::MAX << (128 - len))
+}
+
+/// The digit of a number of 32 digits at a place, of which the first is 0.
+pub fn digit32(number: u32, at: u8) -> u8
+    requires { at < 32 }
+    ensures { slice_get (digits 32 number) at ≡ Some result }
+{
+    (number >> (31 - at) & 1) as u8
+}
+
+/// The digit of a number of 128 digits at a place, of which the first is 0.
+pub fn digit128(number: u128, at: u8) -> u8
+    requires { at < 128 }
+    ensures { slice_get (digits 128 number) at ≡ Some result }
+{
+    (number >> (127 - at) & 1) as u8
 }
 
 /// Whether each digit of a number of 32 digits past the first `len` is 0.

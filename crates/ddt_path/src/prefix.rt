@@ -1,7 +1,8 @@
 //! A prefix, seen by contracts as its path (RFC 8111, section 3: an XEID-prefix).
 
-ghost use Rattle.std.specs.Prelude.{◌≡◌, ◌≤◌, ◌==◌, IsTrue, List, ℕ, take, length};
-ghost use Rattle.std.specs.Cmp.Lexicographic.{pointwise, nat_list_eq_equiv};
+ghost use Rattle.std.specs.Prelude.{◌≡◌, ◌≤◌, ◌==◌, IsTrue, List, ℕ, take, length, slice_get, Some, refl};
+ghost use Rattle.std.specs.Cmp.Lexicographic.{pointwise, slice_cmp, nat_list_eq_equiv, nat_list_cmp_total, texts_ties, texts_po};
+ghost use Rattle.std.specs.Ordering.{nat_cmp};
 ghost use Rattle.std.specs.Cmp.{partial_equiv_from_equiv};
 ghost use Rattle.ddt_path.specs.Path.{path, xeid_path, prefix_of, is_path, is_prefix_path, IsForm, IsInRange};
 ghost use Rattle.ddt_path.specs.declared.xeid.Xeid.{Xeid as AnXeid};
@@ -11,6 +12,7 @@ use crate::form::{Form, PrefixFault};
 use crate::locator::Locator;
 use crate::masks::{front32, is_front32};
 use crate::xeid::Xeid;
+use std::cmp::Ordering;
 use std::marker::Model;
 
 /// The first digits of the paths of identifiers: everything, a range of instances, or a block of addresses in one
@@ -134,6 +136,26 @@ impl Prefix {
         }
     }
 
+    /// The digit at a place, of which the first is 0: the family symbol, 4 or 6, at 32, and a binary digit elsewhere.
+    /// None from its length on.
+    pub fn digit(self, at: u8) -> Option<u8>
+        ensures { result ≡ slice_get self at }
+    {
+        if at < self.len() {
+            Some(self.inner().digit(at))
+        } else {
+            None
+        }
+    }
+
+    /// The prefix of its first `len` digits, at most its length: it covers this one.
+    pub fn front(self, len: u8) -> Prefix
+        requires { len ≤ length self }
+        ensures { result ≡ take len self }
+    {
+        Prefix::cut(self.inner(), len)
+    }
+
     /// An identifier that the prefix covers, as any of instance 0 for everything.
     fn inner(self) -> Xeid
         ensures front { take (length self) (xeid_path result) ≡ self }
@@ -191,4 +213,30 @@ impl PartialEq for Prefix {
 
 impl Eq for Prefix {
     ghost laws = { nat_list_eq_equiv };
+}
+
+impl PartialOrd for Prefix {
+    ghost partial_cmp = { λ p q. Some (slice_cmp nat_cmp p q) };
+
+    ghost laws = { texts_po };
+
+    fn partial_cmp(&self, other: &Prefix) -> Option<Ordering> {
+        Some(self.cmp(other))
+    }
+}
+
+/// By the digits: a prefix stands before all that it covers, and what it covers stands together.
+impl Ord for Prefix {
+    ghost cmp = { slice_cmp nat_cmp };
+
+    ghost total = { nat_list_cmp_total };
+
+    ghost matches_partial_cmp = { λ p q. refl };
+
+    ghost matches_eq = { texts_ties };
+
+    fn cmp(&self, other: &Prefix) -> Ordering {
+        let shared = self.longest_common(*other).len();
+        self.digit(shared).cmp(&other.digit(shared))
+    }
 }

@@ -1,7 +1,7 @@
 //! An extended endpoint identifier (RFC 8111, section 3): an instance and an address of one family.
 
 use crate::locator::Locator;
-use crate::masks::shared32;
+use crate::masks::{digit32, shared32};
 
 /// An identifier: its path has 65 digits for IPv4 and 161 for IPv6.
 #[derive(Clone, Copy, Debug, PartialEq, Eq, PartialOrd, Ord, Hash)]
@@ -13,7 +13,7 @@ pub struct Xeid {
 }
 
 impl Xeid {
-    ghost use Rattle.std.specs.Prelude.{◌≡◌, ◌≤◌, length};
+    ghost use Rattle.std.specs.Prelude.{◌≡◌, ◌<◌, ◌≤◌, length, slice_get, Some};
     ghost use Rattle.ddt_path.specs.Path.{xeid_path};
     ghost use Rattle.ddt_path.specs.Covers.{shared_len};
 
@@ -22,6 +22,18 @@ impl Xeid {
         ensures { result ≡ length (xeid_path self) }
     {
         33 + self.address.width()
+    }
+
+    /// The digit of its path at a place, of which the first is 0.
+    pub(crate) fn digit(self, at: u8) -> u8
+        requires { at < length (xeid_path self) }
+        ensures { slice_get (xeid_path self) at ≡ Some result }
+    {
+        if at < 32 {
+            digit32(self.iid, at)
+        } else {
+            self.address.symbol(at - 32)
+        }
     }
 
     /// How many leading digits of the paths of two identifiers are the same.

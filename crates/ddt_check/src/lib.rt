@@ -17,7 +17,7 @@ pub use accepted::{Accepted, Counts};
 pub use assigning::assign;
 pub use checking::check;
 pub use fault::{Fault, Rule};
-pub use saying::{HOLE_TTL, NOT_REGISTERED_TTL, POSITIVE_TTL, says};
+pub use saying::says;
 
 #[cfg(test)]
 mod tests;

@@ -3,12 +3,13 @@
 ghost use Rattle.std.specs.Prelude.{◌≡◌, ◌&&◌, nat_lt, length};
 ghost use Rattle.ddt_path.specs.Covers.{covers as cover};
 ghost use Rattle.std.specs.Option.{option_copied};
+ghost use Rattle.ddt_path.specs.Locators.{lists as lists_of};
 ghost use Rattle.ddt_check.specs.Zones.{longer_so_far, shorter_so_far, longer_site_so_far, served_zones};
 ghost use Rattle.ddt_check.specs.Says.{next_zone as next_zone_of};
 ghost use Rattle.ddt_path.specs.Free.{longest_match};
-ghost use Rattle.ddt_check.specs.Zones.{is_ms as is_ms_of, is_same_role as is_same_role_of, is_same_locator as is_same_locator_of, is_same_name, lists as lists_of, zone_of as zone_of_path, site_of as site_of_path, group_named as group_of_name, locators_of as locators_of_name};
+ghost use Rattle.ddt_check.specs.Zones.{is_ms as is_ms_of, is_same_role as is_same_role_of, is_same_name, zone_of as zone_of_path, site_of as site_of_path, group_named as group_of_name, locators_of as locators_of_name};
 
-use ddt_path::{Locator, Name, Prefix, Role};
+use ddt_path::{Locator, Name, Prefix, Role, lists};
 use ddt_register::{Group, Register, Site, Zone};
 
 /// Whether a role is that of Map-Servers.
@@ -26,24 +27,6 @@ pub fn is_same_role(a: Role, b: Role) -> bool
     ensures { result ≡ is_same_role_of a b }
 {
     is_ms(a) == is_ms(b)
-}
-
-/// Whether two locators are one: of one family, with one address.
-pub fn is_same_locator(a: Locator, b: Locator) -> bool
-    ensures { result ≡ is_same_locator_of a b }
-{
-    match (a, b) {
-        (Locator::V4(a), Locator::V4(b)) => a == b,
-        (Locator::V6(a), Locator::V6(b)) => a == b,
-        _ => false,
-    }
-}
-
-/// Whether a locator is one of the list.
-pub fn lists(locators: &[Locator], l: Locator) -> bool
-    ensures { result ≡ lists_of locators.now l }
-{
-    locators.iter().any(|m| is_same_locator(*m, l))
 }
 
 /// The longest zone that covers a prefix; of equal ones the first.

@@ -3,8 +3,7 @@
 ghost use Rattle.std.specs.Prelude.{◌≡◌};
 ghost use Rattle.ddt_check.specs.Rules.{has_wrong_locators as has_wrong, has_repeat as has_repeat_of, share as share_of, is_duplicate_group as is_duplicate_of, earlier_group, first_group};
 
-use crate::lookup::lists;
-use ddt_path::{Locator, MOST_LOCATORS};
+use ddt_path::{Locator, MOST_LOCATORS, lists};
 use ddt_register::{Group, Register};
 
 /// Whether a locator stands twice.

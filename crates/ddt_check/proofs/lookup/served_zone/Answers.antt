@@ -1,5 +1,6 @@
 use Rattle.std.proofs.Common.{sym, ◌∙◌}
-use Rattle.ddt_check.specs.Zones.{lists, locators_of}
+use Rattle.ddt_path.specs.Locators.{lists}
+use Rattle.ddt_check.specs.Zones.{locators_of}
 use Rattle.ddt_register.specs.declared.zone.Zone.{Zone}
 use Rattle.ddt_check.proofs.MatchLemmas.{longest_of-fails}
 use Rattle.ddt_check.proofs.ZoneLemmas.{zone_prefix, longer_zone-passes}

@@ -1,7 +1,8 @@
 use Rattle.std.proofs.Common.{◌≡◌, drop}
 use Rattle.std.specs.List.{filter}
 use Rattle.ddt_path.specs.Free.{longest_match}
-use Rattle.ddt_check.specs.Zones.{lists, locators_of}
+use Rattle.ddt_path.specs.Locators.{lists}
+use Rattle.ddt_check.specs.Zones.{locators_of}
 use Rattle.ddt_register.specs.declared.zone.Zone.{Zone}
 use Rattle.ddt_check.proofs.MatchLemmas.{longest_of}
 use Rattle.ddt_check.proofs.ZoneLemmas.{zone_prefix}

@@ -3,3 +3,4 @@ pub mod Table
 pub mod Answer
 pub mod Reading
 pub mod Writing
+pub mod Entries

@@ -1,11 +1,11 @@
 -- The shape of a configuration: a server is in charge of some prefixes, and what it delegates or registers lies inside
 -- one of them, each identifier in one place at most (RFC 8111, section 4).
-use Rattle.std.specs.Prelude.{ℕ, Bool, true, false, ◌==◌, ◌&&◌, not, nat_le, List, [], ◌∷◌, length}
+use Rattle.std.specs.Prelude.{ℕ, Bool, true, false, ◌&&◌, not, nat_le, List, [], ◌∷◌, length}
 use Rattle.std.specs.List.{list_any, list_all}
 use Rattle.ddt_path.specs.declared.locator.Locator.{Locator}
-use Rattle.ddt_path.specs.declared.locator.Locator.TheVariants.{V4, V6}
 use Rattle.ddt_path.specs.declared.record.Role.{Role}
 use Rattle.ddt_path.specs.declared.record.Role.TheVariants.{Node, Ms}
+use Rattle.ddt_path.specs.Locators.{is_same_locator}
 use Rattle.ddt_path.specs.Covers.{covers, overlaps, is_same_path, is_strictly_below}
 use Rattle.ddt_config.specs.declared.config.Child.{Child}
 use Rattle.ddt_config.specs.declared.config.SiteEntry.{SiteEntry}
@@ -20,12 +20,6 @@ fits locators = nat_le (length locators) 8
 -- 1 to 8 of them
 abbrev pub is_server_set : List Locator → Bool
 is_server_set locators = nat_le 1 (length locators) && fits locators
-
-abbrev pub is_same_locator : Locator → Locator → Bool
-is_same_locator (V4 a) (V4 b) = a == b
-is_same_locator (V6 a) (V6 b) = a == b
-is_same_locator (V4 a) (V6 b) = false
-is_same_locator (V6 a) (V4 b) = false
 
 -- no item clashes with a later one
 abbrev pub no_two : {A : Type 0} → (A → A → Bool) → List A → Bool

@@ -3,10 +3,10 @@
 ghost use Rattle.std.specs.Prelude.{◌≡◌};
 ghost use Rattle.std.specs.List.{list_any, list_all};
 ghost use Rattle.ddt_path.specs.Covers.{is_same_path, overlaps as overlaps_of};
-ghost use Rattle.ddt_config.specs.Shaped.{is_shaped as is_shaped_of, is_server_set as is_server_set_of, is_same_locator as is_same_locator_of, are_distinct as are_distinct_of, have_own_prefixes as have_own_prefixes_of, are_apart as are_apart_of, is_child_of as is_child_of_path, is_site_of as is_site_of_path, is_content_of as is_content_of_role, is_authority_of as is_authority_of_role};
+ghost use Rattle.ddt_config.specs.Shaped.{is_shaped as is_shaped_of, is_server_set as is_server_set_of, are_distinct as are_distinct_of, have_own_prefixes as have_own_prefixes_of, are_apart as are_apart_of, is_child_of as is_child_of_path, is_site_of as is_site_of_path, is_content_of as is_content_of_role, is_authority_of as is_authority_of_role};
 
 use crate::config::{Authority, Child, Content, SiteEntry};
-use ddt_path::{Locator, LocatorSet, MOST_LOCATORS, Prefix, Role};
+use ddt_path::{Locator, LocatorSet, MOST_LOCATORS, Prefix, Role, lists};
 
 /// What has a prefix.
 trait Prefixed {
@@ -55,23 +55,6 @@ fn is_server_set(locators: &[Locator]) -> bool
     ensures { result ≡ is_server_set_of locators.now }
 {
     !locators.is_empty() && locators.len() <= MOST_LOCATORS
-}
-
-fn is_same_locator(a: Locator, b: Locator) -> bool
-    ensures { result ≡ is_same_locator_of a b }
-{
-    match (a, b) {
-        (Locator::V4(a), Locator::V4(b)) => a == b,
-        (Locator::V6(a), Locator::V6(b)) => a == b,
-        _ => false,
-    }
-}
-
-/// Whether a locator is one of the list.
-fn lists(locators: &[Locator], l: Locator) -> bool
-    ensures { result ≡ list_any (λ m. is_same_locator_of m l) locators.now }
-{
-    locators.iter().any(|m| is_same_locator(*m, l))
 }
 
 fn are_distinct(locators: &[Locator]) -> bool

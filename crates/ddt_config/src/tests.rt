@@ -141,113 +141,128 @@ fn no_authority_is_the_empty_list_and_other_keys_are_ignored(rt: HostRuntime) ->
     Ok(())
 }
 
+/// A part of the text of east, what stands in its place, and the fault.
+const FIRST_FAULTS: [(&str, &str, ConfigFault); 14] = [
+    ("name = \"east\"", "name =", ConfigFault::Toml),
+    ("name = \"east\"", "", ConfigFault::Field(Key::Name)),
+    ("name = \"east\"", "name = 5", ConfigFault::Field(Key::Name)),
+    (
+        "name = \"east\"",
+        "name = \"East\"",
+        ConfigFault::Value(Key::Name),
+    ),
+    (
+        "kind = \"ms\"",
+        "kind = [\"ms\"]",
+        ConfigFault::Field(Key::Kind),
+    ),
+    (
+        "kind = \"ms\"",
+        "kind = \"root\"",
+        ConfigFault::Value(Key::Kind),
+    ),
+    (
+        "kind = \"ms\"",
+        "kind = \"MS\"",
+        ConfigFault::Value(Key::Kind),
+    ),
+    ("\"127.0.1.2\"]", "5]", ConfigFault::Field(Key::Locators)),
+    (
+        "[\"127.0.1.1\",",
+        "[\"here\", 5,",
+        ConfigFault::Field(Key::Locators),
+    ),
+    (
+        "\"127.0.1.2\"",
+        "\"127.0.1\"",
+        ConfigFault::Value(Key::Locators),
+    ),
+    (
+        "prefix = \"[0]10.1.0.0/16\"",
+        "",
+        ConfigFault::Field(Key::Prefix),
+    ),
+    (
+        "[0]10.1.0.0/16",
+        "[0]10.1.0.1/16",
+        ConfigFault::Value(Key::Prefix),
+    ),
+    ("etrs = []", "", ConfigFault::Field(Key::Etrs)),
+    ("etrs = []", "etrs = [\"\"]", ConfigFault::Value(Key::Etrs)),
+];
+
 #[test]
 fn the_first_fault_decides(rt: HostRuntime) -> Result<(), Fail> {
     let alloc = rt.alloc();
-    for (old, new, wanted) in [
-        ("name = \"east\"", "name =", ConfigFault::Toml),
-        ("name = \"east\"", "", ConfigFault::Field(Key::Name)),
-        ("name = \"east\"", "name = 5", ConfigFault::Field(Key::Name)),
-        (
-            "name = \"east\"",
-            "name = \"East\"",
-            ConfigFault::Value(Key::Name),
-        ),
-        (
-            "kind = \"ms\"",
-            "kind = [\"ms\"]",
-            ConfigFault::Field(Key::Kind),
-        ),
-        (
-            "kind = \"ms\"",
-            "kind = \"root\"",
-            ConfigFault::Value(Key::Kind),
-        ),
-        (
-            "kind = \"ms\"",
-            "kind = \"MS\"",
-            ConfigFault::Value(Key::Kind),
-        ),
-        ("\"127.0.1.2\"]", "5]", ConfigFault::Field(Key::Locators)),
-        (
-            "[\"127.0.1.1\",",
-            "[\"here\", 5,",
-            ConfigFault::Field(Key::Locators),
-        ),
-        (
-            "\"127.0.1.2\"",
-            "\"127.0.1\"",
-            ConfigFault::Value(Key::Locators),
-        ),
-        (
-            "prefix = \"[0]10.1.0.0/16\"",
-            "",
-            ConfigFault::Field(Key::Prefix),
-        ),
-        (
-            "[0]10.1.0.0/16",
-            "[0]10.1.0.1/16",
-            ConfigFault::Value(Key::Prefix),
-        ),
-        ("etrs = []", "", ConfigFault::Field(Key::Etrs)),
-        ("etrs = []", "etrs = [\"\"]", ConfigFault::Value(Key::Etrs)),
-        (EAST, "name = 5\nkind = 5", ConfigFault::Field(Key::Name)),
-        (
-            EAST,
-            "name = \"a\"\nkind = \"ms\"\nlocators = []\nauthority = [5]",
-            ConfigFault::Field(Key::Authority),
-        ),
-    ] {
+    for (old, new, wanted) in FIRST_FAULTS {
         let text = replaced(alloc, EAST, old, new)?;
         assert_eq!(rt; fault(alloc, text.as_str()), Some(wanted), "at {new}");
     }
-    let text = replaced(
-        alloc,
-        ROOT,
-        "[[authority]]\nprefix = \"[7]",
-        "[[authority]]\nchild = \"x\"\nprefix = \"[7]",
-    )?;
-    assert_eq!(rt;
-        fault(alloc, text.as_str()),
-        Some(ConfigFault::Field(Key::Child))
-    );
-    let text = replaced(
-        alloc,
-        EAST,
-        "prefix = \"[0]10.1.0.0/16\"\n[[authority.site]]\nprefix = \"[0]10.1.2.0/24\"\netrs = [\"127.0.2.1\"]\n[[authority.site]]\nprefix = \"[0]10.1.4.0/24\"\netrs = []",
-        "prefix = \"*\"\nsite = 1",
-    )?;
-    assert_eq!(rt;
-        fault(alloc, text.as_str()),
-        Some(ConfigFault::Field(Key::Site))
-    );
     Ok(())
 }
+
+/// Whole texts with two faults, or with a list of another kind, and the fault that decides.
+const WHOLE_TEXTS: [(&str, ConfigFault); 5] = [
+    ("name = 5\nkind = 5", ConfigFault::Field(Key::Name)),
+    (
+        "name = \"A\"\nkind = \"root\"",
+        ConfigFault::Value(Key::Name),
+    ),
+    (
+        "name = \"a\"\nkind = \"ms\"\nlocators = []\nauthority = [5]",
+        ConfigFault::Field(Key::Authority),
+    ),
+    (
+        "name = \"a\"\nkind = \"node\"\nlocators = []\n[[authority]]\nprefix = \"*\"\nchild = \"x\"",
+        ConfigFault::Field(Key::Child),
+    ),
+    (
+        "name = \"a\"\nkind = \"ms\"\nlocators = []\n[[authority]]\nprefix = \"*\"\nsite = 1",
+        ConfigFault::Field(Key::Site),
+    ),
+];
+
+#[test]
+fn the_first_of_two_faults_decides(rt: HostRuntime) -> Result<(), Fail> {
+    for (text, wanted) in WHOLE_TEXTS {
+        assert_eq!(rt; fault(rt.alloc(), text), Some(wanted), "of {text}");
+    }
+    Ok(())
+}
+
+const NINE_LOCATORS: &str =
+    "locators = [\"1.0.0.1\", \"1.0.0.2\", \"1.0.0.3\", \"1.0.0.4\", \"1.0.0.5\", \"1.0.0.6\", \"1.0.0.7\", \"1.0.0.8\", \"1.0.0.9\"]";
+
+const NINE_ETRS: &str =
+    "etrs = [\"1.0.0.1\", \"1.0.0.1\", \"1.0.0.1\", \"1.0.0.1\", \"1.0.0.1\", \"1.0.0.1\", \"1.0.0.1\", \"1.0.0.1\", \"1.0.0.1\"]";
+
+/// A configuration, a part of its text, and what stands in its place, of which one condition of the shape is broken.
+const WRONG_SHAPES: [(&str, &str, &str); 11] = [
+    (
+        EAST,
+        "locators = [\"127.0.1.1\", \"127.0.1.2\"]",
+        "locators = []",
+    ),
+    (
+        EAST,
+        "locators = [\"127.0.1.1\", \"127.0.1.2\"]",
+        NINE_LOCATORS,
+    ),
+    (EAST, "127.0.1.2", "127.0.1.1"),
+    (EAST, "etrs = []", NINE_ETRS),
+    (EAST, "[0]10.1.4.0/24", "[0]10.2.4.0/24"),
+    (EAST, "[0]10.1.4.0/24", "[0]10.1.2.128/25"),
+    (ROOT, "locators = [\"127.0.0.10\"]", "locators = []"),
+    (ROOT, "locators = [\"127.0.0.10\"]", NINE_LOCATORS),
+    (ROOT, "[7]2001:db8::/32", "*"),
+    (ROOT, "[0]10.0.0.0/8", "*"),
+    (ROOT, "[16/28]*", "[0/8]*"),
+];
 
 #[test]
 fn each_condition_of_the_shape_is_tested(rt: HostRuntime) -> Result<(), Fail> {
     let alloc = rt.alloc();
-    let nine =
-        "locators = [\"1.0.0.1\", \"1.0.0.2\", \"1.0.0.3\", \"1.0.0.4\", \"1.0.0.5\", \"1.0.0.6\", \"1.0.0.7\", \"1.0.0.8\", \"1.0.0.9\"]";
-    let etrs =
-        "etrs = [\"1.0.0.1\", \"1.0.0.1\", \"1.0.0.1\", \"1.0.0.1\", \"1.0.0.1\", \"1.0.0.1\", \"1.0.0.1\", \"1.0.0.1\", \"1.0.0.1\"]";
-    for (whole, old, new) in [
-        (
-            EAST,
-            "locators = [\"127.0.1.1\", \"127.0.1.2\"]",
-            "locators = []",
-        ),
-        (EAST, "locators = [\"127.0.1.1\", \"127.0.1.2\"]", nine),
-        (EAST, "127.0.1.2", "127.0.1.1"),
-        (EAST, "etrs = []", etrs),
-        (EAST, "[0]10.1.4.0/24", "[0]10.2.4.0/24"),
-        (EAST, "[0]10.1.4.0/24", "[0]10.1.2.128/25"),
-        (ROOT, "locators = [\"127.0.0.10\"]", "locators = []"),
-        (ROOT, "locators = [\"127.0.0.10\"]", nine),
-        (ROOT, "[7]2001:db8::/32", "*"),
-        (ROOT, "[0]10.0.0.0/8", "*"),
-        (ROOT, "[16/28]*", "[0/8]*"),
-    ] {
+    for (whole, old, new) in WRONG_SHAPES {
         let text = replaced(alloc, whole, old, new)?;
         assert_eq!(rt;
             fault(alloc, text.as_str()),
@@ -255,17 +270,18 @@ fn each_condition_of_the_shape_is_tested(rt: HostRuntime) -> Result<(), Fail> {
             "at {new}"
         );
     }
+    Ok(())
+}
+
+#[test]
+fn a_site_may_equal_its_authority_and_no_other_site(rt: HostRuntime) -> Result<(), Fail> {
+    let alloc = rt.alloc();
     let text = replaced(alloc, EAST, "[0]10.1.0.0/16", "[0]10.1.2.0/24")?;
-    let text = replaced(alloc, text.as_str(), "[0]10.1.4.0/24", "[0]10.1.2.0/24")?;
-    assert_eq!(rt; fault(alloc, text.as_str()), Some(ConfigFault::Shape));
-    let text = replaced(
-        alloc,
-        EAST,
-        "[[authority.site]]\nprefix = \"[0]10.1.4.0/24\"\netrs = []\n",
-        "",
-    )?;
-    let text = replaced(alloc, text.as_str(), "[0]10.1.0.0/16", "[0]10.1.2.0/24")?;
-    assert!(rt; from_toml(alloc, text.as_str()).is_ok());
+    let twice = replaced(alloc, text.as_str(), "[0]10.1.4.0/24", "[0]10.1.2.0/24")?;
+    assert_eq!(rt; fault(alloc, twice.as_str()), Some(ConfigFault::Shape));
+    let other = "[[authority.site]]\nprefix = \"[0]10.1.4.0/24\"\netrs = []\n";
+    let once = replaced(alloc, text.as_str(), other, "")?;
+    assert!(rt; from_toml(alloc, once.as_str()).is_ok());
     Ok(())
 }
 

@@ -6,9 +6,9 @@ use Rattle.std.specs.Option.{option_map_or}
 use Rattle.std.specs.Cmp.Lexicographic.{pointwise}
 use Rattle.std.proofs.lemmas.Bool.{false≢true, true≢false, and_parts, or_parts, lt-ltb, ltb-false, eqb-true, eqb-false}
 use Rattle.ddt_path.specs.declared.locator.Locator.{Locator}
-use Rattle.ddt_path.specs.declared.locator.Locator.TheVariants.{V4, V6}
 use Rattle.ddt_path.specs.declared.record.Role.{Role}
 use Rattle.ddt_path.specs.declared.record.Role.TheVariants.{Node, Ms}
+use Rattle.ddt_path.specs.Locators.{lists}
 use Rattle.ddt_path.specs.Covers.{covers, overlaps, is_same_path, is_strictly_below}
 use Rattle.ddt_register.specs.declared.zone.Zone.{Zone}
 use Rattle.ddt_register.specs.declared.site.Site.{Site}
@@ -16,30 +16,35 @@ use Rattle.ddt_register.specs.declared.group.Group.{Group}
 use Rattle.ddt_register.specs.declared.register.Register.{Register}
 use Rattle.ddt_register.specs.Rows.{rise, zone_rows, site_rows, group_rows}
 use Rattle.ddt_check.specs.declared.fault.Rule.TheVariants as rules
-use Rattle.ddt_check.specs.Zones.{is_same_role, is_same_name, is_same_locator as is_same_in_register, lists, group_named, locators_of}
+use Rattle.ddt_check.specs.Zones.{is_same_role, is_same_name, group_named, locators_of}
 use Rattle.ddt_check.specs.Rules.{IsAccepted, is_duplicate_zone, is_overlapping_site, is_of_unknown_group, is_of_other_role, has_repeat, has_wrong_locators, has_too_many_etrs, is_duplicate_group}
 use Rattle.ddt_config.specs.declared.config.Authority.{Authority}
-use Rattle.ddt_config.specs.Shaped.{fits, is_server_set, is_same_locator, are_distinct, is_child_of, is_site_of, is_content_of, is_authority_of, is_shaped}
+use Rattle.ddt_config.specs.Shaped.{fits, is_server_set, are_distinct, is_child_of, is_site_of, is_content_of, is_authority_of, is_shaped}
 use Rattle.ddt_compile.specs.GroupConfig.{is_between, is_direct_child, child_of, is_site_in, entry_of, content_of, authority_of, is_served_by, authorities_of}
 use Rattle.ddt_compile.proofs.MemberLemmas.{IsIn, in_filter, fails_at, rule_kept, no_two_kept, all_kept, found_in, found_first}
 
-zones_rise : (r : Register) → rise 0 (zone_rows r.zones) ≡ true
+pub zones_rise : (r : Register) → rise 0 (zone_rows r.zones) ≡ true
 zones_rise r = (and_parts _ _ (and_parts _ _ r.rows).0).0
 
-sites_rise : (r : Register) → rise 0 (site_rows r.sites) ≡ true
+pub sites_rise : (r : Register) → rise 0 (site_rows r.sites) ≡ true
 sites_rise r = (and_parts _ _ (and_parts _ _ (and_parts _ _ r.rows).0).1).0
 
-groups_rise : (r : Register) → rise 0 (group_rows r.groups) ≡ true
+pub groups_rise : (r : Register) → rise 0 (group_rows r.groups) ≡ true
 groups_rise r = (and_parts _ _ (and_parts _ _ (and_parts _ _ r.rows).0).1).1
 
 -- a test of an earlier row fails
-earlier_fails : (m n : ℕ) (test : Bool) → m < n → (nat_lt m n && test) ≡ false → test ≡ false
+pub earlier_fails : (m n : ℕ) (test : Bool) → m < n → (nat_lt m n && test) ≡ false → test ≡ false
 earlier_fails m n test lt e = ap (λ (b : Bool). b && test) (sym (lt-ltb m n lt)) ∙ e
 
-own_prefix : (r : Register) → IsAccepted r → (a b : Zone) → IsIn a r.zones → IsIn b r.zones → a.row < b.row → is_same_path a.prefix b.prefix ≡ false
+pub own_prefix : (r : Register) → IsAccepted r → (a b : Zone) → IsIn a r.zones → IsIn b r.zones → a.row < b.row → is_same_path a.prefix b.prefix ≡ false
 own_prefix r accepted a b j k lt =
     let e = rule_kept (λ (z : Zone). z.row) (is_duplicate_zone r) r.zones (accepted rules.DuplicateZone) b k in
     earlier_fails a.row b.row _ lt (fails_at (λ (y : Zone). nat_lt y.row b.row && is_same_path y.prefix b.prefix) r.zones a e j)
+
+pub own_name : (r : Register) → IsAccepted r → (g h : Group) → IsIn g r.groups → IsIn h r.groups → g.row < h.row → is_same_name g.name h.name ≡ false
+own_name r accepted g h j k lt =
+    let e = rule_kept (λ (i : Group). i.row) (is_duplicate_group r) r.groups (accepted rules.DuplicateGroup) h k in
+    earlier_fails g.row h.row _ lt (fails_at (λ (i : Group). nat_lt i.row h.row && is_same_name i.name h.name) r.groups g e j)
 
 sites_apart : (r : Register) → IsAccepted r → (a b : Site) → IsIn a r.sites → IsIn b r.sites → a.row < b.row → overlaps a.prefix b.prefix ≡ false
 sites_apart r accepted a b j k lt =
@@ -50,21 +55,11 @@ pub few_etrs : (r : Register) → IsAccepted r → (s : Site) → IsIn s r.sites
 few_etrs r accepted s k = ltb-false 8 (length s.etrs) (rule_kept (λ (t : Site). t.row) has_too_many_etrs r.sites (accepted rules.TooManyEtrs) s k)
 
 -- locators
-same_test : {A : Type 0} (t u : A → Bool) → ((a : A) → t a ≡ u a) → (xs : List A) → list_any t xs ≡ list_any u xs
-same_test t u h [] = refl
-same_test t u h (x ∷ xs) = rw (h x, same_test t u h xs) refl
-
-one_test : (m l : Locator) → is_same_locator m l ≡ is_same_in_register m l
-one_test (V4 a) (V4 b) = refl
-one_test (V4 a) (V6 b) = refl
-one_test (V6 a) (V4 b) = refl
-one_test (V6 a) (V6 b) = refl
-
 distinct : (ls : List Locator) → has_repeat ls ≡ false → are_distinct ls ≡ true
 distinct [] e = refl
 distinct (l ∷ ls) e =
     let p = or_parts (lists ls l) (has_repeat ls) e in
-    rw (same_test (λ m. is_same_locator m l) (λ m. is_same_in_register m l) (λ m. one_test m l) ls, p.0, distinct ls p.1) refl
+    rw (p.0, distinct ls p.1) refl
 
 right_size : (n : ℕ) → (n == 0) ≡ false → nat_lt 8 n ≡ false → (nat_le 1 n && nat_le n 8) ≡ true
 right_size n e f =
@@ -88,19 +83,19 @@ child_set : (r : Register) → IsAccepted r → (c : Zone) → IsIn c r.zones �
 child_set r accepted c k = known r accepted c.group (group_named r c.group) refl (rule_kept (λ (z : Zone). z.row) (is_of_unknown_group r) r.zones (accepted rules.UnknownGroup) c k)
 
 -- the group of a zone
-same_name : (a b : List ℕ) → is_same_name a b ≡ true → a ≡ b
-same_name [] [] e = refl
-same_name [] (y ∷ b) e = absurd (false≢true e)
-same_name (x ∷ a) [] e = absurd (false≢true e)
-same_name (x ∷ a) (y ∷ b) e =
+pub same_digits : (a b : List ℕ) → is_same_name a b ≡ true → a ≡ b
+same_digits [] [] e = refl
+same_digits [] (y ∷ b) e = absurd (false≢true e)
+same_digits (x ∷ a) [] e = absurd (false≢true e)
+same_digits (x ∷ a) (y ∷ b) e =
     let p = and_parts (x == y) (pointwise ◌==◌ a b) e in
-    rw (eqb-true x y p.0, same_name a b p.1) refl
+    rw (eqb-true x y p.0, same_digits a b p.1) refl
 
-group_of_zone : (r : Register) → IsAccepted r → (g : Group) (z : Zone) → IsIn g r.groups → is_served_by g z ≡ true → group_named r z.group ≡ Some g
+pub group_of_zone : (r : Register) → IsAccepted r → (g : Group) (z : Zone) → IsIn g r.groups → is_served_by g z ≡ true → group_named r z.group ≡ Some g
 group_of_zone r accepted g z k served =
     let e = rule_kept (λ (h : Group). h.row) (is_duplicate_group r) r.groups (accepted rules.DuplicateGroup) g k in
     found_first (λ (h : Group). h.row) (λ (h : Group). is_same_name h.name z.group) r.groups 0 g (groups_rise r) k served
-    (λ h j lt. ap (is_same_name h.name) (sym (same_name g.name z.group served)) ∙ earlier_fails h.row g.row _ lt (fails_at (λ (y : Group). nat_lt y.row g.row && is_same_name y.name g.name) r.groups h e j))
+    (λ h j lt. ap (is_same_name h.name) (sym (same_digits g.name z.group served)) ∙ earlier_fails h.row g.row _ lt (fails_at (λ (y : Group). nat_lt y.row g.row && is_same_name y.name g.name) r.groups h e j))
 
 one_role : (a b : Role) → not (is_same_role a b) ≡ false → a ≡ b
 one_role Node Node e = refl
@@ -108,13 +103,13 @@ one_role Ms Ms e = refl
 one_role Node Ms e = absurd (true≢false e)
 one_role Ms Node e = absurd (true≢false e)
 
-role_of_zone : (r : Register) → IsAccepted r → (g : Group) (z : Zone) → IsIn g r.groups → IsIn z r.zones → is_served_by g z ≡ true → g.kind ≡ z.kind
+pub role_of_zone : (r : Register) → IsAccepted r → (g : Group) (z : Zone) → IsIn g r.groups → IsIn z r.zones → is_served_by g z ≡ true → g.kind ≡ z.kind
 role_of_zone r accepted g z j k served =
     let e = rule_kept (λ (y : Zone). y.row) (is_of_other_role r) r.zones (accepted rules.Role) z k in
     one_role g.kind z.kind (rw (group_of_zone r accepted g z j served) at e)
 
 -- two direct children of a zone
-one_path : (p q : List ℕ) → covers p q ≡ true → covers q p ≡ true → is_same_path p q ≡ true
+pub one_path : (p q : List ℕ) → covers p q ≡ true → covers q p ≡ true → is_same_path p q ≡ true
 one_path [] [] e f = refl
 one_path [] (y ∷ q) e f = absurd (false≢true f)
 one_path (x ∷ p) [] e f = absurd (false≢true e)
@@ -186,3 +181,7 @@ group_shaped r accepted g k =
 -- a shaped configuration has at most 8 locators
 pub shaped_few : (role : Role) (ls : List Locator) (zs : List Authority) → is_shaped role ls zs ≡ true → length ls ≤ 8
 shaped_few role ls zs e = leb-true (length ls) 8 (and_parts (nat_le 1 (length ls)) (fits ls) (and_parts (is_server_set ls) (are_distinct ls) (and_parts (is_server_set ls && are_distinct ls) _ e).0).0).1
+
+-- so has a group of an accepted register
+pub few_servers : (r : Register) → IsAccepted r → (g : Group) → IsIn g r.groups → length g.locators ≤ 8
+few_servers r accepted g k = shaped_few g.kind g.locators (authorities_of r g) (group_shaped r accepted g k)

@@ -1,1 +1,4 @@
 pub mod GroupConfig
+pub mod Laws
+pub mod Lists
+pub mod Nearest

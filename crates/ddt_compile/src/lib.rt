@@ -1,9 +1,18 @@
 //! The compiler: from an accepted register to one configuration for each server group.
+//!
+//! In reading order: `compiling`, `children`, `sites`, `nearest`, `lists`, `locators`, `laws`.
 #![tactic(auto)]
 
+mod children;
 mod compiling;
+mod laws;
+mod lists;
+mod locators;
+mod nearest;
+mod sites;
 
 pub use compiling::compile;
+pub use laws::a_compiled_configuration_answers_honestly;
 
 #[cfg(test)]
 mod tests;

@@ -52,6 +52,49 @@ kind = "node"
 locators = ["127.0.0.10"]
 "#;
 
+/// Rows in no order: each zone before the one above it, and a site before its zone.
+const SCATTERED: &str = "kind,prefix,group,addresses
+ms,[0]10.1.0.0/16,east,
+site,[0]10.2.0.0/16,,
+node,[0]10.0.0.0/8,ten,
+site,[0]10.1.2.0/24,,127.0.2.1
+node,*,root,
+ms,[0]10.2.0.0/16,east,
+group-ms,,east,127.0.1.1
+group-node,,ten,127.0.0.10
+group-node,,root,127.0.0.1
+";
+
+const SCATTERED_EAST: &str = r#"name = "east"
+kind = "ms"
+locators = ["127.0.1.1"]
+[[authority]]
+prefix = "[0]10.1.0.0/16"
+[[authority.site]]
+prefix = "[0]10.1.2.0/24"
+etrs = ["127.0.2.1"]
+[[authority]]
+prefix = "[0]10.2.0.0/16"
+[[authority.site]]
+prefix = "[0]10.2.0.0/16"
+etrs = []
+"#;
+
+const SCATTERED_TEN: &str = r#"name = "ten"
+kind = "node"
+locators = ["127.0.0.10"]
+[[authority]]
+prefix = "[0]10.0.0.0/8"
+[[authority.child]]
+prefix = "[0]10.1.0.0/16"
+kind = "ms"
+locators = ["127.0.1.1"]
+[[authority.child]]
+prefix = "[0]10.2.0.0/16"
+kind = "ms"
+locators = ["127.0.1.1"]
+"#;
+
 fn compiled(alloc: Global, text: &str) -> Result<Listed<ServerConfig>, Fail> {
     let Ok(register) = read_register(alloc, text.as_bytes()) else {
         return Err("no register".into());
@@ -78,5 +121,18 @@ fn each_group_of_the_campus_is_compiled(rt: HostRuntime) -> Result<(), Fail> {
     assert!(rt; is_that_of(alloc, root, ROOT)?);
     assert!(rt; is_that_of(alloc, ten, TEN)?);
     assert!(rt; is_that_of(alloc, east, EAST)?);
+    Ok(())
+}
+
+#[test]
+fn a_zone_and_a_site_may_stand_before_the_zone_above(rt: HostRuntime) -> Result<(), Fail> {
+    let alloc = rt.alloc();
+    let configs = compiled(alloc, SCATTERED)?;
+    let [east, ten, root] = configs.as_slice() else {
+        return Err("three groups".into());
+    };
+    assert!(rt; is_that_of(alloc, east, SCATTERED_EAST)?);
+    assert!(rt; is_that_of(alloc, ten, SCATTERED_TEN)?);
+    assert!(rt; is_that_of(alloc, root, ROOT)?);
     Ok(())
 }

@@ -1,0 +1,121 @@
+-- A compiled configuration answers what the register says: at a zone of DDT nodes, at one of Map-Servers, at a locator.
+use Rattle.std.proofs.Common.{◌≡◌, ℕ, true, List, [], length, map, Option, Some, None, refl, sym, ap, ◌∙◌}
+use Rattle.std.specs.Prelude.{unwrap_or}
+use Rattle.std.specs.List.{filter, All}
+use Rattle.std.specs.Option.{option_map, option_map_or}
+use Rattle.std.proofs.lemmas.Simd.{map-map}
+use Rattle.ddt_path.specs.declared.locator.Locator.{Locator}
+use Rattle.ddt_path.specs.declared.record.Role.{Role}
+use Rattle.ddt_path.specs.declared.record.Role.TheVariants.{Node, Ms}
+use Rattle.ddt_path.specs.declared.record.Outcome.{Outcome}
+use Rattle.ddt_path.specs.declared.record.Outcome.TheVariants.{Hole}
+use Rattle.ddt_path.specs.Covers.{covers}
+use Rattle.ddt_path.specs.Records.{record_of, not_authoritative}
+use Rattle.ddt_path.specs.Free.{longest_match}
+use Rattle.ddt_path.specs.Locators.{lists}
+use Rattle.ddt_path.proofs.HoleLemmas.{free_agree}
+use Rattle.ddt_register.specs.declared.zone.Zone.{Zone}
+use Rattle.ddt_register.specs.declared.site.Site.{Site}
+use Rattle.ddt_register.specs.declared.group.Group.{Group}
+use Rattle.ddt_register.specs.declared.register.Register.{Register}
+use Rattle.ddt_check.specs.Zones.{site_of, locators_of}
+use Rattle.ddt_check.specs.Assignment.{assignment, assigned_in, assigned_site, hole_of, prefixes_below, prefixes_within}
+use Rattle.ddt_check.specs.Says.{next_zone, says, says_from, referral_to as referral_to_zone}
+use Rattle.ddt_check.specs.Rules.{IsAccepted}
+use Rattle.ddt_check.proofs.ZoneLemmas.{zone_prefix}
+use Rattle.ddt_config.specs.declared.config.Authority.{Authority}
+use Rattle.ddt_config.specs.declared.config.Content.TheVariants.{Children, Sites}
+use Rattle.ddt_config.specs.declared.config.Child.{Child}
+use Rattle.ddt_config.specs.declared.config.SiteEntry.{SiteEntry}
+use Rattle.ddt_config.specs.declared.config.ServerConfig.{ServerConfig}
+use Rattle.ddt_config.specs.Table.{outline}
+use Rattle.ddt_config.specs.Answer.{answer, answer_in, referral_to, site_outcome, hole_in}
+use Rattle.ddt_compile.specs.GroupConfig.{is_direct_child, child_of, children_of, is_site_in, entry_of, sites_of, content_of, authority_of, is_served_by, group_config}
+use Rattle.ddt_compile.specs.Laws.{IsHonestConfig}
+use Rattle.ddt_compile.proofs.MemberLemmas.{IsIn, in_filter, all_made}
+use Rattle.ddt_compile.proofs.ChosenLemmas.{longest_member, longest_match-map}
+use Rattle.ddt_compile.proofs.ServedLemmas.{locators_of_zone, group_serves}
+use Rattle.ddt_compile.proofs.NextLemmas.{zone_is}
+use Rattle.ddt_compile.proofs.ChildLemmas.{longest_child, same_free}
+use Rattle.ddt_compile.proofs.SiteLemmas.{no_next_zone, longest_site}
+
+-- the assignment where a zone has no next zone
+assigned_here : (r : Register) → IsAccepted r → (p : Zone) (x : List ℕ) → IsIn p r.zones → covers p.prefix x ≡ true → next_zone r (length p.prefix) x ≡ None → assignment r x ≡ assigned_in r p p.kind x
+assigned_here r accepted p x j c e = ap (λ (z : Option Zone). option_map_or (λ (w : Zone). assigned_in r w w.kind x) z (Hole [])) (zone_is r accepted p x j c e)
+
+-- ---- a zone of DDT nodes
+
+abbrev child_prefix : Child → List ℕ
+child_prefix c = c.prefix
+
+same_hole : (r : Register) (p : Zone) (x : List ℕ) → hole_in p.prefix (map child_prefix (children_of r p)) x ≡ Hole (hole_of p.prefix (prefixes_below r p) x)
+same_hole r p x =
+    ap (λ (ps : List (List ℕ)). hole_in p.prefix ps x) (map-map child_prefix (child_of r) (filter (is_direct_child r p) r.zones))
+    ∙ ap (λ (hole : Option (List ℕ)). Hole (unwrap_or hole x)) (free_agree p.prefix (map zone_prefix (filter (is_direct_child r p) r.zones)) (prefixes_below r p) x (same_free r p))
+
+found_child : (r : Register) → IsAccepted r → (p : Zone) (x : List ℕ) → covers p.prefix x ≡ true → longest_match child_prefix (children_of r p) x ≡ option_map (child_of r) (next_zone r (length p.prefix) x)
+found_child r accepted p x c = longest_match-map (child_of r) child_prefix (filter (is_direct_child r p) r.zones) x ∙ ap (option_map (child_of r)) (longest_child r accepted p x c)
+
+node_answers : (r : Register) → IsAccepted r → (servers : List Locator) (p : Zone) (x : List ℕ) → IsIn p r.zones → p.kind ≡ Node → covers p.prefix x ≡ true → answer_in servers p.prefix (Children (children_of r p)) x ≡ says_from r p x
+node_answers r accepted servers p x j node c =
+    ap (λ (o : Option Child). option_map_or referral_to o (record_of (hole_in p.prefix (map child_prefix (children_of r p)) x))) (found_child r accepted p x c)
+    ∙ go (next_zone r (length p.prefix) x) refl
+  where
+    go : (found : Option Zone) → next_zone r (length p.prefix) x ≡ found
+        → option_map_or referral_to (option_map (child_of r) found) (record_of (hole_in p.prefix (map child_prefix (children_of r p)) x)) ≡ option_map_or (referral_to_zone r) found (record_of (assignment r x))
+    go (Some z) e = refl
+    go None e =
+        ap record_of (same_hole r p x ∙ sym (assigned_here r accepted p x j c e ∙ ap (λ (role : Role). assigned_in r p role x) node))
+
+-- ---- a zone of Map-Servers
+
+abbrev entry_prefix : SiteEntry → List ℕ
+entry_prefix s = s.prefix
+
+found_site : (r : Register) → IsAccepted r → (p : Zone) (x : List ℕ) → IsIn p r.zones → covers p.prefix x ≡ true → longest_match entry_prefix (sites_of r p) x ≡ option_map entry_of (site_of r x)
+found_site r accepted p x j c = longest_match-map entry_of entry_prefix (filter (is_site_in p) r.sites) x ∙ ap (option_map entry_of) (longest_site r accepted p x j c)
+
+site_outcomes : (r : Register) (servers : List Locator) (p : Zone) (hole : Outcome) (found : Option Site) → locators_of r p.group ≡ servers → option_map_or (site_outcome servers) (option_map entry_of found) hole ≡ option_map_or (assigned_site r p) found hole
+site_outcomes r servers p hole None e = refl
+site_outcomes r servers p hole (Some s) e = ap (λ (ls : List Locator). site_outcome ls (entry_of s)) (sym e)
+
+site_answers : (r : Register) → IsAccepted r → (servers : List Locator) (p : Zone) (x : List ℕ) → IsIn p r.zones → p.kind ≡ Ms → covers p.prefix x ≡ true → locators_of r p.group ≡ servers → answer_in servers p.prefix (Sites (sites_of r p)) x ≡ says_from r p x
+site_answers r accepted servers p x j ms c here =
+    let next = no_next_zone r accepted p x j ms c in
+    let hole = Hole (hole_of p.prefix (prefixes_within r p) x) in
+    let same : hole_in p.prefix (map entry_prefix (sites_of r p)) x ≡ hole = ap (λ (ps : List (List ℕ)). hole_in p.prefix ps x) (map-map entry_prefix entry_of (filter (is_site_in p) r.sites)) in
+    ap (λ (o : Option SiteEntry). record_of (option_map_or (site_outcome servers) o (hole_in p.prefix (map entry_prefix (sites_of r p)) x))) (found_site r accepted p x j c)
+    ∙ ap (λ (o : Outcome). record_of (option_map_or (site_outcome servers) (option_map entry_of (site_of r x)) o)) same
+    ∙ ap record_of (site_outcomes r servers p hole (site_of r x) here ∙ sym (assigned_here r accepted p x j c next ∙ ap (λ (role : Role). assigned_in r p role x) ms))
+    ∙ ap (λ (o : Option Zone). option_map_or (referral_to_zone r) o (record_of (assignment r x))) (sym next)
+
+-- ---- the whole
+
+abbrev authority_prefix : Authority → List ℕ
+authority_prefix a = a.prefix
+
+zone_answers : (r : Register) → IsAccepted r → (servers : List Locator) (p : Zone) (x : List ℕ) → IsIn p r.zones → covers p.prefix x ≡ true → locators_of r p.group ≡ servers → answer_in servers p.prefix (content_of r p p.kind) x ≡ says_from r p x
+zone_answers r accepted servers p x j c here = go p.kind refl
+  where
+    go : (role : Role) → p.kind ≡ role → answer_in servers p.prefix (content_of r p role) x ≡ says_from r p x
+    go Node e = node_answers r accepted servers p x j e c
+    go Ms e = site_answers r accepted servers p x j e c here
+
+pub honest_at : (r : Register) → IsAccepted r → (g : Group) (l : Locator) (x : List ℕ) → IsIn g r.groups → lists g.locators l ≡ true → answer (group_config r g) x ≡ says r l x
+honest_at r accepted g l x k here =
+    let zones = filter (is_served_by g) r.zones in
+    ap (λ (o : Option Authority). option_map_or (λ (a : Authority). answer_in g.locators a.prefix a.content x) o (not_authoritative x)) (longest_match-map (authority_of r) authority_prefix zones x)
+    ∙ go (longest_match zone_prefix zones x) refl
+    ∙ ap (λ (served : List Zone). option_map_or (λ (z : Zone). says_from r z x) (longest_match zone_prefix served x) (not_authoritative x)) (sym (group_serves r accepted g l k here))
+  where
+    go : (found : Option Zone) → longest_match zone_prefix (filter (is_served_by g) r.zones) x ≡ found
+        → option_map_or (λ (a : Authority). answer_in g.locators a.prefix a.content x) (option_map (authority_of r) found) (not_authoritative x) ≡ option_map_or (λ (z : Zone). says_from r z x) found (not_authoritative x)
+    go None e = refl
+    go (Some p) e =
+        let m = longest_member zone_prefix x (filter (is_served_by g) r.zones) p e in
+        let q = in_filter (is_served_by g) r.zones p m.0 in
+        zone_answers r accepted g.locators p x q.0 m.1 (locators_of_zone r accepted g p k q.1)
+
+-- the same of a list of configurations, one for each group
+pub honest_configs : (r : Register) → IsAccepted r → (configs : List ServerConfig) → map outline configs ≡ map (group_config r) r.groups → All (λ (c : ServerConfig). IsHonestConfig r (outline c)) configs
+honest_configs r accepted configs e = all_made (IsHonestConfig r) outline (group_config r) configs r.groups (λ g k l x here. honest_at r accepted g l x k here) e

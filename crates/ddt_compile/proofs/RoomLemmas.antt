@@ -1,0 +1,96 @@
+-- A compiled configuration has room: a register has at most 65,535 zones and as many sites; each zone is a direct child
+-- of one zone, and each site lies in one zone of Map-Servers.
+use Rattle.std.proofs.Common.{◌≡◌, ◌≤◌, true, List, length, map, refl, sym, ap, ◌∙◌, arith, inl, inr}
+use Rattle.std.specs.List.{filter, sum_by, All}
+use Rattle.std.proofs.lemmas.Bool.{cases_lt, both_ways, and_from}
+use Rattle.std.proofs.lemmas.List.{length-map}
+use Rattle.ddt_path.specs.declared.record.Role.{Role}
+use Rattle.ddt_path.specs.declared.record.Role.TheVariants.{Node, Ms}
+use Rattle.ddt_path.specs.Covers.{is_strictly_below}
+use Rattle.ddt_register.specs.declared.zone.Zone.{Zone}
+use Rattle.ddt_register.specs.declared.site.Site.{Site}
+use Rattle.ddt_register.specs.declared.group.Group.{Group}
+use Rattle.ddt_register.specs.declared.register.Register.{Register}
+use Rattle.ddt_check.specs.Rules.{IsAccepted}
+use Rattle.ddt_config.specs.declared.config.Child.{Child}
+use Rattle.ddt_config.specs.declared.config.SiteEntry.{SiteEntry}
+use Rattle.ddt_config.specs.declared.config.ServerConfig.{ServerConfig}
+use Rattle.ddt_config.specs.Table.{outline}
+use Rattle.ddt_config.specs.Entries.{prefixes_in, count_in}
+use Rattle.ddt_compile.specs.GroupConfig.{is_between, is_direct_child, child_of, children_of, is_site_in, entry_of, sites_of, content_of, authority_of, is_served_by, group_config}
+use Rattle.ddt_compile.specs.Laws.{HasRoom}
+use Rattle.ddt_compile.proofs.MemberLemmas.{IsIn, in_filter, fails_at, rise-filter, all_made}
+use Rattle.ddt_compile.proofs.ShapedLemmas.{zones_rise, sites_rise, role_of_zone}
+use Rattle.ddt_compile.proofs.FrontLemmas.{one_front, front_below, below_parts}
+use Rattle.ddt_compile.proofs.ServedLemmas.{one_zone}
+use Rattle.ddt_compile.proofs.ChildLemmas.{child_parts}
+use Rattle.ddt_compile.proofs.SiteLemmas.{no_longer_zone}
+use Rattle.ddt_compile.proofs.CountLemmas.{few_rows, filter_few, sum_made, kept_in_all}
+
+-- a zone has one parent: of two zones above it the longer would stand between
+no_longer_parent : (r : Register) (a b c : Zone) → IsIn b r.zones → is_direct_child r a c ≡ true → is_direct_child r b c ≡ true → length b.prefix ≤ length a.prefix
+no_longer_parent r a b c k da db =
+    let s = child_parts r a c da in
+    let t = child_parts r b c db in
+    elim (cases_lt (length a.prefix) (length b.prefix)) [
+      | inl lt ↦ absurd (both_ways (is_between a c b) (fails_at (is_between a c) r.zones b s.1 k)
+          (and_from (is_strictly_below b.prefix a.prefix) (is_strictly_below c.prefix b.prefix)
+          (front_below a.prefix b.prefix c.prefix (below_parts c.prefix a.prefix s.0).0 (below_parts c.prefix b.prefix t.0).0 lt) t.0))
+      | inr le ↦ le
+    ]
+
+one_parent : (r : Register) → IsAccepted r → (a b c : Zone) → IsIn a r.zones → IsIn b r.zones → is_direct_child r a c ≡ true → is_direct_child r b c ≡ true → a ≡ b
+one_parent r accepted a b c j k da db =
+    let up = no_longer_parent r b a c j db da in
+    let down = no_longer_parent r a b c k da db in
+    one_zone r accepted a b j k (one_front a.prefix b.prefix c.prefix
+    (below_parts c.prefix a.prefix (child_parts r a c da).0).0 (below_parts c.prefix b.prefix (child_parts r b c db).0).0 (omega arith))
+
+-- a site has one zone of Map-Servers
+one_zone_of_site : (r : Register) → IsAccepted r → (a b : Zone) (s : Site) → IsIn a r.zones → IsIn b r.zones → a.kind ≡ Ms → b.kind ≡ Ms → is_site_in a s ≡ true → is_site_in b s ≡ true → a ≡ b
+one_zone_of_site r accepted a b s j k ma mb c d =
+    let up = no_longer_zone r accepted b a s.prefix k mb d j c in
+    let down = no_longer_zone r accepted a b s.prefix j ma c k d in
+    one_zone r accepted a b j k (one_front a.prefix b.prefix s.prefix c d (omega arith))
+
+-- what the authorities of a group hold
+child_count : (r : Register) (z : Zone) → length (prefixes_in (content_of r z Node)) ≡ length (filter (is_direct_child r z) r.zones)
+child_count r z = length-map (children_of r z) (λ (c : Child). c.prefix) ∙ length-map (filter (is_direct_child r z) r.zones) (child_of r)
+
+site_count : (r : Register) (z : Zone) → length (prefixes_in (content_of r z Ms)) ≡ length (filter (is_site_in z) r.sites)
+site_count r z = length-map (sites_of r z) (λ (s : SiteEntry). s.prefix) ∙ length-map (filter (is_site_in z) r.sites) entry_of
+
+module _ (r : Register) (accepted : IsAccepted r) (g : Group) (k : IsIn g r.groups) where
+  served_parts : (z : Zone) → IsIn z (filter (is_served_by g) r.zones) → IsIn z r.zones × (z.kind ≡ g.kind)
+  served_parts z j = let p = in_filter (is_served_by g) r.zones z j in (p.0, sym (role_of_zone r accepted g z k p.0 p.1))
+
+  held : (role : Role) → g.kind ≡ role → sum_by count_in (map (authority_of r) (filter (is_served_by g) r.zones)) ≤ 65535
+  held Node e =
+      let zones = filter (is_served_by g) r.zones in
+      let same = sum_made count_in (authority_of r) (λ (z : Zone). length (filter (is_direct_child r z) r.zones)) zones
+      (λ z j. ap (λ (role : Role). length (prefixes_in (content_of r z role))) ((served_parts z j).1 ∙ e) ∙ child_count r z) in
+      let le = kept_in_all (λ (z : Zone). z.row) (is_direct_child r) r.zones zones 0 (rise-filter (λ (z : Zone). z.row) (is_served_by g) r.zones 0 (zones_rise r))
+      (λ a b c i j h. one_parent r accepted a b c (served_parts a i).0 (served_parts b j).0) in
+      let few = few_rows (λ (z : Zone). z.row) r.zones (zones_rise r) in
+      omega arith
+  held Ms e =
+      let zones = filter (is_served_by g) r.zones in
+      let same = sum_made count_in (authority_of r) (λ (z : Zone). length (filter (is_site_in z) r.sites)) zones
+      (λ z j. ap (λ (role : Role). length (prefixes_in (content_of r z role))) ((served_parts z j).1 ∙ e) ∙ site_count r z) in
+      let le = kept_in_all (λ (z : Zone). z.row) is_site_in r.sites zones 0 (rise-filter (λ (z : Zone). z.row) (is_served_by g) r.zones 0 (zones_rise r))
+      (λ a b s i j h. one_zone_of_site r accepted a b s (served_parts a i).0 (served_parts b j).0 ((served_parts a i).1 ∙ e) ((served_parts b j).1 ∙ e)) in
+      let few = few_rows (λ (s : Site). s.row) r.sites (sites_rise r) in
+      omega arith
+
+  pub group_has_room : HasRoom (group_config r g)
+  group_has_room =
+      let zones = filter (is_served_by g) r.zones in
+      let count = length-map zones (authority_of r) in
+      let kept = filter_few (is_served_by g) r.zones in
+      let few = few_rows (λ (z : Zone). z.row) r.zones (zones_rise r) in
+      let rest = held g.kind refl in
+      omega arith
+
+-- the same of a list of configurations, one for each group
+pub configs_have_room : (r : Register) → IsAccepted r → (configs : List ServerConfig) → map outline configs ≡ map (group_config r) r.groups → All (λ (c : ServerConfig). HasRoom (outline c)) configs
+configs_have_room r accepted configs e = all_made HasRoom outline (group_config r) configs r.groups (group_has_room r accepted) e

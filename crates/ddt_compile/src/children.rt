@@ -1,0 +1,56 @@
+//! The delegations of each zone: the zones strictly below it with no zone between.
+
+ghost use Rattle.std.specs.Prelude.{◌≡◌, [], IfOk, unwrap_or};
+ghost use Rattle.std.specs.List.{Contains};
+ghost use Rattle.std.specs.Ordering.{nat_cmp};
+ghost use Rattle.std.specs.Cmp.Lexicographic.{slice_cmp};
+ghost use Rattle.std.specs.BTreeMap.{get};
+ghost use Rattle.ddt_register.specs.declared.zone.Zone.{Zone as AZone};
+ghost use Rattle.ddt_compile.specs.GroupConfig.{children_of};
+ghost use Rattle.ddt_compile.specs.Lists.{list_at};
+ghost use Rattle.ddt_compile.specs.Nearest.{HasPrefixesOf};
+
+use crate::lists::append;
+use crate::locators::locators_by_name;
+use crate::nearest::nearest;
+use ddt_check::Accepted;
+use ddt_config::Child;
+use ddt_path::{LocatorSet, Name, Prefix};
+use ddt_register::Zone;
+use std::alloc::{AllocError, Global};
+use std::collections::{BTreeMap, BTreeSet};
+
+/// The children of each zone, by its prefix, each list in the order of their rows.
+pub fn children_by_zone(
+    alloc: Global,
+    accepted: &Accepted,
+    prefixes: &BTreeSet<Prefix>,
+) -> Result<BTreeMap<Prefix, Vec<Child>>, AllocError>
+    requires { HasPrefixesOf prefixes.now accepted.now.zones }
+    ensures { IfOk result (λ lists. (z : AZone) → Contains accepted.now.zones z → list_at (slice_cmp nat_cmp) lists z.prefix ≡ children_of accepted.now z) }
+{
+    let sets = locators_by_name(alloc, accepted)?;
+    let mut lists = BTreeMap::new(alloc);
+    for zone in accepted.register().zones.as_slice() {
+        if let Some(above) = nearest(prefixes, zone.prefix, zone.prefix.len()) {
+            append(&mut lists, alloc, above, child(&sets, zone))?;
+        }
+    }
+    Ok(lists)
+}
+
+/// The referral to a zone: its kind, and the locators of its group.
+fn child(sets: &BTreeMap<Name, LocatorSet>, zone: &Zone) -> Child
+    ensures prefix { result.prefix ≡ zone.now.prefix }
+    ensures role { result.role ≡ zone.now.kind }
+    ensures locators { result.locators ≡ unwrap_or (get (slice_cmp nat_cmp) sets.now zone.now.group) [] }
+{
+    Child {
+        prefix: zone.prefix,
+        role: zone.kind,
+        locators: match sets.get(&zone.group) {
+            Some(set) => *set,
+            None => LocatorSet::none(),
+        },
+    }
+}

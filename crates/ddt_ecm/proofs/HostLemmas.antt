@@ -1,18 +1,14 @@
 -- The identifier of a prefix that is seen as its path.
-use Rattle.std.proofs.Common.{◌≡◌, ℕ, true, false, List, Ok, Err, refl, sym, ap, ◌∙◌}
+use Rattle.std.proofs.Common.{◌≡◌, ℕ, true, false, List, Ok, Err, refl, sym, ◌∙◌}
 use Rattle.std.specs.Prelude.{◌==◌}
 use Rattle.std.proofs.lemmas.Bool.{eq-eqb, ne_eqb}
 use Rattle.ddt_path.specs.declared.locator.Locator.{Locator}
-use Rattle.ddt_path.specs.declared.form.Form.{Form}
 use Rattle.ddt_path.specs.declared.form.Form.TheVariants.{Block}
 use Rattle.ddt_path.specs.Path.{path, address_width, IsForm}
 use Rattle.ddt_path.specs.FormOf.{form_of}
-use Rattle.ddt_path.specs.FormLemmas.{form_of-path}
+use Rattle.ddt_wire.proofs.EidLemmas.{form_of-named}
 use Rattle.ddt_ecm.specs.declared.fault.RequestFault.TheVariants.{NotHost}
 use Rattle.ddt_ecm.specs.MapRequest.{host_of}
-
-pub form_of-named : (p : List ℕ) (form : Form) → path form ≡ p → IsForm form → form_of p ≡ form
-form_of-named p form e h = ap form_of (sym e) ∙ form_of-path form h
 
 pub is_host : (p : List ℕ) (n : ℕ) (a : Locator) (len width : ℕ) → path (Block n a len) ≡ p → IsForm (Block n a len) → width ≡ address_width a → len ≡ width → Ok (record { iid = n; address = a }) ≡ host_of (form_of p)
 is_host p n a len width e h w same =

@@ -5,5 +5,8 @@ pub mod HostLemmas
 pub mod WritingLemmas
 pub mod SumLaws
 pub mod RequestLaws
-pub mod PacketLaws
 pub mod WrittenLaws
+pub mod UdpLaws
+pub mod IpLaws
+pub mod SourceLaws
+pub mod MessageLaws

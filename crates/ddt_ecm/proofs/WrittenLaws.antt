@@ -1,119 +1,273 @@
--- What is written is read again.
-use Rattle.std.proofs.Common.{◌≡◌, ℕ, ◌+◌, ◌-◌, ◌/◌, ◌%◌, ◌^◌, ◌<◌, ◌≤◌, Bool, true, false, eqb, ltb, List, [], ◌∷◌, ◌++◌, length, Ok, refl, sym, ap, subst, ◌∙◌, arith, Result, Err}
-use Rattle.std.specs.Prelude.{slice_index, IfOk, OnOk}
+-- What is written spells what was to be written, and is read again.
+use Rattle.std.proofs.Common.{◌≡◌, ℕ, ◌+◌, ◌-◌, ◌*◌, ◌/◌, ◌%◌, ◌^◌, ◌<◌, ◌≤◌, Bool, true, false, eqb, List, [], ◌∷◌, ◌++◌, length, Result, Ok, Err, refl, sym, ap, subst, ◌∙◌, arith, inr}
+use Rattle.std.specs.Prelude.{IfOk, OnOk}
 use Rattle.std.specs.Global.{Vec}
-use Rattle.std.specs.List.{flat_map}
+use Rattle.std.specs.List.{flat_map, AllByRecursion}
 use Rattle.std.specs.Int.{w16, w32, w64, w128, to_be_bytes}
-use Rattle.std.proofs.lemmas.Bool.{le-ltb}
-use Rattle.std.proofs.lemmas.List.Concat.{flat_map-cons}
+use Rattle.std.proofs.lemmas.Bool.{cond_both}
+use Rattle.std.proofs.lemmas.List.{append-nil}
 use Rattle.ddt_path.specs.declared.locator.Locator.{Locator}
 use Rattle.ddt_path.specs.declared.locator.Locator.TheVariants.{V4, V6}
 use Rattle.ddt_path.specs.declared.xeid.Xeid.{Xeid}
 use Rattle.ddt_path.specs.Path.{address_width, xeid_path}
 use Rattle.ddt_wire.specs.Steps.{IsBytes}
 use Rattle.ddt_wire.specs.Address.{family_and_address, IsAddress}
-use Rattle.ddt_wire.specs.Eid.{written_eid, written_mask_len}
-use Rattle.ddt_wire.proofs.ByteLemmas.{IsBytes-append, IsBytes-cons, IsBytes-nil, IsBytes-number}
-use Rattle.ddt_wire.proofs.WrittenLaws.{eid_is_bytes, eid_spells}
-use Rattle.ddt_ecm.specs.Checksum.{ones_sum}
-use Rattle.ddt_ecm.specs.IpHeader.{ip_at, pseudo4, pseudo6}
-use Rattle.ddt_ecm.specs.UdpHeader.{udp_at}
-use Rattle.ddt_ecm.specs.MapRequest.{map_request_at}
-use Rattle.ddt_ecm.specs.Request.{ecm_at, message_in}
-use Rattle.ddt_ecm.specs.Written.{map_request_head, written_map_request, written_udp, written_ipv4, written_ipv6, packet, packet4, packet6, source4, source6, ecm_header, written}
+use Rattle.ddt_wire.specs.Eid.{SpellsEid, form_mask_len, written_eid, written_mask_len}
+use Rattle.ddt_wire.proofs.ByteLemmas.{IsBytes-append, IsBytes-nil, IsBytes-number}
+use Rattle.ddt_wire.proofs.WrittenLaws.{eid_spells}
+use Rattle.ddt_ecm.specs.Checksum.{ones_sum, complement}
+use Rattle.ddt_ecm.specs.IpHeader.{pseudo4, pseudo6, Ipv4Header, ipv4_fields, SpellsIpv4, Ipv6Header, ipv6_fields, SpellsIpv6, SpellsIp, Version4, Version6}
+use Rattle.ddt_ecm.specs.UdpHeader.{SpellsUdp}
+use Rattle.ddt_ecm.specs.MapRequest.{Ignored, Absent, SpellsRequest}
+use Rattle.ddt_ecm.specs.Request.{ecm_fields, Spells, message_in}
+use Rattle.ddt_ecm.specs.Written.{written_map_request, udp_header, not_absent, written_udp, ipv4_header, written_ipv4, written_ipv6, packet, packet4, packet6, source4, source6, ecm_header, written}
 use Rattle.ddt_ecm.specs.Laws.{IsRequest, message_of}
+use Rattle.ddt_ecm.proofs.ChecksumLemmas.{ones_sum-append}
+use Rattle.ddt_ecm.proofs.SumLaws.{folded, checksum_right, present_right}
 use Rattle.ddt_ecm.proofs.WritingLemmas.{request_small}
-use Rattle.ddt_ecm.proofs.SumLaws.{folded}
-use Rattle.ddt_ecm.proofs.RequestLaws.{full_is_prefix, map_request_again}
-use Rattle.ddt_ecm.proofs.PacketLaws.{udp_again, ipv4_again, ipv6_again}
+use Rattle.ddt_ecm.proofs.RequestLaws.{full_is_prefix, form_of_full}
+use Rattle.ddt_ecm.proofs.MessageLaws.{pair, request_is_bytes, message_again}
 
--- ---- bytes
+-- ---- the Map-Request
 
-address_is_bytes : (a : Locator) → IsBytes (family_and_address a)
-address_is_bytes (V4 a) = IsBytes-append (to_be_bytes w16 1) (to_be_bytes w32 a) (IsBytes-number 2 1) (IsBytes-number 4 a)
-address_is_bytes (V6 a) = IsBytes-append (to_be_bytes w16 2) (to_be_bytes w128 a) (IsBytes-number 2 2) (IsBytes-number 16 a)
+cong4 : (a b c d a' b' c' d' : ℕ) → a ≡ a' → b ≡ b' → c ≡ c' → d ≡ d' → (a ∷ b ∷ c ∷ d ∷ []) ≡ (a' ∷ b' ∷ c' ∷ d' ∷ [])
+cong4 a b c d a' b' c' d' p q r s = rw (p, q, r, s) refl
 
-rlocs_are_bytes : (ls : List Locator) → IsBytes (flat_map family_and_address ls)
-rlocs_are_bytes [] = IsBytes-nil
-rlocs_are_bytes (l ∷ ls) = subst IsBytes (sym (flat_map-cons family_and_address l ls)) (IsBytes-append (family_and_address l) (flat_map family_and_address ls) (address_is_bytes l) (rlocs_are_bytes ls))
+abbrev word_of : ℕ → ℕ
+word_of irc = 2 ^ 28 + 0 * 2 ^ 27 + 0 * 2 ^ 26 + 0 * 2 ^ 13 + irc * 2 ^ 8 + 1
 
-width_small : (a : Locator) → address_width a < 256
-width_small (V4 a) = omega arith
-width_small (V6 a) = omega arith
+first_bytes : (irc : ℕ) → irc < 32 → (16 ∷ 0 ∷ irc ∷ 1 ∷ []) ≡ to_be_bytes w32 (word_of irc)
+first_bytes irc lt = cong4 16 0 irc 1 (word_of irc / 16777216 % 256) (word_of irc / 65536 % 256) (word_of irc / 256 % 256) (word_of irc % 256) (omega arith) (omega arith) (omega arith) (omega arith)
 
-request_is_bytes : (nonce n : ℕ) (a : Locator) (ls : List Locator) → n < 2 ^ 32 → IsAddress a → length ls ≤ 32 → IsBytes (written_map_request nonce (record { iid = n; address = a }) ls)
-request_is_bytes nonce n a ls hn ha few =
-    let x : Xeid = record { iid = n; address = a } in
+request_spells : (nonce : ℕ) (x : Xeid) (rlocs : List Locator) → IsRequest nonce x rlocs → SpellsRequest (written_map_request nonce x rlocs) nonce x rlocs
+request_spells nonce x rlocs h =
+    let none : Ignored = record { authoritative = false; flags = 0; reserved = 0; flags_fit = omega arith; reserved_fits = omega arith } in
     let p = xeid_path x in
-    let first = IsBytes-cons 16 (0 ∷ (length ls - 1) ∷ 1 ∷ []) (omega arith) (IsBytes-cons 0 ((length ls - 1) ∷ 1 ∷ []) (omega arith) (IsBytes-cons (length ls - 1) (1 ∷ []) (omega arith) (IsBytes-cons 1 [] (omega arith) IsBytes-nil))) in
-    let four = 16 ∷ 0 ∷ (length ls - 1) ∷ 1 ∷ [] in
-    let head = IsBytes-append (four ++ to_be_bytes w64 nonce) (to_be_bytes w16 0) (IsBytes-append four (to_be_bytes w64 nonce) first (IsBytes-number 8 nonce)) (IsBytes-number 2 0) in
-    let rlocs = IsBytes-append (map_request_head nonce ls) (flat_map family_and_address ls) head (rlocs_are_bytes ls) in
-    let mask = IsBytes-append (map_request_head nonce ls ++ flat_map family_and_address ls) (0 ∷ address_width a ∷ []) rlocs (IsBytes-cons 0 (address_width a ∷ []) (omega arith) (IsBytes-cons (address_width a) [] (width_small a) IsBytes-nil)) in
-    IsBytes-append (map_request_head nonce ls ++ flat_map family_and_address ls ++ (0 ∷ address_width a ∷ [])) (written_eid p) mask (eid_is_bytes (written_mask_len p) (written_eid p) p (eid_spells p (full_is_prefix n a hn ha)))
+    let few = h.few in
+    let some = h.some in
+    let small : length rlocs - 1 < 32 = omega arith in
+    let mask : written_mask_len p ≡ address_width x.address = ap form_mask_len (form_of_full x.iid x.address h.iid_fits h.address_fits) in
+    let rest : List ℕ → List ℕ = λ first. first ++ to_be_bytes w64 nonce ++ to_be_bytes w16 0 ++ flat_map family_and_address rlocs ++ (0 ∷ address_width x.address ∷ []) ++ written_eid p in
+    record {
+      ignored = none;
+      with_map = false;
+      irc = length rlocs - 1;
+      source = to_be_bytes w16 0;
+      eid = written_eid p;
+      after = [];
+      nonce_fits = h.nonce_fits;
+      irc_fits = small;
+      iid_fits = h.iid_fits;
+      address_fits = h.address_fits;
+      count = omega arith;
+      rlocs_fit = h.rlocs_fit;
+      spells_source = Absent refl;
+      spells_eid = subst (λ (k : ℕ). SpellsEid k (written_eid p) p) mask (eid_spells p (full_is_prefix x.iid x.address h.iid_fits h.address_fits));
+      after_are_bytes = IsBytes-nil;
+      none_after = λ _. refl;
+      whole = ap rest (first_bytes (length rlocs - 1) small) ∙ sym (append-nil (rest (to_be_bytes w32 (word_of (length rlocs - 1)))));
+    }
 
-pseudo4_small : (s d len : ℕ) → ones_sum 0 (pseudo4 (to_be_bytes w32 s ++ to_be_bytes w32 d) len) ≤ 65535
-pseudo4_small s d len =
-    let addresses = IsBytes-append (to_be_bytes w32 s) (to_be_bytes w32 d) (IsBytes-number 4 s) (IsBytes-number 4 d) in
-    let protocol = IsBytes-cons 0 (17 ∷ []) (omega arith) (IsBytes-cons 17 [] (omega arith) IsBytes-nil) in
-    let front = IsBytes-append (to_be_bytes w32 s ++ to_be_bytes w32 d) (0 ∷ 17 ∷ []) addresses protocol in
-    (folded 0 (pseudo4 (to_be_bytes w32 s ++ to_be_bytes w32 d) len) (omega arith) (IsBytes-append (to_be_bytes w32 s ++ to_be_bytes w32 d ++ (0 ∷ 17 ∷ [])) (to_be_bytes w16 len) front (IsBytes-number 2 len))).small
+-- ---- UDP
 
-pseudo6_small : (s d len : ℕ) → ones_sum 0 (pseudo6 (to_be_bytes w128 s ++ to_be_bytes w128 d) len) ≤ 65535
-pseudo6_small s d len =
+ports : ℕ → List ℕ
+ports len = to_be_bytes w16 4342 ++ to_be_bytes w16 4342 ++ to_be_bytes w16 len
+
+ports_are_bytes : (len : ℕ) → IsBytes (ports len)
+unfolding ports
+ports_are_bytes len = IsBytes-append (to_be_bytes w16 4342 ++ to_be_bytes w16 4342) (to_be_bytes w16 len) (IsBytes-append (to_be_bytes w16 4342) (to_be_bytes w16 4342) (IsBytes-number 2 4342) (IsBytes-number 2 4342)) (IsBytes-number 2 len)
+
+present_fits : (c : ℕ) → c < 65536 → not_absent c < 65536
+present_fits c lt = cond_both (eqb c 0) 65535 c (λ n. n < 65536) (λ _. omega arith) (λ _. lt)
+
+udp_spells : (k : ℕ) (pseudo message : List ℕ) → length pseudo ≡ k * 2 → IsBytes pseudo → IsBytes message → length message ≤ 1000 → SpellsUdp pseudo (written_udp (ones_sum 0 pseudo) message) 4342 message
+unfolding written_udp ports
+udp_spells k pseudo message even pseudo_fits fits few =
+    let sum = ones_sum 0 pseudo in
+    let len = 8 + length message in
+    let c = not_absent (complement (ones_sum sum (udp_header len 0 ++ message))) in
+    let small = (folded 0 pseudo (omega arith) pseudo_fits).small in
+    let right = present_right sum 3 (ports len) message small refl (ports_are_bytes len) fits in
+    record {
+      checksum = c;
+      port_fits = omega arith;
+      len_fits = omega arith;
+      checksum_fits = present_fits (complement (ones_sum sum (udp_header len 0 ++ message))) (omega arith);
+      right = inr (ones_sum-append k pseudo (udp_header len c ++ message) 0 even ∙ right);
+      whole = refl;
+    }
+
+udp_length : (sum : ℕ) (message : List ℕ) → 8 + length message ≡ length (written_udp sum message)
+unfolding written_udp
+udp_length sum message = omega arith
+
+-- ---- IP
+
+before : ℕ → List ℕ
+before total = (69 ∷ 0 ∷ []) ++ to_be_bytes w16 total ++ (0 ∷ 0 ∷ 0 ∷ 0 ∷ 64 ∷ 17 ∷ [])
+
+before_is_bytes : (total : ℕ) → IsBytes (before total)
+unfolding before
+before_is_bytes total =
+    let four = IsBytes-append (69 ∷ 0 ∷ []) (to_be_bytes w16 total) (pair 69 0 (omega arith) (omega arith)) (IsBytes-number 2 total) in
+    let six = IsBytes-append (0 ∷ 0 ∷ []) (0 ∷ 0 ∷ 64 ∷ 17 ∷ []) (pair 0 0 (omega arith) (omega arith)) (IsBytes-append (0 ∷ 0 ∷ []) (64 ∷ 17 ∷ []) (pair 0 0 (omega arith) (omega arith)) (pair 64 17 (omega arith) (omega arith))) in
+    IsBytes-append ((69 ∷ 0 ∷ []) ++ to_be_bytes w16 total) (0 ∷ 0 ∷ 0 ∷ 0 ∷ 64 ∷ 17 ∷ []) four six
+
+abbrev addresses4 : ℕ → ℕ → List ℕ
+addresses4 s d = to_be_bytes w32 s ++ to_be_bytes w32 d
+
+abbrev addresses6 : ℕ → ℕ → List ℕ
+addresses6 s d = to_be_bytes w128 s ++ to_be_bytes w128 d
+
+addresses4_are_bytes : (s d : ℕ) → IsBytes (addresses4 s d)
+addresses4_are_bytes s d = IsBytes-append (to_be_bytes w32 s) (to_be_bytes w32 d) (IsBytes-number 4 s) (IsBytes-number 4 d)
+
+header_right : (total s d : ℕ) → ones_sum 0 (ipv4_header total (complement (ones_sum 0 (ipv4_header total 0 s d))) s d) ≡ 65535
+unfolding before
+header_right total s d = checksum_right 0 5 (before total) (addresses4 s d) (omega arith) refl (before_is_bytes total) (addresses4_are_bytes s d)
+
+ipv4_spells : (s d len total : ℕ) (udp : List ℕ) → s < 2 ^ 32 → d < 2 ^ 32 → len ≤ 2000 → len ≡ length udp → total ≡ 20 + length udp → SpellsIpv4 (written_ipv4 total s d ++ udp) (pseudo4 (addresses4 s d) len) udp
+unfolding written_ipv4
+ipv4_spells s d len total udp hs hd few is e =
+    let h : Ipv4Header = record {
+      words = 5;
+      service = 0;
+      identification = 0;
+      flags = 0;
+      hops = 64;
+      checksum = complement (ones_sum 0 (ipv4_header total 0 s d));
+      source = s;
+      destination = d;
+      options = [];
+      words_fit = omega arith;
+      service_fits = omega arith;
+      identification_fits = omega arith;
+      flags_fit = omega arith;
+      hops_fit = omega arith;
+      checksum_fits = omega arith;
+      source_fits = hs;
+      destination_fits = hd;
+      options_fill = omega arith;
+      options_are_bytes = IsBytes-nil;
+    } in
+    record {
+      header = h;
+      total_fits = omega arith;
+      right = ap (λ (t : ℕ). ones_sum 0 (ipv4_fields h t)) (sym e) ∙ header_right total s d;
+      covered = ap (pseudo4 (addresses4 s d)) is;
+      whole = ap (λ (t : ℕ). ipv4_fields h t ++ udp) e;
+    }
+
+ipv6_spells : (s d len : ℕ) (udp : List ℕ) → s < 2 ^ 128 → d < 2 ^ 128 → len ≤ 2000 → len ≡ length udp → SpellsIpv6 (written_ipv6 len s d ++ udp) (pseudo6 (addresses6 s d) len) udp
+unfolding written_ipv6
+ipv6_spells s d len udp hs hd few is =
+    let h : Ipv6Header = record {
+      class_and_label = 0;
+      hops = 64;
+      source = s;
+      destination = d;
+      class_and_label_fit = omega arith;
+      hops_fit = omega arith;
+      source_fits = hs;
+      destination_fits = hd;
+    } in
+    record {
+      header = h;
+      payload_fits = omega arith;
+      covered = ap (pseudo6 (addresses6 s d)) is;
+      whole = ap (λ (t : ℕ). ipv6_fields h t ++ udp) is;
+    }
+
+-- an IP packet around a message
+record IsPacket (bytes message : List ℕ) : Type 0 where
+  pseudo : List ℕ
+  udp : List ℕ
+  spells_ip : SpellsIp bytes pseudo udp
+  spells_udp : SpellsUdp pseudo udp 4342 message
+
+pseudo4_is_bytes : (s d len : ℕ) → IsBytes (pseudo4 (addresses4 s d) len)
+pseudo4_is_bytes s d len =
+    let front = IsBytes-append (addresses4 s d) (0 ∷ 17 ∷ []) (addresses4_are_bytes s d) (pair 0 17 (omega arith) (omega arith)) in
+    IsBytes-append (addresses4 s d ++ (0 ∷ 17 ∷ [])) (to_be_bytes w16 len) front (IsBytes-number 2 len)
+
+pseudo6_is_bytes : (s d len : ℕ) → IsBytes (pseudo6 (addresses6 s d) len)
+pseudo6_is_bytes s d len =
     let addresses = IsBytes-append (to_be_bytes w128 s) (to_be_bytes w128 d) (IsBytes-number 16 s) (IsBytes-number 16 d) in
-    let front = IsBytes-append (to_be_bytes w128 s ++ to_be_bytes w128 d) (to_be_bytes w32 len) addresses (IsBytes-number 4 len) in
-    (folded 0 (pseudo6 (to_be_bytes w128 s ++ to_be_bytes w128 d) len) (omega arith) (IsBytes-append (to_be_bytes w128 s ++ to_be_bytes w128 d ++ to_be_bytes w32 len) (to_be_bytes w32 17) front (IsBytes-number 4 17))).small
+    let front = IsBytes-append (addresses6 s d) (to_be_bytes w32 len) addresses (IsBytes-number 4 len) in
+    IsBytes-append (addresses6 s d ++ to_be_bytes w32 len) (to_be_bytes w32 17) front (IsBytes-number 4 17)
+
+packet4_spells : (s d : ℕ) (message : List ℕ) → s < 2 ^ 32 → d < 2 ^ 32 → IsBytes message → length message ≤ 1000 → IsPacket (packet4 s d message) message
+unfolding packet4
+packet4_spells s d message hs hd fits few =
+    let len = 8 + length message in
+    let pseudo_ = pseudo4 (addresses4 s d) len in
+    let udp_ = written_udp (ones_sum 0 pseudo_) message in
+    let is = udp_length (ones_sum 0 pseudo_) message in
+    record {
+      pseudo = pseudo_;
+      udp = udp_;
+      spells_ip = Version4 (ipv4_spells s d len (28 + length message) udp_ hs hd (omega arith) is (omega (arith, is)));
+      spells_udp = udp_spells 6 pseudo_ message refl (pseudo4_is_bytes s d len) fits few;
+    }
+
+packet6_spells : (s d : ℕ) (message : List ℕ) → s < 2 ^ 128 → d < 2 ^ 128 → IsBytes message → length message ≤ 1000 → IsPacket (packet6 s d message) message
+unfolding packet6
+packet6_spells s d message hs hd fits few =
+    let len = 8 + length message in
+    let pseudo_ = pseudo6 (addresses6 s d) len in
+    record {
+      pseudo = pseudo_;
+      udp = written_udp (ones_sum 0 pseudo_) message;
+      spells_ip = Version6 (ipv6_spells s d len (written_udp (ones_sum 0 pseudo_) message) hs hd (omega arith) (udp_length (ones_sum 0 pseudo_) message));
+      spells_udp = udp_spells 20 pseudo_ message refl (pseudo6_is_bytes s d len) fits few;
+    }
+
+source4_fits : (ls : List Locator) → AllByRecursion IsAddress ls → source4 ls < 2 ^ 32
+source4_fits [] h = omega arith
+source4_fits (V4 a ∷ ls) h = h.0
+source4_fits (V6 a ∷ ls) h = omega arith
+
+source6_fits : (ls : List Locator) → AllByRecursion IsAddress ls → source6 ls < 2 ^ 128
+source6_fits [] h = omega arith
+source6_fits (V4 a ∷ ls) h = omega arith
+source6_fits (V6 a ∷ ls) h = h.0
+
+packet_spells : (to : Locator) (ls : List Locator) (message : List ℕ) → IsAddress to → AllByRecursion IsAddress ls → IsBytes message → length message ≤ 1000 → IsPacket (packet to ls message) message
+packet_spells (V4 d) ls message hd hs fits few = packet4_spells (source4 ls) d message (source4_fits ls hs) hd fits few
+packet_spells (V6 d) ls message hd hs fits few = packet6_spells (source6 ls) d message (source6_fits ls hs) hd fits few
 
 -- ---- the whole
 
-ecm_read : (ddt : Bool) (ip : List ℕ) → ecm_at (ecm_header ddt ++ ip) ≡ Ok ip
-unfolding ecm_at
-ecm_read true ip = let four : ltb (length (ecm_header true ++ ip)) 4 ≡ false = le-ltb _ _ (omega arith) in rw four refl
-ecm_read false ip = let four : ltb (length (ecm_header false ++ ip)) 4 ≡ false = le-ltb _ _ (omega arith) in rw four refl
+header_is : (ddt : Bool) → ecm_header ddt ≡ ecm_fields ddt 0
+header_is true = refl
+header_is false = refl
 
-bit_read : (ddt : Bool) (ip : List ℕ) → eqb (slice_index (ecm_header ddt ++ ip) 0 / 4 % 2) 1 ≡ ddt
-bit_read true ip = refl
-bit_read false ip = refl
-
-whole_read : (ddt : Bool) (ip udp message : List ℕ) (pseudo nonce : ℕ) (x : Xeid) (ls : List Locator) → ip_at ip ≡ Ok (pseudo, udp) → udp_at pseudo udp ≡ Ok (4342, message) → map_request_at message ≡ Ok (nonce, x, ls)
-    → message_in (ecm_header ddt ++ ip) ≡ Ok (message_of nonce x ls ddt)
-unfolding message_in
-whole_read ddt ip udp message pseudo nonce x ls i u m = rw (ecm_read ddt ip, i, u, m, bit_read ddt ip) refl
-
-udp_length : (pseudo : ℕ) (message : List ℕ) → length (written_udp pseudo message) ≡ 8 + length message
-unfolding written_udp
-udp_length pseudo message = omega arith
-
-packet4_read : (ddt : Bool) (s d nonce : ℕ) (message : List ℕ) (x : Xeid) (ls : List Locator) → IsBytes message → length message ≤ 1000 → map_request_at message ≡ Ok (nonce, x, ls)
-    → message_in (ecm_header ddt ++ packet4 s d message) ≡ Ok (message_of nonce x ls ddt)
-unfolding packet4
-packet4_read ddt s d nonce message x ls fits few m =
-    let pseudo = ones_sum 0 (pseudo4 (to_be_bytes w32 s ++ to_be_bytes w32 d) (8 + length message)) in
-    let udp = written_udp pseudo message in
-    let len = udp_length pseudo message in
-    let i = ipv4_again s d udp (28 + length message) (omega arith) (omega arith) (omega arith) ∙ ap (λ (n : ℕ). Ok (ones_sum 0 (pseudo4 (to_be_bytes w32 s ++ to_be_bytes w32 d) n), udp)) len in
-    whole_read ddt (written_ipv4 (28 + length message) s d ++ udp) udp message pseudo nonce x ls i (udp_again pseudo message (pseudo4_small s d (8 + length message)) fits few) m
-
-packet6_read : (ddt : Bool) (s d nonce : ℕ) (message : List ℕ) (x : Xeid) (ls : List Locator) → IsBytes message → length message ≤ 1000 → map_request_at message ≡ Ok (nonce, x, ls)
-    → message_in (ecm_header ddt ++ packet6 s d message) ≡ Ok (message_of nonce x ls ddt)
-unfolding packet6
-packet6_read ddt s d nonce message x ls fits few m =
-    let pseudo = ones_sum 0 (pseudo6 (to_be_bytes w128 s ++ to_be_bytes w128 d) (8 + length message)) in
-    let udp = written_udp pseudo message in
-    let len = udp_length pseudo message in
-    let i = ap (λ (n : ℕ). ip_at (written_ipv6 n s d ++ udp)) (sym len) ∙ ipv6_again s d udp (omega arith) (omega arith) ∙ ap (λ (n : ℕ). Ok (ones_sum 0 (pseudo6 (to_be_bytes w128 s ++ to_be_bytes w128 d) n), udp)) len in
-    whole_read ddt (written_ipv6 (8 + length message) s d ++ udp) udp message pseudo nonce x ls i (udp_again pseudo message (pseudo6_small s d (8 + length message)) fits few) m
-
-packet_read : (ddt : Bool) (to : Locator) (ls : List Locator) (nonce : ℕ) (message : List ℕ) (x : Xeid) → IsBytes message → length message ≤ 1000 → map_request_at message ≡ Ok (nonce, x, ls)
-    → message_in (ecm_header ddt ++ packet to ls message) ≡ Ok (message_of nonce x ls ddt)
-packet_read ddt (V4 d) ls nonce message x fits few m = packet4_read ddt (source4 ls) d nonce message x ls fits few m
-packet_read ddt (V6 d) ls nonce message x fits few m = packet6_read ddt (source6 ls) d nonce message x ls fits few m
+pub written_spells : (nonce : ℕ) (x : Xeid) (rlocs : List Locator) (ddt : Bool) → IsRequest nonce x rlocs → Spells (written nonce x rlocs ddt) (message_of nonce x rlocs ddt)
+written_spells nonce x rlocs ddt h =
+    let message = written_map_request nonce x rlocs in
+    let s = request_spells nonce x rlocs h in
+    let p = packet_spells x.address rlocs message h.address_fits h.rlocs_fit (request_is_bytes message nonce x rlocs s) (request_small nonce x rlocs h.few) in
+    record {
+      ignored = 0;
+      packet = packet x.address rlocs message;
+      pseudo = p.pseudo;
+      udp = p.udp;
+      request = message;
+      ignored_fits = omega arith;
+      spells_ip = p.spells_ip;
+      spells_udp = p.spells_udp;
+      spells_request = s;
+      whole = ap (λ (t : List ℕ). t ++ packet x.address rlocs message) (header_is ddt);
+    }
 
 pub written_is_read : (nonce : ℕ) (x : Xeid) (rlocs : List Locator) (ddt : Bool) → IsRequest nonce x rlocs → message_in (written nonce x rlocs ddt) ≡ Ok (message_of nonce x rlocs ddt)
-written_is_read nonce x rlocs ddt h =
-    packet_read ddt x.address rlocs nonce (written_map_request nonce x rlocs) x (request_is_bytes nonce x.iid x.address rlocs h.iid_fits h.address_fits h.few) (request_small nonce x rlocs h.few)
-    (map_request_again nonce x.iid x.address rlocs h.nonce_fits h.iid_fits h.address_fits h.some h.few h.rlocs_fit)
+written_is_read nonce x rlocs ddt h = message_again (written nonce x rlocs ddt) (message_of nonce x rlocs ddt) (written_spells nonce x rlocs ddt h)
+
+-- what was written into a vector
+pub vector_spells : {E : Type 0} (nonce : ℕ) (x : Xeid) (rlocs : List Locator) (ddt : Bool) (r : Result (Vec ℕ) E) → IfOk r (λ bytes. bytes.items ≡ written nonce x rlocs ddt) → OnOk r (IsRequest nonce x rlocs)
+    → IfOk r (λ bytes. Spells bytes.items (message_of nonce x rlocs ddt))
+vector_spells nonce x rlocs ddt (Ok bytes) e h = subst (λ (t : List ℕ). Spells t (message_of nonce x rlocs ddt)) (sym e) (written_spells nonce x rlocs ddt h)
+vector_spells nonce x rlocs ddt (Err d) e h = tt
 
 pub read_again : {E : Type 0} (nonce : ℕ) (x : Xeid) (rlocs : List Locator) (ddt : Bool) (r : Result (Vec ℕ) E) → IfOk r (λ bytes. bytes.items ≡ written nonce x rlocs ddt) → OnOk r (IsRequest nonce x rlocs)
     → IfOk r (λ bytes. message_in bytes.items ≡ Ok (message_of nonce x rlocs ddt))

@@ -1,19 +1,90 @@
 -- The IP header inside an Encapsulated Control Message: IPv4 (RFC 791, section 3.1) or IPv6 (RFC 8200, section 3), with
 -- a whole UDP datagram behind it.
-use Rattle.std.specs.Prelude.{ℕ, ◌+◌, ◌-◌, ◌*◌, ◌/◌, ◌%◌, ◌^◌, ◌==◌, ◌&&◌, Bool, not, nat_lt, nat_le, if◌then◌else◌, List, [], ◌∷◌, ◌++◌, length, take, drop, slice_index, Result, Ok, Err}
-use Rattle.std.specs.Int.{w16, w32, to_be_bytes}
+use Rattle.std.specs.Prelude.{ℕ, ◌+◌, ◌-◌, ◌*◌, ◌/◌, ◌%◌, ◌^◌, ◌<◌, ◌≡◌, ◌==◌, ◌&&◌, Bool, not, nat_lt, nat_le, if◌then◌else◌, List, [], ◌∷◌, ◌++◌, length, take, drop, slice_index, Result, Ok, Err}
+use Rattle.std.specs.Int.{w16, w32, w128, to_be_bytes}
 use Rattle.byteorder.specs.Endian.{big_number}
+use Rattle.ddt_wire.specs.Steps.{IsBytes}
 use Rattle.ddt_ecm.specs.declared.fault.RequestFault.{RequestFault}
 use Rattle.ddt_ecm.specs.declared.fault.RequestFault.TheVariants.{Short, IpVersion, IpLength, IpChecksum, NotUdp, Fragment}
 use Rattle.ddt_ecm.specs.Checksum.{ones_sum, is_right}
 
--- What stands behind a header: the sum of the pseudo-header that UDP's checksum covers too, and the UDP datagram.
--- The pseudo-header has the two addresses, protocol 17 and the UDP length, in 16 bits each for IPv4, in 32 for IPv6.
+-- The pseudo-header that UDP's checksum covers too: the two addresses, protocol 17 and the UDP length, in 16 bits each
+-- for IPv4, in 32 for IPv6.
 abbrev pub pseudo4 : List ℕ → ℕ → List ℕ
 pseudo4 addresses udp_len = addresses ++ (0 ∷ 17 ∷ []) ++ to_be_bytes w16 udp_len
 
 abbrev pub pseudo6 : List ℕ → ℕ → List ℕ
 pseudo6 addresses udp_len = addresses ++ to_be_bytes w32 udp_len ++ to_be_bytes w32 17
+
+-- ---- what spells a packet
+
+-- What an IPv4 header says beside the total length: the words that it has, type of service, identification, the
+-- reserved bit and don't-fragment, time to live, checksum, the two addresses, and options up to its last word.
+pub record Ipv4Header : Type 0 where
+  pub words : ℕ
+  pub service : ℕ
+  pub identification : ℕ
+  pub flags : ℕ
+  pub hops : ℕ
+  pub checksum : ℕ
+  pub source : ℕ
+  pub destination : ℕ
+  pub options : List ℕ
+  pub words_fit : words < 16
+  pub service_fits : service < 256
+  pub identification_fits : identification < 2 ^ 16
+  pub flags_fit : flags < 4
+  pub hops_fit : hops < 256
+  pub checksum_fits : checksum < 2 ^ 16
+  pub source_fits : source < 2 ^ 32
+  pub destination_fits : destination < 2 ^ 32
+  pub options_fill : 20 + length options ≡ 4 * words
+  pub options_are_bytes : IsBytes options
+
+-- version 4 in 4 bits and the words in 4; type of service; total length; identification; 2 flags, with more-fragments
+-- and the offset 0 in 14 bits; time to live; protocol 17; checksum; addresses; options
+abbrev pub ipv4_fields : Ipv4Header → ℕ → List ℕ
+ipv4_fields h total =
+    ((64 + h.words) ∷ h.service ∷ []) ++ to_be_bytes w16 total ++ to_be_bytes w16 h.identification ++ to_be_bytes w16 (h.flags * 2 ^ 14) ++ (h.hops ∷ 17 ∷ [])
+    ++ to_be_bytes w16 h.checksum ++ to_be_bytes w32 h.source ++ to_be_bytes w32 h.destination ++ h.options
+
+-- an IPv4 packet around a UDP datagram, whose pseudo-header is given too; all but the addresses is ignored
+pub record SpellsIpv4 (bytes pseudo udp : List ℕ) : Type 0 where
+  pub header : Ipv4Header
+  pub total_fits : 4 * header.words + length udp < 2 ^ 16
+  pub right : ones_sum 0 (ipv4_fields header (4 * header.words + length udp)) ≡ 65535
+  pub covered : pseudo ≡ pseudo4 (to_be_bytes w32 header.source ++ to_be_bytes w32 header.destination) (length udp)
+  pub whole : bytes ≡ ipv4_fields header (4 * header.words + length udp) ++ udp
+
+-- what an IPv6 header says beside the payload length: traffic class and flow label, hop limit, and the two addresses
+pub record Ipv6Header : Type 0 where
+  pub class_and_label : ℕ
+  pub hops : ℕ
+  pub source : ℕ
+  pub destination : ℕ
+  pub class_and_label_fit : class_and_label < 2 ^ 28
+  pub hops_fit : hops < 256
+  pub source_fits : source < 2 ^ 128
+  pub destination_fits : destination < 2 ^ 128
+
+-- version 6 in 4 bits, traffic class and flow label in 28; payload length; next header 17; hop limit; addresses
+abbrev pub ipv6_fields : Ipv6Header → ℕ → List ℕ
+ipv6_fields h payload =
+    to_be_bytes w32 (6 * 2 ^ 28 + h.class_and_label) ++ to_be_bytes w16 payload ++ (17 ∷ h.hops ∷ []) ++ to_be_bytes w128 h.source ++ to_be_bytes w128 h.destination
+
+-- an IPv6 packet around a UDP datagram in the same way
+pub record SpellsIpv6 (bytes pseudo udp : List ℕ) : Type 0 where
+  pub header : Ipv6Header
+  pub payload_fits : length udp < 2 ^ 16
+  pub covered : pseudo ≡ pseudo6 (to_be_bytes w128 header.source ++ to_be_bytes w128 header.destination) (length udp)
+  pub whole : bytes ≡ ipv6_fields header (length udp) ++ udp
+
+-- either of them
+pub data SpellsIp (bytes pseudo udp : List ℕ) : Type 0 where
+  Version4 : SpellsIpv4 bytes pseudo udp → SpellsIp bytes pseudo udp
+  Version6 : SpellsIpv6 bytes pseudo udp → SpellsIp bytes pseudo udp
+
+-- ---- the first fault
 
 -- the number of bytes in an IPv4 header: four for each word of its length field
 abbrev pub header_len : List ℕ → ℕ
@@ -23,6 +94,7 @@ header_len ip = 4 * (slice_index ip 0 % 16)
 abbrev pub has_length4 : List ℕ → Bool
 has_length4 ip = nat_le 20 (header_len ip) && (big_number 2 (drop 2 ip) == length ip && nat_le (header_len ip + 8) (length ip))
 
+-- what stands behind the header, told as the sum of the pseudo-header and the UDP datagram
 unfoldable pub ipv4_at : List ℕ → Result (ℕ × List ℕ) RequestFault
 ipv4_at ip =
     if nat_lt (length ip) 20 then Err Short

@@ -1,10 +1,12 @@
 -- What holds of every request, whichever way it is read and written.
-use Rattle.std.specs.Prelude.{ℕ, ◌<◌, ◌≤◌, ◌^◌, ◌≡◌, Bool, List, length, Ok}
+use Rattle.std.specs.Prelude.{ℕ, ◌<◌, ◌≤◌, ◌^◌, ◌≡◌, ◌↔◌, Bool, List, length, Ok}
 use Rattle.std.specs.List.{AllByRecursion}
+use Rattle.std.specs.Result.{IsErr}
 use Rattle.ddt_path.specs.declared.locator.Locator.{Locator}
 use Rattle.ddt_path.specs.declared.xeid.Xeid.{Xeid}
+use Rattle.ddt_wire.specs.Steps.{IsBytes}
 use Rattle.ddt_wire.specs.Address.{IsAddress}
-use Rattle.ddt_ecm.specs.Request.{Message, message_in}
+use Rattle.ddt_ecm.specs.Request.{Message, Spells, message_in}
 use Rattle.ddt_ecm.specs.Written.{written}
 
 -- what a request can be written for: numbers in the ranges of their types, and 1 to 32 ITR-RLOCs
@@ -18,6 +20,22 @@ pub record IsRequest (nonce : ℕ) (x : Xeid) (rlocs : List Locator) : Type 0 wh
 
 abbrev pub message_of : ℕ → Xeid → List Locator → Bool → Message
 message_of n x ls d = record { nonce = n; ddt = d; port = 4342; xeid = x; rlocs = ls }
+
+-- bytes spell at most one request
+abbrev pub OneRequest : Type 0
+OneRequest = (bytes : List ℕ) (v w : Message) → Spells bytes v → Spells bytes w → v ≡ w
+
+-- a list that spells a request has numbers of 0 to 255 alone
+abbrev pub RequestsAreBytes : Type 0
+RequestsAreBytes = (bytes : List ℕ) (v : Message) → Spells bytes v → IsBytes bytes
+
+-- there is a fault exactly where no request is spelled
+abbrev pub FaultsAreRight : Type 0
+FaultsAreRight = (bytes : List ℕ) → IsBytes bytes → IsErr (message_in bytes) ↔ ((v : Message) → Spells bytes v → ⊥)
+
+-- what is written spells what was to be written
+abbrev pub WrittenSpells : Type 0
+WrittenSpells = (nonce : ℕ) (x : Xeid) (rlocs : List Locator) (ddt : Bool) → IsRequest nonce x rlocs → Spells (written nonce x rlocs ddt) (message_of nonce x rlocs ddt)
 
 -- what is written is read again
 abbrev pub WrittenIsRead : Type 0

@@ -1,21 +1,68 @@
 -- A Map-Request for one EID (RFC 9301, section 5.2).
-use Rattle.std.specs.Prelude.{ℕ, zero, suc, ◌+◌, ◌/◌, ◌%◌, ◌==◌, ◌&&◌, Bool, not, nat_lt, if◌then◌else◌, List, [], ◌∷◌, length, drop, slice_index, Result, Ok, Err}
+use Rattle.std.specs.Prelude.{ℕ, zero, suc, ◌+◌, ◌*◌, ◌/◌, ◌%◌, ◌^◌, ◌<◌, ◌≡◌, ◌==◌, ◌&&◌, Bool, false, not, nat_lt, if◌then◌else◌, List, [], ◌∷◌, ◌++◌, length, drop, slice_index, Result, Ok, Err}
+use Rattle.std.specs.List.{flat_map, AllByRecursion}
+use Rattle.std.specs.Int.{w16, w32, w64, to_be_bytes}
 use Rattle.byteorder.specs.Endian.{big_number}
 use Rattle.ddt_path.specs.declared.locator.Locator.{Locator}
 use Rattle.ddt_path.specs.declared.xeid.Xeid.{Xeid}
 use Rattle.ddt_path.specs.declared.form.Form.{Form}
 use Rattle.ddt_path.specs.declared.form.Form.TheVariants.{Range, Block}
-use Rattle.ddt_path.specs.Path.{address_width}
+use Rattle.ddt_path.specs.Path.{address_width, xeid_path}
 use Rattle.ddt_path.specs.FormOf.{form_of}
 use Rattle.ddt_wire.specs.declared.address.AddressFault.{AddressFault}
 use Rattle.ddt_wire.specs.declared.address.AddressFault.TheVariants as address_fault
 use Rattle.ddt_wire.specs.declared.eid.EidFault.{EidFault}
 use Rattle.ddt_wire.specs.declared.eid.EidFault.TheVariants as eid_fault
-use Rattle.ddt_wire.specs.Steps.{◌>>=◌, in_words}
-use Rattle.ddt_wire.specs.Address.{address_at}
-use Rattle.ddt_wire.specs.Eid.{eid_at}
+use Rattle.ddt_wire.specs.Steps.{◌>>=◌, in_words, IsBytes}
+use Rattle.ddt_wire.specs.Address.{family_and_address, IsAddress, address_at}
+use Rattle.ddt_wire.specs.Eid.{SpellsEid, eid_at}
+use Rattle.ddt_wire.specs.Referral.{bit}
 use Rattle.ddt_ecm.specs.declared.fault.RequestFault.{RequestFault}
 use Rattle.ddt_ecm.specs.declared.fault.RequestFault.TheVariants as fault
+
+-- ---- what spells a Map-Request
+
+-- what is ignored: the bit A, the 13 bits between the bit M and IRC, and the byte before the EID mask-len
+pub record Ignored : Type 0 where
+  pub authoritative : Bool
+  pub flags : ℕ
+  pub reserved : ℕ
+  pub flags_fit : flags < 2 ^ 13
+  pub reserved_fits : reserved < 256
+
+-- type 1 in 4 bits, A, M, 6 flags, 5 reserved bits and 2 flags, IRC in 5 bits and a record count of 1 in 8; the nonce
+abbrev pub request_fields : Ignored → Bool → ℕ → ℕ → List ℕ
+request_fields i with_map irc nonce =
+    to_be_bytes w32 (2 ^ 28 + bit i.authoritative * 2 ^ 27 + bit with_map * 2 ^ 26 + i.flags * 2 ^ 13 + irc * 2 ^ 8 + 1) ++ to_be_bytes w64 nonce
+
+-- the source EID, which is skipped: AFI 0 alone, an address, or an LCAF of any type, whose length counts what follows it
+pub data SpellsSource (bytes : List ℕ) : Type 0 where
+  Absent : bytes ≡ to_be_bytes w16 0 → SpellsSource bytes
+  Plain : (a : Locator) → IsAddress a → bytes ≡ family_and_address a → SpellsSource bytes
+  Lcaf : (reserved flags type more : ℕ) (content : List ℕ) → reserved < 256 → flags < 256 → type < 256 → more < 256 → length content < 2 ^ 16 → IsBytes content
+      → bytes ≡ to_be_bytes w16 16387 ++ (reserved ∷ flags ∷ type ∷ more ∷ []) ++ to_be_bytes w16 (length content) ++ content → SpellsSource bytes
+
+-- A Map-Request for one identifier. The EID mask-len is the whole width of its address. Bytes stand after the EID only
+-- where the bit M is set, and are ignored.
+pub record SpellsRequest (bytes : List ℕ) (nonce : ℕ) (x : Xeid) (rlocs : List Locator) : Type 0 where
+  pub ignored : Ignored
+  pub with_map : Bool
+  pub irc : ℕ
+  pub source : List ℕ
+  pub eid : List ℕ
+  pub after : List ℕ
+  pub nonce_fits : nonce < 2 ^ 64
+  pub irc_fits : irc < 32
+  pub iid_fits : x.iid < 2 ^ 32
+  pub address_fits : IsAddress x.address
+  pub count : length rlocs ≡ irc + 1
+  pub rlocs_fit : AllByRecursion IsAddress rlocs
+  pub spells_source : SpellsSource source
+  pub spells_eid : SpellsEid (address_width x.address) eid (xeid_path x)
+  pub after_are_bytes : IsBytes after
+  pub none_after : with_map ≡ false → after ≡ []
+  pub whole : bytes ≡ request_fields ignored with_map irc nonce ++ source ++ flat_map family_and_address rlocs
+      ++ (ignored.reserved ∷ address_width x.address ∷ []) ++ eid ++ after
 
 -- ---- the first fault
 

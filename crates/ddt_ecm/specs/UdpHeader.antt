@@ -1,11 +1,30 @@
--- The UDP header inside an Encapsulated Control Message (RFC 768), behind a pseudo-header of which the sum is given.
-use Rattle.std.specs.Prelude.{ℕ, ◌==◌, ◌||◌, not, if◌then◌else◌, List, length, drop, Result, Ok, Err}
+-- The UDP header inside an Encapsulated Control Message (RFC 768), behind a pseudo-header.
+use Rattle.std.specs.Prelude.{ℕ, ◌+◌, ◌^◌, ◌<◌, ◌≡◌, ◌⊎◌, ◌==◌, ◌||◌, not, if◌then◌else◌, List, ◌++◌, length, drop, Result, Ok, Err}
+use Rattle.std.specs.Int.{w16, to_be_bytes}
 use Rattle.byteorder.specs.Endian.{big_number}
 use Rattle.ddt_ecm.specs.declared.fault.RequestFault.{RequestFault}
 use Rattle.ddt_ecm.specs.declared.fault.RequestFault.TheVariants.{UdpLength, UdpChecksum, Port}
 use Rattle.ddt_ecm.specs.Checksum.{ones_sum, is_right}
 
--- The source port and the data, of a datagram to port 4342. A checksum of 0 counts as absent.
+-- ---- what spells a datagram
+
+-- source port, destination port 4342, length and checksum
+abbrev pub udp_fields : ℕ → ℕ → ℕ → List ℕ
+udp_fields port len checksum = to_be_bytes w16 port ++ to_be_bytes w16 4342 ++ to_be_bytes w16 len ++ to_be_bytes w16 checksum
+
+-- A UDP datagram from a port, with a message. Its length counts the header. A checksum of 0 counts as absent; any other
+-- is right over the pseudo-header and the datagram.
+pub record SpellsUdp (pseudo bytes : List ℕ) (port : ℕ) (message : List ℕ) : Type 0 where
+  pub checksum : ℕ
+  pub port_fits : port < 2 ^ 16
+  pub len_fits : 8 + length message < 2 ^ 16
+  pub checksum_fits : checksum < 2 ^ 16
+  pub right : (checksum ≡ 0) ⊎ (ones_sum 0 (pseudo ++ bytes) ≡ 65535)
+  pub whole : bytes ≡ udp_fields port (8 + length message) checksum ++ message
+
+-- ---- the first fault
+
+-- The source port and the data, behind a pseudo-header of which the sum is given.
 unfoldable pub udp_at : ℕ → List ℕ → Result (ℕ × List ℕ) RequestFault
 udp_at pseudo udp =
     if not (big_number 2 (drop 4 udp) == length udp) then Err UdpLength

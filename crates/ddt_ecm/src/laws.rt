@@ -1,9 +1,14 @@
-//! What holds of every request, whichever way it is read and written: a law of the definitions, by a function that does
-//! nothing.
+//! What holds of every list of bytes and every request, whichever way they are read and written: a law of the
+//! definitions, by a function that does nothing.
 
-ghost use Rattle.ddt_ecm.specs.Laws.{WrittenIsRead};
+ghost use Rattle.ddt_ecm.specs.Laws.{OneRequest, RequestsAreBytes, FaultsAreRight, WrittenSpells, WrittenIsRead};
 
-/// What is written for a nonce, an identifier, ITR-RLOCs and the bit D is read as these, with port 4342.
+/// Bytes spell one request at most; only bytes do; a fault exists exactly where bytes spell none; what is written for a
+/// nonce, an identifier, ITR-RLOCs and the bit D spells these, with port 4342, and is read as these.
 pub fn request_laws()
-    ensures { WrittenIsRead }
+    ensures one { OneRequest }
+    ensures bytes { RequestsAreBytes }
+    ensures faults { FaultsAreRight }
+    ensures written { WrittenSpells }
+    ensures again { WrittenIsRead }
 {}

@@ -13,9 +13,9 @@
 //! +----------------------------------+
 //! ```
 
-ghost use Rattle.std.specs.Prelude.{◌≡◌, ◌≤◌, length, OnOk};
+ghost use Rattle.std.specs.Prelude.{◌≡◌, ◌≤◌, length, Ok, OnOk, IfOk};
 ghost use Rattle.ddt_wire.specs.Steps.{Gives};
-ghost use Rattle.ddt_ecm.specs.Request.{ecm_at, message_in};
+ghost use Rattle.ddt_ecm.specs.Request.{Message, Spells, ecm_at, message_in};
 
 use crate::fault::RequestFault;
 use crate::ip_header::read_ip;
@@ -128,6 +128,11 @@ fn message(bytes: &[u8]) -> Result<Request<'_>, RequestFault>
 /// RlocFamily, 1 Short without the address; the EID's 1 Short, 14 EidFamily, 15 Lcaf and 16 NotHost; and, where the bit
 /// M is clear, 18 Trailing (RFC 9301, sections 5.2 and 5.8).
 pub fn read_request(bytes: &[u8]) -> Result<Request<'_>, RequestFault>
+    // The bytes spell what is read.
+    ensures found { IfOk result (λ v. Spells bytes.now v) }
+    // What they spell is read.
+    ensures only { (v : Message) → Spells bytes.now v → result ≡ Ok v }
+    // Which fault it is.
     ensures exact { result ≡ message_in bytes.now }
 {
     message(bytes)

@@ -5,7 +5,7 @@ ghost use Rattle.std.specs.List.{flat_map};
 ghost use Rattle.std.specs.Int.{w32, w128, to_be_bytes};
 ghost use Rattle.ddt_wire.specs.Address.{family_and_address, IsAddress};
 ghost use Rattle.ddt_ecm.specs.Written.{written_map_request, udp_header as udp_header_of, written_udp, ipv4_header as ipv4_header_of, written_ipv4, source4 as source4_of, source6 as source6_of, packet4, packet6, packet, ipv6_head, written};
-ghost use Rattle.ddt_ecm.specs.Request.{message_in};
+ghost use Rattle.ddt_ecm.specs.Request.{Spells, message_in};
 ghost use Rattle.ddt_ecm.specs.Laws.{IsRequest, message_of};
 
 use crate::checksum::{RIGHT, sum};
@@ -236,6 +236,7 @@ pub fn write_request(
     requires some { 1 ≤ length rlocs.now }
     requires few { length rlocs.now ≤ 32 }
     ensures written { IfOk result (λ bytes. bytes.items ≡ written nonce x rlocs.now ddt) }
+    ensures spelled { IfOk result (λ bytes. Spells bytes.items (message_of nonce x rlocs.now ddt)) }
     // What was written is read again.
     ensures again { IfOk result (λ bytes. message_in bytes.items ≡ Ok (message_of nonce x rlocs.now ddt)) }
 {

@@ -1,0 +1,246 @@
+-- A request that is read is spelled so, what is spelled is read again, and what spells a request is bytes.
+use Rattle.std.proofs.Common.{◌≡◌, ℕ, ◌+◌, ◌*◌, ◌/◌, ◌%◌, ◌^◌, ◌<◌, ◌≤◌, false, cond, ltb, eqb, List, [], ◌∷◌, ◌++◌, length, drop, Result, Ok, Err, refl, sym, ap, subst, ◌∙◌, arith}
+use Rattle.std.specs.Prelude.{◌↔◌, IfOk, slice_index, not}
+use Rattle.std.specs.List.{flat_map}
+use Rattle.std.specs.Result.{IsErr}
+use Rattle.std.specs.Int.{w16, w32, w64, w128, to_be_bytes}
+use Rattle.std.proofs.lemmas.Bool.{ltb-false, le-ltb, eqb-true, not-false}
+use Rattle.std.proofs.lemmas.List.Concat.{flat_map-cons}
+use Rattle.byteorder.specs.Endian.{big_number}
+use Rattle.ddt_path.specs.declared.locator.Locator.{Locator}
+use Rattle.ddt_path.specs.declared.locator.Locator.TheVariants.{V4, V6}
+use Rattle.ddt_path.specs.declared.xeid.Xeid.{Xeid}
+use Rattle.ddt_path.specs.Path.{address_width, xeid_path}
+use Rattle.ddt_wire.specs.Steps.{◌>>=◌, IsBytes}
+use Rattle.ddt_wire.specs.Address.{family_and_address}
+use Rattle.ddt_wire.specs.Referral.{bit}
+use Rattle.ddt_wire.proofs.StepLemmas.{bind_ok, guard_ok, ok_is}
+use Rattle.ddt_wire.proofs.ByteLemmas.{Stands, known_stands, IsBytes-drop, IsBytes-append, IsBytes-cons, IsBytes-nil, IsBytes-number}
+use Rattle.ddt_wire.proofs.WrittenLaws.{eid_is_bytes}
+use Rattle.ddt_ecm.specs.declared.fault.RequestFault.{RequestFault}
+use Rattle.ddt_ecm.specs.declared.fault.RequestFault.TheVariants as fault
+use Rattle.ddt_ecm.specs.Checksum.{ones_sum}
+use Rattle.ddt_ecm.specs.IpHeader.{Ipv4Header, ipv4_fields, Ipv6Header, ipv6_fields, SpellsIp, Version4, Version6, ip_at}
+use Rattle.ddt_ecm.specs.UdpHeader.{udp_fields, SpellsUdp, udp_at}
+use Rattle.ddt_ecm.specs.MapRequest.{request_fields, SpellsSource, Absent, Plain, Lcaf, SpellsRequest, map_request_at}
+use Rattle.ddt_ecm.specs.Request.{Message, ecm_fields, Spells, ecm_at, message_in}
+use Rattle.ddt_ecm.proofs.UdpLaws.{udp_takes, udp_again, udp_some}
+use Rattle.ddt_ecm.proofs.IpLaws.{ip_takes, ip_again, pseudo_words}
+use Rattle.ddt_ecm.proofs.RequestLaws.{bit_of, bit-le, bit_again, request_takes, request_again}
+
+-- ---- what is read is spelled so
+
+-- what the four bytes say where they are right
+record IsEcm (bytes ip : List ℕ) : Type 0 where
+  long : 4 ≤ length bytes
+  type : slice_index bytes 0 / 16 ≡ 8
+  security : slice_index bytes 0 / 8 % 2 ≡ 0
+  rest : drop 4 bytes ≡ ip
+
+ecm_holds : (bytes ip : List ℕ) → ecm_at bytes ≡ Ok ip → IsEcm bytes ip
+unfolding ecm_at
+ecm_holds bytes ip e =
+    let found : Result (List ℕ) RequestFault = Ok (drop 4 bytes) in
+    let second = cond (not (eqb (slice_index bytes 0 / 8 % 2) 0)) (Err fault.Security) found in
+    let first = cond (not (eqb (slice_index bytes 0 / 16) 8)) (Err fault.MessageType) second in
+    let a = guard_ok (ltb (length bytes) 4) fault.Short first ip e in
+    let b = guard_ok (not (eqb (slice_index bytes 0 / 16) 8)) fault.MessageType second ip a.1 in
+    let c = guard_ok (not (eqb (slice_index bytes 0 / 8 % 2) 0)) fault.Security found ip b.1 in
+    record {
+      long = ltb-false _ _ a.0;
+      type = eqb-true _ _ (not-false _ b.0);
+      security = eqb-true _ _ (not-false _ c.0);
+      rest = ok_is {E = RequestFault} (drop 4 bytes) ip c.1;
+    }
+
+abbrev ignored_of : List ℕ → ℕ
+ignored_of bytes = slice_index bytes 0 % 4 * 16777216 + slice_index bytes 1 * 65536 + slice_index bytes 2 * 256 + slice_index bytes 3
+
+ecm_stands : (bytes ip : List ℕ) → IsBytes bytes → IsEcm bytes ip → Stands bytes 0 (ecm_fields (eqb (slice_index bytes 0 / 4 % 2) 1) (ignored_of bytes)) 4
+ecm_stands bytes ip fits h =
+    let d = bit_of (slice_index bytes 0 / 4 % 2) (omega arith) in
+    let word = 8 * 2 ^ 28 + bit (eqb (slice_index bytes 0 / 4 % 2) 1) * 2 ^ 26 + ignored_of bytes in
+    let number : big_number 4 bytes ≡ word = omega (arith, h.type, h.security, d) in
+    known_stands 0 4 word bytes fits (omega (arith, h.long)) number
+
+abbrev asked_of : List ℕ → ℕ × List ℕ → ℕ × Xeid × List Locator → Message
+asked_of bytes data_ asked = record { nonce = asked.0; ddt = eqb (slice_index bytes 0 / 4 % 2) 1; port = data_.0; xeid = asked.1; rlocs = asked.2 }
+
+-- the message of a datagram of bytes
+message_fits : (pseudo udp : List ℕ) (port : ℕ) (message : List ℕ) → IsBytes udp → SpellsUdp pseudo udp port message → IsBytes message
+message_fits pseudo udp port message fits s = subst IsBytes (ap (drop 8) s.whole) (IsBytes-drop 8 udp fits)
+
+pub message_takes : (bytes : List ℕ) (v : Message) → IsBytes bytes → message_in bytes ≡ Ok v → Spells bytes v
+unfolding message_in
+message_takes bytes v fits e =
+    let a = bind_ok (ecm_at bytes) (λ ip. ip_at ip >>= λ udp. udp_at udp.0 udp.1 >>= λ d. map_request_at d.1 >>= λ m. Ok (asked_of bytes d m)) v e in
+    let b = bind_ok (ip_at a.0) (λ udp. udp_at udp.0 udp.1 >>= λ d. map_request_at d.1 >>= λ m. Ok (asked_of bytes d m)) v a.2 in
+    let c = bind_ok (udp_at b.0.0 b.0.1) (λ d. map_request_at d.1 >>= λ m. Ok (asked_of bytes d m)) v b.2 in
+    let d = bind_ok (map_request_at c.0.1) (λ m. Ok (asked_of bytes c.0 m)) v c.2 in
+    let h = ecm_holds bytes a.0 a.1 in
+    let ip_fits : IsBytes a.0 = subst IsBytes h.rest (IsBytes-drop 4 bytes fits) in
+    let p = ip_takes a.0 b.0 ip_fits b.1 in
+    let u = udp_takes p.words p.pseudo b.0.1 c.0 p.even p.udp_fits p.some (ap (λ (s : ℕ). udp_at s b.0.1) (sym p.sum_is) ∙ c.1) in
+    let data_fits : IsBytes c.0.1 = message_fits p.pseudo b.0.1 c.0.0 c.0.1 p.udp_fits u in
+    let made : Spells bytes (asked_of bytes c.0 d.0) = record {
+      ignored = ignored_of bytes;
+      packet = a.0;
+      pseudo = p.pseudo;
+      udp = b.0.1;
+      request = c.0.1;
+      ignored_fits = omega (arith, fits 1, fits 2, fits 3);
+      spells_ip = p.spelled;
+      spells_udp = u;
+      spells_request = request_takes c.0.1 d.0 data_fits d.1;
+      whole = ecm_stands bytes a.0 fits h ∙ ap (λ (t : List ℕ). ecm_fields (eqb (slice_index bytes 0 / 4 % 2) 1) (ignored_of bytes) ++ t) h.rest;
+    } in
+    subst (Spells bytes) (ok_is {E = RequestFault} (asked_of bytes c.0 d.0) v d.2) made
+
+-- ---- what is spelled is read again
+
+type_again : (d n : ℕ) → d ≤ 1 → n < 2 ^ 26 → (8 * 2 ^ 28 + d * 2 ^ 26 + n) / 16777216 % 256 / 16 ≡ 8
+type_again d n hd hn = omega arith
+
+security_again : (d n : ℕ) → d ≤ 1 → n < 2 ^ 26 → (8 * 2 ^ 28 + d * 2 ^ 26 + n) / 16777216 % 256 / 8 % 2 ≡ 0
+security_again d n hd hn = omega arith
+
+ddt_again : (d n : ℕ) → d ≤ 1 → n < 2 ^ 26 → (8 * 2 ^ 28 + d * 2 ^ 26 + n) / 16777216 % 256 / 4 % 2 ≡ d
+ddt_again d n hd hn = omega arith
+
+ecm_read : (bytes : List ℕ) → 4 ≤ length bytes → slice_index bytes 0 / 16 ≡ 8 → slice_index bytes 0 / 8 % 2 ≡ 0 → ecm_at bytes ≡ Ok (drop 4 bytes)
+unfolding ecm_at
+ecm_read bytes long type security =
+    let four : ltb (length bytes) 4 ≡ false = le-ltb _ _ long in
+    rw (four, type, security) refl
+
+message_read : (bytes ip udp message : List ℕ) (sum : ℕ) (v : Message) → ecm_at bytes ≡ Ok ip → ip_at ip ≡ Ok (sum, udp) → udp_at sum udp ≡ Ok (v.port, message) → map_request_at message ≡ Ok (v.nonce, v.xeid, v.rlocs)
+    → eqb (slice_index bytes 0 / 4 % 2) 1 ≡ v.ddt → message_in bytes ≡ Ok v
+unfolding message_in
+message_read bytes ip udp message sum v e i u m d = rw (e, i, u, m, d) refl
+
+pub message_again : (bytes : List ℕ) (v : Message) → Spells bytes v → message_in bytes ≡ Ok v
+message_again bytes v s =
+    let text = ecm_fields v.ddt s.ignored ++ s.packet in
+    let d = bit-le v.ddt in
+    let w = pseudo_words s.packet s.pseudo s.udp s.spells_ip in
+    let header = ecm_read text (omega arith) (type_again (bit v.ddt) s.ignored d s.ignored_fits) (security_again (bit v.ddt) s.ignored d s.ignored_fits) in
+    let ip = ip_again s.packet s.pseudo s.udp (udp_some s.pseudo s.udp v.port s.request s.spells_udp) s.spells_ip in
+    let udp = udp_again w.0 s.pseudo s.udp v.port s.request w.1 s.spells_udp in
+    let request = request_again s.request v.nonce v.xeid v.rlocs s.spells_request in
+    ap message_in s.whole
+    ∙ message_read text s.packet s.udp s.request (ones_sum 0 s.pseudo) v header ip udp request (bit_again v.ddt (slice_index text 0 / 4 % 2) (ddt_again (bit v.ddt) s.ignored d s.ignored_fits))
+
+-- ---- bytes
+
+pub pair : (a b : ℕ) → a < 256 → b < 256 → IsBytes (a ∷ b ∷ [])
+pair a b ha hb = IsBytes-cons a (b ∷ []) ha (IsBytes-cons b [] hb IsBytes-nil)
+
+address_is_bytes : (a : Locator) → IsBytes (family_and_address a)
+address_is_bytes (V4 a) = IsBytes-append (to_be_bytes w16 1) (to_be_bytes w32 a) (IsBytes-number 2 1) (IsBytes-number 4 a)
+address_is_bytes (V6 a) = IsBytes-append (to_be_bytes w16 2) (to_be_bytes w128 a) (IsBytes-number 2 2) (IsBytes-number 16 a)
+
+rlocs_are_bytes : (ls : List Locator) → IsBytes (flat_map family_and_address ls)
+rlocs_are_bytes [] = IsBytes-nil
+rlocs_are_bytes (l ∷ ls) = subst IsBytes (sym (flat_map-cons family_and_address l ls)) (IsBytes-append (family_and_address l) (flat_map family_and_address ls) (address_is_bytes l) (rlocs_are_bytes ls))
+
+width_small : (a : Locator) → address_width a < 256
+width_small (V4 a) = omega arith
+width_small (V6 a) = omega arith
+
+source_is_bytes : (bytes : List ℕ) → SpellsSource bytes → IsBytes bytes
+source_is_bytes bytes (Absent is) = subst IsBytes (sym is) (IsBytes-number 2 0)
+source_is_bytes bytes (Plain a fits is) = subst IsBytes (sym is) (address_is_bytes a)
+source_is_bytes bytes (Lcaf r f t m content hr hf ht hm small fits is) =
+    let four = IsBytes-append (r ∷ f ∷ []) (t ∷ m ∷ []) (pair r f hr hf) (pair t m ht hm) in
+    let six = IsBytes-append (to_be_bytes w16 16387) (r ∷ f ∷ t ∷ m ∷ []) (IsBytes-number 2 16387) four in
+    let eight = IsBytes-append (to_be_bytes w16 16387 ++ (r ∷ f ∷ t ∷ m ∷ [])) (to_be_bytes w16 (length content)) six (IsBytes-number 2 (length content)) in
+    subst IsBytes (sym is) (IsBytes-append (to_be_bytes w16 16387 ++ (r ∷ f ∷ t ∷ m ∷ []) ++ to_be_bytes w16 (length content)) content eight fits)
+
+pub request_is_bytes : (bytes : List ℕ) (nonce : ℕ) (x : Xeid) (ls : List Locator) → SpellsRequest bytes nonce x ls → IsBytes bytes
+request_is_bytes bytes nonce x ls s =
+    let i = s.ignored in
+    let word = 2 ^ 28 + bit i.authoritative * 2 ^ 27 + bit s.with_map * 2 ^ 26 + i.flags * 2 ^ 13 + s.irc * 2 ^ 8 + 1 in
+    let fields = request_fields i s.with_map s.irc nonce in
+    let flat = flat_map family_and_address ls in
+    let mask = i.reserved ∷ address_width x.address ∷ [] in
+    let a = IsBytes-append (to_be_bytes w32 word) (to_be_bytes w64 nonce) (IsBytes-number 4 word) (IsBytes-number 8 nonce) in
+    let b = IsBytes-append fields s.source a (source_is_bytes s.source s.spells_source) in
+    let c = IsBytes-append (fields ++ s.source) flat b (rlocs_are_bytes ls) in
+    let d = IsBytes-append (fields ++ s.source ++ flat) mask c (pair i.reserved (address_width x.address) i.reserved_fits (width_small x.address)) in
+    let e = IsBytes-append (fields ++ s.source ++ flat ++ mask) s.eid d (eid_is_bytes (address_width x.address) s.eid (xeid_path x) s.spells_eid) in
+    subst IsBytes (sym s.whole) (IsBytes-append (fields ++ s.source ++ flat ++ mask ++ s.eid) s.after e s.after_are_bytes)
+
+udp_fields_are_bytes : (port len checksum : ℕ) → IsBytes (udp_fields port len checksum)
+udp_fields_are_bytes port len checksum =
+    let four = IsBytes-append (to_be_bytes w16 port) (to_be_bytes w16 4342) (IsBytes-number 2 port) (IsBytes-number 2 4342) in
+    let six = IsBytes-append (to_be_bytes w16 port ++ to_be_bytes w16 4342) (to_be_bytes w16 len) four (IsBytes-number 2 len) in
+    IsBytes-append (to_be_bytes w16 port ++ to_be_bytes w16 4342 ++ to_be_bytes w16 len) (to_be_bytes w16 checksum) six (IsBytes-number 2 checksum)
+
+udp_is_bytes : (pseudo bytes : List ℕ) (port : ℕ) (message : List ℕ) → SpellsUdp pseudo bytes port message → IsBytes message → IsBytes bytes
+udp_is_bytes pseudo bytes port message s fits = subst IsBytes (sym s.whole) (IsBytes-append (udp_fields port (8 + length message) s.checksum) message (udp_fields_are_bytes port (8 + length message) s.checksum) fits)
+
+pub ipv4_fields_are_bytes : (h : Ipv4Header) (total : ℕ) → IsBytes (ipv4_fields h total)
+ipv4_fields_are_bytes h total =
+    let words = h.words_fit in
+    let a = (64 + h.words) ∷ h.service ∷ [] in
+    let b = a ++ to_be_bytes w16 total in
+    let c = b ++ to_be_bytes w16 h.identification in
+    let d = c ++ to_be_bytes w16 (h.flags * 2 ^ 14) in
+    let e = d ++ (h.hops ∷ 17 ∷ []) in
+    let f = e ++ to_be_bytes w16 h.checksum in
+    let g = f ++ to_be_bytes w32 h.source in
+    let two = IsBytes-append a (to_be_bytes w16 total) (pair (64 + h.words) h.service (omega arith) h.service_fits) (IsBytes-number 2 total) in
+    let three = IsBytes-append b (to_be_bytes w16 h.identification) two (IsBytes-number 2 h.identification) in
+    let four = IsBytes-append c (to_be_bytes w16 (h.flags * 2 ^ 14)) three (IsBytes-number 2 (h.flags * 2 ^ 14)) in
+    let five = IsBytes-append d (h.hops ∷ 17 ∷ []) four (pair h.hops 17 h.hops_fit (omega arith)) in
+    let six = IsBytes-append e (to_be_bytes w16 h.checksum) five (IsBytes-number 2 h.checksum) in
+    let seven = IsBytes-append f (to_be_bytes w32 h.source) six (IsBytes-number 4 h.source) in
+    let eight = IsBytes-append g (to_be_bytes w32 h.destination) seven (IsBytes-number 4 h.destination) in
+    IsBytes-append (g ++ to_be_bytes w32 h.destination) h.options eight h.options_are_bytes
+
+ipv6_fields_are_bytes : (h : Ipv6Header) (payload : ℕ) → IsBytes (ipv6_fields h payload)
+ipv6_fields_are_bytes h payload =
+    let first = 6 * 2 ^ 28 + h.class_and_label in
+    let b = to_be_bytes w32 first ++ to_be_bytes w16 payload in
+    let c = b ++ (17 ∷ h.hops ∷ []) in
+    let two = IsBytes-append (to_be_bytes w32 first) (to_be_bytes w16 payload) (IsBytes-number 4 first) (IsBytes-number 2 payload) in
+    let three = IsBytes-append b (17 ∷ h.hops ∷ []) two (pair 17 h.hops (omega arith) h.hops_fit) in
+    let four = IsBytes-append c (to_be_bytes w128 h.source) three (IsBytes-number 16 h.source) in
+    IsBytes-append (c ++ to_be_bytes w128 h.source) (to_be_bytes w128 h.destination) four (IsBytes-number 16 h.destination)
+
+ip_is_bytes : (bytes pseudo udp : List ℕ) → SpellsIp bytes pseudo udp → IsBytes udp → IsBytes bytes
+ip_is_bytes bytes pseudo udp (Version4 s) fits =
+    let total = 4 * s.header.words + length udp in
+    subst IsBytes (sym s.whole) (IsBytes-append (ipv4_fields s.header total) udp (ipv4_fields_are_bytes s.header total) fits)
+ip_is_bytes bytes pseudo udp (Version6 s) fits =
+    subst IsBytes (sym s.whole) (IsBytes-append (ipv6_fields s.header (length udp)) udp (ipv6_fields_are_bytes s.header (length udp)) fits)
+
+pub message_is_bytes : (bytes : List ℕ) (v : Message) → Spells bytes v → IsBytes bytes
+message_is_bytes bytes v s =
+    let word = 8 * 2 ^ 28 + bit v.ddt * 2 ^ 26 + s.ignored in
+    let request = request_is_bytes s.request v.nonce v.xeid v.rlocs s.spells_request in
+    let udp = udp_is_bytes s.pseudo s.udp v.port s.request s.spells_udp request in
+    let packet = ip_is_bytes s.packet s.pseudo s.udp s.spells_ip udp in
+    subst IsBytes (sym s.whole) (IsBytes-append (to_be_bytes w32 word) s.packet (IsBytes-number 4 word) packet)
+
+-- ---- at most one, and faults
+
+pub one_message : (bytes : List ℕ) (v w : Message) → Spells bytes v → Spells bytes w → v ≡ w
+one_message bytes v w a b = ok_is {E = RequestFault} v w (sym (message_again bytes v a) ∙ message_again bytes w b)
+
+err_not_ok : {A E : Type 0} (r : Result A E) (x : A) → IsErr r → r ≡ Ok x → ⊥
+err_not_ok (Ok y) x e f = absurd cc
+err_not_ok (Err d) x e f = absurd cc
+
+err_unless : {A E : Type 0} (r : Result A E) → ((x : A) → r ≡ Ok x → ⊥) → IsErr r
+err_unless (Ok x) n = absurd (n x refl)
+err_unless (Err d) n = refl
+
+pub message_faults : (bytes : List ℕ) → IsBytes bytes → IsErr (message_in bytes) ↔ ((v : Message) → Spells bytes v → ⊥)
+message_faults bytes fits =
+    (λ e v s. err_not_ok (message_in bytes) v e (message_again bytes v s), λ n. err_unless (message_in bytes) (λ v e. n v (message_takes bytes v fits e)))
+
+-- what was read of a slice
+pub message_found : (bytes : List ℕ) (r : Result Message RequestFault) → IsBytes bytes → r ≡ message_in bytes → IfOk r (λ v. Spells bytes v)
+message_found bytes (Ok v) fits e = message_takes bytes v fits (sym e)
+message_found bytes (Err d) fits e = tt

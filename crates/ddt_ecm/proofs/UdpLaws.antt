@@ -1,0 +1,96 @@
+-- A UDP datagram that is read is spelled so, and what is spelled is read again.
+use Rattle.std.proofs.Common.{◌≡◌, ℕ, ◌+◌, ◌*◌, ◌≤◌, true, cond, eqb, List, ◌++◌, length, drop, Result, Ok, Err, refl, sym, ap, subst, ◌∙◌, arith, inl, inr, length-drop}
+use Rattle.std.specs.Prelude.{◌||◌, ◌⊎◌, not}
+use Rattle.std.specs.Int.{w16, to_be_bytes}
+use Rattle.std.proofs.lemmas.Bool.{eqb-true, eq-eqb, not-false, or_cases, or_left, or_right}
+use Rattle.byteorder.specs.Endian.{big_number}
+use Rattle.byteorder.specs.Numbers.{big_number-reads_back}
+use Rattle.ddt_wire.specs.Steps.{IsBytes}
+use Rattle.ddt_wire.proofs.StepLemmas.{guard_ok, ok_is}
+use Rattle.ddt_wire.proofs.ByteLemmas.{joined, number_stands, known_stands, number_fits, IsBytes-drop}
+use Rattle.ddt_ecm.specs.declared.fault.RequestFault.{RequestFault}
+use Rattle.ddt_ecm.specs.declared.fault.RequestFault.TheVariants.{UdpLength, UdpChecksum, Port}
+use Rattle.ddt_ecm.specs.Checksum.{ones_sum, is_right}
+use Rattle.ddt_ecm.specs.UdpHeader.{udp_fields, SpellsUdp, udp_at}
+use Rattle.ddt_ecm.proofs.ChecksumLemmas.{ones_sum-append}
+
+-- ---- what is read is spelled so
+
+-- what is known of a datagram that was read
+record IsUdp (sum : ℕ) (udp : List ℕ) : Type 0 where
+  len : big_number 2 (drop 4 udp) ≡ length udp
+  right : (big_number 2 (drop 6 udp) ≡ 0) ⊎ (ones_sum sum udp ≡ 65535)
+  port : big_number 2 (drop 2 udp) ≡ 4342
+
+udp_holds : (sum : ℕ) (udp : List ℕ) (x : ℕ × List ℕ) → udp_at sum udp ≡ Ok x → IsUdp sum udp × ((big_number 2 udp, drop 8 udp) ≡ x)
+unfolding udp_at
+udp_holds sum udp x e =
+    let covered = eqb (big_number 2 (drop 6 udp)) 0 || is_right (ones_sum sum udp) in
+    let found : Result (ℕ × List ℕ) RequestFault = Ok (big_number 2 udp, drop 8 udp) in
+    let second = cond (not (eqb (big_number 2 (drop 2 udp)) 4342)) (Err Port) found in
+    let first = cond (not covered) (Err UdpChecksum) second in
+    let a = guard_ok (not (eqb (big_number 2 (drop 4 udp)) (length udp))) UdpLength first x e in
+    let b = guard_ok (not covered) UdpChecksum second x a.1 in
+    let c = guard_ok (not (eqb (big_number 2 (drop 2 udp)) 4342)) Port found x b.1 in
+    let either : (big_number 2 (drop 6 udp) ≡ 0) ⊎ (ones_sum sum udp ≡ 65535) =
+    elim (or_cases (eqb (big_number 2 (drop 6 udp)) 0) (is_right (ones_sum sum udp)) (not-false covered b.0)) [
+      | inl p ↦ inl (eqb-true _ _ p)
+      | inr p ↦ inr (eqb-true _ _ p)
+    ] in
+    let h : IsUdp sum udp = record { len = eqb-true _ _ (not-false _ a.0); right = either; port = eqb-true _ _ (not-false _ c.0) } in
+    (h, ok_is {E = RequestFault} (big_number 2 udp, drop 8 udp) x c.1)
+
+-- a sum over a pseudo-header and a datagram
+covers : (k : ℕ) (pseudo udp : List ℕ) → length pseudo ≡ k * 2 → ones_sum 0 (pseudo ++ udp) ≡ ones_sum (ones_sum 0 pseudo) udp
+covers k pseudo udp even = ones_sum-append k pseudo udp 0 even
+
+either_covers : (k : ℕ) (pseudo udp : List ℕ) (n : ℕ) → length pseudo ≡ k * 2 → (n ≡ 0) ⊎ (ones_sum (ones_sum 0 pseudo) udp ≡ 65535) → (n ≡ 0) ⊎ (ones_sum 0 (pseudo ++ udp) ≡ 65535)
+either_covers k pseudo udp n even (inl e) = inl e
+either_covers k pseudo udp n even (inr e) = inr (covers k pseudo udp even ∙ e)
+
+pub udp_takes : (k : ℕ) (pseudo udp : List ℕ) (x : ℕ × List ℕ) → length pseudo ≡ k * 2 → IsBytes udp → 8 ≤ length udp → udp_at (ones_sum 0 pseudo) udp ≡ Ok x → SpellsUdp pseudo udp x.0 x.1
+udp_takes k pseudo udp x even fits long e =
+    let h = udp_holds (ones_sum 0 pseudo) udp x e in
+    let message = drop 8 udp in
+    let port = big_number 2 udp in
+    let checksum = big_number 2 (drop 6 udp) in
+    let whole_len : length udp ≡ 8 + length message = omega (arith, length-drop 8 udp) in
+    let four = joined udp (to_be_bytes w16 port) (to_be_bytes w16 4342) 0 2 4 (number_stands 0 2 udp fits (omega arith)) (known_stands 2 2 4342 udp fits (omega arith) h.0.port) in
+    let six = joined udp (to_be_bytes w16 port ++ to_be_bytes w16 4342) (to_be_bytes w16 (8 + length message)) 0 4 6 four (known_stands 4 2 (8 + length message) udp fits (omega arith) (h.0.len ∙ whole_len)) in
+    let eight = joined udp (to_be_bytes w16 port ++ to_be_bytes w16 4342 ++ to_be_bytes w16 (8 + length message)) (to_be_bytes w16 checksum) 0 6 8 six (number_stands 6 2 udp fits (omega arith)) in
+    let made : SpellsUdp pseudo udp port message = record {
+      checksum = checksum;
+      port_fits = number_fits 2 udp fits;
+      len_fits = omega (arith, number_fits 2 (drop 4 udp) (IsBytes-drop 4 udp fits), h.0.len, whole_len);
+      checksum_fits = number_fits 2 (drop 6 udp) (IsBytes-drop 6 udp fits);
+      right = either_covers k pseudo udp checksum even h.0.right;
+      whole = eight;
+    } in
+    subst (λ (y : ℕ × List ℕ). SpellsUdp pseudo udp y.0 y.1) h.1 made
+
+-- ---- what is spelled is read again
+
+udp_read : (sum port : ℕ) (udp message : List ℕ) → big_number 2 (drop 4 udp) ≡ length udp → (eqb (big_number 2 (drop 6 udp)) 0 || is_right (ones_sum sum udp)) ≡ true → big_number 2 (drop 2 udp) ≡ 4342 → big_number 2 udp ≡ port → drop 8 udp ≡ message
+    → udp_at sum udp ≡ Ok (port, message)
+unfolding udp_at
+udp_read sum port udp message len right destination source rest =
+    let same : eqb (length udp) (length udp) ≡ true = eq-eqb _ _ refl in
+    rw (len, same, right, destination, source, rest) refl
+
+right_again : (k : ℕ) (pseudo udp : List ℕ) (checksum : ℕ) → length pseudo ≡ k * 2 → big_number 2 (drop 6 udp) ≡ checksum → (checksum ≡ 0) ⊎ (ones_sum 0 (pseudo ++ udp) ≡ 65535)
+    → (eqb (big_number 2 (drop 6 udp)) 0 || is_right (ones_sum (ones_sum 0 pseudo) udp)) ≡ true
+right_again k pseudo udp checksum even is (inl e) = or_left _ _ (eq-eqb _ _ (is ∙ e))
+right_again k pseudo udp checksum even is (inr e) = or_right _ _ (eq-eqb _ _ (sym (covers k pseudo udp even) ∙ e))
+
+pub udp_again : (k : ℕ) (pseudo udp : List ℕ) (port : ℕ) (message : List ℕ) → length pseudo ≡ k * 2 → SpellsUdp pseudo udp port message → udp_at (ones_sum 0 pseudo) udp ≡ Ok (port, message)
+udp_again k pseudo udp port message even s =
+    let text = udp_fields port (8 + length message) s.checksum ++ message in
+    let checksum : big_number 2 (drop 6 text) ≡ s.checksum = big_number-reads_back 2 s.checksum message s.checksum_fits in
+    let number : big_number 2 (drop 4 text) ≡ 8 + length message = big_number-reads_back 2 (8 + length message) (drop 6 text) s.len_fits in
+    let whole : 8 + length message ≡ length text = omega arith in
+    let right = right_again k pseudo text s.checksum even checksum (subst (λ (t : List ℕ). (s.checksum ≡ 0) ⊎ (ones_sum 0 (pseudo ++ t) ≡ 65535)) s.whole s.right) in
+    ap (udp_at (ones_sum 0 pseudo)) s.whole
+    ∙ udp_read (ones_sum 0 pseudo) port text message (number ∙ whole) right refl (big_number-reads_back 2 port (drop 2 text) s.port_fits) refl
+
+pub udp_some : (pseudo udp : List ℕ) (port : ℕ) (message : List ℕ) → SpellsUdp pseudo udp port message → 8 ≤ length udp
+udp_some pseudo udp port message s = rw s.whole (omega arith)

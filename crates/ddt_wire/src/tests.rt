@@ -8,6 +8,30 @@ const TO_A_NODE: [u8; 40] = [
     0, 0, 0, 0x01, 0x64, 0xff, 0, 0, 1, 0, 1, 0x7f, 0, 0, 0x0a,
 ];
 
+/// A DELEGATION-HOLE of [2147483648/1]*.
+const HOLE_OF_A_RANGE: [u8; 36] = [
+    0x60, 0, 0, 1, 0, 0, 0, 0, 0, 0, 0, 1, 0, 0, 0, 0x0f, 0, 0, 0x90, 0, 0, 0, 0x40, 0x03, 0, 0, 2,
+    1, 0, 6, 0x80, 0, 0, 0, 0, 0,
+];
+
+/// A DELEGATION-HOLE of everything.
+const HOLE_OF_EVERYTHING: [u8; 36] = [
+    0x60, 0, 0, 1, 0, 0, 0, 0, 0, 0, 0, 1, 0, 0, 0, 0x0f, 0, 0, 0x90, 0, 0, 0, 0x40, 0x03, 0, 0, 2,
+    0, 0, 6, 0, 0, 0, 0, 0, 0,
+];
+
+/// A NOT-AUTHORITATIVE of [0]11.0.0.1/32.
+const NOT_AUTHORITATIVE: [u8; 28] = [
+    0x60, 0, 0, 1, 0, 0, 0, 0, 0, 0, 0, 1, 0, 0, 0, 0, 0, 0x20, 0xb8, 0, 0, 0, 0, 1, 0x0b, 0, 0, 1,
+];
+
+/// An MS-ACK of [0]10.1.2.0/24 by 127.0.1.1 and 127.0.1.2.
+const ACKNOWLEDGED: [u8; 52] = [
+    0x60, 0, 0, 1, 0, 0, 0, 0, 0, 0, 0, 1, 0, 0, 0x05, 0xa0, 0x02, 0x18, 0x50, 0, 0, 0, 0, 1, 0x0a,
+    1, 2, 0, 0x01, 0x64, 0xff, 0, 0, 1, 0, 1, 0x7f, 0, 1, 1, 0x01, 0x64, 0xff, 0, 0, 1, 0, 1, 0x7f,
+    0, 1, 2,
+];
+
 /// A DELEGATION-HOLE of [2147483648/1]*, with bits set in each field that is ignored.
 const LOOSE_HOLE: [u8; 36] = [
     0x6f, 0xff, 0xff, 0x01, 0, 0, 0, 0, 0, 0, 0, 1, 0, 0, 0, 0x0f, 0x00, 0x4d, 0x87, 0xff, 0x0a,
@@ -47,14 +71,7 @@ fn hole_of_a_range_of_instances(rt: HostRuntime) -> Result<(), Fail> {
         servers: servers(&[])?,
     };
     let bytes = write_referral(rt.alloc(), 1, &record)?;
-    assert_eq!(rt;
-        bytes.as_slice(),
-        [
-            0x60, 0, 0, 1, 0, 0, 0, 0, 0, 0, 0, 1, 0, 0, 0, 0x0f, 0, 0, 0x90, 0, 0, 0, 0x40, 0x03,
-            0, 0, 2, 1, 0, 6, 0x80, 0, 0, 0, 0, 0,
-        ]
-        .as_slice()
-    );
+    assert_eq!(rt; bytes.as_slice(), HOLE_OF_A_RANGE.as_slice());
     Ok(())
 }
 
@@ -68,14 +85,7 @@ fn hole_of_everything(rt: HostRuntime) -> Result<(), Fail> {
         servers: servers(&[])?,
     };
     let bytes = write_referral(rt.alloc(), 1, &record)?;
-    assert_eq!(rt;
-        bytes.as_slice(),
-        [
-            0x60, 0, 0, 1, 0, 0, 0, 0, 0, 0, 0, 1, 0, 0, 0, 0x0f, 0, 0, 0x90, 0, 0, 0, 0x40, 0x03,
-            0, 0, 2, 0, 0, 6, 0, 0, 0, 0, 0, 0,
-        ]
-        .as_slice()
-    );
+    assert_eq!(rt; bytes.as_slice(), HOLE_OF_EVERYTHING.as_slice());
     Ok(())
 }
 
@@ -89,14 +99,7 @@ fn not_authoritative_is_incomplete(rt: HostRuntime) -> Result<(), Fail> {
         servers: servers(&[])?,
     };
     let bytes = write_referral(rt.alloc(), 1, &record)?;
-    assert_eq!(rt;
-        bytes.as_slice(),
-        [
-            0x60, 0, 0, 1, 0, 0, 0, 0, 0, 0, 0, 1, 0, 0, 0, 0, 0, 0x20, 0xb8, 0, 0, 0, 0, 1, 0x0b,
-            0, 0, 1,
-        ]
-        .as_slice()
-    );
+    assert_eq!(rt; bytes.as_slice(), NOT_AUTHORITATIVE.as_slice());
     Ok(())
 }
 
@@ -110,15 +113,7 @@ fn acknowledgement_with_two_servers(rt: HostRuntime) -> Result<(), Fail> {
         servers: servers(&[Locator::V4(0x7f00_0101), Locator::V4(0x7f00_0102)])?,
     };
     let bytes = write_referral(rt.alloc(), 1, &record)?;
-    assert_eq!(rt;
-        bytes.as_slice(),
-        [
-            0x60, 0, 0, 1, 0, 0, 0, 0, 0, 0, 0, 1, 0, 0, 0x05, 0xa0, 0x02, 0x18, 0x50, 0, 0, 0, 0,
-            1, 0x0a, 1, 2, 0, 0x01, 0x64, 0xff, 0, 0, 1, 0, 1, 0x7f, 0, 1, 1, 0x01, 0x64, 0xff, 0,
-            0, 1, 0, 1, 0x7f, 0, 1, 2,
-        ]
-        .as_slice()
-    );
+    assert_eq!(rt; bytes.as_slice(), ACKNOWLEDGED.as_slice());
     Ok(())
 }
 
@@ -204,17 +199,66 @@ fn changed<const N: usize>(mut bytes: [u8; N], changes: &[(usize, u8)]) -> [u8; 
     bytes
 }
 
+/// So many bytes from the front.
+fn front(bytes: &[u8], len: usize) -> &[u8] {
+    &bytes[..len.min(bytes.len())]
+}
+
 #[test]
-fn referrals_are_refused_for_the_first_fault(rt: HostRuntime) {
-    assert_eq!(rt; read_referral(&[]).err(), Some(ReferralFault::Short));
-    assert_eq!(rt;
-        read_referral(&TO_A_NODE[..23]).err(),
-        Some(ReferralFault::Short)
-    );
-    assert_eq!(rt;
-        read_referral(&TO_A_NODE[..39]).err(),
-        Some(ReferralFault::Short)
-    );
+fn every_proper_prefix_of_a_referral_is_short(rt: HostRuntime) {
+    let vectors: [&[u8]; 6] = [
+        &TO_A_NODE,
+        &HOLE_OF_A_RANGE,
+        &LOOSE_HOLE,
+        &HOLE_OF_EVERYTHING,
+        &NOT_AUTHORITATIVE,
+        &ACKNOWLEDGED,
+    ];
+    for vector in vectors {
+        assert!(rt; read_referral(vector).is_ok());
+        for len in 0..vector.len() {
+            assert_eq!(rt;
+                read_referral(front(vector, len)).err(),
+                Some(ReferralFault::Short)
+            );
+        }
+    }
+}
+
+#[test]
+fn each_fault_of_a_referral_has_a_datagram(rt: HostRuntime) {
+    for (change, fault) in [
+        ((16, 2), ReferralFault::Short),
+        ((0, 0x70), ReferralFault::MessageType),
+        ((3, 0), ReferralFault::RecordCount),
+        ((3, 2), ReferralFault::RecordCount),
+        ((18, 0xd0), ReferralFault::BadAction),
+        ((18, 0xf0), ReferralFault::BadAction),
+        ((20, 0x10), ReferralFault::Signed),
+        ((23, 3), ReferralFault::EidFamily),
+        ((17, 33), ReferralFault::MaskLength),
+        ((35, 3), ReferralFault::LocatorFamily),
+        ((16, 0), ReferralFault::Trailing),
+    ] {
+        let bytes = changed(TO_A_NODE, &[change]);
+        assert_eq!(rt; read_referral(&bytes).err(), Some(fault));
+    }
+    for (change, fault) in [
+        ((20, 0x1a), ReferralFault::Signed),
+        ((18, 0xc7), ReferralFault::BadAction),
+        ((26, 3), ReferralFault::Lcaf),
+        ((29, 10), ReferralFault::Lcaf),
+        ((35, 3), ReferralFault::Lcaf),
+        ((27, 33), ReferralFault::MaskLength),
+        ((30, 0xc0), ReferralFault::TailNotZero),
+    ] {
+        let bytes = changed(LOOSE_HOLE, &[change]);
+        assert_eq!(rt; read_referral(&bytes).err(), Some(fault));
+    }
+}
+
+#[test]
+fn the_first_fault_of_a_referral_is_named(rt: HostRuntime) {
     for (changes, fault) in [
         ([(0, 0x70), (3, 2), (18, 0xd0)], ReferralFault::MessageType),
         ([(3, 2), (18, 0xd0), (20, 0x10)], ReferralFault::RecordCount),
@@ -230,15 +274,46 @@ fn referrals_are_refused_for_the_first_fault(rt: HostRuntime) {
         assert_eq!(rt; read_referral(&bytes).err(), Some(fault));
     }
     for (changes, fault) in [
-        ([(31, 0xc0), (20, 0x1a)], ReferralFault::Signed),
-        ([(19, 0xff), (18, 0xc7)], ReferralFault::BadAction),
-        ([(30, 0xc0), (31, 0)], ReferralFault::TailNotZero),
+        ([(20, 0x1a), (26, 3)], ReferralFault::Signed),
         ([(26, 3), (27, 33)], ReferralFault::Lcaf),
+        ([(26, 3), (35, 3)], ReferralFault::Lcaf),
         ([(29, 10), (27, 33)], ReferralFault::Lcaf),
         ([(27, 33), (31, 1)], ReferralFault::MaskLength),
+        ([(31, 1), (16, 1)], ReferralFault::TailNotZero),
     ] {
         let bytes = changed(LOOSE_HOLE, &changes);
         assert_eq!(rt; read_referral(&bytes).err(), Some(fault));
+    }
+}
+
+#[test]
+fn a_wrong_field_is_named_before_the_end(rt: HostRuntime) {
+    for (len, change, fault) in [
+        // Within the first field the end comes first.
+        (3, (0, 0x70), ReferralFault::Short),
+        (4, (0, 0x70), ReferralFault::MessageType),
+        (4, (3, 2), ReferralFault::RecordCount),
+        (23, (18, 0xd0), ReferralFault::Short),
+        (24, (18, 0xd0), ReferralFault::BadAction),
+        (24, (20, 0x10), ReferralFault::Signed),
+        (24, (23, 3), ReferralFault::EidFamily),
+        // A mask length is judged with the whole address.
+        (27, (17, 33), ReferralFault::Short),
+        (28, (17, 33), ReferralFault::MaskLength),
+        (35, (35, 3), ReferralFault::Short),
+        (36, (35, 3), ReferralFault::LocatorFamily),
+    ] {
+        let bytes = changed(TO_A_NODE, &[change]);
+        assert_eq!(rt; read_referral(front(&bytes, len)).err(), Some(fault));
+    }
+    for (len, change, fault) in [
+        (29, (26, 3), ReferralFault::Short),
+        (30, (26, 3), ReferralFault::Lcaf),
+        (35, (29, 10), ReferralFault::Short),
+        (35, (27, 33), ReferralFault::Short),
+    ] {
+        let bytes = changed(LOOSE_HOLE, &[change]);
+        assert_eq!(rt; read_referral(front(&bytes, len)).err(), Some(fault));
     }
 }
 

@@ -1,0 +1,66 @@
+-- The answer from the authority that was found.
+use Rattle.std.proofs.Common.{◌≡◌, ℕ, Bool, false, arith, eqb-true, List, map, Some, Option, None, [], ◌∷◌, length, cond, refl, sym, ap, ◌∙◌}
+use Rattle.std.specs.Prelude.{◌==◌, is_some, option_and_then, slice_get}
+use Rattle.std.specs.Option.{option_map, option_map_or}
+use Rattle.std.proofs.lemmas.Bool.{false_from_ne_true}
+use Rattle.ddt_path.specs.declared.locator.Locator.{Locator}
+use Rattle.ddt_path.specs.declared.record.ReferralRecord.{ReferralRecord}
+use Rattle.ddt_path.specs.declared.record.Outcome.TheVariants.{Registered, NotRegistered}
+use Rattle.ddt_path.specs.Records.{record_of, referral, not_authoritative}
+use Rattle.ddt_path.specs.declared.record.Role.{Role}
+use Rattle.ddt_path.specs.declared.record.Role.TheVariants.{Node, Ms}
+use Rattle.ddt_config.specs.declared.config.Child.{Child}
+use Rattle.ddt_config.specs.declared.config.SiteEntry.{SiteEntry}
+use Rattle.ddt_config.specs.declared.config.Content.{Content}
+use Rattle.ddt_config.specs.declared.config.Content.TheVariants.{Children, Sites}
+use Rattle.ddt_path.specs.Free.{longest_match}
+use Rattle.ddt_config.specs.declared.config.Authority.{Authority}
+use Rattle.ddt_config.specs.Table.{Outline}
+use Rattle.ddt_config.specs.Answer.{answer, answer_in, site_outcome, hole_in, referral_to}
+use Rattle.ddt_node.specs.Server.{authority_of, etr_in, first_etr, is_ack}
+use Rattle.ddt_node.specs.declared.handling.Forward.{Forward}
+
+module _ (c d : Outline) (x : List ℕ) (a : Authority) (found : authority_of c x ≡ Some a) (same : c ≡ d) where
+  pub answer_from : (r : ReferralRecord) → r ≡ answer_in c.locators a.prefix a.content x → r ≡ answer d x
+  answer_from r is =
+      is ∙ ap (λ (o : Option Authority). option_map_or (λ b. answer_in c.locators b.prefix b.content x) o (not_authoritative x)) (sym found) ∙ ap (λ (o : Outline). answer o x) same
+
+  pub etr_from : (r : Option Locator) → r ≡ etr_in x a.content → r ≡ first_etr d x
+  etr_from r is = is ∙ ap (option_and_then (λ (b : Authority). etr_in x b.content)) (sym found) ∙ ap (λ (o : Outline). first_etr o x) same
+
+-- there is an ETR to send to exactly where the answer is MS-ACK
+site_acknowledged : (servers : List Locator) (s : SiteEntry) → is_some (slice_get s.etrs 0) ≡ is_ack (record_of (site_outcome servers s)).action
+site_acknowledged servers s = by_etrs s.etrs
+  where
+    by_etrs : (etrs : List Locator) → is_some (slice_get etrs 0) ≡ is_ack (record_of (cond (length etrs == 0) (NotRegistered s.prefix servers) (Registered s.prefix servers))).action
+    by_etrs [] = refl
+    by_etrs (l ∷ others) =
+        let some : (length (l ∷ others) == 0) ≡ false = false_from_ne_true (length (l ∷ others) == 0) (λ e. let none : length (l ∷ others) ≡ 0 = eqb-true (length (l ∷ others)) 0 e in absurd (omega arith)) in
+        ap (λ (b : Bool). is_ack (record_of (cond b (NotRegistered s.prefix servers) (Registered s.prefix servers))).action) (sym some)
+
+referral_unacknowledged : (role : Role) (prefix : List ℕ) (servers : List Locator) → false ≡ is_ack (referral role prefix servers).action
+referral_unacknowledged Node prefix servers = refl
+referral_unacknowledged Ms prefix servers = refl
+
+content_acknowledged : (servers : List Locator) (authority : List ℕ) (content : Content) (x : List ℕ) → is_some (etr_in x content) ≡ is_ack (answer_in servers authority content x).action
+content_acknowledged servers authority (Children cs) x = by_child (longest_match (λ c. c.prefix) cs x)
+  where
+    by_child : (o : Option Child) → false ≡ is_ack (option_map_or referral_to o (record_of (hole_in authority (map (λ c. c.prefix) cs) x))).action
+    by_child None = refl
+    by_child (Some c) = referral_unacknowledged c.role c.prefix c.locators
+content_acknowledged servers authority (Sites ss) x = by_site (longest_match (λ s. s.prefix) ss x)
+  where
+    by_site : (o : Option SiteEntry) → is_some (option_and_then (λ s. slice_get s.etrs 0) o) ≡ is_ack (record_of (option_map_or (site_outcome servers) o (hole_in authority (map (λ s. s.prefix) ss) x))).action
+    by_site None = refl
+    by_site (Some s) = site_acknowledged servers s
+
+mapped : (f : Locator → Forward) (o : Option Locator) → is_some (option_map f o) ≡ is_some o
+mapped f None = refl
+mapped f (Some l) = refl
+
+pub acknowledged : (c : Outline) (x : List ℕ) (f : Locator → Forward) → is_some (option_map f (first_etr c x)) ≡ is_ack (answer c x).action
+acknowledged c x f = mapped f (first_etr c x) ∙ by_authority (authority_of c x)
+  where
+    by_authority : (o : Option Authority) → is_some (option_and_then (λ a. etr_in x a.content) o) ≡ is_ack (option_map_or (λ a. answer_in c.locators a.prefix a.content x) o (not_authoritative x)).action
+    by_authority None = refl
+    by_authority (Some a) = content_acknowledged c.locators a.prefix a.content x

@@ -1,0 +1,84 @@
+-- What a server does with a datagram (RFC 8111, sections 7.1 and 7.2): a DDT Map-Request, whose bit D is set, is
+-- answered by a Map-Referral, and a Map-Server that acknowledges it sends it on to the ETR of the site.
+use Rattle.std.specs.Prelude.{ℕ, ◌+◌, ◌*◌, ◌/◌, ◌%◌, Bool, true, false, if◌then◌else◌, List, [], ◌∷◌, Option, Some, None, Result, Ok, Err, option_and_then, slice_get}
+use Rattle.std.specs.Option.{option_map, option_map_or}
+use Rattle.ddt_path.specs.declared.locator.Locator.{Locator}
+use Rattle.ddt_path.specs.declared.record.Action.{Action}
+use Rattle.ddt_path.specs.declared.record.Action.TheVariants.{NodeReferral, MsReferral, MsAck, MsNotRegistered, DelegationHole, NotAuthoritative}
+use Rattle.ddt_path.specs.Path.{xeid_path}
+use Rattle.ddt_path.specs.Free.{longest_match}
+use Rattle.ddt_config.specs.declared.config.SiteEntry.{SiteEntry}
+use Rattle.ddt_config.specs.declared.config.Content.{Content}
+use Rattle.ddt_config.specs.declared.config.Content.TheVariants.{Children, Sites}
+use Rattle.ddt_config.specs.declared.config.Authority.{Authority}
+use Rattle.ddt_config.specs.Table.{Outline}
+use Rattle.ddt_config.specs.Answer.{answer}
+use Rattle.ddt_wire.specs.Referral.{written}
+use Rattle.ddt_ecm.specs.declared.fault.RequestFault.{RequestFault}
+use Rattle.ddt_ecm.specs.Request.{Message, message_in}
+use Rattle.ddt_node.specs.declared.handling.Forward.{Forward}
+use Rattle.ddt_node.specs.declared.handling.Handled.{Handled}
+
+-- the longest authority that covers the identifier
+abbrev pub authority_of : Outline → List ℕ → Option Authority
+authority_of c x = longest_match (λ a. a.prefix) c.authorities x
+
+-- the longest site in it that covers the identifier
+abbrev pub site_in : List ℕ → Content → Option SiteEntry
+site_in x (Children cs) = None
+site_in x (Sites ss) = longest_match (λ s. s.prefix) ss x
+
+-- its first ETR, if one is registered
+abbrev pub etr_in : List ℕ → Content → Option Locator
+etr_in x content = option_and_then (λ s. slice_get s.etrs 0) (site_in x content)
+
+-- the ETR that an acknowledged request is sent on to
+abbrev pub first_etr : Outline → List ℕ → Option Locator
+first_etr c x = option_and_then (λ a. etr_in x a.content) (authority_of c x)
+
+-- a datagram with the bit D clear, which has the value 4 in the first byte
+abbrev pub without_d : List ℕ → List ℕ
+without_d [] = []
+without_d (b ∷ others) = (b / 8 * 8 + b % 4) ∷ others
+
+abbrev pub forward_to : List ℕ → Locator → Forward
+forward_to bytes_ to_ = record { to = to_; bytes = without_d bytes_ }
+
+-- the answer to a DDT Map-Request, and what is sent on
+abbrev pub answered : Outline → List ℕ → Message → Handled
+answered c bytes m = record {
+  reply = Some (written m.nonce (answer c (xeid_path m.xeid)));
+  forward = option_map (forward_to bytes) (first_etr c (xeid_path m.xeid));
+}
+
+-- nothing is answered and nothing is sent on
+abbrev pub ignored : Handled
+ignored = record { reply = None; forward = None }
+
+-- the request that the bytes are, if its bit D is set
+abbrev pub if_ddt : Result Message RequestFault → Option Message
+if_ddt (Ok m) = if m.ddt then Some m else None
+if_ddt (Err fault) = None
+
+abbrev pub ddt_request : List ℕ → Option Message
+ddt_request bytes = if_ddt (message_in bytes)
+
+-- any other datagram is ignored
+abbrev pub handled_as : Outline → List ℕ → Option Message → Handled
+handled_as c bytes (Some m) = answered c bytes m
+handled_as c bytes None = ignored
+
+abbrev pub handled : Outline → List ℕ → Handled
+handled c bytes = handled_as c bytes (ddt_request bytes)
+
+-- whether a request is acknowledged: MS-ACK
+abbrev pub is_ack : Action → Bool
+is_ack MsAck = true
+is_ack NodeReferral = false
+is_ack MsReferral = false
+is_ack MsNotRegistered = false
+is_ack DelegationHole = false
+is_ack NotAuthoritative = false
+
+abbrev pub acknowledges : Outline → List ℕ → Bool
+acknowledges c bytes = option_map_or (λ m. is_ack (answer c (xeid_path m.xeid)).action) (ddt_request bytes) false

@@ -1,0 +1,92 @@
+//! The maps of a server, from each prefix to the place of its item in the configuration.
+
+ghost use Rattle.std.specs.Prelude.{◌≡◌, ◌+◌, ◌<◌, [], length, map, nat_lt, IfOk, IsOk};
+ghost use Rattle.std.specs.List.{sum_by};
+ghost use Rattle.ddt_config.specs.Table.{outline};
+ghost use Rattle.ddt_config.specs.Entries.{prefixes_in, count_in as count_in_of, entry_count};
+ghost use Rattle.ddt_node.specs.Places.{places as places_of, places_in as places_in_of, AreIndexed};
+
+use crate::prefixed::Prefixed;
+use ddt_config::{Authority, Content, ServerConfig};
+use ddt_trie::PrefixMap;
+use std::alloc::{AllocError, Global};
+
+/// A server has fewer authorities, children and sites than this in all.
+const MOST_ENTRIES: usize = 1_048_576;
+
+/// The place of each item, by its prefix.
+fn places<T: Prefixed, M: PrefixMap<u32>>(alloc: Global, items: &[T]) -> Result<M, AllocError>
+    requires { length items.now < 1048576 }
+    ensures places { IfOk result (λ m. M.content m ≡ places_of (map T.path items.now)) }
+    ensures none { items.now ≡ [] → IsOk result }
+{
+    let mut places = M::empty(alloc);
+    // From last to first: of two items of one prefix the first would answer.
+    for at in (0..items.len()).rev() {
+        if places.insert(items[at].prefix(), at as u32).is_err() {
+            return Err(AllocError);
+        }
+    }
+    Ok(places)
+}
+
+/// The place of each child or site of an authority, by its prefix.
+fn places_in<M: PrefixMap<u32>>(alloc: Global, content: &Content) -> Result<M, AllocError>
+    requires { length (prefixes_in content.now) < 1048576 }
+    ensures { IfOk result (λ m. M.content m ≡ places_of (prefixes_in content.now)) }
+{
+    match content {
+        Content::Children(children) => places(alloc, children.as_slice()),
+        Content::Sites(sites) => places(alloc, sites.as_slice()),
+    }
+}
+
+/// For each authority the place of each child or site in it.
+fn contents<M: PrefixMap<u32>>(
+    alloc: Global,
+    authorities: &[Authority],
+) -> Result<Vec<M>, AllocError>
+    requires { sum_by count_in_of authorities.now < 1048576 }
+    ensures contents { IfOk result (λ maps. map M.content maps.items ≡ map places_in_of authorities.now) }
+    ensures none { authorities.now ≡ [] → IsOk result }
+{
+    let mut contents = Vec::new(alloc);
+    for authority in authorities {
+        contents.push(places_in(alloc, &authority.content)?)?;
+    }
+    Ok(contents)
+}
+
+/// The place of each authority, and for each of them the place of each child or site in it.
+pub fn index<M: PrefixMap<u32>>(
+    alloc: Global,
+    authorities: &[Authority],
+) -> Result<(M, Vec<M>), AllocError>
+    requires { length authorities.now + sum_by count_in_of authorities.now < 1048576 }
+    ensures indexed { IfOk result (λ maps. AreIndexed authorities.now (M.content maps.0) (map M.content maps.1.items)) }
+    ensures none { authorities.now ≡ [] → IsOk result }
+{
+    Ok((places(alloc, authorities)?, contents(alloc, authorities)?))
+}
+
+fn count_in(content: &Content) -> usize
+    ensures { result ≡ length (prefixes_in content.now) }
+{
+    match content {
+        Content::Children(children) => children.as_slice().len(),
+        Content::Sites(sites) => sites.as_slice().len(),
+    }
+}
+
+/// Whether a server of this configuration can be built: it has fewer than 1,048,576 authorities, children and sites in
+/// all.
+pub fn has_room_for(config: &ServerConfig) -> bool
+    ensures { result ≡ nat_lt (entry_count (outline config.now)) MOST_ENTRIES }
+{
+    let authorities = config.authorities.as_slice();
+    let mut count = authorities.len();
+    for authority in authorities {
+        count = count.saturating_add(count_in(&authority.content));
+    }
+    count < MOST_ENTRIES
+}

@@ -1,0 +1,111 @@
+//! A server of one configuration.
+
+ghost use Rattle.std.specs.Prelude.{◌≡◌, ◌<◌, [], is_some, None, Ok, IfOk, IfErr, IsOk};
+ghost use Rattle.ddt_path.specs.Path.{xeid_path};
+ghost use Rattle.ddt_config.specs.Table.{outline};
+ghost use Rattle.ddt_config.specs.Answer.{answer as answer_of};
+ghost use Rattle.ddt_config.specs.Entries.{entry_count};
+ghost use Rattle.ddt_node.specs.Server.{first_etr, ddt_request as ddt_request_of, handled as handled_of, ignored as ignored_of, acknowledges};
+
+use crate::answering::{answer_in, longest};
+use crate::building::index;
+use crate::handling::{Handled, ddt_request};
+use ddt_config::ServerConfig;
+use ddt_path::{Locator, ReferralRecord, Xeid};
+use ddt_trie::PrefixMap;
+use std::alloc::{AllocError, Global};
+use std::marker::Model;
+
+/// A DDT node or a Map-Server with its configuration. Contracts see what the configuration holds.
+#[derive(Drop)]
+pub struct Server<M: PrefixMap<u32>> {
+    config: ServerConfig,
+    /// The place of each authority, by its prefix.
+    authorities: M,
+    /// For each authority the place of each child or site in it, by its prefix.
+    contents: Vec<M>,
+}
+
+impl<M: PrefixMap<u32>> Model for Server<M> {
+    ghost use Rattle.std.specs.Prelude.{map};
+    ghost use Rattle.ddt_config.specs.Table.{Outline, outline};
+    ghost use Rattle.ddt_node.specs.Places.{AreIndexed};
+
+    ghost Value = { Outline };
+
+    ghost view = { λ s. outline s.config };
+
+    ghost invariant = { λ s. AreIndexed s.config.authorities (M.content s.authorities) (map M.content s.contents.items) };
+}
+
+impl<M: PrefixMap<u32>> Server<M> {
+    /// A server of this configuration, which is to have fewer than 1,048,576 authorities, children and sites in all.
+    /// Where memory is refused, the configuration comes back; one without authorities wants none.
+    pub fn build(alloc: Global, config: ServerConfig) -> Result<Server<M>, ServerConfig>
+        requires { entry_count (outline config) < 1048576 }
+        ensures built { IfOk result (λ server. server ≡ outline config) }
+        ensures refused { IfErr result (λ back. back ≡ config) }
+        ensures none { config.authorities ≡ [] → IsOk result }
+    {
+        match index(alloc, config.authorities.as_slice()) {
+            Ok((authorities, contents)) => Ok(Server {
+                config,
+                authorities,
+                contents,
+            }),
+            Err(_refused) => Err(config),
+        }
+    }
+
+    /// Its configuration.
+    pub fn config(&self) -> &ServerConfig
+        ensures { outline result.now ≡ self.now }
+    {
+        &self.config
+    }
+
+    /// The record that answers an identifier, from the longest authority that covers it: the referral to a child; of a
+    /// site MS-ACK, or MS-NOT-REGISTERED where it has no ETR; else the delegation hole. NOT-AUTHORITATIVE where no
+    /// authority covers the identifier (RFC 8111, sections 6.1, 7.1 and 7.2). It takes no memory.
+    pub fn answer(&self, x: Xeid) -> ReferralRecord
+        ensures { result ≡ answer_of self.now (xeid_path x) }
+    {
+        self.answer_and_etr(x).0
+    }
+
+    /// The answer, and the ETR that a request goes on to where it is acknowledged.
+    fn answer_and_etr(&self, x: Xeid) -> (ReferralRecord, Option<Locator>)
+        ensures answer { result.0 ≡ answer_of self.now (xeid_path x) }
+        ensures etr { result.1 ≡ first_etr self.now (xeid_path x) }
+    {
+        let authorities = self.config.authorities.as_slice();
+        match longest(authorities, &self.authorities, x) {
+            Some(at) => answer_in(
+                self.config.locators,
+                &authorities[at],
+                &self.contents[at],
+                x,
+            ),
+            None => (ReferralRecord::not_authoritative(x), None),
+        }
+    }
+
+    /// What is sent for a datagram. A DDT Map-Request, whose bit D is set, is answered by a Map-Referral with its
+    /// nonce, to be sent to where it came from; on MS-ACK the datagram with that bit clear goes on to the first ETR of
+    /// the site (RFC 8111, sections 7.1 and 7.2). For any other datagram nothing is sent, and no memory is wanted.
+    /// Refused for memory alone.
+    #[tactic(auto, using(crate::proofs::AnswerLemmas::acknowledged))]
+    pub fn handle(&self, alloc: Global, bytes: &[u8]) -> Result<Handled, AllocError>
+        ensures handled { IfOk result (λ h. h ≡ handled_of self.now bytes.now) }
+        ensures acknowledged { IfOk result (λ h. is_some h.forward ≡ acknowledges self.now bytes.now) }
+        ensures ignored { ddt_request_of bytes.now ≡ None → result ≡ Ok ignored_of }
+    {
+        match ddt_request(bytes) {
+            Some(request) => {
+                let (record, etr) = self.answer_and_etr(request.xeid());
+                Handled::answered(alloc, request.nonce(), &record, etr, bytes)
+            }
+            None => Ok(Handled::ignored()),
+        }
+    }
+}

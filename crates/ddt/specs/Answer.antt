@@ -1,10 +1,15 @@
 -- What the program answers for a group and an identifier: the bytes of the Map-Referral for nonce 1 (RFC 8111, section 6.4).
-use Rattle.std.specs.Prelude.{ℕ, List, [], ◌∷◌, Option, option_map}
+use Rattle.std.specs.Prelude.{ℕ, ◌≡◌, List, [], ◌∷◌, Option, Some, option_map}
 use Rattle.ddt_path.specs.declared.locator.Locator.{Locator}
 use Rattle.ddt_path.specs.declared.locator.Locator.TheVariants.{V4}
 use Rattle.ddt_register.specs.declared.register.Register.{Register}
 use Rattle.ddt_check.specs.Zones.{group_named}
+use Rattle.ddt_register.specs.declared.group.Group.{Group}
 use Rattle.ddt_check.specs.Says.{says}
+use Rattle.ddt_config.specs.declared.config.ServerConfig.{ServerConfig}
+use Rattle.ddt_config.specs.Table.{outline}
+use Rattle.ddt_compile.specs.GroupConfig.{group_config}
+use Rattle.ddt_compile.specs.Laws.{IsHonestConfig, HasRoom}
 use Rattle.ddt_wire.specs.Referral.{written}
 
 -- The first locator of a group. An accepted register has no group without one; this gives 0.0.0.0 there.
@@ -15,3 +20,8 @@ first_locator (l ∷ ls) = l
 -- The answer of the group of this name; none where no group has the name.
 abbrev pub group_answer : Register → List ℕ → List ℕ → Option (List ℕ)
 group_answer r name x = option_map (λ g. written 1 (says r (first_locator g.locators) x)) (group_named r name)
+
+-- the configuration of the group of this name: it answers as the register says, and a server has room for it
+abbrev pub IsConfigOfGroup : Register → List ℕ → ServerConfig → Type 0
+IsConfigOfGroup r name c =
+    (g : Group) × (group_named r name ≡ Some g) × (outline c ≡ group_config r g) × IsHonestConfig r (outline c) × HasRoom (outline c)

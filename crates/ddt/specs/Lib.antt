@@ -1,2 +1,6 @@
 pub mod Answer
 pub mod Status
+pub mod Words
+pub mod Lines
+pub mod Commands
+pub mod Refusal

@@ -1,14 +1,27 @@
-//! The referral that the servers of a group answer for an identifier.
+//! The referral that the servers of a group answer for an identifier: by a server of the group's configuration, which is
+//! sent a request as a resolver sends it.
 
-ghost use Rattle.std.specs.Prelude.{◌≡◌, IfOk, option_map, string_bytes};
+ghost use Rattle.std.specs.Prelude.{◌≡◌, ◌<◌, None, IfOk, MatchOption, option_map, string_bytes, find};
 ghost use Rattle.hex.specs.Hex.{encode_lower};
 ghost use Rattle.ddt_path.specs.Path.{xeid_path};
-ghost use Rattle.ddt.specs.Answer.{group_answer, first_locator as first_locator_of};
+ghost use Rattle.ddt_check.specs.Zones.{group_named, is_same_name};
+ghost use Rattle.ddt_config.specs.Answer.{answer};
+ghost use Rattle.ddt_config.specs.Entries.{entry_count};
+ghost use Rattle.ddt_config.specs.Table.{outline};
+ghost use Rattle.ddt_wire.specs.Referral.{written};
+ghost use Rattle.ddt.specs.Answer.{group_answer, IsConfigOfGroup};
 
-use ddt_check::{Accepted, says};
+use ddt_check::Accepted;
+use ddt_compile::compile;
+use ddt_config::ServerConfig;
+use ddt_ecm::write_request;
+use ddt_node::{Handled, Server};
 use ddt_path::{Locator, Name, Xeid};
-use ddt_wire::write_referral;
+use ddt_trie::ListMap;
 use std::alloc::{AllocError, Global};
+
+/// The resolver that asks, 127.0.0.53.
+const RESOLVER: Locator = Locator::V4(0x7f00_0035);
 
 /// The bytes of the Map-Referral for nonce 1 that the group's server at its first locator answers; None exactly where
 /// no group has the name. Refused for memory alone.
@@ -20,19 +33,43 @@ pub fn answer_group(
 ) -> Result<Option<Vec<u8>>, AllocError>
     ensures { IfOk result (λ answer. option_map (λ v. v.items) answer ≡ group_answer accepted.now group (xeid_path x)) }
 {
-    let Some(server) = accepted.group_named(group) else {
-        return Ok(None);
-    };
-    let record = says(accepted, first_locator(server.locators.as_slice()), x);
-    Ok(Some(write_referral(alloc, 1, &record)?))
+    match config_of_group(alloc, accepted, group)? {
+        Some(config) => Ok(Some(answer_by(alloc, config, x)?)),
+        None => Ok(None),
+    }
 }
 
-fn first_locator(locators: &[Locator]) -> Locator
-    ensures { result ≡ first_locator_of locators.now }
+/// The configuration of the group of this name.
+fn config_of_group(
+    alloc: Global,
+    accepted: &Accepted,
+    group: Name,
+) -> Result<Option<ServerConfig>, AllocError>
+    ensures { IfOk result (λ found. MatchOption found (group_named accepted.now group ≡ None) (λ c. IsConfigOfGroup accepted.now group c)) }
 {
-    match locators {
-        [first, ..] => *first,
-        [] => Locator::V4(0),
+    let configs = compile(alloc, accepted)?;
+    Ok(take_named(configs.into_vec(), group))
+}
+
+fn take_named(configs: Vec<ServerConfig>, name: Name) -> Option<ServerConfig>
+    ensures { result ≡ find (λ c. is_same_name c.name name) configs.items }
+{
+    configs.into_iter().find(|c| c.name == name)
+}
+
+/// What a server of this configuration replies to a request of nonce 1.
+fn answer_by(alloc: Global, config: ServerConfig, x: Xeid) -> Result<Vec<u8>, AllocError>
+    requires { entry_count (outline config) < 1048576 }
+    ensures { IfOk result (λ bytes. bytes.items ≡ written 1 (answer (outline config) (xeid_path x))) }
+{
+    let Ok(server) = Server::<ListMap<u32>>::build(alloc, config) else {
+        return Err(AllocError);
+    };
+    let request = write_request(alloc, 1, x, &[RESOLVER], true)?;
+    let Handled { reply, forward: _ } = server.handle(alloc, &request)?;
+    match reply {
+        Some(reply) => Ok(reply.into_vec()),
+        None => unreachable!(),
     }
 }
 

@@ -3,5 +3,6 @@
 pub mod answer;
 pub mod assign;
 pub mod check;
+pub mod compile;
 pub mod inputs;
 pub mod show;

@@ -44,6 +44,10 @@ impl From<AllocError> for Refusal<'_> {
 }
 
 impl fmt::Display for Refusal<'_> {
+    ghost use Rattle.ddt.specs.Refusal.{refusal_text};
+
+    ghost output = { refusal_text };
+
     fn fmt<W: fmt::Write>(&self, f: &mut fmt::Formatter<W>) -> fmt::Result {
         match self {
             Refusal::BadIdentifier(fault) => write!(f, "bad identifier {fault}"),

@@ -1,8 +1,13 @@
 //! From the words of the process to the command that they spell.
 
+ghost use Rattle.std.specs.Prelude.{◌≡◌, ◌≢◌, ◌↔◌, map, string_bytes};
+ghost use Rattle.ddt.specs.declared.status.Status.TheVariants.{BadWords as IsBadWords};
+ghost use Rattle.ddt.specs.Words.{AreBad};
+
 use crate::commands::answer::{AnswerWords, answer};
 use crate::commands::assign::{AssignWords, assign};
 use crate::commands::check::check;
+use crate::commands::compile::{CompileWords, compile};
 use crate::commands::show::show;
 use crate::status::Status;
 use crate::words::{Command, read_words};
@@ -12,6 +17,7 @@ use std::io::{Read, Write};
 const USAGE: &str = "usage: ddt answer REGISTER GROUP XEID
        ddt assign REGISTER XEID
        ddt check REGISTER
+       ddt compile REGISTER GROUP
        ddt show HEX
 ";
 
@@ -30,6 +36,7 @@ where
     W: Write,
     E: Write,
     requires { O.IsAlwaysCallable open_file }
+    ensures { (result ≡ IsBadWords) ↔ AreBad (map string_bytes words.now) }
 {
     match words {
         [_, words @ ..] => match read_words(words) {
@@ -41,7 +48,9 @@ where
 }
 
 /// Shows the commands on `err`: the words fit none.
-pub fn show_usage<E: Write>(err: &mut E) -> Status {
+pub fn show_usage<E: Write>(err: &mut E) -> Status
+    ensures { result ≡ IsBadWords }
+{
     let _ = err.write_all(USAGE.as_bytes());
     Status::BadWords
 }
@@ -59,6 +68,7 @@ where
     W: Write,
     E: Write,
     requires { O.IsAlwaysCallable open_file }
+    ensures { result ≢ IsBadWords }
 {
     match command {
         Command::Answer {
@@ -78,6 +88,10 @@ where
             assign(alloc, open_file(register), &words, out, err)
         }
         Command::Check { register } => check(alloc, open_file(register), register, out, err),
+        Command::Compile { register, group } => {
+            let words = CompileWords { register, group };
+            compile(alloc, open_file(register), &words, out, err)
+        }
         Command::Show { hex } => show(alloc, hex, out, err),
     }
 }

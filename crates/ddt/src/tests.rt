@@ -2,5 +2,6 @@
 
 mod answer_lines;
 mod check_lines;
+mod compile_lines;
 mod harness;
 mod show_lines;

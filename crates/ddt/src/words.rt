@@ -1,5 +1,8 @@
 //! The words of the command line.
 
+ghost use Rattle.std.specs.Prelude.{◌≡◌, MatchOption, map, string_bytes};
+ghost use Rattle.ddt.specs.Words.{words_of, FitNone};
+
 /// A command and its arguments, as they were given.
 #[derive(Clone, Copy, Debug, PartialEq, Eq)]
 pub enum Command<'a> {
@@ -18,6 +21,11 @@ pub enum Command<'a> {
     Check {
         register: &'a str,
     },
+    /// `compile REGISTER GROUP`
+    Compile {
+        register: &'a str,
+        group: &'a str,
+    },
     /// `show HEX`
     Show {
         hex: &'a str,
@@ -25,7 +33,9 @@ pub enum Command<'a> {
 }
 
 /// The command that the words spell; None where they fit none.
-pub fn read_words(words: &[String]) -> Option<Command<'_>> {
+pub fn read_words(words: &[String]) -> Option<Command<'_>>
+    ensures { MatchOption result (FitNone (map string_bytes words.now)) (λ c. words_of c ≡ map string_bytes words.now) }
+{
     let (name, arguments) = words.split_first()?;
     match (name.as_str(), arguments) {
         ("answer", [register, group, xeid]) => Some(Command::Answer {
@@ -39,6 +49,10 @@ pub fn read_words(words: &[String]) -> Option<Command<'_>> {
         }),
         ("check", [register]) => Some(Command::Check {
             register: register.as_str(),
+        }),
+        ("compile", [register, group]) => Some(Command::Compile {
+            register: register.as_str(),
+            group: group.as_str(),
         }),
         ("show", [hex]) => Some(Command::Show { hex: hex.as_str() }),
         _ => None,

@@ -1,5 +1,10 @@
 //! `ddt answer REGISTER GROUP XEID`: what the group's server answers to a request of nonce 1, in hexadecimal.
 
+ghost use Rattle.std.specs.Prelude.{◌≡◌, ◌≢◌, ◌++◌, ℕ, List, None, IsErr, IfOk, codes, string_bytes};
+ghost use Rattle.std.specs.Io.KnownBytes.{Appends};
+ghost use Rattle.ddt.specs.declared.status.Status.TheVariants.{Answered as IsAnswered, BadWords as IsBadWords};
+ghost use Rattle.ddt.specs.Commands.{IsAnswerLine, Tells};
+
 use crate::answering::answer_hex;
 use crate::commands::inputs::{accepted_register, identifier};
 use crate::lines::{print_line, refuse};
@@ -25,7 +30,11 @@ pub fn answer<R: Read + Drop, W: Write, E: Write>(
     words: &AnswerWords<'_>,
     out: &mut W,
     err: &mut E,
-) -> Status {
+) -> Status
+    ensures answered { result ≡ IsAnswered → (bytes : List ℕ) → Tells R.remaining source bytes → (line : List ℕ) × IsAnswerLine bytes words.now.group.now words.now.xeid.now line × Appends (W.contents out.old) (W.contents out.new) (line ++ codes "\n") }
+    ensures closed { source ≡ None → result ≢ IsAnswered }
+    ensures fits { result ≢ IsBadWords }
+{
     match answer_line(alloc, source, words) {
         Ok(line) => print_line(line.as_bytes(), out),
         Err(refusal) => refuse(&refusal, err),
@@ -36,11 +45,17 @@ fn answer_line<'a, R: Read + Drop>(
     alloc: Global,
     source: Option<R>,
     words: &AnswerWords<'a>,
-) -> Result<String, Refusal<'a>> {
+) -> Result<String, Refusal<'a>>
+    ensures line { IfOk result (λ line. (bytes : List ℕ) → Tells R.remaining source bytes → IsAnswerLine bytes words.now.group.now words.now.xeid.now (string_bytes line)) }
+    ensures closed { source ≡ None → IsErr result }
+{
     let x = identifier(words.xeid)?;
     let accepted = accepted_register(alloc, source, words.register)?;
     let Some(group) = Name::of(words.group.as_bytes()) else {
         return Err(Refusal::NoSuchGroup);
     };
-    answer_hex(alloc, &accepted, group, x)?.ok_or(Refusal::NoSuchGroup)
+    match answer_hex(alloc, &accepted, group, x)? {
+        Some(line) => Ok(line),
+        None => Err(Refusal::NoSuchGroup),
+    }
 }

@@ -1,5 +1,10 @@
 //! `ddt assign REGISTER XEID`: what longest match over the register assigns to the identifier.
 
+ghost use Rattle.std.specs.Prelude.{◌≡◌, ◌≢◌, ◌++◌, ℕ, List, None, IsErr, IfOk, codes};
+ghost use Rattle.std.specs.Io.KnownBytes.{Appends};
+ghost use Rattle.ddt.specs.declared.status.Status.TheVariants.{Answered as IsAnswered, BadWords as IsBadWords};
+ghost use Rattle.ddt.specs.Commands.{IsAssignLine, Tells};
+
 use crate::commands::inputs::{accepted_register, identifier};
 use crate::lines::{outcome_line, print_line, refuse};
 use crate::refusal::Refusal;
@@ -23,7 +28,11 @@ pub fn assign<R: Read + Drop, W: Write, E: Write>(
     words: &AssignWords<'_>,
     out: &mut W,
     err: &mut E,
-) -> Status {
+) -> Status
+    ensures answered { result ≡ IsAnswered → (bytes : List ℕ) → Tells R.remaining source bytes → (line : List ℕ) × IsAssignLine bytes words.now.xeid.now line × Appends (W.contents out.old) (W.contents out.new) (line ++ codes "\n") }
+    ensures closed { source ≡ None → result ≢ IsAnswered }
+    ensures fits { result ≢ IsBadWords }
+{
     match assign_line(alloc, source, words) {
         Ok(line) => print_line(&line, out),
         Err(refusal) => refuse(&refusal, err),
@@ -34,7 +43,10 @@ fn assign_line<'a, R: Read + Drop>(
     alloc: Global,
     source: Option<R>,
     words: &AssignWords<'a>,
-) -> Result<Vec<u8>, Refusal<'a>> {
+) -> Result<Vec<u8>, Refusal<'a>>
+    ensures line { IfOk result (λ line. (bytes : List ℕ) → Tells R.remaining source bytes → IsAssignLine bytes words.now.xeid.now line.items) }
+    ensures closed { source ≡ None → IsErr result }
+{
     let x = identifier(words.xeid)?;
     let accepted = accepted_register(alloc, source, words.register)?;
     Ok(outcome_line(alloc, &assignment(&accepted, x))?)

@@ -1,7 +1,13 @@
 //! `ddt check REGISTER`: whether a register is accepted.
 
+ghost use Rattle.std.specs.Prelude.{◌≡◌, ◌≢◌, ◌++◌, ℕ, List, None, IsErr, IfOk, codes};
+ghost use Rattle.std.specs.Io.KnownBytes.{Appends};
+ghost use Rattle.ddt.specs.declared.status.Status.TheVariants.{Answered as IsAnswered, BadWords as IsBadWords};
+ghost use Rattle.ddt.specs.Commands.{IsCheckLine, Tells};
+ghost use Rattle.ddt.specs.Lines.{counts_text};
+
 use crate::commands::inputs::accepted_register;
-use crate::lines::{print_line, refuse};
+use crate::lines::{print_line, push_number, push_text, refuse};
 use crate::refusal::Refusal;
 use crate::status::Status;
 use ddt_check::Counts;
@@ -16,9 +22,13 @@ pub fn check<R: Read + Drop, W: Write, E: Write>(
     path: &str,
     out: &mut W,
     err: &mut E,
-) -> Status {
+) -> Status
+    ensures answered { result ≡ IsAnswered → (bytes : List ℕ) → Tells R.remaining source bytes → (line : List ℕ) × IsCheckLine bytes line × Appends (W.contents out.old) (W.contents out.new) (line ++ codes "\n") }
+    ensures closed { source ≡ None → result ≢ IsAnswered }
+    ensures fits { result ≢ IsBadWords }
+{
     match check_line(alloc, source, path) {
-        Ok(line) => print_line(line.as_bytes(), out),
+        Ok(line) => print_line(&line, out),
         Err(verdict @ (Refusal::Unreadable(_) | Refusal::Refused(_))) => refuse(&verdict, out),
         Err(refusal) => refuse(&refusal, err),
     }
@@ -28,16 +38,23 @@ fn check_line<R: Read + Drop>(
     alloc: Global,
     source: Option<R>,
     path: &str,
-) -> Result<String, Refusal<'_>> {
+) -> Result<Vec<u8>, Refusal<'_>>
+    ensures line { IfOk result (λ line. (bytes : List ℕ) → Tells R.remaining source bytes → IsCheckLine bytes line.items) }
+    ensures closed { source ≡ None → IsErr result }
+{
     let accepted = accepted_register(alloc, source, path)?;
     Ok(accepted_line(alloc, accepted.counts())?)
 }
 
-fn accepted_line(alloc: Global, counts: Counts) -> Result<String, AllocError> {
-    let Counts {
-        zones,
-        sites,
-        groups,
-    } = counts;
-    format!(in alloc; "accepted {zones} zones {sites} sites {groups} groups")
+fn accepted_line(alloc: Global, counts: Counts) -> Result<Vec<u8>, AllocError>
+    ensures { IfOk result (λ line. line.items ≡ counts_text counts.zones counts.sites counts.groups) }
+{
+    let mut line = Vec::from_slice(alloc, b"accepted ")?;
+    push_number(&mut line, counts.zones)?;
+    push_text(&mut line, " zones ")?;
+    push_number(&mut line, counts.sites)?;
+    push_text(&mut line, " sites ")?;
+    push_number(&mut line, counts.groups)?;
+    push_text(&mut line, " groups")?;
+    Ok(line)
 }

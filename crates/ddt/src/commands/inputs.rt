@@ -1,5 +1,11 @@
 //! What commands are given: an identifier among the words, and a register from a file.
 
+ghost use Rattle.std.specs.Prelude.{◌≡◌, ℕ, List, None, Ok, Err, IsErr, IfOk, IfErr};
+ghost use Rattle.ddt_text.specs.declared.fault.TextFault.{TextFault};
+ghost use Rattle.ddt_text.specs.FirstFault.{xeid_in};
+ghost use Rattle.ddt.specs.declared.refusal.Refusal.TheVariants.{BadIdentifier as IsBadIdentifier, CannotOpen as IsCannotOpen};
+ghost use Rattle.ddt.specs.Commands.{IsAcceptedIn, IsWhyNone, Tells};
+
 use crate::refusal::Refusal;
 use ddt_check::{Accepted, check};
 use ddt_path::Xeid;
@@ -9,7 +15,10 @@ use std::alloc::Global;
 use std::io::Read;
 
 /// The identifier that a word spells.
-pub fn identifier(word: &str) -> Result<Xeid, Refusal<'static>> {
+pub fn identifier(word: &str) -> Result<Xeid, Refusal<'static>>
+    ensures found { IfOk result (λ x. xeid_in word.now ≡ Ok x) }
+    ensures refused { IfErr result (λ why. (fault : TextFault) × (why ≡ IsBadIdentifier fault) × (xeid_in word.now ≡ Err fault)) }
+{
     match parse_xeid(word.as_bytes()) {
         Ok(x) => Ok(x),
         Err(fault) => Err(Refusal::BadIdentifier(fault)),
@@ -21,7 +30,12 @@ pub fn accepted_register<R: Read + Drop>(
     alloc: Global,
     source: Option<R>,
     path: &str,
-) -> Result<Accepted, Refusal<'_>> {
+) -> Result<Accepted, Refusal<'_>>
+    ensures accepted { IfOk result (λ a. (bytes : List ℕ) → Tells R.remaining source bytes → IsAcceptedIn bytes a) }
+    ensures refused { IfErr result (λ why. (bytes : List ℕ) → Tells R.remaining source bytes → IsWhyNone bytes why) }
+    ensures closed { source ≡ None → IfErr result (λ why. (name : _) × (why ≡ IsCannotOpen name) × (name.now ≡ path.now)) }
+    ensures opened { source ≡ None → IsErr result }
+{
     let Some(reader) = source else {
         return Err(Refusal::CannotOpen(path));
     };

@@ -137,6 +137,41 @@ fn assign_prints_the_outcome_of_each_identifier(rt: HostRuntime) -> Result<(), F
     Ok(())
 }
 
+#[test]
+fn assign_names_what_stands_in_its_way(rt: HostRuntime) -> Result<(), Fail> {
+    let rows = [
+        (
+            CAMPUS,
+            "missing.csv",
+            "[0]10.1.2",
+            "bad identifier 4 Address\n",
+        ),
+        (
+            CAMPUS,
+            "missing.csv",
+            "[0]10.1.2.3",
+            "cannot open missing.csv\n",
+        ),
+        (
+            "zone",
+            "register.csv",
+            "[0]10.1.2.3",
+            "unreadable 2 Columns\n",
+        ),
+        (
+            "",
+            "register.csv",
+            "[0]10.1.2.3",
+            "refused A1 NoRoot row 0\n",
+        ),
+    ];
+    for (register, path, x, line) in rows {
+        let words = ["assign", path, x];
+        expect(&rt, rt.alloc(), register, &words, (Refused, "", line))?;
+    }
+    Ok(())
+}
+
 /// The root, and a node for one address.
 const FAR_HOST: &str = "kind,prefix,group,addresses
 group-node,,root,127.0.0.1

@@ -10,6 +10,7 @@ use std::test::Fail;
 pub const USAGE: &str = "usage: ddt answer REGISTER GROUP XEID
        ddt assign REGISTER XEID
        ddt check REGISTER
+       ddt compile REGISTER GROUP
        ddt show HEX
 ";
 

@@ -1,0 +1,72 @@
+#!/usr/bin/env bash
+# Runs each command, and each test that `rt test` has built, again and again: the first run gets no memory at its first
+# allocation, the next at its second, and so on up to the run that is given all it asks for. A command is to say `out of memory` with status 1 and print nothing, or to
+# answer what it answers with ample memory; a test is to pass, or to end with the error that says that memory is wanted,
+# and never with a failed comparison. Wants a C compiler. Ends with status 1 where a run does anything else.
+set -u
+cd -- "$(dirname -- "${BASH_SOURCE[0]}")/.." || exit 1
+./ddt check examples/campus.csv >/dev/null || exit 1
+folder=$(mktemp -d) || exit 1
+trap 'rm -rf -- "$folder"' EXIT
+cc -shared -fPIC -O1 -o "$folder/refuse_memory.so" bench/refuse_memory.c -ldl || exit 1
+wrong=0
+
+# try_each WORD..: a command, with each allocation refused in turn
+try_each() {
+    local want want_status got status refusals=0 n
+    want=$(crates/ddt/out/ddt "$@" 2>/dev/null)
+    want_status=$?
+    for ((n = 1; n < 100000; n++)); do
+        got=$(REFUSED_ALLOCATION=$n LD_PRELOAD=$folder/refuse_memory.so crates/ddt/out/ddt "$@" 2>"$folder/err")
+        status=$?
+        if ! grep -q 'allocation was refused' "$folder/err"; then
+            break
+        fi
+        if [ "$status" = 1 ] && [ -z "$got" ] && grep -qx 'out of memory' "$folder/err"; then
+            refusals=$((refusals + 1))
+        elif [ "$status" != "$want_status" ] || [ "$got" != "$want" ]; then
+            echo "ddt $*: with allocation $n refused: status $status, '$got', $(head -n 1 "$folder/err")"
+            wrong=1
+        fi
+    done
+    if [ "$status" != "$want_status" ] || [ "$got" != "$want" ]; then
+        echo "ddt $*: with ample memory: status $status, '$got'"
+        wrong=1
+    fi
+    echo "ddt $1: $((n - 1)) allocations, $refusals of them refused as out of memory, the others not missed"
+}
+
+campus=examples/campus.csv
+try_each answer "$campus" east '[0]10.1.2.3'
+try_each assign "$campus" '[0]10.1.2.3'
+try_each check "$campus"
+try_each compile "$campus" root
+try_each compile "$campus" east
+try_each show 600000010000000000000001000005a002185000000000010a0102000164ff00000100017f0001010164ff00000100017f000102
+try_each show 840000004500003800000000 # cut short: its refusal takes memory too
+try_each show 8400000045000038000000004011ef7c7f0000350a01020310f610f60024b723100000010000000000000001000000017f000035002000010a010203
+
+# try_test PROGRAM TEST: a test, with each of its first 2,000 allocations refused in turn
+try_test() {
+    local status n
+    for ((n = 1; n <= 2000; n++)); do
+        REFUSED_ALLOCATION=$n LD_PRELOAD=$folder/refuse_memory.so "$1" "$2" >"$folder/out" 2>&1
+        status=$?
+        if ! grep -q 'allocation was refused' "$folder/out"; then
+            break
+        fi
+        if [ "$status" != 0 ] && ! grep -qiE '^error: .*(AllocError|AllocFailed|memory)' "$folder/out"; then
+            echo "$2: with allocation $n refused: status $status, $(head -n 1 "$folder/out")"
+            wrong=1
+        fi
+    done
+    echo "$2: $((n - 1)) allocations refused in turn"
+}
+
+for program in crates/*/out/*_tests; do
+    for test in $("$program" --list 2>/dev/null | sed -n 's/: test$//p'); do
+        try_test "$program" "$test"
+    done
+done
+[ "$wrong" = 0 ] && echo "no wrong answer"
+exit "$wrong"

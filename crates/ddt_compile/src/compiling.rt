@@ -28,8 +28,8 @@ use std::collections::BTreeMap;
 /// The configuration of each group, in the order of the groups' rows. Its authorities are the group's zones in the
 /// order of their rows. One of DDT nodes holds the zones strictly below it with no zone between, each with its kind and
 /// its group's locators; one of Map-Servers holds the sites that it covers, with their ETRs (RFC 8111, section 4). From
-/// its configuration alone a server answers each identifier as an honest server of the register does. Each has fewer
-/// than 1,048,576 authorities, children and sites in all. Refused for memory alone.
+/// its configuration alone a server answers each identifier as an honest server of the register does. Each has room
+/// in a server: its authorities with all that they hold are fewer than 1,048,576. Refused for memory alone.
 pub fn compile(alloc: Global, accepted: &Accepted) -> Result<Listed<ServerConfig>, AllocError>
     ensures each { IfOk result (λ configs. map outline configs ≡ map (group_config_of accepted.now) accepted.now.groups) }
     ensures honest { IfOk result (λ configs. All (λ c. IsHonestConfig accepted.now (outline c)) configs) }

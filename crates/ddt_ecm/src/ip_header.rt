@@ -11,6 +11,12 @@ use byteorder::{BigEndian, ByteOrder};
 
 /// The protocol number of UDP.
 pub(crate) const UDP: u8 = 17;
+/// How many bits stand behind the version in the first byte.
+pub(crate) const VERSION_SHIFT: u32 = 4;
+/// An IPv4 header counts its words in the four bits behind the version.
+const WORDS_LIMIT: u8 = 1 << 4;
+/// More fragments, and the offset of this one, are told in the bits below this one.
+const DONT_FRAGMENT: u16 = 1 << 14;
 /// How many bytes an IPv4 header has at least.
 const IPV4_HEADER: usize = 20;
 /// How many bytes an IPv6 header has.
@@ -57,7 +63,7 @@ fn read_ipv4(ip: &[u8]) -> Result<(u16, &[u8]), RequestFault>
     if ip.len() < IPV4_HEADER {
         return Err(RequestFault::Short);
     }
-    let header = 4 * usize::from(ip[0] % 16);
+    let header = 4 * usize::from(ip[0] % WORDS_LIMIT);
     if !fits_ipv4(ip, header) {
         return Err(RequestFault::IpLength);
     }
@@ -68,7 +74,7 @@ fn read_ipv4(ip: &[u8]) -> Result<(u16, &[u8]), RequestFault>
     if ip[9] != UDP {
         return Err(RequestFault::NotUdp);
     }
-    if BigEndian::read_u16(&ip[6..]) % 0x4000 != 0 {
+    if BigEndian::read_u16(&ip[6..]) % DONT_FRAGMENT != 0 {
         return Err(RequestFault::Fragment);
     }
     Ok((pseudo_sum4(&ip[12..20], udp.len() as u16), udp))
@@ -103,7 +109,7 @@ pub(crate) fn read_ip(ip: &[u8]) -> Result<(u16, &[u8]), RequestFault>
     if ip.is_empty() {
         return Err(RequestFault::Short);
     }
-    match ip[0] >> 4 {
+    match ip[0] >> VERSION_SHIFT {
         4 => read_ipv4(ip),
         6 => read_ipv6(ip),
         _ => Err(RequestFault::IpVersion),

@@ -13,7 +13,7 @@ mod writing;
 
 pub use fault::RequestFault;
 pub use laws::request_laws;
-pub use request::{Request, read_request};
+pub use request::{DDT, Request, read_request};
 pub use rlocs::Rlocs;
 pub use writing::write_request;
 

@@ -25,13 +25,18 @@ ghost use Rattle.ddt_path.specs.FormOf.{form_of};
 ghost use Rattle.ddt_ecm.specs.MapRequest.{source_at, host_of, xeid_at, head_at, map_request_at};
 
 use crate::fault::RequestFault;
+use crate::request::TYPE_SHIFT;
 use crate::rlocs::Rlocs;
 use byteorder::{BigEndian, ByteOrder};
 use ddt_path::{Form, Prefix, Xeid};
 use ddt_wire::{EidFault, read_eid};
 
-/// The type of a Map-Request.
-const MAP_REQUEST: u8 = 1;
+/// The type of a Map-Request, in the first four bits.
+pub(crate) const MAP_REQUEST: u8 = 1;
+/// How many bits stand behind the bit M in the first byte.
+const M_SHIFT: u32 = 2;
+/// IRC is below this: it has five bits.
+const IRC_LIMIT: u8 = 1 << 5;
 /// How many bytes stand before the source EID.
 const BEFORE_SOURCE: usize = 12;
 
@@ -60,13 +65,13 @@ fn read_head(message: &[u8]) -> Result<u8, RequestFault>
     if message.len() < BEFORE_SOURCE {
         return Err(RequestFault::Short);
     }
-    if message[0] >> 4 != MAP_REQUEST {
+    if message[0] >> TYPE_SHIFT != MAP_REQUEST {
         return Err(RequestFault::RequestType);
     }
     if message[3] != 1 {
         return Err(RequestFault::RecordCount);
     }
-    Ok(message[2] % 32 + 1)
+    Ok(message[2] % IRC_LIMIT + 1)
 }
 
 /// How many bytes the source EID takes, its AFI among them.
@@ -138,7 +143,7 @@ pub(crate) fn read_map_request(message: &[u8]) -> Result<(u64, Xeid, Rlocs<'_>),
     let (_source, from_rlocs) = from_source.split_at(source);
     let (rlocs, rest) = Rlocs::read(count, from_rlocs)?;
     let (xeid, taken) = read_xeid(rest)?;
-    if (message[0] >> 2) % 2 == 0 && rest.len() != taken {
+    if (message[0] >> M_SHIFT) % 2 == 0 && rest.len() != taken {
         return Err(RequestFault::Trailing);
     }
     Ok((BigEndian::read_u64(&message[4..]), xeid, rlocs))

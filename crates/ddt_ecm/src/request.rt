@@ -25,8 +25,16 @@ use crate::udp_header::read_udp;
 use ddt_path::Xeid;
 use std::marker::Model;
 
-/// The type of an Encapsulated Control Message.
-const ENCAPSULATED: u8 = 8;
+/// The type of an Encapsulated Control Message, in the first four bits.
+pub(crate) const ENCAPSULATED: u8 = 8;
+/// How many bits stand behind the type in the first byte.
+pub(crate) const TYPE_SHIFT: u32 = 4;
+/// How many bits stand behind the bit S.
+const S_SHIFT: u32 = 3;
+/// How many bits stand behind the bit D.
+const D_SHIFT: u32 = 2;
+/// The bit D in the first byte of the message: a DDT client asks (RFC 8111, section 5).
+pub const DDT: u8 = 1 << D_SHIFT;
 
 /// What an Encapsulated Map-Request says. It lends the datagram for its ITR-RLOCs.
 #[derive(Debug, Drop)]
@@ -92,10 +100,10 @@ fn read_ecm(bytes: &[u8]) -> Result<&[u8], RequestFault>
     if bytes.len() < 4 {
         return Err(RequestFault::Short);
     }
-    if bytes[0] >> 4 != ENCAPSULATED {
+    if bytes[0] >> TYPE_SHIFT != ENCAPSULATED {
         return Err(RequestFault::MessageType);
     }
-    if (bytes[0] >> 3) % 2 != 0 {
+    if (bytes[0] >> S_SHIFT) % 2 != 0 {
         return Err(RequestFault::Security);
     }
     let (_header, rest) = bytes.split_at(4);
@@ -113,7 +121,7 @@ fn message(bytes: &[u8]) -> Result<Request<'_>, RequestFault>
     let (nonce, xeid, rlocs) = read_map_request(data)?;
     Ok(Request {
         nonce,
-        ddt: (bytes[0] >> 2) % 2 == 1,
+        ddt: (bytes[0] >> D_SHIFT) % 2 == 1,
         port,
         xeid,
         rlocs,

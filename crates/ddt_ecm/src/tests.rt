@@ -28,6 +28,18 @@ const ITR_REQUEST: [u8; 64] = [
     0x00, 0x01, 0x00, 0x01, 0x7f, 0x00, 0x00, 0x3c, 0x00, 0x20, 0x00, 0x01, 0x0a, 0x02, 0x00, 0x01,
 ];
 
+/// An ITR's request for [0]10.2.0.1 in a form that we don't write: options behind the IPv4 header, the bit M and one
+/// more byte at the end, which makes the length odd, a source EID of instance 7, and ITR-RLOCs of two families.
+const OTHER_REQUEST: [u8; 99] = [
+    0x80, 0x00, 0x00, 0x00, 0x46, 0x00, 0x00, 0x5f, 0x00, 0x00, 0x00, 0x00, 0x40, 0x11, 0xee, 0x4e,
+    0x7f, 0x00, 0x00, 0x3c, 0x0a, 0x02, 0x00, 0x01, 0x01, 0x01, 0x01, 0x00, 0xc3, 0x50, 0x10, 0xf6,
+    0x00, 0x47, 0xce, 0x16, 0x14, 0x00, 0x01, 0x01, 0x11, 0x22, 0x33, 0x44, 0x55, 0x66, 0x77, 0x88,
+    0x40, 0x03, 0x00, 0x00, 0x02, 0x00, 0x00, 0x0a, 0x00, 0x00, 0x00, 0x07, 0x00, 0x01, 0x0a, 0x05,
+    0x00, 0x01, 0x00, 0x01, 0x7f, 0x00, 0x00, 0x3c, 0x00, 0x02, 0x20, 0x01, 0x0d, 0xb8, 0x00, 0x00,
+    0x00, 0x00, 0x00, 0x00, 0x00, 0x00, 0x00, 0x00, 0x00, 0x35, 0x00, 0x20, 0x00, 0x01, 0x0a, 0x02,
+    0x00, 0x01, 0xaa,
+];
+
 const RESOLVER: Locator = Locator::V4(0x7f00_0035);
 
 fn identifier(address: Locator) -> Xeid {
@@ -82,6 +94,27 @@ fn request_of_an_itr_is_read(rt: HostRuntime) -> Result<(), Fail> {
     assert_eq!(rt; request.port(), 50000);
     assert_eq!(rt; request.xeid(), identifier(Locator::V4(0x0a02_0001)));
     assert_eq!(rt; request.itr_rlocs().next(), Some(Locator::V4(0x7f00_003c)));
+    Ok(())
+}
+
+#[test]
+fn a_request_in_another_form_is_read(rt: HostRuntime) -> Result<(), Fail> {
+    let request = read_request(&OTHER_REQUEST)?;
+    assert_eq!(rt; request.xeid(), identifier(Locator::V4(0x0a02_0001)));
+    let mut rlocs = request.itr_rlocs();
+    assert_eq!(rt; rlocs.next(), Some(Locator::V4(0x7f00_003c)));
+    let second = Locator::V6(0x2001_0db8_0000_0000_0000_0000_0000_0035);
+    assert_eq!(rt; rlocs.next(), Some(second));
+    assert_eq!(rt; rlocs.next(), None);
+    // Another last byte, another option, and a source EID that seems to end behind the datagram.
+    for (changes, fault) in [
+        ([(98, 0xab), (1, 0)], RequestFault::UdpChecksum),
+        ([(25, 2), (1, 0)], RequestFault::IpChecksum),
+        ([(54, 0x0a), (34, 0xc4)], RequestFault::Short),
+    ] {
+        let bytes = changed(OTHER_REQUEST, &changes);
+        assert_eq!(rt; read_request(&bytes).err(), Some(fault));
+    }
     Ok(())
 }
 
@@ -285,7 +318,7 @@ fn the_first_fault_behind_the_headers_is_named(rt: HostRuntime) {
         ([(35, 2), (45, 3)], RequestFault::RecordCount),
         ([(45, 3), (47, 3)], RequestFault::EidFamily),
         ([(47, 3), (53, 31)], RequestFault::RlocFamily),
-        ([(34, 1), (47, 1)], RequestFault::RlocFamily),
+        ([(34, 1), (55, 3)], RequestFault::RlocFamily),
         ([(34, 1), (53, 1)], RequestFault::Short),
         ([(34, 1), (53, 2)], RequestFault::Short),
         ([(55, 3), (53, 31)], RequestFault::EidFamily),

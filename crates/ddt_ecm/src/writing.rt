@@ -9,16 +9,18 @@ ghost use Rattle.ddt_ecm.specs.Request.{Spells, message_in};
 ghost use Rattle.ddt_ecm.specs.Laws.{IsRequest, message_of};
 
 use crate::checksum::{RIGHT, sum};
-use crate::ip_header::{UDP, pseudo_sum4, pseudo_sum6};
+use crate::ip_header::{UDP, VERSION_SHIFT, pseudo_sum4, pseudo_sum6};
+use crate::map_request::MAP_REQUEST;
+use crate::request::{DDT, ENCAPSULATED, TYPE_SHIFT};
 use crate::udp_header::LISP_CONTROL;
 use ddt_path::{Locator, Prefix, Xeid};
 use ddt_wire::{write_address, write_eid};
 use std::alloc::{AllocError, Global};
 
-/// The first byte of an ECM header, with the type 8 in four bits.
-const ENCAPSULATED: u8 = 8 << 4;
-/// The bit D in that byte.
-const DDT: u8 = 4;
+/// The first byte of a written IPv4 header: version 4, and a header of five words.
+const IPV4_FIRST: u8 = 4 << VERSION_SHIFT | 5;
+/// The first byte of an IPv6 header.
+const IPV6_FIRST: u8 = 6 << VERSION_SHIFT;
 /// How far an inner packet may go.
 const HOPS: u8 = 64;
 
@@ -41,7 +43,7 @@ fn map_request(alloc: Global, nonce: u64, x: Xeid, rlocs: &[Locator]) -> Result<
     ensures fits { OnOk result (IsRequest nonce x rlocs.now) }
 {
     let mut bytes = Vec::new(alloc);
-    bytes.extend_from_slice(&[0x10, 0, (rlocs.len() - 1) as u8, 1])?;
+    bytes.extend_from_slice(&[MAP_REQUEST << TYPE_SHIFT, 0, (rlocs.len() - 1) as u8, 1])?;
     bytes.extend_from_slice(&nonce.to_be_bytes())?;
     bytes.extend_from_slice(&[0, 0])?;
     put_rlocs(&mut bytes, rlocs)?;
@@ -82,7 +84,7 @@ fn ipv4_header(total: u16, checksum: u16, source: u32, destination: u32) -> [u8;
     let [a, b, e, f] = source.to_be_bytes();
     let [g, h, i, j] = destination.to_be_bytes();
     [
-        0x45, 0, t, u, 0, 0, 0, 0, HOPS, UDP, c, k, a, b, e, f, g, h, i, j,
+        IPV4_FIRST, 0, t, u, 0, 0, 0, 0, HOPS, UDP, c, k, a, b, e, f, g, h, i, j,
     ]
 }
 
@@ -138,7 +140,7 @@ fn addresses6(source: u128, destination: u128) -> [u8; 32]
 fn put_ipv6(bytes: &mut Vec<u8>, payload: u16, addresses: &[u8]) -> Result<(), AllocError>
     ensures { OnOk result (bytes.new.items ≡ bytes.old.items ++ (ipv6_head payload ++ addresses.now)) }
 {
-    bytes.extend_from_slice(&[0x60, 0, 0, 0])?;
+    bytes.extend_from_slice(&[IPV6_FIRST, 0, 0, 0])?;
     bytes.extend_from_slice(&payload.to_be_bytes())?;
     bytes.extend_from_slice(&[UDP, HOPS])?;
     bytes.extend_from_slice(addresses)
@@ -212,19 +214,15 @@ fn encapsulated(
 {
     let message = map_request(alloc, nonce, x, rlocs)?;
     let mut bytes = Vec::new(alloc);
-    let first = if ddt {
-        ENCAPSULATED + DDT
-    } else {
-        ENCAPSULATED
-    };
-    bytes.extend_from_slice(&[first, 0, 0, 0])?;
+    let bit = if ddt { DDT } else { 0 };
+    bytes.extend_from_slice(&[(ENCAPSULATED << TYPE_SHIFT) + bit, 0, 0, 0])?;
     put_packet(&mut bytes, x.address, rlocs, message.as_slice())?;
     Ok(bytes)
 }
 
 /// The one spelling of an Encapsulated Map-Request for the identifier with this nonce, these ITR-RLOCs, 1 to 32 of them,
-/// and with the bit D or without. The inner packet has the family of the identifier, goes to its address, and comes
-/// from the first ITR-RLOC where that has the same family, else from zeros; both ports are 4342. Refused for memory
+/// and with the bit D or without. The inner packet has the identifier's family and goes to its address. Its source is
+/// the address of the first ITR-RLOC, or all zeros where the two families differ. Both of its ports are 4342. Refused for memory
 /// alone.
 pub fn write_request(
     alloc: Global,

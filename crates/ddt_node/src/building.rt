@@ -78,8 +78,8 @@ fn count_in(content: &Content) -> usize
     }
 }
 
-/// Whether a server of this configuration can be built: it has fewer than 1,048,576 authorities, children and sites in
-/// all.
+/// Whether a server of this configuration can be built: its authorities with all that they hold are fewer than
+/// 1,048,576.
 pub fn has_room_for(config: &ServerConfig) -> bool
     ensures { result ≡ nat_lt (entry_count (outline config.now)) MOST_ENTRIES }
 {

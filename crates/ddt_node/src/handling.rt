@@ -5,13 +5,10 @@ ghost use Rattle.std.specs.Option.{option_map};
 ghost use Rattle.ddt_wire.specs.Referral.{written};
 ghost use Rattle.ddt_node.specs.Server.{ddt_request as ddt_request_of, forward_to, without_d, ignored as ignored_of};
 
-use ddt_ecm::{Request, read_request};
+use ddt_ecm::{DDT, Request, read_request};
 use ddt_path::{Listed, Locator, ReferralRecord};
 use ddt_wire::write_referral;
 use std::alloc::{AllocError, Global};
-
-/// The bit D in the first byte of an Encapsulated Control Message.
-const DDT: u8 = 4;
 
 /// A request on its way to an ETR.
 #[derive(Debug, Drop)]

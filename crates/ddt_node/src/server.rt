@@ -39,7 +39,7 @@ impl<M: PrefixMap<u32>> Model for Server<M> {
 }
 
 impl<M: PrefixMap<u32>> Server<M> {
-    /// A server of this configuration, which is to have fewer than 1,048,576 authorities, children and sites in all.
+    /// A server of this configuration, whose authorities with all that they hold are to be fewer than 1,048,576.
     /// Where memory is refused, the configuration comes back; one without authorities wants none.
     pub fn build(alloc: Global, config: ServerConfig) -> Result<Server<M>, ServerConfig>
         requires { entry_count (outline config) < 1048576 }

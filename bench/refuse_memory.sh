@@ -1,8 +1,10 @@
 #!/usr/bin/env bash
 # Runs each command, and each test that `rt test` has built, again and again: the first run gets no memory at its first
-# allocation, the next at its second, and so on up to the run that is given all it asks for. A command is to say `out of memory` with status 1 and print nothing, or to
-# answer what it answers with ample memory; a test is to pass, or to end with the error that says that memory is wanted,
-# and never with a failed comparison. Wants a C compiler. Ends with status 1 where a run does anything else.
+# allocation, the next at its second, and so on up to the run that is given all it asks for. A command is to say
+# `out of memory` with status 1 and print nothing, or to answer what it answers with ample memory. A test is to pass, to
+# end with the error that says that memory is wanted, or to see just that in place of the fault that it looks for; the
+# program's own tests are left out, as they compare what the commands print. Wants a C compiler. Ends with status 1
+# where a run does anything else.
 set -u
 cd -- "$(dirname -- "${BASH_SOURCE[0]}")/.." || exit 1
 ./ddt check examples/campus.csv >/dev/null || exit 1
@@ -46,24 +48,33 @@ try_each show 600000010000000000000001000005a002185000000000010a0102000164ff0000
 try_each show 840000004500003800000000 # cut short: its refusal takes memory too
 try_each show 8400000045000038000000004011ef7c7f0000350a01020310f610f60024b723100000010000000000000001000000017f000035002000010a010203
 
+# tells_want OUTPUT: the error of the test, or the value at its left, is want of memory
+tells_want() {
+    grep -qE '^error: .*(AllocError|AllocFailed|[Mm]emory)|^ *left: (Some|Err)\(Memory\)$' "$1"
+}
+
 # try_test PROGRAM TEST: a test, with each of its first 2,000 allocations refused in turn
 try_test() {
     local status n
     for ((n = 1; n <= 2000; n++)); do
-        REFUSED_ALLOCATION=$n LD_PRELOAD=$folder/refuse_memory.so "$1" "$2" >"$folder/out" 2>&1
+        { REFUSED_ALLOCATION=$n LD_PRELOAD=$folder/refuse_memory.so "$1" "$2" >"$folder/out" 2>&1; } 2>/dev/null
         status=$?
         if ! grep -q 'allocation was refused' "$folder/out"; then
             break
         fi
-        if [ "$status" != 0 ] && ! grep -qiE '^error: .*(AllocError|AllocFailed|memory)' "$folder/out"; then
-            echo "$2: with allocation $n refused: status $status, $(head -n 1 "$folder/out")"
+        if [ "$status" != 0 ] && ! tells_want "$folder/out"; then
+            echo "$2: with allocation $n refused: status $status, $(head -n 3 "$folder/out")"
             wrong=1
         fi
     done
+    if [ "$n" -le 2000 ] && [ "$status" != 0 ]; then
+        echo "$2: with ample memory: status $status"
+        wrong=1
+    fi
     echo "$2: $((n - 1)) allocations refused in turn"
 }
 
-for program in crates/*/out/*_tests; do
+for program in crates/ddt_*/out/*_tests; do
     for test in $("$program" --list 2>/dev/null | sed -n 's/: test$//p'); do
         try_test "$program" "$test"
     done

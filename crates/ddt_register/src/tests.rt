@@ -262,7 +262,7 @@ fn other_line_ends_blank_lines_and_quotes(rt: HostRuntime) -> Result<(), Fail> {
 }
 
 #[test]
-fn bytes_that_are_no_text_are_faults_of_their_field(rt: HostRuntime) {
+fn bytes_that_are_no_text_are_faults_of_their_field(rt: HostRuntime) -> Result<(), Fail> {
     let table: [(&[u8], ReadFault); 4] = [
         (b"\xff,,,", ReadFault::Kind(1)),
         (b"node,\xff,ten,", ReadFault::Prefix(1)),
@@ -271,11 +271,11 @@ fn bytes_that_are_no_text_are_faults_of_their_field(rt: HostRuntime) {
     ];
     for (row, fault) in table {
         let mut text = Vec::new(rt.alloc());
-        let made = text.extend_from_slice(COLUMNS.as_bytes()).is_ok()
-            && text.extend_from_slice(row).is_ok();
-        assert!(rt; made);
+        text.extend_from_slice(COLUMNS.as_bytes())?;
+        text.extend_from_slice(row)?;
         assert_eq!(rt; read(rt.alloc(), text.as_slice()).err(), Some(fault));
     }
+    Ok(())
 }
 
 /// The columns, this many rows, and then one more line.
@@ -336,7 +336,7 @@ impl<'a> Read for Failing<'a> {
 }
 
 #[test]
-fn a_failed_reader_is_told(rt: HostRuntime) {
+fn a_failed_reader_is_told(rt: HostRuntime) -> Result<(), Fail> {
     let calls = CAMPUS.len().div_ceil(10) + 1;
     for calls_left in 0..calls {
         let reader = Failing {
@@ -350,7 +350,8 @@ fn a_failed_reader_is_told(rt: HostRuntime) {
         text: CAMPUS.as_bytes(),
         calls_left: calls,
     };
-    assert!(rt; read_register(rt.alloc(), reader).is_ok());
+    assert!(rt; is_campus(&read_register(rt.alloc(), reader)?));
+    Ok(())
 }
 
 #[test]

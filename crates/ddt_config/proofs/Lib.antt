@@ -4,3 +4,4 @@ pub mod FitLemmas
 pub mod WriteLemmas
 pub mod AsciiLemmas
 pub mod SameLemmas
+pub mod NeighbourLemmas

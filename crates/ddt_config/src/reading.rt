@@ -46,31 +46,33 @@ fn read_config(alloc: Global, table: &Table) -> Result<ServerConfig, ConfigFault
     let locators = read_locators(alloc, table, Key::Locators)?;
     let authorities = entries_at::<Authority>(alloc, role, table, Key::Authority)?;
     match (locators, authorities) {
-        (Some(locators), Some(authorities)) => shaped(name, role, locators, authorities),
+        (Some(locators), Some(authorities)) => shaped(alloc, name, role, locators, authorities),
         (None, _) => Err(ConfigFault::Shape),
         (_, None) => Err(ConfigFault::Shape),
     }
 }
 
-/// The configuration of these parts, refused as 4 Shape.
+/// The configuration of these parts, refused as 4 Shape or 5 Memory.
 fn shaped(
+    alloc: Global,
     name: Name,
     role: Role,
     locators: LocatorSet,
     authorities: Listed<Authority>,
 ) -> Result<ServerConfig, ConfigFault>
     ensures found { IfOk result (λ c. with_shape (record { name = name; role = role; locators = locators; authorities = authorities }) ≡ Ok (outline c)) }
-    ensures refused { IfErr result (λ fault. with_shape (record { name = name; role = role; locators = locators; authorities = authorities }) ≡ Err fault) }
+    ensures refused { IfErr result (λ fault. fault ≢ ConfigFault.Memory → with_shape (record { name = name; role = role; locators = locators; authorities = authorities }) ≡ Err fault) }
 {
-    if !is_shaped(role, &locators, authorities.as_slice()) {
-        return Err(ConfigFault::Shape);
+    match is_shaped(alloc, role, &locators, authorities.as_slice()) {
+        Ok(true) => Ok(ServerConfig {
+            name,
+            role,
+            locators,
+            authorities,
+        }),
+        Ok(false) => Err(ConfigFault::Shape),
+        Err(_) => Err(ConfigFault::Memory),
     }
-    Ok(ServerConfig {
-        name,
-        role,
-        locators,
-        authorities,
-    })
 }
 
 fn value_at<'t>(table: &'t Table, key: Key) -> Result<&'t Value, ConfigFault>

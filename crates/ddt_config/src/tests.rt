@@ -285,6 +285,85 @@ fn a_site_may_equal_its_authority_and_no_other_site(rt: HostRuntime) -> Result<(
     Ok(())
 }
 
+/// Adds a table to an array for each prefix, with these lines below it.
+fn push_tables(
+    alloc: Global,
+    text: &mut String,
+    array: &str,
+    prefixes: &[&str],
+    lines: &str,
+) -> Result<(), Fail> {
+    for prefix in prefixes {
+        let table = format!(in alloc; "[[{array}]]\nprefix = \"{prefix}\"\n{lines}")?;
+        text.push_str(table.as_str())?;
+    }
+    Ok(())
+}
+
+/// The configuration of a node in charge of these authorities, of which the last has these children.
+fn node_of(alloc: Global, authorities: &[&str], children: &[&str]) -> Result<String, Fail> {
+    let head = "name = \"n\"\nkind = \"node\"\nlocators = [\"127.0.0.1\"]\n";
+    let lines = "kind = \"node\"\nlocators = [\"127.0.0.10\"]\n";
+    let mut text = String::from_str(alloc, head)?;
+    push_tables(alloc, &mut text, "authority", authorities, "")?;
+    push_tables(alloc, &mut text, "authority.child", children, lines)?;
+    Ok(text)
+}
+
+/// Children in no order, of which just the first and the last overlap.
+const CHILDREN: [&str; 5] = [
+    "[0]10.2.0.0/16",
+    "[7]10.2.3.0/24",
+    "[0]192.0.2.0/24",
+    "[0]10.1.0.0/16",
+    "[0]10.2.3.0/24",
+];
+
+#[test]
+fn two_children_that_overlap_are_found_wherever_they_stand(rt: HostRuntime) -> Result<(), Fail> {
+    let alloc = rt.alloc();
+    let [first, second, third, fourth, last] = CHILDREN;
+    let down = node_of(alloc, &["*"], &CHILDREN)?;
+    assert_eq!(rt; fault(alloc, down.as_str()), Some(ConfigFault::Shape));
+    let up = node_of(alloc, &["*"], &[last, fourth, third, second, first])?;
+    assert_eq!(rt; fault(alloc, up.as_str()), Some(ConfigFault::Shape));
+    let apart = node_of(alloc, &["*"], &[first, second, third, fourth])?;
+    let config = from_toml(alloc, apart.as_str())?;
+    let [authority] = config.authorities.as_slice() else {
+        return Err("no authority")?;
+    };
+    let Content::Children(children) = &authority.content else {
+        return Err("no children")?;
+    };
+    // They keep the order of the text.
+    let [a, .., d] = children.as_slice() else {
+        return Err("too few children")?;
+    };
+    assert_eq!(rt; children.as_slice().len(), 4);
+    assert_eq!(rt;
+        (Some(a.prefix), Some(d.prefix)),
+        (prefix(first), prefix(fourth))
+    );
+    Ok(())
+}
+
+#[test]
+fn two_authorities_of_one_prefix_are_found_and_may_overlap(rt: HostRuntime) -> Result<(), Fail> {
+    let alloc = rt.alloc();
+    let (one, other, over) = ("[0]10.2.0.0/16", "[7]10.2.0.0/16", "[0]10.0.0.0/8");
+    let twice = node_of(alloc, &[one, other, over, one], &[])?;
+    assert_eq!(rt; fault(alloc, twice.as_str()), Some(ConfigFault::Shape));
+    let once = node_of(alloc, &[one, other, over], &[])?;
+    assert_eq!(rt;
+        from_toml(alloc, once.as_str())?
+            .authorities
+            .as_slice()
+            .len(),
+        3
+    );
+    Ok(())
+}
+
 #[test]
 fn a_fault_prints_its_number_and_its_name(rt: HostRuntime) -> Result<(), Fail> {
     let alloc = rt.alloc();

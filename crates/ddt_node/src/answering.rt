@@ -9,8 +9,7 @@ ghost use Rattle.ddt_config.specs.Entries.{prefixes_in};
 ghost use Rattle.ddt_node.specs.Places.{places as places_of};
 ghost use Rattle.ddt_node.specs.Server.{etr_in};
 
-use crate::prefixed::Prefixed;
-use ddt_config::{Authority, Child, Content, SiteEntry};
+use ddt_config::{Authority, Child, Content, Prefixed, SiteEntry};
 use ddt_path::{Locator, LocatorSet, Outcome, Prefix, ReferralRecord, Xeid};
 use ddt_trie::PrefixMap;
 

@@ -6,8 +6,7 @@ ghost use Rattle.ddt_config.specs.Table.{outline};
 ghost use Rattle.ddt_config.specs.Entries.{prefixes_in, count_in as count_in_of, entry_count};
 ghost use Rattle.ddt_node.specs.Places.{places as places_of, places_in as places_in_of, AreIndexed};
 
-use crate::prefixed::Prefixed;
-use ddt_config::{Authority, Content, ServerConfig};
+use ddt_config::{Authority, Content, Prefixed, ServerConfig};
 use ddt_trie::PrefixMap;
 use std::alloc::{AllocError, Global};
 

@@ -1,12 +1,11 @@
 //! A server of one configuration: which Map-Referral answers an identifier, and what is sent for a datagram.
 //!
-//! In reading order: `server`, `prefixed`, `building`, `answering`, `handling`.
+//! In reading order: `server`, `building`, `answering`, `handling`.
 #![tactic(auto)]
 
 mod answering;
 mod building;
 mod handling;
-mod prefixed;
 mod server;
 
 pub use building::has_room_for;

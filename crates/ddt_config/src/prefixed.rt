@@ -1,6 +1,6 @@
 //! What stands in a configuration under a prefix: an authority, a child or a site.
 
-use ddt_config::{Authority, Child, SiteEntry};
+use crate::config::{Authority, Child, SiteEntry};
 use ddt_path::Prefix;
 
 /// An item that has a prefix.

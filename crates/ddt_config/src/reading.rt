@@ -19,12 +19,12 @@ use ddt_text::{parse_locator, parse_prefix};
 use std::alloc::Global;
 use toml::{Table, Value};
 
-/// The configuration that a text in TOML stands for. Its top keys are `name`, `kind` (`node` or `ms`), `locators`
-/// (texts) and `authority` (tables); an authority has `prefix` and, of a node, `child` (tables of `prefix`, `kind`,
-/// `locators`), of a Map-Server, `site` (tables of `prefix`, `etrs`). `authority`, `child` and `site` may be missing,
-/// other keys are ignored. Refused as 1 Toml where the text is no TOML; else the first fault in the order above
-/// decides: 2 Field where a key is missing or holds a value of another kind, 3 Value where a text hasn't the form that
-/// its key asks for; then 4 Shape. 5 Memory may come at any time.
+/// The configuration that a text in TOML stands for. At its top stand `name`, `kind` (`node` or `ms`), `locators`, an
+/// array of texts, and `authority`, an array of tables. Such a table holds `prefix`; behind it stands, where nodes are
+/// in charge, `child`, tables of `prefix`, `kind` and `locators`, and where Map-Servers are, `site`, tables of `prefix`
+/// and `etrs`. The arrays of tables may be missing, and other keys are ignored. Refused as 1 Toml where the text is no
+/// TOML; else the first fault in this order decides: 2 Field where a key is missing or holds a value of another kind, 3
+/// Value where a text hasn't the form that its key asks for; then 4 Shape. 5 Memory may come at any time.
 pub fn from_toml(alloc: Global, text: &str) -> Result<ServerConfig, ConfigFault>
     ensures found { IfOk result (StandsFor text.now) }
     ensures every { (c : ConfigValue) → StandsFor text.now c → (result ≡ Ok c) ⊎ (result ≡ Err ConfigFault.Memory) }

@@ -281,7 +281,7 @@ fn a_site_may_equal_its_authority_and_no_other_site(rt: HostRuntime) -> Result<(
     assert_eq!(rt; fault(alloc, twice.as_str()), Some(ConfigFault::Shape));
     let other = "[[authority.site]]\nprefix = \"[0]10.1.4.0/24\"\netrs = []\n";
     let once = replaced(alloc, text.as_str(), other, "")?;
-    assert!(rt; from_toml(alloc, once.as_str()).is_ok());
+    from_toml(alloc, once.as_str())?;
     Ok(())
 }
 

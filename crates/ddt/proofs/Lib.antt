@@ -1,3 +1,4 @@
 pub mod LineLemmas
 pub mod TellLemmas
+pub mod WordLemmas
 pub mod ConfigLemmas

@@ -1,15 +1,15 @@
 -- What each command answers: between what it is given and the line that it prints.
-use Rattle.std.specs.Prelude.{ℕ, ◌≡◌, ◌⊎◌, ⊤, List, length, Option, option_map, None, Some, Result, Ok, Err}
+use Rattle.std.specs.Prelude.{ℕ, ◌≡◌, ◌≢◌, ◌⊎◌, ◌++◌, List, codes, length, Option, option_map, None, Some, Result, Ok}
+use Rattle.std.specs.Io.KnownBytes.{Appends}
 use Rattle.csv.specs.Reading.{default_config, records, strip_bom}
 use Rattle.hex.specs.Hex.{encode_lower, decode_of}
 use Rattle.ddt_path.specs.declared.xeid.Xeid.{Xeid}
 use Rattle.ddt_path.specs.Path.{xeid_path}
 use Rattle.ddt_text.specs.FirstFault.{xeid_in}
 use Rattle.ddt_register.specs.declared.fault.ReadFault.{ReadFault}
-use Rattle.ddt_register.specs.declared.fault.ReadFault.TheVariants.{Memory}
 use Rattle.ddt_register.specs.declared.register.Register.{Register}
-use Rattle.ddt_register.specs.Spelled.{Lists, spelled, lists_of, Gives}
-use Rattle.ddt_check.specs.Rules.{IsAccepted, IsLeastFault}
+use Rattle.ddt_register.specs.Spelled.{Lists, spelled, lists_of}
+use Rattle.ddt_check.specs.Rules.{IsAccepted}
 use Rattle.ddt_register.specs.declared.group.Group.{Group}
 use Rattle.ddt_check.specs.Zones.{group_named}
 use Rattle.ddt_check.specs.Assignment.{assignment}
@@ -17,8 +17,6 @@ use Rattle.ddt_config.specs.Table.{config_in_text}
 use Rattle.ddt_compile.specs.GroupConfig.{group_config}
 use Rattle.ddt_wire.specs.Referral as referral
 use Rattle.ddt_ecm.specs.Request as request
-use Rattle.ddt.specs.declared.refusal.Refusal.{Refusal}
-use Rattle.ddt.specs.declared.refusal.Refusal.TheVariants.{Unreadable, Refused, OutOfMemory}
 use Rattle.ddt.specs.Answer.{group_answer}
 use Rattle.ddt.specs.Lines.{outcome_text, counts_text, referral_text, request_text}
 
@@ -29,15 +27,6 @@ register_in bytes = spelled (records default_config (strip_bom bytes))
 -- the bytes spell a register that keeps all rules
 abbrev pub IsAcceptedIn : List ℕ → Register → Type 0
 IsAcceptedIn bytes r = (register_in bytes ≡ Ok (lists_of r)) × IsAccepted r
-
--- Why a file that could be opened has no accepted register: the first fault in its bytes, or the least rule that is
--- broken and its least row. Want of memory says nothing of the bytes, nor does a reader that fails.
-abbrev pub IsWhyNone : List ℕ → Refusal → Type 0
-IsWhyNone bytes (Unreadable Memory) = ⊥
-IsWhyNone bytes (Unreadable fault) = Gives (Err fault) (register_in bytes)
-IsWhyNone bytes (Refused fault) = (r : Register) × (register_in bytes ≡ Ok (lists_of r)) × IsLeastFault r fault.rule fault.row
-IsWhyNone bytes OutOfMemory = ⊤
-IsWhyNone bytes refusal = ⊥
 
 -- what a file tells: nothing where it couldn't be opened
 abbrev pub Tells : {F : Type 0} → (F → Option (List ℕ)) → Option F → List ℕ → Type 0
@@ -71,3 +60,15 @@ IsMessageLine bytes line =
 
 abbrev pub IsShowLine : List ℕ → List ℕ → Type 0
 IsShowLine word line = (bytes : List ℕ) × (decode_of word ≡ Ok bytes) × IsMessageLine bytes line
+
+-- a line and its end
+abbrev pub Ended : (List ℕ → Type 0) → List ℕ → Type 0
+Ended is_line text = (line : List ℕ) × is_line line × (text ≡ line ++ codes "\n")
+
+-- such a text stands behind what a writer had
+abbrev pub IsPrinted : (List ℕ → Type 0) → Option (List ℕ) → Option (List ℕ) → Type 0
+IsPrinted is_text old new = (text : List ℕ) × is_text text × Appends old new text
+
+-- a file could be opened, and where it tells its bytes, their text is printed
+abbrev pub IsPrintedOf : {F : Type 0} → (F → Option (List ℕ)) → Option F → (List ℕ → List ℕ → Type 0) → Option (List ℕ) → Option (List ℕ) → Type 0
+IsPrintedOf remaining source is_text old new = (source ≢ None) × ((bytes : List ℕ) → Tells remaining source bytes → IsPrinted (is_text bytes) old new)

@@ -1,5 +1,5 @@
 -- The words of the command line.
-use Rattle.std.specs.Prelude.{ℕ, ◌≢◌, ⊤, List, [], ◌∷◌, codes}
+use Rattle.std.specs.Prelude.{ℕ, ◌≡◌, ◌≢◌, ⊤, List, [], ◌∷◌, codes}
 use Rattle.ddt.specs.declared.words.Command.{Command}
 use Rattle.ddt.specs.declared.words.Command.TheVariants.{Answer, Assign, Check, Compile, Show}
 
@@ -15,7 +15,12 @@ words_of (Show hex) = codes "show" ∷ hex.now ∷ []
 abbrev pub FitNone : List (List ℕ) → Type 0
 FitNone words = (c : Command) → words_of c ≢ words
 
--- the words of a process, of which the first is the program's name
+-- the words of a process that runs the command, of which the first is the program's name
+abbrev pub AreWordsOf : Command → List (List ℕ) → Type 0
+AreWordsOf c [] = ⊥
+AreWordsOf c (name ∷ words) = words_of c ≡ words
+
+-- those of a process that runs no command
 abbrev pub AreBad : List (List ℕ) → Type 0
 AreBad [] = ⊤
 AreBad (name ∷ words) = FitNone words

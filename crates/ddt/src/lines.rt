@@ -1,10 +1,11 @@
 //! The lines that the program prints.
 
-ghost use Rattle.std.specs.Prelude.{◌≡◌, ◌≢◌, ◌++◌, if◌then◌else◌, is_ok, codes, decimal, IfOk, OnOk};
+ghost use Rattle.std.specs.Prelude.{◌≡◌, ◌⊎◌, ◌++◌, if◌then◌else◌, is_ok, codes, decimal, IfOk, OnOk};
 ghost use Rattle.std.specs.Io.KnownBytes.{Appends};
 ghost use Rattle.ddt_text.specs.Written.{written_locator};
-ghost use Rattle.ddt.specs.declared.status.Status.TheVariants.{Answered as IsAnswered, Refused as IsRefused, BadWords as IsBadWords};
+ghost use Rattle.ddt.specs.declared.status.Status.TheVariants.{Answered as IsAnswered, Refused as IsRefused, Unprinted as IsUnprinted};
 ghost use Rattle.ddt.specs.Lines.{outcome_text, action_text, nonce_text, spaced};
+ghost use Rattle.ddt.specs.Why.{IsTold};
 
 use crate::refusal::Refusal;
 use crate::status::Status;
@@ -14,25 +15,25 @@ use std::alloc::{AllocError, Global};
 use std::io;
 use std::io::Write;
 
-/// Prints an answer, ended by a line feed. What can't be printed isn't answered.
+/// Prints an answer, ended by a line feed.
 pub fn print_line<W: Write>(line: &[u8], out: &mut W) -> Status
     ensures printed { result ≡ IsAnswered → Appends (W.contents out.old) (W.contents out.new) (line.now ++ codes "\n") }
-    ensures fits { result ≢ IsBadWords }
+    ensures ends { (result ≡ IsAnswered) ⊎ (result ≡ IsUnprinted) }
 {
     match write_line(line, out) {
         Ok(()) => Status::Answered,
-        Err(_) => Status::Refused,
+        Err(_) => Status::Unprinted,
     }
 }
 
-/// Prints a text of whole lines as it is. What can't be printed isn't answered.
+/// Prints a text of whole lines as it is.
 pub fn print_text<W: Write>(text: &[u8], out: &mut W) -> Status
     ensures printed { result ≡ IsAnswered → Appends (W.contents out.old) (W.contents out.new) text.now }
-    ensures fits { result ≢ IsBadWords }
+    ensures ends { (result ≡ IsAnswered) ⊎ (result ≡ IsUnprinted) }
 {
     match out.write_all(text) {
         Ok(()) => Status::Answered,
-        Err(_) => Status::Refused,
+        Err(_) => Status::Unprinted,
     }
 }
 
@@ -43,12 +44,15 @@ fn write_line<W: Write>(line: &[u8], out: &mut W) -> io::Result<()>
     out.write_all(b"\n")
 }
 
-/// Prints a refusal. What can't be printed is refused all the same.
+/// Prints a refusal, ended by a line feed.
 pub fn refuse<E: Write>(refusal: &Refusal<'_>, err: &mut E) -> Status
-    ensures { result ≡ IsRefused }
+    ensures told { result ≡ IsRefused → IsTold refusal.now (E.contents err.old) (E.contents err.new) }
+    ensures ends { (result ≡ IsRefused) ⊎ (result ≡ IsUnprinted) }
 {
-    let _ = writeln!(err, "{refusal}");
-    Status::Refused
+    match writeln!(err, "{refusal}") {
+        Ok(()) => Status::Refused,
+        Err(_) => Status::Unprinted,
+    }
 }
 
 /// The line of an outcome: `registered PREFIX LOCATORS`, `not-registered PREFIX LOCATORS` or `hole PREFIX`.

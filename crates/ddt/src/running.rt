@@ -1,8 +1,13 @@
 //! From the words of the process to the command that they spell.
 
-ghost use Rattle.std.specs.Prelude.{◌≡◌, ◌≢◌, ◌↔◌, map, string_bytes};
-ghost use Rattle.ddt.specs.declared.status.Status.TheVariants.{BadWords as IsBadWords};
-ghost use Rattle.ddt.specs.Words.{AreBad};
+ghost use Rattle.std.specs.Prelude.{◌≡◌, ◌≢◌, ◌⊎◌, ◌↔◌, map, string_bytes};
+ghost use Rattle.std.specs.Fn.{FnOnceReturnsAt};
+ghost use Rattle.ddt.specs.declared.status.Status.TheVariants.{Answered as IsAnswered, Refused as IsRefused, BadWords as IsBadWords};
+ghost use Rattle.ddt.specs.declared.refusal.Refusal.{Refusal};
+ghost use Rattle.ddt.specs.declared.words.Command.{Command as ACommand};
+ghost use Rattle.ddt.specs.Words.{AreBad, AreWordsOf};
+ghost use Rattle.ddt.specs.Running.{IsAnsweredBy, IsWhyRefused};
+ghost use Rattle.ddt.specs.Why.{IsTold};
 
 use crate::commands::answer::{AnswerWords, answer};
 use crate::commands::assign::{AssignWords, assign};
@@ -36,7 +41,11 @@ where
     W: Write,
     E: Write,
     requires { O.IsAlwaysCallable open_file }
-    ensures { (result ≡ IsBadWords) ↔ AreBad (map string_bytes words.now) }
+    ensures bad { (result ≡ IsBadWords) ↔ AreBad (map string_bytes words.now) }
+    // It's the command of these words that answered, or refused.
+    ensures answered { result ≡ IsAnswered → (command : ACommand) × AreWordsOf command (map string_bytes words.now) × IsAnsweredBy (FnOnceReturnsAt O.FnOnce open_file) F.remaining command (W.contents out.old) (W.contents out.new) }
+    ensures refused { result ≡ IsRefused → (command : ACommand) × AreWordsOf command (map string_bytes words.now) × (why : Refusal) × IsWhyRefused (FnOnceReturnsAt O.FnOnce open_file) F.remaining command why × IsTold why (E.contents err.old) (E.contents err.new) }
+    ensures streams { ((result ≢ IsBadWords) × (err.new ≡ err.old)) ⊎ ((result ≢ IsAnswered) × (out.new ≡ out.old)) }
 {
     match words {
         [_, words @ ..] => match read_words(words) {
@@ -68,7 +77,10 @@ where
     W: Write,
     E: Write,
     requires { O.IsAlwaysCallable open_file }
-    ensures { result ≢ IsBadWords }
+    ensures fits { result ≢ IsBadWords }
+    ensures answered { result ≡ IsAnswered → IsAnsweredBy (FnOnceReturnsAt O.FnOnce open_file) F.remaining command.entry (W.contents out.old) (W.contents out.new) }
+    ensures refused { result ≡ IsRefused → (why : Refusal) × IsWhyRefused (FnOnceReturnsAt O.FnOnce open_file) F.remaining command.entry why × IsTold why (E.contents err.old) (E.contents err.new) }
+    ensures streams { (err.new ≡ err.old) ⊎ ((result ≢ IsAnswered) × (out.new ≡ out.old)) }
 {
     match command {
         Command::Answer {

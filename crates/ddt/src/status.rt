@@ -5,10 +5,12 @@
 pub enum Status {
     /// 0: it answered.
     Answered,
-    /// 1: it refused, gave up, or found nothing.
+    /// 1: it refused, gave up, or found nothing, and said why.
     Refused,
     /// 2: the words fit no command.
     BadWords,
+    /// 1: a writer failed, so what it had to say isn't there.
+    Unprinted,
 }
 
 impl Status {
@@ -23,6 +25,7 @@ impl Status {
             Status::Answered => 0,
             Status::Refused => 1,
             Status::BadWords => 2,
+            Status::Unprinted => 1,
         }
     }
 }

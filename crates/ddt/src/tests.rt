@@ -3,5 +3,6 @@
 mod answer_lines;
 mod check_lines;
 mod compile_lines;
+mod full_writers;
 mod harness;
 mod show_lines;

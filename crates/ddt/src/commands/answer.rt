@@ -1,9 +1,10 @@
 //! `ddt answer REGISTER GROUP XEID`: what the group's server answers to a request of nonce 1, in hexadecimal.
 
-ghost use Rattle.std.specs.Prelude.{◌≡◌, ◌≢◌, ◌++◌, ℕ, List, None, IsErr, IfOk, codes, string_bytes};
-ghost use Rattle.std.specs.Io.KnownBytes.{Appends};
-ghost use Rattle.ddt.specs.declared.status.Status.TheVariants.{Answered as IsAnswered, BadWords as IsBadWords};
-ghost use Rattle.ddt.specs.Commands.{IsAnswerLine, Tells};
+ghost use Rattle.std.specs.Prelude.{◌≡◌, ◌≢◌, ◌⊎◌, ℕ, List, None, IsErr, IfOk, IfErr, string_bytes};
+ghost use Rattle.ddt.specs.declared.refusal.Refusal.{Refusal};
+ghost use Rattle.ddt.specs.declared.status.Status.TheVariants.{Answered as IsAnswered, Refused as IsRefused, BadWords as IsBadWords};
+ghost use Rattle.ddt.specs.Commands.{Ended, IsAnswerLine, IsPrintedOf, Tells};
+ghost use Rattle.ddt.specs.Why.{IsTold, IsWhyNoAnswer};
 
 use crate::answering::answer_hex;
 use crate::commands::inputs::{accepted_register, identifier};
@@ -31,8 +32,9 @@ pub fn answer<R: Read + Drop, W: Write, E: Write>(
     out: &mut W,
     err: &mut E,
 ) -> Status
-    ensures answered { result ≡ IsAnswered → (bytes : List ℕ) → Tells R.remaining source bytes → (line : List ℕ) × IsAnswerLine bytes words.now.group.now words.now.xeid.now line × Appends (W.contents out.old) (W.contents out.new) (line ++ codes "\n") }
-    ensures closed { source ≡ None → result ≢ IsAnswered }
+    ensures answered { result ≡ IsAnswered → IsPrintedOf R.remaining source (λ bytes. Ended (IsAnswerLine bytes words.now.group.now words.now.xeid.now)) (W.contents out.old) (W.contents out.new) }
+    ensures refused { result ≡ IsRefused → (why : Refusal) × IsWhyNoAnswer R.remaining source words.now.register.now words.now.group.now words.now.xeid.now why × IsTold why (E.contents err.old) (E.contents err.new) }
+    ensures streams { ((result ≢ IsRefused) × (err.new ≡ err.old)) ⊎ ((result ≢ IsAnswered) × (out.new ≡ out.old)) }
     ensures fits { result ≢ IsBadWords }
 {
     match answer_line(alloc, source, words) {
@@ -47,6 +49,7 @@ fn answer_line<'a, R: Read + Drop>(
     words: &AnswerWords<'a>,
 ) -> Result<String, Refusal<'a>>
     ensures line { IfOk result (λ line. (bytes : List ℕ) → Tells R.remaining source bytes → IsAnswerLine bytes words.now.group.now words.now.xeid.now (string_bytes line)) }
+    ensures refused { IfErr result (λ why. IsWhyNoAnswer R.remaining source words.now.register.now words.now.group.now words.now.xeid.now why) }
     ensures closed { source ≡ None → IsErr result }
 {
     let x = identifier(words.xeid)?;

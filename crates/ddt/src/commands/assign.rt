@@ -1,9 +1,10 @@
 //! `ddt assign REGISTER XEID`: what longest match over the register assigns to the identifier.
 
-ghost use Rattle.std.specs.Prelude.{◌≡◌, ◌≢◌, ◌++◌, ℕ, List, None, IsErr, IfOk, codes};
-ghost use Rattle.std.specs.Io.KnownBytes.{Appends};
-ghost use Rattle.ddt.specs.declared.status.Status.TheVariants.{Answered as IsAnswered, BadWords as IsBadWords};
-ghost use Rattle.ddt.specs.Commands.{IsAssignLine, Tells};
+ghost use Rattle.std.specs.Prelude.{◌≡◌, ◌≢◌, ◌⊎◌, ℕ, List, None, IsErr, IfOk, IfErr};
+ghost use Rattle.ddt.specs.declared.refusal.Refusal.{Refusal};
+ghost use Rattle.ddt.specs.declared.status.Status.TheVariants.{Answered as IsAnswered, Refused as IsRefused, BadWords as IsBadWords};
+ghost use Rattle.ddt.specs.Commands.{Ended, IsAssignLine, IsPrintedOf, Tells};
+ghost use Rattle.ddt.specs.Why.{IsTold, IsWhyNoOutcome};
 
 use crate::commands::inputs::{accepted_register, identifier};
 use crate::lines::{outcome_line, print_line, refuse};
@@ -29,8 +30,9 @@ pub fn assign<R: Read + Drop, W: Write, E: Write>(
     out: &mut W,
     err: &mut E,
 ) -> Status
-    ensures answered { result ≡ IsAnswered → (bytes : List ℕ) → Tells R.remaining source bytes → (line : List ℕ) × IsAssignLine bytes words.now.xeid.now line × Appends (W.contents out.old) (W.contents out.new) (line ++ codes "\n") }
-    ensures closed { source ≡ None → result ≢ IsAnswered }
+    ensures answered { result ≡ IsAnswered → IsPrintedOf R.remaining source (λ bytes. Ended (IsAssignLine bytes words.now.xeid.now)) (W.contents out.old) (W.contents out.new) }
+    ensures refused { result ≡ IsRefused → (why : Refusal) × IsWhyNoOutcome R.remaining source words.now.register.now words.now.xeid.now why × IsTold why (E.contents err.old) (E.contents err.new) }
+    ensures streams { ((result ≢ IsRefused) × (err.new ≡ err.old)) ⊎ ((result ≢ IsAnswered) × (out.new ≡ out.old)) }
     ensures fits { result ≢ IsBadWords }
 {
     match assign_line(alloc, source, words) {
@@ -45,6 +47,7 @@ fn assign_line<'a, R: Read + Drop>(
     words: &AssignWords<'a>,
 ) -> Result<Vec<u8>, Refusal<'a>>
     ensures line { IfOk result (λ line. (bytes : List ℕ) → Tells R.remaining source bytes → IsAssignLine bytes words.now.xeid.now line.items) }
+    ensures refused { IfErr result (λ why. IsWhyNoOutcome R.remaining source words.now.register.now words.now.xeid.now why) }
     ensures closed { source ≡ None → IsErr result }
 {
     let x = identifier(words.xeid)?;

@@ -1,9 +1,10 @@
 //! `ddt check REGISTER`: whether a register is accepted.
 
-ghost use Rattle.std.specs.Prelude.{◌≡◌, ◌≢◌, ◌++◌, ℕ, List, None, IsErr, IfOk, codes};
-ghost use Rattle.std.specs.Io.KnownBytes.{Appends};
-ghost use Rattle.ddt.specs.declared.status.Status.TheVariants.{Answered as IsAnswered, BadWords as IsBadWords};
-ghost use Rattle.ddt.specs.Commands.{IsCheckLine, Tells};
+ghost use Rattle.std.specs.Prelude.{◌≡◌, ◌≢◌, ◌⊎◌, ℕ, List, None, IsErr, IfOk, IfErr};
+ghost use Rattle.ddt.specs.declared.refusal.Refusal.{Refusal};
+ghost use Rattle.ddt.specs.declared.status.Status.TheVariants.{Answered as IsAnswered, Refused as IsRefused, BadWords as IsBadWords};
+ghost use Rattle.ddt.specs.Commands.{Ended, IsCheckLine, IsPrintedOf, Tells};
+ghost use Rattle.ddt.specs.Why.{IsOnItsStream, IsWhyNoRegister};
 ghost use Rattle.ddt.specs.Lines.{counts_text};
 
 use crate::commands::inputs::accepted_register;
@@ -23,8 +24,9 @@ pub fn check<R: Read + Drop, W: Write, E: Write>(
     out: &mut W,
     err: &mut E,
 ) -> Status
-    ensures answered { result ≡ IsAnswered → (bytes : List ℕ) → Tells R.remaining source bytes → (line : List ℕ) × IsCheckLine bytes line × Appends (W.contents out.old) (W.contents out.new) (line ++ codes "\n") }
-    ensures closed { source ≡ None → result ≢ IsAnswered }
+    ensures answered { result ≡ IsAnswered → IsPrintedOf R.remaining source (λ bytes. Ended (IsCheckLine bytes)) (W.contents out.old) (W.contents out.new) }
+    ensures refused { result ≡ IsRefused → (why : Refusal) × IsWhyNoRegister R.remaining source path.now why × IsOnItsStream W.contents E.contents why out.old out.new err.old err.new }
+    ensures streams { (err.new ≡ err.old) ⊎ ((result ≢ IsAnswered) × (out.new ≡ out.old)) }
     ensures fits { result ≢ IsBadWords }
 {
     match check_line(alloc, source, path) {
@@ -40,6 +42,7 @@ fn check_line<R: Read + Drop>(
     path: &str,
 ) -> Result<Vec<u8>, Refusal<'_>>
     ensures line { IfOk result (λ line. (bytes : List ℕ) → Tells R.remaining source bytes → IsCheckLine bytes line.items) }
+    ensures refused { IfErr result (λ why. IsWhyNoRegister R.remaining source path.now why) }
     ensures closed { source ≡ None → IsErr result }
 {
     let accepted = accepted_register(alloc, source, path)?;

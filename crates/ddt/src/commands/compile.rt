@@ -1,11 +1,12 @@
 //! `ddt compile REGISTER GROUP`: the configuration of the group's servers.
 
-ghost use Rattle.std.specs.Prelude.{◌≡◌, ◌≢◌, ℕ, List, None, IsErr, IfOk, find, string_bytes};
+ghost use Rattle.std.specs.Prelude.{◌≡◌, ◌≢◌, ◌⊎◌, ℕ, List, None, IsErr, IfOk, IfErr, find, string_bytes};
 ghost use Rattle.std.specs.Option.{option_copied};
-ghost use Rattle.std.specs.Io.KnownBytes.{Appends};
 ghost use Rattle.ddt_check.specs.Zones.{is_same_name};
-ghost use Rattle.ddt.specs.declared.status.Status.TheVariants.{Answered as IsAnswered, BadWords as IsBadWords};
-ghost use Rattle.ddt.specs.Commands.{IsConfigText, Tells};
+ghost use Rattle.ddt.specs.declared.refusal.Refusal.{Refusal};
+ghost use Rattle.ddt.specs.declared.status.Status.TheVariants.{Answered as IsAnswered, Refused as IsRefused, BadWords as IsBadWords};
+ghost use Rattle.ddt.specs.Commands.{IsConfigText, IsPrintedOf, Tells};
+ghost use Rattle.ddt.specs.Why.{IsTold, IsWhyNoGroup};
 
 use crate::commands::inputs::accepted_register;
 use crate::lines::{print_text, refuse};
@@ -33,8 +34,9 @@ pub fn compile<R: Read + Drop, W: Write, E: Write>(
     out: &mut W,
     err: &mut E,
 ) -> Status
-    ensures answered { result ≡ IsAnswered → (bytes : List ℕ) → Tells R.remaining source bytes → (text : List ℕ) × IsConfigText bytes words.now.group.now text × Appends (W.contents out.old) (W.contents out.new) text }
-    ensures closed { source ≡ None → result ≢ IsAnswered }
+    ensures answered { result ≡ IsAnswered → IsPrintedOf R.remaining source (λ bytes. IsConfigText bytes words.now.group.now) (W.contents out.old) (W.contents out.new) }
+    ensures refused { result ≡ IsRefused → (why : Refusal) × IsWhyNoGroup R.remaining source words.now.register.now words.now.group.now why × IsTold why (E.contents err.old) (E.contents err.new) }
+    ensures streams { ((result ≢ IsRefused) × (err.new ≡ err.old)) ⊎ ((result ≢ IsAnswered) × (out.new ≡ out.old)) }
     ensures fits { result ≢ IsBadWords }
 {
     match config_text(alloc, source, words) {
@@ -49,6 +51,7 @@ fn config_text<'a, R: Read + Drop>(
     words: &CompileWords<'a>,
 ) -> Result<String, Refusal<'a>>
     ensures line { IfOk result (λ text. (bytes : List ℕ) → Tells R.remaining source bytes → IsConfigText bytes words.now.group.now (string_bytes text)) }
+    ensures refused { IfErr result (λ why. IsWhyNoGroup R.remaining source words.now.register.now words.now.group.now why) }
     ensures closed { source ≡ None → IsErr result }
 {
     let accepted = accepted_register(alloc, source, words.register)?;

@@ -1,10 +1,9 @@
 //! What commands are given: an identifier among the words, and a register from a file.
 
-ghost use Rattle.std.specs.Prelude.{◌≡◌, ℕ, List, None, Ok, Err, IsErr, IfOk, IfErr};
-ghost use Rattle.ddt_text.specs.declared.fault.TextFault.{TextFault};
+ghost use Rattle.std.specs.Prelude.{◌≡◌, ℕ, List, None, Ok, IsErr, IfOk, IfErr};
 ghost use Rattle.ddt_text.specs.FirstFault.{xeid_in};
-ghost use Rattle.ddt.specs.declared.refusal.Refusal.TheVariants.{BadIdentifier as IsBadIdentifier, CannotOpen as IsCannotOpen};
-ghost use Rattle.ddt.specs.Commands.{IsAcceptedIn, IsWhyNone, Tells};
+ghost use Rattle.ddt.specs.Commands.{IsAcceptedIn, Tells};
+ghost use Rattle.ddt.specs.Why.{IsWhyNoRegister, IsWhyNoXeid};
 
 use crate::refusal::Refusal;
 use ddt_check::{Accepted, check};
@@ -17,7 +16,7 @@ use std::io::Read;
 /// The identifier that a word spells.
 pub fn identifier(word: &str) -> Result<Xeid, Refusal<'static>>
     ensures found { IfOk result (λ x. xeid_in word.now ≡ Ok x) }
-    ensures refused { IfErr result (λ why. (fault : TextFault) × (why ≡ IsBadIdentifier fault) × (xeid_in word.now ≡ Err fault)) }
+    ensures refused { IfErr result (λ why. IsWhyNoXeid word.now why) }
 {
     match parse_xeid(word.as_bytes()) {
         Ok(x) => Ok(x),
@@ -32,9 +31,8 @@ pub fn accepted_register<R: Read + Drop>(
     path: &str,
 ) -> Result<Accepted, Refusal<'_>>
     ensures accepted { IfOk result (λ a. (bytes : List ℕ) → Tells R.remaining source bytes → IsAcceptedIn bytes a) }
-    ensures refused { IfErr result (λ why. (bytes : List ℕ) → Tells R.remaining source bytes → IsWhyNone bytes why) }
-    ensures closed { source ≡ None → IfErr result (λ why. (name : _) × (why ≡ IsCannotOpen name) × (name.now ≡ path.now)) }
-    ensures opened { source ≡ None → IsErr result }
+    ensures refused { IfErr result (λ why. IsWhyNoRegister R.remaining source path.now why) }
+    ensures closed { source ≡ None → IsErr result }
 {
     let Some(reader) = source else {
         return Err(Refusal::CannotOpen(path));

@@ -1,9 +1,10 @@
 //! `ddt show HEX`: what a datagram says, or the first fault in it.
 
-ghost use Rattle.std.specs.Prelude.{◌≡◌, ◌≢◌, ◌++◌, ℕ, List, IfOk, OnOk, codes};
-ghost use Rattle.std.specs.Io.KnownBytes.{Appends};
-ghost use Rattle.ddt.specs.declared.status.Status.TheVariants.{Answered as IsAnswered, BadWords as IsBadWords};
-ghost use Rattle.ddt.specs.Commands.{IsShowLine, IsMessageLine};
+ghost use Rattle.std.specs.Prelude.{◌≡◌, ◌≢◌, ◌⊎◌, ◌++◌, ℕ, List, IfOk, IfErr, OnOk};
+ghost use Rattle.ddt.specs.declared.refusal.Refusal.{Refusal};
+ghost use Rattle.ddt.specs.declared.status.Status.TheVariants.{Answered as IsAnswered, Refused as IsRefused, BadWords as IsBadWords};
+ghost use Rattle.ddt.specs.Commands.{Ended, IsMessageLine, IsPrinted, IsShowLine};
+ghost use Rattle.ddt.specs.Why.{IsTold, IsWhyNoReferral, IsWhyNoRequest, IsWhyNotShown};
 ghost use Rattle.ddt.specs.Lines.{referral_text, request_text, whole_text, client_text, spaced};
 
 use crate::lines::{
@@ -27,7 +28,9 @@ const ENCAPSULATED: u8 = 8;
 /// Prints the message that a word spells in hexadecimal. Refusals: a word that is no hexadecimal text, an unknown type or
 /// no byte at all, the first fault of a message.
 pub fn show<W: Write, E: Write>(alloc: Global, word: &str, out: &mut W, err: &mut E) -> Status
-    ensures answered { result ≡ IsAnswered → (line : List ℕ) × IsShowLine word.now line × Appends (W.contents out.old) (W.contents out.new) (line ++ codes "\n") }
+    ensures answered { result ≡ IsAnswered → IsPrinted (Ended (IsShowLine word.now)) (W.contents out.old) (W.contents out.new) }
+    ensures refused { result ≡ IsRefused → (why : Refusal) × IsWhyNotShown word.now why × IsTold why (E.contents err.old) (E.contents err.new) }
+    ensures streams { ((result ≢ IsRefused) × (err.new ≡ err.old)) ⊎ ((result ≢ IsAnswered) × (out.new ≡ out.old)) }
     ensures fits { result ≢ IsBadWords }
 {
     match message_line(alloc, word) {
@@ -37,7 +40,8 @@ pub fn show<W: Write, E: Write>(alloc: Global, word: &str, out: &mut W, err: &mu
 }
 
 fn message_line(alloc: Global, word: &str) -> Result<Vec<u8>, Refusal<'static>>
-    ensures { IfOk result (λ line. IsShowLine word.now line.items) }
+    ensures line { IfOk result (λ line. IsShowLine word.now line.items) }
+    ensures refused { IfErr result (λ why. IsWhyNotShown word.now why) }
 {
     let bytes = match hex::decode(alloc, word) {
         Ok(bytes) => bytes,
@@ -53,7 +57,8 @@ fn message_line(alloc: Global, word: &str) -> Result<Vec<u8>, Refusal<'static>>
 
 /// The line of the Map-Referral that the bytes are.
 fn referral_in(alloc: Global, bytes: &[u8]) -> Result<Vec<u8>, Refusal<'static>>
-    ensures { IfOk result (λ line. IsMessageLine bytes.now line.items) }
+    ensures line { IfOk result (λ line. IsMessageLine bytes.now line.items) }
+    ensures refused { IfErr result (λ why. IsWhyNoReferral bytes.now why) }
 {
     match read_referral(bytes) {
         Ok(referral) => Ok(referral_line(alloc, &referral)?),
@@ -63,7 +68,8 @@ fn referral_in(alloc: Global, bytes: &[u8]) -> Result<Vec<u8>, Refusal<'static>>
 
 /// The line of the request that the bytes are.
 fn request_in(alloc: Global, bytes: &[u8]) -> Result<Vec<u8>, Refusal<'static>>
-    ensures { IfOk result (λ line. IsMessageLine bytes.now line.items) }
+    ensures line { IfOk result (λ line. IsMessageLine bytes.now line.items) }
+    ensures refused { IfErr result (λ why. IsWhyNoRequest bytes.now why) }
 {
     match read_request(bytes) {
         Ok(request) => Ok(request_line(alloc, &request)?),

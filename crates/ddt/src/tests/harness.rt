@@ -3,6 +3,7 @@
 use crate::running::run;
 use crate::status::Status;
 use std::alloc::Global;
+use std::io::Write;
 use std::process::Abort;
 use std::test::Fail;
 
@@ -41,19 +42,18 @@ group-node,,root,127.0.0.1
 node,*,root,
 ";
 
-/// Runs `ddt` with these words where `register.csv` is the only file, and compares what comes.
-pub fn expect<R: Abort>(
-    rt: &R,
+/// Runs `ddt` with these words where `register.csv` is the only file.
+pub fn run_words<W: Write, E: Write>(
     alloc: Global,
     register: &str,
     words: &[&str],
-    want: (Status, &str, &str),
-) -> Result<(), Fail> {
+    out: &mut W,
+    err: &mut E,
+) -> Result<Status, Fail> {
     let mut all = vec![in alloc; String::from_str(alloc, "ddt")?]?;
     for word in words {
         all.push(String::from_str(alloc, word)?)?;
     }
-    let (mut out, mut err) = (Vec::new(alloc), Vec::new(alloc));
     let open_file = |path: &str| {
         if path.as_bytes() == b"register.csv".as_slice() {
             Some(register.as_bytes())
@@ -61,7 +61,19 @@ pub fn expect<R: Abort>(
             None
         }
     };
-    let status = run(alloc, &all, open_file, &mut out, &mut err);
+    Ok(run(alloc, &all, open_file, out, err))
+}
+
+/// Runs `ddt` with these words, and compares what comes.
+pub fn expect<R: Abort>(
+    rt: &R,
+    alloc: Global,
+    register: &str,
+    words: &[&str],
+    want: (Status, &str, &str),
+) -> Result<(), Fail> {
+    let (mut out, mut err) = (Vec::new(alloc), Vec::new(alloc));
+    let status = run_words(alloc, register, words, &mut out, &mut err)?;
     assert_eq!(rt; status, want.0, "the status of {words:?}");
     assert_eq!(rt; out.as_slice(), want.1.as_bytes(), "what {words:?} prints");
     assert_eq!(rt; err.as_slice(), want.2.as_bytes(), "what {words:?} refuses");

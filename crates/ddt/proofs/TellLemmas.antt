@@ -1,5 +1,5 @@
 -- What an open file tells, and why there is no group of a name in it.
-use Rattle.std.proofs.Common.{◌≡◌, ◌≢◌, ◌++◌, inl, inr, ℕ, Bool, true, false, List, codes, Option, Some, None, subst, refl}
+use Rattle.std.proofs.Common.{◌≡◌, ◌≢◌, ◌++◌, inr, ℕ, Bool, true, false, List, codes, Option, Some, None, subst, refl}
 use Rattle.std.specs.Io.KnownBytes.{Appends}
 use Rattle.ddt.specs.declared.refusal.Refusal.TheVariants.{NoSuchGroup}
 use Rattle.ddt.specs.Commands.{Ended, IsPrintedOf, Tells}
@@ -13,7 +13,7 @@ not_true true e = absurd (e refl)
 not_true false e = refl
 
 pub no_group : {F : Type 0} (remaining : F → Option (List ℕ)) (source : Option F) (path name : List ℕ) → HasNoGroup remaining source name → IsWhyNoGroup remaining source path name NoSuchGroup
-no_group remaining source path name none = inr (inl (refl, none))
+no_group remaining source path name none = inr (refl, none)
 
 -- the line of what a file tells, ended, is printed
 pub printed_line : {F : Type 0} (remaining : F → Option (List ℕ)) (source : Option F) (is_line : List ℕ → List ℕ → Type 0) (line : List ℕ) (old new : Option (List ℕ))

@@ -1,5 +1,5 @@
--- What each command answers: between what it is given and the line that it prints.
-use Rattle.std.specs.Prelude.{ℕ, ◌≡◌, ◌≢◌, ◌⊎◌, ◌++◌, List, codes, length, Option, option_map, None, Some, Result, Ok}
+-- What each command answers, as a relation between what it is given and the text that it prints.
+use Rattle.std.specs.Prelude.{ℕ, false, ◌≡◌, ◌≢◌, ◌⊎◌, ◌++◌, List, codes, length, Option, option_map, None, Some, Result, Ok}
 use Rattle.std.specs.Io.KnownBytes.{Appends}
 use Rattle.csv.specs.Reading.{default_config, records, strip_bom}
 use Rattle.hex.specs.Hex.{encode_lower, decode_of}
@@ -13,7 +13,9 @@ use Rattle.ddt_check.specs.Rules.{IsAccepted}
 use Rattle.ddt_register.specs.declared.group.Group.{Group}
 use Rattle.ddt_check.specs.Zones.{group_named}
 use Rattle.ddt_check.specs.Assignment.{assignment}
-use Rattle.ddt_config.specs.Table.{config_in_text}
+use Rattle.toml.specs.Text.{IsDocumentText}
+use Rattle.toml.specs.Data.{Members}
+use Rattle.ddt_config.specs.Table.{Outline, config_in, config_in_text}
 use Rattle.ddt_compile.specs.GroupConfig.{group_config}
 use Rattle.ddt_wire.specs.Referral as referral
 use Rattle.ddt_ecm.specs.Request as request
@@ -28,7 +30,7 @@ register_in bytes = spelled (records default_config (strip_bom bytes))
 abbrev pub IsAcceptedIn : List ℕ → Register → Type 0
 IsAcceptedIn bytes r = (register_in bytes ≡ Ok (lists_of r)) × IsAccepted r
 
--- what a file tells: nothing where it couldn't be opened
+-- an opened file tells these bytes; one that couldn't be opened, or whose bytes aren't known, tells none
 abbrev pub Tells : {F : Type 0} → (F → Option (List ℕ)) → Option F → List ℕ → Type 0
 Tells remaining None bytes = ⊥
 Tells remaining (Some file) bytes = remaining file ≡ Some bytes
@@ -47,17 +49,22 @@ IsAssignLine bytes word line =
 abbrev pub IsCheckLine : List ℕ → List ℕ → Type 0
 IsCheckLine bytes line = (r : Register) × IsAcceptedIn bytes r × (line ≡ counts_text (length r.zones) (length r.sites) (length r.groups))
 
--- `compile REGISTER GROUP`: a text in TOML that stands for the configuration of the group of that name
+-- the text that `toml` prints of a table that stands for a configuration
+abbrev pub IsDocumentOf : Outline → List ℕ → Type 0
+IsDocumentOf config text = (ms : Members) × (config_in ms ≡ Ok config) × IsDocumentText false ms text
+
+-- `compile REGISTER GROUP`: the document of the configuration of the group of that name, which is read back as it
 abbrev pub IsConfigText : List ℕ → List ℕ → List ℕ → Type 0
 IsConfigText bytes name text =
-    (r : Register) × (g : Group) × IsAcceptedIn bytes r × (group_named r name ≡ Some g) × (config_in_text text ≡ Ok (group_config r g))
+    (r : Register) × (g : Group) × IsAcceptedIn bytes r × (group_named r name ≡ Some g) × IsDocumentOf (group_config r g) text × (config_in_text text ≡ Ok (group_config r g))
 
--- `show HEX`: the message that the bytes of the word spell
+-- the line of the Map-Referral or request that the bytes spell
 abbrev pub IsMessageLine : List ℕ → List ℕ → Type 0
 IsMessageLine bytes line =
     ((v : referral.Message) × (referral.message_in bytes ≡ Ok v) × (line ≡ referral_text v))
     ⊎ ((v : request.Message) × (request.message_in bytes ≡ Ok v) × (line ≡ request_text v))
 
+-- `show HEX`
 abbrev pub IsShowLine : List ℕ → List ℕ → Type 0
 IsShowLine word line = (bytes : List ℕ) × (decode_of word ≡ Ok bytes) × IsMessageLine bytes line
 
@@ -65,10 +72,10 @@ IsShowLine word line = (bytes : List ℕ) × (decode_of word ≡ Ok bytes) × Is
 abbrev pub Ended : (List ℕ → Type 0) → List ℕ → Type 0
 Ended is_line text = (line : List ℕ) × is_line line × (text ≡ line ++ codes "\n")
 
--- such a text stands behind what a writer had
+-- such a text was appended to what a writer had
 abbrev pub IsPrinted : (List ℕ → Type 0) → Option (List ℕ) → Option (List ℕ) → Type 0
 IsPrinted is_text old new = (text : List ℕ) × is_text text × Appends old new text
 
--- a file could be opened, and where it tells its bytes, their text is printed
+-- a file was opened, and where it tells its bytes, their text was printed
 abbrev pub IsPrintedOf : {F : Type 0} → (F → Option (List ℕ)) → Option F → (List ℕ → List ℕ → Type 0) → Option (List ℕ) → Option (List ℕ) → Type 0
 IsPrintedOf remaining source is_text old new = (source ≢ None) × ((bytes : List ℕ) → Tells remaining source bytes → IsPrinted (is_text bytes) old new)

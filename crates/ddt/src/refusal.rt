@@ -15,11 +15,13 @@ pub enum Refusal<'a> {
     BadIdentifier(TextFault),
     /// The file of this name can't be opened.
     CannotOpen(&'a str),
-    /// The file is no register.
+    /// The file's bytes spell no register.
     Unreadable(ReadFault),
+    /// The file was opened, and reading it failed.
+    CannotRead,
     /// The register breaks a rule.
-    Refused(Fault),
-    /// The register has no group of the name that was asked for.
+    BreaksRule(Fault),
+    /// The register has no group of the name that was asked for, or the word is no name.
     NoSuchGroup,
     /// A word is no hexadecimal text.
     NotHex,
@@ -56,7 +58,8 @@ impl fmt::Display for Refusal<'_> {
                 Some(row) => write!(f, "unreadable {fault} row {row}"),
                 None => write!(f, "unreadable {fault}"),
             },
-            Refusal::Refused(fault) => write!(f, "refused {fault}"),
+            Refusal::CannotRead => write!(f, "unreadable 8 Read"),
+            Refusal::BreaksRule(fault) => write!(f, "refused {fault}"),
             Refusal::NoSuchGroup => write!(f, "no such group"),
             Refusal::NotHex => write!(f, "refused hex"),
             Refusal::UnknownMessage => write!(f, "refused unknown message"),

@@ -4,7 +4,7 @@ ghost use Rattle.std.specs.Prelude.{◌≡◌, ◌≢◌, ◌⊎◌, ℕ, List, 
 ghost use Rattle.ddt.specs.declared.refusal.Refusal.{Refusal};
 ghost use Rattle.ddt.specs.declared.status.Status.TheVariants.{Answered as IsAnswered, Refused as IsRefused, BadWords as IsBadWords};
 ghost use Rattle.ddt.specs.Commands.{Ended, IsAssignLine, IsPrintedOf, Tells};
-ghost use Rattle.ddt.specs.Why.{IsTold, IsWhyNoOutcome};
+ghost use Rattle.ddt.specs.Why.{IsToldAlone, IsWhyNoOutcome};
 
 use crate::commands::inputs::{accepted_register, identifier};
 use crate::lines::{outcome_line, print_line, refuse};
@@ -31,7 +31,7 @@ pub fn assign<R: Read + Drop, W: Write, E: Write>(
     err: &mut E,
 ) -> Status
     ensures answered { result ≡ IsAnswered → IsPrintedOf R.remaining source (λ bytes. Ended (IsAssignLine bytes words.now.xeid.now)) (W.contents out.old) (W.contents out.new) }
-    ensures refused { result ≡ IsRefused → (why : Refusal) × IsWhyNoOutcome R.remaining source words.now.register.now words.now.xeid.now why × IsTold why (E.contents err.old) (E.contents err.new) }
+    ensures refused { result ≡ IsRefused → (why : Refusal) × IsWhyNoOutcome R.remaining source words.now.register.now words.now.xeid.now why × IsToldAlone E.contents why out.old out.new err.old err.new }
     ensures streams { ((result ≢ IsRefused) × (err.new ≡ err.old)) ⊎ ((result ≢ IsAnswered) × (out.new ≡ out.old)) }
     ensures fits { result ≢ IsBadWords }
 {

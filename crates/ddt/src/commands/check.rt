@@ -4,7 +4,7 @@ ghost use Rattle.std.specs.Prelude.{◌≡◌, ◌≢◌, ◌⊎◌, ℕ, List, 
 ghost use Rattle.ddt.specs.declared.refusal.Refusal.{Refusal};
 ghost use Rattle.ddt.specs.declared.status.Status.TheVariants.{Answered as IsAnswered, Refused as IsRefused, BadWords as IsBadWords};
 ghost use Rattle.ddt.specs.Commands.{Ended, IsCheckLine, IsPrintedOf, Tells};
-ghost use Rattle.ddt.specs.Why.{IsOnItsStream, IsWhyNoRegister};
+ghost use Rattle.ddt.specs.Why.{IsToldByCheck, IsWhyNotAccepted};
 ghost use Rattle.ddt.specs.Lines.{counts_text};
 
 use crate::commands::inputs::accepted_register;
@@ -25,13 +25,14 @@ pub fn check<R: Read + Drop, W: Write, E: Write>(
     err: &mut E,
 ) -> Status
     ensures answered { result ≡ IsAnswered → IsPrintedOf R.remaining source (λ bytes. Ended (IsCheckLine bytes)) (W.contents out.old) (W.contents out.new) }
-    ensures refused { result ≡ IsRefused → (why : Refusal) × IsWhyNoRegister R.remaining source path.now why × IsOnItsStream W.contents E.contents why out.old out.new err.old err.new }
+    ensures refused { result ≡ IsRefused → (why : Refusal) × IsWhyNotAccepted R.remaining source path.now why × IsToldByCheck W.contents E.contents why out.old out.new err.old err.new }
     ensures streams { (err.new ≡ err.old) ⊎ ((result ≢ IsAnswered) × (out.new ≡ out.old)) }
     ensures fits { result ≢ IsBadWords }
 {
     match check_line(alloc, source, path) {
         Ok(line) => print_line(&line, out),
-        Err(verdict @ (Refusal::Unreadable(_) | Refusal::Refused(_))) => refuse(&verdict, out),
+        Err(verdict @ (Refusal::Unreadable(_) | Refusal::CannotRead | Refusal::BreaksRule(_))) =>
+            refuse(&verdict, out),
         Err(refusal) => refuse(&refusal, err),
     }
 }
@@ -42,7 +43,7 @@ fn check_line<R: Read + Drop>(
     path: &str,
 ) -> Result<Vec<u8>, Refusal<'_>>
     ensures line { IfOk result (λ line. (bytes : List ℕ) → Tells R.remaining source bytes → IsCheckLine bytes line.items) }
-    ensures refused { IfErr result (λ why. IsWhyNoRegister R.remaining source path.now why) }
+    ensures refused { IfErr result (λ why. IsWhyNotAccepted R.remaining source path.now why) }
     ensures closed { source ≡ None → IsErr result }
 {
     let accepted = accepted_register(alloc, source, path)?;

@@ -6,7 +6,7 @@ ghost use Rattle.ddt_check.specs.Zones.{is_same_name};
 ghost use Rattle.ddt.specs.declared.refusal.Refusal.{Refusal};
 ghost use Rattle.ddt.specs.declared.status.Status.TheVariants.{Answered as IsAnswered, Refused as IsRefused, BadWords as IsBadWords};
 ghost use Rattle.ddt.specs.Commands.{IsConfigText, IsPrintedOf, Tells};
-ghost use Rattle.ddt.specs.Why.{IsTold, IsWhyNoGroup};
+ghost use Rattle.ddt.specs.Why.{IsToldAlone, IsWhyNoGroup};
 
 use crate::commands::inputs::accepted_register;
 use crate::lines::{print_text, refuse};
@@ -35,7 +35,7 @@ pub fn compile<R: Read + Drop, W: Write, E: Write>(
     err: &mut E,
 ) -> Status
     ensures answered { result ≡ IsAnswered → IsPrintedOf R.remaining source (λ bytes. IsConfigText bytes words.now.group.now) (W.contents out.old) (W.contents out.new) }
-    ensures refused { result ≡ IsRefused → (why : Refusal) × IsWhyNoGroup R.remaining source words.now.register.now words.now.group.now why × IsTold why (E.contents err.old) (E.contents err.new) }
+    ensures refused { result ≡ IsRefused → (why : Refusal) × IsWhyNoGroup R.remaining source words.now.register.now words.now.group.now why × IsToldAlone E.contents why out.old out.new err.old err.new }
     ensures streams { ((result ≢ IsRefused) × (err.new ≡ err.old)) ⊎ ((result ≢ IsAnswered) × (out.new ≡ out.old)) }
     ensures fits { result ≢ IsBadWords }
 {

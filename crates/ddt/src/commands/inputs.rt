@@ -3,7 +3,7 @@
 ghost use Rattle.std.specs.Prelude.{◌≡◌, ℕ, List, None, Ok, IsErr, IfOk, IfErr};
 ghost use Rattle.ddt_text.specs.FirstFault.{xeid_in};
 ghost use Rattle.ddt.specs.Commands.{IsAcceptedIn, Tells};
-ghost use Rattle.ddt.specs.Why.{IsWhyNoRegister, IsWhyNoXeid};
+ghost use Rattle.ddt.specs.Why.{IsWhyNoXeid, IsWhyNotAccepted};
 
 use crate::refusal::Refusal;
 use ddt_check::{Accepted, check};
@@ -31,7 +31,7 @@ pub fn accepted_register<R: Read + Drop>(
     path: &str,
 ) -> Result<Accepted, Refusal<'_>>
     ensures accepted { IfOk result (λ a. (bytes : List ℕ) → Tells R.remaining source bytes → IsAcceptedIn bytes a) }
-    ensures refused { IfErr result (λ why. IsWhyNoRegister R.remaining source path.now why) }
+    ensures refused { IfErr result (λ why. IsWhyNotAccepted R.remaining source path.now why) }
     ensures closed { source ≡ None → IsErr result }
 {
     let Some(reader) = source else {
@@ -40,10 +40,11 @@ pub fn accepted_register<R: Read + Drop>(
     let register = match read_register(alloc, reader) {
         Ok(register) => register,
         Err(ReadFault::Memory) => return Err(Refusal::OutOfMemory),
+        Err(ReadFault::Read) => return Err(Refusal::CannotRead),
         Err(fault) => return Err(Refusal::Unreadable(fault)),
     };
     match check(register) {
         Ok(accepted) => Ok(accepted),
-        Err((_, fault)) => Err(Refusal::Refused(fault)),
+        Err((_, fault)) => Err(Refusal::BreaksRule(fault)),
     }
 }

@@ -4,7 +4,7 @@ ghost use Rattle.std.specs.Prelude.{◌≡◌, ◌≢◌, ◌⊎◌, ◌++◌, �
 ghost use Rattle.ddt.specs.declared.refusal.Refusal.{Refusal};
 ghost use Rattle.ddt.specs.declared.status.Status.TheVariants.{Answered as IsAnswered, Refused as IsRefused, BadWords as IsBadWords};
 ghost use Rattle.ddt.specs.Commands.{Ended, IsMessageLine, IsPrinted, IsShowLine};
-ghost use Rattle.ddt.specs.Why.{IsTold, IsWhyNoReferral, IsWhyNoRequest, IsWhyNotShown};
+ghost use Rattle.ddt.specs.Why.{IsToldAlone, IsWhyNoReferral, IsWhyNoRequest, IsWhyNotShown};
 ghost use Rattle.ddt.specs.Lines.{referral_text, request_text, whole_text, client_text, spaced};
 
 use crate::lines::{
@@ -29,7 +29,7 @@ const ENCAPSULATED: u8 = 8;
 /// no byte at all, the first fault of a message.
 pub fn show<W: Write, E: Write>(alloc: Global, word: &str, out: &mut W, err: &mut E) -> Status
     ensures answered { result ≡ IsAnswered → IsPrinted (Ended (IsShowLine word.now)) (W.contents out.old) (W.contents out.new) }
-    ensures refused { result ≡ IsRefused → (why : Refusal) × IsWhyNotShown word.now why × IsTold why (E.contents err.old) (E.contents err.new) }
+    ensures refused { result ≡ IsRefused → (why : Refusal) × IsWhyNotShown word.now why × IsToldAlone E.contents why out.old out.new err.old err.new }
     ensures streams { ((result ≢ IsRefused) × (err.new ≡ err.old)) ⊎ ((result ≢ IsAnswered) × (out.new ≡ out.old)) }
     ensures fits { result ≢ IsBadWords }
 {

@@ -11,7 +11,8 @@ returns-in-Some-config_named-clause-line g c = λ bytes tells.
     let found = subst (λ (cs : List ServerConfig). find (λ d. is_same_name d.name c.in-Some.group) cs ≡ Some c.in-Some-config_named.config.now) c.as_slice.ensures (sym c.in-Some-config_named.ensures) in
     let named = config_found r c.in-Some.group c.in-Some-config_named.config.now c.in_ok-configs.configs r.groups c.in_ok-configs.ensures.each found in
     let name : c.in-Some.group ≡ c.args.words.now.group.now = search rules in
-    (r, named.0, c.in_ok-accepted.ensures.accepted bytes tells, subst (λ (n : List ℕ). group_named r n ≡ Some named.0) name named.1, c.in_ok-to_toml-in-Some-config_named.ensures.read_back ∙ ap Ok named.2)
+    let printed = c.in_ok-to_toml-in-Some-config_named.ensures.printed in
+    (r, named.0, c.in_ok-accepted.ensures.accepted bytes tells, subst (λ (n : List ℕ). group_named r n ≡ Some named.0) name named.1, (printed.0, printed.1 ∙ ap Ok named.2, printed.2), c.in_ok-to_toml-in-Some-config_named.ensures.read_back ∙ ap Ok named.2)
 
 pub returns-in_default-clause-refused : goal.returns-in_default-clause-refused
 returns-in_default-clause-refused g c = no_group _ _ _ _ (

@@ -1,5 +1,6 @@
 -- Two worked registers, and what the definitions give of them.
-use Rattle.std.specs.Prelude.{◌≡◌, ℕ, List, [], ◌∷◌, true, false, codes, refl, Some, None}
+use Rattle.std.specs.Prelude.{◌≡◌, ℕ, List, [], ◌∷◌, map, take, true, false, codes, refl, Some, None}
+use Rattle.std.specs.List.{list_any}
 use Rattle.ddt_path.specs.declared.locator.Locator.{Locator}
 use Rattle.ddt_path.specs.declared.locator.Locator.TheVariants.{V4, V6}
 use Rattle.ddt_path.specs.declared.form.Form.TheVariants.{Range, Block}
@@ -13,6 +14,7 @@ use Rattle.ddt_register.specs.declared.site.Site.{Site}
 use Rattle.ddt_register.specs.declared.group.Group.{Group}
 use Rattle.ddt_register.specs.declared.register.Register.{Register}
 use Rattle.ddt_register.specs.Ranges.{is_in_range}
+use Rattle.ddt_check.specs.declared.fault.Rule.{Rule}
 use Rattle.ddt_check.specs.declared.fault.Rule.TheVariants as rules
 use Rattle.ddt_check.specs.Rules.{broken}
 use Rattle.ddt_check.specs.Assignment.{assignment}
@@ -130,8 +132,12 @@ zone_of_west = record { zones = with_zone (record { prefix = block 0x0c000000 8;
 abbrev pub second_root : Register
 second_root = record { zones = with_zone (root_zone 9); sites = registered_site ∷ silent_site ∷ []; groups = root_group ∷ ten_group ∷ east_group ∷ []; rows = refl }
 
-abbrev pub site_in_nine : ℕ → ℕ → Register
-site_in_nine address len = record { zones = root_zone 4 ∷ ten_zone 5 ∷ east_zone ∷ []; sites = registered_site ∷ silent_site ∷ (record { prefix = block address len; etrs = []; row = 9 }) ∷ []; groups = root_group ∷ ten_group ∷ east_group ∷ []; rows = refl }
+abbrev pub site_in_nine : ℕ → ℕ → List Locator → Register
+site_in_nine address len etrs = record { zones = root_zone 4 ∷ ten_zone 5 ∷ east_zone ∷ []; sites = registered_site ∷ silent_site ∷ (record { prefix = block address len; etrs = etrs; row = 9 }) ∷ []; groups = root_group ∷ ten_group ∷ east_group ∷ []; rows = refl }
+
+-- 1.0.0.1 to 1.0.0.9
+abbrev pub nine_locators : List Locator
+nine_locators = map V4 (0x01000001 ∷ 0x01000002 ∷ 0x01000003 ∷ 0x01000004 ∷ 0x01000005 ∷ 0x01000006 ∷ 0x01000007 ∷ 0x01000008 ∷ 0x01000009 ∷ [])
 
 abbrev pub group_in_nine : List ℕ → List Locator → Register
 group_in_nine name locators = record { zones = root_zone 4 ∷ ten_zone 5 ∷ east_zone ∷ []; sites = registered_site ∷ silent_site ∷ []; groups = root_group ∷ ten_group ∷ east_group ∷ (record { name = name; kind = Node; locators = locators; row = 9 }) ∷ []; rows = refl }
@@ -139,18 +145,28 @@ group_in_nine name locators = record { zones = root_zone 4 ∷ ten_zone 5 ∷ ea
 abbrev pub nothing : Register
 nothing = record { zones = []; sites = []; groups = []; rows = refl }
 
--- the rule that each breaks, in row 9, or in row 0 where nothing stands
+abbrev pub all_rules : List Rule
+all_rules =
+    rules.NoRoot ∷ rules.DuplicateZone ∷ rules.SiteOverlap ∷ rules.UnknownGroup ∷ rules.Role ∷ rules.Locators ∷ rules.BelowMapServer
+    ∷ rules.SiteOutside ∷ rules.TooManyEtrs ∷ rules.DuplicateGroup ∷ []
+
+abbrev pub rows_to_eight : List ℕ
+rows_to_eight = 0 ∷ 1 ∷ 2 ∷ 3 ∷ 4 ∷ 5 ∷ 6 ∷ 7 ∷ 8 ∷ []
+
+-- the rule that each breaks, in row 9, or in row 0 where nothing stands; the campus breaks none in any of its rows
 pub record BreaksInNine : Type 0 where
   pub no_root : broken nothing rules.NoRoot 0 ≡ true
   pub two_roots : broken second_root rules.NoRoot 9 ≡ true
   pub duplicate_zone : broken (zone_in_nine 0x0a000000 8) rules.DuplicateZone 9 ≡ true
-  pub site_overlap : broken (site_in_nine 0x0a010280 25) rules.SiteOverlap 9 ≡ true
+  pub site_overlap : broken (site_in_nine 0x0a010280 25 []) rules.SiteOverlap 9 ≡ true
   pub unknown_group : broken zone_of_west rules.UnknownGroup 9 ≡ true
   pub role : broken ms_zone_of_ten rules.Role 9 ≡ true
   pub taken_locator : broken (group_in_nine (codes "west") (at_root ∷ [])) rules.Locators 9 ≡ true
   pub no_locator : broken (group_in_nine (codes "west") []) rules.Locators 9 ≡ true
   pub below_map_server : broken (zone_in_nine 0x0a010700 24) rules.BelowMapServer 9 ≡ true
-  pub site_outside : broken (site_in_nine 0x0a020000 24) rules.SiteOutside 9 ≡ true
+  pub site_outside : broken (site_in_nine 0x0a020000 24 []) rules.SiteOutside 9 ≡ true
+  pub too_many_etrs : broken (site_in_nine 0x0a010500 24 nine_locators) rules.TooManyEtrs 9 ≡ true
+  pub eight_etrs : broken (site_in_nine 0x0a010500 24 (take 8 nine_locators)) rules.TooManyEtrs 9 ≡ false
   pub duplicate_group : broken (group_in_nine east (V4 0x7f000109 ∷ [])) rules.DuplicateGroup 9 ≡ true
-  pub campus_is_whole : broken campus rules.SiteOutside 8 ≡ false
+  pub campus_is_whole : list_any (λ rule. list_any (broken campus rule) rows_to_eight) all_rules ≡ false
   pub campus_is_in_range : is_in_range campus ≡ true

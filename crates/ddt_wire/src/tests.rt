@@ -415,5 +415,12 @@ fn addresses_are_written_and_read_behind_their_family(rt: HostRuntime) -> Result
     assert_eq!(rt; read_address(&loopback[..17]), Err(AddressFault::Short));
     assert_eq!(rt; read_address(&loopback[..1]), Err(AddressFault::Short));
     assert_eq!(rt; read_address(&[0, 3]), Err(AddressFault::Family));
+    for (fault, written) in [
+        (AddressFault::Short, "1 Short"),
+        (AddressFault::Family, "2 Family"),
+    ] {
+        let text = format!(in rt.alloc(); "{fault}")?;
+        assert_eq!(rt; text.as_str(), written);
+    }
     Ok(())
 }

@@ -1,7 +1,8 @@
 //! `ddt check`: the verdict on each register with one more row.
 
 use crate::status::Status::{Answered, Refused};
-use crate::tests::harness::{CAMPUS, expect};
+use crate::tests::harness::expect;
+use ddt_examples::registers::CAMPUS;
 use std::test::Fail;
 
 #[test]

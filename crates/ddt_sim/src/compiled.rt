@@ -1,15 +1,20 @@
 //! The servers of a register: each group's server, with the configuration that the register is compiled into.
 
-ghost use Rattle.std.specs.Prelude.{◌≡◌, IfOk};
+ghost use Rattle.std.specs.Prelude.{◌≡◌, map, IfOk};
+ghost use Rattle.std.specs.List.{All};
 ghost use Rattle.std.specs.Option.{option_copied};
+ghost use Rattle.ddt_config.specs.Table.{outline};
+ghost use Rattle.ddt_compile.specs.Laws.{HasRoom};
 ghost use Rattle.ddt_register.specs.declared.register.Register.{Register};
 ghost use Rattle.ddt_ecm.specs.Request.{Message};
-ghost use Rattle.ddt_sim.specs.Honest.{IsServer, IsDdtRequest, IsHonestReply};
+ghost use Rattle.ddt_node.specs.Server.{IsDdtRequest};
+ghost use Rattle.ddt_sim.specs.Honest.{IsServer, IsHonestReply};
 ghost use Rattle.ddt_sim.specs.Compiled.{AreCompiled, configs_of, server_at as server_at_locator, reply_at};
 
 use crate::servers::Servers;
 use ddt_check::Accepted;
-use ddt_compile::compile;
+use ddt_compile::{a_compiled_configuration_answers_honestly, compile};
+use ddt_config::ServerConfig;
 use ddt_node::Server;
 use ddt_path::{Listed, Locator};
 use ddt_trie::PrefixMap;
@@ -37,13 +42,9 @@ impl<M: PrefixMap<u32>> Compiled<M> {
         ensures built { IfOk result (λ servers. servers ≡ configs_of accepted.now) }
         ensures compiled { IfOk result (λ servers. AreCompiled servers accepted.now) }
     {
-        let mut servers = Vec::new(alloc);
-        for config in compile(alloc, accepted)?.into_vec() {
-            match Server::build(alloc, config) {
-                Ok(server) => servers.push(server)?,
-                Err(_refused) => return Err(AllocError),
-            }
-        }
+        // The register that is lent is known to be accepted.
+        let _register = accepted.register();
+        let servers = build_each(alloc, compile(alloc, accepted)?)?;
         Ok(Compiled { servers })
     }
 
@@ -65,14 +66,38 @@ impl<M: PrefixMap<u32>> Compiled<M> {
     }
 }
 
+/// A server of each configuration, in their order.
+fn build_each<M: PrefixMap<u32>>(
+    alloc: Global,
+    configs: Listed<ServerConfig>,
+) -> Result<Vec<Server<M>>, AllocError>
+    requires { All (λ c. HasRoom (outline c)) configs }
+    ensures { IfOk result (λ servers. servers.items ≡ map outline configs) }
+{
+    let mut servers = Vec::with_capacity(alloc, configs.as_slice().len())?;
+    for config in configs.into_vec() {
+        match Server::build(alloc, config) {
+            Ok(server) => servers.push(server)?,
+            Err(_refused) => return Err(AllocError),
+        }
+    }
+    Ok(servers)
+}
+
 impl<M: PrefixMap<u32>> Servers for Compiled<M> {
     ghost honest = { AreCompiled };
 
-    fn answer(&mut self, alloc: Global, to: Locator, request: &[u8]) -> Result<Option<Listed<u8>>, AllocError>
+    fn answer(
+        &mut self,
+        alloc: Global,
+        to: Locator,
+        request: &[u8],
+    ) -> Result<Option<Listed<u8>>, AllocError>
         ensures reply { IfOk result (λ reply. reply ≡ reply_at self.old to request.now) }
         ensures says { (r : Register) (m : Message) → AreCompiled self.old r → IsServer r to → IsDdtRequest request.now m → IfOk result (IsHonestReply r to m) }
         ensures stay { (r : Register) → AreCompiled self.old r → AreCompiled self.new r }
     {
+        a_compiled_configuration_answers_honestly();
         match self.server_at(to) {
             Some(server) => Ok(server.handle(alloc, request)?.reply),
             None => Ok(None),

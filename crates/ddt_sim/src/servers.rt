@@ -3,7 +3,8 @@
 ghost use Rattle.std.specs.Prelude.{IfOk};
 ghost use Rattle.ddt_register.specs.declared.register.Register.{Register};
 ghost use Rattle.ddt_ecm.specs.Request.{Message};
-ghost use Rattle.ddt_sim.specs.Honest.{IsServer, IsDdtRequest, IsHonestReply};
+ghost use Rattle.ddt_node.specs.Server.{IsDdtRequest};
+ghost use Rattle.ddt_sim.specs.Honest.{IsServer, IsHonestReply};
 
 use ddt_path::{Listed, Locator};
 use std::alloc::{AllocError, Global};
@@ -16,7 +17,12 @@ pub trait Servers {
 
     /// What comes back for a datagram that is sent to a locator; None where nothing comes back. Fails only if out of
     /// memory. Honest servers stay honest.
-    fn answer(&mut self, alloc: Global, to: Locator, request: &[u8]) -> Result<Option<Listed<u8>>, AllocError>
+    fn answer(
+        &mut self,
+        alloc: Global,
+        to: Locator,
+        request: &[u8],
+    ) -> Result<Option<Listed<u8>>, AllocError>
         ensures says { (r : Register) (m : Message) → honest self.old r → IsServer r to → IsDdtRequest request.now m → IfOk result (IsHonestReply r to m) }
         ensures stay { (r : Register) → honest self.old r → honest self.new r };
 }

@@ -1,0 +1,3 @@
+pub mod NumberMapLemmas
+pub mod ShapeLemmas
+pub mod OrderLemmas

@@ -1,0 +1,9 @@
+pub mod State
+pub mod Records
+pub mod AskStep
+pub mod TakeUp
+pub mod Act
+pub mod TickStep
+pub mod Step
+pub mod Order
+pub mod Bound

@@ -164,7 +164,7 @@ nothing = record { zones = []; sites = []; groups = []; rows = refl }
 
 abbrev pub all_rules : List Rule
 all_rules =
-    rules.NoRoot ∷ rules.DuplicateZone ∷ rules.SiteOverlap ∷ rules.UnknownGroup ∷ rules.Role ∷ rules.Locators ∷ rules.BelowMapServer
+    rules.NoRoot ∷ rules.DuplicateZone ∷ rules.DuplicateSite ∷ rules.UnknownGroup ∷ rules.Role ∷ rules.Locators ∷ rules.BelowMapServer
     ∷ rules.SiteOutside ∷ rules.TooManyEtrs ∷ rules.DuplicateGroup ∷ []
 
 abbrev pub rows_to_eight : List ℕ
@@ -175,7 +175,8 @@ pub record BreaksInNine : Type 0 where
   pub no_root : broken nothing rules.NoRoot 0 ≡ true
   pub two_roots : broken second_root rules.NoRoot 9 ≡ true
   pub duplicate_zone : broken (zone_in_nine 0x0a000000 8) rules.DuplicateZone 9 ≡ true
-  pub site_overlap : broken (site_in_nine 0x0a010280 25 []) rules.SiteOverlap 9 ≡ true
+  pub duplicate_site : broken (site_in_nine 0x0a010200 24 []) rules.DuplicateSite 9 ≡ true
+  pub site_inside_a_site : broken (site_in_nine 0x0a010280 25 []) rules.DuplicateSite 9 ≡ false
   pub unknown_group : broken zone_of_west rules.UnknownGroup 9 ≡ true
   pub role : broken ms_zone_of_ten rules.Role 9 ≡ true
   pub taken_locator : broken (group_in_nine (codes "west") (at_root ∷ [])) rules.Locators 9 ≡ true

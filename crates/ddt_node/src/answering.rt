@@ -4,7 +4,7 @@ ghost use Rattle.std.specs.Prelude.{◌≡◌, ◌<◌, IsTrue, None, length, ma
 ghost use Rattle.ddt_path.specs.Path.{xeid_path};
 ghost use Rattle.ddt_path.specs.Covers.{covers};
 ghost use Rattle.ddt_path.specs.Free.{longest_match};
-ghost use Rattle.ddt_config.specs.Answer.{answer_in as answer_in_of, hole_in, site_outcome as site_outcome_of, referral_to as referral_to_child};
+ghost use Rattle.ddt_config.specs.Answer.{answer_in as answer_in_of, hole_in, site_outcome as site_outcome_of, part_of as part_of_paths, strictly_below, referral_to as referral_to_child};
 ghost use Rattle.ddt_config.specs.Entries.{prefixes_in};
 ghost use Rattle.ddt_node.specs.Places.{places as places_of};
 ghost use Rattle.ddt_node.specs.Server.{etr_in};
@@ -36,6 +36,16 @@ fn hole<M: PrefixMap<u32>>(authority: &Authority, places: &M, x: Xeid) -> Outcom
     Outcome::Hole {
         prefix: places.free(authority.prefix, x).unwrap_or(Prefix::host(x)),
     }
+}
+
+/// The part of a site around an identifier: the least specific prefix in it that overlaps no site inside it.
+fn part_of<M: PrefixMap<u32>>(site: &SiteEntry, places: &M, x: Xeid) -> Prefix
+    ghost sites: { List (List ℕ) }
+    requires places { M.content places.now ≡ places_of sites }
+    requires inside { IsTrue (covers site.now.prefix (xeid_path x)) }
+    ensures { result ≡ part_of_paths site.now.prefix (strictly_below site.now.prefix sites) (xeid_path x) }
+{
+    places.free_below(site.prefix, x).unwrap_or(Prefix::host(x))
 }
 
 /// The outcome of a site, and its first ETR: registered where it has one.

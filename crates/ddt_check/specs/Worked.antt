@@ -142,12 +142,29 @@ nine_locators = map V4 (0x01000001 ∷ 0x01000002 ∷ 0x01000003 ∷ 0x01000004 
 abbrev pub group_in_nine : List ℕ → List Locator → Register
 group_in_nine name locators = record { zones = root_zone 4 ∷ ten_zone 5 ∷ east_zone ∷ []; sites = registered_site ∷ silent_site ∷ []; groups = root_group ∷ ten_group ∷ east_group ∷ (record { name = name; kind = Node; locators = locators; row = 9 }) ∷ []; rows = refl }
 
+-- a site with an ETR inside the silent site, and a silent site inside the registered one
+abbrev pub with_inner_site : Register
+with_inner_site = site_in_nine 0x0a010480 25 (V4 0x7f000202 ∷ [])
+
+abbrev pub with_inner_silent_site : Register
+with_inner_silent_site = site_in_nine 0x0a010240 26 []
+
+-- what sites inside sites are assigned
+pub record NestedSitesAssign : Type 0 where
+  pub part_of_the_outer_site : assignment with_inner_site (v4 0 0x0a010407) ≡ NotRegistered (block 0x0a010400 25) at_east
+  pub inner_site : assignment with_inner_site (v4 0 0x0a0104c8) ≡ Registered (block 0x0a010480 25) at_east
+  pub outer_site : assignment with_inner_silent_site (v4 0 0x0a010203) ≡ Registered (block 0x0a010200 24) at_east
+  pub inner_silent_site : assignment with_inner_silent_site (v4 0 0x0a010246) ≡ NotRegistered (block 0x0a010240 26) at_east
+  pub still_a_hole : assignment with_inner_site (v4 0 0x0a010309) ≡ Hole (block 0x0a010300 24)
+  pub east_says_the_part : says with_inner_site (V4 0x7f000101) (v4 0 0x0a010407) ≡ record { action = MsNotRegistered; prefix = block 0x0a010400 25; ttl = 1; incomplete = false; servers = at_east }
+  pub east_acknowledges_the_inner_site : says with_inner_site (V4 0x7f000101) (v4 0 0x0a0104c8) ≡ record { action = MsAck; prefix = block 0x0a010480 25; ttl = 1440; incomplete = false; servers = at_east }
+
 abbrev pub nothing : Register
 nothing = record { zones = []; sites = []; groups = []; rows = refl }
 
 abbrev pub all_rules : List Rule
 all_rules =
-    rules.NoRoot ∷ rules.DuplicateZone ∷ rules.SiteOverlap ∷ rules.UnknownGroup ∷ rules.Role ∷ rules.Locators ∷ rules.BelowMapServer
+    rules.NoRoot ∷ rules.DuplicateZone ∷ rules.DuplicateSite ∷ rules.UnknownGroup ∷ rules.Role ∷ rules.Locators ∷ rules.BelowMapServer
     ∷ rules.SiteOutside ∷ rules.TooManyEtrs ∷ rules.DuplicateGroup ∷ []
 
 abbrev pub rows_to_eight : List ℕ
@@ -158,7 +175,8 @@ pub record BreaksInNine : Type 0 where
   pub no_root : broken nothing rules.NoRoot 0 ≡ true
   pub two_roots : broken second_root rules.NoRoot 9 ≡ true
   pub duplicate_zone : broken (zone_in_nine 0x0a000000 8) rules.DuplicateZone 9 ≡ true
-  pub site_overlap : broken (site_in_nine 0x0a010280 25 []) rules.SiteOverlap 9 ≡ true
+  pub duplicate_site : broken (site_in_nine 0x0a010200 24 []) rules.DuplicateSite 9 ≡ true
+  pub site_inside_a_site : broken (site_in_nine 0x0a010280 25 []) rules.DuplicateSite 9 ≡ false
   pub unknown_group : broken zone_of_west rules.UnknownGroup 9 ≡ true
   pub role : broken ms_zone_of_ten rules.Role 9 ≡ true
   pub taken_locator : broken (group_in_nine (codes "west") (at_root ∷ [])) rules.Locators 9 ≡ true

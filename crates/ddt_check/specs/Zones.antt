@@ -32,7 +32,8 @@ is_same_name a b = pointwise ◌==◌ a b
 abbrev pub zone_of : Register → List ℕ → Option Zone
 zone_of r x = longest_match (λ z. z.prefix) r.zones x
 
--- The site of a path: the longest site that covers it. In an accepted register at most one site covers it.
+-- The site of a path: the longest site that covers it; sites may lie inside sites. In an accepted register no two sites
+-- have one prefix; of another register this is the first of the longest.
 abbrev pub site_of : Register → List ℕ → Option Site
 site_of r x = longest_match (λ s. s.prefix) r.sites x
 

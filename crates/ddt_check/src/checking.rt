@@ -12,7 +12,7 @@ use ddt_register::Register;
 const RULES: [Rule; 10] = [
     Rule::NoRoot,
     Rule::DuplicateZone,
-    Rule::SiteOverlap,
+    Rule::DuplicateSite,
     Rule::UnknownGroup,
     Rule::Role,
     Rule::Locators,
@@ -52,7 +52,7 @@ fn first_row(register: &Register, rule: Rule) -> Option<u32>
     match rule {
         Rule::NoRoot => first_root_fault(register),
         Rule::DuplicateZone => zones::duplicate(register),
-        Rule::SiteOverlap => sites::overlapping(register),
+        Rule::DuplicateSite => sites::duplicate(register),
         Rule::UnknownGroup => zones::of_unknown_group(register),
         Rule::Role => zones::of_other_role(register),
         Rule::Locators => groups::wrong_locators(register),

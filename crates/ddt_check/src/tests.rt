@@ -1,6 +1,6 @@
 //! What the definitions give of the worked registers, by computation.
 
-ghost use Rattle.ddt_check.specs.Worked.{CampusAssigns, CampusSays, OthersAssign, BreaksInNine};
+ghost use Rattle.ddt_check.specs.Worked.{CampusAssigns, CampusSays, OthersAssign, NestedSitesAssign, BreaksInNine};
 
 fn campus_assigns()
     ensures { CampusAssigns }
@@ -14,6 +14,10 @@ fn others_assign()
     ensures { OthersAssign }
 {}
 
+fn nested_sites_assign()
+    ensures { NestedSitesAssign }
+{}
+
 fn a_ninth_row_breaks_its_rule()
     ensures { BreaksInNine }
 {}
@@ -23,5 +27,6 @@ fn definitions_give_the_worked_values() {
     campus_assigns();
     campus_says();
     others_assign();
+    nested_sites_assign();
     a_ninth_row_breaks_its_rule();
 }

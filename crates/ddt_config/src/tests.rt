@@ -251,7 +251,7 @@ const WRONG_SHAPES: [(&str, &str, &str); 11] = [
     (EAST, "127.0.1.2", "127.0.1.1"),
     (EAST, "etrs = []", NINE_ETRS),
     (EAST, "[0]10.1.4.0/24", "[0]10.2.4.0/24"),
-    (EAST, "[0]10.1.4.0/24", "[0]10.1.2.128/25"),
+    (EAST, "[0]10.1.4.0/24", "[0]10.1.2.0/24"),
     (ROOT, "locators = [\"127.0.0.10\"]", "locators = []"),
     (ROOT, "locators = [\"127.0.0.10\"]", NINE_LOCATORS),
     (ROOT, "[7]2001:db8::/32", "*"),
@@ -282,6 +282,21 @@ fn a_site_may_equal_its_authority_and_no_other_site(rt: HostRuntime) -> Result<(
     let other = "[[authority.site]]\nprefix = \"[0]10.1.4.0/24\"\netrs = []\n";
     let once = replaced(alloc, text.as_str(), other, "")?;
     from_toml(alloc, once.as_str())?;
+    Ok(())
+}
+
+#[test]
+fn a_site_may_lie_inside_another(rt: HostRuntime) -> Result<(), Fail> {
+    let alloc = rt.alloc();
+    let nested = replaced(alloc, EAST, "[0]10.1.4.0/24", "[0]10.1.2.128/25")?;
+    let config = from_toml(alloc, nested.as_str())?;
+    let [authority] = config.authorities.as_slice() else {
+        return Err("no authority")?;
+    };
+    let Content::Sites(sites) = &authority.content else {
+        return Err("no sites")?;
+    };
+    assert_eq!(rt; sites.as_slice().len(), 2);
     Ok(())
 }
 

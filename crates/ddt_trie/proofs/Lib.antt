@@ -5,3 +5,4 @@ pub mod FormLemmas
 pub mod KeyLemmas
 pub mod MapLemmas
 pub mod MatchLemmas
+pub mod BelowLemmas

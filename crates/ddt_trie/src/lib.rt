@@ -10,6 +10,6 @@ mod prefix_map;
 #[cfg(test)]
 mod tests;
 
-pub use laws::{free_by_members, longest_by_entries, one_longest};
+pub use laws::{free_below_by_members, free_by_members, longest_by_entries, one_longest};
 pub use list_map::ListMap;
 pub use prefix_map::PrefixMap;

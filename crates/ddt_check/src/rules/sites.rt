@@ -1,28 +1,26 @@
 //! The rules that a site may break.
 
 ghost use Rattle.std.specs.Prelude.{◌≡◌};
-ghost use Rattle.ddt_check.specs.Rules.{is_overlapping_site as is_overlapping_of, is_outside as is_outside_of, has_too_many_etrs as has_too_many, first_site};
+ghost use Rattle.ddt_check.specs.Rules.{is_duplicate_site as is_duplicate_of, is_outside as is_outside_of, has_too_many_etrs as has_too_many, first_site};
 
 use crate::lookup::{is_ms, zone_of};
 use ddt_register::{Register, Site};
 
-fn is_overlapping(register: &Register, s: &Site) -> bool
-    ensures { result ≡ is_overlapping_of register.now s.now }
+fn is_duplicate(register: &Register, s: &Site) -> bool
+    ensures { result ≡ is_duplicate_of register.now s.now }
 {
     let sites = register.sites.as_slice();
-    sites
-        .iter()
-        .any(|t| t.row < s.row && t.prefix.overlaps(s.prefix))
+    sites.iter().any(|t| t.row < s.row && t.prefix == s.prefix)
 }
 
-/// The least row of a site that overlaps an earlier one.
-pub fn overlapping(register: &Register) -> Option<u32>
-    ensures { result ≡ first_site register.now (is_overlapping_of register.now) }
+/// The least row of a site whose prefix an earlier one has.
+pub fn duplicate(register: &Register) -> Option<u32>
+    ensures { result ≡ first_site register.now (is_duplicate_of register.now) }
 {
     let sites = register.sites.as_slice();
     sites
         .iter()
-        .find(|s| is_overlapping(register, s))
+        .find(|s| is_duplicate(register, s))
         .map(|s| s.row)
 }
 

@@ -1,12 +1,12 @@
-use Rattle.ddt_check.specs.Rules.{is_duplicate_zone, is_overlapping_site, is_of_unknown_group, is_of_other_role, has_wrong_locators, is_below_map_server, is_outside, has_too_many_etrs, is_duplicate_group}
+use Rattle.ddt_check.specs.Rules.{is_duplicate_zone, is_duplicate_site, is_of_unknown_group, is_of_other_role, has_wrong_locators, is_below_map_server, is_outside, has_too_many_etrs, is_duplicate_group}
 use Rattle.ddt_check.proofs.LeastRowLemmas.{least_zone, least_site, least_group}
 use Rattle.ddt_check.proofs.checking.first_row.Goals as goal
 
 pub returns-in-DuplicateZone : goal.returns-in-DuplicateZone
 returns-in-DuplicateZone c = rw (c.in-DuplicateZone.is, c.duplicate.ensures) (least_zone c.args.register.now (is_duplicate_zone c.args.register.now))
 
-pub returns-in-SiteOverlap : goal.returns-in-SiteOverlap
-returns-in-SiteOverlap c = rw (c.in-SiteOverlap.is, c.overlapping.ensures) (least_site c.args.register.now (is_overlapping_site c.args.register.now))
+pub returns-in-DuplicateSite : goal.returns-in-DuplicateSite
+returns-in-DuplicateSite c = rw (c.in-DuplicateSite.is, c.duplicate-in-DuplicateSite.ensures) (least_site c.args.register.now (is_duplicate_site c.args.register.now))
 
 pub returns-in-UnknownGroup : goal.returns-in-UnknownGroup
 returns-in-UnknownGroup c = rw (c.in-UnknownGroup.is, c.of_unknown_group.ensures) (least_zone c.args.register.now (is_of_unknown_group c.args.register.now))

@@ -1,1 +1,2 @@
 pub mod CompiledLemmas
+pub mod SoundLemmas

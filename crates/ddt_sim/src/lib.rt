@@ -4,7 +4,9 @@
 #![tactic(auto)]
 
 mod compiled;
+mod laws;
 mod servers;
 
 pub use compiled::Compiled;
+pub use laws::a_step_keeps_a_resolver_sound;
 pub use servers::Servers;

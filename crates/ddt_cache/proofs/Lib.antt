@@ -1,0 +1,4 @@
+pub mod LiveLemmas
+pub mod SizeLemmas
+pub mod KnownLemmas
+pub mod OrderLemmas

@@ -111,8 +111,9 @@ impl<M: PrefixMap<Entry>> Cache<M> {
         ensures count { result ≡ map.len self.new.live }
     {
         self.advance(now);
-        drop_ended(&mut self.held.entries, self.time);
-        self.held.entries.len()
+        let entries = &mut self.held.entries;
+        drop_ended(entries, self.time);
+        entries.len()
     }
 
     /// Of the live entries whose prefixes cover the identifier, that of the longest prefix, lent; where there is none,

@@ -101,7 +101,7 @@ impl<M: PrefixMap<Entry>> Cache<M> {
     pub fn purge(&mut self, now: Moment)
         ensures { self.new ≡ moved now self.old }
     {
-        self.time = self.time.max(now.millis());
+        self.advance(now);
         drop_ended(&mut self.held.entries, self.time);
     }
 
@@ -110,7 +110,7 @@ impl<M: PrefixMap<Entry>> Cache<M> {
         ensures moved { self.new ≡ moved now self.old }
         ensures count { result ≡ map.len self.new.live }
     {
-        self.time = self.time.max(now.millis());
+        self.advance(now);
         drop_ended(&mut self.held.entries, self.time);
         self.held.entries.len()
     }
@@ -120,7 +120,7 @@ impl<M: PrefixMap<Entry>> Cache<M> {
     pub fn find(&mut self, now: Moment, x: Xeid) -> (Prefix, &Entry)
         ensures found { IsFound (moved now self.old) (xeid_path x) result.0 result.1.now }
     {
-        self.time = self.time.max(now.millis());
+        self.advance(now);
         drop_ended_over(&mut self.held.entries, self.time, x);
         self.held.longest_or_root(x)
     }
@@ -130,7 +130,7 @@ impl<M: PrefixMap<Entry>> Cache<M> {
         ensures moved { self.new ≡ moved now self.old }
         ensures found { IsFound self.new (xeid_path x) result.0 result.1 }
     {
-        self.time = self.time.max(now.millis());
+        self.advance(now);
         drop_ended_over(&mut self.held.entries, self.time, x);
         let (prefix, entry) = self.held.longest_or_root(x);
         (prefix, *entry)

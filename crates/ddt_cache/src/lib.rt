@@ -5,10 +5,12 @@
 mod cache;
 mod entry;
 mod finding;
+mod laws;
 mod moment;
 mod saving;
 
 pub use cache::Cache;
 pub use entry::{Entry, Saved};
+pub use laws::{one_is_found, order_is_kept, saved_until_its_end, time_moves_on};
 pub use moment::{LAST_MOMENT, Moment};
 pub use saving::MOST_ENTRIES;

@@ -10,7 +10,7 @@ use std::marker::Model;
 pub const LAST_MOMENT: u64 = 9_223_372_036_854_775_807;
 
 /// A number of milliseconds, at most 9,223,372,036,854,775,807.
-#[derive(Clone, Copy, Debug)]
+#[derive(Clone, Copy, Debug, PartialEq, Eq, PartialOrd, Ord, Hash)]
 pub struct Moment {
     millis: u64,
 }

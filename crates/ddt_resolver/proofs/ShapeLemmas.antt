@@ -11,7 +11,7 @@ use Rattle.ddt_path.specs.declared.record.Action.TheVariants.{NodeReferral, MsRe
 use Rattle.ddt_path.specs.declared.record.ReferralRecord.{ReferralRecord}
 use Rattle.ddt_path.specs.Path.{xeid_path, is_path}
 use Rattle.ddt_path.specs.Covers.{covers}
-use Rattle.ddt_wire.specs.Referral.{record_of}
+use Rattle.ddt_wire.specs.Referral.{message_record}
 use Rattle.ddt_cache.specs.declared.entry.Entry.{Entry}
 use Rattle.ddt_cache.specs.Entry.{is_positive, is_negative}
 use Rattle.ddt_cache.specs.Live.{Known}

@@ -4,7 +4,7 @@ use Rattle.std.specs.FinMap.{get}
 use Rattle.ddt_path.specs.declared.locator.Locator.{Locator}
 use Rattle.ddt_path.specs.declared.record.ReferralRecord.{ReferralRecord}
 use Rattle.ddt_path.specs.Path.{xeid_path}
-use Rattle.ddt_wire.specs.Referral.{Message, Spells, record_of}
+use Rattle.ddt_wire.specs.Referral.{Message, Spells, message_record}
 use Rattle.ddt_resolver.specs.declared.pending.Pending.{Pending}
 use Rattle.ddt_resolver.specs.declared.answers.Ignored.{Ignored}
 use Rattle.ddt_resolver.specs.declared.answers.Ignored.TheVariants.{Undecodable, UnknownNonce, WrongSource, Late, NotCovering, NoServers}
@@ -16,7 +16,7 @@ pub record Tells (bytes : List ℕ) (nonce : ℕ) (rec : ReferralRecord) : Type 
   pub message : Message
   pub spells : Spells bytes message
   pub same_nonce : message.nonce ≡ nonce
-  pub same_record : record_of message ≡ rec
+  pub same_record : message_record message ≡ rec
 
 -- the bytes answer the last request of a pending lookup by its nonce
 pub record IsReplyTo (s : State) (bytes : List ℕ) (t : ℕ) (l : Pending) (rec : ReferralRecord) : Type 0 where

@@ -1,6 +1,6 @@
 -- Each step keeps a resolver sound, and answers what the register assigns.
 use Rattle.std.proofs.Common.{◌≡◌, ℕ, zero, suc, ◌<◌, ◌≤◌, Bool, cond, true, false, List, [], ◌∷◌, length, get_or, Option, Some, None, refl, sym, ap, ◌∙◌, subst, arith, inl, inr, ◌⊎◌, eq-eqb, Contains}
-use Rattle.std.specs.Prelude.{◌≢◌, IsTrue, ◌||◌, Result, Ok, Err}
+use Rattle.std.specs.Prelude.{◌≢◌, IsTrue, ◌||◌, max, Result, Ok, Err}
 use Rattle.std.specs.FinMap.{FinMap, get, insert, remove}
 use Rattle.std.proofs.lemmas.Option.{none-some, same_Some}
 use Rattle.std.proofs.lemmas.Bool.{false≢true, or_right}
@@ -31,13 +31,14 @@ use Rattle.ddt_cache.specs.declared.entry.Entry.{Entry}
 use Rattle.ddt_cache.specs.Entry.{is_negative, entry_of}
 use Rattle.ddt_cache.specs.Found.{IsFound, IsRoot}
 use Rattle.ddt_cache.specs.Saved.{is_saved}
+use Rattle.ddt_cache.proofs.LiveLemmas.{live_at-is}
 use Rattle.ddt_resolver.specs.declared.pending.Pending.{Pending}
 use Rattle.ddt_resolver.specs.declared.answers.Asked.{Asked}
 use Rattle.ddt_resolver.specs.declared.answers.AskError.{AskError}
 use Rattle.ddt_resolver.specs.declared.answers.Heard.{Heard}
 use Rattle.ddt_resolver.specs.declared.answers.Ticked.{Ticked}
 use Rattle.ddt_resolver.specs.Records.{IsReferral, IsBelow, outcome_at, outcome_of, negative_answer, start_at}
-use Rattle.ddt_resolver.specs.State.{State, server, numbered, lodged, dropped, stored, opening, referred, passed_on, tried_again, at_next}
+use Rattle.ddt_resolver.specs.State.{State, moved, server, numbered, lodged, dropped, stored, opening, referred, passed_on, tried_again, at_next}
 use Rattle.ddt_resolver.specs.AskStep.{AskStep, Start, cached, full, used_up, opened, answer_of}
 use Rattle.ddt_resolver.specs.TakeUp.{IsTaken}
 use Rattle.ddt_resolver.specs.Act as acts
@@ -115,6 +116,9 @@ module _ (r : Register) (s : State) (i : IsSound r s) where
       | inr e ↦ i.lookups u m e.1
     ];
   }
+
+  pub sound_moved : (now : ℕ) → IsSound r (moved now s)
+  sound_moved now = record { root = i.root; lookups = i.lookups; entries = λ p e found. i.entries p e (live_at-is (max s.known.time now) s.known.live p e found).0 }
 
   -- a true record may be saved
   pub sound_stored : (rec : ReferralRecord) → IsTrueEntry r rec.prefix (entry_of s.known.time rec) → IsSound r (stored s rec)

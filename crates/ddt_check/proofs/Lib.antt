@@ -3,3 +3,7 @@ pub mod ZoneLemmas
 pub mod LeastRowLemmas
 pub mod AcceptedLemmas
 pub mod HoleLemmas
+pub mod KeptLemmas
+pub mod ServedLemmas
+pub mod NextLemmas
+pub mod SiteLemmas

@@ -6,6 +6,7 @@ use Rattle.std.specs.Cmp.Lexicographic.{pointwise}
 use Rattle.ddt_path.specs.declared.locator.Locator.{Locator}
 use Rattle.ddt_path.specs.declared.record.Role.{Role}
 use Rattle.ddt_path.specs.declared.record.Role.TheVariants.{Node, Ms}
+use Rattle.ddt_path.specs.Covers.{covers}
 use Rattle.ddt_path.specs.Locators.{lists}
 use Rattle.ddt_path.specs.Free.{longest_match, longer_of, shorter_of}
 use Rattle.ddt_register.specs.declared.zone.Zone.{Zone}
@@ -43,6 +44,14 @@ group_named r name = find (λ g. is_same_name g.name name) r.groups
 -- no such group.
 abbrev pub locators_of : Register → List ℕ → List Locator
 locators_of r name = option_map_or (λ g. g.locators) (group_named r name) []
+
+-- a zone that names a group as its own
+abbrev pub is_served_by : Group → Zone → Bool
+is_served_by g z = is_same_name g.name z.group
+
+-- a site inside a zone: one that the zone covers
+abbrev pub is_site_in : Zone → Site → Bool
+is_site_in z s = covers z.prefix s.prefix
 
 -- the zones whose group lists a locator, in the order of their rows
 abbrev pub served_zones : Register → Locator → List Zone

@@ -11,7 +11,7 @@ use Rattle.std.proofs.lemmas.List.{map-append, append-nil}
 use Rattle.std.proofs.lemmas.List.Elements.{filter_more}
 use Rattle.ddt_path.specs.Covers.{is_same_path}
 use Rattle.ddt_compile.specs.Lists.{list_at}
-use Rattle.ddt_compile.proofs.ShapedLemmas.{same_digits}
+use Rattle.ddt_check.proofs.KeptLemmas.{same_digits}
 
 -- no list is at a key of an empty map
 pub list_at-empty : {V : Type 0} (lists : BTreeMap (List ℕ) (Vec V)) (key : List ℕ) → lists.entries ≡ [] → list_at (slice_cmp nat_cmp) lists key ≡ []

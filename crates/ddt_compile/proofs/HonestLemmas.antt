@@ -30,14 +30,15 @@ use Rattle.ddt_config.specs.declared.config.SiteEntry.{SiteEntry}
 use Rattle.ddt_config.specs.declared.config.ServerConfig.{ServerConfig}
 use Rattle.ddt_config.specs.Table.{outline}
 use Rattle.ddt_config.specs.Answer.{answer, answer_in, referral_to, site_outcome, hole_in}
-use Rattle.ddt_compile.specs.GroupConfig.{is_direct_child, child_of, children_of, is_site_in, entry_of, sites_of, content_of, authority_of, is_served_by, group_config}
+use Rattle.ddt_compile.specs.GroupConfig.{is_direct_child, child_of, children_of, entry_of, sites_of, content_of, authority_of, group_config}
+use Rattle.ddt_check.specs.Zones.{is_site_in, is_served_by}
 use Rattle.ddt_compile.specs.Laws.{IsHonestConfig}
-use Rattle.ddt_compile.proofs.MemberLemmas.{IsIn, in_filter, all_made}
-use Rattle.ddt_compile.proofs.ChosenLemmas.{longest_member, longest_match-map}
-use Rattle.ddt_compile.proofs.ServedLemmas.{locators_of_zone, group_serves}
-use Rattle.ddt_compile.proofs.NextLemmas.{zone_is}
+use Rattle.ddt_path.proofs.MemberLemmas.{IsIn, in_filter, all_made}
+use Rattle.ddt_path.proofs.ChosenLemmas.{longest_member, longest_match-map}
+use Rattle.ddt_check.proofs.ServedLemmas.{locators_of_zone, group_serves}
+use Rattle.ddt_check.proofs.NextLemmas.{zone_is}
 use Rattle.ddt_compile.proofs.ChildLemmas.{longest_child, same_free}
-use Rattle.ddt_compile.proofs.SiteLemmas.{no_next_zone, longest_site}
+use Rattle.ddt_check.proofs.SiteLemmas.{no_next_zone, longest_site}
 
 -- the assignment where a zone has no next zone
 assigned_here : (r : Register) → IsAccepted r → (p : Zone) (x : List ℕ) → IsIn p r.zones → covers p.prefix x ≡ true → next_zone r (length p.prefix) x ≡ None → assignment r x ≡ assigned_in r p p.kind x

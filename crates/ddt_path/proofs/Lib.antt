@@ -7,3 +7,7 @@ pub mod NameLemmas
 pub mod PathTestLemmas
 pub mod CoverLemmas
 pub mod HoleLemmas
+pub mod MemberLemmas
+pub mod FrontLemmas
+pub mod ChosenLemmas
+pub mod LocatorLemmas

@@ -5,3 +5,5 @@ pub mod LocatorLemmas
 pub mod LeftLemmas
 pub mod SpelledLemmas
 pub mod MidwayLemmas
+pub mod RisingLemmas
+pub mod CountLemmas

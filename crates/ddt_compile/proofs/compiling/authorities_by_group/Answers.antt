@@ -10,9 +10,12 @@ use Rattle.ddt_config.specs.declared.config.SiteEntry.{SiteEntry}
 use Rattle.ddt_config.specs.declared.config.Authority.{Authority}
 use Rattle.ddt_config.specs.declared.config.Content.{Content}
 use Rattle.ddt_config.specs.declared.config.Content.TheVariants.{Children, Sites}
-use Rattle.ddt_compile.specs.GroupConfig.{children_of, sites_of, content_of, authority_of, is_served_by}
-use Rattle.ddt_compile.proofs.MemberLemmas.{IsIn, in_at, in_left, in_later, later_row, contained}
-use Rattle.ddt_compile.proofs.ShapedLemmas.{zones_rise, own_prefix}
+use Rattle.ddt_compile.specs.GroupConfig.{children_of, sites_of, content_of, authority_of}
+use Rattle.ddt_check.specs.Zones.{is_served_by}
+use Rattle.ddt_path.proofs.MemberLemmas.{IsIn, in_at, in_left, in_later, contained}
+use Rattle.ddt_register.proofs.RisingLemmas.{later_row}
+use Rattle.ddt_register.proofs.RisingLemmas.{zones_rise}
+use Rattle.ddt_check.proofs.KeptLemmas.{own_prefix}
 use Rattle.ddt_compile.proofs.GrowingLemmas.{grown, list_at-empty}
 use Rattle.ddt_compile.proofs.compiling.authorities_by_group.Goals as goal
 

@@ -6,7 +6,8 @@ use Rattle.std.proofs.lemmas.Bool.{and_parts, leb-true, false_from_ne_true}
 use Rattle.std.proofs.lemmas.List.{length-map}
 use Rattle.std.proofs.lemmas.List.Sums.{sum_by-cons, length-filter, count_by-le-length}
 use Rattle.ddt_register.specs.Rows.{rise}
-use Rattle.ddt_compile.proofs.MemberLemmas.{IsIn, none_of, rise_parts, above}
+use Rattle.ddt_path.proofs.MemberLemmas.{IsIn, none_of}
+use Rattle.ddt_register.proofs.RisingLemmas.{rise_parts, above}
 
 -- rows above one that stay within 65,535
 bounded : (last : ℕ) (rows : List ℕ) → last ≤ 65535 → rise last rows ≡ true → length rows + last ≤ 65535

@@ -10,10 +10,10 @@ use Rattle.ddt_check.specs.Zones.{zone_of}
 use Rattle.ddt_check.specs.Says.{next_zone}
 use Rattle.ddt_check.specs.Rules.{IsAccepted}
 use Rattle.ddt_check.proofs.ZoneLemmas.{zone_prefix}
-use Rattle.ddt_compile.proofs.MemberLemmas.{IsIn, in_filter, filter_in}
-use Rattle.ddt_compile.proofs.ChosenLemmas.{longest_is, shortest_member, shortest_none, shortest_least, none_covers}
-use Rattle.ddt_compile.proofs.FrontLemmas.{one_front}
-use Rattle.ddt_compile.proofs.ServedLemmas.{one_zone}
+use Rattle.ddt_path.proofs.MemberLemmas.{IsIn, in_filter, filter_in}
+use Rattle.ddt_path.proofs.ChosenLemmas.{longest_is, shortest_member, shortest_none, shortest_least, none_covers}
+use Rattle.ddt_path.proofs.FrontLemmas.{one_front}
+use Rattle.ddt_check.proofs.ServedLemmas.{one_zone}
 
 abbrev is_longer : ℕ → Zone → Bool
 is_longer n z = nat_lt n (length z.prefix)

@@ -7,8 +7,6 @@ use Rattle.std.proofs.lemmas.Bool.{cond-true, cond-false, false≢true, and_part
 use Rattle.std.proofs.lemmas.List.{drop_more, take_more}
 use Rattle.std.proofs.lemmas.List.Folds.{find-append}
 use Rattle.std.proofs.lemmas.List.Elements.{All-from_recursion}
-use Rattle.ddt_register.specs.Rows.{rise}
-use Rattle.ddt_config.specs.Shaped.{no_two}
 
 abbrev pub IsIn : {A : Type 0} → A → List A → Type 0
 IsIn a [] = ⊥
@@ -68,100 +66,19 @@ holds_at test [] x e h = absurd h
 holds_at test (y ∷ xs) x e (inl same) = ap test same ∙ (and_parts (test y) (list_all test xs) e).0
 holds_at test (y ∷ xs) x e (inr later) = holds_at test xs x (and_parts (test y) (list_all test xs) e).1 later
 
--- a rule that no row breaks is broken by no item
-pub rule_kept : {A : Type 0} (row : A → ℕ) (test : A → Bool) (xs : List A) → ((n : ℕ) → list_any (λ z. row z == n && test z) xs ≡ false) → (x : A) → IsIn x xs → test x ≡ false
-rule_kept row test xs h x k =
-    let e = fails_at (λ z. row z == row x && test z) xs x (h (row x)) k in
-    ap (λ (b : Bool). b && test x) (sym (eq-eqb (row x) (row x) refl)) ∙ e
-
--- rows that rise
-pub rise_parts : (last row : ℕ) (rows : List ℕ) → rise last (row ∷ rows) ≡ true → (last < row) × (rise row rows ≡ true)
-rise_parts last row rows e =
-    let p = and_parts (nat_lt last row && nat_le row 65535) (rise row rows) e in
-    (ltb-true last row (and_parts (nat_lt last row) (nat_le row 65535) p.0).0, p.1)
-
-pub above : {A : Type 0} (row : A → ℕ) (xs : List A) (last : ℕ) (x : A) → rise last (map row xs) ≡ true → IsIn x xs → last < row x
-above row [] last x e h = absurd h
-above row (y ∷ xs) last x e (inl same) = let p = rise_parts last (row y) (map row xs) e in let q : row x ≡ row y = ap row same in omega (arith, p.0)
-above row (y ∷ xs) last x e (inr later) =
-    let p = rise_parts last (row y) (map row xs) e in
-    let q = above row xs (row y) x p.1 later in
-    omega (arith, p.0)
-
 -- what comes after an item is a member and stands in a higher row
 pub in_later : {A : Type 0} (xs : List A) (n : ℕ) (y : A) → IsIn y (drop n xs) → IsIn y xs
 in_later xs zero y k = k
 in_later [] (suc n) y k = absurd k
 in_later (x ∷ xs) (suc n) y k = inr (in_later xs n y k)
 
-pub later_row : {A : Type 0} (row : A → ℕ) (xs : List A) (last i : ℕ) (x y : A) → rise last (map row xs) ≡ true → i < length xs → x ≡ get_or xs i x → IsIn y (drop (i + 1) xs) → row x < row y
-later_row row [] last i x y e lt is k = absurd (omega arith)
-later_row row (z ∷ xs) last zero x y e lt is k =
-    let q : row x ≡ row z = ap row is in
-    let up : row z < row y = above row xs (row z) y (rise_parts last (row z) (map row xs) e).1 k in
-    omega arith
-later_row row (z ∷ xs) last (suc i) x y e lt is k =
-    let n : suc i + 1 ≡ suc (i + 1) = omega arith in
-    later_row row xs (row z) i x y (rise_parts last (row z) (map row xs) e).1 (omega arith) is (subst (λ (m : ℕ). IsIn y (drop m (z ∷ xs))) n k)
-
 -- what is left at an item is that item and what comes after it
 pub in_left : {A : Type 0} (xs : List A) (i : ℕ) (x y : A) → i < length xs → x ≡ get_or xs i x → (y ≡ x) ⊎ IsIn y (drop (i + 1) xs) → IsIn y (drop i xs)
 in_left xs i x y lt is k = subst (IsIn y) (sym (drop_more xs i x lt ∙ ap (λ z. z ∷ drop (i + 1) xs) (sym is))) k
 
--- two members are one, or stand in two rows
-pub one_row : {A : Type 0} (row : A → ℕ) (xs : List A) (last : ℕ) (x y : A) → rise last (map row xs) ≡ true → IsIn x xs → IsIn y xs → (x ≡ y) ⊎ ((row x < row y) ⊎ (row y < row x))
-one_row row [] last x y e h k = absurd h
-one_row row (z ∷ xs) last x y e (inl a) (inl b) = inl (a ∙ sym b)
-one_row row (z ∷ xs) last x y e (inl a) (inr k) =
-    let q : row x ≡ row z = ap row a in
-    let lt : row z < row y = above row xs (row z) y (rise_parts last (row z) (map row xs) e).1 k in
-    inr (inl (omega arith))
-one_row row (z ∷ xs) last x y e (inr h) (inl b) =
-    let q : row y ≡ row z = ap row b in
-    let lt : row z < row x = above row xs (row z) x (rise_parts last (row z) (map row xs) e).1 h in
-    inr (inr (omega arith))
-one_row row (z ∷ xs) last x y e (inr h) (inr k) = one_row row xs (row z) x y (rise_parts last (row z) (map row xs) e).1 h k
-
-rise-lower : (low last : ℕ) (rows : List ℕ) → low ≤ last → rise last rows ≡ true → rise low rows ≡ true
-rise-lower low last [] le e = refl
-rise-lower low last (row ∷ rows) le e =
-    let p = and_parts (nat_lt last row && nat_le row 65535) (rise row rows) e in
-    let q = and_parts (nat_lt last row) (nat_le row 65535) p.0 in
-    let lt : last < row = ltb-true last row q.0 in
-    let under : low < row = omega arith in
-    rw (lt-ltb low row under, q.1, p.1) refl
-
-rise-kept : {A : Type 0} (row : A → ℕ) (x : A) (xs kept : List A) (last : ℕ) → rise last (row x ∷ map row xs) ≡ true → rise (row x) (map row kept) ≡ true → (b : Bool) → rise last (map row (cond b (x ∷ kept) kept)) ≡ true
-rise-kept row x xs kept last e ih true =
-    let p = and_parts (nat_lt last (row x) && nat_le (row x) 65535) (rise (row x) (map row xs)) e in
-    rw (p.0, ih) refl
-rise-kept row x xs kept last e ih false =
-    let p = rise_parts last (row x) (map row xs) e in
-    rise-lower last (row x) (map row kept) (let lt : last < row x = p.0 in omega arith) ih
-
-pub rise-filter : {A : Type 0} (row : A → ℕ) (test : A → Bool) (xs : List A) (last : ℕ) → rise last (map row xs) ≡ true → rise last (map row (filter test xs)) ≡ true
-rise-filter row test [] last e = refl
-rise-filter row test (x ∷ xs) last e = rise-kept row x xs (filter test xs) last e (rise-filter row test xs (row x) (rise_parts last (row x) (map row xs) e).1) (test x)
-
--- of items in rising rows none clashes with a later one, if none clashes with one of a higher row
-no_two_rising : {A : Type 0} (row : A → ℕ) (clash : A → A → Bool) (xs : List A) (last : ℕ) → rise last (map row xs) ≡ true
-    → ((a b : A) → IsIn a xs → IsIn b xs → row a < row b → clash a b ≡ false) → no_two clash xs ≡ true
-no_two_rising row clash [] last e h = refl
-no_two_rising row clash (x ∷ xs) last e h =
-    let p = rise_parts last (row x) (map row xs) e in
-    rw (none_of (clash x) xs (λ y k. h x y (inl refl) (inr k) (above row xs (row x) y p.1 k)), no_two_rising row clash xs (row x) p.1 (λ a b j k lt. h a b (inr j) (inr k) lt)) refl
-
-list_any-map : {A B : Type 0} (test : B → Bool) (f : A → B) (xs : List A) → list_any test (map f xs) ≡ list_any (λ x. test (f x)) xs
+pub list_any-map : {A B : Type 0} (test : B → Bool) (f : A → B) (xs : List A) → list_any test (map f xs) ≡ list_any (λ x. test (f x)) xs
 list_any-map test f [] = refl
 list_any-map test f (x ∷ xs) = ap (λ b. test (f x) || b) (list_any-map test f xs)
-
-no_two-map : {A B : Type 0} (clash : B → B → Bool) (f : A → B) (xs : List A) → no_two clash (map f xs) ≡ no_two (λ a b. clash (f a) (f b)) xs
-no_two-map clash f [] = refl
-no_two-map clash f (x ∷ xs) = rw (list_any-map (clash (f x)) f xs, no_two-map clash f xs) refl
-
-pub no_two_kept : {A B : Type 0} (row : A → ℕ) (f : A → B) (clash : B → B → Bool) (test : A → Bool) (xs : List A) → rise 0 (map row xs) ≡ true
-    → ((a b : A) → IsIn a (filter test xs) → IsIn b (filter test xs) → row a < row b → clash (f a) (f b) ≡ false) → no_two clash (map f (filter test xs)) ≡ true
-no_two_kept row f clash test xs e h = no_two-map clash f (filter test xs) ∙ no_two_rising row (λ a b. clash (f a) (f b)) (filter test xs) 0 (rise-filter row test xs 0 e) h
 
 pub list_all-map : {A B : Type 0} (test : B → Bool) (f : A → B) (xs : List A) → list_all test (map f xs) ≡ list_all (λ x. test (f x)) xs
 list_all-map test f [] = refl
@@ -204,15 +121,6 @@ found_case_passes test y x rest ih false t e = ih e
 pub found_passes : {A : Type 0} (test : A → Bool) (xs : List A) (x : A) → find test xs ≡ Some x → test x ≡ true
 found_passes test [] x e = absurd (none≢some x e)
 found_passes test (y ∷ xs) x e = found_case_passes test y x (find test xs) (found_passes test xs x) (test y) refl e
-
--- a member that passes is found, if none of a lower row passes
-pub found_first : {A : Type 0} (row : A → ℕ) (test : A → Bool) (xs : List A) (last : ℕ) (x : A) → rise last (map row xs) ≡ true → IsIn x xs → test x ≡ true
-    → ((y : A) → IsIn y xs → row y < row x → test y ≡ false) → find test xs ≡ Some x
-found_first row test [] last x e h t low = absurd h
-found_first row test (y ∷ xs) last x e (inl same) t low = rw (← same, t) refl
-found_first row test (y ∷ xs) last x e (inr later) t low =
-    let p = rise_parts last (row y) (map row xs) e in
-    rw (low y (inl refl) (above row xs (row y) x p.1 later)) (found_first row test xs (row y) x p.1 later t (λ z k lt. low z (inr k) lt))
 
 -- the first that passes among one item more
 module _ {A : Type 0} (test : A → Bool) (xs : List A) (i : ℕ) (x : A) (lt : i < length xs) (is : x ≡ get_or xs i x) where

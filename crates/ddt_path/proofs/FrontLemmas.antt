@@ -2,7 +2,7 @@
 use Rattle.std.proofs.Common.{◌≡◌, ℕ, ◌<◌, ◌≤◌, true, not, List, [], ◌∷◌, length, refl, sym, ap, ◌∙◌, arith, inl, inr}
 use Rattle.std.specs.Prelude.{◌==◌}
 use Rattle.std.proofs.lemmas.Bool.{and_parts, and_from, or_cases, or_left, or_right, false≢true, eqb-true, eq-eqb, not-true, not_from_false, false_from_ne_true, cases_lt}
-use Rattle.ddt_path.specs.Covers.{covers, overlaps, is_strictly_below}
+use Rattle.ddt_path.specs.Covers.{covers, overlaps, is_same_path, is_strictly_below}
 use Rattle.ddt_path.proofs.CoverLemmas.{covers_self, covers_trans, length-covered, covered_same}
 
 -- of two fronts the longer begins with the shorter
@@ -42,3 +42,13 @@ overlaps_front c z q a o =
         | inr le ↦ or_left (covers c q) (covers q c) (front_covers c q z a up le)
       ]
     ]
+
+-- two paths that cover each other are one
+pub one_path : (p q : List ℕ) → covers p q ≡ true → covers q p ≡ true → is_same_path p q ≡ true
+one_path [] [] e f = refl
+one_path [] (y ∷ q) e f = absurd (false≢true f)
+one_path (x ∷ p) [] e f = absurd (false≢true e)
+one_path (x ∷ p) (y ∷ q) e f =
+    let a = and_parts (x == y) (covers p q) e in
+    let b = and_parts (y == x) (covers q p) f in
+    rw (a.0, one_path p q a.1 b.1) refl

@@ -15,9 +15,13 @@ use Rattle.ddt_register.specs.declared.register.Register.{Register}
 use Rattle.ddt_check.specs.declared.fault.Rule.TheVariants as rules
 use Rattle.ddt_check.specs.Zones.{is_same_name, group_named, locators_of, served_zones}
 use Rattle.ddt_check.specs.Rules.{IsAccepted, has_repeat, share, has_wrong_locators}
-use Rattle.ddt_compile.specs.GroupConfig.{is_served_by}
-use Rattle.ddt_compile.proofs.MemberLemmas.{IsIn, fails_at, rule_kept, one_row, filter_same, found_in, found_passes}
-use Rattle.ddt_compile.proofs.ShapedLemmas.{zones_rise, groups_rise, earlier_fails, own_prefix, one_path, group_of_zone}
+use Rattle.ddt_check.specs.Zones.{is_served_by}
+use Rattle.ddt_path.proofs.MemberLemmas.{IsIn, fails_at, filter_same, found_in, found_passes}
+use Rattle.ddt_register.proofs.RisingLemmas.{rule_kept, one_row}
+use Rattle.ddt_register.proofs.RisingLemmas.{zones_rise, groups_rise, earlier_fails}
+use Rattle.ddt_check.proofs.KeptLemmas.{own_prefix, group_of_zone}
+use Rattle.ddt_path.proofs.FrontLemmas.{one_path}
+use Rattle.ddt_path.proofs.LocatorLemmas.{same_locator}
 
 -- one zone of a prefix
 pub one_zone : (r : Register) → IsAccepted r → (a b : Zone) → IsIn a r.zones → IsIn b r.zones → a.prefix ≡ b.prefix → a ≡ b
@@ -31,13 +35,6 @@ one_zone r accepted a b j k same =
         | inr gt ↦ absurd (both_ways (is_same_path b.prefix a.prefix) (own_prefix r accepted b a k j gt) there)
       ]
     ]
-
--- one group of a locator
-same_locator : (m l : Locator) → is_same_locator m l ≡ true → m ≡ l
-same_locator (V4 a) (V4 b) e = ap (λ (n : ℕ). V4 n) (eqb-true a b e)
-same_locator (V6 a) (V6 b) e = ap (λ (n : ℕ). V6 n) (eqb-true a b e)
-same_locator (V4 a) (V6 b) e = absurd (false≢true e)
-same_locator (V6 a) (V4 b) e = absurd (false≢true e)
 
 unshared_fails : (ls ms : List Locator) (l : Locator) → share ls ms ≡ false → lists ls l ≡ true → lists ms l ≡ true → ⊥
 unshared_fails [] ms l e here there = false≢true here

@@ -16,11 +16,12 @@ use Rattle.ddt_check.specs.Zones.{is_ms, zone_of, site_of}
 use Rattle.ddt_check.specs.Says.{next_zone}
 use Rattle.ddt_check.specs.Rules.{IsAccepted, is_below_map_server, is_outside}
 use Rattle.ddt_check.proofs.ZoneLemmas.{zone_prefix, site_prefix}
-use Rattle.ddt_compile.specs.GroupConfig.{is_site_in}
-use Rattle.ddt_compile.proofs.MemberLemmas.{IsIn, fails_at, rule_kept}
-use Rattle.ddt_compile.proofs.ChosenLemmas.{longest_member, longest_match-filter}
-use Rattle.ddt_compile.proofs.FrontLemmas.{front_covers, front_below}
-use Rattle.ddt_compile.proofs.NextLemmas.{next_none}
+use Rattle.ddt_check.specs.Zones.{is_site_in}
+use Rattle.ddt_path.proofs.MemberLemmas.{IsIn, fails_at}
+use Rattle.ddt_register.proofs.RisingLemmas.{rule_kept}
+use Rattle.ddt_path.proofs.ChosenLemmas.{longest_member, longest_match-filter}
+use Rattle.ddt_path.proofs.FrontLemmas.{front_covers, front_below}
+use Rattle.ddt_check.proofs.NextLemmas.{next_none}
 
 none_below : (r : Register) → IsAccepted r → (p z : Zone) → IsIn p r.zones → p.kind ≡ Ms → IsIn z r.zones → is_strictly_below z.prefix p.prefix ≡ false
 none_below r accepted p z j ms k =

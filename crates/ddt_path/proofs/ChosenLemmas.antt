@@ -7,7 +7,7 @@ use Rattle.std.proofs.lemmas.Bool.{cases_lt, cond-true, cond-false, lt-ltb, le-l
 use Rattle.std.proofs.lemmas.Option.{none-some, same_Some, MatchOption-at_some, MatchOption-at_none}
 use Rattle.ddt_path.specs.Covers.{covers}
 use Rattle.ddt_path.specs.Free.{longest_match, longer_of, shortest_match, shorter_of}
-use Rattle.ddt_compile.proofs.MemberLemmas.{IsIn}
+use Rattle.ddt_path.proofs.MemberLemmas.{IsIn}
 
 module _ {A : Type 0} (prefix : A → List ℕ) where
   longer_first : (a b : A) → length (prefix b) ≤ length (prefix a) → longer_of prefix a (Some b) ≡ a

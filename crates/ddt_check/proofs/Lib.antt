@@ -11,3 +11,4 @@ pub mod LongestLemmas
 pub mod RootLemmas
 pub mod SaysLemmas
 pub mod NegativeLemmas
+pub mod FreeLemmas

@@ -241,6 +241,7 @@ module _ (r : Register) (accepted : IsAccepted r) where
         record {
           site = s;
           is_site = contained r.sites s p.0;
+          its_site = at;
           its_prefix = is;
           covers_it = ap (λ (l : List ℕ). covers l x) (sym is) ∙ p.1;
           zone = z;

@@ -10,5 +10,6 @@ pub mod EndLemmas
 pub mod HoleLemmas
 pub mod MemberLemmas
 pub mod FrontLemmas
+pub mod MatchingLemmas
 pub mod ChosenLemmas
 pub mod LocatorLemmas

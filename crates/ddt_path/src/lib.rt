@@ -8,8 +8,10 @@ mod listed;
 mod locator;
 mod locator_set;
 mod masks;
+mod matching;
 mod name;
 mod prefix;
+mod prefixed;
 mod record;
 mod xeid;
 
@@ -19,10 +21,12 @@ pub use holes::{
     a_hole_is_free, no_hole_under_a_key, none_free_is_covered, one_hole_for_all_it_covers,
 };
 pub use listed::Listed;
-pub use locator::{Locator, is_same_locator, lists};
+pub use locator::{Locator, are_distinct, is_same_locator, lists};
 pub use locator_set::{LocatorSet, MOST_LOCATORS};
+pub use matching::Preference;
 pub use name::{LONGEST_NAME, Name};
 pub use prefix::Prefix;
+pub use prefixed::Prefixed;
 pub use record::{
     Action, HOLE_TTL, NOT_REGISTERED_TTL, Outcome, POSITIVE_TTL, ReferralRecord, Role,
 };

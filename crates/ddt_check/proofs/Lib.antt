@@ -7,3 +7,13 @@ pub mod KeptLemmas
 pub mod ServedLemmas
 pub mod NextLemmas
 pub mod SiteLemmas
+pub mod RestoreLemmas
+pub mod RegisterLemmas
+pub mod LeastLemmas
+pub mod OrderLemmas
+pub mod NameLemmas
+pub mod BelowLemmas
+pub mod OutsideLemmas
+pub mod ColumnLemmas
+pub mod WrongLemmas
+pub mod RuleLemmas

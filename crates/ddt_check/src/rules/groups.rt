@@ -5,7 +5,7 @@ ghost use Rattle.std.specs.Option.{option_copied};
 ghost use Rattle.ddt_register.specs.declared.group.Group.{Group as AGroup};
 ghost use Rattle.ddt_register.specs.declared.register.Register.{Register as ARegister};
 ghost use Rattle.ddt_check.specs.Rules.{IsLeastRow, broken, is_duplicate_group};
-ghost use Rattle.ddt_check.specs.Zones.{group_named as group_of_name};
+ghost use Rattle.ddt_check.specs.Zones.{is_same_name, group_named as group_of_name};
 ghost use Rattle.ddt_check.specs.Order.{AreGroupsInOrder};
 
 use crate::fault::Rule;
@@ -25,6 +25,13 @@ pub fn group_named(groups: &[Group], name: Name) -> Option<&Group>
     None
 }
 
+/// Whether two groups have one name.
+fn has_same_name(a: &Group, b: &Group) -> bool
+    ensures { result ≡ is_same_name a.now.name b.now.name }
+{
+    a.name == b.name
+}
+
 /// Whether a group of an earlier row has the name of the group at a place: its neighbour then has it.
 fn repeats(groups: &[Group], at: usize) -> bool
     requires inside { at < length groups.now }
@@ -34,7 +41,7 @@ fn repeats(groups: &[Group], at: usize) -> bool
     if at == 0 {
         return false;
     }
-    groups[at - 1].name == groups[at].name
+    has_same_name(&groups[at - 1], &groups[at])
 }
 
 /// The least row of a group whose name an earlier one has.

@@ -2,7 +2,7 @@
 //! are sorted by their prefixes, then by their rows.
 
 ghost use Rattle.std.specs.Prelude.{◌≡◌, ℕ, ◌<◌, ◌&&◌, false, IsPermutation, slice_index_or, length};
-ghost use Rattle.ddt_path.specs.Covers.{covers};
+ghost use Rattle.ddt_path.specs.Covers.{covers, is_same_path};
 ghost use Rattle.ddt_register.specs.declared.site.Site.{Site as ASite};
 ghost use Rattle.ddt_register.specs.declared.register.Register.{Register as ARegister};
 ghost use Rattle.ddt_check.specs.Rules.{IsLeastRow, broken, first_site, is_duplicate_site, is_outside as is_outside_of, has_too_many_etrs as has_too_many};
@@ -28,6 +28,13 @@ pub fn too_many_etrs(register: &Register) -> Option<u32>
     sites.iter().find(|s| has_too_many_etrs(s)).map(|s| s.row)
 }
 
+/// Whether two sites have one prefix.
+fn has_same_prefix(a: &Site, b: &Site) -> bool
+    ensures { result ≡ is_same_path a.now.prefix b.now.prefix }
+{
+    a.prefix == b.prefix
+}
+
 /// Whether a site of an earlier row has the prefix of the site at a place: its neighbour then has it.
 fn repeats(sites: &[Site], at: usize) -> bool
     requires inside { at < length sites.now }
@@ -37,7 +44,7 @@ fn repeats(sites: &[Site], at: usize) -> bool
     if at == 0 {
         return false;
     }
-    sites[at - 1].prefix == sites[at].prefix
+    has_same_prefix(&sites[at - 1], &sites[at])
 }
 
 /// The least row of a site whose prefix an earlier one has.

@@ -4,6 +4,7 @@
 ghost use Rattle.std.specs.Prelude.{◌≡◌, ◌<◌, IsPermutation, slice_index_or, length};
 ghost use Rattle.std.specs.List.{list_any};
 ghost use Rattle.std.specs.Option.{option_map, option_copied};
+ghost use Rattle.ddt_path.specs.Covers.{is_same_path};
 ghost use Rattle.ddt_register.specs.declared.zone.Zone.{Zone as AZone};
 ghost use Rattle.ddt_register.specs.declared.register.Register.{Register as ARegister};
 ghost use Rattle.ddt_check.specs.Rules.{IsLeastRow, broken, earlier_zone, first_zone};
@@ -55,6 +56,13 @@ pub fn wrong_root(register: &Register) -> Option<u32>
         .map(|z| z.row)
 }
 
+/// Whether two zones have one prefix.
+fn has_same_prefix(a: &Zone, b: &Zone) -> bool
+    ensures { result ≡ is_same_path a.now.prefix b.now.prefix }
+{
+    a.prefix == b.prefix
+}
+
 /// Whether a zone of an earlier row has the prefix of the zone at a place: its neighbour then has it.
 fn repeats(zones: &[Zone], at: usize) -> bool
     requires inside { at < length zones.now }
@@ -64,7 +72,7 @@ fn repeats(zones: &[Zone], at: usize) -> bool
     if at == 0 {
         return false;
     }
-    zones[at - 1].prefix == zones[at].prefix
+    has_same_prefix(&zones[at - 1], &zones[at])
 }
 
 /// The least row of a zone whose prefix an earlier one has.

@@ -27,9 +27,9 @@ returns c = λ r d moved.
     let up : c.args.at ≡ c.args.at - 1 + 1 = let ne = c.if-at-eq0.false in omega arith in
     let x = c.index-groups-at.result in
     let y = c.index-groups-at-2.result in
-    c.eq.ensures
-    ∙ ap (λ (z : Group). is_same_path z.name (get_or groups c.args.at y).name) (get_or-same groups (c.args.at - 1) x d (omega arith))
-    ∙ ap (λ (z : Group). is_same_path (get_or groups (c.args.at - 1) d).name z.name) (get_or-same groups c.args.at y d at)
+    c.has_same_name.ensures
+    ∙ ap (λ (z : Group). is_same_path z.name y.name) (c.index-groups-at.is ∙ get_or-same groups (c.args.at - 1) x d (omega arith))
+    ∙ ap (λ (z : Group). is_same_path (get_or groups (c.args.at - 1) d).name z.name) (c.index-groups-at-2.is ∙ get_or-same groups c.args.at y d at)
     ∙ ap (λ (k : ℕ). is_same_path (get_or groups (c.args.at - 1) d).name (get_or groups k d).name) up
     ∙ has_earlier-beside prefix group_row groups c.requires.sorted r.groups (groups_up r) moved (c.args.at - 1) d (omega arith)
     ∙ ap (λ (k : ℕ). is_duplicate_group r (get_or groups k d)) (sym up)

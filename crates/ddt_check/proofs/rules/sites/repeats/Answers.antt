@@ -27,9 +27,9 @@ returns c = λ r d moved.
     let up : c.args.at ≡ c.args.at - 1 + 1 = let ne = c.if-at-eq0.false in omega arith in
     let x = c.index-sites-at.result in
     let y = c.index-sites-at-2.result in
-    c.eq.ensures
-    ∙ ap (λ (s : Site). is_same_path s.prefix (get_or sites c.args.at y).prefix) (get_or-same sites (c.args.at - 1) x d (omega arith))
-    ∙ ap (λ (s : Site). is_same_path (get_or sites (c.args.at - 1) d).prefix s.prefix) (get_or-same sites c.args.at y d at)
+    c.has_same_prefix.ensures
+    ∙ ap (λ (s : Site). is_same_path s.prefix y.prefix) (c.index-sites-at.is ∙ get_or-same sites (c.args.at - 1) x d (omega arith))
+    ∙ ap (λ (s : Site). is_same_path (get_or sites (c.args.at - 1) d).prefix s.prefix) (c.index-sites-at-2.is ∙ get_or-same sites c.args.at y d at)
     ∙ ap (λ (k : ℕ). is_same_path (get_or sites (c.args.at - 1) d).prefix (get_or sites k d).prefix) up
     ∙ has_earlier-beside prefix site_row sites c.requires.sorted r.sites (sites_up r) moved (c.args.at - 1) d (omega arith)
     ∙ ap (λ (k : ℕ). is_duplicate_site r (get_or sites k d)) (sym up)

@@ -27,9 +27,9 @@ returns c = λ r d moved.
     let up : c.args.at ≡ c.args.at - 1 + 1 = let ne = c.if-at-eq0.false in omega arith in
     let x = c.index-zones-at.result in
     let y = c.index-zones-at-2.result in
-    c.eq.ensures
-    ∙ ap (λ (z : Zone). is_same_path z.prefix (get_or zones c.args.at y).prefix) (get_or-same zones (c.args.at - 1) x d (omega arith))
-    ∙ ap (λ (z : Zone). is_same_path (get_or zones (c.args.at - 1) d).prefix z.prefix) (get_or-same zones c.args.at y d at)
+    c.has_same_prefix.ensures
+    ∙ ap (λ (z : Zone). is_same_path z.prefix y.prefix) (c.index-zones-at.is ∙ get_or-same zones (c.args.at - 1) x d (omega arith))
+    ∙ ap (λ (z : Zone). is_same_path (get_or zones (c.args.at - 1) d).prefix z.prefix) (c.index-zones-at-2.is ∙ get_or-same zones c.args.at y d at)
     ∙ ap (λ (k : ℕ). is_same_path (get_or zones (c.args.at - 1) d).prefix (get_or zones k d).prefix) up
     ∙ has_earlier-beside prefix zone_row zones c.requires.sorted r.zones (zones_up r) moved (c.args.at - 1) d (omega arith)
     ∙ ap (λ (k : ℕ). is_duplicate_zone r (get_or zones k d)) (sym up)

@@ -16,7 +16,7 @@ use Rattle.ddt_register.specs.declared.group.Group.{Group}
 use Rattle.ddt_register.specs.declared.register.Register.{Register}
 use Rattle.ddt_check.specs.declared.fault.Rule.TheVariants as rules
 use Rattle.ddt_check.specs.Zones.{is_same_role, is_same_name, group_named, is_served_by}
-use Rattle.ddt_check.specs.Rules.{IsAccepted, is_duplicate_zone, is_overlapping_site, is_of_other_role, has_too_many_etrs, is_duplicate_group}
+use Rattle.ddt_check.specs.Rules.{IsAccepted, is_duplicate_zone, is_duplicate_site, is_of_other_role, has_too_many_etrs, is_duplicate_group}
 use Rattle.ddt_path.proofs.MemberLemmas.{IsIn, fails_at}
 use Rattle.ddt_register.proofs.RisingLemmas.{rule_kept, found_first, groups_rise, earlier_fails}
 
@@ -30,10 +30,12 @@ own_name r accepted g h j k lt =
     let e = rule_kept (λ (i : Group). i.row) (is_duplicate_group r) r.groups (accepted rules.DuplicateGroup) h k in
     earlier_fails g.row h.row _ lt (fails_at (λ (i : Group). nat_lt i.row h.row && is_same_name i.name h.name) r.groups g e j)
 
-pub sites_apart : (r : Register) → IsAccepted r → (a b : Site) → IsIn a r.sites → IsIn b r.sites → a.row < b.row → overlaps a.prefix b.prefix ≡ false
-sites_apart r accepted a b j k lt =
-    let e = rule_kept (λ (s : Site). s.row) (is_overlapping_site r) r.sites (accepted rules.SiteOverlap) b k in
-    earlier_fails a.row b.row _ lt (fails_at (λ (t : Site). nat_lt t.row b.row && overlaps t.prefix b.prefix) r.sites a e j)
+pub own_site_prefix : (r : Register) → IsAccepted r → (a b : Site) → IsIn a r.sites → IsIn b r.sites → a.row < b.row
+    → is_same_path a.prefix b.prefix ≡ false
+own_site_prefix r accepted a b j k lt =
+    let e = rule_kept (λ (s : Site). s.row) (is_duplicate_site r) r.sites (accepted rules.DuplicateSite) b k in
+    let test = λ (t : Site). nat_lt t.row b.row && is_same_path t.prefix b.prefix in
+    earlier_fails a.row b.row _ lt (fails_at test r.sites a e j)
 
 pub few_etrs : (r : Register) → IsAccepted r → (s : Site) → IsIn s r.sites → length s.etrs ≤ 8
 few_etrs r accepted s k = ltb-false 8 (length s.etrs) (rule_kept (λ (t : Site). t.row) has_too_many_etrs r.sites (accepted rules.TooManyEtrs) s k)

@@ -7,3 +7,7 @@ pub mod KeptLemmas
 pub mod ServedLemmas
 pub mod NextLemmas
 pub mod SiteLemmas
+pub mod LongestLemmas
+pub mod RootLemmas
+pub mod SaysLemmas
+pub mod NegativeLemmas

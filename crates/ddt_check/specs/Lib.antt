@@ -3,3 +3,4 @@ pub mod Rules
 pub mod Assignment
 pub mod Says
 pub mod Worked
+pub mod Laws

@@ -54,6 +54,10 @@ is_served_by g z = is_same_name g.name z.group
 abbrev pub is_site_in : Zone → Site → Bool
 is_site_in z s = covers z.prefix s.prefix
 
+-- the root's locators: those of the group that serves everything
+abbrev pub roots : Register → List Locator
+roots r = option_map_or (λ z. locators_of r z.group) (zone_of r []) []
+
 -- the zones whose group lists a locator, in the order of their rows
 abbrev pub served_zones : Register → Locator → List Zone
 served_zones r l = filter (λ z. lists (locators_of r z.group) l) r.zones

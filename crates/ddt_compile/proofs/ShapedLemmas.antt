@@ -17,15 +17,15 @@ use Rattle.ddt_register.specs.declared.register.Register.{Register}
 use Rattle.ddt_register.specs.Rows.{rise, zone_rows, site_rows, group_rows}
 use Rattle.ddt_check.specs.declared.fault.Rule.TheVariants as rules
 use Rattle.ddt_check.specs.Zones.{is_same_role, is_same_name, group_named, locators_of}
-use Rattle.ddt_check.specs.Rules.{IsAccepted, is_duplicate_zone, is_duplicate_site, is_of_unknown_group, is_of_other_role, has_repeat, has_wrong_locators, has_too_many_etrs, is_duplicate_group}
+use Rattle.ddt_check.specs.Rules.{IsAccepted, is_duplicate_zone, is_of_unknown_group, is_of_other_role, has_repeat, has_wrong_locators, has_too_many_etrs, is_duplicate_group}
 use Rattle.ddt_config.specs.declared.config.Authority.{Authority}
 use Rattle.ddt_config.specs.Shaped.{fits, is_server_set, are_distinct, is_child_of, is_site_of, is_content_of, is_authority_of, is_shaped}
 use Rattle.ddt_compile.specs.GroupConfig.{is_between, is_direct_child, child_of, entry_of, content_of, authority_of, authorities_of}
 use Rattle.ddt_check.specs.Zones.{is_site_in, is_served_by}
 use Rattle.ddt_path.proofs.MemberLemmas.{IsIn, in_filter, fails_at, all_kept, found_in}
 use Rattle.ddt_path.proofs.FrontLemmas.{one_path}
-use Rattle.ddt_register.proofs.RisingLemmas.{rule_kept, earlier_fails, zones_rise, sites_rise}
-use Rattle.ddt_check.proofs.KeptLemmas.{own_prefix, few_etrs, role_of_zone}
+use Rattle.ddt_register.proofs.RisingLemmas.{rule_kept, zones_rise, sites_rise}
+use Rattle.ddt_check.proofs.KeptLemmas.{own_prefix, own_site_prefix, few_etrs, role_of_zone}
 use Rattle.ddt_compile.proofs.NoTwoLemmas.{no_two_kept}
 
 -- locators
@@ -77,12 +77,6 @@ children_apart : (r : Register) → IsAccepted r → (z a b : Zone) → is_direc
 children_apart r accepted z a b da db j k lt =
     neither (covers a.prefix b.prefix) (covers b.prefix a.prefix) (not_between r z b a db da j) (not_between r z a b da db k)
     (λ e f. true≢false (sym (one_path a.prefix b.prefix e f) ∙ own_prefix r accepted a b j k lt))
-
--- no two sites have one prefix
-own_site_prefix : (r : Register) → IsAccepted r → (a b : Site) → IsIn a r.sites → IsIn b r.sites → a.row < b.row → is_same_path a.prefix b.prefix ≡ false
-own_site_prefix r accepted a b j k lt =
-    let e = rule_kept (λ (s : Site). s.row) (is_duplicate_site r) r.sites (accepted rules.DuplicateSite) b k in
-    earlier_fails a.row b.row _ lt (fails_at (λ (t : Site). nat_lt t.row b.row && is_same_path t.prefix b.prefix) r.sites a e j)
 
 -- what a zone holds
 children_inside : (r : Register) → IsAccepted r → (z c : Zone) → IsIn c r.zones → is_direct_child r z c ≡ true → is_child_of z.prefix (child_of r c) ≡ true

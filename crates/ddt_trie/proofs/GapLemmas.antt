@@ -123,6 +123,7 @@ filtered_member test p (k ∷ ks) =
     first_in : (a b d : Bool) → (a ≡ true → d ≡ true) → (a || (b && d)) ≡ ((a || b) && d)
     first_in true b d h = sym (h refl)
     first_in false b d h = refl
+
     first_out : (a b d : Bool) → (a ≡ true → d ≡ false) → (b && d) ≡ ((a || b) && d)
     first_out true true d h = refl
     first_out true false d h = sym (h refl)

@@ -189,9 +189,9 @@ module _ {V : Type 0} where
       → (q : List ℕ) × (v : V) × (lookup at t q ≡ Some v) × (1 ≤ length q)
   some_below at t p value z o is f h =
       let held : (is_some value || (is_fork z || is_fork o)) && (is_pruned z && is_pruned o) ≡ true =
-          ap (λ (u : Tree V). is_pruned u) (sym is) ∙ h in
+      ap (λ (u : Tree V). is_pruned u) (sym is) ∙ h in
       let below = and_parts (is_pruned z) (is_pruned o)
-          (and_parts (is_some value || (is_fork z || is_fork o)) (is_pruned z && is_pruned o) held).1 in
+      (and_parts (is_some value || (is_fork z || is_fork o)) (is_pruned z && is_pruned o) held).1 in
       elim (or_cases (is_fork z) (is_fork o) f) [
         | inl l ↦
             let e = some_entry (at + 1) z l below.0 in

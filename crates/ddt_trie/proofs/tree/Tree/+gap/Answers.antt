@@ -23,8 +23,8 @@ returns-in-End-clause-none g t c =
     let node = c.deref.result.now in
     let over : length c.args.prefix ≤ c.args.at = ended c.args.prefix c.args.at c.in-End.ensures in
     let held = held_below c.args.at c.args.least c.args.self.now _ _ _ _ node.zero node.one c.ends_short.result c.in-Fork.is
-        (ap (λ (n : Node _). n.zero) c.deref.ensures) (ap (λ (n : Node _). n.one) c.deref.ensures)
-        c.ends_short.ensures c.if-ends_short.false c.requires.pruned (omega (arith, c.requires.near)) in
+    (ap (λ (n : Node _). n.zero) c.deref.ensures) (ap (λ (n : Node _). n.one) c.deref.ensures)
+    c.ends_short.ensures c.if-ends_short.false c.requires.pruned (omega (arith, c.requires.near)) in
     subst (λ y. IsMet c.args.at c.args.self.now y c.args.least) (sym c.in-End.ensures) held
 
 pub returns-in-Zero-clause-found : goal.returns-in-Zero-clause-found
@@ -37,8 +37,8 @@ returns-in-Zero-clause-found g t c =
     let here = value_here c.args.at c.args.self.now _ _ _ _ c.deref-in-Fork.result.now.value c.in-Fork.is (ap (λ (n : Node _). n.value) c.deref-in-Fork.ensures) in
     let none = counted_none c.args.at c.args.least c.args.self.now c.deref-in-Fork.result.now.value c.counts.result here c.counts.ensures c.if-counts.false in
     let held = held_below c.args.at c.args.least c.args.self.now _ _ _ _ node.zero node.one c.ends_short.result c.in-Fork.is
-        (ap (λ (n : Node _). n.zero) c.deref.ensures) (ap (λ (n : Node _). n.one) c.deref.ensures)
-        c.ends_short.ensures c.if-ends_short.false c.requires.pruned in
+    (ap (λ (n : Node _). n.zero) c.deref.ensures) (ap (λ (n : Node _). n.one) c.deref.ensures)
+    c.ends_short.ensures c.if-ends_short.false c.requires.pruned in
     if_some c.gap.result (IsGapBelow (c.args.at + 1) next r c.args.least) (IsGapBelow c.args.at c.args.self.now y c.args.least)
     (λ n h. gap_step step c.args.least n none held h) c.gap.ensures.found
 
@@ -61,8 +61,8 @@ returns-in-One-clause-found g t c =
     let here = value_here c.args.at c.args.self.now _ _ _ _ c.deref-in-Fork.result.now.value c.in-Fork.is (ap (λ (n : Node _). n.value) c.deref-in-Fork.ensures) in
     let none = counted_none c.args.at c.args.least c.args.self.now c.deref-in-Fork.result.now.value c.counts.result here c.counts.ensures c.if-counts.false in
     let held = held_below c.args.at c.args.least c.args.self.now _ _ _ _ node.zero node.one c.ends_short.result c.in-Fork.is
-        (ap (λ (n : Node _). n.zero) c.deref.ensures) (ap (λ (n : Node _). n.one) c.deref.ensures)
-        c.ends_short.ensures c.if-ends_short.false c.requires.pruned in
+    (ap (λ (n : Node _). n.zero) c.deref.ensures) (ap (λ (n : Node _). n.one) c.deref.ensures)
+    c.ends_short.ensures c.if-ends_short.false c.requires.pruned in
     if_some c.gap-in-One.result (IsGapBelow (c.args.at + 1) next r c.args.least) (IsGapBelow c.args.at c.args.self.now y c.args.least)
     (λ n h. gap_step step c.args.least n none held h) c.gap-in-One.ensures.found
 

@@ -1,18 +1,20 @@
 -- The keys of a finite map that are strictly below a prefix, and the free prefixes among them.
-use Rattle.std.proofs.Common.{◌≡◌, ℕ, Bool, true, false, cond, List, [], ◌∷◌, take, Option, refl, sym, ap, inl, inr, ◌∙◌}
+use Rattle.std.proofs.Common.{◌≡◌, ℕ, Bool, true, false, cond, List, [], ◌∷◌, take, Option, None, Some, refl, sym, ap, inl, inr, ◌∙◌}
 use Rattle.std.specs.Prelude.{not, ◌&&◌, filter, is_some}
 use Rattle.std.specs.List.{list_all, list_any}
-use Rattle.std.specs.FinMap.{FinMap, find, keys, contains_key, contains_key-keys}
-use Rattle.std.proofs.lemmas.Bool.{and_parts, and_cases, false≢true, not-false}
+use Rattle.std.specs.FinMap.{FinMap, empty, find, get, get-empty, insert, keys, contains_key, contains_key-keys}
+use Rattle.std.proofs.lemmas.Bool.{and_parts, and_cases, false≢true, not-false, not_from_false}
+use Rattle.std.proofs.lemmas.Option.{none-some}
 use Rattle.ddt_path.specs.Covers.{covers, overlaps, is_same_path, is_strictly_below}
 use Rattle.ddt_path.specs.Free.{overlaps_none, free}
 use Rattle.ddt_path.proofs.CoverLemmas.{overlaps-take}
-use Rattle.ddt_path.proofs.HoleLemmas.{free_agree}
+use Rattle.ddt_path.proofs.HoleLemmas.{free_agree, free_whole}
 use Rattle.ddt_trie.specs.PrefixMap.{path_cmp, IsCoveredBelow, keys_below}
 use Rattle.ddt_trie.specs.Entries.{map_of}
 use Rattle.ddt_trie.proofs.EntryLemmas.{tied, get-map_of}
 use Rattle.ddt_trie.proofs.LongestLemmas.{keys_pass, is_found}
-use Rattle.ddt_trie.proofs.KeyLemmas.{all_keys, any_same, found_head, later_found, member_passes, same_members_all}
+use Rattle.ddt_trie.proofs.KeyLemmas.{all_from_members, all_keys, any_same, found_head, later_found, member_passes, same_members_all}
+use Rattle.ddt_trie.proofs.MapLemmas.{found_after_insert}
 
 -- a test that each filtered path fails is one that no path passes together with the filter
 pub all_filtered : (test fails : List ℕ → Bool) (ks : List (List ℕ)) → list_all (λ k. not (fails k)) (filter test ks) ≡ list_all (λ k. not (test k && fails k)) ks
@@ -79,3 +81,24 @@ members_free_below m members same from x =
     all_filtered below (λ k. overlaps k q) (keys m)
     ∙ same_members_all (λ k. not (below k && overlaps k q)) (keys m) members (λ p. sym (contains_key-keys m p) ∙ same p ∙ any_same p members)
     ∙ sym (all_filtered below (λ k. overlaps k q) members))
+
+-- a lone key is free below
+pub free_below_alone : {V : Type 0} (m n : FinMap path_cmp V) (p x : List ℕ) (v : V) → n ≡ empty → m ≡ insert n p v
+    → covers p x ≡ true → free p (keys_below m p) x ≡ Some p
+free_below_alone m n p x v none is inside =
+    let fails = λ (k : List ℕ). is_strictly_below k p && overlaps k p in
+    free_whole p (keys_below m p) x inside
+    (overlaps_none-below m p p
+    ∙ all_from_members (λ k. not (fails k)) (keys m) (λ k member.
+    not_from_false (fails k) (ap (λ (q : List ℕ). fails q) (alone k (get m k) refl (contains_key-keys m k ∙ member)) ∙ not_below_itself (covers p p) (overlaps p p))))
+  where
+    alone : (k : List ℕ) (o : Option _) → get m k ≡ o → is_some o ≡ true → k ≡ p
+    alone k None found key = absurd (false≢true key)
+    alone k (Some w) found key =
+        elim (found_after_insert n p v k w (ap (λ (l : FinMap path_cmp _). get l k) (sym is) ∙ found)) [
+          | inl a ↦ a.0
+          | inr a ↦ absurd (none-some w (sym (get-empty path_cmp k) ∙ ap (λ (l : FinMap path_cmp _). get l k) (sym none) ∙ a))
+        ]
+    not_below_itself : (a b : Bool) → ((a && not a) && b) ≡ false
+    not_below_itself true b = refl
+    not_below_itself false b = refl

@@ -4,7 +4,7 @@ use Rattle.ddt.specs.declared.refusal.Refusal.{Refusal}
 use Rattle.ddt.specs.declared.words.Command.{Command}
 use Rattle.ddt.specs.declared.words.Command.TheVariants.{Answer, Assign, Check, Compile, Show}
 use Rattle.ddt.specs.Commands.{Ended, IsAnswerLine, IsAssignLine, IsCheckLine, IsConfigText, IsShowLine, IsPrinted, IsPrintedOf}
-use Rattle.ddt.specs.Why.{IsWhyNotAccepted, IsWhyNoGroup, IsWhyNoOutcome, IsWhyNoAnswer, IsWhyNotShown, IsToldAlone, IsToldByCheck}
+use Rattle.ddt.specs.Why.{IsWhyNotAccepted, IsWhyNoGroup, IsWhyNoOutcome, IsWhyNoAnswer, IsWhyNotShown}
 
 -- opening the path may give this source, None where it can't be opened; and of it this is so
 abbrev pub OpensTo : {F : Type 0} → (List ℕ → Option F → Type 0) → List ℕ → (Option F → Type 0) → Type 0
@@ -25,11 +25,3 @@ IsWhyRefused opens remaining (Assign register xeid) why = OpensTo opens register
 IsWhyRefused opens remaining (Check register) why = OpensTo opens register.now (λ s. IsWhyNotAccepted remaining s register.now why)
 IsWhyRefused opens remaining (Compile register group) why = OpensTo opens register.now (λ s. IsWhyNoGroup remaining s register.now group.now why)
 IsWhyRefused opens remaining (Show hex) why = IsWhyNotShown hex.now why
-
--- how a command tells its refusal
-abbrev pub IsToldBy : {W E : Type 0} → (W → Option (List ℕ)) → (E → Option (List ℕ)) → Command → Refusal → W → W → E → E → Type 0
-IsToldBy out_bytes err_bytes (Answer register group xeid) why out out_new err err_new = IsToldAlone err_bytes why out out_new err err_new
-IsToldBy out_bytes err_bytes (Assign register xeid) why out out_new err err_new = IsToldAlone err_bytes why out out_new err err_new
-IsToldBy out_bytes err_bytes (Check register) why out out_new err err_new = IsToldByCheck out_bytes err_bytes why out out_new err err_new
-IsToldBy out_bytes err_bytes (Compile register group) why out out_new err err_new = IsToldAlone err_bytes why out out_new err err_new
-IsToldBy out_bytes err_bytes (Show hex) why out out_new err err_new = IsToldAlone err_bytes why out out_new err err_new

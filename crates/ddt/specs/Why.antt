@@ -101,10 +101,3 @@ IsTold why old new = IfSome (refusal_text why) (λ text. Appends old new (text +
 -- the refusal is told on the error stream, and the output is as it was
 abbrev pub IsToldAlone : {W E : Type 0} → (E → Option (List ℕ)) → Refusal → W → W → E → E → Type 0
 IsToldAlone err_bytes why out out_new err err_new = IsTold why (err_bytes err) (err_bytes err_new) × (out_new ≡ out)
-
--- `check` tells its verdict on the output, and the error stream is as it was; another refusal it tells as all commands do
-abbrev pub IsToldByCheck : {W E : Type 0} → (W → Option (List ℕ)) → (E → Option (List ℕ)) → Refusal → W → W → E → E → Type 0
-IsToldByCheck out_bytes err_bytes (Unreadable fault) out out_new err err_new = IsTold (Unreadable fault) (out_bytes out) (out_bytes out_new) × (err_new ≡ err)
-IsToldByCheck out_bytes err_bytes CannotRead out out_new err err_new = IsTold CannotRead (out_bytes out) (out_bytes out_new) × (err_new ≡ err)
-IsToldByCheck out_bytes err_bytes (BreaksRule fault) out out_new err err_new = IsTold (BreaksRule fault) (out_bytes out) (out_bytes out_new) × (err_new ≡ err)
-IsToldByCheck out_bytes err_bytes why out out_new err err_new = IsToldAlone err_bytes why out out_new err err_new

@@ -6,7 +6,8 @@ ghost use Rattle.ddt.specs.declared.status.Status.TheVariants.{Answered as IsAns
 ghost use Rattle.ddt.specs.declared.refusal.Refusal.{Refusal};
 ghost use Rattle.ddt.specs.declared.words.Command.{Command as ACommand};
 ghost use Rattle.ddt.specs.Words.{AreBad, AreWordsOf};
-ghost use Rattle.ddt.specs.Running.{HasPrinted, IsToldBy, IsWhyRefused};
+ghost use Rattle.ddt.specs.Running.{HasPrinted, IsWhyRefused};
+ghost use Rattle.ddt.specs.Why.{IsToldAlone};
 
 use crate::commands::answer::{AnswerWords, answer};
 use crate::commands::assign::{AssignWords, assign};
@@ -43,7 +44,7 @@ where
     ensures bad { (result ≡ IsBadWords) ↔ AreBad (map string_bytes words.now) }
     // It's the command of these words that answered, or refused.
     ensures answered { result ≡ IsAnswered → (command : ACommand) × AreWordsOf command (map string_bytes words.now) × HasPrinted (FnOnceReturnsAt O.FnOnce open_file) F.remaining command (W.contents out.old) (W.contents out.new) }
-    ensures refused { result ≡ IsRefused → (command : ACommand) × AreWordsOf command (map string_bytes words.now) × (why : Refusal) × IsWhyRefused (FnOnceReturnsAt O.FnOnce open_file) F.remaining command why × IsToldBy W.contents E.contents command why out.old out.new err.old err.new }
+    ensures refused { result ≡ IsRefused → (command : ACommand) × AreWordsOf command (map string_bytes words.now) × (why : Refusal) × IsWhyRefused (FnOnceReturnsAt O.FnOnce open_file) F.remaining command why × IsToldAlone E.contents why out.old out.new err.old err.new }
     ensures streams { ((result ≢ IsBadWords) × (err.new ≡ err.old)) ⊎ ((result ≢ IsAnswered) × (out.new ≡ out.old)) }
 {
     match words {
@@ -78,8 +79,8 @@ where
     requires { O.IsAlwaysCallable open_file }
     ensures fits { result ≢ IsBadWords }
     ensures answered { result ≡ IsAnswered → HasPrinted (FnOnceReturnsAt O.FnOnce open_file) F.remaining command.entry (W.contents out.old) (W.contents out.new) }
-    ensures refused { result ≡ IsRefused → (why : Refusal) × IsWhyRefused (FnOnceReturnsAt O.FnOnce open_file) F.remaining command.entry why × IsToldBy W.contents E.contents command.entry why out.old out.new err.old err.new }
-    ensures streams { (err.new ≡ err.old) ⊎ ((result ≢ IsAnswered) × (out.new ≡ out.old)) }
+    ensures refused { result ≡ IsRefused → (why : Refusal) × IsWhyRefused (FnOnceReturnsAt O.FnOnce open_file) F.remaining command.entry why × IsToldAlone E.contents why out.old out.new err.old err.new }
+    ensures streams { ((result ≢ IsRefused) × (err.new ≡ err.old)) ⊎ ((result ≢ IsAnswered) × (out.new ≡ out.old)) }
 {
     match command {
         Command::Answer {

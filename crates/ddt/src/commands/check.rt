@@ -4,7 +4,7 @@ ghost use Rattle.std.specs.Prelude.{◌≡◌, ◌≢◌, ◌⊎◌, ℕ, List, 
 ghost use Rattle.ddt.specs.declared.refusal.Refusal.{Refusal};
 ghost use Rattle.ddt.specs.declared.status.Status.TheVariants.{Answered as IsAnswered, Refused as IsRefused, BadWords as IsBadWords};
 ghost use Rattle.ddt.specs.Commands.{Ended, IsCheckLine, IsPrintedOf, Tells};
-ghost use Rattle.ddt.specs.Why.{IsToldByCheck, IsWhyNotAccepted};
+ghost use Rattle.ddt.specs.Why.{IsToldAlone, IsWhyNotAccepted};
 ghost use Rattle.ddt.specs.Lines.{counts_text};
 
 use crate::commands::inputs::accepted_register;
@@ -15,8 +15,8 @@ use ddt_check::Counts;
 use std::alloc::{AllocError, Global};
 use std::io::{Read, Write};
 
-/// Prints the verdict on a register: `accepted Z zones S sites G groups`, or why it is unreadable or refused, with
-/// status 1. A file that can't be opened has no verdict.
+/// Prints `accepted Z zones S sites G groups` of a register. Refusals, in this order: a file that can't be opened, an
+/// unreadable register, one that breaks a rule.
 pub fn check<R: Read + Drop, W: Write, E: Write>(
     alloc: Global,
     source: Option<R>,
@@ -25,14 +25,12 @@ pub fn check<R: Read + Drop, W: Write, E: Write>(
     err: &mut E,
 ) -> Status
     ensures answered { result ≡ IsAnswered → IsPrintedOf R.remaining source (λ bytes. Ended (IsCheckLine bytes)) (W.contents out.old) (W.contents out.new) }
-    ensures refused { result ≡ IsRefused → (why : Refusal) × IsWhyNotAccepted R.remaining source path.now why × IsToldByCheck W.contents E.contents why out.old out.new err.old err.new }
-    ensures streams { (err.new ≡ err.old) ⊎ ((result ≢ IsAnswered) × (out.new ≡ out.old)) }
+    ensures refused { result ≡ IsRefused → (why : Refusal) × IsWhyNotAccepted R.remaining source path.now why × IsToldAlone E.contents why out.old out.new err.old err.new }
+    ensures streams { ((result ≢ IsRefused) × (err.new ≡ err.old)) ⊎ ((result ≢ IsAnswered) × (out.new ≡ out.old)) }
     ensures fits { result ≢ IsBadWords }
 {
     match check_line(alloc, source, path) {
         Ok(line) => print_line(&line, out),
-        Err(verdict @ (Refusal::Unreadable(_) | Refusal::CannotRead | Refusal::BreaksRule(_))) =>
-            refuse(&verdict, out),
         Err(refusal) => refuse(&refusal, err),
     }
 }

@@ -59,7 +59,7 @@ fn a_ninth_row_is_refused_by_its_rule(rt: HostRuntime) -> Result<(), Fail> {
             rt.alloc(),
             register.as_str(),
             &words,
-            (Refused, line, ""),
+            (Refused, "", line),
         )?;
     }
     Ok(())
@@ -78,7 +78,7 @@ fn the_least_rule_decides_though_a_lower_row_breaks_a_later_one(
         rt.alloc(),
         register.as_str(),
         &words,
-        (Refused, line, ""),
+        (Refused, "", line),
     )
 }
 
@@ -91,7 +91,7 @@ fn check_says_what_it_can_not_read(rt: HostRuntime) -> Result<(), Fail> {
         ("kind,prefix,group,addresses\n", "refused A1 NoRoot row 0\n"),
     ];
     for (register, line) in rows {
-        expect(&rt, rt.alloc(), register, &words, (Refused, line, ""))?;
+        expect(&rt, rt.alloc(), register, &words, (Refused, "", line))?;
     }
     let line = "cannot open missing.csv\n";
     expect(

@@ -2,7 +2,8 @@ use Rattle.std.proofs.Common.{refl, subst, sym}
 use Rattle.std.specs.Fn.{FnOnceReturnsAt}
 use Rattle.ddt.specs.declared.refusal.Refusal.{Refusal}
 use Rattle.ddt.specs.declared.words.Command.{Command}
-use Rattle.ddt.specs.Running.{HasPrinted, IsToldBy, IsWhyRefused}
+use Rattle.ddt.specs.Running.{HasPrinted, IsWhyRefused}
+use Rattle.ddt.specs.Why.{IsToldAlone}
 use Rattle.ddt.proofs.running.run_command.Goals as goal
 
 pub returns-in-Answer-clause-answered : goal.returns-in-Answer-clause-answered
@@ -23,11 +24,11 @@ returns-in-Compile-clause-answered g c = λ answered.
 pub returns-in-Answer-clause-refused : goal.returns-in-Answer-clause-refused
 returns-in-Answer-clause-refused g c = λ refused.
     let why = c.answer.ensures.refused refused in
-    subst (λ (k : Command). (x : Refusal) × IsWhyRefused (FnOnceReturnsAt g.O.FnOnce c.args.open_file) g.F.Read.remaining k x × IsToldBy g.W.Write.contents g.E.Write.contents k x c.args.out.now c.answer.new.out c.args.err.now c.answer.new.err) (sym c.in-Answer.is)
+    subst (λ (k : Command). (x : Refusal) × IsWhyRefused (FnOnceReturnsAt g.O.FnOnce c.args.open_file) g.F.Read.remaining k x × IsToldAlone g.E.Write.contents x c.args.out.now c.answer.new.out c.args.err.now c.answer.new.err) (sym c.in-Answer.is)
     (why.0, (c.open_file.result, (c.in-Answer.register, c.open_file.ensures, refl), why.1), why.2)
 
 pub returns-in-Compile-clause-refused : goal.returns-in-Compile-clause-refused
 returns-in-Compile-clause-refused g c = λ refused.
     let why = c.compile.ensures.refused refused in
-    subst (λ (k : Command). (x : Refusal) × IsWhyRefused (FnOnceReturnsAt g.O.FnOnce c.args.open_file) g.F.Read.remaining k x × IsToldBy g.W.Write.contents g.E.Write.contents k x c.args.out.now c.compile.new.out c.args.err.now c.compile.new.err) (sym c.in-Compile.is)
+    subst (λ (k : Command). (x : Refusal) × IsWhyRefused (FnOnceReturnsAt g.O.FnOnce c.args.open_file) g.F.Read.remaining k x × IsToldAlone g.E.Write.contents x c.args.out.now c.compile.new.out c.args.err.now c.compile.new.err) (sym c.in-Compile.is)
     (why.0, (c.open_file-in-Compile.result, (c.in-Compile.register, c.open_file-in-Compile.ensures, refl), why.1), why.2)

@@ -1,0 +1,16 @@
+//! The words of a command line: which command they call, and the values of its arguments and options, by `clap`'s own rule.
+//!
+//! In reading order: `declaration` (what a command takes), `reading` (the words against all commands), `words` (a call).
+#![tactic(auto)]
+
+mod declaration;
+mod fault;
+mod reading;
+#[cfg(test)]
+mod tests;
+mod words;
+
+pub use declaration::{Argument, Declaration};
+pub use fault::WordsFault;
+pub use reading::read_words;
+pub use words::Words;

@@ -1,0 +1,44 @@
+//! The words of a process, read as the call of a command.
+
+ghost use Rattle.std.specs.Prelude.{◌≡◌, ◌≢◌, true, Err, [], map, string_bytes, IfOk};
+ghost use Rattle.clap.specs.Words.{fault_of, is_simple_and_free};
+ghost use Rattle.ddt_words.specs.Call.{call_of, Calls};
+ghost use Rattle.ddt_words.specs.Line.{line};
+ghost use Rattle.ddt_words.specs.declared.fault.WordsFault.TheVariants.{Bad as IsBad};
+
+use crate::declaration::{Declaration, command_line};
+use crate::fault::WordsFault;
+use crate::words::Words;
+use clap::error::ErrorKind;
+use std::alloc::Global;
+
+/// The command that the words call, of which the first is the program's name. Refusals: 1 Bad where the words fit none of
+/// the commands, as a request for help or the version does; 2 Memory, which comes only if out of memory.
+pub fn read_words<'a>(
+    alloc: Global,
+    commands: &[Declaration<'a>],
+    words: &'a [String],
+) -> Result<Words<'a>, WordsFault>
+    requires { is_simple_and_free (line commands.now) ≡ true }
+    ensures found { IfOk result (λ w. Calls commands.now (map string_bytes words.entry.now) (call_of w)) }
+    ensures bad { result ≡ Err IsBad → fault_of (line commands.now) (map string_bytes words.entry.now) ≢ [] }
+{
+    let line = command_line(alloc, commands)?;
+    let mut matches = match line.try_get_matches_from(words) {
+        Ok(matches) => matches,
+        Err(error) => return Err(fault(error.kind())),
+    };
+    match matches.remove_subcommand() {
+        Some((command, matches)) => Ok(Words { command, matches }),
+        None => Err(WordsFault::Bad),
+    }
+}
+
+fn fault(kind: ErrorKind) -> WordsFault
+    ensures { result ≡ IsBad → kind ≢ ErrorKind.OutOfMemory }
+{
+    match kind {
+        ErrorKind::OutOfMemory => WordsFault::Memory,
+        _ => WordsFault::Bad,
+    }
+}

@@ -187,14 +187,14 @@ module _ (r : Register) (laws : KeepsLaws r) (s : State) (o : IsInOrder s) (i : 
     own = subst (λ (set : List Locator). IsTrue (lists set (server s.me l))) z.servers (lists_at l.servers l.place s.me (o.lookups t l here).lookup.place)
 
     module _ (rec : ReferralRecord) (honest : rec ≡ says r (server s.me l) (xeid_path l.x)) where
-      down : ((says r (server s.me l) (xeid_path l.x)).action ≢ NotAuthoritative) × (RefersDown (says r (server s.me l) (xeid_path l.x)) → length z.zone.prefix < length (says r (server s.me l) (xeid_path l.x)).prefix)
+      down : ((says r (server s.me l) (xeid_path l.x)).action ≢ NotAuthoritative) × (RefersDown (says r (server s.me l) (xeid_path l.x)).action → length z.zone.prefix < length (says r (server s.me l) (xeid_path l.x)).prefix)
       down = laws.downwards z.zone (server s.me l) (xeid_path l.x) z.is_zone z.covers_x own
 
       in_charge : rec.action ≢ NotAuthoritative
       in_charge e = down.0 (ap (λ (v : ReferralRecord). v.action) (sym honest) ∙ e)
 
       longer : IsReferral rec.action → length z.zone.prefix < length rec.prefix
-      longer k = subst (λ (v : ReferralRecord). length z.zone.prefix < length v.prefix) (sym honest) (down.1 (subst RefersDown honest k))
+      longer k = subst (λ (v : ReferralRecord). length z.zone.prefix < length v.prefix) (sym honest) (down.1 (subst (λ (v : ReferralRecord). RefersDown v.action) honest k))
 
       below : IsReferral rec.action → IsBelow l.saved rec.prefix
       below k = by z.saved
@@ -203,14 +203,14 @@ module _ (r : Register) (laws : KeepsLaws r) (s : State) (o : IsInOrder s) (i : 
           by (inl none) = rw none (omega arith)
           by (inr saved) = rw saved (longer k)
 
-      final : IsFinal rec → rec ≡ record_of (assignment r (xeid_path l.x))
-      final k = honest ∙ laws.decided (server s.me l) (xeid_path l.x) (subst IsFinal honest k)
+      final : IsFinal rec.action → rec ≡ record_of (assignment r (xeid_path l.x))
+      final k = honest ∙ laws.decided (server s.me l) (xeid_path l.x) (subst (λ (v : ReferralRecord). IsFinal v.action) honest k)
 
-      gives : IsFinal rec → outcome_of rec ≡ assignment r (xeid_path l.x)
+      gives : IsFinal rec.action → outcome_of rec ≡ assignment r (xeid_path l.x)
       gives k = ap outcome_of (final k) ∙ outcome_back (assignment r (xeid_path l.x))
 
       child : IsReferral rec.action → (w : Zone) × Contains r.zones w × IsTrue (covers w.prefix (xeid_path l.x)) × (rec ≡ referral_to r w)
-      child k = let h = laws.to_zones (server s.me l) (xeid_path l.x) (subst RefersDown honest k) in (h.0, h.1, h.2, honest ∙ h.3)
+      child k = let h = laws.to_zones (server s.me l) (xeid_path l.x) (subst (λ (v : ReferralRecord). RefersDown v.action) honest k) in (h.0, h.1, h.2, honest ∙ h.3)
 
       referral_entry : IsReferral rec.action → IsTrueEntry r rec.prefix (entry_of s.known.time rec)
       referral_entry k =
@@ -225,7 +225,7 @@ module _ (r : Register) (laws : KeepsLaws r) (s : State) (o : IsInOrder s) (i : 
           let h = laws.sites (xeid_path l.x) rec.prefix rec.servers is in
           registers h.site h.zone h.is_site h.its_prefix k h.its_zone h.its_servers
 
-      negative_entry : IsFinal rec → IsTrue (is_negative rec.action) → IsTrueEntry r rec.prefix (entry_of s.known.time rec)
+      negative_entry : IsFinal rec.action → IsTrue (is_negative rec.action) → IsTrueEntry r rec.prefix (entry_of s.known.time rec)
       negative_entry k neg =
           let f : rec ≡ record_of (assignment r (xeid_path l.x)) = final k in
           let q : negative_prefix (assignment r (xeid_path l.x)) ≡ Some rec.prefix =

@@ -245,6 +245,7 @@ module _ (r : Register) (accepted : IsAccepted r) where
           its_prefix = is;
           covers_it = ap (λ (l : List ℕ). covers l x) (sym is) ∙ p.1;
           zone = z;
+          is_zone = contained r.zones z w.0;
           its_zone = ap (zone_of r) (sym is) ∙ ms_zone_stays z s.prefix w.0 kind inside;
           covers_site = ap (covers z.prefix) (sym is) ∙ inside;
           its_servers = sym set;

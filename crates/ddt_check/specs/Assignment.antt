@@ -51,7 +51,8 @@ assigned_site r z s x =
 -- In a zone of Map-Servers the longest site that covers the identifier decides.
 abbrev pub assigned_in : Register → Zone → Role → List ℕ → Outcome
 assigned_in r z Node x = Hole (hole_of z.prefix (prefixes_in r z Node) x)
-assigned_in r z Ms x = option_map_or (λ s. assigned_site r z s x) (site_of r x) (Hole (hole_of z.prefix (prefixes_in r z Ms) x))
+assigned_in r z Ms x =
+    option_map_or (λ s. assigned_site r z s x) (site_of r x) (Hole (hole_of z.prefix (prefixes_in r z Ms) x))
 
 -- The assignment, by the kind of the identifier's zone. Each identifier has a zone in an accepted register; for
 -- another register and an identifier that no zone covers this gives the hole of everything.

@@ -45,7 +45,8 @@ AreServers ls = (0 < length ls) × (length ls ≤ 8)
 pub record IsItsZone (r : Register) (x : List ℕ) (z : Zone) : Type 0 where
   pub is_zone : Contains r.zones z
   pub covers_it : IsTrue (covers z.prefix x)
-  pub longest : (y : Zone) → Contains r.zones y → IsTrue (covers y.prefix x) → (y ≡ z) ⊎ (length y.prefix < length z.prefix)
+  pub longest : (y : Zone) → Contains r.zones y → IsTrue (covers y.prefix x)
+      → (y ≡ z) ⊎ (length y.prefix < length z.prefix)
 
 abbrev pub EachIdentifierHasOneZone : Register → Type 0
 EachIdentifierHasOneZone r = (x : List ℕ) → (z : Zone) × (zone_of r x ≡ Some z) × IsItsZone r x z
@@ -72,8 +73,10 @@ EachLocatorIsOfOneGroup r =
 -- A server of a zone is in charge of what the zone covers, and refers strictly downwards.
 abbrev pub ServersReferDownwards : Register → Type 0
 ServersReferDownwards r =
-    (z : Zone) (l : Locator) (x : List ℕ) → Contains r.zones z → IsTrue (covers z.prefix x) → IsTrue (lists (locators_of r z.group) l)
-    → ((says r l x).action ≢ NotAuthoritative) × (IsReferral (says r l x).action → length z.prefix < length (says r l x).prefix)
+    (z : Zone) (l : Locator) (x : List ℕ)
+    → Contains r.zones z → IsTrue (covers z.prefix x) → IsTrue (lists (locators_of r z.group) l)
+    → ((says r l x).action ≢ NotAuthoritative)
+    × (IsReferral (says r l x).action → length z.prefix < length (says r l x).prefix)
 
 -- a referral is to a zone that covers the identifier, with its kind, its prefix and the locators of its group
 abbrev pub ReferralsAreToZones : Register → Type 0
@@ -83,7 +86,8 @@ ReferralsAreToZones r =
 
 -- any other answer of a server in charge is that of the assignment
 abbrev pub FinalAnswersAreTheAssignment : Register → Type 0
-FinalAnswersAreTheAssignment r = (l : Locator) (x : List ℕ) → IsFinal (says r l x).action → says r l x ≡ record_of (assignment r x)
+FinalAnswersAreTheAssignment r =
+    (l : Locator) (x : List ℕ) → IsFinal (says r l x).action → says r l x ≡ record_of (assignment r x)
 
 -- whoever says it, the prefix covers the identifier
 abbrev pub AnswersCover : Register → Type 0
@@ -95,8 +99,8 @@ AnswersHaveServers r = (l : Locator) (x : List ℕ) → NamesServers (says r l x
 -- the servers of a group say the same
 abbrev pub ServersOfAGroupAgree : Register → Type 0
 ServersOfAGroupAgree r =
-    (name : List ℕ) (l k : Locator) (x : List ℕ) → IsTrue (lists (locators_of r name) l) → IsTrue (lists (locators_of r name) k)
-    → says r l x ≡ says r k x
+    (name : List ℕ) (l k : Locator) (x : List ℕ)
+    → IsTrue (lists (locators_of r name) l) → IsTrue (lists (locators_of r name) k) → says r l x ≡ says r k x
 
 -- a record of such numbers as a message holds
 pub record IsSendable (v : ReferralRecord) : Type 0 where
@@ -110,8 +114,8 @@ AnswersCanBeSent r = (l : Locator) (x : List ℕ) → IsTrue (is_path x) → IsS
 
 -- ---- what an assignment says of other identifiers
 
--- A registered prefix is a site that covers the identifier, and the servers are those of the site's zone. It says nothing
--- of another identifier that the site covers: a site inside it may be that one's.
+-- A registered prefix is the longest site that covers the identifier, and the servers are those of the site's zone. It
+-- says nothing of another identifier that the site covers: a site inside it may be that one's.
 pub record IsSiteWithServers (r : Register) (x q : List ℕ) (servers : List Locator) : Type 0 where
   pub site : Site
   pub is_site : Contains r.sites site
@@ -119,6 +123,7 @@ pub record IsSiteWithServers (r : Register) (x q : List ℕ) (servers : List Loc
   pub its_prefix : site.prefix ≡ q
   pub covers_it : IsTrue (covers q x)
   pub zone : Zone
+  pub is_zone : Contains r.zones zone
   pub its_zone : zone_of r q ≡ Some zone
   pub covers_site : IsTrue (covers zone.prefix q)
   pub its_servers : servers ≡ locators_of r zone.group

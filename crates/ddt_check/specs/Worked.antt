@@ -125,7 +125,8 @@ pub record AreInRange : Type 0 where
   pub below_map_server : is_in_range (with_zone (zone_nine 0x0a010700 24)) campus_sites campus_groups ≡ true
   pub duplicate_site : is_in_range campus_zones (with_site (site_nine 0x0a010200 24 [])) campus_groups ≡ true
   pub site_inside_a_site : is_in_range campus_zones (with_site (site_nine 0x0a010280 25 [])) campus_groups ≡ true
-  pub inner_site : is_in_range campus_zones (with_site (site_nine 0x0a010480 25 (V4 0x7f000202 ∷ []))) campus_groups ≡ true
+  pub inner_site : is_in_range campus_zones (with_site (site_nine 0x0a010480 25 (V4 0x7f000202 ∷ []))) campus_groups
+      ≡ true
   pub inner_silent_site : is_in_range campus_zones (with_site (site_nine 0x0a010240 26 [])) campus_groups ≡ true
   pub site_outside : is_in_range campus_zones (with_site (site_nine 0x0a020000 24 [])) campus_groups ≡ true
   pub too_many_etrs : is_in_range campus_zones (with_site (site_nine 0x0a010500 24 nine_locators)) campus_groups ≡ true
@@ -226,13 +227,19 @@ with_inner_silent_site = site_in_nine 0x0a010240 26 [] numbers.inner_silent_site
 
 -- what sites inside sites are assigned
 pub record NestedSitesAssign : Type 0 where
-  pub part_of_the_outer_site : assignment with_inner_site (v4 0 0x0a010407) ≡ NotRegistered (block 0x0a010400 25) at_east
-  pub inner_site : assignment with_inner_site (v4 0 0x0a0104c8) ≡ Registered (block 0x0a010480 25) at_east
-  pub outer_site : assignment with_inner_silent_site (v4 0 0x0a010203) ≡ Registered (block 0x0a010200 24) at_east
-  pub inner_silent_site : assignment with_inner_silent_site (v4 0 0x0a010246) ≡ NotRegistered (block 0x0a010240 26) at_east
+  pub part_of_the_outer_site : assignment with_inner_site (v4 0 0x0a010407)
+      ≡ NotRegistered (block 0x0a010400 25) at_east
+  pub inner_site : assignment with_inner_site (v4 0 0x0a0104c8)
+      ≡ Registered (block 0x0a010480 25) at_east
+  pub outer_site : assignment with_inner_silent_site (v4 0 0x0a010203)
+      ≡ Registered (block 0x0a010200 24) at_east
+  pub inner_silent_site : assignment with_inner_silent_site (v4 0 0x0a010246)
+      ≡ NotRegistered (block 0x0a010240 26) at_east
   pub still_a_hole : assignment with_inner_site (v4 0 0x0a010309) ≡ Hole (block 0x0a010300 24)
-  pub east_says_the_part : says with_inner_site (V4 0x7f000101) (v4 0 0x0a010407) ≡ record { action = MsNotRegistered; prefix = block 0x0a010400 25; ttl = 1; incomplete = false; servers = at_east }
-  pub east_acknowledges_the_inner_site : says with_inner_site (V4 0x7f000101) (v4 0 0x0a0104c8) ≡ record { action = MsAck; prefix = block 0x0a010480 25; ttl = 1440; incomplete = false; servers = at_east }
+  pub east_says_the_part : says with_inner_site (V4 0x7f000101) (v4 0 0x0a010407)
+      ≡ record { action = MsNotRegistered; prefix = block 0x0a010400 25; ttl = 1; incomplete = false; servers = at_east }
+  pub east_acknowledges_the_inner_site : says with_inner_site (V4 0x7f000101) (v4 0 0x0a0104c8)
+      ≡ record { action = MsAck; prefix = block 0x0a010480 25; ttl = 1440; incomplete = false; servers = at_east }
 
 abbrev pub nothing : Register
 nothing = record { zones = []; sites = []; groups = []; rows = refl; in_range = refl }

@@ -3,6 +3,7 @@
 ghost use Rattle.ddt_check.specs.Worked.{CampusAssigns, CampusSays, OthersAssign, NestedSitesAssign, BreaksInNine};
 
 mod agreeing;
+mod nested;
 mod slow;
 
 fn campus_assigns()

@@ -1,10 +1,9 @@
 //! The item of the longest, or of the shortest, prefix that covers a prefix or an identifier (RFC 8111, section 8.1).
 
 ghost use Rattle.std.specs.Prelude.{◌≡◌, Bool};
-ghost use Rattle.std.specs.Fn.{FnReturnsAt};
 ghost use Rattle.std.specs.List.{filter};
 ghost use Rattle.std.specs.Option.{option_copied, option_map_or};
-ghost use Rattle.ddt_path.specs.Matching.{is_better as is_better_of, better_of, best_match as best_match_of};
+ghost use Rattle.ddt_path.specs.Matching.{is_better as is_better_of, better_of, best_match as best_match_of, AnswersAs};
 ghost use Rattle.ddt_path.specs.Free.{longest_match as longest_match_of, shortest_match as shortest_match_of};
 
 use crate::prefix::Prefix;
@@ -21,7 +20,8 @@ pub enum Preference {
 
 /// The better of two items, where there is a first; of equal ones the first.
 fn better<'a, T: Prefixed>(preference: Preference, best: Option<&'a T>, next: &'a T) -> &'a T
-    ensures { result.now ≡ option_map_or (λ first. better_of preference T.path first (Some next.entry.now)) (option_copied best.entry) next.entry.now }
+    ensures { let next = next.entry.now in
+        result.now ≡ option_map_or (λ first. better_of preference T.path first (Some next)) (option_copied best.entry) next }
 {
     match best {
         Some(best) if !is_better(preference, next.prefix().len(), best.prefix().len()) => best,
@@ -48,7 +48,7 @@ pub fn best_match<'a, T: Prefixed, F: Fn(&T) -> bool>(
     test: F,
 ) -> Option<&'a T>
     requires { F.IsAlwaysCallable test }
-    ensures { (passes : T → Bool) → ((item : T) (answer : Bool) → FnReturnsAt F.Fn test item answer → answer ≡ passes item) →
+    ensures { (passes : T → Bool) → AnswersAs F.Fn test passes →
         option_copied result ≡ best_match_of preference T.path (filter passes items.now) x }
 {
     let mut best: Option<&T> = None;

@@ -1,8 +1,8 @@
 //! What zones, sites and groups have in common: a row, and numbers in the ranges of their types.
 
 ghost use Rattle.std.specs.Prelude.{◌≡◌, ℕ, Bool, IsTrue};
-ghost use Rattle.std.specs.Fn.{FnReturnsAt};
 ghost use Rattle.std.specs.List.{list_all};
+ghost use Rattle.ddt_path.specs.Matching.{AnswersAs};
 ghost use Rattle.ddt_register.specs.Rows.{first_row as first_row_of};
 ghost use Rattle.ddt_register.specs.Ranges.{is_zone_in_range, is_site_in_range, is_group_in_range, are_locators};
 
@@ -92,7 +92,7 @@ impl Prefixed for Site {
 /// The row of the first item that passes a test; None where none does.
 pub fn first_row<T: Item, F: Fn(&T) -> bool>(items: &[T], test: F) -> Option<u32>
     requires { F.IsAlwaysCallable test }
-    ensures { (passes : T → Bool) → ((item : T) (answer : Bool) → FnReturnsAt F.Fn test item answer → answer ≡ passes item) →
+    ensures { (passes : T → Bool) → AnswersAs F.Fn test passes →
         result ≡ first_row_of T.row_of passes items.now }
 {
     for item in items {

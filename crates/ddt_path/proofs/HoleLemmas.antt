@@ -8,7 +8,7 @@ use Rattle.std.proofs.lemmas.List.{append_assoc, take-append-drop, length-take, 
 use Rattle.ddt_path.specs.Path.{is_path, is_prefix_path}
 use Rattle.ddt_path.specs.Covers.{covers, overlaps, is_same_path}
 use Rattle.ddt_path.specs.Free.{lengthened, parts_from, overlaps_none, free, is_free}
-use Rattle.ddt_path.proofs.CoverLemmas.{covers_self, covers_trans, covers-append, take-covered, length-covered, overlaps-take, next_digit}
+use Rattle.ddt_path.proofs.CoverLemmas.{covers_self, covers_trans, covers-append, take-covered, length-covered, overlaps-take, next_digit, same_path}
 use Rattle.ddt_path.proofs.EndLemmas.{overlaps_whole}
 
 -- ---- the parts of a path
@@ -173,20 +173,12 @@ free_agree authority s t x same = find_agree (overlaps_none s) (overlaps_none t)
 
 -- ---- where a member covers x, nothing is free
 
-same_path-true : (p q : List ℕ) → is_same_path p q ≡ true → p ≡ q
-same_path-true [] [] e = refl
-same_path-true [] (h ∷ q) e = absurd (false≢true e)
-same_path-true (d ∷ p) [] e = absurd (false≢true e)
-same_path-true (d ∷ p) (h ∷ q) e =
-    let s = and_parts (d == h) (is_same_path p q) e in
-    ap (λ (k : ℕ). k ∷ p) (eqb-true d h s.0) ∙ ap (λ (l : List ℕ). h ∷ l) (same_path-true p q s.1)
-
 member_apart : (s : List (List ℕ)) (key p : List ℕ) → list_any (is_same_path key) s ≡ true → overlaps_none s p ≡ true → overlaps key p ≡ false
 member_apart [] key p is none = absurd (false≢true is)
 member_apart (k ∷ s) key p is none =
     let parts = and_parts (not (overlaps k p)) (overlaps_none s p) none in
     elim (or_cases (is_same_path key k) (list_any (is_same_path key) s) is) [
-      | inl same ↦ ap (λ (q : List ℕ). overlaps q p) (same_path-true key k same) ∙ not-true (overlaps k p) parts.0
+      | inl same ↦ ap (λ (q : List ℕ). overlaps q p) (same_path key k same) ∙ not-true (overlaps k p) parts.0
       | inr later ↦ member_apart s key p later parts.1
     ]
 

@@ -2,7 +2,7 @@
 use Rattle.std.proofs.Common.{◌≡◌, ◌⊎◌, ℕ, ◌+◌, ◌<◌, ◌≤◌, Bool, true, false, cond, List, [], ◌∷◌, length, get_or, drop, map, Option, Some, None, refl, sym, ap, subst, ◌∙◌, arith, inl, inr}
 use Rattle.std.specs.Prelude.{nat_lt, MatchOption, ◌&&◌}
 use Rattle.std.specs.List.{filter}
-use Rattle.std.specs.Option.{option_map}
+use Rattle.std.specs.Option.{option_map, option_map_or}
 use Rattle.std.proofs.lemmas.Bool.{cond-true, cond-false, lt-ltb, le-ltb, ltb-true, ltb-false, false≢true, and_cases}
 use Rattle.std.proofs.lemmas.List.{drop_more}
 use Rattle.std.proofs.lemmas.Option.{none-some, same_Some, MatchOption-at_some, MatchOption-at_none}
@@ -42,6 +42,10 @@ module _ {A : Type 0} (w : Preference) (prefix : A → List ℕ) where
   abbrev pub best_of : Option A → Option A → Option A
   best_of None rest = rest
   best_of (Some a) rest = Some (better_of w prefix a rest)
+
+  pub best_of-next : (best : Option A) (a : A) → Some (option_map_or (λ first. better_of w prefix first (Some a)) best a) ≡ best_of best (Some a)
+  best_of-next None a = refl
+  best_of-next (Some b) a = refl
 
   better_of-better : (a b : A) (rest : Option A) → better_of w prefix a (Some (better_of w prefix b rest)) ≡ better_of w prefix (better_of w prefix a (Some b)) rest
   better_of-better a b None = refl
@@ -211,3 +215,8 @@ module _ {A B : Type 0} (w : Preference) (f : A → B) (prefix : B → List ℕ)
   pub best_match-map : (xs : List A) (x : List ℕ) → best_match w prefix (map f xs) x ≡ option_map f (best_match w (λ a. prefix (f a)) xs x)
   best_match-map [] x = refl
   best_match-map (z ∷ xs) x = rw (best_match-map xs x) (map_case z (best_match w (λ a. prefix (f a)) xs x) (covers (prefix (f z)) x))
+
+-- a test that all pass keeps all
+pub filter_everything : {A : Type 0} (xs : List A) → filter (λ _. true) xs ≡ xs
+filter_everything [] = refl
+filter_everything (x ∷ xs) = ap (λ (l : _). x ∷ l) (filter_everything xs)

@@ -5,6 +5,8 @@ ghost use Rattle.ddt_path.specs.Covers.{covers, shared_len};
 
 /// The longest common front of two paths covers both, and covers all else that does.
 pub fn the_longest_common_front()
-    ensures covers { (p q : List ℕ) → IsTrue (covers (take (shared_len p q) p) p) × IsTrue (covers (take (shared_len p q) p) q) }
-    ensures longest { (p q front : List ℕ) → IsTrue (covers front p) → IsTrue (covers front q) → IsTrue (covers front (take (shared_len p q) p)) }
+    ensures covers { (p q : List ℕ) →
+        let common = take (shared_len p q) p in IsTrue (covers common p) × IsTrue (covers common q) }
+    ensures longest { (p q front : List ℕ) →
+        IsTrue (covers front p) → IsTrue (covers front q) → IsTrue (covers front (take (shared_len p q) p)) }
 {}

@@ -23,7 +23,7 @@ pub use holes::{
 pub use listed::Listed;
 pub use locator::{Locator, are_distinct, is_same_locator, lists};
 pub use locator_set::{LocatorSet, MOST_LOCATORS};
-pub use matching::Preference;
+pub use matching::{Preference, best_match, longest_match, shortest_match};
 pub use name::{LONGEST_NAME, Name};
 pub use prefix::Prefix;
 pub use prefixed::Prefixed;

@@ -6,6 +6,7 @@ use Rattle.std.proofs.lemmas.Bool.{and_parts, and_from}
 use Rattle.std.proofs.lemmas.List.Folds.{list_all-map}
 use Rattle.ddt_path.specs.Path.{is_prefix_path}
 use Rattle.ddt_path.specs.Names.{is_name}
+use Rattle.ddt_path.proofs.MemberLemmas.{IsIn, holds_at}
 use Rattle.ddt_register.specs.declared.zone.Zone.{Zone}
 use Rattle.ddt_register.specs.declared.site.Site.{Site}
 use Rattle.ddt_register.specs.declared.group.Group.{Group}
@@ -53,6 +54,17 @@ group_name g e = (and_parts (is_name g.name) (are_locators g.locators) e).0
 
 pub group_locators : (g : Group) → is_group_in_range g ≡ true → are_locators g.locators ≡ true
 group_locators g e = (and_parts (is_name g.name) (are_locators g.locators) e).1
+
+-- ---- a member of a register
+
+pub zone_at : (r : Register) (z : Zone) → IsIn z r.zones → is_zone_in_range z ≡ true
+zone_at r z k = holds_at is_zone_in_range r.zones z (zones_in_range r) k
+
+pub site_at : (r : Register) (s : Site) → IsIn s r.sites → is_site_in_range s ≡ true
+site_at r s k = holds_at is_site_in_range r.sites s (sites_in_range r) k
+
+pub group_at : (r : Register) (g : Group) → IsIn g r.groups → is_group_in_range g ≡ true
+group_at r g k = holds_at is_group_in_range r.groups g (groups_in_range r) k
 
 -- ---- the prefixes of a register
 

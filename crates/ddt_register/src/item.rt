@@ -2,12 +2,14 @@
 
 ghost use Rattle.std.specs.Prelude.{◌≡◌, ℕ, Bool, IsTrue};
 ghost use Rattle.std.specs.List.{list_all};
+ghost use Rattle.ddt_path.specs.Matching.{AnswersAs};
+ghost use Rattle.ddt_register.specs.Rows.{first_row as first_row_of};
 ghost use Rattle.ddt_register.specs.Ranges.{is_zone_in_range, is_site_in_range, is_group_in_range, are_locators};
 
 use crate::group::Group;
 use crate::site::Site;
 use crate::zone::Zone;
-use ddt_path::Locator;
+use ddt_path::{Locator, Prefix, Prefixed};
 
 /// An item of a register.
 pub trait Item {
@@ -69,6 +71,36 @@ impl Item for Group {
         let _name = self.name.as_bytes();
         locators_in_range(self.locators.as_slice());
     }
+}
+
+impl Prefixed for Zone {
+    ghost path = { λ z. z.prefix };
+
+    fn prefix(&self) -> Prefix {
+        self.prefix
+    }
+}
+
+impl Prefixed for Site {
+    ghost path = { λ s. s.prefix };
+
+    fn prefix(&self) -> Prefix {
+        self.prefix
+    }
+}
+
+/// The row of the first item that passes a test; None where none does.
+pub fn first_row<T: Item, F: Fn(&T) -> bool>(items: &[T], test: F) -> Option<u32>
+    requires { F.IsAlwaysCallable test }
+    ensures { (passes : T → Bool) → AnswersAs F.Fn test passes →
+        result ≡ first_row_of T.row_of passes items.now }
+{
+    for item in items {
+        if test(item) {
+            return Some(item.row());
+        }
+    }
+    None
 }
 
 /// That the numbers of locators are in the ranges of their types.

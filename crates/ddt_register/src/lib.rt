@@ -19,6 +19,7 @@ mod zone;
 
 pub use fault::ReadFault;
 pub use group::Group;
+pub use item::{Item, first_row};
 pub use laws::a_register_is_in_range;
 pub use reading::read_register;
 pub use register::{MOST_ROWS, Register};

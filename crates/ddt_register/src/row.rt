@@ -3,6 +3,7 @@
 ghost use Rattle.std.specs.Prelude.{◌≡◌, ◌≤◌, [], length, get_or};
 ghost use Rattle.csv.specs.Records.{fields_of};
 ghost use Rattle.ddt_text.specs.FirstFault.{locator_in, prefix_in};
+ghost use Rattle.ddt_register.specs.Rows.{most_rows};
 ghost use Rattle.ddt_register.specs.Spelled.{row_in, fields_in, group_in, zone_in, site_in, locators_in, name_in, field_of, are_columns as are_columns_of, UnlessMemory};
 
 use crate::fault::ReadFault;
@@ -151,7 +152,7 @@ fn field(fields: &ByteRecord, place: usize) -> &[u8]
 
 /// What a record of four fields spells as the row of this number.
 pub(crate) fn read_row(alloc: Global, row: u32, fields: &ByteRecord) -> Result<Row, ReadFault>
-    requires row { row ≤ 65535 }
+    requires row { row ≤ most_rows }
     requires four { length (fields_of fields.now) ≡ 4 }
     ensures { UnlessMemory result (row_in row (fields_of fields.now)) }
 {

@@ -17,3 +17,8 @@ pub mod OutsideLemmas
 pub mod ColumnLemmas
 pub mod WrongLemmas
 pub mod RuleLemmas
+pub mod LongestLemmas
+pub mod RootLemmas
+pub mod SaysLemmas
+pub mod NegativeLemmas
+pub mod FreeLemmas

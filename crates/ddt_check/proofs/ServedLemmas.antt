@@ -52,7 +52,7 @@ unshared r accepted g h j k lt =
     let q = or_parts (has_repeat h.locators) _ p.1 in
     earlier_fails g.row h.row _ lt (fails_at (λ (y : Group). nat_lt y.row h.row && share y.locators h.locators) r.groups g q.1 j)
 
-one_group : (r : Register) → IsAccepted r → (g h : Group) (l : Locator) → IsIn g r.groups → IsIn h r.groups → lists g.locators l ≡ true → lists h.locators l ≡ true → h ≡ g
+pub one_group : (r : Register) → IsAccepted r → (g h : Group) (l : Locator) → IsIn g r.groups → IsIn h r.groups → lists g.locators l ≡ true → lists h.locators l ≡ true → h ≡ g
 one_group r accepted g h l j k mine other =
     elim (one_row (λ (i : Group). i.row) r.groups 0 h g (groups_rise r) k j) [
       | inl one ↦ one

@@ -50,7 +50,7 @@ zone_of_site r s (Some w) e inside =
     let p = longest_member zone_prefix s.prefix r.zones w e in
     (w, p.0, p.1, role_is_ms w.kind inside)
 
-site_inside : (r : Register) → IsAccepted r → (p : Zone) (s : Site) (x : List ℕ) → IsIn p r.zones → covers p.prefix x ≡ true → IsIn s r.sites → covers s.prefix x ≡ true → covers p.prefix s.prefix ≡ true
+pub site_inside : (r : Register) → IsAccepted r → (p : Zone) (s : Site) (x : List ℕ) → IsIn p r.zones → covers p.prefix x ≡ true → IsIn s r.sites → covers s.prefix x ≡ true → covers p.prefix s.prefix ≡ true
 site_inside r accepted p s x j c k d =
     let w = zone_of_site r s (zone_of r s.prefix) refl (rule_kept (λ (t : Site). t.row) (is_outside r) r.sites (accepted rules.SiteOutside) s k) in
     let le : length p.prefix ≤ length w.0.prefix = no_longer_zone r accepted w.0 p x w.1 w.3 (covers_trans w.0.prefix s.prefix x w.2 d) j c in

@@ -1,6 +1,6 @@
 //! What the definitions give of the worked registers, by computation; the fast bodies against plain ones.
 
-ghost use Rattle.ddt_check.specs.Worked.{CampusAssigns, CampusSays, OthersAssign, BreaksInNine};
+ghost use Rattle.ddt_check.specs.Worked.{CampusAssigns, CampusSays, OthersAssign, NestedSitesAssign, BreaksInNine};
 
 mod agreeing;
 mod slow;
@@ -17,6 +17,10 @@ fn others_assign()
     ensures { OthersAssign }
 {}
 
+fn nested_sites_assign()
+    ensures { NestedSitesAssign }
+{}
+
 fn a_ninth_row_breaks_its_rule()
     ensures { BreaksInNine }
 {}
@@ -26,5 +30,6 @@ fn definitions_give_the_worked_values() {
     campus_assigns();
     campus_says();
     others_assign();
+    nested_sites_assign();
     a_ninth_row_breaks_its_rule();
 }

@@ -20,13 +20,18 @@ sizes=(1000 8000 65535)
 shapes=("$@")
 [ $# -gt 0 ] || shapes=(nested flat groups sites)
 
-# took WORD..: the milliseconds that the words run; nothing where they fail.
+# took WORD..: the microseconds that the words run; nothing where they fail.
 took() {
     local start end
     start=$(date +%s%N)
     "$@" >/dev/null || return 1
     end=$(date +%s%N)
-    echo $(((end - start) / 1000000))
+    echo $(((end - start) / 1000))
+}
+
+# shown MICROSECONDS: the same in milliseconds.
+shown() {
+    awk -v a="$1" 'BEGIN { printf "%.1f ms", a / 1000 }'
 }
 
 # lower NAME NUMBER: keeps the lower of both numbers in the variable.
@@ -37,6 +42,7 @@ lower() {
 
 # A zone of two records more than the register has rows: SOA and NS, and an address for each row.
 zone_file() {
+    # shellcheck disable=SC2016
     printf '$ORIGIN example.\n$TTL 3600\n@ IN SOA ns hostmaster 1 7200 3600 1209600 3600\n@ IN NS ns\n'
     awk -v rows="$1" 'BEGIN {
         print "ns IN A 192.0.2.1"
@@ -45,7 +51,7 @@ zone_file() {
 }
 
 ratio() {
-    awk -v a="$1" -v b="$2" 'BEGIN { printf "%.1f", a / (b ? b : 1) }'
+    awk -v a="$1" -v b="$2" 'BEGIN { printf "%.2f", a / (b ? b : 1) }'
 }
 
 for rows in "${sizes[@]}"; do
@@ -58,9 +64,9 @@ done
 printf '%s processors\n\n' "$(nproc)"
 printf '| shape | rows | check | growth | nsd-checkzone | growth | ratio |\n|---|---|---|---|---|---|---|\n'
 for shape in "${shapes[@]}"; do
-    before= zone_before=
+    before='' zone_before=''
     for rows in "${sizes[@]}"; do
-        ours= theirs=
+        ours='' theirs=''
         for _ in 1 2 3 4 5; do
             lower ours "$(took crates/ddt/out/ddt check "$folder/$shape.$rows.csv")"
             lower theirs "$(took "$checkzone" example "$folder/$rows.zone")"
@@ -70,7 +76,8 @@ for shape in "${shapes[@]}"; do
             growth=$(ratio "$ours" "$before")
             zone_growth=$(ratio "$theirs" "$zone_before")
         fi
-        printf '| %s | %s | %s ms | %s | %s ms | %s | %s |\n' "$shape" "$rows" "$ours" "$growth" "$theirs" "$zone_growth" "$(ratio "$ours" "$theirs")"
+        printf '| %s | %s | %s | %s | %s | %s | %s |\n' "$shape" "$rows" \
+            "$(shown "$ours")" "$growth" "$(shown "$theirs")" "$zone_growth" "$(ratio "$ours" "$theirs")"
         before=$ours zone_before=$theirs
     done
 done
@@ -80,13 +87,14 @@ rows=${sizes[-1]}
 for shape in "${shapes[@]}"; do
     register=$folder/$shape.$rows.csv
     group=$(awk -F, '$1 == "node" && $2 == "*" { print $3 }' "$register")
-    check= assign= answer= compile=
+    check='' assign='' answer='' compile=''
     for _ in 1 2 3; do
         lower check "$(took crates/ddt/out/ddt check "$register")"
         lower assign "$(took crates/ddt/out/ddt assign "$register" '[0]10.1.2.3')"
         lower answer "$(took crates/ddt/out/ddt answer "$register" "$group" '[0]10.1.2.3')"
         lower compile "$(took crates/ddt/out/ddt compile "$register" "$group")"
     done
-    printf '| %s | %s | %s ms | %s ms (%s) | %s ms (%s) | %s ms (%s) |\n' "$shape" "$rows" "$check" \
-        "$assign" "$(ratio "$assign" "$check")" "$answer" "$(ratio "$answer" "$check")" "$compile" "$(ratio "$compile" "$check")"
+    printf '| %s | %s | %s | %s (%s) | %s (%s) | %s (%s) |\n' "$shape" "$rows" "$(shown "$check")" \
+        "$(shown "$assign")" "$(ratio "$assign" "$check")" "$(shown "$answer")" "$(ratio "$answer" "$check")" \
+        "$(shown "$compile")" "$(ratio "$compile" "$check")"
 done

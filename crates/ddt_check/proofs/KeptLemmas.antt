@@ -9,7 +9,7 @@ use Rattle.ddt_path.specs.declared.locator.Locator.{Locator}
 use Rattle.ddt_path.specs.declared.record.Role.{Role}
 use Rattle.ddt_path.specs.declared.record.Role.TheVariants.{Node, Ms}
 use Rattle.ddt_path.specs.Locators.{lists}
-use Rattle.ddt_path.specs.Covers.{covers, is_same_path, is_strictly_below}
+use Rattle.ddt_path.specs.Covers.{covers, overlaps, is_same_path, is_strictly_below}
 use Rattle.ddt_register.specs.declared.zone.Zone.{Zone}
 use Rattle.ddt_register.specs.declared.site.Site.{Site}
 use Rattle.ddt_register.specs.declared.group.Group.{Group}

@@ -7,11 +7,11 @@ ghost use Rattle.std.specs.Ordering.{nat_cmp, eq_by_cmp};
 ghost use Rattle.std.specs.Cmp.Lexicographic.{slice_cmp};
 ghost use Rattle.ddt_path.specs.declared.record.Role.TheVariants.{Node, Ms};
 ghost use Rattle.ddt_register.specs.declared.group.Group.{Group as AGroup};
-ghost use Rattle.ddt_check.specs.Zones.{group_named, is_same_name};
+ghost use Rattle.ddt_check.specs.Zones.{is_same_name};
 ghost use Rattle.ddt_config.specs.declared.config.Content.TheVariants.{Children, Sites};
 ghost use Rattle.ddt_config.specs.Shaped.{is_shaped};
 ghost use Rattle.ddt_config.specs.Table.{outline};
-ghost use Rattle.ddt_compile.specs.GroupConfig.{group_config as group_config_of, authorities_of as authorities_of_group_of};
+ghost use Rattle.ddt_compile.specs.GroupConfig.{group_config as group_config_of, config_named, authorities_of as authorities_of_group_of};
 ghost use Rattle.ddt_compile.specs.Laws.{IsHonestConfig, HasRoom};
 ghost use Rattle.ddt_compile.specs.Lists.{list_at};
 
@@ -53,7 +53,7 @@ pub fn compile_group(
     accepted: &Accepted,
     name: Name,
 ) -> Result<Option<ServerConfig>, AllocError>
-    ensures found { IfOk result (λ found. option_map outline found ≡ option_map (group_config_of accepted.now) (group_named accepted.now name)) }
+    ensures found { IfOk result (λ found. option_map outline found ≡ config_named accepted.now name) }
     ensures honest { IfOk result (λ found. IfSome found (λ c. IsHonestConfig accepted.now (outline c))) }
     ensures room { IfOk result (λ found. IfSome found (λ c. HasRoom (outline c))) }
 {

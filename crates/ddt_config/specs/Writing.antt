@@ -25,6 +25,7 @@ abbrev pub with_keys : List (Key × Data) → Members
 with_keys [] = no_members
 with_keys (e ∷ rest) = member (key_text e.0) e.1 (with_keys rest)
 
+-- some values, as TOML keeps those of an array
 abbrev pub items_of : List Data → Items
 items_of [] = no_items
 items_of (d ∷ ds) = item d (items_of ds)
@@ -33,12 +34,18 @@ items_of (d ∷ ds) = item d (items_of ds)
 abbrev pub written_each : {A : Type 0} → (A → Data) → List A → Data
 written_each write xs = array (items_of (map write xs))
 
+-- locators, as their texts
 abbrev pub written_locators : List Locator → Data
 written_locators ls = written_each (λ l. string (written_locator l)) ls
 
+-- the tables of a child and of a site
 abbrev pub written_child : Child → Members
 written_child c =
-    with_keys ((key.Kind, string (role_text c.role)) ∷ (key.Locators, written_locators c.locators) ∷ (key.Prefix, string (written_prefix c.prefix)) ∷ [])
+    with_keys (
+      (key.Kind, string (role_text c.role))
+      ∷ (key.Locators, written_locators c.locators)
+      ∷ (key.Prefix, string (written_prefix c.prefix))
+      ∷ [])
 
 abbrev pub written_site : SiteEntry → Members
 written_site s = with_keys ((key.Etrs, written_locators s.etrs) ∷ (key.Prefix, string (written_prefix s.prefix)) ∷ [])
@@ -46,9 +53,15 @@ written_site s = with_keys ((key.Etrs, written_locators s.etrs) ∷ (key.Prefix,
 -- an authority has its children or its sites, also where they are none, and no other list
 abbrev pub written_content : List ℕ → Content → Members
 written_content prefix (Children cs) =
-    with_keys ((key.Child, written_each (λ c. table (written_child c)) cs) ∷ (key.Prefix, string (written_prefix prefix)) ∷ [])
+    with_keys (
+      (key.Child, written_each (λ c. table (written_child c)) cs)
+      ∷ (key.Prefix, string (written_prefix prefix))
+      ∷ [])
 written_content prefix (Sites ss) =
-    with_keys ((key.Prefix, string (written_prefix prefix)) ∷ (key.Site, written_each (λ s. table (written_site s)) ss) ∷ [])
+    with_keys (
+      (key.Prefix, string (written_prefix prefix))
+      ∷ (key.Site, written_each (λ s. table (written_site s)) ss)
+      ∷ [])
 
 abbrev pub written_authority : Authority → Members
 written_authority a = written_content a.prefix a.content
@@ -65,12 +78,15 @@ written_config c =
 
 -- ---- and that it is read as what it was written for
 
+-- the text of a prefix
 abbrev pub PrefixComesBack : List ℕ → Type 0
 PrefixComesBack p = prefix_in (written_prefix p) ≡ Ok p
 
+-- the text of each locator
 abbrev pub LocatorsComeBack : List Locator → Type 0
 LocatorsComeBack ls = AllByRecursion (λ l. locator_in (written_locator l) ≡ Ok l) ls
 
+-- the table of a child, of a site
 abbrev pub ChildComesBack : Child → Type 0
 ChildComesBack c = child_in (written_child c) ≡ Ok c
 
@@ -84,10 +100,12 @@ is_content_for Ms (Sites ss) = true
 is_content_for Node (Sites ss) = false
 is_content_for Ms (Children cs) = false
 
--- by the reader of servers of its kind
+-- the table of an authority, by the reader of servers of its kind
 abbrev pub AuthorityComesBack : Authority → Type 0
-AuthorityComesBack a = (role : Role) → is_content_for role a.content ≡ true → authority_in role (written_authority a) ≡ Ok a
+AuthorityComesBack a =
+    (role : Role) → is_content_for role a.content ≡ true → authority_in role (written_authority a) ≡ Ok a
 
+-- the table of each child or site in an authority
 abbrev pub ContentComesBack : Content → Type 0
 ContentComesBack (Children cs) = AllByRecursion ChildComesBack cs
 ContentComesBack (Sites ss) = AllByRecursion SiteComesBack ss

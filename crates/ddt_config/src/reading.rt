@@ -9,7 +9,7 @@ ghost use Rattle.ddt_text.specs.FirstFault.{locator_in};
 ghost use Rattle.ddt_config.specs.declared.config.ServerConfig.{ServerConfig as ConfigValue};
 ghost use Rattle.ddt_config.specs.Shaped.{fits, is_shaped as is_shaped_of};
 ghost use Rattle.ddt_config.specs.Table.{key_text, on_ok, each, of_kind, of_form, text_of, table_of, array_of, array_at as array_at_of, array_or_none as array_or_none_of, text_at as text_at_of, texts_at as texts_at_of, tables_at as tables_at_of, name_in, role_in, role_of as role_of_text, path_in, locators_in, child_in, site_in, content_in, authority_in, config_in, config_in_text, outline, with_shape, StandsFor};
-ghost use Rattle.ddt_config.specs.Reading.{Reads, HoldsEach, is_text_value, is_table_value, child_fits, site_fits, content_fits, authority_fits};
+ghost use Rattle.ddt_config.specs.Reading.{Reads, IsToldAs, IsJudged, HoldsEach, is_text_value, is_table_value, child_fits, site_fits, content_fits, authority_fits};
 
 use crate::config::{Authority, Child, Content, ServerConfig, SiteEntry};
 use crate::entry::Entry;
@@ -39,7 +39,7 @@ pub fn from_toml(alloc: Global, text: &str) -> Result<ServerConfig, ConfigFault>
 
 /// What is told of a text that `toml` refuses: 5 Memory exactly where memory was refused.
 fn toml_fault(fault: &de::Error) -> ConfigFault
-    ensures { ((result ≡ ConfigFault.Memory) × IsMemory fault.now) ⊎ ((result ≡ ConfigFault.Toml) × (IsMemory fault.now → ⊥)) }
+    ensures { IsToldAs (IsMemory fault.now) result }
 {
     if fault.is_memory() {
         ConfigFault::Memory
@@ -89,7 +89,7 @@ fn config_of(
     shaped: bool,
 ) -> Result<ServerConfig, ConfigFault>
     requires { shaped ≡ is_shaped_of role locators authorities }
-    ensures { MatchResult result (λ c. with_shape (record { name = name; role = role; locators = locators; authorities = authorities }) ≡ Ok (outline c)) (λ fault. (fault ≡ ConfigFault.Shape) × (with_shape (record { name = name; role = role; locators = locators; authorities = authorities }) ≡ Err fault)) }
+    ensures { IsJudged (record { name = name; role = role; locators = locators; authorities = authorities }) result }
 {
     if shaped {
         Ok(ServerConfig {

@@ -11,3 +11,14 @@ pub mod LongestLemmas
 pub mod RootLemmas
 pub mod SaysLemmas
 pub mod NegativeLemmas
+pub mod FreeLemmas
+pub mod RestoreLemmas
+pub mod RegisterLemmas
+pub mod LeastLemmas
+pub mod OrderLemmas
+pub mod NameLemmas
+pub mod BelowLemmas
+pub mod OutsideLemmas
+pub mod ColumnLemmas
+pub mod WrongLemmas
+pub mod RuleLemmas

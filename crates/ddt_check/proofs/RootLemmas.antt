@@ -32,7 +32,7 @@ use Rattle.ddt_check.proofs.ZoneLemmas.{zone_prefix}
 any_case : {A : Type 0} (test : A → Bool) (y : A) (xs : List A) → ((x : A) × IsIn x xs × (test x ≡ true)) → (x : A) × IsIn x (y ∷ xs) × (test x ≡ true)
 any_case test y xs (x, k, e) = (x, inr k, e)
 
-any_member : {A : Type 0} (test : A → Bool) (xs : List A) → list_any test xs ≡ true → (x : A) × IsIn x xs × (test x ≡ true)
+pub any_member : {A : Type 0} (test : A → Bool) (xs : List A) → list_any test xs ≡ true → (x : A) × IsIn x xs × (test x ≡ true)
 any_member test [] e = absurd (false≢true e)
 any_member test (y ∷ xs) e = elim (or_cases (test y) (list_any test xs) e) [
   | inl here ↦ (y, inl refl, here)

@@ -51,7 +51,7 @@ outcome_in_charge (Registered q s) e = cc
 outcome_in_charge (NotRegistered q s) e = cc
 outcome_in_charge (Hole q) e = cc
 
-outcome_refers_not : (o : Outcome) → IsReferral (record_of o) → ⊥
+outcome_refers_not : (o : Outcome) → IsReferral (record_of o).action → ⊥
 outcome_refers_not (Registered q s) (inl e) = cc
 outcome_refers_not (Registered q s) (inr e) = cc
 outcome_refers_not (NotRegistered q s) (inl e) = cc
@@ -59,16 +59,16 @@ outcome_refers_not (NotRegistered q s) (inr e) = cc
 outcome_refers_not (Hole q) (inl e) = cc
 outcome_refers_not (Hole q) (inr e) = cc
 
-nowhere_refers_not : (x : List ℕ) → IsReferral (not_authoritative x) → ⊥
+nowhere_refers_not : (x : List ℕ) → IsReferral (not_authoritative x).action → ⊥
 nowhere_refers_not x (inl e) = cc
 nowhere_refers_not x (inr e) = cc
 
-nowhere_ends_not : (x : List ℕ) → IsFinal (not_authoritative x) → ⊥
+nowhere_ends_not : (x : List ℕ) → IsFinal (not_authoritative x).action → ⊥
 nowhere_ends_not x (inl e) = cc
 nowhere_ends_not x (inr (inl e)) = cc
 nowhere_ends_not x (inr (inr e)) = cc
 
-nowhere_names_not : (x : List ℕ) → NamesServers (not_authoritative x) → ⊥
+nowhere_names_not : (x : List ℕ) → NamesServers (not_authoritative x).action → ⊥
 nowhere_names_not x (inl e) = nowhere_refers_not x e
 nowhere_names_not x (inr (inl e)) = cc
 nowhere_names_not x (inr (inr e)) = cc
@@ -111,25 +111,25 @@ module _ (r : Register) (accepted : IsAccepted r) (x : List ℕ) where
   site_servers z s are true = are
   site_servers z s are false = are
 
-  hole_names_not : (q : List ℕ) → NamesServers (record_of (Hole q)) → ⊥
+  hole_names_not : (q : List ℕ) → NamesServers (record_of (Hole q)).action → ⊥
   hole_names_not q (inl e) = outcome_refers_not (Hole q) e
   hole_names_not q (inr (inl e)) = cc
   hole_names_not q (inr (inr e)) = cc
 
   ms_servers : (z : Zone) → AreServers (locators_of r z.group) → (found : Option Site)
-      → NamesServers (record_of (option_map_or (λ s. assigned_site r z s x) found (Hole (hole_of z.prefix (prefixes_in r z Ms) x))))
+      → NamesServers (record_of (option_map_or (λ s. assigned_site r z s x) found (Hole (hole_of z.prefix (prefixes_in r z Ms) x)))).action
       → AreServers (record_of (option_map_or (λ s. assigned_site r z s x) found (Hole (hole_of z.prefix (prefixes_in r z Ms) x)))).servers
   ms_servers z are None h = absurd (hole_names_not (hole_of z.prefix (prefixes_in r z Ms) x) h)
   ms_servers z are (Some s) h = site_servers z s are (length s.etrs == 0)
 
-  zone_servers : (z : Zone) → AreServers (locators_of r z.group) → (role : Role) → NamesServers (record_of (assigned_in r z role x)) → AreServers (record_of (assigned_in r z role x)).servers
+  zone_servers : (z : Zone) → AreServers (locators_of r z.group) → (role : Role) → NamesServers (record_of (assigned_in r z role x)).action → AreServers (record_of (assigned_in r z role x)).servers
   zone_servers z are Node h = absurd (hole_names_not (hole_of z.prefix (prefixes_in r z Node) x) h)
   zone_servers z are Ms h = ms_servers z are (site_of r x) h
 
-  pub assigned_servers : NamesServers (record_of (assignment r x)) → AreServers (record_of (assignment r x)).servers
+  pub assigned_servers : NamesServers (record_of (assignment r x)).action → AreServers (record_of (assignment r x)).servers
   assigned_servers = go (zone_of r x) refl
     where
-      go : (found : Option Zone) → zone_of r x ≡ found → NamesServers (record_of (option_map_or (λ z. assigned_in r z z.kind x) found (Hole []))) → AreServers (record_of (option_map_or (λ z. assigned_in r z z.kind x) found (Hole []))).servers
+      go : (found : Option Zone) → zone_of r x ≡ found → NamesServers (record_of (option_map_or (λ z. assigned_in r z z.kind x) found (Hole []))).action → AreServers (record_of (option_map_or (λ z. assigned_in r z z.kind x) found (Hole []))).servers
       go None e h = absurd (hole_names_not [] h)
       go (Some z) e h = zone_servers z (servers_of_zone r accepted z (longest_member zone_prefix x r.zones z e).0) z.kind h
 
@@ -139,12 +139,12 @@ module _ (r : Register) (accepted : IsAccepted r) (x : List ℕ) where
   Next n found = next_zone r n x ≡ found
 
   -- by the next zone below a zone
-  to_zones_from : (n : ℕ) (found : Option Zone) → Next n found → IsReferral (option_map_or (referral_to r) found (record_of (assignment r x)))
+  to_zones_from : (n : ℕ) (found : Option Zone) → Next n found → IsReferral (option_map_or (referral_to r) found (record_of (assignment r x))).action
       → (w : Zone) × Contains r.zones w × (covers w.prefix x ≡ true) × (option_map_or (referral_to r) found (record_of (assignment r x)) ≡ referral_to r w)
   to_zones_from n None e h = absurd (outcome_refers_not (assignment r x) h)
   to_zones_from n (Some w) e h = let p = next_is r n x w e in (w, contained r.zones w p.0, p.2, refl)
 
-  final_from : (found : Option Zone) → IsFinal (option_map_or (referral_to r) found (record_of (assignment r x))) → option_map_or (referral_to r) found (record_of (assignment r x)) ≡ record_of (assignment r x)
+  final_from : (found : Option Zone) → IsFinal (option_map_or (referral_to r) found (record_of (assignment r x))).action → option_map_or (referral_to r) found (record_of (assignment r x)) ≡ record_of (assignment r x)
   final_from None h = refl
   final_from (Some w) h = absurd (not_final w.kind h)
 
@@ -152,13 +152,13 @@ module _ (r : Register) (accepted : IsAccepted r) (x : List ℕ) where
   cover_from n None e = assigned_covers r x
   cover_from n (Some w) e = (next_is r n x w e).2
 
-  servers_from : (n : ℕ) (found : Option Zone) → Next n found → NamesServers (option_map_or (referral_to r) found (record_of (assignment r x))) → AreServers (option_map_or (referral_to r) found (record_of (assignment r x))).servers
+  servers_from : (n : ℕ) (found : Option Zone) → Next n found → NamesServers (option_map_or (referral_to r) found (record_of (assignment r x))).action → AreServers (option_map_or (referral_to r) found (record_of (assignment r x))).servers
   servers_from n None e h = assigned_servers h
   servers_from n (Some w) e h = servers_of_zone r accepted w (next_is r n x w e).0
 
   down_from : (n m : ℕ) → m ≤ n → (found : Option Zone) → Next n found
       → ((option_map_or (referral_to r) found (record_of (assignment r x))).action ≢ NotAuthoritative)
-      × (IsReferral (option_map_or (referral_to r) found (record_of (assignment r x))) → m < length (option_map_or (referral_to r) found (record_of (assignment r x))).prefix)
+      × (IsReferral (option_map_or (referral_to r) found (record_of (assignment r x))).action → m < length (option_map_or (referral_to r) found (record_of (assignment r x))).prefix)
   down_from n m le None e = (outcome_in_charge (assignment r x), λ h. absurd (outcome_refers_not (assignment r x) h))
   down_from n m le (Some w) e = let p = next_is r n x w e in let lt : n < length w.prefix = p.1 in (in_charge w.kind, λ h. omega arith)
 
@@ -166,17 +166,17 @@ module _ (r : Register) (accepted : IsAccepted r) (x : List ℕ) where
     abbrev Said : Option Zone → ReferralRecord
     Said found = option_map_or (λ z. says_from r z x) found (not_authoritative x)
 
-    pub refers_to_zone : IsReferral (says r l x) → (w : Zone) × Contains r.zones w × (covers w.prefix x ≡ true) × (says r l x ≡ referral_to r w)
+    pub refers_to_zone : IsReferral (says r l x).action → (w : Zone) × Contains r.zones w × (covers w.prefix x ≡ true) × (says r l x ≡ referral_to r w)
     refers_to_zone h = go (longest_match zone_prefix (served_zones r l) x) h
       where
-        go : (found : Option Zone) → IsReferral (Said found) → (w : Zone) × Contains r.zones w × (covers w.prefix x ≡ true) × (Said found ≡ referral_to r w)
+        go : (found : Option Zone) → IsReferral (Said found).action → (w : Zone) × Contains r.zones w × (covers w.prefix x ≡ true) × (Said found ≡ referral_to r w)
         go None h = absurd (nowhere_refers_not x h)
         go (Some z) h = to_zones_from (length z.prefix) (next_zone r (length z.prefix) x) refl h
 
-    pub ends_with_assignment : IsFinal (says r l x) → says r l x ≡ record_of (assignment r x)
+    pub ends_with_assignment : IsFinal (says r l x).action → says r l x ≡ record_of (assignment r x)
     ends_with_assignment h = go (longest_match zone_prefix (served_zones r l) x) h
       where
-        go : (found : Option Zone) → IsFinal (Said found) → Said found ≡ record_of (assignment r x)
+        go : (found : Option Zone) → IsFinal (Said found).action → Said found ≡ record_of (assignment r x)
         go None h = absurd (nowhere_ends_not x h)
         go (Some z) h = final_from (next_zone r (length z.prefix) x) h
 
@@ -187,16 +187,16 @@ module _ (r : Register) (accepted : IsAccepted r) (x : List ℕ) where
         go None = covers_self x
         go (Some z) = cover_from (length z.prefix) (next_zone r (length z.prefix) x) refl
 
-    pub says_servers : NamesServers (says r l x) → AreServers (says r l x).servers
+    pub says_servers : NamesServers (says r l x).action → AreServers (says r l x).servers
     says_servers h = go (longest_match zone_prefix (served_zones r l) x) h
       where
-        go : (found : Option Zone) → NamesServers (Said found) → AreServers (Said found).servers
+        go : (found : Option Zone) → NamesServers (Said found).action → AreServers (Said found).servers
         go None h = absurd (nowhere_names_not x h)
         go (Some z) h = servers_from (length z.prefix) (next_zone r (length z.prefix) x) refl h
 
     -- a server of a zone that covers the identifier
     pub goes_down : (z : Zone) → IsIn z r.zones → covers z.prefix x ≡ true → lists (locators_of r z.group) l ≡ true
-        → ((says r l x).action ≢ NotAuthoritative) × (IsReferral (says r l x) → length z.prefix < length (says r l x).prefix)
+        → ((says r l x).action ≢ NotAuthoritative) × (IsReferral (says r l x).action → length z.prefix < length (says r l x).prefix)
     goes_down z k c here =
         let found = longest_found zone_prefix x (served_zones r l) z (filter_in (λ (y : Zone). lists (locators_of r y.group) l) r.zones z k here) c in
         rw found.1 (down_from (length found.0.prefix) (length z.prefix) found.2 (next_zone r (length found.0.prefix) x) refl)

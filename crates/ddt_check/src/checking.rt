@@ -1,12 +1,20 @@
-//! The check of a register against all ten rules.
+//! The check of a register against all ten rules, by lists that are sorted in place and sorted back.
 
-ghost use Rattle.std.specs.Prelude.{◌≡◌, MatchOption, IfOk, IfErr};
-ghost use Rattle.ddt_check.specs.Rules.{IsAccepted, IsLeastFault, IsLeastRow, broken};
+ghost use Rattle.std.specs.Prelude.{◌≡◌, ℕ, ◌<◌, true, false, MatchOption, IfOk, IfErr};
+ghost use Rattle.ddt_register.specs.declared.register.Register.{Register as ARegister};
+ghost use Rattle.ddt_register.specs.Rows.{rise, zone_rows, site_rows, group_rows};
+ghost use Rattle.ddt_check.specs.declared.fault.Rule.{Rule as ARule};
+ghost use Rattle.ddt_check.specs.Rules.{IsAccepted, IsLeastFault, IsLeastRow, broken, rule_number};
+ghost use Rattle.ddt_check.specs.Order.{AreZonesInOrder, AreSitesInOrder, AreGroupsInOrder, AreReordered};
 
 use crate::accepted::Accepted;
 use crate::fault::{Fault, Rule};
-use crate::rules::{groups, sites, zones};
-use ddt_register::Register;
+use crate::rules::{groups, locators, sites, zones};
+use crate::sorting::{
+    restore_groups, restore_sites, restore_zones, sort_groups, sort_sites, sort_zones,
+};
+use ddt_path::Listed;
+use ddt_register::{Group, Register, Site, Zone};
 
 /// The rules in the order of their numbers.
 const RULES: [Rule; 10] = [
@@ -28,41 +36,116 @@ pub fn check(register: Register) -> Result<Accepted, (Register, Fault)>
     ensures accepted { IfOk result (λ a. (a ≡ register) × IsAccepted register) }
     ensures refused { IfErr result (λ e. (e.0 ≡ register) × IsLeastFault register e.1.rule e.1.row) }
 {
-    match first_fault(&register) {
+    let (register, fault) = find_fault(register);
+    match fault {
         Some(fault) => Err((register, fault)),
         None => Ok(Accepted::of(register)),
     }
 }
 
-fn first_fault(register: &Register) -> Option<Fault>
-    ensures { MatchOption result (IsAccepted register.now) (λ f. IsLeastFault register.now f.rule f.row) }
+/// The register as it came, and the broken rule of least number with the least row that breaks it.
+fn find_fault(register: Register) -> (Register, Option<Fault>)
+    ensures same { result.0 ≡ register }
+    ensures fault { MatchOption result.1 (IsAccepted register) (λ f. IsLeastFault register f.rule f.row) }
+{
+    let root = first_root_fault(&register);
+    let etrs = first_etrs_fault(&register);
+    let Register {
+        zones,
+        sites,
+        groups,
+    } = register;
+    let mut zones = zones.into_vec();
+    let mut sites = sites.into_vec();
+    let mut groups = groups.into_vec();
+    let fault = sort_and_test(root, etrs, &mut zones, &mut sites, &mut groups);
+    let register = Register {
+        zones: Listed::of(zones),
+        sites: Listed::of(sites),
+        groups: Listed::of(groups),
+    };
+    (register, fault)
+}
+
+/// The first fault; the lists come back as they were.
+fn sort_and_test(
+    root: Option<u32>,
+    etrs: Option<u32>,
+    zones: &mut [Zone],
+    sites: &mut [Site],
+    groups: &mut [Group],
+) -> Option<Fault>
+    requires zones { rise 0 (zone_rows zones.old) ≡ true }
+    requires sites { rise 0 (site_rows sites.old) ≡ true }
+    requires groups { rise 0 (group_rows groups.old) ≡ true }
+    ensures zones { zones.new ≡ zones.old }
+    ensures sites { sites.new ≡ sites.old }
+    ensures groups { groups.new ≡ groups.old }
+    ensures fault { (r : ARegister) → (r.zones ≡ zones.old) → (r.sites ≡ sites.old) → (r.groups ≡ groups.old) → IsLeastRow (broken r Rule.NoRoot) root → IsLeastRow (broken r Rule.TooManyEtrs) etrs → MatchOption result (IsAccepted r) (λ f. IsLeastFault r f.rule f.row) }
+{
+    sort_zones(zones);
+    sort_sites(sites);
+    let wrong = locators::wrong_locators(groups);
+    sort_groups(groups);
+    let fault = first_fault(root, etrs, wrong, zones, sites, groups);
+    restore_zones(zones);
+    restore_sites(sites);
+    restore_groups(groups);
+    fault
+}
+
+/// The first fault, by the rules in the order of their numbers.
+fn first_fault(
+    root: Option<u32>,
+    etrs: Option<u32>,
+    wrong: Option<u32>,
+    zones: &[Zone],
+    sites: &[Site],
+    groups: &[Group],
+) -> Option<Fault>
+    requires zones { AreZonesInOrder zones.now }
+    requires sites { AreSitesInOrder sites.now }
+    requires groups { AreGroupsInOrder groups.now }
+    ensures { (r : ARegister) → AreReordered r zones.now sites.now groups.now → IsLeastRow (broken r Rule.NoRoot) root → IsLeastRow (broken r Rule.TooManyEtrs) etrs → IsLeastRow (broken r Rule.Locators) wrong → MatchOption result (IsAccepted r) (λ f. IsLeastFault r f.rule f.row) }
 {
     for rule in RULES {
-        if let Some(row) = first_row(register, rule) {
+        if let Some(row) = first_row(root, etrs, wrong, zones, sites, groups, rule) {
             return Some(Fault { rule, row });
         }
     }
     None
 }
 
-/// The least row that breaks a rule.
-fn first_row(register: &Register, rule: Rule) -> Option<u32>
-    ensures { IsLeastRow (broken register.now rule) result }
+/// The least row that breaks a rule, where no rule before it is broken.
+fn first_row(
+    root: Option<u32>,
+    etrs: Option<u32>,
+    wrong: Option<u32>,
+    zones: &[Zone],
+    sites: &[Site],
+    groups: &[Group],
+    rule: Rule,
+) -> Option<u32>
+    requires zones { AreZonesInOrder zones.now }
+    requires sites { AreSitesInOrder sites.now }
+    requires groups { AreGroupsInOrder groups.now }
+    ensures { (r : ARegister) → AreReordered r zones.now sites.now groups.now → IsLeastRow (broken r Rule.NoRoot) root → IsLeastRow (broken r Rule.TooManyEtrs) etrs → IsLeastRow (broken r Rule.Locators) wrong → ((earlier : ARule) (n : ℕ) → rule_number earlier < rule_number rule → broken r earlier n ≡ false) → IsLeastRow (broken r rule) result }
 {
     match rule {
-        Rule::NoRoot => first_root_fault(register),
-        Rule::DuplicateZone => zones::duplicate(register),
-        Rule::DuplicateSite => sites::duplicate(register),
-        Rule::UnknownGroup => zones::of_unknown_group(register),
-        Rule::Role => zones::of_other_role(register),
-        Rule::Locators => groups::wrong_locators(register),
-        Rule::BelowMapServer => zones::below_map_server(register),
-        Rule::SiteOutside => sites::outside(register),
-        Rule::TooManyEtrs => sites::too_many_etrs(register),
-        Rule::DuplicateGroup => groups::duplicate(register),
+        Rule::NoRoot => root,
+        Rule::DuplicateZone => zones::duplicate(zones),
+        Rule::DuplicateSite => sites::duplicate(sites),
+        Rule::UnknownGroup => zones::of_unknown_group(zones, groups),
+        Rule::Role => zones::of_other_role(zones, groups),
+        Rule::Locators => wrong,
+        Rule::BelowMapServer => zones::below_map_server(zones),
+        Rule::SiteOutside => sites::outside(sites, zones),
+        Rule::TooManyEtrs => etrs,
+        Rule::DuplicateGroup => groups::duplicate(groups),
     }
 }
 
+/// The least row that breaks the rule on the root: row 0 where there is none.
 fn first_root_fault(register: &Register) -> Option<u32>
     ensures { IsLeastRow (broken register.now Rule.NoRoot) result }
 {
@@ -71,4 +154,10 @@ fn first_root_fault(register: &Register) -> Option<u32>
     } else {
         Some(0)
     }
+}
+
+fn first_etrs_fault(register: &Register) -> Option<u32>
+    ensures { IsLeastRow (broken register.now Rule.TooManyEtrs) result }
+{
+    sites::too_many_etrs(register)
 }

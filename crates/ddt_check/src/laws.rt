@@ -3,7 +3,7 @@
 
 ghost use Rattle.ddt_register.specs.declared.register.Register.{Register};
 ghost use Rattle.ddt_check.specs.Rules.{IsAccepted};
-ghost use Rattle.ddt_check.specs.Laws.{EachIdentifierHasOneZone, TheRootIsServed, EachLocatorIsOfOneGroup, ServersReferDownwards, ReferralsAreToZones, FinalAnswersAreTheAssignment, AnswersCover, AnswersHaveServers, ServersOfAGroupAgree, RegisteredPrefixesAreSites, NegativesHoldOfAll};
+ghost use Rattle.ddt_check.specs.Laws.{EachIdentifierHasOneZone, TheRootIsServed, EachLocatorIsOfOneGroup, ServersReferDownwards, ReferralsAreToZones, FinalAnswersAreTheAssignment, AnswersCover, AnswersHaveServers, ServersOfAGroupAgree, AnswersCanBeSent, RegisteredPrefixesAreSites, NegativesHoldOfAll, HolesAreFree, PartsOfSitesAreFree};
 
 /// One zone is the longest that covers an identifier; DDT nodes serve everything at 1 to 8 locators, the roots; and a
 /// locator serves the zones of one group alone (RFC 8111, section 4).
@@ -21,6 +21,7 @@ pub fn honest_servers_lead_to_the_assignment()
     ensures decided { (r : Register) → IsAccepted r → FinalAnswersAreTheAssignment r }
     ensures cover { (r : Register) → IsAccepted r → AnswersCover r }
     ensures servers { (r : Register) → IsAccepted r → AnswersHaveServers r }
+    ensures sendable { (r : Register) → IsAccepted r → AnswersCanBeSent r }
     ensures agree { (r : Register) → IsAccepted r → ServersOfAGroupAgree r }
 {}
 
@@ -29,4 +30,6 @@ pub fn honest_servers_lead_to_the_assignment()
 pub fn negatives_hold_of_all_that_they_cover()
     ensures registered { (r : Register) → IsAccepted r → RegisteredPrefixesAreSites r }
     ensures negative { (r : Register) → IsAccepted r → NegativesHoldOfAll r }
+    ensures hole { (r : Register) → IsAccepted r → HolesAreFree r }
+    ensures part { (r : Register) → IsAccepted r → PartsOfSitesAreFree r }
 {}

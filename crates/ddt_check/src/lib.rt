@@ -1,7 +1,8 @@
 //! The check of a register, and what an accepted one says: which Map-Servers or which hole it assigns to an
 //! identifier, and what an honest server answers.
 //!
-//! In reading order: `fault`, `accepted`, `checking` (with `rules` below it), `assigning`, `saying`, `laws`.
+//! In reading order: `fault`, `accepted`, `checking` (with `sorting` and `rules` below it), `assigning`, `saying`,
+//! `laws`.
 #![tactic(auto)]
 
 mod accepted;
@@ -13,6 +14,7 @@ mod laws;
 mod lookup;
 mod rules;
 mod saying;
+mod sorting;
 
 pub use accepted::{Accepted, Counts};
 pub use assigning::assign;

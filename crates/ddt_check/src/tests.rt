@@ -1,6 +1,10 @@
-//! What the definitions give of the worked registers, by computation.
+//! What the definitions give of the worked registers, by computation; the fast bodies against plain ones.
 
 ghost use Rattle.ddt_check.specs.Worked.{CampusAssigns, CampusSays, OthersAssign, NestedSitesAssign, BreaksInNine};
+
+mod agreeing;
+mod nested;
+mod slow;
 
 fn campus_assigns()
     ensures { CampusAssigns }

@@ -6,6 +6,7 @@ pub mod SlotLemmas
 pub mod NameLemmas
 pub mod PathTestLemmas
 pub mod CoverLemmas
+pub mod EndLemmas
 pub mod HoleLemmas
 pub mod MemberLemmas
 pub mod FrontLemmas

@@ -2,6 +2,7 @@
 #![tactic(auto)]
 
 mod form;
+mod fronts;
 mod holes;
 mod listed;
 mod locator;
@@ -13,7 +14,10 @@ mod record;
 mod xeid;
 
 pub use form::{Form, PrefixFault};
-pub use holes::{a_hole_is_free, no_hole_under_a_key, one_hole_for_all_it_covers};
+pub use fronts::the_longest_common_front;
+pub use holes::{
+    a_hole_is_free, no_hole_under_a_key, none_free_is_covered, one_hole_for_all_it_covers,
+};
 pub use listed::Listed;
 pub use locator::{Locator, is_same_locator, lists};
 pub use locator_set::{LocatorSet, MOST_LOCATORS};

@@ -1,4 +1,5 @@
 pub mod RowLemmas
+pub mod RangeLemmas
 pub mod FieldLemmas
 pub mod LocatorLemmas
 pub mod LeftLemmas

@@ -14,8 +14,8 @@ use Rattle.ddt_register.specs.declared.group.Group.{Group}
 use Rattle.ddt_check.specs.Zones.{group_named}
 use Rattle.ddt_check.specs.Assignment.{assignment}
 use Rattle.toml.specs.Text.{IsDocumentText}
-use Rattle.toml.specs.Data.{Members}
-use Rattle.ddt_config.specs.Table.{Outline, config_in, config_in_text}
+use Rattle.ddt_config.specs.Table.{Outline, config_in_text}
+use Rattle.ddt_config.specs.Writing.{written_config}
 use Rattle.ddt_compile.specs.GroupConfig.{group_config}
 use Rattle.ddt_wire.specs.Referral as referral
 use Rattle.ddt_ecm.specs.Request as request
@@ -49,9 +49,9 @@ IsAssignLine bytes word line =
 abbrev pub IsCheckLine : List ℕ → List ℕ → Type 0
 IsCheckLine bytes line = (r : Register) × IsAcceptedIn bytes r × (line ≡ counts_text (length r.zones) (length r.sites) (length r.groups))
 
--- the text that `toml` prints of a table that stands for a configuration
+-- the text that `toml` prints of the table of a configuration
 abbrev pub IsDocumentOf : Outline → List ℕ → Type 0
-IsDocumentOf config text = (ms : Members) × (config_in ms ≡ Ok config) × IsDocumentText false ms text
+IsDocumentOf config text = IsDocumentText false (written_config config) text
 
 -- `compile REGISTER GROUP`: the document of the configuration of the group of that name, which is read back as it
 abbrev pub IsConfigText : List ℕ → List ℕ → List ℕ → Type 0

@@ -21,7 +21,7 @@ module _ {A V : Type 0} (f : A → V) (test : A → Bool) (xs : List A) (i : ℕ
   one_more : filter test (take (i + 1) xs) ≡ filter test (take i xs) ++ cond (test x) (x ∷ []) []
   one_more = filter_more test xs i x lt ∙ ap (λ (y : A). filter test (take i xs) ++ cond (test y) (y ∷ []) []) (sym is)
 
-  more_kept : test x ≡ true → map f (filter test (take i xs)) ++ f x ∷ [] ≡ map f (filter test (take (i + 1) xs))
+  pub more_kept : test x ≡ true → map f (filter test (take i xs)) ++ f x ∷ [] ≡ map f (filter test (take (i + 1) xs))
   more_kept e =
       sym (map-append f (filter test (take i xs)) (x ∷ []))
       ∙ ap (λ (b : Bool). map f (filter test (take i xs) ++ cond b (x ∷ []) [])) (sym e)

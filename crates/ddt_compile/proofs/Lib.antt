@@ -6,3 +6,4 @@ pub mod LocatorLemmas
 pub mod HonestLemmas
 pub mod RoomLemmas
 pub mod NoTwoLemmas
+pub mod ContentLemmas

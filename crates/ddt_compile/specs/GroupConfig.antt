@@ -1,6 +1,7 @@
 -- The configuration of a server group: its zones, and in each of them what is delegated or registered there
 -- (RFC 8111, section 4).
-use Rattle.std.specs.Prelude.{Bool, ◌&&◌, not, List, map}
+use Rattle.std.specs.Prelude.{ℕ, Bool, ◌&&◌, not, List, map, Option}
+use Rattle.std.specs.Option.{option_map}
 use Rattle.std.specs.List.{list_any, filter}
 use Rattle.ddt_path.specs.declared.record.Role.{Role}
 use Rattle.ddt_path.specs.declared.record.Role.TheVariants.{Node, Ms}
@@ -9,7 +10,7 @@ use Rattle.ddt_register.specs.declared.zone.Zone.{Zone}
 use Rattle.ddt_register.specs.declared.site.Site.{Site}
 use Rattle.ddt_register.specs.declared.group.Group.{Group}
 use Rattle.ddt_register.specs.declared.register.Register.{Register}
-use Rattle.ddt_check.specs.Zones.{is_served_by, is_site_in, locators_of}
+use Rattle.ddt_check.specs.Zones.{is_served_by, is_site_in, locators_of, group_named}
 use Rattle.ddt_config.specs.declared.config.Child.{Child}
 use Rattle.ddt_config.specs.declared.config.SiteEntry.{SiteEntry}
 use Rattle.ddt_config.specs.declared.config.Content.{Content}
@@ -51,3 +52,7 @@ authorities_of r g = map (authority_of r) (filter (is_served_by g) r.zones)
 
 abbrev pub group_config : Register → Group → Outline
 group_config r g = record { name = g.name; role = g.kind; locators = g.locators; authorities = authorities_of r g }
+
+-- the configuration of the group of a name, if a group has it
+abbrev pub config_named : Register → List ℕ → Option Outline
+config_named r name = option_map (group_config r) (group_named r name)

@@ -1,7 +1,7 @@
 use super::*;
 use ddt_check::check;
 use ddt_config::{ServerConfig, from_toml, to_toml};
-use ddt_path::Listed;
+use ddt_path::{Listed, Name};
 use ddt_register::read_register;
 use std::alloc::Global;
 use std::test::*;
@@ -179,5 +179,24 @@ fn sites_inside_sites_stand_side_by_side(rt: HostRuntime) -> Result<(), Fail> {
     };
     assert!(rt; is_that_of(alloc, ten, TEN)?);
     assert!(rt; is_that_of(alloc, east, NESTED_EAST)?);
+    Ok(())
+}
+
+#[test]
+fn one_group_is_compiled_alone(rt: HostRuntime) -> Result<(), Fail> {
+    let alloc = rt.alloc();
+    let Ok(register) = read_register(alloc, NESTED.as_bytes()) else {
+        return Err("no register".into());
+    };
+    let Ok(accepted) = check(register) else {
+        return Err("not accepted".into());
+    };
+    for (name, text) in [(b"east".as_slice(), NESTED_EAST), (b"ten".as_slice(), TEN)] {
+        let name = Name::of(name).ok_or("no name")?;
+        let config = compile_group(alloc, &accepted, name)?.ok_or("no group")?;
+        assert!(rt; is_that_of(alloc, &config, text)?);
+    }
+    let west = Name::of(b"west").ok_or("no name")?;
+    assert!(rt; compile_group(alloc, &accepted, west)?.is_none());
     Ok(())
 }

@@ -47,9 +47,11 @@ answer_in servers authority (Children cs) x =
     option_map_or referral_to (longest_match (λ c. c.prefix) cs x) (record_of (hole_in authority prefixes x))
 answer_in servers authority (Sites ss) x =
     let prefixes = map (λ s. s.prefix) ss in
-    record_of (option_map_or (site_outcome servers prefixes x) (longest_match (λ s. s.prefix) ss x) (hole_in authority prefixes x))
+    let site = longest_match (λ s. s.prefix) ss x in
+    record_of (option_map_or (site_outcome servers prefixes x) site (hole_in authority prefixes x))
 
 -- from the longest authority that covers the identifier
 abbrev pub answer : Outline → List ℕ → ReferralRecord
 answer c x =
-    option_map_or (λ a. answer_in c.locators a.prefix a.content x) (longest_match (λ a. a.prefix) c.authorities x) (not_authoritative x)
+    let authority = longest_match (λ a. a.prefix) c.authorities x in
+    option_map_or (λ a. answer_in c.locators a.prefix a.content x) authority (not_authoritative x)

@@ -77,7 +77,8 @@ impl<M: PrefixMap<u32>> Server<M> {
     #[tactic(auto, using(crate::proofs::AnswerLemmas::acknowledged))]
     pub fn handle(&self, alloc: Global, bytes: &[u8]) -> Result<Handled, AllocError>
         ensures handled { IfOk result (λ h. h ≡ handled_of self.now bytes.now) }
-        ensures replied { (m : Message) → IsDdtRequest bytes.now m → IfOk result (λ h. HasReply h.reply (reply_to self.now m)) }
+        ensures replied { (m : Message) → IsDdtRequest bytes.now m
+            → IfOk result (λ h. HasReply h.reply (reply_to self.now m)) }
         ensures acknowledged { IfOk result (λ h. is_some h.forward ≡ acknowledges self.now bytes.now) }
         ensures ignored { ddt_request_of bytes.now ≡ None → result ≡ Ok ignored_of }
     {

@@ -17,3 +17,6 @@ pub use answers::{AskError, Asked, Heard, Ignored, Outgoing, Ticked, Ticket, Why
 pub use ddt_cache::Moment;
 pub use pending::Pending;
 pub use resolver::{MOST_PENDING, Resolver};
+
+#[cfg(test)]
+mod tests;

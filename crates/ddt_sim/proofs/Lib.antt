@@ -1,2 +1,3 @@
 pub mod CompiledLemmas
 pub mod SoundLemmas
+pub mod WaitingLemmas

@@ -1,3 +1,4 @@
 pub mod Honest
 pub mod Compiled
 pub mod Sound
+pub mod Lookup

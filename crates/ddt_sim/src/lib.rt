@@ -4,9 +4,11 @@
 #![tactic(auto)]
 
 mod compiled;
+mod hop;
 mod laws;
 mod servers;
 
 pub use compiled::Compiled;
+pub use hop::{Hop, Lookup, LookupError};
 pub use laws::a_step_keeps_a_resolver_sound;
 pub use servers::Servers;

@@ -1,3 +1,4 @@
 pub mod CompiledLemmas
 pub mod SoundLemmas
 pub mod WaitingLemmas
+pub mod ReplyLemmas

@@ -20,17 +20,8 @@ use Rattle.ddt_resolver.specs.Act as acts
 use Rattle.ddt_resolver.specs.Act.{Act, HearStep}
 use Rattle.ddt_resolver.proofs.NumberMapLemmas.{get-insert_same}
 use Rattle.ddt_sim.specs.declared.hop.Hop.{Hop}
+use Rattle.ddt_sim.specs.Waiting.{Waits}
 use Rattle.ddt_sim.specs.Lookup.{Reaches, sent, followed, hop_of}
-
--- The lookup of x under the ticket t waits for the reply to the request d, which was just sent.
-pub record Waits (now : ℕ) (x : Xeid) (s : State) (t : ℕ) (d : Outgoing) : Type 0 where
-  pub lookup : Pending
-  pub is_pending : get s.pending t ≡ Some lookup
-  pub its_x : lookup.x ≡ x
-  pub to : d.to ≡ server s.me lookup
-  pub bytes : d.bytes ≡ request_bytes lookup.nonce x s.me
-  pub deadline : lookup.deadline ≡ s.known.time + 2000
-  pub time : now ≤ s.known.time
 
 -- at the time that a lookup has, the passing of time to `now` changes nothing of it
 pub waits_on : (now : ℕ) (x : Xeid) (s : State) (t : ℕ) (d : Outgoing) → Waits now x s t d → Waits now x (moved now s) t d

@@ -1,4 +1,5 @@
 pub mod Honest
 pub mod Compiled
 pub mod Sound
+pub mod Waiting
 pub mod Lookup

@@ -4,6 +4,7 @@
 #![tactic(auto)]
 
 mod compiled;
+mod following;
 mod hop;
 mod laws;
 mod servers;

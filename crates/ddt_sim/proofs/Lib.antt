@@ -2,3 +2,4 @@ pub mod CompiledLemmas
 pub mod SoundLemmas
 pub mod WaitingLemmas
 pub mod ReplyLemmas
+pub mod TurnLemmas

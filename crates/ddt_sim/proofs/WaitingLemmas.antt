@@ -24,7 +24,7 @@ use Rattle.ddt_sim.specs.Waiting.{Waits}
 use Rattle.ddt_sim.specs.Lookup.{Reaches, sent, followed, hop_of}
 
 -- at the time that a lookup has, the passing of time to `now` changes nothing of it
-pub waits_on : (now : ℕ) (x : Xeid) (s : State) (t : ℕ) (d : Outgoing) → Waits now x s t d → Waits now x (moved now s) t d
+abbrev pub waits_on : (now : ℕ) (x : Xeid) (s : State) (t : ℕ) (d : Outgoing) → Waits now x s t d → Waits now x (moved now s) t d
 waits_on now x s t d w =
     let same : max s.known.time now ≡ s.known.time = let le = w.time in omega arith in
     let later : now ≤ max s.known.time now = omega arith in

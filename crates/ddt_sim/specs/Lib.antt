@@ -3,3 +3,4 @@ pub mod Compiled
 pub mod Sound
 pub mod Waiting
 pub mod Lookup
+pub mod Headline

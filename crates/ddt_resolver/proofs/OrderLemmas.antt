@@ -11,10 +11,10 @@ use Rattle.ddt_resolver.proofs.NumberMapLemmas.{found_insert, found_remove, len_
 use Rattle.ddt_resolver.proofs.ShapeLemmas.{Move, stays, opens, sends, drops, IsMoved, moved_by_step}
 
 -- nonces apart
-abbrev Apart : FinMap nat_cmp Pending → Type 0
+abbrev pub Apart : FinMap nat_cmp Pending → Type 0
 Apart p = (t u : ℕ) (l m : Pending) → get p t ≡ Some l → get p u ≡ Some m → l.nonce ≡ m.nonce → t ≡ u
 
-apart_insert : (p : FinMap nat_cmp Pending) (v : ℕ) (new : Pending) → Apart p → ((t : ℕ) (l : Pending) → get p t ≡ Some l → l.nonce < new.nonce) → Apart (insert p v new)
+pub apart_insert : (p : FinMap nat_cmp Pending) (v : ℕ) (new : Pending) → Apart p → ((t : ℕ) (l : Pending) → get p t ≡ Some l → l.nonce < new.nonce) → Apart (insert p v new)
 apart_insert p v new apart below t u l m a b same =
     elim (found_insert p v new t l a) [
       | inl x ↦ elim (found_insert p v new u m b) [
@@ -36,8 +36,16 @@ module _ (s : State) (call : Call) (new : State) (a : Reply) (o : IsInOrder s) (
 
   ready : (l : Pending) → IsLookup l → IsLookup (numbered s l)
   ready l w = record {
-    identifier = w.identifier; place = w.place; few = w.few; saved = w.saved; kept = w.kept; kept_action = w.kept_action; kept_place = w.kept_place;
-    start = w.start; below_root = w.below_root; once = w.once;
+    identifier = w.identifier;
+    place = w.place;
+    few = w.few;
+    saved = w.saved;
+    kept = w.kept;
+    kept_action = w.kept_action;
+    kept_place = w.kept_place;
+    start = w.start;
+    below_root = w.below_root;
+    once = w.once;
   }
 
   placed : (t u : ℕ) (l k : Pending) → IsLookup l → u ≤ s.next → new.next ≡ s.next + 1 → (t ≡ u) × (numbered s l ≡ k) → IsWaiting new t k

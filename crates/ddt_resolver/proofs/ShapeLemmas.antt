@@ -124,23 +124,30 @@ module _ (s : State) (o : IsInOrder s) (x : Xeid) (id : IsTrue (is_path (xeid_pa
   opening_lookup found none =
       let f = found_servers found none in
       record {
-        identifier = id; place = f.0; few = f.1;
-        saved = λ q h. absurd (none-some _ h); kept = λ r h. absurd (none-some _ h); kept_action = λ r h. absurd (none-some _ h); kept_place = λ r h. absurd (none-some _ h);
-        start = λ q h. started_covers p (xeid_path x) q f.2 h; below_root = started_below p; once = λ h. cc h;
+        identifier = id;
+        place = f.0;
+        few = f.1;
+        saved = λ q h. absurd (none-some _ h);
+        kept = λ r h. absurd (none-some _ h);
+        kept_action = λ r h. absurd (none-some _ h);
+        kept_place = λ r h. absurd (none-some _ h);
+        start = λ q h. started_covers p (xeid_path x) q f.2 h;
+        below_root = started_below p;
+        once = λ h. cc h;
       }
 
 -- ---- a reply
 
 -- a record that isn't NOT-AUTHORITATIVE covers the identifier that it is about
-about_covers : (rec : ReferralRecord) (x : List ℕ) → IsAbout rec x → rec.action ≢ NotAuthoritative → IsTrue (covers rec.prefix x)
+pub about_covers : (rec : ReferralRecord) (x : List ℕ) → IsAbout rec x → rec.action ≢ NotAuthoritative → IsTrue (covers rec.prefix x)
 about_covers rec x (inl c) apart = c
 about_covers rec x (inr is) apart = absurd (apart is)
 
-referral_apart : (a : Action) → IsReferral a → a ≢ NotAuthoritative
+pub referral_apart : (a : Action) → IsReferral a → a ≢ NotAuthoritative
 referral_apart a (inl e) is = cc (e, is)
 referral_apart a (inr e) is = cc (e, is)
 
-few_servers : (s : State) (source : Locator) (bytes : List ℕ) (t : ℕ) (l : Pending) (rec : ReferralRecord) → IsTaken s source bytes t l rec → length rec.servers ≤ 8
+pub few_servers : (s : State) (source : Locator) (bytes : List ℕ) (t : ℕ) (l : Pending) (rec : ReferralRecord) → IsTaken s source bytes t l rec → length rec.servers ≤ 8
 few_servers s source bytes t l rec is =
     let told = is.in_time.from_server.reply.tells in
     subst (λ (r : ReferralRecord). length r.servers ≤ 8) told.same_record (let n : length (take 8 told.message.locators) ≡ min 8 (length told.message.locators) = length-take 8 told.message.locators in omega arith)
@@ -150,40 +157,74 @@ module _ (s : State) (o : IsInOrder s) (t : ℕ) (l : Pending) (here : get s.pen
   waiting = o.lookups t l here
 
   module _ (source : Locator) (bytes : List ℕ) (rec : ReferralRecord) (is : IsTaken s source bytes t l rec) where
-    referred_lookup : IsReferral rec.action → IsLookup (referred l rec)
+    pub referred_lookup : IsReferral rec.action → IsLookup (referred l rec)
     referred_lookup r = let w = waiting.lookup in record {
-      identifier = w.identifier; place = is.names_server r; few = few_servers s source bytes t l rec is;
+      identifier = w.identifier;
+      place = is.names_server r;
+      few = few_servers s source bytes t l rec is;
       saved = λ q h. subst (λ p. IsTrue (covers p (xeid_path l.x))) (same_Some _ _ h) (about_covers rec (xeid_path l.x) is.about (referral_apart rec.action r));
-      kept = λ q h. absurd (none-some _ h); kept_action = λ q h. absurd (none-some _ h); kept_place = λ q h. absurd (none-some _ h);
-      start = w.start; below_root = w.below_root; once = w.once;
+      kept = λ q h. absurd (none-some _ h);
+      kept_action = λ q h. absurd (none-some _ h);
+      kept_place = λ q h. absurd (none-some _ h);
+      start = w.start;
+      below_root = w.below_root;
+      once = w.once;
     }
 
-    passed_lookup : rec.action ≡ MsNotRegistered → l.place + 1 < length l.servers → IsLookup (passed_on l rec)
+    pub passed_lookup : rec.action ≡ MsNotRegistered → l.place + 1 < length l.servers → IsLookup (passed_on l rec)
     passed_lookup a more = let w = waiting.lookup in record {
-      identifier = w.identifier; place = more; few = w.few; saved = w.saved;
+      identifier = w.identifier;
+      place = more;
+      few = w.few;
+      saved = w.saved;
       kept = λ q h. subst (λ (r : ReferralRecord). IsTrue (covers r.prefix (xeid_path l.x))) (same_Some _ _ h) (about_covers rec (xeid_path l.x) is.about (λ no. cc (a, no)));
       kept_action = λ q h. subst (λ (r : ReferralRecord). r.action ≡ MsNotRegistered) (same_Some _ _ h) a;
       kept_place = λ q h. omega arith;
-      start = w.start; below_root = w.below_root; once = w.once;
+      start = w.start;
+      below_root = w.below_root;
+      once = w.once;
     }
 
-  restarted_lookup : IsLookup (started_over s l)
+  pub restarted_lookup : IsLookup (started_over s l)
   restarted_lookup = let w = waiting.lookup in record {
-    identifier = w.identifier; place = o.root; few = o.known.few;
-    saved = λ q h. absurd (none-some _ h); kept = λ q h. absurd (none-some _ h); kept_action = λ q h. absurd (none-some _ h); kept_place = λ q h. absurd (none-some _ h);
-    start = λ q h. absurd (none-some _ h); below_root = λ h. absurd (none-some _ h); once = λ _. refl;
+    identifier = w.identifier;
+    place = o.root;
+    few = o.known.few;
+    saved = λ q h. absurd (none-some _ h);
+    kept = λ q h. absurd (none-some _ h);
+    kept_action = λ q h. absurd (none-some _ h);
+    kept_place = λ q h. absurd (none-some _ h);
+    start = λ q h. absurd (none-some _ h);
+    below_root = λ h. absurd (none-some _ h);
+    once = λ _. refl;
   }
 
   again_lookup : IsLookup (tried_again l)
   again_lookup = let w = waiting.lookup in record {
-    identifier = w.identifier; place = w.place; few = w.few; saved = w.saved; kept = w.kept; kept_action = w.kept_action; kept_place = w.kept_place;
-    start = w.start; below_root = w.below_root; once = w.once;
+    identifier = w.identifier;
+    place = w.place;
+    few = w.few;
+    saved = w.saved;
+    kept = w.kept;
+    kept_action = w.kept_action;
+    kept_place = w.kept_place;
+    start = w.start;
+    below_root = w.below_root;
+    once = w.once;
   }
 
   next_lookup : l.place + 1 < length l.servers → IsLookup (at_next l)
   next_lookup more = let w = waiting.lookup in record {
-    identifier = w.identifier; place = more; few = w.few; saved = w.saved; kept = w.kept; kept_action = w.kept_action; kept_place = λ q h. omega arith;
-    start = w.start; below_root = w.below_root; once = w.once;
+    identifier = w.identifier;
+    place = more;
+    few = w.few;
+    saved = w.saved;
+    kept = w.kept;
+    kept_action = w.kept_action;
+    kept_place = λ q h. omega arith;
+    start = w.start;
+    below_root = w.below_root;
+    once = w.once;
   }
 
 -- ---- each case
@@ -200,7 +241,10 @@ module _ (s : State) (o : IsInOrder s) (call : Call) (new : State) (a : Reply) w
       by (ask.full none many e f) = staying e (rw (is, f) tt)
       by (ask.used_up none few end e f) = staying e (rw (is, f) tt)
       by (ask.opened free e f) = rw e (record {
-        time = refl; me = refl; roots = refl; known = o.known;
+        time = refl;
+        me = refl;
+        roots = refl;
+        known = o.known;
         move = opens (opening x step.entry.servers (start_at step.prefix)) called refl refl refl refl (opening_lookup s o x id step.prefix step.entry step.found free.unanswered) free.nonce free.few refl refl (is ∙ ap ToAsk f);
       })
 

@@ -7,3 +7,5 @@ pub mod TickStep
 pub mod Step
 pub mod Order
 pub mod Bound
+pub mod Table
+pub mod Acting

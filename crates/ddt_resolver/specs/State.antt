@@ -1,16 +1,20 @@
 -- A resolver's state, and how a step changes it (RFC 8111, section 7.3).
-use Rattle.std.specs.Prelude.{ℕ, ◌+◌, true, false, List, [], ◌∷◌, get_or, Option, None, Some}
+use Rattle.std.specs.Prelude.{ℕ, ◌+◌, Bool, true, false, List, [], ◌∷◌, get_or, Option, None, Some, refl}
+use Rattle.std.specs.Coded.{Coded, code_by, coded×, coded_ℕ}
 use Rattle.std.specs.Ordering.{nat_cmp}
-use Rattle.std.specs.FinMap.{FinMap, insert, remove}
+use Rattle.std.specs.FinMap.{FinMap, insert, remove, empty, code}
 use Rattle.ddt_path.specs.declared.locator.Locator.{Locator}
 use Rattle.ddt_path.specs.declared.xeid.Xeid.{Xeid}
 use Rattle.ddt_path.specs.declared.record.ReferralRecord.{ReferralRecord}
 use Rattle.ddt_ecm.specs.Written.{written}
-use Rattle.ddt_cache.specs.Live.{Known}
+use Rattle.ddt_cache.specs.declared.entry.Entry.{Entry}
+use Rattle.ddt_cache.specs.Live.{Known, known_code, nothing_known}
 use Rattle.ddt_cache.specs.Live as cache
 use Rattle.ddt_cache.specs.Saved as cache_saved
 use Rattle.ddt_resolver.specs.declared.answers.Outgoing.{Outgoing}
 use Rattle.ddt_resolver.specs.declared.pending.Pending.{Pending}
+use Rattle.ddt_resolver.specs.declared.sending.Change.{Change}
+use Rattle.ddt_resolver.specs.declared.sending.Change.TheVariants.{Keep, Save, Forget}
 
 -- what it remembers, with the time and the root's locators; its own address; the next nonce; the pending lookups by
 -- their tickets
@@ -19,6 +23,16 @@ pub record State : Type 0 where
   pub me : Locator
   pub next : ℕ
   pub pending : FinMap nat_cmp Pending
+
+-- how a compiled program may store it: as its parts
+abbrev pub state_code : Coded Entry → Coded Locator → Coded Pending → Coded State
+state_code entry locator pending =
+    code_by (Known × (Locator × (ℕ × FinMap nat_cmp Pending))) (coded× (known_code entry locator) (coded× locator (coded× coded_ℕ (code coded_ℕ pending))))
+    (λ s. (s.known, (s.me, (s.next, s.pending)))) (λ p. record { known = p.0; me = p.1.0; next = p.1.1.0; pending = p.1.1.1 }) (λ _. refl)
+
+-- a resolver that has heard nothing yet, at moment 0
+abbrev pub fresh : List Locator → Locator → ℕ → State
+fresh roots me_ seed = record { known = nothing_known roots; me = me_; next = seed; pending = empty }
 
 -- the value of the nonce counter at which nothing is sent any more
 abbrev pub last_nonce : ℕ
@@ -71,6 +85,15 @@ forgotten s p = record s { known = cache.forgotten s.known p }
 -- at the later of its time and `now`: what has ended is remembered no more, and nothing else changes
 abbrev pub moved : ℕ → State → State
 moved now s = record s { known = cache.moved now s.known }
+
+-- what a step does to what is remembered: nothing, a record is saved, or the entry of a prefix forgotten
+abbrev pub changed : Known → Change → Known
+changed k Keep = k
+changed k (Save rec) = cache_saved.stored_in k rec
+changed k (Forget p) = cache.forgotten k p
+
+abbrev pub with_change : State → Change → State
+with_change s change = record s { known = changed s.known change }
 
 -- a lookup at the first server of another set
 abbrev pub at_set : Pending → List Locator → Pending

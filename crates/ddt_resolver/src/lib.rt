@@ -1,8 +1,19 @@
-//! A resolver of RFC 8111, section 7.3, as a machine of steps: an ask, a datagram, a tick.
+//! A resolver of RFC 8111, section 7.3, as a machine of steps: an ask, a datagram, a tick. It sends nothing itself: each
+//! call answers what is to be sent, and learns the time from its caller.
+//!
+//! In reading order: `answers`, `pending`, `table`, `resolver`, `asking`, `refusing`, `acting`, `sending`.
 #![tactic(auto)]
 
+mod acting;
 mod answers;
+mod asking;
 mod pending;
+mod refusing;
+mod resolver;
+mod sending;
+mod table;
 
 pub use answers::{AskError, Asked, Heard, Ignored, Outgoing, Ticked, Ticket, Why};
+pub use ddt_cache::Moment;
 pub use pending::Pending;
+pub use resolver::{MOST_PENDING, Resolver};

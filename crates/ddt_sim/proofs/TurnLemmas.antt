@@ -56,7 +56,6 @@ module _ (r : Register) (now : ℕ) (x : Xeid) (s : State) (t : ℕ) (d : Outgoi
 
   module _ (keeps : StepsKeepSoundness) (time : TimeKeepsSoundness) (laws : RepliesAreRead r) (early : now ≤ last_moment)
       (reply : List ℕ) (spells : Spells reply (message_of u.waits.lookup.nonce (says r d.to (xeid_path x)))) (new : State) (h : Heard) (step : HearStep (moved now s) d.to reply new h) where
-
     order : IsInOrder (moved now s)
     order = order_moved s now early o
 

@@ -31,7 +31,7 @@ pub enum Turn {
 
 /// Sends a lookup's request to its server, and lets the resolver hear what comes back, which is one hop more. It gives
 /// up as NoReply where nothing comes back, or what comes is no reply to this lookup.
-pub(crate) fn turn<S: Servers, M: PrefixMap<Entry>>(
+pub(crate) fn exchange<S: Servers, M: PrefixMap<Entry>>(
     alloc: Global,
     servers: &mut S,
     resolver: &mut Resolver<M>,
@@ -83,9 +83,27 @@ fn own(ticket: Ticket, heard: Heard) -> Option<Result<Turn, Why>>
     ensures { MatchOption result (IsNotFor ticket heard) (λ own. heard ≡ heard_of ticket own) }
 {
     match heard {
-        Heard::Followed(of, next) if of.number() == ticket.number() => Some(Ok(Turn::GoesOn(next))),
-        Heard::Answer(of, outcome) if of.number() == ticket.number() => Some(Ok(Turn::Ends(outcome))),
-        Heard::GaveUp(of, why) if of.number() == ticket.number() => Some(Err(why)),
-        _ => None,
+        Heard::Followed(of, next) => {
+            if of.number() == ticket.number() {
+                Some(Ok(Turn::GoesOn(next)))
+            } else {
+                None
+            }
+        }
+        Heard::Answer(of, outcome) => {
+            if of.number() == ticket.number() {
+                Some(Ok(Turn::Ends(outcome)))
+            } else {
+                None
+            }
+        }
+        Heard::GaveUp(of, why) => {
+            if of.number() == ticket.number() {
+                Some(Err(why))
+            } else {
+                None
+            }
+        }
+        Heard::Ignored(_why) => None,
     }
 }

@@ -14,7 +14,7 @@ ghost use Rattle.ddt_sim.specs.Sound.{IsSound};
 ghost use Rattle.ddt_sim.specs.Lookup.{HasOutcome, Fails};
 ghost use Rattle.ddt_sim.specs.Headline.{IsRightError, most_hops};
 
-use crate::following::{Turn, turn};
+use crate::following::{Turn, exchange};
 use crate::hop::{Hop, Lookup, LookupError};
 use crate::servers::Servers;
 use ddt_cache::{Entry, Moment};
@@ -52,20 +52,35 @@ pub fn lookup<S: Servers, M: PrefixMap<Entry>>(
     ensures bound { IfOk result (λ l. length l.hops ≤ most_hops x) }
 {
     match resolver.ask(now, x) {
-        Ok(Asked::Answer(outcome)) => Ok(Lookup {
-            outcome,
-            hops: Listed::of(Vec::new(alloc)),
-        }),
-        Ok(Asked::Sent(ticket, request)) => {
-            let followed = follow(alloc, servers, resolver, now, ticket, request);
-            if followed.is_err() {
-                resolver.cancel(ticket);
-            }
-            followed
-        }
+        Ok(asked) => after_ask(alloc, servers, resolver, now, asked),
         Err(AskError::TooMany) => Err(LookupError::TooMany),
         Err(AskError::Exhausted) => Err(LookupError::GaveUp(Why::Exhausted)),
         Err(AskError::Memory) => Err(LookupError::Memory),
+    }
+}
+
+/// What comes of an ask: the remembered outcome, or that of the lookup that it opened.
+fn after_ask<S: Servers, M: PrefixMap<Entry>>(
+    alloc: Global,
+    servers: &mut S,
+    resolver: &mut Resolver<M>,
+    now: Moment,
+    asked: Asked,
+) -> Result<Lookup, LookupError> {
+    match asked {
+        Asked::Answer(outcome) => Ok(Lookup {
+            outcome,
+            hops: Listed::of(Vec::new(alloc)),
+        }),
+        Asked::Sent(ticket, request) => match follow(
+            alloc, servers, resolver, now, ticket, request,
+        ) {
+            Ok(lookup) => Ok(lookup),
+            Err(error) => {
+                resolver.cancel(ticket);
+                Err(error)
+            }
+        },
     }
 }
 
@@ -81,7 +96,7 @@ fn follow<S: Servers, M: PrefixMap<Entry>>(
     let mut hops: Vec<Hop> = Vec::new(alloc);
     let mut request = request;
     loop {
-        match turn(alloc, servers, resolver, now, ticket, request, &mut hops)? {
+        match exchange(alloc, servers, resolver, now, ticket, request, &mut hops)? {
             Turn::GoesOn(next) => request = next,
             Turn::Ends(outcome) => {
                 return Ok(Lookup {

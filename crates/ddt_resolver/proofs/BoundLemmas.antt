@@ -11,7 +11,7 @@ use Rattle.ddt_path.specs.declared.record.ReferralRecord.{ReferralRecord}
 use Rattle.ddt_path.specs.Path.{xeid_path, is_path}
 use Rattle.ddt_path.specs.Covers.{covers}
 use Rattle.ddt_path.proofs.CoverLemmas.{length-covered}
-use Rattle.ddt_wire.specs.Referral.{Message, Spells, record_of}
+use Rattle.ddt_wire.specs.Referral.{Message, Spells, message_record}
 use Rattle.ddt_wire.proofs.WrittenLaws.{one_message}
 use Rattle.ddt_resolver.specs.declared.pending.Pending.{Pending}
 use Rattle.ddt_resolver.specs.declared.answers.Outgoing.{Outgoing}
@@ -89,8 +89,8 @@ module _ (s : State) (o : IsInOrder s) (source : Locator) (bytes : List ℕ) (t 
   comes_nearer (act.used_up on none e f) = subst (ComesNearer s new) (sym f) tt
 
   -- what the bytes spell is what was taken
-  told_again : (v : Message) → Spells bytes v → record_of v ≡ rec
-  told_again v spells = let told = is.in_time.from_server.reply.tells in ap record_of (one_message bytes v told.message spells told.spells) ∙ told.same_record
+  told_again : (v : Message) → Spells bytes v → message_record v ≡ rec
+  told_again v spells = let told = is.in_time.from_server.reply.tells in ap message_record (one_message bytes v told.message spells told.spells) ∙ told.same_record
 
   down : (d : Outgoing) → (IsReferral rec.action → IsBelow l.saved rec.prefix) → h ≡ heard.Followed t d → GoesDown s bytes h
   down d below followed = subst (GoesDown s bytes) (sym followed) (λ m v found spells r.

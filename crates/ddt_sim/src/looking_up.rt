@@ -1,0 +1,109 @@
+//! A lookup, from an ask to its outcome, over servers that answer at once.
+
+ghost use Rattle.std.specs.Prelude.{◌≡◌, ◌≤◌, ℕ, List, length, Some, IsOk, IfOk, IfErr};
+ghost use Rattle.ddt_path.specs.declared.record.Outcome.{Outcome as AnOutcome};
+ghost use Rattle.ddt_path.specs.Path.{xeid_path};
+ghost use Rattle.ddt_register.specs.declared.register.Register.{Register};
+ghost use Rattle.ddt_check.specs.Rules.{IsAccepted};
+ghost use Rattle.ddt_check.specs.Assignment.{assignment};
+ghost use Rattle.ddt_cache.specs.declared.entry.Entry.{Entry as AnEntry};
+ghost use Rattle.ddt_cache.specs.Found.{IsFound};
+ghost use Rattle.ddt_resolver.specs.State.{moved};
+ghost use Rattle.ddt_resolver.specs.AskStep.{answer_of};
+ghost use Rattle.ddt_sim.specs.Sound.{IsSound};
+ghost use Rattle.ddt_sim.specs.Lookup.{HasOutcome, Fails};
+ghost use Rattle.ddt_sim.specs.Headline.{IsRightError, most_hops};
+
+use crate::following::{Turn, exchange};
+use crate::hop::{Hop, Lookup, LookupError};
+use crate::servers::Servers;
+use ddt_cache::{Entry, Moment};
+use ddt_path::{Listed, Xeid};
+use ddt_resolver::{AskError, Asked, Outgoing, Resolver, Ticket, Why};
+use ddt_trie::PrefixMap;
+use std::alloc::Global;
+
+/// Looks an identifier up at `now`: asks the resolver, and hands each of its requests to the servers and each reply back
+/// to it, until the outcome is there (RFC 8111, section 7.3). Where the outcome is remembered, no server is asked.
+///
+/// Refused as GaveUp: for want of a reply as soon as a server gives none, or one that is no reply to this lookup; where a
+/// reply makes the resolver give up; where no nonce is left. As TooMany where 1,024 lookups are pending. Fails as Memory
+/// only if out of memory. After an error its own lookup is no longer pending, and what was saved stays.
+pub fn lookup<S: Servers, M: PrefixMap<Entry>>(
+    alloc: Global,
+    servers: &mut S,
+    resolver: &mut Resolver<M>,
+    now: Moment,
+    x: Xeid,
+) -> Result<Lookup, LookupError>
+    // Over honest servers of an accepted register, and from a resolver that is sound for it, the outcome is what longest
+    // match over the register assigns.
+    ensures headline { (r : Register) → IsAccepted r → S.honest servers.old r → IsSound r resolver.old → IfOk result (λ l. l.outcome ≡ assignment r (xeid_path x)) }
+    // The resolver is sound afterwards, and the servers honest.
+    ensures sound { (r : Register) → IsAccepted r → S.honest servers.old r → IsSound r resolver.old → IsSound r resolver.new }
+    ensures stay { (r : Register) → S.honest servers.old r → S.honest servers.new r }
+    // It fails only for want of memory, of nonces, or of room among the pending lookups.
+    ensures errors { (r : Register) → IsAccepted r → S.honest servers.old r → IsSound r resolver.old → IfErr result (IsRightError resolver.old resolver.new) }
+    // A remembered answer is never refused.
+    ensures remembered { (p : List ℕ) (e : AnEntry) (o : AnOutcome) → IsFound (moved now resolver.old).known (xeid_path x) p e → answer_of p e ≡ Some o → IsOk result }
+    // Whatever the servers say: the steps that it took, and how many requests.
+    ensures steps { IfOk result (λ l. HasOutcome now x resolver.old l.outcome l.hops resolver.new) }
+    ensures failed { IfErr result (λ error. Fails now x resolver.old error resolver.new) }
+    ensures bound { IfOk result (λ l. length l.hops ≤ most_hops x) }
+{
+    match resolver.ask(now, x) {
+        Ok(asked) => after_ask(alloc, servers, resolver, now, asked),
+        Err(AskError::TooMany) => Err(LookupError::TooMany),
+        Err(AskError::Exhausted) => Err(LookupError::GaveUp(Why::Exhausted)),
+        Err(AskError::Memory) => Err(LookupError::Memory),
+    }
+}
+
+/// What comes of an ask: the remembered outcome, or that of the lookup that it opened.
+fn after_ask<S: Servers, M: PrefixMap<Entry>>(
+    alloc: Global,
+    servers: &mut S,
+    resolver: &mut Resolver<M>,
+    now: Moment,
+    asked: Asked,
+) -> Result<Lookup, LookupError> {
+    match asked {
+        Asked::Answer(outcome) => Ok(Lookup {
+            outcome,
+            hops: Listed::of(Vec::new(alloc)),
+        }),
+        Asked::Sent(ticket, request) => match follow(
+            alloc, servers, resolver, now, ticket, request,
+        ) {
+            Ok(lookup) => Ok(lookup),
+            Err(error) => {
+                resolver.cancel(ticket);
+                Err(error)
+            }
+        },
+    }
+}
+
+/// Follows the replies of a lookup until it ends.
+fn follow<S: Servers, M: PrefixMap<Entry>>(
+    alloc: Global,
+    servers: &mut S,
+    resolver: &mut Resolver<M>,
+    now: Moment,
+    ticket: Ticket,
+    request: Outgoing,
+) -> Result<Lookup, LookupError> {
+    let mut hops: Vec<Hop> = Vec::new(alloc);
+    let mut request = request;
+    loop {
+        match exchange(alloc, servers, resolver, now, ticket, request, &mut hops)? {
+            Turn::GoesOn(next) => request = next,
+            Turn::Ends(outcome) => {
+                return Ok(Lookup {
+                    outcome,
+                    hops: Listed::of(hops),
+                });
+            }
+        }
+    }
+}

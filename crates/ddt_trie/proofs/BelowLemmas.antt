@@ -99,6 +99,7 @@ free_below_alone m n p x v none is inside =
           | inl a ↦ a.0
           | inr a ↦ absurd (none-some w (sym (get-empty path_cmp k) ∙ ap (λ (l : FinMap path_cmp _). get l k) (sym none) ∙ a))
         ]
+
     not_below_itself : (a b : Bool) → ((a && not a) && b) ≡ false
     not_below_itself true b = refl
     not_below_itself false b = refl

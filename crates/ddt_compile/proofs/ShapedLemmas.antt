@@ -25,7 +25,7 @@ use Rattle.ddt_check.specs.Zones.{is_site_in, is_served_by}
 use Rattle.ddt_path.proofs.MemberLemmas.{IsIn, in_filter, fails_at, all_kept, found_in}
 use Rattle.ddt_path.proofs.FrontLemmas.{one_path}
 use Rattle.ddt_register.proofs.RisingLemmas.{rule_kept, zones_rise, sites_rise}
-use Rattle.ddt_check.proofs.KeptLemmas.{own_prefix, own_site_prefix, few_etrs, role_of_zone}
+use Rattle.ddt_check.proofs.KeptLemmas.{own_prefix, own_site, few_etrs, role_of_zone}
 use Rattle.ddt_compile.proofs.NoTwoLemmas.{no_two_kept}
 
 -- locators
@@ -98,7 +98,7 @@ content_shaped r accepted z Ms =
     rw (
       all_kept entry_of (is_site_of z.prefix) (is_site_in z) r.sites (sites_inside r accepted z),
       no_two_kept (λ (s : Site). s.row) entry_of (λ a b. is_same_path a.prefix b.prefix) (is_site_in z) r.sites (sites_rise r)
-          (λ a b j k lt. own_site_prefix r accepted a b (in_filter (is_site_in z) r.sites a j).0 (in_filter (is_site_in z) r.sites b k).0 lt),
+          (λ a b j k lt. own_site r accepted a b (in_filter (is_site_in z) r.sites a j).0 (in_filter (is_site_in z) r.sites b k).0 lt),
     ) refl
 
 authority_shaped : (r : Register) → IsAccepted r → (g : Group) → IsIn g r.groups → (z : Zone) → IsIn z r.zones → is_served_by g z ≡ true → is_authority_of g.kind (authority_of r z) ≡ true

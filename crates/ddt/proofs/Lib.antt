@@ -1,4 +1,3 @@
-pub mod LineLemmas
-pub mod TellLemmas
-pub mod WordLemmas
 pub mod ConfigLemmas
+pub mod OverLemmas
+pub mod RunLemmas

@@ -1,5 +1,5 @@
 -- What the program answers for a group and an identifier: the bytes of the Map-Referral for nonce 1 (RFC 8111, section 6.4).
-use Rattle.std.specs.Prelude.{ℕ, ◌≡◌, List, [], ◌∷◌, Option, Some, option_map}
+use Rattle.std.specs.Prelude.{ℕ, ◌≡◌, List, [], ◌∷◌, Option, Some, option_map, Ok}
 use Rattle.ddt_path.specs.declared.locator.Locator.{Locator}
 use Rattle.ddt_path.specs.declared.locator.Locator.TheVariants.{V4}
 use Rattle.ddt_register.specs.declared.register.Register.{Register}
@@ -11,6 +11,13 @@ use Rattle.ddt_config.specs.Table.{outline}
 use Rattle.ddt_compile.specs.GroupConfig.{group_config}
 use Rattle.ddt_compile.specs.Laws.{IsHonestConfig, HasRoom}
 use Rattle.ddt_wire.specs.Referral.{written}
+use Rattle.hex.specs.Hex.{encode_lower}
+use Rattle.ddt_path.specs.declared.xeid.Xeid.{Xeid}
+use Rattle.ddt_path.specs.Path.{xeid_path}
+use Rattle.ddt_lines.specs.Lines.{ended}
+use Rattle.ddt_words.specs.Call.{Call}
+use Rattle.ddt.specs.Assign.{xeid_of}
+use Rattle.ddt.specs.Compile.{group_of}
 
 -- The first locator of a group. An accepted register has no group without one; this gives 0.0.0.0 there.
 abbrev pub first_locator : List Locator → Locator
@@ -25,3 +32,9 @@ group_answer r name x = option_map (λ g. written 1 (says r (first_locator g.loc
 abbrev pub IsConfigOfGroup : Register → List ℕ → ServerConfig → Type 0
 IsConfigOfGroup r name c =
     (g : Group) × (group_named r name ≡ Some g) × (outline c ≡ group_config r g) × IsHonestConfig r (outline c) × HasRoom (outline c)
+
+-- `answer REGISTER GROUP XEID`: that answer in hexadecimal, and a line feed
+abbrev pub IsAnswerText : Call → Register → List ℕ → Type 0
+IsAnswerText call r text =
+    (x : Xeid) × (xeid_of call ≡ Ok x)
+    × (option_map (λ bytes. ended (encode_lower bytes)) (group_answer r (group_of call) (xeid_path x)) ≡ Some text)

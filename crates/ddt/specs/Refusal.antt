@@ -1,17 +1,47 @@
--- The text of a refusal; None for the five that show a fault, whose text is the fault's own.
-use Rattle.std.specs.Prelude.{ℕ, List, ◌++◌, Option, None, Some, codes}
+-- The text of a refusal; None for those that show a fault, whose text is the fault's own.
+use Rattle.std.specs.Prelude.{ℕ, ◌≡◌, ◌⊎◌, List, ◌++◌, Option, None, Some, codes, IfSome}
+use Rattle.std.specs.Io.KnownBytes.{Appends}
+use Rattle.ddt_lines.specs.Lines.{ended}
+use Rattle.ddt_lines.specs.Printing.{AppendsFront}
+use Rattle.ddt_register.specs.declared.fault.ReadFault.{ReadFault}
+use Rattle.ddt_register.specs.declared.fault.ReadFault.TheVariants.{Memory, Read}
 use Rattle.ddt.specs.declared.refusal.Refusal.{Refusal}
-use Rattle.ddt.specs.declared.refusal.Refusal.TheVariants.{BadIdentifier, CannotOpen, Unreadable, CannotRead, BreaksRule, NoSuchGroup, NotHex, UnknownMessage, NoReferral, NoRequest, OutOfMemory}
+use Rattle.ddt.specs.declared.refusal.Refusal.TheVariants.{BadWord, NoRegister, NoMessage, OutOfMemory}
+use Rattle.ddt.specs.declared.refusal.word.WordRefusal.{WordRefusal}
+use Rattle.ddt.specs.declared.refusal.register.RegisterRefusal.{RegisterRefusal}
+use Rattle.ddt.specs.declared.refusal.register.RegisterRefusal.TheVariants.{CannotOpen, Unreadable, CannotRead, BreaksRule, NoSuchGroup}
+use Rattle.ddt.specs.declared.refusal.message.MessageRefusal.{MessageRefusal}
+use Rattle.ddt.specs.declared.refusal.message.MessageRefusal.TheVariants.{NotHex, UnknownMessage, NoReferral, NoRequest}
+
+abbrev pub register_refusal_text : RegisterRefusal → Option (List ℕ)
+register_refusal_text (CannotOpen path) = Some (codes "cannot open " ++ path.now)
+register_refusal_text (Unreadable fault) = None
+register_refusal_text CannotRead = Some (codes "unreadable 8 Read")
+register_refusal_text (BreaksRule fault) = None
+register_refusal_text NoSuchGroup = Some (codes "no such group")
+
+abbrev pub message_refusal_text : MessageRefusal → Option (List ℕ)
+message_refusal_text NotHex = Some (codes "refused hex")
+message_refusal_text UnknownMessage = Some (codes "refused unknown message")
+message_refusal_text (NoReferral fault) = None
+message_refusal_text (NoRequest fault) = None
 
 abbrev pub refusal_text : Refusal → Option (List ℕ)
-refusal_text (BadIdentifier fault) = None
-refusal_text (CannotOpen path) = Some (codes "cannot open " ++ path.now)
-refusal_text (Unreadable fault) = None
-refusal_text CannotRead = Some (codes "unreadable 8 Read")
-refusal_text (BreaksRule fault) = None
-refusal_text NoSuchGroup = Some (codes "no such group")
-refusal_text NotHex = Some (codes "refused hex")
-refusal_text UnknownMessage = Some (codes "refused unknown message")
-refusal_text (NoReferral fault) = None
-refusal_text (NoRequest fault) = None
+refusal_text (BadWord why) = None
+refusal_text (NoRegister why) = register_refusal_text why
+refusal_text (NoMessage why) = message_refusal_text why
 refusal_text OutOfMemory = Some (codes "out of memory")
+
+-- what is refused where reading a register ends in this fault
+abbrev pub reading_refusal : ReadFault → Refusal
+reading_refusal Memory = OutOfMemory
+reading_refusal Read = NoRegister CannotRead
+reading_refusal fault = NoRegister (Unreadable fault)
+
+-- The text is the refusal's line. Of a refusal whose text hangs on a fault's own this says nothing.
+abbrev pub IsLineOf : Refusal → List ℕ → Type 0
+IsLineOf why text = IfSome (refusal_text why) (λ line. text ≡ ended line)
+
+-- the refusal's line, or that of want of memory where none is left for it
+abbrev pub IsTold : Refusal → List ℕ → Type 0
+IsTold why text = IsLineOf why text ⊎ (text ≡ ended (codes "out of memory"))

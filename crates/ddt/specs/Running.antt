@@ -1,27 +1,56 @@
--- What running a command prints, and why it refuses, over the file that its path opens.
-use Rattle.std.specs.Prelude.{ℕ, List, Option}
+-- What the words of a process print.
+use Rattle.std.specs.Prelude.{ℕ, ◌≡◌, ◌⊎◌, List, Option}
+use Rattle.ddt_words.specs.Call.{Call, Calls}
+use Rattle.ddt.specs.declared.commands.Command.{Command}
 use Rattle.ddt.specs.declared.refusal.Refusal.{Refusal}
-use Rattle.ddt.specs.declared.words.Command.{Command}
-use Rattle.ddt.specs.declared.words.Command.TheVariants.{Answer, Assign, Check, Compile, Show}
-use Rattle.ddt.specs.Commands.{Ended, IsAnswerLine, IsAssignLine, IsCheckLine, IsConfigText, IsShowLine, IsPrinted, IsPrintedOf}
-use Rattle.ddt.specs.Why.{IsWhyNotAccepted, IsWhyNoGroup, IsWhyNoOutcome, IsWhyNoAnswer, IsWhyNotShown}
+use Rattle.ddt.specs.declared.refusal.Refusal.TheVariants.{OutOfMemory}
+use Rattle.ddt.specs.Commands.{IsTextOf, IsWhyOf, command_list, name_of}
+use Rattle.ddt.specs.Telling.{Tells, TellsFront}
+use Rattle.ddt_lines.specs.Printing.{AppendsFront}
+use Rattle.std.specs.Io.KnownBytes.{Appends}
+use Rattle.ddt.specs.declared.status.Status.{Status}
+use Rattle.ddt.specs.declared.status.Status.TheVariants.{Answered, Refused, BadWords, Unprinted}
 
--- opening the path may give this source, None where it can't be opened; and of it this is so
-abbrev pub OpensTo : {F : Type 0} → (List ℕ → Option F → Type 0) → List ℕ → (Option F → Type 0) → Type 0
-OpensTo opens path is_so = (source : Option _) × opens path source × is_so source
+-- the words call this command
+abbrev pub CallsFor : List (List ℕ) → Command → Call → Type 0
+CallsFor words command call = Calls command_list words call × (call.0 ≡ name_of command)
 
--- what a command printed, from what a writer had to what it has; `show` reads no file
-abbrev pub HasPrinted : {F : Type 0} → (List ℕ → Option F → Type 0) → (F → Option (List ℕ)) → Command → Option (List ℕ) → Option (List ℕ) → Type 0
-HasPrinted opens remaining (Answer register group xeid) old new = OpensTo opens register.now (λ s. IsPrintedOf remaining s (λ bytes. Ended (IsAnswerLine bytes group.now xeid.now)) old new)
-HasPrinted opens remaining (Assign register xeid) old new = OpensTo opens register.now (λ s. IsPrintedOf remaining s (λ bytes. Ended (IsAssignLine bytes xeid.now)) old new)
-HasPrinted opens remaining (Check register) old new = OpensTo opens register.now (λ s. IsPrintedOf remaining s (λ bytes. Ended (IsCheckLine bytes)) old new)
-HasPrinted opens remaining (Compile register group) old new = OpensTo opens register.now (λ s. IsPrintedOf remaining s (λ bytes. IsConfigText bytes group.now) old new)
-HasPrinted opens remaining (Show hex) old new = IsPrinted (Ended (IsShowLine hex.now)) old new
+-- the words call no command
+abbrev pub CallNone : List (List ℕ) → Type 0
+CallNone words = (command : Command) (call : Call) → CallsFor words command call → ⊥
 
--- why a command refused
-abbrev pub IsWhyRefused : {F : Type 0} → (List ℕ → Option F → Type 0) → (F → Option (List ℕ)) → Command → Refusal → Type 0
-IsWhyRefused opens remaining (Answer register group xeid) why = OpensTo opens register.now (λ s. IsWhyNoAnswer remaining s register.now group.now xeid.now why)
-IsWhyRefused opens remaining (Assign register xeid) why = OpensTo opens register.now (λ s. IsWhyNoOutcome remaining s register.now xeid.now why)
-IsWhyRefused opens remaining (Check register) why = OpensTo opens register.now (λ s. IsWhyNotAccepted remaining s register.now why)
-IsWhyRefused opens remaining (Compile register group) why = OpensTo opens register.now (λ s. IsWhyNoGroup remaining s register.now group.now why)
-IsWhyRefused opens remaining (Show hex) why = IsWhyNotShown hex.now why
+-- the text that the words call for
+abbrev pub IsAnswer : {F : Type 0} → (List ℕ → Option F → Type 0) → (F → Option (List ℕ)) → List (List ℕ)
+    → List ℕ → Type 0
+IsAnswer opens remaining words text =
+    (command : Command) × ((call : Call) × CallsFor words command call × IsTextOf opens remaining command call text)
+
+-- why the command that the words call refuses; memory may be wanted at any time
+abbrev pub IsWhyRefused : {F : Type 0} → (List ℕ → Option F → Type 0) → (F → Option (List ℕ)) → List (List ℕ)
+    → Refusal → Type 0
+IsWhyRefused opens remaining words why =
+    (why ≡ OutOfMemory)
+    ⊎ ((command : Command) × ((call : Call) × CallsFor words command call × IsWhyOf opens remaining command call why))
+
+-- a text of this kind was appended to what a writer had
+abbrev pub HasText : (List ℕ → Type 0) → Option (List ℕ) → Option (List ℕ) → Type 0
+HasText is_text old new = (text : List ℕ) × is_text text × Appends old new text
+
+-- a refusal of this kind was told behind what a writer had
+abbrev pub HasRefused : (Refusal → Type 0) → Option (List ℕ) → Option (List ℕ) → Type 0
+HasRefused is_why old new = (why : Refusal) × is_why why × Tells why old new
+
+-- the output has a front of such a text, or the error stream a front of such a refusal's line
+abbrev pub HasPartOf : (List ℕ → Type 0) → (Refusal → Type 0) → Option (List ℕ) → Option (List ℕ) → Option (List ℕ)
+    → Option (List ℕ) → Type 0
+HasPartOf is_text is_why out out_new err err_new =
+    ((text : List ℕ) × is_text text × AppendsFront out out_new text)
+    ⊎ ((why : Refusal) × is_why why × TellsFront why err err_new)
+
+-- An answer leaves the error stream as it was, a refusal and bad words leave the output, and an end without a line leaves
+-- one of them.
+abbrev pub StayApart : Status → Type 0 → Type 0 → Type 0
+StayApart Answered same_out same_err = same_err
+StayApart Refused same_out same_err = same_out
+StayApart BadWords same_out same_err = same_out
+StayApart Unprinted same_out same_err = same_out ⊎ same_err

@@ -45,7 +45,8 @@ fn config_of_group(
     accepted: &Accepted,
     group: Name,
 ) -> Result<Option<ServerConfig>, AllocError>
-    ensures { IfOk result (λ found. MatchOption found (group_named accepted.now group ≡ None) (λ c. IsConfigOfGroup accepted.now group c)) }
+    ensures { IfOk result (λ found.
+        MatchOption found (group_named accepted.now group ≡ None) (λ c. IsConfigOfGroup accepted.now group c)) }
 {
     let configs = compile(alloc, accepted)?;
     Ok(take_named(configs.into_vec(), group))
@@ -80,7 +81,8 @@ pub fn answer_hex(
     group: Name,
     x: Xeid,
 ) -> Result<Option<String>, AllocError>
-    ensures { IfOk result (λ answer. option_map string_bytes answer ≡ option_map encode_lower (group_answer accepted.now group (xeid_path x))) }
+    ensures { IfOk result (λ answer. option_map string_bytes answer
+        ≡ option_map encode_lower (group_answer accepted.now group (xeid_path x))) }
 {
     match answer_group(alloc, accepted, group, x)? {
         Some(bytes) => Ok(Some(hex::encode(alloc, bytes)?)),

@@ -1,8 +1,87 @@
-//! The commands: each is a function over an opened source and two writers, which answers how it ended.
+//! The list of commands. Each is a file of its own.
 
-pub mod answer;
-pub mod assign;
-pub mod check;
-pub mod compile;
-pub mod inputs;
-pub mod show;
+mod answer;
+mod assign;
+mod check;
+mod compile;
+mod show;
+
+ghost use Rattle.std.specs.Prelude.{◌≡◌, ◌≢◌, IfErr, IfOk, MatchOption};
+ghost use Rattle.std.specs.Fn.{FnOnceReturnsAt};
+ghost use Rattle.ddt_words.specs.Call.{call_of};
+ghost use Rattle.ddt_words.specs.Line.{line};
+ghost use Rattle.ddt.specs.declared.commands.Command.{Command as ACommand};
+ghost use Rattle.ddt.specs.Commands.{IsTextOf, IsWhyOf, name_of, program_line};
+
+use crate::over::text_over;
+use crate::refusal::Refusal;
+use answer::Answer;
+use assign::Assign;
+use check::Check;
+use compile::Compile;
+use ddt_words::{Declaration, Words};
+use std::alloc::Global;
+use std::io::Read;
+
+/// What each command takes.
+pub fn command_list() -> &'static [Declaration<'static>]
+    ensures { line result.now ≡ program_line }
+{
+    &[
+        answer::WORDS,
+        assign::WORDS,
+        check::WORDS,
+        compile::WORDS,
+        show::WORDS,
+    ]
+}
+
+/// A command.
+#[derive(Clone, Copy, Debug, PartialEq, Eq)]
+pub enum Command {
+    Answer,
+    Assign,
+    Check,
+    Compile,
+    Show,
+}
+
+impl Command {
+    /// The command of this name.
+    pub fn of(name: &str) -> Option<Command>
+        ensures { MatchOption result ((c : ACommand) → name_of c ≢ name.now) (λ c. name_of c ≡ name.now) }
+    {
+        match name {
+            "answer" => Some(Command::Answer),
+            "assign" => Some(Command::Assign),
+            "check" => Some(Command::Check),
+            "compile" => Some(Command::Compile),
+            "show" => Some(Command::Show),
+            _ => None,
+        }
+    }
+}
+
+/// The text that a command answers, or why it refuses. `open_file` gives a file, or None where it can't be opened.
+pub fn text_of<'a, F, O>(
+    alloc: Global,
+    command: Command,
+    words: &Words<'a>,
+    open_file: O,
+) -> Result<Vec<u8>, Refusal<'a>>
+where
+    F: Read + Drop,
+    O: FnOnce(&str) -> Option<F> + Drop,
+    requires { O.IsAlwaysCallable open_file }
+    ensures text { IfOk result (λ text. IsTextOf (FnOnceReturnsAt O.FnOnce open_file) F.remaining
+        command (call_of words.now) text.items) }
+    ensures refused { IfErr result (IsWhyOf (FnOnceReturnsAt O.FnOnce open_file) F.remaining command (call_of words.now)) }
+{
+    match command {
+        Command::Answer => text_over::<Answer<'a>, F, O>(alloc, words, open_file),
+        Command::Assign => text_over::<Assign, F, O>(alloc, words, open_file),
+        Command::Check => text_over::<Check, F, O>(alloc, words, open_file),
+        Command::Compile => text_over::<Compile<'a>, F, O>(alloc, words, open_file),
+        Command::Show => show::text(alloc, words),
+    }
+}

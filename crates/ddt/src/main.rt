@@ -1,24 +1,25 @@
 //! The program: one command over a register, its words, and what it prints.
 //!
-//! In reading order: `words`, `running`, `commands`, `answering`, `lines`, `refusal`, `status`.
+//! In reading order: `running`, `commands` (the list), `over` (commands over a register), `commands/*`, `answering`,
+//! `telling`, `refusal`, `status`.
 #![tactic(auto)]
 
 mod answering;
 mod commands;
-mod lines;
+mod over;
 mod refusal;
 mod running;
 mod status;
+mod telling;
 #[cfg(test)]
 mod tests;
-mod words;
 
-use lines::refuse;
 use refusal::Refusal;
-use running::{run, show_usage};
+use running::run;
 use std::io::ErrorKind;
 use std::process::ExitCode;
 use std::{env, fs, io};
+use telling::{refuse, show_usage};
 
 fn main(rt: HostRuntime) -> ExitCode {
     let (mut out, mut err) = (rt.stdout(), rt.stderr());
@@ -31,7 +32,7 @@ fn main(rt: HostRuntime) -> ExitCode {
             &mut err,
         ),
         Err(error) if error.kind() == ErrorKind::OutOfMemory => {
-            refuse(&Refusal::OutOfMemory, &mut err)
+            refuse(rt.alloc(), &Refusal::OutOfMemory, &mut err)
         }
         // Words that are no text fit no command.
         Err(_) => show_usage(&mut err),

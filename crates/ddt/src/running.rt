@@ -1,32 +1,26 @@
-//! From the words of the process to the command that they spell.
+//! From the words of the process to the command that they call, and its end.
 
-ghost use Rattle.std.specs.Prelude.{◌≡◌, ◌≢◌, ◌⊎◌, ◌↔◌, map, string_bytes};
+ghost use Rattle.std.specs.Prelude.{◌≡◌, ◌≢◌, ◌⊎◌, map, string_bytes};
 ghost use Rattle.std.specs.Fn.{FnOnceReturnsAt};
-ghost use Rattle.ddt.specs.declared.status.Status.TheVariants.{Answered as IsAnswered, Refused as IsRefused, BadWords as IsBadWords};
-ghost use Rattle.ddt.specs.declared.refusal.Refusal.{Refusal};
-ghost use Rattle.ddt.specs.declared.words.Command.{Command as ACommand};
-ghost use Rattle.ddt.specs.Words.{AreBad, AreWordsOf};
-ghost use Rattle.ddt.specs.Running.{HasPrinted, IsWhyRefused};
-ghost use Rattle.ddt.specs.Why.{IsToldAlone};
+ghost use Rattle.ddt_words.specs.Call.{call_of};
+ghost use Rattle.ddt.specs.declared.status.Status.TheVariants.{
+  Answered as IsAnswered,
+  Refused as IsRefused,
+  BadWords as IsBadWords,
+  Unprinted as IsUnprinted,
+};
+ghost use Rattle.ddt.specs.Commands.{IsTextOf, IsWhyOf};
+ghost use Rattle.ddt.specs.Running.{CallNone, HasPartOf, HasRefused, HasText, IsAnswer, IsWhyRefused, StayApart};
 
-use crate::commands::answer::{AnswerWords, answer};
-use crate::commands::assign::{AssignWords, assign};
-use crate::commands::check::check;
-use crate::commands::compile::{CompileWords, compile};
-use crate::commands::show::show;
+use crate::commands::{Command, command_list, text_of};
+use crate::refusal::Refusal;
 use crate::status::Status;
-use crate::words::{Command, read_words};
+use crate::telling::{answer, refuse, show_usage};
+use ddt_words::{Words, WordsFault, read_words};
 use std::alloc::Global;
 use std::io::{Read, Write};
 
-const USAGE: &str = "usage: ddt answer REGISTER GROUP XEID
-       ddt assign REGISTER XEID
-       ddt check REGISTER
-       ddt compile REGISTER GROUP
-       ddt show HEX
-";
-
-/// Runs the command that the words spell, of which the first is the program's name. `open_file` gives a file, or None
+/// Runs the command that the words call, of which the first is the program's name. `open_file` gives a file, or None
 /// where it can't be opened. Words that fit no command end with status 2 and the usage on `err`.
 pub fn run<F, O, W, E>(
     alloc: Global,
@@ -41,32 +35,35 @@ where
     W: Write,
     E: Write,
     requires { O.IsAlwaysCallable open_file }
-    ensures bad { (result ≡ IsBadWords) ↔ AreBad (map string_bytes words.now) }
-    // It's the command of these words that answered, or refused.
-    ensures answered { result ≡ IsAnswered → (command : ACommand) × AreWordsOf command (map string_bytes words.now) × HasPrinted (FnOnceReturnsAt O.FnOnce open_file) F.remaining command (W.contents out.old) (W.contents out.new) }
-    ensures refused { result ≡ IsRefused → (command : ACommand) × AreWordsOf command (map string_bytes words.now) × (why : Refusal) × IsWhyRefused (FnOnceReturnsAt O.FnOnce open_file) F.remaining command why × IsToldAlone E.contents why out.old out.new err.old err.new }
-    ensures streams { ((result ≢ IsBadWords) × (err.new ≡ err.old)) ⊎ ((result ≢ IsAnswered) × (out.new ≡ out.old)) }
+    ensures bad { result ≡ IsBadWords → CallNone (map string_bytes words.now) }
+    ensures answered { result ≡ IsAnswered → HasText (IsAnswer (FnOnceReturnsAt O.FnOnce open_file) F.remaining
+        (map string_bytes words.now)) (W.contents out.old) (W.contents out.new) }
+    ensures refused { result ≡ IsRefused → HasRefused (IsWhyRefused (FnOnceReturnsAt O.FnOnce open_file) F.remaining
+        (map string_bytes words.now)) (E.contents err.old) (E.contents err.new) }
+    // Where a writer failed, it has a front of what it was to have.
+    ensures unprinted { result ≡ IsUnprinted → HasPartOf
+        (IsAnswer (FnOnceReturnsAt O.FnOnce open_file) F.remaining
+        (map string_bytes words.now))
+        (IsWhyRefused (FnOnceReturnsAt O.FnOnce open_file) F.remaining
+        (map string_bytes words.now))
+        (W.contents out.old) (W.contents out.new) (E.contents err.old) (E.contents err.new) }
+    ensures streams { StayApart result (out.new ≡ out.old) (err.new ≡ err.old) }
 {
-    match words {
-        [_, words @ ..] => match read_words(words) {
-            Some(command) => run_command(alloc, command, open_file, out, err),
+    match read_words(alloc, command_list(), words) {
+        Ok(words) => match Command::of(words.command()) {
+            Some(command) => run_command(alloc, command, &words, open_file, out, err),
             None => show_usage(err),
         },
-        [] => show_usage(err),
+        Err(WordsFault::Bad) => show_usage(err),
+        Err(WordsFault::Memory) => refuse(alloc, &Refusal::OutOfMemory, err),
     }
 }
 
-/// Shows the commands on `err`: the words fit none.
-pub fn show_usage<E: Write>(err: &mut E) -> Status
-    ensures { result ≡ IsBadWords }
-{
-    let _ = err.write_all(USAGE.as_bytes());
-    Status::BadWords
-}
-
+/// Runs a command: prints its text, or tells why it refuses.
 fn run_command<F, O, W, E>(
     alloc: Global,
-    command: Command<'_>,
+    command: Command,
+    words: &Words<'_>,
     open_file: O,
     out: &mut W,
     err: &mut E,
@@ -78,32 +75,18 @@ where
     E: Write,
     requires { O.IsAlwaysCallable open_file }
     ensures fits { result ≢ IsBadWords }
-    ensures answered { result ≡ IsAnswered → HasPrinted (FnOnceReturnsAt O.FnOnce open_file) F.remaining command.entry (W.contents out.old) (W.contents out.new) }
-    ensures refused { result ≡ IsRefused → (why : Refusal) × IsWhyRefused (FnOnceReturnsAt O.FnOnce open_file) F.remaining command.entry why × IsToldAlone E.contents why out.old out.new err.old err.new }
-    ensures streams { ((result ≢ IsRefused) × (err.new ≡ err.old)) ⊎ ((result ≢ IsAnswered) × (out.new ≡ out.old)) }
+    ensures answered { result ≡ IsAnswered → HasText (IsTextOf (FnOnceReturnsAt O.FnOnce open_file) F.remaining
+        command (call_of words.now)) (W.contents out.old) (W.contents out.new) }
+    ensures refused { result ≡ IsRefused → HasRefused (IsWhyOf (FnOnceReturnsAt O.FnOnce open_file) F.remaining
+        command (call_of words.now)) (E.contents err.old) (E.contents err.new) }
+    ensures unprinted { result ≡ IsUnprinted → HasPartOf
+        (IsTextOf (FnOnceReturnsAt O.FnOnce open_file) F.remaining command (call_of words.now))
+        (IsWhyOf (FnOnceReturnsAt O.FnOnce open_file) F.remaining command (call_of words.now))
+        (W.contents out.old) (W.contents out.new) (E.contents err.old) (E.contents err.new) }
+    ensures streams { StayApart result (out.new ≡ out.old) (err.new ≡ err.old) }
 {
-    match command {
-        Command::Answer {
-            register,
-            group,
-            xeid,
-        } => {
-            let words = AnswerWords {
-                register,
-                group,
-                xeid,
-            };
-            answer(alloc, open_file(register), &words, out, err)
-        }
-        Command::Assign { register, xeid } => {
-            let words = AssignWords { register, xeid };
-            assign(alloc, open_file(register), &words, out, err)
-        }
-        Command::Check { register } => check(alloc, open_file(register), register, out, err),
-        Command::Compile { register, group } => {
-            let words = CompileWords { register, group };
-            compile(alloc, open_file(register), &words, out, err)
-        }
-        Command::Show { hex } => show(alloc, hex, out, err),
+    match text_of(alloc, command, words, open_file) {
+        Ok(text) => answer(&text, out),
+        Err(refusal) => refuse(alloc, &refusal, err),
     }
 }

@@ -1,11 +1,30 @@
 -- The command line of a program, as `clap` reads it.
 use Rattle.std.specs.Prelude.{ℕ, true, List, map, codes, Some}
-use Rattle.clap.specs.Words.{App, Rule, Shape, new_app, new_rule, with_rule, with_subcommand}
+use Rattle.clap.specs.Words.{App, Rule, Text, new_app, new_rule, with_rule, with_subcommand}
 use Rattle.std.specs.List.{fold}
+use Rattle.std.specs.Borrow.{Bor}
 use Rattle.clap.specs.declared.builder.ArgAction.TheVariants.{Set, Append}
 use Rattle.ddt_words.specs.declared.declaration.Argument.{Argument}
 use Rattle.ddt_words.specs.declared.declaration.Argument.TheVariants.{One, Several, Setting}
 use Rattle.ddt_words.specs.declared.declaration.Declaration.{Declaration}
+
+-- a value behind a reference
+abbrev lent : {A : Type 0} → A → Bor A
+lent x = record { ref_ptr = (0, 0); now = x }
+
+-- an argument of one word, one of several, and an option, by their names
+abbrev pub one : Text → Argument
+one name = One (lent name)
+
+abbrev pub several : Text → Argument
+several name = Several (lent name)
+
+abbrev pub setting : Text → Argument
+setting name = Setting (lent name)
+
+-- a command of this name takes these arguments and options
+abbrev pub takes : Text → List Argument → Declaration
+takes name arguments = record { name = lent name; arguments = lent arguments }
 
 -- an argument or option: whether it must be there, how it is named, and whether it takes several words
 abbrev pub rule_of_argument : Argument → Rule

@@ -1,56 +1,56 @@
-//! `ddt assign REGISTER XEID`: what longest match over the register assigns to the identifier.
+//! `ddt assign REGISTER XEID`: what a register assigns to an identifier.
 
-ghost use Rattle.std.specs.Prelude.{◌≡◌, ◌≢◌, ◌⊎◌, ℕ, List, None, IsErr, IfOk, IfErr};
-ghost use Rattle.ddt.specs.declared.refusal.Refusal.{Refusal};
-ghost use Rattle.ddt.specs.declared.status.Status.TheVariants.{Answered as IsAnswered, Refused as IsRefused, BadWords as IsBadWords};
-ghost use Rattle.ddt.specs.Commands.{Ended, IsAssignLine, IsPrintedOf, Tells};
-ghost use Rattle.ddt.specs.Why.{IsToldAlone, IsWhyNoOutcome};
+ghost use Rattle.std.specs.Prelude.{◌≡◌, Ok, IfOk, IfErr, Some};
+ghost use Rattle.ddt_text.specs.FirstFault.{xeid_in};
+ghost use Rattle.ddt.specs.Assign.{IsAssignText, WantsMemory, bad_xeid, identifier_refusal, xeid_of};
 
-use crate::commands::inputs::{accepted_register, identifier};
-use crate::lines::{outcome_line, print_line, refuse};
-use crate::refusal::Refusal;
-use crate::status::Status;
-use ddt_check::assign as assignment;
+use crate::over::OverRegister;
+use crate::refusal::{Refusal, WordRefusal};
+use ddt_check::{Accepted, assign as assignment};
+use ddt_lines::outcome_line;
+use ddt_path::Xeid;
+use ddt_text::parse_xeid;
+use ddt_words::{Argument, Declaration, Words};
 use std::alloc::Global;
-use std::io::{Read, Write};
 
-/// The words of the command.
+pub const WORDS: Declaration<'static> = Declaration {
+    name: "assign",
+    arguments: &[Argument::One("register"), Argument::One("xeid")],
+};
+
+/// The identifier to be looked up.
 #[derive(Clone, Copy, Debug)]
-pub struct AssignWords<'a> {
-    pub register: &'a str,
-    pub xeid: &'a str,
+pub struct Assign {
+    xeid: Xeid,
 }
 
-/// Prints the outcome of an identifier. Refusals, in this order: a bad identifier, a file that can't be opened, an
-/// unreadable register, one that breaks a rule.
-pub fn assign<R: Read + Drop, W: Write, E: Write>(
-    alloc: Global,
-    source: Option<R>,
-    words: &AssignWords<'_>,
-    out: &mut W,
-    err: &mut E,
-) -> Status
-    ensures answered { result ≡ IsAnswered → IsPrintedOf R.remaining source (λ bytes. Ended (IsAssignLine bytes words.now.xeid.now)) (W.contents out.old) (W.contents out.new) }
-    ensures refused { result ≡ IsRefused → (why : Refusal) × IsWhyNoOutcome R.remaining source words.now.register.now words.now.xeid.now why × IsToldAlone E.contents why out.old out.new err.old err.new }
-    ensures streams { ((result ≢ IsRefused) × (err.new ≡ err.old)) ⊎ ((result ≢ IsAnswered) × (out.new ≡ out.old)) }
-    ensures fits { result ≢ IsBadWords }
-{
-    match assign_line(alloc, source, words) {
-        Ok(line) => print_line(&line, out),
-        Err(refusal) => refuse(&refusal, err),
+impl OverRegister<'_> for Assign {
+    ghost bad_word = { bad_xeid };
+
+    ghost asks = { λ call command. xeid_of call ≡ Ok command.xeid };
+
+    ghost answers = { IsAssignText };
+
+    ghost refuses = { WantsMemory };
+
+    fn of(words: &Words<'_>) -> Result<Assign, WordRefusal> {
+        Ok(Assign {
+            xeid: identifier(words.value("xeid"))?,
+        })
+    }
+
+    fn text(&self, alloc: Global, register: &Accepted) -> Result<Vec<u8>, Refusal<'static>> {
+        Ok(outcome_line(alloc, &assignment(register, self.xeid))?)
     }
 }
 
-fn assign_line<'a, R: Read + Drop>(
-    alloc: Global,
-    source: Option<R>,
-    words: &AssignWords<'a>,
-) -> Result<Vec<u8>, Refusal<'a>>
-    ensures line { IfOk result (λ line. (bytes : List ℕ) → Tells R.remaining source bytes → IsAssignLine bytes words.now.xeid.now line.items) }
-    ensures refused { IfErr result (λ why. IsWhyNoOutcome R.remaining source words.now.register.now words.now.xeid.now why) }
-    ensures closed { source ≡ None → IsErr result }
+/// The identifier that a word spells.
+pub fn identifier(word: &str) -> Result<Xeid, WordRefusal>
+    ensures found { IfOk result (λ x. xeid_in word.now ≡ Ok x) }
+    ensures refused { IfErr result (λ why. identifier_refusal (xeid_in word.now) ≡ Some why) }
 {
-    let x = identifier(words.xeid)?;
-    let accepted = accepted_register(alloc, source, words.register)?;
-    Ok(outcome_line(alloc, &assignment(&accepted, x))?)
+    match parse_xeid(word.as_bytes()) {
+        Ok(x) => Ok(x),
+        Err(fault) => Err(WordRefusal::Identifier(fault)),
+    }
 }

@@ -1,67 +1,55 @@
 //! `ddt compile REGISTER GROUP`: the configuration of the group's servers.
 
-ghost use Rattle.std.specs.Prelude.{◌≡◌, ◌≢◌, ◌⊎◌, ℕ, List, None, IsErr, IfOk, IfErr, find, string_bytes};
+ghost use Rattle.std.specs.Prelude.{◌≡◌, find};
 ghost use Rattle.std.specs.Option.{option_copied};
 ghost use Rattle.ddt_check.specs.Zones.{is_same_name};
-ghost use Rattle.ddt.specs.declared.refusal.Refusal.{Refusal};
-ghost use Rattle.ddt.specs.declared.status.Status.TheVariants.{Answered as IsAnswered, Refused as IsRefused, BadWords as IsBadWords};
-ghost use Rattle.ddt.specs.Commands.{IsConfigText, IsPrintedOf, Tells};
-ghost use Rattle.ddt.specs.Why.{IsToldAlone, IsWhyNoGroup};
+ghost use Rattle.ddt.specs.Check.{no_bad_word};
+ghost use Rattle.ddt.specs.Compile.{IsConfigText, IsWhyNoGroup, group_of};
 
-use crate::commands::inputs::accepted_register;
-use crate::lines::{print_text, refuse};
-use crate::refusal::Refusal;
-use crate::status::Status;
-use ddt_compile::compile as compile_register;
+use crate::over::OverRegister;
+use crate::refusal::{Refusal, RegisterRefusal, WordRefusal};
+use ddt_check::Accepted;
+use ddt_compile::compile;
 use ddt_config::{ServerConfig, to_toml};
 use ddt_path::Name;
+use ddt_words::{Argument, Declaration, Words};
 use std::alloc::Global;
-use std::io::{Read, Write};
 
-/// The words of the command.
+pub const WORDS: Declaration<'static> = Declaration {
+    name: "compile",
+    arguments: &[Argument::One("register"), Argument::One("group")],
+};
+
+/// The word that names the group.
 #[derive(Clone, Copy, Debug)]
-pub struct CompileWords<'a> {
-    pub register: &'a str,
-    pub group: &'a str,
+pub struct Compile<'a> {
+    group: &'a str,
 }
 
-/// Prints the configuration of a group as TOML. Refusals, in this order: a file that can't be opened, an unreadable
-/// register, one that breaks a rule, a word that names no group of it.
-pub fn compile<R: Read + Drop, W: Write, E: Write>(
-    alloc: Global,
-    source: Option<R>,
-    words: &CompileWords<'_>,
-    out: &mut W,
-    err: &mut E,
-) -> Status
-    ensures answered { result ≡ IsAnswered → IsPrintedOf R.remaining source (λ bytes. IsConfigText bytes words.now.group.now) (W.contents out.old) (W.contents out.new) }
-    ensures refused { result ≡ IsRefused → (why : Refusal) × IsWhyNoGroup R.remaining source words.now.register.now words.now.group.now why × IsToldAlone E.contents why out.old out.new err.old err.new }
-    ensures streams { ((result ≢ IsRefused) × (err.new ≡ err.old)) ⊎ ((result ≢ IsAnswered) × (out.new ≡ out.old)) }
-    ensures fits { result ≢ IsBadWords }
-{
-    match config_text(alloc, source, words) {
-        Ok(text) => print_text(text.as_bytes(), out),
-        Err(refusal) => refuse(&refusal, err),
+impl<'a> OverRegister<'a> for Compile<'a> {
+    ghost bad_word = { no_bad_word };
+
+    ghost asks = { λ call command. command.group.now ≡ group_of call };
+
+    ghost answers = { IsConfigText };
+
+    ghost refuses = { IsWhyNoGroup };
+
+    fn of(words: &Words<'a>) -> Result<Compile<'a>, WordRefusal> {
+        Ok(Compile {
+            group: words.value("group"),
+        })
     }
-}
 
-fn config_text<'a, R: Read + Drop>(
-    alloc: Global,
-    source: Option<R>,
-    words: &CompileWords<'a>,
-) -> Result<String, Refusal<'a>>
-    ensures line { IfOk result (λ text. (bytes : List ℕ) → Tells R.remaining source bytes → IsConfigText bytes words.now.group.now (string_bytes text)) }
-    ensures refused { IfErr result (λ why. IsWhyNoGroup R.remaining source words.now.register.now words.now.group.now why) }
-    ensures closed { source ≡ None → IsErr result }
-{
-    let accepted = accepted_register(alloc, source, words.register)?;
-    let Some(group) = Name::of(words.group.as_bytes()) else {
-        return Err(Refusal::NoSuchGroup);
-    };
-    let configs = compile_register(alloc, &accepted)?;
-    match config_named(configs.as_slice(), group) {
-        Some(config) => Ok(to_toml(alloc, config)?),
-        None => Err(Refusal::NoSuchGroup),
+    fn text(&self, alloc: Global, register: &Accepted) -> Result<Vec<u8>, Refusal<'static>> {
+        let Some(group) = Name::of(self.group.as_bytes()) else {
+            return Err(Refusal::NoRegister(RegisterRefusal::NoSuchGroup));
+        };
+        let configs = compile(alloc, register)?;
+        match config_named(configs.as_slice(), group) {
+            Some(config) => Ok(to_toml(alloc, config)?.into_bytes()),
+            None => Err(Refusal::NoRegister(RegisterRefusal::NoSuchGroup)),
+        }
     }
 }
 

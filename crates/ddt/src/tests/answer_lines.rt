@@ -1,7 +1,8 @@
 //! `ddt answer` and `ddt assign`.
 
 use crate::status::Status::{Answered, BadWords, Refused};
-use crate::tests::harness::{CAMPUS, LONE_ROOT, SHARED_GROUP, USAGE, expect};
+use crate::telling::USAGE;
+use crate::tests::harness::{CAMPUS, LONE_ROOT, SHARED_GROUP, expect};
 use std::test::Fail;
 
 const ROOT_REFERS_TO_TEN: &str =

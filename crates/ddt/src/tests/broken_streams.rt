@@ -1,9 +1,9 @@
 //! Writers without room for what a command has to say, and a file that can't be read.
 
-use crate::commands::assign::{AssignWords, assign};
-use crate::commands::check::check;
+use crate::running::run;
 use crate::status::Status::{BadWords, Refused, Unprinted};
-use crate::tests::harness::{CAMPUS, run_words};
+use crate::telling::USAGE;
+use crate::tests::harness::{CAMPUS, process, run_words};
 use std::io;
 use std::io::Read;
 use std::test::Fail;
@@ -33,6 +33,11 @@ fn bad_words_are_bad_though_the_usage_finds_no_room(rt: HostRuntime) -> Result<(
     let status = run_words(rt.alloc(), CAMPUS, &["serve"], &mut out, &mut err)?;
     assert_eq!(rt; status, BadWords, "the status of words without a command");
     assert_eq!(rt; out_room.as_slice(), [0; 8].as_slice(), "what they print");
+    assert_eq!(rt;
+        err_room.as_slice(),
+        &USAGE.as_bytes()[..8],
+        "what found room"
+    );
     Ok(())
 }
 
@@ -51,19 +56,24 @@ const NOT_READ: &str = "unreadable 8 Read\n";
 #[test]
 fn a_file_that_cant_be_read_is_unreadable(rt: HostRuntime) -> Result<(), Fail> {
     let alloc = rt.alloc();
-    let (mut out, mut err) = (Vec::new(alloc), Vec::new(alloc));
-    let status = check(alloc, Some(Unreadable), "f", &mut out, &mut err);
-    assert_eq!(rt; status, Refused, "the status of check");
-    assert_eq!(rt; out.len(), 0, "what check prints");
-    assert_eq!(rt; err.as_slice(), NOT_READ.as_bytes(), "what check refuses");
-    let words = AssignWords {
-        register: "f",
-        xeid: "[0]10.1.2.3",
-    };
-    let (mut out, mut err) = (Vec::new(alloc), Vec::new(alloc));
-    let status = assign(alloc, Some(Unreadable), &words, &mut out, &mut err);
-    assert_eq!(rt; status, Refused, "the status of assign");
-    assert_eq!(rt; out.len(), 0, "what assign prints");
-    assert_eq!(rt; err.as_slice(), NOT_READ.as_bytes(), "what assign refuses");
+    let calls: [&[&str]; 3] = [
+        &["check", "f"],
+        &["compile", "f", "root"],
+        &["assign", "f", "[0]10.1.2.3"],
+    ];
+    for words in calls {
+        let words = process(alloc, words)?;
+        let (mut out, mut err) = (Vec::new(alloc), Vec::new(alloc));
+        let status = run(
+            alloc,
+            &words,
+            |_: &str| Some(Unreadable),
+            &mut out,
+            &mut err,
+        );
+        assert_eq!(rt; status, Refused, "the status");
+        assert_eq!(rt; out.len(), 0, "what is printed");
+        assert_eq!(rt; err.as_slice(), NOT_READ.as_bytes(), "what is refused");
+    }
     Ok(())
 }

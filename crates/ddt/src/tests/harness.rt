@@ -7,14 +7,6 @@ use std::io::Write;
 use std::process::Abort;
 use std::test::Fail;
 
-/// What words that fit no command are told.
-pub const USAGE: &str = "usage: ddt answer REGISTER GROUP XEID
-       ddt assign REGISTER XEID
-       ddt check REGISTER
-       ddt compile REGISTER GROUP
-       ddt show HEX
-";
-
 /// The register of a campus: the root, a node for 10.0.0.0/8, and Map-Servers for 10.1.0.0/16 with two sites.
 pub const CAMPUS: &str = "kind,prefix,group,addresses
 group-node,,root,127.0.0.1
@@ -42,6 +34,15 @@ group-node,,root,127.0.0.1
 node,*,root,
 ";
 
+/// The words of a process, behind the program's name.
+pub fn process(alloc: Global, words: &[&str]) -> Result<Vec<String>, Fail> {
+    let mut all = vec![in alloc; String::from_str(alloc, "ddt")?]?;
+    for word in words {
+        all.push(String::from_str(alloc, word)?)?;
+    }
+    Ok(all)
+}
+
 /// Runs `ddt` with these words where `register.csv` is the only file.
 pub fn run_words<W: Write, E: Write>(
     alloc: Global,
@@ -50,10 +51,7 @@ pub fn run_words<W: Write, E: Write>(
     out: &mut W,
     err: &mut E,
 ) -> Result<Status, Fail> {
-    let mut all = vec![in alloc; String::from_str(alloc, "ddt")?]?;
-    for word in words {
-        all.push(String::from_str(alloc, word)?)?;
-    }
+    let all = process(alloc, words)?;
     let open_file = |path: &str| {
         if path.as_bytes() == b"register.csv".as_slice() {
             Some(register.as_bytes())

@@ -1,8 +1,26 @@
-use Rattle.std.proofs.Common.{string_bytes}
-use Rattle.ddt.proofs.WordLemmas.{behind_the_name}
+use Rattle.std.proofs.Common.{◌∙◌, map, string_bytes}
+use Rattle.std.specs.Fn.{FnOnceReturnsAt}
+use Rattle.ddt_words.specs.Call.{call_of}
+use Rattle.ddt.proofs.RunLemmas.{answered, calls_for, refused, simple_line, unprinted}
 use Rattle.ddt.proofs.running.run.Goals as goal
 
+pub read_words-requires : goal.read_words-requires
+read_words-requires g c = simple_line c.command_list.result.now c.command_list.ensures
+
+pub returns-in-Some-clause-answered : goal.returns-in-Some-clause-answered
+returns-in-Some-clause-answered g c = λ status.
+    let words = map string_bytes c.args.words.now in
+    let calls = calls_for c.command_list.result.now words c.in-Some.command (call_of c.in-Ok.words) c.command_list.ensures c.in-Ok.ensures.found (c.in-Some.ensures ∙ c.command.ensures) in
+    answered (FnOnceReturnsAt g.O.FnOnce c.args.open_file) g.F.Read.remaining words c.in-Some.command (call_of c.in-Ok.words) _ _ calls (c.run_command.ensures.answered status)
+
 pub returns-in-Some-clause-refused : goal.returns-in-Some-clause-refused
-returns-in-Some-clause-refused g c = λ refused.
-    let why = c.run_command.ensures.refused refused in
-    (c.in-Some.command, behind_the_name string_bytes c.in-Some.command c.args.words.now c.in-len1-up.len_at_least c.in-Some.ensures, why.0, why.1, why.2)
+returns-in-Some-clause-refused g c = λ status.
+    let words = map string_bytes c.args.words.now in
+    let calls = calls_for c.command_list.result.now words c.in-Some.command (call_of c.in-Ok.words) c.command_list.ensures c.in-Ok.ensures.found (c.in-Some.ensures ∙ c.command.ensures) in
+    refused (FnOnceReturnsAt g.O.FnOnce c.args.open_file) g.F.Read.remaining words c.in-Some.command (call_of c.in-Ok.words) _ _ calls (c.run_command.ensures.refused status)
+
+pub returns-in-Some-clause-unprinted : goal.returns-in-Some-clause-unprinted
+returns-in-Some-clause-unprinted g c = λ status.
+    let words = map string_bytes c.args.words.now in
+    let calls = calls_for c.command_list.result.now words c.in-Some.command (call_of c.in-Ok.words) c.command_list.ensures c.in-Ok.ensures.found (c.in-Some.ensures ∙ c.command.ensures) in
+    unprinted (FnOnceReturnsAt g.O.FnOnce c.args.open_file) g.F.Read.remaining words c.in-Some.command (call_of c.in-Ok.words) _ _ _ _ calls (c.run_command.ensures.unprinted status)

@@ -1,0 +1,117 @@
+//! Commands over one register, and how any of them comes to its text.
+
+ghost use Rattle.std.specs.Prelude.{◌≡◌, ℕ, List, Option, None, Some, Err, IsErr, IfOk, IfErr};
+ghost use Rattle.std.specs.Fn.{FnOnceReturnsAt};
+ghost use Rattle.ddt_register.specs.declared.register.Register.{Register as ARegister};
+ghost use Rattle.ddt_register.specs.declared.fault.ReadFault.{ReadFault as AReadFault};
+ghost use Rattle.ddt_check.specs.Rules.{IsAccepted, IsLeastFault};
+ghost use Rattle.ddt_check.specs.declared.fault.Fault.{Fault as AFault};
+ghost use Rattle.ddt_words.specs.Call.{Call, call_of};
+ghost use Rattle.ddt.specs.declared.refusal.Refusal.{Refusal as ARefusal};
+ghost use Rattle.ddt.specs.declared.refusal.register.RegisterRefusal.TheVariants.{BreaksRule};
+ghost use Rattle.ddt.specs.declared.refusal.word.WordRefusal.{WordRefusal as AWordRefusal};
+ghost use Rattle.ddt.specs.Over.{IsTextOver, IsWhyOver};
+ghost use Rattle.ddt.specs.Refusal.{reading_refusal};
+ghost use Rattle.ddt.specs.Register.{IsAcceptedIn, IsWhyNoRegister, Tells};
+
+use crate::refusal::{Refusal, RegisterRefusal, WordRefusal};
+use ddt_check::{Accepted, check};
+use ddt_register::{ReadFault, Register, read_register};
+use ddt_words::Words;
+use std::alloc::Global;
+use std::io::Read;
+
+/// A command over one register, whose path is the word of its argument `register`.
+pub trait OverRegister<'a>: Sized {
+    /// The first bad word of a call, from left to right.
+    ghost bad_word: { Call → Option AWordRefusal };
+    /// The call asks for this.
+    ghost asks: { Call → Self → Type 0 };
+    /// The text that a call answers of a register.
+    ghost answers: { Call → ARegister → List ℕ → Type 0 };
+    /// Why a call has no answer of a register.
+    ghost refuses: { Call → ARegister → ARefusal → Type 0 };
+
+    /// What the words ask for, or the first bad one.
+    fn of(words: &Words<'a>) -> Result<Self, WordRefusal>
+        ensures good { IfOk result (λ command. bad_word (call_of words.now) ≡ None) }
+        ensures asks { IfOk result (asks (call_of words.now)) }
+        ensures bad { IfErr result (λ why. bad_word (call_of words.now) ≡ Some why) };
+
+    /// The text of the command, or why the register has none.
+    fn text(&self, alloc: Global, register: &Accepted) -> Result<Vec<u8>, Refusal<'static>>
+        ensures text { IfOk result (λ text. (call : Call) → asks call self.now → answers call register.now text.items) }
+        ensures refused { IfErr result (λ why. (call : Call) → asks call self.now → refuses call register.now why) };
+}
+
+/// The text of a command over its register, or why there is none. The words are looked at first, then the file is opened
+/// and read, then the rules, then what the command has to say of the register.
+pub fn text_over<'a, C, F, O>(
+    alloc: Global,
+    words: &Words<'a>,
+    open_file: O,
+) -> Result<Vec<u8>, Refusal<'a>>
+where
+    C: OverRegister<'a> + Drop,
+    F: Read + Drop,
+    O: FnOnce(&str) -> Option<F> + Drop,
+    requires { O.IsAlwaysCallable open_file }
+    ensures text { IfOk result (λ text. IsTextOver (FnOnceReturnsAt O.FnOnce open_file) F.remaining
+        C.bad_word C.answers (call_of words.now) text.items) }
+    ensures refused { IfErr result (IsWhyOver (FnOnceReturnsAt O.FnOnce open_file) F.remaining
+        C.bad_word C.refuses (call_of words.now)) }
+{
+    let command = match C::of(words) {
+        Ok(command) => command,
+        Err(why) => return Err(Refusal::BadWord(why)),
+    };
+    let path = words.value("register");
+    let register = register_at(alloc, open_file(path), path)?;
+    command.text(alloc, &register)
+}
+
+/// The accepted register of a source that could be opened, or why there is none.
+fn register_at<F: Read + Drop>(
+    alloc: Global,
+    source: Option<F>,
+    path: &str,
+) -> Result<Accepted, Refusal<'_>>
+    ensures accepted { IfOk result (λ a. (bytes : List ℕ) → Tells F.remaining source bytes → IsAcceptedIn bytes a) }
+    ensures refused { IfErr result (IsWhyNoRegister F.remaining source path.now) }
+    ensures closed { source ≡ None → IsErr result }
+{
+    let Some(file) = source else {
+        return Err(Refusal::NoRegister(RegisterRefusal::CannotOpen(path)));
+    };
+    let register = match read_register(alloc, file) {
+        Ok(register) => register,
+        Err(fault) => return Err(unread(fault)),
+    };
+    match judged(register) {
+        Ok(accepted) => Ok(accepted),
+        Err(why) => Err(Refusal::NoRegister(why)),
+    }
+}
+
+/// What is refused where reading ends in a fault: want of memory and a failed read for what they are, and no other fault
+/// as one of these.
+fn unread(fault: ReadFault) -> Refusal<'static>
+    ensures { result ≡ reading_refusal fault }
+{
+    match fault {
+        ReadFault::Memory => Refusal::OutOfMemory,
+        ReadFault::Read => Refusal::NoRegister(RegisterRefusal::CannotRead),
+        fault => Refusal::NoRegister(RegisterRefusal::Unreadable(fault)),
+    }
+}
+
+/// The register where it keeps all rules, or the rule that it breaks. It takes no memory.
+fn judged(register: Register) -> Result<Accepted, RegisterRefusal<'static>>
+    ensures accepted { IfOk result (λ a. (a ≡ register) × IsAccepted register) }
+    ensures refused { IfErr result (λ why. (fault : AFault) × (why ≡ BreaksRule fault) × IsLeastFault register fault.rule fault.row) }
+{
+    match check(register) {
+        Ok(accepted) => Ok(accepted),
+        Err((_, fault)) => Err(RegisterRefusal::BreaksRule(fault)),
+    }
+}

@@ -1,0 +1,19 @@
+//! The lines that the program prints, and how a text is written to a stream.
+//!
+//! In reading order: `text` (the parts of a line), `outcome`, `counts`, `referral`, `request` (a line each), `printing`.
+#![tactic(auto)]
+
+mod counts;
+mod outcome;
+mod printing;
+mod referral;
+mod request;
+#[cfg(test)]
+mod tests;
+mod text;
+
+pub use counts::accepted_line;
+pub use outcome::outcome_line;
+pub use printing::print;
+pub use referral::referral_line;
+pub use request::request_line;

@@ -1,12 +1,12 @@
 -- `compile REGISTER GROUP`.
 use Rattle.std.specs.Prelude.{ℕ, false, ◌≡◌, ◌⊎◌, List, codes, Ok, None, Some}
 use Rattle.toml.specs.Text.{IsDocumentText}
-use Rattle.toml.specs.Data.{Members}
 use Rattle.ddt_path.specs.Names.{is_name}
 use Rattle.ddt_register.specs.declared.register.Register.{Register}
 use Rattle.ddt_register.specs.declared.group.Group.{Group}
 use Rattle.ddt_check.specs.Zones.{group_named}
-use Rattle.ddt_config.specs.Table.{Outline, config_in, config_in_text}
+use Rattle.ddt_config.specs.Table.{Outline, config_in_text}
+use Rattle.ddt_config.specs.Writing.{written_config}
 use Rattle.ddt_compile.specs.GroupConfig.{group_config}
 use Rattle.ddt_words.specs.Call.{Call, value}
 use Rattle.ddt.specs.declared.refusal.Refusal.{Refusal}
@@ -17,9 +17,9 @@ use Rattle.ddt.specs.declared.refusal.register.RegisterRefusal.TheVariants.{NoSu
 abbrev pub group_of : Call → List ℕ
 group_of call = value (codes "group") call
 
--- the text that `toml` prints of a table that stands for a configuration
+-- the text that `toml` prints of the table of a configuration
 abbrev pub IsDocumentOf : Outline → List ℕ → Type 0
-IsDocumentOf config text = (ms : Members) × (config_in ms ≡ Ok config) × IsDocumentText false ms text
+IsDocumentOf config text = IsDocumentText false (written_config config) text
 
 -- the document of the configuration of the group of that name, which is read back as it
 abbrev pub IsConfigText : Call → Register → List ℕ → Type 0

@@ -1,10 +1,10 @@
 //! The referral that the servers of a group answer for an identifier: by a server of the group's configuration, which is
 //! sent a request as a resolver sends it.
 
-ghost use Rattle.std.specs.Prelude.{◌≡◌, ◌<◌, None, IfOk, MatchOption, option_map, string_bytes, find};
+ghost use Rattle.std.specs.Prelude.{◌≡◌, ◌<◌, None, IfOk, MatchOption, option_map, string_bytes};
 ghost use Rattle.hex.specs.Hex.{encode_lower};
 ghost use Rattle.ddt_path.specs.Path.{xeid_path};
-ghost use Rattle.ddt_check.specs.Zones.{group_named, is_same_name};
+ghost use Rattle.ddt_check.specs.Zones.{group_named};
 ghost use Rattle.ddt_config.specs.Answer.{answer};
 ghost use Rattle.ddt_config.specs.Entries.{entry_count};
 ghost use Rattle.ddt_config.specs.Table.{outline};
@@ -12,12 +12,12 @@ ghost use Rattle.ddt_wire.specs.Referral.{written};
 ghost use Rattle.ddt.specs.Answer.{group_answer, IsConfigOfGroup};
 
 use ddt_check::Accepted;
-use ddt_compile::compile;
+use ddt_compile::compile_group;
 use ddt_config::ServerConfig;
 use ddt_ecm::write_request;
 use ddt_node::{Handled, Server};
 use ddt_path::{Locator, Name, Xeid};
-use ddt_trie::ListMap;
+use ddt_trie::TrieMap;
 use std::alloc::{AllocError, Global};
 
 /// The resolver that asks, 127.0.0.53.
@@ -48,14 +48,7 @@ fn config_of_group(
     ensures { IfOk result (λ found.
         MatchOption found (group_named accepted.now group ≡ None) (λ c. IsConfigOfGroup accepted.now group c)) }
 {
-    let configs = compile(alloc, accepted)?;
-    Ok(take_named(configs.into_vec(), group))
-}
-
-fn take_named(configs: Vec<ServerConfig>, name: Name) -> Option<ServerConfig>
-    ensures { result ≡ find (λ c. is_same_name c.name name) configs.items }
-{
-    configs.into_iter().find(|c| c.name == name)
+    compile_group(alloc, accepted, group)
 }
 
 /// What a server of this configuration replies to a request of nonce 1.
@@ -63,7 +56,7 @@ fn answer_by(alloc: Global, config: ServerConfig, x: Xeid) -> Result<Vec<u8>, Al
     requires { entry_count (outline config) < 1048576 }
     ensures { IfOk result (λ bytes. bytes.items ≡ written 1 (answer (outline config) (xeid_path x))) }
 {
-    let Ok(server) = Server::<ListMap<u32>>::build(alloc, config) else {
+    let Ok(server) = Server::<TrieMap<u32>>::build(alloc, config) else {
         return Err(AllocError);
     };
     let request = write_request(alloc, 1, x, &[RESOLVER], true)?;

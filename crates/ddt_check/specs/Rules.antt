@@ -4,7 +4,7 @@ use Rattle.std.specs.Prelude.{◌≡◌, ℕ, ◌<◌, Bool, true, false, ◌==�
 use Rattle.std.specs.List.{list_any}
 use Rattle.std.specs.Option.{option_map, option_map_or}
 use Rattle.ddt_path.specs.declared.locator.Locator.{Locator}
-use Rattle.ddt_path.specs.Covers.{overlaps, is_same_path, is_strictly_below}
+use Rattle.ddt_path.specs.Covers.{is_same_path, is_strictly_below}
 use Rattle.ddt_register.specs.declared.zone.Zone.{Zone}
 use Rattle.ddt_register.specs.declared.site.Site.{Site}
 use Rattle.ddt_register.specs.declared.group.Group.{Group}
@@ -46,9 +46,9 @@ is_wrong_root r z = is_root z && (is_ms z.kind || earlier_zone r z is_root)
 abbrev pub is_duplicate_zone : Register → Zone → Bool
 is_duplicate_zone r z = earlier_zone r z (λ y. is_same_path y.prefix z.prefix)
 
--- A3: the site and one of an earlier row overlap
-abbrev pub is_overlapping_site : Register → Site → Bool
-is_overlapping_site r s = earlier_site r s (λ t. overlaps t.prefix s.prefix)
+-- A3: a site of the same prefix stands in an earlier row; a site inside another's prefix breaks no rule
+abbrev pub is_duplicate_site : Register → Site → Bool
+is_duplicate_site r s = earlier_site r s (λ t. is_same_path t.prefix s.prefix)
 
 -- A4: no row defines the zone's group
 abbrev pub is_of_unknown_group : Register → Zone → Bool
@@ -90,7 +90,7 @@ is_duplicate_group r g = earlier_group r g (λ h. is_same_name h.name g.name)
 abbrev pub broken : Register → Rule → ℕ → Bool
 broken r rules.NoRoot row = if list_any is_root r.zones then zone_at r row (is_wrong_root r) else row == 0
 broken r rules.DuplicateZone row = zone_at r row (is_duplicate_zone r)
-broken r rules.SiteOverlap row = site_at r row (is_overlapping_site r)
+broken r rules.DuplicateSite row = site_at r row (is_duplicate_site r)
 broken r rules.UnknownGroup row = zone_at r row (is_of_unknown_group r)
 broken r rules.Role row = zone_at r row (is_of_other_role r)
 broken r rules.Locators row = group_at r row (has_wrong_locators r)
@@ -107,7 +107,7 @@ IsAccepted r = (rule : Rule) (row : ℕ) → broken r rule row ≡ false
 abbrev pub rule_number : Rule → ℕ
 rule_number rules.NoRoot = 1
 rule_number rules.DuplicateZone = 2
-rule_number rules.SiteOverlap = 3
+rule_number rules.DuplicateSite = 3
 rule_number rules.UnknownGroup = 4
 rule_number rules.Role = 5
 rule_number rules.Locators = 6

@@ -7,7 +7,7 @@ use Rattle.ddt_path.specs.declared.form.Form.TheVariants.{Range, Block}
 use Rattle.ddt_path.specs.declared.record.Role.TheVariants.{Node, Ms}
 use Rattle.ddt_path.specs.declared.record.Action.TheVariants.{NodeReferral, MsReferral, MsAck, MsNotRegistered, DelegationHole, NotAuthoritative}
 use Rattle.ddt_path.specs.declared.record.Outcome.TheVariants.{Registered, NotRegistered, Hole}
-use Rattle.ddt_path.specs.Path.{path, xeid_path}
+use Rattle.ddt_path.specs.Path.{digits, path, xeid_path}
 use Rattle.ddt_path.specs.Free.{free}
 use Rattle.ddt_register.specs.declared.zone.Zone.{Zone}
 use Rattle.ddt_register.specs.declared.site.Site.{Site}
@@ -71,20 +71,103 @@ registered_site = record { prefix = block 0x0a010200 24; etrs = V4 0x7f000201 �
 abbrev pub silent_site : Site
 silent_site = record { prefix = block 0x0a010400 24; etrs = []; row = 8 }
 
--- examples/campus.csv
-abbrev pub campus : Register
-campus = record { zones = root_zone 4 ∷ ten_zone 5 ∷ east_zone ∷ []; sites = registered_site ∷ silent_site ∷ []; groups = root_group ∷ ten_group ∷ east_group ∷ []; rows = refl }
-
--- examples/shared_group.csv
 abbrev pub inner_root_zone : Zone
 inner_root_zone = record { prefix = block 0x0a010000 16; kind = Node; group = root; row = 5 }
 
+-- the items of examples/campus.csv, and one more zone, site or group in row 9
+abbrev pub campus_zones : List Zone
+campus_zones = root_zone 4 ∷ ten_zone 5 ∷ east_zone ∷ []
+
+abbrev pub with_zone : Zone → List Zone
+with_zone z = root_zone 4 ∷ ten_zone 5 ∷ east_zone ∷ z ∷ []
+
+abbrev pub zone_nine : ℕ → ℕ → Zone
+zone_nine address len = record { prefix = block address len; kind = Node; group = ten; row = 9 }
+
+abbrev pub campus_sites : List Site
+campus_sites = registered_site ∷ silent_site ∷ []
+
+abbrev pub with_site : Site → List Site
+with_site s = registered_site ∷ silent_site ∷ s ∷ []
+
+abbrev pub site_nine : ℕ → ℕ → List Locator → Site
+site_nine address len etrs = record { prefix = block address len; etrs = etrs; row = 9 }
+
+abbrev pub campus_groups : List Group
+campus_groups = root_group ∷ ten_group ∷ east_group ∷ []
+
+abbrev pub with_group : Group → List Group
+with_group g = root_group ∷ ten_group ∷ east_group ∷ g ∷ []
+
+abbrev pub group_nine : List ℕ → List Locator → Group
+group_nine name locators = record { name = name; kind = Node; locators = locators; row = 9 }
+
+-- a zone of Map-Servers whose group is one of nodes, a zone of no group, and a second zone of everything
+abbrev pub ms_zone : Zone
+ms_zone = record { prefix = block 0x0c000000 8; kind = Ms; group = ten; row = 9 }
+
+abbrev pub west_zone : Zone
+west_zone = record { prefix = block 0x0c000000 8; kind = Node; group = codes "west"; row = 9 }
+
+-- 1.0.0.1 to 1.0.0.9
+abbrev pub nine_locators : List Locator
+nine_locators = map V4 (0x01000001 ∷ 0x01000002 ∷ 0x01000003 ∷ 0x01000004 ∷ 0x01000005 ∷ 0x01000006 ∷ 0x01000007 ∷ 0x01000008 ∷ 0x01000009 ∷ [])
+
+-- the numbers of all these items are in the ranges of their types
+pub record AreInRange : Type 0 where
+  pub campus : is_in_range campus_zones campus_sites campus_groups ≡ true
+  pub shared_group : is_in_range (root_zone 3 ∷ ten_zone 4 ∷ inner_root_zone ∷ []) [] (root_group ∷ ten_group ∷ []) ≡ true
+  pub lone_root : is_in_range (root_zone 2 ∷ []) [] (root_group ∷ []) ≡ true
+  pub ms_zone : is_in_range (with_zone ms_zone) campus_sites campus_groups ≡ true
+  pub west_zone : is_in_range (with_zone west_zone) campus_sites campus_groups ≡ true
+  pub second_root : is_in_range (with_zone (root_zone 9)) campus_sites campus_groups ≡ true
+  pub duplicate_zone : is_in_range (with_zone (zone_nine 0x0a000000 8)) campus_sites campus_groups ≡ true
+  pub below_map_server : is_in_range (with_zone (zone_nine 0x0a010700 24)) campus_sites campus_groups ≡ true
+  pub duplicate_site : is_in_range campus_zones (with_site (site_nine 0x0a010200 24 [])) campus_groups ≡ true
+  pub site_inside_a_site : is_in_range campus_zones (with_site (site_nine 0x0a010280 25 [])) campus_groups ≡ true
+  pub inner_site : is_in_range campus_zones (with_site (site_nine 0x0a010480 25 (V4 0x7f000202 ∷ []))) campus_groups
+      ≡ true
+  pub inner_silent_site : is_in_range campus_zones (with_site (site_nine 0x0a010240 26 [])) campus_groups ≡ true
+  pub site_outside : is_in_range campus_zones (with_site (site_nine 0x0a020000 24 [])) campus_groups ≡ true
+  pub too_many_etrs : is_in_range campus_zones (with_site (site_nine 0x0a010500 24 nine_locators)) campus_groups ≡ true
+  pub eight_etrs : is_in_range campus_zones (with_site (site_nine 0x0a010500 24 (take 8 nine_locators))) campus_groups ≡ true
+  pub taken_locator : is_in_range campus_zones campus_sites (with_group (group_nine (codes "west") (at_root ∷ []))) ≡ true
+  pub no_locator : is_in_range campus_zones campus_sites (with_group (group_nine (codes "west") [])) ≡ true
+  pub duplicate_group : is_in_range campus_zones campus_sites (with_group (group_nine east (V4 0x7f000109 ∷ []))) ≡ true
+
+pub numbers : AreInRange
+unfolding digits
+numbers = record {
+  campus = refl;
+  shared_group = refl;
+  lone_root = refl;
+  ms_zone = refl;
+  west_zone = refl;
+  second_root = refl;
+  duplicate_zone = refl;
+  below_map_server = refl;
+  duplicate_site = refl;
+  site_inside_a_site = refl;
+  inner_site = refl;
+  inner_silent_site = refl;
+  site_outside = refl;
+  too_many_etrs = refl;
+  eight_etrs = refl;
+  taken_locator = refl;
+  no_locator = refl;
+  duplicate_group = refl;
+}
+
+abbrev pub campus : Register
+campus = record { zones = campus_zones; sites = campus_sites; groups = campus_groups; rows = refl; in_range = numbers.campus }
+
+-- examples/shared_group.csv
 abbrev pub shared_group : Register
-shared_group = record { zones = root_zone 3 ∷ ten_zone 4 ∷ inner_root_zone ∷ []; sites = []; groups = root_group ∷ ten_group ∷ []; rows = refl }
+shared_group = record { zones = root_zone 3 ∷ ten_zone 4 ∷ inner_root_zone ∷ []; sites = []; groups = root_group ∷ ten_group ∷ []; rows = refl; in_range = numbers.shared_group }
 
 -- the root alone
 abbrev pub lone_root : Register
-lone_root = record { zones = root_zone 2 ∷ []; sites = []; groups = root_group ∷ []; rows = refl }
+lone_root = record { zones = root_zone 2 ∷ []; sites = []; groups = root_group ∷ []; rows = refl; in_range = numbers.lone_root }
 
 -- what the campus assigns
 pub record CampusAssigns : Type 0 where
@@ -116,38 +199,54 @@ pub record OthersAssign : Type 0 where
   pub free_beside_ten : free [] (block 0x0a000000 8 ∷ []) (v4 0 0x0b000001) ≡ Some (block 0x0b000000 8)
   pub none_free : free [] (block 0x0a000000 8 ∷ []) (v4 0 0x0a010203) ≡ None
 
--- the campus with one more zone, site or group in row 9
-abbrev pub with_zone : Zone → List Zone
-with_zone z = root_zone 4 ∷ ten_zone 5 ∷ east_zone ∷ z ∷ []
-
-abbrev pub zone_in_nine : ℕ → ℕ → Register
-zone_in_nine address len = record { zones = with_zone (record { prefix = block address len; kind = Node; group = ten; row = 9 }); sites = registered_site ∷ silent_site ∷ []; groups = root_group ∷ ten_group ∷ east_group ∷ []; rows = refl }
+-- the campus with one more zone, site or group in row 9, whose numbers are in range
+abbrev pub zone_in_nine : (address len : ℕ) → is_in_range (with_zone (zone_nine address len)) campus_sites campus_groups ≡ true → Register
+zone_in_nine address len fits = record { zones = with_zone (zone_nine address len); sites = campus_sites; groups = campus_groups; rows = refl; in_range = fits }
 
 abbrev pub ms_zone_of_ten : Register
-ms_zone_of_ten = record { zones = with_zone (record { prefix = block 0x0c000000 8; kind = Ms; group = ten; row = 9 }); sites = registered_site ∷ silent_site ∷ []; groups = root_group ∷ ten_group ∷ east_group ∷ []; rows = refl }
+ms_zone_of_ten = record { zones = with_zone ms_zone; sites = campus_sites; groups = campus_groups; rows = refl; in_range = numbers.ms_zone }
 
 abbrev pub zone_of_west : Register
-zone_of_west = record { zones = with_zone (record { prefix = block 0x0c000000 8; kind = Node; group = codes "west"; row = 9 }); sites = registered_site ∷ silent_site ∷ []; groups = root_group ∷ ten_group ∷ east_group ∷ []; rows = refl }
+zone_of_west = record { zones = with_zone west_zone; sites = campus_sites; groups = campus_groups; rows = refl; in_range = numbers.west_zone }
 
 abbrev pub second_root : Register
-second_root = record { zones = with_zone (root_zone 9); sites = registered_site ∷ silent_site ∷ []; groups = root_group ∷ ten_group ∷ east_group ∷ []; rows = refl }
+second_root = record { zones = with_zone (root_zone 9); sites = campus_sites; groups = campus_groups; rows = refl; in_range = numbers.second_root }
 
-abbrev pub site_in_nine : ℕ → ℕ → List Locator → Register
-site_in_nine address len etrs = record { zones = root_zone 4 ∷ ten_zone 5 ∷ east_zone ∷ []; sites = registered_site ∷ silent_site ∷ (record { prefix = block address len; etrs = etrs; row = 9 }) ∷ []; groups = root_group ∷ ten_group ∷ east_group ∷ []; rows = refl }
+abbrev pub site_in_nine : (address len : ℕ) (etrs : List Locator) → is_in_range campus_zones (with_site (site_nine address len etrs)) campus_groups ≡ true → Register
+site_in_nine address len etrs fits = record { zones = campus_zones; sites = with_site (site_nine address len etrs); groups = campus_groups; rows = refl; in_range = fits }
 
--- 1.0.0.1 to 1.0.0.9
-abbrev pub nine_locators : List Locator
-nine_locators = map V4 (0x01000001 ∷ 0x01000002 ∷ 0x01000003 ∷ 0x01000004 ∷ 0x01000005 ∷ 0x01000006 ∷ 0x01000007 ∷ 0x01000008 ∷ 0x01000009 ∷ [])
+abbrev pub group_in_nine : (name : List ℕ) (locators : List Locator) → is_in_range campus_zones campus_sites (with_group (group_nine name locators)) ≡ true → Register
+group_in_nine name locators fits = record { zones = campus_zones; sites = campus_sites; groups = with_group (group_nine name locators); rows = refl; in_range = fits }
 
-abbrev pub group_in_nine : List ℕ → List Locator → Register
-group_in_nine name locators = record { zones = root_zone 4 ∷ ten_zone 5 ∷ east_zone ∷ []; sites = registered_site ∷ silent_site ∷ []; groups = root_group ∷ ten_group ∷ east_group ∷ (record { name = name; kind = Node; locators = locators; row = 9 }) ∷ []; rows = refl }
+-- a site with an ETR inside the silent site, and a silent site inside the registered one
+abbrev pub with_inner_site : Register
+with_inner_site = site_in_nine 0x0a010480 25 (V4 0x7f000202 ∷ []) numbers.inner_site
+
+abbrev pub with_inner_silent_site : Register
+with_inner_silent_site = site_in_nine 0x0a010240 26 [] numbers.inner_silent_site
+
+-- what sites inside sites are assigned
+pub record NestedSitesAssign : Type 0 where
+  pub part_of_the_outer_site : assignment with_inner_site (v4 0 0x0a010407)
+      ≡ NotRegistered (block 0x0a010400 25) at_east
+  pub inner_site : assignment with_inner_site (v4 0 0x0a0104c8)
+      ≡ Registered (block 0x0a010480 25) at_east
+  pub outer_site : assignment with_inner_silent_site (v4 0 0x0a010203)
+      ≡ Registered (block 0x0a010200 24) at_east
+  pub inner_silent_site : assignment with_inner_silent_site (v4 0 0x0a010246)
+      ≡ NotRegistered (block 0x0a010240 26) at_east
+  pub still_a_hole : assignment with_inner_site (v4 0 0x0a010309) ≡ Hole (block 0x0a010300 24)
+  pub east_says_the_part : says with_inner_site (V4 0x7f000101) (v4 0 0x0a010407)
+      ≡ record { action = MsNotRegistered; prefix = block 0x0a010400 25; ttl = 1; incomplete = false; servers = at_east }
+  pub east_acknowledges_the_inner_site : says with_inner_site (V4 0x7f000101) (v4 0 0x0a0104c8)
+      ≡ record { action = MsAck; prefix = block 0x0a010480 25; ttl = 1440; incomplete = false; servers = at_east }
 
 abbrev pub nothing : Register
-nothing = record { zones = []; sites = []; groups = []; rows = refl }
+nothing = record { zones = []; sites = []; groups = []; rows = refl; in_range = refl }
 
 abbrev pub all_rules : List Rule
 all_rules =
-    rules.NoRoot ∷ rules.DuplicateZone ∷ rules.SiteOverlap ∷ rules.UnknownGroup ∷ rules.Role ∷ rules.Locators ∷ rules.BelowMapServer
+    rules.NoRoot ∷ rules.DuplicateZone ∷ rules.DuplicateSite ∷ rules.UnknownGroup ∷ rules.Role ∷ rules.Locators ∷ rules.BelowMapServer
     ∷ rules.SiteOutside ∷ rules.TooManyEtrs ∷ rules.DuplicateGroup ∷ []
 
 abbrev pub rows_to_eight : List ℕ
@@ -157,16 +256,17 @@ rows_to_eight = 0 ∷ 1 ∷ 2 ∷ 3 ∷ 4 ∷ 5 ∷ 6 ∷ 7 ∷ 8 ∷ []
 pub record BreaksInNine : Type 0 where
   pub no_root : broken nothing rules.NoRoot 0 ≡ true
   pub two_roots : broken second_root rules.NoRoot 9 ≡ true
-  pub duplicate_zone : broken (zone_in_nine 0x0a000000 8) rules.DuplicateZone 9 ≡ true
-  pub site_overlap : broken (site_in_nine 0x0a010280 25 []) rules.SiteOverlap 9 ≡ true
+  pub duplicate_zone : broken (zone_in_nine 0x0a000000 8 numbers.duplicate_zone) rules.DuplicateZone 9 ≡ true
+  pub duplicate_site : broken (site_in_nine 0x0a010200 24 [] numbers.duplicate_site) rules.DuplicateSite 9 ≡ true
+  pub site_inside_a_site : broken (site_in_nine 0x0a010280 25 [] numbers.site_inside_a_site) rules.DuplicateSite 9 ≡ false
   pub unknown_group : broken zone_of_west rules.UnknownGroup 9 ≡ true
   pub role : broken ms_zone_of_ten rules.Role 9 ≡ true
-  pub taken_locator : broken (group_in_nine (codes "west") (at_root ∷ [])) rules.Locators 9 ≡ true
-  pub no_locator : broken (group_in_nine (codes "west") []) rules.Locators 9 ≡ true
-  pub below_map_server : broken (zone_in_nine 0x0a010700 24) rules.BelowMapServer 9 ≡ true
-  pub site_outside : broken (site_in_nine 0x0a020000 24 []) rules.SiteOutside 9 ≡ true
-  pub too_many_etrs : broken (site_in_nine 0x0a010500 24 nine_locators) rules.TooManyEtrs 9 ≡ true
-  pub eight_etrs : broken (site_in_nine 0x0a010500 24 (take 8 nine_locators)) rules.TooManyEtrs 9 ≡ false
-  pub duplicate_group : broken (group_in_nine east (V4 0x7f000109 ∷ [])) rules.DuplicateGroup 9 ≡ true
+  pub taken_locator : broken (group_in_nine (codes "west") (at_root ∷ []) numbers.taken_locator) rules.Locators 9 ≡ true
+  pub no_locator : broken (group_in_nine (codes "west") [] numbers.no_locator) rules.Locators 9 ≡ true
+  pub below_map_server : broken (zone_in_nine 0x0a010700 24 numbers.below_map_server) rules.BelowMapServer 9 ≡ true
+  pub site_outside : broken (site_in_nine 0x0a020000 24 [] numbers.site_outside) rules.SiteOutside 9 ≡ true
+  pub too_many_etrs : broken (site_in_nine 0x0a010500 24 nine_locators numbers.too_many_etrs) rules.TooManyEtrs 9 ≡ true
+  pub eight_etrs : broken (site_in_nine 0x0a010500 24 (take 8 nine_locators) numbers.eight_etrs) rules.TooManyEtrs 9 ≡ false
+  pub duplicate_group : broken (group_in_nine east (V4 0x7f000109 ∷ []) numbers.duplicate_group) rules.DuplicateGroup 9 ≡ true
   pub campus_is_whole : list_any (λ rule. list_any (broken campus rule) rows_to_eight) all_rules ≡ false
-  pub campus_is_in_range : is_in_range campus ≡ true
+  pub campus_is_in_range : is_in_range campus.zones campus.sites campus.groups ≡ true

@@ -6,6 +6,7 @@ use Rattle.std.specs.Cmp.Lexicographic.{pointwise}
 use Rattle.ddt_path.specs.declared.locator.Locator.{Locator}
 use Rattle.ddt_path.specs.declared.record.Role.{Role}
 use Rattle.ddt_path.specs.declared.record.Role.TheVariants.{Node, Ms}
+use Rattle.ddt_path.specs.Covers.{covers}
 use Rattle.ddt_path.specs.Locators.{lists}
 use Rattle.ddt_path.specs.Free.{longest_match, longer_of, shorter_of}
 use Rattle.ddt_register.specs.declared.zone.Zone.{Zone}
@@ -31,7 +32,8 @@ is_same_name a b = pointwise ◌==◌ a b
 abbrev pub zone_of : Register → List ℕ → Option Zone
 zone_of r x = longest_match (λ z. z.prefix) r.zones x
 
--- The site of a path: the longest site that covers it. In an accepted register at most one site covers it.
+-- The site of a path: the longest site that covers it; sites may lie inside sites. In an accepted register no two sites
+-- have one prefix; of another register this is the first of the longest.
 abbrev pub site_of : Register → List ℕ → Option Site
 site_of r x = longest_match (λ s. s.prefix) r.sites x
 
@@ -43,6 +45,18 @@ group_named r name = find (λ g. is_same_name g.name name) r.groups
 -- no such group.
 abbrev pub locators_of : Register → List ℕ → List Locator
 locators_of r name = option_map_or (λ g. g.locators) (group_named r name) []
+
+-- a zone that names a group as its own
+abbrev pub is_served_by : Group → Zone → Bool
+is_served_by g z = is_same_name g.name z.group
+
+-- a site inside a zone: one that the zone covers
+abbrev pub is_site_in : Zone → Site → Bool
+is_site_in z s = covers z.prefix s.prefix
+
+-- the root's locators: those of the group that serves everything
+abbrev pub roots : Register → List Locator
+roots r = option_map_or (λ z. locators_of r z.group) (zone_of r []) []
 
 -- the zones whose group lists a locator, in the order of their rows
 abbrev pub served_zones : Register → Locator → List Zone

@@ -1,12 +1,14 @@
 //! A register that keeps all ten rules.
 
-ghost use Rattle.std.specs.Prelude.{◌≡◌, length};
+ghost use Rattle.std.specs.Prelude.{◌≡◌, [], length};
 ghost use Rattle.std.specs.Option.{option_copied};
 ghost use Rattle.ddt_check.specs.Rules.{IsAccepted};
-ghost use Rattle.ddt_check.specs.Zones.{group_named as group_of_name};
+ghost use Rattle.ddt_check.specs.Zones.{group_named as group_of_name, roots as roots_of};
+ghost use Rattle.ddt_check.specs.Laws.{AreServers};
 
+use crate::assigning::servers_of;
 use crate::lookup;
-use ddt_path::Name;
+use ddt_path::{Locator, LocatorSet, Name, Prefix, Xeid};
 use ddt_register::{Group, Register};
 use std::marker::Model;
 
@@ -71,4 +73,27 @@ impl Accepted {
     {
         lookup::group_named(&self.register, name)
     }
+
+    /// The root's locators, where each lookup may start: those of the group that serves everything, 1 to 8 of them
+    /// (RFC 8111, section 4). It takes no memory.
+    pub fn roots(&self) -> LocatorSet
+        ensures group { result ≡ roots_of self.now }
+        ensures count { AreServers result }
+    {
+        match lookup::zone_of(&self.register, everything()) {
+            Some(zone) => servers_of(self, zone.group),
+            None => LocatorSet::none(),
+        }
+    }
+}
+
+/// The prefix of everything.
+fn everything() -> Prefix
+    ensures { result ≡ [] }
+{
+    let any = Xeid {
+        iid: 0,
+        address: Locator::V4(0),
+    };
+    Prefix::cut(any, 0)
 }

@@ -8,7 +8,7 @@ ghost use Rattle.ddt_check.specs.Assignment.{assignment, assigned_in, assigned_s
 ghost use Rattle.ddt_path.specs.declared.record.Outcome.TheVariants.{Hole};
 
 use crate::accepted::Accepted;
-use crate::holes::hole_in;
+use crate::holes::{hole_in, part_of_site};
 use crate::lookup::{locators_of, site_of, zone_of};
 use ddt_path::{LocatorSet, Name, Outcome, Prefix, Role, Xeid};
 use ddt_register::{Site, Zone};
@@ -32,7 +32,7 @@ fn assign_in(accepted: &Accepted, zone: Zone, x: Xeid) -> Outcome
     match zone.kind {
         Role::Node => hole(accepted, zone, x),
         Role::Ms => match site_of(accepted.register(), Prefix::host(x)) {
-            Some(site) => assign_site(accepted, zone, site),
+            Some(site) => assign_site(accepted, zone, site, x),
             None => hole(accepted, zone, x),
         },
     }
@@ -46,15 +46,20 @@ fn hole(accepted: &Accepted, zone: Zone, x: Xeid) -> Outcome
     }
 }
 
-fn assign_site(accepted: &Accepted, zone: Zone, site: &Site) -> Outcome
-    ensures { result ≡ assigned_site accepted.now zone site.now }
+fn assign_site(accepted: &Accepted, zone: Zone, site: &Site, x: Xeid) -> Outcome
+    ensures { result ≡ assigned_site accepted.now zone site.now (xeid_path x) }
 {
-    let prefix = site.prefix;
     let servers = servers_of(accepted, zone.group);
     if site.etrs.as_slice().is_empty() {
-        Outcome::NotRegistered { prefix, servers }
+        Outcome::NotRegistered {
+            prefix: part_of_site(accepted.register(), site, x),
+            servers,
+        }
     } else {
-        Outcome::Registered { prefix, servers }
+        Outcome::Registered {
+            prefix: site.prefix,
+            servers,
+        }
     }
 }
 

@@ -1,18 +1,27 @@
-//! The check of a register against all ten rules.
+//! The check of a register against all ten rules, by lists that are sorted in place and sorted back.
 
-ghost use Rattle.std.specs.Prelude.{◌≡◌, MatchOption, IfOk, IfErr};
+ghost use Rattle.std.specs.Prelude.{◌≡◌, true, MatchOption, IfOk, IfErr};
+ghost use Rattle.ddt_register.specs.declared.register.Register.{Register as ARegister};
+ghost use Rattle.ddt_register.specs.Rows.{rise, zone_rows, site_rows, group_rows};
 ghost use Rattle.ddt_check.specs.Rules.{IsAccepted, IsLeastFault, IsLeastRow, broken};
+ghost use Rattle.ddt_check.specs.Order.{AreZonesInOrder, AreSitesInOrder, AreGroupsInOrder};
+ghost use Rattle.ddt_check.specs.Sorted.{AreReordered, AreEarlierKept, AreLeast};
 
 use crate::accepted::Accepted;
 use crate::fault::{Fault, Rule};
+use crate::rules::locators::wrong_locators;
 use crate::rules::{groups, sites, zones};
-use ddt_register::Register;
+use crate::sorting::{
+    restore_groups, restore_sites, restore_zones, sort_groups, sort_sites, sort_zones,
+};
+use ddt_path::Listed;
+use ddt_register::{Group, Register, Site, Zone};
 
 /// The rules in the order of their numbers.
 const RULES: [Rule; 10] = [
     Rule::NoRoot,
     Rule::DuplicateZone,
-    Rule::SiteOverlap,
+    Rule::DuplicateSite,
     Rule::UnknownGroup,
     Rule::Role,
     Rule::Locators,
@@ -28,41 +37,127 @@ pub fn check(register: Register) -> Result<Accepted, (Register, Fault)>
     ensures accepted { IfOk result (λ a. (a ≡ register) × IsAccepted register) }
     ensures refused { IfErr result (λ e. (e.0 ≡ register) × IsLeastFault register e.1.rule e.1.row) }
 {
-    match first_fault(&register) {
+    let (register, fault) = find_fault(register);
+    match fault {
         Some(fault) => Err((register, fault)),
         None => Ok(Accepted::of(register)),
     }
 }
 
-fn first_fault(register: &Register) -> Option<Fault>
-    ensures { MatchOption result (IsAccepted register.now) (λ f. IsLeastFault register.now f.rule f.row) }
+/// The least rows that break the rules on the root, on ETRs and on locators. These are looked for first, since they
+/// want the lists in other orders than the rest.
+#[derive(Clone, Copy)]
+struct Found {
+    root: Option<u32>,
+    etrs: Option<u32>,
+    locators: Option<u32>,
+}
+
+/// The register as it came, and the broken rule of least number with the least row that breaks it.
+fn find_fault(register: Register) -> (Register, Option<Fault>)
+    ensures same { result.0 ≡ register }
+    ensures fault { MatchOption result.1 (IsAccepted register) (λ f. IsLeastFault register f.rule f.row) }
+{
+    let root = first_root_fault(&register);
+    let etrs = first_etrs_fault(&register);
+    let Register { zones, sites, groups } = register;
+    let mut zones = zones.into_vec();
+    let mut sites = sites.into_vec();
+    let mut groups = groups.into_vec();
+    let fault = sort_and_test(root, etrs, &mut zones, &mut sites, &mut groups);
+    let register = Register {
+        zones: Listed::of(zones),
+        sites: Listed::of(sites),
+        groups: Listed::of(groups),
+    };
+    (register, fault)
+}
+
+/// The first fault; the lists come back as they were.
+fn sort_and_test(
+    root: Option<u32>,
+    etrs: Option<u32>,
+    zones: &mut [Zone],
+    sites: &mut [Site],
+    groups: &mut [Group],
+) -> Option<Fault>
+    requires zones { rise 0 (zone_rows zones.old) ≡ true }
+    requires sites { rise 0 (site_rows sites.old) ≡ true }
+    requires groups { rise 0 (group_rows groups.old) ≡ true }
+    ensures zones { zones.new ≡ zones.old }
+    ensures sites { sites.new ≡ sites.old }
+    ensures groups { groups.new ≡ groups.old }
+    ensures fault {
+        (r : ARegister) → (r.zones ≡ zones.old) → (r.sites ≡ sites.old) → (r.groups ≡ groups.old)
+        → IsLeastRow (broken r Rule.NoRoot) root → IsLeastRow (broken r Rule.TooManyEtrs) etrs
+        → MatchOption result (IsAccepted r) (λ f. IsLeastFault r f.rule f.row)
+    }
+{
+    sort_zones(zones);
+    sort_sites(sites);
+    let locators = wrong_locators(groups);
+    sort_groups(groups);
+    let found = Found {
+        root,
+        etrs,
+        locators,
+    };
+    let fault = first_fault(&found, zones, sites, groups);
+    restore_zones(zones);
+    restore_sites(sites);
+    restore_groups(groups);
+    fault
+}
+
+/// The first fault, by the rules in the order of their numbers.
+fn first_fault(found: &Found, zones: &[Zone], sites: &[Site], groups: &[Group]) -> Option<Fault>
+    requires zones { AreZonesInOrder zones.now }
+    requires sites { AreSitesInOrder sites.now }
+    requires groups { AreGroupsInOrder groups.now }
+    ensures {
+        (r : ARegister) → AreReordered r zones.now sites.now groups.now → AreLeast r found.now
+        → MatchOption result (IsAccepted r) (λ f. IsLeastFault r f.rule f.row)
+    }
 {
     for rule in RULES {
-        if let Some(row) = first_row(register, rule) {
+        if let Some(row) = first_row(found, zones, sites, groups, rule) {
             return Some(Fault { rule, row });
         }
     }
     None
 }
 
-/// The least row that breaks a rule.
-fn first_row(register: &Register, rule: Rule) -> Option<u32>
-    ensures { IsLeastRow (broken register.now rule) result }
+/// The least row that breaks a rule, where no rule before it is broken.
+fn first_row(
+    found: &Found,
+    zones: &[Zone],
+    sites: &[Site],
+    groups: &[Group],
+    rule: Rule,
+) -> Option<u32>
+    requires zones { AreZonesInOrder zones.now }
+    requires sites { AreSitesInOrder sites.now }
+    requires groups { AreGroupsInOrder groups.now }
+    ensures {
+        (r : ARegister) → AreReordered r zones.now sites.now groups.now → AreLeast r found.now → AreEarlierKept r rule
+        → IsLeastRow (broken r rule) result
+    }
 {
     match rule {
-        Rule::NoRoot => first_root_fault(register),
-        Rule::DuplicateZone => zones::duplicate(register),
-        Rule::SiteOverlap => sites::overlapping(register),
-        Rule::UnknownGroup => zones::of_unknown_group(register),
-        Rule::Role => zones::of_other_role(register),
-        Rule::Locators => groups::wrong_locators(register),
-        Rule::BelowMapServer => zones::below_map_server(register),
-        Rule::SiteOutside => sites::outside(register),
-        Rule::TooManyEtrs => sites::too_many_etrs(register),
-        Rule::DuplicateGroup => groups::duplicate(register),
+        Rule::NoRoot => found.root,
+        Rule::DuplicateZone => zones::duplicate(zones),
+        Rule::DuplicateSite => sites::duplicate(sites),
+        Rule::UnknownGroup => zones::of_unknown_group(zones, groups),
+        Rule::Role => zones::of_other_role(zones, groups),
+        Rule::Locators => found.locators,
+        Rule::BelowMapServer => zones::below_map_server(zones),
+        Rule::SiteOutside => sites::outside(sites, zones),
+        Rule::TooManyEtrs => found.etrs,
+        Rule::DuplicateGroup => groups::duplicate(groups),
     }
 }
 
+/// The least row that breaks the rule on the root: row 0 where there is none.
 fn first_root_fault(register: &Register) -> Option<u32>
     ensures { IsLeastRow (broken register.now Rule.NoRoot) result }
 {
@@ -71,4 +166,10 @@ fn first_root_fault(register: &Register) -> Option<u32>
     } else {
         Some(0)
     }
+}
+
+fn first_etrs_fault(register: &Register) -> Option<u32>
+    ensures { IsLeastRow (broken register.now Rule.TooManyEtrs) result }
+{
+    sites::too_many_etrs(register)
 }

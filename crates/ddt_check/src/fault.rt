@@ -11,9 +11,9 @@ pub enum Rule {
     /// No two zones have one prefix.
     #[error("A2 DuplicateZone")]
     DuplicateZone,
-    /// No two sites overlap.
-    #[error("A3 SiteOverlap")]
-    SiteOverlap,
+    /// No two sites have one prefix. A site may lie inside another's prefix.
+    #[error("A3 DuplicateSite")]
+    DuplicateSite,
     /// Each zone's group has a row.
     #[error("A4 UnknownGroup")]
     UnknownGroup,

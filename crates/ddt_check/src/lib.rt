@@ -1,7 +1,8 @@
 //! The check of a register, and what an accepted one says: which Map-Servers or which hole it assigns to an
 //! identifier, and what an honest server answers.
 //!
-//! In reading order: `fault`, `accepted`, `checking` (with `rules` below it), `assigning`, `saying`.
+//! In reading order: `fault`, `accepted`, `checking` (with `sorting` and `rules` below it), `assigning`, `saying`,
+//! `laws`.
 #![tactic(auto)]
 
 mod accepted;
@@ -9,14 +10,20 @@ mod assigning;
 mod checking;
 mod fault;
 mod holes;
+mod laws;
 mod lookup;
 mod rules;
 mod saying;
+mod sorting;
 
 pub use accepted::{Accepted, Counts};
 pub use assigning::assign;
 pub use checking::check;
 pub use fault::{Fault, Rule};
+pub use laws::{
+    each_identifier_has_a_zone, honest_servers_lead_to_the_assignment,
+    negatives_hold_of_all_that_they_cover,
+};
 pub use saying::says;
 
 #[cfg(test)]

@@ -13,11 +13,11 @@ use Rattle.ddt_check.specs.Assignment.{prefixes_below}
 use Rattle.ddt_check.specs.Rules.{IsAccepted}
 use Rattle.ddt_check.proofs.ZoneLemmas.{zone_prefix}
 use Rattle.ddt_compile.specs.GroupConfig.{is_between, is_direct_child}
-use Rattle.ddt_compile.proofs.MemberLemmas.{IsIn, in_filter, filter_in, none_of, fails_at, holds_at, all_kept, list_all-map}
-use Rattle.ddt_compile.proofs.ChosenLemmas.{longest_is, longest_none}
-use Rattle.ddt_compile.proofs.FrontLemmas.{one_front, front_below, below_parts, overlaps_front}
-use Rattle.ddt_compile.proofs.ServedLemmas.{one_zone}
-use Rattle.ddt_compile.proofs.NextLemmas.{next_is, next_least, no_next}
+use Rattle.ddt_path.proofs.MemberLemmas.{IsIn, in_filter, filter_in, none_of, fails_at, holds_at, all_kept, list_all-map}
+use Rattle.ddt_path.proofs.ChosenLemmas.{longest_is, longest_none}
+use Rattle.ddt_path.proofs.FrontLemmas.{one_front, front_below, below_parts, overlaps_front}
+use Rattle.ddt_check.proofs.ServedLemmas.{one_zone}
+use Rattle.ddt_check.proofs.NextLemmas.{next_is, next_least, no_next}
 
 pub child_parts : (r : Register) (p c : Zone) → is_direct_child r p c ≡ true → (is_strictly_below c.prefix p.prefix ≡ true) × (list_any (is_between p c) r.zones ≡ false)
 child_parts r p c e =

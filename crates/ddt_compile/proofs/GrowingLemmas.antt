@@ -11,7 +11,7 @@ use Rattle.std.proofs.lemmas.List.{map-append, append-nil}
 use Rattle.std.proofs.lemmas.List.Elements.{filter_more}
 use Rattle.ddt_path.specs.Covers.{is_same_path}
 use Rattle.ddt_compile.specs.Lists.{list_at}
-use Rattle.ddt_compile.proofs.ShapedLemmas.{same_digits}
+use Rattle.ddt_check.proofs.KeptLemmas.{same_digits}
 
 -- no list is at a key of an empty map
 pub list_at-empty : {V : Type 0} (lists : BTreeMap (List ℕ) (Vec V)) (key : List ℕ) → lists.entries ≡ [] → list_at (slice_cmp nat_cmp) lists key ≡ []
@@ -21,7 +21,7 @@ module _ {A V : Type 0} (f : A → V) (test : A → Bool) (xs : List A) (i : ℕ
   one_more : filter test (take (i + 1) xs) ≡ filter test (take i xs) ++ cond (test x) (x ∷ []) []
   one_more = filter_more test xs i x lt ∙ ap (λ (y : A). filter test (take i xs) ++ cond (test y) (y ∷ []) []) (sym is)
 
-  more_kept : test x ≡ true → map f (filter test (take i xs)) ++ f x ∷ [] ≡ map f (filter test (take (i + 1) xs))
+  pub more_kept : test x ≡ true → map f (filter test (take i xs)) ++ f x ∷ [] ≡ map f (filter test (take (i + 1) xs))
   more_kept e =
       sym (map-append f (filter test (take i xs)) (x ∷ []))
       ∙ ap (λ (b : Bool). map f (filter test (take i xs) ++ cond b (x ∷ []) [])) (sym e)

@@ -1,43 +1,47 @@
 -- A compiled configuration answers what the register says: at a zone of DDT nodes, at one of Map-Servers, at a locator.
-use Rattle.std.proofs.Common.{◌≡◌, ℕ, true, List, [], length, map, Option, Some, None, refl, sym, ap, ◌∙◌}
-use Rattle.std.specs.Prelude.{unwrap_or}
+use Rattle.std.proofs.Common.{◌≡◌, ℕ, Bool, true, false, List, [], ◌∷◌, length, map, Option, Some, None, cond, refl, sym, ap, ◌∙◌}
+use Rattle.std.specs.Prelude.{◌==◌, unwrap_or}
 use Rattle.std.specs.List.{filter, All}
 use Rattle.std.specs.Option.{option_map, option_map_or}
+use Rattle.std.proofs.lemmas.Bool.{false≢true}
 use Rattle.std.proofs.lemmas.Simd.{map-map}
 use Rattle.ddt_path.specs.declared.locator.Locator.{Locator}
 use Rattle.ddt_path.specs.declared.record.Role.{Role}
 use Rattle.ddt_path.specs.declared.record.Role.TheVariants.{Node, Ms}
 use Rattle.ddt_path.specs.declared.record.Outcome.{Outcome}
-use Rattle.ddt_path.specs.declared.record.Outcome.TheVariants.{Hole}
-use Rattle.ddt_path.specs.Covers.{covers}
+use Rattle.ddt_path.specs.declared.record.Outcome.TheVariants.{Registered, NotRegistered, Hole}
+use Rattle.ddt_path.specs.Covers.{covers, is_strictly_below}
 use Rattle.ddt_path.specs.Records.{record_of, not_authoritative}
 use Rattle.ddt_path.specs.Free.{longest_match}
 use Rattle.ddt_path.specs.Locators.{lists}
 use Rattle.ddt_path.proofs.HoleLemmas.{free_agree}
+use Rattle.ddt_path.proofs.CoverLemmas.{covers_trans}
+use Rattle.ddt_path.proofs.FrontLemmas.{below_parts}
 use Rattle.ddt_register.specs.declared.zone.Zone.{Zone}
 use Rattle.ddt_register.specs.declared.site.Site.{Site}
 use Rattle.ddt_register.specs.declared.group.Group.{Group}
 use Rattle.ddt_register.specs.declared.register.Register.{Register}
 use Rattle.ddt_check.specs.Zones.{site_of, locators_of}
-use Rattle.ddt_check.specs.Assignment.{assignment, assigned_in, assigned_site, hole_of, prefixes_below, prefixes_within}
+use Rattle.ddt_check.specs.Assignment.{assignment, assigned_in, assigned_site, hole_of, prefixes_below, prefixes_below_site, prefixes_within}
 use Rattle.ddt_check.specs.Says.{next_zone, says, says_from, referral_to as referral_to_zone}
 use Rattle.ddt_check.specs.Rules.{IsAccepted}
-use Rattle.ddt_check.proofs.ZoneLemmas.{zone_prefix}
+use Rattle.ddt_check.proofs.ZoneLemmas.{zone_prefix, site_prefix}
 use Rattle.ddt_config.specs.declared.config.Authority.{Authority}
 use Rattle.ddt_config.specs.declared.config.Content.TheVariants.{Children, Sites}
 use Rattle.ddt_config.specs.declared.config.Child.{Child}
 use Rattle.ddt_config.specs.declared.config.SiteEntry.{SiteEntry}
 use Rattle.ddt_config.specs.declared.config.ServerConfig.{ServerConfig}
 use Rattle.ddt_config.specs.Table.{outline}
-use Rattle.ddt_config.specs.Answer.{answer, answer_in, referral_to, site_outcome, hole_in}
-use Rattle.ddt_compile.specs.GroupConfig.{is_direct_child, child_of, children_of, is_site_in, entry_of, sites_of, content_of, authority_of, is_served_by, group_config}
+use Rattle.ddt_config.specs.Answer.{answer, answer_in, referral_to, site_outcome, part_of, hole_in, strictly_below}
+use Rattle.ddt_compile.specs.GroupConfig.{is_direct_child, child_of, children_of, entry_of, sites_of, content_of, authority_of, group_config}
+use Rattle.ddt_check.specs.Zones.{is_site_in, is_served_by}
 use Rattle.ddt_compile.specs.Laws.{IsHonestConfig}
-use Rattle.ddt_compile.proofs.MemberLemmas.{IsIn, in_filter, all_made}
-use Rattle.ddt_compile.proofs.ChosenLemmas.{longest_member, longest_match-map}
-use Rattle.ddt_compile.proofs.ServedLemmas.{locators_of_zone, group_serves}
-use Rattle.ddt_compile.proofs.NextLemmas.{zone_is}
+use Rattle.ddt_path.proofs.MemberLemmas.{IsIn, in_filter, all_made}
+use Rattle.ddt_path.proofs.ChosenLemmas.{longest_member, longest_match-map}
+use Rattle.ddt_check.proofs.ServedLemmas.{locators_of_zone, group_serves}
+use Rattle.ddt_check.proofs.NextLemmas.{zone_is}
 use Rattle.ddt_compile.proofs.ChildLemmas.{longest_child, same_free}
-use Rattle.ddt_compile.proofs.SiteLemmas.{no_next_zone, longest_site}
+use Rattle.ddt_check.proofs.SiteLemmas.{no_next_zone, longest_site, site_inside}
 
 -- the assignment where a zone has no next zone
 assigned_here : (r : Register) → IsAccepted r → (p : Zone) (x : List ℕ) → IsIn p r.zones → covers p.prefix x ≡ true → next_zone r (length p.prefix) x ≡ None → assignment r x ≡ assigned_in r p p.kind x
@@ -75,18 +79,55 @@ entry_prefix s = s.prefix
 found_site : (r : Register) → IsAccepted r → (p : Zone) (x : List ℕ) → IsIn p r.zones → covers p.prefix x ≡ true → longest_match entry_prefix (sites_of r p) x ≡ option_map entry_of (site_of r x)
 found_site r accepted p x j c = longest_match-map entry_of entry_prefix (filter (is_site_in p) r.sites) x ∙ ap (option_map entry_of) (longest_site r accepted p x j c)
 
-site_outcomes : (r : Register) (servers : List Locator) (p : Zone) (hole : Outcome) (found : Option Site) → locators_of r p.group ≡ servers → option_map_or (site_outcome servers) (option_map entry_of found) hole ≡ option_map_or (assigned_site r p) found hole
-site_outcomes r servers p hole None e = refl
-site_outcomes r servers p hole (Some s) e = ap (λ (ls : List Locator). site_outcome ls (entry_of s)) (sym e)
+-- of what is kept by a weaker test first, a test keeps what it keeps of all
+kept_by_both : {A B : Type 0} (f : A → B) (weak : A → Bool) (test : B → Bool) → ((a : A) → test (f a) ≡ true → weak a ≡ true)
+    → (xs : List A) → filter test (map f (filter weak xs)) ≡ map f (filter (λ a. test (f a)) xs)
+kept_by_both f weak test implies [] = refl
+kept_by_both {A} f weak test implies (x ∷ xs) =
+    elim (weak x) as (λ w. weak x ≡ w → filter test (map f (cond w (x ∷ filter weak xs) (filter weak xs))) ≡ map f (filter (λ a. test (f a)) (x ∷ xs))) [
+      | true ↦ λ e.
+          elim (test (f x)) as (λ t. cond t (f x ∷ filter test (map f (filter weak xs))) (filter test (map f (filter weak xs))) ≡ map f (cond t (x ∷ filter (λ a. test (f a)) xs) (filter (λ a. test (f a)) xs))) [
+            | true ↦ ap (λ (ys : List _). f x ∷ ys) (kept_by_both f weak test implies xs)
+            | false ↦ kept_by_both f weak test implies xs
+          ]
+      | false ↦ λ e. kept_by_both f weak test implies xs ∙ sym (ap (map f) (dropped (test (f x)) x xs (λ t. absurd (false≢true (sym e ∙ implies x t)))))
+    ] refl
+  where
+    dropped : (b : Bool) (y : A) (ys : List A) → (b ≡ true → ⊥) → cond b (y ∷ filter (λ a. test (f a)) ys) (filter (λ a. test (f a)) ys) ≡ filter (λ a. test (f a)) ys
+    dropped true y ys none = absurd (none refl)
+    dropped false y ys none = refl
+
+-- a zone that covers a site has all the sites inside this one
+same_below : (r : Register) (p : Zone) (s : Site) → covers p.prefix s.prefix ≡ true → strictly_below s.prefix (map entry_prefix (sites_of r p)) ≡ prefixes_below_site r s
+same_below r p s c =
+    ap (strictly_below s.prefix) (map-map entry_prefix entry_of (filter (is_site_in p) r.sites))
+    ∙ kept_by_both site_prefix (is_site_in p) (λ q. is_strictly_below q s.prefix) (λ t below. covers_trans p.prefix s.prefix t.prefix c (below_parts t.prefix s.prefix below).0) r.sites
+
+same_part : (r : Register) (p : Zone) (s : Site) (x : List ℕ) → covers p.prefix s.prefix ≡ true → part_of s.prefix (strictly_below s.prefix (map entry_prefix (sites_of r p))) x ≡ hole_of s.prefix (prefixes_below_site r s) x
+same_part r p s x c = ap (λ (ps : List (List ℕ)). part_of s.prefix ps x) (same_below r p s c)
+
+same_outcome : (r : Register) (servers : List Locator) (p : Zone) (s : Site) (x : List ℕ) → locators_of r p.group ≡ servers → covers p.prefix s.prefix ≡ true
+    → site_outcome servers (map entry_prefix (sites_of r p)) x (entry_of s) ≡ assigned_site r p s x
+same_outcome r servers p s x e c =
+    ap (λ (q : List ℕ). cond (length s.etrs == 0) (NotRegistered q servers) (Registered s.prefix servers)) (same_part r p s x c)
+    ∙ ap (λ (ls : List Locator). cond (length s.etrs == 0) (NotRegistered (hole_of s.prefix (prefixes_below_site r s) x) ls) (Registered s.prefix ls)) (sym e)
+
+site_outcomes : (r : Register) → IsAccepted r → (servers : List Locator) (p : Zone) (x : List ℕ) (hole : Outcome) (found : Option Site) → IsIn p r.zones → covers p.prefix x ≡ true → locators_of r p.group ≡ servers → site_of r x ≡ found
+    → option_map_or (site_outcome servers (map entry_prefix (sites_of r p)) x) (option_map entry_of found) hole ≡ option_map_or (λ (s : Site). assigned_site r p s x) found hole
+site_outcomes r accepted servers p x hole None j c here is = refl
+site_outcomes r accepted servers p x hole (Some s) j c here is =
+    let m = longest_member site_prefix x r.sites s is in
+    same_outcome r servers p s x here (site_inside r accepted p s x j c m.0 m.1)
 
 site_answers : (r : Register) → IsAccepted r → (servers : List Locator) (p : Zone) (x : List ℕ) → IsIn p r.zones → p.kind ≡ Ms → covers p.prefix x ≡ true → locators_of r p.group ≡ servers → answer_in servers p.prefix (Sites (sites_of r p)) x ≡ says_from r p x
 site_answers r accepted servers p x j ms c here =
     let next = no_next_zone r accepted p x j ms c in
     let hole = Hole (hole_of p.prefix (prefixes_within r p) x) in
-    let same : hole_in p.prefix (map entry_prefix (sites_of r p)) x ≡ hole = ap (λ (ps : List (List ℕ)). hole_in p.prefix ps x) (map-map entry_prefix entry_of (filter (is_site_in p) r.sites)) in
-    ap (λ (o : Option SiteEntry). record_of (option_map_or (site_outcome servers) o (hole_in p.prefix (map entry_prefix (sites_of r p)) x))) (found_site r accepted p x j c)
-    ∙ ap (λ (o : Outcome). record_of (option_map_or (site_outcome servers) (option_map entry_of (site_of r x)) o)) same
-    ∙ ap record_of (site_outcomes r servers p hole (site_of r x) here ∙ sym (assigned_here r accepted p x j c next ∙ ap (λ (role : Role). assigned_in r p role x) ms))
+    let prefixes = map entry_prefix (sites_of r p) in
+    let same : hole_in p.prefix prefixes x ≡ hole = ap (λ (ps : List (List ℕ)). hole_in p.prefix ps x) (map-map entry_prefix entry_of (filter (is_site_in p) r.sites)) in
+    ap (λ (o : Option SiteEntry). record_of (option_map_or (site_outcome servers prefixes x) o (hole_in p.prefix prefixes x))) (found_site r accepted p x j c)
+    ∙ ap (λ (o : Outcome). record_of (option_map_or (site_outcome servers prefixes x) (option_map entry_of (site_of r x)) o)) same
+    ∙ ap record_of (site_outcomes r accepted servers p x hole (site_of r x) j c here refl ∙ sym (assigned_here r accepted p x j c next ∙ ap (λ (role : Role). assigned_in r p role x) ms))
     ∙ ap (λ (o : Option Zone). option_map_or (referral_to_zone r) o (record_of (assignment r x))) (sym next)
 
 -- ---- the whole

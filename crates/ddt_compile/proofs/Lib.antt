@@ -1,14 +1,9 @@
-pub mod MemberLemmas
 pub mod ShapedLemmas
-pub mod ChosenLemmas
-pub mod FrontLemmas
-pub mod ServedLemmas
-pub mod NextLemmas
 pub mod ChildLemmas
-pub mod SiteLemmas
 pub mod NearestLemmas
 pub mod GrowingLemmas
 pub mod LocatorLemmas
 pub mod HonestLemmas
-pub mod CountLemmas
 pub mod RoomLemmas
+pub mod NoTwoLemmas
+pub mod ContentLemmas

@@ -10,8 +10,8 @@ use Rattle.ddt_path.specs.declared.locator.Locator.{Locator}
 use Rattle.ddt_register.specs.declared.group.Group.{Group}
 use Rattle.ddt_register.specs.declared.register.Register.{Register}
 use Rattle.ddt_check.specs.Zones.{is_same_name, group_named, locators_of}
-use Rattle.ddt_compile.proofs.MemberLemmas.{found_now, found_before}
-use Rattle.ddt_compile.proofs.ShapedLemmas.{same_digits}
+use Rattle.ddt_path.proofs.MemberLemmas.{found_now, found_before}
+use Rattle.ddt_check.proofs.KeptLemmas.{same_digits}
 
 abbrev named : List ℕ → Group → Bool
 named name g = is_same_name g.name name

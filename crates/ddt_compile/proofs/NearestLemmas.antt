@@ -13,13 +13,14 @@ use Rattle.ddt_register.specs.declared.zone.Zone.{Zone}
 use Rattle.ddt_register.specs.declared.site.Site.{Site}
 use Rattle.ddt_register.specs.declared.register.Register.{Register}
 use Rattle.ddt_check.specs.Rules.{IsAccepted}
-use Rattle.ddt_compile.specs.GroupConfig.{is_between, is_direct_child, is_site_in}
+use Rattle.ddt_compile.specs.GroupConfig.{is_between, is_direct_child}
+use Rattle.ddt_check.specs.Zones.{is_site_in}
 use Rattle.ddt_compile.specs.Nearest.{HasPrefixesOf, IsAbove}
-use Rattle.ddt_compile.proofs.MemberLemmas.{IsIn, fails_at, none_of}
-use Rattle.ddt_compile.proofs.ShapedLemmas.{same_digits}
-use Rattle.ddt_compile.proofs.FrontLemmas.{one_front, front_below, below_parts}
+use Rattle.ddt_path.proofs.MemberLemmas.{IsIn, fails_at, none_of}
+use Rattle.ddt_check.proofs.KeptLemmas.{same_digits}
+use Rattle.ddt_path.proofs.FrontLemmas.{one_front, front_below, below_parts}
 use Rattle.ddt_compile.proofs.ChildLemmas.{child_parts, both_or_none}
-use Rattle.ddt_compile.proofs.SiteLemmas.{no_longer_zone}
+use Rattle.ddt_check.proofs.SiteLemmas.{no_longer_zone}
 
 pub path_itself : (p q : List ℕ) → p ≡ q → is_same_path p q ≡ true
 path_itself p q e = subst (λ (r : List ℕ). is_same_path p r ≡ true) e (nat_list_eq_equiv.refl p)

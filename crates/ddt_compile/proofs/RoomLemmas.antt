@@ -17,15 +17,18 @@ use Rattle.ddt_config.specs.declared.config.SiteEntry.{SiteEntry}
 use Rattle.ddt_config.specs.declared.config.ServerConfig.{ServerConfig}
 use Rattle.ddt_config.specs.Table.{outline}
 use Rattle.ddt_config.specs.Entries.{prefixes_in, count_in}
-use Rattle.ddt_compile.specs.GroupConfig.{is_between, is_direct_child, child_of, children_of, is_site_in, entry_of, sites_of, content_of, authority_of, is_served_by, group_config}
+use Rattle.ddt_compile.specs.GroupConfig.{is_between, is_direct_child, child_of, children_of, entry_of, sites_of, content_of, authority_of, group_config}
+use Rattle.ddt_check.specs.Zones.{is_site_in, is_served_by}
 use Rattle.ddt_compile.specs.Laws.{HasRoom}
-use Rattle.ddt_compile.proofs.MemberLemmas.{IsIn, in_filter, fails_at, rise-filter, all_made}
-use Rattle.ddt_compile.proofs.ShapedLemmas.{zones_rise, sites_rise, role_of_zone}
-use Rattle.ddt_compile.proofs.FrontLemmas.{one_front, front_below, below_parts}
-use Rattle.ddt_compile.proofs.ServedLemmas.{one_zone}
+use Rattle.ddt_path.proofs.MemberLemmas.{IsIn, in_filter, fails_at, all_made}
+use Rattle.ddt_register.proofs.RisingLemmas.{rise-filter}
+use Rattle.ddt_register.proofs.RisingLemmas.{zones_rise, sites_rise}
+use Rattle.ddt_check.proofs.KeptLemmas.{role_of_zone}
+use Rattle.ddt_path.proofs.FrontLemmas.{one_front, front_below, below_parts}
+use Rattle.ddt_check.proofs.ServedLemmas.{one_zone}
 use Rattle.ddt_compile.proofs.ChildLemmas.{child_parts}
-use Rattle.ddt_compile.proofs.SiteLemmas.{no_longer_zone}
-use Rattle.ddt_compile.proofs.CountLemmas.{few_rows, filter_few, sum_made, kept_in_all}
+use Rattle.ddt_check.proofs.SiteLemmas.{no_longer_zone}
+use Rattle.ddt_register.proofs.CountLemmas.{few_rows, filter_few, sum_made, kept_in_all}
 
 -- a zone has one parent: of two zones above it the longer would stand between
 no_longer_parent : (r : Register) (a b c : Zone) → IsIn b r.zones → is_direct_child r a c ≡ true → is_direct_child r b c ≡ true → length b.prefix ≤ length a.prefix

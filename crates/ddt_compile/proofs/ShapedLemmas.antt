@@ -17,42 +17,16 @@ use Rattle.ddt_register.specs.declared.register.Register.{Register}
 use Rattle.ddt_register.specs.Rows.{rise, zone_rows, site_rows, group_rows}
 use Rattle.ddt_check.specs.declared.fault.Rule.TheVariants as rules
 use Rattle.ddt_check.specs.Zones.{is_same_role, is_same_name, group_named, locators_of}
-use Rattle.ddt_check.specs.Rules.{IsAccepted, is_duplicate_zone, is_overlapping_site, is_of_unknown_group, is_of_other_role, has_repeat, has_wrong_locators, has_too_many_etrs, is_duplicate_group}
+use Rattle.ddt_check.specs.Rules.{IsAccepted, is_duplicate_zone, is_of_unknown_group, is_of_other_role, has_repeat, has_wrong_locators, has_too_many_etrs, is_duplicate_group}
 use Rattle.ddt_config.specs.declared.config.Authority.{Authority}
 use Rattle.ddt_config.specs.Shaped.{fits, is_server_set, are_distinct, is_child_of, is_site_of, is_content_of, is_authority_of, is_shaped}
-use Rattle.ddt_compile.specs.GroupConfig.{is_between, is_direct_child, child_of, is_site_in, entry_of, content_of, authority_of, is_served_by, authorities_of}
-use Rattle.ddt_compile.proofs.MemberLemmas.{IsIn, in_filter, fails_at, rule_kept, no_two_kept, all_kept, found_in, found_first}
-
-pub zones_rise : (r : Register) → rise 0 (zone_rows r.zones) ≡ true
-zones_rise r = (and_parts _ _ (and_parts _ _ r.rows).0).0
-
-pub sites_rise : (r : Register) → rise 0 (site_rows r.sites) ≡ true
-sites_rise r = (and_parts _ _ (and_parts _ _ (and_parts _ _ r.rows).0).1).0
-
-pub groups_rise : (r : Register) → rise 0 (group_rows r.groups) ≡ true
-groups_rise r = (and_parts _ _ (and_parts _ _ (and_parts _ _ r.rows).0).1).1
-
--- a test of an earlier row fails
-pub earlier_fails : (m n : ℕ) (test : Bool) → m < n → (nat_lt m n && test) ≡ false → test ≡ false
-earlier_fails m n test lt e = ap (λ (b : Bool). b && test) (sym (lt-ltb m n lt)) ∙ e
-
-pub own_prefix : (r : Register) → IsAccepted r → (a b : Zone) → IsIn a r.zones → IsIn b r.zones → a.row < b.row → is_same_path a.prefix b.prefix ≡ false
-own_prefix r accepted a b j k lt =
-    let e = rule_kept (λ (z : Zone). z.row) (is_duplicate_zone r) r.zones (accepted rules.DuplicateZone) b k in
-    earlier_fails a.row b.row _ lt (fails_at (λ (y : Zone). nat_lt y.row b.row && is_same_path y.prefix b.prefix) r.zones a e j)
-
-pub own_name : (r : Register) → IsAccepted r → (g h : Group) → IsIn g r.groups → IsIn h r.groups → g.row < h.row → is_same_name g.name h.name ≡ false
-own_name r accepted g h j k lt =
-    let e = rule_kept (λ (i : Group). i.row) (is_duplicate_group r) r.groups (accepted rules.DuplicateGroup) h k in
-    earlier_fails g.row h.row _ lt (fails_at (λ (i : Group). nat_lt i.row h.row && is_same_name i.name h.name) r.groups g e j)
-
-sites_apart : (r : Register) → IsAccepted r → (a b : Site) → IsIn a r.sites → IsIn b r.sites → a.row < b.row → overlaps a.prefix b.prefix ≡ false
-sites_apart r accepted a b j k lt =
-    let e = rule_kept (λ (s : Site). s.row) (is_overlapping_site r) r.sites (accepted rules.SiteOverlap) b k in
-    earlier_fails a.row b.row _ lt (fails_at (λ (t : Site). nat_lt t.row b.row && overlaps t.prefix b.prefix) r.sites a e j)
-
-pub few_etrs : (r : Register) → IsAccepted r → (s : Site) → IsIn s r.sites → length s.etrs ≤ 8
-few_etrs r accepted s k = ltb-false 8 (length s.etrs) (rule_kept (λ (t : Site). t.row) has_too_many_etrs r.sites (accepted rules.TooManyEtrs) s k)
+use Rattle.ddt_compile.specs.GroupConfig.{is_between, is_direct_child, child_of, entry_of, content_of, authority_of, authorities_of}
+use Rattle.ddt_check.specs.Zones.{is_site_in, is_served_by}
+use Rattle.ddt_path.proofs.MemberLemmas.{IsIn, in_filter, fails_at, all_kept, found_in}
+use Rattle.ddt_path.proofs.FrontLemmas.{one_path}
+use Rattle.ddt_register.proofs.RisingLemmas.{rule_kept, zones_rise, sites_rise}
+use Rattle.ddt_check.proofs.KeptLemmas.{own_prefix, own_site, few_etrs, role_of_zone}
+use Rattle.ddt_compile.proofs.NoTwoLemmas.{no_two_kept}
 
 -- locators
 distinct : (ls : List Locator) → has_repeat ls ≡ false → are_distinct ls ≡ true
@@ -81,42 +55,6 @@ known r accepted name (Some g) e some = (server_set r accepted g (found_in (λ (
 
 child_set : (r : Register) → IsAccepted r → (c : Zone) → IsIn c r.zones → is_server_set (locators_of r c.group) ≡ true
 child_set r accepted c k = known r accepted c.group (group_named r c.group) refl (rule_kept (λ (z : Zone). z.row) (is_of_unknown_group r) r.zones (accepted rules.UnknownGroup) c k)
-
--- the group of a zone
-pub same_digits : (a b : List ℕ) → is_same_name a b ≡ true → a ≡ b
-same_digits [] [] e = refl
-same_digits [] (y ∷ b) e = absurd (false≢true e)
-same_digits (x ∷ a) [] e = absurd (false≢true e)
-same_digits (x ∷ a) (y ∷ b) e =
-    let p = and_parts (x == y) (pointwise ◌==◌ a b) e in
-    rw (eqb-true x y p.0, same_digits a b p.1) refl
-
-pub group_of_zone : (r : Register) → IsAccepted r → (g : Group) (z : Zone) → IsIn g r.groups → is_served_by g z ≡ true → group_named r z.group ≡ Some g
-group_of_zone r accepted g z k served =
-    let e = rule_kept (λ (h : Group). h.row) (is_duplicate_group r) r.groups (accepted rules.DuplicateGroup) g k in
-    found_first (λ (h : Group). h.row) (λ (h : Group). is_same_name h.name z.group) r.groups 0 g (groups_rise r) k served
-    (λ h j lt. ap (is_same_name h.name) (sym (same_digits g.name z.group served)) ∙ earlier_fails h.row g.row _ lt (fails_at (λ (y : Group). nat_lt y.row g.row && is_same_name y.name g.name) r.groups h e j))
-
-one_role : (a b : Role) → not (is_same_role a b) ≡ false → a ≡ b
-one_role Node Node e = refl
-one_role Ms Ms e = refl
-one_role Node Ms e = absurd (true≢false e)
-one_role Ms Node e = absurd (true≢false e)
-
-pub role_of_zone : (r : Register) → IsAccepted r → (g : Group) (z : Zone) → IsIn g r.groups → IsIn z r.zones → is_served_by g z ≡ true → g.kind ≡ z.kind
-role_of_zone r accepted g z j k served =
-    let e = rule_kept (λ (y : Zone). y.row) (is_of_other_role r) r.zones (accepted rules.Role) z k in
-    one_role g.kind z.kind (rw (group_of_zone r accepted g z j served) at e)
-
--- two direct children of a zone
-pub one_path : (p q : List ℕ) → covers p q ≡ true → covers q p ≡ true → is_same_path p q ≡ true
-one_path [] [] e f = refl
-one_path [] (y ∷ q) e f = absurd (false≢true f)
-one_path (x ∷ p) [] e f = absurd (false≢true e)
-one_path (x ∷ p) (y ∷ q) e f =
-    let a = and_parts (x == y) (covers p q) e in
-    let b = and_parts (y == x) (covers q p) f in
-    rw (a.0, one_path p q a.1 b.1) refl
 
 neither : (p q : Bool) → (p && not q) ≡ false → (q && not p) ≡ false → (p ≡ true → q ≡ true → ⊥) → (p || q) ≡ false
 neither false false e f both = refl
@@ -159,8 +97,8 @@ content_shaped r accepted z Node =
 content_shaped r accepted z Ms =
     rw (
       all_kept entry_of (is_site_of z.prefix) (is_site_in z) r.sites (sites_inside r accepted z),
-      no_two_kept (λ (s : Site). s.row) entry_of (λ a b. overlaps a.prefix b.prefix) (is_site_in z) r.sites (sites_rise r)
-          (λ a b j k lt. sites_apart r accepted a b (in_filter (is_site_in z) r.sites a j).0 (in_filter (is_site_in z) r.sites b k).0 lt),
+      no_two_kept (λ (s : Site). s.row) entry_of (λ a b. is_same_path a.prefix b.prefix) (is_site_in z) r.sites (sites_rise r)
+          (λ a b j k lt. own_site r accepted a b (in_filter (is_site_in z) r.sites a j).0 (in_filter (is_site_in z) r.sites b k).0 lt),
     ) refl
 
 authority_shaped : (r : Register) → IsAccepted r → (g : Group) → IsIn g r.groups → (z : Zone) → IsIn z r.zones → is_served_by g z ≡ true → is_authority_of g.kind (authority_of r z) ≡ true

@@ -1,15 +1,16 @@
 -- The configuration of a server group: its zones, and in each of them what is delegated or registered there
 -- (RFC 8111, section 4).
-use Rattle.std.specs.Prelude.{Bool, ◌&&◌, not, List, map}
+use Rattle.std.specs.Prelude.{ℕ, Bool, ◌&&◌, not, List, map, Option}
+use Rattle.std.specs.Option.{option_map}
 use Rattle.std.specs.List.{list_any, filter}
 use Rattle.ddt_path.specs.declared.record.Role.{Role}
 use Rattle.ddt_path.specs.declared.record.Role.TheVariants.{Node, Ms}
-use Rattle.ddt_path.specs.Covers.{covers, is_strictly_below}
+use Rattle.ddt_path.specs.Covers.{is_strictly_below}
 use Rattle.ddt_register.specs.declared.zone.Zone.{Zone}
 use Rattle.ddt_register.specs.declared.site.Site.{Site}
 use Rattle.ddt_register.specs.declared.group.Group.{Group}
 use Rattle.ddt_register.specs.declared.register.Register.{Register}
-use Rattle.ddt_check.specs.Zones.{is_same_name, locators_of}
+use Rattle.ddt_check.specs.Zones.{is_served_by, is_site_in, locators_of, group_named}
 use Rattle.ddt_config.specs.declared.config.Child.{Child}
 use Rattle.ddt_config.specs.declared.config.SiteEntry.{SiteEntry}
 use Rattle.ddt_config.specs.declared.config.Content.{Content}
@@ -31,10 +32,6 @@ child_of r c = record { prefix = c.prefix; role = c.kind; locators = locators_of
 abbrev pub children_of : Register → Zone → List Child
 children_of r z = map (child_of r) (filter (is_direct_child r z) r.zones)
 
--- the sites that a zone covers
-abbrev pub is_site_in : Zone → Site → Bool
-is_site_in z s = covers z.prefix s.prefix
-
 abbrev pub entry_of : Site → SiteEntry
 entry_of s = record { prefix = s.prefix; etrs = s.etrs }
 
@@ -49,12 +46,13 @@ content_of r z Ms = Sites (sites_of r z)
 abbrev pub authority_of : Register → Zone → Authority
 authority_of r z = record { prefix = z.prefix; content = content_of r z z.kind }
 
--- the zones of a group, and the authority for each, in the order of their rows
-abbrev pub is_served_by : Group → Zone → Bool
-is_served_by g z = is_same_name g.name z.group
-
+-- the authorities of a group: one for each of its zones, in the order of their rows
 abbrev pub authorities_of : Register → Group → List Authority
 authorities_of r g = map (authority_of r) (filter (is_served_by g) r.zones)
 
 abbrev pub group_config : Register → Group → Outline
 group_config r g = record { name = g.name; role = g.kind; locators = g.locators; authorities = authorities_of r g }
+
+-- the configuration of the group of a name, if a group has it
+abbrev pub config_named : Register → List ℕ → Option Outline
+config_named r name = option_map (group_config r) (group_named r name)

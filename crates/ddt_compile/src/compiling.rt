@@ -1,15 +1,17 @@
 //! One configuration for each group of an accepted register.
 
-ghost use Rattle.std.specs.Prelude.{◌≡◌, ℕ, List, true, false, map, IfOk};
+ghost use Rattle.std.specs.Prelude.{◌≡◌, ℕ, List, true, false, map, find, IfOk, IfSome};
+ghost use Rattle.std.specs.Option.{option_map, option_copied};
 ghost use Rattle.std.specs.List.{All};
 ghost use Rattle.std.specs.Ordering.{nat_cmp, eq_by_cmp};
 ghost use Rattle.std.specs.Cmp.Lexicographic.{slice_cmp};
 ghost use Rattle.ddt_path.specs.declared.record.Role.TheVariants.{Node, Ms};
 ghost use Rattle.ddt_register.specs.declared.group.Group.{Group as AGroup};
+ghost use Rattle.ddt_check.specs.Zones.{is_same_name};
 ghost use Rattle.ddt_config.specs.declared.config.Content.TheVariants.{Children, Sites};
 ghost use Rattle.ddt_config.specs.Shaped.{is_shaped};
 ghost use Rattle.ddt_config.specs.Table.{outline};
-ghost use Rattle.ddt_compile.specs.GroupConfig.{group_config as group_config_of, authorities_of as authorities_of_group};
+ghost use Rattle.ddt_compile.specs.GroupConfig.{group_config as group_config_of, config_named, authorities_of as authorities_of_group_of};
 ghost use Rattle.ddt_compile.specs.Laws.{IsHonestConfig, HasRoom};
 ghost use Rattle.ddt_compile.specs.Lists.{list_at};
 
@@ -44,6 +46,32 @@ pub fn compile(alloc: Global, accepted: &Accepted) -> Result<Listed<ServerConfig
     Ok(Listed::of(configs))
 }
 
+/// The configuration of the group of this name alone; None if and only if no group has it. The others aren't made.
+/// Refused for memory alone.
+pub fn compile_group(
+    alloc: Global,
+    accepted: &Accepted,
+    name: Name,
+) -> Result<Option<ServerConfig>, AllocError>
+    ensures found { IfOk result (λ found. option_map outline found ≡ config_named accepted.now name) }
+    ensures honest { IfOk result (λ found. IfSome found (λ c. IsHonestConfig accepted.now (outline c))) }
+    ensures room { IfOk result (λ found. IfSome found (λ c. HasRoom (outline c))) }
+{
+    match find_group(accepted.register().groups.as_slice(), name) {
+        Some(group) => {
+            let own = authorities_of_group(alloc, accepted, group)?;
+            Ok(Some(group_config(group, own)))
+        }
+        None => Ok(None),
+    }
+}
+
+fn find_group(groups: &[Group], name: Name) -> Option<&Group>
+    ensures { option_copied result ≡ find (λ g. is_same_name g.name name) groups.now }
+{
+    groups.iter().find(|g| g.name == name)
+}
+
 fn group_config(group: &Group, authorities: Listed<Authority>) -> ServerConfig
     requires { is_shaped group.now.kind group.now.locators authorities ≡ true }
     ensures name { result.name ≡ group.now.name }
@@ -64,7 +92,7 @@ fn authorities_by_group(
     alloc: Global,
     accepted: &Accepted,
 ) -> Result<BTreeMap<Name, Vec<Authority>>, AllocError>
-    ensures { IfOk result (λ lists. (g : AGroup) → list_at (slice_cmp nat_cmp) lists g.name ≡ authorities_of_group accepted.now g) }
+    ensures { IfOk result (λ lists. (g : AGroup) → list_at (slice_cmp nat_cmp) lists g.name ≡ authorities_of_group_of accepted.now g) }
 {
     let zones = accepted.register().zones.as_slice();
     let prefixes = prefixes_of(alloc, zones)?;
@@ -79,6 +107,30 @@ fn authorities_by_group(
         append(&mut lists, alloc, zone.group, authority)?;
     }
     Ok(lists)
+}
+
+/// The authorities of one group, in the order of the zones' rows.
+fn authorities_of_group(
+    alloc: Global,
+    accepted: &Accepted,
+    group: &Group,
+) -> Result<Listed<Authority>, AllocError>
+    ensures { IfOk result (λ authorities. authorities ≡ authorities_of_group_of accepted.now group.now) }
+{
+    let zones = accepted.register().zones.as_slice();
+    let prefixes = prefixes_of(alloc, zones)?;
+    let mut children = children_by_zone(alloc, accepted, &prefixes)?;
+    let mut sites = sites_by_zone(alloc, accepted, &prefixes)?;
+    let mut authorities = Vec::new(alloc);
+    for zone in zones {
+        if group.name == zone.group {
+            authorities.push(Authority {
+                prefix: zone.prefix,
+                content: content(alloc, zone, &mut children, &mut sites),
+            })?;
+        }
+    }
+    Ok(Listed::of(authorities))
 }
 
 /// Takes out what is delegated or registered in a zone.

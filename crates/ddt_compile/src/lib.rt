@@ -11,7 +11,7 @@ mod locators;
 mod nearest;
 mod sites;
 
-pub use compiling::compile;
+pub use compiling::{compile, compile_group};
 pub use laws::a_compiled_configuration_answers_honestly;
 
 #[cfg(test)]

@@ -1,7 +1,7 @@
 use super::*;
 use ddt_check::check;
 use ddt_config::{ServerConfig, from_toml, to_toml};
-use ddt_path::Listed;
+use ddt_path::{Listed, Name};
 use ddt_register::read_register;
 use std::alloc::Global;
 use std::test::*;
@@ -95,6 +95,39 @@ kind = "ms"
 locators = ["127.0.1.1"]
 "#;
 
+/// The campus with a site inside each of its sites.
+const NESTED: &str = "kind,prefix,group,addresses
+group-node,,root,127.0.0.1
+group-node,,ten,127.0.0.10
+group-ms,,east,127.0.1.1 127.0.1.2
+node,*,root,
+node,[0]10.0.0.0/8,ten,
+ms,[0]10.1.0.0/16,east,
+site,[0]10.1.2.0/24,,127.0.2.1
+site,[0]10.1.4.0/24,,
+site,[0]10.1.4.128/25,,127.0.2.2
+site,[0]10.1.2.64/26,,
+";
+
+const NESTED_EAST: &str = r#"name = "east"
+kind = "ms"
+locators = ["127.0.1.1", "127.0.1.2"]
+[[authority]]
+prefix = "[0]10.1.0.0/16"
+[[authority.site]]
+prefix = "[0]10.1.2.0/24"
+etrs = ["127.0.2.1"]
+[[authority.site]]
+prefix = "[0]10.1.4.0/24"
+etrs = []
+[[authority.site]]
+prefix = "[0]10.1.4.128/25"
+etrs = ["127.0.2.2"]
+[[authority.site]]
+prefix = "[0]10.1.2.64/26"
+etrs = []
+"#;
+
 fn compiled(alloc: Global, text: &str) -> Result<Listed<ServerConfig>, Fail> {
     let Ok(register) = read_register(alloc, text.as_bytes()) else {
         return Err("no register".into());
@@ -134,5 +167,36 @@ fn a_zone_and_a_site_may_stand_before_the_zone_above(rt: HostRuntime) -> Result<
     assert!(rt; is_that_of(alloc, east, SCATTERED_EAST)?);
     assert!(rt; is_that_of(alloc, ten, SCATTERED_TEN)?);
     assert!(rt; is_that_of(alloc, root, ROOT)?);
+    Ok(())
+}
+
+#[test]
+fn sites_inside_sites_stand_side_by_side(rt: HostRuntime) -> Result<(), Fail> {
+    let alloc = rt.alloc();
+    let configs = compiled(alloc, NESTED)?;
+    let [_root, ten, east] = configs.as_slice() else {
+        return Err("three groups".into());
+    };
+    assert!(rt; is_that_of(alloc, ten, TEN)?);
+    assert!(rt; is_that_of(alloc, east, NESTED_EAST)?);
+    Ok(())
+}
+
+#[test]
+fn one_group_is_compiled_alone(rt: HostRuntime) -> Result<(), Fail> {
+    let alloc = rt.alloc();
+    let Ok(register) = read_register(alloc, NESTED.as_bytes()) else {
+        return Err("no register".into());
+    };
+    let Ok(accepted) = check(register) else {
+        return Err("not accepted".into());
+    };
+    for (name, text) in [(b"east".as_slice(), NESTED_EAST), (b"ten".as_slice(), TEN)] {
+        let name = Name::of(name).ok_or("no name")?;
+        let config = compile_group(alloc, &accepted, name)?.ok_or("no group")?;
+        assert!(rt; is_that_of(alloc, &config, text)?);
+    }
+    let west = Name::of(b"west").ok_or("no name")?;
+    assert!(rt; compile_group(alloc, &accepted, west)?.is_none());
     Ok(())
 }

@@ -71,7 +71,7 @@ content_has_room Node authority (Children cs) e = all_imply (is_child_of authori
   where
     fits_one : Child → Bool
     fits_one c = nat_le 1 (length c.locators)
-content_has_room Ms authority (Sites ss) e = all_imply (is_site_of authority) site_fits (λ s h. (and_parts _ (fits s.etrs) h).1) ss (and_parts _ (are_apart (λ (s : SiteEntry). s.prefix) ss) e).0
+content_has_room Ms authority (Sites ss) e = all_imply (is_site_of authority) site_fits (λ s h. (and_parts _ (fits s.etrs) h).1) ss (and_parts _ (have_own_prefixes (λ (s : SiteEntry). s.prefix) ss) e).0
 content_has_room Node authority (Sites ss) e = absurd (false≢true e)
 content_has_room Ms authority (Children cs) e = absurd (false≢true e)
 

@@ -1,14 +1,14 @@
--- What is written is read as what it stands for.
-use Rattle.std.proofs.Common.{◌≡◌, ℕ, suc, ◌+◌, ◌<◌, ◌≤◌, max, Bool, true, ◌&&◌, if◌then◌else◌, List, [], ◌∷◌, ◌++◌, length, take, drop, get_or, map, Result, Ok, Err, String, Global, Ordering, Less, Equal, Greater, string_bytes, nat_cmp, refl, sym, ap, ◌∙◌, arith, codes}
-use Rattle.std.specs.List.{list_all}
+-- What is written is one table, and is read as what it was written for.
+use Rattle.std.proofs.Common.{◌≡◌, ℕ, suc, ◌+◌, ◌<◌, ◌≤◌, max, Bool, true, ◌&&◌, if◌then◌else◌, List, [], ◌∷◌, ◌++◌, length, take, get_or, map, Some, Result, Ok, Err, String, Global, Ordering, Less, Equal, Greater, string_bytes, refl, sym, ap, ◌∙◌, arith}
+use Rattle.std.specs.List.{list_all, AllByRecursion}
 use Rattle.std.proofs.lemmas.Bool.{and_parts, false≢true}
-use Rattle.std.proofs.lemmas.List.{take_all, drop_more}
+use Rattle.std.proofs.lemmas.List.{take_all, map-append}
 use Rattle.std.proofs.Math.Seq.{take-suc}
 use Rattle.std.specs.String.{string_cmp}
 use Rattle.std.specs.Ordering.{match_ordering}
 use Rattle.std.specs.BTreeMap.{insert_entry}
-use Rattle.std.specs.Cmp.Lexicographic.{slice_cmp}
-use Rattle.toml.specs.Data.{Data, Members, no_members, member, string, array, depth, has_valid_dates, items_depth, items_have_valid_dates, members_depth, members_have_valid_dates}
+use Rattle.toml.specs.Data.{Data, Members, no_members, member, string, array, table, depth, has_valid_dates, items_depth, items_have_valid_dates, members_depth, members_have_valid_dates}
+use Rattle.toml.specs.Parse.{parse_document}
 use Rattle.toml.specs.View.{view, items_view, members_view}
 use Rattle.toml.specs.declared.value.Value.{Value}
 use Rattle.ddt_path.specs.declared.locator.Locator.{Locator}
@@ -16,6 +16,7 @@ use Rattle.ddt_path.specs.declared.record.Role.{Role}
 use Rattle.ddt_path.specs.declared.record.Role.TheVariants.{Node, Ms}
 use Rattle.ddt_path.specs.Names.{is_name}
 use Rattle.ddt_text.specs.FirstFault.{locator_in, prefix_in}
+use Rattle.ddt_text.specs.Written.{written_locator, written_prefix}
 use Rattle.ddt_config.specs.declared.fault.Key.{Key}
 use Rattle.ddt_config.specs.declared.fault.Key.TheVariants as key
 use Rattle.ddt_config.specs.declared.fault.ConfigFault.{ConfigFault}
@@ -25,10 +26,9 @@ use Rattle.ddt_config.specs.declared.config.SiteEntry.{SiteEntry}
 use Rattle.ddt_config.specs.declared.config.Content.{Content}
 use Rattle.ddt_config.specs.declared.config.Content.TheVariants.{Children, Sites}
 use Rattle.ddt_config.specs.declared.config.Authority.{Authority}
-use Rattle.ddt_config.specs.Table.{on_ok, each, of_form, text_of, table_of, array_of, name_in, role_text, role_of, role_in, path_in, locators_in, tables_at, key_text, child_in, site_in, content_in, authority_in, Outline, config_in}
+use Rattle.ddt_config.specs.Table.{key_text, on_ok, each, listed, of_form, text_of, table_of, array_of, name_in, role_text, role_of, role_in, path_in, locators_in, tables_at, child_in, site_in, content_in, authority_in, Outline, config_in, config_in_document, config_in_text}
 use Rattle.ddt_config.specs.Shaped.{is_server_set, are_distinct, have_own_prefixes, is_content_of, is_authority_of, is_shaped}
-use Rattle.ddt_config.specs.Writing.{inserted, IsPlain, ArePlain, IsTextOf, IsTableOf, AreWritten, IsArrayOf, IsContentValue, is_content_for, content_key}
-use Rattle.ddt_config.proofs.ValueLemmas.{listed-view}
+use Rattle.ddt_config.specs.Writing.{inserted, with_keys, items_of, written_each, written_locators, written_child, written_site, written_content, written_authority, written_config, is_content_for, PrefixComesBack, LocatorsComeBack, ChildComesBack, SiteComesBack, ContentComesBack, AuthorityComesBack}
 
 -- a member put into the map of a table
 in_order : (o : Ordering) (a b c : List (String Global × Value)) → members_view (match_ordering o a b c) ≡ match_ordering o (members_view a) (members_view b) (members_view c)
@@ -43,212 +43,107 @@ members_view-insert (e ∷ es) k v = in_order (string_cmp k e.0) _ _ _ ∙ rw (m
 pub empty_table : (es : List (String Global × Value)) → es ≡ [] → members_view es ≡ no_members
 empty_table es e = rw e refl
 
--- nesting
-pub plain-more : (m n : ℕ) (d : Data) → m ≤ n → IsPlain m d → IsPlain n d
-plain-more m n d le h = (omega (arith, h.0), h.1)
+-- ---- values beside what they were written for
 
-pub plain_string : (n : ℕ) (d : Data) (text : List ℕ) → d ≡ string text → IsPlain n d
-plain_string n d text e = rw e (omega arith, refl)
-
-inserted_in : (o : Ordering) (n : ℕ) (a b c : Members) → ArePlain n a → ArePlain n b → ArePlain n c → ArePlain n (match_ordering o a b c)
-inserted_in Less n a b c x y z = x
-inserted_in Equal n a b c x y z = y
-inserted_in Greater n a b c x y z = z
-
-plain_member : (n : ℕ) (k : List ℕ) (d : Data) (ms : Members) → IsPlain n d → ArePlain n ms → ArePlain n (member k d ms)
-plain_member n k d ms h r = (let a : depth d ≤ n = h.0 in let b : members_depth ms ≤ n = r.0 in omega arith, rw (h.1, r.1) refl)
-
-pub plain-inserted : (n : ℕ) (k : List ℕ) (d : Data) (ms : Members) → IsPlain n d → ArePlain n ms → ArePlain n (inserted k d ms)
-plain-inserted n k d no_members h r = plain_member n k d no_members h r
-plain-inserted n k d (member l e ms) h r =
-    let parts = split n l e ms r in
-    inserted_in (slice_cmp nat_cmp k l) n _ _ _
-    (plain_member n k d (member l e ms) h r)
-    (plain_member n l d ms h parts.1)
-    (plain_member n l e (inserted k d ms) parts.0 (plain-inserted n k d ms h parts.1))
-  where
-    split : (n : ℕ) (l : List ℕ) (e : Data) (ms : Members) → ArePlain n (member l e ms) → IsPlain n e × ArePlain n ms
-    split n l e ms r =
-        let top : max (depth e) (members_depth ms) ≤ n = r.0 in
-        let parts = and_parts (has_valid_dates e) (members_have_valid_dates ms) r.1 in
-        ((omega arith, parts.0), (omega arith, parts.1))
-
-pub plain_empty : (n : ℕ) → ArePlain n no_members
-plain_empty n = (omega arith, refl)
-
--- values beside what they stand for
-pub written-last : {A : Type 0} (R : Data → A → Type 0) (vs : List Value) (xs : List A) (v : Value) (x : A) → AreWritten R vs xs → R (view v) x → AreWritten R (vs ++ v ∷ []) (xs ++ x ∷ [])
-written-last R [] [] v x h r = (r, tt)
-written-last R [] (y ∷ ys) v x h r = absurd h
-written-last R (w ∷ vs) [] v x h r = absurd h
-written-last R (w ∷ vs) (y ∷ ys) v x h r = (h.0, written-last R vs ys v x h.1 r)
-
-pub written-next : {A : Type 0} (R : Data → A → Type 0) (vs : List Value) (xs : List A) (i : ℕ) (v : Value) (x d : A)
-    → i < length xs → x ≡ get_or xs i d → AreWritten R vs (take i xs) → R (view v) x → AreWritten R (vs ++ v ∷ []) (take (i + 1) xs)
-written-next R vs xs i v x d lt is h r =
+last_of : {A : Type 0} (xs : List A) (i : ℕ) (x d : A) → i < length xs → x ≡ get_or xs i d → take (i + 1) xs ≡ take i xs ++ x ∷ []
+last_of xs i x d lt is =
     let on : i + 1 ≡ suc i = omega arith in
-    let e : take (i + 1) xs ≡ take i xs ++ x ∷ [] = ap (λ (n : ℕ). take n xs) on ∙ take-suc xs i d lt ∙ ap (λ y. take i xs ++ y ∷ []) (sym is) in
-    rw e (written-last R vs (take i xs) v x h r)
+    ap (λ (n : ℕ). take n xs) on ∙ take-suc xs i d lt ∙ ap (λ y. take i xs ++ y ∷ []) (sym is)
 
-pub written-end : {A : Type 0} (R : Data → A → Type 0) (v : Value) (vs : List Value) (xs : List A) (i : ℕ) → view v ≡ array (items_view vs) → length xs ≤ i → AreWritten R vs (take i xs) → IsArrayOf R (view v) xs
-written-end R v vs xs i e le h = (vs, e, rw (take_all i xs le) at h)
+pub values-next : {A : Type 0} (write : A → Data) (vs : List Value) (xs : List A) (i : ℕ) (v : Value) (x d : A)
+    → i < length xs → x ≡ get_or xs i d → map view vs ≡ map write (take i xs) → view v ≡ write x → map view (vs ++ v ∷ []) ≡ map write (take (i + 1) xs)
+values-next write vs xs i v x d lt is h e =
+    map-append view vs (v ∷ [])
+    ∙ (λ j. h j ++ e j ∷ [])
+    ∙ sym (map-append write (take i xs) (x ∷ []))
+    ∙ ap (map write) (sym (last_of xs i x d lt is))
 
--- a test that holds of all that is left
-pub rest_suits : {A : Type 0} (test : A → Bool) (xs : List A) (i : ℕ) (x : A) → i < length xs → x ≡ get_or xs i x → list_all test (drop i xs) ≡ true → (test x ≡ true) × (list_all test (drop (i + 1) xs) ≡ true)
-rest_suits test xs i x lt is e =
-    let split : drop i xs ≡ x ∷ drop (i + 1) xs = drop_more xs i x lt ∙ ap (λ y. y ∷ drop (i + 1) xs) (sym is) in
-    let h : list_all test (x ∷ drop (i + 1) xs) ≡ true = rw split at e in
-    and_parts (test x) (list_all test (drop (i + 1) xs)) h
+items_view-map : (vs : List Value) → items_view vs ≡ items_of (map view vs)
+items_view-map [] = refl
+items_view-map (v ∷ vs) = rw (items_view-map vs) refl
 
-written-each : {A B : Type 0} (R : Data → A → Type 0) (g : Data → Result B ConfigFault) (f : B → Result A ConfigFault)
-    → ((d : Data) (a : A) → R d a → (b : B) × (g d ≡ Ok b) × (f b ≡ Ok a))
-    → (vs : List Value) (xs : List A) → AreWritten R vs xs → (bs : List B) × (each g (map view vs) ≡ Ok bs) × (each f bs ≡ Ok xs)
-written-each R g f read [] [] h = ([], refl, refl)
-written-each R g f read [] (x ∷ xs) h = absurd h
-written-each R g f read (v ∷ vs) [] h = absurd h
-written-each R g f read (v ∷ vs) (x ∷ xs) h =
-    let here = read (view v) x h.0 in
-    let more = written-each R g f read vs xs h.1 in
-    (here.0 ∷ more.0, rw (here.1, more.1) refl, rw (here.2, more.2) refl)
+pub values-end : {A : Type 0} (write : A → Data) (v : Value) (vs : List Value) (xs : List A) (i : ℕ) → view v ≡ array (items_view vs) → length xs ≤ i → map view vs ≡ map write (take i xs) → view v ≡ written_each write xs
+values-end write v vs xs i e le h =
+    e ∙ ap array (items_view-map vs) ∙ ap (λ ds. array (items_of ds)) (h ∙ ap (map write) (take_all i xs le))
 
-array_read : {A B : Type 0} (k : Key) (R : Data → A → Type 0) (g : Data → Result B ConfigFault) (f : B → Result A ConfigFault)
-    → ((d : Data) (a : A) → R d a → (b : B) × (g d ≡ Ok b) × (f b ≡ Ok a))
-    → (d : Data) (xs : List A) → IsArrayOf R d xs → on_ok (on_ok (array_of k d) (each g)) (each f) ≡ Ok xs
-array_read k R g f read d xs h =
-    let all = written-each R g f read h.0 xs h.2 in
-    let e : array_of k d ≡ Ok (map view h.0) = rw h.1 (ap Ok (listed-view h.0)) in
-    rw (e, all.1, all.2) refl
+all-last : {A : Type 0} (P : A → Type 0) (xs : List A) (x : A) → AllByRecursion P xs → P x → AllByRecursion P (xs ++ x ∷ [])
+all-last P [] x h p = (p, tt)
+all-last P (y ∷ ys) x h p = (h.0, all-last P ys x h.1 p)
 
-pub locators_written : (k : Key) (d : Data) (ls : List Locator) → IsArrayOf (IsTextOf locator_in) d ls → on_ok (on_ok (array_of k d) (each (text_of k))) (each (λ text. of_form k (locator_in text))) ≡ Ok ls
-locators_written k = array_read k (IsTextOf locator_in) (text_of k) (λ text. of_form k (locator_in text)) (λ d a h. (h.0, rw h.1 refl, rw h.2 refl))
+pub all-next : {A : Type 0} (P : A → Type 0) (xs : List A) (i : ℕ) (x d : A) → i < length xs → x ≡ get_or xs i d → AllByRecursion P (take i xs) → P x → AllByRecursion P (take (i + 1) xs)
+all-next P xs i x d lt is h p = rw (last_of xs i x d lt is) (all-last P (take i xs) x h p)
 
-pub entries_written : {A : Type 0} (k : Key) (standing : Members → Result A ConfigFault) (n : ℕ) (d : Data) (xs : List A) → IsArrayOf (IsTableOf standing n) d xs → on_ok (on_ok (array_of k d) (each (table_of k))) (each standing) ≡ Ok xs
-entries_written k standing n = array_read k (IsTableOf standing n) (table_of k) standing (λ d a h. (h.0, rw h.1 refl, h.2))
+pub all-end : {A : Type 0} (P : A → Type 0) (xs : List A) (i : ℕ) → length xs ≤ i → AllByRecursion P (take i xs) → AllByRecursion P xs
+all-end P xs i le h = rw (take_all i xs le) at h
 
-items_plain : {A : Type 0} (R : Data → A → Type 0) (n : ℕ) → ((d : Data) (a : A) → R d a → IsPlain n d) → (vs : List Value) (xs : List A) → AreWritten R vs xs → (items_depth (items_view vs) ≤ n) × (items_have_valid_dates (items_view vs) ≡ true)
-items_plain R n plain [] [] h = (omega arith, refl)
-items_plain R n plain [] (x ∷ xs) h = absurd h
-items_plain R n plain (v ∷ vs) [] h = absurd h
-items_plain R n plain (v ∷ vs) (x ∷ xs) h =
-    let here = plain (view v) x h.0 in
-    let more = items_plain R n plain vs xs h.1 in
-    (let a : depth (view v) ≤ n = here.0 in let b : items_depth (items_view vs) ≤ n = more.0 in omega arith, rw (here.1, more.1) refl)
+-- ---- arrays that are read
 
-array_plain : {A : Type 0} (R : Data → A → Type 0) (n : ℕ) → ((d : Data) (a : A) → R d a → IsPlain n d) → (d : Data) (xs : List A) → IsArrayOf R d xs → IsPlain (suc n) d
-array_plain R n plain d xs h =
-    let all = items_plain R n plain h.0 xs h.2 in
-    rw h.1 (let a : items_depth (items_view h.0) ≤ n = all.0 in omega arith, all.1)
+listed-items_of : (ds : List Data) → listed (items_of ds) ≡ ds
+listed-items_of [] = refl
+listed-items_of (d ∷ ds) = ap (λ es. d ∷ es) (listed-items_of ds)
 
-pub locators_plain : (d : Data) (ls : List Locator) → IsArrayOf (IsTextOf locator_in) d ls → IsPlain 1 d
-locators_plain d ls h = array_plain (IsTextOf locator_in) 0 (λ e a k. plain_string 0 e k.0 k.1) d ls h
+each-written : {A B : Type 0} (g : Data → Result B ConfigFault) (write : A → Data) (between : A → B) → ((x : A) → g (write x) ≡ Ok (between x)) → (xs : List A) → each g (map write xs) ≡ Ok (map between xs)
+each-written g write between reads [] = refl
+each-written g write between reads (x ∷ xs) = rw (reads x, each-written g write between reads xs) refl
 
-pub entries_plain : {A : Type 0} (standing : Members → Result A ConfigFault) (n : ℕ) (d : Data) (xs : List A) → IsArrayOf (IsTableOf standing n) d xs → IsPlain (suc (suc n)) d
-entries_plain standing n d xs h = array_plain (IsTableOf standing n) (suc n) (λ e a k. rw k.1 (let b : members_depth k.0 ≤ n = k.3.0 in omega arith, k.3.1)) d xs h
+each-back : {A B : Type 0} (P : A → Type 0) (f : B → Result A ConfigFault) (between : A → B) → ((x : A) → P x → f (between x) ≡ Ok x) → (xs : List A) → AllByRecursion P xs → each f (map between xs) ≡ Ok xs
+each-back P f between back [] h = refl
+each-back P f between back (x ∷ xs) h = rw (back x h.0, each-back P f between back xs h.1) refl
+
+array-read : {A B : Type 0} (k : Key) (g : Data → Result B ConfigFault) (f : B → Result A ConfigFault) (write : A → Data) (between : A → B) (P : A → Type 0)
+    → ((x : A) → g (write x) ≡ Ok (between x)) → ((x : A) → P x → f (between x) ≡ Ok x)
+    → (xs : List A) → AllByRecursion P xs → on_ok (on_ok (array_of k (written_each write xs)) (each g)) (each f) ≡ Ok xs
+array-read k g f write between P reads back xs h = rw (listed-items_of (map write xs), each-written g write between reads xs, each-back P f between back xs h) refl
+
+locators_back : (k : Key) (ls : List Locator) → LocatorsComeBack ls → on_ok (on_ok (array_of k (written_locators ls)) (each (text_of k))) (each (λ text. of_form k (locator_in text))) ≡ Ok ls
+locators_back k =
+    array-read k (text_of k) (λ text. of_form k (locator_in text)) (λ l. string (written_locator l)) written_locator (λ l. locator_in (written_locator l) ≡ Ok l)
+    (λ l. refl) (λ l h. rw h refl)
+
+entries_back : {A : Type 0} (k : Key) (standing : Members → Result A ConfigFault) (written : A → Members) (P : A → Type 0) → ((x : A) → P x → standing (written x) ≡ Ok x)
+    → (xs : List A) → AllByRecursion P xs → on_ok (on_ok (array_of k (written_each (λ x. table (written x)) xs)) (each (table_of k))) (each standing) ≡ Ok xs
+entries_back k standing written P back = array-read k (table_of k) standing (λ x. table (written x)) written P (λ x. refl) back
 
 -- what stands at one key
-pub path_written : (d : Data) (path : List ℕ) → IsTextOf prefix_in d path → on_ok (text_of key.Prefix d) (λ text. of_form key.Prefix (prefix_in text)) ≡ Ok path
-path_written d path h = rw (h.1, h.2) refl
+path_back : (p : List ℕ) → PrefixComesBack p → on_ok (text_of key.Prefix (string (written_prefix p))) (λ text. of_form key.Prefix (prefix_in text)) ≡ Ok p
+path_back p h = rw h refl
 
-pub role_written : (d : Data) (role : Role) → d ≡ string (role_text role) → on_ok (text_of key.Kind d) role_of ≡ Ok role
-role_written d Node e = rw e refl
-role_written d Ms e = rw e refl
+role_back : (role : Role) → on_ok (text_of key.Kind (string (role_text role))) role_of ≡ Ok role
+role_back Node = refl
+role_back Ms = refl
 
--- the tables of a child, a site, an authority, a configuration
-abbrev pub child_table : Data → Data → Data → Members
-child_table dp dr dl = inserted (codes "locators") dl (inserted (codes "kind") dr (inserted (codes "prefix") dp no_members))
+name_back : (name : List ℕ) → is_name name ≡ true → on_ok (text_of key.Name (string name)) (λ text. if is_name text then Ok text else Err (ValueFault key.Name)) ≡ Ok name
+name_back name n = rw n refl
 
-abbrev pub site_table : Data → Data → Members
-site_table dp dl = inserted (codes "etrs") dl (inserted (codes "prefix") dp no_members)
-
-abbrev pub authority_table : Role → Data → Data → Members
-authority_table role dp d = inserted (key_text (content_key role)) d (inserted (codes "prefix") dp no_members)
-
-abbrev pub top_table : Data → Data → Data → Data → Members
-top_table dn dr dl da = inserted (codes "authority") da (inserted (codes "locators") dl (inserted (codes "kind") dr (inserted (codes "name") dn no_members)))
+-- ---- tables that are read
 
 child_from : (ms : Members) (c : Child) → path_in ms ≡ Ok c.prefix → role_in ms ≡ Ok c.role → locators_in key.Locators ms ≡ Ok c.locators → child_in ms ≡ Ok c
 child_from ms c p r l = rw (p, r, l) refl
 
-pub child_written : (c : Child) (dp dr dl : Data) → IsTextOf prefix_in dp c.prefix → dr ≡ string (role_text c.role) → IsArrayOf (IsTextOf locator_in) dl c.locators
-    → child_in (child_table dp dr dl) ≡ Ok c
-child_written c dp dr dl p r l = child_from (child_table dp dr dl) c (path_written dp c.prefix p) (role_written dr c.role r) (locators_written key.Locators dl c.locators l)
-
-pub child_plain : (c : Child) (dp dr dl : Data) → IsTextOf prefix_in dp c.prefix → dr ≡ string (role_text c.role) → IsArrayOf (IsTextOf locator_in) dl c.locators
-    → ArePlain 1 (child_table dp dr dl)
-child_plain c dp dr dl p r l =
-    let m1 = inserted (codes "prefix") dp no_members in
-    let m2 = inserted (codes "kind") dr m1 in
-    let h1 : ArePlain 1 m1 = plain-inserted 1 (codes "prefix") dp no_members (plain_string 1 dp p.0 p.1) (plain_empty 1) in
-    let h2 : ArePlain 1 m2 = plain-inserted 1 (codes "kind") dr m1 (plain_string 1 dr (role_text c.role) r) h1 in
-    plain-inserted 1 (codes "locators") dl m2 (locators_plain dl c.locators l) h2
+pub child_back : (c : Child) → PrefixComesBack c.prefix → LocatorsComeBack c.locators → ChildComesBack c
+child_back c p l = child_from (written_child c) c (path_back c.prefix p) (role_back c.role) (locators_back key.Locators c.locators l)
 
 site_from : (ms : Members) (s : SiteEntry) → path_in ms ≡ Ok s.prefix → locators_in key.Etrs ms ≡ Ok s.etrs → site_in ms ≡ Ok s
 site_from ms s p l = rw (p, l) refl
 
-pub site_written : (s : SiteEntry) (dp dl : Data) → IsTextOf prefix_in dp s.prefix → IsArrayOf (IsTextOf locator_in) dl s.etrs
-    → site_in (site_table dp dl) ≡ Ok s
-site_written s dp dl p l = site_from (site_table dp dl) s (path_written dp s.prefix p) (locators_written key.Etrs dl s.etrs l)
-
-pub site_plain : (s : SiteEntry) (dp dl : Data) → IsTextOf prefix_in dp s.prefix → IsArrayOf (IsTextOf locator_in) dl s.etrs
-    → ArePlain 1 (site_table dp dl)
-site_plain s dp dl p l =
-    let m1 = inserted (codes "prefix") dp no_members in
-    let h1 : ArePlain 1 m1 = plain-inserted 1 (codes "prefix") dp no_members (plain_string 1 dp p.0 p.1) (plain_empty 1) in
-    plain-inserted 1 (codes "etrs") dl m1 (locators_plain dl s.etrs l) h1
+pub site_back : (s : SiteEntry) → PrefixComesBack s.prefix → LocatorsComeBack s.etrs → SiteComesBack s
+site_back s p l = site_from (written_site s) s (path_back s.prefix p) (locators_back key.Etrs s.etrs l)
 
 authority_from : (role : Role) (ms : Members) (a : Authority) → path_in ms ≡ Ok a.prefix → content_in role ms ≡ Ok a.content → authority_in role ms ≡ Ok a
 authority_from role ms a p c = rw (p, c) refl
 
-content_written : (role : Role) (d : Data) (content : Content) (dp : Data) → is_content_for role content ≡ true → IsContentValue d content
-    → content_in role (authority_table role dp d) ≡ Ok content
-content_written Node d (Children cs) dp e h = ap (λ r. on_ok r (λ children. Ok (Children children))) (entries_written key.Child child_in 1 d cs h)
-content_written Ms d (Sites ss) dp e h = ap (λ r. on_ok r (λ sites. Ok (Sites sites))) (entries_written key.Site site_in 1 d ss h)
-content_written Node d (Sites ss) dp e h = absurd (false≢true e)
-content_written Ms d (Children cs) dp e h = absurd (false≢true e)
+content_back : (role : Role) (p : List ℕ) (content : Content) → is_content_for role content ≡ true → ContentComesBack content → content_in role (written_content p content) ≡ Ok content
+content_back Node p (Children cs) e h = ap (λ r. on_ok r (λ children. Ok (Children children))) (entries_back key.Child child_in written_child ChildComesBack (λ c k. k) cs h)
+content_back Ms p (Sites ss) e h = ap (λ r. on_ok r (λ sites. Ok (Sites sites))) (entries_back key.Site site_in written_site SiteComesBack (λ s k. k) ss h)
+content_back Node p (Sites ss) e h = absurd (false≢true e)
+content_back Ms p (Children cs) e h = absurd (false≢true e)
 
-content_path : (role : Role) (d dp : Data) (path : List ℕ) → IsTextOf prefix_in dp path → path_in (authority_table role dp d) ≡ Ok path
-content_path Node d dp path h = path_written dp path h
-content_path Ms d dp path h = path_written dp path h
+content_path : (p : List ℕ) (content : Content) → PrefixComesBack p → path_in (written_content p content) ≡ Ok p
+content_path p (Children cs) h = path_back p h
+content_path p (Sites ss) h = path_back p h
 
-pub authority_written : (role : Role) (a : Authority) (dp d : Data) → is_content_for role a.content ≡ true → IsTextOf prefix_in dp a.prefix → IsContentValue d a.content
-    → authority_in role (authority_table role dp d) ≡ Ok a
-authority_written role a dp d e p h =
-    authority_from role (authority_table role dp d) a (content_path role d dp a.prefix p) (content_written role d a.content dp e h)
-
-content_plain : (d : Data) (content : Content) → IsContentValue d content → IsPlain 3 d
-content_plain d (Children cs) h = entries_plain child_in 1 d cs h
-content_plain d (Sites ss) h = entries_plain site_in 1 d ss h
-
-pub authority_plain : (role : Role) (a : Authority) (dp d : Data) → IsTextOf prefix_in dp a.prefix → IsContentValue d a.content
-    → ArePlain 3 (authority_table role dp d)
-authority_plain role a dp d p h =
-    let m1 = inserted (codes "prefix") dp no_members in
-    let h1 : ArePlain 3 m1 = plain-inserted 3 (codes "prefix") dp no_members (plain_string 3 dp p.0 p.1) (plain_empty 3) in
-    plain-inserted 3 (key_text (content_key role)) d m1 (content_plain d a.content h) h1
-
-config_from : (ms : Members) (o : Outline) → name_in ms ≡ Ok o.name → role_in ms ≡ Ok o.role → locators_in key.Locators ms ≡ Ok o.locators
-    → on_ok (tables_at key.Authority ms) (each (authority_in o.role)) ≡ Ok o.authorities → is_shaped o.role o.locators o.authorities ≡ true → config_in ms ≡ Ok o
-config_from ms o n r l a e = rw (n, r, l, a, e) refl
-
-name_written : (d : Data) (name : List ℕ) → d ≡ string name → is_name name ≡ true → on_ok (text_of key.Name d) (λ text. if is_name text then Ok text else Err (ValueFault key.Name)) ≡ Ok name
-name_written d name e n = rw (e, n) refl
-
-pub config_written : (o : Outline) (dn dr dl da : Data) → dn ≡ string o.name → is_name o.name ≡ true → dr ≡ string (role_text o.role) → IsArrayOf (IsTextOf locator_in) dl o.locators
-    → IsArrayOf (IsTableOf (authority_in o.role) 3) da o.authorities → is_shaped o.role o.locators o.authorities ≡ true → config_in (top_table dn dr dl da) ≡ Ok o
-config_written o dn dr dl da n good r l a e =
-    config_from (top_table dn dr dl da) o (name_written dn o.name n good) (role_written dr o.role r) (locators_written key.Locators dl o.locators l)
-    (entries_written key.Authority (authority_in o.role) 3 da o.authorities a) e
-
-pub config_plain : (o : Outline) (dn dr dl da : Data) → dn ≡ string o.name → dr ≡ string (role_text o.role) → IsArrayOf (IsTextOf locator_in) dl o.locators
-    → IsArrayOf (IsTableOf (authority_in o.role) 3) da o.authorities → ArePlain 5 (top_table dn dr dl da)
-config_plain o dn dr dl da n r l a =
-    let m1 = inserted (codes "name") dn no_members in
-    let m2 = inserted (codes "kind") dr m1 in
-    let m3 = inserted (codes "locators") dl m2 in
-    let h1 : ArePlain 5 m1 = plain-inserted 5 (codes "name") dn no_members (plain_string 5 dn o.name n) (plain_empty 5) in
-    let h2 : ArePlain 5 m2 = plain-inserted 5 (codes "kind") dr m1 (plain_string 5 dr (role_text o.role) r) h1 in
-    let h3 : ArePlain 5 m3 = plain-inserted 5 (codes "locators") dl m2 (plain-more 1 5 dl (omega arith) (locators_plain dl o.locators l)) h2 in
-    plain-inserted 5 (codes "authority") da m3 (entries_plain (authority_in o.role) 3 da o.authorities a) h3
+pub authority_back : (a : Authority) → PrefixComesBack a.prefix → ContentComesBack a.content → AuthorityComesBack a
+authority_back a p h role e = authority_from role (written_authority a) a (content_path a.prefix a.content p) (content_back role a.prefix a.content e h)
 
 -- each authority of a shaped configuration holds what its servers' role asks for
 fit_for : (role : Role) (path : List ℕ) (content : Content) → is_content_of role path content ≡ true → is_content_for role content ≡ true
@@ -267,6 +162,94 @@ pub shaped_fit : (role : Role) (ls : List Locator) (zs : List Authority) → is_
 shaped_fit role ls zs e =
     all_fit role zs (and_parts (have_own_prefixes (λ (a : Authority). a.prefix) zs) (list_all (is_authority_of role) zs) (and_parts (is_server_set ls && are_distinct ls) _ e).1).1
 
-pub all_true : {A : Type 0} (xs : List A) → list_all (λ _. true) xs ≡ true
-all_true [] = refl
-all_true (x ∷ xs) = all_true xs
+authorities_back : (role : Role) (zs : List Authority) → AllByRecursion AuthorityComesBack zs → list_all (λ a. is_content_for role a.content) zs ≡ true → AllByRecursion (λ a. authority_in role (written_authority a) ≡ Ok a) zs
+authorities_back role [] h e = tt
+authorities_back role (a ∷ zs) h e =
+    let parts = and_parts (is_content_for role a.content) (list_all (λ b. is_content_for role b.content) zs) e in
+    (h.0 role parts.0, authorities_back role zs h.1 parts.1)
+
+config_from : (ms : Members) (o : Outline) → name_in ms ≡ Ok o.name → role_in ms ≡ Ok o.role → locators_in key.Locators ms ≡ Ok o.locators
+    → on_ok (tables_at key.Authority ms) (each (authority_in o.role)) ≡ Ok o.authorities → is_shaped o.role o.locators o.authorities ≡ true → config_in ms ≡ Ok o
+config_from ms o n r l a e = rw (n, r, l, a, e) refl
+
+pub config_back : (o : Outline) → is_name o.name ≡ true → LocatorsComeBack o.locators → AllByRecursion AuthorityComesBack o.authorities → is_shaped o.role o.locators o.authorities ≡ true → config_in (written_config o) ≡ Ok o
+config_back o n l a e =
+    config_from (written_config o) o (name_back o.name n) (role_back o.role) (locators_back key.Locators o.locators l)
+    (entries_back key.Authority (authority_in o.role) written_authority (λ b. authority_in o.role (written_authority b) ≡ Ok b) (λ b k. k) o.authorities (authorities_back o.role o.authorities a (shaped_fit o.role o.locators o.authorities e)))
+    e
+
+-- ---- nesting: a value nests at most n deep, and each date in it can be written
+
+abbrev IsPlain : ℕ → Data → Type 0
+IsPlain n d = (depth d ≤ n) × (has_valid_dates d ≡ true)
+
+abbrev ArePlain : ℕ → Members → Type 0
+ArePlain n ms = (members_depth ms ≤ n) × (members_have_valid_dates ms ≡ true)
+
+plain-more : (m n : ℕ) (d : Data) → m ≤ n → IsPlain m d → IsPlain n d
+plain-more m n d le h = (omega (arith, h.0), h.1)
+
+plain_text : (n : ℕ) (text : List ℕ) → IsPlain n (string text)
+plain_text n text = (omega arith, refl)
+
+plain_member : (n : ℕ) (k : List ℕ) (d : Data) (ms : Members) → IsPlain n d → ArePlain n ms → ArePlain n (member k d ms)
+plain_member n k d ms h r = (let a : depth d ≤ n = h.0 in let b : members_depth ms ≤ n = r.0 in omega arith, rw (h.1, r.1) refl)
+
+items_plain : {A : Type 0} (n : ℕ) (write : A → Data) → ((x : A) → IsPlain n (write x)) → (xs : List A) → (items_depth (items_of (map write xs)) ≤ n) × (items_have_valid_dates (items_of (map write xs)) ≡ true)
+items_plain n write plain [] = (omega arith, refl)
+items_plain n write plain (x ∷ xs) =
+    let here = plain x in
+    let more = items_plain n write plain xs in
+    (let a : depth (write x) ≤ n = here.0 in let b : items_depth (items_of (map write xs)) ≤ n = more.0 in omega arith, rw (here.1, more.1) refl)
+
+plain_each : {A : Type 0} (n : ℕ) (write : A → Data) → ((x : A) → IsPlain n (write x)) → (xs : List A) → IsPlain (suc n) (written_each write xs)
+plain_each n write plain xs = let all = items_plain n write plain xs in (let a : items_depth (items_of (map write xs)) ≤ n = all.0 in omega arith, all.1)
+
+plain_tables : {A : Type 0} (n : ℕ) (written : A → Members) → ((x : A) → ArePlain n (written x)) → (xs : List A) → IsPlain (suc (suc n)) (written_each (λ x. table (written x)) xs)
+plain_tables n written plain xs = plain_each (suc n) (λ x. table (written x)) (λ x. (let b : members_depth (written x) ≤ n = (plain x).0 in omega arith, (plain x).1)) xs
+
+plain_locators : (ls : List Locator) → IsPlain 1 (written_locators ls)
+plain_locators ls = plain_each 0 (λ l. string (written_locator l)) (λ l. plain_text 0 (written_locator l)) ls
+
+plain_keys : (n : ℕ) (es : List (Key × Data)) → AllByRecursion (λ e. IsPlain n e.1) es → ArePlain n (with_keys es)
+plain_keys n [] h = (omega arith, refl)
+plain_keys n (e ∷ es) h = plain_member n (key_text e.0) e.1 (with_keys es) h.0 (plain_keys n es h.1)
+
+plain_child : (c : Child) → ArePlain 1 (written_child c)
+plain_child c =
+    plain_keys 1 ((key.Kind, string (role_text c.role)) ∷ (key.Locators, written_locators c.locators) ∷ (key.Prefix, string (written_prefix c.prefix)) ∷ [])
+    (plain_text 1 (role_text c.role), (plain_locators c.locators, (plain_text 1 (written_prefix c.prefix), tt)))
+
+plain_site : (s : SiteEntry) → ArePlain 1 (written_site s)
+plain_site s =
+    plain_keys 1 ((key.Etrs, written_locators s.etrs) ∷ (key.Prefix, string (written_prefix s.prefix)) ∷ [])
+    (plain_locators s.etrs, (plain_text 1 (written_prefix s.prefix), tt))
+
+plain_content : (p : List ℕ) (content : Content) → ArePlain 3 (written_content p content)
+plain_content p (Children cs) =
+    plain_keys 3 ((key.Child, written_each (λ c. table (written_child c)) cs) ∷ (key.Prefix, string (written_prefix p)) ∷ [])
+    (plain_tables 1 written_child plain_child cs, (plain_text 3 (written_prefix p), tt))
+plain_content p (Sites ss) =
+    plain_keys 3 ((key.Prefix, string (written_prefix p)) ∷ (key.Site, written_each (λ s. table (written_site s)) ss) ∷ [])
+    (plain_text 3 (written_prefix p), (plain_tables 1 written_site plain_site ss, tt))
+
+plain_config : (o : Outline) → ArePlain 5 (written_config o)
+plain_config o =
+    plain_keys 5
+    ((key.Authority, written_each (λ a. table (written_authority a)) o.authorities)
+    ∷ (key.Kind, string (role_text o.role))
+    ∷ (key.Locators, written_locators o.locators)
+    ∷ (key.Name, string o.name)
+    ∷ []) (
+      plain_tables 3 written_authority (λ a. plain_content a.prefix a.content) o.authorities,
+      (plain_text 5 (role_text o.role), (plain-more 1 5 (written_locators o.locators) (omega arith) (plain_locators o.locators), (plain_text 5 o.name, tt))),
+    )
+
+-- the printed table is read back, and has no date that can't be written
+pub read_again : (o : Outline) (text : List ℕ) (ms : Members) → ms ≡ written_config o → (members_depth ms ≤ 80 → parse_document text ≡ Some ms) → config_in (written_config o) ≡ Ok o → config_in_text text ≡ Ok o
+read_again o text ms is back stands =
+    let shallow : members_depth ms ≤ 80 = omega (arith, ap (λ m. members_depth m) is, (plain_config o).0) in
+    ap config_in_document (back shallow ∙ ap Some is) ∙ stands
+
+pub dated : (o : Outline) (ms : Members) → ms ≡ written_config o → members_have_valid_dates ms ≡ true
+dated o ms is = ap (λ m. members_have_valid_dates m) is ∙ (plain_config o).1

@@ -1,5 +1,6 @@
 -- The shape of a configuration: a server is in charge of some prefixes, and what it delegates or registers lies inside
--- one of them, each identifier in one place at most (RFC 8111, section 4).
+-- one of them. An identifier lies in one child at most; sites may lie inside sites, and have distinct prefixes
+-- (RFC 8111, section 4).
 use Rattle.std.specs.Prelude.{ℕ, Bool, true, false, ◌&&◌, not, nat_le, List, [], ◌∷◌, length}
 use Rattle.std.specs.List.{list_any, list_all}
 use Rattle.ddt_path.specs.declared.locator.Locator.{Locator}
@@ -49,7 +50,7 @@ is_site_of authority s = covers authority s.prefix && fits s.etrs
 -- the authority of a DDT node holds children, that of a Map-Server sites
 abbrev pub is_content_of : Role → List ℕ → Content → Bool
 is_content_of Node authority (Children cs) = list_all (is_child_of authority) cs && are_apart (λ c. c.prefix) cs
-is_content_of Ms authority (Sites ss) = list_all (is_site_of authority) ss && are_apart (λ s. s.prefix) ss
+is_content_of Ms authority (Sites ss) = list_all (is_site_of authority) ss && have_own_prefixes (λ s. s.prefix) ss
 is_content_of Node authority (Sites ss) = false
 is_content_of Ms authority (Children cs) = false
 
@@ -58,4 +59,5 @@ is_authority_of role a = is_content_of role a.prefix a.content
 
 abbrev pub is_shaped : Role → List Locator → List Authority → Bool
 is_shaped role locators authorities =
-    (is_server_set locators && are_distinct locators) && (have_own_prefixes (λ a. a.prefix) authorities && list_all (is_authority_of role) authorities)
+    (is_server_set locators && are_distinct locators)
+    && (have_own_prefixes (λ a. a.prefix) authorities && list_all (is_authority_of role) authorities)

@@ -1,50 +1,97 @@
--- What the clauses of the private writers cite: a value that is written stands for what was to be written.
-use Rattle.std.specs.Prelude.{◌≡◌, ℕ, ◌≤◌, Bool, true, false, List, [], ◌∷◌, Result, Ok}
+-- How a configuration is written: one table, and what stands at each of its keys.
+use Rattle.std.specs.Prelude.{◌≡◌, ℕ, Bool, true, false, List, [], ◌∷◌, map, Ok}
+use Rattle.std.specs.List.{AllByRecursion}
 use Rattle.std.specs.Ordering.{nat_cmp, match_ordering}
 use Rattle.std.specs.Cmp.Lexicographic.{slice_cmp}
-use Rattle.toml.specs.Data.{Data, Members, no_members, member, string, array, table, depth, has_valid_dates, members_depth, members_have_valid_dates}
-use Rattle.toml.specs.View.{view, items_view}
-use Rattle.toml.specs.declared.value.Value.{Value}
-use Rattle.ddt_text.specs.declared.fault.TextFault.{TextFault}
+use Rattle.toml.specs.Data.{Data, Items, no_items, item, Members, no_members, member, string, array, table}
+use Rattle.ddt_path.specs.declared.locator.Locator.{Locator}
 use Rattle.ddt_path.specs.declared.record.Role.{Role}
 use Rattle.ddt_path.specs.declared.record.Role.TheVariants.{Node, Ms}
+use Rattle.ddt_text.specs.FirstFault.{locator_in, prefix_in}
+use Rattle.ddt_text.specs.Written.{written_locator, written_prefix}
+use Rattle.ddt_config.specs.declared.config.Child.{Child}
+use Rattle.ddt_config.specs.declared.config.SiteEntry.{SiteEntry}
 use Rattle.ddt_config.specs.declared.config.Content.{Content}
 use Rattle.ddt_config.specs.declared.config.Content.TheVariants.{Children, Sites}
-use Rattle.ddt_config.specs.declared.fault.ConfigFault.{ConfigFault}
+use Rattle.ddt_config.specs.declared.config.Authority.{Authority}
 use Rattle.ddt_config.specs.declared.fault.Key.{Key}
 use Rattle.ddt_config.specs.declared.fault.Key.TheVariants as key
-use Rattle.ddt_config.specs.Table.{child_in, site_in}
+use Rattle.ddt_config.specs.Table.{Outline, key_text, role_text, child_in, site_in, authority_in}
 
--- the members with one more, in the order of the keys; a key that is there takes the value
-abbrev pub inserted : List ℕ → Data → Members → Members
-inserted k d no_members = member k d no_members
-inserted k d (member l e ms) = match_ordering (slice_cmp nat_cmp k l) (member k d (member l e ms)) (member l d ms) (member l e (inserted k d ms))
+-- ---- what is written
 
--- a value that nests at most n deep, and in which each date can be written
-abbrev pub IsPlain : ℕ → Data → Type 0
-IsPlain n d = (depth d ≤ n) × (has_valid_dates d ≡ true)
+-- keys with their values, in the order of the keys' names, as TOML lists them
+abbrev pub with_keys : List (Key × Data) → Members
+with_keys [] = no_members
+with_keys (e ∷ rest) = member (key_text e.0) e.1 (with_keys rest)
 
-abbrev pub ArePlain : ℕ → Members → Type 0
-ArePlain n ms = (members_depth ms ≤ n) × (members_have_valid_dates ms ≡ true)
+-- some values, as TOML keeps those of an array
+abbrev pub items_of : List Data → Items
+items_of [] = no_items
+items_of (d ∷ ds) = item d (items_of ds)
 
--- a text that is read as the value
-abbrev pub IsTextOf : {A : Type 0} → (List ℕ → Result A TextFault) → Data → A → Type 0
-IsTextOf reading d a = (text : List ℕ) × (d ≡ string text) × (reading text ≡ Ok a)
+-- an array of what is written for each of a list
+abbrev pub written_each : {A : Type 0} → (A → Data) → List A → Data
+written_each write xs = array (items_of (map write xs))
 
--- a table that stands for the value
-abbrev pub IsTableOf : {A : Type 0} → (Members → Result A ConfigFault) → ℕ → Data → A → Type 0
-IsTableOf standing n d a = (ms : Members) × (d ≡ table ms) × (standing ms ≡ Ok a) × ArePlain n ms
+-- locators, as their texts
+abbrev pub written_locators : List Locator → Data
+written_locators ls = written_each (λ l. string (written_locator l)) ls
 
--- values, one for each of a list
-abbrev pub AreWritten : {A : Type 0} → (Data → A → Type 0) → List Value → List A → Type 0
-AreWritten R [] [] = Unit {0}
-AreWritten R [] (a ∷ rest) = ⊥
-AreWritten R (v ∷ vs) [] = ⊥
-AreWritten R (v ∷ vs) (a ∷ rest) = R (view v) a × AreWritten R vs rest
+-- the tables of a child and of a site
+abbrev pub written_child : Child → Members
+written_child c =
+    with_keys (
+      (key.Kind, string (role_text c.role))
+      ∷ (key.Locators, written_locators c.locators)
+      ∷ (key.Prefix, string (written_prefix c.prefix))
+      ∷ [])
 
--- an array of them
-abbrev pub IsArrayOf : {A : Type 0} → (Data → A → Type 0) → Data → List A → Type 0
-IsArrayOf R d entries = (vs : List Value) × (d ≡ array (items_view vs)) × AreWritten R vs entries
+abbrev pub written_site : SiteEntry → Members
+written_site s = with_keys ((key.Etrs, written_locators s.etrs) ∷ (key.Prefix, string (written_prefix s.prefix)) ∷ [])
+
+-- an authority has its children or its sites, also where they are none, and no other list
+abbrev pub written_content : List ℕ → Content → Members
+written_content prefix (Children cs) =
+    with_keys (
+      (key.Child, written_each (λ c. table (written_child c)) cs)
+      ∷ (key.Prefix, string (written_prefix prefix))
+      ∷ [])
+written_content prefix (Sites ss) =
+    with_keys (
+      (key.Prefix, string (written_prefix prefix))
+      ∷ (key.Site, written_each (λ s. table (written_site s)) ss)
+      ∷ [])
+
+abbrev pub written_authority : Authority → Members
+written_authority a = written_content a.prefix a.content
+
+-- the table of a configuration: these four keys and no other
+abbrev pub written_config : Outline → Members
+written_config c =
+    with_keys (
+    (key.Authority, written_each (λ a. table (written_authority a)) c.authorities)
+    ∷ (key.Kind, string (role_text c.role))
+    ∷ (key.Locators, written_locators c.locators)
+    ∷ (key.Name, string c.name)
+    ∷ [])
+
+-- ---- and that it is read as what it was written for
+
+-- the text of a prefix
+abbrev pub PrefixComesBack : List ℕ → Type 0
+PrefixComesBack p = prefix_in (written_prefix p) ≡ Ok p
+
+-- the text of each locator
+abbrev pub LocatorsComeBack : List Locator → Type 0
+LocatorsComeBack ls = AllByRecursion (λ l. locator_in (written_locator l) ≡ Ok l) ls
+
+-- the table of a child, of a site
+abbrev pub ChildComesBack : Child → Type 0
+ChildComesBack c = child_in (written_child c) ≡ Ok c
+
+abbrev pub SiteComesBack : SiteEntry → Type 0
+SiteComesBack s = site_in (written_site s) ≡ Ok s
 
 -- children for a DDT node, sites for a Map-Server
 abbrev pub is_content_for : Role → Content → Bool
@@ -53,12 +100,29 @@ is_content_for Ms (Sites ss) = true
 is_content_for Node (Sites ss) = false
 is_content_for Ms (Children cs) = false
 
--- the key under which they stand
-abbrev pub content_key : Role → Key
-content_key Node = key.Child
-content_key Ms = key.Site
+-- the table of an authority, by the reader of servers of its kind
+abbrev pub AuthorityComesBack : Authority → Type 0
+AuthorityComesBack a =
+    (role : Role) → is_content_for role a.content ≡ true → authority_in role (written_authority a) ≡ Ok a
 
--- an array of the tables of children, or of sites
-abbrev pub IsContentValue : Data → Content → Type 0
-IsContentValue d (Children cs) = IsArrayOf (IsTableOf child_in 1) d cs
-IsContentValue d (Sites ss) = IsArrayOf (IsTableOf site_in 1) d ss
+-- the table of each child or site in an authority
+abbrev pub ContentComesBack : Content → Type 0
+ContentComesBack (Children cs) = AllByRecursion ChildComesBack cs
+ContentComesBack (Sites ss) = AllByRecursion SiteComesBack ss
+
+-- ---- one step of the writers
+
+-- the members with one more, in the order of the keys; a key that is there takes the value
+abbrev pub inserted : List ℕ → Data → Members → Members
+inserted k d no_members = member k d no_members
+inserted k d (member l e ms) =
+    match_ordering (slice_cmp nat_cmp k l) (member k d (member l e ms)) (member l d ms) (member l e (inserted k d ms))
+
+-- the key of what an authority holds, and its value
+abbrev pub content_key : Content → Key
+content_key (Children cs) = key.Child
+content_key (Sites ss) = key.Site
+
+abbrev pub content_data : Content → Data
+content_data (Children cs) = written_each (λ c. table (written_child c)) cs
+content_data (Sites ss) = written_each (λ s. table (written_site s)) ss

@@ -16,7 +16,7 @@ pub struct Child {
     pub locators: LocatorSet,
 }
 
-/// A site of a Map-Server.
+/// A site of a Map-Server. The longest site that covers an identifier decides.
 #[derive(Clone, Copy, Debug)]
 pub struct SiteEntry {
     pub prefix: Prefix,
@@ -41,7 +41,7 @@ pub struct Authority {
 }
 
 /// The configuration of the servers of one group. Its authorities have distinct prefixes; what they hold is inside
-/// them, of the servers' kind, and doesn't overlap.
+/// them and of the servers' kind. Children don't overlap; sites have distinct prefixes and may lie inside one another.
 #[derive(Debug, Drop)]
 pub struct ServerConfig {
     /// The name of the group.

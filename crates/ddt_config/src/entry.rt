@@ -1,10 +1,10 @@
 //! What stands as a table in an array: authorities, and in them children or sites.
 
-ghost use Rattle.std.specs.Prelude.{◌≡◌, true, Ok, IfOk};
+ghost use Rattle.std.specs.Prelude.{◌≡◌, IfOk, OnOk};
 ghost use Rattle.toml.specs.View.{table_view};
 ghost use Rattle.ddt_config.specs.Table.{child_in, site_in, authority_in};
 ghost use Rattle.ddt_config.specs.Reading.{Reads, child_fits, site_fits, authority_fits};
-ghost use Rattle.ddt_config.specs.Writing.{ArePlain, is_content_for};
+ghost use Rattle.ddt_config.specs.Writing.{written_child, written_site, written_authority, ChildComesBack, SiteComesBack, AuthorityComesBack};
 
 use crate::config::{Authority, Child, SiteEntry};
 use crate::fault::ConfigFault;
@@ -16,7 +16,7 @@ use toml::Table;
 
 /// What a table of an array stands for, in the configuration of servers of some role.
 pub trait Entry: Drop {
-    ghost use Rattle.std.specs.Prelude.{ℕ, Bool, Result};
+    ghost use Rattle.std.specs.Prelude.{Bool, Result};
     ghost use Rattle.toml.specs.Data.{Members};
     ghost use Rattle.ddt_path.specs.declared.record.Role.{Role as RoleValue};
     ghost use Rattle.ddt_config.specs.declared.fault.ConfigFault.{ConfigFault as FaultValue};
@@ -25,19 +25,18 @@ pub trait Entry: Drop {
 
     ghost has_room: { Self → Bool };
 
-    ghost suits: { RoleValue → Self → Bool };
+    ghost written: { Self → Members };
 
-    ghost nesting: { ℕ };
+    ghost comes_back: { Self → Type 0 };
 
     /// The entry that a table stands for; None where some list of locators in it has more than 8.
     fn read(alloc: Global, role: Role, table: &Table) -> Result<Option<Self>, ConfigFault>
         ensures { Reads has_room (entry_in role (table_view table.now)) result };
 
-    /// A table that stands for the entry.
-    fn write(&self, alloc: Global, role: Role) -> Result<Table, AllocError>
-        requires { suits role self.now ≡ true }
-        ensures stands { IfOk result (λ t. entry_in role (table_view t) ≡ Ok self.now) }
-        ensures plain { IfOk result (λ t. ArePlain nesting (table_view t)) };
+    /// The table of the entry, which is read as the entry.
+    fn write(&self, alloc: Global) -> Result<Table, AllocError>
+        ensures written { IfOk result (λ t. table_view t ≡ written self.now) }
+        ensures back { OnOk result (comes_back self.now) };
 }
 
 impl Entry for Child {
@@ -45,15 +44,15 @@ impl Entry for Child {
 
     ghost has_room = { child_fits };
 
-    ghost suits = { λ _ _. true };
+    ghost written = { written_child };
 
-    ghost nesting = { 1 };
+    ghost comes_back = { ChildComesBack };
 
     fn read(alloc: Global, _role: Role, table: &Table) -> Result<Option<Child>, ConfigFault> {
         read_child(alloc, table)
     }
 
-    fn write(&self, alloc: Global, _role: Role) -> Result<Table, AllocError> {
+    fn write(&self, alloc: Global) -> Result<Table, AllocError> {
         write_child(alloc, self)
     }
 }
@@ -63,15 +62,15 @@ impl Entry for SiteEntry {
 
     ghost has_room = { site_fits };
 
-    ghost suits = { λ _ _. true };
+    ghost written = { written_site };
 
-    ghost nesting = { 1 };
+    ghost comes_back = { SiteComesBack };
 
     fn read(alloc: Global, _role: Role, table: &Table) -> Result<Option<SiteEntry>, ConfigFault> {
         read_site(alloc, table)
     }
 
-    fn write(&self, alloc: Global, _role: Role) -> Result<Table, AllocError> {
+    fn write(&self, alloc: Global) -> Result<Table, AllocError> {
         write_site(alloc, self)
     }
 }
@@ -81,15 +80,15 @@ impl Entry for Authority {
 
     ghost has_room = { authority_fits };
 
-    ghost suits = { λ role a. is_content_for role a.content };
+    ghost written = { written_authority };
 
-    ghost nesting = { 3 };
+    ghost comes_back = { AuthorityComesBack };
 
     fn read(alloc: Global, role: Role, table: &Table) -> Result<Option<Authority>, ConfigFault> {
         read_authority(alloc, role, table)
     }
 
-    fn write(&self, alloc: Global, role: Role) -> Result<Table, AllocError> {
-        write_authority(alloc, role, self)
+    fn write(&self, alloc: Global) -> Result<Table, AllocError> {
+        write_authority(alloc, self)
     }
 }

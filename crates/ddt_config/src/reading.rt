@@ -3,12 +3,13 @@
 ghost use Rattle.std.specs.Prelude.{◌≡◌, ◌≢◌, ◌⊎◌, Ok, Err, map, MatchResult, IfOk, IfErr};
 ghost use Rattle.std.specs.List.{list_all};
 ghost use Rattle.toml.specs.Data.{get_member};
+ghost use Rattle.toml.specs.Errors.{IsMemory};
 ghost use Rattle.toml.specs.View.{view, table_view};
 ghost use Rattle.ddt_text.specs.FirstFault.{locator_in};
 ghost use Rattle.ddt_config.specs.declared.config.ServerConfig.{ServerConfig as ConfigValue};
-ghost use Rattle.ddt_config.specs.Shaped.{fits};
+ghost use Rattle.ddt_config.specs.Shaped.{fits, is_shaped as is_shaped_of};
 ghost use Rattle.ddt_config.specs.Table.{key_text, on_ok, each, of_kind, of_form, text_of, table_of, array_of, array_at as array_at_of, array_or_none as array_or_none_of, text_at as text_at_of, texts_at as texts_at_of, tables_at as tables_at_of, name_in, role_in, role_of as role_of_text, path_in, locators_in, child_in, site_in, content_in, authority_in, config_in, config_in_text, outline, with_shape, StandsFor};
-ghost use Rattle.ddt_config.specs.Reading.{Reads, HoldsEach, is_text_value, is_table_value, child_fits, site_fits, content_fits, authority_fits};
+ghost use Rattle.ddt_config.specs.Reading.{Reads, IsToldAs, IsJudged, HoldsEach, is_text_value, is_table_value, child_fits, site_fits, content_fits, authority_fits};
 
 use crate::config::{Authority, Child, Content, ServerConfig, SiteEntry};
 use crate::entry::Entry;
@@ -17,7 +18,7 @@ use crate::shape::is_shaped;
 use ddt_path::{Listed, Locator, LocatorSet, Name, Prefix, Role};
 use ddt_text::{parse_locator, parse_prefix};
 use std::alloc::Global;
-use toml::{Table, Value};
+use toml::{Table, Value, de};
 
 /// The configuration that a text in TOML stands for. At its top stand `name`, `kind` (`node` or `ms`), `locators`, an
 /// array of texts, and `authority`, an array of tables. Such a table holds `prefix`; behind it stands, where nodes are
@@ -32,8 +33,18 @@ pub fn from_toml(alloc: Global, text: &str) -> Result<ServerConfig, ConfigFault>
 {
     match toml::table_from_str(alloc, text) {
         Ok(table) => read_config(alloc, &table),
-        Err(fault) if fault.is_memory() => Err(ConfigFault::Memory),
-        Err(_) => Err(ConfigFault::Toml),
+        Err(fault) => Err(toml_fault(&fault)),
+    }
+}
+
+/// What is told of a text that `toml` refuses: 5 Memory exactly where memory was refused.
+fn toml_fault(fault: &de::Error) -> ConfigFault
+    ensures { IsToldAs (IsMemory fault.now) result }
+{
+    if fault.is_memory() {
+        ConfigFault::Memory
+    } else {
+        ConfigFault::Toml
     }
 }
 
@@ -64,14 +75,31 @@ fn shaped(
     ensures refused { IfErr result (λ fault. fault ≢ ConfigFault.Memory → with_shape (record { name = name; role = role; locators = locators; authorities = authorities }) ≡ Err fault) }
 {
     match is_shaped(alloc, role, &locators, authorities.as_slice()) {
-        Ok(true) => Ok(ServerConfig {
+        Ok(shaped) => config_of(name, role, locators, authorities, shaped),
+        Err(_) => Err(ConfigFault::Memory),
+    }
+}
+
+/// The configuration of these parts where they are shaped, else 4 Shape.
+fn config_of(
+    name: Name,
+    role: Role,
+    locators: LocatorSet,
+    authorities: Listed<Authority>,
+    shaped: bool,
+) -> Result<ServerConfig, ConfigFault>
+    requires { shaped ≡ is_shaped_of role locators authorities }
+    ensures { IsJudged (record { name = name; role = role; locators = locators; authorities = authorities }) result }
+{
+    if shaped {
+        Ok(ServerConfig {
             name,
             role,
             locators,
             authorities,
-        }),
-        Ok(false) => Err(ConfigFault::Shape),
-        Err(_) => Err(ConfigFault::Memory),
+        })
+    } else {
+        Err(ConfigFault::Shape)
     }
 }
 

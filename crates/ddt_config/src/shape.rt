@@ -111,7 +111,7 @@ fn are_sites_of(
     if role != Role::Ms || !are_covered(authority, sites) {
         return Ok(false);
     }
-    are_apart(alloc, sites)
+    have_own_prefixes(alloc, sites)
 }
 
 fn are_covered(authority: Prefix, sites: &[SiteEntry]) -> bool

@@ -112,6 +112,56 @@ fn a_text_is_read(rt: HostRuntime) -> Result<(), Fail> {
     Ok(())
 }
 
+/// `EAST` as it is written: keys in the order of their names.
+const EAST_AS_WRITTEN: &str = r#"kind = "ms"
+locators = ["127.0.1.1", "127.0.1.2"]
+name = "east"
+
+[[authority]]
+prefix = "[0]10.1.0.0/16"
+
+[[authority.site]]
+etrs = ["127.0.2.1"]
+prefix = "[0]10.1.2.0/24"
+
+[[authority.site]]
+etrs = []
+prefix = "[0]10.1.4.0/24"
+"#;
+
+/// `ROOT` as it is written.
+const ROOT_AS_WRITTEN: &str = r#"kind = "node"
+locators = ["127.0.0.1", "2001:db8::1"]
+name = "root"
+
+[[authority]]
+prefix = "*"
+
+[[authority.child]]
+kind = "node"
+locators = ["127.0.0.10"]
+prefix = "[0]10.0.0.0/8"
+
+[[authority.child]]
+kind = "ms"
+locators = ["127.0.1.1", "127.0.1.2"]
+prefix = "[16/28]*"
+
+[[authority]]
+child = []
+prefix = "[7]2001:db8::/32"
+"#;
+
+#[test]
+fn a_configuration_is_written_with_its_keys_and_no_other(rt: HostRuntime) -> Result<(), Fail> {
+    let alloc = rt.alloc();
+    let east = to_toml(alloc, &from_toml(alloc, EAST)?)?;
+    assert_eq!(rt; east.as_str(), EAST_AS_WRITTEN);
+    let root = to_toml(alloc, &from_toml(alloc, ROOT)?)?;
+    assert_eq!(rt; root.as_str(), ROOT_AS_WRITTEN);
+    Ok(())
+}
+
 #[test]
 fn what_was_written_is_read_back(rt: HostRuntime) -> Result<(), Fail> {
     let alloc = rt.alloc();
@@ -251,7 +301,7 @@ const WRONG_SHAPES: [(&str, &str, &str); 11] = [
     (EAST, "127.0.1.2", "127.0.1.1"),
     (EAST, "etrs = []", NINE_ETRS),
     (EAST, "[0]10.1.4.0/24", "[0]10.2.4.0/24"),
-    (EAST, "[0]10.1.4.0/24", "[0]10.1.2.128/25"),
+    (EAST, "[0]10.1.4.0/24", "[0]10.1.2.0/24"),
     (ROOT, "locators = [\"127.0.0.10\"]", "locators = []"),
     (ROOT, "locators = [\"127.0.0.10\"]", NINE_LOCATORS),
     (ROOT, "[7]2001:db8::/32", "*"),
@@ -282,6 +332,21 @@ fn a_site_may_equal_its_authority_and_no_other_site(rt: HostRuntime) -> Result<(
     let other = "[[authority.site]]\nprefix = \"[0]10.1.4.0/24\"\netrs = []\n";
     let once = replaced(alloc, text.as_str(), other, "")?;
     from_toml(alloc, once.as_str())?;
+    Ok(())
+}
+
+#[test]
+fn a_site_may_lie_inside_another(rt: HostRuntime) -> Result<(), Fail> {
+    let alloc = rt.alloc();
+    let nested = replaced(alloc, EAST, "[0]10.1.4.0/24", "[0]10.1.2.128/25")?;
+    let config = from_toml(alloc, nested.as_str())?;
+    let [authority] = config.authorities.as_slice() else {
+        return Err("no authority")?;
+    };
+    let Content::Sites(sites) = &authority.content else {
+        return Err("no sites")?;
+    };
+    assert_eq!(rt; sites.as_slice().len(), 2);
     Ok(())
 }
 

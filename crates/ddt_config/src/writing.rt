@@ -1,28 +1,30 @@
 //! Writing a configuration as text.
 
-ghost use Rattle.std.specs.Prelude.{◌≡◌, ◌+◌, ◌<◌, ◌≤◌, ◌^◌, true, false, Ok, OnOk, IfOk, IsUtf8, string_bytes};
-ghost use Rattle.std.specs.List.{list_all};
-ghost use Rattle.toml.specs.Data.{Members, string};
+ghost use Rattle.std.specs.Prelude.{◌≡◌, true, false, Ok, OnOk, IfOk, IsUtf8, string_bytes};
+ghost use Rattle.std.specs.List.{AllByRecursion};
+ghost use Rattle.toml.specs.Data.{string, table};
 ghost use Rattle.toml.specs.Text.{IsDocumentText};
 ghost use Rattle.toml.specs.View.{view, table_view};
-ghost use Rattle.ddt_path.specs.declared.form.Form.{Form as FormValue};
 ghost use Rattle.ddt_path.specs.Names.{is_name};
-ghost use Rattle.ddt_path.specs.Path.{path, address_number, address_width, IsForm};
-ghost use Rattle.ddt_text.specs.FirstFault.{locator_in, prefix_in};
-ghost use Rattle.ddt_config.specs.Table.{key_text, role_text, child_in, site_in, authority_in, config_in, outline, StandsFor};
-ghost use Rattle.ddt_config.specs.Writing.{inserted, ArePlain, IsTextOf, IsTableOf, IsArrayOf, IsContentValue, is_content_for, content_key as content_key_of};
+ghost use Rattle.ddt_text.specs.FirstFault.{locator_in};
+ghost use Rattle.ddt_text.specs.Written.{written_locator, written_prefix};
+ghost use Rattle.ddt_config.specs.Table.{key_text, role_text, config_in, outline, StandsFor};
+ghost use Rattle.ddt_config.specs.Writing.{inserted, written_each, written_locators, written_child, written_site, written_authority, written_config, content_data, content_key as content_key_of, PrefixComesBack, LocatorsComeBack, ChildComesBack, SiteComesBack, ContentComesBack, AuthorityComesBack};
 
 use crate::config::{Authority, Child, Content, ServerConfig, SiteEntry};
 use crate::entry::Entry;
 use crate::fault::Key;
-use ddt_path::{Form, Locator, LocatorSet, Name, Prefix, Role};
+use ddt_path::{Locator, LocatorSet, Name, Prefix, Role};
 use ddt_text::{write_locator, write_prefix};
 use std::alloc::{AllocError, Global};
 use toml::{Table, Value, ser};
 
-/// A text in TOML that stands for the configuration, as `from_toml` reads it. Refused for memory alone.
+/// The configuration as a text in TOML, as `from_toml` reads it. At its top stand `name`, `kind` (`node` or `ms`),
+/// `locators` and `authority`; each authority has `prefix` and either `child`, tables of `prefix`, `kind` and
+/// `locators`, or `site`, tables of `prefix` and `etrs`. There are no other keys, and an empty list is written too.
+/// Refused for memory alone.
 pub fn to_toml(alloc: Global, config: &ServerConfig) -> Result<String, AllocError>
-    ensures printed { IfOk result (λ text. (ms : Members) × (config_in ms ≡ Ok (outline config.now)) × IsDocumentText false ms (string_bytes text)) }
+    ensures printed { IfOk result (λ text. IsDocumentText false (written_config (outline config.now)) (string_bytes text)) }
     ensures read_back { IfOk result (λ text. StandsFor (string_bytes text) config.now) }
 {
     let table = write_config(alloc, config)?;
@@ -34,8 +36,8 @@ pub fn to_toml(alloc: Global, config: &ServerConfig) -> Result<String, AllocErro
 }
 
 fn write_config(alloc: Global, config: &ServerConfig) -> Result<Table, AllocError>
-    ensures stands { IfOk result (λ t. config_in (table_view t) ≡ Ok (outline config.now)) }
-    ensures plain { IfOk result (λ t. ArePlain 5 (table_view t)) }
+    ensures written { IfOk result (λ t. table_view t ≡ written_config (outline config.now)) }
+    ensures back { OnOk result (config_in (written_config (outline config.now)) ≡ Ok (outline config.now)) }
 {
     let mut table = Table::new(alloc);
     let name = name_value(alloc, config.name)?;
@@ -44,15 +46,15 @@ fn write_config(alloc: Global, config: &ServerConfig) -> Result<Table, AllocErro
     put(alloc, &mut table, Key::Kind, role)?;
     let locators = locators_value(alloc, &config.locators)?;
     put(alloc, &mut table, Key::Locators, locators)?;
-    let authorities = entries_value(alloc, config.role, config.authorities.as_slice())?;
+    let authorities = entries_value(alloc, config.authorities.as_slice())?;
     put(alloc, &mut table, Key::Authority, authorities)?;
     Ok(table)
 }
 
-/// A table that stands for the child.
+/// The table of the child.
 pub fn write_child(alloc: Global, child: &Child) -> Result<Table, AllocError>
-    ensures stands { IfOk result (λ t. child_in (table_view t) ≡ Ok child.now) }
-    ensures plain { IfOk result (λ t. ArePlain 1 (table_view t)) }
+    ensures written { IfOk result (λ t. table_view t ≡ written_child child.now) }
+    ensures back { OnOk result (ChildComesBack child.now) }
 {
     let mut table = Table::new(alloc);
     let prefix = prefix_value(alloc, child.prefix)?;
@@ -64,10 +66,10 @@ pub fn write_child(alloc: Global, child: &Child) -> Result<Table, AllocError>
     Ok(table)
 }
 
-/// A table that stands for the site.
+/// The table of the site.
 pub fn write_site(alloc: Global, site: &SiteEntry) -> Result<Table, AllocError>
-    ensures stands { IfOk result (λ t. site_in (table_view t) ≡ Ok site.now) }
-    ensures plain { IfOk result (λ t. ArePlain 1 (table_view t)) }
+    ensures written { IfOk result (λ t. table_view t ≡ written_site site.now) }
+    ensures back { OnOk result (SiteComesBack site.now) }
 {
     let mut table = Table::new(alloc);
     let prefix = prefix_value(alloc, site.prefix)?;
@@ -77,39 +79,35 @@ pub fn write_site(alloc: Global, site: &SiteEntry) -> Result<Table, AllocError>
     Ok(table)
 }
 
-/// A table that stands for the authority of servers of this role.
-pub fn write_authority(
-    alloc: Global,
-    role: Role,
-    authority: &Authority,
-) -> Result<Table, AllocError>
-    requires { is_content_for role authority.now.content ≡ true }
-    ensures stands { IfOk result (λ t. authority_in role (table_view t) ≡ Ok authority.now) }
-    ensures plain { IfOk result (λ t. ArePlain 3 (table_view t)) }
+/// The table of the authority.
+pub fn write_authority(alloc: Global, authority: &Authority) -> Result<Table, AllocError>
+    ensures written { IfOk result (λ t. table_view t ≡ written_authority authority.now) }
+    ensures back { OnOk result (AuthorityComesBack authority.now) }
 {
     let mut table = Table::new(alloc);
     let prefix = prefix_value(alloc, authority.prefix)?;
     put(alloc, &mut table, Key::Prefix, prefix)?;
-    let content = content_value(alloc, role, &authority.content)?;
-    put(alloc, &mut table, content_key(role), content)?;
+    let content = content_value(alloc, &authority.content)?;
+    put(alloc, &mut table, content_key(&authority.content), content)?;
     Ok(table)
 }
 
-fn content_key(role: Role) -> Key
-    ensures { result ≡ content_key_of role }
+fn content_key(content: &Content) -> Key
+    ensures { result ≡ content_key_of content.now }
 {
-    match role {
-        Role::Node => Key::Child,
-        Role::Ms => Key::Site,
+    match content {
+        Content::Children(_) => Key::Child,
+        Content::Sites(_) => Key::Site,
     }
 }
 
-fn content_value(alloc: Global, role: Role, content: &Content) -> Result<Value, AllocError>
-    ensures { IfOk result (λ v. IsContentValue (view v) content.now) }
+fn content_value(alloc: Global, content: &Content) -> Result<Value, AllocError>
+    ensures written { IfOk result (λ v. view v ≡ content_data content.now) }
+    ensures back { OnOk result (ContentComesBack content.now) }
 {
     match content {
-        Content::Children(children) => entries_value(alloc, role, children.as_slice()),
-        Content::Sites(sites) => entries_value(alloc, role, sites.as_slice()),
+        Content::Children(children) => entries_value(alloc, children.as_slice()),
+        Content::Sites(sites) => entries_value(alloc, sites.as_slice()),
     }
 }
 
@@ -146,45 +144,29 @@ fn role_value(alloc: Global, role: Role) -> Result<Value, AllocError>
     }
 }
 
-/// Room for the text of a prefix, the longest of its form.
-fn room_for_prefix(prefix: Prefix) -> usize
-    ensures { (form : FormValue) × (path form ≡ prefix) × IsForm form }
-{
-    match prefix.form() {
-        Form::Range { .. } => "[4294967295/32]*".len(),
-        Form::Block { address, .. } => "[4294967295]/128".len() + room_for_locator(address),
-    }
-}
-
 fn prefix_value(alloc: Global, prefix: Prefix) -> Result<Value, AllocError>
-    ensures { IfOk result (λ v. IsTextOf prefix_in (view v) prefix) }
+    ensures written { IfOk result (λ v. view v ≡ string (written_prefix prefix)) }
+    ensures back { OnOk result (PrefixComesBack prefix) }
 {
-    let mut text = Vec::with_capacity(alloc, room_for_prefix(prefix))?;
+    let _form = prefix.form();
+    let mut text = Vec::new(alloc);
     write_prefix(&mut text, prefix)?;
     Ok(text_value(text))
 }
 
-/// Room for the text of a locator, the longest of its family.
-fn room_for_locator(locator: Locator) -> usize
-    ensures bound { result ≤ 39 }
-    ensures number { address_number locator < 2 ^ address_width locator }
-{
-    match locator {
-        Locator::V4(_number) => "255.255.255.255".len(),
-        Locator::V6(_number) => "ffff:ffff:ffff:ffff:ffff:ffff:ffff:ffff".len(),
-    }
-}
-
 fn locator_value(alloc: Global, locator: Locator) -> Result<Value, AllocError>
-    ensures { IfOk result (λ v. IsTextOf locator_in (view v) locator) }
+    ensures written { IfOk result (λ v. view v ≡ string (written_locator locator)) }
+    ensures back { OnOk result (locator_in (written_locator locator) ≡ Ok locator) }
 {
-    let mut text = Vec::with_capacity(alloc, room_for_locator(locator))?;
+    let _width = locator.width();
+    let mut text = Vec::new(alloc);
     write_locator(&mut text, locator)?;
     Ok(text_value(text))
 }
 
 fn locators_value(alloc: Global, locators: &LocatorSet) -> Result<Value, AllocError>
-    ensures { IfOk result (λ v. IsArrayOf (IsTextOf locator_in) (view v) locators.now) }
+    ensures written { IfOk result (λ v. view v ≡ written_locators locators.now) }
+    ensures back { OnOk result (LocatorsComeBack locators.now) }
 {
     let mut values = Vec::new(alloc);
     for locator in locators.as_slice() {
@@ -193,13 +175,13 @@ fn locators_value(alloc: Global, locators: &LocatorSet) -> Result<Value, AllocEr
     Ok(Value::Array(values))
 }
 
-fn entries_value<T: Entry>(alloc: Global, role: Role, entries: &[T]) -> Result<Value, AllocError>
-    requires { list_all (T.suits role) entries.now ≡ true }
-    ensures { IfOk result (λ v. IsArrayOf (IsTableOf (T.entry_in role) T.nesting) (view v) entries.now) }
+fn entries_value<T: Entry>(alloc: Global, entries: &[T]) -> Result<Value, AllocError>
+    ensures written { IfOk result (λ v. view v ≡ written_each (λ e. table (T.written e)) entries.now) }
+    ensures back { OnOk result (AllByRecursion T.comes_back entries.now) }
 {
     let mut values = Vec::new(alloc);
     for entry in entries {
-        values.push(Value::Table(entry.write(alloc, role)?))?;
+        values.push(Value::Table(entry.write(alloc)?))?;
     }
     Ok(Value::Array(values))
 }

@@ -18,6 +18,7 @@ pub record IsRequest (nonce : ℕ) (x : Xeid) (rlocs : List Locator) : Type 0 wh
   pub few : length rlocs ≤ 32
   pub rlocs_fit : AllByRecursion IsAddress rlocs
 
+-- the message of a request that is written, which comes from port 4342
 abbrev pub message_of : ℕ → Xeid → List Locator → Bool → Message
 message_of n x ls d = record { nonce = n; ddt = d; port = 4342; xeid = x; rlocs = ls }
 
@@ -29,14 +30,24 @@ OneRequest = (bytes : List ℕ) (v w : Message) → Spells bytes v → Spells by
 abbrev pub RequestsAreBytes : Type 0
 RequestsAreBytes = (bytes : List ℕ) (v : Message) → Spells bytes v → IsBytes bytes
 
+-- bytes that spell a request are read as it
+abbrev pub RequestsAreRead : Type 0
+RequestsAreRead = (bytes : List ℕ) (v : Message) → Spells bytes v → message_in bytes ≡ Ok v
+
+-- and what is read of bytes is spelled by them
+abbrev pub ReadRequestsAreSpelled : Type 0
+ReadRequestsAreSpelled = (bytes : List ℕ) (v : Message) → IsBytes bytes → message_in bytes ≡ Ok v → Spells bytes v
+
 -- there is a fault exactly where no request is spelled
 abbrev pub FaultsAreRight : Type 0
 FaultsAreRight = (bytes : List ℕ) → IsBytes bytes → IsErr (message_in bytes) ↔ ((v : Message) → Spells bytes v → ⊥)
 
 -- what is written spells what was to be written
 abbrev pub WrittenSpells : Type 0
-WrittenSpells = (nonce : ℕ) (x : Xeid) (rlocs : List Locator) (ddt : Bool) → IsRequest nonce x rlocs → Spells (written nonce x rlocs ddt) (message_of nonce x rlocs ddt)
+WrittenSpells = (nonce : ℕ) (x : Xeid) (rlocs : List Locator) (ddt : Bool) → IsRequest nonce x rlocs
+    → Spells (written nonce x rlocs ddt) (message_of nonce x rlocs ddt)
 
 -- what is written is read again
 abbrev pub WrittenIsRead : Type 0
-WrittenIsRead = (nonce : ℕ) (x : Xeid) (rlocs : List Locator) (ddt : Bool) → IsRequest nonce x rlocs → message_in (written nonce x rlocs ddt) ≡ Ok (message_of nonce x rlocs ddt)
+WrittenIsRead = (nonce : ℕ) (x : Xeid) (rlocs : List Locator) (ddt : Bool) → IsRequest nonce x rlocs
+    → message_in (written nonce x rlocs ddt) ≡ Ok (message_of nonce x rlocs ddt)

@@ -1,10 +1,12 @@
 -- The answer from the authority that was found.
-use Rattle.std.proofs.Common.{◌≡◌, ℕ, Bool, false, arith, eqb-true, List, map, Some, Option, None, [], ◌∷◌, length, cond, refl, sym, ap, ◌∙◌}
-use Rattle.std.specs.Prelude.{◌==◌, is_some, option_and_then, slice_get}
+use Rattle.std.proofs.Common.{◌≡◌, ℕ, Bool, false, arith, eqb-true, ◌<◌, List, map, get_or, Some, Option, None, [], ◌∷◌, length, cond, refl, sym, ap, ◌∙◌}
+use Rattle.std.specs.Prelude.{◌==◌, is_some, option_and_then, slice_get, unwrap_or}
+use Rattle.std.specs.FinMap.{FinMap, keys}
 use Rattle.std.specs.Option.{option_map, option_map_or}
 use Rattle.std.proofs.lemmas.Bool.{false_from_ne_true}
 use Rattle.ddt_path.specs.declared.locator.Locator.{Locator}
 use Rattle.ddt_path.specs.declared.record.ReferralRecord.{ReferralRecord}
+use Rattle.ddt_path.specs.declared.record.Outcome.{Outcome}
 use Rattle.ddt_path.specs.declared.record.Outcome.TheVariants.{Registered, NotRegistered}
 use Rattle.ddt_path.specs.Records.{record_of, referral, not_authoritative}
 use Rattle.ddt_path.specs.declared.record.Role.{Role}
@@ -16,7 +18,10 @@ use Rattle.ddt_config.specs.declared.config.Content.TheVariants.{Children, Sites
 use Rattle.ddt_path.specs.Free.{longest_match}
 use Rattle.ddt_config.specs.declared.config.Authority.{Authority}
 use Rattle.ddt_config.specs.Table.{Outline}
-use Rattle.ddt_config.specs.Answer.{answer, answer_in, site_outcome, hole_in, referral_to}
+use Rattle.ddt_config.specs.Answer.{answer, answer_in, site_outcome, part_of, hole_in, strictly_below, referral_to}
+use Rattle.ddt_trie.specs.PrefixMap.{path_cmp}
+use Rattle.ddt_node.specs.Places.{places}
+use Rattle.ddt_node.proofs.PlaceLemmas.{free_below_of_places, found_at}
 use Rattle.ddt_node.specs.Server.{authority_of, etr_in, first_etr, is_ack}
 use Rattle.ddt_node.specs.declared.handling.Forward.{Forward}
 
@@ -29,14 +34,14 @@ module _ (c d : Outline) (x : List ℕ) (a : Authority) (found : authority_of c 
   etr_from r is = is ∙ ap (option_and_then (λ (b : Authority). etr_in x b.content)) (sym found) ∙ ap (λ (o : Outline). first_etr o x) same
 
 -- there is an ETR to send to exactly where the answer is MS-ACK
-site_acknowledged : (servers : List Locator) (s : SiteEntry) → is_some (slice_get s.etrs 0) ≡ is_ack (record_of (site_outcome servers s)).action
-site_acknowledged servers s = by_etrs s.etrs
+site_acknowledged : (servers : List Locator) (sites : List (List ℕ)) (x : List ℕ) (s : SiteEntry) → is_some (slice_get s.etrs 0) ≡ is_ack (record_of (site_outcome servers sites x s)).action
+site_acknowledged servers sites x s = by_etrs (part_of s.prefix (strictly_below s.prefix sites) x) s.etrs
   where
-    by_etrs : (etrs : List Locator) → is_some (slice_get etrs 0) ≡ is_ack (record_of (cond (length etrs == 0) (NotRegistered s.prefix servers) (Registered s.prefix servers))).action
-    by_etrs [] = refl
-    by_etrs (l ∷ others) =
+    by_etrs : (part : List ℕ) (etrs : List Locator) → is_some (slice_get etrs 0) ≡ is_ack (record_of (cond (length etrs == 0) (NotRegistered part servers) (Registered s.prefix servers))).action
+    by_etrs part [] = refl
+    by_etrs part (l ∷ others) =
         let some : (length (l ∷ others) == 0) ≡ false = false_from_ne_true (length (l ∷ others) == 0) (λ e. let none : length (l ∷ others) ≡ 0 = eqb-true (length (l ∷ others)) 0 e in absurd (omega arith)) in
-        ap (λ (b : Bool). is_ack (record_of (cond b (NotRegistered s.prefix servers) (Registered s.prefix servers))).action) (sym some)
+        ap (λ (b : Bool). is_ack (record_of (cond b (NotRegistered part servers) (Registered s.prefix servers))).action) (sym some)
 
 referral_unacknowledged : (role : Role) (prefix : List ℕ) (servers : List Locator) → false ≡ is_ack (referral role prefix servers).action
 referral_unacknowledged Node prefix servers = refl
@@ -48,11 +53,12 @@ content_acknowledged servers authority (Children cs) x = by_child (longest_match
     by_child : (o : Option Child) → false ≡ is_ack (option_map_or referral_to o (record_of (hole_in authority (map (λ c. c.prefix) cs) x))).action
     by_child None = refl
     by_child (Some c) = referral_unacknowledged c.role c.prefix c.locators
-content_acknowledged servers authority (Sites ss) x = by_site (longest_match (λ s. s.prefix) ss x)
+content_acknowledged servers authority (Sites ss) x = by_site (map (λ s. s.prefix) ss) (longest_match (λ s. s.prefix) ss x)
   where
-    by_site : (o : Option SiteEntry) → is_some (option_and_then (λ s. slice_get s.etrs 0) o) ≡ is_ack (record_of (option_map_or (site_outcome servers) o (hole_in authority (map (λ s. s.prefix) ss) x))).action
-    by_site None = refl
-    by_site (Some s) = site_acknowledged servers s
+    by_site : (prefixes : List (List ℕ)) (o : Option SiteEntry)
+        → is_some (option_and_then (λ s. slice_get s.etrs 0) o) ≡ is_ack (record_of (option_map_or (site_outcome servers prefixes x) o (hole_in authority prefixes x))).action
+    by_site prefixes None = refl
+    by_site prefixes (Some s) = site_acknowledged servers prefixes x s
 
 mapped : (f : Locator → Forward) (o : Option Locator) → is_some (option_map f o) ≡ is_some o
 mapped f None = refl
@@ -64,3 +70,20 @@ acknowledged c x f = mapped f (first_etr c x) ∙ by_authority (authority_of c x
     by_authority : (o : Option Authority) → is_some (option_and_then (λ a. etr_in x a.content) o) ≡ is_ack (option_map_or (λ a. answer_in c.locators a.prefix a.content x) o (not_authoritative x)).action
     by_authority None = refl
     by_authority (Some a) = content_acknowledged c.locators a.prefix a.content x
+
+-- ---- the site that was found
+
+module _ (servers : List Locator) (m : FinMap path_cmp ℕ) (ss : List SiteEntry) (is : m ≡ places (map (λ s. s.prefix) ss)) (x : List ℕ) where
+  -- its outcome by the map is that by the list
+  outcome_by_map : (s : SiteEntry) → site_outcome servers (keys m) x s ≡ site_outcome servers (map (λ t. t.prefix) ss) x s
+  outcome_by_map s =
+      ap (λ (p : Option (List ℕ)). cond (length s.etrs == 0) (NotRegistered (unwrap_or p x) servers) (Registered s.prefix servers)) (free_below_of_places m (map (λ t. t.prefix) ss) is s.prefix x)
+
+  pub site_answer : (authority : List ℕ) (i : ℕ) (s : SiteEntry) (o : Outcome) → longest_match (λ t. t.prefix) ss x ≡ slice_get ss i → i < length ss → s ≡ get_or ss i s → o ≡ site_outcome servers (keys m) x s
+      → record_of o ≡ answer_in servers authority (Sites ss) x
+  site_answer authority i s o found inside read e =
+      ap record_of (e ∙ outcome_by_map s)
+      ∙ ap (λ (f : Option SiteEntry). record_of (option_map_or (site_outcome servers (map (λ t. t.prefix) ss) x) f (hole_in authority (map (λ t. t.prefix) ss) x))) (sym (found_at (λ t. t.prefix) ss x i s found inside read))
+
+pub site_etr : (ss : List SiteEntry) (x : List ℕ) (i : ℕ) (s : SiteEntry) (e : Option Locator) → longest_match (λ t. t.prefix) ss x ≡ slice_get ss i → i < length ss → s ≡ get_or ss i s → e ≡ slice_get s.etrs 0 → e ≡ etr_in x (Sites ss)
+site_etr ss x i s e found inside read is = is ∙ ap (option_and_then (λ (t : SiteEntry). slice_get t.etrs 0)) (sym (found_at (λ t. t.prefix) ss x i s found inside read))

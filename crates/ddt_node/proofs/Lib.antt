@@ -1,3 +1,4 @@
-mod PlaceLemmas
-mod AnswerLemmas
-mod BitLemmas
+pub mod AnswerLemmas
+pub mod BitLemmas
+pub mod PlaceLemmas
+pub mod ReplyLemmas

@@ -1,20 +1,22 @@
 -- What the maps of a server answer, in terms of the lists of the configuration.
 use Rattle.std.proofs.Common.{◌≡◌, ℕ, zero, suc, ◌+◌, ◌<◌, ◌≤◌, Bool, true, false, cond, List, [], ◌∷◌, length, get_or, drop, map, Some, None, Option, refl, sym, ap, subst, ◌∙◌, arith}
-use Rattle.std.specs.Prelude.{◌||◌, nat_lt, is_some, IfSome, slice_get}
+use Rattle.std.specs.Prelude.{◌||◌, ◌&&◌, not, nat_lt, is_some, IfSome, slice_get}
 use Rattle.std.specs.Option.{option_map}
-use Rattle.std.specs.List.{list_any}
+use Rattle.std.specs.List.{list_any, list_all}
 use Rattle.std.specs.Cmp.Lexicographic.{nat_list_cmp_total, texts_ties}
-use Rattle.std.specs.FinMap.{FinMap, find, from_entries, get, contains_key, keys, len, insert, empty, len-empty, len-insert}
+use Rattle.std.specs.FinMap.{FinMap, find, from_entries, get, contains_key, contains_key-keys, keys, len, insert, empty, len-empty, len-insert}
 use Rattle.std.proofs.Math.Seq.{drop-cons, drop-length}
 use Rattle.std.proofs.lemmas.Bool.{false≢true}
 use Rattle.std.proofs.lemmas.List.{length-map}
 use Rattle.std.proofs.lemmas.Option.{same_Some, slice_get-map, slice_get_read, slice_get_within}
-use Rattle.ddt_path.specs.Covers.{covers, is_same_path}
+use Rattle.ddt_path.specs.Covers.{covers, overlaps, is_same_path, is_strictly_below}
 use Rattle.ddt_path.specs.Free.{longest_match, longer_of, free}
-use Rattle.ddt_trie.specs.PrefixMap.{path_cmp, IsCovered, IsLongest}
+use Rattle.ddt_path.proofs.HoleLemmas.{free_agree}
+use Rattle.ddt_trie.specs.PrefixMap.{path_cmp, keys_below, IsCovered, IsLongest}
 use Rattle.ddt_trie.proofs.EntryLemmas.{tied, get-map_of}
-use Rattle.ddt_trie.proofs.KeyLemmas.{members_free}
+use Rattle.ddt_trie.proofs.KeyLemmas.{any_same, same_members_all, members_free}
 use Rattle.ddt_trie.proofs.MatchLemmas.{longest_of_entries, no_longest_of_entries}
+use Rattle.ddt_config.specs.Answer.{strictly_below}
 use Rattle.ddt_node.specs.Places.{numbered, places}
 
 -- ---- the longest key and the longest match
@@ -110,9 +112,29 @@ found_numbered n (k ∷ ps) p =
     some_either true v o = refl
     some_either false v o = refl
 
+in_places : (m : FinMap path_cmp ℕ) (ps : List (List ℕ)) → m ≡ places ps → (p : List ℕ) → contains_key m p ≡ list_any (is_same_path p) ps
+in_places m ps is p = ap (λ (n : FinMap path_cmp ℕ). is_some (get n p)) is ∙ ap (λ (o : Option ℕ). is_some o) (get-map_of (numbered 0 ps) p) ∙ found_numbered 0 ps p
+
 pub free_of_places : (m : FinMap path_cmp ℕ) (ps : List (List ℕ)) → m ≡ places ps → (authority x : List ℕ) → free authority (keys m) x ≡ free authority ps x
-free_of_places m ps is =
-    members_free m ps (λ p. ap (λ (n : FinMap path_cmp ℕ). is_some (get n p)) is ∙ ap (λ (o : Option ℕ). is_some o) (get-map_of (numbered 0 ps) p) ∙ found_numbered 0 ps p)
+free_of_places m ps is authority x =
+    members_free m ps (in_places m ps is) authority x
+
+-- the same below a prefix
+all_kept_below : (test : List ℕ → Bool) (p : List ℕ) (ps : List (List ℕ)) → list_all test (strictly_below p ps) ≡ list_all (λ q. cond (is_strictly_below q p) (test q) true) ps
+all_kept_below test p [] = refl
+all_kept_below test p (q ∷ ps) =
+    elim (is_strictly_below q p) as (λ b. list_all test (cond b (q ∷ strictly_below p ps) (strictly_below p ps)) ≡ (cond b (test q) true && list_all (λ k. cond (is_strictly_below k p) (test k) true) ps)) [
+      | true ↦ ap (λ (b : Bool). test q && b) (all_kept_below test p ps)
+      | false ↦ all_kept_below test p ps
+    ]
+
+pub free_below_of_places : (m : FinMap path_cmp ℕ) (ps : List (List ℕ)) → m ≡ places ps → (site x : List ℕ) → free site (keys_below m site) x ≡ free site (strictly_below site ps) x
+free_below_of_places m ps is site x =
+    free_agree site (keys_below m site) (strictly_below site ps) x
+    (λ q. let test = λ (p : List ℕ). cond (is_strictly_below p site) (not (overlaps p q)) true in
+    all_kept_below (λ (p : List ℕ). not (overlaps p q)) site (keys m)
+    ∙ same_members_all test (keys m) ps (λ p. sym (contains_key-keys m p) ∙ in_places m ps is p ∙ any_same p ps)
+    ∙ sym (all_kept_below (λ (p : List ℕ). not (overlaps p q)) site ps))
 
 -- ---- the maps as they are built, from the last item to the first
 

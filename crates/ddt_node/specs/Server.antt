@@ -1,6 +1,6 @@
 -- What a server does with a datagram (RFC 8111, sections 7.1 and 7.2): a DDT Map-Request, whose bit D is set, is
 -- answered by a Map-Referral, and a Map-Server that acknowledges it sends it on to the ETR of the site.
-use Rattle.std.specs.Prelude.{ℕ, ◌+◌, ◌*◌, ◌/◌, ◌%◌, Bool, true, false, if◌then◌else◌, List, [], ◌∷◌, Option, Some, None, Result, Ok, Err, option_and_then, slice_get}
+use Rattle.std.specs.Prelude.{ℕ, ◌≡◌, ◌+◌, ◌*◌, ◌/◌, ◌%◌, Bool, true, false, if◌then◌else◌, List, [], ◌∷◌, Option, Some, None, Result, Ok, Err, option_and_then, slice_get}
 use Rattle.std.specs.Option.{option_map, option_map_or}
 use Rattle.ddt_path.specs.declared.locator.Locator.{Locator}
 use Rattle.ddt_path.specs.declared.record.Action.{Action}
@@ -13,9 +13,9 @@ use Rattle.ddt_config.specs.declared.config.Content.TheVariants.{Children, Sites
 use Rattle.ddt_config.specs.declared.config.Authority.{Authority}
 use Rattle.ddt_config.specs.Table.{Outline}
 use Rattle.ddt_config.specs.Answer.{answer}
-use Rattle.ddt_wire.specs.Referral.{written}
+use Rattle.ddt_wire.specs.Referral.{written, message_of, Message as ReferralMessage, Spells as SpellsReferral}
 use Rattle.ddt_ecm.specs.declared.fault.RequestFault.{RequestFault}
-use Rattle.ddt_ecm.specs.Request.{Message, message_in}
+use Rattle.ddt_ecm.specs.Request.{Message, Spells as SpellsRequest, message_in}
 use Rattle.ddt_node.specs.declared.handling.Forward.{Forward}
 use Rattle.ddt_node.specs.declared.handling.Handled.{Handled}
 
@@ -54,6 +54,19 @@ answered c bytes m = record {
 -- nothing is answered and nothing is sent on
 abbrev pub ignored : Handled
 ignored = record { reply = None; forward = None }
+
+-- the bytes spell a DDT Map-Request
+abbrev pub IsDdtRequest : List ℕ → Message → Type 0
+IsDdtRequest bytes m = SpellsRequest bytes m × (m.ddt ≡ true)
+
+-- what its reply says: its nonce, and the answer for its identifier
+abbrev pub reply_to : Outline → Message → ReferralMessage
+reply_to c m = message_of m.nonce (answer c (xeid_path m.xeid))
+
+-- there is a reply, and its bytes spell the message
+abbrev pub HasReply : Option (List ℕ) → ReferralMessage → Type 0
+HasReply None v = ⊥
+HasReply (Some bytes) v = SpellsReferral bytes v
 
 -- the request that the bytes are, if its bit D is set
 abbrev pub if_ddt : Result Message RequestFault → Option Message

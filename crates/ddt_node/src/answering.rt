@@ -1,11 +1,13 @@
 //! The answer for an identifier, by the maps of a server.
 
 ghost use Rattle.std.specs.Prelude.{◌≡◌, ◌<◌, IsTrue, None, length, map, slice_get, IfSome, IfNone};
+ghost use Rattle.std.specs.FinMap.{keys};
 ghost use Rattle.ddt_path.specs.Path.{xeid_path};
 ghost use Rattle.ddt_path.specs.Covers.{covers};
 ghost use Rattle.ddt_path.specs.Free.{longest_match};
-ghost use Rattle.ddt_config.specs.Answer.{answer_in as answer_in_of, hole_in, site_outcome as site_outcome_of, referral_to as referral_to_child};
+ghost use Rattle.ddt_config.specs.Answer.{answer_in as answer_in_of, hole_in, site_outcome as site_outcome_of, part_of as part_of_paths, referral_to as referral_to_child};
 ghost use Rattle.ddt_config.specs.Entries.{prefixes_in};
+ghost use Rattle.ddt_trie.specs.PrefixMap.{keys_below};
 ghost use Rattle.ddt_node.specs.Places.{places as places_of};
 ghost use Rattle.ddt_node.specs.Server.{etr_in};
 
@@ -38,15 +40,35 @@ fn hole<M: PrefixMap<u32>>(authority: &Authority, places: &M, x: Xeid) -> Outcom
     }
 }
 
-/// The outcome of a site, and its first ETR: registered where it has one.
-fn site_outcome(servers: LocatorSet, site: &SiteEntry) -> (Outcome, Option<Locator>)
-    ensures outcome { result.0 ≡ site_outcome_of servers site.now }
+/// The part of a site around an identifier: the least specific prefix in it that overlaps none of the prefixes inside
+/// the site.
+fn part_of<M: PrefixMap<u32>>(site: Prefix, places: &M, x: Xeid) -> Prefix
+    requires { IsTrue (covers site (xeid_path x)) }
+    ensures { result ≡ part_of_paths site (keys_below (M.content places.now) site) (xeid_path x) }
+{
+    places.free_below(site, x).unwrap_or(Prefix::host(x))
+}
+
+/// The outcome of the site that an identifier belongs to, and its first ETR: registered where it has one.
+fn site_outcome<M: PrefixMap<u32>>(
+    servers: LocatorSet,
+    site: &SiteEntry,
+    places: &M,
+    x: Xeid,
+) -> (Outcome, Option<Locator>)
+    requires { IsTrue (covers site.now.prefix (xeid_path x)) }
+    ensures outcome { result.0 ≡ site_outcome_of servers (keys (M.content places.now)) (xeid_path x) site.now }
     ensures etr { result.1 ≡ slice_get site.now.etrs 0 }
 {
-    let prefix = site.prefix;
     match site.etrs.as_slice().first() {
-        Some(etr) => (Outcome::Registered { prefix, servers }, Some(*etr)),
-        None => (Outcome::NotRegistered { prefix, servers }, None),
+        Some(etr) => {
+            let prefix = site.prefix;
+            (Outcome::Registered { prefix, servers }, Some(*etr))
+        }
+        None => {
+            let prefix = part_of(site.prefix, places, x);
+            (Outcome::NotRegistered { prefix, servers }, None)
+        }
     }
 }
 
@@ -76,7 +98,7 @@ pub fn answer_in<M: PrefixMap<u32>>(
             None => (hole(authority, places, x), None),
         },
         Content::Sites(sites) => match longest(sites.as_slice(), places, x) {
-            Some(at) => site_outcome(servers, &sites.as_slice()[at]),
+            Some(at) => site_outcome(servers, &sites.as_slice()[at], places, x),
             None => (hole(authority, places, x), None),
         },
     };

@@ -1,19 +1,18 @@
 //! A server of one configuration.
 
-ghost use Rattle.std.specs.Prelude.{◌≡◌, ◌<◌, [], is_some, None, Ok, IfOk, IfErr, IsOk};
+ghost use Rattle.std.specs.Prelude.{◌≡◌, ◌<◌, [], IfOk, IfErr, IsOk};
 ghost use Rattle.ddt_path.specs.Path.{xeid_path};
 ghost use Rattle.ddt_config.specs.Table.{outline};
 ghost use Rattle.ddt_config.specs.Answer.{answer as answer_of};
 ghost use Rattle.ddt_config.specs.Entries.{entry_count};
-ghost use Rattle.ddt_node.specs.Server.{first_etr, ddt_request as ddt_request_of, handled as handled_of, ignored as ignored_of, acknowledges};
+ghost use Rattle.ddt_node.specs.Server.{first_etr};
 
 use crate::answering::{answer_in, longest};
 use crate::building::index;
-use crate::handling::{Handled, ddt_request};
 use ddt_config::ServerConfig;
 use ddt_path::{Locator, ReferralRecord, Xeid};
 use ddt_trie::PrefixMap;
-use std::alloc::{AllocError, Global};
+use std::alloc::Global;
 use std::marker::Model;
 
 /// A DDT node or a Map-Server with its configuration. Contracts see what the configuration holds.
@@ -74,7 +73,7 @@ impl<M: PrefixMap<u32>> Server<M> {
     }
 
     /// The answer, and the ETR that a request goes on to where it is acknowledged.
-    fn answer_and_etr(&self, x: Xeid) -> (ReferralRecord, Option<Locator>)
+    pub(crate) fn answer_and_etr(&self, x: Xeid) -> (ReferralRecord, Option<Locator>)
         ensures answer { result.0 ≡ answer_of self.now (xeid_path x) }
         ensures etr { result.1 ≡ first_etr self.now (xeid_path x) }
     {
@@ -87,25 +86,6 @@ impl<M: PrefixMap<u32>> Server<M> {
                 x,
             ),
             None => (ReferralRecord::not_authoritative(x), None),
-        }
-    }
-
-    /// What is sent for a datagram. A DDT Map-Request, whose bit D is set, is answered by a Map-Referral with its
-    /// nonce, to be sent to where it came from; on MS-ACK the datagram with that bit clear goes on to the first ETR of
-    /// the site (RFC 8111, sections 7.1 and 7.2). For any other datagram nothing is sent, and no memory is wanted.
-    /// Refused for memory alone.
-    #[tactic(auto, using(crate::proofs::AnswerLemmas::acknowledged))]
-    pub fn handle(&self, alloc: Global, bytes: &[u8]) -> Result<Handled, AllocError>
-        ensures handled { IfOk result (λ h. h ≡ handled_of self.now bytes.now) }
-        ensures acknowledged { IfOk result (λ h. is_some h.forward ≡ acknowledges self.now bytes.now) }
-        ensures ignored { ddt_request_of bytes.now ≡ None → result ≡ Ok ignored_of }
-    {
-        match ddt_request(bytes) {
-            Some(request) => {
-                let (record, etr) = self.answer_and_etr(request.xeid());
-                Handled::answered(alloc, request.nonce(), &record, etr, bytes)
-            }
-            None => Ok(Handled::ignored()),
         }
     }
 }

@@ -45,6 +45,26 @@ prefix = "[0]10.1.4.0/24"
 etrs = []
 "#;
 
+/// A Map-Server group with a site inside each of two sites.
+const NESTED: &str = r#"name = "east"
+kind = "ms"
+locators = ["127.0.1.1"]
+[[authority]]
+prefix = "[0]10.1.0.0/16"
+[[authority.site]]
+prefix = "[0]10.1.2.0/24"
+etrs = ["127.0.2.1"]
+[[authority.site]]
+prefix = "[0]10.1.4.0/24"
+etrs = []
+[[authority.site]]
+prefix = "[0]10.1.4.128/25"
+etrs = ["127.0.2.2"]
+[[authority.site]]
+prefix = "[0]10.1.2.64/26"
+etrs = []
+"#;
+
 /// A node group that is in charge of everything and, below the child that another group serves, of a block in it.
 const SHARED: &str = r#"name = "root"
 kind = "node"
@@ -285,6 +305,31 @@ fn a_child_below_the_shorter_authority_is_still_referred_to(rt: HostRuntime) -> 
         answer.servers.as_slice(),
         [Locator::V4(0x7f00_000a)].as_slice()
     );
+    Ok(())
+}
+
+#[test]
+fn of_sites_inside_sites_the_longest_decides(rt: HostRuntime) -> Result<(), Fail> {
+    for (xeid, action, prefix) in [
+        ("[0]10.1.2.3", Action::MsAck, "[0]10.1.2.0/24"),
+        ("[0]10.1.2.65", Action::MsNotRegistered, "[0]10.1.2.64/26"),
+        ("[0]10.1.4.5", Action::MsNotRegistered, "[0]10.1.4.0/25"),
+        ("[0]10.1.4.200", Action::MsAck, "[0]10.1.4.128/25"),
+        ("[0]10.1.3.9", Action::DelegationHole, "[0]10.1.3.0/24"),
+    ] {
+        let answer = server(rt.alloc(), &rt, NESTED)?.answer(parse_xeid(xeid.as_bytes())?);
+        assert_eq!(rt; answer.action, action, "at {xeid}");
+        assert_eq!(rt;
+            answer.prefix,
+            parse_prefix(prefix.as_bytes())?,
+            "at {xeid}"
+        );
+    }
+    let inner = asked(rt.alloc(), &rt, NESTED, "[0]10.1.4.200")?;
+    let forward = inner.forward.ok_or("nothing forwarded")?;
+    assert_eq!(rt; forward.to, Locator::V4(0x7f00_0202));
+    let part = asked(rt.alloc(), &rt, NESTED, "[0]10.1.2.65")?;
+    assert!(rt; part.forward.is_none());
     Ok(())
 }
 

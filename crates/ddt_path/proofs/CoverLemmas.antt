@@ -2,7 +2,7 @@
 use Rattle.std.proofs.Common.{◌≡◌, ℕ, zero, suc, ◌≤◌, Bool, true, false, List, [], ◌∷◌, ◌++◌, length, take, refl, sym, ap, ◌∙◌, arith}
 use Rattle.std.specs.Prelude.{◌==◌, ◌&&◌, ◌||◌}
 use Rattle.std.proofs.lemmas.Bool.{and_parts, and_from, false≢true, eqb-true, eq-eqb}
-use Rattle.ddt_path.specs.Covers.{covers, overlaps}
+use Rattle.ddt_path.specs.Covers.{covers, overlaps, is_same_path}
 
 pub covers_self : (p : List ℕ) → covers p p ≡ true
 covers_self [] = refl
@@ -69,3 +69,16 @@ pub next_digit : (f : List ℕ) (d : ℕ) (r : List ℕ) → covers (f ++ d ∷ 
 next_digit [] d [] a = absurd (false≢true a)
 next_digit [] d (e ∷ r) a = (r, ap (λ (h : ℕ). h ∷ r) (sym (eqb-true d e (and_parts (d == e) true a).0)))
 next_digit (h ∷ f) d r a = next_digit f d r (and_parts (h == h) (covers (f ++ d ∷ []) (f ++ r)) a).1
+
+-- two paths that pass for one are one
+pub same_path : (p q : List ℕ) → is_same_path p q ≡ true → p ≡ q
+same_path [] [] e = refl
+same_path [] (h ∷ q) e = absurd (false≢true e)
+same_path (d ∷ p) [] e = absurd (false≢true e)
+same_path (d ∷ p) (h ∷ q) e =
+    let s = and_parts (d == h) (is_same_path p q) e in
+    ap (λ (k : ℕ). k ∷ p) (eqb-true d h s.0) ∙ ap (λ (l : List ℕ). h ∷ l) (same_path p q s.1)
+
+pub is_same_path_self : (p : List ℕ) → is_same_path p p ≡ true
+is_same_path_self [] = refl
+is_same_path_self (d ∷ p) = and_from (d == d) (is_same_path p p) (eq-eqb d d refl) (is_same_path_self p)

@@ -1,13 +1,15 @@
 -- The least specific free prefix, over the definitions.
 use Rattle.std.proofs.Common.{◌≡◌, ℕ, ◌+◌, ◌<◌, ◌≤◌, Bool, true, false, cond, List, [], ◌∷◌, ◌++◌, length, take, drop, Some, None, refl, sym, ap, ◌∙◌, arith, inl, inr}
 use Rattle.std.specs.Prelude.{find, nat_lt, not, Option, ◌==◌, ◌&&◌}
-use Rattle.std.specs.List.{list_any}
-use Rattle.std.proofs.lemmas.Bool.{cond-true, cond-false, and_from, and_parts, or_cases, not-true, false≢true, eqb-true, lt-ltb, le-ltb, cases_lt}
+use Rattle.std.specs.List.{list_any, list_all}
+use Rattle.std.proofs.lemmas.Bool.{cond-true, cond-false, and_from, and_parts, or_cases, or_left, or_right, and_cases, not-true, not-false, false≢true, eqb-true, lt-ltb, le-ltb, cases_lt}
 use Rattle.std.proofs.lemmas.Option.{same_Some, cond_some}
-use Rattle.std.proofs.lemmas.List.{append_assoc, take-append-drop, length-take, drop_more, take_more, take_all, drop_all}
+use Rattle.std.proofs.lemmas.List.{append_assoc, take-append-drop, length-take, drop_more, take_more, take_all, drop_all, append-nil}
+use Rattle.ddt_path.specs.Path.{is_path, is_prefix_path}
 use Rattle.ddt_path.specs.Covers.{covers, overlaps, is_same_path}
 use Rattle.ddt_path.specs.Free.{lengthened, parts_from, overlaps_none, free, is_free}
-use Rattle.ddt_path.proofs.CoverLemmas.{covers_self, covers_trans, covers-append, take-covered, length-covered, overlaps-take, next_digit}
+use Rattle.ddt_path.proofs.CoverLemmas.{covers_self, covers_trans, covers-append, take-covered, length-covered, overlaps-take, next_digit, same_path}
+use Rattle.ddt_path.proofs.EndLemmas.{overlaps_whole}
 
 -- ---- the parts of a path
 
@@ -35,6 +37,18 @@ passes test p ps q t found = same_Some p q (sym (cond-true (test p) (Some p) (fi
 
 fails : (test : List ℕ → Bool) (p : List ℕ) (ps : List (List ℕ)) → test p ≡ false → find test (p ∷ ps) ≡ find test ps
 fails test p ps t = cond-false (test p) (Some p) (find test ps) t
+
+abbrev found_path : List ℕ → Option (List ℕ)
+found_path q = Some q
+
+abbrev nothing : Option (List ℕ)
+nothing = None
+
+none_not_some : (q : List ℕ) → nothing ≡ found_path q → ⊥
+none_not_some q e = cc
+
+head_fails : (test : List ℕ → Bool) (p : List ℕ) (ps : List (List ℕ)) → find test (p ∷ ps) ≡ None → test p ≡ false
+head_fails test p ps none = elim (test p) as (λ b. test p ≡ b → b ≡ false) [ true ↦ λ t. absurd (none_not_some p (sym none ∙ cond-true (test p) (Some p) (find test ps) t)) | false ↦ λ t. refl ] refl
 
 -- each part begins with the front
 part-covered : (test : List ℕ → Bool) (f r q : List ℕ) → find test (lengthened f r) ≡ Some q → covers f q ≡ true
@@ -73,15 +87,6 @@ free_whole authority s x inside none =
     let front : take (length authority) x ≡ authority = take-covered authority x inside in
     ap (find (overlaps_none s)) (parts_from_fits (length authority) x (length-covered authority x inside))
     ∙ ap (λ (f : List ℕ). find (overlaps_none s) (lengthened f (drop (length authority) x))) front ∙ at_once (overlaps_none s) authority (drop (length authority) x) none
-
-abbrev found_path : List ℕ → Option (List ℕ)
-found_path q = Some q
-
-abbrev nothing : Option (List ℕ)
-nothing = None
-
-none_not_some : (q : List ℕ) → nothing ≡ found_path q → ⊥
-none_not_some q e = cc
 
 -- what was found is found among the parts of a path that is long enough
 found_fits : (authority : List ℕ) (s : List (List ℕ)) (x q : List ℕ) → free authority s x ≡ Some q → length authority ≤ length x
@@ -168,20 +173,12 @@ free_agree authority s t x same = find_agree (overlaps_none s) (overlaps_none t)
 
 -- ---- where a member covers x, nothing is free
 
-same_path-true : (p q : List ℕ) → is_same_path p q ≡ true → p ≡ q
-same_path-true [] [] e = refl
-same_path-true [] (h ∷ q) e = absurd (false≢true e)
-same_path-true (d ∷ p) [] e = absurd (false≢true e)
-same_path-true (d ∷ p) (h ∷ q) e =
-    let s = and_parts (d == h) (is_same_path p q) e in
-    ap (λ (k : ℕ). k ∷ p) (eqb-true d h s.0) ∙ ap (λ (l : List ℕ). h ∷ l) (same_path-true p q s.1)
-
 member_apart : (s : List (List ℕ)) (key p : List ℕ) → list_any (is_same_path key) s ≡ true → overlaps_none s p ≡ true → overlaps key p ≡ false
 member_apart [] key p is none = absurd (false≢true is)
 member_apart (k ∷ s) key p is none =
     let parts = and_parts (not (overlaps k p)) (overlaps_none s p) none in
     elim (or_cases (is_same_path key k) (list_any (is_same_path key) s) is) [
-      | inl same ↦ ap (λ (q : List ℕ). overlaps q p) (same_path-true key k same) ∙ not-true (overlaps k p) parts.0
+      | inl same ↦ ap (λ (q : List ℕ). overlaps q p) (same_path key k same) ∙ not-true (overlaps k p) parts.0
       | inr later ↦ member_apart s key p later parts.1
     ]
 
@@ -197,3 +194,31 @@ pub member_covers_none : (authority : List ℕ) (s : List (List ℕ)) (x key : L
 member_covers_none authority s x key is c =
     none_free authority s x (λ p d. false_where (overlaps_none s p) (λ none.
     false≢true (sym (member_apart s key p is none) ∙ overlaps_front key x p c d)))
+
+-- ---- where nothing is free, a member covers
+
+-- if no part passes, the whole doesn't
+whole_fails : (test : List ℕ → Bool) (f r : List ℕ) → find test (lengthened f r) ≡ None → test (f ++ r) ≡ false
+whole_fails test f [] none = ap test (append-nil f) ∙ head_fails test f [] none
+whole_fails test f (d ∷ r) none =
+    let rest = find test (lengthened (f ++ d ∷ []) r) in
+    let later : rest ≡ None = sym (fails test f (lengthened (f ++ d ∷ []) r) (head_fails test f (lengthened (f ++ d ∷ []) r) none)) ∙ none in
+    ap test (sym (append_assoc f (d ∷ []) r)) ∙ whole_fails test (f ++ d ∷ []) r later
+
+-- a list of prefixes that an identifier overlaps has one that covers it
+some_covers : (s : List (List ℕ)) (x : List ℕ) → is_path x ≡ true → list_all is_prefix_path s ≡ true → overlaps_none s x ≡ false → list_any (λ k. covers k x) s ≡ true
+some_covers [] x e h none = absurd (false≢true (sym none))
+some_covers (k ∷ s) x e h none =
+    let p = and_parts (is_prefix_path k) (list_all is_prefix_path s) h in
+    let same = overlaps_whole x k e p.0 in
+    elim (and_cases (not (overlaps k x)) (overlaps_none s x) none) [
+      | inl here ↦ or_left (covers k x) (list_any (λ q. covers q x) s) (sym same ∙ not-false (overlaps k x) here)
+      | inr later ↦ or_right (covers k x) (list_any (λ q. covers q x) s) (some_covers s x e p.1 later)
+    ]
+
+pub none_free_covered : (authority : List ℕ) (s : List (List ℕ)) (x : List ℕ) → is_path x ≡ true → list_all is_prefix_path s ≡ true → covers authority x ≡ true → free authority s x ≡ None → list_any (λ k. covers k x) s ≡ true
+none_free_covered authority s x e h inside none =
+    let n = length authority in
+    let test = overlaps_none s in
+    let parts : find test (lengthened (take n x) (drop n x)) ≡ None = sym (ap (find test) (parts_from_fits n x (length-covered authority x inside))) ∙ none in
+    some_covers s x e h (sym (ap test (take-append-drop n x)) ∙ whole_fails test (take n x) (drop n x) parts)

@@ -6,4 +6,10 @@ pub mod SlotLemmas
 pub mod NameLemmas
 pub mod PathTestLemmas
 pub mod CoverLemmas
+pub mod EndLemmas
 pub mod HoleLemmas
+pub mod MemberLemmas
+pub mod FrontLemmas
+pub mod MatchingLemmas
+pub mod ChosenLemmas
+pub mod LocatorLemmas

@@ -1,17 +1,19 @@
--- The paths of identifiers and of prefixes pass their tests, and a list that passes is the path of an identifier.
-use Rattle.std.proofs.Common.{◌≡◌, ℕ, zero, suc, ◌+◌, ◌*◌, ◌/◌, ◌%◌, ◌^◌, ◌<◌, ◌≤◌, true, List, [], ◌∷◌, ◌++◌, length, take, drop, refl, ap, subst, ◌∙◌, arith, inl, inr}
-use Rattle.std.specs.Prelude.{nat_lt, ◌==◌, ◌&&◌, ◌||◌}
+-- The paths of identifiers and of prefixes pass their tests, and a list that passes is the path of one.
+use Rattle.std.proofs.Common.{◌≡◌, ℕ, zero, suc, ◌+◌, ◌-◌, ◌*◌, ◌/◌, ◌%◌, ◌^◌, ◌<◌, ◌≤◌, true, List, [], ◌∷◌, ◌++◌, length, take, drop, refl, sym, ap, subst, ◌∙◌, arith, inl, inr}
+use Rattle.std.specs.Prelude.{nat_lt, nat_le, replicate, ◌==◌, ◌&&◌, ◌||◌}
 use Rattle.std.specs.Int.Digits.{number_from_digits_after}
-use Rattle.std.proofs.lemmas.Bool.{lt-ltb, ltb-true, and_parts, and_from, or_cases, le-leb, eqb-true}
-use Rattle.std.proofs.lemmas.List.{take_at, drop_at, take_all, drop_all, take-append-drop, length-take, length-drop}
+use Rattle.std.proofs.lemmas.Bool.{lt-ltb, ltb-true, and_parts, and_from, or_cases, le-leb, leb-true, eqb-true}
+use Rattle.std.proofs.lemmas.List.{take_at, drop_at, take_all, drop_all, take-append-drop, length-take, length-drop, length-append, length-replicate, append-nil}
+use Rattle.std.proofs.lemmas.List.Folds.{list_all-append}
 use Rattle.std.proofs.lemmas.Nat.{pow-add, pow_pos, le-div, div_below, mul-le}
 use Rattle.ddt_path.specs.declared.locator.Locator.{Locator}
 use Rattle.ddt_path.specs.declared.locator.Locator.TheVariants.{V4, V6}
 use Rattle.ddt_path.specs.declared.xeid.Xeid.{Xeid}
 use Rattle.ddt_path.specs.declared.form.Form.{Form}
 use Rattle.ddt_path.specs.declared.form.Form.TheVariants.{Range, Block}
-use Rattle.ddt_path.specs.Path.{digits, path, xeid_path, address_path, address_digits, address_number, address_width, family, are_binary, is_address_part, is_address_front, is_path, is_prefix_path, IsForm, IsInRange}
+use Rattle.ddt_path.specs.Path.{digits, path, xeid_path, address_path, address_digits, address_number, address_width, family, are_binary, is_address_part, is_address_front, is_path, is_prefix_path, are_zero, IsForm, IsInRange}
 use Rattle.ddt_path.specs.DigitLemmas.{length-digits}
+use Rattle.ddt_path.proofs.PrefixLemmas.{replicate-are_zero}
 
 are_binary-digits : (w x : ℕ) → are_binary (digits w x) ≡ true
 unfolding digits
@@ -126,3 +128,64 @@ identifier_of ds e =
     let n : length (take 32 ds) ≡ 32 = omega (arith, length-take 32 ds, length-drop 32 ds, some_left (drop 32 ds) p.1) in
     let iid = number_from_digits_after 2 0 (take 32 ds) in
     (record { iid = iid; address = a.0 }, (number_fits 32 (take 32 ds) n p.0, a.1), rw (spelled 32 (take 32 ds) n p.0, a.2) (take-append-drop 32 ds))
+
+-- ---- the form whose path a list is
+
+zeros_are_binary : (n : ℕ) → are_binary (replicate n 0) ≡ true
+zeros_are_binary zero = refl
+zeros_are_binary (suc n) = zeros_are_binary n
+
+-- a number has these first digits, and only 0 behind them
+record HasFront (w : ℕ) (ds : List ℕ) : Type 0 where
+  number : ℕ
+  fits : number < 2 ^ w
+  front : take (length ds) (digits w number) ≡ ds
+  tail : are_zero (drop (length ds) (digits w number)) ≡ true
+
+number_of_front : (w : ℕ) (ds : List ℕ) → length ds ≤ w → are_binary ds ≡ true → HasFront w ds
+number_of_front w ds le e =
+    let zeros = replicate (w - length ds) 0 in
+    let n : length (ds ++ zeros) ≡ w = length-append ds zeros ∙ rw (length-replicate {A = ℕ} (w - length ds) 0) (omega arith) in
+    let b : are_binary (ds ++ zeros) ≡ true = list_all-append (λ d. nat_lt d 2) ds zeros ∙ and_from (are_binary ds) (are_binary zeros) e (zeros_are_binary (w - length ds)) in
+    let same = spelled w (ds ++ zeros) n b in
+    record {
+      number = number_from_digits_after 2 0 (ds ++ zeros);
+      fits = number_fits w (ds ++ zeros) n b;
+      front = ap (take (length ds)) same ∙ take_at ds zeros (length ds) refl;
+      tail = ap (λ (l : List ℕ). are_zero (drop (length ds) l)) same ∙ ap are_zero (drop_at ds zeros (length ds) refl) ∙ replicate-are_zero (w - length ds);
+    }
+
+abbrev HasForm : List ℕ → Type 0
+HasForm ds = (f : Form) × IsForm f × (path f ≡ ds)
+
+-- instance digits, and behind all 32 of them a family symbol with address digits
+form_of_parts : (front rest : List ℕ) → length front ≤ 32 → (0 < length rest → length front ≡ 32) → are_binary front ≡ true → is_address_front rest ≡ true → HasForm (front ++ rest)
+form_of_parts front [] le whole b e =
+    let n = number_of_front 32 front le b in
+    (Range n.number (length front), (n.fits, le, n.tail), n.front ∙ sym (append-nil front))
+form_of_parts front (symbol ∷ ds) le whole b e =
+    let p = and_parts (are_binary ds) ((symbol == 4 && nat_le (length ds) 32) || (symbol == 6 && nat_le (length ds) 128)) e in
+    let full = whole (omega arith) in
+    let iid = number_from_digits_after 2 0 front in
+    let fits = number_fits 32 front full b in
+    let instance_digits = spelled 32 front full b in
+    elim (or_cases (symbol == 4 && nat_le (length ds) 32) (symbol == 6 && nat_le (length ds) 128) p.1) [
+      | inl four ↦
+          let q = and_parts (symbol == 4) (nat_le (length ds) 32) four in
+          let short = leb-true (length ds) 32 q.1 in
+          let a = number_of_front 32 ds short p.0 in
+          (Block iid (V4 a.number) (length ds), (fits, a.fits, short, a.tail), rw (instance_digits, a.front, eqb-true symbol 4 q.0) refl)
+      | inr six ↦
+          let q = and_parts (symbol == 6) (nat_le (length ds) 128) six in
+          let short = leb-true (length ds) 128 q.1 in
+          let a = number_of_front 128 ds short p.0 in
+          (Block iid (V6 a.number) (length ds), (fits, a.fits, short, a.tail), rw (instance_digits, a.front, eqb-true symbol 6 q.0) refl)
+    ]
+
+pub form_of_prefix : (ds : List ℕ) → is_prefix_path ds ≡ true → (f : Form) × IsForm f × (path f ≡ ds)
+form_of_prefix ds e =
+    let p = and_parts (are_binary (take 32 ds)) (is_address_front (drop 32 ds)) e in
+    let n = length-take 32 ds in
+    let m = length-drop 32 ds in
+    let found = form_of_parts (take 32 ds) (drop 32 ds) (omega arith) (λ some. omega arith) p.0 p.1 in
+    (found.0, found.1, found.2 ∙ take-append-drop 32 ds)

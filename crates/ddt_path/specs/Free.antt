@@ -1,8 +1,10 @@
 -- The prefix of a delegation hole. RFC 8111, section 7.1.2, asks for the least specific one that no delegation
 -- matches; here it is also kept inside the prefix of the authority that was asked.
-use Rattle.std.specs.Prelude.{ℕ, Bool, ◌&&◌, not, nat_lt, if◌then◌else◌, List, [], ◌∷◌, ◌++◌, length, take, drop, find, Option, None, Some}
+use Rattle.std.specs.Prelude.{ℕ, Bool, ◌&&◌, not, nat_lt, if◌then◌else◌, List, [], ◌∷◌, ◌++◌, length, take, drop, find, unwrap_or, Option}
 use Rattle.std.specs.List.{list_all}
+use Rattle.ddt_path.specs.declared.matching.Preference.TheVariants.{Longest, Shortest}
 use Rattle.ddt_path.specs.Covers.{covers, overlaps}
+use Rattle.ddt_path.specs.Matching.{better_of, best_match}
 
 -- front, and front with one more digit of the rest after it, and so on up to all of it
 abbrev pub lengthened : List ℕ → List ℕ → List (List ℕ)
@@ -28,20 +30,21 @@ free authority s x = find (overlaps_none s) (parts_from (length authority) x)
 abbrev pub is_free : List ℕ → List (List ℕ) → List ℕ → List ℕ → Bool
 is_free authority s x q = covers q x && (covers authority q && overlaps_none s q)
 
--- Of the items whose prefix covers x, the one of the longest prefix; of equal prefixes the first.
+-- The prefix of the hole: the least specific free one. Where there is none this is the identifier itself, which nobody
+-- asks for, since then a member covers it.
+abbrev pub hole_of : List ℕ → List (List ℕ) → List ℕ → List ℕ
+hole_of authority s x = unwrap_or (free authority s x) x
+
+-- of the items whose prefix covers x, the one of the longest prefix; of equal prefixes the first
 abbrev pub longer_of : {A : Type 0} → (A → List ℕ) → A → Option A → A
-longer_of prefix a None = a
-longer_of prefix a (Some b) = if nat_lt (length (prefix a)) (length (prefix b)) then b else a
+longer_of prefix a other = better_of Longest prefix a other
 
 abbrev pub longest_match : {A : Type 0} → (A → List ℕ) → List A → List ℕ → Option A
-longest_match prefix [] x = None
-longest_match prefix (a ∷ others) x = if covers (prefix a) x then Some (longer_of prefix a (longest_match prefix others x)) else longest_match prefix others x
+longest_match prefix items x = best_match Longest prefix items x
 
--- Of the items whose prefix covers x, the one of the shortest prefix; of equal prefixes the first.
+-- of the items whose prefix covers x, the one of the shortest prefix; of equal prefixes the first
 abbrev pub shorter_of : {A : Type 0} → (A → List ℕ) → A → Option A → A
-shorter_of prefix a None = a
-shorter_of prefix a (Some b) = if nat_lt (length (prefix b)) (length (prefix a)) then b else a
+shorter_of prefix a other = better_of Shortest prefix a other
 
 abbrev pub shortest_match : {A : Type 0} → (A → List ℕ) → List A → List ℕ → Option A
-shortest_match prefix [] x = None
-shortest_match prefix (a ∷ others) x = if covers (prefix a) x then Some (shorter_of prefix a (shortest_match prefix others x)) else shortest_match prefix others x
+shortest_match prefix items x = best_match Shortest prefix items x

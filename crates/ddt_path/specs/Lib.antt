@@ -3,6 +3,7 @@ pub mod DigitLemmas
 pub mod FormOf
 pub mod FormLemmas
 pub mod Covers
+pub mod Matching
 pub mod Free
 pub mod Names
 pub mod Slots

@@ -2,7 +2,8 @@
 //! nothing.
 
 ghost use Rattle.std.specs.Prelude.{◌≡◌, ℕ, IsTrue, List, None, Some};
-ghost use Rattle.std.specs.List.{list_any};
+ghost use Rattle.std.specs.List.{list_any, list_all};
+ghost use Rattle.ddt_path.specs.Path.{is_path, is_prefix_path};
 ghost use Rattle.ddt_path.specs.Covers.{covers, is_same_path};
 ghost use Rattle.ddt_path.specs.Free.{free, is_free};
 
@@ -22,4 +23,11 @@ pub fn a_hole_is_free()
 pub fn no_hole_under_a_key()
     ensures { (authority : List ℕ) (keys : List (List ℕ)) (x key : List ℕ) →
         IsTrue (list_any (is_same_path key) keys) → IsTrue (covers key x) → free authority keys x ≡ None }
+{}
+
+/// Where nothing is free for an identifier inside the authority, a key covers it.
+pub fn none_free_is_covered()
+    ensures { (authority : List ℕ) (keys : List (List ℕ)) (x : List ℕ) →
+        IsTrue (is_path x) → IsTrue (list_all is_prefix_path keys) → IsTrue (covers authority x) →
+        free authority keys x ≡ None → IsTrue (list_any (λ key. covers key x) keys) }
 {}

@@ -2,23 +2,31 @@
 #![tactic(auto)]
 
 mod form;
+mod fronts;
 mod holes;
 mod listed;
 mod locator;
 mod locator_set;
 mod masks;
+mod matching;
 mod name;
 mod prefix;
+mod prefixed;
 mod record;
 mod xeid;
 
 pub use form::{Form, PrefixFault};
-pub use holes::{a_hole_is_free, no_hole_under_a_key, one_hole_for_all_it_covers};
+pub use fronts::the_longest_common_front;
+pub use holes::{
+    a_hole_is_free, no_hole_under_a_key, none_free_is_covered, one_hole_for_all_it_covers,
+};
 pub use listed::Listed;
-pub use locator::{Locator, is_same_locator, lists};
+pub use locator::{Locator, are_distinct, is_same_locator, lists};
 pub use locator_set::{LocatorSet, MOST_LOCATORS};
+pub use matching::{Preference, best_match, longest_match, shortest_match};
 pub use name::{LONGEST_NAME, Name};
 pub use prefix::Prefix;
+pub use prefixed::Prefixed;
 pub use record::{
     Action, HOLE_TTL, NOT_REGISTERED_TTL, Outcome, POSITIVE_TTL, ReferralRecord, Role,
 };

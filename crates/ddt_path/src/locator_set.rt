@@ -2,6 +2,7 @@
 
 ghost use Rattle.std.specs.Prelude.{◌≡◌, ◌≤◌, [], length};
 ghost use Rattle.std.specs.Option.{SomeIff};
+ghost use Rattle.ddt_path.specs.Locators.{most_locators};
 ghost use Rattle.std.specs.Cmp.Rules.{comparing};
 ghost use Rattle.std.proofs.Common.{rules};
 ghost use Rattle.std.specs.Cmp.Lexicographic.{pointwise, lists_per, lists_equiv};
@@ -29,32 +30,41 @@ impl Model for LocatorSet {
 
     ghost Value = { List Locator };
 
+    ghost use Rattle.ddt_path.specs.Locators.{most_locators};
     ghost use Rattle.ddt_path.specs.Slots.{IsFilled, filled, filled-take, length-filled_items};
     ghost use Rattle.ddt_path.specs.declared.locator_set.LocatorSet.TheInside.{Inside};
 
     ghost view = { λ a. take a.len a.slots };
 
-    ghost invariant = { λ a. IsFilled 8 (V4 0) a.slots a.len };
+    ghost invariant = { λ a. IsFilled most_locators (V4 0) a.slots a.len };
 
-    ghost inverse = { λ items. record { slots = filled 8 (V4 0) items; len = length items } };
+    ghost inverse = { λ items. record { slots = filled most_locators (V4 0) items; len = length items } };
 
-    ghost inverse_ok = { λ a h. ap (λ (s : List Locator). let r : Inside = record { slots = s; len = length (take a.len a.slots) } in r) (filled-take 8 (V4 0) a.slots a.len h) ∙ ap (λ (n : ℕ). let r : Inside = record { slots = a.slots; len = n } in r) (length-filled_items 8 (V4 0) a.slots a.len h) };
+    ghost inverse_ok = { λ a h. ap (λ (s : List Locator). let r : Inside = record { slots = s; len = length (take a.len a.slots) } in r) (filled-take most_locators (V4 0) a.slots a.len h) ∙ ap (λ (n : ℕ). let r : Inside = record { slots = a.slots; len = n } in r) (length-filled_items most_locators (V4 0) a.slots a.len h) };
 }
 
 impl LocatorSet {
     /// The set of these locators, in their order; None where they are more than 8.
     pub fn of(locators: &[Locator]) -> Option<LocatorSet>
-        ensures { SomeIff result (length locators.now ≤ 8) locators.now }
+        ensures { SomeIff result (length locators.now ≤ most_locators) locators.now }
     {
         if locators.len() > MOST_LOCATORS {
             return None;
         }
+        Some(LocatorSet::of_few(locators))
+    }
+
+    /// The set of these locators, at most 8 of them, in their order.
+    pub fn of_few(locators: &[Locator]) -> LocatorSet
+        requires { length locators.now ≤ most_locators }
+        ensures { result ≡ locators.now }
+    {
         let mut slots = [FILLER; MOST_LOCATORS];
         slots[..locators.len()].copy_from_slice(locators);
-        Some(LocatorSet {
+        LocatorSet {
             slots,
             len: locators.len(),
-        })
+        }
     }
 
     /// The set of no locator.
@@ -70,7 +80,7 @@ impl LocatorSet {
     /// The locators in order.
     pub fn as_slice(&self) -> &[Locator]
         ensures items { result.now ≡ self.now }
-        ensures bound { length self.now ≤ 8 }
+        ensures bound { length self.now ≤ most_locators }
     {
         &self.slots[..self.len]
     }

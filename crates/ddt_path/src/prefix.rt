@@ -6,6 +6,7 @@ ghost use Rattle.std.specs.Ordering.{nat_cmp};
 ghost use Rattle.std.specs.Cmp.{partial_equiv_from_equiv};
 ghost use Rattle.ddt_path.specs.Path.{path, xeid_path, prefix_of, is_path, is_prefix_path, IsForm, IsInRange};
 ghost use Rattle.ddt_path.specs.declared.xeid.Xeid.{Xeid as AnXeid};
+ghost use Rattle.ddt_path.specs.declared.form.Form.{Form as AForm};
 ghost use Rattle.ddt_path.specs.Covers.{covers, overlaps, shared_len};
 
 use crate::form::{Form, PrefixFault};
@@ -116,11 +117,13 @@ impl Prefix {
         }
     }
 
-    /// How the prefix is written down: a range, or a block.
+    /// How the prefix is written down: a range, or a block. Being the path of a prefix is a test on lists, which just
+    /// the paths of forms pass.
     pub fn form(self) -> Form
         ensures path { path result ≡ self }
         ensures kept { IsForm result }
         ensures passes { IsTrue (is_prefix_path self) }
+        ensures only { (ds : List ℕ) → IsTrue (is_prefix_path ds) → (f : AForm) × IsForm f × (path f ≡ ds) }
     {
         self.form
     }

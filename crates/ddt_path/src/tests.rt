@@ -75,3 +75,32 @@ fn sets_names_and_lists_hold_what_they_were_given(rt: HostRuntime) -> Result<(),
     assert_eq!(rt; Listed::of(items).into_vec().as_slice(), [1, 2].as_slice());
     Ok(())
 }
+
+#[test]
+fn the_longest_and_the_shortest_match(rt: HostRuntime) -> Result<(), Fail> {
+    let (ten, inner, other) = (
+        block(0x0a00_0000, 8)?,
+        block(0x0a01_0000, 16)?,
+        block(0x0b00_0000, 8)?,
+    );
+    let items = [inner, ten, other, ten];
+    let x = block(0x0a01_0203, 32)?;
+    assert_eq!(rt; longest_match(&items, x), Some(&inner));
+    assert_eq!(rt; shortest_match(&items, x), Some(&ten));
+    assert_eq!(rt; longest_match(&items, block(0x0c00_0000, 32)?), None);
+    let outer = best_match(Preference::Longest, &items, x, |p| p.len() < 49);
+    assert_eq!(rt; outer, Some(&ten));
+    Ok(())
+}
+
+#[test]
+fn a_locator_that_stands_twice_is_found(rt: HostRuntime) {
+    let (one, other) = (Locator::V4(1), Locator::V6(1));
+    assert!(rt; are_distinct(&[]));
+    assert!(rt; are_distinct(&[one, other]));
+    assert!(rt; !are_distinct(&[one, other, one]));
+    assert_eq!(rt;
+        LocatorSet::of_few(&[one, other]).as_slice(),
+        [one, other].as_slice()
+    );
+}

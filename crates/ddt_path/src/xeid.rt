@@ -24,8 +24,9 @@ impl Xeid {
         33 + self.address.width()
     }
 
-    /// The digit of its path at a place, of which the first is 0.
-    pub(crate) fn digit(self, at: u8) -> u8
+    /// The digit of its path at a place, of which the first is 0: the family symbol, 4 or 6, at 32, and a binary digit
+    /// elsewhere.
+    pub fn digit(self, at: u8) -> u8
         requires { at < length (xeid_path self) }
         ensures { slice_get (xeid_path self) at ≡ Some result }
     {

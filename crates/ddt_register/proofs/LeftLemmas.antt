@@ -9,9 +9,9 @@ use Rattle.csv.specs.declared.parser.State.TheVariants as st
 use Rattle.csv.specs.declared.reader.Reader.{Reader}
 use Rattle.csv.specs.declared.error.ErrorKind.{ErrorKind}
 use Rattle.csv.specs.declared.error.ErrorKind.TheVariants as kind
-use Rattle.csv.specs.declared.record.Position.{Position}
+use Rattle.std.proofs.lemmas.Bool.{false≢true}
 use Rattle.csv.proofs.ReadFacts.{rows-end}
-use Rattle.ddt_register.specs.Left.{AtMost, IsReading, IsLeft, Takes}
+use Rattle.ddt_register.specs.Left.{AtMost, IsReading, IsLeft, Takes, csv_fault}
 use Rattle.ddt_register.specs.declared.fault.ReadFault.TheVariants as Fault
 
 -- ---- a text becomes shorter by each record, or is at its end
@@ -96,15 +96,20 @@ Takes-found remaining old new row fields left set read l =
       },
     )
 
--- a read that refused a record, for its length, refused the first that was left
-pub Takes-unequal : {R : Type 0} (remaining : R → Option (List ℕ)) (old new : Reader R) (row : ℕ) (fields : List (List ℕ)) (left : List (List (List ℕ))) (why : ErrorKind) (pos : Option Position) (len other : ℕ)
-    → why ≡ kind.UnequalLengths pos len other → IsReading old → ExplainsRead remaining old new false why → IsLeft remaining old left → Takes remaining old new row fields left (Err (Fault.Csv row))
-Takes-unequal remaining old new row fields left why pos len other e set explained l =
-    let x = subst (ExplainsRead remaining old new false) e explained in
+-- A read that refused a record, for its length, refused the first that was left. Nothing is said of a failed reader and of
+-- want of memory.
+pub Takes-fault : {R : Type 0} (remaining : R → Option (List ℕ)) (old new : Reader R) (row : ℕ) (fields : List (List ℕ)) (left : List (List (List ℕ))) (why : ErrorKind)
+    → IsReading old → ExplainsRead remaining old new false why → IsLeft remaining old left → Takes remaining old new row fields left (Err (csv_fault row why))
+Takes-fault remaining old new row fields left (kind.Io error) set x l = tt
+Takes-fault remaining old new row fields left kind.OutOfMemory set x l = tt
+Takes-fault remaining old new row fields left (kind.UnequalLengths pos len other) set x l =
     let t = took old.config old.state new.state (source_of remaining old) (pending_of (remaining new.rdr) new) x.3 l.bytes set.config l.source x.4 in
     let more = records_from-some l.most old.state l.bytes t.0 l.enough t.1 in
     let rest : List (List (List ℕ)) = records_from default_config more.0 t.0.1 t.0.2 in
     (refl, len, x.1, x.3, rest, l.records ∙ (more.1 ∙ ap (λ (f : List (List ℕ)). f ∷ rest) (sym t.2)), λ same. x.2 (sym same ∙ x.5))
+Takes-fault remaining old new row fields left (kind.Utf8 pos error) set x l = absurd (false≢true x.0)
+Takes-fault remaining old new row fields left (kind.Serialize text) set x l = absurd x
+Takes-fault remaining old new row fields left (kind.Deserialize pos error) set x l = absurd x
 
 pub Takes-none : {R : Type 0} (remaining : R → Option (List ℕ)) (old new : Reader R) (row : ℕ) (fields : List (List ℕ)) (left : List (List (List ℕ)))
     → IsReading old → ReadRecord remaining old new false fields → IsLeft remaining old left → Takes remaining old new row fields left (Ok false)

@@ -4,10 +4,10 @@ use Rattle.std.proofs.lemmas.List.{append-nil}
 use Rattle.std.proofs.lemmas.Iterator.{YieldsList}
 use Rattle.std.specs.Iterator.{AlwaysYields}
 use Rattle.ddt_path.specs.declared.locator.Locator.{Locator}
-use Rattle.ddt_text.specs.declared.fault.TextFault.{TextFault}
 use Rattle.ddt_text.specs.FirstFault.{locator_in}
 use Rattle.ddt_register.specs.declared.fault.ReadFault.{ReadFault}
-use Rattle.ddt_register.specs.Spelled.{on_ok, each_locator}
+use Rattle.ddt_register.specs.declared.fault.ReadFault.TheVariants as Fault
+use Rattle.ddt_register.specs.Spelled.{on_ok, field_of, each_locator, UnlessMemory}
 
 -- what one call of `next` says of the list that an iterator has left
 ended : {S A B : Type 0} (steps : S → Option A → S → Type 0) (v : A → B) (left : List B) (old new : S) → AlwaysYields steps v old left → steps old None new → left ≡ []
@@ -26,6 +26,18 @@ onto-cons : (locators : List Locator) (a : Locator) (rest : Result (List Locator
 onto-cons locators a (Ok more) = ap Ok (sym (append_assoc locators (a ∷ []) more))
 onto-cons locators a (Err why) = refl
 
+-- a fault that is meant is an answer
+UnlessMemory-fault : {A : Type 0} (fault : ReadFault) (meant : Result A ReadFault) → meant ≡ Err fault → UnlessMemory (Err fault) meant
+UnlessMemory-fault (Fault.Csv row) meant e = e
+UnlessMemory-fault Fault.Columns meant e = e
+UnlessMemory-fault (Fault.Kind row) meant e = e
+UnlessMemory-fault (Fault.Prefix row) meant e = e
+UnlessMemory-fault (Fault.Name row) meant e = e
+UnlessMemory-fault (Fault.Address row) meant e = e
+UnlessMemory-fault Fault.TooMany meant e = e
+UnlessMemory-fault Fault.Read meant e = e
+UnlessMemory-fault Fault.Memory meant e = tt
+
 -- what is left of the parts, and that the parts so far give these locators
 pub record PartsLeft {S : Type 0} (steps : S → Option (Bor (List ℕ)) → S → Type 0) (iterator : S) (fault : ReadFault) (locators : List Locator) (all : Result (List Locator) ReadFault) : Type 0 where
   pub left : List (List ℕ)
@@ -40,7 +52,7 @@ PartsLeft-start fault parts y = record { left = parts; yields = y; rest = start 
     start (Err why) = refl
 
 pub PartsLeft-next : {S : Type 0} {steps : S → Option (Bor (List ℕ)) → S → Type 0} {fault : ReadFault} {locators : List Locator} {all : Result (List Locator) ReadFault} (old new : S) (part : Bor (List ℕ)) (a : Locator)
-    → PartsLeft steps old fault locators all → steps old (Some part) new → locator_in part.now ≡ Ok a → PartsLeft steps new fault (locators ++ a ∷ []) all
+    → PartsLeft steps old fault locators all → steps old (Some part) new → field_of fault (locator_in part.now) ≡ Ok a → PartsLeft steps new fault (locators ++ a ∷ []) all
 PartsLeft-next {steps = steps} {fault = fault} {locators = locators} old new part a p s e =
     let w = went steps (λ x. x.now) p.left old new part p.yields.runs s in
     record {
@@ -49,11 +61,11 @@ PartsLeft-next {steps = steps} {fault = fault} {locators = locators} old new par
       rest = p.rest ∙ ap (λ (l : List (List ℕ)). onto locators (each_locator fault l)) w.1 ∙ rw e (onto-cons locators a (each_locator fault w.0));
     }
 
-pub PartsLeft-fault : {S : Type 0} {steps : S → Option (Bor (List ℕ)) → S → Type 0} {fault : ReadFault} {locators : List Locator} {all : Result (List Locator) ReadFault} (old new : S) (part : Bor (List ℕ)) (why : TextFault)
-    → PartsLeft steps old fault locators all → steps old (Some part) new → locator_in part.now ≡ Err why → all ≡ Err fault
-PartsLeft-fault {steps = steps} {fault = fault} {locators = locators} old new part why p s e =
+pub PartsLeft-fault : {S : Type 0} {steps : S → Option (Bor (List ℕ)) → S → Type 0} {fault : ReadFault} {locators : List Locator} {all : Result (List Locator) ReadFault} (old new : S) (part : Bor (List ℕ)) (why : ReadFault)
+    → PartsLeft steps old fault locators all → steps old (Some part) new → field_of fault (locator_in part.now) ≡ Err why → UnlessMemory (Err why) all
+PartsLeft-fault {steps = steps} {fault = fault} {locators = locators} {all = all} old new part why p s e =
     let w = went steps (λ x. x.now) p.left old new part p.yields.runs s in
-    p.rest ∙ ap (λ (l : List (List ℕ)). onto locators (each_locator fault l)) w.1 ∙ rw e refl
+    UnlessMemory-fault why all (p.rest ∙ ap (λ (l : List (List ℕ)). onto locators (each_locator fault l)) w.1 ∙ rw e refl)
 
 pub PartsLeft-end : {S : Type 0} {steps : S → Option (Bor (List ℕ)) → S → Type 0} {fault : ReadFault} {locators : List Locator} {all : Result (List Locator) ReadFault} (old new : S)
     → PartsLeft steps old fault locators all → steps old None new → all ≡ Ok locators

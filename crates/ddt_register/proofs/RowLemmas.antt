@@ -1,9 +1,11 @@
 -- Rising rows, one item after the other.
-use Rattle.std.proofs.Common.{◌≡◌, ℕ, ◌+◌, ◌<◌, ◌≤◌, Bool, true, false, List, [], ◌∷◌, length, get_or, drop, map, refl, sym, ap, subst, ◌∙◌, arith}
+use Rattle.std.proofs.Common.{◌≡◌, ℕ, ◌+◌, ◌<◌, ◌≤◌, Bool, true, false, List, [], ◌∷◌, length, get_or, drop, map, find, Some, cond, refl, sym, ap, subst, ◌∙◌, arith}
 use Rattle.std.specs.Prelude.{nat_lt, nat_le, ◌==◌, ◌&&◌, not, ◌≢◌}
-use Rattle.std.proofs.lemmas.Bool.{lt-ltb, le-ltb, le-leb, lt-leb, ltb-true, and_parts, or_parts, ne_eqb, eq-eqb, eqb-false}
+use Rattle.std.proofs.lemmas.Bool.{lt-ltb, le-ltb, le-leb, lt-leb, or_parts, ne_eqb, eq-eqb, eqb-false}
 use Rattle.std.proofs.lemmas.List.{drop_more}
-use Rattle.ddt_register.specs.Rows.{rise, has_row, are_apart}
+use Rattle.std.specs.Option.{option_map}
+use Rattle.ddt_register.specs.Rows.{rise, has_row, are_apart, first_row}
+use Rattle.ddt_register.proofs.RisingLemmas.{rise_parts}
 
 pub rise-more : (last row : ℕ) (rows : List ℕ) → last < row → row ≤ 65535 → rise last (row ∷ rows) ≡ rise row rows
 rise-more last row rows lt le = rw (lt-ltb last row lt, le-leb row 65535 le) refl
@@ -18,13 +20,13 @@ rise-high last row rows lt = rw (lt-leb row 65535 lt) (elim (nat_lt last row) as
 pub low_row : (low last : ℕ) (rows : List ℕ) → low ≤ last → rise last rows ≡ true → has_row rows low ≡ false
 low_row low last [] le e = refl
 low_row low last (row ∷ rows) le e =
-    let p = and_parts (nat_lt last row && nat_le row 65535) (rise row rows) e in
-    let lt : last < row = ltb-true last row (and_parts (nat_lt last row) (nat_le row 65535) p.0).0 in
+    let p = rise_parts last row rows e in
+    let lt : last < row = p.0 in
     let apart : row ≢ low = omega arith in
     rw (ne_eqb row low apart) (low_row low row rows (omega arith) p.1)
 
 pub rise-tail : (last row : ℕ) (rows : List ℕ) → rise last (row ∷ rows) ≡ true → rise row rows ≡ true
-rise-tail last row rows e = (and_parts (nat_lt last row && nat_le row 65535) (rise row rows) e).1
+rise-tail last row rows e = (rise_parts last row rows e).1
 
 -- ---- two rising lists, by their first rows
 
@@ -77,3 +79,15 @@ are_apart-higher all others a b rest left e f lt h =
 pub are_apart-equal : (all others : List ℕ) (a b : ℕ) (rest left : List ℕ) → all ≡ a ∷ rest → others ≡ b ∷ left → a ≡ b → false ≡ are_apart all others
 are_apart-equal all others a b rest left e f same =
     sym (ap (λ (r : List ℕ). are_apart r others) e ∙ ap (are_apart (a ∷ rest)) f ∙ ap (λ (n : ℕ). are_apart (n ∷ rest) (b ∷ left)) same ∙ are_apart-same b rest left)
+
+-- ---- the row of the first item that passes a test
+
+module _ {A : Type 0} (row : A → ℕ) (test : A → Bool) (items : List A) (i : ℕ) (a : A) (lt : i < length items) (at : a ≡ get_or items i a) where
+  next_item : first_row row test (drop i items) ≡ option_map row (cond (test a) (Some a) (find test (drop (i + 1) items)))
+  next_item = ap (first_row row test) (drop_more items i a lt) ∙ ap (λ (b : A). option_map row (cond (test b) (Some b) (find test (drop (i + 1) items)))) (sym at)
+
+  pub first_row-here : test a ≡ true → first_row row test (drop i items) ≡ Some (row a)
+  first_row-here e = next_item ∙ rw e refl
+
+  pub first_row-later : test a ≡ false → first_row row test (drop (i + 1) items) ≡ first_row row test (drop i items)
+  first_row-later e = sym (next_item ∙ rw e refl)

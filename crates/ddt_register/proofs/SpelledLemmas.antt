@@ -14,6 +14,7 @@ use Rattle.ddt_register.specs.Rows.{rise, are_apart, zone_rows, site_rows, group
 use Rattle.ddt_register.specs.Spelled.{Lists, no_items, with_first, on_ok, field_of, name_in, locators_in, group_in, zone_in, site_in, fields_in, row_in, rows_in, are_columns, spelled, is_text}
 use Rattle.ddt_register.specs.Kept.{with_last}
 use Rattle.ddt_register.proofs.FieldLemmas.{four_fields}
+use Rattle.ddt_register.proofs.RisingLemmas.{rise-lower}
 use Rattle.ddt_register.proofs.RowLemmas.{rise-more, low_row, are_apart-first, are_apart-skip}
 
 ok_eq : {A : Type 0} (a b : A) → (let r : Result A ReadFault = Ok a in r) ≡ Ok b → a ≡ b
@@ -161,41 +162,35 @@ record IsAbove (last : ℕ) (items : Lists) : Type 0 where
   zones_groups : are_apart (zone_rows items.zones) (group_rows items.groups) ≡ true
   sites_groups : are_apart (site_rows items.sites) (group_rows items.groups) ≡ true
 
-rise-lower : (low last : ℕ) (rows : List ℕ) → low < last → rise last rows ≡ true → rise low rows ≡ true
-rise-lower low last [] lt e = refl
-rise-lower low last (row ∷ rows) lt e =
-    let p = and_parts (nat_lt last row && nat_le row 65535) (rise row rows) e in
-    let q = and_parts (nat_lt last row) (nat_le row 65535) p.0 in
-    let above : last < row = ltb-true last row q.0 in
-    let higher : low < row = omega arith in
-    rw (lt-ltb low row higher, q.1, p.1) refl
-
 IsAbove-first : (last : ℕ) (item : Row) (items : Lists) → last < item_row item → item_row item ≤ 65535 → IsAbove (item_row item) items → IsAbove last (with_first item items)
 IsAbove-first last (Of.Zone zone) items lt le h =
     let same : zone.row ≤ zone.row = omega arith in
+    let low : last ≤ zone.row = omega arith in
     record {
       zones = rise-more last zone.row (zone_rows items.zones) lt le ∙ h.zones;
-      sites = rise-lower last zone.row (site_rows items.sites) lt h.sites;
-      groups = rise-lower last zone.row (group_rows items.groups) lt h.groups;
+      sites = rise-lower last zone.row (site_rows items.sites) low h.sites;
+      groups = rise-lower last zone.row (group_rows items.groups) low h.groups;
       zones_sites = are_apart-first zone.row (zone_rows items.zones) (site_rows items.sites) (low_row zone.row zone.row (site_rows items.sites) same h.sites) ∙ h.zones_sites;
       zones_groups = are_apart-first zone.row (zone_rows items.zones) (group_rows items.groups) (low_row zone.row zone.row (group_rows items.groups) same h.groups) ∙ h.zones_groups;
       sites_groups = h.sites_groups;
     }
 IsAbove-first last (Of.Site site) items lt le h =
     let same : site.row ≤ site.row = omega arith in
+    let low : last ≤ site.row = omega arith in
     record {
-      zones = rise-lower last site.row (zone_rows items.zones) lt h.zones;
+      zones = rise-lower last site.row (zone_rows items.zones) low h.zones;
       sites = rise-more last site.row (site_rows items.sites) lt le ∙ h.sites;
-      groups = rise-lower last site.row (group_rows items.groups) lt h.groups;
+      groups = rise-lower last site.row (group_rows items.groups) low h.groups;
       zones_sites = are_apart-skip site.row (zone_rows items.zones) (site_rows items.sites) (low_row site.row site.row (zone_rows items.zones) same h.zones) ∙ h.zones_sites;
       zones_groups = h.zones_groups;
       sites_groups = are_apart-first site.row (site_rows items.sites) (group_rows items.groups) (low_row site.row site.row (group_rows items.groups) same h.groups) ∙ h.sites_groups;
     }
 IsAbove-first last (Of.Group group) items lt le h =
     let same : group.row ≤ group.row = omega arith in
+    let low : last ≤ group.row = omega arith in
     record {
-      zones = rise-lower last group.row (zone_rows items.zones) lt h.zones;
-      sites = rise-lower last group.row (site_rows items.sites) lt h.sites;
+      zones = rise-lower last group.row (zone_rows items.zones) low h.zones;
+      sites = rise-lower last group.row (site_rows items.sites) low h.sites;
       groups = rise-more last group.row (group_rows items.groups) lt le ∙ h.groups;
       zones_sites = h.zones_sites;
       zones_groups = are_apart-skip group.row (zone_rows items.zones) (group_rows items.groups) (low_row group.row group.row (zone_rows items.zones) same h.zones) ∙ h.zones_groups;

@@ -1,6 +1,8 @@
 -- Which records a reader of CSV has left to read.
 use Rattle.std.specs.Prelude.{ℕ, ◌<◌, ◌≡◌, ◌≢◌, ◌⊎◌, Bool, true, false, List, [], ◌∷◌, length, Option, Some, Result, Ok, Err, ⊤}
 use Rattle.csv.specs.Reading.{Ready, default_config, records_from, source_of, reader_config, reader_state, reader_trim, is_flexible, expected_len}
+use Rattle.csv.specs.declared.error.ErrorKind.{ErrorKind}
+use Rattle.csv.specs.declared.error.ErrorKind.TheVariants as kind
 use Rattle.csv.specs.declared.parser.State.{State}
 use Rattle.csv.specs.declared.parser.State.TheVariants as st
 use Rattle.csv.specs.declared.reader.Reader.{Reader}
@@ -37,3 +39,19 @@ Takes remaining old new row fields left (Err Fault.Memory) = ⊤
 Takes remaining old new row fields left (Err fault) =
     (fault ≡ Fault.Csv row) × (len : ℕ) × (expected_len old ≡ Some len)
     × (other : List (List ℕ)) × (rest : List (List (List ℕ))) × (left ≡ other ∷ rest) × (length other ≢ len)
+
+-- What an error of csv is told as in this row: a failed reader and want of memory as themselves, and all else as a fault
+-- of the row, which for records of bytes is another number of fields.
+abbrev pub csv_fault : ℕ → ErrorKind → ReadFault
+csv_fault row (kind.Io error) = Fault.Read
+csv_fault row kind.OutOfMemory = Fault.Memory
+csv_fault row (kind.UnequalLengths position first len) = Fault.Csv row
+csv_fault row (kind.Utf8 position error) = Fault.Csv row
+csv_fault row (kind.Serialize text) = Fault.Csv row
+csv_fault row (kind.Deserialize position error) = Fault.Csv row
+
+-- the two faults behind which nothing can be read
+abbrev pub stops : ReadFault → Bool
+stops Fault.Read = true
+stops Fault.Memory = true
+stops fault = false

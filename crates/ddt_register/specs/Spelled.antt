@@ -17,6 +17,7 @@ use Rattle.ddt_text.specs.FirstFault.{prefix_in, locator_in}
 use Rattle.ddt_register.specs.declared.zone.Zone.{Zone}
 use Rattle.ddt_register.specs.declared.site.Site.{Site}
 use Rattle.ddt_register.specs.declared.group.Group.{Group}
+use Rattle.ddt_register.specs.Rows.{most_rows}
 use Rattle.ddt_register.specs.declared.register.Register.{Register}
 use Rattle.ddt_register.specs.declared.row.Row.{Row}
 use Rattle.ddt_register.specs.declared.row.Row.TheVariants as Of
@@ -106,7 +107,7 @@ fields_in row kind prefix group addresses =
 -- a row has as many fields as there are columns, and there are at most 65,535 rows
 abbrev pub row_in : ℕ → List (List ℕ) → Result Row ReadFault
 row_in row (kind ∷ prefix ∷ group ∷ addresses ∷ []) =
-    if nat_lt 65535 row then Err Fault.TooMany else fields_in row kind prefix group addresses
+    if nat_lt most_rows row then Err Fault.TooMany else fields_in row kind prefix group addresses
 row_in row fields = Err (Fault.Csv row)
 
 -- ---- the register

@@ -10,7 +10,6 @@ use crate::register::Register;
 use crate::row::Row;
 use crate::site::Site;
 use crate::zone::Zone;
-use ddt_path::Listed;
 use std::alloc::{AllocError, Global};
 
 /// The zones, sites and groups of the rows so far.
@@ -50,10 +49,6 @@ impl Items {
         requires { are_rows self.zones.items self.sites.items self.groups.items ≡ true }
         ensures { lists_of result ≡ kept self }
     {
-        Register {
-            zones: Listed::of(self.zones),
-            sites: Listed::of(self.sites),
-            groups: Listed::of(self.groups),
-        }
+        Register::of_rows(self.zones, self.sites, self.groups)
     }
 }

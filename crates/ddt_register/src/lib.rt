@@ -5,7 +5,9 @@
 
 mod fault;
 mod group;
+mod item;
 mod items;
+mod laws;
 mod reading;
 mod register;
 mod row;
@@ -17,6 +19,8 @@ mod zone;
 
 pub use fault::ReadFault;
 pub use group::Group;
+pub use item::{Item, first_row};
+pub use laws::a_register_is_in_range;
 pub use reading::read_register;
 pub use register::{MOST_ROWS, Register};
 pub use site::Site;

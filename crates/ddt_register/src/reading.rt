@@ -1,9 +1,9 @@
 //! The register from CSV (RFC 4180), record after record.
 
-ghost use Rattle.std.specs.Prelude.{◌≡◌, ℕ, List, Some, None, IfOk, IfSome, length, take, true};
-ghost use Rattle.csv.specs.Reading.{default_config, expected_len, records, strip_bom};
+ghost use Rattle.std.specs.Prelude.{◌≡◌, ℕ, List, Some, None, IfOk, IfErr, IfSome, length, take, true};
+ghost use Rattle.csv.specs.Reading.{default_config, expected_len, has_failed, records, strip_bom};
 ghost use Rattle.csv.specs.Records.{fields_of};
-ghost use Rattle.ddt_register.specs.Left.{IsReading, IsLeft, Takes};
+ghost use Rattle.ddt_register.specs.Left.{IsReading, IsLeft, Takes, csv_fault, stops};
 ghost use Rattle.ddt_register.specs.Spelled.{spelled, rows_in, Gives};
 
 use crate::fault::ReadFault;
@@ -14,6 +14,21 @@ use csv::{ByteRecord, ErrorKind, Reader, ReaderBuilder};
 use std::alloc::Global;
 use std::io::Read;
 
+/// What an error of csv is in this row. Only other numbers of fields come of records of bytes, beside a failed reader and
+/// want of memory.
+fn fault_of(kind: &ErrorKind, row: u32) -> ReadFault
+    ensures { result ≡ csv_fault row kind.now }
+{
+    match kind {
+        ErrorKind::Io(_) => ReadFault::Read,
+        ErrorKind::OutOfMemory => ReadFault::Memory,
+        ErrorKind::UnequalLengths { .. }
+        | ErrorKind::Utf8 { .. }
+        | ErrorKind::Serialize(_)
+        | ErrorKind::Deserialize { .. } => ReadFault::Csv(row),
+    }
+}
+
 /// Reads the next record, and answers whether there was one. A record of another length than the first is refused as
 /// Csv of this row.
 fn next_record<R: Read>(
@@ -23,20 +38,14 @@ fn next_record<R: Read>(
 ) -> Result<bool, ReadFault>
     requires { IsReading reader.old }
     ensures takes { (left : List (List (List ℕ))) → IsLeft R.remaining reader.old left → Takes R.remaining reader.old reader.new row (fields_of fields.new) left result }
+    ensures stopped { IfErr result (λ fault. stops fault ≡ has_failed reader.new) }
     ensures reading { IfOk result (λ found. found ≡ true → IsReading reader.new) }
     ensures expected { IfOk result (λ found. found ≡ true → expected_len reader.new ≡ Some (length (fields_of fields.new))) }
     ensures same { IfOk result (λ found. found ≡ true → IfSome (expected_len reader.old) (λ len. expected_len reader.new ≡ Some len)) }
 {
     match reader.read_byte_record(fields) {
         Ok(found) => Ok(found),
-        Err(error) => Err(match error.kind() {
-            ErrorKind::UnequalLengths { .. } => ReadFault::Csv(row),
-            ErrorKind::Io(_) => ReadFault::Read,
-            ErrorKind::OutOfMemory => ReadFault::Memory,
-            ErrorKind::Utf8 { .. } | ErrorKind::Serialize(_) | ErrorKind::Deserialize { .. } => {
-                unreachable!()
-            }
-        }),
+        Err(error) => Err(fault_of(error.kind(), row)),
     }
 }
 

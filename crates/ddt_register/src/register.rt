@@ -1,9 +1,11 @@
 //! The register: three lists, whose items stand in rows of their own.
 
 ghost use Rattle.std.specs.Prelude.{◌≡◌, ◌↔◌, ◌&&◌, true, IsTrue, IsSome, IfSome};
+ghost use Rattle.ddt_register.specs.Ranges.{is_in_range};
 ghost use Rattle.ddt_register.specs.Rows.{are_rows as are_rows_of, rise, zone_rows, site_rows, group_rows, are_apart as are_apart_of};
 
 use crate::group::Group;
+use crate::item::items_in_range;
 use crate::rows::{are_apart, are_rising};
 use crate::site::Site;
 use crate::zone::Zone;
@@ -12,13 +14,15 @@ use ddt_path::Listed;
 /// How many rows a register has at most.
 pub const MOST_ROWS: u32 = 65_535;
 
-/// Zones, sites and server groups. Rows rise within each list, and no row stands twice.
+/// Zones, sites and server groups. Rows rise within each list, and no row stands twice. The numbers of all items are in
+/// the ranges of their types.
 #[derive(Debug, Drop)]
 pub struct Register {
     pub zones: Listed<Zone>,
     pub sites: Listed<Site>,
     pub groups: Listed<Group>,
     pub ghost rows: { are_rows_of zones sites groups ≡ true },
+    pub ghost in_range: { is_in_range zones sites groups ≡ true },
 }
 
 impl Register {
@@ -31,11 +35,24 @@ impl Register {
         if !are_rows(&zones, &sites, &groups) {
             return None;
         }
-        Some(Register {
+        Some(Register::of_rows(zones, sites, groups))
+    }
+
+    /// The register of items whose rows are such. It takes no memory.
+    pub(crate) fn of_rows(zones: Vec<Zone>, sites: Vec<Site>, groups: Vec<Group>) -> Register
+        requires { are_rows_of zones.items sites.items groups.items ≡ true }
+        ensures zones { result.zones ≡ zones.items }
+        ensures sites { result.sites ≡ sites.items }
+        ensures groups { result.groups ≡ groups.items }
+    {
+        items_in_range(&zones);
+        items_in_range(&sites);
+        items_in_range(&groups);
+        Register {
             zones: Listed::of(zones),
             sites: Listed::of(sites),
             groups: Listed::of(groups),
-        })
+        }
     }
 }
 

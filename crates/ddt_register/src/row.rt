@@ -2,7 +2,8 @@
 
 ghost use Rattle.std.specs.Prelude.{◌≡◌, ◌≤◌, [], length, get_or};
 ghost use Rattle.csv.specs.Records.{fields_of};
-ghost use Rattle.ddt_text.specs.FirstFault.{prefix_in};
+ghost use Rattle.ddt_text.specs.FirstFault.{locator_in, prefix_in};
+ghost use Rattle.ddt_register.specs.Rows.{most_rows};
 ghost use Rattle.ddt_register.specs.Spelled.{row_in, fields_in, group_in, zone_in, site_in, locators_in, name_in, field_of, are_columns as are_columns_of, UnlessMemory};
 
 use crate::fault::ReadFault;
@@ -34,6 +35,12 @@ fn read_name(row: u32, text: &[u8]) -> Result<Name, ReadFault>
     Name::of(text).ok_or(ReadFault::Name(row))
 }
 
+fn read_locator(row: u32, text: &[u8]) -> Result<Locator, ReadFault>
+    ensures { result ≡ field_of (ReadFault.Address row) (locator_in text.now) }
+{
+    parse_locator(text).map_err(|_| ReadFault::Address(row))
+}
+
 /// The locators, between which stands exactly one space; none in an empty text.
 fn read_locators(alloc: Global, row: u32, text: &[u8]) -> Result<Listed<Locator>, ReadFault>
     ensures { UnlessMemory result (locators_in (ReadFault.Address row) text.now) }
@@ -43,9 +50,7 @@ fn read_locators(alloc: Global, row: u32, text: &[u8]) -> Result<Listed<Locator>
         return Ok(Listed::of(locators));
     }
     for part in text.split(|byte| *byte == b' ') {
-        let Ok(locator) = parse_locator(part) else {
-            return Err(ReadFault::Address(row));
-        };
+        let locator = read_locator(row, part)?;
         locators.push(locator).map_err(|_| ReadFault::Memory)?;
     }
     Ok(Listed::of(locators))
@@ -147,7 +152,7 @@ fn field(fields: &ByteRecord, place: usize) -> &[u8]
 
 /// What a record of four fields spells as the row of this number.
 pub(crate) fn read_row(alloc: Global, row: u32, fields: &ByteRecord) -> Result<Row, ReadFault>
-    requires row { row ≤ 65535 }
+    requires row { row ≤ most_rows }
     requires four { length (fields_of fields.now) ≡ 4 }
     ensures { UnlessMemory result (row_in row (fields_of fields.now)) }
 {

@@ -1,45 +1,10 @@
 //! The rows of the items of a register: they rise within a list, and none stands in two lists.
 
-ghost use Rattle.std.specs.Prelude.{◌≡◌, ◌&&◌, ℕ, IsTrue, map};
+ghost use Rattle.std.specs.Prelude.{◌≡◌, ◌&&◌, IsTrue, map};
 ghost use Rattle.ddt_register.specs.Rows.{rise, are_apart as are_apart_of};
 
-use crate::group::Group;
+use crate::item::Item;
 use crate::register::MOST_ROWS;
-use crate::site::Site;
-use crate::zone::Zone;
-
-/// An item of a register.
-pub trait Item {
-    /// Its row.
-    ghost row_of: { Self → ℕ };
-
-    fn row(&self) -> u32
-        ensures { result ≡ row_of self.now };
-}
-
-impl Item for Zone {
-    ghost row_of = { λ z. z.row };
-
-    fn row(&self) -> u32 {
-        self.row
-    }
-}
-
-impl Item for Site {
-    ghost row_of = { λ s. s.row };
-
-    fn row(&self) -> u32 {
-        self.row
-    }
-}
-
-impl Item for Group {
-    ghost row_of = { λ g. g.row };
-
-    fn row(&self) -> u32 {
-        self.row
-    }
-}
 
 /// Whether the rows of a list are 1 to 65,535 and rise.
 pub fn are_rising<T: Item>(items: &[T]) -> bool

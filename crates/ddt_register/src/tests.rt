@@ -1,5 +1,5 @@
 use super::*;
-use ddt_path::{Form, Locator, Role};
+use ddt_path::{Form, Locator, Role, longest_match};
 use std::alloc::Global;
 use std::io;
 use std::io::Read;
@@ -371,5 +371,18 @@ fn faults_are_written_and_tell_their_row(rt: HostRuntime) -> Result<(), Fail> {
         assert_eq!(rt; text.as_str(), written);
         assert_eq!(rt; fault.row(), row);
     }
+    Ok(())
+}
+
+#[test]
+fn the_row_of_the_first_item_that_passes(rt: HostRuntime) -> Result<(), Fail> {
+    let campus = read(rt.alloc(), CAMPUS.as_bytes())?;
+    let zones = campus.zones.as_slice();
+    assert_eq!(rt; first_row(zones, |z| z.kind == Role::Ms), Some(6));
+    assert_eq!(rt; first_row(zones, |z| z.prefix.len() > 100), None);
+    let sites = campus.sites.as_slice();
+    assert_eq!(rt; first_row(sites, |s| s.etrs.as_slice().is_empty()), Some(8));
+    assert!(rt; longest_match(sites, zones[0].prefix).is_none());
+    assert_eq!(rt; longest_match(zones, sites[0].prefix), Some(&zones[2]));
     Ok(())
 }

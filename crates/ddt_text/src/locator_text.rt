@@ -1,6 +1,6 @@
 //! The texts of addresses (RFC 4291, section 2.2, and RFC 5952, section 4).
 
-ghost use Rattle.std.specs.Prelude.{◌≡◌, ◌<◌, ◌^◌, ◌++◌, ◌↔◌, if◌then◌else◌, is_ok};
+ghost use Rattle.std.specs.Prelude.{◌≡◌, ◌<◌, ◌^◌, ◌++◌, ◌↔◌, if◌then◌else◌, is_ok, OnOk};
 ghost use Rattle.ddt_path.specs.declared.locator.Locator.{Locator};
 ghost use Rattle.ddt_path.specs.Path.{address_number, address_width};
 ghost use Rattle.ddt_text.specs.Grammar.{SpellsLocator};
@@ -70,6 +70,7 @@ impl fmt::Display for LocatorText {
 #[tactic(auto, using(crate::proofs::AgainLemmas::laws))]
 pub fn write_locator(text: &mut Vec<u8>, address: Locator) -> Result<(), AllocError>
     ensures appended { text.new.items ≡ (if is_ok result then text.old.items ++ written_locator address else text.old.items) }
+    ensures spells { OnOk result (SpellsLocator (written_locator address) address) }
     ensures spelled { (a : Locator) → address_number a < 2 ^ address_width a → SpellsLocator (written_locator a) a }
     ensures again { (a : Locator) → address_number a < 2 ^ address_width a → locator_in (written_locator a) ≡ Ok a }
 {

@@ -1,6 +1,6 @@
 //! The texts of prefixes: `*`, `[iid/len]*` and `[iid]address/len`.
 
-ghost use Rattle.std.specs.Prelude.{◌≡◌, ◌++◌, ◌↔◌, List, ℕ, if◌then◌else◌, is_ok};
+ghost use Rattle.std.specs.Prelude.{◌≡◌, ◌++◌, ◌↔◌, List, ℕ, if◌then◌else◌, is_ok, OnOk};
 ghost use Rattle.ddt_path.specs.declared.form.Form.{Form};
 ghost use Rattle.ddt_path.specs.Path.{path, IsForm};
 ghost use Rattle.ddt_text.specs.Grammar.{SpellsPrefix};
@@ -115,6 +115,7 @@ impl fmt::Display for PrefixText {
 #[tactic(auto, using(crate::proofs::AgainLemmas::laws))]
 pub fn write_prefix(text: &mut Vec<u8>, prefix: Prefix) -> Result<(), AllocError>
     ensures appended { text.new.items ≡ (if is_ok result then text.old.items ++ written_prefix prefix else text.old.items) }
+    ensures spells { OnOk result (SpellsPrefix (written_prefix prefix) prefix) }
     ensures spelled { (form : Form) → IsForm form → SpellsPrefix (written_prefix (path form)) (path form) }
     ensures again { (form : Form) → IsForm form → prefix_in (written_prefix (path form)) ≡ Ok (path form) }
 {

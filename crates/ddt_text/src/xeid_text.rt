@@ -1,6 +1,6 @@
 //! The texts of identifiers: `[iid]address`.
 
-ghost use Rattle.std.specs.Prelude.{◌≡◌, ◌<◌, ◌^◌, ◌++◌, ◌↔◌, if◌then◌else◌, is_ok};
+ghost use Rattle.std.specs.Prelude.{◌≡◌, ◌<◌, ◌^◌, ◌++◌, ◌↔◌, if◌then◌else◌, is_ok, OnOk};
 ghost use Rattle.ddt_path.specs.declared.xeid.Xeid.{Xeid};
 ghost use Rattle.ddt_path.specs.Path.{address_number, address_width};
 ghost use Rattle.ddt_text.specs.Grammar.{SpellsXeid};
@@ -42,6 +42,7 @@ pub fn parse_xeid(text: &[u8]) -> Result<Xeid, TextFault>
 #[tactic(auto, using(crate::proofs::AgainLemmas::laws))]
 pub fn write_xeid(text: &mut Vec<u8>, x: Xeid) -> Result<(), AllocError>
     ensures appended { text.new.items ≡ (if is_ok result then text.old.items ++ written_xeid x else text.old.items) }
+    ensures spells { OnOk result (SpellsXeid (written_xeid x) x) }
     ensures spelled { (y : Xeid) → y.iid < 2 ^ 32 → address_number y.address < 2 ^ address_width y.address → SpellsXeid (written_xeid y) y }
     ensures again { (y : Xeid) → y.iid < 2 ^ 32 → address_number y.address < 2 ^ address_width y.address → xeid_in (written_xeid y) ≡ Ok y }
 {

@@ -5,6 +5,7 @@ use Rattle.std.specs.List.{flat_map, AllByRecursion}
 use Rattle.std.specs.Int.{w16, w32, w64, w128, to_be_bytes}
 use Rattle.std.specs.Result.{IsErr}
 use Rattle.std.proofs.Math.Dec.{eqb-suc-zero}
+use Rattle.std.proofs.lemmas.List.{take_all}
 use Rattle.std.proofs.lemmas.List.Concat.{flat_map-cons}
 use Rattle.ddt_path.specs.declared.locator.Locator.{Locator}
 use Rattle.ddt_path.specs.declared.locator.Locator.TheVariants.{V4, V6}
@@ -20,7 +21,7 @@ use Rattle.ddt_wire.specs.Steps.{IsBytes}
 use Rattle.ddt_wire.specs.Address.{family_and_address, IsAddress}
 use Rattle.ddt_wire.specs.Eid.{SpellsEid, Plain, Inside, Instances, IsInstance, instance_head, instance_lcaf, written_form, form_mask_len, written_eid, written_mask_len, eid_at}
 use Rattle.ddt_wire.specs.LocatorRecord.{SpellsLocator, SpellsLocators, written_locator}
-use Rattle.ddt_wire.specs.Referral.{Message, Ignored, Spells, act, bit, header, fields, written, message_of, message_in}
+use Rattle.ddt_wire.specs.Referral.{Message, Ignored, Spells, act, bit, header, fields, written, message_of, message_record, message_in}
 use Rattle.ddt_wire.specs.Laws.{IsPrefix, IsRecord}
 use Rattle.ddt_wire.proofs.EidLemmas.{form_of-named}
 use Rattle.ddt_wire.proofs.ByteLemmas.{IsBytes-number, IsBytes-append, IsBytes-cons, IsBytes-nil, Takes-take, Takes-fits}
@@ -157,6 +158,18 @@ eid_faults mask bytes fits = (
   λ e eid rest p s is. err_not_ok (eid_at mask bytes) (p, length eid) e (ap (eid_at mask) is ∙ eid_again mask eid p rest s),
   λ n. err_unless (eid_at mask bytes) (λ x e. let t = eid_takes mask bytes x fits e in n t.0 (drop x.1 bytes) x.0 t.2 t.1.parts),
 )
+
+-- what was read is spelled by the front
+pub eid_taken : (mask : ℕ) (bytes p : List ℕ) (taken : ℕ) → IsBytes bytes → eid_at mask bytes ≡ Ok (p, taken) → SpellsEid mask (take taken bytes) p × (taken ≤ length bytes)
+eid_taken mask bytes p taken fits e =
+    let t = eid_takes mask bytes (p, taken) fits e in
+    (subst (λ (text : List ℕ). SpellsEid mask text p) (sym (Takes-take bytes t.0 taken t.1)) t.2, Takes-fits bytes t.0 taken t.1)
+
+-- ---- the record of a message
+
+pub record_back : (nonce : ℕ) (r : ReferralRecord) → length r.servers ≤ 8 → message_record (message_of nonce r) ≡ r
+record_back nonce r few =
+    ap (λ (ls : List Locator). record r { servers = ls }) (take_all 8 r.servers few)
 
 -- what was read of a slice
 pub eid_found : (mask : ℕ) (bytes : List ℕ) (r : Result (List ℕ × ℕ) EidFault) → IsBytes bytes → r ≡ eid_at mask bytes → IfOk r (λ x. SpellsEid mask (take x.1 bytes) x.0 × (x.1 ≤ length bytes))

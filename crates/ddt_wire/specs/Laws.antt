@@ -1,5 +1,5 @@
 -- What holds of every list of bytes and every value, whichever way they are read and written.
-use Rattle.std.specs.Prelude.{ℕ, ◌<◌, ◌≤◌, ◌^◌, ◌≡◌, ◌↔◌, List, ◌++◌, length}
+use Rattle.std.specs.Prelude.{ℕ, ◌<◌, ◌≤◌, ◌^◌, ◌≡◌, ◌↔◌, List, ◌++◌, length, take, Ok}
 use Rattle.std.specs.List.{AllByRecursion}
 use Rattle.std.specs.Result.{IsErr}
 use Rattle.ddt_path.specs.declared.form.Form.{Form}
@@ -8,7 +8,7 @@ use Rattle.ddt_path.specs.Path.{path, IsForm}
 use Rattle.ddt_wire.specs.Steps.{IsBytes}
 use Rattle.ddt_wire.specs.Address.{IsAddress}
 use Rattle.ddt_wire.specs.Eid.{SpellsEid, written_eid, written_mask_len, eid_at}
-use Rattle.ddt_wire.specs.Referral.{Message, Spells, message_of, written, message_in}
+use Rattle.ddt_wire.specs.Referral.{Message, Spells, message_of, message_record, written, message_in}
 
 -- the path of a prefix
 abbrev pub IsPrefix : List ℕ → Type 0
@@ -30,6 +30,14 @@ OneMessage = (bytes : List ℕ) (v w : Message) → Spells bytes v → Spells by
 abbrev pub MessagesAreBytes : Type 0
 MessagesAreBytes = (bytes : List ℕ) (v : Message) → Spells bytes v → IsBytes bytes
 
+-- bytes that spell a message are read as it
+abbrev pub MessagesAreRead : Type 0
+MessagesAreRead = (bytes : List ℕ) (v : Message) → Spells bytes v → message_in bytes ≡ Ok v
+
+-- and what is read of bytes is spelled by them
+abbrev pub ReadMessagesAreSpelled : Type 0
+ReadMessagesAreSpelled = (bytes : List ℕ) (v : Message) → IsBytes bytes → message_in bytes ≡ Ok v → Spells bytes v
+
 -- there is a fault exactly where no message is spelled
 abbrev pub FaultsAreRight : Type 0
 FaultsAreRight = (bytes : List ℕ) → IsBytes bytes → IsErr (message_in bytes) ↔ ((v : Message) → Spells bytes v → ⊥)
@@ -38,16 +46,32 @@ FaultsAreRight = (bytes : List ℕ) → IsBytes bytes → IsErr (message_in byte
 abbrev pub WrittenSpells : Type 0
 WrittenSpells = (nonce : ℕ) (r : ReferralRecord) → IsRecord nonce r → Spells (written nonce r) (message_of nonce r)
 
--- the same four of an EID beside its mask length
+-- the record of the message of a record is this record, if it has at most eight servers
+abbrev pub RecordsComeBack : Type 0
+RecordsComeBack = (nonce : ℕ) (r : ReferralRecord) → length r.servers ≤ 8 → message_record (message_of nonce r) ≡ r
+
+-- the same, but for the last, of an EID beside its mask length: bytes spell at most one
 abbrev pub OneEid : Type 0
 OneEid = (mask : ℕ) (bytes p q : List ℕ) → SpellsEid mask bytes p → SpellsEid mask bytes q → p ≡ q
 
+-- only bytes spell one
 abbrev pub EidsAreBytes : Type 0
 EidsAreBytes = (mask : ℕ) (bytes p : List ℕ) → SpellsEid mask bytes p → IsBytes bytes
 
+-- what is spelled is read, whatever follows it
+abbrev pub EidsAreRead : Type 0
+EidsAreRead = (mask : ℕ) (eid p rest : List ℕ) → SpellsEid mask eid p → eid_at mask (eid ++ rest) ≡ Ok (p, length eid)
+
+-- and what is read is spelled by the front of the bytes
+abbrev pub ReadEidsAreSpelled : Type 0
+ReadEidsAreSpelled = (mask : ℕ) (bytes p : List ℕ) (taken : ℕ) → IsBytes bytes → eid_at mask bytes ≡ Ok (p, taken)
+    → SpellsEid mask (take taken bytes) p × (taken ≤ length bytes)
+
 -- there is a fault exactly where no front of the bytes spells a prefix
 abbrev pub EidFaultsAreRight : Type 0
-EidFaultsAreRight = (mask : ℕ) (bytes : List ℕ) → IsBytes bytes → IsErr (eid_at mask bytes) ↔ ((eid rest p : List ℕ) → SpellsEid mask eid p → bytes ≡ eid ++ rest → ⊥)
+EidFaultsAreRight = (mask : ℕ) (bytes : List ℕ) → IsBytes bytes
+    → IsErr (eid_at mask bytes) ↔ ((eid rest p : List ℕ) → SpellsEid mask eid p → bytes ≡ eid ++ rest → ⊥)
 
+-- what is written spells the prefix
 abbrev pub WrittenEidSpells : Type 0
 WrittenEidSpells = (p : List ℕ) → IsPrefix p → SpellsEid (written_mask_len p) (written_eid p) p

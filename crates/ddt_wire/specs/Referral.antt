@@ -82,8 +82,8 @@ abbrev pub message_of : ℕ → ReferralRecord → Message
 message_of n r = record { nonce = n; action = r.action; prefix = r.prefix; ttl = r.ttl; incomplete = r.incomplete; locators = r.servers }
 
 -- the record of a message, with its first eight locators
-abbrev pub record_of : Message → ReferralRecord
-record_of v = record { action = v.action; prefix = v.prefix; ttl = v.ttl; incomplete = v.incomplete; servers = take 8 v.locators }
+abbrev pub message_record : Message → ReferralRecord
+message_record v = record { action = v.action; prefix = v.prefix; ttl = v.ttl; incomplete = v.incomplete; servers = take 8 v.locators }
 
 -- the one spelling that is written: A is 1, the reserved bits and the map version are 0
 abbrev pub written_header : ℕ → List ℕ

@@ -1,21 +1,27 @@
 //! What holds of every list of bytes and every value, whichever way they are read and written: each function here is a
 //! law of the definitions, and does nothing.
 
-ghost use Rattle.ddt_wire.specs.Laws.{OneMessage, MessagesAreBytes, FaultsAreRight, WrittenSpells, OneEid, EidsAreBytes, EidFaultsAreRight, WrittenEidSpells};
+ghost use Rattle.ddt_wire.specs.Laws.{OneMessage, MessagesAreBytes, MessagesAreRead, ReadMessagesAreSpelled, FaultsAreRight, WrittenSpells, RecordsComeBack, OneEid, EidsAreBytes, EidsAreRead, ReadEidsAreSpelled, EidFaultsAreRight, WrittenEidSpells};
 
-/// Bytes spell one Map-Referral at most; only bytes do; a fault exists exactly where bytes spell none; what is written
-/// for a nonce and a record spells them.
+/// Bytes spell one Map-Referral at most; only bytes do. What is spelled is read, and what is read is spelled; a fault
+/// exists exactly where bytes spell none. What is written for a nonce and a record spells them, and a record of at most
+/// eight servers comes back from its message.
 pub fn referral_laws()
     ensures one { OneMessage }
     ensures bytes { MessagesAreBytes }
+    ensures read { MessagesAreRead }
+    ensures taken { ReadMessagesAreSpelled }
     ensures faults { FaultsAreRight }
     ensures written { WrittenSpells }
+    ensures back { RecordsComeBack }
 {}
 
 /// The same of an EID beside its mask length.
 pub fn eid_laws()
     ensures one { OneEid }
     ensures bytes { EidsAreBytes }
+    ensures read { EidsAreRead }
+    ensures taken { ReadEidsAreSpelled }
     ensures faults { EidFaultsAreRight }
     ensures written { WrittenEidSpells }
 {}

@@ -21,7 +21,7 @@
 //! A, the map version and the reserved bits are ignored.
 
 ghost use Rattle.std.specs.Prelude.{◌≡◌, ◌+◌, ◌*◌, ◌^◌, ◌<◌, ◌≤◌, ◌++◌, length, Ok, OnOk, IfOk};
-ghost use Rattle.ddt_wire.specs.Referral.{written, written_header, written_fields, act as act_of, bit, head_at, action_of, message_in, Spells, Message, message_of, record_of};
+ghost use Rattle.ddt_wire.specs.Referral.{written, written_header, written_fields, act as act_of, bit, head_at, action_of, message_in, Spells, Message, message_of, message_record};
 
 use crate::eid::{EidFault, eid, mask_len, write_eid};
 use crate::fault::ReferralFault;
@@ -190,7 +190,7 @@ impl<'a> Referral<'a> {
 
     /// The record with its first eight locators.
     pub fn to_record(&self) -> ReferralRecord
-        ensures { result ≡ record_of self.now }
+        ensures { result ≡ message_record self.now }
     {
         ReferralRecord {
             action: self.action,

@@ -1,16 +1,14 @@
 //! `ddt compile REGISTER GROUP`: the configuration of the group's servers.
 
-ghost use Rattle.std.specs.Prelude.{◌≡◌, find};
-ghost use Rattle.std.specs.Option.{option_copied};
-ghost use Rattle.ddt_check.specs.Zones.{is_same_name};
+ghost use Rattle.std.specs.Prelude.{◌≡◌};
 ghost use Rattle.ddt.specs.Check.{no_bad_word};
 ghost use Rattle.ddt.specs.Compile.{IsConfigText, IsWhyNoGroup, group_of};
 
 use crate::over::OverRegister;
 use crate::refusal::{Refusal, RegisterRefusal, WordRefusal};
 use ddt_check::Accepted;
-use ddt_compile::compile;
-use ddt_config::{ServerConfig, to_toml};
+use ddt_compile::compile_group;
+use ddt_config::to_toml;
 use ddt_path::Name;
 use ddt_words::{Argument, Declaration, Words};
 use std::alloc::Global;
@@ -45,16 +43,9 @@ impl<'a> OverRegister<'a> for Compile<'a> {
         let Some(group) = Name::of(self.group.as_bytes()) else {
             return Err(Refusal::NoRegister(RegisterRefusal::NoSuchGroup));
         };
-        let configs = compile(alloc, register)?;
-        match config_named(configs.as_slice(), group) {
-            Some(config) => Ok(to_toml(alloc, config)?.into_bytes()),
+        match compile_group(alloc, register, group)? {
+            Some(config) => Ok(to_toml(alloc, &config)?.into_bytes()),
             None => Err(Refusal::NoRegister(RegisterRefusal::NoSuchGroup)),
         }
     }
-}
-
-fn config_named(configs: &[ServerConfig], name: Name) -> Option<&ServerConfig>
-    ensures { option_copied result ≡ find (λ c. is_same_name c.name name) configs.now }
-{
-    configs.iter().find(|c| c.name == name)
 }

@@ -1,72 +1,63 @@
-//! The rules that a server group may break.
+//! A server group by its name, and the rule on names, over groups that are sorted by their names, then by their rows.
 
-ghost use Rattle.std.specs.Prelude.{◌≡◌};
-ghost use Rattle.ddt_check.specs.Rules.{has_wrong_locators as has_wrong, has_repeat as has_repeat_of, share as share_of, is_duplicate_group as is_duplicate_of, earlier_group, first_group};
+ghost use Rattle.std.specs.Prelude.{◌≡◌, ◌<◌, IsPermutation, slice_index_or, length};
+ghost use Rattle.std.specs.Option.{option_copied};
+ghost use Rattle.ddt_register.specs.declared.group.Group.{Group as AGroup};
+ghost use Rattle.ddt_register.specs.declared.register.Register.{Register as ARegister};
+ghost use Rattle.ddt_check.specs.Rules.{is_duplicate_group};
+ghost use Rattle.ddt_check.specs.Zones.{is_same_name, group_named as group_of_name};
+ghost use Rattle.ddt_check.specs.Order.{AreGroupsInOrder};
+ghost use Rattle.ddt_check.specs.Sorted.{IsLeastOfGroups};
 
-use ddt_path::{Locator, MOST_LOCATORS, lists};
-use ddt_register::{Group, Register};
+use crate::fault::Rule;
+use crate::rules::lower;
+use ddt_path::Name;
+use ddt_register::Group;
 
-/// Whether a locator stands twice.
-fn has_repeat(locators: &[Locator]) -> bool
-    ensures { result ≡ has_repeat_of locators.now }
+/// The first group row of a name.
+pub fn group_named(groups: &[Group], name: Name) -> Option<&Group>
+    requires { AreGroupsInOrder groups.now }
+    ensures { (r : ARegister) → IsPermutation r.groups groups.now → option_copied result ≡ group_of_name r name }
 {
-    let mut rest = locators;
-    while let [first, others @ ..] = rest {
-        if lists(others, *first) {
-            return true;
-        }
-        rest = others;
+    let at = groups.partition_point(|g| g.name < name);
+    if at < groups.len() && groups[at].name == name {
+        return Some(&groups[at]);
     }
-    false
+    None
 }
 
-/// Whether a locator of the one list is one of the other.
-fn share(first: &[Locator], second: &[Locator]) -> bool
-    ensures { result ≡ share_of first.now second.now }
+/// Whether two groups have one name.
+fn has_same_name(a: &Group, b: &Group) -> bool
+    ensures { result ≡ is_same_name a.now.name b.now.name }
 {
-    first.iter().any(|l| lists(second, *l))
+    a.name == b.name
 }
 
-fn shares_with_earlier(register: &Register, g: &Group) -> bool
-    ensures { result ≡ earlier_group register.now g.now (λ h. share_of h.locators g.now.locators) }
+/// Whether a group of an earlier row has the name of the group at a place: its neighbour then has it.
+fn repeats(groups: &[Group], at: usize) -> bool
+    requires inside { at < length groups.now }
+    requires sorted { AreGroupsInOrder groups.now }
+    ensures {
+        (r : ARegister) (d : AGroup) → IsPermutation r.groups groups.now
+        → result ≡ is_duplicate_group r (slice_index_or groups.now at d)
+    }
 {
-    let groups = register.groups.as_slice();
-    groups.iter().any(|h| h.row < g.row && share(h.locators.as_slice(), g.locators.as_slice()))
-}
-
-fn has_wrong_locators(register: &Register, g: &Group) -> bool
-    ensures { result ≡ has_wrong register.now g.now }
-{
-    let locators = g.locators.as_slice();
-    (locators.is_empty() || locators.len() > MOST_LOCATORS)
-        || (has_repeat(locators) || shares_with_earlier(register, g))
-}
-
-/// The least row of a group whose locators are none, or above 8, or not all new.
-pub fn wrong_locators(register: &Register) -> Option<u32>
-    ensures { result ≡ first_group register.now (has_wrong register.now) }
-{
-    let groups = register.groups.as_slice();
-    groups
-        .iter()
-        .find(|g| has_wrong_locators(register, g))
-        .map(|g| g.row)
-}
-
-fn is_duplicate(register: &Register, g: &Group) -> bool
-    ensures { result ≡ is_duplicate_of register.now g.now }
-{
-    let groups = register.groups.as_slice();
-    groups.iter().any(|h| h.row < g.row && h.name == g.name)
+    if at == 0 {
+        return false;
+    }
+    has_same_name(&groups[at - 1], &groups[at])
 }
 
 /// The least row of a group whose name an earlier one has.
-pub fn duplicate(register: &Register) -> Option<u32>
-    ensures { result ≡ first_group register.now (is_duplicate_of register.now) }
+pub fn duplicate(groups: &[Group]) -> Option<u32>
+    requires { AreGroupsInOrder groups.now }
+    ensures { IsLeastOfGroups groups.now Rule.DuplicateGroup result }
 {
-    let groups = register.groups.as_slice();
-    groups
-        .iter()
-        .find(|g| is_duplicate(register, g))
-        .map(|g| g.row)
+    let mut least = None;
+    for at in 0..groups.len() {
+        if repeats(groups, at) {
+            least = Some(lower(least, groups[at].row));
+        }
+    }
+    least
 }

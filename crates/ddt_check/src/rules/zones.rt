@@ -1,11 +1,24 @@
-//! The rules that a zone may break.
+//! The rules that a zone may break. A root is looked for in the order of rows; the other rules see zones that are
+//! sorted by their prefixes, then by their rows.
 
-ghost use Rattle.std.specs.Prelude.{◌≡◌};
+ghost use Rattle.std.specs.Prelude.{◌≡◌, ◌<◌, IsPermutation, slice_index_or, length};
 ghost use Rattle.std.specs.List.{list_any};
-ghost use Rattle.ddt_check.specs.Rules.{is_root as is_root_zone, is_wrong_root as is_wrong_root_of, is_duplicate_zone as is_duplicate_of, is_of_unknown_group as is_of_unknown, is_of_other_role as is_of_other, is_below_map_server as is_below, earlier_zone, first_zone};
+ghost use Rattle.std.specs.Option.{option_map, option_copied};
+ghost use Rattle.ddt_path.specs.Covers.{is_same_path};
+ghost use Rattle.ddt_register.specs.declared.zone.Zone.{Zone as AZone};
+ghost use Rattle.ddt_register.specs.declared.register.Register.{Register as ARegister};
+ghost use Rattle.ddt_check.specs.Rules.{earlier_zone, first_zone};
+ghost use Rattle.ddt_check.specs.Rules.{is_root as is_root_zone, is_wrong_root as is_wrong_root_of, is_duplicate_zone};
+ghost use Rattle.ddt_check.specs.Rules.{is_of_unknown_group as is_of_unknown, is_of_other_role as is_of_other};
+ghost use Rattle.ddt_check.specs.Order.{AreZonesInOrder, AreGroupsInOrder};
+ghost use Rattle.ddt_check.specs.Sorted.{IsLeastOfZones, IsLeastOfBoth};
+ghost use Rattle.ddt_check.specs.Below.{is_under as is_under_of, is_within as is_within_of, is_top as is_top_of};
 
-use crate::lookup::{group_named, is_ms, is_same_role};
-use ddt_register::{Register, Zone};
+use crate::fault::Rule;
+use crate::lookup::{is_ms, is_same_role};
+use crate::rules::groups::group_named;
+use crate::rules::lower;
+use ddt_register::{Group, Register, Zone};
 
 fn is_root(z: &Zone) -> bool
     ensures { result ≡ is_root_zone z.now }
@@ -33,7 +46,7 @@ fn is_wrong_root(register: &Register, z: &Zone) -> bool
     is_root(z) && (is_ms(z.kind) || is_after_root(register, z))
 }
 
-/// The least row of a root of Map-Servers, or of a root after the first.
+/// The least row of a root of Map-Servers, or of a root after the first. At most two roots are looked at.
 pub fn wrong_root(register: &Register) -> Option<u32>
     ensures { result ≡ first_zone register.now (is_wrong_root_of register.now) }
 {
@@ -44,75 +57,131 @@ pub fn wrong_root(register: &Register) -> Option<u32>
         .map(|z| z.row)
 }
 
-fn is_duplicate(register: &Register, z: &Zone) -> bool
-    ensures { result ≡ is_duplicate_of register.now z.now }
+/// Whether two zones have one prefix.
+fn has_same_prefix(a: &Zone, b: &Zone) -> bool
+    ensures { result ≡ is_same_path a.now.prefix b.now.prefix }
 {
-    let zones = register.zones.as_slice();
-    zones.iter().any(|y| y.row < z.row && y.prefix == z.prefix)
+    a.prefix == b.prefix
+}
+
+/// Whether a zone of an earlier row has the prefix of the zone at a place: its neighbour then has it.
+fn repeats(zones: &[Zone], at: usize) -> bool
+    requires inside { at < length zones.now }
+    requires sorted { AreZonesInOrder zones.now }
+    ensures {
+        (r : ARegister) (d : AZone) → IsPermutation r.zones zones.now
+        → result ≡ is_duplicate_zone r (slice_index_or zones.now at d)
+    }
+{
+    if at == 0 {
+        return false;
+    }
+    has_same_prefix(&zones[at - 1], &zones[at])
 }
 
 /// The least row of a zone whose prefix an earlier one has.
-pub fn duplicate(register: &Register) -> Option<u32>
-    ensures { result ≡ first_zone register.now (is_duplicate_of register.now) }
+pub fn duplicate(zones: &[Zone]) -> Option<u32>
+    requires { AreZonesInOrder zones.now }
+    ensures { IsLeastOfZones zones.now Rule.DuplicateZone result }
 {
-    let zones = register.zones.as_slice();
-    zones
-        .iter()
-        .find(|z| is_duplicate(register, z))
-        .map(|z| z.row)
+    let mut least = None;
+    for at in 0..zones.len() {
+        if repeats(zones, at) {
+            least = Some(lower(least, zones[at].row));
+        }
+    }
+    least
 }
 
-fn is_of_unknown_group(register: &Register, z: &Zone) -> bool
-    ensures { result ≡ is_of_unknown register.now z.now }
+/// Whether the zone that is kept holds a zone strictly inside it.
+fn is_under(top: Option<&Zone>, z: &Zone) -> bool
+    ensures { result ≡ is_under_of (option_map (λ y. y.prefix) (option_copied top.entry)) z.now.prefix }
 {
-    group_named(register, z.group).is_none()
+    match top {
+        Some(top) => top.prefix.covers(z.prefix) && !z.prefix.covers(top.prefix),
+        None => false,
+    }
+}
+
+/// Whether the zone that is kept covers a zone.
+fn is_within(top: Option<&Zone>, z: &Zone) -> bool
+    ensures { result ≡ is_within_of (option_map (λ y. y.prefix) (option_copied top.entry)) z.now.prefix }
+{
+    match top {
+        Some(top) => top.prefix.covers(z.prefix),
+        None => false,
+    }
+}
+
+/// Whether a zone is to be kept: one of Map-Servers that the kept one doesn't cover.
+fn is_top(top: Option<&Zone>, z: &Zone) -> bool
+    ensures { result ≡ is_top_of (option_map (λ y. y.prefix) (option_copied top.entry)) z.now }
+{
+    is_ms(z.kind) && !is_within(top, z)
+}
+
+/// The least row of a zone strictly below a zone of Map-Servers. What a zone holds follows it in this order, so it is
+/// enough to keep the widest zone of Map-Servers that may still hold what comes.
+pub fn below_map_server(zones: &[Zone]) -> Option<u32>
+    requires { AreZonesInOrder zones.now }
+    ensures { IsLeastOfZones zones.now Rule.BelowMapServer result }
+{
+    let mut least = None;
+    let mut top: Option<&Zone> = None;
+    for z in zones {
+        if is_under(top, z) {
+            least = Some(lower(least, z.row));
+        }
+        if is_top(top, z) {
+            top = Some(z);
+        }
+    }
+    least
+}
+
+/// Whether no row defines a zone's group.
+fn is_of_unknown_group(groups: &[Group], z: &Zone) -> bool
+    requires { AreGroupsInOrder groups.now }
+    ensures { (r : ARegister) → IsPermutation r.groups groups.now → result ≡ is_of_unknown r z.now }
+{
+    group_named(groups, z.group).is_none()
 }
 
 /// The least row of a zone whose group has no row.
-pub fn of_unknown_group(register: &Register) -> Option<u32>
-    ensures { result ≡ first_zone register.now (is_of_unknown register.now) }
+pub fn of_unknown_group(zones: &[Zone], groups: &[Group]) -> Option<u32>
+    requires { AreGroupsInOrder groups.now }
+    ensures { IsLeastOfBoth zones.now groups.now Rule.UnknownGroup result }
 {
-    let zones = register.zones.as_slice();
-    zones
-        .iter()
-        .find(|z| is_of_unknown_group(register, z))
-        .map(|z| z.row)
+    let mut least = None;
+    for z in zones {
+        if is_of_unknown_group(groups, z) {
+            least = Some(lower(least, z.row));
+        }
+    }
+    least
 }
 
-fn is_of_other_role(register: &Register, z: &Zone) -> bool
-    ensures { result ≡ is_of_other register.now z.now }
+/// Whether a zone's group is of the other kind.
+fn is_of_other_role(groups: &[Group], z: &Zone) -> bool
+    requires { AreGroupsInOrder groups.now }
+    ensures { (r : ARegister) → IsPermutation r.groups groups.now → result ≡ is_of_other r z.now }
 {
-    match group_named(register, z.group) {
+    match group_named(groups, z.group) {
         Some(group) => !is_same_role(group.kind, z.kind),
         None => false,
     }
 }
 
 /// The least row of a zone whose group is of the other kind.
-pub fn of_other_role(register: &Register) -> Option<u32>
-    ensures { result ≡ first_zone register.now (is_of_other register.now) }
+pub fn of_other_role(zones: &[Zone], groups: &[Group]) -> Option<u32>
+    requires { AreGroupsInOrder groups.now }
+    ensures { IsLeastOfBoth zones.now groups.now Rule.Role result }
 {
-    let zones = register.zones.as_slice();
-    zones
-        .iter()
-        .find(|z| is_of_other_role(register, z))
-        .map(|z| z.row)
-}
-
-fn is_below_map_server(register: &Register, z: &Zone) -> bool
-    ensures { result ≡ is_below register.now z.now }
-{
-    let zones = register.zones.as_slice();
-    zones.iter().any(|y| is_ms(y.kind) && y.prefix.covers(z.prefix) && !z.prefix.covers(y.prefix))
-}
-
-/// The least row of a zone strictly below a zone of Map-Servers.
-pub fn below_map_server(register: &Register) -> Option<u32>
-    ensures { result ≡ first_zone register.now (is_below register.now) }
-{
-    let zones = register.zones.as_slice();
-    zones
-        .iter()
-        .find(|z| is_below_map_server(register, z))
-        .map(|z| z.row)
+    let mut least = None;
+    for z in zones {
+        if is_of_other_role(groups, z) {
+            least = Some(lower(least, z.row));
+        }
+    }
+    least
 }

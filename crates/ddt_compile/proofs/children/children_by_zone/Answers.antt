@@ -11,7 +11,7 @@ use Rattle.ddt_config.specs.declared.config.Child.{Child}
 use Rattle.ddt_compile.specs.GroupConfig.{child_of, is_direct_child}
 use Rattle.ddt_compile.specs.Lists.{list_at}
 use Rattle.ddt_compile.specs.Nearest.{IsAbove}
-use Rattle.ddt_compile.proofs.MemberLemmas.{in_contained}
+use Rattle.ddt_path.proofs.MemberLemmas.{in_contained}
 use Rattle.ddt_compile.proofs.NearestLemmas.{parent_nearest, no_parent}
 use Rattle.ddt_compile.proofs.GrowingLemmas.{grown, none_kept}
 use Rattle.ddt_compile.proofs.LocatorLemmas.{servers_or_none}

@@ -1,7 +1,5 @@
 use Rattle.std.proofs.Common.{◌+◌, ◌≡◌, ◌⊎◌, true, List, drop, refl, sym, ap, subst, ◌∙◌, inl, inr}
 use Rattle.std.specs.Cmp.Lexicographic.{texts_ties, nat_list_eq_equiv}
-use Rattle.ddt_path.specs.declared.record.Role.{Role}
-use Rattle.ddt_path.specs.declared.record.Role.TheVariants.{Node, Ms}
 use Rattle.ddt_register.specs.declared.zone.Zone.{Zone}
 use Rattle.ddt_register.specs.declared.register.Register.{Register}
 use Rattle.ddt_register.specs.Rows.{rise, zone_rows}
@@ -10,9 +8,13 @@ use Rattle.ddt_config.specs.declared.config.SiteEntry.{SiteEntry}
 use Rattle.ddt_config.specs.declared.config.Authority.{Authority}
 use Rattle.ddt_config.specs.declared.config.Content.{Content}
 use Rattle.ddt_config.specs.declared.config.Content.TheVariants.{Children, Sites}
-use Rattle.ddt_compile.specs.GroupConfig.{children_of, sites_of, content_of, authority_of, is_served_by}
-use Rattle.ddt_compile.proofs.MemberLemmas.{IsIn, in_at, in_left, in_later, later_row, contained}
-use Rattle.ddt_compile.proofs.ShapedLemmas.{zones_rise, own_prefix}
+use Rattle.ddt_compile.specs.GroupConfig.{authority_of}
+use Rattle.ddt_check.specs.Zones.{is_served_by}
+use Rattle.ddt_path.proofs.MemberLemmas.{IsIn, in_at, in_left, in_later, contained}
+use Rattle.ddt_register.proofs.RisingLemmas.{later_row}
+use Rattle.ddt_register.proofs.RisingLemmas.{zones_rise}
+use Rattle.ddt_check.proofs.KeptLemmas.{own_prefix}
+use Rattle.ddt_compile.proofs.ContentLemmas.{content_is}
 use Rattle.ddt_compile.proofs.GrowingLemmas.{grown, list_at-empty}
 use Rattle.ddt_compile.proofs.compiling.authorities_by_group.Goals as goal
 
@@ -48,7 +50,3 @@ loop-zone-preserved c =
       λ g. grown (authority_of r) (is_served_by g) zones i x c.loop-zone-test.true c.zone-item.is c.loop-zone.lists c.append.new.lists x.group g.name authority made
           (nat_list_eq_equiv.symm x.group g.name) c.in_ok-append.ensures.here c.in_ok-append.ensures.elsewhere (c.loop-zone.invariant.2 g),
     )
-  where
-    content_is : (r : Register) (x : Zone) (held : Content) → (x.kind ≡ Node → held ≡ Children (children_of r x)) → (x.kind ≡ Ms → held ≡ Sites (sites_of r x)) → (kind : Role) → x.kind ≡ kind → held ≡ content_of r x kind
-    content_is r x held node ms Node e = node e
-    content_is r x held node ms Ms e = ms e

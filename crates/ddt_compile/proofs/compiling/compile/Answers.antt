@@ -8,8 +8,11 @@ use Rattle.ddt_config.specs.declared.config.Authority.{Authority}
 use Rattle.ddt_config.specs.Shaped.{is_shaped}
 use Rattle.ddt_config.specs.Table.{Outline, outline}
 use Rattle.ddt_compile.specs.GroupConfig.{group_config}
-use Rattle.ddt_compile.proofs.MemberLemmas.{IsIn, in_at, in_left, in_later, later_row}
-use Rattle.ddt_compile.proofs.ShapedLemmas.{groups_rise, own_name, group_shaped}
+use Rattle.ddt_path.proofs.MemberLemmas.{IsIn, in_at, in_left, in_later}
+use Rattle.ddt_register.proofs.RisingLemmas.{later_row}
+use Rattle.ddt_register.proofs.RisingLemmas.{groups_rise}
+use Rattle.ddt_check.proofs.KeptLemmas.{own_name}
+use Rattle.ddt_compile.proofs.ShapedLemmas.{group_shaped}
 use Rattle.ddt_compile.proofs.HonestLemmas.{honest_configs}
 use Rattle.ddt_compile.proofs.RoomLemmas.{configs_have_room}
 use Rattle.ddt_compile.proofs.compiling.compile.Goals as goal

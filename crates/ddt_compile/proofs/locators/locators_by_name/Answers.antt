@@ -4,7 +4,7 @@ use Rattle.std.specs.Cmp.Lexicographic.{slice_cmp}
 use Rattle.std.specs.BTreeMap.{BTreeMap, get}
 use Rattle.ddt_path.specs.declared.locator.Locator.{Locator}
 use Rattle.ddt_register.specs.declared.register.Register.{Register}
-use Rattle.ddt_compile.proofs.MemberLemmas.{IsIn, in_at}
+use Rattle.ddt_path.proofs.MemberLemmas.{IsIn, in_at}
 use Rattle.ddt_compile.proofs.ShapedLemmas.{few_servers}
 use Rattle.ddt_compile.proofs.LocatorLemmas.{name_put, name_kept}
 use Rattle.ddt_compile.proofs.locators.locators_by_name.Goals as goal

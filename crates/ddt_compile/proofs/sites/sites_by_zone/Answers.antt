@@ -9,11 +9,12 @@ use Rattle.ddt_path.specs.declared.locator.Locator.{Locator}
 use Rattle.ddt_register.specs.declared.site.Site.{Site}
 use Rattle.ddt_register.specs.declared.register.Register.{Register}
 use Rattle.ddt_config.specs.declared.config.SiteEntry.{SiteEntry}
-use Rattle.ddt_compile.specs.GroupConfig.{entry_of, is_site_in}
+use Rattle.ddt_compile.specs.GroupConfig.{entry_of}
+use Rattle.ddt_check.specs.Zones.{is_site_in}
 use Rattle.ddt_compile.specs.Lists.{list_at}
 use Rattle.ddt_compile.specs.Nearest.{IsAbove}
-use Rattle.ddt_compile.proofs.MemberLemmas.{IsIn, in_at, in_contained}
-use Rattle.ddt_compile.proofs.ShapedLemmas.{few_etrs}
+use Rattle.ddt_path.proofs.MemberLemmas.{IsIn, in_at, in_contained}
+use Rattle.ddt_check.proofs.KeptLemmas.{few_etrs}
 use Rattle.ddt_compile.proofs.NearestLemmas.{holder_nearest, no_holder}
 use Rattle.ddt_compile.proofs.GrowingLemmas.{grown, none_kept}
 use Rattle.ddt_compile.proofs.sites.sites_by_zone.Goals as goal

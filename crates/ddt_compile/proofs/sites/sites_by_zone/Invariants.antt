@@ -4,9 +4,10 @@ use Rattle.std.specs.Ordering.{nat_cmp}
 use Rattle.std.specs.Cmp.Lexicographic.{slice_cmp}
 use Rattle.ddt_path.specs.declared.record.Role.TheVariants.{Ms}
 use Rattle.ddt_register.specs.declared.zone.Zone.{Zone}
-use Rattle.ddt_compile.specs.GroupConfig.{entry_of, is_site_in}
+use Rattle.ddt_compile.specs.GroupConfig.{entry_of}
+use Rattle.ddt_check.specs.Zones.{is_site_in}
 use Rattle.ddt_compile.specs.Lists.{list_at}
-use Rattle.ddt_compile.proofs.MemberLemmas.{IsIn}
+use Rattle.ddt_path.proofs.MemberLemmas.{IsIn}
 use Rattle.ddt_compile.proofs.sites.sites_by_zone.Given as goal
 
 abbrev pub invariant-loop-site : goal.invariant-loop-site

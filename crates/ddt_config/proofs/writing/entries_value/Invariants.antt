@@ -1,10 +1,11 @@
-use Rattle.std.proofs.Common.{◌≡◌, true, take, drop}
-use Rattle.std.specs.List.{list_all}
-use Rattle.ddt_config.specs.Writing.{AreWritten, IsTableOf}
+use Rattle.std.proofs.Common.{◌≡◌, map, take}
+use Rattle.std.specs.List.{AllByRecursion}
+use Rattle.toml.specs.Data.{table}
+use Rattle.toml.specs.View.{view}
 use Rattle.ddt_config.proofs.writing.entries_value.Given as goal
 
 abbrev pub invariant-loop-entry : goal.invariant-loop-entry
 invariant-loop-entry g l = record {
-  written : AreWritten (IsTableOf (g.T.Entry.entry_in l.role) g.T.Entry.nesting) l.values.items (take l.entry-index l.entries);
-  suit : list_all (g.T.Entry.suits l.role) (drop l.entry-index l.entries) ≡ true;
+  written : map view l.values.items ≡ map (λ e. table (g.T.Entry.written e)) (take l.entry-index l.entries);
+  back : AllByRecursion g.T.Entry.comes_back (take l.entry-index l.entries);
 }

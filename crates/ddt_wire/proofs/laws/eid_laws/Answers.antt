@@ -1,5 +1,6 @@
-use Rattle.ddt_wire.proofs.WrittenLaws.{one_eid, eid_is_bytes, eid_faults, eid_spells}
+use Rattle.ddt_wire.proofs.EidLaws.{eid_again}
+use Rattle.ddt_wire.proofs.WrittenLaws.{one_eid, eid_is_bytes, eid_faults, eid_spells, eid_taken}
 use Rattle.ddt_wire.proofs.laws.eid_laws.Goals as goal
 
 pub returns : goal.returns
-returns c = record { one = one_eid; bytes = eid_is_bytes; faults = eid_faults; written = eid_spells }
+returns c = record { one = one_eid; bytes = eid_is_bytes; read = eid_again; taken = eid_taken; faults = eid_faults; written = eid_spells }

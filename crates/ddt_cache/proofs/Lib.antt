@@ -1,0 +1,5 @@
+pub mod LiveLemmas
+pub mod SizeLemmas
+pub mod KnownLemmas
+pub mod OrderLemmas
+pub mod LawLemmas

@@ -1,0 +1,125 @@
+-- How many entries there are: what is live is no more than what there is.
+use Rattle.std.proofs.Common.{◌≡◌, ℕ, ◌<◌, ◌≤◌, ◌-◌, ◌+◌, Bool, cond, true, false, List, [], ◌∷◌, Some, None, Option, refl, sym, ap, subst, ◌∙◌, arith}
+use Rattle.std.specs.Prelude.{is_some, not, nat_lt, ◌&&◌, ◌||◌, filter}
+use Rattle.std.specs.List.{list_any}
+use Rattle.std.specs.Cmp.Lexicographic.{nat_list_cmp_total}
+use Rattle.std.specs.FinMap.{get, len, empty, len-empty, len-insert, insert, remove, keys, contains_key, contains_key-keys, get-remove, len-remove}
+use Rattle.std.proofs.lemmas.Bool.{lt-ltb, ltb-true}
+use Rattle.ddt_trie.specs.PrefixMap.{path_cmp}
+use Rattle.ddt_trie.proofs.EntryLemmas.{tied, tied-true}
+use Rattle.ddt_cache.specs.declared.entry.Entry.{Entry}
+use Rattle.ddt_cache.specs.Live.{is_live, live_at}
+use Rattle.ddt_cache.specs.Saved.{has_room, most_entries}
+use Rattle.ddt_cache.proofs.LiveLemmas.{Entries, if_live, get-live_at, same}
+
+-- ---- a map without some keys
+
+without : List (List ℕ) → Entries → Entries
+without [] m = m
+without (k ∷ ks) m = without ks (remove m k)
+
+fewer : (b : Bool) (n : ℕ) → cond b (n - 1) n ≤ n
+fewer true n = omega arith
+fewer false n = omega arith
+
+len-without : (ks : List (List ℕ)) (m : Entries) → len (without ks m) ≤ len m
+unfolding without
+len-without [] m = omega arith
+len-without (k ∷ ks) m =
+    let a = len-without ks (remove m k) in
+    let b = fewer (contains_key m k) (len m) in
+    let c = len-remove nat_list_cmp_total m k in
+    omega (arith, a, b, c)
+
+both : {A : Type 0} (a b : Bool) (o : Option A) → cond b None (cond a None o) ≡ cond (a || b) None o
+both true true o = refl
+both true false o = refl
+both false b o = refl
+
+get-without : (ks : List (List ℕ)) (m : Entries) (q : List ℕ)
+    → get (without ks m) q ≡ cond (list_any (tied q) ks) None (get m q)
+unfolding without
+get-without [] m q = refl
+get-without (k ∷ ks) m q =
+    get-without ks (remove m k) q
+    ∙ ap (cond (list_any (tied q) ks) None) (get-remove nat_list_cmp_total m k q)
+    ∙ both (tied q k) (list_any (tied q) ks) (get m q)
+
+any_filter : (test : List ℕ → Bool) (ks : List (List ℕ)) (q : List ℕ)
+    → list_any (tied q) (filter test ks) ≡ (test q && list_any (tied q) ks)
+any_filter test [] q = no_one (test q)
+  where
+    no_one : (b : Bool) → false ≡ (b && false)
+    no_one true = refl
+    no_one false = refl
+any_filter test (k ∷ ks) q =
+    chosen (test k) ∙ ap (λ x. cond (test k) (tied q k || x) x) (any_filter test ks q)
+    ∙ picked (test k) (tied q k) (test q) (list_any (tied q) ks) (λ t. ap test (tied-true q k t))
+  where
+    chosen : (c : Bool) → list_any (tied q) (cond c (k ∷ filter test ks) (filter test ks))
+        ≡ cond c (tied q k || list_any (tied q) (filter test ks)) (list_any (tied q) (filter test ks))
+    chosen true = refl
+    chosen false = refl
+
+    picked : (c t b y : Bool) → (t ≡ true → b ≡ c) → cond c (t || (b && y)) (b && y) ≡ (b && (t || y))
+    picked true true b y h = sym (ap (λ d. d && true) (h refl))
+    picked true false b y h = refl
+    picked false true b y h = ap (λ d. d && y) (h refl) ∙ sym (ap (λ d. d && true) (h refl))
+    picked false false b y h = refl
+
+-- ---- the entries that have ended
+
+left : (t : ℕ) (o : Option Entry) → cond (not (is_live t o) && is_some o) None o ≡ if_live t o
+left t None = refl
+left t (Some e) = by_end (nat_lt t e.end)
+  where
+    by_end : (b : Bool) → cond (not b && true) None (Some e) ≡ cond b (Some e) None
+    by_end true = refl
+    by_end false = refl
+
+abbrev ended_at : ℕ → Entries → List ℕ → Bool
+ended_at t m p = not (is_live t (get m p))
+
+pub len-live_at : (t : ℕ) (m : Entries) → len (live_at t m) ≤ len m
+len-live_at t m = subst (λ (n : Entries). len n ≤ len m) is (len-without (filter (ended_at t m) (keys m)) m)
+  where
+    is : without (filter (ended_at t m) (keys m)) m ≡ live_at t m
+    is = same _ _ (λ q.
+        get-without (filter (ended_at t m) (keys m)) m q
+        ∙ ap (λ b. cond b None (get m q)) (any_filter (ended_at t m) (keys m) q ∙ ap (λ b. ended_at t m q && b) (sym (contains_key-keys m q)))
+        ∙ left t (get m q) ∙ sym (get-live_at t m q))
+
+-- ---- at most 65,536 entries
+
+pub len_dropped : (t : ℕ) (m n : Entries) → n ≡ live_at t m → len m ≤ most_entries → len n ≤ most_entries
+len_dropped t m n is le =
+    let a = len-live_at t m in
+    let b : len n ≡ len (live_at t m) = ap (λ (l : Entries). len l) is in
+    omega (arith, a, b, le)
+
+pub len_removed : (m n : Entries) (p : List ℕ) → n ≡ remove m p → len m ≤ most_entries → len n ≤ most_entries
+len_removed m n p is le =
+    let a : len n ≡ cond (contains_key m p) (len m - 1) (len m) = ap (λ (l : Entries). len l) is ∙ len-remove nat_list_cmp_total m p in
+    let b = fewer (contains_key m p) (len m) in
+    omega (arith, a, b, le)
+
+pub len_none : (m : Entries) → m ≡ empty → len m ≤ most_entries
+len_none m is = let a : len m ≡ 0 = ap (λ (l : Entries). len l) is ∙ len-empty path_cmp Entry in omega (arith, a)
+
+pub room_below : (m : Entries) (p : List ℕ) → len m < most_entries → has_room m p ≡ true
+room_below m p lt = ap (λ b. contains_key m p || b) (lt-ltb (len m) most_entries lt) ∙ or_true (contains_key m p)
+  where
+    or_true : (b : Bool) → (b || true) ≡ true
+    or_true true = refl
+    or_true false = refl
+
+pub len_inserted : (m n : Entries) (p : List ℕ) (e : Entry) → n ≡ insert m p e → has_room m p ≡ true
+    → len m ≤ most_entries → len n ≤ most_entries
+len_inserted m n p e is room le =
+    let a : len n ≡ cond (contains_key m p) (len m) (len m + 1) = ap (λ (l : Entries). len l) is ∙ len-insert nat_list_cmp_total m p e in
+    let b : cond (contains_key m p) (len m) (len m + 1) ≤ most_entries = by_key (contains_key m p) room in
+    omega (arith, a, b)
+  where
+    by_key : (b : Bool) → (b || nat_lt (len m) most_entries) ≡ true → cond b (len m) (len m + 1) ≤ most_entries
+    by_key true h = le
+    by_key false h = let lt = ltb-true (len m) most_entries h in omega (arith, lt)

@@ -1,0 +1,24 @@
+use Rattle.std.proofs.Common.{◌∙◌}
+use Rattle.ddt_cache.specs.Live.{known_of}
+use Rattle.ddt_cache.proofs.KnownLemmas.{live_twice, same_known}
+use Rattle.ddt_cache.proofs.SizeLemmas.{len_dropped}
+use Rattle.ddt_cache.proofs.OrderLemmas.{in_order_along}
+use Rattle.ddt_cache.proofs.cache.Cache.purge.Goals as goal
+
+pub returns : goal.returns
+returns g c =
+    let t = c.self.inside.time in
+    let m = g.M.PrefixMap.content c.self.inside.held.entries in
+    let n = g.M.PrefixMap.content c.drop_ended.new.entries in
+    same_known t m n c.self.inside.held.root.servers (live_twice t m n c.drop_ended.ensures) ∙ c.self.view_is ∙ c.advance.ensures
+
+pub invariant_of-self : goal.invariant_of-self
+invariant_of-self g c =
+    let t = c.self.inside.time in
+    let m = g.M.PrefixMap.content c.self.inside.held.entries in
+    let n = g.M.PrefixMap.content c.drop_ended.new.entries in
+    let roots = c.self.inside.held.root.servers in (
+      c.self.invariant.0,
+      len_dropped t m n c.drop_ended.ensures c.self.invariant.1,
+      in_order_along (known_of t n roots) (known_of t m roots) (same_known t m n roots (live_twice t m n c.drop_ended.ensures)) c.self.invariant.2,
+    )

@@ -1,0 +1,47 @@
+-- What is kept of a record, and how long: its TTL is in minutes (RFC 8111, section 6.4), an end in milliseconds.
+use Rattle.std.specs.Prelude.{ℕ, ◌+◌, ◌*◌, min, Bool, true, false, List}
+use Rattle.ddt_path.specs.declared.locator.Locator.{Locator}
+use Rattle.ddt_path.specs.declared.record.Action.{Action}
+use Rattle.ddt_path.specs.declared.record.Action.TheVariants.{NodeReferral, MsReferral, MsAck, MsNotRegistered, DelegationHole, NotAuthoritative}
+use Rattle.ddt_path.specs.declared.record.ReferralRecord.{ReferralRecord}
+use Rattle.ddt_cache.specs.declared.entry.Entry.{Entry}
+use Rattle.ddt_cache.specs.Moment.{minute}
+
+-- whether an action names servers to ask: NODE-REFERRAL, MS-REFERRAL and MS-ACK
+abbrev pub is_positive : Action → Bool
+is_positive NodeReferral = true
+is_positive MsReferral = true
+is_positive MsAck = true
+is_positive MsNotRegistered = false
+is_positive DelegationHole = false
+is_positive NotAuthoritative = false
+
+-- whether an action says that nothing is there: MS-NOT-REGISTERED and DELEGATION-HOLE
+abbrev pub is_negative : Action → Bool
+is_negative NodeReferral = false
+is_negative MsReferral = false
+is_negative MsAck = false
+is_negative MsNotRegistered = true
+is_negative DelegationHole = true
+is_negative NotAuthoritative = false
+
+-- how many minutes a record of an action is kept at most: a day, a quarter of an hour, not at all
+abbrev pub most_minutes : Action → ℕ
+most_minutes NodeReferral = 1440
+most_minutes MsReferral = 1440
+most_minutes MsAck = 1440
+most_minutes MsNotRegistered = 15
+most_minutes DelegationHole = 15
+most_minutes NotAuthoritative = 0
+
+-- the end of a record that is saved at a time
+abbrev pub end_of : ℕ → ReferralRecord → ℕ
+end_of time r = time + min r.ttl (most_minutes r.action) * minute
+
+-- the entry of a record that is saved at a time
+abbrev pub entry_of : ℕ → ReferralRecord → Entry
+entry_of time r = record { action = r.action; servers = r.servers; end = end_of time r }
+
+-- the entry of the root, which never ends
+abbrev pub root_entry : List Locator → Entry
+root_entry roots = record { action = NodeReferral; servers = roots; end = 18446744073709551615 }

@@ -1,0 +1,6 @@
+pub mod Moment
+pub mod Entry
+pub mod Live
+pub mod Saved
+pub mod Found
+pub mod InOrder

@@ -1,0 +1,168 @@
+//! A cache of referrals (RFC 8111, section 7.3). It keeps its own time, the greatest moment that a call was given, so
+//! that a clock that goes back brings no entry back.
+
+ghost use Rattle.std.specs.Prelude.{◌≡◌, IsTrue, IsOk, IfOk, OnOk, OnErr};
+ghost use Rattle.std.specs.FinMap as map;
+ghost use Rattle.ddt_path.specs.Path.{xeid_path};
+ghost use Rattle.ddt_cache.specs.Live.{nothing_known, moved, forgotten};
+ghost use Rattle.ddt_cache.specs.Saved.{is_saved, saving, stored_in};
+ghost use Rattle.ddt_cache.specs.Found.{IsFound};
+ghost use Rattle.ddt_cache.specs.InOrder.{IsInOrder};
+
+use crate::entry::{Entry, Saved};
+use crate::finding::{Held, drop_ended_over};
+use crate::moment::Moment;
+use crate::saving::{drop_ended, save_among};
+use ddt_path::{Action, LocatorSet, Prefix, ReferralRecord, Xeid};
+use ddt_trie::PrefixMap;
+use std::alloc::{AllocError, Global};
+use std::marker::Model;
+
+/// The entries that are live, the time, and the root's locators.
+#[derive(Drop)]
+pub struct Cache<M: PrefixMap<Entry>> {
+    held: Held<M>,
+    time: u64,
+}
+
+impl<M: PrefixMap<Entry>> Model for Cache<M> {
+    ghost use Rattle.std.specs.Prelude.{◌≡◌, ◌≤◌};
+    ghost use Rattle.std.specs.FinMap as map;
+    ghost use Rattle.ddt_path.specs.contracts.locator.Locator as locator;
+    ghost use Rattle.ddt_cache.specs.contracts.entry.Entry as entry;
+    ghost use Rattle.ddt_cache.specs.Entry.{root_entry};
+    ghost use Rattle.ddt_cache.specs.Live.{Known, known_code, known_of};
+    ghost use Rattle.ddt_cache.specs.Saved.{most_entries};
+    ghost use Rattle.ddt_cache.specs.InOrder.{IsInOrder};
+
+    ghost Value = { Known };
+
+    ghost coded = { known_code entry.the_row.coded locator.the_row.coded };
+
+    ghost view = { λ c. known_of c.time (M.content c.held.entries) c.held.root.servers };
+
+    ghost invariant = { λ c. (c.held.root ≡ root_entry c.held.root.servers)
+        × (map.len (M.content c.held.entries) ≤ most_entries)
+        × IsInOrder (known_of c.time (M.content c.held.entries) c.held.root.servers) };
+}
+
+impl<M: PrefixMap<Entry>> Cache<M> {
+    /// A cache at moment 0 with no entry but the root's, whose locators are these. It takes its memory from `alloc` as
+    /// it grows.
+    pub fn new(alloc: Global, roots: LocatorSet) -> Cache<M>
+        ensures { result ≡ nothing_known roots }
+    {
+        // The slice tells the proof that the set holds at most 8 locators.
+        let _few = roots.as_slice();
+        Cache {
+            held: Held {
+                entries: M::empty(alloc),
+                root: Entry {
+                    action: Action::NodeReferral,
+                    servers: roots,
+                    end: u64::MAX,
+                },
+            },
+            time: 0,
+        }
+    }
+
+    /// The time: the greatest moment that a call was given, at first 0.
+    pub fn time(&self) -> Moment
+        ensures { result ≡ self.now.time }
+    {
+        Moment::of(self.time)
+    }
+
+    /// The locators of the root's servers.
+    pub fn roots(&self) -> LocatorSet
+        ensures { result ≡ self.now.roots }
+    {
+        self.held.root.servers
+    }
+
+    /// What holds of each cache: the time is a moment; at most 65,536 entries are live; each ends after the time, at
+    /// most 86,400,000 milliseconds after it, and at most 900,000 where it is negative; none is NOT-AUTHORITATIVE; each
+    /// positive one has a locator and a prefix that isn't everything. The call does nothing.
+    pub fn in_order(&self)
+        ensures { IsInOrder self.now }
+    {
+        let _held = &self.held;
+    }
+
+    /// Moves the time to `now`, where that is later.
+    pub fn advance(&mut self, now: Moment)
+        ensures { self.new ≡ moved now self.old }
+    {
+        self.time = self.time.max(now.millis());
+    }
+
+    /// Moves the time to `now`, where that is later, and gives back the room of the entries that have ended.
+    pub fn purge(&mut self, now: Moment)
+        ensures { self.new ≡ moved now self.old }
+    {
+        self.advance(now);
+        drop_ended(&mut self.held.entries, self.time);
+    }
+
+    /// How many entries are live at `now`, the root's not among them.
+    pub fn len(&mut self, now: Moment) -> usize
+        ensures moved { self.new ≡ moved now self.old }
+        ensures count { result ≡ map.len self.new.live }
+    {
+        self.advance(now);
+        let entries = &mut self.held.entries;
+        drop_ended(entries, self.time);
+        entries.len()
+    }
+
+    /// Of the live entries whose prefixes cover the identifier, that of the longest prefix, lent; where there is none,
+    /// the root's, with the prefix that is everything.
+    pub fn find(&mut self, now: Moment, x: Xeid) -> (Prefix, &Entry)
+        ensures found { IsFound (moved now self.old) (xeid_path x) result.0 result.1.now }
+    {
+        self.advance(now);
+        drop_ended_over(&mut self.held.entries, self.time, x);
+        self.held.longest_or_root(x)
+    }
+
+    /// The same as `find`, by value; its contract also says what the cache knows afterwards.
+    pub fn find_copied(&mut self, now: Moment, x: Xeid) -> (Prefix, Entry)
+        ensures moved { self.new ≡ moved now self.old }
+        ensures found { IsFound self.new (xeid_path x) result.0 result.1 }
+    {
+        self.advance(now);
+        drop_ended_over(&mut self.held.entries, self.time, x);
+        let (prefix, entry) = self.held.longest_or_root(x);
+        (prefix, *entry)
+    }
+
+    /// Saves a record at `now`, in place of the live entry of its prefix where there is one. It ends its TTL after the
+    /// cache's time, a DELEGATION-HOLE and an MS-NOT-REGISTERED at most 15 minutes after it, the others at most 1440.
+    ///
+    /// NotSaved where its TTL is 0, its action NOT-AUTHORITATIVE, or its action positive (NODE-REFERRAL, MS-REFERRAL,
+    /// MS-ACK) with no locator or with the prefix that is everything. Else Full where 65,536 entries are live and none
+    /// has its prefix. Neither changes an entry. It fails only if out of memory, which a record that takes the place of
+    /// a live entry never is; then only the time has moved.
+    pub fn save(&mut self, now: Moment, referral: &ReferralRecord) -> Result<Saved, AllocError>
+        ensures stored { OnOk result (self.new ≡ stored_in (moved now self.old) referral.now) }
+        ensures answer { IfOk result (λ saved. saved ≡ saving (moved now self.old).live referral.now) }
+        ensures unchanged { OnErr result (self.new ≡ moved now self.old) }
+        ensures wanted { OnErr result (IsTrue (is_saved (moved now self.old).live referral.now)) }
+        ensures replaced { IsTrue (map.contains_key (moved now self.old).live referral.now.prefix) → IsOk result }
+    {
+        self.advance(now);
+        save_among(&mut self.held.entries, self.time, referral)
+    }
+
+    /// Forgets the entry of a prefix, and answers whether a live one went. The root's is never forgotten.
+    pub fn forget(&mut self, prefix: Prefix) -> bool
+        ensures forgotten { self.new ≡ forgotten self.old prefix }
+        ensures went { result ≡ map.contains_key self.old.live prefix }
+    {
+        match self.held.entries.remove(prefix) {
+            Some(entry) => self.time < entry.end,
+            None => false,
+        }
+    }
+}

@@ -1,0 +1,65 @@
+//! The longest live match: entries that have ended are dropped as they are met (RFC 8111, section 7.3).
+
+ghost use Rattle.std.specs.Prelude.{◌≡◌, ◌<◌, ◌≤◌, ◌⊎◌, [], ℕ, List, Some, IfSome, IfNone};
+ghost use Rattle.std.specs.FinMap as map;
+ghost use Rattle.ddt_path.specs.Path.{xeid_path};
+ghost use Rattle.ddt_trie.specs.PrefixMap.{IsLongest, IsCovered};
+ghost use Rattle.ddt_cache.specs.declared.entry.Entry.{Entry as EntryValue};
+ghost use Rattle.ddt_cache.specs.Live.{live_at};
+
+use crate::entry::Entry;
+use ddt_path::{Prefix, Xeid};
+use ddt_trie::PrefixMap;
+
+/// Entries, some of which may have ended, and the entry of the root.
+#[derive(Drop)]
+pub(crate) struct Held<M: PrefixMap<Entry>> {
+    pub(crate) entries: M,
+    pub(crate) root: Entry,
+}
+
+impl<M: PrefixMap<Entry>> Held<M> {
+    /// The longest prefix that covers the identifier, with its entry, whether it has ended or not; where there is
+    /// none, the root's.
+    pub(crate) fn longest_or_root(&self, x: Xeid) -> (Prefix, &Entry)
+        ensures { IsLongest (M.content self.now.entries) (xeid_path x) result.0 result.1.now
+            ⊎ ((IsCovered (M.content self.now.entries) (xeid_path x) → ⊥) ×
+            (result.0 ≡ []) × (result.1.now ≡ self.now.root)) }
+    {
+        match self.entries.longest(x) {
+            Some(found) => found,
+            None => (Prefix::cut(x, 0), &self.root),
+        }
+    }
+}
+
+/// The longest prefix that covers the identifier, where its entry has ended.
+fn ended_over<M: PrefixMap<Entry>>(entries: &M, time: u64, x: Xeid) -> Option<Prefix>
+    ensures ended { IfSome result (λ p.
+        (e : EntryValue) × (map.get (M.content entries.now) p ≡ Some e) × (e.end ≤ time)) }
+    ensures none { IfNone result ((p : List ℕ) (e : EntryValue) →
+        IsLongest (M.content entries.now) (xeid_path x) p e → time < e.end) }
+{
+    match entries.longest(x) {
+        Some((prefix, entry)) => {
+            if entry.end <= time {
+                Some(prefix)
+            } else {
+                None
+            }
+        }
+        None => None,
+    }
+}
+
+/// Removes entries that have ended until the longest that covers the identifier is live.
+pub(crate) fn drop_ended_over<M: PrefixMap<Entry>>(entries: &mut M, time: u64, x: Xeid)
+    ensures live { live_at time (M.content entries.new) ≡ live_at time (M.content entries.old) }
+    ensures fewer { map.len (M.content entries.new) ≤ map.len (M.content entries.old) }
+    ensures longest { (p : List ℕ) (e : EntryValue) →
+        IsLongest (M.content entries.new) (xeid_path x) p e → time < e.end }
+{
+    while let Some(prefix) = ended_over(entries, time, x) {
+        entries.remove(prefix);
+    }
+}

@@ -1,0 +1,19 @@
+//! What a resolver remembers of the referrals that it got (RFC 8111, section 7.3): each record until its end, found by
+//! the longest prefix that covers an identifier.
+#![tactic(auto)]
+
+mod cache;
+mod entry;
+mod finding;
+mod laws;
+mod moment;
+mod saving;
+
+pub use cache::Cache;
+pub use entry::{Entry, Saved};
+pub use laws::{one_is_found, order_is_kept, saved_until_its_end, time_moves_on};
+pub use moment::{LAST_MOMENT, Moment};
+pub use saving::MOST_ENTRIES;
+
+#[cfg(test)]
+mod tests;

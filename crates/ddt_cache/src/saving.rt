@@ -1,0 +1,118 @@
+//! Which records are saved, with which end, and the room for them (RFC 8111, sections 6.4 and 7.3).
+
+ghost use Rattle.std.specs.Prelude.{◌≡◌, ◌<◌, ◌≤◌, length, IsTrue, IfOk, OnOk, OnErr, IsOk};
+ghost use Rattle.std.specs.FinMap as map;
+ghost use Rattle.ddt_cache.specs.Moment.{last_moment};
+ghost use Rattle.ddt_cache.specs.Entry.{most_minutes as most_minutes_of, entry_of};
+ghost use Rattle.ddt_cache.specs.Live.{live_at};
+ghost use Rattle.ddt_cache.specs.Saved.{most_entries, savable, has_room, is_saved, saving, stored};
+
+use crate::entry::{Entry, Saved};
+use ddt_path::{Action, Prefix, ReferralRecord};
+use ddt_trie::PrefixMap;
+use std::alloc::AllocError;
+
+/// How many live entries a cache has at most.
+pub const MOST_ENTRIES: usize = 65536;
+
+/// How many minutes a positive record is kept at most: a day.
+const MOST_POSITIVE_MINUTES: u32 = 1440;
+
+/// How many minutes a negative record is kept at most.
+const MOST_NEGATIVE_MINUTES: u32 = 15;
+
+/// How many milliseconds a minute has.
+const MINUTE: u64 = 60_000;
+
+/// How many minutes a record of an action is kept at most.
+fn most_minutes(action: Action) -> u32
+    ensures value { result ≡ most_minutes_of action }
+    ensures bound { result ≤ 1440 }
+{
+    match action {
+        Action::NodeReferral | Action::MsReferral | Action::MsAck => MOST_POSITIVE_MINUTES,
+        Action::MsNotRegistered | Action::DelegationHole => MOST_NEGATIVE_MINUTES,
+        Action::NotAuthoritative => 0,
+    }
+}
+
+/// Whether a record is one to keep.
+fn is_savable(referral: &ReferralRecord) -> bool
+    ensures { result ≡ savable referral.now }
+{
+    match referral.action {
+        Action::NodeReferral | Action::MsReferral | Action::MsAck => {
+            referral.ttl > 0 && !referral.servers.as_slice().is_empty() && referral.prefix.len() > 0
+        }
+        Action::MsNotRegistered | Action::DelegationHole => referral.ttl > 0,
+        Action::NotAuthoritative => false,
+    }
+}
+
+/// Removes the entries that have ended.
+pub(crate) fn drop_ended<M: PrefixMap<Entry>>(entries: &mut M, time: u64)
+    ensures { M.content entries.new ≡ live_at time (M.content entries.old) }
+{
+    entries.retain(&|entry: &Entry| time < entry.end);
+}
+
+/// Whether there is room for an entry of a prefix. Where 65,536 entries are there, those that have ended are removed
+/// first.
+fn make_room<M: PrefixMap<Entry>>(entries: &mut M, time: u64, prefix: Prefix) -> bool
+    requires { map.len (M.content entries.old) ≤ most_entries }
+    ensures live { live_at time (M.content entries.new) ≡ live_at time (M.content entries.old) }
+    ensures room { result ≡ has_room (live_at time (M.content entries.old)) prefix }
+    ensures left { IsTrue result → IsTrue (has_room (M.content entries.new) prefix) }
+    ensures bound { map.len (M.content entries.new) ≤ most_entries }
+{
+    if entries.len() < MOST_ENTRIES {
+        return true;
+    }
+    drop_ended(entries, time);
+    entries.get(prefix).is_some() || entries.len() < MOST_ENTRIES
+}
+
+/// The entry of a record that is saved at a time.
+fn entry_at(time: u64, referral: &ReferralRecord) -> Entry
+    requires { time ≤ last_moment }
+    ensures { result ≡ entry_of time referral.now }
+{
+    let minutes = referral.ttl.min(most_minutes(referral.action));
+    Entry {
+        action: referral.action,
+        servers: referral.servers,
+        end: time + minutes as u64 * MINUTE,
+    }
+}
+
+/// Saves a record among entries of which some may have ended.
+pub(crate) fn save_among<M: PrefixMap<Entry>>(
+    entries: &mut M,
+    time: u64,
+    referral: &ReferralRecord,
+) -> Result<Saved, AllocError>
+    requires few { map.len (M.content entries.old) ≤ most_entries }
+    requires moment { time ≤ last_moment }
+    ensures stored { OnOk result (live_at time (M.content entries.new) ≡
+        stored time (live_at time (M.content entries.old)) referral.now) }
+    ensures answer { IfOk result (λ saved. saved ≡ saving (live_at time (M.content entries.old)) referral.now) }
+    ensures bound { map.len (M.content entries.new) ≤ most_entries }
+    ensures unchanged { OnErr result (live_at time (M.content entries.new) ≡ live_at time (M.content entries.old)) }
+    ensures wanted { OnErr result (IsTrue (is_saved (live_at time (M.content entries.old)) referral.now)) }
+    ensures replaced { IsTrue (map.contains_key (live_at time (M.content entries.old)) referral.now.prefix) →
+        IsOk result }
+    ensures servers { length referral.now.servers ≤ 8 }
+{
+    // The slice tells the proof that a set holds at most 8 locators.
+    let _few = referral.servers.as_slice();
+    if !is_savable(referral) {
+        return Ok(Saved::NotSaved);
+    }
+    if !make_room(entries, time, referral.prefix) {
+        return Ok(Saved::Full);
+    }
+    match entries.insert(referral.prefix, entry_at(time, referral)) {
+        Ok(_before) => Ok(Saved::Saved),
+        Err(_refused) => Err(AllocError),
+    }
+}

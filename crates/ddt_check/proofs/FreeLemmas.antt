@@ -1,0 +1,245 @@
+-- Each hole, and each part of a site that isn't registered, is a free prefix; and the numbers of each answer are such as
+-- a message holds.
+use Rattle.std.proofs.Common.{◌≡◌, ℕ, zero, suc, ◌<◌, ◌≤◌, Bool, true, false, cond, ◌&&◌, ◌||◌, ◌==◌, List, [], ◌∷◌, length, map, take, drop, Option, Some, None, refl, sym, ap, subst, ◌∙◌, arith, inl, inr}
+use Rattle.std.specs.Prelude.{nat_lt, nat_le, unwrap_or}
+use Rattle.std.specs.List.{filter, list_any, list_all}
+use Rattle.std.specs.Option.{option_map_or}
+use Rattle.std.proofs.lemmas.Bool.{and_parts, and_from, or_cases, or_left, or_right, false≢true, eqb-true, ltb-true, le-leb}
+use Rattle.std.proofs.lemmas.Option.{same_Some, none-some}
+use Rattle.ddt_path.specs.declared.locator.Locator.{Locator}
+use Rattle.ddt_path.specs.declared.record.Role.{Role}
+use Rattle.ddt_path.specs.declared.record.Role.TheVariants.{Node, Ms}
+use Rattle.ddt_path.specs.declared.record.Outcome.{Outcome}
+use Rattle.ddt_path.specs.declared.record.Outcome.TheVariants.{Registered, NotRegistered, Hole}
+use Rattle.ddt_path.specs.declared.record.ReferralRecord.{ReferralRecord}
+use Rattle.ddt_path.specs.Records.{record_of, not_authoritative}
+use Rattle.ddt_path.specs.Covers.{covers, is_strictly_below}
+use Rattle.ddt_path.specs.Free.{free, longest_match}
+use Rattle.ddt_path.specs.Path.{are_binary, is_address_part, is_address_front, is_path, is_prefix_path}
+use Rattle.ddt_path.proofs.CoverLemmas.{length-covered}
+use Rattle.ddt_path.proofs.HoleLemmas.{none_free_covered}
+use Rattle.ddt_path.proofs.FrontLemmas.{below_parts}
+use Rattle.ddt_path.proofs.MemberLemmas.{IsIn, in_filter, holds_at, all_kept, list_any-map, found_in}
+use Rattle.ddt_path.proofs.ChosenLemmas.{longest_member}
+use Rattle.ddt_register.specs.declared.zone.Zone.{Zone}
+use Rattle.ddt_register.specs.declared.site.Site.{Site}
+use Rattle.ddt_register.specs.declared.group.Group.{Group}
+use Rattle.ddt_register.specs.declared.register.Register.{Register}
+use Rattle.ddt_register.specs.Ranges.{is_zone_in_range, is_site_in_range, is_group_in_range, are_locators}
+use Rattle.ddt_register.proofs.RangeLemmas.{zones_in_range, sites_in_range, groups_in_range}
+use Rattle.ddt_register.proofs.RangeLemmas as range
+use Rattle.ddt_check.specs.Zones.{is_same_name, zone_of, site_of, group_named, locators_of, served_zones}
+use Rattle.ddt_check.specs.Assignment.{assignment, assigned_in, assigned_site, hole_of, part_of_site, prefixes_in, prefixes_below_site}
+use Rattle.ddt_check.specs.Says.{referral_to, next_zone, says_from, says}
+use Rattle.ddt_check.specs.Rules.{IsAccepted}
+use Rattle.ddt_check.specs.Laws.{IsPartOfItsSite, IsSendable}
+use Rattle.ddt_check.proofs.AcceptedLemmas.{few_locators}
+use Rattle.ddt_check.proofs.SaysLemmas.{says_what_covers}
+use Rattle.ddt_check.proofs.LongestLemmas.{longest_found}
+use Rattle.ddt_check.proofs.RootLemmas.{zone_found, any_member}
+use Rattle.ddt_check.proofs.ZoneLemmas.{zone_prefix, site_prefix}
+
+-- ---- what covers an identifier is a prefix
+
+binary_front : (q x : List ℕ) → covers q x ≡ true → are_binary x ≡ true → are_binary q ≡ true
+binary_front [] x c e = refl
+binary_front (d ∷ q) [] c e = absurd (false≢true c)
+binary_front (d ∷ q) (h ∷ x) c e =
+    let s = and_parts (d == h) (covers q x) c in
+    let b = and_parts (nat_lt h 2) (are_binary x) e in
+    and_from (nat_lt d 2) (are_binary q) (ap (λ (n : ℕ). nat_lt n 2) (eqb-true d h s.0) ∙ b.0) (binary_front q x s.1 b.1)
+
+fits_too : (symbol m n : ℕ) → m ≤ n → ((symbol == 4 && n == 32) || (symbol == 6 && n == 128)) ≡ true → ((symbol == 4 && nat_le m 32) || (symbol == 6 && nat_le m 128)) ≡ true
+fits_too symbol m n le e = elim (or_cases (symbol == 4 && n == 32) (symbol == 6 && n == 128) e) [
+  | inl four ↦
+      let p = and_parts (symbol == 4) (n == 32) four in
+      let is : n ≡ 32 = eqb-true n 32 p.1 in
+      let small : m ≤ 32 = omega arith in
+      or_left (symbol == 4 && nat_le m 32) (symbol == 6 && nat_le m 128) (and_from (symbol == 4) (nat_le m 32) p.0 (le-leb m 32 small))
+  | inr six ↦
+      let p = and_parts (symbol == 6) (n == 128) six in
+      let is : n ≡ 128 = eqb-true n 128 p.1 in
+      let small : m ≤ 128 = omega arith in
+      or_right (symbol == 4 && nat_le m 32) (symbol == 6 && nat_le m 128) (and_from (symbol == 6) (nat_le m 128) p.0 (le-leb m 128 small))
+]
+
+address_too : (q x : List ℕ) → covers q x ≡ true → is_address_part x ≡ true → is_address_front q ≡ true
+address_too [] x c e = refl
+address_too (d ∷ q) [] c e = absurd (false≢true c)
+address_too (d ∷ q) (h ∷ x) c e =
+    let s = and_parts (d == h) (covers q x) c in
+    let p = and_parts (are_binary x) ((h == 4 && length x == 32) || (h == 6 && length x == 128)) e in
+    and_from (are_binary q) ((d == 4 && nat_le (length q) 32) || (d == 6 && nat_le (length q) 128))
+    (binary_front q x s.1 p.0)
+    (ap (λ (symbol : ℕ). (symbol == 4 && nat_le (length q) 32) || (symbol == 6 && nat_le (length q) 128)) (eqb-true d h s.0) ∙ fits_too h (length q) (length x) (length-covered q x s.1) p.1)
+
+front_too : (n : ℕ) (q x : List ℕ) → covers q x ≡ true → are_binary (take n x) ≡ true → is_address_part (drop n x) ≡ true → (are_binary (take n q) ≡ true) × (is_address_front (drop n q) ≡ true)
+front_too zero q x c e f = (refl, address_too q x c f)
+front_too (suc n) [] x c e f = (refl, refl)
+front_too (suc n) (d ∷ q) [] c e f = absurd (false≢true c)
+front_too (suc n) (d ∷ q) (h ∷ x) c e f =
+    let s = and_parts (d == h) (covers q x) c in
+    let b = and_parts (nat_lt h 2) (are_binary (take n x)) e in
+    let rest = front_too n q x s.1 b.1 f in
+    (and_from (nat_lt d 2) (are_binary (take n q)) (ap (λ (m : ℕ). nat_lt m 2) (eqb-true d h s.0) ∙ b.0) rest.0, rest.1)
+
+pub prefix_that_covers : (q x : List ℕ) → is_path x ≡ true → covers q x ≡ true → is_prefix_path q ≡ true
+prefix_that_covers q x e c =
+    let p = and_parts (are_binary (take 32 x)) (is_address_part (drop 32 x)) e in
+    let both = front_too 32 q x c p.0 p.1 in
+    and_from (are_binary (take 32 q)) (is_address_front (drop 32 q)) both.0 both.1
+
+-- ---- nothing but what covers an identifier leaves no hole
+
+-- where nothing is free, a kept item covers the identifier
+covered_by : {A : Type 0} (prefix : A → List ℕ) (test : A → Bool) (items : List A) (authority x : List ℕ) → is_path x ≡ true → ((a : A) → IsIn a items → is_prefix_path (prefix a) ≡ true) → covers authority x ≡ true
+    → free authority (map prefix (filter test items)) x ≡ None → (a : A) × IsIn a items × (test a ≡ true) × (covers (prefix a) x ≡ true)
+covered_by prefix test items authority x e are inside none =
+    let prefixes = all_kept prefix is_prefix_path test items (λ a k t. are a k) in
+    let some = none_free_covered authority (map prefix (filter test items)) x e prefixes inside none in
+    let found = any_member (λ a. covers (prefix a) x) (filter test items) (sym (list_any-map (λ p. covers p x) prefix (filter test items)) ∙ some) in
+    let p = in_filter test items found.0 found.1 in
+    (found.0, p.0, p.1, found.2)
+
+module _ (r : Register) (accepted : IsAccepted r) where
+  zone_is_prefix : (z : Zone) → IsIn z r.zones → is_prefix_path z.prefix ≡ true
+  zone_is_prefix z k = range.zone_prefix z (holds_at is_zone_in_range r.zones z (zones_in_range r) k)
+
+  site_is_prefix : (s : Site) → IsIn s r.sites → is_prefix_path s.prefix ≡ true
+  site_is_prefix s k = range.site_prefix s (holds_at is_site_in_range r.sites s (sites_in_range r) k)
+
+  module _ (x : List ℕ) (e : is_path x ≡ true) where
+    -- no longer item covers than the one that is found
+    no_longer_covers : {A : Type 0} (prefix : A → List ℕ) (items : List A) (a b : A) → longest_match prefix items x ≡ Some a → IsIn b items → is_strictly_below (prefix b) (prefix a) ≡ true → covers (prefix b) x ≡ true → ⊥
+    no_longer_covers prefix items a b at k below c =
+        let found = longest_found prefix x items b k c in
+        let same = same_Some found.0 a (sym found.1 ∙ at) in
+        let le = subst (λ w. length (prefix b) ≤ length (prefix w)) same found.2 in
+        let lt = (below_parts (prefix b) (prefix a) below).1 in
+        omega arith
+
+    hole_is : (authority : List ℕ) (keys : List (List ℕ)) (q : List ℕ) → (free authority keys x ≡ None → ⊥) → hole_of authority keys x ≡ q → free authority keys x ≡ Some q
+    hole_is authority keys q some is = go (free authority keys x) refl is
+      where
+        go : (found : Option (List ℕ)) → free authority keys x ≡ found → unwrap_or found x ≡ q → free authority keys x ≡ Some q
+        go None at is = absurd (some at)
+        go (Some p) at is = at ∙ ap (λ (l : List ℕ). Some l) is
+
+    module _ (z : Zone) (here : zone_of r x ≡ Some z) where
+      zone_in : IsIn z r.zones × (covers z.prefix x ≡ true)
+      zone_in = longest_member zone_prefix x r.zones z here
+
+      node_hole : (q : List ℕ) → hole_of z.prefix (prefixes_in r z Node) x ≡ q → free z.prefix (prefixes_in r z Node) x ≡ Some q
+      node_hole q is = hole_is z.prefix (prefixes_in r z Node) q (λ none.
+          let y = covered_by zone_prefix (λ (w : Zone). is_strictly_below w.prefix z.prefix) r.zones z.prefix x e zone_is_prefix zone_in.1 none in
+          no_longer_covers zone_prefix r.zones z y.0 here y.1 y.2 y.3) is
+
+      ms_hole : (q : List ℕ) → site_of r x ≡ None → hole_of z.prefix (prefixes_in r z Ms) x ≡ q → free z.prefix (prefixes_in r z Ms) x ≡ Some q
+      ms_hole q unsited is = hole_is z.prefix (prefixes_in r z Ms) q (λ none.
+          let s = covered_by site_prefix (λ (t : Site). covers z.prefix t.prefix) r.sites z.prefix x e site_is_prefix zone_in.1 none in
+          let found = longest_found site_prefix x r.sites s.0 s.1 s.3 in
+          none-some found.0 (sym unsited ∙ found.1)) is
+
+      part_is : (s : Site) (q : List ℕ) → site_of r x ≡ Some s → part_of_site r s x ≡ q → free s.prefix (prefixes_below_site r s) x ≡ Some q
+      part_is s q at is = hole_is s.prefix (prefixes_below_site r s) q (λ none.
+          let t = covered_by site_prefix (λ (u : Site). is_strictly_below u.prefix s.prefix) r.sites s.prefix x e site_is_prefix (longest_member site_prefix x r.sites s at).1 none in
+          no_longer_covers site_prefix r.sites s t.0 at t.1 t.2 t.3) is
+
+      -- ---- a hole
+      hole_whether : (s : Site) (q : List ℕ) (b : Bool) → cond b (NotRegistered (part_of_site r s x) (locators_of r z.group)) (Registered s.prefix (locators_of r z.group)) ≡ Hole q → ⊥
+      hole_whether s q true is = cc
+      hole_whether s q false is = cc
+
+      hole_sited : (q : List ℕ) (found : Option Site) → site_of r x ≡ found → option_map_or (λ s. assigned_site r z s x) found (Hole (hole_of z.prefix (prefixes_in r z Ms) x)) ≡ Hole q → free z.prefix (prefixes_in r z Ms) x ≡ Some q
+      hole_sited q None at is = let same : hole_of z.prefix (prefixes_in r z Ms) x ≡ q = cc is in ms_hole q at same
+      hole_sited q (Some s) at is = absurd (hole_whether s q (length s.etrs == 0) is)
+
+      hole_by_role : (q : List ℕ) (role : Role) → assigned_in r z role x ≡ Hole q → free z.prefix (prefixes_in r z role) x ≡ Some q
+      hole_by_role q Node is = let same : hole_of z.prefix (prefixes_in r z Node) x ≡ q = cc is in node_hole q same
+      hole_by_role q Ms is = hole_sited q (site_of r x) refl is
+
+      -- ---- a part of a site
+      part_whether : (q : List ℕ) (servers : List Locator) (s : Site) → site_of r x ≡ Some s → (b : Bool) → cond b (NotRegistered (part_of_site r s x) (locators_of r z.group)) (Registered s.prefix (locators_of r z.group)) ≡ NotRegistered q servers → IsPartOfItsSite r x q servers
+      part_whether q servers s at true is =
+          let same : part_of_site r s x ≡ q = cc is in
+          let set : locators_of r z.group ≡ servers = cc is in
+          record { site = s; its_site = at; is_free = part_is s q at same; zone = z; its_zone = here; its_servers = sym set }
+      part_whether q servers s at false is = absurd cc
+
+      part_sited : (q : List ℕ) (servers : List Locator) (found : Option Site) → site_of r x ≡ found → option_map_or (λ s. assigned_site r z s x) found (Hole (hole_of z.prefix (prefixes_in r z Ms) x)) ≡ NotRegistered q servers → IsPartOfItsSite r x q servers
+      part_sited q servers None at is = absurd cc
+      part_sited q servers (Some s) at is = part_whether q servers s at (length s.etrs == 0) is
+
+      part_by_role : (q : List ℕ) (servers : List Locator) (role : Role) → assigned_in r z role x ≡ NotRegistered q servers → IsPartOfItsSite r x q servers
+      part_by_role q servers Node is = absurd cc
+      part_by_role q servers Ms is = part_sited q servers (site_of r x) refl is
+
+  assigned_at : (x : List ℕ) (z : Zone) → zone_of r x ≡ Some z → assignment r x ≡ assigned_in r z z.kind x
+  assigned_at x z e = ap (λ (found : Option Zone). option_map_or (λ (w : Zone). assigned_in r w w.kind x) found (Hole [])) e
+
+  pub hole_is_free_in : (x q : List ℕ) → is_path x ≡ true → assignment r x ≡ Hole q → (z : Zone) × (zone_of r x ≡ Some z) × (free z.prefix (prefixes_in r z z.kind) x ≡ Some q)
+  hole_is_free_in x q e is =
+      let found = zone_found r accepted x in
+      (found.0, found.1, hole_by_role x e found.0 found.1 q found.0.kind (sym (assigned_at x found.0 found.1) ∙ is))
+
+  pub part_is_free_in : (x q : List ℕ) (servers : List Locator) → is_path x ≡ true → assignment r x ≡ NotRegistered q servers → IsPartOfItsSite r x q servers
+  part_is_free_in x q servers e is =
+      let found = zone_found r accepted x in
+      part_by_role x e found.0 found.1 q servers found.0.kind (sym (assigned_at x found.0 found.1) ∙ is)
+
+  -- ---- numbers of an answer
+  pub locators_fit : (name : List ℕ) → are_locators (locators_of r name) ≡ true
+  locators_fit name = go (group_named r name) refl
+    where
+      go : (found : Option Group) → group_named r name ≡ found → are_locators (option_map_or (λ (g : Group). g.locators) found []) ≡ true
+      go None e = refl
+      go (Some g) e = range.group_locators g (holds_at is_group_in_range r.groups g (groups_in_range r) (found_in (λ (h : Group). is_same_name h.name name) r.groups g e))
+
+  -- what holds of a hole, and of each outcome with the servers of a group, holds of the assignment
+  module _ (x : List ℕ) (P : Outcome → Type 0) (hole : (q : List ℕ) → P (Hole q)) (part : (q name : List ℕ) → P (NotRegistered q (locators_of r name))) (site : (q name : List ℕ) → P (Registered q (locators_of r name))) where
+    whether : (z : Zone) (s : Site) (b : Bool) → P (cond b (NotRegistered (part_of_site r s x) (locators_of r z.group)) (Registered s.prefix (locators_of r z.group)))
+    whether z s true = part (part_of_site r s x) z.group
+    whether z s false = site s.prefix z.group
+
+    by_site : (z : Zone) (found : Option Site) → P (option_map_or (λ s. assigned_site r z s x) found (Hole (hole_of z.prefix (prefixes_in r z Ms) x)))
+    by_site z None = hole (hole_of z.prefix (prefixes_in r z Ms) x)
+    by_site z (Some s) = whether z s (length s.etrs == 0)
+
+    by_role : (z : Zone) (role : Role) → P (assigned_in r z role x)
+    by_role z Node = hole (hole_of z.prefix (prefixes_in r z Node) x)
+    by_role z Ms = by_site z (site_of r x)
+
+    by_zone : (found : Option Zone) → P (option_map_or (λ z. assigned_in r z z.kind x) found (Hole []))
+    by_zone None = hole []
+    by_zone (Some z) = by_role z z.kind
+
+    assigned_cases : P (assignment r x)
+    assigned_cases = by_zone (zone_of r x)
+
+  -- the numbers of a record, its prefix apart
+  abbrev Fits : ReferralRecord → Type 0
+  Fits v = (v.ttl ≤ 1440) × (length v.servers ≤ 8) × (are_locators v.servers ≡ true)
+
+  outcome_fits : (x : List ℕ) → Fits (record_of (assignment r x))
+  outcome_fits x = assigned_cases x (λ o. Fits (record_of o))
+      (λ q. (omega arith, omega arith, refl))
+      (λ q name. (omega arith, few_locators r accepted name, locators_fit name))
+      (λ q name. (omega arith, few_locators r accepted name, locators_fit name))
+
+  answer_fits : (x : List ℕ) (next : Option Zone) → Fits (option_map_or (referral_to r) next (record_of (assignment r x)))
+  answer_fits x None = outcome_fits x
+  answer_fits x (Some w) = (omega arith, few_locators r accepted w.group, locators_fit w.group)
+
+  said_fits : (x : List ℕ) (found : Option Zone) → Fits (option_map_or (λ z. says_from r z x) found (not_authoritative x))
+  said_fits x None = (omega arith, omega arith, refl)
+  said_fits x (Some z) = answer_fits x (next_zone r (length z.prefix) x)
+
+  pub sendable : (l : Locator) (x : List ℕ) → is_path x ≡ true → IsSendable (says r l x)
+  sendable l x e =
+      let fits = said_fits x (longest_match zone_prefix (served_zones r l) x) in
+      record {
+        is_prefix = prefix_that_covers (says r l x).prefix x e (says_what_covers r accepted x l);
+        ttl_fits = fits.0;
+        few_servers = fits.1;
+        servers_fit = fits.2;
+      }

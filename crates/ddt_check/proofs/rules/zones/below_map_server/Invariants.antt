@@ -1,0 +1,15 @@
+use Rattle.std.proofs.Common.{◌≡◌, take, IsPermutation}
+use Rattle.std.specs.Option.{option_map, option_copied}
+use Rattle.ddt_register.specs.declared.zone.Zone.{Zone}
+use Rattle.ddt_register.specs.declared.register.Register.{Register}
+use Rattle.ddt_check.specs.Rules.{IsLeastRow, is_below_map_server}
+use Rattle.ddt_check.proofs.LeastRowLemmas.{item_at}
+use Rattle.ddt_check.proofs.BelowLemmas.{IsTop}
+use Rattle.ddt_check.proofs.rules.zones.below_map_server.Given as goal
+
+abbrev pub invariant-loop-z : goal.invariant-loop-z
+invariant-loop-z l = record {
+  rows : (r : Register) → IsPermutation r.zones l.zones
+      → IsLeastRow (item_at (λ (z : Zone). z.row) (is_below_map_server r) (take l.z-index l.zones)) l.least;
+  top : IsTop l.zones l.z-index (option_map (λ (z : Zone). z.prefix) (option_copied l.top));
+}

@@ -1,0 +1,11 @@
+use Rattle.std.proofs.Common.{◌≡◌, ℕ, false, take, IsPermutation}
+use Rattle.ddt_register.specs.declared.zone.Zone.{Zone}
+use Rattle.ddt_register.specs.declared.register.Register.{Register}
+use Rattle.ddt_check.specs.declared.fault.Rule.TheVariants as rules
+use Rattle.ddt_check.specs.Rules.{IsLeastRow, broken, is_of_unknown_group}
+use Rattle.ddt_check.proofs.LeastRowLemmas.{item_at}
+use Rattle.ddt_check.proofs.rules.zones.of_unknown_group.Given as goal
+
+abbrev pub invariant-loop-z : goal.invariant-loop-z
+invariant-loop-z l = (r : Register) → IsPermutation r.zones l.zones → IsPermutation r.groups l.groups → IsLeastRow
+    (item_at (λ (x : Zone). x.row) (is_of_unknown_group r) (take l.z-index l.zones)) l.least

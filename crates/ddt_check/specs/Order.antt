@@ -1,0 +1,25 @@
+-- The order that the lists are sorted in: by the digits of a prefix or the bytes of a name, then by the row.
+use Rattle.std.specs.Prelude.{ℕ, List, IsSorted}
+use Rattle.std.specs.declared.cmp.Ordering.{Ordering}
+use Rattle.std.specs.Ordering.{nat_cmp, ordering_then}
+use Rattle.std.specs.Cmp.Lexicographic.{slice_cmp}
+use Rattle.ddt_register.specs.declared.zone.Zone.{Zone}
+use Rattle.ddt_register.specs.declared.site.Site.{Site}
+use Rattle.ddt_register.specs.declared.group.Group.{Group}
+
+-- how two items compare by a key, and by their rows where they have one key
+abbrev pub in_order : {A : Type 0} → (A → List ℕ) → (A → ℕ) → A → A → Ordering
+in_order key row a b = ordering_then (slice_cmp nat_cmp (key a) (key b)) (nat_cmp (row a) (row b))
+
+abbrev pub IsInOrder : {A : Type 0} → (A → List ℕ) → (A → ℕ) → List A → Type 0
+IsInOrder key row xs = IsSorted (in_order key row) xs
+
+-- zones by prefix and row, sites by prefix and row, groups by name and row
+abbrev pub AreZonesInOrder : List Zone → Type 0
+AreZonesInOrder zones = IsInOrder (λ z. z.prefix) (λ z. z.row) zones
+
+abbrev pub AreSitesInOrder : List Site → Type 0
+AreSitesInOrder sites = IsInOrder (λ s. s.prefix) (λ s. s.row) sites
+
+abbrev pub AreGroupsInOrder : List Group → Type 0
+AreGroupsInOrder groups = IsInOrder (λ g. g.name) (λ g. g.row) groups

@@ -1,0 +1,35 @@
+//! Laws of every accepted register, over the definitions alone: each is the contract of a function that does nothing.
+//! From them it follows that referrals followed from the root over honest servers end in the assignment.
+
+ghost use Rattle.ddt_register.specs.declared.register.Register.{Register};
+ghost use Rattle.ddt_check.specs.Rules.{IsAccepted};
+ghost use Rattle.ddt_check.specs.Laws.{EachIdentifierHasOneZone, TheRootIsServed, EachLocatorIsOfOneGroup, ServersReferDownwards, ReferralsAreToZones, FinalAnswersAreTheAssignment, AnswersCover, AnswersHaveServers, ServersOfAGroupAgree, AnswersCanBeSent, RegisteredPrefixesAreSites, NegativesHoldOfAll, HolesAreFree, PartsOfSitesAreFree};
+
+/// One zone is the longest that covers an identifier; DDT nodes serve everything at 1 to 8 locators, the roots; and a
+/// locator serves the zones of one group alone (RFC 8111, section 4).
+pub fn each_identifier_has_a_zone()
+    ensures one_zone { (r : Register) → IsAccepted r → EachIdentifierHasOneZone r }
+    ensures root { (r : Register) → IsAccepted r → TheRootIsServed r }
+    ensures one_group { (r : Register) → IsAccepted r → EachLocatorIsOfOneGroup r }
+{}
+
+/// What an honest server says of an identifier that one of its zones covers: a referral strictly downwards, to a zone
+/// that covers the identifier, or the record of the assignment (RFC 8111, sections 6.1, 7.1 and 7.2).
+pub fn honest_servers_lead_to_the_assignment()
+    ensures downwards { (r : Register) → IsAccepted r → ServersReferDownwards r }
+    ensures to_zones { (r : Register) → IsAccepted r → ReferralsAreToZones r }
+    ensures decided { (r : Register) → IsAccepted r → FinalAnswersAreTheAssignment r }
+    ensures cover { (r : Register) → IsAccepted r → AnswersCover r }
+    ensures servers { (r : Register) → IsAccepted r → AnswersHaveServers r }
+    ensures sendable { (r : Register) → IsAccepted r → AnswersCanBeSent r }
+    ensures agree { (r : Register) → IsAccepted r → ServersOfAGroupAgree r }
+{}
+
+/// What the assignment of one identifier says of others: a registered prefix is a site, and says nothing of them; the
+/// prefix of a hole, or of a part of a site that isn't registered, is assigned the same for each that it covers.
+pub fn negatives_hold_of_all_that_they_cover()
+    ensures registered { (r : Register) → IsAccepted r → RegisteredPrefixesAreSites r }
+    ensures negative { (r : Register) → IsAccepted r → NegativesHoldOfAll r }
+    ensures hole { (r : Register) → IsAccepted r → HolesAreFree r }
+    ensures part { (r : Register) → IsAccepted r → PartsOfSitesAreFree r }
+{}

@@ -1,0 +1,80 @@
+-- Two fronts of one path, and what is strictly below another.
+use Rattle.std.proofs.Common.{◌≡◌, ℕ, ◌<◌, ◌≤◌, true, not, List, [], ◌∷◌, ◌++◌, length, take, drop, refl, sym, ap, ◌∙◌, arith, inl, inr}
+use Rattle.std.specs.Prelude.{◌==◌, ◌&&◌, nat_le}
+use Rattle.std.proofs.lemmas.Bool.{and_parts, and_from, or_cases, or_left, or_right, false≢true, eqb-true, eq-eqb, not-true, not_from_false, false_from_ne_true, cases_lt, le-leb, leb-true}
+use Rattle.std.proofs.lemmas.List.{take_all, take-append-drop, length-take}
+use Rattle.ddt_path.specs.Covers.{covers, overlaps, is_same_path, is_strictly_below, shared_len}
+use Rattle.ddt_path.proofs.CoverLemmas.{covers_self, covers_trans, covers-append, take-covered, length-covered, covered_same}
+use Rattle.ddt_path.proofs.ShareLemmas.{covers-take, shared_len-le, shared_len_le_second}
+
+-- of two fronts the longer begins with the shorter
+pub front_covers : (p q x : List ℕ) → covers p x ≡ true → covers q x ≡ true → length p ≤ length q → covers p q ≡ true
+front_covers [] q x c d le = refl
+front_covers (a ∷ p) [] x c d le = absurd (omega arith)
+front_covers (a ∷ p) (b ∷ q) [] c d le = absurd (false≢true c)
+front_covers (a ∷ p) (b ∷ q) (e ∷ x) c d le =
+    let s = and_parts (a == e) (covers p x) c in
+    let t = and_parts (b == e) (covers q x) d in
+    and_from (a == b) (covers p q) (eq-eqb a b (eqb-true a e s.0 ∙ sym (eqb-true b e t.0))) (front_covers p q x s.1 t.1 (omega arith))
+
+-- and two of one length are the same
+pub one_front : (p q x : List ℕ) → covers p x ≡ true → covers q x ≡ true → length p ≡ length q → p ≡ q
+one_front p q x c d e = covered_same p q (front_covers p q x c d (omega arith)) (omega arith)
+
+pub front_below : (p q x : List ℕ) → covers p x ≡ true → covers q x ≡ true → length p < length q → is_strictly_below q p ≡ true
+front_below p q x c d lt =
+    and_from (covers p q) (not (covers q p)) (front_covers p q x c d (omega arith))
+    (not_from_false (covers q p) (false_from_ne_true (covers q p) (λ e. let le = length-covered q p e in absurd (omega arith))))
+
+pub below_parts : (q p : List ℕ) → is_strictly_below q p ≡ true → (covers p q ≡ true) × (length p < length q)
+below_parts q p e =
+    let s = and_parts (covers p q) (not (covers q p)) e in
+    elim (cases_lt (length p) (length q)) [
+      | inl lt ↦ (s.0, lt)
+      | inr le ↦ absurd (false≢true (sym (not-true (covers q p) s.1) ∙ ap (covers q) (covered_same p q s.0 le) ∙ covers_self q))
+    ]
+
+-- what overlaps a path overlaps each of its fronts
+pub overlaps_front : (c z q : List ℕ) → covers c z ≡ true → overlaps z q ≡ true → overlaps c q ≡ true
+overlaps_front c z q a o =
+    elim (or_cases (covers z q) (covers q z) o) [
+      | inl down ↦ or_left (covers c q) (covers q c) (covers_trans c z q a down)
+      | inr up ↦ elim (cases_lt (length q) (length c)) [
+        | inl lt ↦ or_right (covers c q) (covers q c) (front_covers q c z up a (omega arith))
+        | inr le ↦ or_left (covers c q) (covers q c) (front_covers c q z a up le)
+      ]
+    ]
+
+-- two paths that cover each other are one
+pub one_path : (p q : List ℕ) → covers p q ≡ true → covers q p ≡ true → is_same_path p q ≡ true
+one_path [] [] e f = refl
+one_path [] (y ∷ q) e f = absurd (false≢true f)
+one_path (x ∷ p) [] e f = absurd (false≢true e)
+one_path (x ∷ p) (y ∷ q) e f =
+    let a = and_parts (x == y) (covers p q) e in
+    let b = and_parts (y == x) (covers q p) f in
+    rw (a.0, one_path p q a.1 b.1) refl
+
+-- ---- the longest common front
+
+pub common_covers : (p q : List ℕ) → (covers (take (shared_len p q) p) p ≡ true) × (covers (take (shared_len p q) p) q ≡ true)
+common_covers p q =
+    let n = shared_len p q in
+    let le : n ≤ length p = shared_len-le p q in
+    let first : covers (take n p) (take n p ++ drop n p) ≡ true = covers-append (take n p) (drop n p) in
+    let whole : take (length q) q ≡ q = take_all (length q) q (omega arith) in
+    let second = covers-take n (length q) p q le in (
+      ap (covers (take n p)) (sym (take-append-drop n p)) ∙ first,
+      ap (covers (take n p)) (sym whole) ∙ second ∙ and_from (nat_le n (length q)) (nat_le n n) (le-leb n (length q) (shared_len_le_second p q)) (le-leb n n (omega arith)),
+    )
+
+pub common_is_longest : (p q front : List ℕ) → covers front p ≡ true → covers front q ≡ true → covers front (take (shared_len p q) p) ≡ true
+common_is_longest p q front c d =
+    let l = length front in
+    let n = shared_len p q in
+    let fits : l ≤ length p = length-covered front p c in
+    let whole : take (length q) q ≡ q = take_all (length q) q (omega arith) in
+    let both : covers (take l p) (take (length q) q) ≡ true = rw (take-covered front p c, whole) d in
+    let shared = (and_parts (nat_le l (length q)) (nat_le l n) (sym (covers-take l (length q) p q fits) ∙ both)).1 in
+    let le : l ≤ length (take n p) = omega (arith, leb-true l n shared, length-take n p) in
+    front_covers front (take n p) p c (common_covers p q).0 le

@@ -1,0 +1,16 @@
+-- Locators that pass for one are one.
+use Rattle.std.proofs.Common.{◌≡◌, ℕ, true, ap, refl}
+use Rattle.std.proofs.lemmas.Bool.{false≢true, eqb-true, eq-eqb}
+use Rattle.ddt_path.specs.declared.locator.Locator.{Locator}
+use Rattle.ddt_path.specs.declared.locator.Locator.TheVariants.{V4, V6}
+use Rattle.ddt_path.specs.Locators.{is_same_locator}
+
+pub same_locator : (m l : Locator) → is_same_locator m l ≡ true → m ≡ l
+same_locator (V4 a) (V4 b) e = ap (λ (n : ℕ). V4 n) (eqb-true a b e)
+same_locator (V6 a) (V6 b) e = ap (λ (n : ℕ). V6 n) (eqb-true a b e)
+same_locator (V4 a) (V6 b) e = absurd (false≢true e)
+same_locator (V6 a) (V4 b) e = absurd (false≢true e)
+
+pub is_same_locator_self : (l : Locator) → is_same_locator l l ≡ true
+is_same_locator_self (V4 a) = eq-eqb a a refl
+is_same_locator_self (V6 a) = eq-eqb a a refl

@@ -1,0 +1,139 @@
+-- Members of a list, and tests that hold of them.
+use Rattle.std.proofs.Common.{◌≡◌, ◌⊎◌, ℕ, zero, suc, ◌+◌, ◌<◌, ◌≤◌, Bool, true, false, cond, ◌&&◌, ◌||◌, ◌==◌, List, [], ◌∷◌, length, get_or, map, take, drop, find, Option, Some, None, refl, sym, ap, subst, ◌∙◌, arith, rules, inl, inr, nat_le}
+use Rattle.std.specs.Prelude.{nat_lt, unwrap_or, is_some}
+use Rattle.std.specs.List.{list_any, list_all, filter, All, AllByRecursion, Contains}
+use Rattle.std.specs.Option.{option_or}
+use Rattle.std.proofs.lemmas.Bool.{cond-true, cond-false, false≢true, and_parts, or_parts, eq-eqb, lt-ltb, ltb-true}
+use Rattle.std.proofs.lemmas.List.{drop_more, take_more}
+use Rattle.std.proofs.lemmas.List.Folds.{find-append}
+use Rattle.std.proofs.lemmas.List.Elements.{All-from_recursion}
+
+abbrev pub IsIn : {A : Type 0} → A → List A → Type 0
+IsIn a [] = ⊥
+IsIn a (b ∷ rest) = (a ≡ b) ⊎ IsIn a rest
+
+pub in_at : {A : Type 0} (xs : List A) (i : ℕ) (x : A) → i < length xs → x ≡ get_or xs i x → IsIn x xs
+in_at [] i x lt is = absurd (omega arith)
+in_at (y ∷ xs) zero x lt is = inl is
+in_at (y ∷ xs) (suc i) x lt is = inr (in_at xs i x (omega arith) is)
+
+pub in_contained : {A : Type 0} (xs : List A) (x : A) → Contains xs x → IsIn x xs
+in_contained xs x k = in_at xs k.0 x k.1 (sym k.2)
+
+pub contained : {A : Type 0} (xs : List A) (x : A) → IsIn x xs → Contains xs x
+contained [] x k = absurd k
+contained (y ∷ xs) x (inl same) = (0, omega arith, sym same)
+contained (y ∷ xs) x (inr later) = let k = contained xs x later in (suc k.0, omega (arith, k.1), k.2)
+
+in_kept : {A : Type 0} (test : A → Bool) (y : A) (xs kept : List A) (x : A) → (IsIn x kept → IsIn x xs × (test x ≡ true)) → (b : Bool) → test y ≡ b → IsIn x (cond b (y ∷ kept) kept) → IsIn x (y ∷ xs) × (test x ≡ true)
+in_kept test y xs kept x ih true e (inl same) = (inl same, ap test same ∙ e)
+in_kept test y xs kept x ih true e (inr later) = let p = ih later in (inr p.0, p.1)
+in_kept test y xs kept x ih false e later = let p = ih later in (inr p.0, p.1)
+
+pub in_filter : {A : Type 0} (test : A → Bool) (xs : List A) (x : A) → IsIn x (filter test xs) → IsIn x xs × (test x ≡ true)
+in_filter test [] x h = absurd h
+in_filter test (y ∷ xs) x h = in_kept test y xs (filter test xs) x (in_filter test xs x) (test y) refl h
+
+in_more : {A : Type 0} (y : A) (kept : List A) (x : A) (b : Bool) → IsIn x kept → IsIn x (cond b (y ∷ kept) kept)
+in_more y kept x true h = inr h
+in_more y kept x false h = h
+
+pub filter_in : {A : Type 0} (test : A → Bool) (xs : List A) (x : A) → IsIn x xs → test x ≡ true → IsIn x (filter test xs)
+filter_in test [] x h e = absurd h
+filter_in test (y ∷ xs) x (inl same) e = subst (IsIn x) (sym (cond-true (test y) (y ∷ filter test xs) (filter test xs) (ap test (sym same) ∙ e))) (inl same)
+filter_in test (y ∷ xs) x (inr later) e = in_more y (filter test xs) x (test y) (filter_in test xs x later e)
+
+-- tests that agree at each member keep the same members
+pub filter_same : {A : Type 0} (p q : A → Bool) (xs : List A) → ((x : A) → IsIn x xs → p x ≡ q x) → filter p xs ≡ filter q xs
+filter_same p q [] h = refl
+filter_same p q (x ∷ xs) h = rw (h x (inl refl), filter_same p q xs (λ y k. h y (inr k))) refl
+
+pub all_of : {A : Type 0} (test : A → Bool) (xs : List A) → ((x : A) → IsIn x xs → test x ≡ true) → list_all test xs ≡ true
+all_of test [] h = refl
+all_of test (x ∷ xs) h = rw (h x (inl refl), all_of test xs (λ y k. h y (inr k))) refl
+
+pub none_of : {A : Type 0} (test : A → Bool) (xs : List A) → ((x : A) → IsIn x xs → test x ≡ false) → list_any test xs ≡ false
+none_of test [] h = refl
+none_of test (x ∷ xs) h = rw (h x (inl refl), none_of test xs (λ y k. h y (inr k))) refl
+
+pub fails_at : {A : Type 0} (test : A → Bool) (xs : List A) (x : A) → list_any test xs ≡ false → IsIn x xs → test x ≡ false
+fails_at test [] x e h = absurd h
+fails_at test (y ∷ xs) x e (inl same) = ap test same ∙ (or_parts (test y) (list_any test xs) e).0
+fails_at test (y ∷ xs) x e (inr later) = fails_at test xs x (or_parts (test y) (list_any test xs) e).1 later
+
+pub holds_at : {A : Type 0} (test : A → Bool) (xs : List A) (x : A) → list_all test xs ≡ true → IsIn x xs → test x ≡ true
+holds_at test [] x e h = absurd h
+holds_at test (y ∷ xs) x e (inl same) = ap test same ∙ (and_parts (test y) (list_all test xs) e).0
+holds_at test (y ∷ xs) x e (inr later) = holds_at test xs x (and_parts (test y) (list_all test xs) e).1 later
+
+-- what comes after an item is a member and stands in a higher row
+pub in_later : {A : Type 0} (xs : List A) (n : ℕ) (y : A) → IsIn y (drop n xs) → IsIn y xs
+in_later xs zero y k = k
+in_later [] (suc n) y k = absurd k
+in_later (x ∷ xs) (suc n) y k = inr (in_later xs n y k)
+
+-- what is left at an item is that item and what comes after it
+pub in_left : {A : Type 0} (xs : List A) (i : ℕ) (x y : A) → i < length xs → x ≡ get_or xs i x → (y ≡ x) ⊎ IsIn y (drop (i + 1) xs) → IsIn y (drop i xs)
+in_left xs i x y lt is k = subst (IsIn y) (sym (drop_more xs i x lt ∙ ap (λ z. z ∷ drop (i + 1) xs) (sym is))) k
+
+pub list_any-map : {A B : Type 0} (test : B → Bool) (f : A → B) (xs : List A) → list_any test (map f xs) ≡ list_any (λ x. test (f x)) xs
+list_any-map test f [] = refl
+list_any-map test f (x ∷ xs) = ap (λ b. test (f x) || b) (list_any-map test f xs)
+
+pub list_all-map : {A B : Type 0} (test : B → Bool) (f : A → B) (xs : List A) → list_all test (map f xs) ≡ list_all (λ x. test (f x)) xs
+list_all-map test f [] = refl
+list_all-map test f (x ∷ xs) = ap (λ b. test (f x) && b) (list_all-map test f xs)
+
+pub all_kept : {A B : Type 0} (f : A → B) (good : B → Bool) (test : A → Bool) (xs : List A) → ((a : A) → IsIn a xs → test a ≡ true → good (f a) ≡ true) → list_all good (map f (filter test xs)) ≡ true
+all_kept f good test xs h = list_all-map good f (filter test xs) ∙ all_of (λ x. good (f x)) (filter test xs) (λ x k. let p = in_filter test xs x k in h x p.0 p.1)
+
+-- what holds of all that is made of one list holds of a list of the same image
+each_made : {A B C : Type 0} (P : C → Type 0) (f : A → C) (g : B → C) (xs : List A) (ys : List B) → ((y : B) → IsIn y ys → P (g y)) → map f xs ≡ map g ys → AllByRecursion (λ x. P (f x)) xs
+each_made P f g [] ys h e = tt
+each_made P f g (x ∷ xs) [] h e = absurd cc
+each_made P f g (x ∷ xs) (y ∷ ys) h e =
+    let first : f x ≡ g y = cc in
+    let rest : map f xs ≡ map g ys = cc in
+    (subst P (sym first) (h y (inl refl)), each_made P f g xs ys (λ z k. h z (inr k)) rest)
+
+pub all_made : {A B C : Type 0} (P : C → Type 0) (f : A → C) (g : B → C) (xs : List A) (ys : List B) → ((y : B) → IsIn y ys → P (g y)) → map f xs ≡ map g ys → All (λ x. P (f x)) xs
+all_made P f g xs ys h e = All-from_recursion (λ x. P (f x)) xs (each_made P f g xs ys h e)
+
+-- what is found is a member that passes
+none≢some : {A : Type 0} (x : A) → None ≡ Some x → ⊥
+none≢some x e = search (rules, e)
+
+same_item : {A : Type 0} (x y : A) → Some x ≡ Some y → y ≡ x
+same_item x y e = sym (ap (λ o. unwrap_or o x) e)
+
+found_case : {A : Type 0} (y : A) (xs : List A) (x : A) (rest : Option A) → (rest ≡ Some x → IsIn x xs) → (b : Bool) → cond b (Some y) rest ≡ Some x → IsIn x (y ∷ xs)
+found_case y xs x rest ih true e = inl (same_item y x e)
+found_case y xs x rest ih false e = inr (ih e)
+
+pub found_in : {A : Type 0} (test : A → Bool) (xs : List A) (x : A) → find test xs ≡ Some x → IsIn x xs
+found_in test [] x e = absurd (none≢some x e)
+found_in test (y ∷ xs) x e = found_case y xs x (find test xs) (found_in test xs x) (test y) e
+
+found_case_passes : {A : Type 0} (test : A → Bool) (y x : A) (rest : Option A) → (rest ≡ Some x → test x ≡ true) → (b : Bool) → test y ≡ b → cond b (Some y) rest ≡ Some x → test x ≡ true
+found_case_passes test y x rest ih true t e = ap test (same_item y x e) ∙ t
+found_case_passes test y x rest ih false t e = ih e
+
+pub found_passes : {A : Type 0} (test : A → Bool) (xs : List A) (x : A) → find test xs ≡ Some x → test x ≡ true
+found_passes test [] x e = absurd (none≢some x e)
+found_passes test (y ∷ xs) x e = found_case_passes test y x (find test xs) (found_passes test xs x) (test y) refl e
+
+-- the first that passes among one item more
+module _ {A : Type 0} (test : A → Bool) (xs : List A) (i : ℕ) (x : A) (lt : i < length xs) (is : x ≡ get_or xs i x) where
+  found_more : find test (take (i + 1) xs) ≡ option_or (find test (take i xs)) (cond (test x) (Some x) None)
+  found_more =
+      ap (find test) (take_more xs i x lt)
+      ∙ find-append test (take i xs) (get_or xs i x ∷ [])
+      ∙ ap (λ (y : A). option_or (find test (take i xs)) (cond (test y) (Some y) None)) (sym is)
+
+  pub found_now : find test (take i xs) ≡ None → test x ≡ true → find test (take (i + 1) xs) ≡ Some x
+  found_now before e = found_more ∙ ap (λ (o : Option A). option_or o (cond (test x) (Some x) None)) before ∙ cond-true (test x) (Some x) None e
+
+  pub found_before : (found : Option A) → find test (take i xs) ≡ found → (test x ≡ false) ⊎ (is_some found ≡ true) → find test (take (i + 1) xs) ≡ found
+  found_before None before (inl e) = found_more ∙ ap (λ (o : Option A). option_or o (cond (test x) (Some x) None)) before ∙ cond-false (test x) (Some x) None e
+  found_before None before (inr some) = absurd (false≢true some)
+  found_before (Some y) before either = found_more ∙ ap (λ (o : Option A). option_or o (cond (test x) (Some x) None)) before

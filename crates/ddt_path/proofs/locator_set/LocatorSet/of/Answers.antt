@@ -1,9 +1,0 @@
-use Rattle.ddt_path.specs.declared.locator.Locator.TheVariants.{V4}
-use Rattle.ddt_path.proofs.SlotLemmas.{IsFilled-copied, take-copied}
-use Rattle.ddt_path.proofs.locator_set.LocatorSet.of.Goals as goal
-
-pub invariant_of-result : goal.invariant_of-result
-invariant_of-result c = IsFilled-copied 8 (V4 0) c.args.locators.now c.copy_from_slice.new.self c.copy_from_slice.ensures.after c.if-locators-gt-MOST_LOCATORS.false
-
-pub returns : goal.returns
-returns c = (c.if-locators-gt-MOST_LOCATORS.false, take-copied 8 (V4 0) c.args.locators.now c.copy_from_slice.new.self c.copy_from_slice.ensures.after)

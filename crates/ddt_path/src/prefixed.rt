@@ -1,0 +1,23 @@
+//! Items that have a prefix: zones, sites, and what stands in a configuration under one.
+
+ghost use Rattle.std.specs.Prelude.{◌≡◌, List, ℕ};
+
+use crate::prefix::Prefix;
+
+/// An item that has a prefix.
+pub trait Prefixed {
+    /// The path of its prefix.
+    ghost path: { Self → List ℕ };
+
+    /// Its prefix.
+    fn prefix(&self) -> Prefix
+        ensures { result ≡ path self.now };
+}
+
+impl Prefixed for Prefix {
+    ghost path = { λ p. p };
+
+    fn prefix(&self) -> Prefix {
+        *self
+    }
+}

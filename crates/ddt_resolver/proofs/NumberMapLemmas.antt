@@ -1,0 +1,57 @@
+-- What is found in a map from numbers after an insert and a remove.
+use Rattle.std.proofs.Common.{◌≡◌, ℕ, ◌+◌, ◌-◌, ◌≤◌, ◌<◌, Bool, cond, true, false, Option, Some, None, refl, sym, ap, ◌∙◌, inl, inr, ◌⊎◌, nat_cmp, arith, eq-eqb}
+use Rattle.std.specs.Prelude.{◌≢◌, ◌==◌, is_some}
+use Rattle.std.specs.Cmp.{nat_cmp_total, unsigned_tied}
+use Rattle.std.specs.FinMap.{FinMap, get, insert, remove, len, contains_key, get-insert, get-remove, len-insert, len-remove, same_map, nat_cmp-IsAntisymmetric}
+use Rattle.std.proofs.lemmas.Option.{none-some, same_Some}
+use Rattle.std.proofs.lemmas.Bool.{cond-true, cond-false, eqb-true, false≢true}
+
+module _ {V : Type 0} (m : FinMap nat_cmp V) (k : ℕ) where
+  pub at_insert : (v : V) (q : ℕ) → get (insert m k v) q ≡ cond (q == k) (Some v) (get m q)
+  at_insert v q = get-insert nat_cmp_total m k v q ∙ ap (λ b. cond b (Some v) (get m q)) (unsigned_tied q k)
+
+  pub at_remove : (q : ℕ) → get (remove m k) q ≡ cond (q == k) None (get m q)
+  at_remove q = get-remove nat_cmp_total m k q ∙ ap (λ b. cond b None (get m q)) (unsigned_tied q k)
+
+  pub get-insert_same : (v : V) → get (insert m k v) k ≡ Some v
+  get-insert_same v = at_insert v k ∙ cond-true (k == k) (Some v) (get m k) (eq-eqb k k refl)
+
+  pub get-remove_same : get (remove m k) k ≡ None
+  get-remove_same = at_remove k ∙ cond-true (k == k) None (get m k) (eq-eqb k k refl)
+
+  -- what is found after an insert is what was inserted, or was there at another key
+  pub found_insert : (v : V) (q : ℕ) (w : V) → get (insert m k v) q ≡ Some w → ((q ≡ k) × (v ≡ w)) ⊎ ((q ≢ k) × (get m q ≡ Some w))
+  found_insert v q w found = by (q == k) refl
+    where
+      by : (b : Bool) → (q == k) ≡ b → ((q ≡ k) × (v ≡ w)) ⊎ ((q ≢ k) × (get m q ≡ Some w))
+      by true t = inl (eqb-true q k t, same_Some v w (sym (cond-true (q == k) (Some v) (get m q) t) ∙ sym (at_insert v q) ∙ found))
+      by false t = inr (λ e. false≢true (sym t ∙ eq-eqb q k e), sym (cond-false (q == k) (Some v) (get m q) t) ∙ sym (at_insert v q) ∙ found)
+
+  pub found_remove : (q : ℕ) (w : V) → get (remove m k) q ≡ Some w → (q ≢ k) × (get m q ≡ Some w)
+  found_remove q w found = by (q == k) refl
+    where
+      by : (b : Bool) → (q == k) ≡ b → (q ≢ k) × (get m q ≡ Some w)
+      by true t = absurd (none-some w (sym (cond-true (q == k) None (get m q) t) ∙ sym (at_remove q) ∙ found))
+      by false t = (λ e. false≢true (sym t ∙ eq-eqb q k e), sym (cond-false (q == k) None (get m q) t) ∙ sym (at_remove q) ∙ found)
+
+  -- how many there are: one that is there makes no more, any other one more
+  pub len_replaced : (v w : V) → get m k ≡ Some w → len (insert m k v) ≡ len m
+  len_replaced v w found = len-insert nat_cmp_total m k v ∙ cond-true (contains_key m k) (len m) (len m + 1) (ap (λ (o : Option V). is_some o) found)
+
+  grown : (b : Bool) (n : ℕ) → cond b n (n + 1) ≤ n + 1
+  grown true n = omega arith
+  grown false n = omega arith
+
+  pub len_inserted : (v : V) → len (insert m k v) ≤ len m + 1
+  len_inserted v = let e : len (insert m k v) ≡ cond (contains_key m k) (len m) (len m + 1) = len-insert nat_cmp_total m k v in omega (arith, grown (contains_key m k) (len m))
+
+  fewer : (b : Bool) (n : ℕ) → cond b (n - 1) n ≤ n
+  fewer true n = omega arith
+  fewer false n = omega arith
+
+  pub len_removed : len (remove m k) ≤ len m
+  len_removed = let e : len (remove m k) ≡ cond (contains_key m k) (len m - 1) (len m) = len-remove nat_cmp_total m k in omega (arith, fewer (contains_key m k) (len m))
+
+-- two maps that answer alike are one
+pub same_numbers : {V : Type 0} (m n : FinMap nat_cmp V) → ((q : ℕ) → get m q ≡ get n q) → m ≡ n
+same_numbers m n = same_map nat_cmp_total nat_cmp-IsAntisymmetric m n

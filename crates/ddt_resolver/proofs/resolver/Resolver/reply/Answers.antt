@@ -1,0 +1,15 @@
+use Rattle.std.proofs.Common.{sym, ap, ◌∙◌, refl}
+use Rattle.std.specs.FinMap.{get}
+use Rattle.ddt_wire.specs.Referral.{message_record}
+use Rattle.ddt_resolver.specs.State.{State}
+use Rattle.ddt_resolver.specs.TakeUp.{undecodable, unknown_nonce}
+use Rattle.ddt_resolver.proofs.resolver.Resolver.reply.Goals as goal
+
+pub returns-in-Err-clause-refused : goal.returns-in-Err-clause-refused
+returns-in-Err-clause-refused g c = λ source. undecodable (λ v spells. cc (c.in-Err.ensures.only v spells)) refl
+
+pub returns-in-None-clause-refused : goal.returns-in-None-clause-refused
+returns-in-None-clause-refused g c = λ source.
+    unknown_nonce c.nonce.result (message_record c.in-Ok.referral)
+    (record { message = c.in-Ok.referral; spells = c.in-Ok.ensures.found; same_nonce = sym c.nonce.ensures; same_record = refl })
+    (λ t l found. c.in-None.ensures.none t l (ap (λ (s : State). get s.pending t) c.self.view_is ∙ found)) refl

@@ -1,0 +1,13 @@
+use Rattle.std.proofs.Common.{sym, ap, ◌∙◌}
+use Rattle.ddt_cache.specs.Live.{Known}
+use Rattle.ddt_cache.specs.Saved.{stored_in}
+use Rattle.ddt_resolver.specs.State.{changed}
+use Rattle.ddt_resolver.proofs.StateLemmas.{moved_to_itself}
+use Rattle.ddt_resolver.proofs.sending.apply.Goals as goal
+
+pub returns-in-Ok-clause-applied : goal.returns-in-Ok-clause-applied
+returns-in-Ok-clause-applied g c =
+    c.in-Ok.ensures.stored ∙ ap (λ (k : Known). stored_in k c.in-Save.record) (moved_to_itself _ _ c.time-now.ensures c.in_order.ensures) ∙ ap (changed c.args.cache.now) (sym c.in-Save.is)
+
+pub returns-in-Err-clause-unchanged : goal.returns-in-Err-clause-unchanged
+returns-in-Err-clause-unchanged g c = c.in-Err.ensures.unchanged ∙ moved_to_itself _ _ c.time-now.ensures c.in_order.ensures

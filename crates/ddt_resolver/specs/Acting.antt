@@ -1,0 +1,36 @@
+-- What the parts of a resolver hand to each other.
+use Rattle.std.specs.Prelude.{ℕ, ◌≡◌, ◌<◌, ◌≤◌, length, Some}
+use Rattle.std.specs.FinMap.{get}
+use Rattle.ddt_path.specs.Path.{xeid_path}
+use Rattle.ddt_resolver.specs.declared.pending.Pending.{Pending}
+use Rattle.ddt_resolver.specs.declared.refusing.Taken.{Taken}
+use Rattle.ddt_resolver.specs.declared.sending.Change.{Change}
+use Rattle.ddt_resolver.specs.declared.sending.Change.TheVariants.{Keep, Save, Forget}
+use Rattle.ddt_resolver.specs.declared.answers.Why.TheVariants.{Exhausted}
+use Rattle.ddt_resolver.specs.declared.answers.Heard.{Heard}
+use Rattle.ddt_resolver.specs.declared.answers.Heard.TheVariants.{Followed, Answer, GaveUp}
+use Rattle.ddt_resolver.specs.State.{State, last_nonce, with_change, lodged, dropped, stored, request}
+use Rattle.ddt_resolver.specs.Records.{IsAbout, NamesServer, outcome_of}
+
+-- a reply that passed the tests, with the lookup that is pending
+pub record IsHeard (s : State) (taken : Taken) : Type 0 where
+  pub is_pending : get s.pending taken.ticket ≡ Some taken.lookup
+  pub about : IsAbout taken.told (xeid_path taken.lookup.x)
+  pub names_server : NamesServer taken.told
+  pub few : length taken.told.servers ≤ 8
+
+-- the record is saved, and its outcome is the lookup's
+pub record IsAnswered (s : State) (taken : Taken) (new : State) (heard : Heard) : Type 0 where
+  pub state : new ≡ dropped (stored s taken.told) taken.ticket
+  pub answer : heard ≡ Answer taken.ticket (outcome_of taken.told)
+
+-- a record that is to be saved has at most 8 servers
+abbrev pub IsSmall : Change → Type 0
+IsSmall Keep = Unit {0}
+IsSmall (Save rec) = length rec.servers ≤ 8
+IsSmall (Forget p) = Unit {0}
+
+-- a lookup goes on, or ends where no nonce is left
+pub data SendsOn (s : State) (t : ℕ) (l : Pending) (change : Change) (new : State) (heard : Heard) : Type 0 where
+  followed : s.next < last_nonce → new ≡ lodged (with_change s change) t l → heard ≡ Followed t (request s l) → SendsOn s t l change new heard
+  used_up : s.next ≡ last_nonce → new ≡ dropped s t → heard ≡ GaveUp t Exhausted → SendsOn s t l change new heard

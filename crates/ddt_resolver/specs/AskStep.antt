@@ -1,0 +1,62 @@
+-- The resolver's step on an ask (RFC 8111, section 7.3).
+use Rattle.std.specs.Prelude.{ℕ, ◌≡◌, ◌<◌, ◌≤◌, List, Option, None, Some, Result, Ok, Err}
+use Rattle.std.specs.FinMap.{len}
+use Rattle.ddt_path.specs.declared.xeid.Xeid.{Xeid}
+use Rattle.ddt_path.specs.declared.record.Outcome.{Outcome}
+use Rattle.ddt_path.specs.Path.{xeid_path}
+use Rattle.ddt_cache.specs.declared.entry.Entry.{Entry}
+use Rattle.ddt_cache.specs.Found.{IsFound}
+use Rattle.ddt_resolver.specs.declared.answers.Asked.{Asked}
+use Rattle.ddt_resolver.specs.declared.answers.Asked.TheVariants.{Answer, Sent}
+use Rattle.ddt_resolver.specs.declared.answers.AskError.{AskError}
+use Rattle.ddt_resolver.specs.declared.answers.AskError.TheVariants.{TooMany, Exhausted, Memory}
+use Rattle.ddt_resolver.specs.State.{State, last_nonce, most_pending, opening, lodged, request}
+use Rattle.ddt_resolver.specs.Records.{negative_answer, start_at}
+
+-- what an entry answers by itself
+abbrev pub answer_of : List ℕ → Entry → Option Outcome
+answer_of p e = negative_answer e.action p e.servers
+
+-- no answer is remembered, fewer than 1,024 lookups are pending, and a nonce is left
+pub record IsFree (s : State) (p : List ℕ) (e : Entry) : Type 0 where
+  pub unanswered : answer_of p e ≡ None
+  pub few : len s.pending < most_pending
+  pub nonce : s.next < last_nonce
+
+-- The step, where the entry e of the prefix p is found. `cached`: a negative entry answers at once. `full`: 1,024 lookups
+-- are pending. `used_up`: no nonce is left. `opened`: a lookup starts at the entry's servers; its ticket is its nonce.
+pub data Start (s : State) (x : Xeid) (p : List ℕ) (e : Entry) (new : State) (r : Result Asked AskError) : Type 0 where
+  cached : (o : Outcome) → answer_of p e ≡ Some o → new ≡ s → r ≡ Ok (Answer o) → Start s x p e new r
+  full : answer_of p e ≡ None → most_pending ≤ len s.pending → new ≡ s → r ≡ Err TooMany → Start s x p e new r
+  used_up : answer_of p e ≡ None → len s.pending < most_pending → s.next ≡ last_nonce → new ≡ s → r ≡ Err Exhausted → Start s x p e new r
+  opened : IsFree s p e
+      → new ≡ lodged s s.next (opening x e.servers (start_at p))
+      → r ≡ Ok (Sent s.next (request s (opening x e.servers (start_at p))))
+      → Start s x p e new r
+
+-- the step, at the entry that is found for the identifier
+pub record AskStep (s : State) (x : Xeid) (new : State) (r : Result Asked AskError) : Type 0 where
+  pub prefix : List ℕ
+  pub entry : Entry
+  pub found : IsFound s.known (xeid_path x) prefix entry
+  pub start : Start s x prefix entry new r
+
+-- the step would send a request, and so wants memory
+pub record AskWants (s : State) (x : Xeid) : Type 0 where
+  pub prefix : List ℕ
+  pub entry : Entry
+  pub found : IsFound s.known (xeid_path x) prefix entry
+  pub free : IsFree s prefix entry
+
+-- a fact of an answer but for Memory, and a fact of Memory alone
+abbrev pub UnlessMemory : Result Asked AskError → Type 0 → Type 0
+UnlessMemory (Err Memory) P = Unit {0}
+UnlessMemory (Err TooMany) P = P
+UnlessMemory (Err Exhausted) P = P
+UnlessMemory (Ok asked) P = P
+
+abbrev pub OnMemory : Result Asked AskError → Type 0 → Type 0
+OnMemory (Err Memory) P = P
+OnMemory (Err TooMany) P = Unit {0}
+OnMemory (Err Exhausted) P = Unit {0}
+OnMemory (Ok asked) P = Unit {0}

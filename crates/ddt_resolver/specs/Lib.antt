@@ -1,0 +1,12 @@
+pub mod State
+pub mod Records
+pub mod AskStep
+pub mod TakeUp
+pub mod Act
+pub mod TickStep
+pub mod Step
+pub mod Order
+pub mod Bound
+pub mod Table
+pub mod Acting
+pub mod Laws

@@ -1,0 +1,49 @@
+-- The resolver's step on a tick: the lookup that waits longest, of those whose deadline has come, goes on or ends.
+use Rattle.std.specs.Prelude.{ℕ, ◌≡◌, ◌+◌, ◌<◌, ◌≤◌, ◌⊎◌, true, false, length, None, Some}
+use Rattle.std.specs.FinMap.{get}
+use Rattle.ddt_path.specs.declared.record.ReferralRecord.{ReferralRecord}
+use Rattle.ddt_path.specs.declared.record.Outcome.TheVariants.{NotRegistered}
+use Rattle.ddt_resolver.specs.declared.pending.Pending.{Pending}
+use Rattle.ddt_resolver.specs.declared.answers.Why.TheVariants.{NoReply, Exhausted}
+use Rattle.ddt_resolver.specs.declared.answers.Ticked.{Ticked}
+use Rattle.ddt_resolver.specs.declared.answers.Ticked.TheVariants.{Nothing, Sent, Answer, GaveUp}
+use Rattle.ddt_resolver.specs.State.{State, last_nonce, lodged, dropped, request, tried_again, at_next}
+
+-- a pending lookup whose deadline has come, of these the one whose last request has the least nonce
+pub record IsDue (s : State) (t : ℕ) (l : Pending) : Type 0 where
+  pub is_pending : get s.pending t ≡ Some l
+  pub over : l.deadline ≤ s.known.time
+  pub least : (u : ℕ) (m : Pending) → get s.pending u ≡ Some m → m.deadline ≤ s.known.time → l.nonce ≤ m.nonce
+
+-- it has another try, at the same server or at the next one
+abbrev pub HasTry : Pending → Type 0
+HasTry l = (l.second ≡ false) ⊎ (l.place + 1 < length l.servers)
+
+-- The five cases. `again`: the same server gets a second request. `next_place`: after the second the next server gets a
+-- first. `answered`: no server is left, and one of the set has said that the site isn't registered. `no_reply`: none
+-- has. `used_up`: it has another try, but no nonce is left. Nothing is saved.
+pub data GoOn (s : State) (t : ℕ) (l : Pending) (new : State) (ticked : Ticked) : Type 0 where
+  again : l.second ≡ false → s.next < last_nonce
+      → new ≡ lodged s t (tried_again l) → ticked ≡ Sent t (request s (tried_again l)) → GoOn s t l new ticked
+  next_place : l.second ≡ true → l.place + 1 < length l.servers → s.next < last_nonce
+      → new ≡ lodged s t (at_next l) → ticked ≡ Sent t (request s (at_next l)) → GoOn s t l new ticked
+  answered : (rec : ReferralRecord) → l.second ≡ true → length l.servers ≤ l.place + 1 → l.kept ≡ Some rec
+      → new ≡ dropped s t → ticked ≡ Answer t (NotRegistered rec.prefix rec.servers) → GoOn s t l new ticked
+  no_reply : l.second ≡ true → length l.servers ≤ l.place + 1 → l.kept ≡ None
+      → new ≡ dropped s t → ticked ≡ GaveUp t NoReply → GoOn s t l new ticked
+  used_up : HasTry l → s.next ≡ last_nonce
+      → new ≡ dropped s t → ticked ≡ GaveUp t Exhausted → GoOn s t l new ticked
+
+-- the step: no deadline has come, or the lookup that is due goes on or ends
+pub data TickStep (s : State) (new : State) (ticked : Ticked) : Type 0 where
+  nothing : ((t : ℕ) (l : Pending) → get s.pending t ≡ Some l → s.known.time < l.deadline)
+      → new ≡ s → ticked ≡ Nothing → TickStep s new ticked
+  due : (t : ℕ) (l : Pending) → IsDue s t l → GoOn s t l new ticked → TickStep s new ticked
+
+-- the step would send a request, and so wants memory
+pub record TickWants (s : State) : Type 0 where
+  pub ticket : ℕ
+  pub lookup : Pending
+  pub is_due : IsDue s ticket lookup
+  pub has_try : HasTry lookup
+  pub nonce : s.next < last_nonce

@@ -1,0 +1,101 @@
+//! An ask: a remembered answer, or a new lookup.
+
+ghost use Rattle.std.specs.Prelude.{◌≡◌, IsTrue, IfOk};
+ghost use Rattle.ddt_path.specs.Path.{xeid_path, is_path};
+ghost use Rattle.ddt_cache.specs.Found.{IsFound};
+ghost use Rattle.ddt_resolver.specs.State.{moved};
+ghost use Rattle.ddt_resolver.specs.Records.{start_at as start_at_of};
+ghost use Rattle.ddt_resolver.specs.AskStep.{answer_of as answer_of_entry, AskStep, AskWants, UnlessMemory, OnMemory};
+ghost use Rattle.ddt_resolver.specs.Bound.{StartsWithin};
+
+use crate::answers::{AskError, Asked, Ticket};
+use crate::pending::Pending;
+use crate::resolver::{MOST_PENDING, Resolver};
+use ddt_cache::{Entry, Moment};
+use ddt_path::{Action, Outcome, Prefix, Xeid};
+use ddt_trie::PrefixMap;
+
+impl<M: PrefixMap<Entry>> Resolver<M> {
+    /// Asks for an identifier at `now`. Where a negative record that is remembered is the longest match, it answers at
+    /// once. Else a lookup starts at the longest match, or at the root, and answers its first request, to be sent.
+    ///
+    /// Refused as 1 TooMany where 1,024 lookups are pending, then as 2 Exhausted where no nonce is left, then as 3
+    /// Memory where memory for the request or the lookup is refused. A refused ask changes nothing but the time.
+    pub fn ask(&mut self, now: Moment, x: Xeid) -> Result<Asked, AskError>
+        ensures step { UnlessMemory result (AskStep (moved now self.old) x self.new result) }
+        ensures memory { OnMemory result ((self.new ≡ moved now self.old) × AskWants (moved now self.old) x) }
+        // However its servers answer, a lookup follows no more replies than 16 times the digits of the identifier and 2.
+        ensures bound { IfOk result (λ asked. StartsWithin self.new x asked) }
+        // What it asks for is an identifier.
+        ensures identifier { IsTrue (is_path (xeid_path x)) }
+    {
+        self.advance(now);
+        self.in_order();
+        self.start(x)
+    }
+
+    /// The longest match of an identifier at its time.
+    fn find(&mut self, x: Xeid) -> (Prefix, Entry)
+        ensures unchanged { self.new ≡ self.old }
+        ensures found { IsFound self.old.known (xeid_path x) result.0 result.1 }
+    {
+        self.cache.in_order();
+        let now = self.cache.time();
+        self.cache.find_copied(now, x)
+    }
+
+    /// The ask at its time.
+    fn start(&mut self, x: Xeid) -> Result<Asked, AskError>
+        ensures step { UnlessMemory result (AskStep self.old x self.new result) }
+        ensures memory { OnMemory result ((self.new ≡ self.old) × AskWants self.old x) }
+        ensures identifier { IsTrue (is_path (xeid_path x)) }
+    {
+        self.in_order();
+        let _identifier = Prefix::host(x);
+        let (prefix, entry) = self.find(x);
+        if let Some(outcome) = answer_of(prefix, &entry) {
+            return Ok(Asked::Answer(outcome));
+        }
+        if self.pending() >= MOST_PENDING {
+            return Err(AskError::TooMany);
+        }
+        if self.next_nonce() == u64::MAX {
+            return Err(AskError::Exhausted);
+        }
+        let ticket = Ticket::of(self.next_nonce());
+        match self.open(&Pending::opening(x, entry.servers, start_at(prefix))) {
+            Ok(outgoing) => Ok(Asked::Sent(ticket, outgoing)),
+            Err(_refused) => Err(AskError::Memory),
+        }
+    }
+
+    /// The nonce of the next request; the last one is never sent.
+    pub(crate) fn next_nonce(&self) -> u64
+        ensures { result ≡ self.now.next }
+    {
+        self.next
+    }
+}
+
+/// What an entry answers by itself: a negative one, that nothing is there.
+fn answer_of(prefix: Prefix, entry: &Entry) -> Option<Outcome>
+    ensures { result ≡ answer_of_entry prefix entry.now }
+{
+    let servers = entry.servers;
+    match entry.action {
+        Action::MsNotRegistered => Some(Outcome::NotRegistered { prefix, servers }),
+        Action::DelegationHole => Some(Outcome::Hole { prefix }),
+        _ => None,
+    }
+}
+
+/// The prefix of the entry at which a lookup starts; None for the root.
+fn start_at(prefix: Prefix) -> Option<Prefix>
+    ensures { result ≡ start_at_of prefix }
+{
+    if prefix.len() == 0 {
+        None
+    } else {
+        Some(prefix)
+    }
+}

@@ -1,0 +1,103 @@
+//! Which datagrams are taken as a reply: six tests in order, which change nothing.
+
+ghost use Rattle.std.specs.Prelude.{◌≡◌, IsTrue, false, IfOk, IfErr};
+ghost use Rattle.ddt_path.specs.Path.{xeid_path};
+ghost use Rattle.ddt_path.specs.declared.locator.Locator.{Locator as ALocator};
+ghost use Rattle.ddt_resolver.specs.Records.{IsAbout, NamesServer, IsReferral};
+ghost use Rattle.ddt_resolver.specs.TakeUp.{IsReplyTo, IsTaken, Ignores};
+
+use crate::answers::Ignored;
+use crate::pending::Pending;
+use crate::resolver::Resolver;
+use ddt_cache::Entry;
+use ddt_path::{Action, Locator, ReferralRecord, Xeid, is_same_locator};
+use ddt_trie::PrefixMap;
+use ddt_wire::read_referral;
+
+/// A reply and the lookup that waits for it.
+#[derive(Clone, Copy, Debug)]
+pub struct Taken {
+    /// The lookup's ticket.
+    pub ticket: u64,
+    /// The lookup.
+    pub lookup: Pending,
+    /// What the reply says.
+    pub told: ReferralRecord,
+}
+
+impl<M: PrefixMap<Entry>> Resolver<M> {
+    /// The lookup whose last request the bytes answer by its nonce. Refused as 1 Undecodable, then as 2 UnknownNonce.
+    fn reply(&self, bytes: &[u8]) -> Result<Taken, Ignored>
+        ensures found { IfOk result (λ r. IsReplyTo self.now bytes.now r.ticket r.lookup r.told) }
+        ensures refused { (source : ALocator) → IfErr result (λ why. Ignores self.now source bytes.now why) }
+    {
+        let referral = match read_referral(bytes) {
+            Ok(referral) => referral,
+            Err(_fault) => return Err(Ignored::Undecodable),
+        };
+        match self.table.with_nonce(referral.nonce()) {
+            Some((ticket, lookup)) => Ok(Taken {
+                ticket,
+                lookup,
+                told: referral.to_record(),
+            }),
+            None => Err(Ignored::UnknownNonce),
+        }
+    }
+
+    /// The reply that a datagram from a source is. Refused, in this order, as 1 Undecodable, 2 UnknownNonce,
+    /// 3 WrongSource, 4 Late, 5 NotCovering, 6 NoServers.
+    pub(crate) fn take_up(&self, source: Locator, bytes: &[u8]) -> Result<Taken, Ignored>
+        ensures taken { IfOk result (λ r. IsTaken self.now source bytes.now r.ticket r.lookup r.told) }
+        ensures refused { IfErr result (λ why. Ignores self.now source bytes.now why) }
+    {
+        self.in_order();
+        let reply = match self.reply(bytes) {
+            Ok(reply) => reply,
+            Err(why) => return Err(why),
+        };
+        if !is_same_locator(source, reply.lookup.server()) {
+            return Err(Ignored::WrongSource);
+        }
+        if reply.lookup.deadline <= self.time().millis() {
+            return Err(Ignored::Late);
+        }
+        if !is_about(&reply.told, reply.lookup.x) {
+            return Err(Ignored::NotCovering);
+        }
+        if !names_server(&reply.told) {
+            return Err(Ignored::NoServers);
+        }
+        Ok(reply)
+    }
+}
+
+/// Whether an action refers to other servers.
+fn is_referral(action: Action) -> bool
+    ensures yes { IsTrue result → IsReferral action }
+    ensures no { result ≡ false → IsReferral action → ⊥ }
+{
+    match action {
+        Action::NodeReferral | Action::MsReferral => true,
+        _ => false,
+    }
+}
+
+/// Whether a record is about an identifier: its prefix covers it, or the server isn't in charge of it.
+fn is_about(told: &ReferralRecord, x: Xeid) -> bool
+    ensures yes { IsTrue result → IsAbout told.now (xeid_path x) }
+    ensures no { result ≡ false → IsAbout told.now (xeid_path x) → ⊥ }
+{
+    match told.action {
+        Action::NotAuthoritative => true,
+        _ => told.prefix.covers_xeid(x),
+    }
+}
+
+/// Whether a record names a server, where it refers to others.
+fn names_server(told: &ReferralRecord) -> bool
+    ensures yes { IsTrue result → NamesServer told.now }
+    ensures no { result ≡ false → NamesServer told.now → ⊥ }
+{
+    !is_referral(told.action) || !told.servers.as_slice().is_empty()
+}

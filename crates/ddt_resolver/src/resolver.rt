@@ -1,0 +1,115 @@
+//! The resolver: what it remembers, what is pending, and its calls (RFC 8111, section 7.3).
+
+ghost use Rattle.std.specs.Prelude.{◌≡◌, ◌<◌, ◌≤◌, length, IsTrue, IfOk, IfErr, OnOk, OnErr};
+ghost use Rattle.std.specs.FinMap as map;
+ghost use Rattle.ddt_path.specs.Path.{xeid_path, is_path};
+ghost use Rattle.ddt_resolver.specs.State.{fresh, moved, dropped};
+ghost use Rattle.ddt_resolver.specs.AskStep.{AskStep, AskWants, UnlessMemory, OnMemory};
+ghost use Rattle.ddt_resolver.specs.Act.{HearStep, HearWants};
+ghost use Rattle.ddt_resolver.specs.Order.{IsInOrder};
+
+use crate::answers::{AskError, Asked, Heard, Ticket};
+use crate::table::Table;
+use ddt_cache::{Cache, Entry, Moment};
+use ddt_path::{Locator, LocatorSet, Prefix, Xeid};
+use ddt_trie::PrefixMap;
+use std::alloc::{AllocError, Global};
+use std::marker::Model;
+
+/// How many lookups may be pending.
+pub const MOST_PENDING: usize = 1024;
+
+/// A resolver: what it remembers of the referrals that it got, and the lookups that wait for a reply.
+#[derive(Drop)]
+pub struct Resolver<M: PrefixMap<Entry>> {
+    /// What it remembers, with the time and the root's servers.
+    pub(crate) cache: Cache<M>,
+    /// The pending lookups.
+    pub(crate) table: Table,
+    /// Its own address.
+    pub(crate) me: Locator,
+    /// The nonce of the next request.
+    pub(crate) next: u64,
+    /// Where it takes its memory from.
+    pub(crate) alloc: Global,
+}
+
+impl<M: PrefixMap<Entry>> Model for Resolver<M> {
+    ghost use Rattle.ddt_path.specs.contracts.locator.Locator as locator;
+    ghost use Rattle.ddt_cache.specs.contracts.entry.Entry as entry;
+    ghost use Rattle.ddt_resolver.specs.contracts.pending.Pending as pending;
+    ghost use Rattle.ddt_resolver.specs.State.{State, state_code};
+    ghost use Rattle.ddt_resolver.specs.Order.{IsInOrder};
+
+    ghost Value = { State };
+
+    ghost coded = { state_code entry.the_row.coded locator.the_row.coded pending.the_row.coded };
+
+    ghost view = { λ r. record { known = r.cache; me = r.me; next = r.next; pending = r.table.lookups } };
+
+    ghost invariant = { λ r. IsInOrder (record { known = r.cache; me = r.me; next = r.next; pending = r.table.lookups }) };
+}
+
+impl<M: PrefixMap<Entry>> Resolver<M> {
+    /// A resolver at moment 0 that remembers nothing but the root's servers, at least one, and has no lookup pending.
+    /// Its address is `me`, and its first request gets the nonce `seed`. It takes its memory from `alloc` as it grows.
+    pub fn new(alloc: Global, roots: LocatorSet, me: Locator, seed: u64) -> Resolver<M>
+        requires { 0 < length roots }
+        ensures { result ≡ fresh roots me seed }
+    {
+        // The slice tells the proof that the set holds at most 8 locators.
+        let _few = roots.as_slice();
+        Resolver {
+            cache: Cache::new(alloc, roots),
+            table: Table::new(alloc),
+            me,
+            next: seed,
+            alloc,
+        }
+    }
+
+    /// The time: the greatest moment that a call was given, at first 0.
+    pub fn time(&self) -> Moment
+        ensures { result ≡ self.now.known.time }
+    {
+        self.cache.time()
+    }
+
+    /// Its own address.
+    pub fn me(&self) -> Locator
+        ensures { result ≡ self.now.me }
+    {
+        self.me
+    }
+
+    /// How many lookups are pending.
+    pub fn pending(&self) -> usize
+        ensures { result ≡ map.len self.now.pending }
+    {
+        self.table.len()
+    }
+
+    /// What holds of each resolver. The call does nothing.
+    pub fn in_order(&self)
+        ensures { IsInOrder self.now }
+    {
+        let _me = self.me;
+    }
+
+    /// Ends a lookup without an answer, and says whether it was pending.
+    pub fn cancel(&mut self, ticket: Ticket) -> bool
+        ensures dropped { self.new ≡ dropped self.old ticket }
+        ensures there { result ≡ map.contains_key self.old.pending ticket }
+    {
+        self.table.remove(ticket.number()).is_some()
+    }
+
+    /// Moves the time to `now`, where that is later.
+    pub(crate) fn advance(&mut self, now: Moment)
+        ensures { self.new ≡ moved now self.old }
+    {
+        // The number tells the proof that it is a moment.
+        let _millis = now.millis();
+        self.cache.advance(now);
+    }
+}

@@ -1,0 +1,143 @@
+//! How a lookup is sent on, and how it ends. What can fail for want of memory comes first: the request's bytes, the room
+//! in the table, the cache; what changes the table takes none.
+
+ghost use Rattle.std.specs.Prelude.{◌≡◌, ◌<◌, ◌≤◌, length, IsSome, IfOk, OnOk, OnErr};
+ghost use Rattle.std.specs.FinMap as map;
+ghost use Rattle.ddt_resolver.specs.State.{last_nonce, most_pending, request as request_of, numbered as numbered_of, changed, with_change, lodged, dropped, stored};
+ghost use Rattle.ddt_resolver.specs.Order.{IsLookup};
+ghost use Rattle.ddt_resolver.specs.Acting.{IsSmall};
+
+use crate::answers::Outgoing;
+use crate::pending::Pending;
+use crate::resolver::Resolver;
+use ddt_cache::{Cache, Entry};
+use ddt_ecm::write_request;
+use ddt_path::{Listed, Prefix, ReferralRecord};
+use ddt_trie::PrefixMap;
+use std::alloc::AllocError;
+
+/// How many milliseconds a lookup waits for a reply.
+const PATIENCE: u64 = 2000;
+
+/// The UDP port of servers.
+const CONTROL_PORT: u16 = 4342;
+
+/// What becomes of the cache where a lookup goes on.
+#[derive(Clone, Copy, Debug)]
+pub enum Change {
+    /// Nothing.
+    Keep,
+    /// A record is saved.
+    Save(ReferralRecord),
+    /// The entry of a prefix is forgotten.
+    Forget(Prefix),
+}
+
+impl<M: PrefixMap<Entry>> Resolver<M> {
+    /// The request that a lookup sends next. It fails only if out of memory.
+    #[tactic(auto, unfolding(crate::specs::State::request_bytes))]
+    fn request(&self, lookup: &Pending) -> Result<Outgoing, AllocError>
+        requires { lookup.now.place < length lookup.now.servers }
+        ensures { IfOk result (λ d. d ≡ request_of self.now lookup.now) }
+    {
+        let bytes = write_request(self.alloc, self.next, lookup.x, &[self.me], true)?;
+        Ok(Outgoing {
+            to: lookup.server(),
+            port: CONTROL_PORT,
+            bytes: Listed::of(bytes),
+        })
+    }
+
+    /// The lookup once its request is sent.
+    fn numbered(&self, lookup: &Pending) -> Pending
+        ensures { result ≡ numbered_of self.now lookup.now }
+    {
+        let deadline = self.cache.time().millis() + PATIENCE;
+        lookup.numbered(self.next, deadline)
+    }
+
+    /// A new lookup is pending, and its request is sent; its ticket is the nonce. It fails only if out of memory, and
+    /// then nothing changes.
+    pub(crate) fn open(&mut self, lookup: &Pending) -> Result<Outgoing, AllocError>
+        requires lookup { IsLookup lookup.now }
+        requires few { map.len self.old.pending < most_pending }
+        requires nonce { self.old.next < last_nonce }
+        ensures sent { IfOk result (λ d. d ≡ request_of self.old lookup.now) }
+        ensures opened { OnOk result (self.new ≡ lodged self.old self.old.next lookup.now) }
+        ensures unchanged { OnErr result (self.new ≡ self.old) }
+    {
+        let outgoing = self.request(lookup)?;
+        let numbered = self.numbered(lookup);
+        self.table.reserve()?;
+        self.table.add(self.next, numbered);
+        self.next += 1;
+        Ok(outgoing)
+    }
+
+    /// The pending lookup of a ticket goes on as this one: the cache changes, and its request is sent. It fails only if
+    /// out of memory, and then nothing changes.
+    pub(crate) fn lodge(
+        &mut self,
+        ticket: u64,
+        lookup: &Pending,
+        change: &Change,
+    ) -> Result<Outgoing, AllocError>
+        requires there { IsSome (map.get self.old.pending ticket) }
+        requires lookup { IsLookup lookup.now }
+        requires nonce { self.old.next < last_nonce }
+        requires change { IsSmall change.now }
+        ensures sent { IfOk result (λ d. d ≡ request_of self.old lookup.now) }
+        ensures lodged { OnOk result (self.new ≡ lodged (with_change self.old change.now) ticket lookup.now) }
+        ensures unchanged { OnErr result (self.new ≡ self.old) }
+    {
+        let outgoing = self.request(lookup)?;
+        let numbered = self.numbered(lookup);
+        self.table.reserve()?;
+        apply(&mut self.cache, change)?;
+        self.table.replace(ticket, numbered);
+        self.next += 1;
+        Ok(outgoing)
+    }
+
+    /// The lookup of a ticket ends, and a record is saved. It fails only if out of memory, and then nothing changes.
+    pub(crate) fn save_and_close(
+        &mut self,
+        ticket: u64,
+        told: &ReferralRecord,
+    ) -> Result<(), AllocError>
+        requires { length told.now.servers ≤ 8 }
+        ensures closed { OnOk result (self.new ≡ dropped (stored self.old told.now) ticket) }
+        ensures unchanged { OnErr result (self.new ≡ self.old) }
+    {
+        apply(&mut self.cache, &Change::Save(*told))?;
+        self.table.remove(ticket);
+        Ok(())
+    }
+
+    /// The lookup of a ticket ends.
+    pub(crate) fn close(&mut self, ticket: u64)
+        ensures { self.new ≡ dropped self.old ticket }
+    {
+        self.table.remove(ticket);
+    }
+}
+
+/// Changes the cache at its time. It fails only if out of memory, and then nothing changes.
+fn apply<M: PrefixMap<Entry>>(cache: &mut Cache<M>, change: &Change) -> Result<(), AllocError>
+    ensures applied { OnOk result (cache.new ≡ changed cache.old change.now) }
+    ensures unchanged { OnErr result (cache.new ≡ cache.old) }
+{
+    cache.in_order();
+    let now = cache.time();
+    match change {
+        Change::Keep => Ok(()),
+        Change::Save(record) => match cache.save(now, record) {
+            Ok(_saved) => Ok(()),
+            Err(refused) => Err(refused),
+        },
+        Change::Forget(prefix) => {
+            cache.forget(*prefix);
+            Ok(())
+        }
+    }
+}

@@ -1,0 +1,5 @@
+pub mod CompiledLemmas
+pub mod SoundLemmas
+pub mod WaitingLemmas
+pub mod ReplyLemmas
+pub mod TurnLemmas

@@ -1,0 +1,287 @@
+-- Each step keeps a resolver sound, and answers what the register assigns.
+use Rattle.std.proofs.Common.{◌≡◌, ℕ, zero, suc, ◌<◌, ◌≤◌, Bool, cond, true, false, List, [], ◌∷◌, length, get_or, Option, Some, None, refl, sym, ap, ◌∙◌, subst, arith, inl, inr, ◌⊎◌, eq-eqb, Contains}
+use Rattle.std.specs.Prelude.{◌≢◌, IsTrue, ◌||◌, max, Result, Ok, Err}
+use Rattle.std.specs.FinMap.{FinMap, get, insert, remove}
+use Rattle.std.proofs.lemmas.Option.{none-some, same_Some}
+use Rattle.std.proofs.lemmas.Bool.{false≢true, or_right}
+use Rattle.ddt_path.specs.declared.locator.Locator.{Locator}
+use Rattle.ddt_path.specs.declared.locator.Locator.TheVariants.{V4, V6}
+use Rattle.ddt_path.specs.declared.record.Role.{Role}
+use Rattle.ddt_path.specs.declared.record.Role.TheVariants.{Node, Ms}
+use Rattle.ddt_path.specs.declared.record.Action.{Action}
+use Rattle.ddt_path.specs.declared.record.Action.TheVariants.{NodeReferral, MsReferral, MsAck, MsNotRegistered, DelegationHole, NotAuthoritative}
+use Rattle.ddt_path.specs.declared.record.Outcome.{Outcome}
+use Rattle.ddt_path.specs.declared.record.Outcome.TheVariants.{Registered, NotRegistered, Hole}
+use Rattle.ddt_path.specs.declared.record.ReferralRecord.{ReferralRecord}
+use Rattle.ddt_path.specs.declared.xeid.Xeid.{Xeid}
+use Rattle.ddt_path.specs.Records.{record_of, referral_action}
+use Rattle.ddt_path.specs.Covers.{covers}
+use Rattle.ddt_path.specs.Path.{xeid_path, is_path}
+use Rattle.ddt_path.specs.Locators.{lists, is_same_locator}
+use Rattle.ddt_path.proofs.CoverLemmas.{covers_trans}
+use Rattle.ddt_register.specs.declared.zone.Zone.{Zone}
+use Rattle.ddt_register.specs.declared.register.Register.{Register}
+use Rattle.ddt_check.specs.Zones.{zone_of, locators_of, roots}
+use Rattle.ddt_check.specs.Assignment.{assignment}
+use Rattle.ddt_check.specs.Says.{says, referral_to}
+use Rattle.ddt_check.specs.Laws.{IsReferral as RefersDown, IsFinal, IsItsZone, IsSiteWithServers, negative_prefix}
+use Rattle.ddt_trie.specs.PrefixMap.{path_cmp, IsLongest}
+use Rattle.ddt_trie.proofs.MapLemmas.{found_after_insert}
+use Rattle.ddt_cache.specs.declared.entry.Entry.{Entry}
+use Rattle.ddt_cache.specs.Entry.{is_negative, entry_of}
+use Rattle.ddt_cache.specs.Found.{IsFound, IsRoot}
+use Rattle.ddt_cache.specs.Saved.{is_saved}
+use Rattle.ddt_cache.proofs.LiveLemmas.{live_at-is}
+use Rattle.ddt_resolver.specs.declared.pending.Pending.{Pending}
+use Rattle.ddt_resolver.specs.declared.answers.Asked.{Asked}
+use Rattle.ddt_resolver.specs.declared.answers.AskError.{AskError}
+use Rattle.ddt_resolver.specs.declared.answers.Heard.{Heard}
+use Rattle.ddt_resolver.specs.declared.answers.Ticked.{Ticked}
+use Rattle.ddt_resolver.specs.Records.{IsReferral, IsBelow, outcome_at, outcome_of, negative_answer, start_at}
+use Rattle.ddt_resolver.specs.State.{State, moved, server, numbered, lodged, dropped, stored, opening, referred, passed_on, tried_again, at_next}
+use Rattle.ddt_resolver.specs.AskStep.{AskStep, Start, cached, full, used_up, opened, answer_of}
+use Rattle.ddt_resolver.specs.TakeUp.{IsTaken}
+use Rattle.ddt_resolver.specs.Act as acts
+use Rattle.ddt_resolver.specs.Act.{Act, HearStep}
+use Rattle.ddt_resolver.specs.TickStep as ticks
+use Rattle.ddt_resolver.specs.TickStep.{GoOn, TickStep}
+use Rattle.ddt_resolver.specs.Step as steps
+use Rattle.ddt_resolver.specs.Step.{Call, Reply, Step, Ask, Hear, Tick, ToAsk, ToDatagram, ToTick}
+use Rattle.ddt_resolver.specs.Order.{IsInOrder}
+use Rattle.ddt_resolver.proofs.NumberMapLemmas.{found_insert, found_remove}
+use Rattle.ddt_sim.specs.Sound.{KeepsLaws, IsTrueEntry, delegates, registers, denies, IsSoundLookup, IsSound, IsFair, IsRight, IsRightAsked, IsRightHeard, IsRightTicked, IsRightEnd}
+
+-- ---- what an action means
+
+self_same : (l : Locator) → is_same_locator l l ≡ true
+self_same (V4 a) = eq-eqb a a refl
+self_same (V6 a) = eq-eqb a a refl
+
+-- the locator at a place of a list is listed
+pub lists_at : (ls : List Locator) (i : ℕ) (d : Locator) → i < length ls → IsTrue (lists ls (get_or ls i d))
+lists_at [] i d lt = absurd (omega arith)
+lists_at (l ∷ ls) zero d lt = rw (self_same l) refl
+lists_at (l ∷ ls) (suc i) d lt = or_right (is_same_locator l (get_or ls i d)) _ (lists_at ls i d (omega arith))
+
+-- an action with an answer of its own is negative, and the answer is its outcome
+negative_is : (a : Action) (p : List ℕ) (ls : List Locator) (o : Outcome) → negative_answer a p ls ≡ Some o → IsTrue (is_negative a) × (o ≡ outcome_at a p ls)
+negative_is MsNotRegistered p ls o e = (refl, sym (same_Some _ o e))
+negative_is DelegationHole p ls o e = (refl, sym (same_Some _ o e))
+negative_is NodeReferral p ls o e = absurd (none-some o e)
+negative_is MsReferral p ls o e = absurd (none-some o e)
+negative_is MsAck p ls o e = absurd (none-some o e)
+negative_is NotAuthoritative p ls o e = absurd (none-some o e)
+
+-- a negative action has one
+unanswered_not_negative : (a : Action) (p : List ℕ) (ls : List Locator) → negative_answer a p ls ≡ None → IsTrue (is_negative a) → ⊥
+unanswered_not_negative MsNotRegistered p ls e h = none-some _ (sym e)
+unanswered_not_negative DelegationHole p ls e h = none-some _ (sym e)
+unanswered_not_negative NodeReferral p ls e h = false≢true h
+unanswered_not_negative MsReferral p ls e h = false≢true h
+unanswered_not_negative MsAck p ls e h = false≢true h
+unanswered_not_negative NotAuthoritative p ls e h = false≢true h
+
+referral_not_negative : (k : Role) → is_negative (referral_action k) ≡ false
+referral_not_negative Node = refl
+referral_not_negative Ms = refl
+
+-- a record of an outcome says that outcome
+outcome_back : (o : Outcome) → outcome_of (record_of o) ≡ o
+outcome_back (Registered p s) = refl
+outcome_back (NotRegistered p s) = refl
+outcome_back (Hole p) = refl
+
+ack_is : (o : Outcome) → (record_of o).action ≡ MsAck → o ≡ Registered (record_of o).prefix (record_of o).servers
+ack_is (Registered p s) e = refl
+ack_is (NotRegistered p s) e = absurd (cc e)
+ack_is (Hole p) e = absurd (cc e)
+
+negative_of : (o : Outcome) → IsTrue (is_negative (record_of o).action) → negative_prefix o ≡ Some (record_of o).prefix
+negative_of (Registered p s) e = absurd (false≢true e)
+negative_of (NotRegistered p s) e = refl
+negative_of (Hole p) e = refl
+
+-- ---- changes of a sound state
+
+module _ (r : Register) (s : State) (i : IsSound r s) where
+  pub sound_dropped : (t : ℕ) → IsSound r (dropped s t)
+  sound_dropped t = record { root = i.root; entries = i.entries; lookups = λ u l found. i.lookups u l (found_remove s.pending t u l found).1 }
+
+  pub sound_lodged : (t : ℕ) (l : Pending) → IsSoundLookup r l → IsSound r (lodged s t l)
+  sound_lodged t l sound = record {
+    root = i.root;
+    entries = i.entries;
+    lookups = λ u m found. elim (found_insert s.pending t (numbered s l) u m found) [
+      | inl e ↦ subst (IsSoundLookup r) e.1 (record { zone = sound.zone; is_zone = sound.is_zone; covers_x = sound.covers_x; servers = sound.servers; saved = sound.saved; kept = sound.kept })
+      | inr e ↦ i.lookups u m e.1
+    ];
+  }
+
+  pub sound_moved : (now : ℕ) → IsSound r (moved now s)
+  sound_moved now = record { root = i.root; lookups = i.lookups; entries = λ p e found. i.entries p e (live_at-is (max s.known.time now) s.known.live p e found).0 }
+
+  -- a true record may be saved
+  pub sound_stored : (rec : ReferralRecord) → IsTrueEntry r rec.prefix (entry_of s.known.time rec) → IsSound r (stored s rec)
+  sound_stored rec true_entry = record { root = i.root; lookups = i.lookups; entries = λ p e found. by p e (is_saved s.known.live rec) found }
+    where
+      by : (p : List ℕ) (e : Entry) (b : Bool) → get (cond b (insert s.known.live rec.prefix (entry_of s.known.time rec)) s.known.live) p ≡ Some e → IsTrueEntry r p e
+      by p e false found = i.entries p e found
+      by p e true found = elim (found_after_insert s.known.live rec.prefix (entry_of s.known.time rec) p e found) [
+        | inl put ↦ subst (IsTrueEntry r p) put.1 (subst (λ q. IsTrueEntry r q (entry_of s.known.time rec)) (sym put.0) true_entry)
+        | inr there ↦ i.entries p e there
+      ]
+
+-- ---- a step
+
+module _ (r : Register) (laws : KeepsLaws r) (s : State) (o : IsInOrder s) (i : IsSound r s) where
+  -- the servers with which a lookup begins are those of a zone of its identifier
+  begun : (x : Xeid) (p : List ℕ) (e : Entry) → IsFound s.known (xeid_path x) p e → answer_of p e ≡ None → IsSoundLookup r (opening x e.servers (start_at p))
+  begun x p e (inr root) free =
+      let z = laws.root in
+      record { zone = z.0; is_zone = z.1.is_zone; covers_x = rw z.1.is_everything refl; servers = ap (λ (f : Entry). f.servers) root.entry ∙ i.root ∙ sym z.1.its_servers; saved = inl refl; kept = inl refl }
+  begun x p e (inl found) free = by (i.entries p e found.value)
+    where
+      by : IsTrueEntry r p e → IsSoundLookup r (opening x e.servers (start_at p))
+      by (delegates z is same action servers) = record { zone = z; is_zone = is; covers_x = rw same found.covers_it; servers = servers; saved = inl refl; kept = inl refl }
+      by (registers site z is same action its_zone servers) =
+          let h = laws.zones p in
+          let one : h.0 ≡ z = same_Some h.0 z (sym h.1 ∙ its_zone) in
+          let own : IsItsZone r p z = subst (IsItsZone r p) one h.2 in
+          record { zone = z; is_zone = own.is_zone; covers_x = covers_trans z.prefix p (xeid_path x) own.covers_it found.covers_it; servers = servers; saved = inl refl; kept = inl refl }
+      by (denies neg h) = absurd (unanswered_not_negative e.action p e.servers free neg)
+
+  -- an entry that answers by itself answers the assignment
+  remembered : (x : Xeid) (p : List ℕ) (e : Entry) (v : Outcome) → IsTrue (is_path (xeid_path x)) → IsFound s.known (xeid_path x) p e → answer_of p e ≡ Some v → v ≡ assignment r (xeid_path x)
+  remembered x p e v id (inr root) answer = absurd (none-some v (sym (ap (λ (f : Entry). answer_of p f) root.entry) ∙ answer))
+  remembered x p e v id (inl found) answer = by (i.entries p e found.value)
+    where
+      own : IsTrue (is_negative e.action) × (v ≡ outcome_at e.action p e.servers)
+      own = negative_is e.action p e.servers v answer
+
+      by : IsTrueEntry r p e → v ≡ assignment r (xeid_path x)
+      by (denies neg h) = own.1 ∙ sym (h (xeid_path x) id found.covers_it)
+      by (delegates z is same action servers) = absurd (false≢true (sym (ap is_negative action ∙ referral_not_negative z.kind) ∙ own.0))
+      by (registers site z is same action its_zone servers) = absurd (false≢true (sym (ap is_negative action) ∙ own.0))
+
+  started : (x : Xeid) (new : State) (a : Result Asked AskError) → IsTrue (is_path (xeid_path x)) → AskStep s x new a → IsSound r new × IsRightAsked r (xeid_path x) a
+  started x new a id step = by step.start
+    where
+      by : Start s x step.prefix step.entry new a → IsSound r new × IsRightAsked r (xeid_path x) a
+      by (cached v answer e f) = rw (e, f) (i, remembered x step.prefix step.entry v id step.found answer)
+      by (full none many e f) = rw (e, f) (i, tt)
+      by (used_up none few over e f) = rw (e, f) (i, tt)
+      by (opened free e f) = rw (e, f) (sound_lodged r s i s.next (opening x step.entry.servers (start_at step.prefix)) (begun x step.prefix step.entry step.found free.unanswered), tt)
+
+  module _ (t : ℕ) (l : Pending) (here : get s.pending t ≡ Some l) where
+    z : IsSoundLookup r l
+    z = i.lookups t l here
+
+    id : IsTrue (is_path (xeid_path l.x))
+    id = (o.lookups t l here).lookup.identifier
+
+    ended : (v : Outcome) → v ≡ assignment r (xeid_path l.x) → IsRightEnd r s t v
+    ended v is m found = is ∙ ap (λ (p : Pending). assignment r (xeid_path p.x)) (same_Some l m (sym here ∙ found))
+
+    -- the server that was asked lists its locator for the zone
+    own : IsTrue (lists (locators_of r z.zone.group) (server s.me l))
+    own = subst (λ (set : List Locator). IsTrue (lists set (server s.me l))) z.servers (lists_at l.servers l.place s.me (o.lookups t l here).lookup.place)
+
+    module _ (rec : ReferralRecord) (honest : rec ≡ says r (server s.me l) (xeid_path l.x)) where
+      down : ((says r (server s.me l) (xeid_path l.x)).action ≢ NotAuthoritative) × (RefersDown (says r (server s.me l) (xeid_path l.x)).action → length z.zone.prefix < length (says r (server s.me l) (xeid_path l.x)).prefix)
+      down = laws.downwards z.zone (server s.me l) (xeid_path l.x) z.is_zone z.covers_x own
+
+      in_charge : rec.action ≢ NotAuthoritative
+      in_charge e = down.0 (ap (λ (v : ReferralRecord). v.action) (sym honest) ∙ e)
+
+      longer : IsReferral rec.action → length z.zone.prefix < length rec.prefix
+      longer k = subst (λ (v : ReferralRecord). length z.zone.prefix < length v.prefix) (sym honest) (down.1 (subst (λ (v : ReferralRecord). RefersDown v.action) honest k))
+
+      below : IsReferral rec.action → IsBelow l.saved rec.prefix
+      below k = by z.saved
+        where
+          by : (l.saved ≡ None) ⊎ (l.saved ≡ Some z.zone.prefix) → IsBelow l.saved rec.prefix
+          by (inl none) = rw none (omega arith)
+          by (inr saved) = rw saved (longer k)
+
+      final : IsFinal rec.action → rec ≡ record_of (assignment r (xeid_path l.x))
+      final k = honest ∙ laws.decided (server s.me l) (xeid_path l.x) (subst (λ (v : ReferralRecord). IsFinal v.action) honest k)
+
+      gives : IsFinal rec.action → outcome_of rec ≡ assignment r (xeid_path l.x)
+      gives k = ap outcome_of (final k) ∙ outcome_back (assignment r (xeid_path l.x))
+
+      child : IsReferral rec.action → (w : Zone) × Contains r.zones w × IsTrue (covers w.prefix (xeid_path l.x)) × (rec ≡ referral_to r w)
+      child k = let h = laws.to_zones (server s.me l) (xeid_path l.x) (subst (λ (v : ReferralRecord). RefersDown v.action) honest k) in (h.0, h.1, h.2, honest ∙ h.3)
+
+      referral_entry : IsReferral rec.action → IsTrueEntry r rec.prefix (entry_of s.known.time rec)
+      referral_entry k =
+          let h = child k in
+          delegates h.0 h.1 (sym (ap (λ (v : ReferralRecord). v.prefix) h.3)) (ap (λ (v : ReferralRecord). v.action) h.3) (ap (λ (v : ReferralRecord). v.servers) h.3)
+
+      ack_entry : rec.action ≡ MsAck → IsTrueEntry r rec.prefix (entry_of s.known.time rec)
+      ack_entry k =
+          let f : rec ≡ record_of (assignment r (xeid_path l.x)) = final (inl k) in
+          let is : assignment r (xeid_path l.x) ≡ Registered rec.prefix rec.servers =
+          subst (λ (v : ReferralRecord). assignment r (xeid_path l.x) ≡ Registered v.prefix v.servers) (sym f) (ack_is (assignment r (xeid_path l.x)) (ap (λ (v : ReferralRecord). v.action) (sym f) ∙ k)) in
+          let h = laws.sites (xeid_path l.x) rec.prefix rec.servers is in
+          registers h.site h.zone h.is_site h.its_prefix k h.its_zone h.its_servers
+
+      negative_entry : IsFinal rec.action → IsTrue (is_negative rec.action) → IsTrueEntry r rec.prefix (entry_of s.known.time rec)
+      negative_entry k neg =
+          let f : rec ≡ record_of (assignment r (xeid_path l.x)) = final k in
+          let q : negative_prefix (assignment r (xeid_path l.x)) ≡ Some rec.prefix =
+          negative_of (assignment r (xeid_path l.x)) (subst (λ (v : ReferralRecord). IsTrue (is_negative v.action)) f neg) ∙ ap (λ (v : ReferralRecord). Some v.prefix) (sym f) in
+          let h = laws.negatives (xeid_path l.x) rec.prefix id q in
+          denies neg (λ y y_id c. h.1 y y_id c ∙ sym (gives k))
+
+      acted : (new : State) (heard : Heard) → Act s t l rec new heard → IsSound r new × IsRightHeard r s heard
+      acted new heard (acts.loops k loop e f) = absurd (loop (below k))
+      acted new heard (acts.refers k lower more e f) =
+          let h = child k in
+          let found : IsSoundLookup r (referred l rec) = record { zone = h.0; is_zone = h.1; covers_x = h.2; servers = ap (λ (v : ReferralRecord). v.servers) h.3; saved = inr (ap (λ (v : ReferralRecord). Some v.prefix) h.3); kept = inl refl } in
+          rw (e, f) (sound_lodged r (stored s rec) (sound_stored r s i rec (referral_entry k)) t (referred l rec) found, tt)
+      acted new heard (acts.acknowledges k e f) = rw (e, f) (sound_dropped r (stored s rec) (sound_stored r s i rec (ack_entry k)) t, ended (outcome_of rec) (gives (inl k)))
+      acted new heard (acts.closes k e f) =
+          rw (e, f) (sound_dropped r (stored s rec) (sound_stored r s i rec (negative_entry (inr (inr k)) (rw k refl))) t, ended (outcome_of rec) (gives (inr (inr k))))
+      acted new heard (acts.passes_on k more room e f) =
+          let kept : IsSoundLookup r (passed_on l rec) = record { zone = z.zone; is_zone = z.is_zone; covers_x = z.covers_x; servers = z.servers; saved = z.saved; kept = inr (ap Some (final (inr (inl k)))) } in
+          rw (e, f) (sound_lodged r s i t (passed_on l rec) kept, tt)
+      acted new heard (acts.concludes k last e f) =
+          rw (e, f) (sound_dropped r (stored s rec) (sound_stored r s i rec (negative_entry (inr (inl k)) (rw k refl))) t, ended (outcome_of rec) (gives (inr (inl k))))
+      acted new heard (acts.starts_over p k start room e f) = absurd (in_charge k)
+      acted new heard (acts.nobody k start e f) = absurd (in_charge k)
+      acted new heard (acts.used_up k over e f) = rw (e, f) (sound_dropped r s i t, inr refl)
+
+    same_place : (new : Pending) → new.x ≡ l.x → new.servers ≡ l.servers → new.saved ≡ l.saved → new.kept ≡ l.kept → IsSoundLookup r new
+    same_place new x servers saved kept =
+        record { zone = z.zone; is_zone = z.is_zone; covers_x = rw x z.covers_x; servers = servers ∙ z.servers; saved = rw saved z.saved; kept = rw (kept, x) z.kept }
+
+    kept_outcome : (rec : ReferralRecord) → rec.action ≡ MsNotRegistered → NotRegistered rec.prefix rec.servers ≡ outcome_of rec
+    kept_outcome rec k = rw k refl
+
+    went_on : (new : State) (ticked : Ticked) → GoOn s t l new ticked → IsSound r new × IsRightTicked r s ticked
+    went_on new ticked (ticks.again first room e f) = rw (e, f) (sound_lodged r s i t (tried_again l) (same_place (tried_again l) refl refl refl refl), tt)
+    went_on new ticked (ticks.next_place second more room e f) = rw (e, f) (sound_lodged r s i t (at_next l) (same_place (at_next l) refl refl refl refl), tt)
+    went_on new ticked (ticks.answered rec second last kept e f) = rw (e, f) (sound_dropped r s i t, ended (NotRegistered rec.prefix rec.servers) (by z.kept))
+      where
+        by : (l.kept ≡ None) ⊎ (l.kept ≡ Some (record_of (assignment r (xeid_path l.x)))) → NotRegistered rec.prefix rec.servers ≡ assignment r (xeid_path l.x)
+        by (inl none) = absurd (none-some rec (sym none ∙ kept))
+        by (inr own_record) =
+            kept_outcome rec ((o.lookups t l here).lookup.kept_action rec kept)
+            ∙ ap outcome_of (same_Some rec (record_of (assignment r (xeid_path l.x))) (sym kept ∙ own_record)) ∙ outcome_back (assignment r (xeid_path l.x))
+    went_on new ticked (ticks.no_reply second last none e f) = rw (e, f) (sound_dropped r s i t, inl refl)
+    went_on new ticked (ticks.used_up more over e f) = rw (e, f) (sound_dropped r s i t, inr refl)
+
+  heard_step : (source : Locator) (bytes : List ℕ) (new : State) (heard : Heard) → IsFair r s (Hear source bytes) → HearStep s source bytes new heard → IsSound r new × IsRightHeard r s heard
+  heard_step source bytes new heard fair (acts.ignored why ignores e f) = rw (e, f) (i, tt)
+  heard_step source bytes new heard fair (acts.taken t l rec taken act) =
+      let from = taken.in_time.from_server in
+      acted t l from.reply.is_pending rec (subst (λ (at : Locator). rec ≡ says r at (xeid_path l.x)) from.same_source (fair t l rec taken)) new heard act
+
+  ticked_step : (new : State) (ticked : Ticked) → TickStep s new ticked → IsSound r new × IsRightTicked r s ticked
+  ticked_step new ticked (ticks.nothing none e f) = rw (e, f) (i, tt)
+  ticked_step new ticked (ticks.due t l due on) = went_on t l due.is_pending new ticked on
+
+  pub sound_step : (call : Call) (new : State) (reply : Reply) → IsFair r s call → Step s call new reply → IsSound r new × IsRight r s call reply
+  sound_step call new reply fair (steps.asks x a id step e f) = rw (e, f) (started x new a id step)
+  sound_step call new reply fair (steps.hears source bytes heard step e f) = rw (e, f) (heard_step source bytes new heard (subst (IsFair r s) e fair) step)
+  sound_step call new reply fair (steps.ticks ticked step e f) = rw (e, f) (ticked_step new ticked step)

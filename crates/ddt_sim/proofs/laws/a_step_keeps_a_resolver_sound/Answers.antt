@@ -1,0 +1,27 @@
+use Rattle.ddt_register.specs.declared.register.Register.{Register}
+use Rattle.ddt_check.specs.Rules.{IsAccepted}
+use Rattle.ddt_sim.specs.Sound.{KeepsLaws}
+use Rattle.ddt_sim.proofs.SoundLemmas.{sound_step, sound_moved, sound_dropped}
+use Rattle.ddt_sim.proofs.laws.a_step_keeps_a_resolver_sound.Goals as goal
+
+pub returns-clause-steps : goal.returns-clause-steps
+returns-clause-steps c = λ r s call new reply accepted order sound fair step.
+    let z = c.each_identifier_has_a_zone.ensures in
+    let h = c.honest_servers_lead_to_the_assignment.ensures in
+    let n = c.negatives_hold_of_all_that_they_cover.ensures in
+    let laws : KeepsLaws r = record {
+      zones = z.one_zone r accepted;
+      root = z.root r accepted;
+      downwards = h.downwards r accepted;
+      to_zones = h.to_zones r accepted;
+      decided = h.decided r accepted;
+      sites = n.registered r accepted;
+      negatives = n.negative r accepted;
+    } in
+    sound_step r laws s order sound call new reply fair step
+
+pub returns-clause-time : goal.returns-clause-time
+returns-clause-time c = λ r s now sound. sound_moved r s sound now
+
+pub returns-clause-cancelling : goal.returns-clause-cancelling
+returns-clause-cancelling c = λ r s t sound. sound_dropped r s sound t

@@ -1,0 +1,55 @@
+-- What a lookup over honest servers of a register ends in: what the register assigns (RFC 8111, section 7.3).
+use Rattle.std.specs.Prelude.{ℕ, ◌≡◌, ◌≤◌, ◌+◌, ◌*◌, IsTrue, List, length, Contains}
+use Rattle.std.specs.FinMap.{len}
+use Rattle.ddt_path.specs.declared.locator.Locator.{Locator}
+use Rattle.ddt_path.specs.declared.xeid.Xeid.{Xeid}
+use Rattle.ddt_path.specs.Path.{xeid_path}
+use Rattle.ddt_register.specs.declared.register.Register.{Register}
+use Rattle.ddt_check.specs.Rules.{IsAccepted}
+use Rattle.ddt_check.specs.Assignment.{assignment}
+use Rattle.ddt_check.specs.Says.{says}
+use Rattle.ddt_wire.specs.Referral.{Spells, message_of}
+use Rattle.ddt_resolver.specs.declared.answers.Outgoing.{Outgoing}
+use Rattle.ddt_resolver.specs.declared.answers.Why.TheVariants.{Exhausted}
+use Rattle.ddt_resolver.specs.State.{State, last_nonce, most_pending, request_bytes}
+use Rattle.ddt_sim.specs.declared.following.Turn.{Turn}
+use Rattle.ddt_sim.specs.declared.following.Turn.TheVariants.{GoesOn, Ends}
+use Rattle.ddt_sim.specs.declared.hop.Hop.{Hop}
+use Rattle.ddt_sim.specs.declared.hop.LookupError.{LookupError}
+use Rattle.ddt_sim.specs.declared.hop.LookupError.TheVariants.{GaveUp, TooMany, Memory}
+use Rattle.ddt_sim.specs.Sound.{IsSound}
+use Rattle.ddt_sim.specs.Waiting.{Waits, CanBeAsked}
+
+-- a lookup of x that waits for the reply to d, in a resolver that is sound for an accepted register
+pub record IsUnderWay (r : Register) (now : ℕ) (x : Xeid) (s : State) (t : ℕ) (d : Outgoing) : Type 0 where
+  pub accepted : IsAccepted r
+  pub sound : IsSound r s
+  pub waits : Waits now x s t d
+  pub fits : CanBeAsked x s.me
+
+-- a hop of a lookup of x over honest servers: a DDT Map-Request for x with the resolver's address as its ITR-RLOC, and a
+-- reply of its nonce with what the register says at the server that was asked
+abbrev pub IsHonestHop : Register → Xeid → Locator → Hop → Type 0
+IsHonestHop r x me hop =
+    (nonce : ℕ) × (hop.request ≡ request_bytes nonce x me) × Spells hop.reply (message_of nonce (says r hop.to (xeid_path x)))
+
+-- an outcome that a reply ends a lookup with is the assignment
+abbrev pub IsRightTurn : Register → Xeid → Turn → Type 0
+IsRightTurn r x (GoesOn e) = Unit {0}
+IsRightTurn r x (Ends o) = o ≡ assignment r (xeid_path x)
+
+-- Over honest servers a request fails only for want of memory or of nonces.
+abbrev pub IsRightFailure : State → LookupError → Type 0
+IsRightFailure new (GaveUp why) = (why ≡ Exhausted) × (new.next ≡ last_nonce)
+IsRightFailure new TooMany = ⊥
+IsRightFailure new Memory = Unit {0}
+
+-- and a lookup besides where 1,024 lookups were pending before
+abbrev pub IsRightError : State → State → LookupError → Type 0
+IsRightError old new (GaveUp why) = (why ≡ Exhausted) × (new.next ≡ last_nonce)
+IsRightError old new TooMany = most_pending ≤ len old.pending
+IsRightError old new Memory = Unit {0}
+
+-- how many hops a lookup has at most, whatever the servers say
+abbrev pub most_hops : Xeid → ℕ
+most_hops x = 16 * (length (xeid_path x) + 2)

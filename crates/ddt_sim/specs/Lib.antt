@@ -1,0 +1,6 @@
+pub mod Honest
+pub mod Compiled
+pub mod Sound
+pub mod Waiting
+pub mod Lookup
+pub mod Headline

@@ -1,0 +1,134 @@
+-- A resolver that is sound for a register: all that it remembers and waits for came from honest servers of it.
+use Rattle.std.specs.Prelude.{◌≡◌, ◌⊎◌, ℕ, IsTrue, List, [], Option, None, Some, Contains, Result, Ok, Err}
+use Rattle.std.specs.FinMap.{get}
+use Rattle.ddt_path.specs.declared.locator.Locator.{Locator}
+use Rattle.ddt_path.specs.declared.record.Action.TheVariants.{MsAck}
+use Rattle.ddt_path.specs.declared.record.Outcome.{Outcome}
+use Rattle.ddt_path.specs.declared.record.ReferralRecord.{ReferralRecord}
+use Rattle.ddt_path.specs.Records.{record_of, referral_action}
+use Rattle.ddt_path.specs.Covers.{covers}
+use Rattle.ddt_path.specs.Path.{xeid_path, is_path}
+use Rattle.ddt_register.specs.declared.zone.Zone.{Zone}
+use Rattle.ddt_register.specs.declared.site.Site.{Site}
+use Rattle.ddt_register.specs.declared.register.Register.{Register}
+use Rattle.ddt_check.specs.Rules.{IsAccepted}
+use Rattle.ddt_check.specs.Zones.{zone_of, locators_of, roots}
+use Rattle.ddt_check.specs.Assignment.{assignment}
+use Rattle.ddt_check.specs.Says.{says}
+use Rattle.ddt_check.specs.Laws.{EachIdentifierHasOneZone, TheRootIsServed, ServersReferDownwards, ReferralsAreToZones, FinalAnswersAreTheAssignment, RegisteredPrefixesAreSites, NegativesHoldOfAll}
+use Rattle.ddt_cache.specs.declared.entry.Entry.{Entry}
+use Rattle.ddt_cache.specs.Entry.{is_negative}
+use Rattle.ddt_resolver.specs.declared.pending.Pending.{Pending}
+use Rattle.ddt_resolver.specs.declared.answers.Asked.{Asked}
+use Rattle.ddt_resolver.specs.declared.answers.Asked.TheVariants as asked
+use Rattle.ddt_resolver.specs.declared.answers.AskError.{AskError}
+use Rattle.ddt_resolver.specs.declared.answers.Heard.{Heard}
+use Rattle.ddt_resolver.specs.declared.answers.Heard.TheVariants as heard
+use Rattle.ddt_resolver.specs.declared.answers.Ticked.{Ticked}
+use Rattle.ddt_resolver.specs.declared.answers.Ticked.TheVariants as ticked
+use Rattle.ddt_resolver.specs.declared.answers.Why.{Why}
+use Rattle.ddt_resolver.specs.declared.answers.Why.TheVariants.{NoReply, Exhausted}
+use Rattle.ddt_resolver.specs.Records.{outcome_at}
+use Rattle.ddt_resolver.specs.State.{State, moved, dropped}
+use Rattle.ddt_resolver.specs.Order.{IsInOrder}
+use Rattle.ddt_resolver.specs.Step.{Call, Ask, Hear, Tick, Reply, ToAsk, ToDatagram, ToTick, Step}
+use Rattle.ddt_resolver.specs.TakeUp.{IsTaken}
+
+-- What makes an entry true. `delegates`: a referral to a zone, with the zone's kind and the locators of its group.
+-- `registers`: an MS-ACK of a site, with the locators of the group of the site's zone. `denies`: a negative entry says of
+-- each identifier that it covers just what the register assigns to it.
+pub data IsTrueEntry (r : Register) (p : List ℕ) (e : Entry) : Type 0 where
+  delegates : (z : Zone) → Contains r.zones z → z.prefix ≡ p → e.action ≡ referral_action z.kind
+      → e.servers ≡ locators_of r z.group → IsTrueEntry r p e
+  registers : (s : Site) (z : Zone) → Contains r.sites s → s.prefix ≡ p → e.action ≡ MsAck → zone_of r p ≡ Some z
+      → e.servers ≡ locators_of r z.group → IsTrueEntry r p e
+  denies : IsTrue (is_negative e.action)
+      → ((y : List ℕ) → IsTrue (is_path y) → IsTrue (covers p y) → assignment r y ≡ outcome_at e.action p e.servers)
+      → IsTrueEntry r p e
+
+-- A sound lookup asks the servers of a zone that covers its identifier. The saved prefix, if there is one, is that zone's;
+-- what is kept, if anything, is the record of the assignment.
+pub record IsSoundLookup (r : Register) (l : Pending) : Type 0 where
+  pub zone : Zone
+  pub is_zone : Contains r.zones zone
+  pub covers_x : IsTrue (covers zone.prefix (xeid_path l.x))
+  pub servers : l.servers ≡ locators_of r zone.group
+  pub saved : (l.saved ≡ None) ⊎ (l.saved ≡ Some zone.prefix)
+  pub kept : (l.kept ≡ None) ⊎ (l.kept ≡ Some (record_of (assignment r (xeid_path l.x))))
+
+-- A sound resolver has the register's root locators, remembers true entries, and waits in sound lookups.
+pub record IsSound (r : Register) (s : State) : Type 0 where
+  pub root : s.known.roots ≡ roots r
+  pub entries : (p : List ℕ) (e : Entry) → get s.known.live p ≡ Some e → IsTrueEntry r p e
+  pub lookups : (t : ℕ) (l : Pending) → get s.pending t ≡ Some l → IsSoundLookup r l
+
+-- a datagram that a lookup takes up is what the register says at its source of the lookup's identifier
+abbrev pub IsFairDatagram : Register → State → Locator → List ℕ → Type 0
+IsFairDatagram r s source bytes =
+    (t : ℕ) (l : Pending) (rec : ReferralRecord) → IsTaken s source bytes t l rec → rec ≡ says r source (xeid_path l.x)
+
+-- the datagram of a call is fair, if it has one
+abbrev pub IsFair : Register → State → Call → Type 0
+IsFair r s (Ask x) = Unit {0}
+IsFair r s (Hear source bytes) = IsFairDatagram r s source bytes
+IsFair r s Tick = Unit {0}
+
+-- a lookup fails for want of a reply, or of nonces
+abbrev pub IsRightWhy : Why → Type 0
+IsRightWhy why = (why ≡ NoReply) ⊎ (why ≡ Exhausted)
+
+-- an answer at once is the assignment
+abbrev pub IsRightAsked : Register → List ℕ → Result Asked AskError → Type 0
+IsRightAsked r x (Ok (asked.Answer o)) = o ≡ assignment r x
+IsRightAsked r x (Ok (asked.Sent t d)) = Unit {0}
+IsRightAsked r x (Err why) = Unit {0}
+
+-- the answer to a ticket is the assignment of its own identifier
+abbrev pub IsRightEnd : Register → State → ℕ → Outcome → Type 0
+IsRightEnd r s t o = (l : Pending) → get s.pending t ≡ Some l → o ≡ assignment r (xeid_path l.x)
+
+abbrev pub IsRightHeard : Register → State → Heard → Type 0
+IsRightHeard r s (heard.Answer t o) = IsRightEnd r s t o
+IsRightHeard r s (heard.GaveUp t why) = IsRightWhy why
+IsRightHeard r s (heard.Ignored why) = Unit {0}
+IsRightHeard r s (heard.Followed t d) = Unit {0}
+
+abbrev pub IsRightTicked : Register → State → Ticked → Type 0
+IsRightTicked r s (ticked.Answer t o) = IsRightEnd r s t o
+IsRightTicked r s (ticked.GaveUp t why) = IsRightWhy why
+IsRightTicked r s (ticked.Sent t d) = Unit {0}
+IsRightTicked r s ticked.Nothing = Unit {0}
+
+-- what a step answers is right
+abbrev pub IsRight : Register → State → Call → Reply → Type 0
+IsRight r s (Ask x) (ToAsk a) = IsRightAsked r (xeid_path x) a
+IsRight r s call (ToDatagram h) = IsRightHeard r s h
+IsRight r s call (ToTick t) = IsRightTicked r s t
+IsRight r s call reply = Unit {0}
+
+-- ---- that a step keeps a resolver sound
+
+-- the laws of a register that this stands on
+pub record KeepsLaws (r : Register) : Type 0 where
+  pub zones : EachIdentifierHasOneZone r
+  pub root : TheRootIsServed r
+  pub downwards : ServersReferDownwards r
+  pub to_zones : ReferralsAreToZones r
+  pub decided : FinalAnswersAreTheAssignment r
+  pub sites : RegisteredPrefixesAreSites r
+  pub negatives : NegativesHoldOfAll r
+
+-- Over an accepted register a step from a sound state, on a fair datagram if on any, leaves a sound state, and its answer
+-- is right.
+abbrev pub StepsKeepSoundness : Type 0
+StepsKeepSoundness =
+    (r : Register) (s : State) (call : Call) (new : State) (reply : Reply) → IsAccepted r → IsInOrder s → IsSound r s
+    → IsFair r s call → Step s call new reply → IsSound r new × IsRight r s call reply
+
+-- so does the passing of time
+abbrev pub TimeKeepsSoundness : Type 0
+TimeKeepsSoundness = (r : Register) (s : State) (now : ℕ) → IsSound r s → IsSound r (moved now s)
+
+-- and the removal of a lookup
+abbrev pub CancellingKeepsSoundness : Type 0
+CancellingKeepsSoundness = (r : Register) (s : State) (t : ℕ) → IsSound r s → IsSound r (dropped s t)

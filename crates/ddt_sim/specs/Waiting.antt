@@ -1,0 +1,31 @@
+-- A lookup that waits for the reply to its last request, and how many more it can send.
+use Rattle.std.specs.Prelude.{ℕ, ◌≡◌, ◌+◌, ◌<◌, ◌≤◌, ◌^◌, Some}
+use Rattle.std.specs.Option.{option_map_or}
+use Rattle.std.specs.FinMap.{get}
+use Rattle.ddt_path.specs.declared.xeid.Xeid.{Xeid}
+use Rattle.ddt_path.specs.declared.locator.Locator.{Locator}
+use Rattle.ddt_wire.specs.Address.{IsAddress}
+use Rattle.ddt_resolver.specs.declared.pending.Pending.{Pending}
+use Rattle.ddt_resolver.specs.declared.answers.Outgoing.{Outgoing}
+use Rattle.ddt_resolver.specs.State.{State, server, request_bytes, patience}
+use Rattle.ddt_resolver.specs.Bound.{measure}
+
+-- The lookup of x under the ticket t waits for the reply to the request d, which was sent at the resolver's time.
+pub record Waits (now : ℕ) (x : Xeid) (s : State) (t : ℕ) (d : Outgoing) : Type 0 where
+  pub lookup : Pending
+  pub is_pending : get s.pending t ≡ Some lookup
+  pub its_x : lookup.x ≡ x
+  pub to : d.to ≡ server s.me lookup
+  pub bytes : d.bytes ≡ request_bytes lookup.nonce x s.me
+  pub deadline : lookup.deadline ≡ s.known.time + patience
+  pub time : now ≤ s.known.time
+
+-- how many requests the lookup of a ticket can send yet, this one among them
+abbrev pub requests_left : State → ℕ → ℕ
+requests_left s t = option_map_or measure (get s.pending t) 0
+
+-- an identifier and an address whose numbers lie in the ranges of their types, so that a request can spell them
+pub record CanBeAsked (x : Xeid) (me : Locator) : Type 0 where
+  pub iid_fits : x.iid < 2 ^ 32
+  pub address_fits : IsAddress x.address
+  pub me_fits : IsAddress me

@@ -1,0 +1,21 @@
+//! Laws of a resolver over honest servers: each function here is a law of the definitions, and does nothing.
+
+ghost use Rattle.ddt_sim.specs.Sound.{StepsKeepSoundness, TimeKeepsSoundness, CancellingKeepsSoundness};
+
+use ddt_check::{
+    each_identifier_has_a_zone, honest_servers_lead_to_the_assignment,
+    negatives_hold_of_all_that_they_cover,
+};
+
+/// A resolver that is sound for an accepted register stays sound: by each step whose datagram, if it has one, is
+/// what the register says there; as time passes; and where a lookup is cancelled. What a step answers is the
+/// assignment, and a lookup ends without an answer only for want of a reply or of nonces.
+pub fn a_step_keeps_a_resolver_sound()
+    ensures steps { StepsKeepSoundness }
+    ensures time { TimeKeepsSoundness }
+    ensures cancelling { CancellingKeepsSoundness }
+{
+    each_identifier_has_a_zone();
+    honest_servers_lead_to_the_assignment();
+    negatives_hold_of_all_that_they_cover();
+}

@@ -1,0 +1,15 @@
+//! Servers and a resolver together: what following Map-Referrals from the root ends in.
+//!
+//! In reading order: `servers`, `compiled`.
+#![tactic(auto)]
+
+mod compiled;
+mod following;
+mod hop;
+mod laws;
+mod servers;
+
+pub use compiled::Compiled;
+pub use hop::{Hop, Lookup, LookupError};
+pub use laws::a_step_keeps_a_resolver_sound;
+pub use servers::Servers;

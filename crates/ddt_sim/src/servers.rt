@@ -1,0 +1,28 @@
+//! Servers that a resolver asks, seen by their bytes alone.
+
+ghost use Rattle.std.specs.Prelude.{IfOk};
+ghost use Rattle.ddt_register.specs.declared.register.Register.{Register};
+ghost use Rattle.ddt_ecm.specs.Request.{Message};
+ghost use Rattle.ddt_node.specs.Server.{IsDdtRequest};
+ghost use Rattle.ddt_sim.specs.Honest.{IsServer, IsHonestReply};
+
+use ddt_path::{Listed, Locator};
+use std::alloc::{AllocError, Global};
+
+/// Servers that answer datagrams.
+pub trait Servers {
+    /// Whether they answer honestly for a register: at each locator of its groups, each DDT Map-Request with what the
+    /// register says there.
+    ghost honest: { Self → Register → Type 0 };
+
+    /// What comes back for a datagram that is sent to a locator; None where nothing comes back. Fails only if out of
+    /// memory. Honest servers stay honest.
+    fn answer(
+        &mut self,
+        alloc: Global,
+        to: Locator,
+        request: &[u8],
+    ) -> Result<Option<Listed<u8>>, AllocError>
+        ensures says { (r : Register) (m : Message) → honest self.old r → IsServer r to → IsDdtRequest request.now m → IfOk result (IsHonestReply r to m) }
+        ensures stay { (r : Register) → honest self.old r → honest self.new r };
+}

@@ -1,42 +1,100 @@
 #!/usr/bin/env bash
-# Prints how many processor seconds `check`, `answer`, `assign` and `compile` of one group take at 1,000, 8,000 and 65,535
-# rows, with the growth from one size to the next beside it (the rows grow by 8.0 and 8.2). Registers are those of
-# make_register.py. What a command takes beyond `check` is its own: each command checks the register first.
+# Prints how long the program takes over a full register, beside nsd-checkzone (Debian: nsd) over a DNS zone of as many
+# records, in one run: bench/speed.sh [SHAPE..]
+#
+# First, for each shape of make_register.py (nested, flat, groups and sites where none is named), the time of
+# `ddt check` at 1,000, 8,000 and 65,535 rows, its growth from one size to the next (the rows grow by 8.0 and 8.2), the
+# time of nsd-checkzone, and the ratio. Then, at 65,535 rows, `assign`, `answer` and `compile` of one group as multiples
+# of `check`. Times are milliseconds that passed, the shortest of five runs; the two programs take turns, so that both
+# meet the same load. A ratio above 1 says that the program takes longer than nsd-checkzone.
 set -eu
 cd -- "$(dirname -- "${BASH_SOURCE[0]}")/.."
 ./ddt check examples/campus.csv >/dev/null
+checkzone=$(PATH=$PATH:/usr/sbin:/sbin command -v nsd-checkzone) || {
+    echo 'speed.sh: nsd-checkzone is missing (Debian: apt-get install nsd)' >&2
+    exit 1
+}
 folder=$(mktemp -d)
 trap 'rm -rf -- "$folder"' EXIT
 sizes=(1000 8000 65535)
+shapes=("$@")
+[ $# -gt 0 ] || shapes=(nested flat groups sites)
 
-# milliseconds WORD..: the processor time of the shortest of three runs, of one where it takes long
-milliseconds() {
-    local best= took TIMEFORMAT=%U
-    for _ in 1 2 3; do
-        took=$({ time crates/ddt/out/ddt "$@" >/dev/null; } 2>&1 | tr -d .)
-        took=$((10#$took))
-        if [ -z "$best" ] || [ "$took" -lt "$best" ]; then best=$took; fi
-        [ "$took" -gt 5000 ] && break
-    done
-    echo "$best"
+# took WORD..: the microseconds that the words run; nothing where they fail.
+took() {
+    local start end
+    start=$(date +%s%N)
+    "$@" >/dev/null || return 1
+    end=$(date +%s%N)
+    echo $(((end - start) / 1000))
+}
+
+# shown MICROSECONDS: the same in milliseconds.
+shown() {
+    awk -v a="$1" 'BEGIN { printf "%.1f ms", a / 1000 }'
+}
+
+# lower NAME NUMBER: keeps the lower of both numbers in the variable.
+lower() {
+    local -n kept=$1
+    if [ -z "$kept" ] || [ "$2" -lt "$kept" ]; then kept=$2; fi
+}
+
+# A zone of two records more than the register has rows: SOA and NS, and an address for each row.
+zone_file() {
+    # shellcheck disable=SC2016
+    printf '$ORIGIN example.\n$TTL 3600\n@ IN SOA ns hostmaster 1 7200 3600 1209600 3600\n@ IN NS ns\n'
+    awk -v rows="$1" 'BEGIN {
+        print "ns IN A 192.0.2.1"
+        for (n = 1; n < rows; n++) printf "h%d IN A 10.%d.%d.%d\n", n, n / 65536, n / 256 % 256, n % 256
+    }'
+}
+
+ratio() {
+    awk -v a="$1" -v b="$2" 'BEGIN { printf "%.2f", a / (b ? b : 1) }'
 }
 
 for rows in "${sizes[@]}"; do
-    python3 bench/make_register.py "$rows" >"$folder/$rows.csv"
-done
-printf '| command | %s rows | %s rows | growth | %s rows | growth |\n|---|---|---|---|---|---|\n' "${sizes[@]}"
-while read -r name words; do
-    took=()
-    for rows in "${sizes[@]}"; do
-        # shellcheck disable=SC2086
-        took+=("$(milliseconds "$name" "$folder/$rows.csv" $words)")
+    zone_file "$rows" >"$folder/$rows.zone"
+    for shape in "${shapes[@]}"; do
+        python3 bench/make_register.py "$shape" "$rows" >"$folder/$shape.$rows.csv"
     done
-    awk -v name="$name $words" -v a="${took[0]}" -v b="${took[1]}" -v c="${took[2]}" 'BEGIN {
-        printf "| %s | %.3f | %.3f | %.1f | %.3f | %.1f |\n", name, a / 1000, b / 1000, b / (a ? a : 1), c / 1000, c / (b ? b : 1)
-    }'
-done <<'COMMANDS'
-check
-answer root [0]10.1.2.3
-assign [0]10.1.2.3
-compile root
-COMMANDS
+done
+
+printf '%s processors\n\n' "$(nproc)"
+printf '| shape | rows | check | growth | nsd-checkzone | growth | ratio |\n|---|---|---|---|---|---|---|\n'
+for shape in "${shapes[@]}"; do
+    before='' zone_before=''
+    for rows in "${sizes[@]}"; do
+        ours='' theirs=''
+        for _ in 1 2 3 4 5; do
+            lower ours "$(took crates/ddt/out/ddt check "$folder/$shape.$rows.csv")"
+            lower theirs "$(took "$checkzone" example "$folder/$rows.zone")"
+        done
+        growth=- zone_growth=-
+        if [ -n "$before" ]; then
+            growth=$(ratio "$ours" "$before")
+            zone_growth=$(ratio "$theirs" "$zone_before")
+        fi
+        printf '| %s | %s | %s | %s | %s | %s | %s |\n' "$shape" "$rows" \
+            "$(shown "$ours")" "$growth" "$(shown "$theirs")" "$zone_growth" "$(ratio "$ours" "$theirs")"
+        before=$ours zone_before=$theirs
+    done
+done
+
+printf '\n| shape | rows | check | assign | answer | compile |\n|---|---|---|---|---|---|\n'
+rows=${sizes[-1]}
+for shape in "${shapes[@]}"; do
+    register=$folder/$shape.$rows.csv
+    group=$(awk -F, '$1 == "node" && $2 == "*" { print $3 }' "$register")
+    check='' assign='' answer='' compile=''
+    for _ in 1 2 3; do
+        lower check "$(took crates/ddt/out/ddt check "$register")"
+        lower assign "$(took crates/ddt/out/ddt assign "$register" '[0]10.1.2.3')"
+        lower answer "$(took crates/ddt/out/ddt answer "$register" "$group" '[0]10.1.2.3')"
+        lower compile "$(took crates/ddt/out/ddt compile "$register" "$group")"
+    done
+    printf '| %s | %s | %s | %s (%s) | %s (%s) | %s (%s) |\n' "$shape" "$rows" "$(shown "$check")" \
+        "$(shown "$assign")" "$(ratio "$assign" "$check")" "$(shown "$answer")" "$(ratio "$answer" "$check")" \
+        "$(shown "$compile")" "$(ratio "$compile" "$check")"
+done

@@ -13,17 +13,20 @@ use Rattle.ddt_path.proofs.MemberLemmas.{IsIn}
 use Rattle.ddt_check.proofs.RestoreLemmas.{Rising}
 use Rattle.ddt_check.proofs.OrderLemmas.{iff_same, any_in, in_any}
 
-pair_cases : (l e m f : Bool) → is_lt (ordering_then (cond l Less (cond e Equal Greater)) (ordering_then (cond m Less (cond f Equal Greater)) Equal)) ≡ (l || (e && m))
+pair_cases : (l e m f : Bool)
+    → is_lt (ordering_then (cond l Less (cond e Equal Greater)) (ordering_then (cond m Less (cond f Equal Greater)) Equal)) ≡ (l || (e && m))
 pair_cases true e m f = refl
 pair_cases false true true f = refl
 pair_cases false true false true = refl
 pair_cases false true false false = refl
 pair_cases false false m f = refl
 
-pub pair_before : (p q : ℕ × ℕ) → (nat_lt p.0 q.0 || (p.0 == q.0 && nat_lt p.1 q.1)) ≡ is_lt (slice_cmp nat_cmp (key_list p) (key_list q))
+pub pair_before : (p q : ℕ × ℕ)
+    → (nat_lt p.0 q.0 || (p.0 == q.0 && nat_lt p.1 q.1)) ≡ is_lt (slice_cmp nat_cmp (key_list p) (key_list q))
 pair_before p q = sym (pair_cases (nat_lt p.0 q.0) (p.0 == q.0) (nat_lt p.1 q.1) (p.1 == q.1))
 
-regroup : (a b c : Ordering) → ordering_then (ordering_then a (ordering_then b Equal)) c ≡ ordering_then (ordering_then a b) c
+regroup : (a b c : Ordering)
+    → ordering_then (ordering_then a (ordering_then b Equal)) c ≡ ordering_then (ordering_then a b) c
 regroup Less b c = refl
 regroup Greater b c = refl
 regroup Equal Less c = refl
@@ -32,9 +35,11 @@ regroup Equal Greater c = refl
 
 -- sorted by pairs and rows
 pub in_order_by_pairs : {A : Type 0} (pair : A → ℕ × ℕ) (row : A → ℕ) (xs : List A)
-    → IsSortedByKey {K = (ℕ × ℕ) × ℕ} (λ x. (pair x, row x)) (λ p q. ordering_then (ordering_then (nat_cmp p.0.0 q.0.0) (nat_cmp p.0.1 q.0.1)) (nat_cmp p.1 q.1)) xs
+    → IsSortedByKey {K = (ℕ × ℕ) × ℕ} (λ x. (pair x, row x))
+        (λ p q. ordering_then (ordering_then (nat_cmp p.0.0 q.0.0) (nat_cmp p.0.1 q.0.1)) (nat_cmp p.1 q.1)) xs
     → IsInOrder (λ x. key_list (pair x)) row xs
 in_order_by_pairs pair row xs sorted = λ k d low lt.
     let a = get_or xs (k + 1) d in
     let b = get_or xs k d in
-    ap is_lt (regroup (nat_cmp (pair a).0 (pair b).0) (nat_cmp (pair a).1 (pair b).1) (nat_cmp (row a) (row b))) ∙ sorted k d low lt
+    ap is_lt (regroup (nat_cmp (pair a).0 (pair b).0) (nat_cmp (pair a).1 (pair b).1) (nat_cmp (row a) (row b))) ∙
+        sorted k d low lt

@@ -9,7 +9,7 @@ use Rattle.ddt_path.specs.declared.locator.Locator.{Locator}
 use Rattle.ddt_path.specs.declared.record.Role.{Role}
 use Rattle.ddt_path.specs.declared.record.Role.TheVariants.{Node, Ms}
 use Rattle.ddt_path.specs.Locators.{lists}
-use Rattle.ddt_path.specs.Covers.{covers, is_same_path, is_strictly_below}
+use Rattle.ddt_path.specs.Covers.{covers, overlaps, is_same_path, is_strictly_below}
 use Rattle.ddt_register.specs.declared.zone.Zone.{Zone}
 use Rattle.ddt_register.specs.declared.site.Site.{Site}
 use Rattle.ddt_register.specs.declared.group.Group.{Group}
@@ -30,10 +30,12 @@ own_name r accepted g h j k lt =
     let e = rule_kept (λ (i : Group). i.row) (is_duplicate_group r) r.groups (accepted rules.DuplicateGroup) h k in
     earlier_fails g.row h.row _ lt (fails_at (λ (i : Group). nat_lt i.row h.row && is_same_name i.name h.name) r.groups g e j)
 
-pub own_site : (r : Register) → IsAccepted r → (a b : Site) → IsIn a r.sites → IsIn b r.sites → a.row < b.row → is_same_path a.prefix b.prefix ≡ false
-own_site r accepted a b j k lt =
+pub own_site_prefix : (r : Register) → IsAccepted r → (a b : Site) → IsIn a r.sites → IsIn b r.sites → a.row < b.row
+    → is_same_path a.prefix b.prefix ≡ false
+own_site_prefix r accepted a b j k lt =
     let e = rule_kept (λ (s : Site). s.row) (is_duplicate_site r) r.sites (accepted rules.DuplicateSite) b k in
-    earlier_fails a.row b.row _ lt (fails_at (λ (t : Site). nat_lt t.row b.row && is_same_path t.prefix b.prefix) r.sites a e j)
+    let test = λ (t : Site). nat_lt t.row b.row && is_same_path t.prefix b.prefix in
+    earlier_fails a.row b.row _ lt (fails_at test r.sites a e j)
 
 pub few_etrs : (r : Register) → IsAccepted r → (s : Site) → IsIn s r.sites → length s.etrs ≤ 8
 few_etrs r accepted s k = ltb-false 8 (length s.etrs) (rule_kept (λ (t : Site). t.row) has_too_many_etrs r.sites (accepted rules.TooManyEtrs) s k)

@@ -17,14 +17,17 @@ get_or-same (x ∷ xs) zero c d lt = refl
 get_or-same (x ∷ xs) (suc i) c d lt = get_or-same xs i c d (omega arith)
 
 module _ {A : Type 0} (row : A → ℕ) (test : A → Bool) where
-  one_more : (xs : List A) (i : ℕ) (x : A) → i < length xs → x ≡ get_or xs i x → (n : ℕ) → item_at row test (take (i + 1) xs) n ≡ (item_at row test (take i xs) n || (row x == n && test x))
-  one_more xs i x lt is n = list_any_more (λ z. row z == n && test z) xs i x lt ∙ ap (λ (z : A). item_at row test (take i xs) n || (row z == n && test z)) (sym is)
+  one_more : (xs : List A) (i : ℕ) (x : A) → i < length xs → x ≡ get_or xs i x → (n : ℕ)
+      → item_at row test (take (i + 1) xs) n ≡ (item_at row test (take i xs) n || (row x == n && test x))
+  one_more xs i x lt is n = list_any_more (λ z. row z == n && test z) xs i x lt ∙ ap
+      (λ (z : A). item_at row test (take i xs) n || (row z == n && test z)) (sym is)
 
   pub least_same : (xs : List A) (i : ℕ) (x : A) (least : Option ℕ) → i < length xs → x ≡ get_or xs i x → test x ≡ false
       → IsLeastRow (item_at row test (take i xs)) least → IsLeastRow (item_at row test (take (i + 1) xs)) least
   least_same xs i x least lt is e so_far =
       IsLeastRow-same (item_at row test (take (i + 1) xs)) (item_at row test (take i xs)) least
-      (λ n. one_more xs i x lt is n ∙ (rw (and_right (row x == n) (test x) e) (none (item_at row test (take i xs) n)))) so_far
+      (λ n. one_more xs i x lt is n ∙ (rw (and_right (row x == n) (test x) e)
+          (none (item_at row test (take i xs) n)))) so_far
     where
       none : (b : Bool) → (b || false) ≡ b
       none true = refl
@@ -36,8 +39,10 @@ module _ {A : Type 0} (row : A → ℕ) (test : A → Bool) where
   past : (x : A) (b : Bool) (n : ℕ) → b ≡ false → row x ≢ n → (b || (row x == n && test x)) ≡ false
   past x b n e ne = rw (e, ne_eqb (row x) n ne) refl
 
-  least_with : (xs : List A) (i : ℕ) (x : A) (least : Option ℕ) → test x ≡ true → ((n : ℕ) → item_at row test (take (i + 1) xs) n ≡ (item_at row test (take i xs) n || (row x == n && test x)))
-      → IsLeastRow (item_at row test (take i xs)) least → IsLeastRow (item_at row test (take (i + 1) xs)) (Some (option_map_or (λ l. min l (row x)) least (row x)))
+  least_with : (xs : List A) (i : ℕ) (x : A) (least : Option ℕ) → test x ≡ true
+      → ((n : ℕ) → item_at row test (take (i + 1) xs) n ≡ (item_at row test (take i xs) n || (row x == n && test x)))
+      → IsLeastRow (item_at row test (take i xs)) least → IsLeastRow (item_at row test (take (i + 1) xs))
+          (Some (option_map_or (λ l. min l (row x)) least (row x)))
   least_with xs i x None e more so_far = (
     more (row x) ∙ here x (item_at row test (take i xs) (row x)) e,
     λ n lt. more n ∙ past x (item_at row test (take i xs) n) n (so_far n) (let h : row x ≢ n = omega arith in h),
@@ -46,27 +51,35 @@ module _ {A : Type 0} (row : A → ℕ) (test : A → Bool) where
     | inl below ↦ let m : min l (row x) ≡ row x = omega arith in
         subst (λ (k : ℕ). IsLeastRow (item_at row test (take (i + 1) xs)) (Some k)) (sym m) (
           more (row x) ∙ here x (item_at row test (take i xs) (row x)) e,
-          λ n lt. more n ∙ past x (item_at row test (take i xs) n) n (so_far.1 n (omega arith)) (let h : row x ≢ n = omega arith in h),
+          λ n lt. more n ∙ past x (item_at row test (take i xs) n) n (so_far.1 n (omega arith))
+              (let h : row x ≢ n = omega arith in h),
         )
     | inr above ↦ let m : min l (row x) ≡ l = omega arith in
         subst (λ (k : ℕ). IsLeastRow (item_at row test (take (i + 1) xs)) (Some k)) (sym m) (
           more l ∙ or_left (item_at row test (take i xs) l) (row x == l && test x) so_far.0,
-          λ n lt. more n ∙ past x (item_at row test (take i xs) n) n (so_far.1 n lt) (let h : row x ≢ n = omega arith in h),
+          λ n lt. more n ∙ past x (item_at row test (take i xs) n) n (so_far.1 n lt)
+              (let h : row x ≢ n = omega arith in h),
         )
   ]
 
-  pub least_more : (xs : List A) (i : ℕ) (x : A) (least : Option ℕ) (low : ℕ) → i < length xs → x ≡ get_or xs i x → test x ≡ true → low ≡ option_map_or (λ l. min l (row x)) least (row x)
+  pub least_more : (xs : List A) (i : ℕ) (x : A) (least : Option ℕ) (low : ℕ) → i < length xs → x ≡ get_or xs i x
+      → test x ≡ true → low ≡ option_map_or (λ l. min l (row x)) least (row x)
       → IsLeastRow (item_at row test (take i xs)) least → IsLeastRow (item_at row test (take (i + 1) xs)) (Some low)
   least_more xs i x least low lt is e lows so_far =
       subst (λ (k : ℕ). IsLeastRow (item_at row test (take (i + 1) xs)) (Some k)) (sym lows)
       (least_with xs i x least e (one_more xs i x lt is) so_far)
 
-  pub least_moved : (xs ys : List A) (least : Option ℕ) → IsPermutation xs ys → IsLeastRow (item_at row test ys) least → IsLeastRow (item_at row test xs) least
-  least_moved xs ys least moved = IsLeastRow-same (item_at row test xs) (item_at row test ys) least (λ n. list_any-IsPermutation (λ z. row z == n && test z) xs ys moved)
+  pub least_moved : (xs ys : List A) (least : Option ℕ) → IsPermutation xs ys → IsLeastRow (item_at row test ys) least
+      → IsLeastRow (item_at row test xs) least
+  least_moved xs ys least moved = IsLeastRow-same (item_at row test xs) (item_at row test ys) least
+      (λ n. list_any-IsPermutation (λ z. row z == n && test z) xs ys moved)
 
-  pub least_at : (xs : List A) (i : ℕ) (d : A) (least : Option ℕ) (low : ℕ) → i < length xs → test (get_or xs i d) ≡ true → low ≡ option_map_or (λ l. min l (row (get_or xs i d))) least (row (get_or xs i d))
+  pub least_at : (xs : List A) (i : ℕ) (d : A) (least : Option ℕ) (low : ℕ) → i < length xs
+      → test (get_or xs i d) ≡ true
+      → low ≡ option_map_or (λ l. min l (row (get_or xs i d))) least (row (get_or xs i d))
       → IsLeastRow (item_at row test (take i xs)) least → IsLeastRow (item_at row test (take (i + 1) xs)) (Some low)
-  least_at xs i d least low lt e lows so_far = least_more xs i (get_or xs i d) least low lt (get_or-same xs i d (get_or xs i d) lt) e lows so_far
+  least_at xs i d least low lt e lows so_far = least_more xs i (get_or xs i d) least low lt
+      (get_or-same xs i d (get_or xs i d) lt) e lows so_far
 
   -- the item at a place, without its name
   pub least_skip : (xs : List A) (i : ℕ) (least : Option ℕ) → i < length xs → ((d : A) → test (get_or xs i d) ≡ false)
@@ -77,13 +90,16 @@ module _ {A : Type 0} (row : A → ℕ) (test : A → Bool) where
       least_same (x ∷ xs) i y least lt (get_or-same (x ∷ xs) i x y lt) (fails x) so_far
 
   -- in another order of the items, after a walk over all
-  pub least_of_all : (xs ys : List A) (n : ℕ) (least : Option ℕ) → IsPermutation xs ys → n ≤ length ys → length ys ≤ n → IsLeastRow (item_at row test (take n ys)) least → IsLeastRow (item_at row test xs) least
+  pub least_of_all : (xs ys : List A) (n : ℕ) (least : Option ℕ) → IsPermutation xs ys → n ≤ length ys → length ys ≤ n
+      → IsLeastRow (item_at row test (take n ys)) least → IsLeastRow (item_at row test xs) least
   least_of_all xs ys n least moved low high so_far =
       let same : n ≡ length ys = omega arith in
-      least_moved xs ys least moved (subst (λ (l : List A). IsLeastRow (item_at row test l) least) (ap (λ (k : ℕ). take k ys) same ∙ take-length ys) so_far)
+      least_moved xs ys least moved (subst (λ (l : List A). IsLeastRow (item_at row test l) least)
+          (ap (λ (k : ℕ). take k ys) same ∙ take-length ys) so_far)
 
 -- the least row of either test
-pub least_both : (t u : ℕ → Bool) (a b : Option ℕ) → IsLeastRow t a → IsLeastRow u b → IsLeastRow (λ n. t n || u n) (lower_option a b)
+pub least_both : (t u : ℕ → Bool) (a b : Option ℕ) → IsLeastRow t a → IsLeastRow u b
+    → IsLeastRow (λ n. t n || u n) (lower_option a b)
 least_both t u None b h k = IsLeastRow-same (λ n. t n || u n) u b (λ n. ap (λ (x : Bool). x || u n) (h n)) k
 least_both t u (Some x) None h k = (or_left (t x) (u x) h.0, λ n lt. or_from (t n) (u n) (h.1 n lt) (k n))
 least_both t u (Some x) (Some y) h k = elim (cases_lt x y) [
@@ -100,7 +116,8 @@ module _ {A : Type 0} (at : A → ℕ → Bool) where
   abbrev pub any_at : List A → ℕ → Bool
   any_at xs n = list_any (λ x. at x n) xs
 
-  pub least_next : (xs : List A) (i : ℕ) (x : A) (least found low : Option ℕ) → i < length xs → x ≡ get_or xs i x → IsLeastRow (at x) found → low ≡ lower_option least found
+  pub least_next : (xs : List A) (i : ℕ) (x : A) (least found low : Option ℕ) → i < length xs → x ≡ get_or xs i x
+      → IsLeastRow (at x) found → low ≡ lower_option least found
       → IsLeastRow (any_at (take i xs)) least → IsLeastRow (any_at (take (i + 1) xs)) low
   least_next xs i x least found low lt is here lows so_far =
       subst (IsLeastRow (any_at (take (i + 1) xs))) (sym lows)
@@ -109,11 +126,14 @@ module _ {A : Type 0} (at : A → ℕ → Bool) where
       (least_both (any_at (take i xs)) (at x) least found so_far here))
 
   -- after a walk over all items
-  pub least_walked : (xs : List A) (n : ℕ) (least : Option ℕ) → n ≤ length xs → length xs ≤ n → IsLeastRow (any_at (take n xs)) least → IsLeastRow (any_at xs) least
+  pub least_walked : (xs : List A) (n : ℕ) (least : Option ℕ) → n ≤ length xs → length xs ≤ n
+      → IsLeastRow (any_at (take n xs)) least → IsLeastRow (any_at xs) least
   least_walked xs n least low high so_far =
       let same : n ≡ length xs = omega arith in
       subst (λ (l : List A). IsLeastRow (any_at l) least) (ap (λ (k : ℕ). take k xs) same ∙ take-length xs) so_far
 
   -- in another order of the items
-  pub least_reordered : (xs ys : List A) (least : Option ℕ) → IsPermutation xs ys → IsLeastRow (any_at ys) least → IsLeastRow (any_at xs) least
-  least_reordered xs ys least moved = IsLeastRow-same (any_at xs) (any_at ys) least (λ n. list_any-IsPermutation (λ z. at z n) xs ys moved)
+  pub least_reordered : (xs ys : List A) (least : Option ℕ) → IsPermutation xs ys → IsLeastRow (any_at ys) least
+      → IsLeastRow (any_at xs) least
+  least_reordered xs ys least moved = IsLeastRow-same (any_at xs) (any_at ys) least
+      (λ n. list_any-IsPermutation (λ z. at z n) xs ys moved)

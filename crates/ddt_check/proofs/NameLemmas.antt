@@ -12,25 +12,31 @@ use Rattle.ddt_check.proofs.RestoreLemmas.{Rising, moved_in}
 use Rattle.ddt_check.proofs.LeastLemmas.{get_or-same}
 use Rattle.ddt_check.proofs.OrderLemmas.{IsUpTo, far}
 
-find_here : {A : Type 0} (test : A → Bool) (x g : A) (rest : Option A) (b : Bool) → test x ≡ b → x ≡ g → test g ≡ true → cond b (Some x) rest ≡ Some g
+find_here : {A : Type 0} (test : A → Bool) (x g : A) (rest : Option A) (b : Bool) → test x ≡ b → x ≡ g → test g ≡ true
+    → cond b (Some x) rest ≡ Some g
 find_here test x g rest true e same h = ap (λ (y : _). Some y) same
 find_here test x g rest false e same h = absurd (true≢false (sym h ∙ ap test (sym same) ∙ e))
 
-find_later : {A : Type 0} (row : A → ℕ) (test : A → Bool) (x g : A) (rest : Option A) (b : Bool) → test x ≡ b → row x < row g → (test x ≡ true → row g ≤ row x) → rest ≡ Some g → cond b (Some x) rest ≡ Some g
+find_later : {A : Type 0} (row : A → ℕ) (test : A → Bool) (x g : A) (rest : Option A) (b : Bool) → test x ≡ b
+    → row x < row g → (test x ≡ true → row g ≤ row x) → rest ≡ Some g → cond b (Some x) rest ≡ Some g
 find_later row test x g rest true e lt least h = absurd (let le = least e in omega arith)
 find_later row test x g rest false e lt least h = h
 
-pub find_least : {A : Type 0} (row : A → ℕ) (test : A → Bool) (zs : List A) (g : A) → Rising row zs → IsIn g zs → test g ≡ true → ((h : A) → IsIn h zs → test h ≡ true → row g ≤ row h) → find test zs ≡ Some g
+pub find_least : {A : Type 0} (row : A → ℕ) (test : A → Bool) (zs : List A) (g : A) → Rising row zs → IsIn g zs
+    → test g ≡ true → ((h : A) → IsIn h zs → test h ≡ true → row g ≤ row h) → find test zs ≡ Some g
 find_least row test [] g up k e least = absurd k
 find_least row test (x ∷ zs) g up (inl same) e least = find_here test x g (find test zs) (test x) refl (sym same) e
 find_least row test (x ∷ zs) g up (inr later) e least =
-    find_later row test x g (find test zs) (test x) refl (up.0 g later) (least x (inl refl)) (find_least row test zs g up.1 later e (λ h k. least h (inr k)))
+    find_later row test x g (find test zs) (test x) refl (up.0 g later) (least x (inl refl))
+        (find_least row test zs g up.1 later e (λ h k. least h (inr k)))
 
-pub find_none : {A : Type 0} (test : A → Bool) (zs : List A) → ((h : A) → IsIn h zs → test h ≡ false) → find test zs ≡ None
+pub find_none : {A : Type 0} (test : A → Bool) (zs : List A) → ((h : A) → IsIn h zs → test h ≡ false)
+    → find test zs ≡ None
 find_none test [] none = refl
 find_none test (x ∷ zs) none = rw (none x (inl refl)) (find_none test zs (λ h k. none h (inr k)))
 
-lt_from : (a b c : List ℕ) (o : Ordering) → slice_cmp nat_cmp a b ≡ o → IsUpTo a b → is_lt (slice_cmp nat_cmp b c) ≡ true → is_lt (slice_cmp nat_cmp a c) ≡ true
+lt_from : (a b c : List ℕ) (o : Ordering) → slice_cmp nat_cmp a b ≡ o → IsUpTo a b
+    → is_lt (slice_cmp nat_cmp b c) ≡ true → is_lt (slice_cmp nat_cmp a c) ≡ true
 lt_from a b c Less e up lt = ap is_lt (nat_list_cmp_total.trans a b c e (less (slice_cmp nat_cmp b c) lt))
   where
     less : (o : Ordering) → is_lt o ≡ true → o ≡ Less
@@ -38,10 +44,12 @@ lt_from a b c Less e up lt = ap is_lt (nat_list_cmp_total.trans a b c e (less (s
     less Equal h = absurd (false≢true h)
     less Greater h = absurd (false≢true h)
 lt_from a b c Equal e up lt = ap is_lt (nat_list_cmp_total.congr a b c e) ∙ lt
-lt_from a b c Greater e up lt = absurd (true≢false (sym (ap is_lt (nat_list_cmp_total.antisymm b a ∙ ap ordering_reverse e)) ∙ up))
+lt_from a b c Greater e up lt = absurd (true≢false
+    (sym (ap is_lt (nat_list_cmp_total.antisymm b a ∙ ap ordering_reverse e)) ∙ up))
 
 -- what stands up to a path that stands below another stands below it
-pub lt_after : (a b c : List ℕ) → IsUpTo a b → is_lt (slice_cmp nat_cmp b c) ≡ true → is_lt (slice_cmp nat_cmp a c) ≡ true
+pub lt_after : (a b c : List ℕ) → IsUpTo a b → is_lt (slice_cmp nat_cmp b c) ≡ true
+    → is_lt (slice_cmp nat_cmp a c) ≡ true
 lt_after a b c up lt = lt_from a b c (slice_cmp nat_cmp a b) refl up lt
 
 tie_of : (o p : Ordering) → o ≡ ordering_reverse p → is_lt o ≡ false → is_lt p ≡ false → is_eq o ≡ true
@@ -51,7 +59,8 @@ tie_of o Greater e f g = absurd (true≢false (sym (ap is_lt e) ∙ f))
 
 -- two that stand up to each other are one
 pub same_from_ties : (a b : List ℕ) → IsUpTo a b → IsUpTo b a → is_same_path a b ≡ true
-same_from_ties a b up down = texts_ties a b ∙ tie_of (slice_cmp nat_cmp a b) (slice_cmp nat_cmp b a) (nat_list_cmp_total.antisymm a b) down up
+same_from_ties a b up down = texts_ties a b ∙ tie_of (slice_cmp nat_cmp a b) (slice_cmp nat_cmp b a)
+    (nat_list_cmp_total.antisymm a b) down up
 
 not_below_itself : (a b : List ℕ) → is_same_path a b ≡ true → is_lt (slice_cmp nat_cmp a b) ≡ false
 not_below_itself a b same = go (slice_cmp nat_cmp a b) (sym (texts_ties a b) ∙ same)
@@ -61,7 +70,8 @@ not_below_itself a b same = go (slice_cmp nat_cmp a b) (sym (texts_ties a b) ∙
     go Equal h = refl
     go Greater h = refl
 
-module _ {A : Type 0} (key : A → List ℕ) (row : A → ℕ) (xs : List A) (sorted : IsInOrder key row xs) (name : List ℕ) where
+module _ {A : Type 0} (key : A → List ℕ) (row : A → ℕ) (xs : List A) (sorted : IsInOrder key row xs) (name : List ℕ)
+    where
   abbrev pub is_below : A → Bool
   is_below x = is_lt (slice_cmp nat_cmp (key x) name)
 
@@ -69,16 +79,20 @@ module _ {A : Type 0} (key : A → List ℕ) (row : A → ℕ) (xs : List A) (so
   has_key x = is_same_path (key x) name
 
   pub parted : IsPartitionedBy is_below xs
-  parted = λ i j d le inside e. lt_after (key (get_or xs i d)) (key (get_or xs j d)) name (far key row xs sorted i j d le inside).0 e
+  parted = λ i j d le inside e. lt_after (key (get_or xs i d)) (key (get_or xs j d)) name
+      (far key row xs sorted i j d le inside).0 e
 
-  module _ (zs : List A) (up : Rising row zs) (moved : IsPermutation zs xs) (at : ℕ) (point : IsPartitionPoint (λ x. is_below x ≡ true) (λ x. is_below x ≡ false) xs at) where
+  module _ (zs : List A) (up : Rising row zs) (moved : IsPermutation zs xs) (at : ℕ)
+      (point : IsPartitionPoint (λ x. is_below x ≡ true) (λ x. is_below x ≡ false) xs at) where
     -- an item of the key stands at that place or later
-    placed_from : (h : A) → IsIn h zs → has_key h ≡ true → (d : A) → (k : ℕ) × (at ≤ k) × (k < length xs) × (h ≡ get_or xs k d)
+    placed_from : (h : A) → IsIn h zs → has_key h ≡ true → (d : A)
+        → (k : ℕ) × (at ≤ k) × (k < length xs) × (h ≡ get_or xs k d)
     placed_from h k e d =
         let c = Contains-permutation zs xs h moved (contained zs h k) in
         let here : h ≡ get_or xs c.0 d = sym c.2 ∙ get_or-same xs c.0 h d c.1 in
         elim (cases_lt c.0 at) [
-          | inl before ↦ absurd (both_ways (is_below h) (not_below_itself (key h) name e) (subst (λ (x : A). is_below x ≡ true) (sym here) (point.0 c.0 d (omega arith) before)))
+          | inl before ↦ absurd (both_ways (is_below h) (not_below_itself (key h) name e)
+              (subst (λ (x : A). is_below x ≡ true) (sym here) (point.0 c.0 d (omega arith) before)))
           | inr behind ↦ (c.0, behind, c.1, here)
         ]
 
@@ -92,10 +106,12 @@ module _ {A : Type 0} (key : A → List ℕ) (row : A → ℕ) (xs : List A) (so
         let p = placed_from h k f d in
         let one : key g ≡ key h = (bytes_decides (key g) name).0 e ∙ sym ((bytes_decides (key h) name).0 f) in
         subst (λ (x : A). row g ≤ row x) (sym p.3)
-        ((far key row xs sorted at p.0 d p.1 p.2).1 (subst (λ (q : List ℕ). is_same_path (key g) q ≡ true) (one ∙ ap key p.3) ((bytes_decides (key g) (key g)).1 refl))))
+        ((far key row xs sorted at p.0 d p.1 p.2).1 (subst (λ (q : List ℕ). is_same_path (key g) q ≡ true)
+            (one ∙ ap key p.3) ((bytes_decides (key g) (key g)).1 refl))))
 
     pub no_key_past : length xs ≤ at → find has_key zs ≡ None
-    no_key_past past = find_none has_key zs (λ h k. false_from_ne_true (has_key h) (λ e. let p = placed_from h k e h in absurd (omega (arith, p.1, p.2))))
+    no_key_past past = find_none has_key zs (λ h k. false_from_ne_true (has_key h)
+        (λ e. let p = placed_from h k e h in absurd (omega (arith, p.1, p.2))))
 
     pub no_key_at : (d : A) → at < length xs → has_key (get_or xs at d) ≡ false → find has_key zs ≡ None
     no_key_at d inside out = find_none has_key zs (λ h k. false_from_ne_true (has_key h) (λ e.

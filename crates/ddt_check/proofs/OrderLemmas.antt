@@ -24,7 +24,8 @@ iff_same false false f g = refl
 abbrev pub IsUpTo : List ℕ → List ℕ → Type 0
 IsUpTo p q = is_lt (slice_cmp nat_cmp q p) ≡ false
 
-heads : (less same : Bool) (o : Ordering) → is_lt (ordering_then (cond less Less (cond same Equal Greater)) o) ≡ false → (less ≡ false) × (same ≡ true → is_lt o ≡ false)
+heads : (less same : Bool) (o : Ordering) → is_lt (ordering_then (cond less Less (cond same Equal Greater)) o) ≡ false
+    → (less ≡ false) × (same ≡ true → is_lt o ≡ false)
 heads true same o h = absurd (true≢false h)
 heads false true o h = (refl, λ e. h)
 heads false false o h = (refl, λ e. absurd (false≢true e))
@@ -42,7 +43,8 @@ covers-between (d ∷ p) (e ∷ q) (f ∷ r) up down inside =
     let low = ltb-false e d x.0 in
     let high = ltb-false f e y.0 in
     let same : e ≡ d = omega arith in
-    and_from (d == e) (covers p q) (eq-eqb d e (sym same)) (covers-between p q r (x.1 (eq-eqb e d same)) (y.1 (eq-eqb f e (omega arith))) s.1)
+    and_from (d == e) (covers p q) (eq-eqb d e (sym same)) (covers-between p q r (x.1 (eq-eqb e d same))
+        (y.1 (eq-eqb f e (omega arith))) s.1)
 
 -- what is covered by a prefix that doesn't stand before it is that prefix
 pub covers-back : (a c : List ℕ) → IsUpTo a c → covers c a ≡ true → covers a c ≡ true
@@ -58,7 +60,8 @@ tie o Less e f g = absurd (true≢false f)
 tie o Equal e f g = ap is_eq e
 tie o Greater e f g = absurd (true≢false (sym (ap is_lt e) ∙ g))
 
-pub is_same_path-between : (a b c : List ℕ) → IsUpTo a b → IsUpTo b c → IsUpTo a c → is_same_path a c ≡ true → is_same_path a b ≡ true
+pub is_same_path-between : (a b c : List ℕ) → IsUpTo a b → IsUpTo b c → IsUpTo a c → is_same_path a c ≡ true
+    → is_same_path a b ≡ true
 is_same_path-between a b c up down far e =
     let back : IsUpTo b a = subst (λ (p : List ℕ). IsUpTo b p) (sym ((bytes_decides a c).0 e)) down in
     texts_ties a b ∙ tie (slice_cmp nat_cmp a b) (slice_cmp nat_cmp b a) (nat_list_cmp_total.antisymm a b) up back
@@ -69,13 +72,16 @@ lt_part : (less same : Bool) → is_lt (cond less Less (cond same Equal Greater)
 lt_part true same h = h
 lt_part false same h = refl
 
-some_in : {A : Type 0} (test : A → Bool) (y : A) (xs : List A) → ((list_any test xs ≡ true) → (x : A) × IsIn x xs × (test x ≡ true)) → (b c : Bool) → test y ≡ b → list_any test xs ≡ c → (b || c) ≡ true → (x : A) × IsIn x (y ∷ xs) × (test x ≡ true)
+some_in : {A : Type 0} (test : A → Bool) (y : A) (xs : List A)
+    → ((list_any test xs ≡ true) → (x : A) × IsIn x xs × (test x ≡ true)) → (b c : Bool) → test y ≡ b
+    → list_any test xs ≡ c → (b || c) ≡ true → (x : A) × IsIn x (y ∷ xs) × (test x ≡ true)
 some_in test y xs ih true c e f h = (y, inl refl, e)
 some_in test y xs ih false true e f h = let p = ih f in (p.0, inr p.1, p.2)
 some_in test y xs ih false false e f h = absurd (false≢true h)
 
 -- an item that passes, and that one passes
-pub any_in : {A : Type 0} (test : A → Bool) (xs : List A) → list_any test xs ≡ true → (x : A) × IsIn x xs × (test x ≡ true)
+pub any_in : {A : Type 0} (test : A → Bool) (xs : List A) → list_any test xs ≡ true
+    → (x : A) × IsIn x xs × (test x ≡ true)
 any_in test [] h = absurd (false≢true h)
 any_in test (y ∷ xs) h = some_in test y xs (any_in test xs) (test y) (list_any test xs) refl refl h
 
@@ -91,50 +97,68 @@ module _ {A : Type 0} (key : A → List ℕ) (row : A → ℕ) where
   in_order_total : IsTotalOrder (in_order key row)
   in_order_total = then_total (on_total key nat_list_cmp_total) (on_total row nat_cmp_total)
 
-  order_cases : (a b : A) (o : Ordering) → slice_cmp nat_cmp (key b) (key a) ≡ o → is_lt (ordering_then o (nat_cmp (row b) (row a))) ≡ false → IsUpTo (key a) (key b) × (is_same_path (key a) (key b) ≡ true → row a ≤ row b)
+  order_cases : (a b : A) (o : Ordering) → slice_cmp nat_cmp (key b) (key a) ≡ o
+      → is_lt (ordering_then o (nat_cmp (row b) (row a))) ≡ false
+      → IsUpTo (key a) (key b) × (is_same_path (key a) (key b) ≡ true → row a ≤ row b)
   order_cases a b Less e h = absurd (true≢false h)
-  order_cases a b Equal e h = (ap is_lt e, λ same. ltb-false (row b) (row a) (lt_part (ltb (row b) (row a)) (row b == row a) h))
+  order_cases a b Equal e h = (ap is_lt e, λ same. ltb-false (row b) (row a)
+      (lt_part (ltb (row b) (row a)) (row b == row a) h))
   order_cases a b Greater e h =
-      (ap is_lt e, λ same. absurd (both_ways (is_same_path (key a) (key b)) (texts_ties (key a) (key b) ∙ ap is_eq (nat_list_cmp_total.antisymm (key a) (key b) ∙ ap ordering_reverse e)) same))
+      (ap is_lt e, λ same. absurd (both_ways (is_same_path (key a) (key b))
+          (texts_ties (key a) (key b) ∙ ap is_eq (nat_list_cmp_total.antisymm (key a) (key b) ∙ ap ordering_reverse
+          e)) same))
 
   module _ (xs : List A) (sorted : IsInOrder key row xs) where
     -- of two places the later has no lower key, and no lower row where the keys are one
-    pub far : (i j : ℕ) (d : A) → i ≤ j → j < length xs → IsUpTo (key (get_or xs i d)) (key (get_or xs j d)) × (is_same_path (key (get_or xs i d)) (key (get_or xs j d)) ≡ true → row (get_or xs i d) ≤ row (get_or xs j d))
+    pub far : (i j : ℕ) (d : A) → i ≤ j → j < length xs
+        → IsUpTo (key (get_or xs i d)) (key (get_or xs j d)) × (is_same_path (key (get_or xs i d)) (key (get_or xs j d)) ≡ true → row (get_or xs i d) ≤ row (get_or xs j d))
     far i j d le inside =
-        order_cases (get_or xs i d) (get_or xs j d) _ refl (sorted_far (λ x y. is_lt (in_order key row x y)) (ranks_by in_order_total (λ x. x)) xs sorted i j d le inside)
+        order_cases (get_or xs i d) (get_or xs j d) _ refl (sorted_far (λ x y. is_lt (in_order key row x y))
+            (ranks_by in_order_total (λ x. x)) xs sorted i j d le inside)
 
     module _ (zs : List A) (up : Rising row zs) (moved : IsPermutation zs xs) where
       abbrev has_earlier : A → Bool
       has_earlier x = list_any (λ y. nat_lt (row y) (row x) && is_same_path (key y) (key x)) zs
 
       -- the neighbour before, where its key is the same
-      pub beside-earlier : (at : ℕ) (d : A) → at + 1 < length xs → is_same_path (key (get_or xs at d)) (key (get_or xs (at + 1) d)) ≡ true → has_earlier (get_or xs (at + 1) d) ≡ true
+      pub beside-earlier : (at : ℕ) (d : A) → at + 1 < length xs
+          → is_same_path (key (get_or xs at d)) (key (get_or xs (at + 1) d)) ≡ true
+          → has_earlier (get_or xs (at + 1) d) ≡ true
       beside-earlier at d inside same =
           let y = get_or xs at d in
           let x = get_or xs (at + 1) d in
           let le = (far at (at + 1) d (omega arith) inside).1 same in
           let ne = eqb-false _ _ (rows_apart row zs xs up moved at (at + 1) d (omega arith) inside) in
-          let k = in_contained zs y (Contains-permutation xs zs y (IsPermutation-sym zs xs moved) (Contains-get_or xs at d (omega arith))) in
-          in_any (λ y. nat_lt (row y) (row x) && is_same_path (key y) (key x)) zs y k (and_from (nat_lt (row y) (row x)) (is_same_path (key y) (key x)) (lt-ltb (row y) (row x) (omega arith)) same)
+          let k = in_contained zs y (Contains-permutation xs zs y (IsPermutation-sym zs xs moved)
+              (Contains-get_or xs at d (omega arith))) in
+          in_any (λ y. nat_lt (row y) (row x) && is_same_path (key y) (key x)) zs y k
+              (and_from (nat_lt (row y) (row x)) (is_same_path (key y) (key x)) (lt-ltb (row y) (row x) (omega arith))
+              same)
 
       -- an earlier one of the same key stands before, and the neighbour before has the key too
-      earlier-place : (at : ℕ) (d : A) → at < length xs → has_earlier (get_or xs at d) ≡ true → (j : ℕ) × (j < at) × (is_same_path (key (get_or xs j d)) (key (get_or xs at d)) ≡ true)
+      earlier-place : (at : ℕ) (d : A) → at < length xs → has_earlier (get_or xs at d) ≡ true
+          → (j : ℕ) × (j < at) × (is_same_path (key (get_or xs j d)) (key (get_or xs at d)) ≡ true)
       earlier-place at d inside e =
           let x = get_or xs at d in
           let f = any_in (λ y. nat_lt (row y) (row x) && is_same_path (key y) (key x)) zs e in
           let p = and_parts (nat_lt (row f.0) (row x)) (is_same_path (key f.0) (key x)) f.2 in
           let c = Contains-permutation zs xs f.0 moved (contained zs f.0 f.1) in
-          let same : is_same_path (key (get_or xs c.0 d)) (key x) ≡ true = subst (λ (y : A). is_same_path (key y) (key x) ≡ true) (sym c.2 ∙ get_or-same xs c.0 f.0 d c.1) p.1 in
-          let lower : row (get_or xs c.0 d) < row x = subst (λ (y : A). row y < row x) (sym c.2 ∙ get_or-same xs c.0 f.0 d c.1) (ltb-true (row f.0) (row x) p.0) in
+          let same : is_same_path (key (get_or xs c.0 d)) (key x) ≡ true = subst
+              (λ (y : A). is_same_path (key y) (key x) ≡ true) (sym c.2 ∙ get_or-same xs c.0 f.0 d c.1) p.1 in
+          let lower : row (get_or xs c.0 d) < row x = subst (λ (y : A). row y < row x)
+              (sym c.2 ∙ get_or-same xs c.0 f.0 d c.1) (ltb-true (row f.0) (row x) p.0) in
           elim (cases_lt c.0 at) [
             | inl before ↦ (c.0, before, same)
-            | inr behind ↦ absurd (let le = (far at c.0 d behind c.1).1 (flip_path (key (get_or xs c.0 d)) (key x) same) in omega arith)
+            | inr behind ↦ absurd (let le = (far at c.0 d behind c.1).1
+                (flip_path (key (get_or xs c.0 d)) (key x) same) in omega arith)
           ]
 
       -- whether an earlier row has the key, by the neighbour before
-      pub has_earlier-beside : (at : ℕ) (d : A) → at + 1 < length xs → is_same_path (key (get_or xs at d)) (key (get_or xs (at + 1) d)) ≡ has_earlier (get_or xs (at + 1) d)
+      pub has_earlier-beside : (at : ℕ) (d : A) → at + 1 < length xs
+          → is_same_path (key (get_or xs at d)) (key (get_or xs (at + 1) d)) ≡ has_earlier (get_or xs (at + 1) d)
       has_earlier-beside at d inside =
-          iff_same (is_same_path (key (get_or xs at d)) (key (get_or xs (at + 1) d))) (has_earlier (get_or xs (at + 1) d))
+          iff_same (is_same_path (key (get_or xs at d)) (key (get_or xs (at + 1) d)))
+              (has_earlier (get_or xs (at + 1) d))
           (beside-earlier at d inside)
           (λ e.
           let p = earlier-place (at + 1) d inside e in
@@ -149,4 +173,5 @@ module _ {A : Type 0} (key : A → List ℕ) (row : A → ℕ) where
           subst (λ (k : List ℕ). is_same_path k c ≡ true) first p.2)
 
       pub has_earlier-first : (d : A) → 0 < length xs → has_earlier (get_or xs 0 d) ≡ false
-      has_earlier-first d inside = false_from_ne_true (has_earlier (get_or xs 0 d)) (λ e. let p = earlier-place 0 d inside e in absurd (omega (arith, p.1)))
+      has_earlier-first d inside = false_from_ne_true (has_earlier (get_or xs 0 d))
+          (λ e. let p = earlier-place 0 d inside e in absurd (omega (arith, p.1)))

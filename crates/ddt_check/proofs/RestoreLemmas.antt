@@ -15,62 +15,75 @@ abbrev pub Rising : {A : Type 0} → (A → ℕ) → List A → Type 0
 Rising row [] = ⊤
 Rising row (x ∷ xs) = ((y : _) → IsIn y xs → row x < row y) × Rising row xs
 
-pub rising_from_rise : {A : Type 0} (row : A → ℕ) (xs : List A) (last : ℕ) → rise last (map row xs) ≡ true → Rising row xs
+pub rising_from_rise : {A : Type 0} (row : A → ℕ) (xs : List A) (last : ℕ) → rise last (map row xs) ≡ true
+    → Rising row xs
 rising_from_rise row [] last e = tt
 rising_from_rise row (x ∷ xs) last e =
     let p = rise_parts last (row x) (map row xs) e in
     (λ y k. above row xs (row x) y p.1 k, rising_from_rise row xs (row x) p.1)
 
-rising_from_places : {A : Type 0} (row : A → ℕ) (xs : List A) → ((i j : ℕ) (d : A) → i < j → j < length xs → row (get_or xs i d) < row (get_or xs j d)) → Rising row xs
+rising_from_places : {A : Type 0} (row : A → ℕ) (xs : List A)
+    → ((i j : ℕ) (d : A) → i < j → j < length xs → row (get_or xs i d) < row (get_or xs j d)) → Rising row xs
 rising_from_places row [] h = tt
 rising_from_places row (x ∷ xs) h = (
-  λ y k. let c = contained xs y k in subst (λ (a : _). row x < row a) c.2 (h 0 (suc c.0) y (omega arith) (omega (arith, c.1))),
+  λ y k. let c = contained xs y k in subst (λ (a : _). row x < row a) c.2
+      (h 0 (suc c.0) y (omega arith) (omega (arith, c.1))),
   rising_from_places row xs (λ i j d below inside. h (suc i) (suc j) d (omega arith) (omega arith)),
 )
 
-rising_places : {A : Type 0} (row : A → ℕ) (xs : List A) → Rising row xs → (i j : ℕ) (d : A) → i < j → j < length xs → row (get_or xs i d) < row (get_or xs j d)
+rising_places : {A : Type 0} (row : A → ℕ) (xs : List A) → Rising row xs → (i j : ℕ) (d : A) → i < j → j < length xs
+    → row (get_or xs i d) < row (get_or xs j d)
 rising_places row [] up i j d below inside = absurd (omega arith)
 rising_places row (x ∷ xs) up i zero d below inside = absurd (omega arith)
-rising_places row (x ∷ xs) up zero (suc j) d below inside = up.0 (get_or xs j d) (in_contained xs (get_or xs j d) (Contains-get_or xs j d (omega arith)))
-rising_places row (x ∷ xs) up (suc i) (suc j) d below inside = rising_places row xs up.1 i j d (omega arith) (omega arith)
+rising_places row (x ∷ xs) up zero (suc j) d below inside = up.0 (get_or xs j d)
+    (in_contained xs (get_or xs j d) (Contains-get_or xs j d (omega arith)))
+rising_places row (x ∷ xs) up (suc i) (suc j) d below inside = rising_places row xs up.1 i j d (omega arith)
+    (omega arith)
 
 same_row-flips : (m n : ℕ) → (m == n) ≡ (n == m)
 same_row-flips m n = grind arith
 
 -- rows are distinct in any order of the items
-pub rows_apart : {A : Type 0} (row : A → ℕ) (xs ys : List A) → Rising row xs → IsPermutation xs ys → (i j : ℕ) (d : A) → i < j → j < length ys → (row (get_or ys i d) == row (get_or ys j d)) ≡ false
+pub rows_apart : {A : Type 0} (row : A → ℕ) (xs ys : List A) → Rising row xs → IsPermutation xs ys → (i j : ℕ) (d : A)
+    → i < j → j < length ys → (row (get_or ys i d) == row (get_or ys j d)) ≡ false
 rows_apart row xs ys up moved i j d below inside =
     let e = (λ (a b : _). row a == row b) in
     apart_from_distinct e ys i j d
     (IsDistinct-IsPermutation e (λ a b. same_row-flips (row a) (row b)) xs ys moved
-    (IsDistinct-from_apart e xs (λ i j d below inside. ne_eqb _ _ (λ same. let lt = rising_places row xs up i j d below inside in omega arith))))
+    (IsDistinct-from_apart e xs (λ i j d below inside. ne_eqb _ _
+        (λ same. let lt = rising_places row xs up i j d below inside in omega arith))))
     below inside
 
-heads : {A : Type 0} (row : A → ℕ) (x y : A) (xs ys : List A) → Rising row (x ∷ xs) → Rising row (y ∷ ys) → IsIn x (y ∷ ys) → IsIn y (x ∷ xs) → y ≡ x
+heads : {A : Type 0} (row : A → ℕ) (x y : A) (xs ys : List A) → Rising row (x ∷ xs) → Rising row (y ∷ ys)
+    → IsIn x (y ∷ ys) → IsIn y (x ∷ xs) → y ≡ x
 heads row x y xs ys up vp (inl same) there = sym same
 heads row x y xs ys up vp (inr later) (inl same) = same
 heads row x y xs ys up vp (inr later) (inr also) = let a = up.0 y also in let b = vp.0 x later in absurd (omega arith)
 
-tails : {A : Type 0} (row : A → ℕ) (x y : A) (xs ys : List A) → Rising row (x ∷ xs) → y ≡ x → ((a : A) → IsIn a (x ∷ xs) → IsIn a (y ∷ ys)) → (a : A) → IsIn a xs → IsIn a ys
+tails : {A : Type 0} (row : A → ℕ) (x y : A) (xs ys : List A) → Rising row (x ∷ xs) → y ≡ x
+    → ((a : A) → IsIn a (x ∷ xs) → IsIn a (y ∷ ys)) → (a : A) → IsIn a xs → IsIn a ys
 tails row x y xs ys up same sub a k = go (sub a (inr k))
   where
     go : IsIn a (y ∷ ys) → IsIn a ys
     go (inl head) = let lt = up.0 a k in let e : row a ≡ row x = ap row (head ∙ same) in absurd (omega arith)
     go (inr later) = later
 
-pub one_order : {A : Type 0} (row : A → ℕ) (xs ys : List A) → Rising row xs → Rising row ys → ((a : A) → IsIn a xs → IsIn a ys) → ((a : A) → IsIn a ys → IsIn a xs) → ys ≡ xs
+pub one_order : {A : Type 0} (row : A → ℕ) (xs ys : List A) → Rising row xs → Rising row ys
+    → ((a : A) → IsIn a xs → IsIn a ys) → ((a : A) → IsIn a ys → IsIn a xs) → ys ≡ xs
 one_order row [] [] up vp sub sup = refl
 one_order row [] (y ∷ ys) up vp sub sup = absurd (sup y (inl refl))
 one_order row (x ∷ xs) [] up vp sub sup = absurd (sub x (inl refl))
 one_order row (x ∷ xs) (y ∷ ys) up vp sub sup =
     let same = heads row x y xs ys up vp (sub x (inl refl)) (sup y (inl refl)) in
-    let rest = one_order row xs ys up.1 vp.1 (tails row x y xs ys up same sub) (tails row y x ys xs vp (sym same) sup) in
+    let rest = one_order row xs ys up.1 vp.1 (tails row x y xs ys up same sub)
+        (tails row y x ys xs vp (sym same) sup) in
     ap (λ (h : _). h ∷ ys) same ∙ ap (λ (t : List _). x ∷ t) rest
 
 pub moved_in : {A : Type 0} (xs ys : List A) → IsPermutation xs ys → (a : A) → IsIn a xs → IsIn a ys
 moved_in xs ys moved a k = in_contained ys a (Contains-permutation xs ys a moved (contained xs a k))
 
-pub restored : {A : Type 0} (row : A → ℕ) (xs ys : List A) → rise 0 (map row xs) ≡ true → IsPermutation xs ys → IsSortedByKey row nat_cmp ys → ys ≡ xs
+pub restored : {A : Type 0} (row : A → ℕ) (xs ys : List A) → rise 0 (map row xs) ≡ true → IsPermutation xs ys
+    → IsSortedByKey row nat_cmp ys → ys ≡ xs
 restored row xs ys rises moved sorted =
     let up = rising_from_rise row xs 0 rises in
     let flat = IsNonDecreasingBy-from_sort row ys sorted in

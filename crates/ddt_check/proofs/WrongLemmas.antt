@@ -21,25 +21,31 @@ use Rattle.ddt_check.proofs.RestoreLemmas.{Rising}
 use Rattle.ddt_check.proofs.RegisterLemmas.{groups_up}
 
 -- a wider test that holds at no row without the narrow one at a row no higher
-least_wider : (t b : ℕ → Bool) (o : Option ℕ) → ((n : ℕ) → t n ≡ true → b n ≡ true) → ((n : ℕ) → b n ≡ true → (m : ℕ) × (m ≤ n) × (t m ≡ true)) → IsLeastRow t o → IsLeastRow b o
+least_wider : (t b : ℕ → Bool) (o : Option ℕ) → ((n : ℕ) → t n ≡ true → b n ≡ true)
+    → ((n : ℕ) → b n ≡ true → (m : ℕ) × (m ≤ n) × (t m ≡ true)) → IsLeastRow t o → IsLeastRow b o
 least_wider t b None up down h = λ n. false_from_ne_true (b n) (λ e. let p = down n e in both_ways (t p.0) (h p.0) p.2)
 least_wider t b (Some x) up down h =
-    (up x h.0, λ n lt. false_from_ne_true (b n) (λ e. let p = down n e in both_ways (t p.0) (h.1 p.0 (let le = p.1 in omega arith)) p.2))
+    (up x h.0, λ n lt. false_from_ne_true (b n) (λ e. let p = down n e in both_ways (t p.0)
+        (h.1 p.0 (let le = p.1 in omega arith)) p.2))
 
 -- in rising rows the first item that passes stands in no higher row than another that does
-pub first_found : {A : Type 0} (row : A → ℕ) (test : A → Bool) (xs : List A) (h : A) → Rising row xs → IsIn h xs → test h ≡ true → (g : A) × (find test xs ≡ Some g) × (row g ≤ row h)
+pub first_found : {A : Type 0} (row : A → ℕ) (test : A → Bool) (xs : List A) (h : A) → Rising row xs → IsIn h xs
+    → test h ≡ true → (g : A) × (find test xs ≡ Some g) × (row g ≤ row h)
 first_found row test [] h up k e = absurd k
 first_found row test (x ∷ xs) h up (inl same) e =
-    (x, cond-true (test x) (Some x) (find test xs) (ap test (sym same) ∙ e), let q : row x ≡ row h = ap row (sym same) in omega arith)
+    (x, cond-true (test x) (Some x) (find test xs) (ap test (sym same) ∙ e), let q : row x ≡ row h = ap row
+        (sym same) in omega arith)
 first_found {A} row test (x ∷ xs) h up (inr later) e = go (test x) refl (first_found row test xs h up.1 later e)
   where
-    go : (b : Bool) → test x ≡ b → (g : A) × (find test xs ≡ Some g) × (row g ≤ row h) → (g : A) × (find test (x ∷ xs) ≡ Some g) × (row g ≤ row h)
+    go : (b : Bool) → test x ≡ b → (g : A) × (find test xs ≡ Some g) × (row g ≤ row h)
+        → (g : A) × (find test (x ∷ xs) ≡ Some g) × (row g ≤ row h)
     go true f p = (x, cond-true (test x) (Some x) (find test xs) f, let lt = up.0 h later in omega arith)
     go false f p = (p.0, cond-false (test x) (Some x) (find test xs) f ∙ p.1, p.2)
 
 -- ---- locators as keys
 
-key_same : (o : Option Locator) (l : Locator) → is_same_path (key_list (pair_or_none o)) (locator_key l) ≡ true → o ≡ Some l
+key_same : (o : Option Locator) (l : Locator) → is_same_path (key_list (pair_or_none o)) (locator_key l) ≡ true
+    → o ≡ Some l
 key_same None (V4 b) e = absurd (false≢true e)
 key_same None (V6 b) e = absurd (false≢true e)
 key_same (Some (V4 a)) (V4 b) e = ap (λ (n : ℕ). Some (V4 n)) (eqb-true a b (and_parts (a == b) true e).0)
@@ -76,7 +82,8 @@ in_drop (x ∷ xs) (suc j) zero m le e = absurd (omega arith)
 in_drop (x ∷ xs) (suc j) (suc k) m le e = in_drop xs j k m (omega arith) e
 
 at_column : (k : ℕ) (l : Locator) (h : Group) → slice_get h.locators k ≡ Some l → has_at k l h ≡ true
-at_column k l h e = subst (λ (o : Option Locator). is_same_path (key_list (pair_or_none o)) (locator_key l) ≡ true) (sym e) (same_key l)
+at_column k l h e = subst (λ (o : Option Locator). is_same_path (key_list (pair_or_none o)) (locator_key l) ≡ true)
+    (sym e) (same_key l)
 
 -- ---- what is wrong at a row, of a group alone or in the first columns
 
@@ -92,15 +99,19 @@ column_upto : (r : Register) (j k n : ℕ) → j < k → is_met r j n ≡ true �
 column_upto r j zero n lt e = absurd (omega arith)
 column_upto r j (suc k) n lt e = elim (cases_lt j k) [
   | inl less ↦ or_left (wrong_upto r k n) (is_met r k n) (column_upto r j k n less e)
-  | inr more ↦ or_right (wrong_upto r k n) (is_met r k n) (let same : j ≡ k = omega arith in subst (λ (i : ℕ). is_met r i n ≡ true) same e)
+  | inr more ↦ or_right (wrong_upto r k n) (is_met r k n) (let same : j ≡ k = omega arith in subst
+      (λ (i : ℕ). is_met r i n ≡ true) same e)
 ]
 
 -- ---- what is found is wrong
 
-at_row : (r : Register) (g : Group) (n : ℕ) (t : Group → Bool) → IsIn g r.groups → g.row ≡ n → t g ≡ true → group_at r n t ≡ true
-at_row r g n t j same e = in_any (λ (h : Group). h.row == n && t h) r.groups g j (and_from (g.row == n) (t g) (eq-eqb g.row n same) e)
+at_row : (r : Register) (g : Group) (n : ℕ) (t : Group → Bool) → IsIn g r.groups → g.row ≡ n → t g ≡ true
+    → group_at r n t ≡ true
+at_row r g n t j same e = in_any (λ (h : Group). h.row == n && t h) r.groups g j
+    (and_from (g.row == n) (t g) (eq-eqb g.row n same) e)
 
-group_from : (r : Register) (n : ℕ) (t u : Group → Bool) → ((g : Group) → t g ≡ true → u g ≡ true) → group_at r n t ≡ true → group_at r n u ≡ true
+group_from : (r : Register) (n : ℕ) (t u : Group → Bool) → ((g : Group) → t g ≡ true → u g ≡ true)
+    → group_at r n t ≡ true → group_at r n u ≡ true
 group_from r n t u weaker e =
     let f = any_in (λ (g : Group). g.row == n && t g) r.groups e in
     let p = and_parts (f.0.row == n) (t f.0) f.2 in
@@ -114,21 +125,26 @@ alone_is_wrong false false false d e = absurd (false≢true e)
 
 wrong_alone_wrong : (r : Register) (g : Group) → is_wrong_alone g ≡ true → has_wrong_locators r g ≡ true
 wrong_alone_wrong r g e =
-    alone_is_wrong (length g.locators == 0) (nat_lt 8 (length g.locators)) (has_repeat g.locators) (earlier_group r g (λ h. share h.locators g.locators)) e
+    alone_is_wrong (length g.locators == 0) (nat_lt 8 (length g.locators)) (has_repeat g.locators)
+        (earlier_group r g (λ h. share h.locators g.locators)) e
 
 -- the later of two groups that share a locator
-later_wrong : (r : Register) (h g : Group) (l : Locator) (n : ℕ) → IsIn h r.groups → IsIn g r.groups → h.row < g.row → IsIn l h.locators → IsIn l g.locators → g.row ≡ n → broken r rules.Locators n ≡ true
+later_wrong : (r : Register) (h g : Group) (l : Locator) (n : ℕ) → IsIn h r.groups → IsIn g r.groups → h.row < g.row
+    → IsIn l h.locators → IsIn l g.locators → g.row ≡ n → broken r rules.Locators n ≡ true
 later_wrong r h g l n j k lt first second same =
     let shared : share h.locators g.locators ≡ true =
-    in_any (λ (x : Locator). lists g.locators x) h.locators l first (in_any (λ (x : Locator). is_same_locator x l) g.locators l second (same_self l)) in
+    in_any (λ (x : Locator). lists g.locators x) h.locators l first
+        (in_any (λ (x : Locator). is_same_locator x l) g.locators l second (same_self l)) in
     let earlier : earlier_group r g (λ h. share h.locators g.locators) ≡ true =
     in_any (λ (h : Group). nat_lt h.row g.row && share h.locators g.locators) r.groups h j
     (and_from (nat_lt h.row g.row) (share h.locators g.locators) (lt-ltb h.row g.row lt) shared) in
     at_row r g n (has_wrong_locators r) k same
-    (or_right (length g.locators == 0 || nat_lt 8 (length g.locators)) (has_repeat g.locators || earlier_group r g (λ h. share h.locators g.locators))
+    (or_right (length g.locators == 0 || nat_lt 8 (length g.locators))
+        (has_repeat g.locators || earlier_group r g (λ h. share h.locators g.locators))
     (or_right (has_repeat g.locators) (earlier_group r g (λ h. share h.locators g.locators)) earlier))
 
-meets_wrong : (r : Register) (k : ℕ) (g : Group) (l : Locator) (n : ℕ) (found : Option Group) → first_in r k l ≡ found → IsIn g r.groups → IsIn l g.locators
+meets_wrong : (r : Register) (k : ℕ) (g : Group) (l : Locator) (n : ℕ) (found : Option Group) → first_in r k l ≡ found
+    → IsIn g r.groups → IsIn l g.locators
     → option_map_or (λ h. is_later_row h.row g.row n) found false ≡ true → broken r rules.Locators n ≡ true
 meets_wrong r k g l n None e j in_g q = absurd (false≢true q)
 meets_wrong r k g l n (Some h) e j in_g q =
@@ -162,7 +178,8 @@ is_later_row-max : (row other : ℕ) → row ≢ other → is_later_row row othe
 is_later_row-max row other apart = rw (ne_eqb row other apart, eq-eqb (max row other) (max row other) refl) refl
 
 -- where the first group of a locator in a column stands in another row than a group that has the locator from there on
-met_at : (r : Register) (k : ℕ) (g f : Group) (l : Locator) (n : ℕ) → IsIn g r.groups → IsIn l (drop k g.locators) → first_in r k l ≡ Some f → f.row ≢ g.row → max f.row g.row ≡ n → is_met r k n ≡ true
+met_at : (r : Register) (k : ℕ) (g f : Group) (l : Locator) (n : ℕ) → IsIn g r.groups → IsIn l (drop k g.locators)
+    → first_in r k l ≡ Some f → f.row ≢ g.row → max f.row g.row ≡ n → is_met r k n ≡ true
 met_at r k g f l n j i e apart most =
     in_any (λ (x : Group). meets_in r k x n) r.groups g j
     (in_any (λ (x : Locator). meets_at r k g x n) (drop k g.locators) l i
@@ -170,7 +187,8 @@ met_at r k g f l n j i e apart most =
     ∙ subst (λ (m : ℕ). is_later_row f.row g.row m ≡ true) most (is_later_row-max f.row g.row apart)))
 
 -- an earlier group has the locator in the column, and the group has it there or behind
-met_by_first : (r : Register) (k : ℕ) (h g : Group) (l : Locator) → IsIn h r.groups → IsIn g r.groups → h.row < g.row → slice_get h.locators k ≡ Some l → IsIn l (drop k g.locators) → is_met r k g.row ≡ true
+met_by_first : (r : Register) (k : ℕ) (h g : Group) (l : Locator) → IsIn h r.groups → IsIn g r.groups → h.row < g.row
+    → slice_get h.locators k ≡ Some l → IsIn l (drop k g.locators) → is_met r k g.row ≡ true
 met_by_first r k h g l j i lt at in_g =
     let test = λ (x : Group). is_same_path (column_key k x) (locator_key l) in
     let p = first_found (λ (x : Group). x.row) test r.groups h (groups_up r) j (at_column k l h at) in
@@ -178,16 +196,21 @@ met_by_first r k h g l j i lt at in_g =
     met_at r k g p.0 l g.row i in_g p.1 (let apart : p.0.row ≢ g.row = omega arith in apart) (omega arith)
 
 -- the group has the locator in the column, and an earlier one behind it
-met_behind : (r : Register) (k : ℕ) (h g f : Group) (l : Locator) → IsIn h r.groups → IsIn g r.groups → h.row < g.row → IsIn l (drop k h.locators) → slice_get g.locators k ≡ Some l → first_in r k l ≡ Some f → f.row ≤ g.row → is_met r k g.row ≡ true
+met_behind : (r : Register) (k : ℕ) (h g f : Group) (l : Locator) → IsIn h r.groups → IsIn g r.groups → h.row < g.row
+    → IsIn l (drop k h.locators) → slice_get g.locators k ≡ Some l → first_in r k l ≡ Some f → f.row ≤ g.row
+    → is_met r k g.row ≡ true
 met_behind r k h g f l j i lt in_h at e le =
     let test = λ (x : Group). is_same_path (column_key k x) (locator_key l) in
     elim (cases_lt f.row g.row) [
       | inl before ↦
-          met_by_first r k f g l (found_in test r.groups f e) i before (key_same (slice_get f.locators k) l (found_passes test r.groups f e)) (in_drop g.locators k k l (omega arith) at)
+          met_by_first r k f g l (found_in test r.groups f e) i before
+              (key_same (slice_get f.locators k) l (found_passes test r.groups f e))
+              (in_drop g.locators k k l (omega arith) at)
       | inr same ↦ met_at r k h f l g.row j in_h e (let apart : f.row ≢ h.row = omega arith in apart) (omega arith)
     ]
 
-met_by_both : (r : Register) (h g : Group) (l : Locator) (a b : ℕ) → IsIn h r.groups → IsIn g r.groups → h.row < g.row → slice_get h.locators a ≡ Some l → slice_get g.locators b ≡ Some l
+met_by_both : (r : Register) (h g : Group) (l : Locator) (a b : ℕ) → IsIn h r.groups → IsIn g r.groups → h.row < g.row
+    → slice_get h.locators a ≡ Some l → slice_get g.locators b ≡ Some l
     → (k : ℕ) × (k ≤ a) × (is_met r k g.row ≡ true)
 met_by_both r h g l a b j i lt at_h at_g = elim (cases_lt b a) [
   | inr le ↦ (a, omega arith, met_by_first r a h g l j i lt at_h (in_drop g.locators a b l le at_g))
@@ -207,7 +230,8 @@ split_wrong false false false d e = inr e
 abbrev pub AreWithin : Register → ℕ → Type 0
 AreWithin r k = (g : Group) → IsIn g r.groups → (length g.locators ≤ k) ⊎ (8 < length g.locators)
 
-shared_upto : (r : Register) (k : ℕ) → AreWithin r k → (h g : Group) (l : Locator) → IsIn h r.groups → IsIn g r.groups → h.row < g.row → IsIn l h.locators → IsIn l g.locators
+shared_upto : (r : Register) (k : ℕ) → AreWithin r k → (h g : Group) (l : Locator) → IsIn h r.groups → IsIn g r.groups
+    → h.row < g.row → IsIn l h.locators → IsIn l g.locators
     → (m : ℕ) × (m ≤ g.row) × (wrong_upto r k m ≡ true)
 shared_upto r k within h g l j i lt in_h in_g =
     let a = get_in h.locators l in_h in
@@ -226,13 +250,15 @@ shared_upto r k within h g l j i lt in_h in_g =
       )
     ]
 
-wrong_found : (r : Register) (k : ℕ) → AreWithin r k → (n : ℕ) → broken r rules.Locators n ≡ true → (m : ℕ) × (m ≤ n) × (wrong_upto r k m ≡ true)
+wrong_found : (r : Register) (k : ℕ) → AreWithin r k → (n : ℕ) → broken r rules.Locators n ≡ true
+    → (m : ℕ) × (m ≤ n) × (wrong_upto r k m ≡ true)
 wrong_found r k within n e =
     let f = any_in (λ (g : Group). g.row == n && has_wrong_locators r g) r.groups e in
     let g = f.0 in
     let p = and_parts (g.row == n) (has_wrong_locators r g) f.2 in
     let at : g.row ≡ n = eqb-true g.row n p.0 in
-    elim (split_wrong (length g.locators == 0) (nat_lt 8 (length g.locators)) (has_repeat g.locators) (earlier_group r g (λ h. share h.locators g.locators)) p.1) [
+    elim (split_wrong (length g.locators == 0) (nat_lt 8 (length g.locators)) (has_repeat g.locators)
+        (earlier_group r g (λ h. share h.locators g.locators)) p.1) [
       | inl alone ↦ (g.row, omega arith, alone_upto r k g.row (at_row r g g.row is_wrong_alone f.1 refl alone))
       | inr shared ↦
           let s = any_in (λ (h : Group). nat_lt h.row g.row && share h.locators g.locators) r.groups shared in
@@ -245,11 +271,15 @@ wrong_found r k within n e =
           (m.0, let le : m.0 ≤ g.row = m.1 in omega arith, m.2)
     ]
 
-pub least_wrong : (r : Register) (k : ℕ) (o : Option ℕ) → AreWithin r k → IsLeastRow (wrong_upto r k) o → IsLeastRow (broken r rules.Locators) o
-least_wrong r k o within h = least_wider (wrong_upto r k) (broken r rules.Locators) o (upto_wrong r k) (wrong_found r k within) h
+pub least_wrong : (r : Register) (k : ℕ) (o : Option ℕ) → AreWithin r k → IsLeastRow (wrong_upto r k) o
+    → IsLeastRow (broken r rules.Locators) o
+least_wrong r k o within h = least_wider (wrong_upto r k) (broken r rules.Locators) o (upto_wrong r k)
+    (wrong_found r k within) h
 
 pub within_8 : (r : Register) → AreWithin r 8
 within_8 r = λ g j. elim (cases_lt 8 (length g.locators)) [ inl many ↦ inr many | inr few ↦ inl few ]
 
-pub within_none : (r : Register) (k : ℕ) → list_any (λ (g : Group). nat_lt k (length g.locators)) r.groups ≡ false → AreWithin r k
-within_none r k e = λ g j. inl (ltb-false k (length g.locators) (fails_at (λ (g : Group). nat_lt k (length g.locators)) r.groups g e j))
+pub within_none : (r : Register) (k : ℕ) → list_any (λ (g : Group). nat_lt k (length g.locators)) r.groups ≡ false
+    → AreWithin r k
+within_none r k e = λ g j. inl (ltb-false k (length g.locators)
+    (fails_at (λ (g : Group). nat_lt k (length g.locators)) r.groups g e j))

@@ -1,12 +1,11 @@
 -- The order that the lists are sorted in: by the digits of a prefix or the bytes of a name, then by the row.
-use Rattle.std.specs.Prelude.{ℕ, List, IsSorted, IsPermutation}
+use Rattle.std.specs.Prelude.{ℕ, List, IsSorted}
 use Rattle.std.specs.declared.cmp.Ordering.{Ordering}
 use Rattle.std.specs.Ordering.{nat_cmp, ordering_then}
 use Rattle.std.specs.Cmp.Lexicographic.{slice_cmp}
 use Rattle.ddt_register.specs.declared.zone.Zone.{Zone}
 use Rattle.ddt_register.specs.declared.site.Site.{Site}
 use Rattle.ddt_register.specs.declared.group.Group.{Group}
-use Rattle.ddt_register.specs.declared.register.Register.{Register}
 
 -- how two items compare by a key, and by their rows where they have one key
 abbrev pub in_order : {A : Type 0} → (A → List ℕ) → (A → ℕ) → A → A → Ordering
@@ -24,9 +23,3 @@ AreSitesInOrder sites = IsInOrder (λ s. s.prefix) (λ s. s.row) sites
 
 abbrev pub AreGroupsInOrder : List Group → Type 0
 AreGroupsInOrder groups = IsInOrder (λ g. g.name) (λ g. g.row) groups
-
--- the lists of a register in another order
-pub record AreReordered (r : Register) (zones : List Zone) (sites : List Site) (groups : List Group) : Type 0 where
-  pub same_zones : IsPermutation r.zones zones
-  pub same_sites : IsPermutation r.sites sites
-  pub same_groups : IsPermutation r.groups groups

@@ -1,15 +1,16 @@
 //! The check of a register against all ten rules, by lists that are sorted in place and sorted back.
 
-ghost use Rattle.std.specs.Prelude.{◌≡◌, ℕ, ◌<◌, true, false, MatchOption, IfOk, IfErr};
+ghost use Rattle.std.specs.Prelude.{◌≡◌, true, MatchOption, IfOk, IfErr};
 ghost use Rattle.ddt_register.specs.declared.register.Register.{Register as ARegister};
 ghost use Rattle.ddt_register.specs.Rows.{rise, zone_rows, site_rows, group_rows};
-ghost use Rattle.ddt_check.specs.declared.fault.Rule.{Rule as ARule};
-ghost use Rattle.ddt_check.specs.Rules.{IsAccepted, IsLeastFault, IsLeastRow, broken, rule_number};
-ghost use Rattle.ddt_check.specs.Order.{AreZonesInOrder, AreSitesInOrder, AreGroupsInOrder, AreReordered};
+ghost use Rattle.ddt_check.specs.Rules.{IsAccepted, IsLeastFault, IsLeastRow, broken};
+ghost use Rattle.ddt_check.specs.Order.{AreZonesInOrder, AreSitesInOrder, AreGroupsInOrder};
+ghost use Rattle.ddt_check.specs.Sorted.{AreReordered, AreEarlierKept, AreLeast};
 
 use crate::accepted::Accepted;
 use crate::fault::{Fault, Rule};
-use crate::rules::{groups, locators, sites, zones};
+use crate::rules::locators::wrong_locators;
+use crate::rules::{groups, sites, zones};
 use crate::sorting::{
     restore_groups, restore_sites, restore_zones, sort_groups, sort_sites, sort_zones,
 };
@@ -43,6 +44,15 @@ pub fn check(register: Register) -> Result<Accepted, (Register, Fault)>
     }
 }
 
+/// The least rows that break the rules on the root, on ETRs and on locators. These are looked for first, since they
+/// want the lists in other orders than the rest.
+#[derive(Clone, Copy)]
+struct Found {
+    root: Option<u32>,
+    etrs: Option<u32>,
+    locators: Option<u32>,
+}
+
 /// The register as it came, and the broken rule of least number with the least row that breaks it.
 fn find_fault(register: Register) -> (Register, Option<Fault>)
     ensures same { result.0 ≡ register }
@@ -50,11 +60,7 @@ fn find_fault(register: Register) -> (Register, Option<Fault>)
 {
     let root = first_root_fault(&register);
     let etrs = first_etrs_fault(&register);
-    let Register {
-        zones,
-        sites,
-        groups,
-    } = register;
+    let Register { zones, sites, groups } = register;
     let mut zones = zones.into_vec();
     let mut sites = sites.into_vec();
     let mut groups = groups.into_vec();
@@ -81,13 +87,22 @@ fn sort_and_test(
     ensures zones { zones.new ≡ zones.old }
     ensures sites { sites.new ≡ sites.old }
     ensures groups { groups.new ≡ groups.old }
-    ensures fault { (r : ARegister) → (r.zones ≡ zones.old) → (r.sites ≡ sites.old) → (r.groups ≡ groups.old) → IsLeastRow (broken r Rule.NoRoot) root → IsLeastRow (broken r Rule.TooManyEtrs) etrs → MatchOption result (IsAccepted r) (λ f. IsLeastFault r f.rule f.row) }
+    ensures fault {
+        (r : ARegister) → (r.zones ≡ zones.old) → (r.sites ≡ sites.old) → (r.groups ≡ groups.old)
+        → IsLeastRow (broken r Rule.NoRoot) root → IsLeastRow (broken r Rule.TooManyEtrs) etrs
+        → MatchOption result (IsAccepted r) (λ f. IsLeastFault r f.rule f.row)
+    }
 {
     sort_zones(zones);
     sort_sites(sites);
-    let wrong = locators::wrong_locators(groups);
+    let locators = wrong_locators(groups);
     sort_groups(groups);
-    let fault = first_fault(root, etrs, wrong, zones, sites, groups);
+    let found = Found {
+        root,
+        etrs,
+        locators,
+    };
+    let fault = first_fault(&found, zones, sites, groups);
     restore_zones(zones);
     restore_sites(sites);
     restore_groups(groups);
@@ -95,21 +110,17 @@ fn sort_and_test(
 }
 
 /// The first fault, by the rules in the order of their numbers.
-fn first_fault(
-    root: Option<u32>,
-    etrs: Option<u32>,
-    wrong: Option<u32>,
-    zones: &[Zone],
-    sites: &[Site],
-    groups: &[Group],
-) -> Option<Fault>
+fn first_fault(found: &Found, zones: &[Zone], sites: &[Site], groups: &[Group]) -> Option<Fault>
     requires zones { AreZonesInOrder zones.now }
     requires sites { AreSitesInOrder sites.now }
     requires groups { AreGroupsInOrder groups.now }
-    ensures { (r : ARegister) → AreReordered r zones.now sites.now groups.now → IsLeastRow (broken r Rule.NoRoot) root → IsLeastRow (broken r Rule.TooManyEtrs) etrs → IsLeastRow (broken r Rule.Locators) wrong → MatchOption result (IsAccepted r) (λ f. IsLeastFault r f.rule f.row) }
+    ensures {
+        (r : ARegister) → AreReordered r zones.now sites.now groups.now → AreLeast r found.now
+        → MatchOption result (IsAccepted r) (λ f. IsLeastFault r f.rule f.row)
+    }
 {
     for rule in RULES {
-        if let Some(row) = first_row(root, etrs, wrong, zones, sites, groups, rule) {
+        if let Some(row) = first_row(found, zones, sites, groups, rule) {
             return Some(Fault { rule, row });
         }
     }
@@ -118,9 +129,7 @@ fn first_fault(
 
 /// The least row that breaks a rule, where no rule before it is broken.
 fn first_row(
-    root: Option<u32>,
-    etrs: Option<u32>,
-    wrong: Option<u32>,
+    found: &Found,
     zones: &[Zone],
     sites: &[Site],
     groups: &[Group],
@@ -129,18 +138,21 @@ fn first_row(
     requires zones { AreZonesInOrder zones.now }
     requires sites { AreSitesInOrder sites.now }
     requires groups { AreGroupsInOrder groups.now }
-    ensures { (r : ARegister) → AreReordered r zones.now sites.now groups.now → IsLeastRow (broken r Rule.NoRoot) root → IsLeastRow (broken r Rule.TooManyEtrs) etrs → IsLeastRow (broken r Rule.Locators) wrong → ((earlier : ARule) (n : ℕ) → rule_number earlier < rule_number rule → broken r earlier n ≡ false) → IsLeastRow (broken r rule) result }
+    ensures {
+        (r : ARegister) → AreReordered r zones.now sites.now groups.now → AreLeast r found.now → AreEarlierKept r rule
+        → IsLeastRow (broken r rule) result
+    }
 {
     match rule {
-        Rule::NoRoot => root,
+        Rule::NoRoot => found.root,
         Rule::DuplicateZone => zones::duplicate(zones),
         Rule::DuplicateSite => sites::duplicate(sites),
         Rule::UnknownGroup => zones::of_unknown_group(zones, groups),
         Rule::Role => zones::of_other_role(zones, groups),
-        Rule::Locators => wrong,
+        Rule::Locators => found.locators,
         Rule::BelowMapServer => zones::below_map_server(zones),
         Rule::SiteOutside => sites::outside(sites, zones),
-        Rule::TooManyEtrs => etrs,
+        Rule::TooManyEtrs => found.etrs,
         Rule::DuplicateGroup => groups::duplicate(groups),
     }
 }

@@ -4,9 +4,10 @@ ghost use Rattle.std.specs.Prelude.{◌≡◌, ◌<◌, IsPermutation, slice_ind
 ghost use Rattle.std.specs.Option.{option_copied};
 ghost use Rattle.ddt_register.specs.declared.group.Group.{Group as AGroup};
 ghost use Rattle.ddt_register.specs.declared.register.Register.{Register as ARegister};
-ghost use Rattle.ddt_check.specs.Rules.{IsLeastRow, broken, is_duplicate_group};
+ghost use Rattle.ddt_check.specs.Rules.{is_duplicate_group};
 ghost use Rattle.ddt_check.specs.Zones.{is_same_name, group_named as group_of_name};
 ghost use Rattle.ddt_check.specs.Order.{AreGroupsInOrder};
+ghost use Rattle.ddt_check.specs.Sorted.{IsLeastOfGroups};
 
 use crate::fault::Rule;
 use crate::rules::lower;
@@ -36,7 +37,10 @@ fn has_same_name(a: &Group, b: &Group) -> bool
 fn repeats(groups: &[Group], at: usize) -> bool
     requires inside { at < length groups.now }
     requires sorted { AreGroupsInOrder groups.now }
-    ensures { (r : ARegister) (d : AGroup) → IsPermutation r.groups groups.now → result ≡ is_duplicate_group r (slice_index_or groups.now at d) }
+    ensures {
+        (r : ARegister) (d : AGroup) → IsPermutation r.groups groups.now
+        → result ≡ is_duplicate_group r (slice_index_or groups.now at d)
+    }
 {
     if at == 0 {
         return false;
@@ -47,7 +51,7 @@ fn repeats(groups: &[Group], at: usize) -> bool
 /// The least row of a group whose name an earlier one has.
 pub fn duplicate(groups: &[Group]) -> Option<u32>
     requires { AreGroupsInOrder groups.now }
-    ensures { (r : ARegister) → IsPermutation r.groups groups.now → IsLeastRow (broken r Rule.DuplicateGroup) result }
+    ensures { IsLeastOfGroups groups.now Rule.DuplicateGroup result }
 {
     let mut least = None;
     for at in 0..groups.len() {

@@ -8,9 +8,11 @@ ghost use Rattle.std.specs.Ordering.{nat_cmp, is_lt};
 ghost use Rattle.std.specs.Cmp.Lexicographic.{slice_cmp};
 ghost use Rattle.ddt_path.specs.Covers.{is_same_path};
 ghost use Rattle.ddt_register.specs.declared.register.Register.{Register as ARegister};
-ghost use Rattle.ddt_check.specs.Rules.{IsLeastRow, broken, group_at, has_repeat as has_repeat_of};
+ghost use Rattle.ddt_check.specs.Rules.{IsLeastRow, group_at, has_repeat as has_repeat_of};
 ghost use Rattle.ddt_check.specs.Order.{IsInOrder};
-ghost use Rattle.ddt_check.specs.Columns.{locator_pair as locator_pair_of, column_pair as column_pair_of, column_key, key_list};
+ghost use Rattle.ddt_check.specs.Sorted.{IsLeastOfGroups};
+ghost use Rattle.ddt_check.specs.Columns.{locator_pair as locator_pair_of, column_pair as column_pair_of};
+ghost use Rattle.ddt_check.specs.Columns.{column_key, key_list};
 ghost use Rattle.ddt_check.specs.Columns.{first_in as first_of, meets_at, meets_in, is_met, is_wrong_alone as is_wrong_of};
 
 use crate::fault::Rule;
@@ -173,7 +175,7 @@ fn has_column(groups: &[Group], column: usize) -> bool
 /// order.
 pub fn wrong_locators(groups: &mut [Group]) -> Option<u32>
     ensures moved { IsPermutation groups.old groups.new }
-    ensures least { (r : ARegister) → IsPermutation r.groups groups.old → IsLeastRow (broken r Rule.Locators) result }
+    ensures least { IsLeastOfGroups groups.old Rule.Locators result }
 {
     let mut least = wrong_alone(groups);
     for column in 0..MOST_LOCATORS {

@@ -1,13 +1,15 @@
 //! The rules that a site may break. The count of ETRs is looked at in the order of rows; the other rules see sites that
 //! are sorted by their prefixes, then by their rows.
 
-ghost use Rattle.std.specs.Prelude.{◌≡◌, ℕ, ◌<◌, ◌&&◌, false, IsPermutation, slice_index_or, length};
+ghost use Rattle.std.specs.Prelude.{◌≡◌, ◌<◌, ◌&&◌, IsPermutation, slice_index_or, length};
 ghost use Rattle.ddt_path.specs.Covers.{covers, is_same_path};
 ghost use Rattle.ddt_register.specs.declared.site.Site.{Site as ASite};
 ghost use Rattle.ddt_register.specs.declared.register.Register.{Register as ARegister};
-ghost use Rattle.ddt_check.specs.Rules.{IsLeastRow, broken, first_site, is_duplicate_site, is_outside as is_outside_of, has_too_many_etrs as has_too_many};
+ghost use Rattle.ddt_check.specs.Rules.{IsLeastRow, broken, first_site, is_duplicate_site};
+ghost use Rattle.ddt_check.specs.Rules.{is_outside as is_outside_of, has_too_many_etrs as has_too_many};
 ghost use Rattle.ddt_check.specs.Zones.{is_ms as is_ms_of};
 ghost use Rattle.ddt_check.specs.Order.{AreZonesInOrder, AreSitesInOrder};
+ghost use Rattle.ddt_check.specs.Sorted.{IsKept, IsLeastOfSites};
 
 use crate::fault::Rule;
 use crate::lookup::is_ms;
@@ -39,7 +41,10 @@ fn has_same_prefix(a: &Site, b: &Site) -> bool
 fn repeats(sites: &[Site], at: usize) -> bool
     requires inside { at < length sites.now }
     requires sorted { AreSitesInOrder sites.now }
-    ensures { (r : ARegister) (d : ASite) → IsPermutation r.sites sites.now → result ≡ is_duplicate_site r (slice_index_or sites.now at d) }
+    ensures {
+        (r : ARegister) (d : ASite) → IsPermutation r.sites sites.now
+        → result ≡ is_duplicate_site r (slice_index_or sites.now at d)
+    }
 {
     if at == 0 {
         return false;
@@ -50,7 +55,7 @@ fn repeats(sites: &[Site], at: usize) -> bool
 /// The least row of a site whose prefix an earlier one has.
 pub fn duplicate(sites: &[Site]) -> Option<u32>
     requires { AreSitesInOrder sites.now }
-    ensures { (r : ARegister) → IsPermutation r.sites sites.now → IsLeastRow (broken r Rule.DuplicateSite) result }
+    ensures { IsLeastOfSites sites.now Rule.DuplicateSite result }
 {
     let mut least = None;
     for at in 0..sites.len() {
@@ -72,7 +77,10 @@ fn is_right(z: &Zone, s: &Site) -> bool
 /// Map-Servers, the last zone that stands up to the site's prefix tells.
 fn is_outside(zones: &[Zone], s: &Site) -> bool
     requires { AreZonesInOrder zones.now }
-    ensures { (r : ARegister) → IsPermutation r.zones zones.now → ((n : ℕ) → broken r Rule.DuplicateZone n ≡ false) → ((n : ℕ) → broken r Rule.BelowMapServer n ≡ false) → result ≡ is_outside_of r s.now }
+    ensures {
+        (r : ARegister) → IsPermutation r.zones zones.now → IsKept r Rule.DuplicateZone → IsKept r Rule.BelowMapServer
+        → result ≡ is_outside_of r s.now
+    }
 {
     let after = zones.partition_point(|z| z.prefix <= s.prefix);
     if after == 0 {
@@ -84,7 +92,10 @@ fn is_outside(zones: &[Zone], s: &Site) -> bool
 /// The least row of a site whose longest covering zone isn't of Map-Servers.
 pub fn outside(sites: &[Site], zones: &[Zone]) -> Option<u32>
     requires { AreZonesInOrder zones.now }
-    ensures { (r : ARegister) → IsPermutation r.sites sites.now → IsPermutation r.zones zones.now → ((n : ℕ) → broken r Rule.DuplicateZone n ≡ false) → ((n : ℕ) → broken r Rule.BelowMapServer n ≡ false) → IsLeastRow (broken r Rule.SiteOutside) result }
+    ensures {
+        (r : ARegister) → IsPermutation r.sites sites.now → IsPermutation r.zones zones.now
+        → IsKept r Rule.DuplicateZone → IsKept r Rule.BelowMapServer → IsLeastRow (broken r Rule.SiteOutside) result
+    }
 {
     let mut least = None;
     for s in sites {

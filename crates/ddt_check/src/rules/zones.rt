@@ -7,10 +7,11 @@ ghost use Rattle.std.specs.Option.{option_map, option_copied};
 ghost use Rattle.ddt_path.specs.Covers.{is_same_path};
 ghost use Rattle.ddt_register.specs.declared.zone.Zone.{Zone as AZone};
 ghost use Rattle.ddt_register.specs.declared.register.Register.{Register as ARegister};
-ghost use Rattle.ddt_check.specs.Rules.{IsLeastRow, broken, earlier_zone, first_zone};
+ghost use Rattle.ddt_check.specs.Rules.{earlier_zone, first_zone};
 ghost use Rattle.ddt_check.specs.Rules.{is_root as is_root_zone, is_wrong_root as is_wrong_root_of, is_duplicate_zone};
 ghost use Rattle.ddt_check.specs.Rules.{is_of_unknown_group as is_of_unknown, is_of_other_role as is_of_other};
 ghost use Rattle.ddt_check.specs.Order.{AreZonesInOrder, AreGroupsInOrder};
+ghost use Rattle.ddt_check.specs.Sorted.{IsLeastOfZones, IsLeastOfBoth};
 ghost use Rattle.ddt_check.specs.Below.{is_under as is_under_of, is_within as is_within_of, is_top as is_top_of};
 
 use crate::fault::Rule;
@@ -67,7 +68,10 @@ fn has_same_prefix(a: &Zone, b: &Zone) -> bool
 fn repeats(zones: &[Zone], at: usize) -> bool
     requires inside { at < length zones.now }
     requires sorted { AreZonesInOrder zones.now }
-    ensures { (r : ARegister) (d : AZone) → IsPermutation r.zones zones.now → result ≡ is_duplicate_zone r (slice_index_or zones.now at d) }
+    ensures {
+        (r : ARegister) (d : AZone) → IsPermutation r.zones zones.now
+        → result ≡ is_duplicate_zone r (slice_index_or zones.now at d)
+    }
 {
     if at == 0 {
         return false;
@@ -78,7 +82,7 @@ fn repeats(zones: &[Zone], at: usize) -> bool
 /// The least row of a zone whose prefix an earlier one has.
 pub fn duplicate(zones: &[Zone]) -> Option<u32>
     requires { AreZonesInOrder zones.now }
-    ensures { (r : ARegister) → IsPermutation r.zones zones.now → IsLeastRow (broken r Rule.DuplicateZone) result }
+    ensures { IsLeastOfZones zones.now Rule.DuplicateZone result }
 {
     let mut least = None;
     for at in 0..zones.len() {
@@ -120,7 +124,7 @@ fn is_top(top: Option<&Zone>, z: &Zone) -> bool
 /// enough to keep the widest zone of Map-Servers that may still hold what comes.
 pub fn below_map_server(zones: &[Zone]) -> Option<u32>
     requires { AreZonesInOrder zones.now }
-    ensures { (r : ARegister) → IsPermutation r.zones zones.now → IsLeastRow (broken r Rule.BelowMapServer) result }
+    ensures { IsLeastOfZones zones.now Rule.BelowMapServer result }
 {
     let mut least = None;
     let mut top: Option<&Zone> = None;
@@ -146,7 +150,7 @@ fn is_of_unknown_group(groups: &[Group], z: &Zone) -> bool
 /// The least row of a zone whose group has no row.
 pub fn of_unknown_group(zones: &[Zone], groups: &[Group]) -> Option<u32>
     requires { AreGroupsInOrder groups.now }
-    ensures { (r : ARegister) → IsPermutation r.zones zones.now → IsPermutation r.groups groups.now → IsLeastRow (broken r Rule.UnknownGroup) result }
+    ensures { IsLeastOfBoth zones.now groups.now Rule.UnknownGroup result }
 {
     let mut least = None;
     for z in zones {
@@ -171,7 +175,7 @@ fn is_of_other_role(groups: &[Group], z: &Zone) -> bool
 /// The least row of a zone whose group is of the other kind.
 pub fn of_other_role(zones: &[Zone], groups: &[Group]) -> Option<u32>
     requires { AreGroupsInOrder groups.now }
-    ensures { (r : ARegister) → IsPermutation r.zones zones.now → IsPermutation r.groups groups.now → IsLeastRow (broken r Rule.Role) result }
+    ensures { IsLeastOfBoth zones.now groups.now Rule.Role result }
 {
     let mut least = None;
     for z in zones {

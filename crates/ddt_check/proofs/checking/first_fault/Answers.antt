@@ -6,9 +6,10 @@ use Rattle.ddt_check.proofs.RuleLemmas.{up_to, same_at}
 use Rattle.ddt_check.proofs.checking.first_fault.Goals as goal
 
 pub returns-in-Some : goal.returns-in-Some
-returns-in-Some c = λ r moved root etrs wrong.
-    let so_far = c.loop-rule.invariant r moved root etrs wrong in
-    let f = c.in-Some.ensures r moved root etrs wrong (λ earlier n lt. so_far earlier n (up_to earlier c.loop-rule.rule-index _ c.loop-rule-test.true lt)) in
+returns-in-Some c = λ r moved found.
+    let so_far = c.loop-rule.invariant r moved found in
+    let f = c.in-Some.ensures r moved found (λ earlier n lt. so_far earlier n
+        (up_to earlier c.loop-rule.rule-index _ c.loop-rule-test.true lt)) in
     record {
       breaks = f.0;
       least_rule = λ earlier n lt. so_far earlier n (up_to earlier c.loop-rule.rule-index _ c.loop-rule-test.true lt);
@@ -16,10 +17,12 @@ returns-in-Some c = λ r moved root etrs wrong.
     }
 
 pub loop-rule-preserved : goal.loop-rule-preserved
-loop-rule-preserved c = λ r moved root etrs wrong earlier n le.
-    let so_far = c.loop-rule.invariant r moved root etrs wrong in
-    let f = c.in_default.ensures r moved root etrs wrong (λ earlier n lt. so_far earlier n (up_to earlier c.loop-rule.rule-index _ c.loop-rule-test.true lt)) in
+loop-rule-preserved c = λ r moved found earlier n le.
+    let so_far = c.loop-rule.invariant r moved found in
+    let f = c.in_default.ensures r moved found (λ earlier n lt. so_far earlier n
+        (up_to earlier c.loop-rule.rule-index _ c.loop-rule-test.true lt)) in
     elim (cases_lt c.loop-rule.rule-index (rule_number earlier)) [
-      | inl here ↦ subst (λ (rule : Rule). broken r rule n ≡ false) (same_at earlier c.loop-rule.rule-index _ (omega arith)) (f n)
+      | inl here ↦ subst (λ (rule : Rule). broken r rule n ≡ false)
+          (same_at earlier c.loop-rule.rule-index _ (omega arith)) (f n)
       | inr before ↦ so_far earlier n before
     ]

@@ -6,16 +6,24 @@ use Rattle.ddt_register.specs.declared.group.Group.{Group}
 use Rattle.ddt_check.proofs.checking.sort_and_test.Goals as goal
 
 pub returns-clause-groups : goal.returns-clause-groups
-returns-clause-groups c = c.restore_groups.ensures c.args.groups.now c.requires.groups (IsPermutation-trans _ _ _ c.wrong_locators-wrong.ensures.moved c.sort_groups.ensures.moved)
+returns-clause-groups c = c.restore_groups.ensures c.args.groups.now c.requires.groups
+    (IsPermutation-trans _ _ _ c.wrong_locators-locators.ensures.moved c.sort_groups.ensures.moved)
 
 pub returns-clause-fault : goal.returns-clause-fault
 returns-clause-fault c = λ r z s g root etrs.
     let groups = c.args.groups.now in
-    let all = IsPermutation-trans _ _ _ c.wrong_locators-wrong.ensures.moved c.sort_groups.ensures.moved in
+    let all = IsPermutation-trans _ _ _ c.wrong_locators-locators.ensures.moved c.sort_groups.ensures.moved in
     c.first_fault-fault.ensures r
     (record {
-      same_zones = subst (λ (xs : List Zone). IsPermutation xs c.sort_zones.new.zones) (sym z) c.sort_zones.ensures.moved;
-      same_sites = subst (λ (xs : List Site). IsPermutation xs c.sort_sites.new.sites) (sym s) c.sort_sites.ensures.moved;
+      same_zones = subst (λ (xs : List Zone). IsPermutation xs c.sort_zones.new.zones) (sym z)
+          c.sort_zones.ensures.moved;
+      same_sites = subst (λ (xs : List Site). IsPermutation xs c.sort_sites.new.sites) (sym s)
+          c.sort_sites.ensures.moved;
       same_groups = subst (λ (xs : List Group). IsPermutation xs c.sort_groups.new.groups) (sym g) all;
     })
-    root etrs (c.wrong_locators-wrong.ensures.least r (subst (λ (xs : List Group). IsPermutation xs groups) (sym g) (IsPermutation-refl groups)))
+    (record {
+      root = root;
+      etrs = etrs;
+      locators = c.wrong_locators-locators.ensures.least r (subst (λ (xs : List Group). IsPermutation xs groups)
+          (sym g) (IsPermutation-refl groups))
+    })

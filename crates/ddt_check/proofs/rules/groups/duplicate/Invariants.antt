@@ -6,4 +6,5 @@ use Rattle.ddt_check.proofs.LeastRowLemmas.{item_at}
 use Rattle.ddt_check.proofs.rules.groups.duplicate.Given as goal
 
 abbrev pub invariant-loop-at : goal.invariant-loop-at
-invariant-loop-at l = (r : Register) → IsPermutation r.groups l.groups → IsLeastRow (item_at (λ (z : Group). z.row) (is_duplicate_group r) (take l.at l.groups)) l.least
+invariant-loop-at l = (r : Register) → IsPermutation r.groups l.groups → IsLeastRow
+    (item_at (λ (z : Group). z.row) (is_duplicate_group r) (take l.at l.groups)) l.least

@@ -7,4 +7,5 @@ use Rattle.ddt_check.proofs.LeastLemmas.{any_at}
 use Rattle.ddt_check.proofs.rules.locators.least_meeting.Given as goal
 
 abbrev pub invariant-loop-l : goal.invariant-loop-l
-invariant-loop-l l = (r : Register) → IsPermutation r.groups l.groups → IsLeastRow (any_at (λ (x : Locator). meets_at r l.column l.g x) (take l.l-index l.locators)) l.least
+invariant-loop-l l = (r : Register) → IsPermutation r.groups l.groups → IsLeastRow
+    (any_at (λ (x : Locator). meets_at r l.column l.g x) (take l.l-index l.locators)) l.least

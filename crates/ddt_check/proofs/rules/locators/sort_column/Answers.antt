@@ -8,4 +8,5 @@ use Rattle.ddt_check.proofs.rules.locators.sort_column.Goals as goal
 pub returns-clause-sorted : goal.returns-clause-sorted
 returns-clause-sorted c =
     in_order_by_pairs (column_pair c.args.column) (λ (g : Group). g.row) _
-    (c.sort_unstable_by_key.ensures.sorted (λ (g : Group). (column_pair c.args.column g, g.row)) (always_returns_same _ _ _ (λ a r g h. search rules)))
+    (c.sort_unstable_by_key.ensures.sorted (λ (g : Group). (column_pair c.args.column g, g.row))
+        (always_returns_same _ _ _ (λ a r g h. search rules)))

@@ -8,4 +8,5 @@ use Rattle.ddt_check.proofs.LeastRowLemmas.{item_at}
 use Rattle.ddt_check.proofs.rules.locators.wrong_alone.Given as goal
 
 abbrev pub invariant-loop-g : goal.invariant-loop-g
-invariant-loop-g l = (r : Register) → IsPermutation r.groups l.groups → IsLeastRow (item_at (λ (x : Group). x.row) (is_wrong_alone) (take l.g-index l.groups)) l.least
+invariant-loop-g l = (r : Register) → IsPermutation r.groups l.groups → IsLeastRow
+    (item_at (λ (x : Group). x.row) (is_wrong_alone) (take l.g-index l.groups)) l.least

@@ -7,4 +7,6 @@ use Rattle.ddt_check.proofs.LeastRowLemmas.{item_at}
 use Rattle.ddt_check.proofs.rules.sites.outside.Given as goal
 
 abbrev pub invariant-loop-s : goal.invariant-loop-s
-invariant-loop-s l = (r : Register) → IsPermutation r.sites l.sites → IsPermutation r.zones l.zones → ((n : ℕ) → broken r rules.DuplicateZone n ≡ false) → ((n : ℕ) → broken r rules.BelowMapServer n ≡ false) → IsLeastRow (item_at (λ (x : Site). x.row) (is_outside r) (take l.s-index l.sites)) l.least
+invariant-loop-s l = (r : Register) → IsPermutation r.sites l.sites → IsPermutation r.zones l.zones
+    → ((n : ℕ) → broken r rules.DuplicateZone n ≡ false) → ((n : ℕ) → broken r rules.BelowMapServer n ≡ false)
+    → IsLeastRow (item_at (λ (x : Site). x.row) (is_outside r) (take l.s-index l.sites)) l.least

@@ -9,6 +9,7 @@ use Rattle.ddt_check.proofs.rules.zones.below_map_server.Given as goal
 
 abbrev pub invariant-loop-z : goal.invariant-loop-z
 invariant-loop-z l = record {
-  rows : (r : Register) → IsPermutation r.zones l.zones → IsLeastRow (item_at (λ (z : Zone). z.row) (is_below_map_server r) (take l.z-index l.zones)) l.least;
+  rows : (r : Register) → IsPermutation r.zones l.zones
+      → IsLeastRow (item_at (λ (z : Zone). z.row) (is_below_map_server r) (take l.z-index l.zones)) l.least;
   top : IsTop l.zones l.z-index (option_map (λ (z : Zone). z.prefix) (option_copied l.top));
 }

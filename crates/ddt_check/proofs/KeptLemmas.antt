@@ -30,7 +30,7 @@ own_name r accepted g h j k lt =
     let e = rule_kept (λ (i : Group). i.row) (is_duplicate_group r) r.groups (accepted rules.DuplicateGroup) h k in
     earlier_fails g.row h.row _ lt (fails_at (λ (i : Group). nat_lt i.row h.row && is_same_name i.name h.name) r.groups g e j)
 
-pub own_site_prefix : (r : Register) → IsAccepted r → (a b : Site) → IsIn a r.sites → IsIn b r.sites → a.row < b.row
+pub own_site : (r : Register) → IsAccepted r → (a b : Site) → IsIn a r.sites → IsIn b r.sites → a.row < b.row
     → is_same_path a.prefix b.prefix ≡ false
 own_site r accepted a b j k lt =
     let e = rule_kept (λ (s : Site). s.row) (is_duplicate_site r) r.sites (accepted rules.DuplicateSite) b k in

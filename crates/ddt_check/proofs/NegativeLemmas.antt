@@ -33,7 +33,7 @@ use Rattle.ddt_check.specs.Assignment.{assignment, assigned_in, assigned_site, h
 use Rattle.ddt_check.specs.Rules.{IsAccepted}
 use Rattle.ddt_check.specs.Laws.{IsSiteWithServers, negative_prefix}
 use Rattle.ddt_check.proofs.HoleLemmas.{overlaps_none-filter}
-use Rattle.ddt_check.proofs.KeptLemmas.{own_site_prefix}
+use Rattle.ddt_check.proofs.KeptLemmas.{own_site}
 use Rattle.ddt_check.proofs.NextLemmas.{next_none, zone_is}
 use Rattle.ddt_check.proofs.SiteLemmas.{no_longer_zone, site_inside}
 use Rattle.ddt_check.proofs.SaysLemmas.{hole_covers, assigned_covers}
@@ -99,8 +99,8 @@ one_site r accepted a b j k same =
     elim (one_row (λ (s : Site). s.row) r.sites 0 a b (sites_rise r) j k) [
       | inl one ↦ one
       | inr rows ↦ elim rows [
-        | inl lt ↦ absurd (both_ways (is_same_path a.prefix b.prefix) (own_site_prefix r accepted a b j k lt) here)
-        | inr gt ↦ absurd (both_ways (is_same_path b.prefix a.prefix) (own_site_prefix r accepted b a k j gt) there)
+        | inl lt ↦ absurd (both_ways (is_same_path a.prefix b.prefix) (own_site r accepted a b j k lt) here)
+        | inr gt ↦ absurd (both_ways (is_same_path b.prefix a.prefix) (own_site r accepted b a k j gt) there)
       ]
     ]
 

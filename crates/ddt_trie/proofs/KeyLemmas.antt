@@ -44,12 +44,12 @@ same_members_all test ks ls same = same_answers (list_all test ks) (list_all tes
     (λ all. all_from_members test ls (λ q m. member_passes test ks q all (same q ∙ m)))
     (λ all. all_from_members test ks (λ q m. member_passes test ls q all (sym (same q) ∙ m)))
 
-later_found : {A : Type 0} (b : Bool) (v : A) (o : Option A) → is_some o ≡ true → is_some (cond b (Some v) o) ≡ true
+pub later_found : {A : Type 0} (b : Bool) (v : A) (o : Option A) → is_some o ≡ true → is_some (cond b (Some v) o) ≡ true
 later_found true v o m = refl
 later_found false v o m = m
 
 module _ {V : Type 0} where
-  found_head : (e : List ℕ × V) (es : List (List ℕ × V)) → is_some (find path_cmp e.0 (e ∷ es)) ≡ true
+  pub found_head : (e : List ℕ × V) (es : List (List ℕ × V)) → is_some (find path_cmp e.0 (e ∷ es)) ≡ true
   found_head e es = ap (λ (b : Bool). is_some (cond b (Some e.1) (find path_cmp e.0 es))) (tied_self e.0)
 
   found_passes : (test : List ℕ → Bool) (es : List (List ℕ × V)) → ((q : List ℕ) → is_some (find path_cmp q es) ≡ true → test q ≡ true) → list_all (λ e. test e.0) es ≡ true
@@ -121,7 +121,7 @@ none_where r false h P is no' p = subst (λ (o : Option (List ℕ)). IsNone o) (
 
 -- ---- lists with the same members
 
-any_same : (p : List ℕ) (ks : List (List ℕ)) → list_any (is_same_path p) ks ≡ list_any (tied p) ks
+pub any_same : (p : List ℕ) (ks : List (List ℕ)) → list_any (is_same_path p) ks ≡ list_any (tied p) ks
 any_same p [] = refl
 any_same p (k ∷ ks) = ap (λ (b : Bool). b || list_any (is_same_path p) ks) (texts_ties p k) ∙ ap (λ (b : Bool). tied p k || b) (any_same p ks)
 

@@ -5,3 +5,8 @@ pub mod FormLemmas
 pub mod KeyLemmas
 pub mod MapLemmas
 pub mod MatchLemmas
+pub mod BelowLemmas
+pub mod TurnLemmas
+pub mod TreeLemmas
+pub mod ContentLemmas
+pub mod GapLemmas

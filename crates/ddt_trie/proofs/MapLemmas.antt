@@ -129,8 +129,11 @@ innermost_found m outer inner x p v is nested inside found =
     let some : List ℕ → ℕ → Option (List ℕ × ℕ) = λ q w. Some (q, w) in
     ap (λ (q : List ℕ). some q v) u.0 ∙ ap (some inner) u.1
 
+pub inserted_key : {V : Type 0} (m n : FinMap path_cmp V) (p : List ℕ) (v : V) → m ≡ insert n p v → IsTrue (contains_key m p)
+inserted_key m n p v is = ap (λ (k : FinMap path_cmp _). is_some (get k p)) is ∙ ap (λ (o : Option _). is_some o) (get-insert_same n p v)
+
 pub inserted_covers : {V : Type 0} (m n : FinMap path_cmp V) (p x : List ℕ) (v : V) → m ≡ insert n p v → covers p x ≡ true → IsCovered m x
-inserted_covers m n p x v is c = (p, ap (λ (k : FinMap path_cmp _). is_some (get k p)) is ∙ ap (λ (o : Option _). is_some o) (get-insert_same n p v), c)
+inserted_covers m n p x v is c = (p, inserted_key m n p v is, c)
 
 pub emptied : (answers : ℕ → Bool → Type 0) (m n : FinMap path_cmp ℕ) (p : List ℕ) → m ≡ insert (empty {R = path_cmp}) p 2 → IsRetained answers m n → ((v : ℕ) (b : Bool) → answers v b → b ≡ nat_lt v 2) → len n ≡ 0
 emptied answers m n p is retained says =

@@ -1,11 +1,11 @@
 -- A finite map from prefixes, each seen as its path, to values: the prefixes of a server's configuration among which
 -- it finds the longest that covers an identifier (RFC 8111, section 7.1).
-use Rattle.std.specs.Prelude.{ℕ, ◌≡◌, ◌≤◌, ◌⊎◌, Bool, true, false, IsTrue, List, length, Option, None, Some}
+use Rattle.std.specs.Prelude.{ℕ, ◌≡◌, ◌≤◌, ◌⊎◌, Bool, true, false, IsTrue, List, length, filter, Option, None, Some}
 use Rattle.std.specs.declared.cmp.Ordering.{Ordering}
 use Rattle.std.specs.Ordering.{nat_cmp}
 use Rattle.std.specs.Cmp.Lexicographic.{slice_cmp}
-use Rattle.std.specs.FinMap.{FinMap, get, contains_key}
-use Rattle.ddt_path.specs.Covers.{covers}
+use Rattle.std.specs.FinMap.{FinMap, get, contains_key, keys}
+use Rattle.ddt_path.specs.Covers.{covers, is_strictly_below}
 
 -- the order of the keys: by their digits
 abbrev pub path_cmp : List ℕ → List ℕ → Ordering
@@ -14,6 +14,15 @@ path_cmp = slice_cmp nat_cmp
 -- some key covers x
 abbrev pub IsCovered : {V : Type 0} → FinMap path_cmp V → List ℕ → Type 0
 IsCovered m x = (p : List ℕ) × IsTrue (contains_key m p) × IsTrue (covers p x)
+
+-- the keys strictly below a prefix
+abbrev pub keys_below : {V : Type 0} → FinMap path_cmp V → List ℕ → List (List ℕ)
+keys_below m p = filter (λ k. is_strictly_below k p) (keys m)
+
+-- some key strictly below p covers x
+abbrev pub IsCoveredBelow : {V : Type 0} → FinMap path_cmp V → List ℕ → List ℕ → Type 0
+IsCoveredBelow m p x =
+    (k : List ℕ) × IsTrue (contains_key m k) × IsTrue (is_strictly_below k p) × IsTrue (covers k x)
 
 -- p is a key that covers x, v is its value, and no key that covers x is longer; so there is no other such p
 pub record IsLongest {V : Type 0} (m : FinMap path_cmp V) (x p : List ℕ) (v : V) : Type 0 where

@@ -3,7 +3,7 @@
 ghost use Rattle.std.specs.Prelude.{◌≡◌, ◌≢◌, ◌<◌, false, IsTrue, IfOk, OnErr, IfErr};
 ghost use Rattle.std.specs.FinMap as map;
 ghost use Rattle.ddt_path.specs.Path.{xeid_path};
-ghost use Rattle.ddt_path.specs.Covers.{covers};
+ghost use Rattle.ddt_path.specs.Covers.{covers, is_strictly_below};
 
 use crate::PrefixMap;
 use ddt_path::{Prefix, Xeid};
@@ -115,6 +115,39 @@ fn nothing_free<M: PrefixMap<u32>>(
     let mut map = M::empty(alloc);
     map.insert(prefix, 1)?;
     Ok(map.free(from, x))
+}
+
+/// A prefix that has a value itself is free below.
+#[tactic(auto, using(crate::proofs::MapLemmas::map_rules))]
+fn free_below_itself<M: PrefixMap<u32>>(
+    alloc: Global,
+    from: Prefix,
+    x: Xeid,
+) -> Result<Option<Prefix>, (Prefix, u32)>
+    requires { IsTrue (covers from (xeid_path x)) }
+    ensures { IfOk result (λ hole. hole ≡ Some from) }
+{
+    let mut map = M::empty(alloc);
+    map.insert(from, 1)?;
+    Ok(map.free_below(from, x))
+}
+
+/// Where a prefix strictly below another covers an identifier, nothing is free for it below that one.
+#[tactic(auto, using(crate::proofs::MapLemmas::map_rules))]
+fn nothing_free_below<M: PrefixMap<u32>>(
+    alloc: Global,
+    from: Prefix,
+    prefix: Prefix,
+    x: Xeid,
+) -> Result<Option<Prefix>, (Prefix, u32)>
+    requires asked { IsTrue (covers from (xeid_path x)) }
+    requires below { IsTrue (is_strictly_below prefix from) }
+    requires inside { IsTrue (covers prefix (xeid_path x)) }
+    ensures { IfOk result (λ hole. hole ≡ None) }
+{
+    let mut map = M::empty(alloc);
+    map.insert(prefix, 1)?;
+    Ok(map.free_below(from, x))
 }
 
 /// What is removed is answered once.

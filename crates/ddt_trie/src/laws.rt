@@ -1,18 +1,27 @@
 //! What holds of every map from prefixes, over the definitions alone: each law is the contract of a function that does
 //! nothing.
 
-ghost use Rattle.std.specs.Prelude.{◌≡◌, ℕ, IsTrue, List, Option, None, Some};
+ghost use Rattle.std.specs.Prelude.{◌≡◌, ℕ, IsTrue, List, filter, Option, None, Some};
 ghost use Rattle.std.specs.List.{list_any};
 ghost use Rattle.std.specs.FinMap as map;
-ghost use Rattle.ddt_path.specs.Covers.{is_same_path};
+ghost use Rattle.ddt_path.specs.Covers.{is_same_path, is_strictly_below};
 ghost use Rattle.ddt_path.specs.Free.{free, longest_match};
-ghost use Rattle.ddt_trie.specs.PrefixMap.{path_cmp, IsCovered, IsLongest};
+ghost use Rattle.ddt_trie.specs.PrefixMap.{path_cmp, IsCovered, keys_below, IsLongest};
 
 /// What is free among the keys of a map is what is free among any list with the same members.
 pub fn free_by_members<V>()
     ensures { (m : map.FinMap path_cmp V) (members : List (List ℕ)) →
         ((p : List ℕ) → map.contains_key m p ≡ list_any (is_same_path p) members) →
         (authority x : List ℕ) → free authority (map.keys m) x ≡ free authority members x }
+{}
+
+/// What is free among the keys of a map strictly below a prefix is what is free among those of any list with the same
+/// members.
+pub fn free_below_by_members<V>()
+    ensures { (m : map.FinMap path_cmp V) (members : List (List ℕ)) →
+        ((p : List ℕ) → map.contains_key m p ≡ list_any (is_same_path p) members) → (authority x : List ℕ) →
+        free authority (keys_below m authority) x
+        ≡ free authority (filter (λ k. is_strictly_below k authority) members) x }
 {}
 
 /// The longest key of the map of some entries is the longest match among them.

@@ -9,7 +9,10 @@ mod list_map;
 mod prefix_map;
 #[cfg(test)]
 mod tests;
+mod tree;
+mod trie_map;
 
-pub use laws::{free_by_members, longest_by_entries, one_longest};
+pub use laws::{free_below_by_members, free_by_members, longest_by_entries, one_longest};
 pub use list_map::ListMap;
 pub use prefix_map::PrefixMap;
+pub use trie_map::TrieMap;

@@ -1,11 +1,11 @@
 //! A map from prefixes to values whose entries stand in one list. Each call looks at all of them.
 
-ghost use Rattle.std.specs.Prelude.{◌≡◌, ◌==◌, IsTrue, IfSome, IfNone, not};
+ghost use Rattle.std.specs.Prelude.{◌≡◌, ◌==◌, ◌&&◌, IsTrue, IfSome, IfNone, not};
 ghost use Rattle.std.specs.List.{position, list_all};
 ghost use Rattle.std.specs.Fn.{FnReturnsAt};
 ghost use Rattle.std.specs.Cmp.Lexicographic.{pointwise};
 ghost use Rattle.ddt_path.specs.Path.{xeid_path};
-ghost use Rattle.ddt_path.specs.Covers.{covers, overlaps};
+ghost use Rattle.ddt_path.specs.Covers.{covers, overlaps, is_strictly_below};
 ghost use Rattle.ddt_trie.specs.Entries.{are_distinct, map_of, none_covers, IsLongestAt};
 
 use crate::prefix_map::PrefixMap;
@@ -71,6 +71,28 @@ fn covers_none<V>(entries: &[(Prefix, V)], x: Xeid) -> bool
     entries.iter().all(|entry| !covers_alone(entry.0, x))
 }
 
+/// Whether the prefix is strictly below another, which covers it and is shorter.
+fn is_below(prefix: Prefix, other: Prefix) -> bool
+    ensures { result ≡ is_strictly_below prefix other }
+{
+    other.covers(prefix) && !prefix.covers(other)
+}
+
+/// Whether the prefix overlaps none of the entries strictly below `from`.
+fn overlaps_none_below<V>(entries: &[(Prefix, V)], from: Prefix, prefix: Prefix) -> bool
+    ensures { result ≡ list_all (λ e. not (is_strictly_below e.0 from && overlaps e.0 prefix)) entries.now }
+{
+    entries.iter().all(|entry| !(is_below(entry.0, from) && entry.0.overlaps(prefix)))
+}
+
+/// Whether no entry strictly below `from` covers the identifier, which is whether it overlaps none of them.
+fn covers_none_below<V>(entries: &[(Prefix, V)], from: Prefix, x: Xeid) -> bool
+    ensures covers { result ≡ list_all (λ e. not (is_strictly_below e.0 from && covers e.0 (xeid_path x))) entries.now }
+    ensures overlaps { result ≡ list_all (λ e. not (is_strictly_below e.0 from && overlaps e.0 (xeid_path x))) entries.now }
+{
+    entries.iter().all(|entry| !(is_below(entry.0, from) && covers_alone(entry.0, x)))
+}
+
 impl<V: Drop> PrefixMap<V> for ListMap<V> {
     ghost content = { λ m. map_of m.entries.items };
 
@@ -107,6 +129,16 @@ impl<V: Drop> PrefixMap<V> for ListMap<V> {
             }
         }
         covers_none(&self.entries, x).then_some(Prefix::host(x))
+    }
+
+    fn free_below(&self, from: Prefix, x: Xeid) -> Option<Prefix> {
+        for len in from.len()..x.path_len() {
+            let front = Prefix::cut(x, len);
+            if overlaps_none_below(&self.entries, from, front) {
+                return Some(front);
+            }
+        }
+        covers_none_below(&self.entries, from, x).then_some(Prefix::host(x))
     }
 
     fn insert(&mut self, prefix: Prefix, value: V) -> Result<Option<V>, (Prefix, V)> {

@@ -8,7 +8,7 @@ ghost use Rattle.std.specs.FinMap as map;
 ghost use Rattle.ddt_path.specs.Path.{xeid_path};
 ghost use Rattle.ddt_path.specs.Covers.{covers};
 ghost use Rattle.ddt_path.specs.Free.{free};
-ghost use Rattle.ddt_trie.specs.PrefixMap.{path_cmp, IsCovered, IsLongest, IsRetained};
+ghost use Rattle.ddt_trie.specs.PrefixMap.{path_cmp, IsCovered, keys_below, IsCoveredBelow, IsLongest, IsRetained};
 
 use ddt_path::{Prefix, Xeid};
 use std::alloc::Global;
@@ -42,6 +42,15 @@ pub trait PrefixMap<V: Drop>: Drop {
         ensures first { result ≡ free from (map.keys (content self.now)) (xeid_path x) }
         ensures none { IfNone result (IsCovered (content self.now) (xeid_path x)) }
         ensures covered { IsCovered (content self.now) (xeid_path x) → IsNone result };
+
+    /// The same among the prefixes strictly below `from` alone: the least specific prefix, of `from` and those inside it,
+    /// that covers the identifier and overlaps none of these; None if and only if one of these covers the identifier.
+    /// `from` is to cover the identifier.
+    fn free_below(&self, from: Prefix, x: Xeid) -> Option<Prefix>
+        requires { IsTrue (covers from (xeid_path x)) }
+        ensures first { result ≡ free from (keys_below (content self.now) from) (xeid_path x) }
+        ensures none { IfNone result (IsCoveredBelow (content self.now) from (xeid_path x)) }
+        ensures covered { IsCoveredBelow (content self.now) from (xeid_path x) → IsNone result };
 
     /// Sets the value of a prefix, and answers the one before. Where memory is wanted, the map stays as it is and the
     /// prefix and the value come back; a prefix that has a value already wants none. The map is to have less than

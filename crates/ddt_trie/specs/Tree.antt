@@ -1,0 +1,131 @@
+-- A binary tree of prefixes: what it finds at a path, which entries it has, and how a call leaves it. A path is given by
+-- what is left of it below a node, and each node by its depth: how many digits stand above it.
+use Rattle.std.specs.Prelude.{ℕ, ◌≡◌, ◌+◌, ◌<◌, ◌≤◌, IsTrue, Bool, true, false, ◌==◌, ◌&&◌, ◌||◌, if◌then◌else◌, List, [], ◌∷◌, ◌++◌, length, take, drop, Option, None, Some, is_some}
+use Rattle.std.specs.Cmp.Lexicographic.{pointwise}
+use Rattle.std.specs.FinMap.{FinMap, contains_key}
+use Rattle.ddt_trie.specs.declared.tree.Tree.{Tree}
+use Rattle.ddt_trie.specs.declared.tree.Tree.TheVariants.{Empty, Fork'}
+use Rattle.ddt_trie.specs.declared.tree.Turn.{Turn}
+use Rattle.ddt_trie.specs.declared.tree.Turn.TheVariants.{End, Zero, One}
+use Rattle.ddt_trie.specs.PrefixMap.{path_cmp, IsKept}
+use Rattle.ddt_path.specs.Covers.{covers, overlaps}
+use Rattle.ddt_path.specs.Path.{is_prefix_path}
+use Rattle.ddt_trie.specs.Entries.{map_of}
+
+-- the digit to the left below a node at a depth: 0, or IPv4's where the family stands
+abbrev pub low : ℕ → ℕ
+low at = if at == 32 then 4 else 0
+
+-- the digit to the right: 1, or IPv6's
+abbrev pub high : ℕ → ℕ
+high at = if at == 32 then 6 else 1
+
+-- the value of a path
+abbrev pub lookup : {V : Type 0} → ℕ → Tree V → List ℕ → Option V
+lookup at Empty q = None
+lookup at (Fork' p value zero one) [] = value
+lookup at (Fork' p value zero one) (d ∷ q) =
+    if d == low at then lookup (at + 1) zero q else if d == high at then lookup (at + 1) one q else None
+
+-- the entry of a node itself
+abbrev pub here : {V : Type 0} → Option V → List (List ℕ × V)
+here None = []
+here (Some v) = ([], v) ∷ []
+
+-- entries below a digit
+abbrev pub under : {V : Type 0} → ℕ → List (List ℕ × V) → List (List ℕ × V)
+under d [] = []
+under d (e ∷ es) = (d ∷ e.0, e.1) ∷ under d es
+
+-- the entries, by their paths below a node at a depth
+abbrev pub entries : {V : Type 0} → ℕ → Tree V → List (List ℕ × V)
+entries at Empty = []
+entries at (Fork' p value zero one) =
+    here value ++ (under (low at) (entries (at + 1) zero) ++ under (high at) (entries (at + 1) one))
+
+-- the map of the entries
+abbrev pub content_of : {V : Type 0} → Tree V → FinMap path_cmp V
+content_of t = map_of (entries 0 t)
+
+-- one where there is a value
+abbrev pub one_if : {V : Type 0} → Option V → ℕ
+one_if None = 0
+one_if (Some v) = 1
+
+-- how many entries there are
+abbrev pub count : {V : Type 0} → Tree V → ℕ
+count Empty = 0
+count (Fork' p value zero one) = one_if value + (count zero + count one)
+
+-- whether there is a node
+abbrev pub is_fork : {V : Type 0} → Tree V → Bool
+is_fork Empty = false
+is_fork (Fork' p value zero one) = true
+
+-- whether there is a node, and it has a value or a child
+abbrev pub is_held : {V : Type 0} → Tree V → Bool
+is_held Empty = false
+is_held (Fork' p value zero one) = is_some value || (is_fork zero || is_fork one)
+
+-- whether each node has a value or a child, and so at least one entry
+abbrev pub is_pruned : {V : Type 0} → Tree V → Bool
+is_pruned Empty = true
+is_pruned (Fork' p value zero one) =
+    (is_some value || (is_fork zero || is_fork one)) && (is_pruned zero && is_pruned one)
+
+-- whether each node below the first one has
+abbrev pub is_pruned_below : {V : Type 0} → Tree V → Bool
+is_pruned_below Empty = true
+is_pruned_below (Fork' p value zero one) = is_pruned zero && is_pruned one
+
+-- where a path goes behind its first digits
+abbrev pub IsTurn : ℕ → List ℕ → Turn → Type 0
+IsTurn at p End = drop at p ≡ []
+IsTurn at p Zero = (drop at p ≡ low at ∷ drop (at + 1) p) × (at < length p) × (at < 161)
+IsTurn at p One = (drop at p ≡ high at ∷ drop (at + 1) p) × (at < length p) × (at < 161)
+
+-- the value of the path k is now o, and each other path has the value that it had
+pub record IsSet {V : Type 0} (at : ℕ) (old new : Tree V) (k : List ℕ) (o : Option V) : Type 0 where
+  pub found : (q : List ℕ) → lookup at new q ≡ (if pointwise ◌==◌ q k then o else lookup at old q)
+
+-- each path has the value that it had
+pub record HasSameEntries {V : Type 0} (old new : Tree V) : Type 0 where
+  pub same : (at : ℕ) (q : List ℕ) → lookup at new q ≡ lookup at old q
+
+-- what a filter by a test leaves
+pub record HasKept {V : Type 0} (answers : V → Bool → Type 0) (old new : Tree V) : Type 0 where
+  pub at : (depth : ℕ) (q : List ℕ) → IsKept answers (lookup depth old q) (lookup depth new q)
+
+-- no front of y has a value
+pub record IsUncovered {V : Type 0} (at : ℕ) (t : Tree V) (y : List ℕ) : Type 0 where
+  pub none : (q : List ℕ) → IsTrue (covers q y) → lookup at t q ≡ None
+
+-- of the fronts of y that have a value, the longest ends at the depth n and has the value v
+pub record IsLongestBelow {V : Type 0} (at : ℕ) (t : Tree V) (y : List ℕ) (n : ℕ) (v : V) : Type 0 where
+  pub front : List ℕ
+  pub depth : n ≡ at + length front
+  pub covers_it : IsTrue (covers front y)
+  pub value : lookup at t front ≡ Some v
+  pub longest : (q : List ℕ) (w : V) → lookup at t q ≡ Some w → IsTrue (covers q y) → length q ≤ length front
+
+-- some path that ends at the depth c or below it and has a value overlaps y
+pub record IsMet {V : Type 0} (at : ℕ) (t : Tree V) (y : List ℕ) (c : ℕ) : Type 0 where
+  pub path : List ℕ
+  pub value : V
+  pub found : lookup at t path ≡ Some value
+  pub counts : c ≤ at + length path
+  pub meets : IsTrue (overlaps path y)
+
+-- Of the paths that have a value, those count that end at the depth c or below it. The front of y that ends at the depth
+-- n overlaps none of these, nor does y itself, and each shorter front overlaps one, if its next digit is at that depth.
+pub record IsGapBelow {V : Type 0} (at : ℕ) (t : Tree V) (y : List ℕ) (c n : ℕ) : Type 0 where
+  pub front : List ℕ
+  pub depth : n ≡ at + length front
+  pub covers_it : IsTrue (covers front y)
+  pub uncovered : (q : List ℕ) → c ≤ at + length q → IsTrue (covers q y) → lookup at t q ≡ None
+  pub nothing : (q : List ℕ) → c ≤ at + length q → IsTrue (covers front q) → lookup at t q ≡ None
+  pub filled : (k : ℕ) → k < length front → c ≤ at + (k + 1) → IsMet at t (take k y) c
+
+-- each key is the path of a prefix
+pub record HasPaths {V : Type 0} (m : FinMap path_cmp V) : Type 0 where
+  pub are_paths : (p : List ℕ) → IsTrue (contains_key m p) → IsTrue (is_prefix_path p)

@@ -1,0 +1,299 @@
+//! A binary tree of prefixes, with one level for each digit: 32 of the Instance ID, one of the address family, and up
+//! to 128 of the address. Each call goes down one path and no deeper, 162 nodes at most.
+
+ghost use Rattle.std.specs.Prelude.{not, None, Some, ◌≡◌, ◌≤◌, ◌+◌, length, drop, IsTrue, IsOk, IsSome, OnOk, OnErr};
+ghost use Rattle.std.specs.Prelude.{IfOk, IfErr, IfSome, IfNone, ◌&&◌, ◌||◌, nat_le, nat_lt, is_some};
+ghost use Rattle.std.specs.Option.{option_copied};
+ghost use Rattle.std.specs.Fn.{FnReturnsAt};
+ghost use Rattle.ddt_trie.specs.Tree.{lookup, count, one_if, is_fork, is_held, is_pruned, is_pruned_below, IsTurn, IsSet};
+ghost use Rattle.ddt_trie.specs.Tree.{HasSameEntries, HasKept, IsUncovered, IsLongestBelow, IsMet, IsGapBelow};
+ghost use Rattle.ddt_trie.specs.PrefixMap.{IsKept};
+ghost use Rattle.ddt_trie.specs.declared.tree.Tree.TheVariants.{Empty};
+
+use ddt_path::Prefix;
+use std::alloc::Global;
+use std::mem;
+
+/// The prefixes that begin alike: none, or a node.
+#[derive(Drop)]
+#[cycle(tree)]
+pub enum Tree<V> {
+    Empty,
+    Fork(Box<Node<V>>),
+}
+
+/// One prefix, and those that go on behind it.
+#[derive(Drop)]
+#[cycle(tree)]
+pub struct Node<V> {
+    /// The value of the prefix that ends here.
+    value: Option<V>,
+    /// The prefixes whose next digit is 0, or whose family is IPv4.
+    zero: Tree<V>,
+    /// The prefixes whose next digit is 1, or whose family is IPv6.
+    one: Tree<V>,
+}
+
+/// Where a prefix goes at a node.
+pub enum Turn {
+    /// It ends there.
+    End,
+    /// To the digit 0, or to IPv4.
+    Zero,
+    /// To the digit 1, or to IPv6.
+    One,
+}
+
+/// Where a prefix goes behind its first `at` digits, of which it has at least so many.
+pub fn turn_at(prefix: Prefix, at: u8) -> Turn
+    requires { at ≤ length prefix }
+    ensures { IsTurn at prefix result }
+{
+    // A digit is 0 or 1, the family's 4 or 6, and no prefix has more than 161 of them.
+    let _form = prefix.form();
+    let _len = prefix.len();
+    match prefix.digit(at) {
+        None => Turn::End,
+        Some(0 | 4) => Turn::Zero,
+        Some(_) => Turn::One,
+    }
+}
+
+/// The tree of one entry, below the first `at` digits of the prefix. Where memory is wanted, the value comes back.
+fn chain<V: Drop>(alloc: Global, prefix: Prefix, at: u8, value: V) -> Result<Tree<V>, V>
+    requires { at ≤ length prefix }
+    ensures set { IfOk result (λ tree. IsSet at Empty tree (drop at prefix) (Some value)) }
+    ensures pruned { IfOk result (λ tree. IsTrue (is_pruned tree)) }
+    ensures fork { IfOk result (λ tree. IsTrue (is_fork tree)) }
+    ensures back { IfErr result (λ back. back ≡ value) }
+{
+    let mut node = match Box::new(
+        alloc,
+        Node {
+            value: None,
+            zero: Tree::Empty,
+            one: Tree::Empty,
+        },
+    ) {
+        Ok(node) => node,
+        Err(_refused) => return Err(value),
+    };
+    match turn_at(prefix, at) {
+        Turn::End => node.value = Some(value),
+        Turn::Zero => node.zero = chain(alloc, prefix, at + 1, value)?,
+        Turn::One => node.one = chain(alloc, prefix, at + 1, value)?,
+    }
+    Ok(Tree::Fork(node))
+}
+
+impl<V: Drop> Node<V> {
+    /// Whether its prefix, of `at` digits, has a value and at least `least` digits.
+    fn counts(&self, at: u8, least: u8) -> bool
+        ensures { result ≡ (nat_le least at && is_some self.now.value) }
+    {
+        least <= at && self.value.is_some()
+    }
+
+    /// Whether its prefix, of `at` digits, has less than `least` of them, and nothing is below it.
+    fn ends_short(&self, at: u8, least: u8) -> bool
+        ensures { result ≡ (nat_lt at least && not (is_fork self.now.zero || is_fork self.now.one)) }
+    {
+        at < least && self.zero.is_empty() && self.one.is_empty()
+    }
+}
+
+impl<V: Drop> Tree<V> {
+    /// Whether it has no entry: each node has one, or one below it.
+    fn is_empty(&self) -> bool
+        ensures { result ≡ not (is_fork self.now) }
+    {
+        matches!(self, Tree::Empty)
+    }
+
+    /// The value of a prefix, by what is left of it behind its first `at` digits.
+    pub fn get(&self, prefix: Prefix, at: u8) -> Option<&V>
+        requires { at ≤ length prefix }
+        ensures { option_copied result ≡ lookup at self.now (drop at prefix) }
+    {
+        match self {
+            Tree::Empty => None,
+            Tree::Fork(node) => match turn_at(prefix, at) {
+                Turn::End => node.value.as_ref(),
+                Turn::Zero => node.zero.get(prefix, at + 1),
+                Turn::One => node.one.get(prefix, at + 1),
+            },
+        }
+    }
+
+    /// Sets the value of a prefix, and answers the one before. What is missing of its path is built apart and attached
+    /// last: where memory is wanted, the tree stays as it is and the value comes back.
+    pub fn insert(
+        &mut self,
+        alloc: Global,
+        prefix: Prefix,
+        at: u8,
+        value: V,
+    ) -> Result<Option<V>, V>
+        requires within { at ≤ length prefix }
+        requires pruned { IsTrue (is_pruned self.old) }
+        ensures before { IfOk result (λ before. before ≡ lookup at self.old (drop at prefix)) }
+        ensures set { OnOk result (IsSet at self.old self.new (drop at prefix) (Some value)) }
+        ensures fork { OnOk result (IsTrue (is_fork self.new)) }
+        ensures pruned { OnOk result (IsTrue (is_pruned self.new)) }
+        ensures back { IfErr result (λ back. back ≡ value) }
+        ensures unchanged { OnErr result (self.new ≡ self.old) }
+        ensures replaced { IsSome (lookup at self.old (drop at prefix)) → IsOk result }
+    {
+        match self {
+            Tree::Empty => match chain(alloc, prefix, at, value) {
+                Ok(grown) => {
+                    *self = grown;
+                    Ok(None)
+                }
+                Err(back) => Err(back),
+            },
+            Tree::Fork(node) => match turn_at(prefix, at) {
+                Turn::End => Ok(mem::replace(&mut node.value, Some(value))),
+                Turn::Zero => node.zero.insert(alloc, prefix, at + 1, value),
+                Turn::One => node.one.insert(alloc, prefix, at + 1, value),
+            },
+        }
+    }
+
+    /// Whether it has no node, or one with neither a value nor a child.
+    fn is_vacant(&self) -> bool
+        ensures { result ≡ not (is_held self.now) }
+    {
+        match self {
+            Tree::Empty => true,
+            Tree::Fork(node) => {
+                node.value.is_none() && node.zero.is_empty() && node.one.is_empty()
+            }
+        }
+    }
+
+    /// Cuts a node that has neither a value nor a child.
+    fn prune(&mut self)
+        requires { IsTrue (is_pruned_below self.old) }
+        ensures same { HasSameEntries self.old self.new }
+        ensures count { count self.new ≡ count self.old }
+        ensures pruned { IsTrue (is_pruned self.new) }
+    {
+        if self.is_vacant() {
+            *self = Tree::Empty;
+        }
+    }
+
+    /// Removes a prefix and answers its value. On the way back each node that became empty is cut.
+    pub fn remove(&mut self, prefix: Prefix, at: u8) -> Option<V>
+        requires within { at ≤ length prefix }
+        requires pruned { IsTrue (is_pruned self.old) }
+        ensures before { result ≡ lookup at self.old (drop at prefix) }
+        ensures set { IsSet at self.old self.new (drop at prefix) None }
+        ensures pruned { IsTrue (is_pruned self.new) }
+    {
+        let before = match self {
+            Tree::Empty => None,
+            Tree::Fork(node) => match turn_at(prefix, at) {
+                Turn::End => node.value.take(),
+                Turn::Zero => node.zero.remove(prefix, at + 1),
+                Turn::One => node.one.remove(prefix, at + 1),
+            },
+        };
+        self.prune();
+        before
+    }
+
+    /// Keeps the entries for whose value `keep` answers true, and cuts each node that became empty. Of `len` entries, of
+    /// which those of this tree are a part, it answers how many are left.
+    pub fn retain<F: Fn(&V) -> bool>(&mut self, keep: &F, len: usize) -> usize
+        requires callable { F.IsAlwaysCallable keep.now }
+        requires pruned { IsTrue (is_pruned self.old) }
+        requires counted { count self.old ≤ len }
+        ensures kept { HasKept (FnReturnsAt F.Fn keep.now) self.old self.new }
+        ensures pruned { IsTrue (is_pruned self.new) }
+        ensures counted { result + count self.old ≡ len + count self.new }
+    {
+        let left = match self {
+            Tree::Empty => len,
+            Tree::Fork(node) => {
+                let left = node.zero.retain(keep, len);
+                let left = node.one.retain(keep, left);
+                retain_value(&mut node.value, keep, left)
+            }
+        };
+        self.prune();
+        left
+    }
+
+    /// Of the fronts of a prefix that have at least `at` digits, the longest that has a value: its length and the value.
+    pub fn longest(&self, prefix: Prefix, at: u8) -> Option<(u8, &V)>
+        requires { at ≤ length prefix }
+        ensures found { IfSome result (λ found. IsLongestBelow at self.now (drop at prefix) found.0 found.1.now) }
+        ensures none { IfNone result (IsUncovered at self.now (drop at prefix)) }
+    {
+        match self {
+            Tree::Empty => None,
+            Tree::Fork(node) => {
+                let below = match turn_at(prefix, at) {
+                    Turn::End => None,
+                    Turn::Zero => node.zero.longest(prefix, at + 1),
+                    Turn::One => node.one.longest(prefix, at + 1),
+                };
+                match below {
+                    Some(found) => Some(found),
+                    None => match &node.value {
+                        Some(value) => Some((at, value)),
+                        None => None,
+                    },
+                }
+            }
+        }
+    }
+
+    /// Of the fronts of a prefix that have at least `at` digits, the length of the shortest that overlaps no entry of at
+    /// least `least` digits; one that has fewer than `least` less one may be answered in its place, whatever it overlaps.
+    /// None where each overlaps one. `least` is at most one more than the length of the prefix.
+    pub fn gap(&self, prefix: Prefix, at: u8, least: u8) -> Option<u8>
+        requires within { at ≤ length prefix }
+        requires near { least ≤ length prefix + 1 }
+        requires pruned { IsTrue (is_pruned self.now) }
+        ensures found { IfSome result (λ len. IsGapBelow at self.now (drop at prefix) least len) }
+        ensures none { IfNone result (IsMet at self.now (drop at prefix) least) }
+    {
+        match self {
+            Tree::Empty => Some(at),
+            Tree::Fork(node) => {
+                if node.ends_short(at, least) {
+                    return Some(at);
+                }
+                if node.counts(at, least) {
+                    return None;
+                }
+                match turn_at(prefix, at) {
+                    Turn::End => None,
+                    Turn::Zero => node.zero.gap(prefix, at + 1, least),
+                    Turn::One => node.one.gap(prefix, at + 1, least),
+                }
+            }
+        }
+    }
+}
+
+/// Drops a value for which `keep` answers false, and answers how many are left of `len`.
+fn retain_value<V: Drop, F: Fn(&V) -> bool>(value: &mut Option<V>, keep: &F, len: usize) -> usize
+    requires callable { F.IsAlwaysCallable keep.now }
+    requires counted { one_if value.old ≤ len }
+    ensures kept { IsKept (FnReturnsAt F.Fn keep.now) value.old value.new }
+    ensures counted { result + one_if value.old ≡ len + one_if value.new }
+{
+    let is_kept = match value {
+        Some(kept) => keep(kept),
+        None => return len,
+    };
+    if is_kept {
+        return len;
+    }
+    *value = None;
+    len - 1
+}

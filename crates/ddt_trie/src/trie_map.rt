@@ -1,0 +1,85 @@
+//! A map from prefixes to values whose entries stand in a binary tree, one level for each digit. Each call but `retain`
+//! goes down one path.
+
+ghost use Rattle.std.specs.Prelude.{◌≡◌, IsTrue};
+ghost use Rattle.ddt_trie.specs.Tree.{content_of, count, is_pruned, HasPaths};
+
+use crate::prefix_map::PrefixMap;
+use crate::tree::Tree;
+use ddt_path::{Prefix, Xeid};
+use std::alloc::Global;
+
+/// The map of the servers and of the resolver's cache: its entries in a tree. No part of the tree is without an entry,
+/// the entries are counted, and each of them is a prefix, so that no path is longer than 161 digits.
+#[derive(Drop)]
+pub struct TrieMap<V> {
+    root: Tree<V>,
+    len: usize,
+    alloc: Global,
+    ghost pruned: { IsTrue (is_pruned root) },
+    ghost counted: { len ≡ count root },
+    ghost paths: { HasPaths (content_of root) },
+}
+
+impl<V: Drop> PrefixMap<V> for TrieMap<V> {
+    ghost content = { λ m. content_of m.root };
+
+    fn empty(alloc: Global) -> TrieMap<V> {
+        TrieMap {
+            root: Tree::Empty,
+            len: 0,
+            alloc,
+        }
+    }
+
+    fn len(&self) -> usize {
+        self.len
+    }
+
+    fn get(&self, prefix: Prefix) -> Option<&V> {
+        self.root.get(prefix, 0)
+    }
+
+    fn longest(&self, x: Xeid) -> Option<(Prefix, &V)> {
+        match self.root.longest(Prefix::host(x), 0) {
+            Some((len, value)) => Some((Prefix::cut(x, len), value)),
+            None => None,
+        }
+    }
+
+    fn free(&self, from: Prefix, x: Xeid) -> Option<Prefix> {
+        let len = self.root.gap(Prefix::host(x), 0, 0)?;
+        Some(Prefix::cut(x, len.max(from.len())))
+    }
+
+    fn free_below(&self, from: Prefix, x: Xeid) -> Option<Prefix> {
+        let len = self.root.gap(Prefix::host(x), 0, from.len() + 1)?;
+        Some(Prefix::cut(x, len.max(from.len())))
+    }
+
+    fn insert(&mut self, prefix: Prefix, value: V) -> Result<Option<V>, (Prefix, V)> {
+        // Each key is a prefix, which bounds the depth of the tree.
+        let _form = prefix.form();
+        match self.root.insert(self.alloc, prefix, 0, value) {
+            Ok(before) => {
+                if before.is_none() {
+                    self.len += 1;
+                }
+                Ok(before)
+            }
+            Err(refused) => Err((prefix, refused)),
+        }
+    }
+
+    fn remove(&mut self, prefix: Prefix) -> Option<V> {
+        let before = self.root.remove(prefix, 0);
+        if before.is_some() {
+            self.len -= 1;
+        }
+        before
+    }
+
+    fn retain<F: Fn(&V) -> bool>(&mut self, keep: &F) {
+        self.len = self.root.retain(keep, self.len);
+    }
+}

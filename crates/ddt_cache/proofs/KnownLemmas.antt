@@ -1,5 +1,5 @@
 -- What a cache knows, of entries some of which may have ended.
-use Rattle.std.proofs.Common.{◌≡◌, ℕ, ◌<◌, ◌≤◌, ◌+◌, ◌*◌, Bool, cond, true, false, List, [], Some, None, Option, refl, sym, ap, subst, ◌∙◌, arith, inl, inr, ◌⊎◌}
+use Rattle.std.proofs.Common.{◌≡◌, ℕ, ◌<◌, ◌≤◌, Bool, cond, true, false, List, [], Some, None, Option, refl, sym, ap, subst, ◌∙◌, arith, inl, inr, ◌⊎◌}
 use Rattle.std.specs.Prelude.{is_some, nat_lt, max, min, ◌&&◌, ◌||◌, IsTrue}
 use Rattle.std.specs.FinMap.{get, insert, remove, contains_key}
 use Rattle.std.proofs.lemmas.Bool.{and_parts, and_from, cond-true, ltb-true}
@@ -11,19 +11,20 @@ use Rattle.ddt_path.specs.declared.record.ReferralRecord.{ReferralRecord}
 use Rattle.ddt_trie.specs.PrefixMap.{IsCovered, IsLongest}
 use Rattle.ddt_trie.proofs.MapLemmas.{IsLongest-unique}
 use Rattle.ddt_cache.specs.declared.entry.Entry.{Entry}
-use Rattle.ddt_cache.specs.Moment.{minute}
 use Rattle.ddt_cache.specs.Entry.{is_positive, is_negative, most_minutes, end_of, entry_of, root_entry}
 use Rattle.ddt_cache.specs.Live.{Known, is_live, live_at, known_of, moved, forgotten}
 use Rattle.ddt_cache.specs.Saved.{savable, has_room, is_saved, stored, names_servers}
-use Rattle.ddt_cache.specs.Found.{IsRoot, IsFound}
+use Rattle.ddt_cache.specs.Found.{IsFound}
 use Rattle.ddt_cache.proofs.LiveLemmas.{Entries, if_live, get-live_at, live_at-later, live_at-remove, live_at-insert, longest_live, uncovered_live, live_was_there}
 
 -- ---- what is known after a call
 
-pub same_known : (t : ℕ) (m n : Entries) (roots : List Locator) → live_at t n ≡ live_at t m → known_of t n roots ≡ known_of t m roots
+pub same_known : (t : ℕ) (m n : Entries) (roots : List Locator) → live_at t n ≡ live_at t m
+    → known_of t n roots ≡ known_of t m roots
 same_known t m n roots alike = let at : Entries → Known = λ l. record { time = t; live = l; roots = roots } in ap at alike
 
-pub moved_known : (t now u : ℕ) (m : Entries) (roots : List Locator) → u ≡ max t now → known_of u m roots ≡ moved now (known_of t m roots)
+pub moved_known : (t now u : ℕ) (m : Entries) (roots : List Locator) → u ≡ max t now
+    → known_of u m roots ≡ moved now (known_of t m roots)
 moved_known t now u m roots is =
     let at : ℕ → Entries → Known = λ v l. record { time = v; live = l; roots = roots } in
     let le : t ≤ u = subst (λ (v : ℕ). t ≤ v) (sym is) (le-max_left t now) in
@@ -32,13 +33,15 @@ moved_known t now u m roots is =
 pub live_twice : (t : ℕ) (m n : Entries) → n ≡ live_at t m → live_at t n ≡ live_at t m
 live_twice t m n is = ap (live_at t) is ∙ live_at-later t t m (omega arith)
 
-pub forgotten_known : (t : ℕ) (m n : Entries) (roots : List Locator) (p : List ℕ) → n ≡ remove m p → known_of t n roots ≡ forgotten (known_of t m roots) p
+pub forgotten_known : (t : ℕ) (m n : Entries) (roots : List Locator) (p : List ℕ) → n ≡ remove m p
+    → known_of t n roots ≡ forgotten (known_of t m roots) p
 forgotten_known t m n roots p is =
     let at : Entries → Known = λ l. record { time = t; live = l; roots = roots } in
     ap at (ap (live_at t) is ∙ live_at-remove t m p)
 
 -- whether an entry that was removed was live
-pub live_key : (t : ℕ) (m : Entries) (p : List ℕ) (o : Option Entry) → o ≡ get m p → is_live t o ≡ contains_key (live_at t m) p
+pub live_key : (t : ℕ) (m : Entries) (p : List ℕ) (o : Option Entry) → o ≡ get m p
+    → is_live t o ≡ contains_key (live_at t m) p
 live_key t m p o is = ap (is_live t) is ∙ shown (get m p) ∙ ap (λ (r : Option Entry). is_some r) (sym (get-live_at t m p))
   where
     shown : (r : Option Entry) → is_live t r ≡ is_some (if_live t r)
@@ -52,7 +55,8 @@ live_key t m p o is = ap (is_live t) is ∙ shown (get m p) ∙ ap (λ (r : Opti
 -- ---- what is found
 
 -- what is found among all entries, where those that cover x and have ended are gone
-pub found_known : (t : ℕ) (m : Entries) (x p : List ℕ) (e root : Entry) (roots : List Locator) (k : Known) → root ≡ root_entry roots
+pub found_known : (t : ℕ) (m : Entries) (x p : List ℕ) (e root : Entry) (roots : List Locator) (k : Known)
+    → root ≡ root_entry roots
     → ((q : List ℕ) (f : Entry) → IsLongest m x q f → t < f.end)
     → IsLongest m x p e ⊎ ((IsCovered m x → ⊥) × (p ≡ []) × (e ≡ root)) → known_of t m roots ≡ k → IsFound k x p e
 found_known t m x p e root roots k is live found same = subst (λ (j : Known). IsFound j x p e) same (at found)
@@ -93,13 +97,16 @@ ends_later t r is =
     omega (arith, least)
 
 -- what a record that is saved leaves
-pub stored_is : (t : ℕ) (old new last : Entries) (r : ReferralRecord) (e : Entry) → savable r ≡ true → has_room (live_at t old) r.prefix ≡ true
-    → live_at t new ≡ live_at t old → e ≡ entry_of t r → last ≡ insert new r.prefix e → live_at t last ≡ stored t (live_at t old) r
+pub stored_is : (t : ℕ) (old new last : Entries) (r : ReferralRecord) (e : Entry) → savable r ≡ true
+    → has_room (live_at t old) r.prefix ≡ true
+    → live_at t new ≡ live_at t old → e ≡ entry_of t r → last ≡ insert new r.prefix e
+    → live_at t last ≡ stored t (live_at t old) r
 stored_is t old new last r e is room alike entry put =
     ap (live_at t) (put ∙ ap (insert new r.prefix) entry) ∙ live_at-insert t new r.prefix (entry_of t r) (ends_later t r is)
     ∙ ap (λ (l : Entries). insert l r.prefix (entry_of t r)) alike
     ∙ sym (cond-true (is_saved (live_at t old) r) (insert (live_at t old) r.prefix (entry_of t r)) (live_at t old) (and_from (savable r) _ is room))
 
 -- the prefix of a live entry is a key, also once what has ended is gone
-pub live_is_key : (t : ℕ) (old new : Entries) (p : List ℕ) → live_at t new ≡ live_at t old → IsTrue (contains_key (live_at t old) p) → is_some (get new p) ≡ true
+pub live_is_key : (t : ℕ) (old new : Entries) (p : List ℕ) → live_at t new ≡ live_at t old
+    → IsTrue (contains_key (live_at t old) p) → is_some (get new p) ≡ true
 live_is_key t old new p alike key = live_was_there t new p (ap (λ (l : Entries). contains_key l p) alike ∙ key)

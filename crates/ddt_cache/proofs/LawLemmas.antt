@@ -1,12 +1,11 @@
 -- What follows for a cache whose time moves on.
-use Rattle.std.proofs.Common.{◌≡◌, ℕ, ◌<◌, ◌≤◌, Bool, cond, true, List, Some, None, Option, refl, sym, ap, ◌∙◌, arith}
-use Rattle.std.specs.Prelude.{nat_lt, max, ◌&&◌}
+use Rattle.std.proofs.Common.{◌≡◌, ℕ, ◌<◌, ◌≤◌, true, Some, None, ap, ◌∙◌, arith}
+use Rattle.std.specs.Prelude.{nat_lt, max}
 use Rattle.std.specs.FinMap.{get, insert}
 use Rattle.std.proofs.Math.Nat.{le-max_left}
 use Rattle.std.proofs.lemmas.Bool.{and_parts, cond-true, cond-false}
 use Rattle.ddt_path.specs.declared.record.ReferralRecord.{ReferralRecord}
 use Rattle.ddt_trie.proofs.MapLemmas.{get-insert_same}
-use Rattle.ddt_cache.specs.declared.entry.Entry.{Entry}
 use Rattle.ddt_cache.specs.Entry.{end_of, entry_of}
 use Rattle.ddt_cache.specs.Live.{Known, live_at, moved}
 use Rattle.ddt_cache.specs.Saved.{savable, has_room, is_saved, stored, stored_in}
@@ -32,10 +31,12 @@ moved_back k n h le =
 
 -- ---- a record that is saved
 
-stored_put : (k : Known) (r : ReferralRecord) → is_saved k.live r ≡ true → stored k.time k.live r ≡ insert k.live r.prefix (entry_of k.time r)
+stored_put : (k : Known) (r : ReferralRecord) → is_saved k.live r ≡ true
+    → stored k.time k.live r ≡ insert k.live r.prefix (entry_of k.time r)
 stored_put k r is = cond-true (is_saved k.live r) (insert k.live r.prefix (entry_of k.time r)) k.live is
 
-get_later : (k : Known) (r : ReferralRecord) (t : ℕ) → is_saved k.live r ≡ true → get (live_at t (stored k.time k.live r)) r.prefix ≡ if_live t (Some (entry_of k.time r))
+get_later : (k : Known) (r : ReferralRecord) (t : ℕ) → is_saved k.live r ≡ true
+    → get (live_at t (stored k.time k.live r)) r.prefix ≡ if_live t (Some (entry_of k.time r))
 get_later k r t is =
     get-live_at t (stored k.time k.live r) r.prefix
     ∙ ap (λ (m : Entries). if_live t (get m r.prefix)) (stored_put k r is)

@@ -1,5 +1,5 @@
 -- The entries of a map that are live at a time.
-use Rattle.std.proofs.Common.{◌≡◌, ℕ, ◌<◌, ◌≤◌, ◌-◌, Bool, cond, true, false, List, [], Some, None, Option, refl, sym, ap, subst, ◌∙◌, arith, inl, inr, ◌⊎◌}
+use Rattle.std.proofs.Common.{◌≡◌, ℕ, ◌<◌, ◌≤◌, ◌-◌, Bool, cond, true, false, List, Some, None, Option, refl, sym, ap, subst, ◌∙◌, arith, inl, inr}
 use Rattle.std.specs.Prelude.{is_some, nat_lt, IsTrue}
 use Rattle.std.specs.Cmp.Lexicographic.{nat_list_cmp_total}
 use Rattle.std.specs.FinMap.{FinMap, empty, get, insert, remove, contains_key, get-empty, get-insert, get-remove, get-retain_keys, get_tied, same_map, len, len-remove, empty_of_len}
@@ -67,7 +67,8 @@ if_live_is t (Some f) e is =
 
 -- ---- maps
 
-pub live_at-is : (t : ℕ) (m : Entries) (q : List ℕ) (e : Entry) → get (live_at t m) q ≡ Some e → (get m q ≡ Some e) × (t < e.end)
+pub live_at-is : (t : ℕ) (m : Entries) (q : List ℕ) (e : Entry) → get (live_at t m) q ≡ Some e
+    → (get m q ≡ Some e) × (t < e.end)
 live_at-is t m q e is = if_live_is t (get m q) e (sym (get-live_at t m q) ∙ is)
 
 pub live_at-empty : (t : ℕ) → live_at t empty ≡ empty
@@ -87,7 +88,8 @@ live_at-all t m ends = same _ _ (λ q. get-live_at t m q ∙ each (get m q) (end
     each None h = refl
     each (Some e) h = if_live_some t e (h e refl)
 
-pub live_at-insert : (t : ℕ) (m : Entries) (p : List ℕ) (e : Entry) → t < e.end → live_at t (insert m p e) ≡ insert (live_at t m) p e
+pub live_at-insert : (t : ℕ) (m : Entries) (p : List ℕ) (e : Entry) → t < e.end
+    → live_at t (insert m p e) ≡ insert (live_at t m) p e
 live_at-insert t m p e lt = same _ _ (λ q.
     get-live_at t (insert m p e) q ∙ ap (if_live t) (get-insert nat_list_cmp_total m p e q)
     ∙ if_live_cond t (tied q p) (Some e) (get m q)
@@ -107,7 +109,8 @@ either true x y h = h refl
 either false x y h = refl
 
 -- to remove an entry that has ended changes nothing
-pub live_at-remove_ended : (t : ℕ) (m : Entries) (p : List ℕ) (e : Entry) → get m p ≡ Some e → e.end ≤ t → live_at t (remove m p) ≡ live_at t m
+pub live_at-remove_ended : (t : ℕ) (m : Entries) (p : List ℕ) (e : Entry) → get m p ≡ Some e → e.end ≤ t
+    → live_at t (remove m p) ≡ live_at t m
 live_at-remove_ended t m p e found le = live_at-remove t m p ∙ same _ _ (λ q.
     get-remove nat_list_cmp_total (live_at t m) p q
     ∙ either (tied q p) None (get (live_at t m) q) (λ is. sym (gone q (tied-true q p is))))
@@ -118,14 +121,16 @@ live_at-remove_ended t m p e found le = live_at-remove t m p ∙ same _ _ (λ q.
         ∙ cond-false (nat_lt t e.end) (Some e) None (ended_false t e le)
 
 -- what is live was there
-pub live_was_there : (t : ℕ) (m : Entries) (q : List ℕ) → IsTrue (contains_key (live_at t m) q) → IsTrue (contains_key m q)
+pub live_was_there : (t : ℕ) (m : Entries) (q : List ℕ) → IsTrue (contains_key (live_at t m) q)
+    → IsTrue (contains_key m q)
 live_was_there t m q h = there (get m q) (ap (λ (o : Option Entry). is_some o) (sym (get-live_at t m q)) ∙ h)
   where
     there : (o : Option Entry) → is_some (if_live t o) ≡ true → is_some o ≡ true
     there None h = h
     there (Some e) h = refl
 
-pub longest_live : (t : ℕ) (m : Entries) (x p : List ℕ) (e : Entry) → IsLongest m x p e → t < e.end → IsLongest (live_at t m) x p e
+pub longest_live : (t : ℕ) (m : Entries) (x p : List ℕ) (e : Entry) → IsLongest m x p e → t < e.end
+    → IsLongest (live_at t m) x p e
 longest_live t m x p e h lt = record {
   value = get-live_at t m p ∙ ap (if_live t) h.value ∙ if_live_some t e lt;
   covers_it = h.covers_it;
@@ -146,12 +151,14 @@ kept_live answers t says (Some e) after kept =
     ]
 
 pub retained_live : (answers : Entry → Bool → Type 0) (t : ℕ) (before after : Entries)
-    → ((e : Entry) (b : Bool) → answers e b → b ≡ nat_lt t e.end) → IsRetained answers before after → after ≡ live_at t before
+    → ((e : Entry) (b : Bool) → answers e b → b ≡ nat_lt t e.end) → IsRetained answers before after
+    → after ≡ live_at t before
 retained_live answers t before after says h = same _ _ (λ q.
     kept_live answers t says (get before q) (get after q) (h.at q) ∙ sym (get-live_at t before q))
 
 -- the longest is the one that was found
-pub only_longest : (t : ℕ) (m : Entries) (x p q : List ℕ) (e f : Entry) → IsLongest m x p e → IsLongest m x q f → t < e.end → t < f.end
+pub only_longest : (t : ℕ) (m : Entries) (x p q : List ℕ) (e f : Entry) → IsLongest m x p e → IsLongest m x q f
+    → t < e.end → t < f.end
 only_longest t m x p q e f a b lt = subst (λ (g : Entry). t < g.end) (IsLongest-unique m x p q e f a b).1 lt
 
 pub len_less : (m : Entries) (p : List ℕ) (e : Entry) → get m p ≡ Some e → len (remove m p) < len m

@@ -1,8 +1,8 @@
 -- What holds of a cache is kept by whatever is done to it.
-use Rattle.std.proofs.Common.{◌≡◌, ℕ, ◌<◌, ◌≤◌, ◌+◌, ◌*◌, Bool, cond, true, false, List, length, Some, None, Option, Ok, Err, Result, refl, sym, ap, subst, ◌∙◌, arith, inl, inr, ◌⊎◌}
-use Rattle.std.specs.Prelude.{nat_lt, max, min, ◌&&◌, ◌||◌, ◌≢◌, IsTrue, OnOk, OnErr}
+use Rattle.std.proofs.Common.{◌≡◌, ℕ, ◌<◌, ◌≤◌, ◌+◌, ◌*◌, Bool, cond, true, false, List, length, Some, None, Ok, Err, Result, refl, sym, ap, subst, ◌∙◌, arith, inl, inr}
+use Rattle.std.specs.Prelude.{nat_lt, max, min, ◌&&◌, ◌||◌, ◌≢◌, OnOk, OnErr}
 use Rattle.std.specs.Cmp.Lexicographic.{nat_list_cmp_total}
-use Rattle.std.specs.FinMap.{get, insert, remove, empty, len, get-remove, get-empty}
+use Rattle.std.specs.FinMap.{get, insert, remove, empty, get-remove, get-empty}
 use Rattle.std.proofs.lemmas.Bool.{and_parts, ltb-true, false≢true}
 use Rattle.std.proofs.lemmas.Option.{none-some}
 use Rattle.ddt_path.specs.declared.locator.Locator.{Locator}
@@ -16,7 +16,7 @@ use Rattle.ddt_cache.specs.declared.entry.Entry.{Entry}
 use Rattle.ddt_cache.specs.Moment.{last_moment, minute}
 use Rattle.ddt_cache.specs.Entry.{is_positive, is_negative, most_minutes, entry_of}
 use Rattle.ddt_cache.specs.Live.{Known, live_at, known_of, nothing_known, moved, forgotten}
-use Rattle.ddt_cache.specs.Saved.{most_entries, savable, has_room, is_saved, stored, stored_in}
+use Rattle.ddt_cache.specs.Saved.{savable, has_room, is_saved, stored, stored_in}
 use Rattle.ddt_cache.specs.InOrder.{IsEntryInOrder, IsInOrder}
 use Rattle.ddt_cache.proofs.LiveLemmas.{Entries, live_at-is}
 use Rattle.ddt_cache.proofs.SizeLemmas.{len_dropped, len_removed, len_inserted, len_none}
@@ -57,7 +57,8 @@ module _ (t ttl : ℕ) (p : List ℕ) (servers : List Locator) (few : length ser
         few = few;
       }
 
-  negative : (a : Action) → most_minutes a ≡ 15 → is_positive a ≡ false → a ≢ NotAuthoritative → 0 < ttl → IsEntryInOrder t p (made a)
+  negative : (a : Action) → most_minutes a ≡ 15 → is_positive a ≡ false → a ≢ NotAuthoritative → 0 < ttl
+      → IsEntryInOrder t p (made a)
   unfolding made
   negative a most not_positive other some = record {
     live = omega (arith, most, some);
@@ -69,7 +70,9 @@ module _ (t ttl : ℕ) (p : List ℕ) (servers : List Locator) (few : length ser
     few = few;
   }
 
-  by_action : (a : Action) → 0 < ttl → (is_negative a || (is_positive a && (nat_lt 0 (length servers) && nat_lt 0 (length p)))) ≡ true → IsEntryInOrder t p (made a)
+  by_action : (a : Action) → 0 < ttl
+      → (is_negative a || (is_positive a && (nat_lt 0 (length servers) && nat_lt 0 (length p)))) ≡ true
+      → IsEntryInOrder t p (made a)
   by_action NodeReferral some is = positive NodeReferral refl refl (λ e. cc) some is
   by_action MsReferral some is = positive MsReferral refl refl (λ e. cc) some is
   by_action MsAck some is = positive MsAck refl refl (λ e. cc) some is
@@ -77,7 +80,8 @@ module _ (t ttl : ℕ) (p : List ℕ) (servers : List Locator) (few : length ser
   by_action DelegationHole some is = negative DelegationHole refl refl (λ e. cc) some
   by_action NotAuthoritative some is = absurd (false≢true is)
 
-  pub entry_in_order : (a : Action) → (nat_lt 0 ttl && (is_negative a || (is_positive a && (nat_lt 0 (length servers) && nat_lt 0 (length p))))) ≡ true
+  pub entry_in_order : (a : Action)
+      → (nat_lt 0 ttl && (is_negative a || (is_positive a && (nat_lt 0 (length servers) && nat_lt 0 (length p))))) ≡ true
       → IsEntryInOrder t p (record { action = a; servers = servers; end = t + min ttl (most_minutes a) * minute })
   unfolding made
   entry_in_order a is =
@@ -116,7 +120,8 @@ forgotten_in_order k p h = record {
     there q e true is = absurd (none-some e is)
     there q e false is = is
 
-inserted_in_order : (k : Known) (p : List ℕ) (e : Entry) → has_room k.live p ≡ true → IsEntryInOrder k.time p e → IsInOrder k
+inserted_in_order : (k : Known) (p : List ℕ) (e : Entry) → has_room k.live p ≡ true → IsEntryInOrder k.time p e
+    → IsInOrder k
     → IsInOrder (record { time = k.time; live = insert k.live p e; roots = k.roots })
 inserted_in_order k p e room good h = record {
   time = h.time;
@@ -140,7 +145,8 @@ stored_in_order k r few h =
 
 -- whether a record is saved or memory is wanted
 pub saved_in_order : {A E : Type 0} (result : Result A E) (t : ℕ) (m n : Entries) (roots : List Locator) (r : ReferralRecord) → length r.servers ≤ 8
-    → OnOk result (live_at t n ≡ stored t (live_at t m) r) → OnErr result (live_at t n ≡ live_at t m) → IsInOrder (known_of t m roots) → IsInOrder (known_of t n roots)
+    → OnOk result (live_at t n ≡ stored t (live_at t m) r) → OnErr result (live_at t n ≡ live_at t m)
+    → IsInOrder (known_of t m roots) → IsInOrder (known_of t n roots)
 saved_in_order (Ok _) t m n roots r few stays refused h =
     let at : Entries → Known = λ l. record { time = t; live = l; roots = roots } in
     in_order_along (known_of t n roots) (stored_in (known_of t m roots) r) (ap at stays) (stored_in_order (known_of t m roots) r few h)

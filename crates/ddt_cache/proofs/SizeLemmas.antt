@@ -36,7 +36,8 @@ both true true o = refl
 both true false o = refl
 both false b o = refl
 
-get-without : (ks : List (List ℕ)) (m : Entries) (q : List ℕ) → get (without ks m) q ≡ cond (list_any (tied q) ks) None (get m q)
+get-without : (ks : List (List ℕ)) (m : Entries) (q : List ℕ)
+    → get (without ks m) q ≡ cond (list_any (tied q) ks) None (get m q)
 unfolding without
 get-without [] m q = refl
 get-without (k ∷ ks) m q =
@@ -44,7 +45,8 @@ get-without (k ∷ ks) m q =
     ∙ ap (cond (list_any (tied q) ks) None) (get-remove nat_list_cmp_total m k q)
     ∙ both (tied q k) (list_any (tied q) ks) (get m q)
 
-any_filter : (test : List ℕ → Bool) (ks : List (List ℕ)) (q : List ℕ) → list_any (tied q) (filter test ks) ≡ (test q && list_any (tied q) ks)
+any_filter : (test : List ℕ → Bool) (ks : List (List ℕ)) (q : List ℕ)
+    → list_any (tied q) (filter test ks) ≡ (test q && list_any (tied q) ks)
 any_filter test [] q = no_one (test q)
   where
     no_one : (b : Bool) → false ≡ (b && false)
@@ -111,7 +113,8 @@ room_below m p lt = ap (λ b. contains_key m p || b) (lt-ltb (len m) most_entrie
     or_true true = refl
     or_true false = refl
 
-pub len_inserted : (m n : Entries) (p : List ℕ) (e : Entry) → n ≡ insert m p e → has_room m p ≡ true → len m ≤ most_entries → len n ≤ most_entries
+pub len_inserted : (m n : Entries) (p : List ℕ) (e : Entry) → n ≡ insert m p e → has_room m p ≡ true
+    → len m ≤ most_entries → len n ≤ most_entries
 len_inserted m n p e is room le =
     let a : len n ≡ cond (contains_key m p) (len m) (len m + 1) = ap (λ (l : Entries). len l) is ∙ len-insert nat_list_cmp_total m p e in
     let b : cond (contains_key m p) (len m) (len m + 1) ≤ most_entries = by_key (contains_key m p) room in

@@ -1,8 +1,6 @@
 -- Which records are saved, and what a cache knows afterwards (RFC 8111, sections 6.4 and 7.3).
-use Rattle.std.specs.Prelude.{ℕ, Bool, true, false, ◌||◌, ◌&&◌, length, nat_lt, List, if◌then◌else◌}
+use Rattle.std.specs.Prelude.{ℕ, Bool, ◌||◌, ◌&&◌, length, nat_lt, List, if◌then◌else◌}
 use Rattle.std.specs.FinMap.{FinMap, insert, contains_key, len}
-use Rattle.ddt_path.specs.declared.record.Action.{Action}
-use Rattle.ddt_path.specs.declared.record.Action.TheVariants.{NodeReferral, MsReferral, MsAck, MsNotRegistered, DelegationHole, NotAuthoritative}
 use Rattle.ddt_path.specs.declared.record.ReferralRecord.{ReferralRecord}
 use Rattle.ddt_trie.specs.PrefixMap.{path_cmp}
 use Rattle.ddt_cache.specs.declared.entry.Entry.{Entry}

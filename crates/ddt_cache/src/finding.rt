@@ -23,7 +23,8 @@ impl<M: PrefixMap<Entry>> Held<M> {
     /// none, the root's.
     pub(crate) fn longest_or_root(&self, x: Xeid) -> (Prefix, &Entry)
         ensures { IsLongest (M.content self.now.entries) (xeid_path x) result.0 result.1.now
-            ⊎ ((IsCovered (M.content self.now.entries) (xeid_path x) → ⊥) × (result.0 ≡ []) × (result.1.now ≡ self.now.root)) }
+            ⊎ ((IsCovered (M.content self.now.entries) (xeid_path x) → ⊥) ×
+            (result.0 ≡ []) × (result.1.now ≡ self.now.root)) }
     {
         match self.entries.longest(x) {
             Some(found) => found,
@@ -34,8 +35,10 @@ impl<M: PrefixMap<Entry>> Held<M> {
 
 /// The longest prefix that covers the identifier, where its entry has ended.
 fn ended_over<M: PrefixMap<Entry>>(entries: &M, time: u64, x: Xeid) -> Option<Prefix>
-    ensures ended { IfSome result (λ p. (e : EntryValue) × (map.get (M.content entries.now) p ≡ Some e) × (e.end ≤ time)) }
-    ensures none { IfNone result ((p : List ℕ) (e : EntryValue) → IsLongest (M.content entries.now) (xeid_path x) p e → time < e.end) }
+    ensures ended { IfSome result (λ p.
+        (e : EntryValue) × (map.get (M.content entries.now) p ≡ Some e) × (e.end ≤ time)) }
+    ensures none { IfNone result ((p : List ℕ) (e : EntryValue) →
+        IsLongest (M.content entries.now) (xeid_path x) p e → time < e.end) }
 {
     match entries.longest(x) {
         Some((prefix, entry)) => {
@@ -53,7 +56,8 @@ fn ended_over<M: PrefixMap<Entry>>(entries: &M, time: u64, x: Xeid) -> Option<Pr
 pub(crate) fn drop_ended_over<M: PrefixMap<Entry>>(entries: &mut M, time: u64, x: Xeid)
     ensures live { live_at time (M.content entries.new) ≡ live_at time (M.content entries.old) }
     ensures fewer { map.len (M.content entries.new) ≤ map.len (M.content entries.old) }
-    ensures longest { (p : List ℕ) (e : EntryValue) → IsLongest (M.content entries.new) (xeid_path x) p e → time < e.end }
+    ensures longest { (p : List ℕ) (e : EntryValue) →
+        IsLongest (M.content entries.new) (xeid_path x) p e → time < e.end }
 {
     while let Some(prefix) = ended_over(entries, time, x) {
         entries.remove(prefix);

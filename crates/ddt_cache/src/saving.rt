@@ -3,7 +3,7 @@
 ghost use Rattle.std.specs.Prelude.{◌≡◌, ◌<◌, ◌≤◌, length, IsTrue, IfOk, OnOk, OnErr, IsOk};
 ghost use Rattle.std.specs.FinMap as map;
 ghost use Rattle.ddt_cache.specs.Moment.{last_moment};
-ghost use Rattle.ddt_cache.specs.Entry.{is_positive as is_positive_action, is_negative as is_negative_action, most_minutes as most_minutes_of, entry_of};
+ghost use Rattle.ddt_cache.specs.Entry.{most_minutes as most_minutes_of, entry_of};
 ghost use Rattle.ddt_cache.specs.Live.{live_at};
 ghost use Rattle.ddt_cache.specs.Saved.{most_entries, savable, has_room, is_saved, saving, stored};
 
@@ -93,12 +93,14 @@ pub(crate) fn save_among<M: PrefixMap<Entry>>(
 ) -> Result<Saved, AllocError>
     requires few { map.len (M.content entries.old) ≤ most_entries }
     requires moment { time ≤ last_moment }
-    ensures stored { OnOk result (live_at time (M.content entries.new) ≡ stored time (live_at time (M.content entries.old)) referral.now) }
+    ensures stored { OnOk result (live_at time (M.content entries.new) ≡
+        stored time (live_at time (M.content entries.old)) referral.now) }
     ensures answer { IfOk result (λ saved. saved ≡ saving (live_at time (M.content entries.old)) referral.now) }
     ensures bound { map.len (M.content entries.new) ≤ most_entries }
     ensures unchanged { OnErr result (live_at time (M.content entries.new) ≡ live_at time (M.content entries.old)) }
     ensures wanted { OnErr result (IsTrue (is_saved (live_at time (M.content entries.old)) referral.now)) }
-    ensures replaced { IsTrue (map.contains_key (live_at time (M.content entries.old)) referral.now.prefix) → IsOk result }
+    ensures replaced { IsTrue (map.contains_key (live_at time (M.content entries.old)) referral.now.prefix) →
+        IsOk result }
     ensures servers { length referral.now.servers ≤ 8 }
 {
     // The slice tells the proof that a set holds at most 8 locators.

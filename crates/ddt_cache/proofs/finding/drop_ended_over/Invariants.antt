@@ -1,4 +1,4 @@
-use Rattle.std.proofs.Common.{◌≡◌, ◌≤◌, ℕ}
+use Rattle.std.proofs.Common.{◌≡◌, ◌≤◌}
 use Rattle.std.specs.FinMap as map
 use Rattle.ddt_cache.specs.Live.{live_at}
 use Rattle.ddt_cache.proofs.finding.drop_ended_over.Given as goal

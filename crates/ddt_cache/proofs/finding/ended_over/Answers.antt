@@ -1,4 +1,4 @@
-use Rattle.std.proofs.Common.{◌<◌, arith, rules}
+use Rattle.std.proofs.Common.{rules}
 use Rattle.ddt_path.specs.Path.{xeid_path}
 use Rattle.ddt_cache.proofs.LiveLemmas.{only_longest}
 use Rattle.ddt_cache.proofs.finding.ended_over.Goals as goal

@@ -1,5 +1,4 @@
-use Rattle.std.proofs.Common.{rules, ap, ◌∙◌, sym}
-use Rattle.std.specs.FinMap as map
+use Rattle.std.proofs.Common.{rules}
 use Rattle.ddt_cache.proofs.KnownLemmas.{stored_is, live_is_key}
 use Rattle.ddt_cache.proofs.SizeLemmas.{len_inserted}
 use Rattle.ddt_cache.proofs.saving.save_among.Goals as goal

@@ -1,4 +1,4 @@
-use Rattle.std.proofs.Common.{refl, ap, ◌∙◌, rules}
+use Rattle.std.proofs.Common.{refl, ap, ◌∙◌}
 use Rattle.ddt_cache.specs.Live.{Known, live_at, known_of, nothing_known}
 use Rattle.ddt_cache.proofs.LiveLemmas.{Entries, live_at-empty}
 use Rattle.ddt_cache.proofs.SizeLemmas.{len_none}

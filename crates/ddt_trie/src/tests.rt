@@ -231,8 +231,6 @@ fn filled<M: PrefixMap<u32>>(alloc: Global, rt: &impl Abort, len: u32) -> Result
         map.longest(v6(DOCUMENTATION)),
         Some((Prefix::host(v6(DOCUMENTATION)), &0))
     );
-    map.retain(&|value: &u32| *value % 2 == 1);
-    assert_eq!(rt; map.len(), len as usize / 2);
     Ok(())
 }
 
@@ -384,11 +382,12 @@ fn same_answers<A: PrefixMap<u32>, B: PrefixMap<u32>>(
     );
 }
 
+/// 15,000 changes of two maps, and after each what they answer: more than 100,000 calls on each.
 fn agree<A: PrefixMap<u32>, B: PrefixMap<u32>>(alloc: Global, rt: &impl Abort, seed: u32) {
     let mut one = A::empty(alloc);
     let mut other = B::empty(alloc);
     let mut dice = Dice { state: seed };
-    for step in 0..20_000u32 {
+    for step in 0..15_000u32 {
         change(rt, &mut one, &mut other, &mut dice, step);
         same_answers(rt, &one, &other, &mut dice);
     }
@@ -427,4 +426,19 @@ fn trie_map_is_filled_and_dropped(rt: HostRuntime) -> Result<(), Fail> {
 #[test]
 fn both_maps_agree_on_calls_drawn_by_lot(rt: HostRuntime) {
     agree::<ListMap<u32>, TrieMap<u32>>(rt.alloc(), &rt, 1);
+}
+
+#[test]
+fn both_maps_agree_on_other_calls(rt: HostRuntime) {
+    agree::<ListMap<u32>, TrieMap<u32>>(rt.alloc(), &rt, 8111);
+}
+
+#[test]
+fn both_maps_agree_on_calls_of_a_third_draw(rt: HostRuntime) {
+    agree::<TrieMap<u32>, ListMap<u32>>(rt.alloc(), &rt, 0x2001_0db8);
+}
+
+#[test]
+fn both_maps_agree_on_calls_of_a_fourth_draw(rt: HostRuntime) {
+    agree::<TrieMap<u32>, ListMap<u32>>(rt.alloc(), &rt, u32::MAX);
 }

@@ -5,3 +5,4 @@ pub mod TableLemmas
 pub mod StateLemmas
 pub mod HearLemmas
 pub mod BoundLemmas
+pub mod ReplyLemmas

@@ -9,3 +9,4 @@ pub mod Order
 pub mod Bound
 pub mod Table
 pub mod Acting
+pub mod Laws

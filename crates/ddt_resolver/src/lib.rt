@@ -1,12 +1,13 @@
 //! A resolver of RFC 8111, section 7.3, as a machine of steps: an ask, a datagram, a tick. It sends nothing itself: each
 //! call answers what is to be sent, and learns the time from its caller.
 //!
-//! In reading order: `answers`, `pending`, `table`, `resolver`, `asking`, `refusing`, `acting`, `sending`.
+//! In reading order: `answers`, `pending`, `table`, `resolver`, `asking`, `refusing`, `acting`, `sending`, `laws`.
 #![tactic(auto)]
 
 mod acting;
 mod answers;
 mod asking;
+mod laws;
 mod pending;
 mod refusing;
 mod resolver;
@@ -15,5 +16,9 @@ mod table;
 
 pub use answers::{AskError, Asked, Heard, Ignored, Outgoing, Ticked, Ticket, Why};
 pub use ddt_cache::Moment;
+pub use laws::{order_is_kept, tickets_are_new, usable_is_taken};
 pub use pending::Pending;
 pub use resolver::{MOST_PENDING, Resolver};
+
+#[cfg(test)]
+mod tests;

@@ -1,0 +1,5 @@
+use Rattle.ddt_resolver.proofs.OrderLemmas.{order_after, order_moved}
+use Rattle.ddt_resolver.proofs.laws.order_is_kept.Goals as goal
+
+pub returns : goal.returns
+returns c = record { step = order_after; time = order_moved }

@@ -1,0 +1,32 @@
+-- The laws of a resolver's steps.
+use Rattle.std.specs.Prelude.{ℕ, ◌≡◌, ◌≤◌, ◌<◌, ◌+◌, ◌⊎◌, List, None, Some}
+use Rattle.std.specs.FinMap.{get}
+use Rattle.ddt_path.specs.declared.locator.Locator.{Locator}
+use Rattle.ddt_path.specs.declared.record.ReferralRecord.{ReferralRecord}
+use Rattle.ddt_path.specs.Path.{xeid_path}
+use Rattle.ddt_cache.specs.Moment.{last_moment}
+use Rattle.ddt_resolver.specs.declared.pending.Pending.{Pending}
+use Rattle.ddt_resolver.specs.declared.answers.Heard.{Heard}
+use Rattle.ddt_resolver.specs.State.{State, moved, server}
+use Rattle.ddt_resolver.specs.Records.{IsAbout, NamesServer}
+use Rattle.ddt_resolver.specs.TakeUp.{Tells}
+use Rattle.ddt_resolver.specs.Act.{Act, HearStep}
+use Rattle.ddt_resolver.specs.Step.{Call, Reply, Step}
+use Rattle.ddt_resolver.specs.Order.{IsInOrder}
+
+-- each step, and each move of the time to a moment, keeps what holds at all times
+abbrev pub OrderIsKept : Type 0
+OrderIsKept = (s : State) (call : Call) (new : State) (reply : Reply) → IsInOrder s → Step s call new reply → IsInOrder new
+
+abbrev pub TimeKeepsOrder : Type 0
+TimeKeepsOrder = (s : State) (now : ℕ) → now ≤ last_moment → IsInOrder s → IsInOrder (moved now s)
+
+-- A usable reply to a pending lookup's last request, from the server that was asked, is late, or that lookup takes it.
+abbrev pub UsableIsTaken : Type 0
+UsableIsTaken = (s new : State) (source : Locator) (bytes : List ℕ) (heard : Heard) (t : ℕ) (l : Pending) (rec : ReferralRecord) → IsInOrder s
+    → get s.pending t ≡ Some l → Tells bytes l.nonce rec → IsAbout rec (xeid_path l.x) → NamesServer rec → source ≡ server s.me l
+    → HearStep s source bytes new heard → (l.deadline ≤ s.known.time) ⊎ Act s t l rec new heard
+
+-- The next ticket is new: no pending lookup has it, and every one that is pending is below it.
+abbrev pub TicketsAreNew : Type 0
+TicketsAreNew = (s : State) → IsInOrder s → (get s.pending s.next ≡ None) × ((t : ℕ) (l : Pending) → get s.pending t ≡ Some l → t < s.next)

@@ -1,0 +1,19 @@
+//! What follows of a resolver's steps, each law the contract of a function that does nothing.
+
+ghost use Rattle.ddt_resolver.specs.Laws.{OrderIsKept, TimeKeepsOrder, UsableIsTaken, TicketsAreNew};
+
+/// Each step keeps what holds of a resolver at all times, and so does the time that goes on.
+pub fn order_is_kept()
+    ensures step { OrderIsKept }
+    ensures time { TimeKeepsOrder }
+{}
+
+/// A usable reply to a pending lookup's last request, from the server that was asked, is late or taken.
+pub fn usable_is_taken()
+    ensures { UsableIsTaken }
+{}
+
+/// The next ticket is above each ticket that is pending.
+pub fn tickets_are_new()
+    ensures { TicketsAreNew }
+{}

@@ -5,7 +5,7 @@ use Rattle.std.proofs.lemmas.Option.{same_Some}
 use Rattle.ddt_path.specs.declared.locator.Locator.{Locator}
 use Rattle.ddt_path.specs.declared.record.ReferralRecord.{ReferralRecord}
 use Rattle.ddt_path.specs.Path.{xeid_path}
-use Rattle.ddt_wire.specs.Referral.{Message, record_of}
+use Rattle.ddt_wire.specs.Referral.{Message, message_record}
 use Rattle.ddt_wire.proofs.WrittenLaws.{one_message}
 use Rattle.ddt_resolver.specs.declared.pending.Pending.{Pending}
 use Rattle.ddt_resolver.specs.declared.answers.Heard.{Heard}
@@ -20,7 +20,7 @@ use Rattle.ddt_resolver.proofs.StateLemmas.{next_absent}
 pub told_once : (bytes : List ℕ) (n m : ℕ) (rec told : ReferralRecord) → Tells bytes n rec → Tells bytes m told → (n ≡ m) × (rec ≡ told)
 told_once bytes n m rec told a b =
     let e : a.message ≡ b.message = one_message bytes a.message b.message a.spells b.spells in
-    (sym a.same_nonce ∙ ap (λ (v : Message). v.nonce) e ∙ b.same_nonce, sym a.same_record ∙ ap record_of e ∙ b.same_record)
+    (sym a.same_nonce ∙ ap (λ (v : Message). v.nonce) e ∙ b.same_nonce, sym a.same_record ∙ ap message_record e ∙ b.same_record)
 
 module _ (s : State) (o : IsInOrder s) (source : Locator) (bytes : List ℕ) (t : ℕ) (l : Pending) (rec : ReferralRecord)
     (here : get s.pending t ≡ Some l) (tells : Tells bytes l.nonce rec) where

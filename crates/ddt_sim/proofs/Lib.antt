@@ -3,3 +3,4 @@ pub mod SoundLemmas
 pub mod WaitingLemmas
 pub mod ReplyLemmas
 pub mod TurnLemmas
+pub mod ExchangeLemmas

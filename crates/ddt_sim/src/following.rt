@@ -1,23 +1,20 @@
 //! The requests of a lookup, each with what comes back.
 
-ghost use Rattle.std.specs.Prelude.{◌≡◌, ◌++◌, ℕ, IfOk, IfErr, MatchOption};
-ghost use Rattle.std.specs.List.{All};
+ghost use Rattle.std.specs.Prelude.{◌≡◌, ◌<◌, IfOk, IfErr, MatchOption};
 ghost use Rattle.ddt_path.specs.declared.xeid.Xeid.{Xeid as AnXeid};
 ghost use Rattle.ddt_register.specs.declared.register.Register.{Register};
 ghost use Rattle.ddt_sim.specs.Sound.{IsSound};
 ghost use Rattle.ddt_sim.specs.Lookup.{IsTurn, TurnFails, IsNotFor, heard_of};
-ghost use Rattle.ddt_sim.specs.Headline.{IsUnderWay, IsHonestHop, IsRightTurn, IsRightFailure};
+ghost use Rattle.ddt_sim.specs.Waiting.{Waits, requests_left, left_after};
+ghost use Rattle.ddt_sim.specs.Headline.{IsUnderWay, IsRightTurn, IsRightFailure};
 
 use crate::hop::{Hop, LookupError};
-use crate::laws::a_step_keeps_a_resolver_sound;
+use crate::laws::requests_are_understood;
 use crate::servers::Servers;
 use ddt_cache::{Entry, Moment};
-use ddt_check::honest_servers_lead_to_the_assignment;
-use ddt_ecm::request_laws;
 use ddt_path::Outcome;
 use ddt_resolver::{Heard, Outgoing, Resolver, Ticket, Why};
 use ddt_trie::PrefixMap;
-use ddt_wire::referral_laws;
 use std::alloc::Global;
 
 /// What a reply makes of a lookup.
@@ -46,12 +43,13 @@ pub(crate) fn exchange<S: Servers, M: PrefixMap<Entry>>(
     ensures right { (r : Register) (x : AnXeid) → S.honest servers.old r → IsUnderWay r now x resolver.old ticket request → IfOk result (IsRightTurn r x) }
     ensures failure { (r : Register) (x : AnXeid) → S.honest servers.old r → IsUnderWay r now x resolver.old ticket request → IfErr result (IsRightFailure resolver.new) }
     ensures stay { (r : Register) → S.honest servers.old r → S.honest servers.new r }
+    // Where the lookup waited, each request that follows leaves fewer that can follow.
+    ensures nearer { (x : AnXeid) → Waits now x resolver.old ticket request → IfOk result (λ turn. left_after resolver.new ticket turn < requests_left resolver.old ticket) }
 {
-    a_step_keeps_a_resolver_sound();
-    honest_servers_lead_to_the_assignment();
-    request_laws();
-    referral_laws();
+    requests_are_understood();
     resolver.in_order();
+    // The number tells the proof that it is a moment.
+    let _millis = now.millis();
     let reply = match servers.answer(alloc, request.to, request.bytes.as_slice()) {
         Ok(Some(reply)) => reply,
         Ok(None) => return Err(LookupError::GaveUp(Why::NoReply)),

@@ -1,60 +1,25 @@
-use Rattle.std.proofs.Common.{rules, ◌≡◌, ◌++◌, ℕ, IfOk, IfErr, MatchOption, ◌+◌, ◌-◌, ◌*◌, ◌<◌, ◌≤◌, length, ◌/◌, ◌%◌, Bool, true, false, nat_eq, nat_lt, List, [], ◌∷◌, slice_index_or, slice_set, bit_and, bit_or, Fits, w8, w32, w64, Bor, MutBor}
-use Rattle.std.specs.List.{All}
-use Rattle.ddt_path.specs.declared.xeid.Xeid.{Xeid as AnXeid}
-use Rattle.ddt_register.specs.declared.register.Register.{Register}
+use Rattle.std.proofs.Common.{◌≡◌, ℕ, ◌<◌, ◌≤◌, List, refl, sym, ap, subst, ◌∙◌}
+use Rattle.ddt_node.specs.Server.{IsDdtRequest}
 use Rattle.ddt_sim.specs.Sound.{IsSound}
-use Rattle.ddt_sim.specs.Lookup.{IsTurn, TurnFails, IsNotFor, heard_of}
-use Rattle.ddt_sim.specs.Headline.{IsUnderWay, IsHonestHop, IsRightTurn, IsRightFailure}
+use Rattle.ddt_sim.specs.Lookup.{gave_up, unanswered, not_taken, stopped, unfinished}
+use Rattle.ddt_sim.proofs.ExchangeLemmas.{turn_of, right_turn, turn_is_nearer}
 use Rattle.ddt_sim.proofs.following.exchange.Goals as goal
 
--- src/following.rt:57:21
 pub returns-in-Ok-None-clause-failure : goal.returns-in-Ok-None-clause-failure
-returns-in-Ok-None-clause-failure g c = ?
+returns-in-Ok-None-clause-failure g c = λ r x honest under. ?
 
--- src/following.rt:62:26
 pub returns-in-Err-datagram-clause-sound : goal.returns-in-Err-datagram-clause-sound
-returns-in-Err-datagram-clause-sound g c = ?
+returns-in-Err-datagram-clause-sound g c = λ r x honest under. ?
 
--- src/following.rt:66:27
 pub returns-in-Some-Err-clause-failed : goal.returns-in-Some-Err-clause-failed
-returns-in-Some-Err-clause-failed g c = ?
+returns-in-Some-Err-clause-failed g c =
+    gave_up c.as_slice-2.result.now c.in-Some-Err.why (subst (λ h. HearStep _ _ _ _ h) c.in-Some-Err.ensures c.in-Ok.ensures.step) refl
 
--- src/following.rt:66:27
 pub returns-in-Some-Err-clause-sound : goal.returns-in-Some-Err-clause-sound
-returns-in-Some-Err-clause-sound g c = ?
-
--- src/following.rt:66:27
-pub returns-in-Some-Err-clause-failure : goal.returns-in-Some-Err-clause-failure
-returns-in-Some-Err-clause-failure g c = ?
-
--- src/following.rt:67:17
-pub returns-in-None-clause-failed : goal.returns-in-None-clause-failed
-returns-in-None-clause-failed g c = ?
-
--- src/following.rt:67:17
-pub returns-in-None-clause-sound : goal.returns-in-None-clause-sound
-returns-in-None-clause-sound g c = ?
-
--- src/following.rt:67:17
-pub returns-in-None-clause-failure : goal.returns-in-None-clause-failure
-returns-in-None-clause-failure g c = ?
-
--- src/following.rt:34:1
-pub returns-in-Ok-push-clause-turn : goal.returns-in-Ok-push-clause-turn
-returns-in-Ok-push-clause-turn g c = ?
-
--- src/following.rt:34:1
-pub returns-in-Ok-push-clause-sound : goal.returns-in-Ok-push-clause-sound
-returns-in-Ok-push-clause-sound g c = ?
-
--- src/following.rt:34:1
-pub returns-in-Ok-push-clause-right : goal.returns-in-Ok-push-clause-right
-returns-in-Ok-push-clause-right g c = ?
-
--- src/following.rt:34:1
-pub returns-in-Err-push-clause-failed : goal.returns-in-Err-push-clause-failed
-returns-in-Err-push-clause-failed g c = ?
-
--- src/following.rt:34:1
-pub returns-in-Err-push-clause-sound : goal.returns-in-Err-push-clause-sound
-returns-in-Err-push-clause-sound g c = ?
+returns-in-Some-Err-clause-sound g c = λ r x honest under.
+    let a = c.requests_are_understood.ensures r c.args.now x c.args.resolver.now c.args.ticket c.args.request c.millis.ensures.bound c.in_order.ensures under in
+    let b = c.in-Ok-Some.ensures.says r a.request honest a.server in
+    let d = c.as_slice.ensures in
+    let e = c.as_slice-2.ensures in
+    let f = c.in-Ok-Some.reply-is in
+    ?

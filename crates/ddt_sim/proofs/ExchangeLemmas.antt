@@ -11,6 +11,8 @@ use Rattle.ddt_check.specs.Rules.{IsAccepted}
 use Rattle.ddt_check.specs.Laws.{AnswersCover, AnswersHaveServers, AnswersCanBeSent}
 use Rattle.ddt_wire.specs.Laws.{OneMessage, RecordsComeBack}
 use Rattle.ddt_ecm.specs.Request.{Message, Spells}
+use Rattle.ddt_node.specs.Server.{IsDdtRequest}
+use Rattle.ddt_sim.specs.Honest.{IsHonestReply}
 use Rattle.ddt_ecm.specs.Laws.{IsRequest, WrittenSpells, message_of}
 use Rattle.ddt_resolver.specs.declared.answers.Outgoing.{Outgoing}
 use Rattle.ddt_resolver.specs.declared.answers.Heard.{Heard}
@@ -109,3 +111,20 @@ turn_is_nearer now x s t d o w bytes h new (Ends v) step near is =
     let before : requests_left s t ≡ measure w.lookup = ap (λ p. option_map_or measure p 0) w.is_pending in
     let place = (o.lookups t w.lookup w.is_pending).lookup.place in
     subst (λ n. 0 < n) (sym before) (omega (arith, place))
+
+-- ---- the reply of an honest server
+
+module _ (r : Register) (now : ℕ) (x : Xeid) (s : State) (t : ℕ) (d : Outgoing) (a : IsUnderstood r now x s t d)
+    (sent : List ℕ) (same : sent ≡ d.bytes) (came : Option (List ℕ)) (says : IsDdtRequest sent a.request → IsHonestReply r d.to a.request came) where
+  honest : IsHonestReply r d.to a.request came
+  honest = says (subst (λ (v : List ℕ). IsDdtRequest v a.request) (sym same) a.spelled)
+
+  -- it is there
+  pub reply_comes : came ≡ None → ⊥
+  reply_comes none = subst (IsHonestReply r d.to a.request) none honest
+
+  -- and well heard
+  pub heard_well : (reply bytes : List ℕ) → came ≡ Some reply → bytes ≡ reply → (new : State) (h : Heard) → HearStep (moved now s) d.to bytes new h
+      → IsWellHeard r x s t d reply new h
+  heard_well reply bytes some is new h step =
+      a.heard reply (subst (IsHonestReply r d.to a.request) some honest) new h (subst (λ (v : List ℕ). HearStep (moved now s) d.to v new h) is step)

@@ -4,3 +4,4 @@ pub mod WaitingLemmas
 pub mod ReplyLemmas
 pub mod TurnLemmas
 pub mod ExchangeLemmas
+pub mod FollowLemmas

@@ -22,6 +22,11 @@ pub record Waits (now : ℕ) (x : Xeid) (s : State) (t : ℕ) (d : Outgoing) : T
   pub deadline : lookup.deadline ≡ s.known.time + patience
   pub time : now ≤ s.known.time
 
+-- a lookup of some identifier waits for it
+pub record IsAwaited (now : ℕ) (s : State) (t : ℕ) (d : Outgoing) : Type 0 where
+  pub identifier : Xeid
+  pub waits : Waits now identifier s t d
+
 -- how many requests the lookup of a ticket can send yet, this one among them
 abbrev pub requests_left : State → ℕ → ℕ
 requests_left s t = option_map_or measure (get s.pending t) 0

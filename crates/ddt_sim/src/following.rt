@@ -1,12 +1,13 @@
 //! The requests of a lookup, each with what comes back.
 
-ghost use Rattle.std.specs.Prelude.{◌≡◌, ◌<◌, IfOk, IfErr, MatchOption};
+ghost use Rattle.std.specs.Prelude.{◌≡◌, ◌<◌, IfOk, OnOk, IfErr, MatchOption};
+ghost use Rattle.std.specs.List.{All};
 ghost use Rattle.ddt_path.specs.declared.xeid.Xeid.{Xeid as AnXeid};
 ghost use Rattle.ddt_register.specs.declared.register.Register.{Register};
 ghost use Rattle.ddt_sim.specs.Sound.{IsSound};
 ghost use Rattle.ddt_sim.specs.Lookup.{IsTurn, TurnFails, IsNotFor, heard_of};
 ghost use Rattle.ddt_sim.specs.Waiting.{Waits, requests_left, left_after};
-ghost use Rattle.ddt_sim.specs.Headline.{IsUnderWay, IsRightTurn, IsRightFailure};
+ghost use Rattle.ddt_sim.specs.Headline.{IsUnderWay, IsHonestHop, IsRightTurn, IsRightFailure};
 
 use crate::hop::{Hop, LookupError};
 use crate::laws::requests_are_understood;
@@ -43,6 +44,8 @@ pub(crate) fn exchange<S: Servers, M: PrefixMap<Entry>>(
     ensures right { (r : Register) (x : AnXeid) → S.honest servers.old r → IsUnderWay r now x resolver.old ticket request → IfOk result (IsRightTurn r x) }
     ensures failure { (r : Register) (x : AnXeid) → S.honest servers.old r → IsUnderWay r now x resolver.old ticket request → IfErr result (IsRightFailure resolver.new) }
     ensures stay { (r : Register) → S.honest servers.old r → S.honest servers.new r }
+    // Over honest servers its hop is honest.
+    ensures hop { (r : Register) (x : AnXeid) → S.honest servers.old r → IsUnderWay r now x resolver.old ticket request → All (IsHonestHop r x resolver.old.me) hops.old.items → OnOk result (All (IsHonestHop r x resolver.old.me) hops.new.items) }
     // Where the lookup waited, each request that follows leaves fewer that can follow.
     ensures nearer { (x : AnXeid) → Waits now x resolver.old ticket request → IfOk result (λ turn. left_after resolver.new ticket turn < requests_left resolver.old ticket) }
 {

@@ -1,6 +1,8 @@
 //! A lookup, from an ask to its outcome, over servers that answer at once.
 
-ghost use Rattle.std.specs.Prelude.{◌≡◌, ◌≤◌, ℕ, List, length, Some, IsOk, IfOk, IfErr};
+ghost use Rattle.std.specs.Prelude.{◌≡◌, ◌≤◌, ℕ, List, [], length, Some, IsOk, IfOk, IfErr};
+ghost use Rattle.std.specs.List.{All};
+ghost use Rattle.ddt_path.specs.declared.xeid.Xeid.{Xeid as AnXeid};
 ghost use Rattle.ddt_path.specs.declared.record.Outcome.{Outcome as AnOutcome};
 ghost use Rattle.ddt_path.specs.Path.{xeid_path};
 ghost use Rattle.ddt_register.specs.declared.register.Register.{Register};
@@ -8,11 +10,12 @@ ghost use Rattle.ddt_check.specs.Rules.{IsAccepted};
 ghost use Rattle.ddt_check.specs.Assignment.{assignment};
 ghost use Rattle.ddt_cache.specs.declared.entry.Entry.{Entry as AnEntry};
 ghost use Rattle.ddt_cache.specs.Found.{IsFound};
-ghost use Rattle.ddt_resolver.specs.State.{moved};
+ghost use Rattle.ddt_resolver.specs.State.{State, moved};
 ghost use Rattle.ddt_resolver.specs.AskStep.{answer_of};
 ghost use Rattle.ddt_sim.specs.Sound.{IsSound};
-ghost use Rattle.ddt_sim.specs.Lookup.{HasOutcome, Fails};
-ghost use Rattle.ddt_sim.specs.Headline.{IsRightError, most_hops};
+ghost use Rattle.ddt_sim.specs.Waiting.{IsAwaited, requests_left};
+ghost use Rattle.ddt_sim.specs.Lookup.{Reaches, FailsUnder, HasOutcome, Fails};
+ghost use Rattle.ddt_sim.specs.Headline.{IsUnderWay, IsHonestHop, IsRightFailure, IsRightError, most_hops};
 
 use crate::following::{Turn, exchange};
 use crate::hop::{Hop, Lookup, LookupError};
@@ -92,18 +95,29 @@ fn follow<S: Servers, M: PrefixMap<Entry>>(
     now: Moment,
     ticket: Ticket,
     request: Outgoing,
-) -> Result<Lookup, LookupError> {
+) -> Result<Lookup, LookupError>
+    requires { IsAwaited now resolver.old ticket request }
+    ensures steps { (x : AnXeid) (start : State) → Reaches now x start [] ticket request resolver.old → IfOk result (λ l. HasOutcome now x start l.outcome l.hops resolver.new) }
+    ensures failed { (x : AnXeid) (start : State) → Reaches now x start [] ticket request resolver.old → IfErr result (λ error. FailsUnder now x start ticket error resolver.new) }
+    ensures sound { (r : Register) (x : AnXeid) → S.honest servers.old r → IsUnderWay r now x resolver.old ticket request → IsSound r resolver.new }
+    ensures right { (r : Register) (x : AnXeid) → S.honest servers.old r → IsUnderWay r now x resolver.old ticket request → IfOk result (λ l. l.outcome ≡ assignment r (xeid_path x)) }
+    ensures failure { (r : Register) (x : AnXeid) → S.honest servers.old r → IsUnderWay r now x resolver.old ticket request → IfErr result (IsRightFailure resolver.new) }
+    ensures stay { (r : Register) → S.honest servers.old r → S.honest servers.new r }
+    ensures fair { (r : Register) (x : AnXeid) → S.honest servers.old r → IsUnderWay r now x resolver.old ticket request → IfOk result (λ l. All (IsHonestHop r x resolver.old.me) l.hops) }
+    ensures bound { IfOk result (λ l. length l.hops ≤ requests_left resolver.old ticket) }
+{
     let mut hops: Vec<Hop> = Vec::new(alloc);
     let mut request = request;
     loop {
-        match exchange(alloc, servers, resolver, now, ticket, request, &mut hops)? {
-            Turn::GoesOn(next) => request = next,
-            Turn::Ends(outcome) => {
+        match exchange(alloc, servers, resolver, now, ticket, request, &mut hops) {
+            Ok(Turn::GoesOn(next)) => request = next,
+            Ok(Turn::Ends(outcome)) => {
                 return Ok(Lookup {
                     outcome,
                     hops: Listed::of(hops),
                 });
             }
+            Err(error) => return Err(error),
         }
     }
 }

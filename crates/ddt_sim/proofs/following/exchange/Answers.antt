@@ -2,8 +2,10 @@ use Rattle.std.proofs.Common.{◌≡◌, ℕ, ◌<◌, ◌≤◌, List, refl, sy
 use Rattle.ddt_resolver.specs.State.{State, moved}
 use Rattle.ddt_resolver.specs.Act.{HearStep}
 use Rattle.ddt_sim.specs.Sound.{IsSound}
-use Rattle.ddt_sim.specs.Lookup.{IsNotFor, heard_of, gave_up, not_taken, unfinished}
+use Rattle.ddt_sim.specs.Lookup.{heard_of, hop_of, gave_up, not_taken, unfinished}
 use Rattle.ddt_sim.proofs.SoundLemmas.{sound_moved}
+use Rattle.ddt_sim.specs.Headline.{IsHonestHop}
+use Rattle.ddt_sim.proofs.FollowLemmas.{one_more}
 use Rattle.ddt_sim.proofs.ExchangeLemmas.{turn_of, right_turn, turn_is_nearer, reply_comes, heard_well}
 use Rattle.ddt_sim.proofs.following.exchange.Goals as goal
 
@@ -96,3 +98,11 @@ returns-in-Err-push-clause-sound g c = λ r x honest under.
         c.as_slice.result.now c.as_slice.ensures c.in-Ok-Some.field-0 (c.in-Ok-Some.ensures.says r a.request honest a.server)
         c.in-Ok-Some.reply c.as_slice-2.result.now c.in-Ok-Some.field-0-is c.as_slice-2.ensures c.datagram.new.self c.in-Ok.heard c.in-Ok.ensures.step in
     well.sound
+
+pub returns-in-Ok-push-clause-hop : goal.returns-in-Ok-push-clause-hop
+returns-in-Ok-push-clause-hop g c = λ r x honest under all.
+    let a = c.requests_are_understood.ensures r c.args.now x c.args.resolver.now c.args.ticket c.args.request c.millis-millis.ensures.bound c.in_order.ensures under in
+    let well = heard_well r c.args.now x c.args.resolver.now c.args.ticket c.args.request a
+        c.as_slice.result.now c.as_slice.ensures c.in-Ok-Some.field-0 (c.in-Ok-Some.ensures.says r a.request honest a.server)
+        c.in-Ok-Some.reply c.as_slice-2.result.now c.in-Ok-Some.field-0-is c.as_slice-2.ensures c.datagram.new.self c.in-Ok.heard c.in-Ok.ensures.step in
+    one_more (IsHonestHop r x c.args.resolver.now.me) c.args.hops.now.items c.push.new.self.items (hop_of c.args.request c.in-Ok-Some.reply) c.in-Ok-push.ensures.items all well.hop

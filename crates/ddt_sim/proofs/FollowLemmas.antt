@@ -95,11 +95,11 @@ module _ (before honest : Register → Type 0) (now : ℕ) (s0 : State) (t : ℕ
       awaited = record { identifier = w.awaited.identifier; waits = waits_again w.awaited.identifier w.awaited.waits };
       reaches = λ x start reached. subst (λ v. Reaches now x start v t e new) (sym is_turn.hop) (followed is_turn.reply e new (w.reaches x start reached) step);
       under = λ r x honest u0. let u = w.under r x honest u0 in record {
-          accepted = u.accepted;
-          sound = sound r x (w.stay r honest) u;
-          waits = waits_again x u.waits;
-          fits = subst (CanBeAsked x) (sym own) u.fits;
-        };
+        accepted = u.accepted;
+        sound = sound r x (w.stay r honest) u;
+        waits = waits_again x u.waits;
+        fits = subst (CanBeAsked x) (sym own) u.fits;
+      };
       fair = hops_are_fair;
       stay = λ r is. stay r (w.stay r is);
       me = own ∙ w.me;

@@ -5,3 +5,4 @@ pub mod ReplyLemmas
 pub mod TurnLemmas
 pub mod ExchangeLemmas
 pub mod FollowLemmas
+pub mod AskLemmas

@@ -1,6 +1,6 @@
 //! A lookup, from an ask to its outcome, over servers that answer at once.
 
-ghost use Rattle.std.specs.Prelude.{◌≡◌, ◌≤◌, ℕ, List, [], length, Some, IsOk, IfOk, IfErr};
+ghost use Rattle.std.specs.Prelude.{◌≡◌, ◌≤◌, ℕ, List, [], length, Some, Ok, IsOk, IfOk, IfErr};
 ghost use Rattle.std.specs.List.{All};
 ghost use Rattle.ddt_path.specs.declared.xeid.Xeid.{Xeid as AnXeid};
 ghost use Rattle.ddt_path.specs.declared.record.Outcome.{Outcome as AnOutcome};
@@ -11,17 +11,21 @@ ghost use Rattle.ddt_check.specs.Assignment.{assignment};
 ghost use Rattle.ddt_cache.specs.declared.entry.Entry.{Entry as AnEntry};
 ghost use Rattle.ddt_cache.specs.Found.{IsFound};
 ghost use Rattle.ddt_resolver.specs.State.{State, moved};
-ghost use Rattle.ddt_resolver.specs.AskStep.{answer_of};
+ghost use Rattle.ddt_resolver.specs.AskStep.{AskStep, answer_of};
+ghost use Rattle.ddt_resolver.specs.declared.answers.Asked.TheVariants.{Answer};
+ghost use Rattle.ddt_resolver.specs.Bound.{StartsWithin};
+ghost use Rattle.ddt_wire.specs.Address.{IsAddress};
 ghost use Rattle.ddt_sim.specs.Sound.{IsSound};
-ghost use Rattle.ddt_sim.specs.Waiting.{IsAwaited, requests_left};
+ghost use Rattle.ddt_sim.specs.Waiting.{IsAwaited, CanBeAsked, requests_left};
 ghost use Rattle.ddt_sim.specs.Lookup.{Reaches, FailsUnder, HasOutcome, Fails};
-ghost use Rattle.ddt_sim.specs.Headline.{IsUnderWay, IsHonestHop, IsRightFailure, IsRightError, most_hops};
+ghost use Rattle.ddt_sim.specs.Headline.{IsUnderWay, IsAsked, IsRightlyAsked, IsHonestHop, IsRightFailure, IsRightError, most_hops};
 
 use crate::following::{Turn, exchange};
 use crate::hop::{Hop, Lookup, LookupError};
+use crate::laws::a_step_keeps_a_resolver_sound;
 use crate::servers::Servers;
 use ddt_cache::{Entry, Moment};
-use ddt_path::{Listed, Xeid};
+use ddt_path::{Listed, Locator, Xeid};
 use ddt_resolver::{AskError, Asked, Outgoing, Resolver, Ticket, Why};
 use ddt_trie::PrefixMap;
 use std::alloc::Global;
@@ -45,6 +49,8 @@ pub fn lookup<S: Servers, M: PrefixMap<Entry>>(
     // The resolver is sound afterwards, and the servers honest.
     ensures sound { (r : Register) → IsAccepted r → S.honest servers.old r → IsSound r resolver.old → IsSound r resolver.new }
     ensures stay { (r : Register) → S.honest servers.old r → S.honest servers.new r }
+    // Each of its requests is a DDT Map-Request for the identifier, and each reply what the register says where it was sent.
+    ensures hops { (r : Register) → IsAccepted r → S.honest servers.old r → IsSound r resolver.old → IfOk result (λ l. All (IsHonestHop r x resolver.old.me) l.hops) }
     // It fails only for want of memory, of nonces, or of room among the pending lookups.
     ensures errors { (r : Register) → IsAccepted r → S.honest servers.old r → IsSound r resolver.old → IfErr result (IsRightError resolver.old resolver.new) }
     // A remembered answer is never refused.
@@ -54,11 +60,37 @@ pub fn lookup<S: Servers, M: PrefixMap<Entry>>(
     ensures failed { IfErr result (λ error. Fails now x resolver.old error resolver.new) }
     ensures bound { IfOk result (λ l. length l.hops ≤ most_hops x) }
 {
+    a_step_keeps_a_resolver_sound();
+    resolver.in_order();
+    // The number tells the proof that it is a moment.
+    let _millis = now.millis();
     match resolver.ask(now, x) {
-        Ok(asked) => after_ask(alloc, servers, resolver, now, asked),
+        Ok(asked) => {
+            can_be_asked(x, resolver.me());
+            after_ask(alloc, servers, resolver, now, asked)
+        }
         Err(AskError::TooMany) => Err(LookupError::TooMany),
         Err(AskError::Exhausted) => Err(LookupError::GaveUp(Why::Exhausted)),
         Err(AskError::Memory) => Err(LookupError::Memory),
+    }
+}
+
+/// What holds of each identifier and each address: their numbers fit. The call does nothing.
+fn can_be_asked(x: Xeid, me: Locator)
+    ensures { CanBeAsked x me }
+{
+    let _iid = x.iid;
+    is_address(x.address);
+    is_address(me);
+}
+
+/// What holds of each address: its number fits its family. The call does nothing.
+fn is_address(address: Locator)
+    ensures { IsAddress address }
+{
+    match address {
+        Locator::V4(_number) => {}
+        Locator::V6(_number) => {}
     }
 }
 
@@ -69,7 +101,18 @@ fn after_ask<S: Servers, M: PrefixMap<Entry>>(
     resolver: &mut Resolver<M>,
     now: Moment,
     asked: Asked,
-) -> Result<Lookup, LookupError> {
+) -> Result<Lookup, LookupError>
+    requires { IsAsked now resolver.old asked }
+    ensures steps { (x : AnXeid) (start : State) → AskStep (moved now start) x resolver.old (Ok asked) → IfOk result (λ l. HasOutcome now x start l.outcome l.hops resolver.new) }
+    ensures failed { (x : AnXeid) (start : State) → AskStep (moved now start) x resolver.old (Ok asked) → IfErr result (λ error. Fails now x start error resolver.new) }
+    ensures sound { (r : Register) (x : AnXeid) → S.honest servers.old r → IsRightlyAsked r now x resolver.old asked → IsSound r resolver.new }
+    ensures right { (r : Register) (x : AnXeid) → S.honest servers.old r → IsRightlyAsked r now x resolver.old asked → IfOk result (λ l. l.outcome ≡ assignment r (xeid_path x)) }
+    ensures failure { (r : Register) (x : AnXeid) → S.honest servers.old r → IsRightlyAsked r now x resolver.old asked → IfErr result (IsRightFailure resolver.new) }
+    ensures fair { (r : Register) (x : AnXeid) → S.honest servers.old r → IsRightlyAsked r now x resolver.old asked → IfOk result (λ l. All (IsHonestHop r x resolver.old.me) l.hops) }
+    ensures stay { (r : Register) → S.honest servers.old r → S.honest servers.new r }
+    ensures answered { (o : AnOutcome) → asked ≡ Answer o → IsOk result }
+    ensures bound { (x : AnXeid) → StartsWithin resolver.old x asked → IfOk result (λ l. length l.hops ≤ most_hops x) }
+{
     match asked {
         Asked::Answer(outcome) => Ok(Lookup {
             outcome,

@@ -13,7 +13,7 @@ pub returns-in-Ok-None-clause-failure : goal.returns-in-Ok-None-clause-failure
 returns-in-Ok-None-clause-failure g c = λ r x honest under.
     let a = c.requests_are_understood.ensures r c.args.now x c.args.resolver.now c.args.ticket c.args.request c.millis-millis.ensures.bound c.in_order.ensures under in
     absurd (reply_comes r c.args.now x c.args.resolver.now c.args.ticket c.args.request a
-        c.as_slice.result.now c.as_slice.ensures c.in-Ok-None.field-0 (c.in-Ok-None.ensures.says r a.request honest a.server) c.in-Ok-None.field-0-is)
+    c.as_slice.result.now c.as_slice.ensures c.in-Ok-None.field-0 (c.in-Ok-None.ensures.says r a.request honest a.server) c.in-Ok-None.field-0-is)
 
 pub returns-in-Err-datagram-clause-sound : goal.returns-in-Err-datagram-clause-sound
 returns-in-Err-datagram-clause-sound g c = λ r x honest under.
@@ -29,16 +29,16 @@ pub returns-in-Some-Err-clause-sound : goal.returns-in-Some-Err-clause-sound
 returns-in-Some-Err-clause-sound g c = λ r x honest under.
     let a = c.requests_are_understood.ensures r c.args.now x c.args.resolver.now c.args.ticket c.args.request c.millis-millis.ensures.bound c.in_order.ensures under in
     let well = heard_well r c.args.now x c.args.resolver.now c.args.ticket c.args.request a
-        c.as_slice.result.now c.as_slice.ensures c.in-Ok-Some.field-0 (c.in-Ok-Some.ensures.says r a.request honest a.server)
-        c.in-Ok-Some.reply c.as_slice-2.result.now c.in-Ok-Some.field-0-is c.as_slice-2.ensures c.datagram.new.self c.in-Ok.heard c.in-Ok.ensures.step in
+    c.as_slice.result.now c.as_slice.ensures c.in-Ok-Some.field-0 (c.in-Ok-Some.ensures.says r a.request honest a.server)
+    c.in-Ok-Some.reply c.as_slice-2.result.now c.in-Ok-Some.field-0-is c.as_slice-2.ensures c.datagram.new.self c.in-Ok.heard c.in-Ok.ensures.step in
     well.sound
 
 pub returns-in-Some-Err-clause-failure : goal.returns-in-Some-Err-clause-failure
 returns-in-Some-Err-clause-failure g c = λ r x honest under.
     let a = c.requests_are_understood.ensures r c.args.now x c.args.resolver.now c.args.ticket c.args.request c.millis-millis.ensures.bound c.in_order.ensures under in
     let well = heard_well r c.args.now x c.args.resolver.now c.args.ticket c.args.request a
-        c.as_slice.result.now c.as_slice.ensures c.in-Ok-Some.field-0 (c.in-Ok-Some.ensures.says r a.request honest a.server)
-        c.in-Ok-Some.reply c.as_slice-2.result.now c.in-Ok-Some.field-0-is c.as_slice-2.ensures c.datagram.new.self c.in-Ok.heard c.in-Ok.ensures.step in
+    c.as_slice.result.now c.as_slice.ensures c.in-Ok-Some.field-0 (c.in-Ok-Some.ensures.says r a.request honest a.server)
+    c.in-Ok-Some.reply c.as_slice-2.result.now c.in-Ok-Some.field-0-is c.as_slice-2.ensures c.datagram.new.self c.in-Ok.heard c.in-Ok.ensures.step in
     well.why c.in-Some-Err.why (c.in-Some-Err.ensures ∙ ap (heard_of c.args.ticket) c.in-Some-Err.field-0-is)
 
 pub returns-in-None-clause-failed : goal.returns-in-None-clause-failed
@@ -48,16 +48,16 @@ pub returns-in-None-clause-sound : goal.returns-in-None-clause-sound
 returns-in-None-clause-sound g c = λ r x honest under.
     let a = c.requests_are_understood.ensures r c.args.now x c.args.resolver.now c.args.ticket c.args.request c.millis-millis.ensures.bound c.in_order.ensures under in
     let well = heard_well r c.args.now x c.args.resolver.now c.args.ticket c.args.request a
-        c.as_slice.result.now c.as_slice.ensures c.in-Ok-Some.field-0 (c.in-Ok-Some.ensures.says r a.request honest a.server)
-        c.in-Ok-Some.reply c.as_slice-2.result.now c.in-Ok-Some.field-0-is c.as_slice-2.ensures c.datagram.new.self c.in-Ok.heard c.in-Ok.ensures.step in
+    c.as_slice.result.now c.as_slice.ensures c.in-Ok-Some.field-0 (c.in-Ok-Some.ensures.says r a.request honest a.server)
+    c.in-Ok-Some.reply c.as_slice-2.result.now c.in-Ok-Some.field-0-is c.as_slice-2.ensures c.datagram.new.self c.in-Ok.heard c.in-Ok.ensures.step in
     well.sound
 
 pub returns-in-None-clause-failure : goal.returns-in-None-clause-failure
 returns-in-None-clause-failure g c = λ r x honest under.
     let a = c.requests_are_understood.ensures r c.args.now x c.args.resolver.now c.args.ticket c.args.request c.millis-millis.ensures.bound c.in_order.ensures under in
     let well = heard_well r c.args.now x c.args.resolver.now c.args.ticket c.args.request a
-        c.as_slice.result.now c.as_slice.ensures c.in-Ok-Some.field-0 (c.in-Ok-Some.ensures.says r a.request honest a.server)
-        c.in-Ok-Some.reply c.as_slice-2.result.now c.in-Ok-Some.field-0-is c.as_slice-2.ensures c.datagram.new.self c.in-Ok.heard c.in-Ok.ensures.step in
+    c.as_slice.result.now c.as_slice.ensures c.in-Ok-Some.field-0 (c.in-Ok-Some.ensures.says r a.request honest a.server)
+    c.in-Ok-Some.reply c.as_slice-2.result.now c.in-Ok-Some.field-0-is c.as_slice-2.ensures c.datagram.new.self c.in-Ok.heard c.in-Ok.ensures.step in
     absurd (well.own c.in-None.ensures)
 
 pub returns-in-Ok-push-clause-turn : goal.returns-in-Ok-push-clause-turn
@@ -70,16 +70,16 @@ pub returns-in-Ok-push-clause-sound : goal.returns-in-Ok-push-clause-sound
 returns-in-Ok-push-clause-sound g c = λ r x honest under.
     let a = c.requests_are_understood.ensures r c.args.now x c.args.resolver.now c.args.ticket c.args.request c.millis-millis.ensures.bound c.in_order.ensures under in
     let well = heard_well r c.args.now x c.args.resolver.now c.args.ticket c.args.request a
-        c.as_slice.result.now c.as_slice.ensures c.in-Ok-Some.field-0 (c.in-Ok-Some.ensures.says r a.request honest a.server)
-        c.in-Ok-Some.reply c.as_slice-2.result.now c.in-Ok-Some.field-0-is c.as_slice-2.ensures c.datagram.new.self c.in-Ok.heard c.in-Ok.ensures.step in
+    c.as_slice.result.now c.as_slice.ensures c.in-Ok-Some.field-0 (c.in-Ok-Some.ensures.says r a.request honest a.server)
+    c.in-Ok-Some.reply c.as_slice-2.result.now c.in-Ok-Some.field-0-is c.as_slice-2.ensures c.datagram.new.self c.in-Ok.heard c.in-Ok.ensures.step in
     well.sound
 
 pub returns-in-Ok-push-clause-right : goal.returns-in-Ok-push-clause-right
 returns-in-Ok-push-clause-right g c = λ r x honest under.
     let a = c.requests_are_understood.ensures r c.args.now x c.args.resolver.now c.args.ticket c.args.request c.millis-millis.ensures.bound c.in_order.ensures under in
     let well = heard_well r c.args.now x c.args.resolver.now c.args.ticket c.args.request a
-        c.as_slice.result.now c.as_slice.ensures c.in-Ok-Some.field-0 (c.in-Ok-Some.ensures.says r a.request honest a.server)
-        c.in-Ok-Some.reply c.as_slice-2.result.now c.in-Ok-Some.field-0-is c.as_slice-2.ensures c.datagram.new.self c.in-Ok.heard c.in-Ok.ensures.step in
+    c.as_slice.result.now c.as_slice.ensures c.in-Ok-Some.field-0 (c.in-Ok-Some.ensures.says r a.request honest a.server)
+    c.in-Ok-Some.reply c.as_slice-2.result.now c.in-Ok-Some.field-0-is c.as_slice-2.ensures c.datagram.new.self c.in-Ok.heard c.in-Ok.ensures.step in
     right_turn r x c.args.resolver.now c.args.ticket c.args.request c.in-Ok-Some.reply c.datagram.new.self c.in-Ok.heard c.in-Some-Ok.turn well
     (c.in-Some-Ok.ensures ∙ ap (heard_of c.args.ticket) c.in-Some-Ok.field-0-is)
 
@@ -95,14 +95,14 @@ pub returns-in-Err-push-clause-sound : goal.returns-in-Err-push-clause-sound
 returns-in-Err-push-clause-sound g c = λ r x honest under.
     let a = c.requests_are_understood.ensures r c.args.now x c.args.resolver.now c.args.ticket c.args.request c.millis-millis.ensures.bound c.in_order.ensures under in
     let well = heard_well r c.args.now x c.args.resolver.now c.args.ticket c.args.request a
-        c.as_slice.result.now c.as_slice.ensures c.in-Ok-Some.field-0 (c.in-Ok-Some.ensures.says r a.request honest a.server)
-        c.in-Ok-Some.reply c.as_slice-2.result.now c.in-Ok-Some.field-0-is c.as_slice-2.ensures c.datagram.new.self c.in-Ok.heard c.in-Ok.ensures.step in
+    c.as_slice.result.now c.as_slice.ensures c.in-Ok-Some.field-0 (c.in-Ok-Some.ensures.says r a.request honest a.server)
+    c.in-Ok-Some.reply c.as_slice-2.result.now c.in-Ok-Some.field-0-is c.as_slice-2.ensures c.datagram.new.self c.in-Ok.heard c.in-Ok.ensures.step in
     well.sound
 
 pub returns-in-Ok-push-clause-hop : goal.returns-in-Ok-push-clause-hop
 returns-in-Ok-push-clause-hop g c = λ r x honest under all.
     let a = c.requests_are_understood.ensures r c.args.now x c.args.resolver.now c.args.ticket c.args.request c.millis-millis.ensures.bound c.in_order.ensures under in
     let well = heard_well r c.args.now x c.args.resolver.now c.args.ticket c.args.request a
-        c.as_slice.result.now c.as_slice.ensures c.in-Ok-Some.field-0 (c.in-Ok-Some.ensures.says r a.request honest a.server)
-        c.in-Ok-Some.reply c.as_slice-2.result.now c.in-Ok-Some.field-0-is c.as_slice-2.ensures c.datagram.new.self c.in-Ok.heard c.in-Ok.ensures.step in
+    c.as_slice.result.now c.as_slice.ensures c.in-Ok-Some.field-0 (c.in-Ok-Some.ensures.says r a.request honest a.server)
+    c.in-Ok-Some.reply c.as_slice-2.result.now c.in-Ok-Some.field-0-is c.as_slice-2.ensures c.datagram.new.self c.in-Ok.heard c.in-Ok.ensures.step in
     one_more (IsHonestHop r x c.args.resolver.now.me) c.args.hops.now.items c.push.new.self.items (hop_of c.args.request c.in-Ok-Some.reply) c.in-Ok-push.ensures.items all well.hop

@@ -10,13 +10,13 @@ pub loop-next-init : goal.loop-next-init
 loop-next-init g c = on_its_way (g.S.Servers.honest c.args.servers.now) c.args.now c.args.resolver.now c.args.ticket c.args.request c.new-hops.result.items c.new-hops.ensures.items c.requires
 
 pub loop-next-smaller : goal.loop-next-smaller
-loop-next-smaller g c = 
+loop-next-smaller g c =
     fewer_left (g.S.Servers.honest c.args.servers.now) (g.S.Servers.honest c.loop-next.servers) c.args.now c.args.resolver.now c.args.ticket c.args.request c.loop-next.hops.items c.loop-next.resolver c.loop-next.request
     c.loop-next.invariant c.in-Ok-GoesOn.field-0 c.exchange.new.hops.items c.exchange.new.resolver c.in-Ok-GoesOn.ensures.turn (g.S.Servers.honest c.exchange.new.servers)
     c.in-Ok-GoesOn.ensures.nearer (λ r x honest u all. c.in-Ok-GoesOn.ensures.hop r x honest u all) c.in-Ok-GoesOn.ensures.stay c.in-Ok-GoesOn.next c.in-Ok-GoesOn.field-0-is
 
 pub loop-next-preserved : goal.loop-next-preserved
-loop-next-preserved g c = 
+loop-next-preserved g c =
     goes_on (g.S.Servers.honest c.args.servers.now) (g.S.Servers.honest c.loop-next.servers) c.args.now c.args.resolver.now c.args.ticket c.args.request c.loop-next.hops.items c.loop-next.resolver c.loop-next.request
     c.loop-next.invariant c.in-Ok-GoesOn.field-0 c.exchange.new.hops.items c.exchange.new.resolver c.in-Ok-GoesOn.ensures.turn (g.S.Servers.honest c.exchange.new.servers)
     c.in-Ok-GoesOn.ensures.nearer (λ r x honest u all. c.in-Ok-GoesOn.ensures.hop r x honest u all) c.in-Ok-GoesOn.ensures.stay c.in-Ok-GoesOn.next c.in-Ok-GoesOn.field-0-is c.in-Ok-GoesOn.ensures.sound
@@ -53,7 +53,7 @@ returns-in-Ok-Ends-clause-bound g c =
     c.in-Ok-Ends.ensures.nearer (λ r x honest u all. c.in-Ok-Ends.ensures.hop r x honest u all) c.in-Ok-Ends.ensures.stay)
 
 pub returns-in-Err-clause-failed : goal.returns-in-Err-clause-failed
-returns-in-Err-clause-failed g c = 
+returns-in-Err-clause-failed g c =
     fails_under (g.S.Servers.honest c.args.servers.now) (g.S.Servers.honest c.loop-next.servers) c.args.now c.args.resolver.now c.args.ticket c.args.request c.loop-next.hops.items c.loop-next.resolver c.loop-next.request
     c.loop-next.invariant c.in-Err.error c.exchange.new.resolver c.in-Err.ensures.failed
 

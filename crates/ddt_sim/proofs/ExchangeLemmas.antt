@@ -1,24 +1,17 @@
 -- One request of a lookup and what comes back.
-use Rattle.std.proofs.Common.{◌≡◌, ℕ, ◌+◌, ◌-◌, ◌<◌, ◌≤◌, ◌^◌, true, List, [], ◌∷◌, ◌++◌, length, Option, Some, None, Ok, Err, refl, sym, ap, ◌∙◌, subst, arith}
+use Rattle.std.proofs.Common.{◌≡◌, ℕ, ◌<◌, ◌≤◌, ◌^◌, true, List, [], ◌∷◌, ◌++◌, Option, Some, None, Ok, refl, sym, ap, subst, arith}
 use Rattle.std.specs.Option.{option_map_or}
-use Rattle.std.specs.FinMap.{get}
 use Rattle.ddt_path.specs.declared.locator.Locator.{Locator}
-use Rattle.ddt_path.specs.declared.record.Outcome.{Outcome}
 use Rattle.ddt_path.specs.declared.xeid.Xeid.{Xeid}
-use Rattle.ddt_path.specs.Path.{xeid_path}
 use Rattle.ddt_register.specs.declared.register.Register.{Register}
-use Rattle.ddt_check.specs.Rules.{IsAccepted}
-use Rattle.ddt_check.specs.Laws.{AnswersCover, AnswersHaveServers, AnswersCanBeSent}
-use Rattle.ddt_wire.specs.Laws.{OneMessage, RecordsComeBack}
 use Rattle.ddt_ecm.specs.Request.{Message, Spells}
 use Rattle.ddt_node.specs.Server.{IsDdtRequest}
 use Rattle.ddt_sim.specs.Honest.{IsHonestReply}
-use Rattle.ddt_ecm.specs.Laws.{IsRequest, WrittenSpells, message_of}
+use Rattle.ddt_ecm.specs.Laws.{WrittenSpells, message_of}
 use Rattle.ddt_resolver.specs.declared.answers.Outgoing.{Outgoing}
 use Rattle.ddt_resolver.specs.declared.answers.Heard.{Heard}
 use Rattle.ddt_resolver.specs.declared.answers.Heard.TheVariants as heard
-use Rattle.ddt_resolver.specs.declared.answers.Why.{Why}
-use Rattle.ddt_resolver.specs.State.{State, moved, request_bytes, last_nonce}
+use Rattle.ddt_resolver.specs.State.{State, moved, request_bytes}
 use Rattle.ddt_resolver.specs.Bound.{measure, ComesNearer}
 use Rattle.ddt_resolver.specs.Act.{HearStep}
 use Rattle.ddt_resolver.specs.Order.{IsInOrder}

@@ -1,5 +1,5 @@
-use Rattle.std.proofs.Common.{◌≡◌, ℕ, ◌<◌, ◌≤◌, List, refl, sym, ap, subst, ◌∙◌}
-use Rattle.ddt_resolver.specs.State.{State, moved}
+use Rattle.std.proofs.Common.{refl, sym, ap, subst, ◌∙◌}
+use Rattle.ddt_resolver.specs.State.{moved}
 use Rattle.ddt_resolver.specs.Act.{HearStep}
 use Rattle.ddt_sim.specs.Sound.{IsSound}
 use Rattle.ddt_sim.specs.Lookup.{heard_of, hop_of, gave_up, not_taken, unfinished}

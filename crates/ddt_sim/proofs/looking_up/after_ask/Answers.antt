@@ -1,4 +1,4 @@
-use Rattle.std.proofs.Common.{◌≡◌, ℕ, sym, ap, subst, ◌∙◌, refl}
+use Rattle.std.proofs.Common.{sym, subst}
 use Rattle.ddt_sim.specs.Sound.{IsSound}
 use Rattle.ddt_sim.proofs.SoundLemmas.{sound_dropped}
 use Rattle.ddt_sim.proofs.AskLemmas.{reached_by_ask, awaited_by_ask, under_way, removed_fails, removed_failure}

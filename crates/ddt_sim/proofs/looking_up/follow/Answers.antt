@@ -1,4 +1,4 @@
-use Rattle.std.proofs.Common.{◌≡◌, ◌≤◌, ℕ, length, sym, ap, subst, ◌∙◌, refl}
+use Rattle.std.proofs.Common.{◌≤◌, length, sym, subst}
 use Rattle.std.specs.List.{All}
 use Rattle.ddt_sim.specs.Waiting.{requests_left}
 use Rattle.ddt_sim.specs.Lookup.{HasOutcome}

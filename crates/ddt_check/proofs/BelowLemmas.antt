@@ -48,7 +48,7 @@ under-of_kept zones None p kept e = absurd (false≢true e)
 under-of_kept zones (Some m) p kept e =
     in_any (λ (y : Zone). is_ms y.kind && is_strictly_below p y.prefix) zones kept.0 kept.1
     (and_from (is_ms kept.0.kind) (is_strictly_below p kept.0.prefix) kept.2
-        (subst (λ (q : List ℕ). is_strictly_below p q ≡ true) (sym kept.3) e))
+    (subst (λ (q : List ℕ). is_strictly_below p q ≡ true) (sym kept.3) e))
 
 under-of_within : (top : Option (List ℕ)) (y p : List ℕ) → is_within top y ≡ true → is_strictly_below p y ≡ true
     → is_under top p ≡ true
@@ -57,7 +57,7 @@ under-of_within (Some m) y p e below =
     let s = and_parts (covers y p) (not (covers p y)) below in
     and_from (covers m p) (not (covers p m)) (covers_trans m y p e s.0)
     (not_from_false (covers p m) (false_from_ne_true (covers p m)
-        (λ back. both_ways (covers p y) (not-true (covers p y) s.1) (covers_trans p m y back e))))
+    (λ back. both_ways (covers p y) (not-true (covers p y) s.1) (covers_trans p m y back e))))
 
 module _ (zones : List Zone) (sorted : IsInOrder prefix zone_row zones) where
   up_to : (k i : ℕ) (d : Zone) → k ≤ i → i < length zones → IsUpTo (get_or zones k d).prefix (get_or zones i d).prefix
@@ -82,15 +82,15 @@ module _ (zones : List Zone) (sorted : IsInOrder prefix zone_row zones) where
             (subst (λ (y : Zone). is_within top y.prefix ≡ true) (sym at)
             (state.widest c.0 w before (subst (λ (y : Zone). is_ms y.kind ≡ true) at p.0) w.prefix
             (λ k low. subst (λ (z : Zone). IsUpTo (get_or zones k w).prefix z.prefix) (sym is)
-                (up_to k i w (omega arith) lt))
+            (up_to k i w (omega arith) lt))
             (subst (λ (y : Zone). covers y.prefix w.prefix ≡ true) at s.0)))
             p.1
         | inr behind ↦
             let down : IsUpTo w.prefix f.0.prefix = subst (λ (y : Zone). IsUpTo w.prefix y.prefix) (sym at)
-                (subst (λ (z : Zone). IsUpTo z.prefix (get_or zones c.0 w).prefix) (sym is)
-                (up_to i c.0 w behind c.1)) in
+            (subst (λ (z : Zone). IsUpTo z.prefix (get_or zones c.0 w).prefix) (sym is)
+            (up_to i c.0 w behind c.1)) in
             absurd (both_ways (covers w.prefix f.0.prefix) (not-true (covers w.prefix f.0.prefix) s.1)
-                (covers-back w.prefix f.0.prefix down s.0))
+            (covers-back w.prefix f.0.prefix down s.0))
       ])
 
   within_trans : (top : Option (List ℕ)) (y w : List ℕ) → is_within top y ≡ true → covers y w ≡ true
@@ -102,7 +102,7 @@ module _ (zones : List Zone) (sorted : IsInOrder prefix zone_row zones) where
   before : (i j : ℕ) (top : Option (List ℕ)) (w d : Zone) → i < length zones → w ≡ get_or zones i w
       → IsTop zones i top → j < i → is_ms (get_or zones j d).kind ≡ true
       → (x : List ℕ) → ((k : ℕ) → k < i + 1 → IsUpTo (get_or zones k d).prefix x) → covers (get_or zones j d).prefix
-          x ≡ true
+      x ≡ true
       → (is_within top (get_or zones j d).prefix ≡ true) × (is_within top w.prefix ≡ true)
   before i j top w d lt is state low ms x above inside =
       let y = (get_or zones j d).prefix in
@@ -117,14 +117,19 @@ module _ (zones : List Zone) (sorted : IsInOrder prefix zone_row zones) where
   top_new i top w lt is state e =
       let p = and_parts (is_ms w.kind) (not (is_within top w.prefix)) e in
       record {
-        kept = (w, in_contained zones w (subst (λ (z : Zone). (k : ℕ) × (k < length zones) × (get_or zones k z ≡ z))
-            refl (i, lt, sym is)), p.0, refl);
+        kept = (
+          w,
+          in_contained zones w (subst (λ (z : Zone). (k : ℕ) × (k < length zones) × (get_or zones k z ≡ z))
+              refl (i, lt, sym is)),
+          p.0,
+          refl,
+        );
         widest = λ j d low ms x above inside. elim (cases_lt j i) [
           | inl less ↦ absurd (both_ways (is_within top w.prefix) (not-true (is_within top w.prefix) p.1)
               (before i j top w d lt is state less ms x above inside).1)
           | inr same ↦ let eq : j ≡ i = omega arith in
               let here : w ≡ get_or zones j d = is ∙ get_or-same zones i w d lt ∙ ap (λ (k : ℕ). get_or zones k d)
-                  (sym eq) in
+              (sym eq) in
               subst (λ (z : Zone). covers w.prefix z.prefix ≡ true) here (covers_self w.prefix)
         ];
       }
@@ -138,7 +143,7 @@ module _ (zones : List Zone) (sorted : IsInOrder prefix zone_row zones) where
           | inl less ↦ (before i j top w d lt is state less ms x above inside).0
           | inr same ↦ let eq : j ≡ i = omega arith in
               let here : w ≡ get_or zones j d = is ∙ get_or-same zones i w d lt ∙ ap (λ (k : ℕ). get_or zones k d)
-                  (sym eq) in
+              (sym eq) in
               subst (λ (z : Zone). is_within top z.prefix ≡ true) here
               (elim (and_cases (is_ms w.kind) (not (is_within top w.prefix)) e) [
                 | inl other ↦ absurd (both_ways (is_ms w.kind) other

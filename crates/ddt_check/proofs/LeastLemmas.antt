@@ -27,7 +27,7 @@ module _ {A : Type 0} (row : A → ℕ) (test : A → Bool) where
   least_same xs i x least lt is e so_far =
       IsLeastRow-same (item_at row test (take (i + 1) xs)) (item_at row test (take i xs)) least
       (λ n. one_more xs i x lt is n ∙ (rw (and_right (row x == n) (test x) e)
-          (none (item_at row test (take i xs) n)))) so_far
+      (none (item_at row test (take i xs) n)))) so_far
     where
       none : (b : Bool) → (b || false) ≡ b
       none true = refl
@@ -42,7 +42,7 @@ module _ {A : Type 0} (row : A → ℕ) (test : A → Bool) where
   least_with : (xs : List A) (i : ℕ) (x : A) (least : Option ℕ) → test x ≡ true
       → ((n : ℕ) → item_at row test (take (i + 1) xs) n ≡ (item_at row test (take i xs) n || (row x == n && test x)))
       → IsLeastRow (item_at row test (take i xs)) least → IsLeastRow (item_at row test (take (i + 1) xs))
-          (Some (option_map_or (λ l. min l (row x)) least (row x)))
+      (Some (option_map_or (λ l. min l (row x)) least (row x)))
   least_with xs i x None e more so_far = (
     more (row x) ∙ here x (item_at row test (take i xs) (row x)) e,
     λ n lt. more n ∙ past x (item_at row test (take i xs) n) n (so_far n) (let h : row x ≢ n = omega arith in h),
@@ -95,7 +95,7 @@ module _ {A : Type 0} (row : A → ℕ) (test : A → Bool) where
   least_of_all xs ys n least moved low high so_far =
       let same : n ≡ length ys = omega arith in
       least_moved xs ys least moved (subst (λ (l : List A). IsLeastRow (item_at row test l) least)
-          (ap (λ (k : ℕ). take k ys) same ∙ take-length ys) so_far)
+      (ap (λ (k : ℕ). take k ys) same ∙ take-length ys) so_far)
 
 -- the least row of either test
 pub least_both : (t u : ℕ → Bool) (a b : Option ℕ) → IsLeastRow t a → IsLeastRow u b

@@ -43,8 +43,11 @@ module _ {A : Type 0} (row : A → ℕ) (test : A → Bool) where
       go : (b : Bool) → test z ≡ b → rise (row z) (map row items) ≡ true
           → IsLeastRow (item_at items) (option_map row (find test items))
           → IsLeastRow (item_at (z ∷ items)) (option_map row (cond b (Some z) (find test items)))
-      go true e tail rest = (rw (eq-eqb (row z) (row z) refl, e) refl, λ n lt. let apart : row z ≢ n = omega arith in
-          rw (ne_eqb (row z) n apart) (none_below (row z) n items (omega arith) tail))
+      go true e tail rest = (
+        rw (eq-eqb (row z) (row z) refl, e) refl,
+        λ n lt. let apart : row z ≢ n = omega arith in
+            rw (ne_eqb (row z) n apart) (none_below (row z) n items (omega arith) tail),
+      )
       go false e tail rest = IsLeastRow-same (item_at (z ∷ items)) (item_at items) (option_map row (find test items))
           (failed z items e) rest
 

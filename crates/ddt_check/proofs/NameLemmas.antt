@@ -28,7 +28,7 @@ find_least row test [] g up k e least = absurd k
 find_least row test (x ∷ zs) g up (inl same) e least = find_here test x g (find test zs) (test x) refl (sym same) e
 find_least row test (x ∷ zs) g up (inr later) e least =
     find_later row test x g (find test zs) (test x) refl (up.0 g later) (least x (inl refl))
-        (find_least row test zs g up.1 later e (λ h k. least h (inr k)))
+    (find_least row test zs g up.1 later e (λ h k. least h (inr k)))
 
 pub find_none : {A : Type 0} (test : A → Bool) (zs : List A) → ((h : A) → IsIn h zs → test h ≡ false)
     → find test zs ≡ None
@@ -71,53 +71,53 @@ not_below_itself a b same = go (slice_cmp nat_cmp a b) (sym (texts_ties a b) ∙
     go Greater h = refl
 
 module _ {A : Type 0} (key : A → List ℕ) (row : A → ℕ) (xs : List A) (sorted : IsInOrder key row xs) (name : List ℕ)
-    where
-  abbrev pub is_below : A → Bool
-  is_below x = is_lt (slice_cmp nat_cmp (key x) name)
+  where
+    abbrev pub is_below : A → Bool
+    is_below x = is_lt (slice_cmp nat_cmp (key x) name)
 
-  abbrev pub has_key : A → Bool
-  has_key x = is_same_path (key x) name
+    abbrev pub has_key : A → Bool
+    has_key x = is_same_path (key x) name
 
-  pub parted : IsPartitionedBy is_below xs
-  parted = λ i j d le inside e. lt_after (key (get_or xs i d)) (key (get_or xs j d)) name
-      (far key row xs sorted i j d le inside).0 e
+    pub parted : IsPartitionedBy is_below xs
+    parted = λ i j d le inside e. lt_after (key (get_or xs i d)) (key (get_or xs j d)) name
+        (far key row xs sorted i j d le inside).0 e
 
-  module _ (zs : List A) (up : Rising row zs) (moved : IsPermutation zs xs) (at : ℕ)
-      (point : IsPartitionPoint (λ x. is_below x ≡ true) (λ x. is_below x ≡ false) xs at) where
-    -- an item of the key stands at that place or later
-    placed_from : (h : A) → IsIn h zs → has_key h ≡ true → (d : A)
-        → (k : ℕ) × (at ≤ k) × (k < length xs) × (h ≡ get_or xs k d)
-    placed_from h k e d =
-        let c = Contains-permutation zs xs h moved (contained zs h k) in
-        let here : h ≡ get_or xs c.0 d = sym c.2 ∙ get_or-same xs c.0 h d c.1 in
-        elim (cases_lt c.0 at) [
-          | inl before ↦ absurd (both_ways (is_below h) (not_below_itself (key h) name e)
-              (subst (λ (x : A). is_below x ≡ true) (sym here) (point.0 c.0 d (omega arith) before)))
-          | inr behind ↦ (c.0, behind, c.1, here)
-        ]
+    module _ (zs : List A) (up : Rising row zs) (moved : IsPermutation zs xs) (at : ℕ)
+        (point : IsPartitionPoint (λ x. is_below x ≡ true) (λ x. is_below x ≡ false) xs at) where
+      -- an item of the key stands at that place or later
+      placed_from : (h : A) → IsIn h zs → has_key h ≡ true → (d : A)
+          → (k : ℕ) × (at ≤ k) × (k < length xs) × (h ≡ get_or xs k d)
+      placed_from h k e d =
+          let c = Contains-permutation zs xs h moved (contained zs h k) in
+          let here : h ≡ get_or xs c.0 d = sym c.2 ∙ get_or-same xs c.0 h d c.1 in
+          elim (cases_lt c.0 at) [
+            | inl before ↦ absurd (both_ways (is_below h) (not_below_itself (key h) name e)
+                (subst (λ (x : A). is_below x ≡ true) (sym here) (point.0 c.0 d (omega arith) before)))
+            | inr behind ↦ (c.0, behind, c.1, here)
+          ]
 
-    pub found_key : (d : A) → at < length xs → has_key (get_or xs at d) ≡ true → find has_key zs ≡ Some (get_or xs at d)
-    found_key d inside e =
-        let g = get_or xs at d in
-        find_least row has_key zs g up
-        (moved_in xs zs (IsPermutation-sym zs xs moved) g (in_at xs at g inside (get_or-same xs at d g inside)))
-        e
-        (λ h k f.
-        let p = placed_from h k f d in
-        let one : key g ≡ key h = (bytes_decides (key g) name).0 e ∙ sym ((bytes_decides (key h) name).0 f) in
-        subst (λ (x : A). row g ≤ row x) (sym p.3)
-        ((far key row xs sorted at p.0 d p.1 p.2).1 (subst (λ (q : List ℕ). is_same_path (key g) q ≡ true)
-            (one ∙ ap key p.3) ((bytes_decides (key g) (key g)).1 refl))))
+      pub found_key : (d : A) → at < length xs → has_key (get_or xs at d) ≡ true → find has_key zs ≡ Some (get_or xs at d)
+      found_key d inside e =
+          let g = get_or xs at d in
+          find_least row has_key zs g up
+          (moved_in xs zs (IsPermutation-sym zs xs moved) g (in_at xs at g inside (get_or-same xs at d g inside)))
+          e
+          (λ h k f.
+          let p = placed_from h k f d in
+          let one : key g ≡ key h = (bytes_decides (key g) name).0 e ∙ sym ((bytes_decides (key h) name).0 f) in
+          subst (λ (x : A). row g ≤ row x) (sym p.3)
+          ((far key row xs sorted at p.0 d p.1 p.2).1 (subst (λ (q : List ℕ). is_same_path (key g) q ≡ true)
+          (one ∙ ap key p.3) ((bytes_decides (key g) (key g)).1 refl))))
 
-    pub no_key_past : length xs ≤ at → find has_key zs ≡ None
-    no_key_past past = find_none has_key zs (λ h k. false_from_ne_true (has_key h)
-        (λ e. let p = placed_from h k e h in absurd (omega (arith, p.1, p.2))))
+      pub no_key_past : length xs ≤ at → find has_key zs ≡ None
+      no_key_past past = find_none has_key zs (λ h k. false_from_ne_true (has_key h)
+          (λ e. let p = placed_from h k e h in absurd (omega (arith, p.1, p.2))))
 
-    pub no_key_at : (d : A) → at < length xs → has_key (get_or xs at d) ≡ false → find has_key zs ≡ None
-    no_key_at d inside out = find_none has_key zs (λ h k. false_from_ne_true (has_key h) (λ e.
-        let p = placed_from h k e d in
-        let g = get_or xs at d in
-        let down : IsUpTo name (key g) = point.1 at d (omega arith) inside in
-        let one : key (get_or xs p.0 d) ≡ name = ap key (sym p.3) ∙ (bytes_decides (key h) name).0 e in
-        let rise_ : IsUpTo (key g) name = subst (IsUpTo (key g)) one (far key row xs sorted at p.0 d p.1 p.2).0 in
-        both_ways (has_key g) out (same_from_ties (key g) name rise_ down)))
+      pub no_key_at : (d : A) → at < length xs → has_key (get_or xs at d) ≡ false → find has_key zs ≡ None
+      no_key_at d inside out = find_none has_key zs (λ h k. false_from_ne_true (has_key h) (λ e.
+          let p = placed_from h k e d in
+          let g = get_or xs at d in
+          let down : IsUpTo name (key g) = point.1 at d (omega arith) inside in
+          let one : key (get_or xs p.0 d) ≡ name = ap key (sym p.3) ∙ (bytes_decides (key h) name).0 e in
+          let rise_ : IsUpTo (key g) name = subst (IsUpTo (key g)) one (far key row xs sorted at p.0 d p.1 p.2).0 in
+          both_ways (has_key g) out (same_from_ties (key g) name rise_ down)))

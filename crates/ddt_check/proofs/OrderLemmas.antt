@@ -44,7 +44,7 @@ covers-between (d ∷ p) (e ∷ q) (f ∷ r) up down inside =
     let high = ltb-false f e y.0 in
     let same : e ≡ d = omega arith in
     and_from (d == e) (covers p q) (eq-eqb d e (sym same)) (covers-between p q r (x.1 (eq-eqb e d same))
-        (y.1 (eq-eqb f e (omega arith))) s.1)
+    (y.1 (eq-eqb f e (omega arith))) s.1)
 
 -- what is covered by a prefix that doesn't stand before it is that prefix
 pub covers-back : (a c : List ℕ) → IsUpTo a c → covers c a ≡ true → covers a c ≡ true
@@ -101,12 +101,17 @@ module _ {A : Type 0} (key : A → List ℕ) (row : A → ℕ) where
       → is_lt (ordering_then o (nat_cmp (row b) (row a))) ≡ false
       → IsUpTo (key a) (key b) × (is_same_path (key a) (key b) ≡ true → row a ≤ row b)
   order_cases a b Less e h = absurd (true≢false h)
-  order_cases a b Equal e h = (ap is_lt e, λ same. ltb-false (row b) (row a)
-      (lt_part (ltb (row b) (row a)) (row b == row a) h))
-  order_cases a b Greater e h =
-      (ap is_lt e, λ same. absurd (both_ways (is_same_path (key a) (key b))
-          (texts_ties (key a) (key b) ∙ ap is_eq (nat_list_cmp_total.antisymm (key a) (key b) ∙ ap ordering_reverse
-          e)) same))
+  order_cases a b Equal e h = (
+    ap is_lt e,
+    λ same. ltb-false (row b) (row a)
+        (lt_part (ltb (row b) (row a)) (row b == row a) h),
+  )
+  order_cases a b Greater e h = (
+    ap is_lt e,
+    λ same. absurd (both_ways (is_same_path (key a) (key b))
+        (texts_ties (key a) (key b) ∙ ap is_eq (nat_list_cmp_total.antisymm (key a) (key b) ∙ ap ordering_reverse
+        e)) same),
+  )
 
   module _ (xs : List A) (sorted : IsInOrder key row xs) where
     -- of two places the later has no lower key, and no lower row where the keys are one
@@ -114,7 +119,7 @@ module _ {A : Type 0} (key : A → List ℕ) (row : A → ℕ) where
         → IsUpTo (key (get_or xs i d)) (key (get_or xs j d)) × (is_same_path (key (get_or xs i d)) (key (get_or xs j d)) ≡ true → row (get_or xs i d) ≤ row (get_or xs j d))
     far i j d le inside =
         order_cases (get_or xs i d) (get_or xs j d) _ refl (sorted_far (λ x y. is_lt (in_order key row x y))
-            (ranks_by in_order_total (λ x. x)) xs sorted i j d le inside)
+        (ranks_by in_order_total (λ x. x)) xs sorted i j d le inside)
 
     module _ (zs : List A) (up : Rising row zs) (moved : IsPermutation zs xs) where
       abbrev has_earlier : A → Bool
@@ -130,10 +135,10 @@ module _ {A : Type 0} (key : A → List ℕ) (row : A → ℕ) where
           let le = (far at (at + 1) d (omega arith) inside).1 same in
           let ne = eqb-false _ _ (rows_apart row zs xs up moved at (at + 1) d (omega arith) inside) in
           let k = in_contained zs y (Contains-permutation xs zs y (IsPermutation-sym zs xs moved)
-              (Contains-get_or xs at d (omega arith))) in
+          (Contains-get_or xs at d (omega arith))) in
           in_any (λ y. nat_lt (row y) (row x) && is_same_path (key y) (key x)) zs y k
-              (and_from (nat_lt (row y) (row x)) (is_same_path (key y) (key x)) (lt-ltb (row y) (row x) (omega arith))
-              same)
+          (and_from (nat_lt (row y) (row x)) (is_same_path (key y) (key x)) (lt-ltb (row y) (row x) (omega arith))
+          same)
 
       -- an earlier one of the same key stands before, and the neighbour before has the key too
       earlier-place : (at : ℕ) (d : A) → at < length xs → has_earlier (get_or xs at d) ≡ true
@@ -144,9 +149,9 @@ module _ {A : Type 0} (key : A → List ℕ) (row : A → ℕ) where
           let p = and_parts (nat_lt (row f.0) (row x)) (is_same_path (key f.0) (key x)) f.2 in
           let c = Contains-permutation zs xs f.0 moved (contained zs f.0 f.1) in
           let same : is_same_path (key (get_or xs c.0 d)) (key x) ≡ true = subst
-              (λ (y : A). is_same_path (key y) (key x) ≡ true) (sym c.2 ∙ get_or-same xs c.0 f.0 d c.1) p.1 in
+          (λ (y : A). is_same_path (key y) (key x) ≡ true) (sym c.2 ∙ get_or-same xs c.0 f.0 d c.1) p.1 in
           let lower : row (get_or xs c.0 d) < row x = subst (λ (y : A). row y < row x)
-              (sym c.2 ∙ get_or-same xs c.0 f.0 d c.1) (ltb-true (row f.0) (row x) p.0) in
+          (sym c.2 ∙ get_or-same xs c.0 f.0 d c.1) (ltb-true (row f.0) (row x) p.0) in
           elim (cases_lt c.0 at) [
             | inl before ↦ (c.0, before, same)
             | inr behind ↦ absurd (let le = (far at c.0 d behind c.1).1
@@ -158,7 +163,7 @@ module _ {A : Type 0} (key : A → List ℕ) (row : A → ℕ) where
           → is_same_path (key (get_or xs at d)) (key (get_or xs (at + 1) d)) ≡ has_earlier (get_or xs (at + 1) d)
       has_earlier-beside at d inside =
           iff_same (is_same_path (key (get_or xs at d)) (key (get_or xs (at + 1) d)))
-              (has_earlier (get_or xs (at + 1) d))
+          (has_earlier (get_or xs (at + 1) d))
           (beside-earlier at d inside)
           (λ e.
           let p = earlier-place (at + 1) d inside e in

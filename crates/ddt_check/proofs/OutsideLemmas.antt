@@ -35,7 +35,7 @@ IsLongest prefix xs x (Some a) = IsIn a xs × (covers (prefix a) x ≡ true) ×
 longer_cases : {A : Type 0} (prefix : A → List ℕ) (a b : A) (t : Bool)
     → nat_lt (length (prefix a)) (length (prefix b)) ≡ t
     → ((cond t b a ≡ b) × (length (prefix a) ≤ length (prefix b))) ⊎
-        ((cond t b a ≡ a) × (length (prefix b) ≤ length (prefix a)))
+    ((cond t b a ≡ a) × (length (prefix b) ≤ length (prefix a)))
 longer_cases prefix a b true e = inl (refl, let lt = ltb-true (length (prefix a)) (length (prefix b)) e in omega arith)
 longer_cases prefix a b false e = inr (refl, ltb-false (length (prefix a)) (length (prefix b)) e)
 
@@ -100,7 +100,7 @@ covers_longer_one (d ∷ p) (c ∷ q) (b ∷ x) e f le =
     let s = and_parts (d == b) (covers p x) e in
     let t = and_parts (c == b) (covers q x) f in
     and_from (d == c) (covers p q) (eq-eqb d c (eqb-true d b s.0 ∙ sym (eqb-true c b t.0)))
-        (covers_longer_one p q x s.1 t.1 (omega arith))
+    (covers_longer_one p q x s.1 t.1 (omega arith))
 
 -- ---- up to a prefix
 
@@ -149,7 +149,7 @@ earlier_same r single a b j k same lt =
     both_ways (is_duplicate_zone r b) (rule_kept zone_row (is_duplicate_zone r) r.zones single b k)
     (in_any (λ (y : Zone). nat_lt y.row b.row && is_same_path y.prefix b.prefix) r.zones a j
     (and_from (nat_lt a.row b.row) (is_same_path a.prefix b.prefix) (lt-ltb a.row b.row lt)
-        ((bytes_decides a.prefix b.prefix).1 same)))
+    ((bytes_decides a.prefix b.prefix).1 same)))
 
 one_zone : (r : Register) → ((n : ℕ) → broken r rules.DuplicateZone n ≡ false) → (a b : Zone) → IsIn a r.zones
     → IsIn b r.zones → covers a.prefix b.prefix ≡ true → covers b.prefix a.prefix ≡ true → a ≡ b
@@ -168,8 +168,8 @@ leaf r leaves y z j k ms e =
     both_ways (is_below_map_server r z) (rule_kept zone_row (is_below_map_server r) r.zones leaves z k)
     (in_any (λ (y : Zone). is_ms y.kind && is_strictly_below z.prefix y.prefix) r.zones y j
     (and_from (is_ms y.kind) (is_strictly_below z.prefix y.prefix) ms
-        (and_from (covers y.prefix z.prefix) (not (covers z.prefix y.prefix)) e
-        (not_from_false (covers z.prefix y.prefix) f)))))
+    (and_from (covers y.prefix z.prefix) (not (covers z.prefix y.prefix)) e
+    (not_from_false (covers z.prefix y.prefix) f)))))
 
 outside-not : (o : Option Zone)
     → not (option_map_or (λ (z : Zone). is_ms z.kind) o false) ≡ option_map_or (λ (z : Zone). not (is_ms z.kind)) o true
@@ -183,7 +183,7 @@ module _ (xs : List Zone) (sorted : IsInOrder prefix zone_row xs) (x : List ℕ)
   pub up_to_parted : IsPartitionedBy is_up_to xs
   up_to_parted = λ i j d le inside e.
       le-from (get_or xs i d).prefix x (up_to_trans (get_or xs i d).prefix (get_or xs j d).prefix x
-          (far prefix zone_row xs sorted i j d le inside).0 (le-is (get_or xs j d).prefix x e))
+      (far prefix zone_row xs sorted i j d le inside).0 (le-is (get_or xs j d).prefix x e))
 
   module _ (r : Register) (moved : IsPermutation r.zones xs) (after : ℕ)
       (point : IsPartitionPoint (λ z. is_up_to z ≡ true) (λ z. is_up_to z ≡ false) xs after) where
@@ -208,16 +208,16 @@ module _ (xs : List Zone) (sorted : IsInOrder prefix zone_row xs) (x : List ℕ)
         (leaves : (n : ℕ) → broken r rules.BelowMapServer n ≡ false) where
       last_tells : (k : ℕ) (d : Zone) → after ≡ k + 1 → k < length xs → (o : Option Zone) → IsLongest prefix r.zones x o
           → (is_ms (get_or xs k d).kind && covers (get_or xs k d).prefix x) ≡ option_map_or
-              (λ (z : Zone). is_ms z.kind) o false
+          (λ (z : Zone). is_ms z.kind) o false
       last_tells k d next inside None h =
           let w = get_or xs k d in
           let iw = moved_in xs r.zones (IsPermutation-sym r.zones xs moved) w
-              (in_at xs k w inside (get_or-same xs k d w inside)) in
+          (in_at xs k w inside (get_or-same xs k d w inside)) in
           and_right (is_ms w.kind) (covers w.prefix x) (h w iw)
       last_tells k d next inside (Some a) h =
           let w = get_or xs k d in
           let iw = moved_in xs r.zones (IsPermutation-sym r.zones xs moved) w
-              (in_at xs k w inside (get_or-same xs k d w inside)) in
+          (in_at xs k w inside (get_or-same xs k d w inside)) in
           iff_same (is_ms w.kind && covers w.prefix x) (is_ms a.kind)
           (λ e.
           let p = and_parts (is_ms w.kind) (covers w.prefix x) e in
@@ -227,16 +227,16 @@ module _ (xs : List Zone) (sorted : IsInOrder prefix zone_row xs) (x : List ℕ)
           (λ ms.
           let j = place_before a h.0 h.1 d in
           let up = subst (λ (z : Zone). IsUpTo z.prefix w.prefix) (sym j.3)
-              (far prefix zone_row xs sorted j.0 k d (let lt = j.1 in omega arith) inside).0 in
+          (far prefix zone_row xs sorted j.0 k d (let lt = j.1 in omega arith) inside).0 in
           let down = le-is w.prefix x (point.0 k d (omega arith) (omega arith)) in
           let inner = covers-between a.prefix w.prefix x up down h.1 in
           let same = one_zone r single a w h.0 iw inner (leaf r leaves a w h.0 iw ms inner) in
           and_from (is_ms w.kind) (covers w.prefix x) (ap (λ (z : Zone). is_ms z.kind) (sym same) ∙ ms)
-              (subst (λ (z : Zone). covers z.prefix x ≡ true) same h.1))
+          (subst (λ (z : Zone). covers z.prefix x ≡ true) same h.1))
 
       pub outside_at : (k : ℕ) (d : Zone) → after ≡ k + 1 → k < length xs
           → not (is_ms (get_or xs k d).kind && covers (get_or xs k d).prefix x) ≡ option_map_or
-              (λ (z : Zone). not (is_ms z.kind)) (zone_of r x) true
+          (λ (z : Zone). not (is_ms z.kind)) (zone_of r x) true
       outside_at k d next inside = ap not (last_tells k d next inside (zone_of r x) (longest_is prefix r.zones x)) ∙
           outside-not (zone_of r x)
 

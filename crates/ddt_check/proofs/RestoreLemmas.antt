@@ -51,7 +51,7 @@ rows_apart row xs ys up moved i j d below inside =
     apart_from_distinct e ys i j d
     (IsDistinct-IsPermutation e (λ a b. same_row-flips (row a) (row b)) xs ys moved
     (IsDistinct-from_apart e xs (λ i j d below inside. ne_eqb _ _
-        (λ same. let lt = rising_places row xs up i j d below inside in omega arith))))
+    (λ same. let lt = rising_places row xs up i j d below inside in omega arith))))
     below inside
 
 heads : {A : Type 0} (row : A → ℕ) (x y : A) (xs ys : List A) → Rising row (x ∷ xs) → Rising row (y ∷ ys)
@@ -76,7 +76,7 @@ one_order row (x ∷ xs) [] up vp sub sup = absurd (sub x (inl refl))
 one_order row (x ∷ xs) (y ∷ ys) up vp sub sup =
     let same = heads row x y xs ys up vp (sub x (inl refl)) (sup y (inl refl)) in
     let rest = one_order row xs ys up.1 vp.1 (tails row x y xs ys up same sub)
-        (tails row y x ys xs vp (sym same) sup) in
+    (tails row y x ys xs vp (sym same) sup) in
     ap (λ (h : _). h ∷ ys) same ∙ ap (λ (t : List _). x ∷ t) rest
 
 pub moved_in : {A : Type 0} (xs ys : List A) → IsPermutation xs ys → (a : A) → IsIn a xs → IsIn a ys

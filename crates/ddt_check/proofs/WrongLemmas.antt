@@ -24,17 +24,22 @@ use Rattle.ddt_check.proofs.RegisterLemmas.{groups_up}
 least_wider : (t b : ℕ → Bool) (o : Option ℕ) → ((n : ℕ) → t n ≡ true → b n ≡ true)
     → ((n : ℕ) → b n ≡ true → (m : ℕ) × (m ≤ n) × (t m ≡ true)) → IsLeastRow t o → IsLeastRow b o
 least_wider t b None up down h = λ n. false_from_ne_true (b n) (λ e. let p = down n e in both_ways (t p.0) (h p.0) p.2)
-least_wider t b (Some x) up down h =
-    (up x h.0, λ n lt. false_from_ne_true (b n) (λ e. let p = down n e in both_ways (t p.0)
-        (h.1 p.0 (let le = p.1 in omega arith)) p.2))
+least_wider t b (Some x) up down h = (
+  up x h.0,
+  λ n lt. false_from_ne_true (b n) (λ e. let p = down n e in both_ways (t p.0)
+      (h.1 p.0 (let le = p.1 in omega arith)) p.2),
+)
 
 -- in rising rows the first item that passes stands in no higher row than another that does
 pub first_found : {A : Type 0} (row : A → ℕ) (test : A → Bool) (xs : List A) (h : A) → Rising row xs → IsIn h xs
     → test h ≡ true → (g : A) × (find test xs ≡ Some g) × (row g ≤ row h)
 first_found row test [] h up k e = absurd k
-first_found row test (x ∷ xs) h up (inl same) e =
-    (x, cond-true (test x) (Some x) (find test xs) (ap test (sym same) ∙ e), let q : row x ≡ row h = ap row
-        (sym same) in omega arith)
+first_found row test (x ∷ xs) h up (inl same) e = (
+  x,
+  cond-true (test x) (Some x) (find test xs) (ap test (sym same) ∙ e),
+  let q : row x ≡ row h = ap row
+      (sym same) in omega arith,
+)
 first_found {A} row test (x ∷ xs) h up (inr later) e = go (test x) refl (first_found row test xs h up.1 later e)
   where
     go : (b : Bool) → test x ≡ b → (g : A) × (find test xs ≡ Some g) × (row g ≤ row h)
@@ -126,7 +131,7 @@ alone_is_wrong false false false d e = absurd (false≢true e)
 wrong_alone_wrong : (r : Register) (g : Group) → is_wrong_alone g ≡ true → has_wrong_locators r g ≡ true
 wrong_alone_wrong r g e =
     alone_is_wrong (length g.locators == 0) (nat_lt 8 (length g.locators)) (has_repeat g.locators)
-        (earlier_group r g (λ h. share h.locators g.locators)) e
+    (earlier_group r g (λ h. share h.locators g.locators)) e
 
 -- the later of two groups that share a locator
 later_wrong : (r : Register) (h g : Group) (l : Locator) (n : ℕ) → IsIn h r.groups → IsIn g r.groups → h.row < g.row
@@ -134,13 +139,13 @@ later_wrong : (r : Register) (h g : Group) (l : Locator) (n : ℕ) → IsIn h r.
 later_wrong r h g l n j k lt first second same =
     let shared : share h.locators g.locators ≡ true =
     in_any (λ (x : Locator). lists g.locators x) h.locators l first
-        (in_any (λ (x : Locator). is_same_locator x l) g.locators l second (same_self l)) in
+    (in_any (λ (x : Locator). is_same_locator x l) g.locators l second (same_self l)) in
     let earlier : earlier_group r g (λ h. share h.locators g.locators) ≡ true =
     in_any (λ (h : Group). nat_lt h.row g.row && share h.locators g.locators) r.groups h j
     (and_from (nat_lt h.row g.row) (share h.locators g.locators) (lt-ltb h.row g.row lt) shared) in
     at_row r g n (has_wrong_locators r) k same
     (or_right (length g.locators == 0 || nat_lt 8 (length g.locators))
-        (has_repeat g.locators || earlier_group r g (λ h. share h.locators g.locators))
+    (has_repeat g.locators || earlier_group r g (λ h. share h.locators g.locators))
     (or_right (has_repeat g.locators) (earlier_group r g (λ h. share h.locators g.locators)) earlier))
 
 meets_wrong : (r : Register) (k : ℕ) (g : Group) (l : Locator) (n : ℕ) (found : Option Group) → first_in r k l ≡ found
@@ -204,8 +209,8 @@ met_behind r k h g f l j i lt in_h at e le =
     elim (cases_lt f.row g.row) [
       | inl before ↦
           met_by_first r k f g l (found_in test r.groups f e) i before
-              (key_same (slice_get f.locators k) l (found_passes test r.groups f e))
-              (in_drop g.locators k k l (omega arith) at)
+          (key_same (slice_get f.locators k) l (found_passes test r.groups f e))
+          (in_drop g.locators k k l (omega arith) at)
       | inr same ↦ met_at r k h f l g.row j in_h e (let apart : f.row ≢ h.row = omega arith in apart) (omega arith)
     ]
 
@@ -258,7 +263,7 @@ wrong_found r k within n e =
     let p = and_parts (g.row == n) (has_wrong_locators r g) f.2 in
     let at : g.row ≡ n = eqb-true g.row n p.0 in
     elim (split_wrong (length g.locators == 0) (nat_lt 8 (length g.locators)) (has_repeat g.locators)
-        (earlier_group r g (λ h. share h.locators g.locators)) p.1) [
+    (earlier_group r g (λ h. share h.locators g.locators)) p.1) [
       | inl alone ↦ (g.row, omega arith, alone_upto r k g.row (at_row r g g.row is_wrong_alone f.1 refl alone))
       | inr shared ↦
           let s = any_in (λ (h : Group). nat_lt h.row g.row && share h.locators g.locators) r.groups shared in

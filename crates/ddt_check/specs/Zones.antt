@@ -8,7 +8,7 @@ use Rattle.ddt_path.specs.declared.record.Role.{Role}
 use Rattle.ddt_path.specs.declared.record.Role.TheVariants.{Node, Ms}
 use Rattle.ddt_path.specs.Covers.{covers}
 use Rattle.ddt_path.specs.Locators.{lists}
-use Rattle.ddt_path.specs.Free.{longest_match, longer_of, shorter_of}
+use Rattle.ddt_path.specs.Free.{longest_match}
 use Rattle.ddt_register.specs.declared.zone.Zone.{Zone}
 use Rattle.ddt_register.specs.declared.site.Site.{Site}
 use Rattle.ddt_register.specs.declared.group.Group.{Group}
@@ -61,18 +61,3 @@ roots r = option_map_or (λ z. locators_of r z.group) (zone_of r []) []
 -- the zones whose group lists a locator, in the order of their rows
 abbrev pub served_zones : Register → Locator → List Zone
 served_zones r l = filter (λ z. lists (locators_of r z.group) l) r.zones
-
--- the longer of the zone so far and the next; of equal ones the first
-abbrev pub longer_so_far : Option Zone → Zone → Zone
-longer_so_far None z = z
-longer_so_far (Some y) z = longer_of (λ (w : Zone). w.prefix) y (Some z)
-
--- the longer of the site so far and the next; of equal ones the first
-abbrev pub longer_site_so_far : Option Site → Site → Site
-longer_site_so_far None s = s
-longer_site_so_far (Some t) s = longer_of (λ (w : Site). w.prefix) t (Some s)
-
--- the shorter of the zone so far and the next; of equal ones the first
-abbrev pub shorter_so_far : Option Zone → Zone → Zone
-shorter_so_far None z = z
-shorter_so_far (Some y) z = shorter_of (λ (w : Zone). w.prefix) y (Some z)

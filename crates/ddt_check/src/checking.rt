@@ -60,7 +60,11 @@ fn find_fault(register: Register) -> (Register, Option<Fault>)
 {
     let root = first_root_fault(&register);
     let etrs = first_etrs_fault(&register);
-    let Register { zones, sites, groups } = register;
+    let Register {
+        zones,
+        sites,
+        groups,
+    } = register;
     let mut zones = zones.into_vec();
     let mut sites = sites.into_vec();
     let mut groups = groups.into_vec();
@@ -87,11 +91,9 @@ fn sort_and_test(
     ensures zones { zones.new ≡ zones.old }
     ensures sites { sites.new ≡ sites.old }
     ensures groups { groups.new ≡ groups.old }
-    ensures fault {
-        (r : ARegister) → (r.zones ≡ zones.old) → (r.sites ≡ sites.old) → (r.groups ≡ groups.old)
+    ensures fault { (r : ARegister) → (r.zones ≡ zones.old) → (r.sites ≡ sites.old) → (r.groups ≡ groups.old)
         → IsLeastRow (broken r Rule.NoRoot) root → IsLeastRow (broken r Rule.TooManyEtrs) etrs
-        → MatchOption result (IsAccepted r) (λ f. IsLeastFault r f.rule f.row)
-    }
+        → MatchOption result (IsAccepted r) (λ f. IsLeastFault r f.rule f.row) }
 {
     sort_zones(zones);
     sort_sites(sites);
@@ -114,10 +116,8 @@ fn first_fault(found: &Found, zones: &[Zone], sites: &[Site], groups: &[Group]) 
     requires zones { AreZonesInOrder zones.now }
     requires sites { AreSitesInOrder sites.now }
     requires groups { AreGroupsInOrder groups.now }
-    ensures {
-        (r : ARegister) → AreReordered r zones.now sites.now groups.now → AreLeast r found.now
-        → MatchOption result (IsAccepted r) (λ f. IsLeastFault r f.rule f.row)
-    }
+    ensures { (r : ARegister) → AreReordered r zones.now sites.now groups.now → AreLeast r found.now
+        → MatchOption result (IsAccepted r) (λ f. IsLeastFault r f.rule f.row) }
 {
     for rule in RULES {
         if let Some(row) = first_row(found, zones, sites, groups, rule) {
@@ -138,10 +138,8 @@ fn first_row(
     requires zones { AreZonesInOrder zones.now }
     requires sites { AreSitesInOrder sites.now }
     requires groups { AreGroupsInOrder groups.now }
-    ensures {
-        (r : ARegister) → AreReordered r zones.now sites.now groups.now → AreLeast r found.now → AreEarlierKept r rule
-        → IsLeastRow (broken r rule) result
-    }
+    ensures { (r : ARegister) → AreReordered r zones.now sites.now groups.now → AreLeast r found.now → AreEarlierKept r rule
+        → IsLeastRow (broken r rule) result }
 {
     match rule {
         Rule::NoRoot => found.root,

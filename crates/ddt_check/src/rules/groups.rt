@@ -37,10 +37,8 @@ fn has_same_name(a: &Group, b: &Group) -> bool
 fn repeats(groups: &[Group], at: usize) -> bool
     requires inside { at < length groups.now }
     requires sorted { AreGroupsInOrder groups.now }
-    ensures {
-        (r : ARegister) (d : AGroup) → IsPermutation r.groups groups.now
-        → result ≡ is_duplicate_group r (slice_index_or groups.now at d)
-    }
+    ensures { (r : ARegister) (d : AGroup) → IsPermutation r.groups groups.now
+        → result ≡ is_duplicate_group r (slice_index_or groups.now at d) }
 {
     if at == 0 {
         return false;

@@ -41,10 +41,8 @@ fn has_same_prefix(a: &Site, b: &Site) -> bool
 fn repeats(sites: &[Site], at: usize) -> bool
     requires inside { at < length sites.now }
     requires sorted { AreSitesInOrder sites.now }
-    ensures {
-        (r : ARegister) (d : ASite) → IsPermutation r.sites sites.now
-        → result ≡ is_duplicate_site r (slice_index_or sites.now at d)
-    }
+    ensures { (r : ARegister) (d : ASite) → IsPermutation r.sites sites.now
+        → result ≡ is_duplicate_site r (slice_index_or sites.now at d) }
 {
     if at == 0 {
         return false;
@@ -77,10 +75,8 @@ fn is_right(z: &Zone, s: &Site) -> bool
 /// Map-Servers, the last zone that stands up to the site's prefix tells.
 fn is_outside(zones: &[Zone], s: &Site) -> bool
     requires { AreZonesInOrder zones.now }
-    ensures {
-        (r : ARegister) → IsPermutation r.zones zones.now → IsKept r Rule.DuplicateZone → IsKept r Rule.BelowMapServer
-        → result ≡ is_outside_of r s.now
-    }
+    ensures { (r : ARegister) → IsPermutation r.zones zones.now → IsKept r Rule.DuplicateZone → IsKept r Rule.BelowMapServer
+        → result ≡ is_outside_of r s.now }
 {
     let after = zones.partition_point(|z| z.prefix <= s.prefix);
     if after == 0 {
@@ -92,10 +88,8 @@ fn is_outside(zones: &[Zone], s: &Site) -> bool
 /// The least row of a site whose longest covering zone isn't of Map-Servers.
 pub fn outside(sites: &[Site], zones: &[Zone]) -> Option<u32>
     requires { AreZonesInOrder zones.now }
-    ensures {
-        (r : ARegister) → IsPermutation r.sites sites.now → IsPermutation r.zones zones.now
-        → IsKept r Rule.DuplicateZone → IsKept r Rule.BelowMapServer → IsLeastRow (broken r Rule.SiteOutside) result
-    }
+    ensures { (r : ARegister) → IsPermutation r.sites sites.now → IsPermutation r.zones zones.now
+        → IsKept r Rule.DuplicateZone → IsKept r Rule.BelowMapServer → IsLeastRow (broken r Rule.SiteOutside) result }
 {
     let mut least = None;
     for s in sites {

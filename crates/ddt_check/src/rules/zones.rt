@@ -68,10 +68,8 @@ fn has_same_prefix(a: &Zone, b: &Zone) -> bool
 fn repeats(zones: &[Zone], at: usize) -> bool
     requires inside { at < length zones.now }
     requires sorted { AreZonesInOrder zones.now }
-    ensures {
-        (r : ARegister) (d : AZone) → IsPermutation r.zones zones.now
-        → result ≡ is_duplicate_zone r (slice_index_or zones.now at d)
-    }
+    ensures { (r : ARegister) (d : AZone) → IsPermutation r.zones zones.now
+        → result ≡ is_duplicate_zone r (slice_index_or zones.now at d) }
 {
     if at == 0 {
         return false;

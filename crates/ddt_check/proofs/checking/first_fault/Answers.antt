@@ -9,7 +9,7 @@ pub returns-in-Some : goal.returns-in-Some
 returns-in-Some c = λ r moved found.
     let so_far = c.loop-rule.invariant r moved found in
     let f = c.in-Some.ensures r moved found (λ earlier n lt. so_far earlier n
-        (up_to earlier c.loop-rule.rule-index _ c.loop-rule-test.true lt)) in
+    (up_to earlier c.loop-rule.rule-index _ c.loop-rule-test.true lt)) in
     record {
       breaks = f.0;
       least_rule = λ earlier n lt. so_far earlier n (up_to earlier c.loop-rule.rule-index _ c.loop-rule-test.true lt);
@@ -20,7 +20,7 @@ pub loop-rule-preserved : goal.loop-rule-preserved
 loop-rule-preserved c = λ r moved found earlier n le.
     let so_far = c.loop-rule.invariant r moved found in
     let f = c.in_default.ensures r moved found (λ earlier n lt. so_far earlier n
-        (up_to earlier c.loop-rule.rule-index _ c.loop-rule-test.true lt)) in
+    (up_to earlier c.loop-rule.rule-index _ c.loop-rule-test.true lt)) in
     elim (cases_lt c.loop-rule.rule-index (rule_number earlier)) [
       | inl here ↦ subst (λ (rule : Rule). broken r rule n ≡ false)
           (same_at earlier c.loop-rule.rule-index _ (omega arith)) (f n)

@@ -25,5 +25,5 @@ returns-clause-fault c = λ r z s g root etrs.
       root = root;
       etrs = etrs;
       locators = c.wrong_locators-locators.ensures.least r (subst (λ (xs : List Group). IsPermutation xs groups)
-          (sym g) (IsPermutation-refl groups))
+          (sym g) (IsPermutation-refl groups));
     })

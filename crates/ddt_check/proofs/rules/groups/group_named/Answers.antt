@@ -20,12 +20,12 @@ returns-then-eq c = λ r moved.
     let at = c.partition_point-at.result in
     let name = c.args.name in
     let point = IsPartitionPoint-from_clause (is_below key group_row xs c.requires name) xs at
-        c.partition_point-at.ensures.partitioned (parted key group_row xs c.requires name)
-        (λ a r q k. search rules) in
+    c.partition_point-at.ensures.partitioned (parted key group_row xs c.requires name)
+    (λ a r q k. search rules) in
     let g = c.index-groups-at-then-eq.result in
     let d = c.index-groups-at.result in
     let e : is_same_path (get_or xs at g).name name ≡ true = ap (λ (x : Group). is_same_path x.name name)
-        (get_or-same xs at g d c.if-at-groups.true) ∙ sym c.eq.ensures ∙ c.if-eq.true in
+    (get_or-same xs at g d c.if-at-groups.true) ∙ sym c.eq.ensures ∙ c.if-eq.true in
     ap (λ (x : Group). Some x) c.index-groups-at-then-eq.is
     ∙ sym (found_key key group_row xs c.requires name r.groups (groups_up r) moved at point g c.if-at-groups.true e)
 
@@ -35,8 +35,8 @@ returns c = λ r moved.
     let at = c.partition_point-at.result in
     let name = c.args.name in
     let point = IsPartitionPoint-from_clause (is_below key group_row xs c.requires name) xs at
-        c.partition_point-at.ensures.partitioned (parted key group_row xs c.requires name)
-        (λ a r q k. search rules) in
+    c.partition_point-at.ensures.partitioned (parted key group_row xs c.requires name)
+    (λ a r q k. search rules) in
     elim c.else-at-groups.branch [
       | else-at-groups-via-then-at-groups+else-eq w ↦ sym (no_key_at key group_row xs c.requires name r.groups
           (groups_up r) moved at point w.index-groups-at.result w.if-at-groups.true

@@ -19,8 +19,8 @@ pub returns-then-at-eq0 : goal.returns-then-at-eq0
 returns-then-at-eq0 c = λ r d moved.
     let zero : c.args.at ≡ 0 = c.if-at-eq0.true in
     sym (ap (λ (k : ℕ). is_duplicate_group r (get_or c.args.groups.now k d)) zero ∙ has_earlier-first prefix group_row
-        c.args.groups.now c.requires.sorted r.groups (groups_up r) moved d
-        (let lt : c.args.at < length c.args.groups.now = c.requires.inside in omega arith))
+    c.args.groups.now c.requires.sorted r.groups (groups_up r) moved d
+    (let lt : c.args.at < length c.args.groups.now = c.requires.inside in omega arith))
 
 pub returns : goal.returns
 returns c = λ r d moved.
@@ -31,10 +31,10 @@ returns c = λ r d moved.
     let y = c.index-groups-at-2.result in
     c.has_same_name.ensures
     ∙ ap (λ (z : Group). is_same_path z.name y.name) (c.index-groups-at.is ∙ get_or-same groups (c.args.at - 1) x d
-        (omega arith))
+    (omega arith))
     ∙ ap (λ (z : Group). is_same_path (get_or groups (c.args.at - 1) d).name z.name)
-        (c.index-groups-at-2.is ∙ get_or-same groups c.args.at y d at)
+    (c.index-groups-at-2.is ∙ get_or-same groups c.args.at y d at)
     ∙ ap (λ (k : ℕ). is_same_path (get_or groups (c.args.at - 1) d).name (get_or groups k d).name) up
     ∙ has_earlier-beside prefix group_row groups c.requires.sorted r.groups (groups_up r) moved (c.args.at - 1) d
-        (omega arith)
+    (omega arith)
     ∙ ap (λ (k : ℕ). is_duplicate_group r (get_or groups k d)) (sym up)

@@ -11,9 +11,9 @@ loop-l-preserved c = λ r moved.
     let xs = c.locators_from-locators.result.now in
     let i = c.loop-l.l-index in
     least_next (λ (x : Locator). meets_at r c.args.column c.args.g.now x) xs i (get_or xs i (V4 0)) c.loop-l.least
-        c.meeting_row.result c.lower_of-least.result
+    c.meeting_row.result c.lower_of-least.result
     c.loop-l-test.true (get_or-same xs i (V4 0) (get_or xs i (V4 0)) c.loop-l-test.true)
-        (c.meeting_row.ensures r moved) c.lower_of-least.ensures (c.loop-l.invariant r moved)
+    (c.meeting_row.ensures r moved) c.lower_of-least.ensures (c.loop-l.invariant r moved)
 
 pub returns : goal.returns
 returns c = λ r moved.
@@ -21,4 +21,4 @@ returns c = λ r moved.
     subst (λ (ls : List Locator). IsLeastRow (any_at at ls) c.loop-l.least)
     (c.locators_from-locators.ensures ∙ ap (drop c.args.column) c.as_slice.ensures)
     (least_walked at c.locators_from-locators.result.now c.loop-l.l-index c.loop-l.least c.loop-l.auto.l-index-end
-        c.loop-l-test.false (c.loop-l.invariant r moved))
+    c.loop-l-test.false (c.loop-l.invariant r moved))

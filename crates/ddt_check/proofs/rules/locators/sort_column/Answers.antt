@@ -9,4 +9,4 @@ pub returns-clause-sorted : goal.returns-clause-sorted
 returns-clause-sorted c =
     in_order_by_pairs (column_pair c.args.column) (λ (g : Group). g.row) _
     (c.sort_unstable_by_key.ensures.sorted (λ (g : Group). (column_pair c.args.column g, g.row))
-        (always_returns_same _ _ _ (λ a r g h. search rules)))
+    (always_returns_same _ _ _ (λ a r g h. search rules)))

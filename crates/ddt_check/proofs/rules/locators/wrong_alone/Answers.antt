@@ -14,15 +14,15 @@ loop-g-preserved c = λ r moved.
     elim c.if-is_wrong_alone.branch [
       | then-is_wrong_alone w ↦ rw w.least-is
           (least_more item_row (is_wrong_alone) groups c.loop-g.g-index c.g-item.result c.loop-g.least w.lower.result
-              c.loop-g-test.true c.g-item.is (sym (c.is_wrong_alone.ensures) ∙ w.if-is_wrong_alone.true)
-              w.lower.ensures (c.loop-g.invariant r moved))
+          c.loop-g-test.true c.g-item.is (sym (c.is_wrong_alone.ensures) ∙ w.if-is_wrong_alone.true)
+          w.lower.ensures (c.loop-g.invariant r moved))
       | else-is_wrong_alone w ↦ rw w.least-is
           (least_same item_row (is_wrong_alone) groups c.loop-g.g-index c.g-item.result c.loop-g.least
-              c.loop-g-test.true c.g-item.is (sym (c.is_wrong_alone.ensures) ∙ w.if-is_wrong_alone.false)
-              (c.loop-g.invariant r moved))
+          c.loop-g-test.true c.g-item.is (sym (c.is_wrong_alone.ensures) ∙ w.if-is_wrong_alone.false)
+          (c.loop-g.invariant r moved))
     ]
 
 pub returns : goal.returns
 returns c = λ r moved.
     least_of_all item_row (is_wrong_alone) r.groups c.args.groups.now c.loop-g.g-index c.loop-g.least moved
-        c.loop-g.auto.g-index-end c.loop-g-test.false (c.loop-g.invariant r moved)
+    c.loop-g.auto.g-index-end c.loop-g-test.false (c.loop-g.invariant r moved)

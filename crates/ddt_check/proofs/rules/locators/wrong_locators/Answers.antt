@@ -26,7 +26,7 @@ returns-then-not-has_column-clause-least c = λ r from.
     let k = c.loop-column.column in
     let longer = λ (g : Group). nat_lt k (length g.locators) in
     let none : _ = list_any-IsPermutation longer r.groups _ (IsPermutation-trans _ _ _ from
-        c.loop-column.invariant.moved) ∙ sym c.has_column.ensures ∙ c.if-not-has_column.true in
+    c.loop-column.invariant.moved) ∙ sym c.has_column.ensures ∙ c.if-not-has_column.true in
     least_wrong r k c.loop-column.least (within_none r k none) (c.loop-column.invariant.rows r from)
 
 pub returns-clause-least : goal.returns-clause-least
@@ -35,4 +35,4 @@ returns-clause-least c = λ r from.
     let down = c.loop-column-test.false in
     let all : c.loop-column.column ≡ 8 = omega arith in
     least_wrong r 8 c.loop-column.least (within_8 r) (subst
-        (λ (k : ℕ). IsLeastRow (wrong_upto r k) c.loop-column.least) all (c.loop-column.invariant.rows r from))
+    (λ (k : ℕ). IsLeastRow (wrong_upto r k) c.loop-column.least) all (c.loop-column.invariant.rows r from))

@@ -19,8 +19,8 @@ pub returns-then-at-eq0 : goal.returns-then-at-eq0
 returns-then-at-eq0 c = λ r d moved.
     let zero : c.args.at ≡ 0 = c.if-at-eq0.true in
     sym (ap (λ (k : ℕ). is_duplicate_site r (get_or c.args.sites.now k d)) zero ∙ has_earlier-first prefix site_row
-        c.args.sites.now c.requires.sorted r.sites (sites_up r) moved d
-        (let lt : c.args.at < length c.args.sites.now = c.requires.inside in omega arith))
+    c.args.sites.now c.requires.sorted r.sites (sites_up r) moved d
+    (let lt : c.args.at < length c.args.sites.now = c.requires.inside in omega arith))
 
 pub returns : goal.returns
 returns c = λ r d moved.
@@ -31,10 +31,10 @@ returns c = λ r d moved.
     let y = c.index-sites-at-2.result in
     c.has_same_prefix.ensures
     ∙ ap (λ (s : Site). is_same_path s.prefix y.prefix) (c.index-sites-at.is ∙ get_or-same sites (c.args.at - 1) x d
-        (omega arith))
+    (omega arith))
     ∙ ap (λ (s : Site). is_same_path (get_or sites (c.args.at - 1) d).prefix s.prefix)
-        (c.index-sites-at-2.is ∙ get_or-same sites c.args.at y d at)
+    (c.index-sites-at-2.is ∙ get_or-same sites c.args.at y d at)
     ∙ ap (λ (k : ℕ). is_same_path (get_or sites (c.args.at - 1) d).prefix (get_or sites k d).prefix) up
     ∙ has_earlier-beside prefix site_row sites c.requires.sorted r.sites (sites_up r) moved (c.args.at - 1) d
-        (omega arith)
+    (omega arith)
     ∙ ap (λ (k : ℕ). is_duplicate_site r (get_or sites k d)) (sym up)

@@ -30,15 +30,15 @@ loop-z-preserved c =
           let same : c.is_under.result ≡ is_below_map_server r w =
           c.is_under.ensures ∙ under_is zones c.requires i top w c.loop-z-test.true c.z-item.is state
           ∙ sym (list_any-IsPermutation (λ (y : Zone). is_ms y.kind && is_strictly_below w.prefix y.prefix) r.zones
-              zones moved) in
+          zones moved) in
           elim c.if-is_under.branch [
             | then-is_under v ↦ rw v.least-is
                 (least_more zone_row (is_below_map_server r) zones i w c.loop-z.least v.lower.result
-                    c.loop-z-test.true c.z-item.is (sym same ∙ v.if-is_under.true) v.lower.ensures
-                    (c.loop-z.invariant.rows r moved))
+                c.loop-z-test.true c.z-item.is (sym same ∙ v.if-is_under.true) v.lower.ensures
+                (c.loop-z.invariant.rows r moved))
             | else-is_under v ↦ rw v.least-is
                 (least_same zone_row (is_below_map_server r) zones i w c.loop-z.least c.loop-z-test.true c.z-item.is
-                    (sym same ∙ v.if-is_under.false) (c.loop-z.invariant.rows r moved))
+                (sym same ∙ v.if-is_under.false) (c.loop-z.invariant.rows r moved))
           ];
       top = elim c.if-is_top.branch [
         | then-is_top v ↦ rw v.top-is (top_new zones c.requires i top w c.loop-z-test.true c.z-item.is state
@@ -51,4 +51,4 @@ loop-z-preserved c =
 pub returns : goal.returns
 returns c = λ r moved.
     least_of_all zone_row (is_below_map_server r) r.zones c.args.zones.now c.loop-z.z-index c.loop-z.least moved
-        c.loop-z.auto.z-index-end c.loop-z-test.false (c.loop-z.invariant.rows r moved)
+    c.loop-z.auto.z-index-end c.loop-z-test.false (c.loop-z.invariant.rows r moved)

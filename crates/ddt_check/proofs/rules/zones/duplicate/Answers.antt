@@ -16,7 +16,7 @@ loop-at-preserved c = λ r moved.
       | then-repeats w ↦ rw w.least-is
           (let d = w.index-zones-at.result in
           least_at zone_row (is_duplicate_zone r) zones c.loop-at.at d c.loop-at.least w.lower.result
-              c.loop-at-test.true
+          c.loop-at-test.true
           (sym (c.repeats.ensures r d moved) ∙ w.if-repeats.true)
           w.lower.ensures (c.loop-at.invariant r moved))
       | else-repeats w ↦ rw w.least-is
@@ -27,4 +27,4 @@ loop-at-preserved c = λ r moved.
 pub returns : goal.returns
 returns c = λ r moved.
     least_of_all zone_row (is_duplicate_zone r) r.zones c.args.zones.now c.loop-at.at c.loop-at.least moved
-        c.loop-at.auto.at-end c.loop-at-test.false (c.loop-at.invariant r moved)
+    c.loop-at.auto.at-end c.loop-at-test.false (c.loop-at.invariant r moved)

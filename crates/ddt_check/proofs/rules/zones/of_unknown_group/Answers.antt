@@ -14,15 +14,15 @@ loop-z-preserved c = λ r moved grouped.
     elim c.if-is_of_unknown_group.branch [
       | then-is_of_unknown_group w ↦ rw w.least-is
           (least_more item_row (is_of_unknown_group r) zones c.loop-z.z-index c.z-item.result c.loop-z.least
-              w.lower.result c.loop-z-test.true c.z-item.is (sym (c.is_of_unknown_group.ensures r grouped) ∙
-              w.if-is_of_unknown_group.true) w.lower.ensures (c.loop-z.invariant r moved grouped))
+          w.lower.result c.loop-z-test.true c.z-item.is (sym (c.is_of_unknown_group.ensures r grouped) ∙
+          w.if-is_of_unknown_group.true) w.lower.ensures (c.loop-z.invariant r moved grouped))
       | else-is_of_unknown_group w ↦ rw w.least-is
           (least_same item_row (is_of_unknown_group r) zones c.loop-z.z-index c.z-item.result c.loop-z.least
-              c.loop-z-test.true c.z-item.is (sym (c.is_of_unknown_group.ensures r grouped) ∙
-              w.if-is_of_unknown_group.false) (c.loop-z.invariant r moved grouped))
+          c.loop-z-test.true c.z-item.is (sym (c.is_of_unknown_group.ensures r grouped) ∙
+          w.if-is_of_unknown_group.false) (c.loop-z.invariant r moved grouped))
     ]
 
 pub returns : goal.returns
 returns c = λ r moved grouped.
     least_of_all item_row (is_of_unknown_group r) r.zones c.args.zones.now c.loop-z.z-index c.loop-z.least moved
-        c.loop-z.auto.z-index-end c.loop-z-test.false (c.loop-z.invariant r moved grouped)
+    c.loop-z.auto.z-index-end c.loop-z-test.false (c.loop-z.invariant r moved grouped)

@@ -19,8 +19,8 @@ pub returns-then-at-eq0 : goal.returns-then-at-eq0
 returns-then-at-eq0 c = λ r d moved.
     let zero : c.args.at ≡ 0 = c.if-at-eq0.true in
     sym (ap (λ (k : ℕ). is_duplicate_zone r (get_or c.args.zones.now k d)) zero ∙ has_earlier-first prefix zone_row
-        c.args.zones.now c.requires.sorted r.zones (zones_up r) moved d
-        (let lt : c.args.at < length c.args.zones.now = c.requires.inside in omega arith))
+    c.args.zones.now c.requires.sorted r.zones (zones_up r) moved d
+    (let lt : c.args.at < length c.args.zones.now = c.requires.inside in omega arith))
 
 pub returns : goal.returns
 returns c = λ r d moved.
@@ -31,10 +31,10 @@ returns c = λ r d moved.
     let y = c.index-zones-at-2.result in
     c.has_same_prefix.ensures
     ∙ ap (λ (z : Zone). is_same_path z.prefix y.prefix) (c.index-zones-at.is ∙ get_or-same zones (c.args.at - 1) x d
-        (omega arith))
+    (omega arith))
     ∙ ap (λ (z : Zone). is_same_path (get_or zones (c.args.at - 1) d).prefix z.prefix)
-        (c.index-zones-at-2.is ∙ get_or-same zones c.args.at y d at)
+    (c.index-zones-at-2.is ∙ get_or-same zones c.args.at y d at)
     ∙ ap (λ (k : ℕ). is_same_path (get_or zones (c.args.at - 1) d).prefix (get_or zones k d).prefix) up
     ∙ has_earlier-beside prefix zone_row zones c.requires.sorted r.zones (zones_up r) moved (c.args.at - 1) d
-        (omega arith)
+    (omega arith)
     ∙ ap (λ (k : ℕ). is_duplicate_zone r (get_or zones k d)) (sym up)

@@ -12,7 +12,8 @@ use Rattle.ddt_register.specs.declared.register.Register.{Register}
 use Rattle.ddt_check.specs.declared.fault.Rule.{Rule}
 use Rattle.ddt_check.specs.declared.fault.Rule.TheVariants as rules
 use Rattle.ddt_path.specs.Locators.{lists}
-use Rattle.ddt_check.specs.Zones.{is_ms, is_same_role, is_same_name, zone_of, group_named}
+use Rattle.ddt_path.specs.Names.{is_same_name}
+use Rattle.ddt_check.specs.Zones.{is_ms, is_same_role, zone_of, group_named}
 
 -- some zone, site or group stands in the row and passes the test
 abbrev pub zone_at : Register → ℕ → (Zone → Bool) → Bool

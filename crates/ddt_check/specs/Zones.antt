@@ -1,13 +1,13 @@
 -- What is looked up in a register: a zone of an identifier, a group of a name, the locators of a group, served zones.
-use Rattle.std.specs.Prelude.{ℕ, Bool, true, false, ◌==◌, List, [], find, Option, None, Some}
+use Rattle.std.specs.Prelude.{ℕ, Bool, true, false, List, [], find, Option, None, Some}
 use Rattle.std.specs.List.{filter}
 use Rattle.std.specs.Option.{option_map_or}
-use Rattle.std.specs.Cmp.Lexicographic.{pointwise}
 use Rattle.ddt_path.specs.declared.locator.Locator.{Locator}
 use Rattle.ddt_path.specs.declared.record.Role.{Role}
 use Rattle.ddt_path.specs.declared.record.Role.TheVariants.{Node, Ms}
 use Rattle.ddt_path.specs.Covers.{covers}
 use Rattle.ddt_path.specs.Locators.{lists}
+use Rattle.ddt_path.specs.Names.{is_same_name}
 use Rattle.ddt_path.specs.Free.{longest_match}
 use Rattle.ddt_register.specs.declared.zone.Zone.{Zone}
 use Rattle.ddt_register.specs.declared.site.Site.{Site}
@@ -23,9 +23,6 @@ is_same_role Node Node = true
 is_same_role Ms Ms = true
 is_same_role Node Ms = false
 is_same_role Ms Node = false
-
-abbrev pub is_same_name : List ℕ → List ℕ → Bool
-is_same_name a b = pointwise ◌==◌ a b
 
 -- The zone of a path: the longest zone that covers it. An accepted register has one, and one alone, for each
 -- identifier; of another register this is the first of the longest.

@@ -7,7 +7,8 @@ use Rattle.std.proofs.lemmas.Bool.{or_parts, eq-eqb, ltb-false}
 use Rattle.ddt_register.specs.declared.group.Group.{Group}
 use Rattle.ddt_register.specs.declared.register.Register.{Register}
 use Rattle.ddt_check.specs.declared.fault.Rule.TheVariants as rules
-use Rattle.ddt_check.specs.Zones.{is_same_name, group_named, locators_of}
+use Rattle.ddt_path.specs.Names.{is_same_name}
+use Rattle.ddt_check.specs.Zones.{group_named, locators_of}
 use Rattle.ddt_check.specs.Rules.{IsAccepted, has_wrong_locators}
 
 abbrev some : {A : Type 0} → A → Option A

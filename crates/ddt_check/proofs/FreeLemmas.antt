@@ -14,7 +14,7 @@ use Rattle.ddt_path.specs.declared.record.Outcome.TheVariants.{Registered, NotRe
 use Rattle.ddt_path.specs.declared.record.ReferralRecord.{ReferralRecord}
 use Rattle.ddt_path.specs.Records.{record_of, not_authoritative}
 use Rattle.ddt_path.specs.Covers.{covers, is_strictly_below}
-use Rattle.ddt_path.specs.Free.{free, longest_match}
+use Rattle.ddt_path.specs.Free.{free, longest_match, hole_of}
 use Rattle.ddt_path.specs.Path.{are_binary, is_address_part, is_address_front, is_path, is_prefix_path}
 use Rattle.ddt_path.proofs.CoverLemmas.{length-covered}
 use Rattle.ddt_path.proofs.HoleLemmas.{none_free_covered}
@@ -28,8 +28,9 @@ use Rattle.ddt_register.specs.declared.register.Register.{Register}
 use Rattle.ddt_register.specs.Ranges.{is_zone_in_range, is_site_in_range, is_group_in_range, are_locators}
 use Rattle.ddt_register.proofs.RangeLemmas.{zones_in_range, sites_in_range, groups_in_range}
 use Rattle.ddt_register.proofs.RangeLemmas as range
-use Rattle.ddt_check.specs.Zones.{is_same_name, zone_of, site_of, group_named, locators_of, served_zones}
-use Rattle.ddt_check.specs.Assignment.{assignment, assigned_in, assigned_site, hole_of, part_of_site, prefixes_in, prefixes_below_site}
+use Rattle.ddt_path.specs.Names.{is_same_name}
+use Rattle.ddt_check.specs.Zones.{zone_of, site_of, group_named, locators_of, served_zones}
+use Rattle.ddt_check.specs.Assignment.{assignment, assigned_in, assigned_site, part_of_site, prefixes_in, prefixes_below_site}
 use Rattle.ddt_check.specs.Says.{referral_to, next_zone, says_from, says}
 use Rattle.ddt_check.specs.Rules.{IsAccepted}
 use Rattle.ddt_check.specs.Laws.{IsPartOfItsSite, IsSendable}

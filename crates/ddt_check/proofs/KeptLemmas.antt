@@ -15,7 +15,8 @@ use Rattle.ddt_register.specs.declared.site.Site.{Site}
 use Rattle.ddt_register.specs.declared.group.Group.{Group}
 use Rattle.ddt_register.specs.declared.register.Register.{Register}
 use Rattle.ddt_check.specs.declared.fault.Rule.TheVariants as rules
-use Rattle.ddt_check.specs.Zones.{is_same_role, is_same_name, group_named, is_served_by}
+use Rattle.ddt_path.specs.Names.{is_same_name}
+use Rattle.ddt_check.specs.Zones.{is_same_role, group_named, is_served_by}
 use Rattle.ddt_check.specs.Rules.{IsAccepted, is_duplicate_zone, is_duplicate_site, is_of_other_role, has_too_many_etrs, is_duplicate_group}
 use Rattle.ddt_path.proofs.MemberLemmas.{IsIn, fails_at}
 use Rattle.ddt_register.proofs.RisingLemmas.{rule_kept, found_first, groups_rise, earlier_fails}

@@ -8,9 +8,9 @@ use Rattle.ddt_register.specs.declared.zone.Zone.{Zone}
 use Rattle.ddt_register.specs.declared.site.Site.{Site}
 use Rattle.ddt_register.specs.declared.group.Group.{Group}
 use Rattle.ddt_register.specs.declared.register.Register.{Register}
-use Rattle.ddt_register.specs.Rows.{rise, zone_rows, site_rows, group_rows}
+use Rattle.ddt_register.specs.Rows.{rise, zone_rows, site_rows, group_rows, first_row}
 use Rattle.ddt_check.specs.declared.fault.Rule.TheVariants as rules
-use Rattle.ddt_check.specs.Rules.{IsLeastRow, zone_at, site_at, group_at, first_zone, first_site, first_group, broken, is_root, is_wrong_root}
+use Rattle.ddt_check.specs.Rules.{IsLeastRow, zone_at, site_at, group_at, broken, is_root, is_wrong_root}
 
 pub IsLeastRow-same : (t u : ℕ → Bool) (found : Option ℕ) → ((n : ℕ) → t n ≡ u n) → IsLeastRow u found
     → IsLeastRow t found
@@ -34,21 +34,21 @@ module _ {A : Type 0} (row : A → ℕ) (test : A → Bool) where
   failed z items e n = ap (λ (b : Bool). b || item_at items n) (and_right (row z == n) (test z) e)
 
   pub least_item : (last : ℕ) (items : List A) → rise last (map row items) ≡ true
-      → IsLeastRow (item_at items) (option_map row (find test items))
+      → IsLeastRow (item_at items) (first_row row test items)
   least_item last [] h = λ n. refl
   least_item last (z ∷ items) h =
       let tail = (and_parts (nat_lt last (row z) && nat_le (row z) 65535) (rise (row z) (map row items)) h).1 in
       go (test z) refl tail (least_item (row z) items tail)
     where
       go : (b : Bool) → test z ≡ b → rise (row z) (map row items) ≡ true
-          → IsLeastRow (item_at items) (option_map row (find test items))
+          → IsLeastRow (item_at items) (first_row row test items)
           → IsLeastRow (item_at (z ∷ items)) (option_map row (cond b (Some z) (find test items)))
       go true e tail rest = (
         rw (eq-eqb (row z) (row z) refl, e) refl,
         λ n lt. let apart : row z ≢ n = omega arith in
             rw (ne_eqb (row z) n apart) (none_below (row z) n items (omega arith) tail),
       )
-      go false e tail rest = IsLeastRow-same (item_at (z ∷ items)) (item_at items) (option_map row (find test items))
+      go false e tail rest = IsLeastRow-same (item_at (z ∷ items)) (item_at items) (first_row row test items)
           (failed z items e) rest
 
 zones_rise : (r : Register) → rise 0 (zone_rows r.zones) ≡ true
@@ -60,17 +60,17 @@ sites_rise r = (and_parts _ _ (and_parts _ _ (and_parts _ _ r.rows).0).1).0
 groups_rise : (r : Register) → rise 0 (group_rows r.groups) ≡ true
 groups_rise r = (and_parts _ _ (and_parts _ _ (and_parts _ _ r.rows).0).1).1
 
-pub least_zone : (r : Register) (test : Zone → Bool) → IsLeastRow (λ n. zone_at r n test) (first_zone r test)
+pub least_zone : (r : Register) (test : Zone → Bool) → IsLeastRow (λ n. zone_at r n test) (first_row (λ (z : Zone). z.row) test r.zones)
 least_zone r test = least_item (λ (z : Zone). z.row) test 0 r.zones (zones_rise r)
 
-pub least_site : (r : Register) (test : Site → Bool) → IsLeastRow (λ n. site_at r n test) (first_site r test)
+pub least_site : (r : Register) (test : Site → Bool) → IsLeastRow (λ n. site_at r n test) (first_row (λ (s : Site). s.row) test r.sites)
 least_site r test = least_item (λ (s : Site). s.row) test 0 r.sites (sites_rise r)
 
-pub least_group : (r : Register) (test : Group → Bool) → IsLeastRow (λ n. group_at r n test) (first_group r test)
+pub least_group : (r : Register) (test : Group → Bool) → IsLeastRow (λ n. group_at r n test) (first_row (λ (g : Group). g.row) test r.groups)
 least_group r test = least_item (λ (g : Group). g.row) test 0 r.groups (groups_rise r)
 
 pub least_root : (r : Register) → list_any is_root r.zones ≡ true
-    → IsLeastRow (broken r rules.NoRoot) (first_zone r (is_wrong_root r))
+    → IsLeastRow (broken r rules.NoRoot) (first_row (λ (z : Zone). z.row) (is_wrong_root r) r.zones)
 least_root r e = IsLeastRow-same (broken r rules.NoRoot) (λ n. zone_at r n (is_wrong_root r))
-    (first_zone r (is_wrong_root r)) (λ n. cond-true (list_any is_root r.zones) _ _ e)
+    (first_row (λ (z : Zone). z.row) (is_wrong_root r) r.zones) (λ n. cond-true (list_any is_root r.zones) _ _ e)
     (least_zone r (is_wrong_root r))

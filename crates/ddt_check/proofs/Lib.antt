@@ -1,4 +1,3 @@
-pub mod MatchLemmas
 pub mod ZoneLemmas
 pub mod LeastRowLemmas
 pub mod AcceptedLemmas

@@ -15,7 +15,7 @@ use Rattle.ddt_path.specs.declared.record.Outcome.{Outcome}
 use Rattle.ddt_path.specs.declared.record.Outcome.TheVariants.{Registered, NotRegistered, Hole}
 use Rattle.ddt_path.specs.Records.{record_of}
 use Rattle.ddt_path.specs.Covers.{covers, overlaps, is_same_path, is_strictly_below}
-use Rattle.ddt_path.specs.Free.{free, overlaps_none}
+use Rattle.ddt_path.specs.Free.{free, overlaps_none, hole_of}
 use Rattle.ddt_path.specs.Path.{digits, is_path, xeid_path, address_path}
 use Rattle.ddt_path.specs.DigitLemmas.{length-digits}
 use Rattle.ddt_path.proofs.CoverLemmas.{covers_self, covers_trans, covered_same, covers_rest}
@@ -29,7 +29,7 @@ use Rattle.ddt_register.specs.declared.site.Site.{Site}
 use Rattle.ddt_register.specs.declared.register.Register.{Register}
 use Rattle.ddt_register.proofs.RisingLemmas.{one_row, sites_rise}
 use Rattle.ddt_check.specs.Zones.{zone_of, site_of, locators_of}
-use Rattle.ddt_check.specs.Assignment.{assignment, assigned_in, assigned_site, hole_of, part_of_site, prefixes_in, prefixes_below_site}
+use Rattle.ddt_check.specs.Assignment.{assignment, assigned_in, assigned_site, part_of_site, prefixes_in, prefixes_below_site}
 use Rattle.ddt_check.specs.Rules.{IsAccepted}
 use Rattle.ddt_check.specs.Laws.{IsSiteWithServers, negative_prefix}
 use Rattle.ddt_check.proofs.HoleLemmas.{overlaps_none-filter}

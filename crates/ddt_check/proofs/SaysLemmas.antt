@@ -13,7 +13,7 @@ use Rattle.ddt_path.specs.declared.record.Outcome.TheVariants.{Registered, NotRe
 use Rattle.ddt_path.specs.declared.record.ReferralRecord.{ReferralRecord}
 use Rattle.ddt_path.specs.Records.{record_of, referral_action, not_authoritative}
 use Rattle.ddt_path.specs.Covers.{covers}
-use Rattle.ddt_path.specs.Free.{free, overlaps_none, longest_match}
+use Rattle.ddt_path.specs.Free.{free, overlaps_none, longest_match, hole_of}
 use Rattle.ddt_path.specs.Locators.{lists}
 use Rattle.ddt_path.proofs.CoverLemmas.{covers_self}
 use Rattle.ddt_path.proofs.HoleLemmas.{hole_is_free}
@@ -23,7 +23,7 @@ use Rattle.ddt_register.specs.declared.zone.Zone.{Zone}
 use Rattle.ddt_register.specs.declared.site.Site.{Site}
 use Rattle.ddt_register.specs.declared.register.Register.{Register}
 use Rattle.ddt_check.specs.Zones.{zone_of, site_of, locators_of, served_zones}
-use Rattle.ddt_check.specs.Assignment.{assignment, assigned_in, assigned_site, hole_of, prefixes_in, prefixes_below_site}
+use Rattle.ddt_check.specs.Assignment.{assignment, assigned_in, assigned_site, prefixes_in, prefixes_below_site}
 use Rattle.ddt_check.specs.Says.{referral_to, next_zone, says_from, says}
 use Rattle.ddt_check.specs.Rules.{IsAccepted}
 use Rattle.ddt_check.specs.Laws.{IsReferral, IsFinal, NamesServers, AreServers}

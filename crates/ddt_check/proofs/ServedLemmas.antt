@@ -13,7 +13,8 @@ use Rattle.ddt_register.specs.declared.zone.Zone.{Zone}
 use Rattle.ddt_register.specs.declared.group.Group.{Group}
 use Rattle.ddt_register.specs.declared.register.Register.{Register}
 use Rattle.ddt_check.specs.declared.fault.Rule.TheVariants as rules
-use Rattle.ddt_check.specs.Zones.{is_same_name, group_named, locators_of, served_zones}
+use Rattle.ddt_path.specs.Names.{is_same_name}
+use Rattle.ddt_check.specs.Zones.{group_named, locators_of, served_zones}
 use Rattle.ddt_check.specs.Rules.{IsAccepted, has_repeat, share, has_wrong_locators}
 use Rattle.ddt_check.specs.Zones.{is_served_by}
 use Rattle.ddt_path.proofs.MemberLemmas.{IsIn, fails_at, filter_same, found_in, found_passes}

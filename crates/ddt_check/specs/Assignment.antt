@@ -1,5 +1,5 @@
 -- What longest match over the register assigns to an identifier.
-use Rattle.std.specs.Prelude.{ℕ, ◌==◌, List, [], length, map, unwrap_or, if◌then◌else◌}
+use Rattle.std.specs.Prelude.{ℕ, ◌==◌, List, [], length, map, if◌then◌else◌}
 use Rattle.std.specs.List.{filter}
 use Rattle.std.specs.Option.{option_map_or}
 use Rattle.ddt_path.specs.declared.record.Role.{Role}
@@ -7,7 +7,7 @@ use Rattle.ddt_path.specs.declared.record.Role.TheVariants.{Node, Ms}
 use Rattle.ddt_path.specs.declared.record.Outcome.{Outcome}
 use Rattle.ddt_path.specs.declared.record.Outcome.TheVariants.{Registered, NotRegistered, Hole}
 use Rattle.ddt_path.specs.Covers.{covers, is_strictly_below}
-use Rattle.ddt_path.specs.Free.{free}
+use Rattle.ddt_path.specs.Free.{hole_of}
 use Rattle.ddt_register.specs.declared.zone.Zone.{Zone}
 use Rattle.ddt_register.specs.declared.site.Site.{Site}
 use Rattle.ddt_register.specs.declared.register.Register.{Register}
@@ -31,11 +31,6 @@ prefixes_below_site r s = map (λ t. t.prefix) (filter (λ t. is_strictly_below 
 abbrev pub prefixes_in : Register → Zone → Role → List (List ℕ)
 prefixes_in r z Node = prefixes_below r z
 prefixes_in r z Ms = prefixes_within r z
-
--- The hole of an identifier between prefixes inside an authority: the least specific free prefix. Where a prefix covers
--- the identifier there is no hole, and this gives the identifier itself; no case below asks for it then.
-abbrev pub hole_of : List ℕ → List (List ℕ) → List ℕ → List ℕ
-hole_of authority prefixes x = unwrap_or (free authority prefixes x) x
 
 -- the part of a site around an identifier: the least specific prefix in it that overlaps no site inside that site
 abbrev pub part_of_site : Register → Site → List ℕ → List ℕ

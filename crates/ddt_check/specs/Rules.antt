@@ -1,8 +1,8 @@
 -- The ten rules of a register, each as a test of its lists at one row. The delegation tree of RFC 8111, section 4,
 -- wants one root, one owner of each prefix and Map-Servers as its leaves; the numbers are limits of ours.
-use Rattle.std.specs.Prelude.{◌≡◌, ℕ, ◌<◌, Bool, true, false, ◌==◌, ◌&&◌, ◌||◌, not, nat_lt, if◌then◌else◌, List, [], ◌∷◌, length, is_some, find, Option, MatchOption}
+use Rattle.std.specs.Prelude.{◌≡◌, ℕ, ◌<◌, Bool, true, false, ◌==◌, ◌&&◌, ◌||◌, not, nat_lt, if◌then◌else◌, List, [], ◌∷◌, length, is_some, Option, MatchOption}
 use Rattle.std.specs.List.{list_any}
-use Rattle.std.specs.Option.{option_map, option_map_or}
+use Rattle.std.specs.Option.{option_map_or}
 use Rattle.ddt_path.specs.declared.locator.Locator.{Locator}
 use Rattle.ddt_path.specs.Covers.{is_same_path, is_strictly_below}
 use Rattle.ddt_register.specs.declared.zone.Zone.{Zone}
@@ -12,7 +12,8 @@ use Rattle.ddt_register.specs.declared.register.Register.{Register}
 use Rattle.ddt_check.specs.declared.fault.Rule.{Rule}
 use Rattle.ddt_check.specs.declared.fault.Rule.TheVariants as rules
 use Rattle.ddt_path.specs.Locators.{lists}
-use Rattle.ddt_check.specs.Zones.{is_ms, is_same_role, is_same_name, zone_of, group_named}
+use Rattle.ddt_path.specs.Names.{is_same_name}
+use Rattle.ddt_check.specs.Zones.{is_ms, is_same_role, zone_of, group_named}
 
 -- some zone, site or group stands in the row and passes the test
 abbrev pub zone_at : Register → ℕ → (Zone → Bool) → Bool
@@ -121,16 +122,6 @@ pub record IsLeastFault (r : Register) (rule : Rule) (row : ℕ) : Type 0 where
   pub breaks : broken r rule row ≡ true
   pub least_rule : (earlier : Rule) (n : ℕ) → rule_number earlier < rule_number rule → broken r earlier n ≡ false
   pub least_row : (n : ℕ) → n < row → broken r rule n ≡ false
-
--- the row of the first zone, site or group that passes a test
-abbrev pub first_zone : Register → (Zone → Bool) → Option ℕ
-first_zone r test = option_map (λ z. z.row) (find test r.zones)
-
-abbrev pub first_site : Register → (Site → Bool) → Option ℕ
-first_site r test = option_map (λ s. s.row) (find test r.sites)
-
-abbrev pub first_group : Register → (Group → Bool) → Option ℕ
-first_group r test = option_map (λ g. g.row) (find test r.groups)
 
 -- the least row that a test holds at, where it holds at any
 abbrev pub IsLeastRow : (ℕ → Bool) → Option ℕ → Type 0

@@ -1,14 +1,14 @@
 -- What is looked up in a register: a zone of an identifier, a group of a name, the locators of a group, served zones.
-use Rattle.std.specs.Prelude.{ℕ, Bool, true, false, ◌==◌, List, [], find, Option, None, Some}
+use Rattle.std.specs.Prelude.{ℕ, Bool, true, false, List, [], find, Option, None, Some}
 use Rattle.std.specs.List.{filter}
 use Rattle.std.specs.Option.{option_map_or}
-use Rattle.std.specs.Cmp.Lexicographic.{pointwise}
 use Rattle.ddt_path.specs.declared.locator.Locator.{Locator}
 use Rattle.ddt_path.specs.declared.record.Role.{Role}
 use Rattle.ddt_path.specs.declared.record.Role.TheVariants.{Node, Ms}
 use Rattle.ddt_path.specs.Covers.{covers}
 use Rattle.ddt_path.specs.Locators.{lists}
-use Rattle.ddt_path.specs.Free.{longest_match, longer_of, shorter_of}
+use Rattle.ddt_path.specs.Names.{is_same_name}
+use Rattle.ddt_path.specs.Free.{longest_match}
 use Rattle.ddt_register.specs.declared.zone.Zone.{Zone}
 use Rattle.ddt_register.specs.declared.site.Site.{Site}
 use Rattle.ddt_register.specs.declared.group.Group.{Group}
@@ -23,9 +23,6 @@ is_same_role Node Node = true
 is_same_role Ms Ms = true
 is_same_role Node Ms = false
 is_same_role Ms Node = false
-
-abbrev pub is_same_name : List ℕ → List ℕ → Bool
-is_same_name a b = pointwise ◌==◌ a b
 
 -- The zone of a path: the longest zone that covers it. An accepted register has one, and one alone, for each
 -- identifier; of another register this is the first of the longest.
@@ -61,18 +58,3 @@ roots r = option_map_or (λ z. locators_of r z.group) (zone_of r []) []
 -- the zones whose group lists a locator, in the order of their rows
 abbrev pub served_zones : Register → Locator → List Zone
 served_zones r l = filter (λ z. lists (locators_of r z.group) l) r.zones
-
--- the longer of the zone so far and the next; of equal ones the first
-abbrev pub longer_so_far : Option Zone → Zone → Zone
-longer_so_far None z = z
-longer_so_far (Some y) z = longer_of (λ (w : Zone). w.prefix) y (Some z)
-
--- the longer of the site so far and the next; of equal ones the first
-abbrev pub longer_site_so_far : Option Site → Site → Site
-longer_site_so_far None s = s
-longer_site_so_far (Some t) s = longer_of (λ (w : Site). w.prefix) t (Some s)
-
--- the shorter of the zone so far and the next; of equal ones the first
-abbrev pub shorter_so_far : Option Zone → Zone → Zone
-shorter_so_far None z = z
-shorter_so_far (Some y) z = shorter_of (λ (w : Zone). w.prefix) y (Some z)

@@ -4,7 +4,8 @@ ghost use Rattle.std.specs.Prelude.{◌≡◌};
 ghost use Rattle.std.specs.Option.{option_copied};
 ghost use Rattle.ddt_path.specs.Path.{xeid_path};
 ghost use Rattle.ddt_check.specs.Zones.{site_of as site_of_path, locators_of as locators_of_name};
-ghost use Rattle.ddt_check.specs.Assignment.{assignment, assigned_in, assigned_site, hole_of, prefixes_in};
+ghost use Rattle.ddt_path.specs.Free.{hole_of};
+ghost use Rattle.ddt_check.specs.Assignment.{assignment, assigned_in, assigned_site, prefixes_in};
 ghost use Rattle.ddt_path.specs.declared.record.Outcome.TheVariants.{Hole};
 
 use crate::accepted::Accepted;
@@ -67,8 +68,5 @@ fn assign_site(accepted: &Accepted, zone: Zone, site: &Site, x: Xeid) -> Outcome
 pub fn servers_of(accepted: &Accepted, group: Name) -> LocatorSet
     ensures { result ≡ locators_of_name accepted.now group }
 {
-    match LocatorSet::of(locators_of(accepted.register(), group)) {
-        Some(servers) => servers,
-        None => unreachable!(),
-    }
+    LocatorSet::of_few(locators_of(accepted.register(), group))
 }

@@ -5,8 +5,8 @@ ghost use Rattle.std.specs.Prelude.{◌≡◌, ◌&&◌};
 ghost use Rattle.std.specs.List.{list_any};
 ghost use Rattle.ddt_path.specs.Path.{xeid_path};
 ghost use Rattle.ddt_path.specs.Covers.{is_strictly_below as is_below, overlaps as overlap, covers as cover};
-ghost use Rattle.ddt_path.specs.Free.{overlaps_none as overlaps_none_of};
-ghost use Rattle.ddt_check.specs.Assignment.{hole_of, prefixes_in, prefixes_inside, part_of_site as part_of_site_at};
+ghost use Rattle.ddt_path.specs.Free.{overlaps_none as overlaps_none_of, hole_of};
+ghost use Rattle.ddt_check.specs.Assignment.{prefixes_in, prefixes_inside, part_of_site as part_of_site_at};
 
 use ddt_path::{Prefix, Role, Xeid};
 use ddt_register::{Register, Site, Zone};

@@ -12,7 +12,7 @@ use Rattle.ddt_path.specs.declared.record.Outcome.{Outcome}
 use Rattle.ddt_path.specs.declared.record.Outcome.TheVariants.{Registered, NotRegistered, Hole}
 use Rattle.ddt_path.specs.Covers.{covers, is_strictly_below}
 use Rattle.ddt_path.specs.Records.{record_of, not_authoritative}
-use Rattle.ddt_path.specs.Free.{longest_match}
+use Rattle.ddt_path.specs.Free.{longest_match, hole_of}
 use Rattle.ddt_path.specs.Locators.{lists}
 use Rattle.ddt_path.proofs.HoleLemmas.{free_agree}
 use Rattle.ddt_path.proofs.CoverLemmas.{covers_trans}
@@ -22,7 +22,7 @@ use Rattle.ddt_register.specs.declared.site.Site.{Site}
 use Rattle.ddt_register.specs.declared.group.Group.{Group}
 use Rattle.ddt_register.specs.declared.register.Register.{Register}
 use Rattle.ddt_check.specs.Zones.{site_of, locators_of}
-use Rattle.ddt_check.specs.Assignment.{assignment, assigned_in, assigned_site, hole_of, prefixes_below, prefixes_below_site, prefixes_within}
+use Rattle.ddt_check.specs.Assignment.{assignment, assigned_in, assigned_site, prefixes_below, prefixes_below_site, prefixes_within}
 use Rattle.ddt_check.specs.Says.{next_zone, says, says_from, referral_to as referral_to_zone}
 use Rattle.ddt_check.specs.Rules.{IsAccepted}
 use Rattle.ddt_check.proofs.ZoneLemmas.{zone_prefix, site_prefix}

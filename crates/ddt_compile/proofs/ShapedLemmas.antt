@@ -16,7 +16,8 @@ use Rattle.ddt_register.specs.declared.group.Group.{Group}
 use Rattle.ddt_register.specs.declared.register.Register.{Register}
 use Rattle.ddt_register.specs.Rows.{rise, zone_rows, site_rows, group_rows}
 use Rattle.ddt_check.specs.declared.fault.Rule.TheVariants as rules
-use Rattle.ddt_check.specs.Zones.{is_same_role, is_same_name, group_named, locators_of}
+use Rattle.ddt_path.specs.Names.{is_same_name}
+use Rattle.ddt_check.specs.Zones.{is_same_role, group_named, locators_of}
 use Rattle.ddt_check.specs.Rules.{IsAccepted, is_duplicate_zone, is_of_unknown_group, is_of_other_role, has_repeat, has_wrong_locators, has_too_many_etrs, is_duplicate_group}
 use Rattle.ddt_config.specs.declared.config.Authority.{Authority}
 use Rattle.ddt_config.specs.Shaped.{fits, is_server_set, are_distinct, is_child_of, is_site_of, is_content_of, is_authority_of, is_shaped}

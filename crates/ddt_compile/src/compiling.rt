@@ -7,7 +7,7 @@ ghost use Rattle.std.specs.Ordering.{nat_cmp, eq_by_cmp};
 ghost use Rattle.std.specs.Cmp.Lexicographic.{slice_cmp};
 ghost use Rattle.ddt_path.specs.declared.record.Role.TheVariants.{Node, Ms};
 ghost use Rattle.ddt_register.specs.declared.group.Group.{Group as AGroup};
-ghost use Rattle.ddt_check.specs.Zones.{is_same_name};
+ghost use Rattle.ddt_path.specs.Names.{is_same_name};
 ghost use Rattle.ddt_config.specs.declared.config.Content.TheVariants.{Children, Sites};
 ghost use Rattle.ddt_config.specs.Shaped.{is_shaped};
 ghost use Rattle.ddt_config.specs.Table.{outline};

@@ -11,7 +11,8 @@ use Rattle.ddt_path.specs.Locators.{lists}
 use Rattle.ddt_path.proofs.MemberLemmas.{contained, found_in}
 use Rattle.ddt_register.specs.declared.group.Group.{Group}
 use Rattle.ddt_register.specs.declared.register.Register.{Register}
-use Rattle.ddt_check.specs.Zones.{is_same_name, group_named, locators_of}
+use Rattle.ddt_path.specs.Names.{is_same_name}
+use Rattle.ddt_check.specs.Zones.{group_named, locators_of}
 use Rattle.ddt_check.specs.Assignment.{assignment}
 use Rattle.ddt_check.specs.Says.{says}
 use Rattle.ddt_wire.specs.Referral.{Spells, message_of}

@@ -5,7 +5,8 @@ ghost use Rattle.std.specs.Option.{option_copied};
 ghost use Rattle.ddt_register.specs.declared.group.Group.{Group as AGroup};
 ghost use Rattle.ddt_register.specs.declared.register.Register.{Register as ARegister};
 ghost use Rattle.ddt_check.specs.Rules.{is_duplicate_group};
-ghost use Rattle.ddt_check.specs.Zones.{is_same_name, group_named as group_of_name};
+ghost use Rattle.ddt_path.specs.Names.{is_same_name};
+ghost use Rattle.ddt_check.specs.Zones.{group_named as group_of_name};
 ghost use Rattle.ddt_check.specs.Order.{AreGroupsInOrder};
 ghost use Rattle.ddt_check.specs.Sorted.{IsLeastOfGroups};
 

@@ -5,7 +5,8 @@ ghost use Rattle.std.specs.Prelude.{◌≡◌, ◌<◌, ◌&&◌, IsPermutation,
 ghost use Rattle.ddt_path.specs.Covers.{covers, is_same_path};
 ghost use Rattle.ddt_register.specs.declared.site.Site.{Site as ASite};
 ghost use Rattle.ddt_register.specs.declared.register.Register.{Register as ARegister};
-ghost use Rattle.ddt_check.specs.Rules.{IsLeastRow, broken, first_site, is_duplicate_site};
+ghost use Rattle.ddt_register.specs.Rows.{first_row as first_row_of};
+ghost use Rattle.ddt_check.specs.Rules.{IsLeastRow, broken, is_duplicate_site};
 ghost use Rattle.ddt_check.specs.Rules.{is_outside as is_outside_of, has_too_many_etrs as has_too_many};
 ghost use Rattle.ddt_check.specs.Zones.{is_ms as is_ms_of};
 ghost use Rattle.ddt_check.specs.Order.{AreZonesInOrder, AreSitesInOrder};
@@ -14,20 +15,20 @@ ghost use Rattle.ddt_check.specs.Sorted.{IsKept, IsLeastOfSites};
 use crate::fault::Rule;
 use crate::lookup::is_ms;
 use crate::rules::lower;
-use ddt_register::{Register, Site, Zone};
+use ddt_path::MOST_LOCATORS;
+use ddt_register::{Register, Site, Zone, first_row};
 
 fn has_too_many_etrs(s: &Site) -> bool
     ensures { result ≡ has_too_many s.now }
 {
-    s.etrs.as_slice().len() > 8
+    s.etrs.as_slice().len() > MOST_LOCATORS
 }
 
 /// The least row of a site with more than 8 ETRs.
 pub fn too_many_etrs(register: &Register) -> Option<u32>
-    ensures { result ≡ first_site register.now has_too_many }
+    ensures { result ≡ first_row_of (λ s. s.row) has_too_many register.now.sites }
 {
-    let sites = register.sites.as_slice();
-    sites.iter().find(|s| has_too_many_etrs(s)).map(|s| s.row)
+    first_row(register.sites.as_slice(), |s| has_too_many_etrs(s))
 }
 
 /// Whether two sites have one prefix.

@@ -7,7 +7,8 @@ ghost use Rattle.std.specs.Option.{option_map, option_copied};
 ghost use Rattle.ddt_path.specs.Covers.{is_same_path};
 ghost use Rattle.ddt_register.specs.declared.zone.Zone.{Zone as AZone};
 ghost use Rattle.ddt_register.specs.declared.register.Register.{Register as ARegister};
-ghost use Rattle.ddt_check.specs.Rules.{earlier_zone, first_zone};
+ghost use Rattle.ddt_register.specs.Rows.{first_row as first_row_of};
+ghost use Rattle.ddt_check.specs.Rules.{earlier_zone};
 ghost use Rattle.ddt_check.specs.Rules.{is_root as is_root_zone, is_wrong_root as is_wrong_root_of, is_duplicate_zone};
 ghost use Rattle.ddt_check.specs.Rules.{is_of_unknown_group as is_of_unknown, is_of_other_role as is_of_other};
 ghost use Rattle.ddt_check.specs.Order.{AreZonesInOrder, AreGroupsInOrder};
@@ -18,7 +19,7 @@ use crate::fault::Rule;
 use crate::lookup::{is_ms, is_same_role};
 use crate::rules::groups::group_named;
 use crate::rules::lower;
-use ddt_register::{Group, Register, Zone};
+use ddt_register::{Group, Register, Zone, first_row};
 
 fn is_root(z: &Zone) -> bool
     ensures { result ≡ is_root_zone z.now }
@@ -48,13 +49,9 @@ fn is_wrong_root(register: &Register, z: &Zone) -> bool
 
 /// The least row of a root of Map-Servers, or of a root after the first. At most two roots are looked at.
 pub fn wrong_root(register: &Register) -> Option<u32>
-    ensures { result ≡ first_zone register.now (is_wrong_root_of register.now) }
+    ensures { result ≡ first_row_of (λ z. z.row) (is_wrong_root_of register.now) register.now.zones }
 {
-    let zones = register.zones.as_slice();
-    zones
-        .iter()
-        .find(|z| is_wrong_root(register, z))
-        .map(|z| z.row)
+    first_row(register.zones.as_slice(), |z| is_wrong_root(register, z))
 }
 
 /// Whether two zones have one prefix.

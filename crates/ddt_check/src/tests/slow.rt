@@ -2,7 +2,8 @@
 
 ghost use Rattle.std.specs.Prelude.{◌≡◌};
 ghost use Rattle.std.specs.List.{list_any};
-ghost use Rattle.ddt_check.specs.Rules.{earlier_zone, earlier_group, first_zone, first_site, first_group};
+ghost use Rattle.ddt_register.specs.Rows.{first_row as first_row_of};
+ghost use Rattle.ddt_check.specs.Rules.{earlier_zone, earlier_group};
 ghost use Rattle.ddt_check.specs.Rules.{is_root as is_root_zone, is_wrong_root as is_wrong_root_of, is_duplicate_zone as is_duplicate_zone_of};
 ghost use Rattle.ddt_check.specs.Rules.{is_of_unknown_group as is_of_unknown, is_of_other_role as is_of_other, is_below_map_server as is_below};
 ghost use Rattle.ddt_check.specs.Rules.{is_duplicate_site as is_duplicate_site_of, is_outside as is_outside_of, has_too_many_etrs as has_too_many};
@@ -81,7 +82,7 @@ fn is_wrong_root(register: &Register, z: &Zone) -> bool
 
 /// The least row of a root of Map-Servers, or of a root after the first.
 fn wrong_root(register: &Register) -> Option<u32>
-    ensures { result ≡ first_zone register.now (is_wrong_root_of register.now) }
+    ensures { result ≡ first_row_of (λ z. z.row) (is_wrong_root_of register.now) register.now.zones }
 {
     let zones = register.zones.as_slice();
     zones
@@ -99,7 +100,7 @@ fn is_duplicate_zone(register: &Register, z: &Zone) -> bool
 
 /// The least row of a zone whose prefix an earlier one has.
 fn duplicate_zone(register: &Register) -> Option<u32>
-    ensures { result ≡ first_zone register.now (is_duplicate_zone_of register.now) }
+    ensures { result ≡ first_row_of (λ z. z.row) (is_duplicate_zone_of register.now) register.now.zones }
 {
     let zones = register.zones.as_slice();
     zones
@@ -116,7 +117,7 @@ fn is_of_unknown_group(register: &Register, z: &Zone) -> bool
 
 /// The least row of a zone whose group has no row.
 fn of_unknown_group(register: &Register) -> Option<u32>
-    ensures { result ≡ first_zone register.now (is_of_unknown register.now) }
+    ensures { result ≡ first_row_of (λ z. z.row) (is_of_unknown register.now) register.now.zones }
 {
     let zones = register.zones.as_slice();
     zones
@@ -136,7 +137,7 @@ fn is_of_other_role(register: &Register, z: &Zone) -> bool
 
 /// The least row of a zone whose group is of the other kind.
 fn of_other_role(register: &Register) -> Option<u32>
-    ensures { result ≡ first_zone register.now (is_of_other register.now) }
+    ensures { result ≡ first_row_of (λ z. z.row) (is_of_other register.now) register.now.zones }
 {
     let zones = register.zones.as_slice();
     zones
@@ -154,7 +155,7 @@ fn is_below_map_server(register: &Register, z: &Zone) -> bool
 
 /// The least row of a zone strictly below a zone of Map-Servers.
 fn below_map_server(register: &Register) -> Option<u32>
-    ensures { result ≡ first_zone register.now (is_below register.now) }
+    ensures { result ≡ first_row_of (λ z. z.row) (is_below register.now) register.now.zones }
 {
     let zones = register.zones.as_slice();
     zones
@@ -172,7 +173,7 @@ fn is_duplicate_site(register: &Register, s: &Site) -> bool
 
 /// The least row of a site whose prefix an earlier one has.
 fn duplicate_site(register: &Register) -> Option<u32>
-    ensures { result ≡ first_site register.now (is_duplicate_site_of register.now) }
+    ensures { result ≡ first_row_of (λ s. s.row) (is_duplicate_site_of register.now) register.now.sites }
 {
     let sites = register.sites.as_slice();
     sites
@@ -192,7 +193,7 @@ fn is_outside(register: &Register, s: &Site) -> bool
 
 /// The least row of a site whose longest covering zone isn't of Map-Servers.
 fn outside(register: &Register) -> Option<u32>
-    ensures { result ≡ first_site register.now (is_outside_of register.now) }
+    ensures { result ≡ first_row_of (λ s. s.row) (is_outside_of register.now) register.now.sites }
 {
     let sites = register.sites.as_slice();
     sites
@@ -204,12 +205,12 @@ fn outside(register: &Register) -> Option<u32>
 fn has_too_many_etrs(s: &Site) -> bool
     ensures { result ≡ has_too_many s.now }
 {
-    s.etrs.as_slice().len() > 8
+    s.etrs.as_slice().len() > MOST_LOCATORS
 }
 
 /// The least row of a site with more than 8 ETRs.
 fn too_many_etrs(register: &Register) -> Option<u32>
-    ensures { result ≡ first_site register.now has_too_many }
+    ensures { result ≡ first_row_of (λ s. s.row) has_too_many register.now.sites }
 {
     let sites = register.sites.as_slice();
     sites.iter().find(|s| has_too_many_etrs(s)).map(|s| s.row)
@@ -253,7 +254,7 @@ fn has_wrong_locators(register: &Register, g: &Group) -> bool
 
 /// The least row of a group whose locators are none, or above 8, or not all new.
 fn wrong_locators(register: &Register) -> Option<u32>
-    ensures { result ≡ first_group register.now (has_wrong register.now) }
+    ensures { result ≡ first_row_of (λ g. g.row) (has_wrong register.now) register.now.groups }
 {
     let groups = register.groups.as_slice();
     groups
@@ -271,7 +272,7 @@ fn is_duplicate_group(register: &Register, g: &Group) -> bool
 
 /// The least row of a group whose name an earlier one has.
 fn duplicate_group(register: &Register) -> Option<u32>
-    ensures { result ≡ first_group register.now (is_duplicate_group_of register.now) }
+    ensures { result ≡ first_row_of (λ g. g.row) (is_duplicate_group_of register.now) register.now.groups }
 {
     let groups = register.groups.as_slice();
     groups

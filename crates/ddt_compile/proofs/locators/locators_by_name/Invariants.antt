@@ -4,7 +4,7 @@ use Rattle.std.specs.Ordering.{nat_cmp}
 use Rattle.std.specs.Cmp.Lexicographic.{slice_cmp}
 use Rattle.std.specs.BTreeMap.{get}
 use Rattle.ddt_register.specs.declared.group.Group.{Group}
-use Rattle.ddt_check.specs.Zones.{is_same_name}
+use Rattle.ddt_path.specs.Names.{is_same_name}
 use Rattle.ddt_compile.proofs.locators.locators_by_name.Given as goal
 
 abbrev pub invariant-loop-group : goal.invariant-loop-group

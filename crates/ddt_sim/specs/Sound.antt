@@ -29,7 +29,7 @@ use Rattle.ddt_resolver.specs.declared.answers.Ticked.TheVariants as ticked
 use Rattle.ddt_resolver.specs.declared.answers.Why.{Why}
 use Rattle.ddt_resolver.specs.declared.answers.Why.TheVariants.{NoReply, Exhausted}
 use Rattle.ddt_resolver.specs.Records.{outcome_at}
-use Rattle.ddt_resolver.specs.State.{State, moved, dropped}
+use Rattle.ddt_resolver.specs.State.{State, fresh, moved, dropped}
 use Rattle.ddt_resolver.specs.Order.{IsInOrder}
 use Rattle.ddt_resolver.specs.Step.{Call, Ask, Hear, Tick, Reply, ToAsk, ToDatagram, ToTick, Step}
 use Rattle.ddt_resolver.specs.TakeUp.{IsTaken}
@@ -132,3 +132,7 @@ TimeKeepsSoundness = (r : Register) (s : State) (now : ℕ) → IsSound r s → 
 -- and the removal of a lookup
 abbrev pub CancellingKeepsSoundness : Type 0
 CancellingKeepsSoundness = (r : Register) (s : State) (t : ℕ) → IsSound r s → IsSound r (dropped s t)
+
+-- a new resolver with the register's roots is sound
+abbrev pub NewResolversAreSound : Type 0
+NewResolversAreSound = (r : Register) (me : Locator) (seed : ℕ) → IsSound r (fresh (roots r) me seed)

@@ -1,6 +1,6 @@
 //! Laws of a resolver over honest servers: each function here is a law of the definitions, and does nothing.
 
-ghost use Rattle.ddt_sim.specs.Sound.{StepsKeepSoundness, TimeKeepsSoundness, CancellingKeepsSoundness};
+ghost use Rattle.ddt_sim.specs.Sound.{NewResolversAreSound, StepsKeepSoundness, TimeKeepsSoundness, CancellingKeepsSoundness};
 ghost use Rattle.ddt_sim.specs.Reply.{RequestsAreUnderstood};
 
 use ddt_check::{
@@ -10,10 +10,12 @@ use ddt_check::{
 use ddt_ecm::request_laws;
 use ddt_wire::referral_laws;
 
-/// A resolver that is sound for an accepted register stays sound: by each step whose datagram, if it has one, is
-/// what the register says there; as time passes; and where a lookup is cancelled. What a step answers is the
-/// assignment, and a lookup ends without an answer only for want of a reply or of nonces.
+/// A new resolver with the root's locators of a register is sound for it. One that is sound for an accepted register
+/// stays sound: by each step whose datagram, if it has one, is what the register says there; as time passes; and where
+/// a lookup is cancelled. What a step answers is the assignment, and a lookup ends without an answer only for want of a
+/// reply or of nonces.
 pub fn a_step_keeps_a_resolver_sound()
+    ensures new { NewResolversAreSound }
     ensures steps { StepsKeepSoundness }
     ensures time { TimeKeepsSoundness }
     ensures cancelling { CancellingKeepsSoundness }

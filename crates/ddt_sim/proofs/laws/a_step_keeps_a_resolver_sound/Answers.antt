@@ -1,3 +1,7 @@
+use Rattle.std.proofs.Common.{refl, sym, ◌∙◌, nat_cmp}
+use Rattle.std.specs.FinMap.{get-empty}
+use Rattle.std.proofs.lemmas.Option.{none-some}
+use Rattle.ddt_trie.specs.PrefixMap.{path_cmp}
 use Rattle.ddt_sim.specs.Sound.{KeepsLaws}
 use Rattle.ddt_sim.proofs.SoundLemmas.{sound_step, sound_moved, sound_dropped}
 use Rattle.ddt_sim.proofs.laws.a_step_keeps_a_resolver_sound.Goals as goal
@@ -23,3 +27,10 @@ returns-clause-time c = λ r s now sound. sound_moved r s sound now
 
 pub returns-clause-cancelling : goal.returns-clause-cancelling
 returns-clause-cancelling c = λ r s t sound. sound_dropped r s sound t
+
+pub returns-clause-new : goal.returns-clause-new
+returns-clause-new c = λ r me seed. record {
+  root = refl;
+  entries = λ p e found. absurd (none-some e (sym (get-empty path_cmp p) ∙ found));
+  lookups = λ t l found. absurd (none-some l (sym (get-empty nat_cmp t) ∙ found));
+}

@@ -44,11 +44,12 @@ pub record IsRightlyAsked (r : Register) (now : ℕ) (x : Xeid) (s : State) (ask
   pub right : IsRightAsked r (xeid_path x) (Ok asked)
   pub fits : CanBeAsked x s.me
 
--- a hop of a lookup of x over honest servers: a DDT Map-Request for x with the resolver's address as its ITR-RLOC, and a
--- reply of its nonce with what the register says at the server that was asked
+-- a hop of a lookup of x over honest servers: a DDT Map-Request for x with the resolver's address as its ITR-RLOC, and
+-- a reply of its nonce with what the register says at the server that was asked
 abbrev pub IsHonestHop : Register → Xeid → Locator → Hop → Type 0
 IsHonestHop r x me hop =
-    (nonce : ℕ) × (hop.request ≡ request_bytes nonce x me) × Spells hop.reply (message_of nonce (says r hop.to (xeid_path x)))
+    (nonce : ℕ) × (hop.request ≡ request_bytes nonce x me)
+    × Spells hop.reply (message_of nonce (says r hop.to (xeid_path x)))
 
 -- an outcome that a reply ends a lookup with is the assignment
 abbrev pub IsRightTurn : Register → Xeid → Turn → Type 0

@@ -39,7 +39,8 @@ heard_of t (Ok (Ends o)) = heard.Answer t o
 heard_of t (Err why) = heard.GaveUp t why
 
 -- The request d of the ticket t was sent at `now` in the state s, and its reply, which one hop more tells, was taken.
-pub record IsTurn (now : ℕ) (s : State) (t : ℕ) (d : Outgoing) (hops : List Hop) (turn : Turn) (more : List Hop) (new : State) : Type 0 where
+pub record IsTurn (now : ℕ) (s : State) (t : ℕ) (d : Outgoing) (hops : List Hop) (turn : Turn) (more : List Hop)
+    (new : State) : Type 0 where
   pub reply : List ℕ
   pub step : HearStep (moved now s) d.to reply new (heard_of t (Ok turn))
   pub hop : more ≡ hops ++ hop_of d reply ∷ []
@@ -47,11 +48,11 @@ pub record IsTurn (now : ℕ) (s : State) (t : ℕ) (d : Outgoing) (hops : List 
 -- How it fails. `gave_up`: the reply made the lookup give up. `unanswered`: nothing came back. `not_taken`: what came back
 -- was no reply to it. The others are want of memory: `stopped` before a reply was taken, `unfinished` after one.
 pub data TurnFails (now : ℕ) (s : State) (t : ℕ) (d : Outgoing) (error : LookupError) (after : State) : Type 0 where
-  gave_up : (reply : List ℕ) (why : Why) → HearStep (moved now s) d.to reply after (heard_of t (Err why)) → error ≡ GaveUp why
-      → TurnFails now s t d error after
+  gave_up : (reply : List ℕ) (why : Why) → HearStep (moved now s) d.to reply after (heard_of t (Err why))
+      → error ≡ GaveUp why → TurnFails now s t d error after
   unanswered : after ≡ s → error ≡ GaveUp NoReply → TurnFails now s t d error after
-  not_taken : (reply : List ℕ) (h : Heard) → HearStep (moved now s) d.to reply after h → IsNotFor t h → error ≡ GaveUp NoReply
-      → TurnFails now s t d error after
+  not_taken : (reply : List ℕ) (h : Heard) → HearStep (moved now s) d.to reply after h → IsNotFor t h
+      → error ≡ GaveUp NoReply → TurnFails now s t d error after
   stopped : (after ≡ s) ⊎ (after ≡ moved now s) → error ≡ Memory → TurnFails now s t d error after
   unfinished : (reply : List ℕ) (h : Heard) → HearStep (moved now s) d.to reply after h → error ≡ Memory
       → TurnFails now s t d error after
@@ -61,13 +62,15 @@ pub data TurnFails (now : ℕ) (s : State) (t : ℕ) (d : Outgoing) (error : Loo
 -- The lookup of x that was asked at `now` in the state `start` has come this far: after these hops its ticket is t, the
 -- request d is to be sent, and the resolver is in the state s.
 pub data Reaches (now : ℕ) (x : Xeid) (start : State) : List Hop → ℕ → Outgoing → State → Type 0 where
-  sent : (t : ℕ) (d : Outgoing) (s : State) → AskStep (moved now start) x s (Ok (asked.Sent t d)) → Reaches now x start [] t d s
+  sent : (t : ℕ) (d : Outgoing) (s : State) → AskStep (moved now start) x s (Ok (asked.Sent t d))
+      → Reaches now x start [] t d s
   followed : {hops : List Hop} {t : ℕ} {d : Outgoing} {s : State} (reply : List ℕ) (e : Outgoing) (new : State)
       → Reaches now x start hops t d s → HearStep (moved now s) d.to reply new (heard.Followed t e)
       → Reaches now x start (hops ++ hop_of d reply ∷ []) t e new
 
 -- a lookup that has come some way under a ticket, and whose next request fails
-pub record FailsUnder (now : ℕ) (x : Xeid) (start : State) (t : ℕ) (error : LookupError) (after : State) : Type 0 where
+pub record FailsUnder (now : ℕ) (x : Xeid) (start : State) (t : ℕ) (error : LookupError) (after : State)
+    : Type 0 where
   pub hops : List Hop
   pub request : Outgoing
   pub state : State
@@ -75,8 +78,10 @@ pub record FailsUnder (now : ℕ) (x : Xeid) (start : State) (t : ℕ) (error : 
   pub fails : TurnFails now state t request error after
 
 -- How a lookup ends with an outcome: at once, by what is remembered, or by the reply of its last hop.
-pub data HasOutcome (now : ℕ) (x : Xeid) (start : State) (outcome : Outcome) (hops : List Hop) (new : State) : Type 0 where
-  at_once : AskStep (moved now start) x new (Ok (asked.Answer outcome)) → hops ≡ [] → HasOutcome now x start outcome hops new
+pub data HasOutcome (now : ℕ) (x : Xeid) (start : State) (outcome : Outcome) (hops : List Hop) (new : State)
+    : Type 0 where
+  at_once : AskStep (moved now start) x new (Ok (asked.Answer outcome)) → hops ≡ []
+      → HasOutcome now x start outcome hops new
   by_reply : {before : List Hop} {t : ℕ} {d : Outgoing} {s : State} → Reaches now x start before t d s
       → IsTurn now s t d before (Ends outcome) hops new → HasOutcome now x start outcome hops new
 

@@ -21,9 +21,10 @@ use Rattle.ddt_sim.specs.Sound.{IsSound}
 use Rattle.ddt_sim.specs.Lookup.{IsNotFor, hop_of}
 use Rattle.ddt_sim.specs.Headline.{IsUnderWay, IsHonestHop}
 
--- It is for this lookup, and the resolver stays sound. An outcome is the assignment, and the lookup gives up only where no
--- nonce is left.
-pub record IsWellHeard (r : Register) (x : Xeid) (s : State) (t : ℕ) (d : Outgoing) (reply : List ℕ) (new : State) (h : Heard) : Type 0 where
+-- It is for this lookup, and the resolver stays sound. An outcome is the assignment, and the lookup gives up only where
+-- no nonce is left. With its request it is an honest hop.
+pub record IsWellHeard (r : Register) (x : Xeid) (s : State) (t : ℕ) (d : Outgoing) (reply : List ℕ) (new : State)
+    (h : Heard) : Type 0 where
   pub own : IsNotFor t h → ⊥
   pub sound : IsSound r new
   pub outcome : (o : Outcome) → h ≡ heard.Answer t o → o ≡ assignment r (xeid_path x)

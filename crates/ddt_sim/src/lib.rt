@@ -1,6 +1,6 @@
 //! Servers and a resolver together: what following Map-Referrals from the root ends in.
 //!
-//! In reading order: `servers`, `compiled`.
+//! In reading order: `servers`, `compiled`, `laws`, `hop`, `following`, `looking_up`.
 #![tactic(auto)]
 
 mod compiled;
@@ -15,3 +15,6 @@ pub use hop::{Hop, Lookup, LookupError};
 pub use laws::a_step_keeps_a_resolver_sound;
 pub use looking_up::lookup;
 pub use servers::Servers;
+
+#[cfg(test)]
+mod tests;

@@ -1,0 +1,52 @@
+//! Worked lookups over the servers of a compiled register, and over servers that say anything.
+
+mod campus;
+mod played;
+
+use super::*;
+use ddt_cache::{Entry, Moment};
+use ddt_path::{Locator, LocatorSet, Outcome, Prefix, Xeid};
+use ddt_resolver::{Resolver, Why};
+use ddt_trie::ListMap;
+use std::alloc::Global;
+use std::test::*;
+
+type ListResolver = Resolver<ListMap<Entry>>;
+
+const ME: Locator = Locator::V4(0x7f00_0035);
+
+const ROOT: Locator = Locator::V4(0x7f00_0001);
+
+/// The prefix of an IPv4 block of the Instance ID 0.
+fn block(address: u32, len: u8) -> Result<Prefix, Fail> {
+    Ok(Prefix::block(0, Locator::V4(address), len)?)
+}
+
+/// A set of these locators.
+fn set(locators: &[Locator]) -> Result<LocatorSet, Fail> {
+    Ok(LocatorSet::of(locators).ok_or("too many locators")?)
+}
+
+/// A resolver at 127.0.0.53 whose root's server is 127.0.0.1 and whose first nonce is 1.
+fn rooted(alloc: Global) -> Result<ListResolver, Fail> {
+    let roots = set(&[ROOT])?;
+    if roots.as_slice().is_empty() {
+        return Err("no root")?;
+    }
+    Ok(Resolver::new(alloc, roots, ME, 1))
+}
+
+/// Looks an IPv4 address of the Instance ID 0 up at moment 0.
+fn looked_up<S: Servers>(
+    alloc: Global,
+    servers: &mut S,
+    resolver: &mut ListResolver,
+    address: u32,
+) -> Result<Result<Lookup, LookupError>, Fail> {
+    let x = Xeid {
+        iid: 0,
+        address: Locator::V4(address),
+    };
+    let now = Moment::at(0).ok_or("past the last moment")?;
+    Ok(lookup(alloc, servers, resolver, now, x))
+}

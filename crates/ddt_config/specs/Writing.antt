@@ -42,10 +42,10 @@ written_locators ls = written_each (λ l. string (written_locator l)) ls
 abbrev pub written_child : Child → Members
 written_child c =
     with_keys (
-      (key.Kind, string (role_text c.role))
-      ∷ (key.Locators, written_locators c.locators)
-      ∷ (key.Prefix, string (written_prefix c.prefix))
-      ∷ [])
+    (key.Kind, string (role_text c.role))
+    ∷ (key.Locators, written_locators c.locators)
+    ∷ (key.Prefix, string (written_prefix c.prefix))
+    ∷ [])
 
 abbrev pub written_site : SiteEntry → Members
 written_site s = with_keys ((key.Etrs, written_locators s.etrs) ∷ (key.Prefix, string (written_prefix s.prefix)) ∷ [])
@@ -54,14 +54,14 @@ written_site s = with_keys ((key.Etrs, written_locators s.etrs) ∷ (key.Prefix,
 abbrev pub written_content : List ℕ → Content → Members
 written_content prefix (Children cs) =
     with_keys (
-      (key.Child, written_each (λ c. table (written_child c)) cs)
-      ∷ (key.Prefix, string (written_prefix prefix))
-      ∷ [])
+    (key.Child, written_each (λ c. table (written_child c)) cs)
+    ∷ (key.Prefix, string (written_prefix prefix))
+    ∷ [])
 written_content prefix (Sites ss) =
     with_keys (
-      (key.Prefix, string (written_prefix prefix))
-      ∷ (key.Site, written_each (λ s. table (written_site s)) ss)
-      ∷ [])
+    (key.Prefix, string (written_prefix prefix))
+    ∷ (key.Site, written_each (λ s. table (written_site s)) ss)
+    ∷ [])
 
 abbrev pub written_authority : Authority → Members
 written_authority a = written_content a.prefix a.content

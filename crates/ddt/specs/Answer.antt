@@ -31,7 +31,8 @@ group_answer r name x = option_map (λ g. written 1 (says r (first_locator g.loc
 -- the configuration of the group of this name: it answers as the register says, and a server has room for it
 abbrev pub IsConfigOfGroup : Register → List ℕ → ServerConfig → Type 0
 IsConfigOfGroup r name c =
-    (g : Group) × (group_named r name ≡ Some g) × (outline c ≡ group_config r g) × IsHonestConfig r (outline c) × HasRoom (outline c)
+    (g : Group) × (group_named r name ≡ Some g) × (outline c ≡ group_config r g)
+    × IsHonestConfig r (outline c) × HasRoom (outline c)
 
 -- `answer REGISTER GROUP XEID`: that answer in hexadecimal, and a line feed
 abbrev pub IsAnswerText : Call → Register → List ℕ → Type 0

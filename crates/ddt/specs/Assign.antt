@@ -28,7 +28,8 @@ bad_xeid call = identifier_refusal (xeid_of call)
 
 -- the line of what the register assigns to the identifier
 abbrev pub IsAssignText : Call → Register → List ℕ → Type 0
-IsAssignText call r text = (x : Xeid) × (xeid_of call ≡ Ok x) × (text ≡ ended (outcome_text (assignment r (xeid_path x))))
+IsAssignText call r text =
+    (x : Xeid) × (xeid_of call ≡ Ok x) × (text ≡ ended (outcome_text (assignment r (xeid_path x))))
 
 -- of a register it refuses nothing but for want of memory
 abbrev pub WantsMemory : Call → Register → Refusal → Type 0

@@ -14,10 +14,12 @@ path call = value (codes "register") call
 -- the path was opened; and where the file tells its bytes, they spell an accepted register, of which this is so
 abbrev pub OfItsRegister : {F : Type 0} → (F → Option (List ℕ)) → Option F → (Register → Type 0) → Type 0
 OfItsRegister remaining source is_so =
-    (source ≢ None) × ((bytes : List ℕ) → Tells remaining source bytes → (r : Register) × IsAcceptedIn bytes r × is_so r)
+    (source ≢ None)
+    × ((bytes : List ℕ) → Tells remaining source bytes → (r : Register) × IsAcceptedIn bytes r × is_so r)
 
 -- the words are good, and the path may give this source, of which this is so
-abbrev pub OpensTo : {F : Type 0} → (List ℕ → Option F → Type 0) → Option WordRefusal → Call → (Option F → Type 0) → Type 0
+abbrev pub OpensTo : {F : Type 0} → (List ℕ → Option F → Type 0) → Option WordRefusal → Call → (Option F → Type 0)
+    → Type 0
 OpensTo opens bad call is_so = (bad ≡ None) × ((source : Option _) × opens (path call) source × is_so source)
 
 -- what a command over a register answers, which answers such a text of a register

@@ -24,6 +24,10 @@ Spell bytes r = register_in bytes ≡ Ok (lists_of r)
 abbrev pub IsAcceptedIn : List ℕ → Register → Type 0
 IsAcceptedIn bytes r = Spell bytes r × IsAccepted r
 
+-- this is the least rule that the register breaks, and the least row that breaks it
+abbrev pub IsRuleBroken : Register → RegisterRefusal → Type 0
+IsRuleBroken r why = (fault : Fault) × (why ≡ BreaksRule fault) × IsLeastFault r fault.rule fault.row
+
 -- an opened file tells these bytes; one that couldn't be opened, or whose bytes aren't known, tells none
 abbrev pub Tells : {F : Type 0} → (F → Option (List ℕ)) → Option F → List ℕ → Type 0
 Tells remaining None bytes = ⊥
@@ -37,11 +41,12 @@ IsFaultIn bytes CannotRead = ⊤
 IsFaultIn bytes (BreaksRule fault) = (r : Register) × Spell bytes r × IsLeastFault r fault.rule fault.row
 IsFaultIn bytes NoSuchGroup = ⊥
 
--- why a path gives no accepted register: it can't be opened, or its bytes are at fault; reading may fail, and memory may
--- be wanted, once a file is open
+-- why a path gives no accepted register: it can't be opened, or its bytes are at fault; reading may fail, and memory
+-- may be wanted, once a file is open
 abbrev pub IsWhyNoRegister : {F : Type 0} → (F → Option (List ℕ)) → Option F → List ℕ → Refusal → Type 0
 IsWhyNoRegister remaining None path (NoRegister (CannotOpen name)) = name.now ≡ path
 IsWhyNoRegister remaining None path why = ⊥
-IsWhyNoRegister remaining (Some file) path (NoRegister why) = (bytes : List ℕ) → remaining file ≡ Some bytes → IsFaultIn bytes why
+IsWhyNoRegister remaining (Some file) path (NoRegister why) =
+    (bytes : List ℕ) → remaining file ≡ Some bytes → IsFaultIn bytes why
 IsWhyNoRegister remaining (Some file) path OutOfMemory = ⊤
 IsWhyNoRegister remaining (Some file) path why = ⊥

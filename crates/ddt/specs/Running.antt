@@ -47,8 +47,8 @@ HasPartOf is_text is_why out out_new err err_new =
     ((text : List ℕ) × is_text text × AppendsFront out out_new text)
     ⊎ ((why : Refusal) × is_why why × TellsFront why err err_new)
 
--- An answer leaves the error stream as it was, a refusal and bad words leave the output, and an end without a line leaves
--- one of them.
+-- An answer leaves the error stream as it was, a refusal and bad words leave the output, and an end without a line
+-- leaves one of them.
 abbrev pub StayApart : Status → Type 0 → Type 0 → Type 0
 StayApart Answered same_out same_err = same_err
 StayApart Refused same_out same_err = same_out

@@ -43,7 +43,8 @@ IsWhyNoRequest bytes why =
     ((fault : RequestFault) × (why ≡ NoMessage (NoRequest fault)) × (request.message_in bytes ≡ Err fault))
     ⊎ (why ≡ OutOfMemory)
 
--- why bytes aren't shown: their type is neither 6 nor 8, they have a fault as a message of their type, or memory is wanted
+-- why bytes aren't shown: their type is neither 6 nor 8, they have a fault as a message of their type, or memory is
+-- wanted
 abbrev pub IsWhyNoMessage : List ℕ → Refusal → Type 0
 IsWhyNoMessage bytes why =
     ((type_of bytes ≡ Some 6) × IsWhyNoReferral bytes why)

@@ -7,7 +7,7 @@ mod compile;
 mod show;
 
 ghost use Rattle.std.specs.Prelude.{◌≡◌, ◌≢◌, IfErr, IfOk, MatchOption};
-ghost use Rattle.std.specs.Fn.{FnOnceReturnsAt};
+ghost use Rattle.std.specs.Fn.{FnOnceReturnsAt as ReturnsAt};
 ghost use Rattle.ddt_words.specs.Call.{call_of};
 ghost use Rattle.ddt_words.specs.Line.{line};
 ghost use Rattle.ddt.specs.declared.commands.Command.{Command as ACommand};
@@ -73,9 +73,9 @@ where
     F: Read + Drop,
     O: FnOnce(&str) -> Option<F> + Drop,
     requires { O.IsAlwaysCallable open_file }
-    ensures text { IfOk result (λ text. IsTextOf (FnOnceReturnsAt O.FnOnce open_file) F.remaining
+    ensures text { IfOk result (λ text. IsTextOf (ReturnsAt O.FnOnce open_file) F.remaining
         command (call_of words.now) text.items) }
-    ensures refused { IfErr result (IsWhyOf (FnOnceReturnsAt O.FnOnce open_file) F.remaining command (call_of words.now)) }
+    ensures refused { IfErr result (IsWhyOf (ReturnsAt O.FnOnce open_file) F.remaining command (call_of words.now)) }
 {
     match command {
         Command::Answer => text_over::<Answer<'a>, F, O>(alloc, words, open_file),

@@ -4,15 +4,13 @@ ghost use Rattle.std.specs.Prelude.{◌≡◌, ℕ, List, Option, None, Some, Er
 ghost use Rattle.std.specs.Fn.{FnOnceReturnsAt};
 ghost use Rattle.ddt_register.specs.declared.register.Register.{Register as ARegister};
 ghost use Rattle.ddt_register.specs.declared.fault.ReadFault.{ReadFault as AReadFault};
-ghost use Rattle.ddt_check.specs.Rules.{IsAccepted, IsLeastFault};
-ghost use Rattle.ddt_check.specs.declared.fault.Fault.{Fault as AFault};
+ghost use Rattle.ddt_check.specs.Rules.{IsAccepted};
 ghost use Rattle.ddt_words.specs.Call.{Call, call_of};
 ghost use Rattle.ddt.specs.declared.refusal.Refusal.{Refusal as ARefusal};
-ghost use Rattle.ddt.specs.declared.refusal.register.RegisterRefusal.TheVariants.{BreaksRule};
 ghost use Rattle.ddt.specs.declared.refusal.word.WordRefusal.{WordRefusal as AWordRefusal};
 ghost use Rattle.ddt.specs.Over.{IsTextOver, IsWhyOver};
 ghost use Rattle.ddt.specs.Refusal.{reading_refusal};
-ghost use Rattle.ddt.specs.Register.{IsAcceptedIn, IsWhyNoRegister, Tells};
+ghost use Rattle.ddt.specs.Register.{IsAcceptedIn, IsRuleBroken, IsWhyNoRegister, Tells};
 
 use crate::refusal::{Refusal, RegisterRefusal, WordRefusal};
 use ddt_check::{Accepted, check};
@@ -44,8 +42,8 @@ pub trait OverRegister<'a>: Sized {
         ensures refused { IfErr result (λ why. (call : Call) → asks call self.now → refuses call register.now why) };
 }
 
-/// The text of a command over its register, or why there is none. The words are looked at first, then the file is opened
-/// and read, then the rules, then what the command has to say of the register.
+/// The text of a command over its register, or why there is none. The words are looked at first, then the file is
+/// opened and read, then the rules, then what the command has to say of the register.
 pub fn text_over<'a, C, F, O>(
     alloc: Global,
     words: &Words<'a>,
@@ -93,8 +91,8 @@ fn register_at<F: Read + Drop>(
     }
 }
 
-/// What is refused where reading ends in a fault: want of memory and a failed read for what they are, and no other fault
-/// as one of these.
+/// What is refused where reading ends in a fault: want of memory and a failed read for what they are, and no other
+/// fault as one of these.
 fn unread(fault: ReadFault) -> Refusal<'static>
     ensures { result ≡ reading_refusal fault }
 {
@@ -108,7 +106,7 @@ fn unread(fault: ReadFault) -> Refusal<'static>
 /// The register where it keeps all rules, or the rule that it breaks. It takes no memory.
 fn judged(register: Register) -> Result<Accepted, RegisterRefusal<'static>>
     ensures accepted { IfOk result (λ a. (a ≡ register) × IsAccepted register) }
-    ensures refused { IfErr result (λ why. (fault : AFault) × (why ≡ BreaksRule fault) × IsLeastFault register fault.rule fault.row) }
+    ensures refused { IfErr result (IsRuleBroken register) }
 {
     match check(register) {
         Ok(accepted) => Ok(accepted),

@@ -5,7 +5,7 @@ mod plain;
 
 use super::*;
 use ddt_path::{Action, Locator, LocatorSet, Prefix, ReferralRecord, Xeid};
-use ddt_trie::{ListMap, PrefixMap};
+use ddt_trie::{ListMap, PrefixMap, TrieMap};
 use plain::Plain;
 use std::alloc::Global;
 use std::process::Abort;
@@ -477,4 +477,27 @@ fn a_refused_save<M: PrefixMap<Entry>>(alloc: Global, rt: &impl Abort) -> Result
 #[test]
 fn a_refused_save_leaves_the_cache_on_a_list_as_it_was(rt: HostRuntime) -> Result<(), Fail> {
     a_refused_save::<ListMap<Entry>>(rt.alloc(), &rt)
+}
+
+#[test]
+fn a_cache_on_a_trie_answers_the_worked_values(rt: HostRuntime) -> Result<(), Fail> {
+    battery::<TrieMap<Entry>>(rt.alloc(), &rt)
+}
+
+#[test]
+fn a_cache_on_a_trie_answers_as_a_plain_one(rt: HostRuntime) -> Result<(), Fail> {
+    for seed in 1..9 {
+        random_calls::<TrieMap<Entry>>(rt.alloc(), &rt, seed)?;
+    }
+    Ok(())
+}
+
+#[test]
+fn a_full_table_on_a_trie(rt: HostRuntime) -> Result<(), Fail> {
+    full_table::<TrieMap<Entry>>(rt.alloc(), &rt)
+}
+
+#[test]
+fn a_refused_save_leaves_the_cache_on_a_trie_as_it_was(rt: HostRuntime) -> Result<(), Fail> {
+    a_refused_save::<TrieMap<Entry>>(rt.alloc(), &rt)
 }

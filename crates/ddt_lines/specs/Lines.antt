@@ -36,7 +36,8 @@ action_text NotAuthoritative = codes "NOT-AUTHORITATIVE"
 
 -- so many zones, sites and groups
 abbrev pub counts_text : ℕ → ℕ → ℕ → List ℕ
-counts_text zones sites groups = codes "accepted " ++ decimal zones ++ codes " zones " ++ decimal sites ++ codes " sites " ++ decimal groups ++ codes " groups"
+counts_text zones sites groups =
+    codes "accepted " ++ decimal zones ++ codes " zones " ++ decimal sites ++ codes " sites " ++ decimal groups ++ codes " groups"
 
 -- sixteen digits
 unfoldable pub nonce_text : ℕ → List ℕ
@@ -48,7 +49,8 @@ whole_text false = codes " complete"
 
 abbrev pub referral_text : referral.Message → List ℕ
 referral_text v =
-    codes "referral nonce " ++ nonce_text v.nonce ++ codes " " ++ action_text v.action ++ codes " " ++ written_prefix v.prefix
+    codes "referral nonce " ++ nonce_text v.nonce ++ codes " " ++ action_text v.action ++ codes " "
+    ++ written_prefix v.prefix
     ++ codes " ttl " ++ decimal v.ttl ++ whole_text v.incomplete ++ spaced v.locators
 
 -- a DDT client or an ITR asks

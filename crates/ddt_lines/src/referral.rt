@@ -9,8 +9,8 @@ use ddt_text::write_prefix;
 use ddt_wire::{Locators, Referral};
 use std::alloc::{AllocError, Global};
 
-/// `referral nonce NONCE ACTION PREFIX ttl MINUTES complete LOCATORS`, with `incomplete` where the bit is set, and a line feed. Fails only if
-/// out of memory.
+/// `referral nonce NONCE ACTION PREFIX ttl MINUTES complete LOCATORS`, with `incomplete` where the bit is set, and a
+/// line feed. Fails only if out of memory.
 pub fn referral_line(alloc: Global, referral: &Referral<'_>) -> Result<Vec<u8>, AllocError>
     ensures { IfOk result (λ line. line.items ≡ ended (referral_text referral.now)) }
 {

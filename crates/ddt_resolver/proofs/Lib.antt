@@ -6,3 +6,4 @@ pub mod StateLemmas
 pub mod HearLemmas
 pub mod BoundLemmas
 pub mod ReplyLemmas
+pub mod DueLemmas

@@ -199,7 +199,7 @@ module _ (s : State) (o : IsInOrder s) (t : ℕ) (l : Pending) (here : get s.pen
     once = λ _. refl;
   }
 
-  again_lookup : IsLookup (tried_again l)
+  pub again_lookup : IsLookup (tried_again l)
   again_lookup = let w = waiting.lookup in record {
     identifier = w.identifier;
     place = w.place;
@@ -213,7 +213,7 @@ module _ (s : State) (o : IsInOrder s) (t : ℕ) (l : Pending) (here : get s.pen
     once = w.once;
   }
 
-  next_lookup : l.place + 1 < length l.servers → IsLookup (at_next l)
+  pub next_lookup : l.place + 1 < length l.servers → IsLookup (at_next l)
   next_lookup more = let w = waiting.lookup in record {
     identifier = w.identifier;
     place = more;

@@ -9,6 +9,8 @@ use Rattle.ddt_resolver.specs.declared.sending.Change.TheVariants.{Keep, Save, F
 use Rattle.ddt_resolver.specs.declared.answers.Why.TheVariants.{Exhausted}
 use Rattle.ddt_resolver.specs.declared.answers.Heard.{Heard}
 use Rattle.ddt_resolver.specs.declared.answers.Heard.TheVariants.{Followed, Answer, GaveUp}
+use Rattle.ddt_resolver.specs.declared.answers.Ticked.{Ticked}
+use Rattle.ddt_resolver.specs.declared.answers.Ticked.TheVariants as ticked_as
 use Rattle.ddt_resolver.specs.State.{State, last_nonce, with_change, lodged, dropped, stored, request}
 use Rattle.ddt_resolver.specs.Records.{IsAbout, NamesServer, outcome_of}
 
@@ -34,3 +36,8 @@ IsSmall (Forget p) = Unit {0}
 pub data SendsOn (s : State) (t : ℕ) (l : Pending) (change : Change) (new : State) (heard : Heard) : Type 0 where
   followed : s.next < last_nonce → new ≡ lodged (with_change s change) t l → heard ≡ Followed t (request s l) → SendsOn s t l change new heard
   used_up : s.next ≡ last_nonce → new ≡ dropped s t → heard ≡ GaveUp t Exhausted → SendsOn s t l change new heard
+
+-- a lookup that is due goes on without a reply, or ends where no nonce is left
+pub data TriesOn (s : State) (t : ℕ) (l : Pending) (new : State) (ticked : Ticked) : Type 0 where
+  tried : s.next < last_nonce → new ≡ lodged s t l → ticked ≡ ticked_as.Sent t (request s l) → TriesOn s t l new ticked
+  spent : s.next ≡ last_nonce → new ≡ dropped s t → ticked ≡ ticked_as.GaveUp t Exhausted → TriesOn s t l new ticked

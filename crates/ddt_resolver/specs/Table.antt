@@ -1,5 +1,6 @@
 -- The table of pending lookups, each found by its ticket and by the nonce of its last request.
-use Rattle.std.specs.Prelude.{ℕ, ◌≡◌, ◌≢◌, ◌==◌, List, Option, Some, refl}
+use Rattle.std.specs.Map.{lookup}
+use Rattle.std.specs.Prelude.{◌<◌, ◌≤◌, ◌⊎◌, None, ℕ, ◌≡◌, ◌≢◌, ◌==◌, List, Option, Some, refl}
 use Rattle.std.specs.Ordering.{nat_cmp}
 use Rattle.std.specs.FinMap.{FinMap, get, from_entries, code}
 use Rattle.std.specs.Coded.{Coded, code_by, coded×, coded_ℕ}
@@ -26,3 +27,26 @@ IsUnknown lookups nonce = (t : ℕ) (l : Pending) → get lookups t ≡ Some l �
 pub record AreNoted (lookup : ℕ → Option Pending) (ticket : ℕ → Option ℕ) : Type 0 where
   pub noted : (t : ℕ) (l : Pending) → lookup t ≡ Some l → ticket l.nonce ≡ Some t
   pub only : (n t : ℕ) → ticket n ≡ Some t → (l : Pending) × (lookup t ≡ Some l) × (l.nonce ≡ n)
+
+-- no due lookup has a nonce below this one
+abbrev pub IsLeastDue : FinMap nat_cmp Pending → ℕ → ℕ → Type 0
+IsLeastDue lookups time nonce = (u : ℕ) (m : Pending) → get lookups u ≡ Some m → m.deadline ≤ time → nonce ≤ m.nonce
+
+-- no lookup is due
+abbrev pub IsNoneDue : FinMap nat_cmp Pending → ℕ → Type 0
+IsNoneDue lookups time = (u : ℕ) (m : Pending) → get lookups u ≡ Some m → time < m.deadline
+
+-- the nonce of the best so far is at most this one
+abbrev pub IsAtMost : Option (ℕ × ℕ) → ℕ → Type 0
+IsAtMost None nonce = ⊥
+IsAtMost (Some best) nonce = best.1 ≤ nonce
+
+-- of the entries but for the rest, the best is the ticket and nonce of the due one with the least nonce
+pub record IsBest (entries rest : List (ℕ × Pending)) (time : ℕ) (best : Option (ℕ × ℕ)) : Type 0 where
+  pub found : (t n : ℕ) → best ≡ Some (t, n) → (l : Pending) × (lookup (◌==◌ t) entries ≡ Some l) × (l.nonce ≡ n) × (l.deadline ≤ time)
+  pub least : (u : ℕ) (m : Pending) → lookup (◌==◌ u) entries ≡ Some m → m.deadline ≤ time → (lookup (◌==◌ u) rest ≡ Some m) ⊎ IsAtMost best m.nonce
+
+-- one more lookup takes the place of the best, or the best stays
+pub data IsBetter (time ticket : ℕ) (l : Pending) (best new : Option (ℕ × ℕ)) : Type 0 where
+  takes : l.deadline ≤ time → new ≡ Some (ticket, l.nonce) → ((n : ℕ) → IsAtMost best n → l.nonce ≤ n) → IsBetter time ticket l best new
+  stays : new ≡ best → (l.deadline ≤ time → IsAtMost best l.nonce) → IsBetter time ticket l best new

@@ -1,7 +1,7 @@
 //! A resolver of RFC 8111, section 7.3, as a machine of steps: an ask, a datagram, a tick. It sends nothing itself: each
 //! call answers what is to be sent, and learns the time from its caller.
 //!
-//! In reading order: `answers`, `pending`, `table`, `resolver`, `asking`, `refusing`, `acting`, `sending`, `laws`.
+//! In reading order: `answers`, `pending`, `table`, `resolver`, `asking`, `refusing`, `acting`, `ticking`, `sending`, `laws`.
 #![tactic(auto)]
 
 mod acting;
@@ -13,6 +13,7 @@ mod refusing;
 mod resolver;
 mod sending;
 mod table;
+mod ticking;
 
 pub use answers::{AskError, Asked, Heard, Ignored, Outgoing, Ticked, Ticket, Why};
 pub use ddt_cache::Moment;

@@ -31,7 +31,7 @@ pub struct Pending {
 impl Pending {
     ghost use Rattle.std.specs.Prelude.{◌≡◌, ◌<◌, ◌+◌, ◌≤◌, get_or, length, true, false, None, Some};
     ghost use Rattle.ddt_path.specs.declared.locator.Locator.{Locator as ALocator};
-    ghost use Rattle.ddt_resolver.specs.State.{opening as opening_of, referred as referred_of, passed_on as passed_on_of};
+    ghost use Rattle.ddt_resolver.specs.State.{opening as opening_of, referred as referred_of, passed_on as passed_on_of, tried_again as tried_again_of, at_next as at_next_of};
 
     /// A new lookup, at the first server of a set; it starts at a remembered entry of this prefix, or at the root.
     pub(crate) fn opening(x: Xeid, servers: LocatorSet, start: Option<Prefix>) -> Pending
@@ -99,6 +99,29 @@ impl Pending {
             kept: None,
             start: None,
             restarted: true,
+            ..*self
+        }
+    }
+
+    /// It once the same server is asked again.
+    pub(crate) fn tried_again(&self) -> Pending
+        ensures { result ≡ tried_again_of self.now }
+    {
+        Pending {
+            second: true,
+            ..*self
+        }
+    }
+
+    /// It once it goes on to the next server of its set without a reply.
+    pub(crate) fn at_next(&self) -> Pending
+        requires place { self.now.place + 1 < length self.now.servers }
+        requires few { length self.now.servers ≤ 8 }
+        ensures { result ≡ at_next_of self.now }
+    {
+        Pending {
+            place: self.place + 1,
+            second: false,
             ..*self
         }
     }

@@ -1,9 +1,9 @@
 //! The pending lookups, found by ticket and by nonce with no walk.
 
-ghost use Rattle.std.specs.Prelude.{◌≡◌, ◌≢◌, ◌<◌, ◌+◌, ◌⊎◌, ◌==◌, ℕ, cond, is_some, None, Some, IsSome, IfSome, IfNone, OnOk};
+ghost use Rattle.std.specs.Prelude.{◌≡◌, ◌≢◌, ◌<◌, ◌≤◌, ◌+◌, [], ◌⊎◌, ◌==◌, ℕ, cond, is_some, None, Some, IsSome, IfSome, IfNone, OnOk};
 ghost use Rattle.std.specs.HashMap.{get, spare, hash_map_len};
 ghost use Rattle.std.specs.FinMap as map;
-ghost use Rattle.ddt_resolver.specs.Table.{IsUnknown};
+ghost use Rattle.ddt_resolver.specs.Table.{IsUnknown, IsLeastDue, IsNoneDue, IsBest, IsBetter};
 
 use crate::pending::Pending;
 use std::alloc::{AllocError, Global};
@@ -62,6 +62,23 @@ impl Table {
         match self.tickets.get(&nonce) {
             Some(ticket) => match self.lookups.get(ticket) {
                 Some(lookup) => Some((*ticket, *lookup)),
+                None => None,
+            },
+            None => None,
+        }
+    }
+
+    /// Of the lookups whose deadline is at or before a time, that whose last request has the least nonce, with its
+    /// ticket.
+    pub(crate) fn due(&self, time: u64) -> Option<(u64, Pending)>
+        ensures found { IfSome result (λ d. map.get self.now.lookups d.0 ≡ Some d.1) }
+        ensures over { IfSome result (λ d. d.1.deadline ≤ time) }
+        ensures least { IfSome result (λ d. IsLeastDue self.now.lookups time d.1.nonce) }
+        ensures none { IfNone result (IsNoneDue self.now.lookups time) }
+    {
+        match least_due(&self.lookups, time) {
+            Some((ticket, _nonce)) => match self.lookups.get(&ticket) {
+                Some(lookup) => Some((ticket, *lookup)),
                 None => None,
             },
             None => None,
@@ -140,4 +157,34 @@ fn note(tickets: &mut HashMap<u64, u64>, nonce: u64, ticket: u64)
 {
     let noted: Result<_, _> = tickets.insert(nonce, ticket);
     noted.unwrap();
+}
+
+/// Of the lookups whose deadline is at or before a time, the ticket and the nonce of that with the least nonce.
+fn least_due(lookups: &HashMap<u64, Pending>, time: u64) -> Option<(u64, u64)>
+    ensures { IsBest lookups.now.entries [] time result }
+{
+    let mut best: Option<(u64, u64)> = None;
+    for (ticket, lookup) in lookups.iter() {
+        best = better(*ticket, lookup, time, best);
+    }
+    best
+}
+
+/// One more lookup beside the best so far.
+fn better(ticket: u64, lookup: &Pending, time: u64, best: Option<(u64, u64)>) -> Option<(u64, u64)>
+    ensures { IsBetter time ticket lookup.now best result }
+{
+    if lookup.deadline > time {
+        return best;
+    }
+    match best {
+        Some((before, nonce)) => {
+            if nonce <= lookup.nonce {
+                Some((before, nonce))
+            } else {
+                Some((ticket, lookup.nonce))
+            }
+        }
+        None => Some((ticket, lookup.nonce)),
+    }
 }

@@ -1,11 +1,10 @@
 -- The server at a locator of an accepted register is there, and answers honestly.
-use Rattle.std.proofs.Common.{◌≡◌, ◌⊎◌, ℕ, Bool, true, false, cond, List, [], ◌∷◌, map, find, Option, Some, None, refl, sym, ap, subst, ◌∙◌, inl, inr, Contains}
+use Rattle.std.proofs.Common.{◌≡◌, ℕ, Bool, true, false, cond, List, [], ◌∷◌, map, find, Some, None, refl, sym, ap, subst, ◌∙◌, inl, inr}
 use Rattle.std.specs.Prelude.{IsTrue}
-use Rattle.std.proofs.lemmas.Bool.{cond-true, cond-false, false≢true}
+use Rattle.std.proofs.lemmas.Bool.{cond-true}
 use Rattle.ddt_path.specs.declared.locator.Locator.{Locator}
 use Rattle.ddt_path.specs.Locators.{lists}
-use Rattle.ddt_path.proofs.MemberLemmas.{IsIn, in_contained, contained, found_in, found_passes, fails_at}
-use Rattle.ddt_register.specs.declared.group.Group.{Group}
+use Rattle.ddt_path.proofs.MemberLemmas.{IsIn, in_contained, contained, found_in, found_passes}
 use Rattle.ddt_register.specs.declared.register.Register.{Register}
 use Rattle.ddt_check.specs.Says.{says}
 use Rattle.ddt_config.specs.Answer.{answer}
@@ -13,7 +12,7 @@ use Rattle.ddt_config.specs.Table.{Outline}
 use Rattle.ddt_compile.specs.GroupConfig.{group_config}
 use Rattle.ddt_compile.specs.Laws.{AnswersHonestly}
 use Rattle.ddt_sim.specs.Honest.{IsServer}
-use Rattle.ddt_sim.specs.Compiled.{configs_of, AreCompiled, server_at}
+use Rattle.ddt_sim.specs.Compiled.{AreCompiled, server_at}
 
 -- what is in the image of a list is the image of one of its members
 in_map : {A B : Type 0} (f : A → B) (xs : List A) (y : B) → IsIn y (map f xs) → (x : A) × IsIn x xs × (y ≡ f x)

@@ -3,3 +3,6 @@ pub mod SoundLemmas
 pub mod WaitingLemmas
 pub mod ReplyLemmas
 pub mod TurnLemmas
+pub mod ExchangeLemmas
+pub mod FollowLemmas
+pub mod AskLemmas

@@ -1,16 +1,15 @@
 -- The reply of an honest server is taken up by the lookup that asked, and is fair.
-use Rattle.std.proofs.Common.{◌≡◌, ℕ, ◌+◌, ◌<◌, ◌≤◌, List, [], ◌∷◌, length, get_or, Option, Some, None, refl, sym, ap, ◌∙◌, subst, arith, inl, inr, ◌⊎◌}
-use Rattle.std.specs.Prelude.{IsTrue, ◌≢◌}
+use Rattle.std.proofs.Common.{◌≡◌, ℕ, ◌<◌, List, length, refl, sym, ap, ◌∙◌, subst, arith, inl}
+use Rattle.std.specs.Prelude.{IsTrue}
 use Rattle.std.specs.FinMap.{get}
 use Rattle.std.proofs.lemmas.Option.{same_Some}
 use Rattle.ddt_path.specs.declared.xeid.Xeid.{Xeid}
-use Rattle.ddt_path.specs.declared.locator.Locator.{Locator}
 use Rattle.ddt_path.specs.declared.record.ReferralRecord.{ReferralRecord}
 use Rattle.ddt_path.specs.Path.{xeid_path, is_path}
 use Rattle.ddt_path.specs.Covers.{covers}
 use Rattle.ddt_register.specs.declared.register.Register.{Register}
 use Rattle.ddt_check.specs.Says.{says}
-use Rattle.ddt_check.specs.Laws.{AnswersCover, AnswersHaveServers, AnswersCanBeSent, AreServers, NamesServers}
+use Rattle.ddt_check.specs.Laws.{AnswersCover, AnswersHaveServers, AnswersCanBeSent}
 use Rattle.ddt_wire.specs.Referral.{Message, Spells, message_of, message_record}
 use Rattle.ddt_wire.specs.Laws.{OneMessage, RecordsComeBack}
 use Rattle.ddt_resolver.specs.declared.pending.Pending.{Pending}

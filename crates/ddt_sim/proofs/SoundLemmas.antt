@@ -1,7 +1,7 @@
 -- Each step keeps a resolver sound, and answers what the register assigns.
-use Rattle.std.proofs.Common.{◌≡◌, ℕ, zero, suc, ◌<◌, ◌≤◌, Bool, cond, true, false, List, [], ◌∷◌, length, get_or, Option, Some, None, refl, sym, ap, ◌∙◌, subst, arith, inl, inr, ◌⊎◌, eq-eqb, Contains}
-use Rattle.std.specs.Prelude.{◌≢◌, IsTrue, ◌||◌, max, Result, Ok, Err}
-use Rattle.std.specs.FinMap.{FinMap, get, insert, remove}
+use Rattle.std.proofs.Common.{◌≡◌, ℕ, zero, suc, ◌<◌, Bool, cond, true, false, List, [], ◌∷◌, length, get_or, Some, None, refl, sym, ap, ◌∙◌, subst, arith, inl, inr, ◌⊎◌, eq-eqb, Contains}
+use Rattle.std.specs.Prelude.{◌≢◌, IsTrue, max, Result}
+use Rattle.std.specs.FinMap.{get, insert}
 use Rattle.std.proofs.lemmas.Option.{none-some, same_Some}
 use Rattle.std.proofs.lemmas.Bool.{false≢true, or_right}
 use Rattle.ddt_path.specs.declared.locator.Locator.{Locator}
@@ -21,15 +21,14 @@ use Rattle.ddt_path.specs.Locators.{lists, is_same_locator}
 use Rattle.ddt_path.proofs.CoverLemmas.{covers_trans}
 use Rattle.ddt_register.specs.declared.zone.Zone.{Zone}
 use Rattle.ddt_register.specs.declared.register.Register.{Register}
-use Rattle.ddt_check.specs.Zones.{zone_of, locators_of, roots}
+use Rattle.ddt_check.specs.Zones.{locators_of}
 use Rattle.ddt_check.specs.Assignment.{assignment}
 use Rattle.ddt_check.specs.Says.{says, referral_to}
-use Rattle.ddt_check.specs.Laws.{IsReferral as RefersDown, IsFinal, IsItsZone, IsSiteWithServers, negative_prefix}
-use Rattle.ddt_trie.specs.PrefixMap.{path_cmp, IsLongest}
+use Rattle.ddt_check.specs.Laws.{IsReferral as RefersDown, IsFinal, IsItsZone, negative_prefix}
 use Rattle.ddt_trie.proofs.MapLemmas.{found_after_insert}
 use Rattle.ddt_cache.specs.declared.entry.Entry.{Entry}
 use Rattle.ddt_cache.specs.Entry.{is_negative, entry_of}
-use Rattle.ddt_cache.specs.Found.{IsFound, IsRoot}
+use Rattle.ddt_cache.specs.Found.{IsFound}
 use Rattle.ddt_cache.specs.Saved.{is_saved}
 use Rattle.ddt_cache.proofs.LiveLemmas.{live_at-is}
 use Rattle.ddt_resolver.specs.declared.pending.Pending.{Pending}
@@ -40,7 +39,6 @@ use Rattle.ddt_resolver.specs.declared.answers.Ticked.{Ticked}
 use Rattle.ddt_resolver.specs.Records.{IsReferral, IsBelow, outcome_at, outcome_of, negative_answer, start_at}
 use Rattle.ddt_resolver.specs.State.{State, moved, server, numbered, lodged, dropped, stored, opening, referred, passed_on, tried_again, at_next}
 use Rattle.ddt_resolver.specs.AskStep.{AskStep, Start, cached, full, used_up, opened, answer_of}
-use Rattle.ddt_resolver.specs.TakeUp.{IsTaken}
 use Rattle.ddt_resolver.specs.Act as acts
 use Rattle.ddt_resolver.specs.Act.{Act, HearStep}
 use Rattle.ddt_resolver.specs.TickStep as ticks

@@ -1,19 +1,14 @@
 -- A lookup that waits for the reply to its last request, from its ask to its end.
-use Rattle.std.proofs.Common.{◌≡◌, ℕ, ◌+◌, ◌<◌, ◌≤◌, List, [], ◌∷◌, ◌++◌, get_or, Option, Some, None, Ok, Err, Result, refl, sym, ap, ◌∙◌, subst, arith, inl, inr, ◌⊎◌, max}
+use Rattle.std.proofs.Common.{◌≡◌, ℕ, ◌+◌, ◌≤◌, List, Some, Ok, refl, sym, ap, ◌∙◌, arith, max}
 use Rattle.std.specs.FinMap.{get}
 use Rattle.std.proofs.lemmas.Option.{same_Some}
 use Rattle.ddt_path.specs.declared.xeid.Xeid.{Xeid}
 use Rattle.ddt_path.specs.declared.locator.Locator.{Locator}
-use Rattle.ddt_path.specs.declared.record.ReferralRecord.{ReferralRecord}
-use Rattle.ddt_path.specs.Path.{xeid_path}
 use Rattle.ddt_resolver.specs.declared.pending.Pending.{Pending}
 use Rattle.ddt_resolver.specs.declared.answers.Outgoing.{Outgoing}
-use Rattle.ddt_resolver.specs.declared.answers.Asked.{Asked}
 use Rattle.ddt_resolver.specs.declared.answers.Asked.TheVariants as asked
-use Rattle.ddt_resolver.specs.declared.answers.AskError.{AskError}
-use Rattle.ddt_resolver.specs.declared.answers.Heard.{Heard}
 use Rattle.ddt_resolver.specs.declared.answers.Heard.TheVariants as heard
-use Rattle.ddt_resolver.specs.State.{State, moved, server, request, request_bytes, numbered, lodged, dropped, stored, forgotten, opening, referred, passed_on, started_over, patience}
+use Rattle.ddt_resolver.specs.State.{State, moved, request, request_bytes, numbered, lodged, stored, forgotten, opening, referred, passed_on, started_over}
 use Rattle.ddt_resolver.specs.AskStep.{AskStep, Start, cached, full, used_up, opened}
 use Rattle.ddt_resolver.specs.Records.{start_at}
 use Rattle.ddt_resolver.specs.Act as acts
@@ -21,7 +16,7 @@ use Rattle.ddt_resolver.specs.Act.{Act, HearStep}
 use Rattle.ddt_resolver.proofs.NumberMapLemmas.{get-insert_same}
 use Rattle.ddt_sim.specs.declared.hop.Hop.{Hop}
 use Rattle.ddt_sim.specs.Waiting.{Waits}
-use Rattle.ddt_sim.specs.Lookup.{Reaches, sent, followed, hop_of}
+use Rattle.ddt_sim.specs.Lookup.{Reaches, sent, followed}
 
 -- at the time that a lookup has, the passing of time to `now` changes nothing of it
 abbrev pub waits_on : (now : ℕ) (x : Xeid) (s : State) (t : ℕ) (d : Outgoing) → Waits now x s t d → Waits now x (moved now s) t d

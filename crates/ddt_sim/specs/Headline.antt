@@ -1,5 +1,5 @@
 -- What a lookup over honest servers of a register ends in: what the register assigns (RFC 8111, section 7.3).
-use Rattle.std.specs.Prelude.{ℕ, ◌≡◌, ◌≤◌, ◌+◌, ◌*◌, IsTrue, List, length, Contains}
+use Rattle.std.specs.Prelude.{ℕ, ◌≡◌, ◌≤◌, ◌+◌, ◌*◌, length, Ok}
 use Rattle.std.specs.FinMap.{len}
 use Rattle.ddt_path.specs.declared.locator.Locator.{Locator}
 use Rattle.ddt_path.specs.declared.xeid.Xeid.{Xeid}
@@ -11,13 +11,15 @@ use Rattle.ddt_check.specs.Says.{says}
 use Rattle.ddt_wire.specs.Referral.{Spells, message_of}
 use Rattle.ddt_resolver.specs.declared.answers.Outgoing.{Outgoing}
 use Rattle.ddt_resolver.specs.declared.answers.Why.TheVariants.{Exhausted}
-use Rattle.ddt_resolver.specs.State.{State, last_nonce, most_pending, request_bytes}
+use Rattle.ddt_resolver.specs.declared.answers.Asked.{Asked}
+use Rattle.ddt_resolver.specs.AskStep.{AskStep}
+use Rattle.ddt_resolver.specs.State.{State, moved, last_nonce, most_pending, request_bytes}
 use Rattle.ddt_sim.specs.declared.following.Turn.{Turn}
 use Rattle.ddt_sim.specs.declared.following.Turn.TheVariants.{GoesOn, Ends}
 use Rattle.ddt_sim.specs.declared.hop.Hop.{Hop}
 use Rattle.ddt_sim.specs.declared.hop.LookupError.{LookupError}
 use Rattle.ddt_sim.specs.declared.hop.LookupError.TheVariants.{GaveUp, TooMany, Memory}
-use Rattle.ddt_sim.specs.Sound.{IsSound}
+use Rattle.ddt_sim.specs.Sound.{IsSound, IsRightAsked}
 use Rattle.ddt_sim.specs.Waiting.{Waits, CanBeAsked}
 
 -- a lookup of x that waits for the reply to d, in a resolver that is sound for an accepted register
@@ -25,6 +27,21 @@ pub record IsUnderWay (r : Register) (now : ℕ) (x : Xeid) (s : State) (t : ℕ
   pub accepted : IsAccepted r
   pub sound : IsSound r s
   pub waits : Waits now x s t d
+  pub fits : CanBeAsked x s.me
+
+-- what an ask was answered, in the state that it left
+pub record IsAsked (now : ℕ) (s : State) (asked : Asked) : Type 0 where
+  pub identifier : Xeid
+  pub start : State
+  pub step : AskStep (moved now start) identifier s (Ok asked)
+
+-- and where x was asked for, in a resolver that is sound for an accepted register
+pub record IsRightlyAsked (r : Register) (now : ℕ) (x : Xeid) (s : State) (asked : Asked) : Type 0 where
+  pub accepted : IsAccepted r
+  pub start : State
+  pub step : AskStep (moved now start) x s (Ok asked)
+  pub sound : IsSound r s
+  pub right : IsRightAsked r (xeid_path x) (Ok asked)
   pub fits : CanBeAsked x s.me
 
 -- a hop of a lookup of x over honest servers: a DDT Map-Request for x with the resolver's address as its ITR-RLOC, and a

@@ -4,3 +4,4 @@ pub mod Sound
 pub mod Waiting
 pub mod Lookup
 pub mod Headline
+pub mod Reply

@@ -66,6 +66,14 @@ pub data Reaches (now : ℕ) (x : Xeid) (start : State) : List Hop → ℕ → O
       → Reaches now x start hops t d s → HearStep (moved now s) d.to reply new (heard.Followed t e)
       → Reaches now x start (hops ++ hop_of d reply ∷ []) t e new
 
+-- a lookup that has come some way under a ticket, and whose next request fails
+pub record FailsUnder (now : ℕ) (x : Xeid) (start : State) (t : ℕ) (error : LookupError) (after : State) : Type 0 where
+  pub hops : List Hop
+  pub request : Outgoing
+  pub state : State
+  pub reaches : Reaches now x start hops t request state
+  pub fails : TurnFails now state t request error after
+
 -- How a lookup ends with an outcome: at once, by what is remembered, or by the reply of its last hop.
 pub data HasOutcome (now : ℕ) (x : Xeid) (start : State) (outcome : Outcome) (hops : List Hop) (new : State) : Type 0 where
   at_once : AskStep (moved now start) x new (Ok (asked.Answer outcome)) → hops ≡ [] → HasOutcome now x start outcome hops new

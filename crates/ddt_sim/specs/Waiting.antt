@@ -9,6 +9,8 @@ use Rattle.ddt_resolver.specs.declared.pending.Pending.{Pending}
 use Rattle.ddt_resolver.specs.declared.answers.Outgoing.{Outgoing}
 use Rattle.ddt_resolver.specs.State.{State, server, request_bytes, patience}
 use Rattle.ddt_resolver.specs.Bound.{measure}
+use Rattle.ddt_sim.specs.declared.following.Turn.{Turn}
+use Rattle.ddt_sim.specs.declared.following.Turn.TheVariants.{GoesOn, Ends}
 
 -- The lookup of x under the ticket t waits for the reply to the request d, which was sent at the resolver's time.
 pub record Waits (now : ℕ) (x : Xeid) (s : State) (t : ℕ) (d : Outgoing) : Type 0 where
@@ -20,9 +22,19 @@ pub record Waits (now : ℕ) (x : Xeid) (s : State) (t : ℕ) (d : Outgoing) : T
   pub deadline : lookup.deadline ≡ s.known.time + patience
   pub time : now ≤ s.known.time
 
+-- a lookup of some identifier waits for it
+pub record IsAwaited (now : ℕ) (s : State) (t : ℕ) (d : Outgoing) : Type 0 where
+  pub identifier : Xeid
+  pub waits : Waits now identifier s t d
+
 -- how many requests the lookup of a ticket can send yet, this one among them
 abbrev pub requests_left : State → ℕ → ℕ
 requests_left s t = option_map_or measure (get s.pending t) 0
+
+-- how many after a reply
+abbrev pub left_after : State → ℕ → Turn → ℕ
+left_after new t (GoesOn e) = requests_left new t
+left_after new t (Ends o) = 0
 
 -- an identifier and an address whose numbers lie in the ranges of their types, so that a request can spell them
 pub record CanBeAsked (x : Xeid) (me : Locator) : Type 0 where

@@ -1,7 +1,22 @@
-//! What a reply makes of a lookup.
+//! The requests of a lookup, each with what comes back.
 
+ghost use Rattle.std.specs.Prelude.{◌≡◌, ◌<◌, IfOk, OnOk, IfErr, MatchOption};
+ghost use Rattle.std.specs.List.{All};
+ghost use Rattle.ddt_path.specs.declared.xeid.Xeid.{Xeid as AnXeid};
+ghost use Rattle.ddt_register.specs.declared.register.Register.{Register};
+ghost use Rattle.ddt_sim.specs.Sound.{IsSound};
+ghost use Rattle.ddt_sim.specs.Lookup.{IsTurn, TurnFails, IsNotFor, heard_of};
+ghost use Rattle.ddt_sim.specs.Waiting.{Waits, requests_left, left_after};
+ghost use Rattle.ddt_sim.specs.Headline.{IsUnderWay, IsHonestHop, IsRightTurn, IsRightFailure};
+
+use crate::hop::{Hop, LookupError};
+use crate::laws::requests_are_understood;
+use crate::servers::Servers;
+use ddt_cache::{Entry, Moment};
 use ddt_path::Outcome;
-use ddt_resolver::Outgoing;
+use ddt_resolver::{Heard, Outgoing, Resolver, Ticket, Why};
+use ddt_trie::PrefixMap;
+use std::alloc::Global;
 
 /// What a reply makes of a lookup.
 #[derive(Debug, Drop)]
@@ -10,4 +25,86 @@ pub enum Turn {
     GoesOn(Outgoing),
     /// It ends with this outcome.
     Ends(Outcome),
+}
+
+/// Sends a lookup's request to its server, and lets the resolver hear what comes back, which is one hop more. It gives
+/// up as NoReply where nothing comes back, or what comes is no reply to this lookup.
+pub(crate) fn exchange<S: Servers, M: PrefixMap<Entry>>(
+    alloc: Global,
+    servers: &mut S,
+    resolver: &mut Resolver<M>,
+    now: Moment,
+    ticket: Ticket,
+    request: Outgoing,
+    hops: &mut Vec<Hop>,
+) -> Result<Turn, LookupError>
+    ensures turn { IfOk result (λ turn. IsTurn now resolver.old ticket request hops.old.items turn hops.new.items resolver.new) }
+    ensures failed { IfErr result (λ error. TurnFails now resolver.old ticket request error resolver.new) }
+    ensures sound { (r : Register) (x : AnXeid) → S.honest servers.old r → IsUnderWay r now x resolver.old ticket request → IsSound r resolver.new }
+    ensures right { (r : Register) (x : AnXeid) → S.honest servers.old r → IsUnderWay r now x resolver.old ticket request → IfOk result (IsRightTurn r x) }
+    ensures failure { (r : Register) (x : AnXeid) → S.honest servers.old r → IsUnderWay r now x resolver.old ticket request → IfErr result (IsRightFailure resolver.new) }
+    ensures stay { (r : Register) → S.honest servers.old r → S.honest servers.new r }
+    // Over honest servers its hop is honest.
+    ensures hop { (r : Register) (x : AnXeid) → S.honest servers.old r → IsUnderWay r now x resolver.old ticket request → All (IsHonestHop r x resolver.old.me) hops.old.items → OnOk result (All (IsHonestHop r x resolver.old.me) hops.new.items) }
+    // Where the lookup waited, each request that follows leaves fewer that can follow.
+    ensures nearer { (x : AnXeid) → Waits now x resolver.old ticket request → IfOk result (λ turn. left_after resolver.new ticket turn < requests_left resolver.old ticket) }
+{
+    requests_are_understood();
+    resolver.in_order();
+    // The number tells the proof that it is a moment.
+    let _millis = now.millis();
+    let reply = match servers.answer(alloc, request.to, request.bytes.as_slice()) {
+        Ok(Some(reply)) => reply,
+        Ok(None) => return Err(LookupError::GaveUp(Why::NoReply)),
+        Err(_refused) => return Err(LookupError::Memory),
+    };
+    let heard = match resolver.datagram(now, request.to, reply.as_slice()) {
+        Ok(heard) => heard,
+        Err(_refused) => return Err(LookupError::Memory),
+    };
+    let turn = match own(ticket, heard) {
+        Some(Ok(turn)) => turn,
+        Some(Err(why)) => return Err(LookupError::GaveUp(why)),
+        None => return Err(LookupError::GaveUp(Why::NoReply)),
+    };
+    let hop = Hop {
+        to: request.to,
+        request: request.bytes,
+        reply,
+    };
+    match hops.push(hop) {
+        Ok(()) => Ok(turn),
+        Err(_refused) => Err(LookupError::Memory),
+    }
+}
+
+/// What the resolver answered to a reply of a ticket: how the lookup goes on or ends, or why it gave up; None where the
+/// reply wasn't for this ticket.
+fn own(ticket: Ticket, heard: Heard) -> Option<Result<Turn, Why>>
+    ensures { MatchOption result (IsNotFor ticket heard) (λ own. heard ≡ heard_of ticket own) }
+{
+    match heard {
+        Heard::Followed(of, next) => {
+            if of.number() == ticket.number() {
+                Some(Ok(Turn::GoesOn(next)))
+            } else {
+                None
+            }
+        }
+        Heard::Answer(of, outcome) => {
+            if of.number() == ticket.number() {
+                Some(Ok(Turn::Ends(outcome)))
+            } else {
+                None
+            }
+        }
+        Heard::GaveUp(of, why) => {
+            if of.number() == ticket.number() {
+                Some(Err(why))
+            } else {
+                None
+            }
+        }
+        Heard::Ignored(_why) => None,
+    }
 }

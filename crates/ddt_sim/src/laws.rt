@@ -1,11 +1,14 @@
 //! Laws of a resolver over honest servers: each function here is a law of the definitions, and does nothing.
 
 ghost use Rattle.ddt_sim.specs.Sound.{StepsKeepSoundness, TimeKeepsSoundness, CancellingKeepsSoundness};
+ghost use Rattle.ddt_sim.specs.Reply.{RequestsAreUnderstood};
 
 use ddt_check::{
     each_identifier_has_a_zone, honest_servers_lead_to_the_assignment,
     negatives_hold_of_all_that_they_cover,
 };
+use ddt_ecm::request_laws;
+use ddt_wire::referral_laws;
 
 /// A resolver that is sound for an accepted register stays sound: by each step whose datagram, if it has one, is
 /// what the register says there; as time passes; and where a lookup is cancelled. What a step answers is the
@@ -18,4 +21,16 @@ pub fn a_step_keeps_a_resolver_sound()
     each_identifier_has_a_zone();
     honest_servers_lead_to_the_assignment();
     negatives_hold_of_all_that_they_cover();
+}
+
+/// Each request of a lookup that is under way, in a resolver that is sound for an accepted register, is a DDT Map-Request
+/// to a server of it. The reply of an honest server is taken, keeps the resolver sound, and ends the lookup with the
+/// assignment, or without an outcome only where no nonce is left.
+pub(crate) fn requests_are_understood()
+    ensures { RequestsAreUnderstood }
+{
+    a_step_keeps_a_resolver_sound();
+    honest_servers_lead_to_the_assignment();
+    request_laws();
+    referral_laws();
 }

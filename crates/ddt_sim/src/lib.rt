@@ -7,9 +7,11 @@ mod compiled;
 mod following;
 mod hop;
 mod laws;
+mod looking_up;
 mod servers;
 
 pub use compiled::Compiled;
 pub use hop::{Hop, Lookup, LookupError};
 pub use laws::a_step_keeps_a_resolver_sound;
+pub use looking_up::lookup;
 pub use servers::Servers;

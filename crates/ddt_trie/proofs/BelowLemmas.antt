@@ -17,10 +17,13 @@ use Rattle.ddt_trie.proofs.KeyLemmas.{all_from_members, all_keys, any_same, foun
 use Rattle.ddt_trie.proofs.MapLemmas.{found_after_insert}
 
 -- a test that each filtered path fails is one that no path passes together with the filter
-pub all_filtered : (test fails : List ℕ → Bool) (ks : List (List ℕ)) → list_all (λ k. not (fails k)) (filter test ks) ≡ list_all (λ k. not (test k && fails k)) ks
+pub all_filtered : (test fails : List ℕ → Bool) (ks : List (List ℕ))
+    → list_all (λ k. not (fails k)) (filter test ks) ≡ list_all (λ k. not (test k && fails k)) ks
 all_filtered test fails [] = refl
 all_filtered test fails (k ∷ ks) =
-    elim (test k) as (λ b. list_all (λ k. not (fails k)) (cond b (k ∷ filter test ks) (filter test ks)) ≡ (not (b && fails k) && list_all (λ k. not (test k && fails k)) ks)) [
+    elim (test k) as
+    (λ b. list_all (λ k. not (fails k)) (cond b (k ∷ filter test ks) (filter test ks))
+    ≡ (not (b && fails k) && list_all (λ k. not (test k && fails k)) ks)) [
       | true ↦ ap (λ (r : Bool). not (fails k) && r) (all_filtered test fails ks)
       | false ↦ all_filtered test fails ks
     ]
@@ -33,17 +36,21 @@ never_both false b n p q = false≢true p
 
 module _ {V : Type 0} (m : FinMap path_cmp V) (from q : List ℕ) where
   -- the prefix overlaps no key strictly below, by each of all the keys
-  pub overlaps_none-below : overlaps_none (keys_below m from) q ≡ list_all (λ k. not (is_strictly_below k from && overlaps k q)) (keys m)
+  pub overlaps_none-below : overlaps_none (keys_below m from) q
+      ≡ list_all (λ k. not (is_strictly_below k from && overlaps k q)) (keys m)
   overlaps_none-below = all_filtered (λ k. is_strictly_below k from) (λ k. overlaps k q) (keys m)
 
-  pub below_apart : overlaps_none (keys_below m from) q ≡ true → (k : List ℕ) → contains_key m k ≡ true → is_strictly_below k from ≡ true → overlaps k q ≡ true → ⊥
+  pub below_apart : overlaps_none (keys_below m from) q ≡ true → (k : List ℕ) → contains_key m k ≡ true
+      → is_strictly_below k from ≡ true → overlaps k q ≡ true → ⊥
   below_apart none k is below meets =
       never_both (is_strictly_below k from) (overlaps k q)
-      (member_passes (λ k. not (is_strictly_below k from && overlaps k q)) (keys m) k (sym overlaps_none-below ∙ none) (sym (contains_key-keys m k) ∙ is)) below meets
+      (member_passes (λ k. not (is_strictly_below k from && overlaps k q)) (keys m) k (sym overlaps_none-below ∙ none)
+      (sym (contains_key-keys m k) ∙ is)) below meets
 
 module _ {V : Type 0} where
   -- some entry passes a test that not each one fails
-  passing : (test : List ℕ → Bool) (es : List (List ℕ × V)) → list_all (λ e. not (test e.0)) es ≡ false → (p : List ℕ) × (is_some (find path_cmp p es) ≡ true) × (test p ≡ true)
+  passing : (test : List ℕ → Bool) (es : List (List ℕ × V)) → list_all (λ e. not (test e.0)) es ≡ false
+      → (p : List ℕ) × (is_some (find path_cmp p es) ≡ true) × (test p ≡ true)
   passing test [] h = absurd (false≢true (sym h))
   passing test (e ∷ es) h =
       elim (and_cases (not (test e.0)) (list_all (λ f. not (test f.0)) es) h) [
@@ -51,35 +58,50 @@ module _ {V : Type 0} where
         | inr c ↦ let s = passing test es c in (s.0, later_found (tied s.0 e.0) e.1 (find path_cmp s.0 es) s.1, s.2)
       ]
 
-  pub tested_below : (s es : List (List ℕ × V)) (from q : List ℕ) (r b : Bool) → s ≡ es → r ≡ list_all (λ e. not (is_strictly_below e.0 from && overlaps e.0 q)) s → r ≡ b → overlaps_none (keys_below (map_of es) from) q ≡ b
+  pub tested_below : (s es : List (List ℕ × V)) (from q : List ℕ) (r b : Bool) → s ≡ es
+      → r ≡ list_all (λ e. not (is_strictly_below e.0 from && overlaps e.0 q)) s → r ≡ b
+      → overlaps_none (keys_below (map_of es) from) q ≡ b
   tested_below s es from q r b same answer is =
       overlaps_none-below (map_of es) from q ∙ all_keys (λ k. not (is_strictly_below k from && overlaps k q)) es
-      ∙ ap (list_all (λ (e : List ℕ × V). not (is_strictly_below e.0 from && overlaps e.0 q))) (sym same) ∙ sym answer ∙ is
+      ∙ ap (list_all (λ (e : List ℕ × V). not (is_strictly_below e.0 from && overlaps e.0 q))) (sym same) ∙ sym answer
+      ∙ is
 
   -- where a key strictly below covers x, no part of x is free
-  pub no_part_below : (es : List (List ℕ × V)) (from x : List ℕ) (n : ℕ) → overlaps_none (keys_below (map_of es) from) (take n x) ≡ true → IsCoveredBelow (map_of es) from x → ⊥
-  no_part_below es from x n none c = below_apart (map_of es) from (take n x) none c.0 c.1 c.2 (overlaps-take c.0 x n c.3)
+  pub no_part_below : (es : List (List ℕ × V)) (from x : List ℕ) (n : ℕ)
+      → overlaps_none (keys_below (map_of es) from) (take n x) ≡ true → IsCoveredBelow (map_of es) from x → ⊥
+  no_part_below es from x n none c =
+      below_apart (map_of es) from (take n x) none c.0 c.1 c.2 (overlaps-take c.0 x n c.3)
 
-  pub some_covers_below : (s es : List (List ℕ × V)) (from x : List ℕ) (r : Bool) → s ≡ es → r ≡ list_all (λ e. not (is_strictly_below e.0 from && covers e.0 x)) s → r ≡ false → IsCoveredBelow (map_of es) from x
+  pub some_covers_below : (s es : List (List ℕ × V)) (from x : List ℕ) (r : Bool) → s ≡ es
+      → r ≡ list_all (λ e. not (is_strictly_below e.0 from && covers e.0 x)) s → r ≡ false
+      → IsCoveredBelow (map_of es) from x
   some_covers_below s es from x r same answer is =
-      let f = passing (λ k. is_strictly_below k from && covers k x) es (ap (list_all (λ (e : List ℕ × V). not (is_strictly_below e.0 from && covers e.0 x))) (sym same) ∙ sym answer ∙ is) in
+      let f = passing (λ k. is_strictly_below k from && covers k x) es
+      (ap (list_all (λ (e : List ℕ × V). not (is_strictly_below e.0 from && covers e.0 x))) (sym same) ∙ sym answer
+      ∙ is) in
       let parts = and_parts (is_strictly_below f.0 from) (covers f.0 x) f.2 in
       (f.0, ap (λ (o : Option V). is_some o) (get-map_of es f.0) ∙ f.1, parts.0, parts.1)
 
-  pub uncovered_below : (s es : List (List ℕ × V)) (from x : List ℕ) (r : Bool) → s ≡ es → r ≡ list_all (λ e. not (is_strictly_below e.0 from && covers e.0 x)) s → r ≡ true → IsCoveredBelow (map_of es) from x → ⊥
+  pub uncovered_below : (s es : List (List ℕ × V)) (from x : List ℕ) (r : Bool) → s ≡ es
+      → r ≡ list_all (λ e. not (is_strictly_below e.0 from && covers e.0 x)) s → r ≡ true
+      → IsCoveredBelow (map_of es) from x → ⊥
   uncovered_below s es from x r same answer is c =
       never_both (is_strictly_below c.0 from) (covers c.0 x)
-      (keys_pass (λ k. not (is_strictly_below k from && covers k x)) es c.0 (ap (list_all (λ (e : List ℕ × V). not (is_strictly_below e.0 from && covers e.0 x))) (sym same) ∙ sym answer ∙ is) (is_found es c.0 c.1))
+      (keys_pass (λ k. not (is_strictly_below k from && covers k x)) es c.0
+      (ap (list_all (λ (e : List ℕ × V). not (is_strictly_below e.0 from && covers e.0 x))) (sym same) ∙ sym answer
+      ∙ is) (is_found es c.0 c.1))
       c.2 c.3
 
 -- among any list with the same members the same is free
-pub members_free_below : {V : Type 0} (m : FinMap path_cmp V) (members : List (List ℕ)) → ((p : List ℕ) → contains_key m p ≡ list_any (is_same_path p) members) → (from x : List ℕ)
+pub members_free_below : {V : Type 0} (m : FinMap path_cmp V) (members : List (List ℕ))
+    → ((p : List ℕ) → contains_key m p ≡ list_any (is_same_path p) members) → (from x : List ℕ)
     → free from (keys_below m from) x ≡ free from (filter (λ k. is_strictly_below k from) members) x
 members_free_below m members same from x =
     let below = λ (k : List ℕ). is_strictly_below k from in
     free_agree from (keys_below m from) (filter below members) x (λ q.
     all_filtered below (λ k. overlaps k q) (keys m)
-    ∙ same_members_all (λ k. not (below k && overlaps k q)) (keys m) members (λ p. sym (contains_key-keys m p) ∙ same p ∙ any_same p members)
+    ∙ same_members_all (λ k. not (below k && overlaps k q)) (keys m) members (λ p. sym (contains_key-keys m p) ∙ same p
+    ∙ any_same p members)
     ∙ sym (all_filtered below (λ k. overlaps k q) members))
 
 -- a lone key is free below
@@ -90,14 +112,16 @@ free_below_alone m n p x v none is inside =
     free_whole p (keys_below m p) x inside
     (overlaps_none-below m p p
     ∙ all_from_members (λ k. not (fails k)) (keys m) (λ k member.
-    not_from_false (fails k) (ap (λ (q : List ℕ). fails q) (alone k (get m k) refl (contains_key-keys m k ∙ member)) ∙ not_below_itself (covers p p) (overlaps p p))))
+    not_from_false (fails k) (ap (λ (q : List ℕ). fails q) (alone k (get m k) refl (contains_key-keys m k ∙ member))
+    ∙ not_below_itself (covers p p) (overlaps p p))))
   where
     alone : (k : List ℕ) (o : Option _) → get m k ≡ o → is_some o ≡ true → k ≡ p
     alone k None found key = absurd (false≢true key)
     alone k (Some w) found key =
         elim (found_after_insert n p v k w (ap (λ (l : FinMap path_cmp _). get l k) (sym is) ∙ found)) [
           | inl a ↦ a.0
-          | inr a ↦ absurd (none-some w (sym (get-empty path_cmp k) ∙ ap (λ (l : FinMap path_cmp _). get l k) (sym none) ∙ a))
+          | inr a ↦ absurd
+              (none-some w (sym (get-empty path_cmp k) ∙ ap (λ (l : FinMap path_cmp _). get l k) (sym none) ∙ a))
         ]
 
     not_below_itself : (a b : Bool) → ((a && not a) && b) ≡ false

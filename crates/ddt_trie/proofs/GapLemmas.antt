@@ -33,11 +33,13 @@ take_covers_more : (n k : ℕ) (x : List ℕ) → n ≤ k → covers (take n x) 
 take_covers_more zero k x le = refl
 take_covers_more (suc n) zero x le = absurd (omega arith)
 take_covers_more (suc n) (suc k) [] le = refl
-take_covers_more (suc n) (suc k) (d ∷ x) le = and_from (d == d) (covers (take n x) (take k x)) (eqb_self d) (take_covers_more n k x (omega arith))
+take_covers_more (suc n) (suc k) (d ∷ x) le =
+    and_from (d == d) (covers (take n x) (take k x)) (eqb_self d) (take_covers_more n k x (omega arith))
 
 -- ---- a prefix that goes on behind the path of an identifier
 
-symbol_bound : (a : Locator) (s n : ℕ) → family a ≡ s → ((s == 4 && nat_le n 32) || (s == 6 && nat_le n 128)) ≡ true → n ≤ address_width a
+symbol_bound : (a : Locator) (s n : ℕ) → family a ≡ s → ((s == 4 && nat_le n 32) || (s == 6 && nat_le n 128)) ≡ true
+    → n ≤ address_width a
 symbol_bound (V4 a) s n is h =
     elim (or_cases (s == 4 && nat_le n 32) (s == 6 && nat_le n 128) h) [
       | inl l ↦ leb-true n 32 (and_parts (s == 4) (nat_le n 32) l).1
@@ -49,26 +51,39 @@ symbol_bound (V6 a) s n is h =
       | inr r ↦ leb-true n 128 (and_parts (s == 6) (nat_le n 128) r).1
     ]
 
-address_bound : (a : Locator) (ds p : List ℕ) → covers (family a ∷ ds) p ≡ true → is_address_front p ≡ true → length p ≤ suc (address_width a)
+address_bound : (a : Locator) (ds p : List ℕ) → covers (family a ∷ ds) p ≡ true → is_address_front p ≡ true
+    → length p ≤ suc (address_width a)
 address_bound a ds [] c f = omega arith
 address_bound a ds (s ∷ q) c f =
     let is = eqb-true (family a) s (and_parts (family a == s) (covers ds q) c).0 in
-    let le = symbol_bound a s (length q) is (and_parts (are_binary q) ((s == 4 && nat_le (length q) 32) || (s == 6 && nat_le (length q) 128)) f).1 in
+    let le = symbol_bound a s (length q) is
+    (and_parts (are_binary q) ((s == 4 && nat_le (length q) 32) || (s == 6 && nat_le (length q) 128)) f).1 in
     omega arith
 
-path_bound : (x : Xeid) (p : List ℕ) → is_prefix_path p ≡ true → covers (xeid_path x) p ≡ true → length p ≤ length (xeid_path x)
+path_bound : (x : Xeid) (p : List ℕ) → is_prefix_path p ≡ true → covers (xeid_path x) p ≡ true
+    → length p ≤ length (xeid_path x)
 path_bound x p is c =
     let iid = digits 32 x.iid in
     let address = address_path x.address in
-    let whole : length (xeid_path x) ≡ 33 + address_width x.address = omega (arith, length-append iid address, length-digits 32 x.iid, length-digits (address_width x.address) (address_number x.address)) in
+    let whole : length (xeid_path x) ≡ 33 + address_width x.address =
+    omega (
+      arith,
+      length-append iid address,
+      length-digits 32 x.iid,
+      length-digits (address_width x.address)
+          (address_number x.address),
+    ) in
     let le = length-covered (xeid_path x) p c in
     let front : length iid ≡ length (take 32 p) = omega (arith, length-digits 32 x.iid, length-take 32 p) in
-    let rest = covers_rest iid (take 32 p) address (drop 32 p) front (ap (covers (xeid_path x)) (take-append-drop 32 p) ∙ c) in
-    let bound = address_bound x.address (address_digits x.address) (drop 32 p) rest (and_parts (are_binary (take 32 p)) (is_address_front (drop 32 p)) is).1 in
+    let rest = covers_rest iid (take 32 p) address (drop 32 p) front (ap (covers (xeid_path x)) (take-append-drop 32 p)
+    ∙ c) in
+    let bound = address_bound x.address (address_digits x.address) (drop 32 p) rest
+    (and_parts (are_binary (take 32 p)) (is_address_front (drop 32 p)) is).1 in
     let all : length (take 32 p ++ drop 32 p) ≡ length p = ap (λ (l : List ℕ). length l) (take-append-drop 32 p) in
     omega (arith, length-append (take 32 p) (drop 32 p), length-digits 32 x.iid)
 
-meets_above : (x : Xeid) (p : List ℕ) → is_prefix_path p ≡ true → overlaps p (xeid_path x) ≡ true → covers p (xeid_path x) ≡ true
+meets_above : (x : Xeid) (p : List ℕ) → is_prefix_path p ≡ true → overlaps p (xeid_path x) ≡ true
+    → covers p (xeid_path x) ≡ true
 meets_above x p is o =
     elim (or_cases (covers p (xeid_path x)) (covers (xeid_path x) p) o) [
       | inl c ↦ c
@@ -112,12 +127,17 @@ counts_all m from = record {
   only = λ p h. omega arith;
 }
 
-filtered_member : (test : List ℕ → Bool) (p : List ℕ) (ks : List (List ℕ)) → list_any (tied p) (filter test ks) ≡ (list_any (tied p) ks && test p)
+filtered_member : (test : List ℕ → Bool) (p : List ℕ) (ks : List (List ℕ))
+    → list_any (tied p) (filter test ks) ≡ (list_any (tied p) ks && test p)
 filtered_member test p [] = refl
 filtered_member test p (k ∷ ks) =
-    elim (test k) as (λ b. test k ≡ b → list_any (tied p) (cond b (k ∷ filter test ks) (filter test ks)) ≡ ((tied p k || list_any (tied p) ks) && test p)) [
-      | true ↦ λ t. ap (λ (b : Bool). tied p k || b) (filtered_member test p ks) ∙ first_in (tied p k) (list_any (tied p) ks) (test p) (λ same. ap test (tied-true p k same) ∙ t)
-      | false ↦ λ t. filtered_member test p ks ∙ first_out (tied p k) (list_any (tied p) ks) (test p) (λ same. ap test (tied-true p k same) ∙ t)
+    elim (test k) as (λ b. test k ≡ b
+    → list_any (tied p) (cond b (k ∷ filter test ks) (filter test ks))
+    ≡ ((tied p k || list_any (tied p) ks) && test p)) [
+      | true ↦ λ t. ap (λ (b : Bool). tied p k || b) (filtered_member test p ks)
+          ∙ first_in (tied p k) (list_any (tied p) ks) (test p) (λ same. ap test (tied-true p k same) ∙ t)
+      | false ↦ λ t. filtered_member test p ks
+          ∙ first_out (tied p k) (list_any (tied p) ks) (test p) (λ same. ap test (tied-true p k same) ∙ t)
     ] refl
   where
     first_in : (a b d : Bool) → (a ≡ true → d ≡ true) → (a || (b && d)) ≡ ((a || b) && d)
@@ -140,39 +160,50 @@ strictly_longer p from h =
           absurd (false≢true (sym (not-true (covers p from) parts.1) ∙ ap (covers p) same ∙ covers_self p))
     ]
 
-pub longer_strictly : (p from : List ℕ) → overlaps p from ≡ true → suc (length from) ≤ length p → is_strictly_below p from ≡ true
+pub longer_strictly : (p from : List ℕ) → overlaps p from ≡ true → suc (length from) ≤ length p
+    → is_strictly_below p from ≡ true
 longer_strictly p from o le =
-    let apart : covers p from ≡ false = false_where (covers p from) (λ c. let k = length-covered p from c in absurd (omega arith)) in
+    let apart : covers p from ≡ false =
+    false_where (covers p from) (λ c. let k = length-covered p from c in absurd (omega arith)) in
     elim (or_cases (covers p from) (covers from p) o) [
       | inl a ↦ absurd (false≢true (sym apart ∙ a))
       | inr b ↦ and_from (covers from p) (not (covers p from)) b (not_from_false (covers p from) apart)
     ]
 
 -- the keys strictly below a prefix count for what is free below it
-pub counts_below : {V : Type 0} (m : FinMap path_cmp V) (from : List ℕ) (c : ℕ) → c ≡ suc (length from) → Counts m from c (keys_below m from)
+pub counts_below : {V : Type 0} (m : FinMap path_cmp V) (from : List ℕ) (c : ℕ) → c ≡ suc (length from)
+    → Counts m from c (keys_below m from)
 counts_below m from c is = record {
   test = λ p. is_strictly_below p from;
-  members = λ p. filtered_member (λ k. is_strictly_below k from) p (keys m) ∙ ap (λ (b : Bool). b && is_strictly_below p from) (sym (contains_key-keys m p));
+  members = λ p. filtered_member (λ k. is_strictly_below k from) p (keys m)
+      ∙ ap (λ (b : Bool). b && is_strictly_below p from) (sym (contains_key-keys m p));
   passes = λ p o le. longer_strictly p from o (omega arith);
   only = λ p h. let le = strictly_longer p from h in omega arith;
 }
 
 module _ {V : Type 0} {m : FinMap path_cmp V} {from : List ℕ} {c : ℕ} {s : List (List ℕ)} (h : Counts m from c s) where
   -- a prefix that no key that counts overlaps is free
-  all_clear : (q : List ℕ) → ((p : List ℕ) → contains_key m p ≡ true → c ≤ length p → overlaps p q ≡ true → ⊥) → overlaps_none s q ≡ true
+  all_clear : (q : List ℕ) → ((p : List ℕ) → contains_key m p ≡ true → c ≤ length p → overlaps p q ≡ true → ⊥)
+      → overlaps_none s q ≡ true
   all_clear q clear = all_from_members (λ p. not (overlaps p q)) s (λ p is.
       let parts = and_parts (contains_key m p) (h.test p) (sym (h.members p) ∙ is) in
       not_from_false (overlaps p q) (false_where (overlaps p q) (λ o. clear p parts.0 (h.only p parts.1) o)))
 
-  is_member : (p : List ℕ) → contains_key m p ≡ true → c ≤ length p → overlaps p from ≡ true → list_any (tied p) s ≡ true
+  is_member : (p : List ℕ) → contains_key m p ≡ true → c ≤ length p → overlaps p from ≡ true
+      → list_any (tied p) s ≡ true
   is_member p key le o = h.members p ∙ and_from (contains_key m p) (h.test p) key (h.passes p o le)
 
   -- and one that some such key overlaps isn't
-  taken : (q p : List ℕ) → covers from q ≡ true → contains_key m p ≡ true → c ≤ length p → overlaps p q ≡ true → overlaps_none s q ≡ false
+  taken : (q p : List ℕ) → covers from q ≡ true → contains_key m p ≡ true → c ≤ length p → overlaps p q ≡ true
+      → overlaps_none s q ≡ false
   taken q p inside key le o = false_where (overlaps_none s q) (λ none.
-      false≢true (sym (not-true (overlaps p q) (member_passes (λ k. not (overlaps k q)) s p none (is_member p key le (overlaps_above p q from o inside)))) ∙ o))
+      false≢true (sym
+      (not-true (overlaps p q)
+      (member_passes (λ k. not (overlaps k q)) s p none (is_member p key le (overlaps_above p q from o inside))))
+      ∙ o))
 
-  pub covered_none : (x p : List ℕ) → covers from x ≡ true → contains_key m p ≡ true → c ≤ length p → covers p x ≡ true → free from s x ≡ None
+  pub covered_none : (x p : List ℕ) → covers from x ≡ true → contains_key m p ≡ true → c ≤ length p → covers p x ≡ true
+      → free from s x ≡ None
   covered_none x p inside key le over =
       member_covers_none from s x p (any_same p s ∙ is_member p key le (fronts_overlap p from x over inside)) over
 
@@ -203,18 +234,23 @@ module _ {V : Type 0} (t : Tree V) where
         let w = key_value (get (content_of t) p) key in
         none-some w.0 (sym (h.uncovered p (omega arith) over) ∙ sym (get-content t p) ∙ w.1)
 
-    key_clear : (k : ℕ) → n ≤ k → (q : List ℕ) → IsTrue (contains_key (content_of t) q) → c ≤ length q → overlaps q (take k x) ≡ true → ⊥
+    key_clear : (k : ℕ) → n ≤ k → (q : List ℕ) → IsTrue (contains_key (content_of t) q) → c ≤ length q
+        → overlaps q (take k x) ≡ true → ⊥
     key_clear k le q key long o =
         let w = key_value (get (content_of t) q) key in
         let f : lookup 0 t q ≡ Some w.0 = sym (get-content t q) ∙ w.1 in
         elim (or_cases (covers q (take k x)) (covers (take k x) q) o) [
-          | inl a ↦ none-some w.0 (sym (h.uncovered q (omega arith) (covers_trans q (take k x) x a (take_covers k x))) ∙ f)
+          | inl a ↦ none-some w.0 (sym (h.uncovered q (omega arith) (covers_trans q (take k x) x a (take_covers k x)))
+              ∙ f)
           | inr a ↦
-              let fc : covers h.front q ≡ true = ap (λ (p : List ℕ). covers p q) front_taken ∙ covers_trans (take n x) (take k x) q (take_covers_more n k x le) a in
+              let fc : covers h.front q ≡ true =
+              ap (λ (p : List ℕ). covers p q) front_taken
+              ∙ covers_trans (take n x) (take k x) q (take_covers_more n k x le) a in
               none-some w.0 (sym (h.nothing q (omega arith) fc) ∙ f)
         ]
 
-    module _ (from : List ℕ) (s : List (List ℕ)) (inside : covers from x ≡ true) (near : c ≤ length from + 1) (counts : Counts (content_of t) from c s) where
+    module _ (from : List ℕ) (s : List (List ℕ)) (inside : covers from x ≡ true) (near : c ≤ length from + 1)
+        (counts : Counts (content_of t) from c s) where
       -- each front from the gap on is free
       part_free : (k : ℕ) → n ≤ k → overlaps_none s (take k x) ≡ true
       part_free k le = all_clear counts (take k x) (λ q key long o. key_clear k le q key long o)
@@ -223,10 +259,14 @@ module _ {V : Type 0} (t : Tree V) where
       part_taken : (k : ℕ) → length from ≤ k → k < n → overlaps_none s (take k x) ≡ false
       part_taken k le lt =
           let m = h.filled k (omega (arith, at_front)) (omega arith) in
-          let under : covers from (take k x) ≡ true = ap (λ (p : List ℕ). covers p (take k x)) (sym (take-covered from x inside)) ∙ take_covers_more (length from) k x le in
-          taken counts (take k x) m.path under (is_key m.path m.value m.found) (let long = m.counts in omega arith) m.meets
+          let under : covers from (take k x) ≡ true =
+          ap (λ (p : List ℕ). covers p (take k x)) (sym (take-covered from x inside))
+          ∙ take_covers_more (length from) k x le in
+          taken counts (take k x) m.path under (is_key m.path m.value m.found)
+          (let long = m.counts in omega arith) m.meets
 
-      walk : (j k : ℕ) → length from ≤ k → n ≡ k + j → free from s x ≡ find (overlaps_none s) (parts_from k x) → free from s x ≡ Some (take n x)
+      walk : (j k : ℕ) → length from ≤ k → n ≡ k + j → free from s x ≡ find (overlaps_none s) (parts_from k x)
+          → free from s x ≡ Some (take n x)
       walk zero k below is told =
           let same : k ≡ n = omega arith in
           let le : k ≤ length x = omega (arith, gap_fits) in
@@ -248,10 +288,12 @@ module _ {V : Type 0} (t : Tree V) where
           elim (cases_lt (length from) n) [
             | inl lt ↦
                 let same : n ≡ i = sym (is ∙ max-eq_left (omega arith)) in
-                walk (n - length from) (length from) (omega arith) (omega arith) (free_start from s x (length from) refl) ∙ ap (λ (k : ℕ). Some (take k x)) same
+                walk (n - length from) (length from) (omega arith) (omega arith)
+                (free_start from s x (length from) refl) ∙ ap (λ (k : ℕ). Some (take k x)) same
             | inr le ↦
                 let same : length from ≡ i = sym (is ∙ max-eq_right le) in
-                free_whole from s x inside (ap (overlaps_none s) (sym (take-covered from x inside)) ∙ part_free (length from) le)
+                free_whole from s x inside (ap (overlaps_none s) (sym (take-covered from x inside))
+                ∙ part_free (length from) le)
                 ∙ ap (λ (p : List ℕ). Some p) (sym (take-covered from x inside)) ∙ ap (λ (k : ℕ). Some (take k x)) same
           ]
 

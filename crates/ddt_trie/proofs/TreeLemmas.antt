@@ -37,29 +37,39 @@ pub record IsStep {V : Type 0} (at : ℕ) (t : Tree V) (y : List ℕ) (s : Tree 
   pub same : (q : List ℕ) → lookup at t (digit ∷ q) ≡ lookup (at + 1) s q
 
 module _ {V : Type 0} where
-  at_low : (at : ℕ) (p : _) (value : Option V) (z o : Tree V) (r : List ℕ) → lookup at (Fork' p value z o) (low at ∷ r) ≡ lookup (at + 1) z r
-  at_low at p value z o r = cond-true (low at == low at) (lookup (at + 1) z r) (cond (low at == high at) (lookup (at + 1) o r) None) (eqb_self (low at))
+  at_low : (at : ℕ) (p : _) (value : Option V) (z o : Tree V) (r : List ℕ)
+      → lookup at (Fork' p value z o) (low at ∷ r) ≡ lookup (at + 1) z r
+  at_low at p value z o r =
+      cond-true (low at == low at) (lookup (at + 1) z r) (cond (low at == high at) (lookup (at + 1) o r) None)
+      (eqb_self (low at))
 
-  at_high : (at : ℕ) (p : _) (value : Option V) (z o : Tree V) (r : List ℕ) → lookup at (Fork' p value z o) (high at ∷ r) ≡ lookup (at + 1) o r
+  at_high : (at : ℕ) (p : _) (value : Option V) (z o : Tree V) (r : List ℕ)
+      → lookup at (Fork' p value z o) (high at ∷ r) ≡ lookup (at + 1) o r
   at_high at p value z o r =
-      cond-false (high at == low at) (lookup (at + 1) z r) (cond (high at == high at) (lookup (at + 1) o r) None) (high_apart at)
+      cond-false (high at == low at) (lookup (at + 1) z r) (cond (high at == high at) (lookup (at + 1) o r) None)
+      (high_apart at)
       ∙ cond-true (high at == high at) (lookup (at + 1) o r) None (eqb_self (high at))
 
-  pub step_low : (at : ℕ) (t : Tree V) (p : _) (value : Option V) (z o s : Tree V) (y r : List ℕ) → t ≡ Fork' p value z o → s ≡ z → y ≡ low at ∷ r → IsStep at t y s r
+  pub step_low : (at : ℕ) (t : Tree V) (p : _) (value : Option V) (z o s : Tree V) (y r : List ℕ)
+      → t ≡ Fork' p value z o → s ≡ z → y ≡ low at ∷ r → IsStep at t y s r
   step_low at t p value z o s y r is child goes = record {
     digit = low at;
     goes = goes;
-    same = λ q. ap (λ (u : Tree V). lookup at u (low at ∷ q)) is ∙ at_low at p value z o q ∙ ap (λ (u : Tree V). lookup (at + 1) u q) (sym child);
+    same = λ q. ap (λ (u : Tree V). lookup at u (low at ∷ q)) is ∙ at_low at p value z o q
+        ∙ ap (λ (u : Tree V). lookup (at + 1) u q) (sym child);
   }
 
-  pub step_high : (at : ℕ) (t : Tree V) (p : _) (value : Option V) (z o s : Tree V) (y r : List ℕ) → t ≡ Fork' p value z o → s ≡ o → y ≡ high at ∷ r → IsStep at t y s r
+  pub step_high : (at : ℕ) (t : Tree V) (p : _) (value : Option V) (z o s : Tree V) (y r : List ℕ)
+      → t ≡ Fork' p value z o → s ≡ o → y ≡ high at ∷ r → IsStep at t y s r
   step_high at t p value z o s y r is child goes = record {
     digit = high at;
     goes = goes;
-    same = λ q. ap (λ (u : Tree V). lookup at u (high at ∷ q)) is ∙ at_high at p value z o q ∙ ap (λ (u : Tree V). lookup (at + 1) u q) (sym child);
+    same = λ q. ap (λ (u : Tree V). lookup at u (high at ∷ q)) is ∙ at_high at p value z o q
+        ∙ ap (λ (u : Tree V). lookup (at + 1) u q) (sym child);
   }
 
-  pub value_here : (at : ℕ) (t : Tree V) (p : _) (value : Option V) (z o : Tree V) (w : Option V) → t ≡ Fork' p value z o → w ≡ value → lookup at t [] ≡ w
+  pub value_here : (at : ℕ) (t : Tree V) (p : _) (value : Option V) (z o : Tree V) (w : Option V)
+      → t ≡ Fork' p value z o → w ≡ value → lookup at t [] ≡ w
   value_here at t p value z o w is child = ap (λ (u : Tree V). lookup at u []) is ∙ sym child
 
 module _ {V : Type 0} {at : ℕ} {t s : Tree V} {y r : List ℕ} (h : IsStep at t y s r) where
@@ -75,7 +85,8 @@ module _ {V : Type 0} {at : ℕ} {t s : Tree V} {y r : List ℕ} (h : IsStep at 
   found_in : (e : ℕ) (q : List ℕ) (o : Option V) → e ≡ h.digit → lookup at t (e ∷ q) ≡ o → lookup (at + 1) s q ≡ o
   found_in e q o is f = sym (h.same q) ∙ ap (λ (d : ℕ). lookup at t (d ∷ q)) (sym is) ∙ f
 
-  shorter : (front : List ℕ) → ((q : List ℕ) (w : V) → lookup (at + 1) s q ≡ Some w → covers q r ≡ true → length q ≤ length front)
+  shorter : (front : List ℕ)
+      → ((q : List ℕ) (w : V) → lookup (at + 1) s q ≡ Some w → covers q r ≡ true → length q ≤ length front)
       → (q : List ℕ) (w : V) → lookup at t q ≡ Some w → covers q y ≡ true → length q ≤ suc (length front)
   shorter front le [] w f c = omega arith
   shorter front le (e ∷ q) w f c =
@@ -92,7 +103,8 @@ module _ {V : Type 0} {at : ℕ} {t s : Tree V} {y r : List ℕ} (h : IsStep at 
     longest = λ q w f c. shorter b.front b.longest q w f c;
   }
 
-  only_empty : IsUncovered (at + 1) s r → (q : List ℕ) (w : V) → lookup at t q ≡ Some w → covers q y ≡ true → length q ≤ 0
+  only_empty : IsUncovered (at + 1) s r → (q : List ℕ) (w : V) → lookup at t q ≡ Some w → covers q y ≡ true
+      → length q ≤ 0
   only_empty u [] w f c = omega arith
   only_empty u (e ∷ q) w f c =
       let i = into e q c in
@@ -114,8 +126,10 @@ module _ {V : Type 0} {at : ℕ} {t s : Tree V} {y r : List ℕ} (h : IsStep at 
     found = h.same m.path ∙ m.found;
     counts = let n = m.counts in omega arith;
     meets = elim (or_cases (covers m.path k) (covers k m.path) m.meets) [
-      | inl a ↦ or_left (h.digit == h.digit && covers m.path k) (h.digit == h.digit && covers k m.path) (and_from (h.digit == h.digit) (covers m.path k) (eqb_self h.digit) a)
-      | inr a ↦ or_right (h.digit == h.digit && covers m.path k) (h.digit == h.digit && covers k m.path) (and_from (h.digit == h.digit) (covers k m.path) (eqb_self h.digit) a)
+      | inl a ↦ or_left (h.digit == h.digit && covers m.path k) (h.digit == h.digit && covers k m.path)
+          (and_from (h.digit == h.digit) (covers m.path k) (eqb_self h.digit) a)
+      | inr a ↦ or_right (h.digit == h.digit && covers m.path k) (h.digit == h.digit && covers k m.path)
+          (and_from (h.digit == h.digit) (covers k m.path) (eqb_self h.digit) a)
     ];
   }
 
@@ -162,7 +176,8 @@ module _ {V : Type 0} where
   one_shorter at t [] c = omega arith
   one_shorter at t (e ∷ q) c = absurd (false≢true c)
 
-  pub longest_end : (at : ℕ) (t : Tree V) (y : List ℕ) (v : V) → y ≡ [] → lookup at t [] ≡ Some v → IsLongestBelow at t y at v
+  pub longest_end : (at : ℕ) (t : Tree V) (y : List ℕ) (v : V) → y ≡ [] → lookup at t [] ≡ Some v
+      → IsLongestBelow at t y at v
   longest_end at t y v ends f = record {
     front = [];
     depth = omega arith;
@@ -172,7 +187,8 @@ module _ {V : Type 0} where
   }
 
   -- a subtree has an entry
-  pub some_entry : (at : ℕ) (t : Tree V) → is_fork t ≡ true → is_pruned t ≡ true → (q : List ℕ) × (v : V) × (lookup at t q ≡ Some v)
+  pub some_entry : (at : ℕ) (t : Tree V) → is_fork t ≡ true → is_pruned t ≡ true
+      → (q : List ℕ) × (v : V) × (lookup at t q ≡ Some v)
   some_entry at Empty f h = absurd (false≢true f)
   some_entry at (Fork' p (Some v) z o) f h = ([], v, refl)
   some_entry at (Fork' p None z o) f h =
@@ -194,11 +210,21 @@ module _ {V : Type 0} where
       (and_parts (is_some value || (is_fork z || is_fork o)) (is_pruned z && is_pruned o) held).1 in
       elim (or_cases (is_fork z) (is_fork o) f) [
         | inl l ↦
-            let e = some_entry (at + 1) z l below.0 in
-            (low at ∷ e.0, e.1, ap (λ (u : Tree V). lookup at u (low at ∷ e.0)) is ∙ at_low at p value z o e.0 ∙ e.2, omega arith)
+            let e = some_entry (at + 1) z l below.0 in (
+              low at ∷ e.0,
+              e.1,
+              ap (λ (u : Tree V). lookup at u (low at ∷ e.0)) is ∙ at_low at p value z o e.0
+                  ∙ e.2,
+              omega arith,
+            )
         | inr r ↦
-            let e = some_entry (at + 1) o r below.1 in
-            (high at ∷ e.0, e.1, ap (λ (u : Tree V). lookup at u (high at ∷ e.0)) is ∙ at_high at p value z o e.0 ∙ e.2, omega arith)
+            let e = some_entry (at + 1) o r below.1 in (
+              high at ∷ e.0,
+              e.1,
+              ap (λ (u : Tree V). lookup at u (high at ∷ e.0)) is ∙ at_high at p value z o e.0
+                  ∙ e.2,
+              omega arith,
+            )
       ]
 
   -- a node from the depth c on overlaps an entry that counts, and so does one just above it that has a child
@@ -246,7 +272,8 @@ module _ {V : Type 0} where
       chosen Empty (Fork' i j k l) a b = absurd (false≢true (sym b))
       chosen Empty Empty a b = none_of (d == low at) (d == high at)
 
-  pub gap_at_leaf : (at c : ℕ) (t : Tree V) (p : _) (value : Option V) (z o : Tree V) (y : List ℕ) → t ≡ Fork' p value z o
+  pub gap_at_leaf : (at c : ℕ) (t : Tree V) (p : _) (value : Option V) (z o : Tree V) (y : List ℕ)
+      → t ≡ Fork' p value z o
       → is_fork z ≡ false → is_fork o ≡ false → at < c → IsGapBelow at t y c at
   gap_at_leaf at c t p value z o y is a b lt = record {
     front = [];
@@ -280,9 +307,12 @@ module _ {V : Type 0} where
   held_below at c t p value z o s u b is zero_is one_is answer told pruned le =
       elim (cases_lt at c) [
         | inl lt ↦
-            let child : (is_fork s || is_fork u) ≡ true = some_child (is_fork s || is_fork u) (ap (λ (r : Bool). r && not (is_fork s || is_fork u)) (sym (lt-ltb at c lt)) ∙ sym answer ∙ told) in
+            let child : (is_fork s || is_fork u) ≡ true =
+            some_child (is_fork s || is_fork u)
+            (ap (λ (r : Bool). r && not (is_fork s || is_fork u)) (sym (lt-ltb at c lt)) ∙ sym answer ∙ told) in
             met_under_node at c t p value z o is
-            (ap (λ (k : Tree V). is_fork k || is_fork o) (sym zero_is) ∙ ap (λ (k : Tree V). is_fork s || is_fork k) (sym one_is) ∙ child)
+            (ap (λ (k : Tree V). is_fork k || is_fork o) (sym zero_is)
+            ∙ ap (λ (k : Tree V). is_fork s || is_fork k) (sym one_is) ∙ child)
             pruned le
         | inr ge ↦ met_at_node at c t p value z o is pruned ge
       ]

@@ -2,7 +2,7 @@
 use Rattle.std.specs.Prelude.{ℕ, ◌≡◌, Bool, true, IsTrue, ◌&&◌, ◌||◌, nat_le, not, List, [], ◌∷◌, length, is_some, Some, slice_get}
 use Rattle.std.specs.List.{list_all}
 use Rattle.std.specs.FinMap.{FinMap, find, from_entries}
-use Rattle.ddt_path.specs.Covers.{covers}
+use Rattle.ddt_path.specs.Covers.{covers, overlaps, is_strictly_below}
 use Rattle.ddt_trie.specs.PrefixMap.{path_cmp}
 
 -- whether no key stands twice
@@ -21,6 +21,14 @@ IsAt {V} es i p = (v : V) × (slice_get es i ≡ Some (p, v))
 -- whether no key covers x
 abbrev pub none_covers : {V : Type 0} → List (List ℕ × V) → List ℕ → Bool
 none_covers es x = list_all (λ e. not (covers e.0 x)) es
+
+-- whether no key strictly below p covers x
+abbrev pub none_covers_below : {V : Type 0} → List (List ℕ × V) → List ℕ → List ℕ → Bool
+none_covers_below es p x = list_all (λ e. not (is_strictly_below e.0 p && covers e.0 x)) es
+
+-- whether no key strictly below p overlaps q
+abbrev pub none_overlaps_below : {V : Type 0} → List (List ℕ × V) → List ℕ → List ℕ → Bool
+none_overlaps_below es p q = list_all (λ e. not (is_strictly_below e.0 p && overlaps e.0 q)) es
 
 -- whether no key that covers x has more than n digits
 abbrev pub none_longer : {V : Type 0} → List (List ℕ × V) → List ℕ → ℕ → Bool

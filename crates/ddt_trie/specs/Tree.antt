@@ -1,6 +1,7 @@
--- A binary tree of prefixes: what it finds at a path, which entries it has, and how a call leaves it. A path is given by
--- what is left of it below a node, and each node by its depth: how many digits stand above it.
-use Rattle.std.specs.Prelude.{ℕ, ◌≡◌, ◌+◌, ◌<◌, ◌≤◌, IsTrue, Bool, true, false, ◌==◌, ◌&&◌, ◌||◌, if◌then◌else◌, List, [], ◌∷◌, ◌++◌, length, take, drop, Option, None, Some, is_some}
+-- A binary tree of prefixes: what it finds at a path, which entries it has, and how a call leaves it. A path is given
+-- by what is left of it below a node, and each node by its depth: how many digits stand above it.
+use Rattle.std.specs.Prelude.{ℕ, ◌≡◌, ◌+◌, ◌<◌, ◌≤◌, IsTrue, Bool, true, false, ◌==◌, ◌&&◌, ◌||◌, if◌then◌else◌}
+use Rattle.std.specs.Prelude.{List, [], ◌∷◌, ◌++◌, length, take, drop, Option, None, Some, is_some}
 use Rattle.std.specs.Cmp.Lexicographic.{pointwise}
 use Rattle.std.specs.FinMap.{FinMap, contains_key}
 use Rattle.ddt_trie.specs.declared.tree.Tree.{Tree}
@@ -116,8 +117,9 @@ pub record IsMet {V : Type 0} (at : ℕ) (t : Tree V) (y : List ℕ) (c : ℕ) :
   pub counts : c ≤ at + length path
   pub meets : IsTrue (overlaps path y)
 
--- Of the paths that have a value, those count that end at the depth c or below it. The front of y that ends at the depth
--- n overlaps none of these, nor does y itself, and each shorter front overlaps one, if its next digit is at that depth.
+-- Of the paths that have a value, those count that end at the depth c or below it. The front of y that ends at the
+-- depth n overlaps none of these, nor does y itself, and each shorter front that ends just above the depth c or below
+-- it overlaps one.
 pub record IsGapBelow {V : Type 0} (at : ℕ) (t : Tree V) (y : List ℕ) (c n : ℕ) : Type 0 where
   pub front : List ℕ
   pub depth : n ≡ at + length front

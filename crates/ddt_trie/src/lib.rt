@@ -1,5 +1,5 @@
 //! Maps from prefixes to values: what a server is in charge of, and what a resolver remembers, is kept in one. The
-//! trait says what such a map answers; `ListMap` keeps its entries in a list.
+//! trait says what such a map answers; `ListMap` keeps its entries in a list, `TrieMap` in a binary tree.
 #![tactic(auto)]
 
 #[cfg(test)]

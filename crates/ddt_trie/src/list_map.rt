@@ -1,12 +1,13 @@
 //! A map from prefixes to values whose entries stand in one list. Each call looks at all of them.
 
-ghost use Rattle.std.specs.Prelude.{◌≡◌, ◌==◌, ◌&&◌, IsTrue, IfSome, IfNone, not};
+ghost use Rattle.std.specs.Prelude.{◌≡◌, ◌==◌, IsTrue, IfSome, IfNone, not};
 ghost use Rattle.std.specs.List.{position, list_all};
 ghost use Rattle.std.specs.Fn.{FnReturnsAt};
 ghost use Rattle.std.specs.Cmp.Lexicographic.{pointwise};
 ghost use Rattle.ddt_path.specs.Path.{xeid_path};
 ghost use Rattle.ddt_path.specs.Covers.{covers, overlaps, is_strictly_below};
 ghost use Rattle.ddt_trie.specs.Entries.{are_distinct, map_of, none_covers, IsLongestAt};
+ghost use Rattle.ddt_trie.specs.Entries.{none_covers_below, none_overlaps_below};
 
 use crate::prefix_map::PrefixMap;
 use ddt_path::{Prefix, Xeid};
@@ -80,15 +81,15 @@ fn is_below(prefix: Prefix, other: Prefix) -> bool
 
 /// Whether the prefix overlaps none of the entries strictly below `from`.
 fn overlaps_none_below<V>(entries: &[(Prefix, V)], from: Prefix, prefix: Prefix) -> bool
-    ensures { result ≡ list_all (λ e. not (is_strictly_below e.0 from && overlaps e.0 prefix)) entries.now }
+    ensures { result ≡ none_overlaps_below entries.now from prefix }
 {
     entries.iter().all(|entry| !(is_below(entry.0, from) && entry.0.overlaps(prefix)))
 }
 
 /// Whether no entry strictly below `from` covers the identifier, which is whether it overlaps none of them.
 fn covers_none_below<V>(entries: &[(Prefix, V)], from: Prefix, x: Xeid) -> bool
-    ensures covers { result ≡ list_all (λ e. not (is_strictly_below e.0 from && covers e.0 (xeid_path x))) entries.now }
-    ensures overlaps { result ≡ list_all (λ e. not (is_strictly_below e.0 from && overlaps e.0 (xeid_path x))) entries.now }
+    ensures covers { result ≡ none_covers_below entries.now from (xeid_path x) }
+    ensures overlaps { result ≡ none_overlaps_below entries.now from (xeid_path x) }
 {
     entries.iter().all(|entry| !(is_below(entry.0, from) && covers_alone(entry.0, x)))
 }

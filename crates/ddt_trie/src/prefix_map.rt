@@ -43,9 +43,9 @@ pub trait PrefixMap<V: Drop>: Drop {
         ensures none { IfNone result (IsCovered (content self.now) (xeid_path x)) }
         ensures covered { IsCovered (content self.now) (xeid_path x) → IsNone result };
 
-    /// The same among the prefixes strictly below `from` alone: the least specific prefix, of `from` and those inside it,
-    /// that covers the identifier and overlaps none of these; None if and only if one of these covers the identifier.
-    /// `from` is to cover the identifier.
+    /// The same among the prefixes strictly below `from` alone: the least specific prefix, of `from` and those inside
+    /// it, that covers the identifier and overlaps none of these; None if and only if one of these covers the
+    /// identifier. `from` is to cover the identifier.
     fn free_below(&self, from: Prefix, x: Xeid) -> Option<Prefix>
         requires { IsTrue (covers from (xeid_path x)) }
         ensures first { result ≡ free from (keys_below (content self.now) from) (xeid_path x) }

@@ -5,8 +5,8 @@ ghost use Rattle.std.specs.Prelude.{not, None, Some, ◌≡◌, ◌≤◌, ◌+�
 ghost use Rattle.std.specs.Prelude.{IfOk, IfErr, IfSome, IfNone, ◌&&◌, ◌||◌, nat_le, nat_lt, is_some};
 ghost use Rattle.std.specs.Option.{option_copied};
 ghost use Rattle.std.specs.Fn.{FnReturnsAt};
-ghost use Rattle.ddt_trie.specs.Tree.{lookup, count, one_if, is_fork, is_held, is_pruned, is_pruned_below, IsTurn, IsSet};
-ghost use Rattle.ddt_trie.specs.Tree.{HasSameEntries, HasKept, IsUncovered, IsLongestBelow, IsMet, IsGapBelow};
+ghost use Rattle.ddt_trie.specs.Tree.{lookup, count, one_if, is_fork, is_held, is_pruned, is_pruned_below, IsTurn};
+ghost use Rattle.ddt_trie.specs.Tree.{IsSet, HasSameEntries, HasKept, IsUncovered, IsLongestBelow, IsMet, IsGapBelow};
 ghost use Rattle.ddt_trie.specs.PrefixMap.{IsKept};
 ghost use Rattle.ddt_trie.specs.declared.tree.Tree.TheVariants.{Empty};
 
@@ -94,7 +94,7 @@ impl<V: Drop> Node<V> {
         least <= at && self.value.is_some()
     }
 
-    /// Whether its prefix, of `at` digits, has less than `least` of them, and nothing is below it.
+    /// Whether its prefix, of `at` digits, has fewer than `least`, and no prefix goes on behind it.
     fn ends_short(&self, at: u8, least: u8) -> bool
         ensures { result ≡ (nat_lt at least && not (is_fork self.now.zero || is_fork self.now.one)) }
     {
@@ -204,8 +204,8 @@ impl<V: Drop> Tree<V> {
         before
     }
 
-    /// Keeps the entries for whose value `keep` answers true, and cuts each node that became empty. Of `len` entries, of
-    /// which those of this tree are a part, it answers how many are left.
+    /// Keeps the entries for whose value `keep` answers true, and cuts each node that became empty. Of `len` entries,
+    /// of which those of this tree are a part, it answers how many are left.
     pub fn retain<F: Fn(&V) -> bool>(&mut self, keep: &F, len: usize) -> usize
         requires callable { F.IsAlwaysCallable keep.now }
         requires pruned { IsTrue (is_pruned self.old) }
@@ -226,7 +226,8 @@ impl<V: Drop> Tree<V> {
         left
     }
 
-    /// Of the fronts of a prefix that have at least `at` digits, the longest that has a value: its length and the value.
+    /// Of the fronts of a prefix that have at least `at` digits, the longest that has a value: its length, and the
+    /// value.
     pub fn longest(&self, prefix: Prefix, at: u8) -> Option<(u8, &V)>
         requires { at ≤ length prefix }
         ensures found { IfSome result (λ found. IsLongestBelow at self.now (drop at prefix) found.0 found.1.now) }
@@ -251,9 +252,9 @@ impl<V: Drop> Tree<V> {
         }
     }
 
-    /// Of the fronts of a prefix that have at least `at` digits, the length of the shortest that overlaps no entry of at
-    /// least `least` digits; one that has fewer than `least` less one may be answered in its place, whatever it overlaps.
-    /// None where each overlaps one. `least` is at most one more than the length of the prefix.
+    /// The length of a front of the prefix, of at least `at` digits, that overlaps no entry of at least `least` digits;
+    /// each shorter front of `least - 1` digits or more overlaps one. None where the whole prefix overlaps one. `least`
+    /// is at most one more than the length of the prefix.
     pub fn gap(&self, prefix: Prefix, at: u8, least: u8) -> Option<u8>
         requires within { at ≤ length prefix }
         requires near { least ≤ length prefix + 1 }

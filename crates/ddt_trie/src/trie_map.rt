@@ -9,8 +9,8 @@ use crate::tree::Tree;
 use ddt_path::{Prefix, Xeid};
 use std::alloc::Global;
 
-/// The map of the servers and of the resolver's cache: its entries in a tree. No part of the tree is without an entry,
-/// the entries are counted, and each of them is a prefix, so that no path is longer than 161 digits.
+/// The form of a map from prefixes for many entries, which stand in a binary tree. Each node has an entry or one below
+/// it, the entries are counted, and each is the path of a prefix, so that no path is longer than 161 digits.
 #[derive(Drop)]
 pub struct TrieMap<V> {
     root: Tree<V>,

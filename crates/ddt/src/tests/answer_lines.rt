@@ -2,45 +2,33 @@
 
 use crate::status::Status::{Answered, BadWords, Refused};
 use crate::telling::USAGE;
-use crate::tests::harness::{CAMPUS, LONE_ROOT, SHARED_GROUP, expect};
+use crate::tests::harness::{expect, word};
+use ddt_examples::messages::{
+    EAST_ACKNOWLEDGES, HOLE_OF_EVERYTHING, HOLE_OF_INSTANCES, ROOT_REFERS_TO_TEN,
+    TEN_IS_NOT_IN_CHARGE,
+};
+use ddt_examples::registers::{CAMPUS, LONE_ROOT, SHARED_GROUP};
 use std::test::Fail;
-
-const ROOT_REFERS_TO_TEN: &str =
-    "600000010000000000000001000005a001081000000000010a0000000164ff00000100017f00000a\n";
-
-const ROOT_SAYS_A_HOLE_OF_INSTANCES: &str =
-    "6000000100000000000000010000000f0000900000004003000002010006800000000000\n";
-
-const LONE_ROOT_SAYS_A_HOLE_OF_EVERYTHING: &str =
-    "6000000100000000000000010000000f0000900000004003000002000006000000000000\n";
-
-const TEN_IS_NOT_IN_CHARGE: &str = "600000010000000000000001000000000020b800000000010b000001\n";
-
-const EAST_ACKNOWLEDGES: &str =
-    "600000010000000000000001000005a002185000000000010a0102000164ff00000100017f0001010164ff00000100017f000102\n";
 
 #[test]
 fn servers_answer_the_outside_vectors(rt: HostRuntime) -> Result<(), Fail> {
     let rows = [
         (CAMPUS, "root", "[0]10.1.2.3", ROOT_REFERS_TO_TEN),
-        (
-            CAMPUS,
-            "root",
-            "[2147483648]10.0.0.1",
-            ROOT_SAYS_A_HOLE_OF_INSTANCES,
-        ),
-        (
-            LONE_ROOT,
-            "root",
-            "[9]2001:db8::1",
-            LONE_ROOT_SAYS_A_HOLE_OF_EVERYTHING,
-        ),
+        (CAMPUS, "root", "[2147483648]10.0.0.1", HOLE_OF_INSTANCES),
+        (LONE_ROOT, "root", "[9]2001:db8::1", HOLE_OF_EVERYTHING),
         (CAMPUS, "ten", "[0]11.0.0.1", TEN_IS_NOT_IN_CHARGE),
         (CAMPUS, "east", "[0]10.1.2.3", EAST_ACKNOWLEDGES),
     ];
-    for (register, group, x, line) in rows {
+    for (register, group, x, fields) in rows {
         let words = ["answer", "register.csv", group, x];
-        expect(&rt, rt.alloc(), register, &words, (Answered, line, ""))?;
+        let line = format!(in rt.alloc(); "{}\n", word(rt.alloc(), fields)?)?;
+        expect(
+            &rt,
+            rt.alloc(),
+            register,
+            &words,
+            (Answered, line.as_str(), ""),
+        )?;
     }
     Ok(())
 }
@@ -198,5 +186,15 @@ fn words_that_fit_no_command_show_the_usage(rt: HostRuntime) -> Result<(), Fail>
         &["check", "register.csv", "root"],
         (BadWords, "", USAGE),
     )?;
+    for words in [
+        ["--help"],
+        ["-h"],
+        ["help"],
+        ["--version"],
+        ["serve"],
+        ["Check"],
+    ] {
+        expect(&rt, rt.alloc(), CAMPUS, &words, (BadWords, "", USAGE))?;
+    }
     expect(&rt, rt.alloc(), CAMPUS, &["--help"], (BadWords, "", USAGE))
 }

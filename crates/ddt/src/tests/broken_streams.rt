@@ -3,7 +3,8 @@
 use crate::running::run;
 use crate::status::Status::{BadWords, Refused, Unprinted};
 use crate::telling::USAGE;
-use crate::tests::harness::{CAMPUS, process, run_words};
+use crate::tests::harness::{process, run_words};
+use ddt_examples::registers::CAMPUS;
 use std::io;
 use std::io::Read;
 use std::test::Fail;

@@ -1,7 +1,8 @@
 //! `ddt check`: the verdict on each register with one more row.
 
 use crate::status::Status::{Answered, Refused};
-use crate::tests::harness::{CAMPUS, expect};
+use crate::tests::harness::expect;
+use ddt_examples::registers::CAMPUS;
 use std::test::Fail;
 
 #[test]
@@ -11,6 +12,20 @@ fn the_campus_is_accepted(rt: HostRuntime) -> Result<(), Fail> {
     expect(&rt, rt.alloc(), CAMPUS, &words, (Answered, line, ""))
 }
 
+#[test]
+fn a_site_may_lie_inside_another(rt: HostRuntime) -> Result<(), Fail> {
+    let words = ["check", "register.csv"];
+    let register = format!(in rt.alloc(); "{CAMPUS}site,[0]10.1.2.128/25,,\n")?;
+    let line = "accepted 3 zones 3 sites 3 groups\n";
+    expect(
+        &rt,
+        rt.alloc(),
+        register.as_str(),
+        &words,
+        (Answered, line, ""),
+    )
+}
+
 /// A row behind the eight of the campus, and the verdict.
 const NINTH_ROWS: [(&str, &str); 16] = [
     ("node,*,root,", "refused A1 NoRoot row 9\n"),
@@ -18,7 +33,7 @@ const NINTH_ROWS: [(&str, &str); 16] = [
         "node,[0]10.0.0.0/8,root,",
         "refused A2 DuplicateZone row 9\n",
     ),
-    ("site,[0]10.1.2.128/25,,", "refused A3 SiteOverlap row 9\n"),
+    ("site,[0]10.1.2.0/24,,", "refused A3 DuplicateSite row 9\n"),
     (
         "node,[0]12.0.0.0/8,west,",
         "refused A4 UnknownGroup row 9\n",

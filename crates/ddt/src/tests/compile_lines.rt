@@ -1,71 +1,16 @@
 //! `ddt compile`.
 
 use crate::status::Status::{Answered, Refused};
-use crate::tests::harness::{CAMPUS, expect};
-use ddt_config::{from_toml, to_toml};
+use crate::tests::harness::expect;
+use ddt_examples::configurations::{EAST, ROOT, TEN};
+use ddt_examples::registers::CAMPUS;
 use std::test::Fail;
-
-/// The configurations of the campus, written by hand.
-const CONFIGS: [(&str, &str); 3] = [
-    (
-        "root",
-        r#"
-name = "root"
-kind = "node"
-locators = ["127.0.0.1"]
-[[authority]]
-prefix = "*"
-[[authority.child]]
-prefix = "[0]10.0.0.0/8"
-kind = "node"
-locators = ["127.0.0.10"]
-"#,
-    ),
-    (
-        "ten",
-        r#"
-name = "ten"
-kind = "node"
-locators = ["127.0.0.10"]
-[[authority]]
-prefix = "[0]10.0.0.0/8"
-[[authority.child]]
-prefix = "[0]10.1.0.0/16"
-kind = "ms"
-locators = ["127.0.1.1", "127.0.1.2"]
-"#,
-    ),
-    (
-        "east",
-        r#"
-name = "east"
-kind = "ms"
-locators = ["127.0.1.1", "127.0.1.2"]
-[[authority]]
-prefix = "[0]10.1.0.0/16"
-[[authority.site]]
-prefix = "[0]10.1.2.0/24"
-etrs = ["127.0.2.1"]
-[[authority.site]]
-prefix = "[0]10.1.4.0/24"
-etrs = []
-"#,
-    ),
-];
 
 #[test]
 fn compile_prints_the_configuration_of_each_group(rt: HostRuntime) -> Result<(), Fail> {
-    for (group, by_hand) in CONFIGS {
-        let config = from_toml(rt.alloc(), by_hand)?;
-        let text = to_toml(rt.alloc(), &config)?;
+    for (group, text) in [("root", ROOT), ("ten", TEN), ("east", EAST)] {
         let words = ["compile", "register.csv", group];
-        expect(
-            &rt,
-            rt.alloc(),
-            CAMPUS,
-            &words,
-            (Answered, text.as_str(), ""),
-        )?;
+        expect(&rt, rt.alloc(), CAMPUS, &words, (Answered, text, ""))?;
     }
     Ok(())
 }

@@ -2,37 +2,16 @@
 
 use crate::running::run;
 use crate::status::Status;
+use ddt_examples::bytes_of;
 use std::alloc::Global;
 use std::io::Write;
 use std::process::Abort;
 use std::test::Fail;
 
-/// The register of a campus: the root, a node for 10.0.0.0/8, and Map-Servers for 10.1.0.0/16 with two sites.
-pub const CAMPUS: &str = "kind,prefix,group,addresses
-group-node,,root,127.0.0.1
-group-node,,ten,127.0.0.10
-group-ms,,east,127.0.1.1 127.0.1.2
-node,*,root,
-node,[0]10.0.0.0/8,ten,
-ms,[0]10.1.0.0/16,east,
-site,[0]10.1.2.0/24,,127.0.2.1
-site,[0]10.1.4.0/24,,
-";
-
-/// The register of one group that serves the root, and a zone inside another group's zone.
-pub const SHARED_GROUP: &str = "kind,prefix,group,addresses
-group-node,,root,127.0.0.1
-group-node,,ten,127.0.0.10
-node,*,root,
-node,[0]10.0.0.0/8,ten,
-node,[0]10.1.0.0/16,root,
-";
-
-/// The register of the root alone.
-pub const LONE_ROOT: &str = "kind,prefix,group,addresses
-group-node,,root,127.0.0.1
-node,*,root,
-";
+/// A worked message as the word that `show` takes and `answer` prints: its digits, without blanks.
+pub fn word(alloc: Global, fields: &str) -> Result<String, Fail> {
+    Ok(hex::encode(alloc, bytes_of(alloc, fields)?)?)
+}
 
 /// The words of a process, behind the program's name.
 pub fn process(alloc: Global, words: &[&str]) -> Result<Vec<String>, Fail> {

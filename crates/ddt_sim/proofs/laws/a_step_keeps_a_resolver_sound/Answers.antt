@@ -1,5 +1,3 @@
-use Rattle.ddt_register.specs.declared.register.Register.{Register}
-use Rattle.ddt_check.specs.Rules.{IsAccepted}
 use Rattle.ddt_sim.specs.Sound.{KeepsLaws}
 use Rattle.ddt_sim.proofs.SoundLemmas.{sound_step, sound_moved, sound_dropped}
 use Rattle.ddt_sim.proofs.laws.a_step_keeps_a_resolver_sound.Goals as goal

@@ -1,10 +1,9 @@
-use Rattle.std.proofs.Common.{◌≡◌, ℕ, List, Option, Some, None, refl, sym, ap, subst, ◌∙◌}
+use Rattle.std.proofs.Common.{◌≡◌, Some, sym, ap, subst, ◌∙◌}
 use Rattle.std.specs.Option.{option_copied}
 use Rattle.ddt_path.specs.Path.{xeid_path}
 use Rattle.ddt_path.specs.declared.record.ReferralRecord.{ReferralRecord}
 use Rattle.ddt_wire.specs.Referral.{message_of}
 use Rattle.ddt_node.specs.Server.{HasReply}
-use Rattle.ddt_sim.specs.Honest.{IsHonestReply}
 use Rattle.ddt_sim.specs.Compiled.{server_at}
 use Rattle.ddt_sim.proofs.CompiledLemmas.{honest_server, server_is_there}
 use Rattle.ddt_sim.proofs.compiled.CompiledServers.answer.Goals as goal

@@ -62,7 +62,8 @@ returns-clause-first g c =
     let es = c.args.self.now.entries.items in
     let ks = keys_below (map_of es) c.args.from in
     let x = xeid_path c.args.x in
-    let at : c.loop-len.len ≡ length x = omega (arith, c.loop-len-test.false, c.path_len-len-end.ensures, c.loop-len.invariant.bound) in
+    let at : c.loop-len.len ≡ length x =
+    omega (arith, c.loop-len-test.false, c.path_len-len-end.ensures, c.loop-len.invariant.bound) in
     host_part c.then_some.result c.covers_none_below.result c.host.result x c.then_some.ensures c.host.ensures.whole
     ∙ sym (free_last c.args.from ks x c.loop-len.len c.covers_none_below.result at c.loop-len.invariant.told
     (tested_below c.deref-2.result.now es c.args.from x c.covers_none_below.result c.covers_none_below.result

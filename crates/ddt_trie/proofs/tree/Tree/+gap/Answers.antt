@@ -1,5 +1,4 @@
 use Rattle.std.proofs.Common.{◌+◌, ◌≤◌, ap, sym, drop, length, subst, arith}
-use Rattle.std.specs.Prelude.{Option}
 use Rattle.ddt_trie.specs.declared.tree.Node.{Node}
 use Rattle.ddt_trie.specs.Tree.{IsGapBelow, IsMet}
 use Rattle.ddt_trie.proofs.TreeLemmas.{if_some, if_none, step_low, step_high, value_here, gap_step, met_below, gap_short, held_below, counted_met, counted_none, ended}
@@ -9,20 +8,24 @@ pub returns-then-ends_short-clause-found : goal.returns-then-ends_short-clause-f
 returns-then-ends_short-clause-found g t c =
     let node = c.deref.result.now in
     gap_short c.args.at c.args.least c.args.self.now _ _ _ _ node.zero node.one (drop c.args.at c.args.prefix)
-    c.ends_short.result c.in-Fork.is (ap (λ (n : Node _). n.zero) c.deref.ensures) (ap (λ (n : Node _). n.one) c.deref.ensures)
+    c.ends_short.result c.in-Fork.is (ap (λ (n : Node _). n.zero) c.deref.ensures)
+    (ap (λ (n : Node _). n.one) c.deref.ensures)
     c.ends_short.ensures c.if-ends_short.true
 
 pub returns-then-counts-clause-none : goal.returns-then-counts-clause-none
 returns-then-counts-clause-none g t c =
     let node = c.deref-in-Fork.result.now in
-    let here = value_here c.args.at c.args.self.now _ _ _ _ node.value c.in-Fork.is (ap (λ (n : Node _). n.value) c.deref-in-Fork.ensures) in
-    counted_met c.args.at c.args.least c.args.self.now (drop c.args.at c.args.prefix) node.value c.counts.result here c.counts.ensures c.if-counts.true
+    let here = value_here c.args.at c.args.self.now _ _ _ _ node.value c.in-Fork.is
+    (ap (λ (n : Node _). n.value) c.deref-in-Fork.ensures) in
+    counted_met c.args.at c.args.least c.args.self.now
+    (drop c.args.at c.args.prefix) node.value c.counts.result here c.counts.ensures c.if-counts.true
 
 pub returns-in-End-clause-none : goal.returns-in-End-clause-none
 returns-in-End-clause-none g t c =
     let node = c.deref.result.now in
     let over : length c.args.prefix ≤ c.args.at = ended c.args.prefix c.args.at c.in-End.ensures in
-    let held = held_below c.args.at c.args.least c.args.self.now _ _ _ _ node.zero node.one c.ends_short.result c.in-Fork.is
+    let held = held_below c.args.at c.args.least c.args.self.now _ _ _ _ node.zero node.one c.ends_short.result
+    c.in-Fork.is
     (ap (λ (n : Node _). n.zero) c.deref.ensures) (ap (λ (n : Node _). n.one) c.deref.ensures)
     c.ends_short.ensures c.if-ends_short.false c.requires.pruned (omega (arith, c.requires.near)) in
     subst (λ y. IsMet c.args.at c.args.self.now y c.args.least) (sym c.in-End.ensures) held
@@ -33,13 +36,18 @@ returns-in-Zero-clause-found g t c =
     let y = drop c.args.at c.args.prefix in
     let r = drop (c.args.at + 1) c.args.prefix in
     let next = c.deref-in-Zero.result.now.zero in
-    let step = step_low c.args.at c.args.self.now _ _ _ _ next y r c.in-Fork.is (ap (λ (n : Node _). n.zero) c.deref-in-Zero.ensures) c.in-Zero.ensures.0 in
-    let here = value_here c.args.at c.args.self.now _ _ _ _ c.deref-in-Fork.result.now.value c.in-Fork.is (ap (λ (n : Node _). n.value) c.deref-in-Fork.ensures) in
-    let none = counted_none c.args.at c.args.least c.args.self.now c.deref-in-Fork.result.now.value c.counts.result here c.counts.ensures c.if-counts.false in
-    let held = held_below c.args.at c.args.least c.args.self.now _ _ _ _ node.zero node.one c.ends_short.result c.in-Fork.is
+    let step = step_low c.args.at c.args.self.now _ _ _ _ next y r c.in-Fork.is
+    (ap (λ (n : Node _). n.zero) c.deref-in-Zero.ensures) c.in-Zero.ensures.0 in
+    let here = value_here c.args.at c.args.self.now _ _ _ _ c.deref-in-Fork.result.now.value c.in-Fork.is
+    (ap (λ (n : Node _). n.value) c.deref-in-Fork.ensures) in
+    let none = counted_none c.args.at c.args.least c.args.self.now c.deref-in-Fork.result.now.value c.counts.result here
+    c.counts.ensures c.if-counts.false in
+    let held = held_below c.args.at c.args.least c.args.self.now _ _ _ _ node.zero node.one c.ends_short.result
+    c.in-Fork.is
     (ap (λ (n : Node _). n.zero) c.deref.ensures) (ap (λ (n : Node _). n.one) c.deref.ensures)
     c.ends_short.ensures c.if-ends_short.false c.requires.pruned in
-    if_some c.gap.result (IsGapBelow (c.args.at + 1) next r c.args.least) (IsGapBelow c.args.at c.args.self.now y c.args.least)
+    if_some c.gap.result (IsGapBelow (c.args.at + 1) next r c.args.least)
+    (IsGapBelow c.args.at c.args.self.now y c.args.least)
     (λ n h. gap_step step c.args.least n none held h) c.gap.ensures.found
 
 pub returns-in-Zero-clause-none : goal.returns-in-Zero-clause-none
@@ -47,7 +55,8 @@ returns-in-Zero-clause-none g t c =
     let y = drop c.args.at c.args.prefix in
     let r = drop (c.args.at + 1) c.args.prefix in
     let next = c.deref-in-Zero.result.now.zero in
-    let step = step_low c.args.at c.args.self.now _ _ _ _ next y r c.in-Fork.is (ap (λ (n : Node _). n.zero) c.deref-in-Zero.ensures) c.in-Zero.ensures.0 in
+    let step = step_low c.args.at c.args.self.now _ _ _ _ next y r c.in-Fork.is
+    (ap (λ (n : Node _). n.zero) c.deref-in-Zero.ensures) c.in-Zero.ensures.0 in
     if_none c.gap.result (IsMet (c.args.at + 1) next r c.args.least) (IsMet c.args.at c.args.self.now y c.args.least)
     (λ h. met_below step c.args.least h) c.gap.ensures.none
 
@@ -57,13 +66,18 @@ returns-in-One-clause-found g t c =
     let y = drop c.args.at c.args.prefix in
     let r = drop (c.args.at + 1) c.args.prefix in
     let next = c.deref-in-One.result.now.one in
-    let step = step_high c.args.at c.args.self.now _ _ _ _ next y r c.in-Fork.is (ap (λ (n : Node _). n.one) c.deref-in-One.ensures) c.in-One.ensures.0 in
-    let here = value_here c.args.at c.args.self.now _ _ _ _ c.deref-in-Fork.result.now.value c.in-Fork.is (ap (λ (n : Node _). n.value) c.deref-in-Fork.ensures) in
-    let none = counted_none c.args.at c.args.least c.args.self.now c.deref-in-Fork.result.now.value c.counts.result here c.counts.ensures c.if-counts.false in
-    let held = held_below c.args.at c.args.least c.args.self.now _ _ _ _ node.zero node.one c.ends_short.result c.in-Fork.is
+    let step = step_high c.args.at c.args.self.now _ _ _ _ next y r c.in-Fork.is
+    (ap (λ (n : Node _). n.one) c.deref-in-One.ensures) c.in-One.ensures.0 in
+    let here = value_here c.args.at c.args.self.now _ _ _ _ c.deref-in-Fork.result.now.value c.in-Fork.is
+    (ap (λ (n : Node _). n.value) c.deref-in-Fork.ensures) in
+    let none = counted_none c.args.at c.args.least c.args.self.now c.deref-in-Fork.result.now.value c.counts.result here
+    c.counts.ensures c.if-counts.false in
+    let held = held_below c.args.at c.args.least c.args.self.now _ _ _ _ node.zero node.one c.ends_short.result
+    c.in-Fork.is
     (ap (λ (n : Node _). n.zero) c.deref.ensures) (ap (λ (n : Node _). n.one) c.deref.ensures)
     c.ends_short.ensures c.if-ends_short.false c.requires.pruned in
-    if_some c.gap-in-One.result (IsGapBelow (c.args.at + 1) next r c.args.least) (IsGapBelow c.args.at c.args.self.now y c.args.least)
+    if_some c.gap-in-One.result (IsGapBelow (c.args.at + 1) next r c.args.least)
+    (IsGapBelow c.args.at c.args.self.now y c.args.least)
     (λ n h. gap_step step c.args.least n none held h) c.gap-in-One.ensures.found
 
 pub returns-in-One-clause-none : goal.returns-in-One-clause-none
@@ -71,6 +85,8 @@ returns-in-One-clause-none g t c =
     let y = drop c.args.at c.args.prefix in
     let r = drop (c.args.at + 1) c.args.prefix in
     let next = c.deref-in-One.result.now.one in
-    let step = step_high c.args.at c.args.self.now _ _ _ _ next y r c.in-Fork.is (ap (λ (n : Node _). n.one) c.deref-in-One.ensures) c.in-One.ensures.0 in
-    if_none c.gap-in-One.result (IsMet (c.args.at + 1) next r c.args.least) (IsMet c.args.at c.args.self.now y c.args.least)
+    let step = step_high c.args.at c.args.self.now _ _ _ _ next y r c.in-Fork.is
+    (ap (λ (n : Node _). n.one) c.deref-in-One.ensures) c.in-One.ensures.0 in
+    if_none c.gap-in-One.result (IsMet (c.args.at + 1) next r c.args.least)
+    (IsMet c.args.at c.args.self.now y c.args.least)
     (λ h. met_below step c.args.least h) c.gap-in-One.ensures.none

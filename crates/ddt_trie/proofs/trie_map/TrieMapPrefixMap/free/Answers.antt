@@ -1,8 +1,7 @@
-use Rattle.std.proofs.Common.{◌≡◌, ◌+◌, ◌≤◌, Some, sym, ap, ◌∙◌, subst, arith, length}
+use Rattle.std.proofs.Common.{◌≡◌, Some, sym, ap, ◌∙◌, subst, arith, length}
 use Rattle.std.specs.Prelude.{max, IfNone, Option, List, ℕ}
 use Rattle.std.specs.FinMap.{keys}
 use Rattle.ddt_path.specs.Path.{xeid_path}
-use Rattle.ddt_path.proofs.CoverLemmas.{length-covered}
 use Rattle.ddt_trie.specs.PrefixMap.{IsCovered}
 use Rattle.ddt_trie.specs.Tree.{content_of, IsGapBelow, IsMet}
 use Rattle.ddt_trie.proofs.GapLemmas.{counts_all, met_covers, covered_none, gap_not_covered, gap_free, gap_within}
@@ -29,22 +28,30 @@ pub cut-requires : goal.cut-requires
 cut-requires g c =
     let m = content_of c.args.self.now.root in
     let x = xeid_path c.args.x in
-    let gap = subst (λ y. IsGapBelow 0 c.args.self.now.root y 0 c.in_ok-len.len) c.host.ensures.whole c.in_ok-len.ensures.found in
-    let longer : c.max.result ≡ max c.in_ok-len.len (length c.args.from) = c.max.ensures ∙ ap (max c.in_ok-len.len) c.len.ensures.digits in
+    let gap = subst
+    (λ y. IsGapBelow 0 c.args.self.now.root y 0 c.in_ok-len.len) c.host.ensures.whole c.in_ok-len.ensures.found in
+    let longer : c.max.result ≡ max c.in_ok-len.len (length c.args.from) =
+    c.max.ensures ∙ ap (max c.in_ok-len.len) c.len.ensures.digits in
     let counts = counts_all (content_of c.args.self.now.root) c.args.from in
-    gap_within c.args.self.now.root x 0 c.in_ok-len.len gap c.args.from (keys m) c.requires (omega arith) counts c.max.result longer
+    gap_within c.args.self.now.root x 0 c.in_ok-len.len gap c.args.from (keys m) c.requires
+    (omega arith) counts c.max.result longer
 
 pub returns-clause-first : goal.returns-clause-first
 returns-clause-first g c =
     let m = content_of c.args.self.now.root in
     let x = xeid_path c.args.x in
-    let gap = subst (λ y. IsGapBelow 0 c.args.self.now.root y 0 c.in_ok-len.len) c.host.ensures.whole c.in_ok-len.ensures.found in
-    let longer : c.max.result ≡ max c.in_ok-len.len (length c.args.from) = c.max.ensures ∙ ap (max c.in_ok-len.len) c.len.ensures.digits in
+    let gap = subst
+    (λ y. IsGapBelow 0 c.args.self.now.root y 0 c.in_ok-len.len) c.host.ensures.whole c.in_ok-len.ensures.found in
+    let longer : c.max.result ≡ max c.in_ok-len.len (length c.args.from) =
+    c.max.ensures ∙ ap (max c.in_ok-len.len) c.len.ensures.digits in
     let counts = counts_all (content_of c.args.self.now.root) c.args.from in
-    ap Some c.cut.ensures ∙ sym (gap_free c.args.self.now.root x 0 c.in_ok-len.len gap c.args.from (keys m) c.requires (omega arith) counts c.max.result longer)
+    ap Some c.cut.ensures
+    ∙ sym (gap_free c.args.self.now.root x 0 c.in_ok-len.len gap c.args.from (keys m) c.requires
+    (omega arith) counts c.max.result longer)
 
 pub returns-clause-covered : goal.returns-clause-covered
 returns-clause-covered g c = λ covered.
     let x = xeid_path c.args.x in
-    let gap = subst (λ y. IsGapBelow 0 c.args.self.now.root y 0 c.in_ok-len.len) c.host.ensures.whole c.in_ok-len.ensures.found in
+    let gap = subst
+    (λ y. IsGapBelow 0 c.args.self.now.root y 0 c.in_ok-len.len) c.host.ensures.whole c.in_ok-len.ensures.found in
     absurd (gap_not_covered c.args.self.now.root x 0 c.in_ok-len.len gap covered.0 covered.1 (omega arith) covered.2)

@@ -7,7 +7,8 @@ use Rattle.ddt_trie.proofs.trie_map.TrieMapPrefixMap.insert.Goals.{then-is_none,
 
 pub overflow_add-self : goal.overflow_add-self
 overflow_add-self g c =
-    let few : c.args.self.now.len < 1048576 = omega (arith, c.requires, c.args.self.now.counted, len-content c.args.self.now.root) in
+    let few : c.args.self.now.len < 1048576 =
+    omega (arith, c.requires, c.args.self.now.counted, len-content c.args.self.now.root) in
     omega arith
 
 pub invariant_of-self : goal.invariant_of-self
@@ -15,8 +16,11 @@ invariant_of-self g c =
     let is = set_inserts c.args.self.now.root c.insert.new.self c.args.prefix c.args.value c.in-Ok.ensures.set in
     record {
       pruned = c.in-Ok.ensures.pruned;
-      counted = ap (λ n. n + 1) c.args.self.now.counted ∙ sym (count_grown c.args.self.now.root c.insert.new.self c.args.prefix c.args.value c.in-Ok.before is c.in-Ok.ensures.before c.if-is_none.ensures);
-      paths = paths_inserted (content_of c.args.self.now.root) (content_of c.insert.new.self) c.args.prefix c.args.value is c.form-form.ensures.passes c.args.self.now.paths;
+      counted = ap (λ n. n + 1) c.args.self.now.counted
+          ∙ sym (count_grown c.args.self.now.root c.insert.new.self c.args.prefix c.args.value c.in-Ok.before is
+          c.in-Ok.ensures.before c.if-is_none.ensures);
+      paths = paths_inserted (content_of c.args.self.now.root)
+          (content_of c.insert.new.self) c.args.prefix c.args.value is c.form-form.ensures.passes c.args.self.now.paths;
     }
 
 pub invariant_of-self-else-is_none : goal.invariant_of-self-else-is_none
@@ -24,8 +28,11 @@ invariant_of-self-else-is_none g c =
     let is = set_inserts c.args.self.now.root c.insert.new.self c.args.prefix c.args.value c.in-Ok.ensures.set in
     record {
       pruned = c.in-Ok.ensures.pruned;
-      counted = c.args.self.now.counted ∙ sym (count_kept c.args.self.now.root c.insert.new.self c.args.prefix c.args.value c.in-Ok.before is c.in-Ok.ensures.before c.if-is_none.ensures);
-      paths = paths_inserted (content_of c.args.self.now.root) (content_of c.insert.new.self) c.args.prefix c.args.value is c.form-form.ensures.passes c.args.self.now.paths;
+      counted = c.args.self.now.counted
+          ∙ sym (count_kept c.args.self.now.root c.insert.new.self c.args.prefix c.args.value c.in-Ok.before is
+          c.in-Ok.ensures.before c.if-is_none.ensures);
+      paths = paths_inserted (content_of c.args.self.now.root)
+          (content_of c.insert.new.self) c.args.prefix c.args.value is c.form-form.ensures.passes c.args.self.now.paths;
     }
 
 pub returns-after-is_none-clause-before : goal.returns-after-is_none-clause-before
@@ -40,4 +47,5 @@ returns-after-is_none-clause-inserted g c =
     ]
 
 pub returns-in-Err-clause-replaced : goal.returns-in-Err-clause-replaced
-returns-in-Err-clause-replaced g c = λ had. c.in-Err.ensures.replaced (ap is_some (sym (get-content c.args.self.now.root c.args.prefix)) ∙ had)
+returns-in-Err-clause-replaced g c =
+    λ had. c.in-Err.ensures.replaced (ap is_some (sym (get-content c.args.self.now.root c.args.prefix)) ∙ had)

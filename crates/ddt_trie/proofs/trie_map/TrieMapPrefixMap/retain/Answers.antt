@@ -6,8 +6,10 @@ use Rattle.ddt_trie.proofs.trie_map.TrieMapPrefixMap.retain.Goals as goal
 
 pub invariant_of-self : goal.invariant_of-self
 invariant_of-self g c =
-    let kept = kept_retains (FnReturnsAt g.F.Fn c.args.keep.now) c.args.self.now.root c.retain-self.new.self c.retain-self.ensures.kept in
-    let same : c.retain-self.result ≡ count c.retain-self.new.self = omega (arith, c.args.self.now.counted, c.retain-self.ensures.counted) in
+    let kept = kept_retains
+    (FnReturnsAt g.F.Fn c.args.keep.now) c.args.self.now.root c.retain-self.new.self c.retain-self.ensures.kept in
+    let same : c.retain-self.result ≡ count c.retain-self.new.self =
+    omega (arith, c.args.self.now.counted, c.retain-self.ensures.counted) in
     record {
       pruned = c.retain-self.ensures.pruned;
       counted = same;
@@ -15,4 +17,5 @@ invariant_of-self g c =
     }
 
 pub returns : goal.returns
-returns g c = kept_retains (FnReturnsAt g.F.Fn c.args.keep.now) c.args.self.now.root c.retain-self.new.self c.retain-self.ensures.kept
+returns g c = kept_retains
+    (FnReturnsAt g.F.Fn c.args.keep.now) c.args.self.now.root c.retain-self.new.self c.retain-self.ensures.kept

@@ -1,0 +1,39 @@
+//! The worked registers, configurations and messages, each once, for the tests of all crates.
+//!
+//! `registers` are CSV, `configurations` are TOML as `ddt compile` prints it, and `messages` are hexadecimal, field by field.
+#![tactic(auto)]
+
+ghost use Rattle.std.specs.Prelude.{◌≡◌, ◌++◌, [], ◌∷◌, Ok, IfOk, OnOk};
+ghost use Rattle.hex.specs.Hex.{decode_of};
+ghost use Rattle.ddt_examples.specs.Digits.{digits_in};
+
+pub mod configurations;
+pub mod messages;
+pub mod registers;
+#[cfg(test)]
+mod tests;
+
+use hex::FromHexError;
+use std::alloc::{AllocError, Global};
+
+/// The bytes of a hexadecimal text whose fields stand apart by blanks. Refused where it is none, or if out of memory.
+#[tactic(auto, using(crate::proofs::DigitLemmas::digits_more))]
+pub fn bytes_of(alloc: Global, fields: &str) -> Result<Vec<u8>, FromHexError>
+    ensures { IfOk result (λ bytes. decode_of (digits_in fields.now) ≡ Ok bytes.items) }
+{
+    let mut digits = Vec::new(alloc);
+    for byte in fields.as_bytes() {
+        push_digit(&mut digits, *byte)?;
+    }
+    hex::decode(alloc, digits.as_slice())
+}
+
+/// Appends a byte that is no blank. Fails only if out of memory.
+fn push_digit(digits: &mut Vec<u8>, byte: u8) -> Result<(), AllocError>
+    ensures { OnOk result (digits.new.items ≡ digits.old.items ++ digits_in (byte ∷ [])) }
+{
+    if byte != b' ' {
+        digits.push(byte)?;
+    }
+    Ok(())
+}

@@ -1,0 +1,28 @@
+//! Registers, as CSV.
+
+/// The root, a node for 10.0.0.0/8, and Map-Servers for 10.1.0.0/16 with two sites: `examples/campus.csv`.
+pub const CAMPUS: &str = r#"kind,prefix,group,addresses
+group-node,,root,127.0.0.1
+group-node,,ten,127.0.0.10
+group-ms,,east,127.0.1.1 127.0.1.2
+node,*,root,
+node,[0]10.0.0.0/8,ten,
+ms,[0]10.1.0.0/16,east,
+site,[0]10.1.2.0/24,,127.0.2.1
+site,[0]10.1.4.0/24,,
+"#;
+
+/// One group that serves the root, and a zone inside another group's zone: `examples/shared_group.csv`.
+pub const SHARED_GROUP: &str = r#"kind,prefix,group,addresses
+group-node,,root,127.0.0.1
+group-node,,ten,127.0.0.10
+node,*,root,
+node,[0]10.0.0.0/8,ten,
+node,[0]10.1.0.0/16,root,
+"#;
+
+/// The root alone.
+pub const LONE_ROOT: &str = r#"kind,prefix,group,addresses
+group-node,,root,127.0.0.1
+node,*,root,
+"#;

@@ -1,0 +1,17 @@
+use Rattle.ddt_sim.proofs.ReplyLemmas.{RepliesAreRead}
+use Rattle.ddt_sim.proofs.ExchangeLemmas.{understood}
+use Rattle.ddt_sim.proofs.laws.requests_are_understood.Goals as goal
+
+pub returns : goal.returns
+returns c = λ r now x s t d early order under.
+    let h = c.honest_servers_lead_to_the_assignment.ensures in
+    let w = c.referral_laws.ensures in
+    let read : RepliesAreRead r = record {
+      one = w.one;
+      back = w.back;
+      cover = h.cover r under.accepted;
+      servers = h.servers r under.accepted;
+      sendable = h.sendable r under.accepted;
+    } in
+    let keeps = c.a_step_keeps_a_resolver_sound.ensures in
+    understood r now x s t d early order under keeps.steps keeps.time read c.request_laws.ensures.written

@@ -1,0 +1,76 @@
+use Rattle.std.proofs.Common.{◌≡◌, Ok, subst}
+use Rattle.std.specs.Prelude.{IfOk}
+use Rattle.std.specs.List.{All}
+use Rattle.ddt_resolver.specs.declared.answers.Asked.TheVariants.{Answer}
+use Rattle.ddt_resolver.specs.State.{moved}
+use Rattle.ddt_sim.specs.declared.hop.Lookup.{Lookup}
+use Rattle.ddt_sim.specs.Waiting.{CanBeAsked}
+use Rattle.ddt_sim.specs.Headline.{IsHonestHop}
+use Rattle.ddt_sim.proofs.AskLemmas.{ask_keeps_sound, rightly_asked, answer_given, failure_is_error, asked_me}
+use Rattle.ddt_sim.proofs.looking_up.lookup.Goals as goal
+
+pub returns-in-Ok-clause-headline : goal.returns-in-Ok-clause-headline
+returns-in-Ok-clause-headline g c = λ r accepted honest sound.
+    let asked = rightly_asked c.a_step_keeps_a_resolver_sound.ensures.steps c.a_step_keeps_a_resolver_sound.ensures.time r c.args.now c.args.x c.args.resolver.now accepted
+    c.millis-millis.ensures.bound c.in_order.ensures sound c.ask.ensures.identifier c.ask.new.self c.in-Ok.asked c.in-Ok.ensures.step
+    (subst (CanBeAsked c.args.x) c.me.ensures c.can_be_asked.ensures) in
+    c.after_ask.ensures.right r c.args.x honest asked
+
+pub returns-in-Ok-clause-sound : goal.returns-in-Ok-clause-sound
+returns-in-Ok-clause-sound g c = λ r accepted honest sound.
+    let asked = rightly_asked c.a_step_keeps_a_resolver_sound.ensures.steps c.a_step_keeps_a_resolver_sound.ensures.time r c.args.now c.args.x c.args.resolver.now accepted
+    c.millis-millis.ensures.bound c.in_order.ensures sound c.ask.ensures.identifier c.ask.new.self c.in-Ok.asked c.in-Ok.ensures.step
+    (subst (CanBeAsked c.args.x) c.me.ensures c.can_be_asked.ensures) in
+    c.after_ask.ensures.sound r c.args.x honest asked
+
+pub returns-in-Ok-clause-hops : goal.returns-in-Ok-clause-hops
+returns-in-Ok-clause-hops g c = λ r accepted honest sound.
+    let asked = rightly_asked c.a_step_keeps_a_resolver_sound.ensures.steps c.a_step_keeps_a_resolver_sound.ensures.time r c.args.now c.args.x c.args.resolver.now accepted
+    c.millis-millis.ensures.bound c.in_order.ensures sound c.ask.ensures.identifier c.ask.new.self c.in-Ok.asked c.in-Ok.ensures.step
+    (subst (CanBeAsked c.args.x) c.me.ensures c.can_be_asked.ensures) in
+    subst (λ me. IfOk c.after_ask.result (λ (l : Lookup). All (IsHonestHop r c.args.x me) l.hops))
+    (asked_me (moved c.args.now c.args.resolver.now) c.args.x c.ask.new.self (Ok c.in-Ok.asked) c.in-Ok.ensures.step)
+    (c.after_ask.ensures.fair r c.args.x honest asked)
+
+pub returns-in-Ok-clause-errors : goal.returns-in-Ok-clause-errors
+returns-in-Ok-clause-errors g c = λ r accepted honest sound.
+    let asked = rightly_asked c.a_step_keeps_a_resolver_sound.ensures.steps c.a_step_keeps_a_resolver_sound.ensures.time r c.args.now c.args.x c.args.resolver.now accepted
+    c.millis-millis.ensures.bound c.in_order.ensures sound c.ask.ensures.identifier c.ask.new.self c.in-Ok.asked c.in-Ok.ensures.step
+    (subst (CanBeAsked c.args.x) c.me.ensures c.can_be_asked.ensures) in
+    failure_is_error c.args.resolver.now c.after_ask.new.resolver c.after_ask.result (c.after_ask.ensures.failure r c.args.x honest asked)
+
+pub returns-in-Ok-clause-remembered : goal.returns-in-Ok-clause-remembered
+returns-in-Ok-clause-remembered g c = λ p e o found answer.
+    let is = answer_given (moved c.args.now c.args.resolver.now) c.args.x c.ask.new.self p e o found answer c.ask.result c.ask.ensures.step c.ask.ensures.memory in
+    let own : c.in-Ok.asked ≡ Answer o = cc (is, c.in-Ok.is) in
+    c.after_ask.ensures.answered o own
+
+pub returns-in-Err-TooMany-clause-sound : goal.returns-in-Err-TooMany-clause-sound
+returns-in-Err-TooMany-clause-sound g c = λ r accepted honest sound.
+    ask_keeps_sound c.a_step_keeps_a_resolver_sound.ensures.steps c.a_step_keeps_a_resolver_sound.ensures.time r c.args.now c.args.x c.args.resolver.now accepted
+    c.millis-millis.ensures.bound c.in_order.ensures sound c.ask.ensures.identifier c.ask.new.self c.ask.result c.ask.ensures.step c.ask.ensures.memory
+
+pub returns-in-Err-TooMany-clause-remembered : goal.returns-in-Err-TooMany-clause-remembered
+returns-in-Err-TooMany-clause-remembered g c = λ p e o found answer.
+    let is = answer_given (moved c.args.now c.args.resolver.now) c.args.x c.ask.new.self p e o found answer c.ask.result c.ask.ensures.step c.ask.ensures.memory in
+    absurd (cc (is, c.in-Err-TooMany.is))
+
+pub returns-in-Err-Exhausted-clause-sound : goal.returns-in-Err-Exhausted-clause-sound
+returns-in-Err-Exhausted-clause-sound g c = λ r accepted honest sound.
+    ask_keeps_sound c.a_step_keeps_a_resolver_sound.ensures.steps c.a_step_keeps_a_resolver_sound.ensures.time r c.args.now c.args.x c.args.resolver.now accepted
+    c.millis-millis.ensures.bound c.in_order.ensures sound c.ask.ensures.identifier c.ask.new.self c.ask.result c.ask.ensures.step c.ask.ensures.memory
+
+pub returns-in-Err-Exhausted-clause-remembered : goal.returns-in-Err-Exhausted-clause-remembered
+returns-in-Err-Exhausted-clause-remembered g c = λ p e o found answer.
+    let is = answer_given (moved c.args.now c.args.resolver.now) c.args.x c.ask.new.self p e o found answer c.ask.result c.ask.ensures.step c.ask.ensures.memory in
+    absurd (cc (is, c.in-Err-Exhausted.is))
+
+pub returns-in-Err-Memory-clause-sound : goal.returns-in-Err-Memory-clause-sound
+returns-in-Err-Memory-clause-sound g c = λ r accepted honest sound.
+    ask_keeps_sound c.a_step_keeps_a_resolver_sound.ensures.steps c.a_step_keeps_a_resolver_sound.ensures.time r c.args.now c.args.x c.args.resolver.now accepted
+    c.millis-millis.ensures.bound c.in_order.ensures sound c.ask.ensures.identifier c.ask.new.self c.ask.result c.ask.ensures.step c.ask.ensures.memory
+
+pub returns-in-Err-Memory-clause-remembered : goal.returns-in-Err-Memory-clause-remembered
+returns-in-Err-Memory-clause-remembered g c = λ p e o found answer.
+    let is = answer_given (moved c.args.now c.args.resolver.now) c.args.x c.ask.new.self p e o found answer c.ask.result c.ask.ensures.step c.ask.ensures.memory in
+    absurd (cc (is, c.in-Err-Memory.is))

@@ -6,7 +6,7 @@ use Rattle.std.specs.List.{list_any, list_all}
 use Rattle.ddt_path.specs.declared.locator.Locator.{Locator}
 use Rattle.ddt_path.specs.declared.record.Role.{Role}
 use Rattle.ddt_path.specs.declared.record.Role.TheVariants.{Node, Ms}
-use Rattle.ddt_path.specs.Locators.{are_distinct}
+use Rattle.ddt_path.specs.Locators.{are_distinct, most_locators}
 use Rattle.ddt_path.specs.Covers.{covers, overlaps, is_same_path, is_strictly_below}
 use Rattle.ddt_config.specs.declared.config.Child.{Child}
 use Rattle.ddt_config.specs.declared.config.SiteEntry.{SiteEntry}
@@ -16,7 +16,7 @@ use Rattle.ddt_config.specs.declared.config.Authority.{Authority}
 
 -- at most 8 locators
 abbrev pub fits : List Locator → Bool
-fits locators = nat_le (length locators) 8
+fits locators = nat_le (length locators) most_locators
 
 -- 1 to 8 of them
 abbrev pub is_server_set : List Locator → Bool

@@ -21,7 +21,7 @@ use Rattle.ddt_register.proofs.RisingLemmas.{rule_kept}
 use Rattle.ddt_check.specs.declared.fault.Rule.TheVariants as rules
 use Rattle.ddt_path.specs.Names.{is_same_name}
 use Rattle.ddt_check.specs.Zones.{is_ms, zone_of, group_named, locators_of, served_zones, roots}
-use Rattle.ddt_check.specs.Rules.{IsAccepted, is_root, is_wrong_root, is_of_unknown_group, has_wrong_locators, has_repeat, earlier_zone}
+use Rattle.ddt_check.specs.Rules.{IsAccepted, is_root, is_wrong_root, is_of_unknown_group, has_wrong_locators, earlier_zone}
 use Rattle.ddt_check.specs.Laws.{IsItsZone, IsRootZone, AreServers}
 use Rattle.ddt_check.proofs.AcceptedLemmas.{few_locators}
 use Rattle.ddt_check.proofs.KeptLemmas.{same_digits}

@@ -1,13 +1,13 @@
 -- The zones of a locator's group: in an accepted register a locator belongs to one group, and a prefix to one zone.
 use Rattle.std.proofs.Common.{◌≡◌, ℕ, ◌<◌, Bool, true, false, ◌||◌, ◌==◌, List, [], ◌∷◌, length, Option, Some, None, refl, ap, subst, ◌∙◌, inl, inr}
-use Rattle.std.specs.Prelude.{nat_lt, ◌&&◌}
+use Rattle.std.specs.Prelude.{not, nat_lt, ◌&&◌}
 use Rattle.std.specs.List.{filter}
 use Rattle.std.specs.Option.{option_map_or}
 use Rattle.std.proofs.lemmas.Bool.{false≢true, both_ways, or_parts, or_cases, eqb-true, false_from_ne_true}
 use Rattle.ddt_path.specs.declared.locator.Locator.{Locator}
 use Rattle.ddt_path.specs.declared.locator.Locator.TheVariants.{V4, V6}
 use Rattle.ddt_path.specs.Covers.{is_same_path}
-use Rattle.ddt_path.specs.Locators.{is_same_locator, lists}
+use Rattle.ddt_path.specs.Locators.{is_same_locator, lists, are_distinct}
 use Rattle.ddt_path.proofs.CoverLemmas.{covers_self}
 use Rattle.ddt_register.specs.declared.zone.Zone.{Zone}
 use Rattle.ddt_register.specs.declared.group.Group.{Group}
@@ -15,7 +15,7 @@ use Rattle.ddt_register.specs.declared.register.Register.{Register}
 use Rattle.ddt_check.specs.declared.fault.Rule.TheVariants as rules
 use Rattle.ddt_path.specs.Names.{is_same_name}
 use Rattle.ddt_check.specs.Zones.{group_named, locators_of, served_zones}
-use Rattle.ddt_check.specs.Rules.{IsAccepted, has_repeat, share, has_wrong_locators}
+use Rattle.ddt_check.specs.Rules.{IsAccepted, share, has_wrong_locators}
 use Rattle.ddt_check.specs.Zones.{is_served_by}
 use Rattle.ddt_path.proofs.MemberLemmas.{IsIn, fails_at, filter_same, found_in, found_passes}
 use Rattle.ddt_register.proofs.RisingLemmas.{rule_kept, one_row}
@@ -50,7 +50,7 @@ unshared : (r : Register) → IsAccepted r → (g h : Group) → IsIn g r.groups
 unshared r accepted g h j k lt =
     let e = rule_kept (λ (i : Group). i.row) (has_wrong_locators r) r.groups (accepted rules.Locators) h k in
     let p = or_parts (length h.locators == 0 || nat_lt 8 (length h.locators)) _ e in
-    let q = or_parts (has_repeat h.locators) _ p.1 in
+    let q = or_parts (not (are_distinct h.locators)) _ p.1 in
     earlier_fails g.row h.row _ lt (fails_at (λ (y : Group). nat_lt y.row h.row && share y.locators h.locators) r.groups g q.1 j)
 
 pub one_group : (r : Register) → IsAccepted r → (g h : Group) (l : Locator) → IsIn g r.groups → IsIn h r.groups → lists g.locators l ≡ true → lists h.locators l ≡ true → h ≡ g

@@ -6,14 +6,14 @@ use Rattle.std.specs.Option.{option_map_or}
 use Rattle.std.proofs.lemmas.Bool.{false≢true, both_ways, false_from_ne_true, not_from_false, not-true, and_parts, and_from, or_left, or_right, or_cases, cases_lt, lt-ltb, ltb-true, ltb-false, eq-eqb, eqb-true, eqb-false, ne_eqb, cond-true, cond-false}
 use Rattle.ddt_path.specs.declared.locator.Locator.{Locator}
 use Rattle.ddt_path.specs.declared.locator.Locator.TheVariants.{V4, V6}
-use Rattle.ddt_path.specs.Locators.{is_same_locator, lists}
+use Rattle.ddt_path.specs.Locators.{is_same_locator, lists, are_distinct}
 use Rattle.ddt_path.specs.Covers.{is_same_path}
 use Rattle.ddt_path.proofs.LocatorLemmas.{same_locator}
 use Rattle.ddt_path.proofs.MemberLemmas.{IsIn, found_in, found_passes, fails_at, in_later}
 use Rattle.ddt_register.specs.declared.group.Group.{Group}
 use Rattle.ddt_register.specs.declared.register.Register.{Register}
 use Rattle.ddt_check.specs.declared.fault.Rule.TheVariants as rules
-use Rattle.ddt_check.specs.Rules.{IsLeastRow, broken, group_at, has_wrong_locators, has_repeat, share, earlier_group}
+use Rattle.ddt_check.specs.Rules.{IsLeastRow, broken, group_at, has_wrong_locators, share, earlier_group}
 use Rattle.ddt_check.specs.Columns.{pair_or_none, key_list, column_key, locator_key, first_in, is_later_row, meets_at, meets_in, is_met, is_wrong_alone}
 use Rattle.ddt_check.proofs.LeastRowLemmas.{IsLeastRow-same}
 use Rattle.ddt_check.proofs.OrderLemmas.{any_in, in_any}
@@ -130,7 +130,7 @@ alone_is_wrong false false false d e = absurd (false≢true e)
 
 wrong_alone_wrong : (r : Register) (g : Group) → is_wrong_alone g ≡ true → has_wrong_locators r g ≡ true
 wrong_alone_wrong r g e =
-    alone_is_wrong (length g.locators == 0) (nat_lt 8 (length g.locators)) (has_repeat g.locators)
+    alone_is_wrong (length g.locators == 0) (nat_lt 8 (length g.locators)) (not (are_distinct g.locators))
     (earlier_group r g (λ h. share h.locators g.locators)) e
 
 -- the later of two groups that share a locator
@@ -145,8 +145,8 @@ later_wrong r h g l n j k lt first second same =
     (and_from (nat_lt h.row g.row) (share h.locators g.locators) (lt-ltb h.row g.row lt) shared) in
     at_row r g n (has_wrong_locators r) k same
     (or_right (length g.locators == 0 || nat_lt 8 (length g.locators))
-    (has_repeat g.locators || earlier_group r g (λ h. share h.locators g.locators))
-    (or_right (has_repeat g.locators) (earlier_group r g (λ h. share h.locators g.locators)) earlier))
+    (not (are_distinct g.locators) || earlier_group r g (λ h. share h.locators g.locators))
+    (or_right (not (are_distinct g.locators)) (earlier_group r g (λ h. share h.locators g.locators)) earlier))
 
 meets_wrong : (r : Register) (k : ℕ) (g : Group) (l : Locator) (n : ℕ) (found : Option Group) → first_in r k l ≡ found
     → IsIn g r.groups → IsIn l g.locators
@@ -250,7 +250,7 @@ shared_upto r k within h g l j i lt in_h in_g =
         h.row,
         omega arith,
         alone_upto r k h.row (at_row r h h.row is_wrong_alone j refl
-            (or_left (length h.locators == 0 || nat_lt 8 (length h.locators)) (has_repeat h.locators)
+            (or_left (length h.locators == 0 || nat_lt 8 (length h.locators)) (not (are_distinct h.locators))
             (or_right (length h.locators == 0) (nat_lt 8 (length h.locators)) (lt-ltb 8 (length h.locators) many)))),
       )
     ]
@@ -262,7 +262,7 @@ wrong_found r k within n e =
     let g = f.0 in
     let p = and_parts (g.row == n) (has_wrong_locators r g) f.2 in
     let at : g.row ≡ n = eqb-true g.row n p.0 in
-    elim (split_wrong (length g.locators == 0) (nat_lt 8 (length g.locators)) (has_repeat g.locators)
+    elim (split_wrong (length g.locators == 0) (nat_lt 8 (length g.locators)) (not (are_distinct g.locators))
     (earlier_group r g (λ h. share h.locators g.locators)) p.1) [
       | inl alone ↦ (g.row, omega arith, alone_upto r k g.row (at_row r g g.row is_wrong_alone f.1 refl alone))
       | inr shared ↦

@@ -5,9 +5,9 @@ use Rattle.std.specs.Option.{option_map_or}
 use Rattle.ddt_path.specs.declared.locator.Locator.{Locator}
 use Rattle.ddt_path.specs.declared.locator.Locator.TheVariants.{V4, V6}
 use Rattle.ddt_path.specs.Covers.{is_same_path}
+use Rattle.ddt_path.specs.Locators.{are_distinct, most_locators}
 use Rattle.ddt_register.specs.declared.group.Group.{Group}
 use Rattle.ddt_register.specs.declared.register.Register.{Register}
-use Rattle.ddt_check.specs.Rules.{has_repeat}
 
 -- a locator as its family and its number
 abbrev pub locator_pair : Locator → ℕ × ℕ
@@ -53,7 +53,7 @@ is_met r column n = list_any (λ g. meets_in r column g n) r.groups
 
 -- a group whose locators are none, or above 8, or repeat within it
 abbrev pub is_wrong_alone : Group → Bool
-is_wrong_alone g = (length g.locators == 0 || nat_lt 8 (length g.locators)) || has_repeat g.locators
+is_wrong_alone g = (length g.locators == 0 || nat_lt most_locators (length g.locators)) || not (are_distinct g.locators)
 
 -- the lower of two rows, where there are any
 abbrev pub lower_option : Option ℕ → Option ℕ → Option ℕ

@@ -10,7 +10,7 @@ use Rattle.ddt_path.specs.declared.record.Outcome.TheVariants.{Registered, NotRe
 use Rattle.ddt_path.specs.declared.record.ReferralRecord.{ReferralRecord}
 use Rattle.ddt_path.specs.Covers.{covers}
 use Rattle.ddt_path.specs.Free.{free}
-use Rattle.ddt_path.specs.Locators.{lists}
+use Rattle.ddt_path.specs.Locators.{lists, most_locators}
 use Rattle.ddt_path.specs.Path.{is_path, is_prefix_path}
 use Rattle.ddt_path.specs.Records.{record_of}
 use Rattle.ddt_register.specs.declared.zone.Zone.{Zone}
@@ -37,7 +37,7 @@ NamesServers action = IsReferral action ⊎ (action ≡ MsAck) ⊎ (action ≡ M
 
 -- a set of servers has 1 to 8 locators
 abbrev pub AreServers : List Locator → Type 0
-AreServers ls = (0 < length ls) × (length ls ≤ 8)
+AreServers ls = (0 < length ls) × (length ls ≤ most_locators)
 
 -- ---- zones and groups
 
@@ -106,7 +106,7 @@ ServersOfAGroupAgree r =
 pub record IsSendable (v : ReferralRecord) : Type 0 where
   pub is_prefix : IsTrue (is_prefix_path v.prefix)
   pub ttl_fits : v.ttl ≤ 1440
-  pub few_servers : length v.servers ≤ 8
+  pub few_servers : length v.servers ≤ most_locators
   pub servers_fit : IsTrue (are_locators v.servers)
 
 abbrev pub AnswersCanBeSent : Register → Type 0

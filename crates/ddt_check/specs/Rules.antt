@@ -11,7 +11,7 @@ use Rattle.ddt_register.specs.declared.group.Group.{Group}
 use Rattle.ddt_register.specs.declared.register.Register.{Register}
 use Rattle.ddt_check.specs.declared.fault.Rule.{Rule}
 use Rattle.ddt_check.specs.declared.fault.Rule.TheVariants as rules
-use Rattle.ddt_path.specs.Locators.{lists}
+use Rattle.ddt_path.specs.Locators.{lists, are_distinct, most_locators}
 use Rattle.ddt_path.specs.Names.{is_same_name}
 use Rattle.ddt_check.specs.Zones.{is_ms, is_same_role, zone_of, group_named}
 
@@ -60,16 +60,15 @@ is_of_unknown_group r z = not (is_some (group_named r z.group))
 abbrev pub is_of_other_role : Register → Zone → Bool
 is_of_other_role r z = option_map_or (λ g. not (is_same_role g.kind z.kind)) (group_named r z.group) false
 
--- A6: a group whose locators are none, or above 8, or not all new: one repeats in the row, or is in an earlier group's
-abbrev pub has_repeat : List Locator → Bool
-has_repeat [] = false
-has_repeat (l ∷ ls) = lists ls l || has_repeat ls
-
+-- whether two lists of locators share one
 abbrev pub share : List Locator → List Locator → Bool
 share ls ms = list_any (λ l. lists ms l) ls
 
+-- A6: a group whose locators are none, or above 8, or not all new: one repeats in the row, or is in an earlier group's
 abbrev pub has_wrong_locators : Register → Group → Bool
-has_wrong_locators r g = (length g.locators == 0 || nat_lt 8 (length g.locators)) || (has_repeat g.locators || earlier_group r g (λ h. share h.locators g.locators))
+has_wrong_locators r g =
+    (length g.locators == 0 || nat_lt most_locators (length g.locators))
+    || (not (are_distinct g.locators) || earlier_group r g (λ h. share h.locators g.locators))
 
 -- A7: some zone of Map-Servers holds this zone inside it
 abbrev pub is_below_map_server : Register → Zone → Bool
@@ -81,7 +80,7 @@ is_outside r s = option_map_or (λ z. not (is_ms z.kind)) (zone_of r s.prefix) t
 
 -- A9: above 8 ETRs
 abbrev pub has_too_many_etrs : Site → Bool
-has_too_many_etrs s = nat_lt 8 (length s.etrs)
+has_too_many_etrs s = nat_lt most_locators (length s.etrs)
 
 -- A10: a group of the same name stands in an earlier row
 abbrev pub is_duplicate_group : Register → Group → Bool

@@ -32,7 +32,7 @@ use Rattle.ddt_config.specs.declared.config.Child.{Child}
 use Rattle.ddt_config.specs.declared.config.SiteEntry.{SiteEntry}
 use Rattle.ddt_config.specs.declared.config.ServerConfig.{ServerConfig}
 use Rattle.ddt_config.specs.Table.{outline}
-use Rattle.ddt_config.specs.Answer.{answer, answer_in, referral_to, site_outcome, part_of, hole_in, strictly_below}
+use Rattle.ddt_config.specs.Answer.{answer, answer_in, referral_to, site_outcome, strictly_below}
 use Rattle.ddt_compile.specs.GroupConfig.{is_direct_child, child_of, children_of, entry_of, sites_of, content_of, authority_of, group_config}
 use Rattle.ddt_check.specs.Zones.{is_site_in, is_served_by}
 use Rattle.ddt_compile.specs.Laws.{IsHonestConfig}
@@ -52,9 +52,9 @@ assigned_here r accepted p x j c e = ap (λ (z : Option Zone). option_map_or (λ
 abbrev child_prefix : Child → List ℕ
 child_prefix c = c.prefix
 
-same_hole : (r : Register) (p : Zone) (x : List ℕ) → hole_in p.prefix (map child_prefix (children_of r p)) x ≡ Hole (hole_of p.prefix (prefixes_below r p) x)
+same_hole : (r : Register) (p : Zone) (x : List ℕ) → Hole (hole_of p.prefix (map child_prefix (children_of r p)) x) ≡ Hole (hole_of p.prefix (prefixes_below r p) x)
 same_hole r p x =
-    ap (λ (ps : List (List ℕ)). hole_in p.prefix ps x) (map-map child_prefix (child_of r) (filter (is_direct_child r p) r.zones))
+    ap (λ (ps : List (List ℕ)). Hole (hole_of p.prefix ps x)) (map-map child_prefix (child_of r) (filter (is_direct_child r p) r.zones))
     ∙ ap (λ (hole : Option (List ℕ)). Hole (unwrap_or hole x)) (free_agree p.prefix (map zone_prefix (filter (is_direct_child r p) r.zones)) (prefixes_below r p) x (same_free r p))
 
 found_child : (r : Register) → IsAccepted r → (p : Zone) (x : List ℕ) → covers p.prefix x ≡ true → longest_match child_prefix (children_of r p) x ≡ option_map (child_of r) (next_zone r (length p.prefix) x)
@@ -62,11 +62,11 @@ found_child r accepted p x c = longest_match-map (child_of r) child_prefix (filt
 
 node_answers : (r : Register) → IsAccepted r → (servers : List Locator) (p : Zone) (x : List ℕ) → IsIn p r.zones → p.kind ≡ Node → covers p.prefix x ≡ true → answer_in servers p.prefix (Children (children_of r p)) x ≡ says_from r p x
 node_answers r accepted servers p x j node c =
-    ap (λ (o : Option Child). option_map_or referral_to o (record_of (hole_in p.prefix (map child_prefix (children_of r p)) x))) (found_child r accepted p x c)
+    ap (λ (o : Option Child). option_map_or referral_to o (record_of (Hole (hole_of p.prefix (map child_prefix (children_of r p)) x)))) (found_child r accepted p x c)
     ∙ go (next_zone r (length p.prefix) x) refl
   where
     go : (found : Option Zone) → next_zone r (length p.prefix) x ≡ found
-        → option_map_or referral_to (option_map (child_of r) found) (record_of (hole_in p.prefix (map child_prefix (children_of r p)) x)) ≡ option_map_or (referral_to_zone r) found (record_of (assignment r x))
+        → option_map_or referral_to (option_map (child_of r) found) (record_of (Hole (hole_of p.prefix (map child_prefix (children_of r p)) x))) ≡ option_map_or (referral_to_zone r) found (record_of (assignment r x))
     go (Some z) e = refl
     go None e =
         ap record_of (same_hole r p x ∙ sym (assigned_here r accepted p x j c e ∙ ap (λ (role : Role). assigned_in r p role x) node))
@@ -103,8 +103,8 @@ same_below r p s c =
     ap (strictly_below s.prefix) (map-map entry_prefix entry_of (filter (is_site_in p) r.sites))
     ∙ kept_by_both site_prefix (is_site_in p) (λ q. is_strictly_below q s.prefix) (λ t below. covers_trans p.prefix s.prefix t.prefix c (below_parts t.prefix s.prefix below).0) r.sites
 
-same_part : (r : Register) (p : Zone) (s : Site) (x : List ℕ) → covers p.prefix s.prefix ≡ true → part_of s.prefix (strictly_below s.prefix (map entry_prefix (sites_of r p))) x ≡ hole_of s.prefix (prefixes_below_site r s) x
-same_part r p s x c = ap (λ (ps : List (List ℕ)). part_of s.prefix ps x) (same_below r p s c)
+same_part : (r : Register) (p : Zone) (s : Site) (x : List ℕ) → covers p.prefix s.prefix ≡ true → hole_of s.prefix (strictly_below s.prefix (map entry_prefix (sites_of r p))) x ≡ hole_of s.prefix (prefixes_below_site r s) x
+same_part r p s x c = ap (λ (ps : List (List ℕ)). hole_of s.prefix ps x) (same_below r p s c)
 
 same_outcome : (r : Register) (servers : List Locator) (p : Zone) (s : Site) (x : List ℕ) → locators_of r p.group ≡ servers → covers p.prefix s.prefix ≡ true
     → site_outcome servers (map entry_prefix (sites_of r p)) x (entry_of s) ≡ assigned_site r p s x
@@ -124,8 +124,8 @@ site_answers r accepted servers p x j ms c here =
     let next = no_next_zone r accepted p x j ms c in
     let hole = Hole (hole_of p.prefix (prefixes_within r p) x) in
     let prefixes = map entry_prefix (sites_of r p) in
-    let same : hole_in p.prefix prefixes x ≡ hole = ap (λ (ps : List (List ℕ)). hole_in p.prefix ps x) (map-map entry_prefix entry_of (filter (is_site_in p) r.sites)) in
-    ap (λ (o : Option SiteEntry). record_of (option_map_or (site_outcome servers prefixes x) o (hole_in p.prefix prefixes x))) (found_site r accepted p x j c)
+    let same : Hole (hole_of p.prefix prefixes x) ≡ hole = ap (λ (ps : List (List ℕ)). Hole (hole_of p.prefix ps x)) (map-map entry_prefix entry_of (filter (is_site_in p) r.sites)) in
+    ap (λ (o : Option SiteEntry). record_of (option_map_or (site_outcome servers prefixes x) o (Hole (hole_of p.prefix prefixes x)))) (found_site r accepted p x j c)
     ∙ ap (λ (o : Outcome). record_of (option_map_or (site_outcome servers prefixes x) (option_map entry_of (site_of r x)) o)) same
     ∙ ap record_of (site_outcomes r accepted servers p x hole (site_of r x) j c here refl ∙ sym (assigned_here r accepted p x j c next ∙ ap (λ (role : Role). assigned_in r p role x) ms))
     ∙ ap (λ (o : Option Zone). option_map_or (referral_to_zone r) o (record_of (assignment r x))) (sym next)

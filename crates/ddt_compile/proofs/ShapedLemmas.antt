@@ -4,11 +4,11 @@ use Rattle.std.specs.Prelude.{nat_lt, is_some}
 use Rattle.std.specs.List.{list_any}
 use Rattle.std.specs.Option.{option_map_or}
 use Rattle.std.specs.Cmp.Lexicographic.{pointwise}
-use Rattle.std.proofs.lemmas.Bool.{false≢true, true≢false, and_parts, or_parts, lt-ltb, ltb-false, eqb-true, eqb-false}
+use Rattle.std.proofs.lemmas.Bool.{not-false, false≢true, true≢false, and_parts, or_parts, lt-ltb, ltb-false, eqb-true, eqb-false}
 use Rattle.ddt_path.specs.declared.locator.Locator.{Locator}
 use Rattle.ddt_path.specs.declared.record.Role.{Role}
 use Rattle.ddt_path.specs.declared.record.Role.TheVariants.{Node, Ms}
-use Rattle.ddt_path.specs.Locators.{lists}
+use Rattle.ddt_path.specs.Locators.{are_distinct}
 use Rattle.ddt_path.specs.Covers.{covers, overlaps, is_same_path, is_strictly_below}
 use Rattle.ddt_register.specs.declared.zone.Zone.{Zone}
 use Rattle.ddt_register.specs.declared.site.Site.{Site}
@@ -18,9 +18,9 @@ use Rattle.ddt_register.specs.Rows.{rise, zone_rows, site_rows, group_rows}
 use Rattle.ddt_check.specs.declared.fault.Rule.TheVariants as rules
 use Rattle.ddt_path.specs.Names.{is_same_name}
 use Rattle.ddt_check.specs.Zones.{is_same_role, group_named, locators_of}
-use Rattle.ddt_check.specs.Rules.{IsAccepted, is_duplicate_zone, is_of_unknown_group, is_of_other_role, has_repeat, has_wrong_locators, has_too_many_etrs, is_duplicate_group}
+use Rattle.ddt_check.specs.Rules.{IsAccepted, is_duplicate_zone, is_of_unknown_group, is_of_other_role, has_wrong_locators, has_too_many_etrs, is_duplicate_group}
 use Rattle.ddt_config.specs.declared.config.Authority.{Authority}
-use Rattle.ddt_config.specs.Shaped.{fits, is_server_set, are_distinct, is_child_of, is_site_of, is_content_of, is_authority_of, is_shaped}
+use Rattle.ddt_config.specs.Shaped.{fits, is_server_set, is_child_of, is_site_of, is_content_of, is_authority_of, is_shaped}
 use Rattle.ddt_compile.specs.GroupConfig.{is_between, is_direct_child, child_of, entry_of, content_of, authority_of, authorities_of}
 use Rattle.ddt_check.specs.Zones.{is_site_in, is_served_by}
 use Rattle.ddt_path.proofs.MemberLemmas.{IsIn, in_filter, fails_at, all_kept, found_in}
@@ -30,12 +30,6 @@ use Rattle.ddt_check.proofs.KeptLemmas.{own_prefix, own_site, few_etrs, role_of_
 use Rattle.ddt_compile.proofs.NoTwoLemmas.{no_two_kept}
 
 -- locators
-distinct : (ls : List Locator) → has_repeat ls ≡ false → are_distinct ls ≡ true
-distinct [] e = refl
-distinct (l ∷ ls) e =
-    let p = or_parts (lists ls l) (has_repeat ls) e in
-    rw (p.0, distinct ls p.1) refl
-
 right_size : (n : ℕ) → (n == 0) ≡ false → nat_lt 8 n ≡ false → (nat_le 1 n && nat_le n 8) ≡ true
 right_size n e f =
     let some : n ≢ 0 = eqb-false n 0 e in
@@ -48,7 +42,7 @@ server_set r accepted g k =
     let e = rule_kept (λ (h : Group). h.row) (has_wrong_locators r) r.groups (accepted rules.Locators) g k in
     let p = or_parts (length g.locators == 0 || nat_lt 8 (length g.locators)) _ e in
     let q = or_parts (length g.locators == 0) (nat_lt 8 (length g.locators)) p.0 in
-    (right_size (length g.locators) q.0 q.1, distinct g.locators (or_parts (has_repeat g.locators) _ p.1).0)
+    (right_size (length g.locators) q.0 q.1, not-false (are_distinct g.locators) (or_parts (not (are_distinct g.locators)) _ p.1).0)
 
 known : (r : Register) → IsAccepted r → (name : List ℕ) (found : Option Group) → group_named r name ≡ found → not (is_some found) ≡ false → is_server_set (option_map_or (λ (g : Group). g.locators) found []) ≡ true
 known r accepted name None e some = absurd (true≢false some)

@@ -17,12 +17,11 @@ ghost use Rattle.ddt_compile.specs.Lists.{list_at};
 
 use crate::children::children_by_zone;
 use crate::lists::{append, take};
-use crate::locators::set_of;
 use crate::nearest::prefixes_of;
 use crate::sites::sites_by_zone;
 use ddt_check::Accepted;
 use ddt_config::{Authority, Child, Content, ServerConfig, SiteEntry};
-use ddt_path::{Listed, Name, Prefix, Role};
+use ddt_path::{Listed, LocatorSet, Name, Prefix, Role};
 use ddt_register::{Group, Zone};
 use std::alloc::{AllocError, Global};
 use std::collections::BTreeMap;
@@ -82,7 +81,7 @@ fn group_config(group: &Group, authorities: Listed<Authority>) -> ServerConfig
     ServerConfig {
         name: group.name,
         role: group.kind,
-        locators: set_of(group.locators.as_slice()),
+        locators: LocatorSet::of_few(group.locators.as_slice()),
         authorities,
     }
 }

@@ -1,6 +1,6 @@
 //! The locators of groups and sites, as the sets that configurations hold.
 
-ghost use Rattle.std.specs.Prelude.{◌≡◌, ◌≤◌, ℕ, List, length, IfOk};
+ghost use Rattle.std.specs.Prelude.{◌≡◌, ℕ, List, IfOk};
 ghost use Rattle.std.specs.Option.{option_map};
 ghost use Rattle.std.specs.Ordering.{nat_cmp};
 ghost use Rattle.std.specs.Cmp.Lexicographic.{slice_cmp};
@@ -8,20 +8,9 @@ ghost use Rattle.std.specs.BTreeMap.{get};
 ghost use Rattle.ddt_check.specs.Zones.{group_named};
 
 use ddt_check::Accepted;
-use ddt_path::{Locator, LocatorSet, Name};
+use ddt_path::{LocatorSet, Name};
 use std::alloc::{AllocError, Global};
 use std::collections::BTreeMap;
-
-/// The set of at most 8 locators.
-pub fn set_of(locators: &[Locator]) -> LocatorSet
-    requires { length locators.now ≤ 8 }
-    ensures { result ≡ locators.now }
-{
-    match LocatorSet::of(locators) {
-        Some(set) => set,
-        None => unreachable!(),
-    }
-}
 
 /// The locators of each group, by its name.
 pub fn locators_by_name(
@@ -33,7 +22,7 @@ pub fn locators_by_name(
     let mut sets = BTreeMap::new(alloc);
     for group in accepted.register().groups.as_slice() {
         if !sets.contains_key(&group.name) {
-            sets.insert(group.name, set_of(group.locators.as_slice()))?;
+            sets.insert(group.name, LocatorSet::of_few(group.locators.as_slice()))?;
         }
     }
     Ok(sets)

@@ -11,11 +11,10 @@ ghost use Rattle.ddt_compile.specs.Lists.{list_at};
 ghost use Rattle.ddt_compile.specs.Nearest.{HasPrefixesOf};
 
 use crate::lists::append;
-use crate::locators::set_of;
 use crate::nearest::nearest;
 use ddt_check::Accepted;
 use ddt_config::SiteEntry;
-use ddt_path::Prefix;
+use ddt_path::{LocatorSet, Prefix};
 use std::alloc::{AllocError, Global};
 use std::collections::{BTreeMap, BTreeSet};
 
@@ -31,7 +30,7 @@ pub fn sites_by_zone(
     let mut lists = BTreeMap::new(alloc);
     for site in accepted.register().sites.as_slice() {
         if let Some(zone) = nearest(prefixes, site.prefix, site.prefix.len() + 1) {
-            let etrs = set_of(site.etrs.as_slice());
+            let etrs = LocatorSet::of_few(site.etrs.as_slice());
             let entry = SiteEntry {
                 prefix: site.prefix,
                 etrs,

@@ -15,7 +15,8 @@ use Rattle.ddt_config.specs.declared.config.SiteEntry.{SiteEntry}
 use Rattle.ddt_config.specs.declared.config.Content.{Content}
 use Rattle.ddt_config.specs.declared.config.Content.TheVariants.{Children, Sites}
 use Rattle.ddt_config.specs.declared.config.Authority.{Authority}
-use Rattle.ddt_config.specs.Shaped.{fits, is_server_set, are_distinct, have_own_prefixes, are_apart, is_child_of, is_site_of, is_content_of, is_authority_of, is_shaped}
+use Rattle.ddt_path.specs.Locators.{are_distinct}
+use Rattle.ddt_config.specs.Shaped.{fits, is_server_set, have_own_prefixes, are_apart, is_child_of, is_site_of, is_content_of, is_authority_of, is_shaped}
 use Rattle.ddt_config.specs.Table.{on_ok, each, name_in, role_in, path_in, locators_in, child_in, site_in, content_in, authority_in, tables_at, config_in}
 use Rattle.ddt_config.specs.Reading.{Reads, child_fits, site_fits, content_fits, authority_fits}
 

@@ -27,7 +27,8 @@ use Rattle.ddt_config.specs.declared.config.Content.{Content}
 use Rattle.ddt_config.specs.declared.config.Content.TheVariants.{Children, Sites}
 use Rattle.ddt_config.specs.declared.config.Authority.{Authority}
 use Rattle.ddt_config.specs.Table.{key_text, on_ok, each, listed, of_form, text_of, table_of, array_of, name_in, role_text, role_of, role_in, path_in, locators_in, tables_at, child_in, site_in, content_in, authority_in, Outline, config_in, config_in_document, config_in_text}
-use Rattle.ddt_config.specs.Shaped.{is_server_set, are_distinct, have_own_prefixes, is_content_of, is_authority_of, is_shaped}
+use Rattle.ddt_path.specs.Locators.{are_distinct}
+use Rattle.ddt_config.specs.Shaped.{is_server_set, have_own_prefixes, is_content_of, is_authority_of, is_shaped}
 use Rattle.ddt_config.specs.Writing.{inserted, with_keys, items_of, written_each, written_locators, written_child, written_site, written_content, written_authority, written_config, is_content_for, PrefixComesBack, LocatorsComeBack, ChildComesBack, SiteComesBack, ContentComesBack, AuthorityComesBack}
 
 -- a member put into the map of a table

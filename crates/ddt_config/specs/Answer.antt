@@ -1,5 +1,5 @@
 -- What a configuration answers for an identifier (RFC 8111, sections 6.1, 7.1 and 7.2).
-use Rattle.std.specs.Prelude.{ℕ, ◌==◌, if◌then◌else◌, List, length, map, unwrap_or}
+use Rattle.std.specs.Prelude.{ℕ, ◌==◌, if◌then◌else◌, List, length, map}
 use Rattle.std.specs.List.{filter}
 use Rattle.std.specs.Option.{option_map_or}
 use Rattle.ddt_path.specs.declared.locator.Locator.{Locator}
@@ -8,7 +8,7 @@ use Rattle.ddt_path.specs.declared.record.Outcome.TheVariants.{Registered, NotRe
 use Rattle.ddt_path.specs.declared.record.ReferralRecord.{ReferralRecord}
 use Rattle.ddt_path.specs.Records.{referral, record_of, not_authoritative}
 use Rattle.ddt_path.specs.Covers.{is_strictly_below}
-use Rattle.ddt_path.specs.Free.{longest_match, free}
+use Rattle.ddt_path.specs.Free.{longest_match, hole_of}
 use Rattle.ddt_config.specs.declared.config.Child.{Child}
 use Rattle.ddt_config.specs.declared.config.SiteEntry.{SiteEntry}
 use Rattle.ddt_config.specs.declared.config.Content.{Content}
@@ -19,16 +19,6 @@ use Rattle.ddt_config.specs.Table.{Outline}
 abbrev pub referral_to : Child → ReferralRecord
 referral_to c = referral c.role c.prefix c.locators
 
--- The least specific prefix around an identifier, inside an authority or a site, that overlaps none of some prefixes.
--- Where one of these covers the identifier there is no such prefix, and this gives the identifier itself; no case below
--- asks for it then.
-abbrev pub part_of : List ℕ → List (List ℕ) → List ℕ → List ℕ
-part_of around prefixes x = unwrap_or (free around prefixes x) x
-
--- the hole of an identifier that nothing in the authority covers
-abbrev pub hole_in : List ℕ → List (List ℕ) → List ℕ → Outcome
-hole_in authority prefixes x = Hole (part_of authority prefixes x)
-
 -- the prefixes strictly below another
 abbrev pub strictly_below : List ℕ → List (List ℕ) → List (List ℕ)
 strictly_below p prefixes = filter (λ q. is_strictly_below q p) prefixes
@@ -37,18 +27,18 @@ strictly_below p prefixes = filter (λ q. is_strictly_below q p) prefixes
 -- around the identifier isn't registered that overlaps none of the sites inside it.
 abbrev pub site_outcome : List Locator → List (List ℕ) → List ℕ → SiteEntry → Outcome
 site_outcome servers sites x s =
-    if length s.etrs == 0 then NotRegistered (part_of s.prefix (strictly_below s.prefix sites) x) servers
+    if length s.etrs == 0 then NotRegistered (hole_of s.prefix (strictly_below s.prefix sites) x) servers
     else Registered s.prefix servers
 
 -- The answer from the authority that the identifier belongs to: that of the child, or the longest site, that covers it.
 abbrev pub answer_in : List Locator → List ℕ → Content → List ℕ → ReferralRecord
 answer_in servers authority (Children cs) x =
     let prefixes = map (λ c. c.prefix) cs in
-    option_map_or referral_to (longest_match (λ c. c.prefix) cs x) (record_of (hole_in authority prefixes x))
+    option_map_or referral_to (longest_match (λ c. c.prefix) cs x) (record_of (Hole (hole_of authority prefixes x)))
 answer_in servers authority (Sites ss) x =
     let prefixes = map (λ s. s.prefix) ss in
     let site = longest_match (λ s. s.prefix) ss x in
-    record_of (option_map_or (site_outcome servers prefixes x) site (hole_in authority prefixes x))
+    record_of (option_map_or (site_outcome servers prefixes x) site (Hole (hole_of authority prefixes x)))
 
 -- from the longest authority that covers the identifier
 abbrev pub answer : Outline → List ℕ → ReferralRecord

@@ -6,7 +6,7 @@ use Rattle.std.specs.List.{list_any, list_all}
 use Rattle.ddt_path.specs.declared.locator.Locator.{Locator}
 use Rattle.ddt_path.specs.declared.record.Role.{Role}
 use Rattle.ddt_path.specs.declared.record.Role.TheVariants.{Node, Ms}
-use Rattle.ddt_path.specs.Locators.{is_same_locator}
+use Rattle.ddt_path.specs.Locators.{are_distinct, most_locators}
 use Rattle.ddt_path.specs.Covers.{covers, overlaps, is_same_path, is_strictly_below}
 use Rattle.ddt_config.specs.declared.config.Child.{Child}
 use Rattle.ddt_config.specs.declared.config.SiteEntry.{SiteEntry}
@@ -16,7 +16,7 @@ use Rattle.ddt_config.specs.declared.config.Authority.{Authority}
 
 -- at most 8 locators
 abbrev pub fits : List Locator → Bool
-fits locators = nat_le (length locators) 8
+fits locators = nat_le (length locators) most_locators
 
 -- 1 to 8 of them
 abbrev pub is_server_set : List Locator → Bool
@@ -26,10 +26,6 @@ is_server_set locators = nat_le 1 (length locators) && fits locators
 abbrev pub no_two : {A : Type 0} → (A → A → Bool) → List A → Bool
 no_two clash [] = true
 no_two clash (a ∷ rest) = not (list_any (clash a) rest) && no_two clash rest
-
--- no locator stands twice
-abbrev pub are_distinct : List Locator → Bool
-are_distinct = no_two (λ l m. is_same_locator m l)
 
 -- no two have one prefix
 abbrev pub have_own_prefixes : {A : Type 0} → (A → List ℕ) → List A → Bool

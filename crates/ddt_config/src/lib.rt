@@ -13,8 +13,8 @@ mod shape;
 mod writing;
 
 pub use config::{Authority, Child, Content, ServerConfig, SiteEntry};
+pub use ddt_path::Prefixed;
 pub use fault::{ConfigFault, Key};
-pub use prefixed::Prefixed;
 pub use reading::from_toml;
 pub use writing::to_toml;
 

@@ -6,8 +6,7 @@ ghost use Rattle.std.specs.Ordering.{nat_cmp};
 ghost use Rattle.ddt_path.specs.Covers.{is_same_path, overlaps};
 ghost use Rattle.ddt_config.specs.Shaped.{no_two, have_own_prefixes as have_own_prefixes_of, are_apart as are_apart_of};
 
-use crate::prefixed::Prefixed;
-use ddt_path::Prefix;
+use ddt_path::{Prefix, Prefixed};
 use std::alloc::{AllocError, Global};
 
 /// Whether no two of the items have one prefix. Refused for memory alone.

@@ -1,18 +1,7 @@
 //! What stands in a configuration under a prefix: an authority, a child or a site.
 
 use crate::config::{Authority, Child, SiteEntry};
-use ddt_path::Prefix;
-
-/// An item that has a prefix.
-pub trait Prefixed {
-    ghost use Rattle.std.specs.Prelude.{◌≡◌, List, ℕ};
-
-    ghost path: { Self → List ℕ };
-
-    /// Its prefix.
-    fn prefix(&self) -> Prefix
-        ensures { result ≡ path self.now };
-}
+use ddt_path::{Prefix, Prefixed};
 
 impl Prefixed for Authority {
     ghost path = { λ a. a.prefix };

@@ -2,11 +2,11 @@
 
 ghost use Rattle.std.specs.Prelude.{◌≡◌, IfOk};
 ghost use Rattle.std.specs.List.{list_all};
-ghost use Rattle.ddt_config.specs.Shaped.{is_shaped as is_shaped_of, is_server_set as is_server_set_of, are_distinct as are_distinct_of, is_child_of as is_child_of_path, is_site_of as is_site_of_path, is_content_of as is_content_of_role, is_authority_of as is_authority_of_role};
+ghost use Rattle.ddt_config.specs.Shaped.{is_shaped as is_shaped_of, is_server_set as is_server_set_of, is_child_of as is_child_of_path, is_site_of as is_site_of_path, is_content_of as is_content_of_role, is_authority_of as is_authority_of_role};
 
 use crate::config::{Authority, Child, Content, SiteEntry};
 use crate::neighbours::{are_apart, have_own_prefixes};
-use ddt_path::{Locator, LocatorSet, MOST_LOCATORS, Prefix, Role, lists};
+use ddt_path::{Locator, LocatorSet, MOST_LOCATORS, Prefix, Role, are_distinct};
 use std::alloc::{AllocError, Global};
 
 /// Whether servers of this role and with these locators may have these authorities. Refused for memory alone.
@@ -32,19 +32,6 @@ fn is_server_set(locators: &[Locator]) -> bool
     ensures { result ≡ is_server_set_of locators.now }
 {
     !locators.is_empty() && locators.len() <= MOST_LOCATORS
-}
-
-fn are_distinct(locators: &[Locator]) -> bool
-    ensures { result ≡ are_distinct_of locators.now }
-{
-    let mut rest = locators;
-    while let [first, others @ ..] = rest {
-        if lists(others, *first) {
-            return false;
-        }
-        rest = others;
-    }
-    true
 }
 
 fn are_authorities_of(

@@ -7,7 +7,7 @@ use Rattle.std.proofs.lemmas.Bool.{false_from_ne_true}
 use Rattle.ddt_path.specs.declared.locator.Locator.{Locator}
 use Rattle.ddt_path.specs.declared.record.ReferralRecord.{ReferralRecord}
 use Rattle.ddt_path.specs.declared.record.Outcome.{Outcome}
-use Rattle.ddt_path.specs.declared.record.Outcome.TheVariants.{Registered, NotRegistered}
+use Rattle.ddt_path.specs.declared.record.Outcome.TheVariants.{Registered, NotRegistered, Hole}
 use Rattle.ddt_path.specs.Records.{record_of, referral, not_authoritative}
 use Rattle.ddt_path.specs.declared.record.Role.{Role}
 use Rattle.ddt_path.specs.declared.record.Role.TheVariants.{Node, Ms}
@@ -15,10 +15,10 @@ use Rattle.ddt_config.specs.declared.config.Child.{Child}
 use Rattle.ddt_config.specs.declared.config.SiteEntry.{SiteEntry}
 use Rattle.ddt_config.specs.declared.config.Content.{Content}
 use Rattle.ddt_config.specs.declared.config.Content.TheVariants.{Children, Sites}
-use Rattle.ddt_path.specs.Free.{longest_match}
+use Rattle.ddt_path.specs.Free.{longest_match, hole_of}
 use Rattle.ddt_config.specs.declared.config.Authority.{Authority}
 use Rattle.ddt_config.specs.Table.{Outline}
-use Rattle.ddt_config.specs.Answer.{answer, answer_in, site_outcome, part_of, hole_in, strictly_below, referral_to}
+use Rattle.ddt_config.specs.Answer.{answer, answer_in, site_outcome, strictly_below, referral_to}
 use Rattle.ddt_trie.specs.PrefixMap.{path_cmp}
 use Rattle.ddt_node.specs.Places.{places}
 use Rattle.ddt_node.proofs.PlaceLemmas.{free_below_of_places, found_at}
@@ -35,7 +35,7 @@ module _ (c d : Outline) (x : List ℕ) (a : Authority) (found : authority_of c 
 
 -- there is an ETR to send to exactly where the answer is MS-ACK
 site_acknowledged : (servers : List Locator) (sites : List (List ℕ)) (x : List ℕ) (s : SiteEntry) → is_some (slice_get s.etrs 0) ≡ is_ack (record_of (site_outcome servers sites x s)).action
-site_acknowledged servers sites x s = by_etrs (part_of s.prefix (strictly_below s.prefix sites) x) s.etrs
+site_acknowledged servers sites x s = by_etrs (hole_of s.prefix (strictly_below s.prefix sites) x) s.etrs
   where
     by_etrs : (part : List ℕ) (etrs : List Locator) → is_some (slice_get etrs 0) ≡ is_ack (record_of (cond (length etrs == 0) (NotRegistered part servers) (Registered s.prefix servers))).action
     by_etrs part [] = refl
@@ -50,13 +50,13 @@ referral_unacknowledged Ms prefix servers = refl
 content_acknowledged : (servers : List Locator) (authority : List ℕ) (content : Content) (x : List ℕ) → is_some (etr_in x content) ≡ is_ack (answer_in servers authority content x).action
 content_acknowledged servers authority (Children cs) x = by_child (longest_match (λ c. c.prefix) cs x)
   where
-    by_child : (o : Option Child) → false ≡ is_ack (option_map_or referral_to o (record_of (hole_in authority (map (λ c. c.prefix) cs) x))).action
+    by_child : (o : Option Child) → false ≡ is_ack (option_map_or referral_to o (record_of (Hole (hole_of authority (map (λ c. c.prefix) cs) x)))).action
     by_child None = refl
     by_child (Some c) = referral_unacknowledged c.role c.prefix c.locators
 content_acknowledged servers authority (Sites ss) x = by_site (map (λ s. s.prefix) ss) (longest_match (λ s. s.prefix) ss x)
   where
     by_site : (prefixes : List (List ℕ)) (o : Option SiteEntry)
-        → is_some (option_and_then (λ s. slice_get s.etrs 0) o) ≡ is_ack (record_of (option_map_or (site_outcome servers prefixes x) o (hole_in authority prefixes x))).action
+        → is_some (option_and_then (λ s. slice_get s.etrs 0) o) ≡ is_ack (record_of (option_map_or (site_outcome servers prefixes x) o (Hole (hole_of authority prefixes x)))).action
     by_site prefixes None = refl
     by_site prefixes (Some s) = site_acknowledged servers prefixes x s
 
@@ -83,7 +83,7 @@ module _ (servers : List Locator) (m : FinMap path_cmp ℕ) (ss : List SiteEntry
       → record_of o ≡ answer_in servers authority (Sites ss) x
   site_answer authority i s o found inside read e =
       ap record_of (e ∙ outcome_by_map s)
-      ∙ ap (λ (f : Option SiteEntry). record_of (option_map_or (site_outcome servers (map (λ t. t.prefix) ss) x) f (hole_in authority (map (λ t. t.prefix) ss) x))) (sym (found_at (λ t. t.prefix) ss x i s found inside read))
+      ∙ ap (λ (f : Option SiteEntry). record_of (option_map_or (site_outcome servers (map (λ t. t.prefix) ss) x) f (Hole (hole_of authority (map (λ t. t.prefix) ss) x)))) (sym (found_at (λ t. t.prefix) ss x i s found inside read))
 
 pub site_etr : (ss : List SiteEntry) (x : List ℕ) (i : ℕ) (s : SiteEntry) (e : Option Locator) → longest_match (λ t. t.prefix) ss x ≡ slice_get ss i → i < length ss → s ≡ get_or ss i s → e ≡ slice_get s.etrs 0 → e ≡ etr_in x (Sites ss)
 site_etr ss x i s e found inside read is = is ∙ ap (option_and_then (λ (t : SiteEntry). slice_get t.etrs 0)) (sym (found_at (λ t. t.prefix) ss x i s found inside read))

@@ -2,10 +2,11 @@
 
 ghost use Rattle.std.specs.Prelude.{◌≡◌, ◌<◌, IsTrue, None, length, map, slice_get, IfSome, IfNone};
 ghost use Rattle.std.specs.FinMap.{keys};
+ghost use Rattle.ddt_path.specs.declared.record.Outcome.TheVariants.{Hole};
 ghost use Rattle.ddt_path.specs.Path.{xeid_path};
 ghost use Rattle.ddt_path.specs.Covers.{covers};
-ghost use Rattle.ddt_path.specs.Free.{longest_match};
-ghost use Rattle.ddt_config.specs.Answer.{answer_in as answer_in_of, hole_in, site_outcome as site_outcome_of, part_of as part_of_paths, referral_to as referral_to_child};
+ghost use Rattle.ddt_path.specs.Free.{longest_match, hole_of};
+ghost use Rattle.ddt_config.specs.Answer.{answer_in as answer_in_of, site_outcome as site_outcome_of, referral_to as referral_to_child};
 ghost use Rattle.ddt_config.specs.Entries.{prefixes_in};
 ghost use Rattle.ddt_trie.specs.PrefixMap.{keys_below};
 ghost use Rattle.ddt_node.specs.Places.{places as places_of};
@@ -33,7 +34,7 @@ pub fn longest<T: Prefixed, M: PrefixMap<u32>>(items: &[T], places: &M, x: Xeid)
 fn hole<M: PrefixMap<u32>>(authority: &Authority, places: &M, x: Xeid) -> Outcome
     requires places { M.content places.now ≡ places_of (prefixes_in authority.now.content) }
     requires inside { IsTrue (covers authority.now.prefix (xeid_path x)) }
-    ensures { result ≡ hole_in authority.now.prefix (prefixes_in authority.now.content) (xeid_path x) }
+    ensures { result ≡ Hole (hole_of authority.now.prefix (prefixes_in authority.now.content) (xeid_path x)) }
 {
     Outcome::Hole {
         prefix: places.free(authority.prefix, x).unwrap_or(Prefix::host(x)),
@@ -44,7 +45,7 @@ fn hole<M: PrefixMap<u32>>(authority: &Authority, places: &M, x: Xeid) -> Outcom
 /// the site.
 fn part_of<M: PrefixMap<u32>>(site: Prefix, places: &M, x: Xeid) -> Prefix
     requires { IsTrue (covers site (xeid_path x)) }
-    ensures { result ≡ part_of_paths site (keys_below (M.content places.now) site) (xeid_path x) }
+    ensures { result ≡ hole_of site (keys_below (M.content places.now) site) (xeid_path x) }
 {
     places.free_below(site, x).unwrap_or(Prefix::host(x))
 }

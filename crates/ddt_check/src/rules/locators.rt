@@ -8,7 +8,7 @@ ghost use Rattle.std.specs.Ordering.{nat_cmp, is_lt};
 ghost use Rattle.std.specs.Cmp.Lexicographic.{slice_cmp};
 ghost use Rattle.ddt_path.specs.Covers.{is_same_path};
 ghost use Rattle.ddt_register.specs.declared.register.Register.{Register as ARegister};
-ghost use Rattle.ddt_check.specs.Rules.{IsLeastRow, group_at, has_repeat as has_repeat_of};
+ghost use Rattle.ddt_check.specs.Rules.{IsLeastRow, group_at};
 ghost use Rattle.ddt_check.specs.Order.{IsInOrder};
 ghost use Rattle.ddt_check.specs.Sorted.{IsLeastOfGroups};
 ghost use Rattle.ddt_check.specs.Columns.{locator_pair as locator_pair_of, column_pair as column_pair_of};
@@ -17,7 +17,7 @@ ghost use Rattle.ddt_check.specs.Columns.{first_in as first_of, meets_at, meets_
 
 use crate::fault::Rule;
 use crate::rules::{lower, lower_of};
-use ddt_path::{Locator, MOST_LOCATORS, lists};
+use ddt_path::{Locator, MOST_LOCATORS, are_distinct};
 use ddt_register::Group;
 
 /// A locator as its family and its number.
@@ -129,26 +129,12 @@ fn shared(groups: &[Group], column: usize) -> Option<u32>
     least
 }
 
-/// Whether a locator stands twice.
-fn has_repeat(locators: &[Locator]) -> bool
-    ensures { result ≡ has_repeat_of locators.now }
-{
-    let mut rest = locators;
-    while let [first, others @ ..] = rest {
-        if lists(others, *first) {
-            return true;
-        }
-        rest = others;
-    }
-    false
-}
-
 /// Whether a group has no locator, more than 8, or one twice.
 fn is_wrong_alone(g: &Group) -> bool
     ensures { result ≡ is_wrong_of g.now }
 {
     let locators = g.locators.as_slice();
-    (locators.is_empty() || locators.len() > MOST_LOCATORS) || has_repeat(locators)
+    (locators.is_empty() || locators.len() > MOST_LOCATORS) || !are_distinct(locators)
 }
 
 /// The least row of a group with no locator, more than 8, or one twice.

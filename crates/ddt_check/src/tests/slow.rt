@@ -7,11 +7,11 @@ ghost use Rattle.ddt_check.specs.Rules.{earlier_zone, earlier_group};
 ghost use Rattle.ddt_check.specs.Rules.{is_root as is_root_zone, is_wrong_root as is_wrong_root_of, is_duplicate_zone as is_duplicate_zone_of};
 ghost use Rattle.ddt_check.specs.Rules.{is_of_unknown_group as is_of_unknown, is_of_other_role as is_of_other, is_below_map_server as is_below};
 ghost use Rattle.ddt_check.specs.Rules.{is_duplicate_site as is_duplicate_site_of, is_outside as is_outside_of, has_too_many_etrs as has_too_many};
-ghost use Rattle.ddt_check.specs.Rules.{has_wrong_locators as has_wrong, has_repeat as has_repeat_of, share as share_of, is_duplicate_group as is_duplicate_group_of};
+ghost use Rattle.ddt_check.specs.Rules.{has_wrong_locators as has_wrong, share as share_of, is_duplicate_group as is_duplicate_group_of};
 
 use crate::fault::{Fault, Rule};
 use crate::lookup::{group_named, is_ms, is_same_role, zone_of};
-use ddt_path::{Locator, MOST_LOCATORS, lists};
+use ddt_path::{Locator, MOST_LOCATORS, are_distinct, lists};
 use ddt_register::{Group, Register, Site, Zone};
 
 /// The rules in the order of their numbers.
@@ -216,20 +216,6 @@ fn too_many_etrs(register: &Register) -> Option<u32>
     sites.iter().find(|s| has_too_many_etrs(s)).map(|s| s.row)
 }
 
-/// Whether a locator stands twice.
-fn has_repeat(locators: &[Locator]) -> bool
-    ensures { result ≡ has_repeat_of locators.now }
-{
-    let mut rest = locators;
-    while let [first, others @ ..] = rest {
-        if lists(others, *first) {
-            return true;
-        }
-        rest = others;
-    }
-    false
-}
-
 /// Whether a locator of the one list is one of the other.
 fn share(first: &[Locator], second: &[Locator]) -> bool
     ensures { result ≡ share_of first.now second.now }
@@ -249,7 +235,7 @@ fn has_wrong_locators(register: &Register, g: &Group) -> bool
 {
     let locators = g.locators.as_slice();
     (locators.is_empty() || locators.len() > MOST_LOCATORS)
-        || (has_repeat(locators) || shares_with_earlier(register, g))
+        || (!are_distinct(locators) || shares_with_earlier(register, g))
 }
 
 /// The least row of a group whose locators are none, or above 8, or not all new.

@@ -10,8 +10,8 @@ use Rattle.ddt_compile.proofs.LocatorLemmas.{name_put, name_kept}
 use Rattle.ddt_compile.proofs.locators.locators_by_name.Goals as goal
 use Rattle.ddt_compile.proofs.locators.locators_by_name.Goals.{then-not-contains_key+in_ok-insert, else-not-contains_key}
 
-pub set_of-requires : goal.set_of-requires
-set_of-requires c =
+pub of_few-requires : goal.of_few-requires
+of_few-requires c =
     let same = c.as_slice-group-items.ensures ∙ ap (λ (r : Register). r.groups) c.register.ensures.register in
     let here = in_at c.as_slice-group-items.result.now c.loop-group.group-index c.group-item.result c.loop-group-test.true c.group-item.is in
     rw c.as_slice.ensures (few_servers c.args.accepted.now c.register.ensures.accepted c.group-item.result (subst (IsIn c.group-item.result) same here))
@@ -24,7 +24,7 @@ loop-group-preserved c = λ name.
     elim c.if-not-contains_key.branch [
       | then-not-contains_key+in_ok-insert w ↦
           ap (λ (m : BTreeMap (List ℕ) (List Locator)). get (slice_cmp nat_cmp) m name) w.sets-is
-          ∙ name_put groups i g c.loop-group-test.true c.group-item.is c.loop-group.sets w.insert.new.self c.loop-group.invariant w.set_of.result (w.set_of.ensures ∙ w.as_slice.ensures)
+          ∙ name_put groups i g c.loop-group-test.true c.group-item.is c.loop-group.sets w.insert.new.self c.loop-group.invariant w.of_few.result (w.of_few.ensures ∙ w.as_slice.ensures)
           (sym c.contains_key.ensures ∙ w.if-not-contains_key.true) w.in_ok-insert.ensures.updates name
       | else-not-contains_key w ↦
           ap (λ (m : BTreeMap (List ℕ) (List Locator)). get (slice_cmp nat_cmp) m name) w.sets-is

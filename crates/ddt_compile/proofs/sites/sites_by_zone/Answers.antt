@@ -20,8 +20,8 @@ use Rattle.ddt_compile.proofs.GrowingLemmas.{grown, none_kept}
 use Rattle.ddt_compile.proofs.sites.sites_by_zone.Goals as goal
 use Rattle.ddt_compile.proofs.sites.sites_by_zone.Goals.{in-Some+in_ok-append, in_default}
 
-pub set_of-etrs-requires : goal.set_of-etrs-requires
-set_of-etrs-requires c =
+pub of_few-etrs-requires : goal.of_few-etrs-requires
+of_few-etrs-requires c =
     let same = c.as_slice-site-items.ensures ∙ ap (λ (r : Register). r.sites) c.register.ensures.register in
     let here = in_at c.as_slice-site-items.result.now c.loop-site.site-index c.site-item.result c.loop-site-test.true c.site-item.is in
     rw c.as_slice.ensures (few_etrs c.args.accepted.now c.register.ensures.accepted c.site-item.result (subst (IsIn c.site-item.result) same here))
@@ -37,8 +37,8 @@ loop-site-preserved c = λ z k ms.
       | in-Some+in_ok-append w ↦
           let own = w.in-Some.zone in
           let n = subst (λ (n : ℕ). IsAbove prefixes x.prefix (n + 1) own × ((q : List ℕ) → IsAbove prefixes x.prefix (n + 1) q → length q ≤ length own)) c.len.ensures.digits w.in-Some.ensures in
-          let entry : SiteEntry = record { prefix = x.prefix; etrs = w.set_of-etrs.result } in
-          let made : entry ≡ entry_of x = ap (λ (etrs : List Locator). let e : SiteEntry = record { prefix = x.prefix; etrs = etrs } in e) (w.set_of-etrs.ensures ∙ w.as_slice.ensures) in
+          let entry : SiteEntry = record { prefix = x.prefix; etrs = w.of_few-etrs.result } in
+          let made : entry ≡ entry_of x = ap (λ (etrs : List Locator). let e : SiteEntry = record { prefix = x.prefix; etrs = etrs } in e) (w.of_few-etrs.ensures ∙ w.as_slice.ensures) in
           ap (λ (m : BTreeMap (List ℕ) (Vec SiteEntry)). list_at (slice_cmp nat_cmp) m z.prefix) w.lists-is
           ∙ grown entry_of (is_site_in z) sites i x c.loop-site-test.true c.site-item.is c.loop-site.lists w.append.new.lists own z.prefix entry made
           (holder_nearest prefixes r c.requires c.register.ensures.accepted z x k ms own n.0 n.1) w.in_ok-append.ensures.here w.in_ok-append.ensures.elsewhere (c.loop-site.invariant z k ms)

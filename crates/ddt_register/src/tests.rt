@@ -382,7 +382,10 @@ fn the_row_of_the_first_item_that_passes(rt: HostRuntime) -> Result<(), Fail> {
     assert_eq!(rt; first_row(zones, |z| z.prefix.len() > 100), None);
     let sites = campus.sites.as_slice();
     assert_eq!(rt; first_row(sites, |s| s.etrs.as_slice().is_empty()), Some(8));
-    assert!(rt; longest_match(sites, zones[0].prefix).is_none());
-    assert_eq!(rt; longest_match(zones, sites[0].prefix), Some(&zones[2]));
+    let ([everything, _, east], [registered, _]) = (zones, sites) else {
+        return Err(Fail::from("not three zones and two sites"));
+    };
+    assert!(rt; longest_match(sites, everything.prefix).is_none());
+    assert_eq!(rt; longest_match(zones, registered.prefix), Some(east));
     Ok(())
 }

@@ -1,5 +1,5 @@
 -- Where some list of locators has more than 8, the shape is wrong; and how that is found on the way.
-use Rattle.std.proofs.Common.{◌≡◌, ℕ, ◌≤◌, Bool, true, false, ◌&&◌, List, [], ◌∷◌, length, Option, None, Some, Result, Ok, Err, refl, sym, ap, ◌∙◌, rules, inl, inr, le-leb, leb-true, nat_le}
+use Rattle.std.proofs.Common.{◌≡◌, ◌⊎◌, ℕ, ◌≤◌, Bool, true, false, ◌&&◌, List, [], ◌∷◌, length, Option, None, Some, Result, Ok, Err, refl, sym, ap, ◌∙◌, rules, inl, inr, le-leb, leb-true, nat_le}
 use Rattle.std.specs.List.{list_all}
 use Rattle.std.specs.Option.{SomeIff}
 use Rattle.std.proofs.lemmas.Bool.{false≢true, and_parts, cases_Bool}
@@ -94,3 +94,21 @@ pub config_unshaped : (ms : Members) (name : List ℕ) (role : Role) (ls : List 
     → Ok name ≡ name_in ms → Ok role ≡ role_in ms → locators_in key.Locators ms ≡ Ok ls → on_ok (tables_at key.Authority ms) (each (authority_in role)) ≡ Ok zs
     → is_shaped role ls zs ≡ false → config_in ms ≡ Err Shape
 config_unshaped ms name role ls zs n r l a e = rw (← n, ← r, l, a, e) refl
+
+-- what was read, with or without room
+pub read_to : {A : Type 0} (has_room : A → Bool) (wanted : Result A ConfigFault) (r : Option A) → Reads has_room wanted (Ok r) → (a : A) × (wanted ≡ Ok a)
+read_to has_room wanted None h = (h.0, h.1)
+read_to has_room wanted (Some a) h = (a, h.0)
+
+pub unfit : (ms : Members) (name : List ℕ) (role : Role) (ls : Option (List Locator)) (zs : Option (List Authority))
+    → Ok name ≡ name_in ms → Ok role ≡ role_in ms → Reads fits (locators_in key.Locators ms) (Ok ls)
+    → Reads (list_all authority_fits) (on_ok (tables_at key.Authority ms) (each (authority_in role))) (Ok zs)
+    → (ls ≡ None) ⊎ (zs ≡ None) → config_in ms ≡ Err Shape
+unfit ms name role ls zs n r hl hz (inl e) =
+    let l = overfull _ _ ls e hl in
+    let z = read_to _ _ zs hz in
+    config_unshaped ms name role l.0 z.0 n r l.1 z.1 (unshaped_locators role l.0 z.0 l.2)
+unfit ms name role ls zs n r hl hz (inr e) =
+    let z = overfull _ _ zs e hz in
+    let l = read_to _ _ ls hl in
+    config_unshaped ms name role l.0 z.0 n r l.1 z.1 (unshaped_authorities role l.0 z.0 z.2)

@@ -1,6 +1,6 @@
 //! Reading a configuration from its text.
 
-ghost use Rattle.std.specs.Prelude.{◌≡◌, ◌≢◌, ◌⊎◌, Ok, Err, map, MatchResult, IfOk, IfErr};
+ghost use Rattle.std.specs.Prelude.{◌≡◌, ◌≢◌, ◌⊎◌, None, Some, Ok, Err, map, MatchResult, IfOk, IfErr};
 ghost use Rattle.std.specs.List.{list_all};
 ghost use Rattle.toml.specs.Data.{get_member};
 ghost use Rattle.toml.specs.Errors.{IsMemory};
@@ -56,8 +56,22 @@ fn read_config(alloc: Global, table: &Table) -> Result<ServerConfig, ConfigFault
     let role = read_role(table)?;
     let locators = read_locators(alloc, table, Key::Locators)?;
     let authorities = entries_at::<Authority>(alloc, role, table, Key::Authority)?;
+    match in_shape(locators, authorities) {
+        Ok((locators, authorities)) => shaped(alloc, name, role, locators, authorities),
+        Err(fault) => Err(fault),
+    }
+}
+
+/// Both lists, refused as 4 Shape where one of them holds more locators than a set may.
+fn in_shape(
+    locators: Option<LocatorSet>,
+    authorities: Option<Listed<Authority>>,
+) -> Result<(LocatorSet, Listed<Authority>), ConfigFault>
+    ensures both { IfOk result (λ both. (locators ≡ Some both.0) × (authorities ≡ Some both.1)) }
+    ensures refused { IfErr result (λ fault. (fault ≡ ConfigFault.Shape) × ((locators ≡ None) ⊎ (authorities ≡ None))) }
+{
     match (locators, authorities) {
-        (Some(locators), Some(authorities)) => shaped(alloc, name, role, locators, authorities),
+        (Some(locators), Some(authorities)) => Ok((locators, authorities)),
         (None, _) => Err(ConfigFault::Shape),
         (_, None) => Err(ConfigFault::Shape),
     }

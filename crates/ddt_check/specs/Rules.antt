@@ -124,4 +124,5 @@ pub record IsLeastFault (r : Register) (rule : Rule) (row : ℕ) : Type 0 where
 
 -- the least row that a test holds at, where it holds at any
 abbrev pub IsLeastRow : (ℕ → Bool) → Option ℕ → Type 0
-IsLeastRow test found = MatchOption found ((n : ℕ) → test n ≡ false) (λ row. (test row ≡ true) × ((n : ℕ) → n < row → test n ≡ false))
+IsLeastRow test found = MatchOption found ((n : ℕ) → test n ≡ false) (λ row.
+    (test row ≡ true) × ((n : ℕ) → n < row → test n ≡ false))

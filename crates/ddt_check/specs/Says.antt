@@ -25,4 +25,5 @@ abbrev pub says_from : Register → Zone → List ℕ → ReferralRecord
 says_from r z x = option_map_or (referral_to r) (next_zone r (length z.prefix) x) (record_of (assignment r x))
 
 abbrev pub says : Register → Locator → List ℕ → ReferralRecord
-says r l x = option_map_or (λ z. says_from r z x) (longest_match (λ z. z.prefix) (served_zones r l) x) (not_authoritative x)
+says r l x = option_map_or (λ z. says_from r z x) (longest_match (λ z. z.prefix) (served_zones r l) x)
+    (not_authoritative x)

@@ -111,12 +111,14 @@ west_zone = record { prefix = block 0x0c000000 8; kind = Node; group = codes "we
 
 -- 1.0.0.1 to 1.0.0.9
 abbrev pub nine_locators : List Locator
-nine_locators = map V4 (0x01000001 ∷ 0x01000002 ∷ 0x01000003 ∷ 0x01000004 ∷ 0x01000005 ∷ 0x01000006 ∷ 0x01000007 ∷ 0x01000008 ∷ 0x01000009 ∷ [])
+nine_locators = map V4 (0x01000001 ∷ 0x01000002 ∷ 0x01000003 ∷ 0x01000004 ∷ 0x01000005 ∷ 0x01000006 ∷ 0x01000007
+    ∷ 0x01000008 ∷ 0x01000009 ∷ [])
 
 -- the numbers of all these items are in the ranges of their types
 pub record AreInRange : Type 0 where
   pub campus : is_in_range campus_zones campus_sites campus_groups ≡ true
-  pub shared_group : is_in_range (root_zone 3 ∷ ten_zone 4 ∷ inner_root_zone ∷ []) [] (root_group ∷ ten_group ∷ []) ≡ true
+  pub shared_group : is_in_range (root_zone 3 ∷ ten_zone 4 ∷ inner_root_zone ∷ []) [] (root_group ∷ ten_group ∷ [])
+      ≡ true
   pub lone_root : is_in_range (root_zone 2 ∷ []) [] (root_group ∷ []) ≡ true
   pub ms_zone : is_in_range (with_zone ms_zone) campus_sites campus_groups ≡ true
   pub west_zone : is_in_range (with_zone west_zone) campus_sites campus_groups ≡ true
@@ -130,8 +132,10 @@ pub record AreInRange : Type 0 where
   pub inner_silent_site : is_in_range campus_zones (with_site (site_nine 0x0a010240 26 [])) campus_groups ≡ true
   pub site_outside : is_in_range campus_zones (with_site (site_nine 0x0a020000 24 [])) campus_groups ≡ true
   pub too_many_etrs : is_in_range campus_zones (with_site (site_nine 0x0a010500 24 nine_locators)) campus_groups ≡ true
-  pub eight_etrs : is_in_range campus_zones (with_site (site_nine 0x0a010500 24 (take 8 nine_locators))) campus_groups ≡ true
-  pub taken_locator : is_in_range campus_zones campus_sites (with_group (group_nine (codes "west") (at_root ∷ []))) ≡ true
+  pub eight_etrs : is_in_range campus_zones (with_site (site_nine 0x0a010500 24 (take 8 nine_locators))) campus_groups
+      ≡ true
+  pub taken_locator : is_in_range campus_zones campus_sites (with_group (group_nine (codes "west") (at_root ∷ [])))
+      ≡ true
   pub no_locator : is_in_range campus_zones campus_sites (with_group (group_nine (codes "west") [])) ≡ true
   pub duplicate_group : is_in_range campus_zones campus_sites (with_group (group_nine east (V4 0x7f000109 ∷ []))) ≡ true
 
@@ -159,15 +163,18 @@ numbers = record {
 }
 
 abbrev pub campus : Register
-campus = record { zones = campus_zones; sites = campus_sites; groups = campus_groups; rows = refl; in_range = numbers.campus }
+campus = record { zones = campus_zones; sites = campus_sites; groups = campus_groups; rows = refl;
+    in_range = numbers.campus }
 
 -- examples/shared_group.csv
 abbrev pub shared_group : Register
-shared_group = record { zones = root_zone 3 ∷ ten_zone 4 ∷ inner_root_zone ∷ []; sites = []; groups = root_group ∷ ten_group ∷ []; rows = refl; in_range = numbers.shared_group }
+shared_group = record { zones = root_zone 3 ∷ ten_zone 4 ∷ inner_root_zone ∷ []; sites = [];
+    groups = root_group ∷ ten_group ∷ []; rows = refl; in_range = numbers.shared_group }
 
 -- the root alone
 abbrev pub lone_root : Register
-lone_root = record { zones = root_zone 2 ∷ []; sites = []; groups = root_group ∷ []; rows = refl; in_range = numbers.lone_root }
+lone_root = record { zones = root_zone 2 ∷ []; sites = []; groups = root_group ∷ []; rows = refl;
+    in_range = numbers.lone_root }
 
 -- what the campus assigns
 pub record CampusAssigns : Type 0 where
@@ -178,45 +185,63 @@ pub record CampusAssigns : Type 0 where
   pub beside_ten : assignment campus (v4 0 0x0b000001) ≡ Hole (block 0x0b000000 8)
   pub other_instance : assignment campus (v4 1 0x0a010203) ≡ Hole (path (Range 1 32))
   pub far_instance : assignment campus (v4 2147483648 0x0a000001) ≡ Hole (path (Range 2147483648 1))
-  pub other_family : assignment campus (xeid_path (record { iid = 0; address = V6 0x20010db8000000000000000000000001 })) ≡ Hole (path (Block 0 (V6 0) 0))
+  pub other_family : assignment campus (xeid_path (record { iid = 0; address = V6 0x20010db8000000000000000000000001 }))
+      ≡ Hole (path (Block 0 (V6 0) 0))
 
 -- what the campus's servers say
 pub record CampusSays : Type 0 where
-  pub root_refers : says campus at_root (v4 0 0x0a010203) ≡ record { action = NodeReferral; prefix = block 0x0a000000 8; ttl = 1440; incomplete = false; servers = at_ten ∷ [] }
-  pub ten_refers : says campus at_ten (v4 0 0x0a010203) ≡ record { action = MsReferral; prefix = block 0x0a010000 16; ttl = 1440; incomplete = false; servers = at_east }
-  pub east_acknowledges : says campus (V4 0x7f000102) (v4 0 0x0a010203) ≡ record { action = MsAck; prefix = block 0x0a010200 24; ttl = 1440; incomplete = false; servers = at_east }
-  pub east_knows_the_silent_site : says campus (V4 0x7f000101) (v4 0 0x0a010407) ≡ record { action = MsNotRegistered; prefix = block 0x0a010400 24; ttl = 1; incomplete = false; servers = at_east }
-  pub root_says_a_hole : says campus at_root (v4 2147483648 0x0a000001) ≡ record { action = DelegationHole; prefix = path (Range 2147483648 1); ttl = 15; incomplete = false; servers = [] }
-  pub ten_is_not_in_charge : says campus at_ten (v4 0 0x0b000001) ≡ record { action = NotAuthoritative; prefix = v4 0 0x0b000001; ttl = 0; incomplete = true; servers = [] }
+  pub root_refers : says campus at_root (v4 0 0x0a010203) ≡ record { action = NodeReferral; prefix = block 0x0a000000 8;
+      ttl = 1440; incomplete = false; servers = at_ten ∷ [] }
+  pub ten_refers : says campus at_ten (v4 0 0x0a010203) ≡ record { action = MsReferral; prefix = block 0x0a010000 16;
+      ttl = 1440; incomplete = false; servers = at_east }
+  pub east_acknowledges : says campus (V4 0x7f000102) (v4 0 0x0a010203) ≡ record { action = MsAck;
+      prefix = block 0x0a010200 24; ttl = 1440; incomplete = false; servers = at_east }
+  pub east_knows_the_silent_site : says campus (V4 0x7f000101) (v4 0 0x0a010407) ≡ record { action = MsNotRegistered;
+      prefix = block 0x0a010400 24; ttl = 1; incomplete = false; servers = at_east }
+  pub root_says_a_hole : says campus at_root (v4 2147483648 0x0a000001) ≡ record { action = DelegationHole;
+      prefix = path (Range 2147483648 1); ttl = 15; incomplete = false; servers = [] }
+  pub ten_is_not_in_charge : says campus at_ten (v4 0 0x0b000001) ≡ record { action = NotAuthoritative;
+      prefix = v4 0 0x0b000001; ttl = 0; incomplete = true; servers = [] }
 
 -- where one group serves a zone inside another's, and where there is the root alone
 pub record OthersAssign : Type 0 where
   pub hole_stays_inside : assignment shared_group (v4 0 0x0a010203) ≡ Hole (block 0x0a010000 16)
-  pub longest_authority : says shared_group at_root (v4 0 0x0a010203) ≡ record { action = DelegationHole; prefix = block 0x0a010000 16; ttl = 15; incomplete = false; servers = [] }
-  pub ten_refers_to_root : says shared_group at_ten (v4 0 0x0a010203) ≡ record { action = NodeReferral; prefix = block 0x0a010000 16; ttl = 1440; incomplete = false; servers = at_root ∷ [] }
+  pub longest_authority : says shared_group at_root (v4 0 0x0a010203) ≡ record { action = DelegationHole;
+      prefix = block 0x0a010000 16; ttl = 15; incomplete = false; servers = [] }
+  pub ten_refers_to_root : says shared_group at_ten (v4 0 0x0a010203) ≡ record { action = NodeReferral;
+      prefix = block 0x0a010000 16; ttl = 1440; incomplete = false; servers = at_root ∷ [] }
   pub everything : assignment lone_root (v4 7 0x01010101) ≡ Hole []
   pub single_identifier : free [] (block 0x0a090909 32 ∷ []) (v4 0 0x0a090908) ≡ Some (block 0x0a090908 32)
   pub free_beside_ten : free [] (block 0x0a000000 8 ∷ []) (v4 0 0x0b000001) ≡ Some (block 0x0b000000 8)
   pub none_free : free [] (block 0x0a000000 8 ∷ []) (v4 0 0x0a010203) ≡ None
 
 -- the campus with one more zone, site or group in row 9, whose numbers are in range
-abbrev pub zone_in_nine : (address len : ℕ) → is_in_range (with_zone (zone_nine address len)) campus_sites campus_groups ≡ true → Register
-zone_in_nine address len fits = record { zones = with_zone (zone_nine address len); sites = campus_sites; groups = campus_groups; rows = refl; in_range = fits }
+abbrev pub zone_in_nine : (address len : ℕ) → is_in_range (with_zone (zone_nine address len)) campus_sites campus_groups
+    ≡ true → Register
+zone_in_nine address len fits = record { zones = with_zone (zone_nine address len); sites = campus_sites;
+    groups = campus_groups; rows = refl; in_range = fits }
 
 abbrev pub ms_zone_of_ten : Register
-ms_zone_of_ten = record { zones = with_zone ms_zone; sites = campus_sites; groups = campus_groups; rows = refl; in_range = numbers.ms_zone }
+ms_zone_of_ten = record { zones = with_zone ms_zone; sites = campus_sites; groups = campus_groups; rows = refl;
+    in_range = numbers.ms_zone }
 
 abbrev pub zone_of_west : Register
-zone_of_west = record { zones = with_zone west_zone; sites = campus_sites; groups = campus_groups; rows = refl; in_range = numbers.west_zone }
+zone_of_west = record { zones = with_zone west_zone; sites = campus_sites; groups = campus_groups; rows = refl;
+    in_range = numbers.west_zone }
 
 abbrev pub second_root : Register
-second_root = record { zones = with_zone (root_zone 9); sites = campus_sites; groups = campus_groups; rows = refl; in_range = numbers.second_root }
+second_root = record { zones = with_zone (root_zone 9); sites = campus_sites; groups = campus_groups; rows = refl;
+    in_range = numbers.second_root }
 
-abbrev pub site_in_nine : (address len : ℕ) (etrs : List Locator) → is_in_range campus_zones (with_site (site_nine address len etrs)) campus_groups ≡ true → Register
-site_in_nine address len etrs fits = record { zones = campus_zones; sites = with_site (site_nine address len etrs); groups = campus_groups; rows = refl; in_range = fits }
+abbrev pub site_in_nine : (address len : ℕ) (etrs : List Locator)
+    → is_in_range campus_zones (with_site (site_nine address len etrs)) campus_groups ≡ true → Register
+site_in_nine address len etrs fits = record { zones = campus_zones; sites = with_site (site_nine address len etrs);
+    groups = campus_groups; rows = refl; in_range = fits }
 
-abbrev pub group_in_nine : (name : List ℕ) (locators : List Locator) → is_in_range campus_zones campus_sites (with_group (group_nine name locators)) ≡ true → Register
-group_in_nine name locators fits = record { zones = campus_zones; sites = campus_sites; groups = with_group (group_nine name locators); rows = refl; in_range = fits }
+abbrev pub group_in_nine : (name : List ℕ) (locators : List Locator) → is_in_range campus_zones campus_sites
+    (with_group (group_nine name locators)) ≡ true → Register
+group_in_nine name locators fits = record { zones = campus_zones; sites = campus_sites;
+    groups = with_group (group_nine name locators); rows = refl; in_range = fits }
 
 -- a site with an ETR inside the silent site, and a silent site inside the registered one
 abbrev pub with_inner_site : Register
@@ -237,7 +262,8 @@ pub record NestedSitesAssign : Type 0 where
       ≡ NotRegistered (block 0x0a010240 26) at_east
   pub still_a_hole : assignment with_inner_site (v4 0 0x0a010309) ≡ Hole (block 0x0a010300 24)
   pub east_says_the_part : says with_inner_site (V4 0x7f000101) (v4 0 0x0a010407)
-      ≡ record { action = MsNotRegistered; prefix = block 0x0a010400 25; ttl = 1; incomplete = false; servers = at_east }
+      ≡ record { action = MsNotRegistered; prefix = block 0x0a010400 25; ttl = 1; incomplete = false;
+          servers = at_east }
   pub east_acknowledges_the_inner_site : says with_inner_site (V4 0x7f000101) (v4 0 0x0a0104c8)
       ≡ record { action = MsAck; prefix = block 0x0a010480 25; ttl = 1440; incomplete = false; servers = at_east }
 
@@ -246,7 +272,8 @@ nothing = record { zones = []; sites = []; groups = []; rows = refl; in_range = 
 
 abbrev pub all_rules : List Rule
 all_rules =
-    rules.NoRoot ∷ rules.DuplicateZone ∷ rules.DuplicateSite ∷ rules.UnknownGroup ∷ rules.Role ∷ rules.Locators ∷ rules.BelowMapServer
+    rules.NoRoot ∷ rules.DuplicateZone ∷ rules.DuplicateSite ∷ rules.UnknownGroup ∷ rules.Role ∷ rules.Locators
+        ∷ rules.BelowMapServer
     ∷ rules.SiteOutside ∷ rules.TooManyEtrs ∷ rules.DuplicateGroup ∷ []
 
 abbrev pub rows_to_eight : List ℕ
@@ -258,7 +285,8 @@ pub record BreaksInNine : Type 0 where
   pub two_roots : broken second_root rules.NoRoot 9 ≡ true
   pub duplicate_zone : broken (zone_in_nine 0x0a000000 8 numbers.duplicate_zone) rules.DuplicateZone 9 ≡ true
   pub duplicate_site : broken (site_in_nine 0x0a010200 24 [] numbers.duplicate_site) rules.DuplicateSite 9 ≡ true
-  pub site_inside_a_site : broken (site_in_nine 0x0a010280 25 [] numbers.site_inside_a_site) rules.DuplicateSite 9 ≡ false
+  pub site_inside_a_site : broken (site_in_nine 0x0a010280 25 [] numbers.site_inside_a_site) rules.DuplicateSite 9
+      ≡ false
   pub unknown_group : broken zone_of_west rules.UnknownGroup 9 ≡ true
   pub role : broken ms_zone_of_ten rules.Role 9 ≡ true
   pub taken_locator : broken (group_in_nine (codes "west") (at_root ∷ []) numbers.taken_locator) rules.Locators 9 ≡ true
@@ -266,7 +294,9 @@ pub record BreaksInNine : Type 0 where
   pub below_map_server : broken (zone_in_nine 0x0a010700 24 numbers.below_map_server) rules.BelowMapServer 9 ≡ true
   pub site_outside : broken (site_in_nine 0x0a020000 24 [] numbers.site_outside) rules.SiteOutside 9 ≡ true
   pub too_many_etrs : broken (site_in_nine 0x0a010500 24 nine_locators numbers.too_many_etrs) rules.TooManyEtrs 9 ≡ true
-  pub eight_etrs : broken (site_in_nine 0x0a010500 24 (take 8 nine_locators) numbers.eight_etrs) rules.TooManyEtrs 9 ≡ false
-  pub duplicate_group : broken (group_in_nine east (V4 0x7f000109 ∷ []) numbers.duplicate_group) rules.DuplicateGroup 9 ≡ true
+  pub eight_etrs : broken (site_in_nine 0x0a010500 24 (take 8 nine_locators) numbers.eight_etrs) rules.TooManyEtrs 9
+      ≡ false
+  pub duplicate_group : broken (group_in_nine east (V4 0x7f000109 ∷ []) numbers.duplicate_group) rules.DuplicateGroup 9
+      ≡ true
   pub campus_is_whole : list_any (λ rule. list_any (broken campus rule) rows_to_eight) all_rules ≡ false
   pub campus_is_in_range : is_in_range campus.zones campus.sites campus.groups ≡ true

@@ -138,7 +138,8 @@ fn first_row(
     requires zones { AreZonesInOrder zones.now }
     requires sites { AreSitesInOrder sites.now }
     requires groups { AreGroupsInOrder groups.now }
-    ensures { (r : ARegister) → AreReordered r zones.now sites.now groups.now → AreLeast r found.now → AreEarlierKept r rule
+    ensures { (r : ARegister) → AreReordered r zones.now sites.now groups.now → AreLeast r found.now
+        → AreEarlierKept r rule
         → IsLeastRow (broken r rule) result }
 {
     match rule {

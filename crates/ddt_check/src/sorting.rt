@@ -19,7 +19,8 @@ pub fn sort_zones(zones: &mut [Zone])
 
 /// Sorts zones back by their rows.
 pub fn restore_zones(zones: &mut [Zone])
-    ensures { (before : List AZone) → rise 0 (zone_rows before) ≡ true → IsPermutation before zones.old → zones.new ≡ before }
+    ensures { (before : List AZone) → rise 0 (zone_rows before) ≡ true → IsPermutation before zones.old
+        → zones.new ≡ before }
 {
     zones.sort_unstable_by_key(|z| z.row);
 }
@@ -34,7 +35,8 @@ pub fn sort_sites(sites: &mut [Site])
 
 /// Sorts sites back by their rows.
 pub fn restore_sites(sites: &mut [Site])
-    ensures { (before : List ASite) → rise 0 (site_rows before) ≡ true → IsPermutation before sites.old → sites.new ≡ before }
+    ensures { (before : List ASite) → rise 0 (site_rows before) ≡ true → IsPermutation before sites.old
+        → sites.new ≡ before }
 {
     sites.sort_unstable_by_key(|s| s.row);
 }
@@ -49,7 +51,8 @@ pub fn sort_groups(groups: &mut [Group])
 
 /// Sorts groups back by their rows.
 pub fn restore_groups(groups: &mut [Group])
-    ensures { (before : List AGroup) → rise 0 (group_rows before) ≡ true → IsPermutation before groups.old → groups.new ≡ before }
+    ensures { (before : List AGroup) → rise 0 (group_rows before) ≡ true → IsPermutation before groups.old
+        → groups.new ≡ before }
 {
     groups.sort_unstable_by_key(|g| g.row);
 }

@@ -30,7 +30,8 @@ IsToldAs memory fault = ((fault ≡ Memory) × memory) ⊎ ((fault ≡ Toml) × 
 -- parts of the right shape are the configuration, and all others are refused as Shape
 abbrev pub IsJudged : Outline → Result ServerConfig ConfigFault → Type 0
 IsJudged parts result =
-    MatchResult result (λ c. with_shape parts ≡ Ok (outline c)) (λ fault. (fault ≡ Shape) × (with_shape parts ≡ Err fault))
+    MatchResult result (λ c. with_shape parts ≡ Ok (outline c)) (λ fault.
+        (fault ≡ Shape) × (with_shape parts ≡ Err fault))
 
 abbrev pub child_fits : Child → Bool
 child_fits c = fits c.locators
@@ -53,5 +54,7 @@ abbrev pub is_table_value : Data → Bool
 is_table_value d = is_some (as_table d)
 
 -- the values that a key holds, each of them of the kind that `kind` asks for
-abbrev pub HoldsEach : {A : Type 0} → (Data → Result A ConfigFault) → Result (List A) ConfigFault → Result (Bor (List Value)) ConfigFault → Type 0
-HoldsEach kind wanted result = MatchResult result (λ values. (wanted ≡ each (λ v. kind (view v)) values.now) × IsOk wanted) (λ fault. wanted ≡ Err fault)
+abbrev pub HoldsEach : {A : Type 0} → (Data → Result A ConfigFault) → Result (List A) ConfigFault
+    → Result (Bor (List Value)) ConfigFault → Type 0
+HoldsEach kind wanted result = MatchResult result (λ values. (wanted ≡ each (λ v. kind (view v)) values.now)
+    × IsOk wanted) (λ fault. wanted ≡ Err fault)

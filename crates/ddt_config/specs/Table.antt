@@ -102,7 +102,8 @@ abbrev pub is_text : List ℕ → List ℕ → Bool
 is_text a b = pointwise ◌==◌ a b
 
 abbrev pub role_of : List ℕ → Result Role ConfigFault
-role_of text = if is_text text (role_text Node) then Ok Node else if is_text text (role_text Ms) then Ok Ms else Err (Value key.Kind)
+role_of text = if is_text text (role_text Node) then Ok Node else if is_text text (role_text Ms) then Ok Ms
+    else Err (Value key.Kind)
 
 abbrev pub role_in : Members → Result Role ConfigFault
 role_in ms = on_ok (text_at key.Kind ms) role_of

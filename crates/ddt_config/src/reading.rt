@@ -50,7 +50,8 @@ fn toml_fault(fault: &de::Error) -> ConfigFault
 
 fn read_config(alloc: Global, table: &Table) -> Result<ServerConfig, ConfigFault>
     ensures found { IfOk result (λ c. config_in (table_view table.now) ≡ Ok (outline c)) }
-    ensures refused { IfErr result (λ fault. fault ≢ ConfigFault.Memory → config_in (table_view table.now) ≡ Err fault) }
+    ensures refused { IfErr result (λ fault. fault ≢ ConfigFault.Memory → config_in (table_view table.now)
+        ≡ Err fault) }
 {
     let name = read_name(table)?;
     let role = read_role(table)?;
@@ -85,8 +86,11 @@ fn shaped(
     locators: LocatorSet,
     authorities: Listed<Authority>,
 ) -> Result<ServerConfig, ConfigFault>
-    ensures found { IfOk result (λ c. with_shape (record { name = name; role = role; locators = locators; authorities = authorities }) ≡ Ok (outline c)) }
-    ensures refused { IfErr result (λ fault. fault ≢ ConfigFault.Memory → with_shape (record { name = name; role = role; locators = locators; authorities = authorities }) ≡ Err fault) }
+    ensures found { IfOk result (λ c. with_shape (record { name = name; role = role; locators = locators;
+        authorities = authorities }) ≡ Ok (outline c)) }
+    ensures refused { IfErr result (λ fault. fault ≢ ConfigFault.Memory
+        → with_shape (record { name = name; role = role; locators = locators; authorities = authorities })
+        ≡ Err fault) }
 {
     match is_shaped(alloc, role, &locators, authorities.as_slice()) {
         Ok(shaped) => config_of(name, role, locators, authorities, shaped),
@@ -118,7 +122,8 @@ fn config_of(
 }
 
 fn value_at<'t>(table: &'t Table, key: Key) -> Result<&'t Value, ConfigFault>
-    ensures { MatchResult result (λ v. of_kind key (get_member (key_text key) (table_view table.now)) ≡ Ok (view v.now)) (λ fault. of_kind key (get_member (key_text key) (table_view table.now)) ≡ Err fault) }
+    ensures { MatchResult result (λ v. of_kind key (get_member (key_text key) (table_view table.now)) ≡ Ok (view v.now))
+        (λ fault. of_kind key (get_member (key_text key) (table_view table.now)) ≡ Err fault) }
 {
     match table.get(key.text()) {
         Some(value) => Ok(value),
@@ -127,7 +132,8 @@ fn value_at<'t>(table: &'t Table, key: Key) -> Result<&'t Value, ConfigFault>
 }
 
 fn text_in<'t>(value: &'t Value, key: Key) -> Result<&'t str, ConfigFault>
-    ensures { MatchResult result (λ t. text_of key (view value.now) ≡ Ok t.now) (λ fault. text_of key (view value.now) ≡ Err fault) }
+    ensures { MatchResult result (λ t. text_of key (view value.now) ≡ Ok t.now) (λ fault.
+        text_of key (view value.now) ≡ Err fault) }
 {
     match value.as_str() {
         Some(text) => Ok(text),
@@ -136,7 +142,8 @@ fn text_in<'t>(value: &'t Value, key: Key) -> Result<&'t str, ConfigFault>
 }
 
 fn text_at<'t>(table: &'t Table, key: Key) -> Result<&'t str, ConfigFault>
-    ensures { MatchResult result (λ t. text_at_of key (table_view table.now) ≡ Ok t.now) (λ fault. text_at_of key (table_view table.now) ≡ Err fault) }
+    ensures { MatchResult result (λ t. text_at_of key (table_view table.now) ≡ Ok t.now) (λ fault.
+        text_at_of key (table_view table.now) ≡ Err fault) }
 {
     match value_at(table, key) {
         Ok(value) => text_in(value, key),
@@ -145,7 +152,8 @@ fn text_at<'t>(table: &'t Table, key: Key) -> Result<&'t str, ConfigFault>
 }
 
 fn array_in<'t>(value: &'t Value, key: Key) -> Result<&'t [Value], ConfigFault>
-    ensures { MatchResult result (λ vs. array_of key (view value.now) ≡ Ok (map view vs.now)) (λ fault. array_of key (view value.now) ≡ Err fault) }
+    ensures { MatchResult result (λ vs. array_of key (view value.now) ≡ Ok (map view vs.now)) (λ fault.
+        array_of key (view value.now) ≡ Err fault) }
 {
     match value.as_array() {
         Some(values) => Ok(values.as_slice()),
@@ -154,7 +162,8 @@ fn array_in<'t>(value: &'t Value, key: Key) -> Result<&'t [Value], ConfigFault>
 }
 
 fn array_at<'t>(table: &'t Table, key: Key) -> Result<&'t [Value], ConfigFault>
-    ensures { MatchResult result (λ vs. array_at_of key (table_view table.now) ≡ Ok (map view vs.now)) (λ fault. array_at_of key (table_view table.now) ≡ Err fault) }
+    ensures { MatchResult result (λ vs. array_at_of key (table_view table.now) ≡ Ok (map view vs.now)) (λ fault.
+        array_at_of key (table_view table.now) ≡ Err fault) }
 {
     match value_at(table, key) {
         Ok(value) => array_in(value, key),
@@ -163,7 +172,9 @@ fn array_at<'t>(table: &'t Table, key: Key) -> Result<&'t [Value], ConfigFault>
 }
 
 fn array_or_none<'t>(table: &'t Table, key: Key) -> Result<&'t [Value], ConfigFault>
-    ensures { MatchResult result (λ vs. array_or_none_of key (get_member (key_text key) (table_view table.now)) ≡ Ok (map view vs.now)) (λ fault. array_or_none_of key (get_member (key_text key) (table_view table.now)) ≡ Err fault) }
+    ensures { MatchResult result (λ vs. array_or_none_of key (get_member (key_text key) (table_view table.now))
+        ≡ Ok (map view vs.now)) (λ fault. array_or_none_of key (get_member (key_text key) (table_view table.now))
+        ≡ Err fault) }
 {
     match table.get(key.text()) {
         Some(value) => array_in(value, key),
@@ -260,8 +271,10 @@ fn read_locator(value: &Value, key: Key) -> Result<Locator, ConfigFault>
 }
 
 fn read_each_locator(alloc: Global, values: &[Value], key: Key) -> Result<Vec<Locator>, ConfigFault>
-    ensures found { IfOk result (λ ls. each (λ v. on_ok (text_of key (view v)) (λ text. of_form key (locator_in text))) values.now ≡ Ok ls.items) }
-    ensures refused { IfErr result (λ fault. fault ≢ ConfigFault.Memory → each (λ v. on_ok (text_of key (view v)) (λ text. of_form key (locator_in text))) values.now ≡ Err fault) }
+    ensures found { IfOk result (λ ls. each (λ v. on_ok (text_of key (view v)) (λ text. of_form key (locator_in text)))
+        values.now ≡ Ok ls.items) }
+    ensures refused { IfErr result (λ fault. fault ≢ ConfigFault.Memory
+        → each (λ v. on_ok (text_of key (view v)) (λ text. of_form key (locator_in text))) values.now ≡ Err fault) }
 {
     let mut locators = Vec::new(alloc);
     for value in values {
@@ -359,7 +372,8 @@ fn read_each<T: Entry>(
     values: &[Value],
     key: Key,
 ) -> Result<Option<Listed<T>>, ConfigFault>
-    ensures { Reads (list_all T.has_room) (each (λ v. on_ok (table_of key (view v)) (T.entry_in role)) values.now) result }
+    ensures { Reads (list_all T.has_room) (each (λ v. on_ok (table_of key (view v)) (T.entry_in role)) values.now)
+        result }
 {
     let mut entries = Vec::new(alloc);
     let mut fit = true;
@@ -387,7 +401,8 @@ fn entries_at<T: Entry>(
     table: &Table,
     key: Key,
 ) -> Result<Option<Listed<T>>, ConfigFault>
-    ensures { Reads (list_all T.has_room) (on_ok (tables_at_of key (table_view table.now)) (each (T.entry_in role))) result }
+    ensures { Reads (list_all T.has_room) (on_ok (tables_at_of key (table_view table.now)) (each (T.entry_in role)))
+        result }
 {
     let values = tables_at(table, key)?;
     read_each::<T>(alloc, role, values, key)

@@ -24,7 +24,8 @@ use toml::{Table, Value, ser};
 /// `locators`, or `site`, tables of `prefix` and `etrs`. There are no other keys, and an empty list is written too.
 /// Refused for memory alone.
 pub fn to_toml(alloc: Global, config: &ServerConfig) -> Result<String, AllocError>
-    ensures printed { IfOk result (λ text. IsDocumentText false (written_config (outline config.now)) (string_bytes text)) }
+    ensures printed { IfOk result (λ text. IsDocumentText false (written_config (outline config.now))
+        (string_bytes text)) }
     ensures read_back { IfOk result (λ text. StandsFor (string_bytes text) config.now) }
 {
     let table = write_config(alloc, config)?;

@@ -45,7 +45,8 @@ pub record Ipv4Header : Type 0 where
 -- and the offset 0 in 14 bits; time to live; protocol 17; checksum; addresses; options
 abbrev pub ipv4_fields : Ipv4Header → ℕ → List ℕ
 ipv4_fields h total =
-    ((64 + h.words) ∷ h.service ∷ []) ++ to_be_bytes w16 total ++ to_be_bytes w16 h.identification ++ to_be_bytes w16 (h.flags * 2 ^ 14) ++ (h.hops ∷ 17 ∷ [])
+    ((64 + h.words) ∷ h.service ∷ []) ++ to_be_bytes w16 total ++ to_be_bytes w16 h.identification ++ to_be_bytes w16
+        (h.flags * 2 ^ 14) ++ (h.hops ∷ 17 ∷ [])
     ++ to_be_bytes w16 h.checksum ++ to_be_bytes w32 h.source ++ to_be_bytes w32 h.destination ++ h.options
 
 -- an IPv4 packet around a UDP datagram, whose pseudo-header is given too; all but the addresses is ignored
@@ -70,7 +71,8 @@ pub record Ipv6Header : Type 0 where
 -- version 6 in 4 bits, traffic class and flow label in 28; payload length; next header 17; hop limit; addresses
 abbrev pub ipv6_fields : Ipv6Header → ℕ → List ℕ
 ipv6_fields h payload =
-    to_be_bytes w32 (6 * 2 ^ 28 + h.class_and_label) ++ to_be_bytes w16 payload ++ (17 ∷ h.hops ∷ []) ++ to_be_bytes w128 h.source ++ to_be_bytes w128 h.destination
+    to_be_bytes w32 (6 * 2 ^ 28 + h.class_and_label) ++ to_be_bytes w16 payload ++ (17 ∷ h.hops ∷ []) ++ to_be_bytes
+        w128 h.source ++ to_be_bytes w128 h.destination
 
 -- an IPv6 packet around a UDP datagram in the same way
 pub record SpellsIpv6 (bytes pseudo udp : List ℕ) : Type 0 where
@@ -92,7 +94,8 @@ header_len ip = 4 * (slice_index ip 0 % 16)
 
 -- the header has 5 words at least, the total length is that of all bytes, and 8 bytes of UDP header fit
 abbrev pub has_length4 : List ℕ → Bool
-has_length4 ip = nat_le 20 (header_len ip) && (big_number 2 (drop 2 ip) == length ip && nat_le (header_len ip + 8) (length ip))
+has_length4 ip = nat_le 20 (header_len ip) && (big_number 2 (drop 2 ip) == length ip && nat_le (header_len ip + 8)
+    (length ip))
 
 -- what stands behind the header, told as the sum of the pseudo-header and the UDP datagram
 unfoldable pub ipv4_at : List ℕ → Result (ℕ × List ℕ) RequestFault

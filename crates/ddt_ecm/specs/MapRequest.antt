@@ -33,14 +33,18 @@ pub record Ignored : Type 0 where
 -- type 1 in 4 bits, A, M, 6 flags, 5 reserved bits and 2 flags, IRC in 5 bits and a record count of 1 in 8; the nonce
 abbrev pub request_fields : Ignored → Bool → ℕ → ℕ → List ℕ
 request_fields i with_map irc nonce =
-    to_be_bytes w32 (2 ^ 28 + bit i.authoritative * 2 ^ 27 + bit with_map * 2 ^ 26 + i.flags * 2 ^ 13 + irc * 2 ^ 8 + 1) ++ to_be_bytes w64 nonce
+    to_be_bytes w32 (2 ^ 28 + bit i.authoritative * 2 ^ 27 + bit with_map * 2 ^ 26 + i.flags * 2 ^ 13 + irc * 2 ^ 8 + 1)
+        ++ to_be_bytes w64 nonce
 
--- the source EID, which is skipped: AFI 0 alone, an address, or an LCAF of any type, whose length counts what follows it
+-- the source EID, which is skipped: AFI 0 alone, an address, or an LCAF of any type, whose length counts what follows
+-- it
 pub data SpellsSource (bytes : List ℕ) : Type 0 where
   Absent : bytes ≡ to_be_bytes w16 0 → SpellsSource bytes
   Plain : (a : Locator) → IsAddress a → bytes ≡ family_and_address a → SpellsSource bytes
-  Lcaf : (reserved flags type more : ℕ) (content : List ℕ) → reserved < 256 → flags < 256 → type < 256 → more < 256 → length content < 2 ^ 16 → IsBytes content
-      → bytes ≡ to_be_bytes w16 16387 ++ (reserved ∷ flags ∷ type ∷ more ∷ []) ++ to_be_bytes w16 (length content) ++ content → SpellsSource bytes
+  Lcaf : (reserved flags type more : ℕ) (content : List ℕ) → reserved < 256 → flags < 256 → type < 256 → more < 256
+      → length content < 2 ^ 16 → IsBytes content
+      → bytes ≡ to_be_bytes w16 16387 ++ (reserved ∷ flags ∷ type ∷ more ∷ []) ++ to_be_bytes w16 (length content)
+          ++ content → SpellsSource bytes
 
 -- A Map-Request for one identifier. The EID mask-len is the whole width of its address. Bytes stand after the EID only
 -- where the bit M is set, and are ignored.
@@ -76,7 +80,8 @@ source_at bytes =
     else if big_number 2 bytes == 0 then Ok 2
     else if big_number 2 bytes == 1 then skipped 6 bytes
     else if big_number 2 bytes == 2 then skipped 18 bytes
-    else if big_number 2 bytes == 16387 then (if nat_lt (length bytes) 8 then Err fault.Short else skipped (8 + big_number 2 (drop 6 bytes)) bytes)
+    else if big_number 2 bytes == 16387 then (if nat_lt (length bytes) 8 then Err fault.Short
+        else skipped (8 + big_number 2 (drop 6 bytes)) bytes)
     else Err fault.EidFamily
 
 abbrev pub from_address : AddressFault → RequestFault
@@ -109,13 +114,15 @@ from_eid eid_fault.TailNotZero = fault.NotHost
 
 abbrev pub host_of : Form → Result Xeid RequestFault
 host_of (Range iid_ len) = Err fault.NotHost
-host_of (Block iid_ address_ len) = if len == address_width address_ then Ok (record { iid = iid_; address = address_ }) else Err fault.NotHost
+host_of (Block iid_ address_ len) = if len == address_width address_ then Ok (record { iid = iid_; address = address_ })
+    else Err fault.NotHost
 
 -- the identifier behind a reserved byte and its mask length, and how many bytes they take
 unfoldable pub xeid_at : List ℕ → Result (Xeid × ℕ) RequestFault
 xeid_at bytes =
     if nat_lt (length bytes) 2 then Err fault.Short
-    else (in_words from_eid (eid_at (slice_index bytes 1) (drop 2 bytes)) >>= λ p. host_of (form_of p.0) >>= λ x. Ok (x, 2 + p.1))
+    else (in_words from_eid (eid_at (slice_index bytes 1) (drop 2 bytes)) >>= λ p. host_of (form_of p.0) >>= λ x.
+        Ok (x, 2 + p.1))
 
 -- the 12 bytes up to the nonce
 unfoldable pub head_at : List ℕ → Result ℕ RequestFault

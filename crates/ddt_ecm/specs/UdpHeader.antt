@@ -10,7 +10,8 @@ use Rattle.ddt_ecm.specs.Checksum.{ones_sum, is_right}
 
 -- source port, destination port 4342, length and checksum
 abbrev pub udp_fields : ℕ → ℕ → ℕ → List ℕ
-udp_fields port len checksum = to_be_bytes w16 port ++ to_be_bytes w16 4342 ++ to_be_bytes w16 len ++ to_be_bytes w16 checksum
+udp_fields port len checksum = to_be_bytes w16 port ++ to_be_bytes w16 4342 ++ to_be_bytes w16 len ++ to_be_bytes w16
+    checksum
 
 -- A UDP datagram from a port, with a message. Its length counts the header. A checksum of 0 counts as absent; any other
 -- is right over the pseudo-header and the datagram.

@@ -21,13 +21,15 @@ map_request_head nonce rlocs = (16 ∷ 0 ∷ (length rlocs - 1) ∷ 1 ∷ []) ++
 -- the ITR-RLOCs, a reserved byte, the whole width as mask length, and the EID
 abbrev pub written_map_request : ℕ → Xeid → List Locator → List ℕ
 written_map_request nonce x rlocs =
-    map_request_head nonce rlocs ++ flat_map family_and_address rlocs ++ (0 ∷ address_width x.address ∷ []) ++ written_eid (xeid_path x)
+    map_request_head nonce rlocs ++ flat_map family_and_address rlocs ++ (0 ∷ address_width x.address ∷ [])
+        ++ written_eid (xeid_path x)
 
 -- ---- UDP
 
 -- both ports 4342, the length and a checksum
 abbrev pub udp_header : ℕ → ℕ → List ℕ
-udp_header len checksum = to_be_bytes w16 4342 ++ to_be_bytes w16 4342 ++ to_be_bytes w16 len ++ to_be_bytes w16 checksum
+udp_header len checksum = to_be_bytes w16 4342 ++ to_be_bytes w16 4342 ++ to_be_bytes w16 len ++ to_be_bytes w16
+    checksum
 
 -- a checksum of 0 would count as absent
 abbrev pub not_absent : ℕ → ℕ
@@ -44,10 +46,12 @@ written_udp pseudo message =
 -- version 4 and 5 words, type of service 0, total length, no identification and no fragment, time to live 64, UDP
 abbrev pub ipv4_header : ℕ → ℕ → ℕ → ℕ → List ℕ
 ipv4_header total checksum source destination =
-    (69 ∷ 0 ∷ []) ++ to_be_bytes w16 total ++ (0 ∷ 0 ∷ 0 ∷ 0 ∷ 64 ∷ 17 ∷ []) ++ to_be_bytes w16 checksum ++ to_be_bytes w32 source ++ to_be_bytes w32 destination
+    (69 ∷ 0 ∷ []) ++ to_be_bytes w16 total ++ (0 ∷ 0 ∷ 0 ∷ 0 ∷ 64 ∷ 17 ∷ []) ++ to_be_bytes w16 checksum ++ to_be_bytes
+        w32 source ++ to_be_bytes w32 destination
 
 unfoldable pub written_ipv4 : ℕ → ℕ → ℕ → List ℕ
-written_ipv4 total source destination = ipv4_header total (complement (ones_sum 0 (ipv4_header total 0 source destination))) source destination
+written_ipv4 total source destination = ipv4_header total
+    (complement (ones_sum 0 (ipv4_header total 0 source destination))) source destination
 
 -- version 6, traffic class and flow label 0, payload length, UDP, hop limit 64
 abbrev pub ipv6_head : ℕ → List ℕ
@@ -71,12 +75,14 @@ source6 (V6 a ∷ rlocs) = a
 unfoldable pub packet4 : ℕ → ℕ → List ℕ → List ℕ
 packet4 source destination message =
     written_ipv4 (28 + length message) source destination
-    ++ written_udp (ones_sum 0 (pseudo4 (to_be_bytes w32 source ++ to_be_bytes w32 destination) (8 + length message))) message
+    ++ written_udp (ones_sum 0 (pseudo4 (to_be_bytes w32 source ++ to_be_bytes w32 destination) (8 + length message)))
+        message
 
 unfoldable pub packet6 : ℕ → ℕ → List ℕ → List ℕ
 packet6 source destination message =
     written_ipv6 (8 + length message) source destination
-    ++ written_udp (ones_sum 0 (pseudo6 (to_be_bytes w128 source ++ to_be_bytes w128 destination) (8 + length message))) message
+    ++ written_udp (ones_sum 0 (pseudo6 (to_be_bytes w128 source ++ to_be_bytes w128 destination) (8 + length message)))
+        message
 
 abbrev pub packet : Locator → List Locator → List ℕ → List ℕ
 packet (V4 destination) rlocs message = packet4 (source4 rlocs) destination message

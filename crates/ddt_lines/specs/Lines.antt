@@ -1,4 +1,5 @@
--- The lines that the program prints: an outcome, a register that is accepted, a Map-Referral, an encapsulated Map-Request.
+-- The lines that the program prints: an outcome, a register that is accepted, a Map-Referral, an encapsulated
+-- Map-Request.
 use Rattle.std.specs.Prelude.{ℕ, Bool, true, false, List, ◌++◌, codes, decimal}
 use Rattle.std.specs.List.{flat_map}
 use Rattle.std.specs.Int.{w64, to_be_bytes}
@@ -37,7 +38,8 @@ action_text NotAuthoritative = codes "NOT-AUTHORITATIVE"
 -- so many zones, sites and groups
 abbrev pub counts_text : ℕ → ℕ → ℕ → List ℕ
 counts_text zones sites groups =
-    codes "accepted " ++ decimal zones ++ codes " zones " ++ decimal sites ++ codes " sites " ++ decimal groups ++ codes " groups"
+    codes "accepted " ++ decimal zones ++ codes " zones " ++ decimal sites ++ codes " sites " ++ decimal groups
+        ++ codes " groups"
 
 -- sixteen digits
 unfoldable pub nonce_text : ℕ → List ℕ

@@ -19,6 +19,7 @@ abbrev pub places_in : Authority → FinMap path_cmp ℕ
 places_in a = places (prefixes_in a.content)
 
 -- a map of the authorities, and one of what each of them holds
-pub record AreIndexed (authorities : List Authority) (index : FinMap path_cmp ℕ) (contents : List (FinMap path_cmp ℕ)) : Type 0 where
+pub record AreIndexed (authorities : List Authority) (index : FinMap path_cmp ℕ) (contents : List (FinMap path_cmp ℕ)) :
+    Type 0 where
   pub of_authorities : index ≡ places (map (λ a. a.prefix) authorities)
   pub of_contents : contents ≡ map places_in authorities

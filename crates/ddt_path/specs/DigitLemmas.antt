@@ -47,10 +47,12 @@ digits-zero k = ap (digits k) (let e : 0 ≡ 0 * 2 ^ k = omega arith in e) ∙ d
 pub take-digits : (w l x : ℕ) → l ≤ w → take l (digits w x) ≡ digits l (x / 2 ^ (w - l))
 take-digits w l x le =
     let e : w ≡ l + (w - l) = omega arith in
-    ap (λ (n : ℕ). take l (digits n x)) e ∙ rw (digits-add l (w - l) x) (take_at (digits l (x / 2 ^ (w - l))) (digits (w - l) x) l (length-digits l (x / 2 ^ (w - l))))
+    ap (λ (n : ℕ). take l (digits n x)) e ∙ rw (digits-add l (w - l) x)
+        (take_at (digits l (x / 2 ^ (w - l))) (digits (w - l) x) l (length-digits l (x / 2 ^ (w - l))))
 
 -- a number with its low part cleared
-pub digits-cleared : (w l x : ℕ) → l ≤ w → digits w (x / 2 ^ (w - l) * 2 ^ (w - l)) ≡ take l (digits w x) ++ replicate (w - l) 0
+pub digits-cleared : (w l x : ℕ) → l ≤ w → digits w (x / 2 ^ (w - l) * 2 ^ (w - l)) ≡ take l (digits w x)
+    ++ replicate (w - l) 0
 digits-cleared w l x le =
     let k = w - l in
     let e : w ≡ l + k = omega arith in
@@ -58,7 +60,8 @@ digits-cleared w l x le =
     ap (λ (n : ℕ). digits n v) e ∙ digits-add l k v
     ∙ rw (shl-shr (x / 2 ^ k) k, digits-shl k (x / 2 ^ k), take-digits w l x le) refl
 
-pub digits-masked : (w l x : ℕ) → l ≤ w → x < 2 ^ w → digits w (bit_and x ((2 ^ w - 1) * 2 ^ (w - l) % 2 ^ w)) ≡ take l (digits w x) ++ replicate (w - l) 0
+pub digits-masked : (w l x : ℕ) → l ≤ w → x < 2 ^ w → digits w (bit_and x ((2 ^ w - 1) * 2 ^ (w - l) % 2 ^ w))
+    ≡ take l (digits w x) ++ replicate (w - l) 0
 digits-masked w l x le small =
     let within : w - l ≤ w = omega arith in
     rw (ones_shl w (w - l) within, and_high_mask w (w - l) within x small) (digits-cleared w l x le)

@@ -24,10 +24,12 @@ pub take_len : (w len x : ℕ) → len ≤ w → length (take len (digits w x)) 
 take_len w len x le = length-take len (digits w x) ∙ rw (length-digits w x) (omega arith)
 
 -- a number whose digits past the first len are 0 is read off these
-pub padded_number-digits : (w len x : ℕ) → x < 2 ^ w → len ≤ w → are_zero (drop len (digits w x)) ≡ true → padded_number w (take len (digits w x)) ≡ x
+pub padded_number-digits : (w len x : ℕ) → x < 2 ^ w → len ≤ w → are_zero (drop len (digits w x)) ≡ true
+    → padded_number w (take len (digits w x)) ≡ x
 padded_number-digits w len x small le zeros =
     let m : length (drop len (digits w x)) ≡ w - len = length-drop len (digits w x) ∙ rw (length-digits w x) refl in
-    let tail : replicate (w - len) 0 ≡ drop len (digits w x) = ap (λ (k : ℕ). replicate k 0) (sym m) ∙ sym (are_zero-replicate (drop len (digits w x)) zeros) in
+    let tail : replicate (w - len) 0 ≡ drop len (digits w x) =
+        ap (λ (k : ℕ). replicate k 0) (sym m) ∙ sym (are_zero-replicate (drop len (digits w x)) zeros) in
     rw (take_len w len x le, tail, take-append-drop len (digits w x)) (number_after-digits w 0 x ∙ mod_small x w small)
 
 pub whole : (w x : ℕ) → take w (digits w x) ≡ digits w x
@@ -37,12 +39,14 @@ pub none_left : (w x : ℕ) → drop w (digits w x) ≡ []
 none_left w x = drop_all w (digits w x) (omega (arith, length-digits w x))
 
 padded_number-whole : (w x : ℕ) → x < 2 ^ w → padded_number w (digits w x) ≡ x
-padded_number-whole w x small = ap (padded_number w) (sym (whole w x)) ∙ padded_number-digits w w x small (omega arith) (ap are_zero (none_left w x))
+padded_number-whole w x small = ap (padded_number w) (sym (whole w x)) ∙ padded_number-digits w w x small (omega arith)
+    (ap are_zero (none_left w x))
 
 form_of-front : (ds : List ℕ) → length ds ≤ 32 → form_of ds ≡ Range (padded_number 32 ds) (length ds)
 form_of-front ds le = cond-true (nat_le (length ds) 32) _ _ (le-leb (length ds) 32 le)
 
-form_of-long : (ds es : List ℕ) → length ds ≡ 32 → 0 < length es → form_of (ds ++ es) ≡ block_of (padded_number 32 ds) es
+form_of-long : (ds es : List ℕ) → length ds ≡ 32 → 0 < length es → form_of (ds ++ es) ≡ block_of (padded_number 32 ds)
+    es
 form_of-long ds es n some =
     cond-false (nat_le (length (ds ++ es)) 32) _ _ (lt-leb (length (ds ++ es)) 32 (omega (arith, length-append ds es)))
     ∙ ap (λ (f : List ℕ). block_of (padded_number 32 f) (drop 32 (ds ++ es))) (take_at ds es 32 n)
@@ -55,11 +59,13 @@ form_of-path (Range iid len) h =
     ∙ ap (Range iid) (take_len 32 len iid h.1)
 form_of-path (Block iid (V4 a) len) h =
     form_of-long (digits 32 iid) (4 ∷ take len (digits 32 a)) (length-digits 32 iid) (omega arith)
-    ∙ ap (λ (k : ℕ). Block k (V4 (padded_number 32 (take len (digits 32 a)))) (length (take len (digits 32 a)))) (padded_number-whole 32 iid h.0)
+    ∙ ap (λ (k : ℕ). Block k (V4 (padded_number 32 (take len (digits 32 a)))) (length (take len (digits 32 a))))
+        (padded_number-whole 32 iid h.0)
     ∙ ap (λ (k : ℕ). Block iid (V4 k) (length (take len (digits 32 a)))) (padded_number-digits 32 len a h.1 h.2 h.3)
     ∙ ap (Block iid (V4 a)) (take_len 32 len a h.2)
 form_of-path (Block iid (V6 a) len) h =
     form_of-long (digits 32 iid) (6 ∷ take len (digits 128 a)) (length-digits 32 iid) (omega arith)
-    ∙ ap (λ (k : ℕ). Block k (V6 (padded_number 128 (take len (digits 128 a)))) (length (take len (digits 128 a)))) (padded_number-whole 32 iid h.0)
+    ∙ ap (λ (k : ℕ). Block k (V6 (padded_number 128 (take len (digits 128 a)))) (length (take len (digits 128 a))))
+        (padded_number-whole 32 iid h.0)
     ∙ ap (λ (k : ℕ). Block iid (V6 k) (length (take len (digits 128 a)))) (padded_number-digits 128 len a h.1 h.2 h.3)
     ∙ ap (Block iid (V6 a)) (take_len 128 len a h.2)

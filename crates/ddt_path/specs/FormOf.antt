@@ -11,7 +11,9 @@ padded_number w ds = number_from_digits 2 (ds ++ replicate (w - length ds) 0)
 
 abbrev pub block_of : ℕ → List ℕ → Form
 block_of iid [] = Range iid 32
-block_of iid (symbol ∷ ds) = if symbol == 4 then Block iid (V4 (padded_number 32 ds)) (length ds) else Block iid (V6 (padded_number 128 ds)) (length ds)
+block_of iid (symbol ∷ ds) = if symbol == 4 then Block iid (V4 (padded_number 32 ds)) (length ds)
+    else Block iid (V6 (padded_number 128 ds)) (length ds)
 
 abbrev pub form_of : List ℕ → Form
-form_of ds = if nat_le (length ds) 32 then Range (padded_number 32 ds) (length ds) else block_of (padded_number 32 (take 32 ds)) (drop 32 ds)
+form_of ds = if nat_le (length ds) 32 then Range (padded_number 32 ds) (length ds)
+    else block_of (padded_number 32 (take 32 ds)) (drop 32 ds)

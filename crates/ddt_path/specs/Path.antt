@@ -64,7 +64,8 @@ IsInRange x = (x.iid < 2 ^ 32) × (address_number x.address < 2 ^ address_width 
 -- Whether a list is the front of such a path.
 abbrev pub is_address_front : List ℕ → Bool
 is_address_front [] = true
-is_address_front (symbol ∷ ds) = are_binary ds && ((symbol == 4 && nat_le (length ds) 32) || (symbol == 6 && nat_le (length ds) 128))
+is_address_front (symbol ∷ ds) = are_binary ds
+    && ((symbol == 4 && nat_le (length ds) 32) || (symbol == 6 && nat_le (length ds) 128))
 
 abbrev pub is_prefix_path : List ℕ → Bool
 is_prefix_path ds = are_binary (take 32 ds) && is_address_front (drop 32 ds)
@@ -87,9 +88,11 @@ form_len (Block iid address len) = len
 
 -- The prefix that a form names: its length is at most the width, and all digits past its length are 0.
 abbrev pub prefix_of : Form → Result (List ℕ) PrefixFault
-prefix_of form = if nat_lt (form_width form) (form_len form) then Err Length else if are_zero (form_tail form) then Ok (path form) else Err TailNotZero
+prefix_of form = if nat_lt (form_width form) (form_len form) then Err Length else if are_zero (form_tail form)
+    then Ok (path form) else Err TailNotZero
 
 -- what such a form fulfils
 abbrev pub IsForm : Form → Type 0
 IsForm (Range iid len) = (iid < 2 ^ 32) × (len ≤ 32) × (are_zero (drop len (digits 32 iid)) ≡ true)
-IsForm (Block iid address len) = (iid < 2 ^ 32) × (address_number address < 2 ^ address_width address) × (len ≤ address_width address) × (are_zero (drop len (address_digits address)) ≡ true)
+IsForm (Block iid address len) = (iid < 2 ^ 32) × (address_number address < 2 ^ address_width address)
+    × (len ≤ address_width address) × (are_zero (drop len (address_digits address)) ≡ true)

@@ -63,7 +63,8 @@ impl Locator {
         ensures family { family result ≡ family self }
         ensures width { address_width result ≡ address_width self }
         ensures number { address_number result < 2 ^ address_width self }
-        ensures digits { address_digits result ≡ take len (address_digits self) ++ replicate (address_width self - len) 0 }
+        ensures digits { address_digits result ≡ take len (address_digits self) ++ replicate (address_width self - len)
+            0 }
     {
         match self {
             Locator::V4(a) => Locator::V4(front32(a, len)),

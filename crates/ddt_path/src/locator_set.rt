@@ -40,7 +40,11 @@ impl Model for LocatorSet {
 
     ghost inverse = { λ items. record { slots = filled most_locators (V4 0) items; len = length items } };
 
-    ghost inverse_ok = { λ a h. ap (λ (s : List Locator). let r : Inside = record { slots = s; len = length (take a.len a.slots) } in r) (filled-take most_locators (V4 0) a.slots a.len h) ∙ ap (λ (n : ℕ). let r : Inside = record { slots = a.slots; len = n } in r) (length-filled_items most_locators (V4 0) a.slots a.len h) };
+    ghost inverse_ok = { λ a h. ap (λ (s : List Locator).
+        let r : Inside = record { slots = s; len = length (take a.len a.slots) } in r)
+        (filled-take most_locators (V4 0) a.slots a.len h) ∙ ap (λ (n : ℕ).
+        let r : Inside = record { slots = a.slots; len = n } in r) (length-filled_items most_locators (V4 0) a.slots
+        a.len h) };
 }
 
 impl LocatorSet {

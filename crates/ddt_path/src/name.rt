@@ -37,7 +37,10 @@ impl Model for Name {
 
     ghost inverse = { λ bytes. record { slots = filled 63 0 bytes; len = length bytes } };
 
-    ghost inverse_ok = { λ a h. ap (λ (s : List ℕ). let r : Inside = record { slots = s; len = length (take a.len a.slots) } in r) (filled-take 63 0 a.slots a.len h.0) ∙ ap (λ (n : ℕ). let r : Inside = record { slots = a.slots; len = n } in r) (length-filled_items 63 0 a.slots a.len h.0) };
+    ghost inverse_ok = { λ a h. ap (λ (s : List ℕ).
+        let r : Inside = record { slots = s; len = length (take a.len a.slots) } in r)
+        (filled-take 63 0 a.slots a.len h.0) ∙ ap (λ (n : ℕ). let r : Inside = record { slots = a.slots; len = n } in r)
+        (length-filled_items 63 0 a.slots a.len h.0) };
 }
 
 impl Name {

@@ -22,7 +22,8 @@ pub record IsReading {R : Type 0} (reader : Reader R) : Type 0 where
   pub ready : Ready reader
 
 -- these are the records that the reader's bytes give
-pub record IsLeft {R : Type 0} (remaining : R → Option (List ℕ)) (reader : Reader R) (left : List (List (List ℕ))) : Type 0 where
+pub record IsLeft {R : Type 0} (remaining : R → Option (List ℕ)) (reader : Reader R) (left : List (List (List ℕ))) :
+    Type 0 where
   pub most : ℕ
   pub bytes : List ℕ
   pub source : source_of remaining reader ≡ Some bytes
@@ -31,8 +32,10 @@ pub record IsLeft {R : Type 0} (remaining : R → Option (List ℕ)) (reader : R
 
 -- What a read does to the records that are left: it takes the first, or there was none, or the first is of another
 -- length than those before it.
-abbrev pub Takes : {R : Type 0} → (R → Option (List ℕ)) → Reader R → Reader R → ℕ → List (List ℕ) → List (List (List ℕ)) → Result Bool ReadFault → Type 0
-Takes remaining old new row fields left (Ok true) = (rest : List (List (List ℕ))) × (left ≡ fields ∷ rest) × IsLeft remaining new rest
+abbrev pub Takes : {R : Type 0} → (R → Option (List ℕ)) → Reader R → Reader R → ℕ → List (List ℕ) → List (List (List ℕ))
+    → Result Bool ReadFault → Type 0
+Takes remaining old new row fields left (Ok true) = (rest : List (List (List ℕ))) × (left ≡ fields ∷ rest)
+    × IsLeft remaining new rest
 Takes remaining old new row fields left (Ok false) = left ≡ []
 Takes remaining old new row fields left (Err Fault.Read) = ⊤
 Takes remaining old new row fields left (Err Fault.Memory) = ⊤
@@ -40,7 +43,8 @@ Takes remaining old new row fields left (Err fault) =
     (fault ≡ Fault.Csv row) × (len : ℕ) × (expected_len old ≡ Some len)
     × (other : List (List ℕ)) × (rest : List (List (List ℕ))) × (left ≡ other ∷ rest) × (length other ≢ len)
 
--- What an error of csv is told as in this row: a failed reader and want of memory as themselves, and all else as a fault
+-- What an error of csv is told as in this row: a failed reader and want of memory as themselves, and all else as a
+-- fault
 -- of the row, which for records of bytes is another number of fields.
 abbrev pub csv_fault : ℕ → ErrorKind → ReadFault
 csv_fault row (kind.Io error) = Fault.Read

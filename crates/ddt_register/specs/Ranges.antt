@@ -27,4 +27,5 @@ is_group_in_range g = is_name g.name && are_locators g.locators
 
 -- all items of three lists are in range
 abbrev pub is_in_range : List Zone → List Site → List Group → Bool
-is_in_range zones sites groups = list_all is_zone_in_range zones && (list_all is_site_in_range sites && list_all is_group_in_range groups)
+is_in_range zones sites groups = list_all is_zone_in_range zones
+    && (list_all is_site_in_range sites && list_all is_group_in_range groups)

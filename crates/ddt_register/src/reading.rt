@@ -37,11 +37,14 @@ fn next_record<R: Read>(
     row: u32,
 ) -> Result<bool, ReadFault>
     requires { IsReading reader.old }
-    ensures takes { (left : List (List (List ℕ))) → IsLeft R.remaining reader.old left → Takes R.remaining reader.old reader.new row (fields_of fields.new) left result }
+    ensures takes { (left : List (List (List ℕ))) → IsLeft R.remaining reader.old left → Takes R.remaining reader.old
+        reader.new row (fields_of fields.new) left result }
     ensures stopped { IfErr result (λ fault. stops fault ≡ has_failed reader.new) }
     ensures reading { IfOk result (λ found. found ≡ true → IsReading reader.new) }
-    ensures expected { IfOk result (λ found. found ≡ true → expected_len reader.new ≡ Some (length (fields_of fields.new))) }
-    ensures same { IfOk result (λ found. found ≡ true → IfSome (expected_len reader.old) (λ len. expected_len reader.new ≡ Some len)) }
+    ensures expected { IfOk result (λ found. found ≡ true → expected_len reader.new
+        ≡ Some (length (fields_of fields.new))) }
+    ensures same { IfOk result (λ found. found ≡ true → IfSome (expected_len reader.old) (λ len.
+        expected_len reader.new ≡ Some len)) }
 {
     match reader.read_byte_record(fields) {
         Ok(found) => Ok(found),
@@ -100,8 +103,10 @@ fn read_records<R: Read + Drop>(alloc: Global, mut reader: Reader<R>) -> Result<
 /// addresses of a zone. Refused as 8 Read where the reader fails, and as 9 Memory where memory runs out. No
 /// other answer depends on what follows the 65,537th record.
 pub fn read_register<R: Read + Drop>(alloc: Global, reader: R) -> Result<Register, ReadFault>
-    ensures spelled { (bytes : List ℕ) → R.remaining reader ≡ Some bytes → Gives result (spelled (records default_config (strip_bom bytes))) }
-    ensures front { (bytes : List ℕ) → R.remaining reader ≡ Some bytes → Gives result (spelled (take 65537 (records default_config (strip_bom bytes)))) }
+    ensures spelled { (bytes : List ℕ) → R.remaining reader ≡ Some bytes
+        → Gives result (spelled (records default_config (strip_bom bytes))) }
+    ensures front { (bytes : List ℕ) → R.remaining reader ≡ Some bytes
+        → Gives result (spelled (take 65537 (records default_config (strip_bom bytes)))) }
 {
     let reader = ReaderBuilder::new()
         .has_headers(false)

@@ -30,7 +30,8 @@ impl Register {
     /// where a row stands in two lists. It takes no memory.
     pub fn of(zones: Vec<Zone>, sites: Vec<Site>, groups: Vec<Group>) -> Option<Register>
         ensures only { IsSome result ↔ IsTrue (are_rows_of zones.items sites.items groups.items) }
-        ensures items { IfSome result (λ r. (r.zones ≡ zones.items) × (r.sites ≡ sites.items) × (r.groups ≡ groups.items)) }
+        ensures items { IfSome result (λ r. (r.zones ≡ zones.items) × (r.sites ≡ sites.items)
+            × (r.groups ≡ groups.items)) }
     {
         if !are_rows(&zones, &sites, &groups) {
             return None;
@@ -63,7 +64,8 @@ fn are_rows(zones: &[Zone], sites: &[Site], groups: &[Group]) -> bool
 }
 
 fn are_all_rising(zones: &[Zone], sites: &[Site], groups: &[Group]) -> bool
-    ensures { result ≡ (rise 0 (zone_rows zones.now) && (rise 0 (site_rows sites.now) && rise 0 (group_rows groups.now))) }
+    ensures { result ≡ (rise 0 (zone_rows zones.now)
+        && (rise 0 (site_rows sites.now) && rise 0 (group_rows groups.now))) }
 {
     are_rising(zones) && are_rising(sites) && are_rising(groups)
 }
@@ -73,7 +75,9 @@ fn are_all_apart(zones: &[Zone], sites: &[Site], groups: &[Group]) -> bool
     requires zones { IsTrue (rise 0 (zone_rows zones.now)) }
     requires sites { IsTrue (rise 0 (site_rows sites.now)) }
     requires groups { IsTrue (rise 0 (group_rows groups.now)) }
-    ensures { result ≡ (are_apart_of (zone_rows zones.now) (site_rows sites.now) && (are_apart_of (zone_rows zones.now) (group_rows groups.now) && are_apart_of (site_rows sites.now) (group_rows groups.now))) }
+    ensures { result ≡ (are_apart_of (zone_rows zones.now) (site_rows sites.now)
+        && (are_apart_of (zone_rows zones.now) (group_rows groups.now) && are_apart_of (site_rows sites.now)
+        (group_rows groups.now))) }
 {
     are_apart(zones, sites) && are_apart(zones, groups) && are_apart(sites, groups)
 }

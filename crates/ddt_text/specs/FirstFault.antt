@@ -1,4 +1,5 @@
--- What a text is read as: the value that it spells, or the first fault, examined from left to right; digits past the length come last. Addresses are
+-- What a text is read as: the value that it spells, or the first fault, examined from left to right; digits past the
+-- length come last. Addresses are
 -- those of RFC 4291, section 2.2, without a dotted part, and dotted IPv4; brackets and lengths are this project's own.
 -- The bytes 42, 46, 47, 48, 91 and 93 are `*`, `.`, `/`, `0`, `[` and `]`.
 use Rattle.std.specs.Prelude.{ℕ, Bool, false, ◌==◌, ◌&&◌, ◌||◌, not, nat_le, if◌then◌else◌, List, [], ◌∷◌, length, take, drop, Option, Some, None, option_map, Result, Ok, Err}
@@ -31,7 +32,8 @@ number_in most text = if is_number text && nat_le (digits_value 10 text) most th
 -- the address that a text spells: a dot stands in IPv4 alone
 abbrev pub address_in : List ℕ → Option Locator
 address_in text =
-    if list_any (λ b. b == 46) text then option_map (λ octets. V4 (from_be_bytes w32 octets)) (whole_value (read_ipv4 text))
+    if list_any (λ b. b == 46) text then option_map (λ octets. V4 (from_be_bytes w32 octets))
+        (whole_value (read_ipv4 text))
     else option_map (λ groups. V6 (from_be_bytes w128 (octets_of groups))) (whole_value (read_ipv6 text))
 
 -- what stands before the first such byte, and what begins with it
@@ -89,7 +91,8 @@ made (Err Made.TailNotZero) = Err TailNotZero
 -- A range, behind its bracket: Address, Trailing, TailNotZero.
 abbrev pub starred : Form → List ℕ → Result (List ℕ) TextFault
 starred form [] = Err Address
-starred form (star ∷ rest) = if star == 42 then (if length rest == 0 then made (prefix_of form) else Err Trailing) else Err Address
+starred form (star ∷ rest) = if star == 42 then (if length rest == 0 then made (prefix_of form) else Err Trailing)
+    else Err Address
 
 -- A range: Instance, Length, then these.
 abbrev pub range_in : List ℕ → List ℕ → List ℕ → Result (List ℕ) TextFault
@@ -116,9 +119,11 @@ range_or_block iid [] rest = block_in iid rest
 range_or_block iid (slash ∷ len) rest = range_in iid len rest
 
 abbrev pub bracketed_prefix_in : List ℕ → Result (List ℕ) TextFault
-bracketed_prefix_in text = on_ok (bracketed_in text) λ parts. range_or_block (before 47 parts.0) (onward 47 parts.0) parts.1
+bracketed_prefix_in text = on_ok (bracketed_in text) λ parts.
+    range_or_block (before 47 parts.0) (onward 47 parts.0) parts.1
 
 -- A prefix: Empty, Trailing behind a `*` at the front, Bracket, then these.
 abbrev pub prefix_in : List ℕ → Result (List ℕ) TextFault
 prefix_in [] = Err Empty
-prefix_in (first ∷ rest) = if first == 42 then (if length rest == 0 then Ok [] else Err Trailing) else bracketed_prefix_in (first ∷ rest)
+prefix_in (first ∷ rest) = if first == 42 then (if length rest == 0 then Ok [] else Err Trailing)
+    else bracketed_prefix_in (first ∷ rest)

@@ -34,7 +34,8 @@ SpellsGroups text groups = (IsHexGroups text groups × (length groups ≡ 8)) �
 -- Four numbers of 0 to 255 without leading zeros, joined by dots; or IPv6.
 abbrev pub SpellsLocator : List ℕ → Locator → Type 0
 SpellsLocator text (V4 address) = (octets : List ℕ) × IsDotted text octets × (address ≡ from_be_bytes w32 octets)
-SpellsLocator text (V6 address) = (groups : List ℕ) × SpellsGroups text groups × (address ≡ from_be_bytes w128 (octets_of groups))
+SpellsLocator text (V6 address) = (groups : List ℕ) × SpellsGroups text groups
+    × (address ≡ from_be_bytes w128 (octets_of groups))
 
 -- `[iid]address`; `decimal n` has no leading zero
 pub record SpellsXeid (text : List ℕ) (x : Xeid) : Type 0 where

@@ -20,8 +20,10 @@ abbrev pub written_xeid : Xeid → List ℕ
 written_xeid x = codes "[" ++ decimal x.iid ++ codes "]" ++ written_locator x.address
 
 abbrev pub written_form : Form → List ℕ
-written_form (Range iid len) = if len == 0 then codes "*" else codes "[" ++ decimal iid ++ codes "/" ++ decimal len ++ codes "]*"
-written_form (Block iid address len) = codes "[" ++ decimal iid ++ codes "]" ++ written_locator address ++ codes "/" ++ decimal len
+written_form (Range iid len) = if len == 0 then codes "*" else codes "[" ++ decimal iid ++ codes "/" ++ decimal len
+    ++ codes "]*"
+written_form (Block iid address len) = codes "[" ++ decimal iid ++ codes "]" ++ written_locator address ++ codes "/"
+    ++ decimal len
 
 -- a prefix is seen as its path, from which its form is read off
 abbrev pub written_prefix : List ℕ → List ℕ

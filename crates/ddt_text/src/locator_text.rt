@@ -69,7 +69,8 @@ impl fmt::Display for LocatorText {
 /// part. Refused for memory alone, and then `text` is unchanged.
 #[tactic(auto, using(crate::proofs::AgainLemmas::laws))]
 pub fn write_locator(text: &mut Vec<u8>, address: Locator) -> Result<(), AllocError>
-    ensures appended { text.new.items ≡ (if is_ok result then text.old.items ++ written_locator address else text.old.items) }
+    ensures appended { text.new.items ≡ (if is_ok result then text.old.items ++ written_locator address
+        else text.old.items) }
     ensures spells { OnOk result (SpellsLocator (written_locator address) address) }
     ensures spelled { (a : Locator) → address_number a < 2 ^ address_width a → SpellsLocator (written_locator a) a }
     ensures again { (a : Locator) → address_number a < 2 ^ address_width a → locator_in (written_locator a) ≡ Ok a }

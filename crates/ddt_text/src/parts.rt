@@ -23,7 +23,8 @@ pub(crate) fn cut(text: &[u8], byte: u8) -> (&[u8], &[u8])
 
 /// What stands between `[` and the first `]`, and what follows it.
 pub(crate) fn bracketed(text: &[u8]) -> Result<(&[u8], &[u8]), TextFault>
-    ensures { MatchResult result (λ parts. bracketed_in text.now ≡ Ok (parts.0.now, parts.1.now)) (λ fault. bracketed_in text.now ≡ Err fault) }
+    ensures { MatchResult result (λ parts. bracketed_in text.now ≡ Ok (parts.0.now, parts.1.now)) (λ fault.
+        bracketed_in text.now ≡ Err fault) }
 {
     let [first, rest @ ..] = text else {
         return Err(TextFault::Empty);

@@ -114,7 +114,8 @@ impl fmt::Display for PrefixText {
 /// unchanged.
 #[tactic(auto, using(crate::proofs::AgainLemmas::laws))]
 pub fn write_prefix(text: &mut Vec<u8>, prefix: Prefix) -> Result<(), AllocError>
-    ensures appended { text.new.items ≡ (if is_ok result then text.old.items ++ written_prefix prefix else text.old.items) }
+    ensures appended { text.new.items ≡ (if is_ok result then text.old.items ++ written_prefix prefix
+        else text.old.items) }
     ensures spells { OnOk result (SpellsPrefix (written_prefix prefix) prefix) }
     ensures spelled { (form : Form) → IsForm form → SpellsPrefix (written_prefix (path form)) (path form) }
     ensures again { (form : Form) → IsForm form → prefix_in (written_prefix (path form)) ≡ Ok (path form) }

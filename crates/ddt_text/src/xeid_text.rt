@@ -43,8 +43,10 @@ pub fn parse_xeid(text: &[u8]) -> Result<Xeid, TextFault>
 pub fn write_xeid(text: &mut Vec<u8>, x: Xeid) -> Result<(), AllocError>
     ensures appended { text.new.items ≡ (if is_ok result then text.old.items ++ written_xeid x else text.old.items) }
     ensures spells { OnOk result (SpellsXeid (written_xeid x) x) }
-    ensures spelled { (y : Xeid) → y.iid < 2 ^ 32 → address_number y.address < 2 ^ address_width y.address → SpellsXeid (written_xeid y) y }
-    ensures again { (y : Xeid) → y.iid < 2 ^ 32 → address_number y.address < 2 ^ address_width y.address → xeid_in (written_xeid y) ≡ Ok y }
+    ensures spelled { (y : Xeid) → y.iid < 2 ^ 32 → address_number y.address < 2 ^ address_width y.address
+        → SpellsXeid (written_xeid y) y }
+    ensures again { (y : Xeid) → y.iid < 2 ^ 32 → address_number y.address < 2 ^ address_width y.address
+        → xeid_in (written_xeid y) ≡ Ok y }
 {
     let written = format!(in *text.allocator(); "[{}]{}", x.iid, LocatorText(x.address))?;
     text.extend_from_slice(written.as_bytes())

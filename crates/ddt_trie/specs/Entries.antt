@@ -36,4 +36,5 @@ none_longer es x n = list_all (λ e. not (covers e.0 x) || nat_le (length e.0) n
 
 -- the entry at a place covers x, and no key of the list that covers x is longer
 abbrev pub IsLongestAt : {V : Type 0} → List (List ℕ × V) → List (List ℕ × V) → List ℕ → ℕ → Type 0
-IsLongestAt {V} all es x i = (p : List ℕ) × (v : V) × (slice_get all i ≡ Some (p, v)) × IsTrue (covers p x) × IsTrue (none_longer es x (length p))
+IsLongestAt {V} all es x i = (p : List ℕ) × (v : V) × (slice_get all i ≡ Some (p, v)) × IsTrue (covers p x)
+    × IsTrue (none_longer es x (length p))

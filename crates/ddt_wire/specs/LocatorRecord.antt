@@ -13,7 +13,8 @@ use Rattle.ddt_wire.specs.Address.{family_and_address, IsAddress, address_at}
 
 -- priority, weight, multicast priority and weight, flags, AFI and address
 abbrev pub locator_bytes : ℕ → ℕ → ℕ → ℕ → ℕ → Locator → List ℕ
-locator_bytes priority weight m_priority m_weight flags l = (priority ∷ weight ∷ m_priority ∷ m_weight ∷ []) ++ to_be_bytes w16 flags ++ family_and_address l
+locator_bytes priority weight m_priority m_weight flags l =
+    (priority ∷ weight ∷ m_priority ∷ m_weight ∷ []) ++ to_be_bytes w16 flags ++ family_and_address l
 
 -- these bytes spell a locator; all but AFI and address is ignored
 pub record SpellsLocator (bytes : List ℕ) (l : Locator) : Type 0 where
@@ -33,7 +34,8 @@ pub record SpellsLocator (bytes : List ℕ) (l : Locator) : Type 0 where
 -- these bytes spell locators, one after the other
 abbrev pub SpellsLocators : List ℕ → List Locator → Type 0
 SpellsLocators bytes [] = bytes ≡ []
-SpellsLocators bytes (l ∷ ls) = (front : List ℕ) × (rest : List ℕ) × SpellsLocator front l × SpellsLocators rest ls × (bytes ≡ front ++ rest)
+SpellsLocators bytes (l ∷ ls) = (front : List ℕ) × (rest : List ℕ) × SpellsLocator front l × SpellsLocators rest ls
+    × (bytes ≡ front ++ rest)
 
 -- ---- what is written
 

@@ -223,7 +223,8 @@ pub fn read_eid(bytes: &[u8], mask_len: u8) -> Result<(Prefix, usize), EidFault>
     // The bytes that were taken spell what is read.
     ensures found { IfOk result (λ x. SpellsEid mask_len (take x.1 bytes.now) x.0 × (x.1 ≤ length bytes.now)) }
     // What stands spelled at the front is read.
-    ensures only { (eid rest p : List ℕ) → SpellsEid mask_len eid p → bytes.now ≡ eid ++ rest → result ≡ Ok (p, length eid) }
+    ensures only { (eid rest p : List ℕ) → SpellsEid mask_len eid p → bytes.now ≡ eid ++ rest
+        → result ≡ Ok (p, length eid) }
     // Which fault it is.
     ensures exact { result ≡ eid_at mask_len bytes.now }
 {

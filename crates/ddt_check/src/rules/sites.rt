@@ -76,7 +76,8 @@ fn is_right(z: &Zone, s: &Site) -> bool
 /// Map-Servers, the last zone that stands up to the site's prefix tells.
 fn is_outside(zones: &[Zone], s: &Site) -> bool
     requires { AreZonesInOrder zones.now }
-    ensures { (r : ARegister) → IsPermutation r.zones zones.now → IsKept r Rule.DuplicateZone → IsKept r Rule.BelowMapServer
+    ensures { (r : ARegister) → IsPermutation r.zones zones.now → IsKept r Rule.DuplicateZone
+        → IsKept r Rule.BelowMapServer
         → result ≡ is_outside_of r s.now }
 {
     let after = zones.partition_point(|z| z.prefix <= s.prefix);

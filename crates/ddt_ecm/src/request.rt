@@ -128,13 +128,13 @@ fn message(bytes: &[u8]) -> Result<Request<'_>, RequestFault>
     })
 }
 
-/// What the datagram says, all of it being one Encapsulated Map-Request for one identifier. Refused, in this order, as 1
-/// Short within 4 bytes; 2 MessageType; 3 Security; 1 Short without an inner packet; 4 IpVersion; of IPv4 as 1 Short
+/// What the datagram says, all of it being one Encapsulated Map-Request for one identifier. Refused, in this order, as
+/// 1 Short within 4 bytes; 2 MessageType; 3 Security; 1 Short without an inner packet; 4 IpVersion; of IPv4 as 1 Short
 /// within 20 bytes, 5 IpLength, 6 IpChecksum, 7 NotUdp, 8 Fragment; of IPv6 as 1 Short within 40 bytes, 5 IpLength, 7
 /// NotUdp; as 9 UdpLength; 10 UdpChecksum, where it is there; 11 Port; 1 Short within 12 bytes of the Map-Request; 12
-/// RequestType; 13 RecordCount; 14 EidFamily or 1 Short of the source EID; for each ITR-RLOC 1 Short without its AFI, 17
-/// RlocFamily, 1 Short without the address; the EID's 1 Short, 14 EidFamily, 15 Lcaf and 16 NotHost; and, where the bit
-/// M is clear, 18 Trailing (RFC 9301, sections 5.2 and 5.8).
+/// RequestType; 13 RecordCount; 14 EidFamily or 1 Short of the source EID; for each ITR-RLOC 1 Short without its AFI,
+/// 17 RlocFamily, 1 Short without the address; the EID's 1 Short, 14 EidFamily, 15 Lcaf and 16 NotHost; and, where the
+/// bit M is clear, 18 Trailing (RFC 9301, sections 5.2 and 5.8).
 pub fn read_request(bytes: &[u8]) -> Result<Request<'_>, RequestFault>
     // The bytes spell what is read.
     ensures found { IfOk result (λ v. Spells bytes.now v) }

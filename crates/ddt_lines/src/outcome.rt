@@ -8,8 +8,8 @@ use ddt_path::{LocatorSet, Outcome};
 use ddt_text::write_prefix;
 use std::alloc::{AllocError, Global};
 
-/// `registered PREFIX LOCATORS`, `not-registered PREFIX LOCATORS` or `hole PREFIX`, and a line feed. Fails only if out of
-/// memory.
+/// `registered PREFIX LOCATORS`, `not-registered PREFIX LOCATORS` or `hole PREFIX`, and a line feed. Fails only if out
+/// of memory.
 pub fn outcome_line(alloc: Global, outcome: &Outcome) -> Result<Vec<u8>, AllocError>
     ensures { IfOk result (λ line. line.items ≡ ended (outcome_text outcome.now)) }
 {

@@ -8,8 +8,8 @@ use ddt_ecm::{Request, Rlocs};
 use ddt_text::write_xeid;
 use std::alloc::{AllocError, Global};
 
-/// `request nonce NONCE ddt XEID port PORT itr LOCATORS`, with `plain` where an ITR asks, and a line feed. Fails only if out
-/// of memory.
+/// `request nonce NONCE ddt XEID port PORT itr LOCATORS`, with `plain` where an ITR asks, and a line feed. Fails only
+/// if out of memory.
 pub fn request_line(alloc: Global, request: &Request<'_>) -> Result<Vec<u8>, AllocError>
     ensures { IfOk result (λ line. line.items ≡ ended (request_text request.now)) }
 {

@@ -21,7 +21,8 @@ pub enum Preference {
 /// The better of two items, where there is a first; of equal ones the first.
 fn better<'a, T: Prefixed>(preference: Preference, best: Option<&'a T>, next: &'a T) -> &'a T
     ensures { let next = next.entry.now in
-        result.now ≡ option_map_or (λ first. better_of preference T.path first (Some next)) (option_copied best.entry) next }
+        result.now
+            ≡ option_map_or (λ first. better_of preference T.path first (Some next)) (option_copied best.entry) next }
 {
     match best {
         Some(best) if !is_better(preference, next.prefix().len(), best.prefix().len()) => best,

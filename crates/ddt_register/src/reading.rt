@@ -14,8 +14,8 @@ use csv::{ByteRecord, ErrorKind, Reader, ReaderBuilder};
 use std::alloc::Global;
 use std::io::Read;
 
-/// What an error of csv is in this row. Only other numbers of fields come of records of bytes, beside a failed reader and
-/// want of memory.
+/// What an error of csv is in this row. Only other numbers of fields come of records of bytes, beside a failed reader
+/// and want of memory.
 fn fault_of(kind: &ErrorKind, row: u32) -> ReadFault
     ensures { result ≡ csv_fault row kind.now }
 {
@@ -93,8 +93,8 @@ fn read_records<R: Read + Drop>(alloc: Global, mut reader: Reader<R>) -> Result<
 
 /// The register that a CSV text spells: commas between fields, quotes around a field that holds a comma, a quote or a
 /// line end, as many fields in each record as in the first. That one names the columns, `kind,prefix,group,addresses`,
-/// and the records behind it are the rows, from 1 on. A source without any record spells the register without items. Zones, sites and groups come in the order
-/// of their rows.
+/// and the records behind it are the rows, from 1 on. A source without any record spells the register without items.
+/// Zones, sites and groups come in the order of their rows.
 ///
 /// The first record with a fault decides. Refused, within a record in this order, as 1 Csv where the row has another
 /// number of fields than the first record; 2 Columns where the first record isn't the one above; 7 TooMany at the

@@ -3,8 +3,9 @@
 //! `registers` are CSV, `configurations` are TOML as `ddt compile` prints it, and `messages` are hexadecimal, field by field.
 #![tactic(auto)]
 
-ghost use Rattle.std.specs.Prelude.{◌≡◌, ◌++◌, [], ◌∷◌, Ok, IfOk, OnOk};
+ghost use Rattle.std.specs.Prelude.{◌≡◌, ◌++◌, [], ◌∷◌, take, Ok, IfOk, OnOk};
 ghost use Rattle.hex.specs.Hex.{decode_of};
+ghost use Rattle.ddt_examples.specs.Changes.{with_changes};
 ghost use Rattle.ddt_examples.specs.Digits.{digits_in};
 
 pub mod configurations;
@@ -36,4 +37,24 @@ fn push_digit(digits: &mut Vec<u8>, byte: u8) -> Result<(), AllocError>
         digits.push(byte)?;
     }
     Ok(())
+}
+
+/// The message with another byte at each of these places, in their order. A place behind the end is none.
+#[tactic(auto, using(std::proofs::lemmas::List::Sums::fold_more))]
+pub fn changed(mut message: Vec<u8>, changes: &[(usize, u8)]) -> Vec<u8>
+    ensures { result.items ≡ with_changes message.items changes.now }
+{
+    for (at, byte) in changes {
+        if *at < message.len() {
+            message[*at] = *byte;
+        }
+    }
+    message
+}
+
+/// So many bytes from the front, or all where there are fewer.
+pub fn front(message: &[u8], count: usize) -> &[u8]
+    ensures { result.now ≡ take count message.now }
+{
+    &message[..count.min(message.len())]
 }

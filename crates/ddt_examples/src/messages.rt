@@ -16,6 +16,10 @@ pub const HOLE_WITH_IGNORED_BITS: &str =
 pub const HOLE_OF_EVERYTHING: &str =
     "60000001 0000000000000001 0000000f 00 00 9000 0000 4003 0000 02 00 0006 00000000 0000";
 
+/// The root's hole of all IPv6 addresses, nonce 2.
+pub const HOLE_OF_IPV6: &str =
+    "60000001 0000000000000002 0000000f 00 00 9000 0000 0002 00000000000000000000000000000000";
+
 /// The NOT-AUTHORITATIVE of group `ten` for 11.0.0.1, nonce 1.
 pub const TEN_IS_NOT_IN_CHARGE: &str =
     "60000001 0000000000000001 00000000 00 20 b800 0000 0001 0b000001";
@@ -23,6 +27,10 @@ pub const TEN_IS_NOT_IN_CHARGE: &str =
 /// The MS-ACK of group `east` for the site 10.1.2.0/24, nonce 1.
 pub const EAST_ACKNOWLEDGES: &str =
     "60000001 0000000000000001 000005a0 02 18 5000 0000 0001 0a010200 01 64 ff 00 0001 0001 7f000101 01 64 ff 00 0001 0001 7f000102";
+
+/// The MS-NOT-REGISTERED of group `east` for the site 10.1.4.0/24, nonce 1.
+pub const EAST_HAS_NO_ETR: &str =
+    "60000001 0000000000000001 00000001 02 18 7000 0000 0001 0a010400 01 64 ff 00 0001 0001 7f000101 01 64 ff 00 0001 0001 7f000102";
 
 /// A DDT Map-Request of 127.0.0.53 for 10.1.2.3, nonce 1.
 pub const DDT_REQUEST: &str =
@@ -35,3 +43,8 @@ pub const IPV6_REQUEST: &str =
 /// The request of an ITR, 127.0.0.60, for 10.2.0.1, with a source EID and no UDP checksum.
 pub const ITR_REQUEST: &str =
     "80000000 45 00 003c 0000 0000 40 11 f172 7f00003c 0a020001 c350 10f6 0028 0000 10000001 1122334455667788 0001 0a050001 0001 7f00003c 00 20 0001 0a020001";
+
+/// The same ITR's in a form that we don't write: options behind the IPv4 header, the bit M and one more byte at the end,
+/// which makes the length odd, a source EID of instance 7, and ITR-RLOCs of two families.
+pub const ITR_REQUEST_IN_ANOTHER_FORM: &str =
+    "80000000 46 00 005f 0000 0000 40 11 ee4e 7f00003c 0a020001 01010100 c350 10f6 0047 ce16 14000101 1122334455667788 4003 0000 02 00 000a 00000007 0001 0a050001 0001 7f00003c 0002 20010db8000000000000000000000035 00 20 0001 0a020001 aa";

@@ -1,42 +1,11 @@
 use super::*;
+use ddt_examples::messages::{
+    EAST_ACKNOWLEDGES, HOLE_OF_EVERYTHING, HOLE_OF_INSTANCES, HOLE_WITH_IGNORED_BITS,
+    ROOT_REFERS_TO_TEN, TEN_IS_NOT_IN_CHARGE,
+};
+use ddt_examples::{bytes_of, changed, front};
 use ddt_path::{Action, Locator, LocatorSet, Prefix, ReferralRecord};
 use std::test::Fail;
-
-/// A NODE-REFERRAL of [0]10.0.0.0/8 to 127.0.0.10.
-const TO_A_NODE: [u8; 40] = [
-    0x60, 0, 0, 1, 0, 0, 0, 0, 0, 0, 0, 1, 0, 0, 0x05, 0xa0, 0x01, 0x08, 0x10, 0, 0, 0, 0, 1, 0x0a,
-    0, 0, 0, 0x01, 0x64, 0xff, 0, 0, 1, 0, 1, 0x7f, 0, 0, 0x0a,
-];
-
-/// A DELEGATION-HOLE of [2147483648/1]*.
-const HOLE_OF_A_RANGE: [u8; 36] = [
-    0x60, 0, 0, 1, 0, 0, 0, 0, 0, 0, 0, 1, 0, 0, 0, 0x0f, 0, 0, 0x90, 0, 0, 0, 0x40, 0x03, 0, 0, 2,
-    1, 0, 6, 0x80, 0, 0, 0, 0, 0,
-];
-
-/// A DELEGATION-HOLE of everything.
-const HOLE_OF_EVERYTHING: [u8; 36] = [
-    0x60, 0, 0, 1, 0, 0, 0, 0, 0, 0, 0, 1, 0, 0, 0, 0x0f, 0, 0, 0x90, 0, 0, 0, 0x40, 0x03, 0, 0, 2,
-    0, 0, 6, 0, 0, 0, 0, 0, 0,
-];
-
-/// A NOT-AUTHORITATIVE of [0]11.0.0.1/32.
-const NOT_AUTHORITATIVE: [u8; 28] = [
-    0x60, 0, 0, 1, 0, 0, 0, 0, 0, 0, 0, 1, 0, 0, 0, 0, 0, 0x20, 0xb8, 0, 0, 0, 0, 1, 0x0b, 0, 0, 1,
-];
-
-/// An MS-ACK of [0]10.1.2.0/24 by 127.0.1.1 and 127.0.1.2.
-const ACKNOWLEDGED: [u8; 52] = [
-    0x60, 0, 0, 1, 0, 0, 0, 0, 0, 0, 0, 1, 0, 0, 0x05, 0xa0, 0x02, 0x18, 0x50, 0, 0, 0, 0, 1, 0x0a,
-    1, 2, 0, 0x01, 0x64, 0xff, 0, 0, 1, 0, 1, 0x7f, 0, 1, 1, 0x01, 0x64, 0xff, 0, 0, 1, 0, 1, 0x7f,
-    0, 1, 2,
-];
-
-/// A DELEGATION-HOLE of [2147483648/1]*, with bits set in each field that is ignored.
-const LOOSE_HOLE: [u8; 36] = [
-    0x6f, 0xff, 0xff, 0x01, 0, 0, 0, 0, 0, 0, 0, 1, 0, 0, 0, 0x0f, 0x00, 0x4d, 0x87, 0xff, 0x0a,
-    0xbc, 0x40, 0x03, 0x55, 0xaa, 0x02, 0x01, 0, 6, 0x80, 0, 0, 0, 0, 0,
-];
 
 /// An IPv4 block of instance 0.
 fn block(address: u32, len: u8) -> Result<Prefix, Fail> {
@@ -57,7 +26,8 @@ fn referral_to_a_node(rt: HostRuntime) -> Result<(), Fail> {
         servers: servers(&[Locator::V4(0x7f00_000a)])?,
     };
     let bytes = write_referral(rt.alloc(), 1, &record)?;
-    assert_eq!(rt; bytes.as_slice(), TO_A_NODE.as_slice());
+    let wanted = bytes_of(rt.alloc(), ROOT_REFERS_TO_TEN)?;
+    assert_eq!(rt; bytes.as_slice(), wanted.as_slice());
     Ok(())
 }
 
@@ -71,7 +41,8 @@ fn hole_of_a_range_of_instances(rt: HostRuntime) -> Result<(), Fail> {
         servers: servers(&[])?,
     };
     let bytes = write_referral(rt.alloc(), 1, &record)?;
-    assert_eq!(rt; bytes.as_slice(), HOLE_OF_A_RANGE.as_slice());
+    let wanted = bytes_of(rt.alloc(), HOLE_OF_INSTANCES)?;
+    assert_eq!(rt; bytes.as_slice(), wanted.as_slice());
     Ok(())
 }
 
@@ -85,7 +56,8 @@ fn hole_of_everything(rt: HostRuntime) -> Result<(), Fail> {
         servers: servers(&[])?,
     };
     let bytes = write_referral(rt.alloc(), 1, &record)?;
-    assert_eq!(rt; bytes.as_slice(), HOLE_OF_EVERYTHING.as_slice());
+    let wanted = bytes_of(rt.alloc(), HOLE_OF_EVERYTHING)?;
+    assert_eq!(rt; bytes.as_slice(), wanted.as_slice());
     Ok(())
 }
 
@@ -99,7 +71,8 @@ fn not_authoritative_is_incomplete(rt: HostRuntime) -> Result<(), Fail> {
         servers: servers(&[])?,
     };
     let bytes = write_referral(rt.alloc(), 1, &record)?;
-    assert_eq!(rt; bytes.as_slice(), NOT_AUTHORITATIVE.as_slice());
+    let wanted = bytes_of(rt.alloc(), TEN_IS_NOT_IN_CHARGE)?;
+    assert_eq!(rt; bytes.as_slice(), wanted.as_slice());
     Ok(())
 }
 
@@ -113,7 +86,8 @@ fn acknowledgement_with_two_servers(rt: HostRuntime) -> Result<(), Fail> {
         servers: servers(&[Locator::V4(0x7f00_0101), Locator::V4(0x7f00_0102)])?,
     };
     let bytes = write_referral(rt.alloc(), 1, &record)?;
-    assert_eq!(rt; bytes.as_slice(), ACKNOWLEDGED.as_slice());
+    let wanted = bytes_of(rt.alloc(), EAST_ACKNOWLEDGES)?;
+    assert_eq!(rt; bytes.as_slice(), wanted.as_slice());
     Ok(())
 }
 
@@ -136,7 +110,8 @@ fn eid_of_another_instance_stands_behind_what_was_there(rt: HostRuntime) -> Resu
 
 #[test]
 fn referral_to_a_node_is_read(rt: HostRuntime) -> Result<(), Fail> {
-    let referral = read_referral(&TO_A_NODE)?;
+    let message = bytes_of(rt.alloc(), ROOT_REFERS_TO_TEN)?;
+    let referral = read_referral(&message)?;
     assert_eq!(rt; referral.nonce(), 1);
     assert_eq!(rt; referral.action(), Action::NodeReferral);
     assert_eq!(rt; referral.prefix(), block(0x0a00_0000, 8)?);
@@ -160,7 +135,8 @@ fn referral_to_a_node_is_read(rt: HostRuntime) -> Result<(), Fail> {
 
 #[test]
 fn ignored_bits_are_ignored(rt: HostRuntime) -> Result<(), Fail> {
-    let referral = read_referral(&LOOSE_HOLE)?;
+    let message = bytes_of(rt.alloc(), HOLE_WITH_IGNORED_BITS)?;
+    let referral = read_referral(&message)?;
     assert_eq!(rt; referral.nonce(), 1);
     assert_eq!(rt; referral.action(), Action::DelegationHole);
     assert_eq!(rt; referral.prefix(), Prefix::range(0x8000_0000, 1)?);
@@ -172,8 +148,7 @@ fn ignored_bits_are_ignored(rt: HostRuntime) -> Result<(), Fail> {
 
 #[test]
 fn a_record_keeps_the_first_eight_locators(rt: HostRuntime) -> Result<(), Fail> {
-    let mut bytes = Vec::from_slice(rt.alloc(), &TO_A_NODE)?;
-    bytes[16] = 9;
+    let mut bytes = changed(bytes_of(rt.alloc(), ROOT_REFERS_TO_TEN)?, &[(16, 9)]);
     for last in 11..19 {
         bytes.extend_from_slice(&[0x01, 0x64, 0xff, 0, 0, 1, 0, 1, 0x7f, 0, 0, last])?;
     }
@@ -189,44 +164,30 @@ fn a_record_keeps_the_first_eight_locators(rt: HostRuntime) -> Result<(), Fail> 
     Ok(())
 }
 
-/// The datagram with other bytes at these places.
-fn changed<const N: usize>(mut bytes: [u8; N], changes: &[(usize, u8)]) -> [u8; N] {
-    for (at, byte) in changes {
-        if *at < N {
-            bytes[*at] = *byte;
-        }
-    }
-    bytes
-}
-
-/// So many bytes from the front.
-fn front(bytes: &[u8], len: usize) -> &[u8] {
-    &bytes[..len.min(bytes.len())]
-}
-
 #[test]
-fn every_proper_prefix_of_a_referral_is_short(rt: HostRuntime) {
-    let vectors: [&[u8]; 6] = [
-        &TO_A_NODE,
-        &HOLE_OF_A_RANGE,
-        &LOOSE_HOLE,
-        &HOLE_OF_EVERYTHING,
-        &NOT_AUTHORITATIVE,
-        &ACKNOWLEDGED,
-    ];
-    for vector in vectors {
-        assert!(rt; read_referral(vector).is_ok());
-        for len in 0..vector.len() {
+fn every_proper_prefix_of_a_referral_is_short(rt: HostRuntime) -> Result<(), Fail> {
+    for fields in [
+        ROOT_REFERS_TO_TEN,
+        HOLE_OF_INSTANCES,
+        HOLE_WITH_IGNORED_BITS,
+        HOLE_OF_EVERYTHING,
+        TEN_IS_NOT_IN_CHARGE,
+        EAST_ACKNOWLEDGES,
+    ] {
+        let message = bytes_of(rt.alloc(), fields)?;
+        assert!(rt; read_referral(&message).is_ok());
+        for len in 0..message.len() {
             assert_eq!(rt;
-                read_referral(front(vector, len)).err(),
+                read_referral(front(&message, len)).err(),
                 Some(ReferralFault::Short)
             );
         }
     }
+    Ok(())
 }
 
 #[test]
-fn each_fault_of_a_referral_has_a_datagram(rt: HostRuntime) {
+fn each_fault_of_a_referral_has_a_datagram(rt: HostRuntime) -> Result<(), Fail> {
     for (change, fault) in [
         ((16, 2), ReferralFault::Short),
         ((0, 0x70), ReferralFault::MessageType),
@@ -240,7 +201,7 @@ fn each_fault_of_a_referral_has_a_datagram(rt: HostRuntime) {
         ((35, 3), ReferralFault::LocatorFamily),
         ((16, 0), ReferralFault::Trailing),
     ] {
-        let bytes = changed(TO_A_NODE, &[change]);
+        let bytes = changed(bytes_of(rt.alloc(), ROOT_REFERS_TO_TEN)?, &[change]);
         assert_eq!(rt; read_referral(&bytes).err(), Some(fault));
     }
     for (change, fault) in [
@@ -252,13 +213,14 @@ fn each_fault_of_a_referral_has_a_datagram(rt: HostRuntime) {
         ((27, 33), ReferralFault::MaskLength),
         ((30, 0xc0), ReferralFault::TailNotZero),
     ] {
-        let bytes = changed(LOOSE_HOLE, &[change]);
+        let bytes = changed(bytes_of(rt.alloc(), HOLE_WITH_IGNORED_BITS)?, &[change]);
         assert_eq!(rt; read_referral(&bytes).err(), Some(fault));
     }
+    Ok(())
 }
 
 #[test]
-fn the_first_fault_of_a_referral_is_named(rt: HostRuntime) {
+fn the_first_fault_of_a_referral_is_named(rt: HostRuntime) -> Result<(), Fail> {
     for (changes, fault) in [
         ([(0, 0x70), (3, 2), (18, 0xd0)], ReferralFault::MessageType),
         ([(3, 2), (18, 0xd0), (20, 0x10)], ReferralFault::RecordCount),
@@ -270,7 +232,7 @@ fn the_first_fault_of_a_referral_is_named(rt: HostRuntime) {
         ([(16, 0), (39, 0), (38, 0)], ReferralFault::Trailing),
         ([(16, 2), (39, 0), (38, 0)], ReferralFault::Short),
     ] {
-        let bytes = changed(TO_A_NODE, &changes);
+        let bytes = changed(bytes_of(rt.alloc(), ROOT_REFERS_TO_TEN)?, &changes);
         assert_eq!(rt; read_referral(&bytes).err(), Some(fault));
     }
     for (changes, fault) in [
@@ -281,13 +243,14 @@ fn the_first_fault_of_a_referral_is_named(rt: HostRuntime) {
         ([(27, 33), (31, 1)], ReferralFault::MaskLength),
         ([(31, 1), (16, 1)], ReferralFault::TailNotZero),
     ] {
-        let bytes = changed(LOOSE_HOLE, &changes);
+        let bytes = changed(bytes_of(rt.alloc(), HOLE_WITH_IGNORED_BITS)?, &changes);
         assert_eq!(rt; read_referral(&bytes).err(), Some(fault));
     }
+    Ok(())
 }
 
 #[test]
-fn a_wrong_field_is_named_before_the_end(rt: HostRuntime) {
+fn a_wrong_field_is_named_before_the_end(rt: HostRuntime) -> Result<(), Fail> {
     for (len, change, fault) in [
         // Within the first field the end comes first.
         (3, (0, 0x70), ReferralFault::Short),
@@ -303,7 +266,7 @@ fn a_wrong_field_is_named_before_the_end(rt: HostRuntime) {
         (35, (35, 3), ReferralFault::Short),
         (36, (35, 3), ReferralFault::LocatorFamily),
     ] {
-        let bytes = changed(TO_A_NODE, &[change]);
+        let bytes = changed(bytes_of(rt.alloc(), ROOT_REFERS_TO_TEN)?, &[change]);
         assert_eq!(rt; read_referral(front(&bytes, len)).err(), Some(fault));
     }
     for (len, change, fault) in [
@@ -312,14 +275,15 @@ fn a_wrong_field_is_named_before_the_end(rt: HostRuntime) {
         (35, (29, 10), ReferralFault::Short),
         (35, (27, 33), ReferralFault::Short),
     ] {
-        let bytes = changed(LOOSE_HOLE, &[change]);
+        let bytes = changed(bytes_of(rt.alloc(), HOLE_WITH_IGNORED_BITS)?, &[change]);
         assert_eq!(rt; read_referral(front(&bytes, len)).err(), Some(fault));
     }
+    Ok(())
 }
 
 #[test]
 fn bytes_after_the_referral_are_trailing(rt: HostRuntime) -> Result<(), Fail> {
-    let mut bytes = Vec::from_slice(rt.alloc(), &TO_A_NODE)?;
+    let mut bytes = bytes_of(rt.alloc(), ROOT_REFERS_TO_TEN)?;
     bytes.push(0)?;
     assert_eq!(rt; read_referral(&bytes).err(), Some(ReferralFault::Trailing));
     Ok(())
@@ -337,8 +301,11 @@ fn eids_are_read_from_the_front(rt: HostRuntime) -> Result<(), Fail> {
     Ok(())
 }
 
+/// The EID of [2147483648/1]*.
+const RANGE: &str = "4003 0000 02 01 0006 80000000 0000";
+
 #[test]
-fn eids_are_refused_for_the_first_fault(rt: HostRuntime) {
+fn eids_are_refused_for_the_first_fault(rt: HostRuntime) -> Result<(), Fail> {
     assert_eq!(rt; read_eid(&[], 0).err(), Some(EidFault::Short));
     assert_eq!(rt;
         read_eid(&[0, 3, 0x0a, 1], 33).err(),
@@ -352,25 +319,30 @@ fn eids_are_refused_for_the_first_fault(rt: HostRuntime) {
         read_eid(&[0, 1, 0x0a, 1, 2, 0], 33).err(),
         Some(EidFault::MaskLength)
     );
-    let range = [0x40, 3, 0, 0, 2, 1, 0, 6, 0x80, 0, 0, 0, 0, 0];
-    assert_eq!(rt; read_eid(&range[..7], 0).err(), Some(EidFault::Short));
-    assert_eq!(rt; read_eid(&range[..13], 0).err(), Some(EidFault::Short));
+    let range = bytes_of(rt.alloc(), RANGE)?;
+    assert_eq!(rt; read_eid(front(&range, 7), 0).err(), Some(EidFault::Short));
+    assert_eq!(rt; read_eid(front(&range, 13), 0).err(), Some(EidFault::Short));
     assert_eq!(rt;
-        read_eid(&changed(range, &[(13, 3)]), 0).err(),
+        read_eid(&changed(bytes_of(rt.alloc(), RANGE)?, &[(13, 3)]), 0).err(),
         Some(EidFault::Lcaf)
     );
     assert_eq!(rt;
-        read_eid(&changed(range, &[(13, 1), (7, 10)]), 33).err(),
+        read_eid(
+            &changed(bytes_of(rt.alloc(), RANGE)?, &[(13, 1), (7, 10)]),
+            33
+        )
+        .err(),
         Some(EidFault::Short)
     );
     assert_eq!(rt;
-        read_eid(&changed(range, &[(5, 33)]), 0).err(),
+        read_eid(&changed(bytes_of(rt.alloc(), RANGE)?, &[(5, 33)]), 0).err(),
         Some(EidFault::MaskLength)
     );
     assert_eq!(rt;
-        read_eid(&changed(range, &[(5, 0)]), 0).err(),
+        read_eid(&changed(bytes_of(rt.alloc(), RANGE)?, &[(5, 0)]), 0).err(),
         Some(EidFault::TailNotZero)
     );
+    Ok(())
 }
 
 #[test]

@@ -51,7 +51,7 @@ try_each show 8400000045000038000000004011ef7c7f0000350a01020310f610f60024b72310
 # tells_want OUTPUT: the error of the test, or the value at its left, is want of memory: a map that is refused memory hands
 # back the pair that it was to insert, and the tests of ddt_compile have no register where theirs can't be read
 tells_want() {
-    grep -qE '^error: (.*(AllocError|AllocFailed|[Mm]emory)|"no register"$)|^ *left: ((Some|Err)\(Memory\)|Err\(\(Prefix .*\)\))$' "$1"
+    grep -qE '^error: (.*(AllocError|AllocFailed|[Mm]emory)|"no register"$)|^ *left: ((Some|Err)\((OutOf)?Memory\)|Err\(\(Prefix .*\)\))$' "$1"
 }
 
 # try_test PROGRAM TEST: a test, with each of its first 2,000 allocations refused in turn

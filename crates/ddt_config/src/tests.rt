@@ -1,40 +1,9 @@
 use super::*;
+use ddt_examples::configurations::{EAST, EAST_BY_HAND, TWO_AUTHORITIES, TWO_AUTHORITIES_BY_HAND};
 use ddt_path::{Locator, LocatorSet, Name, Prefix, Role};
 use ddt_text::parse_prefix;
 use std::alloc::Global;
 use std::test::*;
-
-/// A Map-Server group with one authority and two sites, of which the second has no ETR.
-const EAST: &str = r#"name = "east"
-kind = "ms"
-locators = ["127.0.1.1", "127.0.1.2"]
-[[authority]]
-prefix = "[0]10.1.0.0/16"
-[[authority.site]]
-prefix = "[0]10.1.2.0/24"
-etrs = ["127.0.2.1"]
-[[authority.site]]
-prefix = "[0]10.1.4.0/24"
-etrs = []
-"#;
-
-/// A node group with two authorities, the first with a node and a Map-Server below it.
-const ROOT: &str = r#"name = "root"
-kind = "node"
-locators = ["127.0.0.1", "2001:db8::1"]
-[[authority]]
-prefix = "*"
-[[authority.child]]
-prefix = "[0]10.0.0.0/8"
-kind = "node"
-locators = ["127.0.0.10"]
-[[authority.child]]
-prefix = "[16/28]*"
-kind = "ms"
-locators = ["127.0.1.1", "127.0.1.2"]
-[[authority]]
-prefix = "[7]2001:db8::/32"
-"#;
 
 fn prefix(text: &str) -> Option<Prefix> {
     parse_prefix(text.as_bytes()).ok()
@@ -44,7 +13,7 @@ fn set(locators: &[Locator]) -> Option<LocatorSet> {
     LocatorSet::of(locators)
 }
 
-/// Whether a configuration is that of `EAST`.
+/// Whether a configuration is that of group `east`.
 fn is_east(config: &ServerConfig) -> bool {
     if Some(config.name) != Name::of(b"east") || config.role != Role::Ms {
         return false;
@@ -68,7 +37,7 @@ fn is_east(config: &ServerConfig) -> bool {
         && Some(second.etrs) == set(&[])
 }
 
-/// Whether a configuration is that of `ROOT`.
+/// Whether a configuration is that of the root with two authorities.
 fn is_root(config: &ServerConfig) -> bool {
     if Some(config.name) != Name::of(b"root") || config.role != Role::Node {
         return false;
@@ -107,67 +76,27 @@ fn fault(alloc: Global, text: &str) -> Option<ConfigFault> {
 #[test]
 fn a_text_is_read(rt: HostRuntime) -> Result<(), Fail> {
     let alloc = rt.alloc();
-    assert!(rt; is_east(&from_toml(alloc, EAST)?));
-    assert!(rt; is_root(&from_toml(alloc, ROOT)?));
+    assert!(rt; is_east(&from_toml(alloc, EAST_BY_HAND)?));
+    assert!(rt; is_root(&from_toml(alloc, TWO_AUTHORITIES_BY_HAND)?));
     Ok(())
 }
-
-/// `EAST` as it is written: keys in the order of their names.
-const EAST_AS_WRITTEN: &str = r#"kind = "ms"
-locators = ["127.0.1.1", "127.0.1.2"]
-name = "east"
-
-[[authority]]
-prefix = "[0]10.1.0.0/16"
-
-[[authority.site]]
-etrs = ["127.0.2.1"]
-prefix = "[0]10.1.2.0/24"
-
-[[authority.site]]
-etrs = []
-prefix = "[0]10.1.4.0/24"
-"#;
-
-/// `ROOT` as it is written.
-const ROOT_AS_WRITTEN: &str = r#"kind = "node"
-locators = ["127.0.0.1", "2001:db8::1"]
-name = "root"
-
-[[authority]]
-prefix = "*"
-
-[[authority.child]]
-kind = "node"
-locators = ["127.0.0.10"]
-prefix = "[0]10.0.0.0/8"
-
-[[authority.child]]
-kind = "ms"
-locators = ["127.0.1.1", "127.0.1.2"]
-prefix = "[16/28]*"
-
-[[authority]]
-child = []
-prefix = "[7]2001:db8::/32"
-"#;
 
 #[test]
 fn a_configuration_is_written_with_its_keys_and_no_other(rt: HostRuntime) -> Result<(), Fail> {
     let alloc = rt.alloc();
-    let east = to_toml(alloc, &from_toml(alloc, EAST)?)?;
-    assert_eq!(rt; east.as_str(), EAST_AS_WRITTEN);
-    let root = to_toml(alloc, &from_toml(alloc, ROOT)?)?;
-    assert_eq!(rt; root.as_str(), ROOT_AS_WRITTEN);
+    let east = to_toml(alloc, &from_toml(alloc, EAST_BY_HAND)?)?;
+    assert_eq!(rt; east.as_str(), EAST);
+    let root = to_toml(alloc, &from_toml(alloc, TWO_AUTHORITIES_BY_HAND)?)?;
+    assert_eq!(rt; root.as_str(), TWO_AUTHORITIES);
     Ok(())
 }
 
 #[test]
 fn what_was_written_is_read_back(rt: HostRuntime) -> Result<(), Fail> {
     let alloc = rt.alloc();
-    let east = to_toml(alloc, &from_toml(alloc, EAST)?)?;
+    let east = to_toml(alloc, &from_toml(alloc, EAST_BY_HAND)?)?;
     assert!(rt; is_east(&from_toml(alloc, east.as_str())?));
-    let root = to_toml(alloc, &from_toml(alloc, ROOT)?)?;
+    let root = to_toml(alloc, &from_toml(alloc, TWO_AUTHORITIES_BY_HAND)?)?;
     assert!(rt; is_root(&from_toml(alloc, root.as_str())?));
     Ok(())
 }
@@ -183,7 +112,7 @@ fn no_authority_is_the_empty_list_and_other_keys_are_ignored(rt: HostRuntime) ->
     assert_eq!(rt; bare.name.as_bytes(), b"a-1".as_slice());
     let other = replaced(
         alloc,
-        EAST,
+        EAST_BY_HAND,
         "[[authority.site]]",
         "child = 3\n[[authority.site]]",
     )?;
@@ -245,7 +174,7 @@ const FIRST_FAULTS: [(&str, &str, ConfigFault); 14] = [
 fn the_first_fault_decides(rt: HostRuntime) -> Result<(), Fail> {
     let alloc = rt.alloc();
     for (old, new, wanted) in FIRST_FAULTS {
-        let text = replaced(alloc, EAST, old, new)?;
+        let text = replaced(alloc, EAST_BY_HAND, old, new)?;
         assert_eq!(rt; fault(alloc, text.as_str()), Some(wanted), "at {new}");
     }
     Ok(())
@@ -289,24 +218,32 @@ const NINE_ETRS: &str =
 /// A configuration, a part of its text, and what stands in its place, of which one condition of the shape is broken.
 const WRONG_SHAPES: [(&str, &str, &str); 11] = [
     (
-        EAST,
+        EAST_BY_HAND,
         "locators = [\"127.0.1.1\", \"127.0.1.2\"]",
         "locators = []",
     ),
     (
-        EAST,
+        EAST_BY_HAND,
         "locators = [\"127.0.1.1\", \"127.0.1.2\"]",
         NINE_LOCATORS,
     ),
-    (EAST, "127.0.1.2", "127.0.1.1"),
-    (EAST, "etrs = []", NINE_ETRS),
-    (EAST, "[0]10.1.4.0/24", "[0]10.2.4.0/24"),
-    (EAST, "[0]10.1.4.0/24", "[0]10.1.2.0/24"),
-    (ROOT, "locators = [\"127.0.0.10\"]", "locators = []"),
-    (ROOT, "locators = [\"127.0.0.10\"]", NINE_LOCATORS),
-    (ROOT, "[7]2001:db8::/32", "*"),
-    (ROOT, "[0]10.0.0.0/8", "*"),
-    (ROOT, "[16/28]*", "[0/8]*"),
+    (EAST_BY_HAND, "127.0.1.2", "127.0.1.1"),
+    (EAST_BY_HAND, "etrs = []", NINE_ETRS),
+    (EAST_BY_HAND, "[0]10.1.4.0/24", "[0]10.2.4.0/24"),
+    (EAST_BY_HAND, "[0]10.1.4.0/24", "[0]10.1.2.0/24"),
+    (
+        TWO_AUTHORITIES_BY_HAND,
+        "locators = [\"127.0.0.10\"]",
+        "locators = []",
+    ),
+    (
+        TWO_AUTHORITIES_BY_HAND,
+        "locators = [\"127.0.0.10\"]",
+        NINE_LOCATORS,
+    ),
+    (TWO_AUTHORITIES_BY_HAND, "[7]2001:db8::/32", "*"),
+    (TWO_AUTHORITIES_BY_HAND, "[0]10.0.0.0/8", "*"),
+    (TWO_AUTHORITIES_BY_HAND, "[16/28]*", "[0/8]*"),
 ];
 
 #[test]
@@ -326,7 +263,7 @@ fn each_condition_of_the_shape_is_tested(rt: HostRuntime) -> Result<(), Fail> {
 #[test]
 fn a_site_may_equal_its_authority_and_no_other_site(rt: HostRuntime) -> Result<(), Fail> {
     let alloc = rt.alloc();
-    let text = replaced(alloc, EAST, "[0]10.1.0.0/16", "[0]10.1.2.0/24")?;
+    let text = replaced(alloc, EAST_BY_HAND, "[0]10.1.0.0/16", "[0]10.1.2.0/24")?;
     let twice = replaced(alloc, text.as_str(), "[0]10.1.4.0/24", "[0]10.1.2.0/24")?;
     assert_eq!(rt; fault(alloc, twice.as_str()), Some(ConfigFault::Shape));
     let other = "[[authority.site]]\nprefix = \"[0]10.1.4.0/24\"\netrs = []\n";
@@ -338,7 +275,7 @@ fn a_site_may_equal_its_authority_and_no_other_site(rt: HostRuntime) -> Result<(
 #[test]
 fn a_site_may_lie_inside_another(rt: HostRuntime) -> Result<(), Fail> {
     let alloc = rt.alloc();
-    let nested = replaced(alloc, EAST, "[0]10.1.4.0/24", "[0]10.1.2.128/25")?;
+    let nested = replaced(alloc, EAST_BY_HAND, "[0]10.1.4.0/24", "[0]10.1.2.128/25")?;
     let config = from_toml(alloc, nested.as_str())?;
     let [authority] = config.authorities.as_slice() else {
         return Err("no authority")?;

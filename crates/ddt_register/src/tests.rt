@@ -1,22 +1,10 @@
 use super::*;
+use ddt_examples::registers::{CAMPUS, COLUMNS};
 use ddt_path::{Form, Locator, Role, longest_match};
 use std::alloc::Global;
 use std::io;
 use std::io::Read;
 use std::test::*;
-
-const CAMPUS: &str = "kind,prefix,group,addresses
-group-node,,root,127.0.0.1
-group-node,,ten,127.0.0.10
-group-ms,,east,127.0.1.1 127.0.1.2
-node,*,root,
-node,[0]10.0.0.0/8,ten,
-ms,[0]10.1.0.0/16,east,
-site,[0]10.1.2.0/24,,127.0.2.1
-site,[0]10.1.4.0/24,,
-";
-
-const COLUMNS: &str = "kind,prefix,group,addresses\n";
 
 fn read(alloc: Global, text: &[u8]) -> Result<Register, ReadFault> {
     read_register(alloc, text)

@@ -1,44 +1,9 @@
 use super::*;
+use ddt_examples::messages::{DDT_REQUEST, IPV6_REQUEST, ITR_REQUEST, ITR_REQUEST_IN_ANOTHER_FORM};
+use ddt_examples::{bytes_of, changed, front};
 use ddt_path::{Locator, Xeid};
+use std::alloc::Global;
 use std::test::Fail;
-
-/// Nonce 1, [0]10.1.2.3, from 127.0.0.53, with the bit D.
-const IPV4_REQUEST: [u8; 60] = [
-    0x84, 0x00, 0x00, 0x00, 0x45, 0x00, 0x00, 0x38, 0x00, 0x00, 0x00, 0x00, 0x40, 0x11, 0xef, 0x7c,
-    0x7f, 0x00, 0x00, 0x35, 0x0a, 0x01, 0x02, 0x03, 0x10, 0xf6, 0x10, 0xf6, 0x00, 0x24, 0xb7, 0x23,
-    0x10, 0x00, 0x00, 0x01, 0x00, 0x00, 0x00, 0x00, 0x00, 0x00, 0x00, 0x01, 0x00, 0x00, 0x00, 0x01,
-    0x7f, 0x00, 0x00, 0x35, 0x00, 0x20, 0x00, 0x01, 0x0a, 0x01, 0x02, 0x03,
-];
-
-/// Nonce 2, [0]2001:db8::1, with the ITR-RLOC 127.0.0.53 and the bit D.
-const IPV6_REQUEST: [u8; 92] = [
-    0x84, 0x00, 0x00, 0x00, 0x60, 0x00, 0x00, 0x00, 0x00, 0x30, 0x11, 0x40, 0x00, 0x00, 0x00, 0x00,
-    0x00, 0x00, 0x00, 0x00, 0x00, 0x00, 0x00, 0x00, 0x00, 0x00, 0x00, 0x00, 0x20, 0x01, 0x0d, 0xb8,
-    0x00, 0x00, 0x00, 0x00, 0x00, 0x00, 0x00, 0x00, 0x00, 0x00, 0x00, 0x01, 0x10, 0xf6, 0x10, 0xf6,
-    0x00, 0x30, 0xf2, 0x72, 0x10, 0x00, 0x00, 0x01, 0x00, 0x00, 0x00, 0x00, 0x00, 0x00, 0x00, 0x02,
-    0x00, 0x00, 0x00, 0x01, 0x7f, 0x00, 0x00, 0x35, 0x00, 0x80, 0x00, 0x02, 0x20, 0x01, 0x0d, 0xb8,
-    0x00, 0x00, 0x00, 0x00, 0x00, 0x00, 0x00, 0x00, 0x00, 0x00, 0x00, 0x01,
-];
-
-/// An ITR's request for [0]10.2.0.1, with a source EID and no UDP checksum.
-const ITR_REQUEST: [u8; 64] = [
-    0x80, 0x00, 0x00, 0x00, 0x45, 0x00, 0x00, 0x3c, 0x00, 0x00, 0x00, 0x00, 0x40, 0x11, 0xf1, 0x72,
-    0x7f, 0x00, 0x00, 0x3c, 0x0a, 0x02, 0x00, 0x01, 0xc3, 0x50, 0x10, 0xf6, 0x00, 0x28, 0x00, 0x00,
-    0x10, 0x00, 0x00, 0x01, 0x11, 0x22, 0x33, 0x44, 0x55, 0x66, 0x77, 0x88, 0x00, 0x01, 0x0a, 0x05,
-    0x00, 0x01, 0x00, 0x01, 0x7f, 0x00, 0x00, 0x3c, 0x00, 0x20, 0x00, 0x01, 0x0a, 0x02, 0x00, 0x01,
-];
-
-/// An ITR's request for [0]10.2.0.1 in a form that we don't write: options behind the IPv4 header, the bit M and one
-/// more byte at the end, which makes the length odd, a source EID of instance 7, and ITR-RLOCs of two families.
-const OTHER_REQUEST: [u8; 99] = [
-    0x80, 0x00, 0x00, 0x00, 0x46, 0x00, 0x00, 0x5f, 0x00, 0x00, 0x00, 0x00, 0x40, 0x11, 0xee, 0x4e,
-    0x7f, 0x00, 0x00, 0x3c, 0x0a, 0x02, 0x00, 0x01, 0x01, 0x01, 0x01, 0x00, 0xc3, 0x50, 0x10, 0xf6,
-    0x00, 0x47, 0xce, 0x16, 0x14, 0x00, 0x01, 0x01, 0x11, 0x22, 0x33, 0x44, 0x55, 0x66, 0x77, 0x88,
-    0x40, 0x03, 0x00, 0x00, 0x02, 0x00, 0x00, 0x0a, 0x00, 0x00, 0x00, 0x07, 0x00, 0x01, 0x0a, 0x05,
-    0x00, 0x01, 0x00, 0x01, 0x7f, 0x00, 0x00, 0x3c, 0x00, 0x02, 0x20, 0x01, 0x0d, 0xb8, 0x00, 0x00,
-    0x00, 0x00, 0x00, 0x00, 0x00, 0x00, 0x00, 0x00, 0x00, 0x35, 0x00, 0x20, 0x00, 0x01, 0x0a, 0x02,
-    0x00, 0x01, 0xaa,
-];
 
 const RESOLVER: Locator = Locator::V4(0x7f00_0035);
 
@@ -50,7 +15,8 @@ fn identifier(address: Locator) -> Xeid {
 fn ipv4_request_is_written(rt: HostRuntime) -> Result<(), Fail> {
     let x = identifier(Locator::V4(0x0a01_0203));
     let bytes = write_request(rt.alloc(), 1, x, &[RESOLVER], true)?;
-    assert_eq!(rt; bytes.as_slice(), IPV4_REQUEST.as_slice());
+    let wanted = bytes_of(rt.alloc(), DDT_REQUEST)?;
+    assert_eq!(rt; bytes.as_slice(), wanted.as_slice());
     Ok(())
 }
 
@@ -58,13 +24,15 @@ fn ipv4_request_is_written(rt: HostRuntime) -> Result<(), Fail> {
 fn ipv6_request_is_written(rt: HostRuntime) -> Result<(), Fail> {
     let x = identifier(Locator::V6(0x2001_0db8_0000_0000_0000_0000_0000_0001));
     let bytes = write_request(rt.alloc(), 2, x, &[RESOLVER], true)?;
-    assert_eq!(rt; bytes.as_slice(), IPV6_REQUEST.as_slice());
+    let wanted = bytes_of(rt.alloc(), IPV6_REQUEST)?;
+    assert_eq!(rt; bytes.as_slice(), wanted.as_slice());
     Ok(())
 }
 
 #[test]
 fn ipv4_request_is_read(rt: HostRuntime) -> Result<(), Fail> {
-    let request = read_request(&IPV4_REQUEST)?;
+    let message = bytes_of(rt.alloc(), DDT_REQUEST)?;
+    let request = read_request(&message)?;
     assert_eq!(rt; request.nonce(), 1);
     assert!(rt; request.ddt());
     assert_eq!(rt; request.port(), 4342);
@@ -77,7 +45,8 @@ fn ipv4_request_is_read(rt: HostRuntime) -> Result<(), Fail> {
 
 #[test]
 fn ipv6_request_is_read(rt: HostRuntime) -> Result<(), Fail> {
-    let request = read_request(&IPV6_REQUEST)?;
+    let message = bytes_of(rt.alloc(), IPV6_REQUEST)?;
+    let request = read_request(&message)?;
     assert_eq!(rt; request.nonce(), 2);
     assert_eq!(rt;
         request.xeid(),
@@ -88,7 +57,8 @@ fn ipv6_request_is_read(rt: HostRuntime) -> Result<(), Fail> {
 
 #[test]
 fn request_of_an_itr_is_read(rt: HostRuntime) -> Result<(), Fail> {
-    let request = read_request(&ITR_REQUEST)?;
+    let message = bytes_of(rt.alloc(), ITR_REQUEST)?;
+    let request = read_request(&message)?;
     assert_eq!(rt; request.nonce(), 0x1122_3344_5566_7788);
     assert!(rt; !request.ddt());
     assert_eq!(rt; request.port(), 50000);
@@ -99,7 +69,8 @@ fn request_of_an_itr_is_read(rt: HostRuntime) -> Result<(), Fail> {
 
 #[test]
 fn a_request_in_another_form_is_read(rt: HostRuntime) -> Result<(), Fail> {
-    let request = read_request(&OTHER_REQUEST)?;
+    let message = bytes_of(rt.alloc(), ITR_REQUEST_IN_ANOTHER_FORM)?;
+    let request = read_request(&message)?;
     assert_eq!(rt; request.xeid(), identifier(Locator::V4(0x0a02_0001)));
     let mut rlocs = request.itr_rlocs();
     assert_eq!(rt; rlocs.next(), Some(Locator::V4(0x7f00_003c)));
@@ -112,51 +83,47 @@ fn a_request_in_another_form_is_read(rt: HostRuntime) -> Result<(), Fail> {
         ([(25, 2), (1, 0)], RequestFault::IpChecksum),
         ([(54, 0x0a), (34, 0xc4)], RequestFault::Short),
     ] {
-        let bytes = changed(OTHER_REQUEST, &changes);
+        let bytes = changed(bytes_of(rt.alloc(), ITR_REQUEST_IN_ANOTHER_FORM)?, &changes);
         assert_eq!(rt; read_request(&bytes).err(), Some(fault));
     }
     Ok(())
 }
 
-/// The datagram with other bytes at these places.
-fn changed<const N: usize>(mut bytes: [u8; N], changes: &[(usize, u8)]) -> [u8; N] {
-    for (at, byte) in changes {
-        if *at < N {
-            bytes[*at] = *byte;
-        }
-    }
-    bytes
+/// The DDT Map-Request without a checksum of UDP, so that bytes behind it can be changed.
+fn without_a_sum(alloc: Global, changes: &[(usize, u8)]) -> Result<Vec<u8>, Fail> {
+    let request = changed(bytes_of(alloc, DDT_REQUEST)?, &[(30, 0), (31, 0)]);
+    Ok(changed(request, changes))
 }
 
-/// So many bytes from the front.
-fn front(bytes: &[u8], len: usize) -> &[u8] {
-    &bytes[..len.min(bytes.len())]
+/// The one for an IPv6 address in the same way.
+fn ipv6_without_a_sum(alloc: Global, changes: &[(usize, u8)]) -> Result<Vec<u8>, Fail> {
+    let request = changed(bytes_of(alloc, IPV6_REQUEST)?, &[(50, 0), (51, 0)]);
+    Ok(changed(request, changes))
 }
 
-/// The first datagram without a checksum of UDP, so that bytes behind it can be changed.
-fn without_a_sum(changes: &[(usize, u8)]) -> [u8; 60] {
-    changed(changed(IPV4_REQUEST, &[(30, 0), (31, 0)]), changes)
-}
-
-/// The second one in the same way.
-fn ipv6_without_a_sum(changes: &[(usize, u8)]) -> [u8; 92] {
-    changed(changed(IPV6_REQUEST, &[(50, 0), (51, 0)]), changes)
+/// A request for a range of instances, of no length.
+fn request_of_a_range(alloc: Global) -> Result<Vec<u8>, Fail> {
+    let range = [(74, 0x40), (75, 3), (78, 2), (79, 0), (81, 6)];
+    ipv6_without_a_sum(alloc, &range)
 }
 
 #[test]
-fn every_proper_prefix_of_a_request_is_refused(rt: HostRuntime) {
+fn every_proper_prefix_of_a_request_is_refused(rt: HostRuntime) -> Result<(), Fail> {
+    let ddt = bytes_of(rt.alloc(), DDT_REQUEST)?;
+    let itr = bytes_of(rt.alloc(), ITR_REQUEST)?;
+    let ipv6 = bytes_of(rt.alloc(), IPV6_REQUEST)?;
     for len in 0..60 {
         let fault = if len < 24 {
             RequestFault::Short
         } else {
             RequestFault::IpLength
         };
-        assert_eq!(rt; read_request(front(&IPV4_REQUEST, len)).err(), Some(fault));
-        assert_eq!(rt; read_request(front(&ITR_REQUEST, len)).err(), Some(fault));
+        assert_eq!(rt; read_request(front(&ddt, len)).err(), Some(fault));
+        assert_eq!(rt; read_request(front(&itr, len)).err(), Some(fault));
     }
     for len in 60..64 {
         assert_eq!(rt;
-            read_request(front(&ITR_REQUEST, len)).err(),
+            read_request(front(&itr, len)).err(),
             Some(RequestFault::IpLength)
         );
     }
@@ -166,12 +133,13 @@ fn every_proper_prefix_of_a_request_is_refused(rt: HostRuntime) {
         } else {
             RequestFault::IpLength
         };
-        assert_eq!(rt; read_request(front(&IPV6_REQUEST, len)).err(), Some(fault));
+        assert_eq!(rt; read_request(front(&ipv6, len)).err(), Some(fault));
     }
+    Ok(())
 }
 
 #[test]
-fn each_fault_of_the_headers_has_a_datagram(rt: HostRuntime) {
+fn each_fault_of_the_headers_has_a_datagram(rt: HostRuntime) -> Result<(), Fail> {
     assert_eq!(rt; read_request(&[]).err(), Some(RequestFault::Short));
     for (changes, fault) in [
         ([(0, 0x64), (1, 0)], RequestFault::MessageType),
@@ -187,7 +155,7 @@ fn each_fault_of_the_headers_has_a_datagram(rt: HostRuntime) {
         ([(31, 0x24), (5, 0)], RequestFault::UdpChecksum),
         ([(27, 0xf7), (31, 0x22)], RequestFault::Port),
     ] {
-        let bytes = changed(IPV4_REQUEST, &changes);
+        let bytes = changed(bytes_of(rt.alloc(), DDT_REQUEST)?, &changes);
         assert_eq!(rt; read_request(&bytes).err(), Some(fault));
     }
     for (changes, fault) in [
@@ -196,13 +164,14 @@ fn each_fault_of_the_headers_has_a_datagram(rt: HostRuntime) {
         ([(49, 0x31)], RequestFault::UdpLength),
         ([(51, 0x73)], RequestFault::UdpChecksum),
     ] {
-        let bytes = changed(IPV6_REQUEST, &changes);
+        let bytes = changed(bytes_of(rt.alloc(), IPV6_REQUEST)?, &changes);
         assert_eq!(rt; read_request(&bytes).err(), Some(fault));
     }
+    Ok(())
 }
 
 #[test]
-fn each_fault_of_the_map_request_has_a_datagram(rt: HostRuntime) {
+fn each_fault_of_the_map_request_has_a_datagram(rt: HostRuntime) -> Result<(), Fail> {
     for (changes, fault) in [
         ([(55, 2)], RequestFault::Short),
         ([(45, 2)], RequestFault::Short),
@@ -215,15 +184,14 @@ fn each_fault_of_the_map_request_has_a_datagram(rt: HostRuntime) {
         ([(53, 31)], RequestFault::NotHost),
         ([(53, 33)], RequestFault::NotHost),
     ] {
-        let bytes = without_a_sum(&changes);
+        let bytes = without_a_sum(rt.alloc(), &changes)?;
         assert_eq!(rt; read_request(&bytes).err(), Some(fault));
     }
+    Ok(())
 }
 
 #[test]
-fn each_fault_of_an_instance_has_a_datagram(rt: HostRuntime) {
-    let range = [(74, 0x40), (75, 3), (78, 2), (79, 0), (81, 6)];
-    let instance = ipv6_without_a_sum(&range);
+fn each_fault_of_an_instance_has_a_datagram(rt: HostRuntime) -> Result<(), Fail> {
     for (changes, fault) in [
         // A range of no length, of one above 32, with bits past its length.
         ([(81, 6)], RequestFault::NotHost),
@@ -234,16 +202,17 @@ fn each_fault_of_an_instance_has_a_datagram(rt: HostRuntime) {
         ([(87, 3)], RequestFault::Lcaf),
         ([(81, 10)], RequestFault::Lcaf),
     ] {
-        let bytes = changed(instance, &changes);
+        let bytes = changed(request_of_a_range(rt.alloc())?, &changes);
         assert_eq!(rt; read_request(&bytes).err(), Some(fault));
     }
-    let half = changed(instance, &[(87, 2), (81, 22)]);
+    let half = changed(request_of_a_range(rt.alloc())?, &[(87, 2), (81, 22)]);
     assert_eq!(rt; read_request(&half).err(), Some(RequestFault::Short));
+    Ok(())
 }
 
 #[test]
 fn bytes_may_stand_behind_the_eid_with_the_bit_m(rt: HostRuntime) -> Result<(), Fail> {
-    let plain = ipv6_without_a_sum(&[(73, 32), (75, 1)]);
+    let plain = ipv6_without_a_sum(rt.alloc(), &[(73, 32), (75, 1)])?;
     assert_eq!(rt; read_request(&plain).err(), Some(RequestFault::Trailing));
     let with_map = changed(plain, &[(52, 0x14)]);
     let request = read_request(&with_map)?;
@@ -253,13 +222,16 @@ fn bytes_may_stand_behind_the_eid_with_the_bit_m(rt: HostRuntime) -> Result<(), 
 
 #[test]
 fn a_checksum_of_zero_counts_as_absent(rt: HostRuntime) -> Result<(), Fail> {
-    assert_eq!(rt; read_request(&without_a_sum(&[]))?.nonce(), 1);
-    assert_eq!(rt; read_request(&ipv6_without_a_sum(&[]))?.nonce(), 2);
+    assert_eq!(rt; read_request(&without_a_sum(rt.alloc(), &[])?)?.nonce(), 1);
+    assert_eq!(rt;
+        read_request(&ipv6_without_a_sum(rt.alloc(), &[])?)?.nonce(),
+        2
+    );
     Ok(())
 }
 
 #[test]
-fn the_first_fault_of_the_headers_is_named(rt: HostRuntime) {
+fn the_first_fault_of_the_headers_is_named(rt: HostRuntime) -> Result<(), Fail> {
     for (changes, fault) in [
         ([(0, 0x64), (4, 0x55)], RequestFault::MessageType),
         ([(0, 0x6c), (4, 0x55)], RequestFault::MessageType),
@@ -272,20 +244,27 @@ fn the_first_fault_of_the_headers_is_named(rt: HostRuntime) {
         ([(29, 0x25), (31, 0x24)], RequestFault::UdpLength),
         ([(31, 0x24), (27, 0xf7)], RequestFault::UdpChecksum),
     ] {
-        let bytes = changed(IPV4_REQUEST, &changes);
+        let bytes = changed(bytes_of(rt.alloc(), DDT_REQUEST)?, &changes);
         assert_eq!(rt; read_request(&bytes).err(), Some(fault));
     }
     // TCP in a fragment, and a fragment whose UDP length is wrong.
-    let tcp = changed(IPV4_REQUEST, &[(13, 6), (10, 0x20), (14, 0xcf), (15, 0x87)]);
+    let tcp = changed(
+        bytes_of(rt.alloc(), DDT_REQUEST)?,
+        &[(13, 6), (10, 0x20), (14, 0xcf), (15, 0x87)],
+    );
     assert_eq!(rt; read_request(&tcp).err(), Some(RequestFault::NotUdp));
-    let fragment = changed(IPV4_REQUEST, &[(10, 0x20), (14, 0xcf), (29, 0x25)]);
+    let fragment = changed(
+        bytes_of(rt.alloc(), DDT_REQUEST)?,
+        &[(10, 0x20), (14, 0xcf), (29, 0x25)],
+    );
     assert_eq!(rt; read_request(&fragment).err(), Some(RequestFault::Fragment));
-    let ipv6 = changed(IPV6_REQUEST, &[(9, 0x31), (10, 6)]);
+    let ipv6 = changed(bytes_of(rt.alloc(), IPV6_REQUEST)?, &[(9, 0x31), (10, 6)]);
     assert_eq!(rt; read_request(&ipv6).err(), Some(RequestFault::IpLength));
+    Ok(())
 }
 
 #[test]
-fn a_wrong_field_is_named_before_the_end(rt: HostRuntime) {
+fn a_wrong_field_is_named_before_the_end(rt: HostRuntime) -> Result<(), Fail> {
     for (bytes, fault) in [
         ([0x64, 0, 0, 0, 0x45], RequestFault::MessageType),
         ([0x8c, 0, 0, 0, 0x45], RequestFault::Security),
@@ -303,15 +282,16 @@ fn a_wrong_field_is_named_before_the_end(rt: HostRuntime) {
         Some(RequestFault::Security)
     );
     // A Map-Request of 11 bytes, whose type is wrong: the lengths and the header's sum fit.
-    let early = without_a_sum(&[(7, 0x27), (15, 0x8d), (29, 0x13), (32, 0x20)]);
+    let early = without_a_sum(rt.alloc(), &[(7, 0x27), (15, 0x8d), (29, 0x13), (32, 0x20)])?;
     assert_eq!(rt;
         read_request(front(&early, 43)).err(),
         Some(RequestFault::Short)
     );
+    Ok(())
 }
 
 #[test]
-fn the_first_fault_behind_the_headers_is_named(rt: HostRuntime) {
+fn the_first_fault_behind_the_headers_is_named(rt: HostRuntime) -> Result<(), Fail> {
     for (changes, fault) in [
         ([(27, 0xf7), (32, 0x20)], RequestFault::Port),
         ([(32, 0x20), (35, 2)], RequestFault::RequestType),
@@ -324,12 +304,13 @@ fn the_first_fault_behind_the_headers_is_named(rt: HostRuntime) {
         ([(55, 3), (53, 31)], RequestFault::EidFamily),
         ([(55, 2), (53, 31)], RequestFault::Short),
     ] {
-        let bytes = without_a_sum(&changes);
+        let bytes = without_a_sum(rt.alloc(), &changes)?;
         assert_eq!(rt; read_request(&bytes).err(), Some(fault));
     }
     // A mask length that is too short, and bytes behind the EID.
-    let loose = ipv6_without_a_sum(&[(73, 31), (75, 1)]);
+    let loose = ipv6_without_a_sum(rt.alloc(), &[(73, 31), (75, 1)])?;
     assert_eq!(rt; read_request(&loose).err(), Some(RequestFault::NotHost));
+    Ok(())
 }
 
 #[test]

@@ -1,29 +1,16 @@
 //! The check and the plain bodies name one fault, on random registers that break each rule many times.
 
-ghost use Rattle.std.specs.Prelude.{◌<◌};
+ghost use Rattle.std.specs.Prelude.{◌<◌, length};
 
 use crate::checking::check;
 use crate::fault::{Fault, Rule};
 use crate::tests::slow::{RULES, first_fault};
+use ddt_examples::registers::{CAMPUS, COLUMNS};
 use ddt_register::{Register, read_register};
 use std::alloc::{AllocError, Global};
 use std::test::*;
 
-const COLUMNS: &str = "kind,prefix,group,addresses\n";
-
-/// An accepted register.
-const CAMPUS: [&str; 8] = [
-    "group-node,,root,127.0.0.1\n",
-    "group-node,,ten,127.0.0.10\n",
-    "group-ms,,east,127.0.1.1 127.0.1.2\n",
-    "node,*,root,\n",
-    "node,[0]10.0.0.0/8,ten,\n",
-    "ms,[0]10.1.0.0/16,east,\n",
-    "site,[0]10.1.2.0/24,,127.0.2.1\n",
-    "site,[0]10.1.4.0/24,,\n",
-];
-
-/// Rows that may stand beside those, and rows that may not.
+/// Rows that may stand beside those of the campus, and rows that may not.
 const MORE: [&str; 30] = [
     "node,*,root,\n",
     "ms,*,east,\n",
@@ -76,13 +63,15 @@ impl Dice {
     }
 }
 
-/// The campus from a random row on, with some rows left out and some others between.
-fn random_text(alloc: Global, dice: &mut Dice) -> Result<String, AllocError> {
+/// A register of these rows from a random one on, with some left out and some others between.
+fn random_text(alloc: Global, dice: &mut Dice, rows: &[&str]) -> Result<String, AllocError>
+    requires { 0 < length rows.now }
+{
     let mut text = String::from_str(alloc, COLUMNS)?;
-    let first = dice.roll(CAMPUS.len());
-    for n in 0..CAMPUS.len() {
+    let (later, sooner) = rows.split_at(dice.roll(rows.len()));
+    for row in sooner.iter().chain(later) {
         if dice.roll(40) > 0 {
-            text.push_str(CAMPUS[(first + n) % CAMPUS.len()])?;
+            text.push_str(row)?;
         }
         if dice.roll(5) == 0 {
             text.push_str(MORE[dice.roll(MORE.len())])?;
@@ -108,8 +97,10 @@ fn times(faults: &[Option<Rule>], rule: Option<Rule>) -> usize {
 fn fast_and_plain_bodies_agree(rt: HostRuntime) -> Result<(), Fail> {
     let mut dice = Dice { state: 8111 };
     let mut rules = Vec::new(rt.alloc());
+    let rows: Vec<&str> = CAMPUS.split_inclusive('\n').skip(1).collect(rt.alloc())?;
+    assert_eq!(rt; rows.len(), 8, "the rows of the campus");
     for n in 0..3000 {
-        let text = random_text(rt.alloc(), &mut dice)?;
+        let text = random_text(rt.alloc(), &mut dice, &rows)?;
         let register = read_register(rt.alloc(), text.as_bytes())?;
         let plain = first_fault(&register);
         let (fast, again) = verdicts(register);

@@ -1,21 +1,11 @@
 //! Sites inside sites: the longest decides, and a site that isn't registered is answered in parts. And the root.
 
 use crate::{Accepted, assign, check, says};
+use ddt_examples::registers::CAMPUS;
 use ddt_path::{Action, Form, Locator, Outcome, Prefix, Xeid};
 use ddt_register::read_register;
 use std::alloc::Global;
 use std::test::*;
-
-const CAMPUS: &str = "kind,prefix,group,addresses
-group-node,,root,127.0.0.1
-group-node,,ten,127.0.0.10
-group-ms,,east,127.0.1.1 127.0.1.2
-node,*,root,
-node,[0]10.0.0.0/8,ten,
-ms,[0]10.1.0.0/16,east,
-site,[0]10.1.2.0/24,,127.0.2.1
-site,[0]10.1.4.0/24,,
-";
 
 const EAST: [Locator; 2] = [Locator::V4(0x7f00_0101), Locator::V4(0x7f00_0102)];
 

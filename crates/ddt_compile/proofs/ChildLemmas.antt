@@ -71,7 +71,7 @@ longest_child r accepted p x inside = go (next_zone r (length p.prefix) x) refl
     go (Some c) e = child_of_next r accepted p c x inside e ∙ sym e
 
 -- each zone below lies in a child
-child_above : (r : Register) (p z : Zone) → IsIn z r.zones → is_strictly_below z.prefix p.prefix ≡ true → (c : Zone) × IsIn c r.zones × (is_direct_child r p c ≡ true) × (covers c.prefix z.prefix ≡ true)
+pub child_above : (r : Register) (p z : Zone) → IsIn z r.zones → is_strictly_below z.prefix p.prefix ≡ true → (c : Zone) × IsIn c r.zones × (is_direct_child r p c ≡ true) × (covers c.prefix z.prefix ≡ true)
 child_above r p z k below = go (next_zone r (length p.prefix) z.prefix) refl
   where
     go : (found : Option Zone) → next_zone r (length p.prefix) z.prefix ≡ found → (c : Zone) × IsIn c r.zones × (is_direct_child r p c ≡ true) × (covers c.prefix z.prefix ≡ true)

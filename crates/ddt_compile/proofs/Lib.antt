@@ -7,3 +7,4 @@ pub mod HonestLemmas
 pub mod RoomLemmas
 pub mod NoTwoLemmas
 pub mod ContentLemmas
+pub mod SortedLemmas

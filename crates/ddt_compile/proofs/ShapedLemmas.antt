@@ -1,10 +1,9 @@
 -- The configuration of a group of an accepted register has the shape that a configuration keeps.
-use Rattle.std.proofs.Common.{◌≡◌, ◌≢◌, ℕ, ◌<◌, ◌≤◌, Bool, true, false, not, ◌&&◌, ◌||◌, ◌==◌, List, [], ◌∷◌, length, Option, Some, None, refl, sym, ap, ◌∙◌, arith, nat_le, le-leb, leb-true}
+use Rattle.std.proofs.Common.{◌≡◌, ◌≢◌, ℕ, ◌<◌, ◌≤◌, Bool, true, false, not, ◌&&◌, ◌||◌, ◌==◌, List, [], length, Option, Some, None, refl, sym, ap, ◌∙◌, arith, nat_le, le-leb, leb-true}
 use Rattle.std.specs.Prelude.{nat_lt, is_some}
 use Rattle.std.specs.List.{list_any}
 use Rattle.std.specs.Option.{option_map_or}
-use Rattle.std.specs.Cmp.Lexicographic.{pointwise}
-use Rattle.std.proofs.lemmas.Bool.{not-false, false≢true, true≢false, and_parts, or_parts, lt-ltb, ltb-false, eqb-true, eqb-false}
+use Rattle.std.proofs.lemmas.Bool.{not-false, false≢true, true≢false, and_parts, or_parts, ltb-false, eqb-false}
 use Rattle.ddt_path.specs.declared.locator.Locator.{Locator}
 use Rattle.ddt_path.specs.declared.record.Role.{Role}
 use Rattle.ddt_path.specs.declared.record.Role.TheVariants.{Node, Ms}
@@ -14,11 +13,10 @@ use Rattle.ddt_register.specs.declared.zone.Zone.{Zone}
 use Rattle.ddt_register.specs.declared.site.Site.{Site}
 use Rattle.ddt_register.specs.declared.group.Group.{Group}
 use Rattle.ddt_register.specs.declared.register.Register.{Register}
-use Rattle.ddt_register.specs.Rows.{rise, zone_rows, site_rows, group_rows}
 use Rattle.ddt_check.specs.declared.fault.Rule.TheVariants as rules
 use Rattle.ddt_path.specs.Names.{is_same_name}
-use Rattle.ddt_check.specs.Zones.{is_same_role, group_named, locators_of}
-use Rattle.ddt_check.specs.Rules.{IsAccepted, is_duplicate_zone, is_of_unknown_group, is_of_other_role, has_wrong_locators, has_too_many_etrs, is_duplicate_group}
+use Rattle.ddt_check.specs.Zones.{group_named, locators_of}
+use Rattle.ddt_check.specs.Rules.{IsAccepted, is_of_unknown_group, has_wrong_locators}
 use Rattle.ddt_config.specs.declared.config.Authority.{Authority}
 use Rattle.ddt_config.specs.Shaped.{fits, is_server_set, is_child_of, is_site_of, is_content_of, is_authority_of, is_shaped}
 use Rattle.ddt_compile.specs.GroupConfig.{is_between, is_direct_child, child_of, entry_of, content_of, authority_of, authorities_of}

@@ -9,13 +9,15 @@ ghost use Rattle.ddt_register.specs.declared.zone.Zone.{Zone as AZone};
 ghost use Rattle.ddt_compile.specs.GroupConfig.{children_of};
 ghost use Rattle.ddt_compile.specs.Lists.{list_at};
 ghost use Rattle.ddt_compile.specs.Nearest.{HasPrefixesOf};
+ghost use Rattle.ddt_compile.specs.Sorted.{AreSortedOf, HasLocatorsOf};
 
+use crate::below::zones_directly_below;
 use crate::lists::append;
 use crate::locators::locators_by_name;
 use crate::nearest::nearest;
 use ddt_check::Accepted;
 use ddt_config::Child;
-use ddt_path::{LocatorSet, Name, Prefix};
+use ddt_path::{Listed, LocatorSet, Name, Prefix};
 use ddt_register::Zone;
 use std::alloc::{AllocError, Global};
 use std::collections::{BTreeMap, BTreeSet};
@@ -37,6 +39,26 @@ pub fn children_by_zone(
         }
     }
     Ok(lists)
+}
+
+/// The children of a zone, in the order of their rows.
+pub fn children_of_zone(
+    alloc: Global,
+    accepted: &Accepted,
+    sets: &BTreeMap<Name, LocatorSet>,
+    sorted: &[Zone],
+    zone: &Zone,
+) -> Result<Listed<Child>, AllocError>
+    requires sets { HasLocatorsOf sets.now accepted.now }
+    requires sorted { AreSortedOf accepted.now sorted.now }
+    ensures { IfOk result (λ children. children ≡ children_of accepted.now zone.now) }
+{
+    let below = zones_directly_below(alloc, sorted, zone)?;
+    let mut children = Vec::with_capacity(alloc, below.len())?;
+    for zone in &below {
+        children.push(child(sets, zone))?;
+    }
+    Ok(Listed::of(children))
 }
 
 /// The referral to a zone: its kind, and the locators of its group.

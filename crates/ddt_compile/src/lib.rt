@@ -3,6 +3,7 @@
 //! In reading order: `compiling`, `children`, `sites`, `nearest`, `lists`, `locators`, `laws`.
 #![tactic(auto)]
 
+mod below;
 mod children;
 mod compiling;
 mod laws;

@@ -7,7 +7,7 @@ use Rattle.ddt_config.specs.Shaped.{is_shaped}
 use Rattle.ddt_config.specs.Table.{Outline, outline}
 use Rattle.ddt_compile.specs.GroupConfig.{group_config}
 use Rattle.ddt_compile.specs.Laws.{IsHonestConfig, HasRoom}
-use Rattle.ddt_path.proofs.MemberLemmas.{IsIn, found_in}
+use Rattle.ddt_path.proofs.MemberLemmas.{IsIn, found_in, contained}
 use Rattle.ddt_compile.proofs.ShapedLemmas.{group_shaped}
 use Rattle.ddt_compile.proofs.HonestLemmas.{honest_at}
 use Rattle.ddt_compile.proofs.RoomLemmas.{group_has_room}
@@ -15,6 +15,13 @@ use Rattle.ddt_compile.proofs.compiling.compile_group.Goals as goal
 
 found_here : (r : Register) (name : List _) (groups : List Group) (g : Group) → groups ≡ r.groups → Some g ≡ find (λ (h : Group). is_same_name h.name name) groups → IsIn g r.groups
 found_here r name groups g same found = subst (IsIn g) same (found_in (λ (h : Group). is_same_name h.name name) groups g (sym found))
+
+pub authorities_of_group-requires : goal.authorities_of_group-requires
+authorities_of_group-requires c =
+    let r = c.args.accepted.now in
+    let g = c.in-Some.group.now in
+    let same = c.as_slice.ensures ∙ ap (λ (r : Register). r.groups) c.register.ensures.register in
+    contained r.groups g (found_here r c.args.name c.as_slice.result.now g same c.in-Some.ensures)
 
 same_outline : (a b : Outline) → a.name ≡ b.name → a.role ≡ b.role → a.locators ≡ b.locators → a.authorities ≡ b.authorities → a ≡ b
 same_outline a b n k l z = λ i. record { name = n i; role = k i; locators = l i; authorities = z i }

@@ -1,11 +1,10 @@
-use Rattle.std.proofs.Common.{ℕ, ◌+◌, ◌≤◌, ◌≡◌, List, length, map, ap, subst, ◌∙◌}
+use Rattle.std.proofs.Common.{ℕ, ◌+◌, ◌≤◌, List, length, map, ap, subst, ◌∙◌}
 use Rattle.std.specs.List.{filter}
 use Rattle.std.specs.Ordering.{nat_cmp}
 use Rattle.std.specs.Cmp.Lexicographic.{slice_cmp}
 use Rattle.std.specs.BTreeMap.{BTreeMap}
 use Rattle.std.specs.Global.{Vec}
 use Rattle.std.proofs.lemmas.List.{take_all}
-use Rattle.ddt_path.specs.declared.locator.Locator.{Locator}
 use Rattle.ddt_register.specs.declared.site.Site.{Site}
 use Rattle.ddt_register.specs.declared.register.Register.{Register}
 use Rattle.ddt_config.specs.declared.config.SiteEntry.{SiteEntry}
@@ -20,11 +19,11 @@ use Rattle.ddt_compile.proofs.GrowingLemmas.{grown, none_kept}
 use Rattle.ddt_compile.proofs.sites.sites_by_zone.Goals as goal
 use Rattle.ddt_compile.proofs.sites.sites_by_zone.Goals.{in-Some+in_ok-append, in_default}
 
-pub of_few-etrs-requires : goal.of_few-etrs-requires
-of_few-etrs-requires c =
+pub entry-requires : goal.entry-requires
+entry-requires c =
     let same = c.as_slice-site-items.ensures ∙ ap (λ (r : Register). r.sites) c.register.ensures.register in
     let here = in_at c.as_slice-site-items.result.now c.loop-site.site-index c.site-item.result c.loop-site-test.true c.site-item.is in
-    rw c.as_slice.ensures (few_etrs c.args.accepted.now c.register.ensures.accepted c.site-item.result (subst (IsIn c.site-item.result) same here))
+    few_etrs c.args.accepted.now c.register.ensures.accepted c.site-item.result (subst (IsIn c.site-item.result) same here)
 
 pub loop-site-preserved : goal.loop-site-preserved
 loop-site-preserved c = λ z k ms.
@@ -37,10 +36,8 @@ loop-site-preserved c = λ z k ms.
       | in-Some+in_ok-append w ↦
           let own = w.in-Some.zone in
           let n = subst (λ (n : ℕ). IsAbove prefixes x.prefix (n + 1) own × ((q : List ℕ) → IsAbove prefixes x.prefix (n + 1) q → length q ≤ length own)) c.len.ensures.digits w.in-Some.ensures in
-          let entry : SiteEntry = record { prefix = x.prefix; etrs = w.of_few-etrs.result } in
-          let made : entry ≡ entry_of x = ap (λ (etrs : List Locator). let e : SiteEntry = record { prefix = x.prefix; etrs = etrs } in e) (w.of_few-etrs.ensures ∙ w.as_slice.ensures) in
           ap (λ (m : BTreeMap (List ℕ) (Vec SiteEntry)). list_at (slice_cmp nat_cmp) m z.prefix) w.lists-is
-          ∙ grown entry_of (is_site_in z) sites i x c.loop-site-test.true c.site-item.is c.loop-site.lists w.append.new.lists own z.prefix entry made
+          ∙ grown entry_of (is_site_in z) sites i x c.loop-site-test.true c.site-item.is c.loop-site.lists w.append.new.lists own z.prefix w.entry.result w.entry.ensures
           (holder_nearest prefixes r c.requires c.register.ensures.accepted z x k ms own n.0 n.1) w.in_ok-append.ensures.here w.in_ok-append.ensures.elsewhere (c.loop-site.invariant z k ms)
       | in_default w ↦
           let none = subst (λ (n : ℕ). (q : List ℕ) → IsAbove prefixes x.prefix (n + 1) q → ⊥) c.len.ensures.digits w.in_default.ensures in

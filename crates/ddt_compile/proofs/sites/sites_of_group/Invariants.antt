@@ -1,0 +1,16 @@
+use Rattle.std.proofs.Common.{◌≡◌, true, map, take}
+use Rattle.std.specs.List.{filter}
+use Rattle.std.specs.Ordering.{nat_cmp}
+use Rattle.std.specs.Cmp.Lexicographic.{slice_cmp}
+use Rattle.ddt_path.specs.declared.record.Role.TheVariants.{Ms}
+use Rattle.ddt_register.specs.declared.zone.Zone.{Zone}
+use Rattle.ddt_compile.specs.GroupConfig.{entry_of}
+use Rattle.ddt_check.specs.Zones.{is_site_in, is_served_by}
+use Rattle.ddt_compile.specs.Lists.{list_at}
+use Rattle.ddt_path.proofs.MemberLemmas.{IsIn}
+use Rattle.ddt_compile.proofs.sites.sites_of_group.Given as goal
+
+abbrev pub invariant-loop-site : goal.invariant-loop-site
+invariant-loop-site l =
+    (z : Zone) → IsIn z l.accepted.zones → z.kind ≡ Ms → is_served_by l.group z ≡ true
+    → list_at (slice_cmp nat_cmp) l.lists z.prefix ≡ map entry_of (filter (is_site_in z) (take l.site-index l.site-items))

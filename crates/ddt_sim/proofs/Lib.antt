@@ -6,3 +6,5 @@ pub mod TurnLemmas
 pub mod ExchangeLemmas
 pub mod FollowLemmas
 pub mod AskLemmas
+pub mod TrailLemmas
+pub mod ShortLemmas

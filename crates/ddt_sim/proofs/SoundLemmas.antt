@@ -133,7 +133,7 @@ module _ (r : Register) (s : State) (i : IsSound r s) where
 
 module _ (r : Register) (laws : KeepsLaws r) (s : State) (o : IsInOrder s) (i : IsSound r s) where
   -- the servers with which a lookup begins are those of a zone of its identifier
-  begun : (x : Xeid) (p : List ℕ) (e : Entry) → IsFound s.known (xeid_path x) p e → answer_of p e ≡ None → IsSoundLookup r (opening x e.servers (start_at p))
+  pub begun : (x : Xeid) (p : List ℕ) (e : Entry) → IsFound s.known (xeid_path x) p e → answer_of p e ≡ None → IsSoundLookup r (opening x e.servers (start_at p))
   begun x p e (inr root) free =
       let z = laws.root in
       record { zone = z.0; is_zone = z.1.is_zone; covers_x = rw z.1.is_everything refl; servers = ap (λ (f : Entry). f.servers) root.entry ∙ i.root ∙ sym z.1.its_servers; saved = inl refl; kept = inl refl }

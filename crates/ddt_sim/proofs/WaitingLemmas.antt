@@ -26,7 +26,7 @@ waits_on now x s t d w =
     record { lookup = w.lookup; is_pending = w.is_pending; its_x = w.its_x; to = w.to; bytes = w.bytes; deadline = w.deadline ∙ ap (λ n. n + 2000) (sym same); time = later }
 
 -- one that is lodged waits
-lodged_waits : (now : ℕ) (x : Xeid) (s : State) (t : ℕ) (l : Pending) → now ≤ s.known.time → l.x ≡ x → Waits now x (lodged s t l) t (request s l)
+abbrev pub lodged_waits : (now : ℕ) (x : Xeid) (s : State) (t : ℕ) (l : Pending) → now ≤ s.known.time → l.x ≡ x → Waits now x (lodged s t l) t (request s l)
 lodged_waits now x s t l le same = record {
   lookup = numbered s l;
   is_pending = get-insert_same s.pending t (numbered s l);

@@ -1,8 +1,10 @@
 -- What a lookup over honest servers of a register ends in: what the register assigns (RFC 8111, section 7.3).
-use Rattle.std.specs.Prelude.{ℕ, ◌≡◌, ◌≤◌, ◌+◌, ◌*◌, length, Ok}
+use Rattle.std.specs.Prelude.{ℕ, ◌≡◌, ◌≤◌, ◌+◌, ◌*◌, List, length, Ok}
+use Rattle.std.specs.List.{filter}
 use Rattle.std.specs.FinMap.{len}
 use Rattle.ddt_path.specs.declared.locator.Locator.{Locator}
 use Rattle.ddt_path.specs.declared.xeid.Xeid.{Xeid}
+use Rattle.ddt_path.specs.Covers.{covers}
 use Rattle.ddt_path.specs.Path.{xeid_path}
 use Rattle.ddt_register.specs.declared.register.Register.{Register}
 use Rattle.ddt_check.specs.Rules.{IsAccepted}
@@ -71,3 +73,11 @@ IsRightError old new Memory = Unit {0}
 -- how many hops a lookup has at most, whatever the servers say
 abbrev pub most_hops : Xeid → ℕ
 most_hops x = 16 * (length (xeid_path x) + 2)
+
+-- how many zones of a register cover an identifier
+abbrev pub zones_over : Register → List ℕ → ℕ
+zones_over r x = length (filter (λ z. covers z.prefix x) r.zones)
+
+-- how many hops it has at most over honest servers: one for each of these zones, and for one zone each of its 8 servers
+abbrev pub most_honest_hops : Register → Xeid → ℕ
+most_honest_hops r x = zones_over r (xeid_path x) + 7

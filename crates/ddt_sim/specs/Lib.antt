@@ -5,3 +5,4 @@ pub mod Waiting
 pub mod Lookup
 pub mod Headline
 pub mod Reply
+pub mod Trail

@@ -2,6 +2,7 @@
 
 ghost use Rattle.ddt_sim.specs.Sound.{NewResolversAreSound, StepsKeepSoundness, TimeKeepsSoundness, CancellingKeepsSoundness};
 ghost use Rattle.ddt_sim.specs.Reply.{RequestsAreUnderstood};
+ghost use Rattle.ddt_sim.specs.Trail.{HonestTrailsAreShort};
 
 use ddt_check::{
     each_identifier_has_a_zone, honest_servers_lead_to_the_assignment,
@@ -34,5 +35,16 @@ pub(crate) fn requests_are_understood()
     a_step_keeps_a_resolver_sound();
     honest_servers_lead_to_the_assignment();
     request_laws();
+    referral_laws();
+}
+
+/// Over honest servers of an accepted register a lookup takes at most 7 hops more than there are zones that cover its
+/// identifier: each referral leads to a longer zone, and only the servers of the last one are all asked.
+pub(crate) fn honest_trails_are_short()
+    ensures { HonestTrailsAreShort }
+{
+    each_identifier_has_a_zone();
+    honest_servers_lead_to_the_assignment();
+    negatives_hold_of_all_that_they_cover();
     referral_laws();
 }

@@ -18,11 +18,12 @@ ghost use Rattle.ddt_wire.specs.Address.{IsAddress};
 ghost use Rattle.ddt_sim.specs.Sound.{IsSound};
 ghost use Rattle.ddt_sim.specs.Waiting.{IsAwaited, CanBeAsked, requests_left};
 ghost use Rattle.ddt_sim.specs.Lookup.{Reaches, FailsUnder, HasOutcome, Fails};
-ghost use Rattle.ddt_sim.specs.Headline.{IsUnderWay, IsAsked, IsRightlyAsked, IsHonestHop, IsRightFailure, IsRightError, most_hops};
+ghost use Rattle.ddt_sim.specs.Trail.{HasTrail};
+ghost use Rattle.ddt_sim.specs.Headline.{IsUnderWay, IsAsked, IsRightlyAsked, IsHonestHop, IsRightFailure, IsRightError, most_hops, most_honest_hops};
 
 use crate::following::{Turn, exchange};
 use crate::hop::{Hop, Lookup, LookupError};
-use crate::laws::a_step_keeps_a_resolver_sound;
+use crate::laws::{a_step_keeps_a_resolver_sound, honest_trails_are_short};
 use crate::servers::Servers;
 use ddt_cache::{Entry, Moment};
 use ddt_path::{Listed, Locator, Xeid};
@@ -59,8 +60,13 @@ pub fn lookup<S: Servers, M: PrefixMap<Entry>>(
     ensures steps { IfOk result (λ l. HasOutcome now x resolver.old l.outcome l.hops resolver.new) }
     ensures failed { IfErr result (λ error. Fails now x resolver.old error resolver.new) }
     ensures bound { IfOk result (λ l. length l.hops ≤ most_hops x) }
+    // Over honest servers no more than the zones that cover the identifier and 7.
+    ensures short { (r : Register) → IsAccepted r → S.honest servers.old r → IsSound r resolver.old → IfOk result (λ l. length l.hops ≤ most_honest_hops r x) }
+    // How its hops follow one another, from the entry that is found for the identifier.
+    ensures trail { IfOk result (λ l. HasTrail x (moved now resolver.old) l.outcome l.hops) }
 {
     a_step_keeps_a_resolver_sound();
+    honest_trails_are_short();
     resolver.in_order();
     // The number tells the proof that it is a moment.
     let _millis = now.millis();

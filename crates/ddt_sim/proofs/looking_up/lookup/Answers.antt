@@ -6,6 +6,8 @@ use Rattle.ddt_resolver.specs.State.{moved}
 use Rattle.ddt_sim.specs.declared.hop.Lookup.{Lookup}
 use Rattle.ddt_sim.specs.Waiting.{CanBeAsked}
 use Rattle.ddt_sim.specs.Headline.{IsHonestHop}
+use Rattle.ddt_resolver.proofs.OrderLemmas.{order_moved}
+use Rattle.ddt_sim.proofs.TrailLemmas.{result_trail, short_result}
 use Rattle.ddt_sim.proofs.AskLemmas.{ask_keeps_sound, rightly_asked, answer_given, failure_is_error, asked_me}
 use Rattle.ddt_sim.proofs.looking_up.lookup.Goals as goal
 
@@ -38,6 +40,18 @@ returns-in-Ok-clause-errors g c = λ r accepted honest sound.
     c.millis-millis.ensures.bound c.in_order.ensures sound c.ask.ensures.identifier c.ask.new.self c.in-Ok.asked c.in-Ok.ensures.step
     (subst (CanBeAsked c.args.x) c.me.ensures c.can_be_asked.ensures) in
     failure_is_error c.args.resolver.now c.after_ask.new.resolver c.after_ask.result (c.after_ask.ensures.failure r c.args.x honest asked)
+
+pub returns-in-Ok-clause-trail : goal.returns-in-Ok-clause-trail
+returns-in-Ok-clause-trail g c =
+    result_trail c.args.now c.args.x c.args.resolver.now (order_moved c.args.resolver.now c.args.now c.millis-millis.ensures.bound c.in_order.ensures) c.ask.ensures.identifier
+    c.after_ask.new.resolver c.after_ask.result (c.after_ask.ensures.steps c.args.x c.args.resolver.now c.in-Ok.ensures.step)
+
+pub returns-in-Ok-clause-short : goal.returns-in-Ok-clause-short
+returns-in-Ok-clause-short g c = λ r accepted honest sound.
+    short_result c.honest_trails_are_short.ensures r c.args.x (moved c.args.now c.args.resolver.now) accepted
+    (order_moved c.args.resolver.now c.args.now c.millis-millis.ensures.bound c.in_order.ensures)
+    (c.a_step_keeps_a_resolver_sound.ensures.time r c.args.resolver.now c.args.now sound) c.ask.ensures.identifier c.after_ask.result
+    (returns-in-Ok-clause-trail g c) (returns-in-Ok-clause-hops g c r accepted honest sound)
 
 pub returns-in-Ok-clause-remembered : goal.returns-in-Ok-clause-remembered
 returns-in-Ok-clause-remembered g c = λ p e o found answer.

@@ -1,0 +1,193 @@
+-- A trail over honest servers is short: each referral leads to a longer zone, and one set is asked to its end.
+use Rattle.std.proofs.Common.{◌≡◌, ℕ, suc, ◌+◌, ◌<◌, ◌≤◌, Bool, cond, true, false, ◌&&◌, List, [], ◌∷◌, length, Some, None, refl, sym, ap, ◌∙◌, subst, arith, inl, inr, ◌⊎◌}
+use Rattle.std.specs.Prelude.{IsTrue, nat_lt}
+use Rattle.std.specs.List.{All, Contains, filter}
+use Rattle.std.proofs.lemmas.Bool.{false≢true, or_right, and_parts, and_from, lt-ltb, ltb-true, le-ltb}
+use Rattle.ddt_path.specs.declared.locator.Locator.{Locator}
+use Rattle.ddt_path.specs.declared.record.Outcome.{Outcome}
+use Rattle.ddt_path.specs.declared.record.ReferralRecord.{ReferralRecord}
+use Rattle.ddt_path.specs.declared.record.Action.TheVariants.{NodeReferral, MsReferral, MsAck, MsNotRegistered, DelegationHole, NotAuthoritative}
+use Rattle.ddt_path.specs.declared.xeid.Xeid.{Xeid}
+use Rattle.ddt_path.specs.Covers.{covers}
+use Rattle.ddt_path.specs.Locators.{lists}
+use Rattle.ddt_path.specs.Path.{xeid_path, is_path}
+use Rattle.ddt_path.proofs.MemberLemmas.{IsIn, in_contained}
+use Rattle.ddt_register.specs.declared.zone.Zone.{Zone}
+use Rattle.ddt_register.specs.declared.register.Register.{Register}
+use Rattle.ddt_check.specs.Zones.{locators_of}
+use Rattle.ddt_check.specs.Says.{says, referral_to}
+use Rattle.ddt_check.specs.Laws.{IsReferral, ServersReferDownwards, ReferralsAreToZones, AnswersHaveServers, ServersOfAGroupAgree, AnswersCanBeSent}
+use Rattle.ddt_wire.specs.Referral.{message_of, message_record}
+use Rattle.ddt_wire.specs.Laws.{OneMessage, RecordsComeBack}
+use Rattle.ddt_resolver.specs.State.{State, opening}
+use Rattle.ddt_resolver.specs.Records.{start_at}
+use Rattle.ddt_resolver.specs.Order.{IsInOrder, IsLookup}
+use Rattle.ddt_resolver.proofs.ShapeLemmas.{opening_lookup}
+use Rattle.ddt_sim.specs.declared.hop.Hop.{Hop}
+use Rattle.ddt_sim.specs.Sound.{IsSound, IsSoundLookup, KeepsLaws}
+use Rattle.ddt_sim.specs.Headline.{IsHonestHop, zones_over, most_honest_hops}
+use Rattle.ddt_sim.specs.Trail as trail
+use Rattle.ddt_sim.specs.Trail.{IsHopTo, IsTrail, HasTrail}
+use Rattle.ddt_sim.proofs.SoundLemmas.{begun, lists_at}
+
+-- ---- how many pass a test
+
+-- a narrower test passes no more
+narrower : {A : Type 0} (p q : A → Bool) (xs : List A) → ((a : A) → q a ≡ true → p a ≡ true) → length (filter q xs) ≤ length (filter p xs)
+narrower p q [] h = omega arith
+narrower p q (a ∷ xs) h = by (narrower p q xs h) (q a) (p a) (h a)
+  where
+    by : length (filter q xs) ≤ length (filter p xs) → (b c : Bool) → (b ≡ true → c ≡ true)
+        → length (cond b (a ∷ filter q xs) (filter q xs)) ≤ length (cond c (a ∷ filter p xs) (filter p xs))
+    by rest true true k = omega (arith, rest)
+    by rest true false k = absurd (false≢true (k refl))
+    by rest false true k = omega (arith, rest)
+    by rest false false k = omega (arith, rest)
+
+-- and fewer where one more passes the wider
+fewer : {A : Type 0} (p q : A → Bool) (xs : List A) (a : A) → ((b : A) → q b ≡ true → p b ≡ true) → IsIn a xs → p a ≡ true → q a ≡ false → length (filter q xs) < length (filter p xs)
+fewer p q [] a h among passes not = absurd among
+fewer p q (b ∷ xs) a h (inl same) passes not =
+    let rest : length (filter q xs) ≤ length (filter p xs) = narrower p q xs h in
+    let c : q b ≡ false = subst (λ v. q v ≡ false) same not in
+    let d : p b ≡ true = subst (λ v. p v ≡ true) same passes in
+    rw (c, d) (omega (arith, rest))
+fewer p q (b ∷ xs) a h (inr later) passes not = by (fewer p q xs a h later passes not) (q b) (p b) (h b)
+  where
+    by : length (filter q xs) < length (filter p xs) → (c d : Bool) → (c ≡ true → d ≡ true)
+        → length (cond c (b ∷ filter q xs) (filter q xs)) < length (cond d (b ∷ filter p xs) (filter p xs))
+    by rest true true k = omega (arith, rest)
+    by rest true false k = absurd (false≢true (k refl))
+    by rest false true k = omega (arith, rest)
+    by rest false false k = omega (arith, rest)
+
+and_false : (a b : Bool) → b ≡ false → (a && b) ≡ false
+and_false true b e = e
+and_false false b e = refl
+
+-- a zone that covers x and is longer than n
+abbrev is_deeper : List ℕ → ℕ → Zone → Bool
+is_deeper x n z = covers z.prefix x && nat_lt n (length z.prefix)
+
+-- how many there are
+abbrev deeper : Register → List ℕ → ℕ → ℕ
+deeper r x n = length (filter (is_deeper x n) r.zones)
+
+deeper_than : (x : List ℕ) (n m : ℕ) (z : Zone) → n ≤ m → is_deeper x m z ≡ true → is_deeper x n z ≡ true
+deeper_than x n m z le deep =
+    let p = and_parts (covers z.prefix x) (nat_lt m (length z.prefix)) deep in
+    let q : m < length z.prefix = ltb-true m (length z.prefix) p.1 in
+    and_from (covers z.prefix x) (nat_lt n (length z.prefix)) p.0 (lt-ltb n (length z.prefix) (omega arith))
+
+not_deeper : (x : List ℕ) (z : Zone) → is_deeper x (length z.prefix) z ≡ false
+not_deeper x z = and_false (covers z.prefix x) (nat_lt (length z.prefix) (length z.prefix)) (le-ltb (length z.prefix) (length z.prefix) (omega arith))
+
+-- fewer are longer than one of them
+fewer_deeper : (r : Register) (x : List ℕ) (n : ℕ) (w : Zone) → Contains r.zones w → IsTrue (covers w.prefix x) → n < length w.prefix → deeper r x (length w.prefix) < deeper r x n
+fewer_deeper r x n w among over lt =
+    fewer (is_deeper x n) (is_deeper x (length w.prefix)) r.zones w (λ b deep. deeper_than x n (length w.prefix) b (omega arith) deep) (in_contained r.zones w among)
+    (and_from (covers w.prefix x) (nat_lt n (length w.prefix)) over (lt-ltb n (length w.prefix) lt)) (not_deeper x w)
+
+-- ---- what the laws of an accepted register and of the wire promise
+pub record ShortLaws (r : Register) : Type 0 where
+  pub keeps : KeepsLaws r
+  pub downwards : ServersReferDownwards r
+  pub to_zones : ReferralsAreToZones r
+  pub servers : AnswersHaveServers r
+  pub agree : ServersOfAGroupAgree r
+  pub sendable : AnswersCanBeSent r
+  pub one : OneMessage
+  pub back : RecordsComeBack
+
+module _ (r : Register) (laws : ShortLaws r) (x : Xeid) (id : IsTrue (is_path (xeid_path x))) (me : Locator) (roots : List Locator) (outcome : Outcome) where
+  abbrev honest : Hop → Type 0
+  honest = IsHonestHop r x me
+
+  -- what the reply of an honest hop tells is what the register says there
+  told : (l : Locator) (hop : Hop) (rec : ReferralRecord) → IsHopTo x me l hop rec → honest hop → rec ≡ says r l (xeid_path x)
+  told l hop rec to h =
+      let is : to.tells.message ≡ message_of h.0 (says r hop.to (xeid_path x)) = laws.one hop.reply to.tells.message (message_of h.0 (says r hop.to (xeid_path x))) to.tells.spells h.2 in
+      sym to.tells.same_record ∙ ap message_record is ∙ laws.back h.0 (says r hop.to (xeid_path x)) (laws.sendable hop.to (xeid_path x) id).few_servers
+      ∙ ap (λ k. says r k (xeid_path x)) to.to
+
+  first : (hop : Hop) (more : List Hop) → All honest (hop ∷ more) → honest hop
+  first hop more all = all 0 hop (omega arith)
+
+  others : (hop : Hop) (more : List Hop) → All honest (hop ∷ more) → All honest more
+  others hop more all k d lt = all (suc k) d (omega arith)
+
+  abbrev said_not_registered : List Locator → Type 0
+  said_not_registered left = (k : Locator) → IsTrue (lists left k) → (says r k (xeid_path x)).action ≡ MsNotRegistered
+
+  no_referral : (rec : ReferralRecord) → rec.action ≡ MsNotRegistered → IsReferral rec.action → ⊥
+  no_referral rec is (inl k) = cc (is, k)
+  no_referral rec is (inr k) = cc (is, k)
+
+  -- once each server that is left says MS-NOT-REGISTERED, only they are asked
+  in_set : (left : List Locator) (hops : List Hop) → IsTrail x me roots outcome left hops → All honest hops → said_not_registered left → length hops ≤ length left
+  in_set left hops (trail.ends {l = l} {left = rest} {hop = hop} rec to k is) all said = omega arith
+  in_set left hops (trail.concludes {l = l} {hop = hop} rec to k is) all said = omega arith
+  in_set left hops (trail.passes_on {l = l} {left = rest} {hop = hop} {more = more} rec to k after) all said =
+      let ih : length more ≤ length rest = in_set rest more after (others hop more all) (λ m listed. said m (or_right _ _ listed)) in omega (arith, ih)
+  in_set left hops (trail.refers {l = l} {left = rest} {hop = hop} {more = more} rec to k after) all said =
+      absurd (no_referral rec (ap (λ (v : ReferralRecord). v.action) (told l hop rec to (first hop more all)) ∙ said l (lists_at (l ∷ rest) 0 l (omega arith))) k)
+  in_set left hops (trail.starts_over {l = l} {left = rest} {hop = hop} {more = more} rec to k after) all said =
+      let is : rec.action ≡ MsNotRegistered = ap (λ (v : ReferralRecord). v.action) (told l hop rec to (first hop more all)) ∙ said l (lists_at (l ∷ rest) 0 l (omega arith)) in
+      absurd (cc (is, k))
+
+  -- From the servers of a zone: 8 hops at most, and one more for each longer zone.
+  down : (left : List Locator) (hops : List Hop) → IsTrail x me roots outcome left hops → All honest hops → (z : Zone) → Contains r.zones z → IsTrue (covers z.prefix (xeid_path x))
+      → left ≡ locators_of r z.group → length left ≤ 8 → length hops ≤ 8 + deeper r (xeid_path x) (length z.prefix)
+  down left hops (trail.ends {l = l} {left = rest} {hop = hop} rec to k is) all z among over set few = omega arith
+  down left hops (trail.concludes {l = l} {hop = hop} rec to k is) all z among over set few = omega arith
+  down left hops (trail.passes_on {l = l} {left = rest} {hop = hop} {more = more} rec to k after) all z among over set few = omega (arith, few, stays)
+    where
+      own : (m : Locator) → IsTrue (lists (l ∷ rest) m) → IsTrue (lists (locators_of r z.group) m)
+      own m listed = subst (λ (v : List Locator). IsTrue (lists v m)) set listed
+
+      stays : length more ≤ length rest
+      stays = in_set rest more after (others hop more all) (λ m listed.
+          ap (λ (v : ReferralRecord). v.action)
+          (laws.agree z.group m l (xeid_path x) (own m (or_right _ _ listed)) (own l (lists_at (l ∷ rest) 0 l (omega arith))) ∙ sym (told l hop rec to (first hop more all))) ∙ k)
+  down left hops (trail.refers {l = l} {left = rest} {hop = hop} {more = more} rec to k after) all z among over set few =
+      let ih : length more ≤ 8 + deeper r (xeid_path x) (length child.0.prefix) =
+      down rec.servers more after (others hop more all) child.0 child.1 child.2 (ap (λ (v : ReferralRecord). v.servers) (is ∙ child.3))
+      (subst (λ (v : ReferralRecord). length v.servers ≤ 8) (sym is) (laws.servers l (xeid_path x) (inl refers)).1) in
+      omega (arith, ih, less)
+    where
+      is : rec ≡ says r l (xeid_path x)
+      is = told l hop rec to (first hop more all)
+
+      refers : IsReferral (says r l (xeid_path x)).action
+      refers = subst (λ (v : ReferralRecord). IsReferral v.action) is k
+
+      child : (w : Zone) × Contains r.zones w × IsTrue (covers w.prefix (xeid_path x)) × (says r l (xeid_path x) ≡ referral_to r w)
+      child = laws.to_zones l (xeid_path x) refers
+
+      longer : length z.prefix < length child.0.prefix
+      longer =
+          let h = (laws.downwards z l (xeid_path x) among over (subst (λ (v : List Locator). IsTrue (lists v l)) set (lists_at (l ∷ rest) 0 l (omega arith)))).1 refers in
+          subst (λ (v : ReferralRecord). length z.prefix < length v.prefix) child.3 h
+
+      less : deeper r (xeid_path x) (length child.0.prefix) < deeper r (xeid_path x) (length z.prefix)
+      less = fewer_deeper r (xeid_path x) (length z.prefix) child.0 child.1 child.2 longer
+  down left hops (trail.starts_over {l = l} {left = rest} {hop = hop} {more = more} rec to k after) all z among over set few =
+      let h = (laws.downwards z l (xeid_path x) among over (subst (λ (v : List Locator). IsTrue (lists v l)) set (lists_at (l ∷ rest) 0 l (omega arith)))).0 in
+      absurd (h (ap (λ (v : ReferralRecord). v.action) (sym (told l hop rec to (first hop more all))) ∙ k))
+
+-- a zone that covers x is not deeper than itself
+zone_counts : (r : Register) (x : List ℕ) (z : Zone) → Contains r.zones z → IsTrue (covers z.prefix x) → deeper r x (length z.prefix) < zones_over r x
+zone_counts r x z among over =
+    fewer (λ (w : Zone). covers w.prefix x) (is_deeper x (length z.prefix)) r.zones z
+    (λ b deep. (and_parts (covers b.prefix x) (nat_lt (length z.prefix) (length b.prefix)) deep).0) (in_contained r.zones z among) over (not_deeper x z)
+
+-- so a whole trail is short
+pub trail_is_short : (r : Register) (laws : ShortLaws r) (x : Xeid) (s : State) (outcome : Outcome) (hops : List Hop) → IsInOrder s → IsSound r s
+    → IsTrue (is_path (xeid_path x)) → HasTrail x s outcome hops → All (IsHonestHop r x s.me) hops → length hops ≤ most_honest_hops r x
+trail_is_short r laws x s outcome hops o sound id (trail.at_once p e found answer none) all = let e : length hops ≡ 0 = ap length none in omega (arith, e)
+trail_is_short r laws x s outcome hops o sound id (trail.from_servers p e found unanswered follows) all =
+    let z : IsSoundLookup r (opening x e.servers (start_at p)) = begun r laws.keeps s o sound x p e found unanswered in
+    let is : IsLookup (opening x e.servers (start_at p)) = opening_lookup s o x id p e found unanswered in
+    let a = down r laws x id s.me s.known.roots outcome e.servers hops follows all z.zone z.is_zone z.covers_x z.servers is.few in
+    let b = zone_counts r (xeid_path x) z.zone z.is_zone z.covers_x in
+    omega (arith, a, b)

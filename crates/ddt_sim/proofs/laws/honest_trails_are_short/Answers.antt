@@ -1,0 +1,30 @@
+use Rattle.ddt_sim.specs.Sound.{KeepsLaws}
+use Rattle.ddt_sim.proofs.ShortLemmas.{ShortLaws, trail_is_short}
+use Rattle.ddt_sim.proofs.laws.honest_trails_are_short.Goals as goal
+
+pub returns : goal.returns
+returns c = λ r x s outcome hops accepted order sound id trail honest.
+    let z = c.each_identifier_has_a_zone.ensures in
+    let h = c.honest_servers_lead_to_the_assignment.ensures in
+    let n = c.negatives_hold_of_all_that_they_cover.ensures in
+    let w = c.referral_laws.ensures in
+    let keeps : KeepsLaws r = record {
+      zones = z.one_zone r accepted;
+      root = z.root r accepted;
+      downwards = h.downwards r accepted;
+      to_zones = h.to_zones r accepted;
+      decided = h.decided r accepted;
+      sites = n.registered r accepted;
+      negatives = n.negative r accepted;
+    } in
+    let laws : ShortLaws r = record {
+      keeps = keeps;
+      downwards = h.downwards r accepted;
+      to_zones = h.to_zones r accepted;
+      servers = h.servers r accepted;
+      agree = h.agree r accepted;
+      sendable = h.sendable r accepted;
+      one = w.one;
+      back = w.back;
+    } in
+    trail_is_short r laws x s outcome hops order sound id trail honest

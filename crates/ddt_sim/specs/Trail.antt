@@ -1,0 +1,67 @@
+-- How the hops of a lookup follow one another (RFC 8111, section 7.3).
+use Rattle.std.specs.Prelude.{ℕ, ◌≡◌, ◌≤◌, ◌⊎◌, IsTrue, List, [], ◌∷◌, length, None, Some}
+use Rattle.std.specs.List.{All}
+use Rattle.ddt_path.specs.declared.locator.Locator.{Locator}
+use Rattle.ddt_path.specs.declared.record.Action.TheVariants.{MsAck, MsNotRegistered, DelegationHole, NotAuthoritative}
+use Rattle.ddt_path.specs.declared.record.Outcome.{Outcome}
+use Rattle.ddt_path.specs.declared.record.ReferralRecord.{ReferralRecord}
+use Rattle.ddt_path.specs.declared.xeid.Xeid.{Xeid}
+use Rattle.ddt_path.specs.Path.{xeid_path, is_path}
+use Rattle.ddt_register.specs.declared.register.Register.{Register}
+use Rattle.ddt_check.specs.Rules.{IsAccepted}
+use Rattle.ddt_cache.specs.declared.entry.Entry.{Entry}
+use Rattle.ddt_cache.specs.Found.{IsFound}
+use Rattle.ddt_resolver.specs.Records.{IsReferral, outcome_of}
+use Rattle.ddt_resolver.specs.State.{State, request_bytes}
+use Rattle.ddt_resolver.specs.TakeUp.{Tells}
+use Rattle.ddt_resolver.specs.AskStep.{answer_of}
+use Rattle.ddt_resolver.specs.Order.{IsInOrder}
+use Rattle.ddt_sim.specs.declared.hop.Hop.{Hop}
+use Rattle.ddt_sim.specs.Sound.{IsSound}
+use Rattle.ddt_sim.specs.Headline.{IsHonestHop, most_honest_hops}
+
+-- The hop asks the server l for x, with the address `me` as its ITR-RLOC, and its reply tells this record under the
+-- nonce of the request.
+pub record IsHopTo (x : Xeid) (me : Locator) (l : Locator) (hop : Hop) (rec : ReferralRecord) : Type 0 where
+  pub nonce : ℕ
+  pub to : hop.to ≡ l
+  pub asks : hop.request ≡ request_bytes nonce x me
+  pub tells : Tells hop.reply nonce rec
+
+-- The hops of a lookup of x from here on, where these servers of the current set are left: the first of them is asked.
+-- `ends`: the reply is an MS-ACK or DELEGATION-HOLE, and gives the outcome. `concludes`: it is the MS-NOT-REGISTERED of the
+-- last server of the set, and gives the outcome. `passes_on`: it is that of another, and the next server of the set comes
+-- next. `refers`: it is a referral, and its set comes next. `starts_over`: the server isn't in charge, and the roots come
+-- next.
+pub data IsTrail (x : Xeid) (me : Locator) (roots : List Locator) (outcome : Outcome) : List Locator → List Hop → Type 0 where
+  ends : {l : Locator} {left : List Locator} {hop : Hop} (rec : ReferralRecord) → IsHopTo x me l hop rec
+      → (rec.action ≡ MsAck) ⊎ (rec.action ≡ DelegationHole) → outcome ≡ outcome_of rec
+      → IsTrail x me roots outcome (l ∷ left) (hop ∷ [])
+  concludes : {l : Locator} {hop : Hop} (rec : ReferralRecord) → IsHopTo x me l hop rec
+      → rec.action ≡ MsNotRegistered → outcome ≡ outcome_of rec
+      → IsTrail x me roots outcome (l ∷ []) (hop ∷ [])
+  passes_on : {l : Locator} {left : List Locator} {hop : Hop} {more : List Hop} (rec : ReferralRecord) → IsHopTo x me l hop rec
+      → rec.action ≡ MsNotRegistered → IsTrail x me roots outcome left more
+      → IsTrail x me roots outcome (l ∷ left) (hop ∷ more)
+  refers : {l : Locator} {left : List Locator} {hop : Hop} {more : List Hop} (rec : ReferralRecord) → IsHopTo x me l hop rec
+      → IsReferral rec.action → IsTrail x me roots outcome rec.servers more
+      → IsTrail x me roots outcome (l ∷ left) (hop ∷ more)
+  starts_over : {l : Locator} {left : List Locator} {hop : Hop} {more : List Hop} (rec : ReferralRecord) → IsHopTo x me l hop rec
+      → rec.action ≡ NotAuthoritative → IsTrail x me roots outcome roots more
+      → IsTrail x me roots outcome (l ∷ left) (hop ∷ more)
+
+-- What a lookup of x gives, by the entry that is found for it in the state s: the entry's own answer without a hop, or
+-- what hops give that begin at the entry's servers.
+pub data HasTrail (x : Xeid) (s : State) (outcome : Outcome) (hops : List Hop) : Type 0 where
+  at_once : (p : List ℕ) (e : Entry) → IsFound s.known (xeid_path x) p e → answer_of p e ≡ Some outcome → hops ≡ []
+      → HasTrail x s outcome hops
+  from_servers : (p : List ℕ) (e : Entry) → IsFound s.known (xeid_path x) p e → answer_of p e ≡ None
+      → IsTrail x s.me s.known.roots outcome e.servers hops → HasTrail x s outcome hops
+
+-- The trail of a lookup from a state that is sound for an accepted register, where each reply is what the register says, has
+-- no more than these hops.
+abbrev pub HonestTrailsAreShort : Type 0
+HonestTrailsAreShort =
+    (r : Register) (x : Xeid) (s : State) (outcome : Outcome) (hops : List Hop) → IsAccepted r → IsInOrder s → IsSound r s
+    → IsTrue (is_path (xeid_path x)) → HasTrail x s outcome hops → All (IsHonestHop r x s.me) hops
+    → length hops ≤ most_honest_hops r x

@@ -1,12 +1,12 @@
 -- A trail over honest servers is short: each referral leads to a longer zone, and one set is asked to its end.
-use Rattle.std.proofs.Common.{◌≡◌, ℕ, suc, ◌+◌, ◌<◌, ◌≤◌, Bool, cond, true, false, ◌&&◌, List, [], ◌∷◌, length, Some, None, refl, sym, ap, ◌∙◌, subst, arith, inl, inr, ◌⊎◌}
+use Rattle.std.proofs.Common.{◌≡◌, ℕ, suc, ◌+◌, ◌<◌, ◌≤◌, Bool, cond, true, false, ◌&&◌, List, [], ◌∷◌, length, refl, sym, ap, ◌∙◌, subst, arith, inl, inr}
 use Rattle.std.specs.Prelude.{IsTrue, nat_lt}
 use Rattle.std.specs.List.{All, Contains, filter}
 use Rattle.std.proofs.lemmas.Bool.{false≢true, or_right, and_parts, and_from, lt-ltb, ltb-true, le-ltb}
 use Rattle.ddt_path.specs.declared.locator.Locator.{Locator}
 use Rattle.ddt_path.specs.declared.record.Outcome.{Outcome}
 use Rattle.ddt_path.specs.declared.record.ReferralRecord.{ReferralRecord}
-use Rattle.ddt_path.specs.declared.record.Action.TheVariants.{NodeReferral, MsReferral, MsAck, MsNotRegistered, DelegationHole, NotAuthoritative}
+use Rattle.ddt_path.specs.declared.record.Action.TheVariants.{MsNotRegistered}
 use Rattle.ddt_path.specs.declared.xeid.Xeid.{Xeid}
 use Rattle.ddt_path.specs.Covers.{covers}
 use Rattle.ddt_path.specs.Locators.{lists}
@@ -25,7 +25,7 @@ use Rattle.ddt_resolver.specs.Order.{IsInOrder, IsLookup}
 use Rattle.ddt_resolver.proofs.ShapeLemmas.{opening_lookup}
 use Rattle.ddt_sim.specs.declared.hop.Hop.{Hop}
 use Rattle.ddt_sim.specs.Sound.{IsSound, IsSoundLookup, KeepsLaws}
-use Rattle.ddt_sim.specs.Headline.{IsHonestHop, zones_over, most_honest_hops}
+use Rattle.ddt_sim.specs.Headline.{IsHonestHop, zones_over}
 use Rattle.ddt_sim.specs.Trail as trail
 use Rattle.ddt_sim.specs.Trail.{IsHopTo, IsTrail, HasTrail}
 use Rattle.ddt_sim.proofs.SoundLemmas.{begun, lists_at}
@@ -183,7 +183,7 @@ zone_counts r x z among over =
 
 -- so a whole trail is short
 pub trail_is_short : (r : Register) (laws : ShortLaws r) (x : Xeid) (s : State) (outcome : Outcome) (hops : List Hop) → IsInOrder s → IsSound r s
-    → IsTrue (is_path (xeid_path x)) → HasTrail x s outcome hops → All (IsHonestHop r x s.me) hops → length hops ≤ most_honest_hops r x
+    → IsTrue (is_path (xeid_path x)) → HasTrail x s outcome hops → All (IsHonestHop r x s.me) hops → length hops ≤ zones_over r (xeid_path x) + 7
 trail_is_short r laws x s outcome hops o sound id (trail.at_once p e found answer none) all = let e : length hops ≡ 0 = ap length none in omega (arith, e)
 trail_is_short r laws x s outcome hops o sound id (trail.from_servers p e found unanswered follows) all =
     let z : IsSoundLookup r (opening x e.servers (start_at p)) = begun r laws.keeps s o sound x p e found unanswered in

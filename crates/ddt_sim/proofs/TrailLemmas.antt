@@ -1,8 +1,6 @@
 -- The hops of a lookup follow one another: from its steps.
 use Rattle.std.proofs.Common.{◌≡◌, ℕ, ◌+◌, ◌<◌, ◌≤◌, List, [], ◌∷◌, ◌++◌, length, drop, Some, Ok, Err, refl, sym, ap, ◌∙◌, subst, arith, inl, inr, max}
 use Rattle.std.specs.Prelude.{IsTrue, Result, IfOk}
-use Rattle.std.specs.List.{All}
-use Rattle.std.specs.FinMap.{get}
 use Rattle.std.proofs.lemmas.List.{append_assoc, drop_more, append-nil}
 use Rattle.std.proofs.Math.ListN.{drop_of_length-le}
 use Rattle.std.proofs.lemmas.Option.{same_Some}
@@ -17,7 +15,7 @@ use Rattle.ddt_resolver.specs.declared.pending.Pending.{Pending}
 use Rattle.ddt_resolver.specs.declared.answers.Outgoing.{Outgoing}
 use Rattle.ddt_resolver.specs.declared.answers.Asked.TheVariants as asked
 use Rattle.ddt_resolver.specs.declared.answers.Heard.TheVariants as heard
-use Rattle.ddt_resolver.specs.State.{State, moved, server, request, request_bytes, numbered, lodged, stored, forgotten, opening, referred, passed_on, started_over}
+use Rattle.ddt_resolver.specs.State.{State, moved, server, request, request_bytes, lodged, stored, forgotten, opening, referred, passed_on, started_over}
 use Rattle.ddt_resolver.specs.Records.{outcome_of, start_at}
 use Rattle.ddt_resolver.specs.AskStep as ask
 use Rattle.ddt_resolver.specs.AskStep.{AskStep, Start}
@@ -32,7 +30,7 @@ use Rattle.ddt_sim.specs.declared.hop.LookupError.{LookupError}
 use Rattle.ddt_sim.specs.Waiting.{Waits}
 use Rattle.ddt_sim.specs.Lookup.{Reaches, sent, followed, HasOutcome, at_once, by_reply, hop_of}
 use Rattle.ddt_sim.specs.Sound.{IsSound}
-use Rattle.ddt_sim.specs.Headline.{IsHonestHop, most_honest_hops}
+use Rattle.ddt_sim.specs.Headline.{HasHonestHops, HasFewHops}
 use Rattle.ddt_sim.specs.Trail as trail
 use Rattle.ddt_sim.specs.Trail.{IsHopTo, IsTrail, HasTrail, HonestTrailsAreShort}
 use Rattle.ddt_sim.proofs.WaitingLemmas.{lodged_waits}
@@ -184,6 +182,6 @@ result_trail now x start o id new (Err error) has = tt
 
 -- and what it gives over honest servers is short
 pub short_result : HonestTrailsAreShort → (r : Register) (x : Xeid) (s : State) → IsAccepted r → IsInOrder s → IsSound r s → IsTrue (is_path (xeid_path x)) → (res : Result Lookup LookupError)
-    → IfOk res (λ l. HasTrail x s l.outcome l.hops) → IfOk res (λ l. All (IsHonestHop r x s.me) l.hops) → IfOk res (λ l. length l.hops ≤ most_honest_hops r x)
-short_result short r x s accepted o sound id (Ok l) has honest = short r x s l.outcome l.hops accepted o sound id has honest
+    → IfOk res (λ l. HasTrail x s l.outcome l.hops) → IfOk res (HasHonestHops r x s.me) → IfOk res (HasFewHops r x)
+short_result short r x s accepted o sound id (Ok l) has honest = short r x s l accepted o sound id has honest
 short_result short r x s accepted o sound id (Err error) has honest = tt

@@ -1,6 +1,6 @@
 -- What a lookup over honest servers of a register ends in: what the register assigns (RFC 8111, section 7.3).
 use Rattle.std.specs.Prelude.{ℕ, ◌≡◌, ◌≤◌, ◌+◌, ◌*◌, List, length, Ok}
-use Rattle.std.specs.List.{filter}
+use Rattle.std.specs.List.{All, filter}
 use Rattle.std.specs.FinMap.{len}
 use Rattle.ddt_path.specs.declared.locator.Locator.{Locator}
 use Rattle.ddt_path.specs.declared.xeid.Xeid.{Xeid}
@@ -19,6 +19,7 @@ use Rattle.ddt_resolver.specs.State.{State, moved, last_nonce, most_pending, req
 use Rattle.ddt_sim.specs.declared.following.Turn.{Turn}
 use Rattle.ddt_sim.specs.declared.following.Turn.TheVariants.{GoesOn, Ends}
 use Rattle.ddt_sim.specs.declared.hop.Hop.{Hop}
+use Rattle.ddt_sim.specs.declared.hop.Lookup.{Lookup}
 use Rattle.ddt_sim.specs.declared.hop.LookupError.{LookupError}
 use Rattle.ddt_sim.specs.declared.hop.LookupError.TheVariants.{GaveUp, TooMany, Memory}
 use Rattle.ddt_sim.specs.Sound.{IsSound, IsRightAsked}
@@ -53,6 +54,21 @@ IsHonestHop r x me hop =
     (nonce : ℕ) × (hop.request ≡ request_bytes nonce x me)
     × Spells hop.reply (message_of nonce (says r hop.to (xeid_path x)))
 
+-- what a lookup of x gives over honest servers: the assignment, by honest hops, at most as many as the zones that cover
+-- x, and 7
+abbrev pub IsAssigned : Register → Xeid → Lookup → Type 0
+IsAssigned r x l = l.outcome ≡ assignment r (xeid_path x)
+
+abbrev pub HasHonestHops : Register → Xeid → Locator → Lookup → Type 0
+HasHonestHops r x me l = All (IsHonestHop r x me) l.hops
+
+-- how many zones of a register cover an identifier
+abbrev pub zones_over : Register → List ℕ → ℕ
+zones_over r x = length (filter (λ z. covers z.prefix x) r.zones)
+
+abbrev pub HasFewHops : Register → Xeid → Lookup → Type 0
+HasFewHops r x l = length l.hops ≤ zones_over r (xeid_path x) + 7
+
 -- an outcome that a reply ends a lookup with is the assignment
 abbrev pub IsRightTurn : Register → Xeid → Turn → Type 0
 IsRightTurn r x (GoesOn e) = Unit {0}
@@ -74,10 +90,16 @@ IsRightError old new Memory = Unit {0}
 abbrev pub most_hops : Xeid → ℕ
 most_hops x = 16 * (length (xeid_path x) + 2)
 
--- how many zones of a register cover an identifier
-abbrev pub zones_over : Register → List ℕ → ℕ
-zones_over r x = length (filter (λ z. covers z.prefix x) r.zones)
+-- ---- where it is so
 
--- how many hops it has at most over honest servers: one for each of these zones, and for one zone each of its 8 servers
-abbrev pub most_honest_hops : Register → Xeid → ℕ
-most_honest_hops r x = zones_over r (xeid_path x) + 7
+-- The servers are honest to an accepted register, and the resolver is sound for it.
+abbrev pub OverHonest : (Register → Type 0) → State → (Register → Type 0) → Type 0
+OverHonest honest s fact = (r : Register) → IsAccepted r → honest r → IsSound r s → fact r
+
+-- they are honest to one for which the ask of x was answered rightly
+abbrev pub WhenAsked : (Register → Type 0) → ℕ → State → Asked → (Register → Xeid → Type 0) → Type 0
+WhenAsked honest now s asked fact = (r : Register) (x : Xeid) → honest r → IsRightlyAsked r now x s asked → fact r x
+
+-- they are honest to one for which the lookup of x is under way
+abbrev pub WhileUnderWay : (Register → Type 0) → ℕ → State → ℕ → Outgoing → (Register → Xeid → Type 0) → Type 0
+WhileUnderWay honest now s t d fact = (r : Register) (x : Xeid) → honest r → IsUnderWay r now x s t d → fact r x

@@ -1,9 +1,13 @@
 -- A lookup: an ask, then requests and replies, one after the other, until the identifier's outcome is there (RFC 8111,
 -- section 7.3).
-use Rattle.std.specs.Prelude.{ℕ, ◌≡◌, ◌⊎◌, ◌++◌, List, [], ◌∷◌, Result, Ok, Err}
+use Rattle.std.specs.Prelude.{ℕ, ◌≡◌, ◌⊎◌, ◌++◌, List, [], ◌∷◌, Result, Ok, Err, Some}
 use Rattle.ddt_path.specs.declared.record.Outcome.{Outcome}
 use Rattle.ddt_path.specs.declared.xeid.Xeid.{Xeid}
+use Rattle.ddt_path.specs.Path.{xeid_path}
+use Rattle.ddt_cache.specs.declared.entry.Entry.{Entry}
+use Rattle.ddt_cache.specs.Found.{IsFound}
 use Rattle.ddt_resolver.specs.declared.answers.Outgoing.{Outgoing}
+use Rattle.ddt_resolver.specs.declared.answers.Asked.{Asked}
 use Rattle.ddt_resolver.specs.declared.answers.Asked.TheVariants as asked
 use Rattle.ddt_resolver.specs.declared.answers.AskError.TheVariants as ask_error
 use Rattle.ddt_resolver.specs.declared.answers.Heard.{Heard}
@@ -11,7 +15,7 @@ use Rattle.ddt_resolver.specs.declared.answers.Heard.TheVariants as heard
 use Rattle.ddt_resolver.specs.declared.answers.Why.{Why}
 use Rattle.ddt_resolver.specs.declared.answers.Why.TheVariants.{NoReply, Exhausted}
 use Rattle.ddt_resolver.specs.State.{State, moved, dropped}
-use Rattle.ddt_resolver.specs.AskStep.{AskStep}
+use Rattle.ddt_resolver.specs.AskStep.{AskStep, answer_of}
 use Rattle.ddt_resolver.specs.Act.{HearStep}
 use Rattle.ddt_sim.specs.declared.hop.Hop.{Hop}
 use Rattle.ddt_sim.specs.declared.hop.LookupError.{LookupError}
@@ -45,8 +49,8 @@ pub record IsTurn (now : ℕ) (s : State) (t : ℕ) (d : Outgoing) (hops : List 
   pub step : HearStep (moved now s) d.to reply new (heard_of t (Ok turn))
   pub hop : more ≡ hops ++ hop_of d reply ∷ []
 
--- How it fails. `gave_up`: the reply made the lookup give up. `unanswered`: nothing came back. `not_taken`: what came back
--- was no reply to it. The others are want of memory: `stopped` before a reply was taken, `unfinished` after one.
+-- How it fails. `gave_up`: the reply made the lookup give up. `unanswered`: nothing came back. `not_taken`: what came
+-- back was no reply to it. The others are want of memory: `stopped` before a reply was taken, `unfinished` after one.
 pub data TurnFails (now : ℕ) (s : State) (t : ℕ) (d : Outgoing) (error : LookupError) (after : State) : Type 0 where
   gave_up : (reply : List ℕ) (why : Why) → HearStep (moved now s) d.to reply after (heard_of t (Err why))
       → error ≡ GaveUp why → TurnFails now s t d error after
@@ -85,11 +89,30 @@ pub data HasOutcome (now : ℕ) (x : Xeid) (start : State) (outcome : Outcome) (
   by_reply : {before : List Hop} {t : ℕ} {d : Outgoing} {s : State} → Reaches now x start before t d s
       → IsTurn now s t d before (Ends outcome) hops new → HasOutcome now x start outcome hops new
 
--- How it ends with an error: the ask was refused, or wanted memory, or one of its requests failed. Its own lookup is pending
--- no more, and nothing else is undone.
+-- How it ends with an error: the ask was refused, or wanted memory, or one of its requests failed. Its own lookup is
+-- pending no more, and nothing else is undone.
 pub data Fails (now : ℕ) (x : Xeid) (start : State) (error : LookupError) (new : State) : Type 0 where
   too_many : AskStep (moved now start) x new (Err ask_error.TooMany) → error ≡ TooMany → Fails now x start error new
-  used_up : AskStep (moved now start) x new (Err ask_error.Exhausted) → error ≡ GaveUp Exhausted → Fails now x start error new
+  used_up : AskStep (moved now start) x new (Err ask_error.Exhausted) → error ≡ GaveUp Exhausted
+      → Fails now x start error new
   unasked : new ≡ moved now start → error ≡ Memory → Fails now x start error new
   at_request : {hops : List Hop} {t : ℕ} {d : Outgoing} {s after : State} → Reaches now x start hops t d s
       → TurnFails now s t d error after → new ≡ dropped after t → Fails now x start error new
+
+-- a negative entry that is found for x, and answers by itself
+pub record IsRemembered (x : Xeid) (s : State) : Type 0 where
+  pub prefix : List ℕ
+  pub entry : Entry
+  pub outcome : Outcome
+  pub found : IsFound s.known (xeid_path x) prefix entry
+  pub answers : answer_of prefix entry ≡ Some outcome
+
+-- ---- over all identifiers and states that it may have begun with
+
+-- what was asked under this answer was asked so
+abbrev pub WhateverAsked : ℕ → State → Asked → (Xeid → State → Type 0) → Type 0
+WhateverAsked now s asked fact = (x : Xeid) (start : State) → AskStep (moved now start) x s (Ok asked) → fact x start
+
+-- the lookup whose first request this is was asked so
+abbrev pub WhateverSent : ℕ → State → ℕ → Outgoing → (Xeid → State → Type 0) → Type 0
+WhateverSent now s t d fact = (x : Xeid) (start : State) → Reaches now x start [] t d s → fact x start

@@ -46,8 +46,8 @@ pub data IsTrueEntry (r : Register) (p : List ℕ) (e : Entry) : Type 0 where
       → ((y : List ℕ) → IsTrue (is_path y) → IsTrue (covers p y) → assignment r y ≡ outcome_at e.action p e.servers)
       → IsTrueEntry r p e
 
--- A sound lookup asks the servers of a zone that covers its identifier. The saved prefix, if there is one, is that zone's;
--- what is kept, if anything, is the record of the assignment.
+-- A sound lookup asks the servers of a zone that covers its identifier. The saved prefix, if there is one, is that
+-- zone's; what is kept, if anything, is the record of the assignment.
 pub record IsSoundLookup (r : Register) (l : Pending) : Type 0 where
   pub zone : Zone
   pub is_zone : Contains r.zones zone
@@ -118,8 +118,8 @@ pub record KeepsLaws (r : Register) : Type 0 where
   pub sites : RegisteredPrefixesAreSites r
   pub negatives : NegativesHoldOfAll r
 
--- Over an accepted register a step from a sound state, on a fair datagram if on any, leaves a sound state, and its answer
--- is right.
+-- Over an accepted register a step from a sound state, on a fair datagram if on any, leaves a sound state, and its
+-- answer is right.
 abbrev pub StepsKeepSoundness : Type 0
 StepsKeepSoundness =
     (r : Register) (s : State) (call : Call) (new : State) (reply : Reply) → IsAccepted r → IsInOrder s → IsSound r s

@@ -1,6 +1,5 @@
 -- How the hops of a lookup follow one another (RFC 8111, section 7.3).
-use Rattle.std.specs.Prelude.{ℕ, ◌≡◌, ◌≤◌, ◌⊎◌, IsTrue, List, [], ◌∷◌, length, None, Some}
-use Rattle.std.specs.List.{All}
+use Rattle.std.specs.Prelude.{ℕ, ◌≡◌, ◌⊎◌, IsTrue, List, [], ◌∷◌, None, Some}
 use Rattle.ddt_path.specs.declared.locator.Locator.{Locator}
 use Rattle.ddt_path.specs.declared.record.Action.TheVariants.{MsAck, MsNotRegistered, DelegationHole, NotAuthoritative}
 use Rattle.ddt_path.specs.declared.record.Outcome.{Outcome}
@@ -17,8 +16,9 @@ use Rattle.ddt_resolver.specs.TakeUp.{Tells}
 use Rattle.ddt_resolver.specs.AskStep.{answer_of}
 use Rattle.ddt_resolver.specs.Order.{IsInOrder}
 use Rattle.ddt_sim.specs.declared.hop.Hop.{Hop}
+use Rattle.ddt_sim.specs.declared.hop.Lookup.{Lookup}
 use Rattle.ddt_sim.specs.Sound.{IsSound}
-use Rattle.ddt_sim.specs.Headline.{IsHonestHop, most_honest_hops}
+use Rattle.ddt_sim.specs.Headline.{HasHonestHops, HasFewHops}
 
 -- The hop asks the server l for x, with the address `me` as its ITR-RLOC, and its reply tells this record under the
 -- nonce of the request.
@@ -29,25 +29,26 @@ pub record IsHopTo (x : Xeid) (me : Locator) (l : Locator) (hop : Hop) (rec : Re
   pub tells : Tells hop.reply nonce rec
 
 -- The hops of a lookup of x from here on, where these servers of the current set are left: the first of them is asked.
--- `ends`: the reply is an MS-ACK or DELEGATION-HOLE, and gives the outcome. `concludes`: it is the MS-NOT-REGISTERED of the
--- last server of the set, and gives the outcome. `passes_on`: it is that of another, and the next server of the set comes
--- next. `refers`: it is a referral, and its set comes next. `starts_over`: the server isn't in charge, and the roots come
--- next.
-pub data IsTrail (x : Xeid) (me : Locator) (roots : List Locator) (outcome : Outcome) : List Locator → List Hop → Type 0 where
-  ends : {l : Locator} {left : List Locator} {hop : Hop} (rec : ReferralRecord) → IsHopTo x me l hop rec
-      → (rec.action ≡ MsAck) ⊎ (rec.action ≡ DelegationHole) → outcome ≡ outcome_of rec
+-- `ends`: the reply is an MS-ACK or DELEGATION-HOLE, and gives the outcome. `concludes`: it is the MS-NOT-REGISTERED of
+-- the last server of the set, and gives the outcome. `passes_on`: it is that of another, and the next server of the set
+-- is next. `refers`: it is a referral, and its set is next. `starts_over`: the server isn't in charge, and the roots
+-- are next.
+pub data IsTrail (x : Xeid) (me : Locator) (roots : List Locator) (outcome : Outcome)
+    : List Locator → List Hop → Type 0 where
+  ends : {l : Locator} {left : List Locator} {hop : Hop} (rec : ReferralRecord)
+      → IsHopTo x me l hop rec → (rec.action ≡ MsAck) ⊎ (rec.action ≡ DelegationHole) → outcome ≡ outcome_of rec
       → IsTrail x me roots outcome (l ∷ left) (hop ∷ [])
-  concludes : {l : Locator} {hop : Hop} (rec : ReferralRecord) → IsHopTo x me l hop rec
-      → rec.action ≡ MsNotRegistered → outcome ≡ outcome_of rec
+  concludes : {l : Locator} {hop : Hop} (rec : ReferralRecord)
+      → IsHopTo x me l hop rec → rec.action ≡ MsNotRegistered → outcome ≡ outcome_of rec
       → IsTrail x me roots outcome (l ∷ []) (hop ∷ [])
-  passes_on : {l : Locator} {left : List Locator} {hop : Hop} {more : List Hop} (rec : ReferralRecord) → IsHopTo x me l hop rec
-      → rec.action ≡ MsNotRegistered → IsTrail x me roots outcome left more
+  passes_on : {l : Locator} {left : List Locator} {hop : Hop} {more : List Hop} (rec : ReferralRecord)
+      → IsHopTo x me l hop rec → rec.action ≡ MsNotRegistered → IsTrail x me roots outcome left more
       → IsTrail x me roots outcome (l ∷ left) (hop ∷ more)
-  refers : {l : Locator} {left : List Locator} {hop : Hop} {more : List Hop} (rec : ReferralRecord) → IsHopTo x me l hop rec
-      → IsReferral rec.action → IsTrail x me roots outcome rec.servers more
+  refers : {l : Locator} {left : List Locator} {hop : Hop} {more : List Hop} (rec : ReferralRecord)
+      → IsHopTo x me l hop rec → IsReferral rec.action → IsTrail x me roots outcome rec.servers more
       → IsTrail x me roots outcome (l ∷ left) (hop ∷ more)
-  starts_over : {l : Locator} {left : List Locator} {hop : Hop} {more : List Hop} (rec : ReferralRecord) → IsHopTo x me l hop rec
-      → rec.action ≡ NotAuthoritative → IsTrail x me roots outcome roots more
+  starts_over : {l : Locator} {left : List Locator} {hop : Hop} {more : List Hop} (rec : ReferralRecord)
+      → IsHopTo x me l hop rec → rec.action ≡ NotAuthoritative → IsTrail x me roots outcome roots more
       → IsTrail x me roots outcome (l ∷ left) (hop ∷ more)
 
 -- What a lookup of x gives, by the entry that is found for it in the state s: the entry's own answer without a hop, or
@@ -58,10 +59,8 @@ pub data HasTrail (x : Xeid) (s : State) (outcome : Outcome) (hops : List Hop) :
   from_servers : (p : List ℕ) (e : Entry) → IsFound s.known (xeid_path x) p e → answer_of p e ≡ None
       → IsTrail x s.me s.known.roots outcome e.servers hops → HasTrail x s outcome hops
 
--- The trail of a lookup from a state that is sound for an accepted register, where each reply is what the register says, has
--- no more than these hops.
+-- Where the state is sound for an accepted register and each reply is what the register says, such hops are few.
 abbrev pub HonestTrailsAreShort : Type 0
 HonestTrailsAreShort =
-    (r : Register) (x : Xeid) (s : State) (outcome : Outcome) (hops : List Hop) → IsAccepted r → IsInOrder s → IsSound r s
-    → IsTrue (is_path (xeid_path x)) → HasTrail x s outcome hops → All (IsHonestHop r x s.me) hops
-    → length hops ≤ most_honest_hops r x
+    (r : Register) (x : Xeid) (s : State) (l : Lookup) → IsAccepted r → IsInOrder s → IsSound r s
+    → IsTrue (is_path (xeid_path x)) → HasTrail x s l.outcome l.hops → HasHonestHops r x s.me l → HasFewHops r x l

@@ -94,7 +94,8 @@ impl<M: PrefixMap<u32>> Servers for Compiled<M> {
         request: &[u8],
     ) -> Result<Option<Listed<u8>>, AllocError>
         ensures reply { IfOk result (λ reply. reply ≡ reply_at self.old to request.now) }
-        ensures says { (r : Register) (m : Message) → AreCompiled self.old r → IsServer r to → IsDdtRequest request.now m → IfOk result (IsHonestReply r to m) }
+        ensures says { (r : Register) (m : Message) → AreCompiled self.old r → IsServer r to
+            → IsDdtRequest request.now m → IfOk result (IsHonestReply r to m) }
         ensures stay { (r : Register) → AreCompiled self.old r → AreCompiled self.new r }
     {
         a_compiled_configuration_answers_honestly();

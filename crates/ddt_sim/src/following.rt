@@ -7,7 +7,7 @@ ghost use Rattle.ddt_register.specs.declared.register.Register.{Register};
 ghost use Rattle.ddt_sim.specs.Sound.{IsSound};
 ghost use Rattle.ddt_sim.specs.Lookup.{IsTurn, TurnFails, IsNotFor, heard_of};
 ghost use Rattle.ddt_sim.specs.Waiting.{Waits, requests_left, left_after};
-ghost use Rattle.ddt_sim.specs.Headline.{IsUnderWay, IsHonestHop, IsRightTurn, IsRightFailure};
+ghost use Rattle.ddt_sim.specs.Headline.{WhileUnderWay, IsHonestHop, IsRightTurn, IsRightFailure};
 
 use crate::hop::{Hop, LookupError};
 use crate::laws::requests_are_understood;
@@ -38,16 +38,23 @@ pub(crate) fn exchange<S: Servers, M: PrefixMap<Entry>>(
     request: Outgoing,
     hops: &mut Vec<Hop>,
 ) -> Result<Turn, LookupError>
-    ensures turn { IfOk result (λ turn. IsTurn now resolver.old ticket request hops.old.items turn hops.new.items resolver.new) }
+    ensures turn { IfOk result (λ turn.
+        IsTurn now resolver.old ticket request hops.old.items turn hops.new.items resolver.new) }
     ensures failed { IfErr result (λ error. TurnFails now resolver.old ticket request error resolver.new) }
-    ensures sound { (r : Register) (x : AnXeid) → S.honest servers.old r → IsUnderWay r now x resolver.old ticket request → IsSound r resolver.new }
-    ensures right { (r : Register) (x : AnXeid) → S.honest servers.old r → IsUnderWay r now x resolver.old ticket request → IfOk result (IsRightTurn r x) }
-    ensures failure { (r : Register) (x : AnXeid) → S.honest servers.old r → IsUnderWay r now x resolver.old ticket request → IfErr result (IsRightFailure resolver.new) }
+    ensures sound { WhileUnderWay (S.honest servers.old) now resolver.old ticket request
+        (λ r x. IsSound r resolver.new) }
+    ensures right { WhileUnderWay (S.honest servers.old) now resolver.old ticket request
+        (λ r x. IfOk result (IsRightTurn r x)) }
+    ensures failure { WhileUnderWay (S.honest servers.old) now resolver.old ticket request
+        (λ r x. IfErr result (IsRightFailure resolver.new)) }
     ensures stay { (r : Register) → S.honest servers.old r → S.honest servers.new r }
     // Over honest servers its hop is honest.
-    ensures hop { (r : Register) (x : AnXeid) → S.honest servers.old r → IsUnderWay r now x resolver.old ticket request → All (IsHonestHop r x resolver.old.me) hops.old.items → OnOk result (All (IsHonestHop r x resolver.old.me) hops.new.items) }
+    ensures hop { WhileUnderWay (S.honest servers.old) now resolver.old ticket request (λ r x.
+        All (IsHonestHop r x resolver.old.me) hops.old.items
+        → OnOk result (All (IsHonestHop r x resolver.old.me) hops.new.items)) }
     // Where the lookup waited, each request that follows leaves fewer that can follow.
-    ensures nearer { (x : AnXeid) → Waits now x resolver.old ticket request → IfOk result (λ turn. left_after resolver.new ticket turn < requests_left resolver.old ticket) }
+    ensures nearer { (x : AnXeid) → Waits now x resolver.old ticket request
+        → IfOk result (λ turn. left_after resolver.new ticket turn < requests_left resolver.old ticket) }
 {
     requests_are_understood();
     resolver.in_order();

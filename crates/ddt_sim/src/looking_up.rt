@@ -17,9 +17,10 @@ ghost use Rattle.ddt_resolver.specs.Bound.{StartsWithin};
 ghost use Rattle.ddt_wire.specs.Address.{IsAddress};
 ghost use Rattle.ddt_sim.specs.Sound.{IsSound};
 ghost use Rattle.ddt_sim.specs.Waiting.{IsAwaited, CanBeAsked, requests_left};
-ghost use Rattle.ddt_sim.specs.Lookup.{Reaches, FailsUnder, HasOutcome, Fails};
+ghost use Rattle.ddt_sim.specs.Lookup.{HasOutcome, Fails, FailsUnder, IsRemembered, WhateverAsked, WhateverSent};
 ghost use Rattle.ddt_sim.specs.Trail.{HasTrail};
-ghost use Rattle.ddt_sim.specs.Headline.{IsUnderWay, IsAsked, IsRightlyAsked, IsHonestHop, IsRightFailure, IsRightError, most_hops, most_honest_hops};
+ghost use Rattle.ddt_sim.specs.Headline.{OverHonest, WhenAsked, WhileUnderWay, IsAsked};
+ghost use Rattle.ddt_sim.specs.Headline.{IsAssigned, HasHonestHops, HasFewHops, IsRightFailure, IsRightError, most_hops};
 
 use crate::following::{Turn, exchange};
 use crate::hop::{Hop, Lookup, LookupError};
@@ -46,23 +47,25 @@ pub fn lookup<S: Servers, M: PrefixMap<Entry>>(
 ) -> Result<Lookup, LookupError>
     // Over honest servers of an accepted register, and from a resolver that is sound for it, the outcome is what longest
     // match over the register assigns.
-    ensures headline { (r : Register) → IsAccepted r → S.honest servers.old r → IsSound r resolver.old → IfOk result (λ l. l.outcome ≡ assignment r (xeid_path x)) }
+    ensures headline { OverHonest (S.honest servers.old) resolver.old (λ r. IfOk result (IsAssigned r x)) }
     // The resolver is sound afterwards, and the servers honest.
-    ensures sound { (r : Register) → IsAccepted r → S.honest servers.old r → IsSound r resolver.old → IsSound r resolver.new }
+    ensures sound { OverHonest (S.honest servers.old) resolver.old (λ r. IsSound r resolver.new) }
     ensures stay { (r : Register) → S.honest servers.old r → S.honest servers.new r }
-    // Each of its requests is a DDT Map-Request for the identifier, and each reply what the register says where it was sent.
-    ensures hops { (r : Register) → IsAccepted r → S.honest servers.old r → IsSound r resolver.old → IfOk result (λ l. All (IsHonestHop r x resolver.old.me) l.hops) }
+    // Each of its requests is a DDT Map-Request for the identifier, and each reply what the register says at its server.
+    ensures hops { OverHonest (S.honest servers.old) resolver.old
+        (λ r. IfOk result (HasHonestHops r x resolver.old.me)) }
+    // Its requests are at most as many as the zones that cover the identifier, and 7.
+    ensures short { OverHonest (S.honest servers.old) resolver.old (λ r. IfOk result (HasFewHops r x)) }
     // It fails only for want of memory, of nonces, or of room among the pending lookups.
-    ensures errors { (r : Register) → IsAccepted r → S.honest servers.old r → IsSound r resolver.old → IfErr result (IsRightError resolver.old resolver.new) }
+    ensures errors { OverHonest (S.honest servers.old) resolver.old
+        (λ r. IfErr result (IsRightError resolver.old resolver.new)) }
     // A remembered answer is never refused.
-    ensures remembered { (p : List ℕ) (e : AnEntry) (o : AnOutcome) → IsFound (moved now resolver.old).known (xeid_path x) p e → answer_of p e ≡ Some o → IsOk result }
+    ensures remembered { IsRemembered x (moved now resolver.old) → IsOk result }
     // Whatever the servers say: the steps that it took, and how many requests.
     ensures steps { IfOk result (λ l. HasOutcome now x resolver.old l.outcome l.hops resolver.new) }
     ensures failed { IfErr result (λ error. Fails now x resolver.old error resolver.new) }
     ensures bound { IfOk result (λ l. length l.hops ≤ most_hops x) }
-    // Over honest servers no more than the zones that cover the identifier and 7.
-    ensures short { (r : Register) → IsAccepted r → S.honest servers.old r → IsSound r resolver.old → IfOk result (λ l. length l.hops ≤ most_honest_hops r x) }
-    // How its hops follow one another, from the entry that is found for the identifier.
+    // How its requests follow one another, from the entry that is found for the identifier to the outcome.
     ensures trail { IfOk result (λ l. HasTrail x (moved now resolver.old) l.outcome l.hops) }
 {
     a_step_keeps_a_resolver_sound();
@@ -109,12 +112,16 @@ fn after_ask<S: Servers, M: PrefixMap<Entry>>(
     asked: Asked,
 ) -> Result<Lookup, LookupError>
     requires { IsAsked now resolver.old asked }
-    ensures steps { (x : AnXeid) (start : State) → AskStep (moved now start) x resolver.old (Ok asked) → IfOk result (λ l. HasOutcome now x start l.outcome l.hops resolver.new) }
-    ensures failed { (x : AnXeid) (start : State) → AskStep (moved now start) x resolver.old (Ok asked) → IfErr result (λ error. Fails now x start error resolver.new) }
-    ensures sound { (r : Register) (x : AnXeid) → S.honest servers.old r → IsRightlyAsked r now x resolver.old asked → IsSound r resolver.new }
-    ensures right { (r : Register) (x : AnXeid) → S.honest servers.old r → IsRightlyAsked r now x resolver.old asked → IfOk result (λ l. l.outcome ≡ assignment r (xeid_path x)) }
-    ensures failure { (r : Register) (x : AnXeid) → S.honest servers.old r → IsRightlyAsked r now x resolver.old asked → IfErr result (IsRightFailure resolver.new) }
-    ensures fair { (r : Register) (x : AnXeid) → S.honest servers.old r → IsRightlyAsked r now x resolver.old asked → IfOk result (λ l. All (IsHonestHop r x resolver.old.me) l.hops) }
+    ensures steps { WhateverAsked now resolver.old asked
+        (λ x start. IfOk result (λ l. HasOutcome now x start l.outcome l.hops resolver.new)) }
+    ensures failed { WhateverAsked now resolver.old asked
+        (λ x start. IfErr result (λ error. Fails now x start error resolver.new)) }
+    ensures sound { WhenAsked (S.honest servers.old) now resolver.old asked (λ r x. IsSound r resolver.new) }
+    ensures right { WhenAsked (S.honest servers.old) now resolver.old asked (λ r x. IfOk result (IsAssigned r x)) }
+    ensures failure { WhenAsked (S.honest servers.old) now resolver.old asked
+        (λ r x. IfErr result (IsRightFailure resolver.new)) }
+    ensures fair { WhenAsked (S.honest servers.old) now resolver.old asked
+        (λ r x. IfOk result (HasHonestHops r x resolver.old.me)) }
     ensures stay { (r : Register) → S.honest servers.old r → S.honest servers.new r }
     ensures answered { (o : AnOutcome) → asked ≡ Answer o → IsOk result }
     ensures bound { (x : AnXeid) → StartsWithin resolver.old x asked → IfOk result (λ l. length l.hops ≤ most_hops x) }
@@ -146,13 +153,19 @@ fn follow<S: Servers, M: PrefixMap<Entry>>(
     request: Outgoing,
 ) -> Result<Lookup, LookupError>
     requires { IsAwaited now resolver.old ticket request }
-    ensures steps { (x : AnXeid) (start : State) → Reaches now x start [] ticket request resolver.old → IfOk result (λ l. HasOutcome now x start l.outcome l.hops resolver.new) }
-    ensures failed { (x : AnXeid) (start : State) → Reaches now x start [] ticket request resolver.old → IfErr result (λ error. FailsUnder now x start ticket error resolver.new) }
-    ensures sound { (r : Register) (x : AnXeid) → S.honest servers.old r → IsUnderWay r now x resolver.old ticket request → IsSound r resolver.new }
-    ensures right { (r : Register) (x : AnXeid) → S.honest servers.old r → IsUnderWay r now x resolver.old ticket request → IfOk result (λ l. l.outcome ≡ assignment r (xeid_path x)) }
-    ensures failure { (r : Register) (x : AnXeid) → S.honest servers.old r → IsUnderWay r now x resolver.old ticket request → IfErr result (IsRightFailure resolver.new) }
+    ensures steps { WhateverSent now resolver.old ticket request
+        (λ x start. IfOk result (λ l. HasOutcome now x start l.outcome l.hops resolver.new)) }
+    ensures failed { WhateverSent now resolver.old ticket request
+        (λ x start. IfErr result (λ error. FailsUnder now x start ticket error resolver.new)) }
+    ensures sound { WhileUnderWay (S.honest servers.old) now resolver.old ticket request
+        (λ r x. IsSound r resolver.new) }
+    ensures right { WhileUnderWay (S.honest servers.old) now resolver.old ticket request
+        (λ r x. IfOk result (IsAssigned r x)) }
+    ensures failure { WhileUnderWay (S.honest servers.old) now resolver.old ticket request
+        (λ r x. IfErr result (IsRightFailure resolver.new)) }
     ensures stay { (r : Register) → S.honest servers.old r → S.honest servers.new r }
-    ensures fair { (r : Register) (x : AnXeid) → S.honest servers.old r → IsUnderWay r now x resolver.old ticket request → IfOk result (λ l. All (IsHonestHop r x resolver.old.me) l.hops) }
+    ensures fair { WhileUnderWay (S.honest servers.old) now resolver.old ticket request
+        (λ r x. IfOk result (HasHonestHops r x resolver.old.me)) }
     ensures bound { IfOk result (λ l. length l.hops ≤ requests_left resolver.old ticket) }
 {
     let mut hops: Vec<Hop> = Vec::new(alloc);

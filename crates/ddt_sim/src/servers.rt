@@ -23,6 +23,7 @@ pub trait Servers {
         to: Locator,
         request: &[u8],
     ) -> Result<Option<Listed<u8>>, AllocError>
-        ensures says { (r : Register) (m : Message) → honest self.old r → IsServer r to → IsDdtRequest request.now m → IfOk result (IsHonestReply r to m) }
+        ensures says { (r : Register) (m : Message) → honest self.old r → IsServer r to
+            → IsDdtRequest request.now m → IfOk result (IsHonestReply r to m) }
         ensures stay { (r : Register) → honest self.old r → honest self.new r };
 }

@@ -3,7 +3,7 @@ use Rattle.ddt_sim.proofs.ShortLemmas.{ShortLaws, trail_is_short}
 use Rattle.ddt_sim.proofs.laws.honest_trails_are_short.Goals as goal
 
 pub returns : goal.returns
-returns c = λ r x s outcome hops accepted order sound id trail honest.
+returns c = λ r x s l accepted order sound id trail honest.
     let z = c.each_identifier_has_a_zone.ensures in
     let h = c.honest_servers_lead_to_the_assignment.ensures in
     let n = c.negatives_hold_of_all_that_they_cover.ensures in
@@ -27,4 +27,4 @@ returns c = λ r x s outcome hops accepted order sound id trail honest.
       one = w.one;
       back = w.back;
     } in
-    trail_is_short r laws x s outcome hops order sound id trail honest
+    trail_is_short r laws x s l.outcome l.hops order sound id trail honest

@@ -54,10 +54,10 @@ returns-in-Ok-clause-short g c = λ r accepted honest sound.
     (returns-in-Ok-clause-trail g c) (returns-in-Ok-clause-hops g c r accepted honest sound)
 
 pub returns-in-Ok-clause-remembered : goal.returns-in-Ok-clause-remembered
-returns-in-Ok-clause-remembered g c = λ p e o found answer.
-    let is = answer_given (moved c.args.now c.args.resolver.now) c.args.x c.ask.new.self p e o found answer c.ask.result c.ask.ensures.step c.ask.ensures.memory in
-    let own : c.in-Ok.asked ≡ Answer o = cc (is, c.in-Ok.is) in
-    c.after_ask.ensures.answered o own
+returns-in-Ok-clause-remembered g c = λ kept.
+    let is = answer_given (moved c.args.now c.args.resolver.now) c.args.x c.ask.new.self kept.prefix kept.entry kept.outcome kept.found kept.answers c.ask.result c.ask.ensures.step c.ask.ensures.memory in
+    let own : c.in-Ok.asked ≡ Answer kept.outcome = cc (is, c.in-Ok.is) in
+    c.after_ask.ensures.answered kept.outcome own
 
 pub returns-in-Err-TooMany-clause-sound : goal.returns-in-Err-TooMany-clause-sound
 returns-in-Err-TooMany-clause-sound g c = λ r accepted honest sound.
@@ -65,8 +65,8 @@ returns-in-Err-TooMany-clause-sound g c = λ r accepted honest sound.
     c.millis-millis.ensures.bound c.in_order.ensures sound c.ask.ensures.identifier c.ask.new.self c.ask.result c.ask.ensures.step c.ask.ensures.memory
 
 pub returns-in-Err-TooMany-clause-remembered : goal.returns-in-Err-TooMany-clause-remembered
-returns-in-Err-TooMany-clause-remembered g c = λ p e o found answer.
-    let is = answer_given (moved c.args.now c.args.resolver.now) c.args.x c.ask.new.self p e o found answer c.ask.result c.ask.ensures.step c.ask.ensures.memory in
+returns-in-Err-TooMany-clause-remembered g c = λ kept.
+    let is = answer_given (moved c.args.now c.args.resolver.now) c.args.x c.ask.new.self kept.prefix kept.entry kept.outcome kept.found kept.answers c.ask.result c.ask.ensures.step c.ask.ensures.memory in
     absurd (cc (is, c.in-Err-TooMany.is))
 
 pub returns-in-Err-Exhausted-clause-sound : goal.returns-in-Err-Exhausted-clause-sound
@@ -75,8 +75,8 @@ returns-in-Err-Exhausted-clause-sound g c = λ r accepted honest sound.
     c.millis-millis.ensures.bound c.in_order.ensures sound c.ask.ensures.identifier c.ask.new.self c.ask.result c.ask.ensures.step c.ask.ensures.memory
 
 pub returns-in-Err-Exhausted-clause-remembered : goal.returns-in-Err-Exhausted-clause-remembered
-returns-in-Err-Exhausted-clause-remembered g c = λ p e o found answer.
-    let is = answer_given (moved c.args.now c.args.resolver.now) c.args.x c.ask.new.self p e o found answer c.ask.result c.ask.ensures.step c.ask.ensures.memory in
+returns-in-Err-Exhausted-clause-remembered g c = λ kept.
+    let is = answer_given (moved c.args.now c.args.resolver.now) c.args.x c.ask.new.self kept.prefix kept.entry kept.outcome kept.found kept.answers c.ask.result c.ask.ensures.step c.ask.ensures.memory in
     absurd (cc (is, c.in-Err-Exhausted.is))
 
 pub returns-in-Err-Memory-clause-sound : goal.returns-in-Err-Memory-clause-sound
@@ -85,6 +85,6 @@ returns-in-Err-Memory-clause-sound g c = λ r accepted honest sound.
     c.millis-millis.ensures.bound c.in_order.ensures sound c.ask.ensures.identifier c.ask.new.self c.ask.result c.ask.ensures.step c.ask.ensures.memory
 
 pub returns-in-Err-Memory-clause-remembered : goal.returns-in-Err-Memory-clause-remembered
-returns-in-Err-Memory-clause-remembered g c = λ p e o found answer.
-    let is = answer_given (moved c.args.now c.args.resolver.now) c.args.x c.ask.new.self p e o found answer c.ask.result c.ask.ensures.step c.ask.ensures.memory in
+returns-in-Err-Memory-clause-remembered g c = λ kept.
+    let is = answer_given (moved c.args.now c.args.resolver.now) c.args.x c.ask.new.self kept.prefix kept.entry kept.outcome kept.found kept.answers c.ask.result c.ask.ensures.step c.ask.ensures.memory in
     absurd (cc (is, c.in-Err-Memory.is))

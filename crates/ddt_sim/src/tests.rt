@@ -17,6 +17,16 @@ const ME: Locator = Locator::V4(0x7f00_0035);
 
 const ROOT: Locator = Locator::V4(0x7f00_0001);
 
+const TEN: Locator = Locator::V4(0x7f00_000a);
+
+/// An IPv4 address of the Instance ID 0.
+fn v4(address: u32) -> Xeid {
+    Xeid {
+        iid: 0,
+        address: Locator::V4(address),
+    }
+}
+
 /// The prefix of an IPv4 block of the Instance ID 0.
 fn block(address: u32, len: u8) -> Result<Prefix, Fail> {
     Ok(Prefix::block(0, Locator::V4(address), len)?)
@@ -43,10 +53,22 @@ fn looked_up<S: Servers>(
     resolver: &mut ListResolver,
     address: u32,
 ) -> Result<Result<Lookup, LookupError>, Fail> {
-    let x = Xeid {
-        iid: 0,
-        address: Locator::V4(address),
-    };
     let now = Moment::at(0).ok_or("past the last moment")?;
-    Ok(lookup(alloc, servers, resolver, now, x))
+    Ok(lookup(alloc, servers, resolver, now, v4(address)))
+}
+
+/// Whether a lookup gave this outcome by requests to these servers, in this order.
+fn is_found(
+    alloc: Global,
+    found: Result<Lookup, LookupError>,
+    outcome: Outcome,
+    asked: &[Locator],
+) -> Result<bool, Fail> {
+    let lookup = match found {
+        Ok(lookup) => lookup,
+        Err(_error) => return Err("no outcome".into()),
+    };
+    let hops = lookup.hops.as_slice();
+    let to: Vec<Locator> = hops.iter().map(|hop| hop.to).collect(alloc)?;
+    Ok(lookup.outcome == outcome && to.as_slice() == asked)
 }

@@ -15,197 +15,163 @@ site,[0]10.1.2.0/24,,127.0.2.1
 site,[0]10.1.4.0/24,,
 ";
 
-const NESTED: &str = "kind,prefix,group,addresses
+/// A register in which the servers of the root serve a zone below another group's.
+const BACK_AT_THE_ROOT: &str = "kind,prefix,group,addresses
 group-node,,root,127.0.0.1
 group-node,,ten,127.0.0.10
-group-ms,,east,127.0.1.1 127.0.1.2
 node,*,root,
 node,[0]10.0.0.0/8,ten,
-ms,[0]10.1.0.0/16,east,
-site,[0]10.1.2.0/24,,127.0.2.1
-site,[0]10.1.4.0/24,,
-site,[0]10.1.4.128/25,,127.0.2.2
+node,[0]10.1.0.0/16,root,
 ";
 
-const TEN: Locator = Locator::V4(0x7f00_000a);
+const ROOT_ALONE: &str = "kind,prefix,group,addresses
+group-node,,root,127.0.0.1
+node,*,root,
+";
 
 const EAST: Locator = Locator::V4(0x7f00_0101);
 
 const EAST_2: Locator = Locator::V4(0x7f00_0102);
 
-type Campus = Compiled<ListMap<u32>>;
-
-/// The servers of a register.
-fn served(alloc: Global, text: &str) -> Result<Campus, Fail> {
-    let Ok(register) = read_register(alloc, text.as_bytes()) else {
-        return Err("no register".into());
-    };
-    let Ok(accepted) = check(register) else {
-        return Err("not accepted".into());
-    };
-    Ok(Compiled::build(alloc, &accepted)?)
+/// The servers of a register, and a new resolver that asks them.
+#[derive(Drop)]
+struct World {
+    alloc: Global,
+    servers: Compiled<ListMap<u32>>,
+    resolver: ListResolver,
 }
 
-/// Whether a lookup gave this outcome by requests to these servers, in this order.
-fn found(
-    alloc: Global,
-    servers: &mut Campus,
-    resolver: &mut ListResolver,
-    address: u32,
-    outcome: Outcome,
-    asked: &[Locator],
-) -> Result<bool, Fail> {
-    let lookup = match looked_up(alloc, servers, resolver, address)? {
-        Ok(lookup) => lookup,
-        Err(_error) => return Err("no outcome".into()),
-    };
-    let hops = lookup.hops.as_slice();
-    let to: Vec<Locator> = hops.iter().map(|hop| hop.to).collect(alloc)?;
-    Ok(lookup.outcome == outcome && to.as_slice() == asked)
+impl World {
+    /// That of a register, and of one row more.
+    fn of(alloc: Global, text: &str, row: &str) -> Result<World, Fail> {
+        let text = format!(in alloc; "{text}{row}")?;
+        let Ok(register) = read_register(alloc, text.as_bytes()) else {
+            return Err("no register".into());
+        };
+        let Ok(accepted) = check(register) else {
+            return Err("not accepted".into());
+        };
+        let servers = Compiled::build(alloc, &accepted)?;
+        let resolver = rooted(alloc)?;
+        Ok(World {
+            alloc,
+            servers,
+            resolver,
+        })
+    }
+
+    /// Whether the lookup of an address gives this outcome by requests to these servers, in this order.
+    fn finds(&mut self, address: u32, outcome: Outcome, asked: &[Locator]) -> Result<bool, Fail> {
+        let found = looked_up(self.alloc, &mut self.servers, &mut self.resolver, address)?;
+        is_found(self.alloc, found, outcome, asked)
+    }
+}
+
+/// A hole at an IPv4 block of the Instance ID 0.
+fn hole(address: u32, len: u8) -> Result<Outcome, Fail> {
+    Ok(Outcome::Hole {
+        prefix: block(address, len)?,
+    })
+}
+
+/// A site, or a part of one, that the servers of east know as registered.
+fn registered(address: u32, len: u8) -> Result<Outcome, Fail> {
+    Ok(Outcome::Registered {
+        prefix: block(address, len)?,
+        servers: set(&[EAST, EAST_2])?,
+    })
+}
+
+/// One that they know as not registered.
+fn not_registered(address: u32, len: u8) -> Result<Outcome, Fail> {
+    Ok(Outcome::NotRegistered {
+        prefix: block(address, len)?,
+        servers: set(&[EAST, EAST_2])?,
+    })
 }
 
 #[test]
 fn a_site_takes_three_hops(rt: HostRuntime) -> Result<(), Fail> {
-    let alloc = rt.alloc();
-    let mut servers = served(alloc, CAMPUS)?;
-    let mut resolver = rooted(alloc)?;
-    let outcome = Outcome::Registered {
-        prefix: block(0x0a01_0200, 24)?,
-        servers: set(&[EAST, EAST_2])?,
-    };
-    let asked = [ROOT, TEN, EAST];
-    assert_eq!(rt;
-        found(
-            alloc,
-            &mut servers,
-            &mut resolver,
-            0x0a01_0203,
-            outcome,
-            &asked
-        )?,
-        true
-    );
-    assert_eq!(rt; resolver.pending(), 0);
+    let mut world = World::of(rt.alloc(), CAMPUS, "")?;
+    let site = registered(0x0a01_0200, 24)?;
+    assert_eq!(rt; world.finds(0x0a01_0203, site, &[ROOT, TEN, EAST])?, true);
+    assert_eq!(rt; world.resolver.pending(), 0);
     Ok(())
 }
 
 #[test]
 fn a_hole_is_remembered(rt: HostRuntime) -> Result<(), Fail> {
-    let alloc = rt.alloc();
-    let mut servers = served(alloc, CAMPUS)?;
-    let mut resolver = rooted(alloc)?;
-    let below_ten = Outcome::Hole {
-        prefix: block(0x0a02_0000, 15)?,
-    };
-    let beside_ten = Outcome::Hole {
-        prefix: block(0x0b00_0000, 8)?,
-    };
-    assert_eq!(rt;
-        found(
-            alloc,
-            &mut servers,
-            &mut resolver,
-            0x0a02_0001,
-            below_ten,
-            &[ROOT, TEN]
-        )?,
-        true
-    );
-    assert_eq!(rt;
-        found(
-            alloc,
-            &mut servers,
-            &mut resolver,
-            0x0a03_0001,
-            below_ten,
-            &[]
-        )?,
-        true
-    );
-    assert_eq!(rt;
-        found(
-            alloc,
-            &mut servers,
-            &mut resolver,
-            0x0b00_0001,
-            beside_ten,
-            &[ROOT]
-        )?,
-        true
-    );
-    assert_eq!(rt;
-        found(
-            alloc,
-            &mut servers,
-            &mut resolver,
-            0x0b00_0001,
-            beside_ten,
-            &[]
-        )?,
-        true
-    );
+    let mut world = World::of(rt.alloc(), CAMPUS, "")?;
+    let below_ten = hole(0x0a02_0000, 15)?;
+    let beside_ten = hole(0x0b00_0000, 8)?;
+    assert_eq!(rt; world.finds(0x0a02_0001, below_ten, &[ROOT, TEN])?, true);
+    assert_eq!(rt; world.finds(0x0a03_0001, below_ten, &[])?, true);
+    assert_eq!(rt; world.finds(0x0b00_0001, beside_ten, &[ROOT])?, true);
+    assert_eq!(rt; world.finds(0x0b00_0001, beside_ten, &[])?, true);
     Ok(())
 }
 
 #[test]
 fn each_map_server_is_asked_of_a_site_that_isnt_registered(rt: HostRuntime) -> Result<(), Fail> {
-    let alloc = rt.alloc();
-    let mut servers = served(alloc, CAMPUS)?;
-    let mut resolver = rooted(alloc)?;
-    let outcome = Outcome::NotRegistered {
-        prefix: block(0x0a01_0400, 24)?,
-        servers: set(&[EAST, EAST_2])?,
-    };
+    let mut world = World::of(rt.alloc(), CAMPUS, "")?;
+    let site = not_registered(0x0a01_0400, 24)?;
     let asked = [ROOT, TEN, EAST, EAST_2];
-    assert_eq!(rt;
-        found(
-            alloc,
-            &mut servers,
-            &mut resolver,
-            0x0a01_0407,
-            outcome,
-            &asked
-        )?,
-        true
-    );
+    assert_eq!(rt; world.finds(0x0a01_0407, site, &asked)?, true);
     Ok(())
 }
 
 #[test]
 fn a_negative_answer_covers_no_site_inside(rt: HostRuntime) -> Result<(), Fail> {
-    let alloc = rt.alloc();
-    let mut servers = served(alloc, NESTED)?;
-    let mut resolver = rooted(alloc)?;
-    let outside = Outcome::NotRegistered {
-        prefix: block(0x0a01_0400, 25)?,
-        servers: set(&[EAST, EAST_2])?,
-    };
-    let inside = Outcome::Registered {
-        prefix: block(0x0a01_0480, 25)?,
-        servers: set(&[EAST, EAST_2])?,
-    };
+    let row = "site,[0]10.1.4.128/25,,127.0.2.2\n";
+    let mut world = World::of(rt.alloc(), CAMPUS, row)?;
+    let outside = not_registered(0x0a01_0400, 25)?;
+    let inside = registered(0x0a01_0480, 25)?;
     let asked = [ROOT, TEN, EAST, EAST_2];
+    assert_eq!(rt; world.finds(0x0a01_0407, outside, &asked)?, true);
+    assert_eq!(rt; world.finds(0x0a01_04c8, inside, &[EAST])?, true);
+    Ok(())
+}
+
+#[test]
+fn an_acknowledgement_leads_to_the_site_inside(rt: HostRuntime) -> Result<(), Fail> {
+    let row = "site,[0]10.1.2.64/26,,\n";
+    let mut world = World::of(rt.alloc(), CAMPUS, row)?;
+    let outside = registered(0x0a01_0200, 24)?;
+    let inside = not_registered(0x0a01_0240, 26)?;
     assert_eq!(rt;
-        found(
-            alloc,
-            &mut servers,
-            &mut resolver,
-            0x0a01_0407,
-            outside,
-            &asked
-        )?,
+        world.finds(0x0a01_0203, outside, &[ROOT, TEN, EAST])?,
         true
     );
-    assert_eq!(rt;
-        found(
-            alloc,
-            &mut servers,
-            &mut resolver,
-            0x0a01_04c8,
-            inside,
-            &[EAST]
-        )?,
-        true
-    );
+    assert_eq!(rt; world.finds(0x0a01_0246, inside, &[EAST, EAST_2])?, true);
+    Ok(())
+}
+
+#[test]
+fn everything_is_one_hole(rt: HostRuntime) -> Result<(), Fail> {
+    let mut world = World::of(rt.alloc(), ROOT_ALONE, "")?;
+    let everything = Outcome::Hole {
+        prefix: Prefix::cut(v4(0), 0),
+    };
+    assert_eq!(rt; world.finds(0x0a01_0203, everything, &[ROOT])?, true);
+    assert_eq!(rt; world.finds(0x0a01_0203, everything, &[])?, true);
+    assert_eq!(rt; world.finds(0xc000_0201, everything, &[])?, true);
+    Ok(())
+}
+
+#[test]
+fn the_root_answers_for_its_own_zone_below(rt: HostRuntime) -> Result<(), Fail> {
+    let mut world = World::of(rt.alloc(), BACK_AT_THE_ROOT, "")?;
+    let below = hole(0x0a01_0000, 16)?;
+    assert_eq!(rt; world.finds(0x0a01_0203, below, &[ROOT])?, true);
+    Ok(())
+}
+
+#[test]
+fn a_remembered_referral_leads_back_to_the_root(rt: HostRuntime) -> Result<(), Fail> {
+    let mut world = World::of(rt.alloc(), BACK_AT_THE_ROOT, "")?;
+    let beside = hole(0x0a02_0000, 15)?;
+    let below = hole(0x0a01_0000, 16)?;
+    assert_eq!(rt; world.finds(0x0a02_0001, beside, &[ROOT, TEN])?, true);
+    assert_eq!(rt; world.finds(0x0a01_0203, below, &[TEN, ROOT])?, true);
     Ok(())
 }

@@ -41,29 +41,54 @@ impl Servers for Played {
     }
 }
 
-/// A referral of the root to itself for a prefix.
-fn referral(prefix: Prefix) -> Result<ReferralRecord, Fail> {
+/// A resolver and servers that answer with these records, in this order.
+fn playing(alloc: Global, records: &[ReferralRecord]) -> Result<Played, Fail> {
+    let mut reversed = Vec::new(alloc);
+    for record in records.iter().rev() {
+        reversed.push(*record)?;
+    }
+    Ok(Played { records: reversed })
+}
+
+/// A record of an IPv4 block of the Instance ID 0, for a day.
+fn record(
+    action: Action,
+    address: u32,
+    len: u8,
+    servers: &[Locator],
+) -> Result<ReferralRecord, Fail> {
     Ok(ReferralRecord {
-        action: Action::NodeReferral,
-        prefix,
+        action,
+        prefix: block(address, len)?,
         ttl: 1440,
         incomplete: false,
-        servers: set(&[ROOT])?,
+        servers: set(servers)?,
     })
+}
+
+/// How a lookup over these servers fails.
+fn failure(
+    alloc: Global,
+    servers: &mut Played,
+    resolver: &mut ListResolver,
+    address: u32,
+) -> Result<LookupError, Fail> {
+    match looked_up(alloc, servers, resolver, address)? {
+        Ok(_lookup) => Err("an outcome".into()),
+        Err(error) => Ok(error),
+    }
 }
 
 #[test]
 fn a_referral_that_goes_no_deeper_ends_a_lookup(rt: HostRuntime) -> Result<(), Fail> {
     let alloc = rt.alloc();
-    let mut records = Vec::new(alloc);
-    records.push(referral(block(0x0a00_0000, 8)?)?)?;
-    records.push(referral(block(0x0a00_0000, 8)?)?)?;
-    let mut servers = Played { records };
+    let referral = record(Action::NodeReferral, 0x0a00_0000, 8, &[ROOT])?;
+    let mut servers = playing(alloc, &[referral, referral])?;
     let mut resolver = rooted(alloc)?;
-    match looked_up(alloc, &mut servers, &mut resolver, 0x0a00_0001)? {
-        Ok(_lookup) => return Err("an outcome".into()),
-        Err(error) => assert_eq!(rt; error, LookupError::GaveUp(Why::Loop)),
-    }
+    assert_eq!(rt;
+        failure(alloc, &mut servers, &mut resolver, 0x0a00_0001)?,
+        LookupError::GaveUp(Why::Loop)
+    );
     assert_eq!(rt; resolver.pending(), 0);
     Ok(())
 }
@@ -71,14 +96,69 @@ fn a_referral_that_goes_no_deeper_ends_a_lookup(rt: HostRuntime) -> Result<(), F
 #[test]
 fn no_reply_ends_a_lookup(rt: HostRuntime) -> Result<(), Fail> {
     let alloc = rt.alloc();
-    let mut records = Vec::new(alloc);
-    records.push(referral(block(0x0a00_0000, 8)?)?)?;
-    let mut servers = Played { records };
+    let referral = record(Action::NodeReferral, 0x0a00_0000, 8, &[ROOT])?;
+    let mut servers = playing(alloc, &[referral])?;
     let mut resolver = rooted(alloc)?;
-    match looked_up(alloc, &mut servers, &mut resolver, 0x0a00_0001)? {
-        Ok(_lookup) => return Err("an outcome".into()),
-        Err(error) => assert_eq!(rt; error, LookupError::GaveUp(Why::NoReply)),
+    assert_eq!(rt;
+        failure(alloc, &mut servers, &mut resolver, 0x0a00_0001)?,
+        LookupError::GaveUp(Why::NoReply)
+    );
+    assert_eq!(rt; resolver.pending(), 0);
+    Ok(())
+}
+
+/// A resolver that remembers the referral of 10.0.0.0/8 to 127.0.0.10.
+fn with_ten(alloc: Global) -> Result<ListResolver, Fail> {
+    let referral = record(Action::NodeReferral, 0x0a00_0000, 8, &[TEN])?;
+    let hole = record(Action::DelegationHole, 0x0a80_0000, 9, &[])?;
+    let mut servers = playing(alloc, &[referral, hole])?;
+    let mut resolver = rooted(alloc)?;
+    let found = looked_up(alloc, &mut servers, &mut resolver, 0x0a80_0001)?;
+    if is_found(alloc, found, outcome_of(&hole), &[ROOT, TEN])? {
+        Ok(resolver)
+    } else {
+        Err("another outcome".into())
     }
+}
+
+/// What a DELEGATION-HOLE says.
+fn outcome_of(hole: &ReferralRecord) -> Outcome {
+    Outcome::Hole {
+        prefix: hole.prefix,
+    }
+}
+
+#[test]
+fn a_lookup_starts_over_at_the_root(rt: HostRuntime) -> Result<(), Fail> {
+    let alloc = rt.alloc();
+    let mut resolver = with_ten(alloc)?;
+    let nobody = record(Action::NotAuthoritative, 0x0a01_0203, 32, &[])?;
+    let hole = record(Action::DelegationHole, 0x0a01_0000, 16, &[])?;
+    let mut servers = playing(alloc, &[nobody, hole])?;
+    let found = looked_up(alloc, &mut servers, &mut resolver, 0x0a01_0203)?;
+    assert_eq!(rt;
+        is_found(alloc, found, outcome_of(&hole), &[TEN, ROOT])?,
+        true
+    );
+    // The referral is forgotten: a lookup beside the hole asks the root again.
+    let beside = record(Action::DelegationHole, 0x0a02_0000, 16, &[])?;
+    let mut servers = playing(alloc, &[beside])?;
+    let found = looked_up(alloc, &mut servers, &mut resolver, 0x0a02_0001)?;
+    assert_eq!(rt; is_found(alloc, found, outcome_of(&beside), &[ROOT])?, true);
+    Ok(())
+}
+
+#[test]
+fn a_lookup_starts_over_once(rt: HostRuntime) -> Result<(), Fail> {
+    let alloc = rt.alloc();
+    let mut resolver = with_ten(alloc)?;
+    let nobody = record(Action::NotAuthoritative, 0x0a01_0203, 32, &[])?;
+    let mut servers = playing(alloc, &[nobody, nobody, nobody])?;
+    assert_eq!(rt;
+        failure(alloc, &mut servers, &mut resolver, 0x0a01_0203)?,
+        LookupError::GaveUp(Why::NotAuthoritative)
+    );
+    assert_eq!(rt; servers.records.len(), 1);
     assert_eq!(rt; resolver.pending(), 0);
     Ok(())
 }

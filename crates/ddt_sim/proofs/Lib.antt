@@ -1,10 +1,11 @@
+pub mod AskLemmas
 pub mod CompiledLemmas
-pub mod SoundLemmas
-pub mod WaitingLemmas
-pub mod ReplyLemmas
-pub mod TurnLemmas
 pub mod ExchangeLemmas
 pub mod FollowLemmas
-pub mod AskLemmas
-pub mod TrailLemmas
+pub mod ReplyLemmas
+pub mod RunLemmas
 pub mod ShortLemmas
+pub mod SoundLemmas
+pub mod TrailLemmas
+pub mod TurnLemmas
+pub mod WaitingLemmas

@@ -1,8 +1,10 @@
-pub mod Honest
 pub mod Compiled
-pub mod Sound
-pub mod Waiting
-pub mod Lookup
 pub mod Headline
+pub mod History
+pub mod Honest
+pub mod Lookup
 pub mod Reply
+pub mod Sound
 pub mod Trail
+pub mod Waiting
+pub mod World

@@ -1,0 +1,247 @@
+//! A run of a schedule: each step, and the datagrams that are sent.
+
+ghost use Rattle.std.specs.Prelude.{◌≡◌, ◌++◌, ℕ, IfOk, OnOk, OnErr, IsOk, Err, Some, true, false, [], List, slice_get};
+ghost use Rattle.std.specs.Option.{option_map};
+ghost use Rattle.ddt_register.specs.declared.register.Register.{Register};
+ghost use Rattle.ddt_sim.specs.declared.schedule.Step.TheVariants as step_as;
+ghost use Rattle.ddt_resolver.specs.State.{State};
+ghost use Rattle.ddt_resolver.specs.declared.answers.AskError.TheVariants as ask_error;
+ghost use Rattle.ddt_wire.specs.Address.{IsAddress};
+ghost use Rattle.ddt_sim.specs.World.{world, honest_replies, request_at, sent_for, later as later_than, IsToldAsk, Resolves, WorldStep, Stops};
+ghost use Rattle.ddt_sim.specs.History.{Line, Tells, StopsAfter};
+ghost use Rattle.ddt_sim.specs.Waiting.{CanBeAsked};
+
+use crate::schedule::{Datagram, Event, Step, Transcript};
+use crate::servers::Servers;
+use ddt_cache::{Entry, LAST_MOMENT, Moment};
+use ddt_path::{Listed, Locator, Xeid};
+use ddt_resolver::{AskError, Asked, Resolver};
+use ddt_trie::PrefixMap;
+use std::alloc::{AllocError, Global};
+
+/// Runs a schedule of steps over servers and a resolver, from the moment that is the resolver's time. A datagram that a
+/// step sends is numbered from 0 on, requests and replies alike. It is handed over only by a Deliver of its number, any
+/// number of times. Pass moves the moment alone, at most to the last one; the resolver's time follows at its next call.
+///
+/// Fails only if out of memory. Then the resolver is as after some first steps, but for the time.
+pub fn run<S: Servers, M: PrefixMap<Entry>>(
+    alloc: Global,
+    servers: &mut S,
+    resolver: &mut Resolver<M>,
+    steps: &[Step],
+) -> Result<Transcript, AllocError>
+    // Whatever the servers reply: the transcript tells a run of the resolver's steps and the servers' replies.
+    ensures run { IfOk result (λ t. (past : List Line) × Tells (S.honest servers.old) resolver.old steps.now t resolver.new past) }
+    ensures stopped { OnErr result (StopsAfter (S.honest servers.old) resolver.old steps.now resolver.new) }
+    ensures stay { (r : Register) → S.honest servers.old r → S.honest servers.new r }
+    // No steps are never refused.
+    ensures none { steps.now ≡ [] → IsOk result }
+{
+    let mut moment = resolver.time();
+    let mut events: Vec<Event> = Vec::new(alloc);
+    let mut sent: Vec<Datagram> = Vec::new(alloc);
+    for step in steps {
+        let event = take_step(alloc, servers, resolver, &mut moment, &mut sent, *step)?;
+        events.push(event)?;
+    }
+    Ok(Transcript {
+        events: Listed::of(events),
+        sent: Listed::of(sent),
+    })
+}
+
+/// One step of a schedule.
+fn take_step<S: Servers, M: PrefixMap<Entry>>(
+    alloc: Global,
+    servers: &mut S,
+    resolver: &mut Resolver<M>,
+    moment: &mut Moment,
+    sent: &mut Vec<Datagram>,
+    step: Step,
+) -> Result<Event, AllocError>
+    ensures step { IfOk result (λ event. WorldStep (honest_replies (S.honest servers.old)) (world moment.old sent.old.items resolver.old) step event (world moment.new sent.new.items resolver.new)) }
+    ensures stopped { OnErr result (Stops (world moment.old sent.old.items resolver.old) step resolver.new) }
+    ensures stay { (r : Register) → S.honest servers.old r → S.honest servers.new r }
+{
+    match step {
+        Step::Ask(x) => ask(alloc, resolver, *moment, sent, x),
+        Step::Deliver(number) => deliver(alloc, servers, resolver, *moment, sent, number),
+        Step::Pass(millis) => {
+            *moment = later(*moment, millis);
+            Ok(Event::Passed(*moment))
+        }
+        Step::Tick => tick(alloc, resolver, *moment, sent),
+    }
+}
+
+/// The moment so many milliseconds later, at most the last one.
+fn later(moment: Moment, millis: u64) -> Moment
+    ensures { result ≡ later_than moment millis }
+{
+    let now = moment.millis().saturating_add(millis).min(LAST_MOMENT);
+    match Moment::at(now) {
+        Some(moment) => moment,
+        None => moment,
+    }
+}
+
+/// An ask: its request is sent.
+fn ask<M: PrefixMap<Entry>>(
+    alloc: Global,
+    resolver: &mut Resolver<M>,
+    moment: Moment,
+    sent: &mut Vec<Datagram>,
+    x: Xeid,
+) -> Result<Event, AllocError>
+    ensures step { IfOk result (λ event. Resolves (world moment sent.old.items resolver.old) (step_as.Ask x) event (world moment sent.new.items resolver.new)) }
+    ensures stopped { OnErr result (Stops (world moment sent.old.items resolver.old) (step_as.Ask x) resolver.new) }
+{
+    let me = resolver.me();
+    can_be_asked(x, me);
+    let event = asked(resolver.ask(moment, x))?;
+    send(alloc, sent, me, &event)?;
+    Ok(event)
+}
+
+/// What an ask is answered; refused for memory alone.
+fn asked(answer: Result<Asked, AskError>) -> Result<Event, AllocError>
+    ensures event { IfOk result (λ event. IsToldAsk answer event) }
+    ensures memory { OnErr result (answer ≡ Err ask_error.Memory) }
+{
+    match answer {
+        Ok(asked) => Ok(Event::Asked(asked)),
+        Err(AskError::Memory) => Err(AllocError),
+        Err(error) => Ok(Event::Refused(error)),
+    }
+}
+
+/// What holds of each identifier and each address: their numbers fit. The call does nothing.
+fn can_be_asked(x: Xeid, me: Locator)
+    ensures { CanBeAsked x me }
+{
+    let _iid = x.iid;
+    is_address(x.address);
+    is_address(me);
+}
+
+/// What holds of each address: its number fits its family. The call does nothing.
+fn is_address(address: Locator)
+    ensures { IsAddress address }
+{
+    match address {
+        Locator::V4(_number) => {}
+        Locator::V6(_number) => {}
+    }
+}
+
+/// A tick: its request is sent.
+fn tick<M: PrefixMap<Entry>>(
+    alloc: Global,
+    resolver: &mut Resolver<M>,
+    moment: Moment,
+    sent: &mut Vec<Datagram>,
+) -> Result<Event, AllocError>
+    ensures step { IfOk result (λ event. Resolves (world moment sent.old.items resolver.old) step_as.Tick event (world moment sent.new.items resolver.new)) }
+    ensures stopped { OnErr result (Stops (world moment sent.old.items resolver.old) step_as.Tick resolver.new) }
+{
+    let me = resolver.me();
+    let event = Event::Ticked(resolver.tick(moment)?);
+    send(alloc, sent, me, &event)?;
+    Ok(event)
+}
+
+/// A datagram is handed over: a request to its server, a reply to the resolver.
+fn deliver<S: Servers, M: PrefixMap<Entry>>(
+    alloc: Global,
+    servers: &mut S,
+    resolver: &mut Resolver<M>,
+    moment: Moment,
+    sent: &mut Vec<Datagram>,
+    number: u64,
+) -> Result<Event, AllocError>
+    ensures step { IfOk result (λ event. WorldStep (honest_replies (S.honest servers.old)) (world moment sent.old.items resolver.old) (step_as.Deliver number) event (world moment sent.new.items resolver.new)) }
+    ensures stopped { OnErr result (Stops (world moment sent.old.items resolver.old) (step_as.Deliver number) resolver.new) }
+    ensures stay { (r : Register) → S.honest servers.old r → S.honest servers.new r }
+{
+    match is_reply(sent.as_slice(), number) {
+        Some(true) => hear(alloc, resolver, moment, sent, number),
+        Some(false) => serve(alloc, servers, sent, number),
+        None => Ok(Event::Nothing),
+    }
+}
+
+/// Whether the datagram of a number is a reply; None where none has it.
+fn is_reply(sent: &[Datagram], number: u64) -> Option<bool>
+    ensures { result ≡ option_map (λ d. d.is_reply) (slice_get sent.now number) }
+{
+    sent.get(number as usize).map(|d| d.is_reply)
+}
+
+/// A reply is handed to the resolver: the request that follows is sent.
+fn hear<M: PrefixMap<Entry>>(
+    alloc: Global,
+    resolver: &mut Resolver<M>,
+    moment: Moment,
+    sent: &mut Vec<Datagram>,
+    number: u64,
+) -> Result<Event, AllocError>
+    requires { option_map (λ d. d.is_reply) (slice_get sent.old.items number) ≡ Some true }
+    ensures step { IfOk result (λ event. Resolves (world moment sent.old.items resolver.old) (step_as.Deliver number) event (world moment sent.new.items resolver.new)) }
+    ensures stopped { OnErr result (Stops (world moment sent.old.items resolver.old) (step_as.Deliver number) resolver.new) }
+{
+    let me = resolver.me();
+    let reply = &sent[number as usize];
+    let event = Event::Heard(resolver.datagram(moment, reply.source, reply.bytes.as_slice())?);
+    send(alloc, sent, me, &event)?;
+    Ok(event)
+}
+
+/// A request is handed to its server: the reply is sent.
+fn serve<S: Servers>(
+    alloc: Global,
+    servers: &mut S,
+    sent: &mut Vec<Datagram>,
+    number: u64,
+) -> Result<Event, AllocError>
+    requires { option_map (λ d. d.is_reply) (slice_get sent.old.items number) ≡ Some false }
+    ensures step { (moment : ℕ) (s : State) → IfOk result (λ event. WorldStep (honest_replies (S.honest servers.old)) (world moment sent.old.items s) (step_as.Deliver number) event (world moment sent.new.items s)) }
+    ensures stay { (r : Register) → S.honest servers.old r → S.honest servers.new r }
+{
+    let request = &sent[number as usize];
+    let source = request.to;
+    let to = request.source;
+    let Some(bytes) = servers.answer(alloc, source, request.bytes.as_slice())? else {
+        return Ok(Event::Silent);
+    };
+    let next = sent.len() as u64;
+    sent.push(Datagram {
+        source,
+        to,
+        is_reply: true,
+        bytes,
+    })?;
+    Ok(Event::Replied(next))
+}
+
+/// The request of an event is sent, if it has one.
+fn send(
+    alloc: Global,
+    sent: &mut Vec<Datagram>,
+    me: Locator,
+    event: &Event,
+) -> Result<(), AllocError>
+    ensures { OnOk result (sent.new.items ≡ sent.old.items ++ sent_for me (request_at event.now)) }
+{
+    let Some(request) = event.request() else {
+        return Ok(());
+    };
+    let mut bytes = Vec::new(alloc);
+    bytes.extend_from_slice(request.bytes.as_slice())?;
+    sent.push(Datagram {
+        source: me,
+        to: request.to,
+        is_reply: false,
+        bytes: Listed::of(bytes),
+    })?;
+    Ok(())
+}

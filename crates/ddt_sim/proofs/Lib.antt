@@ -9,3 +9,7 @@ pub mod SoundLemmas
 pub mod TrailLemmas
 pub mod TurnLemmas
 pub mod WaitingLemmas
+pub mod SentLemmas
+pub mod TicketLemmas
+pub mod ScheduleLemmas
+pub mod StatementLemmas

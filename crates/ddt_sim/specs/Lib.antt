@@ -8,3 +8,4 @@ pub mod Sound
 pub mod Trail
 pub mod Waiting
 pub mod World
+pub mod Schedules

@@ -9,14 +9,20 @@ ghost use Rattle.ddt_resolver.specs.declared.answers.AskError.TheVariants as ask
 ghost use Rattle.ddt_wire.specs.Address.{IsAddress};
 ghost use Rattle.ddt_sim.specs.World.{world, honest_replies, request_at, sent_for, later as later_than, IsToldAsk, Resolves, WorldStep, Stops};
 ghost use Rattle.ddt_sim.specs.History.{Line, Tells, StopsAfter};
+ghost use Rattle.ddt_sim.specs.Schedules.{StartsSound, EachLine, IsRightAnswer, IsRightReply, IsOnce, IsRightFailure};
+ghost use Rattle.ddt_sim.specs.Sound.{IsSound};
 ghost use Rattle.ddt_sim.specs.Waiting.{CanBeAsked};
 
+use crate::laws::a_step_keeps_a_resolver_sound;
 use crate::schedule::{Datagram, Event, Step, Transcript};
 use crate::servers::Servers;
 use ddt_cache::{Entry, LAST_MOMENT, Moment};
+use ddt_check::honest_servers_lead_to_the_assignment;
+use ddt_ecm::request_laws;
 use ddt_path::{Listed, Locator, Xeid};
 use ddt_resolver::{AskError, Asked, Resolver};
 use ddt_trie::PrefixMap;
+use ddt_wire::referral_laws;
 use std::alloc::{AllocError, Global};
 
 /// Runs a schedule of steps over servers and a resolver, from the moment that is the resolver's time. A datagram that a
@@ -30,6 +36,18 @@ pub fn run<S: Servers, M: PrefixMap<Entry>>(
     resolver: &mut Resolver<M>,
     steps: &[Step],
 ) -> Result<Transcript, AllocError>
+    // Over honest servers of an accepted register, and from a resolver that is sound for it and has nothing pending, each
+    // answer is what the register assigns to the identifier of its own ask.
+    ensures answers { (r : Register) → S.honest servers.old r → StartsSound r resolver.old → IfOk result (λ t. EachLine (S.honest servers.old) resolver.old steps.now t resolver.new (IsRightAnswer r)) }
+    // Each request that is delivered has its reply, which spells its nonce and what the register says there.
+    ensures replies { (r : Register) → S.honest servers.old r → StartsSound r resolver.old → IfOk result (λ t. EachLine (S.honest servers.old) resolver.old steps.now t resolver.new (IsRightReply r)) }
+    // No ticket ends twice.
+    ensures once { (r : Register) → S.honest servers.old r → StartsSound r resolver.old → IfOk result (λ t. EachLine (S.honest servers.old) resolver.old steps.now t resolver.new IsOnce) }
+    // A lookup gives up only for want of a reply or of nonces, a reply is ignored only where it comes too late, and an ask
+    // is refused only for want of room or of nonces.
+    ensures failures { (r : Register) → S.honest servers.old r → StartsSound r resolver.old → IfOk result (λ t. EachLine (S.honest servers.old) resolver.old steps.now t resolver.new IsRightFailure) }
+    // The resolver is sound afterwards, also where memory stops it.
+    ensures sound { (r : Register) → S.honest servers.old r → StartsSound r resolver.old → IsSound r resolver.new }
     // Whatever the servers reply: the transcript tells a run of the resolver's steps and the servers' replies.
     ensures run { IfOk result (λ t. (past : List Line) × Tells (S.honest servers.old) resolver.old steps.now t resolver.new past) }
     ensures stopped { OnErr result (StopsAfter (S.honest servers.old) resolver.old steps.now resolver.new) }
@@ -37,6 +55,11 @@ pub fn run<S: Servers, M: PrefixMap<Entry>>(
     // No steps are never refused.
     ensures none { steps.now ≡ [] → IsOk result }
 {
+    a_step_keeps_a_resolver_sound();
+    honest_servers_lead_to_the_assignment();
+    request_laws();
+    referral_laws();
+    resolver.in_order();
     let mut moment = resolver.time();
     let mut events: Vec<Event> = Vec::new(alloc);
     let mut sent: Vec<Datagram> = Vec::new(alloc);

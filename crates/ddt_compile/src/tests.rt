@@ -1,56 +1,12 @@
 use super::*;
 use ddt_check::check;
 use ddt_config::{ServerConfig, from_toml, to_toml};
+use ddt_examples::configurations::{EAST, NESTED_EAST, ROOT, TEN};
+use ddt_examples::registers::{CAMPUS, NESTED_SITES};
 use ddt_path::{Listed, Name};
 use ddt_register::read_register;
 use std::alloc::Global;
 use std::test::*;
-
-const CAMPUS: &str = "kind,prefix,group,addresses
-group-node,,root,127.0.0.1
-group-node,,ten,127.0.0.10
-group-ms,,east,127.0.1.1 127.0.1.2
-node,*,root,
-node,[0]10.0.0.0/8,ten,
-ms,[0]10.1.0.0/16,east,
-site,[0]10.1.2.0/24,,127.0.2.1
-site,[0]10.1.4.0/24,,
-";
-
-const EAST: &str = r#"name = "east"
-kind = "ms"
-locators = ["127.0.1.1", "127.0.1.2"]
-[[authority]]
-prefix = "[0]10.1.0.0/16"
-[[authority.site]]
-prefix = "[0]10.1.2.0/24"
-etrs = ["127.0.2.1"]
-[[authority.site]]
-prefix = "[0]10.1.4.0/24"
-etrs = []
-"#;
-
-const TEN: &str = r#"name = "ten"
-kind = "node"
-locators = ["127.0.0.10"]
-[[authority]]
-prefix = "[0]10.0.0.0/8"
-[[authority.child]]
-prefix = "[0]10.1.0.0/16"
-kind = "ms"
-locators = ["127.0.1.1", "127.0.1.2"]
-"#;
-
-const ROOT: &str = r#"name = "root"
-kind = "node"
-locators = ["127.0.0.1"]
-[[authority]]
-prefix = "*"
-[[authority.child]]
-prefix = "[0]10.0.0.0/8"
-kind = "node"
-locators = ["127.0.0.10"]
-"#;
 
 /// Rows in no order: each zone before the one above it, and a site before its zone.
 const SCATTERED: &str = "kind,prefix,group,addresses
@@ -93,39 +49,6 @@ locators = ["127.0.1.1"]
 prefix = "[0]10.2.0.0/16"
 kind = "ms"
 locators = ["127.0.1.1"]
-"#;
-
-/// The campus with a site inside each of its sites.
-const NESTED: &str = "kind,prefix,group,addresses
-group-node,,root,127.0.0.1
-group-node,,ten,127.0.0.10
-group-ms,,east,127.0.1.1 127.0.1.2
-node,*,root,
-node,[0]10.0.0.0/8,ten,
-ms,[0]10.1.0.0/16,east,
-site,[0]10.1.2.0/24,,127.0.2.1
-site,[0]10.1.4.0/24,,
-site,[0]10.1.4.128/25,,127.0.2.2
-site,[0]10.1.2.64/26,,
-";
-
-const NESTED_EAST: &str = r#"name = "east"
-kind = "ms"
-locators = ["127.0.1.1", "127.0.1.2"]
-[[authority]]
-prefix = "[0]10.1.0.0/16"
-[[authority.site]]
-prefix = "[0]10.1.2.0/24"
-etrs = ["127.0.2.1"]
-[[authority.site]]
-prefix = "[0]10.1.4.0/24"
-etrs = []
-[[authority.site]]
-prefix = "[0]10.1.4.128/25"
-etrs = ["127.0.2.2"]
-[[authority.site]]
-prefix = "[0]10.1.2.64/26"
-etrs = []
 "#;
 
 fn compiled(alloc: Global, text: &str) -> Result<Listed<ServerConfig>, Fail> {
@@ -173,7 +96,7 @@ fn a_zone_and_a_site_may_stand_before_the_zone_above(rt: HostRuntime) -> Result<
 #[test]
 fn sites_inside_sites_stand_side_by_side(rt: HostRuntime) -> Result<(), Fail> {
     let alloc = rt.alloc();
-    let configs = compiled(alloc, NESTED)?;
+    let configs = compiled(alloc, NESTED_SITES)?;
     let [_root, ten, east] = configs.as_slice() else {
         return Err("three groups".into());
     };
@@ -185,7 +108,7 @@ fn sites_inside_sites_stand_side_by_side(rt: HostRuntime) -> Result<(), Fail> {
 #[test]
 fn one_group_is_compiled_alone(rt: HostRuntime) -> Result<(), Fail> {
     let alloc = rt.alloc();
-    let Ok(register) = read_register(alloc, NESTED.as_bytes()) else {
+    let Ok(register) = read_register(alloc, NESTED_SITES.as_bytes()) else {
         return Err("no register".into());
     };
     let Ok(accepted) = check(register) else {

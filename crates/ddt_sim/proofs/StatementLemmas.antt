@@ -43,7 +43,7 @@ use Rattle.ddt_sim.specs.declared.schedule.Transcript.{Transcript}
 use Rattle.ddt_sim.specs.Sound.{IsSound, StepsKeepSoundness, TimeKeepsSoundness, IsRight, IsRightHeard, IsRightEnd, IsRightWhy}
 use Rattle.ddt_sim.specs.World.{World, honest_replies, event_of, Calls, asked, heard, ticked, Resolves, WorldStep, resolves, replies, silent, not_sent, passes}
 use Rattle.ddt_sim.specs.History.{Line, History, begin, next, Each, at_start, Tells, StopsAfter}
-use Rattle.ddt_sim.specs.Schedules.{StartsSound, EachLine, Ends, IsRightAnswer, IsOnce, HasReply, IsRightReply, IsRightFailure}
+use Rattle.ddt_sim.specs.Schedules.{StartsSound, Ends, IsRightAnswer, IsOnce, HasReply, IsRightReply, IsRightFailure}
 use Rattle.ddt_sim.proofs.ReplyLemmas.{IsFor, act_is_for}
 use Rattle.ddt_sim.proofs.SentLemmas as sent
 use Rattle.ddt_sim.proofs.SentLemmas.{IsKnown, ignored_rightly}
@@ -362,14 +362,14 @@ module _ (laws : Promises) (are_honest : Register → Type 0) (old : State) (o :
     pub ends_soundly : (past : List Line) → Tells are_honest old steps t new past → IsSound r new
     ends_soundly past tells = subst (IsSound r) (sym tells.state_is) (sound_run r are_honest on (at_start old) first past tells.last tells.history).sound
 
-    pub each_answer : EachLine are_honest old steps t new (IsRightAnswer r)
+    pub each_answer : (past : List Line) → Tells are_honest old steps t new past → Each (IsRightAnswer r) past
     each_answer past tells = each_line r are_honest on (at_start old) first (IsRightAnswer r) (right_answer r are_honest on) past tells.last tells.history
 
-    pub each_reply : EachLine are_honest old steps t new (IsRightReply r)
+    pub each_reply : (past : List Line) → Tells are_honest old steps t new past → Each (IsRightReply r) past
     each_reply past tells = each_line r are_honest on (at_start old) first (IsRightReply r) (right_reply r are_honest on) past tells.last tells.history
 
-    pub each_once : EachLine are_honest old steps t new IsOnce
+    pub each_once : (past : List Line) → Tells are_honest old steps t new past → Each IsOnce past
     each_once past tells = each_line r are_honest on (at_start old) first IsOnce (once_each r are_honest on) past tells.last tells.history
 
-    pub each_failure : EachLine are_honest old steps t new IsRightFailure
+    pub each_failure : (past : List Line) → Tells are_honest old steps t new past → Each IsRightFailure past
     each_failure past tells = each_line r are_honest on (at_start old) first IsRightFailure (right_failure r are_honest on) past tells.last tells.history

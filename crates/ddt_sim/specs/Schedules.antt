@@ -37,10 +37,6 @@ pub record StartsSound (r : Register) (s : State) : Type 0 where
   pub sound : IsSound r s
   pub at_rest : (t : ℕ) → get s.pending t ≡ None
 
--- what holds of each line of the history that a transcript tells
-abbrev pub EachLine : (Register → Type 0) → State → List Step → Transcript → State → (List Line → Line → Type 0) → Type 0
-EachLine are_honest old steps t new holds = (past : List Line) → Tells are_honest old steps t new past → Each holds past
-
 -- an event opens a ticket, or ends it: with an outcome, or with the reason why there is none
 abbrev pub Opens : Event → ℕ → Type 0
 Opens (Asked (asked_as.Sent u d)) t = u ≡ t
@@ -116,3 +112,23 @@ pub record IsRightFailure (past : List Line) (line : Line) : Type 0 where
   pub refused : (why : AskError) → line.event ≡ Refused why
       → ((why ≡ ask_error.TooMany) × (len line.before.state.pending ≡ most_pending))
       ⊎ ((why ≡ ask_error.Exhausted) × (line.before.state.next ≡ last_nonce))
+
+-- Over servers that are honest to a register, and from such a resolver, this holds of each line of the history that a
+-- transcript tells, and the lines before it.
+abbrev pub EachLine : (Register → List Line → Line → Type 0) → (Register → Type 0) → State → List Step → Transcript
+    → State → Type 0
+EachLine holds are_honest old steps t new =
+    (r : Register) → are_honest r → StartsSound r old → (past : List Line) → Tells are_honest old steps t new past
+    → Each (holds r) past
+
+abbrev pub AnswersAreRight : (Register → Type 0) → State → List Step → Transcript → State → Type 0
+AnswersAreRight = EachLine IsRightAnswer
+
+abbrev pub RepliesAreRight : (Register → Type 0) → State → List Step → Transcript → State → Type 0
+RepliesAreRight = EachLine IsRightReply
+
+abbrev pub TicketsEndOnce : (Register → Type 0) → State → List Step → Transcript → State → Type 0
+TicketsEndOnce = EachLine (λ r. IsOnce)
+
+abbrev pub FailuresAreRight : (Register → Type 0) → State → List Step → Transcript → State → Type 0
+FailuresAreRight = EachLine (λ r. IsRightFailure)

@@ -9,7 +9,7 @@ ghost use Rattle.ddt_resolver.specs.declared.answers.AskError.TheVariants as ask
 ghost use Rattle.ddt_wire.specs.Address.{IsAddress};
 ghost use Rattle.ddt_sim.specs.World.{world, honest_replies, request_at, sent_for, later as later_than, IsToldAsk, Resolves, WorldStep, Stops};
 ghost use Rattle.ddt_sim.specs.History.{Line, Tells, StopsAfter};
-ghost use Rattle.ddt_sim.specs.Schedules.{StartsSound, EachLine, IsRightAnswer, IsRightReply, IsOnce, IsRightFailure};
+ghost use Rattle.ddt_sim.specs.Schedules.{StartsSound, AnswersAreRight, RepliesAreRight, TicketsEndOnce, FailuresAreRight};
 ghost use Rattle.ddt_sim.specs.Sound.{IsSound};
 ghost use Rattle.ddt_sim.specs.Waiting.{CanBeAsked};
 
@@ -38,14 +38,14 @@ pub fn run<S: Servers, M: PrefixMap<Entry>>(
 ) -> Result<Transcript, AllocError>
     // Over honest servers of an accepted register, and from a resolver that is sound for it and has nothing pending, each
     // answer is what the register assigns to the identifier of its own ask.
-    ensures answers { (r : Register) → S.honest servers.old r → StartsSound r resolver.old → IfOk result (λ t. EachLine (S.honest servers.old) resolver.old steps.now t resolver.new (IsRightAnswer r)) }
+    ensures answers { IfOk result (λ t. AnswersAreRight (S.honest servers.old) resolver.old steps.now t resolver.new) }
     // Each request that is delivered has its reply, which spells its nonce and what the register says there.
-    ensures replies { (r : Register) → S.honest servers.old r → StartsSound r resolver.old → IfOk result (λ t. EachLine (S.honest servers.old) resolver.old steps.now t resolver.new (IsRightReply r)) }
+    ensures replies { IfOk result (λ t. RepliesAreRight (S.honest servers.old) resolver.old steps.now t resolver.new) }
     // No ticket ends twice.
-    ensures once { (r : Register) → S.honest servers.old r → StartsSound r resolver.old → IfOk result (λ t. EachLine (S.honest servers.old) resolver.old steps.now t resolver.new IsOnce) }
+    ensures once { IfOk result (λ t. TicketsEndOnce (S.honest servers.old) resolver.old steps.now t resolver.new) }
     // A lookup gives up only for want of a reply or of nonces, a reply is ignored only where it comes too late, and an ask
     // is refused only for want of room or of nonces.
-    ensures failures { (r : Register) → S.honest servers.old r → StartsSound r resolver.old → IfOk result (λ t. EachLine (S.honest servers.old) resolver.old steps.now t resolver.new IsRightFailure) }
+    ensures failures { IfOk result (λ t. FailuresAreRight (S.honest servers.old) resolver.old steps.now t resolver.new) }
     // The resolver is sound afterwards, also where memory stops it.
     ensures sound { (r : Register) → S.honest servers.old r → StartsSound r resolver.old → IsSound r resolver.new }
     // Whatever the servers reply: the transcript tells a run of the resolver's steps and the servers' replies.

@@ -2,7 +2,7 @@
 # Runs the tests of bench/resolver_schedules on a copy of the crate ddt_resolver: random schedules of asks, ticks and
 # datagrams (right, wrong, late, repeated, cut), with waits to the end of an entry or to a deadline, or to one millisecond
 # before, in which the resolver and a plain one over lists must answer the same and remember the same: 2,000 over a list,
-# 2,000 over a trie, and one with a table that is nearly full. They are run and not proved, so they stand outside the
+# 2,000 over a trie, and one with a full table. They are run and not proved, so they stand outside the
 # crate, under names that no check reads. Takes some two minutes. Ends with the tests' status.
 set -u
 top=$(cd -- "$(dirname -- "${BASH_SOURCE[0]}")/.." && pwd) || exit 1

@@ -1,5 +1,5 @@
--- The lines that the program prints: an outcome, a register that is accepted, a Map-Referral, an encapsulated
--- Map-Request.
+-- The lines that the program prints: an outcome, a register that is accepted, a Map-Referral, a hop of a lookup, an
+-- encapsulated Map-Request.
 use Rattle.std.specs.Prelude.{ℕ, Bool, true, false, List, ◌++◌, codes, decimal}
 use Rattle.std.specs.List.{flat_map}
 use Rattle.std.specs.Int.{w64, to_be_bytes}
@@ -54,6 +54,12 @@ referral_text v =
     codes "referral nonce " ++ nonce_text v.nonce ++ codes " " ++ action_text v.action ++ codes " "
     ++ written_prefix v.prefix
     ++ codes " ttl " ++ decimal v.ttl ++ whole_text v.incomplete ++ spaced v.locators
+
+-- a server that was asked, and what its Map-Referral says: action, prefix, minutes, locators
+abbrev pub hop_text : Locator → referral.Message → List ℕ
+hop_text to v =
+    written_locator to ++ codes " " ++ action_text v.action ++ codes " " ++ written_prefix v.prefix ++ codes " "
+    ++ decimal v.ttl ++ spaced v.locators
 
 -- a DDT client or an ITR asks
 abbrev pub client_text : Bool → List ℕ

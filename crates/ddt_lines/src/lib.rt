@@ -1,9 +1,10 @@
 //! The lines that the program prints, and how a text is written to a stream.
 //!
-//! In reading order: `text` (the parts of a line), `outcome`, `counts`, `referral`, `request` (a line each), `printing`.
+//! In reading order: `text` (the parts of a line), `outcome`, `counts`, `referral`, `hop`, `request` (a line each), `printing`.
 #![tactic(auto)]
 
 mod counts;
+mod hop;
 mod outcome;
 mod printing;
 mod referral;
@@ -13,6 +14,7 @@ mod tests;
 mod text;
 
 pub use counts::accepted_line;
+pub use hop::hop_line;
 pub use outcome::outcome_line;
 pub use printing::print;
 pub use referral::referral_line;

@@ -38,7 +38,8 @@ fn whole(incomplete: bool) -> &'static str
     }
 }
 
-fn push_referral_set(line: &mut Vec<u8>, locators: Locators<'_>) -> Result<(), AllocError>
+/// Appends each locator of a Map-Referral behind a blank. Fails only if out of memory.
+pub(crate) fn push_referral_set(line: &mut Vec<u8>, locators: Locators<'_>) -> Result<(), AllocError>
     ensures { OnOk result (line.new.items ≡ line.old.items ++ spaced locators.entry) }
 {
     for locator in locators {
@@ -48,7 +49,7 @@ fn push_referral_set(line: &mut Vec<u8>, locators: Locators<'_>) -> Result<(), A
 }
 
 /// The name of an action (RFC 8111, section 6.1).
-fn action_name(action: Action) -> &'static str
+pub(crate) fn action_name(action: Action) -> &'static str
     ensures { result.now ≡ action_text action }
 {
     match action {

@@ -1,9 +1,7 @@
 -- What is so of the register that a path opens.
-use Rattle.std.proofs.Common.{◌≡◌, ℕ, List, Option, Some, None}
+use Rattle.std.proofs.Common.{◌≡◌, ℕ, List, Option, None}
 use Rattle.ddt_register.specs.declared.register.Register.{Register}
-use Rattle.ddt_words.specs.Call.{Call}
-use Rattle.ddt.specs.declared.refusal.word.WordRefusal.{WordRefusal}
-use Rattle.ddt.specs.Over.{OfItsRegister, path}
+use Rattle.ddt.specs.Over.{OfItsRegister}
 use Rattle.ddt.specs.Register.{IsAcceptedIn, Tells}
 
 -- of the register of a source that was opened

@@ -1,17 +1,18 @@
 -- The list of commands: the name of each, the text that it answers, and why it refuses.
-use Rattle.std.specs.Prelude.{ℕ, List, [], ◌∷◌, codes, Option}
+use Rattle.std.specs.Prelude.{ℕ, Bool, true, ◌≡◌, List, [], ◌∷◌, codes, Option}
 use Rattle.clap.specs.Words.{App}
 use Rattle.ddt_words.specs.declared.declaration.Declaration.{Declaration}
 use Rattle.ddt_words.specs.Call.{Call}
-use Rattle.ddt_words.specs.Line.{line, one, takes}
+use Rattle.ddt_words.specs.Line.{line, one, setting, several, takes}
 use Rattle.ddt.specs.declared.commands.Command.{Command}
-use Rattle.ddt.specs.declared.commands.Command.TheVariants.{Answer, Assign, Check, Compile, Show}
+use Rattle.ddt.specs.declared.commands.Command.TheVariants.{Answer, Assign, Check, Compile, Lookup, Show}
 use Rattle.ddt.specs.declared.refusal.Refusal.{Refusal}
-use Rattle.ddt.specs.Over.{IsTextOver, IsWhyOver}
+use Rattle.ddt.specs.Over.{IsTextOver, IsWhyOver, whole}
 use Rattle.ddt.specs.Answer.{IsAnswerText}
 use Rattle.ddt.specs.Assign.{IsAssignText, WantsMemory, bad_xeid}
 use Rattle.ddt.specs.Check.{IsCheckText, no_bad_word}
 use Rattle.ddt.specs.Compile.{IsConfigText, IsWhyNoGroup}
+use Rattle.ddt.specs.Lookup.{IsLookupText, bad_lookup}
 use Rattle.ddt.specs.Show.{IsShowText, IsWhyNotShown}
 
 abbrev pub name_of : Command → List ℕ
@@ -19,6 +20,7 @@ name_of Answer = codes "answer"
 name_of Assign = codes "assign"
 name_of Check = codes "check"
 name_of Compile = codes "compile"
+name_of Lookup = codes "lookup"
 name_of Show = codes "show"
 
 -- what each command takes
@@ -28,6 +30,8 @@ command_list =
     ∷ takes (codes "assign") (one (codes "register") ∷ one (codes "xeid") ∷ [])
     ∷ takes (codes "check") (one (codes "register") ∷ [])
     ∷ takes (codes "compile") (one (codes "register") ∷ one (codes "group") ∷ [])
+    ∷ takes (codes "lookup")
+    (one (codes "register") ∷ several (codes "xeid") ∷ setting (codes "me") ∷ setting (codes "seed") ∷ [])
     ∷ takes (codes "show") (one (codes "hex") ∷ [])
     ∷ []
 
@@ -35,14 +39,20 @@ command_list =
 abbrev pub program_line : App
 program_line = line command_list
 
--- what a command answers, over what a path opens and what a file tells
-abbrev pub IsTextOf : {F : Type 0} → (List ℕ → Option F → Type 0) → (F → Option (List ℕ)) → Command → Call → List ℕ
-    → Type 0
-IsTextOf opens remaining Answer call text = IsTextOver opens remaining bad_xeid IsAnswerText call text
-IsTextOf opens remaining Assign call text = IsTextOver opens remaining bad_xeid IsAssignText call text
-IsTextOf opens remaining Check call text = IsTextOver opens remaining no_bad_word IsCheckText call text
-IsTextOf opens remaining Compile call text = IsTextOver opens remaining no_bad_word IsConfigText call text
-IsTextOf opens remaining Show call text = IsShowText call text
+-- what a command answers, over what a path opens and what a file tells; and whether it is complete
+abbrev pub IsTextOf : {F : Type 0} → (List ℕ → Option F → Type 0) → (F → Option (List ℕ)) → Command → Call → Bool
+    → List ℕ → Type 0
+IsTextOf opens remaining Answer call complete text =
+    IsTextOver opens remaining bad_xeid (whole IsAnswerText complete) call text
+IsTextOf opens remaining Assign call complete text =
+    IsTextOver opens remaining bad_xeid (whole IsAssignText complete) call text
+IsTextOf opens remaining Check call complete text =
+    IsTextOver opens remaining no_bad_word (whole IsCheckText complete) call text
+IsTextOf opens remaining Compile call complete text =
+    IsTextOver opens remaining no_bad_word (whole IsConfigText complete) call text
+IsTextOf opens remaining Lookup call complete text =
+    IsTextOver opens remaining bad_lookup (IsLookupText complete) call text
+IsTextOf opens remaining Show call complete text = (complete ≡ true) × IsShowText call text
 
 -- why a command refuses
 abbrev pub IsWhyOf : {F : Type 0} → (List ℕ → Option F → Type 0) → (F → Option (List ℕ)) → Command → Call → Refusal
@@ -51,4 +61,5 @@ IsWhyOf opens remaining Answer call why = IsWhyOver opens remaining bad_xeid IsW
 IsWhyOf opens remaining Assign call why = IsWhyOver opens remaining bad_xeid WantsMemory call why
 IsWhyOf opens remaining Check call why = IsWhyOver opens remaining no_bad_word WantsMemory call why
 IsWhyOf opens remaining Compile call why = IsWhyOver opens remaining no_bad_word IsWhyNoGroup call why
+IsWhyOf opens remaining Lookup call why = IsWhyOver opens remaining bad_lookup WantsMemory call why
 IsWhyOf opens remaining Show call why = IsWhyNotShown call why

@@ -6,6 +6,7 @@ pub mod Answer
 pub mod Assign
 pub mod Check
 pub mod Compile
+pub mod Lookup
 pub mod Show
 pub mod Commands
 pub mod Telling

@@ -1,5 +1,5 @@
 -- What a command over a register prints, and why it refuses, over the file that its path opens.
-use Rattle.std.specs.Prelude.{ℕ, ◌≡◌, ◌≢◌, ◌⊎◌, List, codes, Option, None, Some}
+use Rattle.std.specs.Prelude.{ℕ, Bool, true, ◌≡◌, ◌≢◌, ◌⊎◌, List, codes, Option, None, Some}
 use Rattle.ddt_register.specs.declared.register.Register.{Register}
 use Rattle.ddt_words.specs.Call.{Call, value}
 use Rattle.ddt.specs.declared.refusal.Refusal.{Refusal}
@@ -21,6 +21,10 @@ OfItsRegister remaining source is_so =
 abbrev pub OpensTo : {F : Type 0} → (List ℕ → Option F → Type 0) → Option WordRefusal → Call → (Option F → Type 0)
     → Type 0
 OpensTo opens bad call is_so = (bad ≡ None) × ((source : Option _) × opens (path call) source × is_so source)
+
+-- a text of this kind, which is complete
+abbrev pub whole : (Call → Register → List ℕ → Type 0) → Bool → Call → Register → List ℕ → Type 0
+whole answers complete call r text = (complete ≡ true) × answers call r text
 
 -- what a command over a register answers, which answers such a text of a register
 abbrev pub IsTextOver : {F : Type 0} → (List ℕ → Option F → Type 0) → (F → Option (List ℕ))

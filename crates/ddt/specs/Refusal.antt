@@ -1,17 +1,21 @@
 -- The text of a refusal; None for those that show a fault, whose text is the fault's own.
 use Rattle.std.specs.Prelude.{ℕ, ◌≡◌, ◌⊎◌, List, ◌++◌, Option, None, Some, codes, IfSome}
-use Rattle.std.specs.Io.KnownBytes.{Appends}
 use Rattle.ddt_lines.specs.Lines.{ended}
-use Rattle.ddt_lines.specs.Printing.{AppendsFront}
 use Rattle.ddt_register.specs.declared.fault.ReadFault.{ReadFault}
 use Rattle.ddt_register.specs.declared.fault.ReadFault.TheVariants.{Memory, Read}
 use Rattle.ddt.specs.declared.refusal.Refusal.{Refusal}
 use Rattle.ddt.specs.declared.refusal.Refusal.TheVariants.{BadWord, NoRegister, NoMessage, OutOfMemory}
 use Rattle.ddt.specs.declared.refusal.word.WordRefusal.{WordRefusal}
+use Rattle.ddt.specs.declared.refusal.word.WordRefusal.TheVariants.{Identifier, Address, Number}
 use Rattle.ddt.specs.declared.refusal.register.RegisterRefusal.{RegisterRefusal}
 use Rattle.ddt.specs.declared.refusal.register.RegisterRefusal.TheVariants.{CannotOpen, Unreadable, CannotRead, BreaksRule, NoSuchGroup}
 use Rattle.ddt.specs.declared.refusal.message.MessageRefusal.{MessageRefusal}
 use Rattle.ddt.specs.declared.refusal.message.MessageRefusal.TheVariants.{NotHex, UnknownMessage, NoReferral, NoRequest}
+
+abbrev pub word_refusal_text : WordRefusal → Option (List ℕ)
+word_refusal_text (Identifier fault) = None
+word_refusal_text Address = Some (codes "bad address")
+word_refusal_text Number = Some (codes "bad number")
 
 abbrev pub register_refusal_text : RegisterRefusal → Option (List ℕ)
 register_refusal_text (CannotOpen path) = Some (codes "cannot open " ++ path.now)
@@ -27,7 +31,7 @@ message_refusal_text (NoReferral fault) = None
 message_refusal_text (NoRequest fault) = None
 
 abbrev pub refusal_text : Refusal → Option (List ℕ)
-refusal_text (BadWord why) = None
+refusal_text (BadWord why) = word_refusal_text why
 refusal_text (NoRegister why) = register_refusal_text why
 refusal_text (NoMessage why) = message_refusal_text why
 refusal_text OutOfMemory = Some (codes "out of memory")

@@ -2,13 +2,12 @@
 use Rattle.std.specs.Prelude.{ℕ, ◌≡◌, ⊤, List, Option, None, Some, Result, Ok, Err}
 use Rattle.csv.specs.Reading.{default_config, records, strip_bom}
 use Rattle.ddt_register.specs.declared.fault.ReadFault.{ReadFault}
-use Rattle.ddt_register.specs.declared.fault.ReadFault.TheVariants.{Memory, Read}
 use Rattle.ddt_register.specs.declared.register.Register.{Register}
-use Rattle.ddt_register.specs.Spelled.{Lists, Gives, spelled, lists_of}
+use Rattle.ddt_register.specs.Spelled.{Lists, spelled, lists_of}
 use Rattle.ddt_check.specs.declared.fault.Fault.{Fault}
 use Rattle.ddt_check.specs.Rules.{IsAccepted, IsLeastFault}
 use Rattle.ddt.specs.declared.refusal.Refusal.{Refusal}
-use Rattle.ddt.specs.declared.refusal.Refusal.TheVariants.{BadWord, NoRegister, NoMessage, OutOfMemory}
+use Rattle.ddt.specs.declared.refusal.Refusal.TheVariants.{NoRegister, OutOfMemory}
 use Rattle.ddt.specs.declared.refusal.register.RegisterRefusal.{RegisterRefusal}
 use Rattle.ddt.specs.declared.refusal.register.RegisterRefusal.TheVariants.{CannotOpen, Unreadable, CannotRead, BreaksRule, NoSuchGroup}
 

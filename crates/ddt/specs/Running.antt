@@ -1,5 +1,5 @@
 -- What the words of a process print.
-use Rattle.std.specs.Prelude.{ℕ, ◌≡◌, ◌⊎◌, List, Option}
+use Rattle.std.specs.Prelude.{ℕ, Bool, ◌≡◌, ◌⊎◌, List, Option}
 use Rattle.ddt_words.specs.Call.{Call, Calls}
 use Rattle.ddt.specs.declared.commands.Command.{Command}
 use Rattle.ddt.specs.declared.refusal.Refusal.{Refusal}
@@ -9,7 +9,7 @@ use Rattle.ddt.specs.Telling.{Tells, TellsFront}
 use Rattle.ddt_lines.specs.Printing.{AppendsFront}
 use Rattle.std.specs.Io.KnownBytes.{Appends}
 use Rattle.ddt.specs.declared.status.Status.{Status}
-use Rattle.ddt.specs.declared.status.Status.TheVariants.{Answered, Refused, BadWords, Unprinted}
+use Rattle.ddt.specs.declared.status.Status.TheVariants.{Answered, Incomplete, Refused, BadWords, Unprinted}
 
 -- the words call this command
 abbrev pub CallsFor : List (List ℕ) → Command → Call → Type 0
@@ -19,11 +19,12 @@ CallsFor words command call = Calls command_list words call × (call.0 ≡ name_
 abbrev pub CallNone : List (List ℕ) → Type 0
 CallNone words = (command : Command) (call : Call) → CallsFor words command call → ⊥
 
--- the text that the words call for
-abbrev pub IsAnswer : {F : Type 0} → (List ℕ → Option F → Type 0) → (F → Option (List ℕ)) → List (List ℕ)
+-- the text that the words call for, and whether it is complete
+abbrev pub IsAnswer : {F : Type 0} → (List ℕ → Option F → Type 0) → (F → Option (List ℕ)) → List (List ℕ) → Bool
     → List ℕ → Type 0
-IsAnswer opens remaining words text =
-    (command : Command) × ((call : Call) × CallsFor words command call × IsTextOf opens remaining command call text)
+IsAnswer opens remaining words complete text =
+    (command : Command)
+    × ((call : Call) × CallsFor words command call × IsTextOf opens remaining command call complete text)
 
 -- why the command that the words call refuses; memory may be wanted at any time
 abbrev pub IsWhyRefused : {F : Type 0} → (List ℕ → Option F → Type 0) → (F → Option (List ℕ)) → List (List ℕ)
@@ -41,16 +42,17 @@ abbrev pub HasRefused : (Refusal → Type 0) → Option (List ℕ) → Option (L
 HasRefused is_why old new = (why : Refusal) × is_why why × Tells why old new
 
 -- the output has a front of such a text, or the error stream a front of such a refusal's line
-abbrev pub HasPartOf : (List ℕ → Type 0) → (Refusal → Type 0) → Option (List ℕ) → Option (List ℕ) → Option (List ℕ)
+abbrev pub HasPartOf : (Bool → List ℕ → Type 0) → (Refusal → Type 0) → Option (List ℕ) → Option (List ℕ) → Option (List ℕ)
     → Option (List ℕ) → Type 0
 HasPartOf is_text is_why out out_new err err_new =
-    ((text : List ℕ) × is_text text × AppendsFront out out_new text)
+    ((complete : Bool) × ((text : List ℕ) × is_text complete text × AppendsFront out out_new text))
     ⊎ ((why : Refusal) × is_why why × TellsFront why err err_new)
 
 -- An answer leaves the error stream as it was, a refusal and bad words leave the output, and an end without a line
 -- leaves one of them.
 abbrev pub StayApart : Status → Type 0 → Type 0 → Type 0
 StayApart Answered same_out same_err = same_err
+StayApart Incomplete same_out same_err = same_err
 StayApart Refused same_out same_err = same_out
 StayApart BadWords same_out same_err = same_out
 StayApart Unprinted same_out same_err = same_out ⊎ same_err

@@ -20,8 +20,8 @@ use ddt_path::{Locator, Name, Xeid};
 use ddt_trie::TrieMap;
 use std::alloc::{AllocError, Global};
 
-/// The resolver that asks, 127.0.0.53.
-const RESOLVER: Locator = Locator::V4(0x7f00_0035);
+/// The address of the resolver that asks, 127.0.0.53.
+pub const RESOLVER: Locator = Locator::V4(0x7f00_0035);
 
 /// The bytes of the Map-Referral for nonce 1 that the group's server at its first locator answers; None exactly where
 /// no group has the name. Refused for memory alone.

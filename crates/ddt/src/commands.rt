@@ -4,6 +4,7 @@ mod answer;
 mod assign;
 mod check;
 mod compile;
+mod lookup;
 mod show;
 
 ghost use Rattle.std.specs.Prelude.{◌≡◌, ◌≢◌, IfErr, IfOk, MatchOption};
@@ -13,13 +14,15 @@ ghost use Rattle.ddt_words.specs.Line.{line};
 ghost use Rattle.ddt.specs.declared.commands.Command.{Command as ACommand};
 ghost use Rattle.ddt.specs.Commands.{IsTextOf, IsWhyOf, name_of, program_line};
 
-use crate::over::text_over;
+use crate::lines::Lines;
+use crate::over::lines_over;
 use crate::refusal::Refusal;
 use answer::Answer;
 use assign::Assign;
 use check::Check;
 use compile::Compile;
 use ddt_words::{Declaration, Words};
+use lookup::Lookup;
 use std::alloc::Global;
 use std::io::Read;
 
@@ -32,6 +35,7 @@ pub fn command_list() -> &'static [Declaration<'static>]
         assign::WORDS,
         check::WORDS,
         compile::WORDS,
+        lookup::WORDS,
         show::WORDS,
     ]
 }
@@ -43,6 +47,7 @@ pub enum Command {
     Assign,
     Check,
     Compile,
+    Lookup,
     Show,
 }
 
@@ -56,32 +61,34 @@ impl Command {
             "assign" => Some(Command::Assign),
             "check" => Some(Command::Check),
             "compile" => Some(Command::Compile),
+            "lookup" => Some(Command::Lookup),
             "show" => Some(Command::Show),
             _ => None,
         }
     }
 }
 
-/// The text that a command answers, or why it refuses. `open_file` gives a file, or None where it can't be opened.
-pub fn text_of<'a, F, O>(
+/// The lines that a command answers, or why it refuses. `open_file` gives a file, or None where it can't be opened.
+pub fn lines_of<'a, F, O>(
     alloc: Global,
     command: Command,
     words: &Words<'a>,
     open_file: O,
-) -> Result<Vec<u8>, Refusal<'a>>
+) -> Result<Lines, Refusal<'a>>
 where
     F: Read + Drop,
     O: FnOnce(&str) -> Option<F> + Drop,
     requires { O.IsAlwaysCallable open_file }
-    ensures text { IfOk result (λ text. IsTextOf (ReturnsAt O.FnOnce open_file) F.remaining
-        command (call_of words.now) text.items) }
+    ensures text { IfOk result (λ lines. IsTextOf (ReturnsAt O.FnOnce open_file) F.remaining
+        command (call_of words.now) lines.complete lines.text.items) }
     ensures refused { IfErr result (IsWhyOf (ReturnsAt O.FnOnce open_file) F.remaining command (call_of words.now)) }
 {
     match command {
-        Command::Answer => text_over::<Answer<'a>, F, O>(alloc, words, open_file),
-        Command::Assign => text_over::<Assign, F, O>(alloc, words, open_file),
-        Command::Check => text_over::<Check, F, O>(alloc, words, open_file),
-        Command::Compile => text_over::<Compile<'a>, F, O>(alloc, words, open_file),
-        Command::Show => show::text(alloc, words),
+        Command::Answer => lines_over::<Answer<'a>, F, O>(alloc, words, open_file),
+        Command::Assign => lines_over::<Assign, F, O>(alloc, words, open_file),
+        Command::Check => lines_over::<Check, F, O>(alloc, words, open_file),
+        Command::Compile => lines_over::<Compile<'a>, F, O>(alloc, words, open_file),
+        Command::Lookup => lines_over::<Lookup, F, O>(alloc, words, open_file),
+        Command::Show => show::lines(alloc, words),
     }
 }

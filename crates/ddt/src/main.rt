@@ -1,11 +1,14 @@
 //! The program: one command over a register, its words, and what it prints.
 //!
 //! In reading order: `running`, `commands` (the list), `over` (commands over a register), `commands/*`, `answering`,
-//! `telling`, `refusal`, `status`.
+//! `looking_up`, `number`, `lines`, `telling`, `refusal`, `status`.
 #![tactic(auto)]
 
 mod answering;
 mod commands;
+mod lines;
+mod looking_up;
+mod number;
 mod over;
 mod refusal;
 mod running;

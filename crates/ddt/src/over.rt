@@ -1,6 +1,6 @@
 //! Commands over one register, and how any of them comes to its text.
 
-ghost use Rattle.std.specs.Prelude.{◌≡◌, ℕ, List, Option, None, Some, Err, IsErr, IfOk, IfErr};
+ghost use Rattle.std.specs.Prelude.{◌≡◌, ℕ, Bool, List, Option, None, Some, Err, IsErr, IfOk, IfErr};
 ghost use Rattle.std.specs.Fn.{FnOnceReturnsAt};
 ghost use Rattle.ddt_register.specs.declared.register.Register.{Register as ARegister};
 ghost use Rattle.ddt_register.specs.declared.fault.ReadFault.{ReadFault as AReadFault};
@@ -12,6 +12,7 @@ ghost use Rattle.ddt.specs.Over.{IsTextOver, IsWhyOver};
 ghost use Rattle.ddt.specs.Refusal.{reading_refusal};
 ghost use Rattle.ddt.specs.Register.{IsAcceptedIn, IsRuleBroken, IsWhyNoRegister, Tells};
 
+use crate::lines::Lines;
 use crate::refusal::{Refusal, RegisterRefusal, WordRefusal};
 use ddt_check::{Accepted, check};
 use ddt_register::{ReadFault, Register, read_register};
@@ -25,8 +26,8 @@ pub trait OverRegister<'a>: Sized {
     ghost bad_word: { Call → Option AWordRefusal };
     /// The call asks for this.
     ghost asks: { Call → Self → Type 0 };
-    /// The text that a call answers of a register.
-    ghost answers: { Call → ARegister → List ℕ → Type 0 };
+    /// The text that a call answers of a register, where it is complete and where it isn't.
+    ghost answers: { Bool → Call → ARegister → List ℕ → Type 0 };
     /// Why a call has no answer of a register.
     ghost refuses: { Call → ARegister → ARefusal → Type 0 };
 
@@ -36,26 +37,33 @@ pub trait OverRegister<'a>: Sized {
         ensures asks { IfOk result (asks (call_of words.now)) }
         ensures bad { IfErr result (λ why. bad_word (call_of words.now) ≡ Some why) };
 
-    /// The text of the command, or why the register has none.
-    fn text(&self, alloc: Global, register: &Accepted) -> Result<Vec<u8>, Refusal<'static>>
-        ensures text { IfOk result (λ text. (call : Call) → asks call self.now → answers call register.now text.items) }
-        ensures refused { IfErr result (λ why. (call : Call) → asks call self.now → refuses call register.now why) };
+    /// The lines of the command, whose words these are, or why the register has none.
+    fn lines(
+        &self,
+        alloc: Global,
+        words: &Words<'a>,
+        register: &Accepted,
+    ) -> Result<Lines, Refusal<'static>>
+        ensures text { asks (call_of words.now) self.now → IfOk result (λ lines.
+            answers lines.complete (call_of words.now) register.now lines.text.items) }
+        ensures refused { asks (call_of words.now) self.now
+            → IfErr result (refuses (call_of words.now) register.now) };
 }
 
-/// The text of a command over its register, or why there is none. The words are looked at first, then the file is
+/// The lines of a command over its register, or why there are none. The words are looked at first, then the file is
 /// opened and read, then the rules, then what the command has to say of the register.
-pub fn text_over<'a, C, F, O>(
+pub fn lines_over<'a, C, F, O>(
     alloc: Global,
     words: &Words<'a>,
     open_file: O,
-) -> Result<Vec<u8>, Refusal<'a>>
+) -> Result<Lines, Refusal<'a>>
 where
     C: OverRegister<'a> + Drop,
     F: Read + Drop,
     O: FnOnce(&str) -> Option<F> + Drop,
     requires { O.IsAlwaysCallable open_file }
-    ensures text { IfOk result (λ text. IsTextOver (FnOnceReturnsAt O.FnOnce open_file) F.remaining
-        C.bad_word C.answers (call_of words.now) text.items) }
+    ensures text { IfOk result (λ lines. IsTextOver (FnOnceReturnsAt O.FnOnce open_file) F.remaining
+        C.bad_word (C.answers lines.complete) (call_of words.now) lines.text.items) }
     ensures refused { IfErr result (IsWhyOver (FnOnceReturnsAt O.FnOnce open_file) F.remaining
         C.bad_word C.refuses (call_of words.now)) }
 {
@@ -65,7 +73,7 @@ where
     };
     let path = words.value("register");
     let register = register_at(alloc, open_file(path), path)?;
-    command.text(alloc, &register)
+    command.lines(alloc, words, &register)
 }
 
 /// The accepted register of a source that could be opened, or why there is none.

@@ -1,18 +1,18 @@
 //! From the words of the process to the command that they call, and its end.
 
-ghost use Rattle.std.specs.Prelude.{◌≡◌, ◌≢◌, ◌⊎◌, map, string_bytes};
+ghost use Rattle.std.specs.Prelude.{◌≡◌, ◌≢◌, ◌⊎◌, Bool, map, string_bytes};
 ghost use Rattle.std.specs.Fn.{FnOnceReturnsAt};
 ghost use Rattle.ddt_words.specs.Call.{call_of};
 ghost use Rattle.ddt.specs.declared.status.Status.TheVariants.{
-  Answered as IsAnswered,
   Refused as IsRefused,
   BadWords as IsBadWords,
   Unprinted as IsUnprinted,
 };
+ghost use Rattle.ddt.specs.Status.{answer_status};
 ghost use Rattle.ddt.specs.Commands.{IsTextOf, IsWhyOf};
 ghost use Rattle.ddt.specs.Running.{CallNone, HasPartOf, HasRefused, HasText, IsAnswer, IsWhyRefused, StayApart};
 
-use crate::commands::{Command, command_list, text_of};
+use crate::commands::{Command, command_list, lines_of};
 use crate::refusal::Refusal;
 use crate::status::Status;
 use crate::telling::{answer, refuse, show_usage};
@@ -36,8 +36,9 @@ where
     E: Write,
     requires { O.IsAlwaysCallable open_file }
     ensures bad { result ≡ IsBadWords → CallNone (map string_bytes words.now) }
-    ensures answered { result ≡ IsAnswered → HasText (IsAnswer (FnOnceReturnsAt O.FnOnce open_file) F.remaining
-        (map string_bytes words.now)) (W.contents out.old) (W.contents out.new) }
+    ensures answered { (complete : Bool) → result ≡ answer_status complete → HasText
+        (IsAnswer (FnOnceReturnsAt O.FnOnce open_file) F.remaining (map string_bytes words.now) complete)
+        (W.contents out.old) (W.contents out.new) }
     ensures refused { result ≡ IsRefused → HasRefused (IsWhyRefused (FnOnceReturnsAt O.FnOnce open_file) F.remaining
         (map string_bytes words.now)) (E.contents err.old) (E.contents err.new) }
     // Where a writer failed, it has a front of what it was to have.
@@ -59,7 +60,7 @@ where
     }
 }
 
-/// Runs a command: prints its text, or tells why it refuses.
+/// Runs a command: prints its lines, or tells why it refuses.
 fn run_command<F, O, W, E>(
     alloc: Global,
     command: Command,
@@ -75,8 +76,9 @@ where
     E: Write,
     requires { O.IsAlwaysCallable open_file }
     ensures fits { result ≢ IsBadWords }
-    ensures answered { result ≡ IsAnswered → HasText (IsTextOf (FnOnceReturnsAt O.FnOnce open_file) F.remaining
-        command (call_of words.now)) (W.contents out.old) (W.contents out.new) }
+    ensures answered { (complete : Bool) → result ≡ answer_status complete → HasText
+        (IsTextOf (FnOnceReturnsAt O.FnOnce open_file) F.remaining command (call_of words.now) complete)
+        (W.contents out.old) (W.contents out.new) }
     ensures refused { result ≡ IsRefused → HasRefused (IsWhyOf (FnOnceReturnsAt O.FnOnce open_file) F.remaining
         command (call_of words.now)) (E.contents err.old) (E.contents err.new) }
     ensures unprinted { result ≡ IsUnprinted → HasPartOf
@@ -85,8 +87,8 @@ where
         (W.contents out.old) (W.contents out.new) (E.contents err.old) (E.contents err.new) }
     ensures streams { StayApart result (out.new ≡ out.old) (err.new ≡ err.old) }
 {
-    match text_of(alloc, command, words, open_file) {
-        Ok(text) => answer(&text, out),
+    match lines_of(alloc, command, words, open_file) {
+        Ok(lines) => answer(&lines, out),
         Err(refusal) => refuse(alloc, &refusal, err),
     }
 }

@@ -5,7 +5,9 @@
 pub enum Status {
     /// 0: it answered.
     Answered,
-    /// 1: it refused, gave up, or found nothing, and said why.
+    /// 1: it answered, and an identifier has no outcome.
+    Incomplete,
+    /// 1: it refused and said why.
     Refused,
     /// 2: the words fit no command.
     BadWords,
@@ -23,6 +25,7 @@ impl Status {
     {
         match self {
             Status::Answered => 0,
+            Status::Incomplete => 1,
             Status::Refused => 1,
             Status::BadWords => 2,
             Status::Unprinted => 1,

@@ -5,4 +5,5 @@ mod broken_streams;
 mod check_lines;
 mod compile_lines;
 mod harness;
+mod lookup_lines;
 mod show_lines;

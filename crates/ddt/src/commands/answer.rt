@@ -5,9 +5,11 @@ ghost use Rattle.ddt_lines.specs.Lines.{ended as as_line};
 ghost use Rattle.ddt.specs.Answer.{IsAnswerText};
 ghost use Rattle.ddt.specs.Assign.{bad_xeid, xeid_of};
 ghost use Rattle.ddt.specs.Compile.{IsWhyNoGroup, group_of};
+ghost use Rattle.ddt.specs.Over.{whole};
 
 use crate::answering::answer_hex;
 use crate::commands::assign::identifier;
+use crate::lines::Lines;
 use crate::over::OverRegister;
 use crate::refusal::{Refusal, RegisterRefusal, WordRefusal};
 use ddt_check::Accepted;
@@ -36,7 +38,7 @@ impl<'a> OverRegister<'a> for Answer<'a> {
 
     ghost asks = { λ call command. (command.group.now ≡ group_of call) × (xeid_of call ≡ Ok command.xeid) };
 
-    ghost answers = { IsAnswerText };
+    ghost answers = { whole IsAnswerText };
 
     ghost refuses = { IsWhyNoGroup };
 
@@ -47,14 +49,19 @@ impl<'a> OverRegister<'a> for Answer<'a> {
         })
     }
 
-    fn text(&self, alloc: Global, register: &Accepted) -> Result<Vec<u8>, Refusal<'static>> {
+    fn lines(
+        &self,
+        alloc: Global,
+        _words: &Words<'a>,
+        register: &Accepted,
+    ) -> Result<Lines, Refusal<'static>> {
         let Some(group) = Name::of(self.group.as_bytes()) else {
             return Err(Refusal::NoRegister(RegisterRefusal::NoSuchGroup));
         };
         let Some(digits) = answer_hex(alloc, register, group, self.xeid)? else {
             return Err(Refusal::NoRegister(RegisterRefusal::NoSuchGroup));
         };
-        Ok(ended(digits)?)
+        Ok(Lines::whole(ended(digits)?))
     }
 }
 

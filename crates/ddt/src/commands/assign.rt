@@ -3,7 +3,9 @@
 ghost use Rattle.std.specs.Prelude.{◌≡◌, Ok, IfOk, IfErr, Some};
 ghost use Rattle.ddt_text.specs.FirstFault.{xeid_in};
 ghost use Rattle.ddt.specs.Assign.{IsAssignText, WantsMemory, bad_xeid, identifier_refusal, xeid_of};
+ghost use Rattle.ddt.specs.Over.{whole};
 
+use crate::lines::Lines;
 use crate::over::OverRegister;
 use crate::refusal::{Refusal, WordRefusal};
 use ddt_check::{Accepted, assign as assignment};
@@ -29,7 +31,7 @@ impl OverRegister<'_> for Assign {
 
     ghost asks = { λ call command. xeid_of call ≡ Ok command.xeid };
 
-    ghost answers = { IsAssignText };
+    ghost answers = { whole IsAssignText };
 
     ghost refuses = { WantsMemory };
 
@@ -39,8 +41,14 @@ impl OverRegister<'_> for Assign {
         })
     }
 
-    fn text(&self, alloc: Global, register: &Accepted) -> Result<Vec<u8>, Refusal<'static>> {
-        Ok(outcome_line(alloc, &assignment(register, self.xeid))?)
+    fn lines(
+        &self,
+        alloc: Global,
+        _words: &Words<'_>,
+        register: &Accepted,
+    ) -> Result<Lines, Refusal<'static>> {
+        let line = outcome_line(alloc, &assignment(register, self.xeid))?;
+        Ok(Lines::whole(line))
     }
 }
 

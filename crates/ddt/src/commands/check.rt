@@ -3,7 +3,9 @@
 ghost use Rattle.std.specs.Prelude.{⊤};
 ghost use Rattle.ddt.specs.Assign.{WantsMemory};
 ghost use Rattle.ddt.specs.Check.{IsCheckText, no_bad_word};
+ghost use Rattle.ddt.specs.Over.{whole};
 
+use crate::lines::Lines;
 use crate::over::OverRegister;
 use crate::refusal::{Refusal, WordRefusal};
 use ddt_check::Accepted;
@@ -25,7 +27,7 @@ impl OverRegister<'_> for Check {
 
     ghost asks = { λ call command. ⊤ };
 
-    ghost answers = { IsCheckText };
+    ghost answers = { whole IsCheckText };
 
     ghost refuses = { WantsMemory };
 
@@ -33,8 +35,14 @@ impl OverRegister<'_> for Check {
         Ok(Check)
     }
 
-    fn text(&self, alloc: Global, register: &Accepted) -> Result<Vec<u8>, Refusal<'static>> {
+    fn lines(
+        &self,
+        alloc: Global,
+        _words: &Words<'_>,
+        register: &Accepted,
+    ) -> Result<Lines, Refusal<'static>> {
         let counts = register.counts();
-        Ok(accepted_line(alloc, counts.zones, counts.sites, counts.groups)?)
+        let line = accepted_line(alloc, counts.zones, counts.sites, counts.groups)?;
+        Ok(Lines::whole(line))
     }
 }

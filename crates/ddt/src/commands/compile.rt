@@ -3,7 +3,9 @@
 ghost use Rattle.std.specs.Prelude.{◌≡◌};
 ghost use Rattle.ddt.specs.Check.{no_bad_word};
 ghost use Rattle.ddt.specs.Compile.{IsConfigText, IsWhyNoGroup, group_of};
+ghost use Rattle.ddt.specs.Over.{whole};
 
+use crate::lines::Lines;
 use crate::over::OverRegister;
 use crate::refusal::{Refusal, RegisterRefusal, WordRefusal};
 use ddt_check::Accepted;
@@ -29,7 +31,7 @@ impl<'a> OverRegister<'a> for Compile<'a> {
 
     ghost asks = { λ call command. command.group.now ≡ group_of call };
 
-    ghost answers = { IsConfigText };
+    ghost answers = { whole IsConfigText };
 
     ghost refuses = { IsWhyNoGroup };
 
@@ -39,12 +41,17 @@ impl<'a> OverRegister<'a> for Compile<'a> {
         })
     }
 
-    fn text(&self, alloc: Global, register: &Accepted) -> Result<Vec<u8>, Refusal<'static>> {
+    fn lines(
+        &self,
+        alloc: Global,
+        _words: &Words<'a>,
+        register: &Accepted,
+    ) -> Result<Lines, Refusal<'static>> {
         let Some(group) = Name::of(self.group.as_bytes()) else {
             return Err(Refusal::NoRegister(RegisterRefusal::NoSuchGroup));
         };
         match compile_group(alloc, register, group)? {
-            Some(config) => Ok(to_toml(alloc, &config)?.into_bytes()),
+            Some(config) => Ok(Lines::whole(to_toml(alloc, &config)?.into_bytes())),
             None => Err(Refusal::NoRegister(RegisterRefusal::NoSuchGroup)),
         }
     }

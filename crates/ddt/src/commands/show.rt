@@ -1,10 +1,11 @@
 //! `ddt show HEX`: what a datagram says, or the first fault in it.
 
-ghost use Rattle.std.specs.Prelude.{◌≡◌, ℕ, List, IfOk, IfErr, IsErr, Ok, MatchResult};
+ghost use Rattle.std.specs.Prelude.{◌≡◌, ℕ, true, List, IfOk, IfErr, IsErr, Ok, MatchResult};
 ghost use Rattle.hex.specs.Hex.{decode_of};
 ghost use Rattle.ddt_words.specs.Call.{call_of};
 ghost use Rattle.ddt.specs.Show.{IsMessageText, IsShowText, IsWhyNoReferral, IsWhyNoRequest, IsWhyNotShown, hex_refusal};
 
+use crate::lines::Lines;
 use crate::refusal::{MessageRefusal, Refusal};
 use ddt_ecm::read_request;
 use ddt_lines::{referral_line, request_line};
@@ -26,7 +27,19 @@ const ENCAPSULATED: u8 = 8;
 
 /// The line of the message that the word spells in hexadecimal. Refusals: a word that is no hexadecimal text, an unknown
 /// type or no byte at all, the first fault of a message. It has no file to open.
-pub fn text(alloc: Global, words: &Words<'_>) -> Result<Vec<u8>, Refusal<'static>>
+pub fn lines(alloc: Global, words: &Words<'_>) -> Result<Lines, Refusal<'static>>
+    ensures text { IfOk result (λ lines. IsShowText (call_of words.now) lines.text.items) }
+    ensures complete { IfOk result (λ lines. lines.complete ≡ true) }
+    ensures refused { IfErr result (IsWhyNotShown (call_of words.now)) }
+{
+    match message_text(alloc, words) {
+        Ok(text) => Ok(Lines::whole(text)),
+        Err(why) => Err(why),
+    }
+}
+
+/// The line of that message.
+fn message_text(alloc: Global, words: &Words<'_>) -> Result<Vec<u8>, Refusal<'static>>
     ensures text { IfOk result (λ text. IsShowText (call_of words.now) text.items) }
     ensures refused { IfErr result (IsWhyNotShown (call_of words.now)) }
 {

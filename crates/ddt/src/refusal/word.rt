@@ -8,16 +8,22 @@ use std::fmt;
 pub enum WordRefusal {
     /// It is no identifier.
     Identifier(TextFault),
+    /// It is no address.
+    Address,
+    /// It is no number up to 18446744073709551615, written without a sign or a leading zero.
+    Number,
 }
 
 impl fmt::Display for WordRefusal {
-    ghost use Rattle.std.specs.Prelude.{None};
+    ghost use Rattle.ddt.specs.Refusal.{word_refusal_text};
 
-    ghost output = { λ _. None };
+    ghost output = { word_refusal_text };
 
     fn fmt<W: fmt::Write>(&self, f: &mut fmt::Formatter<W>) -> fmt::Result {
         match self {
             WordRefusal::Identifier(fault) => write!(f, "bad identifier {fault}"),
+            WordRefusal::Address => write!(f, "bad address"),
+            WordRefusal::Number => write!(f, "bad number"),
         }
     }
 }

@@ -8,10 +8,10 @@ pub read_words-requires : goal.read_words-requires
 read_words-requires g c = simple_line c.command_list.result.now c.command_list.ensures
 
 pub returns-in-Some-clause-answered : goal.returns-in-Some-clause-answered
-returns-in-Some-clause-answered g c = λ status.
+returns-in-Some-clause-answered g c = λ complete status.
     let words = map string_bytes c.args.words.now in
     let calls = calls_for c.command_list.result.now words c.in-Some.command (call_of c.in-Ok.words) c.command_list.ensures c.in-Ok.ensures.found (c.in-Some.ensures ∙ c.command.ensures) in
-    answered (FnOnceReturnsAt g.O.FnOnce c.args.open_file) g.F.Read.remaining words c.in-Some.command (call_of c.in-Ok.words) _ _ calls (c.run_command.ensures.answered status)
+    answered (FnOnceReturnsAt g.O.FnOnce c.args.open_file) g.F.Read.remaining words c.in-Some.command (call_of c.in-Ok.words) complete _ _ calls (c.run_command.ensures.answered complete status)
 
 pub returns-in-Some-clause-refused : goal.returns-in-Some-clause-refused
 returns-in-Some-clause-refused g c = λ status.

@@ -1,33 +1,30 @@
-use Rattle.std.proofs.Common.{inl, inr, rules}
+use Rattle.std.proofs.Common.{inr, rules}
 use Rattle.std.proofs.lemmas.Result.{IfErr-weaker, IfOk-weaker}
-use Rattle.ddt_words.specs.Call.{call_of}
 use Rattle.ddt.proofs.OverLemmas.{of_register}
-use Rattle.ddt.proofs.over.text_over.Goals as goal
+use Rattle.ddt.proofs.over.lines_over.Goals as goal
 
 pub returns-clause-text : goal.returns-clause-text
 returns-clause-text g c =
-    let call = call_of c.args.words.now in
     let accepted = c.in_ok-register.ensures in
-    IfOk-weaker c.text.result _ _ (λ text h. (
+    IfOk-weaker c.lines.result _ _ (λ lines h. (
       c.in-Ok.ensures.good,
       (
         c.open_file.result,
         (c.value-path.result, c.open_file.ensures, c.value-path.ensures),
         of_register _ _ _ c.in_ok-register.register
-            (λ e. search (rules, accepted.closed e)) accepted.accepted (h call c.in-Ok.ensures.asks),
+            (λ e. search (rules, accepted.closed e)) accepted.accepted h,
       ),
-    )) c.text.ensures.text
+    )) (c.lines.ensures.text c.in-Ok.ensures.asks)
 
 pub returns-clause-refused : goal.returns-clause-refused
 returns-clause-refused g c =
-    let call = call_of c.args.words.now in
     let accepted = c.in_ok-register.ensures in
-    IfErr-weaker c.text.result _ _ (λ why h. inr (
+    IfErr-weaker c.lines.result _ _ (λ why h. inr (
       c.in-Ok.ensures.good,
       (
         c.open_file.result,
         (c.value-path.result, c.open_file.ensures, c.value-path.ensures),
         inr (of_register _ _ _ c.in_ok-register.register
-            (λ e. search (rules, accepted.closed e)) accepted.accepted (h call c.in-Ok.ensures.asks)),
+            (λ e. search (rules, accepted.closed e)) accepted.accepted h),
       ),
-    )) c.text.ensures.refused
+    )) (c.lines.ensures.refused c.in-Ok.ensures.asks)

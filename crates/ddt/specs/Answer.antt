@@ -1,4 +1,5 @@
--- What the program answers for a group and an identifier: the bytes of the Map-Referral for nonce 1 (RFC 8111, section 6.4).
+-- What the program answers for a group and an identifier: the bytes of the Map-Referral for nonce 1 (RFC 8111, section
+-- 6.4).
 use Rattle.std.specs.Prelude.{ℕ, ◌≡◌, List, [], ◌∷◌, Option, Some, option_map, Ok}
 use Rattle.ddt_path.specs.declared.locator.Locator.{Locator}
 use Rattle.ddt_path.specs.declared.locator.Locator.TheVariants.{V4}

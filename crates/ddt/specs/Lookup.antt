@@ -1,5 +1,5 @@
--- `lookup REGISTER XEID... [--me ADDRESS] [--seed N]`: lookups one after the other at moment 0, by one resolver over the
--- servers of the register (RFC 8111, section 7.3).
+-- `lookup REGISTER XEID... [--me ADDRESS] [--seed N]`: lookups one after the other at moment 0, by one resolver over
+-- the servers of the register (RFC 8111, section 7.3).
 use Rattle.std.specs.Prelude.{ℕ, Bool, true, false, ◌≡◌, ◌≤◌, ◌&&◌, List, [], ◌∷◌, ◌++◌, codes, unwrap_or, Option, None, Some, Result, Ok, Err}
 use Rattle.std.specs.List.{flat_map}
 use Rattle.std.specs.Option.{option_or}
@@ -66,7 +66,8 @@ number_refusal (Some n) = None
 -- the first bad word: the identifiers from left to right, then the address, then the seed
 abbrev pub bad_lookup : Call → Option WordRefusal
 bad_lookup call =
-    option_or (bad_identifier (xeid_words call)) (option_or (address_refusal (me_of call)) (number_refusal (seed_of call)))
+    option_or (bad_identifier (xeid_words call))
+        (option_or (address_refusal (me_of call)) (number_refusal (seed_of call)))
 
 -- a call asks a resolver of this address and this seed, and its words are good
 pub record Asks (call : Call) (me_ : Locator) (seed : ℕ) : Type 0 where
@@ -95,8 +96,8 @@ why_text Loop = codes "Loop"
 why_text NotAuthoritative = codes "NotAuthoritative"
 why_text Exhausted = codes "Exhausted"
 
--- The lines of one lookup, and whether it has an outcome. `outcome`: a line for each hop, then that of what the register
--- assigns. `gave_up`: no nonce is left for its next request. `refused`: 1,024 lookups were pending before.
+-- The lines of one lookup, and whether it has an outcome. `outcome`: a line for each hop, then that of what the
+-- register assigns. `gave_up`: no nonce is left for its next request. `refused`: 1,024 lookups were pending before.
 pub data IsTold (r : Register) (now : ℕ) (x : Xeid) (before : State) (found : Bool) (lines : List ℕ) (after : State)
     : Type 0 where
   outcome : (hops : List Hop) → HasOutcome now x before (assignment r (xeid_path x)) hops after → found ≡ true
@@ -107,8 +108,8 @@ pub data IsTold (r : Register) (now : ℕ) (x : Xeid) (before : State) (found : 
   refused : Fails now x before TooMany after → most_pending ≤ len before.pending → found ≡ false
       → lines ≡ ended (codes "refused TooMany") → IsTold r now x before found lines after
 
--- The lines of the lookups of these identifiers, in order, from a resolver in the state `start`; they are complete where
--- each has an outcome.
+-- The lines of the lookups of these identifiers, in order, from a resolver in the state `start`; they are complete
+-- where each has an outcome.
 pub data AreTold (r : Register) (now : ℕ) (start : State) : List (List ℕ) → Bool → List ℕ → State → Type 0 where
   none : AreTold r now start [] true [] start
   more : {words : List (List ℕ)} {complete : Bool} {text : List ℕ} {before : State} (word : List ℕ) (x : Xeid)

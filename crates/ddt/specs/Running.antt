@@ -42,7 +42,8 @@ abbrev pub HasRefused : (Refusal → Type 0) → Option (List ℕ) → Option (L
 HasRefused is_why old new = (why : Refusal) × is_why why × Tells why old new
 
 -- the output has a front of such a text, or the error stream a front of such a refusal's line
-abbrev pub HasPartOf : (Bool → List ℕ → Type 0) → (Refusal → Type 0) → Option (List ℕ) → Option (List ℕ) → Option (List ℕ)
+abbrev pub HasPartOf : (Bool → List ℕ → Type 0) → (Refusal → Type 0) → Option (List ℕ) → Option (List ℕ)
+    → Option (List ℕ)
     → Option (List ℕ) → Type 0
 HasPartOf is_text is_why out out_new err err_new =
     ((complete : Bool) × ((text : List ℕ) × is_text complete text × AppendsFront out out_new text))

@@ -1,5 +1,5 @@
-//! The referral that the servers of a group answer for an identifier: by a server of the group's configuration, which is
-//! sent a request as a resolver sends it.
+//! The referral that the servers of a group answer for an identifier: by a server of the group's configuration, which
+//! is sent a request as a resolver sends it.
 
 ghost use Rattle.std.specs.Prelude.{◌≡◌, ◌<◌, None, IfOk, MatchOption, option_map, string_bytes};
 ghost use Rattle.hex.specs.Hex.{encode_lower};

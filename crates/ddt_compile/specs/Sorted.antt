@@ -16,4 +16,5 @@ AreSortedOf r zones = IsPermutation r.zones zones × AreZonesInOrder zones
 
 -- the locators of each group, by its name
 abbrev pub HasLocatorsOf : BTreeMap (List ℕ) (List Locator) → Register → Type 0
-HasLocatorsOf sets r = (name : List ℕ) → get (slice_cmp nat_cmp) sets name ≡ option_map (λ g. g.locators) (group_named r name)
+HasLocatorsOf sets r = (name : List ℕ) → get (slice_cmp nat_cmp) sets name ≡ option_map (λ g. g.locators)
+    (group_named r name)

@@ -39,7 +39,8 @@ fn is_under(top: Option<&Zone>, z: &Zone) -> bool
 /// follows it, so it is enough to keep the last one.
 fn directly_below(alloc: Global, sorted: &[Zone], zone: &Zone) -> Result<Vec<Zone>, AllocError>
     requires { AreZonesInOrder sorted.now }
-    ensures { IfOk result (λ found. (r : ARegister) → IsPermutation r.zones sorted.now → found.items ≡ filter (is_direct_child r zone.now) sorted.now) }
+    ensures { IfOk result (λ found. (r : ARegister) → IsPermutation r.zones sorted.now
+        → found.items ≡ filter (is_direct_child r zone.now) sorted.now) }
 {
     let mut found = Vec::new(alloc);
     let mut top: Option<&Zone> = None;
@@ -64,14 +65,16 @@ pub fn zones_directly_below(
     zone: &Zone,
 ) -> Result<Vec<Zone>, AllocError>
     requires { AreZonesInOrder sorted.now }
-    ensures { IfOk result (λ found. (r : ARegister) → IsPermutation r.zones sorted.now → found.items ≡ filter (is_direct_child r zone.now) r.zones) }
+    ensures { IfOk result (λ found. (r : ARegister) → IsPermutation r.zones sorted.now
+        → found.items ≡ filter (is_direct_child r zone.now) r.zones) }
 {
     let mut found = directly_below(alloc, sorted, zone)?;
     found.sort_unstable_by_key(|z| z.row);
     Ok(found)
 }
 
-/// The zone of Map-Servers that covers a site of an accepted register: the last one that stands up to the site's prefix.
+/// The zone of Map-Servers that covers a site of an accepted register: the last one that stands up to the site's
+/// prefix.
 pub fn holder(sorted: &[Zone], site: &Site) -> Option<Zone>
     requires { AreZonesInOrder sorted.now }
     ensures { (r : ARegister) → IsAccepted r → IsPermutation r.zones sorted.now → Contains r.sites site.now

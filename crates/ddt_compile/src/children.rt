@@ -29,7 +29,8 @@ pub fn children_by_zone(
     prefixes: &BTreeSet<Prefix>,
 ) -> Result<BTreeMap<Prefix, Vec<Child>>, AllocError>
     requires { HasPrefixesOf prefixes.now accepted.now.zones }
-    ensures { IfOk result (λ lists. (z : AZone) → Contains accepted.now.zones z → list_at (slice_cmp nat_cmp) lists z.prefix ≡ children_of accepted.now z) }
+    ensures { IfOk result (λ lists. (z : AZone) → Contains accepted.now.zones z → list_at (slice_cmp nat_cmp) lists
+        z.prefix ≡ children_of accepted.now z) }
 {
     let sets = locators_by_name(alloc, accepted)?;
     let mut lists = BTreeMap::new(alloc);

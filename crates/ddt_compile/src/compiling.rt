@@ -35,7 +35,8 @@ use std::collections::BTreeMap;
 /// its configuration alone a server answers each identifier as an honest server of the register does. Each has room
 /// in a server: its authorities with all that they hold are fewer than 1,048,576. Refused for memory alone.
 pub fn compile(alloc: Global, accepted: &Accepted) -> Result<Listed<ServerConfig>, AllocError>
-    ensures each { IfOk result (λ configs. map outline configs ≡ map (group_config_of accepted.now) accepted.now.groups) }
+    ensures each { IfOk result (λ configs. map outline configs ≡ map (group_config_of accepted.now)
+        accepted.now.groups) }
     ensures honest { IfOk result (λ configs. All (λ c. IsHonestConfig accepted.now (outline c)) configs) }
     ensures room { IfOk result (λ configs. All (λ c. HasRoom (outline c)) configs) }
 {
@@ -94,7 +95,8 @@ fn authorities_by_group(
     alloc: Global,
     accepted: &Accepted,
 ) -> Result<BTreeMap<Name, Vec<Authority>>, AllocError>
-    ensures { IfOk result (λ lists. (g : AGroup) → list_at (slice_cmp nat_cmp) lists g.name ≡ authorities_of_group_of accepted.now g) }
+    ensures { IfOk result (λ lists. (g : AGroup) → list_at (slice_cmp nat_cmp) lists g.name ≡ authorities_of_group_of
+        accepted.now g) }
 {
     let zones = accepted.register().zones.as_slice();
     let prefixes = prefixes_of(alloc, zones)?;
@@ -149,8 +151,10 @@ fn own_content(
     requires sets { HasLocatorsOf sets.now accepted.now }
     requires sorted { AreSortedOf accepted.now sorted.now }
     ensures node { zone.now.kind ≡ Node → IfOk result (λ held. held ≡ Children (children_of accepted.now zone.now)) }
-    ensures ms { zone.now.kind ≡ Ms → IfOk result (λ held. held ≡ Sites (list_at (slice_cmp nat_cmp) sites.old zone.now.prefix)) }
-    ensures sites { (p : List ℕ) → eq_by_cmp (slice_cmp nat_cmp) zone.now.prefix p ≡ false → list_at (slice_cmp nat_cmp) sites.new p ≡ list_at (slice_cmp nat_cmp) sites.old p }
+    ensures ms { zone.now.kind ≡ Ms → IfOk result (λ held.
+        held ≡ Sites (list_at (slice_cmp nat_cmp) sites.old zone.now.prefix)) }
+    ensures sites { (p : List ℕ) → eq_by_cmp (slice_cmp nat_cmp) zone.now.prefix p ≡ false → list_at (slice_cmp nat_cmp)
+        sites.new p ≡ list_at (slice_cmp nat_cmp) sites.old p }
 {
     match zone.kind {
         Role::Node => {
@@ -170,8 +174,10 @@ fn content(
 ) -> Content
     ensures node { zone.now.kind ≡ Node → result ≡ Children (list_at (slice_cmp nat_cmp) children.old zone.now.prefix) }
     ensures ms { zone.now.kind ≡ Ms → result ≡ Sites (list_at (slice_cmp nat_cmp) sites.old zone.now.prefix) }
-    ensures children { (p : List ℕ) → eq_by_cmp (slice_cmp nat_cmp) zone.now.prefix p ≡ false → list_at (slice_cmp nat_cmp) children.new p ≡ list_at (slice_cmp nat_cmp) children.old p }
-    ensures sites { (p : List ℕ) → eq_by_cmp (slice_cmp nat_cmp) zone.now.prefix p ≡ false → list_at (slice_cmp nat_cmp) sites.new p ≡ list_at (slice_cmp nat_cmp) sites.old p }
+    ensures children { (p : List ℕ) → eq_by_cmp (slice_cmp nat_cmp) zone.now.prefix p ≡ false
+        → list_at (slice_cmp nat_cmp) children.new p ≡ list_at (slice_cmp nat_cmp) children.old p }
+    ensures sites { (p : List ℕ) → eq_by_cmp (slice_cmp nat_cmp) zone.now.prefix p ≡ false → list_at (slice_cmp nat_cmp)
+        sites.new p ≡ list_at (slice_cmp nat_cmp) sites.old p }
 {
     match zone.kind {
         Role::Node => Content::Children(take(children, alloc, &zone.prefix)),

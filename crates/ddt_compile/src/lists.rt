@@ -16,7 +16,8 @@ pub fn append<K: Ord + Drop, V: Drop>(
     value: V,
 ) -> Result<(), AllocError>
     ensures here { OnOk result (list_at K.cmp lists.new key ≡ list_at K.cmp lists.old key ++ value ∷ []) }
-    ensures elsewhere { OnOk result ((k : K) → eq_by_cmp K.cmp key k ≡ false → list_at K.cmp lists.new k ≡ list_at K.cmp lists.old k) }
+    ensures elsewhere { OnOk result ((k : K) → eq_by_cmp K.cmp key k ≡ false → list_at K.cmp lists.new k ≡ list_at K.cmp
+        lists.old k) }
 {
     lists.entry(key)?.or_insert(Vec::new(alloc)).push(value)?;
     Ok(())
@@ -29,7 +30,8 @@ pub fn take<K: Ord + Drop, V: Drop>(
     key: &K,
 ) -> Listed<V>
     ensures here { result ≡ list_at K.cmp lists.old key.now }
-    ensures elsewhere { (k : K) → eq_by_cmp K.cmp key.now k ≡ false → list_at K.cmp lists.new k ≡ list_at K.cmp lists.old k }
+    ensures elsewhere { (k : K) → eq_by_cmp K.cmp key.now k ≡ false → list_at K.cmp lists.new k ≡ list_at K.cmp
+        lists.old k }
 {
     match lists.remove(key) {
         Some(list) => Listed::of(list),

@@ -17,7 +17,8 @@ pub fn locators_by_name(
     alloc: Global,
     accepted: &Accepted,
 ) -> Result<BTreeMap<Name, LocatorSet>, AllocError>
-    ensures { IfOk result (λ sets. (name : List ℕ) → get (slice_cmp nat_cmp) sets name ≡ option_map (λ g. g.locators) (group_named accepted.now name)) }
+    ensures { IfOk result (λ sets. (name : List ℕ) → get (slice_cmp nat_cmp) sets name ≡ option_map (λ g. g.locators)
+        (group_named accepted.now name)) }
 {
     let mut sets = BTreeMap::new(alloc);
     for group in accepted.register().groups.as_slice() {

@@ -30,7 +30,8 @@ pub fn sites_by_zone(
     prefixes: &BTreeSet<Prefix>,
 ) -> Result<BTreeMap<Prefix, Vec<SiteEntry>>, AllocError>
     requires { HasPrefixesOf prefixes.now accepted.now.zones }
-    ensures { IfOk result (λ lists. (z : AZone) → Contains accepted.now.zones z → z.kind ≡ Ms → list_at (slice_cmp nat_cmp) lists z.prefix ≡ sites_of accepted.now z) }
+    ensures { IfOk result (λ lists. (z : AZone) → Contains accepted.now.zones z → z.kind ≡ Ms
+        → list_at (slice_cmp nat_cmp) lists z.prefix ≡ sites_of accepted.now z) }
 {
     let mut lists = BTreeMap::new(alloc);
     for site in accepted.register().sites.as_slice() {
@@ -41,7 +42,8 @@ pub fn sites_by_zone(
     Ok(lists)
 }
 
-/// The sites of each zone of a group, by its prefix, each list in the order of their rows. A group of DDT nodes has none.
+/// The sites of each zone of a group, by its prefix, each list in the order of their rows. A group of DDT nodes has
+/// none.
 pub fn sites_of_group(
     alloc: Global,
     accepted: &Accepted,
@@ -50,7 +52,8 @@ pub fn sites_of_group(
 ) -> Result<BTreeMap<Prefix, Vec<SiteEntry>>, AllocError>
     requires sorted { AreSortedOf accepted.now sorted.now }
     requires group { Contains accepted.now.groups group.now }
-    ensures { IfOk result (λ lists. (z : AZone) → Contains accepted.now.zones z → z.kind ≡ Ms → is_served_by group.now z ≡ true
+    ensures { IfOk result (λ lists. (z : AZone) → Contains accepted.now.zones z → z.kind ≡ Ms → is_served_by group.now z
+        ≡ true
         → list_at (slice_cmp nat_cmp) lists z.prefix ≡ sites_of accepted.now z) }
 {
     let register = accepted.register();

@@ -1,6 +1,7 @@
 //! The lines that the program prints, and how a text is written to a stream.
 //!
-//! In reading order: `text` (the parts of a line), `outcome`, `counts`, `referral`, `hop`, `request` (a line each), `printing`.
+//! In reading order: `text` (the parts of a line), `outcome`, `counts`, `referral`, `hop`, `request` (a line each),
+//! `printing`.
 #![tactic(auto)]
 
 mod counts;

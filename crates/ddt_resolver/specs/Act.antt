@@ -1,5 +1,5 @@
--- The resolver's step on a datagram: what it does with a reply that it takes, by the record's action (RFC 8111, sections
--- 6.1 and 7.3).
+-- The resolver's step on a datagram: what it does with a reply that it takes, by the record's action (RFC 8111,
+-- sections 6.1 and 7.3).
 use Rattle.std.specs.Prelude.{ℕ, ◌≡◌, ◌+◌, ◌<◌, ◌≤◌, List, length, None, Some}
 use Rattle.ddt_path.specs.declared.locator.Locator.{Locator}
 use Rattle.ddt_path.specs.declared.record.Action.TheVariants.{MsAck, MsNotRegistered, DelegationHole, NotAuthoritative}
@@ -20,16 +20,17 @@ pub data GoesOn (l : Pending) (rec : ReferralRecord) : Type 0 where
   to_next : rec.action ≡ MsNotRegistered → l.place + 1 < length l.servers → GoesOn l rec
   from_root : (p : List ℕ) → rec.action ≡ NotAuthoritative → l.start ≡ Some p → GoesOn l rec
 
--- The nine cases. `loops`: a referral that isn't below the saved prefix. `refers`: another referral is saved and followed.
--- `acknowledges`, `closes`: MS-ACK and DELEGATION-HOLE are saved and answered. `passes_on`: an MS-NOT-REGISTERED is kept
--- and the next server asked. `concludes`: that of the last server is saved and answered. `starts_over`: at a server that
--- isn't in charge, the entry that the lookup started at is forgotten, and the root asked. `nobody`: there was no such
--- entry. `used_up`: it would go on, but no nonce is left.
+-- The nine cases. `loops`: a referral that isn't below the saved prefix. `refers`: another referral is saved and
+-- followed. `acknowledges`, `closes`: MS-ACK and DELEGATION-HOLE are saved and answered. `passes_on`: an
+-- MS-NOT-REGISTERED is kept and the next server asked. `concludes`: that of the last server is saved and answered.
+-- `starts_over`: at a server that isn't in charge, the entry that the lookup started at is forgotten, and the root
+-- asked. `nobody`: there was no such entry. `used_up`: it would go on, but no nonce is left.
 pub data Act (s : State) (t : ℕ) (l : Pending) (rec : ReferralRecord) (new : State) (heard : Heard) : Type 0 where
   loops : IsReferral rec.action → (IsBelow l.saved rec.prefix → ⊥)
       → new ≡ dropped s t → heard ≡ GaveUp t Loop → Act s t l rec new heard
   refers : IsReferral rec.action → IsBelow l.saved rec.prefix → s.next < last_nonce
-      → new ≡ lodged (stored s rec) t (referred l rec) → heard ≡ Followed t (request s (referred l rec)) → Act s t l rec new heard
+      → new ≡ lodged (stored s rec) t (referred l rec) → heard ≡ Followed t (request s (referred l rec))
+          → Act s t l rec new heard
   acknowledges : rec.action ≡ MsAck
       → new ≡ dropped (stored s rec) t → heard ≡ Answer t (outcome_of rec) → Act s t l rec new heard
   closes : rec.action ≡ DelegationHole
@@ -39,7 +40,8 @@ pub data Act (s : State) (t : ℕ) (l : Pending) (rec : ReferralRecord) (new : S
   concludes : rec.action ≡ MsNotRegistered → length l.servers ≤ l.place + 1
       → new ≡ dropped (stored s rec) t → heard ≡ Answer t (outcome_of rec) → Act s t l rec new heard
   starts_over : (p : List ℕ) → rec.action ≡ NotAuthoritative → l.start ≡ Some p → s.next < last_nonce
-      → new ≡ lodged (forgotten s p) t (started_over s l) → heard ≡ Followed t (request s (started_over s l)) → Act s t l rec new heard
+      → new ≡ lodged (forgotten s p) t (started_over s l) → heard ≡ Followed t (request s (started_over s l))
+          → Act s t l rec new heard
   nobody : rec.action ≡ NotAuthoritative → l.start ≡ None
       → new ≡ dropped s t → heard ≡ GaveUp t NobodyInCharge → Act s t l rec new heard
   used_up : GoesOn l rec → s.next ≡ last_nonce
@@ -47,7 +49,8 @@ pub data Act (s : State) (t : ℕ) (l : Pending) (rec : ReferralRecord) (new : S
 
 -- the step: a datagram is ignored, or taken and acted on
 pub data HearStep (s : State) (source : Locator) (bytes : List ℕ) (new : State) (heard : Heard) : Type 0 where
-  ignored : (why : Reason) → Ignores s source bytes why → new ≡ s → heard ≡ Ignored why → HearStep s source bytes new heard
+  ignored : (why : Reason) → Ignores s source bytes why → new ≡ s → heard ≡ Ignored why → HearStep s source bytes new
+      heard
   taken : (t : ℕ) (l : Pending) (rec : ReferralRecord) → IsTaken s source bytes t l rec
       → Act s t l rec new heard → HearStep s source bytes new heard
 

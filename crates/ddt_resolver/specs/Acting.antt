@@ -34,7 +34,8 @@ IsSmall (Forget p) = Unit {0}
 
 -- a lookup goes on, or ends where no nonce is left
 pub data SendsOn (s : State) (t : ℕ) (l : Pending) (change : Change) (new : State) (heard : Heard) : Type 0 where
-  followed : s.next < last_nonce → new ≡ lodged (with_change s change) t l → heard ≡ Followed t (request s l) → SendsOn s t l change new heard
+  followed : s.next < last_nonce → new ≡ lodged (with_change s change) t l → heard ≡ Followed t (request s l)
+      → SendsOn s t l change new heard
   used_up : s.next ≡ last_nonce → new ≡ dropped s t → heard ≡ GaveUp t Exhausted → SendsOn s t l change new heard
 
 -- a lookup that is due goes on without a reply, or ends where no nonce is left

@@ -23,12 +23,14 @@ pub record IsFree (s : State) (p : List ℕ) (e : Entry) : Type 0 where
   pub few : len s.pending < most_pending
   pub nonce : s.next < last_nonce
 
--- The step, where the entry e of the prefix p is found. `cached`: a negative entry answers at once. `full`: 1,024 lookups
--- are pending. `used_up`: no nonce is left. `opened`: a lookup starts at the entry's servers; its ticket is its nonce.
+-- The step, where the entry e of the prefix p is found. `cached`: a negative entry answers at once. `full`: 1,024
+-- lookups are pending. `used_up`: no nonce is left. `opened`: a lookup starts at the entry's servers; its ticket is its
+-- nonce.
 pub data Start (s : State) (x : Xeid) (p : List ℕ) (e : Entry) (new : State) (r : Result Asked AskError) : Type 0 where
   cached : (o : Outcome) → answer_of p e ≡ Some o → new ≡ s → r ≡ Ok (Answer o) → Start s x p e new r
   full : answer_of p e ≡ None → most_pending ≤ len s.pending → new ≡ s → r ≡ Err TooMany → Start s x p e new r
-  used_up : answer_of p e ≡ None → len s.pending < most_pending → s.next ≡ last_nonce → new ≡ s → r ≡ Err Exhausted → Start s x p e new r
+  used_up : answer_of p e ≡ None → len s.pending < most_pending → s.next ≡ last_nonce → new ≡ s → r ≡ Err Exhausted
+      → Start s x p e new r
   opened : IsFree s p e
       → new ≡ lodged s s.next (opening x e.servers (start_at p))
       → r ≡ Ok (Sent s.next (request s (opening x e.servers (start_at p))))

@@ -25,23 +25,27 @@ again digits (Some start) = 8 * (digits + 2)
 -- how many requests it can send: to what is left of its set, to 8 servers of each referral that it can follow yet, and
 -- after its one restart
 abbrev pub measure : Pending → ℕ
-measure l = let digits = length (xeid_path l.x) in (length l.servers - l.place) + 8 * room digits l.saved + again digits l.start
+measure l = let digits = length (xeid_path l.x) in (length l.servers - l.place) + 8 * room digits l.saved + again digits
+    l.start
 
 -- at an ask it is at most 16 times the number of digits and 2
 abbrev pub StartsWithin : State → Xeid → Asked → Type 0
-StartsWithin new x (asked.Sent t d) = (l : Pending) → get new.pending t ≡ Some l → measure l ≤ 16 * (length (xeid_path x) + 2)
+StartsWithin new x (asked.Sent t d) = (l : Pending) → get new.pending t ≡ Some l
+    → measure l ≤ 16 * (length (xeid_path x) + 2)
 StartsWithin new x (asked.Answer o) = Unit {0}
 
 -- each reply that is followed lowers it
 abbrev pub ComesNearer : State → State → Heard → Type 0
-ComesNearer s new (Followed t d) = (l m : Pending) → get s.pending t ≡ Some l → get new.pending t ≡ Some m → measure m < measure l
+ComesNearer s new (Followed t d) = (l m : Pending) → get s.pending t ≡ Some l → get new.pending t ≡ Some m
+    → measure m < measure l
 ComesNearer s new (Ignored why) = Unit {0}
 ComesNearer s new (Answer t o) = Unit {0}
 ComesNearer s new (GaveUp t why) = Unit {0}
 
 -- each referral that is followed has a longer prefix than the one that is saved
 abbrev pub GoesDown : State → List ℕ → Heard → Type 0
-GoesDown s bytes (Followed t d) = (l : Pending) (v : Message) → get s.pending t ≡ Some l → Spells bytes v → IsReferral v.action → IsBelow l.saved v.prefix
+GoesDown s bytes (Followed t d) = (l : Pending) (v : Message) → get s.pending t ≡ Some l → Spells bytes v
+    → IsReferral v.action → IsBelow l.saved v.prefix
 GoesDown s bytes (Ignored why) = Unit {0}
 GoesDown s bytes (Answer t o) = Unit {0}
 GoesDown s bytes (GaveUp t why) = Unit {0}

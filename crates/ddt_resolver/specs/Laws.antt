@@ -16,17 +16,21 @@ use Rattle.ddt_resolver.specs.Order.{IsInOrder}
 
 -- each step, and each move of the time to a moment, keeps what holds at all times
 abbrev pub OrderIsKept : Type 0
-OrderIsKept = (s : State) (call : Call) (new : State) (reply : Reply) → IsInOrder s → Step s call new reply → IsInOrder new
+OrderIsKept = (s : State) (call : Call) (new : State) (reply : Reply) → IsInOrder s → Step s call new reply
+    → IsInOrder new
 
 abbrev pub TimeKeepsOrder : Type 0
 TimeKeepsOrder = (s : State) (now : ℕ) → now ≤ last_moment → IsInOrder s → IsInOrder (moved now s)
 
 -- A usable reply to a pending lookup's last request, from the server that was asked, is late, or that lookup takes it.
 abbrev pub UsableIsTaken : Type 0
-UsableIsTaken = (s new : State) (source : Locator) (bytes : List ℕ) (heard : Heard) (t : ℕ) (l : Pending) (rec : ReferralRecord) → IsInOrder s
-    → get s.pending t ≡ Some l → Tells bytes l.nonce rec → IsAbout rec (xeid_path l.x) → NamesServer rec → source ≡ server s.me l
+UsableIsTaken = (s new : State) (source : Locator) (bytes : List ℕ) (heard : Heard) (t : ℕ) (l : Pending)
+    (rec : ReferralRecord) → IsInOrder s
+    → get s.pending t ≡ Some l → Tells bytes l.nonce rec → IsAbout rec (xeid_path l.x) → NamesServer rec
+        → source ≡ server s.me l
     → HearStep s source bytes new heard → (l.deadline ≤ s.known.time) ⊎ Act s t l rec new heard
 
 -- The next ticket is new: no pending lookup has it, and every one that is pending is below it.
 abbrev pub TicketsAreNew : Type 0
-TicketsAreNew = (s : State) → IsInOrder s → (get s.pending s.next ≡ None) × ((t : ℕ) (l : Pending) → get s.pending t ≡ Some l → t < s.next)
+TicketsAreNew = (s : State) → IsInOrder s → (get s.pending s.next ≡ None)
+    × ((t : ℕ) (l : Pending) → get s.pending t ≡ Some l → t < s.next)

@@ -9,9 +9,9 @@ use Rattle.ddt_cache.specs.InOrder.{IsInOrder as IsKnownInOrder}
 use Rattle.ddt_resolver.specs.declared.pending.Pending.{Pending}
 use Rattle.ddt_resolver.specs.State.{State, last_nonce, most_pending, patience}
 
--- What holds of a lookup: it asks one of 1 to 8 servers. What it has saved, kept and started at covers its identifier. What
--- is kept is an MS-NOT-REGISTERED of an earlier server of the set. It started at an entry that isn't everything, or at the
--- root, as after its one restart.
+-- What holds of a lookup: it asks one of 1 to 8 servers. What it has saved, kept and started at covers its identifier.
+-- What is kept is an MS-NOT-REGISTERED of an earlier server of the set. It started at an entry that isn't everything,
+-- or at the root, as after its one restart.
 pub record IsLookup (l : Pending) : Type 0 where
   pub identifier : IsTrue (is_path (xeid_path l.x))
   pub place : l.place < length l.servers
@@ -32,12 +32,13 @@ pub record IsWaiting (s : State) (t : ℕ) (l : Pending) : Type 0 where
   pub nonce : l.nonce < s.next
   pub deadline : l.deadline ≤ s.known.time + patience
 
--- What holds of a state: what it remembers is in order; the root has a server; the nonce counter stops at its last value;
--- at most 1,024 lookups are pending, each in order, and no two with one nonce.
+-- What holds of a state: what it remembers is in order; the root has a server; the nonce counter stops at its last
+-- value; at most 1,024 lookups are pending, each in order, and no two with one nonce.
 pub record IsInOrder (s : State) : Type 0 where
   pub known : IsKnownInOrder s.known
   pub root : 0 < length s.known.roots
   pub next : s.next ≤ last_nonce
   pub few : len s.pending ≤ most_pending
   pub lookups : (t : ℕ) (l : Pending) → get s.pending t ≡ Some l → IsWaiting s t l
-  pub nonces : (t u : ℕ) (l m : Pending) → get s.pending t ≡ Some l → get s.pending u ≡ Some m → l.nonce ≡ m.nonce → t ≡ u
+  pub nonces : (t u : ℕ) (l m : Pending) → get s.pending t ≡ Some l → get s.pending u ≡ Some m → l.nonce ≡ m.nonce
+      → t ≡ u

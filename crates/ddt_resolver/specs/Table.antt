@@ -13,7 +13,8 @@ pub record Held : Type 0 where
 
 -- how a compiled program may store it: as its parts
 abbrev pub held_code : Coded Pending → Coded Held
-held_code pending = code_by (FinMap nat_cmp Pending × ℕ) (coded× (code coded_ℕ pending) coded_ℕ) (λ h. (h.lookups, h.spare)) (λ p. record { lookups = p.0; spare = p.1 }) (λ _. refl)
+held_code pending = code_by (FinMap nat_cmp Pending × ℕ) (coded× (code coded_ℕ pending) coded_ℕ) (λ h.
+    (h.lookups, h.spare)) (λ p. record { lookups = p.0; spare = p.1 }) (λ _. refl)
 
 -- the map of entries
 abbrev pub map_of : List (ℕ × Pending) → FinMap nat_cmp Pending
@@ -43,10 +44,13 @@ IsAtMost (Some best) nonce = best.1 ≤ nonce
 
 -- of the entries but for the rest, the best is the ticket and nonce of the due one with the least nonce
 pub record IsBest (entries rest : List (ℕ × Pending)) (time : ℕ) (best : Option (ℕ × ℕ)) : Type 0 where
-  pub found : (t n : ℕ) → best ≡ Some (t, n) → (l : Pending) × (lookup (◌==◌ t) entries ≡ Some l) × (l.nonce ≡ n) × (l.deadline ≤ time)
-  pub least : (u : ℕ) (m : Pending) → lookup (◌==◌ u) entries ≡ Some m → m.deadline ≤ time → (lookup (◌==◌ u) rest ≡ Some m) ⊎ IsAtMost best m.nonce
+  pub found : (t n : ℕ) → best ≡ Some (t, n) → (l : Pending) × (lookup (◌==◌ t) entries ≡ Some l) × (l.nonce ≡ n)
+      × (l.deadline ≤ time)
+  pub least : (u : ℕ) (m : Pending) → lookup (◌==◌ u) entries ≡ Some m → m.deadline ≤ time
+      → (lookup (◌==◌ u) rest ≡ Some m) ⊎ IsAtMost best m.nonce
 
 -- one more lookup takes the place of the best, or the best stays
 pub data IsBetter (time ticket : ℕ) (l : Pending) (best new : Option (ℕ × ℕ)) : Type 0 where
-  takes : l.deadline ≤ time → new ≡ Some (ticket, l.nonce) → ((n : ℕ) → IsAtMost best n → l.nonce ≤ n) → IsBetter time ticket l best new
+  takes : l.deadline ≤ time → new ≡ Some (ticket, l.nonce) → ((n : ℕ) → IsAtMost best n → l.nonce ≤ n)
+      → IsBetter time ticket l best new
   stays : new ≡ best → (l.deadline ≤ time → IsAtMost best l.nonce) → IsBetter time ticket l best new

@@ -24,17 +24,20 @@ pub record IsReplyTo (s : State) (bytes : List ℕ) (t : ℕ) (l : Pending) (rec
   pub tells : Tells bytes l.nonce rec
 
 -- and they come from the server that was asked
-pub record IsFromServer (s : State) (source : Locator) (bytes : List ℕ) (t : ℕ) (l : Pending) (rec : ReferralRecord) : Type 0 where
+pub record IsFromServer (s : State) (source : Locator) (bytes : List ℕ) (t : ℕ) (l : Pending) (rec : ReferralRecord) :
+    Type 0 where
   pub reply : IsReplyTo s bytes t l rec
   pub same_source : source ≡ server s.me l
 
 -- and before the deadline
-pub record IsInTime (s : State) (source : Locator) (bytes : List ℕ) (t : ℕ) (l : Pending) (rec : ReferralRecord) : Type 0 where
+pub record IsInTime (s : State) (source : Locator) (bytes : List ℕ) (t : ℕ) (l : Pending) (rec : ReferralRecord) : Type
+    0 where
   pub from_server : IsFromServer s source bytes t l rec
   pub early : s.known.time < l.deadline
 
 -- and they are about its identifier, and name a server where they refer to others: all six tests are passed
-pub record IsTaken (s : State) (source : Locator) (bytes : List ℕ) (t : ℕ) (l : Pending) (rec : ReferralRecord) : Type 0 where
+pub record IsTaken (s : State) (source : Locator) (bytes : List ℕ) (t : ℕ) (l : Pending) (rec : ReferralRecord) : Type 0
+    where
   pub in_time : IsInTime s source bytes t l rec
   pub about : IsAbout rec (xeid_path l.x)
   pub names_server : NamesServer rec
@@ -43,7 +46,8 @@ pub record IsTaken (s : State) (source : Locator) (bytes : List ℕ) (t : ℕ) (
 pub data Ignores (s : State) (source : Locator) (bytes : List ℕ) (why : Ignored) : Type 0 where
   undecodable : ((v : Message) → Spells bytes v → ⊥) → why ≡ Undecodable → Ignores s source bytes why
   unknown_nonce : (nonce : ℕ) (rec : ReferralRecord) → Tells bytes nonce rec
-      → ((t : ℕ) (l : Pending) → get s.pending t ≡ Some l → l.nonce ≢ nonce) → why ≡ UnknownNonce → Ignores s source bytes why
+      → ((t : ℕ) (l : Pending) → get s.pending t ≡ Some l → l.nonce ≢ nonce) → why ≡ UnknownNonce
+          → Ignores s source bytes why
   wrong_source : (t : ℕ) (l : Pending) (rec : ReferralRecord) → IsReplyTo s bytes t l rec
       → source ≢ server s.me l → why ≡ WrongSource → Ignores s source bytes why
   late : (t : ℕ) (l : Pending) (rec : ReferralRecord) → IsFromServer s source bytes t l rec

@@ -64,7 +64,8 @@ impl<M: PrefixMap<Entry>> Resolver<M> {
     /// Acts on a reply.
     fn act(&mut self, taken: &Taken) -> Result<Heard, AllocError>
         requires { IsHeard self.old taken.now }
-        ensures act { IfOk result (λ heard. Act self.old taken.now.ticket taken.now.lookup taken.now.told self.new heard) }
+        ensures act { IfOk result (λ heard. Act self.old taken.now.ticket taken.now.lookup taken.now.told self.new
+            heard) }
         ensures unchanged { OnErr result (self.new ≡ self.old) }
         ensures wanted { OnErr result (Saves self.old taken.now.lookup taken.now.told) }
     {
@@ -80,7 +81,8 @@ impl<M: PrefixMap<Entry>> Resolver<M> {
     fn follow(&mut self, taken: &Taken) -> Result<Heard, AllocError>
         requires heard { IsHeard self.old taken.now }
         requires action { IsReferral taken.now.told.action }
-        ensures act { IfOk result (λ heard. Act self.old taken.now.ticket taken.now.lookup taken.now.told self.new heard) }
+        ensures act { IfOk result (λ heard. Act self.old taken.now.ticket taken.now.lookup taken.now.told self.new
+            heard) }
         ensures unchanged { OnErr result (self.new ≡ self.old) }
         ensures wanted { OnErr result (Saves self.old taken.now.lookup taken.now.told) }
     {
@@ -107,7 +109,8 @@ impl<M: PrefixMap<Entry>> Resolver<M> {
     fn keep_and_go_on(&mut self, taken: &Taken) -> Result<Heard, AllocError>
         requires heard { IsHeard self.old taken.now }
         requires action { taken.now.told.action ≡ act.MsNotRegistered }
-        ensures act { IfOk result (λ heard. Act self.old taken.now.ticket taken.now.lookup taken.now.told self.new heard) }
+        ensures act { IfOk result (λ heard. Act self.old taken.now.ticket taken.now.lookup taken.now.told self.new
+            heard) }
         ensures unchanged { OnErr result (self.new ≡ self.old) }
         ensures wanted { OnErr result (Saves self.old taken.now.lookup taken.now.told) }
     {
@@ -124,7 +127,8 @@ impl<M: PrefixMap<Entry>> Resolver<M> {
     fn start_over(&mut self, taken: &Taken) -> Result<Heard, AllocError>
         requires heard { IsHeard self.old taken.now }
         requires action { taken.now.told.action ≡ act.NotAuthoritative }
-        ensures act { IfOk result (λ heard. Act self.old taken.now.ticket taken.now.lookup taken.now.told self.new heard) }
+        ensures act { IfOk result (λ heard. Act self.old taken.now.ticket taken.now.lookup taken.now.told self.new
+            heard) }
         ensures unchanged { OnErr result (self.new ≡ self.old) }
         ensures wanted { OnErr result (Saves self.old taken.now.lookup taken.now.told) }
     {

@@ -24,7 +24,8 @@ impl<M: PrefixMap<Entry>> Resolver<M> {
     pub fn ask(&mut self, now: Moment, x: Xeid) -> Result<Asked, AskError>
         ensures step { UnlessMemory result (AskStep (moved now self.old) x self.new result) }
         ensures memory { OnMemory result ((self.new ≡ moved now self.old) × AskWants (moved now self.old) x) }
-        // However its servers answer, a lookup follows no more replies than 16 times the digits of the identifier and 2.
+        // However its servers answer, a lookup follows no more replies than 16 times the digits of the identifier and
+        // 2.
         ensures bound { IfOk result (λ asked. StartsWithin self.new x asked) }
         // What it asks for is an identifier.
         ensures identifier { IsTrue (is_path (xeid_path x)) }

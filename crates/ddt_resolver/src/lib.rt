@@ -1,7 +1,8 @@
-//! A resolver of RFC 8111, section 7.3, as a machine of steps: an ask, a datagram, a tick. It sends nothing itself: each
-//! call answers what is to be sent, and learns the time from its caller.
+//! A resolver of RFC 8111, section 7.3, as a machine of steps: an ask, a datagram, a tick. It sends nothing itself:
+//! each call answers what is to be sent, and learns the time from its caller.
 //!
-//! In reading order: `answers`, `pending`, `table`, `resolver`, `asking`, `refusing`, `acting`, `ticking`, `sending`, `laws`.
+//! In reading order: `answers`, `pending`, `table`, `resolver`, `asking`, `refusing`, `acting`, `ticking`, `sending`,
+//! `laws`.
 #![tactic(auto)]
 
 mod acting;

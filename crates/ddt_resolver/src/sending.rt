@@ -1,5 +1,5 @@
-//! How a lookup is sent on, and how it ends. What can fail for want of memory comes first: the request's bytes, the room
-//! in the table, the cache; what changes the table takes none.
+//! How a lookup is sent on, and how it ends. What can fail for want of memory comes first: the request's bytes, the
+//! room in the table, the cache; what changes the table takes none.
 
 ghost use Rattle.std.specs.Prelude.{◌≡◌, ◌<◌, ◌≤◌, length, IsSome, IfOk, OnOk, OnErr};
 ghost use Rattle.std.specs.FinMap as map;

@@ -18,10 +18,10 @@ use ddt_trie::PrefixMap;
 use std::alloc::AllocError;
 
 impl<M: PrefixMap<Entry>> Resolver<M> {
-    /// Lets the time go on to `now`. Of the lookups whose deadline has come, that whose last request has the least nonce
-    /// goes on or ends: the same server gets a second request, then the next server a first. Where none is left it ends
-    /// as NotRegistered where a server of the set has said so, else as 1 NoReply; 4 Exhausted where no nonce is left.
-    /// Nothing is saved. It is to be called again until it answers Nothing.
+    /// Lets the time go on to `now`. Of the lookups whose deadline has come, that whose last request has the least
+    /// nonce goes on or ends: the same server gets a second request, then the next server a first. Where none is left
+    /// it ends as NotRegistered where a server of the set has said so, else as 1 NoReply; 4 Exhausted where no nonce is
+    /// left. Nothing is saved. It is to be called again until it answers Nothing.
     ///
     /// It fails only if out of memory, where a request is to be sent; then nothing changes but the time.
     pub fn tick(&mut self, now: Moment) -> Result<Ticked, AllocError>
@@ -48,7 +48,8 @@ impl<M: PrefixMap<Entry>> Resolver<M> {
     /// The lookup that is due.
     fn due(&self) -> Option<(u64, Pending)>
         ensures found { IfSome result (λ d. IsDue self.now d.0 d.1) }
-        ensures none { IfNone result ((t : ℕ) (l : APending) → map.get self.now.pending t ≡ Some l → self.now.known.time < l.deadline) }
+        ensures none { IfNone result ((t : ℕ) (l : APending) → map.get self.now.pending t ≡ Some l
+            → self.now.known.time < l.deadline) }
     {
         let time = self.time().millis();
         self.table.due(time)

@@ -1,5 +1,5 @@
-//! `ddt lookup REGISTER XEID... [--me ADDRESS] [--seed N]`: identifiers looked up one after the other by one resolver, over
-//! the servers of the register.
+//! `ddt lookup REGISTER XEID... [--me ADDRESS] [--seed N]`: identifiers looked up one after the other by one resolver,
+//! over the servers of the register.
 
 ghost use Rattle.std.specs.Prelude.{◌≡◌, Ok, None, Some, IfOk, IfErr, OnOk, map, option_map};
 ghost use Rattle.ddt_register.specs.declared.register.Register.{Register};
@@ -35,8 +35,8 @@ pub const WORDS: Declaration<'static> = Declaration {
     ],
 };
 
-/// The resolver's own address, and the nonce of its first request. The identifiers are read from their words as they are
-/// looked up.
+/// The resolver's own address, and the nonce of its first request. The identifiers are read from their words as they
+/// are looked up.
 #[derive(Clone, Copy, Debug)]
 pub struct Lookup {
     me: Locator,
@@ -80,16 +80,16 @@ fn identifiers<'w>(words: &'w Words<'_>) -> &'w [&'w str]
     words.all_values("xeid").unwrap_or(&[])
 }
 
-/// The lines of the lookups of these identifiers, in order, all at the resolver's time. They are complete where each has
-/// an outcome. Refused where a word is no identifier, else for memory alone.
+/// The lines of the lookups of these identifiers, in order, all at the resolver's time. They are complete where each
+/// has an outcome. Refused where a word is no identifier, else for memory alone.
 fn look_up_each(
     alloc: Global,
     servers: &mut Servers,
     resolver: &mut Client,
     words: &[&str],
 ) -> Result<Lines, Refusal<'static>>
-    ensures told { (r : Register) → AreCompiled servers.old r → IsSound r resolver.old → IfOk result (λ lines. AreAllTold r
-        resolver.old.known.time resolver.old (map (λ t. t.now) words.now) lines.complete lines.text.items) }
+    ensures told { (r : Register) → AreCompiled servers.old r → IsSound r resolver.old → IfOk result (λ lines.
+        AreAllTold r resolver.old.known.time resolver.old (map (λ t. t.now) words.now) lines.complete lines.text.items) }
     ensures refused { bad_identifier (map (λ t. t.now) words.now) ≡ None → IfErr result (λ why. why ≡ OutOfMemory) }
 {
     let now = resolver.time();

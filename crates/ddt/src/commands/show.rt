@@ -25,8 +25,8 @@ const MAP_REFERRAL: u8 = 6;
 
 const ENCAPSULATED: u8 = 8;
 
-/// The line of the message that the word spells in hexadecimal. Refusals: a word that is no hexadecimal text, an unknown
-/// type or no byte at all, the first fault of a message. It has no file to open.
+/// The line of the message that the word spells in hexadecimal. Refusals: a word that is no hexadecimal text, an
+/// unknown type or no byte at all, the first fault of a message. It has no file to open.
 pub fn lines(alloc: Global, words: &Words<'_>) -> Result<Lines, Refusal<'static>>
     ensures text { IfOk result (λ lines. IsShowText (call_of words.now) lines.text.items) }
     ensures complete { IfOk result (λ lines. lines.complete ≡ true) }

@@ -24,7 +24,8 @@ use Rattle.ddt_sim.specs.declared.schedule.Datagram.{Datagram}
 use Rattle.ddt_sim.specs.Honest.{IsServer, IsHonestReply}
 use Rattle.ddt_sim.specs.Waiting.{CanBeAsked}
 
--- The moment; which servers are in force, 0 where there is one choice only; all datagrams in the order of sending; and the
+-- The moment; which servers are in force, 0 where there is one choice only; all datagrams in the order of sending; and
+-- the
 -- resolver. A datagram's number is its place.
 pub record World : Type 0 where
   pub moment : ℕ
@@ -115,12 +116,15 @@ pub record Resolves (w : World) (step : Step) (event : Event) (new : World) : Ty
 abbrev pub later : ℕ → ℕ → ℕ
 later moment millis = min (moment + millis) last_moment
 
--- The step. `resolves`: the resolver is asked, hears a reply, or ticks. `replies`: a request is handed to its server, and
--- the reply is one datagram more. `silent`: the server gives none. `not_sent`: no datagram has this number yet. `passes`:
+-- The step. `resolves`: the resolver is asked, hears a reply, or ticks. `replies`: a request is handed to its server,
+-- and
+-- the reply is one datagram more. `silent`: the server gives none. `not_sent`: no datagram has this number yet.
+-- `passes`:
 -- the moment moves, and the resolver's time follows at its next call.
 pub data WorldStep (may : Replies) (w : World) (step : Step) (event : Event) (new : World) : Type 0 where
   resolves : Resolves w step event new → WorldStep may w step event new
-  replies : (k : ℕ) (d : Datagram) (bytes : List ℕ) → step ≡ Deliver k → slice_get w.sent k ≡ Some d → d.is_reply ≡ false
+  replies : (k : ℕ) (d : Datagram) (bytes : List ℕ) → step ≡ Deliver k → slice_get w.sent k ≡ Some d
+      → d.is_reply ≡ false
       → may w.member d.to d.bytes (Some bytes) → event ≡ Replied (length w.sent)
       → new ≡ record w { sent = w.sent ++ reply_to d bytes ∷ [] } → WorldStep may w step event new
   silent : (k : ℕ) (d : Datagram) → step ≡ Deliver k → slice_get w.sent k ≡ Some d → d.is_reply ≡ false

@@ -37,7 +37,8 @@ impl<M: PrefixMap<u32>> Model for Compiled<M> {
 }
 
 impl<M: PrefixMap<u32>> Compiled<M> {
-    /// One server for each group of an accepted register, in the order of the groups' rows. Fails only if out of memory.
+    /// One server for each group of an accepted register, in the order of the groups' rows. Fails only if out of
+    /// memory.
     pub fn build(alloc: Global, accepted: &Accepted) -> Result<Compiled<M>, AllocError>
         ensures built { IfOk result (λ servers. servers ≡ configs_of accepted.now) }
         ensures compiled { IfOk result (λ servers. AreCompiled servers accepted.now) }

@@ -26,9 +26,9 @@ pub fn a_step_keeps_a_resolver_sound()
     negatives_hold_of_all_that_they_cover();
 }
 
-/// Each request of a lookup that is under way, in a resolver that is sound for an accepted register, is a DDT Map-Request
-/// to a server of it. The reply of an honest server is taken, keeps the resolver sound, and ends the lookup with the
-/// assignment, or without an outcome only where no nonce is left.
+/// Each request of a lookup that is under way, in a resolver that is sound for an accepted register, is a DDT
+/// Map-Request to a server of it. The reply of an honest server is taken, keeps the resolver sound, and ends the lookup
+/// with the assignment, or without an outcome only where no nonce is left.
 pub(crate) fn requests_are_understood()
     ensures { RequestsAreUnderstood }
 {

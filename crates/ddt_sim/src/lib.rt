@@ -1,7 +1,6 @@
 //! Servers and a resolver together: what following Map-Referrals from the root ends in.
 //!
-//! In reading order: `servers`, `compiled`, `laws`, `hop`, `following`, `looking_up`, `schedule`,
-//! `running`.
+//! In reading order: `servers`, `compiled`, `laws`, `hop`, `following`, `looking_up`, `schedule`, `running`.
 #![tactic(auto)]
 
 mod compiled;

@@ -32,12 +32,12 @@ use ddt_resolver::{AskError, Asked, Outgoing, Resolver, Ticket, Why};
 use ddt_trie::PrefixMap;
 use std::alloc::Global;
 
-/// Looks an identifier up at `now`: asks the resolver, and hands each of its requests to the servers and each reply back
-/// to it, until the outcome is there (RFC 8111, section 7.3). Where the outcome is remembered, no server is asked.
+/// Looks an identifier up at `now`: asks the resolver, and hands each of its requests to the servers and each reply
+/// back to it, until the outcome is there (RFC 8111, section 7.3). Where the outcome is remembered, no server is asked.
 ///
-/// Refused as GaveUp: for want of a reply as soon as a server gives none, or one that is no reply to this lookup; where a
-/// reply makes the resolver give up; where no nonce is left. As TooMany where 1,024 lookups are pending. Fails as Memory
-/// only if out of memory. After an error its own lookup is no longer pending, and what was saved stays.
+/// Refused as GaveUp: for want of a reply as soon as a server gives none, or one that is no reply to this lookup; where
+/// a reply makes the resolver give up; where no nonce is left. As TooMany where 1,024 lookups are pending. Fails as
+/// Memory only if out of memory. After an error its own lookup is no longer pending, and what was saved stays.
 pub fn lookup<S: Servers, M: PrefixMap<Entry>>(
     alloc: Global,
     servers: &mut S,
@@ -45,13 +45,14 @@ pub fn lookup<S: Servers, M: PrefixMap<Entry>>(
     now: Moment,
     x: Xeid,
 ) -> Result<Lookup, LookupError>
-    // Over honest servers of an accepted register, and from a resolver that is sound for it, the outcome is what longest
-    // match over the register assigns.
+    // Over honest servers of an accepted register, and from a resolver that is sound for it, the outcome is what
+    // longest match over the register assigns.
     ensures headline { OverHonest (S.honest servers.old) resolver.old (λ r. IfOk result (IsAssigned r x)) }
     // The resolver is sound afterwards, and the servers honest.
     ensures sound { OverHonest (S.honest servers.old) resolver.old (λ r. IsSound r resolver.new) }
     ensures stay { (r : Register) → S.honest servers.old r → S.honest servers.new r }
-    // Each of its requests is a DDT Map-Request for the identifier, and each reply what the register says at its server.
+    // Each of its requests is a DDT Map-Request for the identifier, and each reply what the register says at its
+    // server.
     ensures hops { OverHonest (S.honest servers.old) resolver.old
         (λ r. IfOk result (HasHonestHops r x resolver.old.me)) }
     // Its requests are at most as many as the zones that cover the identifier, and 7.

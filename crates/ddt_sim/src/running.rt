@@ -36,20 +36,22 @@ pub fn run<S: Servers, M: PrefixMap<Entry>>(
     resolver: &mut Resolver<M>,
     steps: &[Step],
 ) -> Result<Transcript, AllocError>
-    // Over honest servers of an accepted register, and from a resolver that is sound for it and has nothing pending, each
-    // answer is what the register assigns to the identifier of its own ask.
+    // Over honest servers of an accepted register, and from a resolver that is sound for it and has nothing pending,
+    // each answer is what the register assigns to the identifier of its own ask.
     ensures answers { IfOk result (λ t. AnswersAreRight (S.honest servers.old) resolver.old steps.now t resolver.new) }
     // Each request that is delivered has its reply, which spells its nonce and what the register says there.
     ensures replies { IfOk result (λ t. RepliesAreRight (S.honest servers.old) resolver.old steps.now t resolver.new) }
     // No ticket ends twice.
     ensures once { IfOk result (λ t. TicketsEndOnce (S.honest servers.old) resolver.old steps.now t resolver.new) }
-    // A lookup gives up only for want of a reply or of nonces, a reply is ignored only where it comes too late, and an ask
-    // is refused only for want of room or of nonces.
-    ensures failures { IfOk result (λ t. FailuresAreRight (S.honest servers.old) resolver.old steps.now t resolver.new) }
+    // A lookup gives up only for want of a reply or of nonces, a reply is ignored only where it comes too late, and an
+    // ask is refused only for want of room or of nonces.
+    ensures failures { IfOk result (λ t. FailuresAreRight (S.honest servers.old) resolver.old steps.now t
+        resolver.new) }
     // The resolver is sound afterwards, also where memory stops it.
     ensures sound { (r : Register) → S.honest servers.old r → StartsSound r resolver.old → IsSound r resolver.new }
     // Whatever the servers reply: the transcript tells a run of the resolver's steps and the servers' replies.
-    ensures run { IfOk result (λ t. (past : List Line) × Tells (S.honest servers.old) resolver.old steps.now t resolver.new past) }
+    ensures run { IfOk result (λ t. (past : List Line) × Tells (S.honest servers.old) resolver.old steps.now t
+        resolver.new past) }
     ensures stopped { OnErr result (StopsAfter (S.honest servers.old) resolver.old steps.now resolver.new) }
     ensures stay { (r : Register) → S.honest servers.old r → S.honest servers.new r }
     // No steps are never refused.
@@ -82,7 +84,8 @@ fn take_step<S: Servers, M: PrefixMap<Entry>>(
     sent: &mut Vec<Datagram>,
     step: Step,
 ) -> Result<Event, AllocError>
-    ensures step { IfOk result (λ event. WorldStep (honest_replies (S.honest servers.old)) (world moment.old sent.old.items resolver.old) step event (world moment.new sent.new.items resolver.new)) }
+    ensures step { IfOk result (λ event. WorldStep (honest_replies (S.honest servers.old))
+        (world moment.old sent.old.items resolver.old) step event (world moment.new sent.new.items resolver.new)) }
     ensures stopped { OnErr result (Stops (world moment.old sent.old.items resolver.old) step resolver.new) }
     ensures stay { (r : Register) → S.honest servers.old r → S.honest servers.new r }
 {
@@ -116,7 +119,8 @@ fn ask<M: PrefixMap<Entry>>(
     sent: &mut Vec<Datagram>,
     x: Xeid,
 ) -> Result<Event, AllocError>
-    ensures step { IfOk result (λ event. Resolves (world moment sent.old.items resolver.old) (step_as.Ask x) event (world moment sent.new.items resolver.new)) }
+    ensures step { IfOk result (λ event. Resolves (world moment sent.old.items resolver.old) (step_as.Ask x) event
+        (world moment sent.new.items resolver.new)) }
     ensures stopped { OnErr result (Stops (world moment sent.old.items resolver.old) (step_as.Ask x) resolver.new) }
 {
     let me = resolver.me();
@@ -164,7 +168,8 @@ fn tick<M: PrefixMap<Entry>>(
     moment: Moment,
     sent: &mut Vec<Datagram>,
 ) -> Result<Event, AllocError>
-    ensures step { IfOk result (λ event. Resolves (world moment sent.old.items resolver.old) step_as.Tick event (world moment sent.new.items resolver.new)) }
+    ensures step { IfOk result (λ event. Resolves (world moment sent.old.items resolver.old) step_as.Tick event
+        (world moment sent.new.items resolver.new)) }
     ensures stopped { OnErr result (Stops (world moment sent.old.items resolver.old) step_as.Tick resolver.new) }
 {
     let me = resolver.me();
@@ -182,8 +187,11 @@ fn deliver<S: Servers, M: PrefixMap<Entry>>(
     sent: &mut Vec<Datagram>,
     number: u64,
 ) -> Result<Event, AllocError>
-    ensures step { IfOk result (λ event. WorldStep (honest_replies (S.honest servers.old)) (world moment sent.old.items resolver.old) (step_as.Deliver number) event (world moment sent.new.items resolver.new)) }
-    ensures stopped { OnErr result (Stops (world moment sent.old.items resolver.old) (step_as.Deliver number) resolver.new) }
+    ensures step { IfOk result (λ event. WorldStep (honest_replies (S.honest servers.old))
+        (world moment sent.old.items resolver.old) (step_as.Deliver number) event
+        (world moment sent.new.items resolver.new)) }
+    ensures stopped { OnErr result (Stops (world moment sent.old.items resolver.old) (step_as.Deliver number)
+        resolver.new) }
     ensures stay { (r : Register) → S.honest servers.old r → S.honest servers.new r }
 {
     match is_reply(sent.as_slice(), number) {
@@ -209,8 +217,10 @@ fn hear<M: PrefixMap<Entry>>(
     number: u64,
 ) -> Result<Event, AllocError>
     requires { option_map (λ d. d.is_reply) (slice_get sent.old.items number) ≡ Some true }
-    ensures step { IfOk result (λ event. Resolves (world moment sent.old.items resolver.old) (step_as.Deliver number) event (world moment sent.new.items resolver.new)) }
-    ensures stopped { OnErr result (Stops (world moment sent.old.items resolver.old) (step_as.Deliver number) resolver.new) }
+    ensures step { IfOk result (λ event. Resolves (world moment sent.old.items resolver.old) (step_as.Deliver number)
+        event (world moment sent.new.items resolver.new)) }
+    ensures stopped { OnErr result (Stops (world moment sent.old.items resolver.old) (step_as.Deliver number)
+        resolver.new) }
 {
     let me = resolver.me();
     let reply = &sent[number as usize];
@@ -227,7 +237,9 @@ fn serve<S: Servers>(
     number: u64,
 ) -> Result<Event, AllocError>
     requires { option_map (λ d. d.is_reply) (slice_get sent.old.items number) ≡ Some false }
-    ensures step { (moment : ℕ) (s : State) → IfOk result (λ event. WorldStep (honest_replies (S.honest servers.old)) (world moment sent.old.items s) (step_as.Deliver number) event (world moment sent.new.items s)) }
+    ensures step { (moment : ℕ) (s : State) → IfOk result (λ event.
+        WorldStep (honest_replies (S.honest servers.old)) (world moment sent.old.items s) (step_as.Deliver number) event
+        (world moment sent.new.items s)) }
     ensures stay { (r : Register) → S.honest servers.old r → S.honest servers.new r }
 {
     let request = &sent[number as usize];

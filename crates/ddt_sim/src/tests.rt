@@ -1,7 +1,9 @@
-//! Worked lookups over the servers of a compiled register, and over servers that say anything.
+//! Worked lookups and schedules over the servers of a compiled register, and lookups over servers that say
+//! anything.
 
 mod campus;
 mod played;
+mod schedules;
 
 use super::*;
 use ddt_cache::{Entry, Moment};
@@ -18,6 +20,10 @@ const ME: Locator = Locator::V4(0x7f00_0035);
 const ROOT: Locator = Locator::V4(0x7f00_0001);
 
 const TEN: Locator = Locator::V4(0x7f00_000a);
+
+const EAST: Locator = Locator::V4(0x7f00_0101);
+
+const EAST_2: Locator = Locator::V4(0x7f00_0102);
 
 /// An IPv4 address of the Instance ID 0.
 fn v4(address: u32) -> Xeid {

@@ -2,36 +2,8 @@
 
 use super::*;
 use ddt_check::check;
+use ddt_examples::registers::{CAMPUS, LONE_ROOT, SHARED_GROUP};
 use ddt_register::read_register;
-
-const CAMPUS: &str = "kind,prefix,group,addresses
-group-node,,root,127.0.0.1
-group-node,,ten,127.0.0.10
-group-ms,,east,127.0.1.1 127.0.1.2
-node,*,root,
-node,[0]10.0.0.0/8,ten,
-ms,[0]10.1.0.0/16,east,
-site,[0]10.1.2.0/24,,127.0.2.1
-site,[0]10.1.4.0/24,,
-";
-
-/// A register in which the servers of the root serve a zone below another group's.
-const BACK_AT_THE_ROOT: &str = "kind,prefix,group,addresses
-group-node,,root,127.0.0.1
-group-node,,ten,127.0.0.10
-node,*,root,
-node,[0]10.0.0.0/8,ten,
-node,[0]10.1.0.0/16,root,
-";
-
-const ROOT_ALONE: &str = "kind,prefix,group,addresses
-group-node,,root,127.0.0.1
-node,*,root,
-";
-
-const EAST: Locator = Locator::V4(0x7f00_0101);
-
-const EAST_2: Locator = Locator::V4(0x7f00_0102);
 
 /// The servers of a register, and a new resolver that asks them.
 #[derive(Drop)]
@@ -148,7 +120,7 @@ fn an_acknowledgement_leads_to_the_site_inside(rt: HostRuntime) -> Result<(), Fa
 
 #[test]
 fn everything_is_one_hole(rt: HostRuntime) -> Result<(), Fail> {
-    let mut world = World::of(rt.alloc(), ROOT_ALONE, "")?;
+    let mut world = World::of(rt.alloc(), LONE_ROOT, "")?;
     let everything = Outcome::Hole {
         prefix: Prefix::cut(v4(0), 0),
     };
@@ -160,7 +132,7 @@ fn everything_is_one_hole(rt: HostRuntime) -> Result<(), Fail> {
 
 #[test]
 fn the_root_answers_for_its_own_zone_below(rt: HostRuntime) -> Result<(), Fail> {
-    let mut world = World::of(rt.alloc(), BACK_AT_THE_ROOT, "")?;
+    let mut world = World::of(rt.alloc(), SHARED_GROUP, "")?;
     let below = hole(0x0a01_0000, 16)?;
     assert_eq!(rt; world.finds(0x0a01_0203, below, &[ROOT])?, true);
     Ok(())
@@ -168,7 +140,7 @@ fn the_root_answers_for_its_own_zone_below(rt: HostRuntime) -> Result<(), Fail> 
 
 #[test]
 fn a_remembered_referral_leads_back_to_the_root(rt: HostRuntime) -> Result<(), Fail> {
-    let mut world = World::of(rt.alloc(), BACK_AT_THE_ROOT, "")?;
+    let mut world = World::of(rt.alloc(), SHARED_GROUP, "")?;
     let beside = hole(0x0a02_0000, 15)?;
     let below = hole(0x0a01_0000, 16)?;
     assert_eq!(rt; world.finds(0x0a02_0001, beside, &[ROOT, TEN])?, true);

@@ -67,7 +67,7 @@ number_refusal (Some n) = None
 abbrev pub bad_lookup : Call → Option WordRefusal
 bad_lookup call =
     option_or (bad_identifier (xeid_words call))
-        (option_or (address_refusal (me_of call)) (number_refusal (seed_of call)))
+    (option_or (address_refusal (me_of call)) (number_refusal (seed_of call)))
 
 -- a call asks a resolver of this address and this seed, and its words are good
 pub record Asks (call : Call) (me_ : Locator) (seed : ℕ) : Type 0 where

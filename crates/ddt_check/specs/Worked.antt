@@ -163,18 +163,33 @@ numbers = record {
 }
 
 abbrev pub campus : Register
-campus = record { zones = campus_zones; sites = campus_sites; groups = campus_groups; rows = refl;
-    in_range = numbers.campus }
+campus = record {
+  zones = campus_zones;
+  sites = campus_sites;
+  groups = campus_groups;
+  rows = refl;
+  in_range = numbers.campus;
+}
 
 -- examples/shared_group.csv
 abbrev pub shared_group : Register
-shared_group = record { zones = root_zone 3 ∷ ten_zone 4 ∷ inner_root_zone ∷ []; sites = [];
-    groups = root_group ∷ ten_group ∷ []; rows = refl; in_range = numbers.shared_group }
+shared_group = record {
+  zones = root_zone 3 ∷ ten_zone 4 ∷ inner_root_zone ∷ [];
+  sites = [];
+  groups = root_group ∷ ten_group ∷ [];
+  rows = refl;
+  in_range = numbers.shared_group;
+}
 
 -- the root alone
 abbrev pub lone_root : Register
-lone_root = record { zones = root_zone 2 ∷ []; sites = []; groups = root_group ∷ []; rows = refl;
-    in_range = numbers.lone_root }
+lone_root = record {
+  zones = root_zone 2 ∷ [];
+  sites = [];
+  groups = root_group ∷ [];
+  rows = refl;
+  in_range = numbers.lone_root;
+}
 
 -- what the campus assigns
 pub record CampusAssigns : Type 0 where
@@ -190,26 +205,66 @@ pub record CampusAssigns : Type 0 where
 
 -- what the campus's servers say
 pub record CampusSays : Type 0 where
-  pub root_refers : says campus at_root (v4 0 0x0a010203) ≡ record { action = NodeReferral; prefix = block 0x0a000000 8;
-      ttl = 1440; incomplete = false; servers = at_ten ∷ [] }
-  pub ten_refers : says campus at_ten (v4 0 0x0a010203) ≡ record { action = MsReferral; prefix = block 0x0a010000 16;
-      ttl = 1440; incomplete = false; servers = at_east }
-  pub east_acknowledges : says campus (V4 0x7f000102) (v4 0 0x0a010203) ≡ record { action = MsAck;
-      prefix = block 0x0a010200 24; ttl = 1440; incomplete = false; servers = at_east }
-  pub east_knows_the_silent_site : says campus (V4 0x7f000101) (v4 0 0x0a010407) ≡ record { action = MsNotRegistered;
-      prefix = block 0x0a010400 24; ttl = 1; incomplete = false; servers = at_east }
-  pub root_says_a_hole : says campus at_root (v4 2147483648 0x0a000001) ≡ record { action = DelegationHole;
-      prefix = path (Range 2147483648 1); ttl = 15; incomplete = false; servers = [] }
-  pub ten_is_not_in_charge : says campus at_ten (v4 0 0x0b000001) ≡ record { action = NotAuthoritative;
-      prefix = v4 0 0x0b000001; ttl = 0; incomplete = true; servers = [] }
+  pub root_refers : says campus at_root (v4 0 0x0a010203) ≡ record {
+    action = NodeReferral;
+    prefix = block 0x0a000000 8;
+    ttl = 1440;
+    incomplete = false;
+    servers = at_ten ∷ [];
+  }
+  pub ten_refers : says campus at_ten (v4 0 0x0a010203) ≡ record {
+    action = MsReferral;
+    prefix = block 0x0a010000 16;
+    ttl = 1440;
+    incomplete = false;
+    servers = at_east;
+  }
+  pub east_acknowledges : says campus (V4 0x7f000102) (v4 0 0x0a010203) ≡ record {
+    action = MsAck;
+    prefix = block 0x0a010200 24;
+    ttl = 1440;
+    incomplete = false;
+    servers = at_east;
+  }
+  pub east_knows_the_silent_site : says campus (V4 0x7f000101) (v4 0 0x0a010407) ≡ record {
+    action = MsNotRegistered;
+    prefix = block 0x0a010400 24;
+    ttl = 1;
+    incomplete = false;
+    servers = at_east;
+  }
+  pub root_says_a_hole : says campus at_root (v4 2147483648 0x0a000001) ≡ record {
+    action = DelegationHole;
+    prefix = path (Range 2147483648 1);
+    ttl = 15;
+    incomplete = false;
+    servers = [];
+  }
+  pub ten_is_not_in_charge : says campus at_ten (v4 0 0x0b000001) ≡ record {
+    action = NotAuthoritative;
+    prefix = v4 0 0x0b000001;
+    ttl = 0;
+    incomplete = true;
+    servers = [];
+  }
 
 -- where one group serves a zone inside another's, and where there is the root alone
 pub record OthersAssign : Type 0 where
   pub hole_stays_inside : assignment shared_group (v4 0 0x0a010203) ≡ Hole (block 0x0a010000 16)
-  pub longest_authority : says shared_group at_root (v4 0 0x0a010203) ≡ record { action = DelegationHole;
-      prefix = block 0x0a010000 16; ttl = 15; incomplete = false; servers = [] }
-  pub ten_refers_to_root : says shared_group at_ten (v4 0 0x0a010203) ≡ record { action = NodeReferral;
-      prefix = block 0x0a010000 16; ttl = 1440; incomplete = false; servers = at_root ∷ [] }
+  pub longest_authority : says shared_group at_root (v4 0 0x0a010203) ≡ record {
+    action = DelegationHole;
+    prefix = block 0x0a010000 16;
+    ttl = 15;
+    incomplete = false;
+    servers = [];
+  }
+  pub ten_refers_to_root : says shared_group at_ten (v4 0 0x0a010203) ≡ record {
+    action = NodeReferral;
+    prefix = block 0x0a010000 16;
+    ttl = 1440;
+    incomplete = false;
+    servers = at_root ∷ [];
+  }
   pub everything : assignment lone_root (v4 7 0x01010101) ≡ Hole []
   pub single_identifier : free [] (block 0x0a090909 32 ∷ []) (v4 0 0x0a090908) ≡ Some (block 0x0a090908 32)
   pub free_beside_ten : free [] (block 0x0a000000 8 ∷ []) (v4 0 0x0b000001) ≡ Some (block 0x0b000000 8)
@@ -218,30 +273,60 @@ pub record OthersAssign : Type 0 where
 -- the campus with one more zone, site or group in row 9, whose numbers are in range
 abbrev pub zone_in_nine : (address len : ℕ) → is_in_range (with_zone (zone_nine address len)) campus_sites campus_groups
     ≡ true → Register
-zone_in_nine address len fits = record { zones = with_zone (zone_nine address len); sites = campus_sites;
-    groups = campus_groups; rows = refl; in_range = fits }
+zone_in_nine address len fits = record {
+  zones = with_zone (zone_nine address len);
+  sites = campus_sites;
+  groups = campus_groups;
+  rows = refl;
+  in_range = fits;
+}
 
 abbrev pub ms_zone_of_ten : Register
-ms_zone_of_ten = record { zones = with_zone ms_zone; sites = campus_sites; groups = campus_groups; rows = refl;
-    in_range = numbers.ms_zone }
+ms_zone_of_ten = record {
+  zones = with_zone ms_zone;
+  sites = campus_sites;
+  groups = campus_groups;
+  rows = refl;
+  in_range = numbers.ms_zone;
+}
 
 abbrev pub zone_of_west : Register
-zone_of_west = record { zones = with_zone west_zone; sites = campus_sites; groups = campus_groups; rows = refl;
-    in_range = numbers.west_zone }
+zone_of_west = record {
+  zones = with_zone west_zone;
+  sites = campus_sites;
+  groups = campus_groups;
+  rows = refl;
+  in_range = numbers.west_zone;
+}
 
 abbrev pub second_root : Register
-second_root = record { zones = with_zone (root_zone 9); sites = campus_sites; groups = campus_groups; rows = refl;
-    in_range = numbers.second_root }
+second_root = record {
+  zones = with_zone (root_zone 9);
+  sites = campus_sites;
+  groups = campus_groups;
+  rows = refl;
+  in_range = numbers.second_root;
+}
 
 abbrev pub site_in_nine : (address len : ℕ) (etrs : List Locator)
     → is_in_range campus_zones (with_site (site_nine address len etrs)) campus_groups ≡ true → Register
-site_in_nine address len etrs fits = record { zones = campus_zones; sites = with_site (site_nine address len etrs);
-    groups = campus_groups; rows = refl; in_range = fits }
+site_in_nine address len etrs fits = record {
+  zones = campus_zones;
+  sites = with_site (site_nine address len etrs);
+  groups = campus_groups;
+  rows = refl;
+  in_range = fits;
+}
 
 abbrev pub group_in_nine : (name : List ℕ) (locators : List Locator) → is_in_range campus_zones campus_sites
     (with_group (group_nine name locators)) ≡ true → Register
-group_in_nine name locators fits = record { zones = campus_zones; sites = campus_sites;
-    groups = with_group (group_nine name locators); rows = refl; in_range = fits }
+group_in_nine name locators fits = record {
+  zones = campus_zones;
+  sites = campus_sites;
+  groups = with_group (group_nine name locators);
+  rows = refl;
+  in_range = fits;
+}
 
 -- a site with an ETR inside the silent site, and a silent site inside the registered one
 abbrev pub with_inner_site : Register
@@ -262,8 +347,13 @@ pub record NestedSitesAssign : Type 0 where
       ≡ NotRegistered (block 0x0a010240 26) at_east
   pub still_a_hole : assignment with_inner_site (v4 0 0x0a010309) ≡ Hole (block 0x0a010300 24)
   pub east_says_the_part : says with_inner_site (V4 0x7f000101) (v4 0 0x0a010407)
-      ≡ record { action = MsNotRegistered; prefix = block 0x0a010400 25; ttl = 1; incomplete = false;
-          servers = at_east }
+      ≡ record {
+        action = MsNotRegistered;
+        prefix = block 0x0a010400 25;
+        ttl = 1;
+        incomplete = false;
+        servers = at_east;
+      }
   pub east_acknowledges_the_inner_site : says with_inner_site (V4 0x7f000101) (v4 0 0x0a0104c8)
       ≡ record { action = MsAck; prefix = block 0x0a010480 25; ttl = 1440; incomplete = false; servers = at_east }
 
@@ -273,7 +363,7 @@ nothing = record { zones = []; sites = []; groups = []; rows = refl; in_range = 
 abbrev pub all_rules : List Rule
 all_rules =
     rules.NoRoot ∷ rules.DuplicateZone ∷ rules.DuplicateSite ∷ rules.UnknownGroup ∷ rules.Role ∷ rules.Locators
-        ∷ rules.BelowMapServer
+    ∷ rules.BelowMapServer
     ∷ rules.SiteOutside ∷ rules.TooManyEtrs ∷ rules.DuplicateGroup ∷ []
 
 abbrev pub rows_to_eight : List ℕ

@@ -31,7 +31,7 @@ IsToldAs memory fault = ((fault ≡ Memory) × memory) ⊎ ((fault ≡ Toml) × 
 abbrev pub IsJudged : Outline → Result ServerConfig ConfigFault → Type 0
 IsJudged parts result =
     MatchResult result (λ c. with_shape parts ≡ Ok (outline c)) (λ fault.
-        (fault ≡ Shape) × (with_shape parts ≡ Err fault))
+    (fault ≡ Shape) × (with_shape parts ≡ Err fault))
 
 abbrev pub child_fits : Child → Bool
 child_fits c = fits c.locators

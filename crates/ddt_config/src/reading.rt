@@ -86,8 +86,12 @@ fn shaped(
     locators: LocatorSet,
     authorities: Listed<Authority>,
 ) -> Result<ServerConfig, ConfigFault>
-    ensures found { IfOk result (λ c. with_shape (record { name = name; role = role; locators = locators;
-        authorities = authorities }) ≡ Ok (outline c)) }
+    ensures found { IfOk result (λ c. with_shape (record {
+      name = name;
+      role = role;
+      locators = locators;
+      authorities = authorities;
+    }) ≡ Ok (outline c)) }
     ensures refused { IfErr result (λ fault. fault ≢ ConfigFault.Memory
         → with_shape (record { name = name; role = role; locators = locators; authorities = authorities })
         ≡ Err fault) }

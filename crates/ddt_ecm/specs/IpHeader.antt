@@ -46,7 +46,7 @@ pub record Ipv4Header : Type 0 where
 abbrev pub ipv4_fields : Ipv4Header → ℕ → List ℕ
 ipv4_fields h total =
     ((64 + h.words) ∷ h.service ∷ []) ++ to_be_bytes w16 total ++ to_be_bytes w16 h.identification ++ to_be_bytes w16
-        (h.flags * 2 ^ 14) ++ (h.hops ∷ 17 ∷ [])
+    (h.flags * 2 ^ 14) ++ (h.hops ∷ 17 ∷ [])
     ++ to_be_bytes w16 h.checksum ++ to_be_bytes w32 h.source ++ to_be_bytes w32 h.destination ++ h.options
 
 -- an IPv4 packet around a UDP datagram, whose pseudo-header is given too; all but the addresses is ignored
@@ -72,7 +72,7 @@ pub record Ipv6Header : Type 0 where
 abbrev pub ipv6_fields : Ipv6Header → ℕ → List ℕ
 ipv6_fields h payload =
     to_be_bytes w32 (6 * 2 ^ 28 + h.class_and_label) ++ to_be_bytes w16 payload ++ (17 ∷ h.hops ∷ []) ++ to_be_bytes
-        w128 h.source ++ to_be_bytes w128 h.destination
+    w128 h.source ++ to_be_bytes w128 h.destination
 
 -- an IPv6 packet around a UDP datagram in the same way
 pub record SpellsIpv6 (bytes pseudo udp : List ℕ) : Type 0 where

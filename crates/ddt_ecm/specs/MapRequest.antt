@@ -34,7 +34,7 @@ pub record Ignored : Type 0 where
 abbrev pub request_fields : Ignored → Bool → ℕ → ℕ → List ℕ
 request_fields i with_map irc nonce =
     to_be_bytes w32 (2 ^ 28 + bit i.authoritative * 2 ^ 27 + bit with_map * 2 ^ 26 + i.flags * 2 ^ 13 + irc * 2 ^ 8 + 1)
-        ++ to_be_bytes w64 nonce
+    ++ to_be_bytes w64 nonce
 
 -- the source EID, which is skipped: AFI 0 alone, an address, or an LCAF of any type, whose length counts what follows
 -- it
@@ -44,7 +44,7 @@ pub data SpellsSource (bytes : List ℕ) : Type 0 where
   Lcaf : (reserved flags type more : ℕ) (content : List ℕ) → reserved < 256 → flags < 256 → type < 256 → more < 256
       → length content < 2 ^ 16 → IsBytes content
       → bytes ≡ to_be_bytes w16 16387 ++ (reserved ∷ flags ∷ type ∷ more ∷ []) ++ to_be_bytes w16 (length content)
-          ++ content → SpellsSource bytes
+      ++ content → SpellsSource bytes
 
 -- A Map-Request for one identifier. The EID mask-len is the whole width of its address. Bytes stand after the EID only
 -- where the bit M is set, and are ignored.
@@ -81,7 +81,7 @@ source_at bytes =
     else if big_number 2 bytes == 1 then skipped 6 bytes
     else if big_number 2 bytes == 2 then skipped 18 bytes
     else if big_number 2 bytes == 16387 then (if nat_lt (length bytes) 8 then Err fault.Short
-        else skipped (8 + big_number 2 (drop 6 bytes)) bytes)
+    else skipped (8 + big_number 2 (drop 6 bytes)) bytes)
     else Err fault.EidFamily
 
 abbrev pub from_address : AddressFault → RequestFault
@@ -122,7 +122,7 @@ unfoldable pub xeid_at : List ℕ → Result (Xeid × ℕ) RequestFault
 xeid_at bytes =
     if nat_lt (length bytes) 2 then Err fault.Short
     else (in_words from_eid (eid_at (slice_index bytes 1) (drop 2 bytes)) >>= λ p. host_of (form_of p.0) >>= λ x.
-        Ok (x, 2 + p.1))
+    Ok (x, 2 + p.1))
 
 -- the 12 bytes up to the nonce
 unfoldable pub head_at : List ℕ → Result ℕ RequestFault

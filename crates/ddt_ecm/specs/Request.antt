@@ -54,5 +54,10 @@ message_in bytes = do
   udp ← ip_at ip
   data_ ← udp_at udp.0 udp.1
   asked ← map_request_at data_.1
-  Ok (record { nonce = asked.0; ddt = slice_index bytes 0 / 4 % 2 == 1; port = data_.0; xeid = asked.1;
-      rlocs = asked.2 })
+  Ok (record {
+    nonce = asked.0;
+    ddt = slice_index bytes 0 / 4 % 2 == 1;
+    port = data_.0;
+    xeid = asked.1;
+    rlocs = asked.2;
+  })

@@ -22,7 +22,7 @@ map_request_head nonce rlocs = (16 ∷ 0 ∷ (length rlocs - 1) ∷ 1 ∷ []) ++
 abbrev pub written_map_request : ℕ → Xeid → List Locator → List ℕ
 written_map_request nonce x rlocs =
     map_request_head nonce rlocs ++ flat_map family_and_address rlocs ++ (0 ∷ address_width x.address ∷ [])
-        ++ written_eid (xeid_path x)
+    ++ written_eid (xeid_path x)
 
 -- ---- UDP
 
@@ -47,7 +47,7 @@ written_udp pseudo message =
 abbrev pub ipv4_header : ℕ → ℕ → ℕ → ℕ → List ℕ
 ipv4_header total checksum source destination =
     (69 ∷ 0 ∷ []) ++ to_be_bytes w16 total ++ (0 ∷ 0 ∷ 0 ∷ 0 ∷ 64 ∷ 17 ∷ []) ++ to_be_bytes w16 checksum ++ to_be_bytes
-        w32 source ++ to_be_bytes w32 destination
+    w32 source ++ to_be_bytes w32 destination
 
 unfoldable pub written_ipv4 : ℕ → ℕ → ℕ → List ℕ
 written_ipv4 total source destination = ipv4_header total
@@ -76,13 +76,13 @@ unfoldable pub packet4 : ℕ → ℕ → List ℕ → List ℕ
 packet4 source destination message =
     written_ipv4 (28 + length message) source destination
     ++ written_udp (ones_sum 0 (pseudo4 (to_be_bytes w32 source ++ to_be_bytes w32 destination) (8 + length message)))
-        message
+    message
 
 unfoldable pub packet6 : ℕ → ℕ → List ℕ → List ℕ
 packet6 source destination message =
     written_ipv6 (8 + length message) source destination
     ++ written_udp (ones_sum 0 (pseudo6 (to_be_bytes w128 source ++ to_be_bytes w128 destination) (8 + length message)))
-        message
+    message
 
 abbrev pub packet : Locator → List Locator → List ℕ → List ℕ
 packet (V4 destination) rlocs message = packet4 (source4 rlocs) destination message

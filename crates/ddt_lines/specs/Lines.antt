@@ -39,7 +39,7 @@ action_text NotAuthoritative = codes "NOT-AUTHORITATIVE"
 abbrev pub counts_text : ℕ → ℕ → ℕ → List ℕ
 counts_text zones sites groups =
     codes "accepted " ++ decimal zones ++ codes " zones " ++ decimal sites ++ codes " sites " ++ decimal groups
-        ++ codes " groups"
+    ++ codes " groups"
 
 -- sixteen digits
 unfoldable pub nonce_text : ℕ → List ℕ

@@ -11,11 +11,7 @@ use ddt_wire::Referral;
 use std::alloc::{AllocError, Global};
 
 /// `TO ACTION PREFIX MINUTES LOCATORS`, and a line feed. Fails only if out of memory.
-pub fn hop_line(
-    alloc: Global,
-    to: Locator,
-    referral: &Referral<'_>,
-) -> Result<Vec<u8>, AllocError>
+pub fn hop_line(alloc: Global, to: Locator, referral: &Referral<'_>) -> Result<Vec<u8>, AllocError>
     ensures { IfOk result (λ line. line.items ≡ ended (hop_text to referral.now)) }
 {
     let mut line = Vec::new(alloc);

@@ -39,7 +39,10 @@ fn whole(incomplete: bool) -> &'static str
 }
 
 /// Appends each locator of a Map-Referral behind a blank. Fails only if out of memory.
-pub(crate) fn push_referral_set(line: &mut Vec<u8>, locators: Locators<'_>) -> Result<(), AllocError>
+pub(crate) fn push_referral_set(
+    line: &mut Vec<u8>,
+    locators: Locators<'_>,
+) -> Result<(), AllocError>
     ensures { OnOk result (line.new.items ≡ line.old.items ++ spaced locators.entry) }
 {
     for locator in locators {

@@ -48,7 +48,7 @@ pub take-digits : (w l x : ℕ) → l ≤ w → take l (digits w x) ≡ digits l
 take-digits w l x le =
     let e : w ≡ l + (w - l) = omega arith in
     ap (λ (n : ℕ). take l (digits n x)) e ∙ rw (digits-add l (w - l) x)
-        (take_at (digits l (x / 2 ^ (w - l))) (digits (w - l) x) l (length-digits l (x / 2 ^ (w - l))))
+    (take_at (digits l (x / 2 ^ (w - l))) (digits (w - l) x) l (length-digits l (x / 2 ^ (w - l))))
 
 -- a number with its low part cleared
 pub digits-cleared : (w l x : ℕ) → l ≤ w → digits w (x / 2 ^ (w - l) * 2 ^ (w - l)) ≡ take l (digits w x)

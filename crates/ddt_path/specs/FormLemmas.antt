@@ -29,7 +29,7 @@ pub padded_number-digits : (w len x : ℕ) → x < 2 ^ w → len ≤ w → are_z
 padded_number-digits w len x small le zeros =
     let m : length (drop len (digits w x)) ≡ w - len = length-drop len (digits w x) ∙ rw (length-digits w x) refl in
     let tail : replicate (w - len) 0 ≡ drop len (digits w x) =
-        ap (λ (k : ℕ). replicate k 0) (sym m) ∙ sym (are_zero-replicate (drop len (digits w x)) zeros) in
+    ap (λ (k : ℕ). replicate k 0) (sym m) ∙ sym (are_zero-replicate (drop len (digits w x)) zeros) in
     rw (take_len w len x le, tail, take-append-drop len (digits w x)) (number_after-digits w 0 x ∙ mod_small x w small)
 
 pub whole : (w x : ℕ) → take w (digits w x) ≡ digits w x
@@ -60,12 +60,12 @@ form_of-path (Range iid len) h =
 form_of-path (Block iid (V4 a) len) h =
     form_of-long (digits 32 iid) (4 ∷ take len (digits 32 a)) (length-digits 32 iid) (omega arith)
     ∙ ap (λ (k : ℕ). Block k (V4 (padded_number 32 (take len (digits 32 a)))) (length (take len (digits 32 a))))
-        (padded_number-whole 32 iid h.0)
+    (padded_number-whole 32 iid h.0)
     ∙ ap (λ (k : ℕ). Block iid (V4 k) (length (take len (digits 32 a)))) (padded_number-digits 32 len a h.1 h.2 h.3)
     ∙ ap (Block iid (V4 a)) (take_len 32 len a h.2)
 form_of-path (Block iid (V6 a) len) h =
     form_of-long (digits 32 iid) (6 ∷ take len (digits 128 a)) (length-digits 32 iid) (omega arith)
     ∙ ap (λ (k : ℕ). Block k (V6 (padded_number 128 (take len (digits 128 a)))) (length (take len (digits 128 a))))
-        (padded_number-whole 32 iid h.0)
+    (padded_number-whole 32 iid h.0)
     ∙ ap (λ (k : ℕ). Block iid (V6 k) (length (take len (digits 128 a)))) (padded_number-digits 128 len a h.1 h.2 h.3)
     ∙ ap (Block iid (V6 a)) (take_len 128 len a h.2)

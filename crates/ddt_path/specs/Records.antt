@@ -25,17 +25,37 @@ referral_action Ms = MsReferral
 
 -- the referral to the servers of a prefix
 abbrev pub referral : Role → List ℕ → List Locator → ReferralRecord
-referral role prefix servers = record { action = referral_action role; prefix = prefix; ttl = positive_ttl;
-    incomplete = false; servers = servers }
+referral role prefix servers = record {
+  action = referral_action role;
+  prefix = prefix;
+  ttl = positive_ttl;
+  incomplete = false;
+  servers = servers;
+}
 
 -- the record of an outcome
 abbrev pub record_of : Outcome → ReferralRecord
-record_of (Registered prefix servers) = record { action = MsAck; prefix = prefix; ttl = positive_ttl;
-    incomplete = false; servers = servers }
-record_of (NotRegistered prefix servers) = record { action = MsNotRegistered; prefix = prefix; ttl = not_registered_ttl;
-    incomplete = false; servers = servers }
-record_of (Hole prefix) = record { action = DelegationHole; prefix = prefix; ttl = hole_ttl; incomplete = false;
-    servers = [] }
+record_of (Registered prefix servers) = record {
+  action = MsAck;
+  prefix = prefix;
+  ttl = positive_ttl;
+  incomplete = false;
+  servers = servers;
+}
+record_of (NotRegistered prefix servers) = record {
+  action = MsNotRegistered;
+  prefix = prefix;
+  ttl = not_registered_ttl;
+  incomplete = false;
+  servers = servers;
+}
+record_of (Hole prefix) = record {
+  action = DelegationHole;
+  prefix = prefix;
+  ttl = hole_ttl;
+  incomplete = false;
+  servers = [];
+}
 
 -- the answer of a server that is in charge of no prefix of the identifier: the whole identifier, not to be kept
 abbrev pub not_authoritative : List ℕ → ReferralRecord

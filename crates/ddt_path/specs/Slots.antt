@@ -25,6 +25,9 @@ filled-take slots filler items len h = rw (length-filled_items slots filler item
 pub IsFilled-filled : {A : Type 0} (slots : ℕ) (filler : A) (items : List A) → length items ≤ slots
     → IsFilled slots filler (items ++ replicate (slots - length items) filler) (length items)
 IsFilled-filled slots filler items le =
-    let fillers = replicate (slots - length items) filler in
-    (le, length-append items fillers ∙ rw (length-replicate (slots - length items) filler) (omega arith), ap (λ (l : _).
-        l ++ fillers) (sym (take_at items fillers (length items) refl)))
+    let fillers = replicate (slots - length items) filler in (
+      le,
+      length-append items fillers ∙ rw (length-replicate (slots - length items) filler) (omega arith),
+      ap (λ (l : _).
+          l ++ fillers) (sym (take_at items fillers (length items) refl)),
+    )

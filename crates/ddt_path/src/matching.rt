@@ -22,7 +22,7 @@ pub enum Preference {
 fn better<'a, T: Prefixed>(preference: Preference, best: Option<&'a T>, next: &'a T) -> &'a T
     ensures { let next = next.entry.now in
         result.now
-            ≡ option_map_or (λ first. better_of preference T.path first (Some next)) (option_copied best.entry) next }
+        ≡ option_map_or (λ first. better_of preference T.path first (Some next)) (option_copied best.entry) next }
 {
     match best {
         Some(best) if !is_better(preference, next.prefix().len(), best.prefix().len()) => best,

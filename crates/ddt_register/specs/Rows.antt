@@ -36,7 +36,7 @@ abbrev pub are_rows : List Zone → List Site → List Group → Bool
 are_rows zones sites groups =
     (rise 0 (zone_rows zones) && (rise 0 (site_rows sites) && rise 0 (group_rows groups)))
     && (are_apart (zone_rows zones) (site_rows sites) && (are_apart (zone_rows zones) (group_rows groups)
-        && are_apart (site_rows sites) (group_rows groups)))
+    && are_apart (site_rows sites) (group_rows groups)))
 
 -- the row of the first item that passes a test
 abbrev pub first_row : {A : Type 0} → (A → ℕ) → (A → Bool) → List A → Option ℕ

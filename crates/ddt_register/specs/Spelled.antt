@@ -138,7 +138,7 @@ rows_in row (fields ∷ records) =
 abbrev pub are_columns : List (List ℕ) → Bool
 are_columns (kind ∷ prefix ∷ group ∷ addresses ∷ []) =
     is_text (codes "kind") kind && (is_text (codes "prefix") prefix
-        && (is_text (codes "group") group && is_text (codes "addresses") addresses))
+    && (is_text (codes "group") group && is_text (codes "addresses") addresses))
 are_columns fields = false
 
 -- the items that the records of a text spell, or their first fault

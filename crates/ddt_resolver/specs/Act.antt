@@ -30,7 +30,7 @@ pub data Act (s : State) (t : ℕ) (l : Pending) (rec : ReferralRecord) (new : S
       → new ≡ dropped s t → heard ≡ GaveUp t Loop → Act s t l rec new heard
   refers : IsReferral rec.action → IsBelow l.saved rec.prefix → s.next < last_nonce
       → new ≡ lodged (stored s rec) t (referred l rec) → heard ≡ Followed t (request s (referred l rec))
-          → Act s t l rec new heard
+      → Act s t l rec new heard
   acknowledges : rec.action ≡ MsAck
       → new ≡ dropped (stored s rec) t → heard ≡ Answer t (outcome_of rec) → Act s t l rec new heard
   closes : rec.action ≡ DelegationHole
@@ -41,7 +41,7 @@ pub data Act (s : State) (t : ℕ) (l : Pending) (rec : ReferralRecord) (new : S
       → new ≡ dropped (stored s rec) t → heard ≡ Answer t (outcome_of rec) → Act s t l rec new heard
   starts_over : (p : List ℕ) → rec.action ≡ NotAuthoritative → l.start ≡ Some p → s.next < last_nonce
       → new ≡ lodged (forgotten s p) t (started_over s l) → heard ≡ Followed t (request s (started_over s l))
-          → Act s t l rec new heard
+      → Act s t l rec new heard
   nobody : rec.action ≡ NotAuthoritative → l.start ≡ None
       → new ≡ dropped s t → heard ≡ GaveUp t NobodyInCharge → Act s t l rec new heard
   used_up : GoesOn l rec → s.next ≡ last_nonce

@@ -27,7 +27,7 @@ abbrev pub UsableIsTaken : Type 0
 UsableIsTaken = (s new : State) (source : Locator) (bytes : List ℕ) (heard : Heard) (t : ℕ) (l : Pending)
     (rec : ReferralRecord) → IsInOrder s
     → get s.pending t ≡ Some l → Tells bytes l.nonce rec → IsAbout rec (xeid_path l.x) → NamesServer rec
-        → source ≡ server s.me l
+    → source ≡ server s.me l
     → HearStep s source bytes new heard → (l.deadline ≤ s.known.time) ⊎ Act s t l rec new heard
 
 -- The next ticket is new: no pending lookup has it, and every one that is pending is below it.

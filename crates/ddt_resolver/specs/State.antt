@@ -28,9 +28,9 @@ pub record State : Type 0 where
 abbrev pub state_code : Coded Entry → Coded Locator → Coded Pending → Coded State
 state_code entry locator pending =
     code_by (Known × (Locator × (ℕ × FinMap nat_cmp Pending)))
-        (coded× (known_code entry locator) (coded× locator (coded× coded_ℕ (code coded_ℕ pending))))
+    (coded× (known_code entry locator) (coded× locator (coded× coded_ℕ (code coded_ℕ pending))))
     (λ s. (s.known, (s.me, (s.next, s.pending)))) (λ p.
-        record { known = p.0; me = p.1.0; next = p.1.1.0; pending = p.1.1.1 }) (λ _. refl)
+    record { known = p.0; me = p.1.0; next = p.1.1.0; pending = p.1.1.1 }) (λ _. refl)
 
 -- a resolver that has heard nothing yet, at moment 0
 abbrev pub fresh : List Locator → Locator → ℕ → State
@@ -104,8 +104,18 @@ at_set l servers = record l { servers = servers; place = 0; second = false }
 -- a new lookup, at the first server of a set; it started at an entry of this prefix, or at the root
 abbrev pub opening : Xeid → List Locator → Option (List ℕ) → Pending
 opening x servers start =
-    record { x = x; servers = servers; place = 0; second = false; nonce = 0; deadline = 0; saved = None; kept = None;
-        restarted = false; start = start }
+    record {
+      x = x;
+      servers = servers;
+      place = 0;
+      second = false;
+      nonce = 0;
+      deadline = 0;
+      saved = None;
+      kept = None;
+      restarted = false;
+      start = start;
+    }
 
 -- a lookup that follows a referral
 abbrev pub referred : Pending → ReferralRecord → Pending

@@ -37,17 +37,17 @@ pub record IsInTime (s : State) (source : Locator) (bytes : List ℕ) (t : ℕ) 
 
 -- and they are about its identifier, and name a server where they refer to others: all six tests are passed
 pub record IsTaken (s : State) (source : Locator) (bytes : List ℕ) (t : ℕ) (l : Pending) (rec : ReferralRecord) : Type 0
-    where
-  pub in_time : IsInTime s source bytes t l rec
-  pub about : IsAbout rec (xeid_path l.x)
-  pub names_server : NamesServer rec
+  where
+    pub in_time : IsInTime s source bytes t l rec
+    pub about : IsAbout rec (xeid_path l.x)
+    pub names_server : NamesServer rec
 
 -- The six reasons to ignore a datagram; of each, the tests before it are passed.
 pub data Ignores (s : State) (source : Locator) (bytes : List ℕ) (why : Ignored) : Type 0 where
   undecodable : ((v : Message) → Spells bytes v → ⊥) → why ≡ Undecodable → Ignores s source bytes why
   unknown_nonce : (nonce : ℕ) (rec : ReferralRecord) → Tells bytes nonce rec
       → ((t : ℕ) (l : Pending) → get s.pending t ≡ Some l → l.nonce ≢ nonce) → why ≡ UnknownNonce
-          → Ignores s source bytes why
+      → Ignores s source bytes why
   wrong_source : (t : ℕ) (l : Pending) (rec : ReferralRecord) → IsReplyTo s bytes t l rec
       → source ≢ server s.me l → why ≡ WrongSource → Ignores s source bytes why
   late : (t : ℕ) (l : Pending) (rec : ReferralRecord) → IsFromServer s source bytes t l rec

@@ -89,8 +89,15 @@ impl Pending {
 
     /// It once it starts again at the root, whose servers are these.
     pub(crate) fn started_over(&self, roots: LocatorSet) -> Pending
-        ensures { result ≡ record self.now { servers = roots; place = 0; second = false; saved = None; kept = None;
-            start = None; restarted = true } }
+        ensures { result ≡ record self.now {
+          servers = roots;
+          place = 0;
+          second = false;
+          saved = None;
+          kept = None;
+          start = None;
+          restarted = true;
+        } }
     {
         Pending {
             servers: roots,

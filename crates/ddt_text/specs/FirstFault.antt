@@ -33,7 +33,7 @@ number_in most text = if is_number text && nat_le (digits_value 10 text) most th
 abbrev pub address_in : List ℕ → Option Locator
 address_in text =
     if list_any (λ b. b == 46) text then option_map (λ octets. V4 (from_be_bytes w32 octets))
-        (whole_value (read_ipv4 text))
+    (whole_value (read_ipv4 text))
     else option_map (λ groups. V6 (from_be_bytes w128 (octets_of groups))) (whole_value (read_ipv6 text))
 
 -- what stands before the first such byte, and what begins with it

@@ -31,7 +31,7 @@ unfoldable pub address_at : List ℕ → Result (Locator × ℕ) AddressFault
 address_at bytes =
     if nat_lt (length bytes) 2 then Err Short
     else if big_number 2 bytes == 1 then (if nat_lt (length bytes) 6 then Err Short
-        else Ok (V4 (big_number 4 (drop 2 bytes)), 6))
+    else Ok (V4 (big_number 4 (drop 2 bytes)), 6))
     else if big_number 2 bytes == 2 then (if nat_lt (length bytes) 18 then Err Short
-        else Ok (V6 (big_number 16 (drop 2 bytes)), 18))
+    else Ok (V6 (big_number 16 (drop 2 bytes)), 18))
     else Err Family

@@ -24,7 +24,7 @@ use Rattle.ddt_wire.specs.Address.{family_and_address, IsAddress, address_at}
 abbrev pub instance_head : ℕ → ℕ → ℕ → ℕ → ℕ → List ℕ
 instance_head reserved flags iid_mask iid inner_len =
     to_be_bytes w16 16387 ++ (reserved ∷ flags ∷ 2 ∷ iid_mask ∷ []) ++ to_be_bytes w16 (4 + inner_len) ++ to_be_bytes
-        w32 iid
+    w32 iid
 
 abbrev pub instance_lcaf : ℕ → ℕ → ℕ → ℕ → List ℕ → List ℕ
 instance_lcaf reserved flags iid_mask iid inner = instance_head reserved flags iid_mask iid (length inner) ++ inner
@@ -46,12 +46,12 @@ pub data SpellsEid (mask : ℕ) (bytes p : List ℕ) : Type 0 where
   Inside : (reserved flags iid_mask iid : ℕ) (a : Locator) → IsInstance reserved flags iid_mask iid → IsAddress a
       → mask ≤ address_width a
       → bytes ≡ instance_lcaf reserved flags iid_mask iid (family_and_address a) → p ≡ path (Block iid a mask)
-          → SpellsEid mask bytes p
+      → SpellsEid mask bytes p
   -- a range of instances, with AFI 0 in place of an address; the digits past its length are 0
   Instances : (reserved flags len iid : ℕ) → IsInstance reserved flags len iid → len ≤ 32
       → are_zero (drop len (digits 32 iid)) ≡ true
       → bytes ≡ instance_lcaf reserved flags len iid (to_be_bytes w16 0) → p ≡ path (Range iid len)
-          → SpellsEid mask bytes p
+      → SpellsEid mask bytes p
 
 -- ---- what is written
 
@@ -88,14 +88,14 @@ from_prefix prefix_fault.TailNotZero = TailNotZero
 unfoldable pub block_at : ℕ → ℕ → List ℕ → Result (List ℕ × ℕ) EidFault
 block_at iid mask bytes =
     in_words from_address (address_at bytes) >>= λ a. if nat_lt (address_width a.0) mask then Err MaskLength
-        else Ok (path (Block iid a.0 mask), a.1)
+    else Ok (path (Block iid a.0 mask), a.1)
 
 -- an LCAF whose type and length are right, with its Instance ID and the AFI inside it
 unfoldable pub inside_at : ℕ → List ℕ → Result (List ℕ × ℕ) EidFault
 inside_at mask bytes =
     if big_number 2 (drop 12 bytes) == 0 then
-        (in_words from_prefix (prefix_of (Range (big_number 4 (drop 8 bytes)) (slice_index bytes 5))) >>= λ p.
-        Ok (p, 14))
+    (in_words from_prefix (prefix_of (Range (big_number 4 (drop 8 bytes)) (slice_index bytes 5))) >>= λ p.
+    Ok (p, 14))
     else (block_at (big_number 4 (drop 8 bytes)) mask (drop 12 bytes) >>= λ b. Ok (b.0, 12 + b.1))
 
 -- whether the length field fits the AFI inside, which is 0, 1 or 2

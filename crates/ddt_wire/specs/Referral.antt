@@ -58,7 +58,7 @@ header reserved nonce = to_be_bytes w32 (6 * 2 ^ 28 + reserved * 2 ^ 8 + 1) ++ t
 abbrev pub fields : ℕ → ℕ → ℕ → Action → Bool → Bool → ℕ → ℕ → List ℕ
 fields ttl count mask action authoritative incomplete flags version =
     to_be_bytes w32 ttl ++ (count ∷ mask ∷ []) ++ to_be_bytes w16 (act action * 2 ^ 13 + bit authoritative * 2 ^ 12 +
-        bit incomplete * 2 ^ 11 + flags) ++ to_be_bytes w16 version
+    bit incomplete * 2 ^ 11 + flags) ++ to_be_bytes w16 version
 
 -- these bytes, all of them, spell a message
 pub record Spells (bytes : List ℕ) (v : Message) : Type 0 where
@@ -80,13 +80,24 @@ pub record Spells (bytes : List ℕ) (v : Message) : Type 0 where
 
 -- the message of a record
 abbrev pub message_of : ℕ → ReferralRecord → Message
-message_of n r = record { nonce = n; action = r.action; prefix = r.prefix; ttl = r.ttl; incomplete = r.incomplete;
-    locators = r.servers }
+message_of n r = record {
+  nonce = n;
+  action = r.action;
+  prefix = r.prefix;
+  ttl = r.ttl;
+  incomplete = r.incomplete;
+  locators = r.servers;
+}
 
 -- the record of a message, with its first eight locators
 abbrev pub message_record : Message → ReferralRecord
-message_record v = record { action = v.action; prefix = v.prefix; ttl = v.ttl; incomplete = v.incomplete;
-    servers = take 8 v.locators }
+message_record v = record {
+  action = v.action;
+  prefix = v.prefix;
+  ttl = v.ttl;
+  incomplete = v.incomplete;
+  servers = take 8 v.locators;
+}
 
 -- the one spelling that is written: A is 1, the reserved bits and the map version are 0
 abbrev pub written_header : ℕ → List ℕ
@@ -137,8 +148,14 @@ head_at bytes =
 -- a message of which these parts were read
 abbrev pub made_of : List ℕ → Action → List ℕ → List Locator → Message
 made_of bytes action_ prefix_ locators_ =
-    record { nonce = big_number 8 (drop 4 bytes); action = action_; prefix = prefix_;
-        ttl = big_number 4 (drop 12 bytes); incomplete = slice_index bytes 18 / 8 % 2 == 1; locators = locators_ }
+    record {
+      nonce = big_number 8 (drop 4 bytes);
+      action = action_;
+      prefix = prefix_;
+      ttl = big_number 4 (drop 12 bytes);
+      incomplete = slice_index bytes 18 / 8 % 2 == 1;
+      locators = locators_;
+    }
 
 -- The message, or the first fault from left to right.
 unfoldable pub message_in : List ℕ → Result Message ReferralFault

@@ -142,8 +142,14 @@ impl<'a> Model for Referral<'a> {
 
     ghost Value = { Message };
 
-    ghost view = { λ a. record { nonce = a.nonce; action = a.action; prefix = a.prefix; ttl = a.ttl;
-        incomplete = a.incomplete; locators = a.locators } };
+    ghost view = { λ a. record {
+      nonce = a.nonce;
+      action = a.action;
+      prefix = a.prefix;
+      ttl = a.ttl;
+      incomplete = a.incomplete;
+      locators = a.locators;
+    } };
 }
 
 impl<'a> Referral<'a> {

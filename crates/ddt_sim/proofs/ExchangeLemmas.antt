@@ -26,7 +26,7 @@ use Rattle.ddt_sim.specs.Headline.{IsUnderWay, IsRightTurn}
 use Rattle.ddt_sim.specs.Reply.{IsWellHeard, IsUnderstood}
 use Rattle.ddt_sim.proofs.WaitingLemmas.{waits_on, followed_waits}
 use Rattle.ddt_sim.proofs.ReplyLemmas.{IsFor, RepliesAreRead}
-use Rattle.ddt_sim.proofs.TurnLemmas.{asks_a_server, turn_is_own, turn_keeps_sound, turn_is_right, outcome_is_right, gave_up_used_up}
+use Rattle.ddt_sim.proofs.TurnLemmas.{asked_is_server, turn_is_own, turn_keeps_sound, turn_is_right, outcome_is_right, gave_up_used_up}
 
 -- what is for a ticket is not for another
 for_is_own : (t : ℕ) (h : Heard) → IsFor t h → IsNotFor t h → ⊥
@@ -60,7 +60,7 @@ module _ (r : Register) (now : ℕ) (x : Xeid) (s : State) (t : ℕ) (d : Outgoi
   pub understood : IsUnderstood r now x s t d
   understood = record {
     request = message_of u.waits.lookup.nonce x (s.me ∷ []) true;
-    server = asks_a_server r now x s t d u o;
+    server = asked_is_server r now x s t d u o;
     spelled = (subst (λ (bytes : List ℕ). Spells bytes (message_of u.waits.lookup.nonce x (s.me ∷ []) true)) (sym u.waits.bytes) (spelled_request written u.waits.lookup.nonce x s.me few u.fits), refl);
     heard = λ reply spells new h step. record {
       own = for_is_own t h (turn_is_own r now x s t d u o keeps time laws early reply spells new h step);

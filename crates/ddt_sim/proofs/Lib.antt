@@ -9,7 +9,9 @@ pub mod SoundLemmas
 pub mod TrailLemmas
 pub mod TurnLemmas
 pub mod WaitingLemmas
+pub mod ServerLemmas
 pub mod SentLemmas
 pub mod TicketLemmas
 pub mod ScheduleLemmas
+pub mod TriesLemmas
 pub mod StatementLemmas

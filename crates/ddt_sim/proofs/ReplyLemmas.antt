@@ -1,11 +1,12 @@
 -- The reply of an honest server is taken up by the lookup that asked, and is fair.
-use Rattle.std.proofs.Common.{◌≡◌, ℕ, ◌<◌, List, length, refl, sym, ap, ◌∙◌, subst, arith, inl}
+use Rattle.std.proofs.Common.{◌≡◌, ℕ, ◌<◌, ◌≤◌, List, length, Some, refl, sym, ap, ◌∙◌, subst, arith, inl, inr, ◌⊎◌}
 use Rattle.std.specs.Prelude.{IsTrue}
 use Rattle.std.specs.FinMap.{get}
 use Rattle.std.proofs.lemmas.Option.{same_Some}
+use Rattle.ddt_path.specs.declared.locator.Locator.{Locator}
 use Rattle.ddt_path.specs.declared.xeid.Xeid.{Xeid}
 use Rattle.ddt_path.specs.declared.record.ReferralRecord.{ReferralRecord}
-use Rattle.ddt_path.specs.Path.{xeid_path, is_path}
+use Rattle.ddt_path.specs.Path.{xeid_path}
 use Rattle.ddt_path.specs.Covers.{covers}
 use Rattle.ddt_register.specs.declared.register.Register.{Register}
 use Rattle.ddt_check.specs.Says.{says}
@@ -54,65 +55,70 @@ pub record RepliesAreRead (r : Register) : Type 0 where
   pub servers : AnswersHaveServers r
   pub sendable : AnswersCanBeSent r
 
-module _ (r : Register) (laws : RepliesAreRead r) (now : ℕ) (x : Xeid) (s : State) (t : ℕ) (d : Outgoing) (o : IsInOrder s) (w : Waits now x s t d)
-    (reply : List ℕ) (spells : Spells reply (message_of w.lookup.nonce (says r d.to (xeid_path x)))) where
-  said : ReferralRecord
-  said = says r d.to (xeid_path x)
+-- ---- the reply of an honest server
 
-  -- the identifier is one
-  id : IsTrue (is_path (xeid_path x))
-  id = subst (λ y. IsTrue (is_path (xeid_path y))) w.its_x (o.lookups t w.lookup w.is_pending).lookup.identifier
+module _ (r : Register) (laws : RepliesAreRead r) (s : State) (o : IsInOrder s) (t : ℕ) (l : Pending) (here : get s.pending t ≡ Some l) (source : Locator) (to : source ≡ server s.me l)
+    (reply : List ℕ) (spells : Spells reply (message_of l.nonce (says r source (xeid_path l.x)))) where
+  abbrev said : ReferralRecord
+  said = says r source (xeid_path l.x)
 
   -- whatever the reply tells is this
-  told : (nonce : ℕ) (rec : ReferralRecord) → Tells reply nonce rec → (w.lookup.nonce ≡ nonce) × (rec ≡ says r d.to (xeid_path x))
+  told : (nonce : ℕ) (rec : ReferralRecord) → Tells reply nonce rec → (l.nonce ≡ nonce) × (rec ≡ said)
   told nonce rec tells =
-      let same : tells.message ≡ message_of w.lookup.nonce (says r d.to (xeid_path x)) = laws.one reply tells.message (message_of w.lookup.nonce (says r d.to (xeid_path x))) tells.spells spells in (
+      let same : tells.message ≡ message_of l.nonce said = laws.one reply tells.message (message_of l.nonce said) tells.spells spells in
+      let id = (o.lookups t l here).lookup.identifier in (
         sym (ap (λ (m : Message). m.nonce) same) ∙ tells.same_nonce,
-        sym tells.same_record ∙ ap message_record same ∙ laws.back w.lookup.nonce (says r d.to (xeid_path x)) (laws.sendable d.to (xeid_path x) id).few_servers,
+        sym tells.same_record ∙ ap message_record same ∙ laws.back l.nonce said (laws.sendable source (xeid_path l.x) id).few_servers,
       )
 
   -- a lookup that has its nonce is the one that asked
-  own_ticket : (u : ℕ) (l : Pending) (rec : ReferralRecord) → takes.IsReplyTo s reply u l rec → (u ≡ t) × (l ≡ w.lookup)
-  own_ticket u l rec to =
-      let same : u ≡ t = o.nonces u t l w.lookup to.is_pending w.is_pending (sym (told l.nonce rec to.tells).0) in
-      (same, same_Some l w.lookup (sym to.is_pending ∙ ap (get s.pending) same ∙ w.is_pending))
+  own_ticket : (u : ℕ) (m : Pending) (rec : ReferralRecord) → takes.IsReplyTo s reply u m rec → (u ≡ t) × (m ≡ l)
+  own_ticket u m rec is =
+      let same : u ≡ t = o.nonces u t m l is.is_pending here (sym (told m.nonce rec is.tells).0) in
+      (same, same_Some m l (sym is.is_pending ∙ ap (get s.pending) same ∙ here))
 
   -- so a datagram that a lookup takes up is fair
-  pub honest_reply_is_fair : IsFairDatagram r s d.to reply
-  honest_reply_is_fair u l rec taken =
-      let to = taken.in_time.from_server.reply in
-      let own = own_ticket u l rec to in
-      (told l.nonce rec to.tells).1 ∙ ap (λ y. says r d.to (xeid_path y)) (sym (ap (λ (p : Pending). p.x) own.1 ∙ w.its_x))
+  fair : IsFairDatagram r s source reply
+  fair u m rec taken =
+      let is = taken.in_time.from_server.reply in
+      (told m.nonce rec is.tells).1 ∙ ap (λ (p : Pending). says r source (xeid_path p.x)) (sym (own_ticket u m rec is).1)
 
-  early : s.known.time < w.lookup.deadline
-  early = let e = w.deadline in omega arith
-
-  -- and it is not ignored
-  not_ignored : (why : Ignored) → Ignores s d.to reply why → ⊥
-  not_ignored why (takes.undecodable none e) = none (message_of w.lookup.nonce (says r d.to (xeid_path x))) spells
-  not_ignored why (takes.unknown_nonce nonce rec tells none e) = none t w.lookup w.is_pending (told nonce rec tells).0
-  not_ignored why (takes.wrong_source u l rec to other e) = other (w.to ∙ ap (server s.me) (sym (own_ticket u l rec to).1))
-  not_ignored why (takes.late u l rec from late e) =
-      let own : l.deadline ≡ w.lookup.deadline = ap (λ (p : Pending). p.deadline) (own_ticket u l rec from.reply).1 in
-      let lt = early in
-      omega arith
-  not_ignored why (takes.not_covering u l rec in_time away e) = away (inl (subst (λ (v : ReferralRecord). IsTrue (covers v.prefix (xeid_path l.x))) (sym rec_is) (subst (λ y. IsTrue (covers (says r d.to (xeid_path x)).prefix (xeid_path y))) (sym x_is) (laws.cover d.to (xeid_path x)))))
+  -- and it is ignored only where it is late
+  ignored_late : (why : Ignored) → Ignores s source reply why → l.deadline ≤ s.known.time
+  ignored_late why (takes.undecodable none e) = absurd (none (message_of l.nonce said) spells)
+  ignored_late why (takes.unknown_nonce nonce rec tells none e) = absurd (none t l here (told nonce rec tells).0)
+  ignored_late why (takes.wrong_source u m rec is other e) = absurd (other (to ∙ ap (server s.me) (sym (own_ticket u m rec is).1)))
+  ignored_late why (takes.late u m rec from late e) = subst (λ (p : Pending). p.deadline ≤ s.known.time) (own_ticket u m rec from.reply).1 late
+  ignored_late why (takes.not_covering u m rec in_time away e) =
+      let is = in_time.from_server.reply in
+      absurd (away (inl (subst (λ (v : ReferralRecord). IsTrue (covers v.prefix (xeid_path m.x))) (sym (told m.nonce rec is.tells).1)
+      (subst (λ (p : Pending). IsTrue (covers said.prefix (xeid_path p.x))) (sym (own_ticket u m rec is).1) (laws.cover source (xeid_path l.x))))))
+  ignored_late why (takes.no_servers u m rec in_time about none e) = absurd (none named)
     where
-      rec_is : rec ≡ says r d.to (xeid_path x)
-      rec_is = (told l.nonce rec in_time.from_server.reply.tells).1
-
-      x_is : l.x ≡ x
-      x_is = ap (λ (p : Pending). p.x) (own_ticket u l rec in_time.from_server.reply).1 ∙ w.its_x
-  not_ignored why (takes.no_servers u l rec in_time about none e) = none named
-    where
-      rec_is : rec ≡ says r d.to (xeid_path x)
-      rec_is = (told l.nonce rec in_time.from_server.reply.tells).1
+      rec_is : rec ≡ said
+      rec_is = (told m.nonce rec in_time.from_server.reply.tells).1
 
       named : IsReferral rec.action → 0 < length rec.servers
-      named k = subst (λ (v : ReferralRecord). 0 < length v.servers) (sym rec_is) (laws.servers d.to (xeid_path x) (inl (subst (λ (v : ReferralRecord). IsReferral v.action) rec_is k))).0
+      named k = subst (λ (v : ReferralRecord). 0 < length v.servers) (sym rec_is) (laws.servers source (xeid_path l.x) (inl (subst (λ (v : ReferralRecord). IsReferral v.action) rec_is k))).0
 
-  -- it is for the lookup that asked
+  -- it is late, or for the lookup that asked
+  pub late_or_taken : (new : State) (h : Heard) → HearStep s source reply new h → (l.deadline ≤ s.known.time) ⊎ IsFor t h
+  late_or_taken new h (acts.ignored why ignores e f) = inl (ignored_late why ignores)
+  late_or_taken new h (acts.taken u m rec taken act) =
+      inr (subst (λ v. IsFor v h) (own_ticket u m rec taken.in_time.from_server.reply).0 (act_is_for s u m rec new h act))
+
+-- ---- to a lookup that has just asked
+
+module _ (r : Register) (laws : RepliesAreRead r) (now : ℕ) (x : Xeid) (s : State) (t : ℕ) (d : Outgoing) (o : IsInOrder s) (w : Waits now x s t d)
+    (reply : List ℕ) (spells : Spells reply (message_of w.lookup.nonce (says r d.to (xeid_path x)))) where
+  of_its_x : Spells reply (message_of w.lookup.nonce (says r d.to (xeid_path w.lookup.x)))
+  of_its_x = subst (λ y. Spells reply (message_of w.lookup.nonce (says r d.to (xeid_path y)))) (sym w.its_x) spells
+
+  pub honest_reply_is_fair : IsFairDatagram r s d.to reply
+  honest_reply_is_fair = fair r laws s o t w.lookup w.is_pending d.to w.to reply of_its_x
+
   pub honest_reply_is_taken : (new : State) (h : Heard) → HearStep s d.to reply new h → IsFor t h
-  honest_reply_is_taken new h (acts.ignored why ignores e f) = absurd (not_ignored why ignores)
-  honest_reply_is_taken new h (acts.taken u l rec taken act) =
-      subst (λ v. IsFor v h) (own_ticket u l rec taken.in_time.from_server.reply).0 (act_is_for s u l rec new h act)
+  honest_reply_is_taken new h step = elim (late_or_taken r laws s o t w.lookup w.is_pending d.to w.to reply of_its_x new h step) [
+    | inl late ↦ let e = w.deadline in absurd (omega (arith, e, late))
+    | inr is ↦ is
+  ]

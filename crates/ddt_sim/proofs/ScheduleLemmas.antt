@@ -66,7 +66,7 @@ end_sends (ToTick (ticked_as.Sent u d)) t e f = absurd f
 end_sends (ToTick (ticked_as.Answer u o)) t e f = refl
 end_sends (ToTick (ticked_as.GaveUp u why)) t e f = refl
 
-goes_sends : (s : State) (call : Call) (a : Reply) (t : ℕ) (l new : Pending) → shape.Goes s call a t l new → request_at (event_of a) ≡ Some (request s new)
+pub goes_sends : (s : State) (call : Call) (a : Reply) (t : ℕ) (l new : Pending) → shape.Goes s call a t l new → request_at (event_of a) ≡ Some (request s new)
 goes_sends s call a t l new (shape.anew f place first empty) = ap (λ b. request_at (event_of b)) f
 goes_sends s call a t l new (shape.keeps source bytes rec called is f e) = ap (λ b. request_at (event_of b)) f
 goes_sends s call a t l new (shape.repeats f over first e) = ap (λ b. request_at (event_of b)) f
@@ -122,7 +122,7 @@ asked_fits w step call (ticked e f) x g = absurd (cc (f, g))
 -- ---- the invariant
 
 -- a request that is written spells a DDT Map-Request
-spelled : WrittenSpells → (nonce : ℕ) (x : Xeid) (me : Locator) → nonce < 2 ^ 64 → CanBeAsked x me → Spells (request_bytes nonce x me) (message_of nonce x (me ∷ []) true)
+pub spelled : WrittenSpells → (nonce : ℕ) (x : Xeid) (me : Locator) → nonce < 2 ^ 64 → CanBeAsked x me → Spells (request_bytes nonce x me) (message_of nonce x (me ∷ []) true)
 unfolding request_bytes
 spelled written nonce x me few fits = written nonce x (me ∷ []) true (record {
   nonce_fits = few;

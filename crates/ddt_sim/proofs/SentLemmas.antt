@@ -2,20 +2,14 @@
 use Rattle.std.proofs.Common.{◌≡◌, ℕ, zero, suc, ◌+◌, ◌<◌, ◌≤◌, true, false, List, [], ◌∷◌, ◌++◌, length, Option, Some, None, refl, sym, ap, ◌∙◌, subst, arith, inl, inr, ◌⊎◌}
 use Rattle.std.specs.Prelude.{IsTrue, slice_get}
 use Rattle.std.specs.FinMap.{get, insert}
-use Rattle.std.specs.Option.{option_map_or}
 use Rattle.std.proofs.lemmas.Option.{none-some, same_Some}
 use Rattle.std.proofs.lemmas.Bool.{false≢true}
 use Rattle.ddt_path.specs.declared.locator.Locator.{Locator}
 use Rattle.ddt_path.specs.declared.record.ReferralRecord.{ReferralRecord}
 use Rattle.ddt_path.specs.declared.xeid.Xeid.{Xeid}
-use Rattle.ddt_path.specs.Locators.{lists}
 use Rattle.ddt_path.specs.Path.{xeid_path, is_path}
 use Rattle.ddt_path.specs.Covers.{covers}
-use Rattle.ddt_path.proofs.MemberLemmas.{contained, found_in}
-use Rattle.ddt_register.specs.declared.group.Group.{Group}
 use Rattle.ddt_register.specs.declared.register.Register.{Register}
-use Rattle.ddt_path.specs.Names.{is_same_name}
-use Rattle.ddt_check.specs.Zones.{group_named, locators_of}
 use Rattle.ddt_check.specs.Says.{says}
 use Rattle.ddt_wire.specs.Referral.{Message, Spells, message_of, message_record}
 use Rattle.ddt_resolver.specs.declared.pending.Pending.{Pending}
@@ -33,7 +27,7 @@ use Rattle.ddt_sim.specs.declared.schedule.Datagram.{Datagram}
 use Rattle.ddt_sim.specs.Honest.{IsServer}
 use Rattle.ddt_sim.specs.Sound.{IsSound, IsFairDatagram}
 use Rattle.ddt_sim.specs.Waiting.{CanBeAsked}
-use Rattle.ddt_sim.proofs.SoundLemmas.{lists_at}
+use Rattle.ddt_sim.proofs.ServerLemmas.{asks_a_server}
 use Rattle.ddt_sim.proofs.ReplyLemmas.{RepliesAreRead}
 
 -- ---- lists
@@ -43,6 +37,10 @@ module _ {X : Type 0} where
   get_append [] ys i x e = absurd (none-some x e)
   get_append (y ∷ xs) ys zero x e = e
   get_append (y ∷ xs) ys (suc i) x e = get_append xs ys i x e
+
+  pub get_last : (xs : List X) (x : X) → slice_get (xs ++ x ∷ []) (length xs) ≡ Some x
+  get_last [] x = refl
+  get_last (y ∷ xs) x = get_last xs x
 
   -- what is found after an append was there, or is the new element
   pub got_append : (xs : List X) (x : X) (i : ℕ) (y : X) → slice_get (xs ++ x ∷ []) i ≡ Some y → (slice_get xs i ≡ Some y) ⊎ ((i ≡ length xs) × (x ≡ y))
@@ -66,14 +64,6 @@ pub record WasAsked (r : Register) (s : State) (to : Locator) (nonce : ℕ) (x :
 pub data IsKnown (r : Register) (s : State) (d : Datagram) : Type 0 where
   request : (nonce : ℕ) (x : Xeid) → WasAsked r s d.to nonce x → d.is_reply ≡ false → d.bytes ≡ request_bytes nonce x s.me → IsKnown r s d
   reply : (nonce : ℕ) (x : Xeid) → WasAsked r s d.source nonce x → d.is_reply ≡ true → Spells d.bytes (message_of nonce (says r d.source (xeid_path x))) → IsKnown r s d
-
--- a locator of a group by its name is a server's
-at_group : (r : Register) (name : List ℕ) (l : Locator) → IsTrue (lists (locators_of r name) l) → IsServer r l
-at_group r name l listed = by (group_named r name) refl listed
-  where
-    by : (found : Option Group) → group_named r name ≡ found → IsTrue (lists (option_map_or (λ (g : Group). g.locators) found []) l) → IsServer r l
-    by None e none = absurd (false≢true none)
-    by (Some g) e listed = (g, contained r.groups g (found_in (λ (h : Group). is_same_name h.name name) r.groups g e), listed)
 
 -- ---- a step
 
@@ -110,9 +100,8 @@ module _ (r : Register) (s : State) (o : IsInOrder s) (call : Call) (new : State
   pub asks_now : IsSound r new → (t : ℕ) (l : Pending) → IsLookup l → CanBeAsked l.x s.me → new.pending ≡ insert s.pending t (numbered s l) → new.next ≡ s.next + 1 → WasAsked r new (server s.me l) s.next l.x
   asks_now sound t l is fits p n =
       let z = sound.lookups t (numbered s l) (ap (λ m. get m t) p ∙ get-insert_same s.pending t (numbered s l)) in
-      let listed : IsTrue (lists (locators_of r z.zone.group) (server s.me l)) = subst (λ (set : List Locator). IsTrue (lists set (server s.me l))) z.servers (lists_at l.servers l.place s.me is.place) in
       record {
-        is_server = at_group r z.zone.group (server s.me l) listed;
+        is_server = asks_a_server r s.me (numbered s l) z is.place;
         fits = subst (CanBeAsked l.x) (sym me) fits;
         id = is.identifier;
         below = omega (arith, n);

@@ -48,6 +48,8 @@ use Rattle.ddt_sim.proofs.ReplyLemmas.{IsFor, act_is_for}
 use Rattle.ddt_sim.proofs.SentLemmas as sent
 use Rattle.ddt_sim.proofs.SentLemmas.{IsKnown, ignored_rightly}
 use Rattle.ddt_sim.proofs.TicketLemmas.{IsStill, still_once, once_move, ended_was_pending}
+use Rattle.ddt_sim.specs.Tries.{IsRightNoReply}
+use Rattle.ddt_sim.proofs.TriesLemmas.{IsTried, tried_on, right_no_reply}
 use Rattle.ddt_sim.proofs.ScheduleLemmas.{asked_by, asks_by, IsSoundRun, was_asked_at, Stands, order_now, replied_honestly, right_now, is_moved, steps_soundly}
 
 -- ---- events
@@ -300,6 +302,16 @@ module _ (r : Register) (are_honest : Register → Type 0) (on : Stands r are_ho
   sound_run past w begin = first
   sound_run past w (next {past = p} {w = v} step event h does) = steps_soundly r are_honest on p v (sound_run p v h) step event w does
 
+  -- and the tries of its lookups are known
+  tried_run : IsTried r [] start → (past : List Line) (w : World) → History (honest_replies are_honest) start past w → IsTried r past w
+  tried_run tried past w begin = tried
+  tried_run tried past w (next {past = p} {w = v} step event h does) = tried_on r are_honest on p v (sound_run p v h) (tried_run tried p v h) step event w does
+
+  pub each_right_no_reply : IsTried r [] start → (past : List Line) (w : World) → History (honest_replies are_honest) start past w → Each (IsRightNoReply r) past
+  each_right_no_reply tried past w begin = tt
+  each_right_no_reply tried past w (next {past = p} {w = v} step event h does) =
+      (right_no_reply r are_honest p v (sound_run p v h) (tried_run tried p v h) step event w does, each_right_no_reply tried p v h)
+
   module _ (holds : List Line → Line → Type 0) (each : (past : List Line) (w : World) (i : IsSoundRun r past w) (step : Step) (event : Event) (new : World) → WorldStep (honest_replies are_honest) w step event new
       → holds past (record { before = w; step = step; event = event; after = new })) where
     pub each_line : (past : List Line) (w : World) → History (honest_replies are_honest) start past w → Each holds past
@@ -322,6 +334,14 @@ first_run r s o starts = record {
     known = λ t h. absurd h;
     ended = λ t h. absurd h;
   };
+}
+
+first_tried : (r : Register) (s : State) → StartsSound r s → IsTried r [] (at_start s)
+first_tried r s starts = record {
+  time = omega arith;
+  heard = λ reply moment h. absurd h;
+  replied = λ reply number h. absurd h;
+  trails = λ t l found none. absurd (none-some l (sym (starts.at_rest t) ∙ found));
 }
 
 -- what the crates below promise
@@ -373,3 +393,6 @@ module _ (laws : Promises) (are_honest : Register → Type 0) (old : State) (o :
 
     pub each_failure : (past : List Line) → Tells are_honest old steps t new past → Each IsRightFailure past
     each_failure past tells = each_line r are_honest on (at_start old) first IsRightFailure (right_failure r are_honest on) past tells.last tells.history
+
+    pub each_no_reply : (past : List Line) → Tells are_honest old steps t new past → Each (IsRightNoReply r) past
+    each_no_reply past tells = each_right_no_reply r are_honest on (at_start old) first (first_tried r old starts) past tells.last tells.history

@@ -67,7 +67,7 @@ same_end (ToTick (ticked_as.Answer v o)) t u e end f h = sym f.0 ∙ h.0
 same_end (ToTick (ticked_as.GaveUp v why)) t u e end f h = sym f.0 ∙ h.0
 
 -- one that goes on opens and ends none
-goes_on_reply : (s : State) (call : Call) (a : Reply) (t : ℕ) (l new : Pending) → Goes s call a t l new → ((d : Outgoing) × (a ≡ ToDatagram (heard_as.Followed t d))) ⊎ ((d : Outgoing) × (a ≡ ToTick (ticked_as.Sent t d)))
+pub goes_on_reply : (s : State) (call : Call) (a : Reply) (t : ℕ) (l new : Pending) → Goes s call a t l new → ((d : Outgoing) × (a ≡ ToDatagram (heard_as.Followed t d))) ⊎ ((d : Outgoing) × (a ≡ ToTick (ticked_as.Sent t d)))
 goes_on_reply s call a t l new (anew f place first empty) = inl (_, f)
 goes_on_reply s call a t l new (keeps source bytes rec called is f e) = inl (_, f)
 goes_on_reply s call a t l new (repeats f over first e) = inr (_, f)

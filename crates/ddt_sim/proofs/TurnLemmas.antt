@@ -33,26 +33,16 @@ use Rattle.ddt_sim.specs.Sound.{IsSound, IsRightWhy, IsRightHeard, StepsKeepSoun
 use Rattle.ddt_sim.specs.Waiting.{Waits}
 use Rattle.ddt_sim.specs.Headline.{IsUnderWay}
 use Rattle.ddt_sim.proofs.SoundLemmas.{lists_at}
+use Rattle.ddt_sim.proofs.ServerLemmas.{asks_a_server}
 use Rattle.ddt_sim.proofs.WaitingLemmas.{waits_on}
 use Rattle.ddt_sim.proofs.ReplyLemmas.{IsFor, RepliesAreRead, honest_reply_is_fair, honest_reply_is_taken}
 
--- a locator of a group by its name is a server's
-server_of_group : (r : Register) (name : List ℕ) (l : Locator) → IsTrue (lists (locators_of r name) l) → IsServer r l
-server_of_group r name l listed = by (group_named r name) refl listed
-  where
-    by : (found : Option Group) → group_named r name ≡ found → IsTrue (lists (option_map_or (λ (g : Group). g.locators) found []) l) → IsServer r l
-    by None e none = absurd (false≢true none)
-    by (Some g) e listed = (g, contained r.groups g (found_in (λ (h : Group). is_same_name h.name name) r.groups g e), listed)
-
 module _ (r : Register) (now : ℕ) (x : Xeid) (s : State) (t : ℕ) (d : Outgoing) (u : IsUnderWay r now x s t d) (o : IsInOrder s) where
   -- the server that is asked is one of the register
-  pub asks_a_server : IsServer r d.to
-  asks_a_server =
+  pub asked_is_server : IsServer r d.to
+  asked_is_server =
       let w = u.waits in
-      let z = u.sound.lookups t w.lookup w.is_pending in
-      let at : IsTrue (lists (locators_of r z.zone.group) (server s.me w.lookup)) =
-      subst (λ (set : List Locator). IsTrue (lists set (server s.me w.lookup))) z.servers (lists_at w.lookup.servers w.lookup.place s.me (o.lookups t w.lookup w.is_pending).lookup.place) in
-      server_of_group r z.zone.group d.to (subst (λ (l : Locator). IsTrue (lists (locators_of r z.zone.group) l)) (sym w.to) at)
+      subst (IsServer r) (sym w.to) (asks_a_server r s.me w.lookup (u.sound.lookups t w.lookup w.is_pending) (o.lookups t w.lookup w.is_pending).lookup.place)
 
   module _ (keeps : StepsKeepSoundness) (time : TimeKeepsSoundness) (laws : RepliesAreRead r) (early : now ≤ last_moment)
       (reply : List ℕ) (spells : Spells reply (message_of u.waits.lookup.nonce (says r d.to (xeid_path x)))) (new : State) (h : Heard) (step : HearStep (moved now s) d.to reply new h) where

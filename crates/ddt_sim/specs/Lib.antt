@@ -9,3 +9,4 @@ pub mod Trail
 pub mod Waiting
 pub mod World
 pub mod Schedules
+pub mod Tries

@@ -86,7 +86,7 @@ pub fn lookup<S: Servers, M: PrefixMap<Entry>>(
 }
 
 /// What holds of each identifier and each address: their numbers fit. The call does nothing.
-fn can_be_asked(x: Xeid, me: Locator)
+pub(crate) fn can_be_asked(x: Xeid, me: Locator)
     ensures { CanBeAsked x me }
 {
     let _iid = x.iid;

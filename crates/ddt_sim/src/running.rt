@@ -10,10 +10,12 @@ ghost use Rattle.ddt_wire.specs.Address.{IsAddress};
 ghost use Rattle.ddt_sim.specs.World.{world, honest_replies, request_at, sent_for, later as later_than, IsToldAsk, Resolves, WorldStep, Stops};
 ghost use Rattle.ddt_sim.specs.History.{Line, Tells, StopsAfter};
 ghost use Rattle.ddt_sim.specs.Schedules.{StartsSound, AnswersAreRight, RepliesAreRight, TicketsEndOnce, FailuresAreRight};
+ghost use Rattle.ddt_sim.specs.Tries.{NoRepliesAreRight};
 ghost use Rattle.ddt_sim.specs.Sound.{IsSound};
 ghost use Rattle.ddt_sim.specs.Waiting.{CanBeAsked};
 
 use crate::laws::a_step_keeps_a_resolver_sound;
+use crate::looking_up::can_be_asked;
 use crate::schedule::{Datagram, Event, Step, Transcript};
 use crate::servers::Servers;
 use ddt_cache::{Entry, LAST_MOMENT, Moment};
@@ -46,6 +48,10 @@ pub fn run<S: Servers, M: PrefixMap<Entry>>(
     // A lookup gives up only for want of a reply or of nonces, a reply is ignored only where it comes too late, and an
     // ask is refused only for want of room or of nonces.
     ensures failures { IfOk result (λ t. FailuresAreRight (S.honest servers.old) resolver.old steps.now t
+        resolver.new) }
+    // A lookup gives up for want of a reply only where each server of its zone was asked twice, and no reply to these
+    // requests was handed over before their deadlines.
+    ensures no_reply { IfOk result (λ t. NoRepliesAreRight (S.honest servers.old) resolver.old steps.now t
         resolver.new) }
     // The resolver is sound afterwards, also where memory stops it.
     ensures sound { (r : Register) → S.honest servers.old r → StartsSound r resolver.old → IsSound r resolver.new }
@@ -139,25 +145,6 @@ fn asked(answer: Result<Asked, AskError>) -> Result<Event, AllocError>
         Ok(asked) => Ok(Event::Asked(asked)),
         Err(AskError::Memory) => Err(AllocError),
         Err(error) => Ok(Event::Refused(error)),
-    }
-}
-
-/// What holds of each identifier and each address: their numbers fit. The call does nothing.
-fn can_be_asked(x: Xeid, me: Locator)
-    ensures { CanBeAsked x me }
-{
-    let _iid = x.iid;
-    is_address(x.address);
-    is_address(me);
-}
-
-/// What holds of each address: its number fits its family. The call does nothing.
-fn is_address(address: Locator)
-    ensures { IsAddress address }
-{
-    match address {
-        Locator::V4(_number) => {}
-        Locator::V6(_number) => {}
     }
 }
 

@@ -4,7 +4,7 @@ use Rattle.ddt_path.specs.declared.locator.Locator.TheVariants.{V4}
 use Rattle.ddt_sim.specs.declared.schedule.Step.{Step}
 use Rattle.ddt_sim.specs.declared.schedule.Step.TheVariants.{Ask}
 use Rattle.ddt_sim.proofs.RunLemmas.{running_at_start, runs_on, stops_in, stops_after, left_by}
-use Rattle.ddt_sim.proofs.StatementLemmas.{Promises, stops_soundly, each_answer, each_reply, each_once, each_failure}
+use Rattle.ddt_sim.proofs.StatementLemmas.{Promises, stops_soundly, each_answer, each_reply, each_once, each_failure, each_no_reply}
 use Rattle.ddt_sim.proofs.running.run.Goals as goal
 
 -- the step that stands for one past the end
@@ -140,6 +140,20 @@ returns-clause-failures g c = λ r honest starts.
       written = c.request_laws.ensures.written;
     } in
     each_failure laws (g.S.Servers.honest c.args.servers.now) c.args.resolver.now c.in_order.ensures c.args.steps.now r honest starts _ c.loop-step.resolver
+
+pub returns-clause-no_reply : goal.returns-clause-no_reply
+returns-clause-no_reply g c = λ r honest starts.
+    let laws : Promises = record {
+      keeps = c.a_step_keeps_a_resolver_sound.ensures.steps;
+      time = c.a_step_keeps_a_resolver_sound.ensures.time;
+      one = c.referral_laws.ensures.one;
+      back = c.referral_laws.ensures.back;
+      cover = c.honest_servers_lead_to_the_assignment.ensures.cover;
+      servers = c.honest_servers_lead_to_the_assignment.ensures.servers;
+      sendable = c.honest_servers_lead_to_the_assignment.ensures.sendable;
+      written = c.request_laws.ensures.written;
+    } in
+    each_no_reply laws (g.S.Servers.honest c.args.servers.now) c.args.resolver.now c.in_order.ensures c.args.steps.now r honest starts _ c.loop-step.resolver
 
 pub returns-clause-sound : goal.returns-clause-sound
 returns-clause-sound g c = λ r honest starts.

@@ -2,6 +2,7 @@ pub mod AskLemmas
 pub mod CompiledLemmas
 pub mod ExchangeLemmas
 pub mod FollowLemmas
+pub mod PassLemmas
 pub mod ReplyLemmas
 pub mod RunLemmas
 pub mod ShortLemmas

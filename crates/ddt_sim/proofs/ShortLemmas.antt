@@ -1,5 +1,5 @@
 -- A trail over honest servers is short: each referral leads to a longer zone, and one set is asked to its end.
-use Rattle.std.proofs.Common.{◌≡◌, ℕ, suc, ◌+◌, ◌<◌, ◌≤◌, Bool, cond, true, false, ◌&&◌, List, [], ◌∷◌, length, refl, sym, ap, ◌∙◌, subst, arith, inl, inr}
+use Rattle.std.proofs.Common.{◌≡◌, ℕ, suc, ◌+◌, ◌<◌, ◌≤◌, Bool, cond, true, false, ◌&&◌, List, [], ◌∷◌, length, Option, None, Some, refl, sym, ap, ◌∙◌, subst, arith, inl, inr}
 use Rattle.std.specs.Prelude.{IsTrue, nat_lt}
 use Rattle.std.specs.List.{All, Contains, filter}
 use Rattle.std.proofs.lemmas.Bool.{false≢true, or_right, and_parts, and_from, lt-ltb, ltb-true, le-ltb}
@@ -124,34 +124,34 @@ module _ (r : Register) (laws : ShortLaws r) (x : Xeid) (id : IsTrue (is_path (x
   no_referral rec is (inr k) = cc (is, k)
 
   -- once each server that is left says MS-NOT-REGISTERED, only they are asked
-  in_set : (left : List Locator) (hops : List Hop) → IsTrail x me roots outcome left hops → All honest hops → said_not_registered left → length hops ≤ length left
-  in_set left hops (trail.ends {l = l} {left = rest} {hop = hop} rec to k is) all said = omega arith
-  in_set left hops (trail.concludes {l = l} {hop = hop} rec to k is) all said = omega arith
-  in_set left hops (trail.passes_on {l = l} {left = rest} {hop = hop} {more = more} rec to k after) all said =
-      let ih : length more ≤ length rest = in_set rest more after (others hop more all) (λ m listed. said m (or_right _ _ listed)) in omega (arith, ih)
-  in_set left hops (trail.refers {l = l} {left = rest} {hop = hop} {more = more} rec to k after) all said =
+  in_set : (saved start : Option (List ℕ)) (left : List Locator) (hops : List Hop) → IsTrail x me roots outcome saved start left hops → All honest hops → said_not_registered left → length hops ≤ length left
+  in_set saved start left hops (trail.ends {l = l} {left = rest} {hop = hop} rec to k is) all said = omega arith
+  in_set saved start left hops (trail.concludes {l = l} {hop = hop} rec to k is) all said = omega arith
+  in_set saved start left hops (trail.passes_on {l = l} {left = rest} {hop = hop} {more = more} rec to k after) all said =
+      let ih : length more ≤ length rest = in_set saved start rest more after (others hop more all) (λ m listed. said m (or_right _ _ listed)) in omega (arith, ih)
+  in_set saved start left hops (trail.refers {l = l} {left = rest} {hop = hop} {more = more} rec to k lower after) all said =
       absurd (no_referral rec (ap (λ (v : ReferralRecord). v.action) (told l hop rec to (first hop more all)) ∙ said l (lists_at (l ∷ rest) 0 l (omega arith))) k)
-  in_set left hops (trail.starts_over {l = l} {left = rest} {hop = hop} {more = more} rec to k after) all said =
+  in_set saved start left hops (trail.starts_over {l = l} {left = rest} {hop = hop} {more = more} p rec to k after) all said =
       let is : rec.action ≡ MsNotRegistered = ap (λ (v : ReferralRecord). v.action) (told l hop rec to (first hop more all)) ∙ said l (lists_at (l ∷ rest) 0 l (omega arith)) in
       absurd (cc (is, k))
 
   -- From the servers of a zone: 8 hops at most, and one more for each longer zone.
-  down : (left : List Locator) (hops : List Hop) → IsTrail x me roots outcome left hops → All honest hops → (z : Zone) → Contains r.zones z → IsTrue (covers z.prefix (xeid_path x))
+  down : (saved start : Option (List ℕ)) (left : List Locator) (hops : List Hop) → IsTrail x me roots outcome saved start left hops → All honest hops → (z : Zone) → Contains r.zones z → IsTrue (covers z.prefix (xeid_path x))
       → left ≡ locators_of r z.group → length left ≤ 8 → length hops ≤ 8 + deeper r (xeid_path x) (length z.prefix)
-  down left hops (trail.ends {l = l} {left = rest} {hop = hop} rec to k is) all z among over set few = omega arith
-  down left hops (trail.concludes {l = l} {hop = hop} rec to k is) all z among over set few = omega arith
-  down left hops (trail.passes_on {l = l} {left = rest} {hop = hop} {more = more} rec to k after) all z among over set few = omega (arith, few, stays)
+  down saved start left hops (trail.ends {l = l} {left = rest} {hop = hop} rec to k is) all z among over set few = omega arith
+  down saved start left hops (trail.concludes {l = l} {hop = hop} rec to k is) all z among over set few = omega arith
+  down saved start left hops (trail.passes_on {l = l} {left = rest} {hop = hop} {more = more} rec to k after) all z among over set few = omega (arith, few, stays)
     where
       own : (m : Locator) → IsTrue (lists (l ∷ rest) m) → IsTrue (lists (locators_of r z.group) m)
       own m listed = subst (λ (v : List Locator). IsTrue (lists v m)) set listed
 
       stays : length more ≤ length rest
-      stays = in_set rest more after (others hop more all) (λ m listed.
+      stays = in_set saved start rest more after (others hop more all) (λ m listed.
           ap (λ (v : ReferralRecord). v.action)
           (laws.agree z.group m l (xeid_path x) (own m (or_right _ _ listed)) (own l (lists_at (l ∷ rest) 0 l (omega arith))) ∙ sym (told l hop rec to (first hop more all))) ∙ k)
-  down left hops (trail.refers {l = l} {left = rest} {hop = hop} {more = more} rec to k after) all z among over set few =
+  down saved start left hops (trail.refers {l = l} {left = rest} {hop = hop} {more = more} rec to k lower after) all z among over set few =
       let ih : length more ≤ 8 + deeper r (xeid_path x) (length child.0.prefix) =
-      down rec.servers more after (others hop more all) child.0 child.1 child.2 (ap (λ (v : ReferralRecord). v.servers) (is ∙ child.3))
+      down (Some rec.prefix) start rec.servers more after (others hop more all) child.0 child.1 child.2 (ap (λ (v : ReferralRecord). v.servers) (is ∙ child.3))
       (subst (λ (v : ReferralRecord). length v.servers ≤ 8) (sym is) (laws.servers l (xeid_path x) (inl refers)).1) in
       omega (arith, ih, less)
     where
@@ -171,7 +171,7 @@ module _ (r : Register) (laws : ShortLaws r) (x : Xeid) (id : IsTrue (is_path (x
 
       less : deeper r (xeid_path x) (length child.0.prefix) < deeper r (xeid_path x) (length z.prefix)
       less = fewer_deeper r (xeid_path x) (length z.prefix) child.0 child.1 child.2 longer
-  down left hops (trail.starts_over {l = l} {left = rest} {hop = hop} {more = more} rec to k after) all z among over set few =
+  down saved start left hops (trail.starts_over {l = l} {left = rest} {hop = hop} {more = more} p rec to k after) all z among over set few =
       let h = (laws.downwards z l (xeid_path x) among over (subst (λ (v : List Locator). IsTrue (lists v l)) set (lists_at (l ∷ rest) 0 l (omega arith)))).0 in
       absurd (h (ap (λ (v : ReferralRecord). v.action) (sym (told l hop rec to (first hop more all))) ∙ k))
 
@@ -188,6 +188,6 @@ trail_is_short r laws x s outcome hops o sound id (trail.at_once p e found answe
 trail_is_short r laws x s outcome hops o sound id (trail.from_servers p e found unanswered follows) all =
     let z : IsSoundLookup r (opening x e.servers (start_at p)) = begun r laws.keeps s o sound x p e found unanswered in
     let is : IsLookup (opening x e.servers (start_at p)) = opening_lookup s o x id p e found unanswered in
-    let a = down r laws x id s.me s.known.roots outcome e.servers hops follows all z.zone z.is_zone z.covers_x z.servers is.few in
+    let a = down r laws x id s.me s.known.roots outcome None (start_at p) e.servers hops follows all z.zone z.is_zone z.covers_x z.servers is.few in
     let b = zone_counts r (xeid_path x) z.zone z.is_zone z.covers_x in
     omega (arith, a, b)

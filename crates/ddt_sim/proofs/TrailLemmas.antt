@@ -1,5 +1,5 @@
 -- The hops of a lookup follow one another: from its steps.
-use Rattle.std.proofs.Common.{◌≡◌, ℕ, ◌+◌, ◌<◌, ◌≤◌, List, [], ◌∷◌, ◌++◌, length, drop, Some, Ok, Err, refl, sym, ap, ◌∙◌, subst, arith, inl, inr, max}
+use Rattle.std.proofs.Common.{◌≡◌, ℕ, ◌+◌, ◌<◌, ◌≤◌, List, [], ◌∷◌, ◌++◌, length, drop, None, Some, Ok, Err, refl, sym, ap, ◌∙◌, subst, arith, inl, inr, max}
 use Rattle.std.specs.Prelude.{IsTrue, Result, IfOk}
 use Rattle.std.proofs.lemmas.List.{append_assoc, drop_more, append-nil}
 use Rattle.std.proofs.Math.ListN.{drop_of_length-le}
@@ -16,7 +16,7 @@ use Rattle.ddt_resolver.specs.declared.answers.Outgoing.{Outgoing}
 use Rattle.ddt_resolver.specs.declared.answers.Asked.TheVariants as asked
 use Rattle.ddt_resolver.specs.declared.answers.Heard.TheVariants as heard
 use Rattle.ddt_resolver.specs.State.{State, moved, server, request, request_bytes, lodged, stored, forgotten, opening, referred, passed_on, started_over}
-use Rattle.ddt_resolver.specs.Records.{outcome_of, start_at}
+use Rattle.ddt_resolver.specs.Records.{IsAbout, outcome_of, start_at}
 use Rattle.ddt_resolver.specs.AskStep as ask
 use Rattle.ddt_resolver.specs.AskStep.{AskStep, Start}
 use Rattle.ddt_resolver.specs.TakeUp.{Tells, IsTaken}
@@ -43,12 +43,12 @@ record IsAlong (now : ℕ) (x : Xeid) (s0 : State) (outcome : Outcome) (hops : L
   pub place : waits.lookup.place < length waits.lookup.servers
   pub me : s.me ≡ s0.me
   pub roots : s.known.roots ≡ s0.known.roots
-  pub back : (more : List Hop) → IsTrail x s0.me s0.known.roots outcome (drop waits.lookup.place waits.lookup.servers) more → HasTrail x s0 outcome (hops ++ more)
+  pub back : (more : List Hop) → IsTrail x s0.me s0.known.roots outcome waits.lookup.saved waits.lookup.start (drop waits.lookup.place waits.lookup.servers) more → HasTrail x s0 outcome (hops ++ more)
 
 -- one that is lodged
 lodged_along : (now : ℕ) (x : Xeid) (s0 : State) (outcome : Outcome) (hops : List Hop) (t : ℕ) (s : State) (l : Pending) → now ≤ s.known.time → l.x ≡ x
     → l.place < length l.servers → s.me ≡ s0.me → s.known.roots ≡ s0.known.roots
-    → ((more : List Hop) → IsTrail x s0.me s0.known.roots outcome (drop l.place l.servers) more → HasTrail x s0 outcome (hops ++ more))
+    → ((more : List Hop) → IsTrail x s0.me s0.known.roots outcome l.saved l.start (drop l.place l.servers) more → HasTrail x s0 outcome (hops ++ more))
     → IsAlong now x s0 outcome hops t (request s l) (lodged s t l)
 lodged_along now x s0 outcome hops t s l le same place me roots back =
     record { waits = lodged_waits now x s t l le same; place = place; me = me; roots = roots; back = back }
@@ -88,14 +88,15 @@ module _ (now : ℕ) (x : Xeid) (s0 : State) (outcome : Outcome) (rooted : 0 < l
       to = a.waits.to ∙ ap (server s.me) (sym own);
       asks = subst (λ me. d.bytes ≡ request_bytes a.waits.lookup.nonce x me) a.me a.waits.bytes;
       tells = subst (λ (q : Pending). Tells reply q.nonce rec) own taken.in_time.from_server.reply.tells;
+      about = subst (λ y. IsAbout rec (xeid_path y)) its_x taken.about;
     }
 
     -- what comes of this hop and those after it
-    with_hop : (more : List Hop) → IsTrail x s0.me s0.known.roots outcome (server s.me l ∷ drop (l.place + 1) l.servers) (hop_of d reply ∷ more) → HasTrail x s0 outcome ((hops ++ hop_of d reply ∷ []) ++ more)
+    with_hop : (more : List Hop) → IsTrail x s0.me s0.known.roots outcome l.saved l.start (server s.me l ∷ drop (l.place + 1) l.servers) (hop_of d reply ∷ more) → HasTrail x s0 outcome ((hops ++ hop_of d reply ∷ []) ++ more)
     with_hop more left =
         subst (HasTrail x s0 outcome) (sym (append_assoc hops (hop_of d reply ∷ []) more))
-        (a.back (hop_of d reply ∷ more) (subst (λ (q : Pending). IsTrail x s0.me s0.known.roots outcome (drop q.place q.servers) (hop_of d reply ∷ more)) own
-        (subst (λ set. IsTrail x s0.me s0.known.roots outcome set (hop_of d reply ∷ more)) (sym (drop_more l.servers l.place s.me here)) left)))
+        (a.back (hop_of d reply ∷ more) (subst (λ (q : Pending). IsTrail x s0.me s0.known.roots outcome q.saved q.start (drop q.place q.servers) (hop_of d reply ∷ more)) own
+        (subst (λ set. IsTrail x s0.me s0.known.roots outcome l.saved l.start set (hop_of d reply ∷ more)) (sym (drop_more l.servers l.place s.me here)) left)))
 
     later : now ≤ max s.known.time now
     later = omega arith
@@ -105,7 +106,7 @@ module _ (now : ℕ) (x : Xeid) (s0 : State) (outcome : Outcome) (rooted : 0 < l
     acted_along new e (acts.refers k lower more f g) =
         let out : e ≡ request (stored (moved now s) rec) (referred l rec) = cc g in
         rw (f, out) (lodged_along now x s0 outcome (hops ++ hop_of d reply ∷ []) t (stored (moved now s) rec) (referred l rec) later its_x (taken.names_server k) a.me a.roots
-        (λ more left. with_hop more (trail.refers rec hop k left)))
+        (λ more left. with_hop more (trail.refers rec hop k lower left)))
     acted_along new e (acts.acknowledges k f g) = absurd (cc g)
     acted_along new e (acts.closes k f g) = absurd (cc g)
     acted_along new e (acts.passes_on k more room f g) =
@@ -117,7 +118,8 @@ module _ (now : ℕ) (x : Xeid) (s0 : State) (outcome : Outcome) (rooted : 0 < l
         let out : e ≡ request (forgotten (moved now s) p) (started_over (moved now s) l) = cc g in
         let some : 0 < length s.known.roots = subst (λ (set : List Locator). 0 < length set) (sym a.roots) rooted in
         rw (f, out) (lodged_along now x s0 outcome (hops ++ hop_of d reply ∷ []) t (forgotten (moved now s) p) (started_over (moved now s) l) later its_x some a.me a.roots
-        (λ more left. with_hop more (trail.starts_over rec hop k (subst (λ set. IsTrail x s0.me s0.known.roots outcome set more) a.roots left))))
+        (λ more left. with_hop more (subst (λ begun. IsTrail x s0.me s0.known.roots outcome l.saved begun (server s.me l ∷ drop (l.place + 1) l.servers) (hop_of d reply ∷ more)) (sym start)
+        (trail.starts_over p rec hop k (subst (λ set. IsTrail x s0.me s0.known.roots outcome None None set more) a.roots left)))))
     acted_along new e (acts.nobody k start f g) = absurd (cc g)
     acted_along new e (acts.used_up k over f g) = absurd (cc g)
 
@@ -130,7 +132,7 @@ module _ (now : ℕ) (x : Xeid) (s0 : State) (outcome : Outcome) (rooted : 0 < l
     concluded new (acts.passes_on k more room f g) = absurd (cc g)
     concluded new (acts.concludes k last f g) =
         let is : outcome ≡ outcome_of rec = cc g in
-        with_hop [] (subst (λ set. IsTrail x s0.me s0.known.roots outcome (server s.me l ∷ set) (hop_of d reply ∷ [])) (sym (drop_of_length-le l.servers last)) (trail.concludes rec hop k is))
+        with_hop [] (subst (λ set. IsTrail x s0.me s0.known.roots outcome l.saved l.start (server s.me l ∷ set) (hop_of d reply ∷ [])) (sym (drop_of_length-le l.servers last)) (trail.concludes rec hop k is))
     concluded new (acts.starts_over p k start room f g) = absurd (cc g)
     concluded new (acts.nobody k start f g) = absurd (cc g)
     concluded new (acts.used_up k over f g) = absurd (cc g)

@@ -2,7 +2,7 @@
 
 ghost use Rattle.ddt_sim.specs.Sound.{NewResolversAreSound, StepsKeepSoundness, TimeKeepsSoundness, CancellingKeepsSoundness};
 ghost use Rattle.ddt_sim.specs.Reply.{RequestsAreUnderstood};
-ghost use Rattle.ddt_sim.specs.Trail.{HonestTrailsAreShort};
+ghost use Rattle.ddt_sim.specs.Trail.{HonestTrailsAreShort, PassesAreShort};
 
 use ddt_check::{
     each_identifier_has_a_zone, honest_servers_lead_to_the_assignment,
@@ -46,5 +46,14 @@ pub(crate) fn honest_trails_are_short()
     each_identifier_has_a_zone();
     honest_servers_lead_to_the_assignment();
     negatives_hold_of_all_that_they_cover();
+    referral_laws();
+}
+
+/// Whatever the servers of a lookup say, it has at most two passes: a second one at the root, where a server that it
+/// was led to by what is remembered isn't in charge. Each pass follows at most one referral more than the identifier
+/// has digits, since each has a longer prefix than the one before.
+pub(crate) fn passes_are_short()
+    ensures { PassesAreShort }
+{
     referral_laws();
 }

@@ -18,13 +18,13 @@ ghost use Rattle.ddt_wire.specs.Address.{IsAddress};
 ghost use Rattle.ddt_sim.specs.Sound.{IsSound};
 ghost use Rattle.ddt_sim.specs.Waiting.{IsAwaited, CanBeAsked, requests_left};
 ghost use Rattle.ddt_sim.specs.Lookup.{HasOutcome, Fails, FailsUnder, IsRemembered, WhateverAsked, WhateverSent};
-ghost use Rattle.ddt_sim.specs.Trail.{HasTrail};
+ghost use Rattle.ddt_sim.specs.Trail.{HasTrail, HasShortPasses};
 ghost use Rattle.ddt_sim.specs.Headline.{OverHonest, WhenAsked, WhileUnderWay, IsAsked};
 ghost use Rattle.ddt_sim.specs.Headline.{IsAssigned, HasHonestHops, HasFewHops, IsRightFailure, IsRightError, most_hops};
 
 use crate::following::{Turn, exchange};
 use crate::hop::{Hop, Lookup, LookupError};
-use crate::laws::{a_step_keeps_a_resolver_sound, honest_trails_are_short};
+use crate::laws::{a_step_keeps_a_resolver_sound, honest_trails_are_short, passes_are_short};
 use crate::servers::Servers;
 use ddt_cache::{Entry, Moment};
 use ddt_path::{Listed, Locator, Xeid};
@@ -68,9 +68,12 @@ pub fn lookup<S: Servers, M: PrefixMap<Entry>>(
     ensures bound { IfOk result (λ l. length l.hops ≤ most_hops x) }
     // How its requests follow one another, from the entry that is found for the identifier to the outcome.
     ensures trail { IfOk result (λ l. HasTrail x (moved now resolver.old) l.outcome l.hops) }
+    // It has at most two passes, and each follows at most one referral more than the identifier has digits.
+    ensures passes { IfOk result (λ l. HasShortPasses x l.hops) }
 {
     a_step_keeps_a_resolver_sound();
     honest_trails_are_short();
+    passes_are_short();
     resolver.in_order();
     // The number tells the proof that it is a moment.
     let _millis = now.millis();

@@ -7,6 +7,7 @@ use Rattle.ddt_sim.specs.declared.hop.Lookup.{Lookup}
 use Rattle.ddt_sim.specs.Waiting.{CanBeAsked}
 use Rattle.ddt_sim.specs.Headline.{IsHonestHop}
 use Rattle.ddt_resolver.proofs.OrderLemmas.{order_moved}
+use Rattle.ddt_sim.proofs.PassLemmas.{short_passes}
 use Rattle.ddt_sim.proofs.TrailLemmas.{result_trail, short_result}
 use Rattle.ddt_sim.proofs.AskLemmas.{ask_keeps_sound, rightly_asked, answer_given, failure_is_error, asked_me}
 use Rattle.ddt_sim.proofs.looking_up.lookup.Goals as goal
@@ -45,6 +46,9 @@ pub returns-in-Ok-clause-trail : goal.returns-in-Ok-clause-trail
 returns-in-Ok-clause-trail g c =
     result_trail c.args.now c.args.x c.args.resolver.now (order_moved c.args.resolver.now c.args.now c.millis-millis.ensures.bound c.in_order.ensures) c.ask.ensures.identifier
     c.after_ask.new.resolver c.after_ask.result (c.after_ask.ensures.steps c.args.x c.args.resolver.now c.in-Ok.ensures.step)
+
+pub returns-in-Ok-clause-passes : goal.returns-in-Ok-clause-passes
+returns-in-Ok-clause-passes g c = short_passes c.passes_are_short.ensures c.args.x (moved c.args.now c.args.resolver.now) c.after_ask.result (returns-in-Ok-clause-trail g c)
 
 pub returns-in-Ok-clause-short : goal.returns-in-Ok-clause-short
 returns-in-Ok-clause-short g c = λ r accepted honest sound.

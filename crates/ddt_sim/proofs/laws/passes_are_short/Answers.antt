@@ -1,0 +1,5 @@
+use Rattle.ddt_sim.proofs.PassLemmas as pass
+use Rattle.ddt_sim.proofs.laws.passes_are_short.Goals as goal
+
+pub returns : goal.returns
+returns c = pass.passes_are_short c.referral_laws.ensures.read

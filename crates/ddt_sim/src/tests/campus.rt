@@ -46,6 +46,13 @@ fn hole(address: u32, len: u8) -> Result<Outcome, Fail> {
     })
 }
 
+/// The hole that is everything.
+fn everything() -> Outcome {
+    Outcome::Hole {
+        prefix: Prefix::cut(v4(0), 0),
+    }
+}
+
 /// A site, or a part of one, that the servers of east know as registered.
 fn registered(address: u32, len: u8) -> Result<Outcome, Fail> {
     Ok(Outcome::Registered {
@@ -121,9 +128,7 @@ fn an_acknowledgement_leads_to_the_site_inside(rt: HostRuntime) -> Result<(), Fa
 #[test]
 fn everything_is_one_hole(rt: HostRuntime) -> Result<(), Fail> {
     let mut world = World::of(rt.alloc(), LONE_ROOT, "")?;
-    let everything = Outcome::Hole {
-        prefix: Prefix::cut(v4(0), 0),
-    };
+    let everything = everything();
     assert_eq!(rt; world.finds(0x0a01_0203, everything, &[ROOT])?, true);
     assert_eq!(rt; world.finds(0x0a01_0203, everything, &[])?, true);
     assert_eq!(rt; world.finds(0xc000_0201, everything, &[])?, true);

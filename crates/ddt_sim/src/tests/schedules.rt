@@ -9,38 +9,83 @@ use ddt_resolver::{Asked, Heard, Ignored, Ticked};
 type Campus = Compiled<ListMap<u32>>;
 
 /// What an event tells, without the bytes of a request.
-#[derive(Clone, Copy, Debug, PartialEq, Eq)]
-enum Told {
-    Sent(u64, Locator),
-    Reply(u64),
-    AtOnce(Outcome),
-    Answer(u64, Outcome),
-    GaveUp(u64, Why),
-    Ignored(Ignored),
-    Now(u64),
-    Refused,
-    Silent,
-    Nothing,
+#[derive(Clone, Copy, PartialEq, Eq)]
+struct Told {
+    /// What happens, in a word.
+    what: &'static str,
+    /// The ticket, the number of a reply, or the moment.
+    number: u64,
+    /// Whom a request is sent to.
+    to: Option<Locator>,
+    /// The answer.
+    outcome: Option<Outcome>,
+}
+
+/// What tells a word and a number.
+fn told(what: &'static str, number: u64) -> Told {
+    Told {
+        what,
+        number,
+        to: None,
+        outcome: None,
+    }
+}
+
+/// A request that is sent for a ticket.
+fn sent(ticket: u64, to: Locator) -> Told {
+    Told {
+        what: "sent",
+        number: ticket,
+        to: Some(to),
+        outcome: None,
+    }
+}
+
+/// An answer to a ticket, or with the number 0 one at once.
+fn answer(ticket: u64, outcome: Outcome) -> Told {
+    Told {
+        what: "answer",
+        number: ticket,
+        to: None,
+        outcome: Some(outcome),
+    }
 }
 
 /// What an event tells.
 fn line_of(event: &Event) -> Told {
     match event {
-        Event::Asked(Asked::Answer(outcome)) => Told::AtOnce(*outcome),
-        Event::Asked(Asked::Sent(ticket, request)) => Told::Sent(ticket.number(), request.to),
-        Event::Refused(_) => Told::Refused,
-        Event::Replied(number) => Told::Reply(*number),
-        Event::Silent => Told::Silent,
-        Event::Heard(Heard::Ignored(why)) => Told::Ignored(*why),
-        Event::Heard(Heard::Followed(ticket, request)) => Told::Sent(ticket.number(), request.to),
-        Event::Heard(Heard::Answer(ticket, outcome)) => Told::Answer(ticket.number(), *outcome),
-        Event::Heard(Heard::GaveUp(ticket, why)) => Told::GaveUp(ticket.number(), *why),
-        Event::Passed(moment) => Told::Now(moment.millis()),
-        Event::Ticked(Ticked::Nothing) => Told::Nothing,
-        Event::Ticked(Ticked::Sent(ticket, request)) => Told::Sent(ticket.number(), request.to),
-        Event::Ticked(Ticked::Answer(ticket, outcome)) => Told::Answer(ticket.number(), *outcome),
-        Event::Ticked(Ticked::GaveUp(ticket, why)) => Told::GaveUp(ticket.number(), *why),
-        Event::Nothing => Told::Nothing,
+        Event::Asked(Asked::Answer(outcome)) => answer(0, *outcome),
+        Event::Asked(Asked::Sent(ticket, request)) => sent(ticket.number(), request.to),
+        Event::Refused(_) => told("refused", 0),
+        Event::Replied(number) => told("reply", *number),
+        Event::Silent => told("silent", 0),
+        Event::Passed(moment) => told("now", moment.millis()),
+        Event::Heard(heard) => line_of_heard(heard),
+        Event::Ticked(ticked) => line_of_ticked(ticked),
+        Event::Nothing => told("nothing", 0),
+    }
+}
+
+/// What a datagram at the resolver tells.
+fn line_of_heard(heard: &Heard) -> Told {
+    match heard {
+        Heard::Ignored(Ignored::UnknownNonce) => told("unknown nonce", 0),
+        Heard::Ignored(Ignored::Late) => told("late", 0),
+        Heard::Ignored(_) => told("ignored", 0),
+        Heard::Followed(ticket, request) => sent(ticket.number(), request.to),
+        Heard::Answer(ticket, outcome) => answer(ticket.number(), *outcome),
+        Heard::GaveUp(ticket, _) => told("gave up", ticket.number()),
+    }
+}
+
+/// What a tick tells.
+fn line_of_ticked(ticked: &Ticked) -> Told {
+    match ticked {
+        Ticked::Nothing => told("nothing", 0),
+        Ticked::Sent(ticket, request) => sent(ticket.number(), request.to),
+        Ticked::Answer(ticket, outcome) => answer(ticket.number(), *outcome),
+        Ticked::GaveUp(ticket, Why::NoReply) => told("no reply", ticket.number()),
+        Ticked::GaveUp(ticket, _) => told("gave up", ticket.number()),
     }
 }
 
@@ -82,15 +127,15 @@ fn a_hole_ends_and_the_referral_lives(rt: HostRuntime) -> Result<(), Fail> {
         prefix: block(0x0a02_0000, 15)?,
     };
     let schedule = [
-        (ask(0x0a02_0001), Told::Sent(1, ROOT)),
-        (Step::Deliver(0), Told::Reply(1)),
-        (Step::Deliver(1), Told::Sent(1, TEN)),
-        (Step::Deliver(2), Told::Reply(3)),
-        (Step::Deliver(3), Told::Answer(1, hole)),
-        (Step::Pass(60_000), Told::Now(60_000)),
-        (ask(0x0a02_0001), Told::AtOnce(hole)),
-        (Step::Pass(840_000), Told::Now(900_000)),
-        (ask(0x0a02_0001), Told::Sent(3, TEN)),
+        (ask(0x0a02_0001), sent(1, ROOT)),
+        (Step::Deliver(0), told("reply", 1)),
+        (Step::Deliver(1), sent(1, TEN)),
+        (Step::Deliver(2), told("reply", 3)),
+        (Step::Deliver(3), answer(1, hole)),
+        (Step::Pass(60_000), told("now", 60_000)),
+        (ask(0x0a02_0001), answer(0, hole)),
+        (Step::Pass(840_000), told("now", 900_000)),
+        (ask(0x0a02_0001), sent(3, TEN)),
     ];
     assert_eq!(rt; tells(alloc, CAMPUS, &schedule)?, true);
     Ok(())
@@ -107,28 +152,28 @@ fn two_lookups_go_on_side_by_side(rt: HostRuntime) -> Result<(), Fail> {
         servers: set(&[EAST, EAST_2])?,
     };
     let schedule = [
-        (ask(0x0a01_0203), Told::Sent(1, ROOT)),
-        (ask(0x0a02_0001), Told::Sent(2, ROOT)),
-        (Step::Deliver(0), Told::Reply(2)),
-        (Step::Deliver(1), Told::Reply(3)),
-        (Step::Deliver(3), Told::Sent(2, TEN)),
-        (Step::Deliver(2), Told::Sent(1, TEN)),
-        (Step::Deliver(2), Told::Ignored(Ignored::UnknownNonce)),
-        (Step::Deliver(4), Told::Reply(6)),
-        (Step::Deliver(6), Told::Answer(2, hole)),
-        (Step::Deliver(6), Told::Ignored(Ignored::UnknownNonce)),
-        (Step::Pass(2_000), Told::Now(2_000)),
-        (Step::Deliver(5), Told::Reply(7)),
-        (Step::Deliver(7), Told::Ignored(Ignored::Late)),
-        (Step::Tick, Told::Sent(1, TEN)),
-        (Step::Deliver(7), Told::Ignored(Ignored::UnknownNonce)),
-        (Step::Tick, Told::Nothing),
-        (Step::Deliver(8), Told::Reply(9)),
-        (Step::Deliver(9), Told::Sent(1, EAST)),
-        (Step::Deliver(10), Told::Reply(11)),
-        (Step::Deliver(11), Told::Answer(1, site)),
-        (ask(0x0a02_0505), Told::AtOnce(hole)),
-        (Step::Deliver(99), Told::Nothing),
+        (ask(0x0a01_0203), sent(1, ROOT)),
+        (ask(0x0a02_0001), sent(2, ROOT)),
+        (Step::Deliver(0), told("reply", 2)),
+        (Step::Deliver(1), told("reply", 3)),
+        (Step::Deliver(3), sent(2, TEN)),
+        (Step::Deliver(2), sent(1, TEN)),
+        (Step::Deliver(2), told("unknown nonce", 0)),
+        (Step::Deliver(4), told("reply", 6)),
+        (Step::Deliver(6), answer(2, hole)),
+        (Step::Deliver(6), told("unknown nonce", 0)),
+        (Step::Pass(2_000), told("now", 2_000)),
+        (Step::Deliver(5), told("reply", 7)),
+        (Step::Deliver(7), told("late", 0)),
+        (Step::Tick, sent(1, TEN)),
+        (Step::Deliver(7), told("unknown nonce", 0)),
+        (Step::Tick, told("nothing", 0)),
+        (Step::Deliver(8), told("reply", 9)),
+        (Step::Deliver(9), sent(1, EAST)),
+        (Step::Deliver(10), told("reply", 11)),
+        (Step::Deliver(11), answer(1, site)),
+        (ask(0x0a02_0505), answer(0, hole)),
+        (Step::Deliver(99), told("nothing", 0)),
     ];
     assert_eq!(rt; tells(alloc, CAMPUS, &schedule)?, true);
     Ok(())
@@ -138,11 +183,11 @@ fn two_lookups_go_on_side_by_side(rt: HostRuntime) -> Result<(), Fail> {
 fn two_tries_without_a_reply_end_a_lookup(rt: HostRuntime) -> Result<(), Fail> {
     let alloc = rt.alloc();
     let schedule = [
-        (ask(0x0101_0101), Told::Sent(1, ROOT)),
-        (Step::Pass(2_000), Told::Now(2_000)),
-        (Step::Tick, Told::Sent(1, ROOT)),
-        (Step::Pass(2_000), Told::Now(4_000)),
-        (Step::Tick, Told::GaveUp(1, Why::NoReply)),
+        (ask(0x0101_0101), sent(1, ROOT)),
+        (Step::Pass(2_000), told("now", 2_000)),
+        (Step::Tick, sent(1, ROOT)),
+        (Step::Pass(2_000), told("now", 4_000)),
+        (Step::Tick, told("no reply", 1)),
     ];
     assert_eq!(rt; tells(alloc, LONE_ROOT, &schedule)?, true);
     Ok(())
@@ -156,18 +201,18 @@ fn a_kept_answer_is_given_and_not_remembered(rt: HostRuntime) -> Result<(), Fail
         servers: set(&[EAST, EAST_2])?,
     };
     let schedule = [
-        (ask(0x0a01_0407), Told::Sent(1, ROOT)),
-        (Step::Deliver(0), Told::Reply(1)),
-        (Step::Deliver(1), Told::Sent(1, TEN)),
-        (Step::Deliver(2), Told::Reply(3)),
-        (Step::Deliver(3), Told::Sent(1, EAST)),
-        (Step::Deliver(4), Told::Reply(5)),
-        (Step::Deliver(5), Told::Sent(1, EAST_2)),
-        (Step::Pass(2_000), Told::Now(2_000)),
-        (Step::Tick, Told::Sent(1, EAST_2)),
-        (Step::Pass(2_000), Told::Now(4_000)),
-        (Step::Tick, Told::Answer(1, part)),
-        (ask(0x0a01_0407), Told::Sent(6, EAST)),
+        (ask(0x0a01_0407), sent(1, ROOT)),
+        (Step::Deliver(0), told("reply", 1)),
+        (Step::Deliver(1), sent(1, TEN)),
+        (Step::Deliver(2), told("reply", 3)),
+        (Step::Deliver(3), sent(1, EAST)),
+        (Step::Deliver(4), told("reply", 5)),
+        (Step::Deliver(5), sent(1, EAST_2)),
+        (Step::Pass(2_000), told("now", 2_000)),
+        (Step::Tick, sent(1, EAST_2)),
+        (Step::Pass(2_000), told("now", 4_000)),
+        (Step::Tick, answer(1, part)),
+        (ask(0x0a01_0407), sent(6, EAST)),
     ];
     assert_eq!(rt; tells(alloc, CAMPUS, &schedule)?, true);
     Ok(())

@@ -43,8 +43,7 @@ abbrev pub at_start : State → World
 at_start s = world s.known.time [] s
 
 -- A transcript of these steps tells this history: its events and its datagrams, from one state of the resolver to
--- another,
--- over servers that are honest to some registers.
+-- another, over servers that are honest to some registers.
 pub record Tells (are_honest : Register → Type 0) (old : State) (steps : List Step) (t : Transcript) (new : State)
     (past : List Line) : Type 0 where
   pub last : World

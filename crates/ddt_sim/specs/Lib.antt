@@ -6,6 +6,7 @@ pub mod Lookup
 pub mod Reply
 pub mod Sound
 pub mod Trail
+pub mod Passes
 pub mod Waiting
 pub mod World
 pub mod Schedules

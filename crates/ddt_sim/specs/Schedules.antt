@@ -88,8 +88,7 @@ pub record IsOnce (past : List Line) (line : Line) : Type 0 where
   pub ends : (t : ℕ) → IsEnded t line → Among past (IsEnded t) → ⊥
 
 -- The reply to a datagram: one datagram more, which spells the nonce of the request that the datagram spells, and what
--- the
--- register says there of its identifier.
+-- the register says there of its identifier.
 pub record HasReply (r : Register) (line : Line) (d : Datagram) : Type 0 where
   pub request : Message
   pub reply : List ℕ

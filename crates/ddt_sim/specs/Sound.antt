@@ -36,8 +36,7 @@ use Rattle.ddt_resolver.specs.TakeUp.{IsTaken}
 
 -- What makes an entry true. `delegates`: a referral to a zone, with the zone's kind and the locators of its group.
 -- `registers`: an MS-ACK of a site, with the locators of the group of the site's zone. `denies`: a negative entry says
--- of
--- each identifier that it covers just what the register assigns to it.
+-- of each identifier that it covers just what the register assigns to it.
 pub data IsTrueEntry (r : Register) (p : List ℕ) (e : Entry) : Type 0 where
   delegates : (z : Zone) → Contains r.zones z → z.prefix ≡ p → e.action ≡ referral_action z.kind
       → e.servers ≡ locators_of r z.group → IsTrueEntry r p e

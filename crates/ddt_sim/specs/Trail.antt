@@ -1,16 +1,13 @@
 -- How the hops of a lookup follow one another (RFC 8111, section 7.3).
-use Rattle.std.specs.Prelude.{ℕ, ◌≡◌, ◌+◌, ◌≤◌, ◌⊎◌, IsTrue, List, [], ◌∷◌, length, All, Option, None, Some, Result, Ok, Err}
+use Rattle.std.specs.Prelude.{ℕ, ◌≡◌, ◌⊎◌, IsTrue, List, [], ◌∷◌, Option, None, Some}
 use Rattle.ddt_path.specs.declared.locator.Locator.{Locator}
-use Rattle.ddt_path.specs.declared.record.Action.{Action}
-use Rattle.ddt_path.specs.declared.record.Action.TheVariants.{NodeReferral, MsReferral, MsAck, MsNotRegistered, DelegationHole, NotAuthoritative}
+use Rattle.ddt_path.specs.declared.record.Action.TheVariants.{MsAck, MsNotRegistered, DelegationHole, NotAuthoritative}
 use Rattle.ddt_path.specs.declared.record.Outcome.{Outcome}
 use Rattle.ddt_path.specs.declared.record.ReferralRecord.{ReferralRecord}
 use Rattle.ddt_path.specs.declared.xeid.Xeid.{Xeid}
 use Rattle.ddt_path.specs.Path.{xeid_path, is_path}
 use Rattle.ddt_register.specs.declared.register.Register.{Register}
 use Rattle.ddt_check.specs.Rules.{IsAccepted}
-use Rattle.ddt_wire.specs.declared.fault.ReferralFault.{ReferralFault}
-use Rattle.ddt_wire.specs.Referral.{Message, message_in}
 use Rattle.ddt_cache.specs.declared.entry.Entry.{Entry}
 use Rattle.ddt_cache.specs.Found.{IsFound}
 use Rattle.ddt_resolver.specs.Records.{IsReferral, IsAbout, IsBelow, outcome_of, start_at}
@@ -32,9 +29,9 @@ pub record IsHopTo (x : Xeid) (me : Locator) (l : Locator) (hop : Hop) (rec : Re
   pub tells : Tells hop.reply nonce rec
   pub about : IsAbout rec (xeid_path x)
 
--- The hops of a lookup of x from here on: the prefix of the referral that it followed last in this pass, the prefix of
--- the entry that it started at, if it wasn't the root, and the servers that are left of its set, the first of which is
--- asked.
+-- The hops of a lookup of x from here on, by what it has saved, where it started, and the servers left of its set. The
+-- first is the prefix of the last referral that it followed in this pass. The second is the prefix of the entry at which
+-- the pass began, and None for the root. The first of the servers is asked.
 -- `ends`: the reply is an MS-ACK or DELEGATION-HOLE, and gives the outcome. `concludes`: it is the MS-NOT-REGISTERED of
 -- the last server of the set, and gives the outcome. `passes_on`: it is that of another, and the next server of the set
 -- is next. `refers`: it is a referral to a longer prefix than the one before, and its set is next. `starts_over`: the
@@ -67,35 +64,6 @@ pub data HasTrail (x : Xeid) (s : State) (outcome : Outcome) (hops : List Hop) :
       → HasTrail x s outcome hops
   from_servers : (p : List ℕ) (e : Entry) → IsFound s.known (xeid_path x) p e → answer_of p e ≡ None
       → IsTrail x s.me s.known.roots outcome None (start_at p) e.servers hops → HasTrail x s outcome hops
-
--- ---- passes
-
--- One action more in front of passes, each seen as how many referrals it follows: a referral is one more of the first;
--- behind a server that isn't in charge another pass begins.
-abbrev pub in_front : Action → List ℕ → List ℕ
-in_front NodeReferral (n ∷ passes) = (n + 1) ∷ passes
-in_front MsReferral (n ∷ passes) = (n + 1) ∷ passes
-in_front NotAuthoritative passes = 0 ∷ passes
-in_front action passes = passes
-
-abbrev pub told_in_front : Result Message ReferralFault → List ℕ → List ℕ
-told_in_front (Ok message) passes = in_front message.action passes
-told_in_front (Err fault) passes = passes
-
--- the passes of hops
-abbrev pub passes_of : List Hop → List ℕ
-passes_of [] = 0 ∷ []
-passes_of (hop ∷ more) = told_in_front (message_in hop.reply) (passes_of more)
-
--- There are at most two passes, and each follows at most one referral more than x has digits.
-pub record HasShortPasses (x : Xeid) (hops : List Hop) : Type 0 where
-  pub two : length (passes_of hops) ≤ 2
-  pub short : All (λ n. n ≤ length (xeid_path x) + 1) (passes_of hops)
-
--- Hops that follow one another have short passes, whatever the servers say.
-abbrev pub PassesAreShort : Type 0
-PassesAreShort =
-    (x : Xeid) (s : State) (outcome : Outcome) (hops : List Hop) → HasTrail x s outcome hops → HasShortPasses x hops
 
 -- Where the state is sound for an accepted register and each reply is what the register says, such hops are few.
 abbrev pub HonestTrailsAreShort : Type 0

@@ -1,6 +1,6 @@
 -- The requests of a lookup since it last turned to a set of servers, and which of them got no reply in time (RFC 8111,
 -- section 7.3).
-use Rattle.std.specs.Prelude.{ℕ, ◌≡◌, ◌+◌, ◌*◌, ◌/◌, ◌<◌, ◌≤◌, ◌==◌, if◌then◌else◌, false, List, [], ◌∷◌, length, get_or, slice_get, Some, Result, Err}
+use Rattle.std.specs.Prelude.{ℕ, ◌≡◌, ◌+◌, ◌*◌, ◌/◌, ◌<◌, ◌≤◌, ◌==◌, if◌then◌else◌, false, List, [], ◌∷◌, length, get_or, slice_get, Some, Err}
 use Rattle.std.specs.FinMap.{get}
 use Rattle.ddt_path.specs.declared.locator.Locator.{Locator}
 use Rattle.ddt_path.specs.declared.xeid.Xeid.{Xeid}
@@ -60,7 +60,8 @@ IsReplyBy reply number line = (line.step ≡ Deliver number) × (line.event ≡ 
 
 -- at a line, of this moment, the resolver hears the datagram of a number
 abbrev pub IsHeardBy : ℕ → ℕ → Line → Type 0
-IsHeardBy reply moment line = (line.step ≡ Deliver reply) × ((h : Hearing) × (line.event ≡ Heard h)) × (moment ≡ line.before.moment)
+IsHeardBy reply moment line =
+    (line.step ≡ Deliver reply) × ((h : Hearing) × (line.event ≡ Heard h)) × (moment ≡ line.before.moment)
 
 -- no reply to it was handed over before its deadline
 abbrev pub IsUnanswered : List Line → Try → Type 0
@@ -115,9 +116,8 @@ abbrev pub tries_of : ℕ → List Line → List Try
 tries_of t [] = []
 tries_of t (line ∷ past) = tries_after t line.event (try_in line.before) (tries_of t past)
 
--- A lookup had no reply: its servers are those of a zone that covers its identifier, each was asked twice since it
--- turned
--- to them, and all of that was in vain.
+-- A lookup had no reply: its servers are those of a zone that covers its identifier. Each was asked twice since the
+-- lookup turned to them, and all of that was in vain.
 pub record HasNoReply (r : Register) (past : List Line) (w : World) (t : ℕ) : Type 0 where
   pub lookup : Pending
   pub is_pending : get w.state.pending t ≡ Some lookup

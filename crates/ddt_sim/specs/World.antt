@@ -25,8 +25,7 @@ use Rattle.ddt_sim.specs.Honest.{IsServer, IsHonestReply}
 use Rattle.ddt_sim.specs.Waiting.{CanBeAsked}
 
 -- The moment; which servers are in force, 0 where there is one choice only; all datagrams in the order of sending; and
--- the
--- resolver. A datagram's number is its place.
+-- the resolver. A datagram's number is its place.
 pub record World : Type 0 where
   pub moment : ℕ
   pub member : ℕ
@@ -117,10 +116,8 @@ abbrev pub later : ℕ → ℕ → ℕ
 later moment millis = min (moment + millis) last_moment
 
 -- The step. `resolves`: the resolver is asked, hears a reply, or ticks. `replies`: a request is handed to its server,
--- and
--- the reply is one datagram more. `silent`: the server gives none. `not_sent`: no datagram has this number yet.
--- `passes`:
--- the moment moves, and the resolver's time follows at its next call.
+-- and the reply is one datagram more. `silent`: the server gives none. `not_sent`: no datagram has this number yet.
+-- `passes`: the moment moves, and the resolver's time follows at its next call.
 pub data WorldStep (may : Replies) (w : World) (step : Step) (event : Event) (new : World) : Type 0 where
   resolves : Resolves w step event new → WorldStep may w step event new
   replies : (k : ℕ) (d : Datagram) (bytes : List ℕ) → step ≡ Deliver k → slice_get w.sent k ≡ Some d

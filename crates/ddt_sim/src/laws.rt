@@ -2,7 +2,8 @@
 
 ghost use Rattle.ddt_sim.specs.Sound.{NewResolversAreSound, StepsKeepSoundness, TimeKeepsSoundness, CancellingKeepsSoundness};
 ghost use Rattle.ddt_sim.specs.Reply.{RequestsAreUnderstood};
-ghost use Rattle.ddt_sim.specs.Trail.{HonestTrailsAreShort, PassesAreShort};
+ghost use Rattle.ddt_sim.specs.Trail.{HonestTrailsAreShort};
+ghost use Rattle.ddt_sim.specs.Passes.{PassesAreShort};
 
 use ddt_check::{
     each_identifier_has_a_zone, honest_servers_lead_to_the_assignment,
@@ -39,7 +40,7 @@ pub(crate) fn requests_are_understood()
 }
 
 /// Over honest servers of an accepted register a lookup takes at most 7 hops more than there are zones that cover its
-/// identifier: each referral leads to a longer zone, and only the servers of the last one are all asked.
+/// identifier. Each referral leads to a longer zone. Only the servers of the last one are all asked.
 pub(crate) fn honest_trails_are_short()
     ensures { HonestTrailsAreShort }
 {
@@ -49,9 +50,9 @@ pub(crate) fn honest_trails_are_short()
     referral_laws();
 }
 
-/// Whatever the servers of a lookup say, it has at most two passes: a second one at the root, where a server that it
-/// was led to by what is remembered isn't in charge. Each pass follows at most one referral more than the identifier
-/// has digits, since each has a longer prefix than the one before.
+/// Whatever the servers of a lookup say, it has at most two passes. The second starts at the root, where a server that
+/// the lookup was led to by what is remembered isn't in charge. Each pass follows at most one referral more than the
+/// identifier has digits, since each referral has a longer prefix than the one before.
 pub(crate) fn passes_are_short()
     ensures { PassesAreShort }
 {

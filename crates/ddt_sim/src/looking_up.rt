@@ -18,7 +18,8 @@ ghost use Rattle.ddt_wire.specs.Address.{IsAddress};
 ghost use Rattle.ddt_sim.specs.Sound.{IsSound};
 ghost use Rattle.ddt_sim.specs.Waiting.{IsAwaited, CanBeAsked, requests_left};
 ghost use Rattle.ddt_sim.specs.Lookup.{HasOutcome, Fails, FailsUnder, IsRemembered, WhateverAsked, WhateverSent};
-ghost use Rattle.ddt_sim.specs.Trail.{HasTrail, HasShortPasses};
+ghost use Rattle.ddt_sim.specs.Trail.{HasTrail};
+ghost use Rattle.ddt_sim.specs.Passes.{HasShortPasses, PassesAreShort};
 ghost use Rattle.ddt_sim.specs.Headline.{OverHonest, WhenAsked, WhileUnderWay, IsAsked};
 ghost use Rattle.ddt_sim.specs.Headline.{IsAssigned, HasHonestHops, HasFewHops, IsRightFailure, IsRightError, most_hops};
 
@@ -30,6 +31,7 @@ use ddt_cache::{Entry, Moment};
 use ddt_path::{Listed, Locator, Xeid};
 use ddt_resolver::{AskError, Asked, Outgoing, Resolver, Ticket, Why};
 use ddt_trie::PrefixMap;
+use ddt_wire::referral_laws;
 use std::alloc::Global;
 
 /// Looks an identifier up at `now`: asks the resolver, and hands each of its requests to the servers and each reply
@@ -70,10 +72,13 @@ pub fn lookup<S: Servers, M: PrefixMap<Entry>>(
     ensures trail { IfOk result (λ l. HasTrail x (moved now resolver.old) l.outcome l.hops) }
     // It has at most two passes, and each follows at most one referral more than the identifier has digits.
     ensures passes { IfOk result (λ l. HasShortPasses x l.hops) }
+    // So it is however far a lookup has come, also one that fails.
+    ensures under_way { PassesAreShort }
 {
     a_step_keeps_a_resolver_sound();
     honest_trails_are_short();
     passes_are_short();
+    referral_laws();
     resolver.in_order();
     // The number tells the proof that it is a moment.
     let _millis = now.millis();

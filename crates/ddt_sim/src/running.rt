@@ -6,13 +6,11 @@ ghost use Rattle.ddt_register.specs.declared.register.Register.{Register};
 ghost use Rattle.ddt_sim.specs.declared.schedule.Step.TheVariants as step_as;
 ghost use Rattle.ddt_resolver.specs.State.{State};
 ghost use Rattle.ddt_resolver.specs.declared.answers.AskError.TheVariants as ask_error;
-ghost use Rattle.ddt_wire.specs.Address.{IsAddress};
 ghost use Rattle.ddt_sim.specs.World.{world, honest_replies, request_at, sent_for, later as later_than, IsToldAsk, Resolves, WorldStep, Stops};
 ghost use Rattle.ddt_sim.specs.History.{Line, Tells, StopsAfter};
 ghost use Rattle.ddt_sim.specs.Schedules.{StartsSound, AnswersAreRight, RepliesAreRight, TicketsEndOnce, FailuresAreRight};
 ghost use Rattle.ddt_sim.specs.Tries.{NoRepliesAreRight};
 ghost use Rattle.ddt_sim.specs.Sound.{IsSound};
-ghost use Rattle.ddt_sim.specs.Waiting.{CanBeAsked};
 
 use crate::laws::a_step_keeps_a_resolver_sound;
 use crate::looking_up::can_be_asked;
@@ -49,8 +47,8 @@ pub fn run<S: Servers, M: PrefixMap<Entry>>(
     // ask is refused only for want of room or of nonces.
     ensures failures { IfOk result (λ t. FailuresAreRight (S.honest servers.old) resolver.old steps.now t
         resolver.new) }
-    // A lookup gives up for want of a reply only where each server of its zone was asked twice, and no reply to these
-    // requests was handed over before their deadlines.
+    // A lookup gives up for want of a reply only where each server of its zone was asked twice. The deadline of each of
+    // these requests had come, and no reply to it was handed over before.
     ensures no_reply { IfOk result (λ t. NoRepliesAreRight (S.honest servers.old) resolver.old steps.now t
         resolver.new) }
     // The resolver is sound afterwards, also where memory stops it.

@@ -21,8 +21,8 @@ struct Told {
     outcome: Option<Outcome>,
 }
 
-/// What tells a word and a number.
-fn told(what: &'static str, number: u64) -> Told {
+/// A word and a number.
+fn plain(what: &'static str, number: u64) -> Told {
     Told {
         what,
         number,
@@ -56,36 +56,36 @@ fn line_of(event: &Event) -> Told {
     match event {
         Event::Asked(Asked::Answer(outcome)) => answer(0, *outcome),
         Event::Asked(Asked::Sent(ticket, request)) => sent(ticket.number(), request.to),
-        Event::Refused(_) => told("refused", 0),
-        Event::Replied(number) => told("reply", *number),
-        Event::Silent => told("silent", 0),
-        Event::Passed(moment) => told("now", moment.millis()),
+        Event::Refused(_) => plain("refused", 0),
+        Event::Replied(number) => plain("reply", *number),
+        Event::Silent => plain("silent", 0),
+        Event::Passed(moment) => plain("now", moment.millis()),
         Event::Heard(heard) => line_of_heard(heard),
         Event::Ticked(ticked) => line_of_ticked(ticked),
-        Event::Nothing => told("nothing", 0),
+        Event::Nothing => plain("nothing", 0),
     }
 }
 
 /// What a datagram at the resolver tells.
 fn line_of_heard(heard: &Heard) -> Told {
     match heard {
-        Heard::Ignored(Ignored::UnknownNonce) => told("unknown nonce", 0),
-        Heard::Ignored(Ignored::Late) => told("late", 0),
-        Heard::Ignored(_) => told("ignored", 0),
+        Heard::Ignored(Ignored::UnknownNonce) => plain("unknown nonce", 0),
+        Heard::Ignored(Ignored::Late) => plain("late", 0),
+        Heard::Ignored(_) => plain("ignored", 0),
         Heard::Followed(ticket, request) => sent(ticket.number(), request.to),
         Heard::Answer(ticket, outcome) => answer(ticket.number(), *outcome),
-        Heard::GaveUp(ticket, _) => told("gave up", ticket.number()),
+        Heard::GaveUp(ticket, _) => plain("gave up", ticket.number()),
     }
 }
 
 /// What a tick tells.
 fn line_of_ticked(ticked: &Ticked) -> Told {
     match ticked {
-        Ticked::Nothing => told("nothing", 0),
+        Ticked::Nothing => plain("nothing", 0),
         Ticked::Sent(ticket, request) => sent(ticket.number(), request.to),
         Ticked::Answer(ticket, outcome) => answer(ticket.number(), *outcome),
-        Ticked::GaveUp(ticket, Why::NoReply) => told("no reply", ticket.number()),
-        Ticked::GaveUp(ticket, _) => told("gave up", ticket.number()),
+        Ticked::GaveUp(ticket, Why::NoReply) => plain("no reply", ticket.number()),
+        Ticked::GaveUp(ticket, _) => plain("gave up", ticket.number()),
     }
 }
 
@@ -128,13 +128,13 @@ fn a_hole_ends_and_the_referral_lives(rt: HostRuntime) -> Result<(), Fail> {
     };
     let schedule = [
         (ask(0x0a02_0001), sent(1, ROOT)),
-        (Step::Deliver(0), told("reply", 1)),
+        (Step::Deliver(0), plain("reply", 1)),
         (Step::Deliver(1), sent(1, TEN)),
-        (Step::Deliver(2), told("reply", 3)),
+        (Step::Deliver(2), plain("reply", 3)),
         (Step::Deliver(3), answer(1, hole)),
-        (Step::Pass(60_000), told("now", 60_000)),
+        (Step::Pass(60_000), plain("now", 60_000)),
         (ask(0x0a02_0001), answer(0, hole)),
-        (Step::Pass(840_000), told("now", 900_000)),
+        (Step::Pass(840_000), plain("now", 900_000)),
         (ask(0x0a02_0001), sent(3, TEN)),
     ];
     assert_eq!(rt; tells(alloc, CAMPUS, &schedule)?, true);
@@ -154,26 +154,26 @@ fn two_lookups_go_on_side_by_side(rt: HostRuntime) -> Result<(), Fail> {
     let schedule = [
         (ask(0x0a01_0203), sent(1, ROOT)),
         (ask(0x0a02_0001), sent(2, ROOT)),
-        (Step::Deliver(0), told("reply", 2)),
-        (Step::Deliver(1), told("reply", 3)),
+        (Step::Deliver(0), plain("reply", 2)),
+        (Step::Deliver(1), plain("reply", 3)),
         (Step::Deliver(3), sent(2, TEN)),
         (Step::Deliver(2), sent(1, TEN)),
-        (Step::Deliver(2), told("unknown nonce", 0)),
-        (Step::Deliver(4), told("reply", 6)),
+        (Step::Deliver(2), plain("unknown nonce", 0)),
+        (Step::Deliver(4), plain("reply", 6)),
         (Step::Deliver(6), answer(2, hole)),
-        (Step::Deliver(6), told("unknown nonce", 0)),
-        (Step::Pass(2_000), told("now", 2_000)),
-        (Step::Deliver(5), told("reply", 7)),
-        (Step::Deliver(7), told("late", 0)),
+        (Step::Deliver(6), plain("unknown nonce", 0)),
+        (Step::Pass(2_000), plain("now", 2_000)),
+        (Step::Deliver(5), plain("reply", 7)),
+        (Step::Deliver(7), plain("late", 0)),
         (Step::Tick, sent(1, TEN)),
-        (Step::Deliver(7), told("unknown nonce", 0)),
-        (Step::Tick, told("nothing", 0)),
-        (Step::Deliver(8), told("reply", 9)),
+        (Step::Deliver(7), plain("unknown nonce", 0)),
+        (Step::Tick, plain("nothing", 0)),
+        (Step::Deliver(8), plain("reply", 9)),
         (Step::Deliver(9), sent(1, EAST)),
-        (Step::Deliver(10), told("reply", 11)),
+        (Step::Deliver(10), plain("reply", 11)),
         (Step::Deliver(11), answer(1, site)),
         (ask(0x0a02_0505), answer(0, hole)),
-        (Step::Deliver(99), told("nothing", 0)),
+        (Step::Deliver(99), plain("nothing", 0)),
     ];
     assert_eq!(rt; tells(alloc, CAMPUS, &schedule)?, true);
     Ok(())
@@ -184,10 +184,10 @@ fn two_tries_without_a_reply_end_a_lookup(rt: HostRuntime) -> Result<(), Fail> {
     let alloc = rt.alloc();
     let schedule = [
         (ask(0x0101_0101), sent(1, ROOT)),
-        (Step::Pass(2_000), told("now", 2_000)),
+        (Step::Pass(2_000), plain("now", 2_000)),
         (Step::Tick, sent(1, ROOT)),
-        (Step::Pass(2_000), told("now", 4_000)),
-        (Step::Tick, told("no reply", 1)),
+        (Step::Pass(2_000), plain("now", 4_000)),
+        (Step::Tick, plain("no reply", 1)),
     ];
     assert_eq!(rt; tells(alloc, LONE_ROOT, &schedule)?, true);
     Ok(())
@@ -202,15 +202,15 @@ fn a_kept_answer_is_given_and_not_remembered(rt: HostRuntime) -> Result<(), Fail
     };
     let schedule = [
         (ask(0x0a01_0407), sent(1, ROOT)),
-        (Step::Deliver(0), told("reply", 1)),
+        (Step::Deliver(0), plain("reply", 1)),
         (Step::Deliver(1), sent(1, TEN)),
-        (Step::Deliver(2), told("reply", 3)),
+        (Step::Deliver(2), plain("reply", 3)),
         (Step::Deliver(3), sent(1, EAST)),
-        (Step::Deliver(4), told("reply", 5)),
+        (Step::Deliver(4), plain("reply", 5)),
         (Step::Deliver(5), sent(1, EAST_2)),
-        (Step::Pass(2_000), told("now", 2_000)),
+        (Step::Pass(2_000), plain("now", 2_000)),
         (Step::Tick, sent(1, EAST_2)),
-        (Step::Pass(2_000), told("now", 4_000)),
+        (Step::Pass(2_000), plain("now", 4_000)),
         (Step::Tick, answer(1, part)),
         (ask(0x0a01_0407), sent(6, EAST)),
     ];

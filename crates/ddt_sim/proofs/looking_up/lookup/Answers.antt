@@ -48,7 +48,8 @@ returns-in-Ok-clause-trail g c =
     c.after_ask.new.resolver c.after_ask.result (c.after_ask.ensures.steps c.args.x c.args.resolver.now c.in-Ok.ensures.step)
 
 pub returns-in-Ok-clause-passes : goal.returns-in-Ok-clause-passes
-returns-in-Ok-clause-passes g c = short_passes c.passes_are_short.ensures c.args.x (moved c.args.now c.args.resolver.now) c.after_ask.result (returns-in-Ok-clause-trail g c)
+returns-in-Ok-clause-passes g c =
+    short_passes c.referral_laws.ensures.read c.args.now c.args.x c.args.resolver.now c.after_ask.new.resolver c.after_ask.result (c.after_ask.ensures.steps c.args.x c.args.resolver.now c.in-Ok.ensures.step)
 
 pub returns-in-Ok-clause-short : goal.returns-in-Ok-clause-short
 returns-in-Ok-clause-short g c = λ r accepted honest sound.

@@ -1,0 +1,40 @@
+-- The passes of a lookup: how many referrals it follows from its start, and again from the root (RFC 8111, section 7.3).
+use Rattle.std.specs.Prelude.{ℕ, ◌+◌, ◌≤◌, List, [], ◌∷◌, length, All, Result, Ok, Err}
+use Rattle.ddt_path.specs.declared.record.Action.{Action}
+use Rattle.ddt_path.specs.declared.record.Action.TheVariants.{NodeReferral, MsReferral, NotAuthoritative}
+use Rattle.ddt_path.specs.declared.xeid.Xeid.{Xeid}
+use Rattle.ddt_path.specs.Path.{xeid_path}
+use Rattle.ddt_wire.specs.declared.fault.ReferralFault.{ReferralFault}
+use Rattle.ddt_wire.specs.Referral.{Message, message_in}
+use Rattle.ddt_resolver.specs.declared.answers.Outgoing.{Outgoing}
+use Rattle.ddt_resolver.specs.State.{State}
+use Rattle.ddt_sim.specs.declared.hop.Hop.{Hop}
+use Rattle.ddt_sim.specs.Lookup.{Reaches}
+
+-- A pass is seen as how many referrals it follows. A referral in front is one more in the first pass. A server that
+-- isn't in charge ends a pass of its own, and those that follow it come after.
+abbrev pub in_front : Action → List ℕ → List ℕ
+in_front NodeReferral (n ∷ passes) = (n + 1) ∷ passes
+in_front MsReferral (n ∷ passes) = (n + 1) ∷ passes
+in_front NotAuthoritative passes = 0 ∷ passes
+in_front action passes = passes
+
+abbrev pub told_in_front : Result Message ReferralFault → List ℕ → List ℕ
+told_in_front (Ok message) passes = in_front message.action passes
+told_in_front (Err fault) passes = passes
+
+-- the passes of hops
+abbrev pub passes_of : List Hop → List ℕ
+passes_of [] = 0 ∷ []
+passes_of (hop ∷ more) = told_in_front (message_in hop.reply) (passes_of more)
+
+-- There are at most two passes, and each follows at most one referral more than x has digits.
+pub record HasShortPasses (x : Xeid) (hops : List Hop) : Type 0 where
+  pub two : length (passes_of hops) ≤ 2
+  pub short : All (λ n. n ≤ length (xeid_path x) + 1) (passes_of hops)
+
+-- However far a lookup has come, also one that fails, its passes are short, whatever the servers say.
+abbrev pub PassesAreShort : Type 0
+PassesAreShort =
+    (now : ℕ) (x : Xeid) (start : State) (hops : List Hop) (t : ℕ) (d : Outgoing) (s : State)
+    → Reaches now x start hops t d s → HasShortPasses x hops

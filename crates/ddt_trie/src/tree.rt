@@ -1,7 +1,7 @@
 //! A binary tree of prefixes, with one level for each digit: 32 of the Instance ID, one of the address family, and up
 //! to 128 of the address. Each call goes down one path and no deeper, 162 nodes at most.
 
-ghost use Rattle.std.specs.Prelude.{not, None, Some, ◌≡◌, ◌≤◌, ◌+◌, length, drop, IsTrue, IsOk, IsSome, OnOk, OnErr};
+ghost use Rattle.std.specs.Prelude.{true, false, not, None, Some, ◌≡◌, ◌≤◌, ◌+◌, length, drop, IsTrue, IsSome};
 ghost use Rattle.std.specs.Prelude.{IfOk, IfErr, IfSome, IfNone, ◌&&◌, ◌||◌, nat_le, nat_lt, is_some};
 ghost use Rattle.std.specs.Option.{option_copied};
 ghost use Rattle.std.specs.Fn.{FnReturnsAt};
@@ -125,38 +125,58 @@ impl<V: Drop> Tree<V> {
         }
     }
 
-    /// Sets the value of a prefix, and answers the one before. What is missing of its path is built apart and attached
-    /// last: where memory is wanted, the tree stays as it is and the value comes back.
-    pub fn insert(
-        &mut self,
-        alloc: Global,
-        prefix: Prefix,
-        at: u8,
-        value: V,
-    ) -> Result<Option<V>, V>
-        requires within { at ≤ length prefix }
+    /// Sets the value of a prefix to what `value` holds, which then holds the one before. What is missing of its path
+    /// is built apart and attached last: where memory is wanted, it answers false, and the tree and `value` stay as
+    /// they are. Each level's last step is the next level, so that it is compiled as a loop.
+    pub fn insert(&mut self, alloc: Global, prefix: &Prefix, at: u8, value: &mut Option<V>) -> bool
+        requires within { at ≤ length prefix.now }
         requires pruned { IsTrue (is_pruned self.old) }
-        ensures before { IfOk result (λ before. before ≡ lookup at self.old (drop at prefix)) }
-        ensures set { OnOk result (IsSet at self.old self.new (drop at prefix) (Some value)) }
-        ensures fork { OnOk result (IsTrue (is_fork self.new)) }
-        ensures pruned { OnOk result (IsTrue (is_pruned self.new)) }
-        ensures back { IfErr result (λ back. back ≡ value) }
-        ensures unchanged { OnErr result (self.new ≡ self.old) }
-        ensures replaced { IsSome (lookup at self.old (drop at prefix)) → IsOk result }
+        requires given { IsTrue (is_some value.old) }
+        ensures before { IsTrue result → value.new ≡ lookup at self.old (drop at prefix.now) }
+        ensures set { IsTrue result → IsSet at self.old self.new (drop at prefix.now) value.old }
+        ensures fork { IsTrue result → IsTrue (is_fork self.new) }
+        ensures pruned { IsTrue result → IsTrue (is_pruned self.new) }
+        ensures back { result ≡ false → value.new ≡ value.old }
+        ensures unchanged { result ≡ false → self.new ≡ self.old }
+        ensures replaced { IsSome (lookup at self.old (drop at prefix.now)) → result ≡ true }
     {
         match self {
-            Tree::Empty => match chain(alloc, prefix, at, value) {
-                Ok(grown) => {
-                    *self = grown;
-                    Ok(None)
+            Tree::Empty => self.grow(alloc, *prefix, at, value),
+            Tree::Fork(node) => match turn_at(*prefix, at) {
+                Turn::End => {
+                    mem::swap(&mut node.value, value);
+                    true
                 }
-                Err(back) => Err(back),
-            },
-            Tree::Fork(node) => match turn_at(prefix, at) {
-                Turn::End => Ok(mem::replace(&mut node.value, Some(value))),
                 Turn::Zero => node.zero.insert(alloc, prefix, at + 1, value),
                 Turn::One => node.one.insert(alloc, prefix, at + 1, value),
             },
+        }
+    }
+
+    /// The same for a tree without a node.
+    fn grow(&mut self, alloc: Global, prefix: Prefix, at: u8, value: &mut Option<V>) -> bool
+        requires within { at ≤ length prefix }
+        requires empty { self.old ≡ Empty }
+        requires given { IsTrue (is_some value.old) }
+        ensures before { IsTrue result → value.new ≡ None }
+        ensures set { IsTrue result → IsSet at Empty self.new (drop at prefix) value.old }
+        ensures fork { IsTrue result → IsTrue (is_fork self.new) }
+        ensures pruned { IsTrue result → IsTrue (is_pruned self.new) }
+        ensures back { result ≡ false → value.new ≡ value.old }
+        ensures unchanged { result ≡ false → self.new ≡ self.old }
+    {
+        let Some(given) = value.take() else {
+            return false;
+        };
+        match chain(alloc, prefix, at, given) {
+            Ok(grown) => {
+                *self = grown;
+                true
+            }
+            Err(back) => {
+                *value = Some(back);
+                false
+            }
         }
     }
 

@@ -21,6 +21,23 @@ pub struct TrieMap<V> {
     ghost paths: { HasPaths (content_of root) },
 }
 
+impl<V: Drop> TrieMap<V> {
+    ghost use Rattle.std.specs.Prelude.{IsSome, IfSome};
+    ghost use Rattle.ddt_trie.specs.PrefixMap.{IsCovered, IsLongest};
+    ghost use Rattle.ddt_trie.specs.Trie.{trie_content};
+
+    /// Of its prefixes that cover this one, itself among them, the longest, with its value; None where none covers it.
+    pub fn longest_over(&self, prefix: Prefix) -> Option<(Prefix, &V)>
+        ensures longest { IfSome result (λ found. IsLongest (trie_content self.now) prefix found.0 found.1.now) }
+        ensures covered { IsCovered (trie_content self.now) prefix → IsSome result }
+    {
+        match self.root.longest(prefix, 0) {
+            Some((len, value)) => Some((prefix.front(len), value)),
+            None => None,
+        }
+    }
+}
+
 impl<V: Drop> PrefixMap<V> for TrieMap<V> {
     ghost content = { λ m. content_of m.root };
 
@@ -60,15 +77,17 @@ impl<V: Drop> PrefixMap<V> for TrieMap<V> {
     fn insert(&mut self, prefix: Prefix, value: V) -> Result<Option<V>, (Prefix, V)> {
         // Each key is a prefix, which bounds the depth of the tree.
         let _form = prefix.form();
-        match self.root.insert(self.alloc, prefix, 0, value) {
-            Ok(before) => {
-                if before.is_none() {
-                    self.len += 1;
-                }
-                Ok(before)
-            }
-            Err(refused) => Err((prefix, refused)),
+        let mut before = Some(value);
+        if !self.root.insert(self.alloc, &prefix, 0, &mut before) {
+            return match before {
+                Some(refused) => Err((prefix, refused)),
+                None => unreachable!(),
+            };
         }
+        if before.is_none() {
+            self.len += 1;
+        }
+        Ok(before)
     }
 
     fn remove(&mut self, prefix: Prefix) -> Option<V> {

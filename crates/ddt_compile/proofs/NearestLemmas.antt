@@ -1,15 +1,15 @@
 -- The nearest zone above a zone is the one whose child it is, and the nearest above a site the one whose site it is.
 use Rattle.std.proofs.Common.{◌≡◌, ℕ, ◌+◌, ◌<◌, ◌≤◌, Bool, true, false, not, List, [], ◌∷◌, length, take, drop, refl, sym, ap, subst, ◌∙◌, arith, inl, inr}
 use Rattle.std.specs.List.{list_any}
-use Rattle.std.specs.Ordering.{nat_cmp}
-use Rattle.std.specs.Cmp.Lexicographic.{slice_cmp, nat_list_eq_equiv}
-use Rattle.std.specs.BTreeSet.{BTreeSet, contains}
+use Rattle.std.specs.Cmp.Lexicographic.{nat_list_eq_equiv}
+use Rattle.std.specs.FinMap.{FinMap, contains_key}
 use Rattle.std.proofs.lemmas.Bool.{cases_lt, and_parts, and_from, or_cases, both_ways, not_from_false, false_from_ne_true, false≢true}
 use Rattle.std.proofs.lemmas.List.{take-append-drop}
 use Rattle.ddt_path.specs.declared.record.Role.TheVariants.{Ms}
 use Rattle.ddt_path.specs.Covers.{covers, is_same_path, is_strictly_below}
 use Rattle.ddt_path.proofs.CoverLemmas.{covers_self, length-covered, take-covered, covers-append}
 use Rattle.ddt_register.specs.declared.zone.Zone.{Zone}
+use Rattle.ddt_trie.specs.PrefixMap.{path_cmp}
 use Rattle.ddt_register.specs.declared.site.Site.{Site}
 use Rattle.ddt_register.specs.declared.register.Register.{Register}
 use Rattle.ddt_check.specs.Rules.{IsAccepted}
@@ -28,17 +28,6 @@ path_itself p q e = subst (λ (r : List ℕ). is_same_path p r ≡ true) e (nat_
 pub front_covered : (n : ℕ) (x : List ℕ) → covers (take n x) x ≡ true
 front_covered n x = subst (λ (y : List ℕ). covers (take n x) y ≡ true) (take-append-drop n x) (covers-append (take n x) (drop n x))
 
--- a length less at each step without a prefix
-pub shorter_yet : (kept : List ℕ → Bool) (x : List ℕ) (n : ℕ) → kept (take n x) ≡ false → (q : List ℕ) → kept q ≡ true → covers q x ≡ true → length q < n + 1 → length q < n
-shorter_yet kept x n absent q present inside le =
-    elim (cases_lt (length q) n) [
-      | inl lt ↦ lt
-      | inr ge ↦
-          let m : length q ≡ n = omega arith in
-          let e : take n x ≡ q = ap (λ (k : ℕ). take k x) (sym m) ∙ take-covered q x inside in
-          absurd (both_ways (kept q) (ap kept (sym e) ∙ absent) present)
-    ]
-
 any_in : {A : Type 0} (test : A → Bool) (xs : List A) → list_any test xs ≡ true → (x : A) × IsIn x xs × (test x ≡ true)
 any_in test [] e = absurd (false≢true e)
 any_in test (y ∷ xs) e =
@@ -54,11 +43,11 @@ in_any test xs x k e = some_case (list_any test xs) refl
     some_case true all = all
     some_case false none = absurd (both_ways (test x) (fails_at test xs x none k) e)
 
-module _ (prefixes : BTreeSet (List ℕ)) (r : Register) (are_kept : HasPrefixesOf prefixes r.zones) where
-  kept_zone : (z : Zone) → IsIn z r.zones → contains (slice_cmp nat_cmp) prefixes z.prefix ≡ true
+module _ (prefixes : FinMap path_cmp ℕ) (r : Register) (are_kept : HasPrefixesOf prefixes r.zones) where
+  kept_zone : (z : Zone) → IsIn z r.zones → contains_key prefixes z.prefix ≡ true
   kept_zone z k = are_kept z.prefix ∙ in_any (λ (y : Zone). is_same_path z.prefix y.prefix) r.zones z k (path_itself z.prefix z.prefix refl)
 
-  zone_kept : (p : List ℕ) → contains (slice_cmp nat_cmp) prefixes p ≡ true → (y : Zone) × IsIn y r.zones × (p ≡ y.prefix)
+  zone_kept : (p : List ℕ) → contains_key prefixes p ≡ true → (y : Zone) × IsIn y r.zones × (p ≡ y.prefix)
   zone_kept p e =
       let found = any_in (λ (y : Zone). is_same_path p y.prefix) r.zones (sym (are_kept p) ∙ e) in
       (found.0, found.1, same_digits p found.0.prefix found.2)

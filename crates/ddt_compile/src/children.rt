@@ -8,6 +8,7 @@ ghost use Rattle.std.specs.BTreeMap.{get};
 ghost use Rattle.ddt_register.specs.declared.zone.Zone.{Zone as AZone};
 ghost use Rattle.ddt_compile.specs.GroupConfig.{children_of};
 ghost use Rattle.ddt_compile.specs.Lists.{list_at};
+ghost use Rattle.ddt_trie.specs.Trie.{trie_content};
 ghost use Rattle.ddt_compile.specs.Nearest.{HasPrefixesOf};
 ghost use Rattle.ddt_compile.specs.Sorted.{AreSortedOf, HasLocatorsOf};
 
@@ -19,16 +20,17 @@ use ddt_check::Accepted;
 use ddt_config::Child;
 use ddt_path::{Listed, LocatorSet, Name, Prefix};
 use ddt_register::Zone;
+use ddt_trie::TrieMap;
 use std::alloc::{AllocError, Global};
-use std::collections::{BTreeMap, BTreeSet};
+use std::collections::BTreeMap;
 
 /// The children of each zone, by its prefix, each list in the order of their rows.
 pub fn children_by_zone(
     alloc: Global,
     accepted: &Accepted,
-    prefixes: &BTreeSet<Prefix>,
+    prefixes: &TrieMap<u32>,
 ) -> Result<BTreeMap<Prefix, Vec<Child>>, AllocError>
-    requires { HasPrefixesOf prefixes.now accepted.now.zones }
+    requires { HasPrefixesOf (trie_content prefixes.now) accepted.now.zones }
     ensures { IfOk result (λ lists. (z : AZone) → Contains accepted.now.zones z → list_at (slice_cmp nat_cmp) lists
         z.prefix ≡ children_of accepted.now z) }
 {

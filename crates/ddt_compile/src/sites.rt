@@ -9,6 +9,7 @@ ghost use Rattle.ddt_register.specs.declared.zone.Zone.{Zone as AZone};
 ghost use Rattle.ddt_path.specs.Locators.{most_locators};
 ghost use Rattle.ddt_compile.specs.GroupConfig.{sites_of, entry_of};
 ghost use Rattle.ddt_compile.specs.Lists.{list_at};
+ghost use Rattle.ddt_trie.specs.Trie.{trie_content};
 ghost use Rattle.ddt_compile.specs.Nearest.{HasPrefixesOf};
 ghost use Rattle.ddt_compile.specs.Sorted.{AreSortedOf};
 ghost use Rattle.ddt_check.specs.Zones.{is_served_by};
@@ -20,16 +21,17 @@ use ddt_check::Accepted;
 use ddt_config::SiteEntry;
 use ddt_path::{LocatorSet, Prefix, Role};
 use ddt_register::{Group, Site, Zone};
+use ddt_trie::TrieMap;
 use std::alloc::{AllocError, Global};
-use std::collections::{BTreeMap, BTreeSet};
+use std::collections::BTreeMap;
 
 /// The sites of each zone of Map-Servers, by its prefix, each list in the order of their rows.
 pub fn sites_by_zone(
     alloc: Global,
     accepted: &Accepted,
-    prefixes: &BTreeSet<Prefix>,
+    prefixes: &TrieMap<u32>,
 ) -> Result<BTreeMap<Prefix, Vec<SiteEntry>>, AllocError>
-    requires { HasPrefixesOf prefixes.now accepted.now.zones }
+    requires { HasPrefixesOf (trie_content prefixes.now) accepted.now.zones }
     ensures { IfOk result (λ lists. (z : AZone) → Contains accepted.now.zones z → z.kind ≡ Ms
         → list_at (slice_cmp nat_cmp) lists z.prefix ≡ sites_of accepted.now z) }
 {

@@ -8,6 +8,7 @@ use Rattle.std.proofs.lemmas.List.{take_all}
 use Rattle.ddt_register.specs.declared.zone.Zone.{Zone}
 use Rattle.ddt_register.specs.declared.register.Register.{Register}
 use Rattle.ddt_config.specs.declared.config.Child.{Child}
+use Rattle.ddt_trie.specs.Trie.{trie_content}
 use Rattle.ddt_compile.specs.GroupConfig.{child_of, is_direct_child}
 use Rattle.ddt_compile.specs.Lists.{list_at}
 use Rattle.ddt_compile.specs.Nearest.{IsAbove}
@@ -27,7 +28,7 @@ loop-zone-preserved c = λ z k.
     let zones = c.as_slice-zone-items.result.now in
     let i = c.loop-zone.zone-index in
     let x = c.zone-item.result in
-    let prefixes = c.args.prefixes.now in
+    let prefixes = trie_content c.args.prefixes.now in
     elim c.match-nearest.branch [
       | in-Some+in_ok-append w ↦
           let own = w.in-Some.above in

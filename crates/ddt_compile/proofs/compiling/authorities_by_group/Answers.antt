@@ -1,4 +1,4 @@
-use Rattle.std.proofs.Common.{◌+◌, ◌≡◌, ◌⊎◌, true, List, drop, refl, sym, ap, subst, ◌∙◌, inl, inr}
+use Rattle.std.proofs.Common.{◌+◌, ◌≤◌, length, arith, ◌≡◌, ◌⊎◌, true, List, drop, refl, sym, ap, subst, ◌∙◌, inl, inr}
 use Rattle.std.specs.Cmp.Lexicographic.{texts_ties, nat_list_eq_equiv}
 use Rattle.ddt_register.specs.declared.zone.Zone.{Zone}
 use Rattle.ddt_register.specs.declared.register.Register.{Register}
@@ -13,10 +13,17 @@ use Rattle.ddt_check.specs.Zones.{is_served_by}
 use Rattle.ddt_path.proofs.MemberLemmas.{IsIn, in_at, in_left, in_later, contained}
 use Rattle.ddt_register.proofs.RisingLemmas.{later_row}
 use Rattle.ddt_register.proofs.RisingLemmas.{zones_rise}
+use Rattle.ddt_register.proofs.CountLemmas.{few_rows}
 use Rattle.ddt_check.proofs.KeptLemmas.{own_prefix}
 use Rattle.ddt_compile.proofs.ContentLemmas.{content_is}
 use Rattle.ddt_compile.proofs.GrowingLemmas.{grown, list_at-empty}
 use Rattle.ddt_compile.proofs.compiling.authorities_by_group.Goals as goal
+
+pub prefixes_of-requires : goal.prefixes_of-requires
+prefixes_of-requires c =
+    let same = c.as_slice-zones.ensures ∙ ap (λ (r : Register). r.zones) c.register.ensures.register in
+    let few : length c.args.accepted.now.zones ≤ 65535 = few_rows (λ (z : Zone). z.row) c.args.accepted.now.zones (zones_rise c.args.accepted.now) in
+    omega (arith, ap length same)
 
 pub loop-zone-init : goal.loop-zone-init
 loop-zone-init c =

@@ -1,27 +1,34 @@
 use Rattle.std.proofs.Common.{ℕ, ◌+◌, ◌-◌, ◌<◌, ◌≤◌, ◌≡◌, List, length, sym, ap, subst, ◌∙◌, arith, true}
-use Rattle.std.specs.Ordering.{nat_cmp}
-use Rattle.std.specs.Cmp.Lexicographic.{slice_cmp}
-use Rattle.std.specs.BTreeSet.{contains}
+use Rattle.std.specs.Prelude.{is_some}
+use Rattle.std.proofs.lemmas.Bool.{false≢true}
 use Rattle.std.proofs.lemmas.List.{length-take}
 use Rattle.ddt_path.specs.Covers.{covers}
-use Rattle.ddt_compile.proofs.NearestLemmas.{front_covered, shorter_yet}
+use Rattle.ddt_path.proofs.CoverLemmas.{covers_trans, length-covered}
+use Rattle.ddt_path.proofs.FrontLemmas.{front_covers}
+use Rattle.ddt_compile.proofs.NearestLemmas.{front_covered}
 use Rattle.ddt_compile.proofs.nearest.nearest.Goals as goal
 
-pub returns-then-contains : goal.returns-then-contains
-returns-then-contains c =
+pub returns-in-Some : goal.returns-in-Some
+returns-in-Some c =
     let x = c.args.prefix in
-    let len = c.loop-len.len in
-    let most : len ≤ c.args.below = c.loop-len.auto.len in
+    let ne = c.if-below-eq0.false in
     let fits : c.args.below ≤ length x + 1 = c.requires in
-    let some : 0 < len = c.loop-len-test.true in
-    let n : length c.front-front.result ≡ len - 1 = ap length c.front-front.ensures ∙ length-take (len - 1) x ∙ omega arith in
-    let inside : covers c.front-front.result x ≡ true = subst (λ (p : List ℕ). covers p x ≡ true) (sym c.front-front.ensures) (front_covered (len - 1) x) in
-    ((sym c.contains.ensures ∙ c.if-contains.true, inside, omega arith), λ q above. let lt = c.loop-len.invariant q above in omega arith)
+    let n : length c.front.result ≡ c.args.below - 1 = ap length c.front.ensures ∙ length-take (c.args.below - 1) x ∙ omega arith in
+    let inside : covers c.front.result x ≡ true = subst (λ (p : List ℕ). covers p x ≡ true) (sym c.front.ensures) (front_covered (c.args.below - 1) x) in
+    let found = c.in-Some.ensures.longest in
+    let le : length c.in-Some.found.0 ≤ length c.front.result = length-covered c.in-Some.found.0 c.front.result found.covers_it in (
+      (ap is_some found.value, covers_trans c.in-Some.found.0 c.front.result x found.covers_it inside, omega arith),
+      λ q above.
+          let lt : length q < c.args.below = above.2 in
+          found.longest q above.0 (front_covers q c.front.result x above.1 inside (omega arith)),
+    )
 
-pub loop-len-preserved : goal.loop-len-preserved
-loop-len-preserved c = λ q above.
-    let len = c.loop-len.len in
-    let some : 0 < len = c.loop-len-test.true in
-    let lt : length q < len = c.loop-len.invariant q above in
-    let absent = ap (contains (slice_cmp nat_cmp) c.args.prefixes.now) (sym c.front-front.ensures) ∙ sym c.contains.ensures ∙ c.if-contains.false in
-    shorter_yet (contains (slice_cmp nat_cmp) c.args.prefixes.now) c.args.prefix (len - 1) absent q above.0 above.1 (omega arith)
+pub returns-in-None : goal.returns-in-None
+returns-in-None c = λ q above.
+    let x = c.args.prefix in
+    let ne = c.if-below-eq0.false in
+    let fits : c.args.below ≤ length x + 1 = c.requires in
+    let n : length c.front.result ≡ c.args.below - 1 = ap length c.front.ensures ∙ length-take (c.args.below - 1) x ∙ omega arith in
+    let inside : covers c.front.result x ≡ true = subst (λ (p : List ℕ). covers p x ≡ true) (sym c.front.ensures) (front_covered (c.args.below - 1) x) in
+    let lt : length q < c.args.below = above.2 in
+    false≢true (c.in-None.ensures.covered (q, above.0, front_covers q c.front.result x above.1 inside (omega arith)))

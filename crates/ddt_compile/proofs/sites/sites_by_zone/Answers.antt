@@ -8,6 +8,7 @@ use Rattle.std.proofs.lemmas.List.{take_all}
 use Rattle.ddt_register.specs.declared.site.Site.{Site}
 use Rattle.ddt_register.specs.declared.register.Register.{Register}
 use Rattle.ddt_config.specs.declared.config.SiteEntry.{SiteEntry}
+use Rattle.ddt_trie.specs.Trie.{trie_content}
 use Rattle.ddt_compile.specs.GroupConfig.{entry_of}
 use Rattle.ddt_check.specs.Zones.{is_site_in}
 use Rattle.ddt_compile.specs.Lists.{list_at}
@@ -31,7 +32,7 @@ loop-site-preserved c = λ z k ms.
     let sites = c.as_slice-site-items.result.now in
     let i = c.loop-site.site-index in
     let x = c.site-item.result in
-    let prefixes = c.args.prefixes.now in
+    let prefixes = trie_content c.args.prefixes.now in
     elim c.match-nearest.branch [
       | in-Some+in_ok-append w ↦
           let own = w.in-Some.zone in

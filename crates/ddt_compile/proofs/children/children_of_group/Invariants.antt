@@ -1,0 +1,15 @@
+use Rattle.std.proofs.Common.{◌≡◌, true, map, take}
+use Rattle.std.specs.List.{filter}
+use Rattle.std.specs.Ordering.{nat_cmp}
+use Rattle.std.specs.Cmp.Lexicographic.{slice_cmp}
+use Rattle.ddt_register.specs.declared.zone.Zone.{Zone}
+use Rattle.ddt_path.specs.declared.record.Role.TheVariants.{Node}
+use Rattle.ddt_check.specs.Zones.{is_served_by}
+use Rattle.ddt_compile.specs.GroupConfig.{child_of, is_direct_child}
+use Rattle.ddt_compile.specs.Lists.{list_at}
+use Rattle.ddt_path.proofs.MemberLemmas.{IsIn}
+use Rattle.ddt_compile.proofs.children.children_of_group.Given as goal
+
+abbrev pub invariant-loop-zone : goal.invariant-loop-zone
+invariant-loop-zone l = (z : Zone) → IsIn z l.accepted.zones → z.kind ≡ Node → is_served_by l.group z ≡ true
+    → list_at (slice_cmp nat_cmp) l.lists z.prefix ≡ map (child_of l.accepted) (filter (is_direct_child l.accepted z) (take l.zone-index l.zones))

@@ -1,6 +1,7 @@
 //! The worked registers, configurations and messages, each once, for the tests of all crates.
 //!
-//! `registers` are CSV, `configurations` are TOML as `ddt compile` prints it, and `messages` are hexadecimal, field by field.
+//! `registers` are CSV, `configurations` are TOML as `ddt compile` prints it, `messages` are hexadecimal, field by field,
+//! and `replays` are scripts with their lines.
 #![tactic(auto)]
 
 ghost use Rattle.std.specs.Prelude.{◌≡◌, ◌++◌, [], ◌∷◌, take, Ok, IfOk, OnOk};
@@ -11,6 +12,7 @@ ghost use Rattle.ddt_examples.specs.Digits.{digits_in};
 pub mod configurations;
 pub mod messages;
 pub mod registers;
+pub mod replays;
 #[cfg(test)]
 mod tests;
 

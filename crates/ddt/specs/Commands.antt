@@ -5,7 +5,7 @@ use Rattle.ddt_words.specs.declared.declaration.Declaration.{Declaration}
 use Rattle.ddt_words.specs.Call.{Call}
 use Rattle.ddt_words.specs.Line.{line, one, setting, several, takes}
 use Rattle.ddt.specs.declared.commands.Command.{Command}
-use Rattle.ddt.specs.declared.commands.Command.TheVariants.{Answer, Assign, Check, Compile, Lookup, Show}
+use Rattle.ddt.specs.declared.commands.Command.TheVariants.{Answer, Assign, Check, Compile, Lookup, Replay, Show}
 use Rattle.ddt.specs.declared.refusal.Refusal.{Refusal}
 use Rattle.ddt.specs.Over.{IsTextOver, IsWhyOver, whole}
 use Rattle.ddt.specs.Answer.{IsAnswerText}
@@ -13,6 +13,7 @@ use Rattle.ddt.specs.Assign.{IsAssignText, WantsMemory, bad_xeid}
 use Rattle.ddt.specs.Check.{IsCheckText, no_bad_word}
 use Rattle.ddt.specs.Compile.{IsConfigText, IsWhyNoGroup}
 use Rattle.ddt.specs.Lookup.{IsLookupText, bad_lookup}
+use Rattle.ddt.specs.Replay.{IsReplayText, IsWhyNoReplay}
 use Rattle.ddt.specs.Show.{IsShowText, IsWhyNotShown}
 
 abbrev pub name_of : Command → List ℕ
@@ -21,6 +22,7 @@ name_of Assign = codes "assign"
 name_of Check = codes "check"
 name_of Compile = codes "compile"
 name_of Lookup = codes "lookup"
+name_of Replay = codes "replay"
 name_of Show = codes "show"
 
 -- what each command takes
@@ -32,6 +34,8 @@ command_list =
     ∷ takes (codes "compile") (one (codes "register") ∷ one (codes "group") ∷ [])
     ∷ takes (codes "lookup")
     (one (codes "register") ∷ several (codes "xeid") ∷ setting (codes "me") ∷ setting (codes "seed") ∷ [])
+    ∷ takes (codes "replay")
+    (one (codes "register") ∷ one (codes "script") ∷ setting (codes "me") ∷ setting (codes "seed") ∷ [])
     ∷ takes (codes "show") (one (codes "hex") ∷ [])
     ∷ []
 
@@ -52,6 +56,7 @@ IsTextOf opens remaining Compile call complete text =
     IsTextOver opens remaining no_bad_word (whole IsConfigText complete) call text
 IsTextOf opens remaining Lookup call complete text =
     IsTextOver opens remaining bad_lookup (IsLookupText complete) call text
+IsTextOf opens remaining Replay call complete text = (complete ≡ true) × IsReplayText opens remaining call text
 IsTextOf opens remaining Show call complete text = (complete ≡ true) × IsShowText call text
 
 -- why a command refuses
@@ -62,4 +67,5 @@ IsWhyOf opens remaining Assign call why = IsWhyOver opens remaining bad_xeid Wan
 IsWhyOf opens remaining Check call why = IsWhyOver opens remaining no_bad_word WantsMemory call why
 IsWhyOf opens remaining Compile call why = IsWhyOver opens remaining no_bad_word IsWhyNoGroup call why
 IsWhyOf opens remaining Lookup call why = IsWhyOver opens remaining bad_lookup WantsMemory call why
+IsWhyOf opens remaining Replay call why = IsWhyNoReplay opens remaining call why
 IsWhyOf opens remaining Show call why = IsWhyNotShown call why

@@ -7,6 +7,8 @@ pub mod Assign
 pub mod Check
 pub mod Compile
 pub mod Lookup
+pub mod Script
+pub mod Replay
 pub mod Show
 pub mod Commands
 pub mod Telling

@@ -1,14 +1,16 @@
 -- The text of a refusal; None for those that show a fault, whose text is the fault's own.
-use Rattle.std.specs.Prelude.{ℕ, ◌≡◌, ◌⊎◌, List, ◌++◌, Option, None, Some, codes, IfSome}
+use Rattle.std.specs.Prelude.{ℕ, ◌≡◌, ◌⊎◌, List, ◌++◌, Option, None, Some, codes, decimal, IfSome}
 use Rattle.ddt_lines.specs.Lines.{ended}
 use Rattle.ddt_register.specs.declared.fault.ReadFault.{ReadFault}
 use Rattle.ddt_register.specs.declared.fault.ReadFault.TheVariants.{Memory, Read}
 use Rattle.ddt.specs.declared.refusal.Refusal.{Refusal}
-use Rattle.ddt.specs.declared.refusal.Refusal.TheVariants.{BadWord, NoRegister, NoMessage, OutOfMemory}
+use Rattle.ddt.specs.declared.refusal.Refusal.TheVariants.{BadWord, NoRegister, NoScript, NoMessage, OutOfMemory}
 use Rattle.ddt.specs.declared.refusal.word.WordRefusal.{WordRefusal}
 use Rattle.ddt.specs.declared.refusal.word.WordRefusal.TheVariants.{Identifier, Address, Number}
 use Rattle.ddt.specs.declared.refusal.register.RegisterRefusal.{RegisterRefusal}
 use Rattle.ddt.specs.declared.refusal.register.RegisterRefusal.TheVariants.{CannotOpen, Unreadable, CannotRead, BreaksRule, NoSuchGroup}
+use Rattle.ddt.specs.declared.refusal.script.ScriptRefusal.{ScriptRefusal}
+use Rattle.ddt.specs.declared.refusal.script.ScriptRefusal.TheVariants as script
 use Rattle.ddt.specs.declared.refusal.message.MessageRefusal.{MessageRefusal}
 use Rattle.ddt.specs.declared.refusal.message.MessageRefusal.TheVariants.{NotHex, UnknownMessage, NoReferral, NoRequest}
 
@@ -24,6 +26,10 @@ register_refusal_text CannotRead = Some (codes "unreadable 8 Read")
 register_refusal_text (BreaksRule fault) = None
 register_refusal_text NoSuchGroup = Some (codes "no such group")
 
+abbrev pub script_refusal_text : ScriptRefusal → Option (List ℕ)
+script_refusal_text (script.CannotOpen path) = Some (codes "cannot open " ++ path.now)
+script_refusal_text (script.RefusedLine number) = Some (codes "script refused line " ++ decimal number)
+
 abbrev pub message_refusal_text : MessageRefusal → Option (List ℕ)
 message_refusal_text NotHex = Some (codes "refused hex")
 message_refusal_text UnknownMessage = Some (codes "refused unknown message")
@@ -33,6 +39,7 @@ message_refusal_text (NoRequest fault) = None
 abbrev pub refusal_text : Refusal → Option (List ℕ)
 refusal_text (BadWord why) = word_refusal_text why
 refusal_text (NoRegister why) = register_refusal_text why
+refusal_text (NoScript why) = script_refusal_text why
 refusal_text (NoMessage why) = message_refusal_text why
 refusal_text OutOfMemory = Some (codes "out of memory")
 

@@ -5,10 +5,11 @@ mod assign;
 mod check;
 mod compile;
 mod lookup;
+pub mod replay;
 mod show;
 
 ghost use Rattle.std.specs.Prelude.{◌≡◌, ◌≢◌, IfErr, IfOk, MatchOption};
-ghost use Rattle.std.specs.Fn.{FnOnceReturnsAt as ReturnsAt};
+ghost use Rattle.std.specs.Fn.{FnReturnsAt as ReturnsAt};
 ghost use Rattle.ddt_words.specs.Call.{call_of};
 ghost use Rattle.ddt_words.specs.Line.{line};
 ghost use Rattle.ddt.specs.declared.commands.Command.{Command as ACommand};
@@ -36,6 +37,7 @@ pub fn command_list() -> &'static [Declaration<'static>]
         check::WORDS,
         compile::WORDS,
         lookup::WORDS,
+        replay::WORDS,
         show::WORDS,
     ]
 }
@@ -48,6 +50,7 @@ pub enum Command {
     Check,
     Compile,
     Lookup,
+    Replay,
     Show,
 }
 
@@ -62,6 +65,7 @@ impl Command {
             "check" => Some(Command::Check),
             "compile" => Some(Command::Compile),
             "lookup" => Some(Command::Lookup),
+            "replay" => Some(Command::Replay),
             "show" => Some(Command::Show),
             _ => None,
         }
@@ -77,11 +81,11 @@ pub fn lines_of<'a, F, O>(
 ) -> Result<Lines, Refusal<'a>>
 where
     F: Read + Drop,
-    O: FnOnce(&str) -> Option<F> + Drop,
+    O: Fn(&str) -> Option<F> + Drop,
     requires { O.IsAlwaysCallable open_file }
-    ensures text { IfOk result (λ lines. IsTextOf (ReturnsAt O.FnOnce open_file) F.remaining
+    ensures text { IfOk result (λ lines. IsTextOf (ReturnsAt O.Fn open_file) F.remaining
         command (call_of words.now) lines.complete lines.text.items) }
-    ensures refused { IfErr result (IsWhyOf (ReturnsAt O.FnOnce open_file) F.remaining command (call_of words.now)) }
+    ensures refused { IfErr result (IsWhyOf (ReturnsAt O.Fn open_file) F.remaining command (call_of words.now)) }
 {
     match command {
         Command::Answer => lines_over::<Answer<'a>, F, O>(alloc, words, open_file),
@@ -89,6 +93,7 @@ where
         Command::Check => lines_over::<Check, F, O>(alloc, words, open_file),
         Command::Compile => lines_over::<Compile<'a>, F, O>(alloc, words, open_file),
         Command::Lookup => lines_over::<Lookup, F, O>(alloc, words, open_file),
+        Command::Replay => replay::lines(alloc, words, open_file),
         Command::Show => show::lines(alloc, words),
     }
 }

@@ -83,7 +83,7 @@ fn unfound(alloc: Global, end: &str, why: &str) -> Result<Lines, AllocError>
 }
 
 /// The name of why a lookup gave up.
-fn why_name(why: Why) -> &'static str
+pub fn why_name(why: Why) -> &'static str
     ensures { result.now ≡ why_text why }
 {
     match why {

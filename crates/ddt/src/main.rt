@@ -1,17 +1,20 @@
 //! The program: one command over a register, its words, and what it prints.
 //!
 //! In reading order: `running`, `commands` (the list), `over` (commands over a register), `commands/*`, `answering`,
-//! `looking_up`, `number`, `lines`, `telling`, `refusal`, `status`.
+//! `looking_up`, `script`, `replaying`, `event_lines`, `number`, `lines`, `telling`, `refusal`, `status`.
 #![tactic(auto)]
 
 mod answering;
 mod commands;
+mod event_lines;
 mod lines;
 mod looking_up;
 mod number;
 mod over;
 mod refusal;
+mod replaying;
 mod running;
+mod script;
 mod status;
 mod telling;
 #[cfg(test)]

@@ -1,19 +1,21 @@
-//! Decimal numbers of a command line.
+//! Decimal numbers of a command line and of a script.
 
 ghost use Rattle.std.specs.Prelude.{◌≡◌};
 ghost use Rattle.std.specs.List.{list_all};
 ghost use Rattle.std.specs.Char.{is_ascii_digit};
 ghost use Rattle.ddt_text.specs.FirstFault.{is_number, number_in};
-ghost use Rattle.ddt_resolver.specs.State.{last_nonce};
 
-/// The number that the word writes: decimal digits without a sign or a leading zero, up to 18446744073709551615.
-pub fn read_number(word: &str) -> Option<u64>
-    ensures { result ≡ number_in last_nonce word.now }
+use std::str;
+
+/// The number of at most `most` that the text writes: decimal digits without a sign or a leading zero.
+pub fn read_number(text: &[u8], most: u64) -> Option<u64>
+    ensures { result ≡ number_in most text.now }
 {
-    if !is_number(word.as_bytes()) {
+    if !is_number(text) {
         return None;
     }
-    word.parse().ok()
+    let number = str::from_utf8(text).ok()?.parse::<u64>().ok()?;
+    (number <= most).then_some(number)
 }
 
 /// Whether the text is one decimal digit or more, without a leading zero.

@@ -1,7 +1,7 @@
 //! Commands over one register, and how any of them comes to its text.
 
 ghost use Rattle.std.specs.Prelude.{◌≡◌, ℕ, Bool, List, Option, None, Some, Err, IsErr, IfOk, IfErr};
-ghost use Rattle.std.specs.Fn.{FnOnceReturnsAt};
+ghost use Rattle.std.specs.Fn.{FnReturnsAt};
 ghost use Rattle.ddt_register.specs.declared.register.Register.{Register as ARegister};
 ghost use Rattle.ddt_register.specs.declared.fault.ReadFault.{ReadFault as AReadFault};
 ghost use Rattle.ddt_check.specs.Rules.{IsAccepted};
@@ -60,11 +60,11 @@ pub fn lines_over<'a, C, F, O>(
 where
     C: OverRegister<'a> + Drop,
     F: Read + Drop,
-    O: FnOnce(&str) -> Option<F> + Drop,
+    O: Fn(&str) -> Option<F> + Drop,
     requires { O.IsAlwaysCallable open_file }
-    ensures text { IfOk result (λ lines. IsTextOver (FnOnceReturnsAt O.FnOnce open_file) F.remaining
+    ensures text { IfOk result (λ lines. IsTextOver (FnReturnsAt O.Fn open_file) F.remaining
         C.bad_word (C.answers lines.complete) (call_of words.now) lines.text.items) }
-    ensures refused { IfErr result (IsWhyOver (FnOnceReturnsAt O.FnOnce open_file) F.remaining
+    ensures refused { IfErr result (IsWhyOver (FnReturnsAt O.Fn open_file) F.remaining
         C.bad_word C.refuses (call_of words.now)) }
 {
     let command = match C::of(words) {
@@ -77,7 +77,7 @@ where
 }
 
 /// The accepted register of a source that could be opened, or why there is none.
-fn register_at<F: Read + Drop>(
+pub fn register_at<F: Read + Drop>(
     alloc: Global,
     source: Option<F>,
     path: &str,

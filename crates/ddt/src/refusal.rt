@@ -2,10 +2,12 @@
 
 mod message;
 mod register;
+mod script;
 mod word;
 
 pub use message::MessageRefusal;
 pub use register::RegisterRefusal;
+pub use script::ScriptRefusal;
 use std::alloc::AllocError;
 use std::fmt;
 pub use word::WordRefusal;
@@ -17,6 +19,8 @@ pub enum Refusal<'a> {
     BadWord(WordRefusal),
     /// The file gives no register, or the register isn't one that the command can answer of.
     NoRegister(RegisterRefusal<'a>),
+    /// The file gives no script.
+    NoScript(ScriptRefusal<'a>),
     /// The bytes are no message.
     NoMessage(MessageRefusal),
     OutOfMemory,
@@ -42,6 +46,7 @@ impl fmt::Display for Refusal<'_> {
         match self {
             Refusal::BadWord(why) => write!(f, "{why}"),
             Refusal::NoRegister(why) => write!(f, "{why}"),
+            Refusal::NoScript(why) => write!(f, "{why}"),
             Refusal::NoMessage(why) => write!(f, "{why}"),
             Refusal::OutOfMemory => write!(f, "out of memory"),
         }

@@ -1,7 +1,7 @@
 //! From the words of the process to the command that they call, and its end.
 
 ghost use Rattle.std.specs.Prelude.{◌≡◌, ◌≢◌, ◌⊎◌, Bool, map, string_bytes};
-ghost use Rattle.std.specs.Fn.{FnOnceReturnsAt};
+ghost use Rattle.std.specs.Fn.{FnReturnsAt};
 ghost use Rattle.ddt_words.specs.Call.{call_of};
 ghost use Rattle.ddt.specs.declared.status.Status.TheVariants.{
   Refused as IsRefused,
@@ -31,21 +31,21 @@ pub fn run<F, O, W, E>(
 ) -> Status
 where
     F: Read + Drop,
-    O: FnOnce(&str) -> Option<F> + Drop,
+    O: Fn(&str) -> Option<F> + Drop,
     W: Write,
     E: Write,
     requires { O.IsAlwaysCallable open_file }
     ensures bad { result ≡ IsBadWords → CallNone (map string_bytes words.now) }
     ensures answered { (complete : Bool) → result ≡ answer_status complete → HasText
-        (IsAnswer (FnOnceReturnsAt O.FnOnce open_file) F.remaining (map string_bytes words.now) complete)
+        (IsAnswer (FnReturnsAt O.Fn open_file) F.remaining (map string_bytes words.now) complete)
         (W.contents out.old) (W.contents out.new) }
-    ensures refused { result ≡ IsRefused → HasRefused (IsWhyRefused (FnOnceReturnsAt O.FnOnce open_file) F.remaining
+    ensures refused { result ≡ IsRefused → HasRefused (IsWhyRefused (FnReturnsAt O.Fn open_file) F.remaining
         (map string_bytes words.now)) (E.contents err.old) (E.contents err.new) }
     // Where a writer failed, it has a front of what it was to have.
     ensures unprinted { result ≡ IsUnprinted → HasPartOf
-        (IsAnswer (FnOnceReturnsAt O.FnOnce open_file) F.remaining
+        (IsAnswer (FnReturnsAt O.Fn open_file) F.remaining
         (map string_bytes words.now))
-        (IsWhyRefused (FnOnceReturnsAt O.FnOnce open_file) F.remaining
+        (IsWhyRefused (FnReturnsAt O.Fn open_file) F.remaining
         (map string_bytes words.now))
         (W.contents out.old) (W.contents out.new) (E.contents err.old) (E.contents err.new) }
     ensures streams { StayApart result (out.new ≡ out.old) (err.new ≡ err.old) }
@@ -71,19 +71,19 @@ fn run_command<F, O, W, E>(
 ) -> Status
 where
     F: Read + Drop,
-    O: FnOnce(&str) -> Option<F> + Drop,
+    O: Fn(&str) -> Option<F> + Drop,
     W: Write,
     E: Write,
     requires { O.IsAlwaysCallable open_file }
     ensures fits { result ≢ IsBadWords }
     ensures answered { (complete : Bool) → result ≡ answer_status complete → HasText
-        (IsTextOf (FnOnceReturnsAt O.FnOnce open_file) F.remaining command (call_of words.now) complete)
+        (IsTextOf (FnReturnsAt O.Fn open_file) F.remaining command (call_of words.now) complete)
         (W.contents out.old) (W.contents out.new) }
-    ensures refused { result ≡ IsRefused → HasRefused (IsWhyOf (FnOnceReturnsAt O.FnOnce open_file) F.remaining
+    ensures refused { result ≡ IsRefused → HasRefused (IsWhyOf (FnReturnsAt O.Fn open_file) F.remaining
         command (call_of words.now)) (E.contents err.old) (E.contents err.new) }
     ensures unprinted { result ≡ IsUnprinted → HasPartOf
-        (IsTextOf (FnOnceReturnsAt O.FnOnce open_file) F.remaining command (call_of words.now))
-        (IsWhyOf (FnOnceReturnsAt O.FnOnce open_file) F.remaining command (call_of words.now))
+        (IsTextOf (FnReturnsAt O.Fn open_file) F.remaining command (call_of words.now))
+        (IsWhyOf (FnReturnsAt O.Fn open_file) F.remaining command (call_of words.now))
         (W.contents out.old) (W.contents out.new) (E.contents err.old) (E.contents err.new) }
     ensures streams { StayApart result (out.new ≡ out.old) (err.new ≡ err.old) }
 {

@@ -25,6 +25,7 @@ pub const USAGE: &str = "usage: ddt answer REGISTER GROUP XEID
        ddt check REGISTER
        ddt compile REGISTER GROUP
        ddt lookup REGISTER XEID... [--me ADDRESS] [--seed N]
+       ddt replay REGISTER SCRIPT [--me ADDRESS] [--seed N]
        ddt show HEX
 ";
 

@@ -6,4 +6,5 @@ mod check_lines;
 mod compile_lines;
 mod harness;
 mod lookup_lines;
+mod replays;
 mod show_lines;

@@ -118,7 +118,7 @@ fn are_identifiers(words: &[&str]) -> Result<(), WordRefusal>
 }
 
 /// The resolver's own address.
-fn own_address(word: Option<&str>) -> Result<Locator, WordRefusal>
+pub fn own_address(word: Option<&str>) -> Result<Locator, WordRefusal>
     ensures good { IfOk result (λ me. me_in (option_map (λ t. t.now) word.entry) ≡ Ok me) }
     ensures bad { IfErr result (λ why. address_refusal (me_in (option_map (λ t. t.now) word.entry)) ≡ Some why) }
 {
@@ -132,14 +132,14 @@ fn own_address(word: Option<&str>) -> Result<Locator, WordRefusal>
 }
 
 /// The nonce of the resolver's first request.
-fn first_nonce(word: Option<&str>) -> Result<u64, WordRefusal>
+pub fn first_nonce(word: Option<&str>) -> Result<u64, WordRefusal>
     ensures good { IfOk result (λ seed. seed_in (option_map (λ t. t.now) word.entry) ≡ Some seed) }
     ensures bad { IfErr result (λ why. number_refusal (seed_in (option_map (λ t. t.now) word.entry)) ≡ Some why) }
 {
     let Some(word) = word else {
         return Ok(1);
     };
-    match read_number(word) {
+    match read_number(word.as_bytes(), u64::MAX) {
         Some(seed) => Ok(seed),
         None => Err(WordRefusal::Number),
     }

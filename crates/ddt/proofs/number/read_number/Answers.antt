@@ -1,8 +1,14 @@
 use Rattle.std.proofs.Common.{◌∙◌}
-use Rattle.ddt.proofs.NumberLemmas.{number_parsed}
+use Rattle.ddt_text.proofs.NumberLemmas.{number_is_utf8, no_text, some_text, no_parse}
+use Rattle.ddt.proofs.NumberLemmas.{parse_fails}
 use Rattle.ddt.proofs.number.read_number.Goals as goal
 
-pub returns : goal.returns
-returns c =
-    c.ok.ensures.value
-    ∙ number_parsed c.args.word.now c.as_bytes.result.now c.parse.result c.parse.ensures.value.0 c.as_bytes.ensures.value c.if-not-is_number.ensures
+pub returns-in_err-ok : goal.returns-in_err-ok
+returns-in_err-ok c = absurd (no_text c.args.text.now c.from_utf8.result _ _ (number_is_utf8 c.args.text.now c.if-not-is_number.ensures) c.from_utf8.ensures.cases c.in_err-ok.ensures.value)
+
+pub returns-in_err-number : goal.returns-in_err-number
+returns-in_err-number c =
+    c.from_residual-in_err-number.ensures
+    ∙ parse_fails c.args.most c.args.text.now c.in_ok-ok.field-0.now c.ranges.most.fits c.if-not-is_number.ensures
+    (some_text c.from_utf8.result _ _ c.in_ok-ok.field-0 c.from_utf8.ensures.cases c.in_ok-ok.ensures.value).0
+    (no_parse c.parse.result _ _ c.parse.ensures.value.0 c.in_err-number.ensures.value)

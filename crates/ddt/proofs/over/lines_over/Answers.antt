@@ -10,7 +10,7 @@ returns-clause-text g c =
       c.in-Ok.ensures.good,
       (
         c.open_file.result,
-        (c.value-path.result, c.open_file.ensures, c.value-path.ensures),
+        record { shown = c.value-path.result; shows = c.value-path.ensures; says = record { met = c.open_file.ensures } },
         of_register _ _ _ c.in_ok-register.register
             (λ e. search (rules, accepted.closed e)) accepted.accepted h,
       ),
@@ -23,7 +23,7 @@ returns-clause-refused g c =
       c.in-Ok.ensures.good,
       (
         c.open_file.result,
-        (c.value-path.result, c.open_file.ensures, c.value-path.ensures),
+        record { shown = c.value-path.result; shows = c.value-path.ensures; says = record { met = c.open_file.ensures } },
         inr (of_register _ _ _ c.in_ok-register.register
             (λ e. search (rules, accepted.closed e)) accepted.accepted h),
       ),

@@ -1,5 +1,5 @@
 use Rattle.std.proofs.Common.{◌∙◌, map, string_bytes}
-use Rattle.std.specs.Fn.{FnOnceReturnsAt}
+use Rattle.std.specs.Fn.{FnReturnsAt}
 use Rattle.ddt_words.specs.Call.{call_of}
 use Rattle.ddt.proofs.RunLemmas.{answered, calls_for, refused, simple_line, unprinted}
 use Rattle.ddt.proofs.running.run.Goals as goal
@@ -11,16 +11,16 @@ pub returns-in-Some-clause-answered : goal.returns-in-Some-clause-answered
 returns-in-Some-clause-answered g c = λ complete status.
     let words = map string_bytes c.args.words.now in
     let calls = calls_for c.command_list.result.now words c.in-Some.command (call_of c.in-Ok.words) c.command_list.ensures c.in-Ok.ensures.found (c.in-Some.ensures ∙ c.command.ensures) in
-    answered (FnOnceReturnsAt g.O.FnOnce c.args.open_file) g.F.Read.remaining words c.in-Some.command (call_of c.in-Ok.words) complete _ _ calls (c.run_command.ensures.answered complete status)
+    answered (FnReturnsAt g.O.Fn c.args.open_file) g.F.Read.remaining words c.in-Some.command (call_of c.in-Ok.words) complete _ _ calls (c.run_command.ensures.answered complete status)
 
 pub returns-in-Some-clause-refused : goal.returns-in-Some-clause-refused
 returns-in-Some-clause-refused g c = λ status.
     let words = map string_bytes c.args.words.now in
     let calls = calls_for c.command_list.result.now words c.in-Some.command (call_of c.in-Ok.words) c.command_list.ensures c.in-Ok.ensures.found (c.in-Some.ensures ∙ c.command.ensures) in
-    refused (FnOnceReturnsAt g.O.FnOnce c.args.open_file) g.F.Read.remaining words c.in-Some.command (call_of c.in-Ok.words) _ _ calls (c.run_command.ensures.refused status)
+    refused (FnReturnsAt g.O.Fn c.args.open_file) g.F.Read.remaining words c.in-Some.command (call_of c.in-Ok.words) _ _ calls (c.run_command.ensures.refused status)
 
 pub returns-in-Some-clause-unprinted : goal.returns-in-Some-clause-unprinted
 returns-in-Some-clause-unprinted g c = λ status.
     let words = map string_bytes c.args.words.now in
     let calls = calls_for c.command_list.result.now words c.in-Some.command (call_of c.in-Ok.words) c.command_list.ensures c.in-Ok.ensures.found (c.in-Some.ensures ∙ c.command.ensures) in
-    unprinted (FnOnceReturnsAt g.O.FnOnce c.args.open_file) g.F.Read.remaining words c.in-Some.command (call_of c.in-Ok.words) _ _ _ _ calls (c.run_command.ensures.unprinted status)
+    unprinted (FnReturnsAt g.O.Fn c.args.open_file) g.F.Read.remaining words c.in-Some.command (call_of c.in-Ok.words) _ _ _ _ calls (c.run_command.ensures.unprinted status)

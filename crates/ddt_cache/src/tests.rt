@@ -9,7 +9,6 @@ use ddt_trie::{ListMap, PrefixMap, TrieMap};
 use plain::Plain;
 use std::alloc::Global;
 use std::process::Abort;
-use std::test::Fail;
 
 const MINUTE: u64 = 60_000;
 
@@ -26,18 +25,35 @@ fn v4(address: u32) -> Xeid {
     }
 }
 
+/// A block. Its instance and its family are parameters, so that the proof computes no digits of it.
+fn block_of(rt: &impl Abort, iid: u32, address: Locator, len: u8) -> Prefix {
+    Prefix::block(iid, address, len).expect(rt, "no block")
+}
+
 /// An IPv4 block of instance 0.
-fn block(address: u32, len: u8) -> Result<Prefix, Fail> {
-    Ok(Prefix::block(0, Locator::V4(address), len)?)
+fn block(rt: &impl Abort, address: u32, len: u8) -> Prefix {
+    block_of(rt, 0, Locator::V4(address), len)
+}
+
+fn range(rt: &impl Abort, iid: u32, len: u8) -> Prefix {
+    Prefix::range(iid, len).expect(rt, "no range")
+}
+
+fn everything(rt: &impl Abort) -> Prefix {
+    range(rt, 0, 0)
+}
+
+fn set(rt: &impl Abort, locators: &[Locator]) -> LocatorSet {
+    LocatorSet::of(locators).expect(rt, "too many locators")
 }
 
 /// A set of one locator.
-fn one(locator: Locator) -> Result<LocatorSet, Fail> {
-    Ok(LocatorSet::of(&[locator]).ok_or("too many locators")?)
+fn one(rt: &impl Abort, locator: Locator) -> LocatorSet {
+    set(rt, &[locator])
 }
 
-fn at(millis: u64) -> Result<Moment, Fail> {
-    Ok(Moment::at(millis).ok_or("past the last moment")?)
+fn at(rt: &impl Abort, millis: u64) -> Moment {
+    Moment::at(millis).expect(rt, "past the last moment")
 }
 
 fn record(action: Action, prefix: Prefix, ttl: u32, servers: LocatorSet) -> ReferralRecord {
@@ -56,21 +72,134 @@ fn bare(action: Action, prefix: Prefix, ttl: u32) -> ReferralRecord {
 }
 
 /// A cache whose root's server is at 127.0.0.1.
-fn rooted<M: PrefixMap<Entry>>(alloc: Global) -> Result<Cache<M>, Fail> {
-    Ok(Cache::new(alloc, one(LOOPBACK)?))
+fn rooted<M: PrefixMap<Entry>>(alloc: Global, rt: &impl Abort) -> Cache<M> {
+    Cache::new(alloc, one(rt, LOOPBACK))
 }
 
-fn save<M: PrefixMap<Entry>>(
+/// What such a cache answers where no other entry covers an identifier.
+fn of_the_root(rt: &impl Abort) -> (Prefix, Entry) {
+    let root = Entry {
+        action: Action::NodeReferral,
+        servers: one(rt, LOOPBACK),
+        end: 18_446_744_073_709_551_615,
+    };
+    (everything(rt), root)
+}
+
+/// What `find` answers, by value.
+fn found<M: PrefixMap<Entry>>(
+    rt: &impl Abort,
+    cache: &mut Cache<M>,
+    millis: u64,
+    x: Xeid,
+) -> (Prefix, Entry) {
+    let (prefix, entry) = cache.find(at(rt, millis), x);
+    (prefix, *entry)
+}
+
+fn found_copied<M: PrefixMap<Entry>>(
+    rt: &impl Abort,
+    cache: &mut Cache<M>,
+    millis: u64,
+    x: Xeid,
+) -> (Prefix, Entry) {
+    cache.find_copied(at(rt, millis), x)
+}
+
+// Each call on a cache is made and judged in a function of its own, so that the proof of a worked example is short.
+
+/// What `save` answers; nothing where it is out of memory.
+fn tried<M: PrefixMap<Entry>>(
+    rt: &impl Abort,
     cache: &mut Cache<M>,
     millis: u64,
     referral: &ReferralRecord,
-) -> Result<Saved, Fail> {
-    Ok(
-        cache
-            .save(at(millis)?, referral)
-            .ok()
-            .ok_or("out of memory")?,
-    )
+) -> Option<Saved> {
+    cache.save(at(rt, millis), referral).ok()
+}
+
+fn answers<M: PrefixMap<Entry>>(
+    rt: &impl Abort,
+    cache: &mut Cache<M>,
+    millis: u64,
+    referral: &ReferralRecord,
+    saved: Saved,
+) {
+    assert_eq!(rt;
+        tried(rt, cache, millis, referral),
+        Some(saved),
+        "at {millis}"
+    );
+}
+
+fn saves<M: PrefixMap<Entry>>(
+    rt: &impl Abort,
+    cache: &mut Cache<M>,
+    millis: u64,
+    referral: ReferralRecord,
+) {
+    answers(rt, cache, millis, &referral, Saved::Saved);
+}
+
+fn finds<M: PrefixMap<Entry>>(
+    rt: &impl Abort,
+    cache: &mut Cache<M>,
+    millis: u64,
+    x: Xeid,
+    prefix: Prefix,
+) {
+    assert_eq!(rt; found(rt, cache, millis, x).0, prefix, "at {millis}");
+}
+
+fn finds_entry<M: PrefixMap<Entry>>(
+    rt: &impl Abort,
+    cache: &mut Cache<M>,
+    millis: u64,
+    x: Xeid,
+    entry: (Prefix, Entry),
+) {
+    assert_eq!(rt; found(rt, cache, millis, x), entry, "at {millis}");
+}
+
+fn finds_action<M: PrefixMap<Entry>>(
+    rt: &impl Abort,
+    cache: &mut Cache<M>,
+    millis: u64,
+    x: Xeid,
+    action: Action,
+) {
+    assert_eq!(rt;
+        found_copied(rt, cache, millis, x).1.action,
+        action,
+        "at {millis}"
+    );
+}
+
+fn finds_end<M: PrefixMap<Entry>>(
+    rt: &impl Abort,
+    cache: &mut Cache<M>,
+    millis: u64,
+    x: Xeid,
+    end: u64,
+) {
+    assert_eq!(rt;
+        found_copied(rt, cache, millis, x).1.end,
+        end,
+        "at {millis}"
+    );
+}
+
+/// So many entries are live.
+fn counts<M: PrefixMap<Entry>>(rt: &impl Abort, cache: &mut Cache<M>, millis: u64, count: usize) {
+    assert_eq!(rt; cache.len(at(rt, millis)), count, "at {millis}");
+}
+
+fn forgets<M: PrefixMap<Entry>>(rt: &impl Abort, cache: &mut Cache<M>, prefix: Prefix, went: bool) {
+    assert_eq!(rt; cache.forget(prefix), went, "{prefix:?}");
+}
+
+fn keeps_time<M: PrefixMap<Entry>>(rt: &impl Abort, cache: &Cache<M>, millis: u64) {
+    assert_eq!(rt; cache.time().millis(), millis);
 }
 
 #[test]
@@ -83,47 +212,37 @@ fn the_last_moment_is_the_last(rt: HostRuntime) {
     assert_eq!(rt; Moment::at(9_223_372_036_854_775_808), None);
 }
 
-fn battery<M: PrefixMap<Entry>>(alloc: Global, rt: &impl Abort) -> Result<(), Fail> {
-    referral_ends_after_a_day::<M>(alloc, rt)?;
-    what_is_not_saved::<M>(alloc, rt)?;
-    negative_entries_end_after_a_quarter::<M>(alloc, rt)?;
-    longest_live_entry_is_found::<M>(alloc, rt)?;
-    time_never_goes_back::<M>(alloc, rt)?;
+fn battery<M: PrefixMap<Entry>>(alloc: Global, rt: &impl Abort) {
+    referral_ends_after_a_day::<M>(alloc, rt);
+    what_is_not_saved::<M>(alloc, rt);
+    negative_entries_end_after_a_quarter::<M>(alloc, rt);
+    longest_live_entry_is_found::<M>(alloc, rt);
+    time_never_goes_back::<M>(alloc, rt);
     the_root_stays::<M>(alloc, rt)
 }
 
-fn referral_ends_after_a_day<M: PrefixMap<Entry>>(
-    alloc: Global,
-    rt: &impl Abort,
-) -> Result<(), Fail> {
-    let mut cache = rooted::<M>(alloc)?;
-    let ten = block(TEN, 8)?;
-    let referral = record(
-        Action::NodeReferral,
-        ten,
-        4_294_967_295,
-        one(Locator::V4(0x7f00_000a))?,
-    );
-    assert_eq!(rt; save(&mut cache, 0, &referral)?, Saved::Saved);
+fn referral_ends_after_a_day<M: PrefixMap<Entry>>(alloc: Global, rt: &impl Abort) {
+    let mut cache = rooted::<M>(alloc, rt);
+    let ten = block(rt, TEN, 8);
+    let servers = one(rt, Locator::V4(0x7f00_000a));
+    let referral = record(Action::NodeReferral, ten, 4_294_967_295, servers);
+    saves(rt, &mut cache, 0, referral);
     let kept = Entry {
         action: Action::NodeReferral,
-        servers: one(Locator::V4(0x7f00_000a))?,
+        servers,
         end: 86_400_000,
     };
-    assert_eq!(rt; cache.find(at(86_399_999)?, v4(TEN + 7)), (ten, &kept));
-    assert_eq!(rt; cache.len(at(86_399_999)?), 1);
-    let (prefix, root) = cache.find(at(86_400_000)?, v4(TEN + 7));
-    assert_eq!(rt; prefix, Prefix::range(0, 0)?);
-    assert_eq!(rt; root.servers.as_slice(), [LOOPBACK].as_slice());
-    assert_eq!(rt; cache.len(at(86_400_000)?), 0);
-    Ok(())
+    finds_entry(rt, &mut cache, 86_399_999, v4(TEN + 7), (ten, kept));
+    counts(rt, &mut cache, 86_399_999, 1);
+    finds_entry(rt, &mut cache, 86_400_000, v4(TEN + 7), of_the_root(rt));
+    counts(rt, &mut cache, 86_400_000, 0);
 }
 
-fn what_is_not_saved<M: PrefixMap<Entry>>(alloc: Global, rt: &impl Abort) -> Result<(), Fail> {
-    let mut cache = rooted::<M>(alloc)?;
-    let everything = Prefix::range(0, 0)?;
-    let ten = block(TEN, 8)?;
-    let servers = one(Locator::V4(0x7f00_000a))?;
+fn what_is_not_saved<M: PrefixMap<Entry>>(alloc: Global, rt: &impl Abort) {
+    let mut cache = rooted::<M>(alloc, rt);
+    let everything = everything(rt);
+    let ten = block(rt, TEN, 8);
+    let servers = one(rt, Locator::V4(0x7f00_000a));
     let refused = [
         record(Action::NodeReferral, ten, 0, servers),
         record(Action::NodeReferral, everything, 1440, servers),
@@ -136,123 +255,97 @@ fn what_is_not_saved<M: PrefixMap<Entry>>(alloc: Global, rt: &impl Abort) -> Res
         record(Action::NotAuthoritative, ten, 1440, servers),
     ];
     for referral in &refused {
-        assert_eq!(rt; save(&mut cache, 0, referral)?, Saved::NotSaved);
+        answers(rt, &mut cache, 0, referral, Saved::NotSaved);
     }
-    assert_eq!(rt; cache.len(at(0)?), 0);
-    assert_eq!(rt;
-        save(&mut cache, 0, &bare(Action::DelegationHole, everything, 15))?,
-        Saved::Saved
+    counts(rt, &mut cache, 0, 0);
+    saves(
+        rt,
+        &mut cache,
+        0,
+        bare(Action::DelegationHole, everything, 15),
     );
-    let (prefix, entry) = cache.find(at(0)?, v4(TEN));
-    assert_eq!(rt;
-        (prefix, entry.action),
-        (everything, Action::DelegationHole)
-    );
-    Ok(())
-}
-
-fn negative_entries_end_after_a_quarter<M: PrefixMap<Entry>>(
-    alloc: Global,
-    rt: &impl Abort,
-) -> Result<(), Fail> {
-    let mut cache = rooted::<M>(alloc)?;
-    let ten = block(TEN, 8)?;
-    let eleven = block(ELEVEN, 8)?;
-    assert_eq!(rt;
-        save(&mut cache, 0, &bare(Action::DelegationHole, ten, 60))?,
-        Saved::Saved
-    );
-    assert_eq!(rt;
-        save(&mut cache, 0, &bare(Action::MsNotRegistered, eleven, 1))?,
-        Saved::Saved
-    );
-    assert_eq!(rt; cache.find_copied(at(0)?, v4(TEN)).1.end, 900_000);
-    assert_eq!(rt; cache.find_copied(at(0)?, v4(ELEVEN)).1.end, 60_000);
-    assert_eq!(rt; cache.len(at(59_999)?), 2);
-    assert_eq!(rt; cache.len(at(60_000)?), 1);
-    assert_eq!(rt; cache.len(at(899_999)?), 1);
-    assert_eq!(rt; cache.len(at(900_000)?), 0);
-    Ok(())
-}
-
-fn longest_live_entry_is_found<M: PrefixMap<Entry>>(
-    alloc: Global,
-    rt: &impl Abort,
-) -> Result<(), Fail> {
-    let mut cache = rooted::<M>(alloc)?;
-    let ten = block(TEN, 8)?;
-    let half = block(TEN, 9)?;
-    let servers = one(Locator::V4(0x7f00_000a))?;
-    let referral = record(Action::NodeReferral, ten, 1440, servers);
-    assert_eq!(rt; save(&mut cache, 0, &referral)?, Saved::Saved);
-    assert_eq!(rt;
-        save(&mut cache, 0, &bare(Action::DelegationHole, half, 15))?,
-        Saved::Saved
-    );
-    assert_eq!(rt; cache.find(at(0)?, v4(TEN)).0, half);
-    assert_eq!(rt; cache.find(at(899_999)?, v4(TEN)).0, half);
-    assert_eq!(rt; cache.find(at(900_000)?, v4(TEN)).0, ten);
-    assert_eq!(rt;
-        save(&mut cache, 900_000, &bare(Action::DelegationHole, ten, 1))?,
-        Saved::Saved
-    );
-    assert_eq!(rt; cache.len(at(900_000)?), 1);
-    assert_eq!(rt;
-        cache.find_copied(at(900_000)?, v4(TEN)).1.action,
-        Action::DelegationHole
-    );
-    assert_eq!(rt; cache.forget(half), false);
-    assert_eq!(rt; cache.forget(ten), true);
-    assert_eq!(rt; cache.forget(ten), false);
-    assert_eq!(rt; cache.find(at(900_000)?, v4(TEN)).0, Prefix::range(0, 0)?);
-    Ok(())
-}
-
-fn time_never_goes_back<M: PrefixMap<Entry>>(alloc: Global, rt: &impl Abort) -> Result<(), Fail> {
-    let mut cache = rooted::<M>(alloc)?;
-    let ten = block(TEN, 8)?;
-    assert_eq!(rt;
-        save(&mut cache, 1_000, &bare(Action::DelegationHole, ten, 1))?,
-        Saved::Saved
-    );
-    cache.advance(at(61_000)?);
-    assert_eq!(rt; cache.find(at(1_000)?, v4(TEN)).0, Prefix::range(0, 0)?);
-    assert_eq!(rt; cache.forget(ten), false);
-    assert_eq!(rt;
-        save(&mut cache, 0, &bare(Action::DelegationHole, ten, 1))?,
-        Saved::Saved
-    );
-    assert_eq!(rt; cache.find_copied(at(0)?, v4(TEN)).1.end, 121_000);
-    assert_eq!(rt; cache.time().millis(), 61_000);
-    Ok(())
-}
-
-fn the_root_stays<M: PrefixMap<Entry>>(alloc: Global, rt: &impl Abort) -> Result<(), Fail> {
-    let mut cache = rooted::<M>(alloc)?;
-    let everything = Prefix::range(0, 0)?;
-    assert_eq!(rt; cache.forget(everything), false);
-    cache.purge(at(LAST_MOMENT)?);
-    assert_eq!(rt; cache.len(at(LAST_MOMENT)?), 0);
-    let root = Entry {
-        action: Action::NodeReferral,
-        servers: one(LOOPBACK)?,
-        end: 18_446_744_073_709_551_615,
+    let hole = Entry {
+        action: Action::DelegationHole,
+        servers: LocatorSet::none(),
+        end: 900_000,
     };
-    assert_eq!(rt; cache.find(at(LAST_MOMENT)?, v4(TEN)), (everything, &root));
-    assert_eq!(rt; cache.roots(), one(LOOPBACK)?);
-    assert_eq!(rt;
-        save(&mut cache, 0, &bare(Action::DelegationHole, everything, 15))?,
-        Saved::Saved
+    finds_entry(rt, &mut cache, 0, v4(TEN), (everything, hole));
+}
+
+fn negative_entries_end_after_a_quarter<M: PrefixMap<Entry>>(alloc: Global, rt: &impl Abort) {
+    let mut cache = rooted::<M>(alloc, rt);
+    let ten = block(rt, TEN, 8);
+    let eleven = block(rt, ELEVEN, 8);
+    saves(rt, &mut cache, 0, bare(Action::DelegationHole, ten, 60));
+    saves(rt, &mut cache, 0, bare(Action::MsNotRegistered, eleven, 1));
+    finds_end(rt, &mut cache, 0, v4(TEN), 900_000);
+    finds_end(rt, &mut cache, 0, v4(ELEVEN), 60_000);
+    counts(rt, &mut cache, 59_999, 2);
+    counts(rt, &mut cache, 60_000, 1);
+    counts(rt, &mut cache, 899_999, 1);
+    counts(rt, &mut cache, 900_000, 0);
+}
+
+fn longest_live_entry_is_found<M: PrefixMap<Entry>>(alloc: Global, rt: &impl Abort) {
+    let mut cache = rooted::<M>(alloc, rt);
+    let ten = block(rt, TEN, 8);
+    let half = block(rt, TEN, 9);
+    let servers = one(rt, Locator::V4(0x7f00_000a));
+    saves(
+        rt,
+        &mut cache,
+        0,
+        record(Action::NodeReferral, ten, 1440, servers),
     );
-    assert_eq!(rt;
-        cache.find_copied(at(0)?, v4(TEN)).1.end,
-        LAST_MOMENT + 15 * MINUTE
+    saves(rt, &mut cache, 0, bare(Action::DelegationHole, half, 15));
+    finds(rt, &mut cache, 0, v4(TEN), half);
+    finds(rt, &mut cache, 899_999, v4(TEN), half);
+    finds(rt, &mut cache, 900_000, v4(TEN), ten);
+    saves(
+        rt,
+        &mut cache,
+        900_000,
+        bare(Action::DelegationHole, ten, 1),
     );
-    Ok(())
+    counts(rt, &mut cache, 900_000, 1);
+    finds_action(rt, &mut cache, 900_000, v4(TEN), Action::DelegationHole);
+    forgets(rt, &mut cache, half, false);
+    forgets(rt, &mut cache, ten, true);
+    forgets(rt, &mut cache, ten, false);
+    finds(rt, &mut cache, 900_000, v4(TEN), everything(rt));
+}
+
+fn time_never_goes_back<M: PrefixMap<Entry>>(alloc: Global, rt: &impl Abort) {
+    let mut cache = rooted::<M>(alloc, rt);
+    let ten = block(rt, TEN, 8);
+    saves(rt, &mut cache, 1_000, bare(Action::DelegationHole, ten, 1));
+    cache.advance(at(rt, 61_000));
+    finds(rt, &mut cache, 1_000, v4(TEN), everything(rt));
+    forgets(rt, &mut cache, ten, false);
+    saves(rt, &mut cache, 0, bare(Action::DelegationHole, ten, 1));
+    finds_end(rt, &mut cache, 0, v4(TEN), 121_000);
+    keeps_time(rt, &cache, 61_000);
+}
+
+fn the_root_stays<M: PrefixMap<Entry>>(alloc: Global, rt: &impl Abort) {
+    let mut cache = rooted::<M>(alloc, rt);
+    let everything = everything(rt);
+    forgets(rt, &mut cache, everything, false);
+    cache.purge(at(rt, LAST_MOMENT));
+    counts(rt, &mut cache, LAST_MOMENT, 0);
+    finds_entry(rt, &mut cache, LAST_MOMENT, v4(TEN), of_the_root(rt));
+    assert_eq!(rt; cache.roots(), one(rt, LOOPBACK));
+    saves(
+        rt,
+        &mut cache,
+        0,
+        bare(Action::DelegationHole, everything, 15),
+    );
+    finds_end(rt, &mut cache, 0, v4(TEN), LAST_MOMENT + 15 * MINUTE);
 }
 
 #[test]
-fn a_cache_on_a_list_answers_the_worked_values(rt: HostRuntime) -> Result<(), Fail> {
+fn a_cache_on_a_list_answers_the_worked_values(rt: HostRuntime) {
     battery::<ListMap<Entry>>(rt.alloc(), &rt)
 }
 
@@ -276,32 +369,35 @@ impl Dice {
         }
     }
 
-    fn of<T: Copy>(&mut self, items: &[T]) -> Result<T, Fail> {
+    fn of<T: Copy>(&mut self, rt: &impl Abort, items: &[T]) -> T {
         let place = self.below(items.len());
-        match items.get(place) {
-            Some(item) => Ok(*item),
-            None => Err("nothing to choose from")?,
-        }
+        *items.get(place).expect(rt, "nothing to choose from")
     }
 }
 
 /// A record of one of a few prefixes, of any action.
-fn any_record(dice: &mut Dice, prefix: Prefix) -> Result<ReferralRecord, Fail> {
-    let action = dice.of(&[
-        Action::NodeReferral,
-        Action::MsReferral,
-        Action::MsAck,
-        Action::MsNotRegistered,
-        Action::DelegationHole,
-        Action::NotAuthoritative,
-    ])?;
-    let ttl = dice.of(&[0, 1, 2, 14, 15, 16, 1439, 1440, 1441, 4_294_967_295])?;
-    let servers = dice.of(&[
-        LocatorSet::none(),
-        one(Locator::V4(0x7f00_000a))?,
-        one(Locator::V6(1))?,
-    ])?;
-    Ok(record(action, prefix, ttl, servers))
+fn any_record(rt: &impl Abort, dice: &mut Dice, prefix: Prefix) -> ReferralRecord {
+    let action = dice.of(
+        rt,
+        &[
+            Action::NodeReferral,
+            Action::MsReferral,
+            Action::MsAck,
+            Action::MsNotRegistered,
+            Action::DelegationHole,
+            Action::NotAuthoritative,
+        ],
+    );
+    let ttl = dice.of(rt, &[0, 1, 2, 14, 15, 16, 1439, 1440, 1441, 4_294_967_295]);
+    let servers = dice.of(
+        rt,
+        &[
+            LocatorSet::none(),
+            one(rt, Locator::V4(0x7f00_000a)),
+            one(rt, Locator::V6(1)),
+        ],
+    );
+    record(action, prefix, ttl, servers)
 }
 
 /// The prefixes and the identifiers that the random calls speak of.
@@ -311,23 +407,23 @@ struct Pool {
     xeids: [Xeid; 6],
 }
 
-fn few_prefixes() -> Result<Pool, Fail> {
+fn few_prefixes(rt: &impl Abort) -> Pool {
     let documentation = Locator::V6(0x2001_0db8_0000_0000_0000_0000_0000_0000);
     let host = Xeid {
         iid: 0,
         address: documentation,
     };
-    Ok(Pool {
+    Pool {
         prefixes: [
-            Prefix::range(0, 0)?,
-            Prefix::range(0, 31)?,
-            Prefix::range(0, 32)?,
-            block(0, 0)?,
-            block(TEN, 8)?,
-            block(TEN, 9)?,
-            block(TEN, 32)?,
-            block(ELEVEN, 8)?,
-            Prefix::block(0, documentation, 32)?,
+            everything(rt),
+            range(rt, 0, 31),
+            range(rt, 0, 32),
+            block(rt, 0, 0),
+            block(rt, TEN, 8),
+            block(rt, TEN, 9),
+            block(rt, TEN, 32),
+            block(rt, ELEVEN, 8),
+            block_of(rt, 0, documentation, 32),
             Prefix::host(host),
         ],
         xeids: [
@@ -341,7 +437,7 @@ fn few_prefixes() -> Result<Pool, Fail> {
                 address: Locator::V4(TEN),
             },
         ],
-    })
+    }
 }
 
 /// One random call on a cache and on a plain one, whose answers are to agree.
@@ -351,55 +447,44 @@ fn one_call<M: PrefixMap<Entry>>(
     cache: &mut Cache<M>,
     plain: &mut Plain,
     now: u64,
-) -> Result<(), Fail> {
-    let pool = few_prefixes()?;
-    let prefix = dice.of(&pool.prefixes)?;
+) {
+    let pool = few_prefixes(rt);
+    let prefix = dice.of(rt, &pool.prefixes);
     match dice.below(8) {
         0 => {
             plain.advance(now);
-            assert_eq!(rt; cache.len(at(now)?), plain.len());
+            counts(rt, cache, now, plain.len());
         }
         1 => {
             plain.advance(now);
-            cache.purge(at(now)?);
+            cache.purge(at(rt, now));
         }
-        2 => assert_eq!(rt; cache.forget(prefix), plain.forget(prefix)),
+        2 => forgets(rt, cache, prefix, plain.forget(prefix)),
         3 | 4 => {
             plain.advance(now);
-            let x = dice.of(&pool.xeids)?;
-            assert_eq!(rt; cache.find_copied(at(now)?, x), plain.find(x));
+            let x = dice.of(rt, &pool.xeids);
+            assert_eq!(rt; found_copied(rt, cache, now, x), plain.find(x));
         }
         _ => {
             plain.advance(now);
-            let referral = any_record(dice, prefix)?;
-            let saved = plain.save(&referral).ok().ok_or("out of memory")?;
-            assert_eq!(rt; save(cache, now, &referral)?, saved);
+            let referral = any_record(rt, dice, prefix);
+            let saved = plain.save(&referral).expect(rt, "out of memory");
+            answers(rt, cache, now, &referral, saved);
         }
     }
-    Ok(())
 }
 
 /// After each call all identifiers are found alike.
-fn all_found_alike<M: PrefixMap<Entry>>(
-    rt: &impl Abort,
-    cache: &mut Cache<M>,
-    plain: &mut Plain,
-) -> Result<(), Fail> {
-    for x in &few_prefixes()?.xeids {
-        let (prefix, entry) = cache.find(at(0)?, *x);
-        assert_eq!(rt; (prefix, *entry), plain.find(*x));
+fn all_found_alike<M: PrefixMap<Entry>>(rt: &impl Abort, cache: &mut Cache<M>, plain: &mut Plain) {
+    for x in &few_prefixes(rt).xeids {
+        finds_entry(rt, cache, 0, *x, plain.find(*x));
     }
-    Ok(())
 }
 
-fn random_calls<M: PrefixMap<Entry>>(
-    alloc: Global,
-    rt: &impl Abort,
-    seed: u64,
-) -> Result<(), Fail> {
+fn random_calls<M: PrefixMap<Entry>>(alloc: Global, rt: &impl Abort, seed: u64) {
     let mut dice = Dice { state: seed };
-    let mut cache = rooted::<M>(alloc)?;
-    let mut plain = Plain::new(alloc, one(LOOPBACK)?);
+    let mut cache = rooted::<M>(alloc, rt);
+    let mut plain = Plain::new(alloc, one(rt, LOOPBACK));
     let waits = [
         0,
         0,
@@ -413,91 +498,88 @@ fn random_calls<M: PrefixMap<Entry>>(
     ];
     let mut now: u64 = 0;
     for _turn in 0..2_000 {
-        now = now.saturating_add(dice.of(&waits)?).min(LAST_MOMENT);
-        let back = dice.of(&[0, 0, 0, 1, MINUTE, 1440 * MINUTE])?;
+        now = now.saturating_add(dice.of(rt, &waits)).min(LAST_MOMENT);
+        let back = dice.of(rt, &[0, 0, 0, 1, MINUTE, 1440 * MINUTE]);
         one_call(
             rt,
             &mut dice,
             &mut cache,
             &mut plain,
             now.saturating_sub(back),
-        )?;
-        all_found_alike(rt, &mut cache, &mut plain)?;
+        );
+        all_found_alike(rt, &mut cache, &mut plain);
     }
-    Ok(())
 }
 
 #[test]
-fn a_cache_on_a_list_answers_as_a_plain_one(rt: HostRuntime) -> Result<(), Fail> {
+fn a_cache_on_a_list_answers_as_a_plain_one(rt: HostRuntime) {
     for seed in 1..9 {
-        random_calls::<ListMap<Entry>>(rt.alloc(), &rt, seed)?;
+        random_calls::<ListMap<Entry>>(rt.alloc(), &rt, seed);
     }
-    Ok(())
 }
 
 /// A full table at moment 0, of entries that end at 60,000.
-fn full_table<M: PrefixMap<Entry>>(alloc: Global, rt: &impl Abort) -> Result<(), Fail> {
-    let mut cache = rooted::<M>(alloc)?;
+fn full_table<M: PrefixMap<Entry>>(alloc: Global, rt: &impl Abort) {
+    let mut cache = rooted::<M>(alloc, rt);
     for number in 0..65_536 {
         let host = Prefix::host(v4(number));
-        assert_eq!(rt;
-            save(&mut cache, 0, &bare(Action::MsNotRegistered, host, 1))?,
-            Saved::Saved
-        );
+        saves(rt, &mut cache, 0, bare(Action::MsNotRegistered, host, 1));
     }
-    assert_eq!(rt; cache.len(at(0)?), 65_536);
+    counts(rt, &mut cache, 0, 65_536);
     let more = bare(Action::MsNotRegistered, Prefix::host(v4(65_536)), 1);
-    assert_eq!(rt; save(&mut cache, 59_999, &more)?, Saved::Full);
-    assert_eq!(rt; cache.len(at(59_999)?), 65_536);
-    let again = bare(Action::DelegationHole, Prefix::host(v4(7)), 1);
-    assert_eq!(rt; save(&mut cache, 59_999, &again)?, Saved::Saved);
-    assert_eq!(rt; cache.len(at(59_999)?), 65_536);
-    assert_eq!(rt; cache.forget(Prefix::host(v4(7))), true);
-    assert_eq!(rt; save(&mut cache, 60_000, &more)?, Saved::Saved);
-    assert_eq!(rt; cache.len(at(60_000)?), 1);
-    Ok(())
+    answers(rt, &mut cache, 59_999, &more, Saved::Full);
+    counts(rt, &mut cache, 59_999, 65_536);
+    let seventh = Prefix::host(v4(7));
+    saves(
+        rt,
+        &mut cache,
+        59_999,
+        bare(Action::DelegationHole, seventh, 1),
+    );
+    counts(rt, &mut cache, 59_999, 65_536);
+    forgets(rt, &mut cache, seventh, true);
+    saves(rt, &mut cache, 60_000, more);
+    counts(rt, &mut cache, 60_000, 1);
 }
 
 /// Under `rt try --test --fail-alloc N` the allocation of `save` is refused.
-fn a_refused_save<M: PrefixMap<Entry>>(alloc: Global, rt: &impl Abort) -> Result<(), Fail> {
-    let mut cache = rooted::<M>(alloc)?;
-    let hole = bare(Action::DelegationHole, block(TEN, 8)?, 15);
-    match cache.save(at(1_000)?, &hole) {
-        Ok(saved) => assert_eq!(rt; saved, Saved::Saved),
-        Err(_refused) => {
-            assert_eq!(rt; cache.time().millis(), 1_000);
-            assert_eq!(rt; cache.len(at(0)?), 0);
-            assert_eq!(rt; save(&mut cache, 0, &hole)?, Saved::Saved);
+fn a_refused_save<M: PrefixMap<Entry>>(alloc: Global, rt: &impl Abort) {
+    let mut cache = rooted::<M>(alloc, rt);
+    let hole = bare(Action::DelegationHole, block(rt, TEN, 8), 15);
+    match tried(rt, &mut cache, 1_000, &hole) {
+        Some(saved) => assert_eq!(rt; saved, Saved::Saved),
+        None => {
+            keeps_time(rt, &cache, 1_000);
+            counts(rt, &mut cache, 0, 0);
+            saves(rt, &mut cache, 0, hole);
         }
     }
-    assert_eq!(rt; cache.len(at(0)?), 1);
-    Ok(())
+    counts(rt, &mut cache, 0, 1);
 }
 
 #[test]
-fn a_refused_save_leaves_the_cache_on_a_list_as_it_was(rt: HostRuntime) -> Result<(), Fail> {
+fn a_refused_save_leaves_the_cache_on_a_list_as_it_was(rt: HostRuntime) {
     a_refused_save::<ListMap<Entry>>(rt.alloc(), &rt)
 }
 
 #[test]
-fn a_cache_on_a_trie_answers_the_worked_values(rt: HostRuntime) -> Result<(), Fail> {
+fn a_cache_on_a_trie_answers_the_worked_values(rt: HostRuntime) {
     battery::<TrieMap<Entry>>(rt.alloc(), &rt)
 }
 
 #[test]
-fn a_cache_on_a_trie_answers_as_a_plain_one(rt: HostRuntime) -> Result<(), Fail> {
+fn a_cache_on_a_trie_answers_as_a_plain_one(rt: HostRuntime) {
     for seed in 1..9 {
-        random_calls::<TrieMap<Entry>>(rt.alloc(), &rt, seed)?;
+        random_calls::<TrieMap<Entry>>(rt.alloc(), &rt, seed);
     }
-    Ok(())
 }
 
 #[test]
-fn a_full_table_on_a_trie(rt: HostRuntime) -> Result<(), Fail> {
+fn a_full_table_on_a_trie(rt: HostRuntime) {
     full_table::<TrieMap<Entry>>(rt.alloc(), &rt)
 }
 
 #[test]
-fn a_refused_save_leaves_the_cache_on_a_trie_as_it_was(rt: HostRuntime) -> Result<(), Fail> {
+fn a_refused_save_leaves_the_cache_on_a_trie_as_it_was(rt: HostRuntime) {
     a_refused_save::<TrieMap<Entry>>(rt.alloc(), &rt)
 }

@@ -104,8 +104,8 @@ lines_from number (event ∷ events) =
 -- ---- the run
 
 -- What has happened in a run of these steps, by a new resolver with the root locators of the register, over its
--- servers: each answer is the assignment of the identifier of its own ask, each request that is delivered has its
--- reply, no ticket ends twice, and nothing is refused, ignored or given up without its reason.
+-- servers. Each answer is the assignment of the identifier of its own ask. Each request that is delivered has its
+-- reply, and no ticket ends twice. Nothing is refused, ignored or given up without its reason.
 pub record IsRunOf (r : Register) (me_ : Locator) (seed : ℕ) (steps : List Step) (past : List Line) : Type 0 where
   pub transcript : Transcript
   pub last : State
@@ -143,14 +143,13 @@ IsReplayOf opens remaining register script me_ seed text =
     (source : Option _) × opens register source × OfItsRegister remaining source (λ r.
     (other : Option _) × opens script other × OfItsScript remaining other (λ steps. IsRunText r me_ seed steps text))
 
--- why there is none: the register, then the script, or want of memory
+-- why there is none: the register, then the script; memory may be wanted once the files are open
 abbrev pub IsWhyNotReplayed : {F : Type 0} → (List ℕ → Option F → Type 0) → (F → Option (List ℕ)) → List ℕ → List ℕ
     → Refusal → Type 0
 IsWhyNotReplayed opens remaining register script why =
-    (why ≡ OutOfMemory)
-    ⊎ ((source : Option _) × opens register source × (IsWhyNoRegister remaining source register why
+    (source : Option _) × opens register source × (IsWhyNoRegister remaining source register why
     ⊎ OfItsRegister remaining source (λ r. (other : Option _) × opens script other
-    × IsWhyNoScript remaining other script why)))
+    × IsWhyNoScript remaining other script why))
 
 -- ---- the command
 

@@ -38,7 +38,7 @@ pub record IsRefusedAt (text : List ℕ) (number : ℕ) : Type 0 where
   pub here : (step : Step) → ¬ (SpellsStep line step)
   pub counted : number ≡ length front + 1
 
--- Bytes spell one list of steps at most; those that spell one have no such line, and the others have one.
+-- Bytes spell one list of steps at most. Those that spell one have no such line, and no bytes have two.
 pub record ScriptsAreClear : Type 0 where
   pub one : (text : List ℕ) (a b : List Step) → SpellsScript text a → SpellsScript text b → a ≡ b
   pub apart : (text : List ℕ) (steps : List Step) (number : ℕ) → SpellsScript text steps → IsRefusedAt text number → ⊥

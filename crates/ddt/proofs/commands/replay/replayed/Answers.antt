@@ -7,7 +7,7 @@ pub returns-in_err-steps-clause-refused : goal.returns-in_err-steps-clause-refus
 returns-in_err-steps-clause-refused g c =
     let accepted = c.in_ok-register.ensures in
     let e : c.from_residual-in_err-steps.result ≡ Err c.in_err-steps.field-0.0 = search rules in
-    rw e (inr (
+    rw e (
       c.open_file.result,
       record { shown = c.args.asked.now.register; shows = refl; says = record { met = c.open_file.ensures } },
       inr (of_register _ _ _ c.in_ok-register.register (λ e. search (rules, accepted.closed e)) accepted.accepted (
@@ -15,7 +15,7 @@ returns-in_err-steps-clause-refused g c =
         record { shown = c.args.asked.now.script; shows = refl; says = record { met = c.open_file-2.ensures } },
         c.in_err-steps.ensures.refused,
       )),
-    ))
+    )
 
 pub returns-clause-text : goal.returns-clause-text
 returns-clause-text g c =

@@ -20,6 +20,7 @@ use Rattle.ddt_config.specs.Table.{Outline}
 use Rattle.ddt_sim.specs.declared.schedule.Transcript.{Transcript}
 use Rattle.ddt_sim.specs.Compiled.{AreCompiled, configs_of}
 use Rattle.ddt_sim.specs.Schedules.{StartsSound, AnswersAreRight, RepliesAreRight, TicketsEndOnce, FailuresAreRight}
+use Rattle.ddt_sim.specs.Tries.{NoRepliesAreRight}
 use Rattle.ddt_sim.specs.Sound.{NewResolversAreSound}
 use Rattle.ddt_lines.specs.Lines.{ended}
 use Rattle.ddt_words.specs.Call.{Call}
@@ -127,8 +128,8 @@ module _ (law : NewResolversAreSound) (r : Register) (me_ : Locator) (seed : ℕ
   begun = new ∙ ap (λ (l : List Locator). fresh l me_ seed) at_root
 
   pub told_run : (past : List Line) × Tells (AreCompiled servers) start steps t after past → AnswersAreRight (AreCompiled servers) start steps t after → RepliesAreRight (AreCompiled servers) start steps t after
-      → TicketsEndOnce (AreCompiled servers) start steps t after → FailuresAreRight (AreCompiled servers) start steps t after → (text : List ℕ) → text ≡ lines_from 0 t.events → IsRunText r me_ seed steps text
-  told_run (past, tells) right replied ends fails text is = (
+      → TicketsEndOnce (AreCompiled servers) start steps t after → FailuresAreRight (AreCompiled servers) start steps t after → NoRepliesAreRight (AreCompiled servers) start steps t after → (text : List ℕ) → text ≡ lines_from 0 t.events → IsRunText r me_ seed steps text
+  told_run (past, tells) right replied ends fails vain text is = (
     past,
     record {
       transcript = t;
@@ -139,6 +140,7 @@ module _ (law : NewResolversAreSound) (r : Register) (me_ : Locator) (seed : ℕ
       replies = replied r compiled starts past tells;
       once = ends r compiled starts past tells;
       failures = fails r compiled starts past tells;
+      no_reply = vain r compiled starts past tells;
     },
     is ∙ ap (lines_from 0) tells.events_are ∙ sym (counted _ start past tells.last tells.history).lines,
   )

@@ -16,7 +16,7 @@ use Rattle.ddt_resolver.specs.declared.answers.Ignored.{Ignored as WhyIgnored}
 use Rattle.ddt_resolver.specs.declared.answers.Ignored.TheVariants.{Undecodable, UnknownNonce, WrongSource, Late, NotCovering, NoServers}
 use Rattle.ddt_resolver.specs.declared.answers.Ticked.TheVariants as ticked_as
 use Rattle.ddt_resolver.specs.declared.answers.Why.{Why}
-use Rattle.ddt_resolver.specs.State.{fresh}
+use Rattle.ddt_resolver.specs.State.{State, fresh}
 use Rattle.ddt_sim.specs.declared.schedule.Step.{Step}
 use Rattle.ddt_sim.specs.declared.schedule.Event.{Event}
 use Rattle.ddt_sim.specs.declared.schedule.Event.TheVariants.{Asked, Refused, Replied, Silent, Heard, Passed, Ticked, Nothing}
@@ -24,8 +24,8 @@ use Rattle.ddt_sim.specs.declared.schedule.Transcript.{Transcript}
 use Rattle.ddt_sim.specs.Compiled.{AreCompiled, configs_of}
 use Rattle.ddt_sim.specs.History.{Line, Each, Tells as TellsRun}
 use Rattle.ddt_sim.specs.Schedules.{IsRightAnswer, IsRightReply, IsOnce, IsRightFailure}
+use Rattle.ddt_sim.specs.Tries.{IsRightNoReply}
 use Rattle.ddt_sim.specs.World.{request_at}
-use Rattle.ddt_resolver.specs.State.{State}
 use Rattle.ddt_lines.specs.Lines.{ended, outcome_text}
 use Rattle.ddt_words.specs.Call.{Call, value}
 use Rattle.ddt.specs.declared.refusal.Refusal.{Refusal}
@@ -114,6 +114,7 @@ pub record IsRunOf (r : Register) (me_ : Locator) (seed : ℕ) (steps : List Ste
   pub replies : Each (IsRightReply r) past
   pub once : Each IsOnce past
   pub failures : Each IsRightFailure past
+  pub no_reply : Each (IsRightNoReply r) past
 
 -- the lines of such a run
 abbrev pub IsRunText : Register → Locator → ℕ → List Step → List ℕ → Type 0

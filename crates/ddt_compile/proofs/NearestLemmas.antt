@@ -7,7 +7,7 @@ use Rattle.std.proofs.lemmas.Bool.{cases_lt, and_parts, and_from, or_cases, both
 use Rattle.std.proofs.lemmas.List.{take-append-drop}
 use Rattle.ddt_path.specs.declared.record.Role.TheVariants.{Ms}
 use Rattle.ddt_path.specs.Covers.{covers, is_same_path, is_strictly_below}
-use Rattle.ddt_path.proofs.CoverLemmas.{covers_self, length-covered, covers-append}
+use Rattle.ddt_path.proofs.CoverLemmas.{covers_self, length-covered, take-covered, covers-append}
 use Rattle.ddt_register.specs.declared.zone.Zone.{Zone}
 use Rattle.ddt_trie.specs.PrefixMap.{path_cmp}
 use Rattle.ddt_register.specs.declared.site.Site.{Site}
@@ -36,7 +36,7 @@ any_in test (y ∷ xs) e =
       | inr later ↦ let found = any_in test xs later in (found.0, inr found.1, found.2)
     ]
 
-pub in_any : {A : Type 0} (test : A → Bool) (xs : List A) (x : A) → IsIn x xs → test x ≡ true → list_any test xs ≡ true
+in_any : {A : Type 0} (test : A → Bool) (xs : List A) (x : A) → IsIn x xs → test x ≡ true → list_any test xs ≡ true
 in_any test xs x k e = some_case (list_any test xs) refl
   where
     some_case : (b : Bool) → list_any test xs ≡ b → list_any test xs ≡ true

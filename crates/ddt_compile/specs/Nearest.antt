@@ -1,25 +1,15 @@
 -- The nearest of some prefixes above a path: the longest that covers it and has fewer digits than some number.
-use Rattle.std.specs.Prelude.{◌&&◌, ◌≡◌, ℕ, ◌<◌, ◌≤◌, true, List, length, Option, MatchOption}
+use Rattle.std.specs.Prelude.{◌≡◌, ℕ, ◌<◌, ◌≤◌, true, List, length, Option, MatchOption}
 use Rattle.std.specs.List.{list_any}
-use Rattle.std.specs.Ordering.{nat_cmp}
-use Rattle.std.specs.Cmp.Lexicographic.{slice_cmp}
-use Rattle.std.specs.BTreeSet.{BTreeSet, contains}
 use Rattle.std.specs.FinMap.{FinMap, contains_key}
 use Rattle.ddt_path.specs.Covers.{covers, is_same_path}
 use Rattle.ddt_register.specs.declared.zone.Zone.{Zone}
-use Rattle.ddt_register.specs.declared.group.Group.{Group}
-use Rattle.ddt_check.specs.Zones.{is_served_by}
 use Rattle.ddt_trie.specs.PrefixMap.{path_cmp}
 
 -- the map has the prefixes of the zones, and no others
 abbrev pub HasPrefixesOf : FinMap path_cmp ℕ → List Zone → Type 0
 HasPrefixesOf prefixes zones = (p : List ℕ) → contains_key prefixes p ≡ list_any (λ z.
     is_same_path p z.prefix) zones
-
--- the set has the prefixes of the zones that the group serves, and no others
-abbrev pub HasOwnPrefixes : BTreeSet (List ℕ) → Group → List Zone → Type 0
-HasOwnPrefixes own g zones = (p : List ℕ) → contains (slice_cmp nat_cmp) own p ≡ list_any (λ z.
-    is_served_by g z && is_same_path p z.prefix) zones
 
 -- q is one of the prefixes, covers x, and has fewer than n digits
 abbrev pub IsAbove : FinMap path_cmp ℕ → List ℕ → ℕ → List ℕ → Type 0

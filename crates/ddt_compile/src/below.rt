@@ -1,13 +1,16 @@
-//! What holds a site, by the zones in the order of their prefixes: there a zone stands before all that it covers, and
-//! what it covers stands together.
+//! What stands below a zone and what holds a site, by the zones in the order of their prefixes: there a zone stands
+//! before all that it covers, and what it covers stands together.
 
-ghost use Rattle.std.specs.Prelude.{◌≡◌, true, IsPermutation, IfOk, MatchOption};
-ghost use Rattle.std.specs.List.{Contains};
+ghost use Rattle.std.specs.Prelude.{◌≡◌, true, List, IsPermutation, IfOk, MatchOption};
+ghost use Rattle.std.specs.List.{filter, Contains};
+ghost use Rattle.std.specs.Option.{option_map, option_copied};
 ghost use Rattle.ddt_path.specs.Covers.{covers};
 ghost use Rattle.ddt_path.specs.declared.record.Role.TheVariants.{Ms};
 ghost use Rattle.ddt_register.specs.declared.register.Register.{Register as ARegister};
 ghost use Rattle.ddt_check.specs.Order.{AreZonesInOrder};
+ghost use Rattle.ddt_check.specs.Below.{is_under as is_under_of};
 ghost use Rattle.ddt_check.specs.Rules.{IsAccepted};
+ghost use Rattle.ddt_compile.specs.GroupConfig.{is_direct_child};
 
 use ddt_register::{Site, Zone};
 use std::alloc::{AllocError, Global};
@@ -20,6 +23,54 @@ pub fn sorted_zones(alloc: Global, zones: &[Zone]) -> Result<Vec<Zone>, AllocErr
     let mut sorted = Vec::from_slice(alloc, zones)?;
     sorted.sort_unstable_by_key(|z| (z.prefix, z.row));
     Ok(sorted)
+}
+
+/// Whether the zone that is kept holds a zone strictly inside it.
+fn is_under(top: Option<&Zone>, z: &Zone) -> bool
+    ensures { result ≡ is_under_of (option_map (λ y. y.prefix) (option_copied top.entry)) z.now.prefix }
+{
+    match top {
+        Some(top) => top.prefix.covers(z.prefix) && !z.prefix.covers(top.prefix),
+        None => false,
+    }
+}
+
+/// The zones strictly below a zone with no zone between, in the order of their prefixes. What such a zone covers
+/// follows it, so it is enough to keep the last one.
+fn directly_below(alloc: Global, sorted: &[Zone], zone: &Zone) -> Result<Vec<Zone>, AllocError>
+    requires { AreZonesInOrder sorted.now }
+    ensures { IfOk result (λ found. (r : ARegister) → IsPermutation r.zones sorted.now
+        → found.items ≡ filter (is_direct_child r zone.now) sorted.now) }
+{
+    let mut found = Vec::new(alloc);
+    let mut top: Option<&Zone> = None;
+    let first = sorted.partition_point(|z| z.prefix <= zone.prefix);
+    for at in first..sorted.len() {
+        let next = &sorted[at];
+        if !zone.prefix.covers(next.prefix) {
+            return Ok(found);
+        }
+        if !is_under(top, next) {
+            found.push(*next)?;
+            top = Some(next);
+        }
+    }
+    Ok(found)
+}
+
+/// The zones strictly below a zone with no zone between, in the order of their rows.
+pub fn zones_directly_below(
+    alloc: Global,
+    sorted: &[Zone],
+    zone: &Zone,
+) -> Result<Vec<Zone>, AllocError>
+    requires { AreZonesInOrder sorted.now }
+    ensures { IfOk result (λ found. (r : ARegister) → IsPermutation r.zones sorted.now
+        → found.items ≡ filter (is_direct_child r zone.now) r.zones) }
+{
+    let mut found = directly_below(alloc, sorted, zone)?;
+    found.sort_unstable_by_key(|z| z.row);
+    Ok(found)
 }
 
 /// The zone of Map-Servers that covers a site of an accepted register: the last one that stands up to the site's

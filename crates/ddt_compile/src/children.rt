@@ -1,25 +1,25 @@
 //! The delegations of each zone: the zones strictly below it with no zone between.
 
-ghost use Rattle.std.specs.Prelude.{◌≡◌, true, [], IfOk, unwrap_or};
+ghost use Rattle.std.specs.Prelude.{◌≡◌, [], IfOk, unwrap_or};
 ghost use Rattle.std.specs.List.{Contains};
 ghost use Rattle.std.specs.Ordering.{nat_cmp};
 ghost use Rattle.std.specs.Cmp.Lexicographic.{slice_cmp};
 ghost use Rattle.std.specs.BTreeMap.{get};
-ghost use Rattle.ddt_path.specs.declared.record.Role.TheVariants.{Node};
 ghost use Rattle.ddt_register.specs.declared.zone.Zone.{Zone as AZone};
-ghost use Rattle.ddt_check.specs.Zones.{is_served_by};
 ghost use Rattle.ddt_compile.specs.GroupConfig.{children_of};
 ghost use Rattle.ddt_compile.specs.Lists.{list_at};
 ghost use Rattle.ddt_trie.specs.Trie.{trie_content};
 ghost use Rattle.ddt_compile.specs.Nearest.{HasPrefixesOf};
+ghost use Rattle.ddt_compile.specs.Sorted.{AreSortedOf, HasLocatorsOf};
 
+use crate::below::zones_directly_below;
 use crate::lists::append;
 use crate::locators::locators_by_name;
-use crate::nearest::{nearest, prefixes_of, prefixes_of_group};
+use crate::nearest::nearest;
 use ddt_check::Accepted;
 use ddt_config::Child;
-use ddt_path::{LocatorSet, Name, Prefix, Role};
-use ddt_register::{Group, Zone};
+use ddt_path::{Listed, LocatorSet, Name, Prefix};
+use ddt_register::Zone;
 use ddt_trie::TrieMap;
 use std::alloc::{AllocError, Global};
 use std::collections::BTreeMap;
@@ -44,33 +44,24 @@ pub fn children_by_zone(
     Ok(lists)
 }
 
-/// The children of each zone of a group, by its prefix, each list in the order of their rows. A group of Map-Servers has
-/// none.
-pub fn children_of_group(
+/// The children of a zone, in the order of their rows.
+pub fn children_of_zone(
     alloc: Global,
     accepted: &Accepted,
-    group: &Group,
-) -> Result<BTreeMap<Prefix, Vec<Child>>, AllocError>
-    requires { Contains accepted.now.groups group.now }
-    ensures { IfOk result (λ lists. (z : AZone) → Contains accepted.now.zones z → z.kind ≡ Node
-        → is_served_by group.now z ≡ true → list_at (slice_cmp nat_cmp) lists z.prefix ≡ children_of accepted.now z) }
+    sets: &BTreeMap<Name, LocatorSet>,
+    sorted: &[Zone],
+    zone: &Zone,
+) -> Result<Listed<Child>, AllocError>
+    requires sets { HasLocatorsOf sets.now accepted.now }
+    requires sorted { AreSortedOf accepted.now sorted.now }
+    ensures { IfOk result (λ children. children ≡ children_of accepted.now zone.now) }
 {
-    let zones = accepted.register().zones.as_slice();
-    let mut lists = BTreeMap::new(alloc);
-    if let Role::Ms = group.kind {
-        return Ok(lists);
+    let below = zones_directly_below(alloc, sorted, zone)?;
+    let mut children = Vec::with_capacity(alloc, below.len())?;
+    for zone in &below {
+        children.push(child(sets, zone))?;
     }
-    let prefixes = prefixes_of(alloc, zones)?;
-    let own = prefixes_of_group(alloc, zones, group)?;
-    let sets = locators_by_name(alloc, accepted)?;
-    for zone in zones {
-        if let Some(parent) = nearest(&prefixes, zone.prefix, zone.prefix.len()) {
-            if own.contains(&parent) {
-                append(&mut lists, alloc, parent, child(&sets, zone))?;
-            }
-        }
-    }
-    Ok(lists)
+    Ok(Listed::of(children))
 }
 
 /// The referral to a zone: its kind, and the locators of its group.

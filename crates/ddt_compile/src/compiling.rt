@@ -14,9 +14,12 @@ ghost use Rattle.ddt_config.specs.Table.{outline};
 ghost use Rattle.ddt_compile.specs.GroupConfig.{group_config as group_config_of, config_named, children_of, authorities_of as authorities_of_group_of};
 ghost use Rattle.ddt_compile.specs.Laws.{IsHonestConfig, HasRoom};
 ghost use Rattle.ddt_compile.specs.Lists.{list_at};
+ghost use Rattle.ddt_compile.specs.Sorted.{AreSortedOf, HasLocatorsOf};
 
-use crate::children::{children_by_zone, children_of_group};
+use crate::below::sorted_zones;
+use crate::children::{children_by_zone, children_of_zone};
 use crate::lists::{append, take};
+use crate::locators::locators_by_name;
 use crate::nearest::prefixes_of;
 use crate::sites::{sites_by_zone, sites_of_group};
 use ddt_check::Accepted;
@@ -119,18 +122,47 @@ fn authorities_of_group(
     requires { Contains accepted.now.groups group.now }
     ensures { IfOk result (λ authorities. authorities ≡ authorities_of_group_of accepted.now group.now) }
 {
-    let mut children = children_of_group(alloc, accepted, group)?;
-    let mut sites = sites_of_group(alloc, accepted, group)?;
+    let zones = accepted.register().zones.as_slice();
+    let sorted = sorted_zones(alloc, zones)?;
+    let sets = locators_by_name(alloc, accepted)?;
+    let mut sites = sites_of_group(alloc, accepted, &sorted, group)?;
     let mut authorities = Vec::new(alloc);
-    for zone in accepted.register().zones.as_slice() {
+    for zone in zones {
         if group.name == zone.group {
+            let content = own_content(alloc, accepted, &sets, &sorted, &mut sites, zone)?;
             authorities.push(Authority {
                 prefix: zone.prefix,
-                content: content(alloc, zone, &mut children, &mut sites),
+                content,
             })?;
         }
     }
     Ok(Listed::of(authorities))
+}
+
+/// What is delegated in a zone; or what is registered there, which is taken out.
+fn own_content(
+    alloc: Global,
+    accepted: &Accepted,
+    sets: &BTreeMap<Name, LocatorSet>,
+    sorted: &[Zone],
+    sites: &mut BTreeMap<Prefix, Vec<SiteEntry>>,
+    zone: &Zone,
+) -> Result<Content, AllocError>
+    requires sets { HasLocatorsOf sets.now accepted.now }
+    requires sorted { AreSortedOf accepted.now sorted.now }
+    ensures node { zone.now.kind ≡ Node → IfOk result (λ held. held ≡ Children (children_of accepted.now zone.now)) }
+    ensures ms { zone.now.kind ≡ Ms → IfOk result (λ held.
+        held ≡ Sites (list_at (slice_cmp nat_cmp) sites.old zone.now.prefix)) }
+    ensures sites { (p : List ℕ) → eq_by_cmp (slice_cmp nat_cmp) zone.now.prefix p ≡ false → list_at (slice_cmp nat_cmp)
+        sites.new p ≡ list_at (slice_cmp nat_cmp) sites.old p }
+{
+    match zone.kind {
+        Role::Node => {
+            let children = children_of_zone(alloc, accepted, sets, sorted, zone)?;
+            Ok(Content::Children(children))
+        }
+        Role::Ms => Ok(Content::Sites(take(sites, alloc, &zone.prefix))),
+    }
 }
 
 /// Takes out what is delegated or registered in a zone.

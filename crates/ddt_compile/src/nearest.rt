@@ -2,13 +2,12 @@
 
 ghost use Rattle.std.specs.Prelude.{◌+◌, ◌≤◌, ◌<◌, length, IfOk};
 ghost use Rattle.ddt_trie.specs.Trie.{trie_content};
-ghost use Rattle.ddt_compile.specs.Nearest.{HasPrefixesOf, HasOwnPrefixes, IsNearest};
+ghost use Rattle.ddt_compile.specs.Nearest.{HasPrefixesOf, IsNearest};
 
 use ddt_path::Prefix;
-use ddt_register::{Group, Zone};
+use ddt_register::Zone;
 use ddt_trie::{PrefixMap, TrieMap};
 use std::alloc::{AllocError, Global};
-use std::collections::BTreeSet;
 
 /// The prefixes of some zones, each with the row of the last zone that has it.
 pub fn prefixes_of(alloc: Global, zones: &[Zone]) -> Result<TrieMap<u32>, AllocError>
@@ -23,23 +22,6 @@ pub fn prefixes_of(alloc: Global, zones: &[Zone]) -> Result<TrieMap<u32>, AllocE
         }
     }
     Ok(prefixes)
-}
-
-/// The prefixes of the zones that a group serves, among some zones.
-pub fn prefixes_of_group(
-    alloc: Global,
-    zones: &[Zone],
-    group: &Group,
-) -> Result<BTreeSet<Prefix>, AllocError>
-    ensures { IfOk result (λ own. HasOwnPrefixes own group.now zones.now) }
-{
-    let mut own = BTreeSet::new(alloc);
-    for zone in zones {
-        if group.name == zone.group {
-            own.insert(zone.prefix)?;
-        }
-    }
-    Ok(own)
 }
 
 /// The longest of the prefixes that covers `prefix` and has fewer than `below` digits, which is at most one more

@@ -11,15 +11,16 @@ ghost use Rattle.ddt_compile.specs.GroupConfig.{sites_of, entry_of};
 ghost use Rattle.ddt_compile.specs.Lists.{list_at};
 ghost use Rattle.ddt_trie.specs.Trie.{trie_content};
 ghost use Rattle.ddt_compile.specs.Nearest.{HasPrefixesOf};
+ghost use Rattle.ddt_compile.specs.Sorted.{AreSortedOf};
 ghost use Rattle.ddt_check.specs.Zones.{is_served_by};
 
-use crate::below::{holder, sorted_zones};
+use crate::below::holder;
 use crate::lists::append;
 use crate::nearest::nearest;
 use ddt_check::Accepted;
 use ddt_config::SiteEntry;
 use ddt_path::{LocatorSet, Prefix, Role};
-use ddt_register::{Group, Site};
+use ddt_register::{Group, Site, Zone};
 use ddt_trie::TrieMap;
 use std::alloc::{AllocError, Global};
 use std::collections::BTreeMap;
@@ -48,9 +49,11 @@ pub fn sites_by_zone(
 pub fn sites_of_group(
     alloc: Global,
     accepted: &Accepted,
+    sorted: &[Zone],
     group: &Group,
 ) -> Result<BTreeMap<Prefix, Vec<SiteEntry>>, AllocError>
-    requires { Contains accepted.now.groups group.now }
+    requires sorted { AreSortedOf accepted.now sorted.now }
+    requires group { Contains accepted.now.groups group.now }
     ensures { IfOk result (λ lists. (z : AZone) → Contains accepted.now.zones z → z.kind ≡ Ms → is_served_by group.now z
         ≡ true
         → list_at (slice_cmp nat_cmp) lists z.prefix ≡ sites_of accepted.now z) }
@@ -60,9 +63,8 @@ pub fn sites_of_group(
     if let Role::Node = group.kind {
         return Ok(lists);
     }
-    let sorted = sorted_zones(alloc, register.zones.as_slice())?;
     for site in register.sites.as_slice() {
-        if let Some(zone) = holder(&sorted, site) {
+        if let Some(zone) = holder(sorted, site) {
             if group.name == zone.group {
                 append(&mut lists, alloc, zone.prefix, entry(site))?;
             }

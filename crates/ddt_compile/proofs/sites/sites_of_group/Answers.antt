@@ -1,5 +1,4 @@
-use Rattle.ddt_register.specs.declared.zone.Zone.{Zone}
-use Rattle.std.proofs.Common.{IsPermutation, ℕ, List, map, ap, sym, subst, ◌∙◌}
+use Rattle.std.proofs.Common.{ℕ, List, map, ap, sym, subst, ◌∙◌}
 use Rattle.std.specs.List.{filter}
 use Rattle.std.specs.Ordering.{nat_cmp}
 use Rattle.std.specs.Cmp.Lexicographic.{slice_cmp}
@@ -23,7 +22,7 @@ pub returns-in-Node : goal.returns-in-Node
 returns-in-Node c = λ z k ms own.
     let r = c.args.accepted.now in
     let g = c.args.group.now in
-    absurd (node≢ms (sym c.in-Node.is ∙ role_of_zone r c.register-register.ensures.accepted g z (in_contained r.groups g c.requires) (in_contained r.zones z k) own ∙ ms))
+    absurd (node≢ms (sym c.in-Node.is ∙ role_of_zone r c.register-register.ensures.accepted g z (in_contained r.groups g c.requires.group) (in_contained r.zones z k) own ∙ ms))
 
 pub loop-site-init : goal.loop-site-init
 loop-site-init c = λ z k ms own. list_at-empty c.new-lists.result z.prefix c.new-lists.ensures.empty
@@ -44,23 +43,22 @@ loop-site-preserved c = λ z k ms own.
     let lt = c.loop-site-test.true in
     let is = c.site-item.is in
     let same = c.as_slice-site-items.ensures ∙ ap (λ (r : Register). r.sites) c.register-register.ensures.register in
-    let whole = c.as_slice.ensures ∙ ap (λ (r : Register). r.zones) c.register-register.ensures.register in
     let site = contained r.sites x (subst (IsIn x) same (in_at sites i x lt is)) in
     elim c.match-holder.branch [
       | in-Some+then-eq+in_ok-append w ↦
           let y = w.in-Some.zone in
-          let held = w.in-Some.ensures r accepted (subst (IsPermutation r.zones) (sym c.deref.ensures.value) (subst (λ (zs : List Zone). IsPermutation zs c.in_ok-sorted.sorted.items) whole c.in_ok-sorted.ensures.same)) site in
+          let held = w.in-Some.ensures r accepted c.requires.sorted.0 site in
           ap (λ (m : BTreeMap (List ℕ) (Vec SiteEntry)). list_at (slice_cmp nat_cmp) m z.prefix) w.lists-is
           ∙ grown entry_of (is_site_in z) sites i x lt is c.loop-site.lists w.append.new.lists y.prefix z.prefix w.entry.result w.entry.ensures
           (holds_site r accepted z y x k ms (in_contained r.zones y held.0) held.1 held.2) w.in_ok-append.ensures.here w.in_ok-append.ensures.elsewhere (c.loop-site.invariant z k ms own)
       | in-Some+else-eq w ↦
           let y = w.in-Some.zone in
-          let held = w.in-Some.ensures r accepted (subst (IsPermutation r.zones) (sym c.deref.ensures.value) (subst (λ (zs : List Zone). IsPermutation zs c.in_ok-sorted.sorted.items) whole c.in_ok-sorted.ensures.same)) site in
+          let held = w.in-Some.ensures r accepted c.requires.sorted.0 site in
           ap (λ (m : BTreeMap (List ℕ) (Vec SiteEntry)). list_at (slice_cmp nat_cmp) m z.prefix) w.lists-is
           ∙ c.loop-site.invariant z k ms own
           ∙ none_kept entry_of (is_site_in z) sites i x lt is
           (held_elsewhere r accepted z y x k ms (in_contained r.zones y held.0) held.1 held.2 c.args.group.now own (sym w.eq.ensures ∙ w.if-eq.false))
-      | in_default-holder w ↦ absurd (w.in_default-holder.ensures r accepted (subst (IsPermutation r.zones) (sym c.deref.ensures.value) (subst (λ (zs : List Zone). IsPermutation zs c.in_ok-sorted.sorted.items) whole c.in_ok-sorted.ensures.same)) site)
+      | in_default-holder w ↦ absurd (w.in_default-holder.ensures r accepted c.requires.sorted.0 site)
     ]
 
 pub returns : goal.returns

@@ -2,8 +2,8 @@ use super::*;
 use ddt_examples::configurations::{EAST, EAST_BY_HAND, TWO_AUTHORITIES, TWO_AUTHORITIES_BY_HAND};
 use ddt_path::{Locator, LocatorSet, Name, Prefix, Role};
 use ddt_text::parse_prefix;
-use std::alloc::Global;
-use std::test::*;
+use std::alloc::{AllocError, Global};
+use std::process::Abort;
 
 fn prefix(text: &str) -> Option<Prefix> {
     parse_prefix(text.as_bytes()).ok()
@@ -61,63 +61,82 @@ fn is_root(config: &ServerConfig) -> bool {
 }
 
 /// The text with the first such line replaced.
-fn replaced(alloc: Global, text: &str, old: &str, new: &str) -> Result<String, Fail> {
-    let (before, after) = text.split_once(old).ok_or("no such line")?;
-    let mut changed = String::from_str(alloc, before)?;
-    changed.push_str(new)?;
-    changed.push_str(after)?;
-    Ok(changed)
+fn replaced(alloc: Global, rt: &impl Abort, text: &str, old: &str, new: &str) -> String {
+    let (before, after) = text.split_once(old).expect(rt, "no such line");
+    let changed = format!(in alloc; "{before}{new}{after}");
+    changed.expect(rt, "out of memory")
 }
 
-fn fault(alloc: Global, text: &str) -> Option<ConfigFault> {
-    from_toml(alloc, text).err()
+fn config(alloc: Global, rt: &impl Abort, text: &str) -> ServerConfig {
+    from_toml(alloc, text).expect(rt, "a configuration")
 }
 
-#[test]
-fn a_text_is_read(rt: HostRuntime) -> Result<(), Fail> {
-    let alloc = rt.alloc();
-    assert!(rt; is_east(&from_toml(alloc, EAST_BY_HAND)?));
-    assert!(rt; is_root(&from_toml(alloc, TWO_AUTHORITIES_BY_HAND)?));
-    Ok(())
+/// What is written of the configuration that is read of a text.
+fn written(alloc: Global, rt: &impl Abort, text: &str) -> String {
+    to_toml(alloc, &config(alloc, rt, text)).expect(rt, "out of memory")
 }
 
-#[test]
-fn a_configuration_is_written_with_its_keys_and_no_other(rt: HostRuntime) -> Result<(), Fail> {
-    let alloc = rt.alloc();
-    let east = to_toml(alloc, &from_toml(alloc, EAST_BY_HAND)?)?;
-    assert_eq!(rt; east.as_str(), EAST);
-    let root = to_toml(alloc, &from_toml(alloc, TWO_AUTHORITIES_BY_HAND)?)?;
-    assert_eq!(rt; root.as_str(), TWO_AUTHORITIES);
-    Ok(())
+/// The text is refused with this fault.
+fn fails(alloc: Global, rt: &impl Abort, text: &str, fault: ConfigFault) {
+    assert_eq!(rt; from_toml(alloc, text).err(), Some(fault), "of {text}");
 }
 
-#[test]
-fn what_was_written_is_read_back(rt: HostRuntime) -> Result<(), Fail> {
-    let alloc = rt.alloc();
-    let east = to_toml(alloc, &from_toml(alloc, EAST_BY_HAND)?)?;
-    assert!(rt; is_east(&from_toml(alloc, east.as_str())?));
-    let root = to_toml(alloc, &from_toml(alloc, TWO_AUTHORITIES_BY_HAND)?)?;
-    assert!(rt; is_root(&from_toml(alloc, root.as_str())?));
-    Ok(())
+/// How many sites the one authority of a configuration has.
+fn count_of_sites(config: &ServerConfig) -> Option<usize> {
+    let [authority] = config.authorities.as_slice() else {
+        return None;
+    };
+    match &authority.content {
+        Content::Sites(sites) => Some(sites.as_slice().len()),
+        Content::Children(_children) => None,
+    }
 }
 
 #[test]
-fn no_authority_is_the_empty_list_and_other_keys_are_ignored(rt: HostRuntime) -> Result<(), Fail> {
+fn a_text_is_read(rt: HostRuntime) {
     let alloc = rt.alloc();
-    let bare = from_toml(
+    assert!(rt; is_east(&config(alloc, &rt, EAST_BY_HAND)));
+    assert!(rt; is_root(&config(alloc, &rt, TWO_AUTHORITIES_BY_HAND)));
+}
+
+#[test]
+fn a_configuration_is_written_with_its_keys_and_no_other(rt: HostRuntime) {
+    let alloc = rt.alloc();
+    for (by_hand, text) in [
+        (EAST_BY_HAND, EAST),
+        (TWO_AUTHORITIES_BY_HAND, TWO_AUTHORITIES),
+    ] {
+        assert_eq!(rt; written(alloc, &rt, by_hand).as_str(), text);
+    }
+}
+
+#[test]
+fn what_was_written_is_read_back(rt: HostRuntime) {
+    let alloc = rt.alloc();
+    let east = written(alloc, &rt, EAST_BY_HAND);
+    assert!(rt; is_east(&config(alloc, &rt, east.as_str())));
+    let root = written(alloc, &rt, TWO_AUTHORITIES_BY_HAND);
+    assert!(rt; is_root(&config(alloc, &rt, root.as_str())));
+}
+
+#[test]
+fn no_authority_is_the_empty_list_and_other_keys_are_ignored(rt: HostRuntime) {
+    let alloc = rt.alloc();
+    let bare = config(
         alloc,
+        &rt,
         "name = \"a-1\"\nkind = \"node\"\nlocators = [\"::1\"]\ncolour = 7\n",
-    )?;
+    );
     assert!(rt; bare.authorities.as_slice().is_empty());
     assert_eq!(rt; bare.name.as_bytes(), b"a-1".as_slice());
     let other = replaced(
         alloc,
+        &rt,
         EAST_BY_HAND,
         "[[authority.site]]",
         "child = 3\n[[authority.site]]",
-    )?;
-    assert!(rt; is_east(&from_toml(alloc, other.as_str())?));
-    Ok(())
+    );
+    assert!(rt; is_east(&config(alloc, &rt, other.as_str())));
 }
 
 /// A part of the text of east, what stands in its place, and the fault.
@@ -171,13 +190,12 @@ const FIRST_FAULTS: [(&str, &str, ConfigFault); 14] = [
 ];
 
 #[test]
-fn the_first_fault_decides(rt: HostRuntime) -> Result<(), Fail> {
+fn the_first_fault_decides(rt: HostRuntime) {
     let alloc = rt.alloc();
-    for (old, new, wanted) in FIRST_FAULTS {
-        let text = replaced(alloc, EAST_BY_HAND, old, new)?;
-        assert_eq!(rt; fault(alloc, text.as_str()), Some(wanted), "at {new}");
+    for (old, new, fault) in FIRST_FAULTS {
+        let text = replaced(alloc, &rt, EAST_BY_HAND, old, new);
+        fails(alloc, &rt, text.as_str(), fault);
     }
-    Ok(())
 }
 
 /// Whole texts with two faults, or with a list of another kind, and the fault that decides.
@@ -202,11 +220,10 @@ const WHOLE_TEXTS: [(&str, ConfigFault); 5] = [
 ];
 
 #[test]
-fn the_first_of_two_faults_decides(rt: HostRuntime) -> Result<(), Fail> {
-    for (text, wanted) in WHOLE_TEXTS {
-        assert_eq!(rt; fault(rt.alloc(), text), Some(wanted), "of {text}");
+fn the_first_of_two_faults_decides(rt: HostRuntime) {
+    for (text, fault) in WHOLE_TEXTS {
+        fails(rt.alloc(), &rt, text, fault);
     }
-    Ok(())
 }
 
 const NINE_LOCATORS: &str =
@@ -247,44 +264,45 @@ const WRONG_SHAPES: [(&str, &str, &str); 11] = [
 ];
 
 #[test]
-fn each_condition_of_the_shape_is_tested(rt: HostRuntime) -> Result<(), Fail> {
+fn each_condition_of_the_shape_is_tested(rt: HostRuntime) {
     let alloc = rt.alloc();
     for (whole, old, new) in WRONG_SHAPES {
-        let text = replaced(alloc, whole, old, new)?;
-        assert_eq!(rt;
-            fault(alloc, text.as_str()),
-            Some(ConfigFault::Shape),
-            "at {new}"
-        );
+        let text = replaced(alloc, &rt, whole, old, new);
+        fails(alloc, &rt, text.as_str(), ConfigFault::Shape);
     }
-    Ok(())
 }
 
 #[test]
-fn a_site_may_equal_its_authority_and_no_other_site(rt: HostRuntime) -> Result<(), Fail> {
+fn a_site_may_equal_its_authority_and_no_other_site(rt: HostRuntime) {
     let alloc = rt.alloc();
-    let text = replaced(alloc, EAST_BY_HAND, "[0]10.1.0.0/16", "[0]10.1.2.0/24")?;
-    let twice = replaced(alloc, text.as_str(), "[0]10.1.4.0/24", "[0]10.1.2.0/24")?;
-    assert_eq!(rt; fault(alloc, twice.as_str()), Some(ConfigFault::Shape));
+    let text = replaced(alloc, &rt, EAST_BY_HAND, "[0]10.1.0.0/16", "[0]10.1.2.0/24");
+    let twice = replaced(
+        alloc,
+        &rt,
+        text.as_str(),
+        "[0]10.1.4.0/24",
+        "[0]10.1.2.0/24",
+    );
+    fails(alloc, &rt, twice.as_str(), ConfigFault::Shape);
     let other = "[[authority.site]]\nprefix = \"[0]10.1.4.0/24\"\netrs = []\n";
-    let once = replaced(alloc, text.as_str(), other, "")?;
-    from_toml(alloc, once.as_str())?;
-    Ok(())
+    let once = replaced(alloc, &rt, text.as_str(), other, "");
+    assert_eq!(rt; count_of_sites(&config(alloc, &rt, once.as_str())), Some(1));
 }
 
 #[test]
-fn a_site_may_lie_inside_another(rt: HostRuntime) -> Result<(), Fail> {
+fn a_site_may_lie_inside_another(rt: HostRuntime) {
     let alloc = rt.alloc();
-    let nested = replaced(alloc, EAST_BY_HAND, "[0]10.1.4.0/24", "[0]10.1.2.128/25")?;
-    let config = from_toml(alloc, nested.as_str())?;
-    let [authority] = config.authorities.as_slice() else {
-        return Err("no authority")?;
-    };
-    let Content::Sites(sites) = &authority.content else {
-        return Err("no sites")?;
-    };
-    assert_eq!(rt; sites.as_slice().len(), 2);
-    Ok(())
+    let nested = replaced(
+        alloc,
+        &rt,
+        EAST_BY_HAND,
+        "[0]10.1.4.0/24",
+        "[0]10.1.2.128/25",
+    );
+    assert_eq!(rt;
+        count_of_sites(&config(alloc, &rt, nested.as_str())),
+        Some(2)
+    );
 }
 
 /// Adds a table to an array for each prefix, with these lines below it.
@@ -294,7 +312,7 @@ fn push_tables(
     array: &str,
     prefixes: &[&str],
     lines: &str,
-) -> Result<(), Fail> {
+) -> Result<(), AllocError> {
     for prefix in prefixes {
         let table = format!(in alloc; "[[{array}]]\nprefix = \"{prefix}\"\n{lines}")?;
         text.push_str(table.as_str())?;
@@ -302,14 +320,22 @@ fn push_tables(
     Ok(())
 }
 
-/// The configuration of a node in charge of these authorities, of which the last has these children.
-fn node_of(alloc: Global, authorities: &[&str], children: &[&str]) -> Result<String, Fail> {
+fn try_node_of(
+    alloc: Global,
+    authorities: &[&str],
+    children: &[&str],
+) -> Result<String, AllocError> {
     let head = "name = \"n\"\nkind = \"node\"\nlocators = [\"127.0.0.1\"]\n";
     let lines = "kind = \"node\"\nlocators = [\"127.0.0.10\"]\n";
     let mut text = String::from_str(alloc, head)?;
     push_tables(alloc, &mut text, "authority", authorities, "")?;
     push_tables(alloc, &mut text, "authority.child", children, lines)?;
     Ok(text)
+}
+
+/// The configuration of a node in charge of these authorities, of which the last has these children.
+fn node_of(alloc: Global, rt: &impl Abort, authorities: &[&str], children: &[&str]) -> String {
+    try_node_of(alloc, authorities, children).expect(rt, "out of memory")
 }
 
 /// Children in no order, of which just the first and the last overlap.
@@ -321,54 +347,58 @@ const CHILDREN: [&str; 5] = [
     "[0]10.2.3.0/24",
 ];
 
-#[test]
-fn two_children_that_overlap_are_found_wherever_they_stand(rt: HostRuntime) -> Result<(), Fail> {
-    let alloc = rt.alloc();
-    let [first, second, third, fourth, last] = CHILDREN;
-    let down = node_of(alloc, &["*"], &CHILDREN)?;
-    assert_eq!(rt; fault(alloc, down.as_str()), Some(ConfigFault::Shape));
-    let up = node_of(alloc, &["*"], &[last, fourth, third, second, first])?;
-    assert_eq!(rt; fault(alloc, up.as_str()), Some(ConfigFault::Shape));
-    let apart = node_of(alloc, &["*"], &[first, second, third, fourth])?;
-    let config = from_toml(alloc, apart.as_str())?;
+/// The prefixes of the first and the last of four children of the one authority.
+fn ends_of_four(config: &ServerConfig) -> Option<(Prefix, Prefix)> {
     let [authority] = config.authorities.as_slice() else {
-        return Err("no authority")?;
+        return None;
     };
     let Content::Children(children) = &authority.content else {
-        return Err("no children")?;
+        return None;
     };
+    match children.as_slice() {
+        [first, _, _, last] => Some((first.prefix, last.prefix)),
+        _ => None,
+    }
+}
+
+#[test]
+fn two_children_that_overlap_are_found_wherever_they_stand(rt: HostRuntime) {
+    let alloc = rt.alloc();
+    let [first, second, third, fourth, last] = CHILDREN;
+    let down = node_of(alloc, &rt, &["*"], &CHILDREN);
+    fails(alloc, &rt, down.as_str(), ConfigFault::Shape);
+    let up = node_of(alloc, &rt, &["*"], &[last, fourth, third, second, first]);
+    fails(alloc, &rt, up.as_str(), ConfigFault::Shape);
+    let apart = node_of(alloc, &rt, &["*"], &[first, second, third, fourth]);
     // They keep the order of the text.
-    let [a, .., d] = children.as_slice() else {
-        return Err("too few children")?;
-    };
-    assert_eq!(rt; children.as_slice().len(), 4);
+    let ends = ends_of_four(&config(alloc, &rt, apart.as_str())).expect(&rt, "no four children");
     assert_eq!(rt;
-        (Some(a.prefix), Some(d.prefix)),
+        (Some(ends.0), Some(ends.1)),
         (prefix(first), prefix(fourth))
     );
-    Ok(())
 }
 
 #[test]
-fn two_authorities_of_one_prefix_are_found_and_may_overlap(rt: HostRuntime) -> Result<(), Fail> {
+fn two_authorities_of_one_prefix_are_found_and_may_overlap(rt: HostRuntime) {
     let alloc = rt.alloc();
     let (one, other, over) = ("[0]10.2.0.0/16", "[7]10.2.0.0/16", "[0]10.0.0.0/8");
-    let twice = node_of(alloc, &[one, other, over, one], &[])?;
-    assert_eq!(rt; fault(alloc, twice.as_str()), Some(ConfigFault::Shape));
-    let once = node_of(alloc, &[one, other, over], &[])?;
-    assert_eq!(rt;
-        from_toml(alloc, once.as_str())?
-            .authorities
-            .as_slice()
-            .len(),
-        3
+    let twice = node_of(alloc, &rt, &[one, other, over, one], &[]);
+    fails(alloc, &rt, twice.as_str(), ConfigFault::Shape);
+    let once = config(
+        alloc,
+        &rt,
+        node_of(alloc, &rt, &[one, other, over], &[]).as_str(),
     );
-    Ok(())
+    assert_eq!(rt; once.authorities.as_slice().len(), 3);
+}
+
+fn prints(alloc: Global, rt: &impl Abort, fault: ConfigFault, text: &str) {
+    let printed = format!(in alloc; "{fault}").expect(rt, "out of memory");
+    assert_eq!(rt; printed.as_str(), text);
 }
 
 #[test]
-fn a_fault_prints_its_number_and_its_name(rt: HostRuntime) -> Result<(), Fail> {
-    let alloc = rt.alloc();
+fn a_fault_prints_its_number_and_its_name(rt: HostRuntime) {
     for (fault, text) in [
         (ConfigFault::Toml, "1 Toml"),
         (ConfigFault::Field(Key::Kind), "2 Field"),
@@ -376,7 +406,6 @@ fn a_fault_prints_its_number_and_its_name(rt: HostRuntime) -> Result<(), Fail> {
         (ConfigFault::Shape, "4 Shape"),
         (ConfigFault::Memory, "5 Memory"),
     ] {
-        assert_eq!(rt; format!(in alloc; "{fault}")?.as_str(), text);
+        prints(rt.alloc(), &rt, fault, text);
     }
-    Ok(())
 }

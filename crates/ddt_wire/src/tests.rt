@@ -5,154 +5,213 @@ use ddt_examples::messages::{
 };
 use ddt_examples::{bytes_of, changed, front};
 use ddt_path::{Action, Locator, LocatorSet, Prefix, ReferralRecord};
-use std::test::Fail;
+use std::alloc::Global;
+use std::fmt::Display;
+use std::process::Abort;
+
+/// A block. Its instance and its family are parameters, so that the proof computes no digits of it.
+fn block_of(rt: &impl Abort, iid: u32, address: Locator, len: u8) -> Prefix {
+    Prefix::block(iid, address, len).expect(rt, "no block")
+}
 
 /// An IPv4 block of instance 0.
-fn block(address: u32, len: u8) -> Result<Prefix, Fail> {
-    Ok(Prefix::block(0, Locator::V4(address), len)?)
+fn block(rt: &impl Abort, address: u32, len: u8) -> Prefix {
+    block_of(rt, 0, Locator::V4(address), len)
 }
 
-fn servers(locators: &[Locator]) -> Result<LocatorSet, Fail> {
-    Ok(LocatorSet::of(locators).ok_or("at most eight locators")?)
+fn range(rt: &impl Abort, iid: u32, len: u8) -> Prefix {
+    Prefix::range(iid, len).expect(rt, "no range")
 }
 
-#[test]
-fn referral_to_a_node(rt: HostRuntime) -> Result<(), Fail> {
-    let record = ReferralRecord {
-        action: Action::NodeReferral,
-        prefix: block(0x0a00_0000, 8)?,
-        ttl: 1440,
+fn servers(rt: &impl Abort, locators: &[Locator]) -> LocatorSet {
+    LocatorSet::of(locators).expect(rt, "at most eight locators")
+}
+
+/// A record that is complete.
+fn complete(
+    rt: &impl Abort,
+    action: Action,
+    prefix: Prefix,
+    ttl: u32,
+    locators: &[Locator],
+) -> ReferralRecord {
+    ReferralRecord {
+        action,
+        prefix,
+        ttl,
         incomplete: false,
-        servers: servers(&[Locator::V4(0x7f00_000a)])?,
-    };
-    let bytes = write_referral(rt.alloc(), 1, &record)?;
-    let wanted = bytes_of(rt.alloc(), ROOT_REFERS_TO_TEN)?;
-    assert_eq!(rt; bytes.as_slice(), wanted.as_slice());
-    Ok(())
+        servers: servers(rt, locators),
+    }
+}
+
+// Each message is read or written, and judged, in a function of its own, so that the proof of a test is short.
+
+fn message(alloc: Global, rt: &impl Abort, fields: &str) -> Vec<u8> {
+    bytes_of(alloc, fields).expect(rt, "no bytes")
+}
+
+/// The Map-Referral of a record with the nonce 1 is written as these bytes.
+fn writes(alloc: Global, rt: &impl Abort, record: &ReferralRecord, fields: &str) {
+    let bytes = write_referral(alloc, 1, record).expect(rt, "out of memory");
+    assert_eq!(rt; bytes.as_slice(), message(alloc, rt, fields).as_slice());
+}
+
+fn referral<'a>(rt: &impl Abort, bytes: &'a [u8]) -> Referral<'a> {
+    read_referral(bytes).expect(rt, "a Map-Referral")
+}
+
+/// It says what the record says, with the nonce 1.
+fn says(rt: &impl Abort, referral: &Referral<'_>, record: &ReferralRecord) {
+    assert_eq!(rt; referral.nonce(), 1);
+    assert_eq!(rt; referral.action(), record.action);
+    assert_eq!(rt; referral.prefix(), record.prefix);
+    assert_eq!(rt; referral.ttl(), record.ttl);
+    assert_eq!(rt; referral.incomplete(), record.incomplete);
+}
+
+/// Its locators are these.
+fn lists(rt: &impl Abort, referral: &Referral<'_>, servers: &[Locator]) {
+    let mut locators = referral.locators();
+    for server in servers {
+        assert_eq!(rt; locators.next(), Some(*server));
+    }
+    assert_eq!(rt; locators.next(), None);
+}
+
+fn refuses(rt: &impl Abort, bytes: &[u8], fault: ReferralFault) {
+    assert_eq!(rt; read_referral(bytes).err(), Some(fault), "of {bytes:?}");
+}
+
+/// The message is refused with these bytes in it.
+fn refuses_changed(
+    alloc: Global,
+    rt: &impl Abort,
+    fields: &str,
+    changes: &[(usize, u8)],
+    fault: ReferralFault,
+) {
+    let bytes = changed(message(alloc, rt, fields), changes);
+    refuses(rt, bytes.as_slice(), fault);
+}
+
+/// So many bytes of the front are refused with this byte in them.
+fn refuses_front(
+    alloc: Global,
+    rt: &impl Abort,
+    fields: &str,
+    len: usize,
+    change: (usize, u8),
+    fault: ReferralFault,
+) {
+    let bytes = changed(message(alloc, rt, fields), &[change]);
+    refuses(rt, front(&bytes, len), fault);
+}
+
+const TEN: Locator = Locator::V4(0x7f00_000a);
+
+#[test]
+fn referral_to_a_node(rt: HostRuntime) {
+    let ten = block(&rt, 0x0a00_0000, 8);
+    let record = complete(&rt, Action::NodeReferral, ten, 1440, &[TEN]);
+    writes(rt.alloc(), &rt, &record, ROOT_REFERS_TO_TEN);
 }
 
 #[test]
-fn hole_of_a_range_of_instances(rt: HostRuntime) -> Result<(), Fail> {
-    let record = ReferralRecord {
-        action: Action::DelegationHole,
-        prefix: Prefix::range(0x8000_0000, 1)?,
-        ttl: 15,
-        incomplete: false,
-        servers: servers(&[])?,
-    };
-    let bytes = write_referral(rt.alloc(), 1, &record)?;
-    let wanted = bytes_of(rt.alloc(), HOLE_OF_INSTANCES)?;
-    assert_eq!(rt; bytes.as_slice(), wanted.as_slice());
-    Ok(())
+fn hole_of_a_range_of_instances(rt: HostRuntime) {
+    let half = range(&rt, 0x8000_0000, 1);
+    let record = complete(&rt, Action::DelegationHole, half, 15, &[]);
+    writes(rt.alloc(), &rt, &record, HOLE_OF_INSTANCES);
 }
 
 #[test]
-fn hole_of_everything(rt: HostRuntime) -> Result<(), Fail> {
-    let record = ReferralRecord {
-        action: Action::DelegationHole,
-        prefix: Prefix::range(0, 0)?,
-        ttl: 15,
-        incomplete: false,
-        servers: servers(&[])?,
-    };
-    let bytes = write_referral(rt.alloc(), 1, &record)?;
-    let wanted = bytes_of(rt.alloc(), HOLE_OF_EVERYTHING)?;
-    assert_eq!(rt; bytes.as_slice(), wanted.as_slice());
-    Ok(())
+fn hole_of_everything(rt: HostRuntime) {
+    let everything = range(&rt, 0, 0);
+    let record = complete(&rt, Action::DelegationHole, everything, 15, &[]);
+    writes(rt.alloc(), &rt, &record, HOLE_OF_EVERYTHING);
 }
 
 #[test]
-fn not_authoritative_is_incomplete(rt: HostRuntime) -> Result<(), Fail> {
+fn not_authoritative_is_incomplete(rt: HostRuntime) {
     let record = ReferralRecord {
         action: Action::NotAuthoritative,
-        prefix: block(0x0b00_0001, 32)?,
+        prefix: block(&rt, 0x0b00_0001, 32),
         ttl: 0,
         incomplete: true,
-        servers: servers(&[])?,
+        servers: servers(&rt, &[]),
     };
-    let bytes = write_referral(rt.alloc(), 1, &record)?;
-    let wanted = bytes_of(rt.alloc(), TEN_IS_NOT_IN_CHARGE)?;
-    assert_eq!(rt; bytes.as_slice(), wanted.as_slice());
-    Ok(())
+    writes(rt.alloc(), &rt, &record, TEN_IS_NOT_IN_CHARGE);
 }
 
 #[test]
-fn acknowledgement_with_two_servers(rt: HostRuntime) -> Result<(), Fail> {
-    let record = ReferralRecord {
-        action: Action::MsAck,
-        prefix: block(0x0a01_0200, 24)?,
-        ttl: 1440,
-        incomplete: false,
-        servers: servers(&[Locator::V4(0x7f00_0101), Locator::V4(0x7f00_0102)])?,
-    };
-    let bytes = write_referral(rt.alloc(), 1, &record)?;
-    let wanted = bytes_of(rt.alloc(), EAST_ACKNOWLEDGES)?;
-    assert_eq!(rt; bytes.as_slice(), wanted.as_slice());
-    Ok(())
+fn acknowledgement_with_two_servers(rt: HostRuntime) {
+    let site = block(&rt, 0x0a01_0200, 24);
+    let east = [Locator::V4(0x7f00_0101), Locator::V4(0x7f00_0102)];
+    let record = complete(&rt, Action::MsAck, site, 1440, &east);
+    writes(rt.alloc(), &rt, &record, EAST_ACKNOWLEDGES);
+}
+
+/// Behind what was there stands the EID of a prefix.
+fn writes_eid(alloc: Global, rt: &impl Abort, before: &[u8], prefix: Prefix, after: &[u8]) {
+    let mut bytes = Vec::from_slice(alloc, before).expect(rt, "out of memory");
+    write_eid(&mut bytes, prefix).expect(rt, "out of memory");
+    assert_eq!(rt; bytes.as_slice(), after);
+}
+
+fn has_mask_len(rt: &impl Abort, prefix: Prefix, len: u8) {
+    assert_eq!(rt; mask_len(prefix), len);
 }
 
 #[test]
-fn eid_of_another_instance_stands_behind_what_was_there(rt: HostRuntime) -> Result<(), Fail> {
-    let mut bytes = Vec::from_slice(rt.alloc(), &[0xff])?;
-    let prefix = Prefix::block(7, Locator::V4(0x0a01_0200), 24)?;
-    write_eid(&mut bytes, prefix)?;
-    assert_eq!(rt;
-        bytes.as_slice(),
-        [
-            0xff, 0x40, 0x03, 0, 0, 2, 0, 0, 0x0a, 0, 0, 0, 7, 0, 1, 0x0a, 1, 2, 0,
-        ]
-        .as_slice()
+fn eid_of_another_instance_stands_behind_what_was_there(rt: HostRuntime) {
+    let prefix = block_of(&rt, 7, Locator::V4(0x0a01_0200), 24);
+    let eid = [
+        0xff, 0x40, 0x03, 0, 0, 2, 0, 0, 0x0a, 0, 0, 0, 7, 0, 1, 0x0a, 1, 2, 0,
+    ];
+    writes_eid(rt.alloc(), &rt, &[0xff], prefix, &eid);
+    has_mask_len(&rt, prefix, 24);
+    has_mask_len(&rt, range(&rt, 16, 28), 0);
+}
+
+#[test]
+fn referral_to_a_node_is_read(rt: HostRuntime) {
+    let bytes = message(rt.alloc(), &rt, ROOT_REFERS_TO_TEN);
+    let referral = referral(&rt, bytes.as_slice());
+    let ten = block(&rt, 0x0a00_0000, 8);
+    let record = complete(&rt, Action::NodeReferral, ten, 1440, &[TEN]);
+    says(&rt, &referral, &record);
+    lists(&rt, &referral, &[TEN]);
+    assert_eq!(rt; referral.to_record(), record);
+}
+
+#[test]
+fn ignored_bits_are_ignored(rt: HostRuntime) {
+    let bytes = message(rt.alloc(), &rt, HOLE_WITH_IGNORED_BITS);
+    let referral = referral(&rt, bytes.as_slice());
+    let half = range(&rt, 0x8000_0000, 1);
+    says(
+        &rt,
+        &referral,
+        &complete(&rt, Action::DelegationHole, half, 15, &[]),
     );
-    assert_eq!(rt; mask_len(prefix), 24);
-    assert_eq!(rt; mask_len(Prefix::range(16, 28)?), 0);
-    Ok(())
+    lists(&rt, &referral, &[]);
 }
 
-#[test]
-fn referral_to_a_node_is_read(rt: HostRuntime) -> Result<(), Fail> {
-    let message = bytes_of(rt.alloc(), ROOT_REFERS_TO_TEN)?;
-    let referral = read_referral(&message)?;
-    assert_eq!(rt; referral.nonce(), 1);
-    assert_eq!(rt; referral.action(), Action::NodeReferral);
-    assert_eq!(rt; referral.prefix(), block(0x0a00_0000, 8)?);
-    assert_eq!(rt; referral.ttl(), 1440);
-    assert!(rt; !referral.incomplete());
-    let mut locators = referral.locators();
-    assert_eq!(rt; locators.next(), Some(Locator::V4(0x7f00_000a)));
-    assert_eq!(rt; locators.next(), None);
-    assert_eq!(rt;
-        referral.to_record(),
-        ReferralRecord {
-            action: Action::NodeReferral,
-            prefix: block(0x0a00_0000, 8)?,
-            ttl: 1440,
-            incomplete: false,
-            servers: servers(&[Locator::V4(0x7f00_000a)])?,
-        }
-    );
-    Ok(())
-}
-
-#[test]
-fn ignored_bits_are_ignored(rt: HostRuntime) -> Result<(), Fail> {
-    let message = bytes_of(rt.alloc(), HOLE_WITH_IGNORED_BITS)?;
-    let referral = read_referral(&message)?;
-    assert_eq!(rt; referral.nonce(), 1);
-    assert_eq!(rt; referral.action(), Action::DelegationHole);
-    assert_eq!(rt; referral.prefix(), Prefix::range(0x8000_0000, 1)?);
-    assert_eq!(rt; referral.ttl(), 15);
-    assert!(rt; !referral.incomplete());
-    assert_eq!(rt; referral.locators().next(), None);
-    Ok(())
-}
-
-#[test]
-fn a_record_keeps_the_first_eight_locators(rt: HostRuntime) -> Result<(), Fail> {
-    let mut bytes = changed(bytes_of(rt.alloc(), ROOT_REFERS_TO_TEN)?, &[(16, 9)]);
+/// The Map-Referral of the root to `ten` with nine locators.
+fn with_nine_locators(alloc: Global, rt: &impl Abort) -> Vec<u8> {
+    let mut bytes = changed(message(alloc, rt, ROOT_REFERS_TO_TEN), &[(16, 9)]);
     for last in 11..19 {
-        bytes.extend_from_slice(&[0x01, 0x64, 0xff, 0, 0, 1, 0, 1, 0x7f, 0, 0, last])?;
+        let locator = [0x01, 0x64, 0xff, 0, 0, 1, 0, 1, 0x7f, 0, 0, last];
+        bytes
+            .extend_from_slice(&locator)
+            .expect(rt, "out of memory");
     }
-    let referral = read_referral(&bytes)?;
+    bytes
+}
+
+#[test]
+fn a_record_keeps_the_first_eight_locators(rt: HostRuntime) {
+    let bytes = with_nine_locators(rt.alloc(), &rt);
+    let referral = read_referral(&bytes).expect(&rt, "a Map-Referral");
     assert_eq!(rt; referral.locators().count(), 9);
     assert_eq!(rt; referral.locators().last(), Some(Locator::V4(0x7f00_0012)));
     let record = referral.to_record();
@@ -161,11 +220,19 @@ fn a_record_keeps_the_first_eight_locators(rt: HostRuntime) -> Result<(), Fail> 
         record.servers.as_slice().last(),
         Some(&Locator::V4(0x7f00_0011))
     );
-    Ok(())
+}
+
+/// The whole message is read, and no proper prefix of it.
+fn is_read_as_a_whole(alloc: Global, rt: &impl Abort, fields: &str) {
+    let bytes = message(alloc, rt, fields);
+    assert!(rt; read_referral(&bytes).is_ok());
+    for len in 0..bytes.len() {
+        refuses(rt, front(&bytes, len), ReferralFault::Short);
+    }
 }
 
 #[test]
-fn every_proper_prefix_of_a_referral_is_short(rt: HostRuntime) -> Result<(), Fail> {
+fn every_proper_prefix_of_a_referral_is_short(rt: HostRuntime) {
     for fields in [
         ROOT_REFERS_TO_TEN,
         HOLE_OF_INSTANCES,
@@ -174,20 +241,12 @@ fn every_proper_prefix_of_a_referral_is_short(rt: HostRuntime) -> Result<(), Fai
         TEN_IS_NOT_IN_CHARGE,
         EAST_ACKNOWLEDGES,
     ] {
-        let message = bytes_of(rt.alloc(), fields)?;
-        assert!(rt; read_referral(&message).is_ok());
-        for len in 0..message.len() {
-            assert_eq!(rt;
-                read_referral(front(&message, len)).err(),
-                Some(ReferralFault::Short)
-            );
-        }
+        is_read_as_a_whole(rt.alloc(), &rt, fields);
     }
-    Ok(())
 }
 
 #[test]
-fn each_fault_of_a_referral_has_a_datagram(rt: HostRuntime) -> Result<(), Fail> {
+fn each_fault_of_a_referral_has_a_datagram(rt: HostRuntime) {
     for (change, fault) in [
         ((16, 2), ReferralFault::Short),
         ((0, 0x70), ReferralFault::MessageType),
@@ -201,8 +260,7 @@ fn each_fault_of_a_referral_has_a_datagram(rt: HostRuntime) -> Result<(), Fail> 
         ((35, 3), ReferralFault::LocatorFamily),
         ((16, 0), ReferralFault::Trailing),
     ] {
-        let bytes = changed(bytes_of(rt.alloc(), ROOT_REFERS_TO_TEN)?, &[change]);
-        assert_eq!(rt; read_referral(&bytes).err(), Some(fault));
+        refuses_changed(rt.alloc(), &rt, ROOT_REFERS_TO_TEN, &[change], fault);
     }
     for (change, fault) in [
         ((20, 0x1a), ReferralFault::Signed),
@@ -213,14 +271,12 @@ fn each_fault_of_a_referral_has_a_datagram(rt: HostRuntime) -> Result<(), Fail> 
         ((27, 33), ReferralFault::MaskLength),
         ((30, 0xc0), ReferralFault::TailNotZero),
     ] {
-        let bytes = changed(bytes_of(rt.alloc(), HOLE_WITH_IGNORED_BITS)?, &[change]);
-        assert_eq!(rt; read_referral(&bytes).err(), Some(fault));
+        refuses_changed(rt.alloc(), &rt, HOLE_WITH_IGNORED_BITS, &[change], fault);
     }
-    Ok(())
 }
 
 #[test]
-fn the_first_fault_of_a_referral_is_named(rt: HostRuntime) -> Result<(), Fail> {
+fn the_first_fault_of_a_referral_is_named(rt: HostRuntime) {
     for (changes, fault) in [
         ([(0, 0x70), (3, 2), (18, 0xd0)], ReferralFault::MessageType),
         ([(3, 2), (18, 0xd0), (20, 0x10)], ReferralFault::RecordCount),
@@ -232,8 +288,7 @@ fn the_first_fault_of_a_referral_is_named(rt: HostRuntime) -> Result<(), Fail> {
         ([(16, 0), (39, 0), (38, 0)], ReferralFault::Trailing),
         ([(16, 2), (39, 0), (38, 0)], ReferralFault::Short),
     ] {
-        let bytes = changed(bytes_of(rt.alloc(), ROOT_REFERS_TO_TEN)?, &changes);
-        assert_eq!(rt; read_referral(&bytes).err(), Some(fault));
+        refuses_changed(rt.alloc(), &rt, ROOT_REFERS_TO_TEN, &changes, fault);
     }
     for (changes, fault) in [
         ([(20, 0x1a), (26, 3)], ReferralFault::Signed),
@@ -243,14 +298,12 @@ fn the_first_fault_of_a_referral_is_named(rt: HostRuntime) -> Result<(), Fail> {
         ([(27, 33), (31, 1)], ReferralFault::MaskLength),
         ([(31, 1), (16, 1)], ReferralFault::TailNotZero),
     ] {
-        let bytes = changed(bytes_of(rt.alloc(), HOLE_WITH_IGNORED_BITS)?, &changes);
-        assert_eq!(rt; read_referral(&bytes).err(), Some(fault));
+        refuses_changed(rt.alloc(), &rt, HOLE_WITH_IGNORED_BITS, &changes, fault);
     }
-    Ok(())
 }
 
 #[test]
-fn a_wrong_field_is_named_before_the_end(rt: HostRuntime) -> Result<(), Fail> {
+fn a_wrong_field_is_named_before_the_end(rt: HostRuntime) {
     for (len, change, fault) in [
         // Within the first field the end comes first.
         (3, (0, 0x70), ReferralFault::Short),
@@ -266,8 +319,7 @@ fn a_wrong_field_is_named_before_the_end(rt: HostRuntime) -> Result<(), Fail> {
         (35, (35, 3), ReferralFault::Short),
         (36, (35, 3), ReferralFault::LocatorFamily),
     ] {
-        let bytes = changed(bytes_of(rt.alloc(), ROOT_REFERS_TO_TEN)?, &[change]);
-        assert_eq!(rt; read_referral(front(&bytes, len)).err(), Some(fault));
+        refuses_front(rt.alloc(), &rt, ROOT_REFERS_TO_TEN, len, change, fault);
     }
     for (len, change, fault) in [
         (29, (26, 3), ReferralFault::Short),
@@ -275,78 +327,74 @@ fn a_wrong_field_is_named_before_the_end(rt: HostRuntime) -> Result<(), Fail> {
         (35, (29, 10), ReferralFault::Short),
         (35, (27, 33), ReferralFault::Short),
     ] {
-        let bytes = changed(bytes_of(rt.alloc(), HOLE_WITH_IGNORED_BITS)?, &[change]);
-        assert_eq!(rt; read_referral(front(&bytes, len)).err(), Some(fault));
+        refuses_front(rt.alloc(), &rt, HOLE_WITH_IGNORED_BITS, len, change, fault);
     }
-    Ok(())
 }
 
 #[test]
-fn bytes_after_the_referral_are_trailing(rt: HostRuntime) -> Result<(), Fail> {
-    let mut bytes = bytes_of(rt.alloc(), ROOT_REFERS_TO_TEN)?;
-    bytes.push(0)?;
-    assert_eq!(rt; read_referral(&bytes).err(), Some(ReferralFault::Trailing));
-    Ok(())
+fn bytes_after_the_referral_are_trailing(rt: HostRuntime) {
+    let mut bytes = message(rt.alloc(), &rt, ROOT_REFERS_TO_TEN);
+    bytes.push(0).expect(&rt, "out of memory");
+    refuses(&rt, bytes.as_slice(), ReferralFault::Trailing);
+}
+
+/// An EID of this mask length is read from the front, and so many bytes are taken.
+fn reads_eid(rt: &impl Abort, bytes: &[u8], len: u8, prefix: Prefix, taken: usize) {
+    assert_eq!(rt;
+        read_eid(bytes, len).ok(),
+        Some((prefix, taken)),
+        "of {bytes:?}"
+    );
 }
 
 #[test]
-fn eids_are_read_from_the_front(rt: HostRuntime) -> Result<(), Fail> {
-    let (prefix, taken) = read_eid(&[0, 1, 0x0a, 1, 2, 3, 0xff], 24)?;
-    assert_eq!(rt; prefix, block(0x0a01_0200, 24)?);
-    assert_eq!(rt; taken, 6);
+fn eids_are_read_from_the_front(rt: HostRuntime) {
+    let site = Locator::V4(0x0a01_0200);
+    let plain = [0, 1, 0x0a, 1, 2, 3, 0xff];
+    reads_eid(&rt, &plain, 24, block_of(&rt, 0, site, 24), 6);
     let instance = [0x40, 3, 9, 9, 2, 9, 0, 10, 0, 0, 0, 7, 0, 1, 0x0a, 1, 2, 0];
-    let (prefix, taken) = read_eid(&instance, 24)?;
-    assert_eq!(rt; prefix, Prefix::block(7, Locator::V4(0x0a01_0200), 24)?);
-    assert_eq!(rt; taken, 18);
-    Ok(())
+    reads_eid(&rt, &instance, 24, block_of(&rt, 7, site, 24), 18);
 }
 
 /// The EID of [2147483648/1]*.
 const RANGE: &str = "4003 0000 02 01 0006 80000000 0000";
 
-#[test]
-fn eids_are_refused_for_the_first_fault(rt: HostRuntime) -> Result<(), Fail> {
-    assert_eq!(rt; read_eid(&[], 0).err(), Some(EidFault::Short));
-    assert_eq!(rt;
-        read_eid(&[0, 3, 0x0a, 1], 33).err(),
-        Some(EidFault::EidFamily)
-    );
-    assert_eq!(rt;
-        read_eid(&[0, 1, 0x0a, 1, 2], 33).err(),
-        Some(EidFault::Short)
-    );
-    assert_eq!(rt;
-        read_eid(&[0, 1, 0x0a, 1, 2, 0], 33).err(),
-        Some(EidFault::MaskLength)
-    );
-    let range = bytes_of(rt.alloc(), RANGE)?;
-    assert_eq!(rt; read_eid(front(&range, 7), 0).err(), Some(EidFault::Short));
-    assert_eq!(rt; read_eid(front(&range, 13), 0).err(), Some(EidFault::Short));
-    assert_eq!(rt;
-        read_eid(&changed(bytes_of(rt.alloc(), RANGE)?, &[(13, 3)]), 0).err(),
-        Some(EidFault::Lcaf)
-    );
-    assert_eq!(rt;
-        read_eid(
-            &changed(bytes_of(rt.alloc(), RANGE)?, &[(13, 1), (7, 10)]),
-            33
-        )
-        .err(),
-        Some(EidFault::Short)
-    );
-    assert_eq!(rt;
-        read_eid(&changed(bytes_of(rt.alloc(), RANGE)?, &[(5, 33)]), 0).err(),
-        Some(EidFault::MaskLength)
-    );
-    assert_eq!(rt;
-        read_eid(&changed(bytes_of(rt.alloc(), RANGE)?, &[(5, 0)]), 0).err(),
-        Some(EidFault::TailNotZero)
-    );
-    Ok(())
+fn refuses_eid(rt: &impl Abort, bytes: &[u8], len: u8, fault: EidFault) {
+    assert_eq!(rt; read_eid(bytes, len).err(), Some(fault), "of {bytes:?}");
 }
 
 #[test]
-fn faults_are_printed_by_number_and_name(rt: HostRuntime) -> Result<(), Fail> {
+fn eids_are_refused_for_the_first_fault(rt: HostRuntime) {
+    refuses_eid(&rt, &[], 0, EidFault::Short);
+    refuses_eid(&rt, &[0, 3, 0x0a, 1], 33, EidFault::EidFamily);
+    refuses_eid(&rt, &[0, 1, 0x0a, 1, 2], 33, EidFault::Short);
+    refuses_eid(&rt, &[0, 1, 0x0a, 1, 2, 0], 33, EidFault::MaskLength);
+    let range = message(rt.alloc(), &rt, RANGE);
+    refuses_eid(&rt, front(&range, 7), 0, EidFault::Short);
+    refuses_eid(&rt, front(&range, 13), 0, EidFault::Short);
+}
+
+#[test]
+fn eids_of_ranges_are_refused_for_the_first_fault(rt: HostRuntime) {
+    let table: [(&[(usize, u8)], u8, EidFault); 4] = [
+        (&[(13, 3)], 0, EidFault::Lcaf),
+        (&[(13, 1), (7, 10)], 33, EidFault::Short),
+        (&[(5, 33)], 0, EidFault::MaskLength),
+        (&[(5, 0)], 0, EidFault::TailNotZero),
+    ];
+    for (changes, len, fault) in table {
+        let range = changed(message(rt.alloc(), &rt, RANGE), changes);
+        refuses_eid(&rt, range.as_slice(), len, fault);
+    }
+}
+
+fn prints<T: Display + Drop>(alloc: Global, rt: &impl Abort, fault: T, written: &str) {
+    let text = format!(in alloc; "{fault}").expect(rt, "out of memory");
+    assert_eq!(rt; text.as_str(), written);
+}
+
+#[test]
+fn faults_are_printed_by_number_and_name(rt: HostRuntime) {
     for (fault, written) in [
         (ReferralFault::Short, "1 Short"),
         (ReferralFault::MessageType, "2 MessageType"),
@@ -360,8 +408,7 @@ fn faults_are_printed_by_number_and_name(rt: HostRuntime) -> Result<(), Fail> {
         (ReferralFault::LocatorFamily, "10 LocatorFamily"),
         (ReferralFault::Trailing, "11 Trailing"),
     ] {
-        let text = format!(in rt.alloc(); "{fault}")?;
-        assert_eq!(rt; text.as_str(), written);
+        prints(rt.alloc(), &rt, fault, written);
     }
     for (fault, written) in [
         (EidFault::Short, "1 Short"),
@@ -370,29 +417,34 @@ fn faults_are_printed_by_number_and_name(rt: HostRuntime) -> Result<(), Fail> {
         (EidFault::MaskLength, "4 MaskLength"),
         (EidFault::TailNotZero, "5 TailNotZero"),
     ] {
-        let text = format!(in rt.alloc(); "{fault}")?;
-        assert_eq!(rt; text.as_str(), written);
+        prints(rt.alloc(), &rt, fault, written);
     }
-    Ok(())
-}
-
-#[test]
-fn addresses_are_written_and_read_behind_their_family(rt: HostRuntime) -> Result<(), Fail> {
-    let mut bytes = Vec::from_slice(rt.alloc(), &[0xff])?;
-    write_address(&mut bytes, Locator::V4(0x7f00_000a))?;
-    assert_eq!(rt; bytes.as_slice(), [0xff, 0, 1, 0x7f, 0, 0, 0x0a].as_slice());
-    assert_eq!(rt; read_address(&bytes[1..])?, (Locator::V4(0x7f00_000a), 6));
-    let loopback = [0, 2, 0, 0, 0, 0, 0, 0, 0, 0, 0, 0, 0, 0, 0, 0, 0, 1];
-    assert_eq!(rt; read_address(&loopback)?, (Locator::V6(1), 18));
-    assert_eq!(rt; read_address(&loopback[..17]), Err(AddressFault::Short));
-    assert_eq!(rt; read_address(&loopback[..1]), Err(AddressFault::Short));
-    assert_eq!(rt; read_address(&[0, 3]), Err(AddressFault::Family));
     for (fault, written) in [
         (AddressFault::Short, "1 Short"),
         (AddressFault::Family, "2 Family"),
     ] {
-        let text = format!(in rt.alloc(); "{fault}")?;
-        assert_eq!(rt; text.as_str(), written);
+        prints(rt.alloc(), &rt, fault, written);
     }
-    Ok(())
+}
+
+fn writes_address(alloc: Global, rt: &impl Abort, before: &[u8], address: Locator, after: &[u8]) {
+    let mut bytes = Vec::from_slice(alloc, before).expect(rt, "out of memory");
+    write_address(&mut bytes, address).expect(rt, "out of memory");
+    assert_eq!(rt; bytes.as_slice(), after);
+}
+
+fn reads_address(rt: &impl Abort, bytes: &[u8], wanted: Result<(Locator, usize), AddressFault>) {
+    assert_eq!(rt; read_address(bytes), wanted, "of {bytes:?}");
+}
+
+#[test]
+fn addresses_are_written_and_read_behind_their_family(rt: HostRuntime) {
+    let ten = [0xff, 0, 1, 0x7f, 0, 0, 0x0a];
+    writes_address(rt.alloc(), &rt, &[0xff], TEN, &ten);
+    reads_address(&rt, &ten[1..], Ok((TEN, 6)));
+    let loopback = [0, 2, 0, 0, 0, 0, 0, 0, 0, 0, 0, 0, 0, 0, 0, 0, 0, 1];
+    reads_address(&rt, &loopback, Ok((Locator::V6(1), 18)));
+    reads_address(&rt, &loopback[..17], Err(AddressFault::Short));
+    reads_address(&rt, &loopback[..1], Err(AddressFault::Short));
+    reads_address(&rt, &[0, 3], Err(AddressFault::Family));
 }

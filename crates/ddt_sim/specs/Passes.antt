@@ -1,4 +1,5 @@
--- The passes of a lookup: how many referrals it follows from its start, and again from the root (RFC 8111, section 7.3).
+-- The passes of a lookup: how many referrals it follows from its start, and once again from the root (RFC 8111,
+-- section 7.3).
 use Rattle.std.specs.Prelude.{ℕ, ◌+◌, ◌≤◌, List, [], ◌∷◌, length, All, Result, Ok, Err}
 use Rattle.ddt_path.specs.declared.record.Action.{Action}
 use Rattle.ddt_path.specs.declared.record.Action.TheVariants.{NodeReferral, MsReferral, NotAuthoritative}

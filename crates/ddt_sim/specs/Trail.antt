@@ -29,9 +29,9 @@ pub record IsHopTo (x : Xeid) (me : Locator) (l : Locator) (hop : Hop) (rec : Re
   pub tells : Tells hop.reply nonce rec
   pub about : IsAbout rec (xeid_path x)
 
--- The hops of a lookup of x from here on, by what it has saved, where it started, and the servers left of its set. The
--- first is the prefix of the last referral that it followed in this pass. The second is the prefix of the entry at which
--- the pass began, and None for the root. The first of the servers is asked.
+-- The hops of a lookup of x from here on, by what it has saved, where it started, and the servers left of its set.
+-- The first is the prefix of the last referral that it followed in this pass. The second is the prefix of the entry
+-- at which the pass began, and None for the root. The first of the servers is asked.
 -- `ends`: the reply is an MS-ACK or DELEGATION-HOLE, and gives the outcome. `concludes`: it is the MS-NOT-REGISTERED of
 -- the last server of the set, and gives the outcome. `passes_on`: it is that of another, and the next server of the set
 -- is next. `refers`: it is a referral to a longer prefix than the one before, and its set is next. `starts_over`: the

@@ -6,10 +6,27 @@ use ddt_examples::messages::{
     DDT_REQUEST, EAST_ACKNOWLEDGES, HOLE_WITH_IGNORED_BITS, IPV6_REQUEST, ITR_REQUEST,
     ROOT_REFERS_TO_TEN, TEN_IS_NOT_IN_CHARGE,
 };
+use std::alloc::Global;
+use std::process::Abort;
 use std::test::Fail;
 
+/// Shows each message, and compares its line.
+fn shows<R: Abort>(rt: &R, alloc: Global, rows: &[(&str, &str)]) -> Result<(), Fail> {
+    for (fields, line) in rows {
+        let word = word(alloc, fields)?;
+        expect(
+            rt,
+            alloc,
+            "",
+            &["show", word.as_str()],
+            (Answered, line, ""),
+        )?;
+    }
+    Ok(())
+}
+
 #[test]
-fn messages_are_shown(rt: HostRuntime) -> Result<(), Fail> {
+fn referrals_are_shown(rt: HostRuntime) -> Result<(), Fail> {
     let rows = [
         (
             ROOT_REFERS_TO_TEN,
@@ -27,6 +44,13 @@ fn messages_are_shown(rt: HostRuntime) -> Result<(), Fail> {
             EAST_ACKNOWLEDGES,
             "referral nonce 0000000000000001 MS-ACK [0]10.1.2.0/24 ttl 1440 complete 127.0.1.1 127.0.1.2\n",
         ),
+    ];
+    shows(&rt, rt.alloc(), &rows)
+}
+
+#[test]
+fn requests_are_shown(rt: HostRuntime) -> Result<(), Fail> {
+    let rows = [
         (
             DDT_REQUEST,
             "request nonce 0000000000000001 ddt [0]10.1.2.3 port 4342 itr 127.0.0.53\n",
@@ -40,17 +64,7 @@ fn messages_are_shown(rt: HostRuntime) -> Result<(), Fail> {
             "request nonce 1122334455667788 plain [0]10.2.0.1 port 50000 itr 127.0.0.60\n",
         ),
     ];
-    for (fields, line) in rows {
-        let word = word(rt.alloc(), fields)?;
-        expect(
-            &rt,
-            rt.alloc(),
-            "",
-            &["show", word.as_str()],
-            (Answered, line, ""),
-        )?;
-    }
-    Ok(())
+    shows(&rt, rt.alloc(), &rows)
 }
 
 #[test]

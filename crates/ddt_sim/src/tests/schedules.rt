@@ -8,11 +8,24 @@ use ddt_resolver::{Asked, Heard, Ignored, Ticked};
 
 type Campus = Compiled<ListMap<u32>>;
 
+/// What happens, in a word.
+#[derive(Clone, Copy, PartialEq, Eq)]
+enum What {
+    Sent,
+    Reply,
+    Answer,
+    NoReply,
+    UnknownNonce,
+    Late,
+    Now,
+    Nothing,
+    Other,
+}
+
 /// What an event tells, without the bytes of a request.
 #[derive(Clone, Copy, PartialEq, Eq)]
 struct Told {
-    /// What happens, in a word.
-    what: &'static str,
+    what: What,
     /// The ticket, the number of a reply, or the moment.
     number: u64,
     /// Whom a request is sent to.
@@ -22,7 +35,7 @@ struct Told {
 }
 
 /// A word and a number.
-fn plain(what: &'static str, number: u64) -> Told {
+fn plain(what: What, number: u64) -> Told {
     Told {
         what,
         number,
@@ -34,7 +47,7 @@ fn plain(what: &'static str, number: u64) -> Told {
 /// A request that is sent for a ticket.
 fn sent(ticket: u64, to: Locator) -> Told {
     Told {
-        what: "sent",
+        what: What::Sent,
         number: ticket,
         to: Some(to),
         outcome: None,
@@ -44,7 +57,7 @@ fn sent(ticket: u64, to: Locator) -> Told {
 /// An answer to a ticket, or with the number 0 one at once.
 fn answer(ticket: u64, outcome: Outcome) -> Told {
     Told {
-        what: "answer",
+        what: What::Answer,
         number: ticket,
         to: None,
         outcome: Some(outcome),
@@ -56,36 +69,36 @@ fn line_of(event: &Event) -> Told {
     match event {
         Event::Asked(Asked::Answer(outcome)) => answer(0, *outcome),
         Event::Asked(Asked::Sent(ticket, request)) => sent(ticket.number(), request.to),
-        Event::Refused(_) => plain("refused", 0),
-        Event::Replied(number) => plain("reply", *number),
-        Event::Silent => plain("silent", 0),
-        Event::Passed(moment) => plain("now", moment.millis()),
+        Event::Refused(_) => plain(What::Other, 0),
+        Event::Replied(number) => plain(What::Reply, *number),
+        Event::Silent => plain(What::Other, 0),
+        Event::Passed(moment) => plain(What::Now, moment.millis()),
         Event::Heard(heard) => line_of_heard(heard),
         Event::Ticked(ticked) => line_of_ticked(ticked),
-        Event::Nothing => plain("nothing", 0),
+        Event::Nothing => plain(What::Nothing, 0),
     }
 }
 
 /// What a datagram at the resolver tells.
 fn line_of_heard(heard: &Heard) -> Told {
     match heard {
-        Heard::Ignored(Ignored::UnknownNonce) => plain("unknown nonce", 0),
-        Heard::Ignored(Ignored::Late) => plain("late", 0),
-        Heard::Ignored(_) => plain("ignored", 0),
+        Heard::Ignored(Ignored::UnknownNonce) => plain(What::UnknownNonce, 0),
+        Heard::Ignored(Ignored::Late) => plain(What::Late, 0),
+        Heard::Ignored(_) => plain(What::Other, 0),
         Heard::Followed(ticket, request) => sent(ticket.number(), request.to),
         Heard::Answer(ticket, outcome) => answer(ticket.number(), *outcome),
-        Heard::GaveUp(ticket, _) => plain("gave up", ticket.number()),
+        Heard::GaveUp(ticket, _) => plain(What::Other, ticket.number()),
     }
 }
 
 /// What a tick tells.
 fn line_of_ticked(ticked: &Ticked) -> Told {
     match ticked {
-        Ticked::Nothing => plain("nothing", 0),
+        Ticked::Nothing => plain(What::Nothing, 0),
         Ticked::Sent(ticket, request) => sent(ticket.number(), request.to),
         Ticked::Answer(ticket, outcome) => answer(ticket.number(), *outcome),
-        Ticked::GaveUp(ticket, Why::NoReply) => plain("no reply", ticket.number()),
-        Ticked::GaveUp(ticket, _) => plain("gave up", ticket.number()),
+        Ticked::GaveUp(ticket, Why::NoReply) => plain(What::NoReply, ticket.number()),
+        Ticked::GaveUp(ticket, _) => plain(What::Other, ticket.number()),
     }
 }
 
@@ -128,13 +141,13 @@ fn a_hole_ends_and_the_referral_lives(rt: HostRuntime) -> Result<(), Fail> {
     };
     let schedule = [
         (ask(0x0a02_0001), sent(1, ROOT)),
-        (Step::Deliver(0), plain("reply", 1)),
+        (Step::Deliver(0), plain(What::Reply, 1)),
         (Step::Deliver(1), sent(1, TEN)),
-        (Step::Deliver(2), plain("reply", 3)),
+        (Step::Deliver(2), plain(What::Reply, 3)),
         (Step::Deliver(3), answer(1, hole)),
-        (Step::Pass(60_000), plain("now", 60_000)),
+        (Step::Pass(60_000), plain(What::Now, 60_000)),
         (ask(0x0a02_0001), answer(0, hole)),
-        (Step::Pass(840_000), plain("now", 900_000)),
+        (Step::Pass(840_000), plain(What::Now, 900_000)),
         (ask(0x0a02_0001), sent(3, TEN)),
     ];
     assert_eq!(rt; tells(alloc, CAMPUS, &schedule)?, true);
@@ -154,26 +167,26 @@ fn two_lookups_go_on_side_by_side(rt: HostRuntime) -> Result<(), Fail> {
     let schedule = [
         (ask(0x0a01_0203), sent(1, ROOT)),
         (ask(0x0a02_0001), sent(2, ROOT)),
-        (Step::Deliver(0), plain("reply", 2)),
-        (Step::Deliver(1), plain("reply", 3)),
+        (Step::Deliver(0), plain(What::Reply, 2)),
+        (Step::Deliver(1), plain(What::Reply, 3)),
         (Step::Deliver(3), sent(2, TEN)),
         (Step::Deliver(2), sent(1, TEN)),
-        (Step::Deliver(2), plain("unknown nonce", 0)),
-        (Step::Deliver(4), plain("reply", 6)),
+        (Step::Deliver(2), plain(What::UnknownNonce, 0)),
+        (Step::Deliver(4), plain(What::Reply, 6)),
         (Step::Deliver(6), answer(2, hole)),
-        (Step::Deliver(6), plain("unknown nonce", 0)),
-        (Step::Pass(2_000), plain("now", 2_000)),
-        (Step::Deliver(5), plain("reply", 7)),
-        (Step::Deliver(7), plain("late", 0)),
+        (Step::Deliver(6), plain(What::UnknownNonce, 0)),
+        (Step::Pass(2_000), plain(What::Now, 2_000)),
+        (Step::Deliver(5), plain(What::Reply, 7)),
+        (Step::Deliver(7), plain(What::Late, 0)),
         (Step::Tick, sent(1, TEN)),
-        (Step::Deliver(7), plain("unknown nonce", 0)),
-        (Step::Tick, plain("nothing", 0)),
-        (Step::Deliver(8), plain("reply", 9)),
+        (Step::Deliver(7), plain(What::UnknownNonce, 0)),
+        (Step::Tick, plain(What::Nothing, 0)),
+        (Step::Deliver(8), plain(What::Reply, 9)),
         (Step::Deliver(9), sent(1, EAST)),
-        (Step::Deliver(10), plain("reply", 11)),
+        (Step::Deliver(10), plain(What::Reply, 11)),
         (Step::Deliver(11), answer(1, site)),
         (ask(0x0a02_0505), answer(0, hole)),
-        (Step::Deliver(99), plain("nothing", 0)),
+        (Step::Deliver(99), plain(What::Nothing, 0)),
     ];
     assert_eq!(rt; tells(alloc, CAMPUS, &schedule)?, true);
     Ok(())
@@ -184,10 +197,10 @@ fn two_tries_without_a_reply_end_a_lookup(rt: HostRuntime) -> Result<(), Fail> {
     let alloc = rt.alloc();
     let schedule = [
         (ask(0x0101_0101), sent(1, ROOT)),
-        (Step::Pass(2_000), plain("now", 2_000)),
+        (Step::Pass(2_000), plain(What::Now, 2_000)),
         (Step::Tick, sent(1, ROOT)),
-        (Step::Pass(2_000), plain("now", 4_000)),
-        (Step::Tick, plain("no reply", 1)),
+        (Step::Pass(2_000), plain(What::Now, 4_000)),
+        (Step::Tick, plain(What::NoReply, 1)),
     ];
     assert_eq!(rt; tells(alloc, LONE_ROOT, &schedule)?, true);
     Ok(())
@@ -202,15 +215,15 @@ fn a_kept_answer_is_given_and_not_remembered(rt: HostRuntime) -> Result<(), Fail
     };
     let schedule = [
         (ask(0x0a01_0407), sent(1, ROOT)),
-        (Step::Deliver(0), plain("reply", 1)),
+        (Step::Deliver(0), plain(What::Reply, 1)),
         (Step::Deliver(1), sent(1, TEN)),
-        (Step::Deliver(2), plain("reply", 3)),
+        (Step::Deliver(2), plain(What::Reply, 3)),
         (Step::Deliver(3), sent(1, EAST)),
-        (Step::Deliver(4), plain("reply", 5)),
+        (Step::Deliver(4), plain(What::Reply, 5)),
         (Step::Deliver(5), sent(1, EAST_2)),
-        (Step::Pass(2_000), plain("now", 2_000)),
+        (Step::Pass(2_000), plain(What::Now, 2_000)),
         (Step::Tick, sent(1, EAST_2)),
-        (Step::Pass(2_000), plain("now", 4_000)),
+        (Step::Pass(2_000), plain(What::Now, 4_000)),
         (Step::Tick, answer(1, part)),
         (ask(0x0a01_0407), sent(6, EAST)),
     ];

@@ -3,7 +3,7 @@ use ddt_examples::messages::{DDT_REQUEST, IPV6_REQUEST, ITR_REQUEST, ITR_REQUEST
 use ddt_examples::{bytes_of, changed, front};
 use ddt_path::{Locator, Xeid};
 use std::alloc::Global;
-use std::test::Fail;
+use std::process::Abort;
 
 const RESOLVER: Locator = Locator::V4(0x7f00_0035);
 
@@ -11,69 +11,111 @@ fn identifier(address: Locator) -> Xeid {
     Xeid { iid: 0, address }
 }
 
-#[test]
-fn ipv4_request_is_written(rt: HostRuntime) -> Result<(), Fail> {
-    let x = identifier(Locator::V4(0x0a01_0203));
-    let bytes = write_request(rt.alloc(), 1, x, &[RESOLVER], true)?;
-    let wanted = bytes_of(rt.alloc(), DDT_REQUEST)?;
-    assert_eq!(rt; bytes.as_slice(), wanted.as_slice());
-    Ok(())
+// Each message is read or written, and judged, in a function of its own, so that the proof of a test is short.
+
+fn message(alloc: Global, rt: &impl Abort, fields: &str) -> Vec<u8> {
+    bytes_of(alloc, fields).expect(rt, "no bytes")
 }
 
-#[test]
-fn ipv6_request_is_written(rt: HostRuntime) -> Result<(), Fail> {
-    let x = identifier(Locator::V6(0x2001_0db8_0000_0000_0000_0000_0000_0001));
-    let bytes = write_request(rt.alloc(), 2, x, &[RESOLVER], true)?;
-    let wanted = bytes_of(rt.alloc(), IPV6_REQUEST)?;
-    assert_eq!(rt; bytes.as_slice(), wanted.as_slice());
-    Ok(())
+/// The request of the resolver for an address of instance 0 is written as these bytes.
+fn writes(alloc: Global, rt: &impl Abort, nonce: u64, address: Locator, fields: &str) {
+    let bytes = write_request(alloc, nonce, identifier(address), &[RESOLVER], true);
+    let bytes = bytes.expect(rt, "out of memory");
+    assert_eq!(rt; bytes.as_slice(), message(alloc, rt, fields).as_slice());
 }
 
-#[test]
-fn ipv4_request_is_read(rt: HostRuntime) -> Result<(), Fail> {
-    let message = bytes_of(rt.alloc(), DDT_REQUEST)?;
-    let request = read_request(&message)?;
-    assert_eq!(rt; request.nonce(), 1);
-    assert!(rt; request.ddt());
-    assert_eq!(rt; request.port(), 4342);
-    assert_eq!(rt; request.xeid(), identifier(Locator::V4(0x0a01_0203)));
+fn request<'a>(rt: &impl Abort, bytes: &'a [u8]) -> Request<'a> {
+    read_request(bytes).expect(rt, "a request")
+}
+
+fn refuses(rt: &impl Abort, bytes: &[u8], fault: RequestFault) {
+    assert_eq!(rt; read_request(bytes).err(), Some(fault), "of {bytes:?}");
+}
+
+/// The message is refused with these bytes in it.
+fn refuses_changed(
+    alloc: Global,
+    rt: &impl Abort,
+    fields: &str,
+    changes: &[(usize, u8)],
+    fault: RequestFault,
+) {
+    let bytes = changed(message(alloc, rt, fields), changes);
+    refuses(rt, bytes.as_slice(), fault);
+}
+
+/// It asks for this address of instance 0.
+fn asks(rt: &impl Abort, request: &Request<'_>, nonce: u64, address: Locator) {
+    assert_eq!(rt; request.nonce(), nonce);
+    assert_eq!(rt; request.xeid(), identifier(address));
+}
+
+/// It comes from a node or from an ITR, and is answered at this port, at these locators.
+fn comes_from(
+    rt: &impl Abort,
+    request: &Request<'_>,
+    is_ddt: bool,
+    port: u16,
+    locators: &[Locator],
+) {
+    assert_eq!(rt; request.ddt(), is_ddt);
+    assert_eq!(rt; request.port(), port);
     let mut rlocs = request.itr_rlocs();
-    assert_eq!(rt; rlocs.next(), Some(RESOLVER));
+    for locator in locators {
+        assert_eq!(rt; rlocs.next(), Some(*locator));
+    }
     assert_eq!(rt; rlocs.next(), None);
-    Ok(())
+}
+
+const DOCUMENTATION: Locator = Locator::V6(0x2001_0db8_0000_0000_0000_0000_0000_0001);
+
+const ITR: Locator = Locator::V4(0x7f00_003c);
+
+#[test]
+fn ipv4_request_is_written(rt: HostRuntime) {
+    writes(rt.alloc(), &rt, 1, Locator::V4(0x0a01_0203), DDT_REQUEST);
 }
 
 #[test]
-fn ipv6_request_is_read(rt: HostRuntime) -> Result<(), Fail> {
-    let message = bytes_of(rt.alloc(), IPV6_REQUEST)?;
-    let request = read_request(&message)?;
-    assert_eq!(rt; request.nonce(), 2);
-    assert_eq!(rt;
-        request.xeid(),
-        identifier(Locator::V6(0x2001_0db8_0000_0000_0000_0000_0000_0001))
+fn ipv6_request_is_written(rt: HostRuntime) {
+    writes(rt.alloc(), &rt, 2, DOCUMENTATION, IPV6_REQUEST);
+}
+
+#[test]
+fn ipv4_request_is_read(rt: HostRuntime) {
+    let bytes = message(rt.alloc(), &rt, DDT_REQUEST);
+    let request = request(&rt, bytes.as_slice());
+    asks(&rt, &request, 1, Locator::V4(0x0a01_0203));
+    comes_from(&rt, &request, true, 4342, &[RESOLVER]);
+}
+
+#[test]
+fn ipv6_request_is_read(rt: HostRuntime) {
+    let bytes = message(rt.alloc(), &rt, IPV6_REQUEST);
+    asks(&rt, &request(&rt, bytes.as_slice()), 2, DOCUMENTATION);
+}
+
+#[test]
+fn request_of_an_itr_is_read(rt: HostRuntime) {
+    let bytes = message(rt.alloc(), &rt, ITR_REQUEST);
+    let request = request(&rt, bytes.as_slice());
+    asks(
+        &rt,
+        &request,
+        0x1122_3344_5566_7788,
+        Locator::V4(0x0a02_0001),
     );
-    Ok(())
+    comes_from(&rt, &request, false, 50000, &[ITR]);
 }
 
 #[test]
-fn request_of_an_itr_is_read(rt: HostRuntime) -> Result<(), Fail> {
-    let message = bytes_of(rt.alloc(), ITR_REQUEST)?;
-    let request = read_request(&message)?;
-    assert_eq!(rt; request.nonce(), 0x1122_3344_5566_7788);
-    assert!(rt; !request.ddt());
-    assert_eq!(rt; request.port(), 50000);
-    assert_eq!(rt; request.xeid(), identifier(Locator::V4(0x0a02_0001)));
-    assert_eq!(rt; request.itr_rlocs().next(), Some(Locator::V4(0x7f00_003c)));
-    Ok(())
-}
-
-#[test]
-fn a_request_in_another_form_is_read(rt: HostRuntime) -> Result<(), Fail> {
-    let message = bytes_of(rt.alloc(), ITR_REQUEST_IN_ANOTHER_FORM)?;
-    let request = read_request(&message)?;
+fn a_request_in_another_form_is_read(rt: HostRuntime) {
+    let alloc = rt.alloc();
+    let bytes = message(alloc, &rt, ITR_REQUEST_IN_ANOTHER_FORM);
+    let request = request(&rt, bytes.as_slice());
     assert_eq!(rt; request.xeid(), identifier(Locator::V4(0x0a02_0001)));
     let mut rlocs = request.itr_rlocs();
-    assert_eq!(rt; rlocs.next(), Some(Locator::V4(0x7f00_003c)));
+    assert_eq!(rt; rlocs.next(), Some(ITR));
     let second = Locator::V6(0x2001_0db8_0000_0000_0000_0000_0000_0035);
     assert_eq!(rt; rlocs.next(), Some(second));
     assert_eq!(rt; rlocs.next(), None);
@@ -83,64 +125,59 @@ fn a_request_in_another_form_is_read(rt: HostRuntime) -> Result<(), Fail> {
         ([(25, 2), (1, 0)], RequestFault::IpChecksum),
         ([(54, 0x0a), (34, 0xc4)], RequestFault::Short),
     ] {
-        let bytes = changed(bytes_of(rt.alloc(), ITR_REQUEST_IN_ANOTHER_FORM)?, &changes);
-        assert_eq!(rt; read_request(&bytes).err(), Some(fault));
+        refuses_changed(alloc, &rt, ITR_REQUEST_IN_ANOTHER_FORM, &changes, fault);
     }
-    Ok(())
 }
 
 /// The DDT Map-Request without a checksum of UDP, so that bytes behind it can be changed.
-fn without_a_sum(alloc: Global, changes: &[(usize, u8)]) -> Result<Vec<u8>, Fail> {
-    let request = changed(bytes_of(alloc, DDT_REQUEST)?, &[(30, 0), (31, 0)]);
-    Ok(changed(request, changes))
+fn without_a_sum(alloc: Global, rt: &impl Abort, changes: &[(usize, u8)]) -> Vec<u8> {
+    let request = changed(message(alloc, rt, DDT_REQUEST), &[(30, 0), (31, 0)]);
+    changed(request, changes)
 }
 
 /// The one for an IPv6 address in the same way.
-fn ipv6_without_a_sum(alloc: Global, changes: &[(usize, u8)]) -> Result<Vec<u8>, Fail> {
-    let request = changed(bytes_of(alloc, IPV6_REQUEST)?, &[(50, 0), (51, 0)]);
-    Ok(changed(request, changes))
+fn ipv6_without_a_sum(alloc: Global, rt: &impl Abort, changes: &[(usize, u8)]) -> Vec<u8> {
+    let request = changed(message(alloc, rt, IPV6_REQUEST), &[(50, 0), (51, 0)]);
+    changed(request, changes)
 }
 
-/// A request for a range of instances, of no length.
-fn request_of_a_range(alloc: Global) -> Result<Vec<u8>, Fail> {
+/// A request for a range of instances, of no length, with these bytes in it.
+fn request_of_a_range(alloc: Global, rt: &impl Abort, changes: &[(usize, u8)]) -> Vec<u8> {
     let range = [(74, 0x40), (75, 3), (78, 2), (79, 0), (81, 6)];
-    ipv6_without_a_sum(alloc, &range)
+    changed(ipv6_without_a_sum(alloc, rt, &range), changes)
+}
+
+/// So many bytes from the front, from one length to below another, are refused.
+fn refuses_fronts(
+    alloc: Global,
+    rt: &impl Abort,
+    fields: &str,
+    lengths: (usize, usize),
+    fault: RequestFault,
+) {
+    let bytes = message(alloc, rt, fields);
+    for len in lengths.0..lengths.1 {
+        refuses(rt, front(&bytes, len), fault);
+    }
 }
 
 #[test]
-fn every_proper_prefix_of_a_request_is_refused(rt: HostRuntime) -> Result<(), Fail> {
-    let ddt = bytes_of(rt.alloc(), DDT_REQUEST)?;
-    let itr = bytes_of(rt.alloc(), ITR_REQUEST)?;
-    let ipv6 = bytes_of(rt.alloc(), IPV6_REQUEST)?;
-    for len in 0..60 {
-        let fault = if len < 24 {
-            RequestFault::Short
-        } else {
-            RequestFault::IpLength
-        };
-        assert_eq!(rt; read_request(front(&ddt, len)).err(), Some(fault));
-        assert_eq!(rt; read_request(front(&itr, len)).err(), Some(fault));
+fn every_proper_prefix_of_a_request_is_refused(rt: HostRuntime) {
+    for (fields, lengths, fault) in [
+        (DDT_REQUEST, (0, 24), RequestFault::Short),
+        (DDT_REQUEST, (24, 60), RequestFault::IpLength),
+        (ITR_REQUEST, (0, 24), RequestFault::Short),
+        (ITR_REQUEST, (24, 64), RequestFault::IpLength),
+        (IPV6_REQUEST, (0, 44), RequestFault::Short),
+        (IPV6_REQUEST, (44, 92), RequestFault::IpLength),
+    ] {
+        refuses_fronts(rt.alloc(), &rt, fields, lengths, fault);
     }
-    for len in 60..64 {
-        assert_eq!(rt;
-            read_request(front(&itr, len)).err(),
-            Some(RequestFault::IpLength)
-        );
-    }
-    for len in 0..92 {
-        let fault = if len < 44 {
-            RequestFault::Short
-        } else {
-            RequestFault::IpLength
-        };
-        assert_eq!(rt; read_request(front(&ipv6, len)).err(), Some(fault));
-    }
-    Ok(())
 }
 
 #[test]
-fn each_fault_of_the_headers_has_a_datagram(rt: HostRuntime) -> Result<(), Fail> {
-    assert_eq!(rt; read_request(&[]).err(), Some(RequestFault::Short));
+fn each_fault_of_the_headers_has_a_datagram(rt: HostRuntime) {
+    refuses(&rt, &[], RequestFault::Short);
     for (changes, fault) in [
         ([(0, 0x64), (1, 0)], RequestFault::MessageType),
         ([(0, 0x8c), (1, 0)], RequestFault::Security),
@@ -155,8 +192,7 @@ fn each_fault_of_the_headers_has_a_datagram(rt: HostRuntime) -> Result<(), Fail>
         ([(31, 0x24), (5, 0)], RequestFault::UdpChecksum),
         ([(27, 0xf7), (31, 0x22)], RequestFault::Port),
     ] {
-        let bytes = changed(bytes_of(rt.alloc(), DDT_REQUEST)?, &changes);
-        assert_eq!(rt; read_request(&bytes).err(), Some(fault));
+        refuses_changed(rt.alloc(), &rt, DDT_REQUEST, &changes, fault);
     }
     for (changes, fault) in [
         ([(9, 0x31)], RequestFault::IpLength),
@@ -164,14 +200,12 @@ fn each_fault_of_the_headers_has_a_datagram(rt: HostRuntime) -> Result<(), Fail>
         ([(49, 0x31)], RequestFault::UdpLength),
         ([(51, 0x73)], RequestFault::UdpChecksum),
     ] {
-        let bytes = changed(bytes_of(rt.alloc(), IPV6_REQUEST)?, &changes);
-        assert_eq!(rt; read_request(&bytes).err(), Some(fault));
+        refuses_changed(rt.alloc(), &rt, IPV6_REQUEST, &changes, fault);
     }
-    Ok(())
 }
 
 #[test]
-fn each_fault_of_the_map_request_has_a_datagram(rt: HostRuntime) -> Result<(), Fail> {
+fn each_fault_of_the_map_request_has_a_datagram(rt: HostRuntime) {
     for (changes, fault) in [
         ([(55, 2)], RequestFault::Short),
         ([(45, 2)], RequestFault::Short),
@@ -184,14 +218,16 @@ fn each_fault_of_the_map_request_has_a_datagram(rt: HostRuntime) -> Result<(), F
         ([(53, 31)], RequestFault::NotHost),
         ([(53, 33)], RequestFault::NotHost),
     ] {
-        let bytes = without_a_sum(rt.alloc(), &changes)?;
-        assert_eq!(rt; read_request(&bytes).err(), Some(fault));
+        refuses(
+            &rt,
+            without_a_sum(rt.alloc(), &rt, &changes).as_slice(),
+            fault,
+        );
     }
-    Ok(())
 }
 
 #[test]
-fn each_fault_of_an_instance_has_a_datagram(rt: HostRuntime) -> Result<(), Fail> {
+fn each_fault_of_an_instance_has_a_datagram(rt: HostRuntime) {
     for (changes, fault) in [
         // A range of no length, of one above 32, with bits past its length.
         ([(81, 6)], RequestFault::NotHost),
@@ -202,36 +238,44 @@ fn each_fault_of_an_instance_has_a_datagram(rt: HostRuntime) -> Result<(), Fail>
         ([(87, 3)], RequestFault::Lcaf),
         ([(81, 10)], RequestFault::Lcaf),
     ] {
-        let bytes = changed(request_of_a_range(rt.alloc())?, &changes);
-        assert_eq!(rt; read_request(&bytes).err(), Some(fault));
+        refuses(
+            &rt,
+            request_of_a_range(rt.alloc(), &rt, &changes).as_slice(),
+            fault,
+        );
     }
-    let half = changed(request_of_a_range(rt.alloc())?, &[(87, 2), (81, 22)]);
-    assert_eq!(rt; read_request(&half).err(), Some(RequestFault::Short));
-    Ok(())
+    let half = request_of_a_range(rt.alloc(), &rt, &[(87, 2), (81, 22)]);
+    refuses(&rt, half.as_slice(), RequestFault::Short);
 }
 
 #[test]
-fn bytes_may_stand_behind_the_eid_with_the_bit_m(rt: HostRuntime) -> Result<(), Fail> {
-    let plain = ipv6_without_a_sum(rt.alloc(), &[(73, 32), (75, 1)])?;
-    assert_eq!(rt; read_request(&plain).err(), Some(RequestFault::Trailing));
+fn bytes_may_stand_behind_the_eid_with_the_bit_m(rt: HostRuntime) {
+    let plain = ipv6_without_a_sum(rt.alloc(), &rt, &[(73, 32), (75, 1)]);
+    refuses(&rt, plain.as_slice(), RequestFault::Trailing);
     let with_map = changed(plain, &[(52, 0x14)]);
-    let request = read_request(&with_map)?;
-    assert_eq!(rt; request.xeid(), identifier(Locator::V4(0x2001_0db8)));
-    Ok(())
-}
-
-#[test]
-fn a_checksum_of_zero_counts_as_absent(rt: HostRuntime) -> Result<(), Fail> {
-    assert_eq!(rt; read_request(&without_a_sum(rt.alloc(), &[])?)?.nonce(), 1);
-    assert_eq!(rt;
-        read_request(&ipv6_without_a_sum(rt.alloc(), &[])?)?.nonce(),
-        2
+    asks(
+        &rt,
+        &request(&rt, with_map.as_slice()),
+        2,
+        Locator::V4(0x2001_0db8),
     );
-    Ok(())
 }
 
 #[test]
-fn the_first_fault_of_the_headers_is_named(rt: HostRuntime) -> Result<(), Fail> {
+fn a_checksum_of_zero_counts_as_absent(rt: HostRuntime) {
+    let ipv4 = without_a_sum(rt.alloc(), &rt, &[]);
+    asks(
+        &rt,
+        &request(&rt, ipv4.as_slice()),
+        1,
+        Locator::V4(0x0a01_0203),
+    );
+    let ipv6 = ipv6_without_a_sum(rt.alloc(), &rt, &[]);
+    asks(&rt, &request(&rt, ipv6.as_slice()), 2, DOCUMENTATION);
+}
+
+#[test]
+fn the_first_fault_of_the_headers_is_named(rt: HostRuntime) {
     for (changes, fault) in [
         ([(0, 0x64), (4, 0x55)], RequestFault::MessageType),
         ([(0, 0x6c), (4, 0x55)], RequestFault::MessageType),
@@ -244,54 +288,50 @@ fn the_first_fault_of_the_headers_is_named(rt: HostRuntime) -> Result<(), Fail> 
         ([(29, 0x25), (31, 0x24)], RequestFault::UdpLength),
         ([(31, 0x24), (27, 0xf7)], RequestFault::UdpChecksum),
     ] {
-        let bytes = changed(bytes_of(rt.alloc(), DDT_REQUEST)?, &changes);
-        assert_eq!(rt; read_request(&bytes).err(), Some(fault));
+        refuses_changed(rt.alloc(), &rt, DDT_REQUEST, &changes, fault);
     }
     // TCP in a fragment, and a fragment whose UDP length is wrong.
-    let tcp = changed(
-        bytes_of(rt.alloc(), DDT_REQUEST)?,
-        &[(13, 6), (10, 0x20), (14, 0xcf), (15, 0x87)],
+    let tcp = [(13, 6), (10, 0x20), (14, 0xcf), (15, 0x87)];
+    refuses_changed(rt.alloc(), &rt, DDT_REQUEST, &tcp, RequestFault::NotUdp);
+    let fragment = [(10, 0x20), (14, 0xcf), (29, 0x25)];
+    refuses_changed(
+        rt.alloc(),
+        &rt,
+        DDT_REQUEST,
+        &fragment,
+        RequestFault::Fragment,
     );
-    assert_eq!(rt; read_request(&tcp).err(), Some(RequestFault::NotUdp));
-    let fragment = changed(
-        bytes_of(rt.alloc(), DDT_REQUEST)?,
-        &[(10, 0x20), (14, 0xcf), (29, 0x25)],
+    let changes = [(9, 0x31), (10, 6)];
+    refuses_changed(
+        rt.alloc(),
+        &rt,
+        IPV6_REQUEST,
+        &changes,
+        RequestFault::IpLength,
     );
-    assert_eq!(rt; read_request(&fragment).err(), Some(RequestFault::Fragment));
-    let ipv6 = changed(bytes_of(rt.alloc(), IPV6_REQUEST)?, &[(9, 0x31), (10, 6)]);
-    assert_eq!(rt; read_request(&ipv6).err(), Some(RequestFault::IpLength));
-    Ok(())
 }
 
 #[test]
-fn a_wrong_field_is_named_before_the_end(rt: HostRuntime) -> Result<(), Fail> {
-    for (bytes, fault) in [
-        ([0x64, 0, 0, 0, 0x45], RequestFault::MessageType),
-        ([0x8c, 0, 0, 0, 0x45], RequestFault::Security),
-        ([0x84, 0, 0, 0, 0x55], RequestFault::IpVersion),
-        ([0x84, 0, 0, 0, 0x44], RequestFault::Short),
-    ] {
-        assert_eq!(rt; read_request(&bytes).err(), Some(fault));
+fn a_wrong_field_is_named_before_the_end(rt: HostRuntime) {
+    let table: [(&[u8], RequestFault); 6] = [
+        (&[0x64, 0, 0, 0, 0x45], RequestFault::MessageType),
+        (&[0x8c, 0, 0, 0, 0x45], RequestFault::Security),
+        (&[0x84, 0, 0, 0, 0x55], RequestFault::IpVersion),
+        (&[0x84, 0, 0, 0, 0x44], RequestFault::Short),
+        (&[0x64, 0, 0], RequestFault::Short),
+        (&[0x8c, 0, 0, 0], RequestFault::Security),
+    ];
+    for (bytes, fault) in table {
+        refuses(&rt, bytes, fault);
     }
-    assert_eq!(rt;
-        read_request(&[0x64, 0, 0]).err(),
-        Some(RequestFault::Short)
-    );
-    assert_eq!(rt;
-        read_request(&[0x8c, 0, 0, 0]).err(),
-        Some(RequestFault::Security)
-    );
     // A Map-Request of 11 bytes, whose type is wrong: the lengths and the header's sum fit.
-    let early = without_a_sum(rt.alloc(), &[(7, 0x27), (15, 0x8d), (29, 0x13), (32, 0x20)])?;
-    assert_eq!(rt;
-        read_request(front(&early, 43)).err(),
-        Some(RequestFault::Short)
-    );
-    Ok(())
+    let changes = [(7, 0x27), (15, 0x8d), (29, 0x13), (32, 0x20)];
+    let early = without_a_sum(rt.alloc(), &rt, &changes);
+    refuses(&rt, front(&early, 43), RequestFault::Short);
 }
 
 #[test]
-fn the_first_fault_behind_the_headers_is_named(rt: HostRuntime) -> Result<(), Fail> {
+fn the_first_fault_behind_the_headers_is_named(rt: HostRuntime) {
     for (changes, fault) in [
         ([(27, 0xf7), (32, 0x20)], RequestFault::Port),
         ([(32, 0x20), (35, 2)], RequestFault::RequestType),
@@ -304,17 +344,24 @@ fn the_first_fault_behind_the_headers_is_named(rt: HostRuntime) -> Result<(), Fa
         ([(55, 3), (53, 31)], RequestFault::EidFamily),
         ([(55, 2), (53, 31)], RequestFault::Short),
     ] {
-        let bytes = without_a_sum(rt.alloc(), &changes)?;
-        assert_eq!(rt; read_request(&bytes).err(), Some(fault));
+        refuses(
+            &rt,
+            without_a_sum(rt.alloc(), &rt, &changes).as_slice(),
+            fault,
+        );
     }
     // A mask length that is too short, and bytes behind the EID.
-    let loose = ipv6_without_a_sum(rt.alloc(), &[(73, 31), (75, 1)])?;
-    assert_eq!(rt; read_request(&loose).err(), Some(RequestFault::NotHost));
-    Ok(())
+    let loose = ipv6_without_a_sum(rt.alloc(), &rt, &[(73, 31), (75, 1)]);
+    refuses(&rt, loose.as_slice(), RequestFault::NotHost);
+}
+
+fn prints(alloc: Global, rt: &impl Abort, fault: RequestFault, written: &str) {
+    let text = format!(in alloc; "{fault}").expect(rt, "out of memory");
+    assert_eq!(rt; text.as_str(), written);
 }
 
 #[test]
-fn faults_are_printed_by_number_and_name(rt: HostRuntime) -> Result<(), Fail> {
+fn faults_are_printed_by_number_and_name(rt: HostRuntime) {
     for (fault, written) in [
         (RequestFault::Short, "1 Short"),
         (RequestFault::MessageType, "2 MessageType"),
@@ -335,8 +382,6 @@ fn faults_are_printed_by_number_and_name(rt: HostRuntime) -> Result<(), Fail> {
         (RequestFault::RlocFamily, "17 RlocFamily"),
         (RequestFault::Trailing, "18 Trailing"),
     ] {
-        let text = format!(in rt.alloc(); "{fault}")?;
-        assert_eq!(rt; text.as_str(), written);
+        prints(rt.alloc(), &rt, fault, written);
     }
-    Ok(())
 }

@@ -1,25 +1,46 @@
 use super::*;
 use ddt_examples::registers::{CAMPUS, COLUMNS};
 use ddt_path::{Form, Locator, Role, longest_match};
-use std::alloc::Global;
+use std::alloc::{AllocError, Global};
 use std::io;
 use std::io::Read;
-use std::test::*;
+use std::process::Abort;
 
-fn read(alloc: Global, text: &[u8]) -> Result<Register, ReadFault> {
-    read_register(alloc, text)
+// Each register is read, and judged, in a function of its own, so that the proof of a test is short.
+
+fn read(alloc: Global, rt: &impl Abort, text: &[u8]) -> Register {
+    read_register(alloc, text).expect(rt, "a register")
 }
 
-/// The fault of the campus register with one more row, the ninth.
-fn ninth_row(alloc: Global, row: &str) -> Result<Option<ReadFault>, Fail> {
-    let text = format!(in alloc; "{CAMPUS}{row}\n")?;
-    Ok(read(alloc, text.as_bytes()).err())
+/// The text is read as the campus register.
+fn reads_campus(alloc: Global, rt: &impl Abort, text: &[u8]) {
+    assert!(rt; is_campus(&read(alloc, rt, text)));
 }
 
-/// The fault of a register of these rows.
-fn fault_of(alloc: Global, rows: &str) -> Result<Option<ReadFault>, Fail> {
-    let text = format!(in alloc; "{COLUMNS}{rows}\n")?;
-    Ok(read(alloc, text.as_bytes()).err())
+/// The text is refused with this fault, or read where there is none.
+fn gives(alloc: Global, rt: &impl Abort, text: &[u8], fault: Option<ReadFault>) {
+    assert_eq!(rt; read_register(alloc, text).err(), fault);
+}
+
+/// The register of these rows behind a text gives this fault, or none.
+fn gives_behind(
+    alloc: Global,
+    rt: &impl Abort,
+    before: &str,
+    rows: &str,
+    fault: Option<ReadFault>,
+) {
+    let text = format!(in alloc; "{before}{rows}\n").expect(rt, "out of memory");
+    assert_eq!(rt;
+        read_register(alloc, text.as_bytes()).err(),
+        fault,
+        "at {rows}"
+    );
+}
+
+/// The register of these rows gives this fault, or none.
+fn rows_give(alloc: Global, rt: &impl Abort, rows: &str, fault: Option<ReadFault>) {
+    gives_behind(alloc, rt, COLUMNS, rows, fault);
 }
 
 /// Whether it is the campus register.
@@ -93,22 +114,21 @@ fn is_empty(register: &Register) -> bool {
 }
 
 #[test]
-fn the_campus_register_is_read(rt: HostRuntime) -> Result<(), Fail> {
-    assert!(rt; is_campus(&read(rt.alloc(), CAMPUS.as_bytes())?));
-    Ok(())
+fn the_campus_register_is_read(rt: HostRuntime) {
+    reads_campus(rt.alloc(), &rt, CAMPUS.as_bytes());
 }
 
 /// Under `rt try --test --fail-alloc N` each allocation is refused in turn.
 #[test]
 fn want_of_memory_is_the_only_other_answer(rt: HostRuntime) {
-    match read(rt.alloc(), CAMPUS.as_bytes()) {
+    match read_register(rt.alloc(), CAMPUS.as_bytes()) {
         Ok(register) => assert!(rt; is_campus(&register)),
         Err(fault) => assert_eq!(rt; fault, ReadFault::Memory),
     }
 }
 
 #[test]
-fn a_faulty_ninth_row_is_named(rt: HostRuntime) -> Result<(), Fail> {
+fn a_faulty_ninth_row_is_named(rt: HostRuntime) {
     for (row, fault) in [
         ("node,*", ReadFault::Csv(9)),
         ("zone,*,root,", ReadFault::Kind(9)),
@@ -116,13 +136,12 @@ fn a_faulty_ninth_row_is_named(rt: HostRuntime) -> Result<(), Fail> {
         ("node,[0]12.0.0.0/8,Ten,", ReadFault::Name(9)),
         ("site,[0]10.1.5.0/24,,10.0.0.256", ReadFault::Address(9)),
     ] {
-        assert_eq!(rt; ninth_row(rt.alloc(), row)?, Some(fault), "at {row}");
+        gives_behind(rt.alloc(), &rt, CAMPUS, row, Some(fault));
     }
-    Ok(())
 }
 
 #[test]
-fn the_order_of_faults_in_a_row(rt: HostRuntime) -> Result<(), Fail> {
+fn the_order_of_faults_in_a_row(rt: HostRuntime) {
     for (row, fault) in [
         ("zone,[0]10.0.0.1/8,Ten,x,", ReadFault::Csv(1)),
         ("zone,[0]10.0.0.1/8,Ten,x", ReadFault::Kind(1)),
@@ -136,30 +155,25 @@ fn the_order_of_faults_in_a_row(rt: HostRuntime) -> Result<(), Fail> {
         ("group-ms,,,x", ReadFault::Name(1)),
         ("group-ms,,ten,x", ReadFault::Address(1)),
     ] {
-        assert_eq!(rt; fault_of(rt.alloc(), row)?, Some(fault), "at {row}");
+        rows_give(rt.alloc(), &rt, row, Some(fault));
     }
-    Ok(())
 }
 
 #[test]
-fn a_field_that_must_be_empty(rt: HostRuntime) -> Result<(), Fail> {
+fn a_field_that_must_be_empty(rt: HostRuntime) {
     for (row, fault) in [
         ("group-node,*,ten,10.0.0.1", ReadFault::Prefix(1)),
         ("node,*,ten,10.0.0.1", ReadFault::Address(1)),
         ("site,*,ten,10.0.0.1", ReadFault::Name(1)),
     ] {
-        assert_eq!(rt; fault_of(rt.alloc(), row)?, Some(fault), "at {row}");
+        rows_give(rt.alloc(), &rt, row, Some(fault));
     }
-    assert_eq!(rt; fault_of(rt.alloc(), "group-node,,ten,\nsite,*,,")?, None);
-    Ok(())
+    rows_give(rt.alloc(), &rt, "group-node,,ten,\nsite,*,,", None);
 }
 
 #[test]
-fn one_space_stands_between_addresses(rt: HostRuntime) -> Result<(), Fail> {
-    assert_eq!(rt;
-        fault_of(rt.alloc(), "site,*,,10.0.0.1 ::1 10.0.0.2")?,
-        None
-    );
+fn one_space_stands_between_addresses(rt: HostRuntime) {
+    rows_give(rt.alloc(), &rt, "site,*,,10.0.0.1 ::1 10.0.0.2", None);
     for row in [
         "site,*,,10.0.0.1  10.0.0.2",
         "site,*,, 10.0.0.1",
@@ -167,30 +181,18 @@ fn one_space_stands_between_addresses(rt: HostRuntime) -> Result<(), Fail> {
         "site,*,, ",
         "site,*,,10.0.0.1\t10.0.0.2",
     ] {
-        assert_eq!(rt;
-            fault_of(rt.alloc(), row)?,
-            Some(ReadFault::Address(1)),
-            "at {row}"
-        );
+        rows_give(rt.alloc(), &rt, row, Some(ReadFault::Address(1)));
     }
-    Ok(())
 }
 
 #[test]
-fn the_first_faulty_record_decides(rt: HostRuntime) -> Result<(), Fail> {
+fn the_first_faulty_record_decides(rt: HostRuntime) {
     let first_address = "site,*,,x\nzone,*,root,\nnode,*\n";
-    assert_eq!(rt;
-        fault_of(rt.alloc(), first_address)?,
-        Some(ReadFault::Address(1))
-    );
+    rows_give(rt.alloc(), &rt, first_address, Some(ReadFault::Address(1)));
     let first_length = "node,*,root,\nnode,*\nzone,*,root,\n";
-    assert_eq!(rt;
-        fault_of(rt.alloc(), first_length)?,
-        Some(ReadFault::Csv(2))
-    );
-    let columns = read(rt.alloc(), b"kind,prefix,group\nnode,*\n").err();
-    assert_eq!(rt; columns, Some(ReadFault::Columns));
-    Ok(())
+    rows_give(rt.alloc(), &rt, first_length, Some(ReadFault::Csv(2)));
+    let columns = b"kind,prefix,group\nnode,*\n";
+    gives(rt.alloc(), &rt, columns, Some(ReadFault::Columns));
 }
 
 #[test]
@@ -206,12 +208,12 @@ fn other_columns_are_refused(rt: HostRuntime) {
         b"kind,prefix,group,addresse\xff\n",
     ];
     for text in table {
-        assert_eq!(rt; read(rt.alloc(), text).err(), Some(ReadFault::Columns));
+        gives(rt.alloc(), &rt, text, Some(ReadFault::Columns));
     }
 }
 
 #[test]
-fn no_row_is_the_register_without_items(rt: HostRuntime) -> Result<(), Fail> {
+fn no_row_is_the_register_without_items(rt: HostRuntime) {
     let table: [&[u8]; 5] = [
         b"",
         b"\n\r\n",
@@ -220,37 +222,46 @@ fn no_row_is_the_register_without_items(rt: HostRuntime) -> Result<(), Fail> {
         b"kind,prefix,group,addresses\n\n",
     ];
     for text in table {
-        assert!(rt; is_empty(&read(rt.alloc(), text)?));
+        assert!(rt; is_empty(&read(rt.alloc(), &rt, text)));
     }
-    Ok(())
 }
 
-#[test]
-fn other_line_ends_blank_lines_and_quotes(rt: HostRuntime) -> Result<(), Fail> {
-    let alloc = rt.alloc();
-    let marked = format!(in alloc; "\u{feff}{CAMPUS}")?;
-    assert!(rt; is_campus(&read(alloc, marked.as_bytes())?));
-    let mut returns = Vec::new(alloc);
-    let mut blank = Vec::new(alloc);
+/// The campus register with another byte before each byte that ends a line.
+fn campus_with(alloc: Global, before_line_end: u8) -> Result<Vec<u8>, AllocError> {
+    let mut text = Vec::new(alloc);
     for byte in CAMPUS.as_bytes() {
         if *byte == b'\n' {
-            returns.push(b'\r')?;
-            blank.push(b'\n')?;
+            text.push(before_line_end)?;
         }
-        returns.push(*byte)?;
-        blank.push(*byte)?;
+        text.push(*byte)?;
     }
-    assert!(rt; is_campus(&read(alloc, returns.as_slice())?));
-    assert!(rt; is_campus(&read(alloc, blank.as_slice())?));
-    let quoted = "\"group-node\",\"\",\"ro\not\",\nzone,*,root,\n";
-    assert_eq!(rt; fault_of(alloc, quoted)?, Some(ReadFault::Name(1)));
-    let second = "\"group-node\",\"\",\"root\",\"127.0.0.1\"\n\n\"zo\nne\",*,root,\n";
-    assert_eq!(rt; fault_of(alloc, second)?, Some(ReadFault::Kind(2)));
-    Ok(())
+    Ok(text)
 }
 
 #[test]
-fn bytes_that_are_no_text_are_faults_of_their_field(rt: HostRuntime) -> Result<(), Fail> {
+fn other_line_ends_blank_lines_and_quotes(rt: HostRuntime) {
+    let alloc = rt.alloc();
+    let marked = format!(in alloc; "\u{feff}{CAMPUS}").expect(&rt, "out of memory");
+    reads_campus(alloc, &rt, marked.as_bytes());
+    for byte in [b'\r', b'\n'] {
+        let text = campus_with(alloc, byte).expect(&rt, "out of memory");
+        reads_campus(alloc, &rt, text.as_slice());
+    }
+    let quoted = "\"group-node\",\"\",\"ro\not\",\nzone,*,root,\n";
+    rows_give(alloc, &rt, quoted, Some(ReadFault::Name(1)));
+    let second = "\"group-node\",\"\",\"root\",\"127.0.0.1\"\n\n\"zo\nne\",*,root,\n";
+    rows_give(alloc, &rt, second, Some(ReadFault::Kind(2)));
+}
+
+/// A row behind the columns.
+fn behind_columns(alloc: Global, row: &[u8]) -> Result<Vec<u8>, AllocError> {
+    let mut text = Vec::from_slice(alloc, COLUMNS.as_bytes())?;
+    text.extend_from_slice(row)?;
+    Ok(text)
+}
+
+#[test]
+fn bytes_that_are_no_text_are_faults_of_their_field(rt: HostRuntime) {
     let table: [(&[u8], ReadFault); 4] = [
         (b"\xff,,,", ReadFault::Kind(1)),
         (b"node,\xff,ten,", ReadFault::Prefix(1)),
@@ -258,16 +269,13 @@ fn bytes_that_are_no_text_are_faults_of_their_field(rt: HostRuntime) -> Result<(
         (b"site,*,,\xff", ReadFault::Address(1)),
     ];
     for (row, fault) in table {
-        let mut text = Vec::new(rt.alloc());
-        text.extend_from_slice(COLUMNS.as_bytes())?;
-        text.extend_from_slice(row)?;
-        assert_eq!(rt; read(rt.alloc(), text.as_slice()).err(), Some(fault));
+        let text = behind_columns(rt.alloc(), row).expect(&rt, "out of memory");
+        gives(rt.alloc(), &rt, text.as_slice(), Some(fault));
     }
-    Ok(())
 }
 
 /// The columns, this many rows, and then one more line.
-fn many_rows(alloc: Global, rows: u32, last: &str) -> Result<Vec<u8>, Fail> {
+fn many_rows(alloc: Global, rows: u32, last: &str) -> Result<Vec<u8>, AllocError> {
     let mut text = Vec::from_slice(alloc, COLUMNS.as_bytes())?;
     for _ in 0..rows {
         text.extend_from_slice(b"site,*,,\n")?;
@@ -276,30 +284,31 @@ fn many_rows(alloc: Global, rows: u32, last: &str) -> Result<Vec<u8>, Fail> {
     Ok(text)
 }
 
-#[test]
-fn there_are_at_most_65535_rows(rt: HostRuntime) -> Result<(), Fail> {
-    let most = read(rt.alloc(), many_rows(rt.alloc(), 65_535, "")?.as_slice())?;
-    assert_eq!(rt; most.sites.as_slice().len(), 65_535);
-    assert!(rt;
-        most.sites
-            .as_slice()
-            .last()
-            .is_some_and(|site| site.row == 65_535)
+/// So many rows and one more line give this fault, or none.
+fn many_give(alloc: Global, rt: &impl Abort, rows: u32, last: &str, fault: Option<ReadFault>) {
+    let text = many_rows(alloc, rows, last).expect(rt, "out of memory");
+    assert_eq!(rt;
+        read_register(alloc, text.as_slice()).err(),
+        fault,
+        "at {last}"
     );
+}
+
+#[test]
+fn there_are_at_most_65535_rows(rt: HostRuntime) {
+    let text = many_rows(rt.alloc(), 65_535, "").expect(&rt, "out of memory");
+    let most = read(rt.alloc(), &rt, text.as_slice());
+    let sites = most.sites.as_slice();
+    assert_eq!(rt; sites.len(), 65_535);
+    assert!(rt; sites.last().is_some_and(|site| site.row == 65_535));
     for (last, fault) in [
         ("site,*,,\n", ReadFault::TooMany),
         ("zone,*,,\n", ReadFault::TooMany),
         ("site,*\n", ReadFault::Csv(65_536)),
         ("site,*,,\nsite,*\n", ReadFault::TooMany),
     ] {
-        let text = many_rows(rt.alloc(), 65_535, last)?;
-        assert_eq!(rt;
-            read(rt.alloc(), text.as_slice()).err(),
-            Some(fault),
-            "at {last}"
-        );
+        many_give(rt.alloc(), &rt, 65_535, last, Some(fault));
     }
-    Ok(())
 }
 
 /// Gives ten bytes at most with each call, and fails at one call.
@@ -324,7 +333,7 @@ impl<'a> Read for Failing<'a> {
 }
 
 #[test]
-fn a_failed_reader_is_told(rt: HostRuntime) -> Result<(), Fail> {
+fn a_failed_reader_is_told(rt: HostRuntime) {
     let calls = CAMPUS.len().div_ceil(10) + 1;
     for calls_left in 0..calls {
         let reader = Failing {
@@ -338,12 +347,17 @@ fn a_failed_reader_is_told(rt: HostRuntime) -> Result<(), Fail> {
         text: CAMPUS.as_bytes(),
         calls_left: calls,
     };
-    assert!(rt; is_campus(&read_register(rt.alloc(), reader)?));
-    Ok(())
+    let register = read_register(rt.alloc(), reader).expect(&rt, "a register");
+    assert!(rt; is_campus(&register));
+}
+
+fn prints(alloc: Global, rt: &impl Abort, fault: ReadFault, written: &str) {
+    let text = format!(in alloc; "{fault}").expect(rt, "out of memory");
+    assert_eq!(rt; text.as_str(), written);
 }
 
 #[test]
-fn faults_are_written_and_tell_their_row(rt: HostRuntime) -> Result<(), Fail> {
+fn faults_are_written_and_tell_their_row(rt: HostRuntime) {
     for (fault, written, row) in [
         (ReadFault::Csv(9), "1 Csv", Some(9)),
         (ReadFault::Columns, "2 Columns", None),
@@ -355,25 +369,22 @@ fn faults_are_written_and_tell_their_row(rt: HostRuntime) -> Result<(), Fail> {
         (ReadFault::Read, "8 Read", None),
         (ReadFault::Memory, "9 Memory", None),
     ] {
-        let text = format!(in rt.alloc(); "{fault}")?;
-        assert_eq!(rt; text.as_str(), written);
+        prints(rt.alloc(), &rt, fault, written);
         assert_eq!(rt; fault.row(), row);
     }
-    Ok(())
 }
 
 #[test]
-fn the_row_of_the_first_item_that_passes(rt: HostRuntime) -> Result<(), Fail> {
-    let campus = read(rt.alloc(), CAMPUS.as_bytes())?;
+fn the_row_of_the_first_item_that_passes(rt: HostRuntime) {
+    let campus = read(rt.alloc(), &rt, CAMPUS.as_bytes());
     let zones = campus.zones.as_slice();
     assert_eq!(rt; first_row(zones, |z| z.kind == Role::Ms), Some(6));
     assert_eq!(rt; first_row(zones, |z| z.prefix.len() > 100), None);
     let sites = campus.sites.as_slice();
     assert_eq!(rt; first_row(sites, |s| s.etrs.as_slice().is_empty()), Some(8));
     let ([everything, _, east], [registered, _]) = (zones, sites) else {
-        return Err(Fail::from("not three zones and two sites"));
+        panic!(rt; "not three zones and two sites");
     };
     assert!(rt; longest_match(sites, everything.prefix).is_none());
     assert_eq!(rt; longest_match(zones, registered.prefix), Some(east));
-    Ok(())
 }

@@ -1,5 +1,5 @@
 -- From the events of a run to the lines of its history.
-use Rattle.std.proofs.Common.{◌≡◌, ℕ, ◌+◌, ◌<◌, ◌≤◌, List, [], ◌∷◌, ◌++◌, length, map, reverse, drop, get_or, Some, None, Option, Result, Ok, Err, refl, sym, ap, ◌∙◌, subst, append_assoc, arith}
+use Rattle.std.proofs.Common.{◌≡◌, ℕ, ◌+◌, ◌<◌, ◌≤◌, List, [], ◌∷◌, ◌++◌, length, map, drop, get_or, Some, None, Option, Ok, Err, refl, sym, ap, ◌∙◌, subst, append_assoc, arith}
 use Rattle.std.specs.FinMap.{get, get-empty}
 use Rattle.std.specs.Ordering.{nat_cmp}
 use Rattle.std.proofs.lemmas.List.{append-nil, at_drop_all, at_drop_more, length-append, reverse-append}
@@ -11,7 +11,6 @@ use Rattle.ddt_resolver.specs.State.{State, fresh}
 use Rattle.ddt_resolver.specs.Step.{Reply, ToAsk, ToDatagram, ToTick}
 use Rattle.ddt_sim.specs.declared.schedule.Step.{Step}
 use Rattle.ddt_sim.specs.declared.schedule.Event.{Event}
-use Rattle.ddt_sim.specs.declared.schedule.Datagram.{Datagram}
 use Rattle.ddt_sim.specs.World.{World, Replies, WorldStep, event_of, request_at, sent_for, resolves, replies, silent, not_sent, passes}
 use Rattle.ddt_sim.specs.History.{Line, History, Tells, at_start, begin, next, events_of}
 use Rattle.ddt_register.specs.declared.register.Register.{Register}

@@ -1,5 +1,5 @@
 -- Which steps the lines of a script spell.
-use Rattle.std.proofs.Common.{◌≡◌, ◌≢◌, ℕ, suc, ◌+◌, ◌^◌, ◌<◌, ◌≤◌, List, [], ◌∷◌, ◌++◌, map, length, take, drop, get_or, codes, decimal, Option, Some, None, Bor, refl, sym, ap, ◌∙◌, subst, arith}
+use Rattle.std.proofs.Common.{◌≡◌, ◌≢◌, ℕ, suc, ◌+◌, ◌^◌, ◌<◌, List, [], ◌∷◌, ◌++◌, map, length, take, drop, get_or, codes, decimal, Option, Some, None, Bor, refl, sym, ap, ◌∙◌, subst, arith}
 use Rattle.std.specs.Prelude.{MatchOption}
 use Rattle.std.specs.Iterator.{Yields}
 use Rattle.std.proofs.Math.Seq.{drop-cons}
@@ -14,7 +14,7 @@ use Rattle.ddt_text.proofs.LawLemmas.{xeids_are_read}
 use Rattle.ddt_text.proofs.NumberLemmas.{number_in-sound, number_in-complete}
 use Rattle.ddt_sim.specs.declared.schedule.Step.{Step}
 use Rattle.ddt_sim.specs.declared.schedule.Step.TheVariants.{Ask, Deliver, Pass, Tick}
-use Rattle.ddt.specs.Script.{IsRefusedAt, ScriptsAreClear, SpellSteps, SpellsScript, SpellsStep, lines_in}
+use Rattle.ddt.specs.Script.{IsRefusedAt, ScriptsAreClear, SpellSteps, SpellsStep, lines_in}
 
 -- ---- one line
 

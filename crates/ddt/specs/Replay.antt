@@ -1,6 +1,6 @@
 -- `replay REGISTER SCRIPT [--me ADDRESS] [--seed N]`: a schedule of a resolver among the servers of the register, and a
 -- line for each of its steps (RFC 8111, section 7.3).
-use Rattle.std.specs.Prelude.{ℕ, ◌+◌, ◌≡◌, ◌≢◌, ◌⊎◌, ⊤, List, [], ◌∷◌, ◌++◌, length, codes, decimal, Option, None, Some, Result, Ok}
+use Rattle.std.specs.Prelude.{ℕ, ◌+◌, ◌≡◌, ◌≢◌, ◌⊎◌, ⊤, List, [], ◌∷◌, ◌++◌, length, codes, decimal, Option, None, Some, Ok}
 use Rattle.std.specs.Option.{option_or}
 use Rattle.ddt_path.specs.declared.locator.Locator.{Locator}
 use Rattle.ddt_path.specs.declared.record.Outcome.{Outcome}

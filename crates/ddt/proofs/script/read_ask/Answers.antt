@@ -1,6 +1,4 @@
-use Rattle.std.proofs.Common.{◌≡◌, Result, Ok, Err, sym, ◌∙◌}
-use Rattle.ddt_path.specs.declared.xeid.Xeid.{Xeid}
-use Rattle.ddt_text.specs.declared.fault.TextFault.{TextFault}
+use Rattle.std.proofs.Common.{◌≡◌, Ok}
 use Rattle.ddt.proofs.script.read_ask.Goals as goal
 
 pub returns-in-Err : goal.returns-in-Err

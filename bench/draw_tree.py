@@ -1,8 +1,8 @@
 #!/usr/bin/env python3
 """Draws the delegation tree of an accepted register, as text for Graphviz on standard output.
 
-Usage: bench/draw_tree.py REGISTER | dot -Tsvg > tree.svg. Each zone stands below the longest zone strictly above it, with
-its group and the group's locators. Each site stands below the longest zone that covers it, with its ETRs.
+Usage: bench/draw_tree.py REGISTER | dot -Tsvg > tree.svg. Each zone stands below the longest zone strictly above it,
+with its group and the group's locators. Each site stands below the longest zone that covers it, with its ETRs.
 """
 from __future__ import annotations
 

@@ -1,4 +1,4 @@
-//! Messages in hexadecimal, field by field (RFC 8111, section 6.4; RFC 9301, sections 5.2 and 5.8).
+//! Messages in hexadecimal, field by field (RFC 8111, section 6.4; RFC 9301, sections 5.2, 5.4 and 5.8).
 
 /// The root's NODE-REFERRAL to 10.0.0.0/8 at 127.0.0.10, nonce 1.
 pub const ROOT_REFERS_TO_TEN: &str =
@@ -48,3 +48,14 @@ pub const ITR_REQUEST: &str =
 /// which makes the length odd, a source EID of instance 7, and ITR-RLOCs of two families.
 pub const ITR_REQUEST_IN_ANOTHER_FORM: &str =
     "80000000 46 00 005f 0000 0000 40 11 ee4e 7f00003c 0a020001 01010100 c350 10f6 0047 ce16 14000101 1122334455667788 4003 0000 02 00 000a 00000007 0001 0a050001 0001 7f00003c 0002 20010db8000000000000000000000035 00 20 0001 0a020001 aa";
+
+/// The negative Map-Reply to the ITR's request: the hole of 10.2.0.0/15, for fifteen minutes (RFC 9301, section 5.4).
+pub const NEGATIVE_REPLY: &str = "20000001 1122334455667788 0000000f 00 0f 2000 0000 0001 0a020000";
+
+/// The same, with each ignored bit set, those of the address among them.
+pub const NEGATIVE_REPLY_WITH_IGNORED_BITS: &str =
+    "2fffff01 1122334455667788 0000000f 00 0f 3fff ffff 0001 0a03ffff";
+
+/// A negative Map-Reply of the instances from 2147483648 on.
+pub const NEGATIVE_REPLY_OF_INSTANCES: &str =
+    "20000001 1122334455667788 0000000f 00 00 2000 0000 4003 0000 02 01 0006 80000000 0000";

@@ -267,3 +267,9 @@ pub eid_again : (mask : ℕ) (eid p rest : List ℕ) → SpellsEid mask eid p �
 eid_again mask eid p rest (Plain a fits le is value) = rw (is, value) (plain_again mask a rest fits le)
 eid_again mask eid p rest (Inside r f m iid a h fits le is value) = rw (is, value) (inner_again mask r f m iid a rest h.iid_fits fits le)
 eid_again mask eid p rest (Instances r f len iid h le zeros is value) = rw (is, value) (range_again mask r f len iid rest h.iid_fits le zeros)
+
+-- an EID has its AFI at least
+pub eid_some : (mask : ℕ) (eid p : List ℕ) → SpellsEid mask eid p → 2 ≤ length eid
+eid_some mask eid p (Plain a fits le is value) = rw is (omega arith)
+eid_some mask eid p (Inside r f m iid a h fits le is value) = rw is (omega arith)
+eid_some mask eid p (Instances r f len iid h le zeros is value) = rw is (omega arith)

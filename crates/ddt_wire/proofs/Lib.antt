@@ -8,5 +8,7 @@ pub mod StepLemmas
 pub mod AddressLaws
 pub mod EidLaws
 pub mod LocatorLaws
+pub mod HeadLaws
 pub mod MessageLaws
 pub mod WrittenLaws
+pub mod ReplyLaws

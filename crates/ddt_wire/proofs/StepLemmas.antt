@@ -1,6 +1,7 @@
 -- What is known of steps that went well.
 use Rattle.std.proofs.Common.{◌≡◌, Bool, true, false, cond, Result, Ok, Err, refl, inl, inr}
 use Rattle.std.specs.Prelude.{◌⊎◌, OnOk}
+use Rattle.std.specs.Result.{IsErr}
 use Rattle.ddt_wire.specs.Steps.{◌>>=◌, in_words}
 
 -- the value of a step that did not fail
@@ -31,6 +32,15 @@ done x = Ok x
 
 pub ok_is : {A E : Type 0} (x y : A) → done {E = E} x ≡ done y → x ≡ y
 ok_is x y e = cc
+
+-- a result is a fault exactly where it is no value
+pub err_not_ok : {A E : Type 0} (r : Result A E) (x : A) → IsErr r → r ≡ Ok x → ⊥
+err_not_ok (Ok y) x e f = absurd cc
+err_not_ok (Err d) x e f = absurd cc
+
+pub err_unless : {A E : Type 0} (r : Result A E) → ((x : A) → r ≡ Ok x → ⊥) → IsErr r
+err_unless (Ok x) n = absurd (n x refl)
+err_unless (Err d) n = refl
 
 -- what holds in any case
 pub always : {A E P : Type 0} (r : Result A E) → P → OnOk r P

@@ -1,8 +1,8 @@
 -- What is written spells what was to be written; and what spells something is bytes.
-use Rattle.std.proofs.Common.{◌≡◌, ℕ, zero, suc, ◌+◌, ◌^◌, ◌<◌, ◌≤◌, true, List, [], ◌∷◌, ◌++◌, length, take, drop, refl, sym, ap, subst, ◌∙◌, arith, Bool, Ok, Err, Result, ◌*◌}
+use Rattle.std.proofs.Common.{◌≡◌, ℕ, zero, suc, ◌+◌, ◌^◌, ◌<◌, ◌≤◌, true, List, [], ◌∷◌, ◌++◌, length, take, drop, refl, sym, ap, subst, ◌∙◌, arith, Ok, Err, Result}
 use Rattle.std.specs.Prelude.{◌↔◌, IfOk}
 use Rattle.std.specs.List.{flat_map, AllByRecursion}
-use Rattle.std.specs.Int.{w16, w32, w64, w128, to_be_bytes}
+use Rattle.std.specs.Int.{w16, w32, w128, to_be_bytes}
 use Rattle.std.specs.Result.{IsErr}
 use Rattle.std.proofs.Math.Dec.{eqb-suc-zero}
 use Rattle.std.proofs.lemmas.List.{take_all}
@@ -11,22 +11,23 @@ use Rattle.ddt_path.specs.declared.locator.Locator.{Locator}
 use Rattle.ddt_path.specs.declared.locator.Locator.TheVariants.{V4, V6}
 use Rattle.ddt_path.specs.declared.form.Form.{Form}
 use Rattle.ddt_path.specs.declared.form.Form.TheVariants.{Range, Block}
-use Rattle.ddt_path.specs.declared.record.Action.{Action}
 use Rattle.ddt_path.specs.declared.record.ReferralRecord.{ReferralRecord}
 use Rattle.ddt_wire.specs.declared.eid.EidFault.{EidFault}
 use Rattle.ddt_wire.specs.declared.fault.ReferralFault.{ReferralFault}
-use Rattle.ddt_wire.proofs.StepLemmas.{ok_is}
+use Rattle.ddt_wire.proofs.StepLemmas.{ok_is, err_not_ok, err_unless}
 use Rattle.ddt_path.specs.Path.{path, IsForm}
 use Rattle.ddt_wire.specs.Steps.{IsBytes}
 use Rattle.ddt_wire.specs.Address.{family_and_address, IsAddress}
 use Rattle.ddt_wire.specs.Eid.{SpellsEid, Plain, Inside, Instances, IsInstance, instance_head, instance_lcaf, written_form, form_mask_len, written_eid, written_mask_len, eid_at}
 use Rattle.ddt_wire.specs.LocatorRecord.{SpellsLocator, SpellsLocators, written_locator}
-use Rattle.ddt_wire.specs.Referral.{Message, Ignored, Spells, act, bit, header, fields, written, message_of, message_record, message_in}
+use Rattle.ddt_wire.specs.Head.{head_bytes}
+use Rattle.ddt_wire.specs.Referral.{Message, Ignored, Spells, written, message_of, message_record, message_in}
 use Rattle.ddt_wire.specs.Laws.{IsPrefix, IsRecord}
 use Rattle.ddt_wire.proofs.EidLemmas.{form_of-named}
 use Rattle.ddt_wire.proofs.ByteLemmas.{IsBytes-number, IsBytes-append, IsBytes-cons, IsBytes-nil, Takes-take, Takes-fits}
 use Rattle.ddt_wire.proofs.EidLaws.{eid_takes, eid_again}
-use Rattle.ddt_wire.proofs.MessageLaws.{message_takes, message_again}
+use Rattle.ddt_wire.proofs.HeadLaws.{head_is_bytes}
+use Rattle.ddt_wire.proofs.MessageLaws.{head_spelled, head_fits, message_takes, message_again}
 
 -- ---- written
 
@@ -66,6 +67,9 @@ mask_small (Range iid len) h = omega arith
 mask_small (Block iid (V4 a) len) h = omega (arith, h.2)
 mask_small (Block iid (V6 a) len) h = omega (arith, h.2)
 
+pub mask_len_fits : (p : List ℕ) → IsPrefix p → written_mask_len p < 256
+mask_len_fits p (form, h, e) = rw (form_of-named p form e h) (mask_small form h)
+
 pub written_spells : (nonce : ℕ) (r : ReferralRecord) → IsRecord nonce r → Spells (written nonce r) (message_of nonce r)
 written_spells nonce r h =
     let none : Ignored = record { reserved = 0; authoritative = true; flags = 0; version = 0; reserved_fits = omega arith; flags_fits = omega arith; version_fits = omega arith } in
@@ -76,7 +80,7 @@ written_spells nonce r h =
       locators = flat_map written_locator r.servers;
       nonce_fits = h.nonce_fits;
       ttl_fits = h.ttl_fits;
-      mask_fits = rw (form_of-named r.prefix h.prefix_is.0 h.prefix_is.2 h.prefix_is.1) (mask_small h.prefix_is.0 h.prefix_is.1);
+      mask_fits = mask_len_fits r.prefix h.prefix_is;
       count_fits = omega (arith, h.count_fits);
       spells_eid = eid_spells r.prefix h.prefix_is;
       spells_locators = locators_spell r.servers h.servers_fit;
@@ -114,24 +118,12 @@ locators_are_bytes : (ls : List Locator) (bytes : List ℕ) → SpellsLocators b
 locators_are_bytes [] bytes s = subst IsBytes (sym s) IsBytes-nil
 locators_are_bytes (l ∷ ls) bytes (f, g, one, others, e) = subst IsBytes (sym e) (IsBytes-append f g (locator_is_bytes f l one) (locators_are_bytes ls g others))
 
-header_is_bytes : (r n : ℕ) → IsBytes (header r n)
-header_is_bytes r n = IsBytes-append (to_be_bytes w32 (6 * 2 ^ 28 + r * 2 ^ 8 + 1)) (to_be_bytes w64 n) (IsBytes-number 4 (6 * 2 ^ 28 + r * 2 ^ 8 + 1)) (IsBytes-number 8 n)
-
-fields_are_bytes : (ttl count mask : ℕ) (action : Action) (a i : Bool) (flags version : ℕ) → count < 256 → mask < 256 → IsBytes (fields ttl count mask action a i flags version)
-fields_are_bytes ttl count mask action a i flags version hc hm =
-    let word = act action * 2 ^ 13 + bit a * 2 ^ 12 + bit i * 2 ^ 11 + flags in
-    let one = IsBytes-append (to_be_bytes w32 ttl) (count ∷ mask ∷ []) (IsBytes-number 4 ttl) (IsBytes-cons count (mask ∷ []) hc (IsBytes-cons mask [] hm IsBytes-nil)) in
-    let two = IsBytes-append (to_be_bytes w32 ttl ++ (count ∷ mask ∷ [])) (to_be_bytes w16 word) one (IsBytes-number 2 word) in
-    IsBytes-append (to_be_bytes w32 ttl ++ (count ∷ mask ∷ []) ++ to_be_bytes w16 word) (to_be_bytes w16 version) two (IsBytes-number 2 version)
-
 pub message_is_bytes : (bytes : List ℕ) (v : Message) → Spells bytes v → IsBytes bytes
 message_is_bytes bytes v s =
-    let i = s.ignored in
-    let head = header i.reserved v.nonce in
-    let fields_ = fields v.ttl (length v.locators) s.mask v.action i.authoritative v.incomplete i.flags i.version in
-    let a = IsBytes-append head fields_ (header_is_bytes i.reserved v.nonce) (fields_are_bytes v.ttl (length v.locators) s.mask v.action i.authoritative v.incomplete i.flags i.version s.count_fits s.mask_fits) in
-    let b = IsBytes-append (head ++ fields_) s.eid a (eid_is_bytes s.mask s.eid v.prefix s.spells_eid) in
-    subst IsBytes (sym s.whole) (IsBytes-append (head ++ fields_ ++ s.eid) s.locators b (locators_are_bytes v.locators s.locators s.spells_locators))
+    let front = head_bytes 6 s.ignored.reserved (head_spelled s.ignored s.mask v) in
+    let a = head_is_bytes 6 s.ignored.reserved (head_spelled s.ignored s.mask v) (head_fits bytes v s) in
+    let b = IsBytes-append front s.eid a (eid_is_bytes s.mask s.eid v.prefix s.spells_eid) in
+    subst IsBytes (sym s.whole) (IsBytes-append (front ++ s.eid) s.locators b (locators_are_bytes v.locators s.locators s.spells_locators))
 
 -- ---- at most one, and faults
 
@@ -140,14 +132,6 @@ one_eid mask bytes p q a b = ap (λ (x : List ℕ × ℕ). x.0) (ok_is {E = EidF
 
 pub one_message : (bytes : List ℕ) (v w : Message) → Spells bytes v → Spells bytes w → v ≡ w
 one_message bytes v w a b = ok_is {E = ReferralFault} v w (sym (message_again bytes v a) ∙ message_again bytes w b)
-
-err_not_ok : {A E : Type 0} (r : Result A E) (x : A) → IsErr r → r ≡ Ok x → ⊥
-err_not_ok (Ok y) x e f = absurd cc
-err_not_ok (Err d) x e f = absurd cc
-
-err_unless : {A E : Type 0} (r : Result A E) → ((x : A) → r ≡ Ok x → ⊥) → IsErr r
-err_unless (Ok x) n = absurd (n x refl)
-err_unless (Err d) n = refl
 
 pub message_faults : (bytes : List ℕ) → IsBytes bytes → IsErr (message_in bytes) ↔ ((v : Message) → Spells bytes v → ⊥)
 message_faults bytes fits =

@@ -8,7 +8,9 @@ use Rattle.ddt_path.specs.Path.{path, IsForm}
 use Rattle.ddt_wire.specs.Steps.{IsBytes}
 use Rattle.ddt_wire.specs.Address.{IsAddress}
 use Rattle.ddt_wire.specs.Eid.{SpellsEid, written_eid, written_mask_len, eid_at}
+use Rattle.ddt_wire.specs.declared.negative_reply.NegativeReply.{NegativeReply}
 use Rattle.ddt_wire.specs.Referral.{Message, Spells, message_of, message_record, written, message_in}
+use Rattle.ddt_wire.specs.NegativeReply.{SpellsReply, written_reply, reply_in}
 
 -- the path of a prefix
 abbrev pub IsPrefix : List ℕ → Type 0
@@ -50,7 +52,39 @@ WrittenSpells = (nonce : ℕ) (r : ReferralRecord) → IsRecord nonce r → Spel
 abbrev pub RecordsComeBack : Type 0
 RecordsComeBack = (nonce : ℕ) (r : ReferralRecord) → length r.servers ≤ 8 → message_record (message_of nonce r) ≡ r
 
--- the same, but for the last, of an EID beside its mask length: bytes spell at most one
+-- a negative Map-Reply whose numbers lie in the ranges of their types
+pub record IsReply (v : NegativeReply) : Type 0 where
+  pub nonce_fits : v.nonce < 2 ^ 64
+  pub ttl_fits : v.ttl < 2 ^ 32
+  pub prefix_is : IsPrefix v.prefix
+
+-- the same, but for the last, of negative Map-Replies: bytes spell at most one
+abbrev pub OneReply : Type 0
+OneReply = (bytes : List ℕ) (v w : NegativeReply) → SpellsReply bytes v → SpellsReply bytes w → v ≡ w
+
+-- only bytes spell one
+abbrev pub RepliesAreBytes : Type 0
+RepliesAreBytes = (bytes : List ℕ) (v : NegativeReply) → SpellsReply bytes v → IsBytes bytes
+
+-- what is spelled is read
+abbrev pub RepliesAreRead : Type 0
+RepliesAreRead = (bytes : List ℕ) (v : NegativeReply) → SpellsReply bytes v → reply_in bytes ≡ Ok v
+
+-- and what is read is spelled
+abbrev pub ReadRepliesAreSpelled : Type 0
+ReadRepliesAreSpelled = (bytes : List ℕ) (v : NegativeReply) → IsBytes bytes → reply_in bytes ≡ Ok v
+    → SpellsReply bytes v
+
+-- there is a fault exactly where none is spelled
+abbrev pub ReplyFaultsAreRight : Type 0
+ReplyFaultsAreRight = (bytes : List ℕ) → IsBytes bytes
+    → IsErr (reply_in bytes) ↔ ((v : NegativeReply) → SpellsReply bytes v → ⊥)
+
+-- what is written spells what was to be written
+abbrev pub WrittenReplySpells : Type 0
+WrittenReplySpells = (v : NegativeReply) → IsReply v → SpellsReply (written_reply v) v
+
+-- the same of an EID beside its mask length: bytes spell at most one
 abbrev pub OneEid : Type 0
 OneEid = (mask : ℕ) (bytes p q : List ℕ) → SpellsEid mask bytes p → SpellsEid mask bytes q → p ≡ q
 

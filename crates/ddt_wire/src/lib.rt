@@ -1,18 +1,22 @@
-//! The bytes of Map-Referrals: the one spelling that is written, and what any bytes spell.
+//! The bytes of Map-Referrals and of negative Map-Replies: the one spelling that is written, and what any bytes spell.
 #![tactic(auto)]
 
 mod address;
 mod eid;
 mod fault;
+mod head;
 mod laws;
 mod locator_record;
+mod negative_reply;
 mod referral;
 
 pub use address::{AddressFault, read_address, write_address};
 pub use eid::{EidFault, mask_len, read_eid, write_eid};
 pub use fault::ReferralFault;
-pub use laws::{eid_laws, referral_laws};
+pub use head::{MAP_REFERRAL, MAP_REPLY};
+pub use laws::{eid_laws, referral_laws, reply_laws};
 pub use locator_record::Locators;
+pub use negative_reply::{NegativeReply, ReplyFault, read_negative_reply, write_negative_reply};
 pub use referral::{Referral, read_referral, write_referral};
 
 #[cfg(test)]

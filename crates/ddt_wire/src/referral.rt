@@ -20,29 +20,23 @@
 //!
 //! A, the map version and the reserved bits are ignored.
 
-ghost use Rattle.std.specs.Prelude.{◌≡◌, ◌+◌, ◌*◌, ◌^◌, ◌<◌, ◌≤◌, ◌++◌, length, Ok, OnOk, IfOk};
-ghost use Rattle.ddt_wire.specs.Referral.{written, written_header, written_fields, act as act_of, bit, head_at, action_of, message_in, Spells, Message, message_of, message_record};
+ghost use Rattle.std.specs.Prelude.{◌≡◌, ◌^◌, ◌<◌, ◌≤◌, true, length, Ok, IfOk};
+ghost use Rattle.ddt_wire.specs.Referral.{written, written_head, act as act_of, flags_of, action_of, action_in, message_in, Spells, Message, message_of, message_record};
 
 use crate::eid::{EidFault, eid, mask_len, write_eid};
 use crate::fault::ReferralFault;
+use crate::head::{ACT, BEFORE_EID, Head, HeadFault, MAP_REFERRAL, put_head, read_head};
 use crate::locator_record::{Locators, put_locators};
-use byteorder::{BigEndian, ByteOrder};
 use ddt_path::{Action, Prefix, ReferralRecord};
 use std::alloc::{AllocError, Global};
 use std::marker::Model;
 
-/// The type of a Map-Referral.
-const MAP_REFERRAL: u8 = 6;
-/// The type in the first four bits, and one record.
-const TYPE_AND_COUNT: u32 = 6 << 28 | 1;
-/// How many bytes stand before the EID's AFI.
-const BEFORE_EID: usize = 22;
-/// The place of ACT in its field.
-const ACT: u16 = 1 << 13;
-/// The bit A in that field.
+/// The bit A in the flags.
 const AUTHORITATIVE: u16 = 1 << 12;
-/// The bit I in that field.
+/// The bit I in the flags.
 const INCOMPLETE: u16 = 1 << 11;
+/// The place of SigCnt before the map version.
+const SIGNATURE: u16 = 1 << 12;
 /// SigCnt 0 and map version 0.
 const NOT_SIGNED: u16 = 0;
 
@@ -61,33 +55,27 @@ fn act(action: Action) -> u8
     }
 }
 
-/// The field of ACT, A and I; A is written 1.
-fn action_field(referral: &ReferralRecord) -> u16
-    ensures { result ≡ act_of referral.now.action * 2 ^ 13 + 2 ^ 12 + bit referral.now.incomplete * 2 ^ 11 }
+/// The flags of a record; A is written 1.
+fn flags(referral: &ReferralRecord) -> u16
+    ensures { result ≡ flags_of referral.now.action true referral.now.incomplete 0 }
 {
     let incomplete = if referral.incomplete { INCOMPLETE } else { 0 };
     u16::from(act(referral.action)) * ACT + AUTHORITATIVE + incomplete
 }
 
-/// Appends what stands before the record.
-fn put_header(bytes: &mut Vec<u8>, nonce: u64) -> Result<(), AllocError>
-    ensures { OnOk result (bytes.new.items ≡ bytes.old.items ++ written_header nonce) }
-{
-    bytes.extend_from_slice(&TYPE_AND_COUNT.to_be_bytes())?;
-    bytes.extend_from_slice(&nonce.to_be_bytes())
-}
-
-/// Appends what stands before the EID in the record.
-fn put_fields(bytes: &mut Vec<u8>, referral: &ReferralRecord) -> Result<(), AllocError>
-    ensures written { OnOk result (bytes.new.items ≡ bytes.old.items ++ written_fields referral.now) }
-    ensures ttl { OnOk result (referral.now.ttl < 2 ^ 32) }
+/// The head of the message of a record.
+fn referral_head(nonce: u64, referral: &ReferralRecord) -> Head
+    ensures head { result ≡ written_head nonce referral.now }
     ensures count { length referral.now.servers ≤ 8 }
 {
-    let count = referral.servers.as_slice().len() as u8;
-    bytes.extend_from_slice(&referral.ttl.to_be_bytes())?;
-    bytes.extend_from_slice(&[count, mask_len(referral.prefix)])?;
-    bytes.extend_from_slice(&action_field(referral).to_be_bytes())?;
-    bytes.extend_from_slice(&NOT_SIGNED.to_be_bytes())
+    Head {
+        nonce,
+        ttl: referral.ttl,
+        locators: referral.servers.as_slice().len() as u8,
+        mask_len: mask_len(referral.prefix),
+        flags: flags(referral),
+        version: NOT_SIGNED,
+    }
 }
 
 /// The one spelling of a Map-Referral with this nonce and record: A is 1, no signature and map version 0, each locator
@@ -101,12 +89,27 @@ pub fn write_referral(
     ensures written { IfOk result (λ bytes. bytes.items ≡ written nonce referral.now) }
     ensures spelled { IfOk result (λ bytes. Spells bytes.items (message_of nonce referral.now)) }
 {
+    let head = referral_head(nonce, referral);
     let mut bytes = Vec::new(alloc);
-    put_header(&mut bytes, nonce)?;
-    put_fields(&mut bytes, referral)?;
+    put_head(&mut bytes, MAP_REFERRAL, &head)?;
     write_eid(&mut bytes, referral.prefix)?;
     put_locators(&mut bytes, referral.servers.as_slice())?;
     Ok(bytes)
+}
+
+impl From<HeadFault> for ReferralFault {
+    ghost use Rattle.std.specs.Prelude.{◌≡◌};
+    ghost use Rattle.ddt_wire.specs.Referral.{from_head};
+
+    ghost from_gives = { λ d e. e ≡ from_head d };
+
+    fn from(fault: HeadFault) -> ReferralFault {
+        match fault {
+            HeadFault::Short => ReferralFault::Short,
+            HeadFault::MessageType => ReferralFault::MessageType,
+            HeadFault::RecordCount => ReferralFault::RecordCount,
+        }
+    }
 }
 
 impl From<EidFault> for ReferralFault {
@@ -210,7 +213,7 @@ impl<'a> Referral<'a> {
 }
 
 /// The action of a number; None for 6 and 7.
-fn read_action(number: u8) -> Option<Action>
+fn numbered_action(number: u16) -> Option<Action>
     ensures { result ≡ action_of number }
 {
     match number {
@@ -224,26 +227,13 @@ fn read_action(number: u8) -> Option<Action>
     }
 }
 
-/// The action, where what stands before the EID is right.
-#[tactic(auto, unfolding(crate::specs::Referral::head_at))]
-fn read_head(bytes: &[u8]) -> Result<Action, ReferralFault>
-    ensures exact { result ≡ head_at bytes.now }
-    ensures len { OnOk result (24 ≤ length bytes.now) }
+/// The action of a head whose record has no signature.
+#[tactic(auto, unfolding(crate::specs::Referral::action_in))]
+fn unsigned_action(head: &Head) -> Result<Action, ReferralFault>
+    ensures { result ≡ action_in head.now }
 {
-    if bytes.len() < 4 {
-        return Err(ReferralFault::Short);
-    }
-    if bytes[0] >> 4 != MAP_REFERRAL {
-        return Err(ReferralFault::MessageType);
-    }
-    if bytes[3] != 1 {
-        return Err(ReferralFault::RecordCount);
-    }
-    if bytes.len() < 24 {
-        return Err(ReferralFault::Short);
-    }
-    let action = read_action(bytes[18] >> 5).ok_or(ReferralFault::BadAction)?;
-    if bytes[20] >> 4 != 0 {
+    let action = numbered_action(head.flags / ACT).ok_or(ReferralFault::BadAction)?;
+    if head.version / SIGNATURE != 0 {
         return Err(ReferralFault::Signed);
     }
     Ok(action)
@@ -254,20 +244,21 @@ fn read_head(bytes: &[u8]) -> Result<Action, ReferralFault>
 fn message(bytes: &[u8]) -> Result<Referral<'_>, ReferralFault>
     ensures { result ≡ message_in bytes.now }
 {
-    let action = read_head(bytes)?;
-    let (_fields, from_eid) = bytes.split_at(BEFORE_EID);
-    let (prefix, taken) = eid(from_eid, bytes[17])?;
+    let head = read_head(MAP_REFERRAL, bytes)?;
+    let action = unsigned_action(&head)?;
+    let (_before, from_eid) = bytes.split_at(BEFORE_EID);
+    let (prefix, taken) = eid(from_eid, head.mask_len)?;
     let (_eid, from_locators) = from_eid.split_at(taken);
-    let (locators, rest) = Locators::read(bytes[16], from_locators)?;
+    let (locators, rest) = Locators::read(head.locators, from_locators)?;
     if !rest.is_empty() {
         return Err(ReferralFault::Trailing);
     }
     Ok(Referral {
-        nonce: BigEndian::read_u64(&bytes[4..]),
+        nonce: head.nonce,
         action,
         prefix,
-        ttl: BigEndian::read_u32(&bytes[12..]),
-        incomplete: (bytes[18] >> 3) % 2 == 1,
+        ttl: head.ttl,
+        incomplete: head.flags / INCOMPLETE % 2 == 1,
         locators,
     })
 }

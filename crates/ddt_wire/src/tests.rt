@@ -1,3 +1,5 @@
+mod negative_replies;
+
 use super::*;
 use ddt_examples::messages::{
     EAST_ACKNOWLEDGES, HOLE_OF_EVERYTHING, HOLE_OF_INSTANCES, HOLE_WITH_IGNORED_BITS,

@@ -12,7 +12,7 @@ use Rattle.ddt.specs.declared.refusal.register.RegisterRefusal.TheVariants.{Cann
 use Rattle.ddt.specs.declared.refusal.script.ScriptRefusal.{ScriptRefusal}
 use Rattle.ddt.specs.declared.refusal.script.ScriptRefusal.TheVariants as script
 use Rattle.ddt.specs.declared.refusal.message.MessageRefusal.{MessageRefusal}
-use Rattle.ddt.specs.declared.refusal.message.MessageRefusal.TheVariants.{NotHex, UnknownMessage, NoReferral, NoRequest}
+use Rattle.ddt.specs.declared.refusal.message.MessageRefusal.TheVariants.{NotHex, UnknownMessage, NoReply, NoReferral, NoRequest}
 
 abbrev pub word_refusal_text : WordRefusal → Option (List ℕ)
 word_refusal_text (Identifier fault) = None
@@ -33,6 +33,7 @@ script_refusal_text (script.RefusedLine number) = Some (codes "script refused li
 abbrev pub message_refusal_text : MessageRefusal → Option (List ℕ)
 message_refusal_text NotHex = Some (codes "refused hex")
 message_refusal_text UnknownMessage = Some (codes "refused unknown message")
+message_refusal_text (NoReply fault) = None
 message_refusal_text (NoReferral fault) = None
 message_refusal_text (NoRequest fault) = None
 

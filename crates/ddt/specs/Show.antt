@@ -4,32 +4,41 @@ use Rattle.hex.specs.Hex.{decode_of}
 use Rattle.hex.specs.declared.error.FromHexError.{FromHexError}
 use Rattle.hex.specs.declared.error.FromHexError.TheVariants as hex
 use Rattle.ddt_wire.specs.declared.fault.ReferralFault.{ReferralFault}
+use Rattle.ddt_wire.specs.declared.negative_reply.NegativeReply.{NegativeReply}
+use Rattle.ddt_wire.specs.declared.negative_reply.ReplyFault.{ReplyFault}
+use Rattle.ddt_wire.specs.NegativeReply.{reply_in}
 use Rattle.ddt_wire.specs.Referral as referral
 use Rattle.ddt_ecm.specs.declared.fault.RequestFault.{RequestFault}
 use Rattle.ddt_ecm.specs.Request as request
-use Rattle.ddt_lines.specs.Lines.{ended, referral_text, request_text}
+use Rattle.ddt_lines.specs.Lines.{ended, referral_text, reply_text, request_text}
 use Rattle.ddt_words.specs.Call.{Call, value}
 use Rattle.ddt.specs.declared.refusal.Refusal.{Refusal}
 use Rattle.ddt.specs.declared.refusal.Refusal.TheVariants.{NoMessage, OutOfMemory}
-use Rattle.ddt.specs.declared.refusal.message.MessageRefusal.TheVariants.{NotHex, UnknownMessage, NoReferral, NoRequest}
+use Rattle.ddt.specs.declared.refusal.message.MessageRefusal.TheVariants.{NotHex, UnknownMessage, NoReply, NoReferral, NoRequest}
 
 -- the word of a call
 abbrev pub hex_of : Call → List ℕ
 hex_of call = value (codes "hex") call
 
--- the line of the Map-Referral or request that the bytes spell
+-- the line of the negative Map-Reply, Map-Referral or request that the bytes spell
 abbrev pub IsMessageText : List ℕ → List ℕ → Type 0
 IsMessageText bytes text =
-    ((v : referral.Message) × (referral.message_in bytes ≡ Ok v) × (text ≡ ended (referral_text v)))
+    ((v : NegativeReply) × (reply_in bytes ≡ Ok v) × (text ≡ ended (reply_text v)))
+    ⊎ ((v : referral.Message) × (referral.message_in bytes ≡ Ok v) × (text ≡ ended (referral_text v)))
     ⊎ ((v : request.Message) × (request.message_in bytes ≡ Ok v) × (text ≡ ended (request_text v)))
 
 -- the line of the message that the word spells in hexadecimal
 abbrev pub IsShowText : Call → List ℕ → Type 0
 IsShowText call text = (bytes : List ℕ) × (decode_of (hex_of call) ≡ Ok bytes) × IsMessageText bytes text
 
--- the type of a message, in its first four bits (RFC 8111, section 6.4; RFC 9301, section 5.8)
+-- the type of a message, in its first four bits (RFC 8111, section 6.4; RFC 9301, sections 5.4 and 5.8)
 abbrev pub type_of : List ℕ → Option ℕ
 type_of bytes = option_map (λ byte. byte / 16) (slice_get bytes 0)
+
+-- the first fault of bytes that are no negative Map-Reply, or want of memory
+abbrev pub IsWhyNoReply : List ℕ → Refusal → Type 0
+IsWhyNoReply bytes why =
+    ((fault : ReplyFault) × (why ≡ NoMessage (NoReply fault)) × (reply_in bytes ≡ Err fault)) ⊎ (why ≡ OutOfMemory)
 
 -- the first fault of bytes that are no Map-Referral, or want of memory
 abbrev pub IsWhyNoReferral : List ℕ → Refusal → Type 0
@@ -43,13 +52,15 @@ IsWhyNoRequest bytes why =
     ((fault : RequestFault) × (why ≡ NoMessage (NoRequest fault)) × (request.message_in bytes ≡ Err fault))
     ⊎ (why ≡ OutOfMemory)
 
--- why bytes aren't shown: their type is neither 6 nor 8, they have a fault as a message of their type, or memory is
+-- why bytes aren't shown: their type is none of 2, 6 and 8, they have a fault as a message of their type, or memory is
 -- wanted
 abbrev pub IsWhyNoMessage : List ℕ → Refusal → Type 0
 IsWhyNoMessage bytes why =
-    ((type_of bytes ≡ Some 6) × IsWhyNoReferral bytes why)
+    ((type_of bytes ≡ Some 2) × IsWhyNoReply bytes why)
+    ⊎ ((type_of bytes ≡ Some 6) × IsWhyNoReferral bytes why)
     ⊎ ((type_of bytes ≡ Some 8) × IsWhyNoRequest bytes why)
-    ⊎ ((type_of bytes ≢ Some 6) × (type_of bytes ≢ Some 8) × (why ≡ NoMessage UnknownMessage))
+    ⊎ ((type_of bytes ≢ Some 2) × (type_of bytes ≢ Some 6) × (type_of bytes ≢ Some 8)
+    × (why ≡ NoMessage UnknownMessage))
 
 -- what is refused where decoding a word ends in this fault
 abbrev pub hex_refusal : FromHexError → Refusal

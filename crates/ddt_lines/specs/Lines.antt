@@ -1,5 +1,5 @@
--- The lines that the program prints: an outcome, a register that is accepted, a Map-Referral, a hop of a lookup, an
--- encapsulated Map-Request.
+-- The lines that the program prints: an outcome, a register that is accepted, a Map-Referral, a negative Map-Reply, a
+-- hop of a lookup, an encapsulated Map-Request.
 use Rattle.std.specs.Prelude.{ℕ, Bool, true, false, List, ◌++◌, codes, decimal}
 use Rattle.std.specs.List.{flat_map}
 use Rattle.std.specs.Int.{w64, to_be_bytes}
@@ -10,6 +10,7 @@ use Rattle.ddt_path.specs.declared.record.Action.TheVariants.{NodeReferral, MsRe
 use Rattle.ddt_path.specs.declared.record.Outcome.{Outcome}
 use Rattle.ddt_path.specs.declared.record.Outcome.TheVariants.{Registered, NotRegistered, Hole}
 use Rattle.ddt_text.specs.Written.{written_locator, written_prefix, written_xeid}
+use Rattle.ddt_wire.specs.declared.negative_reply.NegativeReply.{NegativeReply}
 use Rattle.ddt_wire.specs.Referral as referral
 use Rattle.ddt_ecm.specs.Request as request
 
@@ -54,6 +55,11 @@ referral_text v =
     codes "referral nonce " ++ nonce_text v.nonce ++ codes " " ++ action_text v.action ++ codes " "
     ++ written_prefix v.prefix
     ++ codes " ttl " ++ decimal v.ttl ++ whole_text v.incomplete ++ spaced v.locators
+
+abbrev pub reply_text : NegativeReply → List ℕ
+reply_text v =
+    codes "negative nonce " ++ nonce_text v.nonce ++ codes " " ++ written_prefix v.prefix ++ codes " ttl "
+    ++ decimal v.ttl
 
 -- a server that was asked, and what its Map-Referral says: action, prefix, minutes, locators
 abbrev pub hop_text : Locator → referral.Message → List ℕ

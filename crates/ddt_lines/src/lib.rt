@@ -1,11 +1,12 @@
 //! The lines that the program prints, and how a text is written to a stream.
 //!
-//! In reading order: `text` (the parts of a line), `outcome`, `counts`, `referral`, `hop`, `request` (a line each),
-//! `printing`.
+//! In reading order: `text` (the parts of a line), `outcome`, `counts`, `referral`, `negative_reply`, `hop`, `request`
+//! (a line each), `printing`.
 #![tactic(auto)]
 
 mod counts;
 mod hop;
+mod negative_reply;
 mod outcome;
 mod printing;
 mod referral;
@@ -16,6 +17,7 @@ mod text;
 
 pub use counts::accepted_line;
 pub use hop::hop_line;
+pub use negative_reply::negative_reply_line;
 pub use outcome::outcome_line;
 pub use printing::print;
 pub use referral::referral_line;

@@ -7,8 +7,8 @@ use Rattle.ddt_wire.specs.declared.head.Head.{Head}
 use Rattle.ddt_wire.specs.declared.head.HeadFault.{HeadFault}
 use Rattle.ddt_wire.specs.declared.head.HeadFault.TheVariants.{Short, MessageType, RecordCount}
 
--- the type in 4 bits, 20 ignored bits and a record count of 1 in 8 bits; the nonce; TTL, locator count, EID mask-len; ACT
--- in 3 bits and 13 more; 4 bits and the map version in 12
+-- the type in 4 bits, 20 ignored bits and a record count of 1 in 8 bits; the nonce; TTL, locator count, EID mask-len;
+-- ACT in 3 bits and 13 more; 4 bits and the map version in 12
 abbrev pub head_bytes : ℕ → ℕ → Head → List ℕ
 head_bytes type ignored h =
     to_be_bytes w32 (type * 2 ^ 28 + (ignored * 2 ^ 8 + 1)) ++ to_be_bytes w64 h.nonce ++ to_be_bytes w32 h.ttl

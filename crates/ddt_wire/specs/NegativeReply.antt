@@ -15,7 +15,7 @@ use Rattle.ddt_wire.specs.Eid.{SpellsEid, written_eid, written_mask_len, eid_at}
 
 -- ---- what spells a reply
 
--- what is ignored: 20 bits behind the type; the bit A and 12 reserved bits; 4 reserved bits and the map version of 12 bits
+-- what is ignored: 20 bits behind the type; the bit A and 12 reserved bits; 4 reserved bits and the map version of 12
 pub record Ignored : Type 0 where
   pub reserved : ℕ
   pub flags : ℕ

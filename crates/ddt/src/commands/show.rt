@@ -3,13 +3,13 @@
 ghost use Rattle.std.specs.Prelude.{◌≡◌, ℕ, true, List, IfOk, IfErr, IsErr, Ok, MatchResult};
 ghost use Rattle.hex.specs.Hex.{decode_of};
 ghost use Rattle.ddt_words.specs.Call.{call_of};
-ghost use Rattle.ddt.specs.Show.{IsMessageText, IsShowText, IsWhyNoReferral, IsWhyNoRequest, IsWhyNotShown, hex_refusal};
+ghost use Rattle.ddt.specs.Show.{IsMessageText, IsShowText, IsWhyNoReply, IsWhyNoReferral, IsWhyNoRequest, IsWhyNotShown, hex_refusal};
 
 use crate::lines::Lines;
 use crate::refusal::{MessageRefusal, Refusal};
 use ddt_ecm::read_request;
-use ddt_lines::{referral_line, request_line};
-use ddt_wire::read_referral;
+use ddt_lines::{negative_reply_line, referral_line, request_line};
+use ddt_wire::{MAP_REFERRAL, MAP_REPLY, read_negative_reply, read_referral};
 use ddt_words::{Argument, Declaration, Words};
 use hex::FromHexError;
 use std::alloc::Global;
@@ -19,10 +19,7 @@ pub const WORDS: Declaration<'static> = Declaration {
     arguments: &[Argument::One("hex")],
 };
 
-/// The type of a Map-Referral and of an encapsulated Map-Request, in the first four bits (RFC 8111, section 6.4;
-/// RFC 9301, section 5.8).
-const MAP_REFERRAL: u8 = 6;
-
+/// The type of an encapsulated Map-Request, in the first four bits (RFC 9301, section 5.8).
 const ENCAPSULATED: u8 = 8;
 
 /// The line of the message that the word spells in hexadecimal. Refusals: a word that is no hexadecimal text, an
@@ -48,6 +45,7 @@ fn message_text(alloc: Global, words: &Words<'_>) -> Result<Vec<u8>, Refusal<'st
         Err(fault) => return Err(undecoded(fault)),
     };
     match bytes.first().map(|byte| byte >> 4) {
+        Some(MAP_REPLY) => reply_in(alloc, &bytes),
         Some(MAP_REFERRAL) => referral_in(alloc, &bytes),
         Some(ENCAPSULATED) => request_in(alloc, &bytes),
         _ => Err(Refusal::NoMessage(MessageRefusal::UnknownMessage)),
@@ -61,6 +59,17 @@ fn undecoded(fault: FromHexError) -> Refusal<'static>
     match fault {
         FromHexError::OutOfMemory => Refusal::OutOfMemory,
         _ => Refusal::NoMessage(MessageRefusal::NotHex),
+    }
+}
+
+/// The line of the negative Map-Reply that the bytes are.
+fn reply_in(alloc: Global, bytes: &[u8]) -> Result<Vec<u8>, Refusal<'static>>
+    ensures text { IfOk result (λ text. IsMessageText bytes.now text.items) }
+    ensures refused { IfErr result (IsWhyNoReply bytes.now) }
+{
+    match read_negative_reply(bytes) {
+        Ok(reply) => Ok(negative_reply_line(alloc, reply)?),
+        Err(fault) => Err(Refusal::NoMessage(MessageRefusal::NoReply(fault))),
     }
 }
 

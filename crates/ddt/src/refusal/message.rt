@@ -1,7 +1,7 @@
 //! Bytes that are no message.
 
 use ddt_ecm::RequestFault;
-use ddt_wire::ReferralFault;
+use ddt_wire::{ReferralFault, ReplyFault};
 use std::fmt;
 
 /// Why a word shows no message.
@@ -11,6 +11,8 @@ pub enum MessageRefusal {
     NotHex,
     /// The datagram is empty, or its type is unknown.
     UnknownMessage,
+    /// The datagram is of the type of a Map-Reply, and no negative one.
+    NoReply(ReplyFault),
     /// The datagram is of the type of a Map-Referral, and none.
     NoReferral(ReferralFault),
     /// The datagram is of the type of an encapsulated Map-Request, and none.
@@ -26,6 +28,7 @@ impl fmt::Display for MessageRefusal {
         match self {
             MessageRefusal::NotHex => write!(f, "refused hex"),
             MessageRefusal::UnknownMessage => write!(f, "refused unknown message"),
+            MessageRefusal::NoReply(fault) => write!(f, "refused {fault}"),
             MessageRefusal::NoReferral(fault) => write!(f, "refused {fault}"),
             MessageRefusal::NoRequest(fault) => write!(f, "refused {fault}"),
         }

@@ -4,6 +4,7 @@ use crate::status::Status::{Answered, Refused};
 use crate::tests::harness::{expect, word};
 use ddt_examples::messages::{
     DDT_REQUEST, EAST_ACKNOWLEDGES, HOLE_WITH_IGNORED_BITS, IPV6_REQUEST, ITR_REQUEST,
+    NEGATIVE_REPLY, NEGATIVE_REPLY_OF_INSTANCES, NEGATIVE_REPLY_WITH_IGNORED_BITS,
     ROOT_REFERS_TO_TEN, TEN_IS_NOT_IN_CHARGE,
 };
 use std::alloc::Global;
@@ -49,6 +50,25 @@ fn referrals_are_shown(rt: HostRuntime) -> Result<(), Fail> {
 }
 
 #[test]
+fn negative_replies_are_shown(rt: HostRuntime) -> Result<(), Fail> {
+    let rows = [
+        (
+            NEGATIVE_REPLY,
+            "negative nonce 1122334455667788 [0]10.2.0.0/15 ttl 15\n",
+        ),
+        (
+            NEGATIVE_REPLY_WITH_IGNORED_BITS,
+            "negative nonce 1122334455667788 [0]10.2.0.0/15 ttl 15\n",
+        ),
+        (
+            NEGATIVE_REPLY_OF_INSTANCES,
+            "negative nonce 1122334455667788 [2147483648/1]* ttl 15\n",
+        ),
+    ];
+    shows(&rt, rt.alloc(), &rows)
+}
+
+#[test]
 fn requests_are_shown(rt: HostRuntime) -> Result<(), Fail> {
     let rows = [
         (
@@ -72,9 +92,19 @@ fn the_first_fault_of_a_message_is_named(rt: HostRuntime) -> Result<(), Fail> {
     let rows = [
         ("", "refused unknown message\n"),
         ("00", "refused unknown message\n"),
-        ("2000000111223344", "refused unknown message\n"),
+        ("3000000111223344", "refused unknown message\n"),
         ("6g", "refused hex\n"),
         ("600", "refused hex\n"),
+        ("2000000111223344", "refused 1 Short\n"),
+        ("20000002", "refused 3 RecordCount\n"),
+        (
+            "2000000111223344556677880000000f010f2000000000010a020000",
+            "refused 4 LocatorCount\n",
+        ),
+        (
+            "2000000111223344556677880000000f000f0000000000010a020000",
+            "refused 5 BadAction\n",
+        ),
         ("60", "refused 1 Short\n"),
         ("60000002", "refused 3 RecordCount\n"),
         ("8c000000", "refused 3 Security\n"),

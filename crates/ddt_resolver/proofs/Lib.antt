@@ -7,3 +7,4 @@ pub mod HearLemmas
 pub mod BoundLemmas
 pub mod ReplyLemmas
 pub mod DueLemmas
+pub mod FrontLemmas

@@ -10,3 +10,4 @@ pub mod Bound
 pub mod Table
 pub mod Acting
 pub mod Laws
+pub mod Front

@@ -41,11 +41,11 @@ impl Ticket {
 /// A datagram to send from the resolver's own address.
 #[derive(Debug, Drop)]
 pub struct Outgoing {
-    /// The server that it goes to.
+    /// The server or the ITR that it goes to.
     pub to: Locator,
     /// The UDP port there.
     pub port: u16,
-    /// An Encapsulated Map-Request.
+    /// An Encapsulated Map-Request to a server, or a negative Map-Reply to an ITR.
     pub bytes: Listed<u8>,
 }
 

@@ -2,12 +2,13 @@
 //! each call answers what is to be sent, and learns the time from its caller.
 //!
 //! In reading order: `answers`, `pending`, `table`, `resolver`, `asking`, `refusing`, `acting`, `ticking`, `sending`,
-//! `laws`.
+//! `laws`; `front` is the side that ITRs see.
 #![tactic(auto)]
 
 mod acting;
 mod answers;
 mod asking;
+mod front;
 mod laws;
 mod pending;
 mod refusing;
@@ -18,6 +19,7 @@ mod ticking;
 
 pub use answers::{AskError, Asked, Heard, Ignored, Outgoing, Ticked, Ticket, Why};
 pub use ddt_cache::Moment;
+pub use front::{ItrRequest, itr_reply, itr_request};
 pub use laws::{order_is_kept, tickets_are_new, usable_is_taken};
 pub use pending::Pending;
 pub use resolver::{MOST_PENDING, Resolver};

@@ -1,0 +1,61 @@
+-- The side of a Map-Resolver that ITRs see. An ITR asks by an Encapsulated Map-Request whose bit D is clear, and where no
+-- ETR is to answer it, a negative Map-Reply does (RFC 8111, section 7.3; RFC 9301, sections 5.4 and 5.8).
+use Rattle.std.specs.Prelude.{ℕ, ◌≡◌, false, nat_lt, if◌then◌else◌, List, length, take, Option, Some, None, slice_get}
+use Rattle.std.specs.Option.{option_map}
+use Rattle.ddt_path.specs.declared.locator.Locator.{Locator}
+use Rattle.ddt_path.specs.declared.record.Outcome.{Outcome}
+use Rattle.ddt_path.specs.declared.record.Outcome.TheVariants.{Registered, NotRegistered, Hole}
+use Rattle.ddt_path.specs.declared.xeid.Xeid.{Xeid}
+use Rattle.ddt_path.specs.Path.{xeid_path}
+use Rattle.ddt_ecm.specs.Request.{Message, Spells}
+use Rattle.ddt_wire.specs.NegativeReply.{written_reply, reply_of}
+use Rattle.ddt_resolver.specs.declared.answers.Outgoing.{Outgoing}
+use Rattle.ddt_resolver.specs.declared.front.ItrRequest.{ItrRequest}
+
+-- ---- what an ITR asks
+
+-- a message whose bit D is clear asks for its identifier; the answer carries its nonce, and goes to its first ITR-RLOC
+-- at its inner source port
+pub record Asks (m : Message) (q : ItrRequest) : Type 0 where
+  pub plain : m.ddt ≡ false
+  pub identifier : q.xeid ≡ m.xeid
+  pub nonce : q.nonce ≡ m.nonce
+  pub first_rloc : slice_get m.rlocs 0 ≡ Some q.to
+  pub port : q.port ≡ m.port
+
+-- these bytes, all of them, spell a request of an ITR
+pub record IsItrRequest (bytes : List ℕ) (q : ItrRequest) : Type 0 where
+  pub message : Message
+  pub spells : Spells bytes message
+  pub asks : Asks message q
+
+-- what a message asks, if its bit D is clear
+abbrev pub asked_at : Message → Locator → ItrRequest
+asked_at m l = record { xeid = m.xeid; nonce = m.nonce; to = l; port = m.port }
+
+abbrev pub asked_by : Message → Option ItrRequest
+asked_by m = if m.ddt then None else option_map (asked_at m) (slice_get m.rlocs 0)
+
+-- ---- what it is answered
+
+-- the number of digits before the address: those of the instance, and the family's
+abbrev pub before_address : ℕ
+before_address = 33
+
+-- A Map-Reply has the prefix of a block. In place of a range of instances it has all addresses of the identifier's own
+-- instance and family.
+abbrev pub block_for : Xeid → List ℕ → List ℕ
+block_for x p = if nat_lt (length p) before_address then take before_address (xeid_path x) else p
+
+-- the TTL in minutes, and the prefix; none where the ETRs of a registered site answer
+abbrev pub negative_for : Xeid → Outcome → Option (ℕ × List ℕ)
+negative_for x (Registered p servers) = None
+negative_for x (NotRegistered p servers) = Some (1, block_for x p)
+negative_for x (Hole p) = Some (15, block_for x p)
+
+abbrev pub datagram_for : ItrRequest → (ℕ × List ℕ) → Outgoing
+datagram_for q n = record { to = q.to; port = q.port; bytes = written_reply (reply_of q.nonce n.0 n.1) }
+
+-- what is sent to the ITR
+abbrev pub reply_to_itr : Outcome → ItrRequest → Option Outgoing
+reply_to_itr outcome q = option_map (datagram_for q) (negative_for q.xeid outcome)

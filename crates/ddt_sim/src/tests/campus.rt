@@ -14,9 +14,9 @@ struct World {
 }
 
 impl World {
-    /// That of a register, and of one row more.
-    fn of(alloc: Global, text: &str, row: &str) -> Result<World, Fail> {
-        let text = format!(in alloc; "{text}{row}")?;
+    /// That of a register, and of the rows behind it.
+    fn of(alloc: Global, text: &str, rows: &str) -> Result<World, Fail> {
+        let text = format!(in alloc; "{text}{rows}")?;
         let Ok(register) = read_register(alloc, text.as_bytes()) else {
             return Err("no register".into());
         };
@@ -32,9 +32,15 @@ impl World {
         })
     }
 
-    /// Whether the lookup of an address gives this outcome by requests to these servers, in this order.
+    /// Whether the lookup of an IPv4 address of the Instance ID 0 gives this outcome by requests to these servers, in
+    /// this order.
     fn finds(&mut self, address: u32, outcome: Outcome, asked: &[Locator]) -> Result<bool, Fail> {
-        let found = looked_up(self.alloc, &mut self.servers, &mut self.resolver, address)?;
+        self.finds_for(v4(address), outcome, asked)
+    }
+
+    /// The same for any identifier.
+    fn finds_for(&mut self, x: Xeid, outcome: Outcome, asked: &[Locator]) -> Result<bool, Fail> {
+        let found = looked_up(self.alloc, &mut self.servers, &mut self.resolver, x)?;
         is_found(self.alloc, found, outcome, asked)
     }
 }
@@ -43,6 +49,20 @@ impl World {
 fn hole(address: u32, len: u8) -> Result<Outcome, Fail> {
     Ok(Outcome::Hole {
         prefix: block(address, len)?,
+    })
+}
+
+/// A hole at a range of instances.
+fn hole_of_instances(iid: u32, len: u8) -> Result<Outcome, Fail> {
+    Ok(Outcome::Hole {
+        prefix: Prefix::range(iid, len)?,
+    })
+}
+
+/// The hole that is all of one family of an instance.
+fn hole_of_family(x: Xeid) -> Result<Outcome, Fail> {
+    Ok(Outcome::Hole {
+        prefix: Prefix::block(x.iid, x.address, 0)?,
     })
 }
 
@@ -87,6 +107,49 @@ fn a_hole_is_remembered(rt: HostRuntime) -> Result<(), Fail> {
     assert_eq!(rt; world.finds(0x0a03_0001, below_ten, &[])?, true);
     assert_eq!(rt; world.finds(0x0b00_0001, beside_ten, &[ROOT])?, true);
     assert_eq!(rt; world.finds(0x0b00_0001, beside_ten, &[])?, true);
+    Ok(())
+}
+
+#[test]
+fn other_instances_are_holes(rt: HostRuntime) -> Result<(), Fail> {
+    let mut world = World::of(rt.alloc(), CAMPUS, "")?;
+    let next_instance = hole_of_instances(1, 32)?;
+    let upper_half = hole_of_instances(0x8000_0000, 1)?;
+    let in_next = in_instance(1, 0x0a01_0203);
+    let in_upper = in_instance(0x8000_0000, 0x0a00_0001);
+    assert_eq!(rt; world.finds_for(in_next, next_instance, &[ROOT])?, true);
+    assert_eq!(rt; world.finds_for(in_upper, upper_half, &[ROOT])?, true);
+    Ok(())
+}
+
+#[test]
+fn the_other_family_is_a_hole(rt: HostRuntime) -> Result<(), Fail> {
+    let mut world = World::of(rt.alloc(), CAMPUS, "")?;
+    let family = hole_of_family(v6(0))?;
+    let x = v6(0x2001_0db8_0000_0000_0000_0000_0000_0001);
+    assert_eq!(rt; world.finds_for(x, family, &[ROOT])?, true);
+    Ok(())
+}
+
+#[test]
+fn a_map_server_answers_between_its_sites(rt: HostRuntime) -> Result<(), Fail> {
+    let mut world = World::of(rt.alloc(), CAMPUS, "")?;
+    let between = hole(0x0a01_0300, 24)?;
+    assert_eq!(rt;
+        world.finds(0x0a01_0309, between, &[ROOT, TEN, EAST])?,
+        true
+    );
+    Ok(())
+}
+
+#[test]
+fn a_hole_may_be_a_single_address(rt: HostRuntime) -> Result<(), Fail> {
+    let rows = "group-node,,far,127.0.0.9\nnode,[0]10.9.9.9/32,far,\n";
+    let mut world = World::of(rt.alloc(), LONE_ROOT, rows)?;
+    let beside = hole(0x0a09_0908, 32)?;
+    let inside = hole(0x0a09_0909, 32)?;
+    assert_eq!(rt; world.finds(0x0a09_0908, beside, &[ROOT])?, true);
+    assert_eq!(rt; world.finds(0x0a09_0909, inside, &[ROOT, FAR])?, true);
     Ok(())
 }
 

@@ -8,7 +8,7 @@ ghost use Rattle.std.specs.Prelude.{IfOk};
 
 use super::*;
 use ddt_ecm::read_request;
-use ddt_path::{Action, Listed, ReferralRecord};
+use ddt_path::Listed;
 use ddt_wire::write_referral;
 use std::alloc::AllocError;
 
@@ -50,35 +50,6 @@ fn playing(alloc: Global, records: &[ReferralRecord]) -> Result<Played, Fail> {
     Ok(Played { records: reversed })
 }
 
-/// A record of an IPv4 block of the Instance ID 0, for a day.
-fn record(
-    action: Action,
-    address: u32,
-    len: u8,
-    servers: &[Locator],
-) -> Result<ReferralRecord, Fail> {
-    Ok(ReferralRecord {
-        action,
-        prefix: block(address, len)?,
-        ttl: 1440,
-        incomplete: false,
-        servers: set(servers)?,
-    })
-}
-
-/// How a lookup over these servers fails.
-fn failure(
-    alloc: Global,
-    servers: &mut Played,
-    resolver: &mut ListResolver,
-    address: u32,
-) -> Result<LookupError, Fail> {
-    match looked_up(alloc, servers, resolver, address)? {
-        Ok(_lookup) => Err("an outcome".into()),
-        Err(error) => Ok(error),
-    }
-}
-
 #[test]
 fn a_referral_that_goes_no_deeper_ends_a_lookup(rt: HostRuntime) -> Result<(), Fail> {
     let alloc = rt.alloc();
@@ -86,7 +57,7 @@ fn a_referral_that_goes_no_deeper_ends_a_lookup(rt: HostRuntime) -> Result<(), F
     let mut servers = playing(alloc, &[referral, referral])?;
     let mut resolver = rooted(alloc)?;
     assert_eq!(rt;
-        failure(alloc, &mut servers, &mut resolver, 0x0a00_0001)?,
+        failure(alloc, &mut servers, &mut resolver, v4(0x0a00_0001))?,
         LookupError::GaveUp(Why::Loop)
     );
     assert_eq!(rt; resolver.pending(), 0);
@@ -100,7 +71,7 @@ fn no_reply_ends_a_lookup(rt: HostRuntime) -> Result<(), Fail> {
     let mut servers = playing(alloc, &[referral])?;
     let mut resolver = rooted(alloc)?;
     assert_eq!(rt;
-        failure(alloc, &mut servers, &mut resolver, 0x0a00_0001)?,
+        failure(alloc, &mut servers, &mut resolver, v4(0x0a00_0001))?,
         LookupError::GaveUp(Why::NoReply)
     );
     assert_eq!(rt; resolver.pending(), 0);
@@ -113,18 +84,11 @@ fn with_ten(alloc: Global) -> Result<ListResolver, Fail> {
     let hole = record(Action::DelegationHole, 0x0a80_0000, 9, &[])?;
     let mut servers = playing(alloc, &[referral, hole])?;
     let mut resolver = rooted(alloc)?;
-    let found = looked_up(alloc, &mut servers, &mut resolver, 0x0a80_0001)?;
+    let found = looked_up(alloc, &mut servers, &mut resolver, v4(0x0a80_0001))?;
     if is_found(alloc, found, outcome_of(&hole), &[ROOT, TEN])? {
         Ok(resolver)
     } else {
         Err("another outcome".into())
-    }
-}
-
-/// What a DELEGATION-HOLE says.
-fn outcome_of(hole: &ReferralRecord) -> Outcome {
-    Outcome::Hole {
-        prefix: hole.prefix,
     }
 }
 
@@ -135,7 +99,7 @@ fn a_lookup_starts_over_at_the_root(rt: HostRuntime) -> Result<(), Fail> {
     let nobody = record(Action::NotAuthoritative, 0x0a01_0203, 32, &[])?;
     let hole = record(Action::DelegationHole, 0x0a01_0000, 16, &[])?;
     let mut servers = playing(alloc, &[nobody, hole])?;
-    let found = looked_up(alloc, &mut servers, &mut resolver, 0x0a01_0203)?;
+    let found = looked_up(alloc, &mut servers, &mut resolver, v4(0x0a01_0203))?;
     assert_eq!(rt;
         is_found(alloc, found, outcome_of(&hole), &[TEN, ROOT])?,
         true
@@ -143,7 +107,7 @@ fn a_lookup_starts_over_at_the_root(rt: HostRuntime) -> Result<(), Fail> {
     // The referral is forgotten: a lookup beside the hole asks the root again.
     let beside = record(Action::DelegationHole, 0x0a02_0000, 16, &[])?;
     let mut servers = playing(alloc, &[beside])?;
-    let found = looked_up(alloc, &mut servers, &mut resolver, 0x0a02_0001)?;
+    let found = looked_up(alloc, &mut servers, &mut resolver, v4(0x0a02_0001))?;
     assert_eq!(rt; is_found(alloc, found, outcome_of(&beside), &[ROOT])?, true);
     Ok(())
 }
@@ -155,7 +119,7 @@ fn a_lookup_starts_over_once(rt: HostRuntime) -> Result<(), Fail> {
     let nobody = record(Action::NotAuthoritative, 0x0a01_0203, 32, &[])?;
     let mut servers = playing(alloc, &[nobody, nobody, nobody])?;
     assert_eq!(rt;
-        failure(alloc, &mut servers, &mut resolver, 0x0a01_0203)?,
+        failure(alloc, &mut servers, &mut resolver, v4(0x0a01_0203))?,
         LookupError::GaveUp(Why::NotAuthoritative)
     );
     assert_eq!(rt; servers.records.len(), 1);

@@ -1,6 +1,7 @@
 //! Worked steps, and the text of each refusal. Random schedules beside a plain resolver stand in
 //! `bench/resolver_schedules`.
 
+mod crowded;
 mod limits;
 mod replies;
 
@@ -27,6 +28,12 @@ fn v4(address: u32) -> Xeid {
         address: Locator::V4(address),
     }
 }
+
+/// The identifier of the worked lookups.
+const X: Xeid = Xeid {
+    iid: 0,
+    address: Locator::V4(0x0a01_0203),
+};
 
 fn at(millis: u64) -> Result<Moment, Fail> {
     Ok(Moment::at(millis).ok_or("past the last moment")?)
@@ -55,6 +62,31 @@ fn referral(address: u32, len: u8, servers: &[Locator]) -> Result<ReferralRecord
         incomplete: false,
         servers: set(servers)?,
     })
+}
+
+/// A resolver with a lookup of 10.1.2.3 that has followed the root's referral of 10.0.0.0/8, and has asked 127.0.0.10
+/// with the nonce 2 at moment 0.
+fn waiting(alloc: Global) -> Result<ListResolver, Fail> {
+    let mut resolver = rooted(alloc, 1)?;
+    let first = asked(&mut resolver, X)?;
+    let to_ten = referral(0x0a00_0000, 8, &[TEN])?;
+    let second = replied(alloc, &mut resolver, 0, ROOT, (1, &to_ten, 0))?;
+    if first == Said::Sent(ROOT) && second == Said::Sent(TEN) {
+        Ok(resolver)
+    } else {
+        Err("another request".into())
+    }
+}
+
+/// Opens so many lookups, which ask the root.
+fn open_many(resolver: &mut ListResolver, count: u32) -> Result<(), Fail> {
+    for n in 0..count {
+        let said = asked(resolver, v4(n))?;
+        if said != Said::Sent(ROOT) {
+            return Err("another answer".into());
+        }
+    }
+    Ok(())
 }
 
 /// What an ask or a datagram came to, without bytes: of what is sent, the server.

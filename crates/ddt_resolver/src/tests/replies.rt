@@ -1,25 +1,6 @@
-//! Replies to a lookup of 10.1.2.3 that has followed the root's referral of 10.0.0.0/8, and has asked 127.0.0.10 with the
-//! nonce 2 at moment 0. Each case begins with a resolver of its own.
+//! Replies to a lookup that waits for 127.0.0.10. Each case begins with a resolver of its own.
 
 use super::*;
-
-const X: Xeid = Xeid {
-    iid: 0,
-    address: Locator::V4(0x0a01_0203),
-};
-
-/// A resolver with this lookup.
-fn waiting(alloc: Global) -> Result<ListResolver, Fail> {
-    let mut resolver = rooted(alloc, 1)?;
-    let first = asked(&mut resolver, X)?;
-    let to_ten = referral(0x0a00_0000, 8, &[TEN])?;
-    let second = replied(alloc, &mut resolver, 0, ROOT, (1, &to_ten, 0))?;
-    if first == Said::Sent(ROOT) && second == Said::Sent(TEN) {
-        Ok(resolver)
-    } else {
-        Err("another request".into())
-    }
-}
 
 /// Whether the lookup waits as it did at first.
 fn waits(resolver: &ListResolver) -> bool {
@@ -116,5 +97,48 @@ fn a_referral_to_no_server_is_ignored(rt: HostRuntime) -> Result<(), Fail> {
     let told = referral(0x0a00_0000, 8, &[])?;
     let why = Ignored::NoServers;
     assert_eq!(rt; is_ignored(rt.alloc(), 0, TEN, (2, &told, 0), why)?, true);
+    Ok(())
+}
+
+/// Eight servers.
+const EIGHT: [Locator; 8] = [
+    Locator::V4(0x7f00_0201),
+    Locator::V4(0x7f00_0202),
+    Locator::V4(0x7f00_0203),
+    Locator::V4(0x7f00_0204),
+    Locator::V4(0x7f00_0205),
+    Locator::V4(0x7f00_0206),
+    Locator::V4(0x7f00_0207),
+    Locator::V4(0x7f00_0208),
+];
+
+/// The Map-Referral of a record, under the nonce 2, with 127.0.2.9 as its ninth locator.
+fn with_a_ninth(alloc: Global, told: &ReferralRecord) -> Result<Vec<u8>, Fail> {
+    let mut bytes = write_referral(alloc, 2, told)?;
+    bytes.extend_from_slice(&[0x01, 0x64, 0xff, 0, 0, 1, 0, 1, 0x7f, 0, 2, 9])?;
+    if let Some(count) = bytes.get_mut(16) {
+        *count = 9;
+    }
+    Ok(bytes)
+}
+
+/// The servers of the lookup whose last request has this nonce; none where no lookup has.
+fn servers_under(resolver: &ListResolver, nonce: u64) -> LocatorSet {
+    match resolver.table.with_nonce(nonce) {
+        Some((_ticket, lookup)) => lookup.servers,
+        None => LocatorSet::none(),
+    }
+}
+
+#[test]
+fn of_nine_servers_the_first_eight_are_kept(rt: HostRuntime) -> Result<(), Fail> {
+    let alloc = rt.alloc();
+    let told = referral(0x0a01_0000, 16, &EIGHT)?;
+    let bytes = with_a_ninth(alloc, &told)?;
+    let mut resolver = waiting(alloc)?;
+    let now = at(0)?;
+    let said = said_of_datagram(resolver.datagram(now, TEN, bytes.as_slice()));
+    assert_eq!(rt; said, Said::Sent(Locator::V4(0x7f00_0201)));
+    assert_eq!(rt; servers_under(&resolver, 3), told.servers);
     Ok(())
 }

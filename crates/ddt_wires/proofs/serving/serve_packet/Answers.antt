@@ -1,0 +1,17 @@
+use Rattle.std.proofs.Common.{[], refl, subst}
+use Rattle.ddt_node.specs.declared.handling.Handled.{Handled}
+use Rattle.ddt_wires.specs.Turns.{AreTried, sends_for, served, out_of_memory}
+use Rattle.ddt_wires.proofs.TellLemmas.{tells_none}
+use Rattle.ddt_wires.proofs.serving.serve_packet.Goals as goal
+
+pub returns-in-Ok : goal.returns-in-Ok
+returns-in-Ok g c =
+    let w = c.send_all.ensures in (
+      w.0,
+      w.1,
+      served c.args.packet c.args.bytes.now w.0 (subst (λ (h : Handled). AreTried c.args.at (sends_for c.args.packet h) w.0) c.in-Ok.ensures.handled w.2),
+      w.3,
+    )
+
+pub returns-in-Err : goal.returns-in-Err
+returns-in-Err g c = ([], tells_none (g.W.Wires.calls c.args.wires.now), out_of_memory c.args.packet c.args.bytes.now, refl)

@@ -1,0 +1,133 @@
+//! The turns of a server: each polls its socket once and sends what the server has for the packet.
+
+ghost use Rattle.std.specs.Prelude.{◌≡◌, List, ◌∷◌, None, Some, Ok};
+ghost use Rattle.std.specs.Int.{from_bool};
+ghost use Rattle.ddt_wires.specs.declared.call.Call.{Call as ACall};
+ghost use Rattle.ddt_wires.specs.declared.call.Call.TheVariants.{Received};
+ghost use Rattle.ddt_wires.specs.Calls.{Tells};
+ghost use Rattle.ddt_wires.specs.Turns.{Serves, IsTurn, AreTried, reply_to, on_to_etr, sends_for, is_received, is_replied, first_went_out};
+
+use crate::call::Packet;
+use crate::wires::{CONTROL_PORT, Wires};
+use ddt_node::{Handled, Server};
+use ddt_path::Locator;
+use ddt_trie::PrefixMap;
+use std::alloc::Global;
+
+/// No UDP datagram has more bytes.
+const MOST_BYTES: usize = 65_535;
+
+/// What a server received and replied.
+#[derive(Clone, Copy, Debug, Default, PartialEq, Eq)]
+pub struct Served {
+    /// How many packets it was given.
+    pub received: u32,
+    /// How many of its replies were sent without a fault.
+    pub replied: u32,
+}
+
+/// Serves for so many turns. Each turn calls `receive` once at the server's socket. For a packet it tries the reply, a
+/// Map-Referral, to the packet's source address and port, and then, where the site is acknowledged, the request to the
+/// ETR at UDP port 4342, each once (RFC 8111, sections 7.1 and 7.2). A packet for which there is no memory is lost, as
+/// is a datagram whose `receive` or `send` fails; the next turn goes on. It takes memory for replies alone.
+pub fn serve_turns<W: Wires, M: PrefixMap<u32>>(
+    alloc: Global,
+    wires: &mut W,
+    server: &Server<M>,
+    at: Locator,
+    turns: u32,
+) -> Served
+    // The calls that it makes are those of so many turns, and its counts are those of these turns. Wires that tell
+    // their calls tell these and no other.
+    ensures { (calls : List ACall) × Tells (W.calls wires.old) calls (W.calls wires.new)
+        × Serves server.now at turns calls result }
+{
+    let mut buffer = [0; MOST_BYTES];
+    let mut received = 0;
+    let mut replied = 0;
+    for _turn in 0..turns {
+        let turn = serve_turn(alloc, wires, server, at, &mut buffer);
+        received += turn.received;
+        replied += turn.replied;
+    }
+    Served { received, replied }
+}
+
+/// One turn, and its counts, each 0 or 1.
+fn serve_turn<W: Wires, M: PrefixMap<u32>>(
+    alloc: Global,
+    wires: &mut W,
+    server: &Server<M>,
+    at: Locator,
+    buffer: &mut [u8],
+) -> Served
+    ensures { (turn : List ACall) × Tells (W.calls wires.old) turn (W.calls wires.new) × IsTurn server.now at turn
+        × (result.received ≡ from_bool (is_received turn)) × (result.replied ≡ from_bool (is_replied turn)) }
+{
+    match wires.receive(at, buffer) {
+        Ok(Some(packet)) => {
+            let replied = serve_packet(alloc, wires, server, at, packet, &buffer[..packet.len]);
+            Served {
+                received: 1,
+                replied: u32::from(replied),
+            }
+        }
+        Ok(None) => Served::default(),
+        // One datagram is lost, and the next turn goes on.
+        Err(_fault) => Served::default(),
+    }
+}
+
+/// Tries what the server sends for a packet of these bytes, or nothing if out of memory; whether the reply was sent.
+fn serve_packet<W: Wires, M: PrefixMap<u32>>(
+    alloc: Global,
+    wires: &mut W,
+    server: &Server<M>,
+    at: Locator,
+    packet: Packet,
+    bytes: &[u8],
+) -> bool
+    ensures { (tries : List ACall) × Tells (W.calls wires.old) tries (W.calls wires.new)
+        × IsTurn server.now at (Received at (Ok (Some packet)) bytes.now ∷ tries) × (result ≡ first_went_out tries) }
+{
+    match server.handle(alloc, bytes) {
+        Ok(handled) => send_all(wires, at, packet, &handled),
+        Err(_refused) => false,
+    }
+}
+
+/// Tries what a server sends for a packet, the reply first; whether the reply was sent.
+fn send_all<W: Wires>(wires: &mut W, at: Locator, packet: Packet, handled: &Handled) -> bool
+    requires { handled.now.reply ≡ None → handled.now.forward ≡ None }
+    ensures { (tries : List ACall) × Tells (W.calls wires.old) tries (W.calls wires.new)
+        × AreTried at (sends_for packet handled.now) tries × (result ≡ first_went_out tries) }
+{
+    let replied = send_reply(wires, at, packet, handled);
+    send_on(wires, at, handled);
+    replied
+}
+
+/// Tries the reply to where the packet came from, if there is one; whether it was sent.
+fn send_reply<W: Wires>(wires: &mut W, at: Locator, packet: Packet, handled: &Handled) -> bool
+    ensures { (tries : List ACall) × Tells (W.calls wires.old) tries (W.calls wires.new)
+        × AreTried at (reply_to packet handled.now.reply) tries × (result ≡ first_went_out tries) }
+{
+    match &handled.reply {
+        Some(reply) => {
+            let sent = wires.send(at, packet.from, packet.port, reply.as_slice());
+            sent.is_ok()
+        }
+        None => false,
+    }
+}
+
+/// Tries the request that goes on to the ETR, if there is one.
+fn send_on<W: Wires>(wires: &mut W, at: Locator, handled: &Handled)
+    ensures { (tries : List ACall) × Tells (W.calls wires.old) tries (W.calls wires.new)
+        × AreTried at (on_to_etr handled.now.forward) tries }
+{
+    if let Some(forward) = &handled.forward {
+        // A request that can't be sent is lost.
+        let _sent = wires.send(at, forward.to, CONTROL_PORT, forward.bytes.as_slice());
+    }
+}

@@ -1,0 +1,238 @@
+use super::*;
+use ddt_config::from_toml;
+use ddt_examples::configurations::EAST;
+use ddt_examples::messages::{DDT_REQUEST, EAST_ACKNOWLEDGES};
+use ddt_examples::{bytes_of, changed};
+use ddt_node::{Server, has_room_for};
+use ddt_path::{Listed, Locator};
+use ddt_trie::ListMap;
+use std::alloc::Global;
+use std::process::Abort;
+use std::test::Fail;
+
+type ListServer = Server<ListMap<u32>>;
+
+const SERVER: Locator = Locator::V4(0x7f00_0101);
+
+const RESOLVER: Locator = Locator::V4(0x7f00_0035);
+
+const ETR: Locator = Locator::V4(0x7f00_0201);
+
+/// The server of the campus group `east`.
+fn east(alloc: Global, rt: &impl Abort) -> Result<ListServer, Fail> {
+    let config = from_toml(alloc, EAST)?;
+    assert!(rt; has_room_for(&config));
+    Ok(Server::build(alloc, config).ok().ok_or("no memory")?)
+}
+
+/// Lets a datagram of the resolver wait at the server.
+fn add(wires: &mut WiresInMemory, port: u16, bytes: Vec<u8>) -> Result<(), Fail> {
+    wires.add(Waiting {
+        at: SERVER,
+        from: RESOLVER,
+        port,
+        bytes: Listed::of(bytes),
+    })?;
+    Ok(())
+}
+
+/// Wires whose call of this number fails, where a DDT Map-Request and then the one byte 00 wait at the server.
+fn busy(alloc: Global, failing: u64, port: u16) -> Result<WiresInMemory, Fail> {
+    let mut wires = WiresInMemory::new(alloc, failing);
+    add(&mut wires, port, bytes_of(alloc, DDT_REQUEST)?)?;
+    add(&mut wires, port, bytes_of(alloc, "00")?)?;
+    Ok(wires)
+}
+
+/// Whether a call polled the server's socket and gave these bytes of the resolver.
+fn gave(call: Option<&Call>, bytes: &[u8]) -> bool {
+    match call {
+        Some(
+            Call::Received {
+                at,
+                answer: Ok(Some(packet)),
+                bytes: given,
+            },
+        ) => *at == SERVER && packet.from == RESOLVER && given.as_slice() == bytes,
+        _ => false,
+    }
+}
+
+/// Whether a call polled the server's socket and gave no packet: none came, or this fault.
+fn gave_none(call: Option<&Call>, fault: Option<NetFault>) -> bool {
+    match call {
+        Some(
+            Call::Received {
+                at,
+                answer: Ok(None),
+                ..
+            },
+        ) => *at == SERVER && fault.is_none(),
+        Some(
+            Call::Received {
+                at,
+                answer: Err(why),
+                ..
+            },
+        ) => *at == SERVER && fault == Some(*why),
+        _ => false,
+    }
+}
+
+/// Whether a call tried to send these bytes from the server's socket.
+fn tried(call: Option<&Call>, to: Locator, port: u16, bytes: &[u8]) -> bool {
+    match call {
+        Some(
+            Call::Tried {
+                at,
+                to: addressee,
+                port: number,
+                bytes: sent,
+                ..
+            },
+        ) => { *at == SERVER && *addressee == to && *number == port && sent.as_slice() == bytes }
+        _ => false,
+    }
+}
+
+/// Whether the first calls are those of a turn with the request: its reply to the resolver at this port, and then the
+/// request, its bit D clear, to the ETR.
+fn served_request(alloc: Global, calls: &[Call], port: u16) -> Result<bool, Fail> {
+    let request = bytes_of(alloc, DDT_REQUEST)?;
+    let is_given = gave(calls.get(0), &request);
+    let is_replied = tried(
+        calls.get(1),
+        RESOLVER,
+        port,
+        &bytes_of(alloc, EAST_ACKNOWLEDGES)?,
+    );
+    let plain = changed(request, &[(0, 0x80)]);
+    Ok(is_given && is_replied && tried(calls.get(2), ETR, 4342, &plain))
+}
+
+/// What a server counts in three turns over wires whose call of this number fails, and how many calls it makes.
+fn counts(alloc: Global, rt: &impl Abort, failing: u64) -> Result<(u32, u32, usize), Fail> {
+    let mut wires = busy(alloc, failing, 4342)?;
+    let served = serve_turns(alloc, &mut wires, &east(alloc, rt)?, SERVER, 3);
+    let calls = wires.told().ok_or("no memory")?;
+    Ok((served.received, served.replied, calls.len()))
+}
+
+#[test]
+fn a_request_is_answered_and_goes_on_to_the_etr(rt: HostRuntime) -> Result<(), Fail> {
+    let mut wires = busy(rt.alloc(), 5, 4342)?;
+    let east = east(rt.alloc(), &rt)?;
+    let served = serve_turns(rt.alloc(), &mut wires, &east, SERVER, 3);
+    assert_eq!(rt; (served.received, served.replied), (2, 1));
+    let calls = wires.told().ok_or("no memory")?;
+    assert_eq!(rt; calls.len(), 5);
+    assert!(rt; served_request(rt.alloc(), calls, 4342)?);
+    assert!(rt; gave(calls.get(3), &[0]));
+    assert!(rt; gave_none(calls.get(4), Some(NetFault::Receive)));
+    Ok(())
+}
+
+#[test]
+fn a_reply_goes_to_the_port_that_the_request_came_from(rt: HostRuntime) -> Result<(), Fail> {
+    let mut wires = busy(rt.alloc(), 0, 50000)?;
+    let east = east(rt.alloc(), &rt)?;
+    let served = serve_turns(rt.alloc(), &mut wires, &east, SERVER, 1);
+    assert_eq!(rt; (served.received, served.replied), (1, 1));
+    let calls = wires.told().ok_or("no memory")?;
+    assert_eq!(rt; calls.len(), 3);
+    assert!(rt; served_request(rt.alloc(), calls, 50000)?);
+    Ok(())
+}
+
+#[test]
+fn a_failed_call_loses_its_datagram_alone(rt: HostRuntime) -> Result<(), Fail> {
+    let (alloc, rt) = (rt.alloc(), &rt);
+    assert_eq!(rt; counts(alloc, rt, 0)?, (2, 1, 5));
+    assert_eq!(rt; counts(alloc, rt, 1)?, (1, 0, 3));
+    assert_eq!(rt; counts(alloc, rt, 2)?, (2, 0, 5));
+    assert_eq!(rt; counts(alloc, rt, 3)?, (2, 1, 5));
+    assert_eq!(rt; counts(alloc, rt, 4)?, (1, 1, 5));
+    Ok(())
+}
+
+/// A socket's place on the loopback network that no other test uses.
+const UDP_SERVER: Locator = Locator::V4(0x7f4d_0101);
+
+const UDP_RESOLVER: Locator = Locator::V4(0x7f4d_0035);
+
+fn is_from(packet: Option<Packet>, from: Locator) -> bool {
+    match packet {
+        Some(packet) => packet.from == from && packet.port == CONTROL_PORT,
+        None => false,
+    }
+}
+
+#[test]
+fn a_request_is_answered_over_udp(rt: HostRuntime) -> Result<(), Fail> {
+    let mut wires = UdpWires::new(rt.alloc());
+    wires.bind(&rt, UDP_SERVER)?;
+    wires.bind(&rt, UDP_RESOLVER)?;
+    let request = bytes_of(rt.alloc(), DDT_REQUEST)?;
+    assert_eq!(rt;
+        wires.send(UDP_RESOLVER, UDP_SERVER, CONTROL_PORT, &request),
+        Ok(())
+    );
+    let east = east(rt.alloc(), &rt)?;
+    let served = serve_turns(rt.alloc(), &mut wires, &east, UDP_SERVER, 2);
+    assert_eq!(rt; (served.received, served.replied), (1, 1));
+    assert!(rt; gives_reply(rt.alloc(), &mut wires)?);
+    Ok(())
+}
+
+/// Whether the reply of the server waits at the resolver, and nothing behind it.
+fn gives_reply(alloc: Global, wires: &mut UdpWires) -> Result<bool, Fail> {
+    let mut buffer = [0; 200];
+    let reply = wires.receive(UDP_RESOLVER, &mut buffer)?;
+    let wanted = bytes_of(alloc, EAST_ACKNOWLEDGES)?;
+    let is_reply = is_from(reply, UDP_SERVER) && buffer.starts_with(&wanted);
+    Ok(is_reply && wires.receive(UDP_RESOLVER, &mut buffer)?.is_none())
+}
+
+#[test]
+fn a_locator_without_a_socket_is_refused(rt: HostRuntime) {
+    let mut wires = UdpWires::new(rt.alloc());
+    let mut buffer = [0; 8];
+    assert_eq!(rt;
+        wires.receive(RESOLVER, &mut buffer),
+        Err(NetFault::Receive)
+    );
+    assert_eq!(rt;
+        wires.send(RESOLVER, SERVER, CONTROL_PORT, &buffer),
+        Err(NetFault::Send)
+    );
+}
+
+/// The length of the packet that comes of these bytes, which a socket sends to itself, into a buffer of 8 bytes.
+fn came(wires: &mut UdpWires, bytes: &[u8]) -> Result<Option<usize>, NetFault> {
+    wires.send(UDP_SERVER, UDP_SERVER, CONTROL_PORT, bytes)?;
+    let mut buffer = [0; 8];
+    Ok(
+        wires
+            .receive(UDP_SERVER, &mut buffer)?
+            .map(|packet| packet.len),
+    )
+}
+
+#[test]
+fn a_datagram_that_may_be_cut_is_lost_alone(rt: HostRuntime) -> Result<(), Fail> {
+    let mut wires = UdpWires::new(rt.alloc());
+    wires.bind(&rt, UDP_SERVER)?;
+    assert_eq!(rt; came(&mut wires, &[1; 9]), Err(NetFault::Receive));
+    assert_eq!(rt; came(&mut wires, &[1; 8]), Err(NetFault::Receive));
+    assert_eq!(rt; came(&mut wires, &[1; 7]), Ok(Some(7)));
+    assert_eq!(rt; came(&mut wires, &[]), Ok(Some(0)));
+    Ok(())
+}
+
+#[test]
+fn faults_have_their_numbers(rt: HostRuntime) -> Result<(), Fail> {
+    for (fault, text) in [(NetFault::Receive, "1 Receive"), (NetFault::Send, "2 Send")] {
+        assert_eq!(rt; format!(in rt.alloc(); "{fault}")?.as_str(), text);
+    }
+    Ok(())
+}

@@ -1,0 +1,95 @@
+//! Wires over the UDP sockets of the system.
+
+use crate::call::{NetFault, Packet};
+use crate::wires::{CONTROL_PORT, Wires};
+use ddt_path::Locator;
+use std::alloc::Global;
+use std::io;
+use std::io::ErrorKind;
+use std::net::{IpAddr, Ipv4Addr, Ipv6Addr, Net, SocketAddr, UdpSocket};
+use std::time::Duration;
+
+/// How long `receive` waits for a datagram, in milliseconds.
+const WAIT: u64 = 5;
+
+/// A socket and the address that it is bound to.
+#[derive(Drop)]
+struct Bound {
+    at: Locator,
+    socket: UdpSocket,
+}
+
+/// Wires over UDP sockets at port 4342, which don't tell their calls.
+///
+/// What the system does is trusted, and no contract says it: that `receive` gives what came to the socket, and that what
+/// `send` takes goes out. `receive` waits for up to 5 milliseconds. An empty datagram is a packet without bytes. Refused as
+/// 1 Receive, with that datagram alone lost: one that fills the whole buffer, since its end may be cut off, and one
+/// whose source can't be read as an address and a port. A locator that no socket is bound to is refused as well, as 1
+/// Receive or 2 Send. No call takes memory but `bind`.
+#[derive(Drop)]
+pub struct UdpWires {
+    sockets: Vec<Bound>,
+}
+
+impl UdpWires {
+    /// Wires with no socket.
+    pub fn new(alloc: Global) -> UdpWires {
+        UdpWires {
+            sockets: Vec::new(alloc),
+        }
+    }
+
+    /// Binds a socket to a locator at UDP port 4342. Refused as the system refuses it, or if out of memory.
+    pub fn bind<N: Net>(&mut self, net: &N, at: Locator) -> io::Result<()> {
+        let socket = UdpSocket::bind(net, SocketAddr::new(ip_of(at), CONTROL_PORT))?;
+        socket.set_read_timeout(Some(Duration::from_millis(WAIT)))?;
+        self.sockets.push(Bound { at, socket })?;
+        Ok(())
+    }
+
+    fn socket(&self, at: Locator) -> Option<&UdpSocket> {
+        let bound = self.sockets.as_slice().iter().find(|b| b.at == at)?;
+        Some(&bound.socket)
+    }
+}
+
+fn ip_of(locator: Locator) -> IpAddr {
+    match locator {
+        Locator::V4(number) => IpAddr::V4(Ipv4Addr::from_bits(number)),
+        Locator::V6(number) => IpAddr::V6(Ipv6Addr::from_bits(number)),
+    }
+}
+
+fn locator_of(ip: IpAddr) -> Locator {
+    match ip {
+        IpAddr::V4(ip) => Locator::V4(ip.to_bits()),
+        IpAddr::V6(ip) => Locator::V6(ip.to_bits()),
+    }
+}
+
+impl Wires for UdpWires {
+    fn receive(&mut self, at: Locator, buffer: &mut [u8]) -> Result<Option<Packet>, NetFault> {
+        let Some(socket) = self.socket(at) else {
+            return Err(NetFault::Receive);
+        };
+        match socket.recv_from(buffer) {
+            Ok((len, source)) if len < buffer.len() => Ok(Some(Packet {
+                from: locator_of(source.ip()),
+                port: source.port(),
+                len,
+            })),
+            Err(error) if error.kind() == ErrorKind::WouldBlock => Ok(None),
+            Ok(_) | Err(_) => Err(NetFault::Receive),
+        }
+    }
+
+    fn send(&mut self, at: Locator, to: Locator, port: u16, bytes: &[u8]) -> Result<(), NetFault> {
+        let Some(socket) = self.socket(at) else {
+            return Err(NetFault::Send);
+        };
+        match socket.send_to(bytes, SocketAddr::new(ip_of(to), port)) {
+            Ok(len) if len == bytes.len() => Ok(()),
+            Ok(_) | Err(_) => Err(NetFault::Send),
+        }
+    }
+}

@@ -4,12 +4,14 @@ use Rattle.std.specs.Prelude.{Option, Some, None}
 use Rattle.ddt_wires.specs.declared.call.Call.{Call}
 use Rattle.ddt_wires.specs.Calls.{Tells}
 
-pub tells_both : (before : Option (List Call)) (first : List Call) (midway : Option (List Call)) (second : List Call) (after : Option (List Call))
-    → Tells before first midway → Tells midway second after → Tells before (first ++ second) after
+pub tells_both : (before : Option (List Call)) (first : List Call) (midway : Option (List Call)) (second : List Call)
+    (after : Option (List Call)) → Tells before first midway → Tells midway second after
+    → Tells before (first ++ second) after
 tells_both before first midway second None one two = tt
 tells_both before first None second (Some c) one two = absurd two
 tells_both None first (Some b) second (Some c) one two = absurd one
-tells_both (Some a) first (Some b) second (Some c) one two = two ∙ ap (λ (calls : List Call). calls ++ second) one ∙ append_assoc a first second
+tells_both (Some a) first (Some b) second (Some c) one two =
+    two ∙ ap (λ (calls : List Call). calls ++ second) one ∙ append_assoc a first second
 
 -- nothing is told of no calls
 pub tells_none : (told : Option (List Call)) → Tells told [] told

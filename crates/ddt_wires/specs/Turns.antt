@@ -1,5 +1,6 @@
 -- The turns of a server over wires, by their calls (RFC 8111, sections 7.1 and 7.2).
-use Rattle.std.specs.Prelude.{ℕ, ◌≡◌, Bool, false, List, [], ◌∷◌, ◌++◌, length, Option, Some, None, Ok, Err, is_some, is_ok, All, count_by, flat_map}
+use Rattle.std.specs.Prelude.{ℕ, ◌≡◌, Bool, false, Option, Some, None, Ok, Err, is_some, is_ok}
+use Rattle.std.specs.Prelude.{List, [], ◌∷◌, ◌++◌, length, All, count_by, flat_map}
 use Rattle.ddt_path.specs.declared.locator.Locator.{Locator}
 use Rattle.ddt_config.specs.Table.{Outline}
 use Rattle.ddt_node.specs.declared.handling.Forward.{Forward}

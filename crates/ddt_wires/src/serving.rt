@@ -5,7 +5,8 @@ ghost use Rattle.std.specs.Int.{from_bool};
 ghost use Rattle.ddt_wires.specs.declared.call.Call.{Call as ACall};
 ghost use Rattle.ddt_wires.specs.declared.call.Call.TheVariants.{Received};
 ghost use Rattle.ddt_wires.specs.Calls.{Tells};
-ghost use Rattle.ddt_wires.specs.Turns.{Serves, IsTurn, AreTried, reply_to, on_to_etr, sends_for, is_received, is_replied, first_went_out};
+ghost use Rattle.ddt_wires.specs.Turns.{Serves, IsTurn, AreTried, reply_to, on_to_etr, sends_for};
+ghost use Rattle.ddt_wires.specs.Turns.{is_received, is_replied, first_went_out};
 
 use crate::call::Packet;
 use crate::wires::{CONTROL_PORT, Wires};
@@ -29,7 +30,7 @@ pub struct Served {
 /// Serves for so many turns. Each turn calls `receive` once at the server's socket. For a packet it tries the reply, a
 /// Map-Referral, to the packet's source address and port, and then, where the site is acknowledged, the request to the
 /// ETR at UDP port 4342, each once (RFC 8111, sections 7.1 and 7.2). A packet for which there is no memory is lost, as
-/// is a datagram whose `receive` or `send` fails; the next turn goes on. It takes memory for replies alone.
+/// is a datagram whose `receive` or `send` fails; the next turn goes on. It takes memory only for what it sends.
 pub fn serve_turns<W: Wires, M: PrefixMap<u32>>(
     alloc: Global,
     wires: &mut W,

@@ -25,10 +25,10 @@ fn east(alloc: Global, rt: &impl Abort) -> Result<ListServer, Fail> {
     Ok(Server::build(alloc, config).ok().ok_or("no memory")?)
 }
 
-/// Lets a datagram of the resolver wait at the server.
-fn add(wires: &mut WiresInMemory, port: u16, bytes: Vec<u8>) -> Result<(), Fail> {
+/// Lets a datagram of the resolver, from this port, wait at a socket.
+fn add(wires: &mut WiresInMemory, at: Locator, port: u16, bytes: Vec<u8>) -> Result<(), Fail> {
     wires.add(Waiting {
-        at: SERVER,
+        at,
         from: RESOLVER,
         port,
         bytes: Listed::of(bytes),
@@ -39,13 +39,13 @@ fn add(wires: &mut WiresInMemory, port: u16, bytes: Vec<u8>) -> Result<(), Fail>
 /// Wires whose call of this number fails, where a DDT Map-Request and then the one byte 00 wait at the server.
 fn busy(alloc: Global, failing: u64, port: u16) -> Result<WiresInMemory, Fail> {
     let mut wires = WiresInMemory::new(alloc, failing);
-    add(&mut wires, port, bytes_of(alloc, DDT_REQUEST)?)?;
-    add(&mut wires, port, bytes_of(alloc, "00")?)?;
+    add(&mut wires, SERVER, port, bytes_of(alloc, DDT_REQUEST)?)?;
+    add(&mut wires, SERVER, port, bytes_of(alloc, "00")?)?;
     Ok(wires)
 }
 
-/// Whether a call polled the server's socket and gave these bytes of the resolver.
-fn gave(call: Option<&Call>, bytes: &[u8]) -> bool {
+/// Whether a call polled the server's socket and gave these bytes, from the resolver's port.
+fn gave(call: Option<&Call>, port: u16, bytes: &[u8]) -> bool {
     match call {
         Some(
             Call::Received {
@@ -53,28 +53,24 @@ fn gave(call: Option<&Call>, bytes: &[u8]) -> bool {
                 answer: Ok(Some(packet)),
                 bytes: given,
             },
-        ) => *at == SERVER && packet.from == RESOLVER && given.as_slice() == bytes,
+        ) => {
+            let is_its_own = packet.from == RESOLVER && packet.port == port;
+            *at == SERVER && is_its_own && given.as_slice() == bytes
+        }
         _ => false,
     }
 }
 
-/// Whether a call polled the server's socket and gave no packet: none came, or this fault.
-fn gave_none(call: Option<&Call>, fault: Option<NetFault>) -> bool {
+/// Whether a call polled the server's socket and failed.
+fn failed(call: Option<&Call>) -> bool {
     match call {
         Some(
             Call::Received {
                 at,
-                answer: Ok(None),
+                answer: Err(fault),
                 ..
             },
-        ) => *at == SERVER && fault.is_none(),
-        Some(
-            Call::Received {
-                at,
-                answer: Err(why),
-                ..
-            },
-        ) => *at == SERVER && fault == Some(*why),
+        ) => { *at == SERVER && *fault == NetFault::Receive }
         _ => false,
     }
 }
@@ -99,7 +95,7 @@ fn tried(call: Option<&Call>, to: Locator, port: u16, bytes: &[u8]) -> bool {
 /// request, its bit D clear, to the ETR.
 fn served_request(alloc: Global, calls: &[Call], port: u16) -> Result<bool, Fail> {
     let request = bytes_of(alloc, DDT_REQUEST)?;
-    let is_given = gave(calls.get(0), &request);
+    let is_given = gave(calls.get(0), port, &request);
     let is_replied = tried(
         calls.get(1),
         RESOLVER,
@@ -127,8 +123,8 @@ fn a_request_is_answered_and_goes_on_to_the_etr(rt: HostRuntime) -> Result<(), F
     let calls = wires.told().ok_or("no memory")?;
     assert_eq!(rt; calls.len(), 5);
     assert!(rt; served_request(rt.alloc(), calls, 4342)?);
-    assert!(rt; gave(calls.get(3), &[0]));
-    assert!(rt; gave_none(calls.get(4), Some(NetFault::Receive)));
+    assert!(rt; gave(calls.get(3), 4342, &[0]));
+    assert!(rt; failed(calls.get(4)));
     Ok(())
 }
 
@@ -155,8 +151,32 @@ fn a_failed_call_loses_its_datagram_alone(rt: HostRuntime) -> Result<(), Fail> {
     Ok(())
 }
 
-/// A socket's place on the loopback network that no other test uses.
+/// The first byte that a socket gives, into a buffer of 2 bytes; None where no packet comes.
+fn first_byte(wires: &mut WiresInMemory, at: Locator) -> Result<Option<u8>, NetFault> {
+    let mut buffer = [0; 2];
+    match wires.receive(at, &mut buffer)? {
+        Some(_packet) => Ok(buffer.first().copied()),
+        None => Ok(None),
+    }
+}
+
+#[test]
+fn each_socket_gives_its_own_datagrams_in_order(rt: HostRuntime) -> Result<(), Fail> {
+    let mut wires = WiresInMemory::new(rt.alloc(), 0);
+    add(&mut wires, ETR, 4342, bytes_of(rt.alloc(), "01")?)?;
+    add(&mut wires, SERVER, 4342, bytes_of(rt.alloc(), "020202")?)?;
+    add(&mut wires, SERVER, 4342, bytes_of(rt.alloc(), "0303")?)?;
+    assert_eq!(rt; first_byte(&mut wires, SERVER), Err(NetFault::Receive));
+    assert_eq!(rt; first_byte(&mut wires, SERVER), Ok(Some(3)));
+    assert_eq!(rt; first_byte(&mut wires, SERVER), Ok(None));
+    assert_eq!(rt; first_byte(&mut wires, ETR), Ok(Some(1)));
+    Ok(())
+}
+
+/// Addresses on the loopback network that nothing else is bound to.
 const UDP_SERVER: Locator = Locator::V4(0x7f4d_0101);
+
+const UDP_ALONE: Locator = Locator::V4(0x7f4d_0102);
 
 const UDP_RESOLVER: Locator = Locator::V4(0x7f4d_0035);
 
@@ -209,11 +229,11 @@ fn a_locator_without_a_socket_is_refused(rt: HostRuntime) {
 
 /// The length of the packet that comes of these bytes, which a socket sends to itself, into a buffer of 8 bytes.
 fn came(wires: &mut UdpWires, bytes: &[u8]) -> Result<Option<usize>, NetFault> {
-    wires.send(UDP_SERVER, UDP_SERVER, CONTROL_PORT, bytes)?;
+    wires.send(UDP_ALONE, UDP_ALONE, CONTROL_PORT, bytes)?;
     let mut buffer = [0; 8];
     Ok(
         wires
-            .receive(UDP_SERVER, &mut buffer)?
+            .receive(UDP_ALONE, &mut buffer)?
             .map(|packet| packet.len),
     )
 }
@@ -221,7 +241,7 @@ fn came(wires: &mut UdpWires, bytes: &[u8]) -> Result<Option<usize>, NetFault> {
 #[test]
 fn a_datagram_that_may_be_cut_is_lost_alone(rt: HostRuntime) -> Result<(), Fail> {
     let mut wires = UdpWires::new(rt.alloc());
-    wires.bind(&rt, UDP_SERVER)?;
+    wires.bind(&rt, UDP_ALONE)?;
     assert_eq!(rt; came(&mut wires, &[1; 9]), Err(NetFault::Receive));
     assert_eq!(rt; came(&mut wires, &[1; 8]), Err(NetFault::Receive));
     assert_eq!(rt; came(&mut wires, &[1; 7]), Ok(Some(7)));

@@ -21,11 +21,12 @@ struct Bound {
 
 /// Wires over UDP sockets at port 4342, which don't tell their calls.
 ///
-/// What the system does is trusted, and no contract says it: that `receive` gives what came to the socket, and that what
-/// `send` takes goes out. `receive` waits for up to 5 milliseconds. An empty datagram is a packet without bytes. Refused as
-/// 1 Receive, with that datagram alone lost: one that fills the whole buffer, since its end may be cut off, and one
-/// whose source can't be read as an address and a port. A locator that no socket is bound to is refused as well, as 1
-/// Receive or 2 Send. No call takes memory but `bind`.
+/// What the system does is trusted, and no contract says it: that `receive` gives what came to the socket, and that
+/// what `send` takes goes out. `receive` waits for up to 5 milliseconds. An empty datagram is a packet without bytes.
+///
+/// A datagram that fills the whole buffer is refused as 1 Receive, since its end may be cut off, and so is one whose
+/// source isn't an address and a port; that datagram alone is lost. A locator that no socket is bound to is refused as
+/// 1 Receive or 2 Send. Only `bind` takes memory.
 #[derive(Drop)]
 pub struct UdpWires {
     sockets: Vec<Bound>,

@@ -1,6 +1,7 @@
 //! Wires without a network, for tests.
 
 ghost use Rattle.std.specs.Prelude.{◌≡◌, ◌≤◌, ◌++◌, [], ◌∷◌, length, Some, IfOk, IfSome};
+ghost use Rattle.std.specs.Option.{option_map};
 ghost use Rattle.ddt_wires.specs.Calls.{Tells, packet_bytes};
 
 use crate::call::{Call, NetFault, Packet};
@@ -57,7 +58,9 @@ impl WiresInMemory {
     }
 
     /// The calls that were made, in their order; None if there was no memory for one.
-    pub fn told(&self) -> Option<&[Call]> {
+    pub fn told(&self) -> Option<&[Call]>
+        ensures { option_map (λ calls. calls.now) result ≡ self.now.told }
+    {
         match &self.told {
             Some(calls) => Some(calls.as_slice()),
             None => None,

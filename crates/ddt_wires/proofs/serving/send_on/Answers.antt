@@ -5,8 +5,10 @@ use Rattle.ddt_wires.proofs.TurnLemmas.{on_tried}
 use Rattle.ddt_wires.proofs.serving.send_on.Goals as goal
 
 pub returns-in-Some : goal.returns-in-Some
-returns-in-Some g c = (
-  Tried c.args.at c.in-Some.forward.to control_port c.as_slice.result.now c.send-sent.result ∷ [],
-  c.send-sent.ensures.told,
-  on_tried c.args.at c.args.handled.now.forward c.in-Some.forward c.as_slice.result.now c.send-sent.result c.in-Some.is c.as_slice.ensures,
-)
+returns-in-Some g c =
+    let bytes = c.as_slice.result.now in (
+      Tried c.args.at c.in-Some.forward.to control_port bytes c.send-sent.result ∷ [],
+      c.send-sent.ensures.told,
+      on_tried c.args.at c.args.handled.now.forward c.in-Some.forward bytes c.send-sent.result c.in-Some.is
+          c.as_slice.ensures,
+    )

@@ -4,9 +4,11 @@ use Rattle.ddt_wires.proofs.TurnLemmas.{reply_tried}
 use Rattle.ddt_wires.proofs.serving.send_reply.Goals as goal
 
 pub returns-in-Some : goal.returns-in-Some
-returns-in-Some g c = (
-  Tried c.args.at c.args.packet.from c.args.packet.port c.as_slice.result.now c.send-sent.result ∷ [],
-  c.send-sent.ensures.told,
-  reply_tried c.args.at c.args.packet c.args.handled.now.reply c.as_slice.result.now c.send-sent.result (rw c.as_slice.ensures c.in-Some.is),
-  c.is_ok.ensures.value,
-)
+returns-in-Some g c =
+    let bytes = c.as_slice.result.now in (
+      Tried c.args.at c.args.packet.from c.args.packet.port bytes c.send-sent.result ∷ [],
+      c.send-sent.ensures.told,
+      reply_tried c.args.at c.args.packet c.args.handled.now.reply bytes c.send-sent.result
+          (rw c.as_slice.ensures c.in-Some.is),
+      c.is_ok.ensures.value,
+    )

@@ -6,12 +6,18 @@ use Rattle.ddt_wires.proofs.serving.serve_packet.Goals as goal
 
 pub returns-in-Ok : goal.returns-in-Ok
 returns-in-Ok g c =
-    let w = c.send_all.ensures in (
+    let w = c.send_all.ensures in
+    let tried = λ (h : Handled). AreTried c.args.at (sends_for c.args.packet h) w.0 in (
       w.0,
       w.1,
-      served c.args.packet c.args.bytes.now w.0 (subst (λ (h : Handled). AreTried c.args.at (sends_for c.args.packet h) w.0) c.in-Ok.ensures.handled w.2),
+      served c.args.packet c.args.bytes.now w.0 (subst tried c.in-Ok.ensures.handled w.2),
       w.3,
     )
 
 pub returns-in-Err : goal.returns-in-Err
-returns-in-Err g c = ([], tells_none (g.W.Wires.calls c.args.wires.now), out_of_memory c.args.packet c.args.bytes.now, refl)
+returns-in-Err g c = (
+  [],
+  tells_none (g.W.Wires.calls c.args.wires.now),
+  out_of_memory c.args.packet c.args.bytes.now,
+  refl,
+)

@@ -1,6 +1,6 @@
 """A plain resolver and plain servers over lists: what `ddt replay`, `ddt lookup` and `ddt assign` are to print.
 
-Written from the rules alone, for a reader, and shared with no other part of this repository. Prefixes and identifiers
+Written from the rules alone, for a reader, and shared with no crate of this repository. Prefixes and identifiers
 are texts of digits, the register and the cache are searched from end to end, a free prefix is found by a trial of each
 length, and a datagram is a tuple of Python. Registers are taken as accepted, and only scripts may be faulty.
 """

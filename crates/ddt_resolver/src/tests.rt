@@ -2,6 +2,7 @@
 //! `bench/resolver_schedules`.
 
 mod crowded;
+mod itr_side;
 mod limits;
 mod replies;
 

@@ -1,4 +1,5 @@
--- An address behind its address family identifier (AFI), as in EIDs and in locator records (RFC 9301, section 5.1).
+-- An address behind its address family identifier (AFI), as in EIDs and in locator records (RFC 9301, sections
+-- 5.2 and 5.4).
 use Rattle.std.specs.Prelude.{ℕ, ◌<◌, ◌^◌, ◌==◌, nat_lt, if◌then◌else◌, List, ◌++◌, length, drop, Result, Ok, Err}
 use Rattle.std.specs.Int.{w16, w32, w128, to_be_bytes}
 use Rattle.byteorder.specs.Endian.{big_number}

@@ -2,6 +2,7 @@
 //! anything.
 
 mod campus;
+mod hostile;
 mod played;
 mod schedules;
 

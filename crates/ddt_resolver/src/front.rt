@@ -1,7 +1,7 @@
 //! The side of a Map-Resolver that ITRs see: what an ITR's request asks, and the negative Map-Reply to it (RFC 8111,
 //! section 7.3; RFC 9301, sections 5.4 and 5.8).
 
-ghost use Rattle.std.specs.Prelude.{◌≡◌, false, Some, IfOk, IfSome, IsSome};
+ghost use Rattle.std.specs.Prelude.{◌≡◌, false, Some, None, Ok, IfOk, IfSome, IsSome};
 ghost use Rattle.ddt_ecm.specs.Request.{Message, Spells};
 ghost use Rattle.ddt_resolver.specs.declared.front.ItrRequest.{ItrRequest as AnItrRequest};
 ghost use Rattle.ddt_resolver.specs.Front.{IsItrRequest, asked_by, block_for as block_for_of, negative_for as negative_for_of, reply_to_itr};
@@ -90,7 +90,8 @@ pub fn itr_reply(
     outcome: &Outcome,
     request: &ItrRequest,
 ) -> Result<Option<Outgoing>, AllocError>
-    ensures { IfOk result (λ r. r ≡ reply_to_itr outcome.now request.now) }
+    ensures answered { IfOk result (λ r. r ≡ reply_to_itr outcome.now request.now) }
+    ensures unanswered { negative_for_of request.now.xeid outcome.now ≡ None → result ≡ Ok None }
 {
     let Some((ttl, prefix)) = negative_for(request.xeid, outcome) else {
         return Ok(None);

@@ -1,5 +1,5 @@
 -- The calls of wires, and what wires tell of them.
-use Rattle.std.specs.Prelude.{ℕ, ◌≡◌, List, [], ◌++◌, take, Option, Some, None, Result, Ok, Err}
+use Rattle.std.specs.Prelude.{ℕ, ◌≡◌, List, [], ◌++◌, length, take, Option, Some, None, Result, Ok, Err}
 use Rattle.ddt_path.specs.declared.locator.Locator.{Locator}
 use Rattle.ddt_wires.specs.declared.call.Call.{Call}
 use Rattle.ddt_wires.specs.declared.call.Call.TheVariants.{Received}
@@ -21,4 +21,4 @@ packet_bytes (Err fault) buffer = []
 
 -- the call of `receive` with this answer, which leaves this buffer
 abbrev pub received : Locator → Result (Option Packet) NetFault → List ℕ → Call
-received at answer buffer = Received at answer (packet_bytes answer buffer)
+received at answer buffer = Received at (length buffer) answer (packet_bytes answer buffer)

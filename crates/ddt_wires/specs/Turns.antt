@@ -16,6 +16,10 @@ use Rattle.ddt_wires.specs.declared.serving.Served.{Served}
 abbrev pub control_port : ℕ
 control_port = 4342
 
+-- no UDP datagram has more bytes, and so many have room in the buffer of each turn
+abbrev pub most_bytes : ℕ
+most_bytes = 65535
+
 -- a datagram that is to be sent
 pub record Outgoing : Type 0 where
   pub to : Locator
@@ -38,7 +42,7 @@ sends_for p h = reply_to p h.reply ++ on_to_etr h.forward
 
 -- a call that tries to send a datagram, whatever it answered
 abbrev pub IsTry : Locator → Outgoing → Call → Type 0
-IsTry at d (Received from answer bytes) = ⊥
+IsTry at d (Received from room answer bytes) = ⊥
 IsTry at d (Tried from to port bytes answer) = (from ≡ at) × (to ≡ d.to) × (port ≡ d.port) × (bytes ≡ d.bytes)
 
 -- each of these datagrams is tried once, in this order, and nothing else is
@@ -51,21 +55,21 @@ AreTried at (d ∷ others) (call ∷ calls) = IsTry at d call × AreTried at oth
 -- One turn. `no_packet`, `failed`: the one call of `receive` gave no packet. `served`: it gave one, and what the server
 -- sends for these bytes is tried. `out_of_memory`: it gave one, and the server had no memory for it.
 pub data IsTurn (c : Outline) (at : Locator) : List Call → Type 0 where
-  no_packet : IsTurn c at (Received at (Ok None) [] ∷ [])
-  failed : (fault : NetFault) → IsTurn c at (Received at (Err fault) [] ∷ [])
+  no_packet : IsTurn c at (Received at most_bytes (Ok None) [] ∷ [])
+  failed : (fault : NetFault) → IsTurn c at (Received at most_bytes (Err fault) [] ∷ [])
   served : (p : Packet) (bytes : List ℕ) (tries : List Call) → AreTried at (sends_for p (handled c bytes)) tries
-      → IsTurn c at (Received at (Ok (Some p)) bytes ∷ tries)
-  out_of_memory : (p : Packet) (bytes : List ℕ) → IsTurn c at (Received at (Ok (Some p)) bytes ∷ [])
+      → IsTurn c at (Received at most_bytes (Ok (Some p)) bytes ∷ tries)
+  out_of_memory : (p : Packet) (bytes : List ℕ) → IsTurn c at (Received at most_bytes (Ok (Some p)) bytes ∷ [])
 
 -- whether a call gave a packet
 abbrev pub gives_packet : Call → Bool
-gives_packet (Received at (Ok packet) bytes) = is_some packet
-gives_packet (Received at (Err fault) bytes) = false
+gives_packet (Received at room (Ok packet) bytes) = is_some packet
+gives_packet (Received at room (Err fault) bytes) = false
 gives_packet (Tried at to port bytes answer) = false
 
 -- whether a call sent its datagram
 abbrev pub went_out : Call → Bool
-went_out (Received at answer bytes) = false
+went_out (Received at room answer bytes) = false
 went_out (Tried at to port bytes answer) = is_ok answer
 
 abbrev pub first_went_out : List Call → Bool

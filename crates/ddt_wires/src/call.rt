@@ -32,6 +32,8 @@ pub enum Call {
     Received {
         /// The socket that was polled.
         at: Locator,
+        /// How many bytes the buffer has room for.
+        room: usize,
         /// What it answered.
         answer: Result<Option<Packet>, NetFault>,
         /// The packet's bytes; none where no packet was given.

@@ -1,12 +1,12 @@
 //! The turns of a server: each polls its socket once and sends what the server has for the packet.
 
-ghost use Rattle.std.specs.Prelude.{◌≡◌, List, ◌∷◌, None, Some, Ok};
+ghost use Rattle.std.specs.Prelude.{◌≡◌, length, List, ◌∷◌, None, Some, Ok};
 ghost use Rattle.std.specs.Int.{from_bool};
 ghost use Rattle.ddt_wires.specs.declared.call.Call.{Call as ACall};
 ghost use Rattle.ddt_wires.specs.declared.call.Call.TheVariants.{Received};
 ghost use Rattle.ddt_wires.specs.Calls.{Tells};
 ghost use Rattle.ddt_wires.specs.Turns.{Serves, IsTurn, AreTried, reply_to, on_to_etr, sends_for};
-ghost use Rattle.ddt_wires.specs.Turns.{is_received, is_replied, first_went_out};
+ghost use Rattle.ddt_wires.specs.Turns.{most_bytes, is_received, is_replied, first_went_out};
 
 use crate::call::Packet;
 use crate::wires::{CONTROL_PORT, Wires};
@@ -38,8 +38,7 @@ pub fn serve_turns<W: Wires, M: PrefixMap<u32>>(
     at: Locator,
     turns: u32,
 ) -> Served
-    // The calls that it makes are those of so many turns, and its counts are those of these turns. Wires that tell
-    // their calls tell these and no other.
+    // Some calls are those of so many turns, with these counts; wires that tell their calls have told just these.
     ensures { (calls : List ACall) × Tells (W.calls wires.old) calls (W.calls wires.new)
         × Serves server.now at turns calls result }
 {
@@ -62,6 +61,7 @@ fn serve_turn<W: Wires, M: PrefixMap<u32>>(
     at: Locator,
     buffer: &mut [u8],
 ) -> Served
+    requires { length buffer.old ≡ most_bytes }
     ensures { (turn : List ACall) × Tells (W.calls wires.old) turn (W.calls wires.new) × IsTurn server.now at turn
         × (result.received ≡ from_bool (is_received turn)) × (result.replied ≡ from_bool (is_replied turn)) }
 {
@@ -89,7 +89,7 @@ fn serve_packet<W: Wires, M: PrefixMap<u32>>(
     bytes: &[u8],
 ) -> bool
     ensures { (tries : List ACall) × Tells (W.calls wires.old) tries (W.calls wires.new)
-        × IsTurn server.now at (Received at (Ok (Some packet)) bytes.now ∷ tries) × (result ≡ first_went_out tries) }
+        × IsTurn server.now at (Received at most_bytes (Ok (Some packet)) bytes.now ∷ tries) × (result ≡ first_went_out tries) }
 {
     match server.handle(alloc, bytes) {
         Ok(handled) => send_all(wires, at, packet, &handled),

@@ -52,6 +52,7 @@ fn gave(call: Option<&Call>, port: u16, bytes: &[u8]) -> bool {
                 at,
                 answer: Ok(Some(packet)),
                 bytes: given,
+                ..
             },
         ) => {
             let is_its_own = packet.from == RESOLVER && packet.port == port;

@@ -111,6 +111,7 @@ fn put(
 ) -> (Result<Option<Packet>, NetFault>, Listed<u8>)
     ensures fits { IfOk result.0 (λ answer. IfSome answer (λ packet. packet.len ≤ length buffer.new)) }
     ensures bytes { result.1 ≡ packet_bytes result.0 buffer.new }
+    ensures room { length buffer.new ≡ length buffer.old }
 {
     let Waiting {
         at: _at,
@@ -130,6 +131,7 @@ impl Wires for WiresInMemory {
     ghost calls = { λ wires. wires.told };
 
     fn receive(&mut self, at: Locator, buffer: &mut [u8]) -> Result<Option<Packet>, NetFault> {
+        let room = buffer.len();
         let none = Listed::of(Vec::new(self.alloc));
         let fails = self.fails();
         let (answer, bytes) = match self.take_at(at) {
@@ -137,7 +139,12 @@ impl Wires for WiresInMemory {
             Some(datagram) => put(datagram, self.alloc, buffer),
             None => (Ok(None), none),
         };
-        self.tell(Call::Received { at, answer, bytes });
+        self.tell(Call::Received {
+            at,
+            room,
+            answer,
+            bytes,
+        });
         answer
     }
 

@@ -1,4 +1,4 @@
--- The side of a Map-Resolver that ITRs see. An ITR asks by an Encapsulated Map-Request whose bit D is clear, and where no
+-- The side of a Map-Resolver that ITRs see. An ITR asks by an Encapsulated Map-Request whose bit D is clear. Where no
 -- ETR is to answer it, a negative Map-Reply does (RFC 8111, section 7.3; RFC 9301, sections 5.4 and 5.8).
 use Rattle.std.specs.Prelude.{ℕ, ◌≡◌, false, nat_lt, if◌then◌else◌, List, length, take, Option, Some, None, slice_get}
 use Rattle.std.specs.Option.{option_map}

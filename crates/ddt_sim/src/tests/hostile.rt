@@ -347,3 +347,31 @@ fn a_hole_that_is_too_narrow_answers_for_its_prefix_alone(rt: HostRuntime) -> Re
     assert_eq!(rt; second, true);
     Ok(())
 }
+
+/// Whether servers that call everything a hole are believed at a moment, in milliseconds, by requests to these addresses.
+fn finds_nothing(
+    alloc: Global,
+    resolver: &mut ListResolver,
+    millis: u64,
+    x: Xeid,
+    asked: &[Locator],
+) -> bool {
+    let told = of_everything(Action::DelegationHole, LocatorSet::none());
+    let hole = Outcome::Hole {
+        prefix: told.prefix,
+    };
+    finds(alloc, Lie::Always(told), resolver, millis, x, hole, asked)
+}
+
+#[test]
+fn a_hole_that_is_too_wide_is_believed_for_fifteen_minutes(rt: HostRuntime) -> Result<(), Fail> {
+    let alloc = rt.alloc();
+    let mut resolver = rooted(alloc)?;
+    let at_first = finds_nothing(alloc, &mut resolver, 0, X, &[ROOT]);
+    assert_eq!(rt; at_first, true);
+    let until = finds_nothing(alloc, &mut resolver, 899_999, v6(1), &[]);
+    assert_eq!(rt; until, true);
+    let again = finds_nothing(alloc, &mut resolver, 900_000, v6(1), &[ROOT]);
+    assert_eq!(rt; again, true);
+    Ok(())
+}

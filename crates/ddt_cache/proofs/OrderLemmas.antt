@@ -143,7 +143,7 @@ stored_in_order k r few h =
       | false ↦ λ is. h
     ] refl
 
--- whether a record is saved or memory is wanted
+-- whether a record is saved or memory runs out
 pub saved_in_order : {A E : Type 0} (result : Result A E) (t : ℕ) (m n : Entries) (roots : List Locator) (r : ReferralRecord) → length r.servers ≤ 8
     → OnOk result (live_at t n ≡ stored t (live_at t m) r) → OnErr result (live_at t n ≡ live_at t m)
     → IsInOrder (known_of t m roots) → IsInOrder (known_of t n roots)

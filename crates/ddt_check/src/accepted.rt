@@ -75,7 +75,7 @@ impl Accepted {
     }
 
     /// The root's locators, where each lookup may start: those of the group that serves everything, 1 to 8 of them
-    /// (RFC 8111, section 4). It takes no memory.
+    /// (RFC 8111, section 4). It allocates nothing.
     pub fn roots(&self) -> LocatorSet
         ensures group { result ≡ roots_of self.now }
         ensures count { AreServers result }

@@ -15,7 +15,7 @@ use ddt_path::{LocatorSet, Name, Outcome, Prefix, Role, Xeid};
 use ddt_register::{Site, Zone};
 
 /// The Map-Servers, or the hole, that the register assigns to an identifier (RFC 8111, section 7.3: what following
-/// referrals from the root has to end in). It takes no memory.
+/// referrals from the root has to end in). It allocates nothing.
 pub fn assign(accepted: &Accepted, x: Xeid) -> Outcome
     ensures { result ≡ assignment accepted.now (xeid_path x) }
 {

@@ -32,7 +32,7 @@ const RULES: [Rule; 10] = [
 ];
 
 /// Accepts a register that keeps all ten rules. Else the register comes back, with the broken rule of least number
-/// and the least row that breaks it. It takes no memory.
+/// and the least row that breaks it. It allocates nothing.
 pub fn check(register: Register) -> Result<Accepted, (Register, Fault)>
     ensures accepted { IfOk result (λ a. (a ≡ register) × IsAccepted register) }
     ensures refused { IfErr result (λ e. (e.0 ≡ register) × IsLeastFault register e.1.rule e.1.row) }

@@ -33,7 +33,7 @@ use std::collections::BTreeMap;
 /// order of their rows. One of DDT nodes holds the zones strictly below it with no zone between, each with its kind and
 /// its group's locators; one of Map-Servers holds the sites that it covers, with their ETRs (RFC 8111, section 4). From
 /// its configuration alone a server answers each identifier as an honest server of the register does. Each has room
-/// in a server: its authorities with all that they hold are fewer than 1,048,576. Refused for memory alone.
+/// in a server: its authorities with all that they hold are fewer than 1,048,576. Fails only if out of memory.
 pub fn compile(alloc: Global, accepted: &Accepted) -> Result<Listed<ServerConfig>, AllocError>
     ensures each { IfOk result (λ configs. map outline configs ≡ map (group_config_of accepted.now)
         accepted.now.groups) }
@@ -50,7 +50,7 @@ pub fn compile(alloc: Global, accepted: &Accepted) -> Result<Listed<ServerConfig
 }
 
 /// The configuration of the group of this name alone; None if and only if no group has it. The others aren't made.
-/// Refused for memory alone.
+/// Fails only if out of memory.
 pub fn compile_group(
     alloc: Global,
     accepted: &Accepted,

@@ -1,5 +1,5 @@
--- In a sorted list of prefixes no two clash exactly where no neighbours do: what stands between two that overlap, or are
--- one, overlaps the first of them, or is one with it. And whether two clash doesn't rest on the order of a list.
+-- In a sorted list of prefixes no two clash if and only if no neighbours do: what stands between two that overlap, or
+-- are one, overlaps the first of them, or is one with it. And whether two clash doesn't rest on the order of a list.
 use Rattle.std.proofs.Common.{◌≡◌, ℕ, zero, suc, ◌+◌, ◌<◌, ◌≤◌, Bool, true, false, cond, ltb, not, List, [], ◌∷◌, map, length, get_or, IsPermutation, Ordering, Less, Equal, Greater, inl, inr, refl, sym, ap, subst, ◌∙◌, arith}
 use Rattle.std.specs.Prelude.{◌==◌, ◌&&◌, ◌||◌, IsSorted}
 use Rattle.std.specs.List.{list_any}

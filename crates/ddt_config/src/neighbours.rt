@@ -9,7 +9,7 @@ ghost use Rattle.ddt_config.specs.Shaped.{no_two, have_own_prefixes as have_own_
 use ddt_path::{Prefix, Prefixed};
 use std::alloc::{AllocError, Global};
 
-/// Whether no two of the items have one prefix. Refused for memory alone.
+/// Whether no two of the items have one prefix. Fails only if out of memory.
 pub fn have_own_prefixes<T: Prefixed>(alloc: Global, items: &[T]) -> Result<bool, AllocError>
     ensures { IfOk result (λ answer. answer ≡ have_own_prefixes_of T.path items.now) }
 {
@@ -17,7 +17,7 @@ pub fn have_own_prefixes<T: Prefixed>(alloc: Global, items: &[T]) -> Result<bool
     Ok(neighbours_differ(&prefixes))
 }
 
-/// Whether no two of the items overlap. Refused for memory alone.
+/// Whether no two of the items overlap. Fails only if out of memory.
 pub fn are_apart<T: Prefixed>(alloc: Global, items: &[T]) -> Result<bool, AllocError>
     ensures { IfOk result (λ answer. answer ≡ are_apart_of T.path items.now) }
 {

@@ -37,7 +37,7 @@ pub fn from_toml(alloc: Global, text: &str) -> Result<ServerConfig, ConfigFault>
     }
 }
 
-/// What is told of a text that `toml` refuses: 5 Memory exactly where memory was refused.
+/// What is told of a text that `toml` refuses: 5 Memory if and only if memory was refused.
 fn toml_fault(fault: &de::Error) -> ConfigFault
     ensures { IsToldAs (IsMemory fault.now) result }
 {

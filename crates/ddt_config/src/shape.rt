@@ -9,7 +9,7 @@ use crate::neighbours::{are_apart, have_own_prefixes};
 use ddt_path::{Locator, LocatorSet, MOST_LOCATORS, Prefix, Role, are_distinct};
 use std::alloc::{AllocError, Global};
 
-/// Whether servers of this role and with these locators may have these authorities. Refused for memory alone.
+/// Whether servers of this role and with these locators may have these authorities. Fails only if out of memory.
 pub fn is_shaped(
     alloc: Global,
     role: Role,

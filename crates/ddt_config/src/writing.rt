@@ -22,7 +22,7 @@ use toml::{Table, Value, ser};
 /// The configuration as a text in TOML, as `from_toml` reads it. At its top stand `name`, `kind` (`node` or `ms`),
 /// `locators` and `authority`; each authority has `prefix` and either `child`, tables of `prefix`, `kind` and
 /// `locators`, or `site`, tables of `prefix` and `etrs`. There are no other keys, and an empty list is written too.
-/// Refused for memory alone.
+/// Fails only if out of memory.
 pub fn to_toml(alloc: Global, config: &ServerConfig) -> Result<String, AllocError>
     ensures printed { IfOk result (λ text. IsDocumentText false (written_config (outline config.now))
         (string_bytes text)) }

@@ -38,7 +38,7 @@ RequestsAreRead = (bytes : List ℕ) (v : Message) → Spells bytes v → messag
 abbrev pub ReadRequestsAreSpelled : Type 0
 ReadRequestsAreSpelled = (bytes : List ℕ) (v : Message) → IsBytes bytes → message_in bytes ≡ Ok v → Spells bytes v
 
--- there is a fault exactly where no request is spelled
+-- there is a fault if and only if no request is spelled
 abbrev pub FaultsAreRight : Type 0
 FaultsAreRight = (bytes : List ℕ) → IsBytes bytes → IsErr (message_in bytes) ↔ ((v : Message) → Spells bytes v → ⊥)
 

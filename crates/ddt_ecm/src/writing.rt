@@ -223,7 +223,7 @@ fn encapsulated(
 /// The one spelling of an Encapsulated Map-Request for the identifier with this nonce, these ITR-RLOCs, 1 to 32 of
 /// them, and with the bit D or without. The inner packet has the identifier's family and goes to its address. Its
 /// source is the address of the first ITR-RLOC, or all zeros where the two families differ. Both of its ports are 4342.
-/// Refused for memory alone.
+/// Fails only if out of memory.
 pub fn write_request(
     alloc: Global,
     nonce: u64,

@@ -33,7 +33,7 @@ module _ (c d : Outline) (x : List ℕ) (a : Authority) (found : authority_of c 
   pub etr_from : (r : Option Locator) → r ≡ etr_in x a.content → r ≡ first_etr d x
   etr_from r is = is ∙ ap (option_and_then (λ (b : Authority). etr_in x b.content)) (sym found) ∙ ap (λ (o : Outline). first_etr o x) same
 
--- there is an ETR to send to exactly where the answer is MS-ACK
+-- there is an ETR to send to if and only if the answer is MS-ACK
 site_acknowledged : (servers : List Locator) (sites : List (List ℕ)) (x : List ℕ) (s : SiteEntry) → is_some (slice_get s.etrs 0) ≡ is_ack (record_of (site_outcome servers sites x s)).action
 site_acknowledged servers sites x s = by_etrs (hole_of s.prefix (strictly_below s.prefix sites) x) s.etrs
   where

@@ -73,7 +73,7 @@ impl<M: PrefixMap<u32>> Server<M> {
     /// What is sent for a datagram. A DDT Map-Request, whose bit D is set, is answered by a Map-Referral with its
     /// nonce and the answer for its identifier, to be sent to where it came from. On MS-ACK the datagram with that bit
     /// clear goes on to the first ETR of the site (RFC 8111, sections 7.1 and 7.2). For any other datagram nothing is
-    /// sent, and no memory is wanted. Refused for memory alone.
+    /// sent, and nothing is allocated. Fails only if out of memory.
     #[tactic(auto, using(crate::proofs::AnswerLemmas::acknowledged))]
     pub fn handle(&self, alloc: Global, bytes: &[u8]) -> Result<Handled, AllocError>
         ensures handled { IfOk result (λ h. h ≡ handled_of self.now bytes.now) }

@@ -65,7 +65,7 @@ impl<M: PrefixMap<u32>> Server<M> {
 
     /// The record that answers an identifier, from the longest authority that covers it: the referral to a child; of a
     /// site MS-ACK, or MS-NOT-REGISTERED where it has no ETR; else the delegation hole. NOT-AUTHORITATIVE where no
-    /// authority covers the identifier (RFC 8111, sections 6.1, 7.1 and 7.2). It takes no memory.
+    /// authority covers the identifier (RFC 8111, sections 6.1, 7.1 and 7.2). It allocates nothing.
     pub fn answer(&self, x: Xeid) -> ReferralRecord
         ensures { result ≡ answer_of self.now (xeid_path x) }
     {

@@ -44,6 +44,6 @@ or_same true b h = refl
 or_same false true h = sym (h refl)
 or_same false false h = refl
 
--- a prefix overlaps an identifier exactly where it covers it
+-- a prefix overlaps an identifier if and only if it covers it
 pub overlaps_whole : (x p : List ℕ) → is_path x ≡ true → is_prefix_path p ≡ true → overlaps p x ≡ covers p x
 overlaps_whole x p e h = or_same (covers p x) (covers x p) (λ c. ap (λ (q : List ℕ). covers q x) (sym (no_longer x p e h c)) ∙ covers_self x)

@@ -177,7 +177,7 @@ inner_block_fits form self iid a len view h is =
     let x : Xeid = record { iid = iid; address = a } in
     omega (arith, length-of_block form self iid a len view h is, length-xeid_path x, k.2)
 
--- a number is its own front exactly where the digits past it are 0
+-- a number is its own front if and only if the digits past it are 0
 pub is_front_test : (w len x front : ℕ) → len ≤ w → x < 2 ^ w → front < 2 ^ w → IsFront w len (digits w front) (digits w x) → (front == x) ≡ are_zero (drop len (digits w x))
 is_front_test w len x front le hx hf e =
     elim (cases_eq front x) [

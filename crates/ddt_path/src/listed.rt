@@ -22,7 +22,7 @@ impl<T> Model for Listed<T> {
 }
 
 impl<T> Listed<T> {
-    /// The list of a vector's items. It takes no memory.
+    /// The list of a vector's items. It allocates nothing.
     pub fn of(items: Vec<T>) -> Listed<T>
         ensures { result ≡ items.items }
     {
@@ -36,7 +36,7 @@ impl<T> Listed<T> {
         self.items.as_slice()
     }
 
-    /// The vector of the items. It takes no memory.
+    /// The vector of the items. It allocates nothing.
     pub fn into_vec(self) -> Vec<T>
         ensures { result.items ≡ self }
     {

@@ -97,7 +97,7 @@ Takes-found remaining old new row fields left set read l =
     )
 
 -- A read that refused a record, for its length, refused the first that was left. Nothing is said of a failed reader and of
--- want of memory.
+-- running out of memory.
 pub Takes-fault : {R : Type 0} (remaining : R → Option (List ℕ)) (old new : Reader R) (row : ℕ) (fields : List (List ℕ)) (left : List (List (List ℕ))) (why : ErrorKind)
     → IsReading old → ExplainsRead remaining old new false why → IsLeft remaining old left → Takes remaining old new row fields left (Err (csv_fault row why))
 Takes-fault remaining old new row fields left (kind.Io error) set x l = tt

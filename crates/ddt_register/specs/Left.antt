@@ -43,7 +43,7 @@ Takes remaining old new row fields left (Err fault) =
     (fault ≡ Fault.Csv row) × (len : ℕ) × (expected_len old ≡ Some len)
     × (other : List (List ℕ)) × (rest : List (List (List ℕ))) × (left ≡ other ∷ rest) × (length other ≢ len)
 
--- What an error of csv is told as in this row: a failed reader and want of memory as themselves, and all else as a
+-- What an error of csv is told as in this row: a failed reader and no memory as themselves, and all else as a
 -- fault of the row, which for records of bytes is another number of fields.
 abbrev pub csv_fault : ℕ → ErrorKind → ReadFault
 csv_fault row (kind.Io error) = Fault.Read

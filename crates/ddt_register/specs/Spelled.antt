@@ -151,13 +151,13 @@ spelled (columns ∷ rows) = if are_columns columns then rows_in 1 rows else Err
 abbrev pub lists_of : Register → Lists
 lists_of register = record { zones = register.zones; sites = register.sites; groups = register.groups }
 
--- An answer is what is meant, or want of memory.
+-- An answer is what is meant, or says that memory ran out.
 abbrev pub UnlessMemory : {A : Type 0} → Result A ReadFault → Result A ReadFault → Type 0
 UnlessMemory (Ok a) meant = meant ≡ Ok a
 UnlessMemory (Err Fault.Memory) meant = ⊤
 UnlessMemory (Err fault) meant = meant ≡ Err fault
 
--- A failed reader and want of memory say nothing of the records.
+-- A failed reader and running out of memory say nothing of the records.
 abbrev pub Gives : Result Register ReadFault → Result Lists ReadFault → Type 0
 Gives (Ok register) meant = meant ≡ Ok (lists_of register)
 Gives (Err Fault.Read) meant = ⊤

@@ -44,7 +44,7 @@ impl Items {
         Ok(())
     }
 
-    /// The register of the items. It takes no memory.
+    /// The register of the items. It allocates nothing.
     pub(crate) fn into_register(self) -> Register
         requires { are_rows self.zones.items self.sites.items self.groups.items ≡ true }
         ensures { lists_of result ≡ kept self }

@@ -15,7 +15,7 @@ use std::alloc::Global;
 use std::io::Read;
 
 /// What an error of csv is in this row. Only other numbers of fields come of records of bytes, beside a failed reader
-/// and want of memory.
+/// and running out of memory.
 fn fault_of(kind: &ErrorKind, row: u32) -> ReadFault
     ensures { result ≡ csv_fault row kind.now }
 {

@@ -27,7 +27,7 @@ pub struct Register {
 
 impl Register {
     /// The register of these items; None where a row is 0 or above 65,535, where rows don't rise within a list, or
-    /// where a row stands in two lists. It takes no memory.
+    /// where a row stands in two lists. It allocates nothing.
     pub fn of(zones: Vec<Zone>, sites: Vec<Site>, groups: Vec<Group>) -> Option<Register>
         ensures only { IsSome result ↔ IsTrue (are_rows_of zones.items sites.items groups.items) }
         ensures items { IfSome result (λ r. (r.zones ≡ zones.items) × (r.sites ≡ sites.items)
@@ -39,7 +39,7 @@ impl Register {
         Some(Register::of_rows(zones, sites, groups))
     }
 
-    /// The register of items whose rows are such. It takes no memory.
+    /// The register of items whose rows are such. It allocates nothing.
     pub(crate) fn of_rows(zones: Vec<Zone>, sites: Vec<Site>, groups: Vec<Group>) -> Register
         requires { are_rows_of zones.items sites.items groups.items ≡ true }
         ensures zones { result.zones ≡ zones.items }

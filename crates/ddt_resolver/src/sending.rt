@@ -1,4 +1,4 @@
-//! How a lookup is sent on, and how it ends. What can fail for want of memory comes first: the request's bytes, the
+//! How a lookup is sent on, and how it ends. What can run out of memory comes first: the request's bytes, the
 //! room in the table, the cache; what changes the table takes none.
 
 ghost use Rattle.std.specs.Prelude.{◌≡◌, ◌<◌, ◌≤◌, length, IsSome, IfOk, OnOk, OnErr};

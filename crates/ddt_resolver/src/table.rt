@@ -95,7 +95,7 @@ impl Table {
         self.tickets.reserve(1)
     }
 
-    /// Adds a lookup under a ticket; neither the ticket nor its nonce is in use. It takes no memory: there is room.
+    /// Adds a lookup under a ticket; neither the ticket nor its nonce is in use. It allocates nothing: there is room.
     pub(crate) fn add(&mut self, ticket: u64, lookup: Pending)
         requires ticket { map.get self.old.lookups ticket ≡ None }
         requires nonce { IsUnknown self.old.lookups lookup.nonce }
@@ -107,7 +107,7 @@ impl Table {
         note(&mut self.tickets, nonce, ticket);
     }
 
-    /// Puts a lookup, whose nonce isn't in use, in the place of that of its ticket. It takes no memory: there is room.
+    /// Puts a lookup, whose nonce isn't in use, in the place of that of its ticket. It allocates nothing: there is room.
     pub(crate) fn replace(&mut self, ticket: u64, lookup: Pending)
         requires ticket { IsSome (map.get self.old.lookups ticket) }
         requires nonce { IsUnknown self.old.lookups lookup.nonce }
@@ -137,7 +137,7 @@ impl Table {
     }
 }
 
-/// Puts a lookup under a ticket, and answers the one before. It takes no memory: there is room, or there was one.
+/// Puts a lookup under a ticket, and answers the one before. It allocates nothing: there is room, or there was one.
 fn put(lookups: &mut HashMap<u64, Pending>, ticket: u64, lookup: Pending) -> Option<Pending>
     requires { (0 < spare lookups.old) ⊎ IsSome (get ◌==◌ lookups.old ticket) }
     ensures before { result ≡ get ◌==◌ lookups.old ticket }
@@ -151,7 +151,7 @@ fn put(lookups: &mut HashMap<u64, Pending>, ticket: u64, lookup: Pending) -> Opt
     }
 }
 
-/// Notes the ticket of a nonce. It takes no memory: there is room.
+/// Notes the ticket of a nonce. It allocates nothing: there is room.
 fn note(tickets: &mut HashMap<u64, u64>, nonce: u64, ticket: u64)
     requires { 0 < spare tickets.old }
     ensures { (q : ℕ) → get ◌==◌ tickets.new q ≡ cond (nonce == q) (Some ticket) (get ◌==◌ tickets.old q) }

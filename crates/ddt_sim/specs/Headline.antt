@@ -74,7 +74,7 @@ abbrev pub IsRightTurn : Register → Xeid → Turn → Type 0
 IsRightTurn r x (GoesOn e) = Unit {0}
 IsRightTurn r x (Ends o) = o ≡ assignment r (xeid_path x)
 
--- Over honest servers a request fails only for want of memory or of nonces.
+-- Over honest servers a request fails only if memory or nonces run out.
 abbrev pub IsRightFailure : State → LookupError → Type 0
 IsRightFailure new (GaveUp why) = (why ≡ Exhausted) × (new.next ≡ last_nonce)
 IsRightFailure new TooMany = ⊥

@@ -50,7 +50,7 @@ pub record IsTurn (now : ℕ) (s : State) (t : ℕ) (d : Outgoing) (hops : List 
   pub hop : more ≡ hops ++ hop_of d reply ∷ []
 
 -- How it fails. `gave_up`: the reply made the lookup give up. `unanswered`: nothing came back. `not_taken`: what came
--- back was no reply to it. The others are want of memory: `stopped` before a reply was taken, `unfinished` after one.
+-- back was no reply to it. In the others memory runs out: `stopped` before a reply was taken, `unfinished` after one.
 pub data TurnFails (now : ℕ) (s : State) (t : ℕ) (d : Outgoing) (error : LookupError) (after : State) : Type 0 where
   gave_up : (reply : List ℕ) (why : Why) → HearStep (moved now s) d.to reply after (heard_of t (Err why))
       → error ≡ GaveUp why → TurnFails now s t d error after

@@ -130,7 +130,7 @@ pub data WorldStep (may : Replies) (w : World) (step : Step) (event : Event) (ne
   passes : (millis : ℕ) → step ≡ Pass millis → event ≡ Passed (later w.moment millis)
       → new ≡ record w { moment = later w.moment millis } → WorldStep may w step event new
 
--- What a step leaves of the resolver that ends for want of memory: nothing is done but for its time, or all is done and
+-- What a step leaves of the resolver that runs out of memory: nothing is done but for its time, or all is done and
 -- isn't told.
 pub data Stops (w : World) (step : Step) (s : State) : Type 0 where
   undone : (s ≡ w.state) ⊎ (s ≡ moved w.moment w.state) → Stops w step s

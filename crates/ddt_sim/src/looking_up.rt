@@ -59,7 +59,7 @@ pub fn lookup<S: Servers, M: PrefixMap<Entry>>(
         (λ r. IfOk result (HasHonestHops r x resolver.old.me)) }
     // Its requests are at most as many as the zones that cover the identifier, and 7.
     ensures short { OverHonest (S.honest servers.old) resolver.old (λ r. IfOk result (HasFewHops r x)) }
-    // It fails only for want of memory, of nonces, or of room among the pending lookups.
+    // It fails only if memory, nonces or room among the pending lookups run out.
     ensures errors { OverHonest (S.honest servers.old) resolver.old
         (λ r. IfErr result (IsRightError resolver.old resolver.new)) }
     // A remembered answer is never refused.

@@ -134,7 +134,7 @@ fn ask<M: PrefixMap<Entry>>(
     Ok(event)
 }
 
-/// What an ask is answered; refused for memory alone.
+/// What an ask is answered; fails only if out of memory.
 fn asked(answer: Result<Asked, AskError>) -> Result<Event, AllocError>
     ensures event { IfOk result (λ event. IsToldAsk answer event) }
     ensures memory { OnErr result (answer ≡ Err ask_error.Memory) }

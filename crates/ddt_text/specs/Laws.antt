@@ -3,7 +3,7 @@ use Rattle.std.specs.Prelude.{ℕ, ◌<◌, ◌≡◌, ◌↔◌, List, All, Res
 use Rattle.ddt_text.specs.declared.fault.TextFault.{TextFault}
 
 -- The value that is read is the one that is spelled; a text spells one value at most, and only bytes spell; and there
--- is a first fault exactly where nothing is spelled.
+-- is a first fault if and only if nothing is spelled.
 pub record AreRead {A : Type 0} (Spells : List ℕ → A → Type 0) (reading : List ℕ → Result A TextFault) : Type 0 where
   pub read : (text : List ℕ) (a : A) → reading text ≡ Ok a ↔ Spells text a
   pub unique : (text : List ℕ) (a b : A) → Spells text a → Spells text b → a ≡ b

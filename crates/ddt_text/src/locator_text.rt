@@ -66,7 +66,7 @@ impl fmt::Display for LocatorText {
 }
 
 /// Appends the address: IPv4 as four numbers joined by dots; IPv6 in the form of RFC 5952, section 4, without a dotted
-/// part. Refused for memory alone, and then `text` is unchanged.
+/// part. Fails only if out of memory, and then `text` is unchanged.
 #[tactic(auto, using(crate::proofs::AgainLemmas::laws))]
 pub fn write_locator(text: &mut Vec<u8>, address: Locator) -> Result<(), AllocError>
     ensures appended { text.new.items ≡ (if is_ok result then text.old.items ++ written_locator address

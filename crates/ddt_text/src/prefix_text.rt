@@ -110,7 +110,7 @@ impl fmt::Display for PrefixText {
     }
 }
 
-/// Appends the prefix as `*`, `[iid/len]*` or `[iid]address/len`. Refused for memory alone, and then `text` is
+/// Appends the prefix as `*`, `[iid/len]*` or `[iid]address/len`. Fails only if out of memory, and then `text` is
 /// unchanged.
 #[tactic(auto, using(crate::proofs::AgainLemmas::laws))]
 pub fn write_prefix(text: &mut Vec<u8>, prefix: Prefix) -> Result<(), AllocError>

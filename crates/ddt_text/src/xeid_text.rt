@@ -38,7 +38,7 @@ pub fn parse_xeid(text: &[u8]) -> Result<Xeid, TextFault>
     read_xeid(text)
 }
 
-/// Appends the identifier as `[iid]address`. Refused for memory alone, and then `text` is unchanged.
+/// Appends the identifier as `[iid]address`. Fails only if out of memory, and then `text` is unchanged.
 #[tactic(auto, using(crate::proofs::AgainLemmas::laws))]
 pub fn write_xeid(text: &mut Vec<u8>, x: Xeid) -> Result<(), AllocError>
     ensures appended { text.new.items ≡ (if is_ok result then text.old.items ++ written_xeid x else text.old.items) }

@@ -42,6 +42,6 @@ or_same true b h = refl
 or_same false true h = sym (h refl)
 or_same false false h = refl
 
--- a prefix overlaps an identifier exactly where it covers it
+-- a prefix overlaps an identifier if and only if it covers it
 pub overlaps_xeid : (form : Form) (p : List ℕ) (x : Xeid) → path form ≡ p → overlaps p (xeid_path x) ≡ covers p (xeid_path x)
 overlaps_xeid form p x is = or_same (covers p (xeid_path x)) (covers (xeid_path x) p) (covered_back form p x is)

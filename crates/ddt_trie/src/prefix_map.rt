@@ -36,7 +36,7 @@ pub trait PrefixMap<V: Drop>: Drop {
         ensures covered { IsCovered (content self.now) (xeid_path x) → IsSome result };
 
     /// The least specific prefix, of `from` and those inside it, that covers the identifier and overlaps no prefix of
-    /// the map; None exactly where one of these covers the identifier. `from` is to cover the identifier.
+    /// the map; None if and only if one of these covers the identifier. `from` is to cover the identifier.
     fn free(&self, from: Prefix, x: Xeid) -> Option<Prefix>
         requires { IsTrue (covers from (xeid_path x)) }
         ensures first { result ≡ free from (map.keys (content self.now)) (xeid_path x) }
@@ -52,7 +52,7 @@ pub trait PrefixMap<V: Drop>: Drop {
         ensures none { IfNone result (IsCoveredBelow (content self.now) from (xeid_path x)) }
         ensures covered { IsCoveredBelow (content self.now) from (xeid_path x) → IsNone result };
 
-    /// Sets the value of a prefix, and answers the one before. Where memory is wanted, the map stays as it is and the
+    /// Sets the value of a prefix, and answers the one before. Where memory runs out, the map stays as it is and the
     /// prefix and the value come back; a prefix that has a value already wants none. The map is to have less than
     /// 1,048,576 entries.
     fn insert(&mut self, prefix: Prefix, value: V) -> Result<Option<V>, (Prefix, V)>

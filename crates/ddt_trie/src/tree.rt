@@ -59,7 +59,7 @@ pub fn turn_at(prefix: Prefix, at: u8) -> Turn
     }
 }
 
-/// The tree of one entry, below the first `at` digits of the prefix. Where memory is wanted, the value comes back.
+/// The tree of one entry, below the first `at` digits of the prefix. Where memory runs out, the value comes back.
 fn chain<V: Drop>(alloc: Global, prefix: Prefix, at: u8, value: V) -> Result<Tree<V>, V>
     requires { at ≤ length prefix }
     ensures set { IfOk result (λ tree. IsSet at Empty tree (drop at prefix) (Some value)) }
@@ -126,7 +126,7 @@ impl<V: Drop> Tree<V> {
     }
 
     /// Sets the value of a prefix to what `value` holds, which then holds the one before. What is missing of its path
-    /// is built apart and attached last: where memory is wanted, it answers false, and the tree and `value` stay as
+    /// is built apart and attached last: where memory runs out, it answers false, and the tree and `value` stay as
     /// they are. Each level's last step is the next level, so that it is compiled as a loop.
     pub fn insert(&mut self, alloc: Global, prefix: &Prefix, at: u8, value: &mut Option<V>) -> bool
         requires within { at ≤ length prefix.now }

@@ -33,7 +33,7 @@ done x = Ok x
 pub ok_is : {A E : Type 0} (x y : A) → done {E = E} x ≡ done y → x ≡ y
 ok_is x y e = cc
 
--- a result is a fault exactly where it is no value
+-- a result is a fault if and only if it is no value
 pub err_not_ok : {A E : Type 0} (r : Result A E) (x : A) → IsErr r → r ≡ Ok x → ⊥
 err_not_ok (Ok y) x e f = absurd cc
 err_not_ok (Err d) x e f = absurd cc

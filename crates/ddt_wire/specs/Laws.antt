@@ -40,7 +40,7 @@ MessagesAreRead = (bytes : List ℕ) (v : Message) → Spells bytes v → messag
 abbrev pub ReadMessagesAreSpelled : Type 0
 ReadMessagesAreSpelled = (bytes : List ℕ) (v : Message) → IsBytes bytes → message_in bytes ≡ Ok v → Spells bytes v
 
--- there is a fault exactly where no message is spelled
+-- there is a fault if and only if no message is spelled
 abbrev pub FaultsAreRight : Type 0
 FaultsAreRight = (bytes : List ℕ) → IsBytes bytes → IsErr (message_in bytes) ↔ ((v : Message) → Spells bytes v → ⊥)
 
@@ -75,7 +75,7 @@ abbrev pub ReadRepliesAreSpelled : Type 0
 ReadRepliesAreSpelled = (bytes : List ℕ) (v : NegativeReply) → IsBytes bytes → reply_in bytes ≡ Ok v
     → SpellsReply bytes v
 
--- there is a fault exactly where none is spelled
+-- there is a fault if and only if none is spelled
 abbrev pub ReplyFaultsAreRight : Type 0
 ReplyFaultsAreRight = (bytes : List ℕ) → IsBytes bytes
     → IsErr (reply_in bytes) ↔ ((v : NegativeReply) → SpellsReply bytes v → ⊥)
@@ -101,7 +101,7 @@ abbrev pub ReadEidsAreSpelled : Type 0
 ReadEidsAreSpelled = (mask : ℕ) (bytes p : List ℕ) (taken : ℕ) → IsBytes bytes → eid_at mask bytes ≡ Ok (p, taken)
     → SpellsEid mask (take taken bytes) p × (taken ≤ length bytes)
 
--- there is a fault exactly where no front of the bytes spells a prefix
+-- there is a fault if and only if no front of the bytes spells a prefix
 abbrev pub EidFaultsAreRight : Type 0
 EidFaultsAreRight = (mask : ℕ) (bytes : List ℕ) → IsBytes bytes
     → IsErr (eid_at mask bytes) ↔ ((eid rest p : List ℕ) → SpellsEid mask eid p → bytes ≡ eid ++ rest → ⊥)

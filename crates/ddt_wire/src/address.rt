@@ -45,8 +45,8 @@ pub(crate) fn address_len(address: Locator) -> u16
     }
 }
 
-/// Appends the AFI and the address, 6 or 18 bytes. It succeeds where they were reserved. Refused for memory alone, and
-/// then `bytes` is unchanged.
+/// Appends the AFI and the address, 6 or 18 bytes. It succeeds where they were reserved. Fails only if out of memory,
+/// and then `bytes` is unchanged.
 pub fn write_address(bytes: &mut Vec<u8>, address: Locator) -> Result<(), AllocError>
     ensures written { OnOk result (bytes.new.items ≡ bytes.old.items ++ family_and_address address) }
     ensures unchanged { OnErr result (bytes.new.items ≡ bytes.old.items) }

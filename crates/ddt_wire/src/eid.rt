@@ -128,7 +128,7 @@ fn put_form(bytes: &mut Vec<u8>, form: Form) -> Result<(), AllocError>
 }
 
 /// Appends the EID of the prefix from its AFI on, 6 to 30 bytes: a block of instance 0 as its address, another block
-/// and a range of instances as an LCAF of type 2 (RFC 8060, section 4.1). Refused for memory alone, and then `bytes`
+/// and a range of instances as an LCAF of type 2 (RFC 8060, section 4.1). Fails only if out of memory, and then `bytes`
 /// is unchanged.
 pub fn write_eid(bytes: &mut Vec<u8>, prefix: Prefix) -> Result<(), AllocError>
     ensures written { OnOk result (bytes.new.items ≡ bytes.old.items ++ written_eid prefix) }

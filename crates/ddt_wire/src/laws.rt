@@ -4,7 +4,7 @@
 ghost use Rattle.ddt_wire.specs.Laws.{OneMessage, MessagesAreBytes, MessagesAreRead, ReadMessagesAreSpelled, FaultsAreRight, WrittenSpells, RecordsComeBack, OneReply, RepliesAreBytes, RepliesAreRead, ReadRepliesAreSpelled, ReplyFaultsAreRight, WrittenReplySpells, OneEid, EidsAreBytes, EidsAreRead, ReadEidsAreSpelled, EidFaultsAreRight, WrittenEidSpells};
 
 /// Bytes spell one Map-Referral at most; only bytes do. What is spelled is read, and what is read is spelled; a fault
-/// exists exactly where bytes spell none. What is written for a nonce and a record spells them, and a record of at most
+/// exists if and only if bytes spell none. What is written for a nonce and a record spells them, and a record of at most
 /// eight servers comes back from its message.
 pub fn referral_laws()
     ensures one { OneMessage }

@@ -79,8 +79,8 @@ fn referral_head(nonce: u64, referral: &ReferralRecord) -> Head
 }
 
 /// The one spelling of a Map-Referral with this nonce and record: A is 1, no signature and map version 0, each locator
-/// with priority 1, weight 100, multicast priority 255 and weight 0, and the flag R; reserved bits are 0. Refused for
-/// memory alone.
+/// with priority 1, weight 100, multicast priority 255 and weight 0, and the flag R; reserved bits are 0. Fails
+/// only if out of memory.
 pub fn write_referral(
     alloc: Global,
     nonce: u64,

@@ -26,7 +26,7 @@ struct Bound {
 ///
 /// A datagram that fills the whole buffer is refused as 1 Receive, since its end may be cut off, and so is one whose
 /// source isn't an address and a port; that datagram alone is lost. A locator that no socket is bound to is refused as
-/// 1 Receive or 2 Send. Only `bind` takes memory.
+/// 1 Receive or 2 Send. Only `bind` allocates.
 #[derive(Drop)]
 pub struct UdpWires {
     sockets: Vec<Bound>,

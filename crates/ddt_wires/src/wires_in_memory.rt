@@ -1,6 +1,6 @@
 //! Wires without a network, for tests.
 
-ghost use Rattle.std.specs.Prelude.{◌≡◌, ◌≤◌, ◌++◌, [], ◌∷◌, length, Some, IfOk, IfSome};
+ghost use Rattle.std.specs.Prelude.{◌≡◌, ◌≤◌, ◌++◌, [], ◌∷◌, length, Some, IfErr, IfOk, IfSome};
 ghost use Rattle.std.specs.Option.{option_map};
 ghost use Rattle.ddt_wires.specs.Calls.{Tells, packet_bytes};
 
@@ -38,7 +38,9 @@ pub struct WiresInMemory {
 impl WiresInMemory {
     /// Wires at which nothing waits, whose call of this number fails; the first call is 1, so with 0 none fails.
     pub fn new(alloc: Global, failing: u64) -> WiresInMemory
-        ensures { result.told ≡ Some [] }
+        ensures told { result.told ≡ Some [] }
+        ensures waiting { result.waiting.items ≡ [] }
+        ensures failing { (result.made ≡ 0) × (result.failing ≡ failing) }
     {
         WiresInMemory {
             alloc,
@@ -49,9 +51,12 @@ impl WiresInMemory {
         }
     }
 
-    /// Lets a datagram wait behind the others. Fails only if out of memory.
+    /// Lets a datagram wait behind the others. Fails only if out of memory, and then all stays as it was.
     pub fn add(&mut self, datagram: Waiting) -> Result<(), AllocError>
-        ensures { self.new.told ≡ self.old.told }
+        ensures added { IfOk result (λ _. self.new.waiting.items ≡ self.old.waiting.items ++ datagram ∷ []) }
+        ensures refused { IfErr result (λ _. self.new.waiting.items ≡ self.old.waiting.items) }
+        ensures others { (self.new.told ≡ self.old.told) × (self.new.made ≡ self.old.made)
+            × (self.new.failing ≡ self.old.failing) }
     {
         self.waiting.push(datagram)?;
         Ok(())

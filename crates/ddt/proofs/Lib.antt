@@ -5,3 +5,4 @@ pub mod OverLemmas
 pub mod ReplayLemmas
 pub mod RunLemmas
 pub mod ScriptLemmas
+pub mod ServeLemmas

@@ -31,6 +31,6 @@ abbrev pub IsAssignText : Call → Register → List ℕ → Type 0
 IsAssignText call r text =
     (x : Xeid) × (xeid_of call ≡ Ok x) × (text ≡ ended (outcome_text (assignment r (xeid_path x))))
 
--- of a register it refuses nothing but for want of memory
+-- of a register it refuses nothing unless memory runs out
 abbrev pub WantsMemory : Call → Register → Refusal → Type 0
 WantsMemory call r why = why ≡ OutOfMemory

@@ -5,7 +5,7 @@ use Rattle.ddt_words.specs.declared.declaration.Declaration.{Declaration}
 use Rattle.ddt_words.specs.Call.{Call}
 use Rattle.ddt_words.specs.Line.{line, one, setting, several, takes}
 use Rattle.ddt.specs.declared.commands.Command.{Command}
-use Rattle.ddt.specs.declared.commands.Command.TheVariants.{Answer, Assign, Check, Compile, Lookup, Replay, Show}
+use Rattle.ddt.specs.declared.commands.Command.TheVariants.{Answer, Assign, Check, Compile, Lookup, Replay, Serve, Show}
 use Rattle.ddt.specs.declared.refusal.Refusal.{Refusal}
 use Rattle.ddt.specs.Over.{IsTextOver, IsWhyOver, whole}
 use Rattle.ddt.specs.Answer.{IsAnswerText}
@@ -14,6 +14,7 @@ use Rattle.ddt.specs.Check.{IsCheckText, no_bad_word}
 use Rattle.ddt.specs.Compile.{IsConfigText, IsWhyNoGroup}
 use Rattle.ddt.specs.Lookup.{IsLookupText, bad_lookup}
 use Rattle.ddt.specs.Replay.{IsReplayText, IsWhyNoReplay}
+use Rattle.ddt.specs.Serve.{IsServeText, IsWhyNotServed, Serving}
 use Rattle.ddt.specs.Show.{IsShowText, IsWhyNotShown}
 
 abbrev pub name_of : Command → List ℕ
@@ -23,6 +24,7 @@ name_of Check = codes "check"
 name_of Compile = codes "compile"
 name_of Lookup = codes "lookup"
 name_of Replay = codes "replay"
+name_of Serve = codes "serve"
 name_of Show = codes "show"
 
 -- what each command takes
@@ -36,6 +38,7 @@ command_list =
     (one (codes "register") ∷ several (codes "xeid") ∷ setting (codes "me") ∷ setting (codes "seed") ∷ [])
     ∷ takes (codes "replay")
     (one (codes "register") ∷ one (codes "script") ∷ setting (codes "me") ∷ setting (codes "seed") ∷ [])
+    ∷ takes (codes "serve") (one (codes "config") ∷ one (codes "address") ∷ one (codes "turns") ∷ [])
     ∷ takes (codes "show") (one (codes "hex") ∷ [])
     ∷ []
 
@@ -43,29 +46,33 @@ command_list =
 abbrev pub program_line : App
 program_line = line command_list
 
--- what a command answers, over what a path opens and what a file tells; and whether it is complete
-abbrev pub IsTextOf : {F : Type 0} → (List ℕ → Option F → Type 0) → (F → Option (List ℕ)) → Command → Call → Bool
-    → List ℕ → Type 0
-IsTextOf opens remaining Answer call complete text =
+-- what a command answers, over what a path opens, what a file tells and what comes of a server; and whether it is
+-- complete
+abbrev pub IsTextOf : {F : Type 0} → (List ℕ → Option F → Type 0) → (F → Option (List ℕ)) → Serving → Command → Call
+    → Bool → List ℕ → Type 0
+IsTextOf opens remaining serves Answer call complete text =
     IsTextOver opens remaining bad_xeid (whole IsAnswerText complete) call text
-IsTextOf opens remaining Assign call complete text =
+IsTextOf opens remaining serves Assign call complete text =
     IsTextOver opens remaining bad_xeid (whole IsAssignText complete) call text
-IsTextOf opens remaining Check call complete text =
+IsTextOf opens remaining serves Check call complete text =
     IsTextOver opens remaining no_bad_word (whole IsCheckText complete) call text
-IsTextOf opens remaining Compile call complete text =
+IsTextOf opens remaining serves Compile call complete text =
     IsTextOver opens remaining no_bad_word (whole IsConfigText complete) call text
-IsTextOf opens remaining Lookup call complete text =
+IsTextOf opens remaining serves Lookup call complete text =
     IsTextOver opens remaining bad_lookup (IsLookupText complete) call text
-IsTextOf opens remaining Replay call complete text = (complete ≡ true) × IsReplayText opens remaining call text
-IsTextOf opens remaining Show call complete text = (complete ≡ true) × IsShowText call text
+IsTextOf opens remaining serves Replay call complete text = (complete ≡ true) × IsReplayText opens remaining call text
+IsTextOf opens remaining serves Serve call complete text =
+    (complete ≡ true) × IsServeText opens remaining serves call text
+IsTextOf opens remaining serves Show call complete text = (complete ≡ true) × IsShowText call text
 
 -- why a command refuses
-abbrev pub IsWhyOf : {F : Type 0} → (List ℕ → Option F → Type 0) → (F → Option (List ℕ)) → Command → Call → Refusal
-    → Type 0
-IsWhyOf opens remaining Answer call why = IsWhyOver opens remaining bad_xeid IsWhyNoGroup call why
-IsWhyOf opens remaining Assign call why = IsWhyOver opens remaining bad_xeid WantsMemory call why
-IsWhyOf opens remaining Check call why = IsWhyOver opens remaining no_bad_word WantsMemory call why
-IsWhyOf opens remaining Compile call why = IsWhyOver opens remaining no_bad_word IsWhyNoGroup call why
-IsWhyOf opens remaining Lookup call why = IsWhyOver opens remaining bad_lookup WantsMemory call why
-IsWhyOf opens remaining Replay call why = IsWhyNoReplay opens remaining call why
-IsWhyOf opens remaining Show call why = IsWhyNotShown call why
+abbrev pub IsWhyOf : {F : Type 0} → (List ℕ → Option F → Type 0) → (F → Option (List ℕ)) → Serving → Command → Call
+    → Refusal → Type 0
+IsWhyOf opens remaining serves Answer call why = IsWhyOver opens remaining bad_xeid IsWhyNoGroup call why
+IsWhyOf opens remaining serves Assign call why = IsWhyOver opens remaining bad_xeid WantsMemory call why
+IsWhyOf opens remaining serves Check call why = IsWhyOver opens remaining no_bad_word WantsMemory call why
+IsWhyOf opens remaining serves Compile call why = IsWhyOver opens remaining no_bad_word IsWhyNoGroup call why
+IsWhyOf opens remaining serves Lookup call why = IsWhyOver opens remaining bad_lookup WantsMemory call why
+IsWhyOf opens remaining serves Replay call why = IsWhyNoReplay opens remaining call why
+IsWhyOf opens remaining serves Serve call why = IsWhyNotServed opens remaining serves call why
+IsWhyOf opens remaining serves Show call why = IsWhyNotShown call why

@@ -31,6 +31,6 @@ IsConfigText call r text =
 abbrev pub NamesNoGroup : List ℕ → Register → Type 0
 NamesNoGroup name r = (is_name name ≡ false) ⊎ (group_named r name ≡ None)
 
--- why a register has no answer for a group: none has the name, or memory is wanted
+-- why a register has no answer for a group: none has the name, or memory runs out
 abbrev pub IsWhyNoGroup : Call → Register → Refusal → Type 0
 IsWhyNoGroup call r why = ((why ≡ NoRegister NoSuchGroup) × NamesNoGroup (group_of call) r) ⊎ (why ≡ OutOfMemory)

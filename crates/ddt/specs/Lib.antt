@@ -9,6 +9,7 @@ pub mod Compile
 pub mod Lookup
 pub mod Script
 pub mod Replay
+pub mod Serve
 pub mod Show
 pub mod Commands
 pub mod Telling

@@ -128,7 +128,7 @@ OfItsScript remaining source is_so =
     (source ≢ None)
     × ((bytes : List ℕ) → Tells remaining source bytes → (steps : List Step) × SpellsScript bytes steps × is_so steps)
 
--- why a path gives no script: it can't be opened or read, or a line of its bytes spells no step; memory may be wanted
+-- why a path gives no script: it can't be opened or read, or a line of its bytes spells no step; memory may run out
 -- once a file is open
 abbrev pub IsWhyNoScript : {F : Type 0} → (F → Option (List ℕ)) → Option F → List ℕ → Refusal → Type 0
 IsWhyNoScript remaining source path (NoScript (CannotOpen name)) = name.now ≡ path
@@ -144,7 +144,7 @@ IsReplayOf opens remaining register script me_ seed text =
     (source : Option _) × opens register source × OfItsRegister remaining source (λ r.
     (other : Option _) × opens script other × OfItsScript remaining other (λ steps. IsRunText r me_ seed steps text))
 
--- why there is none: the register, then the script; memory may be wanted once the files are open
+-- why there is none: the register, then the script; memory may run out once the files are open
 abbrev pub IsWhyNotReplayed : {F : Type 0} → (List ℕ → Option F → Type 0) → (F → Option (List ℕ)) → List ℕ → List ℕ
     → Refusal → Type 0
 IsWhyNotReplayed opens remaining register script why =

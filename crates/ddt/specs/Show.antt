@@ -35,18 +35,18 @@ IsShowText call text = (bytes : List ℕ) × (decode_of (hex_of call) ≡ Ok byt
 abbrev pub type_of : List ℕ → Option ℕ
 type_of bytes = option_map (λ byte. byte / 16) (slice_get bytes 0)
 
--- the first fault of bytes that are no negative Map-Reply, or want of memory
+-- the first fault of bytes that are no negative Map-Reply, or that memory ran out
 abbrev pub IsWhyNoReply : List ℕ → Refusal → Type 0
 IsWhyNoReply bytes why =
     ((fault : ReplyFault) × (why ≡ NoMessage (NoReply fault)) × (reply_in bytes ≡ Err fault)) ⊎ (why ≡ OutOfMemory)
 
--- the first fault of bytes that are no Map-Referral, or want of memory
+-- the first fault of bytes that are no Map-Referral, or that memory ran out
 abbrev pub IsWhyNoReferral : List ℕ → Refusal → Type 0
 IsWhyNoReferral bytes why =
     ((fault : ReferralFault) × (why ≡ NoMessage (NoReferral fault)) × (referral.message_in bytes ≡ Err fault))
     ⊎ (why ≡ OutOfMemory)
 
--- the first fault of bytes that are no encapsulated Map-Request, or want of memory
+-- the first fault of bytes that are no encapsulated Map-Request, or that memory ran out
 abbrev pub IsWhyNoRequest : List ℕ → Refusal → Type 0
 IsWhyNoRequest bytes why =
     ((fault : RequestFault) × (why ≡ NoMessage (NoRequest fault)) × (request.message_in bytes ≡ Err fault))
@@ -67,7 +67,7 @@ abbrev pub hex_refusal : FromHexError → Refusal
 hex_refusal hex.OutOfMemory = OutOfMemory
 hex_refusal fault = NoMessage NotHex
 
--- why the word isn't shown: it is no hexadecimal text, memory is wanted, or its bytes are no message
+-- why the word isn't shown: it is no hexadecimal text, memory runs out, or its bytes are no message
 abbrev pub IsWhyNotShown : Call → Refusal → Type 0
 IsWhyNotShown call why =
     ((why ≡ NoMessage NotHex) × IsErr (decode_of (hex_of call)))

@@ -23,8 +23,8 @@ use std::alloc::{AllocError, Global};
 /// The address of the resolver that asks, 127.0.0.53.
 pub const RESOLVER: Locator = Locator::V4(0x7f00_0035);
 
-/// The bytes of the Map-Referral for nonce 1 that the group's server at its first locator answers; None exactly where
-/// no group has the name. Refused for memory alone.
+/// The bytes of the Map-Referral for nonce 1 that the group's server at its first locator answers; None if and only if
+/// no group has the name. Fails only if out of memory.
 pub fn answer_group(
     alloc: Global,
     accepted: &Accepted,
@@ -67,7 +67,7 @@ fn answer_by(alloc: Global, config: ServerConfig, x: Xeid) -> Result<Vec<u8>, Al
     }
 }
 
-/// The same bytes as lower-case hexadecimal text. Refused for memory alone.
+/// The same bytes as lower-case hexadecimal text. Fails only if out of memory.
 pub fn answer_hex(
     alloc: Global,
     accepted: &Accepted,

@@ -6,6 +6,7 @@ mod check;
 mod compile;
 mod lookup;
 pub mod replay;
+mod serve;
 mod show;
 
 ghost use Rattle.std.specs.Prelude.{◌≡◌, ◌≢◌, IfErr, IfOk, MatchOption};
@@ -13,7 +14,9 @@ ghost use Rattle.std.specs.Fn.{FnReturnsAt as ReturnsAt};
 ghost use Rattle.ddt_words.specs.Call.{call_of};
 ghost use Rattle.ddt_words.specs.Line.{line};
 ghost use Rattle.ddt.specs.declared.commands.Command.{Command as ACommand};
+ghost use Rattle.ddt.specs.declared.commands.Command.TheVariants as CommandAs;
 ghost use Rattle.ddt.specs.Commands.{IsTextOf, IsWhyOf, name_of, program_line};
+ghost use Rattle.ddt.specs.Serve.{Binds, ServesOver};
 
 use crate::lines::Lines;
 use crate::over::lines_over;
@@ -22,9 +25,12 @@ use answer::Answer;
 use assign::Assign;
 use check::Check;
 use compile::Compile;
+use ddt_path::Locator;
+use ddt_wires::Wires;
 use ddt_words::{Declaration, Words};
 use lookup::Lookup;
 use std::alloc::Global;
+use std::io;
 use std::io::Read;
 
 /// What each command takes.
@@ -38,6 +44,7 @@ pub fn command_list() -> &'static [Declaration<'static>]
         compile::WORDS,
         lookup::WORDS,
         replay::WORDS,
+        serve::WORDS,
         show::WORDS,
     ]
 }
@@ -51,6 +58,7 @@ pub enum Command {
     Compile,
     Lookup,
     Replay,
+    Serve,
     Show,
 }
 
@@ -66,26 +74,36 @@ impl Command {
             "compile" => Some(Command::Compile),
             "lookup" => Some(Command::Lookup),
             "replay" => Some(Command::Replay),
+            "serve" => Some(Command::Serve),
             "show" => Some(Command::Show),
             _ => None,
         }
     }
 }
 
-/// The lines that a command answers, or why it refuses. `open_file` gives a file, or None where it can't be opened.
-pub fn lines_of<'a, F, O>(
+/// The lines that a command answers, or why it refuses. `open_file` gives a file, or None where it can't be opened;
+/// `bind` binds a socket of the wires to a locator.
+pub fn lines_of<'a, F, O, W, B>(
     alloc: Global,
     command: Command,
     words: &Words<'a>,
     open_file: O,
+    wires: &mut W,
+    bind: B,
 ) -> Result<Lines, Refusal<'a>>
 where
     F: Read + Drop,
     O: Fn(&str) -> Option<F> + Drop,
-    requires { O.IsAlwaysCallable open_file }
+    W: Wires,
+    B: Fn(&mut W, Locator) -> io::Result<()> + Drop,
+    requires opens { O.IsAlwaysCallable open_file }
+    requires binds { B.IsAlwaysCallable bind }
     ensures text { IfOk result (λ lines. IsTextOf (ReturnsAt O.Fn open_file) F.remaining
+        (ServesOver (Binds B.Fn bind) W.calls wires.old wires.new)
         command (call_of words.now) lines.complete lines.text.items) }
-    ensures refused { IfErr result (IsWhyOf (ReturnsAt O.Fn open_file) F.remaining command (call_of words.now)) }
+    ensures refused { IfErr result (IsWhyOf (ReturnsAt O.Fn open_file) F.remaining
+        (ServesOver (Binds B.Fn bind) W.calls wires.old wires.new) command (call_of words.now)) }
+    ensures quiet { command ≢ CommandAs.Serve → wires.new ≡ wires.old }
 {
     match command {
         Command::Answer => lines_over::<Answer<'a>, F, O>(alloc, words, open_file),
@@ -94,6 +112,7 @@ where
         Command::Compile => lines_over::<Compile<'a>, F, O>(alloc, words, open_file),
         Command::Lookup => lines_over::<Lookup, F, O>(alloc, words, open_file),
         Command::Replay => replay::lines(alloc, words, open_file),
+        Command::Serve => serve::lines(alloc, words, open_file, wires, bind),
         Command::Show => show::lines(alloc, words),
     }
 }

@@ -1,12 +1,15 @@
-//! The program: one command over a register, its words, and what it prints.
+//! The program: one command, its words, and what it prints.
 //!
 //! In reading order: `running`, `commands` (the list), `over` (commands over a register), `commands/*`, `answering`,
-//! `looking_up`, `script`, `replaying`, `event_lines`, `number`, `lines`, `telling`, `refusal`, `status`.
+//! `looking_up`, `script`, `replaying`, `event_lines`, `configuration`, `serving`, `file`, `number`, `lines`,
+//! `telling`, `refusal`, `status`.
 #![tactic(auto)]
 
 mod answering;
 mod commands;
+mod configuration;
 mod event_lines;
+mod file;
 mod lines;
 mod looking_up;
 mod number;
@@ -15,11 +18,14 @@ mod refusal;
 mod replaying;
 mod running;
 mod script;
+mod serving;
 mod status;
 mod telling;
 #[cfg(test)]
 mod tests;
 
+use ddt_path::Locator;
+use ddt_wires::UdpWires;
 use refusal::Refusal;
 use running::run;
 use std::io::ErrorKind;
@@ -34,6 +40,8 @@ fn main(rt: HostRuntime) -> ExitCode {
             rt.alloc(),
             &words,
             |path| fs::open(&rt, path).ok(),
+            &mut UdpWires::new(rt.alloc()),
+            |wires: &mut UdpWires, at: Locator| wires.bind(&rt, at),
             &mut out,
             &mut err,
         ),

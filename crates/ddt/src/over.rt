@@ -99,8 +99,8 @@ pub fn register_at<F: Read + Drop>(
     }
 }
 
-/// What is refused where reading ends in a fault: want of memory and a failed read for what they are, and no other
-/// fault as one of these.
+/// What is refused where reading ends in a fault: 9 Memory is out of memory, 8 Read a register that can't be read, and
+/// each other fault an unreadable register.
 fn unread(fault: ReadFault) -> Refusal<'static>
     ensures { result ≡ reading_refusal fault }
 {
@@ -111,7 +111,7 @@ fn unread(fault: ReadFault) -> Refusal<'static>
     }
 }
 
-/// The register where it keeps all rules, or the rule that it breaks. It takes no memory.
+/// The register where it keeps all rules, or the rule that it breaks. It allocates nothing.
 fn judged(register: Register) -> Result<Accepted, RegisterRefusal<'static>>
     ensures accepted { IfOk result (λ a. (a ≡ register) × IsAccepted register) }
     ensures refused { IfErr result (IsRuleBroken register) }

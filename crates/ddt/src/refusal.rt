@@ -3,11 +3,13 @@
 mod message;
 mod register;
 mod script;
+mod server;
 mod word;
 
 pub use message::MessageRefusal;
 pub use register::RegisterRefusal;
 pub use script::ScriptRefusal;
+pub use server::ServerRefusal;
 use std::alloc::AllocError;
 use std::fmt;
 pub use word::WordRefusal;
@@ -21,6 +23,8 @@ pub enum Refusal<'a> {
     NoRegister(RegisterRefusal<'a>),
     /// The file gives no script.
     NoScript(ScriptRefusal<'a>),
+    /// There is no server, or it has no socket.
+    NoServer(ServerRefusal<'a>),
     /// The bytes are no message.
     NoMessage(MessageRefusal),
     OutOfMemory,
@@ -47,6 +51,7 @@ impl fmt::Display for Refusal<'_> {
             Refusal::BadWord(why) => write!(f, "{why}"),
             Refusal::NoRegister(why) => write!(f, "{why}"),
             Refusal::NoScript(why) => write!(f, "{why}"),
+            Refusal::NoServer(why) => write!(f, "{why}"),
             Refusal::NoMessage(why) => write!(f, "{why}"),
             Refusal::OutOfMemory => write!(f, "out of memory"),
         }

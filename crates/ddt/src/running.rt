@@ -8,51 +8,70 @@ ghost use Rattle.ddt.specs.declared.status.Status.TheVariants.{
   BadWords as IsBadWords,
   Unprinted as IsUnprinted,
 };
+ghost use Rattle.ddt.specs.declared.commands.Command.TheVariants as CommandAs;
 ghost use Rattle.ddt.specs.Status.{answer_status};
 ghost use Rattle.ddt.specs.Commands.{IsTextOf, IsWhyOf};
-ghost use Rattle.ddt.specs.Running.{CallNone, HasPartOf, HasRefused, HasText, IsAnswer, IsWhyRefused, StayApart};
+ghost use Rattle.ddt.specs.Serve.{Binds, ServesOver};
+ghost use Rattle.ddt.specs.Running.{CallNoServer, CallNone, HasPartOf, HasRefused, HasText, IsAnswer, IsWhyRefused, StayApart};
 
 use crate::commands::{Command, command_list, lines_of};
 use crate::refusal::Refusal;
 use crate::status::Status;
 use crate::telling::{answer, refuse, show_usage};
+use ddt_path::Locator;
+use ddt_wires::Wires;
 use ddt_words::{Words, WordsFault, read_words};
 use std::alloc::Global;
+use std::io;
 use std::io::{Read, Write};
 
 /// Runs the command that the words call, of which the first is the program's name. `open_file` gives a file, or None
-/// where it can't be opened. Words that fit no command end with status 2 and the usage on `err`.
-pub fn run<F, O, W, E>(
+/// where it can't be opened; `bind` binds a socket of the wires to a locator. Words that fit no command end with status
+/// 2 and the usage on `err`.
+pub fn run<F, O, W, B, P, E>(
     alloc: Global,
     words: &[String],
     open_file: O,
-    out: &mut W,
+    wires: &mut W,
+    bind: B,
+    out: &mut P,
     err: &mut E,
 ) -> Status
 where
     F: Read + Drop,
     O: Fn(&str) -> Option<F> + Drop,
-    W: Write,
+    W: Wires,
+    B: Fn(&mut W, Locator) -> io::Result<()> + Drop,
+    P: Write,
     E: Write,
-    requires { O.IsAlwaysCallable open_file }
+    requires opens { O.IsAlwaysCallable open_file }
+    requires binds { B.IsAlwaysCallable bind }
     ensures bad { result ≡ IsBadWords → CallNone (map string_bytes words.now) }
     ensures answered { (complete : Bool) → result ≡ answer_status complete → HasText
-        (IsAnswer (FnReturnsAt O.Fn open_file) F.remaining (map string_bytes words.now) complete)
-        (W.contents out.old) (W.contents out.new) }
+        (IsAnswer (FnReturnsAt O.Fn open_file) F.remaining
+        (ServesOver (Binds B.Fn bind) W.calls wires.old wires.new) (map string_bytes words.now) complete)
+        (P.contents out.old) (P.contents out.new) }
     ensures refused { result ≡ IsRefused → HasRefused (IsWhyRefused (FnReturnsAt O.Fn open_file) F.remaining
+        (ServesOver (Binds B.Fn bind) W.calls wires.old wires.new)
         (map string_bytes words.now)) (E.contents err.old) (E.contents err.new) }
     // Where a writer failed, it has a front of what it was to have.
     ensures unprinted { result ≡ IsUnprinted → HasPartOf
         (IsAnswer (FnReturnsAt O.Fn open_file) F.remaining
+        (ServesOver (Binds B.Fn bind) W.calls wires.old wires.new)
         (map string_bytes words.now))
         (IsWhyRefused (FnReturnsAt O.Fn open_file) F.remaining
+        (ServesOver (Binds B.Fn bind) W.calls wires.old wires.new)
         (map string_bytes words.now))
-        (W.contents out.old) (W.contents out.new) (E.contents err.old) (E.contents err.new) }
+        (P.contents out.old) (P.contents out.new) (E.contents err.old) (E.contents err.new) }
+    // Only `serve` uses the wires.
+    ensures quiet { CallNoServer (map string_bytes words.now) → wires.new ≡ wires.old }
     ensures streams { StayApart result (out.new ≡ out.old) (err.new ≡ err.old) }
 {
     match read_words(alloc, command_list(), words) {
         Ok(words) => match Command::of(words.command()) {
-            Some(command) => run_command(alloc, command, &words, open_file, out, err),
+            Some(command) => {
+                run_command(alloc, command, &words, open_file, wires, bind, out, err)
+            },
             None => show_usage(err),
         },
         Err(WordsFault::Bad) => show_usage(err),
@@ -61,33 +80,43 @@ where
 }
 
 /// Runs a command: prints its lines, or tells why it refuses.
-fn run_command<F, O, W, E>(
+fn run_command<F, O, W, B, P, E>(
     alloc: Global,
     command: Command,
     words: &Words<'_>,
     open_file: O,
-    out: &mut W,
+    wires: &mut W,
+    bind: B,
+    out: &mut P,
     err: &mut E,
 ) -> Status
 where
     F: Read + Drop,
     O: Fn(&str) -> Option<F> + Drop,
-    W: Write,
+    W: Wires,
+    B: Fn(&mut W, Locator) -> io::Result<()> + Drop,
+    P: Write,
     E: Write,
-    requires { O.IsAlwaysCallable open_file }
+    requires opens { O.IsAlwaysCallable open_file }
+    requires binds { B.IsAlwaysCallable bind }
     ensures fits { result ≢ IsBadWords }
     ensures answered { (complete : Bool) → result ≡ answer_status complete → HasText
-        (IsTextOf (FnReturnsAt O.Fn open_file) F.remaining command (call_of words.now) complete)
-        (W.contents out.old) (W.contents out.new) }
+        (IsTextOf (FnReturnsAt O.Fn open_file) F.remaining
+        (ServesOver (Binds B.Fn bind) W.calls wires.old wires.new) command (call_of words.now) complete)
+        (P.contents out.old) (P.contents out.new) }
     ensures refused { result ≡ IsRefused → HasRefused (IsWhyOf (FnReturnsAt O.Fn open_file) F.remaining
+        (ServesOver (Binds B.Fn bind) W.calls wires.old wires.new)
         command (call_of words.now)) (E.contents err.old) (E.contents err.new) }
     ensures unprinted { result ≡ IsUnprinted → HasPartOf
-        (IsTextOf (FnReturnsAt O.Fn open_file) F.remaining command (call_of words.now))
-        (IsWhyOf (FnReturnsAt O.Fn open_file) F.remaining command (call_of words.now))
-        (W.contents out.old) (W.contents out.new) (E.contents err.old) (E.contents err.new) }
+        (IsTextOf (FnReturnsAt O.Fn open_file) F.remaining
+        (ServesOver (Binds B.Fn bind) W.calls wires.old wires.new) command (call_of words.now))
+        (IsWhyOf (FnReturnsAt O.Fn open_file) F.remaining
+        (ServesOver (Binds B.Fn bind) W.calls wires.old wires.new) command (call_of words.now))
+        (P.contents out.old) (P.contents out.new) (E.contents err.old) (E.contents err.new) }
+    ensures quiet { command ≢ CommandAs.Serve → wires.new ≡ wires.old }
     ensures streams { StayApart result (out.new ≡ out.old) (err.new ≡ err.old) }
 {
-    match lines_of(alloc, command, words, open_file) {
+    match lines_of(alloc, command, words, open_file, wires, bind) {
         Ok(lines) => answer(&lines, out),
         Err(refusal) => refuse(alloc, &refusal, err),
     }

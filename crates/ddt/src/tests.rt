@@ -7,4 +7,5 @@ mod compile_lines;
 mod harness;
 mod lookup_lines;
 mod replays;
+mod serve_lines;
 mod show_lines;

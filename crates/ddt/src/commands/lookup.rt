@@ -81,7 +81,7 @@ fn identifiers<'w>(words: &'w Words<'_>) -> &'w [&'w str]
 }
 
 /// The lines of the lookups of these identifiers, in order, all at the resolver's time. They are complete where each
-/// has an outcome. Refused where a word is no identifier, else for memory alone.
+/// has an outcome. Refused where a word is no identifier, else only if out of memory.
 fn look_up_each(
     alloc: Global,
     servers: &mut Servers,

@@ -17,6 +17,7 @@ ghost use Rattle.ddt.specs.Running.{HasPartOf, HasRefused, HasText, StayApart};
 ghost use Rattle.ddt.specs.Script.{SpellsScript};
 
 use crate::commands::lookup::{first_nonce, own_address};
+use crate::file::bytes_of;
 use crate::lines::Lines;
 use crate::over::register_at;
 use crate::refusal::{Refusal, ScriptRefusal, WordRefusal};
@@ -28,7 +29,7 @@ use ddt_path::Locator;
 use ddt_sim::Step;
 use ddt_words::{Argument, Declaration, Words};
 use std::alloc::Global;
-use std::io::{ErrorKind, Read, Write};
+use std::io::{Read, Write};
 
 pub const WORDS: Declaration<'static> = Declaration {
     name: "replay",
@@ -154,28 +155,16 @@ fn script_at<F: Read + Drop>(
     ensures refused { IfErr result (IsWhyNoScript F.remaining source path.now) }
     ensures closed { source ≡ None → IsErr result }
 {
+    let unread = Refusal::NoScript(ScriptRefusal::CannotOpen(path));
     let Some(file) = source else {
-        return Err(Refusal::NoScript(ScriptRefusal::CannotOpen(path)));
+        return Err(unread);
     };
-    let bytes = bytes_of(alloc, file, path)?;
+    let bytes = bytes_of(alloc, file, unread)?;
     match read_script(alloc, &bytes) {
         Ok(steps) => Ok(steps),
         Err(ScriptFault::Line(number)) => {
             Err(Refusal::NoScript(ScriptRefusal::RefusedLine(number)))
         }
         Err(ScriptFault::Memory) => Err(Refusal::OutOfMemory),
-    }
-}
-
-/// The bytes of an open file at a path, or why they can't be had.
-fn bytes_of<F: Read + Drop>(alloc: Global, mut file: F, path: &str) -> Result<Vec<u8>, Refusal<'_>>
-    ensures read { IfOk result (λ bytes. (all : List ℕ) → F.remaining file ≡ Some all → bytes.items ≡ all) }
-    ensures refused { IfErr result (IsWhyNoScript F.remaining (Some file) path.now) }
-{
-    let mut bytes = Vec::new(alloc);
-    match file.read_to_end(&mut bytes) {
-        Ok(_count) => Ok(bytes),
-        Err(error) if error.kind() == ErrorKind::OutOfMemory => Err(Refusal::OutOfMemory),
-        Err(_) => Err(Refusal::NoScript(ScriptRefusal::CannotOpen(path))),
     }
 }

@@ -52,7 +52,7 @@ fn message_text(alloc: Global, words: &Words<'_>) -> Result<Vec<u8>, Refusal<'st
     }
 }
 
-/// What is refused where a word isn't decoded: want of memory for what it is, and no other fault as that.
+/// What is refused where a word isn't decoded: out of memory if that is why, else a word that isn't hexadecimal.
 fn undecoded(fault: FromHexError) -> Refusal<'static>
     ensures { result ≡ hex_refusal fault }
 {

@@ -3,8 +3,9 @@
 use crate::running::run;
 use crate::status::Status::{BadWords, Refused, Unprinted};
 use crate::telling::USAGE;
-use crate::tests::harness::{process, run_words};
+use crate::tests::harness::{bind_none, process, run_words};
 use ddt_examples::registers::CAMPUS;
+use ddt_wires::WiresInMemory;
 use std::io;
 use std::io::Read;
 use std::test::Fail;
@@ -69,6 +70,8 @@ fn a_file_that_cant_be_read_is_unreadable(rt: HostRuntime) -> Result<(), Fail> {
             alloc,
             &words,
             |_: &str| Some(Unreadable),
+            &mut WiresInMemory::new(alloc, 0),
+            bind_none,
             &mut out,
             &mut err,
         );

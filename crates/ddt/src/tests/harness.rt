@@ -3,8 +3,11 @@
 use crate::running::run;
 use crate::status::Status;
 use ddt_examples::bytes_of;
+use ddt_path::Locator;
+use ddt_wires::WiresInMemory;
 use std::alloc::Global;
-use std::io::Write;
+use std::io;
+use std::io::{ErrorKind, Write};
 use std::process::Abort;
 use std::test::Fail;
 
@@ -22,7 +25,12 @@ pub fn process(alloc: Global, words: &[&str]) -> Result<Vec<String>, Fail> {
     Ok(all)
 }
 
-/// Runs `ddt` with these words where `register.csv` is the only file.
+/// Binds no socket.
+pub fn bind_none(_wires: &mut WiresInMemory, _at: Locator) -> io::Result<()> {
+    Err(io::Error::from(ErrorKind::AddrNotAvailable))
+}
+
+/// Runs `ddt` with these words where `register.csv` is the only file, and no socket can be bound.
 pub fn run_words<W: Write, E: Write>(
     alloc: Global,
     register: &str,
@@ -38,7 +46,8 @@ pub fn run_words<W: Write, E: Write>(
             None
         }
     };
-    Ok(run(alloc, &all, open_file, out, err))
+    let mut wires = WiresInMemory::new(alloc, 0);
+    Ok(run(alloc, &all, open_file, &mut wires, bind_none, out, err))
 }
 
 /// Runs `ddt` with these words, and compares what comes.

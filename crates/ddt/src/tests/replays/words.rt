@@ -4,8 +4,9 @@ use crate::running::run;
 use crate::status::Status;
 use crate::status::Status::{Answered, BadWords, Refused};
 use crate::telling::USAGE;
-use crate::tests::harness::process;
+use crate::tests::harness::{bind_none, process};
 use ddt_examples::registers::LONE_ROOT;
+use ddt_wires::WiresInMemory;
 use std::test::Fail;
 
 /// Two options, the path of the script, and what comes.
@@ -60,7 +61,15 @@ fn options_are_read_before_files_are_opened(rt: HostRuntime) -> Result<(), Fail>
             _ => None,
         };
         let (mut out, mut err) = (Vec::new(alloc), Vec::new(alloc));
-        let ends = run(alloc, &words, open_file, &mut out, &mut err);
+        let ends = run(
+            alloc,
+            &words,
+            open_file,
+            &mut WiresInMemory::new(alloc, 0),
+            bind_none,
+            &mut out,
+            &mut err,
+        );
         assert_eq!(rt; ends, status, "the status of {words:?}");
         assert_eq!(rt; out.as_slice(), lines.as_bytes(), "what {words:?} prints");
         assert_eq!(rt;

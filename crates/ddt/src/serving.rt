@@ -1,0 +1,66 @@
+//! A server of a configuration over wires: its socket, its turns, and the line of its counts.
+
+ghost use Rattle.std.specs.Prelude.{◌≡◌, ◌<◌, IfOk, IfErr};
+ghost use Rattle.std.specs.IoError.{error_kind};
+ghost use Rattle.ddt_config.specs.Entries.{entry_count};
+ghost use Rattle.ddt_config.specs.Table.{outline};
+ghost use Rattle.ddt_lines.specs.Lines.{ended};
+ghost use Rattle.ddt.specs.Serve.{Binds, IsServedText, IsWhyUnserved, ServesOver, bind_refusal, served_text};
+
+use crate::refusal::{Refusal, ServerRefusal};
+use ddt_config::ServerConfig;
+use ddt_node::Server;
+use ddt_path::Locator;
+use ddt_trie::TrieMap;
+use ddt_wires::{Served, Wires, serve_turns};
+use std::alloc::{AllocError, Global};
+use std::io;
+use std::io::ErrorKind;
+
+/// Binds a socket of the wires to the locator, and lets a server of the configuration serve there for so many turns;
+/// the line of its counts. Refused where the socket can't be bound, or if out of memory.
+pub fn serve_at<W, B>(
+    alloc: Global,
+    config: ServerConfig,
+    at: Locator,
+    turns: u32,
+    wires: &mut W,
+    bind: B,
+) -> Result<Vec<u8>, Refusal<'static>>
+where
+    W: Wires,
+    B: Fn(&mut W, Locator) -> io::Result<()> + Drop,
+    requires room { entry_count (outline config) < 1048576 }
+    requires binds { B.IsAlwaysCallable bind }
+    ensures text { IfOk result (λ text. IsServedText (ServesOver (Binds B.Fn bind) W.calls wires.old wires.new)
+        (outline config) at turns text.items) }
+    ensures refused { IfErr result (IsWhyUnserved (ServesOver (Binds B.Fn bind) W.calls wires.old wires.new)
+        (outline config) at turns) }
+{
+    let Ok(server) = Server::<TrieMap<u32>>::build(alloc, config) else {
+        return Err(Refusal::OutOfMemory);
+    };
+    if let Err(error) = bind(wires, at) {
+        return Err(unbound(at, error.kind()));
+    }
+    let served = serve_turns(alloc, wires, &server, at, turns);
+    Ok(served_line(alloc, served)?)
+}
+
+/// What is refused where a socket isn't bound, with an error of this kind.
+fn unbound(at: Locator, kind: ErrorKind) -> Refusal<'static>
+    ensures { result ≡ bind_refusal at kind }
+{
+    match kind {
+        ErrorKind::OutOfMemory => Refusal::OutOfMemory,
+        _ => Refusal::NoServer(ServerRefusal::CannotBind(at)),
+    }
+}
+
+/// `received N replied M`, and a line feed. Fails only if out of memory.
+fn served_line(alloc: Global, served: Served) -> Result<Vec<u8>, AllocError>
+    ensures { IfOk result (λ line. line.items ≡ ended (served_text served)) }
+{
+    let Served { received, replied } = served;
+    Ok(format!(in alloc; "received {received} replied {replied}\n")?.into_bytes())
+}

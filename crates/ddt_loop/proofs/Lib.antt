@@ -1,0 +1,9 @@
+pub mod OwnerLemmas
+pub mod PendingLemmas
+pub mod ActLemmas
+pub mod LoopLemmas
+pub mod CallLemmas
+pub mod KeepLemmas
+pub mod RightLemmas
+pub mod PollLemmas
+pub mod WholeLemmas

@@ -1,0 +1,37 @@
+use Rattle.std.proofs.Common.{[], refl, subst, ap}
+use Rattle.ddt_wires.proofs.TellLemmas.{tells_none}
+use Rattle.ddt_resolver.specs.State.{moved}
+use Rattle.ddt_resolver.specs.Step.{Hear, ToDatagram, hears}
+use Rattle.ddt_resolver.proofs.OrderLemmas.{order_moved}
+use Rattle.ddt_resolver.proofs.ShapeLemmas.{moved_by_step}
+use Rattle.ddt_loop.specs.declared.acting.Next.{Next}
+use Rattle.ddt_loop.specs.Acts.{GoesOn, does, fails}
+use Rattle.ddt_loop.proofs.PendingLemmas.{moved_owners, owners_go_on}
+use Rattle.ddt_loop.proofs.acting.hear.Goals as goal
+
+pub returns-in-Ok-clause-resolves : goal.returns-in-Ok-clause-resolves
+returns-in-Ok-clause-resolves g c =
+    let w = c.go_on.ensures in
+    let goes = λ (next : Next). GoesOn c.args.me c.args.askers.now next w.0 c.go_on.new.askers in (
+      w.0,
+      w.1,
+      does (ToDatagram c.in-Ok.heard) (hears c.args.from c.args.bytes.now c.in-Ok.heard c.in-Ok.ensures.step refl refl)
+          (subst goes c.after_datagram.ensures w.2),
+    )
+
+pub returns-in-Ok-clause-owners : goal.returns-in-Ok-clause-owners
+returns-in-Ok-clause-owners g c =
+    let w = c.go_on.ensures in
+    let s = moved c.args.now c.args.resolver.now in
+    let call = Hear c.args.from c.args.bytes.now in
+    let reply = ToDatagram c.in-Ok.heard in
+    let goes = λ (next : Next). GoesOn c.args.me c.args.askers.now next w.0 c.go_on.new.askers in
+    let order = order_moved c.args.resolver.now c.args.now c.millis-millis.ensures.bound c.in_order.ensures in
+    let move = moved_by_step s order call c.datagram.new.self reply
+    (hears c.args.from c.args.bytes.now c.in-Ok.heard c.in-Ok.ensures.step refl refl) in
+    owners_go_on s order call c.datagram.new.self reply move.move c.args.me c.args.askers.now w.0 c.go_on.new.askers
+    (moved_owners c.args.resolver.now c.args.now c.args.askers.now.owners c.requires) (subst goes c.after_datagram.ensures w.2)
+
+pub returns-in-Err-clause-resolves : goal.returns-in-Err-clause-resolves
+returns-in-Err-clause-resolves g c =
+    ([], tells_none (g.W.Wires.calls c.args.wires.now), fails c.in-Err.ensures.wanted c.in-Err.ensures.unchanged refl refl)

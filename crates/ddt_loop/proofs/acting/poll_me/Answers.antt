@@ -1,0 +1,35 @@
+use Rattle.std.proofs.Common.{◌≡◌, ℕ, [], ◌∷◌, length, take, subst, arith, refl, Ok, Err, Some, None}
+use Rattle.ddt_wires.specs.declared.call.Call.TheVariants.{Received}
+use Rattle.ddt_wires.specs.Calls.{Tells}
+use Rattle.ddt_wires.specs.Turns.{most_bytes}
+use Rattle.ddt_wires.proofs.TellLemmas.{tells_both}
+use Rattle.ddt_loop.specs.Polls.{polled, no_packet, failed, came}
+use Rattle.ddt_loop.proofs.acting.poll_me.Goals as goal
+
+pub returns-in-Ok-Some-clause-polls : goal.returns-in-Ok-Some-clause-polls
+returns-in-Ok-Some-clause-polls g c =
+    let w = c.take.ensures.taken in
+    let bytes = take c.in-Ok-Some.packet.len c.receive.new.buffer in
+    let room : length c.receive.new.buffer ≡ most_bytes = omega (arith, c.receive.auto.buffer, c.requires.buffer) in
+    let first = polled c.args.me (Ok (Some c.in-Ok-Some.packet)) bytes in
+    let told = λ (n : ℕ). Tells (g.W.Wires.calls c.args.wires.now)
+    (Received c.args.me n (Ok (Some c.in-Ok-Some.packet)) bytes ∷ []) (g.W.Wires.calls c.receive.new.self) in (
+      first ∷ w.0,
+      tells_both (g.W.Wires.calls c.args.wires.now) (first ∷ []) (g.W.Wires.calls c.receive.new.self) w.0
+          (g.W.Wires.calls c.take.new.wires) (subst told room (rw c.in-Ok-Some.field-0-is at c.in-Ok-Some.ensures.told)) w.1,
+      came c.in-Ok-Some.packet bytes w.0 w.2 refl,
+    )
+
+pub returns-in-Ok-None-clause-polls : goal.returns-in-Ok-None-clause-polls
+returns-in-Ok-None-clause-polls g c =
+    let room : length c.receive.new.buffer ≡ most_bytes = omega (arith, c.receive.auto.buffer, c.requires.buffer) in
+    let told = λ (n : ℕ). Tells (g.W.Wires.calls c.args.wires.now) (Received c.args.me n (Ok None) [] ∷ [])
+    (g.W.Wires.calls c.receive.new.self) in
+    (polled c.args.me (Ok None) [] ∷ [], subst told room (rw c.in-Ok-None.field-0-is at c.in-Ok-None.ensures.told), no_packet refl refl)
+
+pub returns-in-Err-clause-polls : goal.returns-in-Err-clause-polls
+returns-in-Err-clause-polls g c =
+    let room : length c.receive.new.buffer ≡ most_bytes = omega (arith, c.receive.auto.buffer, c.requires.buffer) in
+    let told = λ (n : ℕ). Tells (g.W.Wires.calls c.args.wires.now) (Received c.args.me n (Err c.in-Err._fault) [] ∷ [])
+    (g.W.Wires.calls c.receive.new.self) in
+    (polled c.args.me (Err c.in-Err._fault) [] ∷ [], subst told room c.in-Err.ensures.told, failed c.in-Err._fault refl refl)

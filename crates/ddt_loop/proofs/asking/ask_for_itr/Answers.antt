@@ -1,0 +1,18 @@
+use Rattle.std.proofs.Common.{[], ◌++◌, append-nil, refl, sym, Ok, Some, None}
+use Rattle.ddt_wires.proofs.TellLemmas.{tells_both}
+use Rattle.ddt_loop.proofs.asking.ask_for_itr.Goals as goal
+
+pub returns-in-Ok-Some-clause-asks : goal.returns-in-Ok-Some-clause-asks
+returns-in-Ok-Some-clause-asks g c =
+    let w = rw c.in-Ok-Some.field-0-is at c.in-Ok-Some.ensures.asks in
+    let t = c.reply_to_itr.ensures in (
+      w.0 ++ t.0,
+      tells_both (g.W.Wires.calls c.args.wires.now) w.0 (g.W.Wires.calls c.ask-answer.new.wires) t.0
+          (g.W.Wires.calls c.reply_to_itr.new.wires) w.1 t.1,
+      record { answer = Ok (Some c.in-Ok-Some.outcome); asking = w.0; telling = t.0; asks = w.2; tells = t.2; calls_are = refl },
+    )
+
+pub returns-in-Ok-None-clause-asks : goal.returns-in-Ok-None-clause-asks
+returns-in-Ok-None-clause-asks g c =
+    let w = rw c.in-Ok-None.field-0-is at c.in-Ok-None.ensures.asks in
+    (w.0, w.1, record { answer = Ok None; asking = w.0; telling = []; asks = w.2; tells = refl; calls_are = sym (append-nil w.0) })

@@ -1,0 +1,160 @@
+-- What an ask, a datagram and a tick do: the resolver's step, what is tried over the wires, and who is told (RFC 8111,
+-- section 7.3).
+use Rattle.std.specs.Prelude.{ℕ, ◌≡◌, ◌⊎◌, ◌<◌, List, [], ◌∷◌, ◌++◌, length, Option, Some, None, Result, Ok, Err}
+use Rattle.ddt_path.specs.declared.locator.Locator.{Locator}
+use Rattle.ddt_path.specs.declared.record.Outcome.{Outcome}
+use Rattle.ddt_path.specs.declared.xeid.Xeid.{Xeid}
+use Rattle.ddt_wires.specs.declared.call.Call.{Call}
+use Rattle.ddt_wires.specs.Turns.{Outgoing, AreTried}
+use Rattle.ddt_resolver.specs.declared.answers.Outgoing.{Outgoing as Sending}
+use Rattle.ddt_resolver.specs.declared.answers.Asked.{Asked}
+use Rattle.ddt_resolver.specs.declared.answers.Asked.TheVariants as asked_as
+use Rattle.ddt_resolver.specs.declared.answers.AskError.{AskError}
+use Rattle.ddt_resolver.specs.declared.answers.AskError.TheVariants.{Memory}
+use Rattle.ddt_resolver.specs.declared.answers.Heard.{Heard}
+use Rattle.ddt_resolver.specs.declared.answers.Heard.TheVariants as heard_as
+use Rattle.ddt_resolver.specs.declared.answers.Ticked.{Ticked}
+use Rattle.ddt_resolver.specs.declared.answers.Ticked.TheVariants as ticked_as
+use Rattle.ddt_resolver.specs.declared.answers.Why.{Why}
+use Rattle.ddt_resolver.specs.declared.front.ItrRequest.{ItrRequest}
+use Rattle.ddt_resolver.specs.Front.{reply_to_itr}
+use Rattle.ddt_resolver.specs.State.{State, moved, most_pending}
+use Rattle.ddt_resolver.specs.Step as resolver
+use Rattle.ddt_resolver.specs.Step.{Ask, Reply, ToAsk, ToDatagram, ToTick, Step, Wants}
+use Rattle.ddt_loop.specs.declared.acting.Next.{Next}
+use Rattle.ddt_loop.specs.declared.acting.Next.TheVariants.{Nothing, Request, End}
+use Rattle.ddt_loop.specs.declared.owner.Asker.{Asker}
+use Rattle.ddt_loop.specs.declared.owner.Asker.TheVariants.{Identifier, Itr}
+use Rattle.ddt_loop.specs.declared.owner.Owner.{Owner}
+use Rattle.ddt_loop.specs.Askers.{Desk, with_owner, with_end, end_of, end_of_ask, Takes}
+
+-- a resolver, and who waits for its lookups
+pub record Running : Type 0 where
+  pub state : State
+  pub desk : Desk
+
+abbrev pub running : State → Desk → Running
+running s d = record { state = s; desk = d }
+
+-- ---- what is tried from the resolver's socket
+
+-- a datagram of the resolver, as wires send it
+abbrev pub sent : Sending → Outgoing
+sent d = record { to = d.to; port = d.port; bytes = d.bytes }
+
+abbrev pub IsSent : Locator → Sending → List Call → Type 0
+IsSent me d calls = AreTried me (sent d ∷ []) calls
+
+-- the negative Map-Reply to an ITR, where there is one
+abbrev pub sent_if : Option Sending → List Outgoing
+sent_if (Some d) = sent d ∷ []
+sent_if None = []
+
+-- it is tried, or lost if out of memory
+abbrev pub IsToldItr : Locator → Outcome → ItrRequest → List Call → Type 0
+IsToldItr me o q calls = AreTried me (sent_if (reply_to_itr o q)) calls ⊎ (calls ≡ [])
+
+-- ---- an ask
+
+-- an outcome that is remembered
+abbrev pub remembered : Asked → Option Outcome
+remembered (asked_as.Answer o) = Some o
+remembered (asked_as.Sent t d) = None
+
+-- nothing more where the outcome is remembered; else the first request is tried, and whoever asked waits
+abbrev pub Starts : Locator → Asker → Desk → Asked → List Call → Desk → Type 0
+Starts me who d (asked_as.Answer o) calls new = (calls ≡ []) × (new ≡ d)
+Starts me who d (asked_as.Sent t e) calls new = IsSent me e calls × (new ≡ with_owner d t who)
+
+-- there is room for one more who waits
+abbrev pub HasRoomFor : Asked → Desk → Type 0
+HasRoomFor (asked_as.Answer o) d = Unit {0}
+HasRoomFor (asked_as.Sent t e) d = length d.owners < most_pending
+
+-- Somebody asks for x at a moment. `answered`: the outcome is remembered, or a lookup starts. `refused`: too many are
+-- pending, or no nonce is left. `lacks_memory`: a lookup would start, but it is out of
+-- memory.
+pub data Asks (me : Locator) (now : ℕ) (x : Xeid) (who : Asker) (w : Running)
+    (answer : Result (Option Outcome) AskError) (calls : List Call) (new : Running) : Type 0 where
+  answered : (a : Asked) → Step (moved now w.state) (Ask x) new.state (ToAsk (Ok a))
+      → Starts me who w.desk a calls new.desk → answer ≡ Ok (remembered a) → Asks me now x who w answer calls new
+  refused : (why : AskError) → Step (moved now w.state) (Ask x) new.state (ToAsk (Err why)) → new.desk ≡ w.desk
+      → calls ≡ [] → answer ≡ Err why → Asks me now x who w answer calls new
+  lacks_memory : Wants (moved now w.state) (Ask x) → new.state ≡ moved now w.state → new.desk ≡ w.desk → calls ≡ []
+      → answer ≡ Err Memory → Asks me now x who w answer calls new
+
+-- the identifier at a place is asked for, and has its end if there is one at once
+pub record AsksAt (me : Locator) (now : ℕ) (place : ℕ) (x : Xeid) (w : Running) (calls : List Call) (new : Running) :
+    Type 0 where
+  pub answer : Result (Option Outcome) AskError
+  pub midway : Running
+  pub asks : Asks me now x (Identifier place) w answer calls midway
+  pub ends : new ≡ record midway { desk = with_end midway.desk place (end_of_ask answer) }
+
+-- an ITR is told at once what is remembered
+abbrev pub IsToldAtOnce : Locator → Result (Option Outcome) AskError → ItrRequest → List Call → Type 0
+IsToldAtOnce me (Ok (Some o)) q calls = IsToldItr me o q calls
+IsToldAtOnce me (Ok None) q calls = calls ≡ []
+IsToldAtOnce me (Err why) q calls = calls ≡ []
+
+-- what an ITR asks is asked for; a refused ask drops its request
+pub record AsksForItr (me : Locator) (now : ℕ) (q : ItrRequest) (w : Running) (calls : List Call) (new : Running) :
+    Type 0 where
+  pub answer : Result (Option Outcome) AskError
+  pub asking : List Call
+  pub telling : List Call
+  pub asks : Asks me now q.xeid (Itr q) w answer asking new
+  pub tells : IsToldAtOnce me answer q telling
+  pub calls_are : calls ≡ asking ++ telling
+
+-- ---- a datagram and a tick
+
+-- what a datagram, or a tick, makes of a lookup
+abbrev pub after_heard : Heard → Next
+after_heard (heard_as.Ignored why) = Nothing
+after_heard (heard_as.Followed t d) = Request d
+after_heard (heard_as.Answer t o) = End t (Ok o)
+after_heard (heard_as.GaveUp t why) = End t (Err why)
+
+abbrev pub after_ticked : Ticked → Next
+after_ticked ticked_as.Nothing = Nothing
+after_ticked (ticked_as.Sent t d) = Request d
+after_ticked (ticked_as.Answer t o) = End t (Ok o)
+after_ticked (ticked_as.GaveUp t why) = End t (Err why)
+
+-- an ask's answer is none of these
+abbrev pub next_of : Reply → Next
+next_of (ToAsk a) = Nothing
+next_of (ToDatagram h) = after_heard h
+next_of (ToTick t) = after_ticked t
+
+-- Who waited for a lookup that has ended is told: an identifier has its end, and an ITR is sent the negative Map-Reply
+-- to an outcome, if there is one.
+abbrev pub IsTold : Locator → Result Outcome Why → Option Asker → Desk → List Call → Desk → Type 0
+IsTold me end None d calls new = (calls ≡ []) × (new ≡ d)
+IsTold me end (Some (Identifier place)) d calls new = (calls ≡ []) × (new ≡ with_end d place (end_of end))
+IsTold me (Ok o) (Some (Itr q)) d calls new = IsToldItr me o q calls × (new ≡ d)
+IsTold me (Err why) (Some (Itr q)) d calls new = (calls ≡ []) × (new ≡ d)
+
+-- whoever waits for a lookup that has ended is taken off the list and told
+pub record Settles (me : Locator) (t : ℕ) (end : Result Outcome Why) (d : Desk) (calls : List Call) (new : Desk) : Type
+    0 where
+  pub rest : List Owner
+  pub taken : Option Asker
+  pub takes : Takes t d.owners rest taken
+  pub told : IsTold me end taken (record d { owners = rest }) calls new
+
+-- a lookup goes on, and its request is tried, or it ends
+abbrev pub GoesOn : Locator → Desk → Next → List Call → Desk → Type 0
+GoesOn me d Nothing calls new = (calls ≡ []) × (new ≡ d)
+GoesOn me d (Request e) calls new = IsSent me e calls × (new ≡ d)
+GoesOn me d (End t end) calls new = Settles me t end d calls new
+
+-- The resolver hears a datagram, or ticks, at a moment. `fails`: a request would be sent or a record saved, and
+-- memory ran out; nothing changes but the time.
+pub data Resolves (me : Locator) (now : ℕ) (call : resolver.Call) (w : Running) (calls : List Call) (new : Running) :
+    Type 0 where
+  does : (reply : Reply) → Step (moved now w.state) call new.state reply
+      → GoesOn me w.desk (next_of reply) calls new.desk → Resolves me now call w calls new
+  fails : Wants (moved now w.state) call → new.state ≡ moved now w.state → new.desk ≡ w.desk → calls ≡ []
+      → Resolves me now call w calls new

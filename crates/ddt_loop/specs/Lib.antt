@@ -1,0 +1,6 @@
+pub mod Readings
+pub mod Askers
+pub mod Acts
+pub mod Polls
+pub mod Turns
+pub mod Right

@@ -1,0 +1,101 @@
+//! Who waits for which lookup, and what the identifiers' lookups have ended in so far.
+
+ghost use Rattle.std.specs.Prelude.{◌≡◌, ◌<◌, ◌==◌, length, position, IfOk};
+ghost use Rattle.ddt_resolver.specs.State.{most_pending};
+ghost use Rattle.ddt_loop.specs.Askers.{opening_desk, with_owner, with_end, has_unresolved, Takes};
+
+use crate::ends::{LoopEnd, is_open, unresolved};
+use crate::owner::{Asker, Owner};
+use ddt_path::Xeid;
+use ddt_resolver::{MOST_PENDING, Ticket};
+use std::alloc::{AllocError, Global};
+use std::marker::Model;
+
+/// All who wait for a lookup, and the ends of the identifiers' lookups, in the order of the identifiers.
+#[derive(Drop)]
+pub(crate) struct Askers {
+    owners: Vec<Owner>,
+    ends: Vec<LoopEnd>,
+}
+
+impl Model for Askers {
+    ghost use Rattle.std.specs.Prelude.{◌≤◌, vec_capacity};
+    ghost use Rattle.ddt_loop.specs.contracts.owner.Owner as owner;
+    ghost use Rattle.ddt_loop.specs.contracts.ends.LoopEnd as loop_end;
+    ghost use Rattle.ddt_loop.specs.Askers.{Desk, desk_code};
+
+    ghost Value = { Desk };
+
+    ghost coded = { desk_code owner.the_row.coded loop_end.the_row.coded };
+
+    ghost view = { λ a. record { owners = a.owners.items; ends = a.ends.items } };
+
+    ghost invariant = { λ a. 1024 ≤ vec_capacity a.owners };
+}
+
+impl Askers {
+    /// Nobody waits, and each of the identifiers is unresolved. There is room for as many who wait as lookups can be
+    /// pending. Fails only if out of memory.
+    pub(crate) fn new(alloc: Global, ids: &[Xeid]) -> Result<Askers, AllocError>
+        ensures { IfOk result (λ askers. askers ≡ opening_desk ids.now) }
+    {
+        let owners = Vec::with_capacity(alloc, MOST_PENDING)?;
+        match unresolved(alloc, ids) {
+            Ok(ends) => Ok(Askers { owners, ends }),
+            Err(refused) => Err(refused),
+        }
+    }
+
+    /// Somebody waits for the end of a lookup. It allocates nothing: there is room.
+    pub(crate) fn add(&mut self, ticket: Ticket, asker: Asker)
+        requires { length self.old.owners < most_pending }
+        ensures { self.new ≡ with_owner self.old ticket asker }
+    {
+        let ticket = ticket.number();
+        let added: Result<_, _> = self.owners.push(Owner { ticket, asker });
+        added.unwrap();
+    }
+
+    /// Who waits for the end of a lookup, and does so no longer; None where nobody does.
+    pub(crate) fn take(&mut self, ticket: Ticket) -> Option<Asker>
+        ensures takes { Takes ticket self.old.owners self.new.owners result }
+        ensures ends { self.new.ends ≡ self.old.ends }
+    {
+        let place = place_of(self.owners.as_slice(), ticket.number())?;
+        Some(self.owners.remove(place).asker)
+    }
+
+    /// The lookup of the identifier at this place has ended so.
+    pub(crate) fn end(&mut self, place: usize, end: LoopEnd)
+        ensures { self.new ≡ with_end self.old place end }
+    {
+        if place < self.ends.len() {
+            self.ends[place] = end;
+        }
+    }
+
+    /// Whether the lookup of an identifier hasn't ended.
+    pub(crate) fn have_unresolved(&self) -> bool
+        ensures { result ≡ has_unresolved self.now.ends }
+    {
+        self.ends.as_slice().iter().any(|end| is_open(*end))
+    }
+
+    /// The ends, in the order of the identifiers.
+    pub(crate) fn into_ends(self) -> Vec<LoopEnd>
+        ensures { result.items ≡ self.ends }
+    {
+        let Askers {
+            owners: _owners,
+            ends,
+        } = self;
+        ends
+    }
+}
+
+/// The place of the first who waits for the lookup of a ticket.
+fn place_of(owners: &[Owner], ticket: u64) -> Option<usize>
+    ensures { result ≡ position (λ o. o.ticket == ticket) owners.now }
+{
+    owners.iter().position(|o| o.ticket == ticket)
+}

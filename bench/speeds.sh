@@ -1,0 +1,59 @@
+#!/usr/bin/env bash
+# Prints what servers, prefix maps and a resolver take over full registers of make_register.py: bench/speeds.sh
+#
+# It proves and builds the program of bench/speeds in a copy of the repository, which takes as long as the first build
+# of the repository. Then it prints, for each shape (nested, flat, groups, sites):
+#   servers   the time of compiling all configurations of 65,535 rows, and of compiling them and building all servers
+#   handle    of each server with more than 30,000 children or sites: how many DDT Map-Requests `Server::handle`
+#             answered, for identifiers of the register drawn by lot, in how long, and the time of each; no sockets
+#   list/trie for 1,000, 8,000 and 65,535 rows: the time of inserting the prefixes of all zones but * and of all sites
+#             into a ListMap or a TrieMap, of each call of `longest` for identifiers of the register, and of `free` from
+#             everything downwards for these and for identifiers of other instances; and the largest resident size of
+#             the process, with the register in it
+#   resolver  with 1,024 lookups pending: the time of a `tick` with nothing to do, of a `datagram` that belongs to no
+#             lookup, and of one that refers a lookup to the next server
+#   ordinary  the largest resident size with a map of 65,532 prefixes of one instance, or of 256 instances
+# Times are of one run each, by the clock: run it where nothing else runs. Wants python3.
+set -eu
+top=$(cd -- "$(dirname -- "${BASH_SOURCE[0]}")/.." && pwd)
+copy=$(mktemp -d)
+trap 'rm -rf -- "$copy"' EXIT
+tar -C "$top" --exclude=out -cf - crates.txt HANDLES crates | tar -C "$copy" -xf -
+mkdir -p -- "$copy/crates/speeds/src"
+cp -- "$top/bench/speeds/main.rt.in" "$copy/crates/speeds/src/main.rt"
+libraries=$(sed -n 's/^\(ddt_[a-z]*\):.*/\1/p' "$top/crates.txt" | tr '\n' ' ')
+echo "speeds: $libraries" >>"$copy/crates.txt"
+register() {
+    python3 "$top/bench/make_register.py" "$1" "$2" >"$copy/$1.$2.csv"
+    echo "$copy/$1.$2.csv"
+}
+# Everything is proved here; without a register the program ends with status 1.
+(cd -- "$copy/crates/speeds" && rt run >&2) || [ -x "$copy/crates/speeds/out/speeds" ]
+
+# largest WORD..: runs the words and prints their largest resident size behind what they print.
+largest() {
+    python3 -c 'import resource, subprocess, sys
+status = subprocess.run(sys.argv[1:]).returncode
+print("resident:", resource.getrusage(resource.RUSAGE_CHILDREN).ru_maxrss // 1024, "MB", flush=True)
+sys.exit(status)' "$@"
+}
+
+speeds=$copy/crates/speeds/out/speeds
+for shape in nested flat groups sites; do
+    full=$(register "$shape" 65535)
+    for what in servers handle resolver; do
+        echo "== $shape 65535 $what"
+        "$speeds" "$what" "$full"
+    done
+    for rows in 1000 8000 65535; do
+        for map in list trie; do
+            echo "== $shape $rows $map"
+            largest "$speeds" "$map" "$(register "$shape" "$rows")"
+        done
+    done
+done
+for instances in 1 256; do
+    echo "== ordinary $instances"
+    python3 "$top/bench/speeds/ordinary.py" "$instances" >"$copy/ordinary.csv"
+    largest "$speeds" trie "$copy/ordinary.csv"
+done

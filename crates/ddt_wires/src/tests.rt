@@ -9,6 +9,7 @@ use ddt_trie::ListMap;
 use std::alloc::Global;
 use std::process::Abort;
 use std::test::Fail;
+use std::time::{Clock, Instant};
 
 type ListServer = Server<ListMap<u32>>;
 
@@ -181,6 +182,10 @@ const UDP_ALONE: Locator = Locator::V4(0x7f4d_0102);
 
 const UDP_RESOLVER: Locator = Locator::V4(0x7f4d_0035);
 
+const UDP_ONE: Locator = Locator::V4(0x7f4d_0103);
+
+const UDP_OTHER: Locator = Locator::V4(0x7f4d_0104);
+
 fn is_from(packet: Option<Packet>, from: Locator) -> bool {
     match packet {
         Some(packet) => packet.from == from && packet.port == CONTROL_PORT,
@@ -247,6 +252,36 @@ fn a_datagram_that_may_be_cut_is_lost_alone(rt: HostRuntime) -> Result<(), Fail>
     assert_eq!(rt; came(&mut wires, &[1; 8]), Err(NetFault::Receive));
     assert_eq!(rt; came(&mut wires, &[1; 7]), Ok(Some(7)));
     assert_eq!(rt; came(&mut wires, &[]), Ok(Some(0)));
+    Ok(())
+}
+
+/// How long a call of `receive` takes that gives no packet, in milliseconds.
+fn waited(
+    rt: &(impl Abort + Clock),
+    wires: &mut UdpWires,
+    at: Locator,
+) -> Result<u128, Fail> {
+    let start = Instant::now(rt)?;
+    let mut buffer = [0; 8];
+    assert!(rt; wires.receive(at, &mut buffer)?.is_none());
+    Ok(start.elapsed(rt)?.as_millis())
+}
+
+#[test]
+fn a_poll_waits_only_behind_one_in_vain_at_each_other_socket(rt: HostRuntime) -> Result<(), Fail> {
+    let mut wires = UdpWires::new(rt.alloc());
+    wires.bind(&rt, UDP_ONE)?;
+    wires.bind(&rt, UDP_OTHER)?;
+    let mut was_quick = false;
+    for _ in 0..20 {
+        wires.send(UDP_ONE, UDP_ONE, CONTROL_PORT, &[])?;
+        let mut buffer = [0; 8];
+        assert!(rt; wires.receive(UDP_ONE, &mut buffer)?.is_some());
+        was_quick |= waited(&rt, &mut wires, UDP_ONE)? < 4;
+        assert!(rt; waited(&rt, &mut wires, UDP_OTHER)? >= 4);
+        assert!(rt; waited(&rt, &mut wires, UDP_ONE)? >= 4);
+    }
+    assert!(rt; was_quick);
     Ok(())
 }
 

@@ -1,5 +1,7 @@
 //! Wires over the UDP sockets of the system.
 
+ghost use Rattle.std.specs.Prelude.{◌≤◌, length, IfOk, IfSome};
+
 use crate::call::{NetFault, Packet};
 use crate::wires::{CONTROL_PORT, Wires};
 use ddt_path::Locator;
@@ -17,12 +19,40 @@ const WAIT: u64 = 5;
 struct Bound {
     at: Locator,
     socket: UdpSocket,
+    /// Whether a call waits at it for a datagram.
+    waits: bool,
+}
+
+impl Bound {
+    /// A datagram that is there; with `waits`, also one that comes within 5 milliseconds.
+    fn receive(&mut self, waits: bool, buffer: &mut [u8]) -> Result<Option<Packet>, NetFault>
+        ensures fits { IfOk result (λ answer. IfSome answer (λ packet. packet.len ≤ length buffer.new)) }
+    {
+        if self.waits != waits {
+            if self.socket.set_nonblocking(!waits).is_err() {
+                return Err(NetFault::Receive);
+            }
+            self.waits = waits;
+        }
+        match self.socket.recv_from(buffer) {
+            Ok((len, source)) if len < buffer.len() => Ok(Some(Packet {
+                from: locator_of(source.ip()),
+                port: source.port(),
+                len,
+            })),
+            Err(error) if error.kind() == ErrorKind::WouldBlock => Ok(None),
+            Ok(_) | Err(_) => Err(NetFault::Receive),
+        }
+    }
 }
 
 /// Wires over UDP sockets at port 4342, which don't tell their calls.
 ///
 /// What the system does is trusted, and no contract says it: that `receive` gives what came to the socket, and that
-/// what `send` takes goes out. `receive` waits for up to 5 milliseconds. An empty datagram is a packet without bytes.
+/// what `send` takes goes out. `receive` waits for up to 5 milliseconds where the calls before it leave nothing else to
+/// do: since the last packet and the last `send`, as many calls of `receive` as there are other sockets gave no packet.
+/// Else it takes what is there. A `send` from a socket at which the last `receive` didn't wait doesn't wait for room
+/// either: without room it is refused. An empty datagram is a packet without bytes.
 ///
 /// A datagram that fills the whole buffer is refused as 1 Receive, since its end may be cut off, and so is one whose
 /// source isn't an address and a port; that datagram alone is lost. A locator that no socket is bound to is refused as
@@ -30,6 +60,8 @@ struct Bound {
 #[derive(Drop)]
 pub struct UdpWires {
     sockets: Vec<Bound>,
+    /// How many calls of `receive` gave no packet since the last packet, the last `send` and the last `bind`.
+    in_vain: usize,
 }
 
 impl UdpWires {
@@ -37,6 +69,7 @@ impl UdpWires {
     pub fn new(alloc: Global) -> UdpWires {
         UdpWires {
             sockets: Vec::new(alloc),
+            in_vain: 0,
         }
     }
 
@@ -44,8 +77,25 @@ impl UdpWires {
     pub fn bind<N: Net>(&mut self, net: &N, at: Locator) -> io::Result<()> {
         let socket = UdpSocket::bind(net, SocketAddr::new(ip_of(at), CONTROL_PORT))?;
         socket.set_read_timeout(Some(Duration::from_millis(WAIT)))?;
-        self.sockets.push(Bound { at, socket })?;
+        self.sockets.push(Bound {
+            at,
+            socket,
+            waits: true,
+        })?;
+        self.in_vain = 0;
         Ok(())
+    }
+
+    /// What comes to the socket at a locator.
+    fn receive_at(&mut self, at: Locator, buffer: &mut [u8]) -> Result<Option<Packet>, NetFault>
+        ensures fits { IfOk result (λ answer. IfSome answer (λ packet. packet.len ≤ length buffer.new)) }
+    {
+        // As many polls as there are other sockets were in vain.
+        let waits = self.in_vain >= self.sockets.len().saturating_sub(1);
+        match self.sockets.as_slice().iter().position(|b| b.at == at) {
+            Some(place) => self.sockets[place].receive(waits, buffer),
+            None => Err(NetFault::Receive),
+        }
     }
 
     fn socket(&self, at: Locator) -> Option<&UdpSocket> {
@@ -70,21 +120,16 @@ fn locator_of(ip: IpAddr) -> Locator {
 
 impl Wires for UdpWires {
     fn receive(&mut self, at: Locator, buffer: &mut [u8]) -> Result<Option<Packet>, NetFault> {
-        let Some(socket) = self.socket(at) else {
-            return Err(NetFault::Receive);
+        let answer = self.receive_at(at, buffer);
+        self.in_vain = match answer {
+            Ok(Some(_packet)) => 0,
+            Ok(None) | Err(_) => self.in_vain.saturating_add(1),
         };
-        match socket.recv_from(buffer) {
-            Ok((len, source)) if len < buffer.len() => Ok(Some(Packet {
-                from: locator_of(source.ip()),
-                port: source.port(),
-                len,
-            })),
-            Err(error) if error.kind() == ErrorKind::WouldBlock => Ok(None),
-            Ok(_) | Err(_) => Err(NetFault::Receive),
-        }
+        answer
     }
 
     fn send(&mut self, at: Locator, to: Locator, port: u16, bytes: &[u8]) -> Result<(), NetFault> {
+        self.in_vain = 0;
         let Some(socket) = self.socket(at) else {
             return Err(NetFault::Send);
         };

@@ -1,8 +1,10 @@
 pub mod ConfigLemmas
 pub mod LookupLemmas
+pub mod LoopLemmas
 pub mod NumberLemmas
 pub mod OverLemmas
 pub mod ReplayLemmas
 pub mod RunLemmas
 pub mod ScriptLemmas
 pub mod ServeLemmas
+pub mod SocketLemmas

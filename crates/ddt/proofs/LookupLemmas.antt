@@ -4,7 +4,9 @@ use Rattle.std.specs.Prelude.{◌&&◌}
 use Rattle.std.specs.List.{All, flat_map}
 use Rattle.std.specs.declared.alloc.AllocError.{AllocError}
 use Rattle.std.proofs.Math.Numerals.{suc-eq-add-one}
-use Rattle.std.proofs.lemmas.List.{get_or-map, length-map, take_all, take_more}
+use Rattle.std.specs.FinMap.{get, get-empty}
+use Rattle.std.specs.Ordering.{nat_cmp}
+use Rattle.std.proofs.lemmas.List.{get_or-map, length-map, map_push, take_all, take_more}
 use Rattle.ddt_path.specs.declared.locator.Locator.{Locator}
 use Rattle.ddt_path.specs.declared.xeid.Xeid.{Xeid}
 use Rattle.ddt_path.specs.declared.record.Outcome.{Outcome}
@@ -12,6 +14,7 @@ use Rattle.ddt_path.specs.Path.{xeid_path}
 use Rattle.ddt_text.specs.FirstFault.{xeid_in}
 use Rattle.ddt_register.specs.declared.register.Register.{Register}
 use Rattle.ddt_check.specs.Assignment.{assignment}
+use Rattle.ddt_check.specs.Rules.{IsAccepted}
 use Rattle.ddt_check.specs.Says.{says}
 use Rattle.ddt_check.specs.Zones.{roots}
 use Rattle.ddt_wire.specs.Laws.{MessagesAreRead}
@@ -23,6 +26,7 @@ use Rattle.ddt_sim.specs.declared.hop.LookupError.{LookupError}
 use Rattle.ddt_sim.specs.declared.hop.LookupError.TheVariants.{GaveUp, TooMany}
 use Rattle.ddt_sim.specs.Headline.{IsHonestHop, IsRightError}
 use Rattle.ddt_sim.specs.Lookup.{Fails, HasOutcome}
+use Rattle.ddt_sim.specs.Schedules.{StartsSound}
 use Rattle.ddt_sim.specs.Sound.{IsSound, NewResolversAreSound}
 use Rattle.ddt_lines.specs.Lines.{ended, hop_text, outcome_text}
 use Rattle.ddt.specs.declared.lines.Lines.{Lines}
@@ -124,6 +128,17 @@ told_more r now start words i d x complete found text lines new before after lt 
     (subst (λ (t : List ℕ). AreTold r now start (take i (texts words) ++ (get_or words i d).now ∷ []) (complete && found) t after) (sym is)
     (more (get_or words i d).now x found lines after told good one))
 
+-- the identifiers of the words so far
+pub spelled_more : (words : List (Bor (List ℕ))) (i : ℕ) (d : Bor (List ℕ)) (x : Xeid) (ids new : List Xeid) → i < length words → map xeid_in (take i (texts words)) ≡ map Ok ids
+    → xeid_in (get_or words i d).now ≡ Ok x → new ≡ ids ++ x ∷ [] → map xeid_in (take (i + 1) (texts words)) ≡ map Ok new
+spelled_more words i d x ids new lt so_far good is =
+    ap (map xeid_in) (sym (one_more words i d lt)) ∙ map_push xeid_in (take i (texts words)) (get_or words i d).now ∙ (λ k. so_far k ++ good k ∷ [])
+    ∙ sym (map_push Ok ids x) ∙ ap (map Ok) (sym is)
+
+pub spelled_all : (words : List (Bor (List ℕ))) (i : ℕ) (ids : List Xeid) → length words ≤ i → map xeid_in (take i (texts words)) ≡ map Ok ids → map xeid_in (texts words) ≡ map Ok ids
+spelled_all words i ids all so_far =
+    ap (map xeid_in) (sym (take_all i (texts words) (rw (length-map words (λ (t : Bor (List ℕ)). t.now)) all))) ∙ so_far
+
 pub told_all : (r : Register) (now time : ℕ) (start : State) (words : List (Bor (List ℕ))) (i : ℕ) (complete : Bool) (text : List ℕ) (after : State) → now ≡ time → length words ≤ i
     → AreTold r now start (take i (texts words)) complete text after → AreTold r time start (texts words) complete text after
 told_all r now time start words i complete text after is all told =
@@ -148,6 +163,15 @@ told_text call r me_ seed found start words (Err why) asks at_root new same told
 pub sound_start : NewResolversAreSound → (r : Register) (me_ : Locator) (seed : ℕ) (found : List Locator) (start : State) → found ≡ roots r → start ≡ fresh found me_ seed → IsSound r start
 sound_start law r me_ seed found start at_root new =
     subst (IsSound r) (sym (new ∙ ap (λ (l : List Locator). fresh l me_ seed) at_root)) (law r me_ seed)
+
+-- a new resolver over the servers of an accepted register
+pub starts_sound : NewResolversAreSound → (r : Register) (me_ : Locator) (seed : ℕ) (found : List Locator) (start : State) → found ≡ roots r → start ≡ fresh found me_ seed → IsAccepted r
+    → StartsSound r start
+starts_sound law r me_ seed found start at_root new accepted = record {
+  accepted = accepted;
+  sound = sound_start law r me_ seed found start at_root new;
+  at_rest = λ ticket. ap (λ (s : State). get s.pending ticket) new ∙ get-empty nat_cmp ticket;
+}
 
 -- the words of the identifiers, as they are borrowed
 pub values_are : (o : Option (Bor (List (Bor (List ℕ))))) (d u : Bor (List (Bor (List ℕ)))) (v : Option (List (List ℕ))) → u ≡ unwrap_or o d

@@ -1,7 +1,5 @@
 -- From the events of a run to the lines of its history.
 use Rattle.std.proofs.Common.{◌≡◌, ℕ, ◌+◌, ◌<◌, ◌≤◌, List, [], ◌∷◌, ◌++◌, length, map, drop, get_or, Some, None, Option, Ok, Err, refl, sym, ap, ◌∙◌, subst, append_assoc, arith}
-use Rattle.std.specs.FinMap.{get, get-empty}
-use Rattle.std.specs.Ordering.{nat_cmp}
 use Rattle.std.proofs.lemmas.List.{append-nil, at_drop_all, at_drop_more, length-append, reverse-append}
 use Rattle.ddt_path.specs.declared.locator.Locator.{Locator}
 use Rattle.ddt_resolver.specs.declared.answers.Asked.TheVariants as asked_as
@@ -26,7 +24,7 @@ use Rattle.ddt_words.specs.Call.{Call}
 use Rattle.ddt.specs.declared.refusal.Refusal.{Refusal}
 use Rattle.ddt.specs.Lookup.{me_of, seed_of}
 use Rattle.ddt.specs.Replay.{IsReplayOf, IsRunText, IsWhyNotReplayed, bad_replay, datagrams_at, event_text, lines_from, run_text}
-use Rattle.ddt.proofs.LookupLemmas.{sound_start}
+use Rattle.ddt.proofs.LookupLemmas.{starts_sound}
 
 -- ---- how many datagrams are sent
 
@@ -117,11 +115,7 @@ event_last events i n text all inv = sym (append-nil text) ∙ ap (λ (t : List 
 module _ (law : NewResolversAreSound) (r : Register) (me_ : Locator) (seed : ℕ) (found : List Locator) (start : State) (at_root : found ≡ roots r) (new : start ≡ fresh found me_ seed)
     (servers : List Outline) (compiled : AreCompiled servers r) (steps : List Step) (t : Transcript) (after : State) where
   starts : StartsSound r start
-  starts = record {
-    accepted = compiled.0;
-    sound = sound_start law r me_ seed found start at_root new;
-    at_rest = λ ticket. ap (λ (s : State). get s.pending ticket) new ∙ get-empty nat_cmp ticket;
-  }
+  starts = starts_sound law r me_ seed found start at_root new compiled.0
 
   begun : start ≡ fresh (roots r) me_ seed
   begun = new ∙ ap (λ (l : List Locator). fresh l me_ seed) at_root

@@ -5,10 +5,9 @@ use Rattle.ddt_words.specs.declared.declaration.Declaration.{Declaration}
 use Rattle.ddt_words.specs.Call.{Call, Calls}
 use Rattle.ddt_words.specs.Line.{line}
 use Rattle.ddt.specs.declared.commands.Command.{Command}
-use Rattle.ddt.specs.declared.commands.Command.TheVariants.{Serve}
-use Rattle.ddt.specs.Serve.{Serving}
 use Rattle.ddt.specs.Commands.{IsTextOf, IsWhyOf, name_of, program_line}
-use Rattle.ddt.specs.Running.{CallNoServer, CallNone, CallsFor, HasPartOf, HasRefused, HasText, IsAnswer, IsWhyRefused}
+use Rattle.ddt.specs.Running.{CallNone, CallsFor, DontCall, HasPartOf, HasRefused, HasText, IsAnswer, IsWhyRefused}
+use Rattle.ddt.specs.Wires.{OverWires}
 
 -- clap's exact rule holds of the program's command line
 program_is_simple : is_simple_and_free program_line ≡ true
@@ -38,20 +37,20 @@ unknown ds words call e calls none = λ command other for_other.
     let one = sym (ap (λ (a : App). subcommand_of a words) e) ∙ calls.1 in
     none command (sym for_other.1 ∙ sym (ap (λ (p : Call). p.0) (same_call call other (sym one ∙ for_other.0.1))))
 
-pub answered : {F : Type 0} (opens : List ℕ → Option F → Type 0) (remaining : F → Option (List ℕ)) (serves : Serving) (words : List (List ℕ)) (command : Command) (call : Call) (complete : Bool)
-    (old new : Option (List ℕ)) → CallsFor words command call → HasText (IsTextOf opens remaining serves command call complete) old new → HasText (IsAnswer opens remaining serves words complete) old new
-answered opens remaining serves words command call complete old new calls h = (h.0, (command, (call, calls, h.1)), h.2)
+pub answered : {F : Type 0} (opens : List ℕ → Option F → Type 0) (remaining : F → Option (List ℕ)) (over : OverWires) (words : List (List ℕ)) (command : Command) (call : Call) (complete : Bool)
+    (old new : Option (List ℕ)) → CallsFor words command call → HasText (IsTextOf opens remaining over command call complete) old new → HasText (IsAnswer opens remaining over words complete) old new
+answered opens remaining over words command call complete old new calls h = (h.0, (command, (call, calls, h.1)), h.2)
 
-pub refused : {F : Type 0} (opens : List ℕ → Option F → Type 0) (remaining : F → Option (List ℕ)) (serves : Serving) (words : List (List ℕ)) (command : Command) (call : Call) (old new : Option (List ℕ))
-    → CallsFor words command call → HasRefused (IsWhyOf opens remaining serves command call) old new → HasRefused (IsWhyRefused opens remaining serves words) old new
-refused opens remaining serves words command call old new calls h = (h.0, inr (command, (call, calls, h.1)), h.2)
+pub refused : {F : Type 0} (opens : List ℕ → Option F → Type 0) (remaining : F → Option (List ℕ)) (over : OverWires) (words : List (List ℕ)) (command : Command) (call : Call) (old new : Option (List ℕ))
+    → CallsFor words command call → HasRefused (IsWhyOf opens remaining over command call) old new → HasRefused (IsWhyRefused opens remaining over words) old new
+refused opens remaining over words command call old new calls h = (h.0, inr (command, (call, calls, h.1)), h.2)
 
-pub unprinted : {F : Type 0} (opens : List ℕ → Option F → Type 0) (remaining : F → Option (List ℕ)) (serves : Serving) (words : List (List ℕ)) (command : Command) (call : Call)
-    (out out_new err err_new : Option (List ℕ)) → CallsFor words command call → HasPartOf (IsTextOf opens remaining serves command call) (IsWhyOf opens remaining serves command call) out out_new err err_new
-    → HasPartOf (IsAnswer opens remaining serves words) (IsWhyRefused opens remaining serves words) out out_new err err_new
-unprinted opens remaining serves words command call out out_new err err_new calls (inl h) = inl (h.0, (h.1.0, (command, (call, calls, h.1.1)), h.1.2))
-unprinted opens remaining serves words command call out out_new err err_new calls (inr h) = inr (h.0, inr (command, (call, calls, h.1)), h.2)
+pub unprinted : {F : Type 0} (opens : List ℕ → Option F → Type 0) (remaining : F → Option (List ℕ)) (over : OverWires) (words : List (List ℕ)) (command : Command) (call : Call)
+    (out out_new err err_new : Option (List ℕ)) → CallsFor words command call → HasPartOf (IsTextOf opens remaining over command call) (IsWhyOf opens remaining over command call) out out_new err err_new
+    → HasPartOf (IsAnswer opens remaining over words) (IsWhyRefused opens remaining over words) out out_new err err_new
+unprinted opens remaining over words command call out out_new err err_new calls (inl h) = inl (h.0, (h.1.0, (command, (call, calls, h.1.1)), h.1.2))
+unprinted opens remaining over words command call out out_new err err_new calls (inr h) = inr (h.0, inr (command, (call, calls, h.1)), h.2)
 
--- words that call another command don't call `serve`
-pub quiet : (words : List (List ℕ)) (command : Command) (call : Call) → CallsFor words command call → CallNoServer words → command ≢ Serve
-quiet words command call calls none e = none call (subst (λ (c : Command). CallsFor words c call) e calls)
+-- words that don't call this command call another
+pub another : (words : List (List ℕ)) (command this : Command) (call : Call) → CallsFor words command call → DontCall this words → command ≢ this
+another words command this call calls none e = none call (subst (λ (c : Command). CallsFor words c call) e calls)

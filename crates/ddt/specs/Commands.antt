@@ -5,7 +5,7 @@ use Rattle.ddt_words.specs.declared.declaration.Declaration.{Declaration}
 use Rattle.ddt_words.specs.Call.{Call}
 use Rattle.ddt_words.specs.Line.{line, one, setting, several, takes}
 use Rattle.ddt.specs.declared.commands.Command.{Command}
-use Rattle.ddt.specs.declared.commands.Command.TheVariants.{Answer, Assign, Check, Compile, Lookup, Replay, Serve, Show}
+use Rattle.ddt.specs.declared.commands.Command.TheVariants.{Answer, Assign, Check, Compile, Loop, Lookup, Replay, Serve, Show}
 use Rattle.ddt.specs.declared.refusal.Refusal.{Refusal}
 use Rattle.ddt.specs.Over.{IsTextOver, IsWhyOver, whole}
 use Rattle.ddt.specs.Answer.{IsAnswerText}
@@ -13,15 +13,18 @@ use Rattle.ddt.specs.Assign.{IsAssignText, WantsMemory, bad_xeid}
 use Rattle.ddt.specs.Check.{IsCheckText, no_bad_word}
 use Rattle.ddt.specs.Compile.{IsConfigText, IsWhyNoGroup}
 use Rattle.ddt.specs.Lookup.{IsLookupText, bad_lookup}
+use Rattle.ddt.specs.Loop.{IsLoopText, IsWhyNotLooped}
 use Rattle.ddt.specs.Replay.{IsReplayText, IsWhyNoReplay}
-use Rattle.ddt.specs.Serve.{IsServeText, IsWhyNotServed, Serving}
+use Rattle.ddt.specs.Serve.{IsServeText, IsWhyNotServed}
 use Rattle.ddt.specs.Show.{IsShowText, IsWhyNotShown}
+use Rattle.ddt.specs.Wires.{OverWires}
 
 abbrev pub name_of : Command → List ℕ
 name_of Answer = codes "answer"
 name_of Assign = codes "assign"
 name_of Check = codes "check"
 name_of Compile = codes "compile"
+name_of Loop = codes "loop"
 name_of Lookup = codes "lookup"
 name_of Replay = codes "replay"
 name_of Serve = codes "serve"
@@ -34,6 +37,9 @@ command_list =
     ∷ takes (codes "assign") (one (codes "register") ∷ one (codes "xeid") ∷ [])
     ∷ takes (codes "check") (one (codes "register") ∷ [])
     ∷ takes (codes "compile") (one (codes "register") ∷ one (codes "group") ∷ [])
+    ∷ takes (codes "loop")
+    (one (codes "register") ∷ several (codes "xeid") ∷ setting (codes "me") ∷ setting (codes "seed")
+    ∷ setting (codes "turns") ∷ [])
     ∷ takes (codes "lookup")
     (one (codes "register") ∷ several (codes "xeid") ∷ setting (codes "me") ∷ setting (codes "seed") ∷ [])
     ∷ takes (codes "replay")
@@ -46,33 +52,36 @@ command_list =
 abbrev pub program_line : App
 program_line = line command_list
 
--- what a command answers, over what a path opens, what a file tells and what comes of a server; and whether it is
+-- what a command answers, over what a path opens, what a file tells and what is done over wires; and whether it is
 -- complete
-abbrev pub IsTextOf : {F : Type 0} → (List ℕ → Option F → Type 0) → (F → Option (List ℕ)) → Serving → Command → Call
+abbrev pub IsTextOf : {F : Type 0} → (List ℕ → Option F → Type 0) → (F → Option (List ℕ)) → OverWires → Command → Call
     → Bool → List ℕ → Type 0
-IsTextOf opens remaining serves Answer call complete text =
+IsTextOf opens remaining over Answer call complete text =
     IsTextOver opens remaining bad_xeid (whole IsAnswerText complete) call text
-IsTextOf opens remaining serves Assign call complete text =
+IsTextOf opens remaining over Assign call complete text =
     IsTextOver opens remaining bad_xeid (whole IsAssignText complete) call text
-IsTextOf opens remaining serves Check call complete text =
+IsTextOf opens remaining over Check call complete text =
     IsTextOver opens remaining no_bad_word (whole IsCheckText complete) call text
-IsTextOf opens remaining serves Compile call complete text =
+IsTextOf opens remaining over Compile call complete text =
     IsTextOver opens remaining no_bad_word (whole IsConfigText complete) call text
-IsTextOf opens remaining serves Lookup call complete text =
+IsTextOf opens remaining over Loop call complete text = IsLoopText opens remaining over.loops call complete text
+IsTextOf opens remaining over Lookup call complete text =
     IsTextOver opens remaining bad_lookup (IsLookupText complete) call text
-IsTextOf opens remaining serves Replay call complete text = (complete ≡ true) × IsReplayText opens remaining call text
-IsTextOf opens remaining serves Serve call complete text =
-    (complete ≡ true) × IsServeText opens remaining serves call text
-IsTextOf opens remaining serves Show call complete text = (complete ≡ true) × IsShowText call text
+IsTextOf opens remaining over Replay call complete text = (complete ≡ true) × IsReplayText opens remaining call text
+IsTextOf opens remaining over Serve call complete text =
+    (complete ≡ true) × IsServeText opens remaining over.serves call text
+IsTextOf opens remaining over Show call complete text = (complete ≡ true) × IsShowText call text
 
 -- why a command refuses
-abbrev pub IsWhyOf : {F : Type 0} → (List ℕ → Option F → Type 0) → (F → Option (List ℕ)) → Serving → Command → Call
+abbrev pub IsWhyOf : {F : Type 0} → (List ℕ → Option F → Type 0) → (F → Option (List ℕ)) → OverWires → Command → Call
     → Refusal → Type 0
-IsWhyOf opens remaining serves Answer call why = IsWhyOver opens remaining bad_xeid IsWhyNoGroup call why
-IsWhyOf opens remaining serves Assign call why = IsWhyOver opens remaining bad_xeid WantsMemory call why
-IsWhyOf opens remaining serves Check call why = IsWhyOver opens remaining no_bad_word WantsMemory call why
-IsWhyOf opens remaining serves Compile call why = IsWhyOver opens remaining no_bad_word IsWhyNoGroup call why
-IsWhyOf opens remaining serves Lookup call why = IsWhyOver opens remaining bad_lookup WantsMemory call why
-IsWhyOf opens remaining serves Replay call why = IsWhyNoReplay opens remaining call why
-IsWhyOf opens remaining serves Serve call why = IsWhyNotServed opens remaining serves call why
-IsWhyOf opens remaining serves Show call why = IsWhyNotShown call why
+IsWhyOf opens remaining over Answer call why = IsWhyOver opens remaining bad_xeid IsWhyNoGroup call why
+IsWhyOf opens remaining over Assign call why = IsWhyOver opens remaining bad_xeid WantsMemory call why
+IsWhyOf opens remaining over Check call why = IsWhyOver opens remaining no_bad_word WantsMemory call why
+IsWhyOf opens remaining over Compile call why = IsWhyOver opens remaining no_bad_word IsWhyNoGroup call why
+IsWhyOf opens remaining over Loop call why =
+    IsWhyNotLooped opens remaining (over.untouched × over.unread) over.loops call why
+IsWhyOf opens remaining over Lookup call why = IsWhyOver opens remaining bad_lookup WantsMemory call why
+IsWhyOf opens remaining over Replay call why = IsWhyNoReplay opens remaining call why
+IsWhyOf opens remaining over Serve call why = IsWhyNotServed opens remaining over.untouched over.serves call why
+IsWhyOf opens remaining over Show call why = IsWhyNotShown call why

@@ -9,7 +9,11 @@ pub mod Compile
 pub mod Lookup
 pub mod Script
 pub mod Replay
+pub mod Loopback
+pub mod Sockets
 pub mod Serve
+pub mod Loop
+pub mod Wires
 pub mod Show
 pub mod Commands
 pub mod Telling

@@ -1,21 +1,22 @@
 -- What a command over a register prints, and why it refuses, over the file that its path opens.
 use Rattle.std.specs.Prelude.{ℕ, Bool, true, ◌≡◌, ◌≢◌, ◌⊎◌, List, codes, Option, None, Some}
 use Rattle.ddt_register.specs.declared.register.Register.{Register}
+use Rattle.ddt_check.specs.Rules.{IsAccepted}
 use Rattle.ddt_words.specs.Call.{Call, value}
 use Rattle.ddt.specs.declared.refusal.Refusal.{Refusal}
 use Rattle.ddt.specs.declared.refusal.Refusal.TheVariants.{BadWord}
 use Rattle.ddt.specs.declared.refusal.word.WordRefusal.{WordRefusal}
-use Rattle.ddt.specs.Register.{IsAcceptedIn, IsWhyNoRegister, Tells}
+use Rattle.ddt.specs.Register.{IsWhyNoRegister, Spell, Tells}
 
 -- the path of the register of a call
 abbrev pub path : Call → List ℕ
 path call = value (codes "register") call
 
--- the path was opened; and where the file tells its bytes, they spell an accepted register, of which this is so
+-- The path was opened, and this is so of an accepted register. Where the file tells its bytes, they spell it.
 abbrev pub OfItsRegister : {F : Type 0} → (F → Option (List ℕ)) → Option F → (Register → Type 0) → Type 0
 OfItsRegister remaining source is_so =
     (source ≢ None)
-    × ((bytes : List ℕ) → Tells remaining source bytes → (r : Register) × IsAcceptedIn bytes r × is_so r)
+    × ((r : Register) × IsAccepted r × ((bytes : List ℕ) → Tells remaining source bytes → Spell bytes r) × is_so r)
 
 -- the words are good, and the path may give this source, of which this is so
 abbrev pub OpensTo : {F : Type 0} → (List ℕ → Option F → Type 0) → Option WordRefusal → Call → (Option F → Type 0)

@@ -5,7 +5,7 @@ use Rattle.ddt_register.specs.declared.fault.ReadFault.{ReadFault}
 use Rattle.ddt_register.specs.declared.register.Register.{Register}
 use Rattle.ddt_register.specs.Spelled.{Lists, spelled, lists_of}
 use Rattle.ddt_check.specs.declared.fault.Fault.{Fault}
-use Rattle.ddt_check.specs.Rules.{IsAccepted, IsLeastFault}
+use Rattle.ddt_check.specs.Rules.{IsLeastFault}
 use Rattle.ddt.specs.declared.refusal.Refusal.{Refusal}
 use Rattle.ddt.specs.declared.refusal.Refusal.TheVariants.{NoRegister, OutOfMemory}
 use Rattle.ddt.specs.declared.refusal.register.RegisterRefusal.{RegisterRefusal}
@@ -18,10 +18,6 @@ register_in bytes = spelled (records default_config (strip_bom bytes))
 -- the bytes spell this register
 abbrev pub Spell : List ℕ → Register → Type 0
 Spell bytes r = register_in bytes ≡ Ok (lists_of r)
-
--- the bytes spell a register that keeps all rules
-abbrev pub IsAcceptedIn : List ℕ → Register → Type 0
-IsAcceptedIn bytes r = Spell bytes r × IsAccepted r
 
 -- this is the least rule that the register breaks, and the least row that breaks it
 abbrev pub IsRuleBroken : Register → RegisterRefusal → Type 0

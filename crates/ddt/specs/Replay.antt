@@ -122,11 +122,11 @@ IsRunText r me_ seed steps text = (past : List Line) × IsRunOf r me_ seed steps
 
 -- ---- the files
 
--- a script that was opened; and where the file tells its bytes, they spell steps of which this is so
+-- A script was opened, and this is so of its steps. Where the file tells its bytes, they spell them.
 abbrev pub OfItsScript : {F : Type 0} → (F → Option (List ℕ)) → Option F → (List Step → Type 0) → Type 0
 OfItsScript remaining source is_so =
     (source ≢ None)
-    × ((bytes : List ℕ) → Tells remaining source bytes → (steps : List Step) × SpellsScript bytes steps × is_so steps)
+    × ((steps : List Step) × ((bytes : List ℕ) → Tells remaining source bytes → SpellsScript bytes steps) × is_so steps)
 
 -- why a path gives no script: it can't be opened or read, or a line of its bytes spells no step; memory may run out
 -- once a file is open

@@ -2,12 +2,11 @@
 use Rattle.std.specs.Prelude.{ℕ, Bool, ◌≡◌, ◌⊎◌, List, Option}
 use Rattle.ddt_words.specs.Call.{Call, Calls}
 use Rattle.ddt.specs.declared.commands.Command.{Command}
-use Rattle.ddt.specs.declared.commands.Command.TheVariants.{Serve}
 use Rattle.ddt.specs.declared.refusal.Refusal.{Refusal}
 use Rattle.ddt.specs.declared.refusal.Refusal.TheVariants.{OutOfMemory}
 use Rattle.ddt.specs.Commands.{IsTextOf, IsWhyOf, command_list, name_of}
-use Rattle.ddt.specs.Serve.{Serving}
 use Rattle.ddt.specs.Telling.{Tells, TellsFront}
+use Rattle.ddt.specs.Wires.{OverWires}
 use Rattle.ddt_lines.specs.Printing.{AppendsFront}
 use Rattle.std.specs.Io.KnownBytes.{Appends}
 use Rattle.ddt.specs.declared.status.Status.{Status}
@@ -21,24 +20,24 @@ CallsFor words command call = Calls command_list words call × (call.0 ≡ name_
 abbrev pub CallNone : List (List ℕ) → Type 0
 CallNone words = (command : Command) (call : Call) → CallsFor words command call → ⊥
 
--- the words call no server
-abbrev pub CallNoServer : List (List ℕ) → Type 0
-CallNoServer words = (call : Call) → CallsFor words Serve call → ⊥
+-- the words don't call this command
+abbrev pub DontCall : Command → List (List ℕ) → Type 0
+DontCall command words = (call : Call) → CallsFor words command call → ⊥
 
 -- the text that the words call for, and whether it is complete
-abbrev pub IsAnswer : {F : Type 0} → (List ℕ → Option F → Type 0) → (F → Option (List ℕ)) → Serving → List (List ℕ)
-    → Bool → List ℕ → Type 0
-IsAnswer opens remaining serves words complete text =
+abbrev pub IsAnswer : {F : Type 0} → (List ℕ → Option F → Type 0) → (F → Option (List ℕ)) → OverWires
+    → List (List ℕ) → Bool → List ℕ → Type 0
+IsAnswer opens remaining over words complete text =
     (command : Command)
-    × ((call : Call) × CallsFor words command call × IsTextOf opens remaining serves command call complete text)
+    × ((call : Call) × CallsFor words command call × IsTextOf opens remaining over command call complete text)
 
--- why the command that the words call refuses; memory may run out at any time
-abbrev pub IsWhyRefused : {F : Type 0} → (List ℕ → Option F → Type 0) → (F → Option (List ℕ)) → Serving → List (List ℕ)
-    → Refusal → Type 0
-IsWhyRefused opens remaining serves words why =
+-- why the command that the words call refuses; memory may run out at any time, of which it says nothing more
+abbrev pub IsWhyRefused : {F : Type 0} → (List ℕ → Option F → Type 0) → (F → Option (List ℕ)) → OverWires
+    → List (List ℕ) → Refusal → Type 0
+IsWhyRefused opens remaining over words why =
     (why ≡ OutOfMemory)
     ⊎ ((command : Command)
-    × ((call : Call) × CallsFor words command call × IsWhyOf opens remaining serves command call why))
+    × ((call : Call) × CallsFor words command call × IsWhyOf opens remaining over command call why))
 
 -- a text of this kind was appended to what a writer had
 abbrev pub HasText : (List ℕ → Type 0) → Option (List ℕ) → Option (List ℕ) → Type 0

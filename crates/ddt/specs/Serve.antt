@@ -1,16 +1,11 @@
 -- `serve CONFIG ADDRESS TURNS`: a server of the configuration in a file, at a loopback address, for so many turns (RFC
 -- 8111, sections 7.1 and 7.2).
-use Rattle.std.specs.Prelude.{ℕ, Bool, false, true, ◌==◌, ◌/◌, ◌^◌, ◌≡◌, ◌≢◌, ◌⊎◌, ⊤, List, ◌++◌, codes, decimal, Option, None, Some, Result, Ok, Err}
-use Rattle.std.specs.Borrow.{MutBor}
-use Rattle.std.specs.Fn.{Shared}
+use Rattle.std.specs.Prelude.{ℕ, false, true, ◌≡◌, ◌≢◌, ◌⊎◌, ⊤, List, ◌++◌, codes, decimal, Option, None, Some, Result, Ok, Err}
 use Rattle.std.specs.IoError.{error_kind}
 use Rattle.std.specs.Option.{option_or}
 use Rattle.std.specs.Str.{IsUtf8}
 use Rattle.std.specs.declared.io.Error.{Error}
-use Rattle.std.specs.declared.io.ErrorKind.{ErrorKind}
-use Rattle.std.specs.declared.io.ErrorKind.TheVariants as kind
 use Rattle.ddt_path.specs.declared.locator.Locator.{Locator}
-use Rattle.ddt_path.specs.declared.locator.Locator.TheVariants.{V4, V6}
 use Rattle.ddt_text.specs.declared.fault.TextFault.{TextFault}
 use Rattle.ddt_text.specs.FirstFault.{locator_in, number_in}
 use Rattle.ddt_config.specs.declared.fault.ConfigFault.{ConfigFault}
@@ -25,10 +20,12 @@ use Rattle.ddt_lines.specs.Lines.{ended}
 use Rattle.ddt_words.specs.Call.{Call, value}
 use Rattle.ddt.specs.declared.refusal.Refusal.{Refusal}
 use Rattle.ddt.specs.declared.refusal.Refusal.TheVariants.{BadWord, NoServer, OutOfMemory}
-use Rattle.ddt.specs.declared.refusal.server.ServerRefusal.TheVariants.{NotLoopback, CannotOpen, BadConfig, CannotBind}
+use Rattle.ddt.specs.declared.refusal.server.ServerRefusal.TheVariants.{NotLoopback, CannotOpen, BadConfig}
 use Rattle.ddt.specs.declared.refusal.word.WordRefusal.{WordRefusal}
 use Rattle.ddt.specs.Lookup.{address_refusal, number_refusal}
+use Rattle.ddt.specs.Loopback.{is_loopback}
 use Rattle.ddt.specs.Register.{Tells}
+use Rattle.ddt.specs.Sockets.{Binding, bind_refusal}
 
 -- ---- what the words ask for
 
@@ -47,11 +44,6 @@ turns_of call = number_in most_turns (value (codes "turns") call)
 -- the first bad word: the address, then the number of turns
 abbrev pub bad_serve : Call → Option WordRefusal
 bad_serve call = option_or (address_refusal (address_of call)) (number_refusal (turns_of call))
-
--- an address of 127.0.0.0/8
-abbrev pub is_loopback : Locator → Bool
-is_loopback (V4 number) = number / 2 ^ 24 == 127
-is_loopback (V6 number) = false
 
 -- a call asks for a server at this loopback address for so many turns
 pub record AsksToServe (call : Call) (at : Locator) (turns : ℕ) : Type 0 where
@@ -74,11 +66,11 @@ pub data IsConfigFault (bytes : List ℕ) : ConfigFault → Type 0 where
   of_text : {fault : ConfigFault} → IsUtf8 bytes → config_in_text bytes ≡ Err fault → IsConfigFault bytes fault
   no_room : {c : Outline} → IsUtf8 bytes → config_in_text bytes ≡ Ok c → ¬ (HasRoom c) → IsConfigFault bytes Shape
 
--- the path was opened; and where the file tells its bytes, they spell a configuration of which this is so
+-- The path was opened, and this is so of a configuration. Where the file tells its bytes, they spell it.
 abbrev pub OfItsConfig : {F : Type 0} → (F → Option (List ℕ)) → Option F → (Outline → Type 0) → Type 0
 OfItsConfig remaining source is_so =
     (source ≢ None)
-    × ((bytes : List ℕ) → Tells remaining source bytes → (c : Outline) × IsServedConfig bytes c × is_so c)
+    × ((c : Outline) × ((bytes : List ℕ) → Tells remaining source bytes → IsServedConfig bytes c) × is_so c)
 
 -- what is refused where bytes have this fault
 abbrev pub config_refusal : ConfigFault → Refusal
@@ -102,29 +94,14 @@ IsWhyNoConfig remaining source path why = ⊥
 
 -- ---- serving over wires
 
--- a call that binds a socket of the wires at a locator may answer this, and leave the wires so
-pub record Binds {B W : Type 0}
-    (g : Shared B (MutBor W × (Locator × Unit {0})) (Result (Unit {0}) Error × (MutBor W × Unit {0}))) (bind : B)
-    (before : W) (at : Locator) (answer : Result (Unit {0}) Error) (after : W) : Type 0 where
-  pub lent : MutBor W
-  pub lends : lent.now ≡ before
-  pub left : MutBor W
-  pub leaves : left.now ≡ after
-  pub met : g.post bind (lent, (at, tt)) (answer, (left, tt))
-
 -- What comes of a server of a configuration at a locator, for so many turns, over wires: the counts of turns over the
 -- wires that the socket was bound of, which tell just the calls of these turns; or why it wasn't bound.
-abbrev pub ServesOver : {W : Type 0} → (W → Locator → Result (Unit {0}) Error → W → Type 0)
-    → (W → Option (List WireCall)) → W → W → Outline → Locator → ℕ → Result Served Error → Type 0
+abbrev pub ServesOver : {W : Type 0} → Binding W → (W → Option (List WireCall)) → W → W → Outline → Locator → ℕ
+    → Result Served Error → Type 0
 ServesOver {W} binds calls before after c at turns (Ok counts) =
     (bound : W) × binds before at (Ok tt) bound
     × ((made : List WireCall) × TellCalls (calls bound) made (calls after) × Serves c at turns made counts)
 ServesOver {W} binds calls before after c at turns (Err error) = binds before at (Err error) after
-
--- a socket that isn't bound is refused as such, or as memory that ran out
-abbrev pub bind_refusal : Locator → ErrorKind → Refusal
-bind_refusal at kind.OutOfMemory = OutOfMemory
-bind_refusal at _ = NoServer (CannotBind at)
 
 -- ---- the command
 
@@ -140,7 +117,7 @@ abbrev pub IsServedText : Serving → Outline → Locator → ℕ → List ℕ �
 IsServedText serves c at turns text =
     (counts : Served) × serves c at turns (Ok counts) × (text ≡ ended (served_text counts))
 
--- why there is none: its socket isn't bound, or memory runs out
+-- why there is none: its socket isn't bound, or memory runs out, of which it says nothing more
 abbrev pub IsWhyUnserved : Serving → Outline → Locator → ℕ → Refusal → Type 0
 IsWhyUnserved serves c at turns why =
     ((error : Error) × serves c at turns (Err error) × (why ≡ bind_refusal at (error_kind error))) ⊎ (why ≡ OutOfMemory)
@@ -153,13 +130,14 @@ IsServeText opens remaining serves call text =
     × ((source : Option _) × opens (config_path call) source
     × OfItsConfig remaining source (λ c. IsServedText serves c at turns text))
 
--- why it refuses: its first bad word; an address that isn't a loopback address; the file; the socket
-abbrev pub IsWhyNotServed : {F : Type 0} → (List ℕ → Option F → Type 0) → (F → Option (List ℕ)) → Serving → Call
-    → Refusal → Type 0
-IsWhyNotServed opens remaining serves call why =
-    ((w : WordRefusal) × (bad_serve call ≡ Some w) × (why ≡ BadWord w))
+-- Why it refuses: its first bad word; an address that isn't a loopback address; the file; the socket. Unless memory
+-- runs out, the wires are untouched until the socket is bound.
+abbrev pub IsWhyNotServed : {F : Type 0} → (List ℕ → Option F → Type 0) → (F → Option (List ℕ)) → Type 0 → Serving
+    → Call → Refusal → Type 0
+IsWhyNotServed opens remaining untouched serves call why =
+    (untouched × ((w : WordRefusal) × (bad_serve call ≡ Some w) × (why ≡ BadWord w)))
     ⊎ ((at : Locator) × (turns : ℕ) × (address_of call ≡ Ok at) × (turns_of call ≡ Some turns)
-    × (((is_loopback at ≡ false) × (why ≡ NoServer (NotLoopback at)))
+    × ((untouched × (is_loopback at ≡ false) × (why ≡ NoServer (NotLoopback at)))
     ⊎ ((is_loopback at ≡ true) × ((source : Option _) × opens (config_path call) source
-    × (IsWhyNoConfig remaining source (config_path call) why
+    × ((untouched × IsWhyNoConfig remaining source (config_path call) why)
     ⊎ OfItsConfig remaining source (λ c. IsWhyUnserved serves c at turns why))))))

@@ -134,7 +134,7 @@ fn remembered_line(alloc: Global, outcome: &Outcome) -> Result<Vec<u8>, AllocErr
 }
 
 /// A word, and what it is of.
-fn plain_line(alloc: Global, word: &str, of: &str) -> Result<Vec<u8>, AllocError>
+pub fn plain_line(alloc: Global, word: &str, of: &str) -> Result<Vec<u8>, AllocError>
     ensures { IfOk result (λ line. line.items ≡ ended (word.now ++ of.now)) }
 {
     Ok(format!(in alloc; "{word}{of}\n")?.into_bytes())
@@ -148,7 +148,7 @@ fn number_line(alloc: Global, word: &str, number: u64) -> Result<Vec<u8>, AllocE
 }
 
 /// The name of why an ask is refused.
-fn ask_error_name(why: AskError) -> &'static str
+pub fn ask_error_name(why: AskError) -> &'static str
     ensures { result.now ≡ ask_error_text why }
 {
     match why {

@@ -1,17 +1,20 @@
 //! The program: one command, its words, and what it prints.
 //!
 //! In reading order: `running`, `commands` (the list), `over` (commands over a register), `commands/*`, `answering`,
-//! `looking_up`, `script`, `replaying`, `event_lines`, `configuration`, `serving`, `file`, `number`, `lines`,
-//! `telling`, `refusal`, `status`.
+//! `looking_up`, `script`, `replaying`, `event_lines`, `configuration`, `loopback`, `sockets`, `serving`, `looping`,
+//! `end_lines`, `file`, `number`, `lines`, `telling`, `refusal`, `status`.
 #![tactic(auto)]
 
 mod answering;
 mod commands;
 mod configuration;
+mod end_lines;
 mod event_lines;
 mod file;
 mod lines;
 mod looking_up;
+mod loopback;
+mod looping;
 mod number;
 mod over;
 mod refusal;
@@ -19,29 +22,49 @@ mod replaying;
 mod running;
 mod script;
 mod serving;
+mod sockets;
 mod status;
 mod telling;
 #[cfg(test)]
 mod tests;
 
+use ddt_cache::Moment;
+use ddt_loop::{Clock, StandingClock, SystemClock};
 use ddt_path::Locator;
 use ddt_wires::UdpWires;
 use refusal::Refusal;
 use running::run;
+use status::Status;
 use std::io::ErrorKind;
 use std::process::ExitCode;
 use std::{env, fs, io};
 use telling::{refuse, show_usage};
 
 fn main(rt: HostRuntime) -> ExitCode {
+    let status = match SystemClock::new(&rt) {
+        Ok(mut clock) => run_at(&rt, &mut clock),
+        // Where the system tells no time, a lookup whose request is lost waits until the turns are used.
+        Err(_error) => run_at(
+            &rt,
+            &mut StandingClock {
+                at: Moment::at(0).unwrap(),
+            },
+        ),
+    };
+    ExitCode::from(status.number())
+}
+
+/// Runs the command of the process over its files, its sockets and a clock.
+fn run_at<C: Clock>(rt: &HostRuntime, clock: &mut C) -> Status {
     let (mut out, mut err) = (rt.stdout(), rt.stderr());
-    let status = match words_of(&rt) {
+    match words_of(rt) {
         Ok(words) => run(
             rt.alloc(),
             &words,
-            |path| fs::open(&rt, path).ok(),
+            |path| fs::open(rt, path).ok(),
             &mut UdpWires::new(rt.alloc()),
-            |wires: &mut UdpWires, at: Locator| wires.bind(&rt, at),
+            clock,
+            |wires: &mut UdpWires, at: Locator| wires.bind(rt, at),
             &mut out,
             &mut err,
         ),
@@ -50,8 +73,7 @@ fn main(rt: HostRuntime) -> ExitCode {
         }
         // Words that are no text fit no command.
         Err(_) => show_usage(&mut err),
-    };
-    ExitCode::from(status.number())
+    }
 }
 
 /// The words that the process was started with, the program's name first.

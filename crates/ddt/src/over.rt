@@ -10,7 +10,7 @@ ghost use Rattle.ddt.specs.declared.refusal.Refusal.{Refusal as ARefusal};
 ghost use Rattle.ddt.specs.declared.refusal.word.WordRefusal.{WordRefusal as AWordRefusal};
 ghost use Rattle.ddt.specs.Over.{IsTextOver, IsWhyOver};
 ghost use Rattle.ddt.specs.Refusal.{reading_refusal};
-ghost use Rattle.ddt.specs.Register.{IsAcceptedIn, IsRuleBroken, IsWhyNoRegister, Tells};
+ghost use Rattle.ddt.specs.Register.{IsRuleBroken, IsWhyNoRegister, Spell, Tells};
 
 use crate::lines::Lines;
 use crate::refusal::{Refusal, RegisterRefusal, WordRefusal};
@@ -82,7 +82,8 @@ pub fn register_at<F: Read + Drop>(
     source: Option<F>,
     path: &str,
 ) -> Result<Accepted, Refusal<'_>>
-    ensures accepted { IfOk result (λ a. (bytes : List ℕ) → Tells F.remaining source bytes → IsAcceptedIn bytes a) }
+    ensures accepted { IfOk result (λ a. IsAccepted a) }
+    ensures spelled { IfOk result (λ a. (bytes : List ℕ) → Tells F.remaining source bytes → Spell bytes a) }
     ensures refused { IfErr result (IsWhyNoRegister F.remaining source path.now) }
     ensures closed { source ≡ None → IsErr result }
 {

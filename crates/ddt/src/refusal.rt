@@ -23,7 +23,7 @@ pub enum Refusal<'a> {
     NoRegister(RegisterRefusal<'a>),
     /// The file gives no script.
     NoScript(ScriptRefusal<'a>),
-    /// There is no server, or it has no socket.
+    /// A server or the resolver has no address, configuration or socket to run with.
     NoServer(ServerRefusal<'a>),
     /// The bytes are no message.
     NoMessage(MessageRefusal),

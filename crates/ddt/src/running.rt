@@ -11,13 +11,15 @@ ghost use Rattle.ddt.specs.declared.status.Status.TheVariants.{
 ghost use Rattle.ddt.specs.declared.commands.Command.TheVariants as CommandAs;
 ghost use Rattle.ddt.specs.Status.{answer_status};
 ghost use Rattle.ddt.specs.Commands.{IsTextOf, IsWhyOf};
-ghost use Rattle.ddt.specs.Serve.{Binds, ServesOver};
-ghost use Rattle.ddt.specs.Running.{CallNoServer, CallNone, HasPartOf, HasRefused, HasText, IsAnswer, IsWhyRefused, StayApart};
+ghost use Rattle.ddt.specs.Sockets.{Binds};
+ghost use Rattle.ddt.specs.Wires.{over_wires};
+ghost use Rattle.ddt.specs.Running.{CallNone, DontCall, HasPartOf, HasRefused, HasText, IsAnswer, IsWhyRefused, StayApart};
 
 use crate::commands::{Command, command_list, lines_of};
 use crate::refusal::Refusal;
 use crate::status::Status;
 use crate::telling::{answer, refuse, show_usage};
+use ddt_loop::Clock;
 use ddt_path::Locator;
 use ddt_wires::Wires;
 use ddt_words::{Words, WordsFault, read_words};
@@ -28,11 +30,12 @@ use std::io::{Read, Write};
 /// Runs the command that the words call, of which the first is the program's name. `open_file` gives a file, or None
 /// where it can't be opened; `bind` binds a socket of the wires to a locator. Words that fit no command end with status
 /// 2 and the usage on `err`.
-pub fn run<F, O, W, B, P, E>(
+pub fn run<F, O, W, C, B, P, E>(
     alloc: Global,
     words: &[String],
     open_file: O,
     wires: &mut W,
+    clock: &mut C,
     bind: B,
     out: &mut P,
     err: &mut E,
@@ -41,6 +44,7 @@ where
     F: Read + Drop,
     O: Fn(&str) -> Option<F> + Drop,
     W: Wires,
+    C: Clock,
     B: Fn(&mut W, Locator) -> io::Result<()> + Drop,
     P: Write,
     E: Write,
@@ -49,28 +53,32 @@ where
     ensures bad { result ≡ IsBadWords → CallNone (map string_bytes words.now) }
     ensures answered { (complete : Bool) → result ≡ answer_status complete → HasText
         (IsAnswer (FnReturnsAt O.Fn open_file) F.remaining
-        (ServesOver (Binds B.Fn bind) W.calls wires.old wires.new) (map string_bytes words.now) complete)
+        (over_wires (Binds B.Fn bind) W.calls C.readings wires.old wires.new clock.old clock.new) (map string_bytes words.now) complete)
         (P.contents out.old) (P.contents out.new) }
     ensures refused { result ≡ IsRefused → HasRefused (IsWhyRefused (FnReturnsAt O.Fn open_file) F.remaining
-        (ServesOver (Binds B.Fn bind) W.calls wires.old wires.new)
+        (over_wires (Binds B.Fn bind) W.calls C.readings wires.old wires.new clock.old clock.new)
         (map string_bytes words.now)) (E.contents err.old) (E.contents err.new) }
     // Where a writer failed, it has a front of what it was to have.
     ensures unprinted { result ≡ IsUnprinted → HasPartOf
         (IsAnswer (FnReturnsAt O.Fn open_file) F.remaining
-        (ServesOver (Binds B.Fn bind) W.calls wires.old wires.new)
+        (over_wires (Binds B.Fn bind) W.calls C.readings wires.old wires.new clock.old clock.new)
         (map string_bytes words.now))
         (IsWhyRefused (FnReturnsAt O.Fn open_file) F.remaining
-        (ServesOver (Binds B.Fn bind) W.calls wires.old wires.new)
+        (over_wires (Binds B.Fn bind) W.calls C.readings wires.old wires.new clock.old clock.new)
         (map string_bytes words.now))
         (P.contents out.old) (P.contents out.new) (E.contents err.old) (E.contents err.new) }
-    // Only `serve` uses the wires.
-    ensures quiet { CallNoServer (map string_bytes words.now) → wires.new ≡ wires.old }
+    // Only `serve` and `loop` use the wires, and only `loop` reads the clock.
+    ensures quiet { DontCall CommandAs.Serve (map string_bytes words.now)
+        → DontCall CommandAs.Loop (map string_bytes words.now) → wires.new ≡ wires.old }
+    ensures still { DontCall CommandAs.Loop (map string_bytes words.now) → clock.new ≡ clock.old }
     ensures streams { StayApart result (out.new ≡ out.old) (err.new ≡ err.old) }
 {
     match read_words(alloc, command_list(), words) {
         Ok(words) => match Command::of(words.command()) {
             Some(command) => {
-                run_command(alloc, command, &words, open_file, wires, bind, out, err)
+                run_command(
+                    alloc, command, &words, open_file, wires, clock, bind, out, err,
+                )
             },
             None => show_usage(err),
         },
@@ -80,12 +88,13 @@ where
 }
 
 /// Runs a command: prints its lines, or tells why it refuses.
-fn run_command<F, O, W, B, P, E>(
+fn run_command<F, O, W, C, B, P, E>(
     alloc: Global,
     command: Command,
     words: &Words<'_>,
     open_file: O,
     wires: &mut W,
+    clock: &mut C,
     bind: B,
     out: &mut P,
     err: &mut E,
@@ -94,6 +103,7 @@ where
     F: Read + Drop,
     O: Fn(&str) -> Option<F> + Drop,
     W: Wires,
+    C: Clock,
     B: Fn(&mut W, Locator) -> io::Result<()> + Drop,
     P: Write,
     E: Write,
@@ -102,21 +112,22 @@ where
     ensures fits { result ≢ IsBadWords }
     ensures answered { (complete : Bool) → result ≡ answer_status complete → HasText
         (IsTextOf (FnReturnsAt O.Fn open_file) F.remaining
-        (ServesOver (Binds B.Fn bind) W.calls wires.old wires.new) command (call_of words.now) complete)
+        (over_wires (Binds B.Fn bind) W.calls C.readings wires.old wires.new clock.old clock.new) command (call_of words.now) complete)
         (P.contents out.old) (P.contents out.new) }
     ensures refused { result ≡ IsRefused → HasRefused (IsWhyOf (FnReturnsAt O.Fn open_file) F.remaining
-        (ServesOver (Binds B.Fn bind) W.calls wires.old wires.new)
+        (over_wires (Binds B.Fn bind) W.calls C.readings wires.old wires.new clock.old clock.new)
         command (call_of words.now)) (E.contents err.old) (E.contents err.new) }
     ensures unprinted { result ≡ IsUnprinted → HasPartOf
         (IsTextOf (FnReturnsAt O.Fn open_file) F.remaining
-        (ServesOver (Binds B.Fn bind) W.calls wires.old wires.new) command (call_of words.now))
+        (over_wires (Binds B.Fn bind) W.calls C.readings wires.old wires.new clock.old clock.new) command (call_of words.now))
         (IsWhyOf (FnReturnsAt O.Fn open_file) F.remaining
-        (ServesOver (Binds B.Fn bind) W.calls wires.old wires.new) command (call_of words.now))
+        (over_wires (Binds B.Fn bind) W.calls C.readings wires.old wires.new clock.old clock.new) command (call_of words.now))
         (P.contents out.old) (P.contents out.new) (E.contents err.old) (E.contents err.new) }
-    ensures quiet { command ≢ CommandAs.Serve → wires.new ≡ wires.old }
+    ensures quiet { command ≢ CommandAs.Serve → command ≢ CommandAs.Loop → wires.new ≡ wires.old }
+    ensures still { command ≢ CommandAs.Loop → clock.new ≡ clock.old }
     ensures streams { StayApart result (out.new ≡ out.old) (err.new ≡ err.old) }
 {
-    match lines_of(alloc, command, words, open_file, wires, bind) {
+    match lines_of(alloc, command, words, open_file, wires, clock, bind) {
         Ok(lines) => answer(&lines, out),
         Err(refusal) => refuse(alloc, &refusal, err),
     }

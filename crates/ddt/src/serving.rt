@@ -1,13 +1,14 @@
 //! A server of a configuration over wires: its socket, its turns, and the line of its counts.
 
 ghost use Rattle.std.specs.Prelude.{◌≡◌, ◌<◌, IfOk, IfErr};
-ghost use Rattle.std.specs.IoError.{error_kind};
 ghost use Rattle.ddt_config.specs.Entries.{entry_count};
 ghost use Rattle.ddt_config.specs.Table.{outline};
 ghost use Rattle.ddt_lines.specs.Lines.{ended};
-ghost use Rattle.ddt.specs.Serve.{Binds, IsServedText, IsWhyUnserved, ServesOver, bind_refusal, served_text};
+ghost use Rattle.ddt.specs.Serve.{IsServedText, IsWhyUnserved, ServesOver, served_text};
+ghost use Rattle.ddt.specs.Sockets.{Binds};
 
-use crate::refusal::{Refusal, ServerRefusal};
+use crate::refusal::Refusal;
+use crate::sockets::unbound;
 use ddt_config::ServerConfig;
 use ddt_node::Server;
 use ddt_path::Locator;
@@ -15,7 +16,6 @@ use ddt_trie::TrieMap;
 use ddt_wires::{Served, Wires, serve_turns};
 use std::alloc::{AllocError, Global};
 use std::io;
-use std::io::ErrorKind;
 
 /// Binds a socket of the wires to the locator, and lets a server of the configuration serve there for so many turns;
 /// the line of its counts. Refused where the socket can't be bound, or if out of memory.
@@ -45,16 +45,6 @@ where
     }
     let served = serve_turns(alloc, wires, &server, at, turns);
     Ok(served_line(alloc, served)?)
-}
-
-/// What is refused where a socket isn't bound, with an error of this kind.
-fn unbound(at: Locator, kind: ErrorKind) -> Refusal<'static>
-    ensures { result ≡ bind_refusal at kind }
-{
-    match kind {
-        ErrorKind::OutOfMemory => Refusal::OutOfMemory,
-        _ => Refusal::NoServer(ServerRefusal::CannotBind(at)),
-    }
 }
 
 /// `received N replied M`, and a line feed. Fails only if out of memory.

@@ -6,6 +6,7 @@ mod check_lines;
 mod compile_lines;
 mod harness;
 mod lookup_lines;
+mod loop_lines;
 mod replays;
 mod serve_lines;
 mod show_lines;

@@ -40,7 +40,7 @@ const MOST_BYTES: usize = 65_535;
 /// lookups of all identifiers have ended, and at the latest after so many turns.
 ///
 /// A packet at one of `sockets` gets the servers' reply, sent to its source address and port; nothing goes on to an
-/// ETR. At `me` a datagram whose first four bits are 8 is asked where it is an ITR's request, and any other is heard
+/// ETR. At `me` a datagram whose first four bits are 8 is looked up if it is an ITR's request, and any other is heard
 /// where it comes from UDP port 4342. An ITR is sent the negative Map-Reply for a hole or a site that isn't registered,
 /// and nothing for another end.
 ///

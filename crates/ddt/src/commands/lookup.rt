@@ -74,7 +74,7 @@ impl OverRegister<'_> for Lookup {
 }
 
 /// The words of the identifiers.
-fn identifiers<'w>(words: &'w Words<'_>) -> &'w [&'w str]
+pub fn identifiers<'w>(words: &'w Words<'_>) -> &'w [&'w str]
     ensures { map (λ t. t.now) result.now ≡ xeid_words (call_of words.now) }
 {
     words.all_values("xeid").unwrap_or(&[])
@@ -107,7 +107,7 @@ fn look_up_each(
 }
 
 /// Refused where one of the words is no identifier, with the fault of the first.
-fn are_identifiers(words: &[&str]) -> Result<(), WordRefusal>
+pub fn are_identifiers(words: &[&str]) -> Result<(), WordRefusal>
     ensures good { OnOk result (bad_identifier (map (λ t. t.now) words.now) ≡ None) }
     ensures bad { IfErr result (λ why. bad_identifier (map (λ t. t.now) words.now) ≡ Some why) }
 {

@@ -3,10 +3,12 @@
 ghost use Rattle.std.specs.Prelude.{◌≡◌, Some, Ok, IfOk, IfErr, true};
 ghost use Rattle.std.specs.Fn.{FnReturnsAt};
 ghost use Rattle.ddt_words.specs.Call.{call_of};
-ghost use Rattle.ddt.specs.Serve.{Binds, IsServeText, IsWhyNotServed, ServesOver, address_of, bad_serve, config_path, is_loopback as is_loopback_of, turns_of};
+ghost use Rattle.ddt.specs.Serve.{IsServeText, IsWhyNotServed, ServesOver, address_of, bad_serve, config_path, turns_of};
+ghost use Rattle.ddt.specs.Sockets.{Binds};
 
 use crate::configuration::config_at;
 use crate::lines::Lines;
+use crate::loopback::is_loopback;
 use crate::number::read_number;
 use crate::refusal::{Refusal, ServerRefusal, WordRefusal};
 use crate::serving::serve_at;
@@ -27,11 +29,8 @@ pub const WORDS: Declaration<'static> = Declaration {
     ],
 };
 
-/// The first byte of each loopback address of IPv4 (RFC 1122, section 3.2.1.3).
-const LOOPBACK: u32 = 127;
-
 /// The greatest number of turns.
-const MOST_TURNS: u64 = 4_294_967_295;
+pub const MOST_TURNS: u64 = 4_294_967_295;
 
 /// The path of a configuration, and where and for how long its server serves.
 #[derive(Clone, Copy, Debug)]
@@ -83,7 +82,7 @@ where
     ensures text { IfOk result (λ lines. IsServeText (FnReturnsAt O.Fn open_file) F.remaining
         (ServesOver (Binds B.Fn bind) W.calls wires.old wires.new) (call_of words.now) lines.text.items) }
     ensures complete { IfOk result (λ lines. lines.complete ≡ true) }
-    ensures refused { IfErr result (IsWhyNotServed (FnReturnsAt O.Fn open_file) F.remaining
+    ensures refused { IfErr result (IsWhyNotServed (FnReturnsAt O.Fn open_file) F.remaining (wires.new ≡ wires.old)
         (ServesOver (Binds B.Fn bind) W.calls wires.old wires.new) (call_of words.now)) }
 {
     let asked = match Serve::of(words) {
@@ -96,14 +95,4 @@ where
     let config = config_at(alloc, open_file(asked.config), asked.config)?;
     let line = serve_at(alloc, config, asked.at, asked.turns, wires, bind)?;
     Ok(Lines::whole(line))
-}
-
-/// Whether an address is one of 127.0.0.0/8.
-fn is_loopback(address: Locator) -> bool
-    ensures { result ≡ is_loopback_of address }
-{
-    match address {
-        Locator::V4(number) => number >> 24 == LOOPBACK,
-        Locator::V6(_number) => false,
-    }
 }

@@ -1,4 +1,4 @@
-//! What stands in the way of a server: its address, its configuration, its socket.
+//! What stands in the way of a server or of a running resolver: an address, a configuration, a socket.
 
 ghost use Rattle.std.specs.Prelude.{Some};
 ghost use Rattle.ddt_text.specs.Written.{written_locator};
@@ -8,16 +8,16 @@ use ddt_path::Locator;
 use std::fmt;
 use std::net::{Ipv4Addr, Ipv6Addr};
 
-/// Why no server serves.
+/// Why no server and no resolver can run.
 #[derive(Clone, Copy, Debug)]
 pub enum ServerRefusal<'a> {
-    /// Its address isn't one of 127.0.0.0/8.
+    /// An address that a socket is to be bound to isn't one of 127.0.0.0/8.
     NotLoopback(Locator),
     /// The file of this name can't be opened, or can't be read.
     CannotOpen(&'a str),
     /// The file's bytes spell no configuration of which a server can be built.
     BadConfig(ConfigFault),
-    /// No socket can be bound to its address.
+    /// No socket can be bound to this address.
     CannotBind(Locator),
 }
 

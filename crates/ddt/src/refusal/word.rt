@@ -10,7 +10,7 @@ pub enum WordRefusal {
     Identifier(TextFault),
     /// It is no address.
     Address,
-    /// It is no number up to 18446744073709551615, written without a sign or a leading zero.
+    /// It is no number, written without a sign or a leading zero, or it is greater than its place takes.
     Number,
 }
 

@@ -3,7 +3,7 @@
 use crate::running::run;
 use crate::status::Status::{BadWords, Refused, Unprinted};
 use crate::telling::USAGE;
-use crate::tests::harness::{bind_none, process, run_words};
+use crate::tests::harness::{at_start, bind_none, process, run_words};
 use ddt_examples::registers::CAMPUS;
 use ddt_wires::WiresInMemory;
 use std::io;
@@ -71,6 +71,7 @@ fn a_file_that_cant_be_read_is_unreadable(rt: HostRuntime) -> Result<(), Fail> {
             &words,
             |_: &str| Some(Unreadable),
             &mut WiresInMemory::new(alloc, 0),
+            &mut at_start(),
             bind_none,
             &mut out,
             &mut err,

@@ -1,19 +1,15 @@
 //! `ddt serve`, over wires in memory.
 
-use crate::running::run;
-use crate::status::Status;
 use crate::status::Status::{Answered, BadWords, Refused};
 use crate::telling::USAGE;
-use crate::tests::harness::process;
+use crate::tests::harness::{Place, Source, ends};
 use ddt_examples::configurations::EAST;
 use ddt_examples::messages::{DDT_REQUEST, EAST_ACKNOWLEDGES};
 use ddt_examples::{bytes_of, changed};
 use ddt_path::{Listed, Locator};
 use ddt_wires::{Call, Waiting, WiresInMemory};
 use std::alloc::Global;
-use std::io;
-use std::io::{ErrorKind, Read};
-use std::process::Abort;
+use std::io::ErrorKind;
 use std::test::Fail;
 
 const SERVER: Locator = Locator::V4(0x7f00_0101);
@@ -22,59 +18,12 @@ const RESOLVER: Locator = Locator::V4(0x7f00_0035);
 
 const ETR: Locator = Locator::V4(0x7f00_0201);
 
-/// A file, or one that can be opened and not read.
-#[derive(Clone, Copy, Drop)]
-enum Source<'a> {
-    Bytes(&'a [u8]),
-    Broken,
-}
-
-impl Read for Source<'_> {
-    fn read(&mut self, buffer: &mut [u8]) -> io::Result<usize> {
-        match self {
-            Source::Bytes(bytes) => bytes.read(buffer),
-            Source::Broken => Err(io::Error::from(ErrorKind::BrokenPipe)),
-        }
-    }
-}
-
-/// What `ddt` finds: one file, `east.toml`, and wires whose sockets are bound or fail to be, with this kind of error.
-#[derive(Clone, Copy)]
-struct Place<'a> {
-    file: Source<'a>,
-    unbound: Option<ErrorKind>,
-}
-
-/// Runs `ddt` with these words at a place, over these wires, and compares what comes.
-fn ends<R: Abort>(
-    rt: &R,
-    alloc: Global,
-    place: Place<'_>,
-    wires: &mut WiresInMemory,
-    words: &[&str],
-    want: (Status, &str, &str),
-) -> Result<(), Fail> {
-    let all = process(alloc, words)?;
-    let (mut out, mut err) = (Vec::new(alloc), Vec::new(alloc));
-    let open_file = |path: &str| match path {
-        "east.toml" => Some(place.file),
-        _ => None,
-    };
-    let bind = |_wires: &mut WiresInMemory, _at: Locator| match place.unbound {
-        Some(kind) => Err(io::Error::from(kind)),
-        None => Ok(()),
-    };
-    let status = run(alloc, &all, open_file, wires, bind, &mut out, &mut err);
-    assert_eq!(rt; status, want.0, "the status of {words:?}");
-    assert_eq!(rt; out.as_slice(), want.1.as_bytes(), "what {words:?} prints");
-    assert_eq!(rt; err.as_slice(), want.2.as_bytes(), "what {words:?} refuses");
-    Ok(())
-}
-
 /// The configuration of the campus group `east`, and sockets that can be bound, but for this kind of error.
 fn campus(unbound: Option<ErrorKind>) -> Place<'static> {
     Place {
+        name: "east.toml",
         file: Source::Bytes(EAST.as_bytes()),
+        free: &[],
         unbound,
     }
 }
@@ -228,7 +177,7 @@ fn a_configuration_is_read_before_a_socket_is_bound(rt: HostRuntime) -> Result<(
     for (file, line) in REFUSED_FILES {
         let place = Place {
             file,
-            unbound: Some(ErrorKind::AddrInUse),
+            ..campus(Some(ErrorKind::AddrInUse))
         };
         let mut wires = WiresInMemory::new(rt.alloc(), 0);
         let words = ["serve", "east.toml", "127.0.1.1", "1"];

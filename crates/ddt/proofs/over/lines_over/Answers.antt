@@ -12,7 +12,7 @@ returns-clause-text g c =
         c.open_file.result,
         record { shown = c.value-path.result; shows = c.value-path.ensures; says = record { met = c.open_file.ensures } },
         of_register _ _ _ c.in_ok-register.register
-            (λ e. search (rules, accepted.closed e)) accepted.accepted h,
+            (λ e. search (rules, accepted.closed e)) accepted.accepted accepted.spelled h,
       ),
     )) (c.lines.ensures.text c.in-Ok.ensures.asks)
 
@@ -25,6 +25,6 @@ returns-clause-refused g c =
         c.open_file.result,
         record { shown = c.value-path.result; shows = c.value-path.ensures; says = record { met = c.open_file.ensures } },
         inr (of_register _ _ _ c.in_ok-register.register
-            (λ e. search (rules, accepted.closed e)) accepted.accepted h),
+            (λ e. search (rules, accepted.closed e)) accepted.accepted accepted.spelled h),
       ),
     )) (c.lines.ensures.refused c.in-Ok.ensures.asks)

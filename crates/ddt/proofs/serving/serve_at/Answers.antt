@@ -1,6 +1,6 @@
 use Rattle.std.proofs.Common.{◌∙◌, ap, inl, sym, Err, Ok}
-use Rattle.ddt.specs.Serve.{bind_refusal}
-use Rattle.ddt.proofs.ServeLemmas.{binds_as}
+use Rattle.ddt.specs.Sockets.{bind_refusal}
+use Rattle.ddt.proofs.SocketLemmas.{binds_as}
 use Rattle.ddt.proofs.serving.serve_at.Goals as goal
 
 pub returns-in-Err-clause-refused : goal.returns-in-Err-clause-refused

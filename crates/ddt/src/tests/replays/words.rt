@@ -4,7 +4,7 @@ use crate::running::run;
 use crate::status::Status;
 use crate::status::Status::{Answered, BadWords, Refused};
 use crate::telling::USAGE;
-use crate::tests::harness::{bind_none, process};
+use crate::tests::harness::{at_start, bind_none, process};
 use ddt_examples::registers::LONE_ROOT;
 use ddt_wires::WiresInMemory;
 use std::test::Fail;
@@ -66,6 +66,7 @@ fn options_are_read_before_files_are_opened(rt: HostRuntime) -> Result<(), Fail>
             &words,
             open_file,
             &mut WiresInMemory::new(alloc, 0),
+            &mut at_start(),
             bind_none,
             &mut out,
             &mut err,

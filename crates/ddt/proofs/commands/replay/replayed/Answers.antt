@@ -10,7 +10,7 @@ returns-in_err-steps-clause-refused g c =
     rw e (
       c.open_file.result,
       record { shown = c.args.asked.now.register; shows = refl; says = record { met = c.open_file.ensures } },
-      inr (of_register _ _ _ c.in_ok-register.register (λ e. search (rules, accepted.closed e)) accepted.accepted (
+      inr (of_register _ _ _ c.in_ok-register.register (λ e. search (rules, accepted.closed e)) accepted.accepted accepted.spelled (
         c.open_file-2.result,
         record { shown = c.args.asked.now.script; shows = refl; says = record { met = c.open_file-2.ensures } },
         c.in_err-steps.ensures.refused,
@@ -23,14 +23,14 @@ returns-clause-text g c =
     let spelled = c.in_ok-steps.ensures in (
       c.open_file.result,
       record { shown = c.args.asked.now.register; shows = refl; says = record { met = c.open_file.ensures } },
-      of_register _ _ _ c.in_ok-register.register (λ e. search (rules, accepted.closed e)) accepted.accepted (
+      of_register _ _ _ c.in_ok-register.register (λ e. search (rules, accepted.closed e)) accepted.accepted accepted.spelled (
         c.open_file-2.result,
         record { shown = c.args.asked.now.script; shows = refl; says = record { met = c.open_file-2.ensures } },
         (
           (λ e. search (rules, spelled.closed e)),
-          λ bytes tells. (
+          (
             c.in_ok-steps.steps.items,
-            spelled.spelled bytes tells,
+            spelled.spelled,
             run_of c.in_ok-register.register c.args.asked.now.me c.args.asked.now.seed c.in_ok-steps.steps.items c.deref.result.now c.whole.result.text.items c.in_ok-replay.field-0.items
                 c.deref.ensures.value (rw c.whole.ensures.text) c.in_ok-replay.ensures,
           ),

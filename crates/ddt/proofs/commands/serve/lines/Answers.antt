@@ -1,4 +1,4 @@
-use Rattle.std.proofs.Common.{◌≡◌, Err, inl, inr, rules, sym, ◌∙◌}
+use Rattle.std.proofs.Common.{◌≡◌, Err, inl, inr, refl, rules, sym, ◌∙◌}
 use Rattle.ddt_config.specs.Table.{outline}
 use Rattle.ddt.proofs.commands.serve.lines.Goals as goal
 
@@ -17,7 +17,7 @@ returns-in_err-config-clause-refused g c =
         (
           c.open_file.result,
           record { shown = asked.config; shows = words.path; says = record { met = c.open_file.ensures } },
-          inl (rw (sym words.path) c.in_err-config.ensures.refused),
+          inl (refl, rw (sym words.path) c.in_err-config.ensures.refused),
         ),
       ),
     ))
@@ -38,7 +38,7 @@ returns-in_err-line-clause-refused g c =
         (
           c.open_file.result,
           record { shown = asked.config; shows = words.path; says = record { met = c.open_file.ensures } },
-          inr ((λ e. search (rules, config.closed e)), λ bytes tells. (outline c.in_ok-config.config, config.spelled bytes tells, c.in_err-line.ensures.refused)),
+          inr ((λ e. search (rules, config.closed e)), (outline c.in_ok-config.config, config.spelled, c.in_err-line.ensures.refused)),
         ),
       ),
     ))
@@ -54,6 +54,6 @@ returns-clause-text g c =
       (
         c.open_file.result,
         record { shown = asked.config; shows = words.path; says = record { met = c.open_file.ensures } },
-        ((λ e. search (rules, config.closed e)), λ bytes tells. (outline c.in_ok-config.config, config.spelled bytes tells, rw c.whole.ensures.text c.in_ok-line.ensures.text)),
+        ((λ e. search (rules, config.closed e)), (outline c.in_ok-config.config, config.spelled, rw c.whole.ensures.text c.in_ok-line.ensures.text)),
       ),
     )

@@ -1,15 +1,21 @@
 #!/usr/bin/env python3
-"""Shows what tshark reads in the packets between a resolver and running servers: bench/capture.py PROGRAM
+"""Shows the packets between a resolver and running servers, as tshark captures them: bench/capture.py PROGRAM [XEID..]
 
-PROGRAM is the program itself, crates/ddt/out/ddt. The servers of examples/campus.csv run as `PROGRAM serve` on the
-loopback; from 127.0.0.53 each is asked for a few identifiers, while tshark captures what goes over the loopback at
-UDP port 4342. Prints the lines of each LISP message that tshark finds there, then `N passed, M failed`: a packet
-passes if tshark finds nothing malformed in it, a request if it was answered by one packet.
+PROGRAM is the program itself, crates/ddt/out/ddt. tshark captures what goes over the loopback at UDP port 4342.
+
+Without identifiers the servers of examples/campus.csv run as `PROGRAM serve`, and from 127.0.0.53 each is asked for a
+few. Prints the lines of each LISP message that tshark finds there. With identifiers `PROGRAM loop` looks these up over
+the same register. Prints its lines, and then a line for each packet: from where to where it went, and what
+`PROGRAM show` says of it.
+
+At the end stands `N passed, M failed`: a packet passes if tshark finds nothing malformed in it, a request if it was
+answered by one packet.
 
 Sends to 127.0.0.0/8 alone, and ends within a minute. Wants tshark (Debian: tshark) and the right to capture.
 """
 from __future__ import annotations
 
+import collections
 import contextlib
 import os
 import pathlib
@@ -28,6 +34,21 @@ XEIDS = ("[0]10.1.2.3", "[0]10.1.4.7", "[0]10.1.3.9", "[0]10.2.0.1", "[0]11.0.0.
 SHOWN = ("Frame ", "Internet Protocol", "Nonce", "Mapping Record", "Locator Record", "Malformed", "Encapsulated")
 
 
+class Packet(typing.NamedTuple):
+    """A packet's addresses, and what its UDP datagram holds."""
+
+    source: str
+    to: str
+    data: bytes
+
+
+class Count(typing.NamedTuple):
+    """How many requests were sent, and how many of them were answered by just one packet."""
+
+    asked: int
+    answered: int
+
+
 @contextlib.contextmanager
 def running(words: list[str], **streams: typing.Any) -> typing.Iterator[subprocess.Popen]:
     process = subprocess.Popen(words, **streams)
@@ -36,6 +57,24 @@ def running(words: list[str], **streams: typing.Any) -> typing.Iterator[subproce
     finally:
         process.terminate()
         process.wait()
+
+
+@contextlib.contextmanager
+def capturing(packets: pathlib.Path) -> typing.Iterator[None]:
+    """While what goes over the loopback is written into this file."""
+    capture = ["tshark", "-q", "-i", "lo", "-f", "udp port 4342", "-a", "duration:50", "-w", str(packets)]
+    with running(capture, stderr=subprocess.DEVNULL):
+        time.sleep(3)
+        yield
+        time.sleep(2)
+
+
+def dissected(packets: pathlib.Path, *words: str) -> list[str]:
+    read = ["tshark", "-r", str(packets), *words]
+    return subprocess.run(read, capture_output=True, text=True, check=True).stdout.splitlines()
+
+
+# -- Servers that are asked -----------------------------------------------------------------------------------------
 
 
 def served(stack: contextlib.ExitStack, program: str, folder: pathlib.Path) -> list[str]:
@@ -51,8 +90,8 @@ def served(stack: contextlib.ExitStack, program: str, folder: pathlib.Path) -> l
     return addresses
 
 
-def answered(addresses: list[str]) -> int:
-    """Asks each server for each identifier; how many requests were answered by just one packet."""
+def answered(addresses: list[str]) -> Count:
+    """Asks each server for each identifier."""
     resolver = mutated_requests.bound(plain_wire.RESOLVER)
     count = 0
     for address in addresses:
@@ -61,40 +100,64 @@ def answered(addresses: list[str]) -> int:
             resolver.sendto(request, (address, plain_wire.PORT))
             if select.select([resolver], [], [], 1)[0]:
                 count += len(mutated_requests.taken(resolver)) == 1
+    return Count(len(addresses) * len(XEIDS), count)
+
+
+def of_servers(program: str, packets: pathlib.Path) -> Count:
+    """Captures what servers are asked, and prints what tshark reads in it."""
+    with contextlib.ExitStack() as stack:
+        addresses = served(stack, program, packets.parent)
+        stack.enter_context(capturing(packets))
+        count = answered(addresses)
+    for line in dissected(packets, "-V", "-O", "lisp"):
+        if line.lstrip().startswith(SHOWN):
+            print(line)
     return count
 
 
-def captured(program: str, folder: pathlib.Path) -> tuple[pathlib.Path, int]:
-    """The file of what was captured, and how many requests were answered."""
-    packets = folder / "packets"
-    capture = ["tshark", "-q", "-i", "lo", "-f", "udp port 4342", "-a", "duration:50", "-w", str(packets)]
-    with contextlib.ExitStack() as stack:
-        addresses = served(stack, program, folder)
-        stack.enter_context(running(capture, stderr=subprocess.DEVNULL))
-        time.sleep(3)
-        count = answered(addresses)
-        time.sleep(2)
-    return packets, count
+# -- The servers of a register and a resolver -----------------------------------------------------------------------
 
 
-def dissected(packets: pathlib.Path, *words: str) -> list[str]:
-    read = ["tshark", "-r", str(packets), *words]
-    return subprocess.run(read, capture_output=True, text=True, check=True).stdout.splitlines()
+def packets_in(packets: pathlib.Path) -> list[Packet]:
+    """All packets in their order; of a packet within a packet the outer one."""
+    fields = [word for name in ("ip.src", "ip.dst", "udp.payload") for word in ("-e", name)]
+    lines = dissected(packets, "-T", "fields", "-E", "occurrence=f", *fields)
+    parts = [line.split("\t") for line in lines]
+    return [Packet(source, to, bytes.fromhex(data.replace(":", ""))) for source, to, data in parts]
+
+
+def matched(packets: list[Packet]) -> Count:
+    """Of the resolver's requests those to which the asked server sent one reply with the request's nonce."""
+    replies = collections.Counter((p.source, p.data[4:12]) for p in packets if p.to == plain_wire.RESOLVER)
+    requests = [(p.to, plain_wire.read_request(p.data)) for p in packets if p.source == plain_wire.RESOLVER]
+    asked = [(to, request.nonce) for to, request in requests if request]
+    return Count(len(asked), sum(replies[each] == 1 for each in asked))
+
+
+def of_loop(program: str, packets: pathlib.Path, xeids: list[str]) -> Count:
+    """Captures what `PROGRAM loop` sends, and prints its lines and a line for each packet."""
+    with capturing(packets):
+        loop = [program, "loop", str(mutated_requests.CAMPUS), *xeids]
+        print(subprocess.run(loop, stdout=subprocess.PIPE, text=True, check=False).stdout, end="")
+    found = packets_in(packets)
+    for packet in found:
+        show = [program, "show", packet.data.hex()]
+        said = subprocess.run(show, capture_output=True, text=True, check=True).stdout.rstrip("\n")
+        print(f"{packet.source} > {packet.to} {said}")
+    return matched(found)
 
 
 def main(words: list[str]) -> int:
-    if len(words) != 1:
+    if not words:
         sys.exit(__doc__)
+    program = os.path.realpath(words[0])
     with tempfile.TemporaryDirectory() as name:
-        packets, count = captured(os.path.realpath(words[0]), pathlib.Path(name))
-        for line in dissected(packets, "-V", "-O", "lisp"):
-            if line.lstrip().startswith(SHOWN):
-                print(line)
+        packets = pathlib.Path(name) / "packets"
+        count = of_loop(program, packets, words[1:]) if words[1:] else of_servers(program, packets)
         all_packets, bad = len(dissected(packets)), len(dissected(packets, "-Y", "_ws.malformed"))
-    asked = 3 * len(XEIDS)
-    failed = bad + asked - count
-    print(f"{all_packets - bad + count} passed, {failed} failed")
-    return 1 if failed or all_packets < 2 * asked else 0
+    failed = bad + count.asked - count.answered
+    print(f"{all_packets - bad + count.answered} passed, {failed} failed")
+    return 1 if failed or not count.asked or all_packets < 2 * count.asked else 0
 
 
 if __name__ == "__main__":

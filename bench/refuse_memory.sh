@@ -1,10 +1,10 @@
 #!/usr/bin/env bash
-# Runs each command, and each test that `rt test` has built, again and again: the first run gets no memory at its first
-# allocation, the next at its second, and so on up to the run that is given all it asks for. A command is to say
-# `out of memory` with status 1 and print nothing, or to answer what it answers with ample memory. A test is to pass, to
-# end with the error that says that memory is wanted, or to see just that in place of the fault that it looks for; the
-# program's own tests are left out, as they compare what the commands print. Wants a C compiler. Ends with status 1
-# where a run does anything else.
+# Runs the commands answer, assign, check, compile, lookup and show, and each test that `rt test` has built, again and
+# again: the first run gets no memory at its first allocation, the next at its second, and so on up to the run that is
+# given all it asks for. A command is to say `out of memory` with status 1 and print nothing, or to answer what it
+# answers with ample memory. A test is to pass, to end with the error that says that memory is wanted, or to see just
+# that in place of the fault that it looks for. Left out are the commands loop, replay and serve; and the program's own
+# tests, which compare what the commands print. Wants a C compiler. Ends with status 1 where a run does anything else.
 set -u
 cd -- "$(dirname -- "${BASH_SOURCE[0]}")/.." || exit 1
 ./ddt check examples/campus.csv >/dev/null || exit 1

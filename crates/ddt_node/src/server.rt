@@ -34,7 +34,8 @@ impl<M: PrefixMap<u32>> Model for Server<M> {
 
     ghost view = { λ s. outline s.config };
 
-    ghost invariant = { λ s. AreIndexed s.config.authorities (M.content s.authorities) (map M.content s.contents.items) };
+    ghost invariant = { λ s.
+        AreIndexed s.config.authorities (M.content s.authorities) (map M.content s.contents.items) };
 }
 
 impl<M: PrefixMap<u32>> Server<M> {

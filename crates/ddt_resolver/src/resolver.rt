@@ -47,7 +47,8 @@ impl<M: PrefixMap<Entry>> Model for Resolver<M> {
 
     ghost view = { λ r. record { known = r.cache; me = r.me; next = r.next; pending = r.table.lookups } };
 
-    ghost invariant = { λ r. IsInOrder (record { known = r.cache; me = r.me; next = r.next; pending = r.table.lookups }) };
+    ghost invariant = { λ r.
+        IsInOrder (record { known = r.cache; me = r.me; next = r.next; pending = r.table.lookups }) };
 }
 
 impl<M: PrefixMap<Entry>> Resolver<M> {

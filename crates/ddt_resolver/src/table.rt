@@ -30,7 +30,8 @@ impl Model for Table {
 
     ghost coded = { held_code pending.the_row.coded };
 
-    ghost view = { λ a. record { lookups = map_of a.lookups.entries; spare = min (spare a.lookups) (spare a.tickets) } };
+    ghost view = { λ a.
+        record { lookups = map_of a.lookups.entries; spare = min (spare a.lookups) (spare a.tickets) } };
 
     ghost invariant = { λ a. AreNoted (get ◌==◌ a.lookups) (get ◌==◌ a.tickets)
         × (map.len (map_of a.lookups.entries) ≡ length a.lookups.entries) };

@@ -256,11 +256,7 @@ fn a_datagram_that_may_be_cut_is_lost_alone(rt: HostRuntime) -> Result<(), Fail>
 }
 
 /// How long a call of `receive` takes that gives no packet, in milliseconds.
-fn waited(
-    rt: &(impl Abort + Clock),
-    wires: &mut UdpWires,
-    at: Locator,
-) -> Result<u128, Fail> {
+fn waited(rt: &(impl Abort + Clock), wires: &mut UdpWires, at: Locator) -> Result<u128, Fail> {
     let start = Instant::now(rt)?;
     let mut buffer = [0; 8];
     assert!(rt; wires.receive(at, &mut buffer)?.is_none());

@@ -8,5 +8,6 @@ pub mod MatchLemmas
 pub mod BelowLemmas
 pub mod TurnLemmas
 pub mod TreeLemmas
+pub mod DescentLemmas
 pub mod ContentLemmas
 pub mod GapLemmas

@@ -119,6 +119,16 @@ module _ {V : Type 0} {at : ℕ} {t s : Tree V} {y r : List ℕ} (h : IsStep at 
     longest = λ q w g c. only_empty u q w g c;
   }
 
+  uncovered_by : lookup at t [] ≡ None → IsUncovered (at + 1) s r → (q : List ℕ) → covers q y ≡ true
+      → lookup at t q ≡ None
+  uncovered_by f u [] c = f
+  uncovered_by f u (e ∷ q) c =
+      let i = into e q c in
+      ap (λ (d : ℕ). lookup at t (d ∷ q)) i.0 ∙ h.same q ∙ u.none q i.1
+
+  pub uncovered_step : lookup at t [] ≡ None → IsUncovered (at + 1) s r → IsUncovered at t y
+  uncovered_step f u = record { none = λ q c. uncovered_by f u q c }
+
   pub met_step : (k : List ℕ) (c : ℕ) → IsMet (at + 1) s k c → IsMet at t (h.digit ∷ k) c
   met_step k c m = record {
     path = h.digit ∷ m.path;
@@ -185,6 +195,16 @@ module _ {V : Type 0} where
     value = f;
     longest = λ q w g c. one_shorter at t q (ap (covers q) (sym ends) ∙ c);
   }
+
+  only_here : (at : ℕ) (t : Tree V) → lookup at t [] ≡ None → (q : List ℕ) → covers q [] ≡ true → lookup at t q ≡ None
+  only_here at t f [] c = f
+  only_here at t f (e ∷ q) c = absurd (false≢true c)
+
+  pub uncovered_end : (at : ℕ) (t : Tree V) (y : List ℕ) → y ≡ [] → lookup at t [] ≡ None → IsUncovered at t y
+  uncovered_end at t y ends f = record { none = λ q c. only_here at t f q (ap (covers q) (sym ends) ∙ c) }
+
+  pub uncovered_empty : (at : ℕ) (t : Tree V) (y : List ℕ) → t ≡ Empty → IsUncovered at t y
+  uncovered_empty at t y is = record { none = λ q c. ap (λ (u : Tree V). lookup at u q) is }
 
   -- a subtree has an entry
   pub some_entry : (at : ℕ) (t : Tree V) → is_fork t ≡ true → is_pruned t ≡ true

@@ -253,23 +253,21 @@ impl<V: Drop> Tree<V> {
         ensures found { IfSome result (λ found. IsLongestBelow at self.now (drop at prefix) found.0 found.1.now) }
         ensures none { IfNone result (IsUncovered at self.now (drop at prefix)) }
     {
-        match self {
-            Tree::Empty => None,
-            Tree::Fork(node) => {
-                let below = match turn_at(prefix, at) {
-                    Turn::End => None,
-                    Turn::Zero => node.zero.longest(prefix, at + 1),
-                    Turn::One => node.one.longest(prefix, at + 1),
-                };
-                match below {
-                    Some(found) => Some(found),
-                    None => match &node.value {
-                        Some(value) => Some((at, value)),
-                        None => None,
-                    },
-                }
+        let mut tree = self;
+        let mut depth = at;
+        let mut best = None;
+        while let Tree::Fork(node) = tree {
+            if let Some(value) = &node.value {
+                best = Some((depth, value));
             }
+            match turn_at(prefix, depth) {
+                Turn::End => return best,
+                Turn::Zero => tree = &node.zero,
+                Turn::One => tree = &node.one,
+            }
+            depth += 1;
         }
+        best
     }
 
     /// The length of a front of the prefix, of at least `at` digits, that overlaps no entry of at least `least` digits;

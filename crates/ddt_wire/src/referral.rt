@@ -31,6 +31,8 @@ use ddt_path::{Action, Prefix, ReferralRecord};
 use std::alloc::{AllocError, Global};
 use std::marker::Model;
 
+/// The bytes of a Map-Referral whose EID and 8 locators are IPv6.
+const MOST_BYTES: usize = 244;
 /// The bit A in the flags.
 const AUTHORITATIVE: u16 = 1 << 12;
 /// The bit I in the flags.
@@ -90,7 +92,7 @@ pub fn write_referral(
     ensures spelled { IfOk result (λ bytes. Spells bytes.items (message_of nonce referral.now)) }
 {
     let head = referral_head(nonce, referral);
-    let mut bytes = Vec::new(alloc);
+    let mut bytes = Vec::with_capacity(alloc, MOST_BYTES)?;
     put_head(&mut bytes, MAP_REFERRAL, &head)?;
     write_eid(&mut bytes, referral.prefix)?;
     put_locators(&mut bytes, referral.servers.as_slice())?;

@@ -21,7 +21,7 @@ returns-clause-spelled c =
       count_fits = c.referral_head-head.ensures.count;
       servers_fit = recursion_from_All IsAddress r.servers (rw c.as_slice.ensures.items at c.in_ok-put_locators.ensures.fit);
     } in
-    let head : c.put_head.new.bytes.items ≡ head_bytes 6 0 (written_head c.args.nonce r) = rw (c.new-bytes.ensures.items, c.referral_head-head.ensures.head) at c.in_ok-put_head.ensures.written in
+    let head : c.put_head.new.bytes.items ≡ head_bytes 6 0 (written_head c.args.nonce r) = rw (c.in_ok-bytes.ensures.items, c.referral_head-head.ensures.head) at c.in_ok-put_head.ensures.written in
     let e : c.put_locators.new.bytes.items ≡ written c.args.nonce r =
     three_parts (head_bytes 6 0 (written_head c.args.nonce r)) (written_eid r.prefix) (flat_map written_locator r.servers)
     c.put_head.new.bytes.items c.write_eid.new.bytes.items c.put_locators.new.bytes.items

@@ -1,5 +1,5 @@
 //! A binary tree of prefixes, with one level for each digit: 32 of the Instance ID, one of the address family, and up
-//! to 128 of the address. Each call goes down one path and no deeper, 162 nodes at most.
+//! to 128 of the address. Each call but `retain` goes down one path and no deeper, 162 nodes at most.
 
 ghost use Rattle.std.specs.Prelude.{true, false, not, None, Some, ◌≡◌, ◌≤◌, ◌+◌, length, drop, IsTrue, IsSome};
 ghost use Rattle.std.specs.Prelude.{IfOk, IfErr, IfSome, IfNone, ◌&&◌, ◌||◌, nat_le, nat_lt, is_some};

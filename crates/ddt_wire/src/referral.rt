@@ -31,7 +31,7 @@ use ddt_path::{Action, Prefix, ReferralRecord};
 use std::alloc::{AllocError, Global};
 use std::marker::Model;
 
-/// The bytes of a Map-Referral whose EID and 8 locators are IPv6.
+/// The bytes of a Map-Referral whose EID, of another instance than 0, and 8 locators are IPv6.
 const MOST_BYTES: usize = 244;
 /// The bit A in the flags.
 const AUTHORITATIVE: u16 = 1 << 12;

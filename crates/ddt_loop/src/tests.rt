@@ -1,6 +1,7 @@
 //! Worked runs over the campus, by wires in memory.
 
 mod clocks;
+mod fairness;
 mod loopback;
 mod runs;
 

@@ -1,8 +1,11 @@
 //! Worked lookups and schedules over the servers of a compiled register, and lookups over servers that say
 //! anything.
 
+mod both_maps;
+mod bounds;
 mod campus;
 mod hostile;
+mod liars;
 mod played;
 mod schedules;
 
@@ -27,6 +30,18 @@ const EAST: Locator = Locator::V4(0x7f00_0101);
 const EAST_2: Locator = Locator::V4(0x7f00_0102);
 
 const FAR: Locator = Locator::V4(0x7f00_0009);
+
+/// Eight servers.
+const EIGHT: [Locator; 8] = [
+    Locator::V4(0x7f00_0001),
+    Locator::V4(0x7f00_0002),
+    Locator::V4(0x7f00_0003),
+    Locator::V4(0x7f00_0004),
+    Locator::V4(0x7f00_0005),
+    Locator::V4(0x7f00_0006),
+    Locator::V4(0x7f00_0007),
+    Locator::V4(0x7f00_0008),
+];
 
 /// An IPv4 address of an instance.
 fn in_instance(iid: u32, address: u32) -> Xeid {

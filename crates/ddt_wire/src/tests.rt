@@ -210,18 +210,26 @@ fn with_nine_locators(alloc: Global, rt: &impl Abort) -> Vec<u8> {
     bytes
 }
 
+/// The locators are so many, from 127.0.0.10 upwards in their order.
+fn are_from_ten(rt: &impl Abort, locators: Locators<'_>, count: u32) {
+    let mut next: u32 = 0;
+    for locator in locators {
+        assert_eq!(rt; locator, Locator::V4(0x7f00_000a + next.min(255)));
+        next = next.saturating_add(1);
+    }
+    assert_eq!(rt; next, count);
+}
+
 #[test]
 fn a_record_keeps_the_first_eight_locators(rt: HostRuntime) {
     let bytes = with_nine_locators(rt.alloc(), &rt);
     let referral = read_referral(&bytes).expect(&rt, "a Map-Referral");
-    assert_eq!(rt; referral.locators().count(), 9);
-    assert_eq!(rt; referral.locators().last(), Some(Locator::V4(0x7f00_0012)));
+    are_from_ten(&rt, referral.locators(), 9);
     let record = referral.to_record();
     assert_eq!(rt; record.servers.as_slice().len(), 8);
-    assert_eq!(rt;
-        record.servers.as_slice().last(),
-        Some(&Locator::V4(0x7f00_0011))
-    );
+    for (place, locator) in record.servers.as_slice().iter().enumerate() {
+        assert_eq!(rt; *locator, Locator::V4(0x7f00_000a + place as u32));
+    }
 }
 
 /// The whole message is read, and no proper prefix of it.

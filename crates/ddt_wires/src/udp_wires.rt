@@ -11,7 +11,7 @@ use std::io::ErrorKind;
 use std::net::{IpAddr, Ipv4Addr, Ipv6Addr, Net, SocketAddr, UdpSocket};
 use std::time::Duration;
 
-/// How long `receive` waits for a datagram, in milliseconds.
+/// How long `receive` waits for a datagram, and `send` for room, in milliseconds.
 const WAIT: u64 = 5;
 
 /// A socket and the address that it is bound to.
@@ -51,8 +51,8 @@ impl Bound {
 /// What the system does is trusted, and no contract says it: that `receive` gives what came to the socket, and that
 /// what `send` takes goes out. `receive` waits for up to 5 milliseconds where the calls before it leave nothing else to
 /// do: since the last packet and the last `send`, as many calls of `receive` as there are other sockets gave no packet.
-/// Else it takes what is there. A `send` from a socket at which the last `receive` didn't wait doesn't wait for room
-/// either: without room it is refused. An empty datagram is a packet without bytes.
+/// Else it takes what is there. A `send` waits for room as long, but not at all from a socket at which the last `receive`
+/// didn't wait; without room it is refused as 2 Send. An empty datagram is a packet without bytes.
 ///
 /// A datagram that fills the whole buffer is refused as 1 Receive, since its end may be cut off, and so is one whose
 /// source isn't an address and a port; that datagram alone is lost. A locator that no socket is bound to is refused as
@@ -77,6 +77,7 @@ impl UdpWires {
     pub fn bind<N: Net>(&mut self, net: &N, at: Locator) -> io::Result<()> {
         let socket = UdpSocket::bind(net, SocketAddr::new(ip_of(at), CONTROL_PORT))?;
         socket.set_read_timeout(Some(Duration::from_millis(WAIT)))?;
+        socket.set_write_timeout(Some(Duration::from_millis(WAIT)))?;
         self.sockets.push(Bound {
             at,
             socket,

@@ -1,4 +1,5 @@
-//! Replies that are ignored while 1,024 lookups are pending: the resolver is as before, but for its time.
+//! Replies to a lookup beside 1,023 others: where one is ignored, the resolver is as before, but for its time; where the
+//! lookup ends, the others stay as they are.
 
 use super::*;
 
@@ -29,14 +30,20 @@ fn is_same_under(one: &ListResolver, other: &ListResolver, nonce: u64) -> bool {
     }
 }
 
-/// Whether the same lookups are pending in both, under the same tickets.
-fn wait_alike(one: &ListResolver, other: &ListResolver) -> bool {
-    for nonce in 0..one.next {
+/// Whether the same lookups are pending in both, under the same tickets, whose last requests have this nonce or a
+/// greater one.
+fn wait_alike_from(first: u64, one: &ListResolver, other: &ListResolver) -> bool {
+    for nonce in first..one.next {
         if !is_same_under(one, other, nonce) {
             return false;
         }
     }
-    one.next == other.next && one.pending() == other.pending()
+    one.next == other.next
+}
+
+/// Whether the same lookups are pending in both, under the same tickets.
+fn wait_alike(one: &ListResolver, other: &ListResolver) -> bool {
+    wait_alike_from(0, one, other) && one.pending() == other.pending()
 }
 
 /// Whether both remember the same at a moment: one entry, the same for the worked identifier.
@@ -97,5 +104,22 @@ fn an_unusable_referral_leaves_1024_lookups_as_before(rt: HostRuntime) -> Result
     assert_eq!(rt; about, true);
     let named = leaves_all(alloc, 0, TEN, (2, &nowhere, 0), Ignored::NoServers)?;
     assert_eq!(rt; named, true);
+    Ok(())
+}
+
+/// Whether the lookup ended as a loop, and the 1,023 others wait as they did.
+fn ends_alone(alloc: Global) -> Result<bool, Fail> {
+    let again = referral(0x0a00_0000, 8, &[ROOT])?;
+    let other = crowded(alloc)?;
+    let mut resolver = crowded(alloc)?;
+    let said = replied(alloc, &mut resolver, 0, TEN, (2, &again, 0))?;
+    let gone = resolver.table.with_nonce(2).is_none() && resolver.pending() == 1023;
+    let waits = wait_alike_from(3, &resolver, &other);
+    Ok(said == Said::GaveUp(Why::Loop) && gone && waits && remember_alike(resolver, other, at(0)?))
+}
+
+#[test]
+fn a_loop_leaves_1023_lookups_as_before(rt: HostRuntime) -> Result<(), Fail> {
+    assert_eq!(rt; ends_alone(rt.alloc())?, true);
     Ok(())
 }

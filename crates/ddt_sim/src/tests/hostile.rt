@@ -1,94 +1,14 @@
 //! Lookups over servers that lie to every request alike: referrals that go on and on, replies of other nonces and about
 //! other identifiers, and negative answers that are too wide or too narrow.
 
-ghost use Rattle.ddt_register.specs.declared.register.Register.{Register};
-ghost use Rattle.ddt_ecm.specs.Request.{Message};
-ghost use Rattle.ddt_node.specs.Server.{IsDdtRequest};
-ghost use Rattle.ddt_sim.specs.Honest.{IsServer, IsHonestReply};
-ghost use Rattle.std.specs.Prelude.{IfOk};
-
+use super::liars::{Liars, Lie, always, not_registered, of_everything, under};
 use super::*;
-use ddt_ecm::read_request;
-use ddt_path::Listed;
 use ddt_resolver::Asked;
-use ddt_wire::write_referral;
-use std::alloc::AllocError;
 
 const X: Xeid = Xeid {
     iid: 0,
     address: Locator::V4(0x0a01_0203),
 };
-
-/// What servers reply that nobody calls honest.
-#[derive(Clone, Copy)]
-enum Lie {
-    /// This record.
-    Always(ReferralRecord),
-    /// This record, under this nonce.
-    Under(u64, ReferralRecord),
-    /// A referral to these servers, for one digit of the identifier more than the time before, while there is one.
-    Deeper(LocatorSet),
-}
-
-/// This record, always.
-fn always(told: &ReferralRecord) -> Lie {
-    Lie::Always(*told)
-}
-
-/// This record, always under this nonce.
-fn under(nonce: u64, told: &ReferralRecord) -> Lie {
-    Lie::Under(nonce, *told)
-}
-
-/// Servers at each address, all with one lie.
-#[derive(Drop)]
-struct Liars {
-    lie: Lie,
-    /// How many requests they got, at most 255.
-    requests: u8,
-}
-
-/// The NODE-REFERRAL to these servers for the first digits of an identifier, all of it where it has no more.
-fn first_digits(x: Xeid, len: u8, servers: LocatorSet) -> ReferralRecord {
-    ReferralRecord {
-        action: Action::NodeReferral,
-        prefix: Prefix::cut(x, len.min(x.path_len())),
-        ttl: 0,
-        incomplete: false,
-        servers,
-    }
-}
-
-/// What a lie says to the request of a nonce for an identifier, behind so many others: its nonce and record.
-fn told(lie: Lie, nonce: u64, x: Xeid, requests: u8) -> (u64, ReferralRecord) {
-    match lie {
-        Lie::Always(told) => (nonce, told),
-        Lie::Under(other, told) => (other, told),
-        Lie::Deeper(servers) => (nonce, first_digits(x, requests, servers)),
-    }
-}
-
-impl Servers for Liars {
-    ghost honest = { λ servers r. ⊥ };
-
-    fn answer(
-        &mut self,
-        alloc: Global,
-        to: Locator,
-        request: &[u8],
-    ) -> Result<Option<Listed<u8>>, AllocError>
-        ensures says { (r : Register) (m : Message) → ⊥ → IsServer r to → IsDdtRequest request.now m → IfOk result (IsHonestReply r to m) }
-        ensures stay { (r : Register) → ⊥ → ⊥ }
-    {
-        let _anyone = to;
-        let Ok(request) = read_request(request) else {
-            return Ok(None);
-        };
-        let (nonce, told) = told(self.lie, request.nonce(), request.xeid(), self.requests);
-        self.requests = self.requests.saturating_add(1);
-        Ok(Some(Listed::of(write_referral(alloc, nonce, &told)?)))
-    }
-}
 
 /// Whether a lookup over these servers at a moment, in milliseconds, gives this outcome by requests to these addresses, in
 /// this order.
@@ -104,7 +24,7 @@ fn finds(
     let Some(now) = Moment::at(millis) else {
         return false;
     };
-    let mut servers = Liars { lie, requests: 0 };
+    let mut servers = Liars::new(lie);
     match lookup(alloc, &mut servers, resolver, now, x) {
         Ok(lookup) => lookup.outcome == outcome && went_to(lookup.hops.as_slice(), asked),
         Err(_error) => false,
@@ -131,15 +51,15 @@ fn gives_up(
     resolver: &mut ListResolver,
     x: Xeid,
     why: Why,
-    requests: u8,
+    requests: u16,
 ) -> bool {
     let Some(now) = Moment::at(0) else {
         return false;
     };
-    let mut servers = Liars { lie, requests: 0 };
+    let mut servers = Liars::new(lie);
     match lookup(alloc, &mut servers, resolver, now, x) {
         Ok(_lookup) => false,
-        Err(error) => { error == LookupError::GaveUp(why) && servers.requests == requests }
+        Err(error) => { error == LookupError::GaveUp(why) && servers.requests() == requests }
     }
 }
 
@@ -167,17 +87,6 @@ fn is_no_reply(alloc: Global, lie: Lie, resolver: &mut ListResolver) -> bool {
     let before = resolver.pending();
     let ended = gives_up(alloc, lie, resolver, X, Why::NoReply, 1);
     ended && resolver.pending() == before && starts_at(resolver, ROOT)
-}
-
-/// A record of everything, for a day.
-fn of_everything(action: Action, servers: LocatorSet) -> ReferralRecord {
-    ReferralRecord {
-        action,
-        prefix: Prefix::cut(X, 0),
-        ttl: 1440,
-        incomplete: false,
-        servers,
-    }
 }
 
 #[test]
@@ -272,18 +181,6 @@ fn a_reply_to_another_lookup_ends_both(rt: HostRuntime) -> Result<(), Fail> {
     Ok(())
 }
 
-/// Eight servers of the root.
-const ROOTS: [Locator; 8] = [
-    Locator::V4(0x7f00_0001),
-    Locator::V4(0x7f00_0002),
-    Locator::V4(0x7f00_0003),
-    Locator::V4(0x7f00_0004),
-    Locator::V4(0x7f00_0005),
-    Locator::V4(0x7f00_0006),
-    Locator::V4(0x7f00_0007),
-    Locator::V4(0x7f00_0008),
-];
-
 #[test]
 fn eight_roots_that_know_no_registration_are_asked_in_turn(rt: HostRuntime) -> Result<(), Fail> {
     let alloc = rt.alloc();
@@ -293,9 +190,26 @@ fn eight_roots_that_know_no_registration_are_asked_in_turn(rt: HostRuntime) -> R
         prefix: told.prefix,
         servers: told.servers,
     };
-    let mut resolver = rooted_at(alloc, &ROOTS)?;
+    let mut resolver = rooted_at(alloc, &EIGHT)?;
     let lie = always(&told);
-    let found = finds(alloc, lie, &mut resolver, 0, X, outcome, &ROOTS);
+    let found = finds(alloc, lie, &mut resolver, 0, X, outcome, &EIGHT);
+    assert_eq!(rt; found, true);
+    Ok(())
+}
+
+#[test]
+fn of_nine_servers_the_ninth_is_never_asked(rt: HostRuntime) -> Result<(), Fail> {
+    let alloc = rt.alloc();
+    let told = not_registered(X);
+    let outcome = Outcome::NotRegistered {
+        prefix: told.prefix,
+        servers: told.servers,
+    };
+    let mut asked = Vec::from_slice(alloc, &[ROOT])?;
+    asked.extend_from_slice(&EIGHT)?;
+    let mut resolver = rooted(alloc)?;
+    let lie = Lie::Ninth(set(&EIGHT)?);
+    let found = finds(alloc, lie, &mut resolver, 0, X, outcome, &asked);
     assert_eq!(rt; found, true);
     Ok(())
 }

@@ -103,7 +103,7 @@ fn line_of_ticked(ticked: &Ticked) -> Told {
 }
 
 /// The ask for an IPv4 address of the Instance ID 0.
-fn ask(address: u32) -> Step {
+pub fn ask(address: u32) -> Step {
     Step::Ask(Xeid {
         iid: 0,
         address: Locator::V4(address),

@@ -25,7 +25,7 @@ use toml::{Table, Value, de};
 /// in charge, `child`, tables of `prefix`, `kind` and `locators`, and where Map-Servers are, `site`, tables of `prefix`
 /// and `etrs`. The arrays of tables may be missing, and other keys are ignored. Refused as 1 Toml where the text is no
 /// TOML; else the first fault in this order decides: 2 Field where a key is missing or holds a value of another kind, 3
-/// Value where a text hasn't the form that its key asks for; then 4 Shape. 5 Memory may come at any time.
+/// Value where a text is malformed for its key; then 4 Shape. 5 Memory may come at any time.
 pub fn from_toml(alloc: Global, text: &str) -> Result<ServerConfig, ConfigFault>
     ensures found { IfOk result (StandsFor text.now) }
     ensures every { (c : ConfigValue) → StandsFor text.now c → (result ≡ Ok c) ⊎ (result ≡ Err ConfigFault.Memory) }

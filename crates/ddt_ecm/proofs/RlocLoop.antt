@@ -1,4 +1,4 @@
--- Reading locators one after the other, as a loop does.
+-- Reading the ITR-RLOCs of a Map-Request one after the other, as a loop does.
 use Rattle.std.proofs.Common.{◌≡◌, ℕ, suc, ◌-◌, ◌+◌, ◌≤◌, ◌<◌, List, [], ◌∷◌, ◌++◌, drop, Result, Ok, Err, refl, sym, ap, ◌∙◌, append_assoc, arith}
 use Rattle.std.proofs.lemmas.List.{append-nil}
 use Rattle.ddt_path.specs.declared.locator.Locator.{Locator}
@@ -7,7 +7,7 @@ use Rattle.ddt_wire.specs.Steps.{◌>>=◌, in_words}
 use Rattle.ddt_wire.specs.Address.{address_at}
 use Rattle.ddt_ecm.specs.MapRequest.{from_address, rlocs_at}
 
--- what was read before, and what is still read
+-- the ITR-RLOCs that were read before, in front of those that are still to be read
 abbrev pub with_front : List Locator → Result (List Locator × List ℕ) RequestFault → Result (List Locator × List ℕ) RequestFault
 with_front front read = read >>= λ x. Ok (front ++ x.0, x.1)
 
@@ -15,7 +15,8 @@ regroup : (front : List Locator) (l : Locator) (read : Result (List Locator × L
 regroup front l (Ok x) = ap (λ (ls : List Locator). Ok (ls, x.1)) (simp append_assoc)
 regroup front l (Err f) = refl
 
--- with some locators read, so many are still to be read of the rest, and together they are those of all the bytes
+-- Some ITR-RLOCs are read, and `left` more are to be read of the rest. Together they are the `count` ITR-RLOCs of all
+-- the bytes.
 abbrev pub IsReadSoFar : ℕ → List ℕ → ℕ → List ℕ → Type 0
 IsReadSoFar count bytes left rest = (front : List Locator) × (with_front front (rlocs_at left rest) ≡ rlocs_at count bytes)
 

@@ -1,4 +1,7 @@
 //! Encapsulated Map-Requests: the one spelling that is written, and what any bytes say.
+//!
+//! In reading order: `fault`, `request` (with `ip_header`, `udp_header`, `map_request` and `rlocs` below it, as they
+//! stand in the bytes, and `checksum`), `writing`, `laws`.
 #![tactic(auto)]
 
 mod checksum;

@@ -1,4 +1,4 @@
--- The name of a server group, and lists kept in a few slots.
+-- The name of a server group: which bytes are a name, and when two names are one.
 use Rattle.std.specs.Prelude.{ℕ, Bool, ◌==◌, ◌&&◌, ◌||◌, nat_le, List, length}
 use Rattle.std.specs.List.{list_all}
 use Rattle.std.specs.Cmp.Lexicographic.{pointwise}

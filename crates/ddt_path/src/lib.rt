@@ -1,4 +1,7 @@
-//! The words that all crates speak
+//! The words that all crates speak.
+//!
+//! In reading order: `locator`, `xeid`, `form`, `prefix` (with `masks` below them), `prefixed`, `matching`;
+//! `locator_set`, `record`; `name`, `listed`; and the laws, `fronts` and `holes`.
 #![tactic(auto)]
 
 mod form;

@@ -21,7 +21,9 @@ pub const NOT_REGISTERED_TTL: u32 = 1;
 /// What a server group is: a DDT node, or the Map-Servers.
 #[derive(Clone, Copy, Debug, PartialEq, Eq, PartialOrd, Ord, Hash)]
 pub enum Role {
+    /// DDT nodes, which refer to the servers of the zones below theirs.
     Node,
+    /// Map-Servers, which know the sites in their zones.
     Ms,
 }
 

@@ -1,6 +1,6 @@
 //! The texts of locators, identifiers and prefixes. A parser answers a value if and only if the text spells it
 //! (specs/Grammar.antt), else the first fault from left to right (specs/FirstFault.antt); a writer appends the one text
-//! that is written (specs/Written.antt), which spells the value, so that it is read again. Parsers take no memory.
+//! that is written (specs/Written.antt), which spells the value, so that it is read again. Parsers allocate nothing.
 //!
 //! In reading order: `fault`, `number`, `parts`, `locator_text`, `xeid_text`, `prefix_text`.
 #![tactic(auto)]

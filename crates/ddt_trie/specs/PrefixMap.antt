@@ -1,5 +1,6 @@
--- A finite map from prefixes, each seen as its path, to values: the prefixes of a server's configuration among which
--- it finds the longest that covers an identifier (RFC 8111, section 7.1).
+-- A finite map from prefixes, each seen as its path, to values. A server keeps what its configuration holds in such
+-- maps, and a resolver its cache. Both look for the longest prefix that covers an identifier (RFC 8111, sections 7.1
+-- and 7.3).
 use Rattle.std.specs.Prelude.{ℕ, ◌≡◌, ◌≤◌, ◌⊎◌, Bool, true, false, IsTrue, List, length, filter, Option, None, Some}
 use Rattle.std.specs.declared.cmp.Ordering.{Ordering}
 use Rattle.std.specs.Ordering.{nat_cmp}

@@ -1,5 +1,7 @@
 //! Maps from prefixes to values: what a server is in charge of, and what a resolver remembers, is kept in one. The
 //! trait says what such a map answers; `ListMap` keeps its entries in a list, `TrieMap` in a binary tree.
+//!
+//! In reading order: `prefix_map` (the trait), `list_map`, `tree`, `trie_map`, `laws`.
 #![tactic(auto)]
 
 #[cfg(test)]

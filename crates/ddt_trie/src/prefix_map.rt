@@ -52,9 +52,8 @@ pub trait PrefixMap<V: Drop>: Drop {
         ensures none { IfNone result (IsCoveredBelow (content self.now) from (xeid_path x)) }
         ensures covered { IsCoveredBelow (content self.now) from (xeid_path x) → IsNone result };
 
-    /// Sets the value of a prefix, and answers the one before. Where memory runs out, the map stays as it is and the
-    /// prefix and the value come back; a prefix that has a value already wants none. The map is to have less than
-    /// 1,048,576 entries.
+    /// Sets the value of a prefix, and answers the one before. If memory runs out, the map is unchanged, and the prefix
+    /// and the value are returned. Replacing a value never allocates. The map is to have less than 1,048,576 entries.
     fn insert(&mut self, prefix: Prefix, value: V) -> Result<Option<V>, (Prefix, V)>
         requires { map.len (content self.old) < 1048576 }
         ensures before { IfOk result (λ before. before ≡ map.get (content self.old) prefix) }

@@ -333,7 +333,7 @@ fn front(rt: &impl Abort, x: Xeid, len: u8) -> Prefix {
     Prefix::cut(x, len)
 }
 
-/// An insert that is refused memory hands back the pair and leaves what the map answers; asked again, it inserts.
+/// An insert that is refused memory returns the pair, and the map answers as before; asked again, it inserts.
 fn refused<M: PrefixMap<u32>>(alloc: Global, rt: &impl Abort) {
     let mut map = M::empty(alloc);
     for (at, len) in [41, 49, 65, 57, 45, 33, 20, 161, 160, 64]

@@ -1,4 +1,6 @@
 //! The bytes of Map-Referrals and of negative Map-Replies: the one spelling that is written, and what any bytes spell.
+//!
+//! In reading order: `address`, `eid`, `head`, `fault`, `locator_record`, `referral`, `negative_reply`, `laws`.
 #![tactic(auto)]
 
 mod address;

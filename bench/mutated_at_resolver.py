@@ -42,14 +42,18 @@ MOST_GROWTH = 1024
 # -- Datagrams drawn by lot ------------------------------------------------------------------------------------------
 
 
+def itr_request(nonce: bytes, xeid: Path, first: int = 0x80) -> bytes:
+    """The request of the ITR, whose first byte has the bit D clear."""
+    length, eid = plain_wire.written_eid(xeid)
+    head = struct.pack("!BBBB8sH", 0x10, 0, 0, 1, nonce, 0)
+    message = head + plain_wire.written_address(ITR) + bytes([0, length]) + eid
+    return plain_wire.enclosed(plain_wire.Outer(bytes([first, 0, 0, 0]), source_port=ITR_PORT), xeid, message)
+
+
 def drawn_request(lot: random.Random) -> bytes:
     """A request of the ITR; now and then one of a DDT client."""
-    xeid = drawn_xeid(lot)
-    length, eid = plain_wire.written_eid(xeid)
-    head = struct.pack("!BBBB8sH", 0x10, 0, 0, 1, lot.randbytes(8), 0)
-    message = head + plain_wire.written_address(ITR) + bytes([0, length]) + eid
-    first = 0x84 if lot.random() < 0.1 else 0x80
-    return plain_wire.enclosed(plain_wire.Outer(bytes([first, 0, 0, 0]), source_port=ITR_PORT), xeid, message)
+    xeid, nonce = drawn_xeid(lot), lot.randbytes(8)
+    return itr_request(nonce, xeid, 0x84 if lot.random() < 0.1 else 0x80)
 
 
 def drawn_referral(lot: random.Random, register: Register) -> bytes:
@@ -119,6 +123,12 @@ def dropped() -> int | None:
     return next((int(line.split()[-1]) for line in lines if line.split()[1] == place), None)
 
 
+def wait_for_resolver(process: subprocess.Popen) -> None:
+    """Waits until the resolver's socket is there, or `loop` has ended."""
+    while dropped() is None and process.poll() is None:
+        time.sleep(0.001)
+
+
 def resident(process: subprocess.Popen) -> int:
     """Its resident size, in KB; 0 once it has ended."""
     lines = pathlib.Path(f"/proc/{process.pid}/status").read_text().splitlines()
@@ -159,8 +169,7 @@ class Flood:
 
 def flooded(flood: Flood, process: subprocess.Popen, most: int) -> tuple[int, int, int]:
     """Sends until so many datagrams came to the resolver, or it ended: how many came, and the resident sizes."""
-    while dropped() is None and process.poll() is None:
-        time.sleep(0.001)
+    wait_for_resolver(process)
     before, taken, first, last = flood.sent, 0, 0, 0
     while taken < most and process.poll() is None:
         flood.send(BATCH if first else 10)

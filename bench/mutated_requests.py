@@ -6,9 +6,10 @@ PROGRAM is the program itself, crates/ddt/out/ddt. The servers of examples/campu
 mutated and some are random bytes. What it sends back, and what it sends on to an ETR, is compared with what plain
 code makes of the same datagram: a reader of Map-Requests and the servers of plain_replay.py, over lists.
 
-Prints for each server its resident size after 1,000 datagrams and at the end, then `N passed, M failed`: a datagram
-passes if it alone was answered, and sent on, as it is to be; a server if it grew by at most 256 KB and went on.
-Sends to 127.0.0.0/8 alone.
+Prints for each server its own memory after 1,000 datagrams and at the end, and then its resident size, which has the
+pages of its file as well. At last stands `N passed, M failed`: a datagram passes if it alone was answered, and sent on,
+as it is to be; a server if its own memory did not grow at all and it went on. A program with run-time checks keeps what
+it has freed for a while, and grows. Sends to 127.0.0.0/8 alone.
 """
 from __future__ import annotations
 
@@ -31,8 +32,8 @@ from plain_wire import PORT, RESOLVER, read_request, written_eid, written_referr
 
 CAMPUS = pathlib.Path(__file__).resolve().parent.parent / "examples/campus.csv"
 BATCH = 32
-# In KB: less than a byte for each of a server's datagrams; code that is first reached late takes some pages.
-MOST_GROWTH = 256
+# After so many datagrams a server has met all kinds, and the largest, and has all memory that it ever takes.
+WARM_UP = 1000
 MOST_BYTES = 65507
 
 # -- Requests and datagrams drawn by lot -----------------------------------------------------------------------------
@@ -137,6 +138,17 @@ def taken(made: socket.socket) -> list[bytes]:
     return found
 
 
+def in_status(process: subprocess.Popen, name: str) -> int:
+    """A size that the system tells of a process, in KB; 0 once it has ended."""
+    lines = pathlib.Path(f"/proc/{process.pid}/status").read_text().splitlines()
+    return next((int(line.split()[1]) for line in lines if line.startswith(name + ":")), 0)
+
+
+def own_memory(process: subprocess.Popen) -> int:
+    """Its heap, stack and data that are resident, in KB; the pages of its files are not among them."""
+    return in_status(process, "RssAnon")
+
+
 @dataclasses.dataclass
 class Server:
     """A server that runs, the resolver's socket, and those of all ETRs."""
@@ -146,11 +158,6 @@ class Server:
     resolver: socket.socket
     etrs: dict[str, socket.socket]
     last: int = 0
-
-    def resident(self) -> int:
-        """Its resident size, in KB."""
-        lines = pathlib.Path(f"/proc/{self.process.pid}/status").read_text().splitlines()
-        return next(int(line.split()[1]) for line in lines if line.startswith("VmRSS"))
 
     def send(self, datagrams: list[bytes]) -> None:
         for datagram in datagrams:
@@ -199,17 +206,18 @@ def largest_datagrams(lot: random.Random) -> list[bytes]:
 
 
 def failures_of_server(server: Server, expected: Expected, count: int, lot: random.Random) -> tuple[int, bool]:
-    """How many datagrams failed, and whether the server stayed as large as it was after the first thousand."""
+    """How many datagrams failed, and whether the server went on and did not grow after the first thousand."""
     failed, first, sent = 0, 0, 0
     while sent < count:
         # The largest come first, so that they can't be why a server grows later.
         datagrams = [drawn_datagram(lot) for _ in range(min(BATCH, count - sent))] if sent else largest_datagrams(lot)
         failed += failures_of_batch(server, expected, datagrams)
         sent += len(datagrams)
-        first = first or (server.resident() if sent >= 1000 else 0)
-    last = server.resident()
-    print(f"{server.at}: {sent} datagrams, {first} KB resident after 1,000 of them, {last} KB at the end", flush=True)
-    return failed, last <= first + MOST_GROWTH and server.process.poll() is None
+        first = first or (own_memory(server.process) if sent >= min(WARM_UP, count) else 0)
+    last, resident = own_memory(server.process), in_status(server.process, "VmRSS")
+    sizes = f"{first} KB of its own after {WARM_UP:,} of them, {last} KB at the end, {resident} KB resident"
+    print(f"{server.at}: {sent} datagrams, {sizes}", flush=True)
+    return failed, last <= first and server.process.poll() is None
 
 
 def main(words: list[str]) -> int:

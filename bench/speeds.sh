@@ -12,8 +12,11 @@
 #             the process, with the register in it
 #   resolver  with 1,024 lookups pending: the time of a `tick` with nothing to do, of a `datagram` that belongs to no
 #             lookup, and of one that refers a lookup to the next server
-#   ordinary  the largest resident size with a map of 65,532 prefixes of one instance, or of 256 instances
-# Times are of one run each, by the clock: run it where nothing else runs. Wants python3.
+#   ordinary  the same with the sites of one instance, or of 256 instances, side by side; with single IPv4 addresses; and
+#             with single IPv6 addresses, each of an instance of its own, which is the worst shape for a tree
+#   register  the largest resident size of a process that reads and checks the register and does no more
+# Times are elapsed, the least of three runs, or of one run of a list of 65,535 rows. Run it where nothing else runs.
+# Wants python3.
 set -eu
 top=$(cd -- "$(dirname -- "${BASH_SOURCE[0]}")/.." && pwd)
 copy=$(mktemp -d)
@@ -30,12 +33,20 @@ register() {
 # Everything is proved here; without a register the program ends with status 1.
 (cd -- "$copy/crates/speeds" && rt run >&2) || [ -x "$copy/crates/speeds/out/speeds" ]
 
-# largest WORD..: runs the words and prints their largest resident size behind what they print.
-largest() {
-    python3 -c 'import resource, subprocess, sys
-status = subprocess.run(sys.argv[1:]).returncode
-print("resident:", resource.getrusage(resource.RUSAGE_CHILDREN).ru_maxrss // 1024, "MB", flush=True)
-sys.exit(status)' "$@"
+# least RUNS WORD..: the least times and the least size of so many runs.
+least() {
+    python3 "$top/bench/speeds/least.py" "$@"
+}
+
+# maps NAME REGISTER: both maps of the register's prefixes, and the register alone.
+maps() {
+    local map runs
+    for map in register list trie; do
+        runs=3
+        if [ "$map" = list ] && [ "$(wc -l <"$2")" -gt 60000 ]; then runs=1; fi
+        echo "== $1 $map"
+        least "$runs" "$speeds" "$map" "$2"
+    done
 }
 
 speeds=$copy/crates/speeds/out/speeds
@@ -43,17 +54,16 @@ for shape in nested flat groups sites; do
     full=$(register "$shape" 65535)
     for what in servers handle resolver; do
         echo "== $shape 65535 $what"
-        "$speeds" "$what" "$full"
+        least 3 "$speeds" "$what" "$full"
     done
     for rows in 1000 8000 65535; do
-        for map in list trie; do
-            echo "== $shape $rows $map"
-            largest "$speeds" "$map" "$(register "$shape" "$rows")"
-        done
+        maps "$shape $rows" "$(register "$shape" "$rows")"
     done
 done
-for instances in 1 256; do
-    echo "== ordinary $instances"
-    python3 "$top/bench/speeds/ordinary.py" "$instances" >"$copy/ordinary.csv"
-    largest "$speeds" trie "$copy/ordinary.csv"
+for shape in 1 256 hosts scattered; do
+    python3 "$top/bench/speeds/ordinary.py" "$shape" >"$copy/ordinary.csv"
+    echo "== ordinary $shape register"
+    least 3 "$speeds" register "$copy/ordinary.csv"
+    echo "== ordinary $shape trie"
+    least 3 "$speeds" trie "$copy/ordinary.csv"
 done

@@ -85,14 +85,27 @@ fn longest_way(x: Xeid, requests: u16, servers: LocatorSet) -> ReferralRecord {
     first_digits(x, (set % sets) as u8, servers)
 }
 
+/// A referral to these servers at the first request, and then that nothing is registered.
+fn first_or_none(x: Xeid, requests: u16, servers: LocatorSet) -> ReferralRecord {
+    if requests == 0 {
+        first_digits(x, 0, servers)
+    } else {
+        not_registered(x)
+    }
+}
+
+/// Whether the reply behind so many others names a ninth server.
+fn has_a_ninth(lie: Lie, requests: u16) -> bool {
+    matches!(lie, Lie::Ninth(_)) && requests == 0
+}
+
 /// What a lie says to the request of a nonce for an identifier, behind so many others: its nonce and record.
 fn told(lie: Lie, nonce: u64, x: Xeid, requests: u16) -> (u64, ReferralRecord) {
     match lie {
         Lie::Always(told) => (nonce, told),
         Lie::Under(other, told) => (other, told),
         Lie::Deeper(servers) => (nonce, first_digits(x, requests.min(255) as u8, servers)),
-        Lie::Ninth(servers) if requests == 0 => (nonce, first_digits(x, 0, servers)),
-        Lie::Ninth(_servers) => (nonce, not_registered(x)),
+        Lie::Ninth(servers) => (nonce, first_or_none(x, requests, servers)),
         Lie::Longest(servers) => (nonce, longest_way(x, requests, servers)),
     }
 }
@@ -144,7 +157,7 @@ impl Servers for Liars {
         };
         let (nonce, told) = told(self.lie, request.nonce(), request.xeid(), self.requests);
         let mut bytes = write_referral(alloc, nonce, &told)?;
-        if let (Lie::Ninth(_servers), 0) = (self.lie, self.requests) {
+        if has_a_ninth(self.lie, self.requests) {
             add_a_ninth(&mut bytes)?;
         }
         self.requests = self.requests.saturating_add(1);

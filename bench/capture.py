@@ -1,13 +1,13 @@
 #!/usr/bin/env python3
-"""Shows the packets between a resolver and running servers, as tshark captures them: bench/capture.py [--itr] PROGRAM [XEID..]
+"""Shows the packets between a resolver and running servers, by tshark: bench/capture.py [--itr] PROGRAM [XEID..]
 
 PROGRAM is the program itself, crates/ddt/out/ddt. tshark captures what goes over the loopback at UDP port 4342.
 
 Without identifiers the servers of examples/campus.csv run as `PROGRAM serve`, and from 127.0.0.53 each is asked for a
 few. Prints the lines of each LISP message that tshark finds there.
 
-With identifiers `PROGRAM loop` looks these up over the same register. Prints its lines, and then a line for each packet:
-from where to where it went, and what `PROGRAM show` says of it.
+With identifiers `PROGRAM loop` looks these up over the same register. Prints its lines, and then a line for each
+packet: from where to where it went, and what `PROGRAM show` says of it.
 
 With --itr it looks up [1]10.0.0.1 as well: its instance has a server at the broadcast address 127.255.255.255, to which
 the system lets nothing be sent, so the run takes four seconds. After one of them an ITR, port 50000 of 127.0.0.60, asks

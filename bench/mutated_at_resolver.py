@@ -9,8 +9,11 @@ come to a resolver.
 
 Each line of `loop` has to be what longest match over the register assigns, or `gave-up NoReply`. Each datagram that
 the ITR gets has to be the negative Map-Reply, by plain code, to a request that it has sent, and no request may have
-two. Prints for each run the resident size after 1,000 datagrams and at the end, then `N passed, M failed`: so many
-lines and Map-Replies were right, or runs that grew by at most 1,024 KB. Sends to 127.0.0.0/8 alone.
+two. Prints for each run its own memory after 5,000 datagrams and at the end, then `N passed, M failed`: so many lines
+and Map-Replies were right, or runs that grew by at most 320 KB. Sends to 127.0.0.0/8 alone.
+
+The first 5,000 are requests whose lookups fill the table of 1,024 pending ones. What grows later ends as well: the
+table's index doubles once, and the cache has a hundred nodes for the forty prefixes that the servers say.
 """
 from __future__ import annotations
 
@@ -28,7 +31,7 @@ import time
 
 import plain_replay
 import plain_wire
-from mutated_requests import CAMPUS, drawn_xeid, largest_datagrams, mutated
+from mutated_requests import CAMPUS, drawn_xeid, largest_datagrams, mutated, own_memory
 from plain_replay import Path, Register
 from plain_wire import PORT, RESOLVER
 
@@ -36,8 +39,10 @@ ROOTS = " ".join(f"127.0.9.{number}" for number in range(1, 9))
 ITR, ITR_PORT, FORGER = "127.0.0.60", 50000, "127.0.0.99"
 IDENTIFIERS, POOL, BATCH = 300, 30000, 200
 ANSWERS = {"DELEGATION-HOLE", "MS-NOT-REGISTERED"}
-# In KB: some steps of the heap, of 132 KB each, for what the resolver learns meanwhile.
-MOST_GROWTH = 1024
+# The first datagrams of a run fill the table of pending lookups.
+WARM_UP = 5000
+# In KB: two steps of the heap, of 132 KB each, and some pages.
+MOST_GROWTH = 320
 
 # -- Datagrams drawn by lot ------------------------------------------------------------------------------------------
 
@@ -96,13 +101,10 @@ def wanted_reply(register: Register, datagram: bytes) -> bytes | None:
     return struct.pack("!I8sIBBHH", 0x20000001, request.nonce, record.ttl, 0, length, 0x2000, 0) + eid
 
 
-class Pool(list[tuple[bytes, bytes | None]]):
-    """Datagrams, each with its reply. The largest come first, and then requests that fill the resolver's table."""
-
-    def __init__(self, lot: random.Random, register: Register) -> None:
-        drawn = [drawn_datagram(lot, register) for _ in range(POOL)]
-        datagrams = largest_datagrams(lot) + [drawn_request(lot) for _ in range(800)] + drawn
-        super().__init__((datagram, wanted_reply(register, datagram)) for datagram in datagrams)
+def opening_datagrams(lot: random.Random) -> list[bytes]:
+    """The largest, and requests for identifiers of a site. No answer to these is remembered, so each is a lookup."""
+    sites = (plain_replay.read_xeid(f"[0]10.1.2.{lot.randrange(256)}") for _ in range(1500))
+    return largest_datagrams(lot) + [itr_request(lot.randbytes(8), xeid) for xeid in sites]
 
 
 # -- A run -----------------------------------------------------------------------------------------------------------
@@ -129,17 +131,12 @@ def wait_for_resolver(process: subprocess.Popen) -> None:
         time.sleep(0.001)
 
 
-def resident(process: subprocess.Popen) -> int:
-    """Its resident size, in KB; 0 once it has ended."""
-    lines = pathlib.Path(f"/proc/{process.pid}/status").read_text().splitlines()
-    return next((int(line.split()[1]) for line in lines if line.startswith("VmRSS")), 0)
-
-
 @dataclasses.dataclass
 class Flood:
-    """The sockets that send, what was sent so far, and what the ITR got."""
+    """The datagrams, the first of a run and the others, each with its reply; what was sent, and what the ITR got."""
 
-    pool: Pool
+    opening: list[tuple[bytes, bytes | None]]
+    pool: list[tuple[bytes, bytes | None]]
     itr: socket.socket
     forger: socket.socket
     open_replies: collections.Counter[bytes] = dataclasses.field(default_factory=collections.Counter)
@@ -147,9 +144,9 @@ class Flood:
     right: int = 0
     wrong: int = 0
 
-    def send(self, count: int) -> None:
-        for _ in range(count):
-            datagram, reply = self.pool[self.sent % len(self.pool)]
+    def send(self, datagrams: list[tuple[bytes, bytes | None]]) -> None:
+        for _ in range(BATCH):
+            datagram, reply = datagrams[self.sent % len(datagrams)]
             (self.itr if datagram[:1] >= b"\x80" else self.forger).sendto(datagram, (RESOLVER, PORT))
             self.open_replies[reply] += reply is not None
             self.sent += 1
@@ -168,16 +165,16 @@ class Flood:
 
 
 def flooded(flood: Flood, process: subprocess.Popen, most: int) -> tuple[int, int, int]:
-    """Sends until so many datagrams came to the resolver, or it ended: how many came, and the resident sizes."""
+    """Sends until so many datagrams came to the resolver, or it ended: how many came, its memory then, and at last."""
     wait_for_resolver(process)
     before, taken, first, last = flood.sent, 0, 0, 0
     while taken < most and process.poll() is None:
-        flood.send(BATCH if first else 10)
+        flood.send(flood.pool if first else flood.opening)
         flood.hear()
-        lost, size = dropped(), resident(process)
+        lost, size = dropped(), own_memory(process)
         if lost is not None and size:
             taken, last = flood.sent - before - lost, size
-            first = first or (size if taken >= 1000 else 0)
+            first = first or (size if taken >= min(WARM_UP, most) else 0)
     return taken, first, last
 
 
@@ -204,7 +201,7 @@ def run(program: str, lot: random.Random, flood: Flood, text: str, most: int) ->
         lines = process.communicate(timeout=120)[0]
     flood.hear()
     right, stayed = right_lines(register, xeids, lines), last <= first + MOST_GROWTH
-    print(f"{taken} datagrams, {first} KB resident after 1,000 of them, {last} KB at the end", flush=True)
+    print(f"{taken} datagrams, {first} KB of its own after {WARM_UP:,} of them, {last} KB at the end", flush=True)
     return taken, right + stayed, IDENTIFIERS - right + (not stayed) + (process.returncode not in (0, 1))
 
 
@@ -215,8 +212,10 @@ def main(words: list[str]) -> int:
     left = int(words[1]) if len(words) > 1 else 1_000_000
     lot = random.Random(int(words[2]) if len(words) > 2 else 1)
     text = CAMPUS.read_text().replace("127.0.0.1\n", f"{ROOTS}\n", 1)
-    pool = Pool(lot, plain_replay.read_register(text))
-    flood, passed, failed = Flood(pool, bound(ITR, ITR_PORT), bound(FORGER, PORT)), 0, 0
+    register = plain_replay.read_register(text)
+    drawn = (drawn_datagram(lot, register) for _ in range(POOL))
+    opening, pool = ([(each, wanted_reply(register, each)) for each in few] for few in (opening_datagrams(lot), drawn))
+    flood, passed, failed = Flood(opening, pool, bound(ITR, ITR_PORT), bound(FORGER, PORT)), 0, 0
     while left > 0:
         taken, right, wrong = run(program, lot, flood, text, left)
         left, passed, failed = left - taken, passed + right, failed + wrong

@@ -16,7 +16,7 @@
 #             with single IPv6 addresses, each of an instance of its own, which is the worst shape for a tree
 #   register  the largest resident size of a process that reads and checks the register and does no more
 # Times are elapsed, the least of three runs, or of one run of a list of 65,535 rows. Run it where nothing else runs.
-# Wants python3.
+# Wants python3 and GNU time (Debian: time).
 set -eu
 top=$(cd -- "$(dirname -- "${BASH_SOURCE[0]}")/.." && pwd)
 copy=$(mktemp -d)

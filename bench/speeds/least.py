@@ -1,25 +1,26 @@
 #!/usr/bin/env python3
 """Runs words of the program `speeds` so often, and prints each of its lines with its least time: least.py RUNS WORD..
 
-A last line has the least of the largest resident sizes of the processes.
+A last line has the least of the largest resident sizes of the processes. Wants GNU time (Debian: time): to the child of
+a large process the system counts the size of that process as well, and Python's is 14 MB.
 """
-import os
 import re
 import subprocess
 import sys
+import tempfile
 
 TIMES = re.compile(r"(.*) in (\d+) ms, (\d+) ns each")
 
 
 def run(words):
     """The lines that the words print, as name, milliseconds and nanoseconds, and the largest resident size in KB."""
-    process = subprocess.Popen(words, stdout=subprocess.PIPE, text=True)
-    said = process.stdout.read().splitlines()
-    _pid, status, used = os.wait4(process.pid, 0)
-    if status:
-        sys.exit("\n".join(said) or f"status {status}")
-    lines = [TIMES.fullmatch(line).groups() for line in said]
-    return [(name, int(millis), int(nanos)) for name, millis, nanos in lines], used.ru_maxrss
+    with tempfile.NamedTemporaryFile("r") as size:
+        timed = ["time", "-q", "-f", "%M", "-o", size.name, *words]
+        ran = subprocess.run(timed, stdout=subprocess.PIPE, text=True)
+        if ran.returncode:
+            sys.exit(ran.stdout or f"status {ran.returncode}")
+        lines = [TIMES.fullmatch(line).groups() for line in ran.stdout.splitlines()]
+        return [(name, int(millis), int(nanos)) for name, millis, nanos in lines], int(size.read())
 
 
 def main(words):

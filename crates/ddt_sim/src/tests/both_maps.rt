@@ -8,7 +8,7 @@ use ddt_examples::registers::{CAMPUS, LONE_ROOT, SHARED_GROUP};
 use ddt_register::read_register;
 use ddt_trie::{PrefixMap, TrieMap};
 
-/// A register, and the rows behind it.
+/// A register, and rows to append to it.
 type Text<'a> = (&'a str, &'a str);
 
 fn accepted(alloc: Global, text: Text<'_>) -> Result<Accepted, Fail> {

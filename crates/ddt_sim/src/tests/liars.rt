@@ -21,7 +21,7 @@ pub enum Lie {
     Under(u64, ReferralRecord),
     /// A referral to these servers, for one digit of the identifier more than the time before, while there is one.
     Deeper(LocatorSet),
-    /// A referral to these eight servers with 127.0.0.9 as a ninth, and behind it always that nothing is registered.
+    /// A referral to these eight servers with 127.0.0.9 as a ninth, and after that always that nothing is registered.
     Ninth(LocatorSet),
     /// What keeps a lookup busy for longest that starts at eight servers which it remembers; each set is this one.
     Longest(LocatorSet),
@@ -70,7 +70,7 @@ pub fn not_registered(x: Xeid) -> ReferralRecord {
     }
 }
 
-/// The reply behind so many others that keeps a lookup busy for longest. The first seven servers of a set know no
+/// The reply after so many others that keeps a lookup busy for longest. The first seven servers of a set know no
 /// registration, and the eighth refers to the next set, for one digit more. At the last set it is not in charge, so
 /// that the lookup starts again; at the last set of all it knows no registration either.
 fn longest_way(x: Xeid, requests: u16, servers: LocatorSet) -> ReferralRecord {
@@ -94,12 +94,12 @@ fn first_or_none(x: Xeid, requests: u16, servers: LocatorSet) -> ReferralRecord 
     }
 }
 
-/// Whether the reply behind so many others names a ninth server.
+/// Whether the reply after so many others names a ninth server.
 fn has_a_ninth(lie: Lie, requests: u16) -> bool {
     matches!(lie, Lie::Ninth(_)) && requests == 0
 }
 
-/// What a lie says to the request of a nonce for an identifier, behind so many others: its nonce and record.
+/// What a lie says to the request of a nonce for an identifier, after so many others: its nonce and record.
 fn told(lie: Lie, nonce: u64, x: Xeid, requests: u16) -> (u64, ReferralRecord) {
     match lie {
         Lie::Always(told) => (nonce, told),

@@ -1,6 +1,4 @@
 pub mod ChecksumLemmas
-pub mod RlocLoop
-pub mod RlocLemmas
 pub mod HostLemmas
 pub mod WritingLemmas
 pub mod SumLaws

@@ -1,21 +1,20 @@
 -- A request that is read is spelled so, what is spelled is read again, and what spells a request is bytes.
 use Rattle.std.proofs.Common.{◌≡◌, ℕ, ◌+◌, ◌*◌, ◌/◌, ◌%◌, ◌^◌, ◌<◌, ◌≤◌, false, cond, ltb, eqb, List, [], ◌∷◌, ◌++◌, length, drop, Result, Ok, Err, refl, sym, ap, subst, ◌∙◌, arith}
 use Rattle.std.specs.Prelude.{◌↔◌, IfOk, slice_index, not}
-use Rattle.std.specs.List.{flat_map}
 use Rattle.std.specs.Result.{IsErr}
 use Rattle.std.specs.Int.{w16, w32, w64, w128, to_be_bytes}
 use Rattle.std.proofs.lemmas.Bool.{ltb-false, le-ltb, eqb-true, not-false}
-use Rattle.std.proofs.lemmas.List.Concat.{flat_map-cons}
 use Rattle.byteorder.specs.Endian.{big_number}
 use Rattle.ddt_path.specs.declared.locator.Locator.{Locator}
 use Rattle.ddt_path.specs.declared.locator.Locator.TheVariants.{V4, V6}
 use Rattle.ddt_path.specs.declared.xeid.Xeid.{Xeid}
 use Rattle.ddt_path.specs.Path.{address_width, xeid_path}
 use Rattle.ddt_wire.specs.Steps.{◌>>=◌, IsBytes}
-use Rattle.ddt_wire.specs.Address.{family_and_address}
 use Rattle.ddt_wire.specs.Referral.{bit}
-use Rattle.ddt_wire.proofs.StepLemmas.{bind_ok, guard_ok, ok_is}
+use Rattle.ddt_wire.proofs.StepLemmas.{bind_ok, guard_ok, ok_is, err_not_ok, err_unless}
 use Rattle.ddt_wire.proofs.ByteLemmas.{Stands, known_stands, IsBytes-drop, IsBytes-append, IsBytes-cons, IsBytes-nil, IsBytes-number}
+use Rattle.ddt_wire.proofs.AddressLaws.{address_is_bytes}
+use Rattle.ddt_wire.proofs.AddressesLaws.{addresses_are_bytes}
 use Rattle.ddt_wire.proofs.WrittenLaws.{eid_is_bytes}
 use Rattle.ddt_ecm.specs.declared.fault.RequestFault.{RequestFault}
 use Rattle.ddt_ecm.specs.declared.fault.RequestFault.TheVariants as fault
@@ -135,14 +134,6 @@ message_again bytes v s =
 pub pair : (a b : ℕ) → a < 256 → b < 256 → IsBytes (a ∷ b ∷ [])
 pair a b ha hb = IsBytes-cons a (b ∷ []) ha (IsBytes-cons b [] hb IsBytes-nil)
 
-address_is_bytes : (a : Locator) → IsBytes (family_and_address a)
-address_is_bytes (V4 a) = IsBytes-append (to_be_bytes w16 1) (to_be_bytes w32 a) (IsBytes-number 2 1) (IsBytes-number 4 a)
-address_is_bytes (V6 a) = IsBytes-append (to_be_bytes w16 2) (to_be_bytes w128 a) (IsBytes-number 2 2) (IsBytes-number 16 a)
-
-rlocs_are_bytes : (ls : List Locator) → IsBytes (flat_map family_and_address ls)
-rlocs_are_bytes [] = IsBytes-nil
-rlocs_are_bytes (l ∷ ls) = subst IsBytes (sym (flat_map-cons family_and_address l ls)) (IsBytes-append (family_and_address l) (flat_map family_and_address ls) (address_is_bytes l) (rlocs_are_bytes ls))
-
 width_small : (a : Locator) → address_width a < 256
 width_small (V4 a) = omega arith
 width_small (V6 a) = omega arith
@@ -161,11 +152,11 @@ request_is_bytes bytes nonce x ls s =
     let i = s.ignored in
     let word = 2 ^ 28 + bit i.authoritative * 2 ^ 27 + bit s.with_map * 2 ^ 26 + i.flags * 2 ^ 13 + s.irc * 2 ^ 8 + 1 in
     let fields = request_fields i s.with_map s.irc nonce in
-    let flat = flat_map family_and_address ls in
+    let flat = s.itr_rlocs in
     let mask = i.reserved ∷ address_width x.address ∷ [] in
     let a = IsBytes-append (to_be_bytes w32 word) (to_be_bytes w64 nonce) (IsBytes-number 4 word) (IsBytes-number 8 nonce) in
     let b = IsBytes-append fields s.source a (source_is_bytes s.source s.spells_source) in
-    let c = IsBytes-append (fields ++ s.source) flat b (rlocs_are_bytes ls) in
+    let c = IsBytes-append (fields ++ s.source) flat b (addresses_are_bytes 0 ls flat s.spells_rlocs) in
     let d = IsBytes-append (fields ++ s.source ++ flat) mask c (pair i.reserved (address_width x.address) i.reserved_fits (width_small x.address)) in
     let e = IsBytes-append (fields ++ s.source ++ flat ++ mask) s.eid d (eid_is_bytes (address_width x.address) s.eid (xeid_path x) s.spells_eid) in
     subst IsBytes (sym s.whole) (IsBytes-append (fields ++ s.source ++ flat ++ mask ++ s.eid) s.after e s.after_are_bytes)
@@ -227,14 +218,6 @@ message_is_bytes bytes v s =
 
 pub one_message : (bytes : List ℕ) (v w : Message) → Spells bytes v → Spells bytes w → v ≡ w
 one_message bytes v w a b = ok_is {E = RequestFault} v w (sym (message_again bytes v a) ∙ message_again bytes w b)
-
-err_not_ok : {A E : Type 0} (r : Result A E) (x : A) → IsErr r → r ≡ Ok x → ⊥
-err_not_ok (Ok y) x e f = absurd cc
-err_not_ok (Err d) x e f = absurd cc
-
-err_unless : {A E : Type 0} (r : Result A E) → ((x : A) → r ≡ Ok x → ⊥) → IsErr r
-err_unless (Ok x) n = absurd (n x refl)
-err_unless (Err d) n = refl
 
 pub message_faults : (bytes : List ℕ) → IsBytes bytes → IsErr (message_in bytes) ↔ ((v : Message) → Spells bytes v → ⊥)
 message_faults bytes fits =

@@ -1,7 +1,6 @@
 -- A Map-Request that is read is spelled so, and what is spelled is read again.
 use Rattle.std.proofs.Common.{◌≡◌, ℕ, zero, suc, ◌+◌, ◌*◌, ◌/◌, ◌%◌, ◌^◌, ◌<◌, ◌≤◌, Bool, true, false, cond, ltb, leb, eqb, List, [], ◌∷◌, ◌++◌, length, take, drop, Result, Ok, Err, refl, sym, ap, subst, ◌∙◌, arith, inl, inr, length-append, length-drop, append_assoc}
 use Rattle.std.specs.Prelude.{slice_index, ◌&&◌, not}
-use Rattle.std.specs.List.{flat_map}
 use Rattle.std.specs.Int.{w32, w64, to_be_bytes}
 use Rattle.std.proofs.lemmas.Bool.{both_ways, eqb-false, ltb-false, le-ltb, lt-leb, eqb-true, eq-eqb, ne_eqb, cases_eq, not-false, and_cases, and_left, and_right, not_from_true, cond-false}
 use Rattle.std.proofs.lemmas.List.{take_at, drop_at, nil_from_length, drop-drop}
@@ -17,18 +16,20 @@ use Rattle.ddt_path.specs.FormOf.{padded_number, block_of, form_of}
 use Rattle.ddt_path.specs.FormLemmas.{whole, none_left, take_len}
 use Rattle.ddt_path.specs.DigitLemmas.{length-digits}
 use Rattle.ddt_wire.specs.Steps.{◌>>=◌, in_words, IsBytes}
-use Rattle.ddt_wire.specs.Address.{family_and_address, IsAddress}
+use Rattle.ddt_wire.specs.Address.{IsAddress}
 use Rattle.ddt_wire.specs.Eid.{SpellsEid, Plain, Inside, Instances, eid_at}
 use Rattle.ddt_wire.specs.Referral.{bit}
 use Rattle.ddt_wire.specs.Laws.{IsPrefix}
 use Rattle.ddt_wire.proofs.StepLemmas.{bind_ok, words_ok, guard_ok, ok_is}
 use Rattle.ddt_wire.proofs.ByteLemmas.{Takes, Takes-fits, Stands, joined, stands, number_stands, known_stands, byte_stands, number_fits, IsBytes-drop}
+use Rattle.ddt_wire.specs.Addresses.{addresses_at}
+use Rattle.ddt_wire.proofs.AddressesLaws.{AreAddresses, addresses_take, addresses_again}
 use Rattle.ddt_wire.proofs.EidLemmas.{form_of-named}
 use Rattle.ddt_wire.proofs.EidLaws.{eid_takes, eid_again}
 use Rattle.ddt_ecm.specs.declared.fault.RequestFault.{RequestFault}
 use Rattle.ddt_ecm.specs.declared.fault.RequestFault.TheVariants as fault
-use Rattle.ddt_ecm.specs.MapRequest.{Ignored, request_fields, SpellsRequest, from_eid, host_of, xeid_at, source_at, head_at, rlocs_at, trails, map_request_at}
-use Rattle.ddt_ecm.proofs.SourceLaws.{IsSource, source_takes, source_again, AreRlocs, rlocs_take, rlocs_again}
+use Rattle.ddt_ecm.specs.MapRequest.{Ignored, request_fields, SpellsRequest, from_eid, host_of, xeid_at, source_at, head_at, from_address, rlocs_at, trails, map_request_at}
+use Rattle.ddt_ecm.proofs.SourceLaws.{IsSource, source_takes, source_again}
 
 -- ---- the whole path of an identifier
 
@@ -235,7 +236,7 @@ nothing_left message rest n within e clear =
     ]
 
 spelled : (message : List ℕ) (count source : ℕ) (ls : List Locator) (rest : List ℕ) (x : Xeid) (n : ℕ) → IsBytes message → IsHead message count → IsSource (drop 12 message) source
-    → AreRlocs (drop source (drop 12 message)) ls rest → length ls ≡ count → IsXeid rest x n → trails message n rest ≡ false → SpellsRequest message (big_number 8 (drop 4 message)) x ls
+    → AreAddresses 0 (drop source (drop 12 message)) ls rest → length ls ≡ count → IsXeid rest x n → trails message n rest ≡ false → SpellsRequest message (big_number 8 (drop 4 message)) x ls
 spelled message count source ls rest x n fits h (text, t, s) l size q over =
     let map_ = eqb (slice_index message 0 / 4 % 2) 1 in
     let irc_ = slice_index message 2 % 32 in
@@ -247,6 +248,7 @@ spelled message count source ls rest x n fits h (text, t, s) l size q over =
       with_map = map_;
       irc = irc_;
       source = text;
+      itr_rlocs = l.front;
       eid = q.eid;
       after = drop n rest;
       nonce_fits = number_fits 8 (drop 4 message) (IsBytes-drop 4 message fits);
@@ -254,12 +256,12 @@ spelled message count source ls rest x n fits h (text, t, s) l size q over =
       iid_fits = q.iid_fits;
       address_fits = q.address_fits;
       count = size ∙ sym h.count_is;
-      rlocs_fit = l.fit;
       spells_source = s;
+      spells_rlocs = l.spelled;
       spells_eid = q.spelled;
       after_are_bytes = IsBytes-drop n rest l.rest_fits;
       none_after = nothing_left message rest n (Takes-fits rest ((q.reserved ∷ address_width x.address ∷ []) ++ q.eid) n q.takes) over;
-      whole = regrouped message (fields ++ text) (drop (12 + source) message) (flat_map family_and_address ls) rest (q.reserved ∷ address_width x.address ∷ []) q.eid (drop n rest) front (sym (drop-drop source 12 message) ∙ l.parts) q.takes.parts;
+      whole = regrouped message (fields ++ text) (drop (12 + source) message) l.front rest (q.reserved ∷ address_width x.address ∷ []) q.eid (drop n rest) front (sym (drop-drop source 12 message) ∙ l.parts) q.takes.parts;
     }
 
 pub request_takes : (message : List ℕ) (x : Read) → IsBytes message → map_request_at message ≡ Ok x → SpellsRequest message x.0 x.1 x.2
@@ -272,7 +274,8 @@ request_takes message x fits e =
     let d = bind_ok (xeid_at c.0.1) (λ q. last c.0 q) x c.2 in
     let g = guard_ok (trails message d.0.1 c.0.1) fault.Trailing (Ok (big_number 8 (drop 4 message), d.0.0, c.0.0)) x d.2 in
     let from_source = IsBytes-drop 12 message fits in
-    let ls = rlocs_take a.0 (drop b.0 (drop 12 message)) c.0 (IsBytes-drop b.0 (drop 12 message) from_source) c.1 in
+    let from_rlocs = drop b.0 (drop 12 message) in
+    let ls = addresses_take 0 a.0 from_rlocs c.0 (IsBytes-drop b.0 (drop 12 message) from_source) (words_ok from_address (addresses_at 0 a.0 from_rlocs) c.0 c.1) in
     let made = spelled message a.0 b.0 c.0.0 c.0.1 d.0.0 d.0.1 fits (head_holds message a.0 a.1) (source_takes (drop 12 message) b.0 from_source b.1) ls.0 ls.1 (xeid_takes c.0.1 d.0 ls.0.rest_fits d.1) g.0 in
     subst (λ (y : Read). SpellsRequest message y.0 y.1 y.2) (ok_is {E = RequestFault} (big_number 8 (drop 4 message), d.0.0, c.0.0) x g.1) made
 
@@ -319,13 +322,13 @@ request_again message nonce x ls s =
     let f = i.flags_fit in
     let hi = s.irc_fits in
     let tail = (i.reserved ∷ address_width x.address ∷ []) ++ (s.eid ++ s.after) in
-    let from_rlocs = flat_map family_and_address ls ++ tail in
+    let from_rlocs = s.itr_rlocs ++ tail in
     let text = request_fields i s.with_map s.irc nonce ++ (s.source ++ from_rlocs) in
     let regrouped : message ≡ text = s.whole ∙ simp append_assoc refl in
     let count : slice_index text 2 % 32 + 1 ≡ length ls = irc_again (bit i.authoritative) (bit s.with_map) i.flags s.irc a m f hi ∙ sym s.count in
     ap map_request_at regrouped
     ∙ request_read text (s.source ++ from_rlocs) from_rlocs tail (length ls) (length s.source) (2 + length s.eid) nonce x ls
     (head_read text (length ls) (omega arith) (type_again (bit i.authoritative) (bit s.with_map) i.flags s.irc a m f hi) (one_again (bit i.authoritative) (bit s.with_map) i.flags s.irc a m f hi) count)
-    refl (source_again s.source from_rlocs s.spells_source) (drop-append_seam s.source from_rlocs) (rlocs_again ls tail s.rlocs_fit) (xeid_again i.reserved x s.eid s.after s.iid_fits s.address_fits s.spells_eid)
+    refl (source_again s.source from_rlocs s.spells_source) (drop-append_seam s.source from_rlocs) (ap (in_words from_address) (addresses_again 0 s.itr_rlocs ls tail s.spells_rlocs)) (xeid_again i.reserved x s.eid s.after s.iid_fits s.address_fits s.spells_eid)
     (ends s.with_map (slice_index text 0 / 4 % 2) (length tail) s.eid s.after (map_again (bit i.authoritative) (bit s.with_map) i.flags s.irc a m f hi) (omega (arith, length-append s.eid s.after)) s.none_after)
     (big_number-reads_back 8 nonce (s.source ++ from_rlocs) s.nonce_fits)

@@ -1,24 +1,21 @@
 -- A source EID and ITR-RLOCs that are read are spelled so, and what is spelled is read again.
-use Rattle.std.proofs.Common.{◌≡◌, ℕ, zero, suc, ◌+◌, ◌^◌, ◌<◌, ◌≤◌, false, cond, ltb, eqb, List, [], ◌∷◌, ◌++◌, length, take, drop, Result, Ok, Err, refl, sym, ap, subst, ◌∙◌, arith, inl, inr, length-append, length-drop, append_assoc}
+use Rattle.std.proofs.Common.{◌≡◌, ℕ, ◌+◌, ◌^◌, ◌<◌, ◌≤◌, false, cond, ltb, eqb, List, [], ◌∷◌, ◌++◌, length, take, drop, Result, Ok, Err, refl, sym, ap, subst, ◌∙◌, arith, inl, inr, length-append, length-drop}
 use Rattle.std.specs.Prelude.{slice_index}
-use Rattle.std.specs.List.{flat_map, AllByRecursion}
 use Rattle.std.specs.Int.{w16, to_be_bytes, bytes_high_first}
 use Rattle.std.proofs.lemmas.Bool.{ltb-false, le-ltb, eqb-true}
 use Rattle.std.proofs.lemmas.List.{length-take-le}
-use Rattle.std.proofs.lemmas.List.Concat.{flat_map-cons}
-use Rattle.std.proofs.Math.Seq.{drop-append_seam}
 use Rattle.byteorder.specs.Endian.{big_number}
 use Rattle.byteorder.specs.Numbers.{big_number-reads_back}
 use Rattle.ddt_path.specs.declared.locator.Locator.{Locator}
 use Rattle.ddt_path.specs.declared.locator.Locator.TheVariants.{V4, V6}
-use Rattle.ddt_wire.specs.Steps.{◌>>=◌, in_words, IsBytes}
-use Rattle.ddt_wire.specs.Address.{family_and_address, IsAddress, address_at}
-use Rattle.ddt_wire.proofs.StepLemmas.{bind_ok, words_ok, guard_ok, chosen, ok_is}
+use Rattle.ddt_wire.specs.Steps.{IsBytes}
+use Rattle.ddt_wire.specs.Address.{family_and_address, address_at}
+use Rattle.ddt_wire.proofs.StepLemmas.{guard_ok, chosen, ok_is}
 use Rattle.ddt_wire.proofs.ByteLemmas.{Takes, Stands, joined, stands, known_stands, byte_stands, number_taken, front_taken, number_fits, IsBytes-drop, IsBytes-take}
-use Rattle.ddt_wire.proofs.AddressLaws.{address_takes, address_again}
+use Rattle.ddt_wire.proofs.AddressLaws.{address_takes}
 use Rattle.ddt_ecm.specs.declared.fault.RequestFault.{RequestFault}
 use Rattle.ddt_ecm.specs.declared.fault.RequestFault.TheVariants as fault
-use Rattle.ddt_ecm.specs.MapRequest.{SpellsSource, Absent, Plain, Lcaf, skipped, source_at, from_address, rlocs_at}
+use Rattle.ddt_ecm.specs.MapRequest.{SpellsSource, Absent, Plain, Lcaf, skipped, source_at}
 
 -- ---- the source EID
 
@@ -144,38 +141,3 @@ source_again text rest (Lcaf r f t m content hr hf ht hm small fits is) =
     let long : 8 + length content ≤ length (whole ++ rest) = omega (arith, length-append content rest) in
     let size : 8 + length content ≡ length whole = omega arith in
     rw is (lcaf_read (whole ++ rest) (length content) long refl (big_number-reads_back 2 (length content) (content ++ rest) small) ∙ ap (λ (k : ℕ). Ok k) size)
-
--- ---- the ITR-RLOCs
-
--- what was read of several
-pub record AreRlocs (bytes : List ℕ) (ls : List Locator) (rest : List ℕ) : Type 0 where
-  pub parts : bytes ≡ flat_map family_and_address ls ++ rest
-  pub fit : AllByRecursion IsAddress ls
-  pub rest_fits : IsBytes rest
-
-with_first : (bytes after rest : List ℕ) (l : Locator) (ls : List Locator) → bytes ≡ family_and_address l ++ after → after ≡ flat_map family_and_address ls ++ rest → bytes ≡ flat_map family_and_address (l ∷ ls) ++ rest
-with_first bytes after rest l ls p q =
-    p ∙ ap (λ (t : List ℕ). family_and_address l ++ t) q ∙ sym (append_assoc (family_and_address l) (flat_map family_and_address ls) rest)
-    ∙ ap (λ (t : List ℕ). t ++ rest) (sym (flat_map-cons family_and_address l ls))
-
-pub rlocs_take : (k : ℕ) (bytes : List ℕ) (x : List Locator × List ℕ) → IsBytes bytes → rlocs_at k bytes ≡ Ok x → AreRlocs bytes x.0 x.1 × (length x.0 ≡ k)
-unfolding rlocs_at
-rlocs_take zero bytes x fits e =
-    let made : AreRlocs bytes [] bytes = record { parts = refl; fit = tt; rest_fits = fits } in
-    subst (λ (y : List Locator × List ℕ). AreRlocs bytes y.0 y.1 × (length y.0 ≡ 0)) (ok_is {E = RequestFault} ([], bytes) x e) (made, refl)
-rlocs_take (suc k) bytes x fits e =
-    let a = bind_ok (in_words from_address (address_at bytes)) (λ first. rlocs_at k (drop first.1 bytes) >>= λ others. Ok (first.0 ∷ others.0, others.1)) x e in
-    let b = bind_ok (rlocs_at k (drop a.0.1 bytes)) (λ others. Ok (a.0.0 ∷ others.0, others.1)) x a.2 in
-    let first = address_takes bytes a.0 fits (words_ok from_address (address_at bytes) a.0 a.1) in
-    let others = rlocs_take k (drop a.0.1 bytes) b.0 (IsBytes-drop a.0.1 bytes fits) b.1 in
-    let made : AreRlocs bytes (a.0.0 ∷ b.0.0) b.0.1 = record { parts = with_first bytes (drop a.0.1 bytes) b.0.1 a.0.0 b.0.0 first.takes.parts others.0.parts; fit = (first.fits, others.0.fit); rest_fits = others.0.rest_fits } in
-    subst (λ (y : List Locator × List ℕ). AreRlocs bytes y.0 y.1 × (length y.0 ≡ suc k)) (ok_is {E = RequestFault} (a.0.0 ∷ b.0.0, b.0.1) x b.2) (made, ap suc others.1)
-
-pub rlocs_again : (ls : List Locator) (rest : List ℕ) → AllByRecursion IsAddress ls → rlocs_at (length ls) (flat_map family_and_address ls ++ rest) ≡ Ok (ls, rest)
-unfolding rlocs_at
-rlocs_again [] rest h = refl
-rlocs_again (l ∷ ls) rest h =
-    let bytes = family_and_address l in
-    let others = flat_map family_and_address ls in
-    let regrouped : flat_map family_and_address (l ∷ ls) ++ rest ≡ bytes ++ (others ++ rest) = ap (λ (t : List ℕ). t ++ rest) (flat_map-cons family_and_address l ls) ∙ append_assoc bytes others rest in
-    ap (rlocs_at (suc (length ls))) regrouped ∙ rw (address_again l (others ++ rest) h.0, drop-append_seam bytes (others ++ rest), rlocs_again ls rest h.1) refl

@@ -14,6 +14,7 @@ use Rattle.ddt_wire.specs.Steps.{IsBytes}
 use Rattle.ddt_wire.specs.Address.{family_and_address, IsAddress}
 use Rattle.ddt_wire.specs.Eid.{SpellsEid, form_mask_len, written_eid, written_mask_len}
 use Rattle.ddt_wire.proofs.ByteLemmas.{IsBytes-append, IsBytes-nil, IsBytes-number}
+use Rattle.ddt_wire.proofs.AddressesLaws.{addresses_spell}
 use Rattle.ddt_wire.proofs.WrittenLaws.{eid_spells}
 use Rattle.ddt_ecm.specs.Checksum.{ones_sum, complement}
 use Rattle.ddt_ecm.specs.IpHeader.{pseudo4, pseudo6, Ipv4Header, ipv4_fields, SpellsIpv4, Ipv6Header, ipv6_fields, SpellsIpv6, SpellsIp, Version4, Version6}
@@ -53,6 +54,7 @@ request_spells nonce x rlocs h =
       with_map = false;
       irc = length rlocs - 1;
       source = to_be_bytes w16 0;
+      itr_rlocs = flat_map family_and_address rlocs;
       eid = written_eid p;
       after = [];
       nonce_fits = h.nonce_fits;
@@ -60,8 +62,8 @@ request_spells nonce x rlocs h =
       iid_fits = h.iid_fits;
       address_fits = h.address_fits;
       count = omega arith;
-      rlocs_fit = h.rlocs_fit;
       spells_source = Absent refl;
+      spells_rlocs = addresses_spell [] rlocs IsBytes-nil h.rlocs_fit;
       spells_eid = subst (λ (k : ℕ). SpellsEid k (written_eid p) p) mask (eid_spells p (full_is_prefix x.iid x.address h.iid_fits h.address_fits));
       after_are_bytes = IsBytes-nil;
       none_after = λ _. refl;

@@ -1,6 +1,5 @@
 -- A Map-Request for one EID (RFC 9301, section 5.2).
-use Rattle.std.specs.Prelude.{ℕ, zero, suc, ◌+◌, ◌*◌, ◌/◌, ◌%◌, ◌^◌, ◌<◌, ◌≡◌, ◌==◌, ◌&&◌, Bool, false, not, nat_lt, if◌then◌else◌, List, [], ◌∷◌, ◌++◌, length, drop, slice_index, Result, Ok, Err}
-use Rattle.std.specs.List.{flat_map, AllByRecursion}
+use Rattle.std.specs.Prelude.{ℕ, ◌+◌, ◌*◌, ◌/◌, ◌%◌, ◌^◌, ◌<◌, ◌≡◌, ◌==◌, ◌&&◌, Bool, false, not, nat_lt, if◌then◌else◌, List, [], ◌∷◌, ◌++◌, length, drop, slice_index, Result, Ok, Err}
 use Rattle.std.specs.Int.{w16, w32, w64, to_be_bytes}
 use Rattle.byteorder.specs.Endian.{big_number}
 use Rattle.ddt_path.specs.declared.locator.Locator.{Locator}
@@ -14,7 +13,8 @@ use Rattle.ddt_wire.specs.declared.address.AddressFault.TheVariants as address_f
 use Rattle.ddt_wire.specs.declared.eid.EidFault.{EidFault}
 use Rattle.ddt_wire.specs.declared.eid.EidFault.TheVariants as eid_fault
 use Rattle.ddt_wire.specs.Steps.{◌>>=◌, in_words, IsBytes}
-use Rattle.ddt_wire.specs.Address.{family_and_address, IsAddress, address_at}
+use Rattle.ddt_wire.specs.Address.{family_and_address, IsAddress}
+use Rattle.ddt_wire.specs.Addresses.{SpellsAddresses, addresses_at}
 use Rattle.ddt_wire.specs.Eid.{SpellsEid, eid_at}
 use Rattle.ddt_wire.specs.Referral.{bit}
 use Rattle.ddt_ecm.specs.declared.fault.RequestFault.{RequestFault}
@@ -53,6 +53,7 @@ pub record SpellsRequest (bytes : List ℕ) (nonce : ℕ) (x : Xeid) (rlocs : Li
   pub with_map : Bool
   pub irc : ℕ
   pub source : List ℕ
+  pub itr_rlocs : List ℕ
   pub eid : List ℕ
   pub after : List ℕ
   pub nonce_fits : nonce < 2 ^ 64
@@ -60,12 +61,12 @@ pub record SpellsRequest (bytes : List ℕ) (nonce : ℕ) (x : Xeid) (rlocs : Li
   pub iid_fits : x.iid < 2 ^ 32
   pub address_fits : IsAddress x.address
   pub count : length rlocs ≡ irc + 1
-  pub rlocs_fit : AllByRecursion IsAddress rlocs
   pub spells_source : SpellsSource source
+  pub spells_rlocs : SpellsAddresses 0 itr_rlocs rlocs
   pub spells_eid : SpellsEid (address_width x.address) eid (xeid_path x)
   pub after_are_bytes : IsBytes after
   pub none_after : with_map ≡ false → after ≡ []
-  pub whole : bytes ≡ request_fields ignored with_map irc nonce ++ source ++ flat_map family_and_address rlocs
+  pub whole : bytes ≡ request_fields ignored with_map irc nonce ++ source ++ itr_rlocs
       ++ (ignored.reserved ∷ address_width x.address ∷ []) ++ eid ++ after
 
 -- ---- the first fault
@@ -89,20 +90,8 @@ from_address address_fault.Short = fault.Short
 from_address address_fault.Family = fault.RlocFamily
 
 -- so many ITR-RLOCs from the front, and the bytes after them
-unfoldable pub rlocs_at : ℕ → List ℕ → Result (List Locator × List ℕ) RequestFault
-rlocs_at zero bytes = Ok ([], bytes)
-rlocs_at (suc n) bytes = do
-  first ← in_words from_address (address_at bytes)
-  others ← rlocs_at n (drop first.1 bytes)
-  Ok (first.0 ∷ others.0, others.1)
-
-abbrev pub read_rlocs : Result (List Locator × List ℕ) RequestFault → List Locator
-read_rlocs (Ok x) = x.0
-read_rlocs (Err e) = []
-
--- the ITR-RLOCs of bytes that have so many
-abbrev pub rlocs_in : ℕ → List ℕ → List Locator
-rlocs_in n bytes = read_rlocs (rlocs_at n bytes)
+abbrev pub rlocs_at : ℕ → List ℕ → Result (List Locator × List ℕ) RequestFault
+rlocs_at n bytes = in_words from_address (addresses_at 0 n bytes)
 
 -- a request is for one identifier: a mask length that is too long or a range's is refused like one that is too short
 abbrev pub from_eid : EidFault → RequestFault

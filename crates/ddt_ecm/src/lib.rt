@@ -1,6 +1,6 @@
 //! Encapsulated Map-Requests: the one spelling that is written, and what any bytes say.
 //!
-//! In reading order: `fault`, `request` (with `ip_header`, `udp_header`, `map_request` and `rlocs` below it, as they
+//! In reading order: `fault`, `request` (with `ip_header`, `udp_header`, `map_request` below it, as they
 //! stand in the bytes, and `checksum`), `writing`, `laws`.
 #![tactic(auto)]
 
@@ -10,14 +10,13 @@ mod ip_header;
 mod laws;
 mod map_request;
 mod request;
-mod rlocs;
 mod udp_header;
 mod writing;
 
 pub use fault::RequestFault;
 pub use laws::request_laws;
+pub use map_request::Rlocs;
 pub use request::{DDT, Request, read_request};
-pub use rlocs::Rlocs;
 pub use writing::write_request;
 
 #[cfg(test)]

@@ -26,10 +26,9 @@ ghost use Rattle.ddt_ecm.specs.MapRequest.{source_at, host_of, xeid_at, head_at,
 
 use crate::fault::RequestFault;
 use crate::request::TYPE_SHIFT;
-use crate::rlocs::Rlocs;
 use byteorder::{BigEndian, ByteOrder};
 use ddt_path::{Form, Prefix, Xeid};
-use ddt_wire::{EidFault, read_eid};
+use ddt_wire::{AddressFault, Addresses, EidFault, read_eid};
 
 /// The type of a Map-Request, in the first four bits.
 pub(crate) const MAP_REQUEST: u8 = 1;
@@ -39,6 +38,23 @@ const M_SHIFT: u32 = 2;
 const IRC_LIMIT: u8 = 1 << 5;
 /// How many bytes stand before the source EID.
 const BEFORE_SOURCE: usize = 12;
+
+/// The ITR-RLOCs of a request in order, read from the datagram one by one: to these addresses a Map-Reply may be sent.
+pub type Rlocs<'a> = Addresses<'a, 0>;
+
+impl From<AddressFault> for RequestFault {
+    ghost use Rattle.std.specs.Prelude.{◌≡◌};
+    ghost use Rattle.ddt_ecm.specs.MapRequest.{from_address};
+
+    ghost from_gives = { λ d e. e ≡ from_address d };
+
+    fn from(fault: AddressFault) -> RequestFault {
+        match fault {
+            AddressFault::Short => RequestFault::Short,
+            AddressFault::Family => RequestFault::RlocFamily,
+        }
+    }
+}
 
 impl From<EidFault> for RequestFault {
     ghost use Rattle.std.specs.Prelude.{◌≡◌};

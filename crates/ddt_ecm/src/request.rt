@@ -19,8 +19,7 @@ ghost use Rattle.ddt_ecm.specs.Request.{Message, Spells, ecm_at, message_in};
 
 use crate::fault::RequestFault;
 use crate::ip_header::read_ip;
-use crate::map_request::read_map_request;
-use crate::rlocs::Rlocs;
+use crate::map_request::{Rlocs, read_map_request};
 use crate::udp_header::read_udp;
 use ddt_path::Xeid;
 use std::marker::Model;

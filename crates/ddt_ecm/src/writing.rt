@@ -1,9 +1,7 @@
 //! The one spelling of an Encapsulated Map-Request: the Map-Request first, then around it UDP, IP and the ECM header.
 
-ghost use Rattle.std.specs.Prelude.{◌≡◌, ◌≤◌, ◌+◌, ◌++◌, length, All, Ok, OnOk, IfOk};
-ghost use Rattle.std.specs.List.{flat_map};
+ghost use Rattle.std.specs.Prelude.{◌≡◌, ◌≤◌, ◌+◌, ◌++◌, length, Ok, OnOk, IfOk};
 ghost use Rattle.std.specs.Int.{w32, w128, to_be_bytes};
-ghost use Rattle.ddt_wire.specs.Address.{family_and_address, IsAddress};
 ghost use Rattle.ddt_ecm.specs.Written.{written_map_request, udp_header as udp_header_of, written_udp, ipv4_header as ipv4_header_of, written_ipv4, source4 as source4_of, source6 as source6_of, packet4, packet6, packet, ipv6_head, written};
 ghost use Rattle.ddt_ecm.specs.Request.{Spells, message_in};
 ghost use Rattle.ddt_ecm.specs.Laws.{IsRequest, message_of};
@@ -14,7 +12,7 @@ use crate::map_request::MAP_REQUEST;
 use crate::request::{DDT, ENCAPSULATED, TYPE_SHIFT};
 use crate::udp_header::LISP_CONTROL;
 use ddt_path::{Locator, Prefix, Xeid};
-use ddt_wire::{write_address, write_eid};
+use ddt_wire::{write_addresses, write_eid};
 use std::alloc::{AllocError, Global};
 
 /// The first byte of a written IPv4 header: version 4, and a header of five words.
@@ -23,17 +21,6 @@ const IPV4_FIRST: u8 = 4 << VERSION_SHIFT | 5;
 const IPV6_FIRST: u8 = 6 << VERSION_SHIFT;
 /// How far an inner packet may go.
 const HOPS: u8 = 64;
-
-/// Appends the ITR-RLOCs, each behind its AFI.
-fn put_rlocs(bytes: &mut Vec<u8>, rlocs: &[Locator]) -> Result<(), AllocError>
-    ensures written { OnOk result (bytes.new.items ≡ bytes.old.items ++ flat_map family_and_address rlocs.now) }
-    ensures fit { OnOk result (All IsAddress rlocs.now) }
-{
-    for rloc in rlocs {
-        write_address(bytes, *rloc)?;
-    }
-    Ok(())
-}
 
 /// A Map-Request, of at most 622 bytes.
 fn map_request(alloc: Global, nonce: u64, x: Xeid, rlocs: &[Locator]) -> Result<Vec<u8>, AllocError>
@@ -46,7 +33,7 @@ fn map_request(alloc: Global, nonce: u64, x: Xeid, rlocs: &[Locator]) -> Result<
     bytes.extend_from_slice(&[MAP_REQUEST << TYPE_SHIFT, 0, (rlocs.len() - 1) as u8, 1])?;
     bytes.extend_from_slice(&nonce.to_be_bytes())?;
     bytes.extend_from_slice(&[0, 0])?;
-    put_rlocs(&mut bytes, rlocs)?;
+    write_addresses(&mut bytes, &[], rlocs)?;
     bytes.extend_from_slice(&[0, x.address.width()])?;
     write_eid(&mut bytes, Prefix::host(x))?;
     Ok(bytes)

@@ -1,13 +1,13 @@
 pub mod AppendLemmas
 pub mod EidLemmas
-pub mod LocatorLoop
-pub mod LocatorLemmas
+pub mod AddressLoop
+pub mod AddressesLemmas
 pub mod MessageLemmas
 pub mod ByteLemmas
 pub mod StepLemmas
 pub mod AddressLaws
 pub mod EidLaws
-pub mod LocatorLaws
+pub mod AddressesLaws
 pub mod HeadLaws
 pub mod MessageLaws
 pub mod WrittenLaws

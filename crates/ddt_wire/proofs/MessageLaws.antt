@@ -12,13 +12,14 @@ use Rattle.ddt_wire.specs.declared.fault.ReferralFault.TheVariants as fault
 use Rattle.ddt_wire.specs.Steps.{◌>>=◌, in_words, IsBytes}
 use Rattle.ddt_wire.specs.Head.{head_bytes, IsHead, action_number, head_at}
 use Rattle.ddt_wire.specs.Eid.{eid_at}
-use Rattle.ddt_wire.specs.LocatorRecord.{locators_at}
+use Rattle.ddt_wire.specs.Addresses.{addresses_at}
+use Rattle.ddt_wire.specs.LocatorRecord.{from_address, locators_at}
 use Rattle.ddt_wire.specs.Referral.{Message, Ignored, Spells, act, bit, flags_of, message_head, from_head, from_eid, action_of, action_or_fault, action_in, message_with, message_in}
 use Rattle.ddt_wire.proofs.StepLemmas.{bind_ok, words_ok, held_ok, ok_is}
 use Rattle.ddt_wire.proofs.ByteLemmas.{Stands, joined, stands, IsBytes-drop}
 use Rattle.ddt_wire.proofs.HeadLaws.{BeginsWith, head_takes, head_again}
 use Rattle.ddt_wire.proofs.EidLaws.{IsEid, eid_takes, eid_again, eid_some}
-use Rattle.ddt_wire.proofs.LocatorLaws.{AreLocators, locators_take, locators_again}
+use Rattle.ddt_wire.proofs.AddressesLaws.{AreAddresses, addresses_take, addresses_again}
 
 -- ---- the flags
 
@@ -121,7 +122,7 @@ ended bytes text front rest n p q e = p ∙ ap (λ (t : List ℕ). text ++ t) (q
 
 -- a datagram of which the head, the EID and the locators were read
 spelled : (bytes : List ℕ) (h : Head) (action : Action) (p : List ℕ) (n : ℕ) (ls : List Locator) (rest : List ℕ) → BeginsWith 6 bytes h → IsUnsigned h action → IsEid h.mask_len (drop 22 bytes) p n
-    → AreLocators (drop n (drop 22 bytes)) ls rest → length ls ≡ h.locators → rest ≡ [] → Spells bytes (message_with h action p ls)
+    → AreAddresses 6 (drop n (drop 22 bytes)) ls rest → length ls ≡ h.locators → rest ≡ [] → Spells bytes (message_with h action p ls)
 spelled bytes h action p n ls rest b u (text, t, s) l count nothing =
     let i = ignored_of h action b.ignored b.ignored_fits b.fits u in
     let front = head_bytes 6 b.ignored (message_head h.mask_len i.authoritative i.flags i.version (message_with h action p ls)) in
@@ -153,7 +154,8 @@ message_takes bytes v fits e =
     let eid_fits = IsBytes-drop 22 bytes fits in
     let begins = head_takes 6 bytes h fits (words_ok from_head (head_at 6 bytes) h a.1) in
     let r = eid_takes h.mask_len (drop 22 bytes) c.0 eid_fits (words_ok from_eid (eid_at h.mask_len (drop 22 bytes)) c.0 c.1) in
-    let ls = locators_take h.locators (drop c.0.1 (drop 22 bytes)) d.0 (IsBytes-drop c.0.1 (drop 22 bytes) eid_fits) d.1 in
+    let from_locators = drop c.0.1 (drop 22 bytes) in
+    let ls = addresses_take 6 h.locators from_locators d.0 (IsBytes-drop c.0.1 (drop 22 bytes) eid_fits) (words_ok from_address (addresses_at 6 h.locators from_locators) d.0 d.1) in
     let made = spelled bytes h b.0 c.0.0 c.0.1 d.0.0 d.0.1 begins (action_holds h b.0 b.1) r ls.0 ls.1 (nil_from_length d.0.1 (eqb-true (length d.0.1) 0 f.0)) in
     subst (λ (y : Message). Spells bytes y) {x = message_with h b.0 c.0.0 d.0.0} (ok_is {E = ReferralFault} (message_with h b.0 c.0.0 d.0.0) v f.1) made
 
@@ -218,7 +220,7 @@ message_again bytes v s =
     let number = act_again (act v.action) (bit i.authoritative) (bit v.incomplete) i.flags (act-le v.action) (bit-le i.authoritative) (bit-le v.incomplete) i.flags_fits in
     let action = action_read h v.action (number, signatures_again i.version i.version_fits) in
     let locators : locators_at (length v.locators) (drop (length s.eid) tail) ≡ Ok (v.locators, []) =
-    ap (locators_at (length v.locators)) (drop-append_seam s.eid s.locators ∙ sym (append-nil s.locators)) ∙ locators_again s.locators v.locators [] s.spells_locators in
+    ap (locators_at (length v.locators)) (drop-append_seam s.eid s.locators ∙ sym (append-nil s.locators)) ∙ ap (in_words from_address) (addresses_again 6 s.locators v.locators [] s.spells_locators) in
     ap message_in regrouped
     ∙ message_read (front ++ tail) h v.action v.prefix (length s.eid) v.locators begins action (eid_again s.mask s.eid v.prefix s.locators s.spells_eid) locators
     ∙ ap (λ (m : Message). Ok m) (message_back i s.mask v)

@@ -10,7 +10,9 @@ use Rattle.ddt_wire.specs.declared.fault.ReferralFault.{ReferralFault}
 use Rattle.ddt_wire.specs.declared.fault.ReferralFault.TheVariants.{Trailing}
 use Rattle.ddt_wire.specs.Head.{head_at}
 use Rattle.ddt_wire.specs.Eid.{eid_at}
-use Rattle.ddt_wire.specs.LocatorRecord.{locators_at}
+use Rattle.ddt_wire.specs.declared.address.AddressFault.{AddressFault}
+use Rattle.ddt_wire.specs.Addresses.{addresses_at}
+use Rattle.ddt_wire.specs.LocatorRecord.{from_address}
 use Rattle.ddt_wire.specs.Referral.{action_in, from_head, from_eid, message_with, message_in}
 
 pub head_refused : (bytes : List ℕ) (f : HeadFault) → Err f ≡ head_at 6 bytes → Err (from_head f) ≡ message_in bytes
@@ -25,17 +27,17 @@ pub eid_refused : (bytes : List ℕ) (h : Head) (action : Action) (f : EidFault)
 unfolding message_in
 eid_refused bytes h action f b a e = rw (← b, ← a, ← e) refl
 
-pub locators_refused : (bytes : List ℕ) (h : Head) (action : Action) (p : List ℕ) (n : ℕ) (f : ReferralFault) → Ok h ≡ head_at 6 bytes → Ok action ≡ action_in h → Ok (p, n) ≡ eid_at h.mask_len (drop 22 bytes)
-    → locators_at h.locators (drop n (drop 22 bytes)) ≡ Err f → Err f ≡ message_in bytes
+pub locators_refused : (bytes : List ℕ) (h : Head) (action : Action) (p : List ℕ) (n : ℕ) (f : AddressFault) → Ok h ≡ head_at 6 bytes → Ok action ≡ action_in h → Ok (p, n) ≡ eid_at h.mask_len (drop 22 bytes)
+    → addresses_at 6 h.locators (drop n (drop 22 bytes)) ≡ Err f → Err (from_address f) ≡ message_in bytes
 unfolding message_in
 locators_refused bytes h action p n f b a e l = rw (← b, ← a, ← e, l) refl
 
 pub trails : (bytes : List ℕ) (h : Head) (action : Action) (p : List ℕ) (n : ℕ) (ls : List Locator) (rest : List ℕ) → Ok h ≡ head_at 6 bytes → Ok action ≡ action_in h → Ok (p, n) ≡ eid_at h.mask_len (drop 22 bytes)
-    → locators_at h.locators (drop n (drop 22 bytes)) ≡ Ok (ls, rest) → (length rest == 0) ≡ false → Err Trailing ≡ message_in bytes
+    → addresses_at 6 h.locators (drop n (drop 22 bytes)) ≡ Ok (ls, rest) → (length rest == 0) ≡ false → Err Trailing ≡ message_in bytes
 unfolding message_in
 trails bytes h action p n ls rest b a e l t = rw (← b, ← a, ← e, l, t) refl
 
 pub is_message : (bytes : List ℕ) (h : Head) (action : Action) (p : List ℕ) (n : ℕ) (ls : List Locator) (rest : List ℕ) → Ok h ≡ head_at 6 bytes → Ok action ≡ action_in h → Ok (p, n) ≡ eid_at h.mask_len (drop 22 bytes)
-    → locators_at h.locators (drop n (drop 22 bytes)) ≡ Ok (ls, rest) → (length rest == 0) ≡ true → Ok (message_with h action p ls) ≡ message_in bytes
+    → addresses_at 6 h.locators (drop n (drop 22 bytes)) ≡ Ok (ls, rest) → (length rest == 0) ≡ true → Ok (message_with h action p ls) ≡ message_in bytes
 unfolding message_in
 is_message bytes h action p n ls rest b a e l t = rw (← b, ← a, ← e, l, t) refl

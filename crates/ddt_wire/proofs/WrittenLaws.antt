@@ -1,12 +1,11 @@
 -- What is written spells what was to be written; and what spells something is bytes.
 use Rattle.std.proofs.Common.{◌≡◌, ℕ, zero, suc, ◌+◌, ◌^◌, ◌<◌, ◌≤◌, true, List, [], ◌∷◌, ◌++◌, length, take, drop, refl, sym, ap, subst, ◌∙◌, arith, Ok, Err, Result}
 use Rattle.std.specs.Prelude.{◌↔◌, IfOk}
-use Rattle.std.specs.List.{flat_map, AllByRecursion}
-use Rattle.std.specs.Int.{w16, w32, w128, to_be_bytes}
+use Rattle.std.specs.List.{flat_map}
+use Rattle.std.specs.Int.{w16, w32, to_be_bytes}
 use Rattle.std.specs.Result.{IsErr}
 use Rattle.std.proofs.Math.Dec.{eqb-suc-zero}
 use Rattle.std.proofs.lemmas.List.{take_all}
-use Rattle.std.proofs.lemmas.List.Concat.{flat_map-cons}
 use Rattle.ddt_path.specs.declared.locator.Locator.{Locator}
 use Rattle.ddt_path.specs.declared.locator.Locator.TheVariants.{V4, V6}
 use Rattle.ddt_path.specs.declared.form.Form.{Form}
@@ -17,14 +16,16 @@ use Rattle.ddt_wire.specs.declared.fault.ReferralFault.{ReferralFault}
 use Rattle.ddt_wire.proofs.StepLemmas.{ok_is, err_not_ok, err_unless}
 use Rattle.ddt_path.specs.Path.{path, IsForm}
 use Rattle.ddt_wire.specs.Steps.{IsBytes}
-use Rattle.ddt_wire.specs.Address.{family_and_address, IsAddress}
+use Rattle.ddt_wire.specs.Address.{family_and_address}
 use Rattle.ddt_wire.specs.Eid.{SpellsEid, Plain, Inside, Instances, IsInstance, instance_head, instance_lcaf, written_form, form_mask_len, written_eid, written_mask_len, eid_at}
-use Rattle.ddt_wire.specs.LocatorRecord.{SpellsLocator, SpellsLocators, written_locator}
+use Rattle.ddt_wire.specs.LocatorRecord.{before_written, written_locator}
 use Rattle.ddt_wire.specs.Head.{head_bytes}
 use Rattle.ddt_wire.specs.Referral.{Message, Ignored, Spells, written, message_of, message_record, message_in}
 use Rattle.ddt_wire.specs.Laws.{IsPrefix, IsRecord}
 use Rattle.ddt_wire.proofs.EidLemmas.{form_of-named}
 use Rattle.ddt_wire.proofs.ByteLemmas.{IsBytes-number, IsBytes-append, IsBytes-cons, IsBytes-nil, Takes-take, Takes-fits}
+use Rattle.ddt_wire.proofs.AddressLaws.{address_is_bytes}
+use Rattle.ddt_wire.proofs.AddressesLaws.{addresses_spell, addresses_are_bytes}
 use Rattle.ddt_wire.proofs.EidLaws.{eid_takes, eid_again}
 use Rattle.ddt_wire.proofs.HeadLaws.{head_is_bytes}
 use Rattle.ddt_wire.proofs.MessageLaws.{head_spelled, head_fits, message_takes, message_again}
@@ -42,26 +43,6 @@ form_spells (Block (suc n) a len) h = Inside 0 0 0 (suc n) a (no_flags 0 (suc n)
 pub eid_spells : (p : List ℕ) → IsPrefix p → SpellsEid (written_mask_len p) (written_eid p) p
 eid_spells p (form, h, e) = rw (form_of-named p form e h) (subst (λ (q : List ℕ). SpellsEid (form_mask_len form) (written_form form) q) e (form_spells form h))
 
-locator_spells : (l : Locator) → IsAddress l → SpellsLocator (written_locator l) l
-locator_spells l fits = record {
-  priority = 1;
-  weight = 100;
-  m_priority = 255;
-  m_weight = 0;
-  flags = 1;
-  priority_fits = omega arith;
-  weight_fits = omega arith;
-  m_priority_fits = omega arith;
-  m_weight_fits = omega arith;
-  flags_fits = omega arith;
-  locator_fits = fits;
-  whole = refl;
-}
-
-locators_spell : (ls : List Locator) → AllByRecursion IsAddress ls → SpellsLocators (flat_map written_locator ls) ls
-locators_spell [] h = refl
-locators_spell (l ∷ ls) h = (written_locator l, flat_map written_locator ls, locator_spells l h.0, locators_spell ls h.1, flat_map-cons written_locator l ls)
-
 mask_small : (form : Form) → IsForm form → form_mask_len form < 256
 mask_small (Range iid len) h = omega arith
 mask_small (Block iid (V4 a) len) h = omega (arith, h.2)
@@ -69,6 +50,12 @@ mask_small (Block iid (V6 a) len) h = omega (arith, h.2)
 
 pub mask_len_fits : (p : List ℕ) → IsPrefix p → written_mask_len p < 256
 mask_len_fits p (form, h, e) = rw (form_of-named p form e h) (mask_small form h)
+
+four : (a b c d : ℕ) → a < 256 → b < 256 → c < 256 → d < 256 → IsBytes (a ∷ b ∷ c ∷ d ∷ [])
+four a b c d ha hb hc hd = IsBytes-cons a (b ∷ c ∷ d ∷ []) ha (IsBytes-cons b (c ∷ d ∷ []) hb (IsBytes-cons c (d ∷ []) hc (IsBytes-cons d [] hd IsBytes-nil)))
+
+before_is_bytes : IsBytes before_written
+before_is_bytes = IsBytes-append (1 ∷ 100 ∷ 255 ∷ 0 ∷ []) (to_be_bytes w16 1) (four 1 100 255 0 (omega arith) (omega arith) (omega arith) (omega arith)) (IsBytes-number 2 1)
 
 pub written_spells : (nonce : ℕ) (r : ReferralRecord) → IsRecord nonce r → Spells (written nonce r) (message_of nonce r)
 written_spells nonce r h =
@@ -83,18 +70,11 @@ written_spells nonce r h =
       mask_fits = mask_len_fits r.prefix h.prefix_is;
       count_fits = omega (arith, h.count_fits);
       spells_eid = eid_spells r.prefix h.prefix_is;
-      spells_locators = locators_spell r.servers h.servers_fit;
+      spells_locators = addresses_spell before_written r.servers before_is_bytes h.servers_fit;
       whole = refl;
     }
 
 -- ---- bytes
-
-address_is_bytes : (a : Locator) → IsBytes (family_and_address a)
-address_is_bytes (V4 a) = IsBytes-append (to_be_bytes w16 1) (to_be_bytes w32 a) (IsBytes-number 2 1) (IsBytes-number 4 a)
-address_is_bytes (V6 a) = IsBytes-append (to_be_bytes w16 2) (to_be_bytes w128 a) (IsBytes-number 2 2) (IsBytes-number 16 a)
-
-four : (a b c d : ℕ) → a < 256 → b < 256 → c < 256 → d < 256 → IsBytes (a ∷ b ∷ c ∷ d ∷ [])
-four a b c d ha hb hc hd = IsBytes-cons a (b ∷ c ∷ d ∷ []) ha (IsBytes-cons b (c ∷ d ∷ []) hb (IsBytes-cons c (d ∷ []) hc (IsBytes-cons d [] hd IsBytes-nil)))
 
 lcaf_is_bytes : (r f m iid : ℕ) (inner : List ℕ) → IsInstance r f m iid → IsBytes inner → IsBytes (instance_lcaf r f m iid inner)
 lcaf_is_bytes r f m iid inner h i =
@@ -108,22 +88,12 @@ eid_is_bytes mask bytes p (Plain a fits le is value) = subst IsBytes (sym is) (a
 eid_is_bytes mask bytes p (Inside r f m iid a h fits le is value) = subst IsBytes (sym is) (lcaf_is_bytes r f m iid (family_and_address a) h (address_is_bytes a))
 eid_is_bytes mask bytes p (Instances r f len iid h le zeros is value) = subst IsBytes (sym is) (lcaf_is_bytes r f len iid (to_be_bytes w16 0) h (IsBytes-number 2 0))
 
-locator_is_bytes : (bytes : List ℕ) (l : Locator) → SpellsLocator bytes l → IsBytes bytes
-locator_is_bytes bytes l s =
-    let a = four s.priority s.weight s.m_priority s.m_weight s.priority_fits s.weight_fits s.m_priority_fits s.m_weight_fits in
-    let b = IsBytes-append (s.priority ∷ s.weight ∷ s.m_priority ∷ s.m_weight ∷ []) (to_be_bytes w16 s.flags) a (IsBytes-number 2 s.flags) in
-    subst IsBytes (sym s.whole) (IsBytes-append ((s.priority ∷ s.weight ∷ s.m_priority ∷ s.m_weight ∷ []) ++ to_be_bytes w16 s.flags) (family_and_address l) b (address_is_bytes l))
-
-locators_are_bytes : (ls : List Locator) (bytes : List ℕ) → SpellsLocators bytes ls → IsBytes bytes
-locators_are_bytes [] bytes s = subst IsBytes (sym s) IsBytes-nil
-locators_are_bytes (l ∷ ls) bytes (f, g, one, others, e) = subst IsBytes (sym e) (IsBytes-append f g (locator_is_bytes f l one) (locators_are_bytes ls g others))
-
 pub message_is_bytes : (bytes : List ℕ) (v : Message) → Spells bytes v → IsBytes bytes
 message_is_bytes bytes v s =
     let front = head_bytes 6 s.ignored.reserved (head_spelled s.ignored s.mask v) in
     let a = head_is_bytes 6 s.ignored.reserved (head_spelled s.ignored s.mask v) (head_fits bytes v s) in
     let b = IsBytes-append front s.eid a (eid_is_bytes s.mask s.eid v.prefix s.spells_eid) in
-    subst IsBytes (sym s.whole) (IsBytes-append (front ++ s.eid) s.locators b (locators_are_bytes v.locators s.locators s.spells_locators))
+    subst IsBytes (sym s.whole) (IsBytes-append (front ++ s.eid) s.locators b (addresses_are_bytes 6 v.locators s.locators s.spells_locators))
 
 -- ---- at most one, and faults
 

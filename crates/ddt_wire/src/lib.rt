@@ -1,9 +1,10 @@
 //! The bytes of Map-Referrals and of negative Map-Replies: the one spelling that is written, and what any bytes spell.
 //!
-//! In reading order: `address`, `eid`, `head`, `fault`, `locator_record`, `referral`, `negative_reply`, `laws`.
+//! In reading order: `address`, `addresses`, `eid`, `head`, `fault`, `locator_record`, `referral`, `negative_reply`, `laws`.
 #![tactic(auto)]
 
 mod address;
+mod addresses;
 mod eid;
 mod fault;
 mod head;
@@ -13,6 +14,7 @@ mod negative_reply;
 mod referral;
 
 pub use address::{AddressFault, read_address, write_address};
+pub use addresses::{Addresses, write_addresses};
 pub use eid::{EidFault, mask_len, read_eid, write_eid};
 pub use fault::ReferralFault;
 pub use head::{MAP_REFERRAL, MAP_REPLY};

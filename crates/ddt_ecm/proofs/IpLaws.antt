@@ -6,9 +6,9 @@ use Rattle.std.proofs.lemmas.Bool.{leb-true, le-ltb, le-leb, eqb-true, eq-eqb, n
 use Rattle.std.proofs.lemmas.List.{take_at, drop_at}
 use Rattle.byteorder.specs.Endian.{big_number}
 use Rattle.byteorder.specs.Numbers.{big_number-reads_back}
-use Rattle.ddt_wire.specs.Steps.{IsBytes}
-use Rattle.ddt_wire.proofs.StepLemmas.{guard_ok, chosen, ok_is}
-use Rattle.ddt_wire.proofs.ByteLemmas.{Stands, joined, stands, number_stands, known_stands, byte_stands, known_byte, front_taken, number_fits, IsBytes-drop, IsBytes-take}
+use Rattle.ddt_reading.specs.Steps.{IsBytes}
+use Rattle.ddt_reading.proofs.StepLemmas.{guard_ok, chosen, ok_is}
+use Rattle.ddt_reading.proofs.ByteLemmas.{Stands, joined, stands, number_stands, known_stands, byte_stands, known_byte, front_taken, number_fits, IsBytes-drop, IsBytes-take}
 use Rattle.ddt_ecm.specs.declared.fault.RequestFault.{RequestFault}
 use Rattle.ddt_ecm.specs.declared.fault.RequestFault.TheVariants.{Short, IpVersion, IpLength, IpChecksum, NotUdp, Fragment}
 use Rattle.ddt_ecm.specs.Checksum.{ones_sum, is_right}

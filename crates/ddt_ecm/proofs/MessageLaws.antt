@@ -1,7 +1,6 @@
 -- A request that is read is spelled so, what is spelled is read again, and what spells a request is bytes.
 use Rattle.std.proofs.Common.{◌≡◌, ℕ, ◌+◌, ◌*◌, ◌/◌, ◌%◌, ◌^◌, ◌<◌, ◌≤◌, false, cond, ltb, eqb, List, [], ◌∷◌, ◌++◌, length, drop, Result, Ok, Err, refl, sym, ap, subst, ◌∙◌, arith}
-use Rattle.std.specs.Prelude.{◌↔◌, IfOk, slice_index, not}
-use Rattle.std.specs.Result.{IsErr}
+use Rattle.std.specs.Prelude.{slice_index, not}
 use Rattle.std.specs.Int.{w16, w32, w64, w128, to_be_bytes}
 use Rattle.std.proofs.lemmas.Bool.{ltb-false, le-ltb, eqb-true, not-false}
 use Rattle.byteorder.specs.Endian.{big_number}
@@ -9,10 +8,12 @@ use Rattle.ddt_path.specs.declared.locator.Locator.{Locator}
 use Rattle.ddt_path.specs.declared.locator.Locator.TheVariants.{V4, V6}
 use Rattle.ddt_path.specs.declared.xeid.Xeid.{Xeid}
 use Rattle.ddt_path.specs.Path.{address_width, xeid_path}
-use Rattle.ddt_wire.specs.Steps.{◌>>=◌, IsBytes}
+use Rattle.ddt_reading.specs.Steps.{◌>>=◌, IsBytes}
 use Rattle.ddt_wire.specs.Referral.{bit}
-use Rattle.ddt_wire.proofs.StepLemmas.{bind_ok, guard_ok, ok_is, err_not_ok, err_unless}
-use Rattle.ddt_wire.proofs.ByteLemmas.{Stands, known_stands, IsBytes-drop, IsBytes-append, IsBytes-cons, IsBytes-nil, IsBytes-number}
+use Rattle.ddt_reading.specs.Reader.{AreRead}
+use Rattle.ddt_reading.proofs.ReaderLemmas.{are_read}
+use Rattle.ddt_reading.proofs.StepLemmas.{bind_ok, guard_ok, ok_is}
+use Rattle.ddt_reading.proofs.ByteLemmas.{Stands, known_stands, IsBytes-drop, IsBytes-append, IsBytes-cons, IsBytes-nil, IsBytes-number}
 use Rattle.ddt_wire.proofs.AddressLaws.{address_is_bytes}
 use Rattle.ddt_wire.proofs.AddressesLaws.{addresses_are_bytes}
 use Rattle.ddt_wire.proofs.WrittenLaws.{eid_is_bytes}
@@ -214,16 +215,7 @@ message_is_bytes bytes v s =
     let packet = ip_is_bytes s.packet s.pseudo s.udp s.spells_ip udp in
     subst IsBytes (sym s.whole) (IsBytes-append (to_be_bytes w32 word) s.packet (IsBytes-number 4 word) packet)
 
--- ---- at most one, and faults
+-- ---- the laws
 
-pub one_message : (bytes : List ℕ) (v w : Message) → Spells bytes v → Spells bytes w → v ≡ w
-one_message bytes v w a b = ok_is {E = RequestFault} v w (sym (message_again bytes v a) ∙ message_again bytes w b)
-
-pub message_faults : (bytes : List ℕ) → IsBytes bytes → IsErr (message_in bytes) ↔ ((v : Message) → Spells bytes v → ⊥)
-message_faults bytes fits =
-    (λ e v s. err_not_ok (message_in bytes) v e (message_again bytes v s), λ n. err_unless (message_in bytes) (λ v e. n v (message_takes bytes v fits e)))
-
--- what was read of a slice
-pub message_found : (bytes : List ℕ) (r : Result Message RequestFault) → IsBytes bytes → r ≡ message_in bytes → IfOk r (λ v. Spells bytes v)
-message_found bytes (Ok v) fits e = message_takes bytes v fits (sym e)
-message_found bytes (Err d) fits e = tt
+pub messages_are_read : AreRead IsBytes Spells message_in
+messages_are_read = are_read message_again message_takes message_is_bytes

@@ -15,13 +15,13 @@ use Rattle.ddt_path.specs.Path.{path, digits, family, are_zero, address_width, a
 use Rattle.ddt_path.specs.FormOf.{padded_number, block_of, form_of}
 use Rattle.ddt_path.specs.FormLemmas.{whole, none_left, take_len}
 use Rattle.ddt_path.specs.DigitLemmas.{length-digits}
-use Rattle.ddt_wire.specs.Steps.{◌>>=◌, in_words, IsBytes}
+use Rattle.ddt_reading.specs.Steps.{◌>>=◌, in_words, IsBytes}
 use Rattle.ddt_wire.specs.Address.{IsAddress}
 use Rattle.ddt_wire.specs.Eid.{SpellsEid, Plain, Inside, Instances, eid_at}
 use Rattle.ddt_wire.specs.Referral.{bit}
 use Rattle.ddt_wire.specs.Laws.{IsPrefix}
-use Rattle.ddt_wire.proofs.StepLemmas.{bind_ok, words_ok, guard_ok, ok_is}
-use Rattle.ddt_wire.proofs.ByteLemmas.{Takes, Takes-fits, Stands, joined, stands, number_stands, known_stands, byte_stands, number_fits, IsBytes-drop}
+use Rattle.ddt_reading.proofs.StepLemmas.{bind_ok, words_ok, guard_ok, ok_is}
+use Rattle.ddt_reading.proofs.ByteLemmas.{Takes, Takes-fits, Stands, joined, stands, number_stands, known_stands, byte_stands, number_fits, IsBytes-drop}
 use Rattle.ddt_wire.specs.Addresses.{addresses_at}
 use Rattle.ddt_wire.proofs.AddressesLaws.{AreAddresses, addresses_take, addresses_again}
 use Rattle.ddt_wire.proofs.EidLemmas.{form_of-named}

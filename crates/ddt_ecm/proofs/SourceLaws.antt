@@ -8,10 +8,10 @@ use Rattle.byteorder.specs.Endian.{big_number}
 use Rattle.byteorder.specs.Numbers.{big_number-reads_back}
 use Rattle.ddt_path.specs.declared.locator.Locator.{Locator}
 use Rattle.ddt_path.specs.declared.locator.Locator.TheVariants.{V4, V6}
-use Rattle.ddt_wire.specs.Steps.{IsBytes}
+use Rattle.ddt_reading.specs.Steps.{IsBytes}
 use Rattle.ddt_wire.specs.Address.{family_and_address, address_at}
-use Rattle.ddt_wire.proofs.StepLemmas.{guard_ok, chosen, ok_is}
-use Rattle.ddt_wire.proofs.ByteLemmas.{Takes, Stands, joined, stands, known_stands, byte_stands, number_taken, front_taken, number_fits, IsBytes-drop, IsBytes-take}
+use Rattle.ddt_reading.proofs.StepLemmas.{guard_ok, chosen, ok_is}
+use Rattle.ddt_reading.proofs.ByteLemmas.{Takes, Stands, joined, stands, known_stands, byte_stands, number_taken, front_taken, number_fits, IsBytes-drop, IsBytes-take}
 use Rattle.ddt_wire.proofs.AddressLaws.{address_takes}
 use Rattle.ddt_ecm.specs.declared.fault.RequestFault.{RequestFault}
 use Rattle.ddt_ecm.specs.declared.fault.RequestFault.TheVariants as fault

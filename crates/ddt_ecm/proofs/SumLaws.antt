@@ -2,8 +2,8 @@
 use Rattle.std.proofs.Common.{◌≡◌, ℕ, zero, suc, ◌+◌, ◌*◌, ◌<◌, ◌≤◌, true, false, ltb, eqb, List, [], ◌∷◌, ◌++◌, length, refl, arith, inl, inr}
 use Rattle.std.specs.Int.{w16, to_be_bytes}
 use Rattle.std.proofs.lemmas.Bool.{cases_lt, lt-ltb, le-ltb, ne_eqb}
-use Rattle.ddt_wire.specs.Steps.{IsBytes}
-use Rattle.ddt_wire.proofs.ByteLemmas.{IsBytes-append, IsBytes-number}
+use Rattle.ddt_reading.specs.Steps.{IsBytes}
+use Rattle.ddt_reading.proofs.ByteLemmas.{IsBytes-append, IsBytes-number}
 use Rattle.ddt_ecm.specs.Checksum.{ones_add, ones_sum, complement}
 use Rattle.ddt_ecm.specs.Written.{not_absent}
 

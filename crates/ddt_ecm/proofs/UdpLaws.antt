@@ -5,9 +5,9 @@ use Rattle.std.specs.Int.{w16, to_be_bytes}
 use Rattle.std.proofs.lemmas.Bool.{eqb-true, eq-eqb, not-false, or_cases, or_left, or_right}
 use Rattle.byteorder.specs.Endian.{big_number}
 use Rattle.byteorder.specs.Numbers.{big_number-reads_back}
-use Rattle.ddt_wire.specs.Steps.{IsBytes}
-use Rattle.ddt_wire.proofs.StepLemmas.{guard_ok, ok_is}
-use Rattle.ddt_wire.proofs.ByteLemmas.{joined, number_stands, known_stands, number_fits, IsBytes-drop}
+use Rattle.ddt_reading.specs.Steps.{IsBytes}
+use Rattle.ddt_reading.proofs.StepLemmas.{guard_ok, ok_is}
+use Rattle.ddt_reading.proofs.ByteLemmas.{joined, number_stands, known_stands, number_fits, IsBytes-drop}
 use Rattle.ddt_ecm.specs.declared.fault.RequestFault.{RequestFault}
 use Rattle.ddt_ecm.specs.declared.fault.RequestFault.TheVariants.{UdpLength, UdpChecksum, Port}
 use Rattle.ddt_ecm.specs.Checksum.{ones_sum, is_right}

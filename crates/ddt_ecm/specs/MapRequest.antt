@@ -12,7 +12,7 @@ use Rattle.ddt_wire.specs.declared.address.AddressFault.{AddressFault}
 use Rattle.ddt_wire.specs.declared.address.AddressFault.TheVariants as address_fault
 use Rattle.ddt_wire.specs.declared.eid.EidFault.{EidFault}
 use Rattle.ddt_wire.specs.declared.eid.EidFault.TheVariants as eid_fault
-use Rattle.ddt_wire.specs.Steps.{◌>>=◌, in_words, IsBytes}
+use Rattle.ddt_reading.specs.Steps.{◌>>=◌, in_words, IsBytes}
 use Rattle.ddt_wire.specs.Address.{family_and_address, IsAddress}
 use Rattle.ddt_wire.specs.Addresses.{SpellsAddresses, addresses_at}
 use Rattle.ddt_wire.specs.Eid.{SpellsEid, eid_at}

@@ -1,7 +1,7 @@
 //! The IP header inside an Encapsulated Control Message, with a whole UDP datagram behind it.
 
 ghost use Rattle.std.specs.Prelude.{◌≡◌, ◌≤◌, ◌<◌, ◌+◌, ◌^◌, true, length, IfOk};
-ghost use Rattle.ddt_wire.specs.Steps.{Gives};
+ghost use Rattle.ddt_reading.specs.Steps.{Gives};
 ghost use Rattle.ddt_ecm.specs.IpHeader.{ipv4_at, ipv6_at, ip_at, pseudo4, pseudo6, header_len, has_length4};
 ghost use Rattle.ddt_ecm.specs.Checksum.{ones_sum};
 

@@ -14,7 +14,7 @@
 //! ```
 
 ghost use Rattle.std.specs.Prelude.{◌≡◌, ◌≤◌, length, Ok, OnOk, IfOk};
-ghost use Rattle.ddt_wire.specs.Steps.{Gives};
+ghost use Rattle.ddt_reading.specs.Steps.{Gives};
 ghost use Rattle.ddt_ecm.specs.Request.{Message, Spells, ecm_at, message_in};
 
 use crate::fault::RequestFault;

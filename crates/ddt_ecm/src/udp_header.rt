@@ -11,7 +11,7 @@
 //! ```
 
 ghost use Rattle.std.specs.Prelude.{◌≤◌, length};
-ghost use Rattle.ddt_wire.specs.Steps.{Gives};
+ghost use Rattle.ddt_reading.specs.Steps.{Gives};
 ghost use Rattle.ddt_ecm.specs.UdpHeader.{udp_at};
 
 use crate::checksum::{RIGHT, sum};

@@ -8,10 +8,10 @@ use Rattle.ddt_path.specs.declared.locator.Locator.{Locator}
 use Rattle.ddt_path.specs.declared.locator.Locator.TheVariants.{V4, V6}
 use Rattle.ddt_wire.specs.declared.address.AddressFault.{AddressFault}
 use Rattle.ddt_wire.specs.declared.address.AddressFault.TheVariants.{Short, Family}
-use Rattle.ddt_wire.specs.Steps.{IsBytes}
+use Rattle.ddt_reading.specs.Steps.{IsBytes}
 use Rattle.ddt_wire.specs.Address.{family_and_address, IsAddress, address_at}
-use Rattle.ddt_wire.proofs.StepLemmas.{guard_ok, chosen, ok_is}
-use Rattle.ddt_wire.proofs.ByteLemmas.{Takes, Takes-then, number_taken, number_taken_at, number_fits, IsBytes-drop, IsBytes-append, IsBytes-number}
+use Rattle.ddt_reading.proofs.StepLemmas.{guard_ok, chosen, ok_is}
+use Rattle.ddt_reading.proofs.ByteLemmas.{Takes, Takes-then, number_taken, number_taken_at, number_fits, IsBytes-drop, IsBytes-append, IsBytes-number}
 
 -- what was read of an address
 pub record IsRead (bytes : List ℕ) (a : Locator) (n : ℕ) : Type 0 where

@@ -3,7 +3,7 @@ use Rattle.std.proofs.Common.{◌≡◌, ℕ, suc, ◌-◌, ◌+◌, ◌≤◌, 
 use Rattle.std.proofs.lemmas.List.{append-nil}
 use Rattle.ddt_path.specs.declared.locator.Locator.{Locator}
 use Rattle.ddt_wire.specs.declared.address.AddressFault.{AddressFault}
-use Rattle.ddt_wire.specs.Steps.{◌>>=◌}
+use Rattle.ddt_reading.specs.Steps.{◌>>=◌}
 use Rattle.ddt_wire.specs.Addresses.{behind_at, addresses_at}
 
 -- what was read before, and what is still read

@@ -7,11 +7,11 @@ use Rattle.std.proofs.Math.Seq.{drop-append_seam}
 use Rattle.ddt_path.specs.declared.locator.Locator.{Locator}
 use Rattle.ddt_wire.specs.declared.address.AddressFault.{AddressFault}
 use Rattle.ddt_wire.specs.declared.address.AddressFault.TheVariants.{Short}
-use Rattle.ddt_wire.specs.Steps.{◌>>=◌, IsBytes}
+use Rattle.ddt_reading.specs.Steps.{◌>>=◌, IsBytes}
 use Rattle.ddt_wire.specs.Address.{family_and_address, IsAddress, address_at}
 use Rattle.ddt_wire.specs.Addresses.{SpellsBehind, SpellsAddresses, written_behind, behind_at, addresses_at}
-use Rattle.ddt_wire.proofs.StepLemmas.{bind_ok, guard_ok, ok_is}
-use Rattle.ddt_wire.proofs.ByteLemmas.{Takes, Takes-then, front_taken, IsBytes-drop, IsBytes-take, IsBytes-append, IsBytes-nil}
+use Rattle.ddt_reading.proofs.StepLemmas.{bind_ok, guard_ok, ok_is}
+use Rattle.ddt_reading.proofs.ByteLemmas.{Takes, Takes-then, front_taken, IsBytes-drop, IsBytes-take, IsBytes-append, IsBytes-nil}
 use Rattle.ddt_wire.proofs.AddressLaws.{address_takes, address_again, address_is_bytes}
 
 -- what was read of an address

@@ -8,7 +8,7 @@ use Rattle.std.specs.List.{flat_map}
 use Rattle.ddt_wire.specs.Address.{IsAddress}
 use Rattle.ddt_path.specs.declared.locator.Locator.{Locator}
 use Rattle.ddt_wire.specs.declared.address.AddressFault.{AddressFault}
-use Rattle.ddt_wire.specs.Steps.{◌>>=◌}
+use Rattle.ddt_reading.specs.Steps.{◌>>=◌}
 use Rattle.ddt_wire.specs.Addresses.{behind_at, addresses_at, addresses_in, read_addresses}
 
 pub none_left : (before left : ℕ) (bytes : List ℕ) (ls : List Locator) → left ≡ 0 → addresses_in before left bytes ≡ ls → ls ≡ []

@@ -13,11 +13,11 @@ use Rattle.ddt_path.specs.declared.form.PrefixFault.TheVariants as prefix_fault
 use Rattle.ddt_path.specs.Path.{path, digits, are_zero, address_width, prefix_of}
 use Rattle.ddt_wire.specs.declared.eid.EidFault.{EidFault}
 use Rattle.ddt_wire.specs.declared.eid.EidFault.TheVariants.{Short, Lcaf, MaskLength}
-use Rattle.ddt_wire.specs.Steps.{◌>>=◌, in_words, IsBytes}
+use Rattle.ddt_reading.specs.Steps.{◌>>=◌, in_words, IsBytes}
 use Rattle.ddt_wire.specs.Address.{afi, family_and_address, IsAddress, address_at}
 use Rattle.ddt_wire.specs.Eid.{from_address, from_prefix, block_at, inside_at, lcaf_at, eid_at, has_length, instance_head, instance_lcaf, IsInstance, SpellsEid, Plain, Inside, Instances}
-use Rattle.ddt_wire.proofs.StepLemmas.{bind_ok, words_ok, guard_ok, held_ok, chosen, ok_is}
-use Rattle.ddt_wire.proofs.ByteLemmas.{Takes, Stands, joined, stands, number_stands, known_stands, byte_stands, known_byte, number_fits, IsBytes-drop}
+use Rattle.ddt_reading.proofs.StepLemmas.{bind_ok, words_ok, guard_ok, held_ok, chosen, ok_is}
+use Rattle.ddt_reading.proofs.ByteLemmas.{Takes, Stands, joined, stands, number_stands, known_stands, byte_stands, known_byte, number_fits, IsBytes-drop}
 use Rattle.ddt_wire.proofs.AddressLaws.{address_takes, address_again}
 
 -- ---- what is read is spelled so

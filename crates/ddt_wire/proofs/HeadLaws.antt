@@ -8,10 +8,10 @@ use Rattle.byteorder.specs.Numbers.{big_number-reads_back}
 use Rattle.ddt_wire.specs.declared.head.Head.{Head}
 use Rattle.ddt_wire.specs.declared.head.HeadFault.{HeadFault}
 use Rattle.ddt_wire.specs.declared.head.HeadFault.TheVariants.{Short, MessageType, RecordCount}
-use Rattle.ddt_wire.specs.Steps.{IsBytes}
+use Rattle.ddt_reading.specs.Steps.{IsBytes}
 use Rattle.ddt_wire.specs.Head.{head_bytes, IsHead, head_of, head_at}
-use Rattle.ddt_wire.proofs.StepLemmas.{guard_ok, ok_is}
-use Rattle.ddt_wire.proofs.ByteLemmas.{Stands, joined, number_stands, known_stands, byte_stands, number_fits, IsBytes-drop, IsBytes-append, IsBytes-cons, IsBytes-nil, IsBytes-number}
+use Rattle.ddt_reading.proofs.StepLemmas.{guard_ok, ok_is}
+use Rattle.ddt_reading.proofs.ByteLemmas.{Stands, joined, number_stands, known_stands, byte_stands, number_fits, IsBytes-drop, IsBytes-append, IsBytes-cons, IsBytes-nil, IsBytes-number}
 
 -- ---- what is read is spelled so
 

@@ -3,8 +3,6 @@ pub mod EidLemmas
 pub mod AddressLoop
 pub mod AddressesLemmas
 pub mod MessageLemmas
-pub mod ByteLemmas
-pub mod StepLemmas
 pub mod AddressLaws
 pub mod EidLaws
 pub mod AddressesLaws

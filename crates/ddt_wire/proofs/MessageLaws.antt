@@ -9,14 +9,14 @@ use Rattle.ddt_path.specs.declared.record.Action.TheVariants.{NodeReferral, MsRe
 use Rattle.ddt_wire.specs.declared.head.Head.{Head}
 use Rattle.ddt_wire.specs.declared.fault.ReferralFault.{ReferralFault}
 use Rattle.ddt_wire.specs.declared.fault.ReferralFault.TheVariants as fault
-use Rattle.ddt_wire.specs.Steps.{◌>>=◌, in_words, IsBytes}
+use Rattle.ddt_reading.specs.Steps.{◌>>=◌, in_words, IsBytes}
 use Rattle.ddt_wire.specs.Head.{head_bytes, IsHead, action_number, head_at}
 use Rattle.ddt_wire.specs.Eid.{eid_at}
 use Rattle.ddt_wire.specs.Addresses.{addresses_at}
 use Rattle.ddt_wire.specs.LocatorRecord.{from_address, locators_at}
 use Rattle.ddt_wire.specs.Referral.{Message, Ignored, Spells, act, bit, flags_of, message_head, from_head, from_eid, action_of, action_or_fault, action_in, message_with, message_in}
-use Rattle.ddt_wire.proofs.StepLemmas.{bind_ok, words_ok, held_ok, ok_is}
-use Rattle.ddt_wire.proofs.ByteLemmas.{Stands, joined, stands, IsBytes-drop}
+use Rattle.ddt_reading.proofs.StepLemmas.{bind_ok, words_ok, held_ok, ok_is}
+use Rattle.ddt_reading.proofs.ByteLemmas.{Stands, joined, stands, IsBytes-drop}
 use Rattle.ddt_wire.proofs.HeadLaws.{BeginsWith, head_takes, head_again}
 use Rattle.ddt_wire.proofs.EidLaws.{IsEid, eid_takes, eid_again, eid_some}
 use Rattle.ddt_wire.proofs.AddressesLaws.{AreAddresses, addresses_take, addresses_again}

@@ -1,20 +1,21 @@
 -- A negative Map-Reply that is read is spelled so, what is spelled is read again, and what is written spells its value.
-use Rattle.std.proofs.Common.{◌≡◌, ℕ, ◌+◌, ◌/◌, ◌%◌, ◌^◌, ◌<◌, true, cond, eqb, List, [], ◌++◌, length, drop, Result, Ok, Err, refl, sym, ap, subst, ◌∙◌, arith, length-drop}
-use Rattle.std.specs.Prelude.{◌↔◌, IfOk, not}
-use Rattle.std.specs.Result.{IsErr}
+use Rattle.std.proofs.Common.{◌≡◌, ℕ, ◌+◌, ◌/◌, ◌%◌, ◌^◌, ◌<◌, true, cond, eqb, List, [], ◌++◌, length, drop, Ok, Err, refl, sym, ap, subst, ◌∙◌, arith, length-drop}
+use Rattle.std.specs.Prelude.{not}
 use Rattle.std.proofs.lemmas.Bool.{eqb-true, eq-eqb, not-false}
 use Rattle.std.proofs.lemmas.List.{append-nil, drop_all}
 use Rattle.ddt_wire.specs.declared.head.Head.{Head}
 use Rattle.ddt_wire.specs.declared.negative_reply.NegativeReply.{NegativeReply}
 use Rattle.ddt_wire.specs.declared.negative_reply.ReplyFault.{ReplyFault}
 use Rattle.ddt_wire.specs.declared.negative_reply.ReplyFault.TheVariants as fault
-use Rattle.ddt_wire.specs.Steps.{◌>>=◌, in_words, IsBytes}
+use Rattle.ddt_reading.specs.Steps.{◌>>=◌, in_words, IsBytes}
 use Rattle.ddt_wire.specs.Head.{head_bytes, IsHead, action_number, head_at}
 use Rattle.ddt_wire.specs.Eid.{eid_at, written_eid, written_mask_len}
 use Rattle.ddt_wire.specs.NegativeReply.{Ignored, reply_head, SpellsReply, written_reply, reply_of, from_head, from_eid, after_eid, after_head, reply_in}
 use Rattle.ddt_wire.specs.Laws.{IsReply}
-use Rattle.ddt_wire.proofs.StepLemmas.{bind_ok, guard_ok, held_ok, words_ok, ok_is, err_not_ok, err_unless}
-use Rattle.ddt_wire.proofs.ByteLemmas.{Stands, joined, stands, IsBytes-drop, IsBytes-append}
+use Rattle.ddt_reading.specs.Reader.{AreRead}
+use Rattle.ddt_reading.proofs.ReaderLemmas.{are_read}
+use Rattle.ddt_reading.proofs.StepLemmas.{bind_ok, guard_ok, held_ok, words_ok, ok_is}
+use Rattle.ddt_reading.proofs.ByteLemmas.{Stands, joined, stands, IsBytes-drop, IsBytes-append}
 use Rattle.ddt_wire.proofs.HeadLaws.{BeginsWith, head_takes, head_again, head_is_bytes}
 use Rattle.ddt_wire.proofs.EidLaws.{IsEid, eid_takes, eid_again, eid_some}
 use Rattle.ddt_wire.proofs.WrittenLaws.{eid_spells, eid_is_bytes, mask_len_fits}
@@ -93,7 +94,7 @@ reply_again bytes v s =
     let eid : eid_at s.mask s.eid ≡ Ok (v.prefix, length s.eid) = ap (eid_at s.mask) (sym (append-nil s.eid)) ∙ eid_again s.mask s.eid v.prefix [] s.spells_eid in
     ap reply_in s.whole ∙ reply_read (front ++ s.eid) h v.prefix (length s.eid) begins refl (act_again i.flags i.flags_fits) eid refl
 
--- ---- only bytes, at most one, and faults
+-- ---- only bytes, and the laws
 
 pub reply_is_bytes : (bytes : List ℕ) (v : NegativeReply) → SpellsReply bytes v → IsBytes bytes
 reply_is_bytes bytes v s =
@@ -101,17 +102,8 @@ reply_is_bytes bytes v s =
     let front = head_is_bytes 2 s.ignored.reserved h (head_fits bytes v s) in
     subst IsBytes (sym s.whole) (IsBytes-append (head_bytes 2 s.ignored.reserved h) s.eid front (eid_is_bytes s.mask s.eid v.prefix s.spells_eid))
 
-pub one_reply : (bytes : List ℕ) (v w : NegativeReply) → SpellsReply bytes v → SpellsReply bytes w → v ≡ w
-one_reply bytes v w a b = ok_is {E = ReplyFault} v w (sym (reply_again bytes v a) ∙ reply_again bytes w b)
-
-pub reply_faults : (bytes : List ℕ) → IsBytes bytes → IsErr (reply_in bytes) ↔ ((v : NegativeReply) → SpellsReply bytes v → ⊥)
-reply_faults bytes fits =
-    (λ e v s. err_not_ok (reply_in bytes) v e (reply_again bytes v s), λ n. err_unless (reply_in bytes) (λ v e. n v (reply_takes bytes v fits e)))
-
--- what was read of a slice
-pub reply_found : (bytes : List ℕ) (r : Result NegativeReply ReplyFault) → IsBytes bytes → r ≡ reply_in bytes → IfOk r (λ v. SpellsReply bytes v)
-reply_found bytes (Ok v) fits e = reply_takes bytes v fits (sym e)
-reply_found bytes (Err d) fits e = tt
+pub replies_are_read : AreRead IsBytes SpellsReply reply_in
+replies_are_read = are_read reply_again reply_takes reply_is_bytes
 
 -- ---- written
 

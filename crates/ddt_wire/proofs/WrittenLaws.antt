@@ -12,10 +12,11 @@ use Rattle.ddt_path.specs.declared.form.Form.{Form}
 use Rattle.ddt_path.specs.declared.form.Form.TheVariants.{Range, Block}
 use Rattle.ddt_path.specs.declared.record.ReferralRecord.{ReferralRecord}
 use Rattle.ddt_wire.specs.declared.eid.EidFault.{EidFault}
-use Rattle.ddt_wire.specs.declared.fault.ReferralFault.{ReferralFault}
-use Rattle.ddt_wire.proofs.StepLemmas.{ok_is, err_not_ok, err_unless}
+use Rattle.ddt_reading.proofs.StepLemmas.{ok_is, err_not_ok, err_unless}
 use Rattle.ddt_path.specs.Path.{path, IsForm}
-use Rattle.ddt_wire.specs.Steps.{IsBytes}
+use Rattle.ddt_reading.specs.Steps.{IsBytes}
+use Rattle.ddt_reading.specs.Reader.{AreRead}
+use Rattle.ddt_reading.proofs.ReaderLemmas.{are_read}
 use Rattle.ddt_wire.specs.Address.{family_and_address}
 use Rattle.ddt_wire.specs.Eid.{SpellsEid, Plain, Inside, Instances, IsInstance, instance_head, instance_lcaf, written_form, form_mask_len, written_eid, written_mask_len, eid_at}
 use Rattle.ddt_wire.specs.LocatorRecord.{before_written, written_locator}
@@ -23,7 +24,7 @@ use Rattle.ddt_wire.specs.Head.{head_bytes}
 use Rattle.ddt_wire.specs.Referral.{Message, Ignored, Spells, written, message_of, message_record, message_in}
 use Rattle.ddt_wire.specs.Laws.{IsPrefix, IsRecord}
 use Rattle.ddt_wire.proofs.EidLemmas.{form_of-named}
-use Rattle.ddt_wire.proofs.ByteLemmas.{IsBytes-number, IsBytes-append, IsBytes-cons, IsBytes-nil, Takes-take, Takes-fits}
+use Rattle.ddt_reading.proofs.ByteLemmas.{IsBytes-number, IsBytes-append, IsBytes-cons, IsBytes-nil, Takes-take, Takes-fits}
 use Rattle.ddt_wire.proofs.AddressLaws.{address_is_bytes}
 use Rattle.ddt_wire.proofs.AddressesLaws.{addresses_spell, addresses_are_bytes}
 use Rattle.ddt_wire.proofs.EidLaws.{eid_takes, eid_again}
@@ -100,12 +101,8 @@ message_is_bytes bytes v s =
 pub one_eid : (mask : ℕ) (bytes p q : List ℕ) → SpellsEid mask bytes p → SpellsEid mask bytes q → p ≡ q
 one_eid mask bytes p q a b = ap (λ (x : List ℕ × ℕ). x.0) (ok_is {E = EidFault} (p, length bytes) (q, length bytes) (sym (eid_again mask bytes p [] a) ∙ eid_again mask bytes q [] b))
 
-pub one_message : (bytes : List ℕ) (v w : Message) → Spells bytes v → Spells bytes w → v ≡ w
-one_message bytes v w a b = ok_is {E = ReferralFault} v w (sym (message_again bytes v a) ∙ message_again bytes w b)
-
-pub message_faults : (bytes : List ℕ) → IsBytes bytes → IsErr (message_in bytes) ↔ ((v : Message) → Spells bytes v → ⊥)
-message_faults bytes fits =
-    (λ e v s. err_not_ok (message_in bytes) v e (message_again bytes v s), λ n. err_unless (message_in bytes) (λ v e. n v (message_takes bytes v fits e)))
+pub messages_are_read : AreRead IsBytes Spells message_in
+messages_are_read = are_read message_again message_takes message_is_bytes
 
 pub eid_faults : (mask : ℕ) (bytes : List ℕ) → IsBytes bytes → IsErr (eid_at mask bytes) ↔ ((eid rest p : List ℕ) → SpellsEid mask eid p → bytes ≡ eid ++ rest → ⊥)
 eid_faults mask bytes fits = (
@@ -131,7 +128,3 @@ eid_found mask bytes (Ok x) fits e =
     let t = eid_takes mask bytes x fits (sym e) in
     (subst (λ (text : List ℕ). SpellsEid mask text x.0) (sym (Takes-take bytes t.0 x.1 t.1)) t.2, Takes-fits bytes t.0 x.1 t.1)
 eid_found mask bytes (Err d) fits e = tt
-
-pub message_found : (bytes : List ℕ) (r : Result Message ReferralFault) → IsBytes bytes → r ≡ message_in bytes → IfOk r (λ v. Spells bytes v)
-message_found bytes (Ok v) fits e = message_takes bytes v fits (sym e)
-message_found bytes (Err d) fits e = tt

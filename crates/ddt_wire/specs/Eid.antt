@@ -14,7 +14,7 @@ use Rattle.ddt_wire.specs.declared.address.AddressFault.{AddressFault}
 use Rattle.ddt_wire.specs.declared.address.AddressFault.TheVariants as address_fault
 use Rattle.ddt_wire.specs.declared.eid.EidFault.{EidFault}
 use Rattle.ddt_wire.specs.declared.eid.EidFault.TheVariants.{Short, EidFamily, Lcaf, MaskLength, TailNotZero}
-use Rattle.ddt_wire.specs.Steps.{◌>>=◌, in_words}
+use Rattle.ddt_reading.specs.Steps.{◌>>=◌, in_words}
 use Rattle.ddt_wire.specs.Address.{family_and_address, IsAddress, address_at}
 
 -- ---- what spells a prefix

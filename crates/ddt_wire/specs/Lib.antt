@@ -1,4 +1,3 @@
-pub mod Steps
 pub mod Address
 pub mod Addresses
 pub mod Eid

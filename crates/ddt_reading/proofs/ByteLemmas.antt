@@ -8,7 +8,7 @@ use Rattle.std.proofs.lemmas.Nat.{same_from_place, mod_below}
 use Rattle.std.proofs.lemmas.List.{get_or-drop, get_or-take, get_or_past, append-nil, drop-drop, take-append-drop, take_at}
 use Rattle.byteorder.specs.Endian.{big_from, big_number}
 use Rattle.byteorder.specs.Numbers.{big_from-cons, big_from-take, big_from-lt, big_number-reads_back, length-bytes_high_first}
-use Rattle.ddt_wire.specs.Steps.{IsBytes}
+use Rattle.ddt_reading.specs.Steps.{IsBytes}
 
 pub IsBytes-drop : (n : ℕ) (bytes : List ℕ) → IsBytes bytes → IsBytes (drop n bytes)
 IsBytes-drop n bytes h i = rw get_or-drop (h (n + i))

@@ -2,7 +2,7 @@
 use Rattle.std.proofs.Common.{◌≡◌, Bool, true, false, cond, Result, Ok, Err, refl, inl, inr}
 use Rattle.std.specs.Prelude.{◌⊎◌, OnOk}
 use Rattle.std.specs.Result.{IsErr}
-use Rattle.ddt_wire.specs.Steps.{◌>>=◌, in_words}
+use Rattle.ddt_reading.specs.Steps.{◌>>=◌, in_words}
 
 -- the value of a step that did not fail
 pub bind_ok : {A B E : Type 0} (r : Result A E) (f : A → Result B E) (y : B) → (r >>= f) ≡ Ok y → (x : A) × (r ≡ Ok x) × (f x ≡ Ok y)

@@ -9,6 +9,11 @@ pub bind_ok : {A B E : Type 0} (r : Result A E) (f : A → Result B E) (y : B) �
 bind_ok (Ok x) f y e = (x, refl, e)
 bind_ok (Err d) f y e = absurd cc
 
+-- the same, for what follows from it
+pub bind_parts : {A B E P : Type 0} (r : Result A E) (next : A → Result B E) (b : B) → (r >>= next) ≡ Ok b → ((a : A) → r ≡ Ok a → next a ≡ Ok b → P) → P
+bind_parts (Ok a) next b e k = k a refl e
+bind_parts (Err d) next b e k = absurd cc
+
 -- a test that did not fail
 pub guard_ok : {A E : Type 0} (b : Bool) (d : E) (r : Result A E) (x : A) → cond b (Err d) r ≡ Ok x → (b ≡ false) × (r ≡ Ok x)
 guard_ok true d r x e = absurd cc

@@ -1,5 +1,5 @@
 -- The bytes that texts are made of, and a text cut at a byte.
-use Rattle.std.proofs.Common.{◌≡◌, ◌≢◌, ℕ, zero, suc, ◌^◌, ◌<◌, ◌≤◌, true, false, List, [], ◌∷◌, ◌++◌, decimal, All, refl, sym, ap, ◌∙◌, arith, inl, inr, true≢false, eq-eqb, ne_eqb, one-add, append-nil, take-append-drop}
+use Rattle.std.proofs.Common.{◌≡◌, ◌≢◌, ℕ, ◌^◌, ◌<◌, ◌≤◌, true, false, List, [], ◌∷◌, ◌++◌, decimal, refl, sym, ap, ◌∙◌, arith, inl, inr, true≢false, eq-eqb, ne_eqb, one-add, append-nil, take-append-drop}
 use Rattle.std.specs.Prelude.{◌==◌}
 use Rattle.std.specs.List.{position_or_len, list_any}
 use Rattle.std.specs.Char.{digit_value}
@@ -8,6 +8,8 @@ use Rattle.std.proofs.lemmas.Bool.{cases_eq}
 use Rattle.std.proofs.lemmas.Bool.Decides.{nat_tests}
 use Rattle.std.proofs.lemmas.Fmt.{decimal_is_IsNumeral}
 use Rattle.std.proofs.lemmas.Str.Parse.{digit_from_value}
+use Rattle.ddt_reading.specs.Steps.{IsBytes}
+use Rattle.ddt_reading.proofs.ByteLemmas.{IsBytes-cons, IsBytes-nil}
 use Rattle.ddt_text.specs.FirstFault.{before, onward}
 
 -- ASCII from `low` on, without `/` and `]`
@@ -42,26 +44,12 @@ plain-digits (d ∷ ds) h =
 pub plain-decimal : (n : ℕ) → n < 2 ^ 64 → ArePlain 48 (decimal n)
 plain-decimal n h = plain-digits (decimal n) (decimal_is_IsNumeral n h).0.1
 
--- bytes
-abbrev pub AreBytes : List ℕ → Type 0
-AreBytes [] = Unit {0}
-AreBytes (b ∷ bs) = (b < 256) × AreBytes bs
+pub plain_bytes : (low : ℕ) (xs : List ℕ) → ArePlain low xs → IsBytes xs
+plain_bytes low [] h = IsBytes-nil
+plain_bytes low (x ∷ xs) h = IsBytes-cons x xs (omega (arith, h.0.1)) (plain_bytes low xs h.1)
 
-pub bytes-append : (xs ys : List ℕ) → AreBytes xs → AreBytes ys → AreBytes (xs ++ ys)
-bytes-append [] ys h k = k
-bytes-append (x ∷ xs) ys h k = (h.0, bytes-append xs ys h.1 k)
-
-pub plain_bytes : (low : ℕ) (xs : List ℕ) → ArePlain low xs → AreBytes xs
-plain_bytes low [] h = tt
-plain_bytes low (x ∷ xs) h = (omega (arith, h.0.1), plain_bytes low xs h.1)
-
-pub decimal_bytes : (n : ℕ) → n < 2 ^ 64 → AreBytes (decimal n)
+pub decimal_bytes : (n : ℕ) → n < 2 ^ 64 → IsBytes (decimal n)
 decimal_bytes n h = plain_bytes 48 (decimal n) (plain-decimal n h)
-
-pub all_bytes : (xs : List ℕ) → AreBytes xs → All (λ b. b < 256) xs
-all_bytes [] h k d l = absurd (omega arith)
-all_bytes (x ∷ xs) h zero d l = h.0
-all_bytes (x ∷ xs) h (suc k) d l = all_bytes xs h.1 k d (omega arith)
 
 -- a byte that stands nowhere
 abbrev pub Lacks : ℕ → List ℕ → Type 0

@@ -1,6 +1,6 @@
 -- What is written spells the value.
-use Rattle.std.proofs.Common.{◌≡◌, ℕ, zero, suc, ◌+◌, ◌*◌, ◌/◌, ◌%◌, ◌^◌, ◌<◌, List, [], ◌∷◌, length, get_or, take, All, refl, sym, ap, ◌∙◌, subst, arith, inl, inr, eq-eqb, ne_eqb}
-use Rattle.std.specs.Int.{w32, w128, bytes_high_first, to_be_bytes, from_be_bytes}
+use Rattle.std.proofs.Common.{◌≡◌, ℕ, zero, suc, ◌+◌, ◌*◌, ◌/◌, ◌%◌, ◌^◌, ◌<◌, List, [], ◌∷◌, length, take, All, refl, sym, ap, ◌∙◌, subst, arith, inl, inr, eq-eqb, ne_eqb}
+use Rattle.std.specs.Int.{w32, w128, to_be_bytes, from_be_bytes}
 use Rattle.std.specs.declared.net.ipv4_addr.Ipv4Addr.{Ipv4Addr}
 use Rattle.std.specs.declared.net.ipv6_addr.Ipv6Addr.{Ipv6Addr}
 use Rattle.std.specs.declared.net.display.HexGroups.{HexGroups}
@@ -22,35 +22,26 @@ use Rattle.ddt_path.specs.FormLemmas.{form_of-path}
 use Rattle.ddt_path.proofs.PrefixLemmas.{prefix_of-made}
 use Rattle.ddt_text.specs.Grammar.{SpellsLocator, SpellsXeid, SpellsPrefix}
 use Rattle.ddt_text.specs.Written.{written_locator, written_xeid, written_form, written_prefix}
-use Rattle.ddt_text.proofs.ByteLemmas.{AreBytes, Lacks}
+use Rattle.ddt_reading.specs.Steps.{IsBytes}
+use Rattle.ddt_reading.proofs.ByteLemmas.{IsBytes-number}
+use Rattle.ddt_text.proofs.ByteLemmas.{Lacks}
 use Rattle.ddt_text.proofs.AddressLemmas.{colon_hex-narrower}
 
--- bytes of a number
-be_bytes : (k n : ℕ) → AreBytes (bytes_high_first k n)
-be_bytes zero n = tt
-be_bytes (suc zero) n = (omega arith, tt)
-be_bytes (suc (suc k)) n = (omega arith, be_bytes (suc k) n)
-
-byte_of : (bs : List ℕ) → AreBytes bs → (k : ℕ) → get_or bs k 0 < 2 ^ 8
-byte_of [] h k = omega arith
-byte_of (b ∷ bs) h zero = h.0
-byte_of (b ∷ bs) h (suc k) = byte_of bs h.1 k
-
-segments_fit : (bs : List ℕ) → AreBytes bs → AllSegments (segments_of bs)
+segments_fit : (bs : List ℕ) → IsBytes bs → AllSegments (segments_of bs)
 segments_fit [] h k = omega arith
 segments_fit (a ∷ []) h k = omega arith
-segments_fit (a ∷ b ∷ bs) h zero = omega (arith, h.0, h.1.0)
-segments_fit (a ∷ b ∷ bs) h (suc k) = segments_fit bs h.1.1 k
+segments_fit (a ∷ b ∷ bs) h zero = omega (arith, h 0, h 1)
+segments_fit (a ∷ b ∷ bs) h (suc k) = segments_fit bs (λ i. h (suc (suc i))) k
 
 -- sixteen bytes through eight segments
-restored : (k : ℕ) (bs : List ℕ) → length bs ≡ k + k → AreBytes bs → octets_of (segments_of bs) ≡ bs
+restored : (k : ℕ) (bs : List ℕ) → length bs ≡ k + k → IsBytes bs → octets_of (segments_of bs) ≡ bs
 restored k [] l h = refl
 restored k (a ∷ []) l h = absurd (omega arith)
 restored zero (a ∷ b ∷ bs) l h = absurd (omega arith)
 restored (suc k) (a ∷ b ∷ bs) l h =
-    let high : (a * 256 + b) / 256 ≡ a = omega (arith, h.1.0) in
-    let low : (a * 256 + b) % 256 ≡ b = omega (arith, h.1.0) in
-    let rest = restored k bs (omega arith) h.1.1 in
+    let high : (a * 256 + b) / 256 ≡ a = omega (arith, h 1) in
+    let low : (a * 256 + b) % 256 ≡ b = omega (arith, h 1) in
+    let rest = restored k bs (omega arith) (λ i. h (suc (suc i))) in
     λ i. high i ∷ low i ∷ rest i
 
 -- a number of 16 bytes from its bytes, the highest first
@@ -92,10 +83,10 @@ hex_groups_lack_dot (c ∷ text) h = rw (ne_eqb c 46 (not_dot c (h 0 0 (omega ar
 
 pub written_locator-spells : (a : Locator) → address_number a < 2 ^ address_width a → SpellsLocator (written_locator a) a
 written_locator-spells (V4 n) h =
-    let bytes : AreBytes (to_be_bytes w32 n) = be_bytes 4 n in
-    (to_be_bytes w32 n, IsDotted-ipv4_text (to_be_bytes w32 n) refl (byte_of (to_be_bytes w32 n) bytes), sym (from_be_bytes-to_be_bytes_4 n h))
+    let bytes : IsBytes (to_be_bytes w32 n) = IsBytes-number 4 n in
+    (to_be_bytes w32 n, IsDotted-ipv4_text (to_be_bytes w32 n) refl (bytes), sym (from_be_bytes-to_be_bytes_4 n h))
 written_locator-spells (V6 n) h =
-    let bytes : AreBytes (to_be_bytes w128 n) = be_bytes 16 n in
+    let bytes : IsBytes (to_be_bytes w128 n) = IsBytes-number 16 n in
     let groups = segments_of (to_be_bytes w128 n) in
     let fits = segments_fit (to_be_bytes w128 n) bytes in
     let spelled = colon_hex-narrower (hex_groups_text groups) groups (hex_groups_lack_dot (hex_groups_text groups) (All-hex_groups_text groups fits)) (IsColonHex-hex_groups_text groups refl fits) in

@@ -6,7 +6,7 @@ ghost use Rattle.ddt_path.specs.Path.{address_number, address_width};
 ghost use Rattle.ddt_text.specs.Grammar.{SpellsLocator};
 ghost use Rattle.ddt_text.specs.FirstFault.{address_in, locator_in};
 ghost use Rattle.ddt_text.specs.Written.{written_locator};
-ghost use Rattle.ddt_text.specs.Laws.{AreRead};
+ghost use Rattle.ddt_reading.specs.Reader.{AreRead, IsAny};
 
 use crate::fault::TextFault;
 use ddt_path::Locator;
@@ -41,7 +41,7 @@ fn read_locator(text: &[u8]) -> Result<Locator, TextFault>
 pub fn parse_locator(text: &[u8]) -> Result<Locator, TextFault>
     ensures spelled { (address : Locator) → (result ≡ Ok address) ↔ SpellsLocator text.now address }
     ensures fault { result ≡ locator_in text.now }
-    ensures laws { AreRead SpellsLocator locator_in }
+    ensures laws { AreRead IsAny SpellsLocator locator_in }
 {
     read_locator(text)
 }

@@ -4,9 +4,9 @@ ghost use Rattle.std.specs.Prelude.{◌≡◌, ◌++◌, ◌↔◌, List, ℕ, i
 ghost use Rattle.ddt_path.specs.declared.form.Form.{Form};
 ghost use Rattle.ddt_path.specs.Path.{path, IsForm};
 ghost use Rattle.ddt_text.specs.Grammar.{SpellsPrefix};
-ghost use Rattle.ddt_text.specs.FirstFault.{made, range_in, block_in, bracketed_prefix_in, prefix_in};
+ghost use Rattle.ddt_text.specs.FirstFault.{prefix_or_fault, range_in, block_in, bracketed_prefix_in, prefix_in};
 ghost use Rattle.ddt_text.specs.Written.{written_prefix};
-ghost use Rattle.ddt_text.specs.Laws.{AreRead};
+ghost use Rattle.ddt_reading.specs.Reader.{AreRead, IsAny};
 
 use crate::fault::TextFault;
 use crate::locator_text::{LocatorText, read_address};
@@ -18,7 +18,7 @@ use std::fmt;
 
 /// The same fault in a text.
 fn in_text(formed: Result<Prefix, PrefixFault>) -> Result<Prefix, TextFault>
-    ensures { result ≡ made formed }
+    ensures { result ≡ prefix_or_fault formed }
 {
     formed.map_err(|fault| match fault {
         PrefixFault::Length => TextFault::Length,
@@ -84,7 +84,7 @@ fn read_prefix(text: &[u8]) -> Result<Prefix, TextFault>
 pub fn parse_prefix(text: &[u8]) -> Result<Prefix, TextFault>
     ensures spelled { (path : List ℕ) → (result ≡ Ok path) ↔ SpellsPrefix text.now path }
     ensures fault { result ≡ prefix_in text.now }
-    ensures laws { AreRead SpellsPrefix prefix_in }
+    ensures laws { AreRead IsAny SpellsPrefix prefix_in }
 {
     read_prefix(text)
 }

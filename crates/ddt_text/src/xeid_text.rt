@@ -6,7 +6,7 @@ ghost use Rattle.ddt_path.specs.Path.{address_number, address_width};
 ghost use Rattle.ddt_text.specs.Grammar.{SpellsXeid};
 ghost use Rattle.ddt_text.specs.FirstFault.{xeid_in};
 ghost use Rattle.ddt_text.specs.Written.{written_xeid};
-ghost use Rattle.ddt_text.specs.Laws.{AreRead};
+ghost use Rattle.ddt_reading.specs.Reader.{AreRead, IsAny};
 
 use crate::fault::TextFault;
 use crate::locator_text::{LocatorText, read_address};
@@ -33,7 +33,7 @@ fn read_xeid(text: &[u8]) -> Result<Xeid, TextFault>
 pub fn parse_xeid(text: &[u8]) -> Result<Xeid, TextFault>
     ensures spelled { (x : Xeid) → (result ≡ Ok x) ↔ SpellsXeid text.now x }
     ensures fault { result ≡ xeid_in text.now }
-    ensures laws { AreRead SpellsXeid xeid_in }
+    ensures laws { AreRead IsAny SpellsXeid xeid_in }
 {
     read_xeid(text)
 }

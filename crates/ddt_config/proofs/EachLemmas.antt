@@ -3,18 +3,19 @@ use Rattle.std.proofs.Common.{◌≡◌, ℕ, ◌+◌, ◌<◌, ◌≤◌, Bool,
 use Rattle.std.specs.List.{list_all}
 use Rattle.std.proofs.lemmas.Bool.{false≢true}
 use Rattle.std.proofs.lemmas.List.{drop_more, drop_all}
+use Rattle.ddt_reading.specs.Steps.{◌>>=◌}
 use Rattle.ddt_config.specs.declared.fault.ConfigFault.{ConfigFault}
-use Rattle.ddt_config.specs.Table.{on_ok, each}
+use Rattle.ddt_config.specs.Table.{each}
 
 -- what is done, and then the rest
 abbrev pub then_rest : {B : Type 0} → List B → Result (List B) ConfigFault → Result (List B) ConfigFault
-then_rest done r = on_ok r (λ bs. Ok (done ++ bs))
+then_rest done r = r >>= (λ bs. Ok (done ++ bs))
 
-moved : {B : Type 0} (done : List B) (b : B) (r : Result (List B) ConfigFault) → then_rest done (on_ok r (λ bs. Ok (b ∷ bs))) ≡ then_rest (done ++ b ∷ []) r
+moved : {B : Type 0} (done : List B) (b : B) (r : Result (List B) ConfigFault) → then_rest done (r >>= (λ bs. Ok (b ∷ bs))) ≡ then_rest (done ++ b ∷ []) r
 moved done b (Err fault) = refl
 moved done b (Ok bs) = ap Ok (sym (append_assoc done (b ∷ []) bs))
 
-front : {A B : Type 0} (f : A → Result B ConfigFault) (xs : List A) (x : A) (i : ℕ) → i < length xs → x ≡ get_or xs i x → each f (drop i xs) ≡ on_ok (f x) (λ b. on_ok (each f (drop (i + 1) xs)) (λ bs. Ok (b ∷ bs)))
+front : {A B : Type 0} (f : A → Result B ConfigFault) (xs : List A) (x : A) (i : ℕ) → i < length xs → x ≡ get_or xs i x → each f (drop i xs) ≡ (f x >>= (λ b. ((each f (drop (i + 1) xs)) >>= (λ bs. Ok (b ∷ bs)))))
 front f xs x i lt is = rw (drop_more xs i x lt, ← is) refl
 
 pub each-step : {A B : Type 0} (f : A → Result B ConfigFault) (xs : List A) (x : A) (i : ℕ) (b : B) (done : List B) (whole : Result (List B) ConfigFault)
@@ -31,25 +32,25 @@ each-end f xs i done whole le h = h ∙ rw (drop_all i xs le) (ap Ok (append-nil
 
 -- a list of which each was examined twice is one of which each was examined twice at once
 fused : {B C : Type 0} (f : B → Result C ConfigFault) (r : Result B ConfigFault) (s : Result (List B) ConfigFault) (t : Result (List C) ConfigFault)
-    → (IsOk s → on_ok s (each f) ≡ t)
-    → IsOk (on_ok r (λ b. on_ok s (λ bs. Ok (b ∷ bs))))
-    → on_ok (on_ok r (λ b. on_ok s (λ bs. Ok (b ∷ bs)))) (each f) ≡ on_ok (on_ok r f) (λ c. on_ok t (λ cs. Ok (c ∷ cs)))
+    → (IsOk s → (s >>= each f) ≡ t)
+    → IsOk (r >>= (λ b. (s >>= (λ bs. Ok (b ∷ bs)))))
+    → ((r >>= (λ b. (s >>= (λ bs. Ok (b ∷ bs))))) >>= each f) ≡ ((r >>= f) >>= (λ c. (t >>= (λ cs. Ok (c ∷ cs)))))
 fused f (Err fault) s t ih ok = absurd (false≢true ok)
 fused f (Ok b) (Err fault) t ih ok = absurd (false≢true ok)
-fused f (Ok b) (Ok bs) t ih ok = ap (λ u. on_ok (f b) (λ c. on_ok u (λ cs. Ok (c ∷ cs)))) (ih refl)
+fused f (Ok b) (Ok bs) t ih ok = ap (λ u. (f b >>= (λ c. (u >>= (λ cs. Ok (c ∷ cs)))))) (ih refl)
 
 pub each-each : {A B C : Type 0} (g : A → Result B ConfigFault) (f : B → Result C ConfigFault) (xs : List A)
-    → IsOk (each g xs) → on_ok (each g xs) (each f) ≡ each (λ x. on_ok (g x) f) xs
+    → IsOk (each g xs) → (each g xs >>= each f) ≡ each (λ x. (g x >>= f)) xs
 each-each g f [] ok = refl
-each-each g f (x ∷ rest) ok = fused f (g x) (each g rest) (each (λ y. on_ok (g y) f) rest) (each-each g f rest) ok
+each-each g f (x ∷ rest) ok = fused f (g x) (each g rest) (each (λ y. (g y >>= f)) rest) (each-each g f rest) ok
 
 pub held-each : {A B C : Type 0} (g : A → Result B ConfigFault) (f : B → Result C ConfigFault) (xs : List A) (wanted : Result (List B) ConfigFault)
-    → (wanted ≡ each g xs) × IsOk wanted → on_ok wanted (each f) ≡ each (λ x. on_ok (g x) f) xs
+    → (wanted ≡ each g xs) × IsOk wanted → (wanted >>= each f) ≡ each (λ x. (g x >>= f)) xs
 held-each g f xs wanted h = rw h.0 (each-each g f xs (rw h.0 at h.1))
 
 pub each-map : {A B C : Type 0} (f : B → Result C ConfigFault) (h : A → B) (xs : List A) → each f (map h xs) ≡ each (λ x. f (h x)) xs
 each-map f h [] = refl
-each-map f h (x ∷ rest) = ap (λ u. on_ok (f (h x)) (λ b. on_ok u (λ bs. Ok (b ∷ bs)))) (each-map f h rest)
+each-map f h (x ∷ rest) = ap (λ u. (f (h x) >>= (λ b. (u >>= (λ bs. Ok (b ∷ bs)))))) (each-map f h rest)
 
 -- What was examined so far, and whether all of it has room; where it has, it was kept.
 pub record IsGathered {B : Type 0} (has_room : B → Bool) (whole rest : Result (List B) ConfigFault) (fit : Bool) (done : List B) : Type 0 where

@@ -7,6 +7,7 @@ use Rattle.toml.specs.Data.{Members}
 use Rattle.ddt_path.specs.declared.locator.Locator.{Locator}
 use Rattle.ddt_path.specs.declared.record.Role.{Role}
 use Rattle.ddt_path.specs.declared.record.Role.TheVariants.{Node, Ms}
+use Rattle.ddt_reading.specs.Steps.{◌>>=◌}
 use Rattle.ddt_config.specs.declared.fault.Key.TheVariants as key
 use Rattle.ddt_config.specs.declared.fault.ConfigFault.{ConfigFault}
 use Rattle.ddt_config.specs.declared.fault.ConfigFault.TheVariants.{Shape}
@@ -17,7 +18,7 @@ use Rattle.ddt_config.specs.declared.config.Content.TheVariants.{Children, Sites
 use Rattle.ddt_config.specs.declared.config.Authority.{Authority}
 use Rattle.ddt_path.specs.Locators.{are_distinct}
 use Rattle.ddt_config.specs.Shaped.{fits, is_server_set, have_own_prefixes, are_apart, is_child_of, is_site_of, is_content_of, is_authority_of, is_shaped}
-use Rattle.ddt_config.specs.Table.{on_ok, each, name_in, role_in, path_in, locators_in, child_in, site_in, content_in, authority_in, tables_at, config_in}
+use Rattle.ddt_config.specs.Table.{each, name_in, role_in, path_in, locators_in, child_in, site_in, content_in, authority_in, tables_at, config_in}
 use Rattle.ddt_config.specs.Reading.{Reads, child_fits, site_fits, content_fits, authority_fits}
 
 -- there is a value, but it has no room
@@ -52,10 +53,10 @@ child_overfull ms prefix role p r h = (record { prefix = prefix; role = role; lo
 pub site_overfull : (ms : Members) (prefix : List ℕ) → Ok prefix ≡ path_in ms → IsOverfull fits (locators_in key.Etrs ms) → IsOverfull site_fits (site_in ms)
 site_overfull ms prefix p h = (record { prefix = prefix; etrs = h.0 }, rw (← p, h.1) refl, h.2)
 
-pub children_overfull : (ms : Members) → IsOverfull (list_all child_fits) (on_ok (tables_at key.Child ms) (each child_in)) → IsOverfull content_fits (content_in Node ms)
+pub children_overfull : (ms : Members) → IsOverfull (list_all child_fits) (tables_at key.Child ms >>= each child_in) → IsOverfull content_fits (content_in Node ms)
 children_overfull ms h = (Children h.0, rw h.1 refl, h.2)
 
-pub sites_overfull : (ms : Members) → IsOverfull (list_all site_fits) (on_ok (tables_at key.Site ms) (each site_in)) → IsOverfull content_fits (content_in Ms ms)
+pub sites_overfull : (ms : Members) → IsOverfull (list_all site_fits) (tables_at key.Site ms >>= each site_in) → IsOverfull content_fits (content_in Ms ms)
 sites_overfull ms h = (Sites h.0, rw h.1 refl, h.2)
 
 pub authority_overfull : (role : Role) (ms : Members) (prefix : List ℕ) → Ok prefix ≡ path_in ms → IsOverfull content_fits (content_in role ms) → IsOverfull authority_fits (authority_in role ms)
@@ -91,7 +92,7 @@ unshaped_authorities role ls zs e =
     e
 
 pub config_unshaped : (ms : Members) (name : List ℕ) (role : Role) (ls : List Locator) (zs : List Authority)
-    → Ok name ≡ name_in ms → Ok role ≡ role_in ms → locators_in key.Locators ms ≡ Ok ls → on_ok (tables_at key.Authority ms) (each (authority_in role)) ≡ Ok zs
+    → Ok name ≡ name_in ms → Ok role ≡ role_in ms → locators_in key.Locators ms ≡ Ok ls → (tables_at key.Authority ms >>= each (authority_in role)) ≡ Ok zs
     → is_shaped role ls zs ≡ false → config_in ms ≡ Err Shape
 config_unshaped ms name role ls zs n r l a e = rw (← n, ← r, l, a, e) refl
 
@@ -102,7 +103,7 @@ read_to has_room wanted (Some a) h = (a, h.0)
 
 pub unfit : (ms : Members) (name : List ℕ) (role : Role) (ls : Option (List Locator)) (zs : Option (List Authority))
     → Ok name ≡ name_in ms → Ok role ≡ role_in ms → Reads fits (locators_in key.Locators ms) (Ok ls)
-    → Reads (list_all authority_fits) (on_ok (tables_at key.Authority ms) (each (authority_in role))) (Ok zs)
+    → Reads (list_all authority_fits) (tables_at key.Authority ms >>= each (authority_in role)) (Ok zs)
     → (ls ≡ None) ⊎ (zs ≡ None) → config_in ms ≡ Err Shape
 unfit ms name role ls zs n r hl hz (inl e) =
     let l = overfull _ _ ls e hl in

@@ -5,10 +5,11 @@ use Rattle.std.proofs.lemmas.Bool.{false≢true, and_parts, cases_Bool}
 use Rattle.toml.specs.Data.{Data}
 use Rattle.toml.specs.View.{view, items_view}
 use Rattle.toml.specs.declared.value.Value.{Value}
+use Rattle.ddt_reading.specs.Steps.{◌>>=◌}
 use Rattle.ddt_config.specs.declared.fault.Key.{Key}
 use Rattle.ddt_config.specs.declared.fault.ConfigFault.{ConfigFault}
 use Rattle.ddt_config.specs.declared.fault.ConfigFault.TheVariants.{Field}
-use Rattle.ddt_config.specs.Table.{on_ok, each, listed, of_kind}
+use Rattle.ddt_config.specs.Table.{each, listed, of_kind}
 
 pub listed-view : (vs : List Value) → listed (items_view vs) ≡ map view vs
 listed-view [] = refl
@@ -22,12 +23,12 @@ missed : {A : Type 0} (k : Key) (o : Option A) → is_some o ≡ false → of_ki
 missed k None e = refl
 missed k (Some a) e = absurd (true≢false e)
 
-both : {A : Type 0} (r : Result A ConfigFault) (s : Result (List A) ConfigFault) → IsOk r → IsOk s → IsOk (on_ok r (λ b. on_ok s (λ bs. Ok (b ∷ bs))))
+both : {A : Type 0} (r : Result A ConfigFault) (s : Result (List A) ConfigFault) → IsOk r → IsOk s → IsOk (r >>= (λ b. (s >>= (λ bs. Ok (b ∷ bs)))))
 both (Err fault) s h k = absurd (false≢true h)
 both (Ok b) (Err fault) h k = absurd (false≢true k)
 both (Ok b) (Ok bs) h k = refl
 
-later : {A : Type 0} (r : Result A ConfigFault) (s : Result (List A) ConfigFault) (fault : ConfigFault) → IsOk r → s ≡ Err fault → on_ok r (λ b. on_ok s (λ bs. Ok (b ∷ bs))) ≡ Err fault
+later : {A : Type 0} (r : Result A ConfigFault) (s : Result (List A) ConfigFault) (fault : ConfigFault) → IsOk r → s ≡ Err fault → (r >>= (λ b. (s >>= (λ bs. Ok (b ∷ bs))))) ≡ Err fault
 later (Err other) s fault h k = absurd (false≢true h)
 later (Ok b) s fault h k = rw k refl
 

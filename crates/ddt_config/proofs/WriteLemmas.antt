@@ -1,5 +1,5 @@
 -- What is written is one table, and is read as what it was written for.
-use Rattle.std.proofs.Common.{◌≡◌, ℕ, suc, ◌+◌, ◌<◌, ◌≤◌, max, Bool, true, ◌&&◌, if◌then◌else◌, List, [], ◌∷◌, ◌++◌, length, take, get_or, map, Some, Result, Ok, Err, String, Global, Ordering, Less, Equal, Greater, string_bytes, refl, sym, ap, ◌∙◌, arith}
+use Rattle.std.proofs.Common.{◌≡◌, ℕ, suc, ◌+◌, ◌<◌, ◌≤◌, true, ◌&&◌, if◌then◌else◌, List, [], ◌∷◌, ◌++◌, length, take, get_or, map, Some, Result, Ok, Err, String, Global, Ordering, Less, Equal, Greater, string_bytes, refl, sym, ap, ◌∙◌, arith}
 use Rattle.std.specs.List.{list_all, AllByRecursion}
 use Rattle.std.proofs.lemmas.Bool.{and_parts, false≢true}
 use Rattle.std.proofs.lemmas.List.{take_all, map-append}
@@ -17,6 +17,7 @@ use Rattle.ddt_path.specs.declared.record.Role.TheVariants.{Node, Ms}
 use Rattle.ddt_path.specs.Names.{is_name}
 use Rattle.ddt_text.specs.FirstFault.{locator_in, prefix_in}
 use Rattle.ddt_text.specs.Written.{written_locator, written_prefix}
+use Rattle.ddt_reading.specs.Steps.{◌>>=◌}
 use Rattle.ddt_config.specs.declared.fault.Key.{Key}
 use Rattle.ddt_config.specs.declared.fault.Key.TheVariants as key
 use Rattle.ddt_config.specs.declared.fault.ConfigFault.{ConfigFault}
@@ -26,7 +27,7 @@ use Rattle.ddt_config.specs.declared.config.SiteEntry.{SiteEntry}
 use Rattle.ddt_config.specs.declared.config.Content.{Content}
 use Rattle.ddt_config.specs.declared.config.Content.TheVariants.{Children, Sites}
 use Rattle.ddt_config.specs.declared.config.Authority.{Authority}
-use Rattle.ddt_config.specs.Table.{key_text, on_ok, each, listed, of_form, text_of, table_of, array_of, name_in, role_text, role_of, role_in, path_in, locators_in, tables_at, child_in, site_in, content_in, authority_in, Outline, config_in, config_in_document, config_in_text}
+use Rattle.ddt_config.specs.Table.{key_text, each, listed, of_form, text_of, table_of, array_of, name_in, role_text, role_of, role_in, path_in, locators_in, tables_at, child_in, site_in, content_in, authority_in, Outline, config_in, config_in_document, config_in_text}
 use Rattle.ddt_path.specs.Locators.{are_distinct}
 use Rattle.ddt_config.specs.Shaped.{is_server_set, have_own_prefixes, is_content_of, is_authority_of, is_shaped}
 use Rattle.ddt_config.specs.Writing.{inserted, with_keys, items_of, written_each, written_locators, written_child, written_site, written_content, written_authority, written_config, is_content_for, PrefixComesBack, LocatorsComeBack, ChildComesBack, SiteComesBack, ContentComesBack, AuthorityComesBack}
@@ -93,27 +94,27 @@ each-back P f between back (x ∷ xs) h = rw (back x h.0, each-back P f between 
 
 array-read : {A B : Type 0} (k : Key) (g : Data → Result B ConfigFault) (f : B → Result A ConfigFault) (write : A → Data) (between : A → B) (P : A → Type 0)
     → ((x : A) → g (write x) ≡ Ok (between x)) → ((x : A) → P x → f (between x) ≡ Ok x)
-    → (xs : List A) → AllByRecursion P xs → on_ok (on_ok (array_of k (written_each write xs)) (each g)) (each f) ≡ Ok xs
+    → (xs : List A) → AllByRecursion P xs → ((array_of k (written_each write xs) >>= each g) >>= each f) ≡ Ok xs
 array-read k g f write between P reads back xs h = rw (listed-items_of (map write xs), each-written g write between reads xs, each-back P f between back xs h) refl
 
-locators_back : (k : Key) (ls : List Locator) → LocatorsComeBack ls → on_ok (on_ok (array_of k (written_locators ls)) (each (text_of k))) (each (λ text. of_form k (locator_in text))) ≡ Ok ls
+locators_back : (k : Key) (ls : List Locator) → LocatorsComeBack ls → ((array_of k (written_locators ls) >>= each (text_of k)) >>= (each (λ text. of_form k (locator_in text)))) ≡ Ok ls
 locators_back k =
     array-read k (text_of k) (λ text. of_form k (locator_in text)) (λ l. string (written_locator l)) written_locator (λ l. locator_in (written_locator l) ≡ Ok l)
     (λ l. refl) (λ l h. rw h refl)
 
 entries_back : {A : Type 0} (k : Key) (standing : Members → Result A ConfigFault) (written : A → Members) (P : A → Type 0) → ((x : A) → P x → standing (written x) ≡ Ok x)
-    → (xs : List A) → AllByRecursion P xs → on_ok (on_ok (array_of k (written_each (λ x. table (written x)) xs)) (each (table_of k))) (each standing) ≡ Ok xs
+    → (xs : List A) → AllByRecursion P xs → (((array_of k (written_each (λ x. table (written x)) xs)) >>= each (table_of k)) >>= each standing) ≡ Ok xs
 entries_back k standing written P back = array-read k (table_of k) standing (λ x. table (written x)) written P (λ x. refl) back
 
 -- what stands at one key
-path_back : (p : List ℕ) → PrefixComesBack p → on_ok (text_of key.Prefix (string (written_prefix p))) (λ text. of_form key.Prefix (prefix_in text)) ≡ Ok p
+path_back : (p : List ℕ) → PrefixComesBack p → ((text_of key.Prefix (string (written_prefix p))) >>= (λ text. of_form key.Prefix (prefix_in text))) ≡ Ok p
 path_back p h = rw h refl
 
-role_back : (role : Role) → on_ok (text_of key.Kind (string (role_text role))) role_of ≡ Ok role
+role_back : (role : Role) → ((text_of key.Kind (string (role_text role))) >>= role_of) ≡ Ok role
 role_back Node = refl
 role_back Ms = refl
 
-name_back : (name : List ℕ) → is_name name ≡ true → on_ok (text_of key.Name (string name)) (λ text. if is_name text then Ok text else Err (ValueFault key.Name)) ≡ Ok name
+name_back : (name : List ℕ) → is_name name ≡ true → (text_of key.Name (string name) >>= (λ text. if is_name text then Ok text else Err (ValueFault key.Name))) ≡ Ok name
 name_back name n = rw n refl
 
 -- ---- tables that are read
@@ -134,8 +135,8 @@ authority_from : (role : Role) (ms : Members) (a : Authority) → path_in ms ≡
 authority_from role ms a p c = rw (p, c) refl
 
 content_back : (role : Role) (p : List ℕ) (content : Content) → is_content_for role content ≡ true → ContentComesBack content → content_in role (written_content p content) ≡ Ok content
-content_back Node p (Children cs) e h = ap (λ r. on_ok r (λ children. Ok (Children children))) (entries_back key.Child child_in written_child ChildComesBack (λ c k. k) cs h)
-content_back Ms p (Sites ss) e h = ap (λ r. on_ok r (λ sites. Ok (Sites sites))) (entries_back key.Site site_in written_site SiteComesBack (λ s k. k) ss h)
+content_back Node p (Children cs) e h = ap (λ r. (r >>= (λ children. Ok (Children children)))) (entries_back key.Child child_in written_child ChildComesBack (λ c k. k) cs h)
+content_back Ms p (Sites ss) e h = ap (λ r. (r >>= (λ sites. Ok (Sites sites)))) (entries_back key.Site site_in written_site SiteComesBack (λ s k. k) ss h)
 content_back Node p (Sites ss) e h = absurd (false≢true e)
 content_back Ms p (Children cs) e h = absurd (false≢true e)
 
@@ -170,7 +171,7 @@ authorities_back role (a ∷ zs) h e =
     (h.0 role parts.0, authorities_back role zs h.1 parts.1)
 
 config_from : (ms : Members) (o : Outline) → name_in ms ≡ Ok o.name → role_in ms ≡ Ok o.role → locators_in key.Locators ms ≡ Ok o.locators
-    → on_ok (tables_at key.Authority ms) (each (authority_in o.role)) ≡ Ok o.authorities → is_shaped o.role o.locators o.authorities ≡ true → config_in ms ≡ Ok o
+    → (tables_at key.Authority ms >>= each (authority_in o.role)) ≡ Ok o.authorities → is_shaped o.role o.locators o.authorities ≡ true → config_in ms ≡ Ok o
 config_from ms o n r l a e = rw (n, r, l, a, e) refl
 
 pub config_back : (o : Outline) → is_name o.name ≡ true → LocatorsComeBack o.locators → AllByRecursion AuthorityComesBack o.authorities → is_shaped o.role o.locators o.authorities ≡ true → config_in (written_config o) ≡ Ok o

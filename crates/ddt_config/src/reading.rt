@@ -8,7 +8,7 @@ ghost use Rattle.toml.specs.View.{view, table_view};
 ghost use Rattle.ddt_text.specs.FirstFault.{locator_in};
 ghost use Rattle.ddt_config.specs.declared.config.ServerConfig.{ServerConfig as ConfigValue};
 ghost use Rattle.ddt_config.specs.Shaped.{fits, is_shaped as is_shaped_of};
-ghost use Rattle.ddt_config.specs.Table.{key_text, on_ok, each, of_kind, of_form, text_of, table_of, array_of, array_at as array_at_of, array_or_none as array_or_none_of, text_at as text_at_of, texts_at as texts_at_of, tables_at as tables_at_of, name_in, role_in, role_of as role_of_text, path_in, locators_in, child_in, site_in, content_in, authority_in, config_in, config_in_text, outline, with_shape, StandsFor};
+ghost use Rattle.ddt_config.specs.Table.{key_text, each, of_kind, of_form, text_of, table_of, array_of, array_at as array_at_of, array_or_none as array_or_none_of, text_at as text_at_of, texts_at as texts_at_of, tables_at as tables_at_of, entry_of, entries_in, locator_of, name_in, role_in, role_of as role_of_text, path_in, locators_in, child_in, site_in, content_in, authority_in, config_in, config_in_text, outline, with_shape, StandsFor};
 ghost use Rattle.ddt_config.specs.Reading.{Reads, IsToldAs, IsJudged, HoldsEach, is_text_value, is_table_value, child_fits, site_fits, content_fits, authority_fits};
 
 use crate::config::{Authority, Child, Content, ServerConfig, SiteEntry};
@@ -263,7 +263,7 @@ fn read_prefix(table: &Table) -> Result<Prefix, ConfigFault>
 }
 
 fn read_locator(value: &Value, key: Key) -> Result<Locator, ConfigFault>
-    ensures { result ≡ on_ok (text_of key (view value.now)) (λ text. of_form key (locator_in text)) }
+    ensures { result ≡ locator_of key (view value.now) }
 {
     match text_in(value, key) {
         Ok(text) => match parse_locator(text.as_bytes()) {
@@ -275,10 +275,10 @@ fn read_locator(value: &Value, key: Key) -> Result<Locator, ConfigFault>
 }
 
 fn read_each_locator(alloc: Global, values: &[Value], key: Key) -> Result<Vec<Locator>, ConfigFault>
-    ensures found { IfOk result (λ ls. each (λ v. on_ok (text_of key (view v)) (λ text. of_form key (locator_in text)))
+    ensures found { IfOk result (λ ls. each (λ v. locator_of key (view v))
         values.now ≡ Ok ls.items) }
     ensures refused { IfErr result (λ fault. fault ≢ ConfigFault.Memory
-        → each (λ v. on_ok (text_of key (view v)) (λ text. of_form key (locator_in text))) values.now ≡ Err fault) }
+        → each (λ v. locator_of key (view v)) values.now ≡ Err fault) }
 {
     let mut locators = Vec::new(alloc);
     for value in values {
@@ -362,7 +362,7 @@ fn read_entry<T: Entry>(
     value: &Value,
     key: Key,
 ) -> Result<Option<T>, ConfigFault>
-    ensures { Reads T.has_room (on_ok (table_of key (view value.now)) (T.entry_in role)) result }
+    ensures { Reads T.has_room (entry_of key (T.entry_in role) (view value.now)) result }
 {
     match value.as_table() {
         Some(table) => T::read(alloc, role, table),
@@ -376,7 +376,7 @@ fn read_each<T: Entry>(
     values: &[Value],
     key: Key,
 ) -> Result<Option<Listed<T>>, ConfigFault>
-    ensures { Reads (list_all T.has_room) (each (λ v. on_ok (table_of key (view v)) (T.entry_in role)) values.now)
+    ensures { Reads (list_all T.has_room) (each (λ v. entry_of key (T.entry_in role) (view v)) values.now)
         result }
 {
     let mut entries = Vec::new(alloc);
@@ -405,7 +405,7 @@ fn entries_at<T: Entry>(
     table: &Table,
     key: Key,
 ) -> Result<Option<Listed<T>>, ConfigFault>
-    ensures { Reads (list_all T.has_room) (on_ok (tables_at_of key (table_view table.now)) (each (T.entry_in role)))
+    ensures { Reads (list_all T.has_room) (entries_in key (T.entry_in role) (table_view table.now))
         result }
 {
     let values = tables_at(table, key)?;

@@ -1,7 +1,6 @@
 -- A request that is read is spelled so, what is spelled is read again, and what spells a request is bytes.
-use Rattle.std.proofs.Common.{◌≡◌, ℕ, ◌+◌, ◌*◌, ◌/◌, ◌%◌, ◌^◌, ◌<◌, ◌≤◌, false, cond, ltb, eqb, List, [], ◌∷◌, ◌++◌, length, drop, Result, Ok, Err, refl, sym, ap, subst, ◌∙◌, arith}
+use Rattle.std.proofs.Common.{◌≡◌, ℕ, ◌+◌, ◌*◌, ◌/◌, ◌%◌, ◌^◌, ◌<◌, ◌≤◌, false, ltb, eqb, List, ◌++◌, length, drop, Ok, refl, sym, ap, subst, ◌∙◌, arith}
 use Rattle.std.specs.Prelude.{slice_index, not}
-use Rattle.std.specs.Int.{w16, w32, w64, w128, to_be_bytes}
 use Rattle.std.proofs.lemmas.Bool.{ltb-false, le-ltb, eqb-true, not-false}
 use Rattle.byteorder.specs.Endian.{big_number}
 use Rattle.ddt_path.specs.declared.locator.Locator.{Locator}
@@ -12,17 +11,16 @@ use Rattle.ddt_reading.specs.Steps.{◌>>=◌, IsBytes}
 use Rattle.ddt_wire.specs.Referral.{bit}
 use Rattle.ddt_reading.specs.Reader.{AreRead}
 use Rattle.ddt_reading.proofs.ReaderLemmas.{are_read}
-use Rattle.ddt_reading.proofs.StepLemmas.{bind_ok, guard_ok, ok_is}
-use Rattle.ddt_reading.proofs.ByteLemmas.{Stands, known_stands, IsBytes-drop, IsBytes-append, IsBytes-cons, IsBytes-nil, IsBytes-number}
+use Rattle.ddt_reading.proofs.StepLemmas.{bind_ok, guard_parts, ok_is}
+use Rattle.ddt_reading.proofs.ByteLemmas.{Stands, ◌beside◌, two_bytes, known_stands, IsBytes-drop, IsBytes-number}
 use Rattle.ddt_wire.proofs.AddressLaws.{address_is_bytes}
 use Rattle.ddt_wire.proofs.AddressesLaws.{addresses_are_bytes}
 use Rattle.ddt_wire.proofs.WrittenLaws.{eid_is_bytes}
 use Rattle.ddt_ecm.specs.declared.fault.RequestFault.{RequestFault}
-use Rattle.ddt_ecm.specs.declared.fault.RequestFault.TheVariants as fault
 use Rattle.ddt_ecm.specs.Checksum.{ones_sum}
 use Rattle.ddt_ecm.specs.IpHeader.{Ipv4Header, ipv4_fields, Ipv6Header, ipv6_fields, SpellsIp, Version4, Version6, ip_at}
 use Rattle.ddt_ecm.specs.UdpHeader.{udp_fields, SpellsUdp, udp_at}
-use Rattle.ddt_ecm.specs.MapRequest.{request_fields, SpellsSource, Absent, Plain, Lcaf, SpellsRequest, map_request_at}
+use Rattle.ddt_ecm.specs.MapRequest.{SpellsSource, Absent, Plain, Lcaf, SpellsRequest, map_request_at}
 use Rattle.ddt_ecm.specs.Request.{Message, ecm_fields, Spells, ecm_at, message_in}
 use Rattle.ddt_ecm.proofs.UdpLaws.{udp_takes, udp_again, udp_some}
 use Rattle.ddt_ecm.proofs.IpLaws.{ip_takes, ip_again, pseudo_words}
@@ -40,17 +38,14 @@ record IsEcm (bytes ip : List ℕ) : Type 0 where
 ecm_holds : (bytes ip : List ℕ) → ecm_at bytes ≡ Ok ip → IsEcm bytes ip
 unfolding ecm_at
 ecm_holds bytes ip e =
-    let found : Result (List ℕ) RequestFault = Ok (drop 4 bytes) in
-    let second = cond (not (eqb (slice_index bytes 0 / 8 % 2) 0)) (Err fault.Security) found in
-    let first = cond (not (eqb (slice_index bytes 0 / 16) 8)) (Err fault.MessageType) second in
-    let a = guard_ok (ltb (length bytes) 4) fault.Short first ip e in
-    let b = guard_ok (not (eqb (slice_index bytes 0 / 16) 8)) fault.MessageType second ip a.1 in
-    let c = guard_ok (not (eqb (slice_index bytes 0 / 8 % 2) 0)) fault.Security found ip b.1 in
+    guard_parts (ltb (length bytes) 4) _ _ ip e λ long e₁.
+    guard_parts (not (eqb (slice_index bytes 0 / 16) 8)) _ _ ip e₁ λ type e₂.
+    guard_parts (not (eqb (slice_index bytes 0 / 8 % 2) 0)) _ _ ip e₂ λ security e₃.
     record {
-      long = ltb-false _ _ a.0;
-      type = eqb-true _ _ (not-false _ b.0);
-      security = eqb-true _ _ (not-false _ c.0);
-      rest = ok_is {E = RequestFault} (drop 4 bytes) ip c.1;
+      long = ltb-false _ _ long;
+      type = eqb-true _ _ (not-false _ type);
+      security = eqb-true _ _ (not-false _ security);
+      rest = ok_is {E = RequestFault} (drop 4 bytes) ip e₃;
     }
 
 abbrev ignored_of : List ℕ → ℕ
@@ -88,11 +83,11 @@ message_takes bytes v fits e =
       pseudo = p.pseudo;
       udp = b.0.1;
       request = c.0.1;
-      ignored_fits = omega (arith, fits 1, fits 2, fits 3);
+      ignored_fits = omega (arith, fits.at 1, fits.at 2, fits.at 3);
       spells_ip = p.spelled;
       spells_udp = u;
       spells_request = request_takes c.0.1 d.0 data_fits d.1;
-      whole = ecm_stands bytes a.0 fits h ∙ ap (λ (t : List ℕ). ecm_fields (eqb (slice_index bytes 0 / 4 % 2) 1) (ignored_of bytes) ++ t) h.rest;
+      whole = (ecm_stands bytes a.0 fits h).is ∙ ap (λ (t : List ℕ). ecm_fields (eqb (slice_index bytes 0 / 4 % 2) 1) (ignored_of bytes) ++ t) h.rest;
     } in
     subst (Spells bytes) (ok_is {E = RequestFault} (asked_of bytes c.0 d.0) v d.2) made
 
@@ -132,9 +127,6 @@ message_again bytes v s =
 
 -- ---- bytes
 
-pub pair : (a b : ℕ) → a < 256 → b < 256 → IsBytes (a ∷ b ∷ [])
-pair a b ha hb = IsBytes-cons a (b ∷ []) ha (IsBytes-cons b [] hb IsBytes-nil)
-
 width_small : (a : Locator) → address_width a < 256
 width_small (V4 a) = omega arith
 width_small (V6 a) = omega arith
@@ -143,69 +135,41 @@ source_is_bytes : (bytes : List ℕ) → SpellsSource bytes → IsBytes bytes
 source_is_bytes bytes (Absent is) = subst IsBytes (sym is) (IsBytes-number 2 0)
 source_is_bytes bytes (Plain a fits is) = subst IsBytes (sym is) (address_is_bytes a)
 source_is_bytes bytes (Lcaf r f t m content hr hf ht hm small fits is) =
-    let four = IsBytes-append (r ∷ f ∷ []) (t ∷ m ∷ []) (pair r f hr hf) (pair t m ht hm) in
-    let six = IsBytes-append (to_be_bytes w16 16387) (r ∷ f ∷ t ∷ m ∷ []) (IsBytes-number 2 16387) four in
-    let eight = IsBytes-append (to_be_bytes w16 16387 ++ (r ∷ f ∷ t ∷ m ∷ [])) (to_be_bytes w16 (length content)) six (IsBytes-number 2 (length content)) in
-    subst IsBytes (sym is) (IsBytes-append (to_be_bytes w16 16387 ++ (r ∷ f ∷ t ∷ m ∷ []) ++ to_be_bytes w16 (length content)) content eight fits)
+    let four = two_bytes r f hr hf beside two_bytes t m ht hm in
+    subst IsBytes (sym is) (IsBytes-number 2 16387 beside four beside IsBytes-number 2 (length content) beside fits)
 
 pub request_is_bytes : (bytes : List ℕ) (nonce : ℕ) (x : Xeid) (ls : List Locator) → SpellsRequest bytes nonce x ls → IsBytes bytes
 request_is_bytes bytes nonce x ls s =
     let i = s.ignored in
     let word = 2 ^ 28 + bit i.authoritative * 2 ^ 27 + bit s.with_map * 2 ^ 26 + i.flags * 2 ^ 13 + s.irc * 2 ^ 8 + 1 in
-    let fields = request_fields i s.with_map s.irc nonce in
-    let flat = s.itr_rlocs in
-    let mask = i.reserved ∷ address_width x.address ∷ [] in
-    let a = IsBytes-append (to_be_bytes w32 word) (to_be_bytes w64 nonce) (IsBytes-number 4 word) (IsBytes-number 8 nonce) in
-    let b = IsBytes-append fields s.source a (source_is_bytes s.source s.spells_source) in
-    let c = IsBytes-append (fields ++ s.source) flat b (addresses_are_bytes 0 ls flat s.spells_rlocs) in
-    let d = IsBytes-append (fields ++ s.source ++ flat) mask c (pair i.reserved (address_width x.address) i.reserved_fits (width_small x.address)) in
-    let e = IsBytes-append (fields ++ s.source ++ flat ++ mask) s.eid d (eid_is_bytes (address_width x.address) s.eid (xeid_path x) s.spells_eid) in
-    subst IsBytes (sym s.whole) (IsBytes-append (fields ++ s.source ++ flat ++ mask ++ s.eid) s.after e s.after_are_bytes)
+    subst IsBytes (sym s.whole) (IsBytes-number 4 word beside IsBytes-number 8 nonce beside source_is_bytes s.source s.spells_source
+    beside addresses_are_bytes 0 ls s.itr_rlocs s.spells_rlocs beside two_bytes i.reserved (address_width x.address) i.reserved_fits (width_small x.address)
+    beside eid_is_bytes (address_width x.address) s.eid (xeid_path x) s.spells_eid beside s.after_are_bytes)
 
 udp_fields_are_bytes : (port len checksum : ℕ) → IsBytes (udp_fields port len checksum)
-udp_fields_are_bytes port len checksum =
-    let four = IsBytes-append (to_be_bytes w16 port) (to_be_bytes w16 4342) (IsBytes-number 2 port) (IsBytes-number 2 4342) in
-    let six = IsBytes-append (to_be_bytes w16 port ++ to_be_bytes w16 4342) (to_be_bytes w16 len) four (IsBytes-number 2 len) in
-    IsBytes-append (to_be_bytes w16 port ++ to_be_bytes w16 4342 ++ to_be_bytes w16 len) (to_be_bytes w16 checksum) six (IsBytes-number 2 checksum)
+udp_fields_are_bytes port len checksum = IsBytes-number 2 port beside IsBytes-number 2 4342 beside IsBytes-number 2 len beside IsBytes-number 2 checksum
 
 udp_is_bytes : (pseudo bytes : List ℕ) (port : ℕ) (message : List ℕ) → SpellsUdp pseudo bytes port message → IsBytes message → IsBytes bytes
-udp_is_bytes pseudo bytes port message s fits = subst IsBytes (sym s.whole) (IsBytes-append (udp_fields port (8 + length message) s.checksum) message (udp_fields_are_bytes port (8 + length message) s.checksum) fits)
+udp_is_bytes pseudo bytes port message s fits = subst IsBytes (sym s.whole) (udp_fields_are_bytes port (8 + length message) s.checksum beside fits)
 
 pub ipv4_fields_are_bytes : (h : Ipv4Header) (total : ℕ) → IsBytes (ipv4_fields h total)
 ipv4_fields_are_bytes h total =
     let words = h.words_fit in
-    let a = (64 + h.words) ∷ h.service ∷ [] in
-    let b = a ++ to_be_bytes w16 total in
-    let c = b ++ to_be_bytes w16 h.identification in
-    let d = c ++ to_be_bytes w16 (h.flags * 2 ^ 14) in
-    let e = d ++ (h.hops ∷ 17 ∷ []) in
-    let f = e ++ to_be_bytes w16 h.checksum in
-    let g = f ++ to_be_bytes w32 h.source in
-    let two = IsBytes-append a (to_be_bytes w16 total) (pair (64 + h.words) h.service (omega arith) h.service_fits) (IsBytes-number 2 total) in
-    let three = IsBytes-append b (to_be_bytes w16 h.identification) two (IsBytes-number 2 h.identification) in
-    let four = IsBytes-append c (to_be_bytes w16 (h.flags * 2 ^ 14)) three (IsBytes-number 2 (h.flags * 2 ^ 14)) in
-    let five = IsBytes-append d (h.hops ∷ 17 ∷ []) four (pair h.hops 17 h.hops_fit (omega arith)) in
-    let six = IsBytes-append e (to_be_bytes w16 h.checksum) five (IsBytes-number 2 h.checksum) in
-    let seven = IsBytes-append f (to_be_bytes w32 h.source) six (IsBytes-number 4 h.source) in
-    let eight = IsBytes-append g (to_be_bytes w32 h.destination) seven (IsBytes-number 4 h.destination) in
-    IsBytes-append (g ++ to_be_bytes w32 h.destination) h.options eight h.options_are_bytes
+    two_bytes (64 + h.words) h.service (omega arith) h.service_fits beside IsBytes-number 2 total beside IsBytes-number 2 h.identification
+    beside IsBytes-number 2 (h.flags * 2 ^ 14) beside two_bytes h.hops 17 h.hops_fit (omega arith) beside IsBytes-number 2 h.checksum
+    beside IsBytes-number 4 h.source beside IsBytes-number 4 h.destination beside h.options_are_bytes
 
 ipv6_fields_are_bytes : (h : Ipv6Header) (payload : ℕ) → IsBytes (ipv6_fields h payload)
 ipv6_fields_are_bytes h payload =
-    let first = 6 * 2 ^ 28 + h.class_and_label in
-    let b = to_be_bytes w32 first ++ to_be_bytes w16 payload in
-    let c = b ++ (17 ∷ h.hops ∷ []) in
-    let two = IsBytes-append (to_be_bytes w32 first) (to_be_bytes w16 payload) (IsBytes-number 4 first) (IsBytes-number 2 payload) in
-    let three = IsBytes-append b (17 ∷ h.hops ∷ []) two (pair 17 h.hops (omega arith) h.hops_fit) in
-    let four = IsBytes-append c (to_be_bytes w128 h.source) three (IsBytes-number 16 h.source) in
-    IsBytes-append (c ++ to_be_bytes w128 h.source) (to_be_bytes w128 h.destination) four (IsBytes-number 16 h.destination)
+    IsBytes-number 4 (6 * 2 ^ 28 + h.class_and_label) beside IsBytes-number 2 payload beside two_bytes 17 h.hops (omega arith) h.hops_fit
+    beside IsBytes-number 16 h.source beside IsBytes-number 16 h.destination
 
 ip_is_bytes : (bytes pseudo udp : List ℕ) → SpellsIp bytes pseudo udp → IsBytes udp → IsBytes bytes
 ip_is_bytes bytes pseudo udp (Version4 s) fits =
     let total = 4 * s.header.words + length udp in
-    subst IsBytes (sym s.whole) (IsBytes-append (ipv4_fields s.header total) udp (ipv4_fields_are_bytes s.header total) fits)
+    subst IsBytes (sym s.whole) (ipv4_fields_are_bytes s.header total beside fits)
 ip_is_bytes bytes pseudo udp (Version6 s) fits =
-    subst IsBytes (sym s.whole) (IsBytes-append (ipv6_fields s.header (length udp)) udp (ipv6_fields_are_bytes s.header (length udp)) fits)
+    subst IsBytes (sym s.whole) (ipv6_fields_are_bytes s.header (length udp) beside fits)
 
 pub message_is_bytes : (bytes : List ℕ) (v : Message) → Spells bytes v → IsBytes bytes
 message_is_bytes bytes v s =
@@ -213,7 +177,7 @@ message_is_bytes bytes v s =
     let request = request_is_bytes s.request v.nonce v.xeid v.rlocs s.spells_request in
     let udp = udp_is_bytes s.pseudo s.udp v.port s.request s.spells_udp request in
     let packet = ip_is_bytes s.packet s.pseudo s.udp s.spells_ip udp in
-    subst IsBytes (sym s.whole) (IsBytes-append (to_be_bytes w32 word) s.packet (IsBytes-number 4 word) packet)
+    subst IsBytes (sym s.whole) (IsBytes-number 4 word beside packet)
 
 -- ---- the laws
 

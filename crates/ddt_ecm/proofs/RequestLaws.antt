@@ -1,7 +1,6 @@
 -- A Map-Request that is read is spelled so, and what is spelled is read again.
-use Rattle.std.proofs.Common.{◌≡◌, ℕ, zero, suc, ◌+◌, ◌*◌, ◌/◌, ◌%◌, ◌^◌, ◌<◌, ◌≤◌, Bool, true, false, cond, ltb, leb, eqb, List, [], ◌∷◌, ◌++◌, length, take, drop, Result, Ok, Err, refl, sym, ap, subst, ◌∙◌, arith, inl, inr, length-append, length-drop, append_assoc}
+use Rattle.std.proofs.Common.{◌≡◌, ℕ, zero, suc, ◌+◌, ◌*◌, ◌/◌, ◌%◌, ◌^◌, ◌<◌, ◌≤◌, Bool, true, false, ltb, leb, eqb, List, [], ◌∷◌, ◌++◌, length, take, drop, Result, Ok, Err, refl, sym, ap, subst, ◌∙◌, arith, inl, inr, length-append, length-drop, append_assoc}
 use Rattle.std.specs.Prelude.{slice_index, ◌&&◌, not}
-use Rattle.std.specs.Int.{w32, w64, to_be_bytes}
 use Rattle.std.proofs.lemmas.Bool.{both_ways, eqb-false, ltb-false, le-ltb, lt-leb, eqb-true, eq-eqb, ne_eqb, cases_eq, not-false, and_cases, and_left, and_right, not_from_true, cond-false}
 use Rattle.std.proofs.lemmas.List.{take_at, drop_at, nil_from_length, drop-drop}
 use Rattle.std.proofs.Math.Seq.{drop-append_seam}
@@ -20,8 +19,8 @@ use Rattle.ddt_wire.specs.Address.{IsAddress}
 use Rattle.ddt_wire.specs.Eid.{SpellsEid, Plain, Inside, Instances, eid_at}
 use Rattle.ddt_wire.specs.Referral.{bit}
 use Rattle.ddt_wire.specs.Laws.{IsPrefix}
-use Rattle.ddt_reading.proofs.StepLemmas.{bind_ok, words_ok, guard_ok, ok_is}
-use Rattle.ddt_reading.proofs.ByteLemmas.{Takes, Takes-fits, Stands, joined, stands, number_stands, known_stands, byte_stands, number_fits, IsBytes-drop}
+use Rattle.ddt_reading.proofs.StepLemmas.{bind_ok, bind_parts, guard_parts, words_ok, guard_ok, ok_is}
+use Rattle.ddt_reading.proofs.ByteLemmas.{Takes, Takes-fits, Stands, ◌followed_by◌, stands, number_stands, known_stands, byte_stands, number_fits, IsBytes-drop}
 use Rattle.ddt_wire.specs.Addresses.{addresses_at}
 use Rattle.ddt_wire.proofs.AddressesLaws.{AreAddresses, addresses_take, addresses_again}
 use Rattle.ddt_wire.proofs.EidLemmas.{form_of-named}
@@ -125,15 +124,15 @@ xeid_takes bytes x fits e =
     let b = bind_ok (host_of (form_of a.0.0)) (λ y. Ok (y, 2 + a.0.1)) x a.2 in
     let r = eid_takes mask (drop 2 bytes) a.0 (IsBytes-drop 2 bytes fits) (words_ok from_eid (eid_at mask (drop 2 bytes)) a.0 a.1) in
     let h = host_takes mask r.0 a.0.0 b.0 r.2 b.1 in
-    let front = joined bytes (slice_index bytes 0 ∷ []) (mask ∷ []) 0 1 2 (byte_stands 0 bytes (omega arith)) (byte_stands 1 bytes (omega arith)) in
+    let front = byte_stands 0 bytes (omega arith) followed_by byte_stands 1 bytes (omega arith) in
     let t : Takes bytes ((slice_index bytes 0 ∷ mask ∷ []) ++ r.0) (2 + a.0.1) = record {
-      parts = joined bytes (slice_index bytes 0 ∷ mask ∷ []) r.0 0 2 (2 + a.0.1) front (stands bytes r.0 2 a.0.1 r.1);
+      parts = (front followed_by stands bytes r.0 2 a.0.1 r.1).is;
       len = length-append (slice_index bytes 0 ∷ mask ∷ []) r.0 ∙ ap (λ (n : ℕ). 2 + n) r.1.len;
     } in
     let made : IsXeid bytes b.0 (2 + a.0.1) = record {
       reserved = slice_index bytes 0;
       eid = r.0;
-      reserved_fits = fits 0;
+      reserved_fits = fits.at 0;
       iid_fits = h.iid_fits;
       address_fits = h.address_fits;
       spelled = subst (λ (k : ℕ). SpellsEid k r.0 (xeid_path b.0)) h.mask_is (subst (SpellsEid mask r.0) h.path_is r.2);
@@ -177,17 +176,14 @@ record IsHead (message : List ℕ) (count : ℕ) : Type 0 where
 head_holds : (message : List ℕ) (count : ℕ) → head_at message ≡ Ok count → IsHead message count
 unfolding head_at
 head_holds message count e =
-    let found : Result ℕ RequestFault = Ok (slice_index message 2 % 32 + 1) in
-    let second = cond (not (eqb (slice_index message 3) 1)) (Err fault.RecordCount) found in
-    let first = cond (not (eqb (slice_index message 0 / 16) 1)) (Err fault.RequestType) second in
-    let a = guard_ok (ltb (length message) 12) fault.Short first count e in
-    let b = guard_ok (not (eqb (slice_index message 0 / 16) 1)) fault.RequestType second count a.1 in
-    let c = guard_ok (not (eqb (slice_index message 3) 1)) fault.RecordCount found count b.1 in
+    guard_parts (ltb (length message) 12) _ _ count e λ long e₁.
+    guard_parts (not (eqb (slice_index message 0 / 16) 1)) _ _ count e₁ λ type e₂.
+    guard_parts (not (eqb (slice_index message 3) 1)) _ _ count e₂ λ one e₃.
     record {
-      long = ltb-false _ _ a.0;
-      type = eqb-true _ _ (not-false _ b.0);
-      one = eqb-true _ _ (not-false _ c.0);
-      count_is = ok_is {E = RequestFault} (slice_index message 2 % 32 + 1) count c.1;
+      long = ltb-false _ _ long;
+      type = eqb-true _ _ (not-false _ type);
+      one = eqb-true _ _ (not-false _ one);
+      count_is = ok_is {E = RequestFault} (slice_index message 2 % 32 + 1) count e₃;
     }
 
 abbrev ignored_of : (message : List ℕ) (reserved_ : ℕ) → IsBytes message → reserved_ < 256 → Ignored
@@ -195,7 +191,7 @@ ignored_of message reserved_ fits small = record {
   authoritative = eqb (slice_index message 0 / 8 % 2) 1;
   flags = slice_index message 0 % 4 * 2048 + slice_index message 1 * 8 + slice_index message 2 / 32;
   reserved = reserved_;
-  flags_fit = omega (arith, fits 1, fits 2);
+  flags_fit = omega (arith, fits.at 1, fits.at 2);
   reserved_fits = small;
 }
 
@@ -212,7 +208,7 @@ fields_stand message count reserved fits small h =
     let i = ignored_of message reserved fits small in
     let long = h.long in
     let w = 2 ^ 28 + bit i.authoritative * 2 ^ 27 + bit (eqb (slice_index message 0 / 4 % 2) 1) * 2 ^ 26 + i.flags * 2 ^ 13 + slice_index message 2 % 32 * 2 ^ 8 + 1 in
-    joined message (to_be_bytes w32 w) (to_be_bytes w64 (big_number 8 (drop 4 message))) 0 4 12 (known_stands 0 4 w message fits (omega arith) (first_word message count reserved fits small h)) (number_stands 4 8 message fits (omega arith))
+    known_stands 0 4 w message fits (omega arith) (first_word message count reserved fits small h) followed_by number_stands 4 8 message fits (omega arith)
 
 -- ---- the whole Map-Request
 
@@ -242,7 +238,7 @@ spelled message count source ls rest x n fits h (text, t, s) l size q over =
     let irc_ = slice_index message 2 % 32 in
     let i = ignored_of message q.reserved fits q.reserved_fits in
     let fields = request_fields i map_ irc_ (big_number 8 (drop 4 message)) in
-    let front = joined message fields text 0 12 (12 + source) (fields_stand message count q.reserved fits q.reserved_fits h) (stands message text 12 source t) in
+    let front = fields_stand message count q.reserved fits q.reserved_fits h followed_by stands message text 12 source t in
     record {
       ignored = i;
       with_map = map_;
@@ -261,23 +257,22 @@ spelled message count source ls rest x n fits h (text, t, s) l size q over =
       spells_eid = q.spelled;
       after_are_bytes = IsBytes-drop n rest l.rest_fits;
       none_after = nothing_left message rest n (Takes-fits rest ((q.reserved ∷ address_width x.address ∷ []) ++ q.eid) n q.takes) over;
-      whole = regrouped message (fields ++ text) (drop (12 + source) message) l.front rest (q.reserved ∷ address_width x.address ∷ []) q.eid (drop n rest) front (sym (drop-drop source 12 message) ∙ l.parts) q.takes.parts;
+      whole = regrouped message (fields ++ text) (drop (12 + source) message) l.front rest (q.reserved ∷ address_width x.address ∷ []) q.eid (drop n rest) front.is (sym (drop-drop source 12 message) ∙ l.parts) q.takes.parts;
     }
 
 pub request_takes : (message : List ℕ) (x : Read) → IsBytes message → map_request_at message ≡ Ok x → SpellsRequest message x.0 x.1 x.2
 unfolding map_request_at
 request_takes message x fits e =
-    let last : List Locator × List ℕ → Xeid × ℕ → Result Read RequestFault = λ ls q. cond (trails message q.1 ls.1) (Err fault.Trailing) (Ok (big_number 8 (drop 4 message), q.0, ls.0)) in
-    let a = bind_ok (head_at message) (λ count. source_at (drop 12 message) >>= λ source. rlocs_at count (drop source (drop 12 message)) >>= λ ls. xeid_at ls.1 >>= λ q. last ls q) x e in
-    let b = bind_ok (source_at (drop 12 message)) (λ source. rlocs_at a.0 (drop source (drop 12 message)) >>= λ ls. xeid_at ls.1 >>= λ q. last ls q) x a.2 in
-    let c = bind_ok (rlocs_at a.0 (drop b.0 (drop 12 message))) (λ ls. xeid_at ls.1 >>= λ q. last ls q) x b.2 in
-    let d = bind_ok (xeid_at c.0.1) (λ q. last c.0 q) x c.2 in
-    let g = guard_ok (trails message d.0.1 c.0.1) fault.Trailing (Ok (big_number 8 (drop 4 message), d.0.0, c.0.0)) x d.2 in
+    bind_parts (head_at message) _ x e λ count read₁ e₁.
+    bind_parts (source_at (drop 12 message)) _ x e₁ λ source read₂ e₂.
+    let from_rlocs = drop source (drop 12 message) in
+    bind_parts (rlocs_at count from_rlocs) _ x e₂ λ ls read₃ e₃.
+    bind_parts (xeid_at ls.1) _ x e₃ λ q read₄ e₄.
+    let g = guard_ok (trails message q.1 ls.1) fault.Trailing (Ok (big_number 8 (drop 4 message), q.0, ls.0)) x e₄ in
     let from_source = IsBytes-drop 12 message fits in
-    let from_rlocs = drop b.0 (drop 12 message) in
-    let ls = addresses_take 0 a.0 from_rlocs c.0 (IsBytes-drop b.0 (drop 12 message) from_source) (words_ok from_address (addresses_at 0 a.0 from_rlocs) c.0 c.1) in
-    let made = spelled message a.0 b.0 c.0.0 c.0.1 d.0.0 d.0.1 fits (head_holds message a.0 a.1) (source_takes (drop 12 message) b.0 from_source b.1) ls.0 ls.1 (xeid_takes c.0.1 d.0 ls.0.rest_fits d.1) g.0 in
-    subst (λ (y : Read). SpellsRequest message y.0 y.1 y.2) (ok_is {E = RequestFault} (big_number 8 (drop 4 message), d.0.0, c.0.0) x g.1) made
+    let l = addresses_take 0 count from_rlocs ls (IsBytes-drop source (drop 12 message) from_source) (words_ok from_address (addresses_at 0 count from_rlocs) ls read₃) in
+    let made = spelled message count source ls.0 ls.1 q.0 q.1 fits (head_holds message count read₁) (source_takes (drop 12 message) source from_source read₂) l.0 l.1 (xeid_takes ls.1 q l.0.rest_fits read₄) g.0 in
+    subst (λ (y : Read). SpellsRequest message y.0 y.1 y.2) (ok_is {E = RequestFault} (big_number 8 (drop 4 message), q.0, ls.0) x g.1) made
 
 -- ---- what is spelled is read again
 

@@ -11,7 +11,7 @@ use Rattle.ddt_path.specs.declared.locator.Locator.TheVariants.{V4, V6}
 use Rattle.ddt_reading.specs.Steps.{IsBytes}
 use Rattle.ddt_wire.specs.Address.{family_and_address, address_at}
 use Rattle.ddt_reading.proofs.StepLemmas.{guard_ok, chosen, ok_is}
-use Rattle.ddt_reading.proofs.ByteLemmas.{Takes, Stands, joined, stands, known_stands, byte_stands, number_taken, front_taken, number_fits, IsBytes-drop, IsBytes-take}
+use Rattle.ddt_reading.proofs.ByteLemmas.{Takes, Stands, ◌followed_by◌, stands, known_stands, byte_stands, number_taken, front_taken, number_fits, IsBytes-drop, IsBytes-take}
 use Rattle.ddt_wire.proofs.AddressLaws.{address_takes}
 use Rattle.ddt_ecm.specs.declared.fault.RequestFault.{RequestFault}
 use Rattle.ddt_ecm.specs.declared.fault.RequestFault.TheVariants as fault
@@ -56,15 +56,9 @@ content_of bytes = take (big_number 2 (drop 6 bytes)) (drop 8 bytes)
 lcaf_stands : (bytes : List ℕ) (len : ℕ) → IsBytes bytes → 8 + len ≤ length bytes → big_number 2 bytes ≡ 16387 → big_number 2 (drop 6 bytes) ≡ len
     → Stands bytes 0 (to_be_bytes w16 16387 ++ (slice_index bytes 2 ∷ slice_index bytes 3 ∷ slice_index bytes 4 ∷ slice_index bytes 5 ∷ []) ++ to_be_bytes w16 len) 8
 lcaf_stands bytes len fits long family is =
-    let r = slice_index bytes 2 in
-    let f = slice_index bytes 3 in
-    let t = slice_index bytes 4 in
-    let m = slice_index bytes 5 in
-    let b3 = joined bytes (r ∷ []) (f ∷ []) 2 3 4 (byte_stands 2 bytes (omega arith)) (byte_stands 3 bytes (omega arith)) in
-    let b4 = joined bytes (r ∷ f ∷ []) (t ∷ []) 2 4 5 b3 (byte_stands 4 bytes (omega arith)) in
-    let b5 = joined bytes (r ∷ f ∷ t ∷ []) (m ∷ []) 2 5 6 b4 (byte_stands 5 bytes (omega arith)) in
-    let six = joined bytes (to_be_bytes w16 16387) (r ∷ f ∷ t ∷ m ∷ []) 0 2 6 (known_stands 0 2 16387 bytes fits (omega arith) family) b5 in
-    joined bytes (to_be_bytes w16 16387 ++ (r ∷ f ∷ t ∷ m ∷ [])) (to_be_bytes w16 len) 0 6 8 six (known_stands 6 2 len bytes fits (omega arith) is)
+    known_stands 0 2 16387 bytes fits (omega arith) family
+    followed_by (byte_stands 2 bytes (omega arith) followed_by byte_stands 3 bytes (omega arith) followed_by byte_stands 4 bytes (omega arith) followed_by byte_stands 5 bytes (omega arith))
+    followed_by known_stands 6 2 len bytes fits (omega arith) is
 
 lcaf_takes : (bytes : List ℕ) (n : ℕ) → IsBytes bytes → big_number 2 bytes ≡ 16387 → 8 + big_number 2 (drop 6 bytes) ≤ length bytes → 8 + big_number 2 (drop 6 bytes) ≡ n → IsSource bytes n
 lcaf_takes bytes n fits family long same =
@@ -74,11 +68,11 @@ lcaf_takes bytes n fits family long same =
     let room : 8 + length content ≤ length bytes = omega arith in
     let head = to_be_bytes w16 16387 ++ (slice_index bytes 2 ∷ slice_index bytes 3 ∷ slice_index bytes 4 ∷ slice_index bytes 5 ∷ []) ++ to_be_bytes w16 (length content) in
     let tail = stands bytes content 8 len (front_taken len (drop 8 bytes) (omega (arith, length-drop 8 bytes))) in
-    let parts = joined bytes head content 0 8 (8 + len) (lcaf_stands bytes (length content) fits room family (sym size)) tail in
-    let taken : Takes bytes (head ++ content) (8 + len) = record { parts = parts; len = length-append head content ∙ ap (λ (k : ℕ). 8 + k) size } in
+    let parts = lcaf_stands bytes (length content) fits room family (sym size) followed_by tail in
+    let taken : Takes bytes (head ++ content) (8 + len) = record { parts = parts.is; len = length-append head content ∙ ap (λ (k : ℕ). 8 + k) size } in
     let small : len < 2 ^ 16 = number_fits 2 (drop 6 bytes) (IsBytes-drop 6 bytes fits) in
     let spelled : SpellsSource (head ++ content) =
-    Lcaf (slice_index bytes 2) (slice_index bytes 3) (slice_index bytes 4) (slice_index bytes 5) content (fits 2) (fits 3) (fits 4) (fits 5) (omega arith) (IsBytes-take len (drop 8 bytes) (IsBytes-drop 8 bytes fits)) refl in
+    Lcaf (slice_index bytes 2) (slice_index bytes 3) (slice_index bytes 4) (slice_index bytes 5) content (fits.at 2) (fits.at 3) (fits.at 4) (fits.at 5) (omega arith) (IsBytes-take len (drop 8 bytes) (IsBytes-drop 8 bytes fits)) refl in
     let made : IsSource bytes (8 + len) = (head ++ content, taken, spelled) in
     subst (IsSource bytes) same made
 

@@ -13,7 +13,7 @@ use Rattle.ddt_path.specs.Path.{address_width, xeid_path}
 use Rattle.ddt_reading.specs.Steps.{IsBytes}
 use Rattle.ddt_wire.specs.Address.{family_and_address, IsAddress}
 use Rattle.ddt_wire.specs.Eid.{SpellsEid, form_mask_len, written_eid, written_mask_len}
-use Rattle.ddt_reading.proofs.ByteLemmas.{IsBytes-append, IsBytes-nil, IsBytes-number}
+use Rattle.ddt_reading.proofs.ByteLemmas.{◌beside◌, two_bytes, IsBytes-nil, IsBytes-number}
 use Rattle.ddt_wire.proofs.AddressesLaws.{addresses_spell}
 use Rattle.ddt_wire.proofs.WrittenLaws.{eid_spells}
 use Rattle.ddt_ecm.specs.Checksum.{ones_sum, complement}
@@ -27,7 +27,7 @@ use Rattle.ddt_ecm.proofs.ChecksumLemmas.{ones_sum-append}
 use Rattle.ddt_ecm.proofs.SumLaws.{folded, checksum_right, present_right}
 use Rattle.ddt_ecm.proofs.WritingLemmas.{request_small}
 use Rattle.ddt_ecm.proofs.RequestLaws.{full_is_prefix, form_of_full}
-use Rattle.ddt_ecm.proofs.MessageLaws.{pair, request_is_bytes, message_again}
+use Rattle.ddt_ecm.proofs.MessageLaws.{request_is_bytes, message_again}
 
 -- ---- the Map-Request
 
@@ -77,7 +77,7 @@ ports len = to_be_bytes w16 4342 ++ to_be_bytes w16 4342 ++ to_be_bytes w16 len
 
 ports_are_bytes : (len : ℕ) → IsBytes (ports len)
 unfolding ports
-ports_are_bytes len = IsBytes-append (to_be_bytes w16 4342 ++ to_be_bytes w16 4342) (to_be_bytes w16 len) (IsBytes-append (to_be_bytes w16 4342) (to_be_bytes w16 4342) (IsBytes-number 2 4342) (IsBytes-number 2 4342)) (IsBytes-number 2 len)
+ports_are_bytes len = IsBytes-number 2 4342 beside IsBytes-number 2 4342 beside IsBytes-number 2 len
 
 present_fits : (c : ℕ) → c < 65536 → not_absent c < 65536
 present_fits c lt = cond_both (eqb c 0) 65535 c (λ n. n < 65536) (λ _. omega arith) (λ _. lt)
@@ -111,9 +111,8 @@ before total = (69 ∷ 0 ∷ []) ++ to_be_bytes w16 total ++ (0 ∷ 0 ∷ 0 ∷ 
 before_is_bytes : (total : ℕ) → IsBytes (before total)
 unfolding before
 before_is_bytes total =
-    let four = IsBytes-append (69 ∷ 0 ∷ []) (to_be_bytes w16 total) (pair 69 0 (omega arith) (omega arith)) (IsBytes-number 2 total) in
-    let six = IsBytes-append (0 ∷ 0 ∷ []) (0 ∷ 0 ∷ 64 ∷ 17 ∷ []) (pair 0 0 (omega arith) (omega arith)) (IsBytes-append (0 ∷ 0 ∷ []) (64 ∷ 17 ∷ []) (pair 0 0 (omega arith) (omega arith)) (pair 64 17 (omega arith) (omega arith))) in
-    IsBytes-append ((69 ∷ 0 ∷ []) ++ to_be_bytes w16 total) (0 ∷ 0 ∷ 0 ∷ 0 ∷ 64 ∷ 17 ∷ []) four six
+    let one = two_bytes 0 0 (omega arith) (omega arith) in
+    two_bytes 69 0 (omega arith) (omega arith) beside IsBytes-number 2 total beside (one beside (one beside two_bytes 64 17 (omega arith) (omega arith)))
 
 abbrev addresses4 : ℕ → ℕ → List ℕ
 addresses4 s d = to_be_bytes w32 s ++ to_be_bytes w32 d
@@ -122,7 +121,7 @@ abbrev addresses6 : ℕ → ℕ → List ℕ
 addresses6 s d = to_be_bytes w128 s ++ to_be_bytes w128 d
 
 addresses4_are_bytes : (s d : ℕ) → IsBytes (addresses4 s d)
-addresses4_are_bytes s d = IsBytes-append (to_be_bytes w32 s) (to_be_bytes w32 d) (IsBytes-number 4 s) (IsBytes-number 4 d)
+addresses4_are_bytes s d = IsBytes-number 4 s beside IsBytes-number 4 d
 
 header_right : (total s d : ℕ) → ones_sum 0 (ipv4_header total (complement (ones_sum 0 (ipv4_header total 0 s d))) s d) ≡ 65535
 unfolding before
@@ -188,15 +187,10 @@ record IsPacket (bytes message : List ℕ) : Type 0 where
   spells_udp : SpellsUdp pseudo udp 4342 message
 
 pseudo4_is_bytes : (s d len : ℕ) → IsBytes (pseudo4 (addresses4 s d) len)
-pseudo4_is_bytes s d len =
-    let front = IsBytes-append (addresses4 s d) (0 ∷ 17 ∷ []) (addresses4_are_bytes s d) (pair 0 17 (omega arith) (omega arith)) in
-    IsBytes-append (addresses4 s d ++ (0 ∷ 17 ∷ [])) (to_be_bytes w16 len) front (IsBytes-number 2 len)
+pseudo4_is_bytes s d len = addresses4_are_bytes s d beside two_bytes 0 17 (omega arith) (omega arith) beside IsBytes-number 2 len
 
 pseudo6_is_bytes : (s d len : ℕ) → IsBytes (pseudo6 (addresses6 s d) len)
-pseudo6_is_bytes s d len =
-    let addresses = IsBytes-append (to_be_bytes w128 s) (to_be_bytes w128 d) (IsBytes-number 16 s) (IsBytes-number 16 d) in
-    let front = IsBytes-append (addresses6 s d) (to_be_bytes w32 len) addresses (IsBytes-number 4 len) in
-    IsBytes-append (addresses6 s d ++ to_be_bytes w32 len) (to_be_bytes w32 17) front (IsBytes-number 4 17)
+pseudo6_is_bytes s d len = IsBytes-number 16 s beside IsBytes-number 16 d beside IsBytes-number 4 len beside IsBytes-number 4 17
 
 packet4_spells : (s d : ℕ) (message : List ℕ) → s < 2 ^ 32 → d < 2 ^ 32 → IsBytes message → length message ≤ 1000 → IsPacket (packet4 s d message) message
 unfolding packet4

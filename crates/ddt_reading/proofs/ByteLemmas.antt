@@ -11,28 +11,44 @@ use Rattle.byteorder.specs.Numbers.{big_from-cons, big_from-take, big_from-lt, b
 use Rattle.ddt_reading.specs.Steps.{IsBytes}
 
 pub IsBytes-drop : (n : ℕ) (bytes : List ℕ) → IsBytes bytes → IsBytes (drop n bytes)
-IsBytes-drop n bytes h i = rw get_or-drop (h (n + i))
+IsBytes-drop n bytes h = record { at = λ i. rw get_or-drop (h.at (n + i)) }
 
 pub IsBytes-take : (n : ℕ) (bytes : List ℕ) → IsBytes bytes → IsBytes (take n bytes)
-IsBytes-take n bytes h i =
+IsBytes-take n bytes h = record {
+  at = λ i.
     elim (cases_lt i n) [
-      | inl lt ↦ rw (get_or-take n bytes i 0 lt) (h i)
+      | inl lt ↦ rw (get_or-take n bytes i 0 lt) (h.at i)
       | inr le ↦ rw (get_or_past (take n bytes) i 0 (omega (arith, length-take n bytes))) (omega arith)
-    ]
+    ];
+}
 
 IsBytes-rest : (b : ℕ) (bytes : List ℕ) → IsBytes (b ∷ bytes) → IsBytes bytes
-IsBytes-rest b bytes h i = h (suc i)
+IsBytes-rest b bytes h = record { at = λ i. h.at (suc i) }
+
+byte_or_rest : (b : ℕ) (bytes : List ℕ) → b < 256 → IsBytes bytes → (i : ℕ) → slice_index (b ∷ bytes) i < 256
+byte_or_rest b bytes lt h zero = lt
+byte_or_rest b bytes lt h (suc i) = h.at i
 
 pub IsBytes-cons : (b : ℕ) (bytes : List ℕ) → b < 256 → IsBytes bytes → IsBytes (b ∷ bytes)
-IsBytes-cons b bytes lt h zero = lt
-IsBytes-cons b bytes lt h (suc i) = h i
+IsBytes-cons b bytes lt h = record { at = byte_or_rest b bytes lt h }
 
 pub IsBytes-nil : IsBytes []
-IsBytes-nil i = omega arith
+IsBytes-nil = record { at = λ i. omega arith }
+
+pub one_byte : (b : ℕ) → b < 256 → IsBytes (b ∷ [])
+one_byte b lt = IsBytes-cons b [] lt IsBytes-nil
+
+pub two_bytes : (a b : ℕ) → a < 256 → b < 256 → IsBytes (a ∷ b ∷ [])
+two_bytes a b h k = IsBytes-cons a (b ∷ []) h (one_byte b k)
 
 pub IsBytes-append : (xs ys : List ℕ) → IsBytes xs → IsBytes ys → IsBytes (xs ++ ys)
 IsBytes-append [] ys hx hy = hy
-IsBytes-append (x ∷ xs) ys hx hy = IsBytes-cons x (xs ++ ys) (hx 0) (IsBytes-append xs ys (IsBytes-rest x xs hx) hy)
+IsBytes-append (x ∷ xs) ys hx hy = IsBytes-cons x (xs ++ ys) (hx.at 0) (IsBytes-append xs ys (IsBytes-rest x xs hx) hy)
+
+-- bytes, one part behind the other
+infixl 20 ◌beside◌
+pub ◌beside◌ : {xs ys : List ℕ} → IsBytes xs → IsBytes ys → IsBytes (xs ++ ys)
+◌beside◌ {xs} {ys} h k = IsBytes-append xs ys h k
 
 byte_at-lt : (i n : ℕ) → byte_at i n < 256
 byte_at-lt zero n = mod_below n 256 (omega arith)
@@ -53,7 +69,7 @@ same_bytes (suc n) (x ∷ xs) (y ∷ ys) hx hy ex ey e =
     let fx = IsBytes-rest x xs hx in
     let fy = IsBytes-rest y ys hy in
     let moved : x * 256 ^ n + big_from 0 n xs ≡ y * 256 ^ n + big_from 0 n ys = rw (← big_from-cons 0 n x xs, ← big_from-cons 0 n y ys) e in
-    let p = same_from_place x (big_from 0 n xs) y (big_from 0 n ys) (256 ^ n) (big_from-lt 0 n xs fx) (big_from-lt 0 n ys fy) moved in
+    let p = same_from_place x (big_from 0 n xs) y (big_from 0 n ys) (256 ^ n) (big_from-lt 0 n xs fx.at) (big_from-lt 0 n ys fy.at) moved in
     let lx : length xs ≡ n = omega arith in
     let ly : length ys ≡ n = omega arith in
     rw (p.0, same_bytes n xs ys fx fy lx ly p.1) refl
@@ -62,7 +78,7 @@ same_bytes (suc n) (x ∷ xs) (y ∷ ys) hx hy ex ey e =
 pub bytes_back : (n : ℕ) (xs : List ℕ) → IsBytes xs → length xs ≡ n → bytes_high_first n (big_number n xs) ≡ xs
 bytes_back n xs h e =
     let x = big_number n xs in
-    let again : big_from 0 n (bytes_high_first n x) ≡ x = ap (big_from 0 n) (sym (append-nil (bytes_high_first n x))) ∙ big_number-reads_back n x [] (big_from-lt 0 n xs h) in
+    let again : big_from 0 n (bytes_high_first n x) ≡ x = ap (big_from 0 n) (sym (append-nil (bytes_high_first n x))) ∙ big_number-reads_back n x [] (big_from-lt 0 n xs h.at) in
     same_bytes n (bytes_high_first n x) xs (IsBytes-number n x) h (length-bytes_high_first n x) e again
 
 -- ---- what stands at the front
@@ -106,18 +122,20 @@ byte_taken k bytes h =
     record { parts = e ∙ ap (λ (t : List ℕ). slice_index bytes k ∷ t) (sym d); len = refl }
 
 pub number_fits : (n : ℕ) (bytes : List ℕ) → IsBytes bytes → big_number n bytes < 256 ^ n
-number_fits n bytes fits = big_from-lt 0 n bytes fits
+number_fits n bytes fits = big_from-lt 0 n bytes fits.at
 
 -- ---- what stands from one place to another
 
-abbrev pub Stands : List ℕ → ℕ → List ℕ → ℕ → Type 0
-Stands bytes k text m = drop k bytes ≡ text ++ drop m bytes
+pub record Stands (bytes : List ℕ) (k : ℕ) (text : List ℕ) (m : ℕ) : Type 0 where
+  pub is : drop k bytes ≡ text ++ drop m bytes
 
-pub joined : (bytes x y : List ℕ) (k m n : ℕ) → Stands bytes k x m → Stands bytes m y n → Stands bytes k (x ++ y) n
-joined bytes x y k m n p q = p ∙ ap (λ (t : List ℕ). x ++ t) q ∙ sym (append_assoc x y (drop n bytes))
+-- one text, and behind it another
+infixl 20 ◌followed_by◌
+pub ◌followed_by◌ : {bytes x y : List ℕ} {k m n : ℕ} → Stands bytes k x m → Stands bytes m y n → Stands bytes k (x ++ y) n
+◌followed_by◌ {bytes} {x} {y} {k} {m} {n} p q = record { is = p.is ∙ ap (λ (t : List ℕ). x ++ t) q.is ∙ sym (append_assoc x y (drop n bytes)) }
 
 pub stands : (bytes text : List ℕ) (k n : ℕ) → Takes (drop k bytes) text n → Stands bytes k text (k + n)
-stands bytes text k n p = p.parts ∙ ap (λ (t : List ℕ). text ++ t) (drop-drop n k bytes)
+stands bytes text k n p = record { is = p.parts ∙ ap (λ (t : List ℕ). text ++ t) (drop-drop n k bytes) }
 
 pub number_stands : (k n : ℕ) (bytes : List ℕ) → IsBytes bytes → k + n ≤ length bytes → Stands bytes k (bytes_high_first n (big_number n (drop k bytes))) (k + n)
 number_stands k n bytes fits h = stands bytes (bytes_high_first n (big_number n (drop k bytes))) k n (number_taken_at k n bytes fits h)

@@ -19,6 +19,11 @@ pub guard_ok : {A E : Type 0} (b : Bool) (d : E) (r : Result A E) (x : A) → co
 guard_ok true d r x e = absurd cc
 guard_ok false d r x e = (refl, e)
 
+-- the same, for what follows from it
+pub guard_parts : {A E P : Type 0} (b : Bool) (d : E) (r : Result A E) (x : A) → cond b (Err d) r ≡ Ok x → (b ≡ false → r ≡ Ok x → P) → P
+guard_parts true d r x e k = absurd cc
+guard_parts false d r x e k = k refl e
+
 -- a test that had to hold
 pub held_ok : {A E : Type 0} (b : Bool) (d : E) (r : Result A E) (x : A) → cond b r (Err d) ≡ Ok x → (b ≡ true) × (r ≡ Ok x)
 held_ok true d r x e = (refl, e)

@@ -2,8 +2,8 @@
 use Rattle.std.specs.Prelude.{ℕ, ◌<◌, ◌≡◌, List, slice_index, Result, Ok, Err}
 
 -- each number is one of 0 to 255
-abbrev pub IsBytes : List ℕ → Type 0
-IsBytes bytes = (i : ℕ) → slice_index bytes i < 256
+pub record IsBytes (bytes : List ℕ) : Type 0 where
+  pub at : (i : ℕ) → slice_index bytes i < 256
 
 -- a step, and what is done with its value
 infixl 10 ◌>>=◌

@@ -30,8 +30,8 @@ use Rattle.ddt_text.proofs.AddressLemmas.{colon_hex-narrower}
 segments_fit : (bs : List ℕ) → IsBytes bs → AllSegments (segments_of bs)
 segments_fit [] h k = omega arith
 segments_fit (a ∷ []) h k = omega arith
-segments_fit (a ∷ b ∷ bs) h zero = omega (arith, h 0, h 1)
-segments_fit (a ∷ b ∷ bs) h (suc k) = segments_fit bs (λ i. h (suc (suc i))) k
+segments_fit (a ∷ b ∷ bs) h zero = omega (arith, h.at 0, h.at 1)
+segments_fit (a ∷ b ∷ bs) h (suc k) = segments_fit bs (record { at = λ i. h.at (suc (suc i)) }) k
 
 -- sixteen bytes through eight segments
 restored : (k : ℕ) (bs : List ℕ) → length bs ≡ k + k → IsBytes bs → octets_of (segments_of bs) ≡ bs
@@ -39,9 +39,9 @@ restored k [] l h = refl
 restored k (a ∷ []) l h = absurd (omega arith)
 restored zero (a ∷ b ∷ bs) l h = absurd (omega arith)
 restored (suc k) (a ∷ b ∷ bs) l h =
-    let high : (a * 256 + b) / 256 ≡ a = omega (arith, h 1) in
-    let low : (a * 256 + b) % 256 ≡ b = omega (arith, h 1) in
-    let rest = restored k bs (omega arith) (λ i. h (suc (suc i))) in
+    let high : (a * 256 + b) / 256 ≡ a = omega (arith, h.at 1) in
+    let low : (a * 256 + b) % 256 ≡ b = omega (arith, h.at 1) in
+    let rest = restored k bs (omega arith) (record { at = λ i. h.at (suc (suc i)) }) in
     λ i. high i ∷ low i ∷ rest i
 
 -- a number of 16 bytes from its bytes, the highest first
@@ -84,7 +84,7 @@ hex_groups_lack_dot (c ∷ text) h = rw (ne_eqb c 46 (not_dot c (h 0 0 (omega ar
 pub written_locator-spells : (a : Locator) → address_number a < 2 ^ address_width a → SpellsLocator (written_locator a) a
 written_locator-spells (V4 n) h =
     let bytes : IsBytes (to_be_bytes w32 n) = IsBytes-number 4 n in
-    (to_be_bytes w32 n, IsDotted-ipv4_text (to_be_bytes w32 n) refl (bytes), sym (from_be_bytes-to_be_bytes_4 n h))
+    (to_be_bytes w32 n, IsDotted-ipv4_text (to_be_bytes w32 n) refl bytes.at, sym (from_be_bytes-to_be_bytes_4 n h))
 written_locator-spells (V6 n) h =
     let bytes : IsBytes (to_be_bytes w128 n) = IsBytes-number 16 n in
     let groups = segments_of (to_be_bytes w128 n) in

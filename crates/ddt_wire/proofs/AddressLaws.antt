@@ -1,6 +1,6 @@
 -- An address that is read is spelled so, and what is spelled is read again.
 use Rattle.std.proofs.Common.{◌≡◌, ℕ, ◌≤◌, false, cond, ltb, eqb, List, ◌++◌, length, drop, Result, Ok, Err, refl, subst, arith, inl, inr}
-use Rattle.std.specs.Int.{w16, w32, w128, to_be_bytes, bytes_high_first}
+use Rattle.std.specs.Int.{w16, to_be_bytes, bytes_high_first}
 use Rattle.std.proofs.lemmas.Bool.{ltb-false, le-ltb, eqb-true}
 use Rattle.byteorder.specs.Endian.{big_number}
 use Rattle.byteorder.specs.Numbers.{big_number-reads_back}
@@ -11,7 +11,7 @@ use Rattle.ddt_wire.specs.declared.address.AddressFault.TheVariants.{Short, Fami
 use Rattle.ddt_reading.specs.Steps.{IsBytes}
 use Rattle.ddt_wire.specs.Address.{family_and_address, IsAddress, address_at}
 use Rattle.ddt_reading.proofs.StepLemmas.{guard_ok, chosen, ok_is}
-use Rattle.ddt_reading.proofs.ByteLemmas.{Takes, Takes-then, number_taken, number_taken_at, number_fits, IsBytes-drop, IsBytes-append, IsBytes-number}
+use Rattle.ddt_reading.proofs.ByteLemmas.{Takes, Takes-then, number_taken, number_taken_at, number_fits, IsBytes-drop, ◌beside◌, IsBytes-number}
 
 -- what was read of an address
 pub record IsRead (bytes : List ℕ) (a : Locator) (n : ℕ) : Type 0 where
@@ -73,5 +73,5 @@ address_again (V4 x) rest fits = v4_read (family_and_address (V4 x) ++ rest) x (
 address_again (V6 x) rest fits = v6_read (family_and_address (V6 x) ++ rest) x (omega arith) refl (big_number-reads_back 16 x rest fits)
 
 pub address_is_bytes : (a : Locator) → IsBytes (family_and_address a)
-address_is_bytes (V4 a) = IsBytes-append (to_be_bytes w16 1) (to_be_bytes w32 a) (IsBytes-number 2 1) (IsBytes-number 4 a)
-address_is_bytes (V6 a) = IsBytes-append (to_be_bytes w16 2) (to_be_bytes w128 a) (IsBytes-number 2 2) (IsBytes-number 16 a)
+address_is_bytes (V4 a) = IsBytes-number 2 1 beside IsBytes-number 4 a
+address_is_bytes (V6 a) = IsBytes-number 2 2 beside IsBytes-number 16 a

@@ -1,5 +1,5 @@
 -- An EID that is read is spelled so, and what is spelled is read again.
-use Rattle.std.proofs.Common.{◌≡◌, ℕ, ◌+◌, ◌^◌, ◌<◌, ◌≤◌, Bool, true, false, cond, ltb, eqb, List, [], ◌∷◌, ◌++◌, length, drop, Result, Ok, Err, refl, sym, ap, subst, ◌∙◌, arith, inl, inr, length-append}
+use Rattle.std.proofs.Common.{◌≡◌, ℕ, ◌+◌, ◌^◌, ◌<◌, ◌≤◌, Bool, true, false, cond, ltb, eqb, List, ◌++◌, length, drop, Result, Ok, Err, refl, sym, ap, subst, ◌∙◌, arith, inl, inr, length-append}
 use Rattle.std.specs.Prelude.{◌||◌, not, slice_index}
 use Rattle.std.specs.Int.{w16, w32, to_be_bytes}
 use Rattle.std.proofs.lemmas.Bool.{ltb-false, le-ltb, eqb-true}
@@ -17,7 +17,7 @@ use Rattle.ddt_reading.specs.Steps.{◌>>=◌, in_words, IsBytes}
 use Rattle.ddt_wire.specs.Address.{afi, family_and_address, IsAddress, address_at}
 use Rattle.ddt_wire.specs.Eid.{from_address, from_prefix, block_at, inside_at, lcaf_at, eid_at, has_length, instance_head, instance_lcaf, IsInstance, SpellsEid, Plain, Inside, Instances}
 use Rattle.ddt_reading.proofs.StepLemmas.{bind_ok, words_ok, guard_ok, held_ok, chosen, ok_is}
-use Rattle.ddt_reading.proofs.ByteLemmas.{Takes, Stands, joined, stands, number_stands, known_stands, byte_stands, known_byte, number_fits, IsBytes-drop}
+use Rattle.ddt_reading.proofs.ByteLemmas.{Takes, Stands, ◌followed_by◌, stands, number_stands, known_stands, byte_stands, known_byte, number_fits, IsBytes-drop}
 use Rattle.ddt_wire.proofs.AddressLaws.{address_takes, address_again}
 
 -- ---- what is read is spelled so
@@ -47,25 +47,13 @@ IsEid mask bytes p n = (text : List ℕ) × Takes bytes text n × SpellsEid mask
 head_stands : (bytes : List ℕ) (len : ℕ) → IsBytes bytes → 14 ≤ length bytes → big_number 2 bytes ≡ 16387 → slice_index bytes 4 ≡ 2 → big_number 2 (drop 6 bytes) ≡ 4 + len
     → Stands bytes 0 (instance_head (slice_index bytes 2) (slice_index bytes 3) (slice_index bytes 5) (big_number 4 (drop 8 bytes)) len) 12
 head_stands bytes len fits long family type length_is =
-    let b0 = known_stands 0 2 16387 bytes fits (omega arith) family in
-    let b2 = byte_stands 2 bytes (omega arith) in
-    let b3 = byte_stands 3 bytes (omega arith) in
-    let b4 = known_byte 4 2 bytes (omega arith) type in
-    let b5 = byte_stands 5 bytes (omega arith) in
-    let r = slice_index bytes 2 in
-    let f = slice_index bytes 3 in
-    let m = slice_index bytes 5 in
-    let b24 = joined bytes (r ∷ []) (f ∷ []) 2 3 4 b2 b3 in
-    let b25 = joined bytes (r ∷ f ∷ []) (2 ∷ []) 2 4 5 b24 b4 in
-    let b26 = joined bytes (r ∷ f ∷ 2 ∷ []) (m ∷ []) 2 5 6 b25 b5 in
-    let b6 = known_stands 6 2 (4 + len) bytes fits (omega arith) length_is in
-    let b8 = number_stands 8 4 bytes fits (omega arith) in
-    let h2 = joined bytes (to_be_bytes w16 16387) (r ∷ f ∷ 2 ∷ m ∷ []) 0 2 6 b0 b26 in
-    let h6 = joined bytes (to_be_bytes w16 16387 ++ (r ∷ f ∷ 2 ∷ m ∷ [])) (to_be_bytes w16 (4 + len)) 0 6 8 h2 b6 in
-    joined bytes (to_be_bytes w16 16387 ++ (r ∷ f ∷ 2 ∷ m ∷ []) ++ to_be_bytes w16 (4 + len)) (to_be_bytes w32 (big_number 4 (drop 8 bytes))) 0 8 12 h6 b8
+    known_stands 0 2 16387 bytes fits (omega arith) family
+    followed_by (byte_stands 2 bytes (omega arith) followed_by byte_stands 3 bytes (omega arith) followed_by known_byte 4 2 bytes (omega arith) type followed_by byte_stands 5 bytes (omega arith))
+    followed_by known_stands 6 2 (4 + len) bytes fits (omega arith) length_is
+    followed_by number_stands 8 4 bytes fits (omega arith)
 
 is_instance : (bytes : List ℕ) → IsBytes bytes → IsInstance (slice_index bytes 2) (slice_index bytes 3) (slice_index bytes 5) (big_number 4 (drop 8 bytes))
-is_instance bytes fits = record { reserved_fits = fits 2; flags_fits = fits 3; mask_fits = fits 5; iid_fits = number_fits 4 (drop 8 bytes) (IsBytes-drop 8 bytes fits) }
+is_instance bytes fits = record { reserved_fits = fits.at 2; flags_fits = fits.at 3; mask_fits = fits.at 5; iid_fits = number_fits 4 (drop 8 bytes) (IsBytes-drop 8 bytes fits) }
 
 -- what is known of an LCAF whose type and length are right
 record IsLcaf (bytes : List ℕ) : Type 0 where
@@ -94,7 +82,7 @@ lcaf_stands : (bytes inner : List ℕ) (n : ℕ) → IsLcaf bytes → big_number
     → Takes bytes (instance_lcaf (slice_index bytes 2) (slice_index bytes 3) (slice_index bytes 5) (big_number 4 (drop 8 bytes)) inner) n
 lcaf_stands bytes inner n h len i e =
     let head = instance_head (slice_index bytes 2) (slice_index bytes 3) (slice_index bytes 5) (big_number 4 (drop 8 bytes)) (length inner) in
-    record { parts = joined bytes head inner 0 12 n (head_stands bytes (length inner) h.fits h.long h.family h.type len) i; len = length-append head inner ∙ e }
+    record { parts = (head_stands bytes (length inner) h.fits h.long h.family h.type len followed_by i).is; len = length-append head inner ∙ e }
 
 -- ---- a range of instances
 

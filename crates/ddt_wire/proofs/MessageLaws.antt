@@ -9,14 +9,14 @@ use Rattle.ddt_path.specs.declared.record.Action.TheVariants.{NodeReferral, MsRe
 use Rattle.ddt_wire.specs.declared.head.Head.{Head}
 use Rattle.ddt_wire.specs.declared.fault.ReferralFault.{ReferralFault}
 use Rattle.ddt_wire.specs.declared.fault.ReferralFault.TheVariants as fault
-use Rattle.ddt_reading.specs.Steps.{◌>>=◌, in_words, IsBytes}
+use Rattle.ddt_reading.specs.Steps.{in_words, IsBytes}
 use Rattle.ddt_wire.specs.Head.{head_bytes, IsHead, action_number, head_at}
 use Rattle.ddt_wire.specs.Eid.{eid_at}
 use Rattle.ddt_wire.specs.Addresses.{addresses_at}
 use Rattle.ddt_wire.specs.LocatorRecord.{from_address, locators_at}
 use Rattle.ddt_wire.specs.Referral.{Message, Ignored, Spells, act, bit, flags_of, message_head, from_head, from_eid, action_of, action_or_fault, action_in, message_with, message_in}
-use Rattle.ddt_reading.proofs.StepLemmas.{bind_ok, words_ok, held_ok, ok_is}
-use Rattle.ddt_reading.proofs.ByteLemmas.{Stands, joined, stands, IsBytes-drop}
+use Rattle.ddt_reading.proofs.StepLemmas.{bind_ok, bind_parts, words_ok, held_ok, ok_is}
+use Rattle.ddt_reading.proofs.ByteLemmas.{Stands, ◌followed_by◌, stands, IsBytes-drop}
 use Rattle.ddt_wire.proofs.HeadLaws.{BeginsWith, head_takes, head_again}
 use Rattle.ddt_wire.proofs.EidLaws.{IsEid, eid_takes, eid_again, eid_some}
 use Rattle.ddt_wire.proofs.AddressesLaws.{AreAddresses, addresses_take, addresses_again}
@@ -118,7 +118,7 @@ head_back : (h : Head) (action : Action) (p : List ℕ) (ls : List Locator) → 
 head_back h action p ls u count = let f = flags_stand h action u in rw (count, f) refl
 
 ended : (bytes text front rest : List ℕ) (n : ℕ) → Stands bytes 0 text n → drop n bytes ≡ front ++ rest → rest ≡ [] → bytes ≡ text ++ front
-ended bytes text front rest n p q e = p ∙ ap (λ (t : List ℕ). text ++ t) (q ∙ ap (λ (t : List ℕ). front ++ t) e ∙ append-nil front)
+ended bytes text front rest n p q e = p.is ∙ ap (λ (t : List ℕ). text ++ t) (q ∙ ap (λ (t : List ℕ). front ++ t) e ∙ append-nil front)
 
 -- a datagram of which the head, the EID and the locators were read
 spelled : (bytes : List ℕ) (h : Head) (action : Action) (p : List ℕ) (n : ℕ) (ls : List Locator) (rest : List ℕ) → BeginsWith 6 bytes h → IsUnsigned h action → IsEid h.mask_len (drop 22 bytes) p n
@@ -127,7 +127,7 @@ spelled bytes h action p n ls rest b u (text, t, s) l count nothing =
     let i = ignored_of h action b.ignored b.ignored_fits b.fits u in
     let front = head_bytes 6 b.ignored (message_head h.mask_len i.authoritative i.flags i.version (message_with h action p ls)) in
     let one : Stands bytes 0 front 22 = subst (λ (x : Head). Stands bytes 0 (head_bytes 6 b.ignored x) 22) (sym (head_back h action p ls u count)) b.stands in
-    let two = joined bytes front text 0 22 (22 + n) one (stands bytes text 22 n t) in
+    let two = one followed_by stands bytes text 22 n t in
     record {
       ignored = i;
       mask = h.mask_len;
@@ -145,19 +145,18 @@ spelled bytes h action p n ls rest b u (text, t, s) l count nothing =
 pub message_takes : (bytes : List ℕ) (v : Message) → IsBytes bytes → message_in bytes ≡ Ok v → Spells bytes v
 unfolding message_in
 message_takes bytes v fits e =
-    let a = bind_ok (in_words from_head (head_at 6 bytes)) (λ head. action_in head >>= λ action. in_words from_eid (eid_at head.mask_len (drop 22 bytes)) >>= λ eid. locators_at head.locators (drop eid.1 (drop 22 bytes)) >>= λ ls. cond (eqb (length ls.1) 0) (Ok (message_with head action eid.0 ls.0)) (Err fault.Trailing)) v e in
-    let h = a.0 in
-    let b = bind_ok (action_in h) (λ action. in_words from_eid (eid_at h.mask_len (drop 22 bytes)) >>= λ eid. locators_at h.locators (drop eid.1 (drop 22 bytes)) >>= λ ls. cond (eqb (length ls.1) 0) (Ok (message_with h action eid.0 ls.0)) (Err fault.Trailing)) v a.2 in
-    let c = bind_ok (in_words from_eid (eid_at h.mask_len (drop 22 bytes))) (λ eid. locators_at h.locators (drop eid.1 (drop 22 bytes)) >>= λ ls. cond (eqb (length ls.1) 0) (Ok (message_with h b.0 eid.0 ls.0)) (Err fault.Trailing)) v b.2 in
-    let d = bind_ok (locators_at h.locators (drop c.0.1 (drop 22 bytes))) (λ ls. cond (eqb (length ls.1) 0) (Ok (message_with h b.0 c.0.0 ls.0)) (Err fault.Trailing)) v c.2 in
-    let f = held_ok (eqb (length d.0.1) 0) fault.Trailing (Ok (message_with h b.0 c.0.0 d.0.0)) v d.2 in
+    bind_parts (in_words from_head (head_at 6 bytes)) _ v e λ h read₁ e₁.
+    bind_parts (action_in h) _ v e₁ λ action read₂ e₂.
+    bind_parts (in_words from_eid (eid_at h.mask_len (drop 22 bytes))) _ v e₂ λ eid read₃ e₃.
+    bind_parts (locators_at h.locators (drop eid.1 (drop 22 bytes))) _ v e₃ λ ls read₄ e₄.
+    let f = held_ok (eqb (length ls.1) 0) fault.Trailing (Ok (message_with h action eid.0 ls.0)) v e₄ in
     let eid_fits = IsBytes-drop 22 bytes fits in
-    let begins = head_takes 6 bytes h fits (words_ok from_head (head_at 6 bytes) h a.1) in
-    let r = eid_takes h.mask_len (drop 22 bytes) c.0 eid_fits (words_ok from_eid (eid_at h.mask_len (drop 22 bytes)) c.0 c.1) in
-    let from_locators = drop c.0.1 (drop 22 bytes) in
-    let ls = addresses_take 6 h.locators from_locators d.0 (IsBytes-drop c.0.1 (drop 22 bytes) eid_fits) (words_ok from_address (addresses_at 6 h.locators from_locators) d.0 d.1) in
-    let made = spelled bytes h b.0 c.0.0 c.0.1 d.0.0 d.0.1 begins (action_holds h b.0 b.1) r ls.0 ls.1 (nil_from_length d.0.1 (eqb-true (length d.0.1) 0 f.0)) in
-    subst (λ (y : Message). Spells bytes y) {x = message_with h b.0 c.0.0 d.0.0} (ok_is {E = ReferralFault} (message_with h b.0 c.0.0 d.0.0) v f.1) made
+    let begins = head_takes 6 bytes h fits (words_ok from_head (head_at 6 bytes) h read₁) in
+    let r = eid_takes h.mask_len (drop 22 bytes) eid eid_fits (words_ok from_eid (eid_at h.mask_len (drop 22 bytes)) eid read₃) in
+    let from_locators = drop eid.1 (drop 22 bytes) in
+    let l = addresses_take 6 h.locators from_locators ls (IsBytes-drop eid.1 (drop 22 bytes) eid_fits) (words_ok from_address (addresses_at 6 h.locators from_locators) ls read₄) in
+    let made = spelled bytes h action eid.0 eid.1 ls.0 ls.1 begins (action_holds h action read₂) r l.0 l.1 (nil_from_length ls.1 (eqb-true (length ls.1) 0 f.0)) in
+    subst (Spells bytes) (ok_is {E = ReferralFault} (message_with h action eid.0 ls.0) v f.1) made
 
 -- ---- what is spelled is read again
 

@@ -2,7 +2,7 @@
 use Rattle.std.proofs.Common.{◌≡◌, ℕ, zero, suc, ◌+◌, ◌^◌, ◌<◌, ◌≤◌, true, List, [], ◌∷◌, ◌++◌, length, take, drop, refl, sym, ap, subst, ◌∙◌, arith, Ok, Err, Result}
 use Rattle.std.specs.Prelude.{◌↔◌, IfOk}
 use Rattle.std.specs.List.{flat_map}
-use Rattle.std.specs.Int.{w16, w32, to_be_bytes}
+use Rattle.std.specs.Int.{w16, to_be_bytes}
 use Rattle.std.specs.Result.{IsErr}
 use Rattle.std.proofs.Math.Dec.{eqb-suc-zero}
 use Rattle.std.proofs.lemmas.List.{take_all}
@@ -18,13 +18,12 @@ use Rattle.ddt_reading.specs.Steps.{IsBytes}
 use Rattle.ddt_reading.specs.Reader.{AreRead}
 use Rattle.ddt_reading.proofs.ReaderLemmas.{are_read}
 use Rattle.ddt_wire.specs.Address.{family_and_address}
-use Rattle.ddt_wire.specs.Eid.{SpellsEid, Plain, Inside, Instances, IsInstance, instance_head, instance_lcaf, written_form, form_mask_len, written_eid, written_mask_len, eid_at}
+use Rattle.ddt_wire.specs.Eid.{SpellsEid, Plain, Inside, Instances, IsInstance, instance_lcaf, written_form, form_mask_len, written_eid, written_mask_len, eid_at}
 use Rattle.ddt_wire.specs.LocatorRecord.{before_written, written_locator}
-use Rattle.ddt_wire.specs.Head.{head_bytes}
 use Rattle.ddt_wire.specs.Referral.{Message, Ignored, Spells, written, message_of, message_record, message_in}
 use Rattle.ddt_wire.specs.Laws.{IsPrefix, IsRecord}
 use Rattle.ddt_wire.proofs.EidLemmas.{form_of-named}
-use Rattle.ddt_reading.proofs.ByteLemmas.{IsBytes-number, IsBytes-append, IsBytes-cons, IsBytes-nil, Takes-take, Takes-fits}
+use Rattle.ddt_reading.proofs.ByteLemmas.{◌beside◌, two_bytes, IsBytes-number, Takes-take, Takes-fits}
 use Rattle.ddt_wire.proofs.AddressLaws.{address_is_bytes}
 use Rattle.ddt_wire.proofs.AddressesLaws.{addresses_spell, addresses_are_bytes}
 use Rattle.ddt_wire.proofs.EidLaws.{eid_takes, eid_again}
@@ -53,10 +52,10 @@ pub mask_len_fits : (p : List ℕ) → IsPrefix p → written_mask_len p < 256
 mask_len_fits p (form, h, e) = rw (form_of-named p form e h) (mask_small form h)
 
 four : (a b c d : ℕ) → a < 256 → b < 256 → c < 256 → d < 256 → IsBytes (a ∷ b ∷ c ∷ d ∷ [])
-four a b c d ha hb hc hd = IsBytes-cons a (b ∷ c ∷ d ∷ []) ha (IsBytes-cons b (c ∷ d ∷ []) hb (IsBytes-cons c (d ∷ []) hc (IsBytes-cons d [] hd IsBytes-nil)))
+four a b c d ha hb hc hd = two_bytes a b ha hb beside two_bytes c d hc hd
 
 before_is_bytes : IsBytes before_written
-before_is_bytes = IsBytes-append (1 ∷ 100 ∷ 255 ∷ 0 ∷ []) (to_be_bytes w16 1) (four 1 100 255 0 (omega arith) (omega arith) (omega arith) (omega arith)) (IsBytes-number 2 1)
+before_is_bytes = four 1 100 255 0 (omega arith) (omega arith) (omega arith) (omega arith) beside IsBytes-number 2 1
 
 pub written_spells : (nonce : ℕ) (r : ReferralRecord) → IsRecord nonce r → Spells (written nonce r) (message_of nonce r)
 written_spells nonce r h =
@@ -79,10 +78,8 @@ written_spells nonce r h =
 
 lcaf_is_bytes : (r f m iid : ℕ) (inner : List ℕ) → IsInstance r f m iid → IsBytes inner → IsBytes (instance_lcaf r f m iid inner)
 lcaf_is_bytes r f m iid inner h i =
-    let a = IsBytes-append (to_be_bytes w16 16387) (r ∷ f ∷ 2 ∷ m ∷ []) (IsBytes-number 2 16387) (four r f 2 m h.reserved_fits h.flags_fits (omega arith) h.mask_fits) in
-    let b = IsBytes-append (to_be_bytes w16 16387 ++ (r ∷ f ∷ 2 ∷ m ∷ [])) (to_be_bytes w16 (4 + length inner)) a (IsBytes-number 2 (4 + length inner)) in
-    let c = IsBytes-append (to_be_bytes w16 16387 ++ (r ∷ f ∷ 2 ∷ m ∷ []) ++ to_be_bytes w16 (4 + length inner)) (to_be_bytes w32 iid) b (IsBytes-number 4 iid) in
-    IsBytes-append (instance_head r f m iid (length inner)) inner c i
+    IsBytes-number 2 16387 beside four r f 2 m h.reserved_fits h.flags_fits (omega arith) h.mask_fits
+    beside IsBytes-number 2 (4 + length inner) beside IsBytes-number 4 iid beside i
 
 pub eid_is_bytes : (mask : ℕ) (bytes p : List ℕ) → SpellsEid mask bytes p → IsBytes bytes
 eid_is_bytes mask bytes p (Plain a fits le is value) = subst IsBytes (sym is) (address_is_bytes a)
@@ -91,10 +88,8 @@ eid_is_bytes mask bytes p (Instances r f len iid h le zeros is value) = subst Is
 
 pub message_is_bytes : (bytes : List ℕ) (v : Message) → Spells bytes v → IsBytes bytes
 message_is_bytes bytes v s =
-    let front = head_bytes 6 s.ignored.reserved (head_spelled s.ignored s.mask v) in
-    let a = head_is_bytes 6 s.ignored.reserved (head_spelled s.ignored s.mask v) (head_fits bytes v s) in
-    let b = IsBytes-append front s.eid a (eid_is_bytes s.mask s.eid v.prefix s.spells_eid) in
-    subst IsBytes (sym s.whole) (IsBytes-append (front ++ s.eid) s.locators b (addresses_are_bytes 6 v.locators s.locators s.spells_locators))
+    let head = head_is_bytes 6 s.ignored.reserved (head_spelled s.ignored s.mask v) (head_fits bytes v s) in
+    subst IsBytes (sym s.whole) (head beside eid_is_bytes s.mask s.eid v.prefix s.spells_eid beside addresses_are_bytes 6 v.locators s.locators s.spells_locators)
 
 -- ---- at most one, and faults
 

@@ -12,7 +12,9 @@ use Rattle.ddt_reading.proofs.ByteLemmas.{Stands, ◌followed_by◌, stands, num
 use Rattle.ddt_ecm.specs.declared.fault.RequestFault.{RequestFault}
 use Rattle.ddt_ecm.specs.declared.fault.RequestFault.TheVariants.{Short, IpVersion}
 use Rattle.ddt_ecm.specs.Checksum.{ones_sum, is_right}
-use Rattle.ddt_ecm.specs.IpHeader.{pseudo4, pseudo6, Ipv4Header, ipv4_fields, SpellsIpv4, Ipv6Header, ipv6_fields, SpellsIpv6, SpellsIp, Version4, Version6, header_len, has_length4, has_length6, ipv4_at, ipv6_at, ip_at}
+use Rattle.ddt_ecm.specs.Ipv4Header.{pseudo4, Ipv4Header, ipv4_fields, SpellsIpv4, header_len, has_length4, ipv4_at}
+use Rattle.ddt_ecm.specs.Ipv6Header.{pseudo6, Ipv6Header, ipv6_fields, SpellsIpv6, has_length6, ipv6_at}
+use Rattle.ddt_ecm.specs.IpHeader.{SpellsIp, Version4, Version6, ip_at}
 
 -- what was read of a packet: a datagram behind a pseudo-header of this sum
 pub record IsPacket (ip : List ℕ) (sum : ℕ) (udp : List ℕ) : Type 0 where

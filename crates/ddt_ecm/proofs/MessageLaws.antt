@@ -18,10 +18,13 @@ use Rattle.ddt_wire.proofs.AddressesLaws.{addresses_are_bytes}
 use Rattle.ddt_wire.proofs.WrittenLaws.{eid_is_bytes}
 use Rattle.ddt_ecm.specs.declared.fault.RequestFault.{RequestFault}
 use Rattle.ddt_ecm.specs.Checksum.{ones_sum}
-use Rattle.ddt_ecm.specs.IpHeader.{Ipv4Header, ipv4_fields, Ipv6Header, ipv6_fields, SpellsIp, Version4, Version6, ip_at}
+use Rattle.ddt_ecm.specs.Ipv4Header.{Ipv4Header, ipv4_fields}
+use Rattle.ddt_ecm.specs.Ipv6Header.{Ipv6Header, ipv6_fields}
+use Rattle.ddt_ecm.specs.IpHeader.{SpellsIp, Version4, Version6, ip_at}
 use Rattle.ddt_ecm.specs.UdpHeader.{udp_fields, SpellsUdp, udp_at}
 use Rattle.ddt_ecm.specs.MapRequest.{SpellsSource, Absent, Plain, Lcaf, SpellsRequest, map_request_at}
-use Rattle.ddt_ecm.specs.Request.{Message, ecm_fields, Spells, ecm_at, message_in}
+use Rattle.ddt_ecm.specs.Request.{Message, Spells, message_in}
+use Rattle.ddt_ecm.specs.EcmHeader.{ecm_fields, ecm_at}
 use Rattle.ddt_ecm.proofs.UdpLaws.{udp_takes, udp_again, udp_some}
 use Rattle.ddt_ecm.proofs.IpLaws.{ip_takes, ip_again, pseudo_words}
 use Rattle.ddt_ecm.proofs.RequestLaws.{bit_of, bit-le, bit_again, request_takes, request_again}

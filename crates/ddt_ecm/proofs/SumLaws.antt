@@ -5,7 +5,7 @@ use Rattle.std.proofs.lemmas.Bool.{cases_lt, lt-ltb, le-ltb, ne_eqb}
 use Rattle.ddt_reading.specs.Steps.{IsBytes}
 use Rattle.ddt_reading.proofs.ByteLemmas.{IsBytes-drop, IsBytes-append, IsBytes-number}
 use Rattle.ddt_ecm.specs.Checksum.{ones_add, ones_sum, complement}
-use Rattle.ddt_ecm.specs.Written.{not_absent}
+use Rattle.ddt_ecm.specs.UdpHeader.{not_absent}
 
 -- the plain sum of the words
 abbrev pub words : List ℕ → ℕ

@@ -17,11 +17,13 @@ use Rattle.ddt_reading.proofs.ByteLemmas.{◌beside◌, two_bytes, IsBytes-nil, 
 use Rattle.ddt_wire.proofs.AddressesLaws.{addresses_spell}
 use Rattle.ddt_wire.proofs.WrittenLaws.{eid_spells}
 use Rattle.ddt_ecm.specs.Checksum.{ones_sum, complement}
-use Rattle.ddt_ecm.specs.IpHeader.{pseudo4, pseudo6, Ipv4Header, ipv4_fields, SpellsIpv4, Ipv6Header, ipv6_fields, SpellsIpv6, SpellsIp, Version4, Version6}
-use Rattle.ddt_ecm.specs.UdpHeader.{SpellsUdp}
-use Rattle.ddt_ecm.specs.MapRequest.{Ignored, Absent, SpellsRequest}
-use Rattle.ddt_ecm.specs.Request.{ecm_fields, Spells, message_in}
-use Rattle.ddt_ecm.specs.Written.{written_map_request, udp_header, not_absent, written_udp, ipv4_header, written_ipv4, written_ipv6, packet, packet4, packet6, source4, source6, ecm_header, written}
+use Rattle.ddt_ecm.specs.Ipv4Header.{pseudo4, Ipv4Header, ipv4_fields, SpellsIpv4, ipv4_header, written_ipv4}
+use Rattle.ddt_ecm.specs.Ipv6Header.{pseudo6, Ipv6Header, ipv6_fields, SpellsIpv6, written_ipv6}
+use Rattle.ddt_ecm.specs.IpHeader.{SpellsIp, Version4, Version6, packet, packet4, packet6, source4, source6}
+use Rattle.ddt_ecm.specs.UdpHeader.{udp_fields, SpellsUdp, not_absent, written_udp}
+use Rattle.ddt_ecm.specs.MapRequest.{Ignored, Absent, SpellsRequest, written_map_request}
+use Rattle.ddt_ecm.specs.EcmHeader.{ecm_fields, ecm_header}
+use Rattle.ddt_ecm.specs.Request.{Spells, message_in, written}
 use Rattle.ddt_ecm.specs.Laws.{IsRequest, message_of}
 use Rattle.ddt_ecm.proofs.ChecksumLemmas.{ones_sum-append}
 use Rattle.ddt_ecm.proofs.SumLaws.{folded, checksum_right, present_right}
@@ -87,15 +89,15 @@ unfolding written_udp ports
 udp_spells k pseudo message even pseudo_fits fits few =
     let sum = ones_sum 0 pseudo in
     let len = 8 + length message in
-    let c = not_absent (complement (ones_sum sum (udp_header len 0 ++ message))) in
+    let c = not_absent (complement (ones_sum sum (udp_fields 4342 len 0 ++ message))) in
     let small = (folded 0 pseudo (omega arith) pseudo_fits).small in
     let right = present_right sum 3 (ports len) message small refl (ports_are_bytes len) fits in
     record {
       checksum = c;
       port_fits = omega arith;
       len_fits = omega arith;
-      checksum_fits = present_fits (complement (ones_sum sum (udp_header len 0 ++ message))) (omega arith);
-      right = inr (ones_sum-append k pseudo (udp_header len c ++ message) 0 even ∙ right);
+      checksum_fits = present_fits (complement (ones_sum sum (udp_fields 4342 len 0 ++ message))) (omega arith);
+      right = inr (ones_sum-append k pseudo (udp_fields 4342 len c ++ message) 0 even ∙ right);
       whole = refl;
     }
 

@@ -4,8 +4,7 @@ use Rattle.std.specs.List.{AllByRecursion}
 use Rattle.ddt_path.specs.declared.locator.Locator.{Locator}
 use Rattle.ddt_path.specs.declared.xeid.Xeid.{Xeid}
 use Rattle.ddt_wire.specs.Address.{IsAddress}
-use Rattle.ddt_ecm.specs.Request.{Message, Spells, message_in}
-use Rattle.ddt_ecm.specs.Written.{written}
+use Rattle.ddt_ecm.specs.Request.{Message, Spells, message_in, written}
 
 -- what a request can be written for: numbers in the ranges of their types, and 1 to 32 ITR-RLOCs
 pub record IsRequest (nonce : ℕ) (x : Xeid) (rlocs : List Locator) : Type 0 where

@@ -1,5 +1,6 @@
 -- A Map-Request for one EID (RFC 9301, section 5.2).
-use Rattle.std.specs.Prelude.{ℕ, ◌+◌, ◌*◌, ◌/◌, ◌%◌, ◌^◌, ◌<◌, ◌≡◌, ◌==◌, ◌&&◌, Bool, false, not, nat_lt, if◌then◌else◌, List, [], ◌∷◌, ◌++◌, length, drop, slice_index, Result, Ok, Err}
+use Rattle.std.specs.Prelude.{ℕ, ◌+◌, ◌-◌, ◌*◌, ◌/◌, ◌%◌, ◌^◌, ◌<◌, ◌≡◌, ◌==◌, ◌&&◌, Bool, false, not, nat_lt, if◌then◌else◌, List, [], ◌∷◌, ◌++◌, length, drop, slice_index, Result, Ok, Err}
+use Rattle.std.specs.List.{flat_map}
 use Rattle.std.specs.Int.{w16, w32, w64, to_be_bytes}
 use Rattle.byteorder.specs.Endian.{big_number}
 use Rattle.ddt_path.specs.declared.locator.Locator.{Locator}
@@ -15,7 +16,7 @@ use Rattle.ddt_wire.specs.declared.eid.EidFault.TheVariants as eid_fault
 use Rattle.ddt_reading.specs.Steps.{◌>>=◌, in_words, IsBytes}
 use Rattle.ddt_wire.specs.Address.{family_and_address, IsAddress}
 use Rattle.ddt_wire.specs.Addresses.{SpellsAddresses, addresses_at}
-use Rattle.ddt_wire.specs.Eid.{SpellsEid, eid_at}
+use Rattle.ddt_wire.specs.Eid.{SpellsEid, written_eid, eid_at}
 use Rattle.ddt_wire.specs.Referral.{bit}
 use Rattle.ddt_ecm.specs.declared.fault.RequestFault.{RequestFault}
 use Rattle.ddt_ecm.specs.declared.fault.RequestFault.TheVariants as fault
@@ -68,6 +69,18 @@ pub record SpellsRequest (bytes : List ℕ) (nonce : ℕ) (x : Xeid) (rlocs : Li
   pub none_after : with_map ≡ false → after ≡ []
   pub whole : bytes ≡ request_fields ignored with_map irc nonce ++ source ++ itr_rlocs
       ++ (ignored.reserved ∷ address_width x.address ∷ []) ++ eid ++ after
+
+-- ---- what is written
+
+-- type 1 and no flag, IRC and one record, the nonce, and a source EID of AFI 0
+abbrev pub map_request_head : ℕ → List Locator → List ℕ
+map_request_head nonce rlocs = (16 ∷ 0 ∷ (length rlocs - 1) ∷ 1 ∷ []) ++ to_be_bytes w64 nonce ++ to_be_bytes w16 0
+
+-- the ITR-RLOCs, a reserved byte, the whole width as mask length, and the EID
+abbrev pub written_map_request : ℕ → Xeid → List Locator → List ℕ
+written_map_request nonce x rlocs =
+    map_request_head nonce rlocs ++ flat_map family_and_address rlocs ++ (0 ∷ address_width x.address ∷ [])
+    ++ written_eid (xeid_path x)
 
 -- ---- the first fault
 

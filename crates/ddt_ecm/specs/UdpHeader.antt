@@ -4,7 +4,7 @@ use Rattle.std.specs.Int.{w16, to_be_bytes}
 use Rattle.byteorder.specs.Endian.{big_number}
 use Rattle.ddt_ecm.specs.declared.fault.RequestFault.{RequestFault}
 use Rattle.ddt_ecm.specs.declared.fault.RequestFault.TheVariants.{UdpLength, UdpChecksum, Port}
-use Rattle.ddt_ecm.specs.Checksum.{ones_sum, is_right}
+use Rattle.ddt_ecm.specs.Checksum.{ones_sum, is_right, complement}
 
 -- ---- what spells a datagram
 
@@ -22,6 +22,18 @@ pub record SpellsUdp (pseudo bytes : List ℕ) (port : ℕ) (message : List ℕ)
   pub checksum_fits : checksum < 2 ^ 16
   pub right : (checksum ≡ 0) ⊎ (ones_sum 0 (pseudo ++ bytes) ≡ 65535)
   pub whole : bytes ≡ udp_fields port (8 + length message) checksum ++ message
+
+-- ---- what is written
+
+-- a checksum of 0 would count as absent
+abbrev pub not_absent : ℕ → ℕ
+not_absent checksum = if checksum == 0 then 65535 else checksum
+
+-- a datagram behind a pseudo-header of this sum
+unfoldable pub written_udp : ℕ → List ℕ → List ℕ
+written_udp pseudo message =
+    let len = 8 + length message in
+    udp_fields 4342 len (not_absent (complement (ones_sum pseudo (udp_fields 4342 len 0 ++ message)))) ++ message
 
 -- ---- the first fault
 

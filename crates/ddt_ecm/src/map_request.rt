@@ -22,16 +22,18 @@
 
 ghost use Rattle.std.specs.Prelude.{◌≡◌, ◌≤◌, length, OnOk, IfOk};
 ghost use Rattle.ddt_path.specs.FormOf.{form_of};
-ghost use Rattle.ddt_ecm.specs.MapRequest.{source_at, host_of, xeid_at, head_at, map_request_at};
+ghost use Rattle.ddt_ecm.specs.Laws.{IsRequest};
+ghost use Rattle.ddt_ecm.specs.MapRequest.{written_map_request, source_at, host_of, xeid_at, head_at, map_request_at};
 
 use crate::fault::RequestFault;
-use crate::request::TYPE_SHIFT;
+use crate::ecm_header::TYPE_SHIFT;
 use byteorder::{BigEndian, ByteOrder};
-use ddt_path::{Form, Prefix, Xeid};
-use ddt_wire::{AddressFault, Addresses, EidFault, read_eid};
+use ddt_path::{Form, Locator, Prefix, Xeid};
+use ddt_wire::{AddressFault, Addresses, EidFault, read_eid, write_addresses, write_eid};
+use std::alloc::{AllocError, Global};
 
 /// The type of a Map-Request, in the first four bits.
-pub(crate) const MAP_REQUEST: u8 = 1;
+const MAP_REQUEST: u8 = 1;
 /// How many bits stand behind the bit M in the first byte.
 const M_SHIFT: u32 = 2;
 /// IRC is below this: it has five bits.
@@ -163,4 +165,21 @@ pub(crate) fn read_map_request(message: &[u8]) -> Result<(u64, Xeid, Rlocs<'_>),
         return Err(RequestFault::Trailing);
     }
     Ok((BigEndian::read_u64(&message[4..]), xeid, rlocs))
+}
+
+/// A Map-Request, of at most 622 bytes.
+pub(crate) fn map_request(alloc: Global, nonce: u64, x: Xeid, rlocs: &[Locator]) -> Result<Vec<u8>, AllocError>
+    requires some { 1 ≤ length rlocs.now }
+    requires few { length rlocs.now ≤ 32 }
+    ensures written { IfOk result (λ bytes. bytes.items ≡ written_map_request nonce x rlocs.now) }
+    ensures fits { OnOk result (IsRequest nonce x rlocs.now) }
+{
+    let mut bytes = Vec::new(alloc);
+    bytes.extend_from_slice(&[MAP_REQUEST << TYPE_SHIFT, 0, (rlocs.len() - 1) as u8, 1])?;
+    bytes.extend_from_slice(&nonce.to_be_bytes())?;
+    bytes.extend_from_slice(&[0, 0])?;
+    write_addresses(&mut bytes, &[], rlocs)?;
+    bytes.extend_from_slice(&[0, x.address.width()])?;
+    write_eid(&mut bytes, Prefix::host(x))?;
+    Ok(bytes)
 }

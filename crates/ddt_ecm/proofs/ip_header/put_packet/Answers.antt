@@ -1,4 +1,4 @@
-use Rattle.ddt_ecm.proofs.writing.put_packet.Goals as goal
+use Rattle.ddt_ecm.proofs.ip_header.put_packet.Goals as goal
 
 pub returns-in-V4 : goal.returns-in-V4
 returns-in-V4 c = rw c.in-V4.is (rw c.source4.ensures at c.put_packet4.ensures)

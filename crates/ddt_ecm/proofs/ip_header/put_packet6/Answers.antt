@@ -1,10 +1,11 @@
 use Rattle.std.proofs.Common.{◌+◌, length, ◌++◌}
 use Rattle.std.specs.Int.{w128, to_be_bytes}
 use Rattle.ddt_ecm.specs.Checksum.{ones_sum}
-use Rattle.ddt_ecm.specs.IpHeader.{pseudo6}
-use Rattle.ddt_ecm.specs.Written.{written_ipv6, written_udp, packet6}
+use Rattle.ddt_ecm.specs.Ipv6Header.{pseudo6, written_ipv6}
+use Rattle.ddt_ecm.specs.UdpHeader.{written_udp}
+use Rattle.ddt_ecm.specs.IpHeader.{packet6}
 use Rattle.ddt_ecm.proofs.WritingLemmas.{two_appends}
-use Rattle.ddt_ecm.proofs.writing.put_packet6.Goals as goal
+use Rattle.ddt_ecm.proofs.ip_header.put_packet6.Goals as goal
 
 pub returns : goal.returns
 unfolding packet6 written_ipv6

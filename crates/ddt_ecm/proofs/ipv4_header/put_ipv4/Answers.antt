@@ -1,8 +1,8 @@
 use Rattle.std.proofs.Common.{ℕ, ◌-◌, ap, ◌∙◌}
 use Rattle.ddt_ecm.specs.Checksum.{ones_sum}
-use Rattle.ddt_ecm.specs.Written.{ipv4_header, written_ipv4}
+use Rattle.ddt_ecm.specs.Ipv4Header.{ipv4_header, written_ipv4}
 use Rattle.ddt_ecm.proofs.WritingLemmas.{appended}
-use Rattle.ddt_ecm.proofs.writing.put_ipv4.Goals as goal
+use Rattle.ddt_ecm.proofs.ipv4_header.put_ipv4.Goals as goal
 
 pub returns : goal.returns
 unfolding written_ipv4

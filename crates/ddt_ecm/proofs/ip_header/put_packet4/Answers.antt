@@ -1,10 +1,11 @@
 use Rattle.std.proofs.Common.{◌+◌, length, ◌++◌}
 use Rattle.std.specs.Int.{w32, to_be_bytes}
 use Rattle.ddt_ecm.specs.Checksum.{ones_sum}
-use Rattle.ddt_ecm.specs.IpHeader.{pseudo4}
-use Rattle.ddt_ecm.specs.Written.{written_ipv4, written_udp, packet4}
+use Rattle.ddt_ecm.specs.Ipv4Header.{pseudo4, written_ipv4}
+use Rattle.ddt_ecm.specs.UdpHeader.{written_udp}
+use Rattle.ddt_ecm.specs.IpHeader.{packet4}
 use Rattle.ddt_ecm.proofs.WritingLemmas.{two_appends}
-use Rattle.ddt_ecm.proofs.writing.put_packet4.Goals as goal
+use Rattle.ddt_ecm.proofs.ip_header.put_packet4.Goals as goal
 
 pub returns : goal.returns
 unfolding packet4

@@ -1,5 +1,5 @@
 use Rattle.ddt_ecm.proofs.WrittenLaws.{vector_spells, read_again}
-use Rattle.ddt_ecm.proofs.writing.write_request.Goals as goal
+use Rattle.ddt_ecm.proofs.request.write_request.Goals as goal
 
 pub returns-clause-spelled : goal.returns-clause-spelled
 returns-clause-spelled c = vector_spells c.args.nonce c.args.x c.args.rlocs.now c.args.ddt c.encapsulated.result c.encapsulated.ensures.written c.encapsulated.ensures.fits

@@ -4,6 +4,8 @@ use Rattle.std.specs.List.{AllByRecursion}
 use Rattle.ddt_path.specs.declared.locator.Locator.{Locator}
 use Rattle.ddt_path.specs.declared.xeid.Xeid.{Xeid}
 use Rattle.ddt_wire.specs.Address.{IsAddress}
+use Rattle.ddt_reading.specs.Steps.{IsBytes}
+use Rattle.ddt_reading.specs.Reader.{AreRead}
 use Rattle.ddt_ecm.specs.Request.{Message, Spells, message_in, written}
 
 -- what a request can be written for: numbers in the ranges of their types, and 1 to 32 ITR-RLOCs
@@ -18,6 +20,10 @@ pub record IsRequest (nonce : ℕ) (x : Xeid) (rlocs : List Locator) : Type 0 wh
 -- the message of a request that is written, which comes from port 4342
 abbrev pub message_of : ℕ → Xeid → List Locator → Bool → Message
 message_of n x ls d = record { nonce = n; ddt = d; port = 4342; xeid = x; rlocs = ls }
+
+-- what is spelled is read, and what is read is spelled
+abbrev pub RequestsAreRead : Type 0
+RequestsAreRead = AreRead IsBytes Spells message_in
 
 -- what is written spells what was to be written
 abbrev pub WrittenSpells : Type 0

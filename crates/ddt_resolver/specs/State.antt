@@ -6,7 +6,7 @@ use Rattle.std.specs.FinMap.{FinMap, insert, remove, empty, code}
 use Rattle.ddt_path.specs.declared.locator.Locator.{Locator}
 use Rattle.ddt_path.specs.declared.xeid.Xeid.{Xeid}
 use Rattle.ddt_path.specs.declared.record.ReferralRecord.{ReferralRecord}
-use Rattle.ddt_ecm.specs.Written.{written}
+use Rattle.ddt_ecm.specs.Request.{written}
 use Rattle.ddt_cache.specs.declared.entry.Entry.{Entry}
 use Rattle.ddt_cache.specs.Live.{Known, known_code, nothing_known}
 use Rattle.ddt_cache.specs.Live as cache

@@ -6,11 +6,12 @@ use Rattle.ddt_path.specs.declared.form.Form.{Form}
 use Rattle.ddt_path.specs.declared.record.ReferralRecord.{ReferralRecord}
 use Rattle.ddt_path.specs.Path.{path, IsForm}
 use Rattle.ddt_reading.specs.Steps.{IsBytes}
+use Rattle.ddt_reading.specs.Reader.{AreRead}
 use Rattle.ddt_wire.specs.Address.{IsAddress}
 use Rattle.ddt_wire.specs.Eid.{SpellsEid, written_eid, written_mask_len, eid_at}
 use Rattle.ddt_wire.specs.declared.negative_reply.NegativeReply.{NegativeReply}
-use Rattle.ddt_wire.specs.Referral.{Spells, message_of, message_record, written}
-use Rattle.ddt_wire.specs.NegativeReply.{SpellsReply, written_reply}
+use Rattle.ddt_wire.specs.Referral.{Spells, message_of, message_record, written, message_in}
+use Rattle.ddt_wire.specs.NegativeReply.{SpellsReply, written_reply, reply_in}
 
 -- the path of a prefix
 abbrev pub IsPrefix : List ℕ → Type 0
@@ -23,6 +24,10 @@ pub record IsRecord (nonce : ℕ) (r : ReferralRecord) : Type 0 where
   pub prefix_is : IsPrefix r.prefix
   pub count_fits : length r.servers ≤ 8
   pub servers_fit : AllByRecursion IsAddress r.servers
+
+-- what is spelled is read, and what is read is spelled
+abbrev pub MessagesAreRead : Type 0
+MessagesAreRead = AreRead IsBytes Spells message_in
 
 -- what is written spells what was to be written
 abbrev pub WrittenSpells : Type 0
@@ -37,6 +42,10 @@ pub record IsReply (v : NegativeReply) : Type 0 where
   pub nonce_fits : v.nonce < 2 ^ 64
   pub ttl_fits : v.ttl < 2 ^ 32
   pub prefix_is : IsPrefix v.prefix
+
+-- and so are its bytes
+abbrev pub RepliesAreRead : Type 0
+RepliesAreRead = AreRead IsBytes SpellsReply reply_in
 
 -- what is written spells what was to be written
 abbrev pub WrittenReplySpells : Type 0

@@ -28,8 +28,8 @@ use Rattle.ddt_ecm.specs.Laws.{IsRequest, message_of}
 use Rattle.ddt_ecm.proofs.ChecksumLemmas.{ones_sum-append}
 use Rattle.ddt_ecm.proofs.SumLaws.{folded, checksum_right, present_right}
 use Rattle.ddt_ecm.proofs.WritingLemmas.{request_small}
-use Rattle.ddt_ecm.proofs.RequestLaws.{full_is_prefix, form_of_full}
-use Rattle.ddt_ecm.proofs.MessageLaws.{request_is_bytes, message_again}
+use Rattle.ddt_ecm.proofs.MapRequestLaws.{full_is_prefix, form_of_full}
+use Rattle.ddt_ecm.proofs.RequestLaws.{request_is_bytes, message_again}
 
 -- ---- the Map-Request
 

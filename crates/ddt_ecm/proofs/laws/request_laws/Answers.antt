@@ -1,4 +1,4 @@
-use Rattle.ddt_ecm.proofs.MessageLaws.{messages_are_read}
+use Rattle.ddt_ecm.proofs.RequestLaws.{messages_are_read}
 use Rattle.ddt_ecm.proofs.WrittenLaws.{written_spells, written_is_read}
 use Rattle.ddt_ecm.proofs.laws.request_laws.Goals as goal
 

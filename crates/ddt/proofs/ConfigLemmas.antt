@@ -10,13 +10,13 @@ use Rattle.ddt_path.specs.declared.locator.Locator.TheVariants.{V4, V6}
 use Rattle.ddt_path.specs.Locators.{is_same_locator, lists}
 use Rattle.ddt_register.specs.declared.group.Group.{Group}
 use Rattle.ddt_register.specs.declared.register.Register.{Register}
-use Rattle.ddt_check.specs.Zones.{group_named}
+use Rattle.ddt_check.specs.Zones.{group_named, first_locator}
 use Rattle.ddt_config.specs.declared.config.ServerConfig.{ServerConfig}
 use Rattle.ddt_config.specs.Shaped.{is_server_set}
 use Rattle.ddt_config.specs.Table.{Outline, outline}
 use Rattle.ddt_compile.specs.GroupConfig.{group_config, config_named}
 use Rattle.ddt_compile.specs.Laws.{IsHonestConfig, HasRoom}
-use Rattle.ddt.specs.Answer.{first_locator, IsConfigOfGroup}
+use Rattle.ddt.specs.Answer.{IsConfigOfGroup}
 
 -- a group of this name, of which c is the configuration
 abbrev pub IsConfigOf : Register → List ℕ → ServerConfig → Type 0

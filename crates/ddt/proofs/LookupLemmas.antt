@@ -40,7 +40,7 @@ use Rattle.ddt.specs.Lookup.{AreAllTold, AreTold, Asks, IsLookupText, xeid_words
 
 -- the line of a hop over honest servers, as its reply spells it, is what the register says
 replied_said : MessagesAreRead → (r : Register) (x : Xeid) (me_ : Locator) (hop : Hop) → IsHonestHop r x me_ hop → replied_line hop ≡ said_line r x hop
-replied_said laws r x me_ hop (nonce, sent, spells) = ap (read_line hop.to) (laws hop.reply (message_of nonce (says r hop.to (xeid_path x))) spells)
+replied_said laws r x me_ hop (nonce, sent, spells) = ap (read_line hop.to) (laws.read hop.reply (message_of nonce (says r hop.to (xeid_path x))) spells)
 
 replied_all : MessagesAreRead → (r : Register) (x : Xeid) (me_ : Locator) (hops : List Hop) → All (IsHonestHop r x me_) hops → flat_map replied_line hops ≡ flat_map (said_line r x) hops
 replied_all laws r x me_ [] all = refl

@@ -7,6 +7,7 @@ use Rattle.ddt_config.specs.declared.config.ServerConfig.{ServerConfig}
 use Rattle.ddt_config.specs.declared.fault.ConfigFault.{ConfigFault}
 use Rattle.ddt_config.specs.declared.fault.ConfigFault.TheVariants.{Toml, Field, Value, Shape, Memory}
 use Rattle.ddt_config.specs.Entries.{entry_count}
+use Rattle.ddt_trie.specs.PrefixMap.{most_entries}
 use Rattle.ddt_config.specs.Table.{StandsFor, config_in_text, outline}
 use Rattle.ddt.specs.Serve.{IsBadConfig, IsConfigFault, config_refusal, no_room, of_text}
 
@@ -19,5 +20,5 @@ bad_text bytes Shape u h = of_text u (h (λ e. cc))
 bad_text bytes Memory u h = tt
 
 -- a configuration that a server has no room for
-pub too_large : (bytes : List ℕ) (c : ServerConfig) → IsUtf8 bytes → StandsFor bytes c → false ≡ nat_lt (entry_count (outline c)) 1048576 → IsConfigFault bytes Shape
-too_large bytes c u s f = no_room u s (λ room. false≢true (f ∙ lt-ltb (entry_count (outline c)) 1048576 room))
+pub too_large : (bytes : List ℕ) (c : ServerConfig) → IsUtf8 bytes → StandsFor bytes c → false ≡ nat_lt (entry_count (outline c)) most_entries → IsConfigFault bytes Shape
+too_large bytes c u s f = no_room u s (λ room. false≢true (f ∙ lt-ltb (entry_count (outline c)) most_entries room))

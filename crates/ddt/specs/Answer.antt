@@ -1,10 +1,8 @@
 -- What the program answers for a group and an identifier: the bytes of the Map-Referral for nonce 1 (RFC 8111, section
 -- 6.4).
-use Rattle.std.specs.Prelude.{ℕ, ◌≡◌, List, [], ◌∷◌, Option, Some, option_map, Ok}
-use Rattle.ddt_path.specs.declared.locator.Locator.{Locator}
-use Rattle.ddt_path.specs.declared.locator.Locator.TheVariants.{V4}
+use Rattle.std.specs.Prelude.{ℕ, ◌≡◌, List, Option, Some, option_map, Ok}
 use Rattle.ddt_register.specs.declared.register.Register.{Register}
-use Rattle.ddt_check.specs.Zones.{group_named}
+use Rattle.ddt_check.specs.Zones.{group_named, first_locator}
 use Rattle.ddt_register.specs.declared.group.Group.{Group}
 use Rattle.ddt_check.specs.Says.{says}
 use Rattle.ddt_config.specs.declared.config.ServerConfig.{ServerConfig}
@@ -19,11 +17,6 @@ use Rattle.ddt_lines.specs.Lines.{ended}
 use Rattle.ddt_words.specs.Call.{Call}
 use Rattle.ddt.specs.Assign.{xeid_of}
 use Rattle.ddt.specs.Compile.{group_of}
-
--- The first locator of a group. An accepted register has no group without one; this gives 0.0.0.0 there.
-abbrev pub first_locator : List Locator → Locator
-first_locator [] = V4 0
-first_locator (l ∷ ls) = l
 
 -- The answer of the group of this name; none where no group has the name.
 abbrev pub group_answer : Register → List ℕ → List ℕ → Option (List ℕ)

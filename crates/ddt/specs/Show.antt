@@ -6,6 +6,7 @@ use Rattle.hex.specs.declared.error.FromHexError.TheVariants as hex
 use Rattle.ddt_wire.specs.declared.fault.ReferralFault.{ReferralFault}
 use Rattle.ddt_wire.specs.declared.negative_reply.NegativeReply.{NegativeReply}
 use Rattle.ddt_wire.specs.declared.negative_reply.ReplyFault.{ReplyFault}
+use Rattle.ddt_wire.specs.MessageType.{map_reply, map_referral, encapsulated}
 use Rattle.ddt_wire.specs.NegativeReply.{reply_in}
 use Rattle.ddt_wire.specs.Referral as referral
 use Rattle.ddt_ecm.specs.declared.fault.RequestFault.{RequestFault}
@@ -56,10 +57,10 @@ IsWhyNoRequest bytes why =
 -- wanted
 abbrev pub IsWhyNoMessage : List ℕ → Refusal → Type 0
 IsWhyNoMessage bytes why =
-    ((type_of bytes ≡ Some 2) × IsWhyNoReply bytes why)
-    ⊎ ((type_of bytes ≡ Some 6) × IsWhyNoReferral bytes why)
-    ⊎ ((type_of bytes ≡ Some 8) × IsWhyNoRequest bytes why)
-    ⊎ ((type_of bytes ≢ Some 2) × (type_of bytes ≢ Some 6) × (type_of bytes ≢ Some 8)
+    ((type_of bytes ≡ Some map_reply) × IsWhyNoReply bytes why)
+    ⊎ ((type_of bytes ≡ Some map_referral) × IsWhyNoReferral bytes why)
+    ⊎ ((type_of bytes ≡ Some encapsulated) × IsWhyNoRequest bytes why)
+    ⊎ ((type_of bytes ≢ Some map_reply) × (type_of bytes ≢ Some map_referral) × (type_of bytes ≢ Some encapsulated)
     × (why ≡ NoMessage UnknownMessage))
 
 -- what is refused where decoding a word ends in this fault

@@ -8,6 +8,7 @@ ghost use Rattle.ddt_check.specs.Zones.{group_named};
 ghost use Rattle.ddt_config.specs.Answer.{answer};
 ghost use Rattle.ddt_config.specs.Entries.{entry_count};
 ghost use Rattle.ddt_config.specs.Table.{outline};
+ghost use Rattle.ddt_trie.specs.PrefixMap.{most_entries};
 ghost use Rattle.ddt_wire.specs.Referral.{written};
 ghost use Rattle.ddt.specs.Answer.{group_answer, IsConfigOfGroup};
 
@@ -53,7 +54,7 @@ fn config_of_group(
 
 /// What a server of this configuration replies to a request of nonce 1.
 fn answer_by(alloc: Global, config: ServerConfig, x: Xeid) -> Result<Vec<u8>, AllocError>
-    requires { entry_count (outline config) < 1048576 }
+    requires { entry_count (outline config) < most_entries }
     ensures { IfOk result (λ bytes. bytes.items ≡ written 1 (answer (outline config) (xeid_path x))) }
 {
     let Ok(server) = Server::<TrieMap<u32>>::build(alloc, config) else {

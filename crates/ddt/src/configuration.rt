@@ -3,6 +3,7 @@
 ghost use Rattle.std.specs.Prelude.{◌≡◌, ◌<◌, ℕ, List, None, IsErr, IfOk, IfErr};
 ghost use Rattle.ddt_config.specs.Entries.{entry_count};
 ghost use Rattle.ddt_config.specs.Table.{outline};
+ghost use Rattle.ddt_trie.specs.PrefixMap.{most_entries};
 ghost use Rattle.ddt.specs.Register.{Tells};
 ghost use Rattle.ddt.specs.Serve.{IsBadConfig, IsServedConfig, IsWhyNoConfig, config_refusal};
 
@@ -22,7 +23,7 @@ pub fn config_at<F: Read + Drop>(
 ) -> Result<ServerConfig, Refusal<'_>>
     ensures spelled { IfOk result (λ c. (bytes : List ℕ) → Tells F.remaining source bytes
         → IsServedConfig bytes (outline c)) }
-    ensures room { IfOk result (λ c. entry_count (outline c) < 1048576) }
+    ensures room { IfOk result (λ c. entry_count (outline c) < most_entries) }
     ensures refused { IfErr result (IsWhyNoConfig F.remaining source path.now) }
     ensures closed { source ≡ None → IsErr result }
 {

@@ -3,6 +3,7 @@
 ghost use Rattle.std.specs.Prelude.{◌≡◌, ◌<◌, IfOk, IfErr};
 ghost use Rattle.ddt_config.specs.Entries.{entry_count};
 ghost use Rattle.ddt_config.specs.Table.{outline};
+ghost use Rattle.ddt_trie.specs.PrefixMap.{most_entries};
 ghost use Rattle.ddt_lines.specs.Lines.{ended};
 ghost use Rattle.ddt.specs.Serve.{IsServedText, IsWhyUnserved, ServesOver, served_text};
 ghost use Rattle.ddt.specs.Sockets.{Binds};
@@ -30,7 +31,7 @@ pub fn serve_at<W, B>(
 where
     W: Wires,
     B: Fn(&mut W, Locator) -> io::Result<()> + Drop,
-    requires room { entry_count (outline config) < 1048576 }
+    requires room { entry_count (outline config) < most_entries }
     requires binds { B.IsAlwaysCallable bind }
     ensures text { IfOk result (λ text. IsServedText (ServesOver (Binds B.Fn bind) W.calls wires.old wires.new)
         (outline config) at turns text.items) }

@@ -5,8 +5,8 @@ use Rattle.std.specs.FinMap.{get, insert, remove, contains_key}
 use Rattle.std.proofs.lemmas.Bool.{and_parts, and_from, cond-true, ltb-true}
 use Rattle.std.proofs.Math.Nat.{le-max_left}
 use Rattle.ddt_path.specs.declared.locator.Locator.{Locator}
-use Rattle.ddt_path.specs.declared.record.Action.{Action}
-use Rattle.ddt_path.specs.declared.record.Action.TheVariants.{NodeReferral, MsReferral, MsAck, MsNotRegistered, DelegationHole, NotAuthoritative}
+use Rattle.ddt_path.specs.declared.action.Action.{Action}
+use Rattle.ddt_path.specs.declared.action.Action.TheVariants.{NodeReferral, MsReferral, MsAck, MsNotRegistered, DelegationHole, NotAuthoritative}
 use Rattle.ddt_path.specs.declared.record.ReferralRecord.{ReferralRecord}
 use Rattle.ddt_trie.specs.PrefixMap.{IsCovered, IsLongest}
 use Rattle.ddt_trie.proofs.MapLemmas.{IsLongest-unique}

@@ -9,7 +9,7 @@ use Rattle.ddt_trie.specs.PrefixMap.{path_cmp}
 use Rattle.ddt_trie.proofs.EntryLemmas.{tied, tied-true}
 use Rattle.ddt_cache.specs.declared.entry.Entry.{Entry}
 use Rattle.ddt_cache.specs.Live.{is_live, live_at}
-use Rattle.ddt_cache.specs.Saved.{has_room, most_entries}
+use Rattle.ddt_cache.specs.Saved.{has_room, most_live_entries}
 use Rattle.ddt_cache.proofs.LiveLemmas.{Entries, if_live, get-live_at, same}
 
 -- ---- a map without some keys
@@ -91,35 +91,35 @@ len-live_at t m = subst (λ (n : Entries). len n ≤ len m) is (len-without (fil
 
 -- ---- at most 65,536 entries
 
-pub len_dropped : (t : ℕ) (m n : Entries) → n ≡ live_at t m → len m ≤ most_entries → len n ≤ most_entries
+pub len_dropped : (t : ℕ) (m n : Entries) → n ≡ live_at t m → len m ≤ most_live_entries → len n ≤ most_live_entries
 len_dropped t m n is le =
     let a = len-live_at t m in
     let b : len n ≡ len (live_at t m) = ap (λ (l : Entries). len l) is in
     omega (arith, a, b, le)
 
-pub len_removed : (m n : Entries) (p : List ℕ) → n ≡ remove m p → len m ≤ most_entries → len n ≤ most_entries
+pub len_removed : (m n : Entries) (p : List ℕ) → n ≡ remove m p → len m ≤ most_live_entries → len n ≤ most_live_entries
 len_removed m n p is le =
     let a : len n ≡ cond (contains_key m p) (len m - 1) (len m) = ap (λ (l : Entries). len l) is ∙ len-remove nat_list_cmp_total m p in
     let b = fewer (contains_key m p) (len m) in
     omega (arith, a, b, le)
 
-pub len_none : (m : Entries) → m ≡ empty → len m ≤ most_entries
+pub len_none : (m : Entries) → m ≡ empty → len m ≤ most_live_entries
 len_none m is = let a : len m ≡ 0 = ap (λ (l : Entries). len l) is ∙ len-empty path_cmp Entry in omega (arith, a)
 
-pub room_below : (m : Entries) (p : List ℕ) → len m < most_entries → has_room m p ≡ true
-room_below m p lt = ap (λ b. contains_key m p || b) (lt-ltb (len m) most_entries lt) ∙ or_true (contains_key m p)
+pub room_below : (m : Entries) (p : List ℕ) → len m < most_live_entries → has_room m p ≡ true
+room_below m p lt = ap (λ b. contains_key m p || b) (lt-ltb (len m) most_live_entries lt) ∙ or_true (contains_key m p)
   where
     or_true : (b : Bool) → (b || true) ≡ true
     or_true true = refl
     or_true false = refl
 
 pub len_inserted : (m n : Entries) (p : List ℕ) (e : Entry) → n ≡ insert m p e → has_room m p ≡ true
-    → len m ≤ most_entries → len n ≤ most_entries
+    → len m ≤ most_live_entries → len n ≤ most_live_entries
 len_inserted m n p e is room le =
     let a : len n ≡ cond (contains_key m p) (len m) (len m + 1) = ap (λ (l : Entries). len l) is ∙ len-insert nat_list_cmp_total m p e in
-    let b : cond (contains_key m p) (len m) (len m + 1) ≤ most_entries = by_key (contains_key m p) room in
+    let b : cond (contains_key m p) (len m) (len m + 1) ≤ most_live_entries = by_key (contains_key m p) room in
     omega (arith, a, b)
   where
-    by_key : (b : Bool) → (b || nat_lt (len m) most_entries) ≡ true → cond b (len m) (len m + 1) ≤ most_entries
+    by_key : (b : Bool) → (b || nat_lt (len m) most_live_entries) ≡ true → cond b (len m) (len m + 1) ≤ most_live_entries
     by_key true h = le
-    by_key false h = let lt = ltb-true (len m) most_entries h in omega (arith, lt)
+    by_key false h = let lt = ltb-true (len m) most_live_entries h in omega (arith, lt)

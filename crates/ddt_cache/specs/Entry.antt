@@ -1,9 +1,10 @@
 -- What is kept of a record, and how long: its TTL is in minutes (RFC 8111, section 6.4), an end in milliseconds.
 use Rattle.std.specs.Prelude.{ℕ, ◌+◌, ◌*◌, min, Bool, true, false, List}
 use Rattle.ddt_path.specs.declared.locator.Locator.{Locator}
-use Rattle.ddt_path.specs.declared.record.Action.{Action}
-use Rattle.ddt_path.specs.declared.record.Action.TheVariants.{NodeReferral, MsReferral, MsAck, MsNotRegistered, DelegationHole, NotAuthoritative}
+use Rattle.ddt_path.specs.declared.action.Action.{Action}
+use Rattle.ddt_path.specs.declared.action.Action.TheVariants.{NodeReferral, MsReferral, MsAck, MsNotRegistered, DelegationHole, NotAuthoritative}
 use Rattle.ddt_path.specs.declared.record.ReferralRecord.{ReferralRecord}
+use Rattle.ddt_path.specs.Records.{positive_ttl, hole_ttl, not_authoritative_ttl}
 use Rattle.ddt_cache.specs.declared.entry.Entry.{Entry}
 use Rattle.ddt_cache.specs.Moment.{minute}
 
@@ -25,14 +26,22 @@ is_negative MsNotRegistered = true
 is_negative DelegationHole = true
 is_negative NotAuthoritative = false
 
--- how many minutes a record of an action is kept at most: a day, a quarter of an hour, not at all
+-- how many minutes a positive record is kept at most: a day, as honest servers allow
+abbrev pub most_positive_minutes : ℕ
+most_positive_minutes = positive_ttl
+
+-- how many minutes a negative record is kept at most: a quarter of an hour, as honest servers allow for a hole
+abbrev pub most_negative_minutes : ℕ
+most_negative_minutes = hole_ttl
+
+-- how many minutes a record of an action is kept at most
 abbrev pub most_minutes : Action → ℕ
-most_minutes NodeReferral = 1440
-most_minutes MsReferral = 1440
-most_minutes MsAck = 1440
-most_minutes MsNotRegistered = 15
-most_minutes DelegationHole = 15
-most_minutes NotAuthoritative = 0
+most_minutes NodeReferral = most_positive_minutes
+most_minutes MsReferral = most_positive_minutes
+most_minutes MsAck = most_positive_minutes
+most_minutes MsNotRegistered = most_negative_minutes
+most_minutes DelegationHole = most_negative_minutes
+most_minutes NotAuthoritative = not_authoritative_ttl
 
 -- the end of a record that is saved at a time
 abbrev pub end_of : ℕ → ReferralRecord → ℕ

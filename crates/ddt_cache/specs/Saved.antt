@@ -10,8 +10,8 @@ use Rattle.ddt_cache.specs.Entry.{is_positive, is_negative, entry_of}
 use Rattle.ddt_cache.specs.Live.{Known}
 
 -- how many live entries a cache has at most
-abbrev pub most_entries : ℕ
-most_entries = 65536
+abbrev pub most_live_entries : ℕ
+most_live_entries = 65536
 
 -- whether a record names a server, for a prefix that isn't everything
 abbrev pub names_servers : ReferralRecord → Bool
@@ -23,7 +23,7 @@ savable r = nat_lt 0 r.ttl && (is_negative r.action || (is_positive r.action && 
 
 -- whether there is room for an entry of a prefix: it takes the place of one, or there are fewer than 65,536
 abbrev pub has_room : FinMap path_cmp Entry → List ℕ → Bool
-has_room live p = contains_key live p || nat_lt (len live) most_entries
+has_room live p = contains_key live p || nat_lt (len live) most_live_entries
 
 -- whether a record is saved among the live entries
 abbrev pub is_saved : FinMap path_cmp Entry → ReferralRecord → Bool

@@ -32,7 +32,7 @@ impl<M: PrefixMap<Entry>> Model for Cache<M> {
     ghost use Rattle.ddt_cache.specs.contracts.entry.Entry as entry;
     ghost use Rattle.ddt_cache.specs.Entry.{root_entry};
     ghost use Rattle.ddt_cache.specs.Live.{Known, known_code, known_of};
-    ghost use Rattle.ddt_cache.specs.Saved.{most_entries};
+    ghost use Rattle.ddt_cache.specs.Saved.{most_live_entries};
     ghost use Rattle.ddt_cache.specs.InOrder.{IsInOrder};
 
     ghost Value = { Known };
@@ -42,7 +42,7 @@ impl<M: PrefixMap<Entry>> Model for Cache<M> {
     ghost view = { λ c. known_of c.time (M.content c.held.entries) c.held.root.servers };
 
     ghost invariant = { λ c. (c.held.root ≡ root_entry c.held.root.servers)
-        × (map.len (M.content c.held.entries) ≤ most_entries)
+        × (map.len (M.content c.held.entries) ≤ most_live_entries)
         × IsInOrder (known_of c.time (M.content c.held.entries) c.held.root.servers) };
 }
 

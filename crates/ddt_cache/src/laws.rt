@@ -4,6 +4,7 @@ ghost use Rattle.std.specs.Prelude.{◌≡◌, ◌<◌, ◌≤◌, ℕ, IsTrue, 
 ghost use Rattle.std.specs.FinMap as map;
 ghost use Rattle.ddt_path.specs.declared.locator.Locator.{Locator as LocatorValue};
 ghost use Rattle.ddt_path.specs.declared.record.ReferralRecord.{ReferralRecord as RecordValue};
+ghost use Rattle.ddt_path.specs.Locators.{most_locators};
 ghost use Rattle.ddt_cache.specs.declared.entry.Entry.{Entry as EntryValue};
 ghost use Rattle.ddt_cache.specs.Moment.{last_moment};
 ghost use Rattle.ddt_cache.specs.Entry.{end_of, entry_of};
@@ -34,8 +35,9 @@ pub fn one_is_found()
 
 /// What holds of each cache is kept by each call.
 pub fn order_is_kept()
-    ensures empty { (roots : List LocatorValue) → length roots ≤ 8 → IsInOrder (nothing_known roots) }
+    ensures empty { (roots : List LocatorValue) → length roots ≤ most_locators → IsInOrder (nothing_known roots) }
     ensures moved { (k : Known) (now : ℕ) → now ≤ last_moment → IsInOrder k → IsInOrder (moved now k) }
-    ensures stored { (k : Known) (r : RecordValue) → length r.servers ≤ 8 → IsInOrder k → IsInOrder (stored_in k r) }
+    ensures stored { (k : Known) (r : RecordValue) → length r.servers ≤ most_locators → IsInOrder k →
+        IsInOrder (stored_in k r) }
     ensures forgotten { (k : Known) (p : List ℕ) → IsInOrder k → IsInOrder (forgotten k p) }
 {}

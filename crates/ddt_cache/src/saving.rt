@@ -2,24 +2,25 @@
 
 ghost use Rattle.std.specs.Prelude.{◌≡◌, ◌<◌, ◌≤◌, length, IsTrue, IfOk, OnOk, OnErr, IsOk};
 ghost use Rattle.std.specs.FinMap as map;
+ghost use Rattle.ddt_path.specs.Locators.{most_locators};
 ghost use Rattle.ddt_cache.specs.Moment.{last_moment};
-ghost use Rattle.ddt_cache.specs.Entry.{most_minutes as most_minutes_of, entry_of};
+ghost use Rattle.ddt_cache.specs.Entry.{most_positive_minutes, most_minutes as most_minutes_of, entry_of};
 ghost use Rattle.ddt_cache.specs.Live.{live_at};
-ghost use Rattle.ddt_cache.specs.Saved.{most_entries, savable, has_room, is_saved, saving, stored};
+ghost use Rattle.ddt_cache.specs.Saved.{most_live_entries, savable, has_room, is_saved, saving, stored};
 
 use crate::entry::{Entry, Saved};
-use ddt_path::{Action, Prefix, ReferralRecord};
+use ddt_path::{Action, HOLE_TTL, NOT_AUTHORITATIVE_TTL, POSITIVE_TTL, Prefix, ReferralRecord};
 use ddt_trie::PrefixMap;
 use std::alloc::AllocError;
 
 /// How many live entries a cache has at most.
-pub const MOST_ENTRIES: usize = 65536;
+pub const MOST_LIVE_ENTRIES: usize = 65536;
 
-/// How many minutes a positive record is kept at most: a day.
-const MOST_POSITIVE_MINUTES: u32 = 1440;
+/// How many minutes a positive record is kept at most: a day, as honest servers allow.
+const MOST_POSITIVE_MINUTES: u32 = POSITIVE_TTL;
 
-/// How many minutes a negative record is kept at most.
-const MOST_NEGATIVE_MINUTES: u32 = 15;
+/// How many minutes a negative record is kept at most: as honest servers allow for a hole.
+const MOST_NEGATIVE_MINUTES: u32 = HOLE_TTL;
 
 /// How many milliseconds a minute has.
 const MINUTE: u64 = 60_000;
@@ -27,12 +28,12 @@ const MINUTE: u64 = 60_000;
 /// How many minutes a record of an action is kept at most.
 fn most_minutes(action: Action) -> u32
     ensures value { result ≡ most_minutes_of action }
-    ensures bound { result ≤ 1440 }
+    ensures bound { result ≤ most_positive_minutes }
 {
     match action {
         Action::NodeReferral | Action::MsReferral | Action::MsAck => MOST_POSITIVE_MINUTES,
         Action::MsNotRegistered | Action::DelegationHole => MOST_NEGATIVE_MINUTES,
-        Action::NotAuthoritative => 0,
+        Action::NotAuthoritative => NOT_AUTHORITATIVE_TTL,
     }
 }
 
@@ -59,17 +60,17 @@ pub(crate) fn drop_ended<M: PrefixMap<Entry>>(entries: &mut M, time: u64)
 /// Whether there is room for an entry of a prefix. Where 65,536 entries are there, those that have ended are removed
 /// first.
 fn make_room<M: PrefixMap<Entry>>(entries: &mut M, time: u64, prefix: Prefix) -> bool
-    requires { map.len (M.content entries.old) ≤ most_entries }
+    requires { map.len (M.content entries.old) ≤ most_live_entries }
     ensures live { live_at time (M.content entries.new) ≡ live_at time (M.content entries.old) }
     ensures room { result ≡ has_room (live_at time (M.content entries.old)) prefix }
     ensures left { IsTrue result → IsTrue (has_room (M.content entries.new) prefix) }
-    ensures bound { map.len (M.content entries.new) ≤ most_entries }
+    ensures bound { map.len (M.content entries.new) ≤ most_live_entries }
 {
-    if entries.len() < MOST_ENTRIES {
+    if entries.len() < MOST_LIVE_ENTRIES {
         return true;
     }
     drop_ended(entries, time);
-    entries.get(prefix).is_some() || entries.len() < MOST_ENTRIES
+    entries.get(prefix).is_some() || entries.len() < MOST_LIVE_ENTRIES
 }
 
 /// The entry of a record that is saved at a time.
@@ -91,17 +92,17 @@ pub(crate) fn save_among<M: PrefixMap<Entry>>(
     time: u64,
     referral: &ReferralRecord,
 ) -> Result<Saved, AllocError>
-    requires few { map.len (M.content entries.old) ≤ most_entries }
+    requires few { map.len (M.content entries.old) ≤ most_live_entries }
     requires moment { time ≤ last_moment }
     ensures stored { OnOk result (live_at time (M.content entries.new) ≡
         stored time (live_at time (M.content entries.old)) referral.now) }
     ensures answer { IfOk result (λ saved. saved ≡ saving (live_at time (M.content entries.old)) referral.now) }
-    ensures bound { map.len (M.content entries.new) ≤ most_entries }
+    ensures bound { map.len (M.content entries.new) ≤ most_live_entries }
     ensures unchanged { OnErr result (live_at time (M.content entries.new) ≡ live_at time (M.content entries.old)) }
     ensures wanted { OnErr result (IsTrue (is_saved (live_at time (M.content entries.old)) referral.now)) }
     ensures replaced { IsTrue (map.contains_key (live_at time (M.content entries.old)) referral.now.prefix) →
         IsOk result }
-    ensures servers { length referral.now.servers ≤ 8 }
+    ensures servers { length referral.now.servers ≤ most_locators }
 {
     // The slice tells the proof that a set holds at most 8 locators.
     let _few = referral.servers.as_slice();

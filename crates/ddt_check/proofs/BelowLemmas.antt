@@ -1,21 +1,18 @@
 -- A walk over zones in order that keeps one zone of Map-Servers: what it says of the zones to come.
-use Rattle.std.proofs.Common.{◌≡◌, ◌⊎◌, ℕ, ◌+◌, ◌<◌, ◌≤◌, Bool, true, false, not, List, [], ◌∷◌, length, get_or, IsPermutation, Option, Some, None, inl, inr, refl, sym, ap, subst, ◌∙◌, arith}
+use Rattle.std.proofs.Common.{◌≡◌, ℕ, ◌+◌, ◌<◌, ◌≤◌, true, false, not, List, length, get_or, Option, Some, None, inl, inr, refl, sym, ap, subst, ◌∙◌, arith}
 use Rattle.std.specs.Prelude.{◌&&◌, ⊤}
 use Rattle.std.specs.List.{list_any}
-use Rattle.std.proofs.lemmas.Bool.{true≢false, false≢true, both_ways, false_from_ne_true, and_parts, and_from, and_cases, cases_lt, not-true, not_from_false, not-false}
-use Rattle.std.proofs.lemmas.List.Sorted.{Contains-permutation, IsPermutation-sym}
-use Rattle.std.proofs.lemmas.List.Elements.{Contains-get_or}
+use Rattle.std.proofs.lemmas.Bool.{false≢true, both_ways, false_from_ne_true, and_parts, and_from, and_cases, cases_lt, not-true, not_from_false, not-false}
 use Rattle.ddt_path.specs.Covers.{covers, is_strictly_below}
 use Rattle.ddt_path.proofs.CoverLemmas.{covers_self, covers_trans}
 use Rattle.ddt_register.specs.declared.zone.Zone.{Zone}
-use Rattle.ddt_register.specs.declared.register.Register.{Register}
 use Rattle.ddt_check.specs.Zones.{is_ms}
-use Rattle.ddt_check.specs.Rules.{is_below_map_server}
 use Rattle.ddt_check.specs.Order.{IsInOrder}
 use Rattle.ddt_check.specs.Below.{is_under, is_within, is_top}
-use Rattle.ddt_path.proofs.MemberLemmas.{IsIn, in_contained, contained}
-use Rattle.ddt_check.proofs.LeastLemmas.{get_or-same}
-use Rattle.ddt_check.proofs.OrderLemmas.{IsUpTo, iff_same, covers-between, covers-back, any_in, in_any, far}
+use Rattle.ddt_path.proofs.MemberLemmas.{IsIn, in_contained, contained, iff_same, any_in, in_any}
+use Rattle.std.proofs.lemmas.List.{get_or_default}
+use Rattle.ddt_check.proofs.OrderLemmas.{far}
+use Rattle.ddt_path.proofs.PathOrderLemmas.{IsUpTo, covers-between, covers-back}
 
 abbrev prefix : Zone → List ℕ
 prefix z = z.prefix
@@ -75,7 +72,7 @@ module _ (zones : List Zone) (sorted : IsInOrder prefix zone_row zones) where
       let p = and_parts (is_ms f.0.kind) (is_strictly_below w.prefix f.0.prefix) f.2 in
       let s = and_parts (covers f.0.prefix w.prefix) (not (covers w.prefix f.0.prefix)) p.1 in
       let c = contained zones f.0 f.1 in
-      let at : f.0 ≡ get_or zones c.0 w = sym c.2 ∙ get_or-same zones c.0 f.0 w c.1 in
+      let at : f.0 ≡ get_or zones c.0 w = sym c.2 ∙ get_or_default zones c.0 f.0 w c.1 in
       elim (cases_lt c.0 i) [
         | inl before ↦
             under-of_within top f.0.prefix w.prefix
@@ -107,7 +104,7 @@ module _ (zones : List Zone) (sorted : IsInOrder prefix zone_row zones) where
   before i j top w d lt is state low ms x above inside =
       let y = (get_or zones j d).prefix in
       let held = state.widest j d low ms x (λ k less. above k (omega arith)) inside in
-      let here : w ≡ get_or zones i d = is ∙ get_or-same zones i w d lt in
+      let here : w ≡ get_or zones i d = is ∙ get_or_default zones i w d lt in
       let next = subst (λ (z : Zone). IsUpTo z.prefix x) (sym here) (above i (omega arith)) in
       let up = subst (λ (z : Zone). IsUpTo y z.prefix) (sym here) (up_to j i d (omega arith) lt) in
       (held, within_trans top y w.prefix held (covers-between y w.prefix x up next inside))
@@ -128,7 +125,7 @@ module _ (zones : List Zone) (sorted : IsInOrder prefix zone_row zones) where
           | inl less ↦ absurd (both_ways (is_within top w.prefix) (not-true (is_within top w.prefix) p.1)
               (before i j top w d lt is state less ms x above inside).1)
           | inr same ↦ let eq : j ≡ i = omega arith in
-              let here : w ≡ get_or zones j d = is ∙ get_or-same zones i w d lt ∙ ap (λ (k : ℕ). get_or zones k d)
+              let here : w ≡ get_or zones j d = is ∙ get_or_default zones i w d lt ∙ ap (λ (k : ℕ). get_or zones k d)
               (sym eq) in
               subst (λ (z : Zone). covers w.prefix z.prefix ≡ true) here (covers_self w.prefix)
         ];
@@ -142,7 +139,7 @@ module _ (zones : List Zone) (sorted : IsInOrder prefix zone_row zones) where
         widest = λ j d low ms x above inside. elim (cases_lt j i) [
           | inl less ↦ (before i j top w d lt is state less ms x above inside).0
           | inr same ↦ let eq : j ≡ i = omega arith in
-              let here : w ≡ get_or zones j d = is ∙ get_or-same zones i w d lt ∙ ap (λ (k : ℕ). get_or zones k d)
+              let here : w ≡ get_or zones j d = is ∙ get_or_default zones i w d lt ∙ ap (λ (k : ℕ). get_or zones k d)
               (sym eq) in
               subst (λ (z : Zone). is_within top z.prefix ≡ true) here
               (elim (and_cases (is_ms w.kind) (not (is_within top w.prefix)) e) [

@@ -1,17 +1,11 @@
 -- Pairs of numbers as keys, and the first item of a key in an earlier row.
-use Rattle.std.proofs.Common.{◌≡◌, ℕ, ◌+◌, ◌<◌, ◌≤◌, Bool, true, false, cond, List, [], ◌∷◌, length, get_or, take, find, Option, Some, None, Ordering, Less, Equal, Greater, inl, inr, refl, sym, ap, subst, ◌∙◌, arith}
+use Rattle.std.proofs.Common.{◌≡◌, ℕ, ◌+◌, Bool, true, false, cond, List, get_or, Ordering, Less, Equal, Greater, refl, sym, ap, ◌∙◌}
 use Rattle.std.specs.Prelude.{◌==◌, ◌&&◌, ◌||◌, nat_lt}
-use Rattle.std.specs.List.{list_any}
 use Rattle.std.specs.List.Sorted.{IsSortedByKey}
-use Rattle.std.specs.Option.{option_map_or}
 use Rattle.std.specs.Ordering.{nat_cmp, is_lt, ordering_then}
 use Rattle.std.specs.Cmp.Lexicographic.{slice_cmp}
-use Rattle.std.proofs.lemmas.Bool.{true≢false, false≢true, both_ways, false_from_ne_true, and_parts, and_from, ltb-true, lt-ltb, le-ltb, cases_lt}
-use Rattle.ddt_check.specs.Order.{in_order, IsInOrder}
+use Rattle.ddt_check.specs.Order.{IsInOrder}
 use Rattle.ddt_check.specs.Columns.{key_list}
-use Rattle.ddt_path.proofs.MemberLemmas.{IsIn}
-use Rattle.ddt_check.proofs.RestoreLemmas.{Rising}
-use Rattle.ddt_check.proofs.OrderLemmas.{iff_same, any_in, in_any}
 
 pair_cases : (l e m f : Bool)
     → is_lt (ordering_then (cond l Less (cond e Equal Greater)) (ordering_then (cond m Less (cond f Equal Greater)) Equal)) ≡ (l || (e && m))

@@ -1,11 +1,9 @@
 -- Each hole, and each part of a site that isn't registered, is a free prefix; and the numbers of each answer are such as
 -- a message holds.
-use Rattle.std.proofs.Common.{◌≡◌, ℕ, zero, suc, ◌<◌, ◌≤◌, Bool, true, false, cond, ◌&&◌, ◌||◌, ◌==◌, List, [], ◌∷◌, length, map, take, drop, Option, Some, None, refl, sym, ap, subst, ◌∙◌, arith, inl, inr}
-use Rattle.std.specs.Prelude.{nat_lt, nat_le, unwrap_or}
-use Rattle.std.specs.List.{filter, list_any, list_all}
+use Rattle.std.proofs.Common.{◌≡◌, ℕ, ◌≤◌, Bool, true, false, cond, ◌==◌, List, [], length, map, Option, Some, None, refl, sym, ap, ◌∙◌, arith}
+use Rattle.std.specs.Prelude.{unwrap_or}
+use Rattle.std.specs.List.{filter}
 use Rattle.std.specs.Option.{option_map_or}
-use Rattle.std.proofs.lemmas.Bool.{and_parts, and_from, or_cases, or_left, or_right, false≢true, eqb-true, ltb-true, le-leb}
-use Rattle.std.proofs.lemmas.Option.{same_Some, none-some}
 use Rattle.ddt_path.specs.declared.locator.Locator.{Locator}
 use Rattle.ddt_path.specs.declared.record.Role.{Role}
 use Rattle.ddt_path.specs.declared.record.Role.TheVariants.{Node, Ms}
@@ -15,12 +13,12 @@ use Rattle.ddt_path.specs.declared.record.ReferralRecord.{ReferralRecord}
 use Rattle.ddt_path.specs.Records.{record_of, not_authoritative}
 use Rattle.ddt_path.specs.Covers.{covers, is_strictly_below}
 use Rattle.ddt_path.specs.Free.{free, longest_match, hole_of}
-use Rattle.ddt_path.specs.Path.{are_binary, is_address_part, is_address_front, is_path, is_prefix_path}
-use Rattle.ddt_path.proofs.CoverLemmas.{length-covered}
+use Rattle.ddt_path.specs.Path.{is_path, is_prefix_path}
+use Rattle.ddt_path.proofs.PathTestLemmas.{prefix_that_covers}
 use Rattle.ddt_path.proofs.HoleLemmas.{none_free_covered}
 use Rattle.ddt_path.proofs.FrontLemmas.{below_parts}
-use Rattle.ddt_path.proofs.MemberLemmas.{IsIn, in_filter, holds_at, all_kept, list_any-map, found_in}
-use Rattle.ddt_path.proofs.ChosenLemmas.{longest_member}
+use Rattle.ddt_path.proofs.MemberLemmas.{IsIn, any_in, holds_at, list_any-map, found_in}
+use Rattle.ddt_path.specs.declared.matching.Preference.TheVariants.{Longest}
 use Rattle.ddt_register.specs.declared.zone.Zone.{Zone}
 use Rattle.ddt_register.specs.declared.site.Site.{Site}
 use Rattle.ddt_register.specs.declared.group.Group.{Group}
@@ -34,61 +32,12 @@ use Rattle.ddt_check.specs.Assignment.{assignment, assigned_in, assigned_site, p
 use Rattle.ddt_check.specs.Says.{referral_to, next_zone, says_from, says}
 use Rattle.ddt_check.specs.Rules.{IsAccepted}
 use Rattle.ddt_check.specs.Laws.{IsPartOfItsSite, IsSendable}
-use Rattle.ddt_check.proofs.AcceptedLemmas.{few_locators}
+use Rattle.ddt_check.proofs.KeptLemmas.{few_locators}
 use Rattle.ddt_check.proofs.SaysLemmas.{says_what_covers}
-use Rattle.ddt_check.proofs.LongestLemmas.{longest_found}
-use Rattle.ddt_check.proofs.RootLemmas.{zone_found, any_member}
-use Rattle.ddt_check.proofs.ZoneLemmas.{zone_prefix, site_prefix}
-
--- ---- what covers an identifier is a prefix
-
-binary_front : (q x : List ℕ) → covers q x ≡ true → are_binary x ≡ true → are_binary q ≡ true
-binary_front [] x c e = refl
-binary_front (d ∷ q) [] c e = absurd (false≢true c)
-binary_front (d ∷ q) (h ∷ x) c e =
-    let s = and_parts (d == h) (covers q x) c in
-    let b = and_parts (nat_lt h 2) (are_binary x) e in
-    and_from (nat_lt d 2) (are_binary q) (ap (λ (n : ℕ). nat_lt n 2) (eqb-true d h s.0) ∙ b.0) (binary_front q x s.1 b.1)
-
-fits_too : (symbol m n : ℕ) → m ≤ n → ((symbol == 4 && n == 32) || (symbol == 6 && n == 128)) ≡ true → ((symbol == 4 && nat_le m 32) || (symbol == 6 && nat_le m 128)) ≡ true
-fits_too symbol m n le e = elim (or_cases (symbol == 4 && n == 32) (symbol == 6 && n == 128) e) [
-  | inl four ↦
-      let p = and_parts (symbol == 4) (n == 32) four in
-      let is : n ≡ 32 = eqb-true n 32 p.1 in
-      let small : m ≤ 32 = omega arith in
-      or_left (symbol == 4 && nat_le m 32) (symbol == 6 && nat_le m 128) (and_from (symbol == 4) (nat_le m 32) p.0 (le-leb m 32 small))
-  | inr six ↦
-      let p = and_parts (symbol == 6) (n == 128) six in
-      let is : n ≡ 128 = eqb-true n 128 p.1 in
-      let small : m ≤ 128 = omega arith in
-      or_right (symbol == 4 && nat_le m 32) (symbol == 6 && nat_le m 128) (and_from (symbol == 6) (nat_le m 128) p.0 (le-leb m 128 small))
-]
-
-address_too : (q x : List ℕ) → covers q x ≡ true → is_address_part x ≡ true → is_address_front q ≡ true
-address_too [] x c e = refl
-address_too (d ∷ q) [] c e = absurd (false≢true c)
-address_too (d ∷ q) (h ∷ x) c e =
-    let s = and_parts (d == h) (covers q x) c in
-    let p = and_parts (are_binary x) ((h == 4 && length x == 32) || (h == 6 && length x == 128)) e in
-    and_from (are_binary q) ((d == 4 && nat_le (length q) 32) || (d == 6 && nat_le (length q) 128))
-    (binary_front q x s.1 p.0)
-    (ap (λ (symbol : ℕ). (symbol == 4 && nat_le (length q) 32) || (symbol == 6 && nat_le (length q) 128)) (eqb-true d h s.0) ∙ fits_too h (length q) (length x) (length-covered q x s.1) p.1)
-
-front_too : (n : ℕ) (q x : List ℕ) → covers q x ≡ true → are_binary (take n x) ≡ true → is_address_part (drop n x) ≡ true → (are_binary (take n q) ≡ true) × (is_address_front (drop n q) ≡ true)
-front_too zero q x c e f = (refl, address_too q x c f)
-front_too (suc n) [] x c e f = (refl, refl)
-front_too (suc n) (d ∷ q) [] c e f = absurd (false≢true c)
-front_too (suc n) (d ∷ q) (h ∷ x) c e f =
-    let s = and_parts (d == h) (covers q x) c in
-    let b = and_parts (nat_lt h 2) (are_binary (take n x)) e in
-    let rest = front_too n q x s.1 b.1 f in
-    (and_from (nat_lt d 2) (are_binary (take n q)) (ap (λ (m : ℕ). nat_lt m 2) (eqb-true d h s.0) ∙ b.0) rest.0, rest.1)
-
-pub prefix_that_covers : (q x : List ℕ) → is_path x ≡ true → covers q x ≡ true → is_prefix_path q ≡ true
-prefix_that_covers q x e c =
-    let p = and_parts (are_binary (take 32 x)) (is_address_part (drop 32 x)) e in
-    let both = front_too 32 q x c p.0 p.1 in
-    and_from (are_binary (take 32 q)) (is_address_front (drop 32 q)) both.0 both.1
+use Rattle.ddt_path.proofs.MatchingLemmas.{best_member, best_there, best_unbeaten}
+use Rattle.ddt_check.proofs.RootLemmas.{zone_found}
+use Rattle.ddt_check.proofs.ZoneLemmas.{zone_prefix, site_prefix, assigned_at}
+use Rattle.ddt_path.proofs.FilterLemmas.{in_filter, all_kept}
 
 -- ---- nothing but what covers an identifier leaves no hole
 
@@ -98,7 +47,7 @@ covered_by : {A : Type 0} (prefix : A → List ℕ) (test : A → Bool) (items :
 covered_by prefix test items authority x e are inside none =
     let prefixes = all_kept prefix is_prefix_path test items (λ a k t. are a k) in
     let some = none_free_covered authority (map prefix (filter test items)) x e prefixes inside none in
-    let found = any_member (λ a. covers (prefix a) x) (filter test items) (sym (list_any-map (λ p. covers p x) prefix (filter test items)) ∙ some) in
+    let found = any_in (λ a. covers (prefix a) x) (filter test items) (sym (list_any-map (λ p. covers p x) prefix (filter test items)) ∙ some) in
     let p = in_filter test items found.0 found.1 in
     (found.0, p.0, p.1, found.2)
 
@@ -113,9 +62,7 @@ module _ (r : Register) (accepted : IsAccepted r) where
     -- no longer item covers than the one that is found
     no_longer_covers : {A : Type 0} (prefix : A → List ℕ) (items : List A) (a b : A) → longest_match prefix items x ≡ Some a → IsIn b items → is_strictly_below (prefix b) (prefix a) ≡ true → covers (prefix b) x ≡ true → ⊥
     no_longer_covers prefix items a b at k below c =
-        let found = longest_found prefix x items b k c in
-        let same = same_Some found.0 a (sym found.1 ∙ at) in
-        let le = subst (λ w. length (prefix b) ≤ length (prefix w)) same found.2 in
+        let le : length (prefix b) ≤ length (prefix a) = best_unbeaten Longest prefix x items a b at k c in
         let lt = (below_parts (prefix b) (prefix a) below).1 in
         omega arith
 
@@ -128,7 +75,7 @@ module _ (r : Register) (accepted : IsAccepted r) where
 
     module _ (z : Zone) (here : zone_of r x ≡ Some z) where
       zone_in : IsIn z r.zones × (covers z.prefix x ≡ true)
-      zone_in = longest_member zone_prefix x r.zones z here
+      zone_in = best_member Longest zone_prefix x r.zones z here
 
       node_hole : (q : List ℕ) → hole_of z.prefix (prefixes_in r z Node) x ≡ q → free z.prefix (prefixes_in r z Node) x ≡ Some q
       node_hole q is = hole_is z.prefix (prefixes_in r z Node) q (λ none.
@@ -138,12 +85,11 @@ module _ (r : Register) (accepted : IsAccepted r) where
       ms_hole : (q : List ℕ) → site_of r x ≡ None → hole_of z.prefix (prefixes_in r z Ms) x ≡ q → free z.prefix (prefixes_in r z Ms) x ≡ Some q
       ms_hole q unsited is = hole_is z.prefix (prefixes_in r z Ms) q (λ none.
           let s = covered_by site_prefix (λ (t : Site). covers z.prefix t.prefix) r.sites z.prefix x e site_is_prefix zone_in.1 none in
-          let found = longest_found site_prefix x r.sites s.0 s.1 s.3 in
-          none-some found.0 (sym unsited ∙ found.1)) is
+          best_there Longest site_prefix x r.sites s.0 unsited s.1 s.3) is
 
       part_is : (s : Site) (q : List ℕ) → site_of r x ≡ Some s → part_of_site r s x ≡ q → free s.prefix (prefixes_below_site r s) x ≡ Some q
       part_is s q at is = hole_is s.prefix (prefixes_below_site r s) q (λ none.
-          let t = covered_by site_prefix (λ (u : Site). is_strictly_below u.prefix s.prefix) r.sites s.prefix x e site_is_prefix (longest_member site_prefix x r.sites s at).1 none in
+          let t = covered_by site_prefix (λ (u : Site). is_strictly_below u.prefix s.prefix) r.sites s.prefix x e site_is_prefix (best_member Longest site_prefix x r.sites s at).1 none in
           no_longer_covers site_prefix r.sites s t.0 at t.1 t.2 t.3) is
 
       -- ---- a hole
@@ -175,18 +121,15 @@ module _ (r : Register) (accepted : IsAccepted r) where
       part_by_role q servers Node is = absurd cc
       part_by_role q servers Ms is = part_sited q servers (site_of r x) refl is
 
-  assigned_at : (x : List ℕ) (z : Zone) → zone_of r x ≡ Some z → assignment r x ≡ assigned_in r z z.kind x
-  assigned_at x z e = ap (λ (found : Option Zone). option_map_or (λ (w : Zone). assigned_in r w w.kind x) found (Hole [])) e
-
   pub hole_is_free_in : (x q : List ℕ) → is_path x ≡ true → assignment r x ≡ Hole q → (z : Zone) × (zone_of r x ≡ Some z) × (free z.prefix (prefixes_in r z z.kind) x ≡ Some q)
   hole_is_free_in x q e is =
       let found = zone_found r accepted x in
-      (found.0, found.1, hole_by_role x e found.0 found.1 q found.0.kind (sym (assigned_at x found.0 found.1) ∙ is))
+      (found.0, found.1, hole_by_role x e found.0 found.1 q found.0.kind (sym (assigned_at r x found.0 found.1) ∙ is))
 
   pub part_is_free_in : (x q : List ℕ) (servers : List Locator) → is_path x ≡ true → assignment r x ≡ NotRegistered q servers → IsPartOfItsSite r x q servers
   part_is_free_in x q servers e is =
       let found = zone_found r accepted x in
-      part_by_role x e found.0 found.1 q servers found.0.kind (sym (assigned_at x found.0 found.1) ∙ is)
+      part_by_role x e found.0 found.1 q servers found.0.kind (sym (assigned_at r x found.0 found.1) ∙ is)
 
   -- ---- numbers of an answer
   pub locators_fit : (name : List ℕ) → are_locators (locators_of r name) ≡ true

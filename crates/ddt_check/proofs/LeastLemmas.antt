@@ -1,20 +1,16 @@
 -- The least row of the items so far that pass a test, with one more item; and in another order of the items.
-use Rattle.std.proofs.Common.{◌≡◌, ℕ, ◌+◌, ◌<◌, ◌≤◌, Bool, true, false, List, take, length, get_or, min, IsPermutation, Option, Some, None, inl, inr, refl, sym, ap, subst, ◌∙◌, arith, [], ◌∷◌, zero, suc}
+use Rattle.std.proofs.Common.{◌≡◌, ℕ, ◌+◌, ◌<◌, ◌≤◌, Bool, true, false, List, take, length, get_or, min, IsPermutation, Option, Some, None, inl, inr, refl, sym, ap, subst, ◌∙◌, arith, [], ◌∷◌}
 use Rattle.std.specs.Prelude.{◌==◌, ◌&&◌, ◌||◌, ◌≢◌}
 use Rattle.std.specs.List.{list_any}
 use Rattle.std.specs.Option.{option_map_or}
 use Rattle.std.proofs.lemmas.Bool.{cases_lt, eq-eqb, ne_eqb, or_from, or_left, or_right, and_right}
 use Rattle.std.proofs.lemmas.List.Folds.{list_any_more}
 use Rattle.std.proofs.lemmas.List.Sorted.{list_any-IsPermutation}
+use Rattle.std.proofs.lemmas.List.{get_or_default}
 use Rattle.std.proofs.Math.Seq.{take-length}
 use Rattle.ddt_check.specs.Rules.{IsLeastRow}
 use Rattle.ddt_check.specs.Columns.{lower_option}
 use Rattle.ddt_check.proofs.LeastRowLemmas.{IsLeastRow-same, item_at}
-
-pub get_or-same : {A : Type 0} (xs : List A) (i : ℕ) (c d : A) → i < length xs → get_or xs i c ≡ get_or xs i d
-get_or-same [] i c d lt = absurd (omega arith)
-get_or-same (x ∷ xs) zero c d lt = refl
-get_or-same (x ∷ xs) (suc i) c d lt = get_or-same xs i c d (omega arith)
 
 module _ {A : Type 0} (row : A → ℕ) (test : A → Bool) where
   one_more : (xs : List A) (i : ℕ) (x : A) → i < length xs → x ≡ get_or xs i x → (n : ℕ)
@@ -79,7 +75,7 @@ module _ {A : Type 0} (row : A → ℕ) (test : A → Bool) where
       → low ≡ option_map_or (λ l. min l (row (get_or xs i d))) least (row (get_or xs i d))
       → IsLeastRow (item_at row test (take i xs)) least → IsLeastRow (item_at row test (take (i + 1) xs)) (Some low)
   least_at xs i d least low lt e lows so_far = least_more xs i (get_or xs i d) least low lt
-      (get_or-same xs i d (get_or xs i d) lt) e lows so_far
+      (get_or_default xs i d (get_or xs i d) lt) e lows so_far
 
   -- the item at a place, without its name
   pub least_skip : (xs : List A) (i : ℕ) (least : Option ℕ) → i < length xs → ((d : A) → test (get_or xs i d) ≡ false)
@@ -87,7 +83,7 @@ module _ {A : Type 0} (row : A → ℕ) (test : A → Bool) where
   least_skip [] i least lt fails so_far = absurd (omega arith)
   least_skip (x ∷ xs) i least lt fails so_far =
       let y = get_or (x ∷ xs) i x in
-      least_same (x ∷ xs) i y least lt (get_or-same (x ∷ xs) i x y lt) (fails x) so_far
+      least_same (x ∷ xs) i y least lt (get_or_default (x ∷ xs) i x y lt) (fails x) so_far
 
   -- in another order of the items, after a walk over all
   pub least_of_all : (xs ys : List A) (n : ℕ) (least : Option ℕ) → IsPermutation xs ys → n ≤ length ys → length ys ≤ n

@@ -1,18 +1,14 @@
 pub mod ZoneLemmas
 pub mod LeastRowLemmas
-pub mod AcceptedLemmas
 pub mod HoleLemmas
 pub mod KeptLemmas
 pub mod ServedLemmas
 pub mod NextLemmas
 pub mod SiteLemmas
-pub mod LongestLemmas
 pub mod RootLemmas
 pub mod SaysLemmas
 pub mod NegativeLemmas
 pub mod FreeLemmas
-pub mod RestoreLemmas
-pub mod RegisterLemmas
 pub mod LeastLemmas
 pub mod OrderLemmas
 pub mod NameLemmas
@@ -21,3 +17,4 @@ pub mod OutsideLemmas
 pub mod ColumnLemmas
 pub mod WrongLemmas
 pub mod RuleLemmas
+pub mod HolderLemmas

@@ -1,16 +1,17 @@
 -- The first item of a key in a list whose rows rise, by the place where a search of the sorted list ends.
-use Rattle.std.proofs.Common.{◌≡◌, ℕ, ◌<◌, ◌≤◌, Bool, true, false, cond, List, [], ◌∷◌, length, get_or, IsPermutation, find, Option, Some, None, Ordering, Less, Equal, Greater, inl, inr, refl, sym, ap, subst, ◌∙◌, arith}
+use Rattle.std.proofs.Common.{◌≡◌, ℕ, ◌<◌, ◌≤◌, Bool, true, false, cond, List, [], ◌∷◌, length, get_or, IsPermutation, find, Option, Some, None, inl, inr, refl, sym, ap, subst, ◌∙◌, arith}
 use Rattle.std.specs.List.Sorted.{IsPartitionedBy, IsPartitionPoint}
-use Rattle.std.specs.Ordering.{nat_cmp, is_lt, is_eq, ordering_reverse}
-use Rattle.std.specs.Cmp.Lexicographic.{slice_cmp, nat_list_cmp_total, bytes_decides, texts_ties}
-use Rattle.std.proofs.lemmas.Bool.{true≢false, false≢true, both_ways, false_from_ne_true, cases_lt, cond-true}
+use Rattle.std.specs.Ordering.{nat_cmp, is_lt}
+use Rattle.std.specs.Cmp.Lexicographic.{slice_cmp, bytes_decides}
+use Rattle.std.proofs.lemmas.Bool.{true≢false, both_ways, false_from_ne_true, cases_lt}
 use Rattle.std.proofs.lemmas.List.Sorted.{Contains-permutation, IsPermutation-sym}
 use Rattle.ddt_path.specs.Covers.{is_same_path}
 use Rattle.ddt_check.specs.Order.{IsInOrder}
-use Rattle.ddt_path.proofs.MemberLemmas.{IsIn, in_at, in_contained, contained}
-use Rattle.ddt_check.proofs.RestoreLemmas.{Rising, moved_in}
-use Rattle.ddt_check.proofs.LeastLemmas.{get_or-same}
-use Rattle.ddt_check.proofs.OrderLemmas.{IsUpTo, far}
+use Rattle.ddt_path.proofs.MemberLemmas.{IsIn, in_at, contained, moved_in}
+use Rattle.ddt_register.proofs.RowOrderLemmas.{Rising}
+use Rattle.std.proofs.lemmas.List.{get_or_default}
+use Rattle.ddt_check.proofs.OrderLemmas.{far}
+use Rattle.ddt_path.proofs.PathOrderLemmas.{IsUpTo, lt_after, same_from_ties, not_below_itself}
 
 find_here : {A : Type 0} (test : A → Bool) (x g : A) (rest : Option A) (b : Bool) → test x ≡ b → x ≡ g → test g ≡ true
     → cond b (Some x) rest ≡ Some g
@@ -35,41 +36,6 @@ pub find_none : {A : Type 0} (test : A → Bool) (zs : List A) → ((h : A) → 
 find_none test [] none = refl
 find_none test (x ∷ zs) none = rw (none x (inl refl)) (find_none test zs (λ h k. none h (inr k)))
 
-lt_from : (a b c : List ℕ) (o : Ordering) → slice_cmp nat_cmp a b ≡ o → IsUpTo a b
-    → is_lt (slice_cmp nat_cmp b c) ≡ true → is_lt (slice_cmp nat_cmp a c) ≡ true
-lt_from a b c Less e up lt = ap is_lt (nat_list_cmp_total.trans a b c e (less (slice_cmp nat_cmp b c) lt))
-  where
-    less : (o : Ordering) → is_lt o ≡ true → o ≡ Less
-    less Less h = refl
-    less Equal h = absurd (false≢true h)
-    less Greater h = absurd (false≢true h)
-lt_from a b c Equal e up lt = ap is_lt (nat_list_cmp_total.congr a b c e) ∙ lt
-lt_from a b c Greater e up lt = absurd (true≢false
-    (sym (ap is_lt (nat_list_cmp_total.antisymm b a ∙ ap ordering_reverse e)) ∙ up))
-
--- what stands up to a path that stands below another stands below it
-pub lt_after : (a b c : List ℕ) → IsUpTo a b → is_lt (slice_cmp nat_cmp b c) ≡ true
-    → is_lt (slice_cmp nat_cmp a c) ≡ true
-lt_after a b c up lt = lt_from a b c (slice_cmp nat_cmp a b) refl up lt
-
-tie_of : (o p : Ordering) → o ≡ ordering_reverse p → is_lt o ≡ false → is_lt p ≡ false → is_eq o ≡ true
-tie_of o Less e f g = absurd (true≢false g)
-tie_of o Equal e f g = ap is_eq e
-tie_of o Greater e f g = absurd (true≢false (sym (ap is_lt e) ∙ f))
-
--- two that stand up to each other are one
-pub same_from_ties : (a b : List ℕ) → IsUpTo a b → IsUpTo b a → is_same_path a b ≡ true
-same_from_ties a b up down = texts_ties a b ∙ tie_of (slice_cmp nat_cmp a b) (slice_cmp nat_cmp b a)
-    (nat_list_cmp_total.antisymm a b) down up
-
-not_below_itself : (a b : List ℕ) → is_same_path a b ≡ true → is_lt (slice_cmp nat_cmp a b) ≡ false
-not_below_itself a b same = go (slice_cmp nat_cmp a b) (sym (texts_ties a b) ∙ same)
-  where
-    go : (o : Ordering) → is_eq o ≡ true → is_lt o ≡ false
-    go Less h = absurd (false≢true h)
-    go Equal h = refl
-    go Greater h = refl
-
 module _ {A : Type 0} (key : A → List ℕ) (row : A → ℕ) (xs : List A) (sorted : IsInOrder key row xs) (name : List ℕ)
   where
     abbrev pub is_below : A → Bool
@@ -89,7 +55,7 @@ module _ {A : Type 0} (key : A → List ℕ) (row : A → ℕ) (xs : List A) (so
           → (k : ℕ) × (at ≤ k) × (k < length xs) × (h ≡ get_or xs k d)
       placed_from h k e d =
           let c = Contains-permutation zs xs h moved (contained zs h k) in
-          let here : h ≡ get_or xs c.0 d = sym c.2 ∙ get_or-same xs c.0 h d c.1 in
+          let here : h ≡ get_or xs c.0 d = sym c.2 ∙ get_or_default xs c.0 h d c.1 in
           elim (cases_lt c.0 at) [
             | inl before ↦ absurd (both_ways (is_below h) (not_below_itself (key h) name e)
                 (subst (λ (x : A). is_below x ≡ true) (sym here) (point.0 c.0 d (omega arith) before)))
@@ -100,7 +66,7 @@ module _ {A : Type 0} (key : A → List ℕ) (row : A → ℕ) (xs : List A) (so
       found_key d inside e =
           let g = get_or xs at d in
           find_least row has_key zs g up
-          (moved_in xs zs (IsPermutation-sym zs xs moved) g (in_at xs at g inside (get_or-same xs at d g inside)))
+          (moved_in xs zs (IsPermutation-sym zs xs moved) g (in_at xs at g inside (get_or_default xs at d g inside)))
           e
           (λ h k f.
           let p = placed_from h k f d in

@@ -1,6 +1,6 @@
 -- What the assignment of one identifier says of others that its prefix covers.
-use Rattle.std.proofs.Common.{◌≡◌, ◌⊎◌, ℕ, ◌<◌, ◌≤◌, Bool, true, false, cond, ◌&&◌, ◌||◌, ◌==◌, not, List, [], ◌∷◌, ◌++◌, length, map, Option, Some, None, refl, sym, ap, subst, ◌∙◌, arith, inl, inr}
-use Rattle.std.specs.Prelude.{unwrap_or, Contains}
+use Rattle.std.proofs.Common.{◌≡◌, ◌⊎◌, ℕ, ◌≤◌, Bool, true, false, cond, ◌&&◌, ◌==◌, List, length, map, Option, Some, None, refl, sym, ap, subst, ◌∙◌, arith, inl, inr}
+use Rattle.std.specs.Prelude.{unwrap_or}
 use Rattle.std.specs.List.{filter, list_any}
 use Rattle.std.specs.Option.{option_map_or}
 use Rattle.std.proofs.lemmas.Bool.{and_parts, or_right, false≢true, cases_lt, both_ways, not-true, false_from_ne_true}
@@ -23,7 +23,7 @@ use Rattle.ddt_path.proofs.FrontLemmas.{front_below, one_front, one_path, overla
 use Rattle.ddt_path.proofs.HoleLemmas.{hole_is_free, hole_of_all}
 use Rattle.ddt_path.proofs.MemberLemmas.{IsIn, contained, fails_at}
 use Rattle.ddt_path.proofs.PathTestLemmas.{identifier_of}
-use Rattle.ddt_path.proofs.ChosenLemmas.{longest_member, longest_none, longest_is}
+use Rattle.ddt_path.specs.declared.matching.Preference.TheVariants.{Longest}
 use Rattle.ddt_register.specs.declared.zone.Zone.{Zone}
 use Rattle.ddt_register.specs.declared.site.Site.{Site}
 use Rattle.ddt_register.specs.declared.register.Register.{Register}
@@ -36,9 +36,10 @@ use Rattle.ddt_check.proofs.HoleLemmas.{overlaps_none-filter}
 use Rattle.ddt_check.proofs.KeptLemmas.{own_site}
 use Rattle.ddt_check.proofs.NextLemmas.{next_none, zone_is}
 use Rattle.ddt_check.proofs.SiteLemmas.{no_longer_zone, site_inside}
-use Rattle.ddt_check.proofs.SaysLemmas.{hole_covers, assigned_covers}
-use Rattle.ddt_check.proofs.RootLemmas.{zone_found, zone_beats}
-use Rattle.ddt_check.proofs.ZoneLemmas.{zone_prefix, site_prefix}
+use Rattle.ddt_check.proofs.SaysLemmas.{assigned_covers}
+use Rattle.ddt_check.proofs.RootLemmas.{zone_found}
+use Rattle.ddt_check.proofs.ZoneLemmas.{zone_prefix, site_prefix, assigned_at}
+use Rattle.ddt_path.proofs.MatchingLemmas.{best_member, best_none, best_is}
 
 -- ---- an identifier covers no other identifier
 
@@ -105,11 +106,8 @@ one_site r accepted a b j k same =
     ]
 
 module _ (r : Register) (accepted : IsAccepted r) where
-  assigned_at : (x : List ℕ) (z : Zone) → zone_of r x ≡ Some z → assignment r x ≡ assigned_in r z z.kind x
-  assigned_at x z e = ap (λ (found : Option Zone). option_map_or (λ (w : Zone). assigned_in r w w.kind x) found (Hole [])) e
-
   assigned_of : (x : List ℕ) (z : Zone) (role : Role) → zone_of r x ≡ Some z → z.kind ≡ role → assignment r x ≡ assigned_in r z role x
-  assigned_of x z role e kind = assigned_at x z e ∙ ap (λ (k : Role). assigned_in r z k x) kind
+  assigned_of x z role e kind = assigned_at r x z e ∙ ap (λ (k : Role). assigned_in r z k x) kind
 
   -- a zone that no longer zone covering y beats is the zone of y
   zone_stays : (z : Zone) (y : List ℕ) → IsIn z r.zones → covers z.prefix y ≡ true → ((b : Zone) → IsIn b r.zones → covers b.prefix y ≡ true → length b.prefix ≤ length z.prefix) → zone_of r y ≡ Some z
@@ -131,7 +129,7 @@ module _ (r : Register) (accepted : IsAccepted r) where
 
   -- ---- a hole among the sites of a zone of Map-Servers
   no_site : (z : Zone) (y q : List ℕ) → IsIn z r.zones → IsFreeOf z.prefix (prefixes_in r z Ms) y q → covers z.prefix y ≡ true → covers q y ≡ true → site_of r y ≡ None
-  no_site z y q k is cy c = longest_none site_prefix y r.sites (λ s j. false_from_ne_true (covers s.prefix y) (λ d.
+  no_site z y q k is cy c = best_none Longest site_prefix y r.sites (λ s j. false_from_ne_true (covers s.prefix y) (λ d.
       both_ways (overlaps s.prefix q)
       (apart site_prefix (λ (t : Site). covers z.prefix t.prefix) r.sites s q is.clear j (site_inside r accepted z s y k cy j d))
       (overlaps_front s.prefix y q d (or_right (covers y q) (covers q y) c))))
@@ -140,7 +138,7 @@ module _ (r : Register) (accepted : IsAccepted r) where
   site_stays : (s : Site) (y q : List ℕ) → IsIn s r.sites → IsFreeOf s.prefix (prefixes_below_site r s) y q → covers q y ≡ true → site_of r y ≡ Some s
   site_stays s y q k is c =
       let cy = covers_trans s.prefix q y is.inside c in
-      longest_is site_prefix y r.sites s k cy (λ t j d. elim (cases_lt (length s.prefix) (length t.prefix)) [
+      best_is Longest site_prefix y r.sites s k cy (λ t j d. elim (cases_lt (length s.prefix) (length t.prefix)) [
         | inl lt ↦ absurd (both_ways (overlaps t.prefix q)
             (apart site_prefix (λ (u : Site). is_strictly_below u.prefix s.prefix) r.sites t q is.clear j (front_below s.prefix t.prefix y cy d lt))
             (overlaps_front t.prefix y q d (or_right (covers y q) (covers q y) c)))
@@ -155,10 +153,10 @@ module _ (r : Register) (accepted : IsAccepted r) where
     Same = assignment r y ≡ assignment r x
 
     k : IsIn z r.zones
-    k = (longest_member zone_prefix x r.zones z here).0
+    k = (best_member Longest zone_prefix x r.zones z here).0
 
     zone_covers : covers z.prefix x ≡ true
-    zone_covers = (longest_member zone_prefix x r.zones z here).1
+    zone_covers = (best_member Longest zone_prefix x r.zones z here).1
 
     alone : x ≡ y → Same
     alone same = ap (assignment r) (sym same)
@@ -192,7 +190,7 @@ module _ (r : Register) (accepted : IsAccepted r) where
 
     site_part : z.kind ≡ Ms → (s : Site) → site_of r x ≡ Some s → (length s.etrs == 0) ≡ true → part_of_site r s x ≡ q → Same
     site_part kind s at silent is =
-        let p = longest_member site_prefix x r.sites s at in
+        let p = best_member Longest site_prefix x r.sites s at in
         elim (free_or_alone s.prefix (prefixes_below_site r s) x y q e f p.1 is c) [
           | inl same ↦ alone same
           | inr free_of ↦
@@ -221,7 +219,7 @@ module _ (r : Register) (accepted : IsAccepted r) where
   pub holds_of_all : (x q : List ℕ) → is_path x ≡ true → negative_prefix (assignment r x) ≡ Some q → (y : List ℕ) → is_path y ≡ true → covers q y ≡ true → assignment r y ≡ assignment r x
   holds_of_all x q e is y f c =
       let found = zone_found r accepted x in
-      by_role x y q e f c found.0 found.1 found.0.kind refl (ap negative_prefix (sym (assigned_at x found.0 found.1)) ∙ is)
+      by_role x y q e f c found.0 found.1 found.0.kind refl (ap negative_prefix (sym (assigned_at r x found.0 found.1)) ∙ is)
 
   pub negative_covers : (x q : List ℕ) → negative_prefix (assignment r x) ≡ Some q → covers q x ≡ true
   negative_covers x q is = go (assignment r x) (assigned_covers r x) is
@@ -235,8 +233,8 @@ module _ (r : Register) (accepted : IsAccepted r) where
   module _ (x q : List ℕ) (servers : List Locator) (z : Zone) (here : zone_of r x ≡ Some z) where
     site_of_it : z.kind ≡ Ms → (s : Site) → site_of r x ≡ Some s → s.prefix ≡ q → locators_of r z.group ≡ servers → IsSiteWithServers r x q servers
     site_of_it kind s at is set =
-        let w = longest_member zone_prefix x r.zones z here in
-        let p = longest_member site_prefix x r.sites s at in
+        let w = best_member Longest zone_prefix x r.zones z here in
+        let p = best_member Longest site_prefix x r.sites s at in
         let inside = site_inside r accepted z s x w.0 w.1 p.0 p.1 in
         record {
           site = s;
@@ -270,4 +268,4 @@ module _ (r : Register) (accepted : IsAccepted r) where
   pub registered_is_site : (x q : List ℕ) (servers : List Locator) → assignment r x ≡ Registered q servers → IsSiteWithServers r x q servers
   registered_is_site x q servers is =
       let found = zone_found r accepted x in
-      registered_role x q servers found.0 found.1 found.0.kind refl (sym (assigned_at x found.0 found.1) ∙ is)
+      registered_role x q servers found.0 found.1 found.0.kind refl (sym (assigned_at r x found.0 found.1) ∙ is)

@@ -1,94 +1,25 @@
 -- Lists sorted by a key and then by row: what stands between, and what is found beside an item.
-use Rattle.std.proofs.Common.{◌≡◌, ℕ, zero, suc, ◌+◌, ◌-◌, ◌<◌, ◌≤◌, Bool, true, false, cond, ltb, not, List, [], ◌∷◌, map, length, get_or, IsPermutation, Ordering, Less, Equal, Greater, inl, inr, refl, sym, ap, subst, ◌∙◌, arith}
-use Rattle.std.specs.Prelude.{◌==◌, ◌&&◌, ◌||◌, nat_lt, IsSorted}
+use Rattle.std.proofs.Common.{◌≡◌, ℕ, ◌+◌, ◌-◌, ◌<◌, ◌≤◌, Bool, true, false, cond, ltb, List, length, get_or, IsPermutation, Ordering, Less, Equal, Greater, inl, inr, refl, sym, ap, subst, ◌∙◌, arith}
+use Rattle.std.specs.Prelude.{◌==◌, ◌&&◌, nat_lt}
 use Rattle.std.specs.List.{list_any}
 use Rattle.std.specs.Ordering.{nat_cmp, is_lt, is_eq, ordering_then, ordering_reverse}
 use Rattle.std.specs.Cmp.{IsTotalOrder, then_total, on_total, nat_cmp_total}
 use Rattle.std.specs.Cmp.Lexicographic.{slice_cmp, texts_ties, nat_list_cmp_total, nat_list_eq_equiv, bytes_decides}
-use Rattle.std.proofs.lemmas.Bool.{true≢false, false≢true, both_ways, false_from_ne_true, and_parts, and_from, or_cases, or_left, or_right, eqb-true, eqb-false, eq-eqb, ltb-true, ltb-false, lt-ltb, cases_order, cases_lt}
+use Rattle.std.proofs.lemmas.Bool.{true≢false, both_ways, false_from_ne_true, and_parts, and_from, eqb-false, ltb-true, ltb-false, lt-ltb, cases_lt}
 use Rattle.std.proofs.lemmas.List.Sorted.{sorted_far, ranks_by, Contains-permutation, IsPermutation-sym}
 use Rattle.std.proofs.lemmas.List.Elements.{Contains-get_or}
-use Rattle.ddt_path.specs.Covers.{covers, is_same_path}
+use Rattle.ddt_path.specs.Covers.{is_same_path}
 use Rattle.ddt_check.specs.Order.{in_order, IsInOrder}
-use Rattle.ddt_path.proofs.MemberLemmas.{IsIn, in_contained, contained, fails_at}
-use Rattle.ddt_check.proofs.LeastLemmas.{get_or-same}
-use Rattle.ddt_check.proofs.RestoreLemmas.{Rising, rows_apart}
-
-pub iff_same : (x y : Bool) → (x ≡ true → y ≡ true) → (y ≡ true → x ≡ true) → x ≡ y
-iff_same true y f g = sym (f refl)
-iff_same false true f g = g refl
-iff_same false false f g = refl
-
--- ---- the order of prefixes: p stands before q or is q
-
-abbrev pub IsUpTo : List ℕ → List ℕ → Type 0
-IsUpTo p q = is_lt (slice_cmp nat_cmp q p) ≡ false
-
-heads : (less same : Bool) (o : Ordering) → is_lt (ordering_then (cond less Less (cond same Equal Greater)) o) ≡ false
-    → (less ≡ false) × (same ≡ true → is_lt o ≡ false)
-heads true same o h = absurd (true≢false h)
-heads false true o h = (refl, λ e. h)
-heads false false o h = (refl, λ e. absurd (false≢true e))
-
--- what stands between a prefix and one that it covers is covered too
-pub covers-between : (a b c : List ℕ) → IsUpTo a b → IsUpTo b c → covers a c ≡ true → covers a b ≡ true
-covers-between [] b c up down inside = refl
-covers-between (d ∷ p) [] c up down inside = absurd (true≢false up)
-covers-between (d ∷ p) (e ∷ q) [] up down inside = absurd (false≢true inside)
-covers-between (d ∷ p) (e ∷ q) (f ∷ r) up down inside =
-    let s = and_parts (d == f) (covers p r) inside in
-    let ends = eqb-true d f s.0 in
-    let x = heads (ltb e d) (e == d) (slice_cmp nat_cmp q p) up in
-    let y = heads (ltb f e) (f == e) (slice_cmp nat_cmp r q) down in
-    let low = ltb-false e d x.0 in
-    let high = ltb-false f e y.0 in
-    let same : e ≡ d = omega arith in
-    and_from (d == e) (covers p q) (eq-eqb d e (sym same)) (covers-between p q r (x.1 (eq-eqb e d same))
-    (y.1 (eq-eqb f e (omega arith))) s.1)
-
--- what is covered by a prefix that doesn't stand before it is that prefix
-pub covers-back : (a c : List ℕ) → IsUpTo a c → covers c a ≡ true → covers a c ≡ true
-covers-back [] c up inside = refl
-covers-back (d ∷ p) [] up inside = absurd (true≢false up)
-covers-back (d ∷ p) (f ∷ r) up inside =
-    let s = and_parts (f == d) (covers r p) inside in
-    let x = heads (ltb f d) (f == d) (slice_cmp nat_cmp r p) up in
-    and_from (d == f) (covers p r) (eq-eqb d f (sym (eqb-true f d s.0))) (covers-back p r (x.1 s.0) s.1)
-
-tie : (o p : Ordering) → o ≡ ordering_reverse p → is_lt p ≡ false → is_lt o ≡ false → is_eq o ≡ true
-tie o Less e f g = absurd (true≢false f)
-tie o Equal e f g = ap is_eq e
-tie o Greater e f g = absurd (true≢false (sym (ap is_lt e) ∙ g))
-
-pub is_same_path-between : (a b c : List ℕ) → IsUpTo a b → IsUpTo b c → IsUpTo a c → is_same_path a c ≡ true
-    → is_same_path a b ≡ true
-is_same_path-between a b c up down far e =
-    let back : IsUpTo b a = subst (λ (p : List ℕ). IsUpTo b p) (sym ((bytes_decides a c).0 e)) down in
-    texts_ties a b ∙ tie (slice_cmp nat_cmp a b) (slice_cmp nat_cmp b a) (nat_list_cmp_total.antisymm a b) up back
+use Rattle.ddt_path.proofs.MemberLemmas.{in_contained, contained, any_in, in_any, iff_same}
+use Rattle.ddt_path.proofs.PathOrderLemmas.{IsUpTo, is_same_path-between}
+use Rattle.std.proofs.lemmas.List.{get_or_default}
+use Rattle.ddt_register.proofs.RowOrderLemmas.{Rising, rows_apart}
 
 -- ---- lists in order
 
 lt_part : (less same : Bool) → is_lt (cond less Less (cond same Equal Greater)) ≡ false → less ≡ false
 lt_part true same h = h
 lt_part false same h = refl
-
-some_in : {A : Type 0} (test : A → Bool) (y : A) (xs : List A)
-    → ((list_any test xs ≡ true) → (x : A) × IsIn x xs × (test x ≡ true)) → (b c : Bool) → test y ≡ b
-    → list_any test xs ≡ c → (b || c) ≡ true → (x : A) × IsIn x (y ∷ xs) × (test x ≡ true)
-some_in test y xs ih true c e f h = (y, inl refl, e)
-some_in test y xs ih false true e f h = let p = ih f in (p.0, inr p.1, p.2)
-some_in test y xs ih false false e f h = absurd (false≢true h)
-
--- an item that passes, and that one passes
-pub any_in : {A : Type 0} (test : A → Bool) (xs : List A) → list_any test xs ≡ true
-    → (x : A) × IsIn x xs × (test x ≡ true)
-any_in test [] h = absurd (false≢true h)
-any_in test (y ∷ xs) h = some_in test y xs (any_in test xs) (test y) (list_any test xs) refl refl h
-
-pub in_any : {A : Type 0} (test : A → Bool) (xs : List A) (x : A) → IsIn x xs → test x ≡ true → list_any test xs ≡ true
-in_any test [] x k e = absurd k
-in_any test (y ∷ xs) x (inl same) e = or_left (test y) (list_any test xs) (ap test (sym same) ∙ e)
-in_any test (y ∷ xs) x (inr later) e = or_right (test y) (list_any test xs) (in_any test xs x later e)
 
 flip_path : (p q : List ℕ) → is_same_path p q ≡ true → is_same_path q p ≡ true
 flip_path p q e = nat_list_eq_equiv.symm q p ∙ e
@@ -149,9 +80,9 @@ module _ {A : Type 0} (key : A → List ℕ) (row : A → ℕ) where
           let p = and_parts (nat_lt (row f.0) (row x)) (is_same_path (key f.0) (key x)) f.2 in
           let c = Contains-permutation zs xs f.0 moved (contained zs f.0 f.1) in
           let same : is_same_path (key (get_or xs c.0 d)) (key x) ≡ true = subst
-          (λ (y : A). is_same_path (key y) (key x) ≡ true) (sym c.2 ∙ get_or-same xs c.0 f.0 d c.1) p.1 in
+          (λ (y : A). is_same_path (key y) (key x) ≡ true) (sym c.2 ∙ get_or_default xs c.0 f.0 d c.1) p.1 in
           let lower : row (get_or xs c.0 d) < row x = subst (λ (y : A). row y < row x)
-          (sym c.2 ∙ get_or-same xs c.0 f.0 d c.1) (ltb-true (row f.0) (row x) p.0) in
+          (sym c.2 ∙ get_or_default xs c.0 f.0 d c.1) (ltb-true (row f.0) (row x) p.0) in
           elim (cases_lt c.0 at) [
             | inl before ↦ (c.0, before, same)
             | inr behind ↦ absurd (let le = (far at c.0 d behind c.1).1

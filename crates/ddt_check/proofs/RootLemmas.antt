@@ -1,19 +1,17 @@
 -- The root of an accepted register, the zone of each identifier, and the group of each locator.
 use Rattle.std.proofs.Common.{◌≡◌, ◌⊎◌, ℕ, ◌<◌, ◌≤◌, Bool, true, false, ◌||◌, ◌&&◌, ◌==◌, List, [], ◌∷◌, length, Option, Some, None, refl, sym, ap, subst, ◌∙◌, arith, inl, inr}
-use Rattle.std.specs.Prelude.{nat_lt, not, is_some, find, Contains}
 use Rattle.std.specs.List.{list_any}
 use Rattle.std.specs.Option.{option_map_or}
-use Rattle.std.proofs.lemmas.Bool.{true≢false, false≢true, cond-true, cond-false, or_parts, or_cases, cases_lt, eqb-true, eqb-false, ltb-false, both_ways}
-use Rattle.std.proofs.lemmas.Option.{same_Some}
+use Rattle.std.proofs.lemmas.Bool.{true≢false, false≢true, cond-true, cond-false, or_parts, cases_lt, eqb-true}
 use Rattle.ddt_path.specs.declared.locator.Locator.{Locator}
 use Rattle.ddt_path.specs.declared.record.Role.{Role}
 use Rattle.ddt_path.specs.declared.record.Role.TheVariants.{Node, Ms}
 use Rattle.ddt_path.specs.Covers.{covers}
 use Rattle.ddt_path.specs.Locators.{lists}
-use Rattle.ddt_path.proofs.CoverLemmas.{covers_self}
-use Rattle.ddt_path.proofs.MemberLemmas.{IsIn, in_contained, contained, found_in, found_passes}
+use Rattle.ddt_path.proofs.CoverLemmas.{same_path}
+use Rattle.ddt_path.proofs.MemberLemmas.{IsIn, any_in, in_contained, contained, found_in, found_passes}
 use Rattle.ddt_path.proofs.FrontLemmas.{one_front}
-use Rattle.ddt_path.proofs.ChosenLemmas.{longest_member, longest_is}
+use Rattle.ddt_path.specs.declared.matching.Preference.TheVariants.{Longest}
 use Rattle.ddt_register.specs.declared.zone.Zone.{Zone}
 use Rattle.ddt_register.specs.declared.group.Group.{Group}
 use Rattle.ddt_register.specs.declared.register.Register.{Register}
@@ -21,24 +19,12 @@ use Rattle.ddt_register.proofs.RisingLemmas.{rule_kept}
 use Rattle.ddt_check.specs.declared.fault.Rule.TheVariants as rules
 use Rattle.ddt_path.specs.Names.{is_same_name}
 use Rattle.ddt_check.specs.Zones.{is_ms, zone_of, group_named, locators_of, served_zones, roots}
-use Rattle.ddt_check.specs.Rules.{IsAccepted, is_root, is_wrong_root, is_of_unknown_group, has_wrong_locators, earlier_zone}
+use Rattle.ddt_check.specs.Rules.{IsAccepted, is_root, is_wrong_root, earlier_zone}
 use Rattle.ddt_check.specs.Laws.{IsItsZone, IsRootZone, AreServers}
-use Rattle.ddt_check.proofs.AcceptedLemmas.{few_locators}
-use Rattle.ddt_check.proofs.KeptLemmas.{same_digits}
-use Rattle.ddt_check.proofs.LongestLemmas.{longest_found}
-use Rattle.ddt_check.proofs.ServedLemmas.{one_zone, one_group, group_serves}
+use Rattle.ddt_check.proofs.KeptLemmas.{servers_of_zone, one_zone}
+use Rattle.ddt_path.proofs.MatchingLemmas.{best_member, best_unbeaten, best_found}
+use Rattle.ddt_check.proofs.ServedLemmas.{one_group, group_serves}
 use Rattle.ddt_check.proofs.ZoneLemmas.{zone_prefix}
-
--- some item of a list passes
-any_case : {A : Type 0} (test : A → Bool) (y : A) (xs : List A) → ((x : A) × IsIn x xs × (test x ≡ true)) → (x : A) × IsIn x (y ∷ xs) × (test x ≡ true)
-any_case test y xs (x, k, e) = (x, inr k, e)
-
-pub any_member : {A : Type 0} (test : A → Bool) (xs : List A) → list_any test xs ≡ true → (x : A) × IsIn x xs × (test x ≡ true)
-any_member test [] e = absurd (false≢true e)
-any_member test (y ∷ xs) e = elim (or_cases (test y) (list_any test xs) e) [
-  | inl here ↦ (y, inl refl, here)
-  | inr later ↦ any_case test y xs (any_member test xs later)
-]
 
 empty_path : (p : List ℕ) → (length p == 0) ≡ true → p ≡ []
 empty_path [] e = refl
@@ -57,7 +43,7 @@ module _ (r : Register) (accepted : IsAccepted r) where
       go false e = absurd (true≢false (sym (cond-false (list_any is_root r.zones) _ _ e) ∙ accepted rules.NoRoot 0))
 
   the_root : (z : Zone) × IsIn z r.zones × (is_root z ≡ true)
-  the_root = any_member is_root r.zones some_root
+  the_root = any_in is_root r.zones some_root
 
   root_kind : (z : Zone) → IsIn z r.zones → is_root z ≡ true → z.kind ≡ Node
   root_kind z k e =
@@ -70,15 +56,13 @@ module _ (r : Register) (accepted : IsAccepted r) where
   zone_found x =
       let root = the_root in
       let everything : root.0.prefix ≡ [] = empty_path root.0.prefix root.2 in
-      let found = longest_found zone_prefix x r.zones root.0 root.1 (ap (λ (p : List ℕ). covers p x) everything) in
+      let found = best_found Longest zone_prefix x r.zones root.0 root.1 (ap (λ (p : List ℕ). covers p x) everything) in
       (found.0, found.1)
 
   pub zone_beats : (x : List ℕ) (z y : Zone) → zone_of r x ≡ Some z → IsIn y r.zones → covers y.prefix x ≡ true → (y ≡ z) ⊎ (length y.prefix < length z.prefix)
   zone_beats x z y e k c =
-      let at_z = longest_member zone_prefix x r.zones z e in
-      let found = longest_found zone_prefix x r.zones y k c in
-      let same : found.0 ≡ z = same_Some found.0 z (sym found.1 ∙ e) in
-      let as_long : length y.prefix ≤ length z.prefix = subst (λ (w : Zone). length y.prefix ≤ length w.prefix) same found.2 in
+      let at_z = best_member Longest zone_prefix x r.zones z e in
+      let as_long : length y.prefix ≤ length z.prefix = best_unbeaten Longest zone_prefix x r.zones z y e k c in
       elim (cases_lt (length y.prefix) (length z.prefix)) [
         | inl lt ↦ inr lt
         | inr ge ↦ inl (one_zone r accepted y z k at_z.0 (one_front y.prefix z.prefix x c at_z.1 (omega arith)))
@@ -88,7 +72,7 @@ module _ (r : Register) (accepted : IsAccepted r) where
   its_zone x =
       let found = zone_found x in
       let z = found.0 in
-      let at_z = longest_member zone_prefix x r.zones z found.1 in (
+      let at_z = best_member Longest zone_prefix x r.zones z found.1 in (
         z,
         found.1,
         record {
@@ -97,23 +81,6 @@ module _ (r : Register) (accepted : IsAccepted r) where
           longest = λ y k c. zone_beats x z y found.1 (in_contained r.zones y k) c;
         },
       )
-
-  -- the servers of a zone
-  some_servers : (found : Option Group) (name : List ℕ) → group_named r name ≡ found → not (is_some found) ≡ false → 0 < length (option_map_or (λ (g : Group). g.locators) found [])
-  some_servers None name e some = absurd (true≢false some)
-  some_servers (Some g) name e some =
-      let k = found_in (λ (h : Group). is_same_name h.name name) r.groups g e in
-      let kept = rule_kept (λ (h : Group). h.row) (has_wrong_locators r) r.groups (accepted rules.Locators) g k in
-      let p = or_parts (length g.locators == 0 || nat_lt 8 (length g.locators)) _ kept in
-      let q = or_parts (length g.locators == 0) (nat_lt 8 (length g.locators)) p.0 in
-      let n = eqb-false (length g.locators) 0 q.0 in
-      omega arith
-
-  pub servers_of_zone : (z : Zone) → IsIn z r.zones → AreServers (locators_of r z.group)
-  servers_of_zone z k = (
-    some_servers (group_named r z.group) z.group refl (rule_kept (λ (y : Zone). y.row) (is_of_unknown_group r) r.zones (accepted rules.UnknownGroup) z k),
-    few_locators r accepted z.group,
-  )
 
   pub root_is_served : (z : Zone) × IsRootZone r z
   root_is_served =
@@ -129,13 +96,13 @@ module _ (r : Register) (accepted : IsAccepted r) where
           is_everything = everything;
           is_of_nodes = root_kind z root.1 root.2;
           its_servers = servers;
-          are_servers = subst AreServers servers (servers_of_zone z root.1);
+          are_servers = subst AreServers servers (servers_of_zone r accepted z root.1);
         },
       )
     where
       only : (x : List ℕ) (z w : Zone) → zone_of r [] ≡ Some w → IsIn z r.zones → z.prefix ≡ [] → z ≡ w
       only x z w e k everything =
-          let at_w = longest_member zone_prefix [] r.zones w e in
+          let at_w = best_member Longest zone_prefix [] r.zones w e in
           elim (zone_beats [] w z e k (ap (λ (p : List ℕ). covers p []) everything)) [
             | inl same ↦ same
             | inr lt ↦ absurd (empty_below w.prefix (length z.prefix) lt at_w.1)
@@ -153,7 +120,7 @@ module _ (r : Register) (accepted : IsAccepted r) where
       go None e h = absurd (false≢true h)
       go (Some g) e h =
           let test = λ (i : Group). is_same_name i.name name in
-          (g, found_in test r.groups g e, same_digits g.name name (found_passes test r.groups g e), h)
+          (g, found_in test r.groups g e, same_path g.name name (found_passes test r.groups g e), h)
 
   pub one_group_of_locator : (y z : Zone) (l : Locator) → lists (locators_of r y.group) l ≡ true → lists (locators_of r z.group) l ≡ true → y.group ≡ z.group
   one_group_of_locator y z l here there =

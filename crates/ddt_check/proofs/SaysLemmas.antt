@@ -1,13 +1,12 @@
 -- What an honest server says: a referral to the next zone, or the record of the assignment.
-use Rattle.std.proofs.Common.{◌≡◌, ◌≢◌, ◌⊎◌, ℕ, ◌<◌, ◌≤◌, Bool, true, false, cond, ◌==◌, List, [], length, Option, Some, None, refl, sym, ap, subst, ◌∙◌, arith, inl, inr}
+use Rattle.std.proofs.Common.{◌≡◌, ◌≢◌, ◌⊎◌, ℕ, ◌<◌, ◌≤◌, Bool, true, false, cond, ◌==◌, List, [], length, Option, Some, None, refl, ap, arith, inl, inr}
 use Rattle.std.specs.Prelude.{unwrap_or, Contains, ◌&&◌}
 use Rattle.std.specs.Option.{option_map_or}
 use Rattle.std.proofs.lemmas.Bool.{and_parts}
 use Rattle.ddt_path.specs.declared.locator.Locator.{Locator}
 use Rattle.ddt_path.specs.declared.record.Role.{Role}
 use Rattle.ddt_path.specs.declared.record.Role.TheVariants.{Node, Ms}
-use Rattle.ddt_path.specs.declared.record.Action.{Action}
-use Rattle.ddt_path.specs.declared.record.Action.TheVariants.{NodeReferral, MsReferral, MsAck, MsNotRegistered, DelegationHole, NotAuthoritative}
+use Rattle.ddt_path.specs.declared.action.Action.TheVariants.{MsAck, MsNotRegistered, DelegationHole, NotAuthoritative}
 use Rattle.ddt_path.specs.declared.record.Outcome.{Outcome}
 use Rattle.ddt_path.specs.declared.record.Outcome.TheVariants.{Registered, NotRegistered, Hole}
 use Rattle.ddt_path.specs.declared.record.ReferralRecord.{ReferralRecord}
@@ -17,8 +16,8 @@ use Rattle.ddt_path.specs.Free.{free, overlaps_none, longest_match, hole_of}
 use Rattle.ddt_path.specs.Locators.{lists}
 use Rattle.ddt_path.proofs.CoverLemmas.{covers_self}
 use Rattle.ddt_path.proofs.HoleLemmas.{hole_is_free}
-use Rattle.ddt_path.proofs.MemberLemmas.{IsIn, contained, filter_in}
-use Rattle.ddt_path.proofs.ChosenLemmas.{longest_member}
+use Rattle.ddt_path.proofs.MemberLemmas.{IsIn, contained}
+use Rattle.ddt_path.specs.declared.matching.Preference.TheVariants.{Longest}
 use Rattle.ddt_register.specs.declared.zone.Zone.{Zone}
 use Rattle.ddt_register.specs.declared.site.Site.{Site}
 use Rattle.ddt_register.specs.declared.register.Register.{Register}
@@ -27,10 +26,12 @@ use Rattle.ddt_check.specs.Assignment.{assignment, assigned_in, assigned_site, p
 use Rattle.ddt_check.specs.Says.{referral_to, next_zone, says_from, says}
 use Rattle.ddt_check.specs.Rules.{IsAccepted}
 use Rattle.ddt_check.specs.Laws.{IsReferral, IsFinal, NamesServers, AreServers}
-use Rattle.ddt_check.proofs.LongestLemmas.{longest_found}
+use Rattle.ddt_path.proofs.MatchingLemmas.{best_member, best_found}
 use Rattle.ddt_check.proofs.NextLemmas.{next_is}
-use Rattle.ddt_check.proofs.RootLemmas.{servers_of_zone, served_alike}
+use Rattle.ddt_check.proofs.RootLemmas.{served_alike}
+use Rattle.ddt_check.proofs.KeptLemmas.{servers_of_zone}
 use Rattle.ddt_check.proofs.ZoneLemmas.{zone_prefix, site_prefix}
+use Rattle.ddt_path.proofs.FilterLemmas.{filter_in}
 
 -- ---- actions
 
@@ -91,7 +92,7 @@ module _ (r : Register) (x : List ℕ) where
 
   ms_covers : (z : Zone) → covers z.prefix x ≡ true → (found : Option Site) → site_of r x ≡ found → covers (record_of (option_map_or (λ s. assigned_site r z s x) found (Hole (hole_of z.prefix (prefixes_in r z Ms) x)))).prefix x ≡ true
   ms_covers z c None e = hole_covers z.prefix (prefixes_in r z Ms) x c
-  ms_covers z c (Some s) e = site_covers z s (longest_member site_prefix x r.sites s e).1 (length s.etrs == 0)
+  ms_covers z c (Some s) e = site_covers z s (best_member Longest site_prefix x r.sites s e).1 (length s.etrs == 0)
 
   zone_covers : (z : Zone) → covers z.prefix x ≡ true → (role : Role) → covers (record_of (assigned_in r z role x)).prefix x ≡ true
   zone_covers z c Node = hole_covers z.prefix (prefixes_in r z Node) x c
@@ -102,7 +103,7 @@ module _ (r : Register) (x : List ℕ) where
     where
       go : (found : Option Zone) → zone_of r x ≡ found → covers (record_of (option_map_or (λ z. assigned_in r z z.kind x) found (Hole []))).prefix x ≡ true
       go None e = refl
-      go (Some z) e = zone_covers z (longest_member zone_prefix x r.zones z e).1 z.kind
+      go (Some z) e = zone_covers z (best_member Longest zone_prefix x r.zones z e).1 z.kind
 
 module _ (r : Register) (accepted : IsAccepted r) (x : List ℕ) where
   -- the servers of an outcome that names some
@@ -131,7 +132,7 @@ module _ (r : Register) (accepted : IsAccepted r) (x : List ℕ) where
     where
       go : (found : Option Zone) → zone_of r x ≡ found → NamesServers (record_of (option_map_or (λ z. assigned_in r z z.kind x) found (Hole []))).action → AreServers (record_of (option_map_or (λ z. assigned_in r z z.kind x) found (Hole []))).servers
       go None e h = absurd (hole_names_not [] h)
-      go (Some z) e h = zone_servers z (servers_of_zone r accepted z (longest_member zone_prefix x r.zones z e).0) z.kind h
+      go (Some z) e h = zone_servers z (servers_of_zone r accepted z (best_member Longest zone_prefix x r.zones z e).0) z.kind h
 
   -- ---- what is said
 
@@ -198,7 +199,7 @@ module _ (r : Register) (accepted : IsAccepted r) (x : List ℕ) where
     pub goes_down : (z : Zone) → IsIn z r.zones → covers z.prefix x ≡ true → lists (locators_of r z.group) l ≡ true
         → ((says r l x).action ≢ NotAuthoritative) × (IsReferral (says r l x).action → length z.prefix < length (says r l x).prefix)
     goes_down z k c here =
-        let found = longest_found zone_prefix x (served_zones r l) z (filter_in (λ (y : Zone). lists (locators_of r y.group) l) r.zones z k here) c in
+        let found = best_found Longest zone_prefix x (served_zones r l) z (filter_in (λ (y : Zone). lists (locators_of r y.group) l) r.zones z k here) c in
         rw found.1 (down_from (length found.0.prefix) (length z.prefix) found.2 (next_zone r (length found.0.prefix) x) refl)
 
   pub say_alike : (name : List ℕ) (l k : Locator) → lists (locators_of r name) l ≡ true → lists (locators_of r name) k ≡ true → says r l x ≡ says r k x

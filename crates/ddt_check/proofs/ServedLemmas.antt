@@ -1,14 +1,11 @@
--- The zones of a locator's group: in an accepted register a locator belongs to one group, and a prefix to one zone.
-use Rattle.std.proofs.Common.{◌≡◌, ℕ, ◌<◌, Bool, true, false, ◌||◌, ◌==◌, List, [], ◌∷◌, length, Option, Some, None, refl, ap, subst, ◌∙◌, inl, inr}
+-- The zones of a locator's group: in an accepted register a locator belongs to one group.
+use Rattle.std.proofs.Common.{◌≡◌, ◌<◌, Bool, true, false, ◌||◌, ◌==◌, List, [], ◌∷◌, length, Option, Some, None, refl, ap, subst, ◌∙◌, inl, inr}
 use Rattle.std.specs.Prelude.{not, nat_lt, ◌&&◌}
 use Rattle.std.specs.List.{filter}
 use Rattle.std.specs.Option.{option_map_or}
-use Rattle.std.proofs.lemmas.Bool.{false≢true, both_ways, or_parts, or_cases, eqb-true, false_from_ne_true}
+use Rattle.std.proofs.lemmas.Bool.{false≢true, both_ways, or_parts, or_cases, false_from_ne_true}
 use Rattle.ddt_path.specs.declared.locator.Locator.{Locator}
-use Rattle.ddt_path.specs.declared.locator.Locator.TheVariants.{V4, V6}
-use Rattle.ddt_path.specs.Covers.{is_same_path}
 use Rattle.ddt_path.specs.Locators.{is_same_locator, lists, are_distinct}
-use Rattle.ddt_path.proofs.CoverLemmas.{covers_self}
 use Rattle.ddt_register.specs.declared.zone.Zone.{Zone}
 use Rattle.ddt_register.specs.declared.group.Group.{Group}
 use Rattle.ddt_register.specs.declared.register.Register.{Register}
@@ -17,25 +14,12 @@ use Rattle.ddt_path.specs.Names.{is_same_name}
 use Rattle.ddt_check.specs.Zones.{group_named, locators_of, served_zones}
 use Rattle.ddt_check.specs.Rules.{IsAccepted, share, has_wrong_locators}
 use Rattle.ddt_check.specs.Zones.{is_served_by}
-use Rattle.ddt_path.proofs.MemberLemmas.{IsIn, fails_at, filter_same, found_in, found_passes}
+use Rattle.ddt_path.proofs.MemberLemmas.{IsIn, fails_at, found_in, found_passes}
 use Rattle.ddt_register.proofs.RisingLemmas.{rule_kept, one_row}
-use Rattle.ddt_register.proofs.RisingLemmas.{zones_rise, groups_rise, earlier_fails}
-use Rattle.ddt_check.proofs.KeptLemmas.{own_prefix, group_of_zone}
-use Rattle.ddt_path.proofs.FrontLemmas.{one_path}
+use Rattle.ddt_register.proofs.RisingLemmas.{groups_rise, earlier_fails}
+use Rattle.ddt_check.proofs.KeptLemmas.{group_of_zone}
 use Rattle.ddt_path.proofs.LocatorLemmas.{same_locator}
-
--- one zone of a prefix
-pub one_zone : (r : Register) → IsAccepted r → (a b : Zone) → IsIn a r.zones → IsIn b r.zones → a.prefix ≡ b.prefix → a ≡ b
-one_zone r accepted a b j k same =
-    let here : is_same_path a.prefix b.prefix ≡ true = subst (λ (p : List ℕ). is_same_path a.prefix p ≡ true) same (one_path a.prefix a.prefix (covers_self a.prefix) (covers_self a.prefix)) in
-    let there : is_same_path b.prefix a.prefix ≡ true = subst (λ (p : List ℕ). is_same_path p a.prefix ≡ true) same (one_path a.prefix a.prefix (covers_self a.prefix) (covers_self a.prefix)) in
-    elim (one_row (λ (z : Zone). z.row) r.zones 0 a b (zones_rise r) j k) [
-      | inl one ↦ one
-      | inr apart ↦ elim apart [
-        | inl lt ↦ absurd (both_ways (is_same_path a.prefix b.prefix) (own_prefix r accepted a b j k lt) here)
-        | inr gt ↦ absurd (both_ways (is_same_path b.prefix a.prefix) (own_prefix r accepted b a k j gt) there)
-      ]
-    ]
+use Rattle.ddt_path.proofs.FilterLemmas.{filter_same}
 
 unshared_fails : (ls ms : List Locator) (l : Locator) → share ls ms ≡ false → lists ls l ≡ true → lists ms l ≡ true → ⊥
 unshared_fails [] ms l e here there = false≢true here

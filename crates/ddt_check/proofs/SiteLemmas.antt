@@ -19,9 +19,10 @@ use Rattle.ddt_check.proofs.ZoneLemmas.{zone_prefix, site_prefix}
 use Rattle.ddt_check.specs.Zones.{is_site_in}
 use Rattle.ddt_path.proofs.MemberLemmas.{IsIn, fails_at}
 use Rattle.ddt_register.proofs.RisingLemmas.{rule_kept}
-use Rattle.ddt_path.proofs.ChosenLemmas.{longest_member, longest_match-filter}
+use Rattle.ddt_path.specs.declared.matching.Preference.TheVariants.{Longest}
 use Rattle.ddt_path.proofs.FrontLemmas.{front_covers, front_below}
 use Rattle.ddt_check.proofs.NextLemmas.{next_none}
+use Rattle.ddt_path.proofs.MatchingLemmas.{best_member, best_match-filter}
 
 none_below : (r : Register) → IsAccepted r → (p z : Zone) → IsIn p r.zones → p.kind ≡ Ms → IsIn z r.zones → is_strictly_below z.prefix p.prefix ≡ false
 none_below r accepted p z j ms k =
@@ -47,7 +48,7 @@ role_is_ms Ms e = refl
 zone_of_site : (r : Register) (s : Site) (found : Option Zone) → zone_of r s.prefix ≡ found → option_map_or (λ (z : Zone). not (is_ms z.kind)) found true ≡ false → (w : Zone) × IsIn w r.zones × (covers w.prefix s.prefix ≡ true) × (w.kind ≡ Ms)
 zone_of_site r s None e inside = absurd (true≢false inside)
 zone_of_site r s (Some w) e inside =
-    let p = longest_member zone_prefix s.prefix r.zones w e in
+    let p = best_member Longest zone_prefix s.prefix r.zones w e in
     (w, p.0, p.1, role_is_ms w.kind inside)
 
 pub site_inside : (r : Register) → IsAccepted r → (p : Zone) (s : Site) (x : List ℕ) → IsIn p r.zones → covers p.prefix x ≡ true → IsIn s r.sites → covers s.prefix x ≡ true → covers p.prefix s.prefix ≡ true
@@ -59,4 +60,4 @@ site_inside r accepted p s x j c k d =
 
 -- so the longest site inside a zone is the longest of all
 pub longest_site : (r : Register) → IsAccepted r → (p : Zone) (x : List ℕ) → IsIn p r.zones → covers p.prefix x ≡ true → longest_match site_prefix (filter (is_site_in p) r.sites) x ≡ site_of r x
-longest_site r accepted p x j c = longest_match-filter site_prefix x (is_site_in p) r.sites (λ s k d. site_inside r accepted p s x j c k d)
+longest_site r accepted p x j c = best_match-filter Longest site_prefix x (is_site_in p) r.sites (λ s k d. site_inside r accepted p s x j c k d)

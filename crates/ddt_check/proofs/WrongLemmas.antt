@@ -1,24 +1,21 @@
 -- The least row of a group of wrong locators, by what is wrong of it alone and by the columns.
-use Rattle.std.proofs.Common.{◌≡◌, ◌⊎◌, ℕ, zero, suc, ◌+◌, ◌<◌, ◌≤◌, Bool, true, false, not, List, [], ◌∷◌, length, drop, find, max, Option, Some, None, inl, inr, refl, sym, ap, subst, ◌∙◌, arith}
+use Rattle.std.proofs.Common.{◌≡◌, ◌⊎◌, ℕ, zero, suc, ◌<◌, ◌≤◌, Bool, true, false, not, List, [], ◌∷◌, length, drop, find, max, Option, Some, None, inl, inr, refl, sym, ap, subst, ◌∙◌, arith}
 use Rattle.std.specs.Prelude.{◌==◌, ◌&&◌, ◌||◌, nat_lt, slice_get, ◌≢◌}
 use Rattle.std.specs.List.{list_any}
 use Rattle.std.specs.Option.{option_map_or}
-use Rattle.std.proofs.lemmas.Bool.{false≢true, both_ways, false_from_ne_true, not_from_false, not-true, and_parts, and_from, or_left, or_right, or_cases, cases_lt, lt-ltb, ltb-true, ltb-false, eq-eqb, eqb-true, eqb-false, ne_eqb, cond-true, cond-false}
+use Rattle.std.proofs.lemmas.Bool.{false≢true, both_ways, false_from_ne_true, not-true, and_parts, and_from, or_left, or_right, or_cases, cases_lt, lt-ltb, ltb-true, ltb-false, eq-eqb, eqb-true, eqb-false, ne_eqb, cond-true, cond-false}
 use Rattle.ddt_path.specs.declared.locator.Locator.{Locator}
 use Rattle.ddt_path.specs.declared.locator.Locator.TheVariants.{V4, V6}
 use Rattle.ddt_path.specs.Locators.{is_same_locator, lists, are_distinct}
 use Rattle.ddt_path.specs.Covers.{is_same_path}
 use Rattle.ddt_path.proofs.LocatorLemmas.{same_locator}
-use Rattle.ddt_path.proofs.MemberLemmas.{IsIn, found_in, found_passes, fails_at, in_later}
+use Rattle.ddt_path.proofs.MemberLemmas.{IsIn, found_in, found_passes, fails_at, in_later, any_in, in_any}
 use Rattle.ddt_register.specs.declared.group.Group.{Group}
 use Rattle.ddt_register.specs.declared.register.Register.{Register}
 use Rattle.ddt_check.specs.declared.fault.Rule.TheVariants as rules
 use Rattle.ddt_check.specs.Rules.{IsLeastRow, broken, group_at, has_wrong_locators, share, earlier_group}
 use Rattle.ddt_check.specs.Columns.{pair_or_none, key_list, column_key, locator_key, first_in, is_later_row, meets_at, meets_in, is_met, is_wrong_alone}
-use Rattle.ddt_check.proofs.LeastRowLemmas.{IsLeastRow-same}
-use Rattle.ddt_check.proofs.OrderLemmas.{any_in, in_any}
-use Rattle.ddt_check.proofs.RestoreLemmas.{Rising}
-use Rattle.ddt_check.proofs.RegisterLemmas.{groups_up}
+use Rattle.ddt_register.proofs.RowOrderLemmas.{Rising, groups_up}
 
 -- a wider test that holds at no row without the narrow one at a row no higher
 least_wider : (t b : ℕ → Bool) (o : Option ℕ) → ((n : ℕ) → t n ≡ true → b n ≡ true)

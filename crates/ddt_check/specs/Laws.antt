@@ -1,10 +1,10 @@
 -- What holds of every accepted register, whichever way it is looked up: the laws that following referrals from the root
 -- stands on (RFC 8111, section 7.3). An identifier is a list that passes is_path.
-use Rattle.std.specs.Prelude.{◌≡◌, ◌≢◌, ◌⊎◌, ℕ, ◌<◌, ◌≤◌, List, [], length, Option, None, Some, Contains, IsTrue}
+use Rattle.std.specs.Prelude.{◌≡◌, ◌≢◌, ◌⊎◌, ℕ, ◌<◌, ◌≤◌, List, [], length, Option, None, Some, Contains, IsTrue, slice_get}
 use Rattle.ddt_path.specs.declared.locator.Locator.{Locator}
 use Rattle.ddt_path.specs.declared.record.Role.TheVariants.{Node}
-use Rattle.ddt_path.specs.declared.record.Action.{Action}
-use Rattle.ddt_path.specs.declared.record.Action.TheVariants.{NodeReferral, MsReferral, MsAck, MsNotRegistered, DelegationHole, NotAuthoritative}
+use Rattle.ddt_path.specs.declared.action.Action.{Action}
+use Rattle.ddt_path.specs.declared.action.Action.TheVariants.{NodeReferral, MsReferral, MsAck, MsNotRegistered, DelegationHole, NotAuthoritative}
 use Rattle.ddt_path.specs.declared.record.Outcome.{Outcome}
 use Rattle.ddt_path.specs.declared.record.Outcome.TheVariants.{Registered, NotRegistered, Hole}
 use Rattle.ddt_path.specs.declared.record.ReferralRecord.{ReferralRecord}
@@ -12,12 +12,13 @@ use Rattle.ddt_path.specs.Covers.{covers}
 use Rattle.ddt_path.specs.Free.{free}
 use Rattle.ddt_path.specs.Locators.{lists, most_locators}
 use Rattle.ddt_path.specs.Path.{is_path, is_prefix_path}
-use Rattle.ddt_path.specs.Records.{record_of}
+use Rattle.ddt_path.specs.Records.{positive_ttl, record_of}
 use Rattle.ddt_register.specs.declared.zone.Zone.{Zone}
 use Rattle.ddt_register.specs.declared.site.Site.{Site}
+use Rattle.ddt_register.specs.declared.group.Group.{Group}
 use Rattle.ddt_register.specs.declared.register.Register.{Register}
 use Rattle.ddt_register.specs.Ranges.{are_locators}
-use Rattle.ddt_check.specs.Zones.{zone_of, site_of, locators_of, roots}
+use Rattle.ddt_check.specs.Zones.{zone_of, site_of, group_named, locators_of, first_locator, roots}
 use Rattle.ddt_check.specs.Assignment.{assignment, prefixes_in, prefixes_below_site}
 use Rattle.ddt_check.specs.Says.{referral_to, says}
 
@@ -62,6 +63,22 @@ pub record IsRootZone (r : Register) (z : Zone) : Type 0 where
 abbrev pub TheRootIsServed : Register → Type 0
 TheRootIsServed r = (z : Zone) × IsRootZone r z
 
+-- the group that a zone names has a row, and the zone's locators are those of the row
+pub record IsItsGroup (r : Register) (z : Zone) (g : Group) : Type 0 where
+  pub is_group : Contains r.groups g
+  pub its_group : group_named r z.group ≡ Some g
+  pub its_servers : locators_of r z.group ≡ g.locators
+  pub are_servers : AreServers g.locators
+
+-- no zone is without a group, nor without a server
+abbrev pub EachZoneHasServers : Register → Type 0
+EachZoneHasServers r = (z : Zone) → Contains r.zones z → (g : Group) × IsItsGroup r z g
+
+-- what is called the first locator of a group stands at place 0 of its row
+abbrev pub EachGroupHasAFirstLocator : Register → Type 0
+EachGroupHasAFirstLocator r =
+    (g : Group) → Contains r.groups g → slice_get g.locators 0 ≡ Some (first_locator g.locators)
+
 -- a locator that two zones list serves them for one group
 abbrev pub EachLocatorIsOfOneGroup : Register → Type 0
 EachLocatorIsOfOneGroup r =
@@ -105,7 +122,7 @@ ServersOfAGroupAgree r =
 -- a record of such numbers as a message holds
 pub record IsSendable (v : ReferralRecord) : Type 0 where
   pub is_prefix : IsTrue (is_prefix_path v.prefix)
-  pub ttl_fits : v.ttl ≤ 1440
+  pub ttl_fits : v.ttl ≤ positive_ttl
   pub few_servers : length v.servers ≤ most_locators
   pub servers_fit : IsTrue (are_locators v.servers)
 

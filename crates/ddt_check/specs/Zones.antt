@@ -1,8 +1,9 @@
 -- What is looked up in a register: a zone of an identifier, a group of a name, the locators of a group, served zones.
-use Rattle.std.specs.Prelude.{ℕ, Bool, true, false, List, [], find, Option, None, Some}
+use Rattle.std.specs.Prelude.{ℕ, Bool, true, false, List, [], ◌∷◌, find, Option}
 use Rattle.std.specs.List.{filter}
 use Rattle.std.specs.Option.{option_map_or}
 use Rattle.ddt_path.specs.declared.locator.Locator.{Locator}
+use Rattle.ddt_path.specs.declared.locator.Locator.TheVariants.{V4}
 use Rattle.ddt_path.specs.declared.record.Role.{Role}
 use Rattle.ddt_path.specs.declared.record.Role.TheVariants.{Node, Ms}
 use Rattle.ddt_path.specs.Covers.{covers}
@@ -42,6 +43,11 @@ group_named r name = find (λ g. is_same_name g.name name) r.groups
 -- no such group.
 abbrev pub locators_of : Register → List ℕ → List Locator
 locators_of r name = option_map_or (λ g. g.locators) (group_named r name) []
+
+-- The first locator of a group. A group without one gives 0.0.0.0: an accepted register has no such group.
+abbrev pub first_locator : List Locator → Locator
+first_locator [] = V4 0
+first_locator (l ∷ ls) = l
 
 -- a zone that names a group as its own
 abbrev pub is_served_by : Group → Zone → Bool

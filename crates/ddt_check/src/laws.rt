@@ -3,7 +3,7 @@
 
 ghost use Rattle.ddt_register.specs.declared.register.Register.{Register};
 ghost use Rattle.ddt_check.specs.Rules.{IsAccepted};
-ghost use Rattle.ddt_check.specs.Laws.{EachIdentifierHasOneZone, TheRootIsServed, EachLocatorIsOfOneGroup, ServersReferDownwards, ReferralsAreToZones, FinalAnswersAreTheAssignment, AnswersCover, AnswersHaveServers, ServersOfAGroupAgree, AnswersCanBeSent, RegisteredPrefixesAreSites, NegativesHoldOfAll, HolesAreFree, PartsOfSitesAreFree};
+ghost use Rattle.ddt_check.specs.Laws.{EachIdentifierHasOneZone, TheRootIsServed, EachLocatorIsOfOneGroup, EachZoneHasServers, EachGroupHasAFirstLocator, ServersReferDownwards, ReferralsAreToZones, FinalAnswersAreTheAssignment, AnswersCover, AnswersHaveServers, ServersOfAGroupAgree, AnswersCanBeSent, RegisteredPrefixesAreSites, NegativesHoldOfAll, HolesAreFree, PartsOfSitesAreFree};
 
 /// One zone is the longest that covers an identifier; DDT nodes serve everything at 1 to 8 locators, the roots; and a
 /// locator serves the zones of one group alone (RFC 8111, section 4).
@@ -11,6 +11,13 @@ pub fn each_identifier_has_a_zone()
     ensures one_zone { (r : Register) → IsAccepted r → EachIdentifierHasOneZone r }
     ensures root { (r : Register) → IsAccepted r → TheRootIsServed r }
     ensures one_group { (r : Register) → IsAccepted r → EachLocatorIsOfOneGroup r }
+{}
+
+/// Each zone is served: its group has a row with 1 to 8 locators, and they are the zone's; and each group row has a first
+/// locator. So what looks up the locators of a zone's group, or the first of a group, never meets its default.
+pub fn each_zone_has_servers()
+    ensures served { (r : Register) → IsAccepted r → EachZoneHasServers r }
+    ensures first { (r : Register) → IsAccepted r → EachGroupHasAFirstLocator r }
 {}
 
 /// What an honest server says of an identifier that one of its zones covers: a referral strictly downwards, to a zone

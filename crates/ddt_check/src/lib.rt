@@ -21,7 +21,7 @@ pub use assigning::assign;
 pub use checking::check;
 pub use fault::{Fault, Rule};
 pub use laws::{
-    each_identifier_has_a_zone, honest_servers_lead_to_the_assignment,
+    each_identifier_has_a_zone, each_zone_has_servers, honest_servers_lead_to_the_assignment,
     negatives_hold_of_all_that_they_cover,
 };
 pub use saying::says;

@@ -1,6 +1,6 @@
 -- The direct children of a zone of DDT nodes: the next zone towards an identifier is one of them, and what overlaps
 -- none of them overlaps no zone below.
-use Rattle.std.proofs.Common.{◌≡◌, ℕ, Bool, true, false, not, List, length, map, Option, Some, None, refl, sym, ◌∙◌, arith, inl, inr}
+use Rattle.std.proofs.Common.{◌≡◌, ℕ, true, false, not, List, length, map, Option, Some, None, refl, sym, ◌∙◌, arith, inl, inr}
 use Rattle.std.specs.List.{list_any, filter}
 use Rattle.std.proofs.lemmas.Bool.{cases_lt, and_parts, and_from, both_ways, not-true, not_from_false, false_from_ne_true}
 use Rattle.ddt_path.specs.Covers.{covers, overlaps, is_strictly_below}
@@ -13,11 +13,14 @@ use Rattle.ddt_check.specs.Assignment.{prefixes_below}
 use Rattle.ddt_check.specs.Rules.{IsAccepted}
 use Rattle.ddt_check.proofs.ZoneLemmas.{zone_prefix}
 use Rattle.ddt_compile.specs.GroupConfig.{is_between, is_direct_child}
-use Rattle.ddt_path.proofs.MemberLemmas.{IsIn, in_filter, filter_in, none_of, fails_at, holds_at, all_kept, list_all-map}
-use Rattle.ddt_path.proofs.ChosenLemmas.{longest_is, longest_none}
+use Rattle.ddt_path.proofs.MemberLemmas.{IsIn, iff_same, none_of, fails_at}
+use Rattle.ddt_path.specs.declared.matching.Preference.TheVariants.{Longest}
+use Rattle.ddt_path.proofs.HoleLemmas.{apart_from_kept, kept_apart}
 use Rattle.ddt_path.proofs.FrontLemmas.{one_front, front_below, below_parts, overlaps_front}
-use Rattle.ddt_check.proofs.ServedLemmas.{one_zone}
+use Rattle.ddt_check.proofs.KeptLemmas.{one_zone}
 use Rattle.ddt_check.proofs.NextLemmas.{next_is, next_least, no_next}
+use Rattle.ddt_path.proofs.FilterLemmas.{in_filter, filter_in}
+use Rattle.ddt_path.proofs.MatchingLemmas.{best_is, best_none}
 
 pub child_parts : (r : Register) (p c : Zone) → is_direct_child r p c ≡ true → (is_strictly_below c.prefix p.prefix ≡ true) × (list_any (is_between p c) r.zones ≡ false)
 child_parts r p c e =
@@ -42,7 +45,7 @@ next_is_child r p c x inside e =
 
 children_of_none : (r : Register) (p : Zone) (x : List ℕ) → next_zone r (length p.prefix) x ≡ None → longest_match zone_prefix (filter (is_direct_child r p) r.zones) x ≡ None
 children_of_none r p x e =
-    longest_none zone_prefix x (filter (is_direct_child r p) r.zones) (λ b k. false_from_ne_true (covers b.prefix x) (λ c.
+    best_none Longest zone_prefix x (filter (is_direct_child r p) r.zones) (λ b k. false_from_ne_true (covers b.prefix x) (λ c.
     let q = in_filter (is_direct_child r p) r.zones b k in
     let below = below_parts b.prefix p.prefix (child_parts r p b q.1).0 in
     let le = no_next r (length p.prefix) x b e q.0 c in
@@ -52,7 +55,7 @@ child_of_next : (r : Register) → IsAccepted r → (p c : Zone) (x : List ℕ) 
 child_of_next r accepted p c x inside e =
     let n = next_is r (length p.prefix) x c e in
     let direct = next_is_child r p c x inside e in
-    longest_is zone_prefix x (filter (is_direct_child r p) r.zones) c (filter_in (is_direct_child r p) r.zones c n.0 direct) n.2 (λ b k d.
+    best_is Longest zone_prefix x (filter (is_direct_child r p) r.zones) c (filter_in (is_direct_child r p) r.zones c n.0 direct) n.2 (λ b k d.
     let q = in_filter (is_direct_child r p) r.zones b k in
     let s = child_parts r p b q.1 in
     let le = next_least r (length p.prefix) x c b e q.0 d (below_parts b.prefix p.prefix s.0).1 in
@@ -83,25 +86,11 @@ child_above r p z k below = go (next_zone r (length p.prefix) z.prefix) refl
         let n = next_is r (length p.prefix) z.prefix c e in
         (c, n.0, next_is_child r p c z.prefix (below_parts z.prefix p.prefix below).0 e, n.2)
 
--- what overlaps none of the prefixes that are kept
-apart_from_kept : (test : Zone → Bool) (zones : List Zone) (q : List ℕ) → ((z : Zone) → IsIn z zones → test z ≡ true → overlaps z.prefix q ≡ false) → overlaps_none (map zone_prefix (filter test zones)) q ≡ true
-apart_from_kept test zones q h = all_kept zone_prefix (λ (p : List ℕ). not (overlaps p q)) test zones (λ z k t. not_from_false (overlaps z.prefix q) (h z k t))
-
-kept_apart : (test : Zone → Bool) (zones : List Zone) (q : List ℕ) → overlaps_none (map zone_prefix (filter test zones)) q ≡ true → (z : Zone) → IsIn z zones → test z ≡ true → overlaps z.prefix q ≡ false
-kept_apart test zones q e z k t =
-    not-true (overlaps z.prefix q) (holds_at (λ (y : Zone). not (overlaps y.prefix q)) (filter test zones) z
-    (sym (list_all-map (λ (p : List ℕ). not (overlaps p q)) zone_prefix (filter test zones)) ∙ e) (filter_in test zones z k t))
-
-pub both_or_none : (a b : Bool) → (a ≡ true → b ≡ true) → (b ≡ true → a ≡ true) → a ≡ b
-both_or_none true b up down = sym (up refl)
-both_or_none false true up down = down refl
-both_or_none false false up down = refl
-
 pub same_free : (r : Register) (p : Zone) (q : List ℕ) → overlaps_none (map zone_prefix (filter (is_direct_child r p) r.zones)) q ≡ overlaps_none (prefixes_below r p) q
 same_free r p q =
     let below = (λ (y : Zone). is_strictly_below y.prefix p.prefix) in
-    both_or_none (overlaps_none (map zone_prefix (filter (is_direct_child r p) r.zones)) q) (overlaps_none (prefixes_below r p) q)
-    (λ e. apart_from_kept below r.zones q (λ z k t. false_from_ne_true (overlaps z.prefix q) (λ o.
+    iff_same (overlaps_none (map zone_prefix (filter (is_direct_child r p) r.zones)) q) (overlaps_none (prefixes_below r p) q)
+    (λ e. apart_from_kept zone_prefix below r.zones q (λ z k t. false_from_ne_true (overlaps z.prefix q) (λ o.
     let c = child_above r p z k t in
-    both_ways (overlaps c.0.prefix q) (kept_apart (is_direct_child r p) r.zones q e c.0 c.1 c.2) (overlaps_front c.0.prefix z.prefix q c.3 o))))
-    (λ e. apart_from_kept (is_direct_child r p) r.zones q (λ z k t. kept_apart below r.zones q e z k (child_parts r p z t).0))
+    both_ways (overlaps c.0.prefix q) (kept_apart zone_prefix (is_direct_child r p) r.zones q e c.0 c.1 c.2) (overlaps_front c.0.prefix z.prefix q c.3 o))))
+    (λ e. apart_from_kept zone_prefix (is_direct_child r p) r.zones q (λ z k t. kept_apart zone_prefix below r.zones q e z k (child_parts r p z t).0))

@@ -1,9 +1,8 @@
 -- A compiled configuration answers what the register says: at a zone of DDT nodes, at one of Map-Servers, at a locator.
-use Rattle.std.proofs.Common.{◌≡◌, ℕ, Bool, true, false, List, [], ◌∷◌, length, map, Option, Some, None, cond, refl, sym, ap, ◌∙◌}
+use Rattle.std.proofs.Common.{◌≡◌, ℕ, true, List, length, map, Option, Some, None, cond, refl, sym, ap, ◌∙◌}
 use Rattle.std.specs.Prelude.{◌==◌, unwrap_or}
 use Rattle.std.specs.List.{filter, All}
 use Rattle.std.specs.Option.{option_map, option_map_or}
-use Rattle.std.proofs.lemmas.Bool.{false≢true}
 use Rattle.std.proofs.lemmas.Simd.{map-map}
 use Rattle.ddt_path.specs.declared.locator.Locator.{Locator}
 use Rattle.ddt_path.specs.declared.record.Role.{Role}
@@ -26,26 +25,24 @@ use Rattle.ddt_check.specs.Assignment.{assignment, assigned_in, assigned_site, p
 use Rattle.ddt_check.specs.Says.{next_zone, says, says_from, referral_to as referral_to_zone}
 use Rattle.ddt_check.specs.Rules.{IsAccepted}
 use Rattle.ddt_check.proofs.ZoneLemmas.{zone_prefix, site_prefix}
-use Rattle.ddt_config.specs.declared.config.Authority.{Authority}
-use Rattle.ddt_config.specs.declared.config.Content.TheVariants.{Children, Sites}
-use Rattle.ddt_config.specs.declared.config.Child.{Child}
-use Rattle.ddt_config.specs.declared.config.SiteEntry.{SiteEntry}
+use Rattle.ddt_config.specs.declared.authority.Authority.{Authority}
+use Rattle.ddt_config.specs.declared.authority.Content.TheVariants.{Children, Sites}
+use Rattle.ddt_config.specs.declared.child.Child.{Child}
+use Rattle.ddt_config.specs.declared.site_entry.SiteEntry.{SiteEntry}
 use Rattle.ddt_config.specs.declared.config.ServerConfig.{ServerConfig}
 use Rattle.ddt_config.specs.Table.{outline}
 use Rattle.ddt_config.specs.Answer.{answer, answer_in, referral_to, site_outcome, strictly_below}
 use Rattle.ddt_compile.specs.GroupConfig.{is_direct_child, child_of, children_of, entry_of, sites_of, content_of, authority_of, group_config}
 use Rattle.ddt_check.specs.Zones.{is_site_in, is_served_by}
 use Rattle.ddt_compile.specs.Laws.{IsHonestConfig}
-use Rattle.ddt_path.proofs.MemberLemmas.{IsIn, in_filter, all_made}
-use Rattle.ddt_path.proofs.ChosenLemmas.{longest_member, longest_match-map}
+use Rattle.ddt_path.proofs.MemberLemmas.{IsIn, all_made}
+use Rattle.ddt_path.specs.declared.matching.Preference.TheVariants.{Longest}
 use Rattle.ddt_check.proofs.ServedLemmas.{locators_of_zone, group_serves}
-use Rattle.ddt_check.proofs.NextLemmas.{zone_is}
+use Rattle.ddt_check.proofs.NextLemmas.{assigned_here}
 use Rattle.ddt_compile.proofs.ChildLemmas.{longest_child, same_free}
 use Rattle.ddt_check.proofs.SiteLemmas.{no_next_zone, longest_site, site_inside}
-
--- the assignment where a zone has no next zone
-assigned_here : (r : Register) → IsAccepted r → (p : Zone) (x : List ℕ) → IsIn p r.zones → covers p.prefix x ≡ true → next_zone r (length p.prefix) x ≡ None → assignment r x ≡ assigned_in r p p.kind x
-assigned_here r accepted p x j c e = ap (λ (z : Option Zone). option_map_or (λ (w : Zone). assigned_in r w w.kind x) z (Hole [])) (zone_is r accepted p x j c e)
+use Rattle.ddt_path.proofs.FilterLemmas.{in_filter, kept_by_both}
+use Rattle.ddt_path.proofs.MatchingLemmas.{best_member, best_match-map}
 
 -- ---- a zone of DDT nodes
 
@@ -58,7 +55,7 @@ same_hole r p x =
     ∙ ap (λ (hole : Option (List ℕ)). Hole (unwrap_or hole x)) (free_agree p.prefix (map zone_prefix (filter (is_direct_child r p) r.zones)) (prefixes_below r p) x (same_free r p))
 
 found_child : (r : Register) → IsAccepted r → (p : Zone) (x : List ℕ) → covers p.prefix x ≡ true → longest_match child_prefix (children_of r p) x ≡ option_map (child_of r) (next_zone r (length p.prefix) x)
-found_child r accepted p x c = longest_match-map (child_of r) child_prefix (filter (is_direct_child r p) r.zones) x ∙ ap (option_map (child_of r)) (longest_child r accepted p x c)
+found_child r accepted p x c = best_match-map Longest (child_of r) child_prefix (filter (is_direct_child r p) r.zones) x ∙ ap (option_map (child_of r)) (longest_child r accepted p x c)
 
 node_answers : (r : Register) → IsAccepted r → (servers : List Locator) (p : Zone) (x : List ℕ) → IsIn p r.zones → p.kind ≡ Node → covers p.prefix x ≡ true → answer_in servers p.prefix (Children (children_of r p)) x ≡ says_from r p x
 node_answers r accepted servers p x j node c =
@@ -77,25 +74,7 @@ abbrev entry_prefix : SiteEntry → List ℕ
 entry_prefix s = s.prefix
 
 found_site : (r : Register) → IsAccepted r → (p : Zone) (x : List ℕ) → IsIn p r.zones → covers p.prefix x ≡ true → longest_match entry_prefix (sites_of r p) x ≡ option_map entry_of (site_of r x)
-found_site r accepted p x j c = longest_match-map entry_of entry_prefix (filter (is_site_in p) r.sites) x ∙ ap (option_map entry_of) (longest_site r accepted p x j c)
-
--- of what is kept by a weaker test first, a test keeps what it keeps of all
-kept_by_both : {A B : Type 0} (f : A → B) (weak : A → Bool) (test : B → Bool) → ((a : A) → test (f a) ≡ true → weak a ≡ true)
-    → (xs : List A) → filter test (map f (filter weak xs)) ≡ map f (filter (λ a. test (f a)) xs)
-kept_by_both f weak test implies [] = refl
-kept_by_both {A} f weak test implies (x ∷ xs) =
-    elim (weak x) as (λ w. weak x ≡ w → filter test (map f (cond w (x ∷ filter weak xs) (filter weak xs))) ≡ map f (filter (λ a. test (f a)) (x ∷ xs))) [
-      | true ↦ λ e.
-          elim (test (f x)) as (λ t. cond t (f x ∷ filter test (map f (filter weak xs))) (filter test (map f (filter weak xs))) ≡ map f (cond t (x ∷ filter (λ a. test (f a)) xs) (filter (λ a. test (f a)) xs))) [
-            | true ↦ ap (λ (ys : List _). f x ∷ ys) (kept_by_both f weak test implies xs)
-            | false ↦ kept_by_both f weak test implies xs
-          ]
-      | false ↦ λ e. kept_by_both f weak test implies xs ∙ sym (ap (map f) (dropped (test (f x)) x xs (λ t. absurd (false≢true (sym e ∙ implies x t)))))
-    ] refl
-  where
-    dropped : (b : Bool) (y : A) (ys : List A) → (b ≡ true → ⊥) → cond b (y ∷ filter (λ a. test (f a)) ys) (filter (λ a. test (f a)) ys) ≡ filter (λ a. test (f a)) ys
-    dropped true y ys none = absurd (none refl)
-    dropped false y ys none = refl
+found_site r accepted p x j c = best_match-map Longest entry_of entry_prefix (filter (is_site_in p) r.sites) x ∙ ap (option_map entry_of) (longest_site r accepted p x j c)
 
 -- a zone that covers a site has all the sites inside this one
 same_below : (r : Register) (p : Zone) (s : Site) → covers p.prefix s.prefix ≡ true → strictly_below s.prefix (map entry_prefix (sites_of r p)) ≡ prefixes_below_site r s
@@ -116,7 +95,7 @@ site_outcomes : (r : Register) → IsAccepted r → (servers : List Locator) (p 
     → option_map_or (site_outcome servers (map entry_prefix (sites_of r p)) x) (option_map entry_of found) hole ≡ option_map_or (λ (s : Site). assigned_site r p s x) found hole
 site_outcomes r accepted servers p x hole None j c here is = refl
 site_outcomes r accepted servers p x hole (Some s) j c here is =
-    let m = longest_member site_prefix x r.sites s is in
+    let m = best_member Longest site_prefix x r.sites s is in
     same_outcome r servers p s x here (site_inside r accepted p s x j c m.0 m.1)
 
 site_answers : (r : Register) → IsAccepted r → (servers : List Locator) (p : Zone) (x : List ℕ) → IsIn p r.zones → p.kind ≡ Ms → covers p.prefix x ≡ true → locators_of r p.group ≡ servers → answer_in servers p.prefix (Sites (sites_of r p)) x ≡ says_from r p x
@@ -145,7 +124,7 @@ zone_answers r accepted servers p x j c here = go p.kind refl
 pub honest_at : (r : Register) → IsAccepted r → (g : Group) (l : Locator) (x : List ℕ) → IsIn g r.groups → lists g.locators l ≡ true → answer (group_config r g) x ≡ says r l x
 honest_at r accepted g l x k here =
     let zones = filter (is_served_by g) r.zones in
-    ap (λ (o : Option Authority). option_map_or (λ (a : Authority). answer_in g.locators a.prefix a.content x) o (not_authoritative x)) (longest_match-map (authority_of r) authority_prefix zones x)
+    ap (λ (o : Option Authority). option_map_or (λ (a : Authority). answer_in g.locators a.prefix a.content x) o (not_authoritative x)) (best_match-map Longest (authority_of r) authority_prefix zones x)
     ∙ go (longest_match zone_prefix zones x) refl
     ∙ ap (λ (served : List Zone). option_map_or (λ (z : Zone). says_from r z x) (longest_match zone_prefix served x) (not_authoritative x)) (sym (group_serves r accepted g l k here))
   where
@@ -153,7 +132,7 @@ honest_at r accepted g l x k here =
         → option_map_or (λ (a : Authority). answer_in g.locators a.prefix a.content x) (option_map (authority_of r) found) (not_authoritative x) ≡ option_map_or (λ (z : Zone). says_from r z x) found (not_authoritative x)
     go None e = refl
     go (Some p) e =
-        let m = longest_member zone_prefix x (filter (is_served_by g) r.zones) p e in
+        let m = best_member Longest zone_prefix x (filter (is_served_by g) r.zones) p e in
         let q = in_filter (is_served_by g) r.zones p m.0 in
         zone_answers r accepted g.locators p x q.0 m.1 (locators_of_zone r accepted g p k q.1)
 

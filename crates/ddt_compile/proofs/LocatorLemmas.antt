@@ -12,7 +12,7 @@ use Rattle.ddt_register.specs.declared.register.Register.{Register}
 use Rattle.ddt_path.specs.Names.{is_same_name}
 use Rattle.ddt_check.specs.Zones.{group_named, locators_of}
 use Rattle.ddt_path.proofs.MemberLemmas.{found_now, found_before}
-use Rattle.ddt_check.proofs.KeptLemmas.{same_digits}
+use Rattle.ddt_path.proofs.CoverLemmas.{same_path}
 
 abbrev named : List ℕ → Group → Bool
 named name g = is_same_name g.name name
@@ -40,7 +40,7 @@ module _ (groups : List Group) (i : ℕ) (g : Group) (lt : i < length groups) (i
     where
       by_name : (b : Bool) → named name g ≡ b → cond (named name g) (Some set) (get (slice_cmp nat_cmp) old name) ≡ servers (find (named name) (take (i + 1) groups))
       by_name true e =
-          let unknown = subst (λ (n : List ℕ). is_some (get (slice_cmp nat_cmp) old n) ≡ false) (same_digits g.name name e) absent in
+          let unknown = subst (λ (n : List ℕ). is_some (get (slice_cmp nat_cmp) old n) ≡ false) (same_path g.name name e) absent in
           let none = none_found (find (named name) (take i groups)) (ap is_some (sym (before name)) ∙ unknown) in
           cond-true (named name g) (Some set) _ e ∙ ap (λ (ls : List Locator). Some ls) made ∙ ap servers (sym (found_now (named name) groups i g lt is none e))
       by_name false e = cond-false (named name g) (Some set) _ e ∙ other_name name e
@@ -51,7 +51,7 @@ module _ (groups : List Group) (i : ℕ) (g : Group) (lt : i < length groups) (i
     where
       by_name : (b : Bool) → named name g ≡ b → get (slice_cmp nat_cmp) old name ≡ servers (find (named name) (take (i + 1) groups))
       by_name true e =
-          let known = subst (λ (n : List ℕ). is_some (get (slice_cmp nat_cmp) old n) ≡ true) (same_digits g.name name e) present in
+          let known = subst (λ (n : List ℕ). is_some (get (slice_cmp nat_cmp) old n) ≡ true) (same_path g.name name e) present in
           let some = some_found (find (named name) (take i groups)) (ap is_some (sym (before name)) ∙ known) in
           before name ∙ ap servers (sym (found_before (named name) groups i g lt is (find (named name) (take i groups)) refl (inr some)))
       by_name false e = other_name name e

@@ -1,13 +1,11 @@
 -- The nearest zone above a zone is the one whose child it is, and the nearest above a site the one whose site it is.
-use Rattle.std.proofs.Common.{◌≡◌, ℕ, ◌+◌, ◌<◌, ◌≤◌, Bool, true, false, not, List, [], ◌∷◌, length, take, drop, refl, sym, ap, subst, ◌∙◌, arith, inl, inr}
+use Rattle.std.proofs.Common.{◌≡◌, ℕ, ◌+◌, ◌<◌, ◌≤◌, true, false, not, List, length, refl, sym, ap, subst, ◌∙◌, arith, inl, inr}
 use Rattle.std.specs.List.{list_any}
-use Rattle.std.specs.Cmp.Lexicographic.{nat_list_eq_equiv}
 use Rattle.std.specs.FinMap.{FinMap, contains_key}
-use Rattle.std.proofs.lemmas.Bool.{cases_lt, and_parts, and_from, or_cases, both_ways, not_from_false, false_from_ne_true, false≢true}
-use Rattle.std.proofs.lemmas.List.{take-append-drop}
+use Rattle.std.proofs.lemmas.Bool.{cases_lt, and_parts, and_from, both_ways, not_from_false, false_from_ne_true}
 use Rattle.ddt_path.specs.declared.record.Role.TheVariants.{Ms}
 use Rattle.ddt_path.specs.Covers.{covers, is_same_path, is_strictly_below}
-use Rattle.ddt_path.proofs.CoverLemmas.{covers_self, length-covered, take-covered, covers-append}
+use Rattle.ddt_path.proofs.CoverLemmas.{path_itself, covers_self, length-covered, same_path}
 use Rattle.ddt_register.specs.declared.zone.Zone.{Zone}
 use Rattle.ddt_trie.specs.PrefixMap.{path_cmp}
 use Rattle.ddt_register.specs.declared.site.Site.{Site}
@@ -16,32 +14,10 @@ use Rattle.ddt_check.specs.Rules.{IsAccepted}
 use Rattle.ddt_compile.specs.GroupConfig.{is_between, is_direct_child}
 use Rattle.ddt_check.specs.Zones.{is_site_in}
 use Rattle.ddt_compile.specs.Nearest.{HasPrefixesOf, IsAbove}
-use Rattle.ddt_path.proofs.MemberLemmas.{IsIn, fails_at, none_of}
-use Rattle.ddt_check.proofs.KeptLemmas.{same_digits}
+use Rattle.ddt_path.proofs.MemberLemmas.{IsIn, any_in, in_any, fails_at, none_of, iff_same}
 use Rattle.ddt_path.proofs.FrontLemmas.{one_front, front_below, below_parts}
-use Rattle.ddt_compile.proofs.ChildLemmas.{child_parts, both_or_none}
+use Rattle.ddt_compile.proofs.ChildLemmas.{child_parts}
 use Rattle.ddt_check.proofs.SiteLemmas.{no_longer_zone}
-
-pub path_itself : (p q : List ℕ) → p ≡ q → is_same_path p q ≡ true
-path_itself p q e = subst (λ (r : List ℕ). is_same_path p r ≡ true) e (nat_list_eq_equiv.refl p)
-
-pub front_covered : (n : ℕ) (x : List ℕ) → covers (take n x) x ≡ true
-front_covered n x = subst (λ (y : List ℕ). covers (take n x) y ≡ true) (take-append-drop n x) (covers-append (take n x) (drop n x))
-
-any_in : {A : Type 0} (test : A → Bool) (xs : List A) → list_any test xs ≡ true → (x : A) × IsIn x xs × (test x ≡ true)
-any_in test [] e = absurd (false≢true e)
-any_in test (y ∷ xs) e =
-    elim (or_cases (test y) (list_any test xs) e) [
-      | inl here ↦ (y, inl refl, here)
-      | inr later ↦ let found = any_in test xs later in (found.0, inr found.1, found.2)
-    ]
-
-in_any : {A : Type 0} (test : A → Bool) (xs : List A) (x : A) → IsIn x xs → test x ≡ true → list_any test xs ≡ true
-in_any test xs x k e = some_case (list_any test xs) refl
-  where
-    some_case : (b : Bool) → list_any test xs ≡ b → list_any test xs ≡ true
-    some_case true all = all
-    some_case false none = absurd (both_ways (test x) (fails_at test xs x none k) e)
 
 module _ (prefixes : FinMap path_cmp ℕ) (r : Register) (are_kept : HasPrefixesOf prefixes r.zones) where
   kept_zone : (z : Zone) → IsIn z r.zones → contains_key prefixes z.prefix ≡ true
@@ -50,7 +26,7 @@ module _ (prefixes : FinMap path_cmp ℕ) (r : Register) (are_kept : HasPrefixes
   zone_kept : (p : List ℕ) → contains_key prefixes p ≡ true → (y : Zone) × IsIn y r.zones × (p ≡ y.prefix)
   zone_kept p e =
       let found = any_in (λ (y : Zone). is_same_path p y.prefix) r.zones (sym (are_kept p) ∙ e) in
-      (found.0, found.1, same_digits p found.0.prefix found.2)
+      (found.0, found.1, same_path p found.0.prefix found.2)
 
   module _ (z c : Zone) (k : IsIn z r.zones) where
     parent_above : is_direct_child r z c ≡ true → IsAbove prefixes c.prefix (length c.prefix) z.prefix
@@ -64,7 +40,7 @@ module _ (prefixes : FinMap path_cmp ℕ) (r : Register) (are_kept : HasPrefixes
     module _ (p : List ℕ) (above : IsAbove prefixes c.prefix (length c.prefix) p) (longest : (q : List ℕ) → IsAbove prefixes c.prefix (length c.prefix) q → length q ≤ length p) where
       nearest_is_parent : is_same_path p z.prefix ≡ true → is_direct_child r z c ≡ true
       nearest_is_parent same =
-          let e : p ≡ z.prefix = same_digits p z.prefix same in
+          let e : p ≡ z.prefix = same_path p z.prefix same in
           let n : length p ≡ length z.prefix = ap length e in
           let under : is_strictly_below c.prefix z.prefix ≡ true = subst (λ (q : List ℕ). is_strictly_below c.prefix q ≡ true) e (front_below p c.prefix c.prefix above.1 (covers_self c.prefix) above.2) in
           and_from (is_strictly_below c.prefix z.prefix) (not (list_any (is_between z c) r.zones)) under
@@ -91,7 +67,7 @@ module _ (prefixes : FinMap path_cmp ℕ) (r : Register) (are_kept : HasPrefixes
           ]
 
       pub parent_nearest : is_same_path p z.prefix ≡ is_direct_child r z c
-      parent_nearest = both_or_none (is_same_path p z.prefix) (is_direct_child r z c) nearest_is_parent parent_is_nearest
+      parent_nearest = iff_same (is_same_path p z.prefix) (is_direct_child r z c) nearest_is_parent parent_is_nearest
 
   module _ (accepted : IsAccepted r) (z : Zone) (s : Site) (k : IsIn z r.zones) (ms : z.kind ≡ Ms) where
     holder_above : is_site_in z s ≡ true → IsAbove prefixes s.prefix (length s.prefix + 1) z.prefix
@@ -111,4 +87,4 @@ module _ (prefixes : FinMap path_cmp ℕ) (r : Register) (are_kept : HasPrefixes
           path_itself p z.prefix (one_front p z.prefix s.prefix above.1 inside (omega arith))
 
       pub holder_nearest : is_same_path p z.prefix ≡ is_site_in z s
-      holder_nearest = both_or_none (is_same_path p z.prefix) (is_site_in z s) (λ same. subst (λ (q : List ℕ). covers q s.prefix ≡ true) (same_digits p z.prefix same) above.1) holder_is_nearest
+      holder_nearest = iff_same (is_same_path p z.prefix) (is_site_in z s) (λ same. subst (λ (q : List ℕ). covers q s.prefix ≡ true) (same_path p z.prefix same) above.1) holder_is_nearest

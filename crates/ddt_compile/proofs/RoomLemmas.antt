@@ -12,23 +12,23 @@ use Rattle.ddt_register.specs.declared.site.Site.{Site}
 use Rattle.ddt_register.specs.declared.group.Group.{Group}
 use Rattle.ddt_register.specs.declared.register.Register.{Register}
 use Rattle.ddt_check.specs.Rules.{IsAccepted}
-use Rattle.ddt_config.specs.declared.config.Child.{Child}
-use Rattle.ddt_config.specs.declared.config.SiteEntry.{SiteEntry}
+use Rattle.ddt_config.specs.declared.child.Child.{Child}
+use Rattle.ddt_config.specs.declared.site_entry.SiteEntry.{SiteEntry}
 use Rattle.ddt_config.specs.declared.config.ServerConfig.{ServerConfig}
 use Rattle.ddt_config.specs.Table.{outline}
 use Rattle.ddt_config.specs.Entries.{prefixes_in, count_in}
 use Rattle.ddt_compile.specs.GroupConfig.{is_between, is_direct_child, child_of, children_of, entry_of, sites_of, content_of, authority_of, group_config}
 use Rattle.ddt_check.specs.Zones.{is_site_in, is_served_by}
 use Rattle.ddt_compile.specs.Laws.{HasRoom}
-use Rattle.ddt_path.proofs.MemberLemmas.{IsIn, in_filter, fails_at, all_made}
+use Rattle.ddt_path.proofs.MemberLemmas.{IsIn, fails_at, all_made}
 use Rattle.ddt_register.proofs.RisingLemmas.{rise-filter}
 use Rattle.ddt_register.proofs.RisingLemmas.{zones_rise, sites_rise}
-use Rattle.ddt_check.proofs.KeptLemmas.{role_of_zone}
+use Rattle.ddt_check.proofs.KeptLemmas.{role_of_zone, one_zone}
 use Rattle.ddt_path.proofs.FrontLemmas.{one_front, front_below, below_parts}
-use Rattle.ddt_check.proofs.ServedLemmas.{one_zone}
 use Rattle.ddt_compile.proofs.ChildLemmas.{child_parts}
-use Rattle.ddt_check.proofs.SiteLemmas.{no_longer_zone}
+use Rattle.ddt_check.proofs.HolderLemmas.{one_holder}
 use Rattle.ddt_register.proofs.CountLemmas.{few_rows, filter_few, sum_made, kept_in_all}
+use Rattle.ddt_path.proofs.FilterLemmas.{in_filter}
 
 -- a zone has one parent: of two zones above it the longer would stand between
 no_longer_parent : (r : Register) (a b c : Zone) → IsIn b r.zones → is_direct_child r a c ≡ true → is_direct_child r b c ≡ true → length b.prefix ≤ length a.prefix
@@ -48,13 +48,6 @@ one_parent r accepted a b c j k da db =
     let down = no_longer_parent r a b c k da db in
     one_zone r accepted a b j k (one_front a.prefix b.prefix c.prefix
     (below_parts c.prefix a.prefix (child_parts r a c da).0).0 (below_parts c.prefix b.prefix (child_parts r b c db).0).0 (omega arith))
-
--- a site has one zone of Map-Servers
-one_zone_of_site : (r : Register) → IsAccepted r → (a b : Zone) (s : Site) → IsIn a r.zones → IsIn b r.zones → a.kind ≡ Ms → b.kind ≡ Ms → is_site_in a s ≡ true → is_site_in b s ≡ true → a ≡ b
-one_zone_of_site r accepted a b s j k ma mb c d =
-    let up = no_longer_zone r accepted b a s.prefix k mb d j c in
-    let down = no_longer_zone r accepted a b s.prefix j ma c k d in
-    one_zone r accepted a b j k (one_front a.prefix b.prefix s.prefix c d (omega arith))
 
 -- what the authorities of a group hold
 child_count : (r : Register) (z : Zone) → length (prefixes_in (content_of r z Node)) ≡ length (filter (is_direct_child r z) r.zones)
@@ -81,7 +74,7 @@ module _ (r : Register) (accepted : IsAccepted r) (g : Group) (k : IsIn g r.grou
       let same = sum_made count_in (authority_of r) (λ (z : Zone). length (filter (is_site_in z) r.sites)) zones
       (λ z j. ap (λ (role : Role). length (prefixes_in (content_of r z role))) ((served_parts z j).1 ∙ e) ∙ site_count r z) in
       let le = kept_in_all (λ (z : Zone). z.row) is_site_in r.sites zones 0 (rise-filter (λ (z : Zone). z.row) (is_served_by g) r.zones 0 (zones_rise r))
-      (λ a b s i j h. one_zone_of_site r accepted a b s (served_parts a i).0 (served_parts b j).0 ((served_parts a i).1 ∙ e) ((served_parts b j).1 ∙ e)) in
+      (λ a b s i j h c d. one_holder r accepted b a s (served_parts b j).0 ((served_parts b j).1 ∙ e) (served_parts a i).0 ((served_parts a i).1 ∙ e) c d) in
       let few = few_rows (λ (s : Site). s.row) r.sites (sites_rise r) in
       omega arith
 

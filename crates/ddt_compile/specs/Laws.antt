@@ -11,6 +11,7 @@ use Rattle.ddt_config.specs.Answer.{answer}
 use Rattle.ddt_config.specs.Shaped.{is_shaped}
 use Rattle.ddt_config.specs.Table.{Outline}
 use Rattle.ddt_config.specs.Entries.{entry_count}
+use Rattle.ddt_trie.specs.PrefixMap.{most_entries}
 use Rattle.ddt_compile.specs.GroupConfig.{group_config}
 
 -- from its configuration alone, each server answers each identifier with the record that the register has for it
@@ -20,9 +21,9 @@ IsHonestConfig r c = (l : Locator) (x : List ℕ) → IsTrue (lists c.locators l
 abbrev pub IsShapedConfig : Outline → Type 0
 IsShapedConfig c = IsTrue (is_shaped c.role c.locators c.authorities)
 
--- fewer authorities, children and sites in all than 2^20, for which a server has room
+-- few enough authorities, children and sites in all that a server has room for them
 abbrev pub HasRoom : Outline → Type 0
-HasRoom c = entry_count c < 1048576
+HasRoom c = entry_count c < most_entries
 
 -- a compiled configuration answers honestly
 abbrev pub AnswersHonestly : Type 0

@@ -8,7 +8,7 @@ ghost use Rattle.std.specs.Cmp.Lexicographic.{slice_cmp};
 ghost use Rattle.ddt_path.specs.declared.record.Role.TheVariants.{Node, Ms};
 ghost use Rattle.ddt_register.specs.declared.group.Group.{Group as AGroup};
 ghost use Rattle.ddt_path.specs.Names.{is_same_name};
-ghost use Rattle.ddt_config.specs.declared.config.Content.TheVariants.{Children, Sites};
+ghost use Rattle.ddt_config.specs.declared.authority.Content.TheVariants.{Children, Sites};
 ghost use Rattle.ddt_config.specs.Shaped.{is_shaped};
 ghost use Rattle.ddt_config.specs.Table.{outline};
 ghost use Rattle.ddt_compile.specs.GroupConfig.{group_config as group_config_of, config_named, children_of, authorities_of as authorities_of_group_of};

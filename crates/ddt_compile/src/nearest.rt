@@ -1,6 +1,7 @@
 //! The nearest zone above a prefix.
 
 ghost use Rattle.std.specs.Prelude.{◌+◌, ◌≤◌, ◌<◌, length, IfOk};
+ghost use Rattle.ddt_trie.specs.PrefixMap.{most_entries};
 ghost use Rattle.ddt_trie.specs.Trie.{trie_content};
 ghost use Rattle.ddt_compile.specs.Nearest.{HasPrefixesOf, IsNearest};
 
@@ -11,7 +12,7 @@ use std::alloc::{AllocError, Global};
 
 /// The prefixes of some zones, each with the row of the last zone that has it.
 pub fn prefixes_of(alloc: Global, zones: &[Zone]) -> Result<TrieMap<u32>, AllocError>
-    requires { length zones.now < 1048576 }
+    requires { length zones.now < most_entries }
     ensures { IfOk result (λ prefixes. HasPrefixesOf (trie_content prefixes) zones.now) }
 {
     let mut prefixes = TrieMap::empty(alloc);

@@ -1,78 +1,12 @@
 use super::*;
 use ddt_check::{Accepted, check};
 use ddt_config::{ServerConfig, from_toml, to_toml};
-use ddt_examples::configurations::{EAST, NESTED_EAST, ROOT, TEN};
-use ddt_examples::registers::{CAMPUS, NESTED_SITES};
+use ddt_examples::configurations::{EAST, NESTED_EAST, ROOT, SCATTERED_EAST, SCATTERED_TEN, TEN};
+use ddt_examples::registers::{CAMPUS, NESTED_SITES, NESTED_ZONES, SCATTERED};
 use ddt_path::{Listed, Name};
 use ddt_register::read_register;
 use std::alloc::Global;
 use std::test::*;
-
-/// Rows in no order: each zone before the one above it, and a site before its zone.
-const SCATTERED: &str = "kind,prefix,group,addresses
-ms,[0]10.1.0.0/16,east,
-site,[0]10.2.0.0/16,,
-node,[0]10.0.0.0/8,ten,
-site,[0]10.1.2.0/24,,127.0.2.1
-node,*,root,
-ms,[0]10.2.0.0/16,east,
-group-ms,,east,127.0.1.1
-group-node,,ten,127.0.0.10
-group-node,,root,127.0.0.1
-";
-
-const SCATTERED_EAST: &str = r#"name = "east"
-kind = "ms"
-locators = ["127.0.1.1"]
-[[authority]]
-prefix = "[0]10.1.0.0/16"
-[[authority.site]]
-prefix = "[0]10.1.2.0/24"
-etrs = ["127.0.2.1"]
-[[authority]]
-prefix = "[0]10.2.0.0/16"
-[[authority.site]]
-prefix = "[0]10.2.0.0/16"
-etrs = []
-"#;
-
-const SCATTERED_TEN: &str = r#"name = "ten"
-kind = "node"
-locators = ["127.0.0.10"]
-[[authority]]
-prefix = "[0]10.0.0.0/8"
-[[authority.child]]
-prefix = "[0]10.1.0.0/16"
-kind = "ms"
-locators = ["127.0.1.1"]
-[[authority.child]]
-prefix = "[0]10.2.0.0/16"
-kind = "ms"
-locators = ["127.0.1.1"]
-"#;
-
-/// Zones of one group inside one another, some with a zone of another group between, and sites inside sites; the rows
-/// stand in no order.
-const INTERLEAVED: &str = "kind,prefix,group,addresses
-site,[0]10.1.2.128/25,,127.0.2.1
-ms,[0]10.1.2.0/24,east,
-node,[0]10.1.0.0/16,ten,
-site,[0]10.9.0.0/24,,
-node,[0]10.0.0.0/8,root,
-ms,[0]10.9.0.0/16,west,
-node,[0]10.1.3.0/24,root,
-group-ms,,west,127.0.1.9
-ms,[0]10.1.3.128/25,east,
-site,[0]10.1.2.0/24,,127.0.2.2 127.0.2.3
-node,*,ten,
-site,[0]10.1.3.192/26,,
-ms,[1]2001:db8::/32,east,
-site,[1]2001:db8:1::/48,,127.0.2.4
-group-node,,ten,127.0.0.10
-group-ms,,east,127.0.1.1
-group-node,,root,127.0.0.1
-node,[0]10.1.3.64/26,ten,
-";
 
 fn compiled(alloc: Global, text: &str) -> Result<Listed<ServerConfig>, Fail> {
     let Ok(register) = read_register(alloc, text.as_bytes()) else {
@@ -178,7 +112,7 @@ fn are_the_same_alone(alloc: Global, text: &str) -> Result<bool, Fail> {
 #[test]
 fn each_group_alone_is_compiled_as_among_all(rt: HostRuntime) -> Result<(), Fail> {
     let alloc = rt.alloc();
-    for text in [CAMPUS, SCATTERED, NESTED_SITES, INTERLEAVED] {
+    for text in [CAMPUS, SCATTERED, NESTED_SITES, NESTED_ZONES] {
         assert!(rt; are_the_same_alone(alloc, text)?);
     }
     Ok(())

@@ -1,7 +1,8 @@
 pub mod EachLemmas
 pub mod ValueLemmas
-pub mod FitLemmas
 pub mod WriteLemmas
 pub mod AsciiLemmas
 pub mod SameLemmas
 pub mod NeighbourLemmas
+pub mod RoomLemmas
+pub mod StandsLemmas

@@ -1,5 +1,5 @@
 -- What is written is one table, and is read as what it was written for.
-use Rattle.std.proofs.Common.{◌≡◌, ℕ, suc, ◌+◌, ◌<◌, ◌≤◌, max, Bool, true, ◌&&◌, if◌then◌else◌, List, [], ◌∷◌, ◌++◌, length, take, get_or, map, Some, Result, Ok, Err, String, Global, Ordering, Less, Equal, Greater, string_bytes, refl, sym, ap, ◌∙◌, arith}
+use Rattle.std.proofs.Common.{◌≡◌, ℕ, suc, ◌+◌, ◌<◌, ◌≤◌, Bool, true, ◌&&◌, if◌then◌else◌, List, [], ◌∷◌, ◌++◌, length, take, get_or, map, Some, Result, Ok, Err, String, Global, Ordering, Less, Equal, Greater, string_bytes, refl, sym, ap, ◌∙◌, arith}
 use Rattle.std.specs.List.{list_all, AllByRecursion}
 use Rattle.std.proofs.lemmas.Bool.{and_parts, false≢true}
 use Rattle.std.proofs.lemmas.List.{take_all, map-append}
@@ -17,16 +17,17 @@ use Rattle.ddt_path.specs.declared.record.Role.TheVariants.{Node, Ms}
 use Rattle.ddt_path.specs.Names.{is_name}
 use Rattle.ddt_text.specs.FirstFault.{locator_in, prefix_in}
 use Rattle.ddt_text.specs.Written.{written_locator, written_prefix}
+use Rattle.ddt_reading.specs.Steps.{◌>>=◌}
 use Rattle.ddt_config.specs.declared.fault.Key.{Key}
 use Rattle.ddt_config.specs.declared.fault.Key.TheVariants as key
 use Rattle.ddt_config.specs.declared.fault.ConfigFault.{ConfigFault}
 use Rattle.ddt_config.specs.declared.fault.ConfigFault.TheVariants.{Value as ValueFault}
-use Rattle.ddt_config.specs.declared.config.Child.{Child}
-use Rattle.ddt_config.specs.declared.config.SiteEntry.{SiteEntry}
-use Rattle.ddt_config.specs.declared.config.Content.{Content}
-use Rattle.ddt_config.specs.declared.config.Content.TheVariants.{Children, Sites}
-use Rattle.ddt_config.specs.declared.config.Authority.{Authority}
-use Rattle.ddt_config.specs.Table.{key_text, on_ok, each, listed, of_form, text_of, table_of, array_of, name_in, role_text, role_of, role_in, path_in, locators_in, tables_at, child_in, site_in, content_in, authority_in, Outline, config_in, config_in_document, config_in_text}
+use Rattle.ddt_config.specs.declared.child.Child.{Child}
+use Rattle.ddt_config.specs.declared.site_entry.SiteEntry.{SiteEntry}
+use Rattle.ddt_config.specs.declared.authority.Content.{Content}
+use Rattle.ddt_config.specs.declared.authority.Content.TheVariants.{Children, Sites}
+use Rattle.ddt_config.specs.declared.authority.Authority.{Authority}
+use Rattle.ddt_config.specs.Table.{key_text, each, listed, of_form, text_of, array_of, all_of, is_text_value, is_table_value, locator_of, entry_of, name_in, role_text, role_of, role_in, path_in, locators_in, entries_in, child_in, site_in, content_in, authority_in, Outline, config_in, config_in_document, config_in_text}
 use Rattle.ddt_path.specs.Locators.{are_distinct}
 use Rattle.ddt_config.specs.Shaped.{is_server_set, have_own_prefixes, is_content_of, is_authority_of, is_shaped}
 use Rattle.ddt_config.specs.Writing.{inserted, with_keys, items_of, written_each, written_locators, written_child, written_site, written_content, written_authority, written_config, is_content_for, PrefixComesBack, LocatorsComeBack, ChildComesBack, SiteComesBack, ContentComesBack, AuthorityComesBack}
@@ -83,59 +84,59 @@ listed-items_of : (ds : List Data) → listed (items_of ds) ≡ ds
 listed-items_of [] = refl
 listed-items_of (d ∷ ds) = ap (λ es. d ∷ es) (listed-items_of ds)
 
-each-written : {A B : Type 0} (g : Data → Result B ConfigFault) (write : A → Data) (between : A → B) → ((x : A) → g (write x) ≡ Ok (between x)) → (xs : List A) → each g (map write xs) ≡ Ok (map between xs)
-each-written g write between reads [] = refl
-each-written g write between reads (x ∷ xs) = rw (reads x, each-written g write between reads xs) refl
+each-back : {A B : Type 0} (P : A → Type 0) (f : B → Result A ConfigFault) (write : A → B) → ((x : A) → P x → f (write x) ≡ Ok x) → (xs : List A) → AllByRecursion P xs → each f (map write xs) ≡ Ok xs
+each-back P f write back [] h = refl
+each-back P f write back (x ∷ xs) h = rw (back x h.0, each-back P f write back xs h.1) refl
 
-each-back : {A B : Type 0} (P : A → Type 0) (f : B → Result A ConfigFault) (between : A → B) → ((x : A) → P x → f (between x) ≡ Ok x) → (xs : List A) → AllByRecursion P xs → each f (map between xs) ≡ Ok xs
-each-back P f between back [] h = refl
-each-back P f between back (x ∷ xs) h = rw (back x h.0, each-back P f between back xs h.1) refl
+all-map : {A B : Type 0} (test : B → Bool) (write : A → B) → ((x : A) → test (write x) ≡ true) → (xs : List A) → list_all test (map write xs) ≡ true
+all-map test write h [] = refl
+all-map test write h (x ∷ xs) = rw (h x, all-map test write h xs) refl
 
-array-read : {A B : Type 0} (k : Key) (g : Data → Result B ConfigFault) (f : B → Result A ConfigFault) (write : A → Data) (between : A → B) (P : A → Type 0)
-    → ((x : A) → g (write x) ≡ Ok (between x)) → ((x : A) → P x → f (between x) ≡ Ok x)
-    → (xs : List A) → AllByRecursion P xs → on_ok (on_ok (array_of k (written_each write xs)) (each g)) (each f) ≡ Ok xs
-array-read k g f write between P reads back xs h = rw (listed-items_of (map write xs), each-written g write between reads xs, each-back P f between back xs h) refl
+array-read : {A : Type 0} (k : Key) (is_kind : Data → Bool) (f : Data → Result A ConfigFault) (write : A → Data) (P : A → Type 0)
+    → ((x : A) → is_kind (write x) ≡ true) → ((x : A) → P x → f (write x) ≡ Ok x)
+    → (xs : List A) → AllByRecursion P xs → ((array_of k (written_each write xs) >>= all_of k is_kind) >>= each f) ≡ Ok xs
+array-read k is_kind f write P kind back xs h = rw (listed-items_of (map write xs), all-map is_kind write kind xs) (each-back P f write back xs h)
 
-locators_back : (k : Key) (ls : List Locator) → LocatorsComeBack ls → on_ok (on_ok (array_of k (written_locators ls)) (each (text_of k))) (each (λ text. of_form k (locator_in text))) ≡ Ok ls
+locators_back : (k : Key) (ls : List Locator) → LocatorsComeBack ls → ((array_of k (written_locators ls) >>= all_of k is_text_value) >>= each (locator_of k)) ≡ Ok ls
 locators_back k =
-    array-read k (text_of k) (λ text. of_form k (locator_in text)) (λ l. string (written_locator l)) written_locator (λ l. locator_in (written_locator l) ≡ Ok l)
+    array-read k is_text_value (locator_of k) (λ l. string (written_locator l)) (λ l. locator_in (written_locator l) ≡ Ok l)
     (λ l. refl) (λ l h. rw h refl)
 
 entries_back : {A : Type 0} (k : Key) (standing : Members → Result A ConfigFault) (written : A → Members) (P : A → Type 0) → ((x : A) → P x → standing (written x) ≡ Ok x)
-    → (xs : List A) → AllByRecursion P xs → on_ok (on_ok (array_of k (written_each (λ x. table (written x)) xs)) (each (table_of k))) (each standing) ≡ Ok xs
-entries_back k standing written P back = array-read k (table_of k) standing (λ x. table (written x)) written P (λ x. refl) back
+    → (xs : List A) → AllByRecursion P xs → (((array_of k (written_each (λ x. table (written x)) xs)) >>= all_of k is_table_value) >>= each (entry_of k standing)) ≡ Ok xs
+entries_back k standing written P back = array-read k is_table_value (entry_of k standing) (λ x. table (written x)) P (λ x. refl) back
 
 -- what stands at one key
-path_back : (p : List ℕ) → PrefixComesBack p → on_ok (text_of key.Prefix (string (written_prefix p))) (λ text. of_form key.Prefix (prefix_in text)) ≡ Ok p
+path_back : (p : List ℕ) → PrefixComesBack p → ((text_of key.Prefix (string (written_prefix p))) >>= (λ text. of_form key.Prefix (prefix_in text))) ≡ Ok p
 path_back p h = rw h refl
 
-role_back : (role : Role) → on_ok (text_of key.Kind (string (role_text role))) role_of ≡ Ok role
+role_back : (role : Role) → ((text_of key.Kind (string (role_text role))) >>= role_of) ≡ Ok role
 role_back Node = refl
 role_back Ms = refl
 
-name_back : (name : List ℕ) → is_name name ≡ true → on_ok (text_of key.Name (string name)) (λ text. if is_name text then Ok text else Err (ValueFault key.Name)) ≡ Ok name
+name_back : (name : List ℕ) → is_name name ≡ true → (text_of key.Name (string name) >>= (λ text. if is_name text then Ok text else Err (ValueFault key.Name))) ≡ Ok name
 name_back name n = rw n refl
 
 -- ---- tables that are read
 
-child_from : (ms : Members) (c : Child) → path_in ms ≡ Ok c.prefix → role_in ms ≡ Ok c.role → locators_in key.Locators ms ≡ Ok c.locators → child_in ms ≡ Ok c
+pub child_from : (ms : Members) (c : Child) → path_in ms ≡ Ok c.prefix → role_in ms ≡ Ok c.role → locators_in key.Locators ms ≡ Ok c.locators → child_in ms ≡ Ok c
 child_from ms c p r l = rw (p, r, l) refl
 
 pub child_back : (c : Child) → PrefixComesBack c.prefix → LocatorsComeBack c.locators → ChildComesBack c
 child_back c p l = child_from (written_child c) c (path_back c.prefix p) (role_back c.role) (locators_back key.Locators c.locators l)
 
-site_from : (ms : Members) (s : SiteEntry) → path_in ms ≡ Ok s.prefix → locators_in key.Etrs ms ≡ Ok s.etrs → site_in ms ≡ Ok s
+pub site_from : (ms : Members) (s : SiteEntry) → path_in ms ≡ Ok s.prefix → locators_in key.Etrs ms ≡ Ok s.etrs → site_in ms ≡ Ok s
 site_from ms s p l = rw (p, l) refl
 
 pub site_back : (s : SiteEntry) → PrefixComesBack s.prefix → LocatorsComeBack s.etrs → SiteComesBack s
 site_back s p l = site_from (written_site s) s (path_back s.prefix p) (locators_back key.Etrs s.etrs l)
 
-authority_from : (role : Role) (ms : Members) (a : Authority) → path_in ms ≡ Ok a.prefix → content_in role ms ≡ Ok a.content → authority_in role ms ≡ Ok a
+pub authority_from : (role : Role) (ms : Members) (a : Authority) → path_in ms ≡ Ok a.prefix → content_in role ms ≡ Ok a.content → authority_in role ms ≡ Ok a
 authority_from role ms a p c = rw (p, c) refl
 
 content_back : (role : Role) (p : List ℕ) (content : Content) → is_content_for role content ≡ true → ContentComesBack content → content_in role (written_content p content) ≡ Ok content
-content_back Node p (Children cs) e h = ap (λ r. on_ok r (λ children. Ok (Children children))) (entries_back key.Child child_in written_child ChildComesBack (λ c k. k) cs h)
-content_back Ms p (Sites ss) e h = ap (λ r. on_ok r (λ sites. Ok (Sites sites))) (entries_back key.Site site_in written_site SiteComesBack (λ s k. k) ss h)
+content_back Node p (Children cs) e h = ap (λ r. (r >>= (λ children. Ok (Children children)))) (entries_back key.Child child_in written_child ChildComesBack (λ c k. k) cs h)
+content_back Ms p (Sites ss) e h = ap (λ r. (r >>= (λ sites. Ok (Sites sites)))) (entries_back key.Site site_in written_site SiteComesBack (λ s k. k) ss h)
 content_back Node p (Sites ss) e h = absurd (false≢true e)
 content_back Ms p (Children cs) e h = absurd (false≢true e)
 
@@ -169,8 +170,8 @@ authorities_back role (a ∷ zs) h e =
     let parts = and_parts (is_content_for role a.content) (list_all (λ b. is_content_for role b.content) zs) e in
     (h.0 role parts.0, authorities_back role zs h.1 parts.1)
 
-config_from : (ms : Members) (o : Outline) → name_in ms ≡ Ok o.name → role_in ms ≡ Ok o.role → locators_in key.Locators ms ≡ Ok o.locators
-    → on_ok (tables_at key.Authority ms) (each (authority_in o.role)) ≡ Ok o.authorities → is_shaped o.role o.locators o.authorities ≡ true → config_in ms ≡ Ok o
+pub config_from : (ms : Members) (o : Outline) → name_in ms ≡ Ok o.name → role_in ms ≡ Ok o.role → locators_in key.Locators ms ≡ Ok o.locators
+    → entries_in key.Authority (authority_in o.role) ms ≡ Ok o.authorities → is_shaped o.role o.locators o.authorities ≡ true → config_in ms ≡ Ok o
 config_from ms o n r l a e = rw (n, r, l, a, e) refl
 
 pub config_back : (o : Outline) → is_name o.name ≡ true → LocatorsComeBack o.locators → AllByRecursion AuthorityComesBack o.authorities → is_shaped o.role o.locators o.authorities ≡ true → config_in (written_config o) ≡ Ok o

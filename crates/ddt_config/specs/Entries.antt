@@ -1,9 +1,9 @@
 -- What a configuration lists: the prefixes in an authority, and how many entries there are in all.
 use Rattle.std.specs.Prelude.{ℕ, ◌+◌, List, length, map}
 use Rattle.std.specs.List.{sum_by}
-use Rattle.ddt_config.specs.declared.config.Content.{Content}
-use Rattle.ddt_config.specs.declared.config.Content.TheVariants.{Children, Sites}
-use Rattle.ddt_config.specs.declared.config.Authority.{Authority}
+use Rattle.ddt_config.specs.declared.authority.Content.{Content}
+use Rattle.ddt_config.specs.declared.authority.Content.TheVariants.{Children, Sites}
+use Rattle.ddt_config.specs.declared.authority.Authority.{Authority}
 use Rattle.ddt_config.specs.Table.{Outline}
 
 -- the prefixes of what an authority holds

@@ -1,6 +1,9 @@
 pub mod Shaped
 pub mod Table
+pub mod Drafts
 pub mod Answer
 pub mod Reading
 pub mod Writing
 pub mod Entries
+pub mod Stands
+pub mod Laws

@@ -1,7 +1,8 @@
 -- Which TOML table stands for which configuration of a node or a Map-Server (RFC 8111, section 4). The table's form is
 -- this project's own. The keys are examined in a fixed order, tables from first to last,
 -- and the first fault decides; the shape is examined last.
-use Rattle.std.specs.Prelude.{◌≡◌, ℕ, Bool, if◌then◌else◌, codes, List, [], ◌∷◌, Option, None, Some, Result, Ok, Err}
+use Rattle.std.specs.Prelude.{◌≡◌, ℕ, Bool, if◌then◌else◌, codes, List, [], ◌∷◌, Option, None, Some, is_some, Result, Ok, Err}
+use Rattle.std.specs.List.{list_all}
 use Rattle.std.specs.Option.{option_map}
 use Rattle.std.specs.Cmp.Lexicographic.{pointwise}
 use Rattle.std.specs.Prelude.{◌==◌}
@@ -13,15 +14,16 @@ use Rattle.ddt_path.specs.declared.record.Role.TheVariants.{Node, Ms}
 use Rattle.ddt_path.specs.Names.{is_name}
 use Rattle.ddt_text.specs.declared.fault.TextFault.{TextFault}
 use Rattle.ddt_text.specs.FirstFault.{locator_in, prefix_in}
+use Rattle.ddt_reading.specs.Steps.{◌>>=◌}
 use Rattle.ddt_config.specs.declared.fault.Key.{Key}
 use Rattle.ddt_config.specs.declared.fault.Key.TheVariants as key
 use Rattle.ddt_config.specs.declared.fault.ConfigFault.{ConfigFault}
 use Rattle.ddt_config.specs.declared.fault.ConfigFault.TheVariants.{Toml, Field, Value, Shape}
-use Rattle.ddt_config.specs.declared.config.Child.{Child}
-use Rattle.ddt_config.specs.declared.config.SiteEntry.{SiteEntry}
-use Rattle.ddt_config.specs.declared.config.Content.{Content}
-use Rattle.ddt_config.specs.declared.config.Content.TheVariants.{Children, Sites}
-use Rattle.ddt_config.specs.declared.config.Authority.{Authority}
+use Rattle.ddt_config.specs.declared.child.Child.{Child}
+use Rattle.ddt_config.specs.declared.site_entry.SiteEntry.{SiteEntry}
+use Rattle.ddt_config.specs.declared.authority.Content.{Content}
+use Rattle.ddt_config.specs.declared.authority.Content.TheVariants.{Children, Sites}
+use Rattle.ddt_config.specs.declared.authority.Authority.{Authority}
 use Rattle.ddt_config.specs.declared.config.ServerConfig.{ServerConfig}
 use Rattle.ddt_config.specs.Shaped.{is_shaped}
 
@@ -40,15 +42,10 @@ abbrev pub role_text : Role → List ℕ
 role_text Node = codes "node"
 role_text Ms = codes "ms"
 
--- `next` on a value, and a fault as it is
-abbrev pub on_ok : {A B : Type 0} → Result A ConfigFault → (A → Result B ConfigFault) → Result B ConfigFault
-on_ok (Ok a) next = next a
-on_ok (Err fault) next = Err fault
-
 -- a list examined from first to last
 abbrev pub each : {A B : Type 0} → (A → Result B ConfigFault) → List A → Result (List B) ConfigFault
 each examine [] = Ok []
-each examine (a ∷ rest) = on_ok (examine a) (λ b. on_ok (each examine rest) (λ bs. Ok (b ∷ bs)))
+each examine (a ∷ rest) = examine a >>= λ b. each examine rest >>= λ bs. Ok (b ∷ bs)
 
 -- a value of the kind that the key asks for
 abbrev pub of_kind : {A : Type 0} → Key → Option A → Result A ConfigFault
@@ -68,34 +65,49 @@ listed (item d ds) = d ∷ listed ds
 abbrev pub text_of : Key → Data → Result (List ℕ) ConfigFault
 text_of k d = of_kind k (as_str d)
 
-abbrev pub table_of : Key → Data → Result Members ConfigFault
-table_of k d = of_kind k (as_table d)
-
 abbrev pub array_of : Key → Data → Result (List Data) ConfigFault
 array_of k d = of_kind k (option_map listed (as_array d))
 
 -- the text at a key
 abbrev pub text_at : Key → Members → Result (List ℕ) ConfigFault
-text_at k ms = on_ok (of_kind k (get_member (key_text k) ms)) (text_of k)
+text_at k ms = of_kind k (get_member (key_text k) ms) >>= text_of k
 
 abbrev pub array_at : Key → Members → Result (List Data) ConfigFault
-array_at k ms = on_ok (of_kind k (get_member (key_text k) ms)) (array_of k)
+array_at k ms = of_kind k (get_member (key_text k) ms) >>= array_of k
 
--- the texts at a key: each of them is a text before one is examined
-abbrev pub texts_at : Key → Members → Result (List (List ℕ)) ConfigFault
-texts_at k ms = on_ok (array_at k ms) (each (text_of k))
+-- whether a value is a text, or a table
+abbrev pub is_text_value : Data → Bool
+is_text_value d = is_some (as_str d)
 
--- the tables at a key, none where it is missing; each of them is a table before one is examined
+abbrev pub is_table_value : Data → Bool
+is_table_value d = is_some (as_table d)
+
+-- values that are all of the kind that the key asks for
+abbrev pub all_of : Key → (Data → Bool) → List Data → Result (List Data) ConfigFault
+all_of k is_kind ds = if list_all is_kind ds then Ok ds else Err (Field k)
+
+-- the texts at a key: each value is a text before one is examined
+abbrev pub texts_at : Key → Members → Result (List Data) ConfigFault
+texts_at k ms = array_at k ms >>= all_of k is_text_value
+
+-- the tables at a key, none where it is missing; each value is a table before one is examined
 abbrev pub array_or_none : Key → Option Data → Result (List Data) ConfigFault
 array_or_none k None = Ok []
 array_or_none k (Some d) = array_of k d
 
-abbrev pub tables_at : Key → Members → Result (List Members) ConfigFault
-tables_at k ms = on_ok (array_or_none k (get_member (key_text k) ms)) (each (table_of k))
+abbrev pub tables_at : Key → Members → Result (List Data) ConfigFault
+tables_at k ms = array_or_none k (get_member (key_text k) ms) >>= all_of k is_table_value
+
+-- what stands in the table that a value is, and in each table at a key
+abbrev pub entry_of : {A : Type 0} → Key → (Members → Result A ConfigFault) → Data → Result A ConfigFault
+entry_of k examine d = of_kind k (as_table d) >>= examine
+
+abbrev pub entries_in : {A : Type 0} → Key → (Members → Result A ConfigFault) → Members → Result (List A) ConfigFault
+entries_in k examine ms = tables_at k ms >>= each (entry_of k examine)
 
 -- the name of the group
 abbrev pub name_in : Members → Result (List ℕ) ConfigFault
-name_in ms = on_ok (text_at key.Name ms) (λ text. if is_name text then Ok text else Err (Value key.Name))
+name_in ms = text_at key.Name ms >>= λ text. if is_name text then Ok text else Err (Value key.Name)
 
 -- `node` or `ms`
 abbrev pub is_text : List ℕ → List ℕ → Bool
@@ -106,37 +118,40 @@ role_of text = if is_text text (role_text Node) then Ok Node else if is_text tex
     else Err (Value key.Kind)
 
 abbrev pub role_in : Members → Result Role ConfigFault
-role_in ms = on_ok (text_at key.Kind ms) role_of
+role_in ms = text_at key.Kind ms >>= role_of
+
+abbrev pub locator_of : Key → Data → Result Locator ConfigFault
+locator_of k d = text_of k d >>= λ text. of_form k (locator_in text)
 
 abbrev pub locators_in : Key → Members → Result (List Locator) ConfigFault
-locators_in k ms = on_ok (texts_at k ms) (each (λ text. of_form k (locator_in text)))
+locators_in k ms = texts_at k ms >>= each (locator_of k)
 
 abbrev pub path_in : Members → Result (List ℕ) ConfigFault
-path_in ms = on_ok (text_at key.Prefix ms) (λ text. of_form key.Prefix (prefix_in text))
+path_in ms = text_at key.Prefix ms >>= λ text. of_form key.Prefix (prefix_in text)
 
 abbrev pub child_in : Members → Result Child ConfigFault
-child_in ms =
-    on_ok (path_in ms) λ prefix.
-    on_ok (role_in ms) λ role.
-    on_ok (locators_in key.Locators ms) λ locators.
-    Ok (record { prefix = prefix; role = role; locators = locators })
+child_in ms = do
+  prefix ← path_in ms
+  role ← role_in ms
+  locators ← locators_in key.Locators ms
+  Ok (record { prefix = prefix; role = role; locators = locators })
 
 abbrev pub site_in : Members → Result SiteEntry ConfigFault
-site_in ms =
-    on_ok (path_in ms) λ prefix.
-    on_ok (locators_in key.Etrs ms) λ etrs.
-    Ok (record { prefix = prefix; etrs = etrs })
+site_in ms = do
+  prefix ← path_in ms
+  etrs ← locators_in key.Etrs ms
+  Ok (record { prefix = prefix; etrs = etrs })
 
 -- the tables under `child` of a DDT node, under `site` of a Map-Server; the other key is ignored
 abbrev pub content_in : Role → Members → Result Content ConfigFault
-content_in Node ms = on_ok (on_ok (tables_at key.Child ms) (each child_in)) (λ children. Ok (Children children))
-content_in Ms ms = on_ok (on_ok (tables_at key.Site ms) (each site_in)) (λ sites. Ok (Sites sites))
+content_in Node ms = entries_in key.Child child_in ms >>= λ children. Ok (Children children)
+content_in Ms ms = entries_in key.Site site_in ms >>= λ sites. Ok (Sites sites)
 
 abbrev pub authority_in : Role → Members → Result Authority ConfigFault
-authority_in role ms =
-    on_ok (path_in ms) λ prefix.
-    on_ok (content_in role ms) λ content.
-    Ok (record { prefix = prefix; content = content })
+authority_in role ms = do
+  prefix ← path_in ms
+  content ← content_in role ms
+  Ok (record { prefix = prefix; content = content })
 
 -- what a configuration holds
 pub record Outline : Type 0 where
@@ -150,19 +165,19 @@ outline c = record { name = c.name; role = c.role; locators = c.locators; author
 
 -- what the keys hold, whatever its shape
 abbrev pub outline_in : Members → Result Outline ConfigFault
-outline_in ms =
-    on_ok (name_in ms) λ name.
-    on_ok (role_in ms) λ role.
-    on_ok (locators_in key.Locators ms) λ locators.
-    on_ok (on_ok (tables_at key.Authority ms) (each (authority_in role))) λ authorities.
-    Ok (record { name = name; role = role; locators = locators; authorities = authorities })
+outline_in ms = do
+  name ← name_in ms
+  role ← role_in ms
+  locators ← locators_in key.Locators ms
+  authorities ← entries_in key.Authority (authority_in role) ms
+  Ok (record { name = name; role = role; locators = locators; authorities = authorities })
 
 abbrev pub with_shape : Outline → Result Outline ConfigFault
 with_shape o = if is_shaped o.role o.locators o.authorities then Ok o else Err Shape
 
 -- the configuration that a table stands for, or the first fault
 abbrev pub config_in : Members → Result Outline ConfigFault
-config_in ms = on_ok (outline_in ms) with_shape
+config_in ms = outline_in ms >>= with_shape
 
 -- the same of a text, as TOML reads it
 abbrev pub config_in_document : Option Members → Result Outline ConfigFault

@@ -9,11 +9,11 @@ use Rattle.ddt_path.specs.declared.record.Role.{Role}
 use Rattle.ddt_path.specs.declared.record.Role.TheVariants.{Node, Ms}
 use Rattle.ddt_text.specs.FirstFault.{locator_in, prefix_in}
 use Rattle.ddt_text.specs.Written.{written_locator, written_prefix}
-use Rattle.ddt_config.specs.declared.config.Child.{Child}
-use Rattle.ddt_config.specs.declared.config.SiteEntry.{SiteEntry}
-use Rattle.ddt_config.specs.declared.config.Content.{Content}
-use Rattle.ddt_config.specs.declared.config.Content.TheVariants.{Children, Sites}
-use Rattle.ddt_config.specs.declared.config.Authority.{Authority}
+use Rattle.ddt_config.specs.declared.child.Child.{Child}
+use Rattle.ddt_config.specs.declared.site_entry.SiteEntry.{SiteEntry}
+use Rattle.ddt_config.specs.declared.authority.Content.{Content}
+use Rattle.ddt_config.specs.declared.authority.Content.TheVariants.{Children, Sites}
+use Rattle.ddt_config.specs.declared.authority.Authority.{Authority}
 use Rattle.ddt_config.specs.declared.fault.Key.{Key}
 use Rattle.ddt_config.specs.declared.fault.Key.TheVariants as key
 use Rattle.ddt_config.specs.Table.{Outline, key_text, role_text, child_in, site_in, authority_in}

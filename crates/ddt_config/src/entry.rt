@@ -1,18 +1,16 @@
-//! What stands as a table in an array: authorities, and in them children or sites.
+//! The arrays of tables: authorities, and in them children or sites.
 
-ghost use Rattle.std.specs.Prelude.{◌≡◌, IfOk, OnOk};
-ghost use Rattle.toml.specs.View.{table_view};
-ghost use Rattle.ddt_config.specs.Table.{child_in, site_in, authority_in};
-ghost use Rattle.ddt_config.specs.Reading.{Reads, child_fits, site_fits, authority_fits};
-ghost use Rattle.ddt_config.specs.Writing.{written_child, written_site, written_authority, ChildComesBack, SiteComesBack, AuthorityComesBack};
+ghost use Rattle.std.specs.Prelude.{◌≡◌, true, map, IfOk};
+ghost use Rattle.std.specs.List.{list_all};
+ghost use Rattle.toml.specs.View.{view, table_view};
+ghost use Rattle.ddt_config.specs.Table.{each, entry_of, entries_in};
+ghost use Rattle.ddt_config.specs.Reading.{Reads};
 
-use crate::config::{Authority, Child, SiteEntry};
-use crate::fault::ConfigFault;
-use crate::reading::{read_authority, read_child, read_site};
-use crate::writing::{write_authority, write_child, write_site};
-use ddt_path::Role;
+use crate::fault::{ConfigFault, Key};
+use crate::members::tables_at;
+use ddt_path::{Listed, Role};
 use std::alloc::{AllocError, Global};
-use toml::Table;
+use toml::{Table, Value};
 
 /// What a table of an array stands for, in the configuration of servers of some role.
 pub trait Entry: Drop {
@@ -21,74 +19,76 @@ pub trait Entry: Drop {
     ghost use Rattle.ddt_path.specs.declared.record.Role.{Role as RoleValue};
     ghost use Rattle.ddt_config.specs.declared.fault.ConfigFault.{ConfigFault as FaultValue};
 
+    /// The same with its locators in sets.
+    type Settled: Drop;
+
     ghost entry_in: { RoleValue → Members → Result Self FaultValue };
 
     ghost has_room: { Self → Bool };
 
-    ghost written: { Self → Members };
+    ghost settled: { Self → Self.Settled };
 
-    ghost comes_back: { Self → Type 0 };
+    /// The entry that a table stands for.
+    fn read(alloc: Global, role: Role, table: &Table) -> Result<Self, ConfigFault>
+        ensures { Reads (entry_in role (table_view table.now)) result };
 
-    /// The entry that a table stands for; None where some list of locators in it has more than 8.
-    fn read(alloc: Global, role: Role, table: &Table) -> Result<Option<Self>, ConfigFault>
-        ensures { Reads has_room (entry_in role (table_view table.now)) result };
-
-    /// The table of the entry, which is read as the entry.
-    fn write(&self, alloc: Global) -> Result<Table, AllocError>
-        ensures written { IfOk result (λ t. table_view t ≡ written self.now) }
-        ensures back { OnOk result (comes_back self.now) };
+    /// The same entry, of whose lists of locators none has more than 8.
+    fn settle(&self, alloc: Global) -> Result<Self::Settled, AllocError>
+        requires { has_room self.now ≡ true }
+        ensures { IfOk result (λ entry. entry ≡ settled self.now) };
 }
 
-impl Entry for Child {
-    ghost entry_in = { λ _ ms. child_in ms };
+/// The entries at a key, none where it is missing.
+pub fn entries_at<T: Entry>(
+    alloc: Global,
+    role: Role,
+    table: &Table,
+    key: Key,
+) -> Result<Listed<T>, ConfigFault>
+    ensures { Reads (entries_in key (T.entry_in role) (table_view table.now)) result }
+{
+    let values = tables_at(table, key)?;
+    read_each::<T>(alloc, role, values, key)
+}
 
-    ghost has_room = { child_fits };
-
-    ghost written = { written_child };
-
-    ghost comes_back = { ChildComesBack };
-
-    fn read(alloc: Global, _role: Role, table: &Table) -> Result<Option<Child>, ConfigFault> {
-        read_child(alloc, table)
+fn read_each<T: Entry>(
+    alloc: Global,
+    role: Role,
+    values: &[Value],
+    key: Key,
+) -> Result<Listed<T>, ConfigFault>
+    ensures { Reads (each (entry_of key (T.entry_in role)) (map view values.now)) result }
+{
+    let mut entries = Vec::new(alloc);
+    for value in values {
+        let entry = read_entry::<T>(alloc, role, value, key)?;
+        entries.push(entry)?;
     }
+    Ok(Listed::of(entries))
+}
 
-    fn write(&self, alloc: Global) -> Result<Table, AllocError> {
-        write_child(alloc, self)
+fn read_entry<T: Entry>(
+    alloc: Global,
+    role: Role,
+    value: &Value,
+    key: Key,
+) -> Result<T, ConfigFault>
+    ensures { Reads (entry_of key (T.entry_in role) (view value.now)) result }
+{
+    match value.as_table() {
+        Some(table) => T::read(alloc, role, table),
+        None => Err(ConfigFault::Field(key)),
     }
 }
 
-impl Entry for SiteEntry {
-    ghost entry_in = { λ _ ms. site_in ms };
-
-    ghost has_room = { site_fits };
-
-    ghost written = { written_site };
-
-    ghost comes_back = { SiteComesBack };
-
-    fn read(alloc: Global, _role: Role, table: &Table) -> Result<Option<SiteEntry>, ConfigFault> {
-        read_site(alloc, table)
+/// The same entries, of whose lists of locators none has more than 8.
+pub fn settle_each<T: Entry>(alloc: Global, drafts: &[T]) -> Result<Listed<T::Settled>, AllocError>
+    requires { list_all T.has_room drafts.now ≡ true }
+    ensures { IfOk result (λ entries. entries ≡ map T.settled drafts.now) }
+{
+    let mut entries = Vec::new(alloc);
+    for draft in drafts {
+        entries.push(draft.settle(alloc)?)?;
     }
-
-    fn write(&self, alloc: Global) -> Result<Table, AllocError> {
-        write_site(alloc, self)
-    }
-}
-
-impl Entry for Authority {
-    ghost entry_in = { authority_in };
-
-    ghost has_room = { authority_fits };
-
-    ghost written = { written_authority };
-
-    ghost comes_back = { AuthorityComesBack };
-
-    fn read(alloc: Global, role: Role, table: &Table) -> Result<Option<Authority>, ConfigFault> {
-        read_authority(alloc, role, table)
-    }
-
-    fn write(&self, alloc: Global) -> Result<Table, AllocError> {
-        write_authority(alloc, self)
-    }
+    Ok(Listed::of(entries))
 }

@@ -1,6 +1,6 @@
 //! Why a text is no configuration.
 
-use std::alloc::AllocFailed;
+use std::alloc::{AllocError, AllocFailed};
 use thiserror::Error;
 
 /// The keys of a configuration's tables.
@@ -64,6 +64,17 @@ impl<T: Drop> From<AllocFailed<T>> for ConfigFault {
     ghost from_gives = { λ _ fault. fault ≡ Memory };
 
     fn from(_refused: AllocFailed<T>) -> ConfigFault {
+        ConfigFault::Memory
+    }
+}
+
+impl From<AllocError> for ConfigFault {
+    ghost use Rattle.std.specs.Prelude.{◌≡◌};
+    ghost use Rattle.ddt_config.specs.declared.fault.ConfigFault.TheVariants.{Memory};
+
+    ghost from_gives = { λ _ fault. fault ≡ Memory };
+
+    fn from(_refused: AllocError) -> ConfigFault {
         ConfigFault::Memory
     }
 }

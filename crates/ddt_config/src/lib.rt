@@ -1,22 +1,30 @@
 //! The configuration of a server group: what it holds, the shape that it keeps, and its text.
 //!
-//! In reading order: `config`, `fault`, `prefixed`, `neighbours`, `shape`, `reading`, `writing`, `entry`.
+//! In reading order: `fault`, `members`, `values`, `entry`, `child`, `site_entry`, `authority`, `config`, `neighbours`,
+//! `shape`, `document`, `laws`.
 #![tactic(auto)]
 
+mod authority;
+mod child;
 mod config;
+mod document;
 mod entry;
 mod fault;
+mod laws;
+mod members;
 mod neighbours;
-mod prefixed;
-mod reading;
 mod shape;
-mod writing;
+mod site_entry;
+mod values;
 
-pub use config::{Authority, Child, Content, ServerConfig, SiteEntry};
+pub use authority::{Authority, Content};
+pub use child::Child;
+pub use config::ServerConfig;
 pub use ddt_path::Prefixed;
+pub use document::{from_toml, to_toml};
 pub use fault::{ConfigFault, Key};
-pub use reading::from_toml;
-pub use writing::to_toml;
+pub use laws::a_table_is_read_as_what_it_stands_for;
+pub use site_entry::SiteEntry;
 
 #[cfg(test)]
 mod tests;

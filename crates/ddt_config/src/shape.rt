@@ -2,23 +2,25 @@
 
 ghost use Rattle.std.specs.Prelude.{◌≡◌, IfOk};
 ghost use Rattle.std.specs.List.{list_all};
+ghost use Rattle.ddt_config.specs.declared.authority.Content.{Content};
 ghost use Rattle.ddt_config.specs.Shaped.{is_shaped as is_shaped_of, is_server_set as is_server_set_of, is_child_of as is_child_of_path, is_site_of as is_site_of_path, is_content_of as is_content_of_role, is_authority_of as is_authority_of_role};
 
-use crate::config::{Authority, Child, Content, SiteEntry};
+use crate::authority::{AuthorityDraft, ContentDraft};
+use crate::child::ChildDraft;
 use crate::neighbours::{are_apart, have_own_prefixes};
-use ddt_path::{Locator, LocatorSet, MOST_LOCATORS, Prefix, Role, are_distinct};
+use crate::site_entry::SiteDraft;
+use ddt_path::{Locator, MOST_LOCATORS, Prefix, Role, are_distinct};
 use std::alloc::{AllocError, Global};
 
 /// Whether servers of this role and with these locators may have these authorities. Fails only if out of memory.
 pub fn is_shaped(
     alloc: Global,
     role: Role,
-    locators: &LocatorSet,
-    authorities: &[Authority],
+    locators: &[Locator],
+    authorities: &[AuthorityDraft],
 ) -> Result<bool, AllocError>
     ensures { IfOk result (λ answer. answer ≡ is_shaped_of role locators.now authorities.now) }
 {
-    let locators = locators.as_slice();
     if !is_server_set(locators) || !are_distinct(locators) {
         return Ok(false);
     }
@@ -37,7 +39,7 @@ fn is_server_set(locators: &[Locator]) -> bool
 fn are_authorities_of(
     alloc: Global,
     role: Role,
-    authorities: &[Authority],
+    authorities: &[AuthorityDraft],
 ) -> Result<bool, AllocError>
     ensures { IfOk result (λ answer. answer ≡ list_all (is_authority_of_role role) authorities.now) }
 {
@@ -49,14 +51,18 @@ fn are_authorities_of(
     Ok(true)
 }
 
-fn is_authority_of(alloc: Global, role: Role, authority: &Authority) -> Result<bool, AllocError>
+fn is_authority_of(
+    alloc: Global,
+    role: Role,
+    authority: &AuthorityDraft,
+) -> Result<bool, AllocError>
     ensures { IfOk result (λ answer. answer ≡ is_authority_of_role role authority.now) }
 {
     match &authority.content {
-        Content::Children(children) => {
+        ContentDraft::Children(children) => {
             are_children_of(alloc, role, authority.prefix, children.as_slice())
         }
-        Content::Sites(sites) => are_sites_of(alloc, role, authority.prefix, sites.as_slice()),
+        ContentDraft::Sites(sites) => are_sites_of(alloc, role, authority.prefix, sites.as_slice()),
     }
 }
 
@@ -64,7 +70,7 @@ fn are_children_of(
     alloc: Global,
     role: Role,
     authority: Prefix,
-    children: &[Child],
+    children: &[ChildDraft],
 ) -> Result<bool, AllocError>
     ensures { IfOk result (λ answer. answer ≡ is_content_of_role role authority (Content.Children children.now)) }
 {
@@ -74,13 +80,13 @@ fn are_children_of(
     are_apart(alloc, children)
 }
 
-fn are_inside(authority: Prefix, children: &[Child]) -> bool
+fn are_inside(authority: Prefix, children: &[ChildDraft]) -> bool
     ensures { result ≡ list_all (is_child_of_path authority) children.now }
 {
     children.iter().all(|c| is_child_of(authority, c))
 }
 
-fn is_child_of(authority: Prefix, child: &Child) -> bool
+fn is_child_of(authority: Prefix, child: &ChildDraft) -> bool
     ensures { result ≡ is_child_of_path authority child.now }
 {
     (authority.covers(child.prefix) && !child.prefix.covers(authority))
@@ -91,7 +97,7 @@ fn are_sites_of(
     alloc: Global,
     role: Role,
     authority: Prefix,
-    sites: &[SiteEntry],
+    sites: &[SiteDraft],
 ) -> Result<bool, AllocError>
     ensures { IfOk result (λ answer. answer ≡ is_content_of_role role authority (Content.Sites sites.now)) }
 {
@@ -101,13 +107,13 @@ fn are_sites_of(
     have_own_prefixes(alloc, sites)
 }
 
-fn are_covered(authority: Prefix, sites: &[SiteEntry]) -> bool
+fn are_covered(authority: Prefix, sites: &[SiteDraft]) -> bool
     ensures { result ≡ list_all (is_site_of_path authority) sites.now }
 {
     sites.iter().all(|s| is_site_of(authority, s))
 }
 
-fn is_site_of(authority: Prefix, site: &SiteEntry) -> bool
+fn is_site_of(authority: Prefix, site: &SiteDraft) -> bool
     ensures { result ≡ is_site_of_path authority site.now }
 {
     authority.covers(site.prefix) && site.etrs.as_slice().len() <= MOST_LOCATORS

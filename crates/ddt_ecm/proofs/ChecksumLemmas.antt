@@ -17,10 +17,6 @@ ones_sum-word s [] h = absurd (omega arith)
 ones_sum-word s (x ∷ []) h = absurd (omega arith)
 ones_sum-word s (x ∷ y ∷ xs) h = refl
 
-pub ones_sum-none : (s : ℕ) (xs : List ℕ) → length xs ≡ 0 → s ≡ ones_sum s xs
-ones_sum-none s [] e = refl
-ones_sum-none s (x ∷ xs) e = absurd (omega arith)
-
 pub ones_sum-one : (s : ℕ) (xs : List ℕ) → length xs < 2 → (length xs ≡ 0 → ⊥) → ones_add s (slice_index xs 0 * 256) ≡ ones_sum s xs
 ones_sum-one s [] h some = absurd (some refl)
 ones_sum-one s (x ∷ []) h some = refl

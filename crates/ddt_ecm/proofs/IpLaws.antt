@@ -6,13 +6,15 @@ use Rattle.std.proofs.lemmas.Bool.{leb-true, le-ltb, le-leb, eqb-true, eq-eqb, n
 use Rattle.std.proofs.lemmas.List.{take_at, drop_at}
 use Rattle.byteorder.specs.Endian.{big_number}
 use Rattle.byteorder.specs.Numbers.{big_number-reads_back}
-use Rattle.ddt_wire.specs.Steps.{IsBytes}
-use Rattle.ddt_wire.proofs.StepLemmas.{guard_ok, chosen, ok_is}
-use Rattle.ddt_wire.proofs.ByteLemmas.{Stands, joined, stands, number_stands, known_stands, byte_stands, known_byte, front_taken, number_fits, IsBytes-drop, IsBytes-take}
+use Rattle.ddt_reading.specs.Steps.{IsBytes}
+use Rattle.ddt_reading.proofs.StepLemmas.{guard_ok, guard_parts, chosen, ok_is}
+use Rattle.ddt_reading.proofs.ByteLemmas.{IsBetween, ◌followed_by◌, stands, number_stands, known_stands, byte_stands, known_byte, front_taken, number_fits, IsBytes-drop, IsBytes-take}
 use Rattle.ddt_ecm.specs.declared.fault.RequestFault.{RequestFault}
-use Rattle.ddt_ecm.specs.declared.fault.RequestFault.TheVariants.{Short, IpVersion, IpLength, IpChecksum, NotUdp, Fragment}
+use Rattle.ddt_ecm.specs.declared.fault.RequestFault.TheVariants.{Short, IpVersion}
 use Rattle.ddt_ecm.specs.Checksum.{ones_sum, is_right}
-use Rattle.ddt_ecm.specs.IpHeader.{pseudo4, pseudo6, Ipv4Header, ipv4_fields, SpellsIpv4, Ipv6Header, ipv6_fields, SpellsIpv6, SpellsIp, Version4, Version6, header_len, has_length4, has_length6, ipv4_at, ipv6_at, ip_at}
+use Rattle.ddt_ecm.specs.Ipv4Header.{pseudo4, Ipv4Header, ipv4_fields, SpellsIpv4, header_len, has_length4, ipv4_at}
+use Rattle.ddt_ecm.specs.Ipv6Header.{pseudo6, Ipv6Header, ipv6_fields, SpellsIpv6, has_length6, ipv6_at}
+use Rattle.ddt_ecm.specs.IpHeader.{SpellsIp, Version4, Version6, ip_at}
 
 -- what was read of a packet: a datagram behind a pseudo-header of this sum
 pub record IsPacket (ip : List ℕ) (sum : ℕ) (udp : List ℕ) : Type 0 where
@@ -42,28 +44,23 @@ inside4 ip = (ones_sum 0 (pseudo4 (take 8 (drop 12 ip)) (length ip - header_len 
 ipv4_holds : (ip : List ℕ) (x : ℕ × List ℕ) → slice_index ip 0 / 16 ≡ 4 → ipv4_at ip ≡ Ok x → IsIpv4 ip × (inside4 ip ≡ x)
 unfolding ipv4_at
 ipv4_holds ip x version e =
-    let found : Result (ℕ × List ℕ) RequestFault = Ok (inside4 ip) in
-    let fourth = cond (not (eqb (big_number 2 (drop 6 ip) % 2 ^ 14) 0)) (Err Fragment) found in
-    let third = cond (not (eqb (slice_index ip 9) 17)) (Err NotUdp) fourth in
-    let second = cond (not (is_right (ones_sum 0 (take (header_len ip) ip)))) (Err IpChecksum) third in
-    let first = cond (not (has_length4 ip)) (Err IpLength) second in
-    let a = guard_ok (ltb (length ip) 20) Short first x e in
-    let b = guard_ok (not (has_length4 ip)) IpLength second x a.1 in
-    let c = guard_ok (not (is_right (ones_sum 0 (take (header_len ip) ip)))) IpChecksum third x b.1 in
-    let d = guard_ok (not (eqb (slice_index ip 9) 17)) NotUdp fourth x c.1 in
-    let f = guard_ok (not (eqb (big_number 2 (drop 6 ip) % 2 ^ 14) 0)) Fragment found x d.1 in
-    let l = and_parts (leb 20 (header_len ip)) (eqb (big_number 2 (drop 2 ip)) (length ip) && leb (header_len ip + 8) (length ip)) (not-false _ b.0) in
+    guard_parts (ltb (length ip) 20) _ _ x e λ long e₁.
+    guard_parts (not (has_length4 ip)) _ _ x e₁ λ lengths e₂.
+    guard_parts (not (is_right (ones_sum 0 (take (header_len ip) ip)))) _ _ x e₂ λ right e₃.
+    guard_parts (not (eqb (slice_index ip 9) 17)) _ _ x e₃ λ protocol e₄.
+    guard_parts (not (eqb (big_number 2 (drop 6 ip) % 2 ^ 14) 0)) _ _ x e₄ λ fragment e₅.
+    let l = and_parts (leb 20 (header_len ip)) (eqb (big_number 2 (drop 2 ip)) (length ip) && leb (header_len ip + 8) (length ip)) (not-false _ lengths) in
     let m = and_parts (eqb (big_number 2 (drop 2 ip)) (length ip)) (leb (header_len ip + 8) (length ip)) l.1 in
     let h : IsIpv4 ip = record {
       version = version;
       words = leb-true _ _ l.0;
       total = eqb-true _ _ m.0;
       room = leb-true _ _ m.1;
-      right = eqb-true _ _ (not-false _ c.0);
-      protocol = eqb-true _ _ (not-false _ d.0);
-      fragment = eqb-true _ _ (not-false _ f.0);
+      right = eqb-true _ _ (not-false _ right);
+      protocol = eqb-true _ _ (not-false _ protocol);
+      fragment = eqb-true _ _ (not-false _ fragment);
     } in
-    (h, ok_is {E = RequestFault} (inside4 ip) x f.1)
+    (h, ok_is {E = RequestFault} (inside4 ip) x e₅)
 
 abbrev options_of : List ℕ → List ℕ
 options_of ip = take (header_len ip - 20) (drop 20 ip)
@@ -80,10 +77,10 @@ header4_of ip fits h = record {
   destination = big_number 4 (drop 16 ip);
   options = options_of ip;
   words_fit = omega arith;
-  service_fits = fits 1;
+  service_fits = fits.at 1;
   identification_fits = number_fits 2 (drop 4 ip) (IsBytes-drop 4 ip fits);
   flags_fit = omega (arith, number_fits 2 (drop 6 ip) (IsBytes-drop 6 ip fits));
-  hops_fit = fits 8;
+  hops_fit = fits.at 8;
   checksum_fits = number_fits 2 (drop 10 ip) (IsBytes-drop 10 ip fits);
   source_fits = number_fits 4 (drop 12 ip) (IsBytes-drop 12 ip fits);
   destination_fits = number_fits 4 (drop 16 ip) (IsBytes-drop 16 ip fits);
@@ -94,8 +91,8 @@ header4_of ip fits h = record {
 abbrev addresses4 : List ℕ → List ℕ
 addresses4 ip = to_be_bytes w32 (big_number 4 (drop 12 ip)) ++ to_be_bytes w32 (big_number 4 (drop 16 ip))
 
-addresses4_stand : (ip : List ℕ) → IsBytes ip → 20 ≤ length ip → Stands ip 12 (addresses4 ip) 20
-addresses4_stand ip fits long = joined ip (to_be_bytes w32 (big_number 4 (drop 12 ip))) (to_be_bytes w32 (big_number 4 (drop 16 ip))) 12 16 20 (number_stands 12 4 ip fits (omega arith)) (number_stands 16 4 ip fits (omega arith))
+addresses4_stand : (ip : List ℕ) → IsBytes ip → 20 ≤ length ip → IsBetween ip 12 (addresses4 ip) 20
+addresses4_stand ip fits long = number_stands 12 4 ip fits (omega arith) followed_by number_stands 16 4 ip fits (omega arith)
 
 -- the bytes before the addresses
 abbrev first4 : ℕ → ℕ → ℕ → ℕ → ℕ → ℕ → ℕ → List ℕ
@@ -103,38 +100,32 @@ first4 words service total identification flags hops checksum =
     ((64 + words) ∷ service ∷ []) ++ to_be_bytes w16 total ++ to_be_bytes w16 identification ++ to_be_bytes w16 (flags * 2 ^ 14) ++ (hops ∷ 17 ∷ []) ++ to_be_bytes w16 checksum
 
 first4_stands : (ip : List ℕ) (total : ℕ) → IsBytes ip → IsIpv4 ip → length ip ≡ total
-    → Stands ip 0 (first4 (slice_index ip 0 % 16) (slice_index ip 1) total (big_number 2 (drop 4 ip)) (big_number 2 (drop 6 ip) / 2 ^ 14) (slice_index ip 8) (big_number 2 (drop 10 ip))) 12
+    → IsBetween ip 0 (first4 (slice_index ip 0 % 16) (slice_index ip 1) total (big_number 2 (drop 4 ip)) (big_number 2 (drop 6 ip) / 2 ^ 14) (slice_index ip 8) (big_number 2 (drop 10 ip))) 12
 first4_stands ip total fits h is =
     let w = h.words in
     let r = h.room in
     let v = 64 + slice_index ip 0 % 16 in
-    let s = slice_index ip 1 in
-    let n = big_number 2 (drop 4 ip) in
     let f = big_number 2 (drop 6 ip) / 2 ^ 14 in
-    let c = big_number 2 (drop 10 ip) in
     let version : slice_index ip 0 ≡ v = omega (arith, h.version) in
     let flags : big_number 2 (drop 6 ip) ≡ f * 2 ^ 14 = omega (arith, h.fragment) in
-    let two = joined ip (v ∷ []) (s ∷ []) 0 1 2 (known_byte 0 v ip (omega arith) version) (byte_stands 1 ip (omega arith)) in
-    let four = joined ip (v ∷ s ∷ []) (to_be_bytes w16 total) 0 2 4 two (known_stands 2 2 total ip fits (omega arith) (h.total ∙ is)) in
-    let six = joined ip ((v ∷ s ∷ []) ++ to_be_bytes w16 total) (to_be_bytes w16 n) 0 4 6 four (number_stands 4 2 ip fits (omega arith)) in
-    let eight = joined ip ((v ∷ s ∷ []) ++ to_be_bytes w16 total ++ to_be_bytes w16 n) (to_be_bytes w16 (f * 2 ^ 14)) 0 6 8 six (known_stands 6 2 (f * 2 ^ 14) ip fits (omega arith) flags) in
-    let udp = joined ip (slice_index ip 8 ∷ []) (17 ∷ []) 8 9 10 (byte_stands 8 ip (omega arith)) (known_byte 9 17 ip (omega arith) h.protocol) in
-    let ten = joined ip ((v ∷ s ∷ []) ++ to_be_bytes w16 total ++ to_be_bytes w16 n ++ to_be_bytes w16 (f * 2 ^ 14)) (slice_index ip 8 ∷ 17 ∷ []) 0 8 10 eight udp in
-    joined ip ((v ∷ s ∷ []) ++ to_be_bytes w16 total ++ to_be_bytes w16 n ++ to_be_bytes w16 (f * 2 ^ 14) ++ (slice_index ip 8 ∷ 17 ∷ [])) (to_be_bytes w16 c) 0 10 12 ten (number_stands 10 2 ip fits (omega arith))
+    (known_byte 0 v ip (omega arith) version followed_by byte_stands 1 ip (omega arith))
+    followed_by known_stands 2 2 total ip fits (omega arith) (h.total ∙ is)
+    followed_by number_stands 4 2 ip fits (omega arith)
+    followed_by known_stands 6 2 (f * 2 ^ 14) ip fits (omega arith) flags
+    followed_by (byte_stands 8 ip (omega arith) followed_by known_byte 9 17 ip (omega arith) h.protocol)
+    followed_by number_stands 10 2 ip fits (omega arith)
 
-options_stand : (ip : List ℕ) → 20 ≤ header_len ip → header_len ip ≤ length ip → Stands ip 20 (options_of ip) (header_len ip)
+options_stand : (ip : List ℕ) → 20 ≤ header_len ip → header_len ip ≤ length ip → IsBetween ip 20 (options_of ip) (header_len ip)
 options_stand ip some within =
     let n = header_len ip - 20 in
     let e : 20 + n ≡ header_len ip = omega arith in
-    subst (Stands ip 20 (options_of ip)) e (stands ip (options_of ip) 20 n (front_taken n (drop 20 ip) (omega (arith, length-drop 20 ip))))
+    subst (IsBetween ip 20 (options_of ip)) e (stands ip (options_of ip) 20 n (front_taken n (drop 20 ip) (omega (arith, length-drop 20 ip))))
 
-fields4_stand : (ip : List ℕ) (total : ℕ) (fits : IsBytes ip) (h : IsIpv4 ip) → length ip ≡ total → Stands ip 0 (ipv4_fields (header4_of ip fits h) total) (header_len ip)
+fields4_stand : (ip : List ℕ) (total : ℕ) (fits : IsBytes ip) (h : IsIpv4 ip) → length ip ≡ total → IsBetween ip 0 (ipv4_fields (header4_of ip fits h) total) (header_len ip)
 fields4_stand ip total fits h is =
     let w = h.words in
     let r = h.room in
-    let first = first4 (slice_index ip 0 % 16) (slice_index ip 1) total (big_number 2 (drop 4 ip)) (big_number 2 (drop 6 ip) / 2 ^ 14) (slice_index ip 8) (big_number 2 (drop 10 ip)) in
-    let twenty = joined ip first (addresses4 ip) 0 12 20 (first4_stands ip total fits h is) (addresses4_stand ip fits (omega arith)) in
-    joined ip (first ++ addresses4 ip) (options_of ip) 0 20 (header_len ip) twenty (options_stand ip w (omega arith))
+    first4_stands ip total fits h is followed_by addresses4_stand ip fits (omega arith) followed_by options_stand ip w (omega arith)
 
 ipv4_takes : (ip : List ℕ) (x : ℕ × List ℕ) → IsBytes ip → slice_index ip 0 / 16 ≡ 4 → ipv4_at ip ≡ Ok x → IsPacket ip x.0 x.1
 ipv4_takes ip x fits version e =
@@ -150,15 +141,15 @@ ipv4_takes ip x fits version e =
     let parts = fields4_stand ip (4 * (slice_index ip 0 % 16) + length udp) fits h total in
     let o = (header4_of ip fits h).options_fill in
     let size : length fields ≡ n = omega arith in
-    let front : take n ip ≡ fields = ap (take n) parts ∙ take_at fields udp n size in
-    let addresses : take 8 (drop 12 ip) ≡ addresses4 ip = ap (take 8) (addresses4_stand ip fits (omega arith)) in
+    let front : take n ip ≡ fields = ap (take n) parts.is ∙ take_at fields udp n size in
+    let addresses : take 8 (drop 12 ip) ≡ addresses4 ip = ap (take 8) (addresses4_stand ip fits (omega arith)).is in
     let pseudo = pseudo4 (addresses4 ip) (length udp) in
     let s : SpellsIpv4 ip pseudo udp = record {
       header = header4_of ip fits h;
       total_fits = omega (arith, number_fits 2 (drop 2 ip) (IsBytes-drop 2 ip fits), h.total, total);
       right = ap (ones_sum 0) (sym front) ∙ h.right;
       covered = refl;
-      whole = parts;
+      whole = parts.is;
     } in
     let made : IsPacket ip (ones_sum 0 (pseudo4 (take 8 (drop 12 ip)) (length ip - n))) udp = record {
       pseudo = pseudo;
@@ -186,15 +177,12 @@ inside6 ip = (ones_sum 0 (pseudo6 (take 32 (drop 8 ip)) (length ip - 40)), drop 
 ipv6_holds : (ip : List ℕ) (x : ℕ × List ℕ) → slice_index ip 0 / 16 ≡ 6 → ipv6_at ip ≡ Ok x → IsIpv6 ip × (inside6 ip ≡ x)
 unfolding ipv6_at
 ipv6_holds ip x version e =
-    let found : Result (ℕ × List ℕ) RequestFault = Ok (inside6 ip) in
-    let second = cond (not (eqb (slice_index ip 6) 17)) (Err NotUdp) found in
-    let first = cond (not (has_length6 ip)) (Err IpLength) second in
-    let a = guard_ok (ltb (length ip) 40) Short first x e in
-    let b = guard_ok (not (has_length6 ip)) IpLength second x a.1 in
-    let c = guard_ok (not (eqb (slice_index ip 6) 17)) NotUdp found x b.1 in
-    let l = and_parts (eqb (big_number 2 (drop 4 ip) + 40) (length ip)) (leb 48 (length ip)) (not-false _ b.0) in
-    let h : IsIpv6 ip = record { version = version; payload = eqb-true _ _ l.0; room = leb-true _ _ l.1; protocol = eqb-true _ _ (not-false _ c.0) } in
-    (h, ok_is {E = RequestFault} (inside6 ip) x c.1)
+    guard_parts (ltb (length ip) 40) _ _ x e λ long e₁.
+    guard_parts (not (has_length6 ip)) _ _ x e₁ λ lengths e₂.
+    guard_parts (not (eqb (slice_index ip 6) 17)) _ _ x e₂ λ protocol e₃.
+    let l = and_parts (eqb (big_number 2 (drop 4 ip) + 40) (length ip)) (leb 48 (length ip)) (not-false _ lengths) in
+    let h : IsIpv6 ip = record { version = version; payload = eqb-true _ _ l.0; room = leb-true _ _ l.1; protocol = eqb-true _ _ (not-false _ protocol) } in
+    (h, ok_is {E = RequestFault} (inside6 ip) x e₃)
 
 abbrev label_of : List ℕ → ℕ
 label_of ip = slice_index ip 0 % 16 * 16777216 + slice_index ip 1 * 65536 + slice_index ip 2 * 256 + slice_index ip 3
@@ -205,8 +193,8 @@ header6_of ip fits = record {
   hops = slice_index ip 7;
   source = big_number 16 (drop 8 ip);
   destination = big_number 16 (drop 24 ip);
-  class_and_label_fit = omega (arith, fits 0, fits 1, fits 2, fits 3);
-  hops_fit = fits 7;
+  class_and_label_fit = omega (arith, fits.at 0, fits.at 1, fits.at 2, fits.at 3);
+  hops_fit = fits.at 7;
   source_fits = number_fits 16 (drop 8 ip) (IsBytes-drop 8 ip fits);
   destination_fits = number_fits 16 (drop 24 ip) (IsBytes-drop 24 ip fits);
 }
@@ -214,19 +202,19 @@ header6_of ip fits = record {
 abbrev addresses6 : List ℕ → List ℕ
 addresses6 ip = to_be_bytes w128 (big_number 16 (drop 8 ip)) ++ to_be_bytes w128 (big_number 16 (drop 24 ip))
 
-addresses6_stand : (ip : List ℕ) → IsBytes ip → 40 ≤ length ip → Stands ip 8 (addresses6 ip) 40
-addresses6_stand ip fits long = joined ip (to_be_bytes w128 (big_number 16 (drop 8 ip))) (to_be_bytes w128 (big_number 16 (drop 24 ip))) 8 24 40 (number_stands 8 16 ip fits (omega arith)) (number_stands 24 16 ip fits (omega arith))
+addresses6_stand : (ip : List ℕ) → IsBytes ip → 40 ≤ length ip → IsBetween ip 8 (addresses6 ip) 40
+addresses6_stand ip fits long = number_stands 8 16 ip fits (omega arith) followed_by number_stands 24 16 ip fits (omega arith)
 
-fields6_stand : (ip : List ℕ) (payload : ℕ) (fits : IsBytes ip) → IsIpv6 ip → length ip ≡ 40 + payload → Stands ip 0 (ipv6_fields (header6_of ip fits) payload) 40
+fields6_stand : (ip : List ℕ) (payload : ℕ) (fits : IsBytes ip) → IsIpv6 ip → length ip ≡ 40 + payload → IsBetween ip 0 (ipv6_fields (header6_of ip fits) payload) 40
 fields6_stand ip payload fits h is =
     let r = h.room in
     let first = 6 * 2 ^ 28 + label_of ip in
-    let version : big_number 4 ip ≡ first = omega (arith, h.version) in
+    let version : big_number 4 ip ≡ first = omega (arith, h.version, fits.at 0, fits.at 1, fits.at 2, fits.at 3) in
     let len : big_number 2 (drop 4 ip) ≡ payload = omega (arith, h.payload) in
-    let six = joined ip (to_be_bytes w32 first) (to_be_bytes w16 payload) 0 4 6 (known_stands 0 4 first ip fits (omega arith) version) (known_stands 4 2 payload ip fits (omega arith) len) in
-    let next = joined ip (17 ∷ []) (slice_index ip 7 ∷ []) 6 7 8 (known_byte 6 17 ip (omega arith) h.protocol) (byte_stands 7 ip (omega arith)) in
-    let eight = joined ip (to_be_bytes w32 first ++ to_be_bytes w16 payload) (17 ∷ slice_index ip 7 ∷ []) 0 6 8 six next in
-    joined ip (to_be_bytes w32 first ++ to_be_bytes w16 payload ++ (17 ∷ slice_index ip 7 ∷ [])) (addresses6 ip) 0 8 40 eight (addresses6_stand ip fits (omega arith))
+    known_stands 0 4 first ip fits (omega arith) version
+    followed_by known_stands 4 2 payload ip fits (omega arith) len
+    followed_by (known_byte 6 17 ip (omega arith) h.protocol followed_by byte_stands 7 ip (omega arith))
+    followed_by addresses6_stand ip fits (omega arith)
 
 ipv6_takes : (ip : List ℕ) (x : ℕ × List ℕ) → IsBytes ip → slice_index ip 0 / 16 ≡ 6 → ipv6_at ip ≡ Ok x → IsPacket ip x.0 x.1
 ipv6_takes ip x fits version e =
@@ -236,13 +224,13 @@ ipv6_takes ip x fits version e =
     let udp = drop 40 ip in
     let len : length udp ≡ length ip - 40 = length-drop 40 ip in
     let total : length ip ≡ 40 + length udp = omega arith in
-    let addresses : take 32 (drop 8 ip) ≡ addresses6 ip = ap (take 32) (addresses6_stand ip fits (omega arith)) in
+    let addresses : take 32 (drop 8 ip) ≡ addresses6 ip = ap (take 32) (addresses6_stand ip fits (omega arith)).is in
     let pseudo = pseudo6 (addresses6 ip) (length udp) in
     let s : SpellsIpv6 ip pseudo udp = record {
       header = header6_of ip fits;
       payload_fits = omega (arith, number_fits 2 (drop 4 ip) (IsBytes-drop 4 ip fits), h.payload, total);
       covered = refl;
-      whole = fields6_stand ip (length udp) fits h total;
+      whole = (fields6_stand ip (length udp) fits h total).is;
     } in
     let made : IsPacket ip (ones_sum 0 (pseudo6 (take 32 (drop 8 ip)) (length ip - 40))) udp = record {
       pseudo = pseudo;

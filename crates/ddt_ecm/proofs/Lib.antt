@@ -1,12 +1,10 @@
 pub mod ChecksumLemmas
-pub mod RlocLoop
-pub mod RlocLemmas
 pub mod HostLemmas
 pub mod WritingLemmas
 pub mod SumLaws
-pub mod RequestLaws
+pub mod MapRequestLaws
 pub mod WrittenLaws
 pub mod UdpLaws
 pub mod IpLaws
 pub mod SourceLaws
-pub mod MessageLaws
+pub mod RequestLaws

@@ -1,331 +1,189 @@
--- A Map-Request that is read is spelled so, and what is spelled is read again.
-use Rattle.std.proofs.Common.{◌≡◌, ℕ, zero, suc, ◌+◌, ◌*◌, ◌/◌, ◌%◌, ◌^◌, ◌<◌, ◌≤◌, Bool, true, false, cond, ltb, leb, eqb, List, [], ◌∷◌, ◌++◌, length, take, drop, Result, Ok, Err, refl, sym, ap, subst, ◌∙◌, arith, inl, inr, length-append, length-drop, append_assoc}
-use Rattle.std.specs.Prelude.{slice_index, ◌&&◌, not}
-use Rattle.std.specs.List.{flat_map}
-use Rattle.std.specs.Int.{w32, w64, to_be_bytes}
-use Rattle.std.proofs.lemmas.Bool.{both_ways, eqb-false, ltb-false, le-ltb, lt-leb, eqb-true, eq-eqb, ne_eqb, cases_eq, not-false, and_cases, and_left, and_right, not_from_true, cond-false}
-use Rattle.std.proofs.lemmas.List.{take_at, drop_at, nil_from_length, drop-drop}
-use Rattle.std.proofs.Math.Seq.{drop-append_seam}
+-- A request that is read is spelled so, what is spelled is read again, and what spells a request is bytes.
+use Rattle.std.proofs.Common.{◌≡◌, ℕ, ◌+◌, ◌*◌, ◌/◌, ◌%◌, ◌^◌, ◌<◌, ◌≤◌, false, ltb, eqb, List, ◌++◌, length, drop, Ok, refl, sym, ap, subst, ◌∙◌, arith}
+use Rattle.std.specs.Prelude.{slice_index, not}
+use Rattle.std.proofs.lemmas.Bool.{ltb-false, le-ltb, eqb-true, not-false}
 use Rattle.byteorder.specs.Endian.{big_number}
-use Rattle.byteorder.specs.Numbers.{big_number-reads_back}
 use Rattle.ddt_path.specs.declared.locator.Locator.{Locator}
 use Rattle.ddt_path.specs.declared.locator.Locator.TheVariants.{V4, V6}
 use Rattle.ddt_path.specs.declared.xeid.Xeid.{Xeid}
-use Rattle.ddt_path.specs.declared.form.Form.TheVariants.{Range, Block}
-use Rattle.ddt_path.specs.Path.{path, digits, family, are_zero, address_width, address_number, address_digits, xeid_path, IsForm}
-use Rattle.ddt_path.specs.FormOf.{padded_number, block_of, form_of}
-use Rattle.ddt_path.specs.FormLemmas.{whole, none_left, take_len}
-use Rattle.ddt_path.specs.DigitLemmas.{length-digits}
-use Rattle.ddt_wire.specs.Steps.{◌>>=◌, in_words, IsBytes}
-use Rattle.ddt_wire.specs.Address.{family_and_address, IsAddress}
-use Rattle.ddt_wire.specs.Eid.{SpellsEid, Plain, Inside, Instances, eid_at}
+use Rattle.ddt_path.specs.Path.{address_width, xeid_path}
+use Rattle.ddt_reading.specs.Steps.{◌>>=◌, IsBytes}
 use Rattle.ddt_wire.specs.Referral.{bit}
-use Rattle.ddt_wire.specs.Laws.{IsPrefix}
-use Rattle.ddt_wire.proofs.StepLemmas.{bind_ok, words_ok, guard_ok, ok_is}
-use Rattle.ddt_wire.proofs.ByteLemmas.{Takes, Takes-fits, Stands, joined, stands, number_stands, known_stands, byte_stands, number_fits, IsBytes-drop}
-use Rattle.ddt_wire.proofs.EidLemmas.{form_of-named}
-use Rattle.ddt_wire.proofs.EidLaws.{eid_takes, eid_again}
+use Rattle.ddt_reading.specs.Reader.{AreRead}
+use Rattle.ddt_reading.proofs.ReaderLemmas.{are_read}
+use Rattle.ddt_reading.proofs.StepLemmas.{bind_ok, guard_parts, ok_is}
+use Rattle.ddt_reading.proofs.ByteLemmas.{IsBetween, ◌beside◌, two_bytes, known_stands, IsBytes-drop, IsBytes-number}
+use Rattle.ddt_wire.proofs.AddressLaws.{address_is_bytes}
+use Rattle.ddt_wire.proofs.AddressesLaws.{addresses_are_bytes}
+use Rattle.ddt_wire.proofs.WrittenLaws.{eid_is_bytes}
 use Rattle.ddt_ecm.specs.declared.fault.RequestFault.{RequestFault}
-use Rattle.ddt_ecm.specs.declared.fault.RequestFault.TheVariants as fault
-use Rattle.ddt_ecm.specs.MapRequest.{Ignored, request_fields, SpellsRequest, from_eid, host_of, xeid_at, source_at, head_at, rlocs_at, trails, map_request_at}
-use Rattle.ddt_ecm.proofs.SourceLaws.{IsSource, source_takes, source_again, AreRlocs, rlocs_take, rlocs_again}
+use Rattle.ddt_ecm.specs.Checksum.{ones_sum}
+use Rattle.ddt_ecm.specs.Ipv4Header.{Ipv4Header, ipv4_fields}
+use Rattle.ddt_ecm.specs.Ipv6Header.{Ipv6Header, ipv6_fields}
+use Rattle.ddt_ecm.specs.IpHeader.{SpellsIp, Version4, Version6, ip_at}
+use Rattle.ddt_ecm.specs.UdpHeader.{udp_fields, SpellsUdp, udp_at}
+use Rattle.ddt_ecm.specs.MapRequest.{SpellsSource, Absent, Plain, Lcaf, SpellsRequest, map_request_at}
+use Rattle.ddt_ecm.specs.Request.{Message, Spells, message_in}
+use Rattle.ddt_ecm.specs.EcmHeader.{ecm_fields, ecm_at}
+use Rattle.ddt_ecm.proofs.UdpLaws.{udp_takes, udp_again, udp_some}
+use Rattle.ddt_ecm.proofs.IpLaws.{ip_takes, ip_again, pseudo_words}
+use Rattle.ddt_ecm.proofs.MapRequestLaws.{bit_again, request_takes, request_again}
+use Rattle.ddt_wire.proofs.MessageLaws.{bit_of, bit-le}
 
--- ---- the whole path of an identifier
+-- ---- what is read is spelled so
 
-full_path : (n : ℕ) (a : Locator) → path (Block n a (address_width a)) ≡ xeid_path (record { iid = n; address = a })
-full_path n a = ap (λ (ds : List ℕ). digits 32 n ++ (family a ∷ ds)) (whole (address_width a) (address_number a))
+-- what the four bytes say where they are right
+record IsEcm (bytes ip : List ℕ) : Type 0 where
+  long : 4 ≤ length bytes
+  type : slice_index bytes 0 / 16 ≡ 8
+  security : slice_index bytes 0 / 8 % 2 ≡ 0
+  rest : drop 4 bytes ≡ ip
 
-full_form : (n : ℕ) (a : Locator) → n < 2 ^ 32 → IsAddress a → IsForm (Block n a (address_width a))
-full_form n a hn ha = (hn, ha, omega arith, ap are_zero (none_left (address_width a) (address_number a)))
-
-pub full_is_prefix : (n : ℕ) (a : Locator) → n < 2 ^ 32 → IsAddress a → IsPrefix (xeid_path (record { iid = n; address = a }))
-full_is_prefix n a hn ha = (Block n a (address_width a), full_form n a hn ha, full_path n a)
-
-pub form_of_full : (n : ℕ) (a : Locator) → n < 2 ^ 32 → IsAddress a → form_of (xeid_path (record { iid = n; address = a })) ≡ Block n a (address_width a)
-form_of_full n a hn ha = form_of-named (xeid_path (record { iid = n; address = a })) (Block n a (address_width a)) (full_path n a) (full_form n a hn ha)
-
-host_read : (n : ℕ) (a : Locator) → n < 2 ^ 32 → IsAddress a → host_of (form_of (xeid_path (record { iid = n; address = a }))) ≡ Ok (record { iid = n; address = a })
-host_read n a hn ha =
-    let same : eqb (address_width a) (address_width a) ≡ true = eq-eqb (address_width a) (address_width a) refl in
-    rw (form_of_full n a hn ha, same) refl
-
--- ---- the identifier that a prefix is
-
--- a prefix of a single identifier
-record IsHost (mask : ℕ) (p : List ℕ) (x : Xeid) : Type 0 where
-  mask_is : mask ≡ address_width x.address
-  path_is : p ≡ xeid_path x
-  iid_fits : x.iid < 2 ^ 32
-  address_fits : IsAddress x.address
-
-refused : {A E : Type 0} (d : E) (x : A) → Err d ≡ Ok x → ⊥
-refused d x e = absurd cc
-
-form_of_block : (ds es : List ℕ) → length ds ≡ 32 → 0 < length es → form_of (ds ++ es) ≡ block_of (padded_number 32 ds) es
-form_of_block ds es n some =
-    cond-false (leb (length (ds ++ es)) 32) _ _ (lt-leb (length (ds ++ es)) 32 (omega (arith, length-append ds es)))
-    ∙ ap (λ (f : List ℕ). block_of (padded_number 32 f) (drop 32 (ds ++ es))) (take_at ds es 32 n)
-    ∙ ap (block_of (padded_number 32 ds)) (drop_at ds es 32 n)
-
--- a block that isn't as long as its family's width
-short_is_no_host : (a : Locator) (iid mask : ℕ) → mask ≤ address_width a → (mask ≡ address_width a → ⊥) → host_of (block_of iid (family a ∷ take mask (address_digits a))) ≡ Err fault.NotHost
-short_is_no_host (V4 n) iid mask le other =
-    let len = take_len 32 mask n le in
-    let differs : eqb (length (take mask (digits 32 n))) 32 ≡ false = ne_eqb _ _ (λ e. other (sym len ∙ e)) in
-    rw differs refl
-short_is_no_host (V6 n) iid mask le other =
-    let len = take_len 128 mask n le in
-    let differs : eqb (length (take mask (digits 128 n))) 128 ≡ false = ne_eqb _ _ (λ e. other (sym len ∙ e)) in
-    rw differs refl
-
-short_block : (iid mask : ℕ) (a : Locator) → mask ≤ address_width a → (mask ≡ address_width a → ⊥) → host_of (form_of (path (Block iid a mask))) ≡ Err fault.NotHost
-short_block iid mask a le other =
-    ap host_of (form_of_block (digits 32 iid) (family a ∷ take mask (address_digits a)) (length-digits 32 iid) (omega arith)) ∙ short_is_no_host a (padded_number 32 (digits 32 iid)) mask le other
-
-block_host : (iid mask : ℕ) (a : Locator) (p : List ℕ) (x : Xeid) → iid < 2 ^ 32 → IsAddress a → mask ≤ address_width a → p ≡ path (Block iid a mask) → host_of (form_of p) ≡ Ok x → IsHost mask p x
-block_host iid mask a p x hi ha le is e =
-    elim (cases_eq mask (address_width a)) [
-      | inl same ↦
-          let q : p ≡ xeid_path (record { iid = iid; address = a }) = is ∙ ap (λ (k : ℕ). path (Block iid a k)) same ∙ full_path iid a in
-          let made : IsHost mask p (record { iid = iid; address = a }) = record { mask_is = same; path_is = q; iid_fits = hi; address_fits = ha } in
-          subst (IsHost mask p) (ok_is {E = RequestFault} (record { iid = iid; address = a }) x (sym (host_read iid a hi ha) ∙ ap (λ (t : List ℕ). host_of (form_of t)) (sym q) ∙ e)) made
-      | inr other ↦ absurd (refused fault.NotHost x (sym (short_block iid mask a le other) ∙ ap (λ (t : List ℕ). host_of (form_of t)) (sym is) ∙ e))
-    ]
-
-host_takes : (mask : ℕ) (eid p : List ℕ) (x : Xeid) → SpellsEid mask eid p → host_of (form_of p) ≡ Ok x → IsHost mask p x
-host_takes mask eid p x (Plain a fits le is value) e = block_host 0 mask a p x (omega arith) fits le value e
-host_takes mask eid p x (Inside r f m iid a h fits le is value) e = block_host iid mask a p x h.iid_fits fits le value e
-host_takes mask eid p x (Instances r f len iid h le zeros is value) e =
-    absurd (refused fault.NotHost x (sym (ap host_of (form_of-named p (Range iid len) (sym value) (h.iid_fits, le, zeros))) ∙ e))
-
--- ---- the identifier behind its mask length
-
--- what was read of an identifier, behind a reserved byte
-record IsXeid (bytes : List ℕ) (x : Xeid) (n : ℕ) : Type 0 where
-  reserved : ℕ
-  eid : List ℕ
-  reserved_fits : reserved < 256
-  iid_fits : x.iid < 2 ^ 32
-  address_fits : IsAddress x.address
-  spelled : SpellsEid (address_width x.address) eid (xeid_path x)
-  takes : Takes bytes ((reserved ∷ address_width x.address ∷ []) ++ eid) n
-
-abbrev hosted : ℕ → List ℕ → Result (Xeid × ℕ) RequestFault
-hosted n p = host_of (form_of p) >>= λ x. Ok (x, 2 + n)
-
-xeid_takes : (bytes : List ℕ) (x : Xeid × ℕ) → IsBytes bytes → xeid_at bytes ≡ Ok x → IsXeid bytes x.0 x.1
-unfolding xeid_at
-xeid_takes bytes x fits e =
-    let mask = slice_index bytes 1 in
-    let read : Result (List ℕ × ℕ) RequestFault = in_words from_eid (eid_at mask (drop 2 bytes)) in
-    let g = guard_ok (ltb (length bytes) 2) fault.Short (read >>= λ p. hosted p.1 p.0) x e in
-    let long : 2 ≤ length bytes = ltb-false _ _ g.0 in
-    let a = bind_ok read (λ p. hosted p.1 p.0) x g.1 in
-    let b = bind_ok (host_of (form_of a.0.0)) (λ y. Ok (y, 2 + a.0.1)) x a.2 in
-    let r = eid_takes mask (drop 2 bytes) a.0 (IsBytes-drop 2 bytes fits) (words_ok from_eid (eid_at mask (drop 2 bytes)) a.0 a.1) in
-    let h = host_takes mask r.0 a.0.0 b.0 r.2 b.1 in
-    let front = joined bytes (slice_index bytes 0 ∷ []) (mask ∷ []) 0 1 2 (byte_stands 0 bytes (omega arith)) (byte_stands 1 bytes (omega arith)) in
-    let t : Takes bytes ((slice_index bytes 0 ∷ mask ∷ []) ++ r.0) (2 + a.0.1) = record {
-      parts = joined bytes (slice_index bytes 0 ∷ mask ∷ []) r.0 0 2 (2 + a.0.1) front (stands bytes r.0 2 a.0.1 r.1);
-      len = length-append (slice_index bytes 0 ∷ mask ∷ []) r.0 ∙ ap (λ (n : ℕ). 2 + n) r.1.len;
-    } in
-    let made : IsXeid bytes b.0 (2 + a.0.1) = record {
-      reserved = slice_index bytes 0;
-      eid = r.0;
-      reserved_fits = fits 0;
-      iid_fits = h.iid_fits;
-      address_fits = h.address_fits;
-      spelled = subst (λ (k : ℕ). SpellsEid k r.0 (xeid_path b.0)) h.mask_is (subst (SpellsEid mask r.0) h.path_is r.2);
-      takes = subst (λ (k : ℕ). Takes bytes ((slice_index bytes 0 ∷ k ∷ []) ++ r.0) (2 + a.0.1)) h.mask_is t;
-    } in
-    subst (λ (y : Xeid × ℕ). IsXeid bytes y.0 y.1) (ok_is {E = RequestFault} (b.0, 2 + a.0.1) x b.2) made
-
-xeid_read : (bytes : List ℕ) (m : ℕ) (p : List ℕ) (k : ℕ) (x : Xeid) → 2 ≤ length bytes → slice_index bytes 1 ≡ m → eid_at m (drop 2 bytes) ≡ Ok (p, k) → host_of (form_of p) ≡ Ok x → xeid_at bytes ≡ Ok (x, 2 + k)
-unfolding xeid_at
-xeid_read bytes m p k x long mask eid host =
-    let two : ltb (length bytes) 2 ≡ false = le-ltb _ _ long in
-    rw (two, mask, eid, host) refl
-
-xeid_again : (reserved : ℕ) (x : Xeid) (eid after : List ℕ) → x.iid < 2 ^ 32 → IsAddress x.address → SpellsEid (address_width x.address) eid (xeid_path x)
-    → xeid_at ((reserved ∷ address_width x.address ∷ []) ++ (eid ++ after)) ≡ Ok (x, 2 + length eid)
-xeid_again reserved x eid after hi ha s =
-    xeid_read ((reserved ∷ address_width x.address ∷ []) ++ (eid ++ after)) (address_width x.address) (xeid_path x) (length eid) x (omega arith) refl (eid_again (address_width x.address) eid (xeid_path x) after s) (host_read x.iid x.address hi ha)
-
--- ---- what stands before the source EID
-
-pub bit_of : (x : ℕ) → x < 2 → bit (eqb x 1) ≡ x
-bit_of zero lt = refl
-bit_of (suc zero) lt = refl
-bit_of (suc (suc x)) lt = absurd (omega arith)
-
-pub bit-le : (b : Bool) → bit b ≤ 1
-bit-le true = omega arith
-bit-le false = omega arith
-
-pub bit_again : (b : Bool) (x : ℕ) → x ≡ bit b → eqb x 1 ≡ b
-bit_again true x e = ap (λ (n : ℕ). eqb n 1) e
-bit_again false x e = ap (λ (n : ℕ). eqb n 1) e
-
--- what the head says where it is right
-record IsHead (message : List ℕ) (count : ℕ) : Type 0 where
-  long : 12 ≤ length message
-  type : slice_index message 0 / 16 ≡ 1
-  one : slice_index message 3 ≡ 1
-  count_is : slice_index message 2 % 32 + 1 ≡ count
-
-head_holds : (message : List ℕ) (count : ℕ) → head_at message ≡ Ok count → IsHead message count
-unfolding head_at
-head_holds message count e =
-    let found : Result ℕ RequestFault = Ok (slice_index message 2 % 32 + 1) in
-    let second = cond (not (eqb (slice_index message 3) 1)) (Err fault.RecordCount) found in
-    let first = cond (not (eqb (slice_index message 0 / 16) 1)) (Err fault.RequestType) second in
-    let a = guard_ok (ltb (length message) 12) fault.Short first count e in
-    let b = guard_ok (not (eqb (slice_index message 0 / 16) 1)) fault.RequestType second count a.1 in
-    let c = guard_ok (not (eqb (slice_index message 3) 1)) fault.RecordCount found count b.1 in
+ecm_holds : (bytes ip : List ℕ) → ecm_at bytes ≡ Ok ip → IsEcm bytes ip
+unfolding ecm_at
+ecm_holds bytes ip e =
+    guard_parts (ltb (length bytes) 4) _ _ ip e λ long e₁.
+    guard_parts (not (eqb (slice_index bytes 0 / 16) 8)) _ _ ip e₁ λ type e₂.
+    guard_parts (not (eqb (slice_index bytes 0 / 8 % 2) 0)) _ _ ip e₂ λ security e₃.
     record {
-      long = ltb-false _ _ a.0;
-      type = eqb-true _ _ (not-false _ b.0);
-      one = eqb-true _ _ (not-false _ c.0);
-      count_is = ok_is {E = RequestFault} (slice_index message 2 % 32 + 1) count c.1;
+      long = ltb-false _ _ long;
+      type = eqb-true _ _ (not-false _ type);
+      security = eqb-true _ _ (not-false _ security);
+      rest = ok_is {E = RequestFault} (drop 4 bytes) ip e₃;
     }
 
-abbrev ignored_of : (message : List ℕ) (reserved_ : ℕ) → IsBytes message → reserved_ < 256 → Ignored
-ignored_of message reserved_ fits small = record {
-  authoritative = eqb (slice_index message 0 / 8 % 2) 1;
-  flags = slice_index message 0 % 4 * 2048 + slice_index message 1 * 8 + slice_index message 2 / 32;
-  reserved = reserved_;
-  flags_fit = omega (arith, fits 1, fits 2);
-  reserved_fits = small;
-}
+abbrev ignored_of : List ℕ → ℕ
+ignored_of bytes = slice_index bytes 0 % 4 * 16777216 + slice_index bytes 1 * 65536 + slice_index bytes 2 * 256 + slice_index bytes 3
 
-first_word : (message : List ℕ) (count reserved : ℕ) (fits : IsBytes message) (small : reserved < 256) → IsHead message count → let i = ignored_of message reserved fits small in
-    big_number 4 message ≡ 2 ^ 28 + bit i.authoritative * 2 ^ 27 + bit (eqb (slice_index message 0 / 4 % 2) 1) * 2 ^ 26 + i.flags * 2 ^ 13 + slice_index message 2 % 32 * 2 ^ 8 + 1
-first_word message count reserved fits small h =
-    let a = bit_of (slice_index message 0 / 8 % 2) (omega arith) in
-    let m = bit_of (slice_index message 0 / 4 % 2) (omega arith) in
-    omega (arith, h.type, h.one, a, m)
+ecm_stands : (bytes ip : List ℕ) → IsBytes bytes → IsEcm bytes ip → IsBetween bytes 0 (ecm_fields (eqb (slice_index bytes 0 / 4 % 2) 1) (ignored_of bytes)) 4
+ecm_stands bytes ip fits h =
+    let d = bit_of (slice_index bytes 0 / 4 % 2) (omega arith) in
+    let word = 8 * 2 ^ 28 + bit (eqb (slice_index bytes 0 / 4 % 2) 1) * 2 ^ 26 + ignored_of bytes in
+    let number : big_number 4 bytes ≡ word = omega (arith, h.type, h.security, d) in
+    known_stands 0 4 word bytes fits (omega (arith, h.long)) number
 
-fields_stand : (message : List ℕ) (count reserved : ℕ) (fits : IsBytes message) (small : reserved < 256) → IsHead message count
-    → Stands message 0 (request_fields (ignored_of message reserved fits small) (eqb (slice_index message 0 / 4 % 2) 1) (slice_index message 2 % 32) (big_number 8 (drop 4 message))) 12
-fields_stand message count reserved fits small h =
-    let i = ignored_of message reserved fits small in
-    let long = h.long in
-    let w = 2 ^ 28 + bit i.authoritative * 2 ^ 27 + bit (eqb (slice_index message 0 / 4 % 2) 1) * 2 ^ 26 + i.flags * 2 ^ 13 + slice_index message 2 % 32 * 2 ^ 8 + 1 in
-    joined message (to_be_bytes w32 w) (to_be_bytes w64 (big_number 8 (drop 4 message))) 0 4 12 (known_stands 0 4 w message fits (omega arith) (first_word message count reserved fits small h)) (number_stands 4 8 message fits (omega arith))
+abbrev asked_of : List ℕ → ℕ × List ℕ → ℕ × Xeid × List Locator → Message
+asked_of bytes data_ asked = record { nonce = asked.0; ddt = eqb (slice_index bytes 0 / 4 % 2) 1; port = data_.0; xeid = asked.1; rlocs = asked.2 }
 
--- ---- the whole Map-Request
+-- the message of a datagram of bytes
+message_fits : (pseudo udp : List ℕ) (port : ℕ) (message : List ℕ) → IsBytes udp → SpellsUdp pseudo udp port message → IsBytes message
+message_fits pseudo udp port message fits s = subst IsBytes (ap (drop 8) s.whole) (IsBytes-drop 8 udp fits)
 
--- what was read of a Map-Request
-abbrev Read : Type 0
-Read = ℕ × Xeid × List Locator
-
-regrouped : (message front from flat rest mask eid after : List ℕ) → message ≡ front ++ from → from ≡ flat ++ rest → rest ≡ (mask ++ eid) ++ after → message ≡ front ++ flat ++ mask ++ eid ++ after
-regrouped message front from flat rest mask eid after p q r = p ∙ ap (λ (t : List ℕ). front ++ t) (q ∙ ap (λ (t : List ℕ). flat ++ t) r) ∙ simp append_assoc refl
-
-zero_bit : (x : ℕ) → x < 2 → eqb x 1 ≡ false → x ≡ 0
-zero_bit x lt e = let other = eqb-false x 1 e in omega arith
-
-nothing_left : (message rest : List ℕ) (n : ℕ) → n ≤ length rest → trails message n rest ≡ false → eqb (slice_index message 0 / 4 % 2) 1 ≡ false → drop n rest ≡ []
-nothing_left message rest n within e clear =
-    elim (and_cases (eqb (slice_index message 0 / 4 % 2) 0) (not (eqb (length rest) n)) e) [
-      | inl p ↦
-          let e0 : eqb (slice_index message 0 / 4 % 2) 0 ≡ true = eq-eqb _ _ (zero_bit (slice_index message 0 / 4 % 2) (omega arith) clear) in
-          absurd (both_ways (eqb (slice_index message 0 / 4 % 2) 0) p e0)
-      | inr p ↦ nil_from_length (drop n rest) (omega (arith, length-drop n rest, eqb-true _ _ (not-false _ p)))
-    ]
-
-spelled : (message : List ℕ) (count source : ℕ) (ls : List Locator) (rest : List ℕ) (x : Xeid) (n : ℕ) → IsBytes message → IsHead message count → IsSource (drop 12 message) source
-    → AreRlocs (drop source (drop 12 message)) ls rest → length ls ≡ count → IsXeid rest x n → trails message n rest ≡ false → SpellsRequest message (big_number 8 (drop 4 message)) x ls
-spelled message count source ls rest x n fits h (text, t, s) l size q over =
-    let map_ = eqb (slice_index message 0 / 4 % 2) 1 in
-    let irc_ = slice_index message 2 % 32 in
-    let i = ignored_of message q.reserved fits q.reserved_fits in
-    let fields = request_fields i map_ irc_ (big_number 8 (drop 4 message)) in
-    let front = joined message fields text 0 12 (12 + source) (fields_stand message count q.reserved fits q.reserved_fits h) (stands message text 12 source t) in
-    record {
-      ignored = i;
-      with_map = map_;
-      irc = irc_;
-      source = text;
-      eid = q.eid;
-      after = drop n rest;
-      nonce_fits = number_fits 8 (drop 4 message) (IsBytes-drop 4 message fits);
-      irc_fits = omega arith;
-      iid_fits = q.iid_fits;
-      address_fits = q.address_fits;
-      count = size ∙ sym h.count_is;
-      rlocs_fit = l.fit;
-      spells_source = s;
-      spells_eid = q.spelled;
-      after_are_bytes = IsBytes-drop n rest l.rest_fits;
-      none_after = nothing_left message rest n (Takes-fits rest ((q.reserved ∷ address_width x.address ∷ []) ++ q.eid) n q.takes) over;
-      whole = regrouped message (fields ++ text) (drop (12 + source) message) (flat_map family_and_address ls) rest (q.reserved ∷ address_width x.address ∷ []) q.eid (drop n rest) front (sym (drop-drop source 12 message) ∙ l.parts) q.takes.parts;
-    }
-
-pub request_takes : (message : List ℕ) (x : Read) → IsBytes message → map_request_at message ≡ Ok x → SpellsRequest message x.0 x.1 x.2
-unfolding map_request_at
-request_takes message x fits e =
-    let last : List Locator × List ℕ → Xeid × ℕ → Result Read RequestFault = λ ls q. cond (trails message q.1 ls.1) (Err fault.Trailing) (Ok (big_number 8 (drop 4 message), q.0, ls.0)) in
-    let a = bind_ok (head_at message) (λ count. source_at (drop 12 message) >>= λ source. rlocs_at count (drop source (drop 12 message)) >>= λ ls. xeid_at ls.1 >>= λ q. last ls q) x e in
-    let b = bind_ok (source_at (drop 12 message)) (λ source. rlocs_at a.0 (drop source (drop 12 message)) >>= λ ls. xeid_at ls.1 >>= λ q. last ls q) x a.2 in
-    let c = bind_ok (rlocs_at a.0 (drop b.0 (drop 12 message))) (λ ls. xeid_at ls.1 >>= λ q. last ls q) x b.2 in
-    let d = bind_ok (xeid_at c.0.1) (λ q. last c.0 q) x c.2 in
-    let g = guard_ok (trails message d.0.1 c.0.1) fault.Trailing (Ok (big_number 8 (drop 4 message), d.0.0, c.0.0)) x d.2 in
-    let from_source = IsBytes-drop 12 message fits in
-    let ls = rlocs_take a.0 (drop b.0 (drop 12 message)) c.0 (IsBytes-drop b.0 (drop 12 message) from_source) c.1 in
-    let made = spelled message a.0 b.0 c.0.0 c.0.1 d.0.0 d.0.1 fits (head_holds message a.0 a.1) (source_takes (drop 12 message) b.0 from_source b.1) ls.0 ls.1 (xeid_takes c.0.1 d.0 ls.0.rest_fits d.1) g.0 in
-    subst (λ (y : Read). SpellsRequest message y.0 y.1 y.2) (ok_is {E = RequestFault} (big_number 8 (drop 4 message), d.0.0, c.0.0) x g.1) made
+pub message_takes : (bytes : List ℕ) (v : Message) → IsBytes bytes → message_in bytes ≡ Ok v → Spells bytes v
+unfolding message_in
+message_takes bytes v fits e =
+    let a = bind_ok (ecm_at bytes) (λ ip. ip_at ip >>= λ udp. udp_at udp.0 udp.1 >>= λ d. map_request_at d.1 >>= λ m. Ok (asked_of bytes d m)) v e in
+    let b = bind_ok (ip_at a.0) (λ udp. udp_at udp.0 udp.1 >>= λ d. map_request_at d.1 >>= λ m. Ok (asked_of bytes d m)) v a.2 in
+    let c = bind_ok (udp_at b.0.0 b.0.1) (λ d. map_request_at d.1 >>= λ m. Ok (asked_of bytes d m)) v b.2 in
+    let d = bind_ok (map_request_at c.0.1) (λ m. Ok (asked_of bytes c.0 m)) v c.2 in
+    let h = ecm_holds bytes a.0 a.1 in
+    let ip_fits : IsBytes a.0 = subst IsBytes h.rest (IsBytes-drop 4 bytes fits) in
+    let p = ip_takes a.0 b.0 ip_fits b.1 in
+    let u = udp_takes p.words p.pseudo b.0.1 c.0 p.even p.udp_fits p.some (ap (λ (s : ℕ). udp_at s b.0.1) (sym p.sum_is) ∙ c.1) in
+    let data_fits : IsBytes c.0.1 = message_fits p.pseudo b.0.1 c.0.0 c.0.1 p.udp_fits u in
+    let made : Spells bytes (asked_of bytes c.0 d.0) = record {
+      ignored = ignored_of bytes;
+      packet = a.0;
+      pseudo = p.pseudo;
+      udp = b.0.1;
+      request = c.0.1;
+      ignored_fits = omega (arith, fits.at 1, fits.at 2, fits.at 3);
+      spells_ip = p.spelled;
+      spells_udp = u;
+      spells_request = request_takes c.0.1 d.0 data_fits d.1;
+      whole = (ecm_stands bytes a.0 fits h).is ∙ ap (λ (t : List ℕ). ecm_fields (eqb (slice_index bytes 0 / 4 % 2) 1) (ignored_of bytes) ++ t) h.rest;
+    } in
+    subst (Spells bytes) (ok_is {E = RequestFault} (asked_of bytes c.0 d.0) v d.2) made
 
 -- ---- what is spelled is read again
 
-head_read : (message : List ℕ) (count : ℕ) → 12 ≤ length message → slice_index message 0 / 16 ≡ 1 → slice_index message 3 ≡ 1 → slice_index message 2 % 32 + 1 ≡ count → head_at message ≡ Ok count
-unfolding head_at
-head_read message count long type one rlocs =
-    let twelve : ltb (length message) 12 ≡ false = le-ltb _ _ long in
-    rw (twelve, type, one, rlocs) refl
+type_again : (d n : ℕ) → d ≤ 1 → n < 2 ^ 26 → (8 * 2 ^ 28 + d * 2 ^ 26 + n) / 16777216 % 256 / 16 ≡ 8
+type_again d n hd hn = omega arith
 
-abbrev word_of : ℕ → ℕ → ℕ → ℕ → ℕ
-word_of a m f i = 2 ^ 28 + a * 2 ^ 27 + m * 2 ^ 26 + f * 2 ^ 13 + i * 2 ^ 8 + 1
+security_again : (d n : ℕ) → d ≤ 1 → n < 2 ^ 26 → (8 * 2 ^ 28 + d * 2 ^ 26 + n) / 16777216 % 256 / 8 % 2 ≡ 0
+security_again d n hd hn = omega arith
 
-type_again : (a m f i : ℕ) → a ≤ 1 → m ≤ 1 → f < 2 ^ 13 → i < 32 → word_of a m f i / 16777216 % 256 / 16 ≡ 1
-type_again a m f i ha hm hf hi = omega arith
+ddt_again : (d n : ℕ) → d ≤ 1 → n < 2 ^ 26 → (8 * 2 ^ 28 + d * 2 ^ 26 + n) / 16777216 % 256 / 4 % 2 ≡ d
+ddt_again d n hd hn = omega arith
 
-map_again : (a m f i : ℕ) → a ≤ 1 → m ≤ 1 → f < 2 ^ 13 → i < 32 → word_of a m f i / 16777216 % 256 / 4 % 2 ≡ m
-map_again a m f i ha hm hf hi = omega arith
+ecm_read : (bytes : List ℕ) → 4 ≤ length bytes → slice_index bytes 0 / 16 ≡ 8 → slice_index bytes 0 / 8 % 2 ≡ 0 → ecm_at bytes ≡ Ok (drop 4 bytes)
+unfolding ecm_at
+ecm_read bytes long type security =
+    let four : ltb (length bytes) 4 ≡ false = le-ltb _ _ long in
+    rw (four, type, security) refl
 
-irc_again : (a m f i : ℕ) → a ≤ 1 → m ≤ 1 → f < 2 ^ 13 → i < 32 → word_of a m f i / 256 % 256 % 32 + 1 ≡ i + 1
-irc_again a m f i ha hm hf hi = omega arith
+message_read : (bytes ip udp message : List ℕ) (sum : ℕ) (v : Message) → ecm_at bytes ≡ Ok ip → ip_at ip ≡ Ok (sum, udp) → udp_at sum udp ≡ Ok (v.port, message) → map_request_at message ≡ Ok (v.nonce, v.xeid, v.rlocs)
+    → eqb (slice_index bytes 0 / 4 % 2) 1 ≡ v.ddt → message_in bytes ≡ Ok v
+unfolding message_in
+message_read bytes ip udp message sum v e i u m d = rw (e, i, u, m, d) refl
 
-one_again : (a m f i : ℕ) → a ≤ 1 → m ≤ 1 → f < 2 ^ 13 → i < 32 → word_of a m f i % 256 ≡ 1
-one_again a m f i ha hm hf hi = omega arith
+pub message_again : (bytes : List ℕ) (v : Message) → Spells bytes v → message_in bytes ≡ Ok v
+message_again bytes v s =
+    let text = ecm_fields v.ddt s.ignored ++ s.packet in
+    let d = bit-le v.ddt in
+    let w = pseudo_words s.packet s.pseudo s.udp s.spells_ip in
+    let header = ecm_read text (omega arith) (type_again (bit v.ddt) s.ignored d s.ignored_fits) (security_again (bit v.ddt) s.ignored d s.ignored_fits) in
+    let ip = ip_again s.packet s.pseudo s.udp (udp_some s.pseudo s.udp v.port s.request s.spells_udp) s.spells_ip in
+    let udp = udp_again w.0 s.pseudo s.udp v.port s.request w.1 s.spells_udp in
+    let request = request_again s.request v.nonce v.xeid v.rlocs s.spells_request in
+    ap message_in s.whole
+    ∙ message_read text s.packet s.udp s.request (ones_sum 0 s.pseudo) v header ip udp request (bit_again v.ddt (slice_index text 0 / 4 % 2) (ddt_again (bit v.ddt) s.ignored d s.ignored_fits))
 
-request_read : (message from_source from_rlocs from_xeid : List ℕ) (count source k nonce : ℕ) (x : Xeid) (ls : List Locator) → head_at message ≡ Ok count → drop 12 message ≡ from_source → source_at from_source ≡ Ok source → drop source from_source ≡ from_rlocs
-    → rlocs_at count from_rlocs ≡ Ok (ls, from_xeid) → xeid_at from_xeid ≡ Ok (x, k) → trails message k from_xeid ≡ false → big_number 8 (drop 4 message) ≡ nonce → map_request_at message ≡ Ok (nonce, x, ls)
-unfolding map_request_at
-request_read message from_source from_rlocs from_xeid count source k nonce x ls h d s e r q over number = rw (h, d, s, e, r, q, over, number) refl
+-- ---- bytes
 
--- where M is clear, nothing stands after the EID
-ends : (with_map : Bool) (b size : ℕ) (eid after : List ℕ) → b ≡ bit with_map → size ≡ 2 + length eid + length after → (with_map ≡ false → after ≡ []) → (eqb b 0 && not (eqb size (2 + length eid))) ≡ false
-ends true b size eid after e is none = and_left _ _ (ap (λ (n : ℕ). eqb n 0) e)
-ends false b size eid after e is none =
-    let same : size ≡ 2 + length eid = omega (arith, is, ap length (none refl)) in
-    and_right _ _ (not_from_true _ (eq-eqb _ _ same))
+width_small : (a : Locator) → address_width a < 256
+width_small (V4 a) = omega arith
+width_small (V6 a) = omega arith
 
-pub request_again : (message : List ℕ) (nonce : ℕ) (x : Xeid) (ls : List Locator) → SpellsRequest message nonce x ls → map_request_at message ≡ Ok (nonce, x, ls)
-request_again message nonce x ls s =
+source_is_bytes : (bytes : List ℕ) → SpellsSource bytes → IsBytes bytes
+source_is_bytes bytes (Absent is) = subst IsBytes (sym is) (IsBytes-number 2 0)
+source_is_bytes bytes (Plain a fits is) = subst IsBytes (sym is) (address_is_bytes a)
+source_is_bytes bytes (Lcaf r f t m content hr hf ht hm small fits is) =
+    let four = two_bytes r f hr hf beside two_bytes t m ht hm in
+    subst IsBytes (sym is) (IsBytes-number 2 16387 beside four beside IsBytes-number 2 (length content) beside fits)
+
+pub request_is_bytes : (bytes : List ℕ) (nonce : ℕ) (x : Xeid) (ls : List Locator) → SpellsRequest bytes nonce x ls → IsBytes bytes
+request_is_bytes bytes nonce x ls s =
     let i = s.ignored in
-    let a = bit-le i.authoritative in
-    let m = bit-le s.with_map in
-    let f = i.flags_fit in
-    let hi = s.irc_fits in
-    let tail = (i.reserved ∷ address_width x.address ∷ []) ++ (s.eid ++ s.after) in
-    let from_rlocs = flat_map family_and_address ls ++ tail in
-    let text = request_fields i s.with_map s.irc nonce ++ (s.source ++ from_rlocs) in
-    let regrouped : message ≡ text = s.whole ∙ simp append_assoc refl in
-    let count : slice_index text 2 % 32 + 1 ≡ length ls = irc_again (bit i.authoritative) (bit s.with_map) i.flags s.irc a m f hi ∙ sym s.count in
-    ap map_request_at regrouped
-    ∙ request_read text (s.source ++ from_rlocs) from_rlocs tail (length ls) (length s.source) (2 + length s.eid) nonce x ls
-    (head_read text (length ls) (omega arith) (type_again (bit i.authoritative) (bit s.with_map) i.flags s.irc a m f hi) (one_again (bit i.authoritative) (bit s.with_map) i.flags s.irc a m f hi) count)
-    refl (source_again s.source from_rlocs s.spells_source) (drop-append_seam s.source from_rlocs) (rlocs_again ls tail s.rlocs_fit) (xeid_again i.reserved x s.eid s.after s.iid_fits s.address_fits s.spells_eid)
-    (ends s.with_map (slice_index text 0 / 4 % 2) (length tail) s.eid s.after (map_again (bit i.authoritative) (bit s.with_map) i.flags s.irc a m f hi) (omega (arith, length-append s.eid s.after)) s.none_after)
-    (big_number-reads_back 8 nonce (s.source ++ from_rlocs) s.nonce_fits)
+    let word = 2 ^ 28 + bit i.authoritative * 2 ^ 27 + bit s.with_map * 2 ^ 26 + i.flags * 2 ^ 13 + s.irc * 2 ^ 8 + 1 in
+    subst IsBytes (sym s.whole) (IsBytes-number 4 word beside IsBytes-number 8 nonce beside source_is_bytes s.source s.spells_source
+    beside addresses_are_bytes 0 ls s.itr_rlocs s.spells_rlocs beside two_bytes i.reserved (address_width x.address) i.reserved_fits (width_small x.address)
+    beside eid_is_bytes (address_width x.address) s.eid (xeid_path x) s.spells_eid beside s.after_are_bytes)
+
+udp_fields_are_bytes : (port len checksum : ℕ) → IsBytes (udp_fields port len checksum)
+udp_fields_are_bytes port len checksum = IsBytes-number 2 port beside IsBytes-number 2 4342 beside IsBytes-number 2 len beside IsBytes-number 2 checksum
+
+udp_is_bytes : (pseudo bytes : List ℕ) (port : ℕ) (message : List ℕ) → SpellsUdp pseudo bytes port message → IsBytes message → IsBytes bytes
+udp_is_bytes pseudo bytes port message s fits = subst IsBytes (sym s.whole) (udp_fields_are_bytes port (8 + length message) s.checksum beside fits)
+
+pub ipv4_fields_are_bytes : (h : Ipv4Header) (total : ℕ) → IsBytes (ipv4_fields h total)
+ipv4_fields_are_bytes h total =
+    let words = h.words_fit in
+    two_bytes (64 + h.words) h.service (omega arith) h.service_fits beside IsBytes-number 2 total beside IsBytes-number 2 h.identification
+    beside IsBytes-number 2 (h.flags * 2 ^ 14) beside two_bytes h.hops 17 h.hops_fit (omega arith) beside IsBytes-number 2 h.checksum
+    beside IsBytes-number 4 h.source beside IsBytes-number 4 h.destination beside h.options_are_bytes
+
+ipv6_fields_are_bytes : (h : Ipv6Header) (payload : ℕ) → IsBytes (ipv6_fields h payload)
+ipv6_fields_are_bytes h payload =
+    IsBytes-number 4 (6 * 2 ^ 28 + h.class_and_label) beside IsBytes-number 2 payload beside two_bytes 17 h.hops (omega arith) h.hops_fit
+    beside IsBytes-number 16 h.source beside IsBytes-number 16 h.destination
+
+ip_is_bytes : (bytes pseudo udp : List ℕ) → SpellsIp bytes pseudo udp → IsBytes udp → IsBytes bytes
+ip_is_bytes bytes pseudo udp (Version4 s) fits =
+    let total = 4 * s.header.words + length udp in
+    subst IsBytes (sym s.whole) (ipv4_fields_are_bytes s.header total beside fits)
+ip_is_bytes bytes pseudo udp (Version6 s) fits =
+    subst IsBytes (sym s.whole) (ipv6_fields_are_bytes s.header (length udp) beside fits)
+
+pub message_is_bytes : (bytes : List ℕ) (v : Message) → Spells bytes v → IsBytes bytes
+message_is_bytes bytes v s =
+    let word = 8 * 2 ^ 28 + bit v.ddt * 2 ^ 26 + s.ignored in
+    let request = request_is_bytes s.request v.nonce v.xeid v.rlocs s.spells_request in
+    let udp = udp_is_bytes s.pseudo s.udp v.port s.request s.spells_udp request in
+    let packet = ip_is_bytes s.packet s.pseudo s.udp s.spells_ip udp in
+    subst IsBytes (sym s.whole) (IsBytes-number 4 word beside packet)
+
+-- ---- the laws
+
+pub messages_are_read : AreRead IsBytes Spells message_in
+messages_are_read = are_read message_again message_takes message_is_bytes

@@ -1,73 +1,46 @@
 -- A source EID and ITR-RLOCs that are read are spelled so, and what is spelled is read again.
-use Rattle.std.proofs.Common.{◌≡◌, ℕ, zero, suc, ◌+◌, ◌^◌, ◌<◌, ◌≤◌, false, cond, ltb, eqb, List, [], ◌∷◌, ◌++◌, length, take, drop, Result, Ok, Err, refl, sym, ap, subst, ◌∙◌, arith, inl, inr, length-append, length-drop, append_assoc}
+use Rattle.std.proofs.Common.{◌≡◌, ℕ, ◌+◌, ◌^◌, ◌<◌, ◌≤◌, false, cond, ltb, eqb, List, [], ◌∷◌, ◌++◌, length, take, drop, Result, Ok, Err, refl, sym, ap, subst, ◌∙◌, arith, inl, inr, length-append, length-drop}
 use Rattle.std.specs.Prelude.{slice_index}
-use Rattle.std.specs.List.{flat_map, AllByRecursion}
 use Rattle.std.specs.Int.{w16, to_be_bytes, bytes_high_first}
 use Rattle.std.proofs.lemmas.Bool.{ltb-false, le-ltb, eqb-true}
 use Rattle.std.proofs.lemmas.List.{length-take-le}
-use Rattle.std.proofs.lemmas.List.Concat.{flat_map-cons}
-use Rattle.std.proofs.Math.Seq.{drop-append_seam}
 use Rattle.byteorder.specs.Endian.{big_number}
 use Rattle.byteorder.specs.Numbers.{big_number-reads_back}
 use Rattle.ddt_path.specs.declared.locator.Locator.{Locator}
-use Rattle.ddt_path.specs.declared.locator.Locator.TheVariants.{V4, V6}
-use Rattle.ddt_wire.specs.Steps.{◌>>=◌, in_words, IsBytes}
+use Rattle.ddt_reading.specs.Steps.{◌>>=◌, in_words, IsBytes}
 use Rattle.ddt_wire.specs.Address.{family_and_address, IsAddress, address_at}
-use Rattle.ddt_wire.proofs.StepLemmas.{bind_ok, words_ok, guard_ok, chosen, ok_is}
-use Rattle.ddt_wire.proofs.ByteLemmas.{Takes, Stands, joined, stands, known_stands, byte_stands, number_taken, front_taken, number_fits, IsBytes-drop, IsBytes-take}
+use Rattle.ddt_reading.proofs.StepLemmas.{bind_ok, words_ok, guard_ok, chosen, ok_is}
+use Rattle.ddt_reading.proofs.ByteLemmas.{HasFront, IsBetween, ◌followed_by◌, stands, known_stands, byte_stands, number_taken, front_taken, number_fits, IsBytes-drop, IsBytes-take}
 use Rattle.ddt_wire.proofs.AddressLaws.{address_takes, address_again}
+use Rattle.ddt_wire.proofs.EidLaws.{plain_number, plain_long, not_lcaf, afi_some}
 use Rattle.ddt_ecm.specs.declared.fault.RequestFault.{RequestFault}
 use Rattle.ddt_ecm.specs.declared.fault.RequestFault.TheVariants as fault
-use Rattle.ddt_ecm.specs.MapRequest.{SpellsSource, Absent, Plain, Lcaf, skipped, source_at, from_address, rlocs_at}
+use Rattle.ddt_ecm.specs.MapRequest.{SpellsSource, Absent, Plain, Lcaf, lcaf_at, from_source, source_at}
 
 -- ---- the source EID
 
 -- what was read of a source EID
 abbrev pub IsSource : List ℕ → ℕ → Type 0
-IsSource bytes n = (text : List ℕ) × Takes bytes text n × SpellsSource text
-
-skipped_holds : (k n : ℕ) (bytes : List ℕ) → skipped k bytes ≡ Ok n → (k ≤ length bytes) × (k ≡ n)
-skipped_holds k n bytes e = let g = guard_ok (ltb (length bytes) k) fault.Short (Ok k) n e in (ltb-false _ _ g.0, ok_is {E = RequestFault} k n g.1)
+IsSource bytes n = (text : List ℕ) × HasFront bytes text n × SpellsSource text
 
 absent_takes : (bytes : List ℕ) → IsBytes bytes → 2 ≤ length bytes → big_number 2 bytes ≡ 0 → IsSource bytes 2
-absent_takes bytes fits long family = (to_be_bytes w16 0, subst (λ (k : ℕ). Takes bytes (bytes_high_first 2 k) 2) family (number_taken 2 bytes fits long), Absent refl)
+absent_takes bytes fits long family = (to_be_bytes w16 0, subst (λ (k : ℕ). HasFront bytes (bytes_high_first 2 k) 2) family (number_taken 2 bytes fits long), Absent refl)
 
--- an address with its AFI, of which the length is known
-v4_here : (bytes : List ℕ) → 6 ≤ length bytes → big_number 2 bytes ≡ 1 → address_at bytes ≡ Ok (V4 (big_number 4 (drop 2 bytes)), 6)
-unfolding address_at
-v4_here bytes long family =
-    let two : ltb (length bytes) 2 ≡ false = le-ltb _ _ (omega arith) in
-    let six : ltb (length bytes) 6 ≡ false = le-ltb _ _ long in
-    rw (two, family, six) refl
-
-v6_here : (bytes : List ℕ) → 18 ≤ length bytes → big_number 2 bytes ≡ 2 → address_at bytes ≡ Ok (V6 (big_number 16 (drop 2 bytes)), 18)
-unfolding address_at
-v6_here bytes long family =
-    let two : ltb (length bytes) 2 ≡ false = le-ltb _ _ (omega arith) in
-    let eighteen : ltb (length bytes) 18 ≡ false = le-ltb _ _ long in
-    rw (two, family, eighteen) refl
-
-plain_takes : (bytes : List ℕ) (a : Locator) (k n : ℕ) → IsBytes bytes → address_at bytes ≡ Ok (a, k) → k ≡ n → IsSource bytes n
-plain_takes bytes a k n fits e same =
-    let r = address_takes bytes (a, k) fits e in
-    let made : IsSource bytes k = (family_and_address a, r.takes, Plain a r.fits refl) in
+plain_takes : (bytes : List ℕ) (x : Locator × ℕ) (n : ℕ) → IsBytes bytes → address_at bytes ≡ Ok x → x.1 ≡ n → IsSource bytes n
+plain_takes bytes x n fits e same =
+    let r = address_takes bytes x fits e in
+    let made : IsSource bytes x.1 = (family_and_address x.0, r.takes, Plain x.0 r.fits refl) in
     subst (IsSource bytes) same made
 
 abbrev content_of : List ℕ → List ℕ
 content_of bytes = take (big_number 2 (drop 6 bytes)) (drop 8 bytes)
 
 lcaf_stands : (bytes : List ℕ) (len : ℕ) → IsBytes bytes → 8 + len ≤ length bytes → big_number 2 bytes ≡ 16387 → big_number 2 (drop 6 bytes) ≡ len
-    → Stands bytes 0 (to_be_bytes w16 16387 ++ (slice_index bytes 2 ∷ slice_index bytes 3 ∷ slice_index bytes 4 ∷ slice_index bytes 5 ∷ []) ++ to_be_bytes w16 len) 8
+    → IsBetween bytes 0 (to_be_bytes w16 16387 ++ (slice_index bytes 2 ∷ slice_index bytes 3 ∷ slice_index bytes 4 ∷ slice_index bytes 5 ∷ []) ++ to_be_bytes w16 len) 8
 lcaf_stands bytes len fits long family is =
-    let r = slice_index bytes 2 in
-    let f = slice_index bytes 3 in
-    let t = slice_index bytes 4 in
-    let m = slice_index bytes 5 in
-    let b3 = joined bytes (r ∷ []) (f ∷ []) 2 3 4 (byte_stands 2 bytes (omega arith)) (byte_stands 3 bytes (omega arith)) in
-    let b4 = joined bytes (r ∷ f ∷ []) (t ∷ []) 2 4 5 b3 (byte_stands 4 bytes (omega arith)) in
-    let b5 = joined bytes (r ∷ f ∷ t ∷ []) (m ∷ []) 2 5 6 b4 (byte_stands 5 bytes (omega arith)) in
-    let six = joined bytes (to_be_bytes w16 16387) (r ∷ f ∷ t ∷ m ∷ []) 0 2 6 (known_stands 0 2 16387 bytes fits (omega arith) family) b5 in
-    joined bytes (to_be_bytes w16 16387 ++ (r ∷ f ∷ t ∷ m ∷ [])) (to_be_bytes w16 len) 0 6 8 six (known_stands 6 2 len bytes fits (omega arith) is)
+    known_stands 0 2 16387 bytes fits (omega arith) family
+    followed_by (byte_stands 2 bytes (omega arith) followed_by byte_stands 3 bytes (omega arith) followed_by byte_stands 4 bytes (omega arith) followed_by byte_stands 5 bytes (omega arith))
+    followed_by known_stands 6 2 len bytes fits (omega arith) is
 
 lcaf_takes : (bytes : List ℕ) (n : ℕ) → IsBytes bytes → big_number 2 bytes ≡ 16387 → 8 + big_number 2 (drop 6 bytes) ≤ length bytes → 8 + big_number 2 (drop 6 bytes) ≡ n → IsSource bytes n
 lcaf_takes bytes n fits family long same =
@@ -77,37 +50,33 @@ lcaf_takes bytes n fits family long same =
     let room : 8 + length content ≤ length bytes = omega arith in
     let head = to_be_bytes w16 16387 ++ (slice_index bytes 2 ∷ slice_index bytes 3 ∷ slice_index bytes 4 ∷ slice_index bytes 5 ∷ []) ++ to_be_bytes w16 (length content) in
     let tail = stands bytes content 8 len (front_taken len (drop 8 bytes) (omega (arith, length-drop 8 bytes))) in
-    let parts = joined bytes head content 0 8 (8 + len) (lcaf_stands bytes (length content) fits room family (sym size)) tail in
-    let taken : Takes bytes (head ++ content) (8 + len) = record { parts = parts; len = length-append head content ∙ ap (λ (k : ℕ). 8 + k) size } in
+    let parts = lcaf_stands bytes (length content) fits room family (sym size) followed_by tail in
+    let taken : HasFront bytes (head ++ content) (8 + len) = record { parts = parts.is; len = length-append head content ∙ ap (λ (k : ℕ). 8 + k) size } in
     let small : len < 2 ^ 16 = number_fits 2 (drop 6 bytes) (IsBytes-drop 6 bytes fits) in
     let spelled : SpellsSource (head ++ content) =
-    Lcaf (slice_index bytes 2) (slice_index bytes 3) (slice_index bytes 4) (slice_index bytes 5) content (fits 2) (fits 3) (fits 4) (fits 5) (omega arith) (IsBytes-take len (drop 8 bytes) (IsBytes-drop 8 bytes fits)) refl in
+    Lcaf (slice_index bytes 2) (slice_index bytes 3) (slice_index bytes 4) (slice_index bytes 5) content (fits.at 2) (fits.at 3) (fits.at 4) (fits.at 5) (omega arith) (IsBytes-take len (drop 8 bytes) (IsBytes-drop 8 bytes fits)) refl in
     let made : IsSource bytes (8 + len) = (head ++ content, taken, spelled) in
     subst (IsSource bytes) same made
 
 pub source_takes : (bytes : List ℕ) (n : ℕ) → IsBytes bytes → source_at bytes ≡ Ok n → IsSource bytes n
 unfolding source_at
 source_takes bytes n fits e =
-    let lcaf : Result ℕ RequestFault = cond (ltb (length bytes) 8) (Err fault.Short) (skipped (8 + big_number 2 (drop 6 bytes)) bytes) in
-    let fourth = cond (eqb (big_number 2 bytes) 16387) lcaf (Err fault.EidFamily) in
-    let third = cond (eqb (big_number 2 bytes) 2) (skipped 18 bytes) fourth in
-    let second = cond (eqb (big_number 2 bytes) 1) (skipped 6 bytes) third in
-    let first : Result ℕ RequestFault = cond (eqb (big_number 2 bytes) 0) (Ok 2) second in
+    let len = 8 + big_number 2 (drop 6 bytes) in
+    let read = in_words from_source (address_at bytes) in
+    let address : Result ℕ RequestFault = read >>= λ a. Ok a.1 in
+    let present = cond (eqb (big_number 2 bytes) 16387) (lcaf_at bytes) address in
+    let first : Result ℕ RequestFault = cond (eqb (big_number 2 bytes) 0) (Ok 2) present in
     let g = guard_ok (ltb (length bytes) 2) fault.Short first n e in
-    elim (chosen (eqb (big_number 2 bytes) 0) (Ok 2) second (Ok n) g.1) [
+    elim (chosen (eqb (big_number 2 bytes) 0) (Ok 2) present (Ok n) g.1) [
       | inl p ↦ subst (IsSource bytes) (ok_is {E = RequestFault} 2 n p.1) (absent_takes bytes fits (ltb-false _ _ g.0) (eqb-true _ _ p.0))
-      | inr p ↦ elim (chosen (eqb (big_number 2 bytes) 1) (skipped 6 bytes) third (Ok n) p.1) [
-        | inl q ↦ let s = skipped_holds 6 n bytes q.1 in plain_takes bytes (V4 (big_number 4 (drop 2 bytes))) 6 n fits (v4_here bytes s.0 (eqb-true _ _ q.0)) s.1
-        | inr q ↦ elim (chosen (eqb (big_number 2 bytes) 2) (skipped 18 bytes) fourth (Ok n) q.1) [
-          | inl r ↦ let s = skipped_holds 18 n bytes r.1 in plain_takes bytes (V6 (big_number 16 (drop 2 bytes))) 18 n fits (v6_here bytes s.0 (eqb-true _ _ r.0)) s.1
-          | inr r ↦ elim (chosen (eqb (big_number 2 bytes) 16387) lcaf (Err fault.EidFamily) (Ok n) r.1) [
-            | inl t ↦
-                let l = guard_ok (ltb (length bytes) 8) fault.Short (skipped (8 + big_number 2 (drop 6 bytes)) bytes) n t.1 in
-                let s = skipped_holds (8 + big_number 2 (drop 6 bytes)) n bytes l.1 in
-                lcaf_takes bytes n fits (eqb-true _ _ t.0) s.0 s.1
-            | inr t ↦ absurd cc
-          ]
-        ]
+      | inr p ↦ elim (chosen (eqb (big_number 2 bytes) 16387) (lcaf_at bytes) address (Ok n) p.1) [
+        | inl t ↦
+            let l = guard_ok (ltb (length bytes) 8) fault.Short (cond (ltb (length bytes) len) (Err fault.Short) (Ok len)) n t.1 in
+            let m = guard_ok (ltb (length bytes) len) fault.Short (Ok len) n l.1 in
+            lcaf_takes bytes n fits (eqb-true _ _ t.0) (ltb-false _ _ m.0) (ok_is {E = RequestFault} len n m.1)
+        | inr t ↦
+            let b = bind_ok read (λ a. Ok a.1) n t.1 in
+            plain_takes bytes b.0 n fits (words_ok from_source (address_at bytes) b.0 b.1) (ok_is {E = RequestFault} b.0.1 n b.2)
       ]
     ]
 
@@ -115,18 +84,12 @@ absent_again : (rest : List ℕ) → source_at (to_be_bytes w16 0 ++ rest) ≡ O
 unfolding source_at
 absent_again rest = let two : ltb (length (to_be_bytes w16 0 ++ rest)) 2 ≡ false = le-ltb _ _ (omega arith) in rw two refl
 
-plain_again : (a : Locator) (rest : List ℕ) → source_at (family_and_address a ++ rest) ≡ Ok (length (family_and_address a))
+plain_again : (a : Locator) (rest : List ℕ) → IsAddress a → source_at (family_and_address a ++ rest) ≡ Ok (length (family_and_address a))
 unfolding source_at
-plain_again (V4 x) rest =
-    let bytes = family_and_address (V4 x) ++ rest in
-    let two : ltb (length bytes) 2 ≡ false = le-ltb _ _ (omega arith) in
-    let six : ltb (length bytes) 6 ≡ false = le-ltb _ _ (omega arith) in
-    rw (two, six) refl
-plain_again (V6 x) rest =
-    let bytes = family_and_address (V6 x) ++ rest in
-    let two : ltb (length bytes) 2 ≡ false = le-ltb _ _ (omega arith) in
-    let eighteen : ltb (length bytes) 18 ≡ false = le-ltb _ _ (omega arith) in
-    rw (two, eighteen) refl
+plain_again a rest fits =
+    let long = plain_long a rest in
+    let two : ltb (length (family_and_address a ++ rest)) 2 ≡ false = le-ltb _ _ (omega arith) in
+    rw (two, plain_number a rest, afi_some a, not_lcaf a, address_again a rest fits) refl
 
 lcaf_read : (bytes : List ℕ) (n : ℕ) → 8 + n ≤ length bytes → big_number 2 bytes ≡ 16387 → big_number 2 (drop 6 bytes) ≡ n → source_at bytes ≡ Ok (8 + n)
 unfolding source_at
@@ -138,44 +101,9 @@ lcaf_read bytes n long family len =
 
 pub source_again : (text rest : List ℕ) → SpellsSource text → source_at (text ++ rest) ≡ Ok (length text)
 source_again text rest (Absent is) = rw is (absent_again rest)
-source_again text rest (Plain a fits is) = rw is (plain_again a rest)
+source_again text rest (Plain a fits is) = rw is (plain_again a rest fits)
 source_again text rest (Lcaf r f t m content hr hf ht hm small fits is) =
     let whole = to_be_bytes w16 16387 ++ (r ∷ f ∷ t ∷ m ∷ []) ++ to_be_bytes w16 (length content) ++ content in
     let long : 8 + length content ≤ length (whole ++ rest) = omega (arith, length-append content rest) in
     let size : 8 + length content ≡ length whole = omega arith in
     rw is (lcaf_read (whole ++ rest) (length content) long refl (big_number-reads_back 2 (length content) (content ++ rest) small) ∙ ap (λ (k : ℕ). Ok k) size)
-
--- ---- the ITR-RLOCs
-
--- what was read of several
-pub record AreRlocs (bytes : List ℕ) (ls : List Locator) (rest : List ℕ) : Type 0 where
-  pub parts : bytes ≡ flat_map family_and_address ls ++ rest
-  pub fit : AllByRecursion IsAddress ls
-  pub rest_fits : IsBytes rest
-
-with_first : (bytes after rest : List ℕ) (l : Locator) (ls : List Locator) → bytes ≡ family_and_address l ++ after → after ≡ flat_map family_and_address ls ++ rest → bytes ≡ flat_map family_and_address (l ∷ ls) ++ rest
-with_first bytes after rest l ls p q =
-    p ∙ ap (λ (t : List ℕ). family_and_address l ++ t) q ∙ sym (append_assoc (family_and_address l) (flat_map family_and_address ls) rest)
-    ∙ ap (λ (t : List ℕ). t ++ rest) (sym (flat_map-cons family_and_address l ls))
-
-pub rlocs_take : (k : ℕ) (bytes : List ℕ) (x : List Locator × List ℕ) → IsBytes bytes → rlocs_at k bytes ≡ Ok x → AreRlocs bytes x.0 x.1 × (length x.0 ≡ k)
-unfolding rlocs_at
-rlocs_take zero bytes x fits e =
-    let made : AreRlocs bytes [] bytes = record { parts = refl; fit = tt; rest_fits = fits } in
-    subst (λ (y : List Locator × List ℕ). AreRlocs bytes y.0 y.1 × (length y.0 ≡ 0)) (ok_is {E = RequestFault} ([], bytes) x e) (made, refl)
-rlocs_take (suc k) bytes x fits e =
-    let a = bind_ok (in_words from_address (address_at bytes)) (λ first. rlocs_at k (drop first.1 bytes) >>= λ others. Ok (first.0 ∷ others.0, others.1)) x e in
-    let b = bind_ok (rlocs_at k (drop a.0.1 bytes)) (λ others. Ok (a.0.0 ∷ others.0, others.1)) x a.2 in
-    let first = address_takes bytes a.0 fits (words_ok from_address (address_at bytes) a.0 a.1) in
-    let others = rlocs_take k (drop a.0.1 bytes) b.0 (IsBytes-drop a.0.1 bytes fits) b.1 in
-    let made : AreRlocs bytes (a.0.0 ∷ b.0.0) b.0.1 = record { parts = with_first bytes (drop a.0.1 bytes) b.0.1 a.0.0 b.0.0 first.takes.parts others.0.parts; fit = (first.fits, others.0.fit); rest_fits = others.0.rest_fits } in
-    subst (λ (y : List Locator × List ℕ). AreRlocs bytes y.0 y.1 × (length y.0 ≡ suc k)) (ok_is {E = RequestFault} (a.0.0 ∷ b.0.0, b.0.1) x b.2) (made, ap suc others.1)
-
-pub rlocs_again : (ls : List Locator) (rest : List ℕ) → AllByRecursion IsAddress ls → rlocs_at (length ls) (flat_map family_and_address ls ++ rest) ≡ Ok (ls, rest)
-unfolding rlocs_at
-rlocs_again [] rest h = refl
-rlocs_again (l ∷ ls) rest h =
-    let bytes = family_and_address l in
-    let others = flat_map family_and_address ls in
-    let regrouped : flat_map family_and_address (l ∷ ls) ++ rest ≡ bytes ++ (others ++ rest) = ap (λ (t : List ℕ). t ++ rest) (flat_map-cons family_and_address l ls) ∙ append_assoc bytes others rest in
-    ap (rlocs_at (suc (length ls))) regrouped ∙ rw (address_again l (others ++ rest) h.0, drop-append_seam bytes (others ++ rest), rlocs_again ls rest h.1) refl

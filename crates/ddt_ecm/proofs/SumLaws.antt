@@ -2,10 +2,10 @@
 use Rattle.std.proofs.Common.{◌≡◌, ℕ, zero, suc, ◌+◌, ◌*◌, ◌<◌, ◌≤◌, true, false, ltb, eqb, List, [], ◌∷◌, ◌++◌, length, refl, arith, inl, inr}
 use Rattle.std.specs.Int.{w16, to_be_bytes}
 use Rattle.std.proofs.lemmas.Bool.{cases_lt, lt-ltb, le-ltb, ne_eqb}
-use Rattle.ddt_wire.specs.Steps.{IsBytes}
-use Rattle.ddt_wire.proofs.ByteLemmas.{IsBytes-append, IsBytes-number}
+use Rattle.ddt_reading.specs.Steps.{IsBytes}
+use Rattle.ddt_reading.proofs.ByteLemmas.{IsBytes-drop, IsBytes-append, IsBytes-number}
 use Rattle.ddt_ecm.specs.Checksum.{ones_add, ones_sum, complement}
-use Rattle.ddt_ecm.specs.Written.{not_absent}
+use Rattle.ddt_ecm.specs.UdpHeader.{not_absent}
 
 -- the plain sum of the words
 abbrev pub words : List ℕ → ℕ
@@ -34,15 +34,12 @@ chained s w rest total r p q = record {
   some = λ h. q.some (elim (cases_lt 0 (s + w)) [ inl lt ↦ let a : 0 < ones_add s w = p.some lt in omega arith | inr le ↦ omega arith ]);
 }
 
-IsBytes-two : (a b : ℕ) (rest : List ℕ) → IsBytes (a ∷ b ∷ rest) → IsBytes rest
-IsBytes-two a b rest h i = h (suc (suc i))
-
 pub folded : (s : ℕ) (bytes : List ℕ) → s ≤ 65535 → IsBytes bytes → IsFolded (ones_sum s bytes) (s + words bytes)
 folded s [] hs fits = record { times = 0; folds = omega arith; small = hs; some = λ h. omega arith }
-folded s (a ∷ []) hs fits = added s (a * 256) hs (omega (arith, fits 0))
+folded s (a ∷ []) hs fits = added s (a * 256) hs (omega (arith, fits.at 0))
 folded s (a ∷ b ∷ rest) hs fits =
-    let one = added s (a * 256 + b) hs (omega (arith, fits 0, fits 1)) in
-    chained s (a * 256 + b) (words rest) 0 (ones_sum s (a ∷ b ∷ rest)) one (folded (ones_add s (a * 256 + b)) rest one.small (IsBytes-two a b rest fits))
+    let one = added s (a * 256 + b) hs (omega (arith, fits.at 0, fits.at 1)) in
+    chained s (a * 256 + b) (words rest) 0 (ones_sum s (a ∷ b ∷ rest)) one (folded (ones_add s (a * 256 + b)) rest one.small (IsBytes-drop 2 (a ∷ b ∷ rest) fits))
 
 -- a total that is a multiple of 65535, and not 0, folds to 65535
 right_total : (sum total times : ℕ) → IsFolded sum total → total ≡ 65535 * (times + 1) → sum ≡ 65535

@@ -1,15 +1,13 @@
 -- A UDP datagram that is read is spelled so, and what is spelled is read again.
-use Rattle.std.proofs.Common.{◌≡◌, ℕ, ◌+◌, ◌*◌, ◌≤◌, true, cond, eqb, List, ◌++◌, length, drop, Result, Ok, Err, refl, sym, ap, subst, ◌∙◌, arith, inl, inr, length-drop}
+use Rattle.std.proofs.Common.{◌≡◌, ℕ, ◌+◌, ◌*◌, ◌≤◌, true, eqb, List, ◌++◌, length, drop, Ok, refl, sym, ap, subst, ◌∙◌, arith, inl, inr, length-drop}
 use Rattle.std.specs.Prelude.{◌||◌, ◌⊎◌, not}
-use Rattle.std.specs.Int.{w16, to_be_bytes}
 use Rattle.std.proofs.lemmas.Bool.{eqb-true, eq-eqb, not-false, or_cases, or_left, or_right}
 use Rattle.byteorder.specs.Endian.{big_number}
 use Rattle.byteorder.specs.Numbers.{big_number-reads_back}
-use Rattle.ddt_wire.specs.Steps.{IsBytes}
-use Rattle.ddt_wire.proofs.StepLemmas.{guard_ok, ok_is}
-use Rattle.ddt_wire.proofs.ByteLemmas.{joined, number_stands, known_stands, number_fits, IsBytes-drop}
+use Rattle.ddt_reading.specs.Steps.{IsBytes}
+use Rattle.ddt_reading.proofs.StepLemmas.{guard_parts, ok_is}
+use Rattle.ddt_reading.proofs.ByteLemmas.{◌followed_by◌, number_stands, known_stands, number_fits, IsBytes-drop}
 use Rattle.ddt_ecm.specs.declared.fault.RequestFault.{RequestFault}
-use Rattle.ddt_ecm.specs.declared.fault.RequestFault.TheVariants.{UdpLength, UdpChecksum, Port}
 use Rattle.ddt_ecm.specs.Checksum.{ones_sum, is_right}
 use Rattle.ddt_ecm.specs.UdpHeader.{udp_fields, SpellsUdp, udp_at}
 use Rattle.ddt_ecm.proofs.ChecksumLemmas.{ones_sum-append}
@@ -26,19 +24,16 @@ udp_holds : (sum : ℕ) (udp : List ℕ) (x : ℕ × List ℕ) → udp_at sum ud
 unfolding udp_at
 udp_holds sum udp x e =
     let covered = eqb (big_number 2 (drop 6 udp)) 0 || is_right (ones_sum sum udp) in
-    let found : Result (ℕ × List ℕ) RequestFault = Ok (big_number 2 udp, drop 8 udp) in
-    let second = cond (not (eqb (big_number 2 (drop 2 udp)) 4342)) (Err Port) found in
-    let first = cond (not covered) (Err UdpChecksum) second in
-    let a = guard_ok (not (eqb (big_number 2 (drop 4 udp)) (length udp))) UdpLength first x e in
-    let b = guard_ok (not covered) UdpChecksum second x a.1 in
-    let c = guard_ok (not (eqb (big_number 2 (drop 2 udp)) 4342)) Port found x b.1 in
+    guard_parts (not (eqb (big_number 2 (drop 4 udp)) (length udp))) _ _ x e λ len e₁.
+    guard_parts (not covered) _ _ x e₁ λ sum_is e₂.
+    guard_parts (not (eqb (big_number 2 (drop 2 udp)) 4342)) _ _ x e₂ λ port e₃.
     let either : (big_number 2 (drop 6 udp) ≡ 0) ⊎ (ones_sum sum udp ≡ 65535) =
-    elim (or_cases (eqb (big_number 2 (drop 6 udp)) 0) (is_right (ones_sum sum udp)) (not-false covered b.0)) [
+    elim (or_cases (eqb (big_number 2 (drop 6 udp)) 0) (is_right (ones_sum sum udp)) (not-false covered sum_is)) [
       | inl p ↦ inl (eqb-true _ _ p)
       | inr p ↦ inr (eqb-true _ _ p)
     ] in
-    let h : IsUdp sum udp = record { len = eqb-true _ _ (not-false _ a.0); right = either; port = eqb-true _ _ (not-false _ c.0) } in
-    (h, ok_is {E = RequestFault} (big_number 2 udp, drop 8 udp) x c.1)
+    let h : IsUdp sum udp = record { len = eqb-true _ _ (not-false _ len); right = either; port = eqb-true _ _ (not-false _ port) } in
+    (h, ok_is {E = RequestFault} (big_number 2 udp, drop 8 udp) x e₃)
 
 -- a sum over a pseudo-header and a datagram
 covers : (k : ℕ) (pseudo udp : List ℕ) → length pseudo ≡ k * 2 → ones_sum 0 (pseudo ++ udp) ≡ ones_sum (ones_sum 0 pseudo) udp
@@ -55,16 +50,15 @@ udp_takes k pseudo udp x even fits long e =
     let port = big_number 2 udp in
     let checksum = big_number 2 (drop 6 udp) in
     let whole_len : length udp ≡ 8 + length message = omega (arith, length-drop 8 udp) in
-    let four = joined udp (to_be_bytes w16 port) (to_be_bytes w16 4342) 0 2 4 (number_stands 0 2 udp fits (omega arith)) (known_stands 2 2 4342 udp fits (omega arith) h.0.port) in
-    let six = joined udp (to_be_bytes w16 port ++ to_be_bytes w16 4342) (to_be_bytes w16 (8 + length message)) 0 4 6 four (known_stands 4 2 (8 + length message) udp fits (omega arith) (h.0.len ∙ whole_len)) in
-    let eight = joined udp (to_be_bytes w16 port ++ to_be_bytes w16 4342 ++ to_be_bytes w16 (8 + length message)) (to_be_bytes w16 checksum) 0 6 8 six (number_stands 6 2 udp fits (omega arith)) in
+    let fields = number_stands 0 2 udp fits (omega arith) followed_by known_stands 2 2 4342 udp fits (omega arith) h.0.port
+    followed_by known_stands 4 2 (8 + length message) udp fits (omega arith) (h.0.len ∙ whole_len) followed_by number_stands 6 2 udp fits (omega arith) in
     let made : SpellsUdp pseudo udp port message = record {
       checksum = checksum;
       port_fits = number_fits 2 udp fits;
       len_fits = omega (arith, number_fits 2 (drop 4 udp) (IsBytes-drop 4 udp fits), h.0.len, whole_len);
       checksum_fits = number_fits 2 (drop 6 udp) (IsBytes-drop 6 udp fits);
       right = either_covers k pseudo udp checksum even h.0.right;
-      whole = eight;
+      whole = fields.is;
     } in
     subst (λ (y : ℕ × List ℕ). SpellsUdp pseudo udp y.0 y.1) h.1 made
 

@@ -12,7 +12,7 @@ use Rattle.ddt_path.specs.Path.{address_width, xeid_path}
 use Rattle.ddt_path.specs.FormOf.{form_of}
 use Rattle.ddt_wire.specs.Address.{family_and_address}
 use Rattle.ddt_wire.specs.Eid.{written_form, written_eid, instance_lcaf}
-use Rattle.ddt_ecm.specs.Written.{map_request_head, written_map_request}
+use Rattle.ddt_ecm.specs.MapRequest.{map_request_head, written_map_request}
 
 pub appended : {E : Type 0} (r : Result (Unit {0}) E) (old new x y : List ℕ) → new ≡ cond (is_ok r) (old ++ x) old → x ≡ y → OnOk r (new ≡ old ++ y)
 appended (Ok _) old new x y p q = p ∙ ap (λ (t : List ℕ). old ++ t) q

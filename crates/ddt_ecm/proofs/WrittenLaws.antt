@@ -1,7 +1,5 @@
 -- What is written spells what was to be written, and is read again.
 use Rattle.std.proofs.Common.{◌≡◌, ℕ, ◌+◌, ◌-◌, ◌*◌, ◌/◌, ◌%◌, ◌^◌, ◌<◌, ◌≤◌, Bool, true, false, eqb, List, [], ◌∷◌, ◌++◌, length, Result, Ok, Err, refl, sym, ap, subst, ◌∙◌, arith, inr}
-use Rattle.std.specs.Prelude.{IfOk, OnOk}
-use Rattle.std.specs.Global.{Vec}
 use Rattle.std.specs.List.{flat_map, AllByRecursion}
 use Rattle.std.specs.Int.{w16, w32, w64, w128, to_be_bytes}
 use Rattle.std.proofs.lemmas.Bool.{cond_both}
@@ -10,23 +8,26 @@ use Rattle.ddt_path.specs.declared.locator.Locator.{Locator}
 use Rattle.ddt_path.specs.declared.locator.Locator.TheVariants.{V4, V6}
 use Rattle.ddt_path.specs.declared.xeid.Xeid.{Xeid}
 use Rattle.ddt_path.specs.Path.{address_width, xeid_path}
-use Rattle.ddt_wire.specs.Steps.{IsBytes}
+use Rattle.ddt_reading.specs.Steps.{IsBytes}
 use Rattle.ddt_wire.specs.Address.{family_and_address, IsAddress}
 use Rattle.ddt_wire.specs.Eid.{SpellsEid, form_mask_len, written_eid, written_mask_len}
-use Rattle.ddt_wire.proofs.ByteLemmas.{IsBytes-append, IsBytes-nil, IsBytes-number}
+use Rattle.ddt_reading.proofs.ByteLemmas.{◌beside◌, two_bytes, IsBytes-nil, IsBytes-number}
+use Rattle.ddt_wire.proofs.AddressesLaws.{addresses_spell}
 use Rattle.ddt_wire.proofs.WrittenLaws.{eid_spells}
 use Rattle.ddt_ecm.specs.Checksum.{ones_sum, complement}
-use Rattle.ddt_ecm.specs.IpHeader.{pseudo4, pseudo6, Ipv4Header, ipv4_fields, SpellsIpv4, Ipv6Header, ipv6_fields, SpellsIpv6, SpellsIp, Version4, Version6}
-use Rattle.ddt_ecm.specs.UdpHeader.{SpellsUdp}
-use Rattle.ddt_ecm.specs.MapRequest.{Ignored, Absent, SpellsRequest}
-use Rattle.ddt_ecm.specs.Request.{ecm_fields, Spells, message_in}
-use Rattle.ddt_ecm.specs.Written.{written_map_request, udp_header, not_absent, written_udp, ipv4_header, written_ipv4, written_ipv6, packet, packet4, packet6, source4, source6, ecm_header, written}
+use Rattle.ddt_ecm.specs.Ipv4Header.{pseudo4, Ipv4Header, ipv4_fields, SpellsIpv4, ipv4_header, written_ipv4}
+use Rattle.ddt_ecm.specs.Ipv6Header.{pseudo6, Ipv6Header, ipv6_fields, SpellsIpv6, written_ipv6}
+use Rattle.ddt_ecm.specs.IpHeader.{SpellsIp, Version4, Version6, packet, packet4, packet6, source4, source6}
+use Rattle.ddt_ecm.specs.UdpHeader.{udp_fields, SpellsUdp, not_absent, written_udp}
+use Rattle.ddt_ecm.specs.MapRequest.{Ignored, Absent, SpellsRequest, written_map_request}
+use Rattle.ddt_ecm.specs.EcmHeader.{ecm_fields}
+use Rattle.ddt_ecm.specs.Request.{Spells, message_in, written}
 use Rattle.ddt_ecm.specs.Laws.{IsRequest, message_of}
 use Rattle.ddt_ecm.proofs.ChecksumLemmas.{ones_sum-append}
 use Rattle.ddt_ecm.proofs.SumLaws.{folded, checksum_right, present_right}
 use Rattle.ddt_ecm.proofs.WritingLemmas.{request_small}
-use Rattle.ddt_ecm.proofs.RequestLaws.{full_is_prefix, form_of_full}
-use Rattle.ddt_ecm.proofs.MessageLaws.{pair, request_is_bytes, message_again}
+use Rattle.ddt_ecm.proofs.MapRequestLaws.{full_is_prefix, form_of_full}
+use Rattle.ddt_ecm.proofs.RequestLaws.{request_is_bytes, message_again}
 
 -- ---- the Map-Request
 
@@ -53,6 +54,7 @@ request_spells nonce x rlocs h =
       with_map = false;
       irc = length rlocs - 1;
       source = to_be_bytes w16 0;
+      itr_rlocs = flat_map family_and_address rlocs;
       eid = written_eid p;
       after = [];
       nonce_fits = h.nonce_fits;
@@ -60,8 +62,8 @@ request_spells nonce x rlocs h =
       iid_fits = h.iid_fits;
       address_fits = h.address_fits;
       count = omega arith;
-      rlocs_fit = h.rlocs_fit;
       spells_source = Absent refl;
+      spells_rlocs = addresses_spell [] rlocs IsBytes-nil h.rlocs_fit;
       spells_eid = subst (λ (k : ℕ). SpellsEid k (written_eid p) p) mask (eid_spells p (full_is_prefix x.iid x.address h.iid_fits h.address_fits));
       after_are_bytes = IsBytes-nil;
       none_after = λ _. refl;
@@ -75,7 +77,7 @@ ports len = to_be_bytes w16 4342 ++ to_be_bytes w16 4342 ++ to_be_bytes w16 len
 
 ports_are_bytes : (len : ℕ) → IsBytes (ports len)
 unfolding ports
-ports_are_bytes len = IsBytes-append (to_be_bytes w16 4342 ++ to_be_bytes w16 4342) (to_be_bytes w16 len) (IsBytes-append (to_be_bytes w16 4342) (to_be_bytes w16 4342) (IsBytes-number 2 4342) (IsBytes-number 2 4342)) (IsBytes-number 2 len)
+ports_are_bytes len = IsBytes-number 2 4342 beside IsBytes-number 2 4342 beside IsBytes-number 2 len
 
 present_fits : (c : ℕ) → c < 65536 → not_absent c < 65536
 present_fits c lt = cond_both (eqb c 0) 65535 c (λ n. n < 65536) (λ _. omega arith) (λ _. lt)
@@ -85,15 +87,15 @@ unfolding written_udp ports
 udp_spells k pseudo message even pseudo_fits fits few =
     let sum = ones_sum 0 pseudo in
     let len = 8 + length message in
-    let c = not_absent (complement (ones_sum sum (udp_header len 0 ++ message))) in
+    let c = not_absent (complement (ones_sum sum (udp_fields 4342 len 0 ++ message))) in
     let small = (folded 0 pseudo (omega arith) pseudo_fits).small in
     let right = present_right sum 3 (ports len) message small refl (ports_are_bytes len) fits in
     record {
       checksum = c;
       port_fits = omega arith;
       len_fits = omega arith;
-      checksum_fits = present_fits (complement (ones_sum sum (udp_header len 0 ++ message))) (omega arith);
-      right = inr (ones_sum-append k pseudo (udp_header len c ++ message) 0 even ∙ right);
+      checksum_fits = present_fits (complement (ones_sum sum (udp_fields 4342 len 0 ++ message))) (omega arith);
+      right = inr (ones_sum-append k pseudo (udp_fields 4342 len c ++ message) 0 even ∙ right);
       whole = refl;
     }
 
@@ -109,9 +111,8 @@ before total = (69 ∷ 0 ∷ []) ++ to_be_bytes w16 total ++ (0 ∷ 0 ∷ 0 ∷ 
 before_is_bytes : (total : ℕ) → IsBytes (before total)
 unfolding before
 before_is_bytes total =
-    let four = IsBytes-append (69 ∷ 0 ∷ []) (to_be_bytes w16 total) (pair 69 0 (omega arith) (omega arith)) (IsBytes-number 2 total) in
-    let six = IsBytes-append (0 ∷ 0 ∷ []) (0 ∷ 0 ∷ 64 ∷ 17 ∷ []) (pair 0 0 (omega arith) (omega arith)) (IsBytes-append (0 ∷ 0 ∷ []) (64 ∷ 17 ∷ []) (pair 0 0 (omega arith) (omega arith)) (pair 64 17 (omega arith) (omega arith))) in
-    IsBytes-append ((69 ∷ 0 ∷ []) ++ to_be_bytes w16 total) (0 ∷ 0 ∷ 0 ∷ 0 ∷ 64 ∷ 17 ∷ []) four six
+    let one = two_bytes 0 0 (omega arith) (omega arith) in
+    two_bytes 69 0 (omega arith) (omega arith) beside IsBytes-number 2 total beside (one beside (one beside two_bytes 64 17 (omega arith) (omega arith)))
 
 abbrev addresses4 : ℕ → ℕ → List ℕ
 addresses4 s d = to_be_bytes w32 s ++ to_be_bytes w32 d
@@ -120,7 +121,7 @@ abbrev addresses6 : ℕ → ℕ → List ℕ
 addresses6 s d = to_be_bytes w128 s ++ to_be_bytes w128 d
 
 addresses4_are_bytes : (s d : ℕ) → IsBytes (addresses4 s d)
-addresses4_are_bytes s d = IsBytes-append (to_be_bytes w32 s) (to_be_bytes w32 d) (IsBytes-number 4 s) (IsBytes-number 4 d)
+addresses4_are_bytes s d = IsBytes-number 4 s beside IsBytes-number 4 d
 
 header_right : (total s d : ℕ) → ones_sum 0 (ipv4_header total (complement (ones_sum 0 (ipv4_header total 0 s d))) s d) ≡ 65535
 unfolding before
@@ -186,15 +187,10 @@ record IsPacket (bytes message : List ℕ) : Type 0 where
   spells_udp : SpellsUdp pseudo udp 4342 message
 
 pseudo4_is_bytes : (s d len : ℕ) → IsBytes (pseudo4 (addresses4 s d) len)
-pseudo4_is_bytes s d len =
-    let front = IsBytes-append (addresses4 s d) (0 ∷ 17 ∷ []) (addresses4_are_bytes s d) (pair 0 17 (omega arith) (omega arith)) in
-    IsBytes-append (addresses4 s d ++ (0 ∷ 17 ∷ [])) (to_be_bytes w16 len) front (IsBytes-number 2 len)
+pseudo4_is_bytes s d len = addresses4_are_bytes s d beside two_bytes 0 17 (omega arith) (omega arith) beside IsBytes-number 2 len
 
 pseudo6_is_bytes : (s d len : ℕ) → IsBytes (pseudo6 (addresses6 s d) len)
-pseudo6_is_bytes s d len =
-    let addresses = IsBytes-append (to_be_bytes w128 s) (to_be_bytes w128 d) (IsBytes-number 16 s) (IsBytes-number 16 d) in
-    let front = IsBytes-append (addresses6 s d) (to_be_bytes w32 len) addresses (IsBytes-number 4 len) in
-    IsBytes-append (addresses6 s d ++ to_be_bytes w32 len) (to_be_bytes w32 17) front (IsBytes-number 4 17)
+pseudo6_is_bytes s d len = IsBytes-number 16 s beside IsBytes-number 16 d beside IsBytes-number 4 len beside IsBytes-number 4 17
 
 packet4_spells : (s d : ℕ) (message : List ℕ) → s < 2 ^ 32 → d < 2 ^ 32 → IsBytes message → length message ≤ 1000 → IsPacket (packet4 s d message) message
 unfolding packet4
@@ -238,10 +234,6 @@ packet_spells (V6 d) ls message hd hs fits few = packet6_spells (source6 ls) d m
 
 -- ---- the whole
 
-header_is : (ddt : Bool) → ecm_header ddt ≡ ecm_fields ddt 0
-header_is true = refl
-header_is false = refl
-
 pub written_spells : (nonce : ℕ) (x : Xeid) (rlocs : List Locator) (ddt : Bool) → IsRequest nonce x rlocs → Spells (written nonce x rlocs ddt) (message_of nonce x rlocs ddt)
 written_spells nonce x rlocs ddt h =
     let message = written_map_request nonce x rlocs in
@@ -257,19 +249,8 @@ written_spells nonce x rlocs ddt h =
       spells_ip = p.spells_ip;
       spells_udp = p.spells_udp;
       spells_request = s;
-      whole = ap (λ (t : List ℕ). t ++ packet x.address rlocs message) (header_is ddt);
+      whole = refl;
     }
 
 pub written_is_read : (nonce : ℕ) (x : Xeid) (rlocs : List Locator) (ddt : Bool) → IsRequest nonce x rlocs → message_in (written nonce x rlocs ddt) ≡ Ok (message_of nonce x rlocs ddt)
 written_is_read nonce x rlocs ddt h = message_again (written nonce x rlocs ddt) (message_of nonce x rlocs ddt) (written_spells nonce x rlocs ddt h)
-
--- what was written into a vector
-pub vector_spells : {E : Type 0} (nonce : ℕ) (x : Xeid) (rlocs : List Locator) (ddt : Bool) (r : Result (Vec ℕ) E) → IfOk r (λ bytes. bytes.items ≡ written nonce x rlocs ddt) → OnOk r (IsRequest nonce x rlocs)
-    → IfOk r (λ bytes. Spells bytes.items (message_of nonce x rlocs ddt))
-vector_spells nonce x rlocs ddt (Ok bytes) e h = subst (λ (t : List ℕ). Spells t (message_of nonce x rlocs ddt)) (sym e) (written_spells nonce x rlocs ddt h)
-vector_spells nonce x rlocs ddt (Err d) e h = tt
-
-pub read_again : {E : Type 0} (nonce : ℕ) (x : Xeid) (rlocs : List Locator) (ddt : Bool) (r : Result (Vec ℕ) E) → IfOk r (λ bytes. bytes.items ≡ written nonce x rlocs ddt) → OnOk r (IsRequest nonce x rlocs)
-    → IfOk r (λ bytes. message_in bytes.items ≡ Ok (message_of nonce x rlocs ddt))
-read_again nonce x rlocs ddt (Ok bytes) e h = ap message_in e ∙ written_is_read nonce x rlocs ddt h
-read_again nonce x rlocs ddt (Err d) e h = tt

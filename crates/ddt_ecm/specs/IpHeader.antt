@@ -1,122 +1,51 @@
--- The IP header inside an Encapsulated Control Message: IPv4 (RFC 791, section 3.1) or IPv6 (RFC 8200, section 3), with
--- a whole UDP datagram behind it.
-use Rattle.std.specs.Prelude.{ℕ, ◌+◌, ◌-◌, ◌*◌, ◌/◌, ◌%◌, ◌^◌, ◌<◌, ◌≡◌, ◌==◌, ◌&&◌, Bool, not, nat_lt, nat_le, if◌then◌else◌, List, [], ◌∷◌, ◌++◌, length, take, drop, slice_index, Result, Ok, Err}
-use Rattle.std.specs.Int.{w16, w32, w128, to_be_bytes}
-use Rattle.byteorder.specs.Endian.{big_number}
-use Rattle.ddt_wire.specs.Steps.{IsBytes}
+-- The IP packet inside an Encapsulated Control Message: IPv4 or IPv6, with a whole UDP datagram.
+use Rattle.std.specs.Prelude.{ℕ, ◌+◌, ◌/◌, ◌==◌, nat_lt, if◌then◌else◌, List, [], ◌∷◌, ◌++◌, length, slice_index, Result, Err}
+use Rattle.std.specs.Int.{w32, w128, to_be_bytes}
+use Rattle.ddt_path.specs.declared.locator.Locator.{Locator}
+use Rattle.ddt_path.specs.declared.locator.Locator.TheVariants.{V4, V6}
 use Rattle.ddt_ecm.specs.declared.fault.RequestFault.{RequestFault}
-use Rattle.ddt_ecm.specs.declared.fault.RequestFault.TheVariants.{Short, IpVersion, IpLength, IpChecksum, NotUdp, Fragment}
-use Rattle.ddt_ecm.specs.Checksum.{ones_sum, is_right}
+use Rattle.ddt_ecm.specs.declared.fault.RequestFault.TheVariants.{Short, IpVersion}
+use Rattle.ddt_ecm.specs.Checksum.{ones_sum}
+use Rattle.ddt_ecm.specs.Ipv4Header.{pseudo4, SpellsIpv4, written_ipv4, ipv4_at}
+use Rattle.ddt_ecm.specs.Ipv6Header.{pseudo6, SpellsIpv6, written_ipv6, ipv6_at}
+use Rattle.ddt_ecm.specs.UdpHeader.{written_udp}
 
--- The pseudo-header that UDP's checksum covers too: the two addresses, protocol 17 and the UDP length, in 16 bits each
--- for IPv4, in 32 for IPv6.
-abbrev pub pseudo4 : List ℕ → ℕ → List ℕ
-pseudo4 addresses udp_len = addresses ++ (0 ∷ 17 ∷ []) ++ to_be_bytes w16 udp_len
-
-abbrev pub pseudo6 : List ℕ → ℕ → List ℕ
-pseudo6 addresses udp_len = addresses ++ to_be_bytes w32 udp_len ++ to_be_bytes w32 17
-
--- ---- what spells a packet
-
--- What an IPv4 header says beside the total length: the words that it has, type of service, identification, the
--- reserved bit and don't-fragment, time to live, checksum, the two addresses, and options up to its last word.
-pub record Ipv4Header : Type 0 where
-  pub words : ℕ
-  pub service : ℕ
-  pub identification : ℕ
-  pub flags : ℕ
-  pub hops : ℕ
-  pub checksum : ℕ
-  pub source : ℕ
-  pub destination : ℕ
-  pub options : List ℕ
-  pub words_fit : words < 16
-  pub service_fits : service < 256
-  pub identification_fits : identification < 2 ^ 16
-  pub flags_fit : flags < 4
-  pub hops_fit : hops < 256
-  pub checksum_fits : checksum < 2 ^ 16
-  pub source_fits : source < 2 ^ 32
-  pub destination_fits : destination < 2 ^ 32
-  pub options_fill : 20 + length options ≡ 4 * words
-  pub options_are_bytes : IsBytes options
-
--- version 4 in 4 bits and the words in 4; type of service; total length; identification; 2 flags, with more-fragments
--- and the offset 0 in 14 bits; time to live; protocol 17; checksum; addresses; options
-abbrev pub ipv4_fields : Ipv4Header → ℕ → List ℕ
-ipv4_fields h total =
-    ((64 + h.words) ∷ h.service ∷ []) ++ to_be_bytes w16 total ++ to_be_bytes w16 h.identification ++ to_be_bytes w16
-    (h.flags * 2 ^ 14) ++ (h.hops ∷ 17 ∷ [])
-    ++ to_be_bytes w16 h.checksum ++ to_be_bytes w32 h.source ++ to_be_bytes w32 h.destination ++ h.options
-
--- an IPv4 packet around a UDP datagram, whose pseudo-header is given too; all but the addresses is ignored
-pub record SpellsIpv4 (bytes pseudo udp : List ℕ) : Type 0 where
-  pub header : Ipv4Header
-  pub total_fits : 4 * header.words + length udp < 2 ^ 16
-  pub right : ones_sum 0 (ipv4_fields header (4 * header.words + length udp)) ≡ 65535
-  pub covered : pseudo ≡ pseudo4 (to_be_bytes w32 header.source ++ to_be_bytes w32 header.destination) (length udp)
-  pub whole : bytes ≡ ipv4_fields header (4 * header.words + length udp) ++ udp
-
--- what an IPv6 header says beside the payload length: traffic class and flow label, hop limit, and the two addresses
-pub record Ipv6Header : Type 0 where
-  pub class_and_label : ℕ
-  pub hops : ℕ
-  pub source : ℕ
-  pub destination : ℕ
-  pub class_and_label_fit : class_and_label < 2 ^ 28
-  pub hops_fit : hops < 256
-  pub source_fits : source < 2 ^ 128
-  pub destination_fits : destination < 2 ^ 128
-
--- version 6 in 4 bits, traffic class and flow label in 28; payload length; next header 17; hop limit; addresses
-abbrev pub ipv6_fields : Ipv6Header → ℕ → List ℕ
-ipv6_fields h payload =
-    to_be_bytes w32 (6 * 2 ^ 28 + h.class_and_label) ++ to_be_bytes w16 payload ++ (17 ∷ h.hops ∷ []) ++ to_be_bytes
-    w128 h.source ++ to_be_bytes w128 h.destination
-
--- an IPv6 packet around a UDP datagram in the same way
-pub record SpellsIpv6 (bytes pseudo udp : List ℕ) : Type 0 where
-  pub header : Ipv6Header
-  pub payload_fits : length udp < 2 ^ 16
-  pub covered : pseudo ≡ pseudo6 (to_be_bytes w128 header.source ++ to_be_bytes w128 header.destination) (length udp)
-  pub whole : bytes ≡ ipv6_fields header (length udp) ++ udp
-
--- either of them
+-- what spells a packet: either header, with a UDP datagram whose pseudo-header is given too
 pub data SpellsIp (bytes pseudo udp : List ℕ) : Type 0 where
   Version4 : SpellsIpv4 bytes pseudo udp → SpellsIp bytes pseudo udp
   Version6 : SpellsIpv6 bytes pseudo udp → SpellsIp bytes pseudo udp
 
+-- ---- what is written
+
+-- the source address: the first ITR-RLOC where it has the family of the EID, else zeros
+abbrev pub source4 : List Locator → ℕ
+source4 [] = 0
+source4 (V4 a ∷ rlocs) = a
+source4 (V6 a ∷ rlocs) = 0
+
+abbrev pub source6 : List Locator → ℕ
+source6 [] = 0
+source6 (V4 a ∷ rlocs) = 0
+source6 (V6 a ∷ rlocs) = a
+
+-- the destination is the EID's address
+unfoldable pub packet4 : ℕ → ℕ → List ℕ → List ℕ
+packet4 source destination message =
+    written_ipv4 (28 + length message) source destination
+    ++ written_udp (ones_sum 0 (pseudo4 (to_be_bytes w32 source ++ to_be_bytes w32 destination) (8 + length message)))
+    message
+
+unfoldable pub packet6 : ℕ → ℕ → List ℕ → List ℕ
+packet6 source destination message =
+    written_ipv6 (8 + length message) source destination
+    ++ written_udp (ones_sum 0 (pseudo6 (to_be_bytes w128 source ++ to_be_bytes w128 destination) (8 + length message)))
+    message
+
+abbrev pub packet : Locator → List Locator → List ℕ → List ℕ
+packet (V4 destination) rlocs message = packet4 (source4 rlocs) destination message
+packet (V6 destination) rlocs message = packet6 (source6 rlocs) destination message
+
 -- ---- the first fault
-
--- the number of bytes in an IPv4 header: four for each word of its length field
-abbrev pub header_len : List ℕ → ℕ
-header_len ip = 4 * (slice_index ip 0 % 16)
-
--- the header has 5 words at least, the total length is that of all bytes, and 8 bytes of UDP header fit
-abbrev pub has_length4 : List ℕ → Bool
-has_length4 ip = nat_le 20 (header_len ip) && (big_number 2 (drop 2 ip) == length ip && nat_le (header_len ip + 8)
-    (length ip))
-
--- what stands behind the header, told as the sum of the pseudo-header and the UDP datagram
-unfoldable pub ipv4_at : List ℕ → Result (ℕ × List ℕ) RequestFault
-ipv4_at ip =
-    if nat_lt (length ip) 20 then Err Short
-    else if not (has_length4 ip) then Err IpLength
-    else if not (is_right (ones_sum 0 (take (header_len ip) ip))) then Err IpChecksum
-    else if not (slice_index ip 9 == 17) then Err NotUdp
-    else if not (big_number 2 (drop 6 ip) % 2 ^ 14 == 0) then Err Fragment
-    else Ok (ones_sum 0 (pseudo4 (take 8 (drop 12 ip)) (length ip - header_len ip)), drop (header_len ip) ip)
-
--- the payload length is that of all bytes after the header, and 8 bytes of UDP header fit
-abbrev pub has_length6 : List ℕ → Bool
-has_length6 ip = big_number 2 (drop 4 ip) + 40 == length ip && nat_le 48 (length ip)
-
-unfoldable pub ipv6_at : List ℕ → Result (ℕ × List ℕ) RequestFault
-ipv6_at ip =
-    if nat_lt (length ip) 40 then Err Short
-    else if not (has_length6 ip) then Err IpLength
-    else if not (slice_index ip 6 == 17) then Err NotUdp
-    else Ok (ones_sum 0 (pseudo6 (take 32 (drop 8 ip)) (length ip - 40)), drop 40 ip)
 
 unfoldable pub ip_at : List ℕ → Result (ℕ × List ℕ) RequestFault
 ip_at ip =

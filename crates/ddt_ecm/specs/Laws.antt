@@ -1,13 +1,13 @@
 -- What holds of every request, whichever way it is read and written.
-use Rattle.std.specs.Prelude.{ℕ, ◌<◌, ◌≤◌, ◌^◌, ◌≡◌, ◌↔◌, Bool, List, length, Ok}
+use Rattle.std.specs.Prelude.{ℕ, ◌<◌, ◌≤◌, ◌^◌, ◌≡◌, Bool, List, length, Ok}
 use Rattle.std.specs.List.{AllByRecursion}
-use Rattle.std.specs.Result.{IsErr}
 use Rattle.ddt_path.specs.declared.locator.Locator.{Locator}
 use Rattle.ddt_path.specs.declared.xeid.Xeid.{Xeid}
-use Rattle.ddt_wire.specs.Steps.{IsBytes}
 use Rattle.ddt_wire.specs.Address.{IsAddress}
-use Rattle.ddt_ecm.specs.Request.{Message, Spells, message_in}
-use Rattle.ddt_ecm.specs.Written.{written}
+use Rattle.ddt_reading.specs.Steps.{IsBytes}
+use Rattle.ddt_reading.specs.Reader.{AreRead}
+use Rattle.ddt_ecm.specs.UdpHeader.{control_port}
+use Rattle.ddt_ecm.specs.Request.{Message, Spells, message_in, written}
 
 -- what a request can be written for: numbers in the ranges of their types, and 1 to 32 ITR-RLOCs
 pub record IsRequest (nonce : ℕ) (x : Xeid) (rlocs : List Locator) : Type 0 where
@@ -18,29 +18,13 @@ pub record IsRequest (nonce : ℕ) (x : Xeid) (rlocs : List Locator) : Type 0 wh
   pub few : length rlocs ≤ 32
   pub rlocs_fit : AllByRecursion IsAddress rlocs
 
--- the message of a request that is written, which comes from port 4342
+-- the message of a request that is written, which comes from the control port
 abbrev pub message_of : ℕ → Xeid → List Locator → Bool → Message
-message_of n x ls d = record { nonce = n; ddt = d; port = 4342; xeid = x; rlocs = ls }
+message_of n x ls d = record { nonce = n; ddt = d; port = control_port; xeid = x; rlocs = ls }
 
--- bytes spell at most one request
-abbrev pub OneRequest : Type 0
-OneRequest = (bytes : List ℕ) (v w : Message) → Spells bytes v → Spells bytes w → v ≡ w
-
--- a list that spells a request has numbers of 0 to 255 alone
-abbrev pub RequestsAreBytes : Type 0
-RequestsAreBytes = (bytes : List ℕ) (v : Message) → Spells bytes v → IsBytes bytes
-
--- bytes that spell a request are read as it
+-- what is spelled is read, and what is read is spelled
 abbrev pub RequestsAreRead : Type 0
-RequestsAreRead = (bytes : List ℕ) (v : Message) → Spells bytes v → message_in bytes ≡ Ok v
-
--- and what is read of bytes is spelled by them
-abbrev pub ReadRequestsAreSpelled : Type 0
-ReadRequestsAreSpelled = (bytes : List ℕ) (v : Message) → IsBytes bytes → message_in bytes ≡ Ok v → Spells bytes v
-
--- there is a fault if and only if no request is spelled
-abbrev pub FaultsAreRight : Type 0
-FaultsAreRight = (bytes : List ℕ) → IsBytes bytes → IsErr (message_in bytes) ↔ ((v : Message) → Spells bytes v → ⊥)
+RequestsAreRead = AreRead IsBytes Spells message_in
 
 -- what is written spells what was to be written
 abbrev pub WrittenSpells : Type 0

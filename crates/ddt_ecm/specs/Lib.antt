@@ -1,7 +1,9 @@
 pub mod Checksum
-pub mod IpHeader
 pub mod UdpHeader
+pub mod Ipv4Header
+pub mod Ipv6Header
+pub mod IpHeader
+pub mod EcmHeader
 pub mod MapRequest
 pub mod Request
-pub mod Written
 pub mod Laws

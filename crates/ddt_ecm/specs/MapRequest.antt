@@ -1,6 +1,6 @@
 -- A Map-Request for one EID (RFC 9301, section 5.2).
-use Rattle.std.specs.Prelude.{ℕ, zero, suc, ◌+◌, ◌*◌, ◌/◌, ◌%◌, ◌^◌, ◌<◌, ◌≡◌, ◌==◌, ◌&&◌, Bool, false, not, nat_lt, if◌then◌else◌, List, [], ◌∷◌, ◌++◌, length, drop, slice_index, Result, Ok, Err}
-use Rattle.std.specs.List.{flat_map, AllByRecursion}
+use Rattle.std.specs.Prelude.{ℕ, ◌+◌, ◌-◌, ◌*◌, ◌/◌, ◌%◌, ◌^◌, ◌<◌, ◌≡◌, ◌==◌, ◌&&◌, Bool, false, not, nat_lt, if◌then◌else◌, List, [], ◌∷◌, ◌++◌, length, drop, slice_index, Result, Ok, Err}
+use Rattle.std.specs.List.{flat_map}
 use Rattle.std.specs.Int.{w16, w32, w64, to_be_bytes}
 use Rattle.byteorder.specs.Endian.{big_number}
 use Rattle.ddt_path.specs.declared.locator.Locator.{Locator}
@@ -13,9 +13,11 @@ use Rattle.ddt_wire.specs.declared.address.AddressFault.{AddressFault}
 use Rattle.ddt_wire.specs.declared.address.AddressFault.TheVariants as address_fault
 use Rattle.ddt_wire.specs.declared.eid.EidFault.{EidFault}
 use Rattle.ddt_wire.specs.declared.eid.EidFault.TheVariants as eid_fault
-use Rattle.ddt_wire.specs.Steps.{◌>>=◌, in_words, IsBytes}
-use Rattle.ddt_wire.specs.Address.{family_and_address, IsAddress, address_at}
-use Rattle.ddt_wire.specs.Eid.{SpellsEid, eid_at}
+use Rattle.ddt_reading.specs.Steps.{◌>>=◌, in_words, IsBytes}
+use Rattle.ddt_wire.specs.Address.{no_address, lcaf, family_and_address, IsAddress, address_at}
+use Rattle.ddt_wire.specs.MessageType.{map_request}
+use Rattle.ddt_wire.specs.Addresses.{SpellsAddresses, addresses_at}
+use Rattle.ddt_wire.specs.Eid.{SpellsEid, written_eid, eid_at}
 use Rattle.ddt_wire.specs.Referral.{bit}
 use Rattle.ddt_ecm.specs.declared.fault.RequestFault.{RequestFault}
 use Rattle.ddt_ecm.specs.declared.fault.RequestFault.TheVariants as fault
@@ -33,17 +35,17 @@ pub record Ignored : Type 0 where
 -- type 1 in 4 bits, A, M, 6 flags, 5 reserved bits and 2 flags, IRC in 5 bits and a record count of 1 in 8; the nonce
 abbrev pub request_fields : Ignored → Bool → ℕ → ℕ → List ℕ
 request_fields i with_map irc nonce =
-    to_be_bytes w32 (2 ^ 28 + bit i.authoritative * 2 ^ 27 + bit with_map * 2 ^ 26 + i.flags * 2 ^ 13 + irc * 2 ^ 8 + 1)
+    to_be_bytes w32 (map_request * 2 ^ 28 + bit i.authoritative * 2 ^ 27 + bit with_map * 2 ^ 26 + i.flags * 2 ^ 13 + irc * 2 ^ 8 + 1)
     ++ to_be_bytes w64 nonce
 
 -- the source EID, which is skipped: AFI 0 alone, an address, or an LCAF of any type, whose length counts what follows
 -- it
 pub data SpellsSource (bytes : List ℕ) : Type 0 where
-  Absent : bytes ≡ to_be_bytes w16 0 → SpellsSource bytes
+  Absent : bytes ≡ to_be_bytes w16 no_address → SpellsSource bytes
   Plain : (a : Locator) → IsAddress a → bytes ≡ family_and_address a → SpellsSource bytes
   Lcaf : (reserved flags type more : ℕ) (content : List ℕ) → reserved < 256 → flags < 256 → type < 256 → more < 256
       → length content < 2 ^ 16 → IsBytes content
-      → bytes ≡ to_be_bytes w16 16387 ++ (reserved ∷ flags ∷ type ∷ more ∷ []) ++ to_be_bytes w16 (length content)
+      → bytes ≡ to_be_bytes w16 lcaf ++ (reserved ∷ flags ∷ type ∷ more ∷ []) ++ to_be_bytes w16 (length content)
       ++ content → SpellsSource bytes
 
 -- A Map-Request for one identifier. The EID mask-len is the whole width of its address. Bytes stand after the EID only
@@ -53,6 +55,7 @@ pub record SpellsRequest (bytes : List ℕ) (nonce : ℕ) (x : Xeid) (rlocs : Li
   pub with_map : Bool
   pub irc : ℕ
   pub source : List ℕ
+  pub itr_rlocs : List ℕ
   pub eid : List ℕ
   pub after : List ℕ
   pub nonce_fits : nonce < 2 ^ 64
@@ -60,49 +63,54 @@ pub record SpellsRequest (bytes : List ℕ) (nonce : ℕ) (x : Xeid) (rlocs : Li
   pub iid_fits : x.iid < 2 ^ 32
   pub address_fits : IsAddress x.address
   pub count : length rlocs ≡ irc + 1
-  pub rlocs_fit : AllByRecursion IsAddress rlocs
   pub spells_source : SpellsSource source
+  pub spells_rlocs : SpellsAddresses 0 itr_rlocs rlocs
   pub spells_eid : SpellsEid (address_width x.address) eid (xeid_path x)
   pub after_are_bytes : IsBytes after
   pub none_after : with_map ≡ false → after ≡ []
-  pub whole : bytes ≡ request_fields ignored with_map irc nonce ++ source ++ flat_map family_and_address rlocs
+  pub whole : bytes ≡ request_fields ignored with_map irc nonce ++ source ++ itr_rlocs
       ++ (ignored.reserved ∷ address_width x.address ∷ []) ++ eid ++ after
+
+-- ---- what is written
+
+-- type 1 and no flag, IRC and one record, the nonce, and a source EID of AFI 0
+abbrev pub map_request_head : ℕ → List Locator → List ℕ
+map_request_head nonce rlocs = (16 ∷ 0 ∷ (length rlocs - 1) ∷ 1 ∷ []) ++ to_be_bytes w64 nonce ++ to_be_bytes w16 no_address
+
+-- the ITR-RLOCs, a reserved byte, the whole width as mask length, and the EID
+abbrev pub written_map_request : ℕ → Xeid → List Locator → List ℕ
+written_map_request nonce x rlocs =
+    map_request_head nonce rlocs ++ flat_map family_and_address rlocs ++ (0 ∷ address_width x.address ∷ [])
+    ++ written_eid (xeid_path x)
 
 -- ---- the first fault
 
--- the source EID is skipped: its AFI, and nothing, an address, or an LCAF with its length
-abbrev pub skipped : ℕ → List ℕ → Result ℕ RequestFault
-skipped n bytes = if nat_lt (length bytes) n then Err fault.Short else Ok n
+-- an LCAF of any type is skipped by its length
+abbrev pub lcaf_at : List ℕ → Result ℕ RequestFault
+lcaf_at bytes =
+    if nat_lt (length bytes) 8 then Err fault.Short
+    else if nat_lt (length bytes) (8 + big_number 2 (drop 6 bytes)) then Err fault.Short
+    else Ok (8 + big_number 2 (drop 6 bytes))
 
+abbrev pub from_source : AddressFault → RequestFault
+from_source address_fault.Short = fault.Short
+from_source address_fault.Family = fault.EidFamily
+
+-- the source EID is skipped: its AFI, and nothing, an LCAF, or an address
 unfoldable pub source_at : List ℕ → Result ℕ RequestFault
 source_at bytes =
     if nat_lt (length bytes) 2 then Err fault.Short
-    else if big_number 2 bytes == 0 then Ok 2
-    else if big_number 2 bytes == 1 then skipped 6 bytes
-    else if big_number 2 bytes == 2 then skipped 18 bytes
-    else if big_number 2 bytes == 16387 then (if nat_lt (length bytes) 8 then Err fault.Short
-    else skipped (8 + big_number 2 (drop 6 bytes)) bytes)
-    else Err fault.EidFamily
+    else if big_number 2 bytes == no_address then Ok 2
+    else if big_number 2 bytes == lcaf then lcaf_at bytes
+    else (in_words from_source (address_at bytes) >>= λ a. Ok a.1)
 
 abbrev pub from_address : AddressFault → RequestFault
 from_address address_fault.Short = fault.Short
 from_address address_fault.Family = fault.RlocFamily
 
 -- so many ITR-RLOCs from the front, and the bytes after them
-unfoldable pub rlocs_at : ℕ → List ℕ → Result (List Locator × List ℕ) RequestFault
-rlocs_at zero bytes = Ok ([], bytes)
-rlocs_at (suc n) bytes = do
-  first ← in_words from_address (address_at bytes)
-  others ← rlocs_at n (drop first.1 bytes)
-  Ok (first.0 ∷ others.0, others.1)
-
-abbrev pub read_rlocs : Result (List Locator × List ℕ) RequestFault → List Locator
-read_rlocs (Ok x) = x.0
-read_rlocs (Err e) = []
-
--- the ITR-RLOCs of bytes that have so many
-abbrev pub rlocs_in : ℕ → List ℕ → List Locator
-rlocs_in n bytes = read_rlocs (rlocs_at n bytes)
+abbrev pub rlocs_at : ℕ → List ℕ → Result (List Locator × List ℕ) RequestFault
+rlocs_at n bytes = in_words from_address (addresses_at 0 n bytes)
 
 -- a request is for one identifier: a mask length that is too long or a range's is refused like one that is too short
 abbrev pub from_eid : EidFault → RequestFault
@@ -128,7 +136,7 @@ xeid_at bytes =
 unfoldable pub head_at : List ℕ → Result ℕ RequestFault
 head_at message =
     if nat_lt (length message) 12 then Err fault.Short
-    else if not (slice_index message 0 / 16 == 1) then Err fault.RequestType
+    else if not (slice_index message 0 / 16 == map_request) then Err fault.RequestType
     else if not (slice_index message 3 == 1) then Err fault.RecordCount
     else Ok (slice_index message 2 % 32 + 1)
 

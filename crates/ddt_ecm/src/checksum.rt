@@ -3,8 +3,8 @@
 ghost use Rattle.std.specs.Prelude.{◌≡◌};
 ghost use Rattle.ddt_ecm.specs.Checksum.{ones_add, ones_sum};
 
-/// The sum that is right over bytes with their checksum in place.
-pub(crate) const RIGHT: u16 = 0xffff;
+/// The sum over bytes whose checksum is in place and right.
+pub(crate) const VALID: u16 = 0xffff;
 
 /// The one's complement sum of two words.
 fn add(a: u16, b: u16) -> u16

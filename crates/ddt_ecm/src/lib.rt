@@ -1,24 +1,26 @@
 //! Encapsulated Map-Requests: the one spelling that is written, and what any bytes say.
 //!
-//! In reading order: `fault`, `request` (with `ip_header`, `udp_header`, `map_request` and `rlocs` below it, as they
-//! stand in the bytes, and `checksum`), `writing`, `laws`.
+//! In reading order: `fault`; `request`, and below it each header as they stand in the bytes: `ecm_header`,
+//! `ip_header` (`ipv4_header` or `ipv6_header`), `udp_header`, `map_request`; `checksum`, `laws`.
 #![tactic(auto)]
 
 mod checksum;
+mod ecm_header;
 mod fault;
 mod ip_header;
+mod ipv4_header;
+mod ipv6_header;
 mod laws;
 mod map_request;
 mod request;
-mod rlocs;
 mod udp_header;
-mod writing;
 
+pub use ecm_header::DDT;
 pub use fault::RequestFault;
 pub use laws::request_laws;
-pub use request::{DDT, Request, read_request};
-pub use rlocs::Rlocs;
-pub use writing::write_request;
+pub use map_request::Rlocs;
+pub use request::{Request, read_request, write_request};
+pub use udp_header::CONTROL_PORT;
 
 #[cfg(test)]
 mod tests;

@@ -22,23 +22,41 @@
 
 ghost use Rattle.std.specs.Prelude.{◌≡◌, ◌≤◌, length, OnOk, IfOk};
 ghost use Rattle.ddt_path.specs.FormOf.{form_of};
-ghost use Rattle.ddt_ecm.specs.MapRequest.{source_at, host_of, xeid_at, head_at, map_request_at};
+ghost use Rattle.ddt_ecm.specs.Laws.{IsRequest};
+ghost use Rattle.ddt_ecm.specs.MapRequest.{written_map_request, lcaf_at, source_at, host_of, xeid_at, head_at, map_request_at};
 
 use crate::fault::RequestFault;
-use crate::request::TYPE_SHIFT;
-use crate::rlocs::Rlocs;
 use byteorder::{BigEndian, ByteOrder};
-use ddt_path::{Form, Prefix, Xeid};
-use ddt_wire::{EidFault, read_eid};
+use ddt_path::{Form, Locator, Prefix, Xeid};
+use ddt_wire::{
+    AddressFault, Addresses, EidFault, LCAF, MAP_REQUEST, NO_ADDRESS, TYPE_SHIFT, read_address,
+    read_eid, write_addresses, write_eid,
+};
+use std::alloc::{AllocError, Global};
 
-/// The type of a Map-Request, in the first four bits.
-pub(crate) const MAP_REQUEST: u8 = 1;
 /// How many bits stand behind the bit M in the first byte.
 const M_SHIFT: u32 = 2;
 /// IRC is below this: it has five bits.
 const IRC_LIMIT: u8 = 1 << 5;
 /// How many bytes stand before the source EID.
 const BEFORE_SOURCE: usize = 12;
+
+/// The ITR-RLOCs of a request in order, read from the datagram one by one: to these addresses a Map-Reply may be sent.
+pub type Rlocs<'a> = Addresses<'a, 0>;
+
+impl From<AddressFault> for RequestFault {
+    ghost use Rattle.std.specs.Prelude.{◌≡◌};
+    ghost use Rattle.ddt_ecm.specs.MapRequest.{from_address};
+
+    ghost from_gives = { λ d e. e ≡ from_address d };
+
+    fn from(fault: AddressFault) -> RequestFault {
+        match fault {
+            AddressFault::Short => RequestFault::Short,
+            AddressFault::Family => RequestFault::RlocFamily,
+        }
+    }
+}
 
 impl From<EidFault> for RequestFault {
     ghost use Rattle.std.specs.Prelude.{◌≡◌};
@@ -74,6 +92,21 @@ fn read_head(message: &[u8]) -> Result<u8, RequestFault>
     Ok(message[2] % IRC_LIMIT + 1)
 }
 
+/// How many bytes an LCAF takes, by its length.
+fn skip_lcaf(bytes: &[u8]) -> Result<usize, RequestFault>
+    ensures exact { result ≡ lcaf_at bytes.now }
+    ensures within { IfOk result (λ taken. taken ≤ length bytes.now) }
+{
+    if bytes.len() < 8 {
+        return Err(RequestFault::Short);
+    }
+    let taken = 8 + usize::from(BigEndian::read_u16(&bytes[6..]));
+    if bytes.len() < taken {
+        return Err(RequestFault::Short);
+    }
+    Ok(taken)
+}
+
 /// How many bytes the source EID takes, its AFI among them.
 #[tactic(auto, unfolding(crate::specs::MapRequest::source_at))]
 fn skip_source(bytes: &[u8]) -> Result<usize, RequestFault>
@@ -83,22 +116,15 @@ fn skip_source(bytes: &[u8]) -> Result<usize, RequestFault>
     if bytes.len() < 2 {
         return Err(RequestFault::Short);
     }
-    let taken = match BigEndian::read_u16(bytes) {
-        0 => 2,
-        1 => 6,
-        2 => 18,
-        16387 => {
-            if bytes.len() < 8 {
-                return Err(RequestFault::Short);
-            }
-            8 + usize::from(BigEndian::read_u16(&bytes[6..]))
-        }
-        _ => return Err(RequestFault::EidFamily),
-    };
-    if bytes.len() < taken {
-        return Err(RequestFault::Short);
+    match BigEndian::read_u16(bytes) {
+        NO_ADDRESS => Ok(2),
+        LCAF => skip_lcaf(bytes),
+        _ => match read_address(bytes) {
+            Ok((_address, taken)) => Ok(taken),
+            Err(AddressFault::Short) => Err(RequestFault::Short),
+            Err(AddressFault::Family) => Err(RequestFault::EidFamily),
+        },
     }
-    Ok(taken)
 }
 
 /// The one identifier that a prefix covers.
@@ -147,4 +173,26 @@ pub(crate) fn read_map_request(message: &[u8]) -> Result<(u64, Xeid, Rlocs<'_>),
         return Err(RequestFault::Trailing);
     }
     Ok((BigEndian::read_u64(&message[4..]), xeid, rlocs))
+}
+
+/// A Map-Request, of at most 622 bytes.
+pub(crate) fn map_request(
+    alloc: Global,
+    nonce: u64,
+    x: Xeid,
+    rlocs: &[Locator],
+) -> Result<Vec<u8>, AllocError>
+    requires some { 1 ≤ length rlocs.now }
+    requires few { length rlocs.now ≤ 32 }
+    ensures written { IfOk result (λ bytes. bytes.items ≡ written_map_request nonce x rlocs.now) }
+    ensures fits { OnOk result (IsRequest nonce x rlocs.now) }
+{
+    let mut bytes = Vec::new(alloc);
+    bytes.extend_from_slice(&[MAP_REQUEST << TYPE_SHIFT, 0, (rlocs.len() - 1) as u8, 1])?;
+    bytes.extend_from_slice(&nonce.to_be_bytes())?;
+    bytes.extend_from_slice(&NO_ADDRESS.to_be_bytes())?;
+    write_addresses(&mut bytes, &[], rlocs)?;
+    bytes.extend_from_slice(&[0, x.address.width()])?;
+    write_eid(&mut bytes, Prefix::host(x))?;
+    Ok(bytes)
 }

@@ -14,27 +14,17 @@
 //! ```
 
 ghost use Rattle.std.specs.Prelude.{◌≡◌, ◌≤◌, length, Ok, OnOk, IfOk};
-ghost use Rattle.ddt_wire.specs.Steps.{Gives};
-ghost use Rattle.ddt_ecm.specs.Request.{Message, Spells, ecm_at, message_in};
+ghost use Rattle.ddt_ecm.specs.Request.{Message, Spells, message_in, written};
+ghost use Rattle.ddt_ecm.specs.Laws.{IsRequest, message_of};
 
+use crate::ecm_header::{D_SHIFT, ecm_header, read_ecm};
 use crate::fault::RequestFault;
-use crate::ip_header::read_ip;
-use crate::map_request::read_map_request;
-use crate::rlocs::Rlocs;
+use crate::ip_header::{put_packet, read_ip};
+use crate::map_request::{Rlocs, map_request, read_map_request};
 use crate::udp_header::read_udp;
-use ddt_path::Xeid;
+use ddt_path::{Locator, Xeid};
+use std::alloc::{AllocError, Global};
 use std::marker::Model;
-
-/// The type of an Encapsulated Control Message, in the first four bits.
-pub(crate) const ENCAPSULATED: u8 = 8;
-/// How many bits stand behind the type in the first byte.
-pub(crate) const TYPE_SHIFT: u32 = 4;
-/// How many bits stand behind the bit S.
-const S_SHIFT: u32 = 3;
-/// How many bits stand behind the bit D.
-const D_SHIFT: u32 = 2;
-/// The bit D in the first byte of the message: a DDT client asks (RFC 8111, section 5).
-pub const DDT: u8 = 1 << D_SHIFT;
 
 /// What an Encapsulated Map-Request says. It lends the datagram for its ITR-RLOCs.
 #[derive(Debug, Drop)]
@@ -91,25 +81,6 @@ impl<'a> Request<'a> {
     }
 }
 
-/// What stands behind the four bytes of an ECM header that are right.
-#[tactic(auto, unfolding(crate::specs::Request::ecm_at))]
-fn read_ecm(bytes: &[u8]) -> Result<&[u8], RequestFault>
-    ensures exact { Gives (λ rest. rest.now) result (ecm_at bytes.now) }
-    ensures len { OnOk result (4 ≤ length bytes.now) }
-{
-    if bytes.len() < 4 {
-        return Err(RequestFault::Short);
-    }
-    if bytes[0] >> TYPE_SHIFT != ENCAPSULATED {
-        return Err(RequestFault::MessageType);
-    }
-    if (bytes[0] >> S_SHIFT) % 2 != 0 {
-        return Err(RequestFault::Security);
-    }
-    let (_header, rest) = bytes.split_at(4);
-    Ok(rest)
-}
-
 /// The request that the bytes are, or the first fault.
 #[tactic(auto, unfolding(crate::specs::Request::message_in))]
 fn message(bytes: &[u8]) -> Result<Request<'_>, RequestFault>
@@ -144,4 +115,44 @@ pub fn read_request(bytes: &[u8]) -> Result<Request<'_>, RequestFault>
     ensures exact { result ≡ message_in bytes.now }
 {
     message(bytes)
+}
+
+/// The ECM header, and the packet in it.
+fn encapsulated(
+    alloc: Global,
+    nonce: u64,
+    x: Xeid,
+    rlocs: &[Locator],
+    ddt: bool,
+) -> Result<Vec<u8>, AllocError>
+    requires some { 1 ≤ length rlocs.now }
+    requires few { length rlocs.now ≤ 32 }
+    ensures written { IfOk result (λ bytes. bytes.items ≡ written nonce x rlocs.now ddt) }
+    ensures fits { OnOk result (IsRequest nonce x rlocs.now) }
+{
+    let message = map_request(alloc, nonce, x, rlocs)?;
+    let mut bytes = Vec::from_slice(alloc, &ecm_header(ddt))?;
+    put_packet(&mut bytes, x.address, rlocs, message.as_slice())?;
+    Ok(bytes)
+}
+
+/// The one spelling of an Encapsulated Map-Request for the identifier with this nonce, these ITR-RLOCs, 1 to 32 of
+/// them, and with the bit D or without. The inner packet has the identifier's family and goes to its address. Its
+/// source is the address of the first ITR-RLOC, or all zeros where the two families differ. Both of its ports are 4342.
+/// Fails only if out of memory.
+pub fn write_request(
+    alloc: Global,
+    nonce: u64,
+    x: Xeid,
+    rlocs: &[Locator],
+    ddt: bool,
+) -> Result<Vec<u8>, AllocError>
+    requires some { 1 ≤ length rlocs.now }
+    requires few { length rlocs.now ≤ 32 }
+    ensures written { IfOk result (λ bytes. bytes.items ≡ written nonce x rlocs.now ddt) }
+    ensures spelled { IfOk result (λ bytes. Spells bytes.items (message_of nonce x rlocs.now ddt)) }
+    // What was written is read again.
+    ensures again { IfOk result (λ bytes. message_in bytes.items ≡ Ok (message_of nonce x rlocs.now ddt)) }
+{
+    encapsulated(alloc, nonce, x, rlocs, ddt)
 }

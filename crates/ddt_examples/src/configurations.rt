@@ -142,3 +142,46 @@ locators = ["127.0.1.1", "127.0.1.2"]
 [[authority]]
 prefix = "[7]2001:db8::/32"
 "#;
+
+/// Group `east` of the scattered rows, as a person may write it.
+pub const SCATTERED_EAST: &str = r#"name = "east"
+kind = "ms"
+locators = ["127.0.1.1"]
+[[authority]]
+prefix = "[0]10.1.0.0/16"
+[[authority.site]]
+prefix = "[0]10.1.2.0/24"
+etrs = ["127.0.2.1"]
+[[authority]]
+prefix = "[0]10.2.0.0/16"
+[[authority.site]]
+prefix = "[0]10.2.0.0/16"
+etrs = []
+"#;
+
+/// Group `ten` of the scattered rows, as a person may write it.
+pub const SCATTERED_TEN: &str = r#"name = "ten"
+kind = "node"
+locators = ["127.0.0.10"]
+[[authority]]
+prefix = "[0]10.0.0.0/8"
+[[authority.child]]
+prefix = "[0]10.1.0.0/16"
+kind = "ms"
+locators = ["127.0.1.1"]
+[[authority.child]]
+prefix = "[0]10.2.0.0/16"
+kind = "ms"
+locators = ["127.0.1.1"]
+"#;
+
+/// Map-Servers with a site of two ETRs.
+pub const TWO_ETRS: &str = r#"name = "west"
+kind = "ms"
+locators = ["127.0.3.1"]
+[[authority]]
+prefix = "[7]2001:db8::/32"
+[[authority.site]]
+prefix = "[7]2001:db8:1::/48"
+etrs = ["2001:db8::2", "2001:db8::1"]
+"#;

@@ -5,10 +5,9 @@ use Rattle.std.specs.List.{flat_map}
 use Rattle.std.specs.Int.{w64, to_be_bytes}
 use Rattle.hex.specs.Hex.{encode_lower}
 use Rattle.ddt_path.specs.declared.locator.Locator.{Locator}
-use Rattle.ddt_path.specs.declared.record.Action.{Action}
-use Rattle.ddt_path.specs.declared.record.Action.TheVariants.{NodeReferral, MsReferral, MsAck, MsNotRegistered, DelegationHole, NotAuthoritative}
 use Rattle.ddt_path.specs.declared.record.Outcome.{Outcome}
 use Rattle.ddt_path.specs.declared.record.Outcome.TheVariants.{Registered, NotRegistered, Hole}
+use Rattle.ddt_path.specs.Actions as action
 use Rattle.ddt_text.specs.Written.{written_locator, written_prefix, written_xeid}
 use Rattle.ddt_wire.specs.declared.negative_reply.NegativeReply.{NegativeReply}
 use Rattle.ddt_wire.specs.Referral as referral
@@ -27,15 +26,6 @@ outcome_text (Registered prefix servers) = codes "registered " ++ written_prefix
 outcome_text (NotRegistered prefix servers) = codes "not-registered " ++ written_prefix prefix ++ spaced servers
 outcome_text (Hole prefix) = codes "hole " ++ written_prefix prefix
 
--- the names of the actions (RFC 8111, section 6.1)
-abbrev pub action_text : Action → List ℕ
-action_text NodeReferral = codes "NODE-REFERRAL"
-action_text MsReferral = codes "MS-REFERRAL"
-action_text MsAck = codes "MS-ACK"
-action_text MsNotRegistered = codes "MS-NOT-REGISTERED"
-action_text DelegationHole = codes "DELEGATION-HOLE"
-action_text NotAuthoritative = codes "NOT-AUTHORITATIVE"
-
 -- so many zones, sites and groups
 abbrev pub counts_text : ℕ → ℕ → ℕ → List ℕ
 counts_text zones sites groups =
@@ -52,7 +42,7 @@ whole_text false = codes " complete"
 
 abbrev pub referral_text : referral.Message → List ℕ
 referral_text v =
-    codes "referral nonce " ++ nonce_text v.nonce ++ codes " " ++ action_text v.action ++ codes " "
+    codes "referral nonce " ++ nonce_text v.nonce ++ codes " " ++ action.name v.action ++ codes " "
     ++ written_prefix v.prefix
     ++ codes " ttl " ++ decimal v.ttl ++ whole_text v.incomplete ++ spaced v.locators
 
@@ -64,7 +54,7 @@ reply_text v =
 -- a server that was asked, and what its Map-Referral says: action, prefix, minutes, locators
 abbrev pub hop_text : Locator → referral.Message → List ℕ
 hop_text to v =
-    written_locator to ++ codes " " ++ action_text v.action ++ codes " " ++ written_prefix v.prefix ++ codes " "
+    written_locator to ++ codes " " ++ action.name v.action ++ codes " " ++ written_prefix v.prefix ++ codes " "
     ++ decimal v.ttl ++ spaced v.locators
 
 -- a DDT client or an ITR asks

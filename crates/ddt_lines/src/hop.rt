@@ -3,7 +3,7 @@
 ghost use Rattle.std.specs.Prelude.{◌≡◌, IfOk};
 ghost use Rattle.ddt_lines.specs.Lines.{ended, hop_text};
 
-use crate::referral::{action_name, push_referral_set};
+use crate::referral::push_referral_set;
 use crate::text::{push_number, push_text};
 use ddt_path::Locator;
 use ddt_text::{write_locator, write_prefix};
@@ -17,7 +17,7 @@ pub fn hop_line(alloc: Global, to: Locator, referral: &Referral<'_>) -> Result<V
     let mut line = Vec::new(alloc);
     write_locator(&mut line, to)?;
     push_text(&mut line, " ")?;
-    push_text(&mut line, action_name(referral.action()))?;
+    push_text(&mut line, referral.action().name())?;
     push_text(&mut line, " ")?;
     write_prefix(&mut line, referral.prefix())?;
     push_text(&mut line, " ")?;

@@ -1,10 +1,9 @@
 //! The line of a Map-Referral (RFC 8111, section 6.4).
 
 ghost use Rattle.std.specs.Prelude.{◌≡◌, ◌++◌, IfOk, OnOk};
-ghost use Rattle.ddt_lines.specs.Lines.{action_text, ended, referral_text, spaced, whole_text};
+ghost use Rattle.ddt_lines.specs.Lines.{ended, referral_text, spaced, whole_text};
 
 use crate::text::{push_locator, push_nonce, push_number, push_text};
-use ddt_path::Action;
 use ddt_text::write_prefix;
 use ddt_wire::{Locators, Referral};
 use std::alloc::{AllocError, Global};
@@ -17,7 +16,7 @@ pub fn referral_line(alloc: Global, referral: &Referral<'_>) -> Result<Vec<u8>, 
     let mut line = Vec::from_slice(alloc, b"referral nonce ")?;
     push_nonce(&mut line, referral.nonce())?;
     push_text(&mut line, " ")?;
-    push_text(&mut line, action_name(referral.action()))?;
+    push_text(&mut line, referral.action().name())?;
     push_text(&mut line, " ")?;
     write_prefix(&mut line, referral.prefix())?;
     push_text(&mut line, " ttl ")?;
@@ -49,18 +48,4 @@ pub(crate) fn push_referral_set(
         push_locator(line, locator)?;
     }
     Ok(())
-}
-
-/// The name of an action (RFC 8111, section 6.1).
-pub(crate) fn action_name(action: Action) -> &'static str
-    ensures { result.now ≡ action_text action }
-{
-    match action {
-        Action::NodeReferral => "NODE-REFERRAL",
-        Action::MsReferral => "MS-REFERRAL",
-        Action::MsAck => "MS-ACK",
-        Action::MsNotRegistered => "MS-NOT-REGISTERED",
-        Action::DelegationHole => "DELEGATION-HOLE",
-        Action::NotAuthoritative => "NOT-AUTHORITATIVE",
-    }
 }

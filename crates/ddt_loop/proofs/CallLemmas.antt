@@ -17,7 +17,8 @@ use Rattle.ddt_check.specs.Assignment.{assignment}
 use Rattle.ddt_wires.specs.declared.call.Call.{Call}
 use Rattle.ddt_wires.specs.declared.call.Call.TheVariants.{Received, Tried}
 use Rattle.ddt_wires.specs.declared.call.NetFault.{NetFault}
-use Rattle.ddt_wires.specs.Turns.{AreTried, control_port, reply_to}
+use Rattle.ddt_ecm.specs.UdpHeader.{control_port}
+use Rattle.ddt_wires.specs.Turns.{AreTried, reply_to}
 use Rattle.ddt_wires.specs.declared.call.Packet.{Packet}
 use Rattle.ddt_resolver.specs.declared.answers.Outgoing.{Outgoing}
 use Rattle.ddt_resolver.specs.declared.front.ItrRequest.{ItrRequest}

@@ -15,7 +15,7 @@ use Rattle.ddt_check.specs.Assignment.{assignment}
 use Rattle.ddt_cache.specs.Moment.{last_moment}
 use Rattle.ddt_wires.specs.declared.call.Call.{Call}
 use Rattle.ddt_wires.specs.declared.call.Call.TheVariants.{Received, Tried}
-use Rattle.ddt_wires.specs.Turns.{control_port}
+use Rattle.ddt_ecm.specs.UdpHeader.{control_port}
 use Rattle.ddt_resolver.specs.declared.answers.Asked.{Asked}
 use Rattle.ddt_resolver.specs.declared.answers.Asked.TheVariants as asked_as
 use Rattle.ddt_resolver.specs.declared.answers.AskError.{AskError}

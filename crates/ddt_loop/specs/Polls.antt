@@ -7,11 +7,13 @@ use Rattle.ddt_wires.specs.declared.call.Call.{Call}
 use Rattle.ddt_wires.specs.declared.call.Call.TheVariants.{Received}
 use Rattle.ddt_wires.specs.declared.call.NetFault.{NetFault}
 use Rattle.ddt_wires.specs.declared.call.Packet.{Packet}
-use Rattle.ddt_wires.specs.Turns.{AreTried, control_port, most_bytes, reply_to}
+use Rattle.ddt_ecm.specs.UdpHeader.{control_port}
+use Rattle.ddt_wires.specs.Turns.{AreTried, most_bytes, reply_to}
 use Rattle.ddt_resolver.specs.declared.front.ItrRequest.{ItrRequest}
 use Rattle.ddt_resolver.specs.Front.{IsItrRequest}
 use Rattle.ddt_resolver.specs.Step.{Hear}
 use Rattle.ddt_sim.specs.Compiled.{AreCompiled, reply_at}
+use Rattle.ddt_wire.specs.MessageType.{encapsulated}
 use Rattle.ddt_loop.specs.Acts.{Running, AsksForItr, Resolves}
 
 -- ---- at the resolver's own socket
@@ -19,7 +21,7 @@ use Rattle.ddt_loop.specs.Acts.{Running, AsksForItr, Resolves}
 -- the first four bits are those of an Encapsulated Control Message (RFC 9301, section 5.8)
 abbrev pub is_encapsulated : List ℕ → Bool
 is_encapsulated [] = false
-is_encapsulated (first ∷ rest) = first / 16 == 8
+is_encapsulated (first ∷ rest) = first / 16 == encapsulated
 
 -- What is done with a packet. `asks`: it is the request of an ITR. `no_request`: another Encapsulated Control Message
 -- is dropped. `hears`: any other datagram from UDP port 4342 is heard. `other_port`: from another port it is dropped.

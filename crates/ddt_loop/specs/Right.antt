@@ -15,7 +15,7 @@ use Rattle.ddt_wires.specs.declared.call.Call.{Call}
 use Rattle.ddt_wires.specs.declared.call.Call.TheVariants.{Received, Tried}
 use Rattle.ddt_wires.specs.declared.call.NetFault.{NetFault}
 use Rattle.ddt_wires.specs.declared.call.Packet.{Packet}
-use Rattle.ddt_wires.specs.Turns.{control_port}
+use Rattle.ddt_ecm.specs.UdpHeader.{control_port}
 use Rattle.ddt_resolver.specs.declared.answers.Outgoing.{Outgoing}
 use Rattle.ddt_resolver.specs.declared.front.ItrRequest.{ItrRequest}
 use Rattle.ddt_resolver.specs.Front.{IsItrRequest, reply_to_itr}

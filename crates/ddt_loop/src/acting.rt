@@ -14,14 +14,13 @@ use crate::asking::{ask_for_itr, reply_to_itr, try_to_send};
 use crate::ends::end_of;
 use crate::owner::Asker;
 use ddt_cache::{Entry, Moment};
+use ddt_ecm::CONTROL_PORT;
 use ddt_path::{Locator, Outcome};
 use ddt_resolver::{Heard, Outgoing, Resolver, Ticked, Ticket, Why, itr_request};
 use ddt_trie::PrefixMap;
-use ddt_wires::{CONTROL_PORT, Packet, Wires};
+use ddt_wire::ENCAPSULATED;
+use ddt_wires::{Packet, Wires};
 use std::alloc::Global;
-
-/// The LISP message type of an Encapsulated Control Message, the first four bits (RFC 9301, section 5.8).
-const ENCAPSULATED: u8 = 8;
 
 /// What a datagram or a tick makes of a lookup.
 #[derive(Debug, Drop)]

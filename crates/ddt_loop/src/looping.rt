@@ -26,11 +26,8 @@ use ddt_path::{Locator, Xeid};
 use ddt_resolver::Resolver;
 use ddt_sim::{Compiled, a_step_keeps_a_resolver_sound};
 use ddt_trie::PrefixMap;
-use ddt_wires::Wires;
+use ddt_wires::{MOST_BYTES, Wires};
 use std::alloc::{AllocError, Global};
-
-/// No UDP datagram has more bytes.
-const MOST_BYTES: usize = 65_535;
 
 /// Looks identifiers up over wires, and answers one end for each, in their order. The resolver's own socket is at `me`,
 /// and those of the register's servers at `sockets`.

@@ -11,12 +11,12 @@ use Rattle.ddt_path.specs.declared.record.Outcome.TheVariants.{Registered, NotRe
 use Rattle.ddt_path.specs.Records.{record_of, referral, not_authoritative}
 use Rattle.ddt_path.specs.declared.record.Role.{Role}
 use Rattle.ddt_path.specs.declared.record.Role.TheVariants.{Node, Ms}
-use Rattle.ddt_config.specs.declared.config.Child.{Child}
-use Rattle.ddt_config.specs.declared.config.SiteEntry.{SiteEntry}
-use Rattle.ddt_config.specs.declared.config.Content.{Content}
-use Rattle.ddt_config.specs.declared.config.Content.TheVariants.{Children, Sites}
+use Rattle.ddt_config.specs.declared.child.Child.{Child}
+use Rattle.ddt_config.specs.declared.site_entry.SiteEntry.{SiteEntry}
+use Rattle.ddt_config.specs.declared.authority.Content.{Content}
+use Rattle.ddt_config.specs.declared.authority.Content.TheVariants.{Children, Sites}
 use Rattle.ddt_path.specs.Free.{longest_match, hole_of}
-use Rattle.ddt_config.specs.declared.config.Authority.{Authority}
+use Rattle.ddt_config.specs.declared.authority.Authority.{Authority}
 use Rattle.ddt_config.specs.Table.{Outline}
 use Rattle.ddt_config.specs.Answer.{answer, answer_in, site_outcome, strictly_below, referral_to}
 use Rattle.ddt_trie.specs.PrefixMap.{path_cmp}

@@ -3,14 +3,14 @@
 use Rattle.std.specs.Prelude.{ℕ, ◌≡◌, ◌+◌, ◌*◌, ◌/◌, ◌%◌, Bool, true, false, if◌then◌else◌, List, [], ◌∷◌, Option, Some, None, Result, Ok, Err, option_and_then, slice_get}
 use Rattle.std.specs.Option.{option_map, option_map_or}
 use Rattle.ddt_path.specs.declared.locator.Locator.{Locator}
-use Rattle.ddt_path.specs.declared.record.Action.{Action}
-use Rattle.ddt_path.specs.declared.record.Action.TheVariants.{NodeReferral, MsReferral, MsAck, MsNotRegistered, DelegationHole, NotAuthoritative}
+use Rattle.ddt_path.specs.declared.action.Action.{Action}
+use Rattle.ddt_path.specs.declared.action.Action.TheVariants.{NodeReferral, MsReferral, MsAck, MsNotRegistered, DelegationHole, NotAuthoritative}
 use Rattle.ddt_path.specs.Path.{xeid_path}
 use Rattle.ddt_path.specs.Free.{longest_match}
-use Rattle.ddt_config.specs.declared.config.SiteEntry.{SiteEntry}
-use Rattle.ddt_config.specs.declared.config.Content.{Content}
-use Rattle.ddt_config.specs.declared.config.Content.TheVariants.{Children, Sites}
-use Rattle.ddt_config.specs.declared.config.Authority.{Authority}
+use Rattle.ddt_config.specs.declared.site_entry.SiteEntry.{SiteEntry}
+use Rattle.ddt_config.specs.declared.authority.Content.{Content}
+use Rattle.ddt_config.specs.declared.authority.Content.TheVariants.{Children, Sites}
+use Rattle.ddt_config.specs.declared.authority.Authority.{Authority}
 use Rattle.ddt_config.specs.Table.{Outline}
 use Rattle.ddt_config.specs.Answer.{answer}
 use Rattle.ddt_wire.specs.Referral.{written, message_of, Message as ReferralMessage, Spells as SpellsReferral}

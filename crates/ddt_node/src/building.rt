@@ -2,20 +2,18 @@
 
 ghost use Rattle.std.specs.Prelude.{◌≡◌, ◌+◌, ◌<◌, [], length, map, nat_lt, IfOk, IsOk};
 ghost use Rattle.std.specs.List.{sum_by};
+ghost use Rattle.ddt_trie.specs.PrefixMap.{most_entries};
 ghost use Rattle.ddt_config.specs.Table.{outline};
 ghost use Rattle.ddt_config.specs.Entries.{prefixes_in, count_in as count_in_of, entry_count};
 ghost use Rattle.ddt_node.specs.Places.{places as places_of, places_in as places_in_of, AreIndexed};
 
 use ddt_config::{Authority, Content, Prefixed, ServerConfig};
-use ddt_trie::PrefixMap;
+use ddt_trie::{MOST_ENTRIES, PrefixMap};
 use std::alloc::{AllocError, Global};
-
-/// A server has fewer authorities, children and sites than this in all.
-const MOST_ENTRIES: usize = 1_048_576;
 
 /// The place of each item, by its prefix.
 fn places<T: Prefixed, M: PrefixMap<u32>>(alloc: Global, items: &[T]) -> Result<M, AllocError>
-    requires { length items.now < 1048576 }
+    requires { length items.now < most_entries }
     ensures places { IfOk result (λ m. M.content m ≡ places_of (map T.path items.now)) }
     ensures none { items.now ≡ [] → IsOk result }
 {
@@ -31,7 +29,7 @@ fn places<T: Prefixed, M: PrefixMap<u32>>(alloc: Global, items: &[T]) -> Result<
 
 /// The place of each child or site of an authority, by its prefix.
 fn places_in<M: PrefixMap<u32>>(alloc: Global, content: &Content) -> Result<M, AllocError>
-    requires { length (prefixes_in content.now) < 1048576 }
+    requires { length (prefixes_in content.now) < most_entries }
     ensures { IfOk result (λ m. M.content m ≡ places_of (prefixes_in content.now)) }
 {
     match content {
@@ -45,7 +43,7 @@ fn contents<M: PrefixMap<u32>>(
     alloc: Global,
     authorities: &[Authority],
 ) -> Result<Vec<M>, AllocError>
-    requires { sum_by count_in_of authorities.now < 1048576 }
+    requires { sum_by count_in_of authorities.now < most_entries }
     ensures contents { IfOk result (λ maps. map M.content maps.items ≡ map places_in_of authorities.now) }
     ensures none { authorities.now ≡ [] → IsOk result }
 {
@@ -61,7 +59,7 @@ pub fn index<M: PrefixMap<u32>>(
     alloc: Global,
     authorities: &[Authority],
 ) -> Result<(M, Vec<M>), AllocError>
-    requires { length authorities.now + sum_by count_in_of authorities.now < 1048576 }
+    requires { length authorities.now + sum_by count_in_of authorities.now < most_entries }
     ensures indexed { IfOk result (λ maps. AreIndexed authorities.now (M.content maps.0) (map M.content maps.1.items)) }
     ensures none { authorities.now ≡ [] → IsOk result }
 {
@@ -80,7 +78,7 @@ fn count_in(content: &Content) -> usize
 /// Whether a server of this configuration can be built: its authorities with all that they hold are fewer than
 /// 1,048,576.
 pub fn has_room_for(config: &ServerConfig) -> bool
-    ensures { result ≡ nat_lt (entry_count (outline config.now)) MOST_ENTRIES }
+    ensures { result ≡ nat_lt (entry_count (outline config.now)) most_entries }
 {
     let authorities = config.authorities.as_slice();
     let mut count = authorities.len();

@@ -2,6 +2,7 @@
 
 ghost use Rattle.std.specs.Prelude.{◌≡◌, ◌<◌, [], IfOk, IfErr, IsOk};
 ghost use Rattle.ddt_path.specs.Path.{xeid_path};
+ghost use Rattle.ddt_trie.specs.PrefixMap.{most_entries};
 ghost use Rattle.ddt_config.specs.Table.{outline};
 ghost use Rattle.ddt_config.specs.Answer.{answer as answer_of};
 ghost use Rattle.ddt_config.specs.Entries.{entry_count};
@@ -42,7 +43,7 @@ impl<M: PrefixMap<u32>> Server<M> {
     /// A server of this configuration, whose authorities with all that they hold are to be fewer than 1,048,576.
     /// Where memory is refused, the configuration comes back; one without authorities wants none.
     pub fn build(alloc: Global, config: ServerConfig) -> Result<Server<M>, ServerConfig>
-        requires { entry_count (outline config) < 1048576 }
+        requires { entry_count (outline config) < most_entries }
         ensures built { IfOk result (λ server. server ≡ outline config) }
         ensures refused { IfErr result (λ back. back ≡ config) }
         ensures none { config.authorities ≡ [] → IsOk result }

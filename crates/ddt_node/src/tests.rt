@@ -1,7 +1,7 @@
 use super::*;
 use ddt_config::{ServerConfig, from_toml};
 use ddt_ecm::write_request;
-use ddt_examples::configurations::{EAST, NESTED_EAST, ROOT, SHARED_ROOT, TEN};
+use ddt_examples::configurations::{EAST, NESTED_EAST, ROOT, SHARED_ROOT, TEN, TWO_ETRS};
 use ddt_examples::messages::{
     DDT_REQUEST, EAST_ACKNOWLEDGES, EAST_HAS_NO_ETR, HOLE_OF_IPV6, IPV6_REQUEST, ITR_REQUEST,
     ROOT_REFERS_TO_TEN, TEN_IS_NOT_IN_CHARGE,
@@ -15,17 +15,6 @@ use std::process::Abort;
 use std::test::Fail;
 
 type ListServer = Server<ListMap<u32>>;
-
-/// A Map-Server group with a site of two ETRs.
-const TWO_ETRS: &str = r#"name = "west"
-kind = "ms"
-locators = ["127.0.3.1"]
-[[authority]]
-prefix = "[7]2001:db8::/32"
-[[authority.site]]
-prefix = "[7]2001:db8:1::/48"
-etrs = ["2001:db8::2", "2001:db8::1"]
-"#;
 
 const RESOLVER: Locator = Locator::V4(0x7f00_0035);
 

@@ -1,7 +1,9 @@
 -- Fronts of paths. This file needs the specs of ddt_path alone.
-use Rattle.std.proofs.Common.{◌≡◌, ℕ, zero, suc, ◌≤◌, Bool, true, false, List, [], ◌∷◌, ◌++◌, length, take, refl, sym, ap, ◌∙◌, arith}
+use Rattle.std.proofs.Common.{◌≡◌, ℕ, zero, suc, ◌≤◌, Bool, true, false, List, [], ◌∷◌, ◌++◌, length, take, drop, refl, sym, ap, subst, ◌∙◌, arith}
 use Rattle.std.specs.Prelude.{◌==◌, ◌&&◌, ◌||◌}
 use Rattle.std.proofs.lemmas.Bool.{and_parts, and_from, false≢true, eqb-true, eq-eqb}
+use Rattle.std.specs.Cmp.Lexicographic.{bytes_decides}
+use Rattle.std.proofs.lemmas.List.{take-append-drop}
 use Rattle.ddt_path.specs.Covers.{covers, overlaps, is_same_path}
 
 pub covers_self : (p : List ℕ) → covers p p ≡ true
@@ -20,6 +22,9 @@ covers_trans (d ∷ p) (e ∷ q) (f ∷ r) a b =
 pub covers-append : (p r : List ℕ) → covers p (p ++ r) ≡ true
 covers-append [] r = refl
 covers-append (d ∷ p) r = and_from (d == d) (covers p (p ++ r)) (eq-eqb d d refl) (covers-append p r)
+
+pub front_covered : (n : ℕ) (x : List ℕ) → covers (take n x) x ≡ true
+front_covered n x = subst (λ (y : List ℕ). covers (take n x) y ≡ true) (take-append-drop n x) (covers-append (take n x) (drop n x))
 
 -- a front that covers is what is taken at its length
 pub take-covered : (p q : List ℕ) → covers p q ≡ true → take (length p) q ≡ p
@@ -70,15 +75,9 @@ next_digit [] d [] a = absurd (false≢true a)
 next_digit [] d (e ∷ r) a = (r, ap (λ (h : ℕ). h ∷ r) (sym (eqb-true d e (and_parts (d == e) true a).0)))
 next_digit (h ∷ f) d r a = next_digit f d r (and_parts (h == h) (covers (f ++ d ∷ []) (f ++ r)) a).1
 
--- two paths that pass for one are one
+-- two paths that pass for one are one, and one path passes
 pub same_path : (p q : List ℕ) → is_same_path p q ≡ true → p ≡ q
-same_path [] [] e = refl
-same_path [] (h ∷ q) e = absurd (false≢true e)
-same_path (d ∷ p) [] e = absurd (false≢true e)
-same_path (d ∷ p) (h ∷ q) e =
-    let s = and_parts (d == h) (is_same_path p q) e in
-    ap (λ (k : ℕ). k ∷ p) (eqb-true d h s.0) ∙ ap (λ (l : List ℕ). h ∷ l) (same_path p q s.1)
+same_path p q e = (bytes_decides p q).0 e
 
-pub is_same_path_self : (p : List ℕ) → is_same_path p p ≡ true
-is_same_path_self [] = refl
-is_same_path_self (d ∷ p) = and_from (d == d) (is_same_path p p) (eq-eqb d d refl) (is_same_path_self p)
+pub path_itself : (p q : List ℕ) → p ≡ q → is_same_path p q ≡ true
+path_itself p q e = (bytes_decides p q).1 e

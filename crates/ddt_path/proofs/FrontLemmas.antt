@@ -1,11 +1,11 @@
 -- Two fronts of one path, and what is strictly below another.
-use Rattle.std.proofs.Common.{◌≡◌, ℕ, ◌<◌, ◌≤◌, true, not, List, [], ◌∷◌, ◌++◌, length, take, drop, refl, sym, ap, ◌∙◌, arith, inl, inr}
-use Rattle.std.specs.Prelude.{◌==◌, ◌&&◌, nat_le}
-use Rattle.std.proofs.lemmas.Bool.{and_parts, and_from, or_cases, or_left, or_right, false≢true, eqb-true, eq-eqb, not-true, not_from_false, false_from_ne_true, cases_lt, le-leb, leb-true}
-use Rattle.std.proofs.lemmas.List.{take_all, take-append-drop, length-take}
+use Rattle.std.proofs.Common.{◌≡◌, ℕ, ◌<◌, ◌≤◌, Bool, true, false, not, List, [], ◌∷◌, length, take, refl, sym, ap, ◌∙◌, arith, inl, inr}
+use Rattle.std.specs.Prelude.{◌==◌, ◌&&◌, ◌||◌, nat_le}
+use Rattle.std.proofs.lemmas.Bool.{and_parts, and_from, or_cases, or_left, or_right, false≢true, true≢false, eqb-true, eq-eqb, not-true, not_from_false, false_from_ne_true, cases_lt, le-leb, leb-true}
+use Rattle.std.proofs.lemmas.List.{take_all, length-take}
 use Rattle.ddt_path.specs.Covers.{covers, overlaps, is_same_path, is_strictly_below, shared_len}
-use Rattle.ddt_path.proofs.CoverLemmas.{covers_self, covers_trans, covers-append, take-covered, length-covered, covered_same}
-use Rattle.ddt_path.proofs.ShareLemmas.{covers-take, shared_len-le, shared_len_le_second}
+use Rattle.ddt_path.proofs.CoverLemmas.{covers_self, covers_trans, front_covered, take-covered, length-covered, covered_same}
+use Rattle.ddt_path.proofs.ShareLemmas.{covers_both, covers-take, shared_len-le, shared_len_le_second}
 
 -- of two fronts the longer begins with the shorter
 pub front_covers : (p q x : List ℕ) → covers p x ≡ true → covers q x ≡ true → length p ≤ length q → covers p q ≡ true
@@ -47,13 +47,17 @@ overlaps_front c z q a o =
 
 -- two paths that cover each other are one
 pub one_path : (p q : List ℕ) → covers p q ≡ true → covers q p ≡ true → is_same_path p q ≡ true
-one_path [] [] e f = refl
-one_path [] (y ∷ q) e f = absurd (false≢true f)
-one_path (x ∷ p) [] e f = absurd (false≢true e)
-one_path (x ∷ p) (y ∷ q) e f =
-    let a = and_parts (x == y) (covers p q) e in
-    let b = and_parts (y == x) (covers q p) f in
-    rw (a.0, one_path p q a.1 b.1) refl
+one_path p q e f = sym (covers_both p q) ∙ and_from (covers p q) (covers q p) e f
+
+-- two paths of which none is strictly below the other, and that aren't one, don't overlap
+pub apart : (p q : List ℕ) → is_strictly_below p q ≡ false → is_strictly_below q p ≡ false → is_same_path p q ≡ false → overlaps p q ≡ false
+apart p q down up other = go (covers p q) (covers q p) up down (covers_both p q ∙ other)
+  where
+    go : (c d : Bool) → (c && not d) ≡ false → (d && not c) ≡ false → (c && d) ≡ false → (c || d) ≡ false
+    go false false up down both = refl
+    go true false up down both = absurd (true≢false up)
+    go false true up down both = absurd (true≢false down)
+    go true true up down both = absurd (true≢false both)
 
 -- ---- the longest common front
 
@@ -61,10 +65,9 @@ pub common_covers : (p q : List ℕ) → (covers (take (shared_len p q) p) p ≡
 common_covers p q =
     let n = shared_len p q in
     let le : n ≤ length p = shared_len-le p q in
-    let first : covers (take n p) (take n p ++ drop n p) ≡ true = covers-append (take n p) (drop n p) in
     let whole : take (length q) q ≡ q = take_all (length q) q (omega arith) in
     let second = covers-take n (length q) p q le in (
-      ap (covers (take n p)) (sym (take-append-drop n p)) ∙ first,
+      front_covered n p,
       ap (covers (take n p)) (sym whole) ∙ second ∙ and_from (nat_le n (length q)) (nat_le n n) (le-leb n (length q) (shared_len_le_second p q)) (le-leb n n (omega arith)),
     )
 

@@ -1,14 +1,16 @@
 -- The least specific free prefix, over the definitions.
-use Rattle.std.proofs.Common.{◌≡◌, ℕ, ◌+◌, ◌<◌, ◌≤◌, Bool, true, false, cond, List, [], ◌∷◌, ◌++◌, length, take, drop, Some, None, refl, sym, ap, ◌∙◌, arith, inl, inr}
-use Rattle.std.specs.Prelude.{find, nat_lt, not, Option, ◌==◌, ◌&&◌}
-use Rattle.std.specs.List.{list_any, list_all}
-use Rattle.std.proofs.lemmas.Bool.{cond-true, cond-false, and_from, and_parts, or_cases, or_left, or_right, and_cases, not-true, not-false, false≢true, eqb-true, lt-ltb, le-ltb, cases_lt}
+use Rattle.std.proofs.Common.{◌≡◌, ℕ, ◌+◌, ◌<◌, ◌≤◌, Bool, true, false, cond, List, [], ◌∷◌, ◌++◌, length, map, take, drop, Some, None, refl, sym, ap, ◌∙◌, arith, inl, inr}
+use Rattle.std.specs.Prelude.{find, nat_lt, not, Option, ◌&&◌}
+use Rattle.std.specs.List.{list_any, list_all, filter}
+use Rattle.std.proofs.lemmas.Bool.{cond-true, cond-false, and_from, and_parts, or_cases, or_left, or_right, and_cases, not-true, not-false, not_from_false, false_from_ne_true, false≢true, lt-ltb, le-ltb, cases_lt}
 use Rattle.std.proofs.lemmas.Option.{same_Some, cond_some}
 use Rattle.std.proofs.lemmas.List.{append_assoc, take-append-drop, length-take, drop_more, take_more, take_all, drop_all, append-nil}
 use Rattle.ddt_path.specs.Path.{is_path, is_prefix_path}
 use Rattle.ddt_path.specs.Covers.{covers, overlaps, is_same_path}
 use Rattle.ddt_path.specs.Free.{lengthened, parts_from, overlaps_none, free, is_free}
 use Rattle.ddt_path.proofs.CoverLemmas.{covers_self, covers_trans, covers-append, take-covered, length-covered, overlaps-take, next_digit, same_path}
+use Rattle.ddt_path.proofs.MemberLemmas.{IsIn, holds_at, list_all-map}
+use Rattle.ddt_path.proofs.FilterLemmas.{filter_in, all_kept}
 use Rattle.ddt_path.proofs.EndLemmas.{overlaps_whole}
 
 -- ---- the parts of a path
@@ -171,6 +173,17 @@ find_agree test other (p ∷ ps) same = ap (λ (b : Bool). cond b (Some p) (find
 pub free_agree : (authority : List ℕ) (s t : List (List ℕ)) (x : List ℕ) → ((p : List ℕ) → overlaps_none s p ≡ overlaps_none t p) → free authority s x ≡ free authority t x
 free_agree authority s t x same = find_agree (overlaps_none s) (overlaps_none t) (parts_from (length authority) x) same
 
+-- ---- what overlaps none of the prefixes that a test keeps
+
+module _ {A : Type 0} (prefix : A → List ℕ) (test : A → Bool) (xs : List A) (q : List ℕ) where
+  pub apart_from_kept : ((a : A) → IsIn a xs → test a ≡ true → overlaps (prefix a) q ≡ false) → overlaps_none (map prefix (filter test xs)) q ≡ true
+  apart_from_kept h = all_kept prefix (λ (p : List ℕ). not (overlaps p q)) test xs (λ a k t. not_from_false (overlaps (prefix a) q) (h a k t))
+
+  pub kept_apart : overlaps_none (map prefix (filter test xs)) q ≡ true → (a : A) → IsIn a xs → test a ≡ true → overlaps (prefix a) q ≡ false
+  kept_apart e a k t =
+      not-true (overlaps (prefix a) q) (holds_at (λ (y : A). not (overlaps (prefix y) q)) (filter test xs) a
+      (sym (list_all-map (λ (p : List ℕ). not (overlaps p q)) prefix (filter test xs)) ∙ e) (filter_in test xs a k t))
+
 -- ---- where a member covers x, nothing is free
 
 member_apart : (s : List (List ℕ)) (key p : List ℕ) → list_any (is_same_path key) s ≡ true → overlaps_none s p ≡ true → overlaps key p ≡ false
@@ -182,17 +195,13 @@ member_apart (k ∷ s) key p is none =
       | inr later ↦ member_apart s key p later parts.1
     ]
 
-pub false_where : (b : Bool) → (b ≡ true → ⊥) → b ≡ false
-false_where true h = absurd (h refl)
-false_where false h = refl
-
 -- what covers x overlaps all else that covers x
 overlaps_front : (key x p : List ℕ) → covers key x ≡ true → covers p x ≡ true → overlaps key p ≡ true
 overlaps_front key x p c d = ap (overlaps key) (sym (take-covered p x d)) ∙ overlaps-take key x (length p) c
 
 pub member_covers_none : (authority : List ℕ) (s : List (List ℕ)) (x key : List ℕ) → list_any (is_same_path key) s ≡ true → covers key x ≡ true → free authority s x ≡ None
 member_covers_none authority s x key is c =
-    none_free authority s x (λ p d. false_where (overlaps_none s p) (λ none.
+    none_free authority s x (λ p d. false_from_ne_true (overlaps_none s p) (λ none.
     false≢true (sym (member_apart s key p is none) ∙ overlaps_front key x p c d)))
 
 -- ---- where nothing is free, a member covers

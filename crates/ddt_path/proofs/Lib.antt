@@ -9,7 +9,9 @@ pub mod CoverLemmas
 pub mod EndLemmas
 pub mod HoleLemmas
 pub mod MemberLemmas
+pub mod FilterLemmas
+pub mod PathOrderLemmas
 pub mod FrontLemmas
 pub mod MatchingLemmas
-pub mod ChosenLemmas
 pub mod LocatorLemmas
+pub mod ActionLemmas

@@ -1,6 +1,7 @@
--- The best match of a list, for the longest and the shortest prefix at once.
-use Rattle.std.proofs.Common.{◌≡◌, ◌⊎◌, ℕ, ◌+◌, ◌<◌, ◌≤◌, Bool, true, false, cond, List, [], ◌∷◌, length, get_or, drop, map, Option, Some, None, refl, sym, ap, subst, ◌∙◌, arith, inl, inr}
-use Rattle.std.specs.Prelude.{nat_lt, MatchOption, ◌&&◌}
+-- The best match of a list, the longest or the shortest, by what the items of the list are. Which items a list has, and
+-- which of them pass a test, is in MemberLemmas; what a test keeps of a list is in FilterLemmas.
+use Rattle.std.proofs.Common.{◌≡◌, ◌⊎◌, ℕ, ◌+◌, ◌<◌, ◌≤◌, Bool, true, false, cond, List, [], ◌∷◌, length, get_or, drop, map, Option, Some, None, refl, sym, ap, ◌∙◌, arith, inl, inr}
+use Rattle.std.specs.Prelude.{MatchOption, ◌&&◌}
 use Rattle.std.specs.List.{filter}
 use Rattle.std.specs.Option.{option_map, option_map_or}
 use Rattle.std.proofs.lemmas.Bool.{cond-true, cond-false, lt-ltb, le-ltb, ltb-true, ltb-false, false≢true, and_cases}
@@ -14,20 +15,37 @@ use Rattle.ddt_path.proofs.MemberLemmas.{IsIn}
 
 -- ---- which of two lengths is preferred
 
-pub is_better-trans : (w : Preference) (l m n : ℕ) → is_better w l m ≡ true → is_better w m n ≡ true → is_better w l n ≡ true
+is_better-trans : (w : Preference) (l m n : ℕ) → is_better w l m ≡ true → is_better w m n ≡ true → is_better w l n ≡ true
 is_better-trans Longest l m n e f = let a = ltb-true m l e in let b = ltb-true n m f in lt-ltb n l (omega arith)
 is_better-trans Shortest l m n e f = let a = ltb-true l m e in let b = ltb-true m n f in lt-ltb l n (omega arith)
 
-pub is_better-not : (w : Preference) (l m n : ℕ) → is_better w l m ≡ false → is_better w m n ≡ false → is_better w l n ≡ false
+is_better-not : (w : Preference) (l m n : ℕ) → is_better w l m ≡ false → is_better w m n ≡ false → is_better w l n ≡ false
 is_better-not Longest l m n e f = let a = ltb-false m l e in let b = ltb-false n m f in le-ltb n l (omega arith)
 is_better-not Shortest l m n e f = let a = ltb-false l m e in let b = ltb-false m n f in le-ltb l n (omega arith)
 
+-- one length is preferred to another, or at least as good
+abbrev pub IsBetter : Preference → ℕ → ℕ → Type 0
+IsBetter Longest m n = n < m
+IsBetter Shortest m n = m < n
+
+abbrev pub IsAsGood : Preference → ℕ → ℕ → Type 0
+IsAsGood Longest m n = n ≤ m
+IsAsGood Shortest m n = m ≤ n
+
+is_better-from : (w : Preference) (m n : ℕ) → IsBetter w m n → is_better w m n ≡ true
+is_better-from Longest m n lt = lt-ltb n m lt
+is_better-from Shortest m n lt = lt-ltb m n lt
+
+as_good : (w : Preference) (m n : ℕ) → is_better w m n ≡ false → IsAsGood w n m
+as_good Longest m n e = ltb-false n m e
+as_good Shortest m n e = ltb-false m n e
+
 -- nothing is preferred to itself, nor both ways
-pub is_better-self : (w : Preference) (n : ℕ) → is_better w n n ≡ false
+is_better-self : (w : Preference) (n : ℕ) → is_better w n n ≡ false
 is_better-self Longest n = le-ltb n n (omega arith)
 is_better-self Shortest n = le-ltb n n (omega arith)
 
-pub is_better-back : (w : Preference) (m n : ℕ) → is_better w m n ≡ true → is_better w n m ≡ false
+is_better-back : (w : Preference) (m n : ℕ) → is_better w m n ≡ true → is_better w n m ≡ false
 is_better-back Longest m n e = let lt = ltb-true n m e in le-ltb m n (omega arith)
 is_better-back Shortest m n e = let lt = ltb-true m n e in le-ltb n m (omega arith)
 
@@ -155,19 +173,27 @@ module _ {A : Type 0} (w : Preference) (prefix : A → List ℕ) where
         rw t (ap (λ (y : A). beats y (better_of w prefix z m)) same ∙ unbeaten_first z m)
     unbeaten (z ∷ xs) b (inr later) c = unbeaten_more z b (best_match w prefix xs x) (unbeaten xs b later c) (covers (prefix z) x)
 
-    pub best_unbeaten : (xs : List A) (a b : A) → best_match w prefix xs x ≡ Some a → IsIn b xs → covers (prefix b) x ≡ true → is_better w (length (prefix b)) (length (prefix a)) ≡ false
-    best_unbeaten xs a b e k c = MatchOption-at_some ⊥ (λ (y : A). beats b y ≡ false) a e (unbeaten xs b k c)
+    pub best_unbeaten : (xs : List A) (a b : A) → best_match w prefix xs x ≡ Some a → IsIn b xs → covers (prefix b) x ≡ true → IsAsGood w (length (prefix a)) (length (prefix b))
+    best_unbeaten xs a b e k c = as_good w (length (prefix b)) (length (prefix a)) (MatchOption-at_some ⊥ (λ (y : A). beats b y ≡ false) a e (unbeaten xs b k c))
 
     pub best_there : (xs : List A) (b : A) → best_match w prefix xs x ≡ None → IsIn b xs → covers (prefix b) x ≡ true → ⊥
     best_there xs b e k c = MatchOption-at_none ⊥ (λ (y : A). beats b y ≡ false) e (unbeaten xs b k c)
 
+    -- where a member covers there is a best match, at least as good
+    pub best_found : (xs : List A) (b : A) → IsIn b xs → covers (prefix b) x ≡ true → (a : A) × (best_match w prefix xs x ≡ Some a) × IsAsGood w (length (prefix a)) (length (prefix b))
+    best_found xs b k c = go (best_match w prefix xs x) refl
+      where
+        go : (found : Option A) → best_match w prefix xs x ≡ found → (a : A) × (best_match w prefix xs x ≡ Some a) × IsAsGood w (length (prefix a)) (length (prefix b))
+        go None e = absurd (best_there xs b e k c)
+        go (Some a) e = (a, e, best_unbeaten xs a b e k c)
+
     -- the one best of the members that cover is the best match
     abbrev pub IsBeatenBy : A → A → Type 0
-    IsBeatenBy a b = (b ≡ a) ⊎ (is_better w (length (prefix a)) (length (prefix b)) ≡ true)
+    IsBeatenBy a b = (b ≡ a) ⊎ IsBetter w (length (prefix a)) (length (prefix b))
 
     no_better : (a b : A) → IsBeatenBy a b → beats b a ≡ false
     no_better a b (inl same) = ap (λ (y : A). beats y a) same ∙ is_better-self w (length (prefix a))
-    no_better a b (inr e) = is_better-back w (length (prefix a)) (length (prefix b)) e
+    no_better a b (inr better) = is_better-back w (length (prefix a)) (length (prefix b)) (is_better-from w (length (prefix a)) (length (prefix b)) better)
 
     stays_best : (z a : A) (m : Option A) → z ≡ a → ((b : A) → m ≡ Some b → IsBeatenBy a b) → better_of w prefix z m ≡ a
     stays_best z a None same h = same
@@ -175,7 +201,7 @@ module _ {A : Type 0} (w : Preference) (prefix : A → List ℕ) where
 
     becomes_best : (z a : A) → IsBeatenBy a z → better_of w prefix z (Some a) ≡ a
     becomes_best z a (inl same) = cond-false (beats a z) a z (ap (λ (y : A). beats a y) same ∙ is_better-self w (length (prefix a))) ∙ same
-    becomes_best z a (inr e) = cond-true (beats a z) a z e
+    becomes_best z a (inr better) = cond-true (beats a z) a z (is_better-from w (length (prefix a)) (length (prefix z)) better)
 
     pub best_is : (xs : List A) (a : A) → IsIn a xs → covers (prefix a) x ≡ true → ((b : A) → IsIn b xs → covers (prefix b) x ≡ true → IsBeatenBy a b) → best_match w prefix xs x ≡ Some a
     best_is [] a k c h = absurd k
@@ -215,8 +241,3 @@ module _ {A B : Type 0} (w : Preference) (f : A → B) (prefix : B → List ℕ)
   pub best_match-map : (xs : List A) (x : List ℕ) → best_match w prefix (map f xs) x ≡ option_map f (best_match w (λ a. prefix (f a)) xs x)
   best_match-map [] x = refl
   best_match-map (z ∷ xs) x = rw (best_match-map xs x) (map_case z (best_match w (λ a. prefix (f a)) xs x) (covers (prefix (f z)) x))
-
--- a test that all pass keeps all
-pub filter_everything : {A : Type 0} (xs : List A) → filter (λ _. true) xs ≡ xs
-filter_everything [] = refl
-filter_everything (x ∷ xs) = ap (λ (l : _). x ∷ l) (filter_everything xs)

@@ -1,11 +1,13 @@
--- Members of a list, and tests that hold of them.
-use Rattle.std.proofs.Common.{◌≡◌, ◌⊎◌, ℕ, zero, suc, ◌+◌, ◌<◌, ◌≤◌, Bool, true, false, cond, ◌&&◌, ◌||◌, ◌==◌, List, [], ◌∷◌, length, get_or, map, take, drop, find, Option, Some, None, refl, sym, ap, subst, ◌∙◌, arith, rules, inl, inr, nat_le}
-use Rattle.std.specs.Prelude.{nat_lt, unwrap_or, is_some}
-use Rattle.std.specs.List.{list_any, list_all, filter, All, AllByRecursion, Contains}
+-- Which items a list has, and tests that hold of one, of all and of none of them. What a test keeps of a list is in
+-- FilterLemmas.
+use Rattle.std.proofs.Common.{◌≡◌, ◌⊎◌, ℕ, zero, suc, ◌+◌, ◌<◌, Bool, true, false, cond, ◌&&◌, ◌||◌, List, [], ◌∷◌, length, get_or, map, take, drop, find, IsPermutation, Option, Some, None, refl, sym, ap, subst, ◌∙◌, arith, rules, inl, inr}
+use Rattle.std.specs.Prelude.{unwrap_or, is_some}
+use Rattle.std.specs.List.{list_any, list_all, All, AllByRecursion, Contains}
 use Rattle.std.specs.Option.{option_or}
-use Rattle.std.proofs.lemmas.Bool.{cond-true, cond-false, false≢true, and_parts, or_parts, eq-eqb, lt-ltb, ltb-true}
+use Rattle.std.proofs.lemmas.Bool.{cond-true, cond-false, false≢true, and_parts, or_parts, or_cases, or_left, or_right}
 use Rattle.std.proofs.lemmas.List.{drop_more, take_more}
 use Rattle.std.proofs.lemmas.List.Folds.{find-append}
+use Rattle.std.proofs.lemmas.List.Sorted.{Contains-permutation}
 use Rattle.std.proofs.lemmas.List.Elements.{All-from_recursion}
 
 abbrev pub IsIn : {A : Type 0} → A → List A → Type 0
@@ -25,28 +27,15 @@ contained [] x k = absurd k
 contained (y ∷ xs) x (inl same) = (0, omega arith, sym same)
 contained (y ∷ xs) x (inr later) = let k = contained xs x later in (suc k.0, omega (arith, k.1), k.2)
 
-in_kept : {A : Type 0} (test : A → Bool) (y : A) (xs kept : List A) (x : A) → (IsIn x kept → IsIn x xs × (test x ≡ true)) → (b : Bool) → test y ≡ b → IsIn x (cond b (y ∷ kept) kept) → IsIn x (y ∷ xs) × (test x ≡ true)
-in_kept test y xs kept x ih true e (inl same) = (inl same, ap test same ∙ e)
-in_kept test y xs kept x ih true e (inr later) = let p = ih later in (inr p.0, p.1)
-in_kept test y xs kept x ih false e later = let p = ih later in (inr p.0, p.1)
+-- a list in another order has the same members
+pub moved_in : {A : Type 0} (xs ys : List A) → IsPermutation xs ys → (a : A) → IsIn a xs → IsIn a ys
+moved_in xs ys moved a k = in_contained ys a (Contains-permutation xs ys a moved (contained xs a k))
 
-pub in_filter : {A : Type 0} (test : A → Bool) (xs : List A) (x : A) → IsIn x (filter test xs) → IsIn x xs × (test x ≡ true)
-in_filter test [] x h = absurd h
-in_filter test (y ∷ xs) x h = in_kept test y xs (filter test xs) x (in_filter test xs x) (test y) refl h
-
-in_more : {A : Type 0} (y : A) (kept : List A) (x : A) (b : Bool) → IsIn x kept → IsIn x (cond b (y ∷ kept) kept)
-in_more y kept x true h = inr h
-in_more y kept x false h = h
-
-pub filter_in : {A : Type 0} (test : A → Bool) (xs : List A) (x : A) → IsIn x xs → test x ≡ true → IsIn x (filter test xs)
-filter_in test [] x h e = absurd h
-filter_in test (y ∷ xs) x (inl same) e = subst (IsIn x) (sym (cond-true (test y) (y ∷ filter test xs) (filter test xs) (ap test (sym same) ∙ e))) (inl same)
-filter_in test (y ∷ xs) x (inr later) e = in_more y (filter test xs) x (test y) (filter_in test xs x later e)
-
--- tests that agree at each member keep the same members
-pub filter_same : {A : Type 0} (p q : A → Bool) (xs : List A) → ((x : A) → IsIn x xs → p x ≡ q x) → filter p xs ≡ filter q xs
-filter_same p q [] h = refl
-filter_same p q (x ∷ xs) h = rw (h x (inl refl), filter_same p q xs (λ y k. h y (inr k))) refl
+-- tests that follow from each other are one
+pub iff_same : (x y : Bool) → (x ≡ true → y ≡ true) → (y ≡ true → x ≡ true) → x ≡ y
+iff_same true y f g = sym (f refl)
+iff_same false true f g = g refl
+iff_same false false f g = refl
 
 pub all_of : {A : Type 0} (test : A → Bool) (xs : List A) → ((x : A) → IsIn x xs → test x ≡ true) → list_all test xs ≡ true
 all_of test [] h = refl
@@ -66,7 +55,21 @@ holds_at test [] x e h = absurd h
 holds_at test (y ∷ xs) x e (inl same) = ap test same ∙ (and_parts (test y) (list_all test xs) e).0
 holds_at test (y ∷ xs) x e (inr later) = holds_at test xs x (and_parts (test y) (list_all test xs) e).1 later
 
--- what comes after an item is a member and stands in a higher row
+-- some member passes if and only if the test of some member does
+pub any_in : {A : Type 0} (test : A → Bool) (xs : List A) → list_any test xs ≡ true → (x : A) × IsIn x xs × (test x ≡ true)
+any_in test [] e = absurd (false≢true e)
+any_in test (y ∷ xs) e =
+    elim (or_cases (test y) (list_any test xs) e) [
+      | inl here ↦ (y, inl refl, here)
+      | inr later ↦ let found = any_in test xs later in (found.0, inr found.1, found.2)
+    ]
+
+pub in_any : {A : Type 0} (test : A → Bool) (xs : List A) (x : A) → IsIn x xs → test x ≡ true → list_any test xs ≡ true
+in_any test [] x k e = absurd k
+in_any test (y ∷ xs) x (inl same) e = or_left (test y) (list_any test xs) (ap test (sym same) ∙ e)
+in_any test (y ∷ xs) x (inr later) e = or_right (test y) (list_any test xs) (in_any test xs x later e)
+
+-- what comes after an item is a member
 pub in_later : {A : Type 0} (xs : List A) (n : ℕ) (y : A) → IsIn y (drop n xs) → IsIn y xs
 in_later xs zero y k = k
 in_later [] (suc n) y k = absurd k
@@ -83,9 +86,6 @@ list_any-map test f (x ∷ xs) = ap (λ b. test (f x) || b) (list_any-map test f
 pub list_all-map : {A B : Type 0} (test : B → Bool) (f : A → B) (xs : List A) → list_all test (map f xs) ≡ list_all (λ x. test (f x)) xs
 list_all-map test f [] = refl
 list_all-map test f (x ∷ xs) = ap (λ b. test (f x) && b) (list_all-map test f xs)
-
-pub all_kept : {A B : Type 0} (f : A → B) (good : B → Bool) (test : A → Bool) (xs : List A) → ((a : A) → IsIn a xs → test a ≡ true → good (f a) ≡ true) → list_all good (map f (filter test xs)) ≡ true
-all_kept f good test xs h = list_all-map good f (filter test xs) ∙ all_of (λ x. good (f x)) (filter test xs) (λ x k. let p = in_filter test xs x k in h x p.0 p.1)
 
 -- what holds of all that is made of one list holds of a list of the same image
 each_made : {A B C : Type 0} (P : C → Type 0) (f : A → C) (g : B → C) (xs : List A) (ys : List B) → ((y : B) → IsIn y ys → P (g y)) → map f xs ≡ map g ys → AllByRecursion (λ x. P (f x)) xs

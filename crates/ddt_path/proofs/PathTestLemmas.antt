@@ -2,7 +2,7 @@
 use Rattle.std.proofs.Common.{◌≡◌, ℕ, zero, suc, ◌+◌, ◌-◌, ◌*◌, ◌/◌, ◌%◌, ◌^◌, ◌<◌, ◌≤◌, true, List, [], ◌∷◌, ◌++◌, length, take, drop, refl, sym, ap, subst, ◌∙◌, arith, inl, inr}
 use Rattle.std.specs.Prelude.{nat_lt, nat_le, replicate, ◌==◌, ◌&&◌, ◌||◌}
 use Rattle.std.specs.Int.Digits.{number_from_digits_after}
-use Rattle.std.proofs.lemmas.Bool.{lt-ltb, ltb-true, and_parts, and_from, or_cases, le-leb, leb-true, eqb-true}
+use Rattle.std.proofs.lemmas.Bool.{lt-ltb, ltb-true, and_parts, and_from, or_cases, or_left, or_right, false≢true, le-leb, leb-true, eqb-true}
 use Rattle.std.proofs.lemmas.List.{take_at, drop_at, take_all, drop_all, take-append-drop, length-take, length-drop, length-append, length-replicate, append-nil}
 use Rattle.std.proofs.lemmas.List.Folds.{list_all-append}
 use Rattle.std.proofs.lemmas.Nat.{pow-add, pow_pos, le-div, div_below, mul-le}
@@ -13,7 +13,9 @@ use Rattle.ddt_path.specs.declared.form.Form.{Form}
 use Rattle.ddt_path.specs.declared.form.Form.TheVariants.{Range, Block}
 use Rattle.ddt_path.specs.Path.{digits, path, xeid_path, address_path, address_digits, address_number, address_width, family, are_binary, is_address_part, is_address_front, is_path, is_prefix_path, are_zero, IsForm, IsInRange}
 use Rattle.ddt_path.specs.DigitLemmas.{length-digits}
+use Rattle.ddt_path.specs.Covers.{covers}
 use Rattle.ddt_path.proofs.PrefixLemmas.{replicate-are_zero}
+use Rattle.ddt_path.proofs.CoverLemmas.{length-covered}
 
 are_binary-digits : (w x : ℕ) → are_binary (digits w x) ≡ true
 unfolding digits
@@ -189,3 +191,53 @@ form_of_prefix ds e =
     let m = length-drop 32 ds in
     let found = form_of_parts (take 32 ds) (drop 32 ds) (omega arith) (λ some. omega arith) p.0 p.1 in
     (found.0, found.1, found.2 ∙ take-append-drop 32 ds)
+
+-- ---- what covers an identifier is a prefix
+
+binary_front : (q x : List ℕ) → covers q x ≡ true → are_binary x ≡ true → are_binary q ≡ true
+binary_front [] x c e = refl
+binary_front (d ∷ q) [] c e = absurd (false≢true c)
+binary_front (d ∷ q) (h ∷ x) c e =
+    let s = and_parts (d == h) (covers q x) c in
+    let b = and_parts (nat_lt h 2) (are_binary x) e in
+    and_from (nat_lt d 2) (are_binary q) (ap (λ (n : ℕ). nat_lt n 2) (eqb-true d h s.0) ∙ b.0) (binary_front q x s.1 b.1)
+
+fits_too : (symbol m n : ℕ) → m ≤ n → ((symbol == 4 && n == 32) || (symbol == 6 && n == 128)) ≡ true → ((symbol == 4 && nat_le m 32) || (symbol == 6 && nat_le m 128)) ≡ true
+fits_too symbol m n le e = elim (or_cases (symbol == 4 && n == 32) (symbol == 6 && n == 128) e) [
+  | inl four ↦
+      let p = and_parts (symbol == 4) (n == 32) four in
+      let is : n ≡ 32 = eqb-true n 32 p.1 in
+      let small : m ≤ 32 = omega arith in
+      or_left (symbol == 4 && nat_le m 32) (symbol == 6 && nat_le m 128) (and_from (symbol == 4) (nat_le m 32) p.0 (le-leb m 32 small))
+  | inr six ↦
+      let p = and_parts (symbol == 6) (n == 128) six in
+      let is : n ≡ 128 = eqb-true n 128 p.1 in
+      let small : m ≤ 128 = omega arith in
+      or_right (symbol == 4 && nat_le m 32) (symbol == 6 && nat_le m 128) (and_from (symbol == 6) (nat_le m 128) p.0 (le-leb m 128 small))
+]
+
+address_too : (q x : List ℕ) → covers q x ≡ true → is_address_part x ≡ true → is_address_front q ≡ true
+address_too [] x c e = refl
+address_too (d ∷ q) [] c e = absurd (false≢true c)
+address_too (d ∷ q) (h ∷ x) c e =
+    let s = and_parts (d == h) (covers q x) c in
+    let p = and_parts (are_binary x) ((h == 4 && length x == 32) || (h == 6 && length x == 128)) e in
+    and_from (are_binary q) ((d == 4 && nat_le (length q) 32) || (d == 6 && nat_le (length q) 128))
+    (binary_front q x s.1 p.0)
+    (ap (λ (symbol : ℕ). (symbol == 4 && nat_le (length q) 32) || (symbol == 6 && nat_le (length q) 128)) (eqb-true d h s.0) ∙ fits_too h (length q) (length x) (length-covered q x s.1) p.1)
+
+front_too : (n : ℕ) (q x : List ℕ) → covers q x ≡ true → are_binary (take n x) ≡ true → is_address_part (drop n x) ≡ true → (are_binary (take n q) ≡ true) × (is_address_front (drop n q) ≡ true)
+front_too zero q x c e f = (refl, address_too q x c f)
+front_too (suc n) [] x c e f = (refl, refl)
+front_too (suc n) (d ∷ q) [] c e f = absurd (false≢true c)
+front_too (suc n) (d ∷ q) (h ∷ x) c e f =
+    let s = and_parts (d == h) (covers q x) c in
+    let b = and_parts (nat_lt h 2) (are_binary (take n x)) e in
+    let rest = front_too n q x s.1 b.1 f in
+    (and_from (nat_lt d 2) (are_binary (take n q)) (ap (λ (m : ℕ). nat_lt m 2) (eqb-true d h s.0) ∙ b.0) rest.0, rest.1)
+
+pub prefix_that_covers : (q x : List ℕ) → is_path x ≡ true → covers q x ≡ true → is_prefix_path q ≡ true
+prefix_that_covers q x e c =
+    let p = and_parts (are_binary (take 32 x)) (is_address_part (drop 32 x)) e in
+    let both = front_too 32 q x c p.0 p.1 in
+    and_from (are_binary (take 32 q)) (is_address_front (drop 32 q)) both.0 both.1

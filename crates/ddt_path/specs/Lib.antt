@@ -8,4 +8,5 @@ pub mod Free
 pub mod Names
 pub mod Slots
 pub mod Locators
+pub mod Actions
 pub mod Records

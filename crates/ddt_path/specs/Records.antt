@@ -2,8 +2,8 @@
 use Rattle.std.specs.Prelude.{ℕ, true, false, List, []}
 use Rattle.ddt_path.specs.declared.record.Role.{Role}
 use Rattle.ddt_path.specs.declared.record.Role.TheVariants.{Node, Ms}
-use Rattle.ddt_path.specs.declared.record.Action.{Action}
-use Rattle.ddt_path.specs.declared.record.Action.TheVariants.{NodeReferral, MsReferral, MsAck, MsNotRegistered, DelegationHole, NotAuthoritative}
+use Rattle.ddt_path.specs.declared.action.Action.{Action}
+use Rattle.ddt_path.specs.declared.action.Action.TheVariants.{NodeReferral, MsReferral, MsAck, MsNotRegistered, DelegationHole, NotAuthoritative}
 use Rattle.ddt_path.specs.declared.record.Outcome.{Outcome}
 use Rattle.ddt_path.specs.declared.record.Outcome.TheVariants.{Registered, NotRegistered, Hole}
 use Rattle.ddt_path.specs.declared.record.ReferralRecord.{ReferralRecord}
@@ -18,6 +18,9 @@ hole_ttl = 15
 
 abbrev pub not_registered_ttl : ℕ
 not_registered_ttl = 1
+
+abbrev pub not_authoritative_ttl : ℕ
+not_authoritative_ttl = 0
 
 abbrev pub referral_action : Role → Action
 referral_action Node = NodeReferral
@@ -59,4 +62,10 @@ record_of (Hole prefix) = record {
 
 -- the answer of a server that is in charge of no prefix of the identifier: the whole identifier, not to be kept
 abbrev pub not_authoritative : List ℕ → ReferralRecord
-not_authoritative x = record { action = NotAuthoritative; prefix = x; ttl = 0; incomplete = true; servers = [] }
+not_authoritative x = record {
+  action = NotAuthoritative;
+  prefix = x;
+  ttl = not_authoritative_ttl;
+  incomplete = true;
+  servers = [];
+}

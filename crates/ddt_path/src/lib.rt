@@ -1,9 +1,10 @@
 //! The words that all crates speak.
 //!
 //! In reading order: `locator`, `xeid`, `form`, `prefix` (with `masks` below them), `prefixed`, `matching`;
-//! `locator_set`, `record`; `name`, `listed`; and the laws, `fronts` and `holes`.
+//! `locator_set`, `action`, `record`; `name`, `listed`; and the laws, `fronts` and `holes`.
 #![tactic(auto)]
 
+mod action;
 mod form;
 mod fronts;
 mod holes;
@@ -18,6 +19,7 @@ mod prefixed;
 mod record;
 mod xeid;
 
+pub use action::Action;
 pub use form::{Form, PrefixFault};
 pub use fronts::the_longest_common_front;
 pub use holes::{
@@ -31,7 +33,8 @@ pub use name::{LONGEST_NAME, Name};
 pub use prefix::Prefix;
 pub use prefixed::Prefixed;
 pub use record::{
-    Action, HOLE_TTL, NOT_REGISTERED_TTL, Outcome, POSITIVE_TTL, ReferralRecord, Role,
+    HOLE_TTL, NOT_AUTHORITATIVE_TTL, NOT_REGISTERED_TTL, Outcome, POSITIVE_TTL, ReferralRecord,
+    Role,
 };
 pub use xeid::Xeid;
 

@@ -160,7 +160,7 @@ impl Prefix {
     }
 
     /// An identifier that the prefix covers, as any of instance 0 for everything.
-    fn inner(self) -> Xeid
+    pub fn inner(self) -> Xeid
         ensures front { take (length self) (xeid_path result) ≡ self }
         ensures fits { length self ≤ length (xeid_path result) }
     {

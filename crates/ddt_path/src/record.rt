@@ -1,10 +1,11 @@
-//! What a server answers (RFC 8111, sections 6.1 to 6.3: action, referral set, the Incomplete flag), and what a lookup
-//! ends with.
+//! What a server answers (RFC 8111, sections 6.1 to 6.3: action, referral set, the Incomplete flag) and how long it may
+//! be kept, and what a lookup ends with.
 
 ghost use Rattle.std.specs.Prelude.{◌≡◌};
 ghost use Rattle.ddt_path.specs.Path.{xeid_path};
 ghost use Rattle.ddt_path.specs.Records.{referral as referral_to, record_of, not_authoritative as not_authoritative_for};
 
+use crate::action::Action;
 use crate::locator_set::LocatorSet;
 use crate::prefix::Prefix;
 use crate::xeid::Xeid;
@@ -18,6 +19,9 @@ pub const HOLE_TTL: u32 = 15;
 /// How long it may be kept that a site isn't registered, in minutes.
 pub const NOT_REGISTERED_TTL: u32 = 1;
 
+/// How long it may be kept that a server isn't in charge of an identifier, in minutes: not at all.
+pub const NOT_AUTHORITATIVE_TTL: u32 = 0;
+
 /// What a server group is: a DDT node, or the Map-Servers.
 #[derive(Clone, Copy, Debug, PartialEq, Eq, PartialOrd, Ord, Hash)]
 pub enum Role {
@@ -25,23 +29,6 @@ pub enum Role {
     Node,
     /// Map-Servers, which know the sites in their zones.
     Ms,
-}
-
-/// The action of a Map-Referral; its number on the wire is that of its place, from 0.
-#[derive(Clone, Copy, Debug, PartialEq, Eq, PartialOrd, Ord, Hash)]
-pub enum Action {
-    /// 0 NODE-REFERRAL: ask the node that the prefix is delegated to.
-    NodeReferral,
-    /// 1 MS-REFERRAL: ask the Map-Server that the prefix is delegated to.
-    MsReferral,
-    /// 2 MS-ACK: a site of the prefix is registered.
-    MsAck,
-    /// 3 MS-NOT-REGISTERED: a site of the prefix is known and not registered.
-    MsNotRegistered,
-    /// 4 DELEGATION-HOLE: nothing is delegated for the prefix.
-    DelegationHole,
-    /// 5 NOT-AUTHORITATIVE: the server isn't in charge of the identifier.
-    NotAuthoritative,
 }
 
 /// The one record of a Map-Referral.
@@ -118,7 +105,7 @@ impl ReferralRecord {
         ReferralRecord {
             action: Action::NotAuthoritative,
             prefix: Prefix::host(x),
-            ttl: 0,
+            ttl: NOT_AUTHORITATIVE_TTL,
             incomplete: true,
             servers: LocatorSet::none(),
         }

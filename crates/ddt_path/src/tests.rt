@@ -104,3 +104,23 @@ fn a_locator_that_stands_twice_is_found(rt: HostRuntime) {
         [one, other].as_slice()
     );
 }
+
+#[test]
+fn actions_have_a_number_and_a_name(rt: HostRuntime) -> Result<(), Fail> {
+    let rows = [
+        (Action::NodeReferral, 0, "NODE-REFERRAL"),
+        (Action::MsReferral, 1, "MS-REFERRAL"),
+        (Action::MsAck, 2, "MS-ACK"),
+        (Action::MsNotRegistered, 3, "MS-NOT-REGISTERED"),
+        (Action::DelegationHole, 4, "DELEGATION-HOLE"),
+        (Action::NotAuthoritative, 5, "NOT-AUTHORITATIVE"),
+    ];
+    for (action, number, name) in rows {
+        assert_eq!(rt; action.number(), number);
+        assert_eq!(rt; Action::of_number(number), Some(action));
+        assert_eq!(rt; action.name(), name);
+        assert_eq!(rt; format!(in rt.alloc(); "{action}")?.as_str(), name);
+    }
+    assert!(rt; Action::of_number(6).is_none() && Action::of_number(u8::MAX).is_none());
+    Ok(())
+}

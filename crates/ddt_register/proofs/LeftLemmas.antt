@@ -12,7 +12,6 @@ use Rattle.csv.specs.declared.error.ErrorKind.TheVariants as kind
 use Rattle.std.proofs.lemmas.Bool.{false≢true}
 use Rattle.csv.proofs.ReadFacts.{rows-end}
 use Rattle.ddt_register.specs.Left.{AtMost, IsReading, IsLeft, Takes, csv_fault}
-use Rattle.ddt_register.specs.declared.fault.ReadFault.TheVariants as Fault
 
 -- ---- a text becomes shorter by each record, or is at its end
 

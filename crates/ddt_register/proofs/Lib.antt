@@ -7,3 +7,4 @@ pub mod SpelledLemmas
 pub mod MidwayLemmas
 pub mod RisingLemmas
 pub mod CountLemmas
+pub mod RowOrderLemmas

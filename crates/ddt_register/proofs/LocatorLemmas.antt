@@ -5,9 +5,10 @@ use Rattle.std.proofs.lemmas.Iterator.{YieldsList}
 use Rattle.std.specs.Iterator.{AlwaysYields}
 use Rattle.ddt_path.specs.declared.locator.Locator.{Locator}
 use Rattle.ddt_text.specs.FirstFault.{locator_in}
+use Rattle.ddt_reading.specs.Steps.{◌>>=◌}
 use Rattle.ddt_register.specs.declared.fault.ReadFault.{ReadFault}
 use Rattle.ddt_register.specs.declared.fault.ReadFault.TheVariants as Fault
-use Rattle.ddt_register.specs.Spelled.{on_ok, field_of, each_locator, UnlessMemory}
+use Rattle.ddt_register.specs.Spelled.{field_of, each_locator, UnlessMemory}
 
 -- what one call of `next` says of the list that an iterator has left
 ended : {S A B : Type 0} (steps : S → Option A → S → Type 0) (v : A → B) (left : List B) (old new : S) → AlwaysYields steps v old left → steps old None new → left ≡ []
@@ -20,9 +21,9 @@ went steps v (y ∷ ys) old new x h s = (ys, ap (λ w. w ∷ ys) (sym (h.1 x new
 
 -- some locators, and then those of what is left
 abbrev pub onto : List Locator → Result (List Locator) ReadFault → Result (List Locator) ReadFault
-onto locators rest = on_ok rest λ more. Ok (locators ++ more)
+onto locators rest = rest >>= λ more. Ok (locators ++ more)
 
-onto-cons : (locators : List Locator) (a : Locator) (rest : Result (List Locator) ReadFault) → onto locators (on_ok rest λ more. Ok (a ∷ more)) ≡ onto (locators ++ a ∷ []) rest
+onto-cons : (locators : List Locator) (a : Locator) (rest : Result (List Locator) ReadFault) → onto locators (rest >>= λ more. Ok (a ∷ more)) ≡ onto (locators ++ a ∷ []) rest
 onto-cons locators a (Ok more) = ap Ok (sym (append_assoc locators (a ∷ []) more))
 onto-cons locators a (Err why) = refl
 

@@ -1,17 +1,18 @@
 -- What records spell, record after record.
 use Rattle.std.proofs.Common.{◌≡◌, ◌≢◌, ℕ, zero, suc, ◌+◌, ◌<◌, ◌≤◌, add-zero, List, [], ◌∷◌, ◌++◌, length, take, Bool, true, false, Result, Ok, Err, refl, sym, ap, subst, ◌∙◌, arith}
-use Rattle.std.specs.Prelude.{⊤, ◌==◌, ◌&&◌, nat_lt, nat_le, codes, if◌then◌else◌}
-use Rattle.std.proofs.lemmas.Bool.{and_parts, lt-ltb, ltb-true, ltb-false}
+use Rattle.std.specs.Prelude.{⊤, ◌==◌, nat_lt, codes, if◌then◌else◌}
+use Rattle.std.proofs.lemmas.Bool.{lt-ltb, ltb-false}
 use Rattle.std.proofs.lemmas.List.{append-nil}
 use Rattle.ddt_path.specs.declared.record.Role.{Role}
 use Rattle.ddt_path.specs.declared.record.Role.TheVariants.{Node, Ms}
 use Rattle.ddt_text.specs.FirstFault.{prefix_in}
+use Rattle.ddt_reading.specs.Steps.{◌>>=◌}
 use Rattle.ddt_register.specs.declared.row.Row.{Row}
 use Rattle.ddt_register.specs.declared.row.Row.TheVariants as Of
 use Rattle.ddt_register.specs.declared.fault.ReadFault.{ReadFault}
 use Rattle.ddt_register.specs.declared.fault.ReadFault.TheVariants as Fault
-use Rattle.ddt_register.specs.Rows.{rise, are_apart, zone_rows, site_rows, group_rows, are_rows}
-use Rattle.ddt_register.specs.Spelled.{Lists, no_items, with_first, on_ok, field_of, name_in, locators_in, group_in, zone_in, site_in, fields_in, row_in, rows_in, are_columns, spelled, is_text}
+use Rattle.ddt_register.specs.Rows.{most_rows, rise, are_apart, zone_rows, site_rows, group_rows, are_rows}
+use Rattle.ddt_register.specs.Spelled.{Lists, no_items, with_first, field_of, name_in, locators_in, group_in, zone_in, site_in, fields_in, row_in, rows_in, are_columns, spelled, is_text}
 use Rattle.ddt_register.specs.Kept.{with_last}
 use Rattle.ddt_register.proofs.FieldLemmas.{four_fields}
 use Rattle.ddt_register.proofs.RisingLemmas.{rise-lower}
@@ -26,7 +27,7 @@ abbrev joined : Lists → Lists → Lists
 joined a b = record { zones = a.zones ++ b.zones; sites = a.sites ++ b.sites; groups = a.groups ++ b.groups }
 
 abbrev after_items : Lists → Result Lists ReadFault → Result Lists ReadFault
-after_items items rest = on_ok rest λ more. Ok (joined items more)
+after_items items rest = rest >>= λ more. Ok (joined items more)
 
 joined-first : (item : Row) (a b : Lists) → with_first item (joined a b) ≡ joined (with_first item a) b
 joined-first (Of.Zone zone) a b = refl
@@ -45,12 +46,12 @@ after_items-none : (r : Result Lists ReadFault) → r ≡ after_items no_items r
 after_items-none (Ok more) = refl
 after_items-none (Err fault) = refl
 
-after_items-first : (item : Row) (items : Lists) (r : Result Lists ReadFault) → on_ok (after_items items r) (λ more. Ok (with_first item more)) ≡ after_items (with_first item items) r
+after_items-first : (item : Row) (items : Lists) (r : Result Lists ReadFault) → (after_items items r >>= (λ more. Ok (with_first item more))) ≡ after_items (with_first item items) r
 after_items-first item items (Ok more) = ap Ok (joined-first item items more)
 after_items-first item items (Err fault) = refl
 
 -- the item of a row and those of the rows after it
-parts_of : (r : Result Row ReadFault) (rest : Result Lists ReadFault) (items : Lists) → on_ok r (λ item. on_ok rest λ more. Ok (with_first item more)) ≡ Ok items
+parts_of : (r : Result Row ReadFault) (rest : Result Lists ReadFault) (items : Lists) → (r >>= (λ item. (rest >>= λ more. Ok (with_first item more)))) ≡ Ok items
     → (item : Row) × (more : Lists) × (r ≡ Ok item) × (rest ≡ Ok more) × (with_first item more ≡ items)
 parts_of (Ok item) (Ok more) items e = (item, more, refl, refl, ok_eq _ items e)
 parts_of (Ok item) (Err fault) items e = cc e
@@ -93,9 +94,9 @@ record InRow (n : ℕ) (r : Result Row ReadFault) : Type 0 where
 InRow-fault : {n : ℕ} {fault : ReadFault} → InRow n (Err fault)
 InRow-fault = record { here = tt }
 
-InRow-on_ok : {A : Type 0} {n : ℕ} (r : Result A ReadFault) {next : A → Result Row ReadFault} → ((a : A) → InRow n (next a)) → InRow n (on_ok r next)
-InRow-on_ok (Ok a) h = h a
-InRow-on_ok (Err fault) h = InRow-fault
+InRow-step : {A : Type 0} {n : ℕ} (r : Result A ReadFault) {next : A → Result Row ReadFault} → ((a : A) → InRow n (next a)) → InRow n (r >>= next)
+InRow-step (Ok a) h = h a
+InRow-step (Err fault) h = InRow-fault
 
 InRow-if : {n : ℕ} (b : Bool) {good bad : Result Row ReadFault} → InRow n good → InRow n bad → InRow n (if b then good else bad)
 InRow-if true h k = h
@@ -103,15 +104,15 @@ InRow-if false h k = k
 
 group_in-row : (n : ℕ) (role : Role) (prefix group addresses : List ℕ) → InRow n (group_in role n prefix group addresses)
 group_in-row n role prefix group addresses =
-    InRow-if (length prefix == 0) (InRow-on_ok (name_in (Fault.Name n) group) λ name. InRow-on_ok (locators_in (Fault.Address n) addresses) λ locators. record { here = refl }) InRow-fault
+    InRow-if (length prefix == 0) (InRow-step (name_in (Fault.Name n) group) λ name. InRow-step (locators_in (Fault.Address n) addresses) λ locators. record { here = refl }) InRow-fault
 
 zone_in-row : (n : ℕ) (role : Role) (prefix group addresses : List ℕ) → InRow n (zone_in role n prefix group addresses)
 zone_in-row n role prefix group addresses =
-    InRow-on_ok (field_of (Fault.Prefix n) (prefix_in prefix)) λ path. InRow-on_ok (name_in (Fault.Name n) group) λ name. InRow-if (length addresses == 0) (record { here = refl }) InRow-fault
+    InRow-step (field_of (Fault.Prefix n) (prefix_in prefix)) λ path. InRow-step (name_in (Fault.Name n) group) λ name. InRow-if (length addresses == 0) (record { here = refl }) InRow-fault
 
 site_in-row : (n : ℕ) (prefix group addresses : List ℕ) → InRow n (site_in n prefix group addresses)
 site_in-row n prefix group addresses =
-    InRow-on_ok (field_of (Fault.Prefix n) (prefix_in prefix)) λ path. InRow-if (length group == 0) (InRow-on_ok (locators_in (Fault.Address n) addresses) λ etrs. record { here = refl }) InRow-fault
+    InRow-step (field_of (Fault.Prefix n) (prefix_in prefix)) λ path. InRow-if (length group == 0) (InRow-step (locators_in (Fault.Address n) addresses) λ etrs. record { here = refl }) InRow-fault
 
 fields_in-row : (n : ℕ) (kind prefix group addresses : List ℕ) → InRow n (fields_in n kind prefix group addresses)
 fields_in-row n kind prefix group addresses =
@@ -220,6 +221,6 @@ rows_in-take zero n (fields ∷ rows) e =
     rw late.1 refl
 rows_in-take (suc m) n (fields ∷ rows) e = rw (rows_in-take m (n + 1) rows (omega arith)) refl
 
-pub spelled-take : (records : List (List (List ℕ))) → spelled (take 65537 records) ≡ spelled records
+pub spelled-take : (records : List (List (List ℕ))) → spelled (take (most_rows + 2) records) ≡ spelled records
 spelled-take [] = refl
-spelled-take (columns ∷ rows) = ap (λ (r : Result Lists ReadFault). if are_columns columns then r else Err Fault.Columns) (rows_in-take 65535 1 rows refl)
+spelled-take (columns ∷ rows) = ap (λ (r : Result Lists ReadFault). if are_columns columns then r else Err Fault.Columns) (rows_in-take most_rows 1 rows refl)

@@ -1,6 +1,6 @@
 -- Whether the numbers of a register's items are in the ranges of their types: prefixes are fronts of paths, names are
 -- names, and locators fit their family. Every register passes.
-use Rattle.std.specs.Prelude.{ℕ, Bool, ◌&&◌, ◌^◌, nat_lt, List}
+use Rattle.std.specs.Prelude.{Bool, ◌&&◌, ◌^◌, nat_lt, List}
 use Rattle.std.specs.List.{list_all}
 use Rattle.ddt_path.specs.declared.locator.Locator.{Locator}
 use Rattle.ddt_path.specs.Path.{address_number, address_width, is_prefix_path}

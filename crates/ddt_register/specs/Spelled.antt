@@ -14,6 +14,7 @@ use Rattle.ddt_path.specs.declared.record.Role.{Role}
 use Rattle.ddt_path.specs.declared.record.Role.TheVariants.{Node, Ms}
 use Rattle.ddt_path.specs.Names.{is_name}
 use Rattle.ddt_text.specs.FirstFault.{prefix_in, locator_in}
+use Rattle.ddt_reading.specs.Steps.{◌>>=◌}
 use Rattle.ddt_register.specs.declared.zone.Zone.{Zone}
 use Rattle.ddt_register.specs.declared.site.Site.{Site}
 use Rattle.ddt_register.specs.declared.group.Group.{Group}
@@ -36,11 +37,6 @@ fault_row Fault.TooMany = None
 fault_row Fault.Read = None
 fault_row Fault.Memory = None
 
--- `next` on a value, and a fault as it is
-abbrev pub on_ok : {A B : Type 0} → Result A ReadFault → (A → Result B ReadFault) → Result B ReadFault
-on_ok (Ok a) next = next a
-on_ok (Err fault) next = Err fault
-
 -- ---- the fields of a row
 
 -- what a field is read as, with one fault for whatever is wrong with it
@@ -58,10 +54,10 @@ name_in fault text = if is_name text then Ok text else Err fault
 -- the locator that each part spells
 abbrev pub each_locator : ReadFault → List (List ℕ) → Result (List Locator) ReadFault
 each_locator fault [] = Ok []
-each_locator fault (part ∷ parts) =
-    on_ok (field_of fault (locator_in part)) λ locator.
-    on_ok (each_locator fault parts) λ locators.
-    Ok (locator ∷ locators)
+each_locator fault (part ∷ parts) = do
+  locator ← field_of fault (locator_in part)
+  locators ← each_locator fault parts
+  Ok (locator ∷ locators)
 
 -- no locator, or some with one space, the byte 32, between them
 abbrev pub locators_in : ReadFault → List ℕ → Result (List Locator) ReadFault
@@ -72,23 +68,23 @@ locators_in fault text = if length text == 0 then Ok [] else each_locator fault 
 abbrev pub group_in : Role → ℕ → List ℕ → List ℕ → List ℕ → Result Row ReadFault
 group_in role row prefix group addresses =
     if_empty (Fault.Prefix row) prefix (
-    on_ok (name_in (Fault.Name row) group) λ name.
-    on_ok (locators_in (Fault.Address row) addresses) λ locators.
+    name_in (Fault.Name row) group >>= λ name.
+    locators_in (Fault.Address row) addresses >>= λ locators.
     Ok (Of.Group (record { name = name; kind = role; locators = locators; row = row })))
 
 abbrev pub zone_in : Role → ℕ → List ℕ → List ℕ → List ℕ → Result Row ReadFault
-zone_in role row prefix group addresses =
-    on_ok (field_of (Fault.Prefix row) (prefix_in prefix)) λ path.
-    on_ok (name_in (Fault.Name row) group) λ name.
-    if_empty (Fault.Address row) addresses (
-    Ok (Of.Zone (record { prefix = path; kind = role; group = name; row = row })))
+zone_in role row prefix group addresses = do
+  path ← field_of (Fault.Prefix row) (prefix_in prefix)
+  name ← name_in (Fault.Name row) group
+  if_empty (Fault.Address row) addresses (
+      Ok (Of.Zone (record { prefix = path; kind = role; group = name; row = row })))
 
 abbrev pub site_in : ℕ → List ℕ → List ℕ → List ℕ → Result Row ReadFault
-site_in row prefix group addresses =
-    on_ok (field_of (Fault.Prefix row) (prefix_in prefix)) λ path.
-    if_empty (Fault.Name row) group (
-    on_ok (locators_in (Fault.Address row) addresses) λ etrs.
-    Ok (Of.Site (record { prefix = path; etrs = etrs; row = row })))
+site_in row prefix group addresses = do
+  path ← field_of (Fault.Prefix row) (prefix_in prefix)
+  if_empty (Fault.Name row) group (
+      locators_in (Fault.Address row) addresses >>= λ etrs.
+      Ok (Of.Site (record { prefix = path; etrs = etrs; row = row })))
 
 -- whether a text is this one
 abbrev pub is_text : List ℕ → List ℕ → Bool
@@ -130,10 +126,10 @@ with_first (Of.Group group) lists = record lists { groups = group ∷ lists.grou
 -- the items of the rows from this row on
 abbrev pub rows_in : ℕ → List (List (List ℕ)) → Result Lists ReadFault
 rows_in row [] = Ok no_items
-rows_in row (fields ∷ records) =
-    on_ok (row_in row fields) λ item.
-    on_ok (rows_in (row + 1) records) λ items.
-    Ok (with_first item items)
+rows_in row (fields ∷ records) = do
+  item ← row_in row fields
+  items ← rows_in (row + 1) records
+  Ok (with_first item items)
 
 abbrev pub are_columns : List (List ℕ) → Bool
 are_columns (kind ∷ prefix ∷ group ∷ addresses ∷ []) =

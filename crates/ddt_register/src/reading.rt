@@ -1,9 +1,10 @@
 //! The register from CSV (RFC 4180), record after record.
 
-ghost use Rattle.std.specs.Prelude.{◌≡◌, ℕ, List, Some, None, IfOk, IfErr, IfSome, length, take, true};
+ghost use Rattle.std.specs.Prelude.{◌≡◌, ◌+◌, ℕ, List, Some, None, IfOk, IfErr, IfSome, length, take, true};
 ghost use Rattle.csv.specs.Reading.{default_config, expected_len, has_failed, records, strip_bom};
 ghost use Rattle.csv.specs.Records.{fields_of};
 ghost use Rattle.ddt_register.specs.Left.{IsReading, IsLeft, Takes, csv_fault, stops};
+ghost use Rattle.ddt_register.specs.Rows.{most_rows};
 ghost use Rattle.ddt_register.specs.Spelled.{spelled, rows_in, Gives};
 
 use crate::fault::ReadFault;
@@ -105,8 +106,9 @@ fn read_records<R: Read + Drop>(alloc: Global, mut reader: Reader<R>) -> Result<
 pub fn read_register<R: Read + Drop>(alloc: Global, reader: R) -> Result<Register, ReadFault>
     ensures spelled { (bytes : List ℕ) → R.remaining reader ≡ Some bytes
         → Gives result (spelled (records default_config (strip_bom bytes))) }
+    // The record of the columns, the rows that there may be, and one more, which is too many.
     ensures front { (bytes : List ℕ) → R.remaining reader ≡ Some bytes
-        → Gives result (spelled (take 65537 (records default_config (strip_bom bytes)))) }
+        → Gives result (spelled (take (most_rows + 2) (records default_config (strip_bom bytes)))) }
 {
     let reader = ReaderBuilder::new()
         .has_headers(false)

@@ -5,14 +5,14 @@ use Rattle.std.specs.FinMap.{get, insert}
 use Rattle.std.proofs.lemmas.Option.{none-some, same_Some}
 use Rattle.ddt_path.specs.declared.locator.Locator.{Locator}
 use Rattle.ddt_path.specs.declared.xeid.Xeid.{Xeid}
-use Rattle.ddt_path.specs.declared.record.Action.{Action}
-use Rattle.ddt_path.specs.declared.record.Action.TheVariants.{MsNotRegistered, NotAuthoritative}
+use Rattle.ddt_path.specs.declared.action.Action.{Action}
+use Rattle.ddt_path.specs.declared.action.Action.TheVariants.{MsNotRegistered, NotAuthoritative}
 use Rattle.ddt_path.specs.declared.record.ReferralRecord.{ReferralRecord}
 use Rattle.ddt_path.specs.Path.{xeid_path, is_path}
 use Rattle.ddt_path.specs.Covers.{covers}
 use Rattle.ddt_path.proofs.CoverLemmas.{length-covered}
 use Rattle.ddt_wire.specs.Referral.{Message, Spells, message_record}
-use Rattle.ddt_wire.proofs.WrittenLaws.{one_message}
+use Rattle.ddt_wire.proofs.WrittenLaws.{messages_are_read}
 use Rattle.ddt_resolver.specs.declared.pending.Pending.{Pending}
 use Rattle.ddt_resolver.specs.declared.answers.Outgoing.{Outgoing}
 use Rattle.ddt_resolver.specs.declared.answers.Asked.{Asked}
@@ -90,7 +90,7 @@ module _ (s : State) (o : IsInOrder s) (source : Locator) (bytes : List ℕ) (t 
 
   -- what the bytes spell is what was taken
   told_again : (v : Message) → Spells bytes v → message_record v ≡ rec
-  told_again v spells = let told = is.in_time.from_server.reply.tells in ap message_record (one_message bytes v told.message spells told.spells) ∙ told.same_record
+  told_again v spells = let told = is.in_time.from_server.reply.tells in ap message_record (messages_are_read.one bytes v told.message spells told.spells) ∙ told.same_record
 
   down : (d : Outgoing) → (IsReferral rec.action → IsBelow l.saved rec.prefix) → h ≡ heard.Followed t d → GoesDown s bytes h
   down d below followed = subst (GoesDown s bytes) (sym followed) (λ m v found spells r.

@@ -6,7 +6,7 @@ use Rattle.std.proofs.lemmas.Bool.{eqb-true, false≢true}
 use Rattle.std.specs.FinMap.{get}
 use Rattle.ddt_path.specs.declared.locator.Locator.{Locator}
 use Rattle.ddt_path.specs.declared.locator.Locator.TheVariants.{V4, V6}
-use Rattle.ddt_path.specs.declared.record.Action.TheVariants.{NotAuthoritative}
+use Rattle.ddt_path.specs.declared.action.Action.TheVariants.{NotAuthoritative}
 use Rattle.ddt_path.specs.declared.record.ReferralRecord.{ReferralRecord}
 use Rattle.ddt_path.specs.Locators.{is_same_locator}
 use Rattle.ddt_resolver.specs.declared.pending.Pending.{Pending}

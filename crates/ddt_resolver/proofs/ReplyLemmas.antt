@@ -6,7 +6,7 @@ use Rattle.ddt_path.specs.declared.locator.Locator.{Locator}
 use Rattle.ddt_path.specs.declared.record.ReferralRecord.{ReferralRecord}
 use Rattle.ddt_path.specs.Path.{xeid_path}
 use Rattle.ddt_wire.specs.Referral.{Message, message_record}
-use Rattle.ddt_wire.proofs.WrittenLaws.{one_message}
+use Rattle.ddt_wire.proofs.WrittenLaws.{messages_are_read}
 use Rattle.ddt_resolver.specs.declared.pending.Pending.{Pending}
 use Rattle.ddt_resolver.specs.declared.answers.Heard.{Heard}
 use Rattle.ddt_resolver.specs.State.{State, server}
@@ -19,7 +19,7 @@ use Rattle.ddt_resolver.proofs.StateLemmas.{next_absent}
 -- bytes tell one nonce and one record
 pub told_once : (bytes : List ℕ) (n m : ℕ) (rec told : ReferralRecord) → Tells bytes n rec → Tells bytes m told → (n ≡ m) × (rec ≡ told)
 told_once bytes n m rec told a b =
-    let e : a.message ≡ b.message = one_message bytes a.message b.message a.spells b.spells in
+    let e : a.message ≡ b.message = messages_are_read.one bytes a.message b.message a.spells b.spells in
     (sym a.same_nonce ∙ ap (λ (v : Message). v.nonce) e ∙ b.same_nonce, sym a.same_record ∙ ap message_record e ∙ b.same_record)
 
 module _ (s : State) (o : IsInOrder s) (source : Locator) (bytes : List ℕ) (t : ℕ) (l : Pending) (rec : ReferralRecord)

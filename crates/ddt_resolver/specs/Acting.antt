@@ -1,6 +1,7 @@
 -- What the parts of a resolver hand to each other.
 use Rattle.std.specs.Prelude.{ℕ, ◌≡◌, ◌<◌, ◌≤◌, length, Some}
 use Rattle.std.specs.FinMap.{get}
+use Rattle.ddt_path.specs.Locators.{most_locators}
 use Rattle.ddt_path.specs.Path.{xeid_path}
 use Rattle.ddt_resolver.specs.declared.pending.Pending.{Pending}
 use Rattle.ddt_resolver.specs.declared.refusing.Taken.{Taken}
@@ -19,7 +20,7 @@ pub record IsHeard (s : State) (taken : Taken) : Type 0 where
   pub is_pending : get s.pending taken.ticket ≡ Some taken.lookup
   pub about : IsAbout taken.told (xeid_path taken.lookup.x)
   pub names_server : NamesServer taken.told
-  pub few : length taken.told.servers ≤ 8
+  pub few : length taken.told.servers ≤ most_locators
 
 -- the record is saved, and its outcome is the lookup's
 pub record IsAnswered (s : State) (taken : Taken) (new : State) (heard : Heard) : Type 0 where
@@ -29,7 +30,7 @@ pub record IsAnswered (s : State) (taken : Taken) (new : State) (heard : Heard) 
 -- a record that is to be saved has at most 8 servers
 abbrev pub IsSmall : Change → Type 0
 IsSmall Keep = Unit {0}
-IsSmall (Save rec) = length rec.servers ≤ 8
+IsSmall (Save rec) = length rec.servers ≤ most_locators
 IsSmall (Forget p) = Unit {0}
 
 -- a lookup goes on, or ends where no nonce is left

@@ -2,6 +2,7 @@
 use Rattle.std.specs.Prelude.{ℕ, ◌≡◌, ◌+◌, ◌-◌, ◌*◌, ◌<◌, ◌≤◌, List, length, Option, None, Some}
 use Rattle.std.specs.FinMap.{get}
 use Rattle.ddt_path.specs.declared.xeid.Xeid.{Xeid}
+use Rattle.ddt_path.specs.Locators.{most_locators}
 use Rattle.ddt_path.specs.Path.{xeid_path}
 use Rattle.ddt_wire.specs.Referral.{Message, Spells}
 use Rattle.ddt_resolver.specs.declared.pending.Pending.{Pending}
@@ -20,13 +21,14 @@ room digits (Some saved) = digits - length saved
 -- what one more start at the root allows: 8 servers, and 8 for each referral
 abbrev pub again : ℕ → Option (List ℕ) → ℕ
 again digits None = 0
-again digits (Some start) = 8 * (digits + 2)
+again digits (Some start) = most_locators * (digits + 2)
 
 -- how many requests it can send: to what is left of its set, to 8 servers of each referral that it can follow yet, and
 -- after its one restart
 abbrev pub measure : Pending → ℕ
-measure l = let digits = length (xeid_path l.x) in (length l.servers - l.place) + 8 * room digits l.saved + again digits
-    l.start
+measure l =
+    let digits = length (xeid_path l.x) in
+    (length l.servers - l.place) + most_locators * room digits l.saved + again digits l.start
 
 -- at an ask it is at most 16 times the number of digits and 2
 abbrev pub StartsWithin : State → Xeid → Asked → Type 0

@@ -7,6 +7,7 @@ use Rattle.ddt_path.specs.declared.record.Outcome.{Outcome}
 use Rattle.ddt_path.specs.declared.record.Outcome.TheVariants.{Registered, NotRegistered, Hole}
 use Rattle.ddt_path.specs.declared.xeid.Xeid.{Xeid}
 use Rattle.ddt_path.specs.Path.{xeid_path}
+use Rattle.ddt_path.specs.Records.{hole_ttl, not_registered_ttl}
 use Rattle.ddt_ecm.specs.Request.{Message, Spells}
 use Rattle.ddt_wire.specs.NegativeReply.{written_reply, reply_of}
 use Rattle.ddt_resolver.specs.declared.answers.Outgoing.{Outgoing}
@@ -50,8 +51,8 @@ block_for x p = if nat_lt (length p) before_address then take before_address (xe
 -- the TTL in minutes, and the prefix; none where the ETRs of a registered site answer
 abbrev pub negative_for : Xeid → Outcome → Option (ℕ × List ℕ)
 negative_for x (Registered p servers) = None
-negative_for x (NotRegistered p servers) = Some (1, block_for x p)
-negative_for x (Hole p) = Some (15, block_for x p)
+negative_for x (NotRegistered p servers) = Some (not_registered_ttl, block_for x p)
+negative_for x (Hole p) = Some (hole_ttl, block_for x p)
 
 abbrev pub datagram_for : ItrRequest → (ℕ × List ℕ) → Outgoing
 datagram_for q n = record { to = q.to; port = q.port; bytes = written_reply (reply_of q.nonce n.0 n.1) }

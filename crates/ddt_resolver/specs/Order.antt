@@ -1,10 +1,11 @@
 -- What holds of each resolver at all times.
 use Rattle.std.specs.Prelude.{ℕ, ◌≡◌, ◌≢◌, ◌+◌, ◌<◌, ◌≤◌, true, IsTrue, List, [], length, None, Some}
 use Rattle.std.specs.FinMap.{get, len}
-use Rattle.ddt_path.specs.declared.record.Action.TheVariants.{MsNotRegistered}
+use Rattle.ddt_path.specs.declared.action.Action.TheVariants.{MsNotRegistered}
 use Rattle.ddt_path.specs.declared.record.ReferralRecord.{ReferralRecord}
 use Rattle.ddt_path.specs.Path.{xeid_path, is_path}
 use Rattle.ddt_path.specs.Covers.{covers}
+use Rattle.ddt_path.specs.Locators.{most_locators}
 use Rattle.ddt_cache.specs.InOrder.{IsInOrder as IsKnownInOrder}
 use Rattle.ddt_resolver.specs.declared.pending.Pending.{Pending}
 use Rattle.ddt_resolver.specs.State.{State, last_nonce, most_pending, patience}
@@ -15,7 +16,7 @@ use Rattle.ddt_resolver.specs.State.{State, last_nonce, most_pending, patience}
 pub record IsLookup (l : Pending) : Type 0 where
   pub identifier : IsTrue (is_path (xeid_path l.x))
   pub place : l.place < length l.servers
-  pub few : length l.servers ≤ 8
+  pub few : length l.servers ≤ most_locators
   pub saved : (p : List ℕ) → l.saved ≡ Some p → IsTrue (covers p (xeid_path l.x))
   pub kept : (rec : ReferralRecord) → l.kept ≡ Some rec → IsTrue (covers rec.prefix (xeid_path l.x))
   pub kept_action : (rec : ReferralRecord) → l.kept ≡ Some rec → rec.action ≡ MsNotRegistered

@@ -6,7 +6,8 @@ use Rattle.std.specs.FinMap.{FinMap, insert, remove, empty, code}
 use Rattle.ddt_path.specs.declared.locator.Locator.{Locator}
 use Rattle.ddt_path.specs.declared.xeid.Xeid.{Xeid}
 use Rattle.ddt_path.specs.declared.record.ReferralRecord.{ReferralRecord}
-use Rattle.ddt_ecm.specs.Written.{written}
+use Rattle.ddt_ecm.specs.Request.{written}
+use Rattle.ddt_ecm.specs.UdpHeader.{control_port}
 use Rattle.ddt_cache.specs.declared.entry.Entry.{Entry}
 use Rattle.ddt_cache.specs.Live.{Known, known_code, nothing_known}
 use Rattle.ddt_cache.specs.Live as cache
@@ -47,10 +48,6 @@ most_pending = 1024
 -- how many milliseconds a lookup waits for a reply
 abbrev pub patience : ℕ
 patience = 2000
-
--- the UDP port of servers
-abbrev pub control_port : ℕ
-control_port = 4342
 
 -- the server that a lookup asks
 abbrev pub server : Locator → Pending → Locator

@@ -2,7 +2,7 @@
 
 ghost use Rattle.std.specs.Prelude.{◌≡◌, ◌<◌, IsTrue, false, IsSome, IfOk, OnErr};
 ghost use Rattle.std.specs.FinMap as map;
-ghost use Rattle.ddt_path.specs.declared.record.Action.TheVariants as act;
+ghost use Rattle.ddt_path.specs.declared.action.Action.TheVariants as act;
 ghost use Rattle.ddt_resolver.specs.State.{moved, last_nonce};
 ghost use Rattle.ddt_resolver.specs.Records.{IsReferral, IsBelow, outcome_of};
 ghost use Rattle.ddt_resolver.specs.Act.{Act, GoesOn, HearStep, HearWants, Saves};

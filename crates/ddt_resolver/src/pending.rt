@@ -31,6 +31,7 @@ pub struct Pending {
 impl Pending {
     ghost use Rattle.std.specs.Prelude.{◌≡◌, ◌<◌, ◌+◌, ◌≤◌, get_or, length, true, false, None, Some};
     ghost use Rattle.ddt_path.specs.declared.locator.Locator.{Locator as ALocator};
+    ghost use Rattle.ddt_path.specs.Locators.{most_locators};
     ghost use Rattle.ddt_resolver.specs.State.{opening as opening_of, referred as referred_of, passed_on as passed_on_of, tried_again as tried_again_of, at_next as at_next_of};
 
     /// A new lookup, at the first server of a set; it starts at a remembered entry of this prefix, or at the root.
@@ -76,7 +77,7 @@ impl Pending {
     /// It once it goes on to the next server of its set after an MS-NOT-REGISTERED.
     pub(crate) fn passed_on(&self, referral: &ReferralRecord) -> Pending
         requires place { self.now.place + 1 < length self.now.servers }
-        requires few { length self.now.servers ≤ 8 }
+        requires few { length self.now.servers ≤ most_locators }
         ensures { result ≡ passed_on_of self.now referral.now }
     {
         Pending {
@@ -124,7 +125,7 @@ impl Pending {
     /// It once it goes on to the next server of its set without a reply.
     pub(crate) fn at_next(&self) -> Pending
         requires place { self.now.place + 1 < length self.now.servers }
-        requires few { length self.now.servers ≤ 8 }
+        requires few { length self.now.servers ≤ most_locators }
         ensures { result ≡ at_next_of self.now }
     {
         Pending {

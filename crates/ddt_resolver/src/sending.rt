@@ -3,6 +3,7 @@
 
 ghost use Rattle.std.specs.Prelude.{◌≡◌, ◌<◌, ◌≤◌, length, IsSome, IfOk, OnOk, OnErr};
 ghost use Rattle.std.specs.FinMap as map;
+ghost use Rattle.ddt_path.specs.Locators.{most_locators};
 ghost use Rattle.ddt_resolver.specs.State.{last_nonce, most_pending, request as request_of, numbered as numbered_of, changed, with_change, lodged, dropped, stored};
 ghost use Rattle.ddt_resolver.specs.Order.{IsLookup};
 ghost use Rattle.ddt_resolver.specs.Acting.{IsSmall};
@@ -11,16 +12,13 @@ use crate::answers::Outgoing;
 use crate::pending::Pending;
 use crate::resolver::Resolver;
 use ddt_cache::{Cache, Entry};
-use ddt_ecm::write_request;
+use ddt_ecm::{CONTROL_PORT, write_request};
 use ddt_path::{Listed, Prefix, ReferralRecord};
 use ddt_trie::PrefixMap;
 use std::alloc::AllocError;
 
 /// How many milliseconds a lookup waits for a reply.
 const PATIENCE: u64 = 2000;
-
-/// The UDP port of servers.
-const CONTROL_PORT: u16 = 4342;
 
 /// What becomes of the cache where a lookup goes on.
 #[derive(Clone, Copy, Debug)]
@@ -105,7 +103,7 @@ impl<M: PrefixMap<Entry>> Resolver<M> {
         ticket: u64,
         told: &ReferralRecord,
     ) -> Result<(), AllocError>
-        requires { length told.now.servers ≤ 8 }
+        requires { length told.now.servers ≤ most_locators }
         ensures closed { OnOk result (self.new ≡ dropped (stored self.old told.now) ticket) }
         ensures unchanged { OnErr result (self.new ≡ self.old) }
     {

@@ -4,8 +4,8 @@ use Rattle.std.specs.Prelude.{IsTrue, IfOk}
 use Rattle.std.specs.FinMap.{get}
 use Rattle.std.specs.List.{All}
 use Rattle.std.proofs.lemmas.Option.{same_Some}
-use Rattle.ddt_path.specs.declared.record.Action.{Action}
-use Rattle.ddt_path.specs.declared.record.Action.TheVariants.{NodeReferral, MsReferral, MsAck, MsNotRegistered, DelegationHole, NotAuthoritative}
+use Rattle.ddt_path.specs.declared.action.Action.{Action}
+use Rattle.ddt_path.specs.declared.action.Action.TheVariants.{NodeReferral, MsReferral, MsAck, MsNotRegistered, DelegationHole, NotAuthoritative}
 use Rattle.ddt_path.specs.declared.record.Outcome.{Outcome}
 use Rattle.ddt_path.specs.declared.record.ReferralRecord.{ReferralRecord}
 use Rattle.ddt_path.specs.declared.xeid.Xeid.{Xeid}
@@ -159,7 +159,7 @@ module _ (read : MessagesAreRead) (now : ℕ) (x : Xeid) where
   -- what a reply tells is in front
   told : (reply : List ℕ) (nonce : ℕ) (rec : ReferralRecord) (later : List ℕ) → Tells reply nonce rec → told_in_front (message_in reply) later ≡ in_front rec.action later
   told reply nonce rec later tells =
-      ap (λ m. told_in_front m later) (read reply tells.message tells.spells) ∙ ap (λ (v : ReferralRecord). in_front v.action later) tells.same_record
+      ap (λ m. told_in_front m later) (read.read reply tells.message tells.spells) ∙ ap (λ (v : ReferralRecord). in_front v.action later) tells.same_record
 
   lodged_pass : (hops : List Hop) (t : ℕ) (base : State) (l : Pending) → l.x ≡ x → (begun_ : Option (List ℕ))
       → ((later : List ℕ) → ArePasses top l.saved l.start later → ArePasses top None begun_ (passes_before hops later)) → IsOnPass x hops t (lodged base t l)

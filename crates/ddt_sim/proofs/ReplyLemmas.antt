@@ -12,7 +12,7 @@ use Rattle.ddt_register.specs.declared.register.Register.{Register}
 use Rattle.ddt_check.specs.Says.{says}
 use Rattle.ddt_check.specs.Laws.{AnswersCover, AnswersHaveServers, AnswersCanBeSent}
 use Rattle.ddt_wire.specs.Referral.{Message, Spells, message_of, message_record}
-use Rattle.ddt_wire.specs.Laws.{OneMessage, RecordsComeBack}
+use Rattle.ddt_wire.specs.Laws.{MessagesAreRead, RecordsComeBack}
 use Rattle.ddt_resolver.specs.declared.pending.Pending.{Pending}
 use Rattle.ddt_resolver.specs.declared.answers.Outgoing.{Outgoing}
 use Rattle.ddt_resolver.specs.declared.answers.Ignored.{Ignored}
@@ -49,7 +49,7 @@ act_is_for s t l rec new h (acts.used_up k over f g) = rw g refl
 
 -- what the wire and the register promise of honest replies
 pub record RepliesAreRead (r : Register) : Type 0 where
-  pub one : OneMessage
+  pub messages : MessagesAreRead
   pub back : RecordsComeBack
   pub cover : AnswersCover r
   pub servers : AnswersHaveServers r
@@ -65,7 +65,7 @@ module _ (r : Register) (laws : RepliesAreRead r) (s : State) (o : IsInOrder s) 
   -- whatever the reply tells is this
   told : (nonce : ℕ) (rec : ReferralRecord) → Tells reply nonce rec → (l.nonce ≡ nonce) × (rec ≡ said)
   told nonce rec tells =
-      let same : tells.message ≡ message_of l.nonce said = laws.one reply tells.message (message_of l.nonce said) tells.spells spells in
+      let same : tells.message ≡ message_of l.nonce said = laws.messages.one reply tells.message (message_of l.nonce said) tells.spells spells in
       let id = (o.lookups t l here).lookup.identifier in (
         sym (ap (λ (m : Message). m.nonce) same) ∙ tells.same_nonce,
         sym tells.same_record ∙ ap message_record same ∙ laws.back l.nonce said (laws.sendable source (xeid_path l.x) id).few_servers,

@@ -118,7 +118,7 @@ module _ (r : Register) (laws : RepliesAreRead r) (s : State) (source : Locator)
   -- whatever the reply tells is this
   told : (n : ℕ) (rec : ReferralRecord) → Tells bytes n rec → (n ≡ nonce) × (rec ≡ says r source (xeid_path x))
   told n rec tells =
-      let same : tells.message ≡ message_of nonce (says r source (xeid_path x)) = laws.one bytes tells.message (message_of nonce (says r source (xeid_path x))) tells.spells spells in (
+      let same : tells.message ≡ message_of nonce (says r source (xeid_path x)) = laws.messages.one bytes tells.message (message_of nonce (says r source (xeid_path x))) tells.spells spells in (
         sym tells.same_nonce ∙ ap (λ (m : Message). m.nonce) same,
         sym tells.same_record ∙ ap message_record same ∙ laws.back nonce (says r source (xeid_path x)) (laws.sendable source (xeid_path x) w.id).few_servers,
       )

@@ -6,7 +6,7 @@ use Rattle.std.proofs.lemmas.Bool.{false≢true, or_right, and_parts, and_from, 
 use Rattle.ddt_path.specs.declared.locator.Locator.{Locator}
 use Rattle.ddt_path.specs.declared.record.Outcome.{Outcome}
 use Rattle.ddt_path.specs.declared.record.ReferralRecord.{ReferralRecord}
-use Rattle.ddt_path.specs.declared.record.Action.TheVariants.{MsNotRegistered}
+use Rattle.ddt_path.specs.declared.action.Action.TheVariants.{MsNotRegistered}
 use Rattle.ddt_path.specs.declared.xeid.Xeid.{Xeid}
 use Rattle.ddt_path.specs.Covers.{covers}
 use Rattle.ddt_path.specs.Locators.{lists}
@@ -18,7 +18,7 @@ use Rattle.ddt_check.specs.Zones.{locators_of}
 use Rattle.ddt_check.specs.Says.{says, referral_to}
 use Rattle.ddt_check.specs.Laws.{IsReferral, ServersReferDownwards, ReferralsAreToZones, AnswersHaveServers, ServersOfAGroupAgree, AnswersCanBeSent}
 use Rattle.ddt_wire.specs.Referral.{message_of, message_record}
-use Rattle.ddt_wire.specs.Laws.{OneMessage, RecordsComeBack}
+use Rattle.ddt_wire.specs.Laws.{MessagesAreRead, RecordsComeBack}
 use Rattle.ddt_resolver.specs.State.{State, opening}
 use Rattle.ddt_resolver.specs.Records.{start_at}
 use Rattle.ddt_resolver.specs.Order.{IsInOrder, IsLookup}
@@ -96,7 +96,7 @@ pub record ShortLaws (r : Register) : Type 0 where
   pub servers : AnswersHaveServers r
   pub agree : ServersOfAGroupAgree r
   pub sendable : AnswersCanBeSent r
-  pub one : OneMessage
+  pub messages : MessagesAreRead
   pub back : RecordsComeBack
 
 module _ (r : Register) (laws : ShortLaws r) (x : Xeid) (id : IsTrue (is_path (xeid_path x))) (me : Locator) (roots : List Locator) (outcome : Outcome) where
@@ -106,7 +106,7 @@ module _ (r : Register) (laws : ShortLaws r) (x : Xeid) (id : IsTrue (is_path (x
   -- what the reply of an honest hop tells is what the register says there
   told : (l : Locator) (hop : Hop) (rec : ReferralRecord) → IsHopTo x me l hop rec → honest hop → rec ≡ says r l (xeid_path x)
   told l hop rec to h =
-      let is : to.tells.message ≡ message_of h.0 (says r hop.to (xeid_path x)) = laws.one hop.reply to.tells.message (message_of h.0 (says r hop.to (xeid_path x))) to.tells.spells h.2 in
+      let is : to.tells.message ≡ message_of h.0 (says r hop.to (xeid_path x)) = laws.messages.one hop.reply to.tells.message (message_of h.0 (says r hop.to (xeid_path x))) to.tells.spells h.2 in
       sym to.tells.same_record ∙ ap message_record is ∙ laws.back h.0 (says r hop.to (xeid_path x)) (laws.sendable hop.to (xeid_path x) id).few_servers
       ∙ ap (λ k. says r k (xeid_path x)) to.to
 

@@ -9,7 +9,7 @@ use Rattle.ddt_path.specs.declared.xeid.Xeid.{Xeid}
 use Rattle.ddt_register.specs.declared.register.Register.{Register}
 use Rattle.ddt_check.specs.Rules.{IsAccepted}
 use Rattle.ddt_check.specs.Laws.{AnswersCover, AnswersHaveServers, AnswersCanBeSent}
-use Rattle.ddt_wire.specs.Laws.{OneMessage, RecordsComeBack}
+use Rattle.ddt_wire.specs.Laws.{MessagesAreRead, RecordsComeBack}
 use Rattle.ddt_ecm.specs.Laws.{WrittenSpells, message_of}
 use Rattle.ddt_resolver.specs.declared.pending.Pending.{Pending}
 use Rattle.ddt_resolver.specs.declared.answers.Asked.{Asked as Asking}
@@ -348,7 +348,7 @@ first_tried r s starts = record {
 pub record Promises : Type 0 where
   pub keeps : StepsKeepSoundness
   pub time : TimeKeepsSoundness
-  pub one : OneMessage
+  pub messages : MessagesAreRead
   pub back : RecordsComeBack
   pub cover : (r : Register) → IsAccepted r → AnswersCover r
   pub servers : (r : Register) → IsAccepted r → AnswersHaveServers r
@@ -362,7 +362,7 @@ module _ (laws : Promises) (are_honest : Register → Type 0) (old : State) (o :
     honest = honest;
     keeps = laws.keeps;
     time = laws.time;
-    read = record { one = laws.one; back = laws.back; cover = laws.cover r starts.accepted; servers = laws.servers r starts.accepted; sendable = laws.sendable r starts.accepted };
+    read = record { messages = laws.messages; back = laws.back; cover = laws.cover r starts.accepted; servers = laws.servers r starts.accepted; sendable = laws.sendable r starts.accepted };
     written = laws.written;
   }
 

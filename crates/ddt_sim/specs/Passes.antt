@@ -1,8 +1,8 @@
 -- The passes of a lookup: how many referrals it follows from its start, and once again from the root (RFC 8111,
 -- section 7.3).
 use Rattle.std.specs.Prelude.{ℕ, ◌+◌, ◌≤◌, List, [], ◌∷◌, length, All, Result, Ok, Err}
-use Rattle.ddt_path.specs.declared.record.Action.{Action}
-use Rattle.ddt_path.specs.declared.record.Action.TheVariants.{NodeReferral, MsReferral, NotAuthoritative}
+use Rattle.ddt_path.specs.declared.action.Action.{Action}
+use Rattle.ddt_path.specs.declared.action.Action.TheVariants.{NodeReferral, MsReferral, NotAuthoritative}
 use Rattle.ddt_path.specs.declared.xeid.Xeid.{Xeid}
 use Rattle.ddt_path.specs.Path.{xeid_path}
 use Rattle.ddt_wire.specs.declared.fault.ReferralFault.{ReferralFault}

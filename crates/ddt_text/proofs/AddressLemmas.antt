@@ -156,27 +156,26 @@ pub read_ipv6-some : (text : List ℕ) (a : Ipv6Addr) (n : ℕ) → Lacks 46 tex
 unfolding ipv6_bits
 read_ipv6-some text a n none is h = sym (address_in-complete text (V6 n) (ipv6_segments a, colon_hex-narrower text (ipv6_segments a) none h, is))
 
+none_spelled : (text : List ℕ) → ((a : Locator) → ¬ (SpellsLocator text a)) → None ≡ address_in text
+none_spelled text unspelled = go (address_in text) refl
+  where
+    go : (o : Option Locator) → address_in text ≡ o → None ≡ address_in text
+    go None e = sym e
+    go (Some a) e = absurd (unspelled a (address_in-sound text a e))
+
 pub read_ipv4-none : (text : List ℕ) → list_any (λ b. b == 46) text ≡ true → ((a : Ipv4Addr) → ¬ (IsIpv4Text text a)) → None ≡ address_in text
-read_ipv4-none text dot none = go (address_in text) refl
+read_ipv4-none text dot none = none_spelled text no
   where
     no : (a : Locator) → ¬ (SpellsLocator text a)
     no (V4 n) h = none (record { octets = h.0 }) h.1
     no (V6 n) h = true≢false (sym dot ∙ lacks_low 46 48 text (omega arith) (plain-colon_hex text h.0 h.1))
 
-    go : (o : Option Locator) → address_in text ≡ o → None ≡ address_in text
-    go None e = sym e
-    go (Some a) e = absurd (no a (address_in-sound text a e))
-
 pub read_ipv6-none : (text : List ℕ) → Lacks 46 text → ((a : Ipv6Addr) → ¬ (IsIpv6Text text a)) → None ≡ address_in text
-read_ipv6-none text dot none = go (address_in text) refl
+read_ipv6-none text dot none = none_spelled text no
   where
     no : (a : Locator) → ¬ (SpellsLocator text a)
     no (V4 n) h = true≢false (sym (dotted_has_dot text h.0 h.1) ∙ dot)
     no (V6 n) h = none (record { segments = h.0 }) (colon_hex-wider text h.0 h.1)
-
-    go : (o : Option Locator) → address_in text ≡ o → None ≡ address_in text
-    go None e = sym e
-    go (Some a) e = absurd (no a (address_in-sound text a e))
 
 pub parsed : {A E : Type 0} (Spells : List ℕ → A → Type 0) (text : List ℕ) (r : Result A E) (a : A) → Parses Spells text r → Some a ≡ result_ok r → Spells text a
 parsed Spells text (Ok b) a h e = subst (Spells text) (sym (same_Some a b e)) h

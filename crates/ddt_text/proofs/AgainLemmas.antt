@@ -10,12 +10,12 @@ use Rattle.ddt_text.proofs.LawLemmas.{locators_are_read, xeids_are_read, prefixe
 use Rattle.ddt_text.proofs.WrittenLemmas.{written_locator-spells, written_xeid-spells, written_prefix-spells}
 
 pub written_locator-read : (a : Locator) → address_number a < 2 ^ address_width a → locator_in (written_locator a) ≡ Ok a
-written_locator-read a h = (locators_are_read.read (written_locator a) a).1 (written_locator-spells a h)
+written_locator-read a h = locators_are_read.read (written_locator a) a (written_locator-spells a h)
 
 pub written_xeid-read : (x : Xeid) → x.iid < 2 ^ 32 → address_number x.address < 2 ^ address_width x.address → xeid_in (written_xeid x) ≡ Ok x
-written_xeid-read x fits h = (xeids_are_read.read (written_xeid x) x).1 (written_xeid-spells x fits h)
+written_xeid-read x fits h = xeids_are_read.read (written_xeid x) x (written_xeid-spells x fits h)
 
 pub written_prefix-read : (form : Form) → IsForm form → prefix_in (written_prefix (path form)) ≡ Ok (path form)
-written_prefix-read form h = (prefixes_are_read.read (written_prefix (path form)) (path form)).1 (written_prefix-spells form h)
+written_prefix-read form h = prefixes_are_read.read (written_prefix (path form)) (path form) (written_prefix-spells form h)
 
 pub ruleset laws = (written_locator-spells, written_xeid-spells, written_prefix-spells, written_locator-read, written_xeid-read, written_prefix-read)

@@ -1,13 +1,17 @@
 -- The bytes that texts are made of, and a text cut at a byte.
-use Rattle.std.proofs.Common.{◌≡◌, ◌≢◌, ℕ, zero, suc, ◌^◌, ◌<◌, ◌≤◌, true, false, List, [], ◌∷◌, ◌++◌, decimal, All, refl, sym, ap, ◌∙◌, arith, inl, inr, true≢false, eq-eqb, ne_eqb, one-add, append-nil, take-append-drop}
-use Rattle.std.specs.Prelude.{◌==◌}
+use Rattle.std.proofs.Common.{◌≡◌, ◌≢◌, ℕ, ◌^◌, ◌<◌, ◌≤◌, Bool, true, false, List, [], ◌∷◌, ◌++◌, length, decimal, refl, sym, ap, ◌∙◌, arith, inl, inr, true≢false, eq-eqb, ne_eqb, one-add, append-nil, take-append-drop}
+use Rattle.std.specs.Prelude.{◌==◌, ◌||◌}
 use Rattle.std.specs.List.{position_or_len, list_any}
 use Rattle.std.specs.Char.{digit_value}
 use Rattle.std.specs.Str.Parse.{AllDigits}
 use Rattle.std.proofs.lemmas.Bool.{cases_eq}
+use Rattle.std.proofs.lemmas.List.{take_at, drop_at, take_all, drop_all}
+use Rattle.std.proofs.lemmas.List.Folds.{list_any-append}
 use Rattle.std.proofs.lemmas.Bool.Decides.{nat_tests}
 use Rattle.std.proofs.lemmas.Fmt.{decimal_is_IsNumeral}
 use Rattle.std.proofs.lemmas.Str.Parse.{digit_from_value}
+use Rattle.ddt_reading.specs.Steps.{IsBytes}
+use Rattle.ddt_reading.proofs.ByteLemmas.{IsBytes-cons, IsBytes-nil}
 use Rattle.ddt_text.specs.FirstFault.{before, onward}
 
 -- ASCII from `low` on, without `/` and `]`
@@ -42,26 +46,16 @@ plain-digits (d ∷ ds) h =
 pub plain-decimal : (n : ℕ) → n < 2 ^ 64 → ArePlain 48 (decimal n)
 plain-decimal n h = plain-digits (decimal n) (decimal_is_IsNumeral n h).0.1
 
--- bytes
-abbrev pub AreBytes : List ℕ → Type 0
-AreBytes [] = Unit {0}
-AreBytes (b ∷ bs) = (b < 256) × AreBytes bs
+pub plain_bytes : (low : ℕ) (xs : List ℕ) → ArePlain low xs → IsBytes xs
+plain_bytes low [] h = IsBytes-nil
+plain_bytes low (x ∷ xs) h = IsBytes-cons x xs (omega (arith, h.0.1)) (plain_bytes low xs h.1)
 
-pub bytes-append : (xs ys : List ℕ) → AreBytes xs → AreBytes ys → AreBytes (xs ++ ys)
-bytes-append [] ys h k = k
-bytes-append (x ∷ xs) ys h k = (h.0, bytes-append xs ys h.1 k)
-
-pub plain_bytes : (low : ℕ) (xs : List ℕ) → ArePlain low xs → AreBytes xs
-plain_bytes low [] h = tt
-plain_bytes low (x ∷ xs) h = (omega (arith, h.0.1), plain_bytes low xs h.1)
-
-pub decimal_bytes : (n : ℕ) → n < 2 ^ 64 → AreBytes (decimal n)
+pub decimal_bytes : (n : ℕ) → n < 2 ^ 64 → IsBytes (decimal n)
 decimal_bytes n h = plain_bytes 48 (decimal n) (plain-decimal n h)
 
-pub all_bytes : (xs : List ℕ) → AreBytes xs → All (λ b. b < 256) xs
-all_bytes [] h k d l = absurd (omega arith)
-all_bytes (x ∷ xs) h zero d l = h.0
-all_bytes (x ∷ xs) h (suc k) d l = all_bytes xs h.1 k d (omega arith)
+or_none : (a b : Bool) → (a || b) ≡ false → (a ≡ false) × (b ≡ false)
+or_none true b e = absurd (true≢false e)
+or_none false b e = (refl, e)
 
 -- a byte that stands nowhere
 abbrev pub Lacks : ℕ → List ℕ → Type 0
@@ -87,37 +81,25 @@ has_byte byte (x ∷ xs) ys = grind (arith, has_byte byte xs ys)
 pub cut_parts : (byte : ℕ) (text : List ℕ) → before byte text ++ onward byte text ≡ text
 cut_parts byte text = take-append-drop (position_or_len (λ b. b == byte) text) text
 
+place_at : (byte : ℕ) (xs ys : List ℕ) → Lacks byte xs → position_or_len (λ b. b == byte) (xs ++ byte ∷ ys) ≡ length xs
+place_at byte [] ys h = rw (eq-eqb byte byte refl)
+place_at byte (x ∷ xs) ys h = let p = or_none (x == byte) (list_any (λ b. b == byte) xs) h in rw (p.0, place_at byte xs ys p.1) (one-add (length xs))
+
 pub before_at : (byte : ℕ) (xs ys : List ℕ) → Lacks byte xs → before byte (xs ++ byte ∷ ys) ≡ xs
-before_at byte [] ys h = rw (eq-eqb byte byte refl)
-before_at byte (x ∷ xs) ys h =
-    elim (cases_eq x byte) [
-      | inl same ↦ absurd (true≢false (rw (eq-eqb x byte same) at h))
-      | inr other ↦ rw (ne_eqb x byte other, one-add) (ap (λ t. x ∷ t) (before_at byte xs ys (rw (ne_eqb x byte other) at h)))
-    ]
+before_at byte xs ys h = take_at xs (byte ∷ ys) _ (sym (place_at byte xs ys h))
 
 pub onward_at : (byte : ℕ) (xs ys : List ℕ) → Lacks byte xs → onward byte (xs ++ byte ∷ ys) ≡ byte ∷ ys
-onward_at byte [] ys h = rw (eq-eqb byte byte refl)
-onward_at byte (x ∷ xs) ys h =
-    elim (cases_eq x byte) [
-      | inl same ↦ absurd (true≢false (rw (eq-eqb x byte same) at h))
-      | inr other ↦ rw (ne_eqb x byte other, one-add) (onward_at byte xs ys (rw (ne_eqb x byte other) at h))
-    ]
+onward_at byte xs ys h = drop_at xs (byte ∷ ys) _ (sym (place_at byte xs ys h))
+
+place_none : (byte : ℕ) (xs : List ℕ) → Lacks byte xs → length xs ≤ position_or_len (λ b. b == byte) xs
+place_none byte [] h = omega arith
+place_none byte (x ∷ xs) h = let p = or_none (x == byte) (list_any (λ b. b == byte) xs) h in let rest = place_none byte xs p.1 in rw p.0 (omega arith)
 
 pub before_none : (byte : ℕ) (xs : List ℕ) → Lacks byte xs → before byte xs ≡ xs
-before_none byte [] h = refl
-before_none byte (x ∷ xs) h =
-    elim (cases_eq x byte) [
-      | inl same ↦ absurd (true≢false (rw (eq-eqb x byte same) at h))
-      | inr other ↦ rw (ne_eqb x byte other, one-add) (ap (λ t. x ∷ t) (before_none byte xs (rw (ne_eqb x byte other) at h)))
-    ]
+before_none byte xs h = take_all _ xs (place_none byte xs h)
 
 pub onward_none : (byte : ℕ) (xs : List ℕ) → Lacks byte xs → onward byte xs ≡ []
-onward_none byte [] h = refl
-onward_none byte (x ∷ xs) h =
-    elim (cases_eq x byte) [
-      | inl same ↦ absurd (true≢false (rw (eq-eqb x byte same) at h))
-      | inr other ↦ rw (ne_eqb x byte other, one-add) (onward_none byte xs (rw (ne_eqb x byte other) at h))
-    ]
+onward_none byte xs h = drop_all _ xs (place_none byte xs h)
 
 pub onward_first : (byte : ℕ) (text : List ℕ) (b : ℕ) (rest : List ℕ) → onward byte text ≡ b ∷ rest → b ≡ byte
 onward_first byte [] b rest e = cc
@@ -137,25 +119,7 @@ pub cut_none : (byte : ℕ) (text : List ℕ) → onward byte text ≡ [] → te
 cut_none byte text e = sym (cut_parts byte text) ∙ ap (λ t. before byte text ++ t) e ∙ append-nil (before byte text)
 
 pub lacks_right : (byte : ℕ) (xs ys : List ℕ) → Lacks byte (xs ++ ys) → Lacks byte ys
-lacks_right byte [] ys h = h
-lacks_right byte (x ∷ xs) ys h =
-    elim (cases_eq x byte) [
-      | inl same ↦ absurd (true≢false (rw (eq-eqb x byte same) at h))
-      | inr other ↦ lacks_right byte xs ys (rw (ne_eqb x byte other) at h)
-    ]
-
-pub lacks_left : (byte : ℕ) (xs ys : List ℕ) → Lacks byte (xs ++ ys) → Lacks byte xs
-lacks_left byte [] ys h = refl
-lacks_left byte (x ∷ xs) ys h =
-    elim (cases_eq x byte) [
-      | inl same ↦ absurd (true≢false (rw (eq-eqb x byte same) at h))
-      | inr other ↦ rw (ne_eqb x byte other) (lacks_left byte xs ys (rw (ne_eqb x byte other) at h))
-    ]
+lacks_right byte xs ys h = (or_none (list_any (λ b. b == byte) xs) (list_any (λ b. b == byte) ys) (sym (list_any-append (λ b. b == byte) xs ys) ∙ h)).1
 
 pub lacks-append : (byte : ℕ) (xs ys : List ℕ) → Lacks byte xs → Lacks byte ys → Lacks byte (xs ++ ys)
-lacks-append byte [] ys h k = k
-lacks-append byte (x ∷ xs) ys h k =
-    elim (cases_eq x byte) [
-      | inl same ↦ absurd (true≢false (rw (eq-eqb x byte same) at h))
-      | inr other ↦ rw (ne_eqb x byte other) (lacks-append byte xs ys (rw (ne_eqb x byte other) at h) k)
-    ]
+lacks-append byte xs ys h k = rw (list_any-append (λ b. b == byte) xs ys, h) k

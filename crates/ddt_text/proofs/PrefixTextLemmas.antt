@@ -1,5 +1,5 @@
 -- A prefix is read where a text spells it, and nowhere else.
-use Rattle.std.proofs.Common.{◌≡◌, ℕ, zero, suc, ◌-◌, take, drop, ◌<◌, ◌≤◌, ◌^◌, true, cond, List, [], ◌∷◌, ◌++◌, length, get_or, decimal, Result, Ok, Err, All, refl, sym, ap, ◌∙◌, subst, arith, inl, inr, append_assoc, eq-eqb, ne_eqb, lt-ltb}
+use Rattle.std.proofs.Common.{◌≡◌, ℕ, zero, suc, ◌-◌, take, drop, ◌<◌, ◌≤◌, ◌^◌, true, cond, List, [], ◌∷◌, ◌++◌, length, get_or, decimal, Result, Ok, Err, refl, sym, ap, ◌∙◌, subst, arith, inl, inr, append_assoc, eq-eqb, ne_eqb, lt-ltb}
 use Rattle.std.specs.Prelude.{◌==◌}
 use Rattle.std.proofs.lemmas.Bool.{cases_eq, cases_lt}
 use Rattle.std.proofs.lemmas.List.{take_all}
@@ -9,34 +9,37 @@ use Rattle.ddt_path.specs.declared.locator.Locator.TheVariants.{V4, V6}
 use Rattle.ddt_path.specs.declared.form.Form.{Form}
 use Rattle.ddt_path.specs.declared.form.Form.TheVariants.{Range, Block}
 use Rattle.ddt_path.specs.declared.form.PrefixFault.{PrefixFault}
-use Rattle.ddt_path.specs.declared.form.PrefixFault.TheVariants as Made
+use Rattle.ddt_path.specs.declared.form.PrefixFault.TheVariants as prefix_fault
 use Rattle.ddt_path.specs.Path.{digits, prefix_of, form_len, form_width, are_zero, address_width}
 use Rattle.ddt_text.specs.declared.fault.TextFault.{TextFault}
 use Rattle.ddt_text.specs.declared.fault.TextFault.TheVariants.{Address, Length, Trailing}
 use Rattle.ddt_text.specs.Grammar.{SpellsRange, SpellsBlock, SpellsPrefix}
-use Rattle.ddt_text.specs.FirstFault.{before, onward, required, bracketed_in, iid_in, number_in, address_in, made, starred, range_in, slashed, block_in, range_or_block, bracketed_prefix_in, prefix_in}
-use Rattle.ddt_text.proofs.ByteLemmas.{Lacks, lacks-append, before_at, onward_at, before_none, onward_none, cut_none, cut_at, plain-decimal, lacks_slash, lacks_bracket, AreBytes, bytes-append, plain_bytes, decimal_bytes, all_bytes}
+use Rattle.ddt_text.specs.FirstFault.{before, onward, value_or, brackets_in, iid_in, number_in, address_in, prefix_or_fault, range_behind_star, range_in, block_behind_slash, block_in, range_or_block, bracketed_prefix_in, prefix_in}
+use Rattle.ddt_text.proofs.ByteLemmas.{Lacks, lacks-append, before_at, onward_at, before_none, onward_none, cut_none, cut_at, plain-decimal, lacks_slash, lacks_bracket, plain_bytes, decimal_bytes}
 use Rattle.ddt_text.proofs.NumberLemmas.{number_in-sound, number_in-complete}
 use Rattle.ddt_text.proofs.AddressLemmas.{address_in-sound, address_in-complete, plain-locator}
-use Rattle.ddt_text.proofs.PartLemmas.{on_ok-parts, required-some, iid_in-sound, iid_in-complete, bracketed_in-sound, bracketed_in-complete}
+use Rattle.ddt_reading.specs.Steps.{IsBytes}
+use Rattle.ddt_reading.proofs.StepLemmas.{bind_parts}
+use Rattle.ddt_reading.proofs.ByteLemmas.{IsBytes-cons, IsBytes-nil, IsBytes-append}
+use Rattle.ddt_text.proofs.PartLemmas.{value_or-some, iid_in-sound, iid_in-complete, brackets_in-sound, brackets_in-complete}
 
-made-sound : (r : Result (List ℕ) PrefixFault) (path : List ℕ) → made r ≡ Ok path → r ≡ Ok path
-made-sound (Ok p) path e = cc
-made-sound (Err Made.Length) path e = let no : ⊥ = cc in absurd no
-made-sound (Err Made.TailNotZero) path e = let no : ⊥ = cc in absurd no
+prefix_or_fault-sound : (r : Result (List ℕ) PrefixFault) (path : List ℕ) → prefix_or_fault r ≡ Ok path → r ≡ Ok path
+prefix_or_fault-sound (Ok p) path e = cc
+prefix_or_fault-sound (Err prefix_fault.Length) path e = let no : ⊥ = cc in absurd no
+prefix_or_fault-sound (Err prefix_fault.TailNotZero) path e = let no : ⊥ = cc in absurd no
 
 -- ranges
 range_shape : (iid len : ℕ) → (91 ∷ []) ++ decimal iid ++ (47 ∷ []) ++ decimal len ++ (93 ∷ 42 ∷ []) ≡ 91 ∷ ((decimal iid ++ 47 ∷ decimal len) ++ 93 ∷ 42 ∷ [])
 range_shape iid len = ap (λ t. 91 ∷ (t ++ 93 ∷ 42 ∷ [])) (append_assoc (decimal iid) (47 ∷ []) (decimal len))
 
-starred-sound : (form : Form) (rest path : List ℕ) → starred form rest ≡ Ok path → (rest ≡ 42 ∷ []) × (prefix_of form ≡ Ok path)
-starred-sound form [] path e = let no : ⊥ = cc in absurd no
-starred-sound form (c ∷ []) path e =
+range_behind_star-sound : (form : Form) (rest path : List ℕ) → range_behind_star form rest ≡ Ok path → (rest ≡ 42 ∷ []) × (prefix_of form ≡ Ok path)
+range_behind_star-sound form [] path e = let no : ⊥ = cc in absurd no
+range_behind_star-sound form (c ∷ []) path e =
     elim (cases_eq c 42) [
-      | inl same ↦ (ap (λ b. b ∷ []) same, made-sound (prefix_of form) path (rw (eq-eqb c 42 same) at e))
+      | inl same ↦ (ap (λ b. b ∷ []) same, prefix_or_fault-sound (prefix_of form) path (rw (eq-eqb c 42 same) at e))
       | inr other ↦ let k = rw (ne_eqb c 42 other) at e in let no : ⊥ = cc in absurd no
     ]
-starred-sound form (c ∷ d ∷ rest) path e =
+range_behind_star-sound form (c ∷ d ∷ rest) path e =
     elim (cases_eq c 42) [
       | inl same ↦ let k = rw (eq-eqb c 42 same, ne_eqb (length (d ∷ rest)) 0 (omega arith)) at e in let no : ⊥ = cc in absurd no
       | inr other ↦ let k = rw (ne_eqb c 42 other) at e in let no : ⊥ = cc in absurd no
@@ -44,14 +47,14 @@ starred-sound form (c ∷ d ∷ rest) path e =
 
 range_in-sound : (iid len rest text path : List ℕ) → text ≡ 91 ∷ ((iid ++ 47 ∷ len) ++ 93 ∷ rest) → range_in iid len rest ≡ Ok path → SpellsRange text path
 range_in-sound iid len rest text path shown e =
-    on_ok-parts (iid_in iid) _ path e λ n number e₁.
-    on_ok-parts (required Length (number_in 32 len)) _ path e₁ λ m length_is e₂.
+    bind_parts (iid_in iid) _ path e λ n number e₁.
+    bind_parts (value_or Length (number_in 32 len)) _ path e₁ λ m length_is e₂.
     let (fits, digits) = iid_in-sound iid n number in
-    let (most, len_digits) = number_in-sound 32 len m (omega arith) (required-some Length _ m length_is) in
+    let (most, len_digits) = number_in-sound 32 len m (omega arith) (value_or-some Length _ m length_is) in
     elim (cases_eq m 0) [
       | inl same ↦ let k = rw (eq-eqb m 0 same) at e₂ in let no : ⊥ = cc in absurd no
       | inr other ↦
-          let (star, value) = starred-sound (Range n m) rest path (rw (ne_eqb m 0 other) at e₂) in
+          let (star, value) = range_behind_star-sound (Range n m) rest path (rw (ne_eqb m 0 other) at e₂) in
           record {
             iid = n;
             len = m;
@@ -69,18 +72,18 @@ range_in-sound iid len rest text path shown e =
 block_shape : (iid : ℕ) (address : List ℕ) (len : ℕ) → (91 ∷ []) ++ decimal iid ++ (93 ∷ []) ++ address ++ (47 ∷ []) ++ decimal len ≡ 91 ∷ (decimal iid ++ 93 ∷ (address ++ 47 ∷ decimal len))
 block_shape iid address len = simp append_assoc
 
-slashed-sound : (form : ℕ → Form) (rest path : List ℕ) → slashed form rest ≡ Ok path → (b len : ℕ) × (rest ≡ b ∷ decimal len) × (prefix_of (form len) ≡ Ok path)
-slashed-sound form [] path e = let no : ⊥ = cc in absurd no
-slashed-sound form (b ∷ rest) path e =
-    on_ok-parts (required Length (number_in 128 rest)) _ path e λ len found e₁.
-    let (most, digits) = number_in-sound 128 rest len (omega arith) (required-some Length _ len found) in
-    (b, len, ap (λ t. b ∷ t) digits, made-sound (prefix_of (form len)) path e₁)
+block_behind_slash-sound : (form : ℕ → Form) (rest path : List ℕ) → block_behind_slash form rest ≡ Ok path → (b len : ℕ) × (rest ≡ b ∷ decimal len) × (prefix_of (form len) ≡ Ok path)
+block_behind_slash-sound form [] path e = let no : ⊥ = cc in absurd no
+block_behind_slash-sound form (b ∷ rest) path e =
+    bind_parts (value_or Length (number_in 128 rest)) _ path e λ len found e₁.
+    let (most, digits) = number_in-sound 128 rest len (omega arith) (value_or-some Length _ len found) in
+    (b, len, ap (λ t. b ∷ t) digits, prefix_or_fault-sound (prefix_of (form len)) path e₁)
 
 block_in-sound : (iid rest text path : List ℕ) → text ≡ 91 ∷ (iid ++ 93 ∷ rest) → block_in iid rest ≡ Ok path → SpellsBlock text path
 block_in-sound iid rest text path shown e =
-    on_ok-parts (iid_in iid) _ path e λ n number e₁.
-    on_ok-parts (required Address (address_in (before 47 rest))) _ path e₁ λ address found e₂.
-    let (b, len, slash, value) = slashed-sound (Block n address) (onward 47 rest) path e₂ in
+    bind_parts (iid_in iid) _ path e λ n number e₁.
+    bind_parts (value_or Address (address_in (before 47 rest))) _ path e₁ λ address found e₂.
+    let (b, len, slash, value) = block_behind_slash-sound (Block n address) (onward 47 rest) path e₂ in
     let (fits, digits) = iid_in-sound iid n number in
     record {
       iid = n;
@@ -91,7 +94,7 @@ block_in-sound iid rest text path shown e =
           shown ∙ ap (λ t. 91 ∷ (t ++ 93 ∷ rest)) digits ∙ ap (λ t. 91 ∷ (decimal n ++ 93 ∷ t)) (cut_at 47 rest b (decimal len) slash)
           ∙ sym (block_shape n (before 47 rest) len);
       fits = fits;
-      address_spelled = address_in-sound (before 47 rest) address (required-some Address _ address found);
+      address_spelled = address_in-sound (before 47 rest) address (value_or-some Address _ address found);
       value = value;
     }
 
@@ -104,8 +107,8 @@ cases-sound inner rest text path shown (b ∷ len) is e =
 
 bracketed_prefix_in-sound : (text path : List ℕ) → bracketed_prefix_in text ≡ Ok path → SpellsPrefix text path
 bracketed_prefix_in-sound text path e =
-    on_ok-parts (bracketed_in text) _ path e λ parts brackets e₁.
-    cases-sound parts.0 parts.1 text path (bracketed_in-sound text parts brackets) (onward 47 parts.0) refl e₁
+    bind_parts (brackets_in text) _ path e λ parts brackets e₁.
+    cases-sound parts.0 parts.1 text path (brackets_in-sound text parts brackets) (onward 47 parts.0) refl e₁
 
 pub prefix_in-sound : (text path : List ℕ) → prefix_in text ≡ Ok path → SpellsPrefix text path
 prefix_in-sound [] path e = let no : ⊥ = cc in absurd no
@@ -140,7 +143,7 @@ range_complete text path h =
     let inner : Lacks 93 (decimal h.iid ++ 47 ∷ decimal h.len) = lacks-append 93 (decimal h.iid) (47 ∷ decimal h.len) (lacks_bracket 48 (decimal h.iid) iid) (lacks_bracket 48 (decimal h.len) len) in
     ap prefix_in (h.spelled ∙ range_shape h.iid h.len)
     ∙ rw (
-      bracketed_in-complete (decimal h.iid ++ 47 ∷ decimal h.len) (42 ∷ []) inner,
+      brackets_in-complete (decimal h.iid ++ 47 ∷ decimal h.len) (42 ∷ []) inner,
       before_at 47 (decimal h.iid) (decimal h.len) (lacks_slash 48 (decimal h.iid) iid),
       onward_at 47 (decimal h.iid) (decimal h.len) (lacks_slash 48 (decimal h.iid) iid),
       iid_in-complete h.iid h.fits,
@@ -156,7 +159,7 @@ block_complete text path h =
     let address = plain-locator h.address_text h.address h.address_spelled in
     ap prefix_in (h.spelled ∙ block_shape h.iid h.address_text h.len)
     ∙ rw (
-      bracketed_in-complete (decimal h.iid) (h.address_text ++ 47 ∷ decimal h.len) (lacks_bracket 48 (decimal h.iid) iid),
+      brackets_in-complete (decimal h.iid) (h.address_text ++ 47 ∷ decimal h.len) (lacks_bracket 48 (decimal h.iid) iid),
       before_none 47 (decimal h.iid) (lacks_slash 48 (decimal h.iid) iid),
       onward_none 47 (decimal h.iid) (lacks_slash 48 (decimal h.iid) iid),
       iid_in-complete h.iid h.fits,
@@ -173,31 +176,29 @@ prefix_in-complete text path (inr (inl h)) = range_complete text path h
 prefix_in-complete text path (inr (inr h)) = block_complete text path h
 
 -- only bytes spell
-range_bytes : (text path : List ℕ) → SpellsRange text path → All (λ b. b < 256) text
+range_bytes : (text path : List ℕ) → SpellsRange text path → IsBytes text
 range_bytes text path h =
     let fits : h.len ≤ 32 = form_fits (Range h.iid h.len) path h.value in
-    let iid = decimal_bytes h.iid (omega (arith, h.fits)) in
-    let len = decimal_bytes h.len (omega arith) in
-    let inner : AreBytes (decimal h.iid ++ 47 ∷ decimal h.len) = bytes-append (decimal h.iid) (47 ∷ decimal h.len) iid (omega arith, len) in
-    let all : AreBytes (91 ∷ ((decimal h.iid ++ 47 ∷ decimal h.len) ++ 93 ∷ 42 ∷ [])) = (omega arith, bytes-append (decimal h.iid ++ 47 ∷ decimal h.len) (93 ∷ 42 ∷ []) inner (omega arith, (omega arith, tt))) in
-    subst (All (λ b. b < 256)) (sym (h.spelled ∙ range_shape h.iid h.len)) (all_bytes (91 ∷ ((decimal h.iid ++ 47 ∷ decimal h.len) ++ 93 ∷ 42 ∷ [])) all)
+    let len = IsBytes-cons 47 (decimal h.len) (omega arith) (decimal_bytes h.len (omega arith)) in
+    let inner = IsBytes-append (decimal h.iid) (47 ∷ decimal h.len) (decimal_bytes h.iid (omega (arith, h.fits))) len in
+    let end = IsBytes-cons 93 (42 ∷ []) (omega arith) (IsBytes-cons 42 [] (omega arith) IsBytes-nil) in
+    subst IsBytes (sym (h.spelled ∙ range_shape h.iid h.len)) (IsBytes-cons 91 _ (omega arith) (IsBytes-append (decimal h.iid ++ 47 ∷ decimal h.len) _ inner end))
 
-block_bytes : (text path : List ℕ) → SpellsBlock text path → All (λ b. b < 256) text
+block_bytes : (text path : List ℕ) → SpellsBlock text path → IsBytes text
 block_bytes text path h =
     let fits : h.len ≤ 128 = omega (arith, form_fits (Block h.iid h.address h.len) path h.value, width_most h.address) in
     let address = plain_bytes 46 h.address_text (plain-locator h.address_text h.address h.address_spelled) in
-    let len = decimal_bytes h.len (omega arith) in
-    let back : AreBytes (h.address_text ++ 47 ∷ decimal h.len) = bytes-append h.address_text (47 ∷ decimal h.len) address (omega arith, len) in
-    let all : AreBytes (91 ∷ (decimal h.iid ++ 93 ∷ (h.address_text ++ 47 ∷ decimal h.len))) = (omega arith, bytes-append (decimal h.iid) (93 ∷ (h.address_text ++ 47 ∷ decimal h.len)) (decimal_bytes h.iid (omega (arith, h.fits))) (omega arith, back)) in
-    subst (All (λ b. b < 256)) (sym (h.spelled ∙ block_shape h.iid h.address_text h.len)) (all_bytes (91 ∷ (decimal h.iid ++ 93 ∷ (h.address_text ++ 47 ∷ decimal h.len))) all)
+    let len = IsBytes-cons 47 (decimal h.len) (omega arith) (decimal_bytes h.len (omega arith)) in
+    let back = IsBytes-cons 93 _ (omega arith) (IsBytes-append h.address_text _ address len) in
+    subst IsBytes (sym (h.spelled ∙ block_shape h.iid h.address_text h.len)) (IsBytes-cons 91 _ (omega arith) (IsBytes-append (decimal h.iid) _ (decimal_bytes h.iid (omega (arith, h.fits))) back))
 
-pub prefix_bytes : (text path : List ℕ) → SpellsPrefix text path → All (λ b. b < 256) text
-prefix_bytes text path (inl h) = subst (All (λ b. b < 256)) (sym h.0) (all_bytes (42 ∷ []) (omega arith, tt))
+pub prefix_bytes : (text path : List ℕ) → SpellsPrefix text path → IsBytes text
+prefix_bytes text path (inl h) = subst IsBytes (sym h.0) (IsBytes-cons 42 [] (omega arith) IsBytes-nil)
 prefix_bytes text path (inr (inl h)) = range_bytes text path h
 prefix_bytes text path (inr (inr h)) = block_bytes text path h
 
 -- the arms of the code
-pub range_case : (text inner rest front back : List ℕ) (r : Result (List ℕ) TextFault) → bracketed_in text ≡ Ok (inner, rest) → front ≡ before 47 inner → back ≡ onward 47 inner → 1 ≤ length back → r ≡ range_in front (take (length back - 1) (drop 1 back)) rest → r ≡ bracketed_prefix_in text
+pub range_case : (text inner rest front back : List ℕ) (r : Result (List ℕ) TextFault) → brackets_in text ≡ Ok (inner, rest) → front ≡ before 47 inner → back ≡ onward 47 inner → 1 ≤ length back → r ≡ range_in front (take (length back - 1) (drop 1 back)) rest → r ≡ bracketed_prefix_in text
 range_case text inner rest front [] r brackets is_front is_back some e = absurd (omega arith)
 range_case text inner rest front (b ∷ len) r brackets is_front is_back some e =
     let whole : take (length (b ∷ len) - 1) len ≡ len = take_all (length (b ∷ len) - 1) len (omega arith) in
@@ -209,7 +210,7 @@ zero_digits zero = refl
 zero_digits (suc w) = rw (zero-div (2 ^ w)) (zero_digits w)
 
 -- everything
-pub star_case : (text : List ℕ) → 1 ≤ length text → length text < 2 → get_or text 0 0 ≡ 42 → made (prefix_of (Range 0 0)) ≡ prefix_in text
+pub star_case : (text : List ℕ) → 1 ≤ length text → length text < 2 → get_or text 0 0 ≡ 42 → prefix_or_fault (prefix_of (Range 0 0)) ≡ prefix_in text
 star_case [] some one star = absurd (omega arith)
 star_case (c ∷ d ∷ text) some one star = absurd (omega arith)
 star_case (c ∷ []) some one star = rw (zero_digits 32, star)

@@ -1,13 +1,12 @@
 -- What is written spells the value.
-use Rattle.std.proofs.Common.{◌≡◌, ℕ, zero, suc, ◌+◌, ◌*◌, ◌/◌, ◌%◌, ◌^◌, ◌<◌, List, [], ◌∷◌, length, get_or, take, All, refl, sym, ap, ◌∙◌, subst, arith, inl, inr, eq-eqb, ne_eqb}
-use Rattle.std.specs.Int.{w32, w128, bytes_high_first, to_be_bytes, from_be_bytes}
+use Rattle.std.proofs.Common.{◌≡◌, ℕ, zero, suc, ◌+◌, ◌*◌, ◌/◌, ◌%◌, ◌^◌, ◌<◌, List, [], ◌∷◌, length, take, All, refl, sym, ap, ◌∙◌, subst, arith, inl, inr, eq-eqb, ne_eqb}
+use Rattle.std.specs.Int.{w32, w128, to_be_bytes, from_be_bytes}
 use Rattle.std.specs.declared.net.ipv4_addr.Ipv4Addr.{Ipv4Addr}
 use Rattle.std.specs.declared.net.ipv6_addr.Ipv6Addr.{Ipv6Addr}
 use Rattle.std.specs.declared.net.display.HexGroups.{HexGroups}
 use Rattle.std.specs.Net.Addr.{octets_of, segments_of, ipv4_octets, ipv6_segments, IsIpv4OfBits, IsIpv6OfBits}
 use Rattle.std.specs.Net.Text.{ipv4_text, hex_groups_text, hex_groups_addr}
 use Rattle.std.proofs.lemmas.Bool.{cases_eq}
-use Rattle.std.proofs.Math.Nat.{div-div-eq-div-mul}
 use Rattle.std.proofs.lemmas.Nat.{from_be_bytes-to_be_bytes_4}
 use Rattle.std.proofs.NetLemmas.Alphabet.{IsHexOrColon, All-hex_groups_text}
 use Rattle.std.proofs.NetLemmas.Texts.{AllSegments, IsDotted-ipv4_text, IsColonHex-hex_groups_text}
@@ -22,64 +21,27 @@ use Rattle.ddt_path.specs.FormLemmas.{form_of-path}
 use Rattle.ddt_path.proofs.PrefixLemmas.{prefix_of-made}
 use Rattle.ddt_text.specs.Grammar.{SpellsLocator, SpellsXeid, SpellsPrefix}
 use Rattle.ddt_text.specs.Written.{written_locator, written_xeid, written_form, written_prefix}
-use Rattle.ddt_text.proofs.ByteLemmas.{AreBytes, Lacks}
+use Rattle.ddt_reading.specs.Steps.{IsBytes}
+use Rattle.ddt_reading.proofs.ByteLemmas.{IsBytes-number, from_16_bytes}
+use Rattle.ddt_text.proofs.ByteLemmas.{Lacks}
 use Rattle.ddt_text.proofs.AddressLemmas.{colon_hex-narrower}
 
--- bytes of a number
-be_bytes : (k n : ℕ) → AreBytes (bytes_high_first k n)
-be_bytes zero n = tt
-be_bytes (suc zero) n = (omega arith, tt)
-be_bytes (suc (suc k)) n = (omega arith, be_bytes (suc k) n)
-
-byte_of : (bs : List ℕ) → AreBytes bs → (k : ℕ) → get_or bs k 0 < 2 ^ 8
-byte_of [] h k = omega arith
-byte_of (b ∷ bs) h zero = h.0
-byte_of (b ∷ bs) h (suc k) = byte_of bs h.1 k
-
-segments_fit : (bs : List ℕ) → AreBytes bs → AllSegments (segments_of bs)
+segments_fit : (bs : List ℕ) → IsBytes bs → AllSegments (segments_of bs)
 segments_fit [] h k = omega arith
 segments_fit (a ∷ []) h k = omega arith
-segments_fit (a ∷ b ∷ bs) h zero = omega (arith, h.0, h.1.0)
-segments_fit (a ∷ b ∷ bs) h (suc k) = segments_fit bs h.1.1 k
+segments_fit (a ∷ b ∷ bs) h zero = omega (arith, h.at 0, h.at 1)
+segments_fit (a ∷ b ∷ bs) h (suc k) = segments_fit bs (record { at = λ i. h.at (suc (suc i)) }) k
 
 -- sixteen bytes through eight segments
-restored : (k : ℕ) (bs : List ℕ) → length bs ≡ k + k → AreBytes bs → octets_of (segments_of bs) ≡ bs
+restored : (k : ℕ) (bs : List ℕ) → length bs ≡ k + k → IsBytes bs → octets_of (segments_of bs) ≡ bs
 restored k [] l h = refl
 restored k (a ∷ []) l h = absurd (omega arith)
 restored zero (a ∷ b ∷ bs) l h = absurd (omega arith)
 restored (suc k) (a ∷ b ∷ bs) l h =
-    let high : (a * 256 + b) / 256 ≡ a = omega (arith, h.1.0) in
-    let low : (a * 256 + b) % 256 ≡ b = omega (arith, h.1.0) in
-    let rest = restored k bs (omega arith) h.1.1 in
+    let high : (a * 256 + b) / 256 ≡ a = omega (arith, h.at 1) in
+    let low : (a * 256 + b) % 256 ≡ b = omega (arith, h.at 1) in
+    let rest = restored k bs (omega arith) (record { at = λ i. h.at (suc (suc i)) }) in
     λ i. high i ∷ low i ∷ rest i
-
--- a number of 16 bytes from its bytes, the highest first
-regrouped : (q r p m a : ℕ) → m ≡ r + q * 256 → a ≡ q * (p * 256) → a + r * p ≡ m * p
-regrouped q r p m a is e = rw (is, e) (grind arith)
-
-with_next : (n p a : ℕ) → a ≡ n / (p * 256) * (p * 256) → a + n / p % 256 * p ≡ n / p * p
-with_next n p a e =
-    regrouped (n / (p * 256)) (n / p % 256) p (n / p) a (omega (arith, div-div-eq-div-mul n p 256)) e
-
-pub from_be_bytes-to_be_bytes_16 : (n : ℕ) → n < 2 ^ 128 → from_be_bytes w128 (to_be_bytes w128 n) ≡ n
-from_be_bytes-to_be_bytes_16 n fits =
-    let top : n / 256 ^ 15 % 256 ≡ n / 256 ^ 15 = omega arith in
-    let e15 : n / 256 ^ 15 % 256 * 256 ^ 15 ≡ n / 256 ^ 15 * 256 ^ 15 = ap (λ t. t * 256 ^ 15) top in
-    let e14 = with_next n (256 ^ 14) _ e15 in
-    let e13 = with_next n (256 ^ 13) _ e14 in
-    let e12 = with_next n (256 ^ 12) _ e13 in
-    let e11 = with_next n (256 ^ 11) _ e12 in
-    let e10 = with_next n (256 ^ 10) _ e11 in
-    let e9 = with_next n (256 ^ 9) _ e10 in
-    let e8 = with_next n (256 ^ 8) _ e9 in
-    let e7 = with_next n (256 ^ 7) _ e8 in
-    let e6 = with_next n (256 ^ 6) _ e7 in
-    let e5 = with_next n (256 ^ 5) _ e6 in
-    let e4 = with_next n (256 ^ 4) _ e5 in
-    let e3 = with_next n (256 ^ 3) _ e4 in
-    let e2 = with_next n (256 ^ 2) _ e3 in
-    let e1 = with_next n 256 _ e2 in
-    ap (λ t. t + n % 256) e1 ∙ omega arith
 
 -- locators
 hex_groups_lack_dot : (text : List ℕ) → All IsHexOrColon text → Lacks 46 text
@@ -92,14 +54,14 @@ hex_groups_lack_dot (c ∷ text) h = rw (ne_eqb c 46 (not_dot c (h 0 0 (omega ar
 
 pub written_locator-spells : (a : Locator) → address_number a < 2 ^ address_width a → SpellsLocator (written_locator a) a
 written_locator-spells (V4 n) h =
-    let bytes : AreBytes (to_be_bytes w32 n) = be_bytes 4 n in
-    (to_be_bytes w32 n, IsDotted-ipv4_text (to_be_bytes w32 n) refl (byte_of (to_be_bytes w32 n) bytes), sym (from_be_bytes-to_be_bytes_4 n h))
+    let bytes : IsBytes (to_be_bytes w32 n) = IsBytes-number 4 n in
+    (to_be_bytes w32 n, IsDotted-ipv4_text (to_be_bytes w32 n) refl bytes.at, sym (from_be_bytes-to_be_bytes_4 n h))
 written_locator-spells (V6 n) h =
-    let bytes : AreBytes (to_be_bytes w128 n) = be_bytes 16 n in
+    let bytes : IsBytes (to_be_bytes w128 n) = IsBytes-number 16 n in
     let groups = segments_of (to_be_bytes w128 n) in
     let fits = segments_fit (to_be_bytes w128 n) bytes in
     let spelled = colon_hex-narrower (hex_groups_text groups) groups (hex_groups_lack_dot (hex_groups_text groups) (All-hex_groups_text groups fits)) (IsColonHex-hex_groups_text groups refl fits) in
-    (groups, spelled, sym (ap (from_be_bytes w128) (restored 8 (to_be_bytes w128 n) refl bytes) ∙ from_be_bytes-to_be_bytes_16 n h))
+    (groups, spelled, sym (ap (from_be_bytes w128) (restored 8 (to_be_bytes w128 n) refl bytes) ∙ from_16_bytes n h))
 
 -- identifiers
 pub written_xeid-spells : (x : Xeid) → x.iid < 2 ^ 32 → address_number x.address < 2 ^ address_width x.address → SpellsXeid (written_xeid x) x

@@ -15,8 +15,9 @@ use Rattle.ddt_path.specs.declared.xeid.Xeid.{Xeid}
 use Rattle.ddt_path.specs.declared.form.Form.{Form}
 use Rattle.ddt_path.specs.declared.form.Form.TheVariants.{Range, Block}
 use Rattle.ddt_path.specs.declared.form.PrefixFault.{PrefixFault}
-use Rattle.ddt_path.specs.declared.form.PrefixFault.TheVariants as Made
+use Rattle.ddt_path.specs.declared.form.PrefixFault.TheVariants as prefix_fault
 use Rattle.ddt_path.specs.Path.{prefix_of}
+use Rattle.ddt_reading.specs.Steps.{◌>>=◌}
 use Rattle.ddt_text.specs.declared.fault.TextFault.{TextFault}
 use Rattle.ddt_text.specs.declared.fault.TextFault.TheVariants.{Empty, Bracket, Instance, Address, Length, TailNotZero, Trailing}
 
@@ -43,75 +44,72 @@ before byte text = take (position_or_len (λ b. b == byte) text) text
 abbrev pub onward : ℕ → List ℕ → List ℕ
 onward byte text = drop (position_or_len (λ b. b == byte) text) text
 
--- `next` on a value, and a fault as it is
-abbrev pub on_ok : {A B : Type 0} → Result A TextFault → (A → Result B TextFault) → Result B TextFault
-on_ok (Ok a) next = next a
-on_ok (Err fault) next = Err fault
-
 -- a value, or the fault of a part without one
-abbrev pub required : {A : Type 0} → TextFault → Option A → Result A TextFault
-required fault None = Err fault
-required fault (Some a) = Ok a
+abbrev pub value_or : {A : Type 0} → TextFault → Option A → Result A TextFault
+value_or fault None = Err fault
+value_or fault (Some a) = Ok a
 
 -- What stands between `[` and the first `]`, and what follows it.
-abbrev pub closed : List ℕ → List ℕ → Result (List ℕ × List ℕ) TextFault
-closed inner [] = Err Bracket
-closed inner (bracket ∷ rest) = Ok (inner, rest)
+abbrev pub inner_or_bracket : List ℕ → List ℕ → Result (List ℕ × List ℕ) TextFault
+inner_or_bracket inner [] = Err Bracket
+inner_or_bracket inner (bracket ∷ rest) = Ok (inner, rest)
 
-abbrev pub bracketed_in : List ℕ → Result (List ℕ × List ℕ) TextFault
-bracketed_in [] = Err Empty
-bracketed_in (first ∷ rest) = if first == 91 then closed (before 93 rest) (onward 93 rest) else Err Bracket
+abbrev pub brackets_in : List ℕ → Result (List ℕ × List ℕ) TextFault
+brackets_in [] = Err Empty
+brackets_in (first ∷ rest) = if first == 91 then inner_or_bracket (before 93 rest) (onward 93 rest) else Err Bracket
 
 abbrev pub iid_in : List ℕ → Result ℕ TextFault
-iid_in text = required Instance (number_in 4294967295 text)
+iid_in text = value_or Instance (number_in 4294967295 text)
 
 -- A locator: Empty, Address.
 abbrev pub locator_in : List ℕ → Result Locator TextFault
 locator_in [] = Err Empty
-locator_in (first ∷ rest) = required Address (address_in (first ∷ rest))
+locator_in (first ∷ rest) = value_or Address (address_in (first ∷ rest))
 
 -- An identifier: Empty, Bracket, Instance, Address, Trailing.
-abbrev pub alone : {A : Type 0} → A → List ℕ → Result A TextFault
-alone a [] = Ok a
-alone a (slash ∷ rest) = Err Trailing
+abbrev pub nothing_after : {A : Type 0} → A → List ℕ → Result A TextFault
+nothing_after a [] = Ok a
+nothing_after a (slash ∷ rest) = Err Trailing
 
 abbrev pub xeid_in : List ℕ → Result Xeid TextFault
-xeid_in text =
-    on_ok (bracketed_in text) λ parts.
-    on_ok (iid_in parts.0) λ iid.
-    on_ok (required Address (address_in (before 47 parts.1))) λ address.
-    alone (record { iid = iid; address = address }) (onward 47 parts.1)
+xeid_in text = do
+  parts ← brackets_in text
+  iid ← iid_in parts.0
+  address ← value_or Address (address_in (before 47 parts.1))
+  nothing_after (record { iid = iid; address = address }) (onward 47 parts.1)
 
 -- The prefix that a form names.
-abbrev pub made : Result (List ℕ) PrefixFault → Result (List ℕ) TextFault
-made (Ok path) = Ok path
-made (Err Made.Length) = Err Length
-made (Err Made.TailNotZero) = Err TailNotZero
+abbrev pub prefix_or_fault : Result (List ℕ) PrefixFault → Result (List ℕ) TextFault
+prefix_or_fault (Ok path) = Ok path
+prefix_or_fault (Err prefix_fault.Length) = Err Length
+prefix_or_fault (Err prefix_fault.TailNotZero) = Err TailNotZero
 
 -- A range, behind its bracket: Address, Trailing, TailNotZero.
-abbrev pub starred : Form → List ℕ → Result (List ℕ) TextFault
-starred form [] = Err Address
-starred form (star ∷ rest) = if star == 42 then (if length rest == 0 then made (prefix_of form) else Err Trailing)
+abbrev pub range_behind_star : Form → List ℕ → Result (List ℕ) TextFault
+range_behind_star form [] = Err Address
+range_behind_star form (star ∷ rest) = if star == 42 then (if length rest == 0 then prefix_or_fault (prefix_of form) else Err Trailing)
     else Err Address
 
 -- A range: Instance, Length, then these.
 abbrev pub range_in : List ℕ → List ℕ → List ℕ → Result (List ℕ) TextFault
-range_in iid len rest =
-    on_ok (iid_in iid) λ iid.
-    on_ok (required Length (number_in 32 len)) λ len.
-    if len == 0 then Err Length else starred (Range iid len) rest
+range_in iid len rest = do
+  iid ← iid_in iid
+  len ← value_or Length (number_in 32 len)
+  if len == 0 then Err Length else range_behind_star (Range iid len) rest
 
 -- A block, behind its address: Length, TailNotZero.
-abbrev pub slashed : (ℕ → Form) → List ℕ → Result (List ℕ) TextFault
-slashed form [] = Err Length
-slashed form (slash ∷ len) = on_ok (required Length (number_in 128 len)) λ len. made (prefix_of (form len))
+abbrev pub block_behind_slash : (ℕ → Form) → List ℕ → Result (List ℕ) TextFault
+block_behind_slash form [] = Err Length
+block_behind_slash form (slash ∷ len) = do
+  len ← value_or Length (number_in 128 len)
+  prefix_or_fault (prefix_of (form len))
 
 -- A block: Instance, Address, then these.
 abbrev pub block_in : List ℕ → List ℕ → Result (List ℕ) TextFault
-block_in iid rest =
-    on_ok (iid_in iid) λ iid.
-    on_ok (required Address (address_in (before 47 rest))) λ address.
-    slashed (Block iid address) (onward 47 rest)
+block_in iid rest = do
+  iid ← iid_in iid
+  address ← value_or Address (address_in (before 47 rest))
+  block_behind_slash (Block iid address) (onward 47 rest)
 
 -- A range where a `/` stands between the brackets, else a block.
 abbrev pub range_or_block : List ℕ → List ℕ → List ℕ → Result (List ℕ) TextFault
@@ -119,8 +117,9 @@ range_or_block iid [] rest = block_in iid rest
 range_or_block iid (slash ∷ len) rest = range_in iid len rest
 
 abbrev pub bracketed_prefix_in : List ℕ → Result (List ℕ) TextFault
-bracketed_prefix_in text = on_ok (bracketed_in text) λ parts.
-    range_or_block (before 47 parts.0) (onward 47 parts.0) parts.1
+bracketed_prefix_in text = do
+  parts ← brackets_in text
+  range_or_block (before 47 parts.0) (onward 47 parts.0) parts.1
 
 -- A prefix: Empty, Trailing behind a `*` at the front, Bracket, then these.
 abbrev pub prefix_in : List ℕ → Result (List ℕ) TextFault

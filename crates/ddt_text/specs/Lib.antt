@@ -1,4 +1,3 @@
 pub mod Grammar
 pub mod FirstFault
 pub mod Written
-pub mod Laws

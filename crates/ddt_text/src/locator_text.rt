@@ -6,7 +6,7 @@ ghost use Rattle.ddt_path.specs.Path.{address_number, address_width};
 ghost use Rattle.ddt_text.specs.Grammar.{SpellsLocator};
 ghost use Rattle.ddt_text.specs.FirstFault.{address_in, locator_in};
 ghost use Rattle.ddt_text.specs.Written.{written_locator};
-ghost use Rattle.ddt_text.specs.Laws.{AreRead};
+ghost use Rattle.ddt_reading.specs.Reader.{AreRead, IsAny};
 
 use crate::fault::TextFault;
 use ddt_path::Locator;
@@ -41,7 +41,7 @@ fn read_locator(text: &[u8]) -> Result<Locator, TextFault>
 pub fn parse_locator(text: &[u8]) -> Result<Locator, TextFault>
     ensures spelled { (address : Locator) → (result ≡ Ok address) ↔ SpellsLocator text.now address }
     ensures fault { result ≡ locator_in text.now }
-    ensures laws { AreRead SpellsLocator locator_in }
+    ensures laws { AreRead IsAny SpellsLocator locator_in }
 {
     read_locator(text)
 }
@@ -71,9 +71,10 @@ impl fmt::Display for LocatorText {
 pub fn write_locator(text: &mut Vec<u8>, address: Locator) -> Result<(), AllocError>
     ensures appended { text.new.items ≡ (if is_ok result then text.old.items ++ written_locator address
         else text.old.items) }
-    ensures spells { OnOk result (SpellsLocator (written_locator address) address) }
-    ensures spelled { (a : Locator) → address_number a < 2 ^ address_width a → SpellsLocator (written_locator a) a }
-    ensures again { (a : Locator) → address_number a < 2 ^ address_width a → locator_in (written_locator a) ≡ Ok a }
+    ensures spelled { OnOk result (SpellsLocator (written_locator address) address) }
+    ensures again { OnOk result (locator_in (written_locator address) ≡ Ok address) }
+    // Whatever is written spells its value.
+    ensures law { (a : Locator) → address_number a < 2 ^ address_width a → SpellsLocator (written_locator a) a }
 {
     let written = format!(in *text.allocator(); "{}", LocatorText(address))?;
     text.extend_from_slice(written.as_bytes())

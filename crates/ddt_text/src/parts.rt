@@ -2,7 +2,7 @@
 
 ghost use Rattle.std.specs.Prelude.{◌≡◌, ◌==◌, MatchResult};
 ghost use Rattle.std.specs.List.{position};
-ghost use Rattle.ddt_text.specs.FirstFault.{before, onward, bracketed_in};
+ghost use Rattle.ddt_text.specs.FirstFault.{before, onward, brackets_in};
 
 use crate::fault::TextFault;
 
@@ -22,9 +22,9 @@ pub(crate) fn cut(text: &[u8], byte: u8) -> (&[u8], &[u8])
 }
 
 /// What stands between `[` and the first `]`, and what follows it.
-pub(crate) fn bracketed(text: &[u8]) -> Result<(&[u8], &[u8]), TextFault>
-    ensures { MatchResult result (λ parts. bracketed_in text.now ≡ Ok (parts.0.now, parts.1.now)) (λ fault.
-        bracketed_in text.now ≡ Err fault) }
+pub(crate) fn split_brackets(text: &[u8]) -> Result<(&[u8], &[u8]), TextFault>
+    ensures { MatchResult result (λ parts. brackets_in text.now ≡ Ok (parts.0.now, parts.1.now)) (λ fault.
+        brackets_in text.now ≡ Err fault) }
 {
     let [first, rest @ ..] = text else {
         return Err(TextFault::Empty);

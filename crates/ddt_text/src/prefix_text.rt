@@ -4,21 +4,21 @@ ghost use Rattle.std.specs.Prelude.{◌≡◌, ◌++◌, ◌↔◌, List, ℕ, i
 ghost use Rattle.ddt_path.specs.declared.form.Form.{Form};
 ghost use Rattle.ddt_path.specs.Path.{path, IsForm};
 ghost use Rattle.ddt_text.specs.Grammar.{SpellsPrefix};
-ghost use Rattle.ddt_text.specs.FirstFault.{made, range_in, block_in, bracketed_prefix_in, prefix_in};
+ghost use Rattle.ddt_text.specs.FirstFault.{prefix_or_fault, range_in, block_in, bracketed_prefix_in, prefix_in};
 ghost use Rattle.ddt_text.specs.Written.{written_prefix};
-ghost use Rattle.ddt_text.specs.Laws.{AreRead};
+ghost use Rattle.ddt_reading.specs.Reader.{AreRead, IsAny};
 
 use crate::fault::TextFault;
 use crate::locator_text::{LocatorText, read_address};
 use crate::number::read_number;
-use crate::parts::{bracketed, cut};
+use crate::parts::{cut, split_brackets};
 use ddt_path::{Form, Prefix, PrefixFault};
 use std::alloc::AllocError;
 use std::fmt;
 
 /// The same fault in a text.
 fn in_text(formed: Result<Prefix, PrefixFault>) -> Result<Prefix, TextFault>
-    ensures { result ≡ made formed }
+    ensures { result ≡ prefix_or_fault formed }
 {
     formed.map_err(|fault| match fault {
         PrefixFault::Length => TextFault::Length,
@@ -60,7 +60,7 @@ fn read_block(iid: &[u8], rest: &[u8]) -> Result<Prefix, TextFault>
 fn read_bracketed(text: &[u8]) -> Result<Prefix, TextFault>
     ensures { result ≡ bracketed_prefix_in text.now }
 {
-    let (inner, rest) = bracketed(text)?;
+    let (inner, rest) = split_brackets(text)?;
     match cut(inner, b'/') {
         (iid, [_, len @ ..]) => read_range(iid, len, rest),
         (iid, []) => read_block(iid, rest),
@@ -84,7 +84,7 @@ fn read_prefix(text: &[u8]) -> Result<Prefix, TextFault>
 pub fn parse_prefix(text: &[u8]) -> Result<Prefix, TextFault>
     ensures spelled { (path : List ℕ) → (result ≡ Ok path) ↔ SpellsPrefix text.now path }
     ensures fault { result ≡ prefix_in text.now }
-    ensures laws { AreRead SpellsPrefix prefix_in }
+    ensures laws { AreRead IsAny SpellsPrefix prefix_in }
 {
     read_prefix(text)
 }
@@ -116,9 +116,10 @@ impl fmt::Display for PrefixText {
 pub fn write_prefix(text: &mut Vec<u8>, prefix: Prefix) -> Result<(), AllocError>
     ensures appended { text.new.items ≡ (if is_ok result then text.old.items ++ written_prefix prefix
         else text.old.items) }
-    ensures spells { OnOk result (SpellsPrefix (written_prefix prefix) prefix) }
-    ensures spelled { (form : Form) → IsForm form → SpellsPrefix (written_prefix (path form)) (path form) }
-    ensures again { (form : Form) → IsForm form → prefix_in (written_prefix (path form)) ≡ Ok (path form) }
+    ensures spelled { OnOk result (SpellsPrefix (written_prefix prefix) prefix) }
+    ensures again { OnOk result (prefix_in (written_prefix prefix) ≡ Ok prefix) }
+    // Whatever is written spells its value.
+    ensures law { (form : Form) → IsForm form → SpellsPrefix (written_prefix (path form)) (path form) }
 {
     let written = format!(in *text.allocator(); "{}", PrefixText(prefix.form()))?;
     text.extend_from_slice(written.as_bytes())

@@ -6,19 +6,19 @@ ghost use Rattle.ddt_path.specs.Path.{address_number, address_width};
 ghost use Rattle.ddt_text.specs.Grammar.{SpellsXeid};
 ghost use Rattle.ddt_text.specs.FirstFault.{xeid_in};
 ghost use Rattle.ddt_text.specs.Written.{written_xeid};
-ghost use Rattle.ddt_text.specs.Laws.{AreRead};
+ghost use Rattle.ddt_reading.specs.Reader.{AreRead, IsAny};
 
 use crate::fault::TextFault;
 use crate::locator_text::{LocatorText, read_address};
 use crate::number::read_number;
-use crate::parts::{bracketed, cut};
+use crate::parts::{cut, split_brackets};
 use ddt_path::Xeid;
 use std::alloc::AllocError;
 
 fn read_xeid(text: &[u8]) -> Result<Xeid, TextFault>
     ensures { result ≡ xeid_in text.now }
 {
-    let (inner, rest) = bracketed(text)?;
+    let (inner, rest) = split_brackets(text)?;
     let iid = read_number(inner, u32::MAX).ok_or(TextFault::Instance)?;
     let (address, rest) = cut(rest, b'/');
     let address = read_address(address).ok_or(TextFault::Address)?;
@@ -33,7 +33,7 @@ fn read_xeid(text: &[u8]) -> Result<Xeid, TextFault>
 pub fn parse_xeid(text: &[u8]) -> Result<Xeid, TextFault>
     ensures spelled { (x : Xeid) → (result ≡ Ok x) ↔ SpellsXeid text.now x }
     ensures fault { result ≡ xeid_in text.now }
-    ensures laws { AreRead SpellsXeid xeid_in }
+    ensures laws { AreRead IsAny SpellsXeid xeid_in }
 {
     read_xeid(text)
 }
@@ -42,11 +42,11 @@ pub fn parse_xeid(text: &[u8]) -> Result<Xeid, TextFault>
 #[tactic(auto, using(crate::proofs::AgainLemmas::laws))]
 pub fn write_xeid(text: &mut Vec<u8>, x: Xeid) -> Result<(), AllocError>
     ensures appended { text.new.items ≡ (if is_ok result then text.old.items ++ written_xeid x else text.old.items) }
-    ensures spells { OnOk result (SpellsXeid (written_xeid x) x) }
-    ensures spelled { (y : Xeid) → y.iid < 2 ^ 32 → address_number y.address < 2 ^ address_width y.address
+    ensures spelled { OnOk result (SpellsXeid (written_xeid x) x) }
+    ensures again { OnOk result (xeid_in (written_xeid x) ≡ Ok x) }
+    // Whatever is written spells its value.
+    ensures law { (y : Xeid) → y.iid < 2 ^ 32 → address_number y.address < 2 ^ address_width y.address
         → SpellsXeid (written_xeid y) y }
-    ensures again { (y : Xeid) → y.iid < 2 ^ 32 → address_number y.address < 2 ^ address_width y.address
-        → xeid_in (written_xeid y) ≡ Ok y }
 {
     let written = format!(in *text.allocator(); "[{}]{}", x.iid, LocatorText(x.address))?;
     text.extend_from_slice(written.as_bytes())

@@ -4,7 +4,7 @@ use Rattle.std.specs.Prelude.{◌&&◌, ◌||◌, ◌==◌, not, nat_le, is_some
 use Rattle.std.specs.List.{list_any}
 use Rattle.std.specs.FinMap.{FinMap, get, keys, contains_key, contains_key-keys}
 use Rattle.std.proofs.Math.Nat.{max-eq_left, max-eq_right}
-use Rattle.std.proofs.lemmas.Bool.{and_parts, and_from, or_cases, or_right, false≢true, not-true, not_from_false, eqb-true, leb-true, cases_lt}
+use Rattle.std.proofs.lemmas.Bool.{and_parts, and_from, or_cases, or_right, false≢true, not-true, not_from_false, eqb-true, leb-true, cases_lt, false_from_ne_true}
 use Rattle.std.proofs.lemmas.Option.{none-some}
 use Rattle.std.proofs.lemmas.List.{take-append-drop, length-take, take_all}
 use Rattle.ddt_path.specs.declared.locator.Locator.{Locator}
@@ -15,7 +15,7 @@ use Rattle.ddt_path.specs.DigitLemmas.{length-digits}
 use Rattle.ddt_path.specs.Covers.{covers, overlaps, is_strictly_below}
 use Rattle.ddt_path.specs.Free.{free, parts_from, overlaps_none}
 use Rattle.ddt_path.proofs.CoverLemmas.{covers_self, covers_trans, covers_rest, covered_same, length-covered, take-covered, overlaps-take}
-use Rattle.ddt_path.proofs.HoleLemmas.{false_where, free_whole, member_covers_none}
+use Rattle.ddt_path.proofs.HoleLemmas.{free_whole, member_covers_none}
 use Rattle.ddt_trie.specs.declared.tree.Tree.{Tree}
 use Rattle.ddt_trie.specs.PrefixMap.{path_cmp, keys_below}
 use Rattle.ddt_trie.specs.Tree.{lookup, content_of, IsMet, IsGapBelow, HasPaths}
@@ -164,7 +164,7 @@ pub longer_strictly : (p from : List ℕ) → overlaps p from ≡ true → suc (
     → is_strictly_below p from ≡ true
 longer_strictly p from o le =
     let apart : covers p from ≡ false =
-    false_where (covers p from) (λ c. let k = length-covered p from c in absurd (omega arith)) in
+    false_from_ne_true (covers p from) (λ c. let k = length-covered p from c in absurd (omega arith)) in
     elim (or_cases (covers p from) (covers from p) o) [
       | inl a ↦ absurd (false≢true (sym apart ∙ a))
       | inr b ↦ and_from (covers from p) (not (covers p from)) b (not_from_false (covers p from) apart)
@@ -187,7 +187,7 @@ module _ {V : Type 0} {m : FinMap path_cmp V} {from : List ℕ} {c : ℕ} {s : L
       → overlaps_none s q ≡ true
   all_clear q clear = all_from_members (λ p. not (overlaps p q)) s (λ p is.
       let parts = and_parts (contains_key m p) (h.test p) (sym (h.members p) ∙ is) in
-      not_from_false (overlaps p q) (false_where (overlaps p q) (λ o. clear p parts.0 (h.only p parts.1) o)))
+      not_from_false (overlaps p q) (false_from_ne_true (overlaps p q) (λ o. clear p parts.0 (h.only p parts.1) o)))
 
   is_member : (p : List ℕ) → contains_key m p ≡ true → c ≤ length p → overlaps p from ≡ true
       → list_any (tied p) s ≡ true
@@ -196,7 +196,7 @@ module _ {V : Type 0} {m : FinMap path_cmp V} {from : List ℕ} {c : ℕ} {s : L
   -- and one that some such key overlaps isn't
   taken : (q p : List ℕ) → covers from q ≡ true → contains_key m p ≡ true → c ≤ length p → overlaps p q ≡ true
       → overlaps_none s q ≡ false
-  taken q p inside key le o = false_where (overlaps_none s q) (λ none.
+  taken q p inside key le o = false_from_ne_true (overlaps_none s q) (λ none.
       false≢true (sym
       (not-true (overlaps p q)
       (member_passes (λ k. not (overlaps k q)) s p none (is_member p key le (overlaps_above p q from o inside))))

@@ -2,14 +2,13 @@
 use Rattle.std.proofs.Common.{◌≡◌, ℕ, ◌<◌, ◌≤◌, true, false, cond, List, [], ◌∷◌, length, Some, None, Option, refl, sym, ap, ◌∙◌, arith}
 use Rattle.std.specs.Prelude.{not, ◌||◌, nat_le, nat_lt, is_some}
 use Rattle.std.specs.FinMap.{find}
-use Rattle.std.proofs.lemmas.Bool.{and_from, cond-true, cond-false, false≢true, leb-true, le-leb, ltb-true, ltb-false, or_left, or_right, not_from_false}
+use Rattle.std.proofs.lemmas.Bool.{and_from, cond-true, cond-false, false≢true, leb-true, le-leb, ltb-true, ltb-false, or_left, or_right, not_from_false, false_from_ne_true}
 use Rattle.ddt_path.specs.Covers.{covers}
 use Rattle.ddt_path.specs.Free.{longest_match, longer_of}
 use Rattle.ddt_trie.specs.PrefixMap.{path_cmp, IsCovered, IsLongest}
 use Rattle.ddt_trie.specs.Entries.{map_of, none_covers, none_longer}
 use Rattle.ddt_trie.proofs.EntryLemmas.{tied, tied-true, tied_self, get-map_of}
 use Rattle.ddt_trie.proofs.LongestLemmas.{keys_pass, is_found, only_short, covered_weaker, longer_weaker, uncovered}
-use Rattle.ddt_path.proofs.HoleLemmas.{false_where}
 use Rattle.ddt_trie.proofs.MapLemmas.{IsLongest-unique}
 
 module _ {V : Type 0} (x : List ℕ) where
@@ -25,7 +24,7 @@ module _ {V : Type 0} (x : List ℕ) where
   found_first e es = cond-true (tied e.0 e.0) (Some e.1) (find path_cmp e.0 es) (tied_self e.0)
 
   found_later : (e f : List ℕ × V) (es : List (List ℕ × V)) → (f.0 ≡ e.0 → ⊥) → find path_cmp f.0 es ≡ Some f.1 → find path_cmp f.0 (e ∷ es) ≡ Some f.1
-  found_later e f es apart found = cond-false (tied f.0 e.0) (Some e.1) (find path_cmp f.0 es) (false_where (tied f.0 e.0) (λ t. apart (tied-true f.0 e.0 t))) ∙ found
+  found_later e f es apart found = cond-false (tied f.0 e.0) (Some e.1) (find path_cmp f.0 es) (false_from_ne_true (tied f.0 e.0) (λ t. apart (tied-true f.0 e.0 t))) ∙ found
 
   no_longer_self : (e : List ℕ × V) → (not (covers e.0 x) || nat_le (length e.0) (length e.0)) ≡ true
   no_longer_self e = or_right (not (covers e.0 x)) (nat_le (length e.0) (length e.0)) (le-leb (length e.0) (length e.0) (omega arith))

@@ -12,6 +12,10 @@ use Rattle.ddt_path.specs.Covers.{covers, is_strictly_below}
 abbrev pub path_cmp : List ℕ → List ℕ → Ordering
 path_cmp = slice_cmp nat_cmp
 
+-- a map with so many entries takes no more
+abbrev pub most_entries : ℕ
+most_entries = 1048576
+
 -- some key covers x
 abbrev pub IsCovered : {V : Type 0} → FinMap path_cmp V → List ℕ → Type 0
 IsCovered m x = (p : List ℕ) × IsTrue (contains_key m p) × IsTrue (covers p x)

@@ -4,6 +4,7 @@ ghost use Rattle.std.specs.Prelude.{◌≡◌, ◌≢◌, ◌<◌, false, IsTrue
 ghost use Rattle.std.specs.FinMap as map;
 ghost use Rattle.ddt_path.specs.Path.{xeid_path};
 ghost use Rattle.ddt_path.specs.Covers.{covers, is_strictly_below};
+ghost use Rattle.ddt_trie.specs.PrefixMap.{most_entries};
 
 use crate::PrefixMap;
 use ddt_path::{Prefix, Xeid};
@@ -38,7 +39,7 @@ fn found_again<M: PrefixMap<u32>>(
     prefix: Prefix,
     value: u32,
 ) -> Result<Option<u32>, (Prefix, u32)>
-    requires { map.len (M.content kept.old) < 1048576 }
+    requires { map.len (M.content kept.old) < most_entries }
     ensures found { IfOk result (λ found. found ≡ Some value) }
     ensures refused { IfErr result (λ back. (back.0 ≡ prefix) × (back.1 ≡ value)) }
     ensures unchanged { OnErr result (M.content kept.new ≡ M.content kept.old) }
@@ -55,7 +56,7 @@ fn others_stay<M: PrefixMap<u32>>(
     value: u32,
     other: Prefix,
 ) -> Result<Option<u32>, (Prefix, u32)>
-    requires room { map.len (M.content kept.old) < 1048576 }
+    requires room { map.len (M.content kept.old) < most_entries }
     requires apart { prefix ≢ other }
     ensures { IfOk result (λ found. found ≡ map.get (M.content kept.old) other) }
 {

@@ -16,5 +16,5 @@ mod trie_map;
 
 pub use laws::{free_below_by_members, free_by_members, longest_by_entries, one_longest};
 pub use list_map::ListMap;
-pub use prefix_map::PrefixMap;
+pub use prefix_map::{MOST_ENTRIES, PrefixMap};
 pub use trie_map::TrieMap;

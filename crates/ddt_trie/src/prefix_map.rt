@@ -8,10 +8,13 @@ ghost use Rattle.std.specs.FinMap as map;
 ghost use Rattle.ddt_path.specs.Path.{xeid_path};
 ghost use Rattle.ddt_path.specs.Covers.{covers};
 ghost use Rattle.ddt_path.specs.Free.{free};
-ghost use Rattle.ddt_trie.specs.PrefixMap.{path_cmp, IsCovered, keys_below, IsCoveredBelow, IsLongest, IsRetained};
+ghost use Rattle.ddt_trie.specs.PrefixMap.{path_cmp, most_entries, IsCovered, keys_below, IsCoveredBelow, IsLongest, IsRetained};
 
 use ddt_path::{Prefix, Xeid};
 use std::alloc::Global;
+
+/// A map with so many entries takes no more.
+pub const MOST_ENTRIES: usize = 1_048_576;
 
 /// A map from prefixes to values.
 pub trait PrefixMap<V: Drop>: Drop {
@@ -55,7 +58,7 @@ pub trait PrefixMap<V: Drop>: Drop {
     /// Sets the value of a prefix, and answers the one before. If memory runs out, the map is unchanged, and the prefix
     /// and the value are returned. Replacing a value never allocates. The map is to have less than 1,048,576 entries.
     fn insert(&mut self, prefix: Prefix, value: V) -> Result<Option<V>, (Prefix, V)>
-        requires { map.len (content self.old) < 1048576 }
+        requires { map.len (content self.old) < most_entries }
         ensures before { IfOk result (λ before. before ≡ map.get (content self.old) prefix) }
         ensures inserted { OnOk result (content self.new ≡ map.insert (content self.old) prefix value) }
         ensures refused { IfErr result (λ back. (back.0 ≡ prefix) × (back.1 ≡ value)) }

@@ -53,7 +53,7 @@ fn put<M: PrefixMap<u32>>(
     prefix: Prefix,
     value: u32,
 ) -> Result<Option<u32>, (Prefix, u32)> {
-    assert!(rt; map.len() < 1_048_576);
+    assert!(rt; map.len() < MOST_ENTRIES);
     map.insert(prefix, value)
 }
 

@@ -1,16 +1,17 @@
 //! A binary tree of prefixes, with one level for each digit: 32 of the Instance ID, one of the address family, and up
 //! to 128 of the address. Each call but `retain` goes down one path and no deeper, 162 nodes at most.
 
-ghost use Rattle.std.specs.Prelude.{true, false, not, None, Some, ◌≡◌, ◌≤◌, ◌+◌, length, drop, IsTrue, IsSome};
+ghost use Rattle.std.specs.Prelude.{true, false, not, None, Some, ◌≡◌, ◌≤◌, ◌+◌, length, take, drop, IsTrue, IsSome};
 ghost use Rattle.std.specs.Prelude.{IfOk, IfErr, IfSome, IfNone, ◌&&◌, ◌||◌, nat_le, nat_lt, is_some};
 ghost use Rattle.std.specs.Option.{option_copied};
 ghost use Rattle.std.specs.Fn.{FnReturnsAt};
+ghost use Rattle.ddt_path.specs.Path.{xeid_path};
 ghost use Rattle.ddt_trie.specs.Tree.{lookup, count, one_if, is_fork, is_held, is_pruned, is_pruned_below, IsTurn};
 ghost use Rattle.ddt_trie.specs.Tree.{IsSet, HasSameEntries, HasKept, IsUncovered, IsLongestBelow, IsMet, IsGapBelow};
 ghost use Rattle.ddt_trie.specs.PrefixMap.{IsKept};
 ghost use Rattle.ddt_trie.specs.declared.tree.Tree.TheVariants.{Empty};
 
-use ddt_path::Prefix;
+use ddt_path::{Prefix, Xeid};
 use std::alloc::Global;
 use std::mem;
 
@@ -56,6 +57,23 @@ pub fn turn_at(prefix: Prefix, at: u8) -> Turn
         None => Turn::End,
         Some(0 | 4) => Turn::Zero,
         Some(_) => Turn::One,
+    }
+}
+
+/// Where the first `len` digits of an identifier's path go behind the first `at` of them.
+fn turn_of(x: Xeid, len: u8, at: u8) -> Turn
+    requires within { at ≤ len }
+    requires fits { len ≤ length (xeid_path x) }
+    ensures { IsTurn at (take len (xeid_path x)) result }
+{
+    if at == len {
+        return Turn::End;
+    }
+    // A digit is 0 or 1, the family's 4 or 6.
+    if x.digit(at) % 4 == 0 {
+        Turn::Zero
+    } else {
+        Turn::One
     }
 }
 
@@ -253,6 +271,8 @@ impl<V: Drop> Tree<V> {
         ensures found { IfSome result (λ found. IsLongestBelow at self.now (drop at prefix) found.0 found.1.now) }
         ensures none { IfNone result (IsUncovered at self.now (drop at prefix)) }
     {
+        let x = prefix.inner();
+        let len = prefix.len();
         let mut tree = self;
         let mut depth = at;
         let mut best = None;
@@ -260,7 +280,7 @@ impl<V: Drop> Tree<V> {
             if let Some(value) = &node.value {
                 best = Some((depth, value));
             }
-            match turn_at(prefix, depth) {
+            match turn_of(x, len, depth) {
                 Turn::End => return best,
                 Turn::Zero => tree = &node.zero,
                 Turn::One => tree = &node.one,

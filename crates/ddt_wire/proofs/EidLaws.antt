@@ -1,8 +1,8 @@
 -- An EID that is read is spelled so, and what is spelled is read again.
-use Rattle.std.proofs.Common.{◌≡◌, ℕ, ◌+◌, ◌^◌, ◌<◌, ◌≤◌, Bool, true, false, cond, ltb, eqb, List, [], ◌∷◌, ◌++◌, length, drop, Result, Ok, Err, refl, sym, ap, subst, ◌∙◌, arith, inl, inr, length-append}
+use Rattle.std.proofs.Common.{◌≡◌, ℕ, ◌+◌, ◌^◌, ◌<◌, ◌≤◌, Bool, true, false, cond, ltb, eqb, List, ◌++◌, length, drop, Result, Ok, Err, refl, sym, ap, subst, ◌∙◌, arith, inl, inr, length-append}
 use Rattle.std.specs.Prelude.{◌||◌, not, slice_index}
 use Rattle.std.specs.Int.{w16, w32, to_be_bytes}
-use Rattle.std.proofs.lemmas.Bool.{ltb-false, le-ltb, eqb-true}
+use Rattle.std.proofs.lemmas.Bool.{ltb-false, le-ltb, eqb-true, not-false}
 use Rattle.byteorder.specs.Endian.{big_number}
 use Rattle.byteorder.specs.Numbers.{big_number-reads_back}
 use Rattle.ddt_path.specs.declared.locator.Locator.{Locator}
@@ -13,11 +13,11 @@ use Rattle.ddt_path.specs.declared.form.PrefixFault.TheVariants as prefix_fault
 use Rattle.ddt_path.specs.Path.{path, digits, are_zero, address_width, prefix_of}
 use Rattle.ddt_wire.specs.declared.eid.EidFault.{EidFault}
 use Rattle.ddt_wire.specs.declared.eid.EidFault.TheVariants.{Short, Lcaf, MaskLength}
-use Rattle.ddt_wire.specs.Steps.{◌>>=◌, in_words, IsBytes}
+use Rattle.ddt_reading.specs.Steps.{◌>>=◌, in_words, IsBytes}
 use Rattle.ddt_wire.specs.Address.{afi, family_and_address, IsAddress, address_at}
 use Rattle.ddt_wire.specs.Eid.{from_address, from_prefix, block_at, inside_at, lcaf_at, eid_at, has_length, instance_head, instance_lcaf, IsInstance, SpellsEid, Plain, Inside, Instances}
-use Rattle.ddt_wire.proofs.StepLemmas.{bind_ok, words_ok, guard_ok, held_ok, chosen, ok_is}
-use Rattle.ddt_wire.proofs.ByteLemmas.{Takes, Stands, joined, stands, number_stands, known_stands, byte_stands, known_byte, number_fits, IsBytes-drop}
+use Rattle.ddt_reading.proofs.StepLemmas.{bind_ok, words_ok, guard_ok, held_ok, chosen, ok_is}
+use Rattle.ddt_reading.proofs.ByteLemmas.{HasFront, IsBetween, ◌followed_by◌, stands, number_stands, known_stands, byte_stands, known_byte, number_fits, IsBytes-drop}
 use Rattle.ddt_wire.proofs.AddressLaws.{address_takes, address_again}
 
 -- ---- what is read is spelled so
@@ -25,7 +25,7 @@ use Rattle.ddt_wire.proofs.AddressLaws.{address_takes, address_again}
 -- what was read of a block
 record IsBlock (iid mask : ℕ) (bytes p : List ℕ) (n : ℕ) : Type 0 where
   a : Locator
-  takes : Takes bytes (family_and_address a) n
+  takes : HasFront bytes (family_and_address a) n
   fits : IsAddress a
   within : mask ≤ address_width a
   is : p ≡ path (Block iid a mask)
@@ -41,31 +41,19 @@ block_takes iid mask bytes x fits e =
 
 -- what was read of an EID
 abbrev pub IsEid : ℕ → List ℕ → List ℕ → ℕ → Type 0
-IsEid mask bytes p n = (text : List ℕ) × Takes bytes text n × SpellsEid mask text p
+IsEid mask bytes p n = (text : List ℕ) × HasFront bytes text n × SpellsEid mask text p
 
 -- the fields of an LCAF before the AFI inside it
 head_stands : (bytes : List ℕ) (len : ℕ) → IsBytes bytes → 14 ≤ length bytes → big_number 2 bytes ≡ 16387 → slice_index bytes 4 ≡ 2 → big_number 2 (drop 6 bytes) ≡ 4 + len
-    → Stands bytes 0 (instance_head (slice_index bytes 2) (slice_index bytes 3) (slice_index bytes 5) (big_number 4 (drop 8 bytes)) len) 12
+    → IsBetween bytes 0 (instance_head (slice_index bytes 2) (slice_index bytes 3) (slice_index bytes 5) (big_number 4 (drop 8 bytes)) len) 12
 head_stands bytes len fits long family type length_is =
-    let b0 = known_stands 0 2 16387 bytes fits (omega arith) family in
-    let b2 = byte_stands 2 bytes (omega arith) in
-    let b3 = byte_stands 3 bytes (omega arith) in
-    let b4 = known_byte 4 2 bytes (omega arith) type in
-    let b5 = byte_stands 5 bytes (omega arith) in
-    let r = slice_index bytes 2 in
-    let f = slice_index bytes 3 in
-    let m = slice_index bytes 5 in
-    let b24 = joined bytes (r ∷ []) (f ∷ []) 2 3 4 b2 b3 in
-    let b25 = joined bytes (r ∷ f ∷ []) (2 ∷ []) 2 4 5 b24 b4 in
-    let b26 = joined bytes (r ∷ f ∷ 2 ∷ []) (m ∷ []) 2 5 6 b25 b5 in
-    let b6 = known_stands 6 2 (4 + len) bytes fits (omega arith) length_is in
-    let b8 = number_stands 8 4 bytes fits (omega arith) in
-    let h2 = joined bytes (to_be_bytes w16 16387) (r ∷ f ∷ 2 ∷ m ∷ []) 0 2 6 b0 b26 in
-    let h6 = joined bytes (to_be_bytes w16 16387 ++ (r ∷ f ∷ 2 ∷ m ∷ [])) (to_be_bytes w16 (4 + len)) 0 6 8 h2 b6 in
-    joined bytes (to_be_bytes w16 16387 ++ (r ∷ f ∷ 2 ∷ m ∷ []) ++ to_be_bytes w16 (4 + len)) (to_be_bytes w32 (big_number 4 (drop 8 bytes))) 0 8 12 h6 b8
+    known_stands 0 2 16387 bytes fits (omega arith) family
+    followed_by (byte_stands 2 bytes (omega arith) followed_by byte_stands 3 bytes (omega arith) followed_by known_byte 4 2 bytes (omega arith) type followed_by byte_stands 5 bytes (omega arith))
+    followed_by known_stands 6 2 (4 + len) bytes fits (omega arith) length_is
+    followed_by number_stands 8 4 bytes fits (omega arith)
 
 is_instance : (bytes : List ℕ) → IsBytes bytes → IsInstance (slice_index bytes 2) (slice_index bytes 3) (slice_index bytes 5) (big_number 4 (drop 8 bytes))
-is_instance bytes fits = record { reserved_fits = fits 2; flags_fits = fits 3; mask_fits = fits 5; iid_fits = number_fits 4 (drop 8 bytes) (IsBytes-drop 8 bytes fits) }
+is_instance bytes fits = record { reserved_fits = fits.at 2; flags_fits = fits.at 3; mask_fits = fits.at 5; iid_fits = number_fits 4 (drop 8 bytes) (IsBytes-drop 8 bytes fits) }
 
 -- what is known of an LCAF whose type and length are right
 record IsLcaf (bytes : List ℕ) : Type 0 where
@@ -86,15 +74,15 @@ block_len : (a : Locator) (inner len : ℕ) → inner ≡ afi a → has_length i
 block_len (V4 x) inner len e h = eqb-true len 10 (or_left (eqb len 10) (sym (ap (λ (i : ℕ). has_length i len) e) ∙ h))
 block_len (V6 x) inner len e h = eqb-true len 22 (sym (ap (λ (i : ℕ). has_length i len) e) ∙ h)
 
-inner_afi : (a : Locator) (bytes : List ℕ) (n : ℕ) → Takes bytes (family_and_address a) n → big_number 2 bytes ≡ afi a
+inner_afi : (a : Locator) (bytes : List ℕ) (n : ℕ) → HasFront bytes (family_and_address a) n → big_number 2 bytes ≡ afi a
 inner_afi (V4 x) bytes n t = ap (big_number 2) t.parts
 inner_afi (V6 x) bytes n t = ap (big_number 2) t.parts
 
-lcaf_stands : (bytes inner : List ℕ) (n : ℕ) → IsLcaf bytes → big_number 2 (drop 6 bytes) ≡ 4 + length inner → Stands bytes 12 inner n → 12 + length inner ≡ n
-    → Takes bytes (instance_lcaf (slice_index bytes 2) (slice_index bytes 3) (slice_index bytes 5) (big_number 4 (drop 8 bytes)) inner) n
+lcaf_stands : (bytes inner : List ℕ) (n : ℕ) → IsLcaf bytes → big_number 2 (drop 6 bytes) ≡ 4 + length inner → IsBetween bytes 12 inner n → 12 + length inner ≡ n
+    → HasFront bytes (instance_lcaf (slice_index bytes 2) (slice_index bytes 3) (slice_index bytes 5) (big_number 4 (drop 8 bytes)) inner) n
 lcaf_stands bytes inner n h len i e =
     let head = instance_head (slice_index bytes 2) (slice_index bytes 3) (slice_index bytes 5) (big_number 4 (drop 8 bytes)) (length inner) in
-    record { parts = joined bytes head inner 0 12 n (head_stands bytes (length inner) h.fits h.long h.family h.type len) i; len = length-append head inner ∙ e }
+    record { parts = (head_stands bytes (length inner) h.fits h.long h.family h.type len followed_by i).is; len = length-append head inner ∙ e }
 
 -- ---- a range of instances
 
@@ -144,10 +132,6 @@ inside_takes mask bytes x h e =
       | inr p ↦ inner_block_takes mask bytes x h p.1
     ]
 
-not_false : (b : Bool) → not b ≡ false → b ≡ true
-not_false true e = refl
-not_false false e = sym e
-
 lcaf_takes : (mask : ℕ) (bytes : List ℕ) (x : List ℕ × ℕ) → IsBytes bytes → big_number 2 bytes ≡ 16387 → lcaf_at mask bytes ≡ Ok x → IsEid mask bytes x.0 x.1
 unfolding lcaf_at
 lcaf_takes mask bytes x fits family e =
@@ -158,7 +142,7 @@ lcaf_takes mask bytes x fits family e =
     let b = guard_ok (not (eqb (slice_index bytes 4) 2)) Lcaf third x a.1 in
     let c = guard_ok (ltb (length bytes) 14) Short last x b.1 in
     let d = guard_ok (not right) Lcaf (inside_at mask bytes) x c.1 in
-    let h : IsLcaf bytes = record { fits = fits; long = ltb-false _ _ c.0; family = family; type = eqb-true _ _ (not_false _ b.0); fits_inside = not_false right d.0 } in
+    let h : IsLcaf bytes = record { fits = fits; long = ltb-false _ _ c.0; family = family; type = eqb-true _ _ (not-false _ b.0); fits_inside = not-false right d.0 } in
     inside_takes mask bytes x h d.1
 
 pub eid_takes : (mask : ℕ) (bytes : List ℕ) (x : List ℕ × ℕ) → IsBytes bytes → eid_at mask bytes ≡ Ok x → IsEid mask bytes x.0 x.1
@@ -180,15 +164,15 @@ block_again iid mask a rest fits le =
     let within : ltb (address_width a) mask ≡ false = le-ltb (address_width a) mask le in
     rw (address_again a rest fits, within) refl
 
-plain_number : (a : Locator) (rest : List ℕ) → big_number 2 (family_and_address a ++ rest) ≡ afi a
+pub plain_number : (a : Locator) (rest : List ℕ) → big_number 2 (family_and_address a ++ rest) ≡ afi a
 plain_number (V4 x) rest = refl
 plain_number (V6 x) rest = refl
 
-plain_long : (a : Locator) (rest : List ℕ) → 6 ≤ length (family_and_address a ++ rest)
+pub plain_long : (a : Locator) (rest : List ℕ) → 6 ≤ length (family_and_address a ++ rest)
 plain_long (V4 x) rest = omega arith
 plain_long (V6 x) rest = omega arith
 
-not_lcaf : (a : Locator) → eqb (afi a) 16387 ≡ false
+pub not_lcaf : (a : Locator) → eqb (afi a) 16387 ≡ false
 not_lcaf (V4 x) = refl
 not_lcaf (V6 x) = refl
 
@@ -199,7 +183,7 @@ plain_again mask a rest fits le =
     let two : ltb (length (family_and_address a ++ rest)) 2 ≡ false = le-ltb _ _ (omega arith) in
     rw (two, plain_number a rest, not_lcaf a, block_again 0 mask a rest fits le) refl
 
-afi_some : (a : Locator) → eqb (afi a) 0 ≡ false
+pub afi_some : (a : Locator) → eqb (afi a) 0 ≡ false
 afi_some (V4 x) = refl
 afi_some (V6 x) = refl
 

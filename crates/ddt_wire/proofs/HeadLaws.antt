@@ -1,17 +1,15 @@
 -- A head that is read is spelled so, and what is spelled is read again.
-use Rattle.std.proofs.Common.{◌≡◌, ℕ, ◌+◌, ◌*◌, ◌/◌, ◌%◌, ◌^◌, ◌<◌, ◌≤◌, true, false, cond, ltb, eqb, List, [], ◌∷◌, ◌++◌, length, drop, Result, Ok, Err, refl, ap, subst, ◌∙◌, arith}
+use Rattle.std.proofs.Common.{◌≡◌, ℕ, ◌+◌, ◌*◌, ◌/◌, ◌%◌, ◌^◌, ◌<◌, ◌≤◌, true, false, ltb, eqb, List, ◌++◌, length, drop, Ok, refl, ap, subst, ◌∙◌, arith}
 use Rattle.std.specs.Prelude.{slice_index, not}
-use Rattle.std.specs.Int.{w16, w32, w64, to_be_bytes}
 use Rattle.std.proofs.lemmas.Bool.{ltb-false, le-ltb, eqb-true, eq-eqb, not-false}
 use Rattle.byteorder.specs.Endian.{big_number}
 use Rattle.byteorder.specs.Numbers.{big_number-reads_back}
 use Rattle.ddt_wire.specs.declared.head.Head.{Head}
 use Rattle.ddt_wire.specs.declared.head.HeadFault.{HeadFault}
-use Rattle.ddt_wire.specs.declared.head.HeadFault.TheVariants.{Short, MessageType, RecordCount}
-use Rattle.ddt_wire.specs.Steps.{IsBytes}
+use Rattle.ddt_reading.specs.Steps.{IsBytes}
 use Rattle.ddt_wire.specs.Head.{head_bytes, IsHead, head_of, head_at}
-use Rattle.ddt_wire.proofs.StepLemmas.{guard_ok, ok_is}
-use Rattle.ddt_wire.proofs.ByteLemmas.{Stands, joined, number_stands, known_stands, byte_stands, number_fits, IsBytes-drop, IsBytes-append, IsBytes-cons, IsBytes-nil, IsBytes-number}
+use Rattle.ddt_reading.proofs.StepLemmas.{guard_parts, ok_is}
+use Rattle.ddt_reading.proofs.ByteLemmas.{IsBetween, ◌followed_by◌, ◌beside◌, two_bytes, number_stands, known_stands, byte_stands, number_fits, IsBytes-drop, IsBytes-number}
 
 -- ---- what is read is spelled so
 
@@ -20,35 +18,29 @@ pub record BeginsWith (type : ℕ) (bytes : List ℕ) (h : Head) : Type 0 where
   pub ignored : ℕ
   pub ignored_fits : ignored < 2 ^ 20
   pub fits : IsHead h
-  pub stands : Stands bytes 0 (head_bytes type ignored h) 22
+  pub stands : IsBetween bytes 0 (head_bytes type ignored h) 22
 
 -- the 20 bits behind the type
 abbrev ignored_in : List ℕ → ℕ
 ignored_in bytes = slice_index bytes 0 % 16 * 65536 + slice_index bytes 1 * 256 + slice_index bytes 2
 
-head_stands : (type : ℕ) (bytes : List ℕ) → IsBytes bytes → 24 ≤ length bytes → slice_index bytes 0 / 16 ≡ type → slice_index bytes 3 ≡ 1 → Stands bytes 0 (head_bytes type (ignored_in bytes) (head_of bytes)) 22
+head_stands : (type : ℕ) (bytes : List ℕ) → IsBytes bytes → 24 ≤ length bytes → slice_index bytes 0 / 16 ≡ type → slice_index bytes 3 ≡ 1 → IsBetween bytes 0 (head_bytes type (ignored_in bytes) (head_of bytes)) 22
 head_stands type bytes fits long named one =
-    let h = head_of bytes in
     let word = type * 2 ^ 28 + (ignored_in bytes * 2 ^ 8 + 1) in
     let first : big_number 4 bytes ≡ word = omega (arith, named, one) in
-    let two = to_be_bytes w32 word ++ to_be_bytes w64 h.nonce in
-    let three = two ++ to_be_bytes w32 h.ttl in
-    let four = three ++ (h.locators ∷ h.mask_len ∷ []) in
-    let five = four ++ to_be_bytes w16 h.flags in
-    let at_4 = known_stands 0 4 word bytes fits (omega (arith, long)) first in
-    let at_12 = joined bytes (to_be_bytes w32 word) (to_be_bytes w64 h.nonce) 0 4 12 at_4 (number_stands 4 8 bytes fits (omega (arith, long))) in
-    let at_16 = joined bytes two (to_be_bytes w32 h.ttl) 0 12 16 at_12 (number_stands 12 4 bytes fits (omega (arith, long))) in
-    let both = joined bytes (h.locators ∷ []) (h.mask_len ∷ []) 16 17 18 (byte_stands 16 bytes (omega (arith, long))) (byte_stands 17 bytes (omega (arith, long))) in
-    let at_18 = joined bytes three (h.locators ∷ h.mask_len ∷ []) 0 16 18 at_16 both in
-    let at_20 = joined bytes four (to_be_bytes w16 h.flags) 0 18 20 at_18 (number_stands 18 2 bytes fits (omega (arith, long))) in
-    joined bytes five (to_be_bytes w16 h.version) 0 20 22 at_20 (number_stands 20 2 bytes fits (omega (arith, long)))
+    known_stands 0 4 word bytes fits (omega (arith, long)) first
+    followed_by number_stands 4 8 bytes fits (omega (arith, long))
+    followed_by number_stands 12 4 bytes fits (omega (arith, long))
+    followed_by (byte_stands 16 bytes (omega (arith, long)) followed_by byte_stands 17 bytes (omega (arith, long)))
+    followed_by number_stands 18 2 bytes fits (omega (arith, long))
+    followed_by number_stands 20 2 bytes fits (omega (arith, long))
 
 read_head_fits : (bytes : List ℕ) → IsBytes bytes → IsHead (head_of bytes)
 read_head_fits bytes fits = record {
   nonce_fits = number_fits 8 (drop 4 bytes) (IsBytes-drop 4 bytes fits);
   ttl_fits = number_fits 4 (drop 12 bytes) (IsBytes-drop 12 bytes fits);
-  locators_fit = fits 16;
-  mask_fits = fits 17;
+  locators_fit = fits.at 16;
+  mask_fits = fits.at 17;
   flags_fit = number_fits 2 (drop 18 bytes) (IsBytes-drop 18 bytes fits);
   version_fits = number_fits 2 (drop 20 bytes) (IsBytes-drop 20 bytes fits);
 }
@@ -56,23 +48,17 @@ read_head_fits bytes fits = record {
 pub head_takes : (type : ℕ) (bytes : List ℕ) (h : Head) → IsBytes bytes → head_at type bytes ≡ Ok h → BeginsWith type bytes h
 unfolding head_at
 head_takes type bytes h fits e =
-    let found : Result Head HeadFault = Ok (head_of bytes) in
-    let fourth = cond (ltb (length bytes) 24) (Err Short) found in
-    let third = cond (not (eqb (slice_index bytes 3) 1)) (Err RecordCount) fourth in
-    let second = cond (not (eqb (slice_index bytes 0 / 16) type)) (Err MessageType) third in
-    let a = guard_ok (ltb (length bytes) 4) Short second h e in
-    let b = guard_ok (not (eqb (slice_index bytes 0 / 16) type)) MessageType third h a.1 in
-    let c = guard_ok (not (eqb (slice_index bytes 3) 1)) RecordCount fourth h b.1 in
-    let d = guard_ok (ltb (length bytes) 24) Short found h c.1 in
-    let named : slice_index bytes 0 / 16 ≡ type = eqb-true _ _ (not-false _ b.0) in
-    let one : slice_index bytes 3 ≡ 1 = eqb-true _ _ (not-false _ c.0) in
+    guard_parts (ltb (length bytes) 4) _ _ h e λ a e₁.
+    guard_parts (not (eqb (slice_index bytes 0 / 16) type)) _ _ h e₁ λ b e₂.
+    guard_parts (not (eqb (slice_index bytes 3) 1)) _ _ h e₂ λ c e₃.
+    guard_parts (ltb (length bytes) 24) _ _ h e₃ λ d e₄.
     let made : BeginsWith type bytes (head_of bytes) = record {
       ignored = ignored_in bytes;
-      ignored_fits = omega (arith, fits 0, fits 1, fits 2);
+      ignored_fits = omega (arith, fits.at 0, fits.at 1, fits.at 2);
       fits = read_head_fits bytes fits;
-      stands = head_stands type bytes fits (ltb-false _ _ d.0) named one;
+      stands = head_stands type bytes fits (ltb-false _ _ d) (eqb-true _ _ (not-false _ b)) (eqb-true _ _ (not-false _ c));
     } in
-    subst (λ (x : Head). BeginsWith type bytes x) (ok_is {E = HeadFault} (head_of bytes) h d.1) made
+    subst (λ (x : Head). BeginsWith type bytes x) (ok_is {E = HeadFault} (head_of bytes) h e₄) made
 
 -- ---- what is spelled is read again
 
@@ -108,14 +94,5 @@ head_again type ignored h tail small few fits some =
 
 pub head_is_bytes : (type ignored : ℕ) (h : Head) → IsHead h → IsBytes (head_bytes type ignored h)
 head_is_bytes type ignored h fits =
-    let word = type * 2 ^ 28 + (ignored * 2 ^ 8 + 1) in
-    let two = to_be_bytes w32 word ++ to_be_bytes w64 h.nonce in
-    let three = two ++ to_be_bytes w32 h.ttl in
-    let four = three ++ (h.locators ∷ h.mask_len ∷ []) in
-    let five = four ++ to_be_bytes w16 h.flags in
-    let both = IsBytes-cons h.locators (h.mask_len ∷ []) fits.locators_fit (IsBytes-cons h.mask_len [] fits.mask_fits IsBytes-nil) in
-    let a = IsBytes-append (to_be_bytes w32 word) (to_be_bytes w64 h.nonce) (IsBytes-number 4 word) (IsBytes-number 8 h.nonce) in
-    let b = IsBytes-append two (to_be_bytes w32 h.ttl) a (IsBytes-number 4 h.ttl) in
-    let c = IsBytes-append three (h.locators ∷ h.mask_len ∷ []) b both in
-    let d = IsBytes-append four (to_be_bytes w16 h.flags) c (IsBytes-number 2 h.flags) in
-    IsBytes-append five (to_be_bytes w16 h.version) d (IsBytes-number 2 h.version)
+    IsBytes-number 4 (type * 2 ^ 28 + (ignored * 2 ^ 8 + 1)) beside IsBytes-number 8 h.nonce beside IsBytes-number 4 h.ttl
+    beside two_bytes h.locators h.mask_len fits.locators_fit fits.mask_fits beside IsBytes-number 2 h.flags beside IsBytes-number 2 h.version

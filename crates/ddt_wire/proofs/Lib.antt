@@ -1,13 +1,10 @@
 pub mod AppendLemmas
 pub mod EidLemmas
-pub mod LocatorLoop
-pub mod LocatorLemmas
-pub mod MessageLemmas
-pub mod ByteLemmas
-pub mod StepLemmas
+pub mod AddressLoop
+pub mod AddressesLemmas
 pub mod AddressLaws
 pub mod EidLaws
-pub mod LocatorLaws
+pub mod AddressesLaws
 pub mod HeadLaws
 pub mod MessageLaws
 pub mod WrittenLaws

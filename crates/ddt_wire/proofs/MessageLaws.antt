@@ -1,78 +1,35 @@
 -- A Map-Referral that is read is spelled so, and what is spelled is read again.
 use Rattle.std.proofs.Common.{◌≡◌, ℕ, zero, suc, ◌+◌, ◌*◌, ◌/◌, ◌%◌, ◌^◌, ◌<◌, ◌≤◌, Bool, true, false, cond, eqb, List, [], ◌++◌, length, drop, Option, Some, None, Ok, Err, refl, sym, ap, subst, ◌∙◌, arith, length-append, append_assoc}
-use Rattle.std.proofs.lemmas.Bool.{eqb-true, ne_eqb}
+use Rattle.std.proofs.lemmas.Bool.{eqb-true}
 use Rattle.std.proofs.lemmas.List.{append-nil, nil_from_length, drop-drop}
 use Rattle.std.proofs.Math.Seq.{drop-append_seam}
 use Rattle.ddt_path.specs.declared.locator.Locator.{Locator}
-use Rattle.ddt_path.specs.declared.record.Action.{Action}
-use Rattle.ddt_path.specs.declared.record.Action.TheVariants.{NodeReferral, MsReferral, MsAck, MsNotRegistered, DelegationHole, NotAuthoritative}
+use Rattle.ddt_path.specs.declared.action.Action.{Action}
+use Rattle.ddt_path.specs.Actions.{number, action_of}
+use Rattle.ddt_path.proofs.ActionLemmas.{number_of, action_again, number-le}
 use Rattle.ddt_wire.specs.declared.head.Head.{Head}
 use Rattle.ddt_wire.specs.declared.fault.ReferralFault.{ReferralFault}
 use Rattle.ddt_wire.specs.declared.fault.ReferralFault.TheVariants as fault
-use Rattle.ddt_wire.specs.Steps.{◌>>=◌, in_words, IsBytes}
+use Rattle.ddt_reading.specs.Steps.{in_words, IsBytes}
 use Rattle.ddt_wire.specs.Head.{head_bytes, IsHead, action_number, head_at}
 use Rattle.ddt_wire.specs.Eid.{eid_at}
-use Rattle.ddt_wire.specs.LocatorRecord.{locators_at}
-use Rattle.ddt_wire.specs.Referral.{Message, Ignored, Spells, act, bit, flags_of, message_head, from_head, from_eid, action_of, action_or_fault, action_in, message_with, message_in}
-use Rattle.ddt_wire.proofs.StepLemmas.{bind_ok, words_ok, held_ok, ok_is}
-use Rattle.ddt_wire.proofs.ByteLemmas.{Stands, joined, stands, IsBytes-drop}
+use Rattle.ddt_wire.specs.Addresses.{addresses_at}
+use Rattle.ddt_wire.specs.LocatorRecord.{from_address, locators_at}
+use Rattle.ddt_wire.specs.Referral.{Message, Ignored, Spells, bit, flags_of, message_head, from_head, from_eid, action_or_fault, action_in, message_with, message_in}
+use Rattle.ddt_reading.proofs.StepLemmas.{bind_ok, bind_parts, words_ok, held_ok, ok_is}
+use Rattle.ddt_reading.proofs.ByteLemmas.{IsBetween, ◌followed_by◌, stands, IsBytes-drop}
 use Rattle.ddt_wire.proofs.HeadLaws.{BeginsWith, head_takes, head_again}
 use Rattle.ddt_wire.proofs.EidLaws.{IsEid, eid_takes, eid_again, eid_some}
-use Rattle.ddt_wire.proofs.LocatorLaws.{AreLocators, locators_take, locators_again}
+use Rattle.ddt_wire.proofs.AddressesLaws.{AreAddresses, addresses_take, addresses_again}
 
 -- ---- the flags
 
-bit_of : (x : ℕ) → x < 2 → bit (eqb x 1) ≡ x
+pub bit_of : (x : ℕ) → x < 2 → bit (eqb x 1) ≡ x
 bit_of zero lt = refl
 bit_of (suc zero) lt = refl
 bit_of (suc (suc x)) lt = absurd (omega arith)
 
-abbrev IsNone : Option Action → Type 0
-IsNone None = Unit {0}
-IsNone (Some a) = ⊥
-
-none_some : {action : Action} → None ≡ Some action → ⊥
-none_some e = subst IsNone e tt
-
-named : (a b : Action) → Some a ≡ Some b → act a ≡ act b
-named a b e = let same : a ≡ b = cc in ap act same
-
-none_above : (n : ℕ) → 6 ≤ n → action_of n ≡ None
-none_above n h =
-    let e0 : eqb n 0 ≡ false = ne_eqb n 0 (λ e. omega arith) in
-    let e1 : eqb n 1 ≡ false = ne_eqb n 1 (λ e. omega arith) in
-    let e2 : eqb n 2 ≡ false = ne_eqb n 2 (λ e. omega arith) in
-    let e3 : eqb n 3 ≡ false = ne_eqb n 3 (λ e. omega arith) in
-    let e4 : eqb n 4 ≡ false = ne_eqb n 4 (λ e. omega arith) in
-    let e5 : eqb n 5 ≡ false = ne_eqb n 5 (λ e. omega arith) in
-    rw (e0, e1, e2, e3, e4, e5) refl
-
-number_of : (n : ℕ) (action : Action) → action_of n ≡ Some action → n ≡ act action
-number_of zero action e = named NodeReferral action e
-number_of (suc zero) action e = named MsReferral action e
-number_of (suc (suc zero)) action e = named MsAck action e
-number_of (suc (suc (suc zero))) action e = named MsNotRegistered action e
-number_of (suc (suc (suc (suc zero)))) action e = named DelegationHole action e
-number_of (suc (suc (suc (suc (suc zero))))) action e = named NotAuthoritative action e
-number_of (suc (suc (suc (suc (suc (suc n)))))) action e = absurd (none_some (sym (none_above (suc (suc (suc (suc (suc (suc n)))))) (omega arith)) ∙ e))
-
-action_again : (action : Action) → action_of (act action) ≡ Some action
-action_again NodeReferral = refl
-action_again MsReferral = refl
-action_again MsAck = refl
-action_again MsNotRegistered = refl
-action_again DelegationHole = refl
-action_again NotAuthoritative = refl
-
-act-le : (action : Action) → act action ≤ 5
-act-le NodeReferral = omega arith
-act-le MsReferral = omega arith
-act-le MsAck = omega arith
-act-le MsNotRegistered = omega arith
-act-le DelegationHole = omega arith
-act-le NotAuthoritative = omega arith
-
-bit-le : (b : Bool) → bit b ≤ 1
+pub bit-le : (b : Bool) → bit b ≤ 1
 bit-le true = omega arith
 bit-le false = omega arith
 
@@ -82,7 +39,7 @@ some_action None action e = absurd cc
 
 -- what the flags and the version say where they are right
 abbrev IsUnsigned : Head → Action → Type 0
-IsUnsigned h action = (h.flags / 2 ^ 13 ≡ act action) × (h.version / 2 ^ 12 ≡ 0)
+IsUnsigned h action = (h.flags / 2 ^ 13 ≡ number action) × (h.version / 2 ^ 12 ≡ 0)
 
 action_holds : (h : Head) (action : Action) → action_in h ≡ Ok action → IsUnsigned h action
 unfolding action_in
@@ -90,7 +47,7 @@ action_holds h action e =
     let f = bind_ok (action_or_fault (action_of (action_number h))) (λ a. cond (eqb (h.version / 2 ^ 12) 0) (Ok a) (Err fault.Signed)) action e in
     let g = held_ok (eqb (h.version / 2 ^ 12) 0) fault.Signed (Ok f.0) action f.2 in
     let same : f.0 ≡ action = ok_is {E = ReferralFault} f.0 action g.1 in
-    (number_of (action_number h) f.0 (some_action (action_of (action_number h)) f.0 f.1) ∙ ap act same, eqb-true _ _ g.0)
+    (number_of (action_number h) f.0 (some_action (action_of (action_number h)) f.0 f.1) ∙ ap number same, eqb-true _ _ g.0)
 
 flags_stand : (h : Head) (action : Action) → IsUnsigned h action
     → flags_of action (eqb (h.flags / 2 ^ 12 % 2) 1) (eqb (h.flags / 2 ^ 11 % 2) 1) (h.flags % 2 ^ 11) ≡ h.flags
@@ -116,17 +73,17 @@ head_back : (h : Head) (action : Action) (p : List ℕ) (ls : List Locator) → 
     → message_head h.mask_len (eqb (h.flags / 2 ^ 12 % 2) 1) (h.flags % 2 ^ 11) h.version (message_with h action p ls) ≡ h
 head_back h action p ls u count = let f = flags_stand h action u in rw (count, f) refl
 
-ended : (bytes text front rest : List ℕ) (n : ℕ) → Stands bytes 0 text n → drop n bytes ≡ front ++ rest → rest ≡ [] → bytes ≡ text ++ front
-ended bytes text front rest n p q e = p ∙ ap (λ (t : List ℕ). text ++ t) (q ∙ ap (λ (t : List ℕ). front ++ t) e ∙ append-nil front)
+ended : (bytes text front rest : List ℕ) (n : ℕ) → IsBetween bytes 0 text n → drop n bytes ≡ front ++ rest → rest ≡ [] → bytes ≡ text ++ front
+ended bytes text front rest n p q e = p.is ∙ ap (λ (t : List ℕ). text ++ t) (q ∙ ap (λ (t : List ℕ). front ++ t) e ∙ append-nil front)
 
 -- a datagram of which the head, the EID and the locators were read
 spelled : (bytes : List ℕ) (h : Head) (action : Action) (p : List ℕ) (n : ℕ) (ls : List Locator) (rest : List ℕ) → BeginsWith 6 bytes h → IsUnsigned h action → IsEid h.mask_len (drop 22 bytes) p n
-    → AreLocators (drop n (drop 22 bytes)) ls rest → length ls ≡ h.locators → rest ≡ [] → Spells bytes (message_with h action p ls)
+    → AreAddresses 6 (drop n (drop 22 bytes)) ls rest → length ls ≡ h.locators → rest ≡ [] → Spells bytes (message_with h action p ls)
 spelled bytes h action p n ls rest b u (text, t, s) l count nothing =
     let i = ignored_of h action b.ignored b.ignored_fits b.fits u in
     let front = head_bytes 6 b.ignored (message_head h.mask_len i.authoritative i.flags i.version (message_with h action p ls)) in
-    let one : Stands bytes 0 front 22 = subst (λ (x : Head). Stands bytes 0 (head_bytes 6 b.ignored x) 22) (sym (head_back h action p ls u count)) b.stands in
-    let two = joined bytes front text 0 22 (22 + n) one (stands bytes text 22 n t) in
+    let one : IsBetween bytes 0 front 22 = subst (λ (x : Head). IsBetween bytes 0 (head_bytes 6 b.ignored x) 22) (sym (head_back h action p ls u count)) b.stands in
+    let two = one followed_by stands bytes text 22 n t in
     record {
       ignored = i;
       mask = h.mask_len;
@@ -144,24 +101,24 @@ spelled bytes h action p n ls rest b u (text, t, s) l count nothing =
 pub message_takes : (bytes : List ℕ) (v : Message) → IsBytes bytes → message_in bytes ≡ Ok v → Spells bytes v
 unfolding message_in
 message_takes bytes v fits e =
-    let a = bind_ok (in_words from_head (head_at 6 bytes)) (λ head. action_in head >>= λ action. in_words from_eid (eid_at head.mask_len (drop 22 bytes)) >>= λ eid. locators_at head.locators (drop eid.1 (drop 22 bytes)) >>= λ ls. cond (eqb (length ls.1) 0) (Ok (message_with head action eid.0 ls.0)) (Err fault.Trailing)) v e in
-    let h = a.0 in
-    let b = bind_ok (action_in h) (λ action. in_words from_eid (eid_at h.mask_len (drop 22 bytes)) >>= λ eid. locators_at h.locators (drop eid.1 (drop 22 bytes)) >>= λ ls. cond (eqb (length ls.1) 0) (Ok (message_with h action eid.0 ls.0)) (Err fault.Trailing)) v a.2 in
-    let c = bind_ok (in_words from_eid (eid_at h.mask_len (drop 22 bytes))) (λ eid. locators_at h.locators (drop eid.1 (drop 22 bytes)) >>= λ ls. cond (eqb (length ls.1) 0) (Ok (message_with h b.0 eid.0 ls.0)) (Err fault.Trailing)) v b.2 in
-    let d = bind_ok (locators_at h.locators (drop c.0.1 (drop 22 bytes))) (λ ls. cond (eqb (length ls.1) 0) (Ok (message_with h b.0 c.0.0 ls.0)) (Err fault.Trailing)) v c.2 in
-    let f = held_ok (eqb (length d.0.1) 0) fault.Trailing (Ok (message_with h b.0 c.0.0 d.0.0)) v d.2 in
+    bind_parts (in_words from_head (head_at 6 bytes)) _ v e λ h read₁ e₁.
+    bind_parts (action_in h) _ v e₁ λ action read₂ e₂.
+    bind_parts (in_words from_eid (eid_at h.mask_len (drop 22 bytes))) _ v e₂ λ eid read₃ e₃.
+    bind_parts (locators_at h.locators (drop eid.1 (drop 22 bytes))) _ v e₃ λ ls read₄ e₄.
+    let f = held_ok (eqb (length ls.1) 0) fault.Trailing (Ok (message_with h action eid.0 ls.0)) v e₄ in
     let eid_fits = IsBytes-drop 22 bytes fits in
-    let begins = head_takes 6 bytes h fits (words_ok from_head (head_at 6 bytes) h a.1) in
-    let r = eid_takes h.mask_len (drop 22 bytes) c.0 eid_fits (words_ok from_eid (eid_at h.mask_len (drop 22 bytes)) c.0 c.1) in
-    let ls = locators_take h.locators (drop c.0.1 (drop 22 bytes)) d.0 (IsBytes-drop c.0.1 (drop 22 bytes) eid_fits) d.1 in
-    let made = spelled bytes h b.0 c.0.0 c.0.1 d.0.0 d.0.1 begins (action_holds h b.0 b.1) r ls.0 ls.1 (nil_from_length d.0.1 (eqb-true (length d.0.1) 0 f.0)) in
-    subst (λ (y : Message). Spells bytes y) {x = message_with h b.0 c.0.0 d.0.0} (ok_is {E = ReferralFault} (message_with h b.0 c.0.0 d.0.0) v f.1) made
+    let begins = head_takes 6 bytes h fits (words_ok from_head (head_at 6 bytes) h read₁) in
+    let r = eid_takes h.mask_len (drop 22 bytes) eid eid_fits (words_ok from_eid (eid_at h.mask_len (drop 22 bytes)) eid read₃) in
+    let from_locators = drop eid.1 (drop 22 bytes) in
+    let l = addresses_take 6 h.locators from_locators ls (IsBytes-drop eid.1 (drop 22 bytes) eid_fits) (words_ok from_address (addresses_at 6 h.locators from_locators) ls read₄) in
+    let made = spelled bytes h action eid.0 eid.1 ls.0 ls.1 begins (action_holds h action read₂) r l.0 l.1 (nil_from_length ls.1 (eqb-true (length ls.1) 0 f.0)) in
+    subst (Spells bytes) (ok_is {E = ReferralFault} (message_with h action eid.0 ls.0) v f.1) made
 
 -- ---- what is spelled is read again
 
 action_read : (h : Head) (action : Action) → IsUnsigned h action → action_in h ≡ Ok action
 unfolding action_in
-action_read h action (number, signatures) = rw (number, action_again action, signatures) refl
+action_read h action (same, signatures) = rw (same, action_again action, signatures) refl
 
 message_read : (bytes : List ℕ) (h : Head) (action : Action) (p : List ℕ) (n : ℕ) (ls : List Locator) → head_at 6 bytes ≡ Ok h → action_in h ≡ Ok action → eid_at h.mask_len (drop 22 bytes) ≡ Ok (p, n)
     → locators_at h.locators (drop n (drop 22 bytes)) ≡ Ok (ls, []) → message_in bytes ≡ Ok (message_with h action p ls)
@@ -196,14 +153,14 @@ head_fits bytes v s =
       ttl_fits = s.ttl_fits;
       locators_fit = s.count_fits;
       mask_fits = s.mask_fits;
-      flags_fit = flags_fit (act v.action) (bit i.authoritative) (bit v.incomplete) i.flags (act-le v.action) (bit-le i.authoritative) (bit-le v.incomplete) i.flags_fits;
+      flags_fit = flags_fit (number v.action) (bit i.authoritative) (bit v.incomplete) i.flags (number-le v.action) (bit-le i.authoritative) (bit-le v.incomplete) i.flags_fits;
       version_fits = omega (arith, i.version_fits);
     }
 
 message_back : (i : Ignored) (mask : ℕ) (v : Message) → message_with (head_spelled i mask v) v.action v.prefix v.locators ≡ v
 message_back i mask v =
     let h = head_spelled i mask v in
-    let f = bit_again v.incomplete (h.flags / 2 ^ 11 % 2) (incomplete_again (act v.action) (bit i.authoritative) (bit v.incomplete) i.flags (act-le v.action) (bit-le i.authoritative) (bit-le v.incomplete) i.flags_fits) in
+    let f = bit_again v.incomplete (h.flags / 2 ^ 11 % 2) (incomplete_again (number v.action) (bit i.authoritative) (bit v.incomplete) i.flags (number-le v.action) (bit-le i.authoritative) (bit-le v.incomplete) i.flags_fits) in
     rw (f) refl
 
 pub message_again : (bytes : List ℕ) (v : Message) → Spells bytes v → message_in bytes ≡ Ok v
@@ -215,10 +172,10 @@ message_again bytes v s =
     let regrouped : bytes ≡ front ++ tail = s.whole ∙ append_assoc front s.eid s.locators in
     let some : 2 ≤ length tail = omega (arith, length-append s.eid s.locators, eid_some s.mask s.eid v.prefix s.spells_eid) in
     let begins = head_again 6 i.reserved h tail (omega arith) i.reserved_fits (head_fits bytes v s) some in
-    let number = act_again (act v.action) (bit i.authoritative) (bit v.incomplete) i.flags (act-le v.action) (bit-le i.authoritative) (bit-le v.incomplete) i.flags_fits in
-    let action = action_read h v.action (number, signatures_again i.version i.version_fits) in
+    let same = act_again (number v.action) (bit i.authoritative) (bit v.incomplete) i.flags (number-le v.action) (bit-le i.authoritative) (bit-le v.incomplete) i.flags_fits in
+    let action = action_read h v.action (same, signatures_again i.version i.version_fits) in
     let locators : locators_at (length v.locators) (drop (length s.eid) tail) ≡ Ok (v.locators, []) =
-    ap (locators_at (length v.locators)) (drop-append_seam s.eid s.locators ∙ sym (append-nil s.locators)) ∙ locators_again s.locators v.locators [] s.spells_locators in
+    ap (locators_at (length v.locators)) (drop-append_seam s.eid s.locators ∙ sym (append-nil s.locators)) ∙ ap (in_words from_address) (addresses_again 6 s.locators v.locators [] s.spells_locators) in
     ap message_in regrouped
     ∙ message_read (front ++ tail) h v.action v.prefix (length s.eid) v.locators begins action (eid_again s.mask s.eid v.prefix s.locators s.spells_eid) locators
     ∙ ap (λ (m : Message). Ok m) (message_back i s.mask v)

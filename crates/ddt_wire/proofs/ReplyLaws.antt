@@ -1,20 +1,21 @@
 -- A negative Map-Reply that is read is spelled so, what is spelled is read again, and what is written spells its value.
-use Rattle.std.proofs.Common.{◌≡◌, ℕ, ◌+◌, ◌/◌, ◌%◌, ◌^◌, ◌<◌, true, cond, eqb, List, [], ◌++◌, length, drop, Result, Ok, Err, refl, sym, ap, subst, ◌∙◌, arith, length-drop}
-use Rattle.std.specs.Prelude.{◌↔◌, IfOk, not}
-use Rattle.std.specs.Result.{IsErr}
+use Rattle.std.proofs.Common.{◌≡◌, ℕ, ◌+◌, ◌/◌, ◌%◌, ◌^◌, ◌<◌, true, eqb, List, [], ◌++◌, length, drop, Ok, refl, sym, ap, subst, ◌∙◌, arith, length-drop}
+use Rattle.std.specs.Prelude.{not}
 use Rattle.std.proofs.lemmas.Bool.{eqb-true, eq-eqb, not-false}
 use Rattle.std.proofs.lemmas.List.{append-nil, drop_all}
 use Rattle.ddt_wire.specs.declared.head.Head.{Head}
 use Rattle.ddt_wire.specs.declared.negative_reply.NegativeReply.{NegativeReply}
 use Rattle.ddt_wire.specs.declared.negative_reply.ReplyFault.{ReplyFault}
 use Rattle.ddt_wire.specs.declared.negative_reply.ReplyFault.TheVariants as fault
-use Rattle.ddt_wire.specs.Steps.{◌>>=◌, in_words, IsBytes}
+use Rattle.ddt_reading.specs.Steps.{in_words, IsBytes}
 use Rattle.ddt_wire.specs.Head.{head_bytes, IsHead, action_number, head_at}
 use Rattle.ddt_wire.specs.Eid.{eid_at, written_eid, written_mask_len}
-use Rattle.ddt_wire.specs.NegativeReply.{Ignored, reply_head, SpellsReply, written_reply, reply_of, from_head, from_eid, after_eid, after_head, reply_in}
+use Rattle.ddt_wire.specs.NegativeReply.{Ignored, reply_head, SpellsReply, written_reply, reply_of, from_head, from_eid, reply_in}
 use Rattle.ddt_wire.specs.Laws.{IsReply}
-use Rattle.ddt_wire.proofs.StepLemmas.{bind_ok, guard_ok, held_ok, words_ok, ok_is, err_not_ok, err_unless}
-use Rattle.ddt_wire.proofs.ByteLemmas.{Stands, joined, stands, IsBytes-drop, IsBytes-append}
+use Rattle.ddt_reading.specs.Reader.{AreRead}
+use Rattle.ddt_reading.proofs.ReaderLemmas.{are_read}
+use Rattle.ddt_reading.proofs.StepLemmas.{bind_parts, guard_parts, words_ok, held_ok, ok_is}
+use Rattle.ddt_reading.proofs.ByteLemmas.{IsBetween, ◌followed_by◌, stands, IsBytes-drop, ◌beside◌}
 use Rattle.ddt_wire.proofs.HeadLaws.{BeginsWith, head_takes, head_again, head_is_bytes}
 use Rattle.ddt_wire.proofs.EidLaws.{IsEid, eid_takes, eid_again, eid_some}
 use Rattle.ddt_wire.proofs.WrittenLaws.{eid_spells, eid_is_bytes, mask_len_fits}
@@ -32,8 +33,8 @@ spelled : (bytes : List ℕ) (h : Head) (p : List ℕ) (n : ℕ) → BeginsWith 
 spelled bytes h p n b none act (text, t, s) all =
     let i : Ignored = record { reserved = b.ignored; flags = h.flags % 2 ^ 13; version = h.version; reserved_fits = b.ignored_fits; flags_fits = omega arith; version_fits = b.fits.version_fits } in
     let front = head_bytes 2 b.ignored (reply_head h.mask_len i.flags i.version (reply_of h.nonce h.ttl p)) in
-    let one : Stands bytes 0 front 22 = subst (λ (x : Head). Stands bytes 0 (head_bytes 2 b.ignored x) 22) (sym (head_back h p none act)) b.stands in
-    let two = joined bytes front text 0 22 (22 + n) one (stands bytes text 22 n t) in
+    let one : IsBetween bytes 0 front 22 = subst (λ (x : Head). IsBetween bytes 0 (head_bytes 2 b.ignored x) 22) (sym (head_back h p none act)) b.stands in
+    let two = one followed_by stands bytes text 22 n t in
     let nothing : drop (22 + n) bytes ≡ [] = drop_all (22 + n) bytes (omega (arith, all, length-drop 22 bytes)) in
     record {
       ignored = i;
@@ -43,24 +44,21 @@ spelled bytes h p n b none act (text, t, s) all =
       ttl_fits = b.fits.ttl_fits;
       mask_fits = b.fits.mask_fits;
       spells_eid = s;
-      whole = two ∙ ap (λ (rest : List ℕ). (front ++ text) ++ rest) nothing ∙ append-nil (front ++ text);
+      whole = two.is ∙ ap (λ (rest : List ℕ). (front ++ text) ++ rest) nothing ∙ append-nil (front ++ text);
     }
 
 pub reply_takes : (bytes : List ℕ) (v : NegativeReply) → IsBytes bytes → reply_in bytes ≡ Ok v → SpellsReply bytes v
 unfolding reply_in
 reply_takes bytes v fits e =
-    let a = bind_ok (in_words from_head (head_at 2 bytes)) (after_head bytes) v e in
-    let h = a.0 in
-    let read = in_words from_eid (eid_at h.mask_len (drop 22 bytes)) >>= after_eid bytes h in
-    let acted = cond (not (eqb (action_number h) 1)) (Err fault.BadAction) read in
-    let b = guard_ok (not (eqb h.locators 0)) fault.LocatorCount acted v a.2 in
-    let c = guard_ok (not (eqb (action_number h) 1)) fault.BadAction read v b.1 in
-    let d = bind_ok (in_words from_eid (eid_at h.mask_len (drop 22 bytes))) (after_eid bytes h) v c.1 in
-    let f = held_ok (eqb d.0.1 (length (drop 22 bytes))) fault.Trailing (Ok (reply_of h.nonce h.ttl d.0.0)) v d.2 in
-    let begins = head_takes 2 bytes h fits (words_ok from_head (head_at 2 bytes) h a.1) in
-    let eid = eid_takes h.mask_len (drop 22 bytes) d.0 (IsBytes-drop 22 bytes fits) (words_ok from_eid (eid_at h.mask_len (drop 22 bytes)) d.0 d.1) in
-    let made = spelled bytes h d.0.0 d.0.1 begins (eqb-true _ _ (not-false _ b.0)) (eqb-true _ _ (not-false _ c.0)) eid (eqb-true _ _ f.0) in
-    subst (λ (y : NegativeReply). SpellsReply bytes y) (ok_is {E = ReplyFault} (reply_of h.nonce h.ttl d.0.0) v f.1) made
+    bind_parts (in_words from_head (head_at 2 bytes)) _ v e λ h read₁ e₁.
+    guard_parts (not (eqb h.locators 0)) _ _ v e₁ λ count e₂.
+    guard_parts (not (eqb (action_number h) 1)) _ _ v e₂ λ action e₃.
+    bind_parts (in_words from_eid (eid_at h.mask_len (drop 22 bytes))) _ v e₃ λ eid read₂ e₄.
+    let f = held_ok (eqb eid.1 (length (drop 22 bytes))) fault.Trailing (Ok (reply_of h.nonce h.ttl eid.0)) v e₄ in
+    let begins = head_takes 2 bytes h fits (words_ok from_head (head_at 2 bytes) h read₁) in
+    let r = eid_takes h.mask_len (drop 22 bytes) eid (IsBytes-drop 22 bytes fits) (words_ok from_eid (eid_at h.mask_len (drop 22 bytes)) eid read₂) in
+    let made = spelled bytes h eid.0 eid.1 begins (eqb-true _ _ (not-false _ count)) (eqb-true _ _ (not-false _ action)) r (eqb-true _ _ f.0) in
+    subst (SpellsReply bytes) (ok_is {E = ReplyFault} (reply_of h.nonce h.ttl eid.0) v f.1) made
 
 -- ---- what is spelled is read again
 
@@ -93,25 +91,15 @@ reply_again bytes v s =
     let eid : eid_at s.mask s.eid ≡ Ok (v.prefix, length s.eid) = ap (eid_at s.mask) (sym (append-nil s.eid)) ∙ eid_again s.mask s.eid v.prefix [] s.spells_eid in
     ap reply_in s.whole ∙ reply_read (front ++ s.eid) h v.prefix (length s.eid) begins refl (act_again i.flags i.flags_fits) eid refl
 
--- ---- only bytes, at most one, and faults
+-- ---- only bytes, and the laws
 
 pub reply_is_bytes : (bytes : List ℕ) (v : NegativeReply) → SpellsReply bytes v → IsBytes bytes
 reply_is_bytes bytes v s =
-    let h = reply_head s.mask s.ignored.flags s.ignored.version v in
-    let front = head_is_bytes 2 s.ignored.reserved h (head_fits bytes v s) in
-    subst IsBytes (sym s.whole) (IsBytes-append (head_bytes 2 s.ignored.reserved h) s.eid front (eid_is_bytes s.mask s.eid v.prefix s.spells_eid))
+    let head = head_is_bytes 2 s.ignored.reserved (reply_head s.mask s.ignored.flags s.ignored.version v) (head_fits bytes v s) in
+    subst IsBytes (sym s.whole) (head beside eid_is_bytes s.mask s.eid v.prefix s.spells_eid)
 
-pub one_reply : (bytes : List ℕ) (v w : NegativeReply) → SpellsReply bytes v → SpellsReply bytes w → v ≡ w
-one_reply bytes v w a b = ok_is {E = ReplyFault} v w (sym (reply_again bytes v a) ∙ reply_again bytes w b)
-
-pub reply_faults : (bytes : List ℕ) → IsBytes bytes → IsErr (reply_in bytes) ↔ ((v : NegativeReply) → SpellsReply bytes v → ⊥)
-reply_faults bytes fits =
-    (λ e v s. err_not_ok (reply_in bytes) v e (reply_again bytes v s), λ n. err_unless (reply_in bytes) (λ v e. n v (reply_takes bytes v fits e)))
-
--- what was read of a slice
-pub reply_found : (bytes : List ℕ) (r : Result NegativeReply ReplyFault) → IsBytes bytes → r ≡ reply_in bytes → IfOk r (λ v. SpellsReply bytes v)
-reply_found bytes (Ok v) fits e = reply_takes bytes v fits (sym e)
-reply_found bytes (Err d) fits e = tt
+pub replies_are_read : AreRead IsBytes SpellsReply reply_in
+replies_are_read = are_read reply_again reply_takes reply_is_bytes
 
 -- ---- written
 

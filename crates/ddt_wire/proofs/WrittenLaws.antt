@@ -1,30 +1,32 @@
 -- What is written spells what was to be written; and what spells something is bytes.
 use Rattle.std.proofs.Common.{◌≡◌, ℕ, zero, suc, ◌+◌, ◌^◌, ◌<◌, ◌≤◌, true, List, [], ◌∷◌, ◌++◌, length, take, drop, refl, sym, ap, subst, ◌∙◌, arith, Ok, Err, Result}
 use Rattle.std.specs.Prelude.{◌↔◌, IfOk}
-use Rattle.std.specs.List.{flat_map, AllByRecursion}
-use Rattle.std.specs.Int.{w16, w32, w128, to_be_bytes}
+use Rattle.std.specs.List.{flat_map}
+use Rattle.std.specs.Int.{w16, to_be_bytes}
 use Rattle.std.specs.Result.{IsErr}
 use Rattle.std.proofs.Math.Dec.{eqb-suc-zero}
 use Rattle.std.proofs.lemmas.List.{take_all}
-use Rattle.std.proofs.lemmas.List.Concat.{flat_map-cons}
 use Rattle.ddt_path.specs.declared.locator.Locator.{Locator}
 use Rattle.ddt_path.specs.declared.locator.Locator.TheVariants.{V4, V6}
 use Rattle.ddt_path.specs.declared.form.Form.{Form}
 use Rattle.ddt_path.specs.declared.form.Form.TheVariants.{Range, Block}
 use Rattle.ddt_path.specs.declared.record.ReferralRecord.{ReferralRecord}
 use Rattle.ddt_wire.specs.declared.eid.EidFault.{EidFault}
-use Rattle.ddt_wire.specs.declared.fault.ReferralFault.{ReferralFault}
-use Rattle.ddt_wire.proofs.StepLemmas.{ok_is, err_not_ok, err_unless}
+use Rattle.ddt_reading.proofs.StepLemmas.{ok_is, err_not_ok, err_unless}
+use Rattle.ddt_path.specs.Locators.{most_locators}
 use Rattle.ddt_path.specs.Path.{path, IsForm}
-use Rattle.ddt_wire.specs.Steps.{IsBytes}
-use Rattle.ddt_wire.specs.Address.{family_and_address, IsAddress}
-use Rattle.ddt_wire.specs.Eid.{SpellsEid, Plain, Inside, Instances, IsInstance, instance_head, instance_lcaf, written_form, form_mask_len, written_eid, written_mask_len, eid_at}
-use Rattle.ddt_wire.specs.LocatorRecord.{SpellsLocator, SpellsLocators, written_locator}
-use Rattle.ddt_wire.specs.Head.{head_bytes}
+use Rattle.ddt_reading.specs.Steps.{IsBytes}
+use Rattle.ddt_reading.specs.Reader.{AreRead}
+use Rattle.ddt_reading.proofs.ReaderLemmas.{are_read}
+use Rattle.ddt_wire.specs.Address.{family_and_address}
+use Rattle.ddt_wire.specs.Eid.{SpellsEid, Plain, Inside, Instances, IsInstance, instance_lcaf, written_form, form_mask_len, written_eid, written_mask_len, eid_at}
+use Rattle.ddt_wire.specs.LocatorRecord.{before_written, written_locator}
 use Rattle.ddt_wire.specs.Referral.{Message, Ignored, Spells, written, message_of, message_record, message_in}
 use Rattle.ddt_wire.specs.Laws.{IsPrefix, IsRecord}
 use Rattle.ddt_wire.proofs.EidLemmas.{form_of-named}
-use Rattle.ddt_wire.proofs.ByteLemmas.{IsBytes-number, IsBytes-append, IsBytes-cons, IsBytes-nil, Takes-take, Takes-fits}
+use Rattle.ddt_reading.proofs.ByteLemmas.{◌beside◌, two_bytes, IsBytes-number, HasFront-take, HasFront-fits}
+use Rattle.ddt_wire.proofs.AddressLaws.{address_is_bytes}
+use Rattle.ddt_wire.proofs.AddressesLaws.{addresses_spell, addresses_are_bytes}
 use Rattle.ddt_wire.proofs.EidLaws.{eid_takes, eid_again}
 use Rattle.ddt_wire.proofs.HeadLaws.{head_is_bytes}
 use Rattle.ddt_wire.proofs.MessageLaws.{head_spelled, head_fits, message_takes, message_again}
@@ -42,26 +44,6 @@ form_spells (Block (suc n) a len) h = Inside 0 0 0 (suc n) a (no_flags 0 (suc n)
 pub eid_spells : (p : List ℕ) → IsPrefix p → SpellsEid (written_mask_len p) (written_eid p) p
 eid_spells p (form, h, e) = rw (form_of-named p form e h) (subst (λ (q : List ℕ). SpellsEid (form_mask_len form) (written_form form) q) e (form_spells form h))
 
-locator_spells : (l : Locator) → IsAddress l → SpellsLocator (written_locator l) l
-locator_spells l fits = record {
-  priority = 1;
-  weight = 100;
-  m_priority = 255;
-  m_weight = 0;
-  flags = 1;
-  priority_fits = omega arith;
-  weight_fits = omega arith;
-  m_priority_fits = omega arith;
-  m_weight_fits = omega arith;
-  flags_fits = omega arith;
-  locator_fits = fits;
-  whole = refl;
-}
-
-locators_spell : (ls : List Locator) → AllByRecursion IsAddress ls → SpellsLocators (flat_map written_locator ls) ls
-locators_spell [] h = refl
-locators_spell (l ∷ ls) h = (written_locator l, flat_map written_locator ls, locator_spells l h.0, locators_spell ls h.1, flat_map-cons written_locator l ls)
-
 mask_small : (form : Form) → IsForm form → form_mask_len form < 256
 mask_small (Range iid len) h = omega arith
 mask_small (Block iid (V4 a) len) h = omega (arith, h.2)
@@ -69,6 +51,12 @@ mask_small (Block iid (V6 a) len) h = omega (arith, h.2)
 
 pub mask_len_fits : (p : List ℕ) → IsPrefix p → written_mask_len p < 256
 mask_len_fits p (form, h, e) = rw (form_of-named p form e h) (mask_small form h)
+
+four : (a b c d : ℕ) → a < 256 → b < 256 → c < 256 → d < 256 → IsBytes (a ∷ b ∷ c ∷ d ∷ [])
+four a b c d ha hb hc hd = two_bytes a b ha hb beside two_bytes c d hc hd
+
+before_is_bytes : IsBytes before_written
+before_is_bytes = four 1 100 255 0 (omega arith) (omega arith) (omega arith) (omega arith) beside IsBytes-number 2 1
 
 pub written_spells : (nonce : ℕ) (r : ReferralRecord) → IsRecord nonce r → Spells (written nonce r) (message_of nonce r)
 written_spells nonce r h =
@@ -83,59 +71,34 @@ written_spells nonce r h =
       mask_fits = mask_len_fits r.prefix h.prefix_is;
       count_fits = omega (arith, h.count_fits);
       spells_eid = eid_spells r.prefix h.prefix_is;
-      spells_locators = locators_spell r.servers h.servers_fit;
+      spells_locators = addresses_spell before_written r.servers before_is_bytes h.servers_fit;
       whole = refl;
     }
 
 -- ---- bytes
 
-address_is_bytes : (a : Locator) → IsBytes (family_and_address a)
-address_is_bytes (V4 a) = IsBytes-append (to_be_bytes w16 1) (to_be_bytes w32 a) (IsBytes-number 2 1) (IsBytes-number 4 a)
-address_is_bytes (V6 a) = IsBytes-append (to_be_bytes w16 2) (to_be_bytes w128 a) (IsBytes-number 2 2) (IsBytes-number 16 a)
-
-four : (a b c d : ℕ) → a < 256 → b < 256 → c < 256 → d < 256 → IsBytes (a ∷ b ∷ c ∷ d ∷ [])
-four a b c d ha hb hc hd = IsBytes-cons a (b ∷ c ∷ d ∷ []) ha (IsBytes-cons b (c ∷ d ∷ []) hb (IsBytes-cons c (d ∷ []) hc (IsBytes-cons d [] hd IsBytes-nil)))
-
 lcaf_is_bytes : (r f m iid : ℕ) (inner : List ℕ) → IsInstance r f m iid → IsBytes inner → IsBytes (instance_lcaf r f m iid inner)
 lcaf_is_bytes r f m iid inner h i =
-    let a = IsBytes-append (to_be_bytes w16 16387) (r ∷ f ∷ 2 ∷ m ∷ []) (IsBytes-number 2 16387) (four r f 2 m h.reserved_fits h.flags_fits (omega arith) h.mask_fits) in
-    let b = IsBytes-append (to_be_bytes w16 16387 ++ (r ∷ f ∷ 2 ∷ m ∷ [])) (to_be_bytes w16 (4 + length inner)) a (IsBytes-number 2 (4 + length inner)) in
-    let c = IsBytes-append (to_be_bytes w16 16387 ++ (r ∷ f ∷ 2 ∷ m ∷ []) ++ to_be_bytes w16 (4 + length inner)) (to_be_bytes w32 iid) b (IsBytes-number 4 iid) in
-    IsBytes-append (instance_head r f m iid (length inner)) inner c i
+    IsBytes-number 2 16387 beside four r f 2 m h.reserved_fits h.flags_fits (omega arith) h.mask_fits
+    beside IsBytes-number 2 (4 + length inner) beside IsBytes-number 4 iid beside i
 
 pub eid_is_bytes : (mask : ℕ) (bytes p : List ℕ) → SpellsEid mask bytes p → IsBytes bytes
 eid_is_bytes mask bytes p (Plain a fits le is value) = subst IsBytes (sym is) (address_is_bytes a)
 eid_is_bytes mask bytes p (Inside r f m iid a h fits le is value) = subst IsBytes (sym is) (lcaf_is_bytes r f m iid (family_and_address a) h (address_is_bytes a))
 eid_is_bytes mask bytes p (Instances r f len iid h le zeros is value) = subst IsBytes (sym is) (lcaf_is_bytes r f len iid (to_be_bytes w16 0) h (IsBytes-number 2 0))
 
-locator_is_bytes : (bytes : List ℕ) (l : Locator) → SpellsLocator bytes l → IsBytes bytes
-locator_is_bytes bytes l s =
-    let a = four s.priority s.weight s.m_priority s.m_weight s.priority_fits s.weight_fits s.m_priority_fits s.m_weight_fits in
-    let b = IsBytes-append (s.priority ∷ s.weight ∷ s.m_priority ∷ s.m_weight ∷ []) (to_be_bytes w16 s.flags) a (IsBytes-number 2 s.flags) in
-    subst IsBytes (sym s.whole) (IsBytes-append ((s.priority ∷ s.weight ∷ s.m_priority ∷ s.m_weight ∷ []) ++ to_be_bytes w16 s.flags) (family_and_address l) b (address_is_bytes l))
-
-locators_are_bytes : (ls : List Locator) (bytes : List ℕ) → SpellsLocators bytes ls → IsBytes bytes
-locators_are_bytes [] bytes s = subst IsBytes (sym s) IsBytes-nil
-locators_are_bytes (l ∷ ls) bytes (f, g, one, others, e) = subst IsBytes (sym e) (IsBytes-append f g (locator_is_bytes f l one) (locators_are_bytes ls g others))
-
 pub message_is_bytes : (bytes : List ℕ) (v : Message) → Spells bytes v → IsBytes bytes
 message_is_bytes bytes v s =
-    let front = head_bytes 6 s.ignored.reserved (head_spelled s.ignored s.mask v) in
-    let a = head_is_bytes 6 s.ignored.reserved (head_spelled s.ignored s.mask v) (head_fits bytes v s) in
-    let b = IsBytes-append front s.eid a (eid_is_bytes s.mask s.eid v.prefix s.spells_eid) in
-    subst IsBytes (sym s.whole) (IsBytes-append (front ++ s.eid) s.locators b (locators_are_bytes v.locators s.locators s.spells_locators))
+    let head = head_is_bytes 6 s.ignored.reserved (head_spelled s.ignored s.mask v) (head_fits bytes v s) in
+    subst IsBytes (sym s.whole) (head beside eid_is_bytes s.mask s.eid v.prefix s.spells_eid beside addresses_are_bytes 6 v.locators s.locators s.spells_locators)
 
 -- ---- at most one, and faults
 
 pub one_eid : (mask : ℕ) (bytes p q : List ℕ) → SpellsEid mask bytes p → SpellsEid mask bytes q → p ≡ q
 one_eid mask bytes p q a b = ap (λ (x : List ℕ × ℕ). x.0) (ok_is {E = EidFault} (p, length bytes) (q, length bytes) (sym (eid_again mask bytes p [] a) ∙ eid_again mask bytes q [] b))
 
-pub one_message : (bytes : List ℕ) (v w : Message) → Spells bytes v → Spells bytes w → v ≡ w
-one_message bytes v w a b = ok_is {E = ReferralFault} v w (sym (message_again bytes v a) ∙ message_again bytes w b)
-
-pub message_faults : (bytes : List ℕ) → IsBytes bytes → IsErr (message_in bytes) ↔ ((v : Message) → Spells bytes v → ⊥)
-message_faults bytes fits =
-    (λ e v s. err_not_ok (message_in bytes) v e (message_again bytes v s), λ n. err_unless (message_in bytes) (λ v e. n v (message_takes bytes v fits e)))
+pub messages_are_read : AreRead IsBytes Spells message_in
+messages_are_read = are_read message_again message_takes message_is_bytes
 
 pub eid_faults : (mask : ℕ) (bytes : List ℕ) → IsBytes bytes → IsErr (eid_at mask bytes) ↔ ((eid rest p : List ℕ) → SpellsEid mask eid p → bytes ≡ eid ++ rest → ⊥)
 eid_faults mask bytes fits = (
@@ -147,21 +110,15 @@ eid_faults mask bytes fits = (
 pub eid_taken : (mask : ℕ) (bytes p : List ℕ) (taken : ℕ) → IsBytes bytes → eid_at mask bytes ≡ Ok (p, taken) → SpellsEid mask (take taken bytes) p × (taken ≤ length bytes)
 eid_taken mask bytes p taken fits e =
     let t = eid_takes mask bytes (p, taken) fits e in
-    (subst (λ (text : List ℕ). SpellsEid mask text p) (sym (Takes-take bytes t.0 taken t.1)) t.2, Takes-fits bytes t.0 taken t.1)
+    (subst (λ (text : List ℕ). SpellsEid mask text p) (sym (HasFront-take bytes t.0 taken t.1)) t.2, HasFront-fits bytes t.0 taken t.1)
 
 -- ---- the record of a message
 
-pub record_back : (nonce : ℕ) (r : ReferralRecord) → length r.servers ≤ 8 → message_record (message_of nonce r) ≡ r
+pub record_back : (nonce : ℕ) (r : ReferralRecord) → length r.servers ≤ most_locators → message_record (message_of nonce r) ≡ r
 record_back nonce r few =
-    ap (λ (ls : List Locator). record r { servers = ls }) (take_all 8 r.servers few)
+    ap (λ (ls : List Locator). record r { servers = ls }) (take_all most_locators r.servers few)
 
 -- what was read of a slice
 pub eid_found : (mask : ℕ) (bytes : List ℕ) (r : Result (List ℕ × ℕ) EidFault) → IsBytes bytes → r ≡ eid_at mask bytes → IfOk r (λ x. SpellsEid mask (take x.1 bytes) x.0 × (x.1 ≤ length bytes))
-eid_found mask bytes (Ok x) fits e =
-    let t = eid_takes mask bytes x fits (sym e) in
-    (subst (λ (text : List ℕ). SpellsEid mask text x.0) (sym (Takes-take bytes t.0 x.1 t.1)) t.2, Takes-fits bytes t.0 x.1 t.1)
+eid_found mask bytes (Ok x) fits e = eid_taken mask bytes x.0 x.1 fits (sym e)
 eid_found mask bytes (Err d) fits e = tt
-
-pub message_found : (bytes : List ℕ) (r : Result Message ReferralFault) → IsBytes bytes → r ≡ message_in bytes → IfOk r (λ v. Spells bytes v)
-message_found bytes (Ok v) fits e = message_takes bytes v fits (sym e)
-message_found bytes (Err d) fits e = tt

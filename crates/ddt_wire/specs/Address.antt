@@ -9,10 +9,29 @@ use Rattle.ddt_path.specs.Path.{address_number, address_width}
 use Rattle.ddt_wire.specs.declared.address.AddressFault.{AddressFault}
 use Rattle.ddt_wire.specs.declared.address.AddressFault.TheVariants.{Short, Family}
 
--- 1 for IPv4, 2 for IPv6
+-- the AFI where no address follows; those of IPv4, of IPv6 and of an LCAF (RFC 8060, section 3)
+abbrev pub no_address : ℕ
+no_address = 0
+
+abbrev pub ipv4 : ℕ
+ipv4 = 1
+
+abbrev pub ipv6 : ℕ
+ipv6 = 2
+
+abbrev pub lcaf : ℕ
+lcaf = 16387
+
+-- how many bytes an address of each family takes with its AFI
+abbrev pub ipv4_len : ℕ
+ipv4_len = 6
+
+abbrev pub ipv6_len : ℕ
+ipv6_len = 18
+
 abbrev pub afi : Locator → ℕ
-afi (V4 a) = 1
-afi (V6 a) = 2
+afi (V4 a) = ipv4
+afi (V6 a) = ipv6
 
 abbrev pub address_bytes : Locator → List ℕ
 address_bytes (V4 a) = to_be_bytes w32 a
@@ -31,8 +50,8 @@ IsAddress a = address_number a < 2 ^ address_width a
 unfoldable pub address_at : List ℕ → Result (Locator × ℕ) AddressFault
 address_at bytes =
     if nat_lt (length bytes) 2 then Err Short
-    else if big_number 2 bytes == 1 then (if nat_lt (length bytes) 6 then Err Short
-    else Ok (V4 (big_number 4 (drop 2 bytes)), 6))
-    else if big_number 2 bytes == 2 then (if nat_lt (length bytes) 18 then Err Short
-    else Ok (V6 (big_number 16 (drop 2 bytes)), 18))
+    else if big_number 2 bytes == ipv4 then (if nat_lt (length bytes) ipv4_len then Err Short
+    else Ok (V4 (big_number 4 (drop 2 bytes)), ipv4_len))
+    else if big_number 2 bytes == ipv6 then (if nat_lt (length bytes) ipv6_len then Err Short
+    else Ok (V6 (big_number 16 (drop 2 bytes)), ipv6_len))
     else Err Family

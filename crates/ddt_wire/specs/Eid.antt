@@ -14,8 +14,8 @@ use Rattle.ddt_wire.specs.declared.address.AddressFault.{AddressFault}
 use Rattle.ddt_wire.specs.declared.address.AddressFault.TheVariants as address_fault
 use Rattle.ddt_wire.specs.declared.eid.EidFault.{EidFault}
 use Rattle.ddt_wire.specs.declared.eid.EidFault.TheVariants.{Short, EidFamily, Lcaf, MaskLength, TailNotZero}
-use Rattle.ddt_wire.specs.Steps.{◌>>=◌, in_words}
-use Rattle.ddt_wire.specs.Address.{family_and_address, IsAddress, address_at}
+use Rattle.ddt_reading.specs.Steps.{◌>>=◌, in_words}
+use Rattle.ddt_wire.specs.Address.{no_address, ipv4, ipv6, lcaf, ipv4_len, ipv6_len, family_and_address, IsAddress, address_at}
 
 -- ---- what spells a prefix
 
@@ -23,7 +23,7 @@ use Rattle.ddt_wire.specs.Address.{family_and_address, IsAddress, address_at}
 -- what stands inside: an AFI and perhaps an address
 abbrev pub instance_head : ℕ → ℕ → ℕ → ℕ → ℕ → List ℕ
 instance_head reserved flags iid_mask iid inner_len =
-    to_be_bytes w16 16387 ++ (reserved ∷ flags ∷ 2 ∷ iid_mask ∷ []) ++ to_be_bytes w16 (4 + inner_len) ++ to_be_bytes
+    to_be_bytes w16 lcaf ++ (reserved ∷ flags ∷ 2 ∷ iid_mask ∷ []) ++ to_be_bytes w16 (4 + inner_len) ++ to_be_bytes
     w32 iid
 
 abbrev pub instance_lcaf : ℕ → ℕ → ℕ → ℕ → List ℕ → List ℕ
@@ -50,7 +50,7 @@ pub data SpellsEid (mask : ℕ) (bytes p : List ℕ) : Type 0 where
   -- a range of instances, with AFI 0 in place of an address; the digits past its length are 0
   Instances : (reserved flags len iid : ℕ) → IsInstance reserved flags len iid → len ≤ 32
       → are_zero (drop len (digits 32 iid)) ≡ true
-      → bytes ≡ instance_lcaf reserved flags len iid (to_be_bytes w16 0) → p ≡ path (Range iid len)
+      → bytes ≡ instance_lcaf reserved flags len iid (to_be_bytes w16 no_address) → p ≡ path (Range iid len)
       → SpellsEid mask bytes p
 
 -- ---- what is written
@@ -58,7 +58,7 @@ pub data SpellsEid (mask : ℕ) (bytes p : List ℕ) : Type 0 where
 -- The one form that is written: a block of instance 0 as its address, a block of another instance with IID mask-len 0,
 -- a range of instances with its length as IID mask-len and AFI 0 inside.
 abbrev pub written_form : Form → List ℕ
-written_form (Range iid len) = instance_lcaf 0 0 len iid (to_be_bytes w16 0)
+written_form (Range iid len) = instance_lcaf 0 0 len iid (to_be_bytes w16 no_address)
 written_form (Block iid address len) = if iid == 0 then family_and_address address else instance_lcaf 0 0 0 iid
     (family_and_address address)
 
@@ -93,14 +93,15 @@ block_at iid mask bytes =
 -- an LCAF whose type and length are right, with its Instance ID and the AFI inside it
 unfoldable pub inside_at : ℕ → List ℕ → Result (List ℕ × ℕ) EidFault
 inside_at mask bytes =
-    if big_number 2 (drop 12 bytes) == 0 then
+    if big_number 2 (drop 12 bytes) == no_address then
     (in_words from_prefix (prefix_of (Range (big_number 4 (drop 8 bytes)) (slice_index bytes 5))) >>= λ p.
     Ok (p, 14))
     else (block_at (big_number 4 (drop 8 bytes)) mask (drop 12 bytes) >>= λ b. Ok (b.0, 12 + b.1))
 
 -- whether the length field fits the AFI inside, which is 0, 1 or 2
 abbrev pub has_length : ℕ → ℕ → Bool
-has_length inner len = (inner == 0 && len == 6) || ((inner == 1 && len == 10) || (inner == 2 && len == 22))
+has_length inner len = (inner == no_address && len == 4 + 2) || ((inner == ipv4 && len == 4 + ipv4_len)
+    || (inner == ipv6 && len == 4 + ipv6_len))
 
 -- an LCAF from its AFI on
 unfoldable pub lcaf_at : ℕ → List ℕ → Result (List ℕ × ℕ) EidFault
@@ -117,5 +118,5 @@ lcaf_at mask bytes =
 unfoldable pub eid_at : ℕ → List ℕ → Result (List ℕ × ℕ) EidFault
 eid_at mask bytes =
     if nat_lt (length bytes) 2 then Err Short
-    else if big_number 2 bytes == 16387 then lcaf_at mask bytes
+    else if big_number 2 bytes == lcaf then lcaf_at mask bytes
     else block_at 0 mask bytes

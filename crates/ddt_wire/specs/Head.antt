@@ -23,9 +23,12 @@ pub record IsHead (h : Head) : Type 0 where
   pub flags_fit : h.flags < 2 ^ 16
   pub version_fits : h.version < 2 ^ 16
 
--- ACT
+-- the place of ACT in the flags
+abbrev pub act_place : ℕ
+act_place = 2 ^ 13
+
 abbrev pub action_number : Head → ℕ
-action_number h = h.flags / 2 ^ 13
+action_number h = h.flags / act_place
 
 -- ---- the first fault
 

@@ -4,12 +4,14 @@ use Rattle.std.specs.List.{AllByRecursion}
 use Rattle.std.specs.Result.{IsErr}
 use Rattle.ddt_path.specs.declared.form.Form.{Form}
 use Rattle.ddt_path.specs.declared.record.ReferralRecord.{ReferralRecord}
+use Rattle.ddt_path.specs.Locators.{most_locators}
 use Rattle.ddt_path.specs.Path.{path, IsForm}
-use Rattle.ddt_wire.specs.Steps.{IsBytes}
+use Rattle.ddt_reading.specs.Steps.{IsBytes}
+use Rattle.ddt_reading.specs.Reader.{AreRead}
 use Rattle.ddt_wire.specs.Address.{IsAddress}
 use Rattle.ddt_wire.specs.Eid.{SpellsEid, written_eid, written_mask_len, eid_at}
 use Rattle.ddt_wire.specs.declared.negative_reply.NegativeReply.{NegativeReply}
-use Rattle.ddt_wire.specs.Referral.{Message, Spells, message_of, message_record, written, message_in}
+use Rattle.ddt_wire.specs.Referral.{Spells, message_of, message_record, written, message_in}
 use Rattle.ddt_wire.specs.NegativeReply.{SpellsReply, written_reply, reply_in}
 
 -- the path of a prefix
@@ -21,28 +23,12 @@ pub record IsRecord (nonce : ℕ) (r : ReferralRecord) : Type 0 where
   pub nonce_fits : nonce < 2 ^ 64
   pub ttl_fits : r.ttl < 2 ^ 32
   pub prefix_is : IsPrefix r.prefix
-  pub count_fits : length r.servers ≤ 8
+  pub count_fits : length r.servers ≤ most_locators
   pub servers_fit : AllByRecursion IsAddress r.servers
 
--- bytes spell at most one message
-abbrev pub OneMessage : Type 0
-OneMessage = (bytes : List ℕ) (v w : Message) → Spells bytes v → Spells bytes w → v ≡ w
-
--- a list that spells a message has numbers of 0 to 255 alone
-abbrev pub MessagesAreBytes : Type 0
-MessagesAreBytes = (bytes : List ℕ) (v : Message) → Spells bytes v → IsBytes bytes
-
--- bytes that spell a message are read as it
+-- what is spelled is read, and what is read is spelled
 abbrev pub MessagesAreRead : Type 0
-MessagesAreRead = (bytes : List ℕ) (v : Message) → Spells bytes v → message_in bytes ≡ Ok v
-
--- and what is read of bytes is spelled by them
-abbrev pub ReadMessagesAreSpelled : Type 0
-ReadMessagesAreSpelled = (bytes : List ℕ) (v : Message) → IsBytes bytes → message_in bytes ≡ Ok v → Spells bytes v
-
--- there is a fault if and only if no message is spelled
-abbrev pub FaultsAreRight : Type 0
-FaultsAreRight = (bytes : List ℕ) → IsBytes bytes → IsErr (message_in bytes) ↔ ((v : Message) → Spells bytes v → ⊥)
+MessagesAreRead = AreRead IsBytes Spells message_in
 
 -- what is written spells what was to be written
 abbrev pub WrittenSpells : Type 0
@@ -50,7 +36,9 @@ WrittenSpells = (nonce : ℕ) (r : ReferralRecord) → IsRecord nonce r → Spel
 
 -- the record of the message of a record is this record, if it has at most eight servers
 abbrev pub RecordsComeBack : Type 0
-RecordsComeBack = (nonce : ℕ) (r : ReferralRecord) → length r.servers ≤ 8 → message_record (message_of nonce r) ≡ r
+RecordsComeBack =
+    (nonce : ℕ) (r : ReferralRecord) → length r.servers ≤ most_locators
+    → message_record (message_of nonce r) ≡ r
 
 -- a negative Map-Reply whose numbers lie in the ranges of their types
 pub record IsReply (v : NegativeReply) : Type 0 where
@@ -58,33 +46,15 @@ pub record IsReply (v : NegativeReply) : Type 0 where
   pub ttl_fits : v.ttl < 2 ^ 32
   pub prefix_is : IsPrefix v.prefix
 
--- the same, but for the last, of negative Map-Replies: bytes spell at most one
-abbrev pub OneReply : Type 0
-OneReply = (bytes : List ℕ) (v w : NegativeReply) → SpellsReply bytes v → SpellsReply bytes w → v ≡ w
-
--- only bytes spell one
-abbrev pub RepliesAreBytes : Type 0
-RepliesAreBytes = (bytes : List ℕ) (v : NegativeReply) → SpellsReply bytes v → IsBytes bytes
-
--- what is spelled is read
+-- and so are its bytes
 abbrev pub RepliesAreRead : Type 0
-RepliesAreRead = (bytes : List ℕ) (v : NegativeReply) → SpellsReply bytes v → reply_in bytes ≡ Ok v
-
--- and what is read is spelled
-abbrev pub ReadRepliesAreSpelled : Type 0
-ReadRepliesAreSpelled = (bytes : List ℕ) (v : NegativeReply) → IsBytes bytes → reply_in bytes ≡ Ok v
-    → SpellsReply bytes v
-
--- there is a fault if and only if none is spelled
-abbrev pub ReplyFaultsAreRight : Type 0
-ReplyFaultsAreRight = (bytes : List ℕ) → IsBytes bytes
-    → IsErr (reply_in bytes) ↔ ((v : NegativeReply) → SpellsReply bytes v → ⊥)
+RepliesAreRead = AreRead IsBytes SpellsReply reply_in
 
 -- what is written spells what was to be written
 abbrev pub WrittenReplySpells : Type 0
 WrittenReplySpells = (v : NegativeReply) → IsReply v → SpellsReply (written_reply v) v
 
--- the same of an EID beside its mask length: bytes spell at most one
+-- of an EID beside its mask length: bytes spell at most one
 abbrev pub OneEid : Type 0
 OneEid = (mask : ℕ) (bytes p q : List ℕ) → SpellsEid mask bytes p → SpellsEid mask bytes q → p ≡ q
 

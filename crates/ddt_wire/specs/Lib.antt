@@ -1,5 +1,6 @@
-pub mod Steps
+pub mod MessageType
 pub mod Address
+pub mod Addresses
 pub mod Eid
 pub mod LocatorRecord
 pub mod Head

@@ -1,6 +1,6 @@
 -- A negative Map-Reply of one record: its prefix has no locator, and packets to it are forwarded natively (RFC 9301,
 -- section 5.4). What it says is a `NegativeReply`.
-use Rattle.std.specs.Prelude.{ℕ, ◌+◌, ◌^◌, ◌<◌, ◌≡◌, ◌==◌, not, if◌then◌else◌, List, ◌++◌, length, drop, Result, Ok, Err}
+use Rattle.std.specs.Prelude.{ℕ, ◌+◌, ◌*◌, ◌^◌, ◌<◌, ◌≡◌, ◌==◌, not, if◌then◌else◌, List, ◌++◌, length, drop, Result, Ok, Err}
 use Rattle.ddt_wire.specs.declared.eid.EidFault.{EidFault}
 use Rattle.ddt_wire.specs.declared.eid.EidFault.TheVariants as eid_fault
 use Rattle.ddt_wire.specs.declared.head.Head.{Head}
@@ -9,8 +9,9 @@ use Rattle.ddt_wire.specs.declared.head.HeadFault.TheVariants as head_fault
 use Rattle.ddt_wire.specs.declared.negative_reply.NegativeReply.{NegativeReply}
 use Rattle.ddt_wire.specs.declared.negative_reply.ReplyFault.{ReplyFault}
 use Rattle.ddt_wire.specs.declared.negative_reply.ReplyFault.TheVariants as fault
-use Rattle.ddt_wire.specs.Steps.{◌>>=◌, in_words}
-use Rattle.ddt_wire.specs.Head.{head_bytes, action_number, head_at}
+use Rattle.ddt_reading.specs.Steps.{◌>>=◌, in_words}
+use Rattle.ddt_wire.specs.Head.{head_bytes, act_place, action_number, head_at}
+use Rattle.ddt_wire.specs.MessageType.{map_reply}
 use Rattle.ddt_wire.specs.Eid.{SpellsEid, written_eid, written_mask_len, eid_at}
 
 -- ---- what spells a reply
@@ -24,7 +25,11 @@ pub record Ignored : Type 0 where
   pub flags_fits : flags < 2 ^ 13
   pub version_fits : version < 2 ^ 16
 
--- the head of a reply beside an EID mask-len: no locator, and ACT 1, Natively-Forward, before 13 ignored bits
+-- ACT of a prefix without locators: packets to it are forwarded natively
+abbrev pub natively_forward : ℕ
+natively_forward = 1
+
+-- the head of a reply beside an EID mask-len: no locator, and ACT before 13 ignored bits
 abbrev pub reply_head : ℕ → ℕ → ℕ → NegativeReply → Head
 reply_head mask ignored map_version v =
     record {
@@ -32,7 +37,7 @@ reply_head mask ignored map_version v =
       ttl = v.ttl;
       locators = 0;
       mask_len = mask;
-      flags = 2 ^ 13 + ignored;
+      flags = natively_forward * act_place + ignored;
       version = map_version;
     }
 
@@ -45,13 +50,13 @@ pub record SpellsReply (bytes : List ℕ) (v : NegativeReply) : Type 0 where
   pub ttl_fits : v.ttl < 2 ^ 32
   pub mask_fits : mask < 256
   pub spells_eid : SpellsEid mask eid v.prefix
-  pub whole : bytes ≡ head_bytes 2 ignored.reserved (reply_head mask ignored.flags ignored.version v) ++ eid
+  pub whole : bytes ≡ head_bytes map_reply ignored.reserved (reply_head mask ignored.flags ignored.version v) ++ eid
 
 -- ---- what is written
 
 -- the one spelling that is written: all ignored bits are 0
 abbrev pub written_reply : NegativeReply → List ℕ
-written_reply v = head_bytes 2 0 (reply_head (written_mask_len v.prefix) 0 0 v) ++ written_eid v.prefix
+written_reply v = head_bytes map_reply 0 (reply_head (written_mask_len v.prefix) 0 0 v) ++ written_eid v.prefix
 
 -- the reply of these parts
 abbrev pub reply_of : ℕ → ℕ → List ℕ → NegativeReply
@@ -80,9 +85,9 @@ after_eid bytes head eid =
 abbrev pub after_head : List ℕ → Head → Result NegativeReply ReplyFault
 after_head bytes head =
     if not (head.locators == 0) then Err fault.LocatorCount
-    else if not (action_number head == 1) then Err fault.BadAction
+    else if not (action_number head == natively_forward) then Err fault.BadAction
     else (in_words from_eid (eid_at head.mask_len (drop 22 bytes)) >>= after_eid bytes head)
 
 -- The reply, or the first fault from left to right.
 unfoldable pub reply_in : List ℕ → Result NegativeReply ReplyFault
-reply_in bytes = in_words from_head (head_at 2 bytes) >>= after_head bytes
+reply_in bytes = in_words from_head (head_at map_reply bytes) >>= after_head bytes

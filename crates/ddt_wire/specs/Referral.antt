@@ -2,8 +2,9 @@
 use Rattle.std.specs.Prelude.{ℕ, ◌+◌, ◌*◌, ◌/◌, ◌%◌, ◌^◌, ◌<◌, ◌≡◌, ◌==◌, Bool, true, false, if◌then◌else◌, List, ◌++◌, length, take, drop, Option, Some, None, Result, Ok, Err}
 use Rattle.std.specs.List.{flat_map}
 use Rattle.ddt_path.specs.declared.locator.Locator.{Locator}
-use Rattle.ddt_path.specs.declared.record.Action.{Action}
-use Rattle.ddt_path.specs.declared.record.Action.TheVariants.{NodeReferral, MsReferral, MsAck, MsNotRegistered, DelegationHole, NotAuthoritative}
+use Rattle.ddt_path.specs.declared.action.Action.{Action}
+use Rattle.ddt_path.specs.Actions.{number, action_of}
+use Rattle.ddt_path.specs.Locators.{most_locators}
 use Rattle.ddt_path.specs.declared.record.ReferralRecord.{ReferralRecord}
 use Rattle.ddt_wire.specs.declared.eid.EidFault.{EidFault}
 use Rattle.ddt_wire.specs.declared.eid.EidFault.TheVariants as eid_fault
@@ -12,8 +13,9 @@ use Rattle.ddt_wire.specs.declared.head.HeadFault.{HeadFault}
 use Rattle.ddt_wire.specs.declared.head.HeadFault.TheVariants as head_fault
 use Rattle.ddt_wire.specs.declared.fault.ReferralFault.{ReferralFault}
 use Rattle.ddt_wire.specs.declared.fault.ReferralFault.TheVariants as fault
-use Rattle.ddt_wire.specs.Steps.{◌>>=◌, in_words}
-use Rattle.ddt_wire.specs.Head.{head_bytes, action_number, head_at}
+use Rattle.ddt_reading.specs.Steps.{◌>>=◌, in_words}
+use Rattle.ddt_wire.specs.Head.{head_bytes, act_place, action_number, head_at}
+use Rattle.ddt_wire.specs.MessageType.{map_referral}
 use Rattle.ddt_wire.specs.Eid.{SpellsEid, written_eid, written_mask_len, eid_at}
 use Rattle.ddt_wire.specs.LocatorRecord.{SpellsLocators, written_locator, locators_at}
 
@@ -25,15 +27,6 @@ pub record Message : Type 0 where
   pub ttl : ℕ
   pub incomplete : Bool
   pub locators : List Locator
-
--- the number of an action
-abbrev pub act : Action → ℕ
-act NodeReferral = 0
-act MsReferral = 1
-act MsAck = 2
-act MsNotRegistered = 3
-act DelegationHole = 4
-act NotAuthoritative = 5
 
 abbrev pub bit : Bool → ℕ
 bit false = 0
@@ -51,10 +44,20 @@ pub record Ignored : Type 0 where
   pub flags_fits : flags < 2 ^ 11
   pub version_fits : version < 2 ^ 12
 
+-- the places of the bits A and I in the flags, and of SigCnt before the map version
+abbrev pub authoritative_place : ℕ
+authoritative_place = 2 ^ 12
+
+abbrev pub incomplete_place : ℕ
+incomplete_place = 2 ^ 11
+
+abbrev pub signature_place : ℕ
+signature_place = 2 ^ 12
+
 -- ACT in 3 bits, the bits A and I, 11 reserved bits
 abbrev pub flags_of : Action → Bool → Bool → ℕ → ℕ
 flags_of action authoritative incomplete reserved =
-    act action * 2 ^ 13 + bit authoritative * 2 ^ 12 + bit incomplete * 2 ^ 11 + reserved
+    number action * act_place + bit authoritative * authoritative_place + bit incomplete * incomplete_place + reserved
 
 -- the head of a message beside an EID mask-len, A, the reserved bits behind I, and SigCnt 0 before a map version
 abbrev pub message_head : ℕ → Bool → ℕ → ℕ → Message → Head
@@ -80,7 +83,7 @@ pub record Spells (bytes : List ℕ) (v : Message) : Type 0 where
   pub count_fits : length v.locators < 256
   pub spells_eid : SpellsEid mask eid v.prefix
   pub spells_locators : SpellsLocators locators v.locators
-  pub whole : bytes ≡ head_bytes 6 ignored.reserved
+  pub whole : bytes ≡ head_bytes map_referral ignored.reserved
       (message_head mask ignored.authoritative ignored.flags ignored.version v) ++ eid ++ locators
 
 -- ---- what is written
@@ -103,7 +106,7 @@ message_record v = record {
   prefix = v.prefix;
   ttl = v.ttl;
   incomplete = v.incomplete;
-  servers = take 8 v.locators;
+  servers = take most_locators v.locators;
 }
 
 -- the one spelling that is written: A is 1, the reserved bits and the map version are 0
@@ -111,7 +114,7 @@ abbrev pub written_head : ℕ → ReferralRecord → Head
 written_head n r = message_head (written_mask_len r.prefix) true 0 0 (message_of n r)
 
 abbrev pub written : ℕ → ReferralRecord → List ℕ
-written n r = head_bytes 6 0 (written_head n r) ++ written_eid r.prefix ++ flat_map written_locator r.servers
+written n r = head_bytes map_referral 0 (written_head n r) ++ written_eid r.prefix ++ flat_map written_locator r.servers
 
 -- ---- the first fault
 
@@ -127,17 +130,6 @@ from_eid eid_fault.Lcaf = fault.Lcaf
 from_eid eid_fault.MaskLength = fault.MaskLength
 from_eid eid_fault.TailNotZero = fault.TailNotZero
 
--- the action of a number, but for 6 and 7
-abbrev pub action_of : ℕ → Option Action
-action_of n =
-    if n == 0 then Some NodeReferral
-    else if n == 1 then Some MsReferral
-    else if n == 2 then Some MsAck
-    else if n == 3 then Some MsNotRegistered
-    else if n == 4 then Some DelegationHole
-    else if n == 5 then Some NotAuthoritative
-    else None
-
 abbrev pub action_or_fault : Option Action → Result Action ReferralFault
 action_or_fault (Some action) = Ok action
 action_or_fault None = Err fault.BadAction
@@ -145,7 +137,7 @@ action_or_fault None = Err fault.BadAction
 -- the action of a head; the four bits before the map version are SigCnt
 unfoldable pub action_in : Head → Result Action ReferralFault
 action_in head =
-    action_or_fault (action_of (action_number head)) >>= λ action. if head.version / 2 ^ 12 == 0 then Ok action
+    action_or_fault (action_of (action_number head)) >>= λ action. if head.version / signature_place == 0 then Ok action
     else Err fault.Signed
 
 -- the message of these parts
@@ -156,14 +148,14 @@ message_with head action_ prefix_ locators_ =
       action = action_;
       prefix = prefix_;
       ttl = head.ttl;
-      incomplete = head.flags / 2 ^ 11 % 2 == 1;
+      incomplete = head.flags / incomplete_place % 2 == 1;
       locators = locators_;
     }
 
 -- The message, or the first fault from left to right.
 unfoldable pub message_in : List ℕ → Result Message ReferralFault
 message_in bytes = do
-  head ← in_words from_head (head_at 6 bytes)
+  head ← in_words from_head (head_at map_referral bytes)
   action ← action_in head
   eid ← in_words from_eid (eid_at head.mask_len (drop 22 bytes))
   locators ← locators_at head.locators (drop eid.1 (drop 22 bytes))

@@ -14,10 +14,14 @@ use ddt_path::Locator;
 use std::alloc::AllocError;
 use thiserror::Error;
 
+/// The AFI where no address follows.
+pub const NO_ADDRESS: u16 = 0;
 /// The AFI of IPv4.
 pub(crate) const IPV4: u16 = 1;
 /// The AFI of IPv6.
 pub(crate) const IPV6: u16 = 2;
+/// The AFI of an LCAF (RFC 8060, section 3).
+pub const LCAF: u16 = 16387;
 /// How many bytes an IPv4 address takes with its AFI.
 pub(crate) const IPV4_LEN: usize = 6;
 /// How many bytes an IPv6 address takes with its AFI.
@@ -40,8 +44,8 @@ pub(crate) fn address_len(address: Locator) -> u16
     ensures bound { result ≤ 18 }
 {
     match address {
-        Locator::V4(_number) => 6,
-        Locator::V6(_number) => 18,
+        Locator::V4(_number) => IPV4_LEN as u16,
+        Locator::V6(_number) => IPV6_LEN as u16,
     }
 }
 

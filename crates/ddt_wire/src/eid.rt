@@ -18,7 +18,10 @@ ghost use Rattle.std.specs.Prelude.{◌≡◌, ◌++◌, ◌+◌, ◌≤◌, OnO
 ghost use Rattle.ddt_wire.specs.Eid.{written_eid, written_mask_len, instance_head, written_form, eid_at, lcaf_at, inside_at, block_at, has_length, from_prefix, from_address, SpellsEid};
 ghost use Rattle.ddt_wire.specs.Laws.{IsPrefix};
 
-use crate::address::{AddressFault, IPV4, IPV6, address_len, read_address, write_address};
+use crate::address::{
+    AddressFault, IPV4, IPV4_LEN, IPV6, IPV6_LEN, LCAF, NO_ADDRESS, address_len, read_address,
+    write_address,
+};
 use byteorder::{BigEndian, ByteOrder};
 use ddt_path::{Form, Prefix, PrefixFault, Xeid};
 use std::alloc::AllocError;
@@ -44,12 +47,16 @@ pub enum EidFault {
     TailNotZero,
 }
 
-/// The AFI of an LCAF.
-const LCAF: u16 = 16387;
 /// The type of an LCAF that holds an Instance ID.
 const INSTANCE_ID: u8 = 2;
-/// The AFI inside an LCAF of a range of instances, which has no address.
-const NO_ADDRESS: u16 = 0;
+/// How many bytes of an LCAF's content stand before the AFI inside it: the Instance ID.
+const IID_LEN: u16 = 4;
+/// The length of an LCAF with a range of instances.
+const RANGE_LEN: u16 = IID_LEN + 2;
+/// The length of an LCAF with an IPv4 address.
+const IPV4_BLOCK_LEN: u16 = IID_LEN + IPV4_LEN as u16;
+/// The length of an LCAF with an IPv6 address.
+const IPV6_BLOCK_LEN: u16 = IID_LEN + IPV6_LEN as u16;
 /// How many bytes an EID takes at most.
 const LONGEST_EID: usize = 30;
 
@@ -101,7 +108,7 @@ fn put_instance(bytes: &mut Vec<u8>, mask: u8, iid: u32, inner: u16) -> Result<(
 {
     bytes.extend_from_slice(&LCAF.to_be_bytes())?;
     bytes.extend_from_slice(&[0, 0, INSTANCE_ID, mask])?;
-    bytes.extend_from_slice(&(4 + inner).to_be_bytes())?;
+    bytes.extend_from_slice(&(IID_LEN + inner).to_be_bytes())?;
     bytes.extend_from_slice(&iid.to_be_bytes())
 }
 
@@ -195,7 +202,10 @@ fn read_lcaf(bytes: &[u8], mask_len: u8) -> Result<(Prefix, usize), EidFault>
 fn fits_inside(afi: u16, len: u16) -> bool
     ensures { result ≡ has_length afi len }
 {
-    matches!((afi, len), (NO_ADDRESS, 6) | (IPV4, 10) | (IPV6, 22))
+    matches!(
+        (afi, len),
+        (NO_ADDRESS, RANGE_LEN) | (IPV4, IPV4_BLOCK_LEN) | (IPV6, IPV6_BLOCK_LEN)
+    )
 }
 
 /// An EID from its AFI on.

@@ -23,15 +23,10 @@
 ghost use Rattle.std.specs.Prelude.{◌≡◌, ◌++◌, ◌^◌, ◌<◌, ◌≤◌, length, OnOk};
 ghost use Rattle.ddt_wire.specs.Head.{head_at, head_bytes};
 
+use crate::message_type::TYPE_SHIFT;
 use byteorder::{BigEndian, ByteOrder};
 use std::alloc::AllocError;
 
-/// The type of a Map-Reply, in the first four bits (RFC 9301, section 5.1).
-pub const MAP_REPLY: u8 = 2;
-/// The type of a Map-Referral, in the first four bits (RFC 8111, section 6.4).
-pub const MAP_REFERRAL: u8 = 6;
-/// How many bits stand behind the type in the first byte.
-const TYPE_SHIFT: u32 = 4;
 /// The place of the type in the first four bytes.
 const TYPE: u32 = 1 << 28;
 /// How many bytes stand before the EID's AFI.

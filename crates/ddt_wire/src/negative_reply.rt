@@ -26,7 +26,8 @@ ghost use Rattle.ddt_wire.specs.declared.negative_reply.NegativeReply.{NegativeR
 ghost use Rattle.ddt_wire.specs.NegativeReply.{SpellsReply, written_reply, reply_of, reply_in};
 
 use crate::eid::{EidFault, eid, mask_len, write_eid};
-use crate::head::{ACT, BEFORE_EID, Head, HeadFault, MAP_REPLY, put_head, read_head};
+use crate::head::{ACT, BEFORE_EID, Head, HeadFault, put_head, read_head};
+use crate::message_type::MAP_REPLY;
 use ddt_path::Prefix;
 use std::alloc::{AllocError, Global};
 use thiserror::Error;

@@ -21,12 +21,14 @@
 //! A, the map version and the reserved bits are ignored.
 
 ghost use Rattle.std.specs.Prelude.{◌≡◌, ◌^◌, ◌<◌, ◌≤◌, true, length, Ok, IfOk};
-ghost use Rattle.ddt_wire.specs.Referral.{written, written_head, act as act_of, flags_of, action_of, action_in, message_in, Spells, Message, message_of, message_record};
+ghost use Rattle.ddt_path.specs.Locators.{most_locators};
+ghost use Rattle.ddt_wire.specs.Referral.{written, written_head, flags_of, action_in, message_in, Spells, Message, message_of, message_record};
 
 use crate::eid::{EidFault, eid, mask_len, write_eid};
 use crate::fault::ReferralFault;
-use crate::head::{ACT, BEFORE_EID, Head, HeadFault, MAP_REFERRAL, put_head, read_head};
+use crate::head::{ACT, BEFORE_EID, Head, HeadFault, put_head, read_head};
 use crate::locator_record::{Locators, put_locators};
+use crate::message_type::MAP_REFERRAL;
 use ddt_path::{Action, Prefix, ReferralRecord};
 use std::alloc::{AllocError, Global};
 use std::marker::Model;
@@ -42,33 +44,18 @@ const SIGNATURE: u16 = 1 << 12;
 /// SigCnt 0 and map version 0.
 const NOT_SIGNED: u16 = 0;
 
-/// The number of an action.
-fn act(action: Action) -> u8
-    ensures number { result ≡ act_of action }
-    ensures bound { result ≤ 5 }
-{
-    match action {
-        Action::NodeReferral => 0,
-        Action::MsReferral => 1,
-        Action::MsAck => 2,
-        Action::MsNotRegistered => 3,
-        Action::DelegationHole => 4,
-        Action::NotAuthoritative => 5,
-    }
-}
-
 /// The flags of a record; A is written 1.
 fn flags(referral: &ReferralRecord) -> u16
     ensures { result ≡ flags_of referral.now.action true referral.now.incomplete 0 }
 {
     let incomplete = if referral.incomplete { INCOMPLETE } else { 0 };
-    u16::from(act(referral.action)) * ACT + AUTHORITATIVE + incomplete
+    u16::from(referral.action.number()) * ACT + AUTHORITATIVE + incomplete
 }
 
 /// The head of the message of a record.
 fn referral_head(nonce: u64, referral: &ReferralRecord) -> Head
     ensures head { result ≡ written_head nonce referral.now }
-    ensures count { length referral.now.servers ≤ 8 }
+    ensures count { length referral.now.servers ≤ most_locators }
 {
     Head {
         nonce,
@@ -214,27 +201,12 @@ impl<'a> Referral<'a> {
     }
 }
 
-/// The action of a number; None for 6 and 7.
-fn numbered_action(number: u16) -> Option<Action>
-    ensures { result ≡ action_of number }
-{
-    match number {
-        0 => Some(Action::NodeReferral),
-        1 => Some(Action::MsReferral),
-        2 => Some(Action::MsAck),
-        3 => Some(Action::MsNotRegistered),
-        4 => Some(Action::DelegationHole),
-        5 => Some(Action::NotAuthoritative),
-        _ => None,
-    }
-}
-
 /// The action of a head whose record has no signature.
 #[tactic(auto, unfolding(crate::specs::Referral::action_in))]
 fn unsigned_action(head: &Head) -> Result<Action, ReferralFault>
     ensures { result ≡ action_in head.now }
 {
-    let action = numbered_action(head.flags / ACT).ok_or(ReferralFault::BadAction)?;
+    let action = Action::of_number((head.flags / ACT) as u8).ok_or(ReferralFault::BadAction)?;
     if head.version / SIGNATURE != 0 {
         return Err(ReferralFault::Signed);
     }

@@ -14,7 +14,8 @@ use Rattle.ddt_wires.specs.declared.call.Call.TheVariants.{Tried}
 use Rattle.ddt_wires.specs.declared.call.NetFault.{NetFault}
 use Rattle.ddt_wires.specs.declared.call.Packet.{Packet}
 use Rattle.ddt_wires.specs.Calls.{Tells}
-use Rattle.ddt_wires.specs.Turns.{Outgoing, control_port, AreTried, reply_to, on_to_etr, first_went_out}
+use Rattle.ddt_ecm.specs.UdpHeader.{control_port}
+use Rattle.ddt_wires.specs.Turns.{Outgoing, AreTried, reply_to, on_to_etr, first_went_out}
 use Rattle.ddt_wires.specs.Turns.{IsTurn, Serves, is_received, is_replied}
 use Rattle.ddt_wires.proofs.TellLemmas.{tells_both, tells_none}
 

@@ -3,6 +3,7 @@ use Rattle.std.specs.Prelude.{ℕ, ◌≡◌, Bool, false, Option, Some, None, O
 use Rattle.std.specs.Prelude.{List, [], ◌∷◌, ◌++◌, length, All, count_by, flat_map}
 use Rattle.ddt_path.specs.declared.locator.Locator.{Locator}
 use Rattle.ddt_config.specs.Table.{Outline}
+use Rattle.ddt_ecm.specs.UdpHeader.{control_port}
 use Rattle.ddt_node.specs.declared.handling.Forward.{Forward}
 use Rattle.ddt_node.specs.declared.handling.Handled.{Handled}
 use Rattle.ddt_node.specs.Server.{handled}
@@ -11,10 +12,6 @@ use Rattle.ddt_wires.specs.declared.call.Call.TheVariants.{Received, Tried}
 use Rattle.ddt_wires.specs.declared.call.NetFault.{NetFault}
 use Rattle.ddt_wires.specs.declared.call.Packet.{Packet}
 use Rattle.ddt_wires.specs.declared.serving.Served.{Served}
-
--- the UDP port of LISP control messages (RFC 9301, section 5)
-abbrev pub control_port : ℕ
-control_port = 4342
 
 -- no UDP datagram has more bytes, and so many have room in the buffer of each turn
 abbrev pub most_bytes : ℕ

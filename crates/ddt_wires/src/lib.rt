@@ -10,9 +10,9 @@ mod wires;
 mod wires_in_memory;
 
 pub use call::{Call, NetFault, Packet};
-pub use serving::{Served, serve_turns};
+pub use serving::{MOST_BYTES, Served, serve_turns};
 pub use udp_wires::UdpWires;
-pub use wires::{CONTROL_PORT, Wires};
+pub use wires::Wires;
 pub use wires_in_memory::{Waiting, WiresInMemory};
 
 #[cfg(test)]

@@ -9,14 +9,15 @@ ghost use Rattle.ddt_wires.specs.Turns.{Serves, IsTurn, AreTried, reply_to, on_t
 ghost use Rattle.ddt_wires.specs.Turns.{most_bytes, is_received, is_replied, first_went_out};
 
 use crate::call::Packet;
-use crate::wires::{CONTROL_PORT, Wires};
+use crate::wires::Wires;
+use ddt_ecm::CONTROL_PORT;
 use ddt_node::{Handled, Server};
 use ddt_path::Locator;
 use ddt_trie::PrefixMap;
 use std::alloc::Global;
 
 /// No UDP datagram has more bytes.
-const MOST_BYTES: usize = 65_535;
+pub const MOST_BYTES: usize = 65_535;
 
 /// What a server received and replied.
 #[derive(Clone, Copy, Debug, Default, PartialEq, Eq)]

@@ -1,5 +1,6 @@
 use super::*;
 use ddt_config::from_toml;
+use ddt_ecm::CONTROL_PORT;
 use ddt_examples::configurations::EAST;
 use ddt_examples::messages::{DDT_REQUEST, EAST_ACKNOWLEDGES};
 use ddt_examples::{bytes_of, changed};

@@ -3,7 +3,8 @@
 ghost use Rattle.std.specs.Prelude.{◌≤◌, length, IfOk, IfSome};
 
 use crate::call::{NetFault, Packet};
-use crate::wires::{CONTROL_PORT, Wires};
+use crate::wires::Wires;
+use ddt_ecm::CONTROL_PORT;
 use ddt_path::Locator;
 use std::alloc::Global;
 use std::io;

@@ -8,9 +8,6 @@ ghost use Rattle.ddt_wires.specs.Calls.{Tells, received};
 use crate::call::{NetFault, Packet};
 use ddt_path::Locator;
 
-/// The UDP port of LISP control messages (RFC 9301, section 5).
-pub const CONTROL_PORT: u16 = 4342;
-
 /// Where datagrams come from and go to.
 pub trait Wires {
     /// The calls that were made so far, in their order; None of wires that don't tell them, or not any more.

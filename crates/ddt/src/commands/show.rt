@@ -9,7 +9,7 @@ use crate::lines::Lines;
 use crate::refusal::{MessageRefusal, Refusal};
 use ddt_ecm::read_request;
 use ddt_lines::{negative_reply_line, referral_line, request_line};
-use ddt_wire::{MAP_REFERRAL, MAP_REPLY, read_negative_reply, read_referral};
+use ddt_wire::{ENCAPSULATED, MAP_REFERRAL, MAP_REPLY, read_negative_reply, read_referral};
 use ddt_words::{Argument, Declaration, Words};
 use hex::FromHexError;
 use std::alloc::Global;
@@ -18,9 +18,6 @@ pub const WORDS: Declaration<'static> = Declaration {
     name: "show",
     arguments: &[Argument::One("hex")],
 };
-
-/// The type of an encapsulated Map-Request, in the first four bits (RFC 9301, section 5.8).
-const ENCAPSULATED: u8 = 8;
 
 /// The line of the message that the word spells in hexadecimal. Refusals: a word that is no hexadecimal text, an
 /// unknown type or no byte at all, the first fault of a message. It has no file to open.

@@ -7,7 +7,7 @@ use ddt_examples::messages::{
     EAST_ACKNOWLEDGES, HOLE_OF_EVERYTHING, HOLE_OF_INSTANCES, ROOT_REFERS_TO_TEN,
     TEN_IS_NOT_IN_CHARGE,
 };
-use ddt_examples::registers::{CAMPUS, LONE_ROOT, SHARED_GROUP};
+use ddt_examples::registers::{CAMPUS, FAR_HOST, LONE_ROOT, SHARED_GROUP};
 use std::test::Fail;
 
 #[test]
@@ -160,14 +160,6 @@ fn assign_names_what_stands_in_its_way(rt: HostRuntime) -> Result<(), Fail> {
     }
     Ok(())
 }
-
-/// The root, and a node for one address.
-const FAR_HOST: &str = "kind,prefix,group,addresses
-group-node,,root,127.0.0.1
-node,*,root,
-group-node,,far,127.0.0.9
-node,[0]10.9.9.9/32,far,
-";
 
 #[test]
 fn words_that_fit_no_command_show_the_usage(rt: HostRuntime) -> Result<(), Fail> {

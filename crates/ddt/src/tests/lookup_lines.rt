@@ -2,16 +2,8 @@
 
 use crate::status::Status::{Answered, Incomplete, Refused, Unprinted};
 use crate::tests::harness::{expect, run_words};
-use ddt_examples::registers::{CAMPUS, LONE_ROOT, SHARED_GROUP};
+use ddt_examples::registers::{CAMPUS, FAR_HOST, LONE_ROOT, SHARED_GROUP};
 use std::test::Fail;
-
-/// The root, and a node for one address.
-const FAR_HOST: &str = "kind,prefix,group,addresses
-group-node,,root,127.0.0.1
-node,*,root,
-group-node,,far,127.0.0.9
-node,[0]10.9.9.9/32,far,
-";
 
 /// A register, an identifier, and the lines of its lookup.
 const LOOKUPS: [(&str, &str, &str); 12] = [

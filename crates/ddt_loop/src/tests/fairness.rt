@@ -2,11 +2,11 @@
 //! register says there.
 
 use super::*;
-use ddt_ecm::{read_request, write_request};
+use ddt_ecm::{CONTROL_PORT, read_request, write_request};
 use ddt_path::{Action, Listed, ReferralRecord};
 use ddt_sim::Servers;
 use ddt_wire::{read_referral, write_referral};
-use ddt_wires::{CONTROL_PORT, Call, Waiting, WiresInMemory};
+use ddt_wires::{Call, Waiting, WiresInMemory};
 
 /// The identifier that is looked up.
 const X: Xeid = Xeid {

@@ -2,8 +2,9 @@
 
 ghost use Rattle.std.specs.Prelude.{◌≤◌, length, IfOk, IfSome};
 
+use ddt_ecm::CONTROL_PORT;
 use ddt_path::{Listed, Locator};
-use ddt_wires::{CONTROL_PORT, NetFault, Packet, Waiting, Wires};
+use ddt_wires::{NetFault, Packet, Waiting, Wires};
 use std::alloc::{AllocError, Global};
 
 /// A loopback network. What is sent to UDP port 4342 of an address waits at the socket there, from the socket that sent

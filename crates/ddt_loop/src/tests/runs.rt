@@ -4,16 +4,14 @@ use super::loopback::Loopback;
 use super::*;
 use ddt_ecm::write_request;
 use ddt_examples::bytes_of;
-use ddt_examples::messages::{ITR_REQUEST, NEGATIVE_REPLY, ROOT_REFERS_TO_TEN};
+use ddt_examples::messages::{
+    ITR_REQUEST, NEGATIVE_REPLY, NOT_REGISTERED_REPLY, ROOT_REFERS_TO_TEN,
+};
 use ddt_path::{Action, ReferralRecord};
 use ddt_wire::write_referral;
 
 /// As many turns as the program takes where nobody says how many.
 const TURNS: u32 = 20_000;
-
-/// The negative Map-Reply of 10.1.4.0/24, nonce 7, for one minute (RFC 9301, section 5.4).
-const NOT_REGISTERED_REPLY: &str =
-    "20000001 0000000000000007 00000001 00 18 2000 0000 0001 0a010400";
 
 /// The servers of the campus, a resolver and a network.
 #[derive(Drop)]

@@ -3,8 +3,8 @@
 use super::{block, block_of, message, prints, range};
 use crate::{ReplyFault, read_negative_reply, write_negative_reply};
 use ddt_examples::messages::{
-    NEGATIVE_REPLY, NEGATIVE_REPLY_OF_INSTANCES, NEGATIVE_REPLY_WITH_IGNORED_BITS,
-    ROOT_REFERS_TO_TEN,
+    NEGATIVE_REPLY, NEGATIVE_REPLY_OF_INSTANCE_7, NEGATIVE_REPLY_OF_INSTANCES,
+    NEGATIVE_REPLY_WITH_IGNORED_BITS, ROOT_REFERS_TO_TEN,
 };
 use ddt_examples::{changed, front};
 use ddt_path::{Locator, Prefix};
@@ -75,15 +75,11 @@ fn a_negative_reply_of_a_range_of_instances_is_written_and_read(rt: HostRuntime)
     reads(rt.alloc(), &rt, NEGATIVE_REPLY_OF_INSTANCES, half);
 }
 
-/// All IPv6 addresses of instance 7.
-const IPV6_OF_INSTANCE_7: &str =
-    "20000001 1122334455667788 0000000f 00 00 2000 0000 4003 0000 02 00 0016 00000007 0002 00000000000000000000000000000000";
-
 #[test]
 fn a_negative_reply_of_another_instance_is_written_and_read(rt: HostRuntime) {
     let everything = block_of(&rt, 7, Locator::V6(0), 0);
-    writes(rt.alloc(), &rt, everything, IPV6_OF_INSTANCE_7);
-    reads(rt.alloc(), &rt, IPV6_OF_INSTANCE_7, everything);
+    writes(rt.alloc(), &rt, everything, NEGATIVE_REPLY_OF_INSTANCE_7);
+    reads(rt.alloc(), &rt, NEGATIVE_REPLY_OF_INSTANCE_7, everything);
 }
 
 #[test]
@@ -107,7 +103,7 @@ fn every_proper_prefix_of_a_negative_reply_is_short(rt: HostRuntime) {
         NEGATIVE_REPLY,
         NEGATIVE_REPLY_WITH_IGNORED_BITS,
         NEGATIVE_REPLY_OF_INSTANCES,
-        IPV6_OF_INSTANCE_7,
+        NEGATIVE_REPLY_OF_INSTANCE_7,
     ] {
         is_read_as_a_whole(rt.alloc(), &rt, fields);
     }

@@ -4,10 +4,10 @@ use Rattle.ddt_cache.proofs.KnownLemmas.{live_twice}
 use Rattle.ddt_cache.proofs.SizeLemmas.{len-live_at, room_below, len_dropped}
 use Rattle.ddt_cache.proofs.saving.make_room.Goals as goal
 
-pub returns-then-len-lt-MOST_ENTRIES-clause-room : goal.returns-then-len-lt-MOST_ENTRIES-clause-room
-returns-then-len-lt-MOST_ENTRIES-clause-room g c =
+pub returns-then-len-lt-MOST_LIVE_ENTRIES-clause-room : goal.returns-then-len-lt-MOST_LIVE_ENTRIES-clause-room
+returns-then-len-lt-MOST_LIVE_ENTRIES-clause-room g c =
     let m = g.M.PrefixMap.content c.args.entries.now in
-    sym (room_below (live_at c.args.time m) c.args.prefix (omega (arith, len-live_at c.args.time m, c.len.ensures, c.if-len-lt-MOST_ENTRIES.true)))
+    sym (room_below (live_at c.args.time m) c.args.prefix (omega (arith, len-live_at c.args.time m, c.len.ensures, c.if-len-lt-MOST_LIVE_ENTRIES.true)))
 
 pub returns-then-is_some-clause-live : goal.returns-then-is_some-clause-live
 returns-then-is_some-clause-live g c = live_twice c.args.time (g.M.PrefixMap.content c.args.entries.now) _ c.drop_ended.ensures

@@ -1,7 +1,7 @@
 use Rattle.std.proofs.Common.{rules}
 use Rattle.std.proofs.lemmas.List.Sorted.{answers_always, IsPermutation-trans}
 use Rattle.ddt_register.specs.declared.site.Site.{Site}
-use Rattle.ddt_check.proofs.RestoreLemmas.{restored}
+use Rattle.ddt_register.proofs.RowOrderLemmas.{restored}
 use Rattle.ddt_check.proofs.sorting.restore_sites.Goals as goal
 
 pub returns : goal.returns

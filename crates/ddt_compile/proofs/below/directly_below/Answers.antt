@@ -6,7 +6,8 @@ use Rattle.std.proofs.lemmas.List.Sorted.{IsPartitionPoint-from_clause}
 use Rattle.ddt_register.specs.declared.zone.Zone.{Zone}
 use Rattle.ddt_compile.specs.GroupConfig.{is_direct_child}
 use Rattle.ddt_check.proofs.OutsideLemmas.{is_up_to, up_to_parted}
-use Rattle.ddt_compile.proofs.SortedLemmas.{walk_first, found_first, walk_ends, strictly, held, unheld, last_new, last_same, one_found, none_found}
+use Rattle.ddt_compile.proofs.SortedLemmas.{walk_first, found_first, walk_ends, strictly, held, unheld, last_new, last_same}
+use Rattle.ddt_path.proofs.FilterLemmas.{one_kept, one_left_out}
 use Rattle.ddt_compile.proofs.below.directly_below.Goals as goal
 use Rattle.ddt_compile.proofs.below.directly_below.Goals.{then-not-is_under+in_ok-push, else-not-is_under}
 
@@ -48,13 +49,13 @@ loop-at-preserved c = λ r moved.
       | then-not-is_under+in_ok-push v ↦
           let direct = unheld r z xs c.requires moved i w lt is top state.1 below (sym c.is_under.ensures ∙ v.if-not-is_under.true) in
           rw (v.found-is, v.top-is) (
-            v.in_ok-push.ensures.items ∙ ap (λ (ys : List Zone). ys ++ w ∷ []) state.0 ∙ one_found (is_direct_child r z) xs i w lt is direct,
+            v.in_ok-push.ensures.items ∙ ap (λ (ys : List Zone). ys ++ w ∷ []) state.0 ∙ one_kept (is_direct_child r z) xs i w lt is direct,
             last_new r z xs c.requires moved i w lt is direct,
           )
       | else-not-is_under v ↦
           let not_direct = held r z xs c.requires moved i w lt is top state.1 (sym c.is_under.ensures ∙ v.if-not-is_under.false) in
           rw (v.found-is, v.top-is) (
-            state.0 ∙ none_found (is_direct_child r z) xs i w lt is not_direct,
+            state.0 ∙ one_left_out (is_direct_child r z) xs i w lt is not_direct,
             last_same r z xs c.requires moved i w lt is top state.1 not_direct,
           )
     ]

@@ -2,11 +2,12 @@ use Rattle.std.proofs.Common.{rules}
 use Rattle.std.proofs.lemmas.List.Sorted.{answers_always}
 use Rattle.ddt_register.specs.declared.zone.Zone.{Zone}
 use Rattle.ddt_compile.specs.GroupConfig.{is_direct_child}
-use Rattle.ddt_compile.proofs.SortedLemmas.{rows_again}
+use Rattle.ddt_register.proofs.RisingLemmas.{zones_rise}
+use Rattle.ddt_register.proofs.RowOrderLemmas.{rows_again}
 use Rattle.ddt_compile.proofs.below.zones_directly_below.Goals as goal
 
 pub returns : goal.returns
 returns c = λ r moved.
-    rows_again r (is_direct_child r c.args.zone.now) c.args.sorted.now _ _ moved (c.in_ok-found.ensures r moved)
+    rows_again (λ (z : Zone). z.row) r.zones (is_direct_child r c.args.zone.now) c.args.sorted.now _ _ (zones_rise r) moved (c.in_ok-found.ensures r moved)
     c.sort_unstable_by_key.ensures.permutation
     (c.sort_unstable_by_key.ensures.sorted (λ (z : Zone). z.row) (answers_always _ _ _ (λ f a r g h. search rules)))

@@ -1,4 +1,4 @@
-use Rattle.std.proofs.Common.{ℕ, ◌≤◌, ◌≡◌, List, length, map, ap, subst, ◌∙◌}
+use Rattle.std.proofs.Common.{ℕ, ◌≤◌, List, length, map, ap, subst, ◌∙◌}
 use Rattle.std.specs.List.{filter}
 use Rattle.std.specs.Ordering.{nat_cmp}
 use Rattle.std.specs.Cmp.Lexicographic.{slice_cmp}
@@ -7,20 +7,19 @@ use Rattle.std.specs.Global.{Vec}
 use Rattle.std.proofs.lemmas.List.{take_all}
 use Rattle.ddt_register.specs.declared.zone.Zone.{Zone}
 use Rattle.ddt_register.specs.declared.register.Register.{Register}
-use Rattle.ddt_config.specs.declared.config.Child.{Child}
+use Rattle.ddt_config.specs.declared.child.Child.{Child}
 use Rattle.ddt_trie.specs.Trie.{trie_content}
 use Rattle.ddt_compile.specs.GroupConfig.{child_of, is_direct_child}
 use Rattle.ddt_compile.specs.Lists.{list_at}
 use Rattle.ddt_compile.specs.Nearest.{IsAbove}
 use Rattle.ddt_path.proofs.MemberLemmas.{in_contained}
+use Rattle.ddt_compile.proofs.ContentLemmas.{same_child}
 use Rattle.ddt_compile.proofs.NearestLemmas.{parent_nearest, no_parent}
-use Rattle.ddt_compile.proofs.GrowingLemmas.{grown, none_kept}
+use Rattle.ddt_compile.proofs.GrowingLemmas.{grown}
+use Rattle.ddt_path.proofs.FilterLemmas.{none_made}
 use Rattle.ddt_compile.proofs.LocatorLemmas.{servers_or_none}
 use Rattle.ddt_compile.proofs.children.children_by_zone.Goals as goal
 use Rattle.ddt_compile.proofs.children.children_by_zone.Goals.{in-Some+in_ok-append, in_default}
-
-same_child : (a b : Child) → a.prefix ≡ b.prefix → a.role ≡ b.role → a.locators ≡ b.locators → a ≡ b
-same_child a b p r l = λ i. record { prefix = p i; role = r i; locators = l i }
 
 pub loop-zone-preserved : goal.loop-zone-preserved
 loop-zone-preserved c = λ z k.
@@ -41,7 +40,7 @@ loop-zone-preserved c = λ z k.
           let none = subst (λ (n : ℕ). (q : List ℕ) → IsAbove prefixes x.prefix n q → ⊥) c.len.ensures.digits w.in_default.ensures in
           ap (λ (m : BTreeMap (List ℕ) (Vec Child)). list_at (slice_cmp nat_cmp) m z.prefix) w.lists-is
           ∙ c.loop-zone.invariant z k
-          ∙ none_kept (child_of r) (is_direct_child r z) zones i x c.loop-zone-test.true c.zone-item.is (no_parent prefixes r c.requires z x k none)
+          ∙ none_made (is_direct_child r z) zones i x c.loop-zone-test.true c.zone-item.is (child_of r) (no_parent prefixes r c.requires z x k none)
     ]
 
 pub returns : goal.returns

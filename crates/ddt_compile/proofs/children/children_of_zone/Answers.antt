@@ -1,13 +1,11 @@
-use Rattle.std.proofs.Common.{◌≡◌, List, [], ◌∷◌, ◌++◌, map, take, sym, ap, ◌∙◌}
+use Rattle.std.proofs.Common.{List, [], ◌∷◌, ◌++◌, map, take, sym, ap, ◌∙◌}
 use Rattle.std.proofs.lemmas.List.{take_all, take_more, map-append}
 use Rattle.ddt_register.specs.declared.zone.Zone.{Zone}
-use Rattle.ddt_config.specs.declared.config.Child.{Child}
+use Rattle.ddt_config.specs.declared.child.Child.{Child}
 use Rattle.ddt_compile.specs.GroupConfig.{child_of}
+use Rattle.ddt_compile.proofs.ContentLemmas.{same_child}
 use Rattle.ddt_compile.proofs.LocatorLemmas.{servers_or_none}
 use Rattle.ddt_compile.proofs.children.children_of_zone.Goals as goal
-
-same_child : (a b : Child) → a.prefix ≡ b.prefix → a.role ≡ b.role → a.locators ≡ b.locators → a ≡ b
-same_child a b p r l = λ i. record { prefix = p i; role = r i; locators = l i }
 
 pub loop-zone-init : goal.loop-zone-init
 loop-zone-init c = c.in_ok-children.ensures.items

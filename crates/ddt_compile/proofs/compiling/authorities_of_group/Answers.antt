@@ -5,10 +5,10 @@ use Rattle.std.specs.Cmp.Lexicographic.{slice_cmp, texts_ties}
 use Rattle.ddt_register.specs.declared.zone.Zone.{Zone}
 use Rattle.ddt_register.specs.declared.register.Register.{Register}
 use Rattle.ddt_register.specs.Rows.{rise, zone_rows}
-use Rattle.ddt_config.specs.declared.config.SiteEntry.{SiteEntry}
-use Rattle.ddt_config.specs.declared.config.Authority.{Authority}
-use Rattle.ddt_config.specs.declared.config.Content.{Content}
-use Rattle.ddt_config.specs.declared.config.Content.TheVariants.{Sites}
+use Rattle.ddt_config.specs.declared.site_entry.SiteEntry.{SiteEntry}
+use Rattle.ddt_config.specs.declared.authority.Authority.{Authority}
+use Rattle.ddt_config.specs.declared.authority.Content.{Content}
+use Rattle.ddt_config.specs.declared.authority.Content.TheVariants.{Sites}
 use Rattle.ddt_compile.specs.GroupConfig.{authority_of}
 use Rattle.ddt_compile.specs.Lists.{list_at}
 use Rattle.ddt_compile.specs.Sorted.{AreSortedOf}
@@ -17,7 +17,7 @@ use Rattle.ddt_check.specs.Zones.{is_served_by}
 use Rattle.ddt_path.proofs.MemberLemmas.{IsIn, in_at, in_left, in_later, contained}
 use Rattle.ddt_register.proofs.RisingLemmas.{later_row, zones_rise}
 use Rattle.ddt_check.proofs.KeptLemmas.{own_prefix}
-use Rattle.ddt_compile.proofs.GrowingLemmas.{more_kept, none_kept}
+use Rattle.ddt_path.proofs.FilterLemmas.{one_made, none_made}
 use Rattle.ddt_compile.proofs.ContentLemmas.{content_is}
 use Rattle.ddt_compile.proofs.compiling.authorities_of_group.Goals as goal
 use Rattle.ddt_compile.proofs.compiling.authorities_of_group.Goals.{then-eq+in_ok-content+in_ok-push, else-eq}
@@ -70,10 +70,10 @@ loop-zone-preserved c =
             ap (λ v. v.items) w.authorities-is ∙ w.in_ok-push.ensures.items
                 ∙ ap (λ (vs : List Authority). vs ++ authority ∷ []) c.loop-zone.invariant.1
                 ∙ ap (λ (v : Authority). map (authority_of r) (filter (is_served_by g) (take i zones)) ++ v ∷ []) made
-                ∙ more_kept (authority_of r) (is_served_by g) zones i x c.loop-zone-test.true c.zone-item.is own,
+                ∙ one_made (is_served_by g) zones i x c.loop-zone-test.true c.zone-item.is (authority_of r) own,
           )
       | else-eq w ↦ (
         λ z k ms served. ap (λ m. list_at (slice_cmp nat_cmp) m z.prefix) w.sites-is ∙ c.loop-zone.invariant.0 z (left z (inr k)) ms served,
-        ap (λ v. v.items) w.authorities-is ∙ c.loop-zone.invariant.1 ∙ none_kept (authority_of r) (is_served_by g) zones i x c.loop-zone-test.true c.zone-item.is (sym c.eq.ensures ∙ w.if-eq.false),
+        ap (λ v. v.items) w.authorities-is ∙ c.loop-zone.invariant.1 ∙ none_made (is_served_by g) zones i x c.loop-zone-test.true c.zone-item.is (authority_of r) (sym c.eq.ensures ∙ w.if-eq.false),
       )
     ]

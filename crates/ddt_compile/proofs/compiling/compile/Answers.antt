@@ -4,7 +4,7 @@ use Rattle.std.proofs.lemmas.List.{take_all, take_more, map-append}
 use Rattle.ddt_register.specs.declared.group.Group.{Group}
 use Rattle.ddt_register.specs.declared.register.Register.{Register}
 use Rattle.ddt_register.specs.Rows.{rise, group_rows}
-use Rattle.ddt_config.specs.declared.config.Authority.{Authority}
+use Rattle.ddt_config.specs.declared.authority.Authority.{Authority}
 use Rattle.ddt_config.specs.Shaped.{is_shaped}
 use Rattle.ddt_config.specs.Table.{Outline, outline}
 use Rattle.ddt_compile.specs.GroupConfig.{group_config}
@@ -12,6 +12,7 @@ use Rattle.ddt_path.proofs.MemberLemmas.{IsIn, in_at, in_left, in_later}
 use Rattle.ddt_register.proofs.RisingLemmas.{later_row}
 use Rattle.ddt_register.proofs.RisingLemmas.{groups_rise}
 use Rattle.ddt_check.proofs.KeptLemmas.{own_name}
+use Rattle.ddt_compile.proofs.ContentLemmas.{same_outline}
 use Rattle.ddt_compile.proofs.ShapedLemmas.{group_shaped}
 use Rattle.ddt_compile.proofs.HonestLemmas.{honest_configs}
 use Rattle.ddt_compile.proofs.RoomLemmas.{configs_have_room}
@@ -27,9 +28,6 @@ group_config-requires c =
     let here = subst (IsIn g) same (in_at groups i g c.loop-group-test.true c.group-item.is) in
     let own = c.take-own.ensures.here ∙ c.loop-group.invariant.1 g (in_left groups i g g c.loop-group-test.true c.group-item.is (inl refl)) in
     subst (λ (zs : List Authority). is_shaped g.kind g.locators zs ≡ true) (sym own) (group_shaped r c.register.ensures.accepted g here)
-
-same_outline : (a b : Outline) → a.name ≡ b.name → a.role ≡ b.role → a.locators ≡ b.locators → a.authorities ≡ b.authorities → a ≡ b
-same_outline a b n k l z = λ i. record { name = n i; role = k i; locators = l i; authorities = z i }
 
 pub loop-group-preserved : goal.loop-group-preserved
 loop-group-preserved c =

@@ -2,12 +2,13 @@ use Rattle.std.proofs.Common.{◌≡◌, true, List, find, Some, sym, ap, subst,
 use Rattle.ddt_register.specs.declared.group.Group.{Group}
 use Rattle.ddt_register.specs.declared.register.Register.{Register}
 use Rattle.ddt_path.specs.Names.{is_same_name}
-use Rattle.ddt_config.specs.declared.config.Authority.{Authority}
+use Rattle.ddt_config.specs.declared.authority.Authority.{Authority}
 use Rattle.ddt_config.specs.Shaped.{is_shaped}
-use Rattle.ddt_config.specs.Table.{Outline, outline}
+use Rattle.ddt_config.specs.Table.{outline}
 use Rattle.ddt_compile.specs.GroupConfig.{group_config}
 use Rattle.ddt_compile.specs.Laws.{IsHonestConfig, HasRoom}
 use Rattle.ddt_path.proofs.MemberLemmas.{IsIn, found_in, contained}
+use Rattle.ddt_compile.proofs.ContentLemmas.{same_outline}
 use Rattle.ddt_compile.proofs.ShapedLemmas.{group_shaped}
 use Rattle.ddt_compile.proofs.HonestLemmas.{honest_at}
 use Rattle.ddt_compile.proofs.RoomLemmas.{group_has_room}
@@ -22,9 +23,6 @@ authorities_of_group-requires c =
     let g = c.in-Some.group.now in
     let same = c.as_slice.ensures ∙ ap (λ (r : Register). r.groups) c.register.ensures.register in
     contained r.groups g (found_here r c.args.name c.as_slice.result.now g same c.in-Some.ensures)
-
-same_outline : (a b : Outline) → a.name ≡ b.name → a.role ≡ b.role → a.locators ≡ b.locators → a.authorities ≡ b.authorities → a ≡ b
-same_outline a b n k l z = λ i. record { name = n i; role = k i; locators = l i; authorities = z i }
 
 pub group_config-requires : goal.group_config-requires
 group_config-requires c =

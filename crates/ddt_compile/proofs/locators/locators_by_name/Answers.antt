@@ -5,7 +5,7 @@ use Rattle.std.specs.BTreeMap.{BTreeMap, get}
 use Rattle.ddt_path.specs.declared.locator.Locator.{Locator}
 use Rattle.ddt_register.specs.declared.register.Register.{Register}
 use Rattle.ddt_path.proofs.MemberLemmas.{IsIn, in_at}
-use Rattle.ddt_compile.proofs.ShapedLemmas.{few_servers}
+use Rattle.ddt_check.proofs.KeptLemmas.{server_set}
 use Rattle.ddt_compile.proofs.LocatorLemmas.{name_put, name_kept}
 use Rattle.ddt_compile.proofs.locators.locators_by_name.Goals as goal
 use Rattle.ddt_compile.proofs.locators.locators_by_name.Goals.{then-not-contains_key+in_ok-insert, else-not-contains_key}
@@ -14,7 +14,7 @@ pub of_few-requires : goal.of_few-requires
 of_few-requires c =
     let same = c.as_slice-group-items.ensures ∙ ap (λ (r : Register). r.groups) c.register.ensures.register in
     let here = in_at c.as_slice-group-items.result.now c.loop-group.group-index c.group-item.result c.loop-group-test.true c.group-item.is in
-    rw c.as_slice.ensures (few_servers c.args.accepted.now c.register.ensures.accepted c.group-item.result (subst (IsIn c.group-item.result) same here))
+    rw c.as_slice.ensures (server_set c.args.accepted.now c.register.ensures.accepted c.group-item.result (subst (IsIn c.group-item.result) same here)).0.1
 
 pub loop-group-preserved : goal.loop-group-preserved
 loop-group-preserved c = λ name.

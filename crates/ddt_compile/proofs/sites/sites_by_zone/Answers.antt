@@ -7,7 +7,7 @@ use Rattle.std.specs.Global.{Vec}
 use Rattle.std.proofs.lemmas.List.{take_all}
 use Rattle.ddt_register.specs.declared.site.Site.{Site}
 use Rattle.ddt_register.specs.declared.register.Register.{Register}
-use Rattle.ddt_config.specs.declared.config.SiteEntry.{SiteEntry}
+use Rattle.ddt_config.specs.declared.site_entry.SiteEntry.{SiteEntry}
 use Rattle.ddt_trie.specs.Trie.{trie_content}
 use Rattle.ddt_compile.specs.GroupConfig.{entry_of}
 use Rattle.ddt_check.specs.Zones.{is_site_in}
@@ -16,7 +16,8 @@ use Rattle.ddt_compile.specs.Nearest.{IsAbove}
 use Rattle.ddt_path.proofs.MemberLemmas.{IsIn, in_at, in_contained}
 use Rattle.ddt_check.proofs.KeptLemmas.{few_etrs}
 use Rattle.ddt_compile.proofs.NearestLemmas.{holder_nearest, no_holder}
-use Rattle.ddt_compile.proofs.GrowingLemmas.{grown, none_kept}
+use Rattle.ddt_compile.proofs.GrowingLemmas.{grown}
+use Rattle.ddt_path.proofs.FilterLemmas.{none_made}
 use Rattle.ddt_compile.proofs.sites.sites_by_zone.Goals as goal
 use Rattle.ddt_compile.proofs.sites.sites_by_zone.Goals.{in-Some+in_ok-append, in_default}
 
@@ -44,7 +45,7 @@ loop-site-preserved c = λ z k ms.
           let none = subst (λ (n : ℕ). (q : List ℕ) → IsAbove prefixes x.prefix (n + 1) q → ⊥) c.len.ensures.digits w.in_default.ensures in
           ap (λ (m : BTreeMap (List ℕ) (Vec SiteEntry)). list_at (slice_cmp nat_cmp) m z.prefix) w.lists-is
           ∙ c.loop-site.invariant z k ms
-          ∙ none_kept entry_of (is_site_in z) sites i x c.loop-site-test.true c.site-item.is (no_holder prefixes r c.requires c.register.ensures.accepted z x k ms none)
+          ∙ none_made (is_site_in z) sites i x c.loop-site-test.true c.site-item.is entry_of (no_holder prefixes r c.requires c.register.ensures.accepted z x k ms none)
     ]
 
 pub returns : goal.returns

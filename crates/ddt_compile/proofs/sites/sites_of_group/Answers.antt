@@ -7,14 +7,15 @@ use Rattle.std.specs.Global.{Vec}
 use Rattle.std.proofs.lemmas.List.{take_all}
 use Rattle.ddt_register.specs.declared.site.Site.{Site}
 use Rattle.ddt_register.specs.declared.register.Register.{Register}
-use Rattle.ddt_config.specs.declared.config.SiteEntry.{SiteEntry}
+use Rattle.ddt_config.specs.declared.site_entry.SiteEntry.{SiteEntry}
 use Rattle.ddt_compile.specs.GroupConfig.{entry_of}
 use Rattle.ddt_check.specs.Zones.{is_site_in}
 use Rattle.ddt_compile.specs.Lists.{list_at}
 use Rattle.ddt_path.proofs.MemberLemmas.{IsIn, in_at, in_contained, contained}
 use Rattle.ddt_check.proofs.KeptLemmas.{few_etrs, role_of_zone}
-use Rattle.ddt_compile.proofs.GrowingLemmas.{grown, none_kept, list_at-empty}
-use Rattle.ddt_compile.proofs.SortedLemmas.{holds_site, held_elsewhere, node≢ms}
+use Rattle.ddt_compile.proofs.GrowingLemmas.{grown, list_at-empty}
+use Rattle.ddt_path.proofs.FilterLemmas.{none_made}
+use Rattle.ddt_check.proofs.HolderLemmas.{holds_site, held_elsewhere, node≢ms}
 use Rattle.ddt_compile.proofs.sites.sites_of_group.Goals as goal
 use Rattle.ddt_compile.proofs.sites.sites_of_group.Goals.{in-Some+then-eq+in_ok-append, in-Some+else-eq, in_default-holder}
 
@@ -56,7 +57,7 @@ loop-site-preserved c = λ z k ms own.
           let held = w.in-Some.ensures r accepted c.requires.sorted.0 site in
           ap (λ (m : BTreeMap (List ℕ) (Vec SiteEntry)). list_at (slice_cmp nat_cmp) m z.prefix) w.lists-is
           ∙ c.loop-site.invariant z k ms own
-          ∙ none_kept entry_of (is_site_in z) sites i x lt is
+          ∙ none_made (is_site_in z) sites i x lt is entry_of
           (held_elsewhere r accepted z y x k ms (in_contained r.zones y held.0) held.1 held.2 c.args.group.now own (sym w.eq.ensures ∙ w.if-eq.false))
       | in_default-holder w ↦ absurd (w.in_default-holder.ensures r accepted c.requires.sorted.0 site)
     ]

@@ -2,7 +2,7 @@ use Rattle.std.proofs.Common.{◌≡◌, ◌∙◌, ap, rules}
 use Rattle.ddt_path.specs.Path.{xeid_path}
 use Rattle.ddt_path.specs.declared.record.Outcome.{Outcome}
 use Rattle.ddt_path.specs.Records.{record_of}
-use Rattle.ddt_config.specs.declared.config.SiteEntry.{SiteEntry}
+use Rattle.ddt_config.specs.declared.site_entry.SiteEntry.{SiteEntry}
 use Rattle.ddt_node.proofs.AnswerLemmas.{site_answer, site_etr}
 use Rattle.ddt_node.proofs.PlaceLemmas.{found_at, found_covers}
 use Rattle.ddt_node.proofs.answering.answer_in.Goals as goal

@@ -24,7 +24,7 @@ returns c = λ r x s l accepted order sound id trail honest.
       servers = h.servers r accepted;
       agree = h.agree r accepted;
       sendable = h.sendable r accepted;
-      one = w.one;
+      messages = w.read;
       back = w.back;
     } in
     trail_is_short r laws x s l.outcome l.hops order sound id trail honest

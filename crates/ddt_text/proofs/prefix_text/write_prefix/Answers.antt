@@ -8,8 +8,8 @@ returns-clause-appended c =
     ∙ ap (λ (bytes : List ℕ). if is_ok c.extend_from_slice.result then c.args.text.now.items ++ bytes else c.args.text.now.items)
     (c.as_bytes.ensures.value ∙ c.in_ok-written.ensures.ok ∙ shown_prefix c.form.result c.args.prefix c.form.ensures.path c.form.ensures.kept)
 
-pub returns-in_err-written-clause-spelled : goal.returns-in_err-written-clause-spelled
-returns-in_err-written-clause-spelled c = written_prefix-spells
+pub returns-in_err-written-clause-law : goal.returns-in_err-written-clause-law
+returns-in_err-written-clause-law c = written_prefix-spells
 
-pub returns-clause-spelled : goal.returns-clause-spelled
-returns-clause-spelled c = written_prefix-spells
+pub returns-clause-law : goal.returns-clause-law
+returns-clause-law c = written_prefix-spells

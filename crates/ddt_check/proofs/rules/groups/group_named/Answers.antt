@@ -1,10 +1,10 @@
-use Rattle.std.proofs.Common.{rules, ◌≡◌, ℕ, List, ◌<◌, ◌≤◌, length, get_or, Option, Some, None, sym, ap, ◌∙◌, true, false}
+use Rattle.std.proofs.Common.{rules, ◌≡◌, ℕ, List, get_or, Some, sym, ap, ◌∙◌, true, false}
 use Rattle.std.proofs.lemmas.List.Sorted.{IsPartitionPoint-from_clause}
 use Rattle.ddt_register.specs.declared.group.Group.{Group}
 use Rattle.ddt_path.specs.Covers.{is_same_path}
-use Rattle.ddt_check.proofs.RegisterLemmas.{groups_up}
+use Rattle.ddt_register.proofs.RowOrderLemmas.{groups_up}
 use Rattle.ddt_check.proofs.NameLemmas.{is_below, parted, found_key, no_key_past, no_key_at}
-use Rattle.ddt_check.proofs.LeastLemmas.{get_or-same}
+use Rattle.std.proofs.lemmas.List.{get_or_default}
 use Rattle.ddt_check.proofs.rules.groups.group_named.Goals as goal
 use Rattle.ddt_check.proofs.rules.groups.group_named.Goals.{else-at-groups-via-then-at-groups+else-eq, else-at-groups-via-else-at-groups}
 
@@ -25,7 +25,7 @@ returns-then-eq c = λ r moved.
     let g = c.index-groups-at-then-eq.result in
     let d = c.index-groups-at.result in
     let e : is_same_path (get_or xs at g).name name ≡ true = ap (λ (x : Group). is_same_path x.name name)
-    (get_or-same xs at g d c.if-at-groups.true) ∙ sym c.eq.ensures ∙ c.if-eq.true in
+    (get_or_default xs at g d c.if-at-groups.true) ∙ sym c.eq.ensures ∙ c.if-eq.true in
     ap (λ (x : Group). Some x) c.index-groups-at-then-eq.is
     ∙ sym (found_key key group_row xs c.requires name r.groups (groups_up r) moved at point g c.if-at-groups.true e)
 

@@ -1,12 +1,10 @@
-use Rattle.std.proofs.Common.{◌≡◌, ℕ, ◌+◌, ◌-◌, ◌<◌, List, length, get_or, refl, sym, ap, subst, ◌∙◌, arith}
+use Rattle.std.proofs.Common.{◌≡◌, ℕ, ◌+◌, ◌-◌, ◌<◌, List, length, get_or, sym, ap, ◌∙◌, arith}
 use Rattle.ddt_register.specs.declared.group.Group.{Group}
-use Rattle.ddt_register.specs.declared.register.Register.{Register}
 use Rattle.ddt_path.specs.Covers.{is_same_path}
 use Rattle.ddt_check.specs.Rules.{is_duplicate_group}
-use Rattle.ddt_check.specs.Order.{IsInOrder}
-use Rattle.ddt_check.proofs.RegisterLemmas.{groups_up}
+use Rattle.ddt_register.proofs.RowOrderLemmas.{groups_up}
 use Rattle.ddt_check.proofs.OrderLemmas.{has_earlier-beside, has_earlier-first}
-use Rattle.ddt_check.proofs.LeastLemmas.{get_or-same}
+use Rattle.std.proofs.lemmas.List.{get_or_default}
 use Rattle.ddt_check.proofs.rules.groups.repeats.Goals as goal
 
 abbrev prefix : Group → List ℕ
@@ -30,10 +28,10 @@ returns c = λ r d moved.
     let x = c.index-groups-at.result in
     let y = c.index-groups-at-2.result in
     c.has_same_name.ensures
-    ∙ ap (λ (z : Group). is_same_path z.name y.name) (c.index-groups-at.is ∙ get_or-same groups (c.args.at - 1) x d
+    ∙ ap (λ (z : Group). is_same_path z.name y.name) (c.index-groups-at.is ∙ get_or_default groups (c.args.at - 1) x d
     (omega arith))
     ∙ ap (λ (z : Group). is_same_path (get_or groups (c.args.at - 1) d).name z.name)
-    (c.index-groups-at-2.is ∙ get_or-same groups c.args.at y d at)
+    (c.index-groups-at-2.is ∙ get_or_default groups c.args.at y d at)
     ∙ ap (λ (k : ℕ). is_same_path (get_or groups (c.args.at - 1) d).name (get_or groups k d).name) up
     ∙ has_earlier-beside prefix group_row groups c.requires.sorted r.groups (groups_up r) moved (c.args.at - 1) d
     (omega arith)

@@ -1,13 +1,11 @@
-use Rattle.std.proofs.Common.{rules, ◌≡◌, ℕ, List, ◌<◌, ◌≤◌, length, get_or, Option, Some, None, sym, ap, ◌∙◌, true, false}
-use Rattle.std.specs.Ordering.{nat_cmp, is_lt}
-use Rattle.std.specs.Cmp.Lexicographic.{slice_cmp}
+use Rattle.std.proofs.Common.{rules, ◌≡◌, ℕ, get_or, Some, sym, ap, ◌∙◌, true, false}
 use Rattle.std.proofs.lemmas.List.Sorted.{IsPartitionPoint-from_clause}
 use Rattle.ddt_register.specs.declared.group.Group.{Group}
 use Rattle.ddt_path.specs.Covers.{is_same_path}
 use Rattle.ddt_check.specs.Columns.{column_key, locator_key, key_list}
-use Rattle.ddt_check.proofs.RegisterLemmas.{groups_up}
+use Rattle.ddt_register.proofs.RowOrderLemmas.{groups_up}
 use Rattle.ddt_check.proofs.NameLemmas.{is_below, parted, found_key, no_key_past, no_key_at}
-use Rattle.ddt_check.proofs.LeastLemmas.{get_or-same}
+use Rattle.std.proofs.lemmas.List.{get_or_default}
 use Rattle.ddt_check.proofs.rules.locators.first_in.Goals as goal
 use Rattle.ddt_check.proofs.rules.locators.first_in.Goals.{else-at-groups-via-then-at-groups+else-has_key, else-at-groups-via-else-at-groups}
 
@@ -26,7 +24,7 @@ returns-then-has_key c = λ r moved.
     let g = c.index-groups-at-then-has_key.result in
     let d = c.index-groups-at.result in
     let e : is_same_path (key (get_or xs at g)) name ≡ true =
-    ap (λ (x : Group). is_same_path (key x) name) (get_or-same xs at g d c.if-at-groups.true ∙ sym c.index-groups-at.is)
+    ap (λ (x : Group). is_same_path (key x) name) (get_or_default xs at g d c.if-at-groups.true ∙ sym c.index-groups-at.is)
     ∙ ap (λ (p : ℕ × ℕ). is_same_path (key d) (key_list p)) (sym c.locator_pair-key.ensures) ∙ sym c.has_key.ensures ∙
     c.if-has_key.true in
     ap (λ (x : Group). Some x) c.index-groups-at-then-has_key.is

@@ -1,12 +1,10 @@
-use Rattle.std.proofs.Common.{◌≡◌, ℕ, ◌+◌, ◌-◌, ◌<◌, List, length, get_or, refl, sym, ap, subst, ◌∙◌, arith}
+use Rattle.std.proofs.Common.{◌≡◌, ℕ, ◌+◌, ◌-◌, ◌<◌, List, length, get_or, sym, ap, ◌∙◌, arith}
 use Rattle.ddt_register.specs.declared.site.Site.{Site}
-use Rattle.ddt_register.specs.declared.register.Register.{Register}
 use Rattle.ddt_path.specs.Covers.{is_same_path}
 use Rattle.ddt_check.specs.Rules.{is_duplicate_site}
-use Rattle.ddt_check.specs.Order.{IsInOrder}
-use Rattle.ddt_check.proofs.RegisterLemmas.{sites_up}
+use Rattle.ddt_register.proofs.RowOrderLemmas.{sites_up}
 use Rattle.ddt_check.proofs.OrderLemmas.{has_earlier-beside, has_earlier-first}
-use Rattle.ddt_check.proofs.LeastLemmas.{get_or-same}
+use Rattle.std.proofs.lemmas.List.{get_or_default}
 use Rattle.ddt_check.proofs.rules.sites.repeats.Goals as goal
 
 abbrev prefix : Site → List ℕ
@@ -30,10 +28,10 @@ returns c = λ r d moved.
     let x = c.index-sites-at.result in
     let y = c.index-sites-at-2.result in
     c.has_same_prefix.ensures
-    ∙ ap (λ (s : Site). is_same_path s.prefix y.prefix) (c.index-sites-at.is ∙ get_or-same sites (c.args.at - 1) x d
+    ∙ ap (λ (s : Site). is_same_path s.prefix y.prefix) (c.index-sites-at.is ∙ get_or_default sites (c.args.at - 1) x d
     (omega arith))
     ∙ ap (λ (s : Site). is_same_path (get_or sites (c.args.at - 1) d).prefix s.prefix)
-    (c.index-sites-at-2.is ∙ get_or-same sites c.args.at y d at)
+    (c.index-sites-at-2.is ∙ get_or_default sites c.args.at y d at)
     ∙ ap (λ (k : ℕ). is_same_path (get_or sites (c.args.at - 1) d).prefix (get_or sites k d).prefix) up
     ∙ has_earlier-beside prefix site_row sites c.requires.sorted r.sites (sites_up r) moved (c.args.at - 1) d
     (omega arith)

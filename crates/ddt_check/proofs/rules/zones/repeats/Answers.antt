@@ -1,12 +1,10 @@
-use Rattle.std.proofs.Common.{◌≡◌, ℕ, ◌+◌, ◌-◌, ◌<◌, List, length, get_or, refl, sym, ap, subst, ◌∙◌, arith}
+use Rattle.std.proofs.Common.{◌≡◌, ℕ, ◌+◌, ◌-◌, ◌<◌, List, length, get_or, sym, ap, ◌∙◌, arith}
 use Rattle.ddt_register.specs.declared.zone.Zone.{Zone}
-use Rattle.ddt_register.specs.declared.register.Register.{Register}
 use Rattle.ddt_path.specs.Covers.{is_same_path}
 use Rattle.ddt_check.specs.Rules.{is_duplicate_zone}
-use Rattle.ddt_check.specs.Order.{IsInOrder}
-use Rattle.ddt_check.proofs.RegisterLemmas.{zones_up}
+use Rattle.ddt_register.proofs.RowOrderLemmas.{zones_up}
 use Rattle.ddt_check.proofs.OrderLemmas.{has_earlier-beside, has_earlier-first}
-use Rattle.ddt_check.proofs.LeastLemmas.{get_or-same}
+use Rattle.std.proofs.lemmas.List.{get_or_default}
 use Rattle.ddt_check.proofs.rules.zones.repeats.Goals as goal
 
 abbrev prefix : Zone → List ℕ
@@ -30,10 +28,10 @@ returns c = λ r d moved.
     let x = c.index-zones-at.result in
     let y = c.index-zones-at-2.result in
     c.has_same_prefix.ensures
-    ∙ ap (λ (z : Zone). is_same_path z.prefix y.prefix) (c.index-zones-at.is ∙ get_or-same zones (c.args.at - 1) x d
+    ∙ ap (λ (z : Zone). is_same_path z.prefix y.prefix) (c.index-zones-at.is ∙ get_or_default zones (c.args.at - 1) x d
     (omega arith))
     ∙ ap (λ (z : Zone). is_same_path (get_or zones (c.args.at - 1) d).prefix z.prefix)
-    (c.index-zones-at-2.is ∙ get_or-same zones c.args.at y d at)
+    (c.index-zones-at-2.is ∙ get_or_default zones c.args.at y d at)
     ∙ ap (λ (k : ℕ). is_same_path (get_or zones (c.args.at - 1) d).prefix (get_or zones k d).prefix) up
     ∙ has_earlier-beside prefix zone_row zones c.requires.sorted r.zones (zones_up r) moved (c.args.at - 1) d
     (omega arith)

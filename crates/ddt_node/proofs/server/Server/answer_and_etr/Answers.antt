@@ -1,5 +1,5 @@
 use Rattle.ddt_path.specs.Path.{xeid_path}
-use Rattle.ddt_config.specs.declared.config.Authority.{Authority}
+use Rattle.ddt_config.specs.declared.authority.Authority.{Authority}
 use Rattle.ddt_config.specs.Table.{outline}
 use Rattle.ddt_node.specs.Places.{places_in}
 use Rattle.ddt_node.proofs.AnswerLemmas.{answer_from, etr_from}

@@ -1,4 +1,7 @@
-use Rattle.std.proofs.Common.{◌+◌, arith, ap, ◌∙◌, drop, inl, inr}
+use Rattle.std.proofs.Common.{ℕ, ◌≡◌, ◌+◌, arith, ap, subst, ◌∙◌, take, drop, inl, inr}
+use Rattle.ddt_path.specs.Path.{xeid_path}
+use Rattle.ddt_trie.specs.Tree.{IsTurn}
+use Rattle.ddt_trie.specs.declared.tree.Turn.TheVariants.{End, Zero, One}
 use Rattle.ddt_trie.specs.declared.tree.Node.{Node}
 use Rattle.ddt_trie.proofs.TreeLemmas.{step_low, step_high, value_here}
 use Rattle.ddt_trie.proofs.DescentLemmas.{IsMetNext, found_at_end, go_on}
@@ -14,7 +17,10 @@ returns-in-End-clause-found g c =
       | in-Some w ↦ inl (_, here ∙ w.in-Some.is, w.best-is)
       | in_default-value w ↦ inr (here ∙ w.in_default-value.is, w.best-is)
     ] in
-    found_at_end c.loop-tree.invariant.1 c.match-deref.best c.in-End.ensures met
+    let same : take c.len-len.result (xeid_path c.inner-x.result) ≡ c.args.prefix =
+    ap (λ (n : ℕ). take n (xeid_path c.inner-x.result)) c.len-len.ensures.digits ∙ c.inner-x.ensures.front in
+    found_at_end c.loop-tree.invariant.1 c.match-deref.best
+    (subst (λ p. IsTurn c.loop-tree.depth p End) same c.in-End.ensures) met
 
 pub loop-tree-preserved : goal.loop-tree-preserved
 loop-tree-preserved g c =
@@ -22,6 +28,8 @@ loop-tree-preserved g c =
     let y = drop depth c.args.prefix in
     let r = drop (depth + 1) c.args.prefix in
     let tree = c.loop-tree.tree.now in
+    let same : take c.len-len.result (xeid_path c.inner-x.result) ≡ c.args.prefix =
+    ap (λ (n : ℕ). take n (xeid_path c.inner-x.result)) c.len-len.ensures.digits ∙ c.inner-x.ensures.front in
     let here = value_here depth tree _ _ _ _ c.deref.result.now.value c.in-Fork.is
     (ap (λ (n : Node _). n.value) c.deref.ensures) in
     let met : IsMetNext depth tree c.loop-tree.best c.match-deref.best =
@@ -29,17 +37,17 @@ loop-tree-preserved g c =
       | in-Some w ↦ inl (_, here ∙ w.in-Some.is, w.best-is)
       | in_default-value w ↦ inr (here ∙ w.in_default-value.is, w.best-is)
     ] in
-    elim c.match-turn_at.branch [
-      | in-Zero w ↦ (
-        omega (arith, w.in-Zero.ensures.1),
+    elim c.match-turn_of.branch [
+      | in-Zero w ↦ let goes = subst (λ p. IsTurn depth p Zero) same w.in-Zero.ensures in (
+        omega (arith, goes.1),
         go_on c.loop-tree.invariant.1 c.match-deref.best
-            (step_low depth tree _ _ _ _ c.match-turn_at.tree.now y r c.in-Fork.is
-            (ap (λ b. b.now) w.tree-is ∙ ap (λ (n : Node _). n.zero) w.deref-in-Zero.ensures) w.in-Zero.ensures.0) met,
+            (step_low depth tree _ _ _ _ c.match-turn_of.tree.now y r c.in-Fork.is
+            (ap (λ b. b.now) w.tree-is ∙ ap (λ (n : Node _). n.zero) w.deref-in-Zero.ensures) goes.0) met,
       )
-      | in-One w ↦ (
-        omega (arith, w.in-One.ensures.1),
+      | in-One w ↦ let goes = subst (λ p. IsTurn depth p One) same w.in-One.ensures in (
+        omega (arith, goes.1),
         go_on c.loop-tree.invariant.1 c.match-deref.best
-            (step_high depth tree _ _ _ _ c.match-turn_at.tree.now y r c.in-Fork.is
-            (ap (λ b. b.now) w.tree-is ∙ ap (λ (n : Node _). n.one) w.deref-in-One.ensures) w.in-One.ensures.0) met,
+            (step_high depth tree _ _ _ _ c.match-turn_of.tree.now y r c.in-Fork.is
+            (ap (λ b. b.now) w.tree-is ∙ ap (λ (n : Node _). n.one) w.deref-in-One.ensures) goes.0) met,
       )
     ]

@@ -4,5 +4,5 @@ use Rattle.ddt_trie.proofs.tree.Tree.longest.Given as goal
 
 abbrev pub invariant-loop-tree : goal.invariant-loop-tree
 invariant-loop-tree g l =
-    (l.depth ≤ length l.prefix)
-    × IsOnTheWay l.fn.at l.fn.self (drop l.fn.at l.fn.prefix) l.depth l.tree (drop l.depth l.prefix) l.best
+    (l.depth ≤ length l.fn.prefix)
+    × IsOnTheWay l.fn.at l.fn.self (drop l.fn.at l.fn.prefix) l.depth l.tree (drop l.depth l.fn.prefix) l.best

@@ -1,0 +1,6 @@
+use Rattle.toml.specs.View.{table_view}
+use Rattle.ddt_config.proofs.SameLemmas.{determined}
+use Rattle.ddt_config.proofs.document.from_toml.Goals as goal
+
+pub returns-in-Ok-clause-every : goal.returns-in-Ok-clause-every
+returns-in-Ok-clause-every c = determined c.args.text.now (table_view c.in-Ok.table) c.in-Ok.ensures.ok c.read_config.result c.read_config.ensures.found c.read_config.ensures.refused

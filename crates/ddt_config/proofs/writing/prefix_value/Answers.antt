@@ -1,5 +1,0 @@
-use Rattle.ddt_config.proofs.AsciiLemmas.{utf8_prefix}
-use Rattle.ddt_config.proofs.writing.prefix_value.Goals as goal
-
-pub text_value-requires : goal.text_value-requires
-text_value-requires c = rw (c.in_ok-write_prefix.ensures.appended, c.new-text.ensures.items) (utf8_prefix c.args.prefix (c.form-form.result, c.form-form.ensures.path, c.form-form.ensures.kept))

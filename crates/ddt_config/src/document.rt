@@ -1,0 +1,69 @@
+//! The text of a configuration.
+
+ghost use Rattle.std.specs.Prelude.{◌≡◌, ◌≢◌, ◌⊎◌, false, Ok, Err, IfOk, IfErr, string_bytes};
+ghost use Rattle.toml.specs.Errors.{IsMemory};
+ghost use Rattle.toml.specs.Text.{IsDocumentText};
+ghost use Rattle.toml.specs.View.{table_view};
+ghost use Rattle.ddt_config.specs.declared.config.ServerConfig.{ServerConfig as ConfigValue};
+ghost use Rattle.ddt_config.specs.Table.{config_in, config_in_text, outline, StandsFor};
+ghost use Rattle.ddt_config.specs.Reading.{IsToldAs};
+ghost use Rattle.ddt_config.specs.Writing.{written_config};
+
+use crate::config::{Draft, ServerConfig};
+use crate::fault::ConfigFault;
+use std::alloc::{AllocError, Global};
+use toml::{Table, de, ser};
+
+/// The configuration that a text in TOML stands for. At its top stand `name`, `kind` (`node` or `ms`), `locators`, an
+/// array of texts, and `authority`, an array of tables. Such a table holds `prefix`; behind it stands, where nodes are
+/// in charge, `child`, tables of `prefix`, `kind` and `locators`, and where Map-Servers are, `site`, tables of `prefix`
+/// and `etrs`. The arrays of tables may be missing, and other keys are ignored. Refused as 1 Toml where the text is no
+/// TOML; else the first fault in this order decides: 2 Field where a key is missing or holds a value of another kind, 3
+/// Value where a text is malformed for its key; then 4 Shape. 5 Memory may come at any time.
+pub fn from_toml(alloc: Global, text: &str) -> Result<ServerConfig, ConfigFault>
+    ensures found { IfOk result (StandsFor text.now) }
+    ensures every { (c : ConfigValue) → StandsFor text.now c → (result ≡ Ok c) ⊎ (result ≡ Err ConfigFault.Memory) }
+    ensures refused { IfErr result (λ fault. fault ≢ ConfigFault.Memory → config_in_text text.now ≡ Err fault) }
+{
+    match toml::table_from_str(alloc, text) {
+        Ok(table) => read_config(alloc, &table),
+        Err(fault) => Err(toml_fault(&fault)),
+    }
+}
+
+/// What is told of a text that `toml` refuses: 5 Memory if and only if memory was refused.
+fn toml_fault(fault: &de::Error) -> ConfigFault
+    ensures { IsToldAs (IsMemory fault.now) result }
+{
+    if fault.is_memory() {
+        ConfigFault::Memory
+    } else {
+        ConfigFault::Toml
+    }
+}
+
+fn read_config(alloc: Global, table: &Table) -> Result<ServerConfig, ConfigFault>
+    ensures found { IfOk result (λ c. config_in (table_view table.now) ≡ Ok (outline c)) }
+    ensures refused { IfErr result (λ fault. fault ≢ ConfigFault.Memory → config_in (table_view table.now)
+        ≡ Err fault) }
+{
+    let draft = Draft::read(alloc, table)?;
+    ServerConfig::of(alloc, &draft)
+}
+
+/// The configuration as a text in TOML, as `from_toml` reads it. At its top stand `name`, `kind` (`node` or `ms`),
+/// `locators` and `authority`; each authority has `prefix` and either `child`, tables of `prefix`, `kind` and
+/// `locators`, or `site`, tables of `prefix` and `etrs`. There are no other keys, and an empty list is written too.
+/// Fails only if out of memory.
+pub fn to_toml(alloc: Global, config: &ServerConfig) -> Result<String, AllocError>
+    ensures printed { IfOk result (λ text. IsDocumentText false (written_config (outline config.now))
+        (string_bytes text)) }
+    ensures read_back { IfOk result (λ text. StandsFor (string_bytes text) config.now) }
+{
+    let table = config.write(alloc)?;
+    match toml::table_to_string(alloc, &table) {
+        Ok(text) => Ok(text),
+        Err(ser::Error::OutOfMemory) => Err(AllocError),
+        Err(ser::Error::DateInvalid) => unreachable!(),
+    }
+}

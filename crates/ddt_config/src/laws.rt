@@ -1,0 +1,9 @@
+//! What holds of every table: the function is a law of the definitions, and does nothing.
+
+ghost use Rattle.ddt_config.specs.Laws.{TablesAreRead};
+
+/// A table is read as an outline if and only if each of its keys holds what the outline says, whichever is examined
+/// first, and the outline is shaped.
+pub fn a_table_is_read_as_what_it_stands_for()
+    ensures { TablesAreRead }
+{}

@@ -1,0 +1,182 @@
+//! What a table holds at a key: texts, arrays, and what the texts stand for.
+
+ghost use Rattle.std.specs.Prelude.{◌≡◌, map};
+ghost use Rattle.std.specs.List.{list_all};
+ghost use Rattle.toml.specs.Data.{get_member};
+ghost use Rattle.toml.specs.View.{view, table_view};
+ghost use Rattle.ddt_reading.specs.Steps.{IsReadAs};
+ghost use Rattle.ddt_config.specs.Table.{key_text, each, of_kind, text_of, array_of, text_at as text_at_of, array_at as array_at_of, array_or_none as array_or_none_of, texts_at as texts_at_of, tables_at as tables_at_of, is_text_value, is_table_value, locator_of, name_in as name_of, role_in as role_of_table, role_of as role_of_text, path_in, locators_in};
+ghost use Rattle.ddt_config.specs.Reading.{Reads};
+
+use crate::fault::{ConfigFault, Key};
+use ddt_path::{Listed, Locator, Name, Prefix, Role};
+use ddt_text::{parse_locator, parse_prefix};
+use std::alloc::Global;
+use toml::{Table, Value};
+
+fn value_at<'t>(table: &'t Table, key: Key) -> Result<&'t Value, ConfigFault>
+    ensures { IsReadAs (λ v. view v.now) result (of_kind key (get_member (key_text key) (table_view table.now))) }
+{
+    match table.get(key.text()) {
+        Some(value) => Ok(value),
+        None => Err(ConfigFault::Field(key)),
+    }
+}
+
+fn text_in<'t>(value: &'t Value, key: Key) -> Result<&'t str, ConfigFault>
+    ensures { IsReadAs (λ t. t.now) result (text_of key (view value.now)) }
+{
+    match value.as_str() {
+        Some(text) => Ok(text),
+        None => Err(ConfigFault::Field(key)),
+    }
+}
+
+fn text_at<'t>(table: &'t Table, key: Key) -> Result<&'t str, ConfigFault>
+    ensures { IsReadAs (λ t. t.now) result (text_at_of key (table_view table.now)) }
+{
+    match value_at(table, key) {
+        Ok(value) => text_in(value, key),
+        Err(fault) => Err(fault),
+    }
+}
+
+fn array_in<'t>(value: &'t Value, key: Key) -> Result<&'t [Value], ConfigFault>
+    ensures { IsReadAs (λ vs. map view vs.now) result (array_of key (view value.now)) }
+{
+    match value.as_array() {
+        Some(values) => Ok(values.as_slice()),
+        None => Err(ConfigFault::Field(key)),
+    }
+}
+
+fn array_at<'t>(table: &'t Table, key: Key) -> Result<&'t [Value], ConfigFault>
+    ensures { IsReadAs (λ vs. map view vs.now) result (array_at_of key (table_view table.now)) }
+{
+    match value_at(table, key) {
+        Ok(value) => array_in(value, key),
+        Err(fault) => Err(fault),
+    }
+}
+
+fn array_or_none<'t>(table: &'t Table, key: Key) -> Result<&'t [Value], ConfigFault>
+    ensures { IsReadAs (λ vs. map view vs.now) result (array_or_none_of key (get_member (key_text key)
+        (table_view table.now))) }
+{
+    match table.get(key.text()) {
+        Some(value) => array_in(value, key),
+        None => Ok(&[]),
+    }
+}
+
+fn are_texts(values: &[Value]) -> bool
+    ensures { result ≡ list_all (λ v. is_text_value (view v)) values.now }
+{
+    values.iter().all(|value| value.is_str())
+}
+
+fn are_tables(values: &[Value]) -> bool
+    ensures { result ≡ list_all (λ v. is_table_value (view v)) values.now }
+{
+    values.iter().all(|value| value.is_table())
+}
+
+/// The texts at a key.
+fn texts_at<'t>(table: &'t Table, key: Key) -> Result<&'t [Value], ConfigFault>
+    ensures { IsReadAs (λ vs. map view vs.now) result (texts_at_of key (table_view table.now)) }
+{
+    let values = array_at(table, key)?;
+    if are_texts(values) {
+        Ok(values)
+    } else {
+        Err(ConfigFault::Field(key))
+    }
+}
+
+/// The tables at a key, none where it is missing.
+pub fn tables_at<'t>(table: &'t Table, key: Key) -> Result<&'t [Value], ConfigFault>
+    ensures { IsReadAs (λ vs. map view vs.now) result (tables_at_of key (table_view table.now)) }
+{
+    let values = array_or_none(table, key)?;
+    if are_tables(values) {
+        Ok(values)
+    } else {
+        Err(ConfigFault::Field(key))
+    }
+}
+
+/// The name of the group.
+pub fn name_in(table: &Table) -> Result<Name, ConfigFault>
+    ensures { result ≡ name_of (table_view table.now) }
+{
+    match text_at(table, Key::Name) {
+        Ok(text) => Name::of(text.as_bytes()).ok_or(ConfigFault::Value(Key::Name)),
+        Err(fault) => Err(fault),
+    }
+}
+
+fn role_of(text: &str) -> Result<Role, ConfigFault>
+    ensures { result ≡ role_of_text text.now }
+{
+    if text == "node" {
+        Ok(Role::Node)
+    } else if text == "ms" {
+        Ok(Role::Ms)
+    } else {
+        Err(ConfigFault::Value(Key::Kind))
+    }
+}
+
+/// What the servers are.
+pub fn role_in(table: &Table) -> Result<Role, ConfigFault>
+    ensures { result ≡ role_of_table (table_view table.now) }
+{
+    match text_at(table, Key::Kind) {
+        Ok(text) => role_of(text),
+        Err(fault) => Err(fault),
+    }
+}
+
+/// The prefix of an authority, a child or a site.
+pub fn prefix_in(table: &Table) -> Result<Prefix, ConfigFault>
+    ensures { result ≡ path_in (table_view table.now) }
+{
+    match text_at(table, Key::Prefix) {
+        Ok(text) => match parse_prefix(text.as_bytes()) {
+            Ok(prefix) => Ok(prefix),
+            Err(_) => Err(ConfigFault::Value(Key::Prefix)),
+        },
+        Err(fault) => Err(fault),
+    }
+}
+
+fn locator_in(value: &Value, key: Key) -> Result<Locator, ConfigFault>
+    ensures { result ≡ locator_of key (view value.now) }
+{
+    match text_in(value, key) {
+        Ok(text) => match parse_locator(text.as_bytes()) {
+            Ok(locator) => Ok(locator),
+            Err(_) => Err(ConfigFault::Value(key)),
+        },
+        Err(fault) => Err(fault),
+    }
+}
+
+fn read_locators(alloc: Global, values: &[Value], key: Key) -> Result<Listed<Locator>, ConfigFault>
+    ensures { Reads (each (locator_of key) (map view values.now)) result }
+{
+    let mut locators = Vec::new(alloc);
+    for value in values {
+        let locator = locator_in(value, key)?;
+        locators.push(locator)?;
+    }
+    Ok(Listed::of(locators))
+}
+
+/// The locators at a key, however many.
+pub fn locators_at(alloc: Global, table: &Table, key: Key) -> Result<Listed<Locator>, ConfigFault>
+    ensures { Reads (locators_in key (table_view table.now)) result }
+{
+    let values = texts_at(table, key)?;
+    read_locators(alloc, values, key)
+}

@@ -1,0 +1,92 @@
+//! A site of a Map-Server (RFC 8111, section 4): the table of a site.
+
+ghost use Rattle.toml.specs.Data.{table};
+ghost use Rattle.ddt_config.specs.Table.{site_in};
+ghost use Rattle.ddt_config.specs.Reading.{site_fits};
+ghost use Rattle.ddt_config.specs.Writing.{written_site, SiteComesBack};
+
+use crate::entry::Entry;
+use crate::fault::{ConfigFault, Key};
+use crate::members::{locators_at, prefix_in};
+use crate::values::{Written, array_value, prefix_value, put, table_value};
+use ddt_path::{Listed, Locator, LocatorSet, Prefix, Prefixed, Role};
+use std::alloc::{AllocError, Global};
+use std::marker::Model;
+use toml::{Table, Value};
+
+/// A site of a Map-Server. The longest site that covers an identifier decides.
+#[derive(Clone, Copy, Debug)]
+pub struct SiteEntry {
+    pub prefix: Prefix,
+    /// The locators of its registered ETRs, 0 to 8.
+    pub etrs: LocatorSet,
+}
+
+impl Prefixed for SiteEntry {
+    ghost path = { λ s. s.prefix };
+
+    fn prefix(&self) -> Prefix {
+        self.prefix
+    }
+}
+
+/// A site as its table has it, with any number of ETRs.
+#[derive(Debug, Drop)]
+pub struct SiteDraft {
+    pub prefix: Prefix,
+    pub etrs: Listed<Locator>,
+}
+
+impl Model for SiteDraft {
+    ghost use Rattle.ddt_config.specs.declared.site_entry.SiteEntry.{SiteEntry as SiteValue};
+
+    ghost Value = { SiteValue };
+
+    ghost view = { λ s. record { prefix = s.prefix; etrs = s.etrs } };
+}
+
+impl Prefixed for SiteDraft {
+    ghost path = { λ s. s.prefix };
+
+    fn prefix(&self) -> Prefix {
+        self.prefix
+    }
+}
+
+impl Entry for SiteDraft {
+    type Settled = SiteEntry;
+
+    ghost entry_in = { λ _ ms. site_in ms };
+
+    ghost has_room = { site_fits };
+
+    ghost settled = { λ s. s };
+
+    fn read(alloc: Global, _role: Role, table: &Table) -> Result<SiteDraft, ConfigFault> {
+        let prefix = prefix_in(table)?;
+        let etrs = locators_at(alloc, table, Key::Etrs)?;
+        Ok(SiteDraft { prefix, etrs })
+    }
+
+    fn settle(&self, _alloc: Global) -> Result<SiteEntry, AllocError> {
+        Ok(SiteEntry {
+            prefix: self.prefix,
+            etrs: LocatorSet::of_few(self.etrs.as_slice()),
+        })
+    }
+}
+
+impl Written for SiteEntry {
+    ghost written = { λ s. table (written_site s) };
+
+    ghost comes_back = { SiteComesBack };
+
+    fn write(&self, alloc: Global) -> Result<Value, AllocError> {
+        let mut table = Table::new(alloc);
+        let prefix = prefix_value(alloc, self.prefix)?;
+        put(alloc, &mut table, Key::Prefix, prefix)?;
+        let etrs = array_value(alloc, self.etrs.as_slice())?;
+        put(alloc, &mut table, Key::Etrs, etrs)?;
+        Ok(table_value(table))
+    }
+}

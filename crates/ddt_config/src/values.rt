@@ -1,0 +1,108 @@
+//! What is written at a key.
+
+ghost use Rattle.std.specs.Prelude.{◌≡◌, true, Ok, OnOk, IfOk, IsUtf8};
+ghost use Rattle.std.specs.List.{AllByRecursion};
+ghost use Rattle.toml.specs.Data.{string, table as table_data};
+ghost use Rattle.toml.specs.View.{view, table_view};
+ghost use Rattle.ddt_path.specs.Names.{is_name};
+ghost use Rattle.ddt_text.specs.FirstFault.{locator_in};
+ghost use Rattle.ddt_text.specs.Written.{written_locator, written_prefix};
+ghost use Rattle.ddt_config.specs.Table.{key_text, role_text};
+ghost use Rattle.ddt_config.specs.Writing.{inserted, written_each, PrefixComesBack};
+
+use crate::fault::Key;
+use ddt_path::{Locator, Name, Prefix, Role};
+use ddt_text::{write_locator, write_prefix};
+use std::alloc::{AllocError, Global};
+use toml::{Table, Value};
+
+/// What is written in an array, each as one value that is read as it.
+pub trait Written {
+    ghost use Rattle.toml.specs.Data.{Data};
+
+    ghost written: { Self → Data };
+
+    ghost comes_back: { Self → Type 0 };
+
+    fn write(&self, alloc: Global) -> Result<Value, AllocError>
+        ensures written { IfOk result (λ v. view v ≡ written self.now) }
+        ensures back { OnOk result (comes_back self.now) };
+}
+
+impl Written for Locator {
+    ghost written = { λ l. string (written_locator l) };
+
+    ghost comes_back = { λ l. locator_in (written_locator l) ≡ Ok l };
+
+    fn write(&self, alloc: Global) -> Result<Value, AllocError> {
+        let _width = self.width();
+        let mut text = Vec::new(alloc);
+        write_locator(&mut text, *self)?;
+        Ok(text_value(text))
+    }
+}
+
+/// The array of what is written of each.
+pub fn array_value<T: Written>(alloc: Global, items: &[T]) -> Result<Value, AllocError>
+    ensures written { IfOk result (λ v. view v ≡ written_each T.written items.now) }
+    ensures back { OnOk result (AllByRecursion T.comes_back items.now) }
+{
+    let mut values = Vec::new(alloc);
+    for item in items {
+        values.push(item.write(alloc)?)?;
+    }
+    Ok(Value::Array(values))
+}
+
+/// A table as a value.
+pub fn table_value(table: Table) -> Value
+    ensures { view result ≡ table_data (table_view table) }
+{
+    Value::Table(table)
+}
+
+/// Puts a value at a key that the table lacks.
+pub fn put(alloc: Global, table: &mut Table, key: Key, value: Value) -> Result<(), AllocError>
+    ensures { OnOk result (table_view table.new ≡ inserted (key_text key) (view value) (table_view table.old)) }
+{
+    table.insert(String::from_str(alloc, key.text())?, value)?;
+    Ok(())
+}
+
+fn text_value(text: Vec<u8>) -> Value
+    requires { IsUtf8 text.items }
+    ensures { view result ≡ string text.items }
+{
+    match String::from_utf8(text) {
+        Ok(text) => Value::String(text),
+        Err(_) => unreachable!(),
+    }
+}
+
+/// The name as a text.
+pub fn name_value(alloc: Global, name: Name) -> Result<Value, AllocError>
+    ensures { IfOk result (λ v. (view v ≡ string name) × (is_name name ≡ true)) }
+{
+    Ok(text_value(Vec::from_slice(alloc, name.as_bytes())?))
+}
+
+/// The word of the role.
+pub fn role_value(alloc: Global, role: Role) -> Result<Value, AllocError>
+    ensures { IfOk result (λ v. view v ≡ string (role_text role)) }
+{
+    match role {
+        Role::Node => Value::string(alloc, "node"),
+        Role::Ms => Value::string(alloc, "ms"),
+    }
+}
+
+/// The prefix as a text, which is read as the prefix.
+pub fn prefix_value(alloc: Global, prefix: Prefix) -> Result<Value, AllocError>
+    ensures written { IfOk result (λ v. view v ≡ string (written_prefix prefix)) }
+    ensures back { OnOk result (PrefixComesBack prefix) }
+{
+    let _form = prefix.form();
+    let mut text = Vec::new(alloc);
+    write_prefix(&mut text, prefix)?;
+    Ok(text_value(text))
+}

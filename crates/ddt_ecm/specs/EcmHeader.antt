@@ -1,0 +1,23 @@
+-- The header of an Encapsulated Control Message (RFC 9301, section 5.8; the bit D: RFC 8111, section 5).
+use Rattle.std.specs.Prelude.{ℕ, ◌+◌, ◌*◌, ◌/◌, ◌%◌, ◌^◌, ◌==◌, Bool, not, nat_lt, if◌then◌else◌, List, [], ◌∷◌, length, drop, slice_index, Result, Ok, Err}
+use Rattle.std.specs.Int.{w32, to_be_bytes}
+use Rattle.ddt_wire.specs.MessageType.{encapsulated}
+use Rattle.ddt_wire.specs.Referral.{bit}
+use Rattle.ddt_ecm.specs.declared.fault.RequestFault.{RequestFault}
+use Rattle.ddt_ecm.specs.declared.fault.RequestFault.TheVariants.{Short, MessageType, Security}
+
+-- type 8 in 4 bits, the bit S, which is 0, the bit D, and 26 ignored bits
+abbrev pub ecm_fields : Bool → ℕ → List ℕ
+ecm_fields ddt ignored = to_be_bytes w32 (encapsulated * 2 ^ 28 + bit ddt * 2 ^ 26 + ignored)
+
+-- what is written: all ignored bits are 0
+abbrev pub ecm_header : Bool → List ℕ
+ecm_header ddt = ecm_fields ddt 0
+
+-- the four bytes before the IP header
+unfoldable pub ecm_at : List ℕ → Result (List ℕ) RequestFault
+ecm_at bytes =
+    if nat_lt (length bytes) 4 then Err Short
+    else if not (slice_index bytes 0 / 16 == encapsulated) then Err MessageType
+    else if not (slice_index bytes 0 / 8 % 2 == 0) then Err Security
+    else Ok (drop 4 bytes)

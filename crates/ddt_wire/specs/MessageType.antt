@@ -1,0 +1,15 @@
+-- The types of control messages, in the first four bits of each (RFC 9301, section 5.1; RFC 8111, section 6.4).
+use Rattle.std.specs.Prelude.{ℕ}
+
+abbrev pub map_request : ℕ
+map_request = 1
+
+abbrev pub map_reply : ℕ
+map_reply = 2
+
+abbrev pub map_referral : ℕ
+map_referral = 6
+
+-- an Encapsulated Control Message
+abbrev pub encapsulated : ℕ
+encapsulated = 8

@@ -131,7 +131,7 @@ number_once m n fits small e =
 
 step_once : (line : List ℕ) (a b : Step) → SpellsStep line a → SpellsStep line b → a ≡ b
 step_once line (Ask x) (Ask y) h k =
-    ap Ask (xeids_are_read.unique k.0 x y (subst (λ (t : List ℕ). SpellsXeid t x) (behind_ask line h.0 k.0 h.1 k.1) h.2) k.2)
+    ap Ask (xeids_are_read.one k.0 x y (subst (λ (t : List ℕ). SpellsXeid t x) (behind_ask line h.0 k.0 h.1 k.1) h.2) k.2)
 step_once line (Ask x) (Deliver k) h g = absurd (omega (arith, letters 97 100 _ _ line h.1 g.0))
 step_once line (Ask x) (Pass k) h g = absurd (omega (arith, letters 97 119 _ _ line h.1 g.0))
 step_once line (Ask x) Tick h g = absurd (omega (arith, letters 97 116 _ _ line h.1 g))

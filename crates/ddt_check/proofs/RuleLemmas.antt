@@ -1,5 +1,5 @@
 -- The rules in the order of their numbers.
-use Rattle.std.proofs.Common.{◌≡◌, ℕ, zero, suc, ◌+◌, ◌<◌, ◌≤◌, List, [], ◌∷◌, get_or, refl, ap, ◌∙◌, arith}
+use Rattle.std.proofs.Common.{◌≡◌, ℕ, zero, suc, ◌+◌, ◌<◌, ◌≤◌, List, [], ◌∷◌, get_or, ap, arith}
 use Rattle.ddt_check.specs.declared.fault.Rule.{Rule}
 use Rattle.ddt_check.specs.declared.fault.Rule.TheVariants as rules
 use Rattle.ddt_check.specs.Rules.{rule_number}

@@ -4,9 +4,9 @@ ghost use Rattle.std.specs.Prelude.{◌≡◌};
 ghost use Rattle.std.specs.Option.{option_copied};
 ghost use Rattle.ddt_check.specs.Says.{next_zone as next_zone_of};
 ghost use Rattle.ddt_path.specs.Free.{longest_match as longest_match_of};
-ghost use Rattle.ddt_check.specs.Zones.{is_ms as is_ms_of, is_same_role as is_same_role_of, zone_of as zone_of_path, site_of as site_of_path, group_named as group_of_name, locators_of as locators_of_name, served_zones};
+ghost use Rattle.ddt_check.specs.Zones.{is_ms as is_ms_of, zone_of as zone_of_path, site_of as site_of_path, group_named as group_of_name, locators_of as locators_of_name, served_zones};
 
-use ddt_path::{Locator, Name, Preference, Prefix, Role, best_match, lists, longest_match};
+use ddt_path::{Locator, Name, Preference, Prefix, Role, best_match, longest_match};
 use ddt_register::{Group, Register, Site, Zone};
 
 /// Whether a role is that of Map-Servers.
@@ -17,13 +17,6 @@ pub fn is_ms(role: Role) -> bool
         Role::Node => false,
         Role::Ms => true,
     }
-}
-
-/// Whether two roles are one.
-pub fn is_same_role(a: Role, b: Role) -> bool
-    ensures { result ≡ is_same_role_of a b }
-{
-    is_ms(a) == is_ms(b)
 }
 
 /// The longest zone that covers a prefix; of equal ones the first.
@@ -42,7 +35,7 @@ pub fn served_zone(register: &Register, l: Locator, x: Prefix) -> Option<Zone>
         Preference::Longest,
         zones,
         x,
-        |z| lists(locators_of(register, z.group), l),
+        |z| locators_of(register, z.group).contains(&l),
     )
     .copied()
 }

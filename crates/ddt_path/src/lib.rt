@@ -26,7 +26,7 @@ pub use holes::{
     a_hole_is_free, no_hole_under_a_key, none_free_is_covered, one_hole_for_all_it_covers,
 };
 pub use listed::Listed;
-pub use locator::{Locator, are_distinct, is_same_locator, lists};
+pub use locator::{Locator, are_distinct};
 pub use locator_set::{LocatorSet, MOST_LOCATORS};
 pub use matching::{Preference, best_match, longest_match, shortest_match};
 pub use name::{LONGEST_NAME, Name};

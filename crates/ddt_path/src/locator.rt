@@ -1,7 +1,7 @@
 //! A locator, and the address part of an identifier: an IPv4 or an IPv6 address (an RLOC of RFC 9300, section 3).
 
 ghost use Rattle.std.specs.Prelude.{◌≡◌};
-ghost use Rattle.ddt_path.specs.Locators.{is_same_locator as is_same_locator_of, lists as lists_of, are_distinct as are_distinct_of};
+ghost use Rattle.ddt_path.specs.Locators.{are_distinct as are_distinct_of};
 
 use crate::masks::{
     digit32, digit128, front32, front128, is_front32, is_front128, shared32, shared128,
@@ -84,31 +84,13 @@ impl Locator {
     }
 }
 
-/// Whether two locators are one: of one family, with one address.
-pub fn is_same_locator(a: Locator, b: Locator) -> bool
-    ensures { result ≡ is_same_locator_of a b }
-{
-    match (a, b) {
-        (Locator::V4(a), Locator::V4(b)) => a == b,
-        (Locator::V6(a), Locator::V6(b)) => a == b,
-        _ => false,
-    }
-}
-
-/// Whether a locator is one of the list.
-pub fn lists(locators: &[Locator], l: Locator) -> bool
-    ensures { result ≡ lists_of locators.now l }
-{
-    locators.iter().any(|m| is_same_locator(*m, l))
-}
-
 /// Whether no locator of the list stands twice.
 pub fn are_distinct(locators: &[Locator]) -> bool
     ensures { result ≡ are_distinct_of locators.now }
 {
     let mut rest = locators;
     while let [first, others @ ..] = rest {
-        if lists(others, *first) {
+        if others.contains(first) {
             return false;
         }
         rest = others;

@@ -14,6 +14,15 @@ pub trait Prefixed {
         ensures { result ≡ path self.now };
 }
 
+/// An entry of a map from prefixes.
+impl<V> Prefixed for (Prefix, V) {
+    ghost path = { λ entry. entry.0 };
+
+    fn prefix(&self) -> Prefix {
+        self.0
+    }
+}
+
 impl Prefixed for Prefix {
     ghost path = { λ p. p };
 

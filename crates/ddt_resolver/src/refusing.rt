@@ -10,7 +10,7 @@ use crate::answers::Ignored;
 use crate::pending::Pending;
 use crate::resolver::Resolver;
 use ddt_cache::Entry;
-use ddt_path::{Action, Locator, ReferralRecord, Xeid, is_same_locator};
+use ddt_path::{Action, Locator, ReferralRecord, Xeid};
 use ddt_trie::PrefixMap;
 use ddt_wire::read_referral;
 
@@ -56,7 +56,7 @@ impl<M: PrefixMap<Entry>> Resolver<M> {
             Ok(reply) => reply,
             Err(why) => return Err(why),
         };
-        if !is_same_locator(source, reply.lookup.server()) {
+        if source != reply.lookup.server() {
             return Err(Ignored::WrongSource);
         }
         if reply.lookup.deadline <= self.time().millis() {

@@ -87,8 +87,10 @@ prefix_or_fault (Err prefix_fault.TailNotZero) = Err TailNotZero
 -- A range, behind its bracket: Address, Trailing, TailNotZero.
 abbrev pub range_behind_star : Form → List ℕ → Result (List ℕ) TextFault
 range_behind_star form [] = Err Address
-range_behind_star form (star ∷ rest) = if star == 42 then (if length rest == 0 then prefix_or_fault (prefix_of form) else Err Trailing)
-    else Err Address
+range_behind_star form (star ∷ rest) =
+    if not (star == 42) then Err Address
+    else if not (length rest == 0) then Err Trailing
+    else prefix_or_fault (prefix_of form)
 
 -- A range: Instance, Length, then these.
 abbrev pub range_in : List ℕ → List ℕ → List ℕ → Result (List ℕ) TextFault

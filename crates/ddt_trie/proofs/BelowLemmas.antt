@@ -12,7 +12,7 @@ use Rattle.ddt_path.proofs.HoleLemmas.{free_agree, free_whole}
 use Rattle.ddt_trie.specs.PrefixMap.{path_cmp, IsCoveredBelow, keys_below}
 use Rattle.ddt_trie.specs.Entries.{map_of}
 use Rattle.ddt_trie.proofs.EntryLemmas.{tied, get-map_of}
-use Rattle.ddt_trie.proofs.LongestLemmas.{keys_pass, is_found}
+use Rattle.ddt_trie.proofs.PassLemmas.{keys_pass, is_found}
 use Rattle.ddt_trie.proofs.KeyLemmas.{all_from_members, all_keys, any_same, found_head, later_found, member_passes, same_members_all}
 use Rattle.ddt_trie.proofs.MapLemmas.{found_after_insert}
 

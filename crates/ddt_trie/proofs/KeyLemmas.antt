@@ -11,7 +11,7 @@ use Rattle.ddt_path.specs.Free.{parts_from, overlaps_none, free}
 use Rattle.ddt_trie.specs.PrefixMap.{path_cmp, IsCovered}
 use Rattle.ddt_trie.specs.Entries.{map_of, none_covers}
 use Rattle.ddt_trie.proofs.EntryLemmas.{tied, tied-true, tied_self, get-map_of}
-use Rattle.ddt_trie.proofs.LongestLemmas.{keys_pass}
+use Rattle.ddt_trie.proofs.PassLemmas.{keys_pass}
 use Rattle.ddt_path.proofs.CoverLemmas.{overlaps-take}
 use Rattle.ddt_path.proofs.HoleLemmas.{parts_from_next, parts_from_last, free_agree}
 

@@ -1,5 +1,5 @@
 pub mod EntryLemmas
-pub mod LongestLemmas
+pub mod PassLemmas
 pub mod RetainLemmas
 pub mod FormLemmas
 pub mod KeyLemmas

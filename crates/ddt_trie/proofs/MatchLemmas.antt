@@ -1,24 +1,49 @@
 -- The longest key of a map is the longest match in the list of its entries.
-use Rattle.std.proofs.Common.{◌≡◌, ℕ, ◌<◌, ◌≤◌, true, false, cond, List, [], ◌∷◌, length, Some, None, Option, refl, sym, ap, ◌∙◌, arith}
+use Rattle.std.proofs.Common.{◌≡◌, ℕ, ◌<◌, ◌≤◌, Bool, true, false, cond, List, [], ◌∷◌, length, Some, None, Option, refl, sym, ap, subst, ◌∙◌, arith, inl, inr}
 use Rattle.std.specs.Prelude.{not, ◌||◌, nat_le, nat_lt, is_some}
+use Rattle.std.specs.List.{list_all}
 use Rattle.std.specs.FinMap.{find}
-use Rattle.std.proofs.lemmas.Bool.{and_from, cond-true, cond-false, false≢true, leb-true, le-leb, ltb-true, ltb-false, or_left, or_right, not_from_false, false_from_ne_true}
+use Rattle.std.proofs.lemmas.Bool.{and_parts, and_from, or_cases, cond-true, cond-false, false≢true, leb-true, le-leb, ltb-true, ltb-false, or_left, or_right, not_from_false, false_from_ne_true}
 use Rattle.ddt_path.specs.Covers.{covers}
 use Rattle.ddt_path.specs.Free.{longest_match, longer_of}
 use Rattle.ddt_trie.specs.PrefixMap.{path_cmp, IsCovered, IsLongest}
-use Rattle.ddt_trie.specs.Entries.{map_of, none_covers, none_longer}
+use Rattle.ddt_trie.specs.Entries.{map_of, none_covers}
 use Rattle.ddt_trie.proofs.EntryLemmas.{tied, tied-true, tied_self, get-map_of}
-use Rattle.ddt_trie.proofs.LongestLemmas.{keys_pass, is_found, only_short, covered_weaker, longer_weaker, uncovered}
+use Rattle.ddt_trie.proofs.PassLemmas.{keys_pass, is_found, uncovered}
 use Rattle.ddt_trie.proofs.MapLemmas.{IsLongest-unique}
 
+only_short : (c n : Bool) → (not c || n) ≡ true → c ≡ true → n ≡ true
+only_short true n h e = h
+only_short false n h e = absurd (false≢true e)
+
 module _ {V : Type 0} (x : List ℕ) where
+  -- no key that covers x has more than n digits
+  abbrev none_longer : List (List ℕ × V) → ℕ → Bool
+  none_longer es n = list_all (λ e. not (covers e.0 x) || nat_le (length e.0) n) es
+
+  covered_weaker : (es : List (List ℕ × V)) (n : ℕ) → none_covers es x ≡ true → none_longer es n ≡ true
+  covered_weaker [] n h = refl
+  covered_weaker (e ∷ es) n h =
+      let p = and_parts (not (covers e.0 x)) (none_covers es x) h in
+      and_from (not (covers e.0 x) || nat_le (length e.0) n) (none_longer es n) (or_left (not (covers e.0 x)) (nat_le (length e.0) n) p.0) (covered_weaker es n p.1)
+
+  longer_weaker : (es : List (List ℕ × V)) (m n : ℕ) → m ≤ n → none_longer es m ≡ true → none_longer es n ≡ true
+  longer_weaker [] m n le h = refl
+  longer_weaker (e ∷ es) m n le h =
+      let p = and_parts (not (covers e.0 x) || nat_le (length e.0) m) (none_longer es m) h in
+      and_from (not (covers e.0 x) || nat_le (length e.0) n) (none_longer es n)
+      (elim (or_cases (not (covers e.0 x)) (nat_le (length e.0) m) p.0) [
+        | inl c ↦ or_left (not (covers e.0 x)) (nat_le (length e.0) n) c
+        | inr c ↦ let k : length e.0 ≤ m = leb-true (length e.0) m c in or_right (not (covers e.0 x)) (nat_le (length e.0) n) (le-leb (length e.0) n (omega arith))
+      ]) (longer_weaker es m n le p.1)
+
   -- what the longest match of a list is
   abbrev IsBest : List (List ℕ × V) → Option (List ℕ × V) → Type 0
   IsBest es None = none_covers es x ≡ true
-  IsBest es (Some e) = (covers e.0 x ≡ true) × (none_longer es x (length e.0) ≡ true) × (find path_cmp e.0 es ≡ Some e.1)
+  IsBest es (Some e) = (covers e.0 x ≡ true) × (none_longer es (length e.0) ≡ true) × (find path_cmp e.0 es ≡ Some e.1)
 
-  no_more : (e : List ℕ × V) (es : List (List ℕ × V)) (n : ℕ) → (not (covers e.0 x) || nat_le (length e.0) n) ≡ true → none_longer es x n ≡ true → none_longer (e ∷ es) x n ≡ true
-  no_more e es n here later = and_from (not (covers e.0 x) || nat_le (length e.0) n) (none_longer es x n) here later
+  no_more : (e : List ℕ × V) (es : List (List ℕ × V)) (n : ℕ) → (not (covers e.0 x) || nat_le (length e.0) n) ≡ true → none_longer es n ≡ true → none_longer (e ∷ es) n ≡ true
+  no_more e es n here later = and_from (not (covers e.0 x) || nat_le (length e.0) n) (none_longer es n) here later
 
   found_first : (e : List ℕ × V) (es : List (List ℕ × V)) → find path_cmp e.0 (e ∷ es) ≡ Some e.1
   found_first e es = cond-true (tied e.0 e.0) (Some e.1) (find path_cmp e.0 es) (tied_self e.0)
@@ -38,7 +63,7 @@ module _ {V : Type 0} (x : List ℕ) where
   )
 
   best_taken : (e : List ℕ × V) (es : List (List ℕ × V)) (o : Option (List ℕ × V)) → covers e.0 x ≡ true → IsBest es o → IsBest (e ∷ es) (Some (longer_of (λ (f : List ℕ × V). f.0) e o))
-  best_taken e es None c best = (c, no_more e es (length e.0) (no_longer_self e) (covered_weaker es x (length e.0) best), found_first e es)
+  best_taken e es None c best = (c, no_more e es (length e.0) (no_longer_self e) (covered_weaker es (length e.0) best), found_first e es)
   best_taken e es (Some f) c best =
       elim (nat_lt (length e.0) (length f.0)) as (λ b. nat_lt (length e.0) (length f.0) ≡ b → IsBest (e ∷ es) (Some (cond b f e))) [
         | true ↦ λ t.
@@ -49,7 +74,7 @@ module _ {V : Type 0} (x : List ℕ) where
             )
         | false ↦ λ t.
             let le : length f.0 ≤ length e.0 = ltb-false (length e.0) (length f.0) t in
-            (c, no_more e es (length e.0) (no_longer_self e) (longer_weaker es x (length f.0) (length e.0) le best.1), found_first e es)
+            (c, no_more e es (length e.0) (no_longer_self e) (longer_weaker es (length f.0) (length e.0) le best.1), found_first e es)
       ] refl
 
   best : (es : List (List ℕ × V)) → IsBest es (longest_match (λ (e : List ℕ × V). e.0) es x)
@@ -76,6 +101,17 @@ module _ {V : Type 0} (x : List ℕ) where
       let same = IsLongest-unique (map_of es) x e.0 p e.1 v (best_is_longest es e b) l in
       let some : List ℕ → V → Option (List ℕ × V) = λ q w. Some (q, w) in
       ap (λ (q : List ℕ). some q e.1) same.0 ∙ ap (some p) same.1
+
+  -- so the match of a list is a longest key, and where there is none no key covers x
+  pub match_is_longest : (es : List (List ℕ × V)) (e : List ℕ × V) → longest_match (λ (f : List ℕ × V). f.0) es x ≡ Some e → IsLongest (map_of es) x e.0 e.1
+  match_is_longest es e is = best_is_longest es e (subst (IsBest es) is (best es))
+
+  pub no_match_is_uncovered : (es : List (List ℕ × V)) → longest_match (λ (f : List ℕ × V). f.0) es x ≡ None → IsCovered (map_of es) x → ⊥
+  no_match_is_uncovered es is = uncovered es es x refl (subst (IsBest es) is (best es))
+
+  -- an answer to the question of other words
+  pub asked : (s es : List (List ℕ × V)) (y : List ℕ) (r o : Option (List ℕ × V)) → s ≡ es → y ≡ x → r ≡ longest_match (λ (f : List ℕ × V). f.0) s y → r ≡ o → longest_match (λ (f : List ℕ × V). f.0) es x ≡ o
+  asked s es y r o same at answer is = (λ i. longest_match (λ (f : List ℕ × V). f.0) (sym same i) (sym at i)) ∙ sym answer ∙ is
 
   pub longest_of_entries : (es : List (List ℕ × V)) (p : List ℕ) (v : V) → IsLongest (map_of es) x p v → ◌≡◌ {A = Option (List ℕ × V)} (longest_match (λ (e : List ℕ × V). e.0) es x) (Some (p, v))
   longest_of_entries es p v l = named es p v (longest_match (λ (e : List ℕ × V). e.0) es x) (best es) l

@@ -1,5 +1,5 @@
--- Entries in a list, each key once, as a finite map, and the longest of their keys (RFC 8111, section 7.1).
-use Rattle.std.specs.Prelude.{ℕ, ◌≡◌, Bool, true, IsTrue, ◌&&◌, ◌||◌, nat_le, not, List, [], ◌∷◌, length, is_some, Some, slice_get}
+-- Entries in a list, each key once, as a finite map.
+use Rattle.std.specs.Prelude.{ℕ, ◌≡◌, Bool, true, ◌&&◌, not, List, [], ◌∷◌, is_some, Some, slice_get}
 use Rattle.std.specs.List.{list_all}
 use Rattle.std.specs.FinMap.{FinMap, find, from_entries}
 use Rattle.ddt_path.specs.Covers.{covers, overlaps, is_strictly_below}
@@ -29,12 +29,3 @@ none_covers_below es p x = list_all (λ e. not (is_strictly_below e.0 p && cover
 -- whether no key strictly below p overlaps q
 abbrev pub none_overlaps_below : {V : Type 0} → List (List ℕ × V) → List ℕ → List ℕ → Bool
 none_overlaps_below es p q = list_all (λ e. not (is_strictly_below e.0 p && overlaps e.0 q)) es
-
--- whether no key that covers x has more than n digits
-abbrev pub none_longer : {V : Type 0} → List (List ℕ × V) → List ℕ → ℕ → Bool
-none_longer es x n = list_all (λ e. not (covers e.0 x) || nat_le (length e.0) n) es
-
--- the entry at a place covers x, and no key of the list that covers x is longer
-abbrev pub IsLongestAt : {V : Type 0} → List (List ℕ × V) → List (List ℕ × V) → List ℕ → ℕ → Type 0
-IsLongestAt {V} all es x i = (p : List ℕ) × (v : V) × (slice_get all i ≡ Some (p, v)) × IsTrue (covers p x)
-    × IsTrue (none_longer es x (length p))

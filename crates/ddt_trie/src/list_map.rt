@@ -1,16 +1,15 @@
 //! A map from prefixes to values whose entries stand in one list. Each call looks at all of them.
 
-ghost use Rattle.std.specs.Prelude.{◌≡◌, ◌==◌, IsTrue, IfSome, IfNone, not};
+ghost use Rattle.std.specs.Prelude.{◌≡◌, ◌==◌, IsTrue, not};
 ghost use Rattle.std.specs.List.{position, list_all};
 ghost use Rattle.std.specs.Fn.{FnReturnsAt};
 ghost use Rattle.std.specs.Cmp.Lexicographic.{pointwise};
 ghost use Rattle.ddt_path.specs.Path.{xeid_path};
 ghost use Rattle.ddt_path.specs.Covers.{covers, overlaps, is_strictly_below};
-ghost use Rattle.ddt_trie.specs.Entries.{are_distinct, map_of, none_covers, IsLongestAt};
-ghost use Rattle.ddt_trie.specs.Entries.{none_covers_below, none_overlaps_below};
+ghost use Rattle.ddt_trie.specs.Entries.{are_distinct, map_of, none_covers, none_covers_below, none_overlaps_below};
 
 use crate::prefix_map::PrefixMap;
-use ddt_path::{Prefix, Xeid};
+use ddt_path::{Prefix, Xeid, longest_match};
 use std::alloc::Global;
 use std::mem;
 
@@ -26,25 +25,6 @@ fn place_of<V>(entries: &[(Prefix, V)], prefix: Prefix) -> Option<usize>
     ensures { result ≡ position (λ e. pointwise ◌==◌ e.0 prefix) entries.now }
 {
     entries.iter().position(|entry| entry.0 == prefix)
-}
-
-/// The place of the longest prefix that covers the identifier.
-fn place_of_longest<V>(entries: &[(Prefix, V)], x: Xeid) -> Option<usize>
-    ensures found { IfSome result (IsLongestAt entries.now entries.now (xeid_path x)) }
-    ensures none { IfNone result (IsTrue (none_covers entries.now (xeid_path x))) }
-{
-    let mut best: Option<usize> = None;
-    for at in 0..entries.len() {
-        let prefix = entries[at].0;
-        let is_longer = match best {
-            Some(longest) => entries[longest].0.len() < prefix.len(),
-            None => true,
-        };
-        if is_longer && prefix.covers_xeid(x) {
-            best = Some(at);
-        }
-    }
-    best
 }
 
 /// Whether the prefix overlaps none of the entries.
@@ -113,13 +93,8 @@ impl<V: Drop> PrefixMap<V> for ListMap<V> {
     }
 
     fn longest(&self, x: Xeid) -> Option<(Prefix, &V)> {
-        match place_of_longest(&self.entries, x) {
-            Some(at) => {
-                let (prefix, value) = &self.entries[at];
-                Some((*prefix, value))
-            }
-            None => None,
-        }
+        let (prefix, value) = longest_match(&self.entries, Prefix::host(x))?;
+        Some((*prefix, value))
     }
 
     fn free(&self, from: Prefix, x: Xeid) -> Option<Prefix> {

@@ -12,11 +12,11 @@ ghost use Rattle.ddt_check.specs.Rules.{earlier_zone};
 ghost use Rattle.ddt_check.specs.Rules.{is_root as is_root_zone, is_wrong_root as is_wrong_root_of, is_duplicate_zone};
 ghost use Rattle.ddt_check.specs.Rules.{is_of_unknown_group as is_of_unknown, is_of_other_role as is_of_other};
 ghost use Rattle.ddt_check.specs.Order.{AreZonesInOrder, AreGroupsInOrder};
-ghost use Rattle.ddt_check.specs.Sorted.{IsLeastOfZones, IsLeastOfBoth};
 ghost use Rattle.ddt_check.specs.Below.{is_under as is_under_of, is_within as is_within_of, is_top as is_top_of};
+ghost use Rattle.ddt_check.specs.Sorted.{IsLeastOfZones, IsLeastOfBoth};
 
 use crate::fault::Rule;
-use crate::lookup::{is_ms, is_same_role};
+use crate::lookup::is_ms;
 use crate::rules::groups::group_named;
 use crate::rules::lower;
 use ddt_register::{Group, Register, Zone, first_row};
@@ -162,7 +162,7 @@ fn is_of_other_role(groups: &[Group], z: &Zone) -> bool
     ensures { (r : ARegister) → IsPermutation r.groups groups.now → result ≡ is_of_other r z.now }
 {
     match group_named(groups, z.group) {
-        Some(group) => !is_same_role(group.kind, z.kind),
+        Some(group) => group.kind != z.kind,
         None => false,
     }
 }

@@ -10,8 +10,8 @@ ghost use Rattle.ddt_check.specs.Rules.{is_duplicate_site as is_duplicate_site_o
 ghost use Rattle.ddt_check.specs.Rules.{has_wrong_locators as has_wrong, share as share_of, is_duplicate_group as is_duplicate_group_of};
 
 use crate::fault::{Fault, Rule};
-use crate::lookup::{group_named, is_ms, is_same_role, zone_of};
-use ddt_path::{Locator, MOST_LOCATORS, are_distinct, lists};
+use crate::lookup::{group_named, is_ms, zone_of};
+use ddt_path::{Locator, MOST_LOCATORS, are_distinct};
 use ddt_register::{Group, Register, Site, Zone};
 
 /// The rules in the order of their numbers.
@@ -130,7 +130,7 @@ fn is_of_other_role(register: &Register, z: &Zone) -> bool
     ensures { result ≡ is_of_other register.now z.now }
 {
     match group_named(register, z.group) {
-        Some(group) => !is_same_role(group.kind, z.kind),
+        Some(group) => group.kind != z.kind,
         None => false,
     }
 }
@@ -220,7 +220,7 @@ fn too_many_etrs(register: &Register) -> Option<u32>
 fn share(first: &[Locator], second: &[Locator]) -> bool
     ensures { result ≡ share_of first.now second.now }
 {
-    first.iter().any(|l| lists(second, *l))
+    first.iter().any(|l| second.contains(l))
 }
 
 fn shares_with_earlier(register: &Register, g: &Group) -> bool

@@ -1,4 +1,4 @@
-use Rattle.std.proofs.Common.{rules, ◌≡◌, ℕ, List, get_or, Some, sym, ap, ◌∙◌, true, false}
+use Rattle.std.proofs.Common.{rules, ◌≡◌, ℕ, List, get_or, Some, sym, ap, ◌∙◌, true}
 use Rattle.std.proofs.lemmas.List.Sorted.{IsPartitionPoint-from_clause}
 use Rattle.ddt_register.specs.declared.group.Group.{Group}
 use Rattle.ddt_path.specs.Covers.{is_same_path}

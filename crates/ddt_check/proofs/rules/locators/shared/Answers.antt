@@ -1,7 +1,6 @@
-use Rattle.std.proofs.Common.{◌≡◌, ℕ, sym, ◌∙◌}
 use Rattle.ddt_register.specs.declared.group.Group.{Group}
 use Rattle.ddt_check.specs.Columns.{meets_in}
-use Rattle.ddt_check.proofs.LeastLemmas.{any_at, least_next, least_walked, least_reordered}
+use Rattle.ddt_check.proofs.LeastLemmas.{least_next, least_walked, least_reordered}
 use Rattle.ddt_check.proofs.rules.locators.shared.Goals as goal
 
 pub loop-g-preserved : goal.loop-g-preserved

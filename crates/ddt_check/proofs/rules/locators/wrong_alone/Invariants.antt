@@ -1,7 +1,6 @@
-use Rattle.std.proofs.Common.{◌≡◌, ℕ, false, take, IsPermutation}
+use Rattle.std.proofs.Common.{take, IsPermutation}
 use Rattle.ddt_register.specs.declared.group.Group.{Group}
 use Rattle.ddt_register.specs.declared.register.Register.{Register}
-use Rattle.ddt_check.specs.declared.fault.Rule.TheVariants as rules
 use Rattle.ddt_check.specs.Rules.{IsLeastRow}
 use Rattle.ddt_check.specs.Columns.{is_wrong_alone}
 use Rattle.ddt_check.proofs.LeastRowLemmas.{item_at}

@@ -1,6 +1,6 @@
-use Rattle.std.proofs.Common.{◌≡◌, ℕ, ◌+◌, ◌≤◌, suc, sym, ap, subst, ◌∙◌, arith, add-one, false}
+use Rattle.std.proofs.Common.{◌≡◌, ℕ, sym, subst, ◌∙◌, arith, add-one}
 use Rattle.std.specs.Prelude.{nat_lt, length}
-use Rattle.std.proofs.lemmas.List.Sorted.{IsPermutation-trans, IsPermutation-refl, list_any-IsPermutation}
+use Rattle.std.proofs.lemmas.List.Sorted.{IsPermutation-trans, list_any-IsPermutation}
 use Rattle.ddt_register.specs.declared.group.Group.{Group}
 use Rattle.ddt_check.specs.Rules.{IsLeastRow}
 use Rattle.ddt_check.specs.Columns.{is_met}

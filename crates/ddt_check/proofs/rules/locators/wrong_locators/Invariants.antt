@@ -1,4 +1,4 @@
-use Rattle.std.proofs.Common.{◌≡◌, IsPermutation}
+use Rattle.std.proofs.Common.{IsPermutation}
 use Rattle.ddt_register.specs.declared.register.Register.{Register}
 use Rattle.ddt_check.specs.Rules.{IsLeastRow}
 use Rattle.ddt_check.proofs.WrongLemmas.{wrong_upto}

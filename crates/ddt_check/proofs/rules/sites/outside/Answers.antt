@@ -1,4 +1,4 @@
-use Rattle.std.proofs.Common.{◌≡◌, ℕ, sym, ◌∙◌}
+use Rattle.std.proofs.Common.{ℕ, sym, ◌∙◌}
 use Rattle.ddt_register.specs.declared.site.Site.{Site}
 use Rattle.ddt_check.specs.Rules.{is_outside}
 use Rattle.ddt_check.proofs.LeastLemmas.{least_more, least_same, least_of_all}

@@ -1,4 +1,4 @@
-use Rattle.std.proofs.Common.{◌≡◌, take, IsPermutation}
+use Rattle.std.proofs.Common.{take, IsPermutation}
 use Rattle.std.specs.Option.{option_map, option_copied}
 use Rattle.ddt_register.specs.declared.zone.Zone.{Zone}
 use Rattle.ddt_register.specs.declared.register.Register.{Register}

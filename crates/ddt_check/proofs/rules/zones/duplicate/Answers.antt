@@ -1,7 +1,6 @@
-use Rattle.std.proofs.Common.{◌≡◌, ℕ, List, get_or, take, length, sym, ap, subst, ◌∙◌, arith}
+use Rattle.std.proofs.Common.{ℕ, sym, ◌∙◌}
 use Rattle.ddt_register.specs.declared.zone.Zone.{Zone}
-use Rattle.ddt_check.specs.Rules.{IsLeastRow, is_duplicate_zone}
-use Rattle.ddt_check.proofs.LeastRowLemmas.{item_at}
+use Rattle.ddt_check.specs.Rules.{is_duplicate_zone}
 use Rattle.ddt_check.proofs.LeastLemmas.{least_at, least_skip, least_of_all}
 use Rattle.ddt_check.proofs.rules.zones.duplicate.Goals as goal
 use Rattle.ddt_check.proofs.rules.zones.duplicate.Goals.{then-repeats, else-repeats}

@@ -1,8 +1,7 @@
-use Rattle.std.proofs.Common.{◌≡◌, ℕ, false, take, IsPermutation}
+use Rattle.std.proofs.Common.{take, IsPermutation}
 use Rattle.ddt_register.specs.declared.zone.Zone.{Zone}
 use Rattle.ddt_register.specs.declared.register.Register.{Register}
-use Rattle.ddt_check.specs.declared.fault.Rule.TheVariants as rules
-use Rattle.ddt_check.specs.Rules.{IsLeastRow, broken, is_of_unknown_group}
+use Rattle.ddt_check.specs.Rules.{IsLeastRow, is_of_unknown_group}
 use Rattle.ddt_check.proofs.LeastRowLemmas.{item_at}
 use Rattle.ddt_check.proofs.rules.zones.of_unknown_group.Given as goal
 

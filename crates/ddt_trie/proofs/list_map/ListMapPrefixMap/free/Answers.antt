@@ -5,7 +5,7 @@ use Rattle.ddt_path.specs.Free.{overlaps_none}
 use Rattle.ddt_trie.specs.PrefixMap.{IsCovered}
 use Rattle.ddt_trie.specs.Entries.{map_of}
 use Rattle.ddt_path.proofs.CoverLemmas.{length-covered}
-use Rattle.ddt_trie.proofs.LongestLemmas.{uncovered_by}
+use Rattle.ddt_trie.proofs.PassLemmas.{uncovered_by}
 use Rattle.ddt_trie.proofs.KeyLemmas.{tested, some_covers, no_free_part, free_start, free_here, free_later, free_last, host_part, none_alone, none_where}
 use Rattle.ddt_trie.proofs.list_map.ListMapPrefixMap.free.Goals as goal
 

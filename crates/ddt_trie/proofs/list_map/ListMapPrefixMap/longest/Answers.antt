@@ -1,9 +1,18 @@
+use Rattle.std.proofs.Common.{None, Some, ap}
+use Rattle.std.specs.Option.{option_copied}
 use Rattle.ddt_path.specs.Path.{xeid_path}
-use Rattle.ddt_trie.proofs.LongestLemmas.{longest_found, uncovered}
+use Rattle.ddt_trie.proofs.MatchLemmas.{asked, match_is_longest, no_match_is_uncovered}
 use Rattle.ddt_trie.proofs.list_map.ListMapPrefixMap.longest.Goals as goal
 
-pub returns-in-Some-clause-longest : goal.returns-in-Some-clause-longest
-returns-in-Some-clause-longest g c = longest_found c.deref.result.now c.args.self.now.entries.items (xeid_path c.args.x) c.in-Some.at c.index.result.now c.deref.ensures.value c.args.self.now.distinct c.in-Some.ensures.found c.index.ensures
+pub returns-in_err-prefix-clause-covered : goal.returns-in_err-prefix-clause-covered
+returns-in_err-prefix-clause-covered g c =
+    let es = c.args.self.now.entries.items in
+    λ covered. absurd (no_match_is_uncovered (xeid_path c.args.x) es
+    (asked (xeid_path c.args.x) c.deref.result.now es c.host.result _ None c.deref.ensures.value c.host.ensures.whole c.longest_match.ensures (ap option_copied c.in_err-prefix.was)) covered)
 
-pub returns-in-None-clause-covered : goal.returns-in-None-clause-covered
-returns-in-None-clause-covered g c = λ covered. absurd (uncovered c.deref.result.now c.args.self.now.entries.items (xeid_path c.args.x) c.deref.ensures.value c.in-None.ensures.none covered)
+pub returns-clause-longest : goal.returns-clause-longest
+returns-clause-longest g c =
+    let es = c.args.self.now.entries.items in
+    let found = c.in_ok-prefix.field-0.now in
+    match_is_longest (xeid_path c.args.x) es found
+    (asked (xeid_path c.args.x) c.deref.result.now es c.host.result _ (Some found) c.deref.ensures.value c.host.ensures.whole c.longest_match.ensures (ap option_copied c.in_ok-prefix.was))

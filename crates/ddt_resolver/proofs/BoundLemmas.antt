@@ -1,15 +1,14 @@
 -- Each reply that is followed lowers the measure, and each referral goes down.
-use Rattle.std.proofs.Common.{◌≡◌, ℕ, ◌+◌, ◌-◌, ◌*◌, ◌<◌, ◌≤◌, true, false, List, [], ◌∷◌, length, Option, Some, None, Result, Ok, Err, refl, sym, ap, ◌∙◌, subst, arith, inl, inr, ◌⊎◌}
-use Rattle.std.specs.Prelude.{◌≢◌, IsTrue, IfOk}
+use Rattle.std.proofs.Common.{◌≡◌, ℕ, ◌+◌, ◌-◌, ◌*◌, ◌<◌, ◌≤◌, List, length, Option, Some, None, Result, Ok, Err, sym, ap, ◌∙◌, subst, arith, inl, inr}
+use Rattle.std.specs.Prelude.{IsTrue, IfOk}
 use Rattle.std.specs.FinMap.{get, insert}
-use Rattle.std.proofs.lemmas.Option.{none-some, same_Some}
+use Rattle.std.proofs.lemmas.Option.{same_Some}
 use Rattle.ddt_path.specs.declared.locator.Locator.{Locator}
 use Rattle.ddt_path.specs.declared.xeid.Xeid.{Xeid}
 use Rattle.ddt_path.specs.declared.action.Action.{Action}
 use Rattle.ddt_path.specs.declared.action.Action.TheVariants.{MsNotRegistered, NotAuthoritative}
 use Rattle.ddt_path.specs.declared.record.ReferralRecord.{ReferralRecord}
 use Rattle.ddt_path.specs.Path.{xeid_path, is_path}
-use Rattle.ddt_path.specs.Covers.{covers}
 use Rattle.ddt_path.proofs.CoverLemmas.{length-covered}
 use Rattle.ddt_wire.specs.Referral.{Message, Spells, message_record}
 use Rattle.ddt_wire.proofs.WrittenLaws.{messages_are_read}
@@ -18,15 +17,14 @@ use Rattle.ddt_resolver.specs.declared.answers.Outgoing.{Outgoing}
 use Rattle.ddt_resolver.specs.declared.answers.Asked.{Asked}
 use Rattle.ddt_resolver.specs.declared.answers.Asked.TheVariants as asked
 use Rattle.ddt_resolver.specs.declared.answers.AskError.{AskError}
-use Rattle.ddt_resolver.specs.declared.answers.AskError.TheVariants as ask_error
 use Rattle.ddt_resolver.specs.declared.answers.Heard.{Heard}
 use Rattle.ddt_resolver.specs.declared.answers.Heard.TheVariants as heard
 use Rattle.ddt_resolver.specs.State.{State, numbered, opening, referred, passed_on, started_over}
-use Rattle.ddt_resolver.specs.Records.{IsReferral, IsAbout, IsBelow, start_at}
+use Rattle.ddt_resolver.specs.Records.{IsReferral, IsBelow, start_at}
 use Rattle.ddt_resolver.specs.AskStep as ask
-use Rattle.ddt_resolver.specs.TakeUp.{Tells, IsTaken}
+use Rattle.ddt_resolver.specs.TakeUp.{IsTaken}
 use Rattle.ddt_resolver.specs.Act as act
-use Rattle.ddt_resolver.specs.Order.{IsLookup, IsWaiting, IsInOrder}
+use Rattle.ddt_resolver.specs.Order.{IsLookup, IsInOrder}
 use Rattle.ddt_resolver.specs.Bound.{room, again, measure, StartsWithin, ComesNearer, GoesDown}
 use Rattle.ddt_resolver.proofs.NumberMapLemmas.{get-insert_same}
 use Rattle.ddt_resolver.proofs.ShapeLemmas.{opening_lookup, about_covers, referral_apart, few_servers}

@@ -1,14 +1,8 @@
 -- What the parts of a step on a datagram make together.
-use Rattle.std.proofs.Common.{◌≡◌, ℕ, ◌+◌, ◌<◌, ◌≤◌, Bool, true, false, List, length, Option, Some, None, Result, Ok, Err, refl, sym, ap, ◌∙◌, subst}
-use Rattle.std.specs.Prelude.{◌≢◌, ◌==◌, IfOk, OnErr, IsTrue}
-use Rattle.std.proofs.Common.{eq-eqb}
-use Rattle.std.proofs.lemmas.Bool.{eqb-true, false≢true}
-use Rattle.std.specs.FinMap.{get}
-use Rattle.ddt_path.specs.declared.locator.Locator.{Locator}
-use Rattle.ddt_path.specs.declared.locator.Locator.TheVariants.{V4, V6}
+use Rattle.std.proofs.Common.{◌≡◌, ℕ, List, Some, Result, Ok, Err, ap, ◌∙◌}
+use Rattle.std.specs.Prelude.{IfOk, OnErr}
 use Rattle.ddt_path.specs.declared.action.Action.TheVariants.{NotAuthoritative}
 use Rattle.ddt_path.specs.declared.record.ReferralRecord.{ReferralRecord}
-use Rattle.ddt_path.specs.Locators.{is_same_locator}
 use Rattle.ddt_resolver.specs.declared.pending.Pending.{Pending}
 use Rattle.ddt_resolver.specs.declared.sending.Change.TheVariants.{Forget}
 use Rattle.ddt_resolver.specs.declared.answers.Heard.{Heard}
@@ -26,21 +20,6 @@ if_ok (Err e) P Q f h = h
 pub on_err : {T E : Type 0} (r : Result T E) (A B : Type 0) → (A → B) → OnErr r A → OnErr r B
 on_err (Ok x) A B f h = h
 on_err (Err e) A B f h = f h
-
--- ---- locators
-
-pub same_locator : (a b : Locator) → is_same_locator a b ≡ true → a ≡ b
-same_locator (V4 a) (V4 b) t = ap V4 (eqb-true a b t)
-same_locator (V6 a) (V6 b) t = ap V6 (eqb-true a b t)
-same_locator (V4 a) (V6 b) t = absurd (false≢true t)
-same_locator (V6 a) (V4 b) t = absurd (false≢true t)
-
-same_itself : (a : Locator) → is_same_locator a a ≡ true
-same_itself (V4 a) = eq-eqb a a refl
-same_itself (V6 a) = eq-eqb a a refl
-
-pub apart_locators : (a b : Locator) → is_same_locator a b ≡ false → a ≢ b
-apart_locators a b f e = false≢true (sym f ∙ ap (is_same_locator a) (sym e) ∙ same_itself a)
 
 -- ---- starting over
 

@@ -1,5 +1,5 @@
 -- Each step keeps what holds of a resolver at all times.
-use Rattle.std.proofs.Common.{◌≡◌, ℕ, ◌+◌, ◌<◌, ◌≤◌, max, length, Some, sym, ap, ◌∙◌, subst, arith, inl, inr, nat_cmp}
+use Rattle.std.proofs.Common.{◌≡◌, ℕ, ◌+◌, ◌<◌, ◌≤◌, Some, sym, ap, ◌∙◌, subst, arith, inl, inr, nat_cmp}
 use Rattle.std.specs.FinMap.{FinMap, get, insert, remove, len}
 use Rattle.ddt_cache.specs.Moment.{last_moment}
 use Rattle.ddt_cache.proofs.OrderLemmas.{moved_in_order}

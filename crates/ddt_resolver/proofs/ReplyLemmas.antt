@@ -1,5 +1,5 @@
 -- A usable reply to a pending lookup is late or taken; and tickets are new.
-use Rattle.std.proofs.Common.{◌≡◌, ℕ, ◌<◌, ◌≤◌, List, Option, Some, None, refl, sym, ap, ◌∙◌, subst, arith, inl, inr, ◌⊎◌}
+use Rattle.std.proofs.Common.{◌≡◌, ℕ, ◌<◌, ◌≤◌, List, Some, None, sym, ap, ◌∙◌, subst, arith, inl, inr, ◌⊎◌}
 use Rattle.std.specs.FinMap.{get}
 use Rattle.std.proofs.lemmas.Option.{same_Some}
 use Rattle.ddt_path.specs.declared.locator.Locator.{Locator}
@@ -11,7 +11,7 @@ use Rattle.ddt_resolver.specs.declared.pending.Pending.{Pending}
 use Rattle.ddt_resolver.specs.declared.answers.Heard.{Heard}
 use Rattle.ddt_resolver.specs.State.{State, server}
 use Rattle.ddt_resolver.specs.Records.{IsAbout, NamesServer}
-use Rattle.ddt_resolver.specs.TakeUp.{Tells, IsReplyTo, IsTaken, Ignores, undecodable, unknown_nonce, wrong_source, late, not_covering, no_servers}
+use Rattle.ddt_resolver.specs.TakeUp.{Tells, IsReplyTo, Ignores, undecodable, unknown_nonce, wrong_source, late, not_covering, no_servers}
 use Rattle.ddt_resolver.specs.Act.{Act, HearStep, ignored, taken}
 use Rattle.ddt_resolver.specs.Order.{IsWaiting, IsInOrder}
 use Rattle.ddt_resolver.proofs.StateLemmas.{next_absent}

@@ -1,5 +1,5 @@
 -- The four ways in which a step changes what is pending: it stays, a lookup opens, sends again, or is dropped.
-use Rattle.std.proofs.Common.{◌≡◌, ℕ, ◌+◌, ◌<◌, ◌≤◌, true, false, List, [], ◌∷◌, length, take, min, Option, Some, None, Result, Ok, Err, refl, sym, ap, ◌∙◌, subst, inl, inr, ◌⊎◌, arith}
+use Rattle.std.proofs.Common.{◌≡◌, ℕ, ◌+◌, ◌<◌, ◌≤◌, true, false, List, [], ◌∷◌, length, take, min, Some, None, Result, Ok, Err, refl, sym, ap, ◌∙◌, subst, inl, inr, arith}
 use Rattle.std.specs.Prelude.{◌≢◌, IsTrue}
 use Rattle.std.specs.FinMap.{get, insert, remove, len}
 use Rattle.std.proofs.lemmas.Option.{none-some, same_Some}
@@ -11,10 +11,8 @@ use Rattle.ddt_path.specs.declared.action.Action.TheVariants.{NodeReferral, MsRe
 use Rattle.ddt_path.specs.declared.record.ReferralRecord.{ReferralRecord}
 use Rattle.ddt_path.specs.Path.{xeid_path, is_path}
 use Rattle.ddt_path.specs.Covers.{covers}
-use Rattle.ddt_wire.specs.Referral.{message_record}
 use Rattle.ddt_cache.specs.declared.entry.Entry.{Entry}
-use Rattle.ddt_cache.specs.Entry.{is_positive, is_negative}
-use Rattle.ddt_cache.specs.Live.{Known}
+use Rattle.ddt_cache.specs.Entry.{is_positive}
 use Rattle.ddt_cache.specs.Found.{IsFound}
 use Rattle.ddt_cache.specs.InOrder.{IsInOrder as IsKnownInOrder, IsEntryInOrder}
 use Rattle.ddt_cache.proofs.OrderLemmas.{stored_in_order, forgotten_in_order}
@@ -30,16 +28,16 @@ use Rattle.ddt_resolver.specs.declared.answers.Ticked.TheVariants as ticked
 use Rattle.ddt_path.specs.declared.record.Outcome.{Outcome}
 use Rattle.ddt_path.specs.declared.record.Outcome.TheVariants.{NotRegistered}
 use Rattle.ddt_resolver.specs.declared.answers.Why.TheVariants.{NoReply, Exhausted}
-use Rattle.ddt_resolver.specs.State.{State, last_nonce, request, numbered, lodged, dropped, stored, forgotten, at_set, opening, referred, passed_on, started_over, tried_again, at_next}
-use Rattle.ddt_resolver.specs.Records.{IsReferral, IsAbout, NamesServer, IsBelow, negative_answer, start_at}
+use Rattle.ddt_resolver.specs.State.{State, last_nonce, request, numbered, dropped, stored, opening, referred, passed_on, started_over, tried_again, at_next}
+use Rattle.ddt_resolver.specs.Records.{IsReferral, IsAbout, negative_answer, start_at}
 use Rattle.ddt_resolver.specs.AskStep.{answer_of, AskStep}
 use Rattle.ddt_resolver.specs.AskStep as ask
-use Rattle.ddt_resolver.specs.TakeUp.{Tells, IsTaken}
+use Rattle.ddt_resolver.specs.TakeUp.{IsTaken}
 use Rattle.ddt_resolver.specs.Act.{Act, HearStep}
 use Rattle.ddt_resolver.specs.Act as act
 use Rattle.ddt_resolver.specs.TickStep.{GoOn, IsDue, TickStep}
 use Rattle.ddt_resolver.specs.TickStep as tick
-use Rattle.ddt_resolver.specs.Step.{Call, Ask, Hear, Tick, Reply, ToAsk, ToDatagram, ToTick, Step, asks, hears, ticks}
+use Rattle.ddt_resolver.specs.Step.{Call, Ask, Hear, Reply, ToAsk, ToDatagram, ToTick, Step, asks, hears, ticks}
 use Rattle.ddt_resolver.specs.Order.{IsLookup, IsWaiting, IsInOrder}
 
 -- what ends a lookup: an outcome, or a reason why there is none

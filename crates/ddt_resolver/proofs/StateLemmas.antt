@@ -1,8 +1,8 @@
 -- Equations of states, and what holds of the states that a resolver's parts make.
-use Rattle.std.proofs.Common.{◌≡◌, ℕ, ◌+◌, ◌<◌, ◌≤◌, max, true, false, List, [], ◌∷◌, length, Option, Some, None, refl, sym, ap, ◌∙◌, subst, arith, inl, inr, ◌⊎◌, nat_cmp}
-use Rattle.std.specs.Prelude.{◌≢◌, IsTrue, IsSome}
-use Rattle.std.specs.FinMap.{FinMap, get, insert, remove, empty, len, get-empty, len-empty}
-use Rattle.std.proofs.lemmas.Option.{none-some, same_Some}
+use Rattle.std.proofs.Common.{◌≡◌, ℕ, ◌+◌, ◌<◌, ◌≤◌, max, true, List, [], ◌∷◌, length, Option, Some, None, refl, sym, ap, ◌∙◌, subst, arith, inl, inr, nat_cmp}
+use Rattle.std.specs.Prelude.{IsSome}
+use Rattle.std.specs.FinMap.{FinMap, get, insert, len, get-empty, len-empty}
+use Rattle.std.proofs.lemmas.Option.{none-some}
 use Rattle.ddt_path.specs.declared.locator.Locator.{Locator}
 use Rattle.ddt_path.specs.declared.record.ReferralRecord.{ReferralRecord}
 use Rattle.ddt_trie.specs.PrefixMap.{path_cmp}
@@ -17,12 +17,12 @@ use Rattle.ddt_resolver.specs.declared.answers.Outgoing.{Outgoing}
 use Rattle.ddt_resolver.specs.declared.pending.Pending.{Pending}
 use Rattle.ddt_resolver.specs.declared.sending.Change.{Change}
 use Rattle.ddt_resolver.specs.declared.sending.Change.TheVariants.{Keep, Save, Forget}
-use Rattle.ddt_resolver.specs.State.{State, last_nonce, most_pending, fresh, server, request, request_bytes, numbered, lodged, dropped, stored, changed}
+use Rattle.ddt_resolver.specs.State.{State, last_nonce, most_pending, fresh, server, request, request_bytes, numbered, stored, changed}
 use Rattle.ddt_resolver.specs.Table.{IsUnknown}
 use Rattle.ddt_resolver.specs.Acting.{IsSmall}
 use Rattle.ddt_resolver.specs.Order.{IsLookup, IsWaiting, IsInOrder}
 use Rattle.ddt_resolver.proofs.NumberMapLemmas.{found_insert, len_replaced, len_inserted}
-use Rattle.ddt_resolver.proofs.OrderLemmas.{apart_insert, order_dropped}
+use Rattle.ddt_resolver.proofs.OrderLemmas.{apart_insert}
 
 -- the time moved to itself changes nothing
 pub moved_to_itself : (k : Known) (t : ℕ) → t ≡ k.time → IsKnownInOrder k → cache.moved t k ≡ k

@@ -1,13 +1,13 @@
 -- Two maps as one table: what is found by ticket, by nonce, and how many lookups there are.
-use Rattle.std.proofs.Common.{◌≡◌, ℕ, ◌+◌, ◌-◌, ◌≤◌, ◌<◌, Bool, cond, true, false, List, [], ◌∷◌, length, Option, Some, None, refl, sym, ap, subst, ◌∙◌, inl, inr, ◌⊎◌, nat_cmp, arith, eq-eqb}
+use Rattle.std.proofs.Common.{◌≡◌, ℕ, ◌+◌, ◌-◌, Bool, cond, true, false, List, [], ◌∷◌, length, Option, Some, None, refl, sym, ap, subst, ◌∙◌, inl, inr, ◌⊎◌, nat_cmp, arith, eq-eqb}
 use Rattle.std.specs.Prelude.{◌≢◌, ◌==◌, is_some, IsSome}
 use Rattle.std.specs.Cmp.{nat_cmp_total, unsigned_tied, eq_by_cmp_equiv}
-use Rattle.std.specs.FinMap.{FinMap, get, empty, insert, remove, len, find, contains_key, get-from_entries, len-insert, len-remove, len-empty}
+use Rattle.std.specs.FinMap.{FinMap, get, insert, remove, len, find, get-from_entries, len-insert, len-remove, len-empty}
 use Rattle.std.specs.Map.{lookup}
 use Rattle.std.proofs.lemmas.Option.{none-some, same_Some}
 use Rattle.std.proofs.lemmas.Bool.{cond-true, cond-false, eqb-true, false≢true}
 use Rattle.ddt_resolver.specs.declared.pending.Pending.{Pending}
-use Rattle.ddt_resolver.specs.Table.{Held, map_of, IsUnknown, AreNoted}
+use Rattle.ddt_resolver.specs.Table.{map_of, IsUnknown, AreNoted}
 use Rattle.ddt_resolver.proofs.NumberMapLemmas.{at_insert, at_remove, same_numbers}
 
 pub flip : (k q : ℕ) → (k == q) ≡ (q == k)

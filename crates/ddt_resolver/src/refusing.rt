@@ -1,9 +1,10 @@
 //! Which datagrams are taken as a reply: six tests in order, which change nothing.
 
-ghost use Rattle.std.specs.Prelude.{◌≡◌, IsTrue, false, IfOk, IfErr};
+ghost use Rattle.std.specs.Prelude.{◌≡◌, ◌<◌, IsTrue, false, IfOk, IfErr, length};
 ghost use Rattle.ddt_path.specs.Path.{xeid_path};
 ghost use Rattle.ddt_path.specs.declared.locator.Locator.{Locator as ALocator};
 ghost use Rattle.ddt_resolver.specs.Records.{IsAbout, NamesServer, IsReferral};
+ghost use Rattle.ddt_resolver.specs.State.{server as server_of};
 ghost use Rattle.ddt_resolver.specs.TakeUp.{IsReplyTo, IsTaken, Ignores};
 
 use crate::answers::Ignored;
@@ -56,7 +57,7 @@ impl<M: PrefixMap<Entry>> Resolver<M> {
             Ok(reply) => reply,
             Err(why) => return Err(why),
         };
-        if source != reply.lookup.server() {
+        if !is_asked(&reply.lookup, source) {
             return Err(Ignored::WrongSource);
         }
         if reply.lookup.deadline <= self.time().millis() {
@@ -70,6 +71,15 @@ impl<M: PrefixMap<Entry>> Resolver<M> {
         }
         Ok(reply)
     }
+}
+
+/// Whether a source is the server that a lookup asked.
+fn is_asked(lookup: &Pending, source: Locator) -> bool
+    requires { lookup.now.place < length lookup.now.servers }
+    ensures yes { (me : ALocator) → IsTrue result → source ≡ server_of me lookup.now }
+    ensures no { (me : ALocator) → result ≡ false → source ≡ server_of me lookup.now → ⊥ }
+{
+    source == lookup.server()
 }
 
 /// Whether an action refers to other servers.

@@ -1,4 +1,4 @@
-use Rattle.std.proofs.Common.{◌≡◌, ◌∙◌, sym, ap}
+use Rattle.std.proofs.Common.{◌∙◌, ap}
 use Rattle.std.specs.Prelude.{is_some}
 use Rattle.ddt_resolver.specs.Front.{asked_by}
 use Rattle.ddt_resolver.proofs.FrontLemmas.{asked_is, asked_in, asks_something, one_is_read, no_fault}

@@ -1,4 +1,4 @@
-use Rattle.std.proofs.Common.{subst, sym, ap, ◌∙◌, ◌≡◌}
+use Rattle.std.proofs.Common.{subst, sym, ap, ◌∙◌}
 use Rattle.ddt_path.specs.Path.{xeid_path}
 use Rattle.ddt_cache.specs.Live.{Known}
 use Rattle.ddt_cache.specs.Found.{IsFound}

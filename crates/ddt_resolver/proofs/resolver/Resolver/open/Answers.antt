@@ -1,4 +1,4 @@
-use Rattle.std.proofs.Common.{◌≡◌, ℕ, ◌<◌, subst, sym, ap, ◌∙◌, arith}
+use Rattle.std.proofs.Common.{◌≡◌, ◌<◌, subst, sym, ap, ◌∙◌, arith}
 use Rattle.std.specs.FinMap.{FinMap, get, insert, len}
 use Rattle.std.specs.Ordering.{nat_cmp}
 use Rattle.ddt_resolver.specs.declared.pending.Pending.{Pending}

@@ -1,4 +1,4 @@
-use Rattle.std.proofs.Common.{◌≡◌, List, ap, ◌∙◌, false, true, None}
+use Rattle.std.proofs.Common.{List, ap, ◌∙◌, false, true, None}
 use Rattle.ddt_path.specs.declared.locator.Locator.{Locator}
 use Rattle.ddt_resolver.specs.declared.pending.Pending.{Pending}
 use Rattle.ddt_resolver.specs.State.{State}

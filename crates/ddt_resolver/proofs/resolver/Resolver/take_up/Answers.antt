@@ -1,31 +1,28 @@
-use Rattle.std.proofs.Common.{◌≡◌, ◌<◌, ◌≤◌, sym, ap, ◌∙◌, refl, arith}
-use Rattle.ddt_resolver.specs.State.{server}
+use Rattle.std.proofs.Common.{refl, arith}
 use Rattle.ddt_resolver.specs.TakeUp.{wrong_source, late, not_covering, no_servers}
-use Rattle.ddt_resolver.proofs.HearLemmas.{same_locator, apart_locators}
 use Rattle.ddt_resolver.proofs.resolver.Resolver.take_up.Goals as goal
 
 pub returns-in-Err-clause-refused : goal.returns-in-Err-clause-refused
 returns-in-Err-clause-refused g c = c.in-Err.ensures.refused c.args.source
 
-pub server-requires : goal.server-requires
-server-requires g c = (c.in_order.ensures.lookups _ _ c.in-Ok.ensures.found.is_pending).lookup.place
+pub is_asked-requires : goal.is_asked-requires
+is_asked-requires g c = (c.in_order.ensures.lookups _ _ c.in-Ok.ensures.found.is_pending).lookup.place
 
-pub returns-then-not-is_same_locator-clause-refused : goal.returns-then-not-is_same_locator-clause-refused
-returns-then-not-is_same_locator-clause-refused g c =
-    wrong_source _ _ _ c.in-Ok.ensures.found
-    (λ e. apart_locators c.args.source c.server.result (sym c.is_same_locator.ensures ∙ c.if-not-is_same_locator.true) (e ∙ sym (c.server.ensures c.args.self.now.me))) refl
+pub returns-then-not-is_asked-clause-refused : goal.returns-then-not-is_asked-clause-refused
+returns-then-not-is_asked-clause-refused g c =
+    wrong_source _ _ _ c.in-Ok.ensures.found (c.is_asked.ensures.no c.args.self.now.me c.if-not-is_asked.true) refl
 
 pub returns-then-reply-millis-clause-refused : goal.returns-then-reply-millis-clause-refused
 returns-then-reply-millis-clause-refused g c =
     late _ _ _
-    (record { reply = c.in-Ok.ensures.found; same_source = same_locator _ _ (sym c.is_same_locator.ensures ∙ c.if-not-is_same_locator.false) ∙ c.server.ensures c.args.self.now.me })
+    (record { reply = c.in-Ok.ensures.found; same_source = c.is_asked.ensures.yes c.args.self.now.me c.if-not-is_asked.false })
     (omega (arith, c.if-reply-millis.true, c.millis.ensures.value, c.time.ensures)) refl
 
 pub returns-then-not-is_about-clause-refused : goal.returns-then-not-is_about-clause-refused
 returns-then-not-is_about-clause-refused g c =
     not_covering _ _ _
     (record {
-      from_server = record { reply = c.in-Ok.ensures.found; same_source = same_locator _ _ (sym c.is_same_locator.ensures ∙ c.if-not-is_same_locator.false) ∙ c.server.ensures c.args.self.now.me };
+      from_server = record { reply = c.in-Ok.ensures.found; same_source = c.is_asked.ensures.yes c.args.self.now.me c.if-not-is_asked.false };
       early = omega (arith, c.if-reply-millis.false, c.millis.ensures.value, c.time.ensures);
     })
     (c.is_about.ensures.no c.if-not-is_about.true) refl
@@ -34,7 +31,7 @@ pub returns-then-not-names_server-clause-refused : goal.returns-then-not-names_s
 returns-then-not-names_server-clause-refused g c =
     no_servers _ _ _
     (record {
-      from_server = record { reply = c.in-Ok.ensures.found; same_source = same_locator _ _ (sym c.is_same_locator.ensures ∙ c.if-not-is_same_locator.false) ∙ c.server.ensures c.args.self.now.me };
+      from_server = record { reply = c.in-Ok.ensures.found; same_source = c.is_asked.ensures.yes c.args.self.now.me c.if-not-is_asked.false };
       early = omega (arith, c.if-reply-millis.false, c.millis.ensures.value, c.time.ensures);
     })
     (c.is_about.ensures.yes c.if-not-is_about.false) (c.names_server.ensures.no c.if-not-names_server.true) refl
@@ -42,7 +39,7 @@ returns-then-not-names_server-clause-refused g c =
 pub returns-clause-taken : goal.returns-clause-taken
 returns-clause-taken g c = record {
   in_time = record {
-    from_server = record { reply = c.in-Ok.ensures.found; same_source = same_locator _ _ (sym c.is_same_locator.ensures ∙ c.if-not-is_same_locator.false) ∙ c.server.ensures c.args.self.now.me };
+    from_server = record { reply = c.in-Ok.ensures.found; same_source = c.is_asked.ensures.yes c.args.self.now.me c.if-not-is_asked.false };
     early = omega (arith, c.if-reply-millis.false, c.millis.ensures.value, c.time.ensures);
   };
   about = c.is_about.ensures.yes c.if-not-is_about.false;

@@ -1,4 +1,4 @@
-use Rattle.std.proofs.Common.{ap, ◌∙◌, sym}
+use Rattle.std.proofs.Common.{ap, ◌∙◌}
 use Rattle.std.specs.FinMap.{insert}
 use Rattle.ddt_resolver.specs.Table.{Held}
 use Rattle.ddt_resolver.proofs.TableLemmas.{entry_at, is_fresh, noted_add, inserted_map, count_inserted}

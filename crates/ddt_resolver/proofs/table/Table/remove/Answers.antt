@@ -1,6 +1,6 @@
-use Rattle.std.proofs.Common.{ap, ◌∙◌, sym, refl, ◌≡◌, length}
-use Rattle.std.specs.FinMap.{FinMap, len, remove}
-use Rattle.ddt_resolver.specs.Table.{Held, map_of}
+use Rattle.std.proofs.Common.{ap, ◌∙◌, sym}
+use Rattle.std.specs.FinMap.{remove}
+use Rattle.ddt_resolver.specs.Table.{Held}
 use Rattle.ddt_resolver.proofs.TableLemmas.{is_found, noted_remove, removed_map, count_removed}
 use Rattle.ddt_resolver.proofs.table.Table.remove.Goals as goal
 

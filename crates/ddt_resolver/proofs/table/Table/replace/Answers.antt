@@ -1,7 +1,5 @@
-use Rattle.std.proofs.Common.{ap, ◌∙◌, sym, ◌≡◌, None, Option, subst}
-use Rattle.std.specs.Prelude.{IsSome}
+use Rattle.std.proofs.Common.{ap, ◌∙◌, sym}
 use Rattle.std.specs.FinMap.{insert}
-use Rattle.ddt_resolver.specs.declared.pending.Pending.{Pending}
 use Rattle.ddt_resolver.specs.Table.{Held}
 use Rattle.ddt_resolver.proofs.TableLemmas.{is_some_entry, not_gone, is_fresh, noted_replace, inserted_map, count_inserted}
 use Rattle.ddt_resolver.proofs.table.Table.replace.Goals as goal

@@ -1,6 +1,6 @@
-use Rattle.std.proofs.Common.{ap, ◌∙◌, sym}
+use Rattle.std.proofs.Common.{ap, sym}
 use Rattle.ddt_resolver.specs.Table.{Held}
-use Rattle.ddt_resolver.proofs.TableLemmas.{is_found, is_unknown, noted_lookup}
+use Rattle.ddt_resolver.proofs.TableLemmas.{is_found, is_unknown}
 use Rattle.ddt_resolver.proofs.table.Table.with_nonce.Goals as goal
 
 pub returns-in-Some-get-clause-found : goal.returns-in-Some-get-clause-found

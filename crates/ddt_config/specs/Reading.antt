@@ -1,6 +1,9 @@
 -- What the clauses of the private readers cite.
-use Rattle.std.specs.Prelude.{◌≡◌, ◌≢◌, ◌⊎◌, Bool, Result, Ok, Err}
+use Rattle.std.specs.Prelude.{◌≡◌, ◌≢◌, ◌⊎◌, ℕ, Bool, List, Result, Ok, Err}
 use Rattle.std.specs.List.{list_all}
+use Rattle.ddt_path.specs.Covers.{overlaps, is_same_path}
+use Rattle.ddt_config.specs.declared.neighbours.Clash.{Clash}
+use Rattle.ddt_config.specs.declared.neighbours.Clash.TheVariants.{Same, Overlap}
 use Rattle.ddt_config.specs.declared.fault.ConfigFault.{ConfigFault}
 use Rattle.ddt_config.specs.declared.fault.ConfigFault.TheVariants.{Toml, Memory}
 use Rattle.ddt_config.specs.declared.child.Child.{Child}
@@ -32,3 +35,8 @@ content_fits (Sites ss) = list_all site_fits ss
 
 abbrev pub authority_fits : Authority → Bool
 authority_fits a = content_fits a.content
+
+-- whether two prefixes clash so
+abbrev pub clashes : Clash → List ℕ → List ℕ → Bool
+clashes Same = is_same_path
+clashes Overlap = overlaps

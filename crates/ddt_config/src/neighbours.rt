@@ -3,26 +3,42 @@
 ghost use Rattle.std.specs.Prelude.{◌≡◌, map, IfOk, IsPermutation, IsSorted};
 ghost use Rattle.std.specs.Cmp.Lexicographic.{slice_cmp};
 ghost use Rattle.std.specs.Ordering.{nat_cmp};
-ghost use Rattle.ddt_path.specs.Covers.{is_same_path, overlaps};
-ghost use Rattle.ddt_config.specs.Shaped.{no_two, have_own_prefixes as have_own_prefixes_of, are_apart as are_apart_of};
+ghost use Rattle.ddt_config.specs.Shaped.{no_two};
+ghost use Rattle.ddt_config.specs.Reading.{clashes};
 
 use ddt_path::{Prefix, Prefixed};
 use std::alloc::{AllocError, Global};
 
-/// Whether no two of the items have one prefix. Fails only if out of memory.
-pub fn have_own_prefixes<T: Prefixed>(alloc: Global, items: &[T]) -> Result<bool, AllocError>
-    ensures { IfOk result (λ answer. answer ≡ have_own_prefixes_of T.path items.now) }
-{
-    let prefixes = sorted_prefixes(alloc, items)?;
-    Ok(neighbours_differ(&prefixes))
+/// How two prefixes clash.
+#[derive(Clone, Copy)]
+pub enum Clash {
+    /// They are one.
+    Same,
+    /// They overlap.
+    Overlap,
 }
 
-/// Whether no two of the items overlap. Fails only if out of memory.
-pub fn are_apart<T: Prefixed>(alloc: Global, items: &[T]) -> Result<bool, AllocError>
-    ensures { IfOk result (λ answer. answer ≡ are_apart_of T.path items.now) }
+impl Clash {
+    fn is_between(self, a: Prefix, b: Prefix) -> bool
+        ensures { result ≡ clashes self a b }
+    {
+        match self {
+            Clash::Same => a == b,
+            Clash::Overlap => a.overlaps(b),
+        }
+    }
+}
+
+/// Whether the prefixes of no two items clash. Fails only if out of memory.
+pub fn have_no_clash<T: Prefixed>(
+    alloc: Global,
+    items: &[T],
+    clash: Clash,
+) -> Result<bool, AllocError>
+    ensures { IfOk result (λ answer. answer ≡ no_two (λ a b. clashes clash (T.path a) (T.path b)) items.now) }
 {
     let prefixes = sorted_prefixes(alloc, items)?;
-    Ok(neighbours_are_apart(&prefixes))
+    Ok(no_neighbours_clash(&prefixes, clash))
 }
 
 fn sorted_prefixes<T: Prefixed>(alloc: Global, items: &[T]) -> Result<Vec<Prefix>, AllocError>
@@ -37,26 +53,14 @@ fn sorted_prefixes<T: Prefixed>(alloc: Global, items: &[T]) -> Result<Vec<Prefix
     Ok(prefixes)
 }
 
-/// Whether no two are one prefix: in order, those that are one stand together.
-fn neighbours_differ(prefixes: &[Prefix]) -> bool
+/// Whether no two clash: in order, a prefix stands directly before those that are the same, and before all that it
+/// covers.
+fn no_neighbours_clash(prefixes: &[Prefix], clash: Clash) -> bool
     requires { IsSorted (slice_cmp nat_cmp) prefixes.now }
-    ensures { result ≡ no_two is_same_path prefixes.now }
+    ensures { result ≡ no_two (clashes clash) prefixes.now }
 {
     for later in 1..prefixes.len() {
-        if prefixes[later - 1] == prefixes[later] {
-            return false;
-        }
-    }
-    true
-}
-
-/// Whether no two overlap: in order, a prefix stands directly before all that it covers.
-fn neighbours_are_apart(prefixes: &[Prefix]) -> bool
-    requires { IsSorted (slice_cmp nat_cmp) prefixes.now }
-    ensures { result ≡ no_two overlaps prefixes.now }
-{
-    for later in 1..prefixes.len() {
-        if prefixes[later - 1].overlaps(prefixes[later]) {
+        if clash.is_between(prefixes[later - 1], prefixes[later]) {
             return false;
         }
     }

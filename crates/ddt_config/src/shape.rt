@@ -7,7 +7,7 @@ ghost use Rattle.ddt_config.specs.Shaped.{is_shaped as is_shaped_of, is_server_s
 
 use crate::authority::{AuthorityDraft, ContentDraft};
 use crate::child::ChildDraft;
-use crate::neighbours::{are_apart, have_own_prefixes};
+use crate::neighbours::{Clash, have_no_clash};
 use crate::site_entry::SiteDraft;
 use ddt_path::{Locator, MOST_LOCATORS, Prefix, Role, are_distinct};
 use std::alloc::{AllocError, Global};
@@ -24,7 +24,7 @@ pub fn is_shaped(
     if !is_server_set(locators) || !are_distinct(locators) {
         return Ok(false);
     }
-    if !have_own_prefixes(alloc, authorities)? {
+    if !have_no_clash(alloc, authorities, Clash::Same)? {
         return Ok(false);
     }
     are_authorities_of(alloc, role, authorities)
@@ -77,7 +77,7 @@ fn are_children_of(
     if role != Role::Node || !are_inside(authority, children) {
         return Ok(false);
     }
-    are_apart(alloc, children)
+    have_no_clash(alloc, children, Clash::Overlap)
 }
 
 fn are_inside(authority: Prefix, children: &[ChildDraft]) -> bool
@@ -104,7 +104,7 @@ fn are_sites_of(
     if role != Role::Ms || !are_covered(authority, sites) {
         return Ok(false);
     }
-    have_own_prefixes(alloc, sites)
+    have_no_clash(alloc, sites, Clash::Same)
 }
 
 fn are_covered(authority: Prefix, sites: &[SiteDraft]) -> bool

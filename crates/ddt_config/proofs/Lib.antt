@@ -1,8 +1,7 @@
-pub mod EachLemmas
 pub mod ValueLemmas
+pub mod RoomLemmas
+pub mod StandsLemmas
 pub mod WriteLemmas
 pub mod AsciiLemmas
 pub mod SameLemmas
 pub mod NeighbourLemmas
-pub mod RoomLemmas
-pub mod StandsLemmas

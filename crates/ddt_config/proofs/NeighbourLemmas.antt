@@ -1,12 +1,13 @@
 -- In a sorted list of prefixes no two clash if and only if no neighbours do: what stands between two that overlap, or
 -- are one, overlaps the first of them, or is one with it. And whether two clash doesn't rest on the order of a list.
 use Rattle.std.proofs.Common.{◌≡◌, ℕ, zero, suc, ◌+◌, ◌<◌, ◌≤◌, Bool, true, false, not, List, [], ◌∷◌, map, length, get_or, IsPermutation, Ordering, inl, inr, refl, sym, ◌∙◌, arith}
-use Rattle.std.specs.Prelude.{◌&&◌, ◌||◌, IsSorted}
+use Rattle.std.specs.Prelude.{◌&&◌, IsSorted}
 use Rattle.std.specs.List.{list_any}
 use Rattle.std.specs.Ordering.{nat_cmp, is_lt}
 use Rattle.std.specs.Cmp.{IsTotalOrder}
 use Rattle.std.specs.Cmp.Lexicographic.{slice_cmp, nat_list_cmp_total, nat_list_eq_equiv}
 use Rattle.std.proofs.lemmas.Bool.{both_ways, not-true, not_from_false, false_from_ne_true, and_parts, and_from, or_cases, or_left}
+use Rattle.std.proofs.Math.Bool.{or_comm}
 use Rattle.std.proofs.lemmas.List.Folds.{list_any_none, list_any_at}
 use Rattle.std.proofs.lemmas.List.Sorted.{sorted_far, ranks_by, IsPermutation-sym}
 use Rattle.std.proofs.lemmas.Map.Keys.{apart_from_distinct, IsDistinct-from_apart, IsDistinct-IsPermutation}
@@ -79,22 +80,13 @@ overlaps-between a b c up down far e =
     or_left (covers a b) (covers b a)
     (covers-between a b c up down (elim (or_cases (covers a c) (covers c a) e) [ inl inside ↦ inside | inr back ↦ covers-back a c far back ]))
 
-overlaps-flips : (a b : List ℕ) → overlaps a b ≡ overlaps b a
-overlaps-flips a b = either (covers a b) (covers b a)
-  where
-    either : (x y : Bool) → (x || y) ≡ (y || x)
-    either true true = refl
-    either true false = refl
-    either false true = refl
-    either false false = refl
-
 between : (clash : Clash) (a b c : List ℕ) → IsUpTo a b → IsUpTo b c → IsUpTo a c → clashes clash a c ≡ true → clashes clash a b ≡ true
 between Same = is_same_path-between
 between Overlap = overlaps-between
 
 flips : (clash : Clash) (a b : List ℕ) → clashes clash a b ≡ clashes clash b a
-flips Same = nat_list_eq_equiv.symm
-flips Overlap = overlaps-flips
+flips Same a b = nat_list_eq_equiv.symm a b
+flips Overlap a b = or_comm (covers a b) (covers b a)
 
 -- ---- sorted prefixes, and the items whose they are
 

@@ -1,11 +1,11 @@
 -- Where the shape is right, no list of locators has more than 8.
-use Rattle.std.proofs.Common.{◌≡◌, ℕ, ◌≤◌, Bool, true, List, [], ◌∷◌, ◌&&◌, length, nat_le, leb-true, refl}
+use Rattle.std.proofs.Common.{◌≡◌, ℕ, Bool, true, List, [], ◌∷◌, ◌&&◌, length, nat_le, refl}
 use Rattle.std.specs.List.{list_all}
 use Rattle.std.proofs.lemmas.Bool.{false≢true, and_parts}
 use Rattle.ddt_path.specs.declared.locator.Locator.{Locator}
 use Rattle.ddt_path.specs.declared.record.Role.{Role}
 use Rattle.ddt_path.specs.declared.record.Role.TheVariants.{Node, Ms}
-use Rattle.ddt_path.specs.Locators.{are_distinct, most_locators}
+use Rattle.ddt_path.specs.Locators.{are_distinct}
 use Rattle.ddt_config.specs.declared.child.Child.{Child}
 use Rattle.ddt_config.specs.declared.site_entry.SiteEntry.{SiteEntry}
 use Rattle.ddt_config.specs.declared.authority.Content.{Content}
@@ -29,11 +29,9 @@ content_has_room Ms authority (Sites ss) e = all_imply (is_site_of authority) si
 content_has_room Node authority (Sites ss) e = absurd (false≢true e)
 content_has_room Ms authority (Children cs) e = absurd (false≢true e)
 
-pub locators_fit : (role : Role) (ls : List Locator) (zs : List Authority) → is_shaped role ls zs ≡ true → length ls ≤ most_locators
-locators_fit role ls zs e =
-    leb-true (length ls) most_locators (set_fits ls (and_parts (is_server_set ls) (are_distinct ls) (and_parts (is_server_set ls && are_distinct ls) _ e).0).0)
+pub are_authorities : (role : Role) (ls : List Locator) (zs : List Authority) → is_shaped role ls zs ≡ true → list_all (is_authority_of role) zs ≡ true
+are_authorities role ls zs e =
+    (and_parts (have_own_prefixes (λ (a : Authority). a.prefix) zs) (list_all (is_authority_of role) zs) (and_parts (is_server_set ls && are_distinct ls) _ e).1).1
 
 pub authorities_fit : (role : Role) (ls : List Locator) (zs : List Authority) → is_shaped role ls zs ≡ true → list_all authority_fits zs ≡ true
-authorities_fit role ls zs e =
-    all_imply (is_authority_of role) authority_fits (λ a k. content_has_room role a.prefix a.content k) zs
-    (and_parts (have_own_prefixes (λ (a : Authority). a.prefix) zs) (list_all (is_authority_of role) zs) (and_parts (is_server_set ls && are_distinct ls) _ e).1).1
+authorities_fit role ls zs e = all_imply (is_authority_of role) authority_fits (λ a k. content_has_room role a.prefix a.content k) zs (are_authorities role ls zs e)

@@ -30,10 +30,7 @@ among : (ms : Members) (r : Result ServerConfig ConfigFault) → IfOk r (λ c. c
     → (c : ServerConfig) → config_in ms ≡ Ok (outline c) → (r ≡ Ok c) ⊎ (r ≡ Err Memory)
 among ms (Ok d) found refused c stands = inl (ap Ok (same_outline d c (ap (ok_part (outline c)) (sym found ∙ stands))))
 among ms (Err Memory) found refused c stands = inr refl
-among ms (Err Toml) found refused c stands = absurd (two_outcomes (config_in ms) (outline c) Toml stands (refused (search rules)))
-among ms (Err (Field k)) found refused c stands = absurd (two_outcomes (config_in ms) (outline c) (Field k) stands (refused (search rules)))
-among ms (Err (Value k)) found refused c stands = absurd (two_outcomes (config_in ms) (outline c) (Value k) stands (refused (search rules)))
-among ms (Err Shape) found refused c stands = absurd (two_outcomes (config_in ms) (outline c) Shape stands (refused (search rules)))
+among ms (Err other) found refused c stands = absurd (two_outcomes (config_in ms) (outline c) other stands (refused (search rules)))
 
 pub determined : (text : List ℕ) (ms : Members) → parse_document text ≡ Some ms → (r : Result ServerConfig ConfigFault)
     → IfOk r (λ c. config_in ms ≡ Ok (outline c)) → IfErr r (λ fault. fault ≢ Memory → config_in ms ≡ Err fault)

@@ -1,9 +1,9 @@
 -- A table is read as what it stands for, and as nothing else: step by step, both ways.
-use Rattle.std.proofs.Common.{◌≡◌, ◌⊎◌, ◌↔◌, ℕ, Bool, true, cond, List, [], ◌∷◌, Option, None, Some, Result, Ok, Err, refl, sym, ap, subst, ◌∙◌, inl, inr}
+use Rattle.std.proofs.Common.{◌≡◌, ◌⊎◌, ◌↔◌, ℕ, Bool, true, false, cond, List, [], ◌∷◌, Option, None, Some, Result, Ok, Err, refl, sym, ap, subst, ◌∙◌, inl, inr}
 use Rattle.std.specs.List.{list_all}
 use Rattle.std.specs.Option.{option_map}
 use Rattle.std.specs.Cmp.Lexicographic.{bytes_decides}
-use Rattle.toml.specs.Data.{Data, Items, no_items, item, Members, get_member, string, integer, float, boolean, datetime, array, table, as_str, as_array, as_table}
+use Rattle.toml.specs.Data.{Data, Items, no_items, item, Members, get_member, string, array, table, as_str, as_array, as_table}
 use Rattle.ddt_path.specs.declared.locator.Locator.{Locator}
 use Rattle.ddt_path.specs.declared.record.Role.{Role}
 use Rattle.ddt_path.specs.declared.record.Role.TheVariants.{Node, Ms}
@@ -12,7 +12,7 @@ use Rattle.ddt_text.specs.declared.fault.TextFault.{TextFault}
 use Rattle.ddt_text.specs.FirstFault.{locator_in, prefix_in}
 use Rattle.ddt_text.proofs.LawLemmas.{locators_are_read, prefixes_are_read}
 use Rattle.ddt_reading.specs.Steps.{◌>>=◌}
-use Rattle.ddt_reading.proofs.StepLemmas.{bind_ok, held_ok, chosen, ok_is}
+use Rattle.ddt_reading.proofs.StepLemmas.{bind_ok, held_ok, ok_is}
 use Rattle.ddt_config.specs.declared.fault.Key.{Key}
 use Rattle.ddt_config.specs.declared.fault.Key.TheVariants as key
 use Rattle.ddt_config.specs.declared.fault.ConfigFault.{ConfigFault}
@@ -20,8 +20,7 @@ use Rattle.ddt_config.specs.declared.fault.ConfigFault.TheVariants.{Value, Shape
 use Rattle.ddt_config.specs.declared.authority.Content.{Content}
 use Rattle.ddt_config.specs.declared.authority.Content.TheVariants.{Children, Sites}
 use Rattle.ddt_config.specs.Shaped.{is_shaped}
-use Rattle.ddt_config.specs.Table.{key_text, role_text, each, of_kind, of_form, listed, text_of, array_of, array_or_none, text_at, all_of, is_text_value, is_table_value, entry_of, entries_in, locator_of, locators_in, path_in, role_of, is_text, role_in, name_in, child_in, site_in, content_in, authority_in, Outline, outline_in, with_shape, config_in}
-use Rattle.ddt_config.proofs.WriteLemmas.{child_from, site_from, authority_from, config_from}
+use Rattle.ddt_config.specs.Table.{key_text, role_text, each, of_kind, of_form, listed, text_of, array_of, array_or_none, text_at, all_of, is_text_value, is_table_value, entry_of, entries_in, locator_of, locators_in, path_in, role_of, role_in, name_in, child_in, site_in, content_in, authority_in, Outline, outline_in, with_shape, config_in}
 use Rattle.ddt_config.specs.Stands.{HoldsText, HoldsPrefix, AreFor, IsArrayOf, IsLocatorText, HoldsLocators, IsTableOf, HoldsTables, IsChild, IsSite, IsContent, IsAuthority, Stands}
 
 -- what is read is what stands there
@@ -46,85 +45,59 @@ form_ok k (Ok y) x e = cc
 
 is_string : (d : Data) (text : List ℕ) → as_str d ≡ Some text → d ≡ string text
 is_string (string s) text e = cc
-is_string (integer n) text e = absurd cc
-is_string (float x) text e = absurd cc
-is_string (boolean b) text e = absurd cc
-is_string (datetime t) text e = absurd cc
-is_string (array ds) text e = absurd cc
-is_string (table ms) text e = absurd cc
+is_string other text e = absurd cc
 
 is_array : (d : Data) (vs : List Data) → option_map listed (as_array d) ≡ Some vs → (ds : Items) × (d ≡ array ds) × (listed ds ≡ vs)
-is_array (string s) vs e = absurd cc
-is_array (integer n) vs e = absurd cc
-is_array (float x) vs e = absurd cc
-is_array (boolean b) vs e = absurd cc
-is_array (datetime t) vs e = absurd cc
 is_array (array ds) vs e = (ds, refl, cc)
-is_array (table ms) vs e = absurd cc
+is_array other vs e = absurd cc
 
 is_table : (d : Data) (ms : Members) → as_table d ≡ Some ms → d ≡ table ms
-is_table (string s) ms e = absurd cc
-is_table (integer n) ms e = absurd cc
-is_table (float x) ms e = absurd cc
-is_table (boolean b) ms e = absurd cc
-is_table (datetime t) ms e = absurd cc
-is_table (array ds) ms e = absurd cc
 is_table (table ns) ms e = cc
+is_table other ms e = absurd cc
 
 -- ---- texts
 
-text_held : (k : Key) (ms : Members) (text : List ℕ) → text_at k ms ≡ Ok text → HoldsText ms k text
-text_held k ms text e =
-    let p = bind_ok (of_kind k (get_member (key_text k) ms)) (text_of k) text e in
-    kind_ok k (get_member (key_text k) ms) p.0 p.1 ∙ ap Some (is_string p.0 text (kind_ok k (as_str p.0) text p.2))
+text_held : {A : Type 0} (k : Key) (ms : Members) (read : List ℕ → Result A ConfigFault) (x : A) → (text_at k ms >>= read) ≡ Ok x
+    → (text : List ℕ) × HoldsText ms k text × (read text ≡ Ok x)
+text_held k ms read x e =
+    let s = bind_ok (text_at k ms) read x e in
+    let d = bind_ok (of_kind k (get_member (key_text k) ms)) (text_of k) s.0 s.1 in
+    (s.0, kind_ok k (get_member (key_text k) ms) d.0 d.1 ∙ ap Some (is_string d.0 s.0 (kind_ok k (as_str d.0) s.0 d.2)), s.2)
 
 path_agrees : Agrees path_in HoldsPrefix
-path_agrees ms p = (to, from)
-  where
-    to : path_in ms ≡ Ok p → HoldsPrefix ms p
-    to e =
-        let s = bind_ok (text_at key.Prefix ms) (λ text. of_form key.Prefix (prefix_in text)) p e in
-        (s.0, text_held key.Prefix ms s.0 s.1, prefixes_are_read.taken s.0 p tt (form_ok key.Prefix (prefix_in s.0) p s.2))
+path_agrees ms p = (
+  λ e.
+      let s = text_held key.Prefix ms (λ text. of_form key.Prefix (prefix_in text)) p e in
+      (s.0, s.1, prefixes_are_read.taken s.0 p tt (form_ok key.Prefix (prefix_in s.0) p s.2)),
+  λ h. rw (h.1, prefixes_are_read.read h.0 p h.2) refl,
+)
 
-    from : HoldsPrefix ms p → path_in ms ≡ Ok p
-    from h = rw (h.1, prefixes_are_read.read h.0 p h.2) refl
-
-abbrev ms_or_fault : List ℕ → Result Role ConfigFault
-ms_or_fault text = cond (is_text text (role_text Ms)) (Ok Ms) (Err (Value key.Kind))
-
-word_ok : (text : List ℕ) (role : Role) → role_of text ≡ Ok role → text ≡ role_text role
-word_ok text role e =
-    elim (chosen (is_text text (role_text Node)) (Ok Node) (ms_or_fault text) (Ok role) e) [
-      | inl node ↦ (bytes_decides text (role_text Node)).0 node.0 ∙ ap role_text (same_value node.1)
-      | inr other ↦
-          let ms = held_ok (is_text text (role_text Ms)) (Value key.Kind) (Ok Ms) role other.1 in
-          (bytes_decides text (role_text Ms)).0 ms.0 ∙ ap role_text (same_value ms.1)
-    ]
+word_ok : (text : List ℕ) (role : Role) (node ms : Bool) → (node ≡ true → text ≡ role_text Node) → (ms ≡ true → text ≡ role_text Ms)
+    → cond node (Ok Node) (cond ms (Ok Ms) (Err (Value key.Kind))) ≡ Ok role → text ≡ role_text role
+word_ok text role true ms is_node is_ms e = is_node refl ∙ ap role_text (same_value e)
+word_ok text role false true is_node is_ms e = is_ms refl ∙ ap role_text (same_value e)
+word_ok text role false false is_node is_ms e = absurd cc
 
 role_agrees : Agrees role_in (λ ms role. HoldsText ms key.Kind (role_text role))
 role_agrees ms role = (to, from role)
   where
     to : role_in ms ≡ Ok role → HoldsText ms key.Kind (role_text role)
     to e =
-        let s = bind_ok (text_at key.Kind ms) role_of role e in
-        text_held key.Kind ms s.0 s.1 ∙ ap (λ text. Some (string text)) (word_ok s.0 role s.2)
+        let s = text_held key.Kind ms role_of role e in
+        s.1 ∙ ap (λ text. Some (string text)) (word_ok s.0 role _ _ (bytes_decides s.0 (role_text Node)).0 (bytes_decides s.0 (role_text Ms)).0 s.2)
 
     from : (role : Role) → HoldsText ms key.Kind (role_text role) → role_in ms ≡ Ok role
     from Node h = rw h refl
     from Ms h = rw h refl
 
 name_agrees : Agrees name_in (λ ms name. HoldsText ms key.Name name × (is_name name ≡ true))
-name_agrees ms name = (to, from)
-  where
-    to : name_in ms ≡ Ok name → HoldsText ms key.Name name × (is_name name ≡ true)
-    to e =
-        let s = bind_ok (text_at key.Name ms) _ name e in
-        let t = held_ok (is_name s.0) (Value key.Name) (Ok s.0) name s.2 in
-        let same : s.0 ≡ name = same_value t.1 in
-        (text_held key.Name ms name (s.1 ∙ ap Ok same), ap is_name (sym same) ∙ t.0)
-
-    from : HoldsText ms key.Name name × (is_name name ≡ true) → name_in ms ≡ Ok name
-    from h = rw (h.0, h.1) refl
+name_agrees ms name = (
+  λ e.
+      let s = text_held key.Name ms (λ text. cond (is_name text) (Ok text) (Err (Value key.Name))) name e in
+      let t = held_ok (is_name s.0) (Value key.Name) (Ok s.0) name s.2 in
+      subst (λ (n : List ℕ). HoldsText ms key.Name n × (is_name n ≡ true)) (same_value t.1) (s.1, t.0),
+  λ h. rw (h.0, h.1) refl,
+)
 
 -- ---- arrays
 
@@ -163,15 +136,12 @@ text_kind : (d : Data) (l : Locator) → IsLocatorText d l → is_text_value d �
 text_kind d l h = rw h.1 refl
 
 locator_agrees : (k : Key) → Agrees (locator_of k) IsLocatorText
-locator_agrees k d l = (to, from)
-  where
-    to : locator_of k d ≡ Ok l → IsLocatorText d l
-    to e =
-        let s = bind_ok (text_of k d) (λ text. of_form k (locator_in text)) l e in
-        (s.0, is_string d s.0 (kind_ok k (as_str d) s.0 s.1), locators_are_read.taken s.0 l tt (form_ok k (locator_in s.0) l s.2))
-
-    from : IsLocatorText d l → locator_of k d ≡ Ok l
-    from h = rw (h.1, locators_are_read.read h.0 l h.2) refl
+locator_agrees k d l = (
+  λ e.
+      let s = bind_ok (text_of k d) (λ text. of_form k (locator_in text)) l e in
+      (s.0, is_string d s.0 (kind_ok k (as_str d) s.0 s.1), locators_are_read.taken s.0 l tt (form_ok k (locator_in s.0) l s.2)),
+  λ h. rw (h.1, locators_are_read.read h.0 l h.2) refl,
+)
 
 locators_agree : (k : Key) → Agrees (locators_in k) (λ ms. HoldsLocators ms k)
 locators_agree k ms ls = (to (get_member (key_text k) ms), from)
@@ -189,15 +159,12 @@ module _ {A : Type 0} (read : Members → Result A ConfigFault) (Is : Members �
   table_kind d x h = rw h.1 refl
 
   entry_agrees : (k : Key) → Agrees (entry_of k read) (IsTableOf Is)
-  entry_agrees k d x = (to, from)
-    where
-      to : entry_of k read d ≡ Ok x → IsTableOf Is d x
-      to e =
-          let s = bind_ok (of_kind k (as_table d)) read x e in
-          (s.0, is_table d s.0 (kind_ok k (as_table d) s.0 s.1), (agrees s.0 x).0 s.2)
-
-      from : IsTableOf Is d x → entry_of k read d ≡ Ok x
-      from h = rw h.1 ((agrees h.0 x).1 h.2)
+  entry_agrees k d x = (
+    λ e.
+        let s = bind_ok (of_kind k (as_table d)) read x e in
+        (s.0, is_table d s.0 (kind_ok k (as_table d) s.0 s.1), (agrees s.0 x).0 s.2),
+    λ h. rw h.1 ((agrees h.0 x).1 h.2),
+  )
 
   tables_agree : (k : Key) → Agrees (entries_in k read) (λ ms. HoldsTables Is ms k)
   tables_agree k ms xs = (to (get_member (key_text k) ms), from)
@@ -214,24 +181,24 @@ module _ {A : Type 0} (read : Members → Result A ConfigFault) (Is : Members �
 -- ---- tables
 
 child_agrees : Agrees child_in IsChild
-child_agrees ms c = (to, λ h. child_from ms c ((path_agrees ms c.prefix).1 h.prefix) ((role_agrees ms c.role).1 h.kind) ((locators_agree key.Locators ms c.locators).1 h.locators))
-  where
-    to : child_in ms ≡ Ok c → IsChild ms c
-    to e =
-        let p = bind_ok (path_in ms) _ c e in
-        let r = bind_ok (role_in ms) _ c p.2 in
-        let l = bind_ok (locators_in key.Locators ms) _ c r.2 in
-        subst (IsChild ms) (same_value l.2)
-        (record { prefix = (path_agrees ms p.0).0 p.1; kind = (role_agrees ms r.0).0 r.1; locators = (locators_agree key.Locators ms l.0).0 l.1 })
+child_agrees ms c = (
+  λ e.
+      let p = bind_ok (path_in ms) _ c e in
+      let r = bind_ok (role_in ms) _ c p.2 in
+      let l = bind_ok (locators_in key.Locators ms) _ c r.2 in
+      subst (IsChild ms) (same_value l.2)
+      (record { prefix = (path_agrees ms p.0).0 p.1; kind = (role_agrees ms r.0).0 r.1; locators = (locators_agree key.Locators ms l.0).0 l.1 }),
+  λ h. rw ((path_agrees ms c.prefix).1 h.prefix, (role_agrees ms c.role).1 h.kind, (locators_agree key.Locators ms c.locators).1 h.locators) refl,
+)
 
 site_agrees : Agrees site_in IsSite
-site_agrees ms s = (to, λ h. site_from ms s ((path_agrees ms s.prefix).1 h.prefix) ((locators_agree key.Etrs ms s.etrs).1 h.etrs))
-  where
-    to : site_in ms ≡ Ok s → IsSite ms s
-    to e =
-        let p = bind_ok (path_in ms) _ s e in
-        let l = bind_ok (locators_in key.Etrs ms) _ s p.2 in
-        subst (IsSite ms) (same_value l.2) (record { prefix = (path_agrees ms p.0).0 p.1; etrs = (locators_agree key.Etrs ms l.0).0 l.1 })
+site_agrees ms s = (
+  λ e.
+      let p = bind_ok (path_in ms) _ s e in
+      let l = bind_ok (locators_in key.Etrs ms) _ s p.2 in
+      subst (IsSite ms) (same_value l.2) (record { prefix = (path_agrees ms p.0).0 p.1; etrs = (locators_agree key.Etrs ms l.0).0 l.1 }),
+  λ h. rw ((path_agrees ms s.prefix).1 h.prefix, (locators_agree key.Etrs ms s.etrs).1 h.etrs) refl,
+)
 
 content_to : (role : Role) (ms : Members) (content : Content) → content_in role ms ≡ Ok content → IsContent role ms content
 content_to Node ms content e =
@@ -248,13 +215,13 @@ content_from Node ms (Sites ss) h = absurd h
 content_from Ms ms (Children cs) h = absurd h
 
 authority_agrees : (role : Role) → Agrees (authority_in role) (IsAuthority role)
-authority_agrees role ms a = (to, λ h. authority_from role ms a ((path_agrees ms a.prefix).1 h.prefix) (content_from role ms a.content h.content))
-  where
-    to : authority_in role ms ≡ Ok a → IsAuthority role ms a
-    to e =
-        let p = bind_ok (path_in ms) _ a e in
-        let c = bind_ok (content_in role ms) _ a p.2 in
-        subst (IsAuthority role ms) (same_value c.2) (record { prefix = (path_agrees ms p.0).0 p.1; content = content_to role ms c.0 c.1 })
+authority_agrees role ms a = (
+  λ e.
+      let p = bind_ok (path_in ms) _ a e in
+      let c = bind_ok (content_in role ms) _ a p.2 in
+      subst (IsAuthority role ms) (same_value c.2) (record { prefix = (path_agrees ms p.0).0 p.1; content = content_to role ms c.0 c.1 }),
+  λ h. rw ((path_agrees ms a.prefix).1 h.prefix, content_from role ms a.content h.content) refl,
+)
 
 authorities_agree : (role : Role) → Agrees (entries_in key.Authority (authority_in role)) (λ ms. HoldsTables (IsAuthority role) ms key.Authority)
 authorities_agree role = tables_agree (authority_in role) (IsAuthority role) (authority_agrees role) key.Authority
@@ -276,15 +243,17 @@ outline_to ms o e =
     })
 
 pub tables_are_read : (ms : Members) (o : Outline) → (config_in ms ≡ Ok o) ↔ (Stands ms o × (is_shaped o.role o.locators o.authorities ≡ true))
-tables_are_read ms o = (to, from)
-  where
-    to : config_in ms ≡ Ok o → Stands ms o × (is_shaped o.role o.locators o.authorities ≡ true)
-    to e =
-        let s = bind_ok (outline_in ms) with_shape o e in
-        let h = held_ok (is_shaped s.0.role s.0.locators s.0.authorities) Shape (Ok s.0) o s.2 in
-        subst (λ (p : Outline). Stands ms p × (is_shaped p.role p.locators p.authorities ≡ true)) (same_value h.1) (outline_to ms s.0 s.1, h.0)
-
-    from : Stands ms o × (is_shaped o.role o.locators o.authorities ≡ true) → config_in ms ≡ Ok o
-    from h =
-        config_from ms o ((name_agrees ms o.name).1 (h.0.name, h.0.word)) ((role_agrees ms o.role).1 h.0.kind) ((locators_agree key.Locators ms o.locators).1 h.0.locators)
-        ((authorities_agree o.role ms o.authorities).1 h.0.authorities) h.1
+tables_are_read ms o = (
+  λ e.
+      let s = bind_ok (outline_in ms) with_shape o e in
+      let h = held_ok (is_shaped s.0.role s.0.locators s.0.authorities) Shape (Ok s.0) o s.2 in
+      subst (λ (p : Outline). Stands ms p × (is_shaped p.role p.locators p.authorities ≡ true)) (same_value h.1) (outline_to ms s.0 s.1, h.0),
+  λ h. rw (
+    (name_agrees ms o.name).1 (h.0.name, h.0.word),
+    (role_agrees ms o.role).1 h.0.kind,
+    (locators_agree key.Locators ms o.locators).1 h.0.locators,
+    (authorities_agree o.role ms o.authorities).1 h.0.authorities,
+    h.1,
+  )
+      refl,
+)

@@ -1,13 +1,11 @@
 -- How a configuration is written: one table, and what stands at each of its keys.
-use Rattle.std.specs.Prelude.{◌≡◌, ℕ, Bool, true, false, List, [], ◌∷◌, map, Ok}
-use Rattle.std.specs.List.{AllByRecursion}
+use Rattle.std.specs.Prelude.{ℕ, List, [], ◌∷◌, map}
+use Rattle.std.specs.List.{All}
 use Rattle.std.specs.Ordering.{nat_cmp, match_ordering}
 use Rattle.std.specs.Cmp.Lexicographic.{slice_cmp}
 use Rattle.toml.specs.Data.{Data, Items, no_items, item, Members, no_members, member, string, array, table}
 use Rattle.ddt_path.specs.declared.locator.Locator.{Locator}
-use Rattle.ddt_path.specs.declared.record.Role.{Role}
-use Rattle.ddt_path.specs.declared.record.Role.TheVariants.{Node, Ms}
-use Rattle.ddt_text.specs.FirstFault.{locator_in, prefix_in}
+use Rattle.ddt_text.specs.Grammar.{SpellsLocator, SpellsPrefix}
 use Rattle.ddt_text.specs.Written.{written_locator, written_prefix}
 use Rattle.ddt_config.specs.declared.child.Child.{Child}
 use Rattle.ddt_config.specs.declared.site_entry.SiteEntry.{SiteEntry}
@@ -16,7 +14,7 @@ use Rattle.ddt_config.specs.declared.authority.Content.TheVariants.{Children, Si
 use Rattle.ddt_config.specs.declared.authority.Authority.{Authority}
 use Rattle.ddt_config.specs.declared.fault.Key.{Key}
 use Rattle.ddt_config.specs.declared.fault.Key.TheVariants as key
-use Rattle.ddt_config.specs.Table.{Outline, key_text, role_text, child_in, site_in, authority_in}
+use Rattle.ddt_config.specs.Table.{Outline, key_text, role_text}
 
 -- ---- what is written
 
@@ -76,39 +74,23 @@ written_config c =
     ∷ (key.Name, string c.name)
     ∷ [])
 
--- ---- and that it is read as what it was written for
+-- ---- and that its texts spell what they are written for
 
--- the text of a prefix
-abbrev pub PrefixComesBack : List ℕ → Type 0
-PrefixComesBack p = prefix_in (written_prefix p) ≡ Ok p
+abbrev pub AreLocatorsSpelled : List Locator → Type 0
+AreLocatorsSpelled ls = All (λ l. SpellsLocator (written_locator l) l) ls
 
--- the text of each locator
-abbrev pub LocatorsComeBack : List Locator → Type 0
-LocatorsComeBack ls = AllByRecursion (λ l. locator_in (written_locator l) ≡ Ok l) ls
+abbrev pub IsChildSpelled : Child → Type 0
+IsChildSpelled c = SpellsPrefix (written_prefix c.prefix) c.prefix × AreLocatorsSpelled c.locators
 
--- the table of a child, of a site
-abbrev pub ChildComesBack : Child → Type 0
-ChildComesBack c = child_in (written_child c) ≡ Ok c
+abbrev pub IsSiteSpelled : SiteEntry → Type 0
+IsSiteSpelled s = SpellsPrefix (written_prefix s.prefix) s.prefix × AreLocatorsSpelled s.etrs
 
-abbrev pub SiteComesBack : SiteEntry → Type 0
-SiteComesBack s = site_in (written_site s) ≡ Ok s
+abbrev pub IsContentSpelled : Content → Type 0
+IsContentSpelled (Children cs) = All IsChildSpelled cs
+IsContentSpelled (Sites ss) = All IsSiteSpelled ss
 
--- children for a DDT node, sites for a Map-Server
-abbrev pub is_content_for : Role → Content → Bool
-is_content_for Node (Children cs) = true
-is_content_for Ms (Sites ss) = true
-is_content_for Node (Sites ss) = false
-is_content_for Ms (Children cs) = false
-
--- the table of an authority, by the reader of servers of its kind
-abbrev pub AuthorityComesBack : Authority → Type 0
-AuthorityComesBack a =
-    (role : Role) → is_content_for role a.content ≡ true → authority_in role (written_authority a) ≡ Ok a
-
--- the table of each child or site in an authority
-abbrev pub ContentComesBack : Content → Type 0
-ContentComesBack (Children cs) = AllByRecursion ChildComesBack cs
-ContentComesBack (Sites ss) = AllByRecursion SiteComesBack ss
+abbrev pub IsAuthoritySpelled : Authority → Type 0
+IsAuthoritySpelled a = SpellsPrefix (written_prefix a.prefix) a.prefix × IsContentSpelled a.content
 
 -- ---- one step of the writers
 

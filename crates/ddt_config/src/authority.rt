@@ -6,7 +6,7 @@ ghost use Rattle.toml.specs.Data.{table};
 ghost use Rattle.toml.specs.View.{view};
 ghost use Rattle.ddt_config.specs.Table.{authority_in};
 ghost use Rattle.ddt_config.specs.Reading.{authority_fits};
-ghost use Rattle.ddt_config.specs.Writing.{written_authority, content_data, content_key as content_key_of, ContentComesBack, AuthorityComesBack};
+ghost use Rattle.ddt_config.specs.Writing.{written_authority, content_data, content_key as content_key_of, IsContentSpelled, IsAuthoritySpelled};
 
 use crate::child::{Child, ChildDraft};
 use crate::entry::{Entry, entries_at, settle_each};
@@ -109,7 +109,7 @@ impl Entry for AuthorityDraft {
 impl Written for Authority {
     ghost written = { λ a. table (written_authority a) };
 
-    ghost comes_back = { AuthorityComesBack };
+    ghost is_spelled = { IsAuthoritySpelled };
 
     fn write(&self, alloc: Global) -> Result<Value, AllocError> {
         let mut table = Table::new(alloc);
@@ -132,7 +132,7 @@ fn content_key(content: &Content) -> Key
 
 fn content_value(alloc: Global, content: &Content) -> Result<Value, AllocError>
     ensures written { IfOk result (λ v. view v ≡ content_data content.now) }
-    ensures back { OnOk result (ContentComesBack content.now) }
+    ensures spelled { OnOk result (IsContentSpelled content.now) }
 {
     match content {
         Content::Children(children) => array_value(alloc, children.as_slice()),

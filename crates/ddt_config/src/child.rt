@@ -3,7 +3,7 @@
 ghost use Rattle.toml.specs.Data.{table};
 ghost use Rattle.ddt_config.specs.Table.{child_in};
 ghost use Rattle.ddt_config.specs.Reading.{child_fits};
-ghost use Rattle.ddt_config.specs.Writing.{written_child, ChildComesBack};
+ghost use Rattle.ddt_config.specs.Writing.{written_child, IsChildSpelled};
 
 use crate::entry::Entry;
 use crate::fault::{ConfigFault, Key};
@@ -88,7 +88,7 @@ impl Entry for ChildDraft {
 impl Written for Child {
     ghost written = { λ c. table (written_child c) };
 
-    ghost comes_back = { ChildComesBack };
+    ghost is_spelled = { IsChildSpelled };
 
     fn write(&self, alloc: Global) -> Result<Value, AllocError> {
         let mut table = Table::new(alloc);

@@ -69,7 +69,7 @@ impl Draft {
 }
 
 impl ServerConfig {
-    ghost use Rattle.std.specs.Prelude.{◌≢◌, false, Ok, Err, IfOk, IfErr, OnOk};
+    ghost use Rattle.std.specs.Prelude.{◌≢◌, Ok, Err, IfOk, IfErr, OnOk};
     ghost use Rattle.toml.specs.View.{table_view};
     ghost use Rattle.ddt_config.specs.Table.{outline, with_shape, config_in};
     ghost use Rattle.ddt_config.specs.Writing.{written_config};
@@ -81,7 +81,9 @@ impl ServerConfig {
     {
         let locators = draft.locators.as_slice();
         let authorities = draft.authorities.as_slice();
-        ServerConfig::judged(is_shaped(alloc, draft.role, locators, authorities)?)?;
+        if !is_shaped(alloc, draft.role, locators, authorities)? {
+            return Err(ConfigFault::Shape);
+        }
         let authorities = settle_each(alloc, authorities)?;
         Ok(ServerConfig {
             name: draft.name,
@@ -89,18 +91,6 @@ impl ServerConfig {
             locators: LocatorSet::of_few(locators),
             authorities,
         })
-    }
-
-    /// Refused as 4 Shape where the test of the shape failed.
-    fn judged(shaped: bool) -> Result<(), ConfigFault>
-        ensures passed { OnOk result (shaped ≡ true) }
-        ensures refused { IfErr result (λ fault. (fault ≡ ConfigFault.Shape) × (shaped ≡ false)) }
-    {
-        if shaped {
-            Ok(())
-        } else {
-            Err(ConfigFault::Shape)
-        }
     }
 
     /// The table of the configuration.

@@ -2,10 +2,11 @@
 
 ghost use Rattle.std.specs.Prelude.{◌≡◌, map};
 ghost use Rattle.std.specs.List.{list_all};
+ghost use Rattle.std.specs.Option.{option_map};
 ghost use Rattle.toml.specs.Data.{get_member};
 ghost use Rattle.toml.specs.View.{view, table_view};
 ghost use Rattle.ddt_reading.specs.Steps.{IsReadAs};
-ghost use Rattle.ddt_config.specs.Table.{key_text, each, of_kind, text_of, array_of, text_at as text_at_of, array_at as array_at_of, array_or_none as array_or_none_of, texts_at as texts_at_of, tables_at as tables_at_of, is_text_value, is_table_value, locator_of, name_in as name_of, role_in as role_of_table, role_of as role_of_text, path_in, locators_in};
+ghost use Rattle.ddt_config.specs.Table.{key_text, each, text_of, array_of, text_at as text_at_of, array_at as array_at_of, array_or_none as array_or_none_of, texts_at as texts_at_of, tables_at as tables_at_of, is_text_value, is_table_value, locator_of, name_in as name_of, role_in as role_of_table, role_of as role_of_text, path_in, locators_in};
 ghost use Rattle.ddt_config.specs.Reading.{Reads};
 
 use crate::fault::{ConfigFault, Key};
@@ -14,13 +15,10 @@ use ddt_text::{parse_locator, parse_prefix};
 use std::alloc::Global;
 use toml::{Table, Value};
 
-fn value_at<'t>(table: &'t Table, key: Key) -> Result<&'t Value, ConfigFault>
-    ensures { IsReadAs (λ v. view v.now) result (of_kind key (get_member (key_text key) (table_view table.now))) }
+fn value_at<'t>(table: &'t Table, key: Key) -> Option<&'t Value>
+    ensures { option_map (λ v. view v.now) result ≡ get_member (key_text key) (table_view table.now) }
 {
-    match table.get(key.text()) {
-        Some(value) => Ok(value),
-        None => Err(ConfigFault::Field(key)),
-    }
+    table.get(key.text())
 }
 
 fn text_in<'t>(value: &'t Value, key: Key) -> Result<&'t str, ConfigFault>
@@ -36,8 +34,8 @@ fn text_at<'t>(table: &'t Table, key: Key) -> Result<&'t str, ConfigFault>
     ensures { IsReadAs (λ t. t.now) result (text_at_of key (table_view table.now)) }
 {
     match value_at(table, key) {
-        Ok(value) => text_in(value, key),
-        Err(fault) => Err(fault),
+        Some(value) => text_in(value, key),
+        None => Err(ConfigFault::Field(key)),
     }
 }
 
@@ -54,8 +52,8 @@ fn array_at<'t>(table: &'t Table, key: Key) -> Result<&'t [Value], ConfigFault>
     ensures { IsReadAs (λ vs. map view vs.now) result (array_at_of key (table_view table.now)) }
 {
     match value_at(table, key) {
-        Ok(value) => array_in(value, key),
-        Err(fault) => Err(fault),
+        Some(value) => array_in(value, key),
+        None => Err(ConfigFault::Field(key)),
     }
 }
 
@@ -63,7 +61,7 @@ fn array_or_none<'t>(table: &'t Table, key: Key) -> Result<&'t [Value], ConfigFa
     ensures { IsReadAs (λ vs. map view vs.now) result (array_or_none_of key (get_member (key_text key)
         (table_view table.now))) }
 {
-    match table.get(key.text()) {
+    match value_at(table, key) {
         Some(value) => array_in(value, key),
         None => Ok(&[]),
     }

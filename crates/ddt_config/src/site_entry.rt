@@ -3,7 +3,7 @@
 ghost use Rattle.toml.specs.Data.{table};
 ghost use Rattle.ddt_config.specs.Table.{site_in};
 ghost use Rattle.ddt_config.specs.Reading.{site_fits};
-ghost use Rattle.ddt_config.specs.Writing.{written_site, SiteComesBack};
+ghost use Rattle.ddt_config.specs.Writing.{written_site, IsSiteSpelled};
 
 use crate::entry::Entry;
 use crate::fault::{ConfigFault, Key};
@@ -79,7 +79,7 @@ impl Entry for SiteDraft {
 impl Written for SiteEntry {
     ghost written = { λ s. table (written_site s) };
 
-    ghost comes_back = { SiteComesBack };
+    ghost is_spelled = { IsSiteSpelled };
 
     fn write(&self, alloc: Global) -> Result<Value, AllocError> {
         let mut table = Table::new(alloc);

@@ -1,14 +1,14 @@
 //! What is written at a key.
 
-ghost use Rattle.std.specs.Prelude.{◌≡◌, true, Ok, OnOk, IfOk, IsUtf8};
-ghost use Rattle.std.specs.List.{AllByRecursion};
+ghost use Rattle.std.specs.Prelude.{◌≡◌, true, OnOk, IfOk, IsUtf8};
+ghost use Rattle.std.specs.List.{All};
 ghost use Rattle.toml.specs.Data.{string, table as table_data};
 ghost use Rattle.toml.specs.View.{view, table_view};
 ghost use Rattle.ddt_path.specs.Names.{is_name};
-ghost use Rattle.ddt_text.specs.FirstFault.{locator_in};
+ghost use Rattle.ddt_text.specs.Grammar.{SpellsLocator, SpellsPrefix};
 ghost use Rattle.ddt_text.specs.Written.{written_locator, written_prefix};
 ghost use Rattle.ddt_config.specs.Table.{key_text, role_text};
-ghost use Rattle.ddt_config.specs.Writing.{inserted, written_each, PrefixComesBack};
+ghost use Rattle.ddt_config.specs.Writing.{inserted, written_each};
 
 use crate::fault::Key;
 use ddt_path::{Locator, Name, Prefix, Role};
@@ -16,26 +16,25 @@ use ddt_text::{write_locator, write_prefix};
 use std::alloc::{AllocError, Global};
 use toml::{Table, Value};
 
-/// What is written in an array, each as one value that is read as it.
+/// What is written in an array, each as one value whose texts spell it.
 pub trait Written {
     ghost use Rattle.toml.specs.Data.{Data};
 
     ghost written: { Self → Data };
 
-    ghost comes_back: { Self → Type 0 };
+    ghost is_spelled: { Self → Type 0 };
 
     fn write(&self, alloc: Global) -> Result<Value, AllocError>
         ensures written { IfOk result (λ v. view v ≡ written self.now) }
-        ensures back { OnOk result (comes_back self.now) };
+        ensures spelled { OnOk result (is_spelled self.now) };
 }
 
 impl Written for Locator {
     ghost written = { λ l. string (written_locator l) };
 
-    ghost comes_back = { λ l. locator_in (written_locator l) ≡ Ok l };
+    ghost is_spelled = { λ l. SpellsLocator (written_locator l) l };
 
     fn write(&self, alloc: Global) -> Result<Value, AllocError> {
-        let _width = self.width();
         let mut text = Vec::new(alloc);
         write_locator(&mut text, *self)?;
         Ok(text_value(text))
@@ -45,7 +44,7 @@ impl Written for Locator {
 /// The array of what is written of each.
 pub fn array_value<T: Written>(alloc: Global, items: &[T]) -> Result<Value, AllocError>
     ensures written { IfOk result (λ v. view v ≡ written_each T.written items.now) }
-    ensures back { OnOk result (AllByRecursion T.comes_back items.now) }
+    ensures spelled { OnOk result (All T.is_spelled items.now) }
 {
     let mut values = Vec::new(alloc);
     for item in items {
@@ -96,10 +95,10 @@ pub fn role_value(alloc: Global, role: Role) -> Result<Value, AllocError>
     }
 }
 
-/// The prefix as a text, which is read as the prefix.
+/// The prefix as a text, which spells it.
 pub fn prefix_value(alloc: Global, prefix: Prefix) -> Result<Value, AllocError>
     ensures written { IfOk result (λ v. view v ≡ string (written_prefix prefix)) }
-    ensures back { OnOk result (PrefixComesBack prefix) }
+    ensures spelled { OnOk result (SpellsPrefix (written_prefix prefix) prefix) }
 {
     let _form = prefix.form();
     let mut text = Vec::new(alloc);

@@ -13,9 +13,8 @@ use Rattle.ddt_reading.specs.Reader.{AreRead}
 use Rattle.ddt_reading.proofs.ReaderLemmas.{are_read}
 use Rattle.ddt_reading.proofs.StepLemmas.{bind_ok, guard_parts, ok_is}
 use Rattle.ddt_reading.proofs.ByteLemmas.{IsBetween, ◌beside◌, two_bytes, known_stands, IsBytes-drop, IsBytes-number}
-use Rattle.ddt_wire.proofs.AddressLaws.{address_is_bytes}
-use Rattle.ddt_wire.proofs.AddressesLaws.{addresses_are_bytes}
-use Rattle.ddt_wire.proofs.WrittenLaws.{eid_is_bytes}
+use Rattle.ddt_wire.proofs.AddressesLaws.{address_is_bytes, addresses_are_bytes}
+use Rattle.ddt_wire.proofs.EidLaws.{eid_is_bytes}
 use Rattle.ddt_ecm.specs.declared.fault.RequestFault.{RequestFault}
 use Rattle.ddt_ecm.specs.Checksum.{ones_sum}
 use Rattle.ddt_ecm.specs.Ipv4Header.{Ipv4Header, ipv4_fields}

@@ -11,7 +11,7 @@ use Rattle.ddt_reading.specs.Steps.{◌>>=◌, in_words, IsBytes}
 use Rattle.ddt_wire.specs.Address.{family_and_address, IsAddress, address_at}
 use Rattle.ddt_reading.proofs.StepLemmas.{bind_ok, words_ok, guard_ok, chosen, ok_is}
 use Rattle.ddt_reading.proofs.ByteLemmas.{HasFront, IsBetween, ◌followed_by◌, stands, known_stands, byte_stands, number_taken, front_taken, number_fits, IsBytes-drop, IsBytes-take}
-use Rattle.ddt_wire.proofs.AddressLaws.{address_takes, address_again}
+use Rattle.ddt_wire.proofs.AddressesLaws.{address_takes, address_again}
 use Rattle.ddt_wire.proofs.EidLaws.{plain_number, plain_long, not_lcaf, afi_some}
 use Rattle.ddt_ecm.specs.declared.fault.RequestFault.{RequestFault}
 use Rattle.ddt_ecm.specs.declared.fault.RequestFault.TheVariants as fault

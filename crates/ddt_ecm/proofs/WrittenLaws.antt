@@ -13,7 +13,7 @@ use Rattle.ddt_wire.specs.Address.{family_and_address, IsAddress}
 use Rattle.ddt_wire.specs.Eid.{SpellsEid, form_mask_len, written_eid, written_mask_len}
 use Rattle.ddt_reading.proofs.ByteLemmas.{◌beside◌, two_bytes, IsBytes-nil, IsBytes-number}
 use Rattle.ddt_wire.proofs.AddressesLaws.{addresses_spell}
-use Rattle.ddt_wire.proofs.WrittenLaws.{eid_spells}
+use Rattle.ddt_wire.proofs.EidLaws.{eid_spells}
 use Rattle.ddt_ecm.specs.Checksum.{ones_sum, complement}
 use Rattle.ddt_ecm.specs.Ipv4Header.{pseudo4, Ipv4Header, ipv4_fields, SpellsIpv4, ipv4_header, written_ipv4}
 use Rattle.ddt_ecm.specs.Ipv6Header.{pseudo6, Ipv6Header, ipv6_fields, SpellsIpv6, written_ipv6}

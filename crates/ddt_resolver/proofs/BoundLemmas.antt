@@ -11,7 +11,7 @@ use Rattle.ddt_path.specs.declared.record.ReferralRecord.{ReferralRecord}
 use Rattle.ddt_path.specs.Path.{xeid_path, is_path}
 use Rattle.ddt_path.proofs.CoverLemmas.{length-covered}
 use Rattle.ddt_wire.specs.Referral.{Message, Spells, message_record}
-use Rattle.ddt_wire.proofs.WrittenLaws.{messages_are_read}
+use Rattle.ddt_wire.proofs.MessageLaws.{messages_are_read}
 use Rattle.ddt_resolver.specs.declared.pending.Pending.{Pending}
 use Rattle.ddt_resolver.specs.declared.answers.Outgoing.{Outgoing}
 use Rattle.ddt_resolver.specs.declared.answers.Asked.{Asked}

@@ -1,37 +1,66 @@
--- The addresses that are left of a datagram, one by one; and those that are written.
-use Rattle.std.proofs.Common.{◌≡◌, ℕ, suc, ◌-◌, ◌+◌, ◌<◌, true, List, [], ◌∷◌, ◌++◌, length, take, drop, get_or, All, Result, Ok, Err, refl, sym, ap, ◌∙◌, arith, append_assoc}
+-- Reading addresses one after the other, as a loop does; those that are left of a datagram, one by one; and those that
+-- are written.
+use Rattle.std.proofs.Common.{◌≡◌, ℕ, suc, ◌-◌, ◌+◌, ◌<◌, ◌≤◌, true, List, [], ◌∷◌, ◌++◌, length, take, drop, get_or, All, Result, Ok, Err, refl, sym, ap, ◌∙◌, arith, append_assoc}
 use Rattle.std.proofs.lemmas.List.{take_more, append-nil}
 use Rattle.std.proofs.lemmas.List.Elements.{All-push}
 use Rattle.std.proofs.lemmas.List.Concat.{flat_map-append, flat_map-cons}
 use Rattle.std.specs.Prelude.{is_ok}
 use Rattle.std.specs.List.{flat_map}
-use Rattle.ddt_wire.specs.Address.{IsAddress}
 use Rattle.ddt_path.specs.declared.locator.Locator.{Locator}
-use Rattle.ddt_wire.specs.declared.address.AddressFault.{AddressFault}
 use Rattle.ddt_reading.specs.Steps.{◌>>=◌}
-use Rattle.ddt_wire.specs.Addresses.{behind_at, addresses_at, addresses_in, read_addresses}
+use Rattle.ddt_wire.specs.declared.address.AddressFault.{AddressFault}
+use Rattle.ddt_wire.specs.Address.{IsAddress}
+use Rattle.ddt_wire.specs.Addresses.{behind_at, addresses_at, addresses_in, read_addresses, StandsAfter}
+
+-- ---- a loop
+
+-- what was read before, and what is still read
+abbrev pub with_front : List Locator → Result (List Locator × List ℕ) AddressFault → Result (List Locator × List ℕ) AddressFault
+with_front front read = read >>= λ x. Ok (front ++ x.0, x.1)
+
+regroup : (front : List Locator) (l : Locator) (read : Result (List Locator × List ℕ) AddressFault) → with_front front (read >>= λ x. Ok (l ∷ x.0, x.1)) ≡ with_front (front ++ l ∷ []) read
+regroup front l (Ok x) = ap (λ (ls : List Locator). Ok (ls, x.1)) (simp append_assoc)
+regroup front l (Err f) = refl
+
+-- with some locators read, so many are still to be read of the rest, and together they are those of all the bytes
+abbrev pub IsReadSoFar : ℕ → ℕ → List ℕ → ℕ → List ℕ → Type 0
+IsReadSoFar before count bytes left rest = (front : List Locator) × (with_front front (addresses_at before left rest) ≡ addresses_at before count bytes)
+
+pub goes_on : (before count i : ℕ) (bytes rest : List ℕ) (l : Locator) (taken : ℕ) → i < count → Ok (l, taken) ≡ behind_at before rest → IsReadSoFar before count bytes (count - i) rest → IsReadSoFar before count bytes (count - (i + 1)) (drop taken rest)
+unfolding addresses_at
+goes_on before count i bytes rest l taken lt e (front, so_far) =
+    let k : count - i ≡ suc (count - (i + 1)) = omega arith in
+    let one : with_front front (addresses_at before (count - i) rest) ≡ with_front (front ++ l ∷ []) (addresses_at before (count - (i + 1)) (drop taken rest)) = rw (k, ← e) (regroup front l (addresses_at before (count - (i + 1)) (drop taken rest))) in
+    (front ++ l ∷ [], sym one ∙ so_far)
+
+pub ends : (before count i : ℕ) (bytes rest : List ℕ) (f : AddressFault) → i < count → Err f ≡ behind_at before rest → IsReadSoFar before count bytes (count - i) rest → addresses_at before count bytes ≡ Err f
+unfolding addresses_at
+ends before count i bytes rest f lt e (front, so_far) =
+    let k : count - i ≡ suc (count - (i + 1)) = omega arith in
+    let one : with_front front (addresses_at before (count - i) rest) ≡ Err f = rw (k, ← e) refl in
+    sym so_far ∙ one
+
+pub is_done : (before count i : ℕ) (bytes rest : List ℕ) → count ≤ i → IsReadSoFar before count bytes (count - i) rest → StandsAfter before count bytes rest
+unfolding addresses_at
+is_done before count i bytes rest le (front, so_far) =
+    let k : count - i ≡ 0 = omega arith in
+    let one : with_front front (addresses_at before (count - i) rest) ≡ Ok (front, rest) = rw k (ap (λ (ls : List Locator). Ok (ls, rest)) (append-nil front)) in
+    (front, sym so_far ∙ one)
+
+-- ---- those that are left
 
 pub none_left : (before left : ℕ) (bytes : List ℕ) (ls : List Locator) → left ≡ 0 → addresses_in before left bytes ≡ ls → ls ≡ []
 unfolding addresses_at
 none_left before left bytes ls e v = sym v ∙ ap (λ (k : ℕ). addresses_in before k bytes) e
 
-abbrev put_first : Locator → Result (List Locator × List ℕ) AddressFault → Result (List Locator × List ℕ) AddressFault
-put_first l read = read >>= λ o. Ok (l ∷ o.0, o.1)
-
-with_one : (l : Locator) (read : Result (List Locator × List ℕ) AddressFault) → is_ok (put_first l read) ≡ true → (read_addresses (put_first l read) ≡ l ∷ read_addresses read) × (is_ok read ≡ true)
+with_one : (l : Locator) (read : Result (List Locator × List ℕ) AddressFault) → is_ok (with_front (l ∷ []) read) ≡ true → (read_addresses (with_front (l ∷ []) read) ≡ l ∷ read_addresses read) × (is_ok read ≡ true)
 with_one l (Ok x) e = (refl, refl)
 with_one l (Err f) e = absurd cc
 
-unfolds : (before m : ℕ) (bytes : List ℕ) (l : Locator) (n : ℕ) → Ok (l, n) ≡ behind_at before bytes → addresses_at before (suc m) bytes ≡ put_first l (addresses_at before m (drop n bytes))
-unfolding addresses_at
-unfolds before m bytes l n e = rw (← e) refl
-
 one_of : (before m : ℕ) (bytes : List ℕ) (l : Locator) (n : ℕ) → Ok (l, n) ≡ behind_at before bytes → is_ok (addresses_at before (suc m) bytes) ≡ true
     → (addresses_in before (suc m) bytes ≡ l ∷ addresses_in before m (drop n bytes)) × (is_ok (addresses_at before m (drop n bytes)) ≡ true)
-one_of before m bytes l n e ok =
-    let u = unfolds before m bytes l n e in
-    let p = with_one l (addresses_at before m (drop n bytes)) (ap is_ok (sym u) ∙ ok) in
-    (ap read_addresses u ∙ p.0, p.1)
+unfolding addresses_at
+one_of before m bytes l n e ok = rw (← e) (with_one l (addresses_at before m (drop n bytes)) (rw (← e) at ok))
 
 -- the first address, and those after it
 pub next_of : (before left : ℕ) (bytes : List ℕ) (ls : List Locator) (l : Locator) (n : ℕ) (after : List ℕ) → (left ≡ 0 → ⊥) → Ok (l, n) ≡ behind_at before bytes → after ≡ drop n bytes

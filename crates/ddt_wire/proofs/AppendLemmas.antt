@@ -10,10 +10,6 @@ appended_after (Err _) old mid new x y p q = tt
 pub appended_more : (old mid new x y : List ℕ) → mid ≡ old ++ x → new ≡ mid ++ y → new ≡ old ++ (x ++ y)
 appended_more old mid new x y p q = q ∙ ap (λ (t : List ℕ). t ++ y) p ∙ append_assoc old x y
 
--- what a call that went well appended, in its own words
-pub appended : (old new x y : List ℕ) → new ≡ old ++ x → x ≡ y → new ≡ old ++ y
-appended old new x y p q = p ∙ ap (λ (t : List ℕ). old ++ t) q
-
 -- three parts, one after the other
 pub three_parts : (a b c : List ℕ) (x y z : List ℕ) → x ≡ a → y ≡ x ++ b → z ≡ y ++ c → z ≡ a ++ b ++ c
 three_parts a b c x y z e f g = g ∙ ap (λ (t : List ℕ). t ++ c) (f ∙ ap (λ (t : List ℕ). t ++ b) e)

@@ -1,24 +1,29 @@
--- An EID that is read is spelled so, and what is spelled is read again.
-use Rattle.std.proofs.Common.{◌≡◌, ℕ, ◌+◌, ◌^◌, ◌<◌, ◌≤◌, Bool, true, false, cond, ltb, eqb, List, ◌++◌, length, drop, Result, Ok, Err, refl, sym, ap, subst, ◌∙◌, arith, inl, inr, length-append}
-use Rattle.std.specs.Prelude.{◌||◌, not, slice_index}
+-- An EID that is read is spelled so, what is spelled is read again, and what is written spells its prefix.
+use Rattle.std.proofs.Common.{◌≡◌, ℕ, zero, suc, ◌+◌, ◌^◌, ◌<◌, ◌≤◌, Bool, true, false, cond, ltb, eqb, List, [], ◌∷◌, ◌++◌, length, take, drop, Result, Ok, Err, refl, sym, ap, subst, ◌∙◌, arith, inl, inr, length-append}
+use Rattle.std.specs.Prelude.{◌||◌, ◌↔◌, not, slice_index, IfOk}
+use Rattle.std.specs.Result.{IsErr}
+use Rattle.std.proofs.Math.Dec.{eqb-suc-zero}
 use Rattle.std.specs.Int.{w16, w32, to_be_bytes}
 use Rattle.std.proofs.lemmas.Bool.{ltb-false, le-ltb, eqb-true, not-false}
 use Rattle.byteorder.specs.Endian.{big_number}
 use Rattle.byteorder.specs.Numbers.{big_number-reads_back}
 use Rattle.ddt_path.specs.declared.locator.Locator.{Locator}
 use Rattle.ddt_path.specs.declared.locator.Locator.TheVariants.{V4, V6}
+use Rattle.ddt_path.specs.declared.form.Form.{Form}
 use Rattle.ddt_path.specs.declared.form.Form.TheVariants.{Range, Block}
 use Rattle.ddt_path.specs.declared.form.PrefixFault.{PrefixFault}
 use Rattle.ddt_path.specs.declared.form.PrefixFault.TheVariants as prefix_fault
-use Rattle.ddt_path.specs.Path.{path, digits, are_zero, address_width, prefix_of}
+use Rattle.ddt_path.specs.Path.{path, digits, are_zero, address_width, prefix_of, IsForm}
 use Rattle.ddt_wire.specs.declared.eid.EidFault.{EidFault}
 use Rattle.ddt_wire.specs.declared.eid.EidFault.TheVariants.{Short, Lcaf, MaskLength}
 use Rattle.ddt_reading.specs.Steps.{◌>>=◌, in_words, IsBytes}
 use Rattle.ddt_wire.specs.Address.{afi, family_and_address, IsAddress, address_at}
-use Rattle.ddt_wire.specs.Eid.{from_address, from_prefix, block_at, inside_at, lcaf_at, eid_at, has_length, instance_head, instance_lcaf, IsInstance, SpellsEid, Plain, Inside, Instances}
-use Rattle.ddt_reading.proofs.StepLemmas.{bind_ok, words_ok, guard_ok, held_ok, chosen, ok_is}
-use Rattle.ddt_reading.proofs.ByteLemmas.{HasFront, IsBetween, ◌followed_by◌, stands, number_stands, known_stands, byte_stands, known_byte, number_fits, IsBytes-drop}
-use Rattle.ddt_wire.proofs.AddressLaws.{address_takes, address_again}
+use Rattle.ddt_wire.specs.Eid.{from_address, from_prefix, block_at, inside_at, lcaf_at, eid_at, has_length, instance_head, instance_lcaf, IsInstance, SpellsEid, Plain, Inside, Instances, written_form, form_mask_len, written_eid, written_mask_len}
+use Rattle.ddt_wire.specs.Laws.{IsPrefix}
+use Rattle.ddt_reading.proofs.StepLemmas.{bind_ok, words_ok, guard_ok, held_ok, chosen, ok_is, err_not_ok, err_unless}
+use Rattle.ddt_reading.proofs.ByteLemmas.{HasFront, HasFront-take, HasFront-fits, IsBetween, ◌followed_by◌, stands, number_stands, known_stands, byte_stands, known_byte, number_fits, IsBytes-drop, IsBytes-number, ◌beside◌, two_bytes}
+use Rattle.ddt_wire.proofs.AddressesLaws.{address_takes, address_again, address_is_bytes}
+use Rattle.ddt_wire.proofs.EidLemmas.{form_of-named}
 
 -- ---- what is read is spelled so
 
@@ -257,3 +262,59 @@ pub eid_some : (mask : ℕ) (eid p : List ℕ) → SpellsEid mask eid p → 2 �
 eid_some mask eid p (Plain a fits le is value) = rw is (omega arith)
 eid_some mask eid p (Inside r f m iid a h fits le is value) = rw is (omega arith)
 eid_some mask eid p (Instances r f len iid h le zeros is value) = rw is (omega arith)
+
+-- ---- written
+
+no_flags : (mask iid : ℕ) → mask < 256 → iid < 2 ^ 32 → IsInstance 0 0 mask iid
+no_flags mask iid m i = record { reserved_fits = omega arith; flags_fits = omega arith; mask_fits = m; iid_fits = i }
+
+form_spells : (form : Form) → IsForm form → SpellsEid (form_mask_len form) (written_form form) (path form)
+form_spells (Range iid len) h = Instances 0 0 len iid (no_flags len iid (omega (arith, h.1)) h.0) h.1 h.2 refl refl
+form_spells (Block zero a len) h = Plain a h.1 h.2 refl refl
+form_spells (Block (suc n) a len) h = Inside 0 0 0 (suc n) a (no_flags 0 (suc n) (omega arith) h.0) h.1 h.2 (rw (eqb-suc-zero n) refl) refl
+
+pub eid_spells : (p : List ℕ) → IsPrefix p → SpellsEid (written_mask_len p) (written_eid p) p
+eid_spells p (form, h, e) = rw (form_of-named p form e h) (subst (λ (q : List ℕ). SpellsEid (form_mask_len form) (written_form form) q) e (form_spells form h))
+
+mask_small : (form : Form) → IsForm form → form_mask_len form < 256
+mask_small (Range iid len) h = omega arith
+mask_small (Block iid (V4 a) len) h = omega (arith, h.2)
+mask_small (Block iid (V6 a) len) h = omega (arith, h.2)
+
+pub mask_len_fits : (p : List ℕ) → IsPrefix p → written_mask_len p < 256
+mask_len_fits p (form, h, e) = rw (form_of-named p form e h) (mask_small form h)
+
+-- ---- only bytes, and the laws
+
+pub four : (a b c d : ℕ) → a < 256 → b < 256 → c < 256 → d < 256 → IsBytes (a ∷ b ∷ c ∷ d ∷ [])
+four a b c d ha hb hc hd = two_bytes a b ha hb beside two_bytes c d hc hd
+
+lcaf_is_bytes : (r f m iid : ℕ) (inner : List ℕ) → IsInstance r f m iid → IsBytes inner → IsBytes (instance_lcaf r f m iid inner)
+lcaf_is_bytes r f m iid inner h i =
+    IsBytes-number 2 16387 beside four r f 2 m h.reserved_fits h.flags_fits (omega arith) h.mask_fits
+    beside IsBytes-number 2 (4 + length inner) beside IsBytes-number 4 iid beside i
+
+pub eid_is_bytes : (mask : ℕ) (bytes p : List ℕ) → SpellsEid mask bytes p → IsBytes bytes
+eid_is_bytes mask bytes p (Plain a fits le is value) = subst IsBytes (sym is) (address_is_bytes a)
+eid_is_bytes mask bytes p (Inside r f m iid a h fits le is value) = subst IsBytes (sym is) (lcaf_is_bytes r f m iid (family_and_address a) h (address_is_bytes a))
+eid_is_bytes mask bytes p (Instances r f len iid h le zeros is value) = subst IsBytes (sym is) (lcaf_is_bytes r f len iid (to_be_bytes w16 0) h (IsBytes-number 2 0))
+
+pub one_eid : (mask : ℕ) (bytes p q : List ℕ) → SpellsEid mask bytes p → SpellsEid mask bytes q → p ≡ q
+one_eid mask bytes p q a b = ap (λ (x : List ℕ × ℕ). x.0) (ok_is {E = EidFault} (p, length bytes) (q, length bytes) (sym (eid_again mask bytes p [] a) ∙ eid_again mask bytes q [] b))
+
+pub eid_faults : (mask : ℕ) (bytes : List ℕ) → IsBytes bytes → IsErr (eid_at mask bytes) ↔ ((eid rest p : List ℕ) → SpellsEid mask eid p → bytes ≡ eid ++ rest → ⊥)
+eid_faults mask bytes fits = (
+  λ e eid rest p s is. err_not_ok (eid_at mask bytes) (p, length eid) e (ap (eid_at mask) is ∙ eid_again mask eid p rest s),
+  λ n. err_unless (eid_at mask bytes) (λ x e. let t = eid_takes mask bytes x fits e in n t.0 (drop x.1 bytes) x.0 t.2 t.1.parts),
+)
+
+-- what was read is spelled by the front
+pub eid_taken : (mask : ℕ) (bytes p : List ℕ) (taken : ℕ) → IsBytes bytes → eid_at mask bytes ≡ Ok (p, taken) → SpellsEid mask (take taken bytes) p × (taken ≤ length bytes)
+eid_taken mask bytes p taken fits e =
+    let t = eid_takes mask bytes (p, taken) fits e in
+    (subst (λ (text : List ℕ). SpellsEid mask text p) (sym (HasFront-take bytes t.0 taken t.1)) t.2, HasFront-fits bytes t.0 taken t.1)
+
+-- what was read of a slice
+pub eid_found : (mask : ℕ) (bytes : List ℕ) (r : Result (List ℕ × ℕ) EidFault) → IsBytes bytes → r ≡ eid_at mask bytes → IfOk r (λ x. SpellsEid mask (take x.1 bytes) x.0 × (x.1 ≤ length bytes))
+eid_found mask bytes (Ok x) fits e = eid_taken mask bytes x.0 x.1 fits (sym e)
+eid_found mask bytes (Err d) fits e = tt

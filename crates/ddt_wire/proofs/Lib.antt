@@ -1,11 +1,7 @@
 pub mod AppendLemmas
 pub mod EidLemmas
-pub mod AddressLoop
 pub mod AddressesLemmas
-pub mod AddressLaws
-pub mod EidLaws
 pub mod AddressesLaws
+pub mod EidLaws
 pub mod HeadLaws
 pub mod MessageLaws
-pub mod WrittenLaws
-pub mod ReplyLaws

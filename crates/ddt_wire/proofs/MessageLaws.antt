@@ -1,26 +1,39 @@
--- A Map-Referral that is read is spelled so, and what is spelled is read again.
-use Rattle.std.proofs.Common.{◌≡◌, ℕ, zero, suc, ◌+◌, ◌*◌, ◌/◌, ◌%◌, ◌^◌, ◌<◌, ◌≤◌, Bool, true, false, cond, eqb, List, [], ◌++◌, length, drop, Option, Some, None, Ok, Err, refl, sym, ap, subst, ◌∙◌, arith, length-append, append_assoc}
-use Rattle.std.proofs.lemmas.Bool.{eqb-true}
-use Rattle.std.proofs.lemmas.List.{append-nil, nil_from_length, drop-drop}
+-- A Map-Referral or a negative Map-Reply that is read is spelled so, what is spelled is read again, and what is written
+-- spells what was to be written.
+use Rattle.std.proofs.Common.{◌≡◌, ℕ, zero, suc, ◌+◌, ◌*◌, ◌/◌, ◌%◌, ◌^◌, ◌<◌, ◌≤◌, Bool, true, false, cond, eqb, List, [], ◌++◌, length, drop, Option, Some, None, Ok, Err, refl, sym, ap, subst, ◌∙◌, arith, length-append, length-drop, append_assoc}
+use Rattle.std.specs.Prelude.{not}
+use Rattle.std.specs.List.{flat_map}
+use Rattle.std.proofs.lemmas.Bool.{eqb-true, eq-eqb, not-false}
+use Rattle.std.proofs.lemmas.List.{append-nil, nil_from_length, drop-drop, drop_all, take_all}
 use Rattle.std.proofs.Math.Seq.{drop-append_seam}
 use Rattle.ddt_path.specs.declared.locator.Locator.{Locator}
 use Rattle.ddt_path.specs.declared.action.Action.{Action}
 use Rattle.ddt_path.specs.Actions.{number, action_of}
+use Rattle.ddt_path.specs.Locators.{most_locators}
+use Rattle.ddt_path.specs.declared.record.ReferralRecord.{ReferralRecord}
 use Rattle.ddt_path.proofs.ActionLemmas.{number_of, action_again, number-le}
 use Rattle.ddt_wire.specs.declared.head.Head.{Head}
 use Rattle.ddt_wire.specs.declared.fault.ReferralFault.{ReferralFault}
 use Rattle.ddt_wire.specs.declared.fault.ReferralFault.TheVariants as fault
+use Rattle.ddt_wire.specs.declared.negative_reply.NegativeReply.{NegativeReply}
+use Rattle.ddt_wire.specs.declared.negative_reply.ReplyFault.{ReplyFault}
+use Rattle.ddt_wire.specs.declared.negative_reply.ReplyFault.TheVariants as reply_fault
 use Rattle.ddt_reading.specs.Steps.{in_words, IsBytes}
+use Rattle.ddt_reading.specs.Reader.{AreRead}
 use Rattle.ddt_wire.specs.Head.{head_bytes, IsHead, action_number, head_at}
-use Rattle.ddt_wire.specs.Eid.{eid_at}
+use Rattle.ddt_wire.specs.Eid.{eid_at, written_eid, written_mask_len}
 use Rattle.ddt_wire.specs.Addresses.{addresses_at}
-use Rattle.ddt_wire.specs.LocatorRecord.{from_address, locators_at}
-use Rattle.ddt_wire.specs.Referral.{Message, Ignored, Spells, bit, flags_of, message_head, from_head, from_eid, action_or_fault, action_in, message_with, message_in}
-use Rattle.ddt_reading.proofs.StepLemmas.{bind_ok, bind_parts, words_ok, held_ok, ok_is}
-use Rattle.ddt_reading.proofs.ByteLemmas.{IsBetween, ◌followed_by◌, stands, IsBytes-drop}
-use Rattle.ddt_wire.proofs.HeadLaws.{BeginsWith, head_takes, head_again}
-use Rattle.ddt_wire.proofs.EidLaws.{IsEid, eid_takes, eid_again, eid_some}
-use Rattle.ddt_wire.proofs.AddressesLaws.{AreAddresses, addresses_take, addresses_again}
+use Rattle.ddt_wire.specs.LocatorRecord.{from_address, locators_at, before_written, written_locator}
+use Rattle.ddt_wire.specs.Referral.{Message, Ignored, Spells, bit, flags_of, message_head, from_head, from_eid, action_or_fault, action_in, message_with, message_in, written, message_of, message_record}
+use Rattle.ddt_wire.specs.NegativeReply as reply
+use Rattle.ddt_wire.specs.NegativeReply.{reply_head, SpellsReply, written_reply, reply_of, reply_in}
+use Rattle.ddt_wire.specs.Laws.{IsRecord, IsReply}
+use Rattle.ddt_reading.proofs.ReaderLemmas.{are_read}
+use Rattle.ddt_reading.proofs.StepLemmas.{bind_ok, bind_parts, guard_parts, words_ok, held_ok, ok_is}
+use Rattle.ddt_reading.proofs.ByteLemmas.{IsBetween, ◌followed_by◌, stands, IsBytes-drop, IsBytes-number, ◌beside◌}
+use Rattle.ddt_wire.proofs.HeadLaws.{BeginsWith, head_takes, head_again, head_is_bytes}
+use Rattle.ddt_wire.proofs.EidLaws.{IsEid, eid_takes, eid_again, eid_some, eid_spells, eid_is_bytes, mask_len_fits, four}
+use Rattle.ddt_wire.proofs.AddressesLaws.{AreAddresses, addresses_take, addresses_again, addresses_spell, addresses_are_bytes}
 
 -- ---- the flags
 
@@ -179,3 +192,128 @@ message_again bytes v s =
     ap message_in regrouped
     ∙ message_read (front ++ tail) h v.action v.prefix (length s.eid) v.locators begins action (eid_again s.mask s.eid v.prefix s.locators s.spells_eid) locators
     ∙ ap (λ (m : Message). Ok m) (message_back i s.mask v)
+
+-- ---- only bytes, the laws, and what is written
+
+pub message_is_bytes : (bytes : List ℕ) (v : Message) → Spells bytes v → IsBytes bytes
+message_is_bytes bytes v s =
+    let head = head_is_bytes 6 s.ignored.reserved (head_spelled s.ignored s.mask v) (head_fits bytes v s) in
+    subst IsBytes (sym s.whole) (head beside eid_is_bytes s.mask s.eid v.prefix s.spells_eid beside addresses_are_bytes 6 v.locators s.locators s.spells_locators)
+
+pub messages_are_read : AreRead IsBytes Spells message_in
+messages_are_read = are_read message_again message_takes message_is_bytes
+
+before_is_bytes : IsBytes before_written
+before_is_bytes = four 1 100 255 0 (omega arith) (omega arith) (omega arith) (omega arith) beside IsBytes-number 2 1
+
+pub written_spells : (nonce : ℕ) (r : ReferralRecord) → IsRecord nonce r → Spells (written nonce r) (message_of nonce r)
+written_spells nonce r h =
+    let none : Ignored = record { reserved = 0; authoritative = true; flags = 0; version = 0; reserved_fits = omega arith; flags_fits = omega arith; version_fits = omega arith } in
+    record {
+      ignored = none;
+      mask = written_mask_len r.prefix;
+      eid = written_eid r.prefix;
+      locators = flat_map written_locator r.servers;
+      nonce_fits = h.nonce_fits;
+      ttl_fits = h.ttl_fits;
+      mask_fits = mask_len_fits r.prefix h.prefix_is;
+      count_fits = omega (arith, h.count_fits);
+      spells_eid = eid_spells r.prefix h.prefix_is;
+      spells_locators = addresses_spell before_written r.servers before_is_bytes h.servers_fit;
+      whole = refl;
+    }
+
+pub record_back : (nonce : ℕ) (r : ReferralRecord) → length r.servers ≤ most_locators → message_record (message_of nonce r) ≡ r
+record_back nonce r few =
+    ap (λ (ls : List Locator). record r { servers = ls }) (take_all most_locators r.servers few)
+
+-- ---- a negative Map-Reply that is read is spelled so
+
+reply_head_back : (h : Head) (p : List ℕ) → h.locators ≡ 0 → action_number h ≡ 1 → reply_head h.mask_len (h.flags % 2 ^ 13) h.version (reply_of h.nonce h.ttl p) ≡ h
+reply_head_back h p none act =
+    let flags_ : 2 ^ 13 + h.flags % 2 ^ 13 ≡ h.flags = omega (arith, act) in
+    ap (λ (k : ℕ). record h { locators = 0; flags = k }) flags_ ∙ ap (λ (k : ℕ). record h { locators = k }) (sym none)
+
+-- a datagram of which the head and the EID were read
+reply_spelled : (bytes : List ℕ) (h : Head) (p : List ℕ) (n : ℕ) → BeginsWith 2 bytes h → h.locators ≡ 0 → action_number h ≡ 1 → IsEid h.mask_len (drop 22 bytes) p n → n ≡ length (drop 22 bytes)
+    → SpellsReply bytes (reply_of h.nonce h.ttl p)
+reply_spelled bytes h p n b none act (text, t, s) all =
+    let i : reply.Ignored = record { reserved = b.ignored; flags = h.flags % 2 ^ 13; version = h.version; reserved_fits = b.ignored_fits; flags_fits = omega arith; version_fits = b.fits.version_fits } in
+    let front = head_bytes 2 b.ignored (reply_head h.mask_len i.flags i.version (reply_of h.nonce h.ttl p)) in
+    let one : IsBetween bytes 0 front 22 = subst (λ (x : Head). IsBetween bytes 0 (head_bytes 2 b.ignored x) 22) (sym (reply_head_back h p none act)) b.stands in
+    let two = one followed_by stands bytes text 22 n t in
+    let nothing : drop (22 + n) bytes ≡ [] = drop_all (22 + n) bytes (omega (arith, all, length-drop 22 bytes)) in
+    record {
+      ignored = i;
+      mask = h.mask_len;
+      eid = text;
+      nonce_fits = b.fits.nonce_fits;
+      ttl_fits = b.fits.ttl_fits;
+      mask_fits = b.fits.mask_fits;
+      spells_eid = s;
+      whole = two.is ∙ ap (λ (rest : List ℕ). (front ++ text) ++ rest) nothing ∙ append-nil (front ++ text);
+    }
+
+pub reply_takes : (bytes : List ℕ) (v : NegativeReply) → IsBytes bytes → reply_in bytes ≡ Ok v → SpellsReply bytes v
+unfolding reply_in
+reply_takes bytes v fits e =
+    bind_parts (in_words reply.from_head (head_at 2 bytes)) _ v e λ h read₁ e₁.
+    guard_parts (not (eqb h.locators 0)) _ _ v e₁ λ count e₂.
+    guard_parts (not (eqb (action_number h) 1)) _ _ v e₂ λ action e₃.
+    bind_parts (in_words reply.from_eid (eid_at h.mask_len (drop 22 bytes))) _ v e₃ λ eid read₂ e₄.
+    let f = held_ok (eqb eid.1 (length (drop 22 bytes))) reply_fault.Trailing (Ok (reply_of h.nonce h.ttl eid.0)) v e₄ in
+    let begins = head_takes 2 bytes h fits (words_ok reply.from_head (head_at 2 bytes) h read₁) in
+    let r = eid_takes h.mask_len (drop 22 bytes) eid (IsBytes-drop 22 bytes fits) (words_ok reply.from_eid (eid_at h.mask_len (drop 22 bytes)) eid read₂) in
+    let made = reply_spelled bytes h eid.0 eid.1 begins (eqb-true _ _ (not-false _ count)) (eqb-true _ _ (not-false _ action)) r (eqb-true _ _ f.0) in
+    subst (SpellsReply bytes) (ok_is {E = ReplyFault} (reply_of h.nonce h.ttl eid.0) v f.1) made
+
+-- ---- what is spelled is read again
+
+reply_read : (bytes : List ℕ) (h : Head) (p : List ℕ) (n : ℕ) → head_at 2 bytes ≡ Ok h → h.locators ≡ 0 → action_number h ≡ 1 → eid_at h.mask_len (drop 22 bytes) ≡ Ok (p, n) → n ≡ length (drop 22 bytes)
+    → reply_in bytes ≡ Ok (reply_of h.nonce h.ttl p)
+unfolding reply_in
+reply_read bytes h p n b none act e all =
+    let whole : eqb n (length (drop 22 bytes)) ≡ true = eq-eqb _ _ all in
+    rw (b, none, act, e, whole) refl
+
+reply_head_fits : (bytes : List ℕ) (v : NegativeReply) (s : SpellsReply bytes v) → IsHead (reply_head s.mask s.ignored.flags s.ignored.version v)
+reply_head_fits bytes v s = record {
+  nonce_fits = s.nonce_fits;
+  ttl_fits = s.ttl_fits;
+  locators_fit = omega arith;
+  mask_fits = s.mask_fits;
+  flags_fit = omega (arith, s.ignored.flags_fits);
+  version_fits = s.ignored.version_fits;
+}
+
+reply_act_again : (flags : ℕ) → flags < 2 ^ 13 → (2 ^ 13 + flags) / 2 ^ 13 ≡ 1
+reply_act_again flags h = omega arith
+
+pub reply_again : (bytes : List ℕ) (v : NegativeReply) → SpellsReply bytes v → reply_in bytes ≡ Ok v
+reply_again bytes v s =
+    let i = s.ignored in
+    let h = reply_head s.mask i.flags i.version v in
+    let front = head_bytes 2 i.reserved h in
+    let begins = head_again 2 i.reserved h s.eid (omega arith) i.reserved_fits (reply_head_fits bytes v s) (eid_some s.mask s.eid v.prefix s.spells_eid) in
+    let eid : eid_at s.mask s.eid ≡ Ok (v.prefix, length s.eid) = ap (eid_at s.mask) (sym (append-nil s.eid)) ∙ eid_again s.mask s.eid v.prefix [] s.spells_eid in
+    ap reply_in s.whole ∙ reply_read (front ++ s.eid) h v.prefix (length s.eid) begins refl (reply_act_again i.flags i.flags_fits) eid refl
+
+pub reply_is_bytes : (bytes : List ℕ) (v : NegativeReply) → SpellsReply bytes v → IsBytes bytes
+reply_is_bytes bytes v s =
+    let head = head_is_bytes 2 s.ignored.reserved (reply_head s.mask s.ignored.flags s.ignored.version v) (reply_head_fits bytes v s) in
+    subst IsBytes (sym s.whole) (head beside eid_is_bytes s.mask s.eid v.prefix s.spells_eid)
+
+pub replies_are_read : AreRead IsBytes SpellsReply reply_in
+replies_are_read = are_read reply_again reply_takes reply_is_bytes
+
+pub written_reply_spells : (v : NegativeReply) → IsReply v → SpellsReply (written_reply v) v
+written_reply_spells v h = record {
+  ignored = record { reserved = 0; flags = 0; version = 0; reserved_fits = omega arith; flags_fits = omega arith; version_fits = omega arith };
+  mask = written_mask_len v.prefix;
+  eid = written_eid v.prefix;
+  nonce_fits = h.nonce_fits;
+  ttl_fits = h.ttl_fits;
+  mask_fits = mask_len_fits v.prefix h.prefix_is;
+  spells_eid = eid_spells v.prefix h.prefix_is;
+  whole = refl;
+}

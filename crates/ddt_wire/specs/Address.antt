@@ -33,7 +33,7 @@ abbrev pub afi : Locator → ℕ
 afi (V4 a) = ipv4
 afi (V6 a) = ipv6
 
-abbrev pub address_bytes : Locator → List ℕ
+abbrev address_bytes : Locator → List ℕ
 address_bytes (V4 a) = to_be_bytes w32 a
 address_bytes (V6 a) = to_be_bytes w128 a
 

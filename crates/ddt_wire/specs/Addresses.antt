@@ -45,6 +45,10 @@ addresses_at before (suc n) bytes = do
   others ← addresses_at before n (drop first.1 bytes)
   Ok (first.0 ∷ others.0, others.1)
 
+-- these bytes stand after so many addresses
+abbrev pub StandsAfter : ℕ → ℕ → List ℕ → List ℕ → Type 0
+StandsAfter before n bytes rest = (addresses : List Locator) × (addresses_at before n bytes ≡ Ok (addresses, rest))
+
 -- the addresses that were read
 abbrev pub read_addresses : Result (List Locator × List ℕ) AddressFault → List Locator
 read_addresses (Ok x) = x.0

@@ -120,3 +120,11 @@ eid_at mask bytes =
     if nat_lt (length bytes) 2 then Err Short
     else if big_number 2 bytes == lcaf then lcaf_at mask bytes
     else block_at 0 mask bytes
+
+-- a fault in these words of a message
+abbrev pub eid_words : {E : Type 0} → E → E → E → E → E → EidFault → E
+eid_words short family lcaf mask tail Short = short
+eid_words short family lcaf mask tail EidFamily = family
+eid_words short family lcaf mask tail Lcaf = lcaf
+eid_words short family lcaf mask tail MaskLength = mask
+eid_words short family lcaf mask tail TailNotZero = tail

@@ -44,6 +44,12 @@ head_of bytes =
       version = big_number 2 (drop 20 bytes);
     }
 
+-- a fault in these words of a message
+abbrev pub head_words : {E : Type 0} → E → E → E → HeadFault → E
+head_words short type count Short = short
+head_words short type count MessageType = type
+head_words short type count RecordCount = count
+
 -- The head of a message of this type, up to the EID's AFI, which isn't cut; or the first fault.
 unfoldable pub head_at : ℕ → List ℕ → Result Head HeadFault
 head_at type bytes =

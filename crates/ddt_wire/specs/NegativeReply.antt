@@ -2,17 +2,15 @@
 -- section 5.4). What it says is a `NegativeReply`.
 use Rattle.std.specs.Prelude.{ℕ, ◌+◌, ◌*◌, ◌^◌, ◌<◌, ◌≡◌, ◌==◌, not, if◌then◌else◌, List, ◌++◌, length, drop, Result, Ok, Err}
 use Rattle.ddt_wire.specs.declared.eid.EidFault.{EidFault}
-use Rattle.ddt_wire.specs.declared.eid.EidFault.TheVariants as eid_fault
 use Rattle.ddt_wire.specs.declared.head.Head.{Head}
 use Rattle.ddt_wire.specs.declared.head.HeadFault.{HeadFault}
-use Rattle.ddt_wire.specs.declared.head.HeadFault.TheVariants as head_fault
 use Rattle.ddt_wire.specs.declared.negative_reply.NegativeReply.{NegativeReply}
 use Rattle.ddt_wire.specs.declared.negative_reply.ReplyFault.{ReplyFault}
 use Rattle.ddt_wire.specs.declared.negative_reply.ReplyFault.TheVariants as fault
 use Rattle.ddt_reading.specs.Steps.{◌>>=◌, in_words}
-use Rattle.ddt_wire.specs.Head.{head_bytes, act_place, action_number, head_at}
+use Rattle.ddt_wire.specs.Head.{head_bytes, act_place, action_number, head_words, head_at}
 use Rattle.ddt_wire.specs.MessageType.{map_reply}
-use Rattle.ddt_wire.specs.Eid.{SpellsEid, written_eid, written_mask_len, eid_at}
+use Rattle.ddt_wire.specs.Eid.{SpellsEid, written_eid, written_mask_len, eid_at, eid_words}
 
 -- ---- what spells a reply
 
@@ -26,7 +24,7 @@ pub record Ignored : Type 0 where
   pub version_fits : version < 2 ^ 16
 
 -- ACT of a prefix without locators: packets to it are forwarded natively
-abbrev pub natively_forward : ℕ
+abbrev natively_forward : ℕ
 natively_forward = 1
 
 -- the head of a reply beside an EID mask-len: no locator, and ACT before 13 ignored bits
@@ -65,24 +63,18 @@ reply_of n minutes p = record { nonce = n; ttl = minutes; prefix = p }
 -- ---- the first fault
 
 abbrev pub from_head : HeadFault → ReplyFault
-from_head head_fault.Short = fault.Short
-from_head head_fault.MessageType = fault.MessageType
-from_head head_fault.RecordCount = fault.RecordCount
+from_head = head_words fault.Short fault.MessageType fault.RecordCount
 
 abbrev pub from_eid : EidFault → ReplyFault
-from_eid eid_fault.Short = fault.Short
-from_eid eid_fault.EidFamily = fault.EidFamily
-from_eid eid_fault.Lcaf = fault.Lcaf
-from_eid eid_fault.MaskLength = fault.MaskLength
-from_eid eid_fault.TailNotZero = fault.TailNotZero
+from_eid = eid_words fault.Short fault.EidFamily fault.Lcaf fault.MaskLength fault.TailNotZero
 
 -- behind the EID, whose prefix and length are given, nothing stands
-abbrev pub after_eid : List ℕ → Head → (List ℕ × ℕ) → Result NegativeReply ReplyFault
+abbrev after_eid : List ℕ → Head → (List ℕ × ℕ) → Result NegativeReply ReplyFault
 after_eid bytes head eid =
     if eid.1 == length (drop 22 bytes) then Ok (reply_of head.nonce head.ttl eid.0) else Err fault.Trailing
 
 -- what follows from a head: there is no locator, ACT is 1, then stands an EID
-abbrev pub after_head : List ℕ → Head → Result NegativeReply ReplyFault
+abbrev after_head : List ℕ → Head → Result NegativeReply ReplyFault
 after_head bytes head =
     if not (head.locators == 0) then Err fault.LocatorCount
     else if not (action_number head == natively_forward) then Err fault.BadAction

@@ -7,16 +7,14 @@ use Rattle.ddt_path.specs.Actions.{number, action_of}
 use Rattle.ddt_path.specs.Locators.{most_locators}
 use Rattle.ddt_path.specs.declared.record.ReferralRecord.{ReferralRecord}
 use Rattle.ddt_wire.specs.declared.eid.EidFault.{EidFault}
-use Rattle.ddt_wire.specs.declared.eid.EidFault.TheVariants as eid_fault
 use Rattle.ddt_wire.specs.declared.head.Head.{Head}
 use Rattle.ddt_wire.specs.declared.head.HeadFault.{HeadFault}
-use Rattle.ddt_wire.specs.declared.head.HeadFault.TheVariants as head_fault
 use Rattle.ddt_wire.specs.declared.fault.ReferralFault.{ReferralFault}
 use Rattle.ddt_wire.specs.declared.fault.ReferralFault.TheVariants as fault
 use Rattle.ddt_reading.specs.Steps.{◌>>=◌, in_words}
-use Rattle.ddt_wire.specs.Head.{head_bytes, act_place, action_number, head_at}
+use Rattle.ddt_wire.specs.Head.{head_bytes, act_place, action_number, head_words, head_at}
 use Rattle.ddt_wire.specs.MessageType.{map_referral}
-use Rattle.ddt_wire.specs.Eid.{SpellsEid, written_eid, written_mask_len, eid_at}
+use Rattle.ddt_wire.specs.Eid.{SpellsEid, written_eid, written_mask_len, eid_at, eid_words}
 use Rattle.ddt_wire.specs.LocatorRecord.{SpellsLocators, written_locator, locators_at}
 
 -- what a Map-Referral says: its prefix as a path, and all its locators
@@ -45,13 +43,13 @@ pub record Ignored : Type 0 where
   pub version_fits : version < 2 ^ 12
 
 -- the places of the bits A and I in the flags, and of SigCnt before the map version
-abbrev pub authoritative_place : ℕ
+abbrev authoritative_place : ℕ
 authoritative_place = 2 ^ 12
 
-abbrev pub incomplete_place : ℕ
+abbrev incomplete_place : ℕ
 incomplete_place = 2 ^ 11
 
-abbrev pub signature_place : ℕ
+abbrev signature_place : ℕ
 signature_place = 2 ^ 12
 
 -- ACT in 3 bits, the bits A and I, 11 reserved bits
@@ -119,16 +117,10 @@ written n r = head_bytes map_referral 0 (written_head n r) ++ written_eid r.pref
 -- ---- the first fault
 
 abbrev pub from_head : HeadFault → ReferralFault
-from_head head_fault.Short = fault.Short
-from_head head_fault.MessageType = fault.MessageType
-from_head head_fault.RecordCount = fault.RecordCount
+from_head = head_words fault.Short fault.MessageType fault.RecordCount
 
 abbrev pub from_eid : EidFault → ReferralFault
-from_eid eid_fault.Short = fault.Short
-from_eid eid_fault.EidFamily = fault.EidFamily
-from_eid eid_fault.Lcaf = fault.Lcaf
-from_eid eid_fault.MaskLength = fault.MaskLength
-from_eid eid_fault.TailNotZero = fault.TailNotZero
+from_eid = eid_words fault.Short fault.EidFamily fault.Lcaf fault.MaskLength fault.TailNotZero
 
 abbrev pub action_or_fault : Option Action → Result Action ReferralFault
 action_or_fault (Some action) = Ok action

@@ -1,14 +1,13 @@
 //! Addresses one after the other, each behind so many ignored bytes: the locators of a record, and the ITR-RLOCs of a
 //! Map-Request (RFC 9301, sections 5.2 and 5.4).
 
-ghost use Rattle.std.specs.Prelude.{◌≡◌, ◌≤◌, ◌++◌, List, Ok, Err, length, take, All, OnOk, IfOk, IfErr};
+ghost use Rattle.std.specs.Prelude.{◌≡◌, ◌≤◌, ◌++◌, Err, length, take, All, OnOk, IfOk, IfErr};
 ghost use Rattle.std.specs.List.{flat_map};
 ghost use Rattle.std.specs.Iterator.{YieldsFirst, item_count};
-ghost use Rattle.ddt_path.specs.declared.locator.Locator.{Locator};
 ghost use Rattle.ddt_path.specs.Locators.{most_locators};
 ghost use Rattle.ddt_reading.specs.Steps.{IsReadAs};
 ghost use Rattle.ddt_wire.specs.Address.{IsAddress};
-ghost use Rattle.ddt_wire.specs.Addresses.{written_behind, behind_at, addresses_at};
+ghost use Rattle.ddt_wire.specs.Addresses.{written_behind, behind_at, addresses_at, StandsAfter};
 
 use crate::address::{AddressFault, read_address, write_address};
 use ddt_path::{Locator, LocatorSet, MOST_LOCATORS};
@@ -66,7 +65,7 @@ fn read_behind<const BEFORE: usize>(bytes: &[u8]) -> Result<(Locator, usize), Ad
 
 /// The bytes after so many addresses, or the first fault of these.
 fn skip<const BEFORE: usize>(count: u8, bytes: &[u8]) -> Result<&[u8], AddressFault>
-    ensures read { IfOk result (λ rest. (ls : List Locator) × (addresses_at BEFORE count bytes.now ≡ Ok (ls, rest.now))) }
+    ensures read { IfOk result (λ rest. StandsAfter BEFORE count bytes.now rest.now) }
     ensures fault { IfErr result (λ e. addresses_at BEFORE count bytes.now ≡ Err e) }
 {
     let mut rest = bytes;

@@ -15,7 +15,7 @@
 //! ```
 
 ghost use Rattle.std.specs.Prelude.{◌≡◌, ◌++◌, ◌+◌, ◌≤◌, OnOk, OnErr, IsOk, List, ℕ, Ok, length, take, IfOk, vec_len, vec_capacity};
-ghost use Rattle.ddt_wire.specs.Eid.{written_eid, written_mask_len, instance_head, written_form, eid_at, lcaf_at, inside_at, block_at, has_length, from_prefix, from_address, SpellsEid};
+ghost use Rattle.ddt_wire.specs.Eid.{written_eid, written_mask_len, instance_head, written_form, eid_at, lcaf_at, inside_at, block_at, has_length, SpellsEid};
 ghost use Rattle.ddt_wire.specs.Laws.{IsPrefix};
 
 use crate::address::{
@@ -59,34 +59,6 @@ const IPV4_BLOCK_LEN: u16 = IID_LEN + IPV4_LEN as u16;
 const IPV6_BLOCK_LEN: u16 = IID_LEN + IPV6_LEN as u16;
 /// How many bytes an EID takes at most.
 const LONGEST_EID: usize = 30;
-
-impl From<AddressFault> for EidFault {
-    ghost use Rattle.std.specs.Prelude.{◌≡◌};
-    ghost use Rattle.ddt_wire.specs.Eid.{from_address};
-
-    ghost from_gives = { λ d e. e ≡ from_address d };
-
-    fn from(fault: AddressFault) -> EidFault {
-        match fault {
-            AddressFault::Short => EidFault::Short,
-            AddressFault::Family => EidFault::EidFamily,
-        }
-    }
-}
-
-impl From<PrefixFault> for EidFault {
-    ghost use Rattle.std.specs.Prelude.{◌≡◌};
-    ghost use Rattle.ddt_wire.specs.Eid.{from_prefix};
-
-    ghost from_gives = { λ d e. e ≡ from_prefix d };
-
-    fn from(fault: PrefixFault) -> EidFault {
-        match fault {
-            PrefixFault::Length => EidFault::MaskLength,
-            PrefixFault::TailNotZero => EidFault::TailNotZero,
-        }
-    }
-}
 
 /// The EID mask-len that is written for a prefix: a block's length, 0 for a range of instances.
 pub fn mask_len(prefix: Prefix) -> u8
@@ -148,12 +120,15 @@ pub fn write_eid(bytes: &mut Vec<u8>, prefix: Prefix) -> Result<(), AllocError>
 }
 
 /// The block of an instance whose address stands at the front, from its AFI on.
-#[tactic(auto, unfolding(crate::specs::Eid::block_at))]
+#[tactic(auto, using(crate::proofs::EidLemmas::cut_block), unfolding(crate::specs::Eid::block_at))]
 fn read_block(bytes: &[u8], iid: u32, mask_len: u8) -> Result<(Prefix, usize), EidFault>
     ensures exact { result ≡ block_at iid mask_len bytes.now }
     ensures within { IfOk result (λ x. x.1 ≤ length bytes.now) }
 {
-    let (address, taken) = read_address(bytes)?;
+    let (address, taken) = read_address(bytes).map_err(|fault| match fault {
+        AddressFault::Short => EidFault::Short,
+        AddressFault::Family => EidFault::EidFamily,
+    })?;
     if mask_len > address.width() {
         return Err(EidFault::MaskLength);
     }
@@ -169,7 +144,11 @@ fn read_inside(bytes: &[u8], mask_len: u8) -> Result<(Prefix, usize), EidFault>
 {
     let iid = BigEndian::read_u32(&bytes[8..]);
     if BigEndian::read_u16(&bytes[12..]) == NO_ADDRESS {
-        return Ok((Prefix::range(iid, bytes[5])?, 14));
+        let range = Prefix::range(iid, bytes[5]).map_err(|fault| match fault {
+            PrefixFault::Length => EidFault::MaskLength,
+            PrefixFault::TailNotZero => EidFault::TailNotZero,
+        })?;
+        return Ok((range, 14));
     }
     let (block, taken) = read_block(&bytes[12..], iid, mask_len)?;
     Ok((block, 12 + taken))

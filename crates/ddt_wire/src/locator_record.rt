@@ -17,9 +17,7 @@ ghost use Rattle.std.specs.List.{flat_map};
 ghost use Rattle.ddt_wire.specs.Address.{IsAddress};
 ghost use Rattle.ddt_wire.specs.LocatorRecord.{written_locator};
 
-use crate::address::AddressFault;
 use crate::addresses::{Addresses, write_addresses};
-use crate::fault::ReferralFault;
 use ddt_path::Locator;
 use std::alloc::AllocError;
 
@@ -33,20 +31,6 @@ pub(crate) fn put_locators(bytes: &mut Vec<u8>, locators: &[Locator]) -> Result<
     ensures fit { OnOk result (All IsAddress locators.now) }
 {
     write_addresses(bytes, &BEFORE_AFI, locators)
-}
-
-impl From<AddressFault> for ReferralFault {
-    ghost use Rattle.std.specs.Prelude.{◌≡◌};
-    ghost use Rattle.ddt_wire.specs.LocatorRecord.{from_address};
-
-    ghost from_gives = { λ d e. e ≡ from_address d };
-
-    fn from(fault: AddressFault) -> ReferralFault {
-        match fault {
-            AddressFault::Short => ReferralFault::Short,
-            AddressFault::Family => ReferralFault::LocatorFamily,
-        }
-    }
 }
 
 /// The locators of a referral set in order, read from the datagram one by one; 6 bytes stand before the AFI of each.

@@ -70,38 +70,6 @@ pub enum ReplyFault {
     Trailing,
 }
 
-impl From<HeadFault> for ReplyFault {
-    ghost use Rattle.std.specs.Prelude.{◌≡◌};
-    ghost use Rattle.ddt_wire.specs.NegativeReply.{from_head};
-
-    ghost from_gives = { λ d e. e ≡ from_head d };
-
-    fn from(fault: HeadFault) -> ReplyFault {
-        match fault {
-            HeadFault::Short => ReplyFault::Short,
-            HeadFault::MessageType => ReplyFault::MessageType,
-            HeadFault::RecordCount => ReplyFault::RecordCount,
-        }
-    }
-}
-
-impl From<EidFault> for ReplyFault {
-    ghost use Rattle.std.specs.Prelude.{◌≡◌};
-    ghost use Rattle.ddt_wire.specs.NegativeReply.{from_eid};
-
-    ghost from_gives = { λ d e. e ≡ from_eid d };
-
-    fn from(fault: EidFault) -> ReplyFault {
-        match fault {
-            EidFault::Short => ReplyFault::Short,
-            EidFault::EidFamily => ReplyFault::EidFamily,
-            EidFault::Lcaf => ReplyFault::Lcaf,
-            EidFault::MaskLength => ReplyFault::MaskLength,
-            EidFault::TailNotZero => ReplyFault::TailNotZero,
-        }
-    }
-}
-
 /// What a negative Map-Reply says.
 #[derive(Clone, Copy, Debug, PartialEq, Eq)]
 pub struct NegativeReply {
@@ -143,7 +111,11 @@ pub fn write_negative_reply(
 fn reply(bytes: &[u8]) -> Result<NegativeReply, ReplyFault>
     ensures { result ≡ reply_in bytes.now }
 {
-    let head = read_head(MAP_REPLY, bytes)?;
+    let head = read_head(MAP_REPLY, bytes).map_err(|fault| match fault {
+        HeadFault::Short => ReplyFault::Short,
+        HeadFault::MessageType => ReplyFault::MessageType,
+        HeadFault::RecordCount => ReplyFault::RecordCount,
+    })?;
     if head.locators != 0 {
         return Err(ReplyFault::LocatorCount);
     }
@@ -151,7 +123,13 @@ fn reply(bytes: &[u8]) -> Result<NegativeReply, ReplyFault>
         return Err(ReplyFault::BadAction);
     }
     let (_before, from_eid) = bytes.split_at(BEFORE_EID);
-    let (prefix, taken) = eid(from_eid, head.mask_len)?;
+    let (prefix, taken) = eid(from_eid, head.mask_len).map_err(|fault| match fault {
+        EidFault::Short => ReplyFault::Short,
+        EidFault::EidFamily => ReplyFault::EidFamily,
+        EidFault::Lcaf => ReplyFault::Lcaf,
+        EidFault::MaskLength => ReplyFault::MaskLength,
+        EidFault::TailNotZero => ReplyFault::TailNotZero,
+    })?;
     if taken != from_eid.len() {
         return Err(ReplyFault::Trailing);
     }

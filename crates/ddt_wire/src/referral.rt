@@ -24,6 +24,7 @@ ghost use Rattle.std.specs.Prelude.{◌≡◌, ◌^◌, ◌<◌, ◌≤◌, true
 ghost use Rattle.ddt_path.specs.Locators.{most_locators};
 ghost use Rattle.ddt_wire.specs.Referral.{written, written_head, flags_of, action_in, message_in, Spells, Message, message_of, message_record};
 
+use crate::address::AddressFault;
 use crate::eid::{EidFault, eid, mask_len, write_eid};
 use crate::fault::ReferralFault;
 use crate::head::{ACT, BEFORE_EID, Head, HeadFault, put_head, read_head};
@@ -84,38 +85,6 @@ pub fn write_referral(
     write_eid(&mut bytes, referral.prefix)?;
     put_locators(&mut bytes, referral.servers.as_slice())?;
     Ok(bytes)
-}
-
-impl From<HeadFault> for ReferralFault {
-    ghost use Rattle.std.specs.Prelude.{◌≡◌};
-    ghost use Rattle.ddt_wire.specs.Referral.{from_head};
-
-    ghost from_gives = { λ d e. e ≡ from_head d };
-
-    fn from(fault: HeadFault) -> ReferralFault {
-        match fault {
-            HeadFault::Short => ReferralFault::Short,
-            HeadFault::MessageType => ReferralFault::MessageType,
-            HeadFault::RecordCount => ReferralFault::RecordCount,
-        }
-    }
-}
-
-impl From<EidFault> for ReferralFault {
-    ghost use Rattle.std.specs.Prelude.{◌≡◌};
-    ghost use Rattle.ddt_wire.specs.Referral.{from_eid};
-
-    ghost from_gives = { λ d e. e ≡ from_eid d };
-
-    fn from(fault: EidFault) -> ReferralFault {
-        match fault {
-            EidFault::Short => ReferralFault::Short,
-            EidFault::EidFamily => ReferralFault::EidFamily,
-            EidFault::Lcaf => ReferralFault::Lcaf,
-            EidFault::MaskLength => ReferralFault::MaskLength,
-            EidFault::TailNotZero => ReferralFault::TailNotZero,
-        }
-    }
 }
 
 /// What a Map-Referral says. It lends the datagram for its locators.
@@ -218,12 +187,27 @@ fn unsigned_action(head: &Head) -> Result<Action, ReferralFault>
 fn message(bytes: &[u8]) -> Result<Referral<'_>, ReferralFault>
     ensures { result ≡ message_in bytes.now }
 {
-    let head = read_head(MAP_REFERRAL, bytes)?;
+    let head = read_head(MAP_REFERRAL, bytes).map_err(|fault| match fault {
+        HeadFault::Short => ReferralFault::Short,
+        HeadFault::MessageType => ReferralFault::MessageType,
+        HeadFault::RecordCount => ReferralFault::RecordCount,
+    })?;
     let action = unsigned_action(&head)?;
     let (_before, from_eid) = bytes.split_at(BEFORE_EID);
-    let (prefix, taken) = eid(from_eid, head.mask_len)?;
+    let (prefix, taken) = eid(from_eid, head.mask_len).map_err(|fault| match fault {
+        EidFault::Short => ReferralFault::Short,
+        EidFault::EidFamily => ReferralFault::EidFamily,
+        EidFault::Lcaf => ReferralFault::Lcaf,
+        EidFault::MaskLength => ReferralFault::MaskLength,
+        EidFault::TailNotZero => ReferralFault::TailNotZero,
+    })?;
     let (_eid, from_locators) = from_eid.split_at(taken);
-    let (locators, rest) = Locators::read(head.locators, from_locators)?;
+    let (locators, rest) = Locators::read(head.locators, from_locators).map_err(
+        |fault| match fault {
+            AddressFault::Short => ReferralFault::Short,
+            AddressFault::Family => ReferralFault::LocatorFamily,
+        },
+    )?;
     if !rest.is_empty() {
         return Err(ReferralFault::Trailing);
     }

@@ -1,10 +1,6 @@
-use Rattle.std.proofs.Common.{refl}
 use Rattle.std.proofs.lemmas.Result.{err_from_is_err_and}
-use Rattle.ddt_wire.proofs.AddressLoop.{begins, goes_on, ends, is_done}
+use Rattle.ddt_wire.proofs.AddressesLemmas.{goes_on, ends, is_done}
 use Rattle.ddt_wire.proofs.addresses.skip.Goals as goal
-
-pub loop-init : goal.loop-init
-loop-init g c = begins g.row.BEFORE c.args.count 0 c.args.bytes.now refl
 
 pub returns-in_err-_address-clause-fault : goal.returns-in_err-_address-clause-fault
 returns-in_err-_address-clause-fault g c =

@@ -1,5 +1,5 @@
 use Rattle.std.proofs.Common.{◌-◌}
-use Rattle.ddt_wire.proofs.AddressLoop.{IsReadSoFar}
+use Rattle.ddt_wire.proofs.AddressesLemmas.{IsReadSoFar}
 use Rattle.ddt_wire.proofs.addresses.skip.Given as goal
 
 abbrev pub invariant-loop : goal.invariant-loop

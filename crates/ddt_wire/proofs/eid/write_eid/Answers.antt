@@ -2,7 +2,7 @@ use Rattle.std.proofs.Common.{◌≡◌, ◌++◌, sym, subst, OnOk}
 use Rattle.ddt_path.specs.declared.form.Form.{Form}
 use Rattle.ddt_wire.specs.Eid.{written_form}
 use Rattle.ddt_wire.proofs.EidLemmas.{form_of-named}
-use Rattle.ddt_wire.proofs.WrittenLaws.{eid_spells}
+use Rattle.ddt_wire.proofs.EidLaws.{eid_spells}
 use Rattle.ddt_reading.proofs.StepLemmas.{always}
 use Rattle.ddt_wire.proofs.eid.write_eid.Goals as goal
 

@@ -99,9 +99,6 @@ pub record AreAddresses (before : ℕ) (bytes : List ℕ) (ls : List Locator) (r
   pub parts : bytes ≡ front ++ rest
   pub rest_fits : IsBytes rest
 
-both_parts : (bytes f after g rest : List ℕ) → bytes ≡ f ++ after → after ≡ g ++ rest → bytes ≡ (f ++ g) ++ rest
-both_parts bytes f after g rest p q = p ∙ ap (λ (t : List ℕ). f ++ t) q ∙ sym (append_assoc f g rest)
-
 pub addresses_take : (before k : ℕ) (bytes : List ℕ) (x : List Locator × List ℕ) → IsBytes bytes → addresses_at before k bytes ≡ Ok x → AreAddresses before bytes x.0 x.1 × (length x.0 ≡ k)
 unfolding addresses_at
 addresses_take before zero bytes x fits e =
@@ -112,7 +109,7 @@ addresses_take before (suc k) bytes x fits e =
     let b = bind_ok (addresses_at before k (drop a.0.1 bytes)) (λ others. Ok (a.0.0 ∷ others.0, others.1)) x a.2 in
     let first = behind_takes before bytes a.0 fits a.1 in
     let others = addresses_take before k (drop a.0.1 bytes) b.0 (IsBytes-drop a.0.1 bytes fits) b.1 in
-    let whole = both_parts bytes first.0 (drop a.0.1 bytes) others.0.front b.0.1 first.1.parts others.0.parts in
+    let whole = first.1.parts ∙ ap (λ (t : List ℕ). first.0 ++ t) others.0.parts ∙ sym (append_assoc first.0 others.0.front b.0.1) in
     let made : AreAddresses before bytes (a.0.0 ∷ b.0.0) b.0.1 = record { front = first.0 ++ others.0.front; spelled = (first.0, others.0.front, first.2, others.0.spelled, refl); parts = whole; rest_fits = others.0.rest_fits } in
     subst (λ (y : List Locator × List ℕ). AreAddresses before bytes y.0 y.1 × (length y.0 ≡ suc k)) (ok_is {E = AddressFault} (a.0.0 ∷ b.0.0, b.0.1) x b.2) (made, ap suc others.1)
 

@@ -225,14 +225,11 @@ lcaf_again mask r f m iid i inner rest some few family right =
     let len : big_number 2 (drop 6 bytes) ≡ 4 + length inner = big_number-reads_back 2 (4 + length inner) (to_be_bytes w32 iid ++ (inner ++ rest)) small in
     lcaf_read mask bytes long refl refl (ap (λ (n : ℕ). has_length n (big_number 2 (drop 6 bytes))) family ∙ ap (has_length i) len ∙ right)
 
-number_again : (r f m iid : ℕ) (inner rest : List ℕ) → iid < 2 ^ 32 → big_number 4 (drop 8 (instance_lcaf r f m iid inner ++ rest)) ≡ iid
-number_again r f m iid inner rest lt = big_number-reads_back 4 iid (inner ++ rest) lt
-
 range_again : (mask r f len iid : ℕ) (rest : List ℕ) → iid < 2 ^ 32 → len ≤ 32 → are_zero (drop len (digits 32 iid)) ≡ true
     → eid_at mask (instance_lcaf r f len iid (to_be_bytes w16 0) ++ rest) ≡ Ok (path (Range iid len), 14)
 range_again mask r f len iid rest lt le zeros =
     lcaf_again mask r f len iid 0 (to_be_bytes w16 0) rest (omega arith) (omega arith) refl refl
-    ∙ inside_read mask iid len (instance_lcaf r f len iid (to_be_bytes w16 0) ++ rest) (number_again r f len iid (to_be_bytes w16 0) rest lt) refl refl le zeros
+    ∙ inside_read mask iid len (instance_lcaf r f len iid (to_be_bytes w16 0) ++ rest) (big_number-reads_back 4 iid (to_be_bytes w16 0 ++ rest) lt) refl refl le zeros
 
 address_lengths : (a : Locator) → (6 ≤ length (family_and_address a)) × (length (family_and_address a) ≤ 18)
 address_lengths (V4 x) = (omega arith, omega arith)
@@ -249,7 +246,7 @@ inner_again mask r f m iid a rest lt fits le =
     let n = address_lengths a in
     let len : 12 + length inner ≡ length (instance_lcaf r f m iid inner) = omega arith in
     lcaf_again mask r f m iid (afi a) inner rest (omega arith) n.1 (plain_number a rest) (right_length a)
-    ∙ inside_block_read mask iid (instance_lcaf r f m iid inner ++ rest) a rest (number_again r f m iid inner rest lt) refl fits le
+    ∙ inside_block_read mask iid (instance_lcaf r f m iid inner ++ rest) a rest (big_number-reads_back 4 iid (inner ++ rest) lt) refl fits le
     ∙ ap (λ (k : ℕ). Ok (path (Block iid a mask), k)) len
 
 pub eid_again : (mask : ℕ) (eid p rest : List ℕ) → SpellsEid mask eid p → eid_at mask (eid ++ rest) ≡ Ok (p, length eid)

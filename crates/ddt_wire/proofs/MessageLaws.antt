@@ -151,9 +151,6 @@ act_again a b i f ha hb hi hf = omega arith
 incomplete_again : (a b i f : ℕ) → a ≤ 5 → b ≤ 1 → i ≤ 1 → f < 2 ^ 11 → (a * 2 ^ 13 + b * 2 ^ 12 + i * 2 ^ 11 + f) / 2 ^ 11 % 2 ≡ i
 incomplete_again a b i f ha hb hi hf = omega arith
 
-signatures_again : (n : ℕ) → n < 2 ^ 12 → n / 2 ^ 12 ≡ 0
-signatures_again n h = omega arith
-
 -- the head of a message that is spelled
 abbrev pub head_spelled : Ignored → ℕ → Message → Head
 head_spelled i mask v = message_head mask i.authoritative i.flags i.version v
@@ -186,7 +183,7 @@ message_again bytes v s =
     let some : 2 ≤ length tail = omega (arith, length-append s.eid s.locators, eid_some s.mask s.eid v.prefix s.spells_eid) in
     let begins = head_again 6 i.reserved h tail (omega arith) i.reserved_fits (head_fits bytes v s) some in
     let same = act_again (number v.action) (bit i.authoritative) (bit v.incomplete) i.flags (number-le v.action) (bit-le i.authoritative) (bit-le v.incomplete) i.flags_fits in
-    let action = action_read h v.action (same, signatures_again i.version i.version_fits) in
+    let action = action_read h v.action (same, omega (arith, i.version_fits)) in
     let locators : locators_at (length v.locators) (drop (length s.eid) tail) ≡ Ok (v.locators, []) =
     ap (locators_at (length v.locators)) (drop-append_seam s.eid s.locators ∙ sym (append-nil s.locators)) ∙ ap (in_words from_address) (addresses_again 6 s.locators v.locators [] s.spells_locators) in
     ap message_in regrouped
@@ -286,9 +283,6 @@ reply_head_fits bytes v s = record {
   version_fits = s.ignored.version_fits;
 }
 
-reply_act_again : (flags : ℕ) → flags < 2 ^ 13 → (2 ^ 13 + flags) / 2 ^ 13 ≡ 1
-reply_act_again flags h = omega arith
-
 pub reply_again : (bytes : List ℕ) (v : NegativeReply) → SpellsReply bytes v → reply_in bytes ≡ Ok v
 reply_again bytes v s =
     let i = s.ignored in
@@ -296,7 +290,7 @@ reply_again bytes v s =
     let front = head_bytes 2 i.reserved h in
     let begins = head_again 2 i.reserved h s.eid (omega arith) i.reserved_fits (reply_head_fits bytes v s) (eid_some s.mask s.eid v.prefix s.spells_eid) in
     let eid : eid_at s.mask s.eid ≡ Ok (v.prefix, length s.eid) = ap (eid_at s.mask) (sym (append-nil s.eid)) ∙ eid_again s.mask s.eid v.prefix [] s.spells_eid in
-    ap reply_in s.whole ∙ reply_read (front ++ s.eid) h v.prefix (length s.eid) begins refl (reply_act_again i.flags i.flags_fits) eid refl
+    ap reply_in s.whole ∙ reply_read (front ++ s.eid) h v.prefix (length s.eid) begins refl (omega (arith, i.flags_fits)) eid refl
 
 pub reply_is_bytes : (bytes : List ℕ) (v : NegativeReply) → SpellsReply bytes v → IsBytes bytes
 reply_is_bytes bytes v s =

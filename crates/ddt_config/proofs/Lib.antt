@@ -1,4 +1,3 @@
-pub mod ValueLemmas
 pub mod RoomLemmas
 pub mod StandsLemmas
 pub mod WriteLemmas

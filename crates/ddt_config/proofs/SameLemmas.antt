@@ -19,18 +19,11 @@ made-same o p e s t = subst (λ (q : Outline). (u : is_shaped q.role q.locators 
 same_outline : (c d : ServerConfig) → outline c ≡ outline d → c ≡ d
 same_outline c d e = made-same (outline c) (outline d) e c.shaped d.shaped
 
-abbrev ok_part : {A : Type 0} → A → Result A ConfigFault → A
-ok_part other (Ok a) = a
-ok_part other (Err fault) = other
-
-two_outcomes : {A : Type 0} (r : Result A ConfigFault) (a : A) (fault : ConfigFault) → r ≡ Ok a → r ≡ Err fault → ⊥
-two_outcomes r a fault e f = search (rules, e, f)
-
 among : (ms : Members) (r : Result ServerConfig ConfigFault) → IfOk r (λ c. config_in ms ≡ Ok (outline c)) → IfErr r (λ fault. fault ≢ Memory → config_in ms ≡ Err fault)
     → (c : ServerConfig) → config_in ms ≡ Ok (outline c) → (r ≡ Ok c) ⊎ (r ≡ Err Memory)
-among ms (Ok d) found refused c stands = inl (ap Ok (same_outline d c (ap (ok_part (outline c)) (sym found ∙ stands))))
+among ms (Ok d) found refused c stands = let same : outline d ≡ outline c = cc in inl (ap Ok (same_outline d c same))
 among ms (Err Memory) found refused c stands = inr refl
-among ms (Err other) found refused c stands = absurd (two_outcomes (config_in ms) (outline c) other stands (refused (search rules)))
+among ms (Err other) found refused c stands = let fault : config_in ms ≡ Err other = refused (search rules) in absurd cc
 
 pub determined : (text : List ℕ) (ms : Members) → parse_document text ≡ Some ms → (r : Result ServerConfig ConfigFault)
     → IfOk r (λ c. config_in ms ≡ Ok (outline c)) → IfErr r (λ fault. fault ≢ Memory → config_in ms ≡ Err fault)

@@ -79,13 +79,13 @@ word_ok text role false true is_node is_ms e = is_ms refl ∙ ap role_text (same
 word_ok text role false false is_node is_ms e = absurd cc
 
 role_agrees : Agrees role_in (λ ms role. HoldsText ms key.Kind (role_text role))
-role_agrees ms role = (to, from role)
+role_agrees ms role = (
+  λ e.
+      let s = text_held key.Kind ms role_of role e in
+      s.1 ∙ ap (λ text. Some (string text)) (word_ok s.0 role _ _ (bytes_decides s.0 (role_text Node)).0 (bytes_decides s.0 (role_text Ms)).0 s.2),
+  from role,
+)
   where
-    to : role_in ms ≡ Ok role → HoldsText ms key.Kind (role_text role)
-    to e =
-        let s = text_held key.Kind ms role_of role e in
-        s.1 ∙ ap (λ text. Some (string text)) (word_ok s.0 role _ _ (bytes_decides s.0 (role_text Node)).0 (bytes_decides s.0 (role_text Ms)).0 s.2)
-
     from : (role : Role) → HoldsText ms key.Kind (role_text role) → role_in ms ≡ Ok role
     from Node h = rw h refl
     from Ms h = rw h refl
@@ -144,15 +144,15 @@ locator_agrees k d l = (
 )
 
 locators_agree : (k : Key) → Agrees (locators_in k) (λ ms. HoldsLocators ms k)
-locators_agree k ms ls = (to (get_member (key_text k) ms), from)
+locators_agree k ms ls = (
+  to (get_member (key_text k) ms),
+  λ h. rw h.1 (for_array is_text_value (locator_of k) IsLocatorText (locator_agrees k) text_kind k h.0 ls h.2),
+)
   where
     to : (o : Option Data) → (((of_kind k o >>= array_of k) >>= all_of k is_text_value) >>= each (locator_of k)) ≡ Ok ls
         → (d : Data) × (o ≡ Some d) × IsArrayOf IsLocatorText d ls
     to None e = absurd cc
     to (Some d) e = (d, refl, array_for is_text_value (locator_of k) IsLocatorText (locator_agrees k) text_kind k d ls e)
-
-    from : HoldsLocators ms k ls → locators_in k ms ≡ Ok ls
-    from h = rw h.1 (for_array is_text_value (locator_of k) IsLocatorText (locator_agrees k) text_kind k h.0 ls h.2)
 
 module _ {A : Type 0} (read : Members → Result A ConfigFault) (Is : Members → A → Type 0) (agrees : Agrees read Is) where
   table_kind : (d : Data) (x : A) → IsTableOf Is d x → is_table_value d ≡ true
@@ -223,9 +223,6 @@ authority_agrees role ms a = (
   λ h. rw ((path_agrees ms a.prefix).1 h.prefix, content_from role ms a.content h.content) refl,
 )
 
-authorities_agree : (role : Role) → Agrees (entries_in key.Authority (authority_in role)) (λ ms. HoldsTables (IsAuthority role) ms key.Authority)
-authorities_agree role = tables_agree (authority_in role) (IsAuthority role) (authority_agrees role) key.Authority
-
 outline_to : (ms : Members) (o : Outline) → outline_in ms ≡ Ok o → Stands ms o
 outline_to ms o e =
     let n = bind_ok (name_in ms) _ o e in
@@ -239,7 +236,7 @@ outline_to ms o e =
       word = name.1;
       kind = (role_agrees ms r.0).0 r.1;
       locators = (locators_agree key.Locators ms l.0).0 l.1;
-      authorities = (authorities_agree r.0 ms a.0).0 a.1;
+      authorities = (tables_agree (authority_in r.0) (IsAuthority r.0) (authority_agrees r.0) key.Authority ms a.0).0 a.1;
     })
 
 pub tables_are_read : (ms : Members) (o : Outline) → (config_in ms ≡ Ok o) ↔ (Stands ms o × (is_shaped o.role o.locators o.authorities ≡ true))
@@ -252,7 +249,7 @@ tables_are_read ms o = (
     (name_agrees ms o.name).1 (h.0.name, h.0.word),
     (role_agrees ms o.role).1 h.0.kind,
     (locators_agree key.Locators ms o.locators).1 h.0.locators,
-    (authorities_agree o.role ms o.authorities).1 h.0.authorities,
+    (tables_agree (authority_in o.role) (IsAuthority o.role) (authority_agrees o.role) key.Authority ms o.authorities).1 h.0.authorities,
     h.1,
   )
       refl,

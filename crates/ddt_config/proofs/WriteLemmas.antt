@@ -1,6 +1,6 @@
 -- What is written is one table, and is read as what it was written for.
 use Rattle.std.proofs.Common.{◌≡◌, ℕ, suc, ◌+◌, ◌<◌, ◌≤◌, true, List, [], ◌∷◌, ◌++◌, length, take, get_or, map, Some, Ok, String, Global, Ordering, Less, Equal, Greater, string_bytes, refl, sym, ap, ◌∙◌, arith, inl}
-use Rattle.std.specs.List.{All, AllByRecursion}
+use Rattle.std.specs.List.{All}
 use Rattle.std.proofs.lemmas.Bool.{false≢true}
 use Rattle.std.proofs.lemmas.List.{take_all, map-append, map_more}
 use Rattle.std.proofs.lemmas.List.Elements.{All-head, All-tail}
@@ -8,7 +8,7 @@ use Rattle.std.proofs.lemmas.List.Sums.{AllPass-from_list_all}
 use Rattle.std.specs.String.{string_cmp}
 use Rattle.std.specs.Ordering.{match_ordering}
 use Rattle.std.specs.BTreeMap.{insert_entry}
-use Rattle.toml.specs.Data.{Data, Members, member, string, array, table, depth, has_valid_dates, items_depth, items_have_valid_dates, members_depth, members_have_valid_dates}
+use Rattle.toml.specs.Data.{Data, Members, string, array, table, depth, has_valid_dates, items_depth, items_have_valid_dates, members_depth, members_have_valid_dates}
 use Rattle.toml.specs.Parse.{parse_document}
 use Rattle.toml.specs.View.{view, items_view, members_view}
 use Rattle.toml.specs.declared.value.Value.{Value}
@@ -18,17 +18,15 @@ use Rattle.ddt_path.specs.declared.record.Role.TheVariants.{Node, Ms}
 use Rattle.ddt_path.specs.Names.{is_name}
 use Rattle.ddt_text.specs.Grammar.{SpellsLocator, SpellsPrefix}
 use Rattle.ddt_text.specs.Written.{written_locator, written_prefix}
-use Rattle.ddt_config.specs.declared.fault.Key.{Key}
-use Rattle.ddt_config.specs.declared.fault.Key.TheVariants as key
 use Rattle.ddt_config.specs.declared.child.Child.{Child}
 use Rattle.ddt_config.specs.declared.site_entry.SiteEntry.{SiteEntry}
 use Rattle.ddt_config.specs.declared.authority.Content.{Content}
 use Rattle.ddt_config.specs.declared.authority.Content.TheVariants.{Children, Sites}
 use Rattle.ddt_config.specs.declared.authority.Authority.{Authority}
-use Rattle.ddt_config.specs.Table.{key_text, role_text, Outline, config_in, config_in_document, config_in_text}
+use Rattle.ddt_config.specs.Table.{Outline, config_in, config_in_document, config_in_text}
 use Rattle.ddt_config.specs.Shaped.{is_content_of, is_authority_of, is_shaped}
 use Rattle.ddt_config.specs.Stands.{HoldsPrefix, AreFor, IsArrayOf, IsLocatorText, IsTableOf, IsChild, IsSite, IsContent, IsAuthority, Stands}
-use Rattle.ddt_config.specs.Writing.{inserted, with_keys, items_of, written_each, written_locators, written_child, written_site, written_content, written_authority, written_config, AreLocatorsSpelled, IsChildSpelled, IsSiteSpelled, IsContentSpelled, IsAuthoritySpelled}
+use Rattle.ddt_config.specs.Writing.{inserted, items_of, written_each, written_locators, written_child, written_site, written_content, written_authority, written_config, AreLocatorsSpelled, IsChildSpelled, IsSiteSpelled, IsContentSpelled, IsAuthoritySpelled}
 use Rattle.ddt_config.proofs.RoomLemmas.{are_authorities}
 use Rattle.ddt_config.proofs.StandsLemmas.{tables_are_read}
 
@@ -128,15 +126,6 @@ IsPlain n d = (depth d ≤ n) × (has_valid_dates d ≡ true)
 abbrev ArePlain : ℕ → Members → Type 0
 ArePlain n ms = (members_depth ms ≤ n) × (members_have_valid_dates ms ≡ true)
 
-plain-more : (m n : ℕ) (d : Data) → m ≤ n → IsPlain m d → IsPlain n d
-plain-more m n d le h = (omega (arith, h.0), h.1)
-
-plain_text : (n : ℕ) (text : List ℕ) → IsPlain n (string text)
-plain_text n text = (omega arith, refl)
-
-plain_member : (n : ℕ) (k : List ℕ) (d : Data) (ms : Members) → IsPlain n d → ArePlain n ms → ArePlain n (member k d ms)
-plain_member n k d ms h r = (let a : depth d ≤ n = h.0 in let b : members_depth ms ≤ n = r.0 in omega arith, rw (h.1, r.1) refl)
-
 items_plain : {A : Type 0} (n : ℕ) (write : A → Data) → ((x : A) → IsPlain n (write x)) → (xs : List A) → (items_depth (items_of (map write xs)) ≤ n) × (items_have_valid_dates (items_of (map write xs)) ≡ true)
 items_plain n write plain [] = (omega arith, refl)
 items_plain n write plain (x ∷ xs) =
@@ -151,40 +140,30 @@ plain_tables : {A : Type 0} (n : ℕ) (written : A → Members) → ((x : A) →
 plain_tables n written plain xs = plain_each (suc n) (λ x. table (written x)) (λ x. (let b : members_depth (written x) ≤ n = (plain x).0 in omega arith, (plain x).1)) xs
 
 plain_locators : (ls : List Locator) → IsPlain 1 (written_locators ls)
-plain_locators ls = plain_each 0 (λ l. string (written_locator l)) (λ l. plain_text 0 (written_locator l)) ls
-
-plain_keys : (n : ℕ) (es : List (Key × Data)) → AllByRecursion (λ e. IsPlain n e.1) es → ArePlain n (with_keys es)
-plain_keys n [] h = (omega arith, refl)
-plain_keys n (e ∷ es) h = plain_member n (key_text e.0) e.1 (with_keys es) h.0 (plain_keys n es h.1)
+plain_locators ls = plain_each 0 (λ l. string (written_locator l)) (λ l. (omega arith, refl)) ls
 
 plain_child : (c : Child) → ArePlain 1 (written_child c)
-plain_child c =
-    plain_keys 1 ((key.Kind, string (role_text c.role)) ∷ (key.Locators, written_locators c.locators) ∷ (key.Prefix, string (written_prefix c.prefix)) ∷ [])
-    (plain_text 1 (role_text c.role), (plain_locators c.locators, (plain_text 1 (written_prefix c.prefix), tt)))
+plain_child c = let ls = plain_locators c.locators in (let a : depth (written_locators c.locators) ≤ 1 = ls.0 in omega arith, rw ls.1 refl)
 
 plain_site : (s : SiteEntry) → ArePlain 1 (written_site s)
-plain_site s =
-    plain_keys 1 ((key.Etrs, written_locators s.etrs) ∷ (key.Prefix, string (written_prefix s.prefix)) ∷ [])
-    (plain_locators s.etrs, (plain_text 1 (written_prefix s.prefix), tt))
+plain_site s = let ls = plain_locators s.etrs in (let a : depth (written_locators s.etrs) ≤ 1 = ls.0 in omega arith, rw ls.1 refl)
 
 plain_content : (p : List ℕ) (content : Content) → ArePlain 3 (written_content p content)
 plain_content p (Children cs) =
-    plain_keys 3 ((key.Child, written_each (λ c. table (written_child c)) cs) ∷ (key.Prefix, string (written_prefix p)) ∷ [])
-    (plain_tables 1 written_child plain_child cs, (plain_text 3 (written_prefix p), tt))
+    let all = plain_tables 1 written_child plain_child cs in
+    (let a : depth (written_each (λ c. table (written_child c)) cs) ≤ 3 = all.0 in omega arith, rw all.1 refl)
 plain_content p (Sites ss) =
-    plain_keys 3 ((key.Prefix, string (written_prefix p)) ∷ (key.Site, written_each (λ s. table (written_site s)) ss) ∷ [])
-    (plain_text 3 (written_prefix p), (plain_tables 1 written_site plain_site ss, tt))
+    let all = plain_tables 1 written_site plain_site ss in
+    (let a : depth (written_each (λ s. table (written_site s)) ss) ≤ 3 = all.0 in omega arith, rw all.1 refl)
 
 plain_config : (o : Outline) → ArePlain 5 (written_config o)
 plain_config o =
-    plain_keys 5
-    ((key.Authority, written_each (λ a. table (written_authority a)) o.authorities)
-    ∷ (key.Kind, string (role_text o.role))
-    ∷ (key.Locators, written_locators o.locators)
-    ∷ (key.Name, string o.name)
-    ∷ []) (
-      plain_tables 3 written_authority (λ a. plain_content a.prefix a.content) o.authorities,
-      (plain_text 5 (role_text o.role), (plain-more 1 5 (written_locators o.locators) (omega arith) (plain_locators o.locators), (plain_text 5 o.name, tt))),
+    let ls = plain_locators o.locators in
+    let all = plain_tables 3 written_authority (λ a. plain_content a.prefix a.content) o.authorities in (
+      let a : depth (written_locators o.locators) ≤ 1 = ls.0 in
+          let b : depth (written_each (λ a. table (written_authority a)) o.authorities) ≤ 5 = all.0 in
+          omega arith,
+      rw (all.1, ls.1) refl,
     )
 
 -- the printed table is read back, and has no date that can't be written

@@ -1,6 +1,5 @@
 pub mod Shaped
 pub mod Table
-pub mod Drafts
 pub mod Answer
 pub mod Reading
 pub mod Writing

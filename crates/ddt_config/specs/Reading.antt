@@ -11,6 +11,8 @@ use Rattle.ddt_config.specs.declared.site_entry.SiteEntry.{SiteEntry}
 use Rattle.ddt_config.specs.declared.authority.Content.{Content}
 use Rattle.ddt_config.specs.declared.authority.Content.TheVariants.{Children, Sites}
 use Rattle.ddt_config.specs.declared.authority.Authority.{Authority}
+use Rattle.ddt_config.specs.declared.authority.ContentDraft.{ContentDraft}
+use Rattle.ddt_config.specs.declared.authority.ContentDraft.TheVariants as draft
 use Rattle.ddt_config.specs.Shaped.{fits}
 
 -- the value was read, or the fault that was wanted, or memory was refused
@@ -40,3 +42,8 @@ authority_fits a = content_fits a.content
 abbrev pub clashes : Clash → List ℕ → List ℕ → Bool
 clashes Same = is_same_path
 clashes Overlap = overlaps
+
+-- what the draft of an authority holds: the same children, or the same sites
+abbrev pub content_of : ContentDraft → Content
+content_of (draft.Children cs) = Children cs
+content_of (draft.Sites ss) = Sites ss

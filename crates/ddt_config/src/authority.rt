@@ -59,7 +59,7 @@ pub struct AuthorityDraft {
 
 impl Model for AuthorityDraft {
     ghost use Rattle.ddt_config.specs.declared.authority.Authority.{Authority as AuthorityValue};
-    ghost use Rattle.ddt_config.specs.Drafts.{content_of};
+    ghost use Rattle.ddt_config.specs.Reading.{content_of};
 
     ghost Value = { AuthorityValue };
 

@@ -1,5 +1,7 @@
 //! Why a text is no configuration.
 
+ghost use Rattle.std.specs.Prelude.{◌≡◌};
+
 use std::alloc::{AllocError, AllocFailed};
 use thiserror::Error;
 
@@ -17,7 +19,6 @@ pub enum Key {
 }
 
 impl Key {
-    ghost use Rattle.std.specs.Prelude.{◌≡◌};
     ghost use Rattle.ddt_config.specs.Table.{key_text};
 
     /// The word that stands in the text.
@@ -58,7 +59,6 @@ pub enum ConfigFault {
 }
 
 impl<T: Drop> From<AllocFailed<T>> for ConfigFault {
-    ghost use Rattle.std.specs.Prelude.{◌≡◌};
     ghost use Rattle.ddt_config.specs.declared.fault.ConfigFault.TheVariants.{Memory};
 
     ghost from_gives = { λ _ fault. fault ≡ Memory };
@@ -69,7 +69,6 @@ impl<T: Drop> From<AllocFailed<T>> for ConfigFault {
 }
 
 impl From<AllocError> for ConfigFault {
-    ghost use Rattle.std.specs.Prelude.{◌≡◌};
     ghost use Rattle.ddt_config.specs.declared.fault.ConfigFault.TheVariants.{Memory};
 
     ghost from_gives = { λ _ fault. fault ≡ Memory };

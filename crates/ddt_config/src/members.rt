@@ -140,10 +140,7 @@ pub fn prefix_in(table: &Table) -> Result<Prefix, ConfigFault>
     ensures { result ≡ path_in (table_view table.now) }
 {
     match text_at(table, Key::Prefix) {
-        Ok(text) => match parse_prefix(text.as_bytes()) {
-            Ok(prefix) => Ok(prefix),
-            Err(_) => Err(ConfigFault::Value(Key::Prefix)),
-        },
+        Ok(text) => parse_prefix(text.as_bytes()).map_err(|_| ConfigFault::Value(Key::Prefix)),
         Err(fault) => Err(fault),
     }
 }
@@ -152,10 +149,7 @@ fn locator_in(value: &Value, key: Key) -> Result<Locator, ConfigFault>
     ensures { result ≡ locator_of key (view value.now) }
 {
     match text_in(value, key) {
-        Ok(text) => match parse_locator(text.as_bytes()) {
-            Ok(locator) => Ok(locator),
-            Err(_) => Err(ConfigFault::Value(key)),
-        },
+        Ok(text) => parse_locator(text.as_bytes()).map_err(|_| ConfigFault::Value(key)),
         Err(fault) => Err(fault),
     }
 }

@@ -1,5 +1,4 @@
 pub mod ChecksumLemmas
-pub mod HostLemmas
 pub mod WritingLemmas
 pub mod SumLaws
 pub mod MapRequestLaws

@@ -1,5 +1,5 @@
 -- A Map-Request that is read is spelled so, and what is spelled is read again.
-use Rattle.std.proofs.Common.{◌≡◌, ℕ, zero, suc, ◌+◌, ◌*◌, ◌/◌, ◌%◌, ◌^◌, ◌<◌, ◌≤◌, Bool, true, false, ltb, leb, eqb, List, [], ◌∷◌, ◌++◌, length, take, drop, Result, Ok, Err, refl, sym, ap, subst, ◌∙◌, arith, inl, inr, length-append, length-drop, append_assoc}
+use Rattle.std.proofs.Common.{◌≡◌, ℕ, ◌+◌, ◌*◌, ◌/◌, ◌%◌, ◌^◌, ◌<◌, ◌≤◌, Bool, true, false, ltb, leb, eqb, List, [], ◌∷◌, ◌++◌, length, take, drop, Ok, Err, refl, sym, ap, subst, ◌∙◌, arith, inl, inr, length-append, length-drop, append_assoc}
 use Rattle.std.specs.Prelude.{slice_index, ◌&&◌, not}
 use Rattle.std.proofs.lemmas.Bool.{both_ways, eqb-false, ltb-false, le-ltb, lt-leb, eqb-true, eq-eqb, ne_eqb, cases_eq, not-false, and_cases, and_left, and_right, not_from_true, cond-false}
 use Rattle.std.proofs.lemmas.List.{take_at, drop_at, nil_from_length, drop-drop}
@@ -14,12 +14,12 @@ use Rattle.ddt_path.specs.Path.{path, digits, family, are_zero, address_width, a
 use Rattle.ddt_path.specs.FormOf.{padded_number, block_of, form_of}
 use Rattle.ddt_path.specs.FormLemmas.{whole, none_left, take_len}
 use Rattle.ddt_path.specs.DigitLemmas.{length-digits}
-use Rattle.ddt_reading.specs.Steps.{◌>>=◌, in_words, IsBytes}
+use Rattle.ddt_reading.specs.Steps.{in_words, IsBytes}
 use Rattle.ddt_wire.specs.Address.{IsAddress}
 use Rattle.ddt_wire.specs.Eid.{SpellsEid, Plain, Inside, Instances, eid_at}
 use Rattle.ddt_wire.specs.Referral.{bit}
 use Rattle.ddt_wire.specs.Laws.{IsPrefix}
-use Rattle.ddt_reading.proofs.StepLemmas.{bind_ok, bind_parts, guard_parts, words_ok, guard_ok, ok_is}
+use Rattle.ddt_reading.proofs.StepLemmas.{bind_parts, guard_parts, words_ok, guard_ok, ok_is}
 use Rattle.ddt_reading.proofs.ByteLemmas.{HasFront, HasFront-fits, IsBetween, ◌followed_by◌, stands, number_stands, known_stands, byte_stands, number_fits, IsBytes-drop}
 use Rattle.ddt_wire.specs.Addresses.{addresses_at}
 use Rattle.ddt_wire.proofs.AddressesLaws.{AreAddresses, addresses_take, addresses_again}
@@ -28,7 +28,7 @@ use Rattle.ddt_wire.proofs.EidLaws.{eid_takes, eid_again}
 use Rattle.ddt_wire.proofs.MessageLaws.{bit_of, bit-le}
 use Rattle.ddt_ecm.specs.declared.fault.RequestFault.{RequestFault}
 use Rattle.ddt_ecm.specs.declared.fault.RequestFault.TheVariants as fault
-use Rattle.ddt_ecm.specs.MapRequest.{Ignored, request_fields, SpellsRequest, from_eid, host_of, xeid_at, source_at, head_at, from_address, rlocs_at, trails, map_request_at}
+use Rattle.ddt_ecm.specs.MapRequest.{Ignored, a_place, m_place, irc_limit, request_word, request_fields, SpellsRequest, from_eid, host_of, xeid_at, source_at, head_at, from_address, rlocs_at, trails, map_request_at}
 use Rattle.ddt_ecm.proofs.SourceLaws.{IsSource, source_takes, source_again}
 
 -- ---- the whole path of an identifier
@@ -62,26 +62,17 @@ record IsHost (mask : ℕ) (p : List ℕ) (x : Xeid) : Type 0 where
 refused : {A E : Type 0} (d : E) (x : A) → Err d ≡ Ok x → ⊥
 refused d x e = absurd cc
 
-form_of_block : (ds es : List ℕ) → length ds ≡ 32 → 0 < length es → form_of (ds ++ es) ≡ block_of (padded_number 32 ds) es
-form_of_block ds es n some =
-    cond-false (leb (length (ds ++ es)) 32) _ _ (lt-leb (length (ds ++ es)) 32 (omega (arith, length-append ds es)))
-    ∙ ap (λ (f : List ℕ). block_of (padded_number 32 f) (drop 32 (ds ++ es))) (take_at ds es 32 n)
-    ∙ ap (block_of (padded_number 32 ds)) (drop_at ds es 32 n)
+form_of_block : (iid mask : ℕ) (a : Locator) → form_of (path (Block iid a mask)) ≡ block_of (padded_number 32 (digits 32 iid)) (family a ∷ take mask (address_digits a))
+form_of_block iid mask a =
+    let ds = digits 32 iid in
+    let es = family a ∷ take mask (address_digits a) in
+    cond-false (leb (length (ds ++ es)) 32) _ _ (lt-leb (length (ds ++ es)) 32 (omega (arith, length-append ds es, length-digits 32 iid)))
+    ∙ rw (take_at ds es 32 (length-digits 32 iid), drop_at ds es 32 (length-digits 32 iid)) refl
 
 -- a block that isn't as long as its family's width
-short_is_no_host : (a : Locator) (iid mask : ℕ) → mask ≤ address_width a → (mask ≡ address_width a → ⊥) → host_of (block_of iid (family a ∷ take mask (address_digits a))) ≡ Err fault.NotHost
-short_is_no_host (V4 n) iid mask le other =
-    let len = take_len 32 mask n le in
-    let differs : eqb (length (take mask (digits 32 n))) 32 ≡ false = ne_eqb _ _ (λ e. other (sym len ∙ e)) in
-    rw differs refl
-short_is_no_host (V6 n) iid mask le other =
-    let len = take_len 128 mask n le in
-    let differs : eqb (length (take mask (digits 128 n))) 128 ≡ false = ne_eqb _ _ (λ e. other (sym len ∙ e)) in
-    rw differs refl
-
 short_block : (iid mask : ℕ) (a : Locator) → mask ≤ address_width a → (mask ≡ address_width a → ⊥) → host_of (form_of (path (Block iid a mask))) ≡ Err fault.NotHost
-short_block iid mask a le other =
-    ap host_of (form_of_block (digits 32 iid) (family a ∷ take mask (address_digits a)) (length-digits 32 iid) (omega arith)) ∙ short_is_no_host a (padded_number 32 (digits 32 iid)) mask le other
+short_block iid mask (V4 n) le other = rw (form_of_block iid mask (V4 n), take_len 32 mask n le, ne_eqb mask 32 other) refl
+short_block iid mask (V6 n) le other = rw (form_of_block iid mask (V6 n), take_len 128 mask n le, ne_eqb mask 128 other) refl
 
 block_host : (iid mask : ℕ) (a : Locator) (p : List ℕ) (x : Xeid) → iid < 2 ^ 32 → IsAddress a → mask ≤ address_width a → p ≡ path (Block iid a mask) → host_of (form_of p) ≡ Ok x → IsHost mask p x
 block_host iid mask a p x hi ha le is e =
@@ -111,35 +102,31 @@ record IsXeid (bytes : List ℕ) (x : Xeid) (n : ℕ) : Type 0 where
   spelled : SpellsEid (address_width x.address) eid (xeid_path x)
   takes : HasFront bytes ((reserved ∷ address_width x.address ∷ []) ++ eid) n
 
-abbrev hosted : ℕ → List ℕ → Result (Xeid × ℕ) RequestFault
-hosted n p = host_of (form_of p) >>= λ x. Ok (x, 2 + n)
-
 xeid_takes : (bytes : List ℕ) (x : Xeid × ℕ) → IsBytes bytes → xeid_at bytes ≡ Ok x → IsXeid bytes x.0 x.1
 unfolding xeid_at
 xeid_takes bytes x fits e =
     let mask = slice_index bytes 1 in
-    let read : Result (List ℕ × ℕ) RequestFault = in_words from_eid (eid_at mask (drop 2 bytes)) in
-    let g = guard_ok (ltb (length bytes) 2) fault.Short (read >>= λ p. hosted p.1 p.0) x e in
-    let long : 2 ≤ length bytes = ltb-false _ _ g.0 in
-    let a = bind_ok read (λ p. hosted p.1 p.0) x g.1 in
-    let b = bind_ok (host_of (form_of a.0.0)) (λ y. Ok (y, 2 + a.0.1)) x a.2 in
-    let r = eid_takes mask (drop 2 bytes) a.0 (IsBytes-drop 2 bytes fits) (words_ok from_eid (eid_at mask (drop 2 bytes)) a.0 a.1) in
-    let h = host_takes mask r.0 a.0.0 b.0 r.2 b.1 in
+    guard_parts (ltb (length bytes) 2) _ _ x e λ short e₁.
+    bind_parts (in_words from_eid (eid_at mask (drop 2 bytes))) _ x e₁ λ p read₁ e₂.
+    bind_parts (host_of (form_of p.0)) _ x e₂ λ y read₂ e₃.
+    let long : 2 ≤ length bytes = ltb-false _ _ short in
+    let r = eid_takes mask (drop 2 bytes) p (IsBytes-drop 2 bytes fits) (words_ok from_eid (eid_at mask (drop 2 bytes)) p read₁) in
+    let h = host_takes mask r.0 p.0 y r.2 read₂ in
     let front = byte_stands 0 bytes (omega arith) followed_by byte_stands 1 bytes (omega arith) in
-    let t : HasFront bytes ((slice_index bytes 0 ∷ mask ∷ []) ++ r.0) (2 + a.0.1) = record {
-      parts = (front followed_by stands bytes r.0 2 a.0.1 r.1).is;
+    let t : HasFront bytes ((slice_index bytes 0 ∷ mask ∷ []) ++ r.0) (2 + p.1) = record {
+      parts = (front followed_by stands bytes r.0 2 p.1 r.1).is;
       len = length-append (slice_index bytes 0 ∷ mask ∷ []) r.0 ∙ ap (λ (n : ℕ). 2 + n) r.1.len;
     } in
-    let made : IsXeid bytes b.0 (2 + a.0.1) = record {
+    let made : IsXeid bytes y (2 + p.1) = record {
       reserved = slice_index bytes 0;
       eid = r.0;
       reserved_fits = fits.at 0;
       iid_fits = h.iid_fits;
       address_fits = h.address_fits;
-      spelled = subst (λ (k : ℕ). SpellsEid k r.0 (xeid_path b.0)) h.mask_is (subst (SpellsEid mask r.0) h.path_is r.2);
-      takes = subst (λ (k : ℕ). HasFront bytes ((slice_index bytes 0 ∷ k ∷ []) ++ r.0) (2 + a.0.1)) h.mask_is t;
+      spelled = subst (λ (k : ℕ). SpellsEid k r.0 (xeid_path y)) h.mask_is (subst (SpellsEid mask r.0) h.path_is r.2);
+      takes = subst (λ (k : ℕ). HasFront bytes ((slice_index bytes 0 ∷ k ∷ []) ++ r.0) (2 + p.1)) h.mask_is t;
     } in
-    subst (λ (y : Xeid × ℕ). IsXeid bytes y.0 y.1) (ok_is {E = RequestFault} (b.0, 2 + a.0.1) x b.2) made
+    subst (λ (z : Xeid × ℕ). IsXeid bytes z.0 z.1) (ok_is {E = RequestFault} (y, 2 + p.1) x e₃) made
 
 xeid_read : (bytes : List ℕ) (m : ℕ) (p : List ℕ) (k : ℕ) (x : Xeid) → 2 ≤ length bytes → slice_index bytes 1 ≡ m → eid_at m (drop 2 bytes) ≡ Ok (p, k) → host_of (form_of p) ≡ Ok x → xeid_at bytes ≡ Ok (x, 2 + k)
 unfolding xeid_at
@@ -158,49 +145,34 @@ pub bit_again : (b : Bool) (x : ℕ) → x ≡ bit b → eqb x 1 ≡ b
 bit_again true x e = ap (λ (n : ℕ). eqb n 1) e
 bit_again false x e = ap (λ (n : ℕ). eqb n 1) e
 
--- what the head says where it is right
-record IsHead (message : List ℕ) (count : ℕ) : Type 0 where
-  long : 12 ≤ length message
-  type : slice_index message 0 / 16 ≡ 1
-  one : slice_index message 3 ≡ 1
-  count_is : slice_index message 2 % 32 + 1 ≡ count
-
-head_holds : (message : List ℕ) (count : ℕ) → head_at message ≡ Ok count → IsHead message count
-unfolding head_at
-head_holds message count e =
-    guard_parts (ltb (length message) 12) _ _ count e λ long e₁.
-    guard_parts (not (eqb (slice_index message 0 / 16) 1)) _ _ count e₁ λ type e₂.
-    guard_parts (not (eqb (slice_index message 3) 1)) _ _ count e₂ λ one e₃.
-    record {
-      long = ltb-false _ _ long;
-      type = eqb-true _ _ (not-false _ type);
-      one = eqb-true _ _ (not-false _ one);
-      count_is = ok_is {E = RequestFault} (slice_index message 2 % 32 + 1) count e₃;
-    }
-
 abbrev ignored_of : (message : List ℕ) (reserved_ : ℕ) → IsBytes message → reserved_ < 256 → Ignored
 ignored_of message reserved_ fits small = record {
-  authoritative = eqb (slice_index message 0 / 8 % 2) 1;
-  flags = slice_index message 0 % 4 * 2048 + slice_index message 1 * 8 + slice_index message 2 / 32;
+  authoritative = eqb (slice_index message 0 / a_place % 2) 1;
+  flags = slice_index message 0 % m_place * 2048 + slice_index message 1 * 8 + slice_index message 2 / irc_limit;
   reserved = reserved_;
   flags_fit = omega (arith, fits.at 1, fits.at 2);
   reserved_fits = small;
 }
 
-first_word : (message : List ℕ) (count reserved : ℕ) (fits : IsBytes message) (small : reserved < 256) → IsHead message count → let i = ignored_of message reserved fits small in
-    big_number 4 message ≡ 2 ^ 28 + bit i.authoritative * 2 ^ 27 + bit (eqb (slice_index message 0 / 4 % 2) 1) * 2 ^ 26 + i.flags * 2 ^ 13 + slice_index message 2 % 32 * 2 ^ 8 + 1
-first_word message count reserved fits small h =
+abbrev with_map_of : List ℕ → Bool
+with_map_of message = eqb (slice_index message 0 / m_place % 2) 1
+
+abbrev irc_of : List ℕ → ℕ
+irc_of message = slice_index message 2 % irc_limit
+
+head_takes : (message : List ℕ) (count reserved : ℕ) (fits : IsBytes message) (small : reserved < 256) → head_at message ≡ Ok count
+    → IsBetween message 0 (request_fields (ignored_of message reserved fits small) (with_map_of message) (irc_of message) (big_number 8 (drop 4 message))) 12 × (irc_of message + 1 ≡ count)
+unfolding head_at
+head_takes message count reserved fits small e =
+    guard_parts (ltb (length message) 12) _ _ count e λ short e₁.
+    guard_parts (not (eqb (slice_index message 0 / 16) 1)) _ _ count e₁ λ type e₂.
+    guard_parts (not (eqb (slice_index message 3) 1)) _ _ count e₂ λ one e₃.
+    let long : 12 ≤ length message = ltb-false _ _ short in
     let a = bit_of (slice_index message 0 / 8 % 2) (omega arith) in
     let m = bit_of (slice_index message 0 / 4 % 2) (omega arith) in
-    omega (arith, h.type, h.one, a, m)
-
-fields_stand : (message : List ℕ) (count reserved : ℕ) (fits : IsBytes message) (small : reserved < 256) → IsHead message count
-    → IsBetween message 0 (request_fields (ignored_of message reserved fits small) (eqb (slice_index message 0 / 4 % 2) 1) (slice_index message 2 % 32) (big_number 8 (drop 4 message))) 12
-fields_stand message count reserved fits small h =
-    let i = ignored_of message reserved fits small in
-    let long = h.long in
-    let w = 2 ^ 28 + bit i.authoritative * 2 ^ 27 + bit (eqb (slice_index message 0 / 4 % 2) 1) * 2 ^ 26 + i.flags * 2 ^ 13 + slice_index message 2 % 32 * 2 ^ 8 + 1 in
-    known_stands 0 4 w message fits (omega arith) (first_word message count reserved fits small h) followed_by number_stands 4 8 message fits (omega arith)
+    let word = request_word (ignored_of message reserved fits small) (with_map_of message) (irc_of message) in
+    let number : big_number 4 message ≡ word = omega (arith, eqb-true _ _ (not-false _ type), eqb-true _ _ (not-false _ one), a, m) in
+    (known_stands 0 4 word message fits (omega arith) number followed_by number_stands 4 8 message fits (omega arith), ok_is {E = RequestFault} (irc_of message + 1) count e₃)
 
 -- ---- the whole Map-Request
 
@@ -223,18 +195,17 @@ nothing_left message rest n within e clear =
       | inr p ↦ nil_from_length (drop n rest) (omega (arith, length-drop n rest, eqb-true _ _ (not-false _ p)))
     ]
 
-spelled : (message : List ℕ) (count source : ℕ) (ls : List Locator) (rest : List ℕ) (x : Xeid) (n : ℕ) → IsBytes message → IsHead message count → IsSource (drop 12 message) source
+spelled : (message : List ℕ) (count source : ℕ) (ls : List Locator) (rest : List ℕ) (x : Xeid) (n : ℕ) → IsBytes message → head_at message ≡ Ok count → IsSource (drop 12 message) source
     → AreAddresses 0 (drop source (drop 12 message)) ls rest → length ls ≡ count → IsXeid rest x n → trails message n rest ≡ false → SpellsRequest message (big_number 8 (drop 4 message)) x ls
 spelled message count source ls rest x n fits h (text, t, s) l size q over =
-    let map_ = eqb (slice_index message 0 / 4 % 2) 1 in
-    let irc_ = slice_index message 2 % 32 in
     let i = ignored_of message q.reserved fits q.reserved_fits in
-    let fields = request_fields i map_ irc_ (big_number 8 (drop 4 message)) in
-    let front = fields_stand message count q.reserved fits q.reserved_fits h followed_by stands message text 12 source t in
+    let fields = request_fields i (with_map_of message) (irc_of message) (big_number 8 (drop 4 message)) in
+    let head = head_takes message count q.reserved fits q.reserved_fits h in
+    let front = head.0 followed_by stands message text 12 source t in
     record {
       ignored = i;
-      with_map = map_;
-      irc = irc_;
+      with_map = with_map_of message;
+      irc = irc_of message;
       source = text;
       itr_rlocs = l.front;
       eid = q.eid;
@@ -243,7 +214,7 @@ spelled message count source ls rest x n fits h (text, t, s) l size q over =
       irc_fits = omega arith;
       iid_fits = q.iid_fits;
       address_fits = q.address_fits;
-      count = size ∙ sym h.count_is;
+      count = size ∙ sym head.1;
       spells_source = s;
       spells_rlocs = l.spelled;
       spells_eid = q.spelled;
@@ -263,7 +234,7 @@ request_takes message x fits e =
     let g = guard_ok (trails message q.1 ls.1) fault.Trailing (Ok (big_number 8 (drop 4 message), q.0, ls.0)) x e₄ in
     let from_source = IsBytes-drop 12 message fits in
     let l = addresses_take 0 count from_rlocs ls (IsBytes-drop source (drop 12 message) from_source) (words_ok from_address (addresses_at 0 count from_rlocs) ls read₃) in
-    let made = spelled message count source ls.0 ls.1 q.0 q.1 fits (head_holds message count read₁) (source_takes (drop 12 message) source from_source read₂) l.0 l.1 (xeid_takes ls.1 q l.0.rest_fits read₄) g.0 in
+    let made = spelled message count source ls.0 ls.1 q.0 q.1 fits read₁ (source_takes (drop 12 message) source from_source read₂) l.0 l.1 (xeid_takes ls.1 q l.0.rest_fits read₄) g.0 in
     subst (λ (y : Read). SpellsRequest message y.0 y.1 y.2) (ok_is {E = RequestFault} (big_number 8 (drop 4 message), q.0, ls.0) x g.1) made
 
 -- ---- what is spelled is read again
@@ -274,20 +245,13 @@ head_read message count long type one rlocs =
     let twelve : ltb (length message) 12 ≡ false = le-ltb _ _ long in
     rw (twelve, type, one, rlocs) refl
 
-abbrev word_of : ℕ → ℕ → ℕ → ℕ → ℕ
-word_of a m f i = 2 ^ 28 + a * 2 ^ 27 + m * 2 ^ 26 + f * 2 ^ 13 + i * 2 ^ 8 + 1
+-- the type and two bits in the first byte of a word
+pub first_again : (type s m rest : ℕ) → type < 16 → s ≤ 1 → m ≤ 1 → rest < 2 ^ 26 → let first = ((type * 16 + s * 8 + m * 4) * 2 ^ 24 + rest) / 16777216 % 256 in (first / 16 ≡ type) × (first / 8 % 2 ≡ s) × (first / 4 % 2 ≡ m)
+first_again type s m rest ht hs hm hr = (omega arith, omega arith, omega arith)
 
-type_again : (a m f i : ℕ) → a ≤ 1 → m ≤ 1 → f < 2 ^ 13 → i < 32 → word_of a m f i / 16777216 % 256 / 16 ≡ 1
-type_again a m f i ha hm hf hi = omega arith
-
-map_again : (a m f i : ℕ) → a ≤ 1 → m ≤ 1 → f < 2 ^ 13 → i < 32 → word_of a m f i / 16777216 % 256 / 4 % 2 ≡ m
-map_again a m f i ha hm hf hi = omega arith
-
-irc_again : (a m f i : ℕ) → a ≤ 1 → m ≤ 1 → f < 2 ^ 13 → i < 32 → word_of a m f i / 256 % 256 % 32 + 1 ≡ i + 1
-irc_again a m f i ha hm hf hi = omega arith
-
-one_again : (a m f i : ℕ) → a ≤ 1 → m ≤ 1 → f < 2 ^ 13 → i < 32 → word_of a m f i % 256 ≡ 1
-one_again a m f i ha hm hf hi = omega arith
+-- IRC and the record count at its end
+low_again : (first f i : ℕ) → i < 32 → let word = first * 2 ^ 24 + (f * 2 ^ 13 + i * 2 ^ 8 + 1) in (word / 256 % 256 % 32 ≡ i) × (word % 256 ≡ 1)
+low_again first f i hi = (omega arith, omega arith)
 
 request_read : (message from_source from_rlocs from_xeid : List ℕ) (count source k nonce : ℕ) (x : Xeid) (ls : List Locator) → head_at message ≡ Ok count → drop 12 message ≡ from_source → source_at from_source ≡ Ok source → drop source from_source ≡ from_rlocs
     → rlocs_at count from_rlocs ≡ Ok (ls, from_xeid) → xeid_at from_xeid ≡ Ok (x, k) → trails message k from_xeid ≡ false → big_number 8 (drop 4 message) ≡ nonce → map_request_at message ≡ Ok (nonce, x, ls)
@@ -304,18 +268,16 @@ ends false b size eid after e is none =
 pub request_again : (message : List ℕ) (nonce : ℕ) (x : Xeid) (ls : List Locator) → SpellsRequest message nonce x ls → map_request_at message ≡ Ok (nonce, x, ls)
 request_again message nonce x ls s =
     let i = s.ignored in
-    let a = bit-le i.authoritative in
-    let m = bit-le s.with_map in
-    let f = i.flags_fit in
-    let hi = s.irc_fits in
+    let first = first_again 1 (bit i.authoritative) (bit s.with_map) (i.flags * 2 ^ 13 + s.irc * 2 ^ 8 + 1) (omega arith) (bit-le i.authoritative) (bit-le s.with_map) (omega (arith, i.flags_fit, s.irc_fits)) in
+    let low = low_again (16 + bit i.authoritative * 8 + bit s.with_map * 4) i.flags s.irc s.irc_fits in
     let tail = (i.reserved ∷ address_width x.address ∷ []) ++ (s.eid ++ s.after) in
     let from_rlocs = s.itr_rlocs ++ tail in
     let text = request_fields i s.with_map s.irc nonce ++ (s.source ++ from_rlocs) in
     let regrouped : message ≡ text = s.whole ∙ simp append_assoc refl in
-    let count : slice_index text 2 % 32 + 1 ≡ length ls = irc_again (bit i.authoritative) (bit s.with_map) i.flags s.irc a m f hi ∙ sym s.count in
+    let count : slice_index text 2 % 32 + 1 ≡ length ls = ap (λ (k : ℕ). k + 1) low.0 ∙ sym s.count in
     ap map_request_at regrouped
     ∙ request_read text (s.source ++ from_rlocs) from_rlocs tail (length ls) (length s.source) (2 + length s.eid) nonce x ls
-    (head_read text (length ls) (omega arith) (type_again (bit i.authoritative) (bit s.with_map) i.flags s.irc a m f hi) (one_again (bit i.authoritative) (bit s.with_map) i.flags s.irc a m f hi) count)
+    (head_read text (length ls) (omega arith) first.0 low.1 count)
     refl (source_again s.source from_rlocs s.spells_source) (drop-append_seam s.source from_rlocs) (ap (in_words from_address) (addresses_again 0 s.itr_rlocs ls tail s.spells_rlocs)) (xeid_again i.reserved x s.eid s.after s.iid_fits s.address_fits s.spells_eid)
-    (ends s.with_map (slice_index text 0 / 4 % 2) (length tail) s.eid s.after (map_again (bit i.authoritative) (bit s.with_map) i.flags s.irc a m f hi) (omega (arith, length-append s.eid s.after)) s.none_after)
+    (ends s.with_map (slice_index text 0 / 4 % 2) (length tail) s.eid s.after first.2 (omega (arith, length-append s.eid s.after)) s.none_after)
     (big_number-reads_back 8 nonce (s.source ++ from_rlocs) s.nonce_fits)

@@ -1,5 +1,5 @@
 -- A request that is read is spelled so, what is spelled is read again, and what spells a request is bytes.
-use Rattle.std.proofs.Common.{◌≡◌, ℕ, ◌+◌, ◌*◌, ◌/◌, ◌%◌, ◌^◌, ◌<◌, ◌≤◌, false, ltb, eqb, List, ◌++◌, length, drop, Ok, refl, sym, ap, subst, ◌∙◌, arith}
+use Rattle.std.proofs.Common.{◌≡◌, ℕ, ◌+◌, ◌*◌, ◌/◌, ◌%◌, ◌^◌, ◌<◌, ◌≤◌, Bool, false, ltb, eqb, List, ◌++◌, length, drop, Ok, refl, sym, ap, subst, ◌∙◌, arith}
 use Rattle.std.specs.Prelude.{slice_index, not}
 use Rattle.std.proofs.lemmas.Bool.{ltb-false, le-ltb, eqb-true, not-false}
 use Rattle.byteorder.specs.Endian.{big_number}
@@ -7,12 +7,12 @@ use Rattle.ddt_path.specs.declared.locator.Locator.{Locator}
 use Rattle.ddt_path.specs.declared.locator.Locator.TheVariants.{V4, V6}
 use Rattle.ddt_path.specs.declared.xeid.Xeid.{Xeid}
 use Rattle.ddt_path.specs.Path.{address_width, xeid_path}
-use Rattle.ddt_reading.specs.Steps.{◌>>=◌, IsBytes}
+use Rattle.ddt_reading.specs.Steps.{IsBytes}
 use Rattle.ddt_wire.specs.Referral.{bit}
 use Rattle.ddt_reading.specs.Reader.{AreRead}
 use Rattle.ddt_reading.proofs.ReaderLemmas.{are_read}
-use Rattle.ddt_reading.proofs.StepLemmas.{bind_ok, guard_parts, ok_is}
-use Rattle.ddt_reading.proofs.ByteLemmas.{IsBetween, ◌beside◌, two_bytes, known_stands, IsBytes-drop, IsBytes-number}
+use Rattle.ddt_reading.proofs.StepLemmas.{bind_parts, guard_parts, ok_is}
+use Rattle.ddt_reading.proofs.ByteLemmas.{◌beside◌, two_bytes, known_stands, IsBytes-drop, IsBytes-number}
 use Rattle.ddt_wire.proofs.AddressesLaws.{address_is_bytes, addresses_are_bytes}
 use Rattle.ddt_wire.proofs.EidLaws.{eid_is_bytes}
 use Rattle.ddt_ecm.specs.declared.fault.RequestFault.{RequestFault}
@@ -21,89 +21,63 @@ use Rattle.ddt_ecm.specs.Ipv4Header.{Ipv4Header, ipv4_fields}
 use Rattle.ddt_ecm.specs.Ipv6Header.{Ipv6Header, ipv6_fields}
 use Rattle.ddt_ecm.specs.IpHeader.{SpellsIp, Version4, Version6, ip_at}
 use Rattle.ddt_ecm.specs.UdpHeader.{udp_fields, SpellsUdp, udp_at}
-use Rattle.ddt_ecm.specs.MapRequest.{SpellsSource, Absent, Plain, Lcaf, SpellsRequest, map_request_at}
+use Rattle.ddt_ecm.specs.MapRequest.{SpellsSource, Absent, Plain, Lcaf, request_word, SpellsRequest, map_request_at}
 use Rattle.ddt_ecm.specs.Request.{Message, Spells, message_in}
-use Rattle.ddt_ecm.specs.EcmHeader.{ecm_fields, ecm_at}
+use Rattle.ddt_ecm.specs.EcmHeader.{first_byte, d_place, ecm_word, ecm_fields, ecm_at}
 use Rattle.ddt_ecm.proofs.UdpLaws.{udp_takes, udp_again, udp_some}
-use Rattle.ddt_ecm.proofs.IpLaws.{ip_takes, ip_again, pseudo_words}
-use Rattle.ddt_ecm.proofs.MapRequestLaws.{bit_again, request_takes, request_again}
+use Rattle.ddt_ecm.proofs.IpLaws.{ip_takes, ip_again, pseudo_known}
+use Rattle.ddt_ecm.proofs.MapRequestLaws.{bit_again, first_again, request_takes, request_again}
 use Rattle.ddt_wire.proofs.MessageLaws.{bit_of, bit-le}
 
 -- ---- what is read is spelled so
 
--- what the four bytes say where they are right
-record IsEcm (bytes ip : List ℕ) : Type 0 where
-  long : 4 ≤ length bytes
-  type : slice_index bytes 0 / 16 ≡ 8
-  security : slice_index bytes 0 / 8 % 2 ≡ 0
-  rest : drop 4 bytes ≡ ip
+-- the bit D, and what is ignored behind it
+abbrev ddt_of : List ℕ → Bool
+ddt_of bytes = eqb (slice_index bytes 0 / d_place % 2) 1
 
-ecm_holds : (bytes ip : List ℕ) → ecm_at bytes ≡ Ok ip → IsEcm bytes ip
+abbrev ignored_of : List ℕ → ℕ
+ignored_of bytes = slice_index bytes 0 % d_place * first_byte + slice_index bytes 1 * 65536 + slice_index bytes 2 * 256 + slice_index bytes 3
+
+ecm_takes : (bytes ip : List ℕ) → IsBytes bytes → ecm_at bytes ≡ Ok ip → IsBytes ip × (bytes ≡ ecm_fields (ddt_of bytes) (ignored_of bytes) ++ ip)
 unfolding ecm_at
-ecm_holds bytes ip e =
+ecm_takes bytes ip fits e =
     guard_parts (ltb (length bytes) 4) _ _ ip e λ long e₁.
     guard_parts (not (eqb (slice_index bytes 0 / 16) 8)) _ _ ip e₁ λ type e₂.
     guard_parts (not (eqb (slice_index bytes 0 / 8 % 2) 0)) _ _ ip e₂ λ security e₃.
-    record {
-      long = ltb-false _ _ long;
-      type = eqb-true _ _ (not-false _ type);
-      security = eqb-true _ _ (not-false _ security);
-      rest = ok_is {E = RequestFault} (drop 4 bytes) ip e₃;
-    }
-
-abbrev ignored_of : List ℕ → ℕ
-ignored_of bytes = slice_index bytes 0 % 4 * 16777216 + slice_index bytes 1 * 65536 + slice_index bytes 2 * 256 + slice_index bytes 3
-
-ecm_stands : (bytes ip : List ℕ) → IsBytes bytes → IsEcm bytes ip → IsBetween bytes 0 (ecm_fields (eqb (slice_index bytes 0 / 4 % 2) 1) (ignored_of bytes)) 4
-ecm_stands bytes ip fits h =
     let d = bit_of (slice_index bytes 0 / 4 % 2) (omega arith) in
-    let word = 8 * 2 ^ 28 + bit (eqb (slice_index bytes 0 / 4 % 2) 1) * 2 ^ 26 + ignored_of bytes in
-    let number : big_number 4 bytes ≡ word = omega (arith, h.type, h.security, d) in
-    known_stands 0 4 word bytes fits (omega (arith, h.long)) number
-
-abbrev asked_of : List ℕ → ℕ × List ℕ → ℕ × Xeid × List Locator → Message
-asked_of bytes data_ asked = record { nonce = asked.0; ddt = eqb (slice_index bytes 0 / 4 % 2) 1; port = data_.0; xeid = asked.1; rlocs = asked.2 }
-
--- the message of a datagram of bytes
-message_fits : (pseudo udp : List ℕ) (port : ℕ) (message : List ℕ) → IsBytes udp → SpellsUdp pseudo udp port message → IsBytes message
-message_fits pseudo udp port message fits s = subst IsBytes (ap (drop 8) s.whole) (IsBytes-drop 8 udp fits)
+    let word = ecm_word (ddt_of bytes) (ignored_of bytes) in
+    let number : big_number 4 bytes ≡ word = omega (arith, eqb-true _ _ (not-false _ type), eqb-true _ _ (not-false _ security), d) in
+    let stand = known_stands 0 4 word bytes fits (ltb-false _ _ long) number in
+    subst (λ (t : List ℕ). IsBytes t × (bytes ≡ ecm_fields (ddt_of bytes) (ignored_of bytes) ++ t)) (ok_is {E = RequestFault} (drop 4 bytes) ip e₃) (IsBytes-drop 4 bytes fits, stand.is)
 
 pub message_takes : (bytes : List ℕ) (v : Message) → IsBytes bytes → message_in bytes ≡ Ok v → Spells bytes v
 unfolding message_in
 message_takes bytes v fits e =
-    let a = bind_ok (ecm_at bytes) (λ ip. ip_at ip >>= λ udp. udp_at udp.0 udp.1 >>= λ d. map_request_at d.1 >>= λ m. Ok (asked_of bytes d m)) v e in
-    let b = bind_ok (ip_at a.0) (λ udp. udp_at udp.0 udp.1 >>= λ d. map_request_at d.1 >>= λ m. Ok (asked_of bytes d m)) v a.2 in
-    let c = bind_ok (udp_at b.0.0 b.0.1) (λ d. map_request_at d.1 >>= λ m. Ok (asked_of bytes d m)) v b.2 in
-    let d = bind_ok (map_request_at c.0.1) (λ m. Ok (asked_of bytes c.0 m)) v c.2 in
-    let h = ecm_holds bytes a.0 a.1 in
-    let ip_fits : IsBytes a.0 = subst IsBytes h.rest (IsBytes-drop 4 bytes fits) in
-    let p = ip_takes a.0 b.0 ip_fits b.1 in
-    let u = udp_takes p.words p.pseudo b.0.1 c.0 p.even p.udp_fits p.some (ap (λ (s : ℕ). udp_at s b.0.1) (sym p.sum_is) ∙ c.1) in
-    let data_fits : IsBytes c.0.1 = message_fits p.pseudo b.0.1 c.0.0 c.0.1 p.udp_fits u in
-    let made : Spells bytes (asked_of bytes c.0 d.0) = record {
+    bind_parts (ecm_at bytes) _ v e λ ip read₁ e₁.
+    bind_parts (ip_at ip) _ v e₁ λ inner read₂ e₂.
+    bind_parts (udp_at inner.0 inner.1) _ v e₂ λ data_ read₃ e₃.
+    bind_parts (map_request_at data_.1) _ v e₃ λ asked read₄ e₄.
+    let h = ecm_takes bytes ip fits read₁ in
+    let p = ip_takes ip inner h.0 read₂ in
+    let w = pseudo_known ip p.pseudo inner.1 p.spelled in
+    let u = udp_takes w.words p.pseudo inner.1 data_ w.even p.udp_fits p.some (ap (λ (s : ℕ). udp_at s inner.1) (sym p.sum_is) ∙ read₃) in
+    let message_fits : IsBytes data_.1 = subst IsBytes (ap (drop 8) u.whole) (IsBytes-drop 8 inner.1 p.udp_fits) in
+    let message : Message = record { nonce = asked.0; ddt = ddt_of bytes; port = data_.0; xeid = asked.1; rlocs = asked.2 } in
+    let made : Spells bytes message = record {
       ignored = ignored_of bytes;
-      packet = a.0;
+      packet = ip;
       pseudo = p.pseudo;
-      udp = b.0.1;
-      request = c.0.1;
-      ignored_fits = omega (arith, fits.at 1, fits.at 2, fits.at 3);
+      udp = inner.1;
+      request = data_.1;
+      ignored_fits = omega (arith, fits.at 0, fits.at 1, fits.at 2, fits.at 3);
       spells_ip = p.spelled;
       spells_udp = u;
-      spells_request = request_takes c.0.1 d.0 data_fits d.1;
-      whole = (ecm_stands bytes a.0 fits h).is ∙ ap (λ (t : List ℕ). ecm_fields (eqb (slice_index bytes 0 / 4 % 2) 1) (ignored_of bytes) ++ t) h.rest;
+      spells_request = request_takes data_.1 asked message_fits read₄;
+      whole = h.1;
     } in
-    subst (Spells bytes) (ok_is {E = RequestFault} (asked_of bytes c.0 d.0) v d.2) made
+    subst (Spells bytes) (ok_is {E = RequestFault} message v e₄) made
 
 -- ---- what is spelled is read again
-
-type_again : (d n : ℕ) → d ≤ 1 → n < 2 ^ 26 → (8 * 2 ^ 28 + d * 2 ^ 26 + n) / 16777216 % 256 / 16 ≡ 8
-type_again d n hd hn = omega arith
-
-security_again : (d n : ℕ) → d ≤ 1 → n < 2 ^ 26 → (8 * 2 ^ 28 + d * 2 ^ 26 + n) / 16777216 % 256 / 8 % 2 ≡ 0
-security_again d n hd hn = omega arith
-
-ddt_again : (d n : ℕ) → d ≤ 1 → n < 2 ^ 26 → (8 * 2 ^ 28 + d * 2 ^ 26 + n) / 16777216 % 256 / 4 % 2 ≡ d
-ddt_again d n hd hn = omega arith
 
 ecm_read : (bytes : List ℕ) → 4 ≤ length bytes → slice_index bytes 0 / 16 ≡ 8 → slice_index bytes 0 / 8 % 2 ≡ 0 → ecm_at bytes ≡ Ok (drop 4 bytes)
 unfolding ecm_at
@@ -119,14 +93,14 @@ message_read bytes ip udp message sum v e i u m d = rw (e, i, u, m, d) refl
 pub message_again : (bytes : List ℕ) (v : Message) → Spells bytes v → message_in bytes ≡ Ok v
 message_again bytes v s =
     let text = ecm_fields v.ddt s.ignored ++ s.packet in
-    let d = bit-le v.ddt in
-    let w = pseudo_words s.packet s.pseudo s.udp s.spells_ip in
-    let header = ecm_read text (omega arith) (type_again (bit v.ddt) s.ignored d s.ignored_fits) (security_again (bit v.ddt) s.ignored d s.ignored_fits) in
+    let first = first_again 8 0 (bit v.ddt) s.ignored (omega arith) (omega arith) (bit-le v.ddt) s.ignored_fits in
+    let header = ecm_read text (omega arith) first.0 first.1 in
     let ip = ip_again s.packet s.pseudo s.udp (udp_some s.pseudo s.udp v.port s.request s.spells_udp) s.spells_ip in
-    let udp = udp_again w.0 s.pseudo s.udp v.port s.request w.1 s.spells_udp in
+    let w = pseudo_known s.packet s.pseudo s.udp s.spells_ip in
+    let udp = udp_again w.words s.pseudo s.udp v.port s.request w.even s.spells_udp in
     let request = request_again s.request v.nonce v.xeid v.rlocs s.spells_request in
     ap message_in s.whole
-    ∙ message_read text s.packet s.udp s.request (ones_sum 0 s.pseudo) v header ip udp request (bit_again v.ddt (slice_index text 0 / 4 % 2) (ddt_again (bit v.ddt) s.ignored d s.ignored_fits))
+    ∙ message_read text s.packet s.udp s.request (ones_sum 0 s.pseudo) v header ip udp request (bit_again v.ddt (slice_index text 0 / 4 % 2) first.2)
 
 -- ---- bytes
 
@@ -144,12 +118,11 @@ source_is_bytes bytes (Lcaf r f t m content hr hf ht hm small fits is) =
 pub request_is_bytes : (bytes : List ℕ) (nonce : ℕ) (x : Xeid) (ls : List Locator) → SpellsRequest bytes nonce x ls → IsBytes bytes
 request_is_bytes bytes nonce x ls s =
     let i = s.ignored in
-    let word = 2 ^ 28 + bit i.authoritative * 2 ^ 27 + bit s.with_map * 2 ^ 26 + i.flags * 2 ^ 13 + s.irc * 2 ^ 8 + 1 in
-    subst IsBytes (sym s.whole) (IsBytes-number 4 word beside IsBytes-number 8 nonce beside source_is_bytes s.source s.spells_source
+    subst IsBytes (sym s.whole) (IsBytes-number 4 (request_word i s.with_map s.irc) beside IsBytes-number 8 nonce beside source_is_bytes s.source s.spells_source
     beside addresses_are_bytes 0 ls s.itr_rlocs s.spells_rlocs beside two_bytes i.reserved (address_width x.address) i.reserved_fits (width_small x.address)
     beside eid_is_bytes (address_width x.address) s.eid (xeid_path x) s.spells_eid beside s.after_are_bytes)
 
-udp_fields_are_bytes : (port len checksum : ℕ) → IsBytes (udp_fields port len checksum)
+pub udp_fields_are_bytes : (port len checksum : ℕ) → IsBytes (udp_fields port len checksum)
 udp_fields_are_bytes port len checksum = IsBytes-number 2 port beside IsBytes-number 2 4342 beside IsBytes-number 2 len beside IsBytes-number 2 checksum
 
 udp_is_bytes : (pseudo bytes : List ℕ) (port : ℕ) (message : List ℕ) → SpellsUdp pseudo bytes port message → IsBytes message → IsBytes bytes
@@ -176,11 +149,10 @@ ip_is_bytes bytes pseudo udp (Version6 s) fits =
 
 pub message_is_bytes : (bytes : List ℕ) (v : Message) → Spells bytes v → IsBytes bytes
 message_is_bytes bytes v s =
-    let word = 8 * 2 ^ 28 + bit v.ddt * 2 ^ 26 + s.ignored in
     let request = request_is_bytes s.request v.nonce v.xeid v.rlocs s.spells_request in
     let udp = udp_is_bytes s.pseudo s.udp v.port s.request s.spells_udp request in
     let packet = ip_is_bytes s.packet s.pseudo s.udp s.spells_ip udp in
-    subst IsBytes (sym s.whole) (IsBytes-number 4 word beside packet)
+    subst IsBytes (sym s.whole) (IsBytes-number 4 (ecm_word v.ddt s.ignored) beside packet)
 
 -- ---- the laws
 

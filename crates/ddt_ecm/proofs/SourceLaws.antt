@@ -1,5 +1,5 @@
 -- A source EID and ITR-RLOCs that are read are spelled so, and what is spelled is read again.
-use Rattle.std.proofs.Common.{◌≡◌, ℕ, ◌+◌, ◌^◌, ◌<◌, ◌≤◌, false, cond, ltb, eqb, List, [], ◌∷◌, ◌++◌, length, take, drop, Result, Ok, Err, refl, sym, ap, subst, ◌∙◌, arith, inl, inr, length-append, length-drop}
+use Rattle.std.proofs.Common.{◌≡◌, ℕ, ◌+◌, ◌^◌, ◌<◌, ◌≤◌, false, ltb, eqb, List, [], ◌∷◌, ◌++◌, length, take, drop, Ok, refl, sym, ap, subst, ◌∙◌, arith, inl, inr, length-append, length-drop}
 use Rattle.std.specs.Prelude.{slice_index}
 use Rattle.std.specs.Int.{w16, to_be_bytes, bytes_high_first}
 use Rattle.std.proofs.lemmas.Bool.{ltb-false, le-ltb, eqb-true}
@@ -7,15 +7,14 @@ use Rattle.std.proofs.lemmas.List.{length-take-le}
 use Rattle.byteorder.specs.Endian.{big_number}
 use Rattle.byteorder.specs.Numbers.{big_number-reads_back}
 use Rattle.ddt_path.specs.declared.locator.Locator.{Locator}
-use Rattle.ddt_reading.specs.Steps.{◌>>=◌, in_words, IsBytes}
+use Rattle.ddt_reading.specs.Steps.{in_words, IsBytes}
 use Rattle.ddt_wire.specs.Address.{family_and_address, IsAddress, address_at}
-use Rattle.ddt_reading.proofs.StepLemmas.{bind_ok, words_ok, guard_ok, chosen, ok_is}
+use Rattle.ddt_reading.proofs.StepLemmas.{bind_parts, words_ok, guard_parts, chosen, ok_is}
 use Rattle.ddt_reading.proofs.ByteLemmas.{HasFront, IsBetween, ◌followed_by◌, stands, known_stands, byte_stands, number_taken, front_taken, number_fits, IsBytes-drop, IsBytes-take}
 use Rattle.ddt_wire.proofs.AddressesLaws.{address_takes, address_again}
 use Rattle.ddt_wire.proofs.EidLaws.{plain_number, plain_long, not_lcaf, afi_some}
 use Rattle.ddt_ecm.specs.declared.fault.RequestFault.{RequestFault}
-use Rattle.ddt_ecm.specs.declared.fault.RequestFault.TheVariants as fault
-use Rattle.ddt_ecm.specs.MapRequest.{SpellsSource, Absent, Plain, Lcaf, lcaf_at, from_source, source_at}
+use Rattle.ddt_ecm.specs.MapRequest.{SpellsSource, Absent, Plain, Lcaf, from_source, source_at}
 
 -- ---- the source EID
 
@@ -61,22 +60,17 @@ lcaf_takes bytes n fits family long same =
 pub source_takes : (bytes : List ℕ) (n : ℕ) → IsBytes bytes → source_at bytes ≡ Ok n → IsSource bytes n
 unfolding source_at
 source_takes bytes n fits e =
-    let len = 8 + big_number 2 (drop 6 bytes) in
-    let read = in_words from_source (address_at bytes) in
-    let address : Result ℕ RequestFault = read >>= λ a. Ok a.1 in
-    let present = cond (eqb (big_number 2 bytes) 16387) (lcaf_at bytes) address in
-    let first : Result ℕ RequestFault = cond (eqb (big_number 2 bytes) 0) (Ok 2) present in
-    let g = guard_ok (ltb (length bytes) 2) fault.Short first n e in
-    elim (chosen (eqb (big_number 2 bytes) 0) (Ok 2) present (Ok n) g.1) [
-      | inl p ↦ subst (IsSource bytes) (ok_is {E = RequestFault} 2 n p.1) (absent_takes bytes fits (ltb-false _ _ g.0) (eqb-true _ _ p.0))
-      | inr p ↦ elim (chosen (eqb (big_number 2 bytes) 16387) (lcaf_at bytes) address (Ok n) p.1) [
+    guard_parts (ltb (length bytes) 2) _ _ n e λ short e₁.
+    elim (chosen (eqb (big_number 2 bytes) 0) _ _ _ e₁) [
+      | inl p ↦ subst (IsSource bytes) (ok_is {E = RequestFault} 2 n p.1) (absent_takes bytes fits (ltb-false _ _ short) (eqb-true _ _ p.0))
+      | inr p ↦ elim (chosen (eqb (big_number 2 bytes) 16387) _ _ _ p.1) [
         | inl t ↦
-            let l = guard_ok (ltb (length bytes) 8) fault.Short (cond (ltb (length bytes) len) (Err fault.Short) (Ok len)) n t.1 in
-            let m = guard_ok (ltb (length bytes) len) fault.Short (Ok len) n l.1 in
-            lcaf_takes bytes n fits (eqb-true _ _ t.0) (ltb-false _ _ m.0) (ok_is {E = RequestFault} len n m.1)
+            guard_parts (ltb (length bytes) 8) _ _ n t.1 λ eight e₂.
+            guard_parts (ltb (length bytes) (8 + big_number 2 (drop 6 bytes))) _ _ n e₂ λ all e₃.
+            lcaf_takes bytes n fits (eqb-true _ _ t.0) (ltb-false _ _ all) (ok_is {E = RequestFault} (8 + big_number 2 (drop 6 bytes)) n e₃)
         | inr t ↦
-            let b = bind_ok read (λ a. Ok a.1) n t.1 in
-            plain_takes bytes b.0 n fits (words_ok from_source (address_at bytes) b.0 b.1) (ok_is {E = RequestFault} b.0.1 n b.2)
+            bind_parts (in_words from_source (address_at bytes)) _ n t.1 λ a read e₂.
+            plain_takes bytes a n fits (words_ok from_source (address_at bytes) a read) (ok_is {E = RequestFault} a.1 n e₂)
       ]
     ]
 

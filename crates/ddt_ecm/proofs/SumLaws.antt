@@ -1,9 +1,9 @@
 -- A sum over bytes with their checksum in place is right.
-use Rattle.std.proofs.Common.{◌≡◌, ℕ, zero, suc, ◌+◌, ◌*◌, ◌<◌, ◌≤◌, true, false, ltb, eqb, List, [], ◌∷◌, ◌++◌, length, refl, arith, inl, inr}
+use Rattle.std.proofs.Common.{◌≡◌, ℕ, zero, suc, ◌+◌, ◌*◌, ◌<◌, ◌≤◌, true, false, ltb, eqb, List, [], ◌∷◌, ◌++◌, length, arith, inl, inr}
 use Rattle.std.specs.Int.{w16, to_be_bytes}
 use Rattle.std.proofs.lemmas.Bool.{cases_lt, lt-ltb, le-ltb, ne_eqb}
 use Rattle.ddt_reading.specs.Steps.{IsBytes}
-use Rattle.ddt_reading.proofs.ByteLemmas.{IsBytes-drop, IsBytes-append, IsBytes-number}
+use Rattle.ddt_reading.proofs.ByteLemmas.{IsBytes-drop}
 use Rattle.ddt_ecm.specs.Checksum.{ones_add, ones_sum, complement}
 use Rattle.ddt_ecm.specs.UdpHeader.{not_absent}
 
@@ -66,32 +66,24 @@ with_field k pre post c e lt =
     omega arith
 
 -- a field of 16 bits that fills up to all ones, or that and 65535 more
-filled : (s k : ℕ) (pre post : List ℕ) (c more : ℕ) → s ≤ 65535 → length pre ≡ k * 2 → IsBytes (pre ++ (to_be_bytes w16 0 ++ post)) → IsBytes (pre ++ (to_be_bytes w16 c ++ post)) → c < 65536
+filled : (s k : ℕ) (pre post : List ℕ) (c more : ℕ) → s ≤ 65535 → length pre ≡ k * 2 → ((x : ℕ) → IsBytes (pre ++ (to_be_bytes w16 x ++ post))) → c < 65536
     → c ≡ complement (ones_sum s (pre ++ (to_be_bytes w16 0 ++ post))) + 65535 * more → ones_sum s (pre ++ (to_be_bytes w16 c ++ post)) ≡ 65535
-filled s k pre post c more hs e fits0 fits lt is =
+filled s k pre post c more hs e fits lt is =
     let zeros = pre ++ (to_be_bytes w16 0 ++ post) in
     let whole = pre ++ (to_be_bytes w16 c ++ post) in
-    let f0 = folded s zeros hs fits0 in
-    let f = folded s whole hs fits in
+    let f0 = folded s zeros hs (fits 0) in
+    let f = folded s whole hs (fits c) in
     let w = with_field k pre post c e lt in
     right_total (ones_sum s whole) (s + words whole) (f0.times + more) f (omega (arith, f0.folds, f0.small, w, is))
 
-with_bytes : (pre post : List ℕ) (c : ℕ) → IsBytes pre → IsBytes post → IsBytes (pre ++ (to_be_bytes w16 c ++ post))
-with_bytes pre post c fp fq = IsBytes-append pre (to_be_bytes w16 c ++ post) fp (IsBytes-append (to_be_bytes w16 c) post (IsBytes-number 2 c) fq)
-
-pub checksum_right : (s k : ℕ) (pre post : List ℕ) → s ≤ 65535 → length pre ≡ k * 2 → IsBytes pre → IsBytes post
+pub checksum_right : (s k : ℕ) (pre post : List ℕ) → s ≤ 65535 → length pre ≡ k * 2 → ((x : ℕ) → IsBytes (pre ++ (to_be_bytes w16 x ++ post)))
     → ones_sum s (pre ++ (to_be_bytes w16 (complement (ones_sum s (pre ++ (to_be_bytes w16 0 ++ post)))) ++ post)) ≡ 65535
-checksum_right s k pre post hs e fp fq =
-    let c = complement (ones_sum s (pre ++ (to_be_bytes w16 0 ++ post))) in
-    filled s k pre post c 0 hs e (with_bytes pre post 0 fp fq) (with_bytes pre post c fp fq) (omega arith) (omega arith)
+checksum_right s k pre post hs e fits = filled s k pre post (complement (ones_sum s (pre ++ (to_be_bytes w16 0 ++ post)))) 0 hs e fits (omega arith) (omega arith)
 
-present_at : (s k : ℕ) (pre post : List ℕ) (c : ℕ) → s ≤ 65535 → length pre ≡ k * 2 → IsBytes pre → IsBytes post → c ≡ complement (ones_sum s (pre ++ (to_be_bytes w16 0 ++ post)))
+-- the same where 65535 stands in place of a checksum of 0
+pub present_right : (s k : ℕ) (pre post : List ℕ) (c : ℕ) → s ≤ 65535 → length pre ≡ k * 2 → ((x : ℕ) → IsBytes (pre ++ (to_be_bytes w16 x ++ post))) → c ≡ complement (ones_sum s (pre ++ (to_be_bytes w16 0 ++ post)))
     → ones_sum s (pre ++ (to_be_bytes w16 (not_absent c) ++ post)) ≡ 65535
-present_at s k pre post zero hs e fp fq is = filled s k pre post 65535 1 hs e (with_bytes pre post 0 fp fq) (with_bytes pre post 65535 fp fq) (omega arith) (omega (arith, is))
-present_at s k pre post (suc c) hs e fp fq is =
+present_right s k pre post zero hs e fits is = filled s k pre post 65535 1 hs e fits (omega arith) (omega (arith, is))
+present_right s k pre post (suc c) hs e fits is =
     let other : eqb (suc c) 0 ≡ false = ne_eqb (suc c) 0 (λ q. omega arith) in
-    rw other (filled s k pre post (suc c) 0 hs e (with_bytes pre post 0 fp fq) (with_bytes pre post (suc c) fp fq) (omega (arith, is)) (omega (arith, is)))
-
-pub present_right : (s k : ℕ) (pre post : List ℕ) → s ≤ 65535 → length pre ≡ k * 2 → IsBytes pre → IsBytes post
-    → ones_sum s (pre ++ (to_be_bytes w16 (not_absent (complement (ones_sum s (pre ++ (to_be_bytes w16 0 ++ post))))) ++ post)) ≡ 65535
-present_right s k pre post hs e fp fq = present_at s k pre post (complement (ones_sum s (pre ++ (to_be_bytes w16 0 ++ post)))) hs e fp fq refl
+    rw other (filled s k pre post (suc c) 0 hs e fits (omega (arith, is)) (omega (arith, is)))

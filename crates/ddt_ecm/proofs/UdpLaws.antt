@@ -14,53 +14,39 @@ use Rattle.ddt_ecm.proofs.ChecksumLemmas.{ones_sum-append}
 
 -- ---- what is read is spelled so
 
--- what is known of a datagram that was read
-record IsUdp (sum : ℕ) (udp : List ℕ) : Type 0 where
-  len : big_number 2 (drop 4 udp) ≡ length udp
-  right : (big_number 2 (drop 6 udp) ≡ 0) ⊎ (ones_sum sum udp ≡ 65535)
-  port : big_number 2 (drop 2 udp) ≡ 4342
-
-udp_holds : (sum : ℕ) (udp : List ℕ) (x : ℕ × List ℕ) → udp_at sum udp ≡ Ok x → IsUdp sum udp × ((big_number 2 udp, drop 8 udp) ≡ x)
-unfolding udp_at
-udp_holds sum udp x e =
-    let covered = eqb (big_number 2 (drop 6 udp)) 0 || is_right (ones_sum sum udp) in
-    guard_parts (not (eqb (big_number 2 (drop 4 udp)) (length udp))) _ _ x e λ len e₁.
-    guard_parts (not covered) _ _ x e₁ λ sum_is e₂.
-    guard_parts (not (eqb (big_number 2 (drop 2 udp)) 4342)) _ _ x e₂ λ port e₃.
-    let either : (big_number 2 (drop 6 udp) ≡ 0) ⊎ (ones_sum sum udp ≡ 65535) =
-    elim (or_cases (eqb (big_number 2 (drop 6 udp)) 0) (is_right (ones_sum sum udp)) (not-false covered sum_is)) [
-      | inl p ↦ inl (eqb-true _ _ p)
-      | inr p ↦ inr (eqb-true _ _ p)
-    ] in
-    let h : IsUdp sum udp = record { len = eqb-true _ _ (not-false _ len); right = either; port = eqb-true _ _ (not-false _ port) } in
-    (h, ok_is {E = RequestFault} (big_number 2 udp, drop 8 udp) x e₃)
-
 -- a sum over a pseudo-header and a datagram
 covers : (k : ℕ) (pseudo udp : List ℕ) → length pseudo ≡ k * 2 → ones_sum 0 (pseudo ++ udp) ≡ ones_sum (ones_sum 0 pseudo) udp
 covers k pseudo udp even = ones_sum-append k pseudo udp 0 even
 
-either_covers : (k : ℕ) (pseudo udp : List ℕ) (n : ℕ) → length pseudo ≡ k * 2 → (n ≡ 0) ⊎ (ones_sum (ones_sum 0 pseudo) udp ≡ 65535) → (n ≡ 0) ⊎ (ones_sum 0 (pseudo ++ udp) ≡ 65535)
-either_covers k pseudo udp n even (inl e) = inl e
-either_covers k pseudo udp n even (inr e) = inr (covers k pseudo udp even ∙ e)
+-- what the test of the checksum says
+right_holds : (k : ℕ) (pseudo udp : List ℕ) (checksum : ℕ) → length pseudo ≡ k * 2 → (eqb checksum 0 || is_right (ones_sum (ones_sum 0 pseudo) udp)) ≡ true → (checksum ≡ 0) ⊎ (ones_sum 0 (pseudo ++ udp) ≡ 65535)
+right_holds k pseudo udp checksum even e =
+    elim (or_cases (eqb checksum 0) (is_right (ones_sum (ones_sum 0 pseudo) udp)) e) [
+      | inl p ↦ inl (eqb-true _ _ p)
+      | inr p ↦ inr (covers k pseudo udp even ∙ eqb-true _ _ p)
+    ]
 
 pub udp_takes : (k : ℕ) (pseudo udp : List ℕ) (x : ℕ × List ℕ) → length pseudo ≡ k * 2 → IsBytes udp → 8 ≤ length udp → udp_at (ones_sum 0 pseudo) udp ≡ Ok x → SpellsUdp pseudo udp x.0 x.1
+unfolding udp_at
 udp_takes k pseudo udp x even fits long e =
-    let h = udp_holds (ones_sum 0 pseudo) udp x e in
+    guard_parts (not (eqb (big_number 2 (drop 4 udp)) (length udp))) _ _ x e λ len e₁.
+    guard_parts (not (eqb (big_number 2 (drop 6 udp)) 0 || is_right (ones_sum (ones_sum 0 pseudo) udp))) _ _ x e₁ λ right e₂.
+    guard_parts (not (eqb (big_number 2 (drop 2 udp)) 4342)) _ _ x e₂ λ destination e₃.
     let message = drop 8 udp in
     let port = big_number 2 udp in
     let checksum = big_number 2 (drop 6 udp) in
-    let whole_len : length udp ≡ 8 + length message = omega (arith, length-drop 8 udp) in
-    let fields = number_stands 0 2 udp fits (omega arith) followed_by known_stands 2 2 4342 udp fits (omega arith) h.0.port
-    followed_by known_stands 4 2 (8 + length message) udp fits (omega arith) (h.0.len ∙ whole_len) followed_by number_stands 6 2 udp fits (omega arith) in
+    let number : big_number 2 (drop 4 udp) ≡ 8 + length message = omega (arith, length-drop 8 udp, eqb-true _ _ (not-false _ len)) in
+    let fields = number_stands 0 2 udp fits (omega arith) followed_by known_stands 2 2 4342 udp fits (omega arith) (eqb-true _ _ (not-false _ destination))
+    followed_by known_stands 4 2 (8 + length message) udp fits (omega arith) number followed_by number_stands 6 2 udp fits (omega arith) in
     let made : SpellsUdp pseudo udp port message = record {
       checksum = checksum;
       port_fits = number_fits 2 udp fits;
-      len_fits = omega (arith, number_fits 2 (drop 4 udp) (IsBytes-drop 4 udp fits), h.0.len, whole_len);
+      len_fits = omega (arith, number_fits 2 (drop 4 udp) (IsBytes-drop 4 udp fits), number);
       checksum_fits = number_fits 2 (drop 6 udp) (IsBytes-drop 6 udp fits);
-      right = either_covers k pseudo udp checksum even h.0.right;
+      right = right_holds k pseudo udp checksum even (not-false _ right);
       whole = fields.is;
     } in
-    subst (λ (y : ℕ × List ℕ). SpellsUdp pseudo udp y.0 y.1) h.1 made
+    subst (λ (y : ℕ × List ℕ). SpellsUdp pseudo udp y.0 y.1) (ok_is {E = RequestFault} (port, message) x e₃) made
 
 -- ---- what is spelled is read again
 

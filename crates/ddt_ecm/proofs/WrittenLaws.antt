@@ -1,7 +1,8 @@
 -- What is written spells what was to be written, and is read again.
-use Rattle.std.proofs.Common.{◌≡◌, ℕ, ◌+◌, ◌-◌, ◌*◌, ◌/◌, ◌%◌, ◌^◌, ◌<◌, ◌≤◌, Bool, true, false, eqb, List, [], ◌∷◌, ◌++◌, length, Result, Ok, Err, refl, sym, ap, subst, ◌∙◌, arith, inr}
+use Rattle.std.proofs.Common.{◌≡◌, ℕ, ◌+◌, ◌-◌, ◌^◌, ◌<◌, ◌≤◌, Bool, false, eqb, List, [], ◌∷◌, ◌++◌, length, Ok, refl, sym, ap, subst, ◌∙◌, arith, inr}
 use Rattle.std.specs.List.{flat_map, AllByRecursion}
 use Rattle.std.specs.Int.{w16, w32, w64, w128, to_be_bytes}
+use Rattle.byteorder.specs.Endian.{big_number}
 use Rattle.std.proofs.lemmas.Bool.{cond_both}
 use Rattle.std.proofs.lemmas.List.{append-nil}
 use Rattle.ddt_path.specs.declared.locator.Locator.{Locator}
@@ -11,7 +12,7 @@ use Rattle.ddt_path.specs.Path.{address_width, xeid_path}
 use Rattle.ddt_reading.specs.Steps.{IsBytes}
 use Rattle.ddt_wire.specs.Address.{family_and_address, IsAddress}
 use Rattle.ddt_wire.specs.Eid.{SpellsEid, form_mask_len, written_eid, written_mask_len}
-use Rattle.ddt_reading.proofs.ByteLemmas.{◌beside◌, two_bytes, IsBytes-nil, IsBytes-number}
+use Rattle.ddt_reading.proofs.ByteLemmas.{bytes_back, ◌beside◌, two_bytes, IsBytes-nil, IsBytes-number}
 use Rattle.ddt_wire.proofs.AddressesLaws.{addresses_spell}
 use Rattle.ddt_wire.proofs.EidLaws.{eid_spells}
 use Rattle.ddt_ecm.specs.Checksum.{ones_sum, complement}
@@ -19,30 +20,28 @@ use Rattle.ddt_ecm.specs.Ipv4Header.{pseudo4, Ipv4Header, ipv4_fields, SpellsIpv
 use Rattle.ddt_ecm.specs.Ipv6Header.{pseudo6, Ipv6Header, ipv6_fields, SpellsIpv6, written_ipv6}
 use Rattle.ddt_ecm.specs.IpHeader.{SpellsIp, Version4, Version6, packet, packet4, packet6, source4, source6}
 use Rattle.ddt_ecm.specs.UdpHeader.{udp_fields, SpellsUdp, not_absent, written_udp}
-use Rattle.ddt_ecm.specs.MapRequest.{Ignored, Absent, SpellsRequest, written_map_request}
-use Rattle.ddt_ecm.specs.EcmHeader.{ecm_fields}
+use Rattle.ddt_ecm.specs.MapRequest.{Ignored, Absent, request_word, SpellsRequest, written_map_request}
 use Rattle.ddt_ecm.specs.Request.{Spells, message_in, written}
 use Rattle.ddt_ecm.specs.Laws.{IsRequest, message_of}
 use Rattle.ddt_ecm.proofs.ChecksumLemmas.{ones_sum-append}
+use Rattle.ddt_ecm.proofs.IpLaws.{IsPseudo, pseudo_known}
 use Rattle.ddt_ecm.proofs.SumLaws.{folded, checksum_right, present_right}
 use Rattle.ddt_ecm.proofs.WritingLemmas.{request_small}
 use Rattle.ddt_ecm.proofs.MapRequestLaws.{full_is_prefix, form_of_full}
-use Rattle.ddt_ecm.proofs.RequestLaws.{request_is_bytes, message_again}
+use Rattle.ddt_ecm.proofs.RequestLaws.{udp_fields_are_bytes, request_is_bytes, message_again}
 
 -- ---- the Map-Request
 
-cong4 : (a b c d a' b' c' d' : ℕ) → a ≡ a' → b ≡ b' → c ≡ c' → d ≡ d' → (a ∷ b ∷ c ∷ d ∷ []) ≡ (a' ∷ b' ∷ c' ∷ d' ∷ [])
-cong4 a b c d a' b' c' d' p q r s = rw (p, q, r, s) refl
+abbrev none : Ignored
+none = record { authoritative = false; flags = 0; reserved = 0; flags_fit = omega arith; reserved_fits = omega arith }
 
-abbrev word_of : ℕ → ℕ
-word_of irc = 2 ^ 28 + 0 * 2 ^ 27 + 0 * 2 ^ 26 + 0 * 2 ^ 13 + irc * 2 ^ 8 + 1
-
-first_bytes : (irc : ℕ) → irc < 32 → (16 ∷ 0 ∷ irc ∷ 1 ∷ []) ≡ to_be_bytes w32 (word_of irc)
-first_bytes irc lt = cong4 16 0 irc 1 (word_of irc / 16777216 % 256) (word_of irc / 65536 % 256) (word_of irc / 256 % 256) (word_of irc % 256) (omega arith) (omega arith) (omega arith) (omega arith)
+first_bytes : (irc : ℕ) → irc < 32 → (16 ∷ 0 ∷ irc ∷ 1 ∷ []) ≡ to_be_bytes w32 (request_word none false irc)
+first_bytes irc lt =
+    let e : big_number 4 (16 ∷ 0 ∷ irc ∷ 1 ∷ []) ≡ request_word none false irc = omega arith in
+    sym (bytes_back 4 (16 ∷ 0 ∷ irc ∷ 1 ∷ []) (two_bytes 16 0 (omega arith) (omega arith) beside two_bytes irc 1 (omega arith) (omega arith)) refl) ∙ ap (to_be_bytes w32) e
 
 request_spells : (nonce : ℕ) (x : Xeid) (rlocs : List Locator) → IsRequest nonce x rlocs → SpellsRequest (written_map_request nonce x rlocs) nonce x rlocs
 request_spells nonce x rlocs h =
-    let none : Ignored = record { authoritative = false; flags = 0; reserved = 0; flags_fit = omega arith; reserved_fits = omega arith } in
     let p = xeid_path x in
     let few = h.few in
     let some = h.some in
@@ -67,76 +66,59 @@ request_spells nonce x rlocs h =
       spells_eid = subst (λ (k : ℕ). SpellsEid k (written_eid p) p) mask (eid_spells p (full_is_prefix x.iid x.address h.iid_fits h.address_fits));
       after_are_bytes = IsBytes-nil;
       none_after = λ _. refl;
-      whole = ap rest (first_bytes (length rlocs - 1) small) ∙ sym (append-nil (rest (to_be_bytes w32 (word_of (length rlocs - 1)))));
+      whole = ap rest (first_bytes (length rlocs - 1) small) ∙ sym (append-nil (rest (to_be_bytes w32 (request_word none false (length rlocs - 1)))));
     }
 
 -- ---- UDP
 
-ports : ℕ → List ℕ
-ports len = to_be_bytes w16 4342 ++ to_be_bytes w16 4342 ++ to_be_bytes w16 len
-
-ports_are_bytes : (len : ℕ) → IsBytes (ports len)
-unfolding ports
-ports_are_bytes len = IsBytes-number 2 4342 beside IsBytes-number 2 4342 beside IsBytes-number 2 len
-
 present_fits : (c : ℕ) → c < 65536 → not_absent c < 65536
 present_fits c lt = cond_both (eqb c 0) 65535 c (λ n. n < 65536) (λ _. omega arith) (λ _. lt)
 
-udp_spells : (k : ℕ) (pseudo message : List ℕ) → length pseudo ≡ k * 2 → IsBytes pseudo → IsBytes message → length message ≤ 1000 → SpellsUdp pseudo (written_udp (ones_sum 0 pseudo) message) 4342 message
-unfolding written_udp ports
-udp_spells k pseudo message even pseudo_fits fits few =
+udp_spells : (pseudo message : List ℕ) → IsPseudo pseudo → IsBytes message → length message ≤ 1000 → SpellsUdp pseudo (written_udp (ones_sum 0 pseudo) message) 4342 message
+unfolding written_udp
+udp_spells pseudo message p fits few =
     let sum = ones_sum 0 pseudo in
     let len = 8 + length message in
-    let c = not_absent (complement (ones_sum sum (udp_fields 4342 len 0 ++ message))) in
-    let small = (folded 0 pseudo (omega arith) pseudo_fits).small in
-    let right = present_right sum 3 (ports len) message small refl (ports_are_bytes len) fits in
+    let before = to_be_bytes w16 4342 ++ to_be_bytes w16 4342 ++ to_be_bytes w16 len in
+    let zero = complement (ones_sum sum (udp_fields 4342 len 0 ++ message)) in
+    let small = (folded 0 pseudo (omega arith) p.fits).small in
+    let right = present_right sum 3 before message zero small refl (λ c. udp_fields_are_bytes 4342 len c beside fits) refl in
     record {
-      checksum = c;
+      checksum = not_absent zero;
       port_fits = omega arith;
       len_fits = omega arith;
-      checksum_fits = present_fits (complement (ones_sum sum (udp_fields 4342 len 0 ++ message))) (omega arith);
-      right = inr (ones_sum-append k pseudo (udp_fields 4342 len c ++ message) 0 even ∙ right);
+      checksum_fits = present_fits zero (omega arith);
+      right = inr (ones_sum-append p.words pseudo (udp_fields 4342 len (not_absent zero) ++ message) 0 p.even ∙ right);
       whole = refl;
     }
 
-udp_length : (sum : ℕ) (message : List ℕ) → 8 + length message ≡ length (written_udp sum message)
+udp_length : (sum : ℕ) (message : List ℕ) → length (written_udp sum message) ≡ 8 + length message
 unfolding written_udp
 udp_length sum message = omega arith
 
 -- ---- IP
 
-before : ℕ → List ℕ
-before total = (69 ∷ 0 ∷ []) ++ to_be_bytes w16 total ++ (0 ∷ 0 ∷ 0 ∷ 0 ∷ 64 ∷ 17 ∷ [])
-
-before_is_bytes : (total : ℕ) → IsBytes (before total)
-unfolding before
-before_is_bytes total =
-    let one = two_bytes 0 0 (omega arith) (omega arith) in
-    two_bytes 69 0 (omega arith) (omega arith) beside IsBytes-number 2 total beside (one beside (one beside two_bytes 64 17 (omega arith) (omega arith)))
-
-abbrev addresses4 : ℕ → ℕ → List ℕ
-addresses4 s d = to_be_bytes w32 s ++ to_be_bytes w32 d
-
-abbrev addresses6 : ℕ → ℕ → List ℕ
-addresses6 s d = to_be_bytes w128 s ++ to_be_bytes w128 d
-
-addresses4_are_bytes : (s d : ℕ) → IsBytes (addresses4 s d)
-addresses4_are_bytes s d = IsBytes-number 4 s beside IsBytes-number 4 d
+header_is_bytes : (total c s d : ℕ) → IsBytes (ipv4_header total c s d)
+header_is_bytes total c s d =
+    let zeros = two_bytes 0 0 (omega arith) (omega arith) in
+    two_bytes 69 0 (omega arith) (omega arith) beside IsBytes-number 2 total beside (zeros beside (zeros beside two_bytes 64 17 (omega arith) (omega arith)))
+    beside IsBytes-number 2 c beside IsBytes-number 4 s beside IsBytes-number 4 d
 
 header_right : (total s d : ℕ) → ones_sum 0 (ipv4_header total (complement (ones_sum 0 (ipv4_header total 0 s d))) s d) ≡ 65535
-unfolding before
-header_right total s d = checksum_right 0 5 (before total) (addresses4 s d) (omega arith) refl (before_is_bytes total) (addresses4_are_bytes s d)
+header_right total s d =
+    let before = (69 ∷ 0 ∷ []) ++ to_be_bytes w16 total ++ (0 ∷ 0 ∷ 0 ∷ 0 ∷ 64 ∷ 17 ∷ []) in
+    checksum_right 0 5 before (to_be_bytes w32 s ++ to_be_bytes w32 d) (omega arith) refl (λ c. header_is_bytes total c s d)
 
-ipv4_spells : (s d len total : ℕ) (udp : List ℕ) → s < 2 ^ 32 → d < 2 ^ 32 → len ≤ 2000 → len ≡ length udp → total ≡ 20 + length udp → SpellsIpv4 (written_ipv4 total s d ++ udp) (pseudo4 (addresses4 s d) len) udp
+ipv4_spells : (s d n : ℕ) (udp : List ℕ) → s < 2 ^ 32 → d < 2 ^ 32 → n ≤ 1000 → length udp ≡ 8 + n → SpellsIpv4 (written_ipv4 (28 + n) s d ++ udp) (pseudo4 (to_be_bytes w32 s ++ to_be_bytes w32 d) (8 + n)) udp
 unfolding written_ipv4
-ipv4_spells s d len total udp hs hd few is e =
+ipv4_spells s d n udp hs hd few is =
     let h : Ipv4Header = record {
       words = 5;
       service = 0;
       identification = 0;
       flags = 0;
       hops = 64;
-      checksum = complement (ones_sum 0 (ipv4_header total 0 s d));
+      checksum = complement (ones_sum 0 (ipv4_header (28 + n) 0 s d));
       source = s;
       destination = d;
       options = [];
@@ -151,17 +133,18 @@ ipv4_spells s d len total udp hs hd few is e =
       options_fill = omega arith;
       options_are_bytes = IsBytes-nil;
     } in
+    let total : 28 + n ≡ 20 + length udp = omega arith in
     record {
       header = h;
       total_fits = omega arith;
-      right = ap (λ (t : ℕ). ones_sum 0 (ipv4_fields h t)) (sym e) ∙ header_right total s d;
-      covered = ap (pseudo4 (addresses4 s d)) is;
-      whole = ap (λ (t : ℕ). ipv4_fields h t ++ udp) e;
+      right = ap (λ (t : ℕ). ones_sum 0 (ipv4_fields h t)) (sym total) ∙ header_right (28 + n) s d;
+      covered = ap (pseudo4 (to_be_bytes w32 s ++ to_be_bytes w32 d)) (sym is);
+      whole = ap (λ (t : ℕ). ipv4_fields h t ++ udp) total;
     }
 
-ipv6_spells : (s d len : ℕ) (udp : List ℕ) → s < 2 ^ 128 → d < 2 ^ 128 → len ≤ 2000 → len ≡ length udp → SpellsIpv6 (written_ipv6 len s d ++ udp) (pseudo6 (addresses6 s d) len) udp
+ipv6_spells : (s d n : ℕ) (udp : List ℕ) → s < 2 ^ 128 → d < 2 ^ 128 → n ≤ 1000 → length udp ≡ 8 + n → SpellsIpv6 (written_ipv6 (8 + n) s d ++ udp) (pseudo6 (to_be_bytes w128 s ++ to_be_bytes w128 d) (8 + n)) udp
 unfolding written_ipv6
-ipv6_spells s d len udp hs hd few is =
+ipv6_spells s d n udp hs hd few is =
     let h : Ipv6Header = record {
       class_and_label = 0;
       hops = 64;
@@ -175,8 +158,8 @@ ipv6_spells s d len udp hs hd few is =
     record {
       header = h;
       payload_fits = omega arith;
-      covered = ap (pseudo6 (addresses6 s d)) is;
-      whole = ap (λ (t : ℕ). ipv6_fields h t ++ udp) is;
+      covered = ap (pseudo6 (to_be_bytes w128 s ++ to_be_bytes w128 d)) (sym is);
+      whole = ap (λ (t : ℕ). ipv6_fields h t ++ udp) (sym is);
     }
 
 -- an IP packet around a message
@@ -186,37 +169,10 @@ record IsPacket (bytes message : List ℕ) : Type 0 where
   spells_ip : SpellsIp bytes pseudo udp
   spells_udp : SpellsUdp pseudo udp 4342 message
 
-pseudo4_is_bytes : (s d len : ℕ) → IsBytes (pseudo4 (addresses4 s d) len)
-pseudo4_is_bytes s d len = addresses4_are_bytes s d beside two_bytes 0 17 (omega arith) (omega arith) beside IsBytes-number 2 len
-
-pseudo6_is_bytes : (s d len : ℕ) → IsBytes (pseudo6 (addresses6 s d) len)
-pseudo6_is_bytes s d len = IsBytes-number 16 s beside IsBytes-number 16 d beside IsBytes-number 4 len beside IsBytes-number 4 17
-
-packet4_spells : (s d : ℕ) (message : List ℕ) → s < 2 ^ 32 → d < 2 ^ 32 → IsBytes message → length message ≤ 1000 → IsPacket (packet4 s d message) message
-unfolding packet4
-packet4_spells s d message hs hd fits few =
-    let len = 8 + length message in
-    let pseudo_ = pseudo4 (addresses4 s d) len in
+packet_made : (bytes pseudo_ message : List ℕ) → IsBytes message → length message ≤ 1000 → SpellsIp bytes pseudo_ (written_udp (ones_sum 0 pseudo_) message) → IsPacket bytes message
+packet_made bytes pseudo_ message fits few s =
     let udp_ = written_udp (ones_sum 0 pseudo_) message in
-    let is = udp_length (ones_sum 0 pseudo_) message in
-    record {
-      pseudo = pseudo_;
-      udp = udp_;
-      spells_ip = Version4 (ipv4_spells s d len (28 + length message) udp_ hs hd (omega arith) is (omega (arith, is)));
-      spells_udp = udp_spells 6 pseudo_ message refl (pseudo4_is_bytes s d len) fits few;
-    }
-
-packet6_spells : (s d : ℕ) (message : List ℕ) → s < 2 ^ 128 → d < 2 ^ 128 → IsBytes message → length message ≤ 1000 → IsPacket (packet6 s d message) message
-unfolding packet6
-packet6_spells s d message hs hd fits few =
-    let len = 8 + length message in
-    let pseudo_ = pseudo6 (addresses6 s d) len in
-    record {
-      pseudo = pseudo_;
-      udp = written_udp (ones_sum 0 pseudo_) message;
-      spells_ip = Version6 (ipv6_spells s d len (written_udp (ones_sum 0 pseudo_) message) hs hd (omega arith) (udp_length (ones_sum 0 pseudo_) message));
-      spells_udp = udp_spells 20 pseudo_ message refl (pseudo6_is_bytes s d len) fits few;
-    }
+    record { pseudo = pseudo_; udp = udp_; spells_ip = s; spells_udp = udp_spells pseudo_ message (pseudo_known bytes pseudo_ udp_ s) fits few }
 
 source4_fits : (ls : List Locator) → AllByRecursion IsAddress ls → source4 ls < 2 ^ 32
 source4_fits [] h = omega arith
@@ -229,8 +185,9 @@ source6_fits (V4 a ∷ ls) h = omega arith
 source6_fits (V6 a ∷ ls) h = h.0
 
 packet_spells : (to : Locator) (ls : List Locator) (message : List ℕ) → IsAddress to → AllByRecursion IsAddress ls → IsBytes message → length message ≤ 1000 → IsPacket (packet to ls message) message
-packet_spells (V4 d) ls message hd hs fits few = packet4_spells (source4 ls) d message (source4_fits ls hs) hd fits few
-packet_spells (V6 d) ls message hd hs fits few = packet6_spells (source6 ls) d message (source6_fits ls hs) hd fits few
+unfolding packet4 packet6
+packet_spells (V4 d) ls message hd hs fits few = packet_made _ _ message fits few (Version4 (ipv4_spells (source4 ls) d (length message) _ (source4_fits ls hs) hd few (udp_length _ message)))
+packet_spells (V6 d) ls message hd hs fits few = packet_made _ _ message fits few (Version6 (ipv6_spells (source6 ls) d (length message) _ (source6_fits ls hs) hd few (udp_length _ message)))
 
 -- ---- the whole
 

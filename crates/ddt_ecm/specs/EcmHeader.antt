@@ -1,14 +1,31 @@
 -- The header of an Encapsulated Control Message (RFC 9301, section 5.8; the bit D: RFC 8111, section 5).
-use Rattle.std.specs.Prelude.{ℕ, ◌+◌, ◌*◌, ◌/◌, ◌%◌, ◌^◌, ◌==◌, Bool, not, nat_lt, if◌then◌else◌, List, [], ◌∷◌, length, drop, slice_index, Result, Ok, Err}
+use Rattle.std.specs.Prelude.{ℕ, ◌+◌, ◌*◌, ◌/◌, ◌%◌, ◌^◌, ◌==◌, Bool, not, nat_lt, if◌then◌else◌, List, length, drop, slice_index, Result, Ok, Err}
 use Rattle.std.specs.Int.{w32, to_be_bytes}
 use Rattle.ddt_wire.specs.MessageType.{encapsulated}
 use Rattle.ddt_wire.specs.Referral.{bit}
 use Rattle.ddt_ecm.specs.declared.fault.RequestFault.{RequestFault}
 use Rattle.ddt_ecm.specs.declared.fault.RequestFault.TheVariants.{Short, MessageType, Security}
 
+-- the place of a message's first byte in its first word, and of the type in that byte
+abbrev pub first_byte : ℕ
+first_byte = 2 ^ 24
+
+abbrev pub type_place : ℕ
+type_place = 2 ^ 4
+
+-- the places of the bits S and D in the first byte
+abbrev pub s_place : ℕ
+s_place = 2 ^ 3
+
+abbrev pub d_place : ℕ
+d_place = 2 ^ 2
+
 -- type 8 in 4 bits, the bit S, which is 0, the bit D, and 26 ignored bits
+abbrev pub ecm_word : Bool → ℕ → ℕ
+ecm_word ddt ignored = (encapsulated * type_place + bit ddt * d_place) * first_byte + ignored
+
 abbrev pub ecm_fields : Bool → ℕ → List ℕ
-ecm_fields ddt ignored = to_be_bytes w32 (encapsulated * 2 ^ 28 + bit ddt * 2 ^ 26 + ignored)
+ecm_fields ddt ignored = to_be_bytes w32 (ecm_word ddt ignored)
 
 -- what is written: all ignored bits are 0
 abbrev pub ecm_header : Bool → List ℕ
@@ -18,6 +35,6 @@ ecm_header ddt = ecm_fields ddt 0
 unfoldable pub ecm_at : List ℕ → Result (List ℕ) RequestFault
 ecm_at bytes =
     if nat_lt (length bytes) 4 then Err Short
-    else if not (slice_index bytes 0 / 16 == encapsulated) then Err MessageType
-    else if not (slice_index bytes 0 / 8 % 2 == 0) then Err Security
+    else if not (slice_index bytes 0 / type_place == encapsulated) then Err MessageType
+    else if not (slice_index bytes 0 / s_place % 2 == 0) then Err Security
     else Ok (drop 4 bytes)

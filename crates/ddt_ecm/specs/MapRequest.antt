@@ -19,6 +19,7 @@ use Rattle.ddt_wire.specs.MessageType.{map_request}
 use Rattle.ddt_wire.specs.Addresses.{SpellsAddresses, addresses_at}
 use Rattle.ddt_wire.specs.Eid.{SpellsEid, written_eid, eid_at}
 use Rattle.ddt_wire.specs.Referral.{bit}
+use Rattle.ddt_ecm.specs.EcmHeader.{first_byte, type_place}
 use Rattle.ddt_ecm.specs.declared.fault.RequestFault.{RequestFault}
 use Rattle.ddt_ecm.specs.declared.fault.RequestFault.TheVariants as fault
 
@@ -32,11 +33,32 @@ pub record Ignored : Type 0 where
   pub flags_fit : flags < 2 ^ 13
   pub reserved_fits : reserved < 256
 
--- type 1 in 4 bits, A, M, 6 flags, 5 reserved bits and 2 flags, IRC in 5 bits and a record count of 1 in 8; the nonce
+-- the places of the bits A and M in the first byte, and of the ignored bits behind M and of IRC in the first word
+abbrev pub a_place : ℕ
+a_place = 2 ^ 3
+
+abbrev pub m_place : ℕ
+m_place = 2 ^ 2
+
+abbrev pub flags_place : ℕ
+flags_place = 2 ^ 13
+
+abbrev pub irc_place : ℕ
+irc_place = 2 ^ 8
+
+-- IRC is below this: it has five bits
+abbrev pub irc_limit : ℕ
+irc_limit = 2 ^ 5
+
+-- type 1 in 4 bits, A, M, 6 flags, 5 reserved bits and 2 flags, IRC, and a record count of 1 in 8 bits
+abbrev pub request_word : Ignored → Bool → ℕ → ℕ
+request_word i with_map irc =
+    (map_request * type_place + bit i.authoritative * a_place + bit with_map * m_place) * first_byte
+    + (i.flags * flags_place + irc * irc_place + 1)
+
+-- the first word and the nonce
 abbrev pub request_fields : Ignored → Bool → ℕ → ℕ → List ℕ
-request_fields i with_map irc nonce =
-    to_be_bytes w32 (map_request * 2 ^ 28 + bit i.authoritative * 2 ^ 27 + bit with_map * 2 ^ 26 + i.flags * 2 ^ 13 + irc * 2 ^ 8 + 1)
-    ++ to_be_bytes w64 nonce
+request_fields i with_map irc nonce = to_be_bytes w32 (request_word i with_map irc) ++ to_be_bytes w64 nonce
 
 -- the source EID, which is skipped: AFI 0 alone, an address, or an LCAF of any type, whose length counts what follows
 -- it
@@ -59,7 +81,7 @@ pub record SpellsRequest (bytes : List ℕ) (nonce : ℕ) (x : Xeid) (rlocs : Li
   pub eid : List ℕ
   pub after : List ℕ
   pub nonce_fits : nonce < 2 ^ 64
-  pub irc_fits : irc < 32
+  pub irc_fits : irc < irc_limit
   pub iid_fits : x.iid < 2 ^ 32
   pub address_fits : IsAddress x.address
   pub count : length rlocs ≡ irc + 1
@@ -75,7 +97,8 @@ pub record SpellsRequest (bytes : List ℕ) (nonce : ℕ) (x : Xeid) (rlocs : Li
 
 -- type 1 and no flag, IRC and one record, the nonce, and a source EID of AFI 0
 abbrev pub map_request_head : ℕ → List Locator → List ℕ
-map_request_head nonce rlocs = (16 ∷ 0 ∷ (length rlocs - 1) ∷ 1 ∷ []) ++ to_be_bytes w64 nonce ++ to_be_bytes w16 no_address
+map_request_head nonce rlocs =
+    ((map_request * type_place) ∷ 0 ∷ (length rlocs - 1) ∷ 1 ∷ []) ++ to_be_bytes w64 nonce ++ to_be_bytes w16 no_address
 
 -- the ITR-RLOCs, a reserved byte, the whole width as mask length, and the EID
 abbrev pub written_map_request : ℕ → Xeid → List Locator → List ℕ
@@ -117,8 +140,7 @@ abbrev pub from_eid : EidFault → RequestFault
 from_eid eid_fault.Short = fault.Short
 from_eid eid_fault.EidFamily = fault.EidFamily
 from_eid eid_fault.Lcaf = fault.Lcaf
-from_eid eid_fault.MaskLength = fault.NotHost
-from_eid eid_fault.TailNotZero = fault.NotHost
+from_eid other = fault.NotHost
 
 abbrev pub host_of : Form → Result Xeid RequestFault
 host_of (Range iid_ len) = Err fault.NotHost
@@ -136,13 +158,13 @@ xeid_at bytes =
 unfoldable pub head_at : List ℕ → Result ℕ RequestFault
 head_at message =
     if nat_lt (length message) 12 then Err fault.Short
-    else if not (slice_index message 0 / 16 == map_request) then Err fault.RequestType
+    else if not (slice_index message 0 / type_place == map_request) then Err fault.RequestType
     else if not (slice_index message 3 == 1) then Err fault.RecordCount
-    else Ok (slice_index message 2 % 32 + 1)
+    else Ok (slice_index message 2 % irc_limit + 1)
 
 -- the bit M is clear, and bytes are left
 abbrev pub trails : List ℕ → ℕ → List ℕ → Bool
-trails message taken rest = slice_index message 0 / 4 % 2 == 0 && not (length rest == taken)
+trails message taken rest = slice_index message 0 / m_place % 2 == 0 && not (length rest == taken)
 
 -- nonce, identifier and ITR-RLOCs
 unfoldable pub map_request_at : List ℕ → Result (ℕ × Xeid × List Locator) RequestFault

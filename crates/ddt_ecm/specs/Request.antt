@@ -1,10 +1,10 @@
 -- An Encapsulated Map-Request (RFC 9301, sections 5.2 and 5.8; the D bit of RFC 8111, section 5).
-use Rattle.std.specs.Prelude.{ℕ, ◌/◌, ◌%◌, ◌^◌, ◌<◌, ◌≡◌, ◌==◌, Bool, List, ◌++◌, slice_index, Result, Ok}
+use Rattle.std.specs.Prelude.{ℕ, ◌*◌, ◌/◌, ◌%◌, ◌<◌, ◌≡◌, ◌==◌, Bool, List, ◌++◌, slice_index, Result, Ok}
 use Rattle.ddt_path.specs.declared.locator.Locator.{Locator}
 use Rattle.ddt_path.specs.declared.xeid.Xeid.{Xeid}
 use Rattle.ddt_reading.specs.Steps.{◌>>=◌}
 use Rattle.ddt_ecm.specs.declared.fault.RequestFault.{RequestFault}
-use Rattle.ddt_ecm.specs.EcmHeader.{ecm_fields, ecm_header, ecm_at}
+use Rattle.ddt_ecm.specs.EcmHeader.{first_byte, d_place, ecm_fields, ecm_header, ecm_at}
 use Rattle.ddt_ecm.specs.IpHeader.{SpellsIp, packet, ip_at}
 use Rattle.ddt_ecm.specs.UdpHeader.{SpellsUdp, udp_at}
 use Rattle.ddt_ecm.specs.MapRequest.{SpellsRequest, written_map_request, map_request_at}
@@ -26,7 +26,7 @@ pub record Spells (bytes : List ℕ) (v : Message) : Type 0 where
   pub pseudo : List ℕ
   pub udp : List ℕ
   pub request : List ℕ
-  pub ignored_fits : ignored < 2 ^ 26
+  pub ignored_fits : ignored < d_place * first_byte
   pub spells_ip : SpellsIp packet pseudo udp
   pub spells_udp : SpellsUdp pseudo udp v.port request
   pub spells_request : SpellsRequest request v.nonce v.xeid v.rlocs
@@ -49,7 +49,7 @@ message_in bytes = do
   asked ← map_request_at data_.1
   Ok (record {
     nonce = asked.0;
-    ddt = slice_index bytes 0 / 4 % 2 == 1;
+    ddt = slice_index bytes 0 / d_place % 2 == 1;
     port = data_.0;
     xeid = asked.1;
     rlocs = asked.2;

@@ -2,12 +2,12 @@
 
 ghost use Rattle.std.specs.Prelude.{◌≡◌, ◌≤◌, ◌++◌, length, OnOk, IfOk};
 ghost use Rattle.ddt_reading.specs.Steps.{IsReadAs};
-ghost use Rattle.ddt_ecm.specs.IpHeader.{ip_at, source4 as source4_of, source6 as source6_of, packet4, packet6, packet};
+ghost use Rattle.ddt_ecm.specs.IpHeader.{ip_at, source4 as source4_of, source6 as source6_of, packet};
 
 use crate::fault::RequestFault;
-use crate::ipv4_header::{addresses4, pseudo_sum4, put_ipv4, read_ipv4};
+use crate::ipv4_header::{LEAST, addresses4, pseudo_sum4, put_ipv4, read_ipv4};
 use crate::ipv6_header::{addresses6, pseudo_sum6, put_ipv6, read_ipv6};
-use crate::udp_header::put_udp;
+use crate::udp_header::{UDP_HEADER, put_udp};
 use ddt_path::Locator;
 use std::alloc::AllocError;
 
@@ -17,6 +17,8 @@ pub(crate) const UDP: u8 = 17;
 pub(crate) const VERSION_SHIFT: u32 = 4;
 /// The time to live, or hop limit, of a written packet.
 pub(crate) const HOP_LIMIT: u8 = 64;
+/// How many bytes a written IPv4 header and a UDP header have.
+const BOTH_HEADERS: u16 = (LEAST + UDP_HEADER) as u16;
 
 /// The sum of the pseudo-header and the UDP datagram behind an IP header.
 #[tactic(auto, unfolding(crate::specs::IpHeader::ip_at))]
@@ -32,39 +34,6 @@ pub(crate) fn read_ip(ip: &[u8]) -> Result<(u16, &[u8]), RequestFault>
         6 => read_ipv6(ip),
         _ => Err(RequestFault::IpVersion),
     }
-}
-
-/// Appends an IPv4 packet.
-fn put_packet4(
-    bytes: &mut Vec<u8>,
-    source: u32,
-    destination: u32,
-    message: &[u8],
-) -> Result<(), AllocError>
-    requires { length message.now ≤ 1000 }
-    ensures { OnOk result (bytes.new.items ≡ bytes.old.items ++ packet4 source destination message.now) }
-{
-    let len = message.len() as u16;
-    put_ipv4(bytes, 28 + len, source, destination)?;
-    let pseudo = pseudo_sum4(&addresses4(source, destination), 8 + len);
-    put_udp(bytes, pseudo, message)
-}
-
-/// Appends an IPv6 packet.
-fn put_packet6(
-    bytes: &mut Vec<u8>,
-    source: u128,
-    destination: u128,
-    message: &[u8],
-) -> Result<(), AllocError>
-    requires { length message.now ≤ 1000 }
-    ensures { OnOk result (bytes.new.items ≡ bytes.old.items ++ packet6 source destination message.now) }
-{
-    let len = 8 + message.len() as u16;
-    let addresses = addresses6(source, destination);
-    put_ipv6(bytes, len, &addresses)?;
-    let pseudo = pseudo_sum6(&addresses, u32::from(len));
-    put_udp(bytes, pseudo, message)
 }
 
 /// The source address of an IPv4 packet.
@@ -97,8 +66,23 @@ pub(crate) fn put_packet(
     requires { length message.now ≤ 1000 }
     ensures { OnOk result (bytes.new.items ≡ bytes.old.items ++ packet to rlocs.now message.now) }
 {
+    let len = UDP_HEADER as u16 + message.len() as u16;
     match to {
-        Locator::V4(number) => put_packet4(bytes, source4(rlocs), number, message),
-        Locator::V6(number) => put_packet6(bytes, source6(rlocs), number, message),
+        Locator::V4(destination) => {
+            let source = source4(rlocs);
+            put_ipv4(
+                bytes,
+                BOTH_HEADERS + message.len() as u16,
+                source,
+                destination,
+            )?;
+            let pseudo = pseudo_sum4(&addresses4(source, destination), len);
+            put_udp(bytes, pseudo, message)
+        }
+        Locator::V6(destination) => {
+            let addresses = addresses6(source6(rlocs), destination);
+            put_ipv6(bytes, len, &addresses)?;
+            put_udp(bytes, pseudo_sum6(&addresses, u32::from(len)), message)
+        }
     }
 }

@@ -38,7 +38,7 @@ const WORDS: u8 = (1 << 4) - 1;
 /// More fragments, and the offset of this one, are told in the 14 bits behind don't-fragment.
 const FRAGMENT: u16 = (1 << 14) - 1;
 /// How many bytes a header has at least.
-const LEAST: usize = 20;
+pub(crate) const LEAST: usize = 20;
 
 // Where fields begin.
 const TOTAL_LENGTH: usize = 2;

@@ -44,36 +44,6 @@ const BEFORE_SOURCE: usize = 12;
 /// The ITR-RLOCs of a request in order, read from the datagram one by one: to these addresses a Map-Reply may be sent.
 pub type Rlocs<'a> = Addresses<'a, 0>;
 
-impl From<AddressFault> for RequestFault {
-    ghost use Rattle.std.specs.Prelude.{◌≡◌};
-    ghost use Rattle.ddt_ecm.specs.MapRequest.{from_address};
-
-    ghost from_gives = { λ d e. e ≡ from_address d };
-
-    fn from(fault: AddressFault) -> RequestFault {
-        match fault {
-            AddressFault::Short => RequestFault::Short,
-            AddressFault::Family => RequestFault::RlocFamily,
-        }
-    }
-}
-
-impl From<EidFault> for RequestFault {
-    ghost use Rattle.std.specs.Prelude.{◌≡◌};
-    ghost use Rattle.ddt_ecm.specs.MapRequest.{from_eid};
-
-    ghost from_gives = { λ d e. e ≡ from_eid d };
-
-    fn from(fault: EidFault) -> RequestFault {
-        match fault {
-            EidFault::Short => RequestFault::Short,
-            EidFault::EidFamily => RequestFault::EidFamily,
-            EidFault::Lcaf => RequestFault::Lcaf,
-            EidFault::MaskLength | EidFault::TailNotZero => RequestFault::NotHost,
-        }
-    }
-}
-
 /// How many ITR-RLOCs follow, where what stands before the source EID is right.
 #[tactic(auto, unfolding(crate::specs::MapRequest::head_at))]
 fn read_head(message: &[u8]) -> Result<u8, RequestFault>
@@ -153,7 +123,13 @@ fn read_xeid(bytes: &[u8]) -> Result<(Xeid, usize), RequestFault>
         return Err(RequestFault::Short);
     }
     let (_mask, from_eid) = bytes.split_at(2);
-    let (prefix, taken) = read_eid(from_eid, bytes[1])?;
+    let (prefix, taken) = match read_eid(from_eid, bytes[1]) {
+        Ok(read) => read,
+        Err(EidFault::Short) => return Err(RequestFault::Short),
+        Err(EidFault::EidFamily) => return Err(RequestFault::EidFamily),
+        Err(EidFault::Lcaf) => return Err(RequestFault::Lcaf),
+        Err(EidFault::MaskLength | EidFault::TailNotZero) => return Err(RequestFault::NotHost),
+    };
     let xeid = host(prefix)?;
     Ok((xeid, 2 + taken))
 }
@@ -167,7 +143,11 @@ pub(crate) fn read_map_request(message: &[u8]) -> Result<(u64, Xeid, Rlocs<'_>),
     let (_head, from_source) = message.split_at(BEFORE_SOURCE);
     let source = skip_source(from_source)?;
     let (_source, from_rlocs) = from_source.split_at(source);
-    let (rlocs, rest) = Rlocs::read(count, from_rlocs)?;
+    let (rlocs, rest) = match Rlocs::read(count, from_rlocs) {
+        Ok(read) => read,
+        Err(AddressFault::Short) => return Err(RequestFault::Short),
+        Err(AddressFault::Family) => return Err(RequestFault::RlocFamily),
+    };
     let (xeid, taken) = read_xeid(rest)?;
     if (message[0] >> M_SHIFT) % 2 == 0 && rest.len() != taken {
         return Err(RequestFault::Trailing);

@@ -117,25 +117,6 @@ pub fn read_request(bytes: &[u8]) -> Result<Request<'_>, RequestFault>
     message(bytes)
 }
 
-/// The ECM header, and the packet in it.
-fn encapsulated(
-    alloc: Global,
-    nonce: u64,
-    x: Xeid,
-    rlocs: &[Locator],
-    ddt: bool,
-) -> Result<Vec<u8>, AllocError>
-    requires some { 1 ≤ length rlocs.now }
-    requires few { length rlocs.now ≤ 32 }
-    ensures written { IfOk result (λ bytes. bytes.items ≡ written nonce x rlocs.now ddt) }
-    ensures fits { OnOk result (IsRequest nonce x rlocs.now) }
-{
-    let message = map_request(alloc, nonce, x, rlocs)?;
-    let mut bytes = Vec::from_slice(alloc, &ecm_header(ddt))?;
-    put_packet(&mut bytes, x.address, rlocs, message.as_slice())?;
-    Ok(bytes)
-}
-
 /// The one spelling of an Encapsulated Map-Request for the identifier with this nonce, these ITR-RLOCs, 1 to 32 of
 /// them, and with the bit D or without. The inner packet has the identifier's family and goes to its address. Its
 /// source is the address of the first ITR-RLOC, or all zeros where the two families differ. Both of its ports are 4342.
@@ -154,5 +135,8 @@ pub fn write_request(
     // What was written is read again.
     ensures again { IfOk result (λ bytes. message_in bytes.items ≡ Ok (message_of nonce x rlocs.now ddt)) }
 {
-    encapsulated(alloc, nonce, x, rlocs, ddt)
+    let message = map_request(alloc, nonce, x, rlocs)?;
+    let mut bytes = Vec::from_slice(alloc, &ecm_header(ddt))?;
+    put_packet(&mut bytes, x.address, rlocs, message.as_slice())?;
+    Ok(bytes)
 }

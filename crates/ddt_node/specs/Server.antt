@@ -15,6 +15,7 @@ use Rattle.ddt_config.specs.Table.{Outline}
 use Rattle.ddt_config.specs.Answer.{answer}
 use Rattle.ddt_wire.specs.Referral.{written, message_of, Message as ReferralMessage, Spells as SpellsReferral}
 use Rattle.ddt_ecm.specs.declared.fault.RequestFault.{RequestFault}
+use Rattle.ddt_ecm.specs.EcmHeader.{s_place, d_place}
 use Rattle.ddt_ecm.specs.Request.{Message, Spells as SpellsRequest, message_in}
 use Rattle.ddt_node.specs.declared.handling.Forward.{Forward}
 use Rattle.ddt_node.specs.declared.handling.Handled.{Handled}
@@ -36,10 +37,10 @@ etr_in x content = option_and_then (λ s. slice_get s.etrs 0) (site_in x content
 abbrev pub first_etr : Outline → List ℕ → Option Locator
 first_etr c x = option_and_then (λ a. etr_in x a.content) (authority_of c x)
 
--- a datagram with the bit D clear, which has the value 4 in the first byte
+-- a datagram with the bit D of its first byte clear: the bits from S on, and those behind D
 abbrev pub without_d : List ℕ → List ℕ
 without_d [] = []
-without_d (b ∷ others) = (b / 8 * 8 + b % 4) ∷ others
+without_d (b ∷ others) = (b / s_place * s_place + b % d_place) ∷ others
 
 abbrev pub forward_to : List ℕ → Locator → Forward
 forward_to bytes_ to_ = record { to = to_; bytes = without_d bytes_ }

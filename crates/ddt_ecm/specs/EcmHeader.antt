@@ -6,19 +6,19 @@ use Rattle.ddt_wire.specs.Referral.{bit}
 use Rattle.ddt_ecm.specs.declared.fault.RequestFault.{RequestFault}
 use Rattle.ddt_ecm.specs.declared.fault.RequestFault.TheVariants.{Short, MessageType, Security}
 
--- the place of a message's first byte in its first word, and of the type in that byte
-abbrev pub first_byte : ℕ
-first_byte = 2 ^ 24
-
-abbrev pub type_place : ℕ
-type_place = 2 ^ 4
-
--- the places of the bits S and D in the first byte
-abbrev pub s_place : ℕ
-s_place = 2 ^ 3
-
+-- the places of the bits D and S in the first byte, and of the type before S
 abbrev pub d_place : ℕ
 d_place = 2 ^ 2
+
+abbrev pub s_place : ℕ
+s_place = 2 * d_place
+
+abbrev pub type_place : ℕ
+type_place = 2 * s_place
+
+-- the place of the first byte in the first word
+abbrev pub first_byte : ℕ
+first_byte = 2 ^ 24
 
 -- type 8 in 4 bits, the bit S, which is 0, the bit D, and 26 ignored bits
 abbrev pub ecm_word : Bool → ℕ → ℕ

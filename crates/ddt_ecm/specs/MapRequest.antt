@@ -33,22 +33,22 @@ pub record Ignored : Type 0 where
   pub flags_fit : flags < 2 ^ 13
   pub reserved_fits : reserved < 256
 
--- the places of the bits A and M in the first byte, and of the ignored bits behind M and of IRC in the first word
-abbrev pub a_place : ℕ
-a_place = 2 ^ 3
-
+-- the places of the bits M and A in the first byte
 abbrev pub m_place : ℕ
 m_place = 2 ^ 2
 
-abbrev pub flags_place : ℕ
-flags_place = 2 ^ 13
+abbrev pub a_place : ℕ
+a_place = 2 * m_place
+
+-- IRC is below this, for it has five bits; its place in the first word, and that of the ignored bits before it
+abbrev pub irc_limit : ℕ
+irc_limit = 2 ^ 5
 
 abbrev pub irc_place : ℕ
 irc_place = 2 ^ 8
 
--- IRC is below this: it has five bits
-abbrev pub irc_limit : ℕ
-irc_limit = 2 ^ 5
+abbrev pub flags_place : ℕ
+flags_place = irc_limit * irc_place
 
 -- type 1 in 4 bits, A, M, 6 flags, 5 reserved bits and 2 flags, IRC, and a record count of 1 in 8 bits
 abbrev pub request_word : Ignored → Bool → ℕ → ℕ
@@ -98,7 +98,8 @@ pub record SpellsRequest (bytes : List ℕ) (nonce : ℕ) (x : Xeid) (rlocs : Li
 -- type 1 and no flag, IRC and one record, the nonce, and a source EID of AFI 0
 abbrev pub map_request_head : ℕ → List Locator → List ℕ
 map_request_head nonce rlocs =
-    ((map_request * type_place) ∷ 0 ∷ (length rlocs - 1) ∷ 1 ∷ []) ++ to_be_bytes w64 nonce ++ to_be_bytes w16 no_address
+    ((map_request * type_place) ∷ 0 ∷ (length rlocs - 1) ∷ 1 ∷ []) ++ to_be_bytes w64 nonce
+    ++ to_be_bytes w16 no_address
 
 -- the ITR-RLOCs, a reserved byte, the whole width as mask length, and the EID
 abbrev pub written_map_request : ℕ → Xeid → List Locator → List ℕ

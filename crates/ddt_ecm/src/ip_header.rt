@@ -68,19 +68,14 @@ pub(crate) fn put_packet(
 {
     let len = UDP_HEADER as u16 + message.len() as u16;
     match to {
-        Locator::V4(destination) => {
+        Locator::V4(number) => {
             let source = source4(rlocs);
-            put_ipv4(
-                bytes,
-                BOTH_HEADERS + message.len() as u16,
-                source,
-                destination,
-            )?;
-            let pseudo = pseudo_sum4(&addresses4(source, destination), len);
+            put_ipv4(bytes, BOTH_HEADERS + message.len() as u16, source, number)?;
+            let pseudo = pseudo_sum4(&addresses4(source, number), len);
             put_udp(bytes, pseudo, message)
         }
-        Locator::V6(destination) => {
-            let addresses = addresses6(source6(rlocs), destination);
+        Locator::V6(number) => {
+            let addresses = addresses6(source6(rlocs), number);
             put_ipv6(bytes, len, &addresses)?;
             put_udp(bytes, pseudo_sum6(&addresses, u32::from(len)), message)
         }

@@ -12,7 +12,7 @@ use Rattle.ddt_config.specs.declared.authority.Content.{Content}
 use Rattle.ddt_config.specs.declared.authority.Content.TheVariants.{Children, Sites}
 use Rattle.ddt_config.specs.declared.authority.Authority.{Authority}
 use Rattle.ddt_config.specs.Shaped.{fits, is_server_set, have_own_prefixes, are_apart, is_child_of, is_site_of, is_content_of, is_authority_of, is_shaped}
-use Rattle.ddt_config.specs.Reading.{child_fits, site_fits, content_fits, authority_fits}
+use Rattle.ddt_config.specs.Reading.{content_fits, authority_fits}
 
 all_imply : {A : Type 0} (p q : A → Bool) → ((a : A) → p a ≡ true → q a ≡ true) → (xs : List A) → list_all p xs ≡ true → list_all q xs ≡ true
 all_imply p q h [] e = refl
@@ -20,12 +20,9 @@ all_imply p q h (a ∷ rest) e =
     let parts = and_parts (p a) (list_all p rest) e in
     rw (h a parts.0, all_imply p q h rest parts.1) refl
 
-set_fits : (ls : List Locator) → is_server_set ls ≡ true → fits ls ≡ true
-set_fits ls e = (and_parts (nat_le 1 (length ls)) (fits ls) e).1
-
 content_has_room : (role : Role) (authority : List ℕ) (content : Content) → is_content_of role authority content ≡ true → content_fits content ≡ true
-content_has_room Node authority (Children cs) e = all_imply (is_child_of authority) child_fits (λ c h. set_fits c.locators (and_parts _ (is_server_set c.locators) h).1) cs (and_parts _ (are_apart (λ (c : Child). c.prefix) cs) e).0
-content_has_room Ms authority (Sites ss) e = all_imply (is_site_of authority) site_fits (λ s h. (and_parts _ (fits s.etrs) h).1) ss (and_parts _ (have_own_prefixes (λ (s : SiteEntry). s.prefix) ss) e).0
+content_has_room Node authority (Children cs) e = all_imply (is_child_of authority) (λ c. fits c.locators) (λ c h. (and_parts _ (fits c.locators) (and_parts _ (is_server_set c.locators) h).1).1) cs (and_parts _ (are_apart (λ (c : Child). c.prefix) cs) e).0
+content_has_room Ms authority (Sites ss) e = all_imply (is_site_of authority) (λ s. fits s.etrs) (λ s h. (and_parts _ (fits s.etrs) h).1) ss (and_parts _ (have_own_prefixes (λ (s : SiteEntry). s.prefix) ss) e).0
 content_has_room Node authority (Sites ss) e = absurd (false≢true e)
 content_has_room Ms authority (Children cs) e = absurd (false≢true e)
 

@@ -36,9 +36,9 @@ in_order Less a b c = refl
 in_order Equal a b c = refl
 in_order Greater a b c = refl
 
-pub members_view-insert : (es : List (String Global × Value)) (k : String Global) (v : Value) → members_view (insert_entry string_cmp es k v) ≡ inserted (string_bytes k) (view v) (members_view es)
-members_view-insert [] k v = refl
-members_view-insert (e ∷ es) k v = in_order (string_cmp k e.0) _ _ _ ∙ rw (members_view-insert es k v) refl
+pub members_inserted : (es : List (String Global × Value)) (k : String Global) (v : Value) → members_view (insert_entry string_cmp es k v) ≡ inserted (string_bytes k) (view v) (members_view es)
+members_inserted [] k v = refl
+members_inserted (e ∷ es) k v = in_order (string_cmp k e.0) _ _ _ ∙ rw (members_inserted es k v) refl
 
 -- ---- values beside what they were written for
 

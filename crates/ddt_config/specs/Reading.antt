@@ -6,8 +6,6 @@ use Rattle.ddt_config.specs.declared.neighbours.Clash.{Clash}
 use Rattle.ddt_config.specs.declared.neighbours.Clash.TheVariants.{Same, Overlap}
 use Rattle.ddt_config.specs.declared.fault.ConfigFault.{ConfigFault}
 use Rattle.ddt_config.specs.declared.fault.ConfigFault.TheVariants.{Toml, Memory}
-use Rattle.ddt_config.specs.declared.child.Child.{Child}
-use Rattle.ddt_config.specs.declared.site_entry.SiteEntry.{SiteEntry}
 use Rattle.ddt_config.specs.declared.authority.Content.{Content}
 use Rattle.ddt_config.specs.declared.authority.Content.TheVariants.{Children, Sites}
 use Rattle.ddt_config.specs.declared.authority.Authority.{Authority}
@@ -25,15 +23,9 @@ abbrev pub IsToldAs : Type 0 → ConfigFault → Type 0
 IsToldAs memory fault = ((fault ≡ Memory) × memory) ⊎ ((fault ≡ Toml) × (memory → ⊥))
 
 -- no list of locators has more than 8
-abbrev pub child_fits : Child → Bool
-child_fits c = fits c.locators
-
-abbrev pub site_fits : SiteEntry → Bool
-site_fits s = fits s.etrs
-
 abbrev pub content_fits : Content → Bool
-content_fits (Children cs) = list_all child_fits cs
-content_fits (Sites ss) = list_all site_fits ss
+content_fits (Children cs) = list_all (λ c. fits c.locators) cs
+content_fits (Sites ss) = list_all (λ s. fits s.etrs) ss
 
 abbrev pub authority_fits : Authority → Bool
 authority_fits a = content_fits a.content

@@ -13,7 +13,7 @@ use crate::entry::{Entry, entries_at, settle_each};
 use crate::fault::{ConfigFault, Key};
 use crate::members::prefix_in;
 use crate::site_entry::{SiteDraft, SiteEntry};
-use crate::values::{Written, array_value, prefix_value, put, table_value};
+use crate::values::{Written, array_value, prefix_value, put};
 use ddt_path::{Listed, Prefix, Prefixed, Role};
 use std::alloc::{AllocError, Global};
 use std::marker::Model;
@@ -117,7 +117,7 @@ impl Written for Authority {
         put(alloc, &mut table, Key::Prefix, prefix)?;
         let content = content_value(alloc, &self.content)?;
         put(alloc, &mut table, content_key(&self.content), content)?;
-        Ok(table_value(table))
+        Ok(Value::Table(table))
     }
 }
 

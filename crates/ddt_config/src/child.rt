@@ -2,13 +2,13 @@
 
 ghost use Rattle.toml.specs.Data.{table};
 ghost use Rattle.ddt_config.specs.Table.{child_in};
-ghost use Rattle.ddt_config.specs.Reading.{child_fits};
+ghost use Rattle.ddt_config.specs.Shaped.{fits};
 ghost use Rattle.ddt_config.specs.Writing.{written_child, IsChildSpelled};
 
 use crate::entry::Entry;
 use crate::fault::{ConfigFault, Key};
 use crate::members::{locators_at, prefix_in, role_in};
-use crate::values::{Written, array_value, prefix_value, put, role_value, table_value};
+use crate::values::{Written, array_value, prefix_value, put, role_value};
 use ddt_path::{Listed, Locator, LocatorSet, Prefix, Prefixed, Role};
 use std::alloc::{AllocError, Global};
 use std::marker::Model;
@@ -61,7 +61,7 @@ impl Entry for ChildDraft {
 
     ghost entry_in = { λ _ ms. child_in ms };
 
-    ghost has_room = { child_fits };
+    ghost has_room = { λ c. fits c.locators };
 
     ghost settled = { λ c. c };
 
@@ -98,6 +98,6 @@ impl Written for Child {
         put(alloc, &mut table, Key::Kind, role)?;
         let locators = array_value(alloc, self.locators.as_slice())?;
         put(alloc, &mut table, Key::Locators, locators)?;
-        Ok(table_value(table))
+        Ok(Value::Table(table))
     }
 }

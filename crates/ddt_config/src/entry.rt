@@ -75,10 +75,8 @@ fn read_entry<T: Entry>(
 ) -> Result<T, ConfigFault>
     ensures { Reads (entry_of key (T.entry_in role) (view value.now)) result }
 {
-    match value.as_table() {
-        Some(table) => T::read(alloc, role, table),
-        None => Err(ConfigFault::Field(key)),
-    }
+    let table = value.as_table().ok_or(ConfigFault::Field(key))?;
+    T::read(alloc, role, table)
 }
 
 /// The same entries, of whose lists of locators none has more than 8.

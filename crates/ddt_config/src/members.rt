@@ -24,19 +24,14 @@ fn value_at<'t>(table: &'t Table, key: Key) -> Option<&'t Value>
 fn text_in<'t>(value: &'t Value, key: Key) -> Result<&'t str, ConfigFault>
     ensures { IsReadAs (λ t. t.now) result (text_of key (view value.now)) }
 {
-    match value.as_str() {
-        Some(text) => Ok(text),
-        None => Err(ConfigFault::Field(key)),
-    }
+    value.as_str().ok_or(ConfigFault::Field(key))
 }
 
 fn text_at<'t>(table: &'t Table, key: Key) -> Result<&'t str, ConfigFault>
     ensures { IsReadAs (λ t. t.now) result (text_at_of key (table_view table.now)) }
 {
-    match value_at(table, key) {
-        Some(value) => text_in(value, key),
-        None => Err(ConfigFault::Field(key)),
-    }
+    let value = value_at(table, key).ok_or(ConfigFault::Field(key))?;
+    text_in(value, key)
 }
 
 fn array_in<'t>(value: &'t Value, key: Key) -> Result<&'t [Value], ConfigFault>
@@ -51,10 +46,8 @@ fn array_in<'t>(value: &'t Value, key: Key) -> Result<&'t [Value], ConfigFault>
 fn array_at<'t>(table: &'t Table, key: Key) -> Result<&'t [Value], ConfigFault>
     ensures { IsReadAs (λ vs. map view vs.now) result (array_at_of key (table_view table.now)) }
 {
-    match value_at(table, key) {
-        Some(value) => array_in(value, key),
-        None => Err(ConfigFault::Field(key)),
-    }
+    let value = value_at(table, key).ok_or(ConfigFault::Field(key))?;
+    array_in(value, key)
 }
 
 fn array_or_none<'t>(table: &'t Table, key: Key) -> Result<&'t [Value], ConfigFault>
@@ -129,10 +122,7 @@ fn role_of(text: &str) -> Result<Role, ConfigFault>
 pub fn role_in(table: &Table) -> Result<Role, ConfigFault>
     ensures { result ≡ role_of_table (table_view table.now) }
 {
-    match text_at(table, Key::Kind) {
-        Ok(text) => role_of(text),
-        Err(fault) => Err(fault),
-    }
+    text_at(table, Key::Kind).and_then(role_of)
 }
 
 /// The prefix of an authority, a child or a site.

@@ -2,13 +2,13 @@
 
 ghost use Rattle.toml.specs.Data.{table};
 ghost use Rattle.ddt_config.specs.Table.{site_in};
-ghost use Rattle.ddt_config.specs.Reading.{site_fits};
+ghost use Rattle.ddt_config.specs.Shaped.{fits};
 ghost use Rattle.ddt_config.specs.Writing.{written_site, IsSiteSpelled};
 
 use crate::entry::Entry;
 use crate::fault::{ConfigFault, Key};
 use crate::members::{locators_at, prefix_in};
-use crate::values::{Written, array_value, prefix_value, put, table_value};
+use crate::values::{Written, array_value, prefix_value, put};
 use ddt_path::{Listed, Locator, LocatorSet, Prefix, Prefixed, Role};
 use std::alloc::{AllocError, Global};
 use std::marker::Model;
@@ -58,7 +58,7 @@ impl Entry for SiteDraft {
 
     ghost entry_in = { λ _ ms. site_in ms };
 
-    ghost has_room = { site_fits };
+    ghost has_room = { λ s. fits s.etrs };
 
     ghost settled = { λ s. s };
 
@@ -87,6 +87,6 @@ impl Written for SiteEntry {
         put(alloc, &mut table, Key::Prefix, prefix)?;
         let etrs = array_value(alloc, self.etrs.as_slice())?;
         put(alloc, &mut table, Key::Etrs, etrs)?;
-        Ok(table_value(table))
+        Ok(Value::Table(table))
     }
 }

@@ -2,7 +2,7 @@
 
 ghost use Rattle.std.specs.Prelude.{◌≡◌, true, OnOk, IfOk, IsUtf8};
 ghost use Rattle.std.specs.List.{All};
-ghost use Rattle.toml.specs.Data.{string, table as table_data};
+ghost use Rattle.toml.specs.Data.{string};
 ghost use Rattle.toml.specs.View.{view, table_view};
 ghost use Rattle.ddt_path.specs.Names.{is_name};
 ghost use Rattle.ddt_text.specs.Grammar.{SpellsLocator, SpellsPrefix};
@@ -54,14 +54,8 @@ pub fn array_value<T: Written>(alloc: Global, items: &[T]) -> Result<Value, Allo
     Ok(Value::Array(values))
 }
 
-/// A table as a value.
-pub fn table_value(table: Table) -> Value
-    ensures { view result ≡ table_data (table_view table) }
-{
-    Value::Table(table)
-}
-
 /// Puts a value at a key that the table lacks.
+#[tactic(auto, using(crate::proofs::WriteLemmas::members_inserted))]
 pub fn put(alloc: Global, table: &mut Table, key: Key, value: Value) -> Result<(), AllocError>
     ensures { OnOk result (table_view table.new ≡ inserted (key_text key) (view value) (table_view table.old)) }
 {

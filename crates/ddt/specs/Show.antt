@@ -36,25 +36,26 @@ IsShowText call text = (bytes : List ℕ) × (decode_of (hex_of call) ≡ Ok byt
 abbrev pub type_of : List ℕ → Option ℕ
 type_of bytes = option_map (λ byte. byte / 16) (slice_get bytes 0)
 
--- the first fault of bytes that are no negative Map-Reply, or that memory ran out
+-- the first fault of bytes that are no negative Map-Reply, or that memory ran out for the line of one
 abbrev pub IsWhyNoReply : List ℕ → Refusal → Type 0
 IsWhyNoReply bytes why =
-    ((fault : ReplyFault) × (why ≡ NoMessage (NoReply fault)) × (reply_in bytes ≡ Err fault)) ⊎ (why ≡ OutOfMemory)
+    ((fault : ReplyFault) × (why ≡ NoMessage (NoReply fault)) × (reply_in bytes ≡ Err fault))
+    ⊎ ((v : NegativeReply) × (why ≡ OutOfMemory) × (reply_in bytes ≡ Ok v))
 
--- the first fault of bytes that are no Map-Referral, or that memory ran out
+-- the first fault of bytes that are no Map-Referral, or that memory ran out for the line of one
 abbrev pub IsWhyNoReferral : List ℕ → Refusal → Type 0
 IsWhyNoReferral bytes why =
     ((fault : ReferralFault) × (why ≡ NoMessage (NoReferral fault)) × (referral.message_in bytes ≡ Err fault))
-    ⊎ (why ≡ OutOfMemory)
+    ⊎ ((v : referral.Message) × (why ≡ OutOfMemory) × (referral.message_in bytes ≡ Ok v))
 
--- the first fault of bytes that are no encapsulated Map-Request, or that memory ran out
+-- the first fault of bytes that are no encapsulated Map-Request, or that memory ran out for the line of one
 abbrev pub IsWhyNoRequest : List ℕ → Refusal → Type 0
 IsWhyNoRequest bytes why =
     ((fault : RequestFault) × (why ≡ NoMessage (NoRequest fault)) × (request.message_in bytes ≡ Err fault))
-    ⊎ (why ≡ OutOfMemory)
+    ⊎ ((v : request.Message) × (why ≡ OutOfMemory) × (request.message_in bytes ≡ Ok v))
 
 -- why bytes aren't shown: their type is none of 2, 6 and 8, they have a fault as a message of their type, or memory is
--- wanted
+-- wanted for the line of a message that they are
 abbrev pub IsWhyNoMessage : List ℕ → Refusal → Type 0
 IsWhyNoMessage bytes why =
     ((type_of bytes ≡ Some map_reply) × IsWhyNoReply bytes why)

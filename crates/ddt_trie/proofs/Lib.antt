@@ -8,6 +8,8 @@ pub mod MatchLemmas
 pub mod BelowLemmas
 pub mod TurnLemmas
 pub mod TreeLemmas
+pub mod WayLemmas
+pub mod LeafLemmas
 pub mod DescentLemmas
 pub mod ContentLemmas
 pub mod GapLemmas

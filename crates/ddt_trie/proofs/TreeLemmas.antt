@@ -6,9 +6,11 @@ use Rattle.std.proofs.lemmas.Bool.Decides.{nat_tests}
 use Rattle.std.proofs.lemmas.Option.{none-some}
 use Rattle.std.proofs.lemmas.List.{length-drop}
 use Rattle.ddt_trie.specs.declared.tree.Tree.{Tree}
-use Rattle.ddt_trie.specs.declared.tree.Tree.TheVariants.{Empty, Fork'}
+use Rattle.ddt_trie.specs.declared.tree.Tree.TheVariants.{Empty, Leaf, Fork'}
+use Rattle.std.specs.Cmp.Lexicographic.{pointwise}
 use Rattle.ddt_path.specs.Covers.{covers}
-use Rattle.ddt_trie.specs.Tree.{low, high, lookup, is_fork, is_pruned, IsUncovered, IsLongestBelow, IsMet, IsGapBelow}
+use Rattle.ddt_path.proofs.CoverLemmas.{path_itself}
+use Rattle.ddt_trie.specs.Tree.{low, high, lookup, is_filled, is_pruned, IsUncovered, IsLongestBelow, IsMet, IsGapBelow}
 
 pub eqb_self : (n : ℕ) → (n == n) ≡ true
 eqb_self n = grind (arith, nat_tests)
@@ -207,28 +209,31 @@ module _ {V : Type 0} where
   uncovered_empty at t y is = record { none = λ q c. ap (λ (u : Tree V). lookup at u q) is }
 
   -- a subtree has an entry
-  pub some_entry : (at : ℕ) (t : Tree V) → is_fork t ≡ true → is_pruned t ≡ true
+  pub some_entry : (at : ℕ) (t : Tree V) → is_filled t ≡ true → is_pruned t ≡ true
       → (q : List ℕ) × (v : V) × (lookup at t q ≡ Some v)
   some_entry at Empty f h = absurd (false≢true f)
+  some_entry at (Leaf b) f h =
+      let q = drop at b.value.prefix in
+      (q, b.value.value, cond-true (pointwise ◌==◌ q q) (Some b.value.value) None (path_itself q q refl))
   some_entry at (Fork' p (Some v) z o) f h = ([], v, refl)
   some_entry at (Fork' p None z o) f h =
-      let parts = and_parts (is_fork z || is_fork o) (is_pruned z && is_pruned o) h in
+      let parts = and_parts (is_filled z || is_filled o) (is_pruned z && is_pruned o) h in
       let below = and_parts (is_pruned z) (is_pruned o) parts.1 in
-      elim (or_cases (is_fork z) (is_fork o) parts.0) [
+      elim (or_cases (is_filled z) (is_filled o) parts.0) [
         | inl l ↦ let e = some_entry (at + 1) z l below.0 in (low at ∷ e.0, e.1, at_low at p None z o e.0 ∙ e.2)
         | inr r ↦ let e = some_entry (at + 1) o r below.1 in (high at ∷ e.0, e.1, at_high at p None z o e.0 ∙ e.2)
       ]
 
   -- and one below its first node, where that has a child
   some_below : (at : ℕ) (t : Tree V) (p : _) (value : Option V) (z o : Tree V) → t ≡ Fork' p value z o
-      → (is_fork z || is_fork o) ≡ true → is_pruned t ≡ true
+      → (is_filled z || is_filled o) ≡ true → is_pruned t ≡ true
       → (q : List ℕ) × (v : V) × (lookup at t q ≡ Some v) × (1 ≤ length q)
   some_below at t p value z o is f h =
-      let held : (is_some value || (is_fork z || is_fork o)) && (is_pruned z && is_pruned o) ≡ true =
+      let held : (is_some value || (is_filled z || is_filled o)) && (is_pruned z && is_pruned o) ≡ true =
       ap (λ (u : Tree V). is_pruned u) (sym is) ∙ h in
       let below = and_parts (is_pruned z) (is_pruned o)
-      (and_parts (is_some value || (is_fork z || is_fork o)) (is_pruned z && is_pruned o) held).1 in
-      elim (or_cases (is_fork z) (is_fork o) f) [
+      (and_parts (is_some value || (is_filled z || is_filled o)) (is_pruned z && is_pruned o) held).1 in
+      elim (or_cases (is_filled z) (is_filled o) f) [
         | inl l ↦
             let e = some_entry (at + 1) z l below.0 in (
               low at ∷ e.0,
@@ -251,11 +256,11 @@ module _ {V : Type 0} where
   pub met_at_node : (at c : ℕ) (t : Tree V) (p : _) (value : Option V) (z o : Tree V) → t ≡ Fork' p value z o
       → is_pruned t ≡ true → c ≤ at → IsMet at t [] c
   met_at_node at c t p value z o is h le =
-      let e = some_entry at t (ap (λ (u : Tree V). is_fork u) is) h in
+      let e = some_entry at t (ap (λ (u : Tree V). is_filled u) is) h in
       record { path = e.0; value = e.1; found = e.2; counts = omega arith; meets = or_right (covers e.0 []) true refl }
 
   pub met_under_node : (at c : ℕ) (t : Tree V) (p : _) (value : Option V) (z o : Tree V) → t ≡ Fork' p value z o
-      → (is_fork z || is_fork o) ≡ true → is_pruned t ≡ true → c ≤ at + 1 → IsMet at t [] c
+      → (is_filled z || is_filled o) ≡ true → is_pruned t ≡ true → c ≤ at + 1 → IsMet at t [] c
   met_under_node at c t p value z o is f h le =
       let e = some_below at t p value z o is f h in
       record {
@@ -282,19 +287,21 @@ module _ {V : Type 0} where
 
   -- a node above the depth c with no child has nothing below it that counts
   leaf_none : (at : ℕ) (t : Tree V) (p : _) (value : Option V) (z o : Tree V) → t ≡ Fork' p value z o
-      → is_fork z ≡ false → is_fork o ≡ false → (q : List ℕ) → 1 ≤ length q → lookup at t q ≡ None
+      → is_filled z ≡ false → is_filled o ≡ false → (q : List ℕ) → 1 ≤ length q → lookup at t q ≡ None
   leaf_none at t p value z o is a b [] le = absurd (omega arith)
   leaf_none at t p value z o is a b (d ∷ q) le =
       ap (λ (u : Tree V). lookup at u (d ∷ q)) is ∙ chosen z o a b
     where
-      chosen : (z o : Tree V) → is_fork z ≡ false → is_fork o ≡ false → lookup at (Fork' p value z o) (d ∷ q) ≡ None
+      chosen : (z o : Tree V) → is_filled z ≡ false → is_filled o ≡ false → lookup at (Fork' p value z o) (d ∷ q) ≡ None
+      chosen (Leaf i) o a b = absurd (false≢true (sym a))
       chosen (Fork' i j k l) o a b = absurd (false≢true (sym a))
+      chosen Empty (Leaf i) a b = absurd (false≢true (sym b))
       chosen Empty (Fork' i j k l) a b = absurd (false≢true (sym b))
       chosen Empty Empty a b = none_of (d == low at) (d == high at)
 
   pub gap_at_leaf : (at c : ℕ) (t : Tree V) (p : _) (value : Option V) (z o : Tree V) (y : List ℕ)
       → t ≡ Fork' p value z o
-      → is_fork z ≡ false → is_fork o ≡ false → at < c → IsGapBelow at t y c at
+      → is_filled z ≡ false → is_filled o ≡ false → at < c → IsGapBelow at t y c at
   gap_at_leaf at c t p value z o y is a b lt = record {
     front = [];
     depth = omega arith;
@@ -307,13 +314,13 @@ module _ {V : Type 0} where
   -- ---- what a node's two tests say
 
   pub gap_short : (at c : ℕ) (t : Tree V) (p : _) (value : Option V) (z o s u : Tree V) (y : List ℕ) (b : Bool)
-      → t ≡ Fork' p value z o → s ≡ z → u ≡ o → b ≡ (nat_lt at c && not (is_fork s || is_fork u)) → b ≡ true
+      → t ≡ Fork' p value z o → s ≡ z → u ≡ o → b ≡ (nat_lt at c && not (is_filled s || is_filled u)) → b ≡ true
       → IsGapBelow at t y c at
   gap_short at c t p value z o s u y b is zero_is one_is answer told =
-      let parts = and_parts (nat_lt at c) (not (is_fork s || is_fork u)) (sym answer ∙ told) in
-      let none = neither (is_fork s) (is_fork u) parts.1 in
+      let parts = and_parts (nat_lt at c) (not (is_filled s || is_filled u)) (sym answer ∙ told) in
+      let none = neither (is_filled s) (is_filled u) parts.1 in
       gap_at_leaf at c t p value z o y is
-      (ap (λ (k : Tree V). is_fork k) (sym zero_is) ∙ none.0) (ap (λ (k : Tree V). is_fork k) (sym one_is) ∙ none.1)
+      (ap (λ (k : Tree V). is_filled k) (sym zero_is) ∙ none.0) (ap (λ (k : Tree V). is_filled k) (sym one_is) ∙ none.1)
       (ltb-true at c parts.0)
     where
       neither : (a b : Bool) → not (a || b) ≡ true → (a ≡ false) × (b ≡ false)
@@ -322,17 +329,17 @@ module _ {V : Type 0} where
       neither false false h = (refl, refl)
 
   pub held_below : (at c : ℕ) (t : Tree V) (p : _) (value : Option V) (z o s u : Tree V) (b : Bool)
-      → t ≡ Fork' p value z o → s ≡ z → u ≡ o → b ≡ (nat_lt at c && not (is_fork s || is_fork u)) → b ≡ false
+      → t ≡ Fork' p value z o → s ≡ z → u ≡ o → b ≡ (nat_lt at c && not (is_filled s || is_filled u)) → b ≡ false
       → is_pruned t ≡ true → c ≤ at + 1 → IsMet at t [] c
   held_below at c t p value z o s u b is zero_is one_is answer told pruned le =
       elim (cases_lt at c) [
         | inl lt ↦
-            let child : (is_fork s || is_fork u) ≡ true =
-            some_child (is_fork s || is_fork u)
-            (ap (λ (r : Bool). r && not (is_fork s || is_fork u)) (sym (lt-ltb at c lt)) ∙ sym answer ∙ told) in
+            let child : (is_filled s || is_filled u) ≡ true =
+            some_child (is_filled s || is_filled u)
+            (ap (λ (r : Bool). r && not (is_filled s || is_filled u)) (sym (lt-ltb at c lt)) ∙ sym answer ∙ told) in
             met_under_node at c t p value z o is
-            (ap (λ (k : Tree V). is_fork k || is_fork o) (sym zero_is)
-            ∙ ap (λ (k : Tree V). is_fork s || is_fork k) (sym one_is) ∙ child)
+            (ap (λ (k : Tree V). is_filled k || is_filled o) (sym zero_is)
+            ∙ ap (λ (k : Tree V). is_filled s || is_filled k) (sym one_is) ∙ child)
             pruned le
         | inr ge ↦ met_at_node at c t p value z o is pruned ge
       ]

@@ -5,7 +5,7 @@ use Rattle.std.specs.Prelude.{List, [], ◌∷◌, ◌++◌, length, take, drop,
 use Rattle.std.specs.Cmp.Lexicographic.{pointwise}
 use Rattle.std.specs.FinMap.{FinMap, contains_key}
 use Rattle.ddt_trie.specs.declared.tree.Tree.{Tree}
-use Rattle.ddt_trie.specs.declared.tree.Tree.TheVariants.{Empty, Fork'}
+use Rattle.ddt_trie.specs.declared.tree.Tree.TheVariants.{Empty, Leaf, Fork'}
 use Rattle.ddt_trie.specs.declared.tree.Turn.{Turn}
 use Rattle.ddt_trie.specs.declared.tree.Turn.TheVariants.{End, Zero, One}
 use Rattle.ddt_trie.specs.PrefixMap.{path_cmp, IsKept}
@@ -24,6 +24,7 @@ high at = if at == 32 then 6 else 1
 -- the value of a path
 abbrev pub lookup : {V : Type 0} → ℕ → Tree V → List ℕ → Option V
 lookup at Empty q = None
+lookup at (Leaf b) q = if pointwise ◌==◌ q (drop at b.value.prefix) then Some b.value.value else None
 lookup at (Fork' p value zero one) [] = value
 lookup at (Fork' p value zero one) (d ∷ q) =
     if d == low at then lookup (at + 1) zero q else if d == high at then lookup (at + 1) one q else None
@@ -41,6 +42,7 @@ under d (e ∷ es) = (d ∷ e.0, e.1) ∷ under d es
 -- the entries, by their paths below a node at a depth
 abbrev pub entries : {V : Type 0} → ℕ → Tree V → List (List ℕ × V)
 entries at Empty = []
+entries at (Leaf b) = (drop at b.value.prefix, b.value.value) ∷ []
 entries at (Fork' p value zero one) =
     here value ++ (under (low at) (entries (at + 1) zero) ++ under (high at) (entries (at + 1) one))
 
@@ -56,34 +58,62 @@ one_if (Some v) = 1
 -- how many entries there are
 abbrev pub count : {V : Type 0} → Tree V → ℕ
 count Empty = 0
+count (Leaf b) = 1
 count (Fork' p value zero one) = one_if value + (count zero + count one)
 
--- whether there is a node
-abbrev pub is_fork : {V : Type 0} → Tree V → Bool
-is_fork Empty = false
-is_fork (Fork' p value zero one) = true
+-- whether there is a leaf or a node
+abbrev pub is_filled : {V : Type 0} → Tree V → Bool
+is_filled Empty = false
+is_filled (Leaf b) = true
+is_filled (Fork' p value zero one) = true
 
--- whether there is a node, and it has a value or a child
+-- whether there is a leaf
+abbrev pub is_leaf : {V : Type 0} → Tree V → Bool
+is_leaf Empty = false
+is_leaf (Leaf b) = true
+is_leaf (Fork' p value zero one) = false
+
+-- whether there is a leaf, or a node that has a value or a child
 abbrev pub is_held : {V : Type 0} → Tree V → Bool
 is_held Empty = false
-is_held (Fork' p value zero one) = is_some value || (is_fork zero || is_fork one)
+is_held (Leaf b) = true
+is_held (Fork' p value zero one) = is_some value || (is_filled zero || is_filled one)
 
 -- whether each node has a value or a child, and so at least one entry
 abbrev pub is_pruned : {V : Type 0} → Tree V → Bool
 is_pruned Empty = true
+is_pruned (Leaf b) = true
 is_pruned (Fork' p value zero one) =
-    (is_some value || (is_fork zero || is_fork one)) && (is_pruned zero && is_pruned one)
+    (is_some value || (is_filled zero || is_filled one)) && (is_pruned zero && is_pruned one)
 
 -- whether each node below the first one has
 abbrev pub is_pruned_below : {V : Type 0} → Tree V → Bool
 is_pruned_below Empty = true
+is_pruned_below (Leaf b) = true
 is_pruned_below (Fork' p value zero one) = is_pruned zero && is_pruned one
+
+-- the way one level further, to the left or to the right
+abbrev pub onward : (ℕ → ℕ) → List ℕ → List ℕ
+onward digit way = way ++ (digit (length way) ∷ [])
+
+-- whether the prefix of each leaf begins with the digits on the way to it, which are given for the tree itself
+abbrev pub is_rooted : {V : Type 0} → List ℕ → Tree V → Bool
+is_rooted way Empty = true
+is_rooted way (Leaf b) = covers way b.value.prefix
+is_rooted way (Fork' p value zero one) =
+    is_rooted (onward low way) zero && is_rooted (onward high way) one
+
+-- the path goes on with this digit behind its first ones
+abbrev pub GoesOn : (ℕ → ℕ) → ℕ → List ℕ → Type 0
+GoesOn digit at p =
+    (drop at p ≡ digit at ∷ drop (at + 1) p) × (at < length p) × (at < 161)
+    × (take (at + 1) p ≡ onward digit (take at p))
 
 -- where a path goes behind its first digits
 abbrev pub IsTurn : ℕ → List ℕ → Turn → Type 0
 IsTurn at p End = drop at p ≡ []
-IsTurn at p Zero = (drop at p ≡ low at ∷ drop (at + 1) p) × (at < length p) × (at < 161)
-IsTurn at p One = (drop at p ≡ high at ∷ drop (at + 1) p) × (at < length p) × (at < 161)
+IsTurn at p Zero = GoesOn low at p
+IsTurn at p One = GoesOn high at p
 
 -- the value of the path k is now o, and each other path has the value that it had
 pub record IsSet {V : Type 0} (at : ℕ) (old new : Tree V) (k : List ℕ) (o : Option V) : Type 0 where
@@ -92,6 +122,14 @@ pub record IsSet {V : Type 0} (at : ℕ) (old new : Tree V) (k : List ℕ) (o : 
 -- each path has the value that it had
 pub record HasSameEntries {V : Type 0} (old new : Tree V) : Type 0 where
   pub same : (at : ℕ) (q : List ℕ) → lookup at new q ≡ lookup at old q
+
+-- the same for paths below this depth alone
+pub record HasSameEntriesAt {V : Type 0} (at : ℕ) (old new : Tree V) : Type 0 where
+  pub same : (q : List ℕ) → lookup at new q ≡ lookup at old q
+
+-- if the prefixes of the leaves began with the digits on the way to them, they still do
+pub record IsRootedAs {V : Type 0} (old new : Tree V) : Type 0 where
+  pub still : (way : List ℕ) → IsTrue (is_rooted way old) → IsTrue (is_rooted way new)
 
 -- what a filter by a test leaves
 pub record HasKept {V : Type 0} (answers : V → Bool → Type 0) (old new : Tree V) : Type 0 where

@@ -1,26 +1,38 @@
 //! A binary tree of prefixes, with one level for each digit: 32 of the Instance ID, one of the address family, and up
-//! to 128 of the address. Each call but `retain` goes down one path and no deeper, 162 nodes at most.
+//! to 128 of the address. A prefix that is alone below a node is a leaf there, however much longer it is. Each call but
+//! `retain` goes down one path and no deeper, 162 nodes at most.
 
 ghost use Rattle.std.specs.Prelude.{true, false, not, None, Some, ◌≡◌, ◌≤◌, ◌+◌, length, take, drop, IsTrue, IsSome};
 ghost use Rattle.std.specs.Prelude.{IfOk, IfErr, IfSome, IfNone, ◌&&◌, ◌||◌, nat_le, nat_lt, is_some};
 ghost use Rattle.std.specs.Option.{option_copied};
 ghost use Rattle.std.specs.Fn.{FnReturnsAt};
 ghost use Rattle.ddt_path.specs.Path.{xeid_path};
-ghost use Rattle.ddt_trie.specs.Tree.{lookup, count, one_if, is_fork, is_held, is_pruned, is_pruned_below, IsTurn};
-ghost use Rattle.ddt_trie.specs.Tree.{IsSet, HasSameEntries, HasKept, IsUncovered, IsLongestBelow, IsMet, IsGapBelow};
+ghost use Rattle.ddt_path.specs.Covers.{covers};
+ghost use Rattle.ddt_trie.specs.Tree.{lookup, count, one_if, is_filled, is_held, is_leaf, is_pruned, is_pruned_below};
+ghost use Rattle.ddt_trie.specs.Tree.{is_rooted, IsRootedAs, IsTurn, IsSet, HasKept};
+ghost use Rattle.ddt_trie.specs.Tree.{HasSameEntries, HasSameEntriesAt};
+ghost use Rattle.ddt_trie.specs.Tree.{IsUncovered, IsLongestBelow, IsMet, IsGapBelow};
 ghost use Rattle.ddt_trie.specs.PrefixMap.{IsKept};
-ghost use Rattle.ddt_trie.specs.declared.tree.Tree.TheVariants.{Empty};
+ghost use Rattle.ddt_trie.specs.declared.tree.Tree.TheVariants.{Empty, Leaf};
 
 use ddt_path::{Prefix, Xeid};
 use std::alloc::Global;
 use std::mem;
 
-/// The prefixes that begin alike: none, or a node.
+/// The prefixes that begin alike: none, one alone, or those of a node.
 #[derive(Drop)]
 #[cycle(tree)]
 pub enum Tree<V> {
     Empty,
+    Leaf(Box<Entry<V>>),
     Fork(Box<Node<V>>),
+}
+
+/// A prefix that is alone among those that begin with the digits above it, and its value.
+#[derive(Drop)]
+pub struct Entry<V> {
+    prefix: Prefix,
+    value: V,
 }
 
 /// One prefix, and those that go on behind it.
@@ -77,13 +89,23 @@ fn turn_of(x: Xeid, len: u8, at: u8) -> Turn
     }
 }
 
-/// The tree of one entry, below the first `at` digits of the prefix. Where memory runs out, the value comes back.
-fn chain<V: Drop>(alloc: Global, prefix: Prefix, at: u8, value: V) -> Result<Tree<V>, V>
-    requires { at ≤ length prefix }
-    ensures set { IfOk result (λ tree. IsSet at Empty tree (drop at prefix) (Some value)) }
+/// A node with this leaf below it, or with its value where its prefix ends there. The leaf's prefix and the other one
+/// share their first `at` digits. Where memory runs out, the leaf comes back.
+#[tactic(auto, using(crate::proofs::WayLemmas::over_leaf_rules))]
+fn node_over<V: Drop>(
+    alloc: Global,
+    leaf: Box<Entry<V>>,
+    prefix: &Prefix,
+    at: u8,
+) -> Result<Tree<V>, Box<Entry<V>>>
+    requires within { at ≤ length prefix.now }
+    requires rooted { IsTrue (covers (take at prefix.now) leaf.value.prefix) }
+    ensures same { IfOk result (λ tree. HasSameEntriesAt at (Leaf leaf) tree) }
+    ensures node { IfOk result (λ tree. is_leaf tree ≡ false) }
+    ensures filled { IfOk result (λ tree. IsTrue (is_filled tree)) }
     ensures pruned { IfOk result (λ tree. IsTrue (is_pruned tree)) }
-    ensures fork { IfOk result (λ tree. IsTrue (is_fork tree)) }
-    ensures back { IfErr result (λ back. back ≡ value) }
+    ensures rooted { IfOk result (λ tree. IsTrue (is_rooted (take at prefix.now) tree)) }
+    ensures back { IfErr result (λ back. back ≡ leaf) }
 {
     let mut node = match Box::new(
         alloc,
@@ -94,12 +116,12 @@ fn chain<V: Drop>(alloc: Global, prefix: Prefix, at: u8, value: V) -> Result<Tre
         },
     ) {
         Ok(node) => node,
-        Err(_refused) => return Err(value),
+        Err(_refused) => return Err(leaf),
     };
-    match turn_at(prefix, at) {
-        Turn::End => node.value = Some(value),
-        Turn::Zero => node.zero = chain(alloc, prefix, at + 1, value)?,
-        Turn::One => node.one = chain(alloc, prefix, at + 1, value)?,
+    match turn_at(leaf.prefix, at) {
+        Turn::End => node.value = Some(Box::into_inner(leaf).value),
+        Turn::Zero => node.zero = Tree::Leaf(leaf),
+        Turn::One => node.one = Tree::Leaf(leaf),
     }
     Ok(Tree::Fork(node))
 }
@@ -114,7 +136,7 @@ impl<V: Drop> Node<V> {
 
     /// Whether its prefix, of `at` digits, has fewer than `least`, and no prefix goes on behind it.
     fn ends_short(&self, at: u8, least: u8) -> bool
-        ensures { result ≡ (nat_lt at least && not (is_fork self.now.zero || is_fork self.now.one)) }
+        ensures { result ≡ (nat_lt at least && not (is_filled self.now.zero || is_filled self.now.one)) }
     {
         at < least && self.zero.is_empty() && self.one.is_empty()
     }
@@ -123,18 +145,20 @@ impl<V: Drop> Node<V> {
 impl<V: Drop> Tree<V> {
     /// Whether it has no entry: each node has one, or one below it.
     fn is_empty(&self) -> bool
-        ensures { result ≡ not (is_fork self.now) }
+        ensures { result ≡ not (is_filled self.now) }
     {
         matches!(self, Tree::Empty)
     }
 
     /// The value of a prefix, by what is left of it behind its first `at` digits.
     pub fn get(&self, prefix: Prefix, at: u8) -> Option<&V>
-        requires { at ≤ length prefix }
+        requires within { at ≤ length prefix }
+        requires rooted { IsTrue (is_rooted (take at prefix) self.now) }
         ensures { option_copied result ≡ lookup at self.now (drop at prefix) }
     {
         match self {
             Tree::Empty => None,
+            Tree::Leaf(leaf) => (leaf.prefix == prefix).then_some(&leaf.value),
             Tree::Fork(node) => match turn_at(prefix, at) {
                 Turn::End => node.value.as_ref(),
                 Turn::Zero => node.zero.get(prefix, at + 1),
@@ -143,23 +167,36 @@ impl<V: Drop> Tree<V> {
         }
     }
 
-    /// Sets the value of a prefix to what `value` holds, which then holds the one before. What is missing of its path
-    /// is built apart and attached last: where memory runs out, it answers false, and the tree and `value` stay as
-    /// they are. Each level's last step is the next level, so that it is compiled as a loop.
+    /// Sets the value of a prefix to what `value` holds, which then holds the one before. A leaf of another prefix goes
+    /// down until the two part. Where memory runs out, it answers false, and the entries and `value` stay as they are.
+    /// Each level's last step is the next level, so that it is compiled as a loop.
+    #[tactic(auto, using(crate::proofs::WayLemmas::way_rules))]
     pub fn insert(&mut self, alloc: Global, prefix: &Prefix, at: u8, value: &mut Option<V>) -> bool
         requires within { at ≤ length prefix.now }
         requires pruned { IsTrue (is_pruned self.old) }
+        requires rooted { IsTrue (is_rooted (take at prefix.now) self.old) }
         requires given { IsTrue (is_some value.old) }
         ensures before { IsTrue result → value.new ≡ lookup at self.old (drop at prefix.now) }
         ensures set { IsTrue result → IsSet at self.old self.new (drop at prefix.now) value.old }
-        ensures fork { IsTrue result → IsTrue (is_fork self.new) }
-        ensures pruned { IsTrue result → IsTrue (is_pruned self.new) }
+        ensures filled { IsTrue result → IsTrue (is_filled self.new) }
+        ensures still { IsTrue (is_filled self.old) → IsTrue (is_filled self.new) }
+        ensures pruned { IsTrue (is_pruned self.new) }
+        ensures rooted { IsTrue (is_rooted (take at prefix.now) self.new) }
         ensures back { result ≡ false → value.new ≡ value.old }
-        ensures unchanged { result ≡ false → self.new ≡ self.old }
+        ensures unchanged { result ≡ false → HasSameEntriesAt at self.old self.new }
         ensures replaced { IsSome (lookup at self.old (drop at prefix.now)) → result ≡ true }
     {
+        if !self.part_from(alloc, prefix, at) {
+            return false;
+        }
         match self {
             Tree::Empty => self.grow(alloc, *prefix, at, value),
+            Tree::Leaf(leaf) => {
+                if let Some(given) = value {
+                    mem::swap(&mut leaf.value, given);
+                }
+                true
+            }
             Tree::Fork(node) => match turn_at(*prefix, at) {
                 Turn::End => {
                     mem::swap(&mut node.value, value);
@@ -171,28 +208,80 @@ impl<V: Drop> Tree<V> {
         }
     }
 
-    /// The same for a tree without a node.
+    /// Whether it is a leaf of another prefix, with which this one shares its first `at` digits.
+    fn is_other_leaf(&self, prefix: Prefix, at: u8) -> bool
+        requires within { at ≤ length prefix }
+        requires rooted { IsTrue (is_rooted (take at prefix) self.now) }
+        ensures leaf { IsTrue result → IsTrue (is_leaf self.now) × (lookup at self.now (drop at prefix) ≡ None) }
+        ensures found { result ≡ false → IsTrue (is_leaf self.now) → IsSome (lookup at self.now (drop at prefix)) }
+    {
+        match self {
+            Tree::Leaf(leaf) => leaf.prefix != prefix,
+            _ => false,
+        }
+    }
+
+    /// Puts a node in the place of a leaf of another prefix, and that leaf below it, or its value into the node where
+    /// its prefix ends. Where memory runs out, it answers false, and the tree stays as it is.
+    fn part_from(&mut self, alloc: Global, prefix: &Prefix, at: u8) -> bool
+        requires within { at ≤ length prefix.now }
+        requires pruned { IsTrue (is_pruned self.old) }
+        requires rooted { IsTrue (is_rooted (take at prefix.now) self.old) }
+        ensures same { HasSameEntriesAt at self.old self.new }
+        ensures own { IsTrue result → IsTrue (is_leaf self.new) → IsSome (lookup at self.new (drop at prefix.now)) }
+        ensures still { IsTrue (is_filled self.old) → IsTrue (is_filled self.new) }
+        ensures pruned { IsTrue (is_pruned self.new) }
+        ensures rooted { IsTrue (is_rooted (take at prefix.now) self.new) }
+        ensures replaced { IsSome (lookup at self.old (drop at prefix.now)) → result ≡ true }
+    {
+        if !self.is_other_leaf(*prefix, at) {
+            return true;
+        }
+        let Tree::Leaf(leaf) = mem::replace(self, Tree::Empty) else {
+            return true;
+        };
+        match node_over(alloc, leaf, prefix, at) {
+            Ok(tree) => {
+                *self = tree;
+                true
+            }
+            Err(leaf) => {
+                *self = Tree::Leaf(leaf);
+                false
+            }
+        }
+    }
+
+    /// The same as `insert` for a tree without entries.
+    #[tactic(auto, using(ddt_path::proofs::CoverLemmas::front_covered))]
     fn grow(&mut self, alloc: Global, prefix: Prefix, at: u8, value: &mut Option<V>) -> bool
         requires within { at ≤ length prefix }
         requires empty { self.old ≡ Empty }
         requires given { IsTrue (is_some value.old) }
         ensures before { IsTrue result → value.new ≡ None }
         ensures set { IsTrue result → IsSet at Empty self.new (drop at prefix) value.old }
-        ensures fork { IsTrue result → IsTrue (is_fork self.new) }
-        ensures pruned { IsTrue result → IsTrue (is_pruned self.new) }
+        ensures filled { IsTrue result → IsTrue (is_filled self.new) }
+        ensures pruned { IsTrue (is_pruned self.new) }
+        ensures rooted { IsTrue (is_rooted (take at prefix) self.new) }
         ensures back { result ≡ false → value.new ≡ value.old }
         ensures unchanged { result ≡ false → self.new ≡ self.old }
     {
         let Some(given) = value.take() else {
             return false;
         };
-        match chain(alloc, prefix, at, given) {
-            Ok(grown) => {
-                *self = grown;
+        match Box::new(
+            alloc,
+            Entry {
+                prefix,
+                value: given,
+            },
+        ) {
+            Ok(leaf) => {
+                *self = Tree::Leaf(leaf);
                 true
             }
-            Err(back) => {
-                *value = Some(back);
+            Err(refused) => {
+                *value = Some(refused.value.value);
                 false
             }
         }
@@ -204,6 +293,7 @@ impl<V: Drop> Tree<V> {
     {
         match self {
             Tree::Empty => true,
+            Tree::Leaf(_) => false,
             Tree::Fork(node) => {
                 node.value.is_none() && node.zero.is_empty() && node.one.is_empty()
             }
@@ -214,6 +304,7 @@ impl<V: Drop> Tree<V> {
     fn prune(&mut self)
         requires { IsTrue (is_pruned_below self.old) }
         ensures same { HasSameEntries self.old self.new }
+        ensures rooted { IsRootedAs self.old self.new }
         ensures count { count self.new ≡ count self.old }
         ensures pruned { IsTrue (is_pruned self.new) }
     {
@@ -223,15 +314,19 @@ impl<V: Drop> Tree<V> {
     }
 
     /// Removes a prefix and answers its value. On the way back each node that became empty is cut.
+    #[tactic(auto, using(crate::proofs::WayLemmas::way_rules))]
     pub fn remove(&mut self, prefix: Prefix, at: u8) -> Option<V>
         requires within { at ≤ length prefix }
         requires pruned { IsTrue (is_pruned self.old) }
+        requires rooted { IsTrue (is_rooted (take at prefix) self.old) }
         ensures before { result ≡ lookup at self.old (drop at prefix) }
         ensures set { IsSet at self.old self.new (drop at prefix) None }
         ensures pruned { IsTrue (is_pruned self.new) }
+        ensures rooted { IsTrue (is_rooted (take at prefix) self.new) }
     {
         let before = match self {
             Tree::Empty => None,
+            Tree::Leaf(_) => self.remove_leaf(prefix, at),
             Tree::Fork(node) => match turn_at(prefix, at) {
                 Turn::End => node.value.take(),
                 Turn::Zero => node.zero.remove(prefix, at + 1),
@@ -242,6 +337,25 @@ impl<V: Drop> Tree<V> {
         before
     }
 
+    /// The same for a leaf.
+    fn remove_leaf(&mut self, prefix: Prefix, at: u8) -> Option<V>
+        requires within { at ≤ length prefix }
+        requires leaf { IsTrue (is_leaf self.old) }
+        requires rooted { IsTrue (is_rooted (take at prefix) self.old) }
+        ensures before { result ≡ lookup at self.old (drop at prefix) }
+        ensures set { IsSet at self.old self.new (drop at prefix) None }
+        ensures pruned { IsTrue (is_pruned self.new) }
+        ensures rooted { IsTrue (is_rooted (take at prefix) self.new) }
+    {
+        if self.is_other_leaf(prefix, at) {
+            return None;
+        }
+        match mem::replace(self, Tree::Empty) {
+            Tree::Leaf(leaf) => Some(Box::into_inner(leaf).value),
+            _ => None,
+        }
+    }
+
     /// Keeps the entries for whose value `keep` answers true, and cuts each node that became empty. Of `len` entries,
     /// of which those of this tree are a part, it answers how many are left.
     pub fn retain<F: Fn(&V) -> bool>(&mut self, keep: &F, len: usize) -> usize
@@ -250,10 +364,12 @@ impl<V: Drop> Tree<V> {
         requires counted { count self.old ≤ len }
         ensures kept { HasKept (FnReturnsAt F.Fn keep.now) self.old self.new }
         ensures pruned { IsTrue (is_pruned self.new) }
+        ensures rooted { IsRootedAs self.old self.new }
         ensures counted { result + count self.old ≡ len + count self.new }
     {
         let left = match self {
             Tree::Empty => len,
+            Tree::Leaf(_) => self.retain_leaf(keep, len),
             Tree::Fork(node) => {
                 let left = node.zero.retain(keep, len);
                 let left = node.one.retain(keep, left);
@@ -264,10 +380,32 @@ impl<V: Drop> Tree<V> {
         left
     }
 
+    /// The same for a leaf.
+    fn retain_leaf<F: Fn(&V) -> bool>(&mut self, keep: &F, total: usize) -> usize
+        requires callable { F.IsAlwaysCallable keep.now }
+        requires leaf { IsTrue (is_leaf self.old) }
+        requires counted { count self.old ≤ total }
+        ensures kept { HasKept (FnReturnsAt F.Fn keep.now) self.old self.new }
+        ensures pruned { IsTrue (is_pruned self.new) }
+        ensures rooted { IsRootedAs self.old self.new }
+        ensures counted { result + count self.old ≡ total + count self.new }
+    {
+        let is_kept = match &*self {
+            Tree::Leaf(leaf) => keep(&leaf.value),
+            _ => return total,
+        };
+        if is_kept {
+            return total;
+        }
+        *self = Tree::Empty;
+        total - 1
+    }
+
     /// Of the fronts of a prefix that have at least `at` digits, the longest that has a value: its length, and the
     /// value.
     pub fn longest(&self, prefix: Prefix, at: u8) -> Option<(u8, &V)>
-        requires { at ≤ length prefix }
+        requires within { at ≤ length prefix }
+        requires rooted { IsTrue (is_rooted (take at prefix) self.now) }
         ensures found { IfSome result (λ found. IsLongestBelow at self.now (drop at prefix) found.0 found.1.now) }
         ensures none { IfNone result (IsUncovered at self.now (drop at prefix)) }
     {
@@ -287,21 +425,38 @@ impl<V: Drop> Tree<V> {
             }
             depth += 1;
         }
-        best
+        let Tree::Leaf(leaf) = tree else {
+            return best;
+        };
+        if !leaf.prefix.covers(prefix) {
+            return best;
+        }
+        Some((leaf.prefix.len(), &leaf.value))
     }
 
     /// The length of a front of the prefix, of at least `at` digits, that overlaps no entry of at least `least` digits;
     /// each shorter front of `least - 1` digits or more overlaps one. None where the whole prefix overlaps one. `least`
     /// is at most one more than the length of the prefix.
+    #[tactic(auto, using(crate::proofs::WayLemmas::way_rules))]
     pub fn gap(&self, prefix: Prefix, at: u8, least: u8) -> Option<u8>
         requires within { at ≤ length prefix }
         requires near { least ≤ length prefix + 1 }
         requires pruned { IsTrue (is_pruned self.now) }
+        requires rooted { IsTrue (is_rooted (take at prefix) self.now) }
         ensures found { IfSome result (λ len. IsGapBelow at self.now (drop at prefix) least len) }
         ensures none { IfNone result (IsMet at self.now (drop at prefix) least) }
     {
         match self {
             Tree::Empty => Some(at),
+            Tree::Leaf(leaf) => {
+                if leaf.prefix.len() < least {
+                    return Some(at);
+                }
+                if leaf.prefix.overlaps(prefix) {
+                    return None;
+                }
+                Some(leaf.prefix.longest_common(prefix).len() + 1)
+            }
             Tree::Fork(node) => {
                 if node.ends_short(at, least) {
                     return Some(at);

@@ -1,8 +1,8 @@
 //! A map from prefixes to values whose entries stand in a binary tree, one level for each digit. Each call but `retain`
 //! goes down one path.
 
-ghost use Rattle.std.specs.Prelude.{◌≡◌, IsTrue};
-ghost use Rattle.ddt_trie.specs.Tree.{content_of, count, is_pruned, HasPaths};
+ghost use Rattle.std.specs.Prelude.{◌≡◌, IsTrue, []};
+ghost use Rattle.ddt_trie.specs.Tree.{content_of, count, is_pruned, is_rooted, HasPaths};
 
 use crate::prefix_map::PrefixMap;
 use crate::tree::Tree;
@@ -10,13 +10,14 @@ use ddt_path::{Prefix, Xeid};
 use std::alloc::Global;
 
 /// The form of a map from prefixes for many entries, which stand in a binary tree. Each node has an entry or one below
-/// it, the entries are counted, and each is the path of a prefix, so that no path is longer than 161 digits.
+/// it, each leaf's prefix begins with the digits above it, the entries are counted, and each is the path of a prefix, so that no path is longer than 161 digits.
 #[derive(Drop)]
 pub struct TrieMap<V> {
     root: Tree<V>,
     len: usize,
     alloc: Global,
     ghost pruned: { IsTrue (is_pruned root) },
+    ghost rooted: { IsTrue (is_rooted [] root) },
     ghost counted: { len ≡ count root },
     ghost paths: { HasPaths (content_of root) },
 }

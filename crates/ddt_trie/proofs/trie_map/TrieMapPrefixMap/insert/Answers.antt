@@ -1,7 +1,7 @@
-use Rattle.std.proofs.Common.{◌<◌, ◌+◌, refl, sym, ap, ◌∙◌, arith}
+use Rattle.std.proofs.Common.{◌<◌, ◌+◌, refl, sym, ap, subst, ◌∙◌, arith}
 use Rattle.std.specs.Prelude.{is_some}
-use Rattle.ddt_trie.specs.Tree.{content_of}
-use Rattle.ddt_trie.proofs.ContentLemmas.{get-content, len-content, set_inserts, count_grown, count_kept, paths_inserted}
+use Rattle.ddt_trie.specs.Tree.{content_of, HasPaths}
+use Rattle.ddt_trie.proofs.ContentLemmas.{get-content, len-content, set_inserts, same_content, same_count, count_grown, count_kept, paths_inserted}
 use Rattle.ddt_trie.proofs.trie_map.TrieMapPrefixMap.insert.Goals as goal
 use Rattle.ddt_trie.proofs.trie_map.TrieMapPrefixMap.insert.Goals.{then-is_none, else-is_none}
 
@@ -9,6 +9,20 @@ pub returns-then-not-insert-clause-replaced : goal.returns-then-not-insert-claus
 returns-then-not-insert-clause-replaced g c =
     λ had. sym c.if-not-insert.true
     ∙ c.insert.ensures.replaced (ap is_some (sym (get-content c.args.self.now.root c.args.prefix)) ∙ had)
+
+pub returns-then-not-insert-clause-unchanged : goal.returns-then-not-insert-clause-unchanged
+returns-then-not-insert-clause-unchanged g c =
+    same_content c.args.self.now.root c.insert.new.self (c.insert.ensures.unchanged c.if-not-insert.true)
+
+pub invariant_of-self : goal.invariant_of-self
+invariant_of-self g c =
+    let same = same_content c.args.self.now.root c.insert.new.self (c.insert.ensures.unchanged c.if-not-insert.true) in
+    record {
+      pruned = c.insert.ensures.pruned;
+      rooted = c.insert.ensures.rooted;
+      counted = c.args.self.now.counted ∙ sym (same_count c.args.self.now.root c.insert.new.self same);
+      paths = subst (λ m. HasPaths m) (sym same) c.args.self.now.paths;
+    }
 
 pub overflow_add-self : goal.overflow_add-self
 overflow_add-self g c =
@@ -20,7 +34,8 @@ pub invariant_of-self-then-is_none : goal.invariant_of-self-then-is_none
 invariant_of-self-then-is_none g c =
     let is = set_inserts c.args.self.now.root c.insert.new.self c.args.prefix c.args.value (c.if-not-insert.ensures.set refl) in
     record {
-      pruned = c.if-not-insert.ensures.pruned refl;
+      pruned = c.if-not-insert.ensures.pruned;
+      rooted = c.if-not-insert.ensures.rooted;
       counted = ap (λ n. n + 1) c.args.self.now.counted
           ∙ sym (count_grown c.args.self.now.root c.insert.new.self c.args.prefix c.args.value c.insert.new.value is
           (c.if-not-insert.ensures.before refl) c.if-is_none.ensures);
@@ -32,7 +47,8 @@ pub invariant_of-self-else-is_none : goal.invariant_of-self-else-is_none
 invariant_of-self-else-is_none g c =
     let is = set_inserts c.args.self.now.root c.insert.new.self c.args.prefix c.args.value (c.if-not-insert.ensures.set refl) in
     record {
-      pruned = c.if-not-insert.ensures.pruned refl;
+      pruned = c.if-not-insert.ensures.pruned;
+      rooted = c.if-not-insert.ensures.rooted;
       counted = c.args.self.now.counted
           ∙ sym (count_kept c.args.self.now.root c.insert.new.self c.args.prefix c.args.value c.insert.new.value is
           (c.if-not-insert.ensures.before refl) c.if-is_none.ensures);

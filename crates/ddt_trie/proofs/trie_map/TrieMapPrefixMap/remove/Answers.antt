@@ -14,6 +14,7 @@ invariant_of-self g c =
     let is = set_removes c.args.self.now.root c.remove-before.new.self c.args.prefix c.remove-before.ensures.set in
     record {
       pruned = c.remove-before.ensures.pruned;
+      rooted = c.remove-before.ensures.rooted;
       counted = ap (λ n. n - 1) c.args.self.now.counted
           ∙ sym (count_fell c.args.self.now.root c.remove-before.new.self c.args.prefix c.remove-before.result is
           c.remove-before.ensures.before (sym c.if-is_some.ensures));
@@ -26,6 +27,7 @@ invariant_of-self-else-is_some g c =
     let is = set_removes c.args.self.now.root c.remove-before.new.self c.args.prefix c.remove-before.ensures.set in
     record {
       pruned = c.remove-before.ensures.pruned;
+      rooted = c.remove-before.ensures.rooted;
       counted = c.args.self.now.counted
           ∙ sym (count_stays c.args.self.now.root c.remove-before.new.self c.args.prefix c.remove-before.result is
           c.remove-before.ensures.before (sym c.if-is_some.ensures));

@@ -1,4 +1,4 @@
-use Rattle.std.proofs.Common.{◌≡◌, arith}
+use Rattle.std.proofs.Common.{◌≡◌, [], arith}
 use Rattle.std.specs.Fn.{FnReturnsAt}
 use Rattle.ddt_trie.specs.Tree.{count}
 use Rattle.ddt_trie.proofs.ContentLemmas.{kept_retains, paths_retained}
@@ -12,6 +12,7 @@ invariant_of-self g c =
     omega (arith, c.args.self.now.counted, c.retain-self.ensures.counted) in
     record {
       pruned = c.retain-self.ensures.pruned;
+      rooted = c.retain-self.ensures.rooted.still [] c.args.self.now.rooted;
       counted = same;
       paths = paths_retained (FnReturnsAt g.F.Fn c.args.keep.now) _ _ kept c.args.self.now.paths;
     }

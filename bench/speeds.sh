@@ -6,10 +6,10 @@
 #   servers   the time of compiling all configurations of 65,535 rows, and of compiling them and building all servers
 #   handle    of each server with more than 30,000 children or sites: how many DDT Map-Requests `Server::handle`
 #             answered, for identifiers of the register drawn by lot, in how long, and the time of each; no sockets
-#   list/trie for 1,000, 8,000 and 65,535 rows: the time of inserting the prefixes of all zones but * and of all sites
-#             into a ListMap or a TrieMap, of each call of `longest` for identifiers of the register, and of `free` from
-#             everything downwards for these and for identifiers of other instances; and the largest resident size of
-#             the process, with the register in it
+#   list/trie/hash  for 1,000, 8,000 and 65,535 rows: the time of inserting the prefixes of all zones but * and of all
+#             sites into a ListMap, a TrieMap or a HashedMap, of each call of `longest` for identifiers of the register,
+#             and of `free` from everything downwards for these and for identifiers of other instances; and the largest
+#             resident size of the process, with the register in it
 #   resolver  with 1,024 lookups pending: the time of a `tick` with nothing to do, of a `datagram` that belongs to no
 #             lookup, and of one that refers a lookup to the next server
 #   ordinary  the same with the sites of one instance, or of 256 instances, side by side; with single IPv4 addresses; and
@@ -41,7 +41,7 @@ least() {
 # maps NAME REGISTER: both maps of the register's prefixes, and the register alone.
 maps() {
     local map runs
-    for map in register list trie; do
+    for map in register list trie hash; do
         runs=3
         if [ "$map" = list ] && [ "$(wc -l <"$2")" -gt 60000 ]; then runs=1; fi
         echo "== $1 $map"
@@ -64,6 +64,8 @@ for shape in 1 256 hosts scattered; do
     python3 "$top/bench/speeds/ordinary.py" "$shape" >"$copy/ordinary.csv"
     echo "== ordinary $shape register"
     least 3 "$speeds" register "$copy/ordinary.csv"
-    echo "== ordinary $shape trie"
-    least 3 "$speeds" trie "$copy/ordinary.csv"
+    for map in trie hash; do
+        echo "== ordinary $shape $map"
+        least 3 "$speeds" "$map" "$copy/ordinary.csv"
+    done
 done

@@ -11,9 +11,9 @@ ghost use Rattle.ddt.specs.Sockets.{Binds};
 use crate::refusal::Refusal;
 use crate::sockets::unbound;
 use ddt_config::ServerConfig;
+use ddt_hash::HashedMap;
 use ddt_node::Server;
 use ddt_path::Locator;
-use ddt_trie::TrieMap;
 use ddt_wires::{Served, Wires, serve_turns};
 use std::alloc::{AllocError, Global};
 use std::io;
@@ -38,7 +38,7 @@ where
     ensures refused { IfErr result (IsWhyUnserved (ServesOver (Binds B.Fn bind) W.calls wires.old wires.new)
         (outline config) at turns) }
 {
-    let Ok(server) = Server::<TrieMap<u32>>::build(alloc, config) else {
+    let Ok(server) = Server::<HashedMap<u32>>::build(alloc, config) else {
         return Err(Refusal::OutOfMemory);
     };
     if let Err(error) = bind(wires, at) {

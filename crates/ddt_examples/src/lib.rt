@@ -1,6 +1,6 @@
 //! The worked registers, configurations and messages, each once, for the tests of all crates.
 //!
-//! `registers` are CSV, `configurations` are TOML as `ddt compile` prints it, `messages` are hexadecimal, field by field,
+//! `registers` and `rows` are CSV, `configurations` are TOML as `ddt compile` prints it, `messages` are hexadecimal, field by field,
 //! and `replays` are scripts with their lines.
 #![tactic(auto)]
 
@@ -13,6 +13,7 @@ pub mod configurations;
 pub mod messages;
 pub mod registers;
 pub mod replays;
+pub mod rows;
 #[cfg(test)]
 mod tests;
 

@@ -73,10 +73,10 @@ fn campus(alloc: Global) -> Result<ListServers, Fail> {
 /// A resolver at 127.0.0.53 whose root's server is 127.0.0.1 and whose first nonce is this one.
 fn rooted(alloc: Global, seed: u64) -> Result<ListResolver, Fail> {
     let roots = set(&[ROOT])?;
-    if roots.as_slice().is_empty() {
-        return Err("no root")?;
+    match roots.as_slice() {
+        [] => Err("no root".into()),
+        _ => Ok(Resolver::new(alloc, roots, ME, seed)),
     }
-    Ok(Resolver::new(alloc, roots, ME, seed))
 }
 
 /// A hole at an IPv4 block of the Instance ID 0.

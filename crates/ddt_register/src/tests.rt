@@ -1,5 +1,6 @@
 use super::*;
 use ddt_examples::registers::{CAMPUS, COLUMNS};
+use ddt_examples::rows::{CAPITAL, HOST_BITS, NO_ADDRESS, NO_KIND, TOO_FEW_FIELDS};
 use ddt_path::{Form, Locator, Role, longest_match};
 use std::alloc::{AllocError, Global};
 use std::io;
@@ -130,11 +131,11 @@ fn want_of_memory_is_the_only_other_answer(rt: HostRuntime) {
 #[test]
 fn a_faulty_ninth_row_is_named(rt: HostRuntime) {
     for (row, fault) in [
-        ("node,*", ReadFault::Csv(9)),
-        ("zone,*,root,", ReadFault::Kind(9)),
-        ("node,[0]10.0.0.1/8,ten,", ReadFault::Prefix(9)),
-        ("node,[0]12.0.0.0/8,Ten,", ReadFault::Name(9)),
-        ("site,[0]10.1.5.0/24,,10.0.0.256", ReadFault::Address(9)),
+        (TOO_FEW_FIELDS, ReadFault::Csv(9)),
+        (NO_KIND, ReadFault::Kind(9)),
+        (HOST_BITS, ReadFault::Prefix(9)),
+        (CAPITAL, ReadFault::Name(9)),
+        (NO_ADDRESS, ReadFault::Address(9)),
     ] {
         gives_behind(rt.alloc(), &rt, CAMPUS, row, Some(fault));
     }

@@ -1,6 +1,5 @@
 -- The table of pending lookups, each found by its ticket and by the nonce of its last request.
-use Rattle.std.specs.Map.{lookup}
-use Rattle.std.specs.Prelude.{◌<◌, ◌≤◌, ◌⊎◌, None, ℕ, ◌≡◌, ◌≢◌, ◌==◌, List, Option, Some, refl}
+use Rattle.std.specs.Prelude.{◌<◌, ◌≤◌, ℕ, ◌≡◌, ◌≢◌, List, Option, Some, refl}
 use Rattle.std.specs.Ordering.{nat_cmp}
 use Rattle.std.specs.FinMap.{FinMap, get, from_entries, code}
 use Rattle.std.specs.Coded.{Coded, code_by, coded×, coded_ℕ}
@@ -37,20 +36,7 @@ IsLeastDue lookups time nonce = (u : ℕ) (m : Pending) → get lookups u ≡ So
 abbrev pub IsNoneDue : FinMap nat_cmp Pending → ℕ → Type 0
 IsNoneDue lookups time = (u : ℕ) (m : Pending) → get lookups u ≡ Some m → time < m.deadline
 
--- the nonce of the best so far is at most this one
-abbrev pub IsAtMost : Option (ℕ × ℕ) → ℕ → Type 0
-IsAtMost None nonce = ⊥
-IsAtMost (Some best) nonce = best.1 ≤ nonce
-
--- of the entries but for the rest, the best is the ticket and nonce of the due one with the least nonce
-pub record IsBest (entries rest : List (ℕ × Pending)) (time : ℕ) (best : Option (ℕ × ℕ)) : Type 0 where
-  pub found : (t n : ℕ) → best ≡ Some (t, n) → (l : Pending) × (lookup (◌==◌ t) entries ≡ Some l) × (l.nonce ≡ n)
-      × (l.deadline ≤ time)
-  pub least : (u : ℕ) (m : Pending) → lookup (◌==◌ u) entries ≡ Some m → m.deadline ≤ time
-      → (lookup (◌==◌ u) rest ≡ Some m) ⊎ IsAtMost best m.nonce
-
--- one more lookup takes the place of the best, or the best stays
-pub data IsBetter (time ticket : ℕ) (l : Pending) (best new : Option (ℕ × ℕ)) : Type 0 where
-  takes : l.deadline ≤ time → new ≡ Some (ticket, l.nonce) → ((n : ℕ) → IsAtMost best n → l.nonce ≤ n)
-      → IsBetter time ticket l best new
-  stays : new ≡ best → (l.deadline ≤ time → IsAtMost best l.nonce) → IsBetter time ticket l best new
+-- the lookup of this ticket is due and has this nonce, and no due lookup has a nonce below it
+pub record IsNextDue (lookups : FinMap nat_cmp Pending) (time ticket nonce : ℕ) : Type 0 where
+  pub due : (l : Pending) × (get lookups ticket ≡ Some l) × (l.nonce ≡ nonce) × (l.deadline ≤ time)
+  pub least : IsLeastDue lookups time nonce

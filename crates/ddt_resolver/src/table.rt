@@ -1,9 +1,9 @@
 //! The pending lookups, found by ticket and by nonce with no walk.
 
-ghost use Rattle.std.specs.Prelude.{◌≡◌, ◌≢◌, ◌<◌, ◌≤◌, ◌+◌, [], ◌⊎◌, ◌==◌, ℕ, cond, is_some, None, Some, IsSome, IfSome, IfNone, OnOk};
+ghost use Rattle.std.specs.Prelude.{◌≡◌, ◌≢◌, ◌<◌, ◌≤◌, ◌+◌, ◌⊎◌, ◌==◌, ℕ, cond, is_some, None, Some, IsSome, IfSome, IfNone, OnOk};
 ghost use Rattle.std.specs.HashMap.{get, spare, hash_map_len};
 ghost use Rattle.std.specs.FinMap as map;
-ghost use Rattle.ddt_resolver.specs.Table.{IsUnknown, IsLeastDue, IsNoneDue, IsBest, IsBetter};
+ghost use Rattle.ddt_resolver.specs.Table.{map_of, IsUnknown, IsLeastDue, IsNextDue, IsNoneDue};
 
 use crate::pending::Pending;
 use std::alloc::{AllocError, Global};
@@ -163,30 +163,18 @@ fn note(tickets: &mut HashMap<u64, u64>, nonce: u64, ticket: u64)
 
 /// Of the lookups whose deadline is at or before a time, the ticket and the nonce of that with the least nonce.
 fn least_due(lookups: &HashMap<u64, Pending>, time: u64) -> Option<(u64, u64)>
-    ensures { IsBest lookups.now.entries [] time result }
+    ensures found { IfSome result (λ d. IsNextDue (map_of lookups.now.entries) time d.0 d.1) }
+    ensures none { IfNone result (IsNoneDue (map_of lookups.now.entries) time) }
 {
-    let mut best: Option<(u64, u64)> = None;
+    let mut least: Option<(u64, u64)> = None;
     for (ticket, lookup) in lookups.iter() {
-        best = better(*ticket, lookup, time, best);
-    }
-    best
-}
-
-/// One more lookup beside the best so far.
-fn better(ticket: u64, lookup: &Pending, time: u64, best: Option<(u64, u64)>) -> Option<(u64, u64)>
-    ensures { IsBetter time ticket lookup.now best result }
-{
-    if lookup.deadline > time {
-        return best;
-    }
-    match best {
-        Some((before, nonce)) => {
-            if nonce <= lookup.nonce {
-                Some((before, nonce))
-            } else {
-                Some((ticket, lookup.nonce))
-            }
+        let is_first = match least {
+            Some((_ticket, nonce)) => lookup.nonce < nonce,
+            None => true,
+        };
+        if is_first && lookup.deadline <= time {
+            least = Some((*ticket, lookup.nonce));
         }
-        None => Some((ticket, lookup.nonce)),
     }
+    least
 }

@@ -48,10 +48,10 @@ fn set(locators: &[Locator]) -> Result<LocatorSet, Fail> {
 /// A resolver at 127.0.0.53 whose root's server is 127.0.0.1.
 fn rooted(alloc: Global, seed: u64) -> Result<ListResolver, Fail> {
     let roots = set(&[ROOT])?;
-    if roots.as_slice().is_empty() {
-        return Err("no root")?;
+    match roots.as_slice() {
+        [] => Err("no root".into()),
+        _ => Ok(Resolver::new(alloc, roots, ME, seed)),
     }
-    Ok(Resolver::new(alloc, roots, ME, seed))
 }
 
 /// A NODE-REFERRAL for an IPv4 block of the Instance ID 0, for a day.

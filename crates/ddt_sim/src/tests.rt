@@ -105,10 +105,10 @@ fn rooted(alloc: Global) -> Result<ListResolver, Fail> {
 /// One whose root has these servers.
 fn rooted_at(alloc: Global, servers: &[Locator]) -> Result<ListResolver, Fail> {
     let roots = set(servers)?;
-    if roots.as_slice().is_empty() {
-        return Err("no root")?;
+    match roots.as_slice() {
+        [] => Err("no root".into()),
+        _ => Ok(Resolver::new(alloc, roots, ME, 1)),
     }
-    Ok(Resolver::new(alloc, roots, ME, 1))
 }
 
 /// Looks an identifier up at moment 0.

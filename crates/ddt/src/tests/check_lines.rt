@@ -3,6 +3,7 @@
 use crate::status::Status::{Answered, Refused};
 use crate::tests::harness::expect;
 use ddt_examples::registers::CAMPUS;
+use ddt_examples::rows::{CAPITAL, HOST_BITS, NO_ADDRESS, NO_KIND, TOO_FEW_FIELDS};
 use std::test::Fail;
 
 #[test]
@@ -54,14 +55,11 @@ const NINTH_ROWS: [(&str, &str); 16] = [
         "group-ms,,east,127.0.1.9",
         "refused A10 DuplicateGroup row 9\n",
     ),
-    ("node,*", "unreadable 1 Csv row 9\n"),
-    ("zone,*,root,", "unreadable 3 Kind row 9\n"),
-    ("node,[0]10.0.0.1/8,ten,", "unreadable 4 Prefix row 9\n"),
-    ("node,[0]12.0.0.0/8,Ten,", "unreadable 5 Name row 9\n"),
-    (
-        "site,[0]10.1.5.0/24,,10.0.0.256",
-        "unreadable 6 Address row 9\n",
-    ),
+    (TOO_FEW_FIELDS, "unreadable 1 Csv row 9\n"),
+    (NO_KIND, "unreadable 3 Kind row 9\n"),
+    (HOST_BITS, "unreadable 4 Prefix row 9\n"),
+    (CAPITAL, "unreadable 5 Name row 9\n"),
+    (NO_ADDRESS, "unreadable 6 Address row 9\n"),
 ];
 
 #[test]

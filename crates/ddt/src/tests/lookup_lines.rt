@@ -3,6 +3,7 @@
 use crate::status::Status::{Answered, Incomplete, Refused, Unprinted};
 use crate::tests::harness::{expect, run_words};
 use ddt_examples::registers::{CAMPUS, FAR_HOST, LONE_ROOT, SHARED_GROUP};
+use ddt_examples::rows::{REGISTERED_INSIDE, SILENT_INSIDE};
 use std::test::Fail;
 
 /// A register, an identifier, and the lines of its lookup.
@@ -145,7 +146,7 @@ hole [0]10.1.0.0/16
     ),
     (
         CAMPUS,
-        "site,[0]10.1.4.128/25,,127.0.2.2\n",
+        REGISTERED_INSIDE,
         "[0]10.1.4.7",
         "[0]10.1.4.200",
         "127.0.0.1 NODE-REFERRAL [0]10.0.0.0/8 1440 127.0.0.10
@@ -159,7 +160,7 @@ registered [0]10.1.4.128/25 127.0.1.1 127.0.1.2
     ),
     (
         CAMPUS,
-        "site,[0]10.1.2.64/26,,\n",
+        SILENT_INSIDE,
         "[0]10.1.2.3",
         "[0]10.1.2.70",
         "127.0.0.1 NODE-REFERRAL [0]10.0.0.0/8 1440 127.0.0.10

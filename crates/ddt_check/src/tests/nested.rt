@@ -2,6 +2,7 @@
 
 use crate::{Accepted, assign, check, says};
 use ddt_examples::registers::CAMPUS;
+use ddt_examples::rows::{REGISTERED_INSIDE, SILENT_INSIDE};
 use ddt_path::{Action, Form, Locator, Outcome, Prefix, Xeid};
 use ddt_register::read_register;
 use std::alloc::Global;
@@ -53,7 +54,7 @@ fn is_not_registered(outcome: Outcome, address: u32, len: u8) -> bool {
 
 #[test]
 fn a_registered_site_inside_a_silent_one(rt: HostRuntime) -> Result<(), Fail> {
-    let accepted = campus_with(rt.alloc(), "site,[0]10.1.4.128/25,,127.0.2.2")?;
+    let accepted = campus_with(rt.alloc(), REGISTERED_INSIDE)?;
     let (outer, inner) = (identifier(0x0a01_0407), identifier(0x0a01_04c8));
     assert!(rt; is_not_registered(assign(&accepted, outer), 0x0a01_0400, 25));
     assert!(rt; is_registered(assign(&accepted, inner), 0x0a01_0480, 25));
@@ -65,7 +66,7 @@ fn a_registered_site_inside_a_silent_one(rt: HostRuntime) -> Result<(), Fail> {
 
 #[test]
 fn a_silent_site_inside_a_registered_one(rt: HostRuntime) -> Result<(), Fail> {
-    let accepted = campus_with(rt.alloc(), "site,[0]10.1.2.64/26,,")?;
+    let accepted = campus_with(rt.alloc(), SILENT_INSIDE)?;
     let (outer, inner) = (identifier(0x0a01_0203), identifier(0x0a01_0246));
     assert!(rt; is_registered(assign(&accepted, outer), 0x0a01_0200, 24));
     assert!(rt; is_not_registered(assign(&accepted, inner), 0x0a01_0240, 26));

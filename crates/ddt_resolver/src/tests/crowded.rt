@@ -109,13 +109,14 @@ fn an_unusable_referral_leaves_1024_lookups_as_before(rt: HostRuntime) -> Result
 
 /// Whether the lookup ended as a loop, and the 1,023 others wait as they did.
 fn ends_alone(alloc: Global) -> Result<bool, Fail> {
+    let now = at(0)?;
     let again = referral(0x0a00_0000, 8, &[ROOT])?;
     let other = crowded(alloc)?;
     let mut resolver = crowded(alloc)?;
     let said = replied(alloc, &mut resolver, 0, TEN, (2, &again, 0))?;
     let gone = resolver.table.with_nonce(2).is_none() && resolver.pending() == 1023;
     let waits = wait_alike_from(3, &resolver, &other);
-    Ok(said == Said::GaveUp(Why::Loop) && gone && waits && remember_alike(resolver, other, at(0)?))
+    Ok(said == Said::GaveUp(Why::Loop) && gone && waits && remember_alike(resolver, other, now))
 }
 
 #[test]

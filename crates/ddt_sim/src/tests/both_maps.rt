@@ -4,15 +4,12 @@
 use super::schedules::ask;
 use super::*;
 use ddt_check::{Accepted, check};
-use ddt_examples::registers::{CAMPUS, LONE_ROOT, SHARED_GROUP};
+use ddt_examples::registers::{CAMPUS, FAR_HOST, LONE_ROOT, NESTED_SITES, SHARED_GROUP};
 use ddt_register::read_register;
 use ddt_trie::{PrefixMap, TrieMap};
 
-/// A register, and rows to append to it.
-type Text<'a> = (&'a str, &'a str);
-
-fn accepted(alloc: Global, text: Text<'_>) -> Result<Accepted, Fail> {
-    let text = format!(in alloc; "{}{}", text.0, text.1)?;
+/// The register of a text, accepted.
+fn accepted(alloc: Global, text: &str) -> Result<Accepted, Fail> {
     let Ok(register) = read_register(alloc, text.as_bytes()) else {
         return Err("no register".into());
     };
@@ -25,16 +22,16 @@ fn accepted(alloc: Global, text: Text<'_>) -> Result<Accepted, Fail> {
 /// A new resolver.
 fn resolver<M: PrefixMap<Entry>>(alloc: Global) -> Result<Resolver<M>, Fail> {
     let roots = set(&[ROOT])?;
-    if roots.as_slice().is_empty() {
-        return Err("no root")?;
+    match roots.as_slice() {
+        [] => Err("no root".into()),
+        _ => Ok(Resolver::new(alloc, roots, ME, 1)),
     }
-    Ok(Resolver::new(alloc, roots, ME, 1))
 }
 
 /// The lookups of these identifiers by one resolver, one after the other.
 fn lookups<S: PrefixMap<u32>, M: PrefixMap<Entry>>(
     alloc: Global,
-    text: Text<'_>,
+    text: &str,
     xeids: &[Xeid],
 ) -> Result<Vec<Lookup>, Fail> {
     let mut servers = Compiled::<S>::build(alloc, &accepted(alloc, text)?)?;
@@ -71,7 +68,7 @@ fn is_same_lookup(one: &Lookup, other: &Lookup) -> bool {
 }
 
 /// Whether the lookups of these identifiers are the same over both maps.
-fn find_alike(alloc: Global, text: Text<'_>, xeids: &[Xeid]) -> Result<bool, Fail> {
+fn find_alike(alloc: Global, text: &str, xeids: &[Xeid]) -> Result<bool, Fail> {
     let lists = lookups::<ListMap<u32>, ListMap<Entry>>(alloc, text, xeids)?;
     let trees = lookups::<TrieMap<u32>, TrieMap<Entry>>(alloc, text, xeids)?;
     for (one, other) in lists.iter().zip(trees.iter()) {
@@ -87,7 +84,7 @@ fn played<S: PrefixMap<u32>, M: PrefixMap<Entry>>(
     alloc: Global,
     steps: &[Step],
 ) -> Result<Transcript, Fail> {
-    let mut servers = Compiled::<S>::build(alloc, &accepted(alloc, (CAMPUS, ""))?)?;
+    let mut servers = Compiled::<S>::build(alloc, &accepted(alloc, CAMPUS)?)?;
     let mut resolver = resolver::<M>(alloc)?;
     Ok(run(alloc, &mut servers, &mut resolver, steps)?)
 }
@@ -125,21 +122,19 @@ fn lookups_over_the_campus_are_the_same_on_both_maps(rt: HostRuntime) -> Result<
         v4(0x0a01_04c8),
         v4(0x0a01_0246),
     ];
-    let inside = "site,[0]10.1.4.128/25,,127.0.2.2\nsite,[0]10.1.2.64/26,,\n";
-    assert_eq!(rt; find_alike(rt.alloc(), (CAMPUS, ""), &xeids)?, true);
-    assert_eq!(rt; find_alike(rt.alloc(), (CAMPUS, inside), &xeids)?, true);
+    assert_eq!(rt; find_alike(rt.alloc(), CAMPUS, &xeids)?, true);
+    assert_eq!(rt; find_alike(rt.alloc(), NESTED_SITES, &xeids)?, true);
     Ok(())
 }
 
 #[test]
 fn lookups_over_small_trees_are_the_same_on_both_maps(rt: HostRuntime) -> Result<(), Fail> {
     let alloc = rt.alloc();
-    let single = "group-node,,far,127.0.0.9\nnode,[0]10.9.9.9/32,far,\n";
     let around = [v4(0x0a09_0908), v4(0x0a09_0909)];
     let xeids = [v4(0x0a01_0203), v4(0xc000_0201), v4(0x0a02_0001)];
-    assert_eq!(rt; find_alike(alloc, (LONE_ROOT, ""), &xeids)?, true);
-    assert_eq!(rt; find_alike(alloc, (LONE_ROOT, single), &around)?, true);
-    assert_eq!(rt; find_alike(alloc, (SHARED_GROUP, ""), &xeids)?, true);
+    assert_eq!(rt; find_alike(alloc, LONE_ROOT, &xeids)?, true);
+    assert_eq!(rt; find_alike(alloc, FAR_HOST, &around)?, true);
+    assert_eq!(rt; find_alike(alloc, SHARED_GROUP, &xeids)?, true);
     Ok(())
 }
 

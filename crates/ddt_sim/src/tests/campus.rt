@@ -2,7 +2,8 @@
 
 use super::*;
 use ddt_check::check;
-use ddt_examples::registers::{CAMPUS, LONE_ROOT, SHARED_GROUP};
+use ddt_examples::registers::{CAMPUS, FAR_HOST, LONE_ROOT, SHARED_GROUP};
+use ddt_examples::rows::{REGISTERED_INSIDE, SILENT_INSIDE};
 use ddt_register::read_register;
 
 /// The servers of a register, and a new resolver that asks them.
@@ -144,8 +145,7 @@ fn a_map_server_answers_between_its_sites(rt: HostRuntime) -> Result<(), Fail> {
 
 #[test]
 fn a_hole_may_be_a_single_address(rt: HostRuntime) -> Result<(), Fail> {
-    let rows = "group-node,,far,127.0.0.9\nnode,[0]10.9.9.9/32,far,\n";
-    let mut world = World::of(rt.alloc(), LONE_ROOT, rows)?;
+    let mut world = World::of(rt.alloc(), FAR_HOST, "")?;
     let beside = hole(0x0a09_0908, 32)?;
     let inside = hole(0x0a09_0909, 32)?;
     assert_eq!(rt; world.finds(0x0a09_0908, beside, &[ROOT])?, true);
@@ -164,8 +164,7 @@ fn each_map_server_is_asked_of_a_site_that_isnt_registered(rt: HostRuntime) -> R
 
 #[test]
 fn a_negative_answer_covers_no_site_inside(rt: HostRuntime) -> Result<(), Fail> {
-    let row = "site,[0]10.1.4.128/25,,127.0.2.2\n";
-    let mut world = World::of(rt.alloc(), CAMPUS, row)?;
+    let mut world = World::of(rt.alloc(), CAMPUS, REGISTERED_INSIDE)?;
     let outside = not_registered(0x0a01_0400, 25)?;
     let inside = registered(0x0a01_0480, 25)?;
     let asked = [ROOT, TEN, EAST, EAST_2];
@@ -176,8 +175,7 @@ fn a_negative_answer_covers_no_site_inside(rt: HostRuntime) -> Result<(), Fail> 
 
 #[test]
 fn an_acknowledgement_leads_to_the_site_inside(rt: HostRuntime) -> Result<(), Fail> {
-    let row = "site,[0]10.1.2.64/26,,\n";
-    let mut world = World::of(rt.alloc(), CAMPUS, row)?;
+    let mut world = World::of(rt.alloc(), CAMPUS, SILENT_INSIDE)?;
     let outside = registered(0x0a01_0200, 24)?;
     let inside = not_registered(0x0a01_0240, 26)?;
     assert_eq!(rt;

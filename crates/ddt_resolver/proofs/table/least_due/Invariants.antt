@@ -1,5 +1,5 @@
-use Rattle.ddt_resolver.specs.Table.{IsBest}
+use Rattle.ddt_resolver.proofs.DueLemmas.{IsBest}
 use Rattle.ddt_resolver.proofs.table.least_due.Given as goal
 
 abbrev pub invariant-loop-ticket : goal.invariant-loop-ticket
-invariant-loop-ticket l = IsBest l.lookups.entries l.ticket-iterator l.time l.best
+invariant-loop-ticket l = IsBest l.lookups.entries l.ticket-iterator l.time l.least

@@ -1,0 +1,26 @@
+-- A prefix as the key of a hash table.
+use Rattle.std.specs.Prelude.{Bool, List, ℕ, ◌++◌}
+use Rattle.std.specs.Hash.{HashWrites, u8, u32, u128}
+use Rattle.ddt_path.specs.declared.locator.Locator.TheVariants.{V4, V6}
+use Rattle.ddt_path.specs.declared.form.Form.{Form}
+use Rattle.ddt_path.specs.declared.form.Form.TheVariants.{Range, Block}
+use Rattle.ddt_path.specs.FormOf.{form_of}
+use Rattle.ddt_path.specs.Covers.{is_same_path}
+use Rattle.ddt_hash.specs.declared.key.Key.{Key}
+
+-- two keys are one: their paths are the same
+abbrev pub is_same_key : Key → Key → Bool
+is_same_key a b = is_same_path a.prefix b.prefix
+
+-- what is hashed of a key: the numbers of its prefix as it is written down
+abbrev pub form_writes : Form → HashWrites
+form_writes (Range iid len) = u32 iid ++ u8 len
+form_writes (Block iid (V4 address) len) = u32 iid ++ (u32 address ++ u8 len)
+form_writes (Block iid (V6 address) len) = u32 iid ++ (u128 address ++ u8 len)
+
+abbrev pub key_writes : Key → HashWrites
+key_writes k = form_writes (form_of k.prefix)
+
+-- the key of a path
+abbrev pub key_of : List ℕ → Key
+key_of p = record { prefix = p }

@@ -1,0 +1,3 @@
+pub mod Key
+pub mod KeyLemmas
+pub mod Table

@@ -1,0 +1,75 @@
+//! A prefix as the key of a hash table, and values that stand in two places.
+
+ghost use Rattle.std.specs.Prelude.{◌≡◌};
+ghost use Rattle.std.specs.Cmp.{partial_equiv_from_equiv};
+ghost use Rattle.ddt_hash.specs.Key.{is_same_key, key_writes};
+ghost use Rattle.ddt_hash.specs.KeyLemmas.{keys_equal, keys_alike};
+
+use ddt_path::{Form, Locator, Prefix};
+use std::hash::{Hash, Hasher};
+
+/// A value that can be given twice.
+pub trait Twin: Drop {
+    /// The same value once more.
+    fn twin(&self) -> Self
+        ensures { result ≡ self.now };
+}
+
+impl Twin for u32 {
+    fn twin(&self) -> u32 {
+        *self
+    }
+}
+
+/// A prefix as a key. Two are equal if and only if their paths are.
+#[derive(Clone, Copy)]
+pub struct Key {
+    pub prefix: Prefix,
+}
+
+impl PartialEq for Key {
+    ghost eq = { is_same_key };
+
+    ghost laws = { partial_equiv_from_equiv keys_equal };
+
+    fn eq(&self, other: &Key) -> bool {
+        self.prefix == other.prefix
+    }
+}
+
+impl Eq for Key {
+    ghost laws = { keys_equal };
+}
+
+impl Hash for Key {
+    ghost hash_input = { key_writes };
+
+    ghost respects_eq = { keys_alike };
+
+    fn hash<H: Hasher>(&self, state: &mut H) {
+        match self.prefix.form() {
+            Form::Range { iid, len } => {
+                state.write_u32(iid);
+                state.write_u8(len);
+            }
+            Form::Block {
+                iid,
+                address: Locator::V4(address),
+                len,
+            } => {
+                state.write_u32(iid);
+                state.write_u32(address);
+                state.write_u8(len);
+            }
+            Form::Block {
+                iid,
+                address: Locator::V6(address),
+                len,
+            } => {
+                state.write_u32(iid);
+                state.write_u128(address);
+                state.write_u8(len);
+            }
+        }
+    }
+}

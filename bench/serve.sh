@@ -5,7 +5,8 @@
 # PROGRAM is the program itself; without it that which the launcher built is taken. A register of 20,000 zones is
 # compiled, and its root's configuration served; nsd serves as many delegations, with one process. Each of the three is
 # loaded alone for three seconds by bench/serve/load.c, with at most 64 requests outstanding, in turn and three times
-# over; the best of the three counts. The status is 1 if `ddt serve` gives less than nsd, or less than 0.8 of the
+# over; the best of the three counts. Each has one processor for itself, and the load another, so that no round hangs on
+# which ones the system chooses. The status is 1 if `ddt serve` gives less than nsd, or less than 0.8 of the
 # program that sends back.
 #
 # It sends to 127.0.0.0/8 alone. Wants gcc and nsd (Debian: nsd).
@@ -59,7 +60,7 @@ EOF
 # load MODE ADDRESS PORT: loads what was started last, stops it, and prints its replies a second.
 load() {
     sleep 1
-    "$folder/load" "$1" "$2" "$3" "$seconds" "$window" "$zones" | sed 's|\([0-9]*\) replies/s.*|\1|'
+    taskset -c 0 "$folder/load" "$1" "$2" "$3" "$seconds" "$window" "$zones" | sed 's|\([0-9]*\) replies/s.*|\1|'
     kill "$served" 2>/dev/null || true
     wait "$served" 2>/dev/null || true
     served=''
@@ -71,13 +72,13 @@ best_of() {
 
 ours='' theirs='' echoed=''
 for _ in 1 2 3; do
-    "$program" serve "$folder/root.toml" 127.0.0.1 4294967295 >/dev/null &
+    taskset -c 1 "$program" serve "$folder/root.toml" 127.0.0.1 4294967295 >/dev/null &
     served=$!
     ours+=" $(load ddt 127.0.0.1 4342)"
-    nsd -d -c "$folder/nsd.conf" 2>/dev/null &
+    taskset -c 1 nsd -d -c "$folder/nsd.conf" 2>/dev/null &
     served=$!
     theirs+=" $(load dns 127.0.0.4 5353)"
-    "$folder/echo" 127.0.0.3 5353 $((seconds + 2)) &
+    taskset -c 1 "$folder/echo" 127.0.0.3 5353 $((seconds + 2)) &
     served=$!
     echoed+=" $(load echo 127.0.0.3 5353)"
 done

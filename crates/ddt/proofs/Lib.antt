@@ -1,7 +1,6 @@
 pub mod ConfigLemmas
 pub mod LookupLemmas
 pub mod LoopLemmas
-pub mod NumberLemmas
 pub mod OverLemmas
 pub mod ReplayLemmas
 pub mod RunLemmas

@@ -1,7 +1,7 @@
 -- From a run of a resolver over wires to what the command says of it.
 use Rattle.std.proofs.Common.{◌≡◌, ◌⊎◌, inl, inr, ℕ, ◌+◌, ◌<◌, ◌≤◌, false, true, Bor, List, [], ◌∷◌, ◌++◌, length, drop, get_or, Option, Some, None, Ok, map, refl, sym, ap, subst, ◌∙◌, append_assoc}
 use Rattle.std.specs.Prelude.{count_by}
-use Rattle.std.specs.List.{AllZip, flat_map, zip}
+use Rattle.std.specs.List.{AllZip, flat_map}
 use Rattle.std.proofs.lemmas.List.{append-nil, at_drop_all, at_drop_more}
 use Rattle.ddt_path.specs.declared.locator.Locator.{Locator}
 use Rattle.ddt_path.specs.declared.xeid.Xeid.{Xeid}
@@ -13,7 +13,7 @@ use Rattle.ddt_config.specs.Table.{Outline}
 use Rattle.ddt_wires.specs.declared.call.Call.{Call as WireCall}
 use Rattle.ddt_wires.specs.Calls.{Tells as TellCalls}
 use Rattle.ddt_resolver.specs.State.{State, fresh}
-use Rattle.ddt_sim.specs.Compiled.{AreCompiled, configs_of}
+use Rattle.ddt_sim.specs.Compiled.{AreCompiled}
 use Rattle.ddt_sim.specs.Sound.{NewResolversAreSound}
 use Rattle.ddt_loop.specs.declared.ends.LoopEnd.{LoopEnd}
 use Rattle.ddt_loop.specs.Askers.{has_unresolved}

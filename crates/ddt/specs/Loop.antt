@@ -1,6 +1,6 @@
 -- `loop REGISTER XEID... [--me ADDRESS] [--seed N] [--turns N]`: the servers of a register and one resolver over the
 -- sockets of the loopback, for so many turns (RFC 8111, section 7).
-use Rattle.std.specs.Prelude.{ℕ, Bool, true, false, ◌≡◌, ◌⊎◌, List, ◌++◌, map, codes, Option, None, Some, Result, Ok, Err}
+use Rattle.std.specs.Prelude.{ℕ, Bool, true, false, ◌≡◌, List, ◌++◌, map, codes, Option, None, Some, Result, Ok, Err}
 use Rattle.std.specs.Prelude.{◌∷◌, count_by}
 use Rattle.std.specs.IoError.{error_kind}
 use Rattle.std.specs.List.{AllZip, flat_map, list_all, zip}

@@ -1,5 +1,7 @@
 -- The text of a refusal; None for those that show a fault, whose text is the fault's own.
 use Rattle.std.specs.Prelude.{ℕ, ◌≡◌, ◌⊎◌, List, ◌++◌, Option, None, Some, codes, decimal, IfSome}
+use Rattle.std.specs.declared.io.ErrorKind.{ErrorKind}
+use Rattle.std.specs.declared.io.ErrorKind.TheVariants as kind
 use Rattle.ddt_text.specs.Written.{written_locator}
 use Rattle.ddt_lines.specs.Lines.{ended}
 use Rattle.ddt_register.specs.declared.fault.ReadFault.{ReadFault}
@@ -59,6 +61,11 @@ abbrev pub reading_refusal : ReadFault → Refusal
 reading_refusal Memory = OutOfMemory
 reading_refusal Read = NoRegister CannotRead
 reading_refusal fault = NoRegister (Unreadable fault)
+
+-- what is refused where reading an open file ends in an error of this kind, and `unread` is its refusal
+abbrev pub file_refusal : ErrorKind → Refusal → Refusal
+file_refusal kind.OutOfMemory unread = OutOfMemory
+file_refusal _ unread = unread
 
 -- The text is the refusal's line. Of a refusal whose text hangs on a fault's own this says nothing.
 abbrev pub IsLineOf : Refusal → List ℕ → Type 0

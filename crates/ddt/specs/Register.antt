@@ -20,8 +20,8 @@ abbrev pub Spell : List ℕ → Register → Type 0
 Spell bytes r = register_in bytes ≡ Ok (lists_of r)
 
 -- this is the least rule that the register breaks, and the least row that breaks it
-abbrev pub IsRuleBroken : Register → RegisterRefusal → Type 0
-IsRuleBroken r why = (fault : Fault) × (why ≡ BreaksRule fault) × IsLeastFault r fault.rule fault.row
+abbrev pub IsRuleBroken : Register → Refusal → Type 0
+IsRuleBroken r why = (fault : Fault) × (why ≡ NoRegister (BreaksRule fault)) × IsLeastFault r fault.rule fault.row
 
 -- an opened file tells these bytes; one that couldn't be opened, or whose bytes aren't known, tells none
 abbrev pub Tells : {F : Type 0} → (F → Option (List ℕ)) → Option F → List ℕ → Type 0

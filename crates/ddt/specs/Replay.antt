@@ -32,6 +32,8 @@ use Rattle.ddt.specs.declared.refusal.Refusal.{Refusal}
 use Rattle.ddt.specs.declared.refusal.Refusal.TheVariants.{BadWord, NoScript, OutOfMemory}
 use Rattle.ddt.specs.declared.refusal.script.ScriptRefusal.TheVariants.{CannotOpen, RefusedLine}
 use Rattle.ddt.specs.declared.refusal.word.WordRefusal.{WordRefusal}
+use Rattle.ddt.specs.declared.script.ScriptFault.{ScriptFault}
+use Rattle.ddt.specs.declared.script.ScriptFault.TheVariants as fault
 use Rattle.ddt.specs.Lookup.{address_refusal, me_of, number_refusal, seed_of, why_text}
 use Rattle.ddt.specs.Over.{OfItsRegister, path}
 use Rattle.ddt.specs.Register.{IsWhyNoRegister, Tells}
@@ -127,6 +129,11 @@ abbrev pub OfItsScript : {F : Type 0} → (F → Option (List ℕ)) → Option F
 OfItsScript remaining source is_so =
     (source ≢ None)
     × ((steps : List Step) × ((bytes : List ℕ) → Tells remaining source bytes → SpellsScript bytes steps) × is_so steps)
+
+-- what is refused where bytes spell no script
+abbrev pub script_refusal : ScriptFault → Refusal
+script_refusal (fault.Line number) = NoScript (RefusedLine number)
+script_refusal fault.Memory = OutOfMemory
 
 -- why a path gives no script: it can't be opened or read, or a line of its bytes spells no step; memory may run out
 -- once a file is open

@@ -2,6 +2,7 @@
 
 ghost use Rattle.std.specs.Prelude.{◌≡◌, ◌⊎◌, ℕ, List, Some, IfOk, IfErr};
 ghost use Rattle.ddt.specs.declared.refusal.Refusal.TheVariants.{OutOfMemory};
+ghost use Rattle.ddt.specs.Refusal.{file_refusal};
 
 use crate::refusal::Refusal;
 use std::alloc::Global;
@@ -19,7 +20,16 @@ pub fn bytes_of<F: Read + Drop>(
     let mut bytes = Vec::new(alloc);
     match file.read_to_end(&mut bytes) {
         Ok(_count) => Ok(bytes),
-        Err(error) if error.kind() == ErrorKind::OutOfMemory => Err(Refusal::OutOfMemory),
-        Err(_) => Err(unread),
+        Err(error) => Err(failed(error.kind(), unread)),
+    }
+}
+
+/// What is refused where reading ends in an error of this kind: out of memory if it is that, else `unread`.
+fn failed(kind: ErrorKind, unread: Refusal<'_>) -> Refusal<'_>
+    ensures { result ≡ file_refusal kind unread.entry }
+{
+    match kind {
+        ErrorKind::OutOfMemory => Refusal::OutOfMemory,
+        _ => unread,
     }
 }

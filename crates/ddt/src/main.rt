@@ -2,7 +2,7 @@
 //!
 //! In reading order: `running`, `commands` (the list), `over` (commands over a register), `commands/*`, `answering`,
 //! `looking_up`, `script`, `replaying`, `event_lines`, `configuration`, `loopback`, `sockets`, `serving`, `looping`,
-//! `end_lines`, `file`, `number`, `lines`, `telling`, `refusal`, `status`.
+//! `end_lines`, `file`, `lines`, `telling`, `refusal`, `status`.
 #![tactic(auto)]
 
 mod answering;
@@ -15,7 +15,6 @@ mod lines;
 mod looking_up;
 mod loopback;
 mod looping;
-mod number;
 mod over;
 mod refusal;
 mod replaying;

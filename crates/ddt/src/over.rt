@@ -90,13 +90,9 @@ pub fn register_at<F: Read + Drop>(
     let Some(file) = source else {
         return Err(Refusal::NoRegister(RegisterRefusal::CannotOpen(path)));
     };
-    let register = match read_register(alloc, file) {
-        Ok(register) => register,
-        Err(fault) => return Err(unread(fault)),
-    };
-    match judged(register) {
-        Ok(accepted) => Ok(accepted),
-        Err(why) => Err(Refusal::NoRegister(why)),
+    match read_register(alloc, file) {
+        Ok(register) => judged(register),
+        Err(fault) => Err(unread(fault)),
     }
 }
 
@@ -113,12 +109,12 @@ fn unread(fault: ReadFault) -> Refusal<'static>
 }
 
 /// The register where it keeps all rules, or the rule that it breaks. It allocates nothing.
-fn judged(register: Register) -> Result<Accepted, RegisterRefusal<'static>>
+fn judged(register: Register) -> Result<Accepted, Refusal<'static>>
     ensures accepted { IfOk result (λ a. (a ≡ register) × IsAccepted register) }
     ensures refused { IfErr result (IsRuleBroken register) }
 {
     match check(register) {
         Ok(accepted) => Ok(accepted),
-        Err((_, fault)) => Err(RegisterRefusal::BreaksRule(fault)),
+        Err((_, fault)) => Err(Refusal::NoRegister(RegisterRefusal::BreaksRule(fault))),
     }
 }

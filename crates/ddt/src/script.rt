@@ -8,9 +8,8 @@ ghost use Rattle.ddt_sim.specs.declared.schedule.Step.TheVariants as step_as;
 ghost use Rattle.ddt.specs.declared.script.ScriptFault.TheVariants as fault_as;
 ghost use Rattle.ddt.specs.Script.{IsRefusedAt, ScriptsAreClear, SpellsScript, SpellsStep};
 
-use crate::number::read_number;
 use ddt_sim::Step;
-use ddt_text::parse_xeid;
+use ddt_text::{parse_xeid, read_number};
 use std::alloc::{AllocError, Global};
 
 /// The greatest number in a script.

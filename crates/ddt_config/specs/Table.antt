@@ -1,7 +1,7 @@
 -- Which TOML table stands for which configuration of a node or a Map-Server (RFC 8111, section 4). The table's form is
 -- this project's own. The keys are examined in a fixed order, tables from first to last,
 -- and the first fault decides; the shape is examined last.
-use Rattle.std.specs.Prelude.{◌≡◌, ◌==◌, ℕ, Bool, if◌then◌else◌, codes, List, [], ◌∷◌, Option, None, Some, is_some, Result, Ok, Err}
+use Rattle.std.specs.Prelude.{◌≡◌, ◌==◌, ℕ, Bool, true, false, if◌then◌else◌, codes, List, [], ◌∷◌, Option, None, Some, is_some, Result, Ok, Err}
 use Rattle.std.specs.List.{list_all}
 use Rattle.std.specs.Option.{option_map}
 use Rattle.std.specs.Cmp.Lexicographic.{pointwise}
@@ -17,7 +17,7 @@ use Rattle.ddt_reading.specs.Steps.{◌>>=◌}
 use Rattle.ddt_config.specs.declared.fault.Key.{Key}
 use Rattle.ddt_config.specs.declared.fault.Key.TheVariants as key
 use Rattle.ddt_config.specs.declared.fault.ConfigFault.{ConfigFault}
-use Rattle.ddt_config.specs.declared.fault.ConfigFault.TheVariants.{Toml, Field, Value, Shape}
+use Rattle.ddt_config.specs.declared.fault.ConfigFault.TheVariants.{Toml, Field, Value, Shape, Memory}
 use Rattle.ddt_config.specs.declared.child.Child.{Child}
 use Rattle.ddt_config.specs.declared.site_entry.SiteEntry.{SiteEntry}
 use Rattle.ddt_config.specs.declared.authority.Content.{Content}
@@ -173,6 +173,12 @@ outline_in ms = do
 
 abbrev pub with_shape : Outline → Result Outline ConfigFault
 with_shape o = if is_shaped o.role o.locators o.authorities then Ok o else Err Shape
+
+-- what the answer of the test comes to, or that memory ran out before there was one
+abbrev pub shape_verdict : {E : Type 0} → Result Bool E → Result (Unit {0}) ConfigFault
+shape_verdict (Ok true) = Ok tt
+shape_verdict (Ok false) = Err Shape
+shape_verdict (Err memory) = Err Memory
 
 -- the configuration that a table stands for, or the first fault
 abbrev pub config_in : Members → Result Outline ConfigFault

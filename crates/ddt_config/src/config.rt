@@ -8,7 +8,7 @@ use crate::authority::{Authority, AuthorityDraft};
 use crate::entry::{entries_at, settle_each};
 use crate::fault::{ConfigFault, Key};
 use crate::members::{locators_at, name_in, role_in};
-use crate::shape::is_shaped;
+use crate::shape::{is_shaped, judged};
 use crate::values::{array_value, name_value, put, role_value};
 use ddt_path::{Listed, Locator, LocatorSet, Name, Role};
 use std::alloc::{AllocError, Global};
@@ -81,9 +81,7 @@ impl ServerConfig {
     {
         let locators = draft.locators.as_slice();
         let authorities = draft.authorities.as_slice();
-        if !is_shaped(alloc, draft.role, locators, authorities)? {
-            return Err(ConfigFault::Shape);
-        }
+        judged(is_shaped(alloc, draft.role, locators, authorities))?;
         let authorities = settle_each(alloc, authorities)?;
         Ok(ServerConfig {
             name: draft.name,

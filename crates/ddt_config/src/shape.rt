@@ -1,12 +1,15 @@
 //! The test of a configuration's shape.
 
-ghost use Rattle.std.specs.Prelude.{◌≡◌, IfOk};
+ghost use Rattle.std.specs.Prelude.{◌≡◌, ◌≢◌, true, false, Ok, OnOk, IfOk, IfErr};
 ghost use Rattle.std.specs.List.{list_all};
 ghost use Rattle.ddt_config.specs.declared.authority.Content.{Content};
+ghost use Rattle.ddt_config.specs.declared.fault.ConfigFault.TheVariants.{Shape};
+ghost use Rattle.ddt_config.specs.Table.{shape_verdict};
 ghost use Rattle.ddt_config.specs.Shaped.{is_shaped as is_shaped_of, is_server_set as is_server_set_of, is_child_of as is_child_of_path, is_site_of as is_site_of_path, is_content_of as is_content_of_role, is_authority_of as is_authority_of_role};
 
 use crate::authority::{AuthorityDraft, ContentDraft};
 use crate::child::ChildDraft;
+use crate::fault::ConfigFault;
 use crate::neighbours::{Clash, have_no_clash};
 use crate::site_entry::SiteDraft;
 use ddt_path::{Locator, MOST_LOCATORS, Prefix, Role, are_distinct};
@@ -28,6 +31,20 @@ pub fn is_shaped(
         return Ok(false);
     }
     are_authorities_of(alloc, role, authorities)
+}
+
+/// What the test of the shape comes to: nothing where the draft is shaped, 4 Shape where it isn't, and 5 Memory where
+/// memory ran out before the answer.
+pub fn judged(shaped: Result<bool, AllocError>) -> Result<(), ConfigFault>
+    ensures exact { result ≡ shape_verdict shaped }
+    ensures right { OnOk result (shaped ≡ Ok true) }
+    ensures wrong { IfErr result (λ fault. fault ≢ ConfigFault.Memory → (shaped ≡ Ok false) × (fault ≡ Shape)) }
+{
+    match shaped {
+        Ok(true) => Ok(()),
+        Ok(false) => Err(ConfigFault::Shape),
+        Err(AllocError) => Err(ConfigFault::Memory),
+    }
 }
 
 fn is_server_set(locators: &[Locator]) -> bool

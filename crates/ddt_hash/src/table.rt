@@ -88,7 +88,7 @@ impl<V: Drop> Table<V> {
 /// than eight.
 #[tactic(auto, using(crate::proofs::TableLemmas::length_kept, crate::proofs::TableLemmas::length_added, crate::proofs::TableLemmas::asked))]
 fn with_length(lengths: Vec<u8>, len: u8) -> Option<Vec<u8>>
-    ensures kept { IfSome result (λ new. (n : ℕ) → IsTrue (is_length lengths.items n) → IsTrue (is_length new.items n)) }
+    ensures kept { IfSome result (λ l. (n : ℕ) → IsTrue (is_length lengths.items n) → IsTrue (is_length l.items n)) }
     ensures added { IfSome result (λ new. IsTrue (is_length new.items len)) }
     ensures rising { IsNonDecreasing lengths.items → IfSome result (λ new. IsNonDecreasing new.items) }
 {

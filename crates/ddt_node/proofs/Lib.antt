@@ -2,3 +2,4 @@ pub mod AnswerLemmas
 pub mod BitLemmas
 pub mod PlaceLemmas
 pub mod ReplyLemmas
+pub mod SetLemmas

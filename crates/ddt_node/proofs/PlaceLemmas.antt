@@ -66,6 +66,15 @@ module _ {A : Type 0} (prefix : A → List ℕ) (x : List ℕ) where
       let at : v ≡ h.0 = omega (arith, place, h.1) in
       (omega (arith, slice_get_within items h.0 a h.2), sym (ap (slice_get items) at ∙ h.2))
 
+  read_item : (items : List A) (p : List ℕ) (v : ℕ) (o : Option (List ℕ × ℕ)) (r : Option A) → o ≡ Some (p, v) → Agree 0 items o r
+      → (a : A) × (slice_get items v ≡ Some a) × (r ≡ Some a) × (p ≡ prefix a)
+  read_item items p v None r is h = absurd (false≢true (ap (λ (q : Option (List ℕ × ℕ)). is_some q) is))
+  read_item items p v (Some e) None is h = absurd h
+  read_item items p v (Some e) (Some a) is h =
+      let same : e ≡ (p, v) = same_Some e (p, v) is in
+      let at : v ≡ h.0 = omega (arith, ap (λ (q : List ℕ × ℕ). q.1) same, h.1) in
+      (a, ap (slice_get items) at ∙ h.2, refl, sym (ap (λ (q : List ℕ × ℕ). q.0) same) ∙ h.3)
+
   read_none : (items : List A) (o : Option (List ℕ × ℕ)) (r : Option A) → o ≡ None → Agree 0 items o r → r ≡ None
   read_none items None None is h = refl
   read_none items None (Some a) is h = absurd h
@@ -75,6 +84,14 @@ module _ {A : Type 0} (prefix : A → List ℕ) (x : List ℕ) where
   longest_place items m p v is l =
       let es = numbered 0 (map prefix items) in
       read_found items p v (longest_match (λ (e : List ℕ × ℕ). e.0) es x) (longest_match prefix items x)
+      (longest_of_entries x es p v (subst (λ (n : FinMap path_cmp ℕ). IsLongest n x p v) is l)) (agree 0 items)
+
+  -- its prefix is that of the item at its place
+  pub longest_item : (items : List A) (m : FinMap path_cmp ℕ) (p : List ℕ) (v : ℕ) → m ≡ places (map prefix items) → IsLongest m x p v
+      → (a : A) × (slice_get items v ≡ Some a) × (longest_match prefix items x ≡ Some a) × (p ≡ prefix a)
+  longest_item items m p v is l =
+      let es = numbered 0 (map prefix items) in
+      read_item items p v (longest_match (λ (e : List ℕ × ℕ). e.0) es x) (longest_match prefix items x)
       (longest_of_entries x es p v (subst (λ (n : FinMap path_cmp ℕ). IsLongest n x p v) is l)) (agree 0 items)
 
   pub no_longest_place : (items : List A) (m : FinMap path_cmp ℕ) → m ≡ places (map prefix items) → (IsCovered m x → ⊥) → longest_match prefix items x ≡ None

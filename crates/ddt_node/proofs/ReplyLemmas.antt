@@ -1,5 +1,5 @@
 -- A request that is spelled is the one that is answered.
-use Rattle.std.proofs.Common.{◌≡◌, Bool, true, List, ℕ, Option, Some, None, Result, IfOk, refl, ap, subst, ◌∙◌}
+use Rattle.std.proofs.Common.{◌≡◌, List, ℕ, Option, Some, None, Result, IfOk, refl, ap, subst, ◌∙◌}
 use Rattle.std.specs.Prelude.{is_some}
 use Rattle.std.proofs.lemmas.Bool.{false≢true}
 use Rattle.std.proofs.lemmas.Option.{same_Some}

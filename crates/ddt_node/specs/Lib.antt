@@ -1,2 +1,4 @@
+pub mod Decisions
 pub mod Places
+pub mod ReferralSets
 pub mod Server

@@ -1,8 +1,10 @@
 //! The answer for an identifier, by the maps of a server.
 
-ghost use Rattle.std.specs.Prelude.{◌≡◌, ◌<◌, IsTrue, None, length, map, slice_get, IfSome, IfNone};
+ghost use Rattle.std.specs.Prelude.{◌≡◌, ◌<◌, IsTrue, List, None, Some, length, map, slice_get, IfSome, IfNone};
 ghost use Rattle.std.specs.FinMap.{keys};
-ghost use Rattle.ddt_path.specs.declared.record.Outcome.TheVariants.{Hole};
+ghost use Rattle.std.specs.Option.{option_map};
+ghost use Rattle.ddt_path.specs.declared.locator.Locator.{Locator as ALocator};
+ghost use Rattle.ddt_path.specs.Records.{record_of};
 ghost use Rattle.ddt_path.specs.Path.{xeid_path};
 ghost use Rattle.ddt_path.specs.Covers.{covers};
 ghost use Rattle.ddt_path.specs.Free.{longest_match, hole_of};
@@ -10,33 +12,93 @@ ghost use Rattle.ddt_config.specs.Answer.{answer_in as answer_in_of, site_outcom
 ghost use Rattle.ddt_config.specs.Entries.{prefixes_in};
 ghost use Rattle.ddt_trie.specs.PrefixMap.{keys_below};
 ghost use Rattle.ddt_node.specs.Places.{places as places_of};
+ghost use Rattle.ddt_node.specs.ReferralSets.{kept_sets, set_of, sets_in};
+ghost use Rattle.ddt_node.specs.declared.answering.Decision.TheVariants.{Hole};
+ghost use Rattle.ddt_node.specs.Decisions.{etr_by, record_by};
 ghost use Rattle.ddt_node.specs.Server.{etr_in};
 
+use crate::referral_sets::{ReferralSet, ReferralSets};
 use ddt_config::{Authority, Child, Content, Prefixed, SiteEntry};
 use ddt_path::{Locator, LocatorSet, Outcome, Prefix, ReferralRecord, Xeid};
 use ddt_trie::PrefixMap;
 
-/// The place of the longest item that covers the identifier.
+/// The place of the longest item that covers the identifier. An item that is alone is looked at without the map.
 pub fn longest<T: Prefixed, M: PrefixMap<u32>>(items: &[T], places: &M, x: Xeid) -> Option<usize>
     requires { M.content places.now ≡ places_of (map T.path items.now) }
     ensures inside { IfSome result (λ at. at < length items.now) }
     ensures found { IfSome result (λ at. longest_match T.path items.now (xeid_path x) ≡ slice_get items.now at) }
     ensures none { IfNone result (longest_match T.path items.now (xeid_path x) ≡ None) }
 {
+    if let [alone] = items {
+        return alone.prefix().covers_xeid(x).then_some(0);
+    }
     match places.longest(x) {
         Some(found) => Some(*found.1 as usize),
         None => None,
     }
 }
 
+/// What decides the answer for an identifier. It lends what a referral names.
+#[derive(Clone, Copy, Debug)]
+pub enum Decision<'a> {
+    /// The child of this prefix, which has this referral set.
+    Child {
+        prefix: Prefix,
+        set: &'a ReferralSet,
+    },
+    /// The site of this prefix, with the ETR that a request goes on to.
+    Registered {
+        prefix: Prefix,
+        etr: Locator,
+    },
+    /// This part of a site that has no ETR.
+    NotRegistered {
+        prefix: Prefix,
+    },
+    /// This delegation hole.
+    Hole {
+        prefix: Prefix,
+    },
+    /// That no authority covers the identifier.
+    Outside,
+}
+
+impl<'a> Decision<'a> {
+    /// The record that says so, of servers with these locators, for an identifier.
+    pub fn record(&self, servers: LocatorSet, x: Xeid) -> ReferralRecord
+        ensures { result ≡ record_by servers (xeid_path x) self.now }
+    {
+        let outcome = match *self {
+            Decision::Child { prefix, set } => {
+                return ReferralRecord::referral(set.role, prefix, set.locators);
+            }
+            Decision::Outside => return ReferralRecord::not_authoritative(x),
+            Decision::Registered { prefix, .. } => Outcome::Registered { prefix, servers },
+            Decision::NotRegistered { prefix } => Outcome::NotRegistered { prefix, servers },
+            Decision::Hole { prefix } => Outcome::Hole { prefix },
+        };
+        ReferralRecord::of(outcome)
+    }
+
+    /// The ETR that a request goes on to where it is acknowledged.
+    pub fn etr(&self) -> Option<Locator>
+        ensures { result ≡ etr_by self.now }
+    {
+        match *self {
+            Decision::Registered { etr, .. } => Some(etr),
+            _ => None,
+        }
+    }
+}
+
 /// The hole of an identifier that nothing in the authority covers: the least specific prefix in the authority that
 /// overlaps nothing there (RFC 8111, section 7.1.2).
-fn hole<M: PrefixMap<u32>>(authority: &Authority, places: &M, x: Xeid) -> Outcome
+fn hole<M: PrefixMap<u32>>(authority: &Authority, places: &M, x: Xeid) -> Decision<'static>
     requires places { M.content places.now ≡ places_of (prefixes_in authority.now.content) }
     requires inside { IsTrue (covers authority.now.prefix (xeid_path x)) }
     ensures { result ≡ Hole (hole_of authority.now.prefix (prefixes_in authority.now.content) (xeid_path x)) }
 {
-    Outcome::Hole {
+    Decision::Hole {
         prefix: places.free(authority.prefix, x).unwrap_or(Prefix::host(x)),
     }
 }
@@ -50,58 +112,72 @@ fn part_of<M: PrefixMap<u32>>(site: Prefix, places: &M, x: Xeid) -> Prefix
     places.free_below(site, x).unwrap_or(Prefix::host(x))
 }
 
-/// The outcome of the site that an identifier belongs to, and its first ETR: registered where it has one.
-fn site_outcome<M: PrefixMap<u32>>(
-    servers: LocatorSet,
-    site: &SiteEntry,
-    places: &M,
-    x: Xeid,
-) -> (Outcome, Option<Locator>)
+/// What the site says that an identifier belongs to: registered where it has an ETR, the first of which is told.
+fn site_decision<M: PrefixMap<u32>>(site: &SiteEntry, places: &M, x: Xeid) -> Decision<'static>
     requires { IsTrue (covers site.now.prefix (xeid_path x)) }
-    ensures outcome { result.0 ≡ site_outcome_of servers (keys (M.content places.now)) (xeid_path x) site.now }
-    ensures etr { result.1 ≡ slice_get site.now.etrs 0 }
+    ensures record { (servers : List ALocator) → record_by servers (xeid_path x) result
+        ≡ record_of (site_outcome_of servers (keys (M.content places.now)) (xeid_path x) site.now) }
+    ensures etr { etr_by result ≡ slice_get site.now.etrs 0 }
 {
     match site.etrs.as_slice().first() {
-        Some(etr) => {
-            let prefix = site.prefix;
-            (Outcome::Registered { prefix, servers }, Some(*etr))
-        }
-        None => {
-            let prefix = part_of(site.prefix, places, x);
-            (Outcome::NotRegistered { prefix, servers }, None)
-        }
+        Some(etr) => Decision::Registered {
+            prefix: site.prefix,
+            etr: *etr,
+        },
+        None => Decision::NotRegistered {
+            prefix: part_of(site.prefix, places, x),
+        },
     }
 }
 
-/// The referral to a child.
-fn referral_to(child: &Child) -> ReferralRecord
-    ensures { result ≡ referral_to_child child.now }
+/// What the longest child says that covers the identifier, None where none does.
+fn child_decision<'a, M: PrefixMap<u32>>(
+    children: &[Child],
+    places: &M,
+    referrals: &'a ReferralSets,
+    x: Xeid,
+) -> Option<Decision<'a>>
+    requires places { M.content places.now ≡ places_of (map (λ c. c.prefix) children.now) }
+    requires kept { kept_sets referrals.now ≡ map (λ c. Some (set_of c)) children.now }
+    ensures record { IfSome result (λ d. (servers : List ALocator) → Some (record_by servers (xeid_path x) d)
+        ≡ option_map referral_to_child (longest_match (λ c. c.prefix) children.now (xeid_path x))) }
+    ensures etr { IfSome result (λ d. etr_by d ≡ None) }
+    ensures none { IfNone result (longest_match (λ c. c.prefix) children.now (xeid_path x) ≡ None) }
 {
-    ReferralRecord::referral(child.role, child.prefix, child.locators)
+    match places.longest(x) {
+        Some(found) => {
+            let set = referrals.at(children, *found.1 as usize);
+            let prefix = found.0;
+            Some(Decision::Child { prefix, set })
+        }
+        None => None,
+    }
 }
 
-/// The answer from the authority that the identifier belongs to, and the ETR that a request goes on to where it is
-/// acknowledged.
-pub fn answer_in<M: PrefixMap<u32>>(
-    servers: LocatorSet,
+/// What decides in the authority that the identifier belongs to.
+pub fn decision_in<'a, M: PrefixMap<u32>>(
     authority: &Authority,
     places: &M,
+    referrals: &'a ReferralSets,
     x: Xeid,
-) -> (ReferralRecord, Option<Locator>)
+) -> Decision<'a>
     requires places { M.content places.now ≡ places_of (prefixes_in authority.now.content) }
+    requires kept { kept_sets referrals.now ≡ sets_in authority.now.content }
     requires inside { IsTrue (covers authority.now.prefix (xeid_path x)) }
-    ensures answer { result.0 ≡ answer_in_of servers authority.now.prefix authority.now.content (xeid_path x) }
-    ensures etr { result.1 ≡ etr_in (xeid_path x) authority.now.content }
+    ensures record { (servers : List ALocator) → record_by servers (xeid_path x) result
+        ≡ answer_in_of servers authority.now.prefix authority.now.content (xeid_path x) }
+    ensures etr { etr_by result ≡ etr_in (xeid_path x) authority.now.content }
 {
-    let (outcome, etr) = match &authority.content {
-        Content::Children(children) => match longest(children.as_slice(), places, x) {
-            Some(at) => return (referral_to(&children.as_slice()[at]), None),
-            None => (hole(authority, places, x), None),
-        },
+    match &authority.content {
+        Content::Children(children) => {
+            match child_decision(children.as_slice(), places, referrals, x) {
+                Some(decision) => decision,
+                None => hole(authority, places, x),
+            }
+        }
         Content::Sites(sites) => match longest(sites.as_slice(), places, x) {
-            Some(at) => site_outcome(servers, &sites.as_slice()[at], places, x),
-            None => (hole(authority, places, x), None),
+            Some(at) => site_decision(&sites.as_slice()[at], places, x),
+            None => hole(authority, places, x),
         },
-    };
-    (ReferralRecord::of(outcome), etr)
+    }
 }

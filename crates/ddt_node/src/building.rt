@@ -6,7 +6,9 @@ ghost use Rattle.ddt_trie.specs.PrefixMap.{most_entries};
 ghost use Rattle.ddt_config.specs.Table.{outline};
 ghost use Rattle.ddt_config.specs.Entries.{prefixes_in, count_in as count_in_of, entry_count};
 ghost use Rattle.ddt_node.specs.Places.{places as places_of, places_in as places_in_of, AreIndexed};
+ghost use Rattle.ddt_node.specs.ReferralSets.{kept_sets};
 
+use crate::referral_sets::{ReferralSets, referral_sets};
 use ddt_config::{Authority, Content, Prefixed, ServerConfig};
 use ddt_trie::{MOST_ENTRIES, PrefixMap};
 use std::alloc::{AllocError, Global};
@@ -54,16 +56,32 @@ fn contents<M: PrefixMap<u32>>(
     Ok(contents)
 }
 
-/// The place of each authority, and for each of them the place of each child or site in it.
+/// By what a server finds its answers.
+#[derive(Drop)]
+pub struct Indexed<M> {
+    /// The place of each authority, by its prefix.
+    pub authorities: M,
+    /// For each authority the place of each child or site in it, by its prefix.
+    pub contents: Vec<M>,
+    /// For each authority the referral sets of its children.
+    pub referrals: Vec<ReferralSets>,
+}
+
+/// The index of authorities.
 pub fn index<M: PrefixMap<u32>>(
     alloc: Global,
     authorities: &[Authority],
-) -> Result<(M, Vec<M>), AllocError>
+) -> Result<Indexed<M>, AllocError>
     requires { length authorities.now + sum_by count_in_of authorities.now < most_entries }
-    ensures indexed { IfOk result (λ maps. AreIndexed authorities.now (M.content maps.0) (map M.content maps.1.items)) }
+    ensures indexed { IfOk result (λ i. AreIndexed authorities.now
+        (M.content i.authorities) (map M.content i.contents.items) (map kept_sets i.referrals.items)) }
     ensures none { authorities.now ≡ [] → IsOk result }
 {
-    Ok((places(alloc, authorities)?, contents(alloc, authorities)?))
+    Ok(Indexed {
+        authorities: places(alloc, authorities)?,
+        contents: contents(alloc, authorities)?,
+        referrals: referral_sets(alloc, authorities)?,
+    })
 }
 
 fn count_in(content: &Content) -> usize

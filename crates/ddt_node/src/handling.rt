@@ -84,8 +84,10 @@ impl<M: PrefixMap<u32>> Server<M> {
     {
         match ddt_request(bytes) {
             Some(request) => {
-                let (record, etr) = self.answer_and_etr(request.xeid());
-                Handled::answered(alloc, request.nonce(), &record, etr, bytes)
+                let x = request.xeid();
+                let decision = self.decision(x);
+                let record = decision.record(self.config().locators, x);
+                Handled::answered(alloc, request.nonce(), &record, decision.etr(), bytes)
             }
             None => Ok(Handled::ignored()),
         }

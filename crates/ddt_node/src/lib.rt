@@ -1,11 +1,12 @@
 //! A server of one configuration: which Map-Referral answers an identifier, and what is sent for a datagram.
 //!
-//! In reading order: `server`, `building`, `answering`, `handling`.
+//! In reading order: `server`, `referral_sets`, `building`, `answering`, `handling`.
 #![tactic(auto)]
 
 mod answering;
 mod building;
 mod handling;
+mod referral_sets;
 mod server;
 
 pub use building::has_room_for;

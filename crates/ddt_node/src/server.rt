@@ -6,12 +6,13 @@ ghost use Rattle.ddt_trie.specs.PrefixMap.{most_entries};
 ghost use Rattle.ddt_config.specs.Table.{outline};
 ghost use Rattle.ddt_config.specs.Answer.{answer as answer_of};
 ghost use Rattle.ddt_config.specs.Entries.{entry_count};
+ghost use Rattle.ddt_node.specs.Decisions.{etr_by, record_by};
 ghost use Rattle.ddt_node.specs.Server.{first_etr};
 
-use crate::answering::{answer_in, longest};
-use crate::building::index;
+use crate::answering::{Decision, decision_in, longest};
+use crate::building::{Indexed, index};
 use ddt_config::ServerConfig;
-use ddt_path::{Locator, ReferralRecord, Xeid};
+use ddt_path::{ReferralRecord, Xeid};
 use ddt_trie::PrefixMap;
 use std::alloc::Global;
 use std::marker::Model;
@@ -20,23 +21,22 @@ use std::marker::Model;
 #[derive(Drop)]
 pub struct Server<M: PrefixMap<u32>> {
     config: ServerConfig,
-    /// The place of each authority, by its prefix.
-    authorities: M,
-    /// For each authority the place of each child or site in it, by its prefix.
-    contents: Vec<M>,
+    index: Indexed<M>,
 }
 
 impl<M: PrefixMap<u32>> Model for Server<M> {
     ghost use Rattle.std.specs.Prelude.{map};
     ghost use Rattle.ddt_config.specs.Table.{Outline, outline};
     ghost use Rattle.ddt_node.specs.Places.{AreIndexed};
+    ghost use Rattle.ddt_node.specs.ReferralSets.{kept_sets};
 
     ghost Value = { Outline };
 
     ghost view = { λ s. outline s.config };
 
-    ghost invariant = { λ s.
-        AreIndexed s.config.authorities (M.content s.authorities) (map M.content s.contents.items) };
+    ghost invariant = { λ s. AreIndexed s.config.authorities
+        (M.content s.index.authorities) (map M.content s.index.contents.items)
+        (map kept_sets s.index.referrals.items) };
 }
 
 impl<M: PrefixMap<u32>> Server<M> {
@@ -49,11 +49,7 @@ impl<M: PrefixMap<u32>> Server<M> {
         ensures none { config.authorities ≡ [] → IsOk result }
     {
         match index(alloc, config.authorities.as_slice()) {
-            Ok((authorities, contents)) => Ok(Server {
-                config,
-                authorities,
-                contents,
-            }),
+            Ok(index) => Ok(Server { config, index }),
             Err(_refused) => Err(config),
         }
     }
@@ -71,23 +67,23 @@ impl<M: PrefixMap<u32>> Server<M> {
     pub fn answer(&self, x: Xeid) -> ReferralRecord
         ensures { result ≡ answer_of self.now (xeid_path x) }
     {
-        self.answer_and_etr(x).0
+        self.decision(x).record(self.config.locators, x)
     }
 
-    /// The answer, and the ETR that a request goes on to where it is acknowledged.
-    pub(crate) fn answer_and_etr(&self, x: Xeid) -> (ReferralRecord, Option<Locator>)
-        ensures answer { result.0 ≡ answer_of self.now (xeid_path x) }
-        ensures etr { result.1 ≡ first_etr self.now (xeid_path x) }
+    /// What decides the answer for an identifier.
+    pub(crate) fn decision(&self, x: Xeid) -> Decision<'_>
+        ensures record { record_by self.now.locators (xeid_path x) result ≡ answer_of self.now (xeid_path x) }
+        ensures etr { etr_by result ≡ first_etr self.now (xeid_path x) }
     {
         let authorities = self.config.authorities.as_slice();
-        match longest(authorities, &self.authorities, x) {
-            Some(at) => answer_in(
-                self.config.locators,
+        match longest(authorities, &self.index.authorities, x) {
+            Some(at) => decision_in(
                 &authorities[at],
-                &self.contents[at],
+                &self.index.contents[at],
+                &self.index.referrals[at],
                 x,
             ),
-            None => (ReferralRecord::not_authoritative(x), None),
+            None => Decision::Outside,
         }
     }
 }

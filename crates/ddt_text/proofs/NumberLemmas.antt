@@ -71,7 +71,7 @@ first_is_digit (d ∷ ds) e =
     let k = digit_from_value d (own.to (d ∷ ds) (is_number-sound (d ∷ ds) e).0).0 in
     omega arith
 
-pub parse_fails : (most : ℕ) (text ds : List ℕ) → most < 2 ^ 32 → true ≡ is_number text → ds ≡ text → ¬ (IsNumeral 10 (without_leading_plus ds) × (digits_value 10 (without_leading_plus ds) < 2 ^ 32)) → None ≡ number_in most text
+pub parse_fails : (most : ℕ) (text ds : List ℕ) → most < 2 ^ 64 → true ≡ is_number text → ds ≡ text → ¬ (IsNumeral 10 (without_leading_plus ds) × (digits_value 10 (without_leading_plus ds) < 2 ^ 64)) → None ≡ number_in most text
 parse_fails most text ds small test is failed =
     let plain : without_leading_plus ds ≡ text = ap without_leading_plus is ∙ without_leading_plus_none text (first_is_digit text (sym test)) in
     let (digits, some, alone) = is_number-sound text (sym test) in

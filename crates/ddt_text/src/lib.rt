@@ -16,5 +16,6 @@ mod xeid_text;
 
 pub use fault::TextFault;
 pub use locator_text::{parse_locator, write_locator};
+pub use number::read_number;
 pub use prefix_text::{parse_prefix, write_prefix};
 pub use xeid_text::{parse_xeid, write_xeid};

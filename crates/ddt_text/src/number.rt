@@ -23,14 +23,26 @@ fn is_number(text: &[u8]) -> bool
     are_digits(text) && (*first != b'0' || rest.is_empty())
 }
 
-/// The number of at most `most` that the text writes, if it does.
-pub(crate) fn read_number(text: &[u8], most: u32) -> Option<u32>
+/// The number of at most `most` that the text writes: decimal digits without a sign or a leading zero. None where it
+/// writes none.
+pub fn read_number(text: &[u8], most: u64) -> Option<u64>
     ensures value { result ≡ number_in most text.now }
     ensures bound { IfSome result (λ number. number ≤ most) }
 {
     if !is_number(text) {
         return None;
     }
-    let number = str::from_utf8(text).ok()?.parse::<u32>().ok()?;
+    let number = str::from_utf8(text).ok()?.parse::<u64>().ok()?;
     (number <= most).then_some(number)
+}
+
+/// The same for a number of 32 bits.
+pub(crate) fn read_u32(text: &[u8], most: u32) -> Option<u32>
+    ensures value { result ≡ number_in most text.now }
+    ensures bound { IfSome result (λ number. number ≤ most) }
+{
+    match read_number(text, u64::from(most)) {
+        Some(number) => Some(number as u32),
+        None => None,
+    }
 }

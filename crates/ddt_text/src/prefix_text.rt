@@ -10,7 +10,7 @@ ghost use Rattle.ddt_reading.specs.Reader.{AreRead, IsAny};
 
 use crate::fault::TextFault;
 use crate::locator_text::{LocatorText, read_address};
-use crate::number::read_number;
+use crate::number::read_u32;
 use crate::parts::{cut, split_brackets};
 use ddt_path::{Form, Prefix, PrefixFault};
 use std::alloc::AllocError;
@@ -30,8 +30,8 @@ fn in_text(formed: Result<Prefix, PrefixFault>) -> Result<Prefix, TextFault>
 fn read_range(iid: &[u8], len: &[u8], rest: &[u8]) -> Result<Prefix, TextFault>
     ensures { result ≡ range_in iid.now len.now rest.now }
 {
-    let iid = read_number(iid, u32::MAX).ok_or(TextFault::Instance)?;
-    let len = read_number(len, 32).ok_or(TextFault::Length)?;
+    let iid = read_u32(iid, u32::MAX).ok_or(TextFault::Instance)?;
+    let len = read_u32(len, 32).ok_or(TextFault::Length)?;
     if len == 0 {
         return Err(TextFault::Length);
     }
@@ -46,13 +46,13 @@ fn read_range(iid: &[u8], len: &[u8], rest: &[u8]) -> Result<Prefix, TextFault>
 fn read_block(iid: &[u8], rest: &[u8]) -> Result<Prefix, TextFault>
     ensures { result ≡ block_in iid.now rest.now }
 {
-    let iid = read_number(iid, u32::MAX).ok_or(TextFault::Instance)?;
+    let iid = read_u32(iid, u32::MAX).ok_or(TextFault::Instance)?;
     let (address, rest) = cut(rest, b'/');
     let address = read_address(address).ok_or(TextFault::Address)?;
     let [_, len @ ..] = rest else {
         return Err(TextFault::Length);
     };
-    let len = read_number(len, 128).ok_or(TextFault::Length)?;
+    let len = read_u32(len, 128).ok_or(TextFault::Length)?;
     in_text(Prefix::block(iid, address, len as u8))
 }
 

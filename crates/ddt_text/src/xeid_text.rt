@@ -10,7 +10,7 @@ ghost use Rattle.ddt_reading.specs.Reader.{AreRead, IsAny};
 
 use crate::fault::TextFault;
 use crate::locator_text::{LocatorText, read_address};
-use crate::number::read_number;
+use crate::number::read_u32;
 use crate::parts::{cut, split_brackets};
 use ddt_path::Xeid;
 use std::alloc::AllocError;
@@ -19,7 +19,7 @@ fn read_xeid(text: &[u8]) -> Result<Xeid, TextFault>
     ensures { result ≡ xeid_in text.now }
 {
     let (inner, rest) = split_brackets(text)?;
-    let iid = read_number(inner, u32::MAX).ok_or(TextFault::Instance)?;
+    let iid = read_u32(inner, u32::MAX).ok_or(TextFault::Instance)?;
     let (address, rest) = cut(rest, b'/');
     let address = read_address(address).ok_or(TextFault::Address)?;
     match rest {

@@ -14,14 +14,13 @@ use crate::answering::RESOLVER;
 use crate::commands::assign::identifier;
 use crate::lines::Lines;
 use crate::looking_up::{Client, Servers, look_up};
-use crate::number::read_number;
 use crate::over::OverRegister;
 use crate::refusal::{Refusal, WordRefusal};
 use ddt_check::Accepted;
 use ddt_path::Locator;
 use ddt_resolver::Resolver;
 use ddt_sim::{Compiled, a_step_keeps_a_resolver_sound};
-use ddt_text::parse_locator;
+use ddt_text::{parse_locator, read_number};
 use ddt_words::{Argument, Declaration, Words};
 use std::alloc::Global;
 

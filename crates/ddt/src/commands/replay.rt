@@ -12,7 +12,7 @@ ghost use Rattle.ddt.specs.declared.status.Status.TheVariants.{
 ghost use Rattle.ddt.specs.Lookup.{me_of, seed_of};
 ghost use Rattle.ddt.specs.Over.{path};
 ghost use Rattle.ddt.specs.Register.{Tells};
-ghost use Rattle.ddt.specs.Replay.{IsReplayOf, IsReplayText, IsWhyNoReplay, IsWhyNoScript, IsWhyNotReplayed, bad_replay, script_path};
+ghost use Rattle.ddt.specs.Replay.{IsReplayOf, IsReplayText, IsWhyNoReplay, IsWhyNoScript, IsWhyNotReplayed, bad_replay, script_path, script_refusal};
 ghost use Rattle.ddt.specs.Running.{HasPartOf, HasRefused, HasText, StayApart};
 ghost use Rattle.ddt.specs.Script.{SpellsScript};
 
@@ -162,9 +162,16 @@ fn script_at<F: Read + Drop>(
     let bytes = bytes_of(alloc, file, unread)?;
     match read_script(alloc, &bytes) {
         Ok(steps) => Ok(steps),
-        Err(ScriptFault::Line(number)) => {
-            Err(Refusal::NoScript(ScriptRefusal::RefusedLine(number)))
-        }
-        Err(ScriptFault::Memory) => Err(Refusal::OutOfMemory),
+        Err(fault) => Err(unplayed(fault)),
+    }
+}
+
+/// What is refused where bytes spell no script: the first line that spells no step, or out of memory.
+fn unplayed(fault: ScriptFault) -> Refusal<'static>
+    ensures { result ≡ script_refusal fault }
+{
+    match fault {
+        ScriptFault::Line(number) => Refusal::NoScript(ScriptRefusal::RefusedLine(number)),
+        ScriptFault::Memory => Refusal::OutOfMemory,
     }
 }

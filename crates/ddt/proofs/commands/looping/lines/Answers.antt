@@ -1,8 +1,6 @@
-use Rattle.std.proofs.Common.{◌≡◌, Err, Ok, List, ℕ, map, refl, rules, sym, ap, subst, ◌∙◌}
+use Rattle.std.proofs.Common.{◌≡◌, Err, List, ℕ, refl, rules, sym, ap, subst, ◌∙◌}
 use Rattle.std.proofs.lemmas.Result.{IfErr-weaker, IfOk-weaker}
-use Rattle.ddt_text.specs.FirstFault.{xeid_in}
 use Rattle.ddt_words.specs.Call.{call_of}
-use Rattle.ddt.specs.declared.refusal.Refusal.TheVariants.{OutOfMemory}
 use Rattle.ddt.specs.Lookup.{bad_identifier}
 use Rattle.ddt.specs.Register.{IsWhyNoRegister}
 use Rattle.ddt.specs.Loop.{bad, no_file, no_memory, no_run, not_loopback}

@@ -1,6 +1,6 @@
 use Rattle.std.proofs.Common.{◌≡◌, ap, is_ok, sym, true, ◌∙◌}
 use Rattle.std.proofs.lemmas.Option.{none-some}
-use Rattle.ddt.proofs.LookupLemmas.{first_bad, passed, spelled_all, spelled_more}
+use Rattle.ddt.proofs.LookupLemmas.{first_bad, passed, spelled_more}
 use Rattle.ddt.proofs.commands.looping.xeids.Goals as goal
 
 pub returns-in-Err-clause-refused : goal.returns-in-Err-clause-refused

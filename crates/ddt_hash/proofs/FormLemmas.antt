@@ -1,5 +1,5 @@
 -- What is hashed of a prefix, by the form that it is written down as.
-use Rattle.std.proofs.Common.{◌≡◌, ℕ, List, ap, sym, subst, ◌∙◌}
+use Rattle.std.proofs.Common.{◌≡◌, ap, sym, ◌∙◌}
 use Rattle.ddt_path.specs.declared.form.Form.{Form}
 use Rattle.ddt_path.specs.Path.{path, IsForm}
 use Rattle.ddt_path.specs.FormLemmas.{form_of-path}

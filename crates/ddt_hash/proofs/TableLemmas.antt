@@ -1,9 +1,9 @@
 -- The lengths of a table's prefixes, its values after one more, and the longest of its prefixes.
-use Rattle.std.proofs.Common.{◌≡◌, ◌≢◌, ℕ, ◌≤◌, ◌<◌, ◌-◌, Bool, cond, true, false, List, [], ◌∷◌, ◌++◌, length, take, ap, refl, sym, subst, ◌∙◌, arith, inl, inr, ◌⊎◌, Option, Some, None}
-use Rattle.std.specs.Prelude.{◌==◌, ◌||◌, is_some, IsTrue, IsSome, Contains, slice_index_or}
+use Rattle.std.proofs.Common.{◌≡◌, ℕ, ◌≤◌, ◌<◌, ◌-◌, Bool, cond, true, false, List, [], ◌∷◌, ◌++◌, length, take, ap, refl, sym, subst, ◌∙◌, arith, inl, inr, ◌⊎◌, Option, Some, None}
+use Rattle.std.specs.Prelude.{◌==◌, ◌||◌, is_some, IsTrue, Contains, slice_index_or}
 use Rattle.std.specs.List.{list_any}
-use Rattle.std.specs.List.Sorted.{IsPermutation, IsNonDecreasing}
-use Rattle.std.specs.FinMap.{FinMap, empty, get, get-empty, insert, contains_key}
+use Rattle.std.specs.List.Sorted.{IsPermutation}
+use Rattle.std.specs.FinMap.{FinMap, get, insert, contains_key}
 use Rattle.std.specs.HashMap as hash
 use Rattle.std.specs.Cmp.{nat_eq_equiv}
 use Rattle.std.proofs.lemmas.Map.Views.{list_any-from_Contains, Contains-from_any}
@@ -12,10 +12,9 @@ use Rattle.std.proofs.lemmas.List.Elements.{Contains-append_left, Contains-push}
 use Rattle.std.proofs.lemmas.List.{length-take-le, get_or_default}
 use Rattle.std.proofs.Math.Nat.{eq-or-lt_of_le}
 use Rattle.std.proofs.lemmas.Bool.{eqb-true, false≢true}
-use Rattle.std.proofs.lemmas.Option.{none-some}
 use Rattle.ddt_path.specs.Covers.{covers, is_same_path}
 use Rattle.ddt_path.proofs.CoverLemmas.{same_path, path_itself, front_covered, take-covered, length-covered}
-use Rattle.ddt_trie.specs.PrefixMap.{path_cmp, IsCovered, IsLongest}
+use Rattle.ddt_trie.specs.PrefixMap.{path_cmp, IsLongest}
 use Rattle.ddt_trie.proofs.MapLemmas.{get-insert_same, get-insert_other}
 use Rattle.ddt_hash.specs.declared.table.Table.{Table}
 use Rattle.ddt_hash.specs.Key.{is_same_key, key_of}

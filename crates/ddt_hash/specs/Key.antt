@@ -1,6 +1,6 @@
 -- A prefix as the key of a hash table.
-use Rattle.std.specs.Prelude.{Bool, List, ℕ, ◌++◌}
-use Rattle.std.specs.Hash.{HashWrites, u8, u32, u128}
+use Rattle.std.specs.Prelude.{Bool, List, ℕ, ◌+◌, ◌*◌, ◌^◌, ◌++◌}
+use Rattle.std.specs.Hash.{HashWrites, u8, u32, u64, u128}
 use Rattle.ddt_path.specs.declared.locator.Locator.TheVariants.{V4, V6}
 use Rattle.ddt_path.specs.declared.form.Form.{Form}
 use Rattle.ddt_path.specs.declared.form.Form.TheVariants.{Range, Block}
@@ -12,10 +12,10 @@ use Rattle.ddt_hash.specs.declared.key.Key.{Key}
 abbrev pub is_same_key : Key → Key → Bool
 is_same_key a b = is_same_path a.prefix b.prefix
 
--- what is hashed of a key: the numbers of its prefix as it is written down
+-- what is hashed of a key: the numbers of its prefix as it is written down; an instance and an IPv4 address as one
 abbrev pub form_writes : Form → HashWrites
 form_writes (Range iid len) = u32 iid ++ u8 len
-form_writes (Block iid (V4 address) len) = u32 iid ++ (u32 address ++ u8 len)
+form_writes (Block iid (V4 address) len) = u64 (iid * 2 ^ 32 + address) ++ u8 len
 form_writes (Block iid (V6 address) len) = u32 iid ++ (u128 address ++ u8 len)
 
 abbrev pub key_writes : Key → HashWrites

@@ -21,6 +21,9 @@ impl Twin for u32 {
     }
 }
 
+/// How many IPv4 addresses an instance has.
+const ONE_INSTANCE: u64 = 1 << 32;
+
 /// A prefix as a key. Two are equal if and only if their paths are.
 #[derive(Clone, Copy)]
 pub struct Key {
@@ -57,8 +60,8 @@ impl Hash for Key {
                 address: Locator::V4(address),
                 len,
             } => {
-                state.write_u32(iid);
-                state.write_u32(address);
+                // The hasher takes eight bytes at once.
+                state.write_u64(u64::from(iid) * ONE_INSTANCE + u64::from(address));
                 state.write_u8(len);
             }
             Form::Block {

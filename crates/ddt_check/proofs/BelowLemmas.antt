@@ -1,14 +1,14 @@
 -- A walk over zones in order that keeps one zone of Map-Servers: what it says of the zones to come.
 use Rattle.std.proofs.Common.{◌≡◌, ℕ, ◌+◌, ◌<◌, ◌≤◌, true, false, not, List, length, get_or, Option, Some, None, inl, inr, refl, sym, ap, subst, ◌∙◌, arith}
-use Rattle.std.specs.Prelude.{◌&&◌, ⊤}
+use Rattle.std.specs.Prelude.{◌&&◌, ⊤, Bool}
 use Rattle.std.specs.List.{list_any}
+use Rattle.std.specs.Option.{option_map_or}
 use Rattle.std.proofs.lemmas.Bool.{false≢true, both_ways, false_from_ne_true, and_parts, and_from, and_cases, cases_lt, not-true, not_from_false, not-false}
 use Rattle.ddt_path.specs.Covers.{covers, is_strictly_below}
 use Rattle.ddt_path.proofs.CoverLemmas.{covers_self, covers_trans}
 use Rattle.ddt_register.specs.declared.zone.Zone.{Zone}
 use Rattle.ddt_check.specs.Zones.{is_ms}
 use Rattle.ddt_check.specs.Order.{IsInOrder}
-use Rattle.ddt_check.specs.Below.{is_under, is_within, is_top}
 use Rattle.ddt_path.proofs.MemberLemmas.{IsIn, in_contained, contained, iff_same, any_in, in_any}
 use Rattle.std.proofs.lemmas.List.{get_or_default}
 use Rattle.ddt_check.proofs.OrderLemmas.{far}
@@ -19,6 +19,18 @@ prefix z = z.prefix
 
 abbrev zone_row : Zone → ℕ
 zone_row z = z.row
+
+-- whether a prefix stands strictly below the one that is kept
+abbrev pub is_under : Option (List ℕ) → List ℕ → Bool
+is_under top p = option_map_or (is_strictly_below p) top false
+
+-- whether the one that is kept covers a prefix
+abbrev pub is_within : Option (List ℕ) → List ℕ → Bool
+is_within top p = option_map_or (λ q. covers q p) top false
+
+-- whether a zone is kept from now on: one of Map-Servers that what was kept doesn't cover
+abbrev pub is_top : Option (List ℕ) → Zone → Bool
+is_top top z = is_ms z.kind && not (is_within top z.prefix)
 
 -- what is kept is the prefix of a zone of Map-Servers so far
 abbrev pub IsKept : List Zone → Option (List ℕ) → Type 0

@@ -9,7 +9,6 @@ use Rattle.std.proofs.lemmas.List.Sorted.{list_any-IsPermutation}
 use Rattle.std.proofs.lemmas.List.{get_or_default}
 use Rattle.std.proofs.Math.Seq.{take-length}
 use Rattle.ddt_check.specs.Rules.{IsLeastRow}
-use Rattle.ddt_check.specs.Columns.{lower_option}
 use Rattle.ddt_check.proofs.LeastRowLemmas.{IsLeastRow-same, item_at}
 
 module _ {A : Type 0} (row : A → ℕ) (test : A → Bool) where
@@ -92,6 +91,10 @@ module _ {A : Type 0} (row : A → ℕ) (test : A → Bool) where
       let same : n ≡ length ys = omega arith in
       least_moved xs ys least moved (subst (λ (l : List A). IsLeastRow (item_at row test l) least)
       (ap (λ (k : ℕ). take k ys) same ∙ take-length ys) so_far)
+
+-- the lower of two rows, where there are any
+abbrev pub lower_option : Option ℕ → Option ℕ → Option ℕ
+lower_option a b = option_map_or (λ row. Some (option_map_or (λ l. min l row) b row)) a b
 
 -- the least row of either test
 pub least_both : (t u : ℕ → Bool) (a b : Option ℕ) → IsLeastRow t a → IsLeastRow u b

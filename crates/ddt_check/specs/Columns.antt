@@ -1,5 +1,5 @@
 -- The locators of groups by columns, as pairs of numbers that can be sorted, and the rows of groups that share one.
-use Rattle.std.specs.Prelude.{ℕ, Bool, false, ◌==◌, ◌&&◌, ◌||◌, not, nat_lt, List, [], ◌∷◌, length, drop, find, slice_get, max, min, Option, None, Some}
+use Rattle.std.specs.Prelude.{ℕ, Bool, false, ◌==◌, ◌&&◌, ◌||◌, not, nat_lt, List, [], ◌∷◌, length, drop, find, slice_get, max, Option, None, Some}
 use Rattle.std.specs.List.{list_any}
 use Rattle.std.specs.Option.{option_map_or}
 use Rattle.ddt_path.specs.declared.locator.Locator.{Locator}
@@ -54,8 +54,3 @@ is_met r column n = list_any (λ g. meets_in r column g n) r.groups
 -- a group whose locators are none, or above 8, or repeat within it
 abbrev pub is_wrong_alone : Group → Bool
 is_wrong_alone g = (length g.locators == 0 || nat_lt most_locators (length g.locators)) || not (are_distinct g.locators)
-
--- the lower of two rows, where there are any
-abbrev pub lower_option : Option ℕ → Option ℕ → Option ℕ
-lower_option None b = b
-lower_option (Some row) b = Some (option_map_or (λ l. min l row) b row)

@@ -2,7 +2,6 @@ pub mod Zones
 pub mod Rules
 pub mod Order
 pub mod Sorted
-pub mod Below
 pub mod Columns
 pub mod Assignment
 pub mod Says

@@ -13,7 +13,7 @@ use Rattle.ddt_path.proofs.MemberLemmas.{IsIn, in_at, contained, any_in, in_any,
 use Rattle.ddt_register.specs.declared.zone.Zone.{Zone}
 use Rattle.ddt_register.specs.declared.register.Register.{Register}
 use Rattle.ddt_check.specs.Order.{IsInOrder}
-use Rattle.ddt_check.specs.Below.{is_under}
+use Rattle.ddt_check.proofs.BelowLemmas.{is_under}
 use Rattle.ddt_path.proofs.FilterLemmas.{none_later, none_first}
 use Rattle.ddt_path.proofs.PathOrderLemmas.{IsUpTo, covers-between, covers-back, le-is, le-from, covers-up_to, not_lt-from_not_le}
 use Rattle.ddt_check.proofs.OrderLemmas.{far}

@@ -1,14 +1,13 @@
 //! What stands below a zone and what holds a site, by the zones in the order of their prefixes: there a zone stands
 //! before all that it covers, and what it covers stands together.
 
-ghost use Rattle.std.specs.Prelude.{◌≡◌, true, List, IsPermutation, IfOk, MatchOption};
+ghost use Rattle.std.specs.Prelude.{◌≡◌, true, false, List, IsPermutation, IfOk, MatchOption};
 ghost use Rattle.std.specs.List.{filter, Contains};
-ghost use Rattle.std.specs.Option.{option_map, option_copied};
-ghost use Rattle.ddt_path.specs.Covers.{covers};
+ghost use Rattle.std.specs.Option.{option_map, option_map_or, option_copied};
+ghost use Rattle.ddt_path.specs.Covers.{covers, is_strictly_below};
 ghost use Rattle.ddt_path.specs.declared.record.Role.TheVariants.{Ms};
 ghost use Rattle.ddt_register.specs.declared.register.Register.{Register as ARegister};
 ghost use Rattle.ddt_check.specs.Order.{AreZonesInOrder};
-ghost use Rattle.ddt_check.specs.Below.{is_under as is_under_of};
 ghost use Rattle.ddt_check.specs.Rules.{IsAccepted};
 ghost use Rattle.ddt_compile.specs.GroupConfig.{is_direct_child};
 
@@ -27,7 +26,8 @@ pub fn sorted_zones(alloc: Global, zones: &[Zone]) -> Result<Vec<Zone>, AllocErr
 
 /// Whether the zone that is kept holds a zone strictly inside it.
 fn is_under(top: Option<&Zone>, z: &Zone) -> bool
-    ensures { result ≡ is_under_of (option_map (λ y. y.prefix) (option_copied top.entry)) z.now.prefix }
+    ensures { result
+        ≡ option_map_or (is_strictly_below z.now.prefix) (option_map (λ y. y.prefix) (option_copied top.entry)) false }
 {
     match top {
         Some(top) => top.prefix.covers(z.prefix) && !z.prefix.covers(top.prefix),

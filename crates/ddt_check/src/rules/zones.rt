@@ -1,10 +1,10 @@
 //! The rules that a zone may break. A root is looked for in the order of rows; the other rules see zones that are
 //! sorted by their prefixes, then by their rows.
 
-ghost use Rattle.std.specs.Prelude.{◌≡◌, ◌<◌, IsPermutation, slice_index_or, length};
+ghost use Rattle.std.specs.Prelude.{◌≡◌, ◌<◌, ◌&&◌, not, false, IsPermutation, slice_index_or, length};
 ghost use Rattle.std.specs.List.{list_any};
-ghost use Rattle.std.specs.Option.{option_map, option_copied};
-ghost use Rattle.ddt_path.specs.Covers.{is_same_path};
+ghost use Rattle.std.specs.Option.{option_map, option_map_or, option_copied};
+ghost use Rattle.ddt_path.specs.Covers.{covers, is_same_path, is_strictly_below};
 ghost use Rattle.ddt_register.specs.declared.zone.Zone.{Zone as AZone};
 ghost use Rattle.ddt_register.specs.declared.register.Register.{Register as ARegister};
 ghost use Rattle.ddt_register.specs.Rows.{first_row as first_row_of};
@@ -12,7 +12,7 @@ ghost use Rattle.ddt_check.specs.Rules.{earlier_zone};
 ghost use Rattle.ddt_check.specs.Rules.{is_root as is_root_zone, is_wrong_root as is_wrong_root_of, is_duplicate_zone};
 ghost use Rattle.ddt_check.specs.Rules.{is_of_unknown_group as is_of_unknown, is_of_other_role as is_of_other};
 ghost use Rattle.ddt_check.specs.Order.{AreZonesInOrder, AreGroupsInOrder};
-ghost use Rattle.ddt_check.specs.Below.{is_under as is_under_of, is_within as is_within_of, is_top as is_top_of};
+ghost use Rattle.ddt_check.specs.Zones.{is_ms as is_ms_zone};
 ghost use Rattle.ddt_check.specs.Sorted.{IsLeastOfZones, IsLeastOfBoth};
 
 use crate::fault::Rule;
@@ -90,7 +90,8 @@ pub fn duplicate(zones: &[Zone]) -> Option<u32>
 
 /// Whether the zone that is kept holds a zone strictly inside it.
 fn is_under(top: Option<&Zone>, z: &Zone) -> bool
-    ensures { result ≡ is_under_of (option_map (λ y. y.prefix) (option_copied top.entry)) z.now.prefix }
+    ensures { result
+        ≡ option_map_or (is_strictly_below z.now.prefix) (option_map (λ y. y.prefix) (option_copied top.entry)) false }
 {
     match top {
         Some(top) => top.prefix.covers(z.prefix) && !z.prefix.covers(top.prefix),
@@ -100,7 +101,8 @@ fn is_under(top: Option<&Zone>, z: &Zone) -> bool
 
 /// Whether the zone that is kept covers a zone.
 fn is_within(top: Option<&Zone>, z: &Zone) -> bool
-    ensures { result ≡ is_within_of (option_map (λ y. y.prefix) (option_copied top.entry)) z.now.prefix }
+    ensures { result
+        ≡ option_map_or (λ q. covers q z.now.prefix) (option_map (λ y. y.prefix) (option_copied top.entry)) false }
 {
     match top {
         Some(top) => top.prefix.covers(z.prefix),
@@ -110,7 +112,8 @@ fn is_within(top: Option<&Zone>, z: &Zone) -> bool
 
 /// Whether a zone is to be kept: one of Map-Servers that the kept one doesn't cover.
 fn is_top(top: Option<&Zone>, z: &Zone) -> bool
-    ensures { result ≡ is_top_of (option_map (λ y. y.prefix) (option_copied top.entry)) z.now }
+    ensures { result ≡ (is_ms_zone z.now.kind && not (option_map_or (λ q. covers q z.now.prefix)
+        (option_map (λ y. y.prefix) (option_copied top.entry)) false)) }
 {
     is_ms(z.kind) && !is_within(top, z)
 }

@@ -14,6 +14,3 @@ pub use entry::{Entry, Saved};
 pub use laws::{one_is_found, order_is_kept, saved_until_its_end, time_moves_on};
 pub use moment::{LAST_MOMENT, Moment};
 pub use saving::MOST_LIVE_ENTRIES;
-
-#[cfg(test)]
-mod tests;

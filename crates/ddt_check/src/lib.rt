@@ -25,6 +25,3 @@ pub use laws::{
     negatives_hold_of_all_that_they_cover,
 };
 pub use saying::says;
-
-#[cfg(test)]
-mod tests;

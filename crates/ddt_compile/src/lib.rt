@@ -14,6 +14,3 @@ mod sites;
 
 pub use compiling::{compile, compile_group};
 pub use laws::a_compiled_configuration_answers_honestly;
-
-#[cfg(test)]
-mod tests;

@@ -25,6 +25,3 @@ pub use document::{from_toml, to_toml};
 pub use fault::{ConfigFault, Key};
 pub use laws::a_table_is_read_as_what_it_stands_for;
 pub use site_entry::SiteEntry;
-
-#[cfg(test)]
-mod tests;

@@ -21,6 +21,3 @@ pub use laws::request_laws;
 pub use map_request::Rlocs;
 pub use request::{Request, read_request, write_request};
 pub use udp_header::CONTROL_PORT;
-
-#[cfg(test)]
-mod tests;

@@ -14,8 +14,6 @@ pub mod messages;
 pub mod registers;
 pub mod replays;
 pub mod rows;
-#[cfg(test)]
-mod tests;
 
 use hex::FromHexError;
 use std::alloc::{AllocError, Global};

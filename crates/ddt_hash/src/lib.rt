@@ -7,8 +7,6 @@
 mod hashed_map;
 mod key;
 mod table;
-#[cfg(test)]
-mod tests;
 
 pub use hashed_map::HashedMap;
 pub use key::Twin;

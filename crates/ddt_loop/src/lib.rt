@@ -16,6 +16,3 @@ mod serving;
 pub use clock::{Clock, StandingClock, SteppingClock, SystemClock};
 pub use ends::LoopEnd;
 pub use looping::loop_turns;
-
-#[cfg(test)]
-mod tests;

@@ -12,6 +12,3 @@ mod server;
 pub use building::has_room_for;
 pub use handling::{Forward, Handled};
 pub use server::Server;
-
-#[cfg(test)]
-mod tests;

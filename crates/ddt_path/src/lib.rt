@@ -37,6 +37,3 @@ pub use record::{
     Role,
 };
 pub use xeid::Xeid;
-
-#[cfg(test)]
-mod tests;

@@ -13,8 +13,6 @@ mod register;
 mod row;
 mod rows;
 mod site;
-#[cfg(test)]
-mod tests;
 mod zone;
 
 pub use fault::ReadFault;

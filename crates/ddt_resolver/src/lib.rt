@@ -23,6 +23,3 @@ pub use front::{ItrRequest, itr_reply, itr_request};
 pub use laws::{order_is_kept, tickets_are_new, usable_is_taken};
 pub use pending::Pending;
 pub use resolver::{MOST_PENDING, Resolver};
-
-#[cfg(test)]
-mod tests;

@@ -19,6 +19,3 @@ pub use looking_up::lookup;
 pub use running::run;
 pub use schedule::{Datagram, Event, Step, Transcript};
 pub use servers::Servers;
-
-#[cfg(test)]
-mod tests;

@@ -10,8 +10,6 @@ mod locator_text;
 mod number;
 mod parts;
 mod prefix_text;
-#[cfg(test)]
-mod tests;
 mod xeid_text;
 
 pub use fault::TextFault;

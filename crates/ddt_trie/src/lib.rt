@@ -9,8 +9,6 @@ mod callers;
 mod laws;
 mod list_map;
 mod prefix_map;
-#[cfg(test)]
-mod tests;
 mod tree;
 mod trie_map;
 

@@ -23,6 +23,3 @@ pub use locator_record::Locators;
 pub use message_type::{ENCAPSULATED, MAP_REFERRAL, MAP_REPLY, MAP_REQUEST, TYPE_SHIFT};
 pub use negative_reply::{NegativeReply, ReplyFault, read_negative_reply, write_negative_reply};
 pub use referral::{Referral, read_referral, write_referral};
-
-#[cfg(test)]
-mod tests;

@@ -14,6 +14,3 @@ pub use serving::{MOST_BYTES, Served, serve_turns};
 pub use udp_wires::UdpWires;
 pub use wires::Wires;
 pub use wires_in_memory::{Waiting, WiresInMemory};
-
-#[cfg(test)]
-mod tests;

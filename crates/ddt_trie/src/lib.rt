@@ -4,8 +4,6 @@
 //! In reading order: `prefix_map` (the trait), `list_map`, `tree`, `trie_map`, `laws`.
 #![tactic(auto)]
 
-#[cfg(test)]
-mod callers;
 mod laws;
 mod list_map;
 mod prefix_map;

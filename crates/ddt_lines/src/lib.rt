@@ -11,8 +11,6 @@ mod outcome;
 mod printing;
 mod referral;
 mod request;
-#[cfg(test)]
-mod tests;
 mod text;
 
 pub use counts::accepted_line;

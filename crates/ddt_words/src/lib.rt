@@ -8,8 +8,6 @@
 mod declaration;
 mod fault;
 mod reading;
-#[cfg(test)]
-mod tests;
 mod words;
 
 pub use declaration::{Argument, Declaration};

@@ -1,43 +1,15 @@
-//! The program: one command, its words, and what it prints.
-//!
-//! In reading order: `running`, `commands` (the list), `over` (commands over a register), `commands/*`, `answering`,
-//! `looking_up`, `script`, `replaying`, `event_lines`, `configuration`, `loopback`, `sockets`, `serving`, `looping`,
-//! `end_lines`, `file`, `lines`, `telling`, `refusal`, `status`.
+//! The program: its words, and the command that they call, over the files, the sockets, the clock and the streams of a
+//! process. The commands are those of `ddt_commands`.
 #![tactic(auto)]
 
-mod answering;
-mod commands;
-mod configuration;
-mod end_lines;
-mod event_lines;
-mod file;
-mod lines;
-mod looking_up;
-mod loopback;
-mod looping;
-mod over;
-mod refusal;
-mod replaying;
-mod running;
-mod script;
-mod serving;
-mod sockets;
-mod status;
-mod telling;
-#[cfg(test)]
-mod tests;
-
 use ddt_cache::Moment;
+use ddt_commands::{Refusal, Status, refuse, run, show_usage};
 use ddt_loop::{Clock, StandingClock, SystemClock};
 use ddt_path::Locator;
 use ddt_wires::UdpWires;
-use refusal::Refusal;
-use running::run;
-use status::Status;
 use std::io::ErrorKind;
 use std::process::ExitCode;
 use std::{env, fs, io};
-use telling::{refuse, show_usage};
 
 fn main(rt: HostRuntime) -> ExitCode {
     let status = match SystemClock::new(&rt) {

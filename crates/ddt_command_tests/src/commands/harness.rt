@@ -1,0 +1,185 @@
+//! Runs a command as the process would, over files and wires in memory.
+
+use ddt_cache::Moment;
+use ddt_commands::{Status, run};
+use ddt_examples::{bytes_of, changed};
+use ddt_loop::{Clock, StandingClock};
+use ddt_path::{Listed, Locator};
+use ddt_wires::{Waiting, WiresInMemory};
+use std::alloc::Global;
+use std::io;
+use std::io::{ErrorKind, Read, Write};
+use std::process::Abort;
+use std::test::Fail;
+
+/// The port at which servers and resolvers hear requests and replies.
+pub const PORT: u16 = 4342;
+
+/// The words of a process, behind the program's name.
+fn process(alloc: Global, words: &[&str]) -> Result<Vec<String>, Fail> {
+    let mut all = vec![in alloc; String::from_str(alloc, "ddt")?]?;
+    for word in words {
+        all.push(String::from_str(alloc, word)?)?;
+    }
+    Ok(all)
+}
+
+/// A file, or one that can be opened and not read.
+#[derive(Clone, Copy, Drop)]
+pub enum Source<'a> {
+    Bytes(&'a [u8]),
+    Broken,
+}
+
+impl Read for Source<'_> {
+    fn read(&mut self, buffer: &mut [u8]) -> io::Result<usize> {
+        match self {
+            Source::Bytes(bytes) => bytes.read(buffer),
+            Source::Broken => Err(io::Error::from(ErrorKind::BrokenPipe)),
+        }
+    }
+}
+
+/// What `ddt` finds: one file, and wires whose sockets can be bound. With a kind of error, only those at the addresses
+/// that are free can.
+#[derive(Clone, Copy)]
+pub struct Place<'a> {
+    pub name: &'a str,
+    pub file: Source<'a>,
+    pub free: &'a [Locator],
+    pub unbound: Option<ErrorKind>,
+}
+
+impl<'a> Place<'a> {
+    /// A register, and no socket that can be bound.
+    pub fn of_register(register: &'a str) -> Place<'a> {
+        Place {
+            name: "register.csv",
+            file: Source::Bytes(register.as_bytes()),
+            free: &[],
+            unbound: Some(ErrorKind::AddrInUse),
+        }
+    }
+}
+
+/// A clock that stands at 0.
+pub fn at_start() -> StandingClock {
+    StandingClock {
+        at: Moment::at(0).unwrap(),
+    }
+}
+
+/// Runs `ddt` with these words at a place, over these wires, this clock and these writers.
+pub fn run_at<C: Clock, W: Write, E: Write>(
+    alloc: Global,
+    place: Place<'_>,
+    wires: &mut WiresInMemory,
+    clock: &mut C,
+    words: &[&str],
+    out: &mut W,
+    err: &mut E,
+) -> Result<Status, Fail> {
+    let all = process(alloc, words)?;
+    let open_file = |path: &str| {
+        if path.as_bytes() == place.name.as_bytes() {
+            Some(place.file)
+        } else {
+            None
+        }
+    };
+    let bind = |_wires: &mut WiresInMemory, at: Locator| match place.unbound {
+        Some(kind) if !place.free.contains(&at) => Err(io::Error::from(kind)),
+        _ => Ok(()),
+    };
+    Ok(run(alloc, &all, open_file, wires, clock, bind, out, err))
+}
+
+/// How a command ends, and what is printed on each stream.
+pub type End<'a> = (Status, &'a str, &'a str);
+
+/// Runs `ddt` with these words at a place, over these wires and this clock, and compares what comes.
+pub fn ends_at<R: Abort, C: Clock>(
+    rt: &R,
+    alloc: Global,
+    place: Place<'_>,
+    wires: &mut WiresInMemory,
+    clock: &mut C,
+    words: &[&str],
+    want: End<'_>,
+) -> Result<(), Fail> {
+    let (mut out, mut err) = (Vec::new(alloc), Vec::new(alloc));
+    let status = run_at(alloc, place, wires, clock, words, &mut out, &mut err)?;
+    compares(rt, words, status, &out, &err, want);
+    Ok(())
+}
+
+/// Compares how a command ended with how it should.
+pub fn compares<R: Abort>(
+    rt: &R,
+    words: &[&str],
+    status: Status,
+    out: &[u8],
+    err: &[u8],
+    want: End<'_>,
+) {
+    assert_eq!(rt; status, want.0, "the status of {words:?}");
+    assert_eq!(rt; out, want.1.as_bytes(), "what {words:?} prints");
+    assert_eq!(rt; err, want.2.as_bytes(), "what {words:?} refuses");
+}
+
+/// The same at moment 0, where so many calls are made over the wires.
+pub fn ends<R: Abort>(
+    rt: &R,
+    alloc: Global,
+    place: Place<'_>,
+    wires: &mut WiresInMemory,
+    words: &[&str],
+    want: End<'_>,
+    calls: usize,
+) -> Result<(), Fail> {
+    ends_at(rt, alloc, place, wires, &mut at_start(), words, want)?;
+    let told = wires.told().ok_or("no memory")?;
+    assert_eq!(rt; told.len(), calls, "the calls of {words:?}");
+    Ok(())
+}
+
+/// Runs `ddt` with these words at a place, where they are refused by this line, and no call is made over the wires.
+pub fn refuses<R: Abort>(
+    rt: &R,
+    alloc: Global,
+    place: Place<'_>,
+    words: &[&str],
+    line: &str,
+) -> Result<(), Fail> {
+    let mut wires = WiresInMemory::new(alloc, 0);
+    let want = (Status::Refused, "", line);
+    ends(rt, alloc, place, &mut wires, words, want, 0)
+}
+
+/// A worked message.
+pub fn message(alloc: Global, fields: &str) -> Result<Vec<u8>, Fail> {
+    Ok(bytes_of(alloc, fields)?)
+}
+
+/// The message with another byte at this place.
+pub fn with_byte(message: Vec<u8>, place: usize, byte: u8) -> Vec<u8> {
+    changed(message, &[(place, byte)])
+}
+
+/// Lets a datagram wait at a socket.
+pub fn add(
+    wires: &mut WiresInMemory,
+    at: Locator,
+    from: Locator,
+    port: u16,
+    bytes: Vec<u8>,
+) -> Result<(), Fail> {
+    let bytes = Listed::of(bytes);
+    wires.add(Waiting {
+        at,
+        from,
+        port,
+        bytes,
+    })?;
+    Ok(())
+}

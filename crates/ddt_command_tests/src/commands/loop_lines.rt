@@ -1,0 +1,361 @@
+//! `ddt loop`, over wires in memory: at the resolver's socket wait the replies of the campus's servers.
+
+use super::harness::{
+    End, PORT, Place, Source, add, at_start, ends, ends_at, message, refuses, run_at, with_byte,
+};
+use ddt_commands::Status;
+use ddt_commands::Status::{Answered, Incomplete, Refused};
+use ddt_examples::messages::{ITR_REQUEST, NEGATIVE_REPLY};
+use ddt_examples::registers::{CAMPUS, COLUMNS};
+use ddt_loop::SteppingClock;
+use ddt_path::Locator;
+use ddt_wires::{Call, WiresInMemory};
+use std::alloc::Global;
+use std::io::ErrorKind;
+use std::test::Fail;
+
+const ME: Locator = Locator::V4(0x7f00_0035);
+
+const ITR: Locator = Locator::V4(0x7f00_003c);
+
+/// The port of the ITR.
+const ITR_PORT: u16 = 50_000;
+
+/// The servers of the campus, in the order of the groups' rows.
+const ROOT: Locator = Locator::V4(0x7f00_0001);
+
+const TEN: Locator = Locator::V4(0x7f00_000a);
+
+const EAST: Locator = Locator::V4(0x7f00_0101);
+
+const EAST_TOO: Locator = Locator::V4(0x7f00_0102);
+
+/// The campus's register, and sockets that can be bound; with a kind of error, only at these addresses.
+fn campus(free: &[Locator], unbound: Option<ErrorKind>) -> Place<'_> {
+    Place {
+        name: "register.csv",
+        file: Source::Bytes(CAMPUS.as_bytes()),
+        free,
+        unbound,
+    }
+}
+
+/// A server, its group, the identifier that it is asked for, and the nonce, below 256.
+type Reply = (Locator, &'static str, &'static str, u8);
+
+/// What a group of the campus replies to a request of this nonce for an identifier.
+fn reply(alloc: Global, group: &str, xeid: &str, nonce: u8) -> Result<Vec<u8>, Fail> {
+    let (mut out, mut err) = (Vec::new(alloc), Vec::new(alloc));
+    let words = ["answer", "register.csv", group, xeid];
+    let mut wires = WiresInMemory::new(alloc, 0);
+    let place = Place::of_register(CAMPUS);
+    run_at(
+        alloc,
+        place,
+        &mut wires,
+        &mut at_start(),
+        &words,
+        &mut out,
+        &mut err,
+    )?;
+    let digits = out.as_slice().strip_suffix(b"\n").unwrap_or(&[]);
+    Ok(with_byte(hex::decode(alloc, digits)?, 11, nonce))
+}
+
+/// Lets these replies wait at the resolver, in their order.
+fn add_all(wires: &mut WiresInMemory, alloc: Global, replies: &[Reply]) -> Result<(), Fail> {
+    for (from, group, xeid, nonce) in replies {
+        add(wires, ME, *from, PORT, reply(alloc, group, xeid, *nonce)?)?;
+    }
+    Ok(())
+}
+
+/// The replies to `[0]10.1.2.3`, which is asked first, and to `[0]11.0.0.1`.
+const CAMPUS_REPLIES: [Reply; 4] = [
+    (ROOT, "root", "[0]10.1.2.3", 1),
+    (ROOT, "root", "[0]11.0.0.1", 2),
+    (TEN, "ten", "[0]10.1.2.3", 3),
+    (EAST, "east", "[0]10.1.2.3", 4),
+];
+
+const NONE: &str = "[0]10.1.2.3 unresolved\n[0]11.0.0.1 unresolved\n";
+
+const ONE: &str = "[0]10.1.2.3 unresolved\n[0]11.0.0.1 hole [0]11.0.0.0/8\n";
+
+const BOTH: &str = "[0]10.1.2.3 registered [0]10.1.2.0/24 127.0.1.1 127.0.1.2\n\
+    [0]11.0.0.1 hole [0]11.0.0.0/8\n";
+
+/// The turns, how the two lookups end, and the calls. In all these are two asks; sixteen turns, since the resolver's
+/// socket is the first of five; and two requests more.
+const TURNS: [(&str, Status, &str, usize); 6] = [
+    ("0", Incomplete, NONE, 2),
+    ("5", Incomplete, NONE, 8),
+    ("6", Incomplete, ONE, 9),
+    ("15", Incomplete, ONE, 19),
+    ("16", Answered, BOTH, 20),
+    ("20000", Answered, BOTH, 20),
+];
+
+#[test]
+fn each_turn_is_used(rt: HostRuntime) -> Result<(), Fail> {
+    let alloc = rt.alloc();
+    for (turns, status, lines, calls) in TURNS {
+        let mut wires = WiresInMemory::new(alloc, 0);
+        add_all(&mut wires, alloc, &CAMPUS_REPLIES)?;
+        let words = [
+            "loop",
+            "register.csv",
+            "[0]10.1.2.3",
+            "[0]11.0.0.1",
+            "--turns",
+            turns,
+        ];
+        let want = (status, lines, "");
+        let place = campus(&[], None);
+        ends(&rt, alloc, place, &mut wires, &words, want, calls)?;
+    }
+    Ok(())
+}
+
+#[test]
+fn each_identifier_has_its_line(rt: HostRuntime) -> Result<(), Fail> {
+    let alloc = rt.alloc();
+    let mut wires = WiresInMemory::new(alloc, 0);
+    add_all(&mut wires, alloc, &CAMPUS_REPLIES)?;
+    let words = ["loop", "register.csv", "[0]10.1.2.3", "[0]11.0.0.1"];
+    let (want, place) = ((Answered, BOTH, ""), campus(&[], None));
+    ends(&rt, alloc, place, &mut wires, &words, want, 20)
+}
+
+/// Words, by how much the clock steps, and how the lookup ends without an outcome.
+const ENDS: [(&[&str], u64, End<'static>); 3] = [
+    (
+        &["loop", "register.csv", "[0]010.1.2.3"],
+        0,
+        (Refused, "", "bad identifier 4 Address\n"),
+    ),
+    (
+        &["loop", "register.csv", "[0]10.1.2.3"],
+        1_000,
+        (Incomplete, "[0]10.1.2.3 gave-up NoReply\n", ""),
+    ),
+    (
+        &[
+            "loop",
+            "register.csv",
+            "[0]10.1.2.3",
+            "--seed=18446744073709551615",
+        ],
+        0,
+        (Incomplete, "[0]10.1.2.3 refused Exhausted\n", ""),
+    ),
+];
+
+#[test]
+fn an_end_without_an_outcome_is_told(rt: HostRuntime) -> Result<(), Fail> {
+    for (words, step, want) in ENDS {
+        let mut wires = WiresInMemory::new(rt.alloc(), 0);
+        let next = at_start().at;
+        let mut clock = SteppingClock { next, step };
+        let place = campus(&[], None);
+        ends_at(&rt, rt.alloc(), place, &mut wires, &mut clock, words, want)?;
+    }
+    Ok(())
+}
+
+/// Whether a call sent these bytes from the resolver to the ITR.
+fn tells_itr(call: &Call, sent: &[u8]) -> bool {
+    match call {
+        Call::Tried {
+            at,
+            to,
+            port,
+            bytes,
+            ..
+        } => *at == ME && *to == ITR && *port == ITR_PORT && bytes.as_slice() == sent,
+        Call::Received { .. } => false,
+    }
+}
+
+/// The replies to `[0]10.1.4.7`, which is asked first, and to the identifier of the ITR's request.
+const BOTH_REPLIES: [Reply; 6] = [
+    (ROOT, "root", "[0]10.1.4.7", 1),
+    (ROOT, "root", "[0]10.2.0.1", 2),
+    (TEN, "ten", "[0]10.1.4.7", 3),
+    (TEN, "ten", "[0]10.2.0.1", 4),
+    (EAST, "east", "[0]10.1.4.7", 5),
+    (EAST_TOO, "east", "[0]10.1.4.7", 6),
+];
+
+/// Wires where the ITR's request waits at the resolver, and behind it all these replies.
+fn asked_by_itr(alloc: Global) -> Result<WiresInMemory, Fail> {
+    let mut wires = WiresInMemory::new(alloc, 0);
+    add(&mut wires, ME, ITR, ITR_PORT, message(alloc, ITR_REQUEST)?)?;
+    add_all(&mut wires, alloc, &BOTH_REPLIES)?;
+    Ok(wires)
+}
+
+#[test]
+fn an_itr_gets_its_negative_map_reply(rt: HostRuntime) -> Result<(), Fail> {
+    let alloc = rt.alloc();
+    let mut wires = asked_by_itr(alloc)?;
+    let words = ["loop", "register.csv", "[0]10.1.4.7"];
+    let line = "[0]10.1.4.7 not-registered [0]10.1.4.0/24 127.0.1.1 127.0.1.2\n";
+    let (want, mut clock) = ((Answered, line, ""), at_start());
+    let place = campus(&[], None);
+    ends_at(&rt, alloc, place, &mut wires, &mut clock, &words, want)?;
+    let reply = message(alloc, NEGATIVE_REPLY)?;
+    let calls = wires.told().ok_or("no memory")?;
+    let told = calls.iter().filter(|call| tells_itr(call, &reply)).count();
+    assert_eq!(rt; told, 1);
+    Ok(())
+}
+
+/// Words that are refused: the first in the order of the command, and no socket is bound before.
+const REFUSED_WORDS: [(&[&str], &str); 16] = [
+    (
+        &["loop", "missing", "10.1.2.3", "[0]1.2.3", "--me", "x"],
+        "bad identifier 2 Bracket\n",
+    ),
+    (
+        &["loop", "missing", "[0]10.1.2.3", "[0]1.2.3", "--me", "x"],
+        "bad identifier 4 Address\n",
+    ),
+    (
+        &["loop", "missing", "[0]10.1.2.3", "--me", "x", "--seed", "x"],
+        "bad address\n",
+    ),
+    (
+        &["loop", "missing", "[0]10.1.2.3", "--me="],
+        "bad address\n",
+    ),
+    (
+        &[
+            "loop",
+            "missing",
+            "[0]10.1.2.3",
+            "--seed",
+            "01",
+            "--turns",
+            "x",
+        ],
+        "bad number\n",
+    ),
+    (
+        &[
+            "loop",
+            "missing",
+            "[0]10.1.2.3",
+            "--seed=18446744073709551616",
+        ],
+        "bad number\n",
+    ),
+    (
+        &["loop", "missing", "[0]10.1.2.3", "--turns=4294967296"],
+        "bad number\n",
+    ),
+    (
+        &["loop", "missing", "[0]10.1.2.3", "--turns", "", "--me=::1"],
+        "bad number\n",
+    ),
+    (
+        &["loop", "missing", "[0]10.1.2.3", "--me", "0:0::1"],
+        "not a loopback address ::1\n",
+    ),
+    (
+        &["loop", "missing", "[0]10.1.2.3", "--me", "128.0.0.0"],
+        "not a loopback address 128.0.0.0\n",
+    ),
+    (
+        &["loop", "missing", "[0]10.1.2.3", "--me", "126.255.255.255"],
+        "not a loopback address 126.255.255.255\n",
+    ),
+    (&["loop", "missing", "[0]10.1.2.3"], "cannot open missing\n"),
+    (
+        &["loop", "register.csv", "[0]10.1.2.3"],
+        "cannot bind 127.0.0.53\n",
+    ),
+    (
+        &["loop", "register.csv", "[0]10.1.2.3", "--me=127.0.0.0"],
+        "cannot bind 127.0.0.0\n",
+    ),
+    (
+        &[
+            "loop",
+            "register.csv",
+            "[0]10.1.2.3",
+            "--me=127.255.255.255",
+        ],
+        "cannot bind 127.255.255.255\n",
+    ),
+    (
+        &["loop", "register.csv", "[0]10.1.2.3", "--turns=4294967295"],
+        "cannot bind 127.0.0.53\n",
+    ),
+];
+
+#[test]
+fn the_first_of_what_stands_in_its_way_is_named(rt: HostRuntime) -> Result<(), Fail> {
+    for (words, line) in REFUSED_WORDS {
+        let place = campus(&[], Some(ErrorKind::AddrInUse));
+        refuses(&rt, rt.alloc(), place, words, line)?;
+    }
+    Ok(())
+}
+
+/// The addresses that are free, why another can't be bound, and what is refused.
+const BOUND_BEFORE: [(&[Locator], ErrorKind, &str); 6] = [
+    (&[], ErrorKind::AddrInUse, "cannot bind 127.0.0.53\n"),
+    (&[ME], ErrorKind::AddrInUse, "cannot bind 127.0.0.1\n"),
+    (
+        &[ME, ROOT],
+        ErrorKind::AddrInUse,
+        "cannot bind 127.0.0.10\n",
+    ),
+    (
+        &[ME, ROOT, TEN],
+        ErrorKind::AddrInUse,
+        "cannot bind 127.0.1.1\n",
+    ),
+    (
+        &[ME, ROOT, TEN, EAST],
+        ErrorKind::AddrInUse,
+        "cannot bind 127.0.1.2\n",
+    ),
+    (&[ME, ROOT], ErrorKind::OutOfMemory, "out of memory\n"),
+];
+
+#[test]
+fn sockets_are_bound_in_order(rt: HostRuntime) -> Result<(), Fail> {
+    let words = ["loop", "register.csv", "[0]10.1.2.3"];
+    for (free, kind, line) in BOUND_BEFORE {
+        let place = campus(free, Some(kind));
+        refuses(&rt, rt.alloc(), place, &words, line)?;
+    }
+    Ok(())
+}
+
+/// Rows of registers, and what is refused of them before a socket is bound.
+const REFUSED_ROWS: [(&str, &str); 4] = [
+    (
+        "group-node,,root,127.0.0.1 192.0.2.1\nnode,*,root,\n",
+        "not a loopback address 192.0.2.1\n",
+    ),
+    (
+        "group-node,,root,127.0.0.1 ::1 192.0.2.1\nnode,*,root,\n",
+        "not a loopback address ::1\n",
+    ),
+    ("node,*,root,\n", "refused A4 UnknownGroup row 1\n"),
+    ("node,*\n", "unreadable 1 Csv row 1\n"),
+];
+
+#[test]
+fn a_register_is_read_before_a_socket_is_bound(rt: HostRuntime) -> Result<(), Fail> {
+    let words = ["loop", "register.csv", "[0]10.1.2.3"];
+    for (rows, line) in REFUSED_ROWS {
+        let register = format!(in rt.alloc(); "{COLUMNS}{rows}")?;
+        let place = Place::of_register(register.as_str());
+        refuses(&rt, rt.alloc(), place, &words, line)?;
+    }
+    Ok(())
+}

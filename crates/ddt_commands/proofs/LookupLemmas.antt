@@ -1,0 +1,180 @@
+-- From what lookups do to the lines that tell them.
+use Rattle.std.proofs.Common.{◌≡◌, ℕ, zero, suc, ◌+◌, ◌<◌, ◌≤◌, Bor, map, take, unwrap_or, option_map, if◌then◌else◌, is_ok, IfOk, OnOk, Bool, true, false, List, [], ◌∷◌, ◌++◌, length, get_or, drop, codes, Option, Some, None, Result, Ok, Err, refl, sym, ap, subst, ◌∙◌, arith}
+use Rattle.std.specs.Prelude.{◌&&◌}
+use Rattle.std.specs.List.{All, flat_map}
+use Rattle.std.specs.declared.alloc.AllocError.{AllocError}
+use Rattle.std.proofs.Math.Numerals.{suc-eq-add-one}
+use Rattle.std.specs.FinMap.{get, get-empty}
+use Rattle.std.specs.Ordering.{nat_cmp}
+use Rattle.std.proofs.lemmas.List.{get_or-map, length-map, map_push, take_all, take_more}
+use Rattle.ddt_path.specs.declared.locator.Locator.{Locator}
+use Rattle.ddt_path.specs.declared.xeid.Xeid.{Xeid}
+use Rattle.ddt_path.specs.declared.record.Outcome.{Outcome}
+use Rattle.ddt_path.specs.Path.{xeid_path}
+use Rattle.ddt_text.specs.FirstFault.{xeid_in}
+use Rattle.ddt_register.specs.declared.register.Register.{Register}
+use Rattle.ddt_check.specs.Assignment.{assignment}
+use Rattle.ddt_check.specs.Rules.{IsAccepted}
+use Rattle.ddt_check.specs.Says.{says}
+use Rattle.ddt_check.specs.Zones.{roots}
+use Rattle.ddt_wire.specs.Laws.{MessagesAreRead}
+use Rattle.ddt_wire.specs.Referral.{Message, message_in, message_of}
+use Rattle.ddt_resolver.specs.declared.answers.Why.{Why}
+use Rattle.ddt_resolver.specs.State.{State, fresh}
+use Rattle.ddt_sim.specs.declared.hop.Hop.{Hop}
+use Rattle.ddt_sim.specs.declared.hop.LookupError.{LookupError}
+use Rattle.ddt_sim.specs.declared.hop.LookupError.TheVariants.{GaveUp, TooMany}
+use Rattle.ddt_sim.specs.Headline.{IsHonestHop, IsRightError}
+use Rattle.ddt_sim.specs.Lookup.{Fails, HasOutcome}
+use Rattle.ddt_sim.specs.Schedules.{StartsSound}
+use Rattle.ddt_sim.specs.Sound.{IsSound, NewResolversAreSound}
+use Rattle.ddt_lines.specs.Lines.{ended, hop_text, outcome_text}
+use Rattle.ddt_commands.specs.declared.lines.Lines.{Lines}
+use Rattle.ddt_words.specs.Call.{Call}
+use Rattle.ddt_commands.specs.declared.refusal.Refusal.{Refusal}
+use Rattle.ddt_commands.specs.declared.refusal.word.WordRefusal.{WordRefusal}
+use Rattle.ddt_commands.specs.Assign.{identifier_refusal}
+use Rattle.ddt_commands.specs.Lookup.{AreAllTold, AreTold, Asks, IsLookupText, xeid_words, none, more, IsTold, outcome, gave_up, refused, bad_identifier, read_line, replied_line, said_line, why_text}
+
+-- ---- the lines of one lookup
+
+-- the line of a hop over honest servers, as its reply spells it, is what the register says
+replied_said : MessagesAreRead → (r : Register) (x : Xeid) (me_ : Locator) (hop : Hop) → IsHonestHop r x me_ hop → replied_line hop ≡ said_line r x hop
+replied_said laws r x me_ hop (nonce, sent, spells) = ap (read_line hop.to) (laws.read hop.reply (message_of nonce (says r hop.to (xeid_path x))) spells)
+
+replied_all : MessagesAreRead → (r : Register) (x : Xeid) (me_ : Locator) (hops : List Hop) → All (IsHonestHop r x me_) hops → flat_map replied_line hops ≡ flat_map (said_line r x) hops
+replied_all laws r x me_ [] all = refl
+replied_all laws r x me_ (hop ∷ hops) all =
+    let first = replied_said laws r x me_ hop (all 0 hop (omega arith)) in
+    let others = replied_all laws r x me_ hops (λ k d lt. all (suc k) d (omega arith)) in
+    rw (first, others) refl
+
+pub told_outcome : MessagesAreRead → (r : Register) (now : ℕ) (x : Xeid) (before after : State) (me_ : Locator) (o : Outcome) (hops : List Hop) (lines : List ℕ)
+    → HasOutcome now x before o hops after → o ≡ assignment r (xeid_path x) → All (IsHonestHop r x me_) hops
+    → lines ≡ flat_map replied_line hops ++ ended (outcome_text o) → IsTold r now x before true lines after
+told_outcome laws r now x before after me_ o hops lines has right honest is =
+    outcome hops (subst (λ (a : Outcome). HasOutcome now x before a hops after) right has) refl
+    (is ∙ rw (replied_all laws r x me_ hops honest, right) refl)
+
+pub told_gave_up : (r : Register) (now : ℕ) (x : Xeid) (before after : State) (why : Why) (lines : List ℕ)
+    → Fails now x before (GaveUp why) after → IsRightError before after (GaveUp why) → lines ≡ ended (codes "gave-up " ++ why_text why)
+    → IsTold r now x before false lines after
+told_gave_up r now x before after why lines fails (exhausted, last) is =
+    gave_up (subst (λ (w : Why). Fails now x before (GaveUp w) after) exhausted fails) last refl (is ∙ ap (λ (w : Why). ended (codes "gave-up " ++ why_text w)) exhausted)
+
+pub told_refused : (r : Register) (now : ℕ) (x : Xeid) (before after : State) (lines : List ℕ)
+    → Fails now x before TooMany after → IsRightError before after TooMany → lines ≡ ended (codes "refused TooMany") → IsTold r now x before false lines after
+told_refused r now x before after lines fails many is = refused fails many refl is
+
+-- the same where an error says so, and its name was shown
+pub told_unfound : (r : Register) (now : ℕ) (x : Xeid) (before after : State) (error : LookupError) (why : Why) (shown : List ℕ) (result : Result Lines AllocError)
+    → error ≡ GaveUp why → Fails now x before error after → IsRightError before after error → shown ≡ why_text why
+    → IfOk result (λ lines. lines.text.items ≡ ended (codes "gave-up " ++ shown)) → IfOk result (λ lines. lines.complete ≡ false)
+    → IfOk result (λ lines. IsTold r now x before lines.complete lines.text.items after)
+told_unfound r now x before after error why shown (Ok lines) is fails right name text complete =
+    subst (λ (b : Bool). IsTold r now x before b lines.text.items after) (sym complete)
+    (told_gave_up r now x before after why lines.text.items (subst (λ (e : LookupError). Fails now x before e after) is fails)
+    (subst (λ (e : LookupError). IsRightError before after e) is right) (text ∙ ap (λ (t : List ℕ). ended (codes "gave-up " ++ t)) name))
+told_unfound r now x before after error why shown (Err refused_) is fails right name text complete = tt
+
+-- ---- what a hop appends
+
+pub read_as : (bytes : List ℕ) (hop : Hop) (v : Message) → Ok v ≡ message_in bytes → bytes ≡ hop.reply → ended (hop_text hop.to v) ≡ replied_line hop
+read_as bytes hop v e is = ap (read_line hop.to) (e ∙ ap message_in is)
+
+pub push_replied : {T E : Type 0} (r : Result T E) (new old line : List ℕ) (hop : Hop) → new ≡ (if is_ok r then old ++ line else old) → line ≡ replied_line hop
+    → OnOk r (new ≡ old ++ replied_line hop)
+push_replied (Ok u) new old line hop e is = e ∙ ap (λ (t : List ℕ). old ++ t) is
+push_replied (Err f) new old line hop e is = tt
+
+-- ---- the words of the identifiers
+
+abbrev pub texts : List (Bor (List ℕ)) → List (List ℕ)
+texts words = map (λ t. t.now) words
+
+-- a good word is passed, and a bad one is the first
+passed_next : (words : List (Bor (List ℕ))) (i : ℕ) (d : Bor (List ℕ)) (x : Xeid) → i < length words → xeid_in (get_or words i d).now ≡ Ok x
+    → bad_identifier (drop i (texts words)) ≡ bad_identifier (drop (suc i) (texts words))
+passed_next [] i d x lt good = absurd (omega arith)
+passed_next (w ∷ ws) zero d x lt good = rw good refl
+passed_next (w ∷ ws) (suc i) d x lt good = passed_next ws i d x (omega arith) good
+
+pub passed : (words : List (Bor (List ℕ))) (i : ℕ) (d : Bor (List ℕ)) (x : Xeid) → i < length words → xeid_in (get_or words i d).now ≡ Ok x
+    → bad_identifier (drop i (texts words)) ≡ bad_identifier (drop (i + 1) (texts words))
+passed words i d x lt good = passed_next words i d x lt good ∙ ap (λ (n : ℕ). bad_identifier (drop n (texts words))) (suc-eq-add-one i)
+
+pub first_bad : (words : List (Bor (List ℕ))) (i : ℕ) (d : Bor (List ℕ)) (why : WordRefusal) → i < length words → identifier_refusal (xeid_in (get_or words i d).now) ≡ Some why
+    → bad_identifier (drop i (texts words)) ≡ Some why
+first_bad [] i d why lt bad = absurd (omega arith)
+first_bad (w ∷ ws) zero d why lt bad = rw bad refl
+first_bad (w ∷ ws) (suc i) d why lt bad = first_bad ws i d why (omega arith) bad
+
+-- ---- lookups one after the other
+
+pub told_none : (r : Register) (now : ℕ) (start : State) (complete : Bool) (text : List ℕ) → complete ≡ true → text ≡ [] → AreTold r now start [] complete text start
+told_none r now start complete text c t =
+    subst (λ (b : Bool). AreTold r now start [] b text start) (sym c) (subst (λ (l : List ℕ). AreTold r now start [] true l start) (sym t) none)
+
+one_more : (words : List (Bor (List ℕ))) (i : ℕ) (d : Bor (List ℕ)) → i < length words → take i (texts words) ++ (get_or words i d).now ∷ [] ≡ take (i + 1) (texts words)
+one_more words i d lt =
+    ap (λ (w : List ℕ). take i (texts words) ++ w ∷ []) (sym (get_or-map (λ (t : Bor (List ℕ)). t.now) words i d d.now lt))
+    ∙ sym (take_more (texts words) i d.now (rw (length-map words (λ (t : Bor (List ℕ)). t.now)) lt))
+
+pub told_more : (r : Register) (now : ℕ) (start : State) (words : List (Bor (List ℕ))) (i : ℕ) (d : Bor (List ℕ)) (x : Xeid) (complete found : Bool) (text lines new : List ℕ)
+    (before after : State) → i < length words → AreTold r now start (take i (texts words)) complete text before → xeid_in (get_or words i d).now ≡ Ok x
+    → IsTold r now x before found lines after → new ≡ text ++ lines → AreTold r now start (take (i + 1) (texts words)) (complete && found) new after
+told_more r now start words i d x complete found text lines new before after lt told good one is =
+    subst (λ (ws : List (List ℕ)). AreTold r now start ws (complete && found) new after) (one_more words i d lt)
+    (subst (λ (t : List ℕ). AreTold r now start (take i (texts words) ++ (get_or words i d).now ∷ []) (complete && found) t after) (sym is)
+    (more (get_or words i d).now x found lines after told good one))
+
+-- the identifiers of the words so far
+pub spelled_more : (words : List (Bor (List ℕ))) (i : ℕ) (d : Bor (List ℕ)) (x : Xeid) (ids new : List Xeid) → i < length words → map xeid_in (take i (texts words)) ≡ map Ok ids
+    → xeid_in (get_or words i d).now ≡ Ok x → new ≡ ids ++ x ∷ [] → map xeid_in (take (i + 1) (texts words)) ≡ map Ok new
+spelled_more words i d x ids new lt so_far good is =
+    ap (map xeid_in) (sym (one_more words i d lt)) ∙ map_push xeid_in (take i (texts words)) (get_or words i d).now ∙ (λ k. so_far k ++ good k ∷ [])
+    ∙ sym (map_push Ok ids x) ∙ ap (map Ok) (sym is)
+
+pub spelled_all : (words : List (Bor (List ℕ))) (i : ℕ) (ids : List Xeid) → length words ≤ i → map xeid_in (take i (texts words)) ≡ map Ok ids → map xeid_in (texts words) ≡ map Ok ids
+spelled_all words i ids all so_far =
+    ap (map xeid_in) (sym (take_all i (texts words) (rw (length-map words (λ (t : Bor (List ℕ)). t.now)) all))) ∙ so_far
+
+pub told_all : (r : Register) (now time : ℕ) (start : State) (words : List (Bor (List ℕ))) (i : ℕ) (complete : Bool) (text : List ℕ) (after : State) → now ≡ time → length words ≤ i
+    → AreTold r now start (take i (texts words)) complete text after → AreTold r time start (texts words) complete text after
+told_all r now time start words i complete text after is all told =
+    subst (λ (n : ℕ). AreTold r n start (texts words) complete text after) is
+    (subst (λ (ws : List (List ℕ)). AreTold r now start ws complete text after)
+    (take_all i (texts words) (rw (length-map words (λ (t : Bor (List ℕ)). t.now)) all)) told)
+
+pub told_text : (call : Call) (r : Register) (me_ : Locator) (seed : ℕ) (found : List Locator) (start : State) (words : List (Bor (List ℕ))) (result : Result Lines Refusal) → Asks call me_ seed
+    → found ≡ roots r → start ≡ fresh found me_ seed → texts words ≡ xeid_words call
+    → IfOk result (λ lines. AreAllTold r start.known.time start (texts words) lines.complete lines.text.items) → IfOk result (λ lines. IsLookupText lines.complete call r lines.text.items)
+told_text call r me_ seed found start words (Ok lines) asks at_root new same told =
+    let begun : start ≡ fresh (roots r) me_ seed = new ∙ ap (λ (l : List Locator). fresh l me_ seed) at_root in
+    record {
+      me_ = me_;
+      seed = seed;
+      asks = asks;
+      told = subst (λ (s : State). AreAllTold r s.known.time s (xeid_words call) lines.complete lines.text.items) begun
+          (subst (λ (ws : List (List ℕ)). AreAllTold r start.known.time start ws lines.complete lines.text.items) same told);
+    }
+told_text call r me_ seed found start words (Err why) asks at_root new same told = tt
+
+pub sound_start : NewResolversAreSound → (r : Register) (me_ : Locator) (seed : ℕ) (found : List Locator) (start : State) → found ≡ roots r → start ≡ fresh found me_ seed → IsSound r start
+sound_start law r me_ seed found start at_root new =
+    subst (IsSound r) (sym (new ∙ ap (λ (l : List Locator). fresh l me_ seed) at_root)) (law r me_ seed)
+
+-- a new resolver over the servers of an accepted register
+pub starts_sound : NewResolversAreSound → (r : Register) (me_ : Locator) (seed : ℕ) (found : List Locator) (start : State) → found ≡ roots r → start ≡ fresh found me_ seed → IsAccepted r
+    → StartsSound r start
+starts_sound law r me_ seed found start at_root new accepted = record {
+  accepted = accepted;
+  sound = sound_start law r me_ seed found start at_root new;
+  at_rest = λ ticket. ap (λ (s : State). get s.pending ticket) new ∙ get-empty nat_cmp ticket;
+}
+
+-- the words of the identifiers, as they are borrowed
+pub values_are : (o : Option (Bor (List (Bor (List ℕ))))) (d u : Bor (List (Bor (List ℕ)))) (v : Option (List (List ℕ))) → u ≡ unwrap_or o d
+    → option_map (λ s. texts s.now) o ≡ v → texts d.now ≡ [] → texts u.now ≡ unwrap_or v []
+values_are None d u v is e none_ = ap (λ (b : Bor (List (Bor (List ℕ)))). texts b.now) is ∙ none_ ∙ ap (λ (a : Option (List (List ℕ))). unwrap_or a []) e
+values_are (Some s) d u v is e none_ = ap (λ (b : Bor (List (Bor (List ℕ)))). texts b.now) is ∙ ap (λ (a : Option (List (List ℕ))). unwrap_or a []) e

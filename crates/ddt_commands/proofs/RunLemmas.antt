@@ -1,0 +1,56 @@
+-- From what one command prints to what the words of a process print.
+use Rattle.std.proofs.Common.{◌≡◌, ◌≢◌, inl, inr, ℕ, Bool, true, List, [], Option, Some, ap, sym, subst, refl, ◌∙◌}
+use Rattle.clap.specs.Words.{App, fault_of, is_simple_and_free, subcommand_of}
+use Rattle.ddt_words.specs.declared.declaration.Declaration.{Declaration}
+use Rattle.ddt_words.specs.Call.{Call, Calls}
+use Rattle.ddt_words.specs.Line.{line}
+use Rattle.ddt_commands.specs.declared.commands.Command.{Command}
+use Rattle.ddt_commands.specs.Commands.{IsTextOf, IsWhyOf, name_of, program_line}
+use Rattle.ddt_commands.specs.Running.{CallNone, CallsFor, DontCall, HasPartOf, HasRefused, HasText, IsAnswer, IsWhyRefused}
+use Rattle.ddt_commands.specs.Wires.{OverWires}
+
+-- clap's exact rule holds of the program's command line
+program_is_simple : is_simple_and_free program_line ≡ true
+program_is_simple = refl
+
+pub simple_line : (ds : List Declaration) → line ds ≡ program_line → is_simple_and_free (line ds) ≡ true
+simple_line ds e = ap is_simple_and_free e ∙ program_is_simple
+
+pub calls_for : (ds : List Declaration) (words : List (List ℕ)) (command : Command) (call : Call) → line ds ≡ program_line → Calls ds words call → name_of command ≡ call.0
+    → CallsFor words command call
+calls_for ds words command call e calls named =
+    (subst (λ (a : App). (fault_of a words ≡ []) × (subcommand_of a words ≡ Some call)) e calls, sym named)
+
+-- words with a fault call nothing, nor do those whose command has no name of these
+pub bad_words : (ds : List Declaration) (words : List (List ℕ)) → line ds ≡ program_line → fault_of (line ds) words ≢ [] → CallNone words
+bad_words ds words e bad = λ command call calls. bad (ap (λ (a : App). fault_of a words) e ∙ calls.0.0)
+
+same_call : (a b : Call) → Some a ≡ Some b → a ≡ b
+same_call a b e = ap (λ (o : Option Call). or_else a o) e
+  where
+    or_else : Call → Option Call → Call
+    or_else d (Some x) = x
+    or_else d _ = d
+
+pub unknown : (ds : List Declaration) (words : List (List ℕ)) (call : Call) → line ds ≡ program_line → Calls ds words call → ((c : Command) → name_of c ≢ call.0) → CallNone words
+unknown ds words call e calls none = λ command other for_other.
+    let one = sym (ap (λ (a : App). subcommand_of a words) e) ∙ calls.1 in
+    none command (sym for_other.1 ∙ sym (ap (λ (p : Call). p.0) (same_call call other (sym one ∙ for_other.0.1))))
+
+pub answered : {F : Type 0} (opens : List ℕ → Option F → Type 0) (remaining : F → Option (List ℕ)) (over : OverWires) (words : List (List ℕ)) (command : Command) (call : Call) (complete : Bool)
+    (old new : Option (List ℕ)) → CallsFor words command call → HasText (IsTextOf opens remaining over command call complete) old new → HasText (IsAnswer opens remaining over words complete) old new
+answered opens remaining over words command call complete old new calls h = (h.0, (command, (call, calls, h.1)), h.2)
+
+pub refused : {F : Type 0} (opens : List ℕ → Option F → Type 0) (remaining : F → Option (List ℕ)) (over : OverWires) (words : List (List ℕ)) (command : Command) (call : Call) (old new : Option (List ℕ))
+    → CallsFor words command call → HasRefused (IsWhyOf opens remaining over command call) old new → HasRefused (IsWhyRefused opens remaining over words) old new
+refused opens remaining over words command call old new calls h = (h.0, inr (command, (call, calls, h.1)), h.2)
+
+pub unprinted : {F : Type 0} (opens : List ℕ → Option F → Type 0) (remaining : F → Option (List ℕ)) (over : OverWires) (words : List (List ℕ)) (command : Command) (call : Call)
+    (out out_new err err_new : Option (List ℕ)) → CallsFor words command call → HasPartOf (IsTextOf opens remaining over command call) (IsWhyOf opens remaining over command call) out out_new err err_new
+    → HasPartOf (IsAnswer opens remaining over words) (IsWhyRefused opens remaining over words) out out_new err err_new
+unprinted opens remaining over words command call out out_new err err_new calls (inl h) = inl (h.0, (h.1.0, (command, (call, calls, h.1.1)), h.1.2))
+unprinted opens remaining over words command call out out_new err err_new calls (inr h) = inr (h.0, inr (command, (call, calls, h.1)), h.2)
+
+-- words that don't call this command call another
+pub another : (words : List (List ℕ)) (command this : Command) (call : Call) → CallsFor words command call → DontCall this words → command ≢ this
+another words command this call calls none e = none call (subst (λ (c : Command). CallsFor words c call) e calls)

@@ -1,0 +1,13 @@
+use Rattle.std.proofs.Common.{ap, ◌∙◌}
+use Rattle.std.proofs.lemmas.Result.{IfOk-weaker}
+use Rattle.ddt_commands.specs.Replay.{lines_from}
+use Rattle.ddt_commands.proofs.ReplayLemmas.{told_run}
+use Rattle.ddt_commands.proofs.replaying.replay.Goals as goal
+
+pub returns : goal.returns
+returns c =
+    let ran = c.in_ok-transcript.ensures in
+    IfOk-weaker c.event_lines.result _ _ (λ text is.
+    told_run c.a_step_keeps_a_resolver_sound.ensures.new c.args.register.now c.args.me c.args.seed c.roots.result c.new-resolver.result c.roots.ensures.group c.new-resolver.ensures
+    c.in_ok-servers.servers c.in_ok-servers.ensures.compiled c.args.steps.now c.in_ok-transcript.transcript c.run.new.resolver ran.run ran.answers ran.replies ran.once ran.failures ran.no_reply text.items
+    (is ∙ ap (lines_from 0) c.as_slice.ensures)) c.event_lines.ensures

@@ -1,0 +1,184 @@
+-- `replay REGISTER SCRIPT [--me ADDRESS] [--seed N]`: a schedule of a resolver among the servers of the register, and a
+-- line for each of its steps (RFC 8111, section 7.3).
+use Rattle.std.specs.Prelude.{ℕ, ◌+◌, ◌≡◌, ◌≢◌, ◌⊎◌, ⊤, List, [], ◌∷◌, ◌++◌, length, codes, decimal, Option, None, Some, Ok}
+use Rattle.std.specs.Option.{option_or}
+use Rattle.ddt_path.specs.declared.locator.Locator.{Locator}
+use Rattle.ddt_path.specs.declared.record.Outcome.{Outcome}
+use Rattle.ddt_text.specs.Written.{written_locator}
+use Rattle.ddt_register.specs.declared.register.Register.{Register}
+use Rattle.ddt_check.specs.Zones.{roots}
+use Rattle.ddt_resolver.specs.declared.answers.Outgoing.{Outgoing}
+use Rattle.ddt_resolver.specs.declared.answers.Asked.TheVariants as asked_as
+use Rattle.ddt_resolver.specs.declared.answers.AskError.{AskError}
+use Rattle.ddt_resolver.specs.declared.answers.AskError.TheVariants.{TooMany, Exhausted, Memory}
+use Rattle.ddt_resolver.specs.declared.answers.Heard.TheVariants as heard_as
+use Rattle.ddt_resolver.specs.declared.answers.Ignored.{Ignored as WhyIgnored}
+use Rattle.ddt_resolver.specs.declared.answers.Ignored.TheVariants.{Undecodable, UnknownNonce, WrongSource, Late, NotCovering, NoServers}
+use Rattle.ddt_resolver.specs.declared.answers.Ticked.TheVariants as ticked_as
+use Rattle.ddt_resolver.specs.declared.answers.Why.{Why}
+use Rattle.ddt_resolver.specs.State.{State, fresh}
+use Rattle.ddt_sim.specs.declared.schedule.Step.{Step}
+use Rattle.ddt_sim.specs.declared.schedule.Event.{Event}
+use Rattle.ddt_sim.specs.declared.schedule.Event.TheVariants.{Asked, Refused, Replied, Silent, Heard, Passed, Ticked, Nothing}
+use Rattle.ddt_sim.specs.declared.schedule.Transcript.{Transcript}
+use Rattle.ddt_sim.specs.Compiled.{AreCompiled, configs_of}
+use Rattle.ddt_sim.specs.History.{Line, Each, Tells as TellsRun}
+use Rattle.ddt_sim.specs.Schedules.{IsRightAnswer, IsRightReply, IsOnce, IsRightFailure}
+use Rattle.ddt_sim.specs.Tries.{IsRightNoReply}
+use Rattle.ddt_sim.specs.World.{request_at}
+use Rattle.ddt_lines.specs.Lines.{ended, outcome_text}
+use Rattle.ddt_words.specs.Call.{Call, value}
+use Rattle.ddt_commands.specs.declared.refusal.Refusal.{Refusal}
+use Rattle.ddt_commands.specs.declared.refusal.Refusal.TheVariants.{BadWord, NoScript, OutOfMemory}
+use Rattle.ddt_commands.specs.declared.refusal.script.ScriptRefusal.TheVariants.{CannotOpen, RefusedLine}
+use Rattle.ddt_commands.specs.declared.refusal.word.WordRefusal.{WordRefusal}
+use Rattle.ddt_commands.specs.declared.script.ScriptFault.{ScriptFault}
+use Rattle.ddt_commands.specs.declared.script.ScriptFault.TheVariants as fault
+use Rattle.ddt_commands.specs.Lookup.{address_refusal, me_of, number_refusal, seed_of, why_text}
+use Rattle.ddt_commands.specs.Over.{OfItsRegister, path}
+use Rattle.ddt_commands.specs.Register.{IsWhyNoRegister, Tells}
+use Rattle.ddt_commands.specs.Script.{IsRefusedAt, SpellsScript}
+
+-- ---- the line of a step
+
+-- the names of why an ask is refused, and of why a datagram is ignored
+abbrev pub ask_error_text : AskError → List ℕ
+ask_error_text TooMany = codes "TooMany"
+ask_error_text Exhausted = codes "Exhausted"
+ask_error_text Memory = codes "Memory"
+
+abbrev pub ignored_text : WhyIgnored → List ℕ
+ignored_text Undecodable = codes "Undecodable"
+ignored_text UnknownNonce = codes "UnknownNonce"
+ignored_text WrongSource = codes "WrongSource"
+ignored_text Late = codes "Late"
+ignored_text NotCovering = codes "NotCovering"
+ignored_text NoServers = codes "NoServers"
+
+-- of a ticket: a request was sent, as the datagram of this number; an outcome; why there is none
+abbrev pub sent_text : ℕ → ℕ → Outgoing → List ℕ
+sent_text t number d =
+    codes "ticket " ++ decimal t ++ codes " sent " ++ decimal number ++ codes " to " ++ written_locator d.to
+
+abbrev pub answer_text : ℕ → Outcome → List ℕ
+answer_text t o = codes "ticket " ++ decimal t ++ codes " answer " ++ outcome_text o
+
+abbrev pub gave_up_text : ℕ → Why → List ℕ
+gave_up_text t why = codes "ticket " ++ decimal t ++ codes " gave-up " ++ why_text why
+
+-- what came of a step; a request that was sent is the datagram of this number
+abbrev pub event_text : ℕ → Event → List ℕ
+event_text number (Asked (asked_as.Answer o)) = codes "answer " ++ outcome_text o
+event_text number (Asked (asked_as.Sent t d)) = sent_text t number d
+event_text number (Refused why) = codes "refused " ++ ask_error_text why
+event_text number (Replied k) = codes "reply " ++ decimal k
+event_text number Silent = codes "silent"
+event_text number (Heard (heard_as.Ignored why)) = codes "ignored " ++ ignored_text why
+event_text number (Heard (heard_as.Followed t d)) = sent_text t number d
+event_text number (Heard (heard_as.Answer t o)) = answer_text t o
+event_text number (Heard (heard_as.GaveUp t why)) = gave_up_text t why
+event_text number (Passed moment) = codes "now " ++ decimal moment
+event_text number (Ticked ticked_as.Nothing) = codes "nothing"
+event_text number (Ticked (ticked_as.Sent t d)) = sent_text t number d
+event_text number (Ticked (ticked_as.Answer t o)) = answer_text t o
+event_text number (Ticked (ticked_as.GaveUp t why)) = gave_up_text t why
+event_text number Nothing = codes "nothing"
+
+-- The lines of a run, the newest last. The number of a request is how many datagrams were sent before it.
+abbrev pub run_text : List Line → List ℕ
+run_text [] = []
+run_text (line ∷ past) = run_text past ++ ended (event_text (length line.before.sent) line.event)
+
+-- the same, counted along the events
+abbrev pub requests : Option Outgoing → ℕ
+requests None = 0
+requests (Some d) = 1
+
+abbrev pub datagrams_at : Event → ℕ
+datagrams_at (Replied k) = 1
+datagrams_at event = requests (request_at event)
+
+abbrev pub lines_from : ℕ → List Event → List ℕ
+lines_from number [] = []
+lines_from number (event ∷ events) =
+    ended (event_text number event) ++ lines_from (number + datagrams_at event) events
+
+-- ---- the run
+
+-- What has happened in a run of these steps, by a new resolver with the root locators of the register, over its
+-- servers. Each answer is the assignment of the identifier of its own ask. Each request that is delivered has its
+-- reply, and no ticket ends twice. Nothing is refused, ignored or given up without its reason.
+pub record IsRunOf (r : Register) (me_ : Locator) (seed : ℕ) (steps : List Step) (past : List Line) : Type 0 where
+  pub transcript : Transcript
+  pub last : State
+  pub told : TellsRun (AreCompiled (configs_of r)) (fresh (roots r) me_ seed) steps transcript last past
+  pub answers : Each (IsRightAnswer r) past
+  pub replies : Each (IsRightReply r) past
+  pub once : Each IsOnce past
+  pub failures : Each IsRightFailure past
+  pub no_reply : Each (IsRightNoReply r) past
+
+-- the lines of such a run
+abbrev pub IsRunText : Register → Locator → ℕ → List Step → List ℕ → Type 0
+IsRunText r me_ seed steps text = (past : List Line) × IsRunOf r me_ seed steps past × (text ≡ run_text past)
+
+-- ---- the files
+
+-- A script was opened, and this is so of its steps. Where the file tells its bytes, they spell them.
+abbrev pub OfItsScript : {F : Type 0} → (F → Option (List ℕ)) → Option F → (List Step → Type 0) → Type 0
+OfItsScript remaining source is_so =
+    (source ≢ None)
+    × ((steps : List Step) × ((bytes : List ℕ) → Tells remaining source bytes → SpellsScript bytes steps) × is_so steps)
+
+-- what is refused where bytes spell no script
+abbrev pub script_refusal : ScriptFault → Refusal
+script_refusal (fault.Line number) = NoScript (RefusedLine number)
+script_refusal fault.Memory = OutOfMemory
+
+-- why a path gives no script: it can't be opened or read, or a line of its bytes spells no step; memory may run out
+-- once a file is open
+abbrev pub IsWhyNoScript : {F : Type 0} → (F → Option (List ℕ)) → Option F → List ℕ → Refusal → Type 0
+IsWhyNoScript remaining source path (NoScript (CannotOpen name)) = name.now ≡ path
+IsWhyNoScript remaining (Some file) path (NoScript (RefusedLine number)) =
+    (bytes : List ℕ) → remaining file ≡ Some bytes → IsRefusedAt bytes number
+IsWhyNoScript remaining (Some file) path OutOfMemory = ⊤
+IsWhyNoScript remaining source path why = ⊥
+
+-- the text of a replay: the register's path, then the script's, were opened, and the lines are those of a run
+abbrev pub IsReplayOf : {F : Type 0} → (List ℕ → Option F → Type 0) → (F → Option (List ℕ)) → List ℕ → List ℕ
+    → Locator → ℕ → List ℕ → Type 0
+IsReplayOf opens remaining register script me_ seed text =
+    (source : Option _) × opens register source × OfItsRegister remaining source (λ r.
+    (other : Option _) × opens script other × OfItsScript remaining other (λ steps. IsRunText r me_ seed steps text))
+
+-- why there is none: the register, then the script; memory may run out once the files are open
+abbrev pub IsWhyNotReplayed : {F : Type 0} → (List ℕ → Option F → Type 0) → (F → Option (List ℕ)) → List ℕ → List ℕ
+    → Refusal → Type 0
+IsWhyNotReplayed opens remaining register script why =
+    (source : Option _) × opens register source × (IsWhyNoRegister remaining source register why
+    ⊎ OfItsRegister remaining source (λ r. (other : Option _) × opens script other
+    × IsWhyNoScript remaining other script why))
+
+-- ---- the command
+
+-- the path of the script of a call
+abbrev pub script_path : Call → List ℕ
+script_path call = value (codes "script") call
+
+-- the first bad word of a call: the address, then the seed
+abbrev pub bad_replay : Call → Option WordRefusal
+bad_replay call = option_or (address_refusal (me_of call)) (number_refusal (seed_of call))
+
+-- what a call prints
+abbrev pub IsReplayText : {F : Type 0} → (List ℕ → Option F → Type 0) → (F → Option (List ℕ)) → Call → List ℕ
+    → Type 0
+IsReplayText opens remaining call text =
+    (me_ : Locator) × (seed : ℕ) × (me_of call ≡ Ok me_) × (seed_of call ≡ Some seed)
+    × IsReplayOf opens remaining (path call) (script_path call) me_ seed text
+
+-- why it refuses: its first bad word, else why there is no replay
+abbrev pub IsWhyNoReplay : {F : Type 0} → (List ℕ → Option F → Type 0) → (F → Option (List ℕ)) → Call → Refusal
+    → Type 0
+IsWhyNoReplay opens remaining call why =
+    ((w : WordRefusal) × (bad_replay call ≡ Some w) × (why ≡ BadWord w))
+    ⊎ ((bad_replay call ≡ None) × IsWhyNotReplayed opens remaining (path call) (script_path call) why)

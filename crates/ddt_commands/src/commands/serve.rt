@@ -1,0 +1,97 @@
+//! `ddt serve CONFIG ADDRESS TURNS`: a server of the configuration, at a loopback address, for so many turns.
+
+ghost use Rattle.std.specs.Prelude.{◌≡◌, Some, Ok, IfOk, IfErr, true};
+ghost use Rattle.std.specs.Fn.{FnReturnsAt};
+ghost use Rattle.ddt_words.specs.Call.{call_of};
+ghost use Rattle.ddt_commands.specs.Serve.{IsServeText, IsWhyNotServed, ServesOver, address_of, bad_serve, config_path, turns_of};
+ghost use Rattle.ddt_commands.specs.Sockets.{Binds};
+
+use crate::configuration::config_at;
+use crate::lines::Lines;
+use crate::loopback::is_loopback;
+use crate::refusal::{Refusal, ServerRefusal, WordRefusal};
+use crate::serving::serve_at;
+use ddt_path::Locator;
+use ddt_text::{parse_locator, read_number};
+use ddt_wires::Wires;
+use ddt_words::{Argument, Declaration, Words};
+use std::alloc::Global;
+use std::io;
+use std::io::Read;
+
+pub const WORDS: Declaration<'static> = Declaration {
+    name: "serve",
+    arguments: &[
+        Argument::One("config"),
+        Argument::One("address"),
+        Argument::One("turns"),
+    ],
+};
+
+/// The greatest number of turns.
+pub const MOST_TURNS: u64 = 4_294_967_295;
+
+/// The path of a configuration, and where and for how long its server serves.
+#[derive(Clone, Copy, Debug)]
+struct Serve<'a> {
+    config: &'a str,
+    at: Locator,
+    turns: u32,
+}
+
+impl<'a> Serve<'a> {
+    /// What the words ask for, or the first bad one.
+    fn of(words: &Words<'a>) -> Result<Serve<'a>, WordRefusal>
+        ensures path { IfOk result (λ serve. serve.config.now ≡ config_path (call_of words.now)) }
+        ensures address { IfOk result (λ serve. address_of (call_of words.now) ≡ Ok serve.at) }
+        ensures turns { IfOk result (λ serve. turns_of (call_of words.now) ≡ Some serve.turns) }
+        ensures bad { IfErr result (λ why. bad_serve (call_of words.now) ≡ Some why) }
+    {
+        let Ok(at) = parse_locator(words.value("address").as_bytes()) else {
+            return Err(WordRefusal::Address);
+        };
+        let Some(turns) = read_number(words.value("turns").as_bytes(), MOST_TURNS) else {
+            return Err(WordRefusal::Number);
+        };
+        Ok(Serve {
+            config: words.value("config"),
+            at,
+            turns: turns as u32,
+        })
+    }
+}
+
+/// The line of what a server received and replied, or why it doesn't serve: the words are looked at first, then
+/// whether the address is a loopback address; then the file is opened and read, a socket is bound, and the turns are
+/// taken. `open_file` gives a file, or None where it can't be opened; `bind` binds a socket of the wires to a locator.
+pub fn lines<'a, F, O, W, B>(
+    alloc: Global,
+    words: &Words<'a>,
+    open_file: O,
+    wires: &mut W,
+    bind: B,
+) -> Result<Lines, Refusal<'a>>
+where
+    F: Read + Drop,
+    O: Fn(&str) -> Option<F> + Drop,
+    W: Wires,
+    B: Fn(&mut W, Locator) -> io::Result<()> + Drop,
+    requires opens { O.IsAlwaysCallable open_file }
+    requires binds { B.IsAlwaysCallable bind }
+    ensures text { IfOk result (λ lines. IsServeText (FnReturnsAt O.Fn open_file) F.remaining
+        (ServesOver (Binds B.Fn bind) W.calls wires.old wires.new) (call_of words.now) lines.text.items) }
+    ensures complete { IfOk result (λ lines. lines.complete ≡ true) }
+    ensures refused { IfErr result (IsWhyNotServed (FnReturnsAt O.Fn open_file) F.remaining (wires.new ≡ wires.old)
+        (ServesOver (Binds B.Fn bind) W.calls wires.old wires.new) (call_of words.now)) }
+{
+    let asked = match Serve::of(words) {
+        Ok(asked) => asked,
+        Err(why) => return Err(Refusal::BadWord(why)),
+    };
+    if !is_loopback(asked.at) {
+        return Err(Refusal::NoServer(ServerRefusal::NotLoopback(asked.at)));
+    }
+    let config = config_at(alloc, open_file(asked.config), asked.config)?;
+    let line = serve_at(alloc, config, asked.at, asked.turns, wires, bind)?;
+    Ok(Lines::whole(line))
+}

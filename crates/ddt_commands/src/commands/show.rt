@@ -1,0 +1,93 @@
+//! `ddt show HEX`: what a datagram says, or the first fault in it.
+
+ghost use Rattle.std.specs.Prelude.{◌≡◌, ℕ, true, List, IfOk, IfErr, IsErr, Ok, MatchResult};
+ghost use Rattle.hex.specs.Hex.{decode_of};
+ghost use Rattle.ddt_words.specs.Call.{call_of};
+ghost use Rattle.ddt_commands.specs.Show.{IsMessageText, IsShowText, IsWhyNoReply, IsWhyNoReferral, IsWhyNoRequest, IsWhyNotShown, hex_refusal};
+
+use crate::lines::Lines;
+use crate::refusal::{MessageRefusal, Refusal};
+use ddt_ecm::read_request;
+use ddt_lines::{negative_reply_line, referral_line, request_line};
+use ddt_wire::{ENCAPSULATED, MAP_REFERRAL, MAP_REPLY, read_negative_reply, read_referral};
+use ddt_words::{Argument, Declaration, Words};
+use hex::FromHexError;
+use std::alloc::Global;
+
+pub const WORDS: Declaration<'static> = Declaration {
+    name: "show",
+    arguments: &[Argument::One("hex")],
+};
+
+/// The line of the message that the word spells in hexadecimal. Refusals: a word that is no hexadecimal text, an
+/// unknown type or no byte at all, the first fault of a message. It has no file to open.
+pub fn lines(alloc: Global, words: &Words<'_>) -> Result<Lines, Refusal<'static>>
+    ensures text { IfOk result (λ lines. IsShowText (call_of words.now) lines.text.items) }
+    ensures complete { IfOk result (λ lines. lines.complete ≡ true) }
+    ensures refused { IfErr result (IsWhyNotShown (call_of words.now)) }
+{
+    match message_text(alloc, words) {
+        Ok(text) => Ok(Lines::whole(text)),
+        Err(why) => Err(why),
+    }
+}
+
+/// The line of that message.
+fn message_text(alloc: Global, words: &Words<'_>) -> Result<Vec<u8>, Refusal<'static>>
+    ensures text { IfOk result (λ text. IsShowText (call_of words.now) text.items) }
+    ensures refused { IfErr result (IsWhyNotShown (call_of words.now)) }
+{
+    let bytes = match hex::decode(alloc, words.value("hex")) {
+        Ok(bytes) => bytes,
+        Err(fault) => return Err(undecoded(fault)),
+    };
+    match bytes.first().map(|byte| byte >> 4) {
+        Some(MAP_REPLY) => reply_in(alloc, &bytes),
+        Some(MAP_REFERRAL) => referral_in(alloc, &bytes),
+        Some(ENCAPSULATED) => request_in(alloc, &bytes),
+        _ => Err(Refusal::NoMessage(MessageRefusal::UnknownMessage)),
+    }
+}
+
+/// What is refused where a word isn't decoded: out of memory if that is why, else a word that isn't hexadecimal.
+fn undecoded(fault: FromHexError) -> Refusal<'static>
+    ensures { result ≡ hex_refusal fault }
+{
+    match fault {
+        FromHexError::OutOfMemory => Refusal::OutOfMemory,
+        _ => Refusal::NoMessage(MessageRefusal::NotHex),
+    }
+}
+
+/// The line of the negative Map-Reply that the bytes are.
+fn reply_in(alloc: Global, bytes: &[u8]) -> Result<Vec<u8>, Refusal<'static>>
+    ensures text { IfOk result (λ text. IsMessageText bytes.now text.items) }
+    ensures refused { IfErr result (IsWhyNoReply bytes.now) }
+{
+    match read_negative_reply(bytes) {
+        Ok(reply) => Ok(negative_reply_line(alloc, reply)?),
+        Err(fault) => Err(Refusal::NoMessage(MessageRefusal::NoReply(fault))),
+    }
+}
+
+/// The line of the Map-Referral that the bytes are.
+fn referral_in(alloc: Global, bytes: &[u8]) -> Result<Vec<u8>, Refusal<'static>>
+    ensures text { IfOk result (λ text. IsMessageText bytes.now text.items) }
+    ensures refused { IfErr result (IsWhyNoReferral bytes.now) }
+{
+    match read_referral(bytes) {
+        Ok(referral) => Ok(referral_line(alloc, &referral)?),
+        Err(fault) => Err(Refusal::NoMessage(MessageRefusal::NoReferral(fault))),
+    }
+}
+
+/// The line of the request that the bytes are.
+fn request_in(alloc: Global, bytes: &[u8]) -> Result<Vec<u8>, Refusal<'static>>
+    ensures text { IfOk result (λ text. IsMessageText bytes.now text.items) }
+    ensures refused { IfErr result (IsWhyNoRequest bytes.now) }
+{
+    match read_request(bytes) {
+        Ok(request) => Ok(request_line(alloc, &request)?),
+        Err(fault) => Err(Refusal::NoMessage(MessageRefusal::NoRequest(fault))),
+    }
+}

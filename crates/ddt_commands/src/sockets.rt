@@ -1,0 +1,51 @@
+//! The sockets that a command binds.
+
+ghost use Rattle.std.specs.Prelude.{◌≡◌, ◌∷◌, IfErr, OnOk};
+ghost use Rattle.std.specs.declared.io.Error.{Error};
+ghost use Rattle.std.specs.IoError.{error_kind};
+ghost use Rattle.ddt_path.specs.declared.locator.Locator.{Locator as ALocator};
+ghost use Rattle.ddt_commands.specs.Sockets.{AreBound, Binds, IsUnbound, bind_refusal};
+
+use crate::refusal::{Refusal, ServerRefusal};
+use ddt_path::Locator;
+use ddt_wires::Wires;
+use std::io;
+use std::io::ErrorKind;
+
+/// Binds a socket of the wires to the first locator, and then to each of the others, in their order. Refused where one
+/// can't be bound; then those behind it aren't tried.
+pub fn bind_all<W, B>(
+    wires: &mut W,
+    bind: B,
+    first: Locator,
+    others: &[Locator],
+) -> Result<(), Refusal<'static>>
+where
+    W: Wires,
+    B: Fn(&mut W, Locator) -> io::Result<()> + Drop,
+    requires { B.IsAlwaysCallable bind }
+    ensures bound { OnOk result (AreBound (Binds B.Fn bind) wires.old (first ∷ others.now) wires.new) }
+    ensures refused { IfErr result (λ why. (at : ALocator) × (error : Error)
+        × IsUnbound (Binds B.Fn bind) wires.old (first ∷ others.now) at error wires.new
+        × (why ≡ bind_refusal at (error_kind error))) }
+{
+    if let Err(error) = bind(wires, first) {
+        return Err(unbound(first, error.kind()));
+    }
+    for at in others {
+        if let Err(error) = bind(wires, *at) {
+            return Err(unbound(*at, error.kind()));
+        }
+    }
+    Ok(())
+}
+
+/// What is refused where a socket isn't bound, with an error of this kind.
+pub fn unbound(at: Locator, kind: ErrorKind) -> Refusal<'static>
+    ensures { result ≡ bind_refusal at kind }
+{
+    match kind {
+        ErrorKind::OutOfMemory => Refusal::OutOfMemory,
+        _ => Refusal::NoServer(ServerRefusal::CannotBind(at)),
+    }
+}

@@ -1,0 +1,13 @@
+//! The tests of a server's crates: `ddt_trie`, `ddt_hash`, `ddt_node` and `ddt_wires`.
+#![tactic(auto)]
+
+#[cfg(test)]
+mod callers;
+#[cfg(test)]
+mod hash;
+#[cfg(test)]
+mod node;
+#[cfg(test)]
+mod trie;
+#[cfg(test)]
+mod wires;

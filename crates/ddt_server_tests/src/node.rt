@@ -1,0 +1,323 @@
+//! Servers of worked configurations: their answers, and what they send for a datagram.
+
+use ddt_config::{ServerConfig, from_toml};
+use ddt_ecm::write_request;
+use ddt_examples::configurations::{EAST, NESTED_EAST, ROOT, SHARED_ROOT, TEN, TWO_ETRS};
+use ddt_examples::messages::{
+    DDT_REQUEST, EAST_ACKNOWLEDGES, EAST_HAS_NO_ETR, HOLE_OF_IPV6, IPV6_REQUEST, ITR_REQUEST,
+    ROOT_REFERS_TO_TEN, TEN_IS_NOT_IN_CHARGE,
+};
+use ddt_examples::{bytes_of, changed, front};
+use ddt_node::{Handled, Server, has_room_for};
+use ddt_path::{Action, Locator, LocatorSet, ReferralRecord};
+use ddt_text::{parse_prefix, parse_xeid};
+use ddt_trie::ListMap;
+use std::alloc::Global;
+use std::process::Abort;
+use std::test::Fail;
+
+type ListServer = Server<ListMap<u32>>;
+
+const RESOLVER: Locator = Locator::V4(0x7f00_0035);
+
+const ETR: Locator = Locator::V4(0x7f00_0201);
+
+const TEN_SERVER: Locator = Locator::V4(0x7f00_000a);
+
+fn server(alloc: Global, rt: &impl Abort, text: &str) -> Result<ListServer, Fail> {
+    let config = from_toml(alloc, text)?;
+    assert!(rt; has_room_for(&config));
+    Ok(Server::build(alloc, config).ok().ok_or("no memory")?)
+}
+
+/// What a server of the text does with a datagram.
+fn handled(alloc: Global, rt: &impl Abort, text: &str, bytes: &[u8]) -> Result<Handled, Fail> {
+    Ok(server(alloc, rt, text)?.handle(alloc, bytes)?)
+}
+
+/// What it does with a DDT Map-Request of nonce 1 for an identifier.
+fn asked(alloc: Global, rt: &impl Abort, text: &str, xeid: &str) -> Result<Handled, Fail> {
+    let request = write_request(alloc, 1, parse_xeid(xeid.as_bytes())?, &[RESOLVER], true)?;
+    handled(alloc, rt, text, request.as_slice())
+}
+
+fn reply(handled: &Handled) -> Option<&[u8]> {
+    match &handled.reply {
+        Some(bytes) => Some(bytes.as_slice()),
+        None => None,
+    }
+}
+
+fn is_ignored(handled: &Handled) -> bool {
+    handled.reply.is_none() && handled.forward.is_none()
+}
+
+/// Whether the reply to a datagram is this message.
+fn replies(
+    alloc: Global,
+    rt: &impl Abort,
+    text: &str,
+    request: &[u8],
+    wanted: &str,
+) -> Result<bool, Fail> {
+    let handled = handled(alloc, rt, text, request)?;
+    let wanted = bytes_of(alloc, wanted)?;
+    Ok(reply(&handled) == Some(wanted.as_slice()))
+}
+
+/// Whether these bytes are forwarded to an ETR.
+fn is_forwarded(handled: &Handled, to: Locator, bytes: &[u8]) -> bool {
+    match &handled.forward {
+        Some(forward) => forward.to == to && forward.bytes.as_slice() == bytes,
+        None => false,
+    }
+}
+
+/// Whether these bytes go on to an ETR where a datagram comes.
+fn forwards(
+    alloc: Global,
+    rt: &impl Abort,
+    text: &str,
+    request: &[u8],
+    to: Locator,
+    bytes: &[u8],
+) -> Result<bool, Fail> {
+    Ok(is_forwarded(&handled(alloc, rt, text, request)?, to, bytes))
+}
+
+/// Whether the reply to a datagram is this message, and nothing is forwarded.
+fn replies_alone(
+    alloc: Global,
+    rt: &impl Abort,
+    text: &str,
+    request: &[u8],
+    wanted: &str,
+) -> Result<bool, Fail> {
+    let is_alone = handled(alloc, rt, text, request)?.forward.is_none();
+    Ok(is_alone && replies(alloc, rt, text, request, wanted)?)
+}
+
+/// The same of a DDT Map-Request for an identifier.
+fn replies_to(
+    alloc: Global,
+    rt: &impl Abort,
+    text: &str,
+    xeid: &str,
+    wanted: &str,
+) -> Result<bool, Fail> {
+    let request = write_request(alloc, 1, parse_xeid(xeid.as_bytes())?, &[RESOLVER], true)?;
+    replies_alone(alloc, rt, text, request.as_slice(), wanted)
+}
+
+/// To where a DDT Map-Request for an identifier is forwarded.
+fn addressee(
+    alloc: Global,
+    rt: &impl Abort,
+    text: &str,
+    xeid: &str,
+) -> Result<Option<Locator>, Fail> {
+    match asked(alloc, rt, text, xeid)?.forward {
+        Some(forward) => Ok(Some(forward.to)),
+        None => Ok(None),
+    }
+}
+
+#[test]
+fn a_registered_site_is_acknowledged(rt: HostRuntime) -> Result<(), Fail> {
+    let request = bytes_of(rt.alloc(), DDT_REQUEST)?;
+    assert!(rt; replies(rt.alloc(), &rt, EAST, &request, EAST_ACKNOWLEDGES)?);
+    Ok(())
+}
+
+/// The first four bytes of a DDT Map-Request, and of what goes on to the ETR: the bit D is cleared, other bits stay.
+const FIRST_BYTES: [([u8; 4], [u8; 4]); 2] = [
+    ([0x84, 0, 0, 0], [0x80, 0, 0, 0]),
+    ([0x87, 0, 0, 0xff], [0x83, 0, 0, 0xff]),
+];
+
+/// A message behind other first bytes.
+fn behind(message: Vec<u8>, first: [u8; 4]) -> Vec<u8> {
+    changed(
+        message,
+        &[(0, first[0]), (1, first[1]), (2, first[2]), (3, first[3])],
+    )
+}
+
+/// Whether the request with these first bytes goes on to the site's ETR with those.
+fn goes_on(alloc: Global, rt: &impl Abort, first: [u8; 4], onward: [u8; 4]) -> Result<bool, Fail> {
+    let request = behind(bytes_of(alloc, DDT_REQUEST)?, first);
+    let wanted = behind(bytes_of(alloc, DDT_REQUEST)?, onward);
+    forwards(alloc, rt, EAST, &request, ETR, &wanted)
+}
+
+#[test]
+fn the_request_goes_to_its_etr_without_the_bit_d(rt: HostRuntime) -> Result<(), Fail> {
+    for (first, onward) in FIRST_BYTES {
+        assert!(rt; goes_on(rt.alloc(), &rt, first, onward)?, "{first:?}");
+    }
+    Ok(())
+}
+
+/// Configurations, identifiers, and the ETR that gets the request.
+const ADDRESSEES: [(&str, &str, Option<Locator>); 3] = [
+    (
+        TWO_ETRS,
+        "[7]2001:db8:1::9",
+        Some(Locator::V6(0x2001_0db8_0000_0000_0000_0000_0000_0002)),
+    ),
+    (NESTED_EAST, "[0]10.1.4.200", Some(Locator::V4(0x7f00_0202))),
+    (NESTED_EAST, "[0]10.1.2.65", None),
+];
+
+#[test]
+fn the_first_etr_of_the_longest_site_gets_the_request(rt: HostRuntime) -> Result<(), Fail> {
+    for (text, xeid, to) in ADDRESSEES {
+        assert!(rt; addressee(rt.alloc(), &rt, text, xeid)? == to, "{xeid}");
+    }
+    Ok(())
+}
+
+/// Configurations, identifiers, and the reply, beside which nothing is forwarded.
+const REPLIES: [(&str, &str, &str); 2] = [
+    (EAST, "[0]10.1.4.7", EAST_HAS_NO_ETR),
+    (TEN, "[0]11.0.0.1", TEN_IS_NOT_IN_CHARGE),
+];
+
+#[test]
+fn a_site_without_an_etr_and_what_is_outside_have_a_reply_alone(
+    rt: HostRuntime,
+) -> Result<(), Fail> {
+    for (text, xeid, wanted) in REPLIES {
+        assert!(rt; replies_to(rt.alloc(), &rt, text, xeid, wanted)?, "{xeid}");
+    }
+    Ok(())
+}
+
+#[test]
+fn root_refers_to_the_child(rt: HostRuntime) -> Result<(), Fail> {
+    let request = bytes_of(rt.alloc(), DDT_REQUEST)?;
+    assert!(rt; replies_alone(rt.alloc(), &rt, ROOT, &request, ROOT_REFERS_TO_TEN)?);
+    Ok(())
+}
+
+#[test]
+fn root_replies_a_hole_to_the_ipv6_request(rt: HostRuntime) -> Result<(), Fail> {
+    let request = bytes_of(rt.alloc(), IPV6_REQUEST)?;
+    assert!(rt; replies_alone(rt.alloc(), &rt, ROOT, &request, HOLE_OF_IPV6)?);
+    Ok(())
+}
+
+/// Whether neither the east nor the root sends anything for a datagram.
+fn is_ignored_by_both(alloc: Global, rt: &impl Abort, bytes: &[u8]) -> Result<bool, Fail> {
+    let east = is_ignored(&handled(alloc, rt, EAST, bytes)?);
+    Ok(east && is_ignored(&handled(alloc, rt, ROOT, bytes)?))
+}
+
+#[test]
+fn what_is_no_ddt_map_request_is_ignored(rt: HostRuntime) -> Result<(), Fail> {
+    let itr = bytes_of(rt.alloc(), ITR_REQUEST)?;
+    let referral = bytes_of(rt.alloc(), ROOT_REFERS_TO_TEN)?;
+    let request = bytes_of(rt.alloc(), DDT_REQUEST)?;
+    for bytes in [
+        itr.as_slice(),
+        referral.as_slice(),
+        front(&request, 59),
+        &[0x00],
+        &[],
+    ] {
+        assert!(rt; is_ignored_by_both(rt.alloc(), &rt, bytes)?, "{bytes:?}");
+    }
+    Ok(())
+}
+
+/// What a server of the text answers of an identifier.
+fn answer(alloc: Global, rt: &impl Abort, text: &str, xeid: &str) -> Result<ReferralRecord, Fail> {
+    Ok(server(alloc, rt, text)?.answer(parse_xeid(xeid.as_bytes())?))
+}
+
+/// The record of a hole.
+fn hole(prefix: &str) -> Result<ReferralRecord, Fail> {
+    Ok(ReferralRecord {
+        action: Action::DelegationHole,
+        prefix: parse_prefix(prefix.as_bytes())?,
+        ttl: 15,
+        incomplete: false,
+        servers: LocatorSet::none(),
+    })
+}
+
+/// Configurations, identifiers, and the prefix of the hole.
+const HOLES: [(&str, &str, &str); 7] = [
+    (TEN, "[0]10.2.0.1", "[0]10.2.0.0/15"),
+    (ROOT, "[0]11.0.0.1", "[0]11.0.0.0/8"),
+    (ROOT, "[1]10.1.2.3", "[1/32]*"),
+    (ROOT, "[2147483648]10.0.0.1", "[2147483648/1]*"),
+    (ROOT, "[0]2001:db8::1", "[0]::/0"),
+    (EAST, "[0]10.1.3.9", "[0]10.1.3.0/24"),
+    (SHARED_ROOT, "[0]10.1.2.3", "[0]10.1.0.0/16"),
+];
+
+#[test]
+fn holes_are_the_least_specific_inside_the_longest_authority(rt: HostRuntime) -> Result<(), Fail> {
+    for (text, xeid, prefix) in HOLES {
+        assert!(rt;
+            answer(rt.alloc(), &rt, text, xeid)? == hole(prefix)?,
+            "{xeid}"
+        );
+    }
+    Ok(())
+}
+
+/// Whether an answer has this action and this prefix.
+fn is_of(answer: &ReferralRecord, action: Action, prefix: &str) -> Result<bool, Fail> {
+    Ok(answer.action == action && answer.prefix == parse_prefix(prefix.as_bytes())?)
+}
+
+#[test]
+fn a_child_below_the_shorter_authority_is_still_referred_to(rt: HostRuntime) -> Result<(), Fail> {
+    let answer = answer(rt.alloc(), &rt, SHARED_ROOT, "[0]10.2.0.1")?;
+    let is_referral = is_of(&answer, Action::NodeReferral, "[0]10.0.0.0/8")?;
+    assert!(rt; is_referral && answer.servers.as_slice() == [TEN_SERVER].as_slice());
+    Ok(())
+}
+
+/// Identifiers under sites inside sites: the action and the prefix of the answer.
+const NESTED: [(&str, Action, &str); 5] = [
+    ("[0]10.1.2.3", Action::MsAck, "[0]10.1.2.0/24"),
+    ("[0]10.1.2.65", Action::MsNotRegistered, "[0]10.1.2.64/26"),
+    ("[0]10.1.4.5", Action::MsNotRegistered, "[0]10.1.4.0/25"),
+    ("[0]10.1.4.200", Action::MsAck, "[0]10.1.4.128/25"),
+    ("[0]10.1.3.9", Action::DelegationHole, "[0]10.1.3.0/24"),
+];
+
+#[test]
+fn of_sites_inside_sites_the_longest_decides(rt: HostRuntime) -> Result<(), Fail> {
+    for (xeid, action, prefix) in NESTED {
+        let answer = answer(rt.alloc(), &rt, NESTED_EAST, xeid)?;
+        assert!(rt; is_of(&answer, action, prefix)?, "{xeid}");
+    }
+    Ok(())
+}
+
+fn is_east(config: &ServerConfig) -> bool {
+    config.name.as_bytes() == b"east".as_slice() && config.authorities.as_slice().len() == 1
+}
+
+/// Under `rt try --test --fail-alloc N` one allocation is refused, of reading the text or of `build`.
+#[test]
+fn the_configuration_comes_back_where_memory_is_refused(rt: HostRuntime) -> Result<(), Fail> {
+    let config = match from_toml(rt.alloc(), EAST) {
+        Ok(config) => config,
+        Err(_refused) => from_toml(rt.alloc(), EAST)?,
+    };
+    assert!(rt; has_room_for(&config));
+    match Server::<ListMap<u32>>::build(rt.alloc(), config) {
+        Ok(east) => assert!(rt; is_east(east.config())),
+        Err(config) => {
+            assert!(rt; is_east(&config));
+            assert!(rt; has_room_for(&config));
+            assert!(rt; Server::<ListMap<u32>>::build(rt.alloc(), config).is_ok());
+        }
+    }
+    Ok(())
+}

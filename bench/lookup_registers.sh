@@ -9,6 +9,6 @@ copy=$(mktemp -d) || exit 1
 trap 'rm -rf -- "$copy"' EXIT
 tar -C "$top" --exclude=out -cf - crates.txt HANDLES crates | tar -C "$copy" -xf - || exit 1
 source=$copy/crates/ddt_sim/src
-rm -rf -- "$source/tests"
 cp -- "$top/bench/lookup_registers/tests.rt.in" "$source/tests.rt" || exit 1
+printf '\n#[cfg(test)]\nmod tests;\n' >>"$source/lib.rt" || exit 1
 cd -- "$copy/crates/ddt_sim" && rt try --test

@@ -1,0 +1,157 @@
+//! Wires in memory that hand what is sent to the socket that it is for.
+
+ghost use Rattle.std.specs.Prelude.{◌≤◌, length, IfOk, IfSome};
+
+use ddt_ecm::CONTROL_PORT;
+use ddt_path::{Listed, Locator};
+use ddt_wires::{NetFault, Packet, Waiting, Wires};
+use std::alloc::{AllocError, Global};
+
+/// A loopback network. What is sent to UDP port 4342 of an address waits at the socket there, from the socket that sent
+/// it; all that is sent is kept too. One call can be made to fail, which loses its datagram.
+#[derive(Drop)]
+pub struct Loopback {
+    alloc: Global,
+    waiting: Vec<Waiting>,
+    sent: Vec<Waiting>,
+    /// How many calls were made, and how many of them polled a socket.
+    made: u64,
+    polled: u64,
+    /// The number of the call that fails, the first being 1; with 0 none fails.
+    failing: u64,
+}
+
+/// A datagram with these bytes; None if out of memory.
+fn datagram(alloc: Global, at: Locator, from: Locator, port: u16, bytes: &[u8]) -> Option<Waiting> {
+    Some(Waiting {
+        at,
+        from,
+        port,
+        bytes: Listed::of(Vec::from_slice(alloc, bytes).ok()?),
+    })
+}
+
+impl Loopback {
+    /// A network at which nothing waits, whose call of this number fails.
+    pub fn new(alloc: Global, failing: u64) -> Loopback {
+        Loopback {
+            alloc,
+            waiting: Vec::new(alloc),
+            sent: Vec::new(alloc),
+            made: 0,
+            polled: 0,
+            failing,
+        }
+    }
+
+    /// Lets a datagram wait behind the others. Fails only if out of memory.
+    pub fn add(
+        &mut self,
+        at: Locator,
+        from: Locator,
+        port: u16,
+        bytes: &[u8],
+    ) -> Result<(), AllocError> {
+        let Some(datagram) = datagram(self.alloc, at, from, port, bytes) else {
+            return Err(AllocError);
+        };
+        self.waiting.push(datagram)?;
+        Ok(())
+    }
+
+    /// How many times a socket was polled.
+    pub fn polled(&self) -> u64 {
+        self.polled
+    }
+
+    /// How many calls were made.
+    pub fn made(&self) -> u64 {
+        self.made
+    }
+
+    /// How many datagrams went to an address and a port there.
+    pub fn count_to(&self, to: Locator, port: u16) -> usize {
+        self.sent
+            .as_slice()
+            .iter()
+            .filter(|d| d.at == to && d.port == port)
+            .count()
+    }
+
+    /// Whether these bytes went from an address to another, at a port there.
+    pub fn went(&self, from: Locator, to: Locator, port: u16, bytes: &[u8]) -> bool {
+        self.sent.as_slice().iter().any(|d| d.from == from
+            && d.at == to
+            && d.port == port
+            && d.bytes.as_slice() == bytes)
+    }
+
+    /// Counts a call; whether it fails.
+    fn fails(&mut self) -> bool {
+        self.made = self.made.saturating_add(1);
+        self.made == self.failing
+    }
+
+    /// Takes the first datagram that waits at a socket.
+    fn take_at(&mut self, at: Locator) -> Option<Waiting> {
+        let place = self.waiting.as_slice().iter().position(|w| w.at == at)?;
+        Some(self.waiting.remove(place))
+    }
+
+    /// Keeps what is sent, and lets it wait at its socket. Fails only if out of memory.
+    fn deliver(
+        &mut self,
+        at: Locator,
+        to: Locator,
+        port: u16,
+        bytes: &[u8],
+    ) -> Result<(), AllocError> {
+        let Some(sent) = datagram(self.alloc, to, at, port, bytes) else {
+            return Err(AllocError);
+        };
+        self.sent.push(sent)?;
+        if port == CONTROL_PORT {
+            self.add(to, at, CONTROL_PORT, bytes)?;
+        }
+        Ok(())
+    }
+}
+
+/// Puts a datagram at the front of the buffer. One that is longer than the buffer is lost.
+fn put(datagram: Waiting, buffer: &mut [u8]) -> Result<Option<Packet>, NetFault>
+    ensures { IfOk result (λ answer. IfSome answer (λ packet. packet.len ≤ length buffer.new)) }
+{
+    let bytes = datagram.bytes.as_slice();
+    let len = bytes.len();
+    if len > buffer.len() {
+        return Err(NetFault::Receive);
+    }
+    buffer[..len].copy_from_slice(bytes);
+    Ok(Some(Packet {
+        from: datagram.from,
+        port: datagram.port,
+        len,
+    }))
+}
+
+impl Wires for Loopback {
+    fn receive(&mut self, at: Locator, buffer: &mut [u8]) -> Result<Option<Packet>, NetFault> {
+        self.polled = self.polled.saturating_add(1);
+        let fails = self.fails();
+        match self.take_at(at) {
+            _ if fails => Err(NetFault::Receive),
+            Some(datagram) => put(datagram, buffer),
+            None => Ok(None),
+        }
+    }
+
+    fn send(&mut self, at: Locator, to: Locator, port: u16, bytes: &[u8]) -> Result<(), NetFault> {
+        if self.fails() {
+            return Err(NetFault::Send);
+        }
+        match self.deliver(at, to, port, bytes) {
+            Ok(()) => Ok(()),
+            Err(_refused) => Err(NetFault::Send),
+        }
+    }
+}

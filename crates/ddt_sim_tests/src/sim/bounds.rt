@@ -1,0 +1,116 @@
+//! The longest lookup that servers can keep busy: it has just as many hops as `lookup` allows, 16 for each digit of the
+//! identifier and 32 more.
+
+use super::liars::{Liars, Said, Way, record};
+use super::texts::{identifier, locator, outcome_text};
+use super::worlds::{ListResolver, ROOT, found, judge_text, moment, rooted};
+use ddt_path::Action;
+use ddt_resolver::Heard;
+use ddt_sim::Lookup;
+use ddt_wire::write_referral;
+use std::alloc::Global;
+use std::process::Abort;
+use std::test::Fail;
+
+/// Eight servers.
+pub const EIGHT: &[&str] = &[
+    "127.0.0.1",
+    "127.0.0.2",
+    "127.0.0.3",
+    "127.0.0.4",
+    "127.0.0.5",
+    "127.0.0.6",
+    "127.0.0.7",
+    "127.0.0.8",
+];
+
+/// A lookup by a resolver that remembers a referral of the root to eight servers, from a lookup that is still pending.
+struct Case {
+    says: &'static str,
+    referral: &'static [Said],
+    pending: &'static str,
+    identifier: &'static str,
+    ends: &'static str,
+}
+
+const LONGEST: &[Case] = &[
+    Case {
+        says: "IPv4",
+        referral: &[Said(Action::NodeReferral, "[0]10.0.0.0/8", 1440, EIGHT)],
+        pending: "[0]10.2.0.1",
+        identifier: "[0]10.1.2.3",
+        ends: "not-registered [0]10.1.2.3/32 after 1072 hops",
+    },
+    Case {
+        says: "IPv6",
+        referral: &[Said(Action::NodeReferral, "[0]2001:db8::/32", 1440, EIGHT)],
+        pending: "[0]2001:db8::",
+        identifier: "[0]2001:db8::1",
+        ends: "not-registered [0]2001:db8::1/128 after 2608 hops",
+    },
+];
+
+/// The root's reply of nonce 1 with a record.
+fn reply(alloc: Global, said: &[Said]) -> Result<Vec<u8>, Fail> {
+    let [said] = said else {
+        return Err("not one record".into());
+    };
+    let told = record(alloc, said)?;
+    Ok(write_referral(alloc, 1, &told)?)
+}
+
+/// Whether a lookup of this identifier follows this reply of the root. It stays pending.
+fn follows(resolver: &mut ListResolver, text: &str, reply: &[u8]) -> Result<bool, Fail> {
+    let (now, root, x) = (moment(0)?, locator(ROOT)?, identifier(text)?);
+    let is_asked = resolver.ask(now, x).is_ok();
+    let heard = resolver.datagram(now, root, reply)?;
+    Ok(is_asked && is_followed(&heard))
+}
+
+fn is_followed(heard: &Heard) -> bool {
+    match heard {
+        Heard::Followed(_ticket, _request) => true,
+        _ => false,
+    }
+}
+
+/// A resolver that remembers the referral.
+fn remembering(alloc: Global, case: &Case) -> Result<ListResolver, Fail> {
+    let reply = reply(alloc, case.referral)?;
+    let mut resolver = rooted(alloc, EIGHT)?;
+    if follows(&mut resolver, case.pending, &reply)? {
+        Ok(resolver)
+    } else {
+        Err("not followed".into())
+    }
+}
+
+/// The outcome of a lookup and how many hops it has.
+fn counted(alloc: Global, lookup: &Lookup) -> Result<String, Fail> {
+    let outcome = outcome_text(alloc, &lookup.outcome)?;
+    let hops = lookup.hops.as_slice().len();
+    Ok(format!(in alloc; "{outcome} after {hops} hops")?)
+}
+
+/// The longest lookup of a case.
+fn longest(alloc: Global, case: &Case) -> Result<Lookup, Fail> {
+    let mut servers = Liars::new(alloc, Way::Longest, case.referral)?;
+    let mut resolver = remembering(alloc, case)?;
+    found(alloc, &mut servers, &mut resolver, 0, case.identifier)
+}
+
+/// Judges the longest lookup of a case.
+fn judge(rt: &impl Abort, alloc: Global, case: &Case) -> Result<(), Fail> {
+    let lookup = longest(alloc, case)?;
+    let counted = counted(alloc, &lookup)?;
+    judge_text(rt, case.says, &counted, case.ends);
+    Ok(())
+}
+
+#[test]
+fn the_longest_lookups_have_as_many_hops_as_are_allowed(rt: HostRuntime) -> Result<(), Fail> {
+    for case in LONGEST {
+        judge(&rt, rt.alloc(), case)?;
+    }
+    Ok(())
+}

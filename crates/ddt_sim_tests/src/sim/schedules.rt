@@ -1,0 +1,349 @@
+//! Schedules over the servers of a register: each step with what it tells.
+
+use super::texts::{identifier, locator_text, outcome_text};
+use super::worlds::{ListResolver, ROOT, judge_number, judge_text, rooted, served};
+use ddt_cache::Entry;
+use ddt_examples::registers::{CAMPUS, LONE_ROOT};
+use ddt_path::Outcome;
+use ddt_resolver::{Asked, Heard, Ignored, Outgoing, Resolver, Ticked, Ticket, Why};
+use ddt_sim::{Compiled, Datagram, Event, Step, Transcript, run};
+use ddt_trie::{ListMap, PrefixMap};
+use std::alloc::Global;
+use std::process::Abort;
+use std::test::Fail;
+
+/// A step; the identifier that is asked for is a text.
+#[derive(Clone, Copy)]
+pub enum Act {
+    Ask(&'static str),
+    Deliver(u64),
+    Pass(u64),
+    Tick,
+}
+
+/// Steps, each with what it tells. An answer at once has no ticket.
+type Lines = &'static [(Act, &'static str)];
+
+const A_HOLE_ENDS: Lines = &[
+    (Act::Ask("[0]10.2.0.1"), "ticket 1 asks 127.0.0.1"),
+    (Act::Deliver(0), "reply 1"),
+    (Act::Deliver(1), "ticket 1 asks 127.0.0.10"),
+    (Act::Deliver(2), "reply 3"),
+    (Act::Deliver(3), "ticket 1 answer hole [0]10.2.0.0/15"),
+    (Act::Pass(60_000), "now 60000"),
+    (Act::Ask("[0]10.2.0.1"), "answer hole [0]10.2.0.0/15"),
+    (Act::Pass(840_000), "now 900000"),
+    (Act::Ask("[0]10.2.0.1"), "ticket 3 asks 127.0.0.10"),
+];
+
+/// Two lookups, whose datagrams come out of order, late and twice.
+pub const SIDE_BY_SIDE: Lines = &[
+    (Act::Ask("[0]10.1.2.3"), "ticket 1 asks 127.0.0.1"),
+    (Act::Ask("[0]10.2.0.1"), "ticket 2 asks 127.0.0.1"),
+    (Act::Deliver(0), "reply 2"),
+    (Act::Deliver(1), "reply 3"),
+    (Act::Deliver(3), "ticket 2 asks 127.0.0.10"),
+    (Act::Deliver(2), "ticket 1 asks 127.0.0.10"),
+    (Act::Deliver(2), "ignored 2 UnknownNonce"),
+    (Act::Deliver(4), "reply 6"),
+    (Act::Deliver(6), "ticket 2 answer hole [0]10.2.0.0/15"),
+    (Act::Deliver(6), "ignored 2 UnknownNonce"),
+    (Act::Pass(2_000), "now 2000"),
+    (Act::Deliver(5), "reply 7"),
+    (Act::Deliver(7), "ignored 4 Late"),
+    (Act::Tick, "ticket 1 asks 127.0.0.10"),
+    (Act::Deliver(7), "ignored 2 UnknownNonce"),
+    (Act::Tick, "nothing"),
+    (Act::Deliver(8), "reply 9"),
+    (Act::Deliver(9), "ticket 1 asks 127.0.1.1"),
+    (Act::Deliver(10), "reply 11"),
+    (
+        Act::Deliver(11),
+        "ticket 1 answer registered [0]10.1.2.0/24 127.0.1.1 127.0.1.2",
+    ),
+    (Act::Ask("[0]10.2.5.5"), "answer hole [0]10.2.0.0/15"),
+    (Act::Deliver(99), "nothing"),
+];
+
+const TWO_TRIES: Lines = &[
+    (Act::Ask("[0]1.1.1.1"), "ticket 1 asks 127.0.0.1"),
+    (Act::Pass(2_000), "now 2000"),
+    (Act::Tick, "ticket 1 asks 127.0.0.1"),
+    (Act::Pass(2_000), "now 4000"),
+    (Act::Tick, "ticket 1 gave up 1 NoReply"),
+];
+
+const A_KEPT_ANSWER: Lines = &[
+    (Act::Ask("[0]10.1.4.7"), "ticket 1 asks 127.0.0.1"),
+    (Act::Deliver(0), "reply 1"),
+    (Act::Deliver(1), "ticket 1 asks 127.0.0.10"),
+    (Act::Deliver(2), "reply 3"),
+    (Act::Deliver(3), "ticket 1 asks 127.0.1.1"),
+    (Act::Deliver(4), "reply 5"),
+    (Act::Deliver(5), "ticket 1 asks 127.0.1.2"),
+    (Act::Pass(2_000), "now 2000"),
+    (Act::Tick, "ticket 1 asks 127.0.1.2"),
+    (Act::Pass(2_000), "now 4000"),
+    (
+        Act::Tick,
+        "ticket 1 answer not-registered [0]10.1.4.0/24 127.0.1.1 127.0.1.2",
+    ),
+    (Act::Ask("[0]10.1.4.7"), "ticket 6 asks 127.0.1.1"),
+];
+
+const ONE_HOLE: Lines = &[
+    (Act::Ask("[0]11.0.0.1"), "ticket 1 asks 127.0.0.1"),
+    (Act::Deliver(0), "reply 1"),
+    (Act::Deliver(1), "ticket 1 answer hole [0]11.0.0.0/8"),
+];
+
+/// A schedule over the servers of a register.
+struct Schedule {
+    says: &'static str,
+    register: &'static str,
+    lines: Lines,
+}
+
+const SCHEDULES: &[Schedule] = &[
+    Schedule {
+        says: "a hole ends and the referral lives",
+        register: CAMPUS,
+        lines: A_HOLE_ENDS,
+    },
+    Schedule {
+        says: "two lookups go on side by side",
+        register: CAMPUS,
+        lines: SIDE_BY_SIDE,
+    },
+    Schedule {
+        says: "two tries without a reply end a lookup",
+        register: LONE_ROOT,
+        lines: TWO_TRIES,
+    },
+    Schedule {
+        says: "a kept answer is given and not remembered",
+        register: CAMPUS,
+        lines: A_KEPT_ANSWER,
+    },
+    Schedule {
+        says: "one hole",
+        register: CAMPUS,
+        lines: ONE_HOLE,
+    },
+];
+
+/// The datagrams of `ONE_HOLE`.
+const OF_ONE_HOLE: &[&str] = &[
+    "request from 127.0.0.53 to 127.0.0.1",
+    "reply from 127.0.0.1 to 127.0.0.53",
+];
+
+fn step_of(act: Act) -> Result<Step, Fail> {
+    Ok(match act {
+        Act::Ask(text) => Step::Ask(identifier(text)?),
+        Act::Deliver(number) => Step::Deliver(number),
+        Act::Pass(millis) => Step::Pass(millis),
+        Act::Tick => Step::Tick,
+    })
+}
+
+/// The steps of these lines.
+fn steps_of(alloc: Global, lines: Lines) -> Result<Vec<Step>, Fail> {
+    let mut steps = Vec::new(alloc);
+    for (act, _told) in lines {
+        steps.push(step_of(*act)?)?;
+    }
+    Ok(steps)
+}
+
+/// The transcript of these lines over the servers of a register.
+fn played<S: PrefixMap<u32>, M: PrefixMap<Entry>>(
+    alloc: Global,
+    register: &str,
+    resolver: &mut Resolver<M>,
+    lines: Lines,
+) -> Result<Transcript, Fail> {
+    let steps = steps_of(alloc, lines)?;
+    let mut servers: Compiled<S> = served(alloc, register)?;
+    Ok(run(alloc, &mut servers, resolver, &steps)?)
+}
+
+/// The same by a new resolver.
+pub fn played_anew<S: PrefixMap<u32>, M: PrefixMap<Entry>>(
+    alloc: Global,
+    register: &str,
+    lines: Lines,
+) -> Result<Transcript, Fail> {
+    let mut resolver: Resolver<M> = rooted(alloc, &[ROOT])?;
+    played::<S, M>(alloc, register, &mut resolver, lines)
+}
+
+/// The same over lists.
+fn transcript(alloc: Global, register: &str, lines: Lines) -> Result<Transcript, Fail> {
+    played_anew::<ListMap<u32>, ListMap<Entry>>(alloc, register, lines)
+}
+
+/// How many lookups are pending after these lines.
+fn pending_after(alloc: Global, register: &str, lines: Lines) -> Result<usize, Fail> {
+    let mut resolver: ListResolver = rooted(alloc, &[ROOT])?;
+    let _transcript = played::<ListMap<u32>, ListMap<Entry>>(
+        alloc,
+        register,
+        &mut resolver,
+        lines,
+    )?;
+    Ok(resolver.pending())
+}
+
+fn request_text(alloc: Global, ticket: Ticket, request: &Outgoing) -> Result<String, Fail> {
+    let ticket = ticket.number();
+    let to = locator_text(alloc, request.to)?;
+    Ok(format!(in alloc; "ticket {ticket} asks {to}")?)
+}
+
+fn answer_text(alloc: Global, ticket: Ticket, outcome: &Outcome) -> Result<String, Fail> {
+    let ticket = ticket.number();
+    let outcome = outcome_text(alloc, outcome)?;
+    Ok(format!(in alloc; "ticket {ticket} answer {outcome}")?)
+}
+
+fn end_text(alloc: Global, ticket: Ticket, why: Why) -> Result<String, Fail> {
+    let ticket = ticket.number();
+    Ok(format!(in alloc; "ticket {ticket} gave up {why}")?)
+}
+
+fn ignored_text(alloc: Global, why: Ignored) -> Result<String, Fail> {
+    Ok(format!(in alloc; "ignored {why}")?)
+}
+
+fn number_text(alloc: Global, word: &str, number: u64) -> Result<String, Fail> {
+    Ok(format!(in alloc; "{word} {number}")?)
+}
+
+fn plain_text(alloc: Global, word: &str) -> Result<String, Fail> {
+    Ok(format!(in alloc; "{word}")?)
+}
+
+/// What an event tells, without the bytes of a request.
+fn event_text(alloc: Global, event: &Event) -> Result<String, Fail> {
+    match event {
+        Event::Asked(asked) => asked_text(alloc, asked),
+        Event::Refused(_) => plain_text(alloc, "refused"),
+        Event::Replied(number) => number_text(alloc, "reply", *number),
+        Event::Silent => plain_text(alloc, "silent"),
+        Event::Passed(moment) => number_text(alloc, "now", moment.millis()),
+        Event::Heard(heard) => heard_text(alloc, heard),
+        Event::Ticked(ticked) => ticked_text(alloc, ticked),
+        Event::Nothing => plain_text(alloc, "nothing"),
+    }
+}
+
+fn asked_text(alloc: Global, asked: &Asked) -> Result<String, Fail> {
+    match asked {
+        Asked::Answer(outcome) => {
+            let outcome = outcome_text(alloc, outcome)?;
+            Ok(format!(in alloc; "answer {outcome}")?)
+        }
+        Asked::Sent(ticket, request) => request_text(alloc, *ticket, request),
+    }
+}
+
+fn heard_text(alloc: Global, heard: &Heard) -> Result<String, Fail> {
+    match heard {
+        Heard::Ignored(why) => ignored_text(alloc, *why),
+        Heard::Followed(ticket, request) => request_text(alloc, *ticket, request),
+        Heard::Answer(ticket, outcome) => answer_text(alloc, *ticket, outcome),
+        Heard::GaveUp(ticket, why) => end_text(alloc, *ticket, *why),
+    }
+}
+
+fn ticked_text(alloc: Global, ticked: &Ticked) -> Result<String, Fail> {
+    match ticked {
+        Ticked::Nothing => plain_text(alloc, "nothing"),
+        Ticked::Sent(ticket, request) => request_text(alloc, *ticket, request),
+        Ticked::Answer(ticket, outcome) => answer_text(alloc, *ticket, outcome),
+        Ticked::GaveUp(ticket, why) => end_text(alloc, *ticket, *why),
+    }
+}
+
+/// Judges an event.
+fn judge_event(
+    rt: &impl Abort,
+    alloc: Global,
+    says: &str,
+    event: &Event,
+    wanted: &str,
+) -> Result<(), Fail> {
+    let told = event_text(alloc, event)?;
+    judge_text(rt, says, &told, wanted);
+    Ok(())
+}
+
+/// Judges each event of a schedule.
+fn judge_events(
+    rt: &impl Abort,
+    alloc: Global,
+    schedule: &Schedule,
+    events: &[Event],
+) -> Result<(), Fail> {
+    judge_number(rt, schedule.says, events.len(), schedule.lines.len());
+    for (event, line) in events.iter().zip(schedule.lines.iter()) {
+        judge_event(rt, alloc, schedule.says, event, line.1)?;
+    }
+    Ok(())
+}
+
+/// Plays a schedule and judges it.
+fn judge(rt: &impl Abort, alloc: Global, schedule: &Schedule) -> Result<(), Fail> {
+    let transcript = transcript(alloc, schedule.register, schedule.lines)?;
+    judge_events(rt, alloc, schedule, transcript.events.as_slice())
+}
+
+#[test]
+fn each_step_tells_what_comes_of_it(rt: HostRuntime) -> Result<(), Fail> {
+    for schedule in SCHEDULES {
+        judge(&rt, rt.alloc(), schedule)?;
+    }
+    Ok(())
+}
+
+/// Who sent a datagram to whom.
+fn way_text(alloc: Global, datagram: &Datagram) -> Result<String, Fail> {
+    let word = if datagram.is_reply {
+        "reply"
+    } else {
+        "request"
+    };
+    let source = locator_text(alloc, datagram.source)?;
+    let to = locator_text(alloc, datagram.to)?;
+    Ok(format!(in alloc; "{word} from {source} to {to}")?)
+}
+
+/// Judges a datagram.
+fn judge_datagram(
+    rt: &impl Abort,
+    alloc: Global,
+    datagram: &Datagram,
+    wanted: &str,
+) -> Result<(), Fail> {
+    let way = way_text(alloc, datagram)?;
+    judge_text(rt, "one hole", &way, wanted);
+    Ok(())
+}
+
+/// Judges all datagrams.
+fn judge_datagrams(rt: &impl Abort, alloc: Global, sent: &[Datagram]) -> Result<(), Fail> {
+    judge_number(rt, "one hole", sent.len(), OF_ONE_HOLE.len());
+    for (datagram, wanted) in sent.iter().zip(OF_ONE_HOLE.iter()) {
+        judge_datagram(rt, alloc, datagram, wanted)?;
+    }
+    Ok(())
+}
+
+#[test]
+fn the_datagrams_of_a_schedule_are_kept_in_order(rt: HostRuntime) -> Result<(), Fail> {
+    let pending = pending_after(rt.alloc(), CAMPUS, ONE_HOLE)?;
+    judge_number(&rt, "one hole", pending, 0);
+    let transcript = transcript(rt.alloc(), CAMPUS, ONE_HOLE)?;
+    judge_datagrams(&rt, rt.alloc(), transcript.sent.as_slice())
+}

@@ -11,7 +11,7 @@ copy=$(mktemp -d) || exit 1
 trap 'rm -rf -- "$copy"' EXIT
 tar -C "$top" --exclude=out -cf - crates.txt HANDLES crates | tar -C "$copy" -xf - || exit 1
 source=$copy/crates/ddt_resolver/src
-rm -rf -- "$source/tests"
+printf '\n#[cfg(test)]\nmod tests;\n' >>"$source/lib.rt" || exit 1
 mkdir -p -- "$source/tests" && cp -- "$top/bench/mutated_referrals/tests.rt.in" "$source/tests.rt" || exit 1
 cp -- "$top/bench/resolver_schedules/plain.rt.in" "$source/tests/plain.rt" || exit 1
 for part in reading harness; do

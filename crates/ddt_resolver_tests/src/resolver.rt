@@ -1,0 +1,12 @@
+//! Worked calls on a resolver: each is written as a line and compared. Random schedules beside a plain resolver stand in
+//! `bench/resolver_schedules`.
+//!
+//! In reading order: `lines`, `calls`, `replies`, `limits`, `crowded`, `refusals`; `itr_side` is what ITRs see.
+
+mod calls;
+mod crowded;
+mod itr_side;
+mod limits;
+mod lines;
+mod refusals;
+mod replies;

@@ -1,0 +1,163 @@
+//! Calls on a resolver as rows of a table, each with the line that it is to give and how many lookups are pending then.
+
+use super::lines::{asked_text, heard_text, ticked_text};
+use ddt_cache::Entry;
+use ddt_path::{Action, Locator, LocatorSet, ReferralRecord};
+use ddt_resolver::{Moment, Resolver};
+use ddt_text::{parse_prefix, parse_xeid};
+use ddt_trie::ListMap;
+use ddt_wire::write_referral;
+use std::alloc::Global;
+use std::process::Abort;
+use std::test::Fail;
+
+pub type ListResolver = Resolver<ListMap<Entry>>;
+
+/// The resolver's own address.
+const ME: Locator = Locator::V4(0x7f00_0035);
+
+pub const ROOT: Locator = Locator::V4(0x7f00_0001);
+
+pub const TEN: Locator = Locator::V4(0x7f00_000a);
+
+/// What a Map-Referral says; the prefix is a text. Its TTL is a day.
+#[derive(Clone, Copy)]
+pub struct Told {
+    pub action: Action,
+    pub prefix: &'static str,
+    pub servers: &'static [Locator],
+}
+
+/// The referral of 10.0.0.0/8 to 127.0.0.10.
+pub const TO_TEN: Told = Told {
+    action: Action::NodeReferral,
+    prefix: "[0]10.0.0.0/8",
+    servers: &[TEN],
+};
+
+/// A server that isn't in charge of the worked identifier.
+pub const NOT_IN_CHARGE: Told = Told {
+    action: Action::NotAuthoritative,
+    prefix: "[0]10.1.2.3/32",
+    servers: &[],
+};
+
+/// A call.
+#[derive(Clone, Copy)]
+pub enum Call {
+    /// An ask for the identifier of a text.
+    Ask(&'static str),
+    /// A Map-Referral from a source under a nonce.
+    Hear(Locator, u64, Told),
+    /// The same without its last byte.
+    HearCut(Locator, u64, Told),
+    Tick,
+}
+
+/// A call at a moment, in milliseconds, the line that it gives, and how many lookups are pending then.
+pub type Step = (u64, Call, &'static str, usize);
+
+/// The moment of so many milliseconds.
+pub fn at(millis: u64) -> Result<Moment, Fail> {
+    match Moment::at(millis) {
+        Some(moment) => Ok(moment),
+        None => Err("past the last moment".into()),
+    }
+}
+
+/// A set of these locators.
+fn set(locators: &[Locator]) -> Result<LocatorSet, Fail> {
+    match LocatorSet::of(locators) {
+        Some(set) => Ok(set),
+        None => Err("too many locators".into()),
+    }
+}
+
+/// A resolver at 127.0.0.53 whose root's server is 127.0.0.1.
+pub fn rooted(alloc: Global, seed: u64) -> Result<ListResolver, Fail> {
+    let roots = set(&[ROOT])?;
+    match roots.as_slice() {
+        [] => Err("no root".into()),
+        _ => Ok(Resolver::new(alloc, roots, ME, seed)),
+    }
+}
+
+/// The bytes of a Map-Referral.
+pub fn referral_bytes(alloc: Global, nonce: u64, told: &Told) -> Result<Vec<u8>, Fail> {
+    let record = ReferralRecord {
+        action: told.action,
+        prefix: parse_prefix(told.prefix.as_bytes())?,
+        ttl: 1440,
+        incomplete: false,
+        servers: set(told.servers)?,
+    };
+    Ok(write_referral(alloc, nonce, &record)?)
+}
+
+pub fn ask(
+    alloc: Global,
+    resolver: &mut ListResolver,
+    millis: u64,
+    identifier: &str,
+) -> Result<String, Fail> {
+    let x = parse_xeid(identifier.as_bytes())?;
+    asked_text(alloc, &resolver.ask(at(millis)?, x))
+}
+
+pub fn hear(
+    alloc: Global,
+    resolver: &mut ListResolver,
+    millis: u64,
+    from: Locator,
+    bytes: &[u8],
+) -> Result<String, Fail> {
+    let heard = resolver.datagram(at(millis)?, from, bytes)?;
+    heard_text(alloc, &heard)
+}
+
+pub fn tick(alloc: Global, resolver: &mut ListResolver, millis: u64) -> Result<String, Fail> {
+    let ticked = resolver.tick(at(millis)?)?;
+    ticked_text(alloc, &ticked)
+}
+
+/// Makes a call, and answers its line.
+pub fn made(
+    alloc: Global,
+    resolver: &mut ListResolver,
+    millis: u64,
+    call: &Call,
+) -> Result<String, Fail> {
+    match call {
+        Call::Ask(identifier) => ask(alloc, resolver, millis, identifier),
+        Call::Hear(from, nonce, told) => {
+            let bytes = referral_bytes(alloc, *nonce, told)?;
+            hear(alloc, resolver, millis, *from, bytes.as_slice())
+        }
+        Call::HearCut(from, nonce, told) => {
+            let mut bytes = referral_bytes(alloc, *nonce, told)?;
+            let _last = bytes.pop();
+            hear(alloc, resolver, millis, *from, bytes.as_slice())
+        }
+        Call::Tick => tick(alloc, resolver, millis),
+    }
+}
+
+/// Makes the calls of a table in their order; each is to give its line.
+pub fn plays(
+    alloc: Global,
+    rt: &impl Abort,
+    resolver: &mut ListResolver,
+    name: &str,
+    steps: &[Step],
+) -> Result<(), Fail> {
+    for (millis, call, line, pending) in steps {
+        let given = made(alloc, resolver, *millis, call)?;
+        assert_eq!(rt; given.as_str(), *line, "{name}");
+        assert_eq!(rt;
+            resolver.pending(),
+            *pending,
+            "{name}: pending after {line}"
+        );
+    }
+    Ok(())
+}

@@ -1,0 +1,407 @@
+//! Replies to a lookup that waits for 127.0.0.10. Each case begins with a resolver of its own.
+
+use super::calls::{
+    Call, ListResolver, NOT_IN_CHARGE, ROOT, Step, TEN, TO_TEN, Told, hear, plays, referral_bytes,
+    rooted,
+};
+use ddt_path::{Action, Locator};
+use std::alloc::Global;
+use std::process::Abort;
+use std::test::Fail;
+
+/// A lookup of 10.1.2.3 follows the root's referral of 10.0.0.0/8, and asks 127.0.0.10 with the nonce 2 at moment 0.
+const WAITING: &[Step] = &[
+    (
+        0,
+        Call::Ask("[0]10.1.2.3"),
+        "ticket 1 asks 127.0.0.1 for [0]10.1.2.3, nonce 1",
+        1,
+    ),
+    (
+        0,
+        Call::Hear(ROOT, 1, TO_TEN),
+        "ticket 1 asks 127.0.0.10 for [0]10.1.2.3, nonce 2",
+        1,
+    ),
+];
+
+/// A resolver with that lookup.
+pub fn waiting(alloc: Global, rt: &impl Abort) -> Result<ListResolver, Fail> {
+    let mut resolver = rooted(alloc, 1)?;
+    plays(alloc, rt, &mut resolver, "the lookup begins", WAITING)?;
+    Ok(resolver)
+}
+
+/// A referral to a longer prefix than that of `TO_TEN`.
+const BELOW_TEN: Told = Told {
+    action: Action::NodeReferral,
+    prefix: "[0]10.0.0.0/9",
+    servers: &[ROOT],
+};
+
+const TO_ELEVEN: Told = Told {
+    action: Action::NodeReferral,
+    prefix: "[0]11.0.0.0/8",
+    servers: &[TEN],
+};
+
+const TO_NO_SERVER: Told = Told {
+    action: Action::NodeReferral,
+    prefix: "[0]10.0.0.0/8",
+    servers: &[],
+};
+
+/// Where nobody answers, the one server of the set is asked once more, from moment 2000 on, and then the lookup ends.
+const IN_SILENCE: &[Step] = &[
+    (
+        2000,
+        Call::Tick,
+        "ticket 1 asks 127.0.0.10 for [0]10.1.2.3, nonce 3",
+        1,
+    ),
+    (2000, Call::Tick, "nothing", 1),
+    (3999, Call::Tick, "nothing", 1),
+    (4000, Call::Tick, "ticket 1 gave up 1 NoReply", 0),
+];
+
+/// The lookup has saved 10.0.0.0/8, for a referral to it is a loop.
+const TOLD_AGAIN: &[Step] = &[
+    (
+        2000,
+        Call::Tick,
+        "ticket 1 asks 127.0.0.10 for [0]10.1.2.3, nonce 3",
+        1,
+    ),
+    (
+        2000,
+        Call::Hear(TEN, 3, TO_TEN),
+        "ticket 1 gave up 2 Loop",
+        0,
+    ),
+];
+
+/// It has saved no longer prefix, for a referral to 10.0.0.0/9 is followed.
+const TOLD_OF_MORE: &[Step] = &[
+    (
+        2000,
+        Call::Tick,
+        "ticket 1 asks 127.0.0.10 for [0]10.1.2.3, nonce 3",
+        1,
+    ),
+    (
+        2000,
+        Call::Hear(TEN, 3, BELOW_TEN),
+        "ticket 1 asks 127.0.0.1 for [0]10.1.2.3, nonce 4",
+        1,
+    ),
+];
+
+/// It started at the root, for it doesn't start again there.
+const TOLD_OF_NOBODY: &[Step] = &[
+    (
+        2000,
+        Call::Tick,
+        "ticket 1 asks 127.0.0.10 for [0]10.1.2.3, nonce 3",
+        1,
+    ),
+    (
+        2000,
+        Call::Hear(TEN, 3, NOT_IN_CHARGE),
+        "ticket 1 gave up 3 NotAuthoritative",
+        0,
+    ),
+];
+
+/// What can come of the lookup that waits. Together they tell all that it holds.
+const FATES: [&[Step]; 4] = [IN_SILENCE, TOLD_AGAIN, TOLD_OF_MORE, TOLD_OF_NOBODY];
+
+/// One millisecond before the deadline.
+const NOT_YET: &[Step] = &[(1999, Call::Tick, "nothing", 1)];
+
+const IGNORED: [(&str, &[Step], &[Step]); 6] = [
+    (
+        "one byte short",
+        &[(0, Call::HearCut(TEN, 2, TO_TEN), "ignored 1 Undecodable", 1)],
+        NOT_YET,
+    ),
+    (
+        "another nonce",
+        &[(0, Call::Hear(TEN, 9, TO_TEN), "ignored 2 UnknownNonce", 1)],
+        NOT_YET,
+    ),
+    (
+        "another source",
+        &[(
+            0,
+            Call::Hear(Locator::V4(0x7f00_000b), 2, TO_TEN),
+            "ignored 3 WrongSource",
+            1,
+        )],
+        NOT_YET,
+    ),
+    (
+        "at its deadline",
+        &[(2000, Call::Hear(TEN, 2, TO_TEN), "ignored 4 Late", 1)],
+        &[],
+    ),
+    (
+        "about others",
+        &[(0, Call::Hear(TEN, 2, TO_ELEVEN), "ignored 5 NotCovering", 1)],
+        NOT_YET,
+    ),
+    (
+        "to no server",
+        &[(
+            0,
+            Call::Hear(TEN, 2, TO_NO_SERVER),
+            "ignored 6 NoServers",
+            1,
+        )],
+        NOT_YET,
+    ),
+];
+
+/// After a reply that is ignored the lookup waits as it did, whatever comes.
+fn is_ignored(
+    alloc: Global,
+    rt: &impl Abort,
+    name: &str,
+    reply: &[Step],
+    before: &[Step],
+) -> Result<(), Fail> {
+    for fate in FATES {
+        let mut resolver = waiting(alloc, rt)?;
+        plays(alloc, rt, &mut resolver, name, reply)?;
+        plays(alloc, rt, &mut resolver, name, before)?;
+        plays(alloc, rt, &mut resolver, name, fate)?;
+    }
+    Ok(())
+}
+
+#[test]
+fn a_reply_that_is_ignored_leaves_the_lookup_as_before(rt: HostRuntime) -> Result<(), Fail> {
+    for (name, reply, before) in IGNORED {
+        is_ignored(rt.alloc(), &rt, name, reply, before)?;
+    }
+    Ok(())
+}
+
+/// A referral to the same prefix as before, which names the root's server.
+const BACK_TO_THE_ROOT: Told = Told {
+    action: Action::NodeReferral,
+    prefix: "[0]10.0.0.0/8",
+    servers: &[ROOT],
+};
+
+/// Nothing of the loop is saved: what is found is the root's referral of 10.0.0.0/8 to 127.0.0.10 alone.
+const A_LOOP: &[Step] = &[
+    (
+        0,
+        Call::Hear(TEN, 2, BACK_TO_THE_ROOT),
+        "ticket 1 gave up 2 Loop",
+        0,
+    ),
+    (
+        0,
+        Call::Ask("[0]10.1.2.3"),
+        "ticket 3 asks 127.0.0.10 for [0]10.1.2.3, nonce 3",
+        1,
+    ),
+    (
+        2000,
+        Call::Tick,
+        "ticket 3 asks 127.0.0.10 for [0]10.1.2.3, nonce 4",
+        1,
+    ),
+    (4000, Call::Tick, "ticket 3 gave up 1 NoReply", 0),
+    (
+        4000,
+        Call::Ask("[0]10.0.0.0"),
+        "ticket 5 asks 127.0.0.10 for [0]10.0.0.0, nonce 5",
+        1,
+    ),
+    (
+        4000,
+        Call::Ask("[0]10.255.255.255"),
+        "ticket 6 asks 127.0.0.10 for [0]10.255.255.255, nonce 6",
+        2,
+    ),
+    (
+        4000,
+        Call::Ask("[0]9.255.255.255"),
+        "ticket 7 asks 127.0.0.1 for [0]9.255.255.255, nonce 7",
+        3,
+    ),
+    (
+        4000,
+        Call::Ask("[0]11.0.0.0"),
+        "ticket 8 asks 127.0.0.1 for [0]11.0.0.0, nonce 8",
+        4,
+    ),
+    (
+        4000,
+        Call::Hear(TEN, 5, NOT_IN_CHARGE),
+        "ticket 5 asks 127.0.0.1 for [0]10.0.0.0, nonce 9",
+        4,
+    ),
+    // The entry that is forgotten was that of all these.
+    (
+        4000,
+        Call::Ask("[0]10.255.255.254"),
+        "ticket 10 asks 127.0.0.1 for [0]10.255.255.254, nonce 10",
+        5,
+    ),
+];
+
+const JUST_IN_TIME: &[Step] = &[(
+    1999,
+    Call::Hear(TEN, 2, TO_TEN),
+    "ticket 1 gave up 2 Loop",
+    0,
+)];
+
+const TAKEN: [(&str, &[Step]); 2] = [
+    ("a referral to the same prefix is a loop", A_LOOP),
+    ("one millisecond before its deadline", JUST_IN_TIME),
+];
+
+#[test]
+fn a_referral_to_the_same_prefix_is_a_loop(rt: HostRuntime) -> Result<(), Fail> {
+    for (name, steps) in TAKEN {
+        let mut resolver = waiting(rt.alloc(), &rt)?;
+        plays(rt.alloc(), &rt, &mut resolver, name, steps)?;
+    }
+    Ok(())
+}
+
+/// A referral of 10.1.0.0/16 to eight servers.
+const TO_EIGHT: Told = Told {
+    action: Action::NodeReferral,
+    prefix: "[0]10.1.0.0/16",
+    servers: &[
+        Locator::V4(0x7f00_0201),
+        Locator::V4(0x7f00_0202),
+        Locator::V4(0x7f00_0203),
+        Locator::V4(0x7f00_0204),
+        Locator::V4(0x7f00_0205),
+        Locator::V4(0x7f00_0206),
+        Locator::V4(0x7f00_0207),
+        Locator::V4(0x7f00_0208),
+    ],
+};
+
+/// Its Map-Referral, under the nonce 2, with 127.0.2.9 as its ninth locator.
+fn with_a_ninth(alloc: Global) -> Result<Vec<u8>, Fail> {
+    let mut bytes = referral_bytes(alloc, 2, &TO_EIGHT)?;
+    bytes.extend_from_slice(&[0x01, 0x64, 0xff, 0, 0, 1, 0, 1, 0x7f, 0, 2, 9])?;
+    if let Some(count) = bytes.get_mut(16) {
+        *count = 9;
+    }
+    Ok(bytes)
+}
+
+/// Each of the eight is asked twice, one after the other, and then no other.
+const EIGHT_IN_TURN: &[Step] = &[
+    (
+        2000,
+        Call::Tick,
+        "ticket 1 asks 127.0.2.1 for [0]10.1.2.3, nonce 4",
+        1,
+    ),
+    (
+        4000,
+        Call::Tick,
+        "ticket 1 asks 127.0.2.2 for [0]10.1.2.3, nonce 5",
+        1,
+    ),
+    (
+        6000,
+        Call::Tick,
+        "ticket 1 asks 127.0.2.2 for [0]10.1.2.3, nonce 6",
+        1,
+    ),
+    (
+        8000,
+        Call::Tick,
+        "ticket 1 asks 127.0.2.3 for [0]10.1.2.3, nonce 7",
+        1,
+    ),
+    (
+        10_000,
+        Call::Tick,
+        "ticket 1 asks 127.0.2.3 for [0]10.1.2.3, nonce 8",
+        1,
+    ),
+    (
+        12_000,
+        Call::Tick,
+        "ticket 1 asks 127.0.2.4 for [0]10.1.2.3, nonce 9",
+        1,
+    ),
+    (
+        14_000,
+        Call::Tick,
+        "ticket 1 asks 127.0.2.4 for [0]10.1.2.3, nonce 10",
+        1,
+    ),
+    (
+        16_000,
+        Call::Tick,
+        "ticket 1 asks 127.0.2.5 for [0]10.1.2.3, nonce 11",
+        1,
+    ),
+    (
+        18_000,
+        Call::Tick,
+        "ticket 1 asks 127.0.2.5 for [0]10.1.2.3, nonce 12",
+        1,
+    ),
+    (
+        20_000,
+        Call::Tick,
+        "ticket 1 asks 127.0.2.6 for [0]10.1.2.3, nonce 13",
+        1,
+    ),
+    (
+        22_000,
+        Call::Tick,
+        "ticket 1 asks 127.0.2.6 for [0]10.1.2.3, nonce 14",
+        1,
+    ),
+    (
+        24_000,
+        Call::Tick,
+        "ticket 1 asks 127.0.2.7 for [0]10.1.2.3, nonce 15",
+        1,
+    ),
+    (
+        26_000,
+        Call::Tick,
+        "ticket 1 asks 127.0.2.7 for [0]10.1.2.3, nonce 16",
+        1,
+    ),
+    (
+        28_000,
+        Call::Tick,
+        "ticket 1 asks 127.0.2.8 for [0]10.1.2.3, nonce 17",
+        1,
+    ),
+    (
+        30_000,
+        Call::Tick,
+        "ticket 1 asks 127.0.2.8 for [0]10.1.2.3, nonce 18",
+        1,
+    ),
+    (32_000, Call::Tick, "ticket 1 gave up 1 NoReply", 0),
+];
+
+#[test]
+fn of_nine_servers_the_first_eight_are_kept(rt: HostRuntime) -> Result<(), Fail> {
+    let alloc = rt.alloc();
+    let bytes = with_a_ninth(alloc)?;
+    let mut resolver = waiting(alloc, &rt)?;
+    let line = hear(alloc, &mut resolver, 0, TEN, bytes.as_slice())?;
+    let first = "ticket 1 asks 127.0.2.1 for [0]10.1.2.3, nonce 3";
+    assert_eq!(rt; line.as_str(), first);
+    plays(alloc, &rt, &mut resolver, "in turn", EIGHT_IN_TURN)
+}

@@ -70,14 +70,31 @@ fn agree(
     Ok(())
 }
 
-/// Both are at the same time and address.
-fn stand_alike(rt: &impl Abort, name: &str, pair: &Pair) {
-    assert_eq!(rt;
-        pair.one.time().millis(),
-        pair.other.time().millis(),
-        "{name}"
+/// Both are at this moment, in milliseconds, and at the same address.
+fn stand_alike(rt: &impl Abort, name: &str, pair: &Pair, millis: u64) {
+    let (one, other) = (pair.one.time().millis(), pair.other.time().millis());
+    assert!(rt;
+        one == millis && other == millis,
+        "{name}: {one} and {other}"
     );
     assert_eq!(rt; pair.one.me(), pair.other.me(), "{name}");
+}
+
+/// Each lookup from a nonce on is still found under it: a referral of everything gives the same at both.
+fn are_found(
+    alloc: Global,
+    rt: &impl Abort,
+    name: &str,
+    pair: &mut Pair,
+    millis: u64,
+    first: u64,
+) -> Result<(), Fail> {
+    for nonce in first..1026 {
+        let from = if nonce == 2 { TEN } else { ROOT };
+        let call = Call::Hear(from, nonce, TO_EVERYTHING);
+        agree(alloc, rt, name, pair, millis, &call)?;
+    }
+    Ok(())
 }
 
 /// So many ticks at a moment.
@@ -96,12 +113,18 @@ fn ticks(
 }
 
 /// At a moment, in milliseconds, a lookup of an identifier begins at a server: all that is remembered is the referral of
-/// 10.0.0.0/8 to 127.0.0.10, for a day.
+/// 10.0.0.0/8 to 127.0.0.10, from one server.
 const REMEMBERED: [(u64, &str, Locator); 6] = [
     (4000, "[0]10.0.0.0", TEN),
     (4000, "[0]10.255.255.255", TEN),
     (4000, "[0]9.255.255.255", ROOT),
     (4000, "[0]11.0.0.0", ROOT),
+    (4000, "[1]10.1.2.3", ROOT),
+    (4000, "[0]2001:db8::1", ROOT),
+];
+
+/// for a day.
+const REMEMBERED_FOR_A_DAY: [(u64, &str, Locator); 2] = [
     (86_399_999, "[0]10.1.2.3", TEN),
     (86_400_000, "[0]10.1.2.3", ROOT),
 ];
@@ -133,11 +156,26 @@ fn end_in_silence(
     ticks(alloc, rt, name, pair, 2000, count)?;
     ticks(alloc, rt, name, pair, 4000, count)?;
     assert_eq!(rt; pair.one.pending(), 0, "{name}");
-    for (millis, identifier, server) in REMEMBERED {
-        let one = first_server(&mut pair.one, millis, identifier)?;
-        let other = first_server(&mut pair.other, millis, identifier)?;
-        assert_eq!(rt; one, server, "{name}: {identifier} at {millis}");
-        assert_eq!(rt; other, server, "{name}: {identifier} at {millis}");
+    begin(rt, name, pair, &REMEMBERED)?;
+    // Each asks its one server once more, and no other.
+    ticks(alloc, rt, name, pair, 6000, 6)?;
+    ticks(alloc, rt, name, pair, 8000, 6)?;
+    assert_eq!(rt; pair.one.pending(), 0, "{name}");
+    begin(rt, name, pair, &REMEMBERED_FOR_A_DAY)
+}
+
+/// At both a lookup of each identifier begins at its server.
+fn begin(
+    rt: &impl Abort,
+    name: &str,
+    pair: &mut Pair,
+    rows: &[(u64, &str, Locator)],
+) -> Result<(), Fail> {
+    for (millis, identifier, server) in rows {
+        let one = first_server(&mut pair.one, *millis, identifier)?;
+        let other = first_server(&mut pair.other, *millis, identifier)?;
+        let is_right = one == *server && other == *server;
+        assert!(rt; is_right, "{name}: {identifier} at {millis}");
     }
     Ok(())
 }
@@ -211,8 +249,12 @@ const TOLD_AGAIN: &[Step] = &[
 
 /// After a reply that is ignored all 1,024 lookups wait as before, whatever comes.
 fn leaves_all(alloc: Global, rt: &impl Abort, name: &str, reply: &[Step]) -> Result<(), Fail> {
+    for (millis, _call, _line, _pending) in reply {
+        let mut pair = ignoring(alloc, rt, name, reply)?;
+        stand_alike(rt, name, &pair, *millis);
+        are_found(alloc, rt, name, &mut pair, *millis, 2)?;
+    }
     let mut pair = ignoring(alloc, rt, name, reply)?;
-    stand_alike(rt, name, &pair);
     end_in_silence(alloc, rt, name, &mut pair, 1024)?;
     let mut pair = ignoring(alloc, rt, name, reply)?;
     plays(alloc, rt, &mut pair.one, name, TOLD_AGAIN)?;
@@ -352,7 +394,9 @@ fn ending(alloc: Global, rt: &impl Abort) -> Result<Pair, Fail> {
 fn a_loop_leaves_1023_lookups_as_before(rt: HostRuntime) -> Result<(), Fail> {
     let alloc = rt.alloc();
     let mut pair = ending(alloc, &rt)?;
-    stand_alike(&rt, "a loop", &pair);
+    stand_alike(&rt, "a loop", &pair, 0);
+    are_found(alloc, &rt, "a loop", &mut pair, 0, 3)?;
+    let mut pair = ending(alloc, &rt)?;
     end_in_silence(alloc, &rt, "a loop", &mut pair, 1023)?;
     let mut pair = ending(alloc, &rt)?;
     others_end_below(alloc, &rt, "a loop", &mut pair, 1026)

@@ -118,16 +118,30 @@ const FATES: [&[Step]; 4] = [IN_SILENCE, TOLD_AGAIN, TOLD_OF_MORE, TOLD_OF_NOBOD
 /// One millisecond before the deadline.
 const NOT_YET: &[Step] = &[(1999, Call::Tick, "nothing", 1)];
 
-const IGNORED: [(&str, &[Step], &[Step]); 6] = [
+/// It is still found under the nonce of its request.
+const FOUND: &[Step] = &[(
+    1999,
+    Call::Hear(TEN, 2, TO_TEN),
+    "ticket 1 gave up 2 Loop",
+    0,
+)];
+
+/// It is found, and the reply comes too late.
+const FOUND_LATE: &[Step] = &[(2000, Call::Hear(TEN, 2, TO_TEN), "ignored 4 Late", 1)];
+
+/// A reply that is ignored, what comes of the time until the deadline, and of the right reply under the same nonce.
+const IGNORED: [(&str, &[Step], &[Step], &[Step]); 6] = [
     (
         "one byte short",
         &[(0, Call::HearCut(TEN, 2, TO_TEN), "ignored 1 Undecodable", 1)],
         NOT_YET,
+        FOUND,
     ),
     (
         "another nonce",
         &[(0, Call::Hear(TEN, 9, TO_TEN), "ignored 2 UnknownNonce", 1)],
         NOT_YET,
+        FOUND,
     ),
     (
         "another source",
@@ -138,16 +152,19 @@ const IGNORED: [(&str, &[Step], &[Step]); 6] = [
             1,
         )],
         NOT_YET,
+        FOUND,
     ),
     (
         "at its deadline",
         &[(2000, Call::Hear(TEN, 2, TO_TEN), "ignored 4 Late", 1)],
         &[],
+        FOUND_LATE,
     ),
     (
         "about others",
         &[(0, Call::Hear(TEN, 2, TO_ELEVEN), "ignored 5 NotCovering", 1)],
         NOT_YET,
+        FOUND,
     ),
     (
         "to no server",
@@ -158,6 +175,7 @@ const IGNORED: [(&str, &[Step], &[Step]); 6] = [
             1,
         )],
         NOT_YET,
+        FOUND,
     ),
 ];
 
@@ -168,7 +186,11 @@ fn is_ignored(
     name: &str,
     reply: &[Step],
     before: &[Step],
+    found: &[Step],
 ) -> Result<(), Fail> {
+    let mut resolver = waiting(alloc, rt)?;
+    plays(alloc, rt, &mut resolver, name, reply)?;
+    plays(alloc, rt, &mut resolver, name, found)?;
     for fate in FATES {
         let mut resolver = waiting(alloc, rt)?;
         plays(alloc, rt, &mut resolver, name, reply)?;
@@ -180,8 +202,8 @@ fn is_ignored(
 
 #[test]
 fn a_reply_that_is_ignored_leaves_the_lookup_as_before(rt: HostRuntime) -> Result<(), Fail> {
-    for (name, reply, before) in IGNORED {
-        is_ignored(rt.alloc(), &rt, name, reply, before)?;
+    for (name, reply, before, found) in IGNORED {
+        is_ignored(rt.alloc(), &rt, name, reply, before, found)?;
     }
     Ok(())
 }

@@ -50,10 +50,11 @@ try_each show 2000000111223344556677880000000f000f2000000000010a020000
 try_each show 840000004500003800000000 # cut short: its refusal takes memory too
 try_each show 8400000045000038000000004011ef7c7f0000350a01020310f610f60024b723100000010000000000000001000000017f000035002000010a010203
 
-# tells_want OUTPUT: the error of the test, or the value at its left, is want of memory: a map that is refused memory hands
-# back the pair that it was to insert, and the tests of ddt_compile have no register where theirs can't be read
+# tells_want OUTPUT: the error of the test, behind the words of the call that expected none, or the value at its left is
+# want of memory: a map that is refused memory hands back the pair that it was to insert, and some tests have no register
+# where theirs can't be read
 tells_want() {
-    grep -qE '^error: (.*(AllocError|AllocFailed|[Mm]emory)|"no register"$)|^ *left: ((Some|Err)\((OutOf)?Memory\)|Err\(\(Prefix .*\)\))$' "$1"
+    grep -qE '^[a-zA-Z][a-zA-Z -]*: .*(AllocError|AllocFailed|[Mm]emory)|^error: "no register"$|^ *left: ((Some|Err)\((OutOf)?Memory\)|Err\(\(Prefix .*\)\))$' "$1"
 }
 
 # try_test PROGRAM TEST: a test, with each of its first 2,000 allocations refused in turn

@@ -275,7 +275,7 @@ fn is_longest<M: PrefixMap<u32>>(map: &M, x: Xeid, entry: Option<(Prefix, u32)>)
 }
 
 /// Whether a map answers a call as it should.
-fn answers<M: PrefixMap<u32>>(rt: &impl Abort, map: &mut M, step: Step) -> Result<bool, Fail> {
+fn holds<M: PrefixMap<u32>>(rt: &impl Abort, map: &mut M, step: Step) -> Result<bool, Fail> {
     match step {
         Put(key, value, before) => Ok(is_put(rt, map, prefix(key)?, value, before)),
         Remove(key, value) => Ok(map.remove(prefix(key)?) == value),
@@ -296,7 +296,7 @@ fn answers<M: PrefixMap<u32>>(rt: &impl Abort, map: &mut M, step: Step) -> Resul
 /// Makes calls on an empty map.
 fn plays<M: PrefixMap<u32>>(rt: &impl Abort, map: &mut M, steps: &[Step]) -> Result<(), Fail> {
     for step in steps {
-        assert!(rt; answers(rt, map, *step)?, "{step:?}");
+        assert!(rt; holds(rt, map, *step)?, "{step:?}");
     }
     Ok(())
 }

@@ -1,7 +1,18 @@
 //! The ten rules by plain bodies that compare pairs of items: the reference for the fast ones.
 
+ghost use Rattle.std.specs.Prelude.{◌≡◌};
+ghost use Rattle.std.specs.List.{list_any};
+ghost use Rattle.std.specs.Option.{option_copied};
+ghost use Rattle.ddt_register.specs.Rows.{first_row as first_row_of};
+ghost use Rattle.ddt_check.specs.Zones.{is_ms as is_ms_of, zone_of as zone_of_path, group_named as group_of_name};
+ghost use Rattle.ddt_check.specs.Rules.{earlier_zone, earlier_group};
+ghost use Rattle.ddt_check.specs.Rules.{is_root as is_root_zone, is_wrong_root as is_wrong_root_of, is_duplicate_zone as is_duplicate_zone_of};
+ghost use Rattle.ddt_check.specs.Rules.{is_of_unknown_group as is_of_unknown, is_of_other_role as is_of_other, is_below_map_server as is_below};
+ghost use Rattle.ddt_check.specs.Rules.{is_duplicate_site as is_duplicate_site_of, is_outside as is_outside_of, has_too_many_etrs as has_too_many};
+ghost use Rattle.ddt_check.specs.Rules.{has_wrong_locators as has_wrong, share as share_of, is_duplicate_group as is_duplicate_group_of};
+
 use ddt_check::{Fault, Rule};
-use ddt_path::{Locator, MOST_LOCATORS, Name, Role, are_distinct, longest_match};
+use ddt_path::{Locator, MOST_LOCATORS, Name, Prefix, Role, are_distinct, longest_match};
 use ddt_register::{Group, Register, Site, Zone};
 
 /// The rules in the order of their numbers.
@@ -28,201 +39,254 @@ pub fn first_fault(register: &Register) -> Option<Fault> {
     None
 }
 
-/// The least row that breaks a rule. Items of one kind break it, and they stand in the order of their rows.
 fn first_row(register: &Register, rule: Rule) -> Option<u32> {
     match rule {
-        Rule::NoRoot if !has_root(register) => Some(0),
-        Rule::NoRoot
-        | Rule::DuplicateZone
-        | Rule::UnknownGroup
-        | Rule::Role
-        | Rule::BelowMapServer => first_zone(register, rule),
-        Rule::DuplicateSite | Rule::SiteOutside | Rule::TooManyEtrs => first_site(register, rule),
-        Rule::Locators | Rule::DuplicateGroup => first_group(register, rule),
+        Rule::NoRoot if has_root(register) => wrong_root(register),
+        Rule::NoRoot => Some(0),
+        Rule::DuplicateZone => duplicate_zone(register),
+        Rule::DuplicateSite => duplicate_site(register),
+        Rule::UnknownGroup => of_unknown_group(register),
+        Rule::Role => of_other_role(register),
+        Rule::Locators => wrong_locators(register),
+        Rule::BelowMapServer => below_map_server(register),
+        Rule::SiteOutside => outside(register),
+        Rule::TooManyEtrs => too_many_etrs(register),
+        Rule::DuplicateGroup => duplicate_group(register),
     }
 }
 
-fn first_zone(register: &Register, rule: Rule) -> Option<u32> {
-    for zone in register.zones.as_slice() {
-        if is_zone_against(register, rule, zone) {
-            return Some(zone.row);
-        }
-    }
-    None
-}
-
-fn first_site(register: &Register, rule: Rule) -> Option<u32> {
-    for site in register.sites.as_slice() {
-        if is_site_against(register, rule, site) {
-            return Some(site.row);
-        }
-    }
-    None
-}
-
-fn first_group(register: &Register, rule: Rule) -> Option<u32> {
-    for group in register.groups.as_slice() {
-        if is_group_against(register, rule, group) {
-            return Some(group.row);
-        }
-    }
-    None
-}
-
-fn is_zone_against(register: &Register, rule: Rule, zone: &Zone) -> bool {
-    match rule {
-        Rule::NoRoot => is_wrong_root(register, zone),
-        Rule::DuplicateZone => is_duplicate_zone(register, zone),
-        Rule::UnknownGroup => group_named(register, zone.group).is_none(),
-        Rule::Role => is_of_other_role(register, zone),
-        Rule::BelowMapServer => is_below_map_server(register, zone),
-        _ => false,
-    }
-}
-
-fn is_site_against(register: &Register, rule: Rule, site: &Site) -> bool {
-    match rule {
-        Rule::DuplicateSite => is_duplicate_site(register, site),
-        Rule::SiteOutside => is_outside(register, site),
-        Rule::TooManyEtrs => site.etrs.as_slice().len() > MOST_LOCATORS,
-        _ => false,
-    }
-}
-
-fn is_group_against(register: &Register, rule: Rule, group: &Group) -> bool {
-    match rule {
-        Rule::Locators => has_wrong_locators(register, group),
-        Rule::DuplicateGroup => is_duplicate_group(register, group),
-        _ => false,
-    }
-}
-
-fn is_ms(role: Role) -> bool {
+fn is_ms(role: Role) -> bool
+    ensures { result ≡ is_ms_of role }
+{
     match role {
         Role::Node => false,
         Role::Ms => true,
     }
 }
 
-fn is_root(zone: &Zone) -> bool {
-    zone.prefix.len() == 0
+/// The longest zone that covers a prefix; of equal ones the first.
+fn zone_of(register: &Register, x: Prefix) -> Option<Zone>
+    ensures { result ≡ zone_of_path register.now x }
+{
+    longest_match(register.zones.as_slice(), x).copied()
 }
 
 /// The first group row of a name.
-fn group_named(register: &Register, name: Name) -> Option<&Group> {
-    for group in register.groups.as_slice() {
-        if group.name == name {
-            return Some(group);
-        }
-    }
-    None
+fn group_named(register: &Register, name: Name) -> Option<&Group>
+    ensures { option_copied result ≡ group_of_name register.now name }
+{
+    register.groups.as_slice().iter().find(|g| g.name == name)
+}
+
+fn is_root(z: &Zone) -> bool
+    ensures { result ≡ is_root_zone z.now }
+{
+    z.prefix.len() == 0
 }
 
 /// Whether a zone covers everything.
-fn has_root(register: &Register) -> bool {
-    for zone in register.zones.as_slice() {
-        if is_root(zone) {
-            return true;
-        }
-    }
-    false
+fn has_root(register: &Register) -> bool
+    ensures { result ≡ list_any is_root_zone register.now.zones }
+{
+    register.zones.as_slice().iter().any(|z| is_root(z))
 }
 
-/// Whether it is a root of Map-Servers, or a root after the first.
-fn is_wrong_root(register: &Register, zone: &Zone) -> bool {
-    is_root(zone) && (is_ms(zone.kind) || is_after_root(register, zone))
+fn is_after_root(register: &Register, z: &Zone) -> bool
+    ensures { result ≡ earlier_zone register.now z.now is_root_zone }
+{
+    let zones = register.zones.as_slice();
+    zones.iter().any(|y| y.row < z.row && is_root(y))
 }
 
-fn is_after_root(register: &Register, zone: &Zone) -> bool {
-    for earlier in register.zones.as_slice() {
-        if earlier.row < zone.row && is_root(earlier) {
-            return true;
-        }
-    }
-    false
+fn is_wrong_root(register: &Register, z: &Zone) -> bool
+    ensures { result ≡ is_wrong_root_of register.now z.now }
+{
+    is_root(z) && (is_ms(z.kind) || is_after_root(register, z))
 }
 
-/// Whether an earlier zone has its prefix.
-fn is_duplicate_zone(register: &Register, zone: &Zone) -> bool {
-    for earlier in register.zones.as_slice() {
-        if earlier.row < zone.row && earlier.prefix == zone.prefix {
-            return true;
-        }
-    }
-    false
+/// The least row of a root of Map-Servers, or of a root after the first.
+fn wrong_root(register: &Register) -> Option<u32>
+    ensures { result ≡ first_row_of (λ z. z.row) (is_wrong_root_of register.now) register.now.zones }
+{
+    let zones = register.zones.as_slice();
+    zones
+        .iter()
+        .find(|z| is_wrong_root(register, z))
+        .map(|z| z.row)
 }
 
-/// Whether its group is of the other kind.
-fn is_of_other_role(register: &Register, zone: &Zone) -> bool {
-    match group_named(register, zone.group) {
-        Some(group) => group.kind != zone.kind,
+fn is_duplicate_zone(register: &Register, z: &Zone) -> bool
+    ensures { result ≡ is_duplicate_zone_of register.now z.now }
+{
+    let zones = register.zones.as_slice();
+    zones.iter().any(|y| y.row < z.row && y.prefix == z.prefix)
+}
+
+/// The least row of a zone whose prefix an earlier one has.
+fn duplicate_zone(register: &Register) -> Option<u32>
+    ensures { result ≡ first_row_of (λ z. z.row) (is_duplicate_zone_of register.now) register.now.zones }
+{
+    let zones = register.zones.as_slice();
+    zones
+        .iter()
+        .find(|z| is_duplicate_zone(register, z))
+        .map(|z| z.row)
+}
+
+fn is_of_unknown_group(register: &Register, z: &Zone) -> bool
+    ensures { result ≡ is_of_unknown register.now z.now }
+{
+    group_named(register, z.group).is_none()
+}
+
+/// The least row of a zone whose group has no row.
+fn of_unknown_group(register: &Register) -> Option<u32>
+    ensures { result ≡ first_row_of (λ z. z.row) (is_of_unknown register.now) register.now.zones }
+{
+    let zones = register.zones.as_slice();
+    zones
+        .iter()
+        .find(|z| is_of_unknown_group(register, z))
+        .map(|z| z.row)
+}
+
+fn is_of_other_role(register: &Register, z: &Zone) -> bool
+    ensures { result ≡ is_of_other register.now z.now }
+{
+    match group_named(register, z.group) {
+        Some(group) => group.kind != z.kind,
         None => false,
     }
 }
 
-/// Whether it lies strictly below a zone of Map-Servers.
-fn is_below_map_server(register: &Register, zone: &Zone) -> bool {
-    for above in register.zones.as_slice() {
-        let is_strict = above.prefix.covers(zone.prefix) && !zone.prefix.covers(above.prefix);
-        if is_ms(above.kind) && is_strict {
-            return true;
-        }
-    }
-    false
+/// The least row of a zone whose group is of the other kind.
+fn of_other_role(register: &Register) -> Option<u32>
+    ensures { result ≡ first_row_of (λ z. z.row) (is_of_other register.now) register.now.zones }
+{
+    let zones = register.zones.as_slice();
+    zones
+        .iter()
+        .find(|z| is_of_other_role(register, z))
+        .map(|z| z.row)
 }
 
-/// Whether an earlier site has its prefix.
-fn is_duplicate_site(register: &Register, site: &Site) -> bool {
-    for earlier in register.sites.as_slice() {
-        if earlier.row < site.row && earlier.prefix == site.prefix {
-            return true;
-        }
-    }
-    false
+fn is_below_map_server(register: &Register, z: &Zone) -> bool
+    ensures { result ≡ is_below register.now z.now }
+{
+    let zones = register.zones.as_slice();
+    zones.iter().any(|y| is_ms(y.kind) && y.prefix.covers(z.prefix) && !z.prefix.covers(y.prefix))
 }
 
-/// Whether the longest zone that covers it isn't of Map-Servers.
-fn is_outside(register: &Register, site: &Site) -> bool {
-    match longest_match(register.zones.as_slice(), site.prefix) {
-        Some(zone) => !is_ms(zone.kind),
+/// The least row of a zone strictly below a zone of Map-Servers.
+fn below_map_server(register: &Register) -> Option<u32>
+    ensures { result ≡ first_row_of (λ z. z.row) (is_below register.now) register.now.zones }
+{
+    let zones = register.zones.as_slice();
+    zones
+        .iter()
+        .find(|z| is_below_map_server(register, z))
+        .map(|z| z.row)
+}
+
+fn is_duplicate_site(register: &Register, s: &Site) -> bool
+    ensures { result ≡ is_duplicate_site_of register.now s.now }
+{
+    let sites = register.sites.as_slice();
+    sites.iter().any(|t| t.row < s.row && t.prefix == s.prefix)
+}
+
+/// The least row of a site whose prefix an earlier one has.
+fn duplicate_site(register: &Register) -> Option<u32>
+    ensures { result ≡ first_row_of (λ s. s.row) (is_duplicate_site_of register.now) register.now.sites }
+{
+    let sites = register.sites.as_slice();
+    sites
+        .iter()
+        .find(|s| is_duplicate_site(register, s))
+        .map(|s| s.row)
+}
+
+fn is_outside(register: &Register, s: &Site) -> bool
+    ensures { result ≡ is_outside_of register.now s.now }
+{
+    match zone_of(register, s.prefix) {
+        Some(z) => !is_ms(z.kind),
         None => true,
     }
 }
 
-/// Whether its locators are none, or above 8, or not all new.
-fn has_wrong_locators(register: &Register, group: &Group) -> bool {
-    let locators = group.locators.as_slice();
-    (locators.is_empty() || locators.len() > MOST_LOCATORS)
-        || (!are_distinct(locators) || shares_with_earlier(register, group))
+/// The least row of a site whose longest covering zone isn't of Map-Servers.
+fn outside(register: &Register) -> Option<u32>
+    ensures { result ≡ first_row_of (λ s. s.row) (is_outside_of register.now) register.now.sites }
+{
+    let sites = register.sites.as_slice();
+    sites
+        .iter()
+        .find(|s| is_outside(register, s))
+        .map(|s| s.row)
 }
 
-fn shares_with_earlier(register: &Register, group: &Group) -> bool {
-    for earlier in register.groups.as_slice() {
-        if earlier.row < group.row
-            && share(earlier.locators.as_slice(), group.locators.as_slice())
-        {
-            return true;
-        }
-    }
-    false
+fn has_too_many_etrs(s: &Site) -> bool
+    ensures { result ≡ has_too_many s.now }
+{
+    s.etrs.as_slice().len() > MOST_LOCATORS
+}
+
+/// The least row of a site with more than 8 ETRs.
+fn too_many_etrs(register: &Register) -> Option<u32>
+    ensures { result ≡ first_row_of (λ s. s.row) has_too_many register.now.sites }
+{
+    let sites = register.sites.as_slice();
+    sites.iter().find(|s| has_too_many_etrs(s)).map(|s| s.row)
 }
 
 /// Whether a locator of the one list is one of the other.
-fn share(first: &[Locator], second: &[Locator]) -> bool {
-    for locator in first {
-        if second.contains(locator) {
-            return true;
-        }
-    }
-    false
+fn share(first: &[Locator], second: &[Locator]) -> bool
+    ensures { result ≡ share_of first.now second.now }
+{
+    first.iter().any(|l| second.contains(l))
 }
 
-/// Whether an earlier group has its name.
-fn is_duplicate_group(register: &Register, group: &Group) -> bool {
-    for earlier in register.groups.as_slice() {
-        if earlier.row < group.row && earlier.name == group.name {
-            return true;
-        }
-    }
-    false
+fn shares_with_earlier(register: &Register, g: &Group) -> bool
+    ensures { result ≡ earlier_group register.now g.now (λ h. share_of h.locators g.now.locators) }
+{
+    let groups = register.groups.as_slice();
+    groups.iter().any(|h| h.row < g.row && share(h.locators.as_slice(), g.locators.as_slice()))
+}
+
+fn has_wrong_locators(register: &Register, g: &Group) -> bool
+    ensures { result ≡ has_wrong register.now g.now }
+{
+    let locators = g.locators.as_slice();
+    (locators.is_empty() || locators.len() > MOST_LOCATORS)
+        || (!are_distinct(locators) || shares_with_earlier(register, g))
+}
+
+/// The least row of a group whose locators are none, or above 8, or not all new.
+fn wrong_locators(register: &Register) -> Option<u32>
+    ensures { result ≡ first_row_of (λ g. g.row) (has_wrong register.now) register.now.groups }
+{
+    let groups = register.groups.as_slice();
+    groups
+        .iter()
+        .find(|g| has_wrong_locators(register, g))
+        .map(|g| g.row)
+}
+
+fn is_duplicate_group(register: &Register, g: &Group) -> bool
+    ensures { result ≡ is_duplicate_group_of register.now g.now }
+{
+    let groups = register.groups.as_slice();
+    groups.iter().any(|h| h.row < g.row && h.name == g.name)
+}
+
+/// The least row of a group whose name an earlier one has.
+fn duplicate_group(register: &Register) -> Option<u32>
+    ensures { result ≡ first_row_of (λ g. g.row) (is_duplicate_group_of register.now) register.now.groups }
+{
+    let groups = register.groups.as_slice();
+    groups
+        .iter()
+        .find(|g| is_duplicate_group(register, g))
+        .map(|g| g.row)
 }

@@ -109,6 +109,13 @@ fn replies_to(
     replies_alone(alloc, rt, text, request.as_slice(), wanted)
 }
 
+fn forwarded_to(handled: &Handled) -> Option<Locator> {
+    match &handled.forward {
+        Some(forward) => Some(forward.to),
+        None => None,
+    }
+}
+
 /// To where a DDT Map-Request for an identifier is forwarded.
 fn addressee(
     alloc: Global,
@@ -116,10 +123,8 @@ fn addressee(
     text: &str,
     xeid: &str,
 ) -> Result<Option<Locator>, Fail> {
-    match asked(alloc, rt, text, xeid)?.forward {
-        Some(forward) => Ok(Some(forward.to)),
-        None => Ok(None),
-    }
+    let handled = asked(alloc, rt, text, xeid)?;
+    Ok(forwarded_to(&handled))
 }
 
 #[test]

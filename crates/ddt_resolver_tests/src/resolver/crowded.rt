@@ -5,9 +5,9 @@
 use super::calls::{
     Call, ListResolver, NOT_IN_CHARGE, ROOT, Step, TEN, TO_TEN, Told, at, made, plays, rooted,
 };
-use super::limits::{open_many, opened};
+use super::limits::{is_cancelled, open_many, opened, server_asked};
 use ddt_path::{Action, Locator};
-use ddt_resolver::{Asked, Ticket};
+use ddt_resolver::Asked;
 use ddt_text::parse_xeid;
 use std::alloc::Global;
 use std::process::Abort;
@@ -20,9 +20,8 @@ const FOLLOWED: &[Step] = &[(
     1,
 )];
 
-/// A resolver whose lookup of 10.1.2.3 waits for 127.0.0.10, with 1,023 others that wait for the root, and the ticket
-/// of the first.
-fn crowded(alloc: Global, rt: &impl Abort) -> Result<(ListResolver, Ticket), Fail> {
+/// A resolver whose lookup of 10.1.2.3 waits for 127.0.0.10, with 1,023 others that wait for the root, and the first.
+fn crowded(alloc: Global, rt: &impl Abort) -> Result<(ListResolver, Asked), Fail> {
     let mut resolver = rooted(alloc, 1)?;
     let first = opened(&mut resolver, 0x0a01_0203)?;
     plays(alloc, rt, &mut resolver, "the crowd", FOLLOWED)?;
@@ -136,10 +135,10 @@ fn first_server(
     identifier: &str,
 ) -> Result<Locator, Fail> {
     let x = parse_xeid(identifier.as_bytes())?;
-    match resolver.ask(at(millis)?, x) {
-        Ok(Asked::Sent(_ticket, sent)) => Ok(sent.to),
-        Ok(Asked::Answer(_outcome)) => Err("an answer".into()),
-        Err(refusal) => Err(refusal.into()),
+    let asked = resolver.ask(at(millis)?, x)?;
+    match server_asked(&asked) {
+        Some(server) => Ok(server),
+        None => Err("an answer".into()),
     }
 }
 
@@ -223,9 +222,10 @@ fn others_end_below(
     pair: &mut Pair,
     nonce: u64,
 ) -> Result<(), Fail> {
-    for place in 0..1023 {
-        let reply = (ROOT, nonce + 2 * place, TO_EVERYTHING);
-        ends_below(alloc, rt, name, pair, reply)?;
+    let mut next = nonce;
+    for _other in 0..1023 {
+        ends_below(alloc, rt, name, pair, (ROOT, next, TO_EVERYTHING))?;
+        next = next.saturating_add(2);
     }
     assert_eq!(rt; pair.one.pending(), 0, "{name}");
     Ok(())
@@ -385,7 +385,7 @@ fn ending(alloc: Global, rt: &impl Abort) -> Result<Pair, Fail> {
     let (mut one, _first) = crowded(alloc, rt)?;
     let (mut other, first) = crowded(alloc, rt)?;
     plays(alloc, rt, &mut one, "a loop", A_LOOP)?;
-    assert_eq!(rt; other.cancel(first), true);
+    assert!(rt; is_cancelled(&mut other, &first));
     assert_eq!(rt; other.pending(), 1023);
     Ok(Pair { one, other })
 }

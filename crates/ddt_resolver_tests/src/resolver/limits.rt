@@ -2,7 +2,7 @@
 
 use super::calls::{Call, ListResolver, ROOT, Step, TO_TEN, Told, at, plays, rooted};
 use ddt_path::{Action, Locator, Xeid};
-use ddt_resolver::{Asked, MOST_PENDING, Ticket};
+use ddt_resolver::{Asked, MOST_PENDING};
 use std::alloc::Global;
 use std::process::Abort;
 use std::test::Fail;
@@ -89,16 +89,33 @@ fn the_last_nonce_is_never_sent(rt: HostRuntime) -> Result<(), Fail> {
     Ok(())
 }
 
-/// The ticket of a new lookup, which asks the root.
-pub fn opened(resolver: &mut ListResolver, address: u32) -> Result<Ticket, Fail> {
+/// The server that a new lookup asks; none where an answer is remembered.
+pub fn server_asked(asked: &Asked) -> Option<Locator> {
+    match asked {
+        Asked::Sent(_ticket, sent) => Some(sent.to),
+        Asked::Answer(_outcome) => None,
+    }
+}
+
+/// A new lookup, which asks the root.
+pub fn opened(resolver: &mut ListResolver, address: u32) -> Result<Asked, Fail> {
     let x = Xeid {
         iid: 0,
         address: Locator::V4(address),
     };
-    match resolver.ask(at(0)?, x) {
-        Ok(Asked::Sent(ticket, sent)) if sent.to == ROOT => Ok(ticket),
-        Ok(_other) => Err("another answer".into()),
-        Err(refusal) => Err(refusal.into()),
+    let asked = resolver.ask(at(0)?, x)?;
+    if server_asked(&asked) == Some(ROOT) {
+        Ok(asked)
+    } else {
+        Err("another answer".into())
+    }
+}
+
+/// Whether a lookup was pending, and is cancelled.
+pub fn is_cancelled(resolver: &mut ListResolver, asked: &Asked) -> bool {
+    match asked {
+        Asked::Sent(ticket, _sent) => resolver.cancel(*ticket),
+        Asked::Answer(_outcome) => false,
     }
 }
 
@@ -110,8 +127,8 @@ pub fn open_many(resolver: &mut ListResolver, count: u32) -> Result<(), Fail> {
     Ok(())
 }
 
-/// A resolver with as many lookups as may be pending, and the ticket of the last one.
-fn full(alloc: Global, rt: &impl Abort) -> Result<(ListResolver, Ticket), Fail> {
+/// A resolver with as many lookups as may be pending, and the last one.
+fn full(alloc: Global, rt: &impl Abort) -> Result<(ListResolver, Asked), Fail> {
     let mut resolver = rooted(alloc, 1)?;
     open_many(&mut resolver, 1023)?;
     let last = opened(&mut resolver, 1023)?;
@@ -135,7 +152,7 @@ fn no_more_than_1024_lookups_are_pending(rt: HostRuntime) -> Result<(), Fail> {
     let alloc = rt.alloc();
     let (mut resolver, last) = full(alloc, &rt)?;
     plays(alloc, &rt, &mut resolver, "one more", ONE_MORE)?;
-    assert_eq!(rt; resolver.cancel(last), true);
+    assert!(rt; is_cancelled(&mut resolver, &last));
     plays(alloc, &rt, &mut resolver, "in its place", IN_ITS_PLACE)
 }
 

@@ -1,5 +1,5 @@
 -- From what lookups do to the lines that tell them.
-use Rattle.std.proofs.Common.{◌≡◌, ℕ, zero, suc, ◌+◌, ◌<◌, ◌≤◌, Bor, map, take, unwrap_or, option_map, if◌then◌else◌, is_ok, IfOk, OnOk, Bool, true, false, List, [], ◌∷◌, ◌++◌, length, get_or, drop, codes, Option, Some, None, Result, Ok, Err, refl, sym, ap, subst, ◌∙◌, arith}
+use Rattle.std.proofs.Common.{◌≡◌, ◌≢◌, ℕ, zero, suc, ◌+◌, ◌<◌, ◌≤◌, Bor, map, take, unwrap_or, option_map, if◌then◌else◌, is_ok, IfOk, OnOk, Bool, true, false, List, [], ◌∷◌, ◌++◌, length, get_or, drop, codes, Option, Some, None, Result, Ok, Err, refl, sym, ap, subst, ◌∙◌, arith}
 use Rattle.std.specs.Prelude.{◌&&◌}
 use Rattle.std.specs.List.{All, flat_map}
 use Rattle.std.specs.declared.alloc.AllocError.{AllocError}
@@ -23,7 +23,7 @@ use Rattle.ddt_resolver.specs.declared.answers.Why.{Why}
 use Rattle.ddt_resolver.specs.State.{State, fresh}
 use Rattle.ddt_sim.specs.declared.hop.Hop.{Hop}
 use Rattle.ddt_sim.specs.declared.hop.LookupError.{LookupError}
-use Rattle.ddt_sim.specs.declared.hop.LookupError.TheVariants.{GaveUp, TooMany}
+use Rattle.ddt_sim.specs.declared.hop.LookupError.TheVariants.{GaveUp, TooMany, Memory}
 use Rattle.ddt_sim.specs.Headline.{IsHonestHop, IsRightError}
 use Rattle.ddt_sim.specs.Lookup.{Fails, HasOutcome}
 use Rattle.ddt_sim.specs.Schedules.{StartsSound}
@@ -34,7 +34,7 @@ use Rattle.ddt_words.specs.Call.{Call}
 use Rattle.ddt_commands.specs.declared.refusal.Refusal.{Refusal}
 use Rattle.ddt_commands.specs.declared.refusal.word.WordRefusal.{WordRefusal}
 use Rattle.ddt_commands.specs.Assign.{identifier_refusal}
-use Rattle.ddt_commands.specs.Lookup.{AreAllTold, AreTold, Asks, IsLookupText, xeid_words, none, more, IsTold, outcome, gave_up, refused, bad_identifier, read_line, replied_line, said_line, why_text}
+use Rattle.ddt_commands.specs.Lookup.{AreAllTold, AreTold, Asks, IsLookupText, xeid_words, none, more, IsTold, outcome, gave_up, refused, bad_identifier, end_text, read_line, replied_line, said_line, why_text}
 
 -- ---- the lines of one lookup
 
@@ -66,16 +66,19 @@ pub told_refused : (r : Register) (now : ℕ) (x : Xeid) (before after : State) 
     → Fails now x before TooMany after → IsRightError before after TooMany → lines ≡ ended (codes "refused TooMany") → IsTold r now x before false lines after
 told_refused r now x before after lines fails many is = refused fails many refl is
 
--- the same where an error says so, and its name was shown
-pub told_unfound : (r : Register) (now : ℕ) (x : Xeid) (before after : State) (error : LookupError) (why : Why) (shown : List ℕ) (result : Result Lines AllocError)
-    → error ≡ GaveUp why → Fails now x before error after → IsRightError before after error → shown ≡ why_text why
-    → IfOk result (λ lines. lines.text.items ≡ ended (codes "gave-up " ++ shown)) → IfOk result (λ lines. lines.complete ≡ false)
+-- the same where an error says so, and its words were shown
+pub told_unfound : (r : Register) (now : ℕ) (x : Xeid) (before after : State) (error : LookupError) (shown : List ℕ) (result : Result Lines AllocError)
+    → Fails now x before error after → IsRightError before after error → error ≢ Memory → shown ≡ end_text error
+    → IfOk result (λ lines. lines.text.items ≡ ended shown) → IfOk result (λ lines. lines.complete ≡ false)
     → IfOk result (λ lines. IsTold r now x before lines.complete lines.text.items after)
-told_unfound r now x before after error why shown (Ok lines) is fails right name text complete =
+told_unfound r now x before after (GaveUp why) shown (Ok lines) fails right known is text complete =
     subst (λ (b : Bool). IsTold r now x before b lines.text.items after) (sym complete)
-    (told_gave_up r now x before after why lines.text.items (subst (λ (e : LookupError). Fails now x before e after) is fails)
-    (subst (λ (e : LookupError). IsRightError before after e) is right) (text ∙ ap (λ (t : List ℕ). ended (codes "gave-up " ++ t)) name))
-told_unfound r now x before after error why shown (Err refused_) is fails right name text complete = tt
+    (told_gave_up r now x before after why lines.text.items fails right (text ∙ ap ended is))
+told_unfound r now x before after TooMany shown (Ok lines) fails right known is text complete =
+    subst (λ (b : Bool). IsTold r now x before b lines.text.items after) (sym complete)
+    (told_refused r now x before after lines.text.items fails right (text ∙ ap ended is))
+told_unfound r now x before after Memory shown (Ok lines) fails right known is text complete = absurd (known refl)
+told_unfound r now x before after error shown (Err refused_) fails right known is text complete = tt
 
 -- ---- what a hop appends
 

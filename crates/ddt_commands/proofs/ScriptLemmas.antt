@@ -1,5 +1,5 @@
 -- Which steps the lines of a script spell.
-use Rattle.std.proofs.Common.{◌≡◌, ◌≢◌, ℕ, suc, ◌+◌, ◌^◌, ◌<◌, List, [], ◌∷◌, ◌++◌, map, length, take, drop, get_or, codes, decimal, Option, Some, None, Bor, refl, sym, ap, ◌∙◌, subst, arith}
+use Rattle.std.proofs.Common.{◌≡◌, ◌≢◌, ℕ, suc, ◌+◌, ◌^◌, ◌<◌, List, [], ◌∷◌, ◌++◌, map, length, take, drop, get_or, codes, decimal, Option, Some, None, Result, Err, Bor, refl, sym, ap, ◌∙◌, subst, arith}
 use Rattle.std.specs.Prelude.{MatchOption}
 use Rattle.std.specs.Iterator.{Yields}
 use Rattle.std.proofs.Math.Seq.{drop-cons}
@@ -14,9 +14,18 @@ use Rattle.ddt_text.proofs.LawLemmas.{xeids_are_read}
 use Rattle.ddt_text.proofs.NumberLemmas.{number_in-sound, number_in-complete}
 use Rattle.ddt_sim.specs.declared.schedule.Step.{Step}
 use Rattle.ddt_sim.specs.declared.schedule.Step.TheVariants.{Ask, Deliver, Pass, Tick}
+use Rattle.ddt_commands.specs.declared.script.ScriptFault.{ScriptFault}
+use Rattle.ddt_commands.specs.declared.script.ScriptFault.TheVariants.{Line}
 use Rattle.ddt_commands.specs.Script.{IsRefusedAt, ScriptsAreClear, SpellSteps, SpellsStep, lines_in}
 
 -- ---- one line
+
+abbrev as_refusal : {T : Type 0} → ScriptFault → Result T ScriptFault
+as_refusal fault = Err fault
+
+-- the number that a refusal names is that of its line
+pub one_line : {T : Type 0} (a b : ℕ) (fault : ScriptFault) → fault ≡ Line a → as_refusal {T = T} fault ≡ as_refusal (Line b) → a ≡ b
+one_line a b fault is refused = cc
 
 -- lines that begin with different letters differ
 letters : (a b : ℕ) (xs ys line : List ℕ) → line ≡ a ∷ xs → line ≡ b ∷ ys → a ≡ b

@@ -20,7 +20,8 @@ use Rattle.ddt_resolver.specs.declared.answers.Why.{Why}
 use Rattle.ddt_resolver.specs.declared.answers.Why.TheVariants.{NoReply, Loop, NotAuthoritative, Exhausted}
 use Rattle.ddt_resolver.specs.State.{State, fresh, last_nonce, most_pending}
 use Rattle.ddt_sim.specs.declared.hop.Hop.{Hop}
-use Rattle.ddt_sim.specs.declared.hop.LookupError.TheVariants.{GaveUp, TooMany}
+use Rattle.ddt_sim.specs.declared.hop.LookupError.{LookupError}
+use Rattle.ddt_sim.specs.declared.hop.LookupError.TheVariants.{GaveUp, TooMany, Memory}
 use Rattle.ddt_sim.specs.Lookup.{Fails, HasOutcome}
 use Rattle.ddt_lines.specs.Lines.{ended, hop_text, outcome_text}
 use Rattle.ddt_words.specs.Call.{Call, all_values, setting}
@@ -95,6 +96,12 @@ why_text NoReply = codes "NoReply"
 why_text Loop = codes "Loop"
 why_text NotAuthoritative = codes "NotAuthoritative"
 why_text Exhausted = codes "Exhausted"
+
+-- what is told of an error of a lookup; of want of memory nothing
+abbrev pub end_text : LookupError → List ℕ
+end_text (GaveUp why) = codes "gave-up " ++ why_text why
+end_text TooMany = codes "refused TooMany"
+end_text Memory = []
 
 -- The lines of one lookup, and whether it has an outcome. `outcome`: a line for each hop, then that of what the
 -- register assigns. `gave_up`: no nonce is left for its next request. `refused`: 1,024 lookups were pending before.

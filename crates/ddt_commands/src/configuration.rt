@@ -1,6 +1,8 @@
 //! The configuration in a file, of which a server is built.
 
 ghost use Rattle.std.specs.Prelude.{◌≡◌, ◌<◌, ℕ, List, None, IsErr, IfOk, IfErr};
+ghost use Rattle.std.specs.Str.{IsUtf8};
+ghost use Rattle.ddt_config.specs.declared.fault.ConfigFault.TheVariants.{Toml as IsToml, Shape as IsShape};
 ghost use Rattle.ddt_config.specs.Entries.{entry_count};
 ghost use Rattle.ddt_config.specs.Table.{outline};
 ghost use Rattle.ddt_trie.specs.PrefixMap.{most_entries};
@@ -41,13 +43,44 @@ fn config_in(alloc: Global, bytes: &[u8]) -> Result<ServerConfig, Refusal<'stati
     ensures spelled { IfOk result (λ c. IsServedConfig bytes.now (outline c)) }
     ensures refused { IfErr result (IsBadConfig bytes.now) }
 {
-    let Ok(text) = str::from_utf8(bytes) else {
-        return Err(unserved(ConfigFault::Toml));
+    match read_config(alloc, bytes) {
+        Ok(config) => Ok(config),
+        Err(fault) => Err(unserved(fault)),
+    }
+}
+
+/// The same, with the fault by its name.
+fn read_config(alloc: Global, bytes: &[u8]) -> Result<ServerConfig, ConfigFault>
+    ensures spelled { IfOk result (λ c. IsServedConfig bytes.now (outline c)) }
+    ensures refused { IfErr result (λ fault. IsBadConfig bytes.now (config_refusal fault)) }
+{
+    let text = match text_in(bytes) {
+        Ok(text) => text,
+        Err(fault) => return Err(fault),
     };
     match from_toml(alloc, text) {
-        Ok(config) if has_room_for(&config) => Ok(config),
-        Ok(_config) => Err(unserved(ConfigFault::Shape)),
-        Err(fault) => Err(unserved(fault)),
+        Ok(config) => with_room(config),
+        Err(fault) => Err(fault),
+    }
+}
+
+/// The text of bytes in UTF-8; 1 Toml of any others.
+fn text_in(bytes: &[u8]) -> Result<&str, ConfigFault>
+    ensures text { IfOk result (λ text. (text.now ≡ bytes.now) × IsUtf8 bytes.now) }
+    ensures none { IfErr result (λ fault. (fault ≡ IsToml) × ¬ (IsUtf8 bytes.now)) }
+{
+    str::from_utf8(bytes).map_err(|_error| ConfigFault::Toml)
+}
+
+/// The configuration where a server has room for it; else 4 Shape.
+fn with_room(config: ServerConfig) -> Result<ServerConfig, ConfigFault>
+    ensures fits { IfOk result (λ c. (c ≡ config) × (entry_count (outline config) < most_entries)) }
+    ensures full { IfErr result (λ fault. (fault ≡ IsShape) × ¬ (entry_count (outline config) < most_entries)) }
+{
+    if has_room_for(&config) {
+        Ok(config)
+    } else {
+        Err(ConfigFault::Shape)
     }
 }
 

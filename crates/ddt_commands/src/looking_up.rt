@@ -1,12 +1,13 @@
 //! A lookup over the servers of a register, and the lines that tell it.
 
-ghost use Rattle.std.specs.Prelude.{◌≡◌, ◌++◌, false, IfOk, OnOk};
+ghost use Rattle.std.specs.Prelude.{◌≡◌, ◌≢◌, ◌++◌, false, IfOk, OnErr, OnOk};
 ghost use Rattle.std.specs.List.{flat_map};
 ghost use Rattle.ddt_register.specs.declared.register.Register.{Register};
 ghost use Rattle.ddt_sim.specs.Compiled.{AreCompiled};
 ghost use Rattle.ddt_sim.specs.Sound.{IsSound};
+ghost use Rattle.ddt_sim.specs.declared.hop.LookupError.TheVariants.{Memory as IsMemory};
 ghost use Rattle.ddt_lines.specs.Lines.{ended, outcome_text};
-ghost use Rattle.ddt_commands.specs.Lookup.{IsTold, replied_line, why_text};
+ghost use Rattle.ddt_commands.specs.Lookup.{IsTold, end_text, replied_line, why_text};
 
 use crate::lines::Lines;
 use ddt_cache::{Entry, Moment};
@@ -41,9 +42,10 @@ pub fn look_up(
     referral_laws();
     match lookup(alloc, servers, resolver, now, x) {
         Ok(lookup) => Ok(Lines::whole(found_text(alloc, &lookup)?)),
-        Err(LookupError::GaveUp(why)) => unfound(alloc, "gave-up ", why_name(why)),
-        Err(LookupError::TooMany) => unfound(alloc, "refused ", "TooMany"),
-        Err(LookupError::Memory) => Err(AllocError),
+        Err(error) => {
+            let (end, why) = end_of(error)?;
+            unfound(alloc, end, why)
+        }
     }
 }
 
@@ -67,6 +69,19 @@ fn push_hop(alloc: Global, text: &mut Vec<u8>, hop: &Hop) -> Result<(), AllocErr
     match read_referral(hop.reply.as_slice()) {
         Ok(referral) => text.extend_from_slice(&hop_line(alloc, hop.to, &referral)?),
         Err(_fault) => Ok(()),
+    }
+}
+
+/// The words of the line of a lookup that ended with an error. Fails only if the lookup was out of memory.
+fn end_of(error: LookupError) -> Result<(&'static str, &'static str), AllocError>
+    ensures words { IfOk result (λ words. words.0.now ++ words.1.now ≡ end_text error) }
+    ensures known { IfOk result (λ words. error ≢ IsMemory) }
+    ensures memory { OnErr result (error ≡ IsMemory) }
+{
+    match error {
+        LookupError::GaveUp(why) => Ok(("gave-up ", why_name(why))),
+        LookupError::TooMany => Ok(("refused ", "TooMany")),
+        LookupError::Memory => Err(AllocError),
     }
 }
 

@@ -1,8 +1,10 @@
 //! From the words of the process to the command that they call, and its end.
 
-ghost use Rattle.std.specs.Prelude.{◌≡◌, ◌≢◌, ◌⊎◌, Bool, map, string_bytes};
+ghost use Rattle.std.specs.Prelude.{◌≡◌, ◌≢◌, ◌⊎◌, Bool, MatchOption, map, string_bytes};
 ghost use Rattle.std.specs.Fn.{FnReturnsAt};
 ghost use Rattle.ddt_words.specs.Call.{call_of};
+ghost use Rattle.ddt_words.specs.declared.fault.WordsFault.TheVariants.{Bad as AreBad, Memory as IsMemory};
+ghost use Rattle.ddt_commands.specs.declared.refusal.Refusal.TheVariants.{OutOfMemory as IsOutOfMemory};
 ghost use Rattle.ddt_commands.specs.declared.status.Status.TheVariants.{
   Refused as IsRefused,
   BadWords as IsBadWords,
@@ -82,8 +84,20 @@ where
             },
             None => show_usage(err),
         },
-        Err(WordsFault::Bad) => show_usage(err),
-        Err(WordsFault::Memory) => refuse(alloc, &Refusal::OutOfMemory, err),
+        Err(fault) => match uncalled(fault) {
+            Some(why) => refuse(alloc, &why, err),
+            None => show_usage(err),
+        },
+    }
+}
+
+/// What is refused where the words call no command: 2 Memory is out of memory; 1 Bad shows the usage instead.
+fn uncalled(fault: WordsFault) -> Option<Refusal<'static>>
+    ensures { MatchOption result (fault ≡ AreBad) (λ why. (fault ≡ IsMemory) × (why ≡ IsOutOfMemory)) }
+{
+    match fault {
+        WordsFault::Bad => None,
+        WordsFault::Memory => Some(Refusal::OutOfMemory),
     }
 }
 

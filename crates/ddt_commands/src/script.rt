@@ -1,6 +1,6 @@
 //! A script: a step of a schedule in each line. Lines are what stands between line feeds; empty ones don't count.
 
-ghost use Rattle.std.specs.Prelude.{◌≡◌, ◌≢◌, ◌++◌, ℕ, List, Err, IfOk, MatchOption};
+ghost use Rattle.std.specs.Prelude.{◌≡◌, ◌≢◌, ◌++◌, ℕ, List, Err, IfErr, IfOk, MatchOption};
 ghost use Rattle.ddt_text.specs.Grammar.{SpellsXeid};
 ghost use Rattle.ddt_path.specs.declared.xeid.Xeid.{Xeid};
 ghost use Rattle.ddt_sim.specs.declared.schedule.Step.{Step as AStep};
@@ -46,12 +46,21 @@ pub fn read_script(alloc: Global, text: &[u8]) -> Result<Vec<Step>, ScriptFault>
     let mut steps = Vec::new(alloc);
     let lines = text.split(|byte| *byte == b'\n');
     for line in lines.filter(|line| !line.is_empty()) {
-        match read_step(line) {
-            Some(step) => steps.push(step).map_err(AllocError::from)?,
-            None => return Err(ScriptFault::Line(steps.len() + 1)),
+        match step_of(line, steps.len() + 1) {
+            Ok(step) => steps.push(step).map_err(AllocError::from)?,
+            Err(fault) => return Err(fault),
         }
     }
     Ok(steps)
+}
+
+/// The step that the line of a number spells; Line with that number where it spells none.
+fn step_of(line: &[u8], number: usize) -> Result<Step, ScriptFault>
+    ensures step { IfOk result (λ step. SpellsStep line.now step) }
+    ensures none { IfErr result (λ fault. (fault ≡ fault_as.Line number)
+        × ((step : AStep) → ¬ (SpellsStep line.now step))) }
+{
+    read_step(line).ok_or(ScriptFault::Line(number))
 }
 
 /// The step that a line spells, if it spells one.

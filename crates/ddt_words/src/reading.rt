@@ -4,7 +4,7 @@ ghost use Rattle.std.specs.Prelude.{◌≡◌, ◌≢◌, true, Err, [], map, st
 ghost use Rattle.clap.specs.Words.{fault_of, is_simple_and_free};
 ghost use Rattle.ddt_words.specs.Call.{call_of, Calls};
 ghost use Rattle.ddt_words.specs.Line.{line};
-ghost use Rattle.ddt_words.specs.declared.fault.WordsFault.TheVariants.{Bad as IsBad};
+ghost use Rattle.ddt_words.specs.declared.fault.WordsFault.TheVariants.{Bad as IsBad, Memory as IsMemory};
 
 use crate::declaration::{Declaration, command_line};
 use crate::fault::WordsFault;
@@ -34,8 +34,10 @@ pub fn read_words<'a>(
     }
 }
 
+/// Memory where clap ran out of memory, and Bad for each other fault.
 fn fault(kind: ErrorKind) -> WordsFault
-    ensures { result ≡ IsBad → kind ≢ ErrorKind.OutOfMemory }
+    ensures bad { result ≡ IsBad → kind ≢ ErrorKind.OutOfMemory }
+    ensures memory { result ≡ IsMemory → kind ≡ ErrorKind.OutOfMemory }
 {
     match kind {
         ErrorKind::OutOfMemory => WordsFault::Memory,

@@ -10,7 +10,8 @@ returns-in_ok-found_text-in-Ok-clause-told c = λ r compiled sound.
     c.whole.result.text.items c.in-Ok.ensures.steps (c.in-Ok.ensures.headline r compiled.0 compiled sound) (c.in-Ok.ensures.hops r compiled.0 compiled sound)
     (rw c.whole.ensures.text c.in_ok-found_text-in-Ok.ensures))
 
-pub returns-in-Err-GaveUp-clause-told : goal.returns-in-Err-GaveUp-clause-told
-returns-in-Err-GaveUp-clause-told c = λ r compiled sound.
-    told_unfound r c.args.now c.args.x c.args.resolver.now c.lookup.new.resolver c.in-Err-GaveUp.field-0 c.in-Err-GaveUp.why c.why_name.result.now c.unfound.result
-    c.in-Err-GaveUp.field-0-is c.in-Err-GaveUp.ensures.failed (c.in-Err-GaveUp.ensures.errors r compiled.0 compiled sound) c.why_name.ensures c.unfound.ensures.text c.unfound.ensures.complete
+pub returns-in_ok-end-in-Err-clause-told : goal.returns-in_ok-end-in-Err-clause-told
+returns-in_ok-end-in-Err-clause-told c = λ r compiled sound.
+    let words = c.in_ok-end-in-Err.ensures in
+    told_unfound r c.args.now c.args.x c.args.resolver.now c.lookup.new.resolver c.in-Err.error _ c.unfound.result
+    c.in-Err.ensures.failed (c.in-Err.ensures.errors r compiled.0 compiled sound) words.known words.words c.unfound.ensures.text c.unfound.ensures.complete

@@ -10,9 +10,9 @@ use Rattle.ddt_commands.proofs.running.run.Goals as goal
 pub read_words-requires : goal.read_words-requires
 read_words-requires g c = simple_line c.command_list.result.now c.command_list.ensures
 
-pub returns-in-Err-Bad-clause-bad : goal.returns-in-Err-Bad-clause-bad
-returns-in-Err-Bad-clause-bad g c = λ status.
-    bad_words c.command_list.result.now (map string_bytes c.args.words.now) c.command_list.ensures (c.in-Err-Bad.ensures.bad (ap Err c.in-Err-Bad.field-0-is))
+pub returns-clause-bad : goal.returns-clause-bad
+returns-clause-bad g c = λ status.
+    bad_words c.command_list.result.now (map string_bytes c.args.words.now) c.command_list.ensures (c.in-Err.ensures.bad (ap Err c.in-None-uncalled.ensures))
 
 pub returns-in-Some-clause-answered : goal.returns-in-Some-clause-answered
 returns-in-Some-clause-answered g c = λ complete status.

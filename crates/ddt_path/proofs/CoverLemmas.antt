@@ -1,10 +1,10 @@
 -- Fronts of paths. This file needs the specs of ddt_path alone.
 use Rattle.std.proofs.Common.{◌≡◌, ℕ, zero, suc, ◌≤◌, Bool, true, false, List, [], ◌∷◌, ◌++◌, length, take, drop, refl, sym, ap, subst, ◌∙◌, arith}
-use Rattle.std.specs.Prelude.{◌==◌, ◌&&◌, ◌||◌}
-use Rattle.std.proofs.lemmas.Bool.{and_parts, and_from, false≢true, eqb-true, eq-eqb}
-use Rattle.std.specs.Cmp.Lexicographic.{bytes_decides}
+use Rattle.std.specs.Prelude.{◌==◌, ◌&&◌, ◌||◌, not}
+use Rattle.std.proofs.lemmas.Bool.{and_parts, and_from, both_ways, false_from_ne_true, false≢true, eqb-true, eq-eqb, not-true, not_from_false}
+use Rattle.std.specs.Cmp.Lexicographic.{bytes_decides, nat_list_eq_equiv}
 use Rattle.std.proofs.lemmas.List.{take-append-drop}
-use Rattle.ddt_path.specs.Covers.{covers, overlaps, is_same_path}
+use Rattle.ddt_path.specs.Covers.{covers, overlaps, is_same_path, is_strictly_below}
 
 pub covers_self : (p : List ℕ) → covers p p ≡ true
 covers_self [] = refl
@@ -81,3 +81,23 @@ same_path p q e = (bytes_decides p q).0 e
 
 pub path_itself : (p q : List ℕ) → p ≡ q → is_same_path p q ≡ true
 path_itself p q e = (bytes_decides p q).1 e
+
+pub same_path-flips : (p q : List ℕ) → is_same_path p q ≡ true → is_same_path q p ≡ true
+same_path-flips p q e = nat_list_eq_equiv.symm q p ∙ e
+
+-- ---- strictly below
+
+pub below_from : (p q : List ℕ) → covers q p ≡ true → covers p q ≡ false → is_strictly_below p q ≡ true
+below_from p q down up = and_from (covers q p) (not (covers p q)) down (not_from_false (covers p q) up)
+
+pub below_is : (p q : List ℕ) → is_strictly_below p q ≡ true → (covers q p ≡ true) × (covers p q ≡ false)
+below_is p q e =
+    let s = and_parts (covers q p) (not (covers p q)) e in
+    (s.0, not-true (covers p q) s.1)
+
+-- what covers q has strictly below it what q has
+pub below_wider : (p q r : List ℕ) → covers r q ≡ true → is_strictly_below p q ≡ true → is_strictly_below p r ≡ true
+below_wider p q r wide e =
+    let s = below_is p q e in
+    below_from p r (covers_trans r q p wide s.0)
+    (false_from_ne_true (covers p r) (λ back. both_ways (covers p q) s.1 (covers_trans p r q back wide)))

@@ -112,3 +112,34 @@ module _ {A : Type 0} (test : A → Bool) (xs : List A) (i : ℕ) (x : A) (lt : 
 
   pub none_made : {V : Type 0} (f : A → V) → test x ≡ false → map f (filter test (take i xs)) ≡ map f (filter test (take (i + 1) xs))
   none_made f e = ap (map f) (one_left_out e)
+
+-- ---- how many pass
+
+-- a narrower test passes no more
+pub narrower : {A : Type 0} (wide narrow : A → Bool) (xs : List A) → ((a : A) → narrow a ≡ true → wide a ≡ true) → length (filter narrow xs) ≤ length (filter wide xs)
+narrower wide narrow [] h = omega arith
+narrower wide narrow (a ∷ xs) h = by (narrower wide narrow xs h) (narrow a) (wide a) (h a)
+  where
+    by : length (filter narrow xs) ≤ length (filter wide xs) → (b c : Bool) → (b ≡ true → c ≡ true)
+        → length (cond b (a ∷ filter narrow xs) (filter narrow xs)) ≤ length (cond c (a ∷ filter wide xs) (filter wide xs))
+    by rest true true k = omega (arith, rest)
+    by rest true false k = absurd (false≢true (k refl))
+    by rest false true k = omega (arith, rest)
+    by rest false false k = omega (arith, rest)
+
+-- and fewer where a member passes the wider alone
+pub fewer : {A : Type 0} (wide narrow : A → Bool) (xs : List A) (a : A) → ((b : A) → narrow b ≡ true → wide b ≡ true) → IsIn a xs → wide a ≡ true → narrow a ≡ false → length (filter narrow xs) < length (filter wide xs)
+fewer wide narrow [] a h among passes not = absurd among
+fewer wide narrow (b ∷ xs) a h (inl same) passes not =
+    let rest : length (filter narrow xs) ≤ length (filter wide xs) = narrower wide narrow xs h in
+    let c : narrow b ≡ false = subst (λ v. narrow v ≡ false) same not in
+    let d : wide b ≡ true = subst (λ v. wide v ≡ true) same passes in
+    rw (c, d) (omega (arith, rest))
+fewer wide narrow (b ∷ xs) a h (inr later) passes not = by (fewer wide narrow xs a h later passes not) (narrow b) (wide b) (h b)
+  where
+    by : length (filter narrow xs) < length (filter wide xs) → (c d : Bool) → (c ≡ true → d ≡ true)
+        → length (cond c (b ∷ filter narrow xs) (filter narrow xs)) < length (cond d (b ∷ filter wide xs) (filter wide xs))
+    by rest true true k = omega (arith, rest)
+    by rest true false k = absurd (false≢true (k refl))
+    by rest false true k = omega (arith, rest)
+    by rest false false k = omega (arith, rest)

@@ -1,10 +1,10 @@
 -- Two fronts of one path, and what is strictly below another.
 use Rattle.std.proofs.Common.{◌≡◌, ℕ, ◌<◌, ◌≤◌, Bool, true, false, not, List, [], ◌∷◌, length, take, refl, sym, ap, ◌∙◌, arith, inl, inr}
 use Rattle.std.specs.Prelude.{◌==◌, ◌&&◌, ◌||◌, nat_le}
-use Rattle.std.proofs.lemmas.Bool.{and_parts, and_from, or_cases, or_left, or_right, false≢true, true≢false, eqb-true, eq-eqb, not-true, not_from_false, false_from_ne_true, cases_lt, le-leb, leb-true}
+use Rattle.std.proofs.lemmas.Bool.{and_parts, and_from, or_cases, or_left, or_right, false≢true, true≢false, eqb-true, eq-eqb, false_from_ne_true, cases_lt, le-leb, leb-true}
 use Rattle.std.proofs.lemmas.List.{take_all, length-take}
 use Rattle.ddt_path.specs.Covers.{covers, overlaps, is_same_path, is_strictly_below, shared_len}
-use Rattle.ddt_path.proofs.CoverLemmas.{covers_self, covers_trans, front_covered, take-covered, length-covered, covered_same}
+use Rattle.ddt_path.proofs.CoverLemmas.{covers_self, covers_trans, front_covered, take-covered, length-covered, covered_same, below_from, below_is}
 use Rattle.ddt_path.proofs.ShareLemmas.{covers_both, covers-take, shared_len-le, shared_len_le_second}
 
 -- of two fronts the longer begins with the shorter
@@ -23,15 +23,15 @@ one_front p q x c d e = covered_same p q (front_covers p q x c d (omega arith)) 
 
 pub front_below : (p q x : List ℕ) → covers p x ≡ true → covers q x ≡ true → length p < length q → is_strictly_below q p ≡ true
 front_below p q x c d lt =
-    and_from (covers p q) (not (covers q p)) (front_covers p q x c d (omega arith))
-    (not_from_false (covers q p) (false_from_ne_true (covers q p) (λ e. let le = length-covered q p e in absurd (omega arith))))
+    below_from q p (front_covers p q x c d (omega arith))
+    (false_from_ne_true (covers q p) (λ e. let le = length-covered q p e in absurd (omega arith)))
 
 pub below_parts : (q p : List ℕ) → is_strictly_below q p ≡ true → (covers p q ≡ true) × (length p < length q)
 below_parts q p e =
-    let s = and_parts (covers p q) (not (covers q p)) e in
+    let s = below_is q p e in
     elim (cases_lt (length p) (length q)) [
       | inl lt ↦ (s.0, lt)
-      | inr le ↦ absurd (false≢true (sym (not-true (covers q p) s.1) ∙ ap (covers q) (covered_same p q s.0 le) ∙ covers_self q))
+      | inr le ↦ absurd (false≢true (sym s.1 ∙ ap (covers q) (covered_same p q s.0 le) ∙ covers_self q))
     ]
 
 -- what overlaps a path overlaps each of its fronts

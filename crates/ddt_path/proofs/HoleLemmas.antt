@@ -1,16 +1,16 @@
 -- The least specific free prefix, over the definitions.
 use Rattle.std.proofs.Common.{◌≡◌, ℕ, ◌+◌, ◌<◌, ◌≤◌, Bool, true, false, cond, List, [], ◌∷◌, ◌++◌, length, map, take, drop, Some, None, refl, sym, ap, ◌∙◌, arith, inl, inr}
-use Rattle.std.specs.Prelude.{find, nat_lt, not, Option, ◌&&◌}
+use Rattle.std.specs.Prelude.{find, nat_lt, not, unwrap_or, Option, ◌&&◌, ◌||◌}
 use Rattle.std.specs.List.{list_any, list_all, filter}
 use Rattle.std.proofs.lemmas.Bool.{cond-true, cond-false, and_from, and_parts, or_cases, or_left, or_right, and_cases, not-true, not-false, not_from_false, false_from_ne_true, false≢true, lt-ltb, le-ltb, cases_lt}
 use Rattle.std.proofs.lemmas.Option.{same_Some, cond_some}
 use Rattle.std.proofs.lemmas.List.{append_assoc, take-append-drop, length-take, drop_more, take_more, take_all, drop_all, append-nil}
 use Rattle.ddt_path.specs.Path.{is_path, is_prefix_path}
 use Rattle.ddt_path.specs.Covers.{covers, overlaps, is_same_path}
-use Rattle.ddt_path.specs.Free.{lengthened, parts_from, overlaps_none, free, is_free}
+use Rattle.ddt_path.specs.Free.{lengthened, parts_from, overlaps_none, free, is_free, hole_of}
 use Rattle.ddt_path.proofs.CoverLemmas.{covers_self, covers_trans, covers-append, take-covered, length-covered, overlaps-take, next_digit, same_path}
-use Rattle.ddt_path.proofs.MemberLemmas.{IsIn, holds_at, list_all-map}
-use Rattle.ddt_path.proofs.FilterLemmas.{filter_in, all_kept}
+use Rattle.ddt_path.proofs.MemberLemmas.{IsIn, holds_at, list_all-map, list_any-map, any_in}
+use Rattle.ddt_path.proofs.FilterLemmas.{in_filter, filter_in, all_kept}
 use Rattle.ddt_path.proofs.EndLemmas.{overlaps_whole}
 
 -- ---- the parts of a path
@@ -175,6 +175,18 @@ free_agree authority s t x same = find_agree (overlaps_none s) (overlaps_none t)
 
 -- ---- what overlaps none of the prefixes that a test keeps
 
+pub overlaps_none-filter : {A : Type 0} (prefix : A → List ℕ) (test : A → Bool) (items : List A) (q : List ℕ)
+    → not (list_any (λ a. test a && overlaps (prefix a) q) items) ≡ overlaps_none (map prefix (filter test items)) q
+overlaps_none-filter prefix test [] q = refl
+overlaps_none-filter prefix test (a ∷ items) q =
+    elim (test a) as (λ b. not ((b && overlaps (prefix a) q) || list_any (λ z. test z && overlaps (prefix z) q) items) ≡ overlaps_none (map prefix (cond b (a ∷ filter test items) (filter test items))) q) [
+      | true ↦ elim (overlaps (prefix a) q) as (λ b. not (b || list_any (λ z. test z && overlaps (prefix z) q) items) ≡ (not b && overlaps_none (map prefix (filter test items)) q)) [
+        | true ↦ refl
+        | false ↦ overlaps_none-filter prefix test items q
+      ]
+      | false ↦ overlaps_none-filter prefix test items q
+    ]
+
 module _ {A : Type 0} (prefix : A → List ℕ) (test : A → Bool) (xs : List A) (q : List ℕ) where
   pub apart_from_kept : ((a : A) → IsIn a xs → test a ≡ true → overlaps (prefix a) q ≡ false) → overlaps_none (map prefix (filter test xs)) q ≡ true
   apart_from_kept h = all_kept prefix (λ (p : List ℕ). not (overlaps p q)) test xs (λ a k t. not_from_false (overlaps (prefix a) q) (h a k t))
@@ -231,3 +243,31 @@ none_free_covered authority s x e h inside none =
     let test = overlaps_none s in
     let parts : find test (lengthened (take n x) (drop n x)) ≡ None = sym (ap (find test) (parts_from_fits n x (length-covered authority x inside))) ∙ none in
     some_covers s x e h (sym (ap test (take-append-drop n x)) ∙ whole_fails test (take n x) (drop n x) parts)
+
+-- where nothing is free among the prefixes that a test keeps, one of them covers
+pub kept_covers : {A : Type 0} (prefix : A → List ℕ) (test : A → Bool) (xs : List A) (authority x : List ℕ) → is_path x ≡ true
+    → ((a : A) → IsIn a xs → is_prefix_path (prefix a) ≡ true) → covers authority x ≡ true → free authority (map prefix (filter test xs)) x ≡ None
+    → (a : A) × IsIn a xs × (test a ≡ true) × (covers (prefix a) x ≡ true)
+kept_covers prefix test xs authority x e are inside none =
+    let prefixes = all_kept prefix is_prefix_path test xs (λ a k t. are a k) in
+    let some = none_free_covered authority (map prefix (filter test xs)) x e prefixes inside none in
+    let found = any_in (λ a. covers (prefix a) x) (filter test xs) (sym (list_any-map (λ p. covers p x) prefix (filter test xs)) ∙ some) in
+    let p = in_filter test xs found.0 found.1 in
+    (found.0, p.0, p.1, found.2)
+
+-- ---- the hole's prefix
+
+pub hole_covers : (authority : List ℕ) (keys : List (List ℕ)) (x : List ℕ) → covers authority x ≡ true → covers (hole_of authority keys x) x ≡ true
+hole_covers authority keys x inside = go (free authority keys x) refl
+  where
+    go : (found : Option (List ℕ)) → free authority keys x ≡ found → covers (unwrap_or found x) x ≡ true
+    go None e = covers_self x
+    go (Some q) e = (and_parts (covers q x) (covers authority q && overlaps_none keys q) (hole_is_free authority keys x q inside e)).0
+
+-- where something is free the hole is free
+pub hole_is : (authority : List ℕ) (keys : List (List ℕ)) (x q : List ℕ) → (free authority keys x ≡ None → ⊥) → hole_of authority keys x ≡ q → free authority keys x ≡ Some q
+hole_is authority keys x q some is = go (free authority keys x) refl is
+  where
+    go : (found : Option (List ℕ)) → free authority keys x ≡ found → unwrap_or found x ≡ q → free authority keys x ≡ Some q
+    go None at is = absurd (some at)
+    go (Some p) at is = at ∙ ap (λ (l : List ℕ). Some l) is

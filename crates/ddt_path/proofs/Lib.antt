@@ -8,6 +8,7 @@ pub mod PathTestLemmas
 pub mod CoverLemmas
 pub mod EndLemmas
 pub mod HoleLemmas
+pub mod PartLemmas
 pub mod MemberLemmas
 pub mod FilterLemmas
 pub mod PathOrderLemmas

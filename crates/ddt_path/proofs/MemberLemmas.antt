@@ -1,14 +1,14 @@
 -- Which items a list has, and tests that hold of one, of all and of none of them. What a test keeps of a list is in
 -- FilterLemmas.
-use Rattle.std.proofs.Common.{◌≡◌, ◌⊎◌, ℕ, zero, suc, ◌+◌, ◌<◌, Bool, true, false, cond, ◌&&◌, ◌||◌, List, [], ◌∷◌, length, get_or, map, take, drop, find, IsPermutation, Option, Some, None, refl, sym, ap, subst, ◌∙◌, arith, rules, inl, inr}
-use Rattle.std.specs.Prelude.{unwrap_or, is_some}
+use Rattle.std.proofs.Common.{◌≡◌, ◌⊎◌, ℕ, zero, suc, ◌+◌, ◌<◌, ◌≤◌, Bool, true, false, cond, ◌&&◌, ◌||◌, List, [], ◌∷◌, length, get_or, map, take, drop, find, IsPermutation, Option, Some, None, refl, sym, ap, subst, ◌∙◌, arith, rules, inl, inr}
+use Rattle.std.specs.Prelude.{unwrap_or, is_some, slice_get}
 use Rattle.std.specs.List.{list_any, list_all, All, AllByRecursion, Contains}
 use Rattle.std.specs.Option.{option_or}
 use Rattle.std.proofs.lemmas.Bool.{cond-true, cond-false, false≢true, and_parts, or_parts, or_cases, or_left, or_right}
-use Rattle.std.proofs.lemmas.List.{drop_more, take_more}
+use Rattle.std.proofs.lemmas.List.{drop_more, take_more, get_or_default}
 use Rattle.std.proofs.lemmas.List.Folds.{find-append}
-use Rattle.std.proofs.lemmas.List.Sorted.{Contains-permutation}
-use Rattle.std.proofs.lemmas.List.Elements.{All-from_recursion}
+use Rattle.std.proofs.lemmas.List.Sorted.{Contains-permutation, IsPermutation-sym}
+use Rattle.std.proofs.lemmas.List.Elements.{All-from_recursion, Contains-get_or}
 
 abbrev pub IsIn : {A : Type 0} → A → List A → Type 0
 IsIn a [] = ⊥
@@ -27,9 +27,50 @@ contained [] x k = absurd k
 contained (y ∷ xs) x (inl same) = (0, omega arith, sym same)
 contained (y ∷ xs) x (inr later) = let k = contained xs x later in (suc k.0, omega (arith, k.1), k.2)
 
+-- what stands at a place is a member, and each member stands at a place
+pub in_get : {A : Type 0} (xs : List A) (k : ℕ) (x : A) → slice_get xs k ≡ Some x → IsIn x xs
+in_get [] k x e = absurd cc
+in_get (y ∷ xs) zero x e = inl cc
+in_get (y ∷ xs) (suc k) x e = inr (in_get xs k x e)
+
+pub get_in : {A : Type 0} (xs : List A) (x : A) → IsIn x xs → (k : ℕ) × (k < length xs) × (slice_get xs k ≡ Some x)
+get_in [] x k = absurd k
+get_in (y ∷ xs) x (inl same) = (0, omega arith, ap (λ (z : _). Some z) (sym same))
+get_in (y ∷ xs) x (inr later) = let p = get_in xs x later in (suc p.0, omega (arith, p.1), p.2)
+
+-- what stands at a place is among what stands from an earlier place on
+pub in_drop : {A : Type 0} (xs : List A) (j k : ℕ) (x : A) → j ≤ k → slice_get xs k ≡ Some x → IsIn x (drop j xs)
+in_drop xs zero k x le e = in_get xs k x e
+in_drop [] (suc j) k x le e = absurd cc
+in_drop (y ∷ xs) (suc j) zero x le e = absurd (omega arith)
+in_drop (y ∷ xs) (suc j) (suc k) x le e = in_drop xs j k x (omega arith) e
+
 -- a list in another order has the same members
 pub moved_in : {A : Type 0} (xs ys : List A) → IsPermutation xs ys → (a : A) → IsIn a xs → IsIn a ys
 moved_in xs ys moved a k = in_contained ys a (Contains-permutation xs ys a moved (contained xs a k))
+
+-- each of them has a place there, and what stands at a place there is one of them
+pub placed : {A : Type 0} (xs ys : List A) → IsPermutation xs ys → (a : A) → IsIn a xs → (d : A)
+    → (j : ℕ) × (j < length ys) × (a ≡ get_or ys j d)
+placed xs ys moved a k d =
+    let c = Contains-permutation xs ys a moved (contained xs a k) in
+    (c.0, c.1, sym c.2 ∙ get_or_default ys c.0 a d c.1)
+
+pub placed_in : {A : Type 0} (xs ys : List A) → IsPermutation xs ys → (j : ℕ) (d : A) → j < length ys
+    → IsIn (get_or ys j d) xs
+placed_in xs ys moved j d lt =
+    moved_in ys xs (IsPermutation-sym xs ys moved) (get_or ys j d) (in_contained ys (get_or ys j d) (Contains-get_or ys j d lt))
+
+-- what is in the image of a list is the image of one of its members, and each member has its image there
+pub in_map : {A B : Type 0} (f : A → B) (xs : List A) (y : B) → IsIn y (map f xs) → (x : A) × IsIn x xs × (y ≡ f x)
+in_map f [] y k = absurd k
+in_map f (x ∷ xs) y (inl same) = (x, inl refl, same)
+in_map f (x ∷ xs) y (inr later) = let p = in_map f xs y later in (p.0, inr p.1, p.2)
+
+pub map_in : {A B : Type 0} (f : A → B) (xs : List A) (x : A) → IsIn x xs → IsIn (f x) (map f xs)
+map_in f [] x k = absurd k
+map_in f (y ∷ xs) x (inl same) = inl (ap f same)
+map_in f (y ∷ xs) x (inr later) = inr (map_in f xs x later)
 
 -- tests that follow from each other are one
 pub iff_same : (x y : Bool) → (x ≡ true → y ≡ true) → (y ≡ true → x ≡ true) → x ≡ y
@@ -121,6 +162,20 @@ found_case_passes test y x rest ih false t e = ih e
 pub found_passes : {A : Type 0} (test : A → Bool) (xs : List A) (x : A) → find test xs ≡ Some x → test x ≡ true
 found_passes test [] x e = absurd (none≢some x e)
 found_passes test (y ∷ xs) x e = found_case_passes test y x (find test xs) (found_passes test xs x) (test y) refl e
+
+-- nothing is found if and only if no member passes
+pub found_none : {A : Type 0} (test : A → Bool) (xs : List A) → ((x : A) → IsIn x xs → test x ≡ false) → find test xs ≡ None
+found_none test [] none = refl
+found_none test (x ∷ xs) none = rw (none x (inl refl)) (found_none test xs (λ y k. none y (inr k)))
+
+unfound_case : {A : Type 0} (y : A) (rest : Option A) (b : Bool) → cond b (Some y) rest ≡ None → (b ≡ false) × (rest ≡ None)
+unfound_case y rest true e = absurd (none≢some y (sym e))
+unfound_case y rest false e = (refl, e)
+
+pub unfound : {A : Type 0} (test : A → Bool) (xs : List A) (x : A) → find test xs ≡ None → IsIn x xs → test x ≡ false
+unfound test [] x e k = absurd k
+unfound test (y ∷ xs) x e (inl same) = ap test same ∙ (unfound_case y (find test xs) (test y) e).0
+unfound test (y ∷ xs) x e (inr later) = unfound test xs x (unfound_case y (find test xs) (test y) e).1 later
 
 -- the first that passes among one item more
 module _ {A : Type 0} (test : A → Bool) (xs : List A) (i : ℕ) (x : A) (lt : i < length xs) (is : x ≡ get_or xs i x) where

@@ -4,7 +4,8 @@ use Rattle.std.specs.Prelude.{◌==◌}
 use Rattle.std.specs.Ordering.{nat_cmp, is_lt, is_le, is_eq, ordering_then, ordering_reverse}
 use Rattle.std.specs.Cmp.Lexicographic.{slice_cmp, texts_ties, nat_list_cmp_total, bytes_decides}
 use Rattle.std.proofs.lemmas.Bool.{true≢false, false≢true, both_ways, false_from_ne_true, and_parts, and_from, eqb-true, eq-eqb, ltb-false, le-ltb}
-use Rattle.ddt_path.specs.Covers.{covers, is_same_path}
+use Rattle.ddt_path.specs.Covers.{covers, is_same_path, is_strictly_below}
+use Rattle.ddt_path.proofs.CoverLemmas.{below_from}
 
 -- p stands before q or is q
 abbrev pub IsUpTo : List ℕ → List ℕ → Type 0
@@ -121,3 +122,9 @@ pub is_same_path-between : (a b c : List ℕ) → IsUpTo a b → IsUpTo b c → 
 is_same_path-between a b c up down far e =
     let back : IsUpTo b a = subst (λ (p : List ℕ). IsUpTo b p) (sym ((bytes_decides a c).0 e)) down in
     same_from_ties a b up back
+
+-- what a path covers and stands behind it is strictly below it
+pub below_behind : (a b : List ℕ) → covers a b ≡ true → is_le (slice_cmp nat_cmp b a) ≡ false → is_strictly_below b a ≡ true
+below_behind a b inside behind =
+    below_from b a inside (false_from_ne_true (covers b a) (λ back.
+    both_ways (is_le (slice_cmp nat_cmp b a)) behind (le-from b a (covers-up_to b a back))))

@@ -72,15 +72,6 @@ pub rise-filter : {A : Type 0} (row : A → ℕ) (test : A → Bool) (xs : List 
 rise-filter row test [] last e = refl
 rise-filter row test (x ∷ xs) last e = rise-kept row x xs (filter test xs) last e (rise-filter row test xs (row x) (rise_parts last (row x) (map row xs) e).1) (test x)
 
--- a member that passes is found, if none of a lower row passes
-pub found_first : {A : Type 0} (row : A → ℕ) (test : A → Bool) (xs : List A) (last : ℕ) (x : A) → rise last (map row xs) ≡ true → IsIn x xs → test x ≡ true
-    → ((y : A) → IsIn y xs → row y < row x → test y ≡ false) → find test xs ≡ Some x
-found_first row test [] last x e h t low = absurd h
-found_first row test (y ∷ xs) last x e (inl same) t low = rw (← same, t) refl
-found_first row test (y ∷ xs) last x e (inr later) t low =
-    let p = rise_parts last (row y) (map row xs) e in
-    rw (low y (inl refl) (above row xs (row y) x p.1 later)) (found_first row test xs (row y) x p.1 later t (λ z k lt. low z (inr k) lt))
-
 pub zones_rise : (r : Register) → rise 0 (zone_rows r.zones) ≡ true
 zones_rise r = (and_parts _ _ (and_parts _ _ r.rows).0).0
 

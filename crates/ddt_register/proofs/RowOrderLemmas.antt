@@ -1,10 +1,10 @@
 -- Rows in any order: a list whose rows rise is the only order of its items that is sorted by row.
-use Rattle.std.proofs.Common.{◌≡◌, ℕ, zero, suc, ◌<◌, Bool, true, false, List, [], ◌∷◌, map, length, get_or, IsPermutation, refl, sym, ap, subst, ◌∙◌, arith, inl, inr}
+use Rattle.std.proofs.Common.{◌≡◌, ℕ, zero, suc, ◌<◌, ◌≤◌, Bool, true, false, List, [], ◌∷◌, map, length, get_or, IsPermutation, find, Some, refl, sym, ap, subst, ◌∙◌, arith, inl, inr}
 use Rattle.std.specs.Prelude.{◌==◌, ⊤}
 use Rattle.std.specs.List.{filter, IsDistinct}
 use Rattle.std.specs.Ordering.{nat_cmp}
 use Rattle.std.specs.List.Sorted.{IsSortedByKey}
-use Rattle.std.proofs.lemmas.Bool.{ne_eqb, eqb-false}
+use Rattle.std.proofs.lemmas.Bool.{ne_eqb, eqb-false, cond-true, cond-false}
 use Rattle.std.proofs.lemmas.List.Sorted.{IsNonDecreasingBy-from_sort, IsPermutation-sym}
 use Rattle.std.proofs.lemmas.List.Elements.{Contains-get_or}
 use Rattle.std.proofs.lemmas.Map.Keys.{apart_from_distinct, IsDistinct-from_apart, IsDistinct-IsPermutation}
@@ -27,6 +27,30 @@ rising_from_rise row [] last e = tt
 rising_from_rise row (x ∷ xs) last e =
     let p = rise_parts last (row x) (map row xs) e in
     (λ y k. above row xs (row x) y p.1 k, rising_from_rise row xs (row x) p.1)
+
+-- a member that passes is found, if none of a lower row passes
+pub found_first : {A : Type 0} (row : A → ℕ) (test : A → Bool) (xs : List A) (x : A) → Rising row xs → IsIn x xs → test x ≡ true
+    → ((y : A) → IsIn y xs → row y < row x → test y ≡ false) → find test xs ≡ Some x
+found_first row test [] x up h t low = absurd h
+found_first row test (y ∷ xs) x up (inl same) t low = rw (← same, t) refl
+found_first row test (y ∷ xs) x up (inr later) t low =
+    rw (low y (inl refl) (up.0 x later)) (found_first row test xs x up.1 later t (λ z k lt. low z (inr k) lt))
+
+-- what is found stands in no higher row than a member that passes
+pub first_found : {A : Type 0} (row : A → ℕ) (test : A → Bool) (xs : List A) (x : A) → Rising row xs → IsIn x xs
+    → test x ≡ true → (g : A) × (find test xs ≡ Some g) × (row g ≤ row x)
+first_found row test [] x up k e = absurd k
+first_found row test (y ∷ xs) x up (inl same) e = (
+  y,
+  cond-true (test y) (Some y) (find test xs) (ap test (sym same) ∙ e),
+  let q : row y ≡ row x = ap row (sym same) in omega arith,
+)
+first_found {A} row test (y ∷ xs) x up (inr later) e = go (test y) refl (first_found row test xs x up.1 later e)
+  where
+    go : (b : Bool) → test y ≡ b → (g : A) × (find test xs ≡ Some g) × (row g ≤ row x)
+        → (g : A) × (find test (y ∷ xs) ≡ Some g) × (row g ≤ row x)
+    go true f p = (y, cond-true (test y) (Some y) (find test xs) f, let lt = up.0 x later in omega arith)
+    go false f p = (p.0, cond-false (test y) (Some y) (find test xs) f ∙ p.1, p.2)
 
 rising_from_places : {A : Type 0} (row : A → ℕ) (xs : List A)
     → ((i j : ℕ) (d : A) → i < j → j < length xs → row (get_or xs i d) < row (get_or xs j d)) → Rising row xs

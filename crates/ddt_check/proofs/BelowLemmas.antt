@@ -5,7 +5,7 @@ use Rattle.std.specs.List.{list_any}
 use Rattle.std.specs.Option.{option_map_or}
 use Rattle.std.proofs.lemmas.Bool.{false≢true, both_ways, false_from_ne_true, and_parts, and_from, and_cases, cases_lt, not-true, not_from_false, not-false}
 use Rattle.ddt_path.specs.Covers.{covers, is_strictly_below}
-use Rattle.ddt_path.proofs.CoverLemmas.{covers_self, covers_trans}
+use Rattle.ddt_path.proofs.CoverLemmas.{covers_self, covers_trans, below_is, below_wider}
 use Rattle.ddt_register.specs.declared.zone.Zone.{Zone}
 use Rattle.ddt_check.specs.Zones.{is_ms}
 use Rattle.ddt_check.specs.Order.{IsInOrder}
@@ -62,11 +62,7 @@ under-of_kept zones (Some m) p kept e =
 under-of_within : (top : Option (List ℕ)) (y p : List ℕ) → is_within top y ≡ true → is_strictly_below p y ≡ true
     → is_under top p ≡ true
 under-of_within None y p e below = absurd (false≢true e)
-under-of_within (Some m) y p e below =
-    let s = and_parts (covers y p) (not (covers p y)) below in
-    and_from (covers m p) (not (covers p m)) (covers_trans m y p e s.0)
-    (not_from_false (covers p m) (false_from_ne_true (covers p m)
-    (λ back. both_ways (covers p y) (not-true (covers p y) s.1) (covers_trans p m y back e))))
+under-of_within (Some m) y p e below = below_wider p y m e below
 
 module _ (zones : List Zone) (sorted : IsInOrder prefix zone_row zones) where
   up_to : (k i : ℕ) (d : Zone) → k ≤ i → i < length zones → IsUpTo (get_or zones k d).prefix (get_or zones i d).prefix
@@ -82,7 +78,7 @@ module _ (zones : List Zone) (sorted : IsInOrder prefix zone_row zones) where
       (λ e.
       let f = any_in (λ (y : Zone). is_ms y.kind && is_strictly_below w.prefix y.prefix) zones e in
       let p = and_parts (is_ms f.0.kind) (is_strictly_below w.prefix f.0.prefix) f.2 in
-      let s = and_parts (covers f.0.prefix w.prefix) (not (covers w.prefix f.0.prefix)) p.1 in
+      let s = below_is w.prefix f.0.prefix p.1 in
       let c = contained zones f.0 f.1 in
       let at : f.0 ≡ get_or zones c.0 w = sym c.2 ∙ get_or_default zones c.0 f.0 w c.1 in
       elim (cases_lt c.0 i) [
@@ -98,7 +94,7 @@ module _ (zones : List Zone) (sorted : IsInOrder prefix zone_row zones) where
             let down : IsUpTo w.prefix f.0.prefix = subst (λ (y : Zone). IsUpTo w.prefix y.prefix) (sym at)
             (subst (λ (z : Zone). IsUpTo z.prefix (get_or zones c.0 w).prefix) (sym is)
             (up_to i c.0 w behind c.1)) in
-            absurd (both_ways (covers w.prefix f.0.prefix) (not-true (covers w.prefix f.0.prefix) s.1)
+            absurd (both_ways (covers w.prefix f.0.prefix) s.1
             (covers-back w.prefix f.0.prefix down s.0))
       ])
 

@@ -15,7 +15,7 @@ use Rattle.ddt_path.specs.Covers.{covers, is_strictly_below}
 use Rattle.ddt_path.specs.Free.{free, longest_match, hole_of}
 use Rattle.ddt_path.specs.Path.{is_path, is_prefix_path}
 use Rattle.ddt_path.proofs.PathTestLemmas.{prefix_that_covers}
-use Rattle.ddt_path.proofs.HoleLemmas.{none_free_covered}
+use Rattle.ddt_path.proofs.HoleLemmas.{kept_covers, hole_is}
 use Rattle.ddt_path.proofs.FrontLemmas.{below_parts}
 use Rattle.ddt_path.proofs.MemberLemmas.{IsIn, any_in, holds_at, list_any-map, found_in}
 use Rattle.ddt_path.specs.declared.matching.Preference.TheVariants.{Longest}
@@ -39,18 +39,6 @@ use Rattle.ddt_check.proofs.RootLemmas.{zone_found}
 use Rattle.ddt_check.proofs.ZoneLemmas.{zone_prefix, site_prefix, assigned_at}
 use Rattle.ddt_path.proofs.FilterLemmas.{in_filter, all_kept}
 
--- ---- nothing but what covers an identifier leaves no hole
-
--- where nothing is free, a kept item covers the identifier
-covered_by : {A : Type 0} (prefix : A → List ℕ) (test : A → Bool) (items : List A) (authority x : List ℕ) → is_path x ≡ true → ((a : A) → IsIn a items → is_prefix_path (prefix a) ≡ true) → covers authority x ≡ true
-    → free authority (map prefix (filter test items)) x ≡ None → (a : A) × IsIn a items × (test a ≡ true) × (covers (prefix a) x ≡ true)
-covered_by prefix test items authority x e are inside none =
-    let prefixes = all_kept prefix is_prefix_path test items (λ a k t. are a k) in
-    let some = none_free_covered authority (map prefix (filter test items)) x e prefixes inside none in
-    let found = any_in (λ a. covers (prefix a) x) (filter test items) (sym (list_any-map (λ p. covers p x) prefix (filter test items)) ∙ some) in
-    let p = in_filter test items found.0 found.1 in
-    (found.0, p.0, p.1, found.2)
-
 module _ (r : Register) (accepted : IsAccepted r) where
   zone_is_prefix : (z : Zone) → IsIn z r.zones → is_prefix_path z.prefix ≡ true
   zone_is_prefix z k = range.zone_prefix z (holds_at is_zone_in_range r.zones z (zones_in_range r) k)
@@ -66,30 +54,23 @@ module _ (r : Register) (accepted : IsAccepted r) where
         let lt = (below_parts (prefix b) (prefix a) below).1 in
         omega arith
 
-    hole_is : (authority : List ℕ) (keys : List (List ℕ)) (q : List ℕ) → (free authority keys x ≡ None → ⊥) → hole_of authority keys x ≡ q → free authority keys x ≡ Some q
-    hole_is authority keys q some is = go (free authority keys x) refl is
-      where
-        go : (found : Option (List ℕ)) → free authority keys x ≡ found → unwrap_or found x ≡ q → free authority keys x ≡ Some q
-        go None at is = absurd (some at)
-        go (Some p) at is = at ∙ ap (λ (l : List ℕ). Some l) is
-
     module _ (z : Zone) (here : zone_of r x ≡ Some z) where
       zone_in : IsIn z r.zones × (covers z.prefix x ≡ true)
       zone_in = best_member Longest zone_prefix x r.zones z here
 
       node_hole : (q : List ℕ) → hole_of z.prefix (prefixes_in r z Node) x ≡ q → free z.prefix (prefixes_in r z Node) x ≡ Some q
-      node_hole q is = hole_is z.prefix (prefixes_in r z Node) q (λ none.
-          let y = covered_by zone_prefix (λ (w : Zone). is_strictly_below w.prefix z.prefix) r.zones z.prefix x e zone_is_prefix zone_in.1 none in
+      node_hole q is = hole_is z.prefix (prefixes_in r z Node) x q (λ none.
+          let y = kept_covers zone_prefix (λ (w : Zone). is_strictly_below w.prefix z.prefix) r.zones z.prefix x e zone_is_prefix zone_in.1 none in
           no_longer_covers zone_prefix r.zones z y.0 here y.1 y.2 y.3) is
 
       ms_hole : (q : List ℕ) → site_of r x ≡ None → hole_of z.prefix (prefixes_in r z Ms) x ≡ q → free z.prefix (prefixes_in r z Ms) x ≡ Some q
-      ms_hole q unsited is = hole_is z.prefix (prefixes_in r z Ms) q (λ none.
-          let s = covered_by site_prefix (λ (t : Site). covers z.prefix t.prefix) r.sites z.prefix x e site_is_prefix zone_in.1 none in
+      ms_hole q unsited is = hole_is z.prefix (prefixes_in r z Ms) x q (λ none.
+          let s = kept_covers site_prefix (λ (t : Site). covers z.prefix t.prefix) r.sites z.prefix x e site_is_prefix zone_in.1 none in
           best_there Longest site_prefix x r.sites s.0 unsited s.1 s.3) is
 
       part_is : (s : Site) (q : List ℕ) → site_of r x ≡ Some s → part_of_site r s x ≡ q → free s.prefix (prefixes_below_site r s) x ≡ Some q
-      part_is s q at is = hole_is s.prefix (prefixes_below_site r s) q (λ none.
-          let t = covered_by site_prefix (λ (u : Site). is_strictly_below u.prefix s.prefix) r.sites s.prefix x e site_is_prefix (best_member Longest site_prefix x r.sites s at).1 none in
+      part_is s q at is = hole_is s.prefix (prefixes_below_site r s) x q (λ none.
+          let t = kept_covers site_prefix (λ (u : Site). is_strictly_below u.prefix s.prefix) r.sites s.prefix x e site_is_prefix (best_member Longest site_prefix x r.sites s at).1 none in
           no_longer_covers site_prefix r.sites s t.0 at t.1 t.2 t.3) is
 
       -- ---- a hole

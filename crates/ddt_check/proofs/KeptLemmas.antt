@@ -20,7 +20,8 @@ use Rattle.ddt_check.specs.Rules.{IsAccepted, broken, is_duplicate_zone, is_dupl
 use Rattle.ddt_check.specs.Laws.{AreServers, IsItsGroup}
 use Rattle.ddt_path.proofs.MemberLemmas.{IsIn, contained, fails_at, found_in}
 use Rattle.ddt_path.proofs.CoverLemmas.{same_path, path_itself}
-use Rattle.ddt_register.proofs.RisingLemmas.{rule_kept, one_row, found_first, zones_rise, groups_rise, earlier_fails}
+use Rattle.ddt_register.proofs.RisingLemmas.{rule_kept, one_row, zones_rise, earlier_fails}
+use Rattle.ddt_register.proofs.RowOrderLemmas.{found_first, groups_up}
 
 -- where no two zones have one prefix, whatever the other rules say
 module _ (r : Register) (single : (n : ℕ) → broken r rules.DuplicateZone n ≡ false) (a b : Zone) (j : IsIn a r.zones) (k : IsIn b r.zones) where
@@ -110,7 +111,7 @@ starts_with_first r accepted g k = go g.locators (server_set r accepted g k).0.0
 pub group_of_zone : (r : Register) → IsAccepted r → (g : Group) (z : Zone) → IsIn g r.groups → is_served_by g z ≡ true → group_named r z.group ≡ Some g
 group_of_zone r accepted g z k served =
     let e = rule_kept (λ (h : Group). h.row) (is_duplicate_group r) r.groups (accepted rules.DuplicateGroup) g k in
-    found_first (λ (h : Group). h.row) (λ (h : Group). is_same_name h.name z.group) r.groups 0 g (groups_rise r) k served
+    found_first (λ (h : Group). h.row) (λ (h : Group). is_same_name h.name z.group) r.groups g (groups_up r) k served
     (λ h j lt. ap (is_same_name h.name) (sym (same_path g.name z.group served)) ∙ earlier_fails h.row g.row _ lt (fails_at (λ (y : Group). nat_lt y.row g.row && is_same_name y.name g.name) r.groups h e j))
 
 one_role : (a b : Role) → not (is_same_role a b) ≡ false → a ≡ b

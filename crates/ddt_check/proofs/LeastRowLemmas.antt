@@ -8,7 +8,8 @@ use Rattle.ddt_register.specs.declared.zone.Zone.{Zone}
 use Rattle.ddt_register.specs.declared.site.Site.{Site}
 use Rattle.ddt_register.specs.declared.group.Group.{Group}
 use Rattle.ddt_register.specs.declared.register.Register.{Register}
-use Rattle.ddt_register.specs.Rows.{rise, zone_rows, site_rows, group_rows, first_row}
+use Rattle.ddt_register.specs.Rows.{rise, first_row}
+use Rattle.ddt_register.proofs.RisingLemmas.{rise_parts, zones_rise, sites_rise, groups_rise}
 use Rattle.ddt_check.specs.declared.fault.Rule.TheVariants as rules
 use Rattle.ddt_check.specs.Rules.{IsLeastRow, zone_at, site_at, group_at, broken, is_root, is_wrong_root}
 
@@ -25,8 +26,8 @@ module _ {A : Type 0} (row : A → ℕ) (test : A → Bool) where
   none_below : (last n : ℕ) (items : List A) → n ≤ last → rise last (map row items) ≡ true → item_at items n ≡ false
   none_below last n [] le h = refl
   none_below last n (z ∷ items) le h =
-      let p = and_parts (nat_lt last (row z) && nat_le (row z) 65535) (rise (row z) (map row items)) h in
-      let lt : last < row z = ltb-true last (row z) (and_parts (nat_lt last (row z)) (nat_le (row z) 65535) p.0).0 in
+      let p = rise_parts last (row z) (map row items) h in
+      let lt : last < row z = p.0 in
       let apart : row z ≢ n = omega arith in
       rw (ne_eqb (row z) n apart) (none_below (row z) n items (omega arith) p.1)
 
@@ -37,7 +38,7 @@ module _ {A : Type 0} (row : A → ℕ) (test : A → Bool) where
       → IsLeastRow (item_at items) (first_row row test items)
   least_item last [] h = λ n. refl
   least_item last (z ∷ items) h =
-      let tail = (and_parts (nat_lt last (row z) && nat_le (row z) 65535) (rise (row z) (map row items)) h).1 in
+      let tail = (rise_parts last (row z) (map row items) h).1 in
       go (test z) refl tail (least_item (row z) items tail)
     where
       go : (b : Bool) → test z ≡ b → rise (row z) (map row items) ≡ true
@@ -50,15 +51,6 @@ module _ {A : Type 0} (row : A → ℕ) (test : A → Bool) where
       )
       go false e tail rest = IsLeastRow-same (item_at (z ∷ items)) (item_at items) (first_row row test items)
           (failed z items e) rest
-
-zones_rise : (r : Register) → rise 0 (zone_rows r.zones) ≡ true
-zones_rise r = (and_parts _ _ (and_parts _ _ r.rows).0).0
-
-sites_rise : (r : Register) → rise 0 (site_rows r.sites) ≡ true
-sites_rise r = (and_parts _ _ (and_parts _ _ (and_parts _ _ r.rows).0).1).0
-
-groups_rise : (r : Register) → rise 0 (group_rows r.groups) ≡ true
-groups_rise r = (and_parts _ _ (and_parts _ _ (and_parts _ _ r.rows).0).1).1
 
 pub least_zone : (r : Register) (test : Zone → Bool) → IsLeastRow (λ n. zone_at r n test) (first_row (λ (z : Zone). z.row) test r.zones)
 least_zone r test = least_item (λ (z : Zone). z.row) test 0 r.zones (zones_rise r)

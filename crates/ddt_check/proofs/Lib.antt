@@ -1,6 +1,5 @@
 pub mod ZoneLemmas
 pub mod LeastRowLemmas
-pub mod HoleLemmas
 pub mod KeptLemmas
 pub mod ServedLemmas
 pub mod NextLemmas
@@ -18,3 +17,4 @@ pub mod ColumnLemmas
 pub mod WrongLemmas
 pub mod RuleLemmas
 pub mod HolderLemmas
+pub mod ServersByNameLemmas

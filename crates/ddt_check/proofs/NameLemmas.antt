@@ -7,34 +7,11 @@ use Rattle.std.proofs.lemmas.Bool.{true≢false, both_ways, false_from_ne_true, 
 use Rattle.std.proofs.lemmas.List.Sorted.{Contains-permutation, IsPermutation-sym}
 use Rattle.ddt_path.specs.Covers.{is_same_path}
 use Rattle.ddt_check.specs.Order.{IsInOrder}
-use Rattle.ddt_path.proofs.MemberLemmas.{IsIn, in_at, contained, moved_in}
-use Rattle.ddt_register.proofs.RowOrderLemmas.{Rising}
+use Rattle.ddt_path.proofs.MemberLemmas.{IsIn, placed, placed_in, found_none}
+use Rattle.ddt_register.proofs.RowOrderLemmas.{Rising, found_first}
 use Rattle.std.proofs.lemmas.List.{get_or_default}
 use Rattle.ddt_check.proofs.OrderLemmas.{far}
 use Rattle.ddt_path.proofs.PathOrderLemmas.{IsUpTo, lt_after, same_from_ties, not_below_itself}
-
-find_here : {A : Type 0} (test : A → Bool) (x g : A) (rest : Option A) (b : Bool) → test x ≡ b → x ≡ g → test g ≡ true
-    → cond b (Some x) rest ≡ Some g
-find_here test x g rest true e same h = ap (λ (y : _). Some y) same
-find_here test x g rest false e same h = absurd (true≢false (sym h ∙ ap test (sym same) ∙ e))
-
-find_later : {A : Type 0} (row : A → ℕ) (test : A → Bool) (x g : A) (rest : Option A) (b : Bool) → test x ≡ b
-    → row x < row g → (test x ≡ true → row g ≤ row x) → rest ≡ Some g → cond b (Some x) rest ≡ Some g
-find_later row test x g rest true e lt least h = absurd (let le = least e in omega arith)
-find_later row test x g rest false e lt least h = h
-
-pub find_least : {A : Type 0} (row : A → ℕ) (test : A → Bool) (zs : List A) (g : A) → Rising row zs → IsIn g zs
-    → test g ≡ true → ((h : A) → IsIn h zs → test h ≡ true → row g ≤ row h) → find test zs ≡ Some g
-find_least row test [] g up k e least = absurd k
-find_least row test (x ∷ zs) g up (inl same) e least = find_here test x g (find test zs) (test x) refl (sym same) e
-find_least row test (x ∷ zs) g up (inr later) e least =
-    find_later row test x g (find test zs) (test x) refl (up.0 g later) (least x (inl refl))
-    (find_least row test zs g up.1 later e (λ h k. least h (inr k)))
-
-pub find_none : {A : Type 0} (test : A → Bool) (zs : List A) → ((h : A) → IsIn h zs → test h ≡ false)
-    → find test zs ≡ None
-find_none test [] none = refl
-find_none test (x ∷ zs) none = rw (none x (inl refl)) (find_none test zs (λ h k. none h (inr k)))
 
 module _ {A : Type 0} (key : A → List ℕ) (row : A → ℕ) (xs : List A) (sorted : IsInOrder key row xs) (name : List ℕ)
   where
@@ -54,33 +31,31 @@ module _ {A : Type 0} (key : A → List ℕ) (row : A → ℕ) (xs : List A) (so
       placed_from : (h : A) → IsIn h zs → has_key h ≡ true → (d : A)
           → (k : ℕ) × (at ≤ k) × (k < length xs) × (h ≡ get_or xs k d)
       placed_from h k e d =
-          let c = Contains-permutation zs xs h moved (contained zs h k) in
-          let here : h ≡ get_or xs c.0 d = sym c.2 ∙ get_or_default xs c.0 h d c.1 in
+          let c = placed zs xs moved h k d in
           elim (cases_lt c.0 at) [
             | inl before ↦ absurd (both_ways (is_below h) (not_below_itself (key h) name e)
-                (subst (λ (x : A). is_below x ≡ true) (sym here) (point.0 c.0 d (omega arith) before)))
-            | inr behind ↦ (c.0, behind, c.1, here)
+                (subst (λ (x : A). is_below x ≡ true) (sym c.2) (point.0 c.0 d (omega arith) before)))
+            | inr behind ↦ (c.0, behind, c.1, c.2)
           ]
 
       pub found_key : (d : A) → at < length xs → has_key (get_or xs at d) ≡ true → find has_key zs ≡ Some (get_or xs at d)
       found_key d inside e =
           let g = get_or xs at d in
-          find_least row has_key zs g up
-          (moved_in xs zs (IsPermutation-sym zs xs moved) g (in_at xs at g inside (get_or_default xs at d g inside)))
-          e
-          (λ h k f.
+          found_first row has_key zs g up (placed_in zs xs moved at d inside) e
+          (λ h k lt. false_from_ne_true (has_key h) (λ f.
           let p = placed_from h k f d in
           let one : key g ≡ key h = (bytes_decides (key g) name).0 e ∙ sym ((bytes_decides (key h) name).0 f) in
-          subst (λ (x : A). row g ≤ row x) (sym p.3)
+          let le : row g ≤ row h = subst (λ (x : A). row g ≤ row x) (sym p.3)
           ((far key row xs sorted at p.0 d p.1 p.2).1 (subst (λ (q : List ℕ). is_same_path (key g) q ≡ true)
-          (one ∙ ap key p.3) ((bytes_decides (key g) (key g)).1 refl))))
+          (one ∙ ap key p.3) ((bytes_decides (key g) (key g)).1 refl))) in
+          absurd (omega arith)))
 
       pub no_key_past : length xs ≤ at → find has_key zs ≡ None
-      no_key_past past = find_none has_key zs (λ h k. false_from_ne_true (has_key h)
+      no_key_past past = found_none has_key zs (λ h k. false_from_ne_true (has_key h)
           (λ e. let p = placed_from h k e h in absurd (omega (arith, p.1, p.2))))
 
       pub no_key_at : (d : A) → at < length xs → has_key (get_or xs at d) ≡ false → find has_key zs ≡ None
-      no_key_at d inside out = find_none has_key zs (λ h k. false_from_ne_true (has_key h) (λ e.
+      no_key_at d inside out = found_none has_key zs (λ h k. false_from_ne_true (has_key h) (λ e.
           let p = placed_from h k e d in
           let g = get_or xs at d in
           let down : IsUpTo name (key g) = point.1 at d (omega arith) inside in

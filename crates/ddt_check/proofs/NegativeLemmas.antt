@@ -1,28 +1,21 @@
 -- What the assignment of one identifier says of others that its prefix covers.
 use Rattle.std.proofs.Common.{◌≡◌, ◌⊎◌, ℕ, ◌≤◌, Bool, true, false, cond, ◌&&◌, ◌==◌, List, length, map, Option, Some, None, refl, sym, ap, subst, ◌∙◌, arith, inl, inr}
-use Rattle.std.specs.Prelude.{unwrap_or}
-use Rattle.std.specs.List.{filter, list_any}
 use Rattle.std.specs.Option.{option_map_or}
-use Rattle.std.proofs.lemmas.Bool.{and_parts, or_right, false≢true, cases_lt, both_ways, not-true, false_from_ne_true}
+use Rattle.std.proofs.lemmas.Bool.{or_right, cases_lt, both_ways, false_from_ne_true}
 use Rattle.std.proofs.lemmas.Option.{same_Some, none-some}
-use Rattle.std.proofs.lemmas.List.{length-append}
 use Rattle.ddt_path.specs.declared.locator.Locator.{Locator}
-use Rattle.ddt_path.specs.declared.locator.Locator.TheVariants.{V4, V6}
-use Rattle.ddt_path.specs.declared.xeid.Xeid.{Xeid}
 use Rattle.ddt_path.specs.declared.record.Role.{Role}
 use Rattle.ddt_path.specs.declared.record.Role.TheVariants.{Node, Ms}
 use Rattle.ddt_path.specs.declared.record.Outcome.{Outcome}
 use Rattle.ddt_path.specs.declared.record.Outcome.TheVariants.{Registered, NotRegistered, Hole}
 use Rattle.ddt_path.specs.Records.{record_of}
 use Rattle.ddt_path.specs.Covers.{covers, overlaps, is_same_path, is_strictly_below}
-use Rattle.ddt_path.specs.Free.{free, overlaps_none, hole_of}
-use Rattle.ddt_path.specs.Path.{digits, is_path, xeid_path, address_path}
-use Rattle.ddt_path.specs.DigitLemmas.{length-digits}
-use Rattle.ddt_path.proofs.CoverLemmas.{covers_self, covers_trans, covered_same, covers_rest}
+use Rattle.ddt_path.specs.Free.{hole_of}
+use Rattle.ddt_path.specs.Path.{is_path}
+use Rattle.ddt_path.proofs.CoverLemmas.{covers_self, covers_trans}
 use Rattle.ddt_path.proofs.FrontLemmas.{front_below, one_front, one_path, overlaps_front}
-use Rattle.ddt_path.proofs.HoleLemmas.{hole_is_free, hole_of_all}
-use Rattle.ddt_path.proofs.MemberLemmas.{IsIn, contained, fails_at}
-use Rattle.ddt_path.proofs.PathTestLemmas.{identifier_of}
+use Rattle.ddt_path.proofs.HoleLemmas.{kept_apart, IsFreeOf, hole_of_all_or_alone}
+use Rattle.ddt_path.proofs.MemberLemmas.{IsIn, contained}
 use Rattle.ddt_path.specs.declared.matching.Preference.TheVariants.{Longest}
 use Rattle.ddt_register.specs.declared.zone.Zone.{Zone}
 use Rattle.ddt_register.specs.declared.site.Site.{Site}
@@ -32,7 +25,6 @@ use Rattle.ddt_check.specs.Zones.{zone_of, site_of, locators_of}
 use Rattle.ddt_check.specs.Assignment.{assignment, assigned_in, assigned_site, part_of_site, prefixes_in, prefixes_below_site}
 use Rattle.ddt_check.specs.Rules.{IsAccepted}
 use Rattle.ddt_check.specs.Laws.{IsSiteWithServers, negative_prefix}
-use Rattle.ddt_check.proofs.HoleLemmas.{overlaps_none-filter}
 use Rattle.ddt_check.proofs.KeptLemmas.{own_site}
 use Rattle.ddt_check.proofs.NextLemmas.{next_none, zone_is}
 use Rattle.ddt_check.proofs.SiteLemmas.{no_longer_zone, site_inside}
@@ -40,56 +32,6 @@ use Rattle.ddt_check.proofs.SaysLemmas.{assigned_covers}
 use Rattle.ddt_check.proofs.RootLemmas.{zone_found}
 use Rattle.ddt_check.proofs.ZoneLemmas.{zone_prefix, site_prefix, assigned_at}
 use Rattle.ddt_path.proofs.MatchingLemmas.{best_member, best_none, best_is}
-
--- ---- an identifier covers no other identifier
-
-as_long : (a b : Locator) → covers (address_path a) (address_path b) ≡ true → length (address_path b) ≤ length (address_path a)
-as_long (V4 a) (V4 b) c = omega (arith, length-digits 32 a, length-digits 32 b)
-as_long (V6 a) (V6 b) c = omega (arith, length-digits 128 a, length-digits 128 b)
-as_long (V4 a) (V6 b) c = absurd (false≢true c)
-as_long (V6 a) (V4 b) c = absurd (false≢true c)
-
-xeids_as_long : (x y : Xeid) → covers (xeid_path x) (xeid_path y) ≡ true → xeid_path x ≡ xeid_path y
-xeids_as_long x y c =
-    let n : length (digits 32 x.iid) ≡ length (digits 32 y.iid) = length-digits 32 x.iid ∙ sym (length-digits 32 y.iid) in
-    let le = as_long x.address y.address (covers_rest (digits 32 x.iid) (digits 32 y.iid) (address_path x.address) (address_path y.address) n c) in
-    covered_same (xeid_path x) (xeid_path y) c (omega (arith, le, n, length-append (digits 32 x.iid) (address_path x.address), length-append (digits 32 y.iid) (address_path y.address)))
-
-pub one_identifier : (x y : List ℕ) → is_path x ≡ true → is_path y ≡ true → covers x y ≡ true → x ≡ y
-one_identifier x y e f c =
-    let a = identifier_of x e in
-    let b = identifier_of y f in
-    sym a.2 ∙ xeids_as_long a.0 b.0 (ap (λ (p : List ℕ). covers p (xeid_path b.0)) a.2 ∙ ap (covers x) b.2 ∙ c) ∙ b.2
-
--- ---- what a hole says of all that it covers
-
--- no kept item overlaps what is free
-apart : {A : Type 0} (prefix : A → List ℕ) (test : A → Bool) (items : List A) (a : A) (q : List ℕ) → overlaps_none (map prefix (filter test items)) q ≡ true → IsIn a items → test a ≡ true → overlaps (prefix a) q ≡ false
-apart prefix test items a q free_of k e =
-    let none = not-true (list_any (λ b. test b && overlaps (prefix b) q) items) (overlaps_none-filter prefix test items q ∙ free_of) in
-    ap (λ (b : Bool). b && overlaps (prefix a) q) (sym e) ∙ fails_at (λ b. test b && overlaps (prefix b) q) items a none k
-
--- a free prefix that covers x is that of each y that it covers
-pub record IsFreeOf (authority : List ℕ) (keys : List (List ℕ)) (y q : List ℕ) : Type 0 where
-  pub inside : covers authority q ≡ true
-  pub clear : overlaps_none keys q ≡ true
-  pub same : hole_of authority keys y ≡ q
-
-free_or_alone : (authority : List ℕ) (keys : List (List ℕ)) (x y q : List ℕ) → is_path x ≡ true → is_path y ≡ true → covers authority x ≡ true → hole_of authority keys x ≡ q → covers q y ≡ true
-    → (x ≡ y) ⊎ IsFreeOf authority keys y q
-free_or_alone authority keys x y q e f inside is c = go (free authority keys x) refl is
-  where
-    go : (found : Option (List ℕ)) → free authority keys x ≡ found → unwrap_or found x ≡ q → (x ≡ y) ⊎ IsFreeOf authority keys y q
-    go None at is = inl (one_identifier x y e f (ap (λ (p : List ℕ). covers p y) is ∙ c))
-    go (Some p) at is =
-        let found : free authority keys x ≡ Some q = at ∙ ap (λ (p : List ℕ). Some p) is in
-        let parts = and_parts (covers q x) (covers authority q && overlaps_none keys q) (hole_is_free authority keys x q inside found) in
-        let more = and_parts (covers authority q) (overlaps_none keys q) parts.1 in
-        inr (record {
-          inside = more.0;
-          clear = more.1;
-          same = ap (λ (o : Option (List ℕ)). unwrap_or o y) (hole_of_all authority keys x y q found c);
-        })
 
 -- two sites of one prefix are one
 pub one_site : (r : Register) → IsAccepted r → (a b : Site) → IsIn a r.sites → IsIn b r.sites → a.prefix ≡ b.prefix → a ≡ b
@@ -122,7 +64,7 @@ module _ (r : Register) (accepted : IsAccepted r) where
       let cy = covers_trans z.prefix q y is.inside c in
       zone_stays z y k cy (λ b j d. elim (cases_lt (length z.prefix) (length b.prefix)) [
         | inl lt ↦ absurd (both_ways (overlaps b.prefix q)
-            (apart zone_prefix (λ (w : Zone). is_strictly_below w.prefix z.prefix) r.zones b q is.clear j (front_below z.prefix b.prefix y cy d lt))
+            (kept_apart zone_prefix (λ (w : Zone). is_strictly_below w.prefix z.prefix) r.zones q is.clear b j (front_below z.prefix b.prefix y cy d lt))
             (overlaps_front b.prefix y q d (or_right (covers y q) (covers q y) c)))
         | inr le ↦ le
       ])
@@ -131,7 +73,7 @@ module _ (r : Register) (accepted : IsAccepted r) where
   no_site : (z : Zone) (y q : List ℕ) → IsIn z r.zones → IsFreeOf z.prefix (prefixes_in r z Ms) y q → covers z.prefix y ≡ true → covers q y ≡ true → site_of r y ≡ None
   no_site z y q k is cy c = best_none Longest site_prefix y r.sites (λ s j. false_from_ne_true (covers s.prefix y) (λ d.
       both_ways (overlaps s.prefix q)
-      (apart site_prefix (λ (t : Site). covers z.prefix t.prefix) r.sites s q is.clear j (site_inside r accepted z s y k cy j d))
+      (kept_apart site_prefix (λ (t : Site). covers z.prefix t.prefix) r.sites q is.clear s j (site_inside r accepted z s y k cy j d))
       (overlaps_front s.prefix y q d (or_right (covers y q) (covers q y) c))))
 
   -- ---- a part of a site
@@ -140,7 +82,7 @@ module _ (r : Register) (accepted : IsAccepted r) where
       let cy = covers_trans s.prefix q y is.inside c in
       best_is Longest site_prefix y r.sites s k cy (λ t j d. elim (cases_lt (length s.prefix) (length t.prefix)) [
         | inl lt ↦ absurd (both_ways (overlaps t.prefix q)
-            (apart site_prefix (λ (u : Site). is_strictly_below u.prefix s.prefix) r.sites t q is.clear j (front_below s.prefix t.prefix y cy d lt))
+            (kept_apart site_prefix (λ (u : Site). is_strictly_below u.prefix s.prefix) r.sites q is.clear t j (front_below s.prefix t.prefix y cy d lt))
             (overlaps_front t.prefix y q d (or_right (covers y q) (covers q y) c)))
         | inr le ↦ elim (cases_lt (length t.prefix) (length s.prefix)) [
           | inl shorter ↦ inr shorter
@@ -162,7 +104,7 @@ module _ (r : Register) (accepted : IsAccepted r) where
     alone same = ap (assignment r) (sym same)
 
     node_hole : z.kind ≡ Node → hole_of z.prefix (prefixes_in r z Node) x ≡ q → Same
-    node_hole kind is = elim (free_or_alone z.prefix (prefixes_in r z Node) x y q e f zone_covers is c) [
+    node_hole kind is = elim (hole_of_all_or_alone z.prefix (prefixes_in r z Node) x y q e f zone_covers is c) [
       | inl same ↦ alone same
       | inr free_of ↦
           assigned_of y z Node (node_zone_stays z y q k free_of c) kind
@@ -174,7 +116,7 @@ module _ (r : Register) (accepted : IsAccepted r) where
     InMs found w = option_map_or (λ s. assigned_site r z s w) found (Hole (hole_of z.prefix (prefixes_in r z Ms) w))
 
     ms_hole : z.kind ≡ Ms → site_of r x ≡ None → hole_of z.prefix (prefixes_in r z Ms) x ≡ q → Same
-    ms_hole kind none is = elim (free_or_alone z.prefix (prefixes_in r z Ms) x y q e f zone_covers is c) [
+    ms_hole kind none is = elim (hole_of_all_or_alone z.prefix (prefixes_in r z Ms) x y q e f zone_covers is c) [
       | inl same ↦ alone same
       | inr free_of ↦
           let cy = covers_trans z.prefix q y free_of.inside c in
@@ -191,7 +133,7 @@ module _ (r : Register) (accepted : IsAccepted r) where
     site_part : z.kind ≡ Ms → (s : Site) → site_of r x ≡ Some s → (length s.etrs == 0) ≡ true → part_of_site r s x ≡ q → Same
     site_part kind s at silent is =
         let p = best_member Longest site_prefix x r.sites s at in
-        elim (free_or_alone s.prefix (prefixes_below_site r s) x y q e f p.1 is c) [
+        elim (hole_of_all_or_alone s.prefix (prefixes_below_site r s) x y q e f p.1 is c) [
           | inl same ↦ alone same
           | inr free_of ↦
               let cy = covers_trans z.prefix s.prefix y (site_inside r accepted z s x k zone_covers p.0 p.1) (covers_trans s.prefix q y free_of.inside c) in

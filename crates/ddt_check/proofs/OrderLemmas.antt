@@ -10,7 +10,8 @@ use Rattle.std.proofs.lemmas.List.Sorted.{sorted_far, ranks_by, Contains-permuta
 use Rattle.std.proofs.lemmas.List.Elements.{Contains-get_or}
 use Rattle.ddt_path.specs.Covers.{is_same_path}
 use Rattle.ddt_check.specs.Order.{in_order, IsInOrder}
-use Rattle.ddt_path.proofs.MemberLemmas.{in_contained, contained, any_in, in_any, iff_same}
+use Rattle.ddt_path.proofs.MemberLemmas.{placed, placed_in, any_in, in_any, iff_same}
+use Rattle.ddt_path.proofs.CoverLemmas.{same_path-flips}
 use Rattle.ddt_path.proofs.PathOrderLemmas.{IsUpTo, is_same_path-between}
 use Rattle.std.proofs.lemmas.List.{get_or_default}
 use Rattle.ddt_register.proofs.RowOrderLemmas.{Rising, rows_apart}
@@ -20,9 +21,6 @@ use Rattle.ddt_register.proofs.RowOrderLemmas.{Rising, rows_apart}
 lt_part : (less same : Bool) → is_lt (cond less Less (cond same Equal Greater)) ≡ false → less ≡ false
 lt_part true same h = h
 lt_part false same h = refl
-
-flip_path : (p q : List ℕ) → is_same_path p q ≡ true → is_same_path q p ≡ true
-flip_path p q e = nat_list_eq_equiv.symm q p ∙ e
 
 module _ {A : Type 0} (key : A → List ℕ) (row : A → ℕ) where
   in_order_total : IsTotalOrder (in_order key row)
@@ -65,8 +63,7 @@ module _ {A : Type 0} (key : A → List ℕ) (row : A → ℕ) where
           let x = get_or xs (at + 1) d in
           let le = (far at (at + 1) d (omega arith) inside).1 same in
           let ne = eqb-false _ _ (rows_apart row zs xs up moved at (at + 1) d (omega arith) inside) in
-          let k = in_contained zs y (Contains-permutation xs zs y (IsPermutation-sym zs xs moved)
-          (Contains-get_or xs at d (omega arith))) in
+          let k = placed_in zs xs moved at d (omega arith) in
           in_any (λ y. nat_lt (row y) (row x) && is_same_path (key y) (key x)) zs y k
           (and_from (nat_lt (row y) (row x)) (is_same_path (key y) (key x)) (lt-ltb (row y) (row x) (omega arith))
           same)
@@ -78,15 +75,14 @@ module _ {A : Type 0} (key : A → List ℕ) (row : A → ℕ) where
           let x = get_or xs at d in
           let f = any_in (λ y. nat_lt (row y) (row x) && is_same_path (key y) (key x)) zs e in
           let p = and_parts (nat_lt (row f.0) (row x)) (is_same_path (key f.0) (key x)) f.2 in
-          let c = Contains-permutation zs xs f.0 moved (contained zs f.0 f.1) in
+          let c = placed zs xs moved f.0 f.1 d in
           let same : is_same_path (key (get_or xs c.0 d)) (key x) ≡ true = subst
-          (λ (y : A). is_same_path (key y) (key x) ≡ true) (sym c.2 ∙ get_or_default xs c.0 f.0 d c.1) p.1 in
-          let lower : row (get_or xs c.0 d) < row x = subst (λ (y : A). row y < row x)
-          (sym c.2 ∙ get_or_default xs c.0 f.0 d c.1) (ltb-true (row f.0) (row x) p.0) in
+          (λ (y : A). is_same_path (key y) (key x) ≡ true) c.2 p.1 in
+          let lower : row (get_or xs c.0 d) < row x = subst (λ (y : A). row y < row x) c.2 (ltb-true (row f.0) (row x) p.0) in
           elim (cases_lt c.0 at) [
             | inl before ↦ (c.0, before, same)
             | inr behind ↦ absurd (let le = (far at c.0 d behind c.1).1
-                (flip_path (key (get_or xs c.0 d)) (key x) same) in omega arith)
+                (same_path-flips (key (get_or xs c.0 d)) (key x) same) in omega arith)
           ]
 
       -- whether an earlier row has the key, by the neighbour before

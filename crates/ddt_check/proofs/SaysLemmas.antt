@@ -12,10 +12,9 @@ use Rattle.ddt_path.specs.declared.record.Outcome.TheVariants.{Registered, NotRe
 use Rattle.ddt_path.specs.declared.record.ReferralRecord.{ReferralRecord}
 use Rattle.ddt_path.specs.Records.{record_of, referral_action, not_authoritative}
 use Rattle.ddt_path.specs.Covers.{covers}
-use Rattle.ddt_path.specs.Free.{free, overlaps_none, longest_match, hole_of}
+use Rattle.ddt_path.specs.Free.{longest_match, hole_of}
 use Rattle.ddt_path.specs.Locators.{lists}
-use Rattle.ddt_path.proofs.CoverLemmas.{covers_self}
-use Rattle.ddt_path.proofs.HoleLemmas.{hole_is_free}
+use Rattle.ddt_path.proofs.HoleLemmas.{hole_covers}
 use Rattle.ddt_path.proofs.MemberLemmas.{IsIn, contained}
 use Rattle.ddt_path.specs.declared.matching.Preference.TheVariants.{Longest}
 use Rattle.ddt_register.specs.declared.zone.Zone.{Zone}
@@ -73,15 +72,6 @@ nowhere_names_not : (x : List ℕ) → NamesServers (not_authoritative x).action
 nowhere_names_not x (inl e) = nowhere_refers_not x e
 nowhere_names_not x (inr (inl e)) = cc
 nowhere_names_not x (inr (inr e)) = cc
-
--- ---- holes
-
-pub hole_covers : (authority : List ℕ) (keys : List (List ℕ)) (x : List ℕ) → covers authority x ≡ true → covers (hole_of authority keys x) x ≡ true
-hole_covers authority keys x inside = go (free authority keys x) refl
-  where
-    go : (found : Option (List ℕ)) → free authority keys x ≡ found → covers (unwrap_or found x) x ≡ true
-    go None e = covers_self x
-    go (Some q) e = (and_parts (covers q x) (covers authority q && overlaps_none keys q) (hole_is_free authority keys x q inside e)).0
 
 -- ---- the assignment's prefix and servers
 

@@ -8,14 +8,14 @@ use Rattle.ddt_path.specs.declared.locator.Locator.{Locator}
 use Rattle.ddt_path.specs.declared.locator.Locator.TheVariants.{V4, V6}
 use Rattle.ddt_path.specs.Locators.{is_same_locator, lists, are_distinct}
 use Rattle.ddt_path.specs.Covers.{is_same_path}
-use Rattle.ddt_path.proofs.LocatorLemmas.{same_locator}
-use Rattle.ddt_path.proofs.MemberLemmas.{IsIn, found_in, found_passes, fails_at, in_later, any_in, in_any}
+use Rattle.ddt_path.proofs.LocatorLemmas.{same_locator, is_same_locator_self}
+use Rattle.ddt_path.proofs.MemberLemmas.{IsIn, in_get, get_in, in_drop, found_in, found_passes, fails_at, in_later, any_in, in_any}
 use Rattle.ddt_register.specs.declared.group.Group.{Group}
 use Rattle.ddt_register.specs.declared.register.Register.{Register}
 use Rattle.ddt_check.specs.declared.fault.Rule.TheVariants as rules
 use Rattle.ddt_check.specs.Rules.{IsLeastRow, broken, group_at, has_wrong_locators, share, earlier_group}
 use Rattle.ddt_check.specs.Columns.{pair_or_none, key_list, column_key, locator_key, first_in, is_later_row, meets_at, meets_in, is_met, is_wrong_alone}
-use Rattle.ddt_register.proofs.RowOrderLemmas.{Rising, groups_up}
+use Rattle.ddt_register.proofs.RowOrderLemmas.{first_found, groups_up}
 
 -- a wider test that holds at no row without the narrow one at a row no higher
 least_wider : (t b : ℕ → Bool) (o : Option ℕ) → ((n : ℕ) → t n ≡ true → b n ≡ true)
@@ -26,23 +26,6 @@ least_wider t b (Some x) up down h = (
   λ n lt. false_from_ne_true (b n) (λ e. let p = down n e in both_ways (t p.0)
       (h.1 p.0 (let le = p.1 in omega arith)) p.2),
 )
-
--- in rising rows the first item that passes stands in no higher row than another that does
-pub first_found : {A : Type 0} (row : A → ℕ) (test : A → Bool) (xs : List A) (h : A) → Rising row xs → IsIn h xs
-    → test h ≡ true → (g : A) × (find test xs ≡ Some g) × (row g ≤ row h)
-first_found row test [] h up k e = absurd k
-first_found row test (x ∷ xs) h up (inl same) e = (
-  x,
-  cond-true (test x) (Some x) (find test xs) (ap test (sym same) ∙ e),
-  let q : row x ≡ row h = ap row
-      (sym same) in omega arith,
-)
-first_found {A} row test (x ∷ xs) h up (inr later) e = go (test x) refl (first_found row test xs h up.1 later e)
-  where
-    go : (b : Bool) → test x ≡ b → (g : A) × (find test xs ≡ Some g) × (row g ≤ row h)
-        → (g : A) × (find test (x ∷ xs) ≡ Some g) × (row g ≤ row h)
-    go true f p = (x, cond-true (test x) (Some x) (find test xs) f, let lt = up.0 h later in omega arith)
-    go false f p = (p.0, cond-false (test x) (Some x) (find test xs) f ∙ p.1, p.2)
 
 -- ---- locators as keys
 
@@ -59,29 +42,8 @@ same_key : (l : Locator) → is_same_path (locator_key l) (locator_key l) ≡ tr
 same_key (V4 a) = and_from (a == a) true (eq-eqb a a refl) refl
 same_key (V6 a) = and_from (a == a) true (eq-eqb a a refl) refl
 
-same_self : (l : Locator) → is_same_locator l l ≡ true
-same_self (V4 a) = eq-eqb a a refl
-same_self (V6 a) = eq-eqb a a refl
-
 abbrev has_at : ℕ → Locator → Group → Bool
 has_at k l h = is_same_path (column_key k h) (locator_key l)
-
-in_get : {A : Type 0} (xs : List A) (k : ℕ) (m : A) → slice_get xs k ≡ Some m → IsIn m xs
-in_get [] k m e = absurd cc
-in_get (x ∷ xs) zero m e = inl cc
-in_get (x ∷ xs) (suc k) m e = inr (in_get xs k m e)
-
-get_in : {A : Type 0} (xs : List A) (m : A) → IsIn m xs → (k : ℕ) × (k < length xs) × (slice_get xs k ≡ Some m)
-get_in [] m h = absurd h
-get_in (x ∷ xs) m (inl same) = (0, omega arith, ap (λ (y : _). Some y) (sym same))
-get_in (x ∷ xs) m (inr later) = let p = get_in xs m later in (suc p.0, omega (arith, p.1), p.2)
-
--- what stands at a place is among what stands from an earlier place on
-in_drop : {A : Type 0} (xs : List A) (j k : ℕ) (m : A) → j ≤ k → slice_get xs k ≡ Some m → IsIn m (drop j xs)
-in_drop xs zero k m le e = in_get xs k m e
-in_drop [] (suc j) k m le e = absurd cc
-in_drop (x ∷ xs) (suc j) zero m le e = absurd (omega arith)
-in_drop (x ∷ xs) (suc j) (suc k) m le e = in_drop xs j k m (omega arith) e
 
 at_column : (k : ℕ) (l : Locator) (h : Group) → slice_get h.locators k ≡ Some l → has_at k l h ≡ true
 at_column k l h e = subst (λ (o : Option Locator). is_same_path (key_list (pair_or_none o)) (locator_key l) ≡ true)
@@ -136,7 +98,7 @@ later_wrong : (r : Register) (h g : Group) (l : Locator) (n : ℕ) → IsIn h r.
 later_wrong r h g l n j k lt first second same =
     let shared : share h.locators g.locators ≡ true =
     in_any (λ (x : Locator). lists g.locators x) h.locators l first
-    (in_any (λ (x : Locator). is_same_locator x l) g.locators l second (same_self l)) in
+    (in_any (λ (x : Locator). is_same_locator x l) g.locators l second (is_same_locator_self l)) in
     let earlier : earlier_group r g (λ h. share h.locators g.locators) ≡ true =
     in_any (λ (h : Group). nat_lt h.row g.row && share h.locators g.locators) r.groups h j
     (and_from (nat_lt h.row g.row) (share h.locators g.locators) (lt-ltb h.row g.row lt) shared) in

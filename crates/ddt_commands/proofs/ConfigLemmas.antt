@@ -7,7 +7,8 @@ use Rattle.std.proofs.lemmas.Option.{same_Some}
 use Rattle.std.proofs.lemmas.Bool.{and_parts, false≢true}
 use Rattle.ddt_path.specs.declared.locator.Locator.{Locator}
 use Rattle.ddt_path.specs.declared.locator.Locator.TheVariants.{V4, V6}
-use Rattle.ddt_path.specs.Locators.{is_same_locator, lists}
+use Rattle.ddt_path.specs.Locators.{lists}
+use Rattle.ddt_path.proofs.LocatorLemmas.{is_same_locator_self}
 use Rattle.ddt_register.specs.declared.group.Group.{Group}
 use Rattle.ddt_register.specs.declared.register.Register.{Register}
 use Rattle.ddt_check.specs.Zones.{group_named, first_locator}
@@ -16,26 +17,8 @@ use Rattle.ddt_config.specs.Shaped.{is_server_set}
 use Rattle.ddt_config.specs.Table.{Outline, outline}
 use Rattle.ddt_compile.specs.GroupConfig.{group_config, config_named}
 use Rattle.ddt_compile.specs.Laws.{IsHonestConfig, HasRoom}
+use Rattle.ddt_compile.proofs.NamedLemmas.{config_of, no_config}
 use Rattle.ddt_commands.specs.Answer.{IsConfigOfGroup}
-
--- a group of this name, of which c is the configuration
-abbrev pub IsConfigOf : Register → List ℕ → ServerConfig → Type 0
-IsConfigOf r name c = (g : Group) × (group_named r name ≡ Some g) × (outline c ≡ group_config r g)
-
-found_case : (r : Register) (c : ServerConfig) (named : Option Group) → Some (outline c) ≡ option_map (group_config r) named → (g : Group) × (named ≡ Some g) × (outline c ≡ group_config r g)
-found_case r c None e = absurd cc
-found_case r c (Some g) e = (g, refl, same_Some (outline c) (group_config r g) e)
-
-pub config_of : (r : Register) (name : List ℕ) (c : ServerConfig) → Some (outline c) ≡ config_named r name → IsConfigOf r name c
-config_of r name c e = found_case r c (group_named r name) e
-
-missing_case : (r : Register) (named : Option Group) (nothing : Option Outline) → nothing ≡ None → nothing ≡ option_map (group_config r) named → named ≡ None
-missing_case r None nothing is e = refl
-missing_case r (Some g) nothing is e = absurd (cc (is, e))
-
--- no group has the name where there is no configuration
-pub no_config : (r : Register) (name : List ℕ) (nothing : Option Outline) → nothing ≡ None → nothing ≡ config_named r name → group_named r name ≡ None
-no_config r name nothing is e = missing_case r (group_named r name) nothing is e
 
 -- what is found for a name is its group's configuration
 pub chosen : (r : Register) (name : List ℕ) (found : Option ServerConfig) → option_map outline found ≡ config_named r name
@@ -51,13 +34,9 @@ chosen_or_refused r name (Ok found) e honest room = chosen r name found e honest
 chosen_or_refused r name (Err refused) e honest room = tt
 
 -- a server has a locator, and lists its first one
-same_locator : (l : Locator) → is_same_locator l l ≡ true
-same_locator (V4 a) = eq-eqb a a refl
-same_locator (V6 a) = eq-eqb a a refl
-
 first_listed : (ls : List Locator) → is_server_set ls ≡ true → lists ls (first_locator ls) ≡ true
 first_listed [] e = absurd (false≢true e)
-first_listed (l ∷ ls) e = rw (same_locator l) refl
+first_listed (l ∷ ls) e = rw (is_same_locator_self l) refl
 
 pub own_locator : (c : ServerConfig) → lists c.locators (first_locator c.locators) ≡ true
 own_locator c = first_listed c.locators (and_parts _ _ (and_parts _ _ c.shaped).0).0

@@ -2,9 +2,9 @@ pub mod ShapedLemmas
 pub mod ChildLemmas
 pub mod NearestLemmas
 pub mod GrowingLemmas
-pub mod LocatorLemmas
 pub mod HonestLemmas
 pub mod RoomLemmas
 pub mod NoTwoLemmas
 pub mod ContentLemmas
 pub mod SortedLemmas
+pub mod NamedLemmas

@@ -1,10 +1,11 @@
 -- Items of which no two clash, in rows that rise.
 use Rattle.std.proofs.Common.{◌≡◌, ℕ, ◌<◌, Bool, true, false, List, [], ◌∷◌, map, refl, ◌∙◌, inl, inr}
 use Rattle.std.specs.List.{filter}
-use Rattle.ddt_path.proofs.MemberLemmas.{IsIn, none_of, list_any-map}
+use Rattle.ddt_path.proofs.MemberLemmas.{IsIn, none_of}
 use Rattle.ddt_register.specs.Rows.{rise}
 use Rattle.ddt_register.proofs.RisingLemmas.{rise_parts, above, rise-filter}
 use Rattle.ddt_config.specs.Shaped.{no_two}
+use Rattle.ddt_config.proofs.NeighbourLemmas.{no_two-map}
 
 -- of items in rising rows none clashes with a later one, if none clashes with one of a higher row
 no_two_rising : {A : Type 0} (row : A → ℕ) (clash : A → A → Bool) (xs : List A) (last : ℕ) → rise last (map row xs) ≡ true
@@ -13,10 +14,6 @@ no_two_rising row clash [] last e h = refl
 no_two_rising row clash (x ∷ xs) last e h =
     let p = rise_parts last (row x) (map row xs) e in
     rw (none_of (clash x) xs (λ y k. h x y (inl refl) (inr k) (above row xs (row x) y p.1 k)), no_two_rising row clash xs (row x) p.1 (λ a b j k lt. h a b (inr j) (inr k) lt)) refl
-
-no_two-map : {A B : Type 0} (clash : B → B → Bool) (f : A → B) (xs : List A) → no_two clash (map f xs) ≡ no_two (λ a b. clash (f a) (f b)) xs
-no_two-map clash f [] = refl
-no_two-map clash f (x ∷ xs) = rw (list_any-map (clash (f x)) f xs, no_two-map clash f xs) refl
 
 pub no_two_kept : {A B : Type 0} (row : A → ℕ) (f : A → B) (clash : B → B → Bool) (test : A → Bool) (xs : List A) → rise 0 (map row xs) ≡ true
     → ((a b : A) → IsIn a (filter test xs) → IsIn b (filter test xs) → row a < row b → clash (f a) (f b) ≡ false) → no_two clash (map f (filter test xs)) ≡ true

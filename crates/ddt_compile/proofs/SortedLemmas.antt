@@ -8,14 +8,14 @@ use Rattle.std.proofs.lemmas.Bool.{cases_lt, false≢true, and_parts, and_from, 
 use Rattle.std.proofs.lemmas.List.Sorted.{Contains-permutation, IsPermutation-sym}
 use Rattle.std.proofs.lemmas.List.{get_or_default}
 use Rattle.ddt_path.specs.Covers.{covers, is_strictly_below}
-use Rattle.ddt_path.proofs.CoverLemmas.{covers_trans}
-use Rattle.ddt_path.proofs.MemberLemmas.{IsIn, in_at, contained, any_in, in_any, moved_in}
+use Rattle.ddt_path.proofs.CoverLemmas.{below_from, below_is, below_wider}
+use Rattle.ddt_path.proofs.MemberLemmas.{IsIn, placed, placed_in, any_in, in_any}
 use Rattle.ddt_register.specs.declared.zone.Zone.{Zone}
 use Rattle.ddt_register.specs.declared.register.Register.{Register}
 use Rattle.ddt_check.specs.Order.{IsInOrder}
 use Rattle.ddt_check.proofs.BelowLemmas.{is_under}
 use Rattle.ddt_path.proofs.FilterLemmas.{none_later, none_first}
-use Rattle.ddt_path.proofs.PathOrderLemmas.{IsUpTo, covers-between, covers-back, le-is, le-from, covers-up_to, not_lt-from_not_le}
+use Rattle.ddt_path.proofs.PathOrderLemmas.{IsUpTo, covers-between, covers-back, le-is, not_lt-from_not_le, below_behind}
 use Rattle.ddt_check.proofs.OrderLemmas.{far}
 use Rattle.ddt_check.proofs.OutsideLemmas.{is_up_to}
 use Rattle.ddt_compile.specs.GroupConfig.{is_between, is_direct_child}
@@ -38,19 +38,11 @@ IsLast r z xs i (Some q) =
     × ((k : ℕ) (d : Zone) → i ≤ k → k < length xs → IsUpTo q (get_or xs k d).prefix)
 
 module _ (r : Register) (z : Zone) (xs : List Zone) (sorted : IsInOrder prefix zone_row xs) (moved : IsPermutation r.zones xs) where
-  in_zones : (k : ℕ) (d : Zone) → k < length xs → IsIn (get_or xs k d) r.zones
-  in_zones k d lt = moved_in xs r.zones (IsPermutation-sym r.zones xs moved) (get_or xs k d) (in_at xs k (get_or xs k d) lt (get_or_default xs k d (get_or xs k d) lt))
-
-  place : (a : Zone) → IsIn a r.zones → (d : Zone) → (j : ℕ) × (j < length xs) × (a ≡ get_or xs j d)
-  place a k d = let c = Contains-permutation r.zones xs a moved (contained r.zones a k) in (c.0, c.1, sym c.2 ∙ get_or_default xs c.0 a d c.1)
-
   up : (k i : ℕ) (d : Zone) → k ≤ i → i < length xs → IsUpTo (get_or xs k d).prefix (get_or xs i d).prefix
   up k i d le lt = (far prefix zone_row xs sorted k i d le lt).0
 
   direct-covers : (c : Zone) → is_direct_child r z c ≡ true → (covers z.prefix c.prefix ≡ true) × (covers c.prefix z.prefix ≡ false)
-  direct-covers c e =
-      let p = and_parts (covers z.prefix c.prefix) (not (covers c.prefix z.prefix)) (child_parts r z c e).0 in
-      (p.0, not-true (covers c.prefix z.prefix) p.1)
+  direct-covers c e = below_is c.prefix z.prefix (child_parts r z c e).0
 
   -- ---- the ends of the walk
 
@@ -83,10 +75,7 @@ module _ (r : Register) (z : Zone) (xs : List Zone) (sorted : IsInOrder prefix z
 
     pub strictly : (i : ℕ) (w : Zone) → first ≤ i → i < length xs → w ≡ get_or xs i w → covers z.prefix w.prefix ≡ true → is_strictly_below w.prefix z.prefix ≡ true
     strictly i w le lt is inside =
-        let past : is_le (slice_cmp nat_cmp w.prefix z.prefix) ≡ false = subst (λ (y : Zone). is_le (slice_cmp nat_cmp y.prefix z.prefix) ≡ false) (sym is) (point.1 i w le lt) in
-        and_from (covers z.prefix w.prefix) (not (covers w.prefix z.prefix)) inside
-        (not_from_false (covers w.prefix z.prefix) (false_from_ne_true (covers w.prefix z.prefix) (λ back.
-        both_ways (is_le (slice_cmp nat_cmp w.prefix z.prefix)) past (le-from w.prefix z.prefix (covers-up_to w.prefix z.prefix back)))))
+        below_behind z.prefix w.prefix inside (subst (λ (y : Zone). is_le (slice_cmp nat_cmp y.prefix z.prefix) ≡ false) (sym is) (point.1 i w le lt))
 
   -- ---- a step of the walk
 
@@ -107,7 +96,7 @@ module _ (r : Register) (z : Zone) (xs : List Zone) (sorted : IsInOrder prefix z
     reached : (top : Option (List ℕ)) → IsLast r z xs i top → (c : Zone) → IsIn c r.zones → is_direct_child r z c ≡ true → covers c.prefix w.prefix ≡ true → covers w.prefix c.prefix ≡ false
         → is_under top w.prefix ≡ true
     reached top s c k direct inside apart =
-        let j = place c k w in
+        let j = placed r.zones xs moved c k w in
         elim (cases_lt j.0 i) [
           | inl before ↦ by_top top s j.0 before j.1 j.2
           | inr behind ↦ absurd (both_ways (covers w.prefix c.prefix) apart
@@ -131,13 +120,11 @@ module _ (r : Register) (z : Zone) (xs : List Zone) (sorted : IsInOrder prefix z
 
             by_cover : (b : Bool) → covers q c.prefix ≡ b → is_under (Some q) w.prefix ≡ true
             by_cover true e =
-                and_from (covers q w.prefix) (not (covers w.prefix q)) (covers_trans q c.prefix w.prefix e inside)
-                (not_from_false (covers w.prefix q) (false_from_ne_true (covers w.prefix q) (λ back.
-                both_ways (covers w.prefix c.prefix) apart (covers_trans w.prefix q c.prefix back e))))
+                below_wider w.prefix c.prefix q e (below_from w.prefix c.prefix inside apart)
             by_cover false e =
                 let t = s.0 in
                 let below : is_strictly_below t.prefix c.prefix ≡ true = subst (λ (p : List ℕ). is_strictly_below p c.prefix ≡ true) (sym s.3)
-                (and_from (covers c.prefix q) (not (covers q c.prefix)) over (not_from_false (covers q c.prefix) e)) in
+                (below_from q c.prefix over e) in
                 absurd (both_ways (list_any (is_between z t) r.zones) (child_parts r z t s.2).1
                 (in_any (is_between z t) r.zones c k (and_from (is_strictly_below c.prefix z.prefix) (is_strictly_below t.prefix c.prefix) (child_parts r z c direct).0 below)))
 
@@ -147,12 +134,9 @@ module _ (r : Register) (z : Zone) (xs : List Zone) (sorted : IsInOrder prefix z
         (not_from_false (list_any (is_between z w) r.zones) (false_from_ne_true (list_any (is_between z w) r.zones) (λ some.
         let f = any_in (is_between z w) r.zones some in
         let p = and_parts (is_strictly_below f.0.prefix z.prefix) (is_strictly_below w.prefix f.0.prefix) f.2 in
-        let q = and_parts (covers f.0.prefix w.prefix) (not (covers w.prefix f.0.prefix)) p.1 in
         let c = child_above r z f.0 f.1 p.0 in
-        let inside = covers_trans c.0.prefix f.0.prefix w.prefix c.3 q.0 in
-        let apart = false_from_ne_true (covers w.prefix c.0.prefix) (λ back.
-        both_ways (covers w.prefix f.0.prefix) (not-true (covers w.prefix f.0.prefix) q.1) (covers_trans w.prefix c.0.prefix f.0.prefix back c.3)) in
-        both_ways (is_under top w.prefix) e (reached top s c.0 c.1 c.2 inside apart))))
+        let q = below_is w.prefix c.0.prefix (below_wider w.prefix f.0.prefix c.0.prefix c.3 p.1) in
+        both_ways (is_under top w.prefix) e (reached top s c.0 c.1 c.2 q.0 q.1))))
 
     upto : (j : ℕ) (d : Zone) → j < i + 1 → IsUpTo (get_or xs j d).prefix w.prefix
     upto j d low = subst (λ (y : Zone). IsUpTo (get_or xs j d).prefix y.prefix) (here d) (up j i d (omega arith) lt)
@@ -160,7 +144,7 @@ module _ (r : Register) (z : Zone) (xs : List Zone) (sorted : IsInOrder prefix z
     pub last_new : is_direct_child r z w ≡ true → IsLast r z xs (i + 1) (Some w.prefix)
     last_new direct = (
       w,
-      subst (λ (y : Zone). IsIn y r.zones) (here w) (in_zones i w lt),
+      subst (λ (y : Zone). IsIn y r.zones) (here w) (placed_in r.zones xs moved i w lt),
       direct,
       refl,
       λ j d low inside passes. upto j d low,

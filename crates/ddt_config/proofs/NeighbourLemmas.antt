@@ -69,7 +69,7 @@ module _ {A : Type 0} (clash : A → A → Bool) where
         both_ways (clash (get_or xs i d) (get_or xs (i + 1) d)) (neighbours i next d)
         (near (get_or xs i d) (get_or xs (i + 1) d) (get_or xs j d) (far i (i + 1) (omega arith) next) (far (i + 1) j (omega arith) inside) (far i j (omega arith) inside) e)))
 
-no_two-map : {A B : Type 0} (clash : B → B → Bool) (f : A → B) (xs : List A) → no_two clash (map f xs) ≡ no_two (λ a b. clash (f a) (f b)) xs
+pub no_two-map : {A B : Type 0} (clash : B → B → Bool) (f : A → B) (xs : List A) → no_two clash (map f xs) ≡ no_two (λ a b. clash (f a) (f b)) xs
 no_two-map clash f [] = refl
 no_two-map clash f (x ∷ xs) = λ i. not (list_any-map (clash (f x)) f xs i) && no_two-map clash f xs i
 

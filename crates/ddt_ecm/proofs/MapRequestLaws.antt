@@ -25,7 +25,7 @@ use Rattle.ddt_wire.specs.Addresses.{addresses_at}
 use Rattle.ddt_wire.proofs.AddressesLaws.{AreAddresses, addresses_take, addresses_again}
 use Rattle.ddt_wire.proofs.EidLemmas.{form_of-named}
 use Rattle.ddt_wire.proofs.EidLaws.{eid_takes, eid_again}
-use Rattle.ddt_wire.proofs.MessageLaws.{bit_of, bit-le}
+use Rattle.ddt_wire.proofs.MessageLaws.{bit_of, bit-le, bit_again}
 use Rattle.ddt_ecm.specs.declared.fault.RequestFault.{RequestFault}
 use Rattle.ddt_ecm.specs.declared.fault.RequestFault.TheVariants as fault
 use Rattle.ddt_ecm.specs.MapRequest.{Ignored, a_place, m_place, irc_limit, request_word, request_fields, SpellsRequest, from_eid, host_of, xeid_at, source_at, head_at, from_address, rlocs_at, trails, map_request_at}
@@ -140,10 +140,6 @@ xeid_again reserved x eid after hi ha s =
     xeid_read ((reserved ∷ address_width x.address ∷ []) ++ (eid ++ after)) (address_width x.address) (xeid_path x) (length eid) x (omega arith) refl (eid_again (address_width x.address) eid (xeid_path x) after s) (host_read x.iid x.address hi ha)
 
 -- ---- what stands before the source EID
-
-pub bit_again : (b : Bool) (x : ℕ) → x ≡ bit b → eqb x 1 ≡ b
-bit_again true x e = ap (λ (n : ℕ). eqb n 1) e
-bit_again false x e = ap (λ (n : ℕ). eqb n 1) e
 
 abbrev ignored_of : (message : List ℕ) (reserved_ : ℕ) → IsBytes message → reserved_ < 256 → Ignored
 ignored_of message reserved_ fits small = record {

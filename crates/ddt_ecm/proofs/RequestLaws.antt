@@ -26,7 +26,8 @@ use Rattle.ddt_ecm.specs.Request.{Message, Spells, message_in}
 use Rattle.ddt_ecm.specs.EcmHeader.{first_byte, d_place, ecm_word, ecm_fields, ecm_at}
 use Rattle.ddt_ecm.proofs.UdpLaws.{udp_takes, udp_again, udp_some}
 use Rattle.ddt_ecm.proofs.IpLaws.{ip_takes, ip_again, pseudo_known}
-use Rattle.ddt_ecm.proofs.MapRequestLaws.{bit_again, first_again, request_takes, request_again}
+use Rattle.ddt_wire.proofs.MessageLaws.{bit_again}
+use Rattle.ddt_ecm.proofs.MapRequestLaws.{first_again, request_takes, request_again}
 use Rattle.ddt_wire.proofs.MessageLaws.{bit_of, bit-le}
 
 -- ---- what is read is spelled so

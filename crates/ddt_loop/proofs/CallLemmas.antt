@@ -11,7 +11,7 @@ use Rattle.ddt_path.specs.declared.xeid.Xeid.{Xeid}
 use Rattle.ddt_path.specs.Path.{xeid_path}
 use Rattle.ddt_path.specs.Locators.{lists, is_same_locator}
 use Rattle.ddt_path.proofs.LocatorLemmas.{is_same_locator_self}
-use Rattle.ddt_path.proofs.MemberLemmas.{IsIn, fails_at}
+use Rattle.ddt_path.proofs.MemberLemmas.{in_get, fails_at}
 use Rattle.ddt_register.specs.declared.register.Register.{Register}
 use Rattle.ddt_check.specs.Assignment.{assignment}
 use Rattle.ddt_wires.specs.declared.call.Call.{Call}
@@ -113,12 +113,7 @@ module _ (r : Register) (me : Locator) where
 
 pub other_socket : (sockets : List Locator) (k : ℕ) (at me : Locator) → slice_get sockets k ≡ Some at → lists sockets me ≡ false → at ≢ me
 other_socket sockets k at me is none same =
-    false≢true (sym (fails_at (λ m. is_same_locator m me) sockets at none (is_in sockets k is)) ∙ ap (λ m. is_same_locator m me) same ∙ is_same_locator_self me)
-  where
-    is_in : (ls : List Locator) (i : ℕ) → slice_get ls i ≡ Some at → IsIn at ls
-    is_in [] i e = absurd (none-some at e)
-    is_in (l ∷ ls) zero e = inl (sym (same_Some l at e))
-    is_in (l ∷ ls) (suc i) e = inr (is_in ls i e)
+    false≢true (sym (fails_at (λ m. is_same_locator m me) sockets at none (in_get sockets k at is)) ∙ ap (λ m. is_same_locator m me) same ∙ is_same_locator_self me)
 
 -- what is tried there replies to no ITR
 pub no_replies_there : (at me : Locator) (p : Packet) (reply : Option (List ℕ)) (tries : List Call) → at ≢ me → AreTried at (reply_to p reply) tries → All (IsNoReply me) tries

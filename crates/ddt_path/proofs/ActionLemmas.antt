@@ -1,9 +1,12 @@
--- An action and its number name each other.
+-- An action and its number name each other; which outcome a record is of.
 use Rattle.std.proofs.Common.{◌≡◌, ℕ, zero, suc, ◌≤◌, false, eqb, Option, Some, None, refl, sym, ap, subst, ◌∙◌, arith}
 use Rattle.std.proofs.lemmas.Bool.{ne_eqb}
 use Rattle.ddt_path.specs.declared.action.Action.{Action}
 use Rattle.ddt_path.specs.declared.action.Action.TheVariants.{NodeReferral, MsReferral, MsAck, MsNotRegistered, DelegationHole, NotAuthoritative}
+use Rattle.ddt_path.specs.declared.record.Outcome.{Outcome}
+use Rattle.ddt_path.specs.declared.record.Outcome.TheVariants.{Registered, NotRegistered, Hole}
 use Rattle.ddt_path.specs.Actions.{number, action_of}
+use Rattle.ddt_path.specs.Records.{record_of}
 
 abbrev IsNone : Option Action → Type 0
 IsNone None = Unit {0}
@@ -50,3 +53,9 @@ number-le MsAck = omega arith
 number-le MsNotRegistered = omega arith
 number-le DelegationHole = omega arith
 number-le NotAuthoritative = omega arith
+
+-- a record of an outcome that is acknowledged is that of a registered site
+pub ack_is : (o : Outcome) → (record_of o).action ≡ MsAck → o ≡ Registered (record_of o).prefix (record_of o).servers
+ack_is (Registered p s) e = refl
+ack_is (NotRegistered p s) e = absurd (cc e)
+ack_is (Hole p) e = absurd (cc e)

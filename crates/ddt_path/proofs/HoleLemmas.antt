@@ -1,5 +1,5 @@
 -- The least specific free prefix, over the definitions.
-use Rattle.std.proofs.Common.{◌≡◌, ℕ, ◌+◌, ◌<◌, ◌≤◌, Bool, true, false, cond, List, [], ◌∷◌, ◌++◌, length, map, take, drop, Some, None, refl, sym, ap, ◌∙◌, arith, inl, inr}
+use Rattle.std.proofs.Common.{◌≡◌, ◌⊎◌, ℕ, ◌+◌, ◌<◌, ◌≤◌, Bool, true, false, cond, List, [], ◌∷◌, ◌++◌, length, map, take, drop, Some, None, refl, sym, ap, ◌∙◌, arith, inl, inr}
 use Rattle.std.specs.Prelude.{find, nat_lt, not, unwrap_or, Option, ◌&&◌, ◌||◌}
 use Rattle.std.specs.List.{list_any, list_all, filter}
 use Rattle.std.proofs.lemmas.Bool.{cond-true, cond-false, and_from, and_parts, or_cases, or_left, or_right, and_cases, not-true, not-false, not_from_false, false_from_ne_true, false≢true, lt-ltb, le-ltb, cases_lt}
@@ -11,7 +11,8 @@ use Rattle.ddt_path.specs.Free.{lengthened, parts_from, overlaps_none, free, is_
 use Rattle.ddt_path.proofs.CoverLemmas.{covers_self, covers_trans, covers-append, take-covered, length-covered, overlaps-take, next_digit, same_path}
 use Rattle.ddt_path.proofs.MemberLemmas.{IsIn, holds_at, list_all-map, list_any-map, any_in}
 use Rattle.ddt_path.proofs.FilterLemmas.{in_filter, filter_in, all_kept}
-use Rattle.ddt_path.proofs.EndLemmas.{overlaps_whole}
+use Rattle.ddt_path.proofs.EndLemmas.{no_longer, overlaps_whole}
+use Rattle.ddt_path.proofs.PathTestLemmas.{prefix_that_covers}
 
 -- ---- the parts of a path
 
@@ -271,3 +272,25 @@ hole_is authority keys x q some is = go (free authority keys x) refl is
     go : (found : Option (List ℕ)) → free authority keys x ≡ found → unwrap_or found x ≡ q → free authority keys x ≡ Some q
     go None at is = absurd (some at)
     go (Some p) at is = at ∙ ap (λ (l : List ℕ). Some l) is
+
+-- a free prefix that covers x is the hole of each y that it covers
+pub record IsFreeOf (authority : List ℕ) (keys : List (List ℕ)) (y q : List ℕ) : Type 0 where
+  pub inside : covers authority q ≡ true
+  pub clear : overlaps_none keys q ≡ true
+  pub same : hole_of authority keys y ≡ q
+
+pub hole_of_all_or_alone : (authority : List ℕ) (keys : List (List ℕ)) (x y q : List ℕ) → is_path x ≡ true → is_path y ≡ true → covers authority x ≡ true → hole_of authority keys x ≡ q → covers q y ≡ true
+    → (x ≡ y) ⊎ IsFreeOf authority keys y q
+hole_of_all_or_alone authority keys x y q e f inside is c = go (free authority keys x) refl is
+  where
+    go : (found : Option (List ℕ)) → free authority keys x ≡ found → unwrap_or found x ≡ q → (x ≡ y) ⊎ IsFreeOf authority keys y q
+    go None at is = inl (no_longer x y e (prefix_that_covers y y f (covers_self y)) (ap (λ (p : List ℕ). covers p y) is ∙ c))
+    go (Some p) at is =
+        let found : free authority keys x ≡ Some q = at ∙ ap (λ (p : List ℕ). Some p) is in
+        let parts = and_parts (covers q x) (covers authority q && overlaps_none keys q) (hole_is_free authority keys x q inside found) in
+        let more = and_parts (covers authority q) (overlaps_none keys q) parts.1 in
+        inr (record {
+          inside = more.0;
+          clear = more.1;
+          same = ap (λ (o : Option (List ℕ)). unwrap_or o y) (hole_of_all authority keys x y q found c);
+        })

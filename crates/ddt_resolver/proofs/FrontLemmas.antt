@@ -1,4 +1,4 @@
--- What a request asks, if its bit D is clear; and the digits before an address.
+-- What a request asks, if its bit D is clear.
 use Rattle.std.proofs.Common.{◌≡◌, ◌≤◌, ◌+◌, ℕ, Bool, true, false, List, [], ◌∷◌, length, length-append, cond, Option, Some, None, refl, sym, ap, ◌∙◌, arith}
 use Rattle.std.specs.Prelude.{is_some, is_ok, slice_get, IfSome, Result, Ok, Err}
 use Rattle.std.specs.Option.{option_map}
@@ -66,13 +66,3 @@ one_is_read r v m here there = IfOk-at_ok (λ w. w ≡ m) {r = Ok m} {x = v} (sy
 
 pub no_fault : (r : Result Message RequestFault) (f : RequestFault) (m : Message) → r ≡ Err f → r ≡ Ok m → ⊥
 no_fault r f m here there = false≢true (ap is_ok (sym here ∙ there))
-
--- the digits of an instance and a family stand before each address
-pub before_fits : (x : Xeid) → 33 ≤ length (xeid_path x)
-before_fits x =
-    omega (
-      arith,
-      length-append (digits 32 x.iid) (address_path x.address),
-      length-digits 32 x.iid,
-      length-digits (address_width x.address) (address_number x.address),
-    )

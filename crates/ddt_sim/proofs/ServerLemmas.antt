@@ -14,7 +14,7 @@ use Rattle.ddt_resolver.specs.declared.pending.Pending.{Pending}
 use Rattle.ddt_resolver.specs.State.{server}
 use Rattle.ddt_sim.specs.Honest.{IsServer}
 use Rattle.ddt_sim.specs.Sound.{IsSoundLookup}
-use Rattle.ddt_sim.proofs.SoundLemmas.{lists_at}
+use Rattle.ddt_path.proofs.LocatorLemmas.{lists_at}
 
 -- a locator of a group by its name is a server's
 server_of_group : (r : Register) (name : List ℕ) (l : Locator) → IsTrue (lists (locators_of r name) l) → IsServer r l

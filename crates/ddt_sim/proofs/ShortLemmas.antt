@@ -2,7 +2,7 @@
 use Rattle.std.proofs.Common.{◌≡◌, ℕ, suc, ◌+◌, ◌<◌, ◌≤◌, Bool, cond, true, false, ◌&&◌, List, [], ◌∷◌, length, Option, None, Some, refl, sym, ap, ◌∙◌, subst, arith, inl, inr}
 use Rattle.std.specs.Prelude.{IsTrue, nat_lt}
 use Rattle.std.specs.List.{All, Contains, filter}
-use Rattle.std.proofs.lemmas.Bool.{false≢true, or_right, and_parts, and_from, lt-ltb, ltb-true, le-ltb}
+use Rattle.std.proofs.lemmas.Bool.{false≢true, or_right, and_parts, and_from, and_right, lt-ltb, ltb-true, le-ltb}
 use Rattle.ddt_path.specs.declared.locator.Locator.{Locator}
 use Rattle.ddt_path.specs.declared.record.Outcome.{Outcome}
 use Rattle.ddt_path.specs.declared.record.ReferralRecord.{ReferralRecord}
@@ -12,6 +12,8 @@ use Rattle.ddt_path.specs.Covers.{covers}
 use Rattle.ddt_path.specs.Locators.{lists}
 use Rattle.ddt_path.specs.Path.{xeid_path, is_path}
 use Rattle.ddt_path.proofs.MemberLemmas.{IsIn, in_contained}
+use Rattle.ddt_path.proofs.FilterLemmas.{fewer}
+use Rattle.ddt_path.proofs.LocatorLemmas.{lists_at}
 use Rattle.ddt_register.specs.declared.zone.Zone.{Zone}
 use Rattle.ddt_register.specs.declared.register.Register.{Register}
 use Rattle.ddt_check.specs.Zones.{locators_of}
@@ -28,42 +30,7 @@ use Rattle.ddt_sim.specs.Sound.{IsSound, IsSoundLookup, KeepsLaws}
 use Rattle.ddt_sim.specs.Headline.{IsHonestHop, zones_over}
 use Rattle.ddt_sim.specs.Trail as trail
 use Rattle.ddt_sim.specs.Trail.{IsHopTo, IsTrail, HasTrail}
-use Rattle.ddt_sim.proofs.SoundLemmas.{begun, lists_at}
-
--- ---- how many pass a test
-
--- a narrower test passes no more
-narrower : {A : Type 0} (p q : A → Bool) (xs : List A) → ((a : A) → q a ≡ true → p a ≡ true) → length (filter q xs) ≤ length (filter p xs)
-narrower p q [] h = omega arith
-narrower p q (a ∷ xs) h = by (narrower p q xs h) (q a) (p a) (h a)
-  where
-    by : length (filter q xs) ≤ length (filter p xs) → (b c : Bool) → (b ≡ true → c ≡ true)
-        → length (cond b (a ∷ filter q xs) (filter q xs)) ≤ length (cond c (a ∷ filter p xs) (filter p xs))
-    by rest true true k = omega (arith, rest)
-    by rest true false k = absurd (false≢true (k refl))
-    by rest false true k = omega (arith, rest)
-    by rest false false k = omega (arith, rest)
-
--- and fewer where one more passes the wider
-fewer : {A : Type 0} (p q : A → Bool) (xs : List A) (a : A) → ((b : A) → q b ≡ true → p b ≡ true) → IsIn a xs → p a ≡ true → q a ≡ false → length (filter q xs) < length (filter p xs)
-fewer p q [] a h among passes not = absurd among
-fewer p q (b ∷ xs) a h (inl same) passes not =
-    let rest : length (filter q xs) ≤ length (filter p xs) = narrower p q xs h in
-    let c : q b ≡ false = subst (λ v. q v ≡ false) same not in
-    let d : p b ≡ true = subst (λ v. p v ≡ true) same passes in
-    rw (c, d) (omega (arith, rest))
-fewer p q (b ∷ xs) a h (inr later) passes not = by (fewer p q xs a h later passes not) (q b) (p b) (h b)
-  where
-    by : length (filter q xs) < length (filter p xs) → (c d : Bool) → (c ≡ true → d ≡ true)
-        → length (cond c (b ∷ filter q xs) (filter q xs)) < length (cond d (b ∷ filter p xs) (filter p xs))
-    by rest true true k = omega (arith, rest)
-    by rest true false k = absurd (false≢true (k refl))
-    by rest false true k = omega (arith, rest)
-    by rest false false k = omega (arith, rest)
-
-and_false : (a b : Bool) → b ≡ false → (a && b) ≡ false
-and_false true b e = e
-and_false false b e = refl
+use Rattle.ddt_sim.proofs.SoundLemmas.{begun}
 
 -- a zone that covers x and is longer than n
 abbrev is_deeper : List ℕ → ℕ → Zone → Bool
@@ -80,7 +47,7 @@ deeper_than x n m z le deep =
     and_from (covers z.prefix x) (nat_lt n (length z.prefix)) p.0 (lt-ltb n (length z.prefix) (omega arith))
 
 not_deeper : (x : List ℕ) (z : Zone) → is_deeper x (length z.prefix) z ≡ false
-not_deeper x z = and_false (covers z.prefix x) (nat_lt (length z.prefix) (length z.prefix)) (le-ltb (length z.prefix) (length z.prefix) (omega arith))
+not_deeper x z = and_right (covers z.prefix x) (nat_lt (length z.prefix) (length z.prefix)) (le-ltb (length z.prefix) (length z.prefix) (omega arith))
 
 -- fewer are longer than one of them
 fewer_deeper : (r : Register) (x : List ℕ) (n : ℕ) (w : Zone) → Contains r.zones w → IsTrue (covers w.prefix x) → n < length w.prefix → deeper r x (length w.prefix) < deeper r x n

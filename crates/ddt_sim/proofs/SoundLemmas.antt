@@ -19,6 +19,8 @@ use Rattle.ddt_path.specs.Covers.{covers}
 use Rattle.ddt_path.specs.Path.{xeid_path, is_path}
 use Rattle.ddt_path.specs.Locators.{lists, is_same_locator}
 use Rattle.ddt_path.proofs.CoverLemmas.{covers_trans}
+use Rattle.ddt_path.proofs.LocatorLemmas.{lists_at}
+use Rattle.ddt_path.proofs.ActionLemmas.{ack_is}
 use Rattle.ddt_register.specs.declared.zone.Zone.{Zone}
 use Rattle.ddt_register.specs.declared.register.Register.{Register}
 use Rattle.ddt_check.specs.Zones.{locators_of}
@@ -51,16 +53,6 @@ use Rattle.ddt_sim.specs.Sound.{KeepsLaws, IsTrueEntry, delegates, registers, de
 
 -- ---- what an action means
 
-self_same : (l : Locator) → is_same_locator l l ≡ true
-self_same (V4 a) = eq-eqb a a refl
-self_same (V6 a) = eq-eqb a a refl
-
--- the locator at a place of a list is listed
-pub lists_at : (ls : List Locator) (i : ℕ) (d : Locator) → i < length ls → IsTrue (lists ls (get_or ls i d))
-lists_at [] i d lt = absurd (omega arith)
-lists_at (l ∷ ls) zero d lt = rw (self_same l) refl
-lists_at (l ∷ ls) (suc i) d lt = or_right (is_same_locator l (get_or ls i d)) _ (lists_at ls i d (omega arith))
-
 -- an action with an answer of its own is negative, and the answer is its outcome
 negative_is : (a : Action) (p : List ℕ) (ls : List Locator) (o : Outcome) → negative_answer a p ls ≡ Some o → IsTrue (is_negative a) × (o ≡ outcome_at a p ls)
 negative_is MsNotRegistered p ls o e = (refl, sym (same_Some _ o e))
@@ -88,11 +80,6 @@ outcome_back : (o : Outcome) → outcome_of (record_of o) ≡ o
 outcome_back (Registered p s) = refl
 outcome_back (NotRegistered p s) = refl
 outcome_back (Hole p) = refl
-
-ack_is : (o : Outcome) → (record_of o).action ≡ MsAck → o ≡ Registered (record_of o).prefix (record_of o).servers
-ack_is (Registered p s) e = refl
-ack_is (NotRegistered p s) e = absurd (cc e)
-ack_is (Hole p) e = absurd (cc e)
 
 negative_of : (o : Outcome) → IsTrue (is_negative (record_of o).action) → negative_prefix o ≡ Some (record_of o).prefix
 negative_of (Registered p s) e = absurd (false≢true e)

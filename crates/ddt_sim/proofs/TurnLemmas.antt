@@ -32,7 +32,7 @@ use Rattle.ddt_sim.specs.Honest.{IsServer}
 use Rattle.ddt_sim.specs.Sound.{IsSound, IsRightWhy, IsRightHeard, StepsKeepSoundness, TimeKeepsSoundness}
 use Rattle.ddt_sim.specs.Waiting.{Waits}
 use Rattle.ddt_sim.specs.Headline.{IsUnderWay}
-use Rattle.ddt_sim.proofs.SoundLemmas.{lists_at}
+use Rattle.ddt_path.proofs.LocatorLemmas.{lists_at}
 use Rattle.ddt_sim.proofs.ServerLemmas.{asks_a_server}
 use Rattle.ddt_sim.proofs.WaitingLemmas.{waits_on}
 use Rattle.ddt_sim.proofs.ReplyLemmas.{IsFor, RepliesAreRead, honest_reply_is_fair, honest_reply_is_taken}

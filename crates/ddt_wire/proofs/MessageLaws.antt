@@ -42,6 +42,10 @@ bit_of zero lt = refl
 bit_of (suc zero) lt = refl
 bit_of (suc (suc x)) lt = absurd (omega arith)
 
+pub bit_again : (b : Bool) (x : ℕ) → x ≡ bit b → eqb x 1 ≡ b
+bit_again true x e = ap (λ (n : ℕ). eqb n 1) e
+bit_again false x e = ap (λ (n : ℕ). eqb n 1) e
+
 pub bit-le : (b : Bool) → bit b ≤ 1
 bit-le true = omega arith
 bit-le false = omega arith
@@ -137,10 +141,6 @@ message_read : (bytes : List ℕ) (h : Head) (action : Action) (p : List ℕ) (n
     → locators_at h.locators (drop n (drop 22 bytes)) ≡ Ok (ls, []) → message_in bytes ≡ Ok (message_with h action p ls)
 unfolding message_in
 message_read bytes h action p n ls b a e l = rw (b, a, e, l) refl
-
-bit_again : (b : Bool) (x : ℕ) → x ≡ bit b → eqb x 1 ≡ b
-bit_again true x e = ap (λ (n : ℕ). eqb n 1) e
-bit_again false x e = ap (λ (n : ℕ). eqb n 1) e
 
 flags_fit : (a b i f : ℕ) → a ≤ 5 → b ≤ 1 → i ≤ 1 → f < 2 ^ 11 → a * 2 ^ 13 + b * 2 ^ 12 + i * 2 ^ 11 + f < 2 ^ 16
 flags_fit a b i f ha hb hi hf = omega arith

@@ -12,7 +12,7 @@ use Rattle.ddt_path.proofs.MemberLemmas.{IsIn, in_at, in_left, in_later}
 use Rattle.ddt_register.proofs.RisingLemmas.{later_row}
 use Rattle.ddt_register.proofs.RisingLemmas.{groups_rise}
 use Rattle.ddt_check.proofs.KeptLemmas.{own_name}
-use Rattle.ddt_compile.proofs.ContentLemmas.{same_outline}
+use Rattle.ddt_config.proofs.SameLemmas.{same_outline}
 use Rattle.ddt_compile.proofs.ShapedLemmas.{group_shaped}
 use Rattle.ddt_compile.proofs.HonestLemmas.{honest_configs}
 use Rattle.ddt_compile.proofs.RoomLemmas.{configs_have_room}

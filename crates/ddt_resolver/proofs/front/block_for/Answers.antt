@@ -1,5 +1,6 @@
-use Rattle.ddt_resolver.proofs.FrontLemmas.{before_fits}
+use Rattle.std.proofs.Common.{arith}
+use Rattle.ddt_path.proofs.PrefixLemmas.{length-xeid_path}
 use Rattle.ddt_resolver.proofs.front.block_for.Goals as goal
 
 pub cut-requires : goal.cut-requires
-cut-requires c = before_fits c.args.x
+cut-requires c = omega (arith, length-xeid_path c.args.x)

@@ -10,6 +10,7 @@ use Rattle.ddt_trie.proofs.EntryLemmas.{tied, tied-true}
 use Rattle.ddt_cache.specs.declared.entry.Entry.{Entry}
 use Rattle.ddt_cache.specs.Live.{is_live, live_at}
 use Rattle.ddt_cache.specs.Saved.{has_room, most_live_entries}
+use Rattle.ddt_path.proofs.MapSizeLemmas as size
 use Rattle.ddt_cache.proofs.LiveLemmas.{Entries, if_live, get-live_at, same}
 
 -- ---- a map without some keys
@@ -18,18 +19,13 @@ without : List (List ℕ) → Entries → Entries
 without [] m = m
 without (k ∷ ks) m = without ks (remove m k)
 
-fewer : (b : Bool) (n : ℕ) → cond b (n - 1) n ≤ n
-fewer true n = omega arith
-fewer false n = omega arith
-
 len-without : (ks : List (List ℕ)) (m : Entries) → len (without ks m) ≤ len m
 unfolding without
 len-without [] m = omega arith
 len-without (k ∷ ks) m =
     let a = len-without ks (remove m k) in
-    let b = fewer (contains_key m k) (len m) in
-    let c = len-remove nat_list_cmp_total m k in
-    omega (arith, a, b, c)
+    let b : len (remove m k) ≤ len m = size.len_removed nat_list_cmp_total m k in
+    omega (arith, a, b)
 
 both : {A : Type 0} (a b : Bool) (o : Option A) → cond b None (cond a None o) ≡ cond (a || b) None o
 both true true o = refl
@@ -99,8 +95,8 @@ len_dropped t m n is le =
 
 pub len_removed : (m n : Entries) (p : List ℕ) → n ≡ remove m p → len m ≤ most_live_entries → len n ≤ most_live_entries
 len_removed m n p is le =
-    let a : len n ≡ cond (contains_key m p) (len m - 1) (len m) = ap (λ (l : Entries). len l) is ∙ len-remove nat_list_cmp_total m p in
-    let b = fewer (contains_key m p) (len m) in
+    let a : len n ≡ len (remove m p) = ap (λ (l : Entries). len l) is in
+    let b : len (remove m p) ≤ len m = size.len_removed nat_list_cmp_total m p in
     omega (arith, a, b, le)
 
 pub len_none : (m : Entries) → m ≡ empty → len m ≤ most_live_entries

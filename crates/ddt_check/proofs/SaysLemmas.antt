@@ -14,6 +14,7 @@ use Rattle.ddt_path.specs.Records.{record_of, referral_action, not_authoritative
 use Rattle.ddt_path.specs.Covers.{covers}
 use Rattle.ddt_path.specs.Free.{longest_match, hole_of}
 use Rattle.ddt_path.specs.Locators.{lists}
+use Rattle.ddt_path.proofs.CoverLemmas.{covers_self}
 use Rattle.ddt_path.proofs.HoleLemmas.{hole_covers}
 use Rattle.ddt_path.proofs.MemberLemmas.{IsIn, contained}
 use Rattle.ddt_path.specs.declared.matching.Preference.TheVariants.{Longest}

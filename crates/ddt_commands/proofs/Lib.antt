@@ -1,3 +1,4 @@
+pub mod Texts
 pub mod ConfigLemmas
 pub mod LookupLemmas
 pub mod LoopLemmas

@@ -29,6 +29,7 @@ use Rattle.ddt_sim.specs.Lookup.{Fails, HasOutcome}
 use Rattle.ddt_sim.specs.Schedules.{StartsSound}
 use Rattle.ddt_sim.specs.Sound.{IsSound, NewResolversAreSound}
 use Rattle.ddt_lines.specs.Lines.{ended, hop_text, outcome_text}
+use Rattle.ddt_commands.proofs.Texts.{texts}
 use Rattle.ddt_commands.specs.declared.lines.Lines.{Lines}
 use Rattle.ddt_words.specs.Call.{Call}
 use Rattle.ddt_commands.specs.declared.refusal.Refusal.{Refusal}
@@ -91,9 +92,6 @@ push_replied (Ok u) new old line hop e is = e ∙ ap (λ (t : List ℕ). old ++ 
 push_replied (Err f) new old line hop e is = tt
 
 -- ---- the words of the identifiers
-
-abbrev pub texts : List (Bor (List ℕ)) → List (List ℕ)
-texts words = map (λ t. t.now) words
 
 -- a good word is passed, and a bad one is the first
 passed_next : (words : List (Bor (List ℕ))) (i : ℕ) (d : Bor (List ℕ)) (x : Xeid) → i < length words → xeid_in (get_or words i d).now ≡ Ok x

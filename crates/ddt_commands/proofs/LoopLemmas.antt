@@ -25,7 +25,8 @@ use Rattle.ddt_text.specs.FirstFault.{xeid_in}
 use Rattle.ddt_words.specs.Call.{Call}
 use Rattle.ddt_commands.specs.Lookup.{bad_identifier, me_of, seed_of, xeid_words}
 use Rattle.ddt_commands.specs.Loop.{IsRun, bad_loop, end_line, end_lines, server_locators, turns_of}
-use Rattle.ddt_commands.proofs.LookupLemmas.{starts_sound, texts}
+use Rattle.ddt_commands.proofs.LookupLemmas.{starts_sound}
+use Rattle.ddt_commands.proofs.Texts.{texts}
 
 -- ---- the words
 

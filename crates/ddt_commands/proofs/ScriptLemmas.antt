@@ -14,6 +14,7 @@ use Rattle.ddt_text.proofs.LawLemmas.{xeids_are_read}
 use Rattle.ddt_text.proofs.NumberLemmas.{number_in-sound, number_in-complete}
 use Rattle.ddt_sim.specs.declared.schedule.Step.{Step}
 use Rattle.ddt_sim.specs.declared.schedule.Step.TheVariants.{Ask, Deliver, Pass, Tick}
+use Rattle.ddt_commands.proofs.Texts.{texts}
 use Rattle.ddt_commands.specs.declared.script.ScriptFault.{ScriptFault}
 use Rattle.ddt_commands.specs.declared.script.ScriptFault.TheVariants.{Line}
 use Rattle.ddt_commands.specs.Script.{IsRefusedAt, ScriptsAreClear, SpellSteps, SpellsStep, lines_in}
@@ -91,9 +92,6 @@ steps_count [] [] h = refl
 steps_count [] (t ∷ ts) h = absurd h
 steps_count (l ∷ ls) [] h = absurd h
 steps_count (l ∷ ls) (t ∷ ts) h = ap suc (steps_count ls ts h.1)
-
-abbrev pub texts : List (Bor (List ℕ)) → List (List ℕ)
-texts lines = map (λ t. t.now) lines
 
 map_more : (xs : List (Bor (List ℕ))) (x : Bor (List ℕ)) → texts (xs ++ x ∷ []) ≡ texts xs ++ x.now ∷ []
 map_more [] x = refl

@@ -16,3 +16,4 @@ pub mod FrontLemmas
 pub mod MatchingLemmas
 pub mod LocatorLemmas
 pub mod ActionLemmas
+pub mod MapSizeLemmas

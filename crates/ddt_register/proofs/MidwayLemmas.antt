@@ -86,7 +86,7 @@ Refuses remaining old row fault = (left : List (List (List ℕ))) → IsLeft rem
     → (fault ≡ Fault.Csv row) × (len : ℕ) × (expected_len old ≡ Some len)
     × (other : List (List ℕ)) × (rest : List (List (List ℕ))) × (left ≡ other ∷ rest) × (length other ≢ len)
 
-same_len : (len : ℕ) (expected : Option ℕ) → expected ≡ Some 4 → expected ≡ Some len → len ≡ 4
+pub same_len : (len : ℕ) (expected : Option ℕ) → expected ≡ Some 4 → expected ≡ Some len → len ≡ 4
 same_len len expected e f = let s : Some 4 ≡ Some len = sym e ∙ f in cc
 
 at_other_length : {R : Type 0} (remaining : R → Option (List ℕ)) (first old : Reader R) (row : ℕ) (items : Lists) (fault : ReadFault)
@@ -126,9 +126,6 @@ Gives-row Fault.Memory row meant h next = tt
 -- a record that was read has as many fields as the columns
 pub still_four : (old new : Option ℕ) → old ≡ Some 4 → IfSome old (λ len. new ≡ Some len) → new ≡ Some 4
 still_four old new e h = rw e at h
-
-pub four_of : (n : ℕ) (new : Option ℕ) → new ≡ Some 4 → new ≡ Some n → n ≡ 4
-four_of n new e f = same_len n new e f
 
 -- ---- the first record
 

@@ -7,6 +7,7 @@ use Rattle.std.specs.List.Sorted.{IsSortedByKey}
 use Rattle.std.proofs.lemmas.Bool.{ne_eqb, eqb-false, cond-true, cond-false}
 use Rattle.std.proofs.lemmas.List.Sorted.{IsNonDecreasingBy-from_sort, IsPermutation-sym}
 use Rattle.std.proofs.lemmas.List.Elements.{Contains-get_or}
+use Rattle.std.proofs.lemmas.Cmp.{nat_eq_equiv}
 use Rattle.std.proofs.lemmas.Map.Keys.{apart_from_distinct, IsDistinct-from_apart, IsDistinct-IsPermutation}
 use Rattle.ddt_register.specs.Rows.{rise}
 use Rattle.ddt_path.proofs.MemberLemmas.{IsIn, in_contained, contained, moved_in}
@@ -70,16 +71,13 @@ rising_places row (x ∷ xs) up zero (suc j) d below inside = up.0 (get_or xs j 
 rising_places row (x ∷ xs) up (suc i) (suc j) d below inside = rising_places row xs up.1 i j d (omega arith)
     (omega arith)
 
-same_row-flips : (m n : ℕ) → (m == n) ≡ (n == m)
-same_row-flips m n = grind arith
-
 -- rows are distinct in any order of the items
 pub rows_apart : {A : Type 0} (row : A → ℕ) (xs ys : List A) → Rising row xs → IsPermutation xs ys → (i j : ℕ) (d : A)
     → i < j → j < length ys → (row (get_or ys i d) == row (get_or ys j d)) ≡ false
 rows_apart row xs ys up moved i j d below inside =
     let e = (λ (a b : _). row a == row b) in
     apart_from_distinct e ys i j d
-    (IsDistinct-IsPermutation e (λ a b. same_row-flips (row a) (row b)) xs ys moved
+    (IsDistinct-IsPermutation e (λ a b. nat_eq_equiv.symm (row a) (row b)) xs ys moved
     (IsDistinct-from_apart e xs (λ i j d below inside. ne_eqb _ _
     (λ same. let lt = rising_places row xs up i j d below inside in omega arith))))
     below inside
@@ -133,7 +131,7 @@ rows_again row items test xs found ys rises moved kept again sorted =
     let same = (λ (a b : _). row a == row b) in
     let up = rising_from_rise row items 0 rises in
     let apart = IsDistinct-from_apart same xs (rows_apart row items xs up moved) in
-    let distinct = IsDistinct-IsPermutation same (λ a b. same_row-flips (row a) (row b)) found ys again
+    let distinct = IsDistinct-IsPermutation same (λ a b. nat_eq_equiv.symm (row a) (row b)) found ys again
     (subst (IsDistinct same) (sym kept) (distinct_kept same test xs apart)) in
     one_order row (filter test items) ys (rising_from_rise row (filter test items) 0 (rise-filter row test items 0 rises))
     (sorted_rises row ys sorted (λ i j d below inside. apart_from_distinct same ys i j d distinct below inside))

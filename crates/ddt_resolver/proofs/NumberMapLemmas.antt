@@ -38,20 +38,6 @@ module _ {V : Type 0} (m : FinMap nat_cmp V) (k : ℕ) where
   pub len_replaced : (v w : V) → get m k ≡ Some w → len (insert m k v) ≡ len m
   len_replaced v w found = len-insert nat_cmp_total m k v ∙ cond-true (contains_key m k) (len m) (len m + 1) (ap (λ (o : Option V). is_some o) found)
 
-  grown : (b : Bool) (n : ℕ) → cond b n (n + 1) ≤ n + 1
-  grown true n = omega arith
-  grown false n = omega arith
-
-  pub len_inserted : (v : V) → len (insert m k v) ≤ len m + 1
-  len_inserted v = let e : len (insert m k v) ≡ cond (contains_key m k) (len m) (len m + 1) = len-insert nat_cmp_total m k v in omega (arith, grown (contains_key m k) (len m))
-
-  fewer : (b : Bool) (n : ℕ) → cond b (n - 1) n ≤ n
-  fewer true n = omega arith
-  fewer false n = omega arith
-
-  pub len_removed : len (remove m k) ≤ len m
-  len_removed = let e : len (remove m k) ≡ cond (contains_key m k) (len m - 1) (len m) = len-remove nat_cmp_total m k in omega (arith, fewer (contains_key m k) (len m))
-
 -- two maps that answer alike are one
 pub same_numbers : {V : Type 0} (m n : FinMap nat_cmp V) → ((q : ℕ) → get m q ≡ get n q) → m ≡ n
 same_numbers m n = same_map nat_cmp_total nat_cmp-IsAntisymmetric m n

@@ -7,7 +7,9 @@ use Rattle.ddt_resolver.specs.declared.pending.Pending.{Pending}
 use Rattle.ddt_resolver.specs.State.{State, last_nonce, numbered, moved, dropped}
 use Rattle.ddt_resolver.specs.Step.{Call, Reply, Step}
 use Rattle.ddt_resolver.specs.Order.{IsLookup, IsWaiting, IsInOrder}
-use Rattle.ddt_resolver.proofs.NumberMapLemmas.{found_insert, found_remove, len_replaced, len_inserted, len_removed}
+use Rattle.ddt_resolver.proofs.NumberMapLemmas.{found_insert, found_remove, len_replaced}
+use Rattle.std.specs.Cmp.{nat_cmp_total}
+use Rattle.ddt_path.proofs.MapSizeLemmas.{len_inserted, len_removed}
 use Rattle.ddt_resolver.proofs.ShapeLemmas.{Move, stays, opens, sends, drops, IsMoved, moved_by_step}
 
 -- nonces apart
@@ -61,9 +63,9 @@ module _ (s : State) (call : Call) (new : State) (a : Reply) (o : IsInOrder s) (
 
   few_kept : Move s call new a → len new.pending ≤ 1024
   few_kept (stays p n q) = rw p o.few
-  few_kept (opens l asked place first empty fresh is more few p n f) = rw p (omega (arith, len_inserted s.pending s.next (numbered s l)))
+  few_kept (opens l asked place first empty fresh is more few p n f) = rw p (omega (arith, len_inserted nat_cmp_total s.pending s.next (numbered s l)))
   few_kept (sends t old l here x goes is more p n) = rw (p, len_replaced s.pending t (numbered s l) old here) o.few
-  few_kept (drops t l e here p n f) = rw p (omega (arith, o.few, len_removed s.pending t))
+  few_kept (drops t l e here p n f) = rw p (omega (arith, o.few, len_removed nat_cmp_total s.pending t))
 
   lookups_kept : Move s call new a → (t : ℕ) (l : Pending) → get new.pending t ≡ Some l → IsWaiting new t l
   lookups_kept (stays p n q) t l found = later t l (omega arith) (o.lookups t l (ap (λ z. get z t) (sym p) ∙ found))
@@ -116,7 +118,7 @@ order_dropped s t o = record {
   known = o.known;
   root = o.root;
   next = o.next;
-  few = omega (arith, o.few, len_removed s.pending t);
+  few = omega (arith, o.few, len_removed nat_cmp_total s.pending t);
   lookups = λ u l found. let is : IsWaiting s u l = o.lookups u l (found_remove s.pending t u l found).1 in record { lookup = is.lookup; ticket = is.ticket; nonce = is.nonce; deadline = is.deadline };
   nonces = apart_remove s.pending t o.nonces;
 }

@@ -21,7 +21,9 @@ use Rattle.ddt_resolver.specs.State.{State, last_nonce, most_pending, fresh, ser
 use Rattle.ddt_resolver.specs.Table.{IsUnknown}
 use Rattle.ddt_resolver.specs.Acting.{IsSmall}
 use Rattle.ddt_resolver.specs.Order.{IsLookup, IsWaiting, IsInOrder}
-use Rattle.ddt_resolver.proofs.NumberMapLemmas.{found_insert, len_replaced, len_inserted}
+use Rattle.ddt_resolver.proofs.NumberMapLemmas.{found_insert, len_replaced}
+use Rattle.std.specs.Cmp.{nat_cmp_total}
+use Rattle.ddt_path.proofs.MapSizeLemmas.{len_inserted}
 use Rattle.ddt_resolver.proofs.OrderLemmas.{apart_insert}
 
 -- the time moved to itself changes nothing
@@ -104,7 +106,7 @@ module _ (s : State) (o : IsInOrder s) where
   pub order_opened : (p : FinMap nat_cmp Pending) (l : Pending) → IsLookup l → s.next < last_nonce → len s.pending < most_pending → p ≡ insert s.pending s.next (numbered s l)
       → IsInOrder (record { known = s.known; me = s.me; next = s.next + 1; pending = p })
   order_opened p l is more few put =
-      order_put s.known p s.next l is more put o.known refl refl (omega arith) (rw put (omega (arith, len_inserted s.pending s.next (numbered s l))))
+      order_put s.known p s.next l is more put o.known refl refl (omega arith) (rw put (omega (arith, len_inserted nat_cmp_total s.pending s.next (numbered s l))))
 
   -- a lookup goes on
   pub order_sent : (k : Known) (p : FinMap nat_cmp Pending) (change : Change) (t : ℕ) (l : Pending) → IsSmall change → IsSome (get s.pending t) → IsLookup l → s.next < last_nonce

@@ -4,14 +4,12 @@ use Rattle.std.specs.Prelude.{◌≢◌, ◌==◌, is_some, IsSome}
 use Rattle.std.specs.Cmp.{nat_cmp_total, unsigned_tied, eq_by_cmp_equiv}
 use Rattle.std.specs.FinMap.{FinMap, get, insert, remove, len, find, get-from_entries, len-insert, len-remove, len-empty}
 use Rattle.std.specs.Map.{lookup}
+use Rattle.std.proofs.lemmas.Cmp.{nat_eq_equiv}
 use Rattle.std.proofs.lemmas.Option.{none-some, same_Some}
 use Rattle.std.proofs.lemmas.Bool.{cond-true, cond-false, eqb-true, false≢true}
 use Rattle.ddt_resolver.specs.declared.pending.Pending.{Pending}
 use Rattle.ddt_resolver.specs.Table.{map_of, IsUnknown, AreNoted}
 use Rattle.ddt_resolver.proofs.NumberMapLemmas.{at_insert, at_remove, same_numbers}
-
-pub flip : (k q : ℕ) → (k == q) ≡ (q == k)
-flip k q = sym (unsigned_tied k q) ∙ (eq_by_cmp_equiv nat_cmp_total).symm k q ∙ unsigned_tied q k
 
 -- ---- the map of entries
 
@@ -25,11 +23,11 @@ at_map es q = get-from_entries nat_cmp_total es q ∙ same_find q es
 module _ (m n : List (ℕ × Pending)) (k : ℕ) where
   pub inserted_map : (v : Pending) → ((q : ℕ) → lookup (◌==◌ q) n ≡ cond (k == q) (Some v) (lookup (◌==◌ q) m)) → map_of n ≡ insert (map_of m) k v
   inserted_map v h = same_numbers (map_of n) (insert (map_of m) k v) (λ q.
-      at_map n q ∙ h q ∙ ap (λ b. cond b (Some v) (lookup (◌==◌ q) m)) (flip k q) ∙ sym (at_insert (map_of m) k v q ∙ ap (cond (q == k) (Some v)) (at_map m q)))
+      at_map n q ∙ h q ∙ ap (λ b. cond b (Some v) (lookup (◌==◌ q) m)) (nat_eq_equiv.symm k q) ∙ sym (at_insert (map_of m) k v q ∙ ap (cond (q == k) (Some v)) (at_map m q)))
 
   pub removed_map : ((q : ℕ) → lookup (◌==◌ q) n ≡ cond (k == q) None (lookup (◌==◌ q) m)) → map_of n ≡ remove (map_of m) k
   removed_map h = same_numbers (map_of n) (remove (map_of m) k) (λ q.
-      at_map n q ∙ h q ∙ ap (λ b. cond b None (lookup (◌==◌ q) m)) (flip k q) ∙ sym (at_remove (map_of m) k q ∙ ap (cond (q == k) None) (at_map m q)))
+      at_map n q ∙ h q ∙ ap (λ b. cond b None (lookup (◌==◌ q) m)) (nat_eq_equiv.symm k q) ∙ sym (at_remove (map_of m) k q ∙ ap (cond (q == k) None) (at_map m q)))
 
   pub reordered_map : ((q : ℕ) → lookup (◌==◌ q) n ≡ lookup (◌==◌ q) m) → map_of n ≡ map_of m
   reordered_map h = same_numbers (map_of n) (map_of m) (λ q. at_map n q ∙ h q ∙ sym (at_map m q))

@@ -24,7 +24,7 @@ use Rattle.ddt_sim.specs.Waiting.{Waits, CanBeAsked, requests_left, left_after}
 use Rattle.ddt_sim.specs.Lookup.{IsTurn, IsNotFor, heard_of, hop_of}
 use Rattle.ddt_sim.specs.Headline.{IsUnderWay, IsRightTurn}
 use Rattle.ddt_sim.specs.Reply.{IsWellHeard, IsUnderstood}
-use Rattle.ddt_sim.proofs.WaitingLemmas.{waits_on, followed_waits}
+use Rattle.ddt_sim.proofs.WaitingLemmas.{waits_on, followed_waits, spelled_request}
 use Rattle.ddt_sim.proofs.ReplyLemmas.{IsFor, RepliesAreRead}
 use Rattle.ddt_sim.proofs.TurnLemmas.{asked_is_server, turn_is_own, turn_keeps_sound, turn_is_right, outcome_is_right, gave_up_used_up}
 
@@ -34,19 +34,6 @@ for_is_own t (heard.Ignored why) own other = own
 for_is_own t (heard.Followed u d) own other = other own
 for_is_own t (heard.Answer u o) own other = other own
 for_is_own t (heard.GaveUp u why) own other = other own
-
--- a request that is written spells a DDT Map-Request
-spelled_request : WrittenSpells → (nonce : ℕ) (x : Xeid) (me : Locator) → nonce < 2 ^ 64 → CanBeAsked x me
-    → Spells (request_bytes nonce x me) (message_of nonce x (me ∷ []) true)
-unfolding request_bytes
-spelled_request written nonce x me few fits = written nonce x (me ∷ []) true (record {
-  nonce_fits = few;
-  iid_fits = fits.iid_fits;
-  address_fits = fits.address_fits;
-  some = omega arith;
-  few = omega arith;
-  rlocs_fit = (fits.me_fits, tt);
-})
 
 module _ (r : Register) (now : ℕ) (x : Xeid) (s : State) (t : ℕ) (d : Outgoing) (early : now ≤ last_moment) (o : IsInOrder s) (u : IsUnderWay r now x s t d)
     (keeps : StepsKeepSoundness) (time : TimeKeepsSoundness) (laws : RepliesAreRead r) (written : WrittenSpells) where

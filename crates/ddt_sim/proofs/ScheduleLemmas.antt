@@ -36,6 +36,7 @@ use Rattle.ddt_sim.specs.History.{Line}
 use Rattle.ddt_sim.proofs.ReplyLemmas.{RepliesAreRead}
 use Rattle.ddt_sim.proofs.SentLemmas.{got_append, WasAsked, IsKnown, known_on, asks_now, reply_is_fair}
 use Rattle.ddt_sim.proofs.SentLemmas as sent
+use Rattle.ddt_sim.proofs.WaitingLemmas.{spelled_request}
 use Rattle.ddt_sim.proofs.TicketLemmas.{Tickets, IsStill, tickets_still, tickets_move}
 
 -- ---- what a step of the resolver sends
@@ -121,18 +122,6 @@ asked_fits w step call (ticked e f) x g = absurd (cc (f, g))
 
 -- ---- the invariant
 
--- a request that is written spells a DDT Map-Request
-pub spelled : WrittenSpells → (nonce : ℕ) (x : Xeid) (me : Locator) → nonce < 2 ^ 64 → CanBeAsked x me → Spells (request_bytes nonce x me) (message_of nonce x (me ∷ []) true)
-unfolding request_bytes
-spelled written nonce x me few fits = written nonce x (me ∷ []) true (record {
-  nonce_fits = few;
-  iid_fits = fits.iid_fits;
-  address_fits = fits.address_fits;
-  some = omega arith;
-  few = omega arith;
-  rlocs_fit = (fits.me_fits, tt);
-})
-
 pub record IsSoundRun (r : Register) (past : List Line) (w : World) : Type 0 where
   pub order : IsInOrder w.state
   pub early : w.moment ≤ last_moment
@@ -171,7 +160,7 @@ module _ (r : Register) (are_honest : Register → Type 0) (on : Stands r are_ho
   known_request d (sent.request nonce x a is bytes) kind =
       let below = a.below in let last = i.order.next in
       let few : nonce < 2 ^ 64 = omega (arith, below, last) in
-      (nonce, x, a, (subst (λ (b : List ℕ). IsDdtRequest b (message_of nonce x (w.state.me ∷ []) true)) (sym bytes) (spelled on.written nonce x w.state.me few a.fits, refl)))
+      (nonce, x, a, (subst (λ (b : List ℕ). IsDdtRequest b (message_of nonce x (w.state.me ∷ []) true)) (sym bytes) (spelled_request on.written nonce x w.state.me few a.fits, refl)))
 
   -- and its server's reply is honest
   pub replied_honestly : (k : ℕ) (d : Datagram) (reply : Option (List ℕ)) → slice_get w.sent k ≡ Some d → d.is_reply ≡ false → honest_replies are_honest w.member d.to d.bytes reply

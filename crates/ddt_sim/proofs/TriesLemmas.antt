@@ -49,7 +49,8 @@ use Rattle.ddt_sim.proofs.ReplyLemmas.{IsFor, late_or_taken}
 use Rattle.ddt_sim.proofs.ServerLemmas.{asks_a_server}
 use Rattle.ddt_sim.proofs.SentLemmas.{get_append, get_last}
 use Rattle.ddt_sim.proofs.TicketLemmas.{goes_on_reply}
-use Rattle.ddt_sim.proofs.ScheduleLemmas.{IsSoundRun, Stands, spelled, goes_sends, order_now, is_moved}
+use Rattle.ddt_sim.proofs.WaitingLemmas.{spelled_request}
+use Rattle.ddt_sim.proofs.ScheduleLemmas.{IsSoundRun, Stands, goes_sends, order_now, is_moved}
 
 -- ---- what an event tells of a ticket
 
@@ -307,7 +308,7 @@ module _ (r : Register) (are_honest : Register → Type 0) (on : Stands r are_ho
       let from : d.0.source ≡ server w.state.me l = ap (λ (z : Datagram). z.source) came ∙ ap (λ (z : Datagram). z.to) asked in
       let own = sound.order.lookups t l found in
       let below = own.nonce in let last = sound.order.next in
-      let spells = spelled on.written l.nonce l.x w.state.me (omega (arith, below, last)) (sound.fits t l found) in
+      let spells = spelled_request on.written l.nonce l.x w.state.me (omega (arith, below, last)) (sound.fits t l found) in
       let is_server : IsServer r (server w.state.me l) = asks_a_server r w.state.me l (sound.sound.lookups t l found) own.lookup.place in
       let honest = p.honest (message_of l.nonce l.x (w.state.me ∷ []) true) (subst (λ (z : Datagram). IsServer r z.to) (sym asked) is_server) (subst (λ (z : Datagram). IsDdtRequest z.bytes (message_of l.nonce l.x (w.state.me ∷ []) true)) (sym asked) (spells, refl)) in
       let said : Spells d.0.bytes (referral_of l.nonce (says r d.0.source (xeid_path l.x))) = subst (λ (z : Datagram). Spells z.bytes (referral_of l.nonce (says r z.source (xeid_path l.x)))) (sym came) honest in

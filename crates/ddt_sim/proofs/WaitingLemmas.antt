@@ -1,9 +1,11 @@
 -- A lookup that waits for the reply to its last request, from its ask to its end.
-use Rattle.std.proofs.Common.{◌≡◌, ℕ, ◌+◌, ◌≤◌, List, Some, Ok, refl, sym, ap, ◌∙◌, arith, max}
+use Rattle.std.proofs.Common.{◌≡◌, ℕ, ◌+◌, ◌^◌, ◌<◌, ◌≤◌, true, List, [], ◌∷◌, Some, Ok, refl, sym, ap, ◌∙◌, arith, max}
 use Rattle.std.specs.FinMap.{get}
 use Rattle.std.proofs.lemmas.Option.{same_Some}
 use Rattle.ddt_path.specs.declared.xeid.Xeid.{Xeid}
 use Rattle.ddt_path.specs.declared.locator.Locator.{Locator}
+use Rattle.ddt_ecm.specs.Request.{Spells}
+use Rattle.ddt_ecm.specs.Laws.{WrittenSpells, message_of}
 use Rattle.ddt_resolver.specs.declared.pending.Pending.{Pending}
 use Rattle.ddt_resolver.specs.declared.answers.Outgoing.{Outgoing}
 use Rattle.ddt_resolver.specs.declared.answers.Asked.TheVariants as asked
@@ -15,8 +17,21 @@ use Rattle.ddt_resolver.specs.Act as acts
 use Rattle.ddt_resolver.specs.Act.{Act, HearStep}
 use Rattle.ddt_resolver.proofs.NumberMapLemmas.{get-insert_same}
 use Rattle.ddt_sim.specs.declared.hop.Hop.{Hop}
-use Rattle.ddt_sim.specs.Waiting.{Waits}
+use Rattle.ddt_sim.specs.Waiting.{Waits, CanBeAsked}
 use Rattle.ddt_sim.specs.Lookup.{Reaches, sent, followed}
+
+-- a request that is written spells a DDT Map-Request
+pub spelled_request : WrittenSpells → (nonce : ℕ) (x : Xeid) (me : Locator) → nonce < 2 ^ 64 → CanBeAsked x me
+    → Spells (request_bytes nonce x me) (message_of nonce x (me ∷ []) true)
+unfolding request_bytes
+spelled_request written nonce x me few fits = written nonce x (me ∷ []) true (record {
+  nonce_fits = few;
+  iid_fits = fits.iid_fits;
+  address_fits = fits.address_fits;
+  some = omega arith;
+  few = omega arith;
+  rlocs_fit = (fits.me_fits, tt);
+})
 
 -- at the time that a lookup has, the passing of time to `now` changes nothing of it
 abbrev pub waits_on : (now : ℕ) (x : Xeid) (s : State) (t : ℕ) (d : Outgoing) → Waits now x s t d → Waits now x (moved now s) t d

@@ -4,7 +4,7 @@ use Rattle.std.specs.Prelude.{◌==◌, ◌||◌}
 use Rattle.std.specs.List.{position_or_len, list_any}
 use Rattle.std.specs.Char.{digit_value}
 use Rattle.std.specs.Str.Parse.{AllDigits}
-use Rattle.std.proofs.lemmas.Bool.{cases_eq}
+use Rattle.std.proofs.lemmas.Bool.{cases_eq, or_parts}
 use Rattle.std.proofs.lemmas.List.{take_at, drop_at, take_all, drop_all}
 use Rattle.std.proofs.lemmas.List.Folds.{list_any-append}
 use Rattle.std.proofs.lemmas.Bool.Decides.{nat_tests}
@@ -53,10 +53,6 @@ plain_bytes low (x ∷ xs) h = IsBytes-cons x xs (omega (arith, h.0.1)) (plain_b
 pub decimal_bytes : (n : ℕ) → n < 2 ^ 64 → IsBytes (decimal n)
 decimal_bytes n h = plain_bytes 48 (decimal n) (plain-decimal n h)
 
-or_none : (a b : Bool) → (a || b) ≡ false → (a ≡ false) × (b ≡ false)
-or_none true b e = absurd (true≢false e)
-or_none false b e = (refl, e)
-
 -- a byte that stands nowhere
 abbrev pub Lacks : ℕ → List ℕ → Type 0
 Lacks byte xs = list_any (λ b. b == byte) xs ≡ false
@@ -83,7 +79,7 @@ cut_parts byte text = take-append-drop (position_or_len (λ b. b == byte) text) 
 
 place_at : (byte : ℕ) (xs ys : List ℕ) → Lacks byte xs → position_or_len (λ b. b == byte) (xs ++ byte ∷ ys) ≡ length xs
 place_at byte [] ys h = rw (eq-eqb byte byte refl)
-place_at byte (x ∷ xs) ys h = let p = or_none (x == byte) (list_any (λ b. b == byte) xs) h in rw (p.0, place_at byte xs ys p.1) (one-add (length xs))
+place_at byte (x ∷ xs) ys h = let p = or_parts (x == byte) (list_any (λ b. b == byte) xs) h in rw (p.0, place_at byte xs ys p.1) (one-add (length xs))
 
 pub before_at : (byte : ℕ) (xs ys : List ℕ) → Lacks byte xs → before byte (xs ++ byte ∷ ys) ≡ xs
 before_at byte xs ys h = take_at xs (byte ∷ ys) _ (sym (place_at byte xs ys h))
@@ -93,7 +89,7 @@ onward_at byte xs ys h = drop_at xs (byte ∷ ys) _ (sym (place_at byte xs ys h)
 
 place_none : (byte : ℕ) (xs : List ℕ) → Lacks byte xs → length xs ≤ position_or_len (λ b. b == byte) xs
 place_none byte [] h = omega arith
-place_none byte (x ∷ xs) h = let p = or_none (x == byte) (list_any (λ b. b == byte) xs) h in let rest = place_none byte xs p.1 in rw p.0 (omega arith)
+place_none byte (x ∷ xs) h = let p = or_parts (x == byte) (list_any (λ b. b == byte) xs) h in let rest = place_none byte xs p.1 in rw p.0 (omega arith)
 
 pub before_none : (byte : ℕ) (xs : List ℕ) → Lacks byte xs → before byte xs ≡ xs
 before_none byte xs h = take_all _ xs (place_none byte xs h)
@@ -119,7 +115,7 @@ pub cut_none : (byte : ℕ) (text : List ℕ) → onward byte text ≡ [] → te
 cut_none byte text e = sym (cut_parts byte text) ∙ ap (λ t. before byte text ++ t) e ∙ append-nil (before byte text)
 
 pub lacks_right : (byte : ℕ) (xs ys : List ℕ) → Lacks byte (xs ++ ys) → Lacks byte ys
-lacks_right byte xs ys h = (or_none (list_any (λ b. b == byte) xs) (list_any (λ b. b == byte) ys) (sym (list_any-append (λ b. b == byte) xs ys) ∙ h)).1
+lacks_right byte xs ys h = (or_parts (list_any (λ b. b == byte) xs) (list_any (λ b. b == byte) ys) (sym (list_any-append (λ b. b == byte) xs ys) ∙ h)).1
 
 pub lacks-append : (byte : ℕ) (xs ys : List ℕ) → Lacks byte xs → Lacks byte ys → Lacks byte (xs ++ ys)
 lacks-append byte xs ys h k = rw (list_any-append (λ b. b == byte) xs ys, h) k

@@ -1,5 +1,5 @@
 use Rattle.ddt_commands.specs.Script.{SpellSteps}
-use Rattle.ddt_commands.proofs.ScriptLemmas.{texts}
+use Rattle.ddt_commands.proofs.Texts.{texts}
 use Rattle.ddt_commands.proofs.script.read_script.Given as goal
 
 abbrev pub invariant-loop-line : goal.invariant-loop-line

@@ -1,6 +1,7 @@
 use Rattle.std.proofs.Common.{◌≡◌, ℕ, ◌+◌, ◌≤◌, Bool, true, false, cond, Option, Some, None, take, refl, sym, ap, ◌∙◌, arith}
 use Rattle.std.specs.Prelude.{◌||◌, is_some}
-use Rattle.std.specs.FinMap.{contains_key, get, len, get-empty, get-insert, len-empty, len-insert}
+use Rattle.std.specs.FinMap.{contains_key, get, insert, len, get-empty, get-insert, len-empty}
+use Rattle.ddt_path.proofs.MapSizeLemmas.{len_inserted}
 use Rattle.std.specs.List.{list_any}
 use Rattle.std.specs.Ordering.{eq_by_cmp}
 use Rattle.std.specs.Cmp.Lexicographic.{texts_ties, nat_list_cmp_total}
@@ -17,10 +18,6 @@ some_cond true v (Some w) = refl
 some_cond false v None = refl
 some_cond false v (Some w) = refl
 
-one_more : (b : Bool) (l : ℕ) → cond b l (l + 1) ≤ l + 1
-one_more true l = omega arith
-one_more false l = omega arith
-
 pub loop-zone-init : goal.loop-zone-init
 loop-zone-init c = record {
   kept = λ p. ap (λ m. contains_key m p) c.empty-prefixes.ensures ∙ ap is_some (get-empty path_cmp p);
@@ -34,8 +31,8 @@ loop-zone-preserved c =
     let i = c.loop-zone.zone-index in
     let old = trie_content c.loop-zone.prefixes in
     let is = c.in-Ok.ensures.inserted in
-    let grown : len (trie_content c.insert.new.self) ≡ cond (contains_key old z.prefix) (len old) (len old + 1) = ap len is ∙ len-insert nat_list_cmp_total old z.prefix z.row in
-    let most : cond (contains_key old z.prefix) (len old) (len old + 1) ≤ len old + 1 = one_more (contains_key old z.prefix) (len old) in
+    let same : len (trie_content c.insert.new.self) ≡ len (insert old z.prefix z.row) = ap len is in
+    let most : len (insert old z.prefix z.row) ≤ len old + 1 = len_inserted nat_list_cmp_total old z.prefix z.row in
     let few : len old ≤ i = c.loop-zone.invariant.few in
     record {
       kept = λ p. ap (λ m. contains_key m p) is

@@ -5,7 +5,7 @@ use Rattle.ddt_register.specs.Left.{IsLeft}
 use Rattle.ddt_register.specs.Kept.{kept}
 use Rattle.ddt_register.specs.Spelled.{row_in, rows_in}
 use Rattle.ddt_register.proofs.SpelledLemmas.{rows_in-are_rows, row_in-too_many}
-use Rattle.ddt_register.proofs.MidwayLemmas.{IsMidway, IsMidway-start, IsMidway-next, IsMidway-end, IsMidway-fault, IsMidway-refused, Gives-row, still_four, four_of}
+use Rattle.ddt_register.proofs.MidwayLemmas.{IsMidway, IsMidway-start, IsMidway-next, IsMidway-end, IsMidway-fault, IsMidway-refused, Gives-row, still_four, same_len}
 use Rattle.ddt_register.specs.declared.fault.ReadFault.TheVariants.{TooMany}
 use Rattle.ddt_register.proofs.reading.read_rows.Goals as goal
 
@@ -29,7 +29,7 @@ pub read_row-requires-clause-four : goal.read_row-requires-clause-four
 read_row-requires-clause-four g c =
     let new = expected_len c.next_record.new.reader in
     let found = c.in_ok-next_record.ensures in
-    four_of (length (fields_of c.next_record.new.fields)) new (still_four (expected_len c.loop-row.reader) new c.loop-row.invariant.columns (found.same c.if-not-branch.false)) (found.expected c.if-not-branch.false)
+    same_len (length (fields_of c.next_record.new.fields)) new (still_four (expected_len c.loop-row.reader) new c.loop-row.invariant.columns (found.same c.if-not-branch.false)) (found.expected c.if-not-branch.false)
 
 pub returns-in_err-read_row : goal.returns-in_err-read_row
 returns-in_err-read_row g c =
@@ -63,7 +63,7 @@ returns-then-branch g c =
     let takes = λ (left : List (List (List ℕ))) (l : IsLeft g.R.Read.remaining c.loop-row.reader left). rw c.if-branch.true at (found.takes left l) in
     let last : c.loop-row.row ≡ 65536 = omega arith in
     let before = subst (λ (n : ℕ). IsMidway g.R.Read.remaining c.args.reader c.loop-row.reader n (kept c.loop-row.items)) last c.loop-row.invariant in
-    let four = four_of (length fields) new (still_four (expected_len c.loop-row.reader) new c.loop-row.invariant.columns (found.same c.if-branch.true)) (found.expected c.if-branch.true) in
+    let four = same_len (length fields) new (still_four (expected_len c.loop-row.reader) new c.loop-row.invariant.columns (found.same c.if-branch.true)) (found.expected c.if-branch.true) in
     IsMidway-fault g.R.Read.remaining c.args.reader c.loop-row.reader c.next_record-2.new.reader 65536 (kept c.loop-row.items) fields TooMany before takes (row_in-too_many 65536 fields (lit< tt) four)
 
 pub into_register-requires-2 : goal.into_register-requires-2

@@ -1,7 +1,7 @@
 use Rattle.std.proofs.Common.{◌≡◌, Ok, drop, map, take}
 use Rattle.ddt_text.specs.FirstFault.{xeid_in}
 use Rattle.ddt_commands.specs.Lookup.{bad_identifier}
-use Rattle.ddt_commands.proofs.LookupLemmas.{texts}
+use Rattle.ddt_commands.proofs.Texts.{texts}
 use Rattle.ddt_commands.proofs.commands.looping.xeids.Given as goal
 
 -- the identifiers of the words before this one

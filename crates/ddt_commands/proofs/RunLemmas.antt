@@ -1,5 +1,6 @@
 -- From what one command prints to what the words of a process print.
 use Rattle.std.proofs.Common.{◌≡◌, ◌≢◌, inl, inr, ℕ, Bool, true, List, [], Option, Some, ap, sym, subst, refl, ◌∙◌}
+use Rattle.std.proofs.lemmas.Option.{same_Some}
 use Rattle.clap.specs.Words.{App, fault_of, is_simple_and_free, subcommand_of}
 use Rattle.ddt_words.specs.declared.declaration.Declaration.{Declaration}
 use Rattle.ddt_words.specs.Call.{Call, Calls}
@@ -25,17 +26,10 @@ calls_for ds words command call e calls named =
 pub bad_words : (ds : List Declaration) (words : List (List ℕ)) → line ds ≡ program_line → fault_of (line ds) words ≢ [] → CallNone words
 bad_words ds words e bad = λ command call calls. bad (ap (λ (a : App). fault_of a words) e ∙ calls.0.0)
 
-same_call : (a b : Call) → Some a ≡ Some b → a ≡ b
-same_call a b e = ap (λ (o : Option Call). or_else a o) e
-  where
-    or_else : Call → Option Call → Call
-    or_else d (Some x) = x
-    or_else d _ = d
-
 pub unknown : (ds : List Declaration) (words : List (List ℕ)) (call : Call) → line ds ≡ program_line → Calls ds words call → ((c : Command) → name_of c ≢ call.0) → CallNone words
 unknown ds words call e calls none = λ command other for_other.
     let one = sym (ap (λ (a : App). subcommand_of a words) e) ∙ calls.1 in
-    none command (sym for_other.1 ∙ sym (ap (λ (p : Call). p.0) (same_call call other (sym one ∙ for_other.0.1))))
+    none command (sym for_other.1 ∙ sym (ap (λ (p : Call). p.0) (same_Some call other (sym one ∙ for_other.0.1))))
 
 pub answered : {F : Type 0} (opens : List ℕ → Option F → Type 0) (remaining : F → Option (List ℕ)) (over : OverWires) (words : List (List ℕ)) (command : Command) (call : Call) (complete : Bool)
     (old new : Option (List ℕ)) → CallsFor words command call → HasText (IsTextOf opens remaining over command call complete) old new → HasText (IsAnswer opens remaining over words complete) old new

@@ -1,19 +1,13 @@
 -- An action and its number name each other; which outcome a record is of.
 use Rattle.std.proofs.Common.{◌≡◌, ℕ, zero, suc, ◌≤◌, false, eqb, Option, Some, None, refl, sym, ap, subst, ◌∙◌, arith}
 use Rattle.std.proofs.lemmas.Bool.{ne_eqb}
+use Rattle.std.proofs.lemmas.Option.{none-some}
 use Rattle.ddt_path.specs.declared.action.Action.{Action}
 use Rattle.ddt_path.specs.declared.action.Action.TheVariants.{NodeReferral, MsReferral, MsAck, MsNotRegistered, DelegationHole, NotAuthoritative}
 use Rattle.ddt_path.specs.declared.record.Outcome.{Outcome}
 use Rattle.ddt_path.specs.declared.record.Outcome.TheVariants.{Registered, NotRegistered, Hole}
 use Rattle.ddt_path.specs.Actions.{number, action_of}
 use Rattle.ddt_path.specs.Records.{record_of}
-
-abbrev IsNone : Option Action → Type 0
-IsNone None = Unit {0}
-IsNone (Some a) = ⊥
-
-none_some : {action : Action} → None ≡ Some action → ⊥
-none_some e = subst IsNone e tt
 
 named : (a b : Action) → Some a ≡ Some b → number a ≡ number b
 named a b e = let same : a ≡ b = cc in ap number same
@@ -36,7 +30,7 @@ number_of (suc (suc zero)) action e = named MsAck action e
 number_of (suc (suc (suc zero))) action e = named MsNotRegistered action e
 number_of (suc (suc (suc (suc zero)))) action e = named DelegationHole action e
 number_of (suc (suc (suc (suc (suc zero))))) action e = named NotAuthoritative action e
-number_of (suc (suc (suc (suc (suc (suc n)))))) action e = absurd (none_some (sym (none_above (suc (suc (suc (suc (suc (suc n)))))) (omega arith)) ∙ e))
+number_of (suc (suc (suc (suc (suc (suc n)))))) action e = absurd (none-some action (sym (none_above (suc (suc (suc (suc (suc (suc n)))))) (omega arith)) ∙ e))
 
 pub action_again : (action : Action) → action_of (number action) ≡ Some action
 action_again NodeReferral = refl

@@ -209,13 +209,13 @@ member_apart (k ∷ s) key p is none =
     ]
 
 -- what covers x overlaps all else that covers x
-overlaps_front : (key x p : List ℕ) → covers key x ≡ true → covers p x ≡ true → overlaps key p ≡ true
-overlaps_front key x p c d = ap (overlaps key) (sym (take-covered p x d)) ∙ overlaps-take key x (length p) c
+pub fronts_overlap : (key x p : List ℕ) → covers key x ≡ true → covers p x ≡ true → overlaps key p ≡ true
+fronts_overlap key x p c d = ap (overlaps key) (sym (take-covered p x d)) ∙ overlaps-take key x (length p) c
 
 pub member_covers_none : (authority : List ℕ) (s : List (List ℕ)) (x key : List ℕ) → list_any (is_same_path key) s ≡ true → covers key x ≡ true → free authority s x ≡ None
 member_covers_none authority s x key is c =
     none_free authority s x (λ p d. false_from_ne_true (overlaps_none s p) (λ none.
-    false≢true (sym (member_apart s key p is none) ∙ overlaps_front key x p c d)))
+    false≢true (sym (member_apart s key p is none) ∙ fronts_overlap key x p c d)))
 
 -- ---- where nothing is free, a member covers
 

@@ -1,10 +1,11 @@
 -- Which items a list has, and tests that hold of one, of all and of none of them. What a test keeps of a list is in
 -- FilterLemmas.
-use Rattle.std.proofs.Common.{◌≡◌, ◌⊎◌, ℕ, zero, suc, ◌+◌, ◌<◌, ◌≤◌, Bool, true, false, cond, ◌&&◌, ◌||◌, List, [], ◌∷◌, length, get_or, map, take, drop, find, IsPermutation, Option, Some, None, refl, sym, ap, subst, ◌∙◌, arith, rules, inl, inr}
-use Rattle.std.specs.Prelude.{unwrap_or, is_some, slice_get}
+use Rattle.std.proofs.Common.{◌≡◌, ◌⊎◌, ℕ, zero, suc, ◌+◌, ◌<◌, ◌≤◌, Bool, true, false, cond, ◌&&◌, ◌||◌, List, [], ◌∷◌, length, get_or, map, take, drop, find, IsPermutation, Option, Some, None, refl, sym, ap, subst, ◌∙◌, arith, inl, inr}
+use Rattle.std.specs.Prelude.{is_some, slice_get}
 use Rattle.std.specs.List.{list_any, list_all, All, AllByRecursion, Contains}
 use Rattle.std.specs.Option.{option_or}
 use Rattle.std.proofs.lemmas.Bool.{cond-true, cond-false, false≢true, and_parts, or_parts, or_cases, or_left, or_right}
+use Rattle.std.proofs.lemmas.Option.{none-some, same_Some}
 use Rattle.std.proofs.lemmas.List.{drop_more, take_more, get_or_default}
 use Rattle.std.proofs.lemmas.List.Folds.{find-append}
 use Rattle.std.proofs.lemmas.List.Sorted.{Contains-permutation, IsPermutation-sym}
@@ -141,26 +142,20 @@ pub all_made : {A B C : Type 0} (P : C → Type 0) (f : A → C) (g : B → C) (
 all_made P f g xs ys h e = All-from_recursion (λ x. P (f x)) xs (each_made P f g xs ys h e)
 
 -- what is found is a member that passes
-none≢some : {A : Type 0} (x : A) → None ≡ Some x → ⊥
-none≢some x e = search (rules, e)
-
-same_item : {A : Type 0} (x y : A) → Some x ≡ Some y → y ≡ x
-same_item x y e = sym (ap (λ o. unwrap_or o x) e)
-
 found_case : {A : Type 0} (y : A) (xs : List A) (x : A) (rest : Option A) → (rest ≡ Some x → IsIn x xs) → (b : Bool) → cond b (Some y) rest ≡ Some x → IsIn x (y ∷ xs)
-found_case y xs x rest ih true e = inl (same_item y x e)
+found_case y xs x rest ih true e = inl (sym (same_Some y x e))
 found_case y xs x rest ih false e = inr (ih e)
 
 pub found_in : {A : Type 0} (test : A → Bool) (xs : List A) (x : A) → find test xs ≡ Some x → IsIn x xs
-found_in test [] x e = absurd (none≢some x e)
+found_in test [] x e = absurd (none-some x e)
 found_in test (y ∷ xs) x e = found_case y xs x (find test xs) (found_in test xs x) (test y) e
 
 found_case_passes : {A : Type 0} (test : A → Bool) (y x : A) (rest : Option A) → (rest ≡ Some x → test x ≡ true) → (b : Bool) → test y ≡ b → cond b (Some y) rest ≡ Some x → test x ≡ true
-found_case_passes test y x rest ih true t e = ap test (same_item y x e) ∙ t
+found_case_passes test y x rest ih true t e = ap test (sym (same_Some y x e)) ∙ t
 found_case_passes test y x rest ih false t e = ih e
 
 pub found_passes : {A : Type 0} (test : A → Bool) (xs : List A) (x : A) → find test xs ≡ Some x → test x ≡ true
-found_passes test [] x e = absurd (none≢some x e)
+found_passes test [] x e = absurd (none-some x e)
 found_passes test (y ∷ xs) x e = found_case_passes test y x (find test xs) (found_passes test xs x) (test y) refl e
 
 -- nothing is found if and only if no member passes
@@ -169,7 +164,7 @@ found_none test [] none = refl
 found_none test (x ∷ xs) none = rw (none x (inl refl)) (found_none test xs (λ y k. none y (inr k)))
 
 unfound_case : {A : Type 0} (y : A) (rest : Option A) (b : Bool) → cond b (Some y) rest ≡ None → (b ≡ false) × (rest ≡ None)
-unfound_case y rest true e = absurd (none≢some y (sym e))
+unfound_case y rest true e = absurd (none-some y (sym e))
 unfound_case y rest false e = (refl, e)
 
 pub unfound : {A : Type 0} (test : A → Bool) (xs : List A) (x : A) → find test xs ≡ None → IsIn x xs → test x ≡ false

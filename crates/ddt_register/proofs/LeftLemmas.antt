@@ -1,5 +1,6 @@
 -- What a reader has left, record after record.
 use Rattle.std.proofs.Common.{◌≡◌, ◌⊎◌, inl, inr, ℕ, zero, suc, ◌+◌, ◌<◌, List, [], ◌∷◌, ◌++◌, length, Option, Some, None, Bool, true, false, Ok, Err, refl, sym, ap, subst, ◌∙◌, arith}
+use Rattle.std.proofs.lemmas.Option.{same_Some}
 use Rattle.std.specs.Prelude.{if◌then◌else◌, option_map}
 use Rattle.csv.specs.Machine.{Read, next_record, step, is_end, fields_after, field_after, ends_at_end}
 use Rattle.csv.specs.Reading.{NextIs, ReadsNext, ReadRecord, ExplainsRead, source_of, pending_of, default_config, records, records_from, reader_state, strip_bom}
@@ -22,22 +23,19 @@ Shorter-more : (p : Read) (n : ℕ) → Shorter p n → Shorter p (suc n)
 Shorter-more p n (inl lt) = inl (omega arith)
 Shorter-more p n (inr h) = inr h
 
-some_eq : {A : Type 0} (a b : A) → Some a ≡ Some b → a ≡ b
-some_eq a b e = cc
-
 shorter : (cfg : Config) (s : State) (fields : List (List ℕ)) (field xs : List ℕ) (p : Read) → next_record cfg s fields field xs ≡ Some p → Shorter p (length xs)
 unfolding next_record
 shorter cfg s fields field [] p e = at_end (ends_at_end s) e
   where
     at_end : (b : Bool) → (if b then Some (let r : Read = (fields ++ field ∷ [], st.StartRecord, []) in r) else None) ≡ Some p → Shorter p 0
-    at_end true e = let q = some_eq _ p e in inr (ap (λ (r : Read). r.2) (sym q), ap (λ (r : Read). r.1) (sym q))
+    at_end true e = let q = same_Some _ p e in inr (ap (λ (r : Read). r.2) (sym q), ap (λ (r : Read). r.1) (sym q))
     at_end false e = cc e
 shorter cfg s fields field (c ∷ rest) p e = by (is_end (step cfg s c).1) refl (shorter cfg (step cfg s c).0 _ _ rest p)
   where
     by : (b : Bool) → is_end (step cfg s c).1 ≡ b
         → (next_record cfg (step cfg s c).0 (fields_after (step cfg s c).1 fields field) (field_after (step cfg s c).1 c field) rest ≡ Some p → Shorter p (length rest))
         → Shorter p (suc (length rest))
-    by true q more = let l : rest ≡ p.2 = ap (λ (r : Read). r.2) (some_eq _ p (rw q at e)) in rw (← l) (inl (omega arith))
+    by true q more = let l : rest ≡ p.2 = ap (λ (r : Read). r.2) (same_Some _ p (rw q at e)) in rw (← l) (inl (omega arith))
     by false q more = Shorter-more p (length rest) (more (rw q at e))
 
 -- the records that a text gives from a state are its next one, and those after it

@@ -3,7 +3,7 @@
 ghost use Rattle.std.specs.Prelude.{◌≡◌};
 ghost use Rattle.std.specs.Option.{option_copied};
 ghost use Rattle.ddt_check.specs.Says.{next_zone as next_zone_of};
-ghost use Rattle.ddt_path.specs.Free.{longest_match as longest_match_of};
+ghost use Rattle.ddt_path.specs.Matching.{longest_match as longest_match_of};
 ghost use Rattle.ddt_check.specs.Zones.{is_ms as is_ms_of, zone_of as zone_of_path, site_of as site_of_path, group_named as group_of_name, locators_of as locators_of_name, served_zones};
 
 use ddt_path::{Locator, Name, Preference, Prefix, Role, best_match, longest_match};

@@ -10,7 +10,8 @@ use Rattle.std.proofs.lemmas.Bool.{false≢true}
 use Rattle.std.proofs.lemmas.List.{length-map}
 use Rattle.std.proofs.lemmas.Option.{same_Some, slice_get-map, slice_get_read, slice_get_within}
 use Rattle.ddt_path.specs.Covers.{covers, overlaps, is_same_path, is_strictly_below}
-use Rattle.ddt_path.specs.Free.{longest_match, longer_of, free}
+use Rattle.ddt_path.specs.Free.{free}
+use Rattle.ddt_path.specs.Matching.{longest_match}
 use Rattle.ddt_path.proofs.HoleLemmas.{free_agree}
 use Rattle.ddt_trie.specs.PrefixMap.{path_cmp, keys_below, IsCovered, IsLongest}
 use Rattle.ddt_trie.proofs.EntryLemmas.{tied, get-map_of}

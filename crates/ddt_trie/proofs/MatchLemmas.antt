@@ -5,7 +5,7 @@ use Rattle.std.specs.List.{list_all}
 use Rattle.std.specs.FinMap.{find}
 use Rattle.std.proofs.lemmas.Bool.{and_parts, and_from, or_cases, cond-true, cond-false, false≢true, leb-true, le-leb, ltb-true, ltb-false, or_left, or_right, not_from_false, false_from_ne_true}
 use Rattle.ddt_path.specs.Covers.{covers}
-use Rattle.ddt_path.specs.Free.{longest_match, longer_of}
+use Rattle.ddt_path.specs.Matching.{longest_match}
 use Rattle.ddt_trie.specs.PrefixMap.{path_cmp, IsCovered, IsLongest}
 use Rattle.ddt_trie.specs.Entries.{map_of, none_covers}
 use Rattle.ddt_trie.proofs.EntryLemmas.{tied, tied-true, tied_self, get-map_of}

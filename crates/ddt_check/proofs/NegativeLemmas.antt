@@ -22,7 +22,8 @@ use Rattle.ddt_path.proofs.CoverLemmas.{covers_self, covers_trans, covered_same,
 use Rattle.ddt_path.proofs.FrontLemmas.{front_below, one_front, one_path, overlaps_front}
 use Rattle.ddt_path.proofs.HoleLemmas.{hole_is_free, hole_of_all}
 use Rattle.ddt_path.proofs.MemberLemmas.{IsIn, contained, fails_at}
-use Rattle.ddt_path.proofs.PathTestLemmas.{identifier_of}
+use Rattle.ddt_path.proofs.EndLemmas.{no_longer}
+use Rattle.ddt_path.proofs.PathTestLemmas.{prefix_that_covers}
 use Rattle.ddt_path.specs.declared.matching.Preference.TheVariants.{Longest}
 use Rattle.ddt_register.specs.declared.zone.Zone.{Zone}
 use Rattle.ddt_register.specs.declared.site.Site.{Site}
@@ -43,23 +44,8 @@ use Rattle.ddt_path.proofs.MatchingLemmas.{best_member, best_none, best_is}
 
 -- ---- an identifier covers no other identifier
 
-as_long : (a b : Locator) → covers (address_path a) (address_path b) ≡ true → length (address_path b) ≤ length (address_path a)
-as_long (V4 a) (V4 b) c = omega (arith, length-digits 32 a, length-digits 32 b)
-as_long (V6 a) (V6 b) c = omega (arith, length-digits 128 a, length-digits 128 b)
-as_long (V4 a) (V6 b) c = absurd (false≢true c)
-as_long (V6 a) (V4 b) c = absurd (false≢true c)
-
-xeids_as_long : (x y : Xeid) → covers (xeid_path x) (xeid_path y) ≡ true → xeid_path x ≡ xeid_path y
-xeids_as_long x y c =
-    let n : length (digits 32 x.iid) ≡ length (digits 32 y.iid) = length-digits 32 x.iid ∙ sym (length-digits 32 y.iid) in
-    let le = as_long x.address y.address (covers_rest (digits 32 x.iid) (digits 32 y.iid) (address_path x.address) (address_path y.address) n c) in
-    covered_same (xeid_path x) (xeid_path y) c (omega (arith, le, n, length-append (digits 32 x.iid) (address_path x.address), length-append (digits 32 y.iid) (address_path y.address)))
-
-pub one_identifier : (x y : List ℕ) → is_path x ≡ true → is_path y ≡ true → covers x y ≡ true → x ≡ y
-one_identifier x y e f c =
-    let a = identifier_of x e in
-    let b = identifier_of y f in
-    sym a.2 ∙ xeids_as_long a.0 b.0 (ap (λ (p : List ℕ). covers p (xeid_path b.0)) a.2 ∙ ap (covers x) b.2 ∙ c) ∙ b.2
+one_identifier : (x y : List ℕ) → is_path x ≡ true → is_path y ≡ true → covers x y ≡ true → x ≡ y
+one_identifier x y e f c = no_longer x y e (prefix_that_covers y y f (covers_self y)) c
 
 -- ---- what a hole says of all that it covers
 

@@ -3,17 +3,15 @@ use Rattle.std.proofs.Common.{◌≡◌, ℕ, ◌≤◌, Bool, true, false, cond
 use Rattle.std.specs.Prelude.{is_some, find as find_item}
 use Rattle.std.specs.Option.{option_map}
 use Rattle.std.specs.FinMap.{find}
-use Rattle.std.specs.FinMap.Entries.{is_some-find}
 use Rattle.std.specs.Cmp.Lexicographic.{texts_ties}
 use Rattle.ddt_path.specs.declared.matching.Preference.TheVariants.{Longest}
 use Rattle.ddt_path.specs.Covers.{covers, is_same_path}
 use Rattle.ddt_path.specs.Matching.{longest_match}
 use Rattle.ddt_path.proofs.MatchingLemmas.{best_member, best_first, best_unbeaten, best_there}
-use Rattle.ddt_path.proofs.MemberLemmas.{IsIn, any_in, list_any-map}
 use Rattle.ddt_trie.specs.PrefixMap.{path_cmp, IsCovered, IsLongest}
 use Rattle.ddt_trie.specs.Entries.{map_of}
-use Rattle.ddt_trie.proofs.EntryLemmas.{tied, tied-true, get-map_of}
-use Rattle.ddt_trie.proofs.PassLemmas.{is_found}
+use Rattle.ddt_trie.proofs.EntryLemmas.{get-map_of}
+use Rattle.ddt_trie.proofs.PassLemmas.{entry_of, is_found}
 use Rattle.ddt_trie.proofs.MapLemmas.{IsLongest-unique}
 
 module _ {V : Type 0} (x : List ℕ) where
@@ -34,12 +32,6 @@ module _ {V : Type 0} (x : List ℕ) where
       either : (b : Bool) (o : Option (List ℕ × V)) → cond b (Some e.1) (option_map (λ f. f.1) o) ≡ option_map (λ f. f.1) (cond b (Some e) o)
       either true o = refl
       either false o = refl
-
-  -- each key is that of an entry
-  entry_of : (es : List (List ℕ × V)) (p : List ℕ) → is_some (find path_cmp p es) ≡ true → (e : List ℕ × V) × IsIn e es × (p ≡ e.0)
-  entry_of es p found =
-      let e = any_in (λ f. tied p f.0) es (sym (list_any-map (tied p) (λ f. f.0) es) ∙ sym (is_some-find path_cmp p es) ∙ found) in
-      (e.0, e.1, tied-true p e.0.0 e.2)
 
   -- the match of a list is a longest key, and where there is none no key covers x
   pub match_is_longest : (es : List (List ℕ × V)) (e : List ℕ × V) → matched es ≡ Some e → IsLongest (map_of es) x e.0 e.1

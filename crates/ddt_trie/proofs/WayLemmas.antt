@@ -7,13 +7,13 @@ use Rattle.std.specs.Bool.{then_some}
 use Rattle.std.proofs.lemmas.Bool.{and_parts, and_from, false≢true, not-true, not-false, eqb-true}
 use Rattle.std.proofs.lemmas.List.{length-take-le, take-append-drop}
 use Rattle.ddt_path.specs.Covers.{covers, shared_len}
-use Rattle.ddt_path.proofs.CoverLemmas.{take-covered, length-covered, front_covered}
+use Rattle.ddt_path.proofs.CoverLemmas.{eqb_self, take-covered, length-covered, front_covered}
 use Rattle.ddt_path.proofs.ShareLemmas.{shared_len-append, covers_both}
 use Rattle.ddt_trie.specs.declared.tree.Tree.{Tree}
 use Rattle.ddt_trie.specs.declared.tree.Tree.TheVariants.{Empty, Leaf, Fork'}
 use Rattle.ddt_trie.specs.declared.tree.Entry.{Entry}
 use Rattle.ddt_trie.specs.Tree.{low, high, lookup, onward, GoesOn, HasSameEntriesAt, is_rooted, is_filled, is_pruned}
-use Rattle.ddt_trie.proofs.TreeLemmas.{eqb_self, high_apart}
+use Rattle.ddt_trie.proofs.TreeLemmas.{high_apart}
 
 -- ---- the way to the next level
 

@@ -22,8 +22,7 @@ use Rattle.ddt_path.proofs.CoverLemmas.{covers_self, covers_trans, covered_same,
 use Rattle.ddt_path.proofs.FrontLemmas.{front_below, one_front, one_path, overlaps_front}
 use Rattle.ddt_path.proofs.HoleLemmas.{hole_is_free, hole_of_all}
 use Rattle.ddt_path.proofs.MemberLemmas.{IsIn, contained, fails_at}
-use Rattle.ddt_path.proofs.EndLemmas.{no_longer}
-use Rattle.ddt_path.proofs.PathTestLemmas.{prefix_that_covers}
+use Rattle.ddt_path.proofs.EndLemmas.{one_identifier}
 use Rattle.ddt_path.specs.declared.matching.Preference.TheVariants.{Longest}
 use Rattle.ddt_register.specs.declared.zone.Zone.{Zone}
 use Rattle.ddt_register.specs.declared.site.Site.{Site}
@@ -41,11 +40,6 @@ use Rattle.ddt_check.proofs.SaysLemmas.{assigned_covers}
 use Rattle.ddt_check.proofs.RootLemmas.{zone_found}
 use Rattle.ddt_check.proofs.ZoneLemmas.{zone_prefix, site_prefix, assigned_at}
 use Rattle.ddt_path.proofs.MatchingLemmas.{best_member, best_none, best_is}
-
--- ---- an identifier covers no other identifier
-
-one_identifier : (x y : List ℕ) → is_path x ≡ true → is_path y ≡ true → covers x y ≡ true → x ≡ y
-one_identifier x y e f c = no_longer x y e (prefix_that_covers y y f (covers_self y)) c
 
 -- ---- what a hole says of all that it covers
 

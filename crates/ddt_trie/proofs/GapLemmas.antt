@@ -1,6 +1,6 @@
 -- Where a path first leaves a tree, and what is free there.
-use Rattle.std.proofs.Common.{◌≡◌, ℕ, zero, suc, ◌+◌, ◌-◌, ◌<◌, ◌≤◌, Bool, true, false, cond, List, [], ◌∷◌, length, take, Some, None, Option, refl, sym, ap, ◌∙◌, arith, inl, inr}
-use Rattle.std.specs.Prelude.{◌&&◌, ◌||◌, not, is_some, IsTrue, find, filter, max}
+use Rattle.std.proofs.Common.{◌≡◌, ℕ, zero, suc, ◌+◌, ◌-◌, ◌<◌, ◌≤◌, Bool, true, false, List, length, take, Some, None, Option, refl, sym, ap, ◌∙◌, arith, inl, inr}
+use Rattle.std.specs.Prelude.{◌&&◌, not, is_some, IsTrue, find, max}
 use Rattle.std.specs.List.{list_any}
 use Rattle.std.specs.FinMap.{FinMap, get, keys, contains_key, contains_key-keys}
 use Rattle.std.proofs.Math.Bool.{or_comm}
@@ -20,8 +20,8 @@ use Rattle.ddt_path.proofs.HoleLemmas.{free_whole, member_covers_none}
 use Rattle.ddt_trie.specs.declared.tree.Tree.{Tree}
 use Rattle.ddt_trie.specs.PrefixMap.{path_cmp, keys_below}
 use Rattle.ddt_trie.specs.Tree.{lookup, content_of, IsMet, IsGapBelow, HasPaths}
-use Rattle.ddt_trie.proofs.EntryLemmas.{tied, tied-true}
-use Rattle.ddt_trie.proofs.KeyLemmas.{all_from_members, member_passes, free_start, free_here, free_later, free_last, any_same}
+use Rattle.ddt_trie.proofs.EntryLemmas.{tied}
+use Rattle.ddt_trie.proofs.KeyLemmas.{all_from_members, member_passes, free_start, free_here, free_later, free_last, any_kept, any_same}
 use Rattle.ddt_trie.proofs.ContentLemmas.{get-content, key_value}
 
 -- ---- the keys that count
@@ -53,34 +53,12 @@ counts_all m from = record {
   only = λ p h. omega arith;
 }
 
-filtered_member : (test : List ℕ → Bool) (p : List ℕ) (ks : List (List ℕ))
-    → list_any (tied p) (filter test ks) ≡ (list_any (tied p) ks && test p)
-filtered_member test p [] = refl
-filtered_member test p (k ∷ ks) =
-    elim (test k) as (λ b. test k ≡ b
-    → list_any (tied p) (cond b (k ∷ filter test ks) (filter test ks))
-    ≡ ((tied p k || list_any (tied p) ks) && test p)) [
-      | true ↦ λ t. ap (λ (b : Bool). tied p k || b) (filtered_member test p ks)
-          ∙ first_in (tied p k) (list_any (tied p) ks) (test p) (λ same. ap test (tied-true p k same) ∙ t)
-      | false ↦ λ t. filtered_member test p ks
-          ∙ first_out (tied p k) (list_any (tied p) ks) (test p) (λ same. ap test (tied-true p k same) ∙ t)
-    ] refl
-  where
-    first_in : (a b d : Bool) → (a ≡ true → d ≡ true) → (a || (b && d)) ≡ ((a || b) && d)
-    first_in true b d h = sym (h refl)
-    first_in false b d h = refl
-
-    first_out : (a b d : Bool) → (a ≡ true → d ≡ false) → (b && d) ≡ ((a || b) && d)
-    first_out true true d h = refl
-    first_out true false d h = sym (h refl)
-    first_out false b d h = refl
-
 -- the keys strictly below a prefix count for what is free below it
 pub counts_below : {V : Type 0} (m : FinMap path_cmp V) (from : List ℕ) (c : ℕ) → c ≡ suc (length from)
     → Counts m from c (keys_below m from)
 counts_below m from c is = record {
   test = λ p. is_strictly_below p from;
-  members = λ p. filtered_member (λ k. is_strictly_below k from) p (keys m)
+  members = λ p. any_kept (λ k. is_strictly_below k from) (keys m) p
       ∙ ap (λ (b : Bool). b && is_strictly_below p from) (sym (contains_key-keys m p));
   passes = λ p o le. longer_below p from o (omega arith);
   only = λ p h. let lt = (below_parts p from h).1 in omega arith;

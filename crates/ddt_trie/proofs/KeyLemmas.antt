@@ -1,10 +1,10 @@
 -- The keys of a finite map, and the free prefixes among them.
 use Rattle.std.proofs.Common.{◌≡◌, ℕ, ◌+◌, ◌<◌, Bool, true, false, cond, List, [], ◌∷◌, length, take, Some, None, Option, refl, sym, ap, subst, ◌∙◌}
-use Rattle.std.specs.Prelude.{not, ◌||◌, find as find_part, is_some, IfNone, IsNone}
+use Rattle.std.specs.Prelude.{◌||◌, not, ◌&&◌, filter, find as find_part, is_some, IfNone, IsNone}
 use Rattle.std.specs.Bool.{then_some}
 use Rattle.std.specs.List.{list_all, list_any}
 use Rattle.std.specs.FinMap.{FinMap, keys, contains_key, contains_key-keys}
-use Rattle.std.proofs.lemmas.Bool.{false≢true, not-true, cond-true, cond-false}
+use Rattle.std.proofs.lemmas.Bool.{and_from, and_parts, false≢true, not-true, cond-true, cond-false}
 use Rattle.ddt_path.specs.Covers.{covers, overlaps, is_same_path}
 use Rattle.std.specs.Cmp.Lexicographic.{texts_ties}
 use Rattle.ddt_path.specs.Free.{parts_from, overlaps_none, free}
@@ -13,6 +13,7 @@ use Rattle.ddt_trie.specs.Entries.{map_of, none_covers}
 use Rattle.ddt_trie.proofs.EntryLemmas.{tied, tied-true, tied_self, get-map_of}
 use Rattle.ddt_trie.proofs.PassLemmas.{keys_pass, found_pass, key_passes}
 use Rattle.ddt_path.proofs.CoverLemmas.{overlaps-take}
+use Rattle.ddt_path.proofs.FilterLemmas.{in_filter, filter_in}
 use Rattle.ddt_path.proofs.MemberLemmas.{all_of, any_in, in_any, holds_at, iff_same}
 use Rattle.ddt_path.proofs.HoleLemmas.{parts_from_next, parts_from_last, free_agree}
 
@@ -25,6 +26,18 @@ pub member_passes : (test : List ℕ → Bool) (ks : List (List ℕ)) (q : List 
 member_passes test ks q all m =
     let k = any_in (tied q) ks m in
     ap test (tied-true q k.0 k.2) ∙ holds_at test ks k.0 all k.1
+
+-- what a test keeps has those members that pass it
+pub any_kept : (test : List ℕ → Bool) (ks : List (List ℕ)) (q : List ℕ) → list_any (tied q) (filter test ks) ≡ (list_any (tied q) ks && test q)
+any_kept test ks q = iff_same (list_any (tied q) (filter test ks)) (list_any (tied q) ks && test q)
+    (λ m.
+      let k = any_in (tied q) (filter test ks) m in
+      let p = in_filter test ks k.0 k.1 in
+      and_from (list_any (tied q) ks) (test q) (in_any (tied q) ks k.0 p.0 k.2) (ap test (tied-true q k.0 k.2) ∙ p.1))
+    (λ m.
+      let p = and_parts (list_any (tied q) ks) (test q) m in
+      let k = any_in (tied q) ks p.0 in
+      in_any (tied q) (filter test ks) k.0 (filter_in test ks k.0 k.1 (ap test (sym (tied-true q k.0 k.2)) ∙ p.1)) k.2)
 
 -- lists with the same members answer alike
 pub same_members_all : (test : List ℕ → Bool) (ks ls : List (List ℕ)) → ((q : List ℕ) → list_any (tied q) ks ≡ list_any (tied q) ls) → list_all test ks ≡ list_all test ls

@@ -6,7 +6,7 @@ ghost use Rattle.std.specs.Fn.{FnReturnsAt};
 ghost use Rattle.std.specs.Cmp.Lexicographic.{pointwise};
 ghost use Rattle.ddt_path.specs.Path.{xeid_path};
 ghost use Rattle.ddt_path.specs.Covers.{covers, overlaps, is_strictly_below};
-ghost use Rattle.ddt_trie.specs.Entries.{are_distinct, map_of, none_covers, none_covers_below, none_overlaps_below};
+ghost use Rattle.ddt_trie.specs.Entries.{have_own_keys, map_of, none_covers, none_covers_below, none_overlaps_below};
 
 use crate::prefix_map::PrefixMap;
 use ddt_path::{Prefix, Xeid, longest_match};
@@ -17,7 +17,7 @@ use std::mem;
 #[derive(Drop)]
 pub struct ListMap<V> {
     entries: Vec<(Prefix, V)>,
-    ghost distinct: { IsTrue (are_distinct entries.items) },
+    ghost distinct: { IsTrue (have_own_keys entries.items) },
 }
 
 /// The place of a prefix among the entries.

@@ -1,9 +1,8 @@
 -- Keys are equal as their paths are, and equal keys are hashed alike.
-use Rattle.std.proofs.Common.{◌≡◌, ℕ, true, List, ap, refl}
+use Rattle.std.proofs.Common.{◌≡◌, ℕ, true, List, ap}
 use Rattle.std.specs.Cmp.{IsEquivalence}
 use Rattle.std.specs.Cmp.Lexicographic.{bytes_decides, nat_list_eq_equiv}
 use Rattle.ddt_path.specs.FormOf.{form_of}
-use Rattle.ddt_path.specs.Covers.{is_same_path}
 use Rattle.ddt_hash.specs.Key.{is_same_key, key_writes, form_writes}
 use Rattle.ddt_hash.specs.declared.key.Key.{Key}
 

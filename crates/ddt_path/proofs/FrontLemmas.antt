@@ -77,7 +77,7 @@ common_covers p q =
     let n = shared_len p q in (
       front_covered n p,
       covers-front n p q (shared_len-le p q)
-      ∙ and_from (nat_le n (length q)) (nat_le n n) (le-leb n (length q) (shared_len_le_second p q)) (le-leb n n (omega arith)),
+          ∙ and_from (nat_le n (length q)) (nat_le n n) (le-leb n (length q) (shared_len_le_second p q)) (le-leb n n (omega arith)),
     )
 
 pub common_is_longest : (p q front : List ℕ) → covers front p ≡ true → covers front q ≡ true → covers front (take (shared_len p q) p) ≡ true

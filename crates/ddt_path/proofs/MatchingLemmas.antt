@@ -170,8 +170,11 @@ module _ {A : Type 0} (w : Preference) (prefix : A → List ℕ) where
         let same : better_of w prefix z m ≡ a = same_Some (better_of w prefix z m) a e in
         elim (better_either z m) [
           | inl first ↦ inl (sym first ∙ same)
-          | inr later ↦ inr (is ∙ later.0 ∙ e, λ one.
-              false≢true (sym (is_better-self w (length (prefix z))) ∙ ap (λ (p : List ℕ). is_better w (length p) (length (prefix z))) (one ∙ ap prefix (sym same)) ∙ later.1))
+          | inr later ↦ inr (
+            is ∙ later.0 ∙ e,
+            λ one.
+                false≢true (sym (is_better-self w (length (prefix z))) ∙ ap (λ (p : List ℕ). is_better w (length p) (length (prefix z))) (one ∙ ap prefix (sym same)) ∙ later.1),
+          )
         ]
 
     pub best_first : (xs : List A) (a : A) → best_match w prefix xs x ≡ Some a → find (λ b. is_same_path (prefix a) (prefix b)) xs ≡ Some a

@@ -5,8 +5,7 @@ use Rattle.std.proofs.lemmas.Bool.{eq-eqb, ne_eqb, cases_eq, cases_lt, le-leb, f
 use Rattle.std.proofs.lemmas.Bool.Decides.{nat_tests}
 use Rattle.std.proofs.lemmas.List.{length-take, take_all}
 use Rattle.std.specs.Cmp.{nat_eq_equiv}
-use Rattle.std.specs.Cmp.Lexicographic.{pointwise}
-use Rattle.ddt_path.specs.Covers.{shared_len, covers}
+use Rattle.ddt_path.specs.Covers.{shared_len, covers, is_same_path}
 use Rattle.ddt_path.proofs.CoverLemmas.{eqb_self}
 
 pub shared_len-le : (p q : List ℕ) → shared_len p q ≤ length p
@@ -105,7 +104,7 @@ shared_len-append_some (d ∷ p) (f ∷ q) r s n =
     ]
 
 -- two paths are equal where each covers the other
-pub covers_both : (p q : List ℕ) → (covers p q && covers q p) ≡ pointwise ◌==◌ p q
+pub covers_both : (p q : List ℕ) → (covers p q && covers q p) ≡ is_same_path p q
 covers_both [] [] = refl
 covers_both [] (e ∷ q) = refl
 covers_both (d ∷ p) [] = refl
@@ -115,5 +114,5 @@ covers_both (d ∷ p) (e ∷ q) =
       | inr apart ↦ rw (ne_eqb d e apart) refl
     ]
 
-pub not_covered : (p q : List ℕ) → covers p q ≡ false → false ≡ pointwise ◌==◌ p q
+pub not_covered : (p q : List ℕ) → covers p q ≡ false → false ≡ is_same_path p q
 not_covered p q e = sym (ap (λ (b : Bool). b && covers q p) e) ∙ covers_both p q

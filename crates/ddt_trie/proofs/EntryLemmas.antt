@@ -1,16 +1,17 @@
 -- Entries in a list, each key once, and the finite map of them.
 use Rattle.std.proofs.Common.{◌≡◌, ℕ, zero, suc, ◌+◌, ◌<◌, ◌≤◌, Bool, true, false, cond, List, [], ◌∷◌, ◌++◌, length, get_or, set, Some, None, Option, refl, sym, ap, ◌∙◌, arith, inl, inr}
-use Rattle.std.specs.Prelude.{not, ◌&&◌, ◌==◌, nat_lt, is_some, slice_get}
+use Rattle.std.specs.Prelude.{not, ◌&&◌, nat_lt, is_some, slice_get}
 use Rattle.std.specs.Ordering.{eq_by_cmp, is_eq}
 use Rattle.std.specs.declared.cmp.Ordering.{Ordering}
 use Rattle.std.specs.declared.cmp.Ordering.TheVariants.{Less, Equal, Greater}
 use Rattle.std.specs.Cmp.{tied_itself}
-use Rattle.std.specs.Cmp.Lexicographic.{nat_list_cmp_total, pointwise, texts_ties}
+use Rattle.std.specs.Cmp.Lexicographic.{nat_list_cmp_total, texts_ties}
 use Rattle.std.specs.List.{remove as remove_at, position, position_or_len}
 use Rattle.std.specs.FinMap.{find, get, len, insert, remove, contains_key, get-from_entries, get-insert, get-remove, len-insert, len-empty, from_entries_push, same_map, IsAntisymmetric, slice_cmp-IsAntisymmetric, nat_cmp-IsAntisymmetric}
 use Rattle.std.proofs.lemmas.Bool.{and_parts, and_from, cond-true, cond-false, false_from_ne_true, false≢true, not-true, ltb-true, ltb-false}
 use Rattle.std.proofs.lemmas.Option.{same_Some, none-some, cond_some, slice_get_cases, slice_get_within, get_or_from_slice_get}
 use Rattle.std.proofs.lemmas.List.Sums.{passes_at_first}
+use Rattle.ddt_path.specs.Covers.{is_same_path}
 use Rattle.ddt_trie.specs.PrefixMap.{path_cmp}
 use Rattle.ddt_trie.specs.Entries.{have_own_keys, map_of, IsAt}
 
@@ -148,9 +149,9 @@ module _ {V : Type 0} where
 
   -- ---- the place of a key
 
-  pub position-place : (es : List (List ℕ × V)) (p : List ℕ) (i : ℕ) → position (λ e. pointwise ◌==◌ e.0 p) es ≡ Some i → IsAt es i p
+  pub position-place : (es : List (List ℕ × V)) (p : List ℕ) (i : ℕ) → position (λ e. is_same_path e.0 p) es ≡ Some i → IsAt es i p
   position-place es p i e =
-      let t = λ (f : List ℕ × V). pointwise ◌==◌ f.0 p in
+      let t = λ (f : List ℕ × V). is_same_path f.0 p in
       let c = cond_some (nat_lt (position_or_len t es) (length es)) (position_or_len t es) i e in
       let lt : position_or_len t es < length es = ltb-true (position_or_len t es) (length es) c.0 in
       elim (slice_get_cases es i).1 [
@@ -161,11 +162,11 @@ module _ {V : Type 0} where
         | inr f ↦ absurd (omega arith)
       ]
 
-  absent_before : (es : List (List ℕ × V)) (p : List ℕ) → length es ≤ position_or_len (λ e. pointwise ◌==◌ e.0 p) es → find path_cmp p es ≡ None
+  absent_before : (es : List (List ℕ × V)) (p : List ℕ) → length es ≤ position_or_len (λ e. is_same_path e.0 p) es → find path_cmp p es ≡ None
   absent_before [] p le = refl
   absent_before (e ∷ es) p le =
-      let rest = position_or_len (λ (f : List ℕ × V). pointwise ◌==◌ f.0 p) es in
-      elim (pointwise ◌==◌ e.0 p) as (λ b. pointwise ◌==◌ e.0 p ≡ b → suc (length es) ≤ cond (not b) (1 + rest) 0 → find path_cmp p (e ∷ es) ≡ None) [
+      let rest = position_or_len (λ (f : List ℕ × V). is_same_path f.0 p) es in
+      elim (is_same_path e.0 p) as (λ b. is_same_path e.0 p ≡ b → suc (length es) ≤ cond (not b) (1 + rest) 0 → find path_cmp p (e ∷ es) ≡ None) [
         | true ↦ λ t h. absurd (omega arith)
         | false ↦ λ t h.
             let apart : tied p e.0 ≡ false = false_from_ne_true (tied p e.0) (λ same.
@@ -173,9 +174,9 @@ module _ {V : Type 0} where
             cond-false (tied p e.0) (Some e.1) (find path_cmp p es) apart ∙ absent_before es p (omega arith)
       ] refl le
 
-  pub position-absent : (es : List (List ℕ × V)) (p : List ℕ) → position (λ e. pointwise ◌==◌ e.0 p) es ≡ None → find path_cmp p es ≡ None
+  pub position-absent : (es : List (List ℕ × V)) (p : List ℕ) → position (λ e. is_same_path e.0 p) es ≡ None → find path_cmp p es ≡ None
   position-absent es p e =
-      let n = position_or_len (λ (f : List ℕ × V). pointwise ◌==◌ f.0 p) es in
+      let n = position_or_len (λ (f : List ℕ × V). is_same_path f.0 p) es in
       absent_before es p (ltb-false n (length es) (cond_none (nat_lt n (length es)) n e))
 
   -- ---- the map of the entries
@@ -204,11 +205,11 @@ module _ {V : Type 0} where
 
   -- ---- what the calls on a vector say
 
-  pub placed : (s es : List (List ℕ × V)) (p : List ℕ) (r : Option ℕ) (i : ℕ) → s ≡ es → r ≡ position (λ e. pointwise ◌==◌ e.0 p) s → r ≡ Some i → IsAt es i p
-  placed s es p r i same answer is = position-place es p i (ap (position (λ (e : List ℕ × V). pointwise ◌==◌ e.0 p)) (sym same) ∙ sym answer ∙ is)
+  pub placed : (s es : List (List ℕ × V)) (p : List ℕ) (r : Option ℕ) (i : ℕ) → s ≡ es → r ≡ position (λ e. is_same_path e.0 p) s → r ≡ Some i → IsAt es i p
+  placed s es p r i same answer is = position-place es p i (ap (position (λ (e : List ℕ × V). is_same_path e.0 p)) (sym same) ∙ sym answer ∙ is)
 
-  pub absent : (s es : List (List ℕ × V)) (p : List ℕ) (r : Option ℕ) → s ≡ es → r ≡ position (λ e. pointwise ◌==◌ e.0 p) s → r ≡ None → find path_cmp p es ≡ None
-  absent s es p r same answer is = position-absent es p (ap (position (λ (e : List ℕ × V). pointwise ◌==◌ e.0 p)) (sym same) ∙ sym answer ∙ is)
+  pub absent : (s es : List (List ℕ × V)) (p : List ℕ) (r : Option ℕ) → s ≡ es → r ≡ position (λ e. is_same_path e.0 p) s → r ≡ None → find path_cmp p es ≡ None
+  absent s es p r same answer is = position-absent es p (ap (position (λ (e : List ℕ × V). is_same_path e.0 p)) (sym same) ∙ sym answer ∙ is)
 
   pub get_absent : (es : List (List ℕ × V)) (p : List ℕ) → find path_cmp p es ≡ None → get (map_of es) p ≡ None
   get_absent es p none = get-map_of es p ∙ none

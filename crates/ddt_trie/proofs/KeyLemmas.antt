@@ -31,13 +31,13 @@ member_passes test ks q all m =
 pub any_kept : (test : List ℕ → Bool) (ks : List (List ℕ)) (q : List ℕ) → list_any (tied q) (filter test ks) ≡ (list_any (tied q) ks && test q)
 any_kept test ks q = iff_same (list_any (tied q) (filter test ks)) (list_any (tied q) ks && test q)
     (λ m.
-      let k = any_in (tied q) (filter test ks) m in
-      let p = in_filter test ks k.0 k.1 in
-      and_from (list_any (tied q) ks) (test q) (in_any (tied q) ks k.0 p.0 k.2) (ap test (tied-true q k.0 k.2) ∙ p.1))
+    let k = any_in (tied q) (filter test ks) m in
+    let p = in_filter test ks k.0 k.1 in
+    and_from (list_any (tied q) ks) (test q) (in_any (tied q) ks k.0 p.0 k.2) (ap test (tied-true q k.0 k.2) ∙ p.1))
     (λ m.
-      let p = and_parts (list_any (tied q) ks) (test q) m in
-      let k = any_in (tied q) ks p.0 in
-      in_any (tied q) (filter test ks) k.0 (filter_in test ks k.0 k.1 (ap test (sym (tied-true q k.0 k.2)) ∙ p.1)) k.2)
+    let p = and_parts (list_any (tied q) ks) (test q) m in
+    let k = any_in (tied q) ks p.0 in
+    in_any (tied q) (filter test ks) k.0 (filter_in test ks k.0 k.1 (ap test (sym (tied-true q k.0 k.2)) ∙ p.1)) k.2)
 
 -- lists with the same members answer alike
 pub same_members_all : (test : List ℕ → Bool) (ks ls : List (List ℕ)) → ((q : List ℕ) → list_any (tied q) ks ≡ list_any (tied q) ls) → list_all test ks ≡ list_all test ls

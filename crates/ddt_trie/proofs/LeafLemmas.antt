@@ -1,11 +1,10 @@
 -- What a leaf answers for a path that begins as its prefix does.
 use Rattle.std.proofs.Common.{◌≡◌, ℕ, ◌+◌, ◌≤◌, ◌<◌, Bool, true, false, cond, List, [], length, take, drop, Option, Some, None, Box, Global, refl, sym, ap, subst, ◌∙◌, arith, inl, inr}
-use Rattle.std.specs.Prelude.{◌||◌, ◌==◌, nat_le}
-use Rattle.std.specs.Cmp.Lexicographic.{pointwise}
+use Rattle.std.specs.Prelude.{◌||◌, nat_le}
 use Rattle.std.proofs.lemmas.Bool.{and_from, and_parts, or_parts, or_right, false≢true, cond-true, cond-false, le-leb, leb-true, false_from_ne_true}
 use Rattle.std.proofs.lemmas.Option.{none-some}
 use Rattle.std.proofs.lemmas.List.{length-drop, length-take-le}
-use Rattle.ddt_path.specs.Covers.{covers, overlaps, shared_len}
+use Rattle.ddt_path.specs.Covers.{covers, overlaps, shared_len, is_same_path}
 use Rattle.ddt_path.proofs.CoverLemmas.{front_covered, same_path, path_itself}
 use Rattle.ddt_path.proofs.ShareLemmas.{shared_len-sym, shares_less, covers-front}
 use Rattle.ddt_trie.specs.PrefixMap.{IsKept}
@@ -19,27 +18,27 @@ module _ {V : Type 0} (at : ℕ) (p : List ℕ) (t : Tree V) (b : Box (Entry V) 
   abbrev k : List ℕ
   k = b.value.prefix
 
-  answers : (q : List ℕ) → lookup at t q ≡ cond (pointwise ◌==◌ q (drop at k)) (Some b.value.value) None
+  answers : (q : List ℕ) → lookup at t q ≡ cond (is_same_path q (drop at k)) (Some b.value.value) None
   answers q = ap (λ (u : Tree V). lookup at u q) is
 
   own : lookup at t (drop at k) ≡ Some b.value.value
   own =
       answers (drop at k)
-      ∙ cond-true (pointwise ◌==◌ (drop at k) (drop at k)) (Some b.value.value) None
+      ∙ cond-true (is_same_path (drop at k) (drop at k)) (Some b.value.value) None
       (path_itself (drop at k) (drop at k) refl)
 
   missing : (q : List ℕ) → (q ≡ drop at k → ⊥) → lookup at t q ≡ None
   missing q other =
       answers q
-      ∙ cond-false (pointwise ◌==◌ q (drop at k)) (Some b.value.value) None
-      (false_from_ne_true (pointwise ◌==◌ q (drop at k)) (λ h. other (same_path q (drop at k) h)))
+      ∙ cond-false (is_same_path q (drop at k)) (Some b.value.value) None
+      (false_from_ne_true (is_same_path q (drop at k)) (λ h. other (same_path q (drop at k) h)))
 
   only : (q : List ℕ) (w : V) → lookup at t q ≡ Some w → q ≡ drop at k
   only q w found =
-      elim (pointwise ◌==◌ q (drop at k)) as (λ c. pointwise ◌==◌ q (drop at k) ≡ c → q ≡ drop at k) [
+      elim (is_same_path q (drop at k)) as (λ c. is_same_path q (drop at k) ≡ c → q ≡ drop at k) [
         | true ↦ λ h. same_path q (drop at k) h
         | false ↦ λ h. absurd
-            (none-some w (sym (cond-false (pointwise ◌==◌ q (drop at k)) (Some b.value.value) None h)
+            (none-some w (sym (cond-false (is_same_path q (drop at k)) (Some b.value.value) None h)
             ∙ sym (answers q) ∙ found))
       ] refl
 
@@ -168,11 +167,11 @@ module _ {V : Type 0} (t : Tree V) (b : Box (Entry V) Global) (is : t ≡ Leaf b
   pub leaf_dropped : test b.value.value false → HasKept test t Empty
   leaf_dropped not_so = record {
     at = λ at q. subst (λ (o : Option V). IsKept test o None) (sym (answers at [] t b is q))
-        (drop_value at [] t b is test (pointwise ◌==◌ q (drop at b.value.prefix)) not_so);
+        (drop_value at [] t b is test (is_same_path q (drop at b.value.prefix)) not_so);
   }
 
   pub leaf_kept : test b.value.value true → HasKept test t t
   leaf_kept so = record {
     at = λ at q. subst (λ (o : Option V). IsKept test o o) (sym (answers at [] t b is q))
-        (keep_value at [] t b is test (pointwise ◌==◌ q (drop at b.value.prefix)) so);
+        (keep_value at [] t b is test (is_same_path q (drop at b.value.prefix)) so);
   }

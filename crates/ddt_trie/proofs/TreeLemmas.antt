@@ -6,8 +6,7 @@ use Rattle.std.proofs.lemmas.Option.{none-some}
 use Rattle.std.proofs.lemmas.List.{length-drop}
 use Rattle.ddt_trie.specs.declared.tree.Tree.{Tree}
 use Rattle.ddt_trie.specs.declared.tree.Tree.TheVariants.{Empty, Leaf, Fork'}
-use Rattle.std.specs.Cmp.Lexicographic.{pointwise}
-use Rattle.ddt_path.specs.Covers.{covers}
+use Rattle.ddt_path.specs.Covers.{covers, is_same_path}
 use Rattle.ddt_path.proofs.CoverLemmas.{eqb_self, path_itself}
 use Rattle.ddt_trie.specs.Tree.{low, high, lookup, is_filled, is_pruned, IsUncovered, IsLongestBelow, IsMet, IsGapBelow}
 
@@ -210,7 +209,7 @@ module _ {V : Type 0} where
   some_entry at Empty f h = absurd (false≢true f)
   some_entry at (Leaf b) f h =
       let q = drop at b.value.prefix in
-      (q, b.value.value, cond-true (pointwise ◌==◌ q q) (Some b.value.value) None (path_itself q q refl))
+      (q, b.value.value, cond-true (is_same_path q q) (Some b.value.value) None (path_itself q q refl))
   some_entry at (Fork' p (Some v) z o) f h = ([], v, refl)
   some_entry at (Fork' p None z o) f h =
       let parts = and_parts (is_filled z || is_filled o) (is_pruned z && is_pruned o) h in

@@ -3,12 +3,9 @@ use Rattle.std.proofs.Common.{◌≡◌, ◌⊎◌, ℕ, ◌≤◌, Bool, true, 
 use Rattle.std.specs.Prelude.{unwrap_or}
 use Rattle.std.specs.List.{filter, list_any}
 use Rattle.std.specs.Option.{option_map_or}
-use Rattle.std.proofs.lemmas.Bool.{and_parts, or_right, false≢true, cases_lt, both_ways, not-true, false_from_ne_true}
+use Rattle.std.proofs.lemmas.Bool.{and_parts, or_right, cases_lt, both_ways, not-true, false_from_ne_true}
 use Rattle.std.proofs.lemmas.Option.{same_Some, none-some}
-use Rattle.std.proofs.lemmas.List.{length-append}
 use Rattle.ddt_path.specs.declared.locator.Locator.{Locator}
-use Rattle.ddt_path.specs.declared.locator.Locator.TheVariants.{V4, V6}
-use Rattle.ddt_path.specs.declared.xeid.Xeid.{Xeid}
 use Rattle.ddt_path.specs.declared.record.Role.{Role}
 use Rattle.ddt_path.specs.declared.record.Role.TheVariants.{Node, Ms}
 use Rattle.ddt_path.specs.declared.record.Outcome.{Outcome}
@@ -16,9 +13,8 @@ use Rattle.ddt_path.specs.declared.record.Outcome.TheVariants.{Registered, NotRe
 use Rattle.ddt_path.specs.Records.{record_of}
 use Rattle.ddt_path.specs.Covers.{covers, overlaps, is_same_path, is_strictly_below}
 use Rattle.ddt_path.specs.Free.{free, overlaps_none, hole_of}
-use Rattle.ddt_path.specs.Path.{digits, is_path, xeid_path, address_path}
-use Rattle.ddt_path.specs.DigitLemmas.{length-digits}
-use Rattle.ddt_path.proofs.CoverLemmas.{covers_self, covers_trans, covered_same, covers_rest}
+use Rattle.ddt_path.specs.Path.{is_path}
+use Rattle.ddt_path.proofs.CoverLemmas.{covers_self, covers_trans}
 use Rattle.ddt_path.proofs.FrontLemmas.{front_below, one_front, one_path, overlaps_front}
 use Rattle.ddt_path.proofs.HoleLemmas.{hole_is_free, hole_of_all}
 use Rattle.ddt_path.proofs.MemberLemmas.{IsIn, contained, fails_at}

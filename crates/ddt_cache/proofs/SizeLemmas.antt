@@ -6,7 +6,8 @@ use Rattle.std.specs.Cmp.Lexicographic.{nat_list_cmp_total}
 use Rattle.std.specs.FinMap.{get, len, empty, len-empty, len-insert, insert, remove, keys, contains_key, contains_key-keys, get-remove, len-remove}
 use Rattle.std.proofs.lemmas.Bool.{lt-ltb, ltb-true}
 use Rattle.ddt_trie.specs.PrefixMap.{path_cmp}
-use Rattle.ddt_trie.proofs.EntryLemmas.{tied, tied-true}
+use Rattle.ddt_trie.proofs.EntryLemmas.{tied}
+use Rattle.ddt_trie.proofs.KeyLemmas.{any_kept}
 use Rattle.ddt_cache.specs.declared.entry.Entry.{Entry}
 use Rattle.ddt_cache.specs.Live.{is_live, live_at}
 use Rattle.ddt_cache.specs.Saved.{has_room, most_live_entries}
@@ -41,35 +42,13 @@ get-without (k ∷ ks) m q =
     ∙ ap (cond (list_any (tied q) ks) None) (get-remove nat_list_cmp_total m k q)
     ∙ both (tied q k) (list_any (tied q) ks) (get m q)
 
-any_filter : (test : List ℕ → Bool) (ks : List (List ℕ)) (q : List ℕ)
-    → list_any (tied q) (filter test ks) ≡ (test q && list_any (tied q) ks)
-any_filter test [] q = no_one (test q)
-  where
-    no_one : (b : Bool) → false ≡ (b && false)
-    no_one true = refl
-    no_one false = refl
-any_filter test (k ∷ ks) q =
-    chosen (test k) ∙ ap (λ x. cond (test k) (tied q k || x) x) (any_filter test ks q)
-    ∙ picked (test k) (tied q k) (test q) (list_any (tied q) ks) (λ t. ap test (tied-true q k t))
-  where
-    chosen : (c : Bool) → list_any (tied q) (cond c (k ∷ filter test ks) (filter test ks))
-        ≡ cond c (tied q k || list_any (tied q) (filter test ks)) (list_any (tied q) (filter test ks))
-    chosen true = refl
-    chosen false = refl
-
-    picked : (c t b y : Bool) → (t ≡ true → b ≡ c) → cond c (t || (b && y)) (b && y) ≡ (b && (t || y))
-    picked true true b y h = sym (ap (λ d. d && true) (h refl))
-    picked true false b y h = refl
-    picked false true b y h = ap (λ d. d && y) (h refl) ∙ sym (ap (λ d. d && true) (h refl))
-    picked false false b y h = refl
-
 -- ---- the entries that have ended
 
-left : (t : ℕ) (o : Option Entry) → cond (not (is_live t o) && is_some o) None o ≡ if_live t o
+left : (t : ℕ) (o : Option Entry) → cond (is_some o && not (is_live t o)) None o ≡ if_live t o
 left t None = refl
 left t (Some e) = by_end (nat_lt t e.end)
   where
-    by_end : (b : Bool) → cond (not b && true) None (Some e) ≡ cond b (Some e) None
+    by_end : (b : Bool) → cond (not b) None (Some e) ≡ cond b (Some e) None
     by_end true = refl
     by_end false = refl
 
@@ -82,7 +61,7 @@ len-live_at t m = subst (λ (n : Entries). len n ≤ len m) is (len-without (fil
     is : without (filter (ended_at t m) (keys m)) m ≡ live_at t m
     is = same _ _ (λ q.
         get-without (filter (ended_at t m) (keys m)) m q
-        ∙ ap (λ b. cond b None (get m q)) (any_filter (ended_at t m) (keys m) q ∙ ap (λ b. ended_at t m q && b) (sym (contains_key-keys m q)))
+        ∙ ap (λ b. cond b None (get m q)) (any_kept (ended_at t m) (keys m) q ∙ ap (λ b. b && ended_at t m q) (sym (contains_key-keys m q)))
         ∙ left t (get m q) ∙ sym (get-live_at t m q))
 
 -- ---- at most 65,536 entries

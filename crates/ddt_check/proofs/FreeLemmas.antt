@@ -12,7 +12,8 @@ use Rattle.ddt_path.specs.declared.record.Outcome.TheVariants.{Registered, NotRe
 use Rattle.ddt_path.specs.declared.record.ReferralRecord.{ReferralRecord}
 use Rattle.ddt_path.specs.Records.{record_of, not_authoritative}
 use Rattle.ddt_path.specs.Covers.{covers, is_strictly_below}
-use Rattle.ddt_path.specs.Free.{free, longest_match, hole_of}
+use Rattle.ddt_path.specs.Free.{free, hole_of}
+use Rattle.ddt_path.specs.Matching.{longest_match}
 use Rattle.ddt_path.specs.Path.{is_path, is_prefix_path}
 use Rattle.ddt_path.proofs.PathTestLemmas.{prefix_that_covers}
 use Rattle.ddt_path.proofs.HoleLemmas.{kept_covers, hole_is}

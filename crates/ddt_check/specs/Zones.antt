@@ -9,7 +9,7 @@ use Rattle.ddt_path.specs.declared.record.Role.TheVariants.{Node, Ms}
 use Rattle.ddt_path.specs.Covers.{covers}
 use Rattle.ddt_path.specs.Locators.{lists}
 use Rattle.ddt_path.specs.Names.{is_same_name}
-use Rattle.ddt_path.specs.Free.{longest_match}
+use Rattle.ddt_path.specs.Matching.{longest_match}
 use Rattle.ddt_register.specs.declared.zone.Zone.{Zone}
 use Rattle.ddt_register.specs.declared.site.Site.{Site}
 use Rattle.ddt_register.specs.declared.group.Group.{Group}

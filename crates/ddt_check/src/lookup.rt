@@ -3,21 +3,11 @@
 ghost use Rattle.std.specs.Prelude.{◌≡◌};
 ghost use Rattle.std.specs.Option.{option_copied};
 ghost use Rattle.ddt_check.specs.Says.{next_zone as next_zone_of};
-ghost use Rattle.ddt_path.specs.Free.{longest_match as longest_match_of};
-ghost use Rattle.ddt_check.specs.Zones.{is_ms as is_ms_of, zone_of as zone_of_path, site_of as site_of_path, group_named as group_of_name, locators_of as locators_of_name, served_zones};
+ghost use Rattle.ddt_path.specs.Matching.{longest_match as longest_match_of};
+ghost use Rattle.ddt_check.specs.Zones.{zone_of as zone_of_path, site_of as site_of_path, group_named as group_of_name, locators_of as locators_of_name, served_zones};
 
-use ddt_path::{Locator, Name, Preference, Prefix, Role, best_match, longest_match};
+use ddt_path::{Locator, Name, Preference, Prefix, best_match, longest_match};
 use ddt_register::{Group, Register, Site, Zone};
-
-/// Whether a role is that of Map-Servers.
-pub fn is_ms(role: Role) -> bool
-    ensures { result ≡ is_ms_of role }
-{
-    match role {
-        Role::Node => false,
-        Role::Ms => true,
-    }
-}
 
 /// The longest zone that covers a prefix; of equal ones the first.
 pub fn zone_of(register: &Register, x: Prefix) -> Option<Zone>

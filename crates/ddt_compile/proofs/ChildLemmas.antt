@@ -4,7 +4,8 @@ use Rattle.std.proofs.Common.{◌≡◌, ℕ, true, false, not, List, length, ma
 use Rattle.std.specs.List.{list_any, filter}
 use Rattle.std.proofs.lemmas.Bool.{cases_lt, and_parts, and_from, both_ways, not-true, not_from_false, false_from_ne_true}
 use Rattle.ddt_path.specs.Covers.{covers, overlaps, is_strictly_below}
-use Rattle.ddt_path.specs.Free.{longest_match, overlaps_none}
+use Rattle.ddt_path.specs.Free.{overlaps_none}
+use Rattle.ddt_path.specs.Matching.{longest_match}
 use Rattle.ddt_path.proofs.CoverLemmas.{covers_self, covers_trans}
 use Rattle.ddt_register.specs.declared.zone.Zone.{Zone}
 use Rattle.ddt_register.specs.declared.register.Register.{Register}

@@ -11,7 +11,8 @@ use Rattle.ddt_path.specs.declared.record.Outcome.{Outcome}
 use Rattle.ddt_path.specs.declared.record.Outcome.TheVariants.{Registered, NotRegistered, Hole}
 use Rattle.ddt_path.specs.Covers.{covers, is_strictly_below}
 use Rattle.ddt_path.specs.Records.{record_of, not_authoritative}
-use Rattle.ddt_path.specs.Free.{longest_match, hole_of}
+use Rattle.ddt_path.specs.Free.{hole_of}
+use Rattle.ddt_path.specs.Matching.{longest_match}
 use Rattle.ddt_path.specs.Locators.{lists}
 use Rattle.ddt_path.proofs.HoleLemmas.{free_agree}
 use Rattle.ddt_path.proofs.CoverLemmas.{covers_trans}

@@ -8,7 +8,8 @@ use Rattle.ddt_path.specs.declared.record.Outcome.TheVariants.{Registered, NotRe
 use Rattle.ddt_path.specs.declared.record.ReferralRecord.{ReferralRecord}
 use Rattle.ddt_path.specs.Records.{referral, record_of, not_authoritative}
 use Rattle.ddt_path.specs.Covers.{is_strictly_below}
-use Rattle.ddt_path.specs.Free.{longest_match, hole_of}
+use Rattle.ddt_path.specs.Free.{hole_of}
+use Rattle.ddt_path.specs.Matching.{longest_match}
 use Rattle.ddt_config.specs.declared.child.Child.{Child}
 use Rattle.ddt_config.specs.declared.site_entry.SiteEntry.{SiteEntry}
 use Rattle.ddt_config.specs.declared.authority.Content.{Content}

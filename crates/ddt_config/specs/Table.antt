@@ -1,10 +1,10 @@
 -- Which TOML table stands for which configuration of a node or a Map-Server (RFC 8111, section 4). The table's form is
 -- this project's own. The keys are examined in a fixed order, tables from first to last,
 -- and the first fault decides; the shape is examined last.
-use Rattle.std.specs.Prelude.{◌≡◌, ◌==◌, ℕ, Bool, true, false, if◌then◌else◌, codes, List, [], ◌∷◌, Option, None, Some, is_some, Result, Ok, Err}
+use Rattle.std.specs.Prelude.{◌≡◌, ℕ, Bool, true, false, if◌then◌else◌, codes, List, [], ◌∷◌, Option, None, Some, is_some, Result, Ok, Err}
 use Rattle.std.specs.List.{list_all}
 use Rattle.std.specs.Option.{option_map}
-use Rattle.std.specs.Cmp.Lexicographic.{pointwise}
+use Rattle.std.specs.Str.{bytes_eq}
 use Rattle.toml.specs.Data.{Data, Items, no_items, item, Members, get_member, as_str, as_array, as_table}
 use Rattle.toml.specs.Parse.{parse_document}
 use Rattle.ddt_path.specs.declared.locator.Locator.{Locator}
@@ -109,11 +109,8 @@ abbrev pub name_in : Members → Result (List ℕ) ConfigFault
 name_in ms = text_at key.Name ms >>= λ text. if is_name text then Ok text else Err (Value key.Name)
 
 -- `node` or `ms`
-abbrev pub is_text : List ℕ → List ℕ → Bool
-is_text a b = pointwise ◌==◌ a b
-
 abbrev pub role_of : List ℕ → Result Role ConfigFault
-role_of text = if is_text text (role_text Node) then Ok Node else if is_text text (role_text Ms) then Ok Ms
+role_of text = if bytes_eq text (role_text Node) then Ok Node else if bytes_eq text (role_text Ms) then Ok Ms
     else Err (Value key.Kind)
 
 abbrev pub role_in : Members → Result Role ConfigFault

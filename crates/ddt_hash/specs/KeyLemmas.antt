@@ -1,11 +1,8 @@
 -- Keys are equal as their paths are, and equal keys are hashed alike.
-use Rattle.std.proofs.Common.{◌≡◌, ℕ, true, List, ap, refl}
+use Rattle.std.proofs.Common.{◌≡◌, ℕ, true, List, ap}
 use Rattle.std.specs.Cmp.{IsEquivalence}
-use Rattle.std.specs.Cmp.Lexicographic.{nat_list_eq_equiv}
-use Rattle.std.proofs.lemmas.Slice.Eq.{slice_eq-Decides}
-use Rattle.std.proofs.lemmas.Bool.Decides.{Decides-eqb}
+use Rattle.std.specs.Cmp.Lexicographic.{bytes_decides, nat_list_eq_equiv}
 use Rattle.ddt_path.specs.FormOf.{form_of}
-use Rattle.ddt_path.specs.Covers.{is_same_path}
 use Rattle.ddt_hash.specs.Key.{is_same_key, key_writes, form_writes}
 use Rattle.ddt_hash.specs.declared.key.Key.{Key}
 
@@ -16,8 +13,5 @@ keys_equal = record {
   congr = λ a b c. nat_list_eq_equiv.congr a.prefix b.prefix c.prefix;
 }
 
-one_path : (p q : List ℕ) → is_same_path p q ≡ true → p ≡ q
-one_path p q e = (slice_eq-Decides Decides-eqb p q (is_same_path p q) refl).0 e
-
 pub keys_alike : (a b : Key) → is_same_key a b ≡ true → key_writes a ≡ key_writes b
-keys_alike a b e = ap (λ (p : List ℕ). form_writes (form_of p)) (one_path a.prefix b.prefix e)
+keys_alike a b e = ap (λ (p : List ℕ). form_writes (form_of p)) ((bytes_decides a.prefix b.prefix).0 e)

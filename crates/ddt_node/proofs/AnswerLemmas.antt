@@ -15,7 +15,8 @@ use Rattle.ddt_config.specs.declared.child.Child.{Child}
 use Rattle.ddt_config.specs.declared.site_entry.SiteEntry.{SiteEntry}
 use Rattle.ddt_config.specs.declared.authority.Content.{Content}
 use Rattle.ddt_config.specs.declared.authority.Content.TheVariants.{Children, Sites}
-use Rattle.ddt_path.specs.Free.{longest_match, hole_of}
+use Rattle.ddt_path.specs.Free.{hole_of}
+use Rattle.ddt_path.specs.Matching.{longest_match}
 use Rattle.ddt_config.specs.declared.authority.Authority.{Authority}
 use Rattle.ddt_config.specs.Table.{Outline}
 use Rattle.ddt_config.specs.Answer.{answer, answer_in, site_outcome, strictly_below, referral_to}

@@ -6,7 +6,7 @@ use Rattle.ddt_path.specs.declared.locator.Locator.{Locator}
 use Rattle.ddt_path.specs.declared.action.Action.{Action}
 use Rattle.ddt_path.specs.declared.action.Action.TheVariants.{NodeReferral, MsReferral, MsAck, MsNotRegistered, DelegationHole, NotAuthoritative}
 use Rattle.ddt_path.specs.Path.{xeid_path}
-use Rattle.ddt_path.specs.Free.{longest_match}
+use Rattle.ddt_path.specs.Matching.{longest_match}
 use Rattle.ddt_config.specs.declared.site_entry.SiteEntry.{SiteEntry}
 use Rattle.ddt_config.specs.declared.authority.Content.{Content}
 use Rattle.ddt_config.specs.declared.authority.Content.TheVariants.{Children, Sites}

@@ -6,9 +6,12 @@ use Rattle.std.specs.Cmp.Lexicographic.{bytes_decides, nat_list_eq_equiv}
 use Rattle.std.proofs.lemmas.List.{take-append-drop}
 use Rattle.ddt_path.specs.Covers.{covers, overlaps, is_same_path, is_strictly_below}
 
+pub eqb_self : (d : ℕ) → (d == d) ≡ true
+eqb_self d = eq-eqb d d refl
+
 pub covers_self : (p : List ℕ) → covers p p ≡ true
 covers_self [] = refl
-covers_self (d ∷ p) = and_from (d == d) (covers p p) (eq-eqb d d refl) (covers_self p)
+covers_self (d ∷ p) = and_from (d == d) (covers p p) (eqb_self d) (covers_self p)
 
 pub covers_trans : (p q r : List ℕ) → covers p q ≡ true → covers q r ≡ true → covers p r ≡ true
 covers_trans [] q r a b = refl
@@ -21,7 +24,7 @@ covers_trans (d ∷ p) (e ∷ q) (f ∷ r) a b =
 
 pub covers-append : (p r : List ℕ) → covers p (p ++ r) ≡ true
 covers-append [] r = refl
-covers-append (d ∷ p) r = and_from (d == d) (covers p (p ++ r)) (eq-eqb d d refl) (covers-append p r)
+covers-append (d ∷ p) r = and_from (d == d) (covers p (p ++ r)) (eqb_self d) (covers-append p r)
 
 pub front_covered : (n : ℕ) (x : List ℕ) → covers (take n x) x ≡ true
 front_covered n x = subst (λ (y : List ℕ). covers (take n x) y ≡ true) (take-append-drop n x) (covers-append (take n x) (drop n x))
@@ -68,6 +71,10 @@ overlaps-take (d ∷ p) [] (suc n) a = absurd (false≢true a)
 overlaps-take (d ∷ p) (e ∷ x) (suc n) a =
     let s = and_parts (d == e) (covers p x) a in
     both_heads (d == e) (e == d) (covers p (take n x)) (covers (take n x) p) s.0 (eq-eqb e d (sym (eqb-true d e s.0))) (overlaps-take p x n s.1)
+
+-- and all else that covers x
+pub fronts_overlap : (p q x : List ℕ) → covers p x ≡ true → covers q x ≡ true → overlaps p q ≡ true
+fronts_overlap p q x a b = ap (overlaps p) (sym (take-covered q x b)) ∙ overlaps-take p x (length q) a
 
 -- a longer front shows the next digit
 pub next_digit : (f : List ℕ) (d : ℕ) (r : List ℕ) → covers (f ++ d ∷ []) (f ++ r) ≡ true → (rest : List ℕ) × (r ≡ d ∷ rest)

@@ -12,7 +12,7 @@ use Rattle.ddt_path.specs.Path.{digits, path, address_width, address_digits, add
 use Rattle.ddt_path.specs.DigitLemmas.{length-digits}
 use Rattle.ddt_path.specs.Covers.{covers, overlaps}
 use Rattle.ddt_path.proofs.CoverLemmas.{covers_self, covered_same, covers_rest}
-use Rattle.ddt_path.proofs.PathTestLemmas.{identifier_of, form_of_prefix}
+use Rattle.ddt_path.proofs.PathTestLemmas.{identifier_of, form_of_prefix, prefix_that_covers}
 
 block_no_longer : (a b : Locator) (len : ℕ) (ds : List ℕ) → covers (family a ∷ ds) (family b ∷ take len (address_digits b)) ≡ true → length ds ≡ address_width a → length (take len (address_digits b)) ≤ address_width a
 block_no_longer (V4 a) (V4 b) len ds c n = omega (arith, length-take len (digits 32 b), length-digits 32 b)
@@ -31,13 +31,17 @@ form_no_longer (Block iid a len) x c =
     omega (arith, length-append (digits 32 iid) (family a ∷ take len (address_digits a)), length-digits 32 iid, length-append (digits 32 x.iid) (address_path x.address), length-digits 32 x.iid)
 
 -- a prefix that begins with an identifier is that identifier
-pub no_longer : (x p : List ℕ) → is_path x ≡ true → is_prefix_path p ≡ true → covers x p ≡ true → x ≡ p
+no_longer : (x p : List ℕ) → is_path x ≡ true → is_prefix_path p ≡ true → covers x p ≡ true → x ≡ p
 no_longer x p e h c =
     let y = identifier_of x e in
     let f = form_of_prefix p h in
     let d : covers (xeid_path y.0) (path f.0) ≡ true = rw (y.2, f.2) c in
     let le : length (path f.0) ≤ length (xeid_path y.0) = form_no_longer f.0 y.0 d in
     sym y.2 ∙ covered_same (xeid_path y.0) (path f.0) d le ∙ f.2
+
+-- and one identifier begins with no other
+pub one_identifier : (x y : List ℕ) → is_path x ≡ true → is_path y ≡ true → covers x y ≡ true → x ≡ y
+one_identifier x y e f c = no_longer x y e (prefix_that_covers y y f (covers_self y)) c
 
 or_same : (a b : Bool) → (b ≡ true → a ≡ true) → (a || b) ≡ a
 or_same true b h = refl

@@ -1,11 +1,11 @@
 -- Two fronts of one path, and what is strictly below another.
 use Rattle.std.proofs.Common.{◌≡◌, ℕ, ◌<◌, ◌≤◌, Bool, true, false, not, List, [], ◌∷◌, length, take, refl, sym, ap, ◌∙◌, arith, inl, inr}
 use Rattle.std.specs.Prelude.{◌==◌, ◌&&◌, ◌||◌, nat_le}
-use Rattle.std.proofs.lemmas.Bool.{and_parts, and_from, or_cases, or_left, or_right, false≢true, true≢false, eqb-true, eq-eqb, false_from_ne_true, cases_lt, le-leb, leb-true}
+use Rattle.std.proofs.lemmas.Bool.{and_parts, and_from, or_cases, or_left, or_right, false≢true, true≢false, eqb-true, eq-eqb, false_from_ne_true, cases_lt, le-leb, leb-true, not-true, not_from_false}
 use Rattle.std.proofs.lemmas.List.{take_all, length-take}
 use Rattle.ddt_path.specs.Covers.{covers, overlaps, is_same_path, is_strictly_below, shared_len}
 use Rattle.ddt_path.proofs.CoverLemmas.{covers_self, covers_trans, front_covered, take-covered, length-covered, covered_same, below_from, below_is}
-use Rattle.ddt_path.proofs.ShareLemmas.{covers_both, covers-take, shared_len-le, shared_len_le_second}
+use Rattle.ddt_path.proofs.ShareLemmas.{covers_both, covers-take, shared_len-le, shared_len_le_second, covers-front}
 
 -- of two fronts the longer begins with the shorter
 pub front_covers : (p q x : List ℕ) → covers p x ≡ true → covers q x ≡ true → length p ≤ length q → covers p q ≡ true
@@ -16,6 +16,9 @@ front_covers (a ∷ p) (b ∷ q) (e ∷ x) c d le =
     let s = and_parts (a == e) (covers p x) c in
     let t = and_parts (b == e) (covers q x) d in
     and_from (a == b) (covers p q) (eq-eqb a b (eqb-true a e s.0 ∙ sym (eqb-true b e t.0))) (front_covers p q x s.1 t.1 (omega arith))
+
+pub shorter_front : (n k : ℕ) (x : List ℕ) → n ≤ k → covers (take n x) (take k x) ≡ true
+shorter_front n k x le = front_covers (take n x) (take k x) x (front_covered n x) (front_covered k x) (omega (arith, length-take n x, length-take k x))
 
 -- and two of one length are the same
 pub one_front : (p q x : List ℕ) → covers p x ≡ true → covers q x ≡ true → length p ≡ length q → p ≡ q
@@ -32,6 +35,14 @@ below_parts q p e =
     elim (cases_lt (length p) (length q)) [
       | inl lt ↦ (s.0, lt)
       | inr le ↦ absurd (false≢true (sym s.1 ∙ ap (covers q) (covered_same p q s.0 le) ∙ covers_self q))
+    ]
+
+-- of two that overlap the longer is strictly below the other
+pub longer_below : (p q : List ℕ) → overlaps p q ≡ true → length q < length p → is_strictly_below p q ≡ true
+longer_below p q o lt =
+    elim (or_cases (covers p q) (covers q p) o) [
+      | inl up ↦ let le = length-covered p q up in absurd (omega arith)
+      | inr down ↦ front_below q p p down (covers_self p) lt
     ]
 
 -- what overlaps a path overlaps each of its fronts
@@ -63,21 +74,17 @@ apart p q down up other = go (covers p q) (covers q p) up down (covers_both p q 
 
 pub common_covers : (p q : List ℕ) → (covers (take (shared_len p q) p) p ≡ true) × (covers (take (shared_len p q) p) q ≡ true)
 common_covers p q =
-    let n = shared_len p q in
-    let le : n ≤ length p = shared_len-le p q in
-    let whole : take (length q) q ≡ q = take_all (length q) q (omega arith) in
-    let second = covers-take n (length q) p q le in (
+    let n = shared_len p q in (
       front_covered n p,
-      ap (covers (take n p)) (sym whole) ∙ second ∙ and_from (nat_le n (length q)) (nat_le n n) (le-leb n (length q) (shared_len_le_second p q)) (le-leb n n (omega arith)),
+      covers-front n p q (shared_len-le p q)
+          ∙ and_from (nat_le n (length q)) (nat_le n n) (le-leb n (length q) (shared_len_le_second p q)) (le-leb n n (omega arith)),
     )
 
 pub common_is_longest : (p q front : List ℕ) → covers front p ≡ true → covers front q ≡ true → covers front (take (shared_len p q) p) ≡ true
 common_is_longest p q front c d =
     let l = length front in
     let n = shared_len p q in
-    let fits : l ≤ length p = length-covered front p c in
-    let whole : take (length q) q ≡ q = take_all (length q) q (omega arith) in
-    let both : covers (take l p) (take (length q) q) ≡ true = rw (take-covered front p c, whole) d in
-    let shared = (and_parts (nat_le l (length q)) (nat_le l n) (sym (covers-take l (length q) p q fits) ∙ both)).1 in
-    let le : l ≤ length (take n p) = omega (arith, leb-true l n shared, length-take n p) in
+    let both : covers (take l p) q ≡ true = rw (take-covered front p c) d in
+    let shared = (and_parts (nat_le l (length q)) (nat_le l n) (sym (covers-front l p q (length-covered front p c)) ∙ both)).1 in
+    let le : l ≤ length (take n p) = omega (arith, leb-true l n shared, length-take n p, shared_len-le p q) in
     front_covers front (take n p) p c (common_covers p q).0 le

@@ -2,17 +2,16 @@
 use Rattle.std.proofs.Common.{◌≡◌, ◌⊎◌, ℕ, ◌+◌, ◌<◌, ◌≤◌, Bool, true, false, cond, List, [], ◌∷◌, ◌++◌, length, map, take, drop, Some, None, refl, sym, ap, ◌∙◌, arith, inl, inr}
 use Rattle.std.specs.Prelude.{find, nat_lt, not, unwrap_or, Option, ◌&&◌, ◌||◌}
 use Rattle.std.specs.List.{list_any, list_all, filter}
-use Rattle.std.proofs.lemmas.Bool.{cond-true, cond-false, and_from, and_parts, or_cases, or_left, or_right, and_cases, not-true, not-false, not_from_false, false_from_ne_true, false≢true, lt-ltb, le-ltb, cases_lt}
+use Rattle.std.proofs.lemmas.Bool.{cond-true, cond-false, and_from, and_parts, not-true, not_from_false, false_from_ne_true, false≢true, lt-ltb, le-ltb, cases_lt}
 use Rattle.std.proofs.lemmas.Option.{same_Some, cond_some}
 use Rattle.std.proofs.lemmas.List.{append_assoc, take-append-drop, length-take, drop_more, take_more, take_all, drop_all, append-nil}
 use Rattle.ddt_path.specs.Path.{is_path, is_prefix_path}
 use Rattle.ddt_path.specs.Covers.{covers, overlaps, is_same_path}
 use Rattle.ddt_path.specs.Free.{lengthened, parts_from, overlaps_none, free, is_free, hole_of}
-use Rattle.ddt_path.proofs.CoverLemmas.{covers_self, covers_trans, covers-append, take-covered, length-covered, overlaps-take, next_digit, same_path}
-use Rattle.ddt_path.proofs.MemberLemmas.{IsIn, holds_at, list_all-map, list_any-map, any_in}
+use Rattle.ddt_path.proofs.CoverLemmas.{covers_self, covers_trans, covers-append, take-covered, length-covered, overlaps-take, next_digit, same_path, fronts_overlap}
+use Rattle.ddt_path.proofs.MemberLemmas.{IsIn, holds_at, list_all-map, list_any-map, any_in, in_any, some_passes}
 use Rattle.ddt_path.proofs.FilterLemmas.{in_filter, filter_in, all_kept}
-use Rattle.ddt_path.proofs.EndLemmas.{no_longer, overlaps_whole}
-use Rattle.ddt_path.proofs.PathTestLemmas.{prefix_that_covers}
+use Rattle.ddt_path.proofs.EndLemmas.{one_identifier, overlaps_whole}
 
 -- ---- the parts of a path
 
@@ -200,22 +199,14 @@ module _ {A : Type 0} (prefix : A → List ℕ) (test : A → Bool) (xs : List A
 -- ---- where a member covers x, nothing is free
 
 member_apart : (s : List (List ℕ)) (key p : List ℕ) → list_any (is_same_path key) s ≡ true → overlaps_none s p ≡ true → overlaps key p ≡ false
-member_apart [] key p is none = absurd (false≢true is)
-member_apart (k ∷ s) key p is none =
-    let parts = and_parts (not (overlaps k p)) (overlaps_none s p) none in
-    elim (or_cases (is_same_path key k) (list_any (is_same_path key) s) is) [
-      | inl same ↦ ap (λ (q : List ℕ). overlaps q p) (same_path key k same) ∙ not-true (overlaps k p) parts.0
-      | inr later ↦ member_apart s key p later parts.1
-    ]
-
--- what covers x overlaps all else that covers x
-pub fronts_overlap : (key x p : List ℕ) → covers key x ≡ true → covers p x ≡ true → overlaps key p ≡ true
-fronts_overlap key x p c d = ap (overlaps key) (sym (take-covered p x d)) ∙ overlaps-take key x (length p) c
+member_apart s key p is none =
+    let k = any_in (is_same_path key) s is in
+    ap (λ (q : List ℕ). overlaps q p) (same_path key k.0 k.2) ∙ not-true (overlaps k.0 p) (holds_at (λ q. not (overlaps q p)) s k.0 none k.1)
 
 pub member_covers_none : (authority : List ℕ) (s : List (List ℕ)) (x key : List ℕ) → list_any (is_same_path key) s ≡ true → covers key x ≡ true → free authority s x ≡ None
 member_covers_none authority s x key is c =
     none_free authority s x (λ p d. false_from_ne_true (overlaps_none s p) (λ none.
-    false≢true (sym (member_apart s key p is none) ∙ fronts_overlap key x p c d)))
+    false≢true (sym (member_apart s key p is none) ∙ fronts_overlap key p x c d)))
 
 -- ---- where nothing is free, a member covers
 
@@ -229,14 +220,9 @@ whole_fails test f (d ∷ r) none =
 
 -- a list of prefixes that an identifier overlaps has one that covers it
 some_covers : (s : List (List ℕ)) (x : List ℕ) → is_path x ≡ true → list_all is_prefix_path s ≡ true → overlaps_none s x ≡ false → list_any (λ k. covers k x) s ≡ true
-some_covers [] x e h none = absurd (false≢true (sym none))
-some_covers (k ∷ s) x e h none =
-    let p = and_parts (is_prefix_path k) (list_all is_prefix_path s) h in
-    let same = overlaps_whole x k e p.0 in
-    elim (and_cases (not (overlaps k x)) (overlaps_none s x) none) [
-      | inl here ↦ or_left (covers k x) (list_any (λ q. covers q x) s) (sym same ∙ not-false (overlaps k x) here)
-      | inr later ↦ or_right (covers k x) (list_any (λ q. covers q x) s) (some_covers s x e p.1 later)
-    ]
+some_covers s x e h none =
+    let k = some_passes (λ p. overlaps p x) s none in
+    in_any (λ p. covers p x) s k.0 k.1 (sym (overlaps_whole x k.0 e (holds_at is_prefix_path s k.0 h k.1)) ∙ k.2)
 
 pub none_free_covered : (authority : List ℕ) (s : List (List ℕ)) (x : List ℕ) → is_path x ≡ true → list_all is_prefix_path s ≡ true → covers authority x ≡ true → free authority s x ≡ None → list_any (λ k. covers k x) s ≡ true
 none_free_covered authority s x e h inside none =
@@ -284,7 +270,7 @@ pub hole_of_all_or_alone : (authority : List ℕ) (keys : List (List ℕ)) (x y 
 hole_of_all_or_alone authority keys x y q e f inside is c = go (free authority keys x) refl is
   where
     go : (found : Option (List ℕ)) → free authority keys x ≡ found → unwrap_or found x ≡ q → (x ≡ y) ⊎ IsFreeOf authority keys y q
-    go None at is = inl (no_longer x y e (prefix_that_covers y y f (covers_self y)) (ap (λ (p : List ℕ). covers p y) is ∙ c))
+    go None at is = inl (one_identifier x y e f (ap (λ (p : List ℕ). covers p y) is ∙ c))
     go (Some p) at is =
         let found : free authority keys x ≡ Some q = at ∙ ap (λ (p : List ℕ). Some p) is in
         let parts = and_parts (covers q x) (covers authority q && overlaps_none keys q) (hole_is_free authority keys x q inside found) in

@@ -1,16 +1,17 @@
 -- The best match of a list, the longest or the shortest, by what the items of the list are. Which items a list has, and
 -- which of them pass a test, is in MemberLemmas; what a test keeps of a list is in FilterLemmas.
-use Rattle.std.proofs.Common.{◌≡◌, ◌⊎◌, ℕ, ◌+◌, ◌<◌, ◌≤◌, Bool, true, false, cond, List, [], ◌∷◌, length, get_or, drop, map, Option, Some, None, refl, sym, ap, ◌∙◌, arith, inl, inr}
+use Rattle.std.proofs.Common.{◌≡◌, ◌⊎◌, ℕ, ◌+◌, ◌<◌, ◌≤◌, Bool, true, false, cond, List, [], ◌∷◌, length, get_or, drop, map, find, Option, Some, None, refl, sym, ap, ◌∙◌, arith, inl, inr}
 use Rattle.std.specs.Prelude.{MatchOption, ◌&&◌}
 use Rattle.std.specs.List.{filter}
 use Rattle.std.specs.Option.{option_map, option_map_or}
-use Rattle.std.proofs.lemmas.Bool.{cond-true, cond-false, lt-ltb, le-ltb, ltb-true, ltb-false, false≢true, and_cases}
+use Rattle.std.proofs.lemmas.Bool.{cond-true, cond-false, lt-ltb, le-ltb, ltb-true, ltb-false, false≢true, false_from_ne_true, and_cases}
 use Rattle.std.proofs.lemmas.List.{drop_more}
 use Rattle.std.proofs.lemmas.Option.{none-some, same_Some, MatchOption-at_some, MatchOption-at_none}
 use Rattle.ddt_path.specs.declared.matching.Preference.{Preference}
 use Rattle.ddt_path.specs.declared.matching.Preference.TheVariants.{Longest, Shortest}
-use Rattle.ddt_path.specs.Covers.{covers}
+use Rattle.ddt_path.specs.Covers.{covers, is_same_path}
 use Rattle.ddt_path.specs.Matching.{is_better, better_of, best_match}
+use Rattle.ddt_path.proofs.CoverLemmas.{same_path, path_itself}
 use Rattle.ddt_path.proofs.MemberLemmas.{IsIn}
 
 -- ---- which of two lengths is preferred
@@ -113,9 +114,10 @@ module _ {A : Type 0} (w : Preference) (prefix : A → List ℕ) where
 
   -- ---- by what the items of a list are
 
-  better_either : (z : A) (m : Option A) → (better_of w prefix z m ≡ z) ⊎ (m ≡ Some (better_of w prefix z m))
+  -- the better of two is the first, or it beats the first
+  better_either : (z : A) (m : Option A) → (better_of w prefix z m ≡ z) ⊎ ((m ≡ Some (better_of w prefix z m)) × (beats (better_of w prefix z m) z ≡ true))
   better_either z None = inl refl
-  better_either z (Some b) = elim (beats b z) as (λ t. (cond t b z ≡ z) ⊎ (Some b ≡ Some (cond t b z))) [ true ↦ inr refl | false ↦ inl refl ]
+  better_either z (Some b) = elim (beats b z) as (λ t. beats b z ≡ t → (cond t b z ≡ z) ⊎ ((Some b ≡ Some (cond t b z)) × (beats (cond t b z) z ≡ true))) [ true ↦ λ e. inr (refl, e) | false ↦ λ e. inl refl ] refl
 
   -- the better of two is beaten by neither
   unbeaten_first : (z : A) (m : Option A) → beats z (better_of w prefix z m) ≡ false
@@ -138,18 +140,50 @@ module _ {A : Type 0} (w : Preference) (prefix : A → List ℕ) where
     abbrev pub IsCovering : List A → A → Type 0
     IsCovering xs a = IsIn a xs × (covers (prefix a) x ≡ true)
 
-    member_case : (z : A) (xs : List A) (a l : A) (m : Option A) → (l ≡ z) ⊎ (m ≡ Some l) → (m ≡ Some a → IsCovering xs a) → (c : Bool) → covers (prefix z) x ≡ c → cond c (Some l) m ≡ Some a → IsCovering (z ∷ xs) a
+    member_case : (z : A) (xs : List A) (a l : A) (m : Option A) → (l ≡ z) ⊎ ((m ≡ Some l) × (beats l z ≡ true)) → (m ≡ Some a → IsCovering xs a) → (c : Bool) → covers (prefix z) x ≡ c → cond c (Some l) m ≡ Some a → IsCovering (z ∷ xs) a
     member_case z xs a l m either ih false t e = let p = ih e in (inr p.0, p.1)
     member_case z xs a l m (inl first) ih true t e =
         let same : a ≡ z = sym (same_Some l a e) ∙ first in
         (inl same, ap (λ (y : A). covers (prefix y) x) same ∙ t)
-    member_case z xs a l m (inr later) ih true t e = let p = ih (later ∙ e) in (inr p.0, p.1)
+    member_case z xs a l m (inr later) ih true t e = let p = ih (later.0 ∙ e) in (inr p.0, p.1)
 
     pub best_member : (xs : List A) (a : A) → best_match w prefix xs x ≡ Some a → IsCovering xs a
     best_member [] a e = absurd (none-some a e)
     best_member (z ∷ xs) a e =
         let m = best_match w prefix xs x in
         member_case z xs a (better_of w prefix z m) m (better_either z m) (best_member xs a) (covers (prefix z) x) refl e
+
+    -- and of those of its prefix it is the first
+    first_case : (z a : A) (rest : Option A) → (z ≡ a) ⊎ ((rest ≡ Some a) × (prefix z ≡ prefix a → ⊥)) → cond (is_same_path (prefix a) (prefix z)) (Some z) rest ≡ Some a
+    first_case z a rest (inl same) =
+        cond-true (is_same_path (prefix a) (prefix z)) (Some z) rest (path_itself (prefix a) (prefix z) (ap prefix (sym same))) ∙ ap (λ (y : A). Some y) same
+    first_case z a rest (inr other) =
+        cond-false (is_same_path (prefix a) (prefix z)) (Some z) rest (false_from_ne_true (is_same_path (prefix a) (prefix z)) (λ t. other.1 (sym (same_path (prefix a) (prefix z) t))))
+        ∙ other.0
+
+    which : (z : A) (xs : List A) (a : A) (m : Option A) (c : Bool) → best_match w prefix xs x ≡ m → covers (prefix z) x ≡ c → cond c (Some (better_of w prefix z m)) m ≡ Some a
+        → (z ≡ a) ⊎ ((best_match w prefix xs x ≡ Some a) × (prefix z ≡ prefix a → ⊥))
+    which z xs a m false is t e =
+        let found = is ∙ e in
+        inr (found, λ same. false≢true (sym t ∙ ap (λ (p : List ℕ). covers p x) same ∙ (best_member xs a found).1))
+    which z xs a m true is t e =
+        let same : better_of w prefix z m ≡ a = same_Some (better_of w prefix z m) a e in
+        elim (better_either z m) [
+          | inl first ↦ inl (sym first ∙ same)
+          | inr later ↦ inr (
+            is ∙ later.0 ∙ e,
+            λ one.
+                false≢true (sym (is_better-self w (length (prefix z))) ∙ ap (λ (p : List ℕ). is_better w (length p) (length (prefix z))) (one ∙ ap prefix (sym same)) ∙ later.1),
+          )
+        ]
+
+    pub best_first : (xs : List A) (a : A) → best_match w prefix xs x ≡ Some a → find (λ b. is_same_path (prefix a) (prefix b)) xs ≡ Some a
+    best_first [] a e = absurd (none-some a e)
+    best_first (z ∷ xs) a e =
+        first_case z a (find (λ b. is_same_path (prefix a) (prefix b)) xs) (elim (which z xs a (best_match w prefix xs x) (covers (prefix z) x) refl refl e) [
+          | inl same ↦ inl same
+          | inr other ↦ inr (best_first xs a other.0, other.1)
+        ])
 
     -- where no member covers there is none
     pub best_none : (xs : List A) → ((b : A) → IsIn b xs → covers (prefix b) x ≡ false) → best_match w prefix xs x ≡ None

@@ -1,10 +1,10 @@
 -- Which items a list has, and tests that hold of one, of all and of none of them. What a test keeps of a list is in
 -- FilterLemmas.
-use Rattle.std.proofs.Common.{◌≡◌, ◌⊎◌, ℕ, zero, suc, ◌+◌, ◌<◌, ◌≤◌, Bool, true, false, cond, ◌&&◌, ◌||◌, List, [], ◌∷◌, length, get_or, map, take, drop, find, IsPermutation, Option, Some, None, refl, sym, ap, subst, ◌∙◌, arith, inl, inr}
-use Rattle.std.specs.Prelude.{is_some, slice_get}
+use Rattle.std.proofs.Common.{◌≡◌, ◌⊎◌, ℕ, zero, suc, ◌+◌, ◌<◌, ◌≤◌, Bool, true, false, cond, ◌&&◌, ◌||◌, List, [], ◌∷◌, length, get_or, map, take, drop, find, IsPermutation, Option, Some, None, refl, sym, ap, subst, ◌∙◌, arith, inl, inr, rules}
+use Rattle.std.specs.Prelude.{is_some, slice_get, not, unwrap_or}
 use Rattle.std.specs.List.{list_any, list_all, All, AllByRecursion, Contains}
 use Rattle.std.specs.Option.{option_or}
-use Rattle.std.proofs.lemmas.Bool.{cond-true, cond-false, false≢true, and_parts, or_parts, or_cases, or_left, or_right}
+use Rattle.std.proofs.lemmas.Bool.{cond-true, cond-false, false≢true, and_parts, or_parts, or_cases, or_left, or_right, and_cases, not-false}
 use Rattle.std.proofs.lemmas.Option.{none-some, same_Some}
 use Rattle.std.proofs.lemmas.List.{drop_more, take_more, get_or_default}
 use Rattle.std.proofs.lemmas.List.Folds.{find-append}
@@ -110,6 +110,15 @@ pub in_any : {A : Type 0} (test : A → Bool) (xs : List A) (x : A) → IsIn x x
 in_any test [] x k e = absurd k
 in_any test (y ∷ xs) x (inl same) e = or_left (test y) (list_any test xs) (ap test (sym same) ∙ e)
 in_any test (y ∷ xs) x (inr later) e = or_right (test y) (list_any test xs) (in_any test xs x later e)
+
+-- where not all fail, some member passes
+pub some_passes : {A : Type 0} (test : A → Bool) (xs : List A) → list_all (λ x. not (test x)) xs ≡ false → (x : A) × IsIn x xs × (test x ≡ true)
+some_passes test [] e = absurd (false≢true (sym e))
+some_passes test (y ∷ xs) e =
+    elim (and_cases (not (test y)) (list_all (λ x. not (test x)) xs) e) [
+      | inl here ↦ (y, inl refl, not-false (test y) here)
+      | inr later ↦ let found = some_passes test xs later in (found.0, inr found.1, found.2)
+    ]
 
 -- what comes after an item is a member
 pub in_later : {A : Type 0} (xs : List A) (n : ℕ) (y : A) → IsIn y (drop n xs) → IsIn y xs

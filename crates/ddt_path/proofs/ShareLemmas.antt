@@ -1,11 +1,12 @@
 -- Paths that share a front.
-use Rattle.std.proofs.Common.{◌≡◌, ℕ, zero, suc, ◌+◌, ◌≤◌, Bool, true, false, cond, List, [], ◌∷◌, ◌++◌, length, take, refl, sym, ap, ◌∙◌, arith, inl, inr}
+use Rattle.std.proofs.Common.{◌≡◌, ℕ, zero, suc, ◌+◌, ◌<◌, ◌≤◌, Bool, true, false, cond, List, [], ◌∷◌, ◌++◌, length, take, refl, sym, ap, ◌∙◌, arith, inl, inr}
 use Rattle.std.specs.Prelude.{min, nat_le, ◌==◌, ◌&&◌, ◌≢◌}
-use Rattle.std.proofs.lemmas.Bool.{eq-eqb, ne_eqb, cases_eq}
+use Rattle.std.proofs.lemmas.Bool.{eq-eqb, ne_eqb, cases_eq, cases_lt, le-leb, false≢true}
 use Rattle.std.proofs.lemmas.Bool.Decides.{nat_tests}
-use Rattle.std.proofs.lemmas.List.{length-take}
-use Rattle.std.specs.Cmp.Lexicographic.{pointwise}
-use Rattle.ddt_path.specs.Covers.{shared_len, covers}
+use Rattle.std.proofs.lemmas.List.{length-take, take_all}
+use Rattle.std.specs.Cmp.{nat_eq_equiv}
+use Rattle.ddt_path.specs.Covers.{shared_len, covers, is_same_path}
+use Rattle.ddt_path.proofs.CoverLemmas.{eqb_self}
 
 pub shared_len-le : (p q : List ℕ) → shared_len p q ≤ length p
 shared_len-le [] q = omega arith
@@ -16,6 +17,12 @@ pub shared_len_le_second : (p q : List ℕ) → shared_len p q ≤ length q
 shared_len_le_second [] q = omega arith
 shared_len_le_second (d ∷ p) [] = omega arith
 shared_len_le_second (d ∷ p) (e ∷ q) = elim (d == e) as (λ b. cond b (1 + shared_len p q) 0 ≤ suc (length q)) [ true ↦ omega (arith, shared_len_le_second p q) | false ↦ omega arith ]
+
+pub shared_len-sym : (p q : List ℕ) → shared_len p q ≡ shared_len q p
+shared_len-sym [] [] = refl
+shared_len-sym [] (e ∷ q) = refl
+shared_len-sym (d ∷ p) [] = refl
+shared_len-sym (d ∷ p) (e ∷ q) = ap (λ (b : Bool). cond b (1 + shared_len p q) 0) (nat_eq_equiv.symm d e) ∙ ap (λ (n : ℕ). cond (e == d) (1 + n) 0) (shared_len-sym p q)
 
 suc_le_suc : (m n : ℕ) → nat_le m n ≡ nat_le (suc m) (1 + n)
 suc_le_suc m n = grind (arith, nat_tests)
@@ -35,13 +42,10 @@ covers_by_shared (d ∷ p) (e ∷ q) =
       | false ↦ no_suc_le (length p)
     ]
 
-eq_self : (d : ℕ) → (d == d) ≡ true
-eq_self d = eq-eqb d d refl
-
 -- a shared front, and what the rests share
 pub shared_len-append : (p q r : List ℕ) → shared_len (p ++ q) (p ++ r) ≡ length p + shared_len q r
 shared_len-append [] q r = omega arith
-shared_len-append (d ∷ p) q r = rw (eq_self d, shared_len-append p q r) (omega arith)
+shared_len-append (d ∷ p) q r = rw (eqb_self d, shared_len-append p q r) (omega arith)
 
 shorter : (a b n : ℕ) → 1 + min (min a b) n ≡ min (min (suc a) (suc b)) (1 + n)
 shorter a b n = omega arith
@@ -68,6 +72,17 @@ tests_of_min l m n s h = grind (arith, nat_tests)
 pub covers-take : (l m : ℕ) (p q : List ℕ) → l ≤ length p → covers (take l p) (take m q) ≡ (nat_le l m && nat_le l (shared_len p q))
 covers-take l m p q le = covers_by_shared (take l p) (take m q) ∙ rw (shared_len-take l m p q, length-take l p) (tests_of_min l m (length p) (shared_len p q) le)
 
+pub covers-front : (n : ℕ) (p q : List ℕ) → n ≤ length p → covers (take n p) q ≡ (nat_le n (length q) && nat_le n (shared_len p q))
+covers-front n p q le = ap (covers (take n p)) (sym (take_all (length q) q (omega arith))) ∙ covers-take n (length q) p q le
+
+-- what doesn't cover a path shares less than all of its digits with it
+pub shares_less : (p q : List ℕ) → covers p q ≡ false → shared_len p q < length p
+shares_less p q apart =
+    elim (cases_lt (shared_len p q) (length p)) [
+      | inl lt ↦ lt
+      | inr ge ↦ absurd (false≢true (sym apart ∙ covers_by_shared p q ∙ le-leb (length p) (shared_len p q) ge))
+    ]
+
 -- behind two lists of one length: what the rests share counts where the lists are the same
 pub shared_len-append_all : (p q r s : List ℕ) → length p ≡ length q → shared_len p q ≡ length p → shared_len (p ++ r) (q ++ s) ≡ length p + shared_len r s
 shared_len-append_all [] [] r s n = λ e. omega arith
@@ -89,7 +104,7 @@ shared_len-append_some (d ∷ p) (f ∷ q) r s n =
     ]
 
 -- two paths are equal where each covers the other
-pub covers_both : (p q : List ℕ) → (covers p q && covers q p) ≡ pointwise ◌==◌ p q
+pub covers_both : (p q : List ℕ) → (covers p q && covers q p) ≡ is_same_path p q
 covers_both [] [] = refl
 covers_both [] (e ∷ q) = refl
 covers_both (d ∷ p) [] = refl
@@ -99,5 +114,5 @@ covers_both (d ∷ p) (e ∷ q) =
       | inr apart ↦ rw (ne_eqb d e apart) refl
     ]
 
-pub not_covered : (p q : List ℕ) → covers p q ≡ false → false ≡ pointwise ◌==◌ p q
+pub not_covered : (p q : List ℕ) → covers p q ≡ false → false ≡ is_same_path p q
 not_covered p q e = sym (ap (λ (b : Bool). b && covers q p) e) ∙ covers_both p q

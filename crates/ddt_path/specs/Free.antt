@@ -2,9 +2,7 @@
 -- matches; here it is also kept inside the prefix of the authority that was asked.
 use Rattle.std.specs.Prelude.{ℕ, Bool, ◌&&◌, not, nat_lt, if◌then◌else◌, List, [], ◌∷◌, ◌++◌, length, take, drop, find, unwrap_or, Option}
 use Rattle.std.specs.List.{list_all}
-use Rattle.ddt_path.specs.declared.matching.Preference.TheVariants.{Longest, Shortest}
 use Rattle.ddt_path.specs.Covers.{covers, overlaps}
-use Rattle.ddt_path.specs.Matching.{better_of, best_match}
 
 -- front, and front with one more digit of the rest after it, and so on up to all of it
 abbrev pub lengthened : List ℕ → List ℕ → List (List ℕ)
@@ -34,17 +32,3 @@ is_free authority s x q = covers q x && (covers authority q && overlaps_none s q
 -- asks for, since then a member covers it.
 abbrev pub hole_of : List ℕ → List (List ℕ) → List ℕ → List ℕ
 hole_of authority s x = unwrap_or (free authority s x) x
-
--- of the items whose prefix covers x, the one of the longest prefix; of equal prefixes the first
-abbrev pub longer_of : {A : Type 0} → (A → List ℕ) → A → Option A → A
-longer_of prefix a other = better_of Longest prefix a other
-
-abbrev pub longest_match : {A : Type 0} → (A → List ℕ) → List A → List ℕ → Option A
-longest_match prefix items x = best_match Longest prefix items x
-
--- of the items whose prefix covers x, the one of the shortest prefix; of equal prefixes the first
-abbrev pub shorter_of : {A : Type 0} → (A → List ℕ) → A → Option A → A
-shorter_of prefix a other = better_of Shortest prefix a other
-
-abbrev pub shortest_match : {A : Type 0} → (A → List ℕ) → List A → List ℕ → Option A
-shortest_match prefix items x = best_match Shortest prefix items x

@@ -25,6 +25,13 @@ best_match preference prefix (a ∷ others) x =
     let later = best_match preference prefix others x in
     if covers (prefix a) x then Some (better_of preference prefix a later) else later
 
+-- of the longest prefix, or of the shortest
+abbrev pub longest_match : {A : Type 0} → (A → List ℕ) → List A → List ℕ → Option A
+longest_match prefix items x = best_match Longest prefix items x
+
+abbrev pub shortest_match : {A : Type 0} → (A → List ℕ) → List A → List ℕ → Option A
+shortest_match prefix items x = best_match Shortest prefix items x
+
 -- a test that code is given answers as this one does, at each item
 abbrev pub AnswersAs : {F A : Type 0} → Shared F (Bor A × Unit {0}) Bool → F → (A → Bool) → Type 0
 AnswersAs calls test passes = (item : _) (answer : Bool) → FnReturnsAt calls test item answer → answer ≡ passes item

@@ -3,8 +3,7 @@
 ghost use Rattle.std.specs.Prelude.{◌≡◌, Bool};
 ghost use Rattle.std.specs.List.{filter};
 ghost use Rattle.std.specs.Option.{option_copied, option_map_or};
-ghost use Rattle.ddt_path.specs.Matching.{is_better as is_better_of, better_of, best_match as best_match_of, AnswersAs};
-ghost use Rattle.ddt_path.specs.Free.{longest_match as longest_match_of, shortest_match as shortest_match_of};
+ghost use Rattle.ddt_path.specs.Matching.{is_better as is_better_of, better_of, best_match as best_match_of, AnswersAs, longest_match as longest_match_of, shortest_match as shortest_match_of};
 
 use crate::prefix::Prefix;
 use crate::prefixed::Prefixed;

@@ -2,8 +2,8 @@
 use Rattle.std.proofs.Common.{◌≡◌, ℕ, Bool, true, false, cond, List, [], ◌∷◌, take, Option, None, Some, refl, sym, ap, inl, inr, ◌∙◌}
 use Rattle.std.specs.Prelude.{not, ◌&&◌, filter, is_some}
 use Rattle.std.specs.List.{list_all, list_any}
-use Rattle.std.specs.FinMap.{FinMap, empty, find, get, get-empty, insert, keys, contains_key, contains_key-keys}
-use Rattle.std.proofs.lemmas.Bool.{and_parts, and_cases, false≢true, not-false, not_from_false}
+use Rattle.std.specs.FinMap.{FinMap, empty, get, get-empty, insert, keys, contains_key, contains_key-keys}
+use Rattle.std.proofs.lemmas.Bool.{and_parts, false≢true, not_from_false}
 use Rattle.std.proofs.lemmas.Option.{none-some}
 use Rattle.ddt_path.specs.Covers.{covers, overlaps, is_same_path, is_strictly_below}
 use Rattle.ddt_path.specs.Free.{overlaps_none, free}
@@ -11,9 +11,8 @@ use Rattle.ddt_path.proofs.CoverLemmas.{overlaps-take}
 use Rattle.ddt_path.proofs.HoleLemmas.{free_agree, free_whole}
 use Rattle.ddt_trie.specs.PrefixMap.{path_cmp, IsCoveredBelow, keys_below}
 use Rattle.ddt_trie.specs.Entries.{map_of}
-use Rattle.ddt_trie.proofs.EntryLemmas.{tied, get-map_of}
-use Rattle.ddt_trie.proofs.PassLemmas.{keys_pass, is_found}
-use Rattle.ddt_trie.proofs.KeyLemmas.{all_from_members, all_keys, any_same, found_head, later_found, member_passes, same_members_all}
+use Rattle.ddt_trie.proofs.PassLemmas.{keys_pass, key_passes, is_found}
+use Rattle.ddt_trie.proofs.KeyLemmas.{all_from_members, all_keys, any_same, member_passes, same_members_all}
 use Rattle.ddt_trie.proofs.MapLemmas.{found_after_insert}
 
 -- a test that each filtered path fails is one that no path passes together with the filter
@@ -48,16 +47,6 @@ module _ {V : Type 0} (m : FinMap path_cmp V) (from q : List ℕ) where
       (sym (contains_key-keys m k) ∙ is)) below meets
 
 module _ {V : Type 0} where
-  -- some entry passes a test that not each one fails
-  passing : (test : List ℕ → Bool) (es : List (List ℕ × V)) → list_all (λ e. not (test e.0)) es ≡ false
-      → (p : List ℕ) × (is_some (find path_cmp p es) ≡ true) × (test p ≡ true)
-  passing test [] h = absurd (false≢true (sym h))
-  passing test (e ∷ es) h =
-      elim (and_cases (not (test e.0)) (list_all (λ f. not (test f.0)) es) h) [
-        | inl c ↦ (e.0, found_head e es, not-false (test e.0) c)
-        | inr c ↦ let s = passing test es c in (s.0, later_found (tied s.0 e.0) e.1 (find path_cmp s.0 es) s.1, s.2)
-      ]
-
   pub tested_below : (s es : List (List ℕ × V)) (from q : List ℕ) (r b : Bool) → s ≡ es
       → r ≡ list_all (λ e. not (is_strictly_below e.0 from && overlaps e.0 q)) s → r ≡ b
       → overlaps_none (keys_below (map_of es) from) q ≡ b
@@ -76,11 +65,11 @@ module _ {V : Type 0} where
       → r ≡ list_all (λ e. not (is_strictly_below e.0 from && covers e.0 x)) s → r ≡ false
       → IsCoveredBelow (map_of es) from x
   some_covers_below s es from x r same answer is =
-      let f = passing (λ k. is_strictly_below k from && covers k x) es
+      let f = key_passes (λ k. is_strictly_below k from && covers k x) es
       (ap (list_all (λ (e : List ℕ × V). not (is_strictly_below e.0 from && covers e.0 x))) (sym same) ∙ sym answer
       ∙ is) in
       let parts = and_parts (is_strictly_below f.0 from) (covers f.0 x) f.2 in
-      (f.0, ap (λ (o : Option V). is_some o) (get-map_of es f.0) ∙ f.1, parts.0, parts.1)
+      (f.0, f.1, parts.0, parts.1)
 
   pub uncovered_below : (s es : List (List ℕ × V)) (from x : List ℕ) (r : Bool) → s ≡ es
       → r ≡ list_all (λ e. not (is_strictly_below e.0 from && covers e.0 x)) s → r ≡ true

@@ -1,110 +1,36 @@
 -- Where a path first leaves a tree, and what is free there.
-use Rattle.std.proofs.Common.{◌≡◌, ℕ, zero, suc, ◌+◌, ◌-◌, ◌<◌, ◌≤◌, Bool, true, false, cond, List, [], ◌∷◌, ◌++◌, length, take, drop, Some, None, Option, refl, sym, ap, ◌∙◌, arith, inl, inr, length-append}
-use Rattle.std.specs.Prelude.{◌&&◌, ◌||◌, ◌==◌, not, nat_le, is_some, IsTrue, find, filter, max}
+use Rattle.std.proofs.Common.{◌≡◌, ℕ, zero, suc, ◌+◌, ◌-◌, ◌<◌, ◌≤◌, Bool, true, false, List, length, take, Some, None, Option, refl, sym, ap, ◌∙◌, arith, inl, inr}
+use Rattle.std.specs.Prelude.{◌&&◌, not, is_some, IsTrue, find, max}
 use Rattle.std.specs.List.{list_any}
 use Rattle.std.specs.FinMap.{FinMap, get, keys, contains_key, contains_key-keys}
+use Rattle.std.proofs.Math.Bool.{or_comm}
 use Rattle.std.proofs.Math.Nat.{max-eq_left, max-eq_right}
-use Rattle.std.proofs.lemmas.Bool.{and_parts, and_from, or_cases, or_right, false≢true, not-true, not_from_false, eqb-true, leb-true, cases_lt, false_from_ne_true}
+use Rattle.std.proofs.lemmas.Bool.{and_parts, and_from, or_cases, false≢true, not-true, not_from_false, cases_lt, false_from_ne_true}
 use Rattle.std.proofs.lemmas.Option.{none-some}
-use Rattle.std.proofs.lemmas.List.{take-append-drop, length-take, take_all}
-use Rattle.ddt_path.specs.declared.locator.Locator.{Locator}
-use Rattle.ddt_path.specs.declared.locator.Locator.TheVariants.{V4, V6}
+use Rattle.std.proofs.lemmas.List.{take_all}
 use Rattle.ddt_path.specs.declared.xeid.Xeid.{Xeid}
-use Rattle.ddt_path.specs.Path.{digits, address_width, address_number, address_digits, address_path, family, xeid_path, is_address_front, is_prefix_path, are_binary}
-use Rattle.ddt_path.specs.DigitLemmas.{length-digits}
+use Rattle.ddt_path.specs.Path.{xeid_path}
 use Rattle.ddt_path.specs.Covers.{covers, overlaps, is_strictly_below}
 use Rattle.ddt_path.specs.Free.{free, parts_from, overlaps_none}
-use Rattle.ddt_path.proofs.CoverLemmas.{covers_self, covers_trans, covers_rest, covered_same, length-covered, take-covered, overlaps-take}
+use Rattle.ddt_path.proofs.CoverLemmas.{covers_trans, front_covered, length-covered, take-covered, fronts_overlap}
+use Rattle.ddt_path.proofs.EndLemmas.{overlaps_whole}
+use Rattle.ddt_path.proofs.FrontLemmas.{shorter_front, below_parts, longer_below, overlaps_front}
+use Rattle.ddt_path.proofs.PathTestLemmas.{is_path-xeid_path}
 use Rattle.ddt_path.proofs.HoleLemmas.{free_whole, member_covers_none}
 use Rattle.ddt_trie.specs.declared.tree.Tree.{Tree}
 use Rattle.ddt_trie.specs.PrefixMap.{path_cmp, keys_below}
 use Rattle.ddt_trie.specs.Tree.{lookup, content_of, IsMet, IsGapBelow, HasPaths}
-use Rattle.ddt_trie.proofs.EntryLemmas.{tied, tied-true}
-use Rattle.ddt_trie.proofs.KeyLemmas.{all_from_members, member_passes, free_start, free_here, free_later, free_last, any_same}
+use Rattle.ddt_trie.proofs.EntryLemmas.{tied}
+use Rattle.ddt_trie.proofs.KeyLemmas.{all_from_members, member_passes, free_start, free_here, free_later, free_last, any_kept, any_same}
 use Rattle.ddt_trie.proofs.ContentLemmas.{get-content, key_value}
-use Rattle.ddt_trie.proofs.TreeLemmas.{eqb_self}
-
-take_covers : (k : ℕ) (x : List ℕ) → covers (take k x) x ≡ true
-take_covers zero x = refl
-take_covers (suc k) [] = refl
-take_covers (suc k) (d ∷ x) = and_from (d == d) (covers (take k x) x) (eqb_self d) (take_covers k x)
-
-take_covers_more : (n k : ℕ) (x : List ℕ) → n ≤ k → covers (take n x) (take k x) ≡ true
-take_covers_more zero k x le = refl
-take_covers_more (suc n) zero x le = absurd (omega arith)
-take_covers_more (suc n) (suc k) [] le = refl
-take_covers_more (suc n) (suc k) (d ∷ x) le =
-    and_from (d == d) (covers (take n x) (take k x)) (eqb_self d) (take_covers_more n k x (omega arith))
-
--- ---- a prefix that goes on behind the path of an identifier
-
-symbol_bound : (a : Locator) (s n : ℕ) → family a ≡ s → ((s == 4 && nat_le n 32) || (s == 6 && nat_le n 128)) ≡ true
-    → n ≤ address_width a
-symbol_bound (V4 a) s n is h =
-    elim (or_cases (s == 4 && nat_le n 32) (s == 6 && nat_le n 128) h) [
-      | inl l ↦ leb-true n 32 (and_parts (s == 4) (nat_le n 32) l).1
-      | inr r ↦ let six : s ≡ 6 = eqb-true s 6 (and_parts (s == 6) (nat_le n 128) r).0 in absurd (omega arith)
-    ]
-symbol_bound (V6 a) s n is h =
-    elim (or_cases (s == 4 && nat_le n 32) (s == 6 && nat_le n 128) h) [
-      | inl l ↦ let four : s ≡ 4 = eqb-true s 4 (and_parts (s == 4) (nat_le n 32) l).0 in absurd (omega arith)
-      | inr r ↦ leb-true n 128 (and_parts (s == 6) (nat_le n 128) r).1
-    ]
-
-address_bound : (a : Locator) (ds p : List ℕ) → covers (family a ∷ ds) p ≡ true → is_address_front p ≡ true
-    → length p ≤ suc (address_width a)
-address_bound a ds [] c f = omega arith
-address_bound a ds (s ∷ q) c f =
-    let is = eqb-true (family a) s (and_parts (family a == s) (covers ds q) c).0 in
-    let le = symbol_bound a s (length q) is
-    (and_parts (are_binary q) ((s == 4 && nat_le (length q) 32) || (s == 6 && nat_le (length q) 128)) f).1 in
-    omega arith
-
-path_bound : (x : Xeid) (p : List ℕ) → is_prefix_path p ≡ true → covers (xeid_path x) p ≡ true
-    → length p ≤ length (xeid_path x)
-path_bound x p is c =
-    let iid = digits 32 x.iid in
-    let address = address_path x.address in
-    let whole : length (xeid_path x) ≡ 33 + address_width x.address =
-    omega (
-      arith,
-      length-append iid address,
-      length-digits 32 x.iid,
-      length-digits (address_width x.address)
-          (address_number x.address),
-    ) in
-    let le = length-covered (xeid_path x) p c in
-    let front : length iid ≡ length (take 32 p) = omega (arith, length-digits 32 x.iid, length-take 32 p) in
-    let rest = covers_rest iid (take 32 p) address (drop 32 p) front (ap (covers (xeid_path x)) (take-append-drop 32 p)
-    ∙ c) in
-    let bound = address_bound x.address (address_digits x.address) (drop 32 p) rest
-    (and_parts (are_binary (take 32 p)) (is_address_front (drop 32 p)) is).1 in
-    let all : length (take 32 p ++ drop 32 p) ≡ length p = ap (λ (l : List ℕ). length l) (take-append-drop 32 p) in
-    omega (arith, length-append (take 32 p) (drop 32 p), length-digits 32 x.iid)
-
-meets_above : (x : Xeid) (p : List ℕ) → is_prefix_path p ≡ true → overlaps p (xeid_path x) ≡ true
-    → covers p (xeid_path x) ≡ true
-meets_above x p is o =
-    elim (or_cases (covers p (xeid_path x)) (covers (xeid_path x) p) o) [
-      | inl c ↦ c
-      | inr c ↦
-          let same : xeid_path x ≡ p = covered_same (xeid_path x) p c (path_bound x p is c) in
-          ap (λ (q : List ℕ). covers q (xeid_path x)) (sym same) ∙ covers_self (xeid_path x)
-    ]
 
 -- ---- the keys that count
-
--- what covers x overlaps all else that covers x
-pub fronts_overlap : (p q x : List ℕ) → covers p x ≡ true → covers q x ≡ true → overlaps p q ≡ true
-fronts_overlap p q x a b = ap (overlaps p) (sym (take-covered q x b)) ∙ overlaps-take p x (length q) a
 
 -- what overlaps a prefix overlaps each that covers it
 overlaps_above : (p q from : List ℕ) → overlaps p q ≡ true → covers from q ≡ true → overlaps p from ≡ true
 overlaps_above p q from o inside =
-    elim (or_cases (covers p q) (covers q p) o) [
-      | inl a ↦ fronts_overlap p from q a inside
-      | inr b ↦ or_right (covers p from) (covers from p) (covers_trans from q p inside b)
-    ]
+    or_comm (covers p from) (covers from p)
+    ∙ overlaps_front from q p inside (or_comm (covers q p) (covers p q) ∙ o)
 
 -- Among the keys of a map s has those that pass a test. A key that overlaps the prefix passes it from the length c on, and
 -- none that is shorter does.
@@ -127,58 +53,15 @@ counts_all m from = record {
   only = λ p h. omega arith;
 }
 
-filtered_member : (test : List ℕ → Bool) (p : List ℕ) (ks : List (List ℕ))
-    → list_any (tied p) (filter test ks) ≡ (list_any (tied p) ks && test p)
-filtered_member test p [] = refl
-filtered_member test p (k ∷ ks) =
-    elim (test k) as (λ b. test k ≡ b
-    → list_any (tied p) (cond b (k ∷ filter test ks) (filter test ks))
-    ≡ ((tied p k || list_any (tied p) ks) && test p)) [
-      | true ↦ λ t. ap (λ (b : Bool). tied p k || b) (filtered_member test p ks)
-          ∙ first_in (tied p k) (list_any (tied p) ks) (test p) (λ same. ap test (tied-true p k same) ∙ t)
-      | false ↦ λ t. filtered_member test p ks
-          ∙ first_out (tied p k) (list_any (tied p) ks) (test p) (λ same. ap test (tied-true p k same) ∙ t)
-    ] refl
-  where
-    first_in : (a b d : Bool) → (a ≡ true → d ≡ true) → (a || (b && d)) ≡ ((a || b) && d)
-    first_in true b d h = sym (h refl)
-    first_in false b d h = refl
-
-    first_out : (a b d : Bool) → (a ≡ true → d ≡ false) → (b && d) ≡ ((a || b) && d)
-    first_out true true d h = refl
-    first_out true false d h = sym (h refl)
-    first_out false b d h = refl
-
-pub strictly_longer : (p from : List ℕ) → is_strictly_below p from ≡ true → suc (length from) ≤ length p
-strictly_longer p from h =
-    let parts = and_parts (covers from p) (not (covers p from)) h in
-    let le = length-covered from p parts.0 in
-    elim (cases_lt (length from) (length p)) [
-      | inl lt ↦ omega arith
-      | inr ge ↦
-          let same : from ≡ p = covered_same from p parts.0 ge in
-          absurd (false≢true (sym (not-true (covers p from) parts.1) ∙ ap (covers p) same ∙ covers_self p))
-    ]
-
-pub longer_strictly : (p from : List ℕ) → overlaps p from ≡ true → suc (length from) ≤ length p
-    → is_strictly_below p from ≡ true
-longer_strictly p from o le =
-    let apart : covers p from ≡ false =
-    false_from_ne_true (covers p from) (λ c. let k = length-covered p from c in absurd (omega arith)) in
-    elim (or_cases (covers p from) (covers from p) o) [
-      | inl a ↦ absurd (false≢true (sym apart ∙ a))
-      | inr b ↦ and_from (covers from p) (not (covers p from)) b (not_from_false (covers p from) apart)
-    ]
-
 -- the keys strictly below a prefix count for what is free below it
 pub counts_below : {V : Type 0} (m : FinMap path_cmp V) (from : List ℕ) (c : ℕ) → c ≡ suc (length from)
     → Counts m from c (keys_below m from)
 counts_below m from c is = record {
   test = λ p. is_strictly_below p from;
-  members = λ p. filtered_member (λ k. is_strictly_below k from) p (keys m)
+  members = λ p. any_kept (λ k. is_strictly_below k from) (keys m) p
       ∙ ap (λ (b : Bool). b && is_strictly_below p from) (sym (contains_key-keys m p));
-  passes = λ p o le. longer_strictly p from o (omega arith);
-  only = λ p h. let le = strictly_longer p from h in omega arith;
+  passes = λ p o le. longer_below p from o (omega arith);
+  only = λ p h. let lt = (below_parts p from h).1 in omega arith;
 }
 
 module _ {V : Type 0} {m : FinMap path_cmp V} {from : List ℕ} {c : ℕ} {s : List (List ℕ)} (h : Counts m from c s) where
@@ -216,7 +99,8 @@ module _ {V : Type 0} (t : Tree V) where
       → (p : List ℕ) × IsTrue (contains_key (content_of t) p) × (c ≤ length p) × IsTrue (covers p (xeid_path x))
   met_covers x c h m =
       let key = is_key m.path m.value m.found in
-      (m.path, key, (let k = m.counts in omega arith), meets_above x m.path (h.are_paths m.path key) m.meets)
+      let whole = overlaps_whole (xeid_path x) m.path (is_path-xeid_path x) (h.are_paths m.path key) in
+      (m.path, key, (let k = m.counts in omega arith), sym whole ∙ m.meets)
 
   module _ (x : List ℕ) (c n : ℕ) (h : IsGapBelow 0 t x c n) where
     at_front : n ≡ length h.front
@@ -240,12 +124,12 @@ module _ {V : Type 0} (t : Tree V) where
         let w = key_value (get (content_of t) q) key in
         let f : lookup 0 t q ≡ Some w.0 = sym (get-content t q) ∙ w.1 in
         elim (or_cases (covers q (take k x)) (covers (take k x) q) o) [
-          | inl a ↦ none-some w.0 (sym (h.uncovered q (omega arith) (covers_trans q (take k x) x a (take_covers k x)))
+          | inl a ↦ none-some w.0 (sym (h.uncovered q (omega arith) (covers_trans q (take k x) x a (front_covered k x)))
               ∙ f)
           | inr a ↦
               let fc : covers h.front q ≡ true =
               ap (λ (p : List ℕ). covers p q) front_taken
-              ∙ covers_trans (take n x) (take k x) q (take_covers_more n k x le) a in
+              ∙ covers_trans (take n x) (take k x) q (shorter_front n k x le) a in
               none-some w.0 (sym (h.nothing q (omega arith) fc) ∙ f)
         ]
 
@@ -261,7 +145,7 @@ module _ {V : Type 0} (t : Tree V) where
           let m = h.filled k (omega (arith, at_front)) (omega arith) in
           let under : covers from (take k x) ≡ true =
           ap (λ (p : List ℕ). covers p (take k x)) (sym (take-covered from x inside))
-          ∙ take_covers_more (length from) k x le in
+          ∙ shorter_front (length from) k x le in
           taken counts (take k x) m.path under (is_key m.path m.value m.found)
           (let long = m.counts in omega arith) m.meets
 

@@ -1,81 +1,60 @@
 -- The keys of a finite map, and the free prefixes among them.
-use Rattle.std.proofs.Common.{◌≡◌, ℕ, ◌+◌, ◌<◌, Bool, true, false, cond, List, [], ◌∷◌, length, take, Some, None, Option, refl, sym, ap, subst, inl, inr, ◌∙◌}
-use Rattle.std.specs.Prelude.{not, ◌||◌, find as find_part, is_some, IfNone, IsNone}
+use Rattle.std.proofs.Common.{◌≡◌, ℕ, ◌+◌, ◌<◌, Bool, true, false, cond, List, [], ◌∷◌, length, take, Some, None, Option, refl, sym, ap, subst, ◌∙◌}
+use Rattle.std.specs.Prelude.{◌||◌, not, ◌&&◌, filter, find as find_part, is_some, IfNone, IsNone}
 use Rattle.std.specs.Bool.{then_some}
 use Rattle.std.specs.List.{list_all, list_any}
-use Rattle.std.specs.FinMap.{FinMap, find, keys, contains_key, contains_key-keys}
-use Rattle.std.proofs.lemmas.Bool.{and_parts, and_from, or_cases, and_cases, or_left, or_right, false≢true, not-true, not-false, cond-true, cond-false}
+use Rattle.std.specs.FinMap.{FinMap, keys, contains_key, contains_key-keys}
+use Rattle.std.proofs.lemmas.Bool.{and_from, and_parts, false≢true, not-true, cond-true, cond-false}
 use Rattle.ddt_path.specs.Covers.{covers, overlaps, is_same_path}
 use Rattle.std.specs.Cmp.Lexicographic.{texts_ties}
 use Rattle.ddt_path.specs.Free.{parts_from, overlaps_none, free}
 use Rattle.ddt_trie.specs.PrefixMap.{path_cmp, IsCovered}
 use Rattle.ddt_trie.specs.Entries.{map_of, none_covers}
 use Rattle.ddt_trie.proofs.EntryLemmas.{tied, tied-true, tied_self, get-map_of}
-use Rattle.ddt_trie.proofs.PassLemmas.{keys_pass}
+use Rattle.ddt_trie.proofs.PassLemmas.{keys_pass, found_pass, key_passes}
 use Rattle.ddt_path.proofs.CoverLemmas.{overlaps-take}
+use Rattle.ddt_path.proofs.FilterLemmas.{in_filter, filter_in}
+use Rattle.ddt_path.proofs.MemberLemmas.{all_of, any_in, in_any, holds_at, iff_same}
 use Rattle.ddt_path.proofs.HoleLemmas.{parts_from_next, parts_from_last, free_agree}
-
-same_answers : (a b : Bool) → (a ≡ true → b ≡ true) → (b ≡ true → a ≡ true) → a ≡ b
-same_answers true true f g = refl
-same_answers true false f g = sym (f refl)
-same_answers false true f g = g refl
-same_answers false false f g = refl
 
 -- ---- a test of each key
 
 pub all_from_members : (test : List ℕ → Bool) (ks : List (List ℕ)) → ((q : List ℕ) → list_any (tied q) ks ≡ true → test q ≡ true) → list_all test ks ≡ true
-all_from_members test [] h = refl
-all_from_members test (k ∷ ks) h =
-    and_from (test k) (list_all test ks) (h k (or_left (tied k k) (list_any (tied k) ks) (tied_self k)))
-    (all_from_members test ks (λ q m. h q (or_right (tied q k) (list_any (tied q) ks) m)))
+all_from_members test ks h = all_of test ks (λ q k. h q (in_any (tied q) ks q k (tied_self q)))
 
 pub member_passes : (test : List ℕ → Bool) (ks : List (List ℕ)) (q : List ℕ) → list_all test ks ≡ true → list_any (tied q) ks ≡ true → test q ≡ true
-member_passes test [] q all m = absurd (false≢true m)
-member_passes test (k ∷ ks) q all m =
-    let parts = and_parts (test k) (list_all test ks) all in
-    elim (or_cases (tied q k) (list_any (tied q) ks) m) [
-      | inl t ↦ ap test (tied-true q k t) ∙ parts.0
-      | inr later ↦ member_passes test ks q parts.1 later
-    ]
+member_passes test ks q all m =
+    let k = any_in (tied q) ks m in
+    ap test (tied-true q k.0 k.2) ∙ holds_at test ks k.0 all k.1
+
+-- what a test keeps has those members that pass it
+pub any_kept : (test : List ℕ → Bool) (ks : List (List ℕ)) (q : List ℕ) → list_any (tied q) (filter test ks) ≡ (list_any (tied q) ks && test q)
+any_kept test ks q = iff_same (list_any (tied q) (filter test ks)) (list_any (tied q) ks && test q)
+    (λ m.
+    let k = any_in (tied q) (filter test ks) m in
+    let p = in_filter test ks k.0 k.1 in
+    and_from (list_any (tied q) ks) (test q) (in_any (tied q) ks k.0 p.0 k.2) (ap test (tied-true q k.0 k.2) ∙ p.1))
+    (λ m.
+    let p = and_parts (list_any (tied q) ks) (test q) m in
+    let k = any_in (tied q) ks p.0 in
+    in_any (tied q) (filter test ks) k.0 (filter_in test ks k.0 k.1 (ap test (sym (tied-true q k.0 k.2)) ∙ p.1)) k.2)
 
 -- lists with the same members answer alike
 pub same_members_all : (test : List ℕ → Bool) (ks ls : List (List ℕ)) → ((q : List ℕ) → list_any (tied q) ks ≡ list_any (tied q) ls) → list_all test ks ≡ list_all test ls
-same_members_all test ks ls same = same_answers (list_all test ks) (list_all test ls)
+same_members_all test ks ls same = iff_same (list_all test ks) (list_all test ls)
     (λ all. all_from_members test ls (λ q m. member_passes test ks q all (same q ∙ m)))
     (λ all. all_from_members test ks (λ q m. member_passes test ls q all (sym (same q) ∙ m)))
 
-pub later_found : {A : Type 0} (b : Bool) (v : A) (o : Option A) → is_some o ≡ true → is_some (cond b (Some v) o) ≡ true
-later_found true v o m = refl
-later_found false v o m = m
-
 module _ {V : Type 0} where
-  pub found_head : (e : List ℕ × V) (es : List (List ℕ × V)) → is_some (find path_cmp e.0 (e ∷ es)) ≡ true
-  found_head e es = ap (λ (b : Bool). is_some (cond b (Some e.1) (find path_cmp e.0 es))) (tied_self e.0)
-
-  found_passes : (test : List ℕ → Bool) (es : List (List ℕ × V)) → ((q : List ℕ) → is_some (find path_cmp q es) ≡ true → test q ≡ true) → list_all (λ e. test e.0) es ≡ true
-  found_passes test [] h = refl
-  found_passes test (e ∷ es) h =
-      and_from (test e.0) (list_all (λ f. test f.0) es) (h e.0 (found_head e es))
-      (found_passes test es (λ q m. h q (later_found (tied q e.0) e.1 (find path_cmp q es) m)))
-
   pub all_keys : (test : List ℕ → Bool) (es : List (List ℕ × V)) → list_all test (keys (map_of es)) ≡ list_all (λ e. test e.0) es
-  all_keys test es = same_answers (list_all test (keys (map_of es))) (list_all (λ e. test e.0) es)
-      (λ all. found_passes test es (λ q m. member_passes test (keys (map_of es)) q all (sym (contains_key-keys (map_of es) q) ∙ ap (λ (o : Option V). is_some o) (get-map_of es q) ∙ m)))
+  all_keys test es = iff_same (list_all test (keys (map_of es))) (list_all (λ e. test e.0) es)
+      (λ all. found_pass test es (λ q m. member_passes test (keys (map_of es)) q all (sym (contains_key-keys (map_of es) q) ∙ ap (λ (o : Option V). is_some o) (get-map_of es q) ∙ m)))
       (λ all. all_from_members test (keys (map_of es)) (λ q m. keys_pass test es q all (ap (λ (o : Option V). is_some o) (sym (get-map_of es q)) ∙ contains_key-keys (map_of es) q ∙ m)))
-
-  covering : (es : List (List ℕ × V)) (x : List ℕ) → none_covers es x ≡ false → (p : List ℕ) × (is_some (find path_cmp p es) ≡ true) × (covers p x ≡ true)
-  covering [] x h = absurd (false≢true (sym h))
-  covering (e ∷ es) x h =
-      elim (and_cases (not (covers e.0 x)) (none_covers es x) h) [
-        | inl c ↦ (e.0, found_head e es, not-false (covers e.0 x) c)
-        | inr c ↦ let s = covering es x c in (s.0, later_found (tied s.0 e.0) e.1 (find path_cmp s.0 es) s.1, s.2)
-      ]
 
   -- some key that covers x
   pub some_covers : (s es : List (List ℕ × V)) (x : List ℕ) (r : Bool) → s ≡ es → r ≡ none_covers s x → r ≡ false → IsCovered (map_of es) x
   some_covers s es x r same answer no' =
-      let f = covering es x (ap (λ (l : List (List ℕ × V)). none_covers l x) (sym same) ∙ sym answer ∙ no') in
-      (f.0, ap (λ (o : Option V). is_some o) (get-map_of es f.0) ∙ f.1, f.2)
+      key_passes (λ p. covers p x) es (ap (λ (l : List (List ℕ × V)). none_covers l x) (sym same) ∙ sym answer ∙ no')
 
   -- ---- the parts of x, each against the keys
 

@@ -1,14 +1,12 @@
 -- What a leaf answers for a path that begins as its prefix does.
-use Rattle.std.proofs.Common.{◌≡◌, ℕ, ◌+◌, ◌≤◌, ◌<◌, Bool, true, false, cond, List, [], ◌∷◌, length, take, drop, Option, Some, None, Box, Global, refl, sym, ap, subst, ◌∙◌, arith, inl, inr}
-use Rattle.std.specs.Prelude.{◌||◌, ◌&&◌, ◌==◌, nat_le}
-use Rattle.std.specs.Cmp.Lexicographic.{pointwise}
-use Rattle.std.proofs.lemmas.Bool.{and_from, and_parts, or_right, false≢true, cond-true, cond-false, le-leb, leb-true, cases_lt, false_from_ne_true}
-use Rattle.std.proofs.lemmas.Bool.Decides.{nat_tests}
+use Rattle.std.proofs.Common.{◌≡◌, ℕ, ◌+◌, ◌≤◌, ◌<◌, Bool, true, false, cond, List, [], length, take, drop, Option, Some, None, Box, Global, refl, sym, ap, subst, ◌∙◌, arith, inl, inr}
+use Rattle.std.specs.Prelude.{◌||◌, nat_le}
+use Rattle.std.proofs.lemmas.Bool.{and_from, and_parts, or_parts, or_right, false≢true, cond-true, cond-false, le-leb, leb-true, false_from_ne_true}
 use Rattle.std.proofs.lemmas.Option.{none-some}
-use Rattle.std.proofs.lemmas.List.{length-drop, length-take-le, take_all}
-use Rattle.ddt_path.specs.Covers.{covers, overlaps, shared_len}
+use Rattle.std.proofs.lemmas.List.{length-drop, length-take-le}
+use Rattle.ddt_path.specs.Covers.{covers, overlaps, shared_len, is_same_path}
 use Rattle.ddt_path.proofs.CoverLemmas.{front_covered, same_path, path_itself}
-use Rattle.ddt_path.proofs.ShareLemmas.{covers_by_shared, covers-take}
+use Rattle.ddt_path.proofs.ShareLemmas.{shared_len-sym, shares_less, covers-front}
 use Rattle.ddt_trie.specs.PrefixMap.{IsKept}
 use Rattle.ddt_trie.specs.declared.tree.Tree.{Tree}
 use Rattle.ddt_trie.specs.declared.tree.Tree.TheVariants.{Empty, Leaf}
@@ -16,56 +14,31 @@ use Rattle.ddt_trie.specs.declared.tree.Entry.{Entry}
 use Rattle.ddt_trie.specs.Tree.{lookup, is_rooted, HasKept, IsUncovered, IsLongestBelow, IsMet, IsGapBelow}
 use Rattle.ddt_trie.proofs.WayLemmas.{long, over, under, shared}
 
-eq_sym : (d e : ℕ) → (d == e) ≡ (e == d)
-eq_sym d e = grind (arith, nat_tests)
-
-shared_sym : (p q : List ℕ) → shared_len p q ≡ shared_len q p
-shared_sym [] [] = refl
-shared_sym [] (e ∷ q) = refl
-shared_sym (d ∷ p) [] = refl
-shared_sym (d ∷ p) (e ∷ q) =
-    ap (λ (b : Bool). cond b (1 + shared_len p q) 0) (eq_sym d e)
-    ∙ ap (λ (n : ℕ). cond (e == d) (1 + n) 0) (shared_sym p q)
-
--- what doesn't cover a path shares less than all of its digits with it
-shares_less : (p q : List ℕ) → covers p q ≡ false → shared_len p q < length p
-shares_less p q apart =
-    elim (cases_lt (shared_len p q) (length p)) [
-      | inl lt ↦ lt
-      | inr ge ↦ absurd (false≢true (sym apart ∙ covers_by_shared p q ∙ le-leb (length p) (shared_len p q) ge))
-    ]
-
--- a front covers a path with which it shares all of its digits, and no other
-front_covers : (n : ℕ) (p q : List ℕ) → n ≤ length p
-    → covers (take n p) q ≡ (nat_le n (length q) && nat_le n (shared_len p q))
-front_covers n p q le =
-    ap (covers (take n p)) (sym (take_all (length q) q (omega arith))) ∙ covers-take n (length q) p q le
-
 module _ {V : Type 0} (at : ℕ) (p : List ℕ) (t : Tree V) (b : Box (Entry V) Global) (is : t ≡ Leaf b) where
   abbrev k : List ℕ
   k = b.value.prefix
 
-  answers : (q : List ℕ) → lookup at t q ≡ cond (pointwise ◌==◌ q (drop at k)) (Some b.value.value) None
+  answers : (q : List ℕ) → lookup at t q ≡ cond (is_same_path q (drop at k)) (Some b.value.value) None
   answers q = ap (λ (u : Tree V). lookup at u q) is
 
   own : lookup at t (drop at k) ≡ Some b.value.value
   own =
       answers (drop at k)
-      ∙ cond-true (pointwise ◌==◌ (drop at k) (drop at k)) (Some b.value.value) None
+      ∙ cond-true (is_same_path (drop at k) (drop at k)) (Some b.value.value) None
       (path_itself (drop at k) (drop at k) refl)
 
   missing : (q : List ℕ) → (q ≡ drop at k → ⊥) → lookup at t q ≡ None
   missing q other =
       answers q
-      ∙ cond-false (pointwise ◌==◌ q (drop at k)) (Some b.value.value) None
-      (false_from_ne_true (pointwise ◌==◌ q (drop at k)) (λ h. other (same_path q (drop at k) h)))
+      ∙ cond-false (is_same_path q (drop at k)) (Some b.value.value) None
+      (false_from_ne_true (is_same_path q (drop at k)) (λ h. other (same_path q (drop at k) h)))
 
   only : (q : List ℕ) (w : V) → lookup at t q ≡ Some w → q ≡ drop at k
   only q w found =
-      elim (pointwise ◌==◌ q (drop at k)) as (λ c. pointwise ◌==◌ q (drop at k) ≡ c → q ≡ drop at k) [
+      elim (is_same_path q (drop at k)) as (λ c. is_same_path q (drop at k) ≡ c → q ≡ drop at k) [
         | true ↦ λ h. same_path q (drop at k) h
         | false ↦ λ h. absurd
-            (none-some w (sym (cond-false (pointwise ◌==◌ q (drop at k)) (Some b.value.value) None h)
+            (none-some w (sym (cond-false (is_same_path q (drop at k)) (Some b.value.value) None h)
             ∙ sym (answers q) ∙ found))
       ] refl
 
@@ -138,22 +111,17 @@ module _ {V : Type 0} (at : ℕ) (p : List ℕ) (t : Tree V) (b : Box (Entry V) 
     }
 
     module _ (not_so : overlaps k p ≡ false) where
-      neither : (x y : Bool) → (x || y) ≡ false → (x ≡ false) × (y ≡ false)
-      neither true y n = absurd (false≢true (sym n))
-      neither false true n = absurd (false≢true (sym n))
-      neither false false n = (refl, refl)
-
       abbrev s : ℕ
       s = shared_len (drop at k) (drop at p)
 
       parted : (covers (drop at k) (drop at p) ≡ false) × (covers (drop at p) (drop at k) ≡ false)
-      parted = neither (covers (drop at k) (drop at p)) (covers (drop at p) (drop at k)) (sym meets_as ∙ not_so)
+      parted = or_parts (covers (drop at k) (drop at p)) (covers (drop at p) (drop at k)) (sym meets_as ∙ not_so)
 
       in_leaf : s < length (drop at k)
       in_leaf = shares_less (drop at k) (drop at p) parted.0
 
       turned : shared_len (drop at p) (drop at k) ≡ s
-      turned = shared_sym (drop at p) (drop at k)
+      turned = shared_len-sym (drop at p) (drop at k)
 
       in_path : s < length (drop at p)
       in_path = let lt = shares_less (drop at p) (drop at k) parted.1 in omega (arith, turned)
@@ -166,13 +134,13 @@ module _ {V : Type 0} (at : ℕ) (p : List ℕ) (t : Tree V) (b : Box (Entry V) 
           let told = ap (λ (l : List ℕ). covers (take (s + 1) (drop at p)) l) (sym same) ∙ c in
           let parts = and_parts (nat_le (s + 1) (length (drop at k)))
           (nat_le (s + 1) (shared_len (drop at p) (drop at k)))
-          (sym (front_covers (s + 1) (drop at p) (drop at k) (omega (arith, in_path))) ∙ told) in
+          (sym (covers-front (s + 1) (drop at p) (drop at k) (omega (arith, in_path))) ∙ told) in
           let le : s + 1 ≤ shared_len (drop at p) (drop at k) = leb-true (s + 1) _ parts.1 in
           absurd (omega (arith, turned))
 
       above : (n : ℕ) → n < s + 1 → covers (take n (drop at p)) (drop at k) ≡ true
       above n lt =
-          front_covers n (drop at p) (drop at k) (omega (arith, in_path))
+          covers-front n (drop at p) (drop at k) (omega (arith, in_path))
           ∙ and_from (nat_le n (length (drop at k))) (nat_le n (shared_len (drop at p) (drop at k)))
           (le-leb n (length (drop at k)) (omega (arith, in_leaf)))
           (le-leb n (shared_len (drop at p) (drop at k)) (omega (arith, turned)))
@@ -199,11 +167,11 @@ module _ {V : Type 0} (t : Tree V) (b : Box (Entry V) Global) (is : t ≡ Leaf b
   pub leaf_dropped : test b.value.value false → HasKept test t Empty
   leaf_dropped not_so = record {
     at = λ at q. subst (λ (o : Option V). IsKept test o None) (sym (answers at [] t b is q))
-        (drop_value at [] t b is test (pointwise ◌==◌ q (drop at b.value.prefix)) not_so);
+        (drop_value at [] t b is test (is_same_path q (drop at b.value.prefix)) not_so);
   }
 
   pub leaf_kept : test b.value.value true → HasKept test t t
   leaf_kept so = record {
     at = λ at q. subst (λ (o : Option V). IsKept test o o) (sym (answers at [] t b is q))
-        (keep_value at [] t b is test (pointwise ◌==◌ q (drop at b.value.prefix)) so);
+        (keep_value at [] t b is test (is_same_path q (drop at b.value.prefix)) so);
   }

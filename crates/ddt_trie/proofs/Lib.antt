@@ -1,7 +1,6 @@
 pub mod EntryLemmas
 pub mod PassLemmas
 pub mod RetainLemmas
-pub mod FormLemmas
 pub mod KeyLemmas
 pub mod MapLemmas
 pub mod MatchLemmas

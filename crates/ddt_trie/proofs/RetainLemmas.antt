@@ -4,7 +4,7 @@ use Rattle.std.specs.List.{items_where_true}
 use Rattle.std.specs.List.Retain.{IsFiltered, ReturnsInTurn}
 use Rattle.std.specs.FinMap.{find, get}
 use Rattle.ddt_trie.specs.PrefixMap.{path_cmp, IsKept, IsRetained}
-use Rattle.ddt_trie.specs.Entries.{are_distinct, map_of}
+use Rattle.ddt_trie.specs.Entries.{have_own_keys, map_of}
 use Rattle.ddt_trie.proofs.EntryLemmas.{tied, tied-true, get-map_of, rest_distinct, absent_later, more_distinct}
 
 module _ {V F : Type 0} (R : F → List ℕ × V → Bool → F → Type 0) (answers : V → Bool → Type 0) (f : F) (each : (e : List ℕ × V) (b : Bool) (f' : F) → R f e b f' → answers e.1 b × (f' ≡ f)) where
@@ -22,7 +22,7 @@ module _ {V F : Type 0} (R : F → List ℕ × V → Bool → F → Type 0) (ans
   chosen true bs e es = refl
   chosen false bs e es = refl
 
-  kept : (bs : List Bool) (es : List (List ℕ × V)) (p q : F) → p ≡ f → ReturnsInTurn R p bs es q → length bs ≡ length es → are_distinct es ≡ true → (k : List ℕ)
+  kept : (bs : List Bool) (es : List (List ℕ × V)) (p q : F) → p ≡ f → ReturnsInTurn R p bs es q → length bs ≡ length es → have_own_keys es ≡ true → (k : List ℕ)
       → IsKept answers (find path_cmp k es) (find path_cmp k (items_where_true bs es))
   kept [] [] p q at turns n d k = refl
   kept [] (e ∷ es) p q at turns n d k = absurd (omega arith)
@@ -37,7 +37,7 @@ module _ {V F : Type 0} (R : F → List ℕ × V → Bool → F → Type 0) (ans
         | false ↦ λ t. subst (λ (o : Option V). IsKept answers (find path_cmp k es) o) (sym (kept_later b e k ys t)) rest
       ] refl)
 
-  left_distinct : (bs : List Bool) (es : List (List ℕ × V)) (p q : F) → p ≡ f → ReturnsInTurn R p bs es q → length bs ≡ length es → are_distinct es ≡ true → are_distinct (items_where_true bs es) ≡ true
+  left_distinct : (bs : List Bool) (es : List (List ℕ × V)) (p q : F) → p ≡ f → ReturnsInTurn R p bs es q → length bs ≡ length es → have_own_keys es ≡ true → have_own_keys (items_where_true bs es) ≡ true
   left_distinct [] [] p q at turns n d = refl
   left_distinct [] (e ∷ es) p q at turns n d = refl
   left_distinct (b ∷ bs) [] p q at turns n d = refl
@@ -46,13 +46,13 @@ module _ {V F : Type 0} (R : F → List ℕ × V → Bool → F → Type 0) (ans
       let ys = items_where_true bs es in
       let rest = left_distinct bs es turns.0 q told.1 turns.2 (omega arith) (rest_distinct e es d) in
       let none : find path_cmp e.0 ys ≡ None = subst (λ (o : Option V). IsKept answers o (find path_cmp e.0 ys)) (absent_later e es d) (kept bs es turns.0 q told.1 turns.2 (omega arith) (rest_distinct e es d) e.0) in
-      ap are_distinct (chosen b bs e es)
-      ∙ elim b as (λ t. are_distinct (cond t (e ∷ ys) ys) ≡ true) [ true ↦ more_distinct e ys none rest | false ↦ rest ]
+      ap have_own_keys (chosen b bs e es)
+      ∙ elim b as (λ t. have_own_keys (cond t (e ∷ ys) ys) ≡ true) [ true ↦ more_distinct e ys none rest | false ↦ rest ]
 
-  whole_distinct : (old new : List (List ℕ × V)) → are_distinct old ≡ true → IsFiltered R f old new → are_distinct new ≡ true
-  whole_distinct old new d h = ap are_distinct h.4 ∙ left_distinct h.0 old f h.1 refl h.3 h.2 d
+  whole_distinct : (old new : List (List ℕ × V)) → have_own_keys old ≡ true → IsFiltered R f old new → have_own_keys new ≡ true
+  whole_distinct old new d h = ap have_own_keys h.4 ∙ left_distinct h.0 old f h.1 refl h.3 h.2 d
 
-  whole : (old new : List (List ℕ × V)) → are_distinct old ≡ true → IsFiltered R f old new → IsRetained answers (map_of old) (map_of new)
+  whole : (old new : List (List ℕ × V)) → have_own_keys old ≡ true → IsFiltered R f old new → IsRetained answers (map_of old) (map_of new)
   whole old new d h = record {
     at = λ k.
         subst (λ (o : Option V). IsKept answers o (get (map_of new) k)) (sym (get-map_of old k))
@@ -61,10 +61,10 @@ module _ {V F : Type 0} (R : F → List ℕ × V → Bool → F → Type 0) (ans
   }
 
 module _ {V F : Type 0} {R : F → List ℕ × V → Bool → F → Type 0} where
-  pub retained_distinct : (answers : V → Bool → Type 0) (f : F) (old new : List (List ℕ × V)) → are_distinct old ≡ true → IsFiltered R f old new
-      → ((e : List ℕ × V) (b : Bool) (f' : F) → R f e b f' → answers e.1 b × (f' ≡ f)) → are_distinct new ≡ true
+  pub retained_distinct : (answers : V → Bool → Type 0) (f : F) (old new : List (List ℕ × V)) → have_own_keys old ≡ true → IsFiltered R f old new
+      → ((e : List ℕ × V) (b : Bool) (f' : F) → R f e b f' → answers e.1 b × (f' ≡ f)) → have_own_keys new ≡ true
   retained_distinct answers f old new d h each = whole_distinct R answers f each old new d h
 
-  pub retained : (answers : V → Bool → Type 0) (f : F) (old new : List (List ℕ × V)) → are_distinct old ≡ true → IsFiltered R f old new
+  pub retained : (answers : V → Bool → Type 0) (f : F) (old new : List (List ℕ × V)) → have_own_keys old ≡ true → IsFiltered R f old new
       → ((e : List ℕ × V) (b : Bool) (f' : F) → R f e b f' → answers e.1 b × (f' ≡ f)) → IsRetained answers (map_of old) (map_of new)
   retained answers f old new d h each = whole R answers f each old new d h

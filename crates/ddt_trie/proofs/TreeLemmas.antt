@@ -1,19 +1,14 @@
 -- One node of a tree: what a path finds there, and below it.
 use Rattle.std.proofs.Common.{◌≡◌, ℕ, zero, suc, ◌+◌, ◌<◌, ◌≤◌, Bool, true, false, cond, List, [], ◌∷◌, length, take, drop, Some, None, Option, refl, sym, ap, subst, ◌∙◌, arith, inl, inr}
 use Rattle.std.specs.Prelude.{◌&&◌, ◌||◌, ◌==◌, not, nat_lt, nat_le, is_some, IfSome, IfNone}
-use Rattle.std.proofs.lemmas.Bool.{and_parts, and_from, or_cases, or_left, or_right, false≢true, eqb-true, cond-true, cond-false, cases_lt, lt-ltb, ltb-true, leb-true, le-leb}
-use Rattle.std.proofs.lemmas.Bool.Decides.{nat_tests}
+use Rattle.std.proofs.lemmas.Bool.{and_parts, and_from, or_parts, not-true, or_cases, or_left, or_right, false≢true, eqb-true, cond-true, cond-false, cases_lt, lt-ltb, ltb-true, leb-true, le-leb}
 use Rattle.std.proofs.lemmas.Option.{none-some}
 use Rattle.std.proofs.lemmas.List.{length-drop}
 use Rattle.ddt_trie.specs.declared.tree.Tree.{Tree}
 use Rattle.ddt_trie.specs.declared.tree.Tree.TheVariants.{Empty, Leaf, Fork'}
-use Rattle.std.specs.Cmp.Lexicographic.{pointwise}
-use Rattle.ddt_path.specs.Covers.{covers}
-use Rattle.ddt_path.proofs.CoverLemmas.{path_itself}
+use Rattle.ddt_path.specs.Covers.{covers, is_same_path}
+use Rattle.ddt_path.proofs.CoverLemmas.{eqb_self, path_itself}
 use Rattle.ddt_trie.specs.Tree.{low, high, lookup, is_filled, is_pruned, IsUncovered, IsLongestBelow, IsMet, IsGapBelow}
-
-pub eqb_self : (n : ℕ) → (n == n) ≡ true
-eqb_self n = grind (arith, nat_tests)
 
 pub high_apart : (at : ℕ) → (high at == low at) ≡ false
 high_apart at = elim (at == 32) as (λ b. (cond b 6 1 == cond b 4 0) ≡ false) [ true ↦ refl | false ↦ refl ]
@@ -214,7 +209,7 @@ module _ {V : Type 0} where
   some_entry at Empty f h = absurd (false≢true f)
   some_entry at (Leaf b) f h =
       let q = drop at b.value.prefix in
-      (q, b.value.value, cond-true (pointwise ◌==◌ q q) (Some b.value.value) None (path_itself q q refl))
+      (q, b.value.value, cond-true (is_same_path q q) (Some b.value.value) None (path_itself q q refl))
   some_entry at (Fork' p (Some v) z o) f h = ([], v, refl)
   some_entry at (Fork' p None z o) f h =
       let parts = and_parts (is_filled z || is_filled o) (is_pruned z && is_pruned o) h in
@@ -318,15 +313,10 @@ module _ {V : Type 0} where
       → IsGapBelow at t y c at
   gap_short at c t p value z o s u y b is zero_is one_is answer told =
       let parts = and_parts (nat_lt at c) (not (is_filled s || is_filled u)) (sym answer ∙ told) in
-      let none = neither (is_filled s) (is_filled u) parts.1 in
+      let none = or_parts (is_filled s) (is_filled u) (not-true (is_filled s || is_filled u) parts.1) in
       gap_at_leaf at c t p value z o y is
       (ap (λ (k : Tree V). is_filled k) (sym zero_is) ∙ none.0) (ap (λ (k : Tree V). is_filled k) (sym one_is) ∙ none.1)
       (ltb-true at c parts.0)
-    where
-      neither : (a b : Bool) → not (a || b) ≡ true → (a ≡ false) × (b ≡ false)
-      neither true b h = absurd (false≢true h)
-      neither false true h = absurd (false≢true h)
-      neither false false h = (refl, refl)
 
   pub held_below : (at c : ℕ) (t : Tree V) (p : _) (value : Option V) (z o s u : Tree V) (b : Bool)
       → t ≡ Fork' p value z o → s ≡ z → u ≡ o → b ≡ (nat_lt at c && not (is_filled s || is_filled u)) → b ≡ false

@@ -1,19 +1,18 @@
 -- The digits on the way to a leaf, with which its prefix begins as the path that is looked for does.
 use Rattle.std.proofs.Common.{◌≡◌, ℕ, ◌+◌, ◌≤◌, Bool, true, false, cond, List, [], ◌∷◌, ◌++◌, length, take, drop, Some, None, Box, Bor, Global, refl, sym, ap, ◌∙◌, arith}
 use Rattle.std.specs.Prelude.{◌&&◌, ◌||◌, ◌==◌, not, is_some, Option, IsTrue}
-use Rattle.std.specs.Cmp.Lexicographic.{pointwise}
 use Rattle.std.specs.Option.{option_copied}
 use Rattle.std.specs.Bool.{then_some}
 use Rattle.std.proofs.lemmas.Bool.{and_parts, and_from, false≢true, not-true, not-false, eqb-true}
 use Rattle.std.proofs.lemmas.List.{length-take-le, take-append-drop}
-use Rattle.ddt_path.specs.Covers.{covers, shared_len}
-use Rattle.ddt_path.proofs.CoverLemmas.{take-covered, length-covered, front_covered}
+use Rattle.ddt_path.specs.Covers.{covers, shared_len, is_same_path}
+use Rattle.ddt_path.proofs.CoverLemmas.{eqb_self, take-covered, length-covered, front_covered}
 use Rattle.ddt_path.proofs.ShareLemmas.{shared_len-append, covers_both}
 use Rattle.ddt_trie.specs.declared.tree.Tree.{Tree}
 use Rattle.ddt_trie.specs.declared.tree.Tree.TheVariants.{Empty, Leaf, Fork'}
 use Rattle.ddt_trie.specs.declared.tree.Entry.{Entry}
 use Rattle.ddt_trie.specs.Tree.{low, high, lookup, onward, GoesOn, HasSameEntriesAt, is_rooted, is_filled, is_pruned}
-use Rattle.ddt_trie.proofs.TreeLemmas.{eqb_self, high_apart}
+use Rattle.ddt_trie.proofs.TreeLemmas.{high_apart}
 
 -- ---- the way to the next level
 
@@ -133,7 +132,7 @@ module _ (at : ℕ) (p k : List ℕ) (le : at ≤ length p) (h : covers (take at
       ap (λ (l : List ℕ). covers l k) p_is ∙ ap (λ (l : List ℕ). covers (take at p ++ drop at p) l) k_is
       ∙ covers_behind (take at p) (drop at p) (drop at k)
 
-  pub same : pointwise ◌==◌ k p ≡ pointwise ◌==◌ (drop at p) (drop at k)
+  pub same : is_same_path k p ≡ is_same_path (drop at p) (drop at k)
   same =
       sym (covers_both k p) ∙ ap (λ (t : Bool). t && covers p k) over
       ∙ ap (λ (t : Bool). covers (drop at k) (drop at p) && t) under
@@ -143,17 +142,17 @@ module _ (at : ℕ) (p k : List ℕ) (le : at ≤ length p) (h : covers (take at
 -- ---- what a leaf answers
 
 module _ {V : Type 0} (at : ℕ) (p k : List ℕ) (v : V) (le : at ≤ length p) (h : covers (take at p) k ≡ true) where
-  pub leaf_value : (b : Bool) → b ≡ pointwise ◌==◌ k p
-      → cond (pointwise ◌==◌ (drop at p) (drop at k)) (Some v) None ≡ cond b (Some v) None
+  pub leaf_value : (b : Bool) → b ≡ is_same_path k p
+      → cond (is_same_path (drop at p) (drop at k)) (Some v) None ≡ cond b (Some v) None
   leaf_value b is = ap (λ (t : Bool). cond t (Some v) None) (sym (is ∙ same at p k le h))
 
-  pub leaf_other : (b : Bool) → b ≡ not (pointwise ◌==◌ k p) → b ≡ true
-      → cond (pointwise ◌==◌ (drop at p) (drop at k)) (Some v) None ≡ None
-  leaf_other b is t = leaf_value false (sym (not-true (pointwise ◌==◌ k p) (sym is ∙ t)))
+  pub leaf_other : (b : Bool) → b ≡ not (is_same_path k p) → b ≡ true
+      → cond (is_same_path (drop at p) (drop at k)) (Some v) None ≡ None
+  leaf_other b is t = leaf_value false (sym (not-true (is_same_path k p) (sym is ∙ t)))
 
-  pub leaf_own : (b : Bool) → b ≡ not (pointwise ◌==◌ k p) → b ≡ false
-      → cond (pointwise ◌==◌ (drop at p) (drop at k)) (Some v) None ≡ Some v
-  leaf_own b is f = leaf_value true (sym (not-false (pointwise ◌==◌ k p) (sym is ∙ f)))
+  pub leaf_own : (b : Bool) → b ≡ not (is_same_path k p) → b ≡ false
+      → cond (is_same_path (drop at p) (drop at k)) (Some v) None ≡ Some v
+  leaf_own b is f = leaf_value true (sym (not-false (is_same_path k p) (sym is ∙ f)))
 
 -- ---- a node over a leaf
 
@@ -196,8 +195,8 @@ not_both e at l h =
 
 module _ {V : Type 0} (at : ℕ) (b : Box (Entry V) Global) where
   told : (q r : List ℕ) → drop at b.value.prefix ≡ r
-      → cond (pointwise ◌==◌ q r) (Some b.value.value) None ≡ lookup at (Leaf b) q
-  told q r is = ap (λ (l : List ℕ). cond (pointwise ◌==◌ q l) (Some b.value.value) None) (sym is)
+      → cond (is_same_path q r) (Some b.value.value) None ≡ lookup at (Leaf b) q
+  told q r is = ap (λ (l : List ℕ). cond (is_same_path q l) (Some b.value.value) None) (sym is)
 
   end_found : (p : _) → drop at b.value.prefix ≡ [] → (q : List ℕ)
       → lookup at (Fork' p (Some b.value.value) Empty Empty) q ≡ lookup at (Leaf b) q
@@ -209,14 +208,14 @@ module _ {V : Type 0} (at : ℕ) (b : Box (Entry V) Global) where
   low_found p on [] = told [] (low at ∷ drop (at + 1) b.value.prefix) on.0
   low_found p on (e ∷ q) =
       let r = drop (at + 1) b.value.prefix in
-      left_of (e == low at) (pointwise ◌==◌ q r) (e == high at) b.value.value ∙ told (e ∷ q) (low at ∷ r) on.0
+      left_of (e == low at) (is_same_path q r) (e == high at) b.value.value ∙ told (e ∷ q) (low at ∷ r) on.0
 
   high_found : (p : _) → GoesOn high at b.value.prefix → (q : List ℕ)
       → lookup at (Fork' p None Empty (Leaf b)) q ≡ lookup at (Leaf b) q
   high_found p on [] = told [] (high at ∷ drop (at + 1) b.value.prefix) on.0
   high_found p on (e ∷ q) =
       let r = drop (at + 1) b.value.prefix in
-      right_of (e == low at) (pointwise ◌==◌ q r) (e == high at) b.value.value (not_both e at)
+      right_of (e == low at) (is_same_path q r) (e == high at) b.value.value (not_both e at)
       ∙ told (e ∷ q) (high at ∷ r) on.0
 
   pub same_at_end : (p : _) → drop at b.value.prefix ≡ []

@@ -2,14 +2,13 @@
 -- by what is left of it below a node, and each node by its depth: how many digits stand above it.
 use Rattle.std.specs.Prelude.{ℕ, ◌≡◌, ◌+◌, ◌<◌, ◌≤◌, IsTrue, Bool, true, false, ◌==◌, ◌&&◌, ◌||◌, if◌then◌else◌}
 use Rattle.std.specs.Prelude.{List, [], ◌∷◌, ◌++◌, length, take, drop, Option, None, Some, is_some}
-use Rattle.std.specs.Cmp.Lexicographic.{pointwise}
 use Rattle.std.specs.FinMap.{FinMap, contains_key}
 use Rattle.ddt_trie.specs.declared.tree.Tree.{Tree}
 use Rattle.ddt_trie.specs.declared.tree.Tree.TheVariants.{Empty, Leaf, Fork'}
 use Rattle.ddt_trie.specs.declared.tree.Turn.{Turn}
 use Rattle.ddt_trie.specs.declared.tree.Turn.TheVariants.{End, Zero, One}
 use Rattle.ddt_trie.specs.PrefixMap.{path_cmp, IsKept}
-use Rattle.ddt_path.specs.Covers.{covers, overlaps}
+use Rattle.ddt_path.specs.Covers.{covers, overlaps, is_same_path}
 use Rattle.ddt_path.specs.Path.{is_prefix_path}
 use Rattle.ddt_trie.specs.Entries.{map_of}
 
@@ -24,7 +23,7 @@ high at = if at == 32 then 6 else 1
 -- the value of a path
 abbrev pub lookup : {V : Type 0} → ℕ → Tree V → List ℕ → Option V
 lookup at Empty q = None
-lookup at (Leaf b) q = if pointwise ◌==◌ q (drop at b.value.prefix) then Some b.value.value else None
+lookup at (Leaf b) q = if is_same_path q (drop at b.value.prefix) then Some b.value.value else None
 lookup at (Fork' p value zero one) [] = value
 lookup at (Fork' p value zero one) (d ∷ q) =
     if d == low at then lookup (at + 1) zero q else if d == high at then lookup (at + 1) one q else None
@@ -117,7 +116,7 @@ IsTurn at p One = GoesOn high at p
 
 -- the value of the path k is now o, and each other path has the value that it had
 pub record IsSet {V : Type 0} (at : ℕ) (old new : Tree V) (k : List ℕ) (o : Option V) : Type 0 where
-  pub found : (q : List ℕ) → lookup at new q ≡ (if pointwise ◌==◌ q k then o else lookup at old q)
+  pub found : (q : List ℕ) → lookup at new q ≡ (if is_same_path q k then o else lookup at old q)
 
 -- each path has the value that it had
 pub record HasSameEntries {V : Type 0} (old new : Tree V) : Type 0 where

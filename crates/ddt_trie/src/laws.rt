@@ -5,7 +5,8 @@ ghost use Rattle.std.specs.Prelude.{◌≡◌, ℕ, IsTrue, List, filter, Option
 ghost use Rattle.std.specs.List.{list_any};
 ghost use Rattle.std.specs.FinMap as map;
 ghost use Rattle.ddt_path.specs.Covers.{is_same_path, is_strictly_below};
-ghost use Rattle.ddt_path.specs.Free.{free, longest_match};
+ghost use Rattle.ddt_path.specs.Free.{free};
+ghost use Rattle.ddt_path.specs.Matching.{longest_match};
 ghost use Rattle.ddt_trie.specs.PrefixMap.{path_cmp, IsCovered, keys_below, IsLongest};
 
 /// What is free among the keys of a map is what is free among any list with the same members.

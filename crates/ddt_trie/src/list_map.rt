@@ -3,10 +3,9 @@
 ghost use Rattle.std.specs.Prelude.{◌≡◌, ◌==◌, IsTrue, not};
 ghost use Rattle.std.specs.List.{position, list_all};
 ghost use Rattle.std.specs.Fn.{FnReturnsAt};
-ghost use Rattle.std.specs.Cmp.Lexicographic.{pointwise};
 ghost use Rattle.ddt_path.specs.Path.{xeid_path};
-ghost use Rattle.ddt_path.specs.Covers.{covers, overlaps, is_strictly_below};
-ghost use Rattle.ddt_trie.specs.Entries.{are_distinct, map_of, none_covers, none_covers_below, none_overlaps_below};
+ghost use Rattle.ddt_path.specs.Covers.{covers, overlaps, is_strictly_below, is_same_path};
+ghost use Rattle.ddt_trie.specs.Entries.{have_own_keys, map_of, none_covers, none_covers_below, none_overlaps_below};
 
 use crate::prefix_map::PrefixMap;
 use ddt_path::{Prefix, Xeid, longest_match};
@@ -17,12 +16,12 @@ use std::mem;
 #[derive(Drop)]
 pub struct ListMap<V> {
     entries: Vec<(Prefix, V)>,
-    ghost distinct: { IsTrue (are_distinct entries.items) },
+    ghost distinct: { IsTrue (have_own_keys entries.items) },
 }
 
 /// The place of a prefix among the entries.
 fn place_of<V>(entries: &[(Prefix, V)], prefix: Prefix) -> Option<usize>
-    ensures { result ≡ position (λ e. pointwise ◌==◌ e.0 prefix) entries.now }
+    ensures { result ≡ position (λ e. is_same_path e.0 prefix) entries.now }
 {
     entries.iter().position(|entry| entry.0 == prefix)
 }

@@ -13,9 +13,8 @@ ghost use Rattle.ddt_check.specs.Order.{AreZonesInOrder, AreSitesInOrder};
 ghost use Rattle.ddt_check.specs.Sorted.{IsKept, IsLeastOfSites};
 
 use crate::fault::Rule;
-use crate::lookup::is_ms;
 use crate::rules::lower;
-use ddt_path::MOST_LOCATORS;
+use ddt_path::{MOST_LOCATORS, Role};
 use ddt_register::{Register, Site, Zone, first_row};
 
 fn has_too_many_etrs(s: &Site) -> bool
@@ -69,7 +68,7 @@ pub fn duplicate(sites: &[Site]) -> Option<u32>
 fn is_right(z: &Zone, s: &Site) -> bool
     ensures { result ≡ (is_ms_of z.now.kind && covers z.now.prefix s.now.prefix) }
 {
-    is_ms(z.kind) && z.prefix.covers(s.prefix)
+    z.kind == Role::Ms && z.prefix.covers(s.prefix)
 }
 
 /// Whether the longest zone of a site isn't of Map-Servers. Where each prefix has one zone, and none is below one of

@@ -16,9 +16,9 @@ ghost use Rattle.ddt_check.specs.Zones.{is_ms as is_ms_zone};
 ghost use Rattle.ddt_check.specs.Sorted.{IsLeastOfZones, IsLeastOfBoth};
 
 use crate::fault::Rule;
-use crate::lookup::is_ms;
 use crate::rules::groups::group_named;
 use crate::rules::lower;
+use ddt_path::Role;
 use ddt_register::{Group, Register, Zone, first_row};
 
 fn is_root(z: &Zone) -> bool
@@ -44,7 +44,7 @@ fn is_after_root(register: &Register, z: &Zone) -> bool
 fn is_wrong_root(register: &Register, z: &Zone) -> bool
     ensures { result ≡ is_wrong_root_of register.now z.now }
 {
-    is_root(z) && (is_ms(z.kind) || is_after_root(register, z))
+    is_root(z) && (z.kind == Role::Ms || is_after_root(register, z))
 }
 
 /// The least row of a root of Map-Servers, or of a root after the first. At most two roots are looked at.
@@ -115,7 +115,7 @@ fn is_top(top: Option<&Zone>, z: &Zone) -> bool
     ensures { result ≡ (is_ms_zone z.now.kind && not (option_map_or (λ q. covers q z.now.prefix)
         (option_map (λ y. y.prefix) (option_copied top.entry)) false)) }
 {
-    is_ms(z.kind) && !is_within(top, z)
+    z.kind == Role::Ms && !is_within(top, z)
 }
 
 /// The least row of a zone strictly below a zone of Map-Servers. What a zone holds follows it in this order, so it is

@@ -1,6 +1,6 @@
 use Rattle.std.proofs.Common.{◌∙◌, ap, rules, Bool, List}
 use Rattle.std.specs.List.{filter}
-use Rattle.ddt_path.specs.Free.{longest_match}
+use Rattle.ddt_path.specs.Matching.{longest_match}
 use Rattle.ddt_path.specs.Locators.{lists}
 use Rattle.ddt_register.specs.declared.zone.Zone.{Zone}
 use Rattle.ddt_check.specs.Zones.{locators_of}

@@ -11,11 +11,11 @@ use Rattle.ddt_node.proofs.answering.child_decision.Goals as goal
 
 pub at-set-requires-clause-inside : goal.at-set-requires-clause-inside
 at-set-requires-clause-inside g c =
-    (longest_place (λ (d : Child). d.prefix) (xeid_path c.args.x) c.args.children.now _ _ _ c.requires.places c.in-Some.ensures.longest).0
+    (longest_place (λ (d : Child). d.prefix) (xeid_path c.args.x) c.args.children.now _ c.requires.places _ _ c.in-Some.ensures.longest).0
 
 pub returns-in-Some-clause-record : goal.returns-in-Some-clause-record
 returns-in-Some-clause-record g c servers =
-    let found = longest_item (λ (d : Child). d.prefix) (xeid_path c.args.x) c.args.children.now _ _ _ c.requires.places c.in-Some.ensures.longest in
+    let found = longest_item (λ (d : Child). d.prefix) (xeid_path c.args.x) c.args.children.now _ c.requires.places _ _ c.in-Some.ensures.longest in
     let child = found.0 in
     let set = c.at-set.ensures child found.1 in
     let record_is =

@@ -1,9 +1,11 @@
 use Rattle.std.proofs.Common.{◌∙◌, refl}
+use Rattle.ddt_path.specs.declared.matching.Preference.TheVariants.{Longest}
 use Rattle.ddt_path.specs.Path.{xeid_path}
+use Rattle.ddt_path.proofs.MatchingLemmas.{best_member}
 use Rattle.ddt_config.specs.declared.site_entry.SiteEntry.{SiteEntry}
 use Rattle.ddt_node.specs.Decisions.{etr_by}
 use Rattle.ddt_node.proofs.AnswerLemmas.{site_answer, site_etr}
-use Rattle.ddt_node.proofs.PlaceLemmas.{found_at, found_covers}
+use Rattle.ddt_node.proofs.PlaceLemmas.{found_at}
 use Rattle.ddt_node.proofs.answering.decision_in.Goals as goal
 
 pub site_decision-requires : goal.site_decision-requires
@@ -14,7 +16,7 @@ site_decision-requires g c =
     let inside = rw c.as_slice-in-Sites.ensures at c.in-Some-longest.ensures.inside in
     let found = rw c.as_slice-in-Sites.ensures at c.in-Some-longest.ensures.found in
     let read = rw c.as_slice-in-Some-longest.ensures at c.index-as_slice-at.is in
-    found_covers path x sites _ (found_at path sites x c.in-Some-longest.at _ found inside read)
+    (best_member Longest path x sites _ (found_at path sites x c.in-Some-longest.at _ found inside read)).1
 
 pub returns-in-Some-longest-clause-record : goal.returns-in-Some-longest-clause-record
 returns-in-Some-longest-clause-record g c servers =

@@ -1,6 +1,10 @@
 use Rattle.std.proofs.Common.{sym, ◌∙◌}
-use Rattle.ddt_trie.proofs.FormLemmas.{overlaps_xeid}
+use Rattle.ddt_path.specs.Path.{xeid_path}
+use Rattle.ddt_path.proofs.EndLemmas.{overlaps_whole}
+use Rattle.ddt_path.proofs.PathTestLemmas.{is_path-xeid_path}
 use Rattle.ddt_trie.proofs.list_map.covers_alone.Goals as goal
 
 pub returns-clause-overlaps : goal.returns-clause-overlaps
-returns-clause-overlaps c = c.covers_xeid.ensures ∙ sym (overlaps_xeid c.form-form.result c.args.prefix c.args.x c.form-form.ensures.path)
+returns-clause-overlaps c =
+    let x = c.args.x in
+    c.covers_xeid.ensures ∙ sym (overlaps_whole (xeid_path x) c.args.prefix (is_path-xeid_path x) c.form-form.ensures.passes)

@@ -1,12 +1,14 @@
 use Rattle.std.proofs.Common.{ap, sym, ◌∙◌}
+use Rattle.ddt_path.specs.declared.matching.Preference.TheVariants.{Longest}
 use Rattle.ddt_path.specs.Path.{xeid_path}
+use Rattle.ddt_path.proofs.MatchingLemmas.{best_member}
 use Rattle.ddt_config.specs.declared.authority.Authority.{Authority}
 use Rattle.ddt_config.specs.Table.{Outline, outline}
 use Rattle.ddt_node.specs.Decisions.{etr_by, record_by}
 use Rattle.ddt_node.specs.Places.{places_in}
 use Rattle.ddt_node.specs.ReferralSets.{kept_sets, sets_of}
 use Rattle.ddt_node.proofs.AnswerLemmas.{answer_from, etr_from}
-use Rattle.ddt_node.proofs.PlaceLemmas.{same_at, found_at, found_covers}
+use Rattle.ddt_node.proofs.PlaceLemmas.{same_at, found_at}
 use Rattle.ddt_node.proofs.server.Server.decision.Goals as goal
 
 pub decision_in-requires-clause-places : goal.decision_in-requires-clause-places
@@ -26,7 +28,7 @@ decision_in-requires-clause-inside g c =
     let items = c.as_slice-authorities.result.now in
     let x = xeid_path c.args.x in
     let path = λ (a : Authority). a.prefix in
-    found_covers path x items _ (found_at path items x c.in-Some.at _ c.in-Some.ensures.found c.in-Some.ensures.inside c.index-authorities-at.is)
+    (best_member Longest path x items _ (found_at path items x c.in-Some.at _ c.in-Some.ensures.found c.in-Some.ensures.inside c.index-authorities-at.is)).1
 
 pub returns-in-Some-clause-record : goal.returns-in-Some-clause-record
 returns-in-Some-clause-record g c =

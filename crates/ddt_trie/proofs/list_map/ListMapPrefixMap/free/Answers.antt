@@ -5,7 +5,7 @@ use Rattle.ddt_path.specs.Free.{overlaps_none}
 use Rattle.ddt_trie.specs.PrefixMap.{IsCovered}
 use Rattle.ddt_trie.specs.Entries.{map_of}
 use Rattle.ddt_path.proofs.CoverLemmas.{length-covered}
-use Rattle.ddt_trie.proofs.PassLemmas.{uncovered_by}
+use Rattle.ddt_trie.proofs.PassLemmas.{uncovered}
 use Rattle.ddt_trie.proofs.KeyLemmas.{tested, some_covers, no_free_part, free_start, free_here, free_later, free_last, host_part, none_alone, none_where}
 use Rattle.ddt_trie.proofs.list_map.ListMapPrefixMap.free.Goals as goal
 
@@ -64,4 +64,4 @@ pub returns-clause-covered : goal.returns-clause-covered
 returns-clause-covered g c =
     let es = c.args.self.now.entries.items in
     let x = xeid_path c.args.x in
-    none_where c.then_some.result c.covers_none.result c.host.result (IsCovered (map_of es) x) c.then_some.ensures (uncovered_by c.deref-2.result.now es x c.covers_none.result c.deref-2.ensures.value c.covers_none.ensures.covers)
+    none_where c.then_some.result c.covers_none.result c.host.result (IsCovered (map_of es) x) c.then_some.ensures (uncovered c.deref-2.result.now es x c.covers_none.result c.deref-2.ensures.value c.covers_none.ensures.covers)

@@ -1,6 +1,6 @@
 use Rattle.std.proofs.Common.{sym, ap, ◌∙◌, drop, take}
-use Rattle.std.specs.Prelude.{not, ◌==◌}
-use Rattle.std.specs.Cmp.Lexicographic.{pointwise}
+use Rattle.std.specs.Prelude.{not}
+use Rattle.ddt_path.specs.Covers.{is_same_path}
 use Rattle.ddt_trie.specs.declared.tree.Tree.{Tree}
 use Rattle.ddt_trie.specs.declared.tree.Entry.{Entry}
 use Rattle.ddt_trie.specs.Tree.{lookup, is_leaf, is_rooted}
@@ -16,5 +16,5 @@ returns-in-Leaf-clause-leaf g c =
       ap (λ (t : Tree _). lookup c.args.at t y) c.in-Leaf.is
           ∙ leaf_other c.args.at c.args.prefix c.in-Leaf.leaf.value.prefix c.in-Leaf.leaf.value.value c.requires.within rooted
           c.ne.result
-          (c.ne.ensures ∙ ap (λ (e : Entry _). not (pointwise ◌==◌ e.prefix c.args.prefix)) c.deref.ensures) told,
+          (c.ne.ensures ∙ ap (λ (e : Entry _). not (is_same_path e.prefix c.args.prefix)) c.deref.ensures) told,
     )

@@ -1,10 +1,11 @@
 use Rattle.std.proofs.Common.{◌≡◌, ◌+◌, Some, sym, ap, ◌∙◌, subst, arith, length}
 use Rattle.std.specs.Prelude.{max, IfNone, Option, List, ℕ}
 use Rattle.ddt_path.specs.Path.{xeid_path}
-use Rattle.ddt_path.proofs.CoverLemmas.{length-covered}
+use Rattle.ddt_path.proofs.CoverLemmas.{length-covered, fronts_overlap}
+use Rattle.ddt_path.proofs.FrontLemmas.{below_parts, longer_below}
 use Rattle.ddt_trie.specs.PrefixMap.{IsCoveredBelow, keys_below}
 use Rattle.ddt_trie.specs.Tree.{content_of, IsGapBelow, IsMet}
-use Rattle.ddt_trie.proofs.GapLemmas.{counts_below, strictly_longer, longer_strictly, fronts_overlap, met_covers, covered_none, gap_not_covered, gap_free, gap_within}
+use Rattle.ddt_trie.proofs.GapLemmas.{counts_below, met_covers, covered_none, gap_not_covered, gap_free, gap_within}
 use Rattle.ddt_trie.proofs.trie_map.TrieMapPrefixMap.free_below.Goals as goal
 
 pub gap-requires-clause-near : goal.gap-requires-clause-near
@@ -31,7 +32,7 @@ returns-in_err-len-clause-none g c =
     let met = subst
     (λ y. IsMet 0 c.args.self.now.root y (c.len.result + 1)) c.host.ensures.whole c.in_err-len.ensures.none in
     let key = met_covers c.args.self.now.root c.args.x (c.len.result + 1) c.args.self.now.paths met in
-    let below = longer_strictly key.0 c.args.from (fronts_overlap key.0 c.args.from x key.3 c.requires)
+    let below = longer_below key.0 c.args.from (fronts_overlap key.0 c.args.from x key.3 c.requires)
     (omega (arith, c.len.ensures.digits, key.2)) in
     subst (λ (r : Option (List ℕ)). IfNone r (IsCoveredBelow m c.args.from x)) (sym c.from_residual.ensures)
     (key.0, key.1, below, key.3)
@@ -71,6 +72,6 @@ returns-clause-covered g c = λ covered.
     let gap = subst
     (λ y. IsGapBelow 0 c.args.self.now.root y (c.len.result + 1) c.in_ok-len.len) c.host.ensures.whole
     c.in_ok-len.ensures.found in
-    let long = strictly_longer covered.0 c.args.from covered.2 in
+    let long = (below_parts covered.0 c.args.from covered.2).1 in
     absurd (gap_not_covered c.args.self.now.root x (c.len.result + 1) c.in_ok-len.len gap covered.0 covered.1
     (omega (arith, c.len.ensures.digits)) covered.3)

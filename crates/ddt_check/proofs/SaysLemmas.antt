@@ -12,7 +12,7 @@ use Rattle.ddt_path.specs.declared.record.Outcome.TheVariants.{Registered, NotRe
 use Rattle.ddt_path.specs.declared.record.ReferralRecord.{ReferralRecord}
 use Rattle.ddt_path.specs.Records.{record_of, referral_action, not_authoritative}
 use Rattle.ddt_path.specs.Covers.{covers}
-use Rattle.ddt_path.specs.Free.{longest_match, hole_of, free, overlaps_none}
+use Rattle.ddt_path.specs.Free.{hole_of}
 use Rattle.ddt_path.specs.Matching.{longest_match}
 use Rattle.ddt_path.specs.Locators.{lists}
 use Rattle.ddt_path.proofs.CoverLemmas.{covers_self}

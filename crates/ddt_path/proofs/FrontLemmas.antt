@@ -1,11 +1,11 @@
 -- Two fronts of one path, and what is strictly below another.
 use Rattle.std.proofs.Common.{◌≡◌, ℕ, ◌<◌, ◌≤◌, Bool, true, false, not, List, [], ◌∷◌, length, take, refl, sym, ap, ◌∙◌, arith, inl, inr}
 use Rattle.std.specs.Prelude.{◌==◌, ◌&&◌, ◌||◌, nat_le}
-use Rattle.std.proofs.lemmas.Bool.{and_parts, and_from, or_cases, or_left, or_right, false≢true, true≢false, eqb-true, eq-eqb, false_from_ne_true, cases_lt, le-leb, leb-true, not-true, not_from_false}
-use Rattle.std.proofs.lemmas.List.{take_all, length-take}
+use Rattle.std.proofs.lemmas.Bool.{and_parts, and_from, or_cases, or_left, or_right, false≢true, true≢false, eqb-true, eq-eqb, false_from_ne_true, cases_lt, le-leb, leb-true}
+use Rattle.std.proofs.lemmas.List.{length-take}
 use Rattle.ddt_path.specs.Covers.{covers, overlaps, is_same_path, is_strictly_below, shared_len}
 use Rattle.ddt_path.proofs.CoverLemmas.{covers_self, covers_trans, front_covered, take-covered, length-covered, covered_same, below_from, below_is}
-use Rattle.ddt_path.proofs.ShareLemmas.{covers_both, covers-take, shared_len-le, shared_len_le_second, covers-front}
+use Rattle.ddt_path.proofs.ShareLemmas.{covers_both, shared_len-le, shared_len_le_second, covers-front}
 
 -- of two fronts the longer begins with the shorter
 pub front_covers : (p q x : List ℕ) → covers p x ≡ true → covers q x ≡ true → length p ≤ length q → covers p q ≡ true

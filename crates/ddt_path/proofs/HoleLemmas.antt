@@ -8,7 +8,7 @@ use Rattle.std.proofs.lemmas.List.{append_assoc, take-append-drop, length-take, 
 use Rattle.ddt_path.specs.Path.{is_path, is_prefix_path}
 use Rattle.ddt_path.specs.Covers.{covers, overlaps, is_same_path}
 use Rattle.ddt_path.specs.Free.{lengthened, parts_from, overlaps_none, free, is_free, hole_of}
-use Rattle.ddt_path.proofs.CoverLemmas.{covers_self, covers_trans, covers-append, take-covered, length-covered, overlaps-take, next_digit, same_path, fronts_overlap}
+use Rattle.ddt_path.proofs.CoverLemmas.{covers_self, covers_trans, covers-append, take-covered, length-covered, next_digit, same_path, fronts_overlap}
 use Rattle.ddt_path.proofs.MemberLemmas.{IsIn, holds_at, list_all-map, list_any-map, any_in, in_any, some_passes}
 use Rattle.ddt_path.proofs.FilterLemmas.{in_filter, filter_in, all_kept}
 use Rattle.ddt_path.proofs.EndLemmas.{one_identifier, overlaps_whole}

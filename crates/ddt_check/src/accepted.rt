@@ -69,7 +69,8 @@ impl Accepted {
 
     /// The group of a name; None where no row has it.
     pub fn group_named(&self, name: Name) -> Option<&Group>
-        ensures { option_copied result ≡ group_of_name self.now name }
+        ensures group { option_copied result ≡ group_of_name self.now name }
+        ensures accepted { IsAccepted self.now }
     {
         lookup::group_named(&self.register, name)
     }

@@ -1,13 +1,12 @@
 //! One configuration for each group of an accepted register.
 
-ghost use Rattle.std.specs.Prelude.{◌≡◌, ℕ, List, true, false, map, find, IfOk, IfSome};
-ghost use Rattle.std.specs.Option.{option_map, option_copied};
+ghost use Rattle.std.specs.Prelude.{◌≡◌, ℕ, List, true, false, map, IfOk, IfSome};
+ghost use Rattle.std.specs.Option.{option_map};
 ghost use Rattle.std.specs.List.{All, Contains};
 ghost use Rattle.std.specs.Ordering.{nat_cmp, eq_by_cmp};
 ghost use Rattle.std.specs.Cmp.Lexicographic.{slice_cmp};
 ghost use Rattle.ddt_path.specs.declared.record.Role.TheVariants.{Node, Ms};
 ghost use Rattle.ddt_register.specs.declared.group.Group.{Group as AGroup};
-ghost use Rattle.ddt_path.specs.Names.{is_same_name};
 ghost use Rattle.ddt_config.specs.declared.authority.Content.TheVariants.{Children, Sites};
 ghost use Rattle.ddt_config.specs.Shaped.{is_shaped};
 ghost use Rattle.ddt_config.specs.Table.{outline};
@@ -60,19 +59,13 @@ pub fn compile_group(
     ensures honest { IfOk result (λ found. IfSome found (λ c. IsHonestConfig accepted.now (outline c))) }
     ensures room { IfOk result (λ found. IfSome found (λ c. HasRoom (outline c))) }
 {
-    match find_group(accepted.register().groups.as_slice(), name) {
+    match accepted.group_named(name) {
         Some(group) => {
             let own = authorities_of_group(alloc, accepted, group)?;
             Ok(Some(group_config(group, own)))
         }
         None => Ok(None),
     }
-}
-
-fn find_group(groups: &[Group], name: Name) -> Option<&Group>
-    ensures { option_copied result ≡ find (λ g. is_same_name g.name name) groups.now }
-{
-    groups.iter().find(|g| g.name == name)
 }
 
 fn group_config(group: &Group, authorities: Listed<Authority>) -> ServerConfig

@@ -75,8 +75,7 @@ module _ {A : Type 0} (prefix : A → List ℕ) where
           go (Some e) found =
               let same : entry e ≡ (p, v) = same_Some (entry e) (p, v) (sym (ap (option_map entry) found) ∙ told) in
               let k = at_place 0 items e (best_member Longest key x (enumerate_from 0 items) e found).0 in
-              let at : v ≡ k.0 = omega (arith, ap (λ (q : List ℕ × ℕ). q.1) same, k.1) in
-              (
+              let at : v ≡ k.0 = omega (arith, ap (λ (q : List ℕ × ℕ). q.1) same, k.1) in (
                 e.1,
                 ap (slice_get items) at ∙ k.2,
                 match_of_items ∙ ap (option_map (λ (f : ℕ × A). f.1)) found,

@@ -9,6 +9,7 @@ use Rattle.std.proofs.lemmas.Fmt.{IsAscii-decimal}
 use Rattle.std.proofs.lemmas.Bool.{and_parts}
 use Rattle.std.proofs.lemmas.Bool.Decides.{nat_tests}
 use Rattle.std.proofs.lemmas.List.Sums.{AllPass-from_list_all}
+use Rattle.ddt_path.proofs.PrefixLemmas.{width_most}
 use Rattle.ddt_path.specs.declared.locator.Locator.{Locator}
 use Rattle.ddt_path.specs.declared.locator.Locator.TheVariants.{V4, V6}
 use Rattle.ddt_path.specs.declared.form.Form.{Form}
@@ -59,10 +60,6 @@ number n h = record { bytes = IsAscii-decimal n h }
 either : (b : Bool) (xs ys : List ℕ) → IsInAscii xs → IsInAscii ys → IsInAscii (if b then xs else ys)
 either true xs ys h k = h
 either false xs ys h k = k
-
-width_most : (a : Locator) → address_width a ≤ 128
-width_most (V4 a) = omega arith
-width_most (V6 a) = omega arith
 
 ascii_form : (form : Form) → IsForm form → IsInAscii (written_form form)
 ascii_form (Range iid len) h =

@@ -77,10 +77,6 @@ module _ (before now : List Outline) (stay : (r : Register) → AreCompiled befo
 
 -- ---- a poll
 
-pub above_zero : (n : ℕ) → (n ≡ 0 → ⊥) → 0 < n
-above_zero zero not_zero = absurd (not_zero refl)
-above_zero (suc n) not_zero = omega arith
-
 pub at_me : (servers : List Outline) (me : Locator) (sockets : List Locator) (now place : ℕ) (w : Running) (calls : List Call) (new : Running)
     → place ≡ 0 → PollsMe me now w calls new → Polls servers me sockets now place w calls new
 at_me servers me sockets now zero w calls new is polls = polls

@@ -9,6 +9,7 @@ use Rattle.std.specs.FinMap.Entries.{is_some-find}
 use Rattle.std.proofs.Math.Seq.{drop-cons, drop-length}
 use Rattle.std.proofs.lemmas.List.{length-map}
 use Rattle.std.proofs.lemmas.Option.{none-some, same_Some, slice_get-map, slice_get_read, slice_get_within}
+use Rattle.ddt_path.proofs.MapSizeLemmas.{len_inserted}
 use Rattle.ddt_path.specs.declared.matching.Preference.TheVariants.{Longest}
 use Rattle.ddt_path.specs.Covers.{is_same_path}
 use Rattle.ddt_path.specs.Free.{free}
@@ -131,12 +132,8 @@ len_numbered : (n : ℕ) (ps : List (List ℕ)) → len (from_entries {R = path_
 len_numbered n [] = omega (arith, len-empty path_cmp ℕ)
 len_numbered n (p ∷ ps) =
     let m = from_entries {R = path_cmp} (numbered (n + 1) ps) in
-    let k : len (insert m p n) ≡ cond (contains_key m p) (len m) (len m + 1) = len-insert nat_list_cmp_total m p n in
-    omega (arith, k, at_most (contains_key m p) (len m), len_numbered (n + 1) ps)
-  where
-    at_most : (b : Bool) (l : ℕ) → cond b l (l + 1) ≤ l + 1
-    at_most true l = omega arith
-    at_most false l = omega arith
+    let k : len (insert m p n) ≤ len m + 1 = len_inserted nat_list_cmp_total m p n in
+    omega (arith, k, len_numbered (n + 1) ps)
 
 pub len-places_from : {A : Type 0} (prefix : A → List ℕ) (items : List A) (n : ℕ) → len (places_from prefix items n) ≤ length items
 len-places_from prefix items n =

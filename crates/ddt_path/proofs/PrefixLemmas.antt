@@ -5,6 +5,7 @@ use Rattle.std.specs.Int.Digits.{number_from_digits}
 use Rattle.std.proofs.lemmas.Bool.{le-leb, lt-leb, le-ltb, lt-ltb, cond-true, cond-false, false_from_ne_true, cases_eq, eq-eqb, ne_eqb}
 use Rattle.std.proofs.lemmas.List.{take-append-drop, length-append, length-take, length-drop, take_at, drop_at, take-take, take-append-le}
 use Rattle.ddt_path.specs.declared.locator.Locator.{Locator}
+use Rattle.ddt_path.specs.declared.locator.Locator.TheVariants.{V4, V6}
 use Rattle.ddt_path.specs.declared.xeid.Xeid.{Xeid}
 use Rattle.ddt_path.specs.declared.form.Form.{Form}
 use Rattle.ddt_path.specs.declared.form.Form.TheVariants.{Range, Block}
@@ -190,3 +191,8 @@ covers_shorter p q x y ep lp eq le = covers_of_fronts p q x y ep lp eq ∙ rw (l
 
 pub covers_longer : (p q : List ℕ) → length q < length p → covers p q ≡ false
 covers_longer p q lt = covers_by_shared p q ∙ lt-leb (length p) (shared_len p q) (omega (arith, shared_len_le_second p q))
+
+-- an address has at most 128 digits
+pub width_most : (a : Locator) → address_width a ≤ 128
+width_most (V4 n) = omega arith
+width_most (V6 n) = omega arith

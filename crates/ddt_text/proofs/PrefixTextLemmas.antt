@@ -4,6 +4,7 @@ use Rattle.std.specs.Prelude.{◌==◌}
 use Rattle.std.proofs.lemmas.Bool.{cases_eq, cases_lt}
 use Rattle.std.proofs.lemmas.List.{take_all}
 use Rattle.std.proofs.Math.Nat.{zero-div}
+use Rattle.ddt_path.proofs.PrefixLemmas.{width_most}
 use Rattle.ddt_path.specs.declared.locator.Locator.{Locator}
 use Rattle.ddt_path.specs.declared.locator.Locator.TheVariants.{V4, V6}
 use Rattle.ddt_path.specs.declared.form.Form.{Form}
@@ -129,10 +130,6 @@ form_fits form path e =
       | inl long ↦ let k = rw (lt-ltb (form_width form) (form_len form) long) at e in let no : ⊥ = cc in absurd no
       | inr fits ↦ fits
     ]
-
-width_most : (address : Locator) → address_width address ≤ 128
-width_most (V4 a) = omega arith
-width_most (V6 a) = omega arith
 
 -- what is spelled is read
 range_complete : (text path : List ℕ) → SpellsRange text path → prefix_in text ≡ Ok path

@@ -1,7 +1,7 @@
 use Rattle.std.proofs.Common.{◌-◌, ◌<◌, length, get_or, arith}
 use Rattle.ddt_path.specs.declared.locator.Locator.TheVariants.{V4}
 use Rattle.ddt_loop.specs.Acts.{running}
-use Rattle.ddt_loop.proofs.LoopLemmas.{above_zero, at_me, at_server, got_at}
+use Rattle.ddt_loop.proofs.LoopLemmas.{at_me, at_server, got_at}
 use Rattle.ddt_loop.proofs.looping.poll.Goals as goal
 
 pub returns-then-place-eq0-clause-polls : goal.returns-then-place-eq0-clause-polls
@@ -17,7 +17,7 @@ returns-then-place-eq0-clause-polls g c =
 pub returns-else-place-eq0-clause-polls : goal.returns-else-place-eq0-clause-polls
 returns-else-place-eq0-clause-polls g c =
     let w = c.poll_server.ensures.polls in
-    let above : 0 < c.args.place = above_zero c.args.place c.if-place-eq0.false in
+    let above : 0 < c.args.place = omega (arith, c.if-place-eq0.false) in
     let within : c.args.place - 1 < length c.args.sockets.now = omega (arith, above, c.requires.place) in (
       w.0,
       w.1,

@@ -13,6 +13,8 @@ use Rattle.ddt_ecm.specs.declared.fault.RequestFault.{RequestFault}
 use Rattle.ddt_ecm.specs.Request as request
 use Rattle.ddt_lines.specs.Lines.{ended, referral_text, reply_text, request_text}
 use Rattle.ddt_words.specs.Call.{Call, value}
+use Rattle.ddt_commands.specs.declared.commands.show.MessageKind.{MessageKind}
+use Rattle.ddt_commands.specs.declared.commands.show.MessageKind.TheVariants.{Reply, Referral, Request}
 use Rattle.ddt_commands.specs.declared.refusal.Refusal.{Refusal}
 use Rattle.ddt_commands.specs.declared.refusal.Refusal.TheVariants.{NoMessage, OutOfMemory}
 use Rattle.ddt_commands.specs.declared.refusal.message.MessageRefusal.TheVariants.{NotHex, UnknownMessage, NoReply, NoReferral, NoRequest}
@@ -35,6 +37,16 @@ IsShowText call text = (bytes : List ℕ) × (decode_of (hex_of call) ≡ Ok byt
 -- the type of a message, in its first four bits (RFC 8111, section 6.4; RFC 9301, sections 5.4 and 5.8)
 abbrev pub type_of : List ℕ → Option ℕ
 type_of bytes = option_map (λ byte. byte / 16) (slice_get bytes 0)
+
+-- the type of each kind of message that is shown
+abbrev pub type_number : MessageKind → ℕ
+type_number Reply = map_reply
+type_number Referral = map_referral
+type_number Request = encapsulated
+
+-- the type of no message that is shown: another one, or none
+abbrev pub IsUnknownType : Option ℕ → Type 0
+IsUnknownType found = (found ≢ Some map_reply) × (found ≢ Some map_referral) × (found ≢ Some encapsulated)
 
 -- the first fault of bytes that are no negative Map-Reply, or that memory ran out for the line of one
 abbrev pub IsWhyNoReply : List ℕ → Refusal → Type 0
@@ -61,8 +73,7 @@ IsWhyNoMessage bytes why =
     ((type_of bytes ≡ Some map_reply) × IsWhyNoReply bytes why)
     ⊎ ((type_of bytes ≡ Some map_referral) × IsWhyNoReferral bytes why)
     ⊎ ((type_of bytes ≡ Some encapsulated) × IsWhyNoRequest bytes why)
-    ⊎ ((type_of bytes ≢ Some map_reply) × (type_of bytes ≢ Some map_referral) × (type_of bytes ≢ Some encapsulated)
-    × (why ≡ NoMessage UnknownMessage))
+    ⊎ (IsUnknownType (type_of bytes) × (why ≡ NoMessage UnknownMessage))
 
 -- what is refused where decoding a word ends in this fault
 abbrev pub hex_refusal : FromHexError → Refusal

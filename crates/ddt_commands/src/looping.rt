@@ -1,9 +1,13 @@
 //! The servers of a register and one resolver, over sockets of the loopback.
 
-ghost use Rattle.std.specs.Prelude.{◌≡◌, IfErr, IfOk};
+ghost use Rattle.std.specs.Prelude.{◌≡◌, None, Some, IfErr, IfOk, OnOk};
+ghost use Rattle.ddt_path.specs.declared.locator.Locator.{Locator as ALocator};
 ghost use Rattle.ddt_words.specs.Call.{Call};
 ghost use Rattle.ddt_commands.specs.Loop.{AreUntouched, AsksFor, IsEndsText, IsWhyNoRun, LoopsOver, server_locators};
+ghost use Rattle.ddt_commands.specs.Loopback.{first_outside as first_outside_of};
 ghost use Rattle.ddt_commands.specs.Sockets.{Binds};
+ghost use Rattle.ddt_commands.specs.declared.refusal.Refusal.TheVariants.{NoServer as IsNoServer};
+ghost use Rattle.ddt_commands.specs.declared.refusal.server.ServerRefusal.TheVariants.{NotLoopback as IsNotLoopback};
 
 use crate::end_lines::{are_outcomes, end_lines};
 use crate::lines::Lines;
@@ -60,9 +64,7 @@ where
 {
     a_step_keeps_a_resolver_sound();
     let sockets = locators_of_servers(alloc, register)?;
-    if let Some(at) = first_outside(&sockets) {
-        return Err(Refusal::NoServer(ServerRefusal::NotLoopback(at)));
-    }
+    are_on_loopback(&sockets)?;
     let mut servers: Servers = Compiled::build(alloc, register)?;
     let mut resolver: Client = Resolver::new(alloc, register.roots(), task.me, task.seed);
     bind_all(wires, bind, task.me, &sockets)?;
@@ -81,6 +83,18 @@ where
         text: end_lines(alloc, task.ids, &ends)?,
         complete: are_outcomes(&ends),
     })
+}
+
+/// Refused as NotLoopback where an address isn't a loopback address: the first such one is named.
+fn are_on_loopback(addresses: &[Locator]) -> Result<(), Refusal<'static>>
+    ensures inside { OnOk result (first_outside_of addresses.now ≡ None) }
+    ensures outside { IfErr result (λ why. (at : ALocator) × (why ≡ IsNoServer (IsNotLoopback at))
+        × (first_outside_of addresses.now ≡ Some at)) }
+{
+    match first_outside(addresses) {
+        Some(at) => Err(Refusal::NoServer(ServerRefusal::NotLoopback(at))),
+        None => Ok(()),
+    }
 }
 
 /// The locators of all servers, in the order of the groups' rows. Fails only if out of memory.

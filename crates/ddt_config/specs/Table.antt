@@ -67,6 +67,9 @@ text_of k d = of_kind k (as_str d)
 abbrev pub array_of : Key → Data → Result (List Data) ConfigFault
 array_of k d = of_kind k (option_map listed (as_array d))
 
+abbrev pub table_of : Key → Data → Result Members ConfigFault
+table_of k d = of_kind k (as_table d)
+
 -- the text at a key
 abbrev pub text_at : Key → Members → Result (List ℕ) ConfigFault
 text_at k ms = of_kind k (get_member (key_text k) ms) >>= text_of k
@@ -99,7 +102,7 @@ tables_at k ms = array_or_none k (get_member (key_text k) ms) >>= all_of k is_ta
 
 -- what stands in the table that a value is, and in each table at a key
 abbrev pub entry_of : {A : Type 0} → Key → (Members → Result A ConfigFault) → Data → Result A ConfigFault
-entry_of k examine d = of_kind k (as_table d) >>= examine
+entry_of k examine d = table_of k d >>= examine
 
 abbrev pub entries_in : {A : Type 0} → Key → (Members → Result A ConfigFault) → Members → Result (List A) ConfigFault
 entries_in k examine ms = tables_at k ms >>= each (entry_of k examine)

@@ -7,7 +7,7 @@ ghost use Rattle.ddt_config.specs.Table.{each, entry_of, entries_in};
 ghost use Rattle.ddt_config.specs.Reading.{Reads};
 
 use crate::fault::{ConfigFault, Key};
-use crate::members::tables_at;
+use crate::members::{table_in, tables_at};
 use ddt_path::{Listed, Role};
 use std::alloc::{AllocError, Global};
 use toml::{Table, Value};
@@ -75,7 +75,7 @@ fn read_entry<T: Entry>(
 ) -> Result<T, ConfigFault>
     ensures { Reads (entry_of key (T.entry_in role) (view value.now)) result }
 {
-    let table = value.as_table().ok_or(ConfigFault::Field(key))?;
+    let table = table_in(value, key)?;
     T::read(alloc, role, table)
 }
 

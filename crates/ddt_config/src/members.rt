@@ -6,7 +6,7 @@ ghost use Rattle.std.specs.Option.{option_map};
 ghost use Rattle.toml.specs.Data.{get_member};
 ghost use Rattle.toml.specs.View.{view, table_view};
 ghost use Rattle.ddt_reading.specs.Steps.{IsReadAs};
-ghost use Rattle.ddt_config.specs.Table.{key_text, each, text_of, array_of, text_at as text_at_of, array_at as array_at_of, array_or_none as array_or_none_of, texts_at as texts_at_of, tables_at as tables_at_of, is_text_value, is_table_value, locator_of, name_in as name_of, role_in as role_of_table, role_of as role_of_text, path_in, locators_in};
+ghost use Rattle.ddt_config.specs.Table.{key_text, each, text_of, array_of, table_of, text_at as text_at_of, array_at as array_at_of, array_or_none as array_or_none_of, texts_at as texts_at_of, tables_at as tables_at_of, is_text_value, is_table_value, locator_of, name_in as name_of, role_in as role_of_table, role_of as role_of_text, path_in, locators_in};
 ghost use Rattle.ddt_config.specs.Reading.{Reads};
 
 use crate::fault::{ConfigFault, Key};
@@ -25,6 +25,13 @@ fn text_in<'t>(value: &'t Value, key: Key) -> Result<&'t str, ConfigFault>
     ensures { IsReadAs (λ t. t.now) result (text_of key (view value.now)) }
 {
     value.as_str().ok_or(ConfigFault::Field(key))
+}
+
+/// The table that a value is. Refused as Field of the key where it is none.
+pub fn table_in<'t>(value: &'t Value, key: Key) -> Result<&'t Table, ConfigFault>
+    ensures { IsReadAs (λ t. table_view t.now) result (table_of key (view value.now)) }
+{
+    value.as_table().ok_or(ConfigFault::Field(key))
 }
 
 fn text_at<'t>(table: &'t Table, key: Key) -> Result<&'t str, ConfigFault>

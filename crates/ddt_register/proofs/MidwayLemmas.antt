@@ -1,5 +1,5 @@
 -- Between two rows: what was read spells the items so far, and what is left is left.
-use Rattle.std.proofs.Common.{◌≡◌, ◌≢◌, ℕ, ◌+◌, List, [], ◌∷◌, ◌++◌, length, Option, Some, None, true, false, Result, Ok, Err, append_assoc, refl, sym, ap, ◌∙◌, arith}
+use Rattle.std.proofs.Common.{◌≡◌, ◌≢◌, ℕ, ◌+◌, List, [], ◌∷◌, ◌++◌, length, Option, Some, None, Bool, true, false, Result, Ok, Err, append_assoc, refl, sym, ap, ◌∙◌, arith}
 use Rattle.std.proofs.lemmas.List.{length-append}
 use Rattle.std.specs.Prelude.{IfSome}
 use Rattle.csv.specs.Reading.{expected_len}
@@ -7,7 +7,7 @@ use Rattle.csv.specs.declared.reader.Reader.{Reader}
 use Rattle.ddt_register.specs.declared.row.Row.{Row}
 use Rattle.ddt_register.specs.declared.fault.ReadFault.{ReadFault}
 use Rattle.ddt_register.specs.declared.fault.ReadFault.TheVariants as Fault
-use Rattle.ddt_register.specs.Spelled.{Lists, no_items, row_in, rows_in, are_columns, spelled, UnlessMemory, Gives}
+use Rattle.ddt_register.specs.Spelled.{Lists, no_items, row_in, rows_in, columns_in, spelled, unless_too_many, UnlessMemory, Gives}
 use Rattle.ddt_register.specs.Left.{IsReading, IsLeft, Takes}
 use Rattle.ddt_register.specs.Kept.{with_last}
 use Rattle.ddt_register.proofs.SpelledLemmas.{rows_in-done, rows_in-last, rows_in-fault, row_in-length}
@@ -127,6 +127,16 @@ Gives-row Fault.Memory row meant h next = tt
 pub still_four : (old new : Option ℕ) → old ≡ Some 4 → IfSome old (λ len. new ≡ Some len) → new ≡ Some 4
 still_four old new e h = rw e at h
 
+-- ---- past the last row
+
+pub past_last : (past : Bool) (fault : ReadFault) → unless_too_many past ≡ Err fault → (past ≡ true) × (fault ≡ Fault.TooMany)
+past_last true fault e = (refl, cc e)
+past_last false fault e = cc e
+
+pub at_last : (past : Bool) → unless_too_many past ≡ Ok tt → past ≡ false
+at_last true e = cc e
+at_last false e = refl
+
 -- ---- the first record
 
 first_length : (left : List (List (List ℕ))) (expected : Option ℕ) (meant : Result Lists ReadFault) (fault : ReadFault) → expected ≡ None
@@ -147,16 +157,11 @@ first-refused remaining old new fields left Fault.TooMany e t = first_length lef
 first-refused remaining old new fields left Fault.Read e t = tt
 first-refused remaining old new fields left Fault.Memory e t = tt
 
-pub other_columns : (left rest : List (List (List ℕ))) (fields : List (List ℕ)) → left ≡ fields ∷ rest → are_columns fields ≡ false → spelled left ≡ Err Fault.Columns
-other_columns left rest fields e c = ap spelled e ∙ rw c refl
+columns_refused : (columns : List (List ℕ)) (rows : List (List (List ℕ))) (fault : ReadFault) → columns_in columns ≡ Err fault → spelled (columns ∷ rows) ≡ Err fault
+columns_refused columns rows fault e = rw e refl
 
-pub below_columns : (left rest : List (List (List ℕ))) (fields : List (List ℕ)) → left ≡ fields ∷ rest → are_columns fields ≡ true → spelled left ≡ rows_in 1 rest
+pub other_columns : (left rest : List (List (List ℕ))) (fields : List (List ℕ)) (fault : ReadFault) → left ≡ fields ∷ rest → columns_in fields ≡ Err fault → Gives (Err fault) (spelled left)
+other_columns left rest fields fault e c = Gives-fault fault (spelled left) (ap spelled e ∙ columns_refused fields rest fault c)
+
+pub below_columns : (left rest : List (List (List ℕ))) (fields : List (List ℕ)) → left ≡ fields ∷ rest → columns_in fields ≡ Ok tt → spelled left ≡ rows_in 1 rest
 below_columns left rest fields e c = ap spelled e ∙ rw c refl
-
-pub columns_four : (fields : List (List ℕ)) → are_columns fields ≡ true → length fields ≡ 4
-columns_four [] e = cc e
-columns_four (a ∷ []) e = cc e
-columns_four (a ∷ b ∷ []) e = cc e
-columns_four (a ∷ b ∷ c ∷ []) e = cc e
-columns_four (a ∷ b ∷ c ∷ d ∷ []) e = refl
-columns_four (a ∷ b ∷ c ∷ d ∷ f ∷ more) e = cc e

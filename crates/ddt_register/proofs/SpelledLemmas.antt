@@ -1,18 +1,18 @@
 -- What records spell, record after record.
 use Rattle.std.proofs.Common.{◌≡◌, ◌≢◌, ℕ, zero, suc, ◌+◌, ◌<◌, ◌≤◌, add-zero, List, [], ◌∷◌, ◌++◌, length, take, Bool, true, false, Result, Ok, Err, refl, sym, ap, subst, ◌∙◌, arith}
-use Rattle.std.specs.Prelude.{⊤, ◌==◌, nat_lt, codes, if◌then◌else◌}
+use Rattle.std.specs.Prelude.{⊤, nat_lt}
 use Rattle.std.proofs.lemmas.Bool.{lt-ltb, ltb-false}
 use Rattle.std.proofs.lemmas.List.{append-nil}
 use Rattle.ddt_path.specs.declared.record.Role.{Role}
-use Rattle.ddt_path.specs.declared.record.Role.TheVariants.{Node, Ms}
 use Rattle.ddt_text.specs.FirstFault.{prefix_in}
 use Rattle.ddt_reading.specs.Steps.{◌>>=◌}
+use Rattle.ddt_register.specs.declared.row.Kind.{Kind}
 use Rattle.ddt_register.specs.declared.row.Row.{Row}
 use Rattle.ddt_register.specs.declared.row.Row.TheVariants as Of
 use Rattle.ddt_register.specs.declared.fault.ReadFault.{ReadFault}
 use Rattle.ddt_register.specs.declared.fault.ReadFault.TheVariants as Fault
 use Rattle.ddt_register.specs.Rows.{most_rows, rise, are_apart, zone_rows, site_rows, group_rows, are_rows}
-use Rattle.ddt_register.specs.Spelled.{Lists, no_items, with_first, field_of, name_in, locators_in, group_in, zone_in, site_in, fields_in, row_in, rows_in, are_columns, spelled, is_text}
+use Rattle.ddt_register.specs.Spelled.{Lists, no_items, with_first, field_of, name_in, empty_in, locators_in, kind_in, group_in, zone_in, site_in, item_in, fields_in, row_in, rows_in, columns_in, spelled}
 use Rattle.ddt_register.specs.Kept.{with_last}
 use Rattle.ddt_register.proofs.FieldLemmas.{four_fields}
 use Rattle.ddt_register.proofs.RisingLemmas.{rise-lower}
@@ -98,29 +98,25 @@ InRow-step : {A : Type 0} {n : ℕ} (r : Result A ReadFault) {next : A → Resul
 InRow-step (Ok a) h = h a
 InRow-step (Err fault) h = InRow-fault
 
-InRow-if : {n : ℕ} (b : Bool) {good bad : Result Row ReadFault} → InRow n good → InRow n bad → InRow n (if b then good else bad)
-InRow-if true h k = h
-InRow-if false h k = k
-
 group_in-row : (n : ℕ) (role : Role) (prefix group addresses : List ℕ) → InRow n (group_in role n prefix group addresses)
 group_in-row n role prefix group addresses =
-    InRow-if (length prefix == 0) (InRow-step (name_in (Fault.Name n) group) λ name. InRow-step (locators_in (Fault.Address n) addresses) λ locators. record { here = refl }) InRow-fault
+    InRow-step (empty_in (Fault.Prefix n) prefix) λ _. InRow-step (name_in (Fault.Name n) group) λ name. InRow-step (locators_in (Fault.Address n) addresses) λ locators. record { here = refl }
 
 zone_in-row : (n : ℕ) (role : Role) (prefix group addresses : List ℕ) → InRow n (zone_in role n prefix group addresses)
 zone_in-row n role prefix group addresses =
-    InRow-step (field_of (Fault.Prefix n) (prefix_in prefix)) λ path. InRow-step (name_in (Fault.Name n) group) λ name. InRow-if (length addresses == 0) (record { here = refl }) InRow-fault
+    InRow-step (field_of (Fault.Prefix n) (prefix_in prefix)) λ path. InRow-step (name_in (Fault.Name n) group) λ name. InRow-step (empty_in (Fault.Address n) addresses) λ _. record { here = refl }
 
 site_in-row : (n : ℕ) (prefix group addresses : List ℕ) → InRow n (site_in n prefix group addresses)
 site_in-row n prefix group addresses =
-    InRow-step (field_of (Fault.Prefix n) (prefix_in prefix)) λ path. InRow-if (length group == 0) (InRow-step (locators_in (Fault.Address n) addresses) λ etrs. record { here = refl }) InRow-fault
+    InRow-step (field_of (Fault.Prefix n) (prefix_in prefix)) λ path. InRow-step (empty_in (Fault.Name n) group) λ _. InRow-step (locators_in (Fault.Address n) addresses) λ etrs. record { here = refl }
 
-fields_in-row : (n : ℕ) (kind prefix group addresses : List ℕ) → InRow n (fields_in n kind prefix group addresses)
-fields_in-row n kind prefix group addresses =
-    InRow-if (is_text (codes "group-node") kind) (group_in-row n Node prefix group addresses) (
-    InRow-if (is_text (codes "group-ms") kind) (group_in-row n Ms prefix group addresses) (
-    InRow-if (is_text (codes "node") kind) (zone_in-row n Node prefix group addresses) (
-    InRow-if (is_text (codes "ms") kind) (zone_in-row n Ms prefix group addresses) (
-    InRow-if (is_text (codes "site") kind) (site_in-row n prefix group addresses) InRow-fault))))
+item_in-row : (n : ℕ) (kind : Kind) (prefix group addresses : List ℕ) → InRow n (item_in kind n prefix group addresses)
+item_in-row n (Kind.Group role) prefix group addresses = group_in-row n role prefix group addresses
+item_in-row n (Kind.Zone role) prefix group addresses = zone_in-row n role prefix group addresses
+item_in-row n Kind.Site prefix group addresses = site_in-row n prefix group addresses
+
+fields_in-row : (n : ℕ) (text prefix group addresses : List ℕ) → InRow n (fields_in n text prefix group addresses)
+fields_in-row n text prefix group addresses = InRow-step (kind_in (Fault.Kind n) text) λ kind. item_in-row n kind prefix group addresses
 
 row_in-row : (n : ℕ) (fields : List (List ℕ)) (item : Row) → row_in n fields ≡ Ok item → (item_row item ≡ n) × (n ≤ 65535)
 row_in-row n [] item e = cc e
@@ -223,4 +219,4 @@ rows_in-take (suc m) n (fields ∷ rows) e = rw (rows_in-take m (n + 1) rows (om
 
 pub spelled-take : (records : List (List (List ℕ))) → spelled (take (most_rows + 2) records) ≡ spelled records
 spelled-take [] = refl
-spelled-take (columns ∷ rows) = ap (λ (r : Result Lists ReadFault). if are_columns columns then r else Err Fault.Columns) (rows_in-take most_rows 1 rows refl)
+spelled-take (columns ∷ rows) = ap (λ (r : Result Lists ReadFault). columns_in columns >>= λ _. r) (rows_in-take most_rows 1 rows refl)

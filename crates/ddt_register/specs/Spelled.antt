@@ -20,6 +20,7 @@ use Rattle.ddt_register.specs.declared.site.Site.{Site}
 use Rattle.ddt_register.specs.declared.group.Group.{Group}
 use Rattle.ddt_register.specs.Rows.{most_rows}
 use Rattle.ddt_register.specs.declared.register.Register.{Register}
+use Rattle.ddt_register.specs.declared.row.Kind.{Kind}
 use Rattle.ddt_register.specs.declared.row.Row.{Row}
 use Rattle.ddt_register.specs.declared.row.Row.TheVariants as Of
 use Rattle.ddt_register.specs.declared.fault.ReadFault.{ReadFault}
@@ -44,9 +45,9 @@ abbrev pub field_of : {A F : Type 0} → ReadFault → Result A F → Result A R
 field_of fault (Ok a) = Ok a
 field_of fault (Err why) = Err fault
 
--- `next` where the field is empty
-abbrev pub if_empty : {A : Type 0} → ReadFault → List ℕ → Result A ReadFault → Result A ReadFault
-if_empty fault text next = if length text == 0 then next else Err fault
+-- nothing where the field is empty, and else this fault
+abbrev pub empty_in : ReadFault → List ℕ → Result (Unit {0}) ReadFault
+empty_in fault text = if length text == 0 then Ok tt else Err fault
 
 abbrev pub name_in : ReadFault → List ℕ → Result (List ℕ) ReadFault
 name_in fault text = if is_name text then Ok text else Err fault
@@ -66,44 +67,60 @@ locators_in fault text = if length text == 0 then Ok [] else each_locator fault 
 -- ---- a row of each kind: prefix, group and addresses are examined in this order
 
 abbrev pub group_in : Role → ℕ → List ℕ → List ℕ → List ℕ → Result Row ReadFault
-group_in role row prefix group addresses =
-    if_empty (Fault.Prefix row) prefix (
-    name_in (Fault.Name row) group >>= λ name.
-    locators_in (Fault.Address row) addresses >>= λ locators.
-    Ok (Of.Group (record { name = name; kind = role; locators = locators; row = row })))
+group_in role row prefix group addresses = do
+  _ ← empty_in (Fault.Prefix row) prefix
+  name ← name_in (Fault.Name row) group
+  locators ← locators_in (Fault.Address row) addresses
+  Ok (Of.Group (record { name = name; kind = role; locators = locators; row = row }))
 
 abbrev pub zone_in : Role → ℕ → List ℕ → List ℕ → List ℕ → Result Row ReadFault
 zone_in role row prefix group addresses = do
   path ← field_of (Fault.Prefix row) (prefix_in prefix)
   name ← name_in (Fault.Name row) group
-  if_empty (Fault.Address row) addresses (
-      Ok (Of.Zone (record { prefix = path; kind = role; group = name; row = row })))
+  _ ← empty_in (Fault.Address row) addresses
+  Ok (Of.Zone (record { prefix = path; kind = role; group = name; row = row }))
 
 abbrev pub site_in : ℕ → List ℕ → List ℕ → List ℕ → Result Row ReadFault
 site_in row prefix group addresses = do
   path ← field_of (Fault.Prefix row) (prefix_in prefix)
-  if_empty (Fault.Name row) group (
-      locators_in (Fault.Address row) addresses >>= λ etrs.
-      Ok (Of.Site (record { prefix = path; etrs = etrs; row = row })))
+  _ ← empty_in (Fault.Name row) group
+  etrs ← locators_in (Fault.Address row) addresses
+  Ok (Of.Site (record { prefix = path; etrs = etrs; row = row }))
+
+abbrev pub item_in : Kind → ℕ → List ℕ → List ℕ → List ℕ → Result Row ReadFault
+item_in (Kind.Group role) row prefix group addresses = group_in role row prefix group addresses
+item_in (Kind.Zone role) row prefix group addresses = zone_in role row prefix group addresses
+item_in Kind.Site row prefix group addresses = site_in row prefix group addresses
 
 -- whether a text is this one
 abbrev pub is_text : List ℕ → List ℕ → Bool
 is_text word text = pointwise ◌==◌ text word
 
--- a row by its kind
+-- the kind that a text names
+abbrev pub kind_in : ReadFault → List ℕ → Result Kind ReadFault
+kind_in fault text =
+    if is_text (codes "group-node") text then Ok (Kind.Group Node)
+    else if is_text (codes "group-ms") text then Ok (Kind.Group Ms)
+    else if is_text (codes "node") text then Ok (Kind.Zone Node)
+    else if is_text (codes "ms") text then Ok (Kind.Zone Ms)
+    else if is_text (codes "site") text then Ok Kind.Site
+    else Err fault
+
+-- a row, whose kind is examined first
 abbrev pub fields_in : ℕ → List ℕ → List ℕ → List ℕ → List ℕ → Result Row ReadFault
-fields_in row kind prefix group addresses =
-    if is_text (codes "group-node") kind then group_in Node row prefix group addresses
-    else if is_text (codes "group-ms") kind then group_in Ms row prefix group addresses
-    else if is_text (codes "node") kind then zone_in Node row prefix group addresses
-    else if is_text (codes "ms") kind then zone_in Ms row prefix group addresses
-    else if is_text (codes "site") kind then site_in row prefix group addresses
-    else Err (Fault.Kind row)
+fields_in row text prefix group addresses = do
+  kind ← kind_in (Fault.Kind row) text
+  item_in kind row prefix group addresses
+
+-- nothing where a row is not past the last that there may be
+abbrev pub unless_too_many : Bool → Result (Unit {0}) ReadFault
+unless_too_many past = if past then Err Fault.TooMany else Ok tt
 
 -- a row has as many fields as there are columns, and there are at most 65,535 rows
 abbrev pub row_in : ℕ → List (List ℕ) → Result Row ReadFault
-row_in row (kind ∷ prefix ∷ group ∷ addresses ∷ []) =
-    if nat_lt most_rows row then Err Fault.TooMany else fields_in row kind prefix group addresses
+row_in row (kind ∷ prefix ∷ group ∷ addresses ∷ []) = do
+  _ ← unless_too_many (nat_lt most_rows row)
+  fields_in row kind prefix group addresses
 row_in row fields = Err (Fault.Csv row)
 
 -- ---- the register
@@ -137,10 +154,16 @@ are_columns (kind ∷ prefix ∷ group ∷ addresses ∷ []) =
     && (is_text (codes "group") group && is_text (codes "addresses") addresses))
 are_columns fields = false
 
+-- nothing where the first record names the columns
+abbrev pub columns_in : List (List ℕ) → Result (Unit {0}) ReadFault
+columns_in fields = if are_columns fields then Ok tt else Err Fault.Columns
+
 -- the items that the records of a text spell, or their first fault
 abbrev pub spelled : List (List (List ℕ)) → Result Lists ReadFault
 spelled [] = Ok no_items
-spelled (columns ∷ rows) = if are_columns columns then rows_in 1 rows else Err Fault.Columns
+spelled (columns ∷ rows) = do
+  _ ← columns_in columns
+  rows_in 1 rows
 
 -- ---- an answer against what is spelled
 

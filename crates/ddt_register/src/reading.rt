@@ -5,12 +5,12 @@ ghost use Rattle.csv.specs.Reading.{default_config, expected_len, has_failed, re
 ghost use Rattle.csv.specs.Records.{fields_of};
 ghost use Rattle.ddt_register.specs.Left.{IsReading, IsLeft, Takes, csv_fault, stops};
 ghost use Rattle.ddt_register.specs.Rows.{most_rows};
-ghost use Rattle.ddt_register.specs.Spelled.{spelled, rows_in, Gives};
+ghost use Rattle.ddt_register.specs.Spelled.{spelled, rows_in, unless_too_many as unless_too_many_of, Gives};
 
 use crate::fault::ReadFault;
 use crate::items::Items;
 use crate::register::{MOST_ROWS, Register};
-use crate::row::{are_columns, read_row};
+use crate::row::{read_columns, read_row};
 use csv::{ByteRecord, ErrorKind, Reader, ReaderBuilder};
 use std::alloc::Global;
 use std::io::Read;
@@ -53,6 +53,17 @@ fn next_record<R: Read>(
     }
 }
 
+/// Nothing where no row was found past the last that there may be, else TooMany.
+fn unless_too_many(past: bool) -> Result<(), ReadFault>
+    ensures { result ≡ unless_too_many_of past }
+{
+    if past {
+        Err(ReadFault::TooMany)
+    } else {
+        Ok(())
+    }
+}
+
 /// The register that the rows spell, numbered from 1.
 fn read_rows<R: Read + Drop>(
     alloc: Global,
@@ -70,9 +81,8 @@ fn read_rows<R: Read + Drop>(
         }
         items.push(read_row(alloc, row, &fields)?)?;
     }
-    if next_record(&mut reader, &mut fields, MOST_ROWS + 1)? {
-        return Err(ReadFault::TooMany);
-    }
+    let past = next_record(&mut reader, &mut fields, MOST_ROWS + 1)?;
+    unless_too_many(past)?;
     Ok(items.into_register())
 }
 
@@ -86,9 +96,7 @@ fn read_records<R: Read + Drop>(alloc: Global, mut reader: Reader<R>) -> Result<
     if !next_record(&mut reader, &mut fields, 0)? {
         return Ok(Items::new(alloc).into_register());
     }
-    if !are_columns(&fields) {
-        return Err(ReadFault::Columns);
-    }
+    read_columns(&fields)?;
     read_rows(alloc, reader, fields)
 }
 

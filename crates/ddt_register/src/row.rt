@@ -4,7 +4,7 @@ ghost use Rattle.std.specs.Prelude.{◌≡◌, ◌≤◌, [], length, get_or};
 ghost use Rattle.csv.specs.Records.{fields_of};
 ghost use Rattle.ddt_text.specs.FirstFault.{locator_in, prefix_in};
 ghost use Rattle.ddt_register.specs.Rows.{most_rows};
-ghost use Rattle.ddt_register.specs.Spelled.{row_in, fields_in, group_in, zone_in, site_in, locators_in, name_in, field_of, are_columns as are_columns_of, UnlessMemory};
+ghost use Rattle.ddt_register.specs.Spelled.{row_in, kind_in, item_in, group_in, zone_in, site_in, locators_in, name_in, empty_in, field_of, columns_in, are_columns as are_columns_of, UnlessMemory};
 
 use crate::fault::ReadFault;
 use crate::group::Group;
@@ -21,6 +21,14 @@ pub(crate) enum Row {
     Zone(Zone),
     Site(Site),
     Group(Group),
+}
+
+/// What the first field of a row says that the row is of.
+#[derive(Clone, Copy, Debug)]
+pub(crate) enum Kind {
+    Group(Role),
+    Zone(Role),
+    Site,
 }
 
 fn read_prefix(row: u32, text: &[u8]) -> Result<Prefix, ReadFault>
@@ -56,90 +64,116 @@ fn read_locators(alloc: Global, row: u32, text: &[u8]) -> Result<Listed<Locator>
     Ok(Listed::of(locators))
 }
 
-fn read_group(
-    alloc: Global,
-    kind: Role,
-    row: u32,
-    prefix: &[u8],
-    group: &[u8],
-    addresses: &[u8],
-) -> Result<Row, ReadFault>
-    ensures { UnlessMemory result (group_in kind row prefix.now group.now addresses.now) }
+/// Nothing where a field is empty, as it must be; else this fault.
+fn read_empty(text: &[u8], fault: ReadFault) -> Result<(), ReadFault>
+    ensures { result ≡ empty_in fault text.now }
 {
-    if !prefix.is_empty() {
-        return Err(ReadFault::Prefix(row));
-    }
-    let name = read_name(row, group)?;
-    let locators = read_locators(alloc, row, addresses)?;
-    Ok(Row::Group(Group {
-        name,
-        kind,
-        locators,
-        row,
-    }))
+    if text.is_empty() { Ok(()) } else { Err(fault) }
 }
 
-fn read_zone(
-    kind: Role,
-    row: u32,
-    prefix: &[u8],
-    group: &[u8],
-    addresses: &[u8],
-) -> Result<Row, ReadFault>
-    ensures { result ≡ zone_in kind row prefix.now group.now addresses.now }
+/// Nothing where the prefix is empty, else Prefix.
+fn read_no_prefix(row: u32, text: &[u8]) -> Result<(), ReadFault>
+    ensures { result ≡ empty_in (ReadFault.Prefix row) text.now }
 {
-    let prefix = read_prefix(row, prefix)?;
-    let group = read_name(row, group)?;
-    if !addresses.is_empty() {
-        return Err(ReadFault::Address(row));
-    }
-    Ok(Row::Zone(Zone {
-        prefix,
-        kind,
-        group,
-        row,
-    }))
+    read_empty(text, ReadFault::Prefix(row))
 }
 
-fn read_site(
-    alloc: Global,
-    row: u32,
-    prefix: &[u8],
-    group: &[u8],
-    addresses: &[u8],
-) -> Result<Row, ReadFault>
-    ensures { UnlessMemory result (site_in row prefix.now group.now addresses.now) }
+/// Nothing where the group is empty, else Name.
+fn read_no_name(row: u32, text: &[u8]) -> Result<(), ReadFault>
+    ensures { result ≡ empty_in (ReadFault.Name row) text.now }
 {
-    let prefix = read_prefix(row, prefix)?;
-    if !group.is_empty() {
-        return Err(ReadFault::Name(row));
-    }
-    let etrs = read_locators(alloc, row, addresses)?;
-    Ok(Row::Site(Site { prefix, etrs, row }))
+    read_empty(text, ReadFault::Name(row))
 }
 
-fn read_fields(
-    alloc: Global,
-    row: u32,
-    kind: &[u8],
-    prefix: &[u8],
-    group: &[u8],
-    addresses: &[u8],
-) -> Result<Row, ReadFault>
-    ensures { UnlessMemory result (fields_in row kind.now prefix.now group.now addresses.now) }
+/// Nothing where the addresses are empty, else Address.
+fn read_no_locators(row: u32, text: &[u8]) -> Result<(), ReadFault>
+    ensures { result ≡ empty_in (ReadFault.Address row) text.now }
 {
-    if kind == b"group-node".as_slice() {
-        read_group(alloc, Role::Node, row, prefix, group, addresses)
-    } else if kind == b"group-ms".as_slice() {
-        read_group(alloc, Role::Ms, row, prefix, group, addresses)
-    } else if kind == b"node".as_slice() {
-        read_zone(Role::Node, row, prefix, group, addresses)
-    } else if kind == b"ms".as_slice() {
-        read_zone(Role::Ms, row, prefix, group, addresses)
-    } else if kind == b"site".as_slice() {
-        read_site(alloc, row, prefix, group, addresses)
+    read_empty(text, ReadFault::Address(row))
+}
+
+/// The kind that a text names, else Kind.
+fn read_kind(row: u32, text: &[u8]) -> Result<Kind, ReadFault>
+    ensures { result ≡ kind_in (ReadFault.Kind row) text.now }
+{
+    if text == b"group-node".as_slice() {
+        Ok(Kind::Group(Role::Node))
+    } else if text == b"group-ms".as_slice() {
+        Ok(Kind::Group(Role::Ms))
+    } else if text == b"node".as_slice() {
+        Ok(Kind::Zone(Role::Node))
+    } else if text == b"ms".as_slice() {
+        Ok(Kind::Zone(Role::Ms))
+    } else if text == b"site".as_slice() {
+        Ok(Kind::Site)
     } else {
         Err(ReadFault::Kind(row))
+    }
+}
+
+/// The fields of a row behind its kind.
+#[derive(Clone, Copy, Debug)]
+struct Fields<'a> {
+    row: u32,
+    prefix: &'a [u8],
+    group: &'a [u8],
+    addresses: &'a [u8],
+}
+
+impl Fields<'_> {
+    fn read_group(&self, alloc: Global, kind: Role) -> Result<Row, ReadFault>
+        ensures { UnlessMemory result (group_in kind self.now.row self.now.prefix.now self.now.group.now
+            self.now.addresses.now) }
+    {
+        read_no_prefix(self.row, self.prefix)?;
+        let name = read_name(self.row, self.group)?;
+        let locators = read_locators(alloc, self.row, self.addresses)?;
+        Ok(Row::Group(Group {
+            name,
+            kind,
+            locators,
+            row: self.row,
+        }))
+    }
+
+    fn read_zone(&self, kind: Role) -> Result<Row, ReadFault>
+        ensures { result ≡ zone_in kind self.now.row self.now.prefix.now self.now.group.now self.now.addresses.now }
+    {
+        let prefix = read_prefix(self.row, self.prefix)?;
+        let group = read_name(self.row, self.group)?;
+        read_no_locators(self.row, self.addresses)?;
+        Ok(Row::Zone(Zone {
+            prefix,
+            kind,
+            group,
+            row: self.row,
+        }))
+    }
+
+    fn read_site(&self, alloc: Global) -> Result<Row, ReadFault>
+        ensures { UnlessMemory result (site_in self.now.row self.now.prefix.now self.now.group.now
+            self.now.addresses.now) }
+    {
+        let prefix = read_prefix(self.row, self.prefix)?;
+        read_no_name(self.row, self.group)?;
+        let etrs = read_locators(alloc, self.row, self.addresses)?;
+        Ok(Row::Site(Site {
+            prefix,
+            etrs,
+            row: self.row,
+        }))
+    }
+
+    /// What these fields spell as a row of this kind.
+    fn read(&self, alloc: Global, kind: Kind) -> Result<Row, ReadFault>
+        ensures { UnlessMemory result (item_in kind self.now.row self.now.prefix.now self.now.group.now
+            self.now.addresses.now) }
+    {
+        match kind {
+            Kind::Group(role) => self.read_group(alloc, role),
+            Kind::Zone(role) => self.read_zone(role),
+            Kind::Site => self.read_site(alloc),
+        }
     }
 }
 
@@ -156,13 +190,29 @@ pub(crate) fn read_row(alloc: Global, row: u32, fields: &ByteRecord) -> Result<R
     requires four { length (fields_of fields.now) ≡ 4 }
     ensures { UnlessMemory result (row_in row (fields_of fields.now)) }
 {
-    let (kind, prefix) = (field(fields, 0), field(fields, 1));
-    let (group, addresses) = (field(fields, 2), field(fields, 3));
-    read_fields(alloc, row, kind, prefix, group, addresses)
+    let kind = read_kind(row, field(fields, 0))?;
+    let behind = Fields {
+        row,
+        prefix: field(fields, 1),
+        group: field(fields, 2),
+        addresses: field(fields, 3),
+    };
+    behind.read(alloc, kind)
+}
+
+/// Nothing where the first record names the columns, else Columns.
+pub(crate) fn read_columns(fields: &ByteRecord) -> Result<(), ReadFault>
+    ensures { result ≡ columns_in (fields_of fields.now) }
+{
+    if are_columns(fields) {
+        Ok(())
+    } else {
+        Err(ReadFault::Columns)
+    }
 }
 
 /// Whether a record names the columns.
-pub(crate) fn are_columns(fields: &ByteRecord) -> bool
+fn are_columns(fields: &ByteRecord) -> bool
     ensures { result ≡ are_columns_of (fields_of fields.now) }
 {
     fields.len() == 4

@@ -1,6 +1,7 @@
 -- An ask, and the lookup that it opens.
 use Rattle.std.proofs.Common.{◌≡◌, ℕ, ◌≤◌, List, [], Some, Result, Ok, Err, refl, sym, ap, ◌∙◌, subst}
 use Rattle.std.specs.Prelude.{IsTrue, IfErr}
+use Rattle.std.specs.FinMap.{len}
 use Rattle.std.proofs.lemmas.Option.{none-some, same_Some}
 use Rattle.ddt_path.specs.declared.record.Outcome.{Outcome}
 use Rattle.ddt_path.specs.declared.xeid.Xeid.{Xeid}
@@ -16,7 +17,7 @@ use Rattle.ddt_resolver.specs.declared.answers.Asked.{Asked}
 use Rattle.ddt_resolver.specs.declared.answers.Asked.TheVariants.{Answer, Sent}
 use Rattle.ddt_resolver.specs.declared.answers.AskError.{AskError}
 use Rattle.ddt_resolver.specs.declared.answers.AskError.TheVariants as ask_error
-use Rattle.ddt_resolver.specs.State.{State, moved, dropped}
+use Rattle.ddt_resolver.specs.State.{State, moved, dropped, last_nonce, most_pending}
 use Rattle.ddt_resolver.specs.AskStep as ask
 use Rattle.ddt_resolver.specs.AskStep.{AskStep, AskWants, Start, UnlessMemory, OnMemory, answer_of}
 use Rattle.ddt_resolver.specs.Order.{IsInOrder}
@@ -27,7 +28,7 @@ use Rattle.ddt_sim.specs.declared.hop.LookupError.{LookupError}
 use Rattle.ddt_sim.specs.declared.hop.LookupError.TheVariants.{GaveUp, TooMany, Memory}
 use Rattle.ddt_sim.specs.Sound.{IsSound, IsRightAsked, StepsKeepSoundness, TimeKeepsSoundness}
 use Rattle.ddt_sim.specs.Waiting.{CanBeAsked, IsAwaited}
-use Rattle.ddt_sim.specs.Lookup.{Reaches, sent, FailsUnder, Fails, at_request}
+use Rattle.ddt_sim.specs.Lookup.{Reaches, sent, FailsUnder, Fails, too_many, used_up, unasked, at_request, ask_failure}
 use Rattle.ddt_sim.specs.Headline.{IsUnderWay, IsAsked, IsRightlyAsked, IsRightFailure, IsRightError}
 use Rattle.ddt_sim.proofs.WaitingLemmas.{reached_waits}
 
@@ -70,6 +71,31 @@ answer_given s x new p e o found answer (Ok a) step wants = given s x new (Ok a)
 answer_given s x new p e o found answer (Err ask_error.TooMany) step wants = given s x new (Err ask_error.TooMany) p e o found answer step
 answer_given s x new p e o found answer (Err ask_error.Exhausted) step wants = given s x new (Err ask_error.Exhausted) p e o found answer step
 answer_given s x new p e o found answer (Err ask_error.Memory) step wants = absurd (not_wanted s x p e o found answer wants.1)
+
+-- ---- a refused ask is an error of the lookup
+
+pub refused_fails : (now : ℕ) (x : Xeid) (s new : State) (error : AskError) → UnlessMemory (Err error) (AskStep (moved now s) x new (Err error))
+    → OnMemory (Err error) ((new ≡ moved now s) × AskWants (moved now s) x) → Fails now x s (ask_failure error) new
+refused_fails now x s new ask_error.TooMany step wants = too_many step refl
+refused_fails now x s new ask_error.Exhausted step wants = used_up step refl
+refused_fails now x s new ask_error.Memory step wants = unasked wants.0 refl
+
+pub refused_is_right : (now : ℕ) (x : Xeid) (s new : State) (error : AskError) → UnlessMemory (Err error) (AskStep (moved now s) x new (Err error)) → IsRightError s new (ask_failure error)
+refused_is_right now x s new ask_error.TooMany step = full step.start
+  where
+    full : Start (moved now s) x step.prefix step.entry new (Err ask_error.TooMany) → most_pending ≤ len s.pending
+    full (ask.cached o answer same is) = cc is
+    full (ask.full none many same is) = many
+    full (ask.used_up none few over same is) = cc is
+    full (ask.opened free same is) = cc is
+refused_is_right now x s new ask_error.Exhausted step = (refl, used step.start)
+  where
+    used : Start (moved now s) x step.prefix step.entry new (Err ask_error.Exhausted) → new.next ≡ last_nonce
+    used (ask.cached o answer same is) = cc is
+    used (ask.full none many same is) = cc is
+    used (ask.used_up none few over same is) = ap (λ (v : State). v.next) same ∙ over
+    used (ask.opened free same is) = cc is
+refused_is_right now x s new ask_error.Memory step = tt
 
 -- ---- over a sound resolver
 

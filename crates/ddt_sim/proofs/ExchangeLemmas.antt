@@ -1,6 +1,8 @@
 -- One request of a lookup and what comes back.
-use Rattle.std.proofs.Common.{◌≡◌, ℕ, ◌<◌, ◌≤◌, ◌^◌, true, List, [], ◌∷◌, ◌++◌, Option, Some, None, Ok, refl, sym, ap, subst, arith}
+use Rattle.std.proofs.Common.{◌≡◌, ℕ, ◌<◌, ◌≤◌, ◌^◌, true, List, [], ◌∷◌, ◌++◌, Option, Some, None, Result, Ok, Err, inl, refl, sym, ap, subst, ◌∙◌, arith}
+use Rattle.std.specs.Prelude.{IfOk, MatchOption}
 use Rattle.std.specs.Option.{option_map_or}
+use Rattle.std.specs.declared.alloc.AllocError.{AllocError}
 use Rattle.ddt_path.specs.declared.locator.Locator.{Locator}
 use Rattle.ddt_path.specs.declared.xeid.Xeid.{Xeid}
 use Rattle.ddt_register.specs.declared.register.Register.{Register}
@@ -11,18 +13,21 @@ use Rattle.ddt_ecm.specs.Laws.{WrittenSpells, message_of}
 use Rattle.ddt_resolver.specs.declared.answers.Outgoing.{Outgoing}
 use Rattle.ddt_resolver.specs.declared.answers.Heard.{Heard}
 use Rattle.ddt_resolver.specs.declared.answers.Heard.TheVariants as heard
+use Rattle.ddt_resolver.specs.declared.answers.Why.{Why}
 use Rattle.ddt_resolver.specs.State.{State, moved, request_bytes}
 use Rattle.ddt_resolver.specs.Bound.{measure, ComesNearer}
 use Rattle.ddt_resolver.specs.Act.{HearStep}
 use Rattle.ddt_resolver.specs.Order.{IsInOrder}
 use Rattle.ddt_cache.specs.Moment.{last_moment}
 use Rattle.ddt_sim.specs.declared.hop.Hop.{Hop}
+use Rattle.ddt_sim.specs.declared.hop.LookupError.{LookupError}
+use Rattle.ddt_sim.specs.declared.hop.LookupError.TheVariants.{GaveUp, Memory}
 use Rattle.ddt_sim.specs.declared.following.Turn.{Turn}
 use Rattle.ddt_sim.specs.declared.following.Turn.TheVariants.{GoesOn, Ends}
 use Rattle.ddt_sim.specs.Sound.{IsRightHeard, StepsKeepSoundness, TimeKeepsSoundness}
 use Rattle.ddt_sim.specs.Waiting.{Waits, CanBeAsked, requests_left, left_after}
-use Rattle.ddt_sim.specs.Lookup.{IsTurn, IsNotFor, heard_of, hop_of}
-use Rattle.ddt_sim.specs.Headline.{IsUnderWay, IsRightTurn}
+use Rattle.ddt_sim.specs.Lookup.{IsTurn, IsNotFor, TurnFails, gave_up, unanswered, not_taken, stopped, heard_of, hop_of, reply_or_failure, turn_or_failure}
+use Rattle.ddt_sim.specs.Headline.{IsUnderWay, IsRightTurn, IsRightFailure}
 use Rattle.ddt_sim.specs.Reply.{IsWellHeard, IsUnderstood}
 use Rattle.ddt_sim.proofs.WaitingLemmas.{waits_on, followed_waits, spelled_request}
 use Rattle.ddt_sim.proofs.ReplyLemmas.{IsFor, RepliesAreRead}
@@ -92,19 +97,64 @@ turn_is_nearer now x s t d o w bytes h new (Ends v) step near is =
     let place = (o.lookups t w.lookup w.is_pending).lookup.place in
     subst (λ n. 0 < n) (sym before) (omega (arith, place))
 
+-- ---- a turn that fails
+
+as_failure : {A : Type 0} → LookupError → Result A LookupError
+as_failure error = Err error
+
+-- a request without a reply
+pub unreplied_fails : (now : ℕ) (s : State) (t : ℕ) (d : Outgoing) (answer : Result (Option (List ℕ)) AllocError) (error : LookupError)
+    → reply_or_failure answer ≡ Err error → TurnFails now s t d error s
+unreplied_fails now s t d (Ok (Some reply)) error e = cc e
+unreplied_fails now s t d (Ok None) error e = unanswered refl (cc e)
+unreplied_fails now s t d (Err refused) error e = stopped (inl refl) (cc e)
+
+pub replied_is : (answer : Result (Option (List ℕ)) AllocError) (reply : List ℕ) → reply_or_failure answer ≡ Ok reply → answer ≡ Ok (Some reply)
+replied_is (Ok (Some came)) reply e = ap (λ (r : List ℕ). Ok (Some r)) (cc e)
+replied_is (Ok None) reply e = cc e
+replied_is (Err refused) reply e = cc e
+
+-- a reply by which a lookup gave up, or that wasn't for its ticket
+module _ (t : ℕ) (h : Heard) where
+  abbrev IsOwn : Option (Result Turn Why) → Type 0
+  IsOwn own = MatchOption own (IsNotFor t h) (λ o. h ≡ heard_of t o)
+
+  pub taken_is : (own : Option (Result Turn Why)) (turn : Turn) → IsOwn own → turn_or_failure own ≡ Ok turn → h ≡ heard_of t (Ok turn)
+  taken_is (Some (Ok same)) turn is e = is ∙ ap (λ (v : Turn). heard_of t (Ok v)) (cc e)
+  taken_is (Some (Err why)) turn is e = cc e
+  taken_is None turn is e = cc e
+
+  pub untaken_fails : (now : ℕ) (s : State) (d : Outgoing) (bytes : List ℕ) (new : State) (own : Option (Result Turn Why)) (error : LookupError)
+      → HearStep (moved now s) d.to bytes new h → IsOwn own → turn_or_failure own ≡ Err error → TurnFails now s t d error new
+  untaken_fails now s d bytes new (Some (Ok turn)) error step is e = cc e
+  untaken_fails now s d bytes new (Some (Err why)) error step is e = gave_up bytes why (subst (HearStep (moved now s) d.to bytes new) is step) (cc e)
+  untaken_fails now s d bytes new None error step is e = not_taken bytes h step is (cc e)
+
+  pub untaken_is_right : (r : Register) (x : Xeid) (s : State) (d : Outgoing) (reply : List ℕ) (new : State) (own : Option (Result Turn Why)) (error : LookupError)
+      → IsWellHeard r x s t d reply new h → IsOwn own → turn_or_failure own ≡ Err error → IsRightFailure new error
+  untaken_is_right r x s d reply new (Some (Ok turn)) error well is e = cc e
+  untaken_is_right r x s d reply new (Some (Err why)) error well is e =
+      let same : GaveUp why ≡ error = cc e in subst (IsRightFailure new) same (well.why why is)
+  untaken_is_right r x s d reply new None error well is e = absurd (well.own is)
+
 -- ---- the reply of an honest server
 
 module _ (r : Register) (now : ℕ) (x : Xeid) (s : State) (t : ℕ) (d : Outgoing) (a : IsUnderstood r now x s t d)
-    (sent : List ℕ) (same : sent ≡ d.bytes) (came : Option (List ℕ)) (says : IsDdtRequest sent a.request → IsHonestReply r d.to a.request came) where
-  honest : IsHonestReply r d.to a.request came
+    (sent : List ℕ) (same : sent ≡ d.bytes) (answer : Result (Option (List ℕ)) AllocError) (says : IsDdtRequest sent a.request → IfOk answer (IsHonestReply r d.to a.request)) where
+  honest : IfOk answer (IsHonestReply r d.to a.request)
   honest = says (subst (λ (v : List ℕ). IsDdtRequest v a.request) (sym same) a.spelled)
 
   -- it is there
-  pub reply_comes : came ≡ None → ⊥
-  reply_comes none = subst (IsHonestReply r d.to a.request) none honest
+  pub unreplied_is_right : (new : State) (error : LookupError) → reply_or_failure answer ≡ Err error → IsRightFailure new error
+  unreplied_is_right new error e = by answer honest e
+    where
+      by : (v : Result (Option (List ℕ)) AllocError) → IfOk v (IsHonestReply r d.to a.request) → reply_or_failure v ≡ Err error → IsRightFailure new error
+      by (Ok (Some reply)) is e = cc e
+      by (Ok None) is e = absurd is
+      by (Err refused) is e = let memory : Memory ≡ error = cc e in subst (IsRightFailure new) memory tt
 
   -- and well heard
-  pub heard_well : (reply bytes : List ℕ) → came ≡ Some reply → bytes ≡ reply → (new : State) (h : Heard) → HearStep (moved now s) d.to bytes new h
+  pub heard_well : (reply bytes : List ℕ) → reply_or_failure answer ≡ Ok reply → bytes ≡ reply → (new : State) (h : Heard) → HearStep (moved now s) d.to bytes new h
       → IsWellHeard r x s t d reply new h
-  heard_well reply bytes some is new h step =
-      a.heard reply (subst (IsHonestReply r d.to a.request) some honest) new h (subst (λ (v : List ℕ). HearStep (moved now s) d.to v new h) is step)
+  heard_well reply bytes came is new h step =
+      a.heard reply (subst (λ v. IfOk v (IsHonestReply r d.to a.request)) (replied_is answer reply came) honest) new h (subst (λ (v : List ℕ). HearStep (moved now s) d.to v new h) is step)

@@ -1,6 +1,6 @@
 -- A lookup: an ask, then requests and replies, one after the other, until the identifier's outcome is there (RFC 8111,
 -- section 7.3).
-use Rattle.std.specs.Prelude.{ℕ, ◌≡◌, ◌⊎◌, ◌++◌, List, [], ◌∷◌, Result, Ok, Err, Some}
+use Rattle.std.specs.Prelude.{ℕ, ◌≡◌, ◌⊎◌, ◌++◌, List, [], ◌∷◌, Option, None, Some, Result, Ok, Err}
 use Rattle.ddt_path.specs.declared.record.Outcome.{Outcome}
 use Rattle.ddt_path.specs.declared.xeid.Xeid.{Xeid}
 use Rattle.ddt_path.specs.Path.{xeid_path}
@@ -9,6 +9,7 @@ use Rattle.ddt_cache.specs.Found.{IsFound}
 use Rattle.ddt_resolver.specs.declared.answers.Outgoing.{Outgoing}
 use Rattle.ddt_resolver.specs.declared.answers.Asked.{Asked}
 use Rattle.ddt_resolver.specs.declared.answers.Asked.TheVariants as asked
+use Rattle.ddt_resolver.specs.declared.answers.AskError.{AskError}
 use Rattle.ddt_resolver.specs.declared.answers.AskError.TheVariants as ask_error
 use Rattle.ddt_resolver.specs.declared.answers.Heard.{Heard}
 use Rattle.ddt_resolver.specs.declared.answers.Heard.TheVariants as heard
@@ -41,6 +42,18 @@ abbrev pub heard_of : ℕ → Result Turn Why → Heard
 heard_of t (Ok (GoesOn e)) = heard.Followed t e
 heard_of t (Ok (Ends o)) = heard.Answer t o
 heard_of t (Err why) = heard.GaveUp t why
+
+-- the reply to a request, or what the request fails as: for want of a reply, or of memory
+abbrev pub reply_or_failure : {E : Type 0} → Result (Option (List ℕ)) E → Result (List ℕ) LookupError
+reply_or_failure (Ok (Some reply)) = Ok reply
+reply_or_failure (Ok None) = Err (GaveUp NoReply)
+reply_or_failure (Err refused) = Err Memory
+
+-- the turn of a lookup whose reply was answered so, or what it fails as; a reply that isn't its own is none
+abbrev pub turn_or_failure : Option (Result Turn Why) → Result Turn LookupError
+turn_or_failure (Some (Ok turn)) = Ok turn
+turn_or_failure (Some (Err why)) = Err (GaveUp why)
+turn_or_failure None = Err (GaveUp NoReply)
 
 -- The request d of the ticket t was sent at `now` in the state s, and its reply, which one hop more tells, was taken.
 pub record IsTurn (now : ℕ) (s : State) (t : ℕ) (d : Outgoing) (hops : List Hop) (turn : Turn) (more : List Hop)
@@ -88,6 +101,12 @@ pub data HasOutcome (now : ℕ) (x : Xeid) (start : State) (outcome : Outcome) (
       → HasOutcome now x start outcome hops new
   by_reply : {before : List Hop} {t : ℕ} {d : Outgoing} {s : State} → Reaches now x start before t d s
       → IsTurn now s t d before (Ends outcome) hops new → HasOutcome now x start outcome hops new
+
+-- what a lookup fails as whose ask is refused
+abbrev pub ask_failure : AskError → LookupError
+ask_failure ask_error.TooMany = TooMany
+ask_failure ask_error.Exhausted = GaveUp Exhausted
+ask_failure ask_error.Memory = Memory
 
 -- How it ends with an error: the ask was refused, or wanted memory, or one of its requests failed. Its own lookup is
 -- pending no more, and nothing else is undone.

@@ -5,7 +5,7 @@ ghost use Rattle.std.specs.List.{All};
 ghost use Rattle.ddt_path.specs.declared.xeid.Xeid.{Xeid as AnXeid};
 ghost use Rattle.ddt_register.specs.declared.register.Register.{Register};
 ghost use Rattle.ddt_sim.specs.Sound.{IsSound};
-ghost use Rattle.ddt_sim.specs.Lookup.{IsTurn, TurnFails, IsNotFor, heard_of};
+ghost use Rattle.ddt_sim.specs.Lookup.{IsTurn, TurnFails, IsNotFor, heard_of, reply_or_failure, turn_or_failure};
 ghost use Rattle.ddt_sim.specs.Waiting.{Waits, requests_left, left_after};
 ghost use Rattle.ddt_sim.specs.Headline.{WhileUnderWay, IsHonestHop, IsRightTurn, IsRightFailure};
 
@@ -13,10 +13,10 @@ use crate::hop::{Hop, LookupError};
 use crate::laws::requests_are_understood;
 use crate::servers::Servers;
 use ddt_cache::{Entry, Moment};
-use ddt_path::Outcome;
+use ddt_path::{Listed, Outcome};
 use ddt_resolver::{Heard, Outgoing, Resolver, Ticket, Why};
 use ddt_trie::PrefixMap;
-use std::alloc::Global;
+use std::alloc::{AllocError, Global};
 
 /// What a reply makes of a lookup.
 #[derive(Debug, Drop)]
@@ -60,20 +60,12 @@ pub(crate) fn exchange<S: Servers, M: PrefixMap<Entry>>(
     resolver.in_order();
     // The number tells the proof that it is a moment.
     let _millis = now.millis();
-    let reply = match servers.answer(alloc, request.to, request.bytes.as_slice()) {
-        Ok(Some(reply)) => reply,
-        Ok(None) => return Err(LookupError::GaveUp(Why::NoReply)),
-        Err(_refused) => return Err(LookupError::Memory),
-    };
+    let reply = replied(servers.answer(alloc, request.to, request.bytes.as_slice()))?;
     let heard = match resolver.datagram(now, request.to, reply.as_slice()) {
         Ok(heard) => heard,
         Err(_refused) => return Err(LookupError::Memory),
     };
-    let turn = match own(ticket, heard) {
-        Some(Ok(turn)) => turn,
-        Some(Err(why)) => return Err(LookupError::GaveUp(why)),
-        None => return Err(LookupError::GaveUp(Why::NoReply)),
-    };
+    let turn = taken(own(ticket, heard))?;
     let hop = Hop {
         to: request.to,
         request: request.bytes,
@@ -82,6 +74,28 @@ pub(crate) fn exchange<S: Servers, M: PrefixMap<Entry>>(
     match hops.push(hop) {
         Ok(()) => Ok(turn),
         Err(_refused) => Err(LookupError::Memory),
+    }
+}
+
+/// The reply that came back. GaveUp as NoReply where none did, and Memory if memory ran out.
+fn replied(answer: Result<Option<Listed<u8>>, AllocError>) -> Result<Listed<u8>, LookupError>
+    ensures { result ≡ reply_or_failure answer }
+{
+    match answer {
+        Ok(Some(reply)) => Ok(reply),
+        Ok(None) => Err(LookupError::GaveUp(Why::NoReply)),
+        Err(AllocError) => Err(LookupError::Memory),
+    }
+}
+
+/// How a lookup goes on or ends. GaveUp where it gave up, and as NoReply where the reply wasn't for its ticket.
+fn taken(own: Option<Result<Turn, Why>>) -> Result<Turn, LookupError>
+    ensures { result ≡ turn_or_failure own }
+{
+    match own {
+        Some(Ok(turn)) => Ok(turn),
+        Some(Err(why)) => Err(LookupError::GaveUp(why)),
+        None => Err(LookupError::GaveUp(Why::NoReply)),
     }
 }
 

@@ -17,7 +17,7 @@ ghost use Rattle.ddt_resolver.specs.Bound.{StartsWithin};
 ghost use Rattle.ddt_wire.specs.Address.{IsAddress};
 ghost use Rattle.ddt_sim.specs.Sound.{IsSound};
 ghost use Rattle.ddt_sim.specs.Waiting.{IsAwaited, CanBeAsked, requests_left};
-ghost use Rattle.ddt_sim.specs.Lookup.{HasOutcome, Fails, FailsUnder, IsRemembered, WhateverAsked, WhateverSent};
+ghost use Rattle.ddt_sim.specs.Lookup.{HasOutcome, Fails, FailsUnder, IsRemembered, ask_failure, WhateverAsked, WhateverSent};
 ghost use Rattle.ddt_sim.specs.Trail.{HasTrail};
 ghost use Rattle.ddt_sim.specs.Passes.{HasShortPasses, PassesAreShort};
 ghost use Rattle.ddt_sim.specs.Headline.{OverHonest, WhenAsked, WhileUnderWay, IsAsked};
@@ -87,9 +87,18 @@ pub fn lookup<S: Servers, M: PrefixMap<Entry>>(
             can_be_asked(x, resolver.me());
             after_ask(alloc, servers, resolver, now, asked)
         }
-        Err(AskError::TooMany) => Err(LookupError::TooMany),
-        Err(AskError::Exhausted) => Err(LookupError::GaveUp(Why::Exhausted)),
-        Err(AskError::Memory) => Err(LookupError::Memory),
+        Err(error) => Err(unasked(error)),
+    }
+}
+
+/// What a lookup whose ask is refused fails as.
+fn unasked(error: AskError) -> LookupError
+    ensures { result ≡ ask_failure error }
+{
+    match error {
+        AskError::TooMany => LookupError::TooMany,
+        AskError::Exhausted => LookupError::GaveUp(Why::Exhausted),
+        AskError::Memory => LookupError::Memory,
     }
 }
 

@@ -9,9 +9,10 @@ ghost use Rattle.ddt_commands.specs.Over.{whole};
 
 use crate::answering::answer_hex;
 use crate::commands::assign::identifier;
+use crate::commands::compile::of_group;
 use crate::lines::Lines;
 use crate::over::OverRegister;
-use crate::refusal::{Refusal, RegisterRefusal, WordRefusal};
+use crate::refusal::{Refusal, WordRefusal};
 use ddt_check::Accepted;
 use ddt_path::{Name, Xeid};
 use ddt_words::{Argument, Declaration, Words};
@@ -55,12 +56,8 @@ impl<'a> OverRegister<'a> for Answer<'a> {
         _words: &Words<'a>,
         register: &Accepted,
     ) -> Result<Lines, Refusal<'static>> {
-        let Some(group) = Name::of(self.group.as_bytes()) else {
-            return Err(Refusal::NoRegister(RegisterRefusal::NoSuchGroup));
-        };
-        let Some(digits) = answer_hex(alloc, register, group, self.xeid)? else {
-            return Err(Refusal::NoRegister(RegisterRefusal::NoSuchGroup));
-        };
+        let group = of_group(Name::of(self.group.as_bytes()))?;
+        let digits = of_group(answer_hex(alloc, register, group, self.xeid)?)?;
         Ok(Lines::whole(ended(digits)?))
     }
 }

@@ -1,6 +1,8 @@
 //! `ddt compile REGISTER GROUP`: the configuration of the group's servers.
 
-ghost use Rattle.std.specs.Prelude.{◌≡◌};
+ghost use Rattle.std.specs.Prelude.{◌≡◌, None, Some, IfErr, IfOk};
+ghost use Rattle.ddt_commands.specs.declared.refusal.Refusal.TheVariants.{NoRegister as IsNoRegister};
+ghost use Rattle.ddt_commands.specs.declared.refusal.register.RegisterRefusal.TheVariants.{NoSuchGroup as IsNoSuchGroup};
 ghost use Rattle.ddt_commands.specs.Check.{no_bad_word};
 ghost use Rattle.ddt_commands.specs.Compile.{IsConfigText, IsWhyNoGroup, group_of};
 ghost use Rattle.ddt_commands.specs.Over.{whole};
@@ -47,12 +49,16 @@ impl<'a> OverRegister<'a> for Compile<'a> {
         _words: &Words<'a>,
         register: &Accepted,
     ) -> Result<Lines, Refusal<'static>> {
-        let Some(group) = Name::of(self.group.as_bytes()) else {
-            return Err(Refusal::NoRegister(RegisterRefusal::NoSuchGroup));
-        };
-        match compile_group(alloc, register, group)? {
-            Some(config) => Ok(Lines::whole(to_toml(alloc, &config)?.into_bytes())),
-            None => Err(Refusal::NoRegister(RegisterRefusal::NoSuchGroup)),
-        }
+        let group = of_group(Name::of(self.group.as_bytes()))?;
+        let config = of_group(compile_group(alloc, register, group)?)?;
+        Ok(Lines::whole(to_toml(alloc, &config)?.into_bytes()))
     }
+}
+
+/// What was found for a word that is to name a group. Refused as NoSuchGroup where nothing was.
+pub fn of_group<T>(found: Option<T>) -> Result<T, Refusal<'static>>
+    ensures found { IfOk result (λ it. found ≡ Some it) }
+    ensures none { IfErr result (λ why. (why ≡ IsNoRegister IsNoSuchGroup) × (found ≡ None)) }
+{
+    found.ok_or(Refusal::NoRegister(RegisterRefusal::NoSuchGroup))
 }

@@ -1,9 +1,11 @@
 //! `ddt show HEX`: what a datagram says, or the first fault in it.
 
-ghost use Rattle.std.specs.Prelude.{◌≡◌, ℕ, true, List, IfOk, IfErr, IsErr, Ok, MatchResult};
+ghost use Rattle.std.specs.Prelude.{◌≡◌, ℕ, true, List, IfOk, IfErr, IsErr, Ok, Some, MatchResult};
 ghost use Rattle.hex.specs.Hex.{decode_of};
 ghost use Rattle.ddt_words.specs.Call.{call_of};
-ghost use Rattle.ddt_commands.specs.Show.{IsMessageText, IsShowText, IsWhyNoReply, IsWhyNoReferral, IsWhyNoRequest, IsWhyNotShown, hex_refusal};
+ghost use Rattle.ddt_commands.specs.declared.refusal.Refusal.TheVariants.{NoMessage as IsNoMessage};
+ghost use Rattle.ddt_commands.specs.declared.refusal.message.MessageRefusal.TheVariants.{UnknownMessage as IsUnknownMessage};
+ghost use Rattle.ddt_commands.specs.Show.{IsMessageText, IsShowText, IsUnknownType, IsWhyNoReply, IsWhyNoReferral, IsWhyNoRequest, IsWhyNotShown, hex_refusal, type_number, type_of};
 
 use crate::lines::Lines;
 use crate::refusal::{MessageRefusal, Refusal};
@@ -18,6 +20,14 @@ pub const WORDS: Declaration<'static> = Declaration {
     name: "show",
     arguments: &[Argument::One("hex")],
 };
+
+/// A kind of message that is shown.
+#[derive(Clone, Copy, Debug)]
+pub enum MessageKind {
+    Reply,
+    Referral,
+    Request,
+}
 
 /// The line of the message that the word spells in hexadecimal. Refusals: a word that is no hexadecimal text, an
 /// unknown type or no byte at all, the first fault of a message. It has no file to open.
@@ -41,10 +51,22 @@ fn message_text(alloc: Global, words: &Words<'_>) -> Result<Vec<u8>, Refusal<'st
         Ok(bytes) => bytes,
         Err(fault) => return Err(undecoded(fault)),
     };
+    match kind_of(&bytes)? {
+        MessageKind::Reply => reply_in(alloc, &bytes),
+        MessageKind::Referral => referral_in(alloc, &bytes),
+        MessageKind::Request => request_in(alloc, &bytes),
+    }
+}
+
+/// The kind of message that the first byte begins. Refused as UnknownMessage where it begins none, or there is no byte.
+fn kind_of(bytes: &[u8]) -> Result<MessageKind, Refusal<'static>>
+    ensures known { IfOk result (λ kind. type_of bytes.now ≡ Some (type_number kind)) }
+    ensures unknown { IfErr result (λ why. (why ≡ IsNoMessage IsUnknownMessage) × IsUnknownType (type_of bytes.now)) }
+{
     match bytes.first().map(|byte| byte >> 4) {
-        Some(MAP_REPLY) => reply_in(alloc, &bytes),
-        Some(MAP_REFERRAL) => referral_in(alloc, &bytes),
-        Some(ENCAPSULATED) => request_in(alloc, &bytes),
+        Some(MAP_REPLY) => Ok(MessageKind::Reply),
+        Some(MAP_REFERRAL) => Ok(MessageKind::Referral),
+        Some(ENCAPSULATED) => Ok(MessageKind::Request),
         _ => Err(Refusal::NoMessage(MessageRefusal::UnknownMessage)),
     }
 }

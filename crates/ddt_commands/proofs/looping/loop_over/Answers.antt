@@ -12,10 +12,12 @@ pub returns-in_err-sockets-clause-refused : goal.returns-in_err-sockets-clause-r
 returns-in_err-sockets-clause-refused g c = λ call asks.
     let e : c.from_residual.result ≡ Err OutOfMemory = search rules in rw e no_memory
 
-pub returns-in-Some-clause-refused : goal.returns-in-Some-clause-refused
-returns-in-Some-clause-refused g c = λ call asks.
+pub returns-in_err-are_on_loopback-clause-refused : goal.returns-in_err-are_on_loopback-clause-refused
+returns-in_err-are_on_loopback-clause-refused g c = λ call asks.
+    let e : c.from_residual-in_err-are_on_loopback.result ≡ Err c.in_err-are_on_loopback.field-0.0 = search rules in
     let are = c.deref.ensures.value ∙ c.in_ok-sockets.ensures in
-    outside c.in-Some.at (refl, refl) (ap first_outside (sym are) ∙ sym c.first_outside.ensures ∙ c.in-Some.is)
+    let why = c.in_err-are_on_loopback.ensures.outside in
+    rw (e, why.1) (outside why.0 (refl, refl) (ap first_outside (sym are) ∙ why.2))
 
 pub returns-in_err-servers-clause-refused : goal.returns-in_err-servers-clause-refused
 returns-in_err-servers-clause-refused g c = λ call asks.
@@ -27,7 +29,7 @@ returns-in_err-bind_all-clause-refused g c = λ call asks.
     let are = c.deref.ensures.value ∙ c.in_ok-sockets.ensures in
     let bound = c.deref-2.ensures.value ∙ c.in_ok-sockets.ensures in
     let why = c.in_err-bind_all.ensures.refused in
-    rw e (unbound c.args.task why.0 why.1 asks (ap first_outside (sym are) ∙ sym c.first_outside.ensures ∙ c.in_default.is)
+    rw e (unbound c.args.task why.0 why.1 asks (ap first_outside (sym are) ∙ c.in_ok-are_on_loopback.ensures.inside)
     (subst (λ (ls : List Locator). IsUnbound (Binds g.B.Fn c.args.bind) c.args.wires.now (c.args.task.me ∷ ls) why.0 why.1 c.bind_all.new.wires) bound why.2, refl) why.3)
 
 pub returns-in_err-ends-clause-refused : goal.returns-in_err-ends-clause-refused
@@ -46,7 +48,7 @@ returns-clause-text g c = λ call asks.
     let ran = c.in_ok-ends.ensures in record {
       task = c.args.task;
       asks = asks;
-      on_loopback = ap first_outside (sym are) ∙ sym c.first_outside.ensures ∙ c.in_default.is;
+      on_loopback = ap first_outside (sym are) ∙ c.in_ok-are_on_loopback.ensures.inside;
       ends = c.in_ok-ends.ends.items;
       come = (
         c.bind_all.new.wires,

@@ -13,12 +13,13 @@ pub returns-then-not-branch : goal.returns-then-not-branch
 returns-then-not-branch g c = λ left l.
     ap spelled (rw c.if-not-branch.true at (c.in_ok-next_record.ensures.takes left l)) ∙ ap Ok (sym (c.into_register.ensures ∙ c.new.ensures))
 
-pub returns-then-not-are_columns : goal.returns-then-not-are_columns
-returns-then-not-are_columns g c = λ left l.
+pub returns-in_err-read_columns : goal.returns-in_err-read_columns
+returns-in_err-read_columns g c = λ left l.
+    let e : c.from_residual-in_err-read_columns.result ≡ Err c.in_err-read_columns.field-0.0 = search rules in
     let t = rw c.if-not-branch.false at (c.in_ok-next_record.ensures.takes left l) in
-    other_columns left t.0 (fields_of c.next_record.new.fields) t.1 (sym c.are_columns.ensures ∙ c.if-not-are_columns.true)
+    rw e (other_columns left t.0 (fields_of c.next_record.new.fields) c.in_err-read_columns.field-0.0 t.1 (sym c.in_err-read_columns.ensures))
 
 pub returns : goal.returns
 returns g c = λ left l.
     let t = rw c.if-not-branch.false at (c.in_ok-next_record.ensures.takes left l) in
-    rw (below_columns left t.0 (fields_of c.next_record.new.fields) t.1 (sym c.are_columns.ensures ∙ c.if-not-are_columns.false)) (c.read_rows.ensures t.0 t.2)
+    rw (below_columns left t.0 (fields_of c.next_record.new.fields) t.1 (sym c.in_ok-read_columns.ensures)) (c.read_rows.ensures t.0 t.2)

@@ -1,11 +1,11 @@
-use Rattle.std.proofs.Common.{◌≡◌, subst, rules, arith, lit<, List, ℕ, length, Err}
+use Rattle.std.proofs.Common.{◌≡◌, sym, subst, rules, arith, lit<, List, ℕ, length, Err}
 use Rattle.csv.specs.Reading.{expected_len}
 use Rattle.csv.specs.Records.{fields_of}
 use Rattle.ddt_register.specs.Left.{IsLeft}
 use Rattle.ddt_register.specs.Kept.{kept}
 use Rattle.ddt_register.specs.Spelled.{row_in, rows_in}
 use Rattle.ddt_register.proofs.SpelledLemmas.{rows_in-are_rows, row_in-too_many}
-use Rattle.ddt_register.proofs.MidwayLemmas.{IsMidway, IsMidway-start, IsMidway-next, IsMidway-end, IsMidway-fault, IsMidway-refused, Gives-row, still_four, same_len}
+use Rattle.ddt_register.proofs.MidwayLemmas.{IsMidway, IsMidway-start, IsMidway-next, IsMidway-end, IsMidway-fault, IsMidway-refused, Gives-row, still_four, same_len, past_last, at_last}
 use Rattle.ddt_register.specs.declared.fault.ReadFault.TheVariants.{TooMany}
 use Rattle.ddt_register.proofs.reading.read_rows.Goals as goal
 
@@ -48,28 +48,30 @@ loop-row-preserved g c =
     IsMidway-next g.R.Read.remaining c.args.reader c.loop-row.reader c.next_record.new.reader c.loop-row.row (kept c.loop-row.items) (fields_of c.next_record.new.fields) c.in_ok-read_row.field-0 c.loop-row.invariant takes
     (found.reading c.if-not-branch.false) (still_four (expected_len c.loop-row.reader) new c.loop-row.invariant.columns (found.same c.if-not-branch.false)) c.in_ok-read_row.ensures)
 
-pub returns-in_err-next_record-2 : goal.returns-in_err-next_record-2
-returns-in_err-next_record-2 g c =
-    let e : c.from_residual-in_err-next_record-2.result ≡ Err c.in_err-next_record-2.field-0.0 = search rules in
+pub returns-in_err-past : goal.returns-in_err-past
+returns-in_err-past g c =
+    let e : c.from_residual-in_err-past.result ≡ Err c.in_err-past.field-0.0 = search rules in
     let last : c.loop-row.row ≡ 65536 = omega arith in
     let before = subst (λ (n : ℕ). IsMidway g.R.Read.remaining c.args.reader c.loop-row.reader n (kept c.loop-row.items)) last c.loop-row.invariant in
-    rw e (IsMidway-refused g.R.Read.remaining c.args.reader c.loop-row.reader c.next_record-2.new.reader 65536 (kept c.loop-row.items) (fields_of c.next_record-2.new.fields) c.in_err-next_record-2.field-0.0 before c.in_err-next_record-2.ensures.takes)
+    rw e (IsMidway-refused g.R.Read.remaining c.args.reader c.loop-row.reader c.next_record-2.new.reader 65536 (kept c.loop-row.items) (fields_of c.next_record-2.new.fields) c.in_err-past.field-0.0 before c.in_err-past.ensures.takes)
 
-pub returns-then-branch : goal.returns-then-branch
-returns-then-branch g c =
+pub returns-in_err-unless_too_many : goal.returns-in_err-unless_too_many
+returns-in_err-unless_too_many g c =
+    let e : c.from_residual-in_err-unless_too_many.result ≡ Err c.in_err-unless_too_many.field-0.0 = search rules in
     let new = expected_len c.next_record-2.new.reader in
-    let found = c.in_ok-next_record-2.ensures in
+    let found = c.in_ok-past.ensures in
     let fields = fields_of c.next_record-2.new.fields in
-    let takes = λ (left : List (List (List ℕ))) (l : IsLeft g.R.Read.remaining c.loop-row.reader left). rw c.if-branch.true at (found.takes left l) in
+    let past = past_last c.in_ok-past.past c.in_err-unless_too_many.field-0.0 (sym c.in_err-unless_too_many.ensures) in
+    let takes = λ (left : List (List (List ℕ))) (l : IsLeft g.R.Read.remaining c.loop-row.reader left). rw past.0 at (found.takes left l) in
     let last : c.loop-row.row ≡ 65536 = omega arith in
     let before = subst (λ (n : ℕ). IsMidway g.R.Read.remaining c.args.reader c.loop-row.reader n (kept c.loop-row.items)) last c.loop-row.invariant in
-    let four = same_len (length fields) new (still_four (expected_len c.loop-row.reader) new c.loop-row.invariant.columns (found.same c.if-branch.true)) (found.expected c.if-branch.true) in
-    IsMidway-fault g.R.Read.remaining c.args.reader c.loop-row.reader c.next_record-2.new.reader 65536 (kept c.loop-row.items) fields TooMany before takes (row_in-too_many 65536 fields (lit< tt) four)
+    let four = same_len (length fields) new (still_four (expected_len c.loop-row.reader) new c.loop-row.invariant.columns (found.same past.0)) (found.expected past.0) in
+    rw (e, past.1) (IsMidway-fault g.R.Read.remaining c.args.reader c.loop-row.reader c.next_record-2.new.reader 65536 (kept c.loop-row.items) fields TooMany before takes (row_in-too_many 65536 fields (lit< tt) four))
 
 pub into_register-requires-2 : goal.into_register-requires-2
 into_register-requires-2 g c = rows_in-are_rows c.loop-row.invariant.done (kept c.loop-row.items) c.loop-row.invariant.spelled
 
 pub returns : goal.returns
 returns g c =
-    let none = λ (left : List (List (List ℕ))) (l : IsLeft g.R.Read.remaining c.loop-row.reader left). rw c.if-branch.false at (c.in_ok-next_record-2.ensures.takes left l) in
+    let none = λ (left : List (List (List ℕ))) (l : IsLeft g.R.Read.remaining c.loop-row.reader left). rw (at_last c.in_ok-past.past (sym c.in_ok-unless_too_many.ensures)) at (c.in_ok-past.ensures.takes left l) in
     rw c.into_register-2.ensures (IsMidway-end g.R.Read.remaining c.args.reader c.loop-row.reader c.loop-row.row (kept c.loop-row.items) c.loop-row.invariant none)

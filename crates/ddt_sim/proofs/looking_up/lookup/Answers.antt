@@ -9,7 +9,7 @@ use Rattle.ddt_sim.specs.Headline.{IsHonestHop}
 use Rattle.ddt_resolver.proofs.OrderLemmas.{order_moved}
 use Rattle.ddt_sim.proofs.PassLemmas.{short_passes}
 use Rattle.ddt_sim.proofs.TrailLemmas.{result_trail, short_result}
-use Rattle.ddt_sim.proofs.AskLemmas.{ask_keeps_sound, rightly_asked, answer_given, failure_is_error, asked_me}
+use Rattle.ddt_sim.proofs.AskLemmas.{ask_keeps_sound, rightly_asked, answer_given, refused_fails, refused_is_right, failure_is_error, asked_me}
 use Rattle.ddt_sim.proofs.looking_up.lookup.Goals as goal
 
 pub returns-in-Ok-clause-headline : goal.returns-in-Ok-clause-headline
@@ -64,32 +64,20 @@ returns-in-Ok-clause-remembered g c = λ kept.
     let own : c.in-Ok.asked ≡ Answer kept.outcome = cc (is, c.in-Ok.is) in
     c.after_ask.ensures.answered kept.outcome own
 
-pub returns-in-Err-TooMany-clause-sound : goal.returns-in-Err-TooMany-clause-sound
-returns-in-Err-TooMany-clause-sound g c = λ r accepted honest sound.
+pub returns-in-Err-clause-sound : goal.returns-in-Err-clause-sound
+returns-in-Err-clause-sound g c = λ r accepted honest sound.
     ask_keeps_sound c.a_step_keeps_a_resolver_sound.ensures.steps c.a_step_keeps_a_resolver_sound.ensures.time r c.args.now c.args.x c.args.resolver.now accepted
     c.millis-millis.ensures.bound c.in_order.ensures sound c.ask.ensures.identifier c.ask.new.self c.ask.result c.ask.ensures.step c.ask.ensures.memory
 
-pub returns-in-Err-TooMany-clause-remembered : goal.returns-in-Err-TooMany-clause-remembered
-returns-in-Err-TooMany-clause-remembered g c = λ kept.
+pub returns-in-Err-clause-errors : goal.returns-in-Err-clause-errors
+returns-in-Err-clause-errors g c = λ r accepted honest sound.
+    rw c.unasked.ensures (refused_is_right c.args.now c.args.x c.args.resolver.now c.ask.new.self c.in-Err.error c.in-Err.ensures.step)
+
+pub returns-in-Err-clause-failed : goal.returns-in-Err-clause-failed
+returns-in-Err-clause-failed g c =
+    rw c.unasked.ensures (refused_fails c.args.now c.args.x c.args.resolver.now c.ask.new.self c.in-Err.error c.in-Err.ensures.step c.in-Err.ensures.memory)
+
+pub returns-in-Err-clause-remembered : goal.returns-in-Err-clause-remembered
+returns-in-Err-clause-remembered g c = λ kept.
     let is = answer_given (moved c.args.now c.args.resolver.now) c.args.x c.ask.new.self kept.prefix kept.entry kept.outcome kept.found kept.answers c.ask.result c.ask.ensures.step c.ask.ensures.memory in
-    absurd (cc (is, c.in-Err-TooMany.is))
-
-pub returns-in-Err-Exhausted-clause-sound : goal.returns-in-Err-Exhausted-clause-sound
-returns-in-Err-Exhausted-clause-sound g c = λ r accepted honest sound.
-    ask_keeps_sound c.a_step_keeps_a_resolver_sound.ensures.steps c.a_step_keeps_a_resolver_sound.ensures.time r c.args.now c.args.x c.args.resolver.now accepted
-    c.millis-millis.ensures.bound c.in_order.ensures sound c.ask.ensures.identifier c.ask.new.self c.ask.result c.ask.ensures.step c.ask.ensures.memory
-
-pub returns-in-Err-Exhausted-clause-remembered : goal.returns-in-Err-Exhausted-clause-remembered
-returns-in-Err-Exhausted-clause-remembered g c = λ kept.
-    let is = answer_given (moved c.args.now c.args.resolver.now) c.args.x c.ask.new.self kept.prefix kept.entry kept.outcome kept.found kept.answers c.ask.result c.ask.ensures.step c.ask.ensures.memory in
-    absurd (cc (is, c.in-Err-Exhausted.is))
-
-pub returns-in-Err-Memory-clause-sound : goal.returns-in-Err-Memory-clause-sound
-returns-in-Err-Memory-clause-sound g c = λ r accepted honest sound.
-    ask_keeps_sound c.a_step_keeps_a_resolver_sound.ensures.steps c.a_step_keeps_a_resolver_sound.ensures.time r c.args.now c.args.x c.args.resolver.now accepted
-    c.millis-millis.ensures.bound c.in_order.ensures sound c.ask.ensures.identifier c.ask.new.self c.ask.result c.ask.ensures.step c.ask.ensures.memory
-
-pub returns-in-Err-Memory-clause-remembered : goal.returns-in-Err-Memory-clause-remembered
-returns-in-Err-Memory-clause-remembered g c = λ kept.
-    let is = answer_given (moved c.args.now c.args.resolver.now) c.args.x c.ask.new.self kept.prefix kept.entry kept.outcome kept.found kept.answers c.ask.result c.ask.ensures.step c.ask.ensures.memory in
-    absurd (cc (is, c.in-Err-Memory.is))
+    absurd (cc (is, c.in-Err.is))

@@ -3,7 +3,7 @@ use Rattle.std.proofs.Common.{◌≡◌, ℕ, ◌+◌, ◌<◌, ◌≤◌, true,
 use Rattle.std.specs.Prelude.{◌&&◌, ⊤, Bool}
 use Rattle.std.specs.List.{list_any}
 use Rattle.std.specs.Option.{option_map_or}
-use Rattle.std.proofs.lemmas.Bool.{false≢true, both_ways, false_from_ne_true, and_parts, and_from, and_cases, cases_lt, not-true, not_from_false, not-false}
+use Rattle.std.proofs.lemmas.Bool.{false≢true, both_ways, and_parts, and_from, and_cases, cases_lt, not-true, not-false}
 use Rattle.ddt_path.specs.Covers.{covers, is_strictly_below}
 use Rattle.ddt_path.proofs.CoverLemmas.{covers_self, covers_trans, below_is, below_wider}
 use Rattle.ddt_register.specs.declared.zone.Zone.{Zone}

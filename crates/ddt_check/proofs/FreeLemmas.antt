@@ -1,8 +1,6 @@
 -- Each hole, and each part of a site that isn't registered, is a free prefix; and the numbers of each answer are such as
 -- a message holds.
-use Rattle.std.proofs.Common.{◌≡◌, ℕ, ◌≤◌, Bool, true, false, cond, ◌==◌, List, [], length, map, Option, Some, None, refl, sym, ap, ◌∙◌, arith}
-use Rattle.std.specs.Prelude.{unwrap_or}
-use Rattle.std.specs.List.{filter}
+use Rattle.std.proofs.Common.{◌≡◌, ℕ, ◌≤◌, Bool, true, false, cond, ◌==◌, List, [], length, Option, Some, None, refl, sym, ◌∙◌, arith}
 use Rattle.std.specs.Option.{option_map_or}
 use Rattle.ddt_path.specs.declared.locator.Locator.{Locator}
 use Rattle.ddt_path.specs.declared.record.Role.{Role}
@@ -18,7 +16,7 @@ use Rattle.ddt_path.specs.Path.{is_path, is_prefix_path}
 use Rattle.ddt_path.proofs.PathTestLemmas.{prefix_that_covers}
 use Rattle.ddt_path.proofs.HoleLemmas.{kept_covers, hole_is}
 use Rattle.ddt_path.proofs.FrontLemmas.{below_parts}
-use Rattle.ddt_path.proofs.MemberLemmas.{IsIn, any_in, holds_at, list_any-map, found_in}
+use Rattle.ddt_path.proofs.MemberLemmas.{IsIn, holds_at, found_in}
 use Rattle.ddt_path.specs.declared.matching.Preference.TheVariants.{Longest}
 use Rattle.ddt_register.specs.declared.zone.Zone.{Zone}
 use Rattle.ddt_register.specs.declared.site.Site.{Site}
@@ -38,7 +36,6 @@ use Rattle.ddt_check.proofs.SaysLemmas.{says_what_covers}
 use Rattle.ddt_path.proofs.MatchingLemmas.{best_member, best_there, best_unbeaten}
 use Rattle.ddt_check.proofs.RootLemmas.{zone_found}
 use Rattle.ddt_check.proofs.ZoneLemmas.{zone_prefix, site_prefix, assigned_at}
-use Rattle.ddt_path.proofs.FilterLemmas.{in_filter, all_kept}
 
 module _ (r : Register) (accepted : IsAccepted r) where
   zone_is_prefix : (z : Zone) → IsIn z r.zones → is_prefix_path z.prefix ≡ true

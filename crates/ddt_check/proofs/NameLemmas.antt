@@ -1,15 +1,13 @@
 -- The first item of a key in a list whose rows rise, by the place where a search of the sorted list ends.
-use Rattle.std.proofs.Common.{◌≡◌, ℕ, ◌<◌, ◌≤◌, Bool, true, false, cond, List, [], ◌∷◌, length, get_or, IsPermutation, find, Option, Some, None, inl, inr, refl, sym, ap, subst, ◌∙◌, arith}
+use Rattle.std.proofs.Common.{◌≡◌, ℕ, ◌<◌, ◌≤◌, Bool, true, false, List, length, get_or, IsPermutation, find, Some, None, inl, inr, refl, sym, ap, subst, ◌∙◌, arith}
 use Rattle.std.specs.List.Sorted.{IsPartitionedBy, IsPartitionPoint}
 use Rattle.std.specs.Ordering.{nat_cmp, is_lt}
 use Rattle.std.specs.Cmp.Lexicographic.{slice_cmp, bytes_decides}
-use Rattle.std.proofs.lemmas.Bool.{true≢false, both_ways, false_from_ne_true, cases_lt}
-use Rattle.std.proofs.lemmas.List.Sorted.{Contains-permutation, IsPermutation-sym}
+use Rattle.std.proofs.lemmas.Bool.{both_ways, false_from_ne_true, cases_lt}
 use Rattle.ddt_path.specs.Covers.{is_same_path}
 use Rattle.ddt_check.specs.Order.{IsInOrder}
 use Rattle.ddt_path.proofs.MemberLemmas.{IsIn, placed, placed_in, found_none}
 use Rattle.ddt_register.proofs.RowOrderLemmas.{Rising, found_first}
-use Rattle.std.proofs.lemmas.List.{get_or_default}
 use Rattle.ddt_check.proofs.OrderLemmas.{far}
 use Rattle.ddt_path.proofs.PathOrderLemmas.{IsUpTo, lt_after, same_from_ties, not_below_itself}
 

@@ -1,7 +1,7 @@
 -- What the assignment of one identifier says of others that its prefix covers.
-use Rattle.std.proofs.Common.{◌≡◌, ◌⊎◌, ℕ, ◌≤◌, Bool, true, false, cond, ◌&&◌, ◌==◌, List, length, map, Option, Some, None, refl, sym, ap, subst, ◌∙◌, arith, inl, inr}
+use Rattle.std.proofs.Common.{◌≡◌, ℕ, ◌≤◌, Bool, true, false, cond, ◌==◌, List, length, Option, Some, None, refl, sym, ap, subst, ◌∙◌, arith, inl, inr}
 use Rattle.std.specs.Option.{option_map_or}
-use Rattle.std.proofs.lemmas.Bool.{or_right, cases_lt, both_ways, false_from_ne_true, and_parts, not-true}
+use Rattle.std.proofs.lemmas.Bool.{or_right, cases_lt, both_ways, false_from_ne_true}
 use Rattle.std.proofs.lemmas.Option.{same_Some, none-some}
 use Rattle.ddt_path.specs.declared.locator.Locator.{Locator}
 use Rattle.ddt_path.specs.declared.record.Role.{Role}
@@ -10,13 +10,12 @@ use Rattle.ddt_path.specs.declared.record.Outcome.{Outcome}
 use Rattle.ddt_path.specs.declared.record.Outcome.TheVariants.{Registered, NotRegistered, Hole}
 use Rattle.ddt_path.specs.Records.{record_of}
 use Rattle.ddt_path.specs.Covers.{covers, overlaps, is_same_path, is_strictly_below}
-use Rattle.ddt_path.specs.Free.{hole_of, free, overlaps_none}
+use Rattle.ddt_path.specs.Free.{hole_of}
 use Rattle.ddt_path.specs.Path.{is_path}
 use Rattle.ddt_path.proofs.CoverLemmas.{covers_self, covers_trans}
 use Rattle.ddt_path.proofs.FrontLemmas.{front_below, one_front, one_path, overlaps_front}
-use Rattle.ddt_path.proofs.HoleLemmas.{kept_apart, IsFreeOf, hole_of_all_or_alone, hole_is_free, hole_of_all}
-use Rattle.ddt_path.proofs.MemberLemmas.{IsIn, contained, fails_at}
-use Rattle.ddt_path.proofs.EndLemmas.{one_identifier}
+use Rattle.ddt_path.proofs.HoleLemmas.{kept_apart, IsFreeOf, hole_of_all_or_alone}
+use Rattle.ddt_path.proofs.MemberLemmas.{IsIn, contained}
 use Rattle.ddt_path.specs.declared.matching.Preference.TheVariants.{Longest}
 use Rattle.ddt_register.specs.declared.zone.Zone.{Zone}
 use Rattle.ddt_register.specs.declared.site.Site.{Site}

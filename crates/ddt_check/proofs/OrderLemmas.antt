@@ -1,19 +1,17 @@
 -- Lists sorted by a key and then by row: what stands between, and what is found beside an item.
-use Rattle.std.proofs.Common.{◌≡◌, ℕ, ◌+◌, ◌<◌, ◌≤◌, Bool, true, false, cond, ltb, List, length, get_or, IsPermutation, Ordering, Less, Equal, Greater, inl, inr, refl, sym, ap, subst, ◌∙◌, arith}
+use Rattle.std.proofs.Common.{◌≡◌, ℕ, ◌+◌, ◌<◌, ◌≤◌, Bool, true, false, cond, ltb, List, length, get_or, IsPermutation, Ordering, Less, Equal, Greater, inl, inr, refl, ap, subst, ◌∙◌, arith}
 use Rattle.std.specs.Prelude.{◌==◌, ◌&&◌, nat_lt}
 use Rattle.std.specs.List.{list_any}
 use Rattle.std.specs.Ordering.{nat_cmp, is_lt, is_eq, ordering_then, ordering_reverse}
 use Rattle.std.specs.Cmp.{IsTotalOrder, then_total, on_total, nat_cmp_total}
-use Rattle.std.specs.Cmp.Lexicographic.{slice_cmp, texts_ties, nat_list_cmp_total, nat_list_eq_equiv, bytes_decides}
+use Rattle.std.specs.Cmp.Lexicographic.{slice_cmp, texts_ties, nat_list_cmp_total, bytes_decides}
 use Rattle.std.proofs.lemmas.Bool.{true≢false, both_ways, false_from_ne_true, and_parts, and_from, eqb-false, ltb-true, ltb-false, lt-ltb, cases_lt}
-use Rattle.std.proofs.lemmas.List.Sorted.{sorted_far, ranks_by, Contains-permutation, IsPermutation-sym}
-use Rattle.std.proofs.lemmas.List.Elements.{Contains-get_or}
+use Rattle.std.proofs.lemmas.List.Sorted.{sorted_far, ranks_by}
 use Rattle.ddt_path.specs.Covers.{is_same_path}
 use Rattle.ddt_check.specs.Order.{in_order, IsInOrder}
 use Rattle.ddt_path.proofs.MemberLemmas.{placed, placed_in, any_in, in_any, iff_same}
 use Rattle.ddt_path.proofs.CoverLemmas.{same_path-flips}
 use Rattle.ddt_path.proofs.PathOrderLemmas.{IsUpTo, is_same_path-between}
-use Rattle.std.proofs.lemmas.List.{get_or_default}
 use Rattle.ddt_register.proofs.RowOrderLemmas.{Rising, rows_apart}
 
 -- ---- lists in order

@@ -8,7 +8,7 @@
 --   site                    the site    empty            its ETRs
 use Rattle.std.specs.Prelude.{ℕ, ◌+◌, Bool, false, ◌==◌, ◌&&◌, nat_lt, if◌then◌else◌, List, [], ◌∷◌, length, Option, Some, None, Result, Ok, Err, codes, ⊤, ◌≡◌}
 use Rattle.std.specs.List.{slice_split}
-use Rattle.std.specs.Cmp.Lexicographic.{pointwise}
+use Rattle.std.specs.Str.{bytes_eq}
 use Rattle.ddt_path.specs.declared.locator.Locator.{Locator}
 use Rattle.ddt_path.specs.declared.record.Role.{Role}
 use Rattle.ddt_path.specs.declared.record.Role.TheVariants.{Node, Ms}
@@ -92,18 +92,14 @@ item_in (Kind.Group role) row prefix group addresses = group_in role row prefix 
 item_in (Kind.Zone role) row prefix group addresses = zone_in role row prefix group addresses
 item_in Kind.Site row prefix group addresses = site_in row prefix group addresses
 
--- whether a text is this one
-abbrev pub is_text : List ℕ → List ℕ → Bool
-is_text word text = pointwise ◌==◌ text word
-
 -- the kind that a text names
 abbrev pub kind_in : ReadFault → List ℕ → Result Kind ReadFault
 kind_in fault text =
-    if is_text (codes "group-node") text then Ok (Kind.Group Node)
-    else if is_text (codes "group-ms") text then Ok (Kind.Group Ms)
-    else if is_text (codes "node") text then Ok (Kind.Zone Node)
-    else if is_text (codes "ms") text then Ok (Kind.Zone Ms)
-    else if is_text (codes "site") text then Ok Kind.Site
+    if bytes_eq text (codes "group-node") then Ok (Kind.Group Node)
+    else if bytes_eq text (codes "group-ms") then Ok (Kind.Group Ms)
+    else if bytes_eq text (codes "node") then Ok (Kind.Zone Node)
+    else if bytes_eq text (codes "ms") then Ok (Kind.Zone Ms)
+    else if bytes_eq text (codes "site") then Ok Kind.Site
     else Err fault
 
 -- a row, whose kind is examined first
@@ -150,8 +146,8 @@ rows_in row (fields ∷ records) = do
 
 abbrev pub are_columns : List (List ℕ) → Bool
 are_columns (kind ∷ prefix ∷ group ∷ addresses ∷ []) =
-    is_text (codes "kind") kind && (is_text (codes "prefix") prefix
-    && (is_text (codes "group") group && is_text (codes "addresses") addresses))
+    bytes_eq kind (codes "kind") && (bytes_eq prefix (codes "prefix")
+    && (bytes_eq group (codes "group") && bytes_eq addresses (codes "addresses")))
 are_columns fields = false
 
 -- nothing where the first record names the columns

@@ -1,6 +1,6 @@
 -- The bytes that texts are made of, and a text cut at a byte.
-use Rattle.std.proofs.Common.{◌≡◌, ◌≢◌, ℕ, ◌^◌, ◌<◌, ◌≤◌, Bool, true, false, List, [], ◌∷◌, ◌++◌, length, decimal, refl, sym, ap, ◌∙◌, arith, inl, inr, true≢false, eq-eqb, ne_eqb, one-add, append-nil, take-append-drop}
-use Rattle.std.specs.Prelude.{◌==◌, ◌||◌}
+use Rattle.std.proofs.Common.{◌≡◌, ◌≢◌, ℕ, ◌^◌, ◌<◌, ◌≤◌, true, false, List, [], ◌∷◌, ◌++◌, length, decimal, refl, sym, ap, ◌∙◌, arith, inl, inr, eq-eqb, ne_eqb, one-add, append-nil, take-append-drop}
+use Rattle.std.specs.Prelude.{◌==◌}
 use Rattle.std.specs.List.{position_or_len, list_any}
 use Rattle.std.specs.Char.{digit_value}
 use Rattle.std.specs.Str.Parse.{AllDigits}

@@ -5,13 +5,11 @@ use Rattle.std.proofs.lemmas.Bool.{cases_eq, cases_lt}
 use Rattle.std.proofs.lemmas.List.{take_all}
 use Rattle.std.proofs.Math.Nat.{zero-div}
 use Rattle.ddt_path.proofs.PrefixLemmas.{width_most}
-use Rattle.ddt_path.specs.declared.locator.Locator.{Locator}
-use Rattle.ddt_path.specs.declared.locator.Locator.TheVariants.{V4, V6}
 use Rattle.ddt_path.specs.declared.form.Form.{Form}
 use Rattle.ddt_path.specs.declared.form.Form.TheVariants.{Range, Block}
 use Rattle.ddt_path.specs.declared.form.PrefixFault.{PrefixFault}
 use Rattle.ddt_path.specs.declared.form.PrefixFault.TheVariants as prefix_fault
-use Rattle.ddt_path.specs.Path.{digits, prefix_of, form_len, form_width, are_zero, address_width}
+use Rattle.ddt_path.specs.Path.{digits, prefix_of, form_len, form_width, are_zero}
 use Rattle.ddt_text.specs.declared.fault.TextFault.{TextFault}
 use Rattle.ddt_text.specs.declared.fault.TextFault.TheVariants.{Address, Length, Trailing}
 use Rattle.ddt_text.specs.Grammar.{SpellsRange, SpellsBlock, SpellsPrefix}

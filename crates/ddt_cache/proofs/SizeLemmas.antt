@@ -1,9 +1,9 @@
 -- How many entries there are: what is live is no more than what there is.
-use Rattle.std.proofs.Common.{◌≡◌, ℕ, ◌<◌, ◌≤◌, ◌-◌, ◌+◌, Bool, cond, true, false, List, [], ◌∷◌, Some, None, Option, refl, sym, ap, subst, ◌∙◌, arith}
+use Rattle.std.proofs.Common.{◌≡◌, ℕ, ◌<◌, ◌≤◌, ◌+◌, Bool, cond, true, false, List, [], ◌∷◌, Some, None, Option, refl, sym, ap, subst, ◌∙◌, arith}
 use Rattle.std.specs.Prelude.{is_some, not, nat_lt, ◌&&◌, ◌||◌, filter}
 use Rattle.std.specs.List.{list_any}
 use Rattle.std.specs.Cmp.Lexicographic.{nat_list_cmp_total}
-use Rattle.std.specs.FinMap.{get, len, empty, len-empty, len-insert, insert, remove, keys, contains_key, contains_key-keys, get-remove, len-remove}
+use Rattle.std.specs.FinMap.{get, len, empty, len-empty, len-insert, insert, remove, keys, contains_key, contains_key-keys, get-remove}
 use Rattle.std.proofs.lemmas.Bool.{lt-ltb, ltb-true}
 use Rattle.ddt_trie.specs.PrefixMap.{path_cmp}
 use Rattle.ddt_trie.proofs.EntryLemmas.{tied}

@@ -1,5 +1,5 @@
 -- The configuration of a group of an accepted register has the shape that a configuration keeps.
-use Rattle.std.proofs.Common.{◌≡◌, ◌≢◌, ◌<◌, Bool, true, false, not, ◌&&◌, List, length, refl, sym, ap, ◌∙◌, arith, le-leb}
+use Rattle.std.proofs.Common.{◌≡◌, ◌<◌, Bool, true, false, not, ◌&&◌, List, length, refl, sym, ap, ◌∙◌, arith, le-leb}
 use Rattle.std.specs.List.{list_any}
 use Rattle.std.proofs.lemmas.Bool.{false≢true, and_parts}
 use Rattle.ddt_path.specs.declared.locator.Locator.{Locator}
@@ -13,7 +13,6 @@ use Rattle.ddt_register.specs.declared.register.Register.{Register}
 use Rattle.ddt_check.specs.Zones.{locators_of}
 use Rattle.ddt_check.specs.Rules.{IsAccepted}
 use Rattle.ddt_check.specs.Laws.{AreServers}
-use Rattle.ddt_config.specs.declared.authority.Authority.{Authority}
 use Rattle.ddt_config.specs.Shaped.{is_server_set, is_child_of, is_site_of, is_content_of, is_authority_of, is_shaped}
 use Rattle.ddt_compile.specs.GroupConfig.{is_between, is_direct_child, child_of, entry_of, content_of, authority_of, authorities_of}
 use Rattle.ddt_check.specs.Zones.{is_site_in, is_served_by}

@@ -1,11 +1,10 @@
 -- Zones in the order of their prefixes: what a walk over them finds directly below a zone.
-use Rattle.std.proofs.Common.{◌≡◌, ℕ, ◌+◌, ◌-◌, ◌<◌, ◌≤◌, Bool, true, false, not, List, [], length, take, get_or, IsPermutation, Option, Some, None, inl, inr, refl, sym, subst, ◌∙◌, arith}
+use Rattle.std.proofs.Common.{◌≡◌, ℕ, ◌+◌, ◌<◌, ◌≤◌, Bool, true, false, not, List, [], length, take, get_or, IsPermutation, Option, Some, None, inl, inr, refl, sym, subst, ◌∙◌, arith}
 use Rattle.std.specs.List.{list_any, filter}
 use Rattle.std.specs.List.Sorted.{IsPartitionPoint}
 use Rattle.std.specs.Ordering.{nat_cmp, is_le}
 use Rattle.std.specs.Cmp.Lexicographic.{slice_cmp}
-use Rattle.std.proofs.lemmas.Bool.{cases_lt, false≢true, and_parts, and_from, both_ways, not-true, not_from_false, false_from_ne_true}
-use Rattle.std.proofs.lemmas.List.Sorted.{Contains-permutation, IsPermutation-sym}
+use Rattle.std.proofs.lemmas.Bool.{cases_lt, false≢true, and_parts, and_from, both_ways, not_from_false, false_from_ne_true}
 use Rattle.std.proofs.lemmas.List.{get_or_default}
 use Rattle.ddt_path.specs.Covers.{covers, is_strictly_below}
 use Rattle.ddt_path.proofs.CoverLemmas.{below_from, below_is, below_wider}

@@ -5,7 +5,7 @@ use Rattle.std.specs.Result.{IfOk, IfErr}
 use Rattle.toml.specs.Data.{Members}
 use Rattle.toml.specs.Parse.{parse_document}
 use Rattle.ddt_config.specs.declared.fault.ConfigFault.{ConfigFault}
-use Rattle.ddt_config.specs.declared.fault.ConfigFault.TheVariants.{Toml, Field, Value, Shape, Memory}
+use Rattle.ddt_config.specs.declared.fault.ConfigFault.TheVariants.{Memory}
 use Rattle.ddt_config.specs.declared.child.Child.{Child}
 use Rattle.ddt_config.specs.declared.config.ServerConfig.{ServerConfig}
 use Rattle.ddt_config.specs.Shaped.{is_shaped}

@@ -25,7 +25,7 @@ use Rattle.ddt_wire.specs.Addresses.{addresses_at}
 use Rattle.ddt_wire.proofs.AddressesLaws.{AreAddresses, addresses_take, addresses_again}
 use Rattle.ddt_wire.proofs.EidLemmas.{form_of-named}
 use Rattle.ddt_wire.proofs.EidLaws.{eid_takes, eid_again}
-use Rattle.ddt_wire.proofs.MessageLaws.{bit_of, bit-le, bit_again}
+use Rattle.ddt_wire.proofs.MessageLaws.{bit_of, bit-le}
 use Rattle.ddt_ecm.specs.declared.fault.RequestFault.{RequestFault}
 use Rattle.ddt_ecm.specs.declared.fault.RequestFault.TheVariants as fault
 use Rattle.ddt_ecm.specs.MapRequest.{Ignored, a_place, m_place, irc_limit, request_word, request_fields, SpellsRequest, from_eid, host_of, xeid_at, source_at, head_at, from_address, rlocs_at, trails, map_request_at}

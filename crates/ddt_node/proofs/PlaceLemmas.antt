@@ -1,10 +1,10 @@
 -- What the maps of a server answer, in terms of the lists of the configuration.
-use Rattle.std.proofs.Common.{◌≡◌, ℕ, zero, suc, ◌+◌, ◌<◌, ◌≤◌, Bool, true, false, cond, List, [], ◌∷◌, length, get_or, drop, map, Some, None, Option, refl, sym, ap, subst, ◌∙◌, arith, inl, inr}
+use Rattle.std.proofs.Common.{◌≡◌, ℕ, zero, suc, ◌+◌, ◌<◌, ◌≤◌, List, [], ◌∷◌, length, get_or, drop, map, Some, None, Option, refl, sym, ap, subst, ◌∙◌, arith, inl, inr}
 use Rattle.std.specs.Prelude.{is_some, slice_get}
 use Rattle.std.specs.Option.{option_map}
 use Rattle.std.specs.List.{list_any, enumerate_from}
 use Rattle.std.specs.Cmp.Lexicographic.{nat_list_cmp_total}
-use Rattle.std.specs.FinMap.{FinMap, from_entries, get, contains_key, keys, len, insert, empty, len-empty, len-insert}
+use Rattle.std.specs.FinMap.{FinMap, from_entries, get, contains_key, keys, len, insert, empty, len-empty}
 use Rattle.std.specs.FinMap.Entries.{is_some-find}
 use Rattle.std.proofs.Math.Seq.{drop-cons, drop-length}
 use Rattle.std.proofs.lemmas.List.{length-map}

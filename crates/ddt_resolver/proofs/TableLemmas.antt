@@ -1,7 +1,7 @@
 -- Two maps as one table: what is found by ticket, by nonce, and how many lookups there are.
 use Rattle.std.proofs.Common.{◌≡◌, ℕ, ◌+◌, ◌-◌, Bool, cond, true, false, List, [], ◌∷◌, length, Option, Some, None, refl, sym, ap, subst, ◌∙◌, inl, inr, ◌⊎◌, nat_cmp, arith, eq-eqb}
 use Rattle.std.specs.Prelude.{◌≢◌, ◌==◌, is_some, IsSome}
-use Rattle.std.specs.Cmp.{nat_cmp_total, unsigned_tied, eq_by_cmp_equiv}
+use Rattle.std.specs.Cmp.{nat_cmp_total, unsigned_tied}
 use Rattle.std.specs.FinMap.{FinMap, get, insert, remove, len, find, get-from_entries, len-insert, len-remove, len-empty}
 use Rattle.std.specs.Map.{lookup}
 use Rattle.std.proofs.lemmas.Cmp.{nat_eq_equiv}

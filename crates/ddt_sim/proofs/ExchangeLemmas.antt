@@ -3,7 +3,6 @@ use Rattle.std.proofs.Common.{◌≡◌, ℕ, ◌<◌, ◌≤◌, ◌^◌, true,
 use Rattle.std.specs.Prelude.{IfOk, MatchOption}
 use Rattle.std.specs.Option.{option_map_or}
 use Rattle.std.specs.declared.alloc.AllocError.{AllocError}
-use Rattle.ddt_path.specs.declared.locator.Locator.{Locator}
 use Rattle.ddt_path.specs.declared.xeid.Xeid.{Xeid}
 use Rattle.ddt_register.specs.declared.register.Register.{Register}
 use Rattle.ddt_ecm.specs.Request.{Message, Spells}
@@ -14,7 +13,7 @@ use Rattle.ddt_resolver.specs.declared.answers.Outgoing.{Outgoing}
 use Rattle.ddt_resolver.specs.declared.answers.Heard.{Heard}
 use Rattle.ddt_resolver.specs.declared.answers.Heard.TheVariants as heard
 use Rattle.ddt_resolver.specs.declared.answers.Why.{Why}
-use Rattle.ddt_resolver.specs.State.{State, moved, request_bytes}
+use Rattle.ddt_resolver.specs.State.{State, moved}
 use Rattle.ddt_resolver.specs.Bound.{measure, ComesNearer}
 use Rattle.ddt_resolver.specs.Act.{HearStep}
 use Rattle.ddt_resolver.specs.Order.{IsInOrder}
@@ -25,7 +24,7 @@ use Rattle.ddt_sim.specs.declared.hop.LookupError.TheVariants.{GaveUp, Memory}
 use Rattle.ddt_sim.specs.declared.following.Turn.{Turn}
 use Rattle.ddt_sim.specs.declared.following.Turn.TheVariants.{GoesOn, Ends}
 use Rattle.ddt_sim.specs.Sound.{IsRightHeard, StepsKeepSoundness, TimeKeepsSoundness}
-use Rattle.ddt_sim.specs.Waiting.{Waits, CanBeAsked, requests_left, left_after}
+use Rattle.ddt_sim.specs.Waiting.{Waits, requests_left, left_after}
 use Rattle.ddt_sim.specs.Lookup.{IsTurn, IsNotFor, TurnFails, gave_up, unanswered, not_taken, stopped, heard_of, hop_of, reply_or_failure, turn_or_failure}
 use Rattle.ddt_sim.specs.Headline.{IsUnderWay, IsRightTurn, IsRightFailure}
 use Rattle.ddt_sim.specs.Reply.{IsWellHeard, IsUnderstood}

@@ -1,5 +1,5 @@
 -- Which servers a lookup asks: those of a group of the register.
-use Rattle.std.proofs.Common.{◌≡◌, ℕ, ◌<◌, length, List, [], Option, Some, None, refl, sym, subst}
+use Rattle.std.proofs.Common.{◌≡◌, ℕ, ◌<◌, length, List, [], Option, Some, None, refl, subst}
 use Rattle.std.specs.Prelude.{IsTrue}
 use Rattle.std.specs.Option.{option_map_or}
 use Rattle.std.proofs.lemmas.Bool.{false≢true}

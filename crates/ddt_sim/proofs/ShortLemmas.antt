@@ -1,8 +1,8 @@
 -- A trail over honest servers is short: each referral leads to a longer zone, and one set is asked to its end.
-use Rattle.std.proofs.Common.{◌≡◌, ℕ, suc, ◌+◌, ◌<◌, ◌≤◌, Bool, cond, true, false, ◌&&◌, List, [], ◌∷◌, length, Option, None, Some, refl, sym, ap, ◌∙◌, subst, arith, inl, inr}
+use Rattle.std.proofs.Common.{◌≡◌, ℕ, suc, ◌+◌, ◌<◌, ◌≤◌, Bool, true, false, ◌&&◌, List, ◌∷◌, length, Option, None, Some, sym, ap, ◌∙◌, subst, arith, inl, inr}
 use Rattle.std.specs.Prelude.{IsTrue, nat_lt}
 use Rattle.std.specs.List.{All, Contains, filter}
-use Rattle.std.proofs.lemmas.Bool.{false≢true, or_right, and_parts, and_from, and_right, lt-ltb, ltb-true, le-ltb}
+use Rattle.std.proofs.lemmas.Bool.{or_right, and_parts, and_from, and_right, lt-ltb, ltb-true, le-ltb}
 use Rattle.ddt_path.specs.declared.locator.Locator.{Locator}
 use Rattle.ddt_path.specs.declared.record.Outcome.{Outcome}
 use Rattle.ddt_path.specs.declared.record.ReferralRecord.{ReferralRecord}
@@ -11,7 +11,7 @@ use Rattle.ddt_path.specs.declared.xeid.Xeid.{Xeid}
 use Rattle.ddt_path.specs.Covers.{covers}
 use Rattle.ddt_path.specs.Locators.{lists}
 use Rattle.ddt_path.specs.Path.{xeid_path, is_path}
-use Rattle.ddt_path.proofs.MemberLemmas.{IsIn, in_contained}
+use Rattle.ddt_path.proofs.MemberLemmas.{in_contained}
 use Rattle.ddt_path.proofs.FilterLemmas.{fewer}
 use Rattle.ddt_path.proofs.LocatorLemmas.{lists_at}
 use Rattle.ddt_register.specs.declared.zone.Zone.{Zone}

@@ -1,11 +1,10 @@
 -- Each step keeps a resolver sound, and answers what the register assigns.
-use Rattle.std.proofs.Common.{◌≡◌, ℕ, zero, suc, ◌<◌, Bool, cond, true, false, List, [], ◌∷◌, length, get_or, Some, None, refl, sym, ap, ◌∙◌, subst, arith, inl, inr, ◌⊎◌, eq-eqb, Contains}
+use Rattle.std.proofs.Common.{◌≡◌, ℕ, ◌<◌, Bool, cond, true, false, List, length, Some, None, refl, sym, ap, ◌∙◌, subst, arith, inl, inr, ◌⊎◌, Contains}
 use Rattle.std.specs.Prelude.{◌≢◌, IsTrue, max, Result}
 use Rattle.std.specs.FinMap.{get, insert}
 use Rattle.std.proofs.lemmas.Option.{none-some, same_Some}
-use Rattle.std.proofs.lemmas.Bool.{false≢true, or_right}
+use Rattle.std.proofs.lemmas.Bool.{false≢true}
 use Rattle.ddt_path.specs.declared.locator.Locator.{Locator}
-use Rattle.ddt_path.specs.declared.locator.Locator.TheVariants.{V4, V6}
 use Rattle.ddt_path.specs.declared.record.Role.{Role}
 use Rattle.ddt_path.specs.declared.record.Role.TheVariants.{Node, Ms}
 use Rattle.ddt_path.specs.declared.action.Action.{Action}
@@ -17,7 +16,7 @@ use Rattle.ddt_path.specs.declared.xeid.Xeid.{Xeid}
 use Rattle.ddt_path.specs.Records.{record_of, referral_action}
 use Rattle.ddt_path.specs.Covers.{covers}
 use Rattle.ddt_path.specs.Path.{xeid_path, is_path}
-use Rattle.ddt_path.specs.Locators.{lists, is_same_locator}
+use Rattle.ddt_path.specs.Locators.{lists}
 use Rattle.ddt_path.proofs.CoverLemmas.{covers_trans}
 use Rattle.ddt_path.proofs.LocatorLemmas.{lists_at}
 use Rattle.ddt_path.proofs.ActionLemmas.{ack_is}

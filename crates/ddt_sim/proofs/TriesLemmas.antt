@@ -1,7 +1,7 @@
 -- A lookup that ends for want of a reply has asked each of its servers twice in vain.
-use Rattle.std.proofs.Common.{◌≡◌, ℕ, ◌+◌, ◌*◌, ◌/◌, ◌<◌, ◌≤◌, Bool, true, false, List, [], ◌∷◌, ◌++◌, length, get_or, Option, Some, None, Result, Ok, Err, refl, sym, ap, ◌∙◌, subst, subst₂, arith, inl, inr, ◌⊎◌, append-nil, length-append, ne_eqb, eq-eqb}
+use Rattle.std.proofs.Common.{◌≡◌, ℕ, ◌+◌, ◌*◌, ◌/◌, ◌<◌, ◌≤◌, Bool, true, false, List, [], ◌∷◌, ◌++◌, length, get_or, Some, None, Result, Ok, Err, refl, sym, ap, ◌∙◌, subst, subst₂, arith, inl, inr, append-nil, length-append, ne_eqb, eq-eqb}
 use Rattle.std.specs.Prelude.{◌==◌, if◌then◌else◌, slice_get}
-use Rattle.std.specs.FinMap.{get, insert}
+use Rattle.std.specs.FinMap.{get}
 use Rattle.std.proofs.lemmas.Bool.{cond-true, cond-false}
 use Rattle.std.proofs.lemmas.Option.{none-some, same_Some, slice_get_within}
 use Rattle.ddt_path.specs.declared.locator.Locator.{Locator}
@@ -24,8 +24,8 @@ use Rattle.ddt_resolver.specs.declared.answers.Heard.TheVariants as heard_as
 use Rattle.ddt_resolver.specs.declared.answers.Ticked.{Ticked as Ticking}
 use Rattle.ddt_resolver.specs.declared.answers.Ticked.TheVariants as ticked_as
 use Rattle.ddt_resolver.specs.declared.answers.Why.{Why}
-use Rattle.ddt_resolver.specs.declared.answers.Why.TheVariants.{NoReply, Loop, NotAuthoritative as NobodyInCharge, Exhausted}
-use Rattle.ddt_resolver.specs.State.{State, server, numbered, request, request_bytes, patience, moved}
+use Rattle.ddt_resolver.specs.declared.answers.Why.TheVariants.{NoReply}
+use Rattle.ddt_resolver.specs.State.{State, server, numbered, request, patience, moved}
 use Rattle.ddt_resolver.specs.Act as act
 use Rattle.ddt_resolver.specs.Act.{HearStep}
 use Rattle.ddt_resolver.specs.TickStep as tick

@@ -1,18 +1,10 @@
 -- What a reply of an honest server makes of a lookup that waits for it.
-use Rattle.std.proofs.Common.{◌≡◌, ℕ, ◌≤◌, List, [], Option, Some, None, refl, sym, ap, ◌∙◌, subst, inl, inr}
-use Rattle.std.specs.Prelude.{IsTrue}
-use Rattle.std.specs.Option.{option_map_or}
-use Rattle.std.proofs.lemmas.Bool.{false≢true}
+use Rattle.std.proofs.Common.{◌≡◌, ℕ, ◌≤◌, List, refl, sym, ap, ◌∙◌, subst, inl, inr}
 use Rattle.ddt_path.specs.declared.locator.Locator.{Locator}
 use Rattle.ddt_path.specs.declared.record.Outcome.{Outcome}
 use Rattle.ddt_path.specs.declared.xeid.Xeid.{Xeid}
 use Rattle.ddt_path.specs.Path.{xeid_path}
-use Rattle.ddt_path.specs.Locators.{lists}
-use Rattle.ddt_path.proofs.MemberLemmas.{contained, found_in}
-use Rattle.ddt_register.specs.declared.group.Group.{Group}
 use Rattle.ddt_register.specs.declared.register.Register.{Register}
-use Rattle.ddt_path.specs.Names.{is_same_name}
-use Rattle.ddt_check.specs.Zones.{group_named, locators_of}
 use Rattle.ddt_check.specs.Assignment.{assignment}
 use Rattle.ddt_check.specs.Says.{says}
 use Rattle.ddt_wire.specs.Referral.{Spells, message_of}
@@ -21,7 +13,7 @@ use Rattle.ddt_resolver.specs.declared.answers.Heard.{Heard}
 use Rattle.ddt_resolver.specs.declared.answers.Heard.TheVariants as heard
 use Rattle.ddt_resolver.specs.declared.answers.Why.{Why}
 use Rattle.ddt_resolver.specs.declared.answers.Why.TheVariants.{Loop, NotAuthoritative as NobodyInCharge, Exhausted}
-use Rattle.ddt_resolver.specs.State.{State, moved, server, last_nonce}
+use Rattle.ddt_resolver.specs.State.{State, moved, last_nonce}
 use Rattle.ddt_resolver.specs.Step as steps
 use Rattle.ddt_resolver.specs.Act as acts
 use Rattle.ddt_resolver.specs.Act.{Act, HearStep}
@@ -32,7 +24,6 @@ use Rattle.ddt_sim.specs.Honest.{IsServer}
 use Rattle.ddt_sim.specs.Sound.{IsSound, IsRightWhy, IsRightHeard, StepsKeepSoundness, TimeKeepsSoundness}
 use Rattle.ddt_sim.specs.Waiting.{Waits}
 use Rattle.ddt_sim.specs.Headline.{IsUnderWay}
-use Rattle.ddt_path.proofs.LocatorLemmas.{lists_at}
 use Rattle.ddt_sim.proofs.ServerLemmas.{asks_a_server}
 use Rattle.ddt_sim.proofs.WaitingLemmas.{waits_on}
 use Rattle.ddt_sim.proofs.ReplyLemmas.{IsFor, RepliesAreRead, honest_reply_is_fair, honest_reply_is_taken}

@@ -25,7 +25,7 @@ from plain_replay import (
 )
 
 EXAMPLES = pathlib.Path(__file__).resolve().parent.parent / "examples"
-ROOT_ALONE = COLUMNS + "group-node,,root,127.0.0.1\nnode,*,root,\n"
+ROOT_ALONE = (EXAMPLES / "lone_root.csv").read_text()
 CAMPUS = (EXAMPLES / "campus.csv").read_text()
 NESTED_SITES = (EXAMPLES / "nested_sites.csv").read_text()
 SHARED_GROUP = (EXAMPLES / "shared_group.csv").read_text()

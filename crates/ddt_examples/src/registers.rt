@@ -38,7 +38,7 @@ node,[0]10.0.0.0/8,ten,
 node,[0]10.1.0.0/16,root,
 "#;
 
-/// The root alone.
+/// The root alone: `examples/lone_root.csv`.
 pub const LONE_ROOT: &str = r#"kind,prefix,group,addresses
 group-node,,root,127.0.0.1
 node,*,root,

@@ -5,7 +5,6 @@ import pathlib
 import typing
 
 from plain_replay import (
-    COLUMNS,
     LAST_NONCE,
     MOST_PENDING,
     Printed,

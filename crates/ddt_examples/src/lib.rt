@@ -1,7 +1,7 @@
 //! The worked registers, configurations and messages, each once, for the tests of all crates.
 //!
 //! `registers` and `rows` are CSV, `configurations` are TOML as `ddt compile` prints it, `messages` are hexadecimal, field by field,
-//! and `replays` are scripts with their lines.
+//! and `replays` are scripts with their lines. `Dice` draw what tests try at random.
 #![tactic(auto)]
 
 ghost use Rattle.std.specs.Prelude.{◌≡◌, ◌++◌, [], ◌∷◌, take, Ok, IfOk, OnOk};
@@ -10,11 +10,13 @@ ghost use Rattle.ddt_examples.specs.Changes.{with_changes};
 ghost use Rattle.ddt_examples.specs.Digits.{digits_in};
 
 pub mod configurations;
+mod dice;
 pub mod messages;
 pub mod registers;
 pub mod replays;
 pub mod rows;
 
+pub use dice::Dice;
 use hex::FromHexError;
 use std::alloc::{AllocError, Global};
 
@@ -51,6 +53,24 @@ pub fn changed(mut message: Vec<u8>, changes: &[(usize, u8)]) -> Vec<u8>
         }
     }
     message
+}
+
+/// What a locator record of an IPv4 address has before the address: priorities and weights, flags, AFI 1.
+pub const BEFORE_ADDRESS: [u8; 8] = [0x01, 0x64, 0xff, 0, 0, 1, 0, 1];
+
+/// The Map-Referral with one more locator, an IPv4 address, at its end, whose count of locators is then this one. Fails
+/// only if out of memory.
+pub fn with_locator(
+    mut referral: Vec<u8>,
+    address: [u8; 4],
+    count: u8,
+) -> Result<Vec<u8>, AllocError>
+    ensures { IfOk result (λ bytes. bytes.items
+        ≡ with_changes (referral.items ++ BEFORE_ADDRESS ++ address) ((16, count) ∷ [])) }
+{
+    referral.extend_from_slice(&BEFORE_ADDRESS)?;
+    referral.extend_from_slice(&address)?;
+    Ok(changed(referral, &[(16, count)]))
 }
 
 /// So many bytes from the front, or all where there are fewer.

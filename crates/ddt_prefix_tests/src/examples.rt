@@ -44,7 +44,7 @@ fn half_a_byte_is_refused(rt: HostRuntime) {
 }
 
 /// Messages, and how many bytes they have.
-const LENGTHS: [(&str, usize); 7] = [
+const LENGTHS: &[(&str, usize)] = &[
     (ROOT_REFERS_TO_TEN, 40),
     (TEN_IS_NOT_IN_CHARGE, 28),
     (DDT_REQUEST, 60),
@@ -56,7 +56,7 @@ const LENGTHS: [(&str, usize); 7] = [
 
 #[test]
 fn messages_have_their_lengths(rt: HostRuntime) {
-    for (fields, length) in LENGTHS {
+    for &(fields, length) in LENGTHS {
         has_length(rt.alloc(), &rt, fields, length);
     }
 }

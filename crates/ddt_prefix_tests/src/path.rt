@@ -21,7 +21,7 @@ fn prints<T: Display + Drop>(alloc: Global, rt: &impl Abort, value: T, written: 
 }
 
 /// Two prefixes, and the longest that covers both.
-const COMMON: [(&str, &str, &str); 3] = [
+const COMMON: &[(&str, &str, &str)] = &[
     ("[0]10.1.0.0/16", "[0]10.2.0.0/15", "[0]10.0.0.0/14"),
     ("[0]10.0.0.0/8", "[0]::/0", "[0/32]*"),
     ("[0]10.0.0.0/8", "[2147483648]::/0", "*"),
@@ -35,7 +35,7 @@ fn have_in_common(rt: &impl Abort, p: Prefix, q: Prefix, common: Prefix) {
 
 #[test]
 fn the_longest_common_prefix_of_two(rt: HostRuntime) {
-    for (p, q, common) in COMMON {
+    for &(p, q, common) in COMMON {
         have_in_common(&rt, prefix(&rt, p), prefix(&rt, q), prefix(&rt, common));
     }
 }
@@ -150,7 +150,7 @@ fn a_locator_that_stands_twice_is_found(rt: HostRuntime) {
 }
 
 /// The actions with their numbers and their names.
-const ACTIONS: [(Action, u8, &str); 6] = [
+const ACTIONS: &[(Action, u8, &str)] = &[
     (Action::NodeReferral, 0, "NODE-REFERRAL"),
     (Action::MsReferral, 1, "MS-REFERRAL"),
     (Action::MsAck, 2, "MS-ACK"),
@@ -171,7 +171,7 @@ fn is_no_action(rt: &impl Abort, number: u8) {
 
 #[test]
 fn actions_have_a_number_and_a_name(rt: HostRuntime) {
-    for (action, number, name) in ACTIONS {
+    for &(action, number, name) in ACTIONS {
         has_number_and_name(&rt, action, number, name);
         prints(rt.alloc(), &rt, action, name);
     }

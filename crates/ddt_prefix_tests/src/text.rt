@@ -25,7 +25,7 @@ fn is_behind(alloc: Global, rt: &impl Abort, bytes: &[u8], written: &str) {
 }
 
 /// A text that is read, the text that is written, and the address of both.
-const ADDRESSES: [(&str, &str, Locator); 10] = [
+const ADDRESSES: &[(&str, &str, Locator)] = &[
     ("0.0.0.0", "0.0.0.0", Locator::V4(0)),
     ("10.1.2.3", "10.1.2.3", Locator::V4(0x0a01_0203)),
     (
@@ -78,13 +78,13 @@ fn writes_locator(alloc: Global, rt: &impl Abort, address: Locator, written: &st
 
 #[test]
 fn locators_are_read_and_written(rt: HostRuntime) {
-    for (read, written, address) in ADDRESSES {
+    for &(read, written, address) in ADDRESSES {
         reads_locator(&rt, read, address);
         writes_locator(rt.alloc(), &rt, address, written);
     }
 }
 
-const NO_ADDRESSES: [&str; 19] = [
+const NO_ADDRESSES: &[&str] = &[
     "*",
     "10.1.2",
     "10.1.2.3.4",
@@ -117,13 +117,13 @@ fn refuses_locator(rt: &impl Abort, text: &str, fault: TextFault) {
 #[test]
 fn locators_are_refused(rt: HostRuntime) {
     refuses_locator(&rt, "", TextFault::Empty);
-    for text in NO_ADDRESSES {
+    for &text in NO_ADDRESSES {
         refuses_locator(&rt, text, TextFault::Address);
     }
 }
 
 /// A text that is read, the text that is written, and what both stand for.
-const IDENTIFIERS: [(&str, &str, Xeid); 3] = [
+const IDENTIFIERS: &[(&str, &str, Xeid)] = &[
     (
         "[0]10.1.2.3",
         "[0]10.1.2.3",
@@ -162,14 +162,14 @@ fn writes_xeid(alloc: Global, rt: &impl Abort, x: Xeid, written: &str) {
 
 #[test]
 fn identifiers_are_read_and_written(rt: HostRuntime) {
-    for (read, written, x) in IDENTIFIERS {
+    for &(read, written, x) in IDENTIFIERS {
         reads_xeid(&rt, read, x);
         writes_xeid(rt.alloc(), &rt, x, written);
     }
 }
 
 /// Texts of no identifier, and their first fault.
-const NO_IDENTIFIERS: [(&str, TextFault); 17] = [
+const NO_IDENTIFIERS: &[(&str, TextFault)] = &[
     ("", TextFault::Empty),
     ("*", TextFault::Bracket),
     ("7]10.1.2.3", TextFault::Bracket),
@@ -195,20 +195,20 @@ fn refuses_xeid(rt: &impl Abort, text: &str, fault: TextFault) {
 
 #[test]
 fn identifiers_are_refused_for_the_first_fault(rt: HostRuntime) {
-    for (text, fault) in NO_IDENTIFIERS {
+    for &(text, fault) in NO_IDENTIFIERS {
         refuses_xeid(&rt, text, fault);
     }
 }
 
 /// A text that is read, the text that is written, and the instances that both stand for.
-const RANGES: [(&str, &str, u32, u8); 3] = [
+const RANGES: &[(&str, &str, u32, u8)] = &[
     ("*", "*", 0, 0),
     ("[16/28]*", "[16/28]*", 16, 28),
     ("[2147483648/1]*", "[2147483648/1]*", 0x8000_0000, 1),
 ];
 
 /// A text that is read, the text that is written, and the block that both stand for.
-const BLOCKS: [(&str, &str, u32, Locator, u8); 4] = [
+const BLOCKS: &[(&str, &str, u32, Locator, u8)] = &[
     (
         "[7]10.0.0.0/8",
         "[7]10.0.0.0/8",
@@ -248,12 +248,12 @@ fn writes_prefix(alloc: Global, rt: &impl Abort, prefix: Prefix, written: &str) 
 
 #[test]
 fn prefixes_are_read_and_written(rt: HostRuntime) {
-    for (read, written, iid, len) in RANGES {
+    for &(read, written, iid, len) in RANGES {
         let prefix = range(&rt, iid, len);
         has_form(&rt, read, prefix.form());
         writes_prefix(rt.alloc(), &rt, prefix, written);
     }
-    for (read, written, iid, address, len) in BLOCKS {
+    for &(read, written, iid, address, len) in BLOCKS {
         let prefix = block(&rt, iid, address, len);
         has_form(&rt, read, prefix.form());
         writes_prefix(rt.alloc(), &rt, prefix, written);
@@ -274,7 +274,7 @@ fn a_block_is_read_field_by_field(rt: HostRuntime) {
 }
 
 /// Texts of no prefix, and their first fault.
-const NO_PREFIXES: [(&str, TextFault); 30] = [
+const NO_PREFIXES: &[(&str, TextFault)] = &[
     ("", TextFault::Empty),
     ("**", TextFault::Trailing),
     ("*/0", TextFault::Trailing),
@@ -317,12 +317,12 @@ fn refuses_prefix(rt: &impl Abort, text: &str, fault: TextFault) {
 
 #[test]
 fn prefixes_are_refused_for_the_first_fault(rt: HostRuntime) {
-    for (text, fault) in NO_PREFIXES {
+    for &(text, fault) in NO_PREFIXES {
         refuses_prefix(&rt, text, fault);
     }
 }
 
-const FAULTS: [(TextFault, &str); 7] = [
+const FAULTS: &[(TextFault, &str)] = &[
     (TextFault::Empty, "1 Empty"),
     (TextFault::Bracket, "2 Bracket"),
     (TextFault::Instance, "3 Instance"),
@@ -339,7 +339,7 @@ fn prints(alloc: Global, rt: &impl Abort, fault: TextFault, written: &str) {
 
 #[test]
 fn faults_are_printed_by_number_and_name(rt: HostRuntime) {
-    for (fault, written) in FAULTS {
+    for &(fault, written) in FAULTS {
         prints(rt.alloc(), &rt, fault, written);
     }
 }

@@ -2,8 +2,8 @@
 //! negative answers that are too wide or too narrow.
 
 use super::liars::{Liars, Said, Way};
-use super::texts::{identifier, locator_text, lookup_text};
-use super::worlds::{ListResolver, judge_text, looked_up, moment, rooted};
+use crate::texts::{identifier, judge_text, locator_text, lookup_text};
+use crate::worlds::{EIGHT, ListResolver, looked_up, moment, rooted};
 use ddt_path::Action;
 use ddt_resolver::Asked;
 use std::alloc::Global;
@@ -39,17 +39,6 @@ const TEN: &[&str] = &["127.0.0.10"];
 const EAST: &[&str] = &["127.0.1.1"];
 
 const FAR: &[&str] = &["127.0.0.9"];
-
-const EIGHT: &[&str] = &[
-    "127.0.0.1",
-    "127.0.0.2",
-    "127.0.0.3",
-    "127.0.0.4",
-    "127.0.0.5",
-    "127.0.0.6",
-    "127.0.0.7",
-    "127.0.0.8",
-];
 
 const TEN_TO_ROOT: Said = Said(Action::NodeReferral, "[0]10.0.0.0/8", DAY, ROOT);
 
@@ -430,7 +419,7 @@ fn asked_text(alloc: Global, asked: &Asked) -> Result<String, Fail> {
 
 /// Judges each act of a case.
 fn judge(rt: &impl Abort, alloc: Global, case: &Case) -> Result<(), Fail> {
-    let mut resolver = rooted(alloc, case.roots)?;
+    let mut resolver = rooted(alloc, case.roots, 1)?;
     for (act, wanted) in case.acts {
         let told = told(alloc, &mut resolver, act)?;
         judge_text(rt, case.says, &told, wanted);

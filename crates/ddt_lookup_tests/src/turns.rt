@@ -1,8 +1,7 @@
 //! Worked runs over the campus, by wires in memory.
 
-mod campus;
 mod clocks;
+mod ends;
 mod fairness;
 mod loopback;
 mod runs;
-mod texts;

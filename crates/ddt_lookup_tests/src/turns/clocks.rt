@@ -1,6 +1,6 @@
 //! The readings of clocks.
 
-use super::campus::moment;
+use crate::worlds::moment;
 use ddt_cache::LAST_MOMENT;
 use ddt_loop::{Clock, StandingClock, SteppingClock, SystemClock};
 use std::test::Fail;

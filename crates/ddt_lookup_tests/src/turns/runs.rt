@@ -1,12 +1,14 @@
 //! Runs of some turns over the campus, with what goes over the wires.
 
-use super::campus::{ListResolver, ListServers, ME, ROOT, campus, moment, rooted};
+use super::ends::judge_ends;
 use super::loopback::Loopback;
-use super::texts::{identifier, identifiers, judge_ends, judge_number, locator, locators};
+use crate::texts::{identifier, identifiers, judge_number, locator, locators};
+use crate::worlds::{ListResolver, ListServers, ME, ROOT, moment, rooted, served};
 use ddt_ecm::{CONTROL_PORT, write_request};
 use ddt_examples::messages::{
     HOLE_OF_EVERYTHING, ITR_REQUEST, NEGATIVE_REPLY, NOT_REGISTERED_REPLY, ROOT_REFERS_TO_TEN,
 };
+use ddt_examples::registers::CAMPUS;
 use ddt_examples::{bytes_of, changed};
 use ddt_loop::{Clock, LoopEnd, StandingClock, SteppingClock, loop_turns};
 use ddt_path::{Locator, Xeid};
@@ -304,22 +306,20 @@ struct World {
     servers: ListServers,
     resolver: ListResolver,
     wires: Loopback,
-    me: Locator,
     itr: Locator,
 }
 
 impl World {
     /// With a new resolver whose first nonce is this one, and wires whose call of this number fails.
     fn new(alloc: Global, nonce: u64, failing: u64) -> Result<World, Fail> {
-        let (me, itr) = (locator(ME)?, locator(ITR)?);
-        let resolver = rooted(alloc, nonce)?;
-        let servers = campus(alloc)?;
+        let itr = locator(ITR)?;
+        let resolver = rooted(alloc, &[ROOT], nonce)?;
+        let servers = served(alloc, CAMPUS)?;
         Ok(World {
             alloc,
             servers,
             resolver,
             wires: Loopback::new(alloc, failing),
-            me,
             itr,
         })
     }
@@ -343,7 +343,7 @@ impl World {
     fn arrives(&mut self, arrival: &Arrival) -> Result<(), Fail> {
         let from = locator(arrival.0)?;
         let bytes = self.bytes(&arrival.2)?;
-        self.wires.add(self.me, from, arrival.1, &bytes)?;
+        self.wires.add(ME, from, arrival.1, &bytes)?;
         Ok(())
     }
 
@@ -379,7 +379,7 @@ impl World {
             clock,
             &mut self.servers,
             &mut self.resolver,
-            self.me,
+            ME,
             sockets,
             identifiers,
             turns,
@@ -426,10 +426,7 @@ impl World {
     /// Judges whether the ITR was sent this.
     fn judge_told(&self, rt: &impl Abort, says: &str, fields: &str) -> Result<(), Fail> {
         let bytes = bytes_of(self.alloc, fields)?;
-        assert!(rt;
-            self.wires.went(self.me, self.itr, ITR_PORT, &bytes),
-            "{says}"
-        );
+        assert!(rt; self.wires.went(ME, self.itr, ITR_PORT, &bytes), "{says}");
         Ok(())
     }
 

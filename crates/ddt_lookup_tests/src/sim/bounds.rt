@@ -2,8 +2,8 @@
 //! identifier and 32 more.
 
 use super::liars::{Liars, Said, Way, record};
-use super::texts::{identifier, locator, outcome_text};
-use super::worlds::{ListResolver, ROOT, found, judge_text, moment, rooted};
+use crate::texts::{identifier, judge_text, locator, outcome_text};
+use crate::worlds::{EIGHT, ListResolver, ROOT, found, moment, rooted};
 use ddt_path::Action;
 use ddt_resolver::Heard;
 use ddt_sim::Lookup;
@@ -11,18 +11,6 @@ use ddt_wire::write_referral;
 use std::alloc::Global;
 use std::process::Abort;
 use std::test::Fail;
-
-/// Eight servers.
-pub const EIGHT: &[&str] = &[
-    "127.0.0.1",
-    "127.0.0.2",
-    "127.0.0.3",
-    "127.0.0.4",
-    "127.0.0.5",
-    "127.0.0.6",
-    "127.0.0.7",
-    "127.0.0.8",
-];
 
 /// A lookup by a resolver that remembers a referral of the root to eight servers, from a lookup that is still pending.
 struct Case {
@@ -77,7 +65,7 @@ fn is_followed(heard: &Heard) -> bool {
 /// A resolver that remembers the referral.
 fn remembering(alloc: Global, case: &Case) -> Result<ListResolver, Fail> {
     let reply = reply(alloc, case.referral)?;
-    let mut resolver = rooted(alloc, EIGHT)?;
+    let mut resolver = rooted(alloc, EIGHT, 1)?;
     if follows(&mut resolver, case.pending, &reply)? {
         Ok(resolver)
     } else {

@@ -1,9 +1,7 @@
 //! Lookups over the servers of the campus and of other small registers.
 
-use super::texts::lookup_text;
-use super::worlds::{
-    ListResolver, ListServers, ROOT, judge_number, judge_text, looked_up, rooted, served,
-};
+use crate::texts::{judge_number, judge_text, lookup_text};
+use crate::worlds::{ListResolver, ListServers, ROOT, looked_up, rooted, served};
 use ddt_examples::registers::{CAMPUS, FAR_HOST, LONE_ROOT, SHARED_GROUP};
 use ddt_examples::rows::{REGISTERED_INSIDE, SILENT_INSIDE};
 use std::alloc::Global;
@@ -164,11 +162,11 @@ fn servers(alloc: Global, world: &World) -> Result<ListServers, Fail> {
 /// Makes each lookup of a world and judges it. None is pending at the end.
 fn judge(rt: &impl Abort, alloc: Global, world: &World) -> Result<(), Fail> {
     let mut servers = servers(alloc, world)?;
-    let mut resolver = rooted(alloc, &[ROOT])?;
+    let mut resolver = rooted(alloc, &[ROOT], 1)?;
     for lookup in world.lookups {
         judge_lookup(rt, alloc, &mut servers, &mut resolver, world.says, lookup)?;
     }
-    judge_number(rt, world.says, resolver.pending(), 0);
+    judge_number(rt, world.says, resolver.pending() as u64, 0);
     Ok(())
 }
 

@@ -2,7 +2,8 @@
 //! the same.
 
 use super::schedules::{SIDE_BY_SIDE, played_anew};
-use super::worlds::{ROOT, found, judge_number, rooted, served};
+use crate::texts::judge_number;
+use crate::worlds::{ROOT, found, rooted, served};
 use ddt_cache::Entry;
 use ddt_examples::registers::{CAMPUS, FAR_HOST, LONE_ROOT, NESTED_SITES, SHARED_GROUP};
 use ddt_lines::outcome_line;
@@ -131,7 +132,7 @@ fn lookups<S: PrefixMap<u32>, M: PrefixMap<Entry>>(
     case: &Case,
 ) -> Result<Vec<u8>, Fail> {
     let mut servers: Compiled<S> = served(alloc, case.register)?;
-    let mut resolver: Resolver<M> = rooted(alloc, &[ROOT])?;
+    let mut resolver: Resolver<M> = rooted(alloc, &[ROOT], 1)?;
     lookups_over(alloc, &mut servers, &mut resolver, case)
 }
 
@@ -183,7 +184,7 @@ fn side_by_side<S: PrefixMap<u32>, M: PrefixMap<Entry>>(
 ) -> Result<Vec<u8>, Fail> {
     let transcript = played_anew::<S, M>(alloc, CAMPUS, SIDE_BY_SIDE)?;
     let sent = transcript.sent.as_slice();
-    judge_number(rt, "side by side", sent.len(), 12);
+    judge_number(rt, "side by side", sent.len() as u64, 12);
     sent_text(alloc, sent)
 }
 

@@ -1,11 +1,13 @@
 //! Runs over wires that tell their calls, and whether these are fair: what comes from a server's address says what the
 //! register says there.
 
-use super::campus::{ListServers, ME, campus, moment, rooted};
-use super::texts::{identifier, judge_ends, locator};
+use super::ends::judge_ends;
+use crate::texts::{identifier, locator};
+use crate::worlds::{ListResolver, ListServers, ME, ROOT, moment, rooted, served};
 use ddt_ecm::{CONTROL_PORT, read_request, write_request};
 use ddt_examples::bytes_of;
 use ddt_examples::messages::HOLE_OF_EVERYTHING;
+use ddt_examples::registers::CAMPUS;
 use ddt_loop::{LoopEnd, StandingClock, loop_turns};
 use ddt_path::{Listed, Locator, ReferralRecord};
 use ddt_sim::Servers;
@@ -172,8 +174,7 @@ fn owed(
     server: Locator,
     nonce: u64,
 ) -> Result<Listed<u8>, Fail> {
-    let (me, x) = (locator(ME)?, identifier(X)?);
-    let request = write_request(alloc, nonce, x, &[me], true)?;
+    let request = write_request(alloc, nonce, identifier(X)?, &[ME], true)?;
     match servers.answer(alloc, server, &request)? {
         Some(bytes) => Ok(bytes),
         None => Err("no reply".into()),
@@ -187,10 +188,10 @@ fn wait(
     wires: &mut WiresInMemory,
     reply: &(&str, Reply),
 ) -> Result<(), Fail> {
-    let (at, from) = (locator(ME)?, locator(reply.0)?);
+    let from = locator(reply.0)?;
     let bytes = bytes_from(alloc, servers, from, &reply.1)?;
     wires.add(Waiting {
-        at,
+        at: ME,
         from,
         port: CONTROL_PORT,
         bytes,
@@ -217,8 +218,8 @@ fn end_over(
     wires: &mut WiresInMemory,
     servers: &mut ListServers,
 ) -> Result<Vec<LoopEnd>, Fail> {
-    let (me, x, at) = (locator(ME)?, identifier(X)?, moment(0)?);
-    let mut resolver = rooted(alloc, 1)?;
+    let (x, at) = (identifier(X)?, moment(0)?);
+    let mut resolver: ListResolver = rooted(alloc, &[ROOT], 1)?;
     let mut clock = StandingClock { at };
     Ok(loop_turns(
         alloc,
@@ -226,7 +227,7 @@ fn end_over(
         &mut clock,
         servers,
         &mut resolver,
-        me,
+        ME,
         &[],
         &[x],
         10,
@@ -253,18 +254,17 @@ fn judge_calls(
     servers: &mut ListServers,
     case: &Case,
 ) -> Result<(), Fail> {
-    let me = locator(ME)?;
     let Some(calls) = wires.told() else {
         return Err("untold calls".into());
     };
-    let fair = fair_replies(alloc, servers, me, calls)?;
+    let fair = fair_replies(alloc, servers, ME, calls)?;
     assert_eq!(rt; fair, case.fair, "{}", case.says);
     Ok(())
 }
 
 /// Judges a run and its calls.
 fn judge(rt: &impl Abort, alloc: Global, case: &Case) -> Result<(), Fail> {
-    let mut servers = campus(alloc)?;
+    let mut servers = served(alloc, CAMPUS)?;
     let mut wires = with_replies(alloc, &mut servers, case.replies)?;
     judge_end(rt, alloc, &mut wires, &mut servers, case)?;
     judge_calls(rt, alloc, &wires, &mut servers, case)

@@ -1,7 +1,7 @@
 //! Schedules over the servers of a register: each step with what it tells.
 
-use super::texts::{identifier, locator_text, outcome_text};
-use super::worlds::{ListResolver, ROOT, judge_number, judge_text, rooted, served};
+use crate::texts::{identifier, judge_number, judge_text, locator_text, outcome_text};
+use crate::worlds::{ListResolver, ROOT, rooted, served};
 use ddt_cache::Entry;
 use ddt_examples::registers::{CAMPUS, LONE_ROOT};
 use ddt_path::Outcome;
@@ -174,7 +174,7 @@ pub fn played_anew<S: PrefixMap<u32>, M: PrefixMap<Entry>>(
     register: &str,
     lines: Lines,
 ) -> Result<Transcript, Fail> {
-    let mut resolver: Resolver<M> = rooted(alloc, &[ROOT])?;
+    let mut resolver: Resolver<M> = rooted(alloc, &[ROOT], 1)?;
     played::<S, M>(alloc, register, &mut resolver, lines)
 }
 
@@ -185,7 +185,7 @@ fn transcript(alloc: Global, register: &str, lines: Lines) -> Result<Transcript,
 
 /// How many lookups are pending after these lines.
 fn pending_after(alloc: Global, register: &str, lines: Lines) -> Result<usize, Fail> {
-    let mut resolver: ListResolver = rooted(alloc, &[ROOT])?;
+    let mut resolver: ListResolver = rooted(alloc, &[ROOT], 1)?;
     let _transcript = played::<ListMap<u32>, ListMap<Entry>>(
         alloc,
         register,
@@ -286,7 +286,8 @@ fn judge_events(
     schedule: &Schedule,
     events: &[Event],
 ) -> Result<(), Fail> {
-    judge_number(rt, schedule.says, events.len(), schedule.lines.len());
+    let (found, wanted) = (events.len() as u64, schedule.lines.len() as u64);
+    judge_number(rt, schedule.says, found, wanted);
     for (event, line) in events.iter().zip(schedule.lines.iter()) {
         judge_event(rt, alloc, schedule.says, event, line.1)?;
     }
@@ -333,7 +334,7 @@ fn judge_datagram(
 
 /// Judges all datagrams.
 fn judge_datagrams(rt: &impl Abort, alloc: Global, sent: &[Datagram]) -> Result<(), Fail> {
-    judge_number(rt, "one hole", sent.len(), OF_ONE_HOLE.len());
+    judge_number(rt, "one hole", sent.len() as u64, OF_ONE_HOLE.len() as u64);
     for (datagram, wanted) in sent.iter().zip(OF_ONE_HOLE.iter()) {
         judge_datagram(rt, alloc, datagram, wanted)?;
     }
@@ -343,7 +344,7 @@ fn judge_datagrams(rt: &impl Abort, alloc: Global, sent: &[Datagram]) -> Result<
 #[test]
 fn the_datagrams_of_a_schedule_are_kept_in_order(rt: HostRuntime) -> Result<(), Fail> {
     let pending = pending_after(rt.alloc(), CAMPUS, ONE_HOLE)?;
-    judge_number(&rt, "one hole", pending, 0);
+    judge_number(&rt, "one hole", pending as u64, 0);
     let transcript = transcript(rt.alloc(), CAMPUS, ONE_HOLE)?;
     judge_datagrams(&rt, rt.alloc(), transcript.sent.as_slice())
 }

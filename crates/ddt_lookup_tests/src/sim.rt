@@ -6,5 +6,3 @@ mod campus;
 mod liars;
 mod lies;
 mod schedules;
-mod texts;
-mod worlds;

@@ -5,6 +5,7 @@ use ddt_path::{Locator, LocatorSet, Outcome, Prefix, Xeid};
 use ddt_sim::{Hop, Lookup, LookupError};
 use ddt_text::{parse_locator, parse_prefix, parse_xeid, write_locator};
 use std::alloc::{AllocError, Global};
+use std::process::Abort;
 use std::test::Fail;
 
 /// The locator that a text spells.
@@ -22,12 +23,27 @@ pub fn prefix(text: &str) -> Result<Prefix, Fail> {
     Ok(parse_prefix(text.as_bytes())?)
 }
 
-/// The set of the locators that these texts spell.
-pub fn set(alloc: Global, texts: &[&str]) -> Result<LocatorSet, Fail> {
+/// The locators that texts spell.
+pub fn locators(alloc: Global, texts: &[&str]) -> Result<Vec<Locator>, Fail> {
     let mut locators = Vec::new(alloc);
     for text in texts {
         locators.push(locator(text)?)?;
     }
+    Ok(locators)
+}
+
+/// The identifiers that texts spell.
+pub fn identifiers(alloc: Global, texts: &[&str]) -> Result<Vec<Xeid>, Fail> {
+    let mut identifiers = Vec::new(alloc);
+    for text in texts {
+        identifiers.push(identifier(text)?)?;
+    }
+    Ok(identifiers)
+}
+
+/// The set of the locators that these texts spell.
+pub fn set(alloc: Global, texts: &[&str]) -> Result<LocatorSet, Fail> {
+    let locators = locators(alloc, texts)?;
     match LocatorSet::of(locators.as_slice()) {
         Some(set) => Ok(set),
         None => Err("too many locators".into()),
@@ -81,4 +97,14 @@ fn asked_text(alloc: Global, hops: &[Hop]) -> Result<String, Fail> {
 fn push_server(text: &mut Vec<u8>, server: Locator) -> Result<(), AllocError> {
     text.push(b' ')?;
     write_locator(text, server)
+}
+
+/// Judges a text, for a row of a table that says this.
+pub fn judge_text(rt: &impl Abort, says: &str, found: &str, wanted: &str) {
+    assert_eq!(rt; found, wanted, "{says}");
+}
+
+/// Judges a number, for a row of a table that says this.
+pub fn judge_number(rt: &impl Abort, says: &str, found: u64, wanted: u64) {
+    assert_eq!(rt; found, wanted, "{says}");
 }

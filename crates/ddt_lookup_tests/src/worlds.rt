@@ -1,6 +1,6 @@
 //! The servers of a register, a resolver that asks them, and lookups over any servers.
 
-use super::texts::{identifier, set};
+use crate::texts::{identifier, set};
 use ddt_cache::{Entry, Moment};
 use ddt_check::{Accepted, check};
 use ddt_path::Locator;
@@ -9,7 +9,6 @@ use ddt_resolver::Resolver;
 use ddt_sim::{Compiled, Lookup, LookupError, Servers, lookup};
 use ddt_trie::{ListMap, PrefixMap};
 use std::alloc::Global;
-use std::process::Abort;
 use std::test::Fail;
 
 /// A resolver that keeps lists.
@@ -21,8 +20,20 @@ pub type ListServers = Compiled<ListMap<u32>>;
 /// The server of the root.
 pub const ROOT: &str = "127.0.0.1";
 
+/// Eight servers.
+pub const EIGHT: &[&str] = &[
+    "127.0.0.1",
+    "127.0.0.2",
+    "127.0.0.3",
+    "127.0.0.4",
+    "127.0.0.5",
+    "127.0.0.6",
+    "127.0.0.7",
+    "127.0.0.8",
+];
+
 /// The address of each resolver, 127.0.0.53.
-const ME: Locator = Locator::V4(0x7f00_0035);
+pub const ME: Locator = Locator::V4(0x7f00_0035);
 
 /// The register of a text, accepted.
 fn accepted(alloc: Global, text: &str) -> Result<Accepted, Fail> {
@@ -41,12 +52,16 @@ pub fn served<M: PrefixMap<u32>>(alloc: Global, text: &str) -> Result<Compiled<M
     Ok(Compiled::build(alloc, &accepted)?)
 }
 
-/// A new resolver whose root has these servers and whose first nonce is 1.
-pub fn rooted<M: PrefixMap<Entry>>(alloc: Global, roots: &[&str]) -> Result<Resolver<M>, Fail> {
+/// A new resolver whose root has these servers and whose first nonce is this one.
+pub fn rooted<M: PrefixMap<Entry>>(
+    alloc: Global,
+    roots: &[&str],
+    nonce: u64,
+) -> Result<Resolver<M>, Fail> {
     let roots = set(alloc, roots)?;
     match roots.as_slice() {
         [] => Err("no root".into()),
-        _ => Ok(Resolver::new(alloc, roots, ME, 1)),
+        _ => Ok(Resolver::new(alloc, roots, ME, nonce)),
     }
 }
 
@@ -80,14 +95,4 @@ pub fn found<S: Servers, M: PrefixMap<Entry>>(
     text: &str,
 ) -> Result<Lookup, Fail> {
     Ok(looked_up(alloc, servers, resolver, millis, text)??)
-}
-
-/// Judges a text, for a row of a table that says this.
-pub fn judge_text(rt: &impl Abort, says: &str, found: &str, wanted: &str) {
-    assert_eq!(rt; found, wanted, "{says}");
-}
-
-/// Judges a number, for a row of a table that says this.
-pub fn judge_number(rt: &impl Abort, says: &str, found: usize, wanted: usize) {
-    assert_eq!(rt; found, wanted, "{says}");
 }

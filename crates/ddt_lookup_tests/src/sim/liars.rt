@@ -6,8 +6,9 @@ ghost use Rattle.ddt_node.specs.Server.{IsDdtRequest};
 ghost use Rattle.ddt_sim.specs.Honest.{IsServer, IsHonestReply};
 ghost use Rattle.std.specs.Prelude.{IfOk};
 
-use super::texts::{prefix, set};
+use crate::texts::{prefix, set};
 use ddt_ecm::read_request;
+use ddt_examples::with_locator;
 use ddt_path::{Action, Listed, Locator, LocatorSet, Prefix, ReferralRecord, Xeid};
 use ddt_sim::Servers;
 use ddt_wire::write_referral;
@@ -91,15 +92,6 @@ fn longest_way(x: Xeid, requests: u16, servers: LocatorSet) -> ReferralRecord {
     first_digits(x, set % sets, servers)
 }
 
-/// Gives a Map-Referral of eight locators 127.0.0.9 as its ninth.
-fn add_a_ninth(bytes: &mut Vec<u8>) -> Result<(), AllocError> {
-    bytes.extend_from_slice(&[0x01, 0x64, 0xff, 0, 0, 1, 0, 1, 0x7f, 0, 0, 9])?;
-    if let Some(count) = bytes.get_mut(16) {
-        *count = 9;
-    }
-    Ok(())
-}
-
 /// Servers at each address.
 #[derive(Drop)]
 pub struct Liars {
@@ -158,9 +150,9 @@ impl Liars {
         let Some((nonce, told)) = self.told(nonce, x) else {
             return Ok(None);
         };
-        let mut bytes = write_referral(alloc, nonce, &told)?;
+        let bytes = write_referral(alloc, nonce, &told)?;
         if self.has_a_ninth() {
-            add_a_ninth(&mut bytes)?;
+            return Ok(Some(Listed::of(with_locator(bytes, [127, 0, 0, 9], 9)?)));
         }
         Ok(Some(Listed::of(bytes)))
     }

@@ -1,41 +1,11 @@
-//! The texts in the tables: locators and identifiers are read, what a lookup ends in is written.
+//! What a lookup over wires ends in, as a text.
 
-use ddt_lines::outcome_line;
+use crate::texts::{judge_number, judge_text, outcome_text};
 use ddt_loop::LoopEnd;
-use ddt_path::{Locator, Outcome, Xeid};
 use ddt_resolver::{AskError, Why};
-use ddt_text::{parse_locator, parse_xeid};
 use std::alloc::Global;
 use std::process::Abort;
 use std::test::Fail;
-
-/// The locator that a text spells.
-pub fn locator(text: &str) -> Result<Locator, Fail> {
-    Ok(parse_locator(text.as_bytes())?)
-}
-
-/// The identifier that a text spells.
-pub fn identifier(text: &str) -> Result<Xeid, Fail> {
-    Ok(parse_xeid(text.as_bytes())?)
-}
-
-/// The locators that texts spell.
-pub fn locators(alloc: Global, texts: &[&str]) -> Result<Vec<Locator>, Fail> {
-    let mut locators = Vec::new(alloc);
-    for text in texts {
-        locators.push(locator(text)?)?;
-    }
-    Ok(locators)
-}
-
-/// The identifiers that texts spell.
-pub fn identifiers(alloc: Global, texts: &[&str]) -> Result<Vec<Xeid>, Fail> {
-    let mut identifiers = Vec::new(alloc);
-    for text in texts {
-        identifiers.push(identifier(text)?)?;
-    }
-    Ok(identifiers)
-}
 
 /// What a lookup ends in: an outcome as `hole [0]10.2.0.0/15`, or `gave up 1 NoReply`, `refused 2 Exhausted` or
 /// `unresolved`.
@@ -49,28 +19,12 @@ fn end_text(alloc: Global, end: &LoopEnd) -> Result<String, Fail> {
     }
 }
 
-fn outcome_text(alloc: Global, outcome: &Outcome) -> Result<String, Fail> {
-    let mut line = outcome_line(alloc, outcome)?;
-    let _line_feed = line.pop();
-    Ok(String::from_utf8(line)?)
-}
-
 fn gave_up_text(alloc: Global, why: Why) -> Result<String, Fail> {
     Ok(format!(in alloc; "gave up {why}")?)
 }
 
 fn refused_text(alloc: Global, error: AskError) -> Result<String, Fail> {
     Ok(format!(in alloc; "refused {error}")?)
-}
-
-/// Judges a text, for a row of a table that says this.
-fn judge_text(rt: &impl Abort, says: &str, found: &str, wanted: &str) {
-    assert_eq!(rt; found, wanted, "{says}");
-}
-
-/// Judges a number, for a row of a table that says this.
-pub fn judge_number(rt: &impl Abort, says: &str, found: u64, wanted: u64) {
-    assert_eq!(rt; found, wanted, "{says}");
 }
 
 /// Judges the end of a lookup by its text.

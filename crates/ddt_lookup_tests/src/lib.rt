@@ -1,0 +1,12 @@
+//! The tests of `ddt_sim` and `ddt_loop`: worked lookups and schedules over the servers of a compiled register, lookups
+//! over servers that say anything, and runs over wires.
+#![tactic(auto)]
+
+#[cfg(test)]
+mod sim;
+#[cfg(test)]
+mod texts;
+#[cfg(test)]
+mod turns;
+#[cfg(test)]
+mod worlds;

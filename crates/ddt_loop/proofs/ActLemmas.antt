@@ -1,5 +1,5 @@
 -- How the acts of a running resolver are put together.
-use Rattle.std.proofs.Common.{◌≡◌, ℕ, List, [], Result, Ok, Err, refl, sym, ap, ◌∙◌}
+use Rattle.std.proofs.Common.{◌≡◌, ℕ, List, [], Err, refl, ap, ◌∙◌}
 use Rattle.std.specs.Prelude.{IsTrue, slice_set}
 use Rattle.ddt_path.specs.declared.locator.Locator.{Locator}
 use Rattle.ddt_path.specs.declared.xeid.Xeid.{Xeid}

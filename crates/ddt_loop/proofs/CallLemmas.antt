@@ -1,6 +1,6 @@
 -- The calls of a running resolver: what was asked, what is fair, and who may be replied to.
-use Rattle.std.proofs.Common.{◌≡◌, ℕ, zero, suc, ◌+◌, ◌<◌, ◌⊎◌, inl, inr, Bool, true, false, cond, List, [], ◌∷◌, ◌++◌, append_assoc, append-nil, length, get_or, Option, Some, None, Result, Ok, Err, refl, sym, ap, ◌∙◌, subst, arith}
-use Rattle.std.specs.Prelude.{◌≢◌, Contains, All, slice_get, slice_set, map, count_by}
+use Rattle.std.proofs.Common.{◌≡◌, ℕ, zero, suc, inl, inr, false, List, [], ◌∷◌, ◌++◌, append_assoc, append-nil, Option, Some, None, Result, Ok, refl, sym, ap, ◌∙◌, subst, arith}
+use Rattle.std.specs.Prelude.{◌≢◌, All, slice_get, slice_set, map}
 use Rattle.std.specs.List.{AllZip}
 use Rattle.std.proofs.lemmas.Option.{none-some, same_Some}
 use Rattle.std.proofs.lemmas.Bool.{false≢true}
@@ -30,7 +30,7 @@ use Rattle.ddt_loop.specs.declared.owner.Asker.{Asker}
 use Rattle.ddt_loop.specs.declared.owner.Asker.TheVariants.{Identifier, Itr}
 use Rattle.ddt_loop.specs.declared.owner.Owner.{Owner}
 use Rattle.ddt_loop.specs.Acts.{sent, sent_if, IsSent, IsToldItr}
-use Rattle.ddt_loop.specs.Right.{WasAsked, IsFair, IsRightEnd, IsNoReply, Owes, asked, told, forgotten, other}
+use Rattle.ddt_loop.specs.Right.{WasAsked, IsFair, IsRightEnd, IsNoReply, Owes, told, forgotten, other}
 
 -- ---- what was asked, and what is fair
 

@@ -1,10 +1,10 @@
 -- What a running resolver keeps from act to act, where its calls are fair.
-use Rattle.std.proofs.Common.{◌≡◌, ℕ, zero, suc, ◌+◌, ◌<◌, ◌≤◌, ◌⊎◌, inl, inr, Bool, true, false, List, [], ◌∷◌, ◌++◌, append_assoc, append-nil, length, Option, Some, None, Result, Ok, Err, refl, sym, ap, ◌∙◌, subst, arith}
-use Rattle.std.specs.Prelude.{◌≢◌, IsSome, Contains, All, slice_get, slice_set}
+use Rattle.std.proofs.Common.{◌≡◌, ℕ, ◌≤◌, inl, inr, List, [], ◌∷◌, ◌++◌, append-nil, Option, Some, None, Result, Ok, Err, refl, sym, ap, ◌∙◌, subst, arith}
+use Rattle.std.specs.Prelude.{IsSome, Contains, All, slice_get}
 use Rattle.std.specs.List.{AllZip}
 use Rattle.std.specs.FinMap.{get, insert, remove}
 use Rattle.std.proofs.lemmas.Option.{none-some, same_Some}
-use Rattle.std.proofs.lemmas.List.Elements.{All-nil, All-cons, All-push, All-weaker, Contains-append_right}
+use Rattle.std.proofs.lemmas.List.Elements.{All-push, Contains-append_right}
 use Rattle.ddt_path.specs.declared.locator.Locator.{Locator}
 use Rattle.ddt_path.specs.declared.record.Outcome.{Outcome}
 use Rattle.ddt_path.specs.declared.xeid.Xeid.{Xeid}
@@ -14,12 +14,11 @@ use Rattle.ddt_check.specs.Rules.{IsAccepted}
 use Rattle.ddt_check.specs.Assignment.{assignment}
 use Rattle.ddt_cache.specs.Moment.{last_moment}
 use Rattle.ddt_wires.specs.declared.call.Call.{Call}
-use Rattle.ddt_wires.specs.declared.call.Call.TheVariants.{Received, Tried}
+use Rattle.ddt_wires.specs.declared.call.Call.TheVariants.{Tried}
 use Rattle.ddt_ecm.specs.UdpHeader.{control_port}
 use Rattle.ddt_resolver.specs.declared.answers.Asked.{Asked}
 use Rattle.ddt_resolver.specs.declared.answers.Asked.TheVariants as asked_as
 use Rattle.ddt_resolver.specs.declared.answers.AskError.{AskError}
-use Rattle.ddt_resolver.specs.declared.answers.AskError.TheVariants as ask_error
 use Rattle.ddt_resolver.specs.declared.answers.Heard.{Heard}
 use Rattle.ddt_resolver.specs.declared.answers.Heard.TheVariants as heard_as
 use Rattle.ddt_resolver.specs.declared.answers.Outgoing.{Outgoing}
@@ -39,12 +38,11 @@ use Rattle.ddt_resolver.proofs.ShapeLemmas as shape
 use Rattle.ddt_sim.specs.Sound.{IsSound, IsFair as IsFairCall, IsRight, IsRightAsked, IsRightHeard, IsRightTicked, IsRightEnd as IsRightOutcome, IsRightWhy, StepsKeepSoundness, TimeKeepsSoundness}
 use Rattle.ddt_loop.specs.declared.acting.Next.{Next}
 use Rattle.ddt_loop.specs.declared.acting.Next.TheVariants as next_as
-use Rattle.ddt_loop.specs.declared.ends.LoopEnd.{LoopEnd}
 use Rattle.ddt_loop.specs.declared.owner.Asker.{Asker}
 use Rattle.ddt_loop.specs.declared.owner.Asker.TheVariants.{Identifier, Itr}
 use Rattle.ddt_loop.specs.declared.owner.Owner.{Owner}
-use Rattle.ddt_loop.specs.Askers.{Desk, owner_of, with_owner, with_end, end_of, Takes, nobody, somebody, AreApart, AreOwners}
-use Rattle.ddt_loop.specs.Acts.{Running, running, Starts, Asks, answered, refused, lacks_memory, remembered, GoesOn, Settles, IsTold, IsToldItr, IsSent, Resolves, does, fails, next_of, after_heard, after_ticked}
+use Rattle.ddt_loop.specs.Askers.{Desk, owner_of, end_of, Takes, nobody, somebody, AreApart, AreOwners}
+use Rattle.ddt_loop.specs.Acts.{Running, running, Starts, Asks, answered, refused, lacks_memory, remembered, GoesOn, Settles, IsTold, next_of, after_heard, after_ticked}
 use Rattle.ddt_sim.proofs.TicketLemmas.{goes_on_reply}
 use Rattle.ddt_loop.specs.Right.{WasAsked, IsRightEnd, Owes, forgotten}
 use Rattle.ddt_loop.proofs.OwnerLemmas.{all_without, all_at, others_differ}

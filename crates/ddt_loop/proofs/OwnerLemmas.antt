@@ -1,17 +1,16 @@
 -- The list of those who wait: who is taken off it, and how many there are.
-use Rattle.std.proofs.Common.{◌≡◌, ℕ, zero, suc, ◌+◌, ◌-◌, ◌<◌, ◌≤◌, ◌⊎◌, inl, inr, Bool, true, false, cond, List, [], ◌∷◌, ◌++◌, length, take, drop, get_or, Option, Some, None, refl, sym, ap, ◌∙◌, subst, arith, nat_cmp, add-one}
-use Rattle.std.specs.Prelude.{◌≢◌, ◌==◌, not, nat_lt, IsSome, is_some, All, position}
+use Rattle.std.proofs.Common.{◌≡◌, ℕ, zero, suc, ◌+◌, ◌-◌, ◌<◌, ◌≤◌, ◌⊎◌, inl, inr, Bool, true, false, List, [], ◌∷◌, ◌++◌, length, take, drop, get_or, Option, Some, None, refl, sym, ap, ◌∙◌, subst, arith, nat_cmp, add-one}
+use Rattle.std.specs.Prelude.{◌≢◌, ◌==◌, not, nat_lt, IsSome, All, position}
 use Rattle.std.specs.List.{position_or_len, remove}
 use Rattle.std.specs.Cmp.{nat_cmp_total}
-use Rattle.std.specs.FinMap.{FinMap, get, len, empty, contains_key, len-remove, empty_of_len, get-empty}
+use Rattle.std.specs.FinMap.{FinMap, get, len, contains_key, len-remove, empty_of_len, get-empty}
 use Rattle.std.specs.FinMap as map
 use Rattle.std.proofs.lemmas.Option.{none-some}
 use Rattle.std.proofs.lemmas.Bool.{cond-true, cond-false, eqb-true, eq-eqb, lt-ltb, false≢true}
-use Rattle.std.proofs.lemmas.List.{take-append-drop, drop_more, length_push}
-use Rattle.std.proofs.lemmas.List.Elements.{All-nil, All-cons, All-head, All-tail, All-push, All-weaker}
+use Rattle.std.proofs.lemmas.List.{take-append-drop, drop_more}
+use Rattle.std.proofs.lemmas.List.Elements.{All-nil, All-cons, All-head, All-tail, All-push}
 use Rattle.std.proofs.lemmas.List.Quantifiers.{position-Some}
 use Rattle.ddt_resolver.proofs.NumberMapLemmas.{at_insert, at_remove}
-use Rattle.ddt_loop.specs.declared.owner.Asker.{Asker}
 use Rattle.ddt_loop.specs.declared.owner.Owner.{Owner}
 use Rattle.ddt_loop.specs.Askers.{owner_of, Takes, nobody, somebody, AreApart}
 

@@ -1,10 +1,10 @@
 -- Who waits for a lookup that is pending, over a step.
-use Rattle.std.proofs.Common.{◌≡◌, ℕ, ◌+◌, ◌<◌, ◌≤◌, ◌⊎◌, inl, inr, List, [], ◌∷◌, ◌++◌, length, Option, Some, None, Result, Ok, Err, refl, sym, ap, ◌∙◌, subst, arith}
-use Rattle.std.specs.Prelude.{◌≢◌, IsSome, All}
-use Rattle.std.specs.FinMap.{get, insert, remove, len}
-use Rattle.std.proofs.lemmas.Option.{none-some, same_Some}
+use Rattle.std.proofs.Common.{◌≡◌, ℕ, ◌<◌, ◌≤◌, ◌⊎◌, inl, inr, List, [], ◌∷◌, ◌++◌, length, Option, Some, None, Result, Ok, Err, refl, sym, ap, ◌∙◌, subst, arith}
+use Rattle.std.specs.Prelude.{IsSome, All}
+use Rattle.std.specs.FinMap.{get, insert, len}
+use Rattle.std.proofs.lemmas.Option.{same_Some}
 use Rattle.std.proofs.lemmas.List.{length_push}
-use Rattle.std.proofs.lemmas.List.Elements.{All-push, All-weaker}
+use Rattle.std.proofs.lemmas.List.Elements.{All-push}
 use Rattle.ddt_path.specs.declared.locator.Locator.{Locator}
 use Rattle.ddt_path.specs.declared.record.Outcome.{Outcome}
 use Rattle.ddt_path.specs.declared.xeid.Xeid.{Xeid}
@@ -21,17 +21,17 @@ use Rattle.ddt_resolver.specs.State.{State, moved, request, numbered}
 use Rattle.ddt_resolver.specs.Step as resolver
 use Rattle.ddt_resolver.specs.Step.{Ask, Reply, ToAsk, ToDatagram, ToTick, Step}
 use Rattle.ddt_resolver.specs.Order.{IsInOrder}
-use Rattle.ddt_resolver.proofs.NumberMapLemmas.{found_insert, found_remove, get-insert_same, at_insert, at_remove}
+use Rattle.ddt_resolver.proofs.NumberMapLemmas.{get-insert_same}
 use Rattle.ddt_resolver.proofs.ShapeLemmas.{Move, stays, opens, sends, drops, IsQuiet, End, Gives, Fails, moved_by_step}
 use Rattle.ddt_resolver.proofs.ShapeLemmas as shape
-use Rattle.ddt_resolver.proofs.OrderLemmas.{order_after, order_moved}
+use Rattle.ddt_resolver.proofs.OrderLemmas.{order_after}
 use Rattle.ddt_loop.specs.declared.acting.Next.{Next}
 use Rattle.ddt_loop.specs.declared.acting.Next.TheVariants as next_as
 use Rattle.ddt_loop.specs.declared.owner.Asker.{Asker}
 use Rattle.ddt_loop.specs.declared.owner.Asker.TheVariants as asker_as
 use Rattle.ddt_loop.specs.declared.owner.Owner.{Owner}
 use Rattle.ddt_loop.specs.Askers.{Desk, owner_of, with_owner, Takes, nobody, somebody, AreApart, AreOwners}
-use Rattle.ddt_loop.specs.Acts.{Starts, HasRoomFor, GoesOn, Settles, next_of, IsTold}
+use Rattle.ddt_loop.specs.Acts.{Starts, HasRoomFor, GoesOn, next_of, IsTold}
 use Rattle.ddt_sim.proofs.TicketLemmas.{goes_on_reply}
 use Rattle.ddt_loop.proofs.OwnerLemmas.{all_without, apart_push, apart_without, others_differ, few_owners, same_or, get_insert_other, get_remove_other, some_of}
 

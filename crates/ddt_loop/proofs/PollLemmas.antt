@@ -1,5 +1,5 @@
 -- Each turn polls once, and nothing else does.
-use Rattle.std.proofs.Common.{◌≡◌, ℕ, zero, suc, ◌+◌, ◌%◌, ◌≤◌, ◌⊎◌, inl, inr, Bool, true, false, List, [], ◌∷◌, ◌++◌, length, Option, Some, None, Result, Ok, Err, refl, sym, ap, ◌∙◌, subst, arith}
+use Rattle.std.proofs.Common.{◌≡◌, ℕ, zero, suc, ◌+◌, ◌%◌, inl, inr, true, List, [], ◌∷◌, ◌++◌, length, Option, Some, None, Result, Ok, Err, refl, ap, ◌∙◌, arith}
 use Rattle.std.specs.Prelude.{count_by, cond}
 use Rattle.std.proofs.lemmas.List.Sums.{sum_by-append}
 use Rattle.ddt_path.specs.declared.locator.Locator.{Locator}
@@ -22,7 +22,7 @@ use Rattle.ddt_loop.specs.declared.acting.Next.TheVariants as next_as
 use Rattle.ddt_loop.specs.declared.owner.Asker.{Asker}
 use Rattle.ddt_loop.specs.declared.owner.Asker.TheVariants.{Identifier, Itr}
 use Rattle.ddt_loop.specs.Askers.{Desk}
-use Rattle.ddt_loop.specs.Acts.{Running, sent, sent_if, IsToldItr, Starts, Asks, answered, refused, lacks_memory, AsksAt, IsToldAtOnce, AsksForItr, IsTold, GoesOn, Resolves, does, fails, next_of}
+use Rattle.ddt_loop.specs.Acts.{Running, sent, sent_if, IsToldItr, Starts, Asks, answered, refused, lacks_memory, IsToldAtOnce, AsksForItr, IsTold, GoesOn, Resolves, does, fails, next_of}
 use Rattle.ddt_loop.specs.Polls.{IsTaken, asks, no_request, hears, other_port, polled, PollsMe, no_packet, failed, came, PollsServer, none_there, failed_there, served, out_of_memory, Polls}
 use Rattle.ddt_loop.specs.Turns.{HaveAsked, no_ask, one_ask, IsTurn, HaveTurned, no_turn, one_turn}
 use Rattle.ddt_loop.specs.Right.{is_poll}

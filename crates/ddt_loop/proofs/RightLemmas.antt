@@ -1,13 +1,11 @@
 -- A whole run keeps a running resolver right, where its calls are fair.
-use Rattle.std.proofs.Common.{◌≡◌, ℕ, zero, suc, ◌+◌, ◌%◌, ◌<◌, ◌≤◌, ◌⊎◌, inl, inr, Bool, true, false, List, [], ◌∷◌, ◌++◌, append_assoc, append-nil, length, Option, Some, None, Result, Ok, Err, refl, sym, ap, ◌∙◌, subst, arith}
+use Rattle.std.proofs.Common.{◌≡◌, ℕ, zero, suc, ◌+◌, ◌%◌, ◌≤◌, false, List, [], ◌∷◌, ◌++◌, append_assoc, append-nil, length, Option, Some, None, Result, Ok, Err, refl, sym, ap, ◌∙◌, subst}
 use Rattle.std.specs.Prelude.{◌≢◌, All, IsSome, slice_get}
-use Rattle.std.specs.List.{AllZip}
 use Rattle.std.specs.FinMap.{get}
 use Rattle.std.proofs.lemmas.Option.{none-some}
 use Rattle.std.proofs.lemmas.List.Elements.{All-nil, All-cons}
 use Rattle.ddt_path.specs.declared.locator.Locator.{Locator}
 use Rattle.ddt_path.specs.declared.record.Outcome.{Outcome}
-use Rattle.ddt_path.specs.declared.record.ReferralRecord.{ReferralRecord}
 use Rattle.ddt_path.specs.declared.xeid.Xeid.{Xeid}
 use Rattle.ddt_path.specs.Path.{xeid_path}
 use Rattle.ddt_path.specs.Locators.{lists}
@@ -18,27 +16,25 @@ use Rattle.ddt_check.specs.Says.{says}
 use Rattle.ddt_config.specs.Table.{Outline}
 use Rattle.ddt_cache.specs.Moment.{last_moment}
 use Rattle.ddt_wires.specs.declared.call.Call.{Call}
-use Rattle.ddt_wires.specs.declared.call.Call.TheVariants.{Received, Tried}
+use Rattle.ddt_wires.specs.declared.call.Call.TheVariants.{Received}
 use Rattle.ddt_wires.specs.declared.call.Packet.{Packet}
 use Rattle.ddt_wires.specs.Turns.{most_bytes}
 use Rattle.ddt_resolver.specs.declared.answers.AskError.{AskError}
 use Rattle.ddt_resolver.specs.declared.front.ItrRequest.{ItrRequest}
-use Rattle.ddt_resolver.specs.declared.pending.Pending.{Pending}
 use Rattle.ddt_resolver.specs.Order.{IsInOrder}
 use Rattle.ddt_resolver.specs.State.{State, moved, server}
 use Rattle.ddt_resolver.specs.Step as resolver
 use Rattle.ddt_resolver.specs.Step.{Ask, Hear, Tick}
-use Rattle.ddt_resolver.specs.TakeUp.{IsTaken as IsTakenUp}
 use Rattle.ddt_sim.specs.Sound.{IsSound, IsFair as IsFairCall, IsFairDatagram, StepsKeepSoundness, TimeKeepsSoundness}
 use Rattle.ddt_loop.specs.declared.owner.Asker.TheVariants.{Identifier, Itr}
 use Rattle.ddt_loop.specs.declared.owner.Owner.{Owner}
-use Rattle.ddt_loop.specs.Askers.{Desk, with_end, end_of_ask, opening_desk}
+use Rattle.ddt_loop.specs.Askers.{Desk, end_of_ask, opening_desk}
 use Rattle.ddt_loop.specs.Acts.{Running, running, AsksAt, AsksForItr, IsToldAtOnce, Resolves, does, fails}
 use Rattle.ddt_loop.specs.Polls.{IsTaken, asks, no_request, hears, other_port, PollsMe, no_packet, failed, came, PollsServer, none_there, failed_there, served, out_of_memory, Polls}
 use Rattle.ddt_loop.specs.Turns.{HaveAsked, no_ask, one_ask, IsTurn, HaveTurned, no_turn, one_turn}
 use Rattle.ddt_loop.specs.Right.{WasAsked, IsFair, IsRightEnd, IsNoReply, Owes, begin, asked, forgotten, other}
 use Rattle.ddt_loop.proofs.CallLemmas.{fair_front, itrs, owes_others, owes_told, other_socket, no_replies_there, open_ends, end_set}
-use Rattle.ddt_loop.proofs.KeepLemmas.{IsKept, WaitsFor, kept_more, kept_moved, kept_on, owes_on, left_over, IsAskKept, kept_ask}
+use Rattle.ddt_loop.proofs.KeepLemmas.{IsKept, WaitsFor, kept_more, kept_moved, kept_on, owes_on, left_over, kept_ask}
 
 module _ (r : Register) (me : Locator) (ids : List Xeid) (laws : StepsKeepSoundness) (time : TimeKeepsSoundness) (accepted : IsAccepted r) where
   -- after some calls the resolver is right, and these ITRs may be replied to

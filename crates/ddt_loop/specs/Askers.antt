@@ -1,5 +1,5 @@
 -- Who waits for a lookup, and what the lookups of the identifiers have ended in so far.
-use Rattle.std.specs.Prelude.{ℕ, ◌≡◌, ◌≢◌, ◌<◌, List, [], ◌∷◌, ◌++◌, All, map, slice_set, Option, Some, None, Result, Ok, Err, IsSome, Bool, true, false}
+use Rattle.std.specs.Prelude.{ℕ, ◌≡◌, ◌≢◌, List, [], ◌∷◌, ◌++◌, All, map, slice_set, Option, Some, None, Result, Ok, Err, IsSome, Bool, true, false}
 use Rattle.std.specs.List.{list_any}
 use Rattle.std.specs.Coded.{Coded, code_by, coded×, coded_list}
 use Rattle.std.specs.Prelude.{refl}

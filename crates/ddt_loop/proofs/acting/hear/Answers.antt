@@ -1,4 +1,4 @@
-use Rattle.std.proofs.Common.{[], refl, subst, ap}
+use Rattle.std.proofs.Common.{[], refl, subst}
 use Rattle.ddt_wires.proofs.TellLemmas.{tells_none}
 use Rattle.ddt_resolver.specs.State.{moved}
 use Rattle.ddt_resolver.specs.Step.{Hear, ToDatagram, hears}

@@ -1,4 +1,4 @@
-use Rattle.std.proofs.Common.{[], refl, ap, Ok, Err}
+use Rattle.std.proofs.Common.{[], refl, ap, Ok}
 use Rattle.ddt_resolver.specs.State.{moved}
 use Rattle.ddt_resolver.specs.Step.{asks}
 use Rattle.ddt_resolver.proofs.OrderLemmas.{order_moved}

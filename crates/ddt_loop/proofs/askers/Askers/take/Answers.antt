@@ -1,9 +1,8 @@
-use Rattle.std.proofs.Common.{◌≡◌, Option, sym, subst, None, Some, List}
-use Rattle.std.specs.Prelude.{position}
+use Rattle.std.proofs.Common.{Option, sym, subst, None, Some, List}
 use Rattle.ddt_loop.specs.declared.owner.Asker.{Asker}
 use Rattle.ddt_loop.specs.declared.owner.Owner.{Owner}
 use Rattle.ddt_loop.specs.Askers.{Desk, Takes}
-use Rattle.ddt_loop.proofs.OwnerLemmas.{has_ticket, place_in, nobody_at, somebody_at}
+use Rattle.ddt_loop.proofs.OwnerLemmas.{place_in, nobody_at, somebody_at}
 use Rattle.ddt_loop.proofs.askers.Askers.take.Goals as goal
 
 pub returns-clause-takes : goal.returns-clause-takes

@@ -1,21 +1,18 @@
 -- The configuration of the group of a name.
-use Rattle.std.proofs.Common.{◌≡◌, ℕ, true, List, [], ◌∷◌, Option, Some, None, Result, Ok, Err, IfOk, refl, MatchOption, eq-eqb}
+use Rattle.std.proofs.Common.{◌≡◌, ℕ, true, List, [], ◌∷◌, Option, Some, None, Result, Ok, Err, IfOk, refl, MatchOption}
 use Rattle.std.specs.Prelude.{IfSome}
 use Rattle.std.specs.declared.alloc.AllocError.{AllocError}
 use Rattle.std.specs.Option.{option_map}
-use Rattle.std.proofs.lemmas.Option.{same_Some}
 use Rattle.std.proofs.lemmas.Bool.{and_parts, false≢true}
 use Rattle.ddt_path.specs.declared.locator.Locator.{Locator}
-use Rattle.ddt_path.specs.declared.locator.Locator.TheVariants.{V4, V6}
 use Rattle.ddt_path.specs.Locators.{lists}
 use Rattle.ddt_path.proofs.LocatorLemmas.{is_same_locator_self}
-use Rattle.ddt_register.specs.declared.group.Group.{Group}
 use Rattle.ddt_register.specs.declared.register.Register.{Register}
 use Rattle.ddt_check.specs.Zones.{group_named, first_locator}
 use Rattle.ddt_config.specs.declared.config.ServerConfig.{ServerConfig}
 use Rattle.ddt_config.specs.Shaped.{is_server_set}
-use Rattle.ddt_config.specs.Table.{Outline, outline}
-use Rattle.ddt_compile.specs.GroupConfig.{group_config, config_named}
+use Rattle.ddt_config.specs.Table.{outline}
+use Rattle.ddt_compile.specs.GroupConfig.{config_named}
 use Rattle.ddt_compile.specs.Laws.{IsHonestConfig, HasRoom}
 use Rattle.ddt_compile.proofs.NamedLemmas.{config_of, no_config}
 use Rattle.ddt_commands.specs.Answer.{IsConfigOfGroup}

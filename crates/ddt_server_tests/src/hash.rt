@@ -6,6 +6,7 @@ ghost use Rattle.ddt_path.specs.Path.{xeid_path};
 use ddt_hash::HashedMap;
 use ddt_path::{Locator, Prefix, Xeid};
 use ddt_trie::{ListMap, MOST_ENTRIES, PrefixMap};
+use std::alloc::Global;
 use std::process::Abort;
 
 /// An identifier of an instance: one of 16 addresses that part at their first digits, and at the last.
@@ -29,26 +30,60 @@ fn value_of_longest<M: PrefixMap<u32>>(map: &M, x: Xeid) -> Option<(Prefix, u32)
     }
 }
 
-/// Sets a key in both maps, and asks both for the longest of each identifier of some instances.
-fn put_in_both(
-    rt: &impl Abort,
-    hashed: &mut HashedMap<u32>,
-    plain: &mut ListMap<u32>,
-    prefix: Prefix,
-    value: u32,
-) {
-    put(rt, hashed, prefix, value);
-    put(rt, plain, prefix, value);
-    agree(rt, hashed, plain);
+/// A hash table and a list, which are to answer alike.
+#[derive(Drop)]
+struct Both {
+    hashed: HashedMap<u32>,
+    plain: ListMap<u32>,
 }
 
-fn agree(rt: &impl Abort, hashed: &HashedMap<u32>, plain: &ListMap<u32>) {
+fn empty(alloc: Global) -> Both {
+    Both {
+        hashed: HashedMap::empty(alloc),
+        plain: ListMap::empty(alloc),
+    }
+}
+
+/// Sets a key in both maps, and asks both for the longest of each identifier of some instances.
+fn put_in_both(rt: &impl Abort, both: &mut Both, prefix: Prefix, value: u32) {
+    put(rt, &mut both.hashed, prefix, value);
+    put(rt, &mut both.plain, prefix, value);
+    agree(rt, both);
+}
+
+fn agree(rt: &impl Abort, both: &Both) {
     for iid in 0..3 {
         for at in 0..16 {
-            let x = xeid(iid, at);
-            assert!(rt; value_of_longest(hashed, x) == value_of_longest(plain, x));
+            agrees_on(rt, both, xeid(iid, at));
         }
     }
+}
+
+fn agrees_on(rt: &impl Abort, both: &Both, x: Xeid) {
+    assert!(rt; value_of_longest(&both.hashed, x) == value_of_longest(&both.plain, x));
+}
+
+/// Removes a key of this value from both maps.
+fn remove_from_both(rt: &impl Abort, both: &mut Both, prefix: Prefix, value: u32) {
+    removes(rt, &mut both.hashed, prefix, value);
+    removes(rt, &mut both.plain, prefix, value);
+    agree(rt, both);
+}
+
+fn removes<M: PrefixMap<u32>>(rt: &impl Abort, map: &mut M, prefix: Prefix, value: u32) {
+    assert!(rt; map.remove(prefix) == Some(value));
+}
+
+/// Only values below four stay in both maps: so many.
+fn retain_in_both(rt: &impl Abort, both: &mut Both, count: usize) {
+    retain_below_four(&mut both.hashed);
+    retain_below_four(&mut both.plain);
+    agree(rt, both);
+    assert!(rt; both.hashed.len() == count);
+}
+
+fn retain_below_four<M: PrefixMap<u32>>(map: &mut M) {
+    map.retain(&|value: &u32| *value < 4);
 }
 
 /// The first digits of an identifier: some of them, or all of its 65.
@@ -58,56 +93,38 @@ fn front(x: Xeid, len: u8) -> Prefix
     Prefix::host(x).front(len.min(x.path_len()))
 }
 
+/// Values, and the lengths of the prefixes that they are set for.
+const FEW_LENGTHS: &[(u32, u8)] = &[(1, 65), (2, 33), (3, 0), (4, 36), (5, 65), (6, 33), (7, 32)];
+
 #[test]
 fn a_few_lengths_answer_as_a_list_does(rt: HostRuntime) {
-    let mut hashed = HashedMap::empty(rt.alloc());
-    let mut plain = ListMap::empty(rt.alloc());
-    agree(&rt, &hashed, &plain);
-    for (value, len) in [(1, 65), (2, 33), (3, 0), (4, 36), (5, 65), (6, 33), (7, 32)] {
-        put_in_both(
-            &rt,
-            &mut hashed,
-            &mut plain,
-            front(xeid(value % 3, value), len),
-            value,
-        );
+    let mut both = empty(rt.alloc());
+    agree(&rt, &both);
+    for &(value, len) in FEW_LENGTHS {
+        put_in_both(&rt, &mut both, front(xeid(value % 3, value), len), value);
     }
 }
 
 #[test]
 fn more_than_eight_lengths_answer_as_a_list_does(rt: HostRuntime) {
-    let mut hashed = HashedMap::empty(rt.alloc());
-    let mut plain = ListMap::empty(rt.alloc());
+    let mut both = empty(rt.alloc());
+    agree(&rt, &both);
     for len in 28..40 {
-        put_in_both(
-            &rt,
-            &mut hashed,
-            &mut plain,
-            front(xeid(1, 5), len),
-            u32::from(len),
-        );
+        put_in_both(&rt, &mut both, front(xeid(1, 5), len), u32::from(len));
+    }
+}
+
+/// Sets keys for the values from 0 to 5.
+fn put_six(rt: &impl Abort, both: &mut Both) {
+    for value in 0..6 {
+        put_in_both(rt, both, front(xeid(value % 3, value), 36), value);
     }
 }
 
 #[test]
 fn what_is_removed_or_filtered_is_gone(rt: HostRuntime) {
-    let mut hashed = HashedMap::empty(rt.alloc());
-    let mut plain = ListMap::empty(rt.alloc());
-    for value in 0..6 {
-        put_in_both(
-            &rt,
-            &mut hashed,
-            &mut plain,
-            front(xeid(value % 3, value), 36),
-            value,
-        );
-    }
-    let gone = front(xeid(1, 1), 36);
-    assert!(rt; hashed.remove(gone) == Some(1));
-    assert!(rt; plain.remove(gone) == Some(1));
-    agree(&rt, &hashed, &plain);
-    hashed.retain(&|value: &u32| *value < 4);
-    plain.retain(&|value: &u32| *value < 4);
-    agree(&rt, &hashed, &plain);
-    assert!(rt; hashed.len() == 3);
+    let mut both = empty(rt.alloc());
+    put_six(&rt, &mut both);
+    remove_from_both(&rt, &mut both, front(xeid(1, 1), 36), 1);
+    retain_in_both(&rt, &mut both, 3);
 }

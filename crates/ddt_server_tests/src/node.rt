@@ -52,6 +52,12 @@ fn is_ignored(handled: &Handled) -> bool {
     handled.reply.is_none() && handled.forward.is_none()
 }
 
+/// Whether the reply is this message.
+fn is_reply(alloc: Global, handled: &Handled, wanted: &str) -> Result<bool, Fail> {
+    let wanted = bytes_of(alloc, wanted)?;
+    Ok(reply(handled) == Some(wanted.as_slice()))
+}
+
 /// Whether the reply to a datagram is this message.
 fn replies(
     alloc: Global,
@@ -60,9 +66,7 @@ fn replies(
     request: &[u8],
     wanted: &str,
 ) -> Result<bool, Fail> {
-    let handled = handled(alloc, rt, text, request)?;
-    let wanted = bytes_of(alloc, wanted)?;
-    Ok(reply(&handled) == Some(wanted.as_slice()))
+    is_reply(alloc, &handled(alloc, rt, text, request)?, wanted)
 }
 
 /// Whether these bytes are forwarded to an ETR.
@@ -85,6 +89,11 @@ fn forwards(
     Ok(is_forwarded(&handled(alloc, rt, text, request)?, to, bytes))
 }
 
+/// Whether the reply is this message, and nothing is forwarded.
+fn is_reply_alone(alloc: Global, handled: &Handled, wanted: &str) -> Result<bool, Fail> {
+    Ok(handled.forward.is_none() && is_reply(alloc, handled, wanted)?)
+}
+
 /// Whether the reply to a datagram is this message, and nothing is forwarded.
 fn replies_alone(
     alloc: Global,
@@ -93,8 +102,7 @@ fn replies_alone(
     request: &[u8],
     wanted: &str,
 ) -> Result<bool, Fail> {
-    let is_alone = handled(alloc, rt, text, request)?.forward.is_none();
-    Ok(is_alone && replies(alloc, rt, text, request, wanted)?)
+    is_reply_alone(alloc, &handled(alloc, rt, text, request)?, wanted)
 }
 
 /// The same of a DDT Map-Request for an identifier.
@@ -135,7 +143,7 @@ fn a_registered_site_is_acknowledged(rt: HostRuntime) -> Result<(), Fail> {
 }
 
 /// The first four bytes of a DDT Map-Request, and of what goes on to the ETR: the bit D is cleared, other bits stay.
-const FIRST_BYTES: [([u8; 4], [u8; 4]); 2] = [
+const FIRST_BYTES: &[([u8; 4], [u8; 4])] = &[
     ([0x84, 0, 0, 0], [0x80, 0, 0, 0]),
     ([0x87, 0, 0, 0xff], [0x83, 0, 0, 0xff]),
 ];
@@ -148,23 +156,38 @@ fn behind(message: Vec<u8>, first: [u8; 4]) -> Vec<u8> {
     )
 }
 
+/// The DDT Map-Request with these first bytes.
+fn request_behind(alloc: Global, first: [u8; 4]) -> Result<Vec<u8>, Fail> {
+    Ok(behind(bytes_of(alloc, DDT_REQUEST)?, first))
+}
+
 /// Whether the request with these first bytes goes on to the site's ETR with those.
 fn goes_on(alloc: Global, rt: &impl Abort, first: [u8; 4], onward: [u8; 4]) -> Result<bool, Fail> {
-    let request = behind(bytes_of(alloc, DDT_REQUEST)?, first);
-    let wanted = behind(bytes_of(alloc, DDT_REQUEST)?, onward);
-    forwards(alloc, rt, EAST, &request, ETR, &wanted)
+    let request = request_behind(alloc, first)?;
+    goes_on_as(alloc, rt, &request, onward)
+}
+
+/// Whether a request goes on to the site's ETR with these first bytes.
+fn goes_on_as(
+    alloc: Global,
+    rt: &impl Abort,
+    request: &[u8],
+    onward: [u8; 4],
+) -> Result<bool, Fail> {
+    let wanted = request_behind(alloc, onward)?;
+    forwards(alloc, rt, EAST, request, ETR, &wanted)
 }
 
 #[test]
 fn the_request_goes_to_its_etr_without_the_bit_d(rt: HostRuntime) -> Result<(), Fail> {
-    for (first, onward) in FIRST_BYTES {
+    for &(first, onward) in FIRST_BYTES {
         assert!(rt; goes_on(rt.alloc(), &rt, first, onward)?, "{first:?}");
     }
     Ok(())
 }
 
 /// Configurations, identifiers, and the ETR that gets the request.
-const ADDRESSEES: [(&str, &str, Option<Locator>); 3] = [
+const ADDRESSEES: &[(&str, &str, Option<Locator>)] = &[
     (
         TWO_ETRS,
         "[7]2001:db8:1::9",
@@ -176,14 +199,14 @@ const ADDRESSEES: [(&str, &str, Option<Locator>); 3] = [
 
 #[test]
 fn the_first_etr_of_the_longest_site_gets_the_request(rt: HostRuntime) -> Result<(), Fail> {
-    for (text, xeid, to) in ADDRESSEES {
+    for &(text, xeid, to) in ADDRESSEES {
         assert!(rt; addressee(rt.alloc(), &rt, text, xeid)? == to, "{xeid}");
     }
     Ok(())
 }
 
 /// Configurations, identifiers, and the reply, beside which nothing is forwarded.
-const REPLIES: [(&str, &str, &str); 2] = [
+const REPLIES: &[(&str, &str, &str)] = &[
     (EAST, "[0]10.1.4.7", EAST_HAS_NO_ETR),
     (TEN, "[0]11.0.0.1", TEN_IS_NOT_IN_CHARGE),
 ];
@@ -192,7 +215,7 @@ const REPLIES: [(&str, &str, &str); 2] = [
 fn a_site_without_an_etr_and_what_is_outside_have_a_reply_alone(
     rt: HostRuntime,
 ) -> Result<(), Fail> {
-    for (text, xeid, wanted) in REPLIES {
+    for &(text, xeid, wanted) in REPLIES {
         assert!(rt; replies_to(rt.alloc(), &rt, text, xeid, wanted)?, "{xeid}");
     }
     Ok(())
@@ -218,19 +241,31 @@ fn is_ignored_by_both(alloc: Global, rt: &impl Abort, bytes: &[u8]) -> Result<bo
     Ok(east && is_ignored(&handled(alloc, rt, ROOT, bytes)?))
 }
 
+/// The same of so many bytes of a message.
+fn is_front_ignored(
+    alloc: Global,
+    rt: &impl Abort,
+    fields: &str,
+    count: usize,
+) -> Result<bool, Fail> {
+    let bytes = bytes_of(alloc, fields)?;
+    is_ignored_by_both(alloc, rt, front(&bytes, count))
+}
+
+/// Messages, of which so many bytes are no DDT Map-Request.
+const NO_REQUESTS: &[(&str, usize)] = &[
+    (ITR_REQUEST, 1000),
+    (ROOT_REFERS_TO_TEN, 1000),
+    (DDT_REQUEST, 59),
+    ("00", 1),
+    ("", 0),
+];
+
 #[test]
 fn what_is_no_ddt_map_request_is_ignored(rt: HostRuntime) -> Result<(), Fail> {
-    let itr = bytes_of(rt.alloc(), ITR_REQUEST)?;
-    let referral = bytes_of(rt.alloc(), ROOT_REFERS_TO_TEN)?;
-    let request = bytes_of(rt.alloc(), DDT_REQUEST)?;
-    for bytes in [
-        itr.as_slice(),
-        referral.as_slice(),
-        front(&request, 59),
-        &[0x00],
-        &[],
-    ] {
-        assert!(rt; is_ignored_by_both(rt.alloc(), &rt, bytes)?, "{bytes:?}");
+    for &(fields, count) in NO_REQUESTS {
+        let is_ignored = is_front_ignored(rt.alloc(), &rt, fields, count)?;
+        assert!(rt; is_ignored, "{count} bytes of {fields}");
     }
     Ok(())
 }
@@ -252,7 +287,7 @@ fn hole(prefix: &str) -> Result<ReferralRecord, Fail> {
 }
 
 /// Configurations, identifiers, and the prefix of the hole.
-const HOLES: [(&str, &str, &str); 7] = [
+const HOLES: &[(&str, &str, &str)] = &[
     (TEN, "[0]10.2.0.1", "[0]10.2.0.0/15"),
     (ROOT, "[0]11.0.0.1", "[0]11.0.0.0/8"),
     (ROOT, "[1]10.1.2.3", "[1/32]*"),
@@ -264,7 +299,7 @@ const HOLES: [(&str, &str, &str); 7] = [
 
 #[test]
 fn holes_are_the_least_specific_inside_the_longest_authority(rt: HostRuntime) -> Result<(), Fail> {
-    for (text, xeid, prefix) in HOLES {
+    for &(text, xeid, prefix) in HOLES {
         assert!(rt;
             answer(rt.alloc(), &rt, text, xeid)? == hole(prefix)?,
             "{xeid}"
@@ -287,7 +322,7 @@ fn a_child_below_the_shorter_authority_is_still_referred_to(rt: HostRuntime) -> 
 }
 
 /// Identifiers under sites inside sites: the action and the prefix of the answer.
-const NESTED: [(&str, Action, &str); 5] = [
+const NESTED: &[(&str, Action, &str)] = &[
     ("[0]10.1.2.3", Action::MsAck, "[0]10.1.2.0/24"),
     ("[0]10.1.2.65", Action::MsNotRegistered, "[0]10.1.2.64/26"),
     ("[0]10.1.4.5", Action::MsNotRegistered, "[0]10.1.4.0/25"),
@@ -297,7 +332,7 @@ const NESTED: [(&str, Action, &str); 5] = [
 
 #[test]
 fn of_sites_inside_sites_the_longest_decides(rt: HostRuntime) -> Result<(), Fail> {
-    for (xeid, action, prefix) in NESTED {
+    for &(xeid, action, prefix) in NESTED {
         let answer = answer(rt.alloc(), &rt, NESTED_EAST, xeid)?;
         assert!(rt; is_of(&answer, action, prefix)?, "{xeid}");
     }
@@ -308,21 +343,28 @@ fn is_east(config: &ServerConfig) -> bool {
     config.name.as_bytes() == b"east".as_slice() && config.authorities.as_slice().len() == 1
 }
 
+/// The configuration of the east, read again where memory was refused.
+fn east(alloc: Global) -> Result<ServerConfig, Fail> {
+    match from_toml(alloc, EAST) {
+        Ok(config) => Ok(config),
+        Err(_refused) => Ok(from_toml(alloc, EAST)?),
+    }
+}
+
+/// The configuration of the east has come back, and is built now.
+fn is_built_again(alloc: Global, rt: &impl Abort, config: ServerConfig) {
+    assert!(rt; is_east(&config) && has_room_for(&config));
+    assert!(rt; ListServer::build(alloc, config).is_ok());
+}
+
 /// Under `rt try --test --fail-alloc N` one allocation is refused, of reading the text or of `build`.
 #[test]
 fn the_configuration_comes_back_where_memory_is_refused(rt: HostRuntime) -> Result<(), Fail> {
-    let config = match from_toml(rt.alloc(), EAST) {
-        Ok(config) => config,
-        Err(_refused) => from_toml(rt.alloc(), EAST)?,
-    };
+    let config = east(rt.alloc())?;
     assert!(rt; has_room_for(&config));
-    match Server::<ListMap<u32>>::build(rt.alloc(), config) {
+    match ListServer::build(rt.alloc(), config) {
         Ok(east) => assert!(rt; is_east(east.config())),
-        Err(config) => {
-            assert!(rt; is_east(&config));
-            assert!(rt; has_room_for(&config));
-            assert!(rt; Server::<ListMap<u32>>::build(rt.alloc(), config).is_ok());
-        }
+        Err(config) => is_built_again(rt.alloc(), &rt, config),
     }
     Ok(())
 }

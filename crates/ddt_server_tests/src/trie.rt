@@ -1,7 +1,6 @@
 //! Worked values of prefix maps, refused memory, and both maps side by side.
 
-ghost use Rattle.std.specs.Prelude.{◌<◌, ◌≤◌};
-
+use ddt_examples::Dice;
 use ddt_path::{Locator, Prefix, Xeid};
 use ddt_text::{parse_prefix, parse_xeid};
 use ddt_trie::{ListMap, MOST_ENTRIES, PrefixMap, TrieMap};
@@ -14,13 +13,6 @@ const TEN: u32 = 0x0a00_0000;
 const TEN_ONE: u32 = 0x0a01_0000;
 
 const DOCUMENTATION: u128 = 0x2001_0db8_0000_0000_0000_0000_0000_0000;
-
-fn v4(address: u32) -> Xeid {
-    Xeid {
-        iid: 0,
-        address: Locator::V4(address),
-    }
-}
 
 fn v6(address: u128) -> Xeid {
     Xeid {
@@ -98,7 +90,12 @@ fn gets<M: PrefixMap<u32>>(rt: &impl Abort, map: &M, prefix: Prefix, value: Opti
     assert_eq!(rt; got(map, prefix), value, "{prefix:?}");
 }
 
-fn finds<M: PrefixMap<u32>>(rt: &impl Abort, map: &M, x: Xeid, entry: Option<(Prefix, u32)>) {
+fn finds_longest<M: PrefixMap<u32>>(
+    rt: &impl Abort,
+    map: &M,
+    x: Xeid,
+    entry: Option<(Prefix, u32)>,
+) {
     assert_eq!(rt; longest(map, x), entry, "{x:?}");
 }
 
@@ -225,7 +222,7 @@ const BELOW_A_HOST: [Step; 5] = [
 ];
 
 /// What each map answers, whichever way it is kept.
-const WORKED: [&[Step]; 8] = [
+const WORKED: &[&[Step]] = &[
     &ONE_BLOCK,
     &NESTED_BLOCKS,
     &ONE_HOST,
@@ -270,39 +267,47 @@ fn is_put<M: PrefixMap<u32>>(
     put(rt, map, prefix, value) == Ok(before)
 }
 
-fn is_longest<M: PrefixMap<u32>>(map: &M, x: Xeid, entry: Option<(Prefix, u32)>) -> bool {
-    longest(map, x) == entry
-}
-
-/// Whether a map answers a call as it should.
-fn holds<M: PrefixMap<u32>>(rt: &impl Abort, map: &mut M, step: Step) -> Result<bool, Fail> {
+/// Whether a map answers a call that changes it as it should, or a short one.
+fn holds<M: PrefixMap<u32>>(rt: &impl Abort, map: &mut M, step: &Step) -> Result<bool, Fail> {
     match step {
-        Put(key, value, before) => Ok(is_put(rt, map, prefix(key)?, value, before)),
-        Remove(key, value) => Ok(map.remove(prefix(key)?) == value),
-        Get(key, value) => Ok(got(map, prefix(key)?) == value),
-        Len(len) => Ok(map.len() == len),
+        Put(key, value, before) => Ok(is_put(rt, map, prefix(key)?, *value, *before)),
+        Remove(key, value) => Ok(map.remove(prefix(key)?) == *value),
+        Get(key, value) => Ok(got(map, prefix(key)?) == *value),
+        Len(len) => Ok(map.len() == *len),
         RetainBelow(most) => {
-            map.retain(&|value: &u32| *value < most);
+            retain_below(map, *most);
             Ok(true)
         }
-        Longest(x, entry) => Ok(is_longest(map, xeid(x)?, some_entry(entry)?)),
-        Free(x, free) => Ok(hole(rt, map, xeid(x)?) == some_prefix(free)?),
+        _ => finds(rt, map, step),
+    }
+}
+
+fn retain_below<M: PrefixMap<u32>>(map: &mut M, most: u32) {
+    map.retain(&|value: &u32| *value < most);
+}
+
+/// Whether a map finds for an identifier what it should.
+fn finds<M: PrefixMap<u32>>(rt: &impl Abort, map: &M, step: &Step) -> Result<bool, Fail> {
+    match step {
+        Longest(x, entry) => Ok(longest(map, xeid(x)?) == some_entry(*entry)?),
+        Free(x, free) => Ok(hole(rt, map, xeid(x)?) == some_prefix(*free)?),
         FreeBelow(from, x, free) => {
-            Ok(hole_below(rt, map, prefix(from)?, xeid(x)?) == some_prefix(free)?)
+            Ok(hole_below(rt, map, prefix(from)?, xeid(x)?) == some_prefix(*free)?)
         }
+        _ => Ok(false),
     }
 }
 
 /// Makes calls on an empty map.
 fn plays<M: PrefixMap<u32>>(rt: &impl Abort, map: &mut M, steps: &[Step]) -> Result<(), Fail> {
     for step in steps {
-        assert!(rt; holds(rt, map, *step)?, "{step:?}");
+        assert!(rt; holds(rt, map, step)?, "{step:?}");
     }
     Ok(())
 }
 
 fn plays_all<M: PrefixMap<u32>>(alloc: Global, rt: &impl Abort) -> Result<(), Fail> {
-    for steps in WORKED {
+    for &steps in WORKED {
         plays(rt, &mut M::empty(alloc), steps)?;
     }
     Ok(())
@@ -316,8 +321,8 @@ fn filled<M: PrefixMap<u32>>(alloc: Global, rt: &impl Abort, len: u32) {
         puts(rt, &mut map, host, n, None);
     }
     counts(rt, &map, len as usize);
-    finds(rt, &map, v6(DOCUMENTATION + len as u128), None);
-    finds(
+    finds_longest(rt, &map, v6(DOCUMENTATION + len as u128), None);
+    finds_longest(
         rt,
         &map,
         v6(DOCUMENTATION),
@@ -349,75 +354,82 @@ fn front(rt: &impl Abort, x: Xeid, len: u8) -> Prefix {
     Prefix::cut(x, len)
 }
 
-/// An insert that is refused memory returns the pair, and the map answers as before; asked again, it inserts.
+/// An insert that is refused memory returned the pair, and the map answers as before; asked again, it inserts.
+fn is_as_before<M: PrefixMap<u32>>(
+    rt: &impl Abort,
+    map: &mut M,
+    entry: (Prefix, u32),
+    back: (Prefix, u32),
+    x: Xeid,
+    before: Answers,
+) {
+    assert_eq!(rt; back, entry);
+    judge_answers(rt, seen(rt, map, entry.0, x), before);
+    puts(rt, map, entry.0, entry.1, None);
+}
+
+fn judge_answers(rt: &impl Abort, answers: Answers, before: Answers) {
+    assert_eq!(rt; answers, before);
+}
+
+/// An insert of a new prefix, which may be refused memory, but not twice.
+fn inserts<M: PrefixMap<u32>>(rt: &impl Abort, map: &mut M, prefix: Prefix, x: Xeid, value: u32) {
+    let before = seen(rt, map, prefix, x);
+    match put(rt, map, prefix, value) {
+        Ok(replaced) => assert_eq!(rt; replaced, None),
+        Err(back) => is_as_before(rt, map, (prefix, value), back, x, before),
+    }
+}
+
+/// The identifiers and the lengths of the prefixes that are inserted.
+const INSERTED: &[(Locator, u8)] = &[
+    (Locator::V4(TEN_ONE), 41),
+    (Locator::V4(TEN_ONE), 49),
+    (Locator::V4(TEN_ONE), 65),
+    (Locator::V4(TEN_ONE), 57),
+    (Locator::V4(TEN_ONE), 45),
+    (Locator::V4(TEN_ONE), 33),
+    (Locator::V4(TEN_ONE), 20),
+    (Locator::V6(DOCUMENTATION), 161),
+    (Locator::V6(DOCUMENTATION), 160),
+    (Locator::V4(TEN_ONE), 64),
+];
+
+/// Each of these is inserted, though one may be refused memory at first.
 fn refused<M: PrefixMap<u32>>(alloc: Global, rt: &impl Abort) {
     let mut map = M::empty(alloc);
-    for (at, len) in [41, 49, 65, 57, 45, 33, 20, 161, 160, 64]
-        .iter()
-        .enumerate()
-    {
-        let x = if *len > 65 {
-            v6(DOCUMENTATION)
-        } else {
-            v4(TEN_ONE)
-        };
-        let prefix = front(rt, x, *len);
-        let value = at as u32;
-        let before = seen(rt, &map, prefix, x);
-        match put(rt, &mut map, prefix, value) {
-            Ok(replaced) => assert_eq!(rt; replaced, None),
-            Err(back) => {
-                assert_eq!(rt; back, (prefix, value));
-                assert_eq!(rt; seen(rt, &map, prefix, x), before);
-                puts(rt, &mut map, prefix, value, None);
-            }
-        }
-        counts(rt, &map, at + 1);
+    let mut value: u32 = 0;
+    for &(address, len) in INSERTED {
+        let x = Xeid { iid: 0, address };
+        let prefix = front(rt, x, len);
+        inserts(rt, &mut map, prefix, x, value);
         gets(rt, &map, prefix, Some(value));
+        value = value.saturating_add(1);
+        counts(rt, &map, value as usize);
     }
 }
 
-/// Numbers that look drawn by lot, the same in each run.
-#[derive(Drop)]
-struct Dice {
-    state: u32,
+/// One of a few identifiers, many of which begin alike.
+fn any_xeid(dice: &mut Dice) -> Xeid {
+    let iid = dice.one_of(&[0, 1, 0x8000_0001]);
+    let high = dice.below(4);
+    let low = dice.below(4);
+    let address = if dice.below(2) == 0 {
+        Locator::V4(TEN | (high as u32) << 22 | low as u32)
+    } else {
+        Locator::V6(DOCUMENTATION | (high as u128) << 64 | low as u128)
+    };
+    Xeid { iid, address }
 }
 
-impl Dice {
-    /// A number below another.
-    fn next(&mut self, below: u32) -> u32
-        requires { 1 ≤ below }
-        ensures { result < below }
-    {
-        self.state = self
-            .state
-            .wrapping_mul(1_664_525)
-            .wrapping_add(1_013_904_223);
-        (self.state >> 8) % below
-    }
+/// A prefix that covers an identifier.
+fn any_front(rt: &impl Abort, dice: &mut Dice, x: Xeid) -> Prefix {
+    let len = dice.below(x.path_len() as usize + 1);
+    front(rt, x, len as u8)
+}
 
-    /// One of a few identifiers, many of which begin alike.
-    fn xeid(&mut self) -> Xeid {
-        let iid = match self.next(3) {
-            0 => 0,
-            1 => 1,
-            _ => 0x8000_0001,
-        };
-        let high = self.next(4);
-        let low = self.next(4);
-        let address = if self.next(2) == 0 {
-            Locator::V4(TEN | high << 22 | low)
-        } else {
-            Locator::V6(DOCUMENTATION | (high as u128) << 64 | low as u128)
-        };
-        Xeid { iid, address }
-    }
-
-    /// A prefix that covers an identifier.
-    fn front(&mut self, rt: &impl Abort, x: Xeid) -> Prefix {
-        let len = self.next(x.path_len() as u32 + 1);
-        front(rt, x, len as u8)
-    }
+fn retain_eighths<M: PrefixMap<u32>>(map: &mut M) {
+    map.retain(&|value: &u32| *value % 8 == 0);
 }
 
 /// Changes two maps alike, by one call that is drawn by lot.
@@ -428,12 +440,12 @@ fn change<A: PrefixMap<u32>, B: PrefixMap<u32>>(
     dice: &mut Dice,
     step: u32,
 ) {
-    let x = dice.xeid();
-    let prefix = dice.front(rt, x);
-    match dice.next(32) {
+    let x = any_xeid(dice);
+    let prefix = any_front(rt, dice, x);
+    match dice.below(32) {
         0 => {
-            one.retain(&|value: &u32| *value % 8 == 0);
-            other.retain(&|value: &u32| *value % 8 == 0);
+            retain_eighths(one);
+            retain_eighths(other);
         }
         1..10 => removes(rt, one, prefix, other.remove(prefix)),
         _ => {
@@ -451,20 +463,20 @@ fn same_answers<A: PrefixMap<u32>, B: PrefixMap<u32>>(
     other: &B,
     dice: &mut Dice,
 ) {
-    let x = dice.xeid();
-    let from = dice.front(rt, x);
+    let x = any_xeid(dice);
+    let from = any_front(rt, dice, x);
     counts(rt, one, other.len());
     gets(rt, one, from, got(other, from));
-    finds(rt, one, x, longest(other, x));
+    finds_longest(rt, one, x, longest(other, x));
     assert_eq!(rt; hole_in(rt, one, from, x), hole_in(rt, other, from, x));
     finds_hole_below(rt, one, from, x, hole_below(rt, other, from, x));
 }
 
 /// 15,000 changes of two maps, and after each what they answer: more than 100,000 calls on each.
-fn agree<A: PrefixMap<u32>, B: PrefixMap<u32>>(alloc: Global, rt: &impl Abort, seed: u32) {
+fn agree<A: PrefixMap<u32>, B: PrefixMap<u32>>(alloc: Global, rt: &impl Abort, seed: u64) {
     let mut one = A::empty(alloc);
     let mut other = B::empty(alloc);
-    let mut dice = Dice { state: seed };
+    let mut dice = Dice::of(seed);
     for step in 0..15_000u32 {
         change(rt, &mut one, &mut other, &mut dice, step);
         same_answers(rt, &one, &other, &mut dice);
@@ -518,5 +530,5 @@ fn both_maps_agree_on_calls_of_a_third_draw(rt: HostRuntime) {
 
 #[test]
 fn both_maps_agree_on_calls_of_a_fourth_draw(rt: HostRuntime) {
-    agree::<TrieMap<u32>, ListMap<u32>>(rt.alloc(), &rt, u32::MAX);
+    agree::<TrieMap<u32>, ListMap<u32>>(rt.alloc(), &rt, u64::MAX);
 }

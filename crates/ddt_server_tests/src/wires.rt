@@ -40,11 +40,26 @@ fn add(wires: &mut WiresInMemory, at: Locator, port: u16, bytes: Vec<u8>) -> Res
     Ok(())
 }
 
-/// Wires whose call of this number fails, where a DDT Map-Request and then the one byte 00 wait at the server.
+/// Lets messages of the resolver, from this port, wait at sockets.
+fn add_all(
+    alloc: Global,
+    wires: &mut WiresInMemory,
+    port: u16,
+    messages: &[(Locator, &str)],
+) -> Result<(), Fail> {
+    for (at, fields) in messages {
+        add(wires, *at, port, bytes_of(alloc, fields)?)?;
+    }
+    Ok(())
+}
+
+/// A DDT Map-Request and then the one byte 00 wait at the server.
+const BUSY: &[(Locator, &str)] = &[(SERVER, DDT_REQUEST), (SERVER, "00")];
+
+/// Wires whose call of this number fails, where these wait.
 fn busy(alloc: Global, failing: u64, port: u16) -> Result<WiresInMemory, Fail> {
     let mut wires = WiresInMemory::new(alloc, failing);
-    add(&mut wires, SERVER, port, bytes_of(alloc, DDT_REQUEST)?)?;
-    add(&mut wires, SERVER, port, bytes_of(alloc, "00")?)?;
+    add_all(alloc, &mut wires, port, BUSY)?;
     Ok(wires)
 }
 
@@ -96,19 +111,28 @@ fn tried(call: Option<&Call>, to: Locator, port: u16, bytes: &[u8]) -> bool {
     }
 }
 
+/// Whether the first call gave the request.
+fn gave_request(alloc: Global, calls: &[Call], port: u16) -> Result<bool, Fail> {
+    let request = bytes_of(alloc, DDT_REQUEST)?;
+    Ok(gave(calls.get(0), port, &request))
+}
+
+/// Whether the second call tried to reply to the resolver at this port.
+fn replied(alloc: Global, calls: &[Call], port: u16) -> Result<bool, Fail> {
+    let reply = bytes_of(alloc, EAST_ACKNOWLEDGES)?;
+    Ok(tried(calls.get(1), RESOLVER, port, &reply))
+}
+
+/// Whether the third call tried to send the request, its bit D clear, to the ETR.
+fn went_on(alloc: Global, calls: &[Call]) -> Result<bool, Fail> {
+    let plain = changed(bytes_of(alloc, DDT_REQUEST)?, &[(0, 0x80)]);
+    Ok(tried(calls.get(2), ETR, 4342, &plain))
+}
+
 /// Whether the first calls are those of a turn with the request: its reply to the resolver at this port, and then the
 /// request, its bit D clear, to the ETR.
 fn served_request(alloc: Global, calls: &[Call], port: u16) -> Result<bool, Fail> {
-    let request = bytes_of(alloc, DDT_REQUEST)?;
-    let is_given = gave(calls.get(0), port, &request);
-    let is_replied = tried(
-        calls.get(1),
-        RESOLVER,
-        port,
-        &bytes_of(alloc, EAST_ACKNOWLEDGES)?,
-    );
-    let plain = changed(request, &[(0, 0x80)]);
-    Ok(is_given && is_replied && tried(calls.get(2), ETR, 4342, &plain))
+    Ok(gave_request(alloc, calls, port)? && replied(alloc, calls, port)? && went_on(alloc, calls)?)
 }
 
 /// What a server counts in three turns over wires whose call of this number fails, and how many calls it makes.
@@ -157,7 +181,7 @@ fn a_reply_goes_to_the_port_that_the_request_came_from(rt: HostRuntime) -> Resul
 }
 
 /// Which call fails, and what three turns then count, with how many calls.
-const FAILING: [(u64, (u32, u32, usize)); 5] = [
+const FAILING: &[(u64, (u32, u32, usize))] = &[
     (0, (2, 1, 5)),
     (1, (1, 0, 3)),
     (2, (2, 0, 5)),
@@ -167,7 +191,7 @@ const FAILING: [(u64, (u32, u32, usize)); 5] = [
 
 #[test]
 fn a_failed_call_loses_its_datagram_alone(rt: HostRuntime) -> Result<(), Fail> {
-    for (failing, want) in FAILING {
+    for &(failing, want) in FAILING {
         assert!(rt; counts(rt.alloc(), &rt, failing)? == want, "{failing}");
     }
     Ok(())
@@ -182,8 +206,11 @@ fn first_byte(wires: &mut WiresInMemory, at: Locator) -> Result<Option<u8>, NetF
     }
 }
 
+/// Messages at two sockets.
+const AT_TWO_SOCKETS: &[(Locator, &str)] = &[(ETR, "01"), (SERVER, "020202"), (SERVER, "0303")];
+
 /// Sockets that are polled one after the other, and the first byte that each poll gives.
-const FIRST_BYTES: [(Locator, Result<Option<u8>, NetFault>); 4] = [
+const FIRST_BYTES: &[(Locator, Result<Option<u8>, NetFault>)] = &[
     (SERVER, Err(NetFault::Receive)),
     (SERVER, Ok(Some(3))),
     (SERVER, Ok(None)),
@@ -193,10 +220,8 @@ const FIRST_BYTES: [(Locator, Result<Option<u8>, NetFault>); 4] = [
 #[test]
 fn each_socket_gives_its_own_datagrams_in_order(rt: HostRuntime) -> Result<(), Fail> {
     let mut wires = WiresInMemory::new(rt.alloc(), 0);
-    add(&mut wires, ETR, 4342, bytes_of(rt.alloc(), "01")?)?;
-    add(&mut wires, SERVER, 4342, bytes_of(rt.alloc(), "020202")?)?;
-    add(&mut wires, SERVER, 4342, bytes_of(rt.alloc(), "0303")?)?;
-    for (at, byte) in FIRST_BYTES {
+    add_all(rt.alloc(), &mut wires, 4342, AT_TWO_SOCKETS)?;
+    for &(at, byte) in FIRST_BYTES {
         assert!(rt; first_byte(&mut wires, at) == byte, "{byte:?}");
     }
     Ok(())
@@ -278,7 +303,7 @@ fn came(wires: &mut UdpWires, bytes: &[u8]) -> Result<Option<usize>, NetFault> {
 }
 
 /// What is sent, and what comes into a buffer of 8 bytes: what fills it may have been cut.
-const LENGTHS: [(&[u8], Result<Option<usize>, NetFault>); 4] = [
+const LENGTHS: &[(&[u8], Result<Option<usize>, NetFault>)] = &[
     (&[1; 9], Err(NetFault::Receive)),
     (&[1; 8], Err(NetFault::Receive)),
     (&[1; 7], Ok(Some(7))),
@@ -289,7 +314,7 @@ const LENGTHS: [(&[u8], Result<Option<usize>, NetFault>); 4] = [
 fn a_datagram_that_may_be_cut_is_lost_alone(rt: HostRuntime) -> Result<(), Fail> {
     let mut wires = UdpWires::new(rt.alloc());
     wires.bind(&rt, UDP_ALONE)?;
-    for (bytes, len) in LENGTHS {
+    for &(bytes, len) in LENGTHS {
         assert!(rt; came(&mut wires, bytes) == len, "{bytes:?}");
     }
     Ok(())

@@ -4,7 +4,9 @@
 mod plain;
 
 use ddt_cache::{Cache, Entry, LAST_MOMENT, Moment, Saved};
+use ddt_examples::Dice;
 use ddt_path::{Action, Locator, LocatorSet, Prefix, ReferralRecord, Xeid};
+use ddt_text::{parse_prefix, parse_xeid};
 use ddt_trie::{ListMap, PrefixMap, TrieMap};
 use plain::Plain;
 use std::alloc::Global;
@@ -12,11 +14,10 @@ use std::process::Abort;
 
 const MINUTE: u64 = 60_000;
 
-const TEN: u32 = 0x0a00_0000;
-
-const ELEVEN: u32 = 0x0b00_0000;
-
 const LOOPBACK: Locator = Locator::V4(0x7f00_0001);
+
+/// The server of most referrals.
+const TEN: &[Locator] = &[Locator::V4(0x7f00_000a)];
 
 fn v4(address: u32) -> Xeid {
     Xeid {
@@ -25,37 +26,32 @@ fn v4(address: u32) -> Xeid {
     }
 }
 
-/// A block. Its instance and its family are parameters, so that the proof computes no digits of it.
-fn block_of(rt: &impl Abort, iid: u32, address: Locator, len: u8) -> Prefix {
-    Prefix::block(iid, address, len).expect(rt, "no block")
+fn prefix(rt: &impl Abort, text: &str) -> Prefix {
+    parse_prefix(text.as_bytes()).expect(rt, "no prefix")
 }
 
-/// An IPv4 block of instance 0.
-fn block(rt: &impl Abort, address: u32, len: u8) -> Prefix {
-    block_of(rt, 0, Locator::V4(address), len)
-}
-
-fn range(rt: &impl Abort, iid: u32, len: u8) -> Prefix {
-    Prefix::range(iid, len).expect(rt, "no range")
-}
-
-fn everything(rt: &impl Abort) -> Prefix {
-    range(rt, 0, 0)
+fn xeid(rt: &impl Abort, text: &str) -> Xeid {
+    parse_xeid(text.as_bytes()).expect(rt, "no identifier")
 }
 
 fn set(rt: &impl Abort, locators: &[Locator]) -> LocatorSet {
     LocatorSet::of(locators).expect(rt, "too many locators")
 }
 
-/// A set of one locator.
-fn one(rt: &impl Abort, locator: Locator) -> LocatorSet {
-    set(rt, &[locator])
+/// The root's one server, at 127.0.0.1.
+fn roots(rt: &impl Abort) -> LocatorSet {
+    set(rt, &[LOOPBACK])
 }
 
 fn at(rt: &impl Abort, millis: u64) -> Moment {
     Moment::at(millis).expect(rt, "past the last moment")
 }
 
+/// What a referral says: its action, its prefix as a text, how many minutes it may be kept, and its locators.
+#[derive(Clone, Copy)]
+struct Said(Action, &'static str, u32, &'static [Locator]);
+
+/// A record.
 fn record(action: Action, prefix: Prefix, ttl: u32, servers: LocatorSet) -> ReferralRecord {
     ReferralRecord {
         action,
@@ -66,6 +62,12 @@ fn record(action: Action, prefix: Prefix, ttl: u32, servers: LocatorSet) -> Refe
     }
 }
 
+/// The record that says this.
+fn record_of(rt: &impl Abort, said: &Said) -> ReferralRecord {
+    let Said(action, text, ttl, servers) = said;
+    record(*action, prefix(rt, text), *ttl, set(rt, servers))
+}
+
 /// A record without locators.
 fn bare(action: Action, prefix: Prefix, ttl: u32) -> ReferralRecord {
     record(action, prefix, ttl, LocatorSet::none())
@@ -73,17 +75,7 @@ fn bare(action: Action, prefix: Prefix, ttl: u32) -> ReferralRecord {
 
 /// A cache whose root's server is at 127.0.0.1.
 fn rooted<M: PrefixMap<Entry>>(alloc: Global, rt: &impl Abort) -> Cache<M> {
-    Cache::new(alloc, one(rt, LOOPBACK))
-}
-
-/// What such a cache answers where no other entry covers an identifier.
-fn of_the_root(rt: &impl Abort) -> (Prefix, Entry) {
-    let root = Entry {
-        action: Action::NodeReferral,
-        servers: one(rt, LOOPBACK),
-        end: 18_446_744_073_709_551_615,
-    };
-    (everything(rt), root)
+    Cache::new(alloc, roots(rt))
 }
 
 /// What `find` answers, by value.
@@ -136,19 +128,9 @@ fn saves<M: PrefixMap<Entry>>(
     rt: &impl Abort,
     cache: &mut Cache<M>,
     millis: u64,
-    referral: ReferralRecord,
+    referral: &ReferralRecord,
 ) {
-    answers(rt, cache, millis, &referral, Saved::Saved);
-}
-
-fn finds<M: PrefixMap<Entry>>(
-    rt: &impl Abort,
-    cache: &mut Cache<M>,
-    millis: u64,
-    x: Xeid,
-    prefix: Prefix,
-) {
-    assert_eq!(rt; found(rt, cache, millis, x).0, prefix, "at {millis}");
+    answers(rt, cache, millis, referral, Saved::Saved);
 }
 
 fn finds_entry<M: PrefixMap<Entry>>(
@@ -159,34 +141,6 @@ fn finds_entry<M: PrefixMap<Entry>>(
     entry: (Prefix, Entry),
 ) {
     assert_eq!(rt; found(rt, cache, millis, x), entry, "at {millis}");
-}
-
-fn finds_action<M: PrefixMap<Entry>>(
-    rt: &impl Abort,
-    cache: &mut Cache<M>,
-    millis: u64,
-    x: Xeid,
-    action: Action,
-) {
-    assert_eq!(rt;
-        found_copied(rt, cache, millis, x).1.action,
-        action,
-        "at {millis}"
-    );
-}
-
-fn finds_end<M: PrefixMap<Entry>>(
-    rt: &impl Abort,
-    cache: &mut Cache<M>,
-    millis: u64,
-    x: Xeid,
-    end: u64,
-) {
-    assert_eq!(rt;
-        found_copied(rt, cache, millis, x).1.end,
-        end,
-        "at {millis}"
-    );
 }
 
 /// So many entries are live.
@@ -202,146 +156,327 @@ fn keeps_time<M: PrefixMap<Entry>>(rt: &impl Abort, cache: &Cache<M>, millis: u6
     assert_eq!(rt; cache.time().millis(), millis);
 }
 
+/// Milliseconds, and whether there is a moment of so many.
+const MOMENTS: &[(u64, bool)] = &[
+    (0, true),
+    (9_223_372_036_854_775_807, true),
+    (9_223_372_036_854_775_808, false),
+];
+
+/// The milliseconds of a moment of so many, where there is one.
+fn millis_of(millis: u64) -> Option<u64> {
+    Some(Moment::at(millis)?.millis())
+}
+
 #[test]
 fn the_last_moment_is_the_last(rt: HostRuntime) {
-    assert_eq!(rt; Moment::at(0).map(|m| m.millis()), Some(0));
-    assert_eq!(rt;
-        Moment::at(9_223_372_036_854_775_807).map(|m| m.millis()),
-        Some(9_223_372_036_854_775_807)
-    );
-    assert_eq!(rt; Moment::at(9_223_372_036_854_775_808), None);
+    for &(millis, is_moment) in MOMENTS {
+        let wanted = if is_moment { Some(millis) } else { None };
+        assert!(rt; millis_of(millis) == wanted, "{millis}");
+    }
+}
+
+/// A call on a cache whose root's server is at 127.0.0.1, and what it answers. Prefixes and identifiers are texts.
+#[derive(Clone, Copy)]
+enum Step {
+    /// A save, and its answer.
+    Save(Said, Saved),
+    /// The prefix of the entry that `find` lends for an identifier.
+    Find(&'static str, &'static str),
+    /// The prefix, the action, the locators and the end of that entry.
+    FindEntry(&'static str, &'static str, Action, &'static [Locator], u64),
+    /// The action of the entry that `find_copied` answers.
+    FindAction(&'static str, Action),
+    /// Its end.
+    FindEnd(&'static str, u64),
+    /// How many entries are live.
+    Len(usize),
+    /// Whether there was an entry to forget.
+    Forget(&'static str, bool),
+    Advance,
+    Purge,
+    /// The time of the cache.
+    Time(u64),
+    /// The root's locators.
+    Roots(&'static [Locator]),
+}
+
+use Step::{Advance, Find, FindAction, FindEnd, FindEntry, Forget, Len, Purge, Roots, Save, Time};
+
+/// The call is given a moment, in milliseconds, where it takes one.
+type Timed = (u64, Step);
+
+/// The end of the root's entry, which no moment reaches.
+const NEVER: u64 = 18_446_744_073_709_551_615;
+
+/// A referral ends after a day.
+const A_REFERRAL: &[Timed] = &[
+    (
+        0,
+        Save(
+            Said(Action::NodeReferral, "[0]10.0.0.0/8", 4_294_967_295, TEN),
+            Saved::Saved,
+        ),
+    ),
+    (
+        86_399_999,
+        FindEntry(
+            "[0]10.0.0.7",
+            "[0]10.0.0.0/8",
+            Action::NodeReferral,
+            TEN,
+            86_400_000,
+        ),
+    ),
+    (86_399_999, Len(1)),
+    (
+        86_400_000,
+        FindEntry("[0]10.0.0.7", "*", Action::NodeReferral, &[LOOPBACK], NEVER),
+    ),
+    (86_400_000, Len(0)),
+];
+
+const WHAT_IS_NOT_SAVED: &[Timed] = &[
+    (
+        0,
+        Save(
+            Said(Action::NodeReferral, "[0]10.0.0.0/8", 0, TEN),
+            Saved::NotSaved,
+        ),
+    ),
+    (
+        0,
+        Save(Said(Action::NodeReferral, "*", 1440, TEN), Saved::NotSaved),
+    ),
+    (
+        0,
+        Save(Said(Action::MsReferral, "*", 1440, TEN), Saved::NotSaved),
+    ),
+    (
+        0,
+        Save(Said(Action::MsAck, "*", 1440, TEN), Saved::NotSaved),
+    ),
+    (
+        0,
+        Save(
+            Said(Action::NodeReferral, "[0]10.0.0.0/8", 1440, &[]),
+            Saved::NotSaved,
+        ),
+    ),
+    (
+        0,
+        Save(
+            Said(Action::MsReferral, "[0]10.0.0.0/8", 1440, &[]),
+            Saved::NotSaved,
+        ),
+    ),
+    (
+        0,
+        Save(
+            Said(Action::MsAck, "[0]10.0.0.0/8", 1440, &[]),
+            Saved::NotSaved,
+        ),
+    ),
+    (
+        0,
+        Save(
+            Said(Action::DelegationHole, "[0]10.0.0.0/8", 0, &[]),
+            Saved::NotSaved,
+        ),
+    ),
+    (
+        0,
+        Save(
+            Said(Action::NotAuthoritative, "[0]10.0.0.0/8", 1440, TEN),
+            Saved::NotSaved,
+        ),
+    ),
+    (0, Len(0)),
+    (
+        0,
+        Save(Said(Action::DelegationHole, "*", 15, &[]), Saved::Saved),
+    ),
+    (
+        0,
+        FindEntry("[0]10.0.0.0", "*", Action::DelegationHole, &[], 900_000),
+    ),
+];
+
+/// Negative entries end after a quarter of an hour.
+const NEGATIVE_ENTRIES: &[Timed] = &[
+    (
+        0,
+        Save(
+            Said(Action::DelegationHole, "[0]10.0.0.0/8", 60, &[]),
+            Saved::Saved,
+        ),
+    ),
+    (
+        0,
+        Save(
+            Said(Action::MsNotRegistered, "[0]11.0.0.0/8", 1, &[]),
+            Saved::Saved,
+        ),
+    ),
+    (0, FindEnd("[0]10.0.0.0", 900_000)),
+    (0, FindEnd("[0]11.0.0.0", 60_000)),
+    (59_999, Len(2)),
+    (60_000, Len(1)),
+    (899_999, Len(1)),
+    (900_000, Len(0)),
+];
+
+const THE_LONGEST_LIVE_ENTRY: &[Timed] = &[
+    (
+        0,
+        Save(
+            Said(Action::NodeReferral, "[0]10.0.0.0/8", 1440, TEN),
+            Saved::Saved,
+        ),
+    ),
+    (
+        0,
+        Save(
+            Said(Action::DelegationHole, "[0]10.0.0.0/9", 15, &[]),
+            Saved::Saved,
+        ),
+    ),
+    (0, Find("[0]10.0.0.0", "[0]10.0.0.0/9")),
+    (899_999, Find("[0]10.0.0.0", "[0]10.0.0.0/9")),
+    (900_000, Find("[0]10.0.0.0", "[0]10.0.0.0/8")),
+    (
+        900_000,
+        Save(
+            Said(Action::DelegationHole, "[0]10.0.0.0/8", 1, &[]),
+            Saved::Saved,
+        ),
+    ),
+    (900_000, Len(1)),
+    (900_000, FindAction("[0]10.0.0.0", Action::DelegationHole)),
+    (900_000, Forget("[0]10.0.0.0/9", false)),
+    (900_000, Forget("[0]10.0.0.0/8", true)),
+    (900_000, Forget("[0]10.0.0.0/8", false)),
+    (900_000, Find("[0]10.0.0.0", "*")),
+];
+
+const TIME_NEVER_GOES_BACK: &[Timed] = &[
+    (
+        1_000,
+        Save(
+            Said(Action::DelegationHole, "[0]10.0.0.0/8", 1, &[]),
+            Saved::Saved,
+        ),
+    ),
+    (61_000, Advance),
+    (1_000, Find("[0]10.0.0.0", "*")),
+    (1_000, Forget("[0]10.0.0.0/8", false)),
+    (
+        0,
+        Save(
+            Said(Action::DelegationHole, "[0]10.0.0.0/8", 1, &[]),
+            Saved::Saved,
+        ),
+    ),
+    (0, FindEnd("[0]10.0.0.0", 121_000)),
+    (0, Time(61_000)),
+];
+
+const THE_ROOT_STAYS: &[Timed] = &[
+    (0, Forget("*", false)),
+    (LAST_MOMENT, Purge),
+    (LAST_MOMENT, Len(0)),
+    (
+        LAST_MOMENT,
+        FindEntry("[0]10.0.0.0", "*", Action::NodeReferral, &[LOOPBACK], NEVER),
+    ),
+    (LAST_MOMENT, Roots(&[LOOPBACK])),
+    (
+        0,
+        Save(Said(Action::DelegationHole, "*", 15, &[]), Saved::Saved),
+    ),
+    (0, FindEnd("[0]10.0.0.0", LAST_MOMENT + 15 * MINUTE)),
+];
+
+/// What each cache answers, whichever map keeps it.
+const WORKED: &[(&str, &[Timed])] = &[
+    ("a referral ends after a day", A_REFERRAL),
+    ("what is not saved", WHAT_IS_NOT_SAVED),
+    ("negative entries end after a quarter", NEGATIVE_ENTRIES),
+    ("the longest live entry is found", THE_LONGEST_LIVE_ENTRY),
+    ("time never goes back", TIME_NEVER_GOES_BACK),
+    ("the root stays", THE_ROOT_STAYS),
+];
+
+/// The entry of these locators.
+fn entry(rt: &impl Abort, action: Action, servers: &[Locator], end: u64) -> Entry {
+    Entry {
+        action,
+        servers: set(rt, servers),
+        end,
+    }
+}
+
+fn has_roots<M: PrefixMap<Entry>>(rt: &impl Abort, cache: &Cache<M>, roots: &[Locator]) -> bool {
+    cache.roots() == set(rt, roots)
+}
+
+/// Whether a call that finds an entry answers as it should.
+fn is_found<M: PrefixMap<Entry>>(
+    rt: &impl Abort,
+    cache: &mut Cache<M>,
+    millis: u64,
+    step: &Step,
+) -> bool {
+    match step {
+        Find(x, text) => found(rt, cache, millis, xeid(rt, x)).0 == prefix(rt, text),
+        FindEntry(x, text, action, servers, end) => {
+            let kept = entry(rt, *action, servers, *end);
+            found(rt, cache, millis, xeid(rt, x)) == (prefix(rt, text), kept)
+        }
+        FindAction(x, action) => found_copied(rt, cache, millis, xeid(rt, x)).1.action == *action,
+        FindEnd(x, end) => found_copied(rt, cache, millis, xeid(rt, x)).1.end == *end,
+        _ => false,
+    }
+}
+
+/// Whether a cache answers a call as it should.
+fn holds<M: PrefixMap<Entry>>(
+    rt: &impl Abort,
+    cache: &mut Cache<M>,
+    millis: u64,
+    step: &Step,
+) -> bool {
+    match step {
+        Save(referral, saved) => tried(rt, cache, millis, &record_of(rt, referral)) == Some(*saved),
+        Len(len) => cache.len(at(rt, millis)) == *len,
+        Forget(text, went) => cache.forget(prefix(rt, text)) == *went,
+        Advance => {
+            cache.advance(at(rt, millis));
+            true
+        }
+        Purge => {
+            cache.purge(at(rt, millis));
+            true
+        }
+        Time(time) => cache.time().millis() == *time,
+        Roots(roots) => has_roots(rt, cache, roots),
+        _ => is_found(rt, cache, millis, step),
+    }
+}
+
+/// Makes calls on a new cache.
+fn plays<M: PrefixMap<Entry>>(alloc: Global, rt: &impl Abort, name: &str, steps: &[Timed]) {
+    let mut cache = rooted::<M>(alloc, rt);
+    for (place, step) in steps.iter().enumerate() {
+        let is_right = holds(rt, &mut cache, step.0, &step.1);
+        assert!(rt; is_right, "{name}: step {place}");
+    }
 }
 
 fn battery<M: PrefixMap<Entry>>(alloc: Global, rt: &impl Abort) {
-    referral_ends_after_a_day::<M>(alloc, rt);
-    what_is_not_saved::<M>(alloc, rt);
-    negative_entries_end_after_a_quarter::<M>(alloc, rt);
-    longest_live_entry_is_found::<M>(alloc, rt);
-    time_never_goes_back::<M>(alloc, rt);
-    the_root_stays::<M>(alloc, rt)
-}
-
-fn referral_ends_after_a_day<M: PrefixMap<Entry>>(alloc: Global, rt: &impl Abort) {
-    let mut cache = rooted::<M>(alloc, rt);
-    let ten = block(rt, TEN, 8);
-    let servers = one(rt, Locator::V4(0x7f00_000a));
-    let referral = record(Action::NodeReferral, ten, 4_294_967_295, servers);
-    saves(rt, &mut cache, 0, referral);
-    let kept = Entry {
-        action: Action::NodeReferral,
-        servers,
-        end: 86_400_000,
-    };
-    finds_entry(rt, &mut cache, 86_399_999, v4(TEN + 7), (ten, kept));
-    counts(rt, &mut cache, 86_399_999, 1);
-    finds_entry(rt, &mut cache, 86_400_000, v4(TEN + 7), of_the_root(rt));
-    counts(rt, &mut cache, 86_400_000, 0);
-}
-
-fn what_is_not_saved<M: PrefixMap<Entry>>(alloc: Global, rt: &impl Abort) {
-    let mut cache = rooted::<M>(alloc, rt);
-    let everything = everything(rt);
-    let ten = block(rt, TEN, 8);
-    let servers = one(rt, Locator::V4(0x7f00_000a));
-    let refused = [
-        record(Action::NodeReferral, ten, 0, servers),
-        record(Action::NodeReferral, everything, 1440, servers),
-        record(Action::MsReferral, everything, 1440, servers),
-        record(Action::MsAck, everything, 1440, servers),
-        bare(Action::NodeReferral, ten, 1440),
-        bare(Action::MsReferral, ten, 1440),
-        bare(Action::MsAck, ten, 1440),
-        bare(Action::DelegationHole, ten, 0),
-        record(Action::NotAuthoritative, ten, 1440, servers),
-    ];
-    for referral in &refused {
-        answers(rt, &mut cache, 0, referral, Saved::NotSaved);
+    for (name, steps) in WORKED {
+        plays::<M>(alloc, rt, name, steps);
     }
-    counts(rt, &mut cache, 0, 0);
-    saves(
-        rt,
-        &mut cache,
-        0,
-        bare(Action::DelegationHole, everything, 15),
-    );
-    let hole = Entry {
-        action: Action::DelegationHole,
-        servers: LocatorSet::none(),
-        end: 900_000,
-    };
-    finds_entry(rt, &mut cache, 0, v4(TEN), (everything, hole));
-}
-
-fn negative_entries_end_after_a_quarter<M: PrefixMap<Entry>>(alloc: Global, rt: &impl Abort) {
-    let mut cache = rooted::<M>(alloc, rt);
-    let ten = block(rt, TEN, 8);
-    let eleven = block(rt, ELEVEN, 8);
-    saves(rt, &mut cache, 0, bare(Action::DelegationHole, ten, 60));
-    saves(rt, &mut cache, 0, bare(Action::MsNotRegistered, eleven, 1));
-    finds_end(rt, &mut cache, 0, v4(TEN), 900_000);
-    finds_end(rt, &mut cache, 0, v4(ELEVEN), 60_000);
-    counts(rt, &mut cache, 59_999, 2);
-    counts(rt, &mut cache, 60_000, 1);
-    counts(rt, &mut cache, 899_999, 1);
-    counts(rt, &mut cache, 900_000, 0);
-}
-
-fn longest_live_entry_is_found<M: PrefixMap<Entry>>(alloc: Global, rt: &impl Abort) {
-    let mut cache = rooted::<M>(alloc, rt);
-    let ten = block(rt, TEN, 8);
-    let half = block(rt, TEN, 9);
-    let servers = one(rt, Locator::V4(0x7f00_000a));
-    saves(
-        rt,
-        &mut cache,
-        0,
-        record(Action::NodeReferral, ten, 1440, servers),
-    );
-    saves(rt, &mut cache, 0, bare(Action::DelegationHole, half, 15));
-    finds(rt, &mut cache, 0, v4(TEN), half);
-    finds(rt, &mut cache, 899_999, v4(TEN), half);
-    finds(rt, &mut cache, 900_000, v4(TEN), ten);
-    saves(
-        rt,
-        &mut cache,
-        900_000,
-        bare(Action::DelegationHole, ten, 1),
-    );
-    counts(rt, &mut cache, 900_000, 1);
-    finds_action(rt, &mut cache, 900_000, v4(TEN), Action::DelegationHole);
-    forgets(rt, &mut cache, half, false);
-    forgets(rt, &mut cache, ten, true);
-    forgets(rt, &mut cache, ten, false);
-    finds(rt, &mut cache, 900_000, v4(TEN), everything(rt));
-}
-
-fn time_never_goes_back<M: PrefixMap<Entry>>(alloc: Global, rt: &impl Abort) {
-    let mut cache = rooted::<M>(alloc, rt);
-    let ten = block(rt, TEN, 8);
-    saves(rt, &mut cache, 1_000, bare(Action::DelegationHole, ten, 1));
-    cache.advance(at(rt, 61_000));
-    finds(rt, &mut cache, 1_000, v4(TEN), everything(rt));
-    forgets(rt, &mut cache, ten, false);
-    saves(rt, &mut cache, 0, bare(Action::DelegationHole, ten, 1));
-    finds_end(rt, &mut cache, 0, v4(TEN), 121_000);
-    keeps_time(rt, &cache, 61_000);
-}
-
-fn the_root_stays<M: PrefixMap<Entry>>(alloc: Global, rt: &impl Abort) {
-    let mut cache = rooted::<M>(alloc, rt);
-    let everything = everything(rt);
-    forgets(rt, &mut cache, everything, false);
-    cache.purge(at(rt, LAST_MOMENT));
-    counts(rt, &mut cache, LAST_MOMENT, 0);
-    finds_entry(rt, &mut cache, LAST_MOMENT, v4(TEN), of_the_root(rt));
-    assert_eq!(rt; cache.roots(), one(rt, LOOPBACK));
-    saves(
-        rt,
-        &mut cache,
-        0,
-        bare(Action::DelegationHole, everything, 15),
-    );
-    finds_end(rt, &mut cache, 0, v4(TEN), LAST_MOMENT + 15 * MINUTE);
 }
 
 #[test]
@@ -349,95 +484,71 @@ fn a_cache_on_a_list_answers_the_worked_values(rt: HostRuntime) {
     battery::<ListMap<Entry>>(rt.alloc(), &rt)
 }
 
-/// Numbers that look random, always the same.
-#[derive(Drop)]
-struct Dice {
-    state: u64,
-}
+/// What the records of random calls say: the actions, the minutes, and the locators.
+const ACTIONS: [Action; 6] = [
+    Action::NodeReferral,
+    Action::MsReferral,
+    Action::MsAck,
+    Action::MsNotRegistered,
+    Action::DelegationHole,
+    Action::NotAuthoritative,
+];
 
-impl Dice {
-    /// A number below `count`; 0 where `count` is 0.
-    fn below(&mut self, count: usize) -> usize {
-        self.state = self
-            .state
-            .wrapping_mul(6_364_136_223_846_793_005)
-            .wrapping_add(1_442_695_040_888_963_407);
-        if count == 0 {
-            0
-        } else {
-            (self.state >> 33) as usize % count
-        }
-    }
+const TTLS: [u32; 10] = [0, 1, 2, 14, 15, 16, 1439, 1440, 1441, 4_294_967_295];
 
-    fn of<T: Copy>(&mut self, rt: &impl Abort, items: &[T]) -> T {
-        let place = self.below(items.len());
-        *items.get(place).expect(rt, "nothing to choose from")
-    }
-}
+const SERVERS: [&[Locator]; 3] = [&[], TEN, &[Locator::V6(1)]];
 
-/// A record of one of a few prefixes, of any action.
+/// A record of a prefix, of any action.
 fn any_record(rt: &impl Abort, dice: &mut Dice, prefix: Prefix) -> ReferralRecord {
-    let action = dice.of(
-        rt,
-        &[
-            Action::NodeReferral,
-            Action::MsReferral,
-            Action::MsAck,
-            Action::MsNotRegistered,
-            Action::DelegationHole,
-            Action::NotAuthoritative,
-        ],
-    );
-    let ttl = dice.of(rt, &[0, 1, 2, 14, 15, 16, 1439, 1440, 1441, 4_294_967_295]);
-    let servers = dice.of(
-        rt,
-        &[
-            LocatorSet::none(),
-            one(rt, Locator::V4(0x7f00_000a)),
-            one(rt, Locator::V6(1)),
-        ],
-    );
-    record(action, prefix, ttl, servers)
+    let action = dice.one_of(&ACTIONS);
+    let ttl = dice.one_of(&TTLS);
+    record(action, prefix, ttl, set(rt, dice.one_of(&SERVERS)))
 }
 
 /// The prefixes and the identifiers that the random calls speak of.
-#[derive(Drop)]
-struct Pool {
-    prefixes: [Prefix; 10],
-    xeids: [Xeid; 6],
+const PREFIXES: [&str; 10] = [
+    "*",
+    "[0/31]*",
+    "[0/32]*",
+    "[0]0.0.0.0/0",
+    "[0]10.0.0.0/8",
+    "[0]10.0.0.0/9",
+    "[0]10.0.0.0/32",
+    "[0]11.0.0.0/8",
+    "[0]2001:db8::/32",
+    "[0]2001:db8::/128",
+];
+
+const XEIDS: [&str; 6] = [
+    "[0]10.0.0.0",
+    "[0]10.0.0.1",
+    "[0]10.255.255.255",
+    "[0]11.0.0.1",
+    "[0]2001:db8::",
+    "[1]10.0.0.0",
+];
+
+/// Both caches save a record alike.
+fn saves_alike<M: PrefixMap<Entry>>(
+    rt: &impl Abort,
+    cache: &mut Cache<M>,
+    plain: &mut Plain,
+    now: u64,
+    referral: &ReferralRecord,
+) {
+    let saved = plain.save(referral).expect(rt, "out of memory");
+    answers(rt, cache, now, referral, saved);
 }
 
-fn few_prefixes(rt: &impl Abort) -> Pool {
-    let documentation = Locator::V6(0x2001_0db8_0000_0000_0000_0000_0000_0000);
-    let host = Xeid {
-        iid: 0,
-        address: documentation,
-    };
-    Pool {
-        prefixes: [
-            everything(rt),
-            range(rt, 0, 31),
-            range(rt, 0, 32),
-            block(rt, 0, 0),
-            block(rt, TEN, 8),
-            block(rt, TEN, 9),
-            block(rt, TEN, 32),
-            block(rt, ELEVEN, 8),
-            block_of(rt, 0, documentation, 32),
-            Prefix::host(host),
-        ],
-        xeids: [
-            v4(TEN),
-            v4(TEN + 1),
-            v4(TEN + 0x00ff_ffff),
-            v4(ELEVEN + 1),
-            host,
-            Xeid {
-                iid: 1,
-                address: Locator::V4(TEN),
-            },
-        ],
-    }
+/// Both caches find the same for an identifier.
+fn finds_alike<M: PrefixMap<Entry>>(
+    rt: &impl Abort,
+    cache: &mut Cache<M>,
+    plain: &Plain,
+    now: u64,
+    x: Xeid,
+) {
+    assert_eq!(rt; found_copied(rt, cache, now, x), plain.find(x));
 }
 
 /// One random call on a cache and on a plain one, whose answers are to agree.
@@ -448,8 +559,7 @@ fn one_call<M: PrefixMap<Entry>>(
     plain: &mut Plain,
     now: u64,
 ) {
-    let pool = few_prefixes(rt);
-    let prefix = dice.of(rt, &pool.prefixes);
+    let prefix = prefix(rt, dice.one_of(&PREFIXES));
     match dice.below(8) {
         0 => {
             plain.advance(now);
@@ -462,51 +572,52 @@ fn one_call<M: PrefixMap<Entry>>(
         2 => forgets(rt, cache, prefix, plain.forget(prefix)),
         3 | 4 => {
             plain.advance(now);
-            let x = dice.of(rt, &pool.xeids);
-            assert_eq!(rt; found_copied(rt, cache, now, x), plain.find(x));
+            finds_alike(rt, cache, plain, now, xeid(rt, dice.one_of(&XEIDS)));
         }
         _ => {
             plain.advance(now);
-            let referral = any_record(rt, dice, prefix);
-            let saved = plain.save(&referral).expect(rt, "out of memory");
-            answers(rt, cache, now, &referral, saved);
+            saves_alike(rt, cache, plain, now, &any_record(rt, dice, prefix));
         }
     }
 }
 
 /// After each call all identifiers are found alike.
 fn all_found_alike<M: PrefixMap<Entry>>(rt: &impl Abort, cache: &mut Cache<M>, plain: &mut Plain) {
-    for x in &few_prefixes(rt).xeids {
-        finds_entry(rt, cache, 0, *x, plain.find(*x));
+    for text in &XEIDS {
+        let x = xeid(rt, text);
+        finds_entry(rt, cache, 0, x, plain.find(x));
     }
 }
 
+/// How long random calls wait for one another, in milliseconds, and how far their clocks go back.
+const WAITS: [u64; 9] = [
+    0,
+    0,
+    0,
+    1,
+    MINUTE - 1,
+    MINUTE,
+    15 * MINUTE - 1,
+    15 * MINUTE,
+    1440 * MINUTE,
+];
+
+const STEPS_BACK: [u64; 6] = [0, 0, 0, 1, MINUTE, 1440 * MINUTE];
+
+/// The moment of the next random call.
+fn later(dice: &mut Dice, now: u64) -> u64 {
+    now.saturating_add(dice.one_of(&WAITS)).min(LAST_MOMENT)
+}
+
 fn random_calls<M: PrefixMap<Entry>>(alloc: Global, rt: &impl Abort, seed: u64) {
-    let mut dice = Dice { state: seed };
+    let mut dice = Dice::of(seed);
     let mut cache = rooted::<M>(alloc, rt);
-    let mut plain = Plain::new(alloc, one(rt, LOOPBACK));
-    let waits = [
-        0,
-        0,
-        0,
-        1,
-        MINUTE - 1,
-        MINUTE,
-        15 * MINUTE - 1,
-        15 * MINUTE,
-        1440 * MINUTE,
-    ];
+    let mut plain = Plain::new(alloc, roots(rt));
     let mut now: u64 = 0;
     for _turn in 0..2_000 {
-        now = now.saturating_add(dice.of(rt, &waits)).min(LAST_MOMENT);
-        let back = dice.of(rt, &[0, 0, 0, 1, MINUTE, 1440 * MINUTE]);
-        one_call(
-            rt,
-            &mut dice,
-            &mut cache,
-            &mut plain,
-            now.saturating_sub(back),
-        );
+        now = later(&mut dice, now);
+        let told = now.saturating_sub(dice.one_of(&STEPS_BACK));
+        one_call(rt, &mut dice, &mut cache, &mut plain, told);
         all_found_alike(rt, &mut cache, &mut plain);
     }
 }
@@ -518,43 +629,54 @@ fn a_cache_on_a_list_answers_as_a_plain_one(rt: HostRuntime) {
     }
 }
 
-/// A full table at moment 0, of entries that end at 60,000.
+/// The MS-NOT-REGISTERED of an address, for a minute.
+fn not_registered(number: u32) -> ReferralRecord {
+    bare(Action::MsNotRegistered, Prefix::host(v4(number)), 1)
+}
+
+/// Fills a cache at moment 0, with entries that end at 60,000.
+fn fill<M: PrefixMap<Entry>>(rt: &impl Abort, cache: &mut Cache<M>) {
+    for number in 0..65_536 {
+        saves(rt, cache, 0, &not_registered(number));
+    }
+}
+
+/// One entry more finds no room before 60,000, but one of a prefix that is there does.
+fn has_no_room<M: PrefixMap<Entry>>(rt: &impl Abort, cache: &mut Cache<M>) {
+    counts(rt, cache, 0, 65_536);
+    let more = not_registered(65_536);
+    answers(rt, cache, 59_999, &more, Saved::Full);
+    counts(rt, cache, 59_999, 65_536);
+    let seventh = Prefix::host(v4(7));
+    saves(rt, cache, 59_999, &bare(Action::DelegationHole, seventh, 1));
+    counts(rt, cache, 59_999, 65_536);
+    forgets(rt, cache, seventh, true);
+    saves(rt, cache, 60_000, &more);
+    counts(rt, cache, 60_000, 1);
+}
+
 fn full_table<M: PrefixMap<Entry>>(alloc: Global, rt: &impl Abort) {
     let mut cache = rooted::<M>(alloc, rt);
-    for number in 0..65_536 {
-        let host = Prefix::host(v4(number));
-        saves(rt, &mut cache, 0, bare(Action::MsNotRegistered, host, 1));
-    }
-    counts(rt, &mut cache, 0, 65_536);
-    let more = bare(Action::MsNotRegistered, Prefix::host(v4(65_536)), 1);
-    answers(rt, &mut cache, 59_999, &more, Saved::Full);
-    counts(rt, &mut cache, 59_999, 65_536);
-    let seventh = Prefix::host(v4(7));
-    saves(
-        rt,
-        &mut cache,
-        59_999,
-        bare(Action::DelegationHole, seventh, 1),
-    );
-    counts(rt, &mut cache, 59_999, 65_536);
-    forgets(rt, &mut cache, seventh, true);
-    saves(rt, &mut cache, 60_000, more);
-    counts(rt, &mut cache, 60_000, 1);
+    fill(rt, &mut cache);
+    has_no_room(rt, &mut cache);
 }
 
 /// Under `rt try --test --fail-alloc N` the allocation of `save` is refused.
 fn a_refused_save<M: PrefixMap<Entry>>(alloc: Global, rt: &impl Abort) {
     let mut cache = rooted::<M>(alloc, rt);
-    let hole = bare(Action::DelegationHole, block(rt, TEN, 8), 15);
+    let hole = bare(Action::DelegationHole, prefix(rt, "[0]10.0.0.0/8"), 15);
     match tried(rt, &mut cache, 1_000, &hole) {
         Some(saved) => assert_eq!(rt; saved, Saved::Saved),
-        None => {
-            keeps_time(rt, &cache, 1_000);
-            counts(rt, &mut cache, 0, 0);
-            saves(rt, &mut cache, 0, hole);
-        }
+        None => is_as_it_was(rt, &mut cache, &hole),
     }
     counts(rt, &mut cache, 0, 1);
+}
+
+/// A refused save at moment 1,000 has only moved the time, and the next one is not refused.
+fn is_as_it_was<M: PrefixMap<Entry>>(rt: &impl Abort, cache: &mut Cache<M>, hole: &ReferralRecord) {
+    keeps_time(rt, cache, 1_000);
+    counts(rt, cache, 0, 0);
+    saves(rt, cache, 0, hole);
 }
 
 #[test]

@@ -2,6 +2,7 @@
 
 use super::lines::{asked_text, heard_text, ticked_text};
 use ddt_cache::Entry;
+use ddt_examples::front;
 use ddt_path::{Action, Locator, LocatorSet, ReferralRecord};
 use ddt_resolver::{Moment, Resolver};
 use ddt_text::{parse_prefix, parse_xeid};
@@ -33,6 +34,25 @@ pub const TO_TEN: Told = Told {
     action: Action::NodeReferral,
     prefix: "[0]10.0.0.0/8",
     servers: &[TEN],
+};
+
+pub const TO_ELEVEN: Told = Told {
+    action: Action::NodeReferral,
+    prefix: "[0]11.0.0.0/8",
+    servers: &[TEN],
+};
+
+pub const TO_NO_SERVER: Told = Told {
+    action: Action::NodeReferral,
+    prefix: "[0]10.0.0.0/8",
+    servers: &[],
+};
+
+/// A referral to the same prefix as before, which names the root's server.
+pub const BACK_TO_THE_ROOT: Told = Told {
+    action: Action::NodeReferral,
+    prefix: "[0]10.0.0.0/8",
+    servers: &[ROOT],
 };
 
 /// A server that isn't in charge of the worked identifier.
@@ -120,6 +140,18 @@ pub fn tick(alloc: Global, resolver: &mut ListResolver, millis: u64) -> Result<S
     ticked_text(alloc, &ticked)
 }
 
+/// Tells a resolver of the Map-Referral of these bytes without the last one.
+fn hear_cut(
+    alloc: Global,
+    resolver: &mut ListResolver,
+    millis: u64,
+    from: Locator,
+    bytes: &[u8],
+) -> Result<String, Fail> {
+    let front = front(bytes, bytes.len().saturating_sub(1));
+    hear(alloc, resolver, millis, from, front)
+}
+
 /// Makes a call, and answers its line.
 pub fn made(
     alloc: Global,
@@ -134,12 +166,36 @@ pub fn made(
             hear(alloc, resolver, millis, *from, bytes.as_slice())
         }
         Call::HearCut(from, nonce, told) => {
-            let mut bytes = referral_bytes(alloc, *nonce, told)?;
-            let _last = bytes.pop();
-            hear(alloc, resolver, millis, *from, bytes.as_slice())
+            let bytes = referral_bytes(alloc, *nonce, told)?;
+            hear_cut(alloc, resolver, millis, *from, bytes.as_slice())
         }
         Call::Tick => tick(alloc, resolver, millis),
     }
+}
+
+// Each call is made, and what comes of it is judged, in a function of its own, so that the proof of a test is short.
+
+/// Makes a call, which is to give this line.
+pub fn gives(
+    alloc: Global,
+    rt: &impl Abort,
+    resolver: &mut ListResolver,
+    name: &str,
+    call: (u64, &Call),
+    line: &str,
+) -> Result<(), Fail> {
+    let given = made(alloc, resolver, call.0, call.1)?;
+    judge_line(rt, name, &given, line);
+    Ok(())
+}
+
+pub fn judge_line(rt: &impl Abort, name: &str, given: &str, line: &str) {
+    assert_eq!(rt; given, line, "{name}");
+}
+
+/// So many lookups are pending after a line.
+pub fn has_pending(rt: &impl Abort, resolver: &ListResolver, name: &str, line: &str, count: usize) {
+    assert_eq!(rt; resolver.pending(), count, "{name}: pending after {line}");
 }
 
 /// Makes the calls of a table in their order; each is to give its line.
@@ -151,13 +207,8 @@ pub fn plays(
     steps: &[Step],
 ) -> Result<(), Fail> {
     for (millis, call, line, pending) in steps {
-        let given = made(alloc, resolver, *millis, call)?;
-        assert_eq!(rt; given.as_str(), *line, "{name}");
-        assert_eq!(rt;
-            resolver.pending(),
-            *pending,
-            "{name}: pending after {line}"
-        );
+        gives(alloc, rt, resolver, name, (*millis, call), line)?;
+        has_pending(rt, resolver, name, line, *pending);
     }
     Ok(())
 }

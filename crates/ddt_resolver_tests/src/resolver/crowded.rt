@@ -3,11 +3,12 @@
 //! as one that didn't hear the reply.
 
 use super::calls::{
-    Call, ListResolver, NOT_IN_CHARGE, ROOT, Step, TEN, TO_TEN, Told, at, made, plays, rooted,
+    BACK_TO_THE_ROOT, Call, ListResolver, NOT_IN_CHARGE, ROOT, Step, TEN, TO_ELEVEN, TO_NO_SERVER,
+    TO_TEN, Told, at, gives, has_pending, made, plays, rooted,
 };
 use super::limits::{is_cancelled, open_many, opened, server_asked};
 use ddt_path::{Action, Locator};
-use ddt_resolver::Asked;
+use ddt_resolver::Ticket;
 use ddt_text::parse_xeid;
 use std::alloc::Global;
 use std::process::Abort;
@@ -20,13 +21,12 @@ const FOLLOWED: &[Step] = &[(
     1,
 )];
 
-/// A resolver whose lookup of 10.1.2.3 waits for 127.0.0.10, with 1,023 others that wait for the root, and the first.
-fn crowded(alloc: Global, rt: &impl Abort) -> Result<(ListResolver, Asked), Fail> {
-    let mut resolver = rooted(alloc, 1)?;
-    let first = opened(&mut resolver, 0x0a01_0203)?;
-    plays(alloc, rt, &mut resolver, "the crowd", FOLLOWED)?;
-    open_many(&mut resolver, 1023)?;
-    Ok((resolver, first))
+/// Lets a new resolver's lookup of 10.1.2.3 wait for 127.0.0.10, with 1,023 others that wait for the root: its ticket.
+fn crowd(alloc: Global, rt: &impl Abort, resolver: &mut ListResolver) -> Result<Ticket, Fail> {
+    let first = opened(resolver, 0x0a01_0203)?;
+    plays(alloc, rt, resolver, "the crowd", FOLLOWED)?;
+    open_many(resolver, 1023)?;
+    Ok(first)
 }
 
 /// Two resolvers that are to answer alike.
@@ -36,21 +36,44 @@ struct Pair {
     other: ListResolver,
 }
 
-/// A crowd that has ignored a reply, beside one that has only come to its time, by an ask that is refused.
-fn ignoring(alloc: Global, rt: &impl Abort, name: &str, reply: &[Step]) -> Result<Pair, Fail> {
-    let (mut one, _first) = crowded(alloc, rt)?;
-    let (mut other, _first) = crowded(alloc, rt)?;
+/// Two new resolvers.
+fn new_pair(alloc: Global) -> Result<Pair, Fail> {
+    Ok(Pair {
+        one: rooted(alloc, 1)?,
+        other: rooted(alloc, 1)?,
+    })
+}
+
+/// Brings a crowd to the moment of each reply alone, by an ask that is refused.
+fn come_to_its_time(
+    alloc: Global,
+    rt: &impl Abort,
+    name: &str,
+    resolver: &mut ListResolver,
+    reply: &[Step],
+) -> Result<(), Fail> {
     for (millis, _call, _line, pending) in reply {
-        let refused = [(
-            *millis,
-            Call::Ask("[0]10.1.2.3"),
-            "refused 1 TooMany",
-            *pending,
-        )];
-        plays(alloc, rt, &mut other, name, refused.as_slice())?;
+        let refused = "refused 1 TooMany";
+        gives(alloc, rt, resolver, name, (*millis, &ASK), refused)?;
+        has_pending(rt, resolver, name, refused, *pending);
     }
-    plays(alloc, rt, &mut one, name, reply)?;
-    Ok(Pair { one, other })
+    Ok(())
+}
+
+const ASK: Call = Call::Ask("[0]10.1.2.3");
+
+/// Lets two new resolvers be crowds: one ignores a reply, the other only comes to its time.
+fn ignore(
+    alloc: Global,
+    rt: &impl Abort,
+    name: &str,
+    pair: &mut Pair,
+    reply: &[Step],
+) -> Result<(), Fail> {
+    crowd(alloc, rt, &mut pair.one)?;
+    crowd(alloc, rt, &mut pair.other)?;
+    come_to_its_time(alloc, rt, name, &mut pair.other, reply)?;
+    plays(alloc, rt, &mut pair.one, name, reply)
 }
 
 /// A call gives the same line at both, and leaves as many lookups pending.
@@ -63,20 +86,25 @@ fn agree(
     call: &Call,
 ) -> Result<(), Fail> {
     let given = made(alloc, &mut pair.one, millis, call)?;
-    let wanted = made(alloc, &mut pair.other, millis, call)?;
-    assert_eq!(rt; given.as_str(), wanted.as_str(), "{name}");
-    assert_eq!(rt; pair.one.pending(), pair.other.pending(), "{name}");
+    gives(alloc, rt, &mut pair.other, name, (millis, call), &given)?;
+    has_pending(rt, &pair.one, name, &given, pair.other.pending());
     Ok(())
+}
+
+/// So many lookups are pending at the first.
+fn are_pending(rt: &impl Abort, name: &str, pair: &Pair, count: usize) {
+    has_pending(rt, &pair.one, name, "all", count);
+}
+
+/// Whether a resolver is at this moment, in milliseconds.
+fn is_at(resolver: &ListResolver, millis: u64) -> bool {
+    resolver.time().millis() == millis
 }
 
 /// Both are at this moment, in milliseconds, and at the same address.
 fn stand_alike(rt: &impl Abort, name: &str, pair: &Pair, millis: u64) {
-    let (one, other) = (pair.one.time().millis(), pair.other.time().millis());
-    assert!(rt;
-        one == millis && other == millis,
-        "{name}: {one} and {other}"
-    );
-    assert_eq!(rt; pair.one.me(), pair.other.me(), "{name}");
+    let are_at_it = is_at(&pair.one, millis) && is_at(&pair.other, millis);
+    assert!(rt; are_at_it && pair.one.me() == pair.other.me(), "{name}");
 }
 
 /// Each lookup from a nonce on is still found under it: a referral of everything gives the same at both.
@@ -154,13 +182,25 @@ fn end_in_silence(
     ticks(alloc, rt, name, pair, 1999, 1)?;
     ticks(alloc, rt, name, pair, 2000, count)?;
     ticks(alloc, rt, name, pair, 4000, count)?;
-    assert_eq!(rt; pair.one.pending(), 0, "{name}");
+    are_pending(rt, name, pair, 0);
     begin(rt, name, pair, &REMEMBERED)?;
     // Each asks its one server once more, and no other.
     ticks(alloc, rt, name, pair, 6000, 6)?;
     ticks(alloc, rt, name, pair, 8000, 6)?;
-    assert_eq!(rt; pair.one.pending(), 0, "{name}");
+    are_pending(rt, name, pair, 0);
     begin(rt, name, pair, &REMEMBERED_FOR_A_DAY)
+}
+
+/// A lookup of an identifier begins at a server.
+fn begins(
+    rt: &impl Abort,
+    name: &str,
+    resolver: &mut ListResolver,
+    row: &(u64, &str, Locator),
+) -> Result<(), Fail> {
+    let first = first_server(resolver, row.0, row.1)?;
+    assert!(rt; first == row.2, "{name}: {}", row.1);
+    Ok(())
 }
 
 /// At both a lookup of each identifier begins at its server.
@@ -170,11 +210,9 @@ fn begin(
     pair: &mut Pair,
     rows: &[(u64, &str, Locator)],
 ) -> Result<(), Fail> {
-    for (millis, identifier, server) in rows {
-        let one = first_server(&mut pair.one, *millis, identifier)?;
-        let other = first_server(&mut pair.other, *millis, identifier)?;
-        let is_right = one == *server && other == *server;
-        assert!(rt; is_right, "{name}: {identifier} at {millis}");
+    for row in rows {
+        begins(rt, name, &mut pair.one, row)?;
+        begins(rt, name, &mut pair.other, row)?;
     }
     Ok(())
 }
@@ -227,7 +265,7 @@ fn others_end_below(
         ends_below(alloc, rt, name, pair, (ROOT, next, TO_EVERYTHING))?;
         next = next.saturating_add(2);
     }
-    assert_eq!(rt; pair.one.pending(), 0, "{name}");
+    are_pending(rt, name, pair, 0);
     Ok(())
 }
 
@@ -247,24 +285,87 @@ const TOLD_AGAIN: &[Step] = &[
     ),
 ];
 
+/// What can come of two crowds. Together they tell all that the crowds hold.
+#[derive(Clone, Copy)]
+enum Fate {
+    /// Both are at this moment, in milliseconds, and each lookup from this nonce on is found.
+    Found(u64, u64),
+    /// No server answers: so many lookups end alike, and the same is remembered.
+    Silence(u64),
+    /// The first lookup has saved the same prefix.
+    Loop,
+    /// No lookup has saved a longer prefix: the first ends where its server isn't in charge, then each other one.
+    AllEnd,
+    /// The others end so, from this nonce on.
+    OthersEnd(u64),
+}
+
+/// Both crowds end alike.
+fn meet(
+    alloc: Global,
+    rt: &impl Abort,
+    name: &str,
+    pair: &mut Pair,
+    fate: Fate,
+) -> Result<(), Fail> {
+    match fate {
+        Fate::Found(millis, first) => {
+            stand_alike(rt, name, pair, millis);
+            are_found(alloc, rt, name, pair, millis, first)
+        }
+        Fate::Silence(count) => end_in_silence(alloc, rt, name, pair, count),
+        Fate::Loop => {
+            plays(alloc, rt, &mut pair.one, name, TOLD_AGAIN)?;
+            plays(alloc, rt, &mut pair.other, name, TOLD_AGAIN)
+        }
+        Fate::AllEnd => {
+            ends_below(alloc, rt, name, pair, (TEN, 1026, BELOW_TEN))?;
+            others_end_below(alloc, rt, name, pair, 1028)
+        }
+        Fate::OthersEnd(nonce) => others_end_below(alloc, rt, name, pair, nonce),
+    }
+}
+
+/// What comes of two crowds after a reply that is ignored.
+fn ignore_and_meet(
+    alloc: Global,
+    rt: &impl Abort,
+    name: &str,
+    pair: &mut Pair,
+    reply: &[Step],
+    fate: Fate,
+) -> Result<(), Fail> {
+    ignore(alloc, rt, name, pair, reply)?;
+    meet(alloc, rt, name, pair, fate)
+}
+
+/// The same of two new ones.
+fn leaves(
+    alloc: Global,
+    rt: &impl Abort,
+    name: &str,
+    reply: &[Step],
+    fate: Fate,
+) -> Result<(), Fail> {
+    let mut pair = new_pair(alloc)?;
+    ignore_and_meet(alloc, rt, name, &mut pair, reply, fate)
+}
+
+/// What may come after a reply that is ignored, besides that each lookup is found.
+const AFTER_A_REPLY: &[Fate] = &[Fate::Silence(1024), Fate::Loop, Fate::AllEnd];
+
 /// After a reply that is ignored all 1,024 lookups wait as before, whatever comes.
 fn leaves_all(alloc: Global, rt: &impl Abort, name: &str, reply: &[Step]) -> Result<(), Fail> {
     for (millis, _call, _line, _pending) in reply {
-        let mut pair = ignoring(alloc, rt, name, reply)?;
-        stand_alike(rt, name, &pair, *millis);
-        are_found(alloc, rt, name, &mut pair, *millis, 2)?;
+        leaves(alloc, rt, name, reply, Fate::Found(*millis, 2))?;
     }
-    let mut pair = ignoring(alloc, rt, name, reply)?;
-    end_in_silence(alloc, rt, name, &mut pair, 1024)?;
-    let mut pair = ignoring(alloc, rt, name, reply)?;
-    plays(alloc, rt, &mut pair.one, name, TOLD_AGAIN)?;
-    plays(alloc, rt, &mut pair.other, name, TOLD_AGAIN)?;
-    let mut pair = ignoring(alloc, rt, name, reply)?;
-    ends_below(alloc, rt, name, &mut pair, (TEN, 1026, BELOW_TEN))?;
-    others_end_below(alloc, rt, name, &mut pair, 1028)
+    for &fate in AFTER_A_REPLY {
+        leaves(alloc, rt, name, reply, fate)?;
+    }
+    Ok(())
 }
 
-const UNASKED: [(&str, &[Step]); 2] = [
+const UNASKED: &[(&str, &[Step])] = &[
     (
         "another nonce",
         &[(
@@ -287,13 +388,13 @@ const UNASKED: [(&str, &[Step]); 2] = [
 
 #[test]
 fn another_nonce_or_source_leaves_1024_lookups_as_before(rt: HostRuntime) -> Result<(), Fail> {
-    for (name, reply) in UNASKED {
+    for &(name, reply) in UNASKED {
         leaves_all(rt.alloc(), &rt, name, reply)?;
     }
     Ok(())
 }
 
-const CUT_OR_LATE: [(&str, &[Step]); 2] = [
+const CUT_OR_LATE: &[(&str, &[Step])] = &[
     (
         "cut",
         &[(
@@ -311,25 +412,13 @@ const CUT_OR_LATE: [(&str, &[Step]); 2] = [
 
 #[test]
 fn a_cut_or_late_reply_leaves_1024_lookups_as_before(rt: HostRuntime) -> Result<(), Fail> {
-    for (name, reply) in CUT_OR_LATE {
+    for &(name, reply) in CUT_OR_LATE {
         leaves_all(rt.alloc(), &rt, name, reply)?;
     }
     Ok(())
 }
 
-const TO_ELEVEN: Told = Told {
-    action: Action::NodeReferral,
-    prefix: "[0]11.0.0.0/8",
-    servers: &[TEN],
-};
-
-const TO_NO_SERVER: Told = Told {
-    action: Action::NodeReferral,
-    prefix: "[0]10.0.0.0/8",
-    servers: &[],
-};
-
-const UNUSABLE: [(&str, &[Step]); 2] = [
+const UNUSABLE: &[(&str, &[Step])] = &[
     (
         "about others",
         &[(
@@ -352,17 +441,11 @@ const UNUSABLE: [(&str, &[Step]); 2] = [
 
 #[test]
 fn an_unusable_referral_leaves_1024_lookups_as_before(rt: HostRuntime) -> Result<(), Fail> {
-    for (name, reply) in UNUSABLE {
+    for &(name, reply) in UNUSABLE {
         leaves_all(rt.alloc(), &rt, name, reply)?;
     }
     Ok(())
 }
-
-const BACK_TO_THE_ROOT: Told = Told {
-    action: Action::NodeReferral,
-    prefix: "[0]10.0.0.0/8",
-    servers: &[ROOT],
-};
 
 /// The lookup ends, and nothing waits for its nonce any more.
 const A_LOOP: &[Step] = &[
@@ -380,24 +463,48 @@ const A_LOOP: &[Step] = &[
     ),
 ];
 
-/// A crowd whose first lookup has ended as a loop, beside one whose first lookup was cancelled.
-fn ending(alloc: Global, rt: &impl Abort) -> Result<Pair, Fail> {
-    let (mut one, _first) = crowded(alloc, rt)?;
-    let (mut other, first) = crowded(alloc, rt)?;
-    plays(alloc, rt, &mut one, "a loop", A_LOOP)?;
-    assert!(rt; is_cancelled(&mut other, &first));
-    assert_eq!(rt; other.pending(), 1023);
-    Ok(Pair { one, other })
+/// Lets two new resolvers be crowds: the first lookup of one ends as a loop, that of the other is cancelled.
+fn end_first(alloc: Global, rt: &impl Abort, pair: &mut Pair) -> Result<(), Fail> {
+    crowd(alloc, rt, &mut pair.one)?;
+    plays(alloc, rt, &mut pair.one, "a loop", A_LOOP)?;
+    let first = crowd(alloc, rt, &mut pair.other)?;
+    is_cancelled(rt, &mut pair.other, first);
+    has_pending(rt, &pair.other, "a loop", "the other's end", 1023);
+    Ok(())
 }
+
+/// What comes of the two after that.
+fn end_first_and_meet(
+    alloc: Global,
+    rt: &impl Abort,
+    pair: &mut Pair,
+    fate: Fate,
+) -> Result<(), Fail> {
+    end_first(alloc, rt, pair)?;
+    meet(alloc, rt, "a loop", pair, fate)
+}
+
+/// The same of two new ones.
+fn a_loop_leaves(alloc: Global, rt: &impl Abort, fate: Fate) -> Result<(), Fail> {
+    let mut pair = new_pair(alloc)?;
+    end_first_and_meet(alloc, rt, &mut pair, fate)
+}
+
+/// What may come after a loop.
+const AFTER_A_LOOP: &[Fate] = &[
+    Fate::Found(0, 3),
+    Fate::Silence(1023),
+    Fate::OthersEnd(1026),
+];
 
 #[test]
 fn a_loop_leaves_1023_lookups_as_before(rt: HostRuntime) -> Result<(), Fail> {
-    let alloc = rt.alloc();
-    let mut pair = ending(alloc, &rt)?;
-    stand_alike(&rt, "a loop", &pair, 0);
-    are_found(alloc, &rt, "a loop", &mut pair, 0, 3)?;
-    let mut pair = ending(alloc, &rt)?;
-    end_in_silence(alloc, &rt, "a loop", &mut pair, 1023)?;
-    let mut pair = ending(alloc, &rt)?;
-    others_end_below(alloc, &rt, "a loop", &mut pair, 1026)
+    for fate in [
+        Fate::Found(0, 3),
+        Fate::Silence(1023),
+        Fate::OthersEnd(1026),
+    ] {
+        a_loop_leaves(rt.alloc(), &rt, fate)?;
+    }
+    Ok(())
 }

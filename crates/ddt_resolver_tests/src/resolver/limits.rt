@@ -1,8 +1,8 @@
 //! The last nonces, and the most lookups that may be pending.
 
-use super::calls::{Call, ListResolver, ROOT, Step, TO_TEN, Told, at, plays, rooted};
+use super::calls::{Call, ListResolver, ROOT, Step, TO_TEN, Told, at, has_pending, plays, rooted};
 use ddt_path::{Action, Locator, Xeid};
-use ddt_resolver::{Asked, MOST_PENDING};
+use ddt_resolver::{Asked, MOST_PENDING, Ticket};
 use std::alloc::Global;
 use std::process::Abort;
 use std::test::Fail;
@@ -69,7 +69,7 @@ const TWO_NONCES: &[Step] = &[
 ];
 
 /// The nonce of the first request, and the calls on a new resolver.
-const LAST_NONCES: [(&str, u64, &[Step]); 3] = [
+const LAST_NONCES: &[(&str, u64, &[Step])] = &[
     ("the last nonce is never sent", u64::MAX, NO_NONCE),
     ("a lookup ends where no nonce is left", LAST, ONE_NONCE),
     (
@@ -79,12 +79,23 @@ const LAST_NONCES: [(&str, u64, &[Step]); 3] = [
     ),
 ];
 
+/// Plays a table on a new resolver whose first nonce is this one.
+fn plays_from(
+    alloc: Global,
+    rt: &impl Abort,
+    name: &str,
+    seed: u64,
+    steps: &[Step],
+) -> Result<(), Fail> {
+    let mut resolver = rooted(alloc, seed)?;
+    plays(alloc, rt, &mut resolver, name, steps)
+}
+
 #[test]
 fn the_last_nonce_is_never_sent(rt: HostRuntime) -> Result<(), Fail> {
     let alloc = rt.alloc();
-    for (name, seed, steps) in LAST_NONCES {
-        let mut resolver = rooted(alloc, seed)?;
-        plays(alloc, &rt, &mut resolver, name, steps)?;
+    for &(name, seed, steps) in LAST_NONCES {
+        plays_from(alloc, &rt, name, seed, steps)?;
     }
     Ok(())
 }
@@ -97,25 +108,15 @@ pub fn server_asked(asked: &Asked) -> Option<Locator> {
     }
 }
 
-/// A new lookup, which asks the root.
-pub fn opened(resolver: &mut ListResolver, address: u32) -> Result<Asked, Fail> {
+/// A new lookup, which asks the root: its ticket.
+pub fn opened(resolver: &mut ListResolver, address: u32) -> Result<Ticket, Fail> {
     let x = Xeid {
         iid: 0,
         address: Locator::V4(address),
     };
-    let asked = resolver.ask(at(0)?, x)?;
-    if server_asked(&asked) == Some(ROOT) {
-        Ok(asked)
-    } else {
-        Err("another answer".into())
-    }
-}
-
-/// Whether a lookup was pending, and is cancelled.
-pub fn is_cancelled(resolver: &mut ListResolver, asked: &Asked) -> bool {
-    match asked {
-        Asked::Sent(ticket, _sent) => resolver.cancel(*ticket),
-        Asked::Answer(_outcome) => false,
+    match &resolver.ask(at(0)?, x)? {
+        Asked::Sent(ticket, sent) if sent.to == ROOT => Ok(*ticket),
+        _ => Err("another answer".into()),
     }
 }
 
@@ -127,14 +128,24 @@ pub fn open_many(resolver: &mut ListResolver, count: u32) -> Result<(), Fail> {
     Ok(())
 }
 
-/// A resolver with as many lookups as may be pending, and the last one.
-fn full(alloc: Global, rt: &impl Abort) -> Result<(ListResolver, Asked), Fail> {
+/// A lookup is pending, and is cancelled.
+pub fn is_cancelled(rt: &impl Abort, resolver: &mut ListResolver, ticket: Ticket) {
+    assert!(rt; resolver.cancel(ticket));
+}
+
+/// A resolver with as many lookups as may be pending but one.
+fn almost_full(alloc: Global) -> Result<ListResolver, Fail> {
     let mut resolver = rooted(alloc, 1)?;
     open_many(&mut resolver, 1023)?;
-    let last = opened(&mut resolver, 1023)?;
-    assert_eq!(rt; resolver.pending(), 1024);
+    Ok(resolver)
+}
+
+/// Opens the last lookup that may be pending: its ticket.
+fn fill(rt: &impl Abort, resolver: &mut ListResolver) -> Result<Ticket, Fail> {
+    let last = opened(resolver, 1023)?;
+    has_pending(rt, resolver, "full", "the last", 1024);
     assert_eq!(rt; MOST_PENDING, 1024);
-    Ok((resolver, last))
+    Ok(last)
 }
 
 const ONE_MORE: &[Step] = &[(0, Call::Ask("[0]10.1.2.3"), "refused 1 TooMany", 1024)];
@@ -147,13 +158,22 @@ const IN_ITS_PLACE: &[Step] = &[(
     1024,
 )];
 
+/// One lookup more is refused, and has its place where another is cancelled.
+fn refuse_one_more(
+    alloc: Global,
+    rt: &impl Abort,
+    resolver: &mut ListResolver,
+) -> Result<(), Fail> {
+    let last = fill(rt, resolver)?;
+    plays(alloc, rt, resolver, "one more", ONE_MORE)?;
+    is_cancelled(rt, resolver, last);
+    plays(alloc, rt, resolver, "in its place", IN_ITS_PLACE)
+}
+
 #[test]
 fn no_more_than_1024_lookups_are_pending(rt: HostRuntime) -> Result<(), Fail> {
-    let alloc = rt.alloc();
-    let (mut resolver, last) = full(alloc, &rt)?;
-    plays(alloc, &rt, &mut resolver, "one more", ONE_MORE)?;
-    assert!(rt; is_cancelled(&mut resolver, &last));
-    plays(alloc, &rt, &mut resolver, "in its place", IN_ITS_PLACE)
+    let mut resolver = almost_full(rt.alloc())?;
+    refuse_one_more(rt.alloc(), &rt, &mut resolver)
 }
 
 const HOLE_OF_THE_FIRST: Told = Told {
@@ -178,9 +198,18 @@ const A_REMEMBERED_HOLE: &[Step] = &[
     (0, Call::Ask("[0]0.1.2.3"), "hole [0]0.0.0.0/8", 1024),
 ];
 
+/// A hole is remembered where as many lookups are pending as may be.
+fn remember_a_hole(
+    alloc: Global,
+    rt: &impl Abort,
+    resolver: &mut ListResolver,
+) -> Result<(), Fail> {
+    let _last = fill(rt, resolver)?;
+    plays(alloc, rt, resolver, "a hole", A_REMEMBERED_HOLE)
+}
+
 #[test]
 fn a_remembered_hole_is_answered_where_1024_are_pending(rt: HostRuntime) -> Result<(), Fail> {
-    let alloc = rt.alloc();
-    let (mut resolver, _last) = full(alloc, &rt)?;
-    plays(alloc, &rt, &mut resolver, "a hole", A_REMEMBERED_HOLE)
+    let mut resolver = almost_full(rt.alloc())?;
+    remember_a_hole(rt.alloc(), &rt, &mut resolver)
 }

@@ -1,9 +1,10 @@
 //! Replies to a lookup that waits for 127.0.0.10. Each case begins with a resolver of its own.
 
 use super::calls::{
-    Call, ListResolver, NOT_IN_CHARGE, ROOT, Step, TEN, TO_TEN, Told, hear, plays, referral_bytes,
-    rooted,
+    BACK_TO_THE_ROOT, Call, ListResolver, NOT_IN_CHARGE, ROOT, Step, TEN, TO_ELEVEN, TO_NO_SERVER,
+    TO_TEN, Told, hear, judge_line, plays, referral_bytes, rooted,
 };
+use ddt_examples::with_locator;
 use ddt_path::{Action, Locator};
 use std::alloc::Global;
 use std::process::Abort;
@@ -37,18 +38,6 @@ const BELOW_TEN: Told = Told {
     action: Action::NodeReferral,
     prefix: "[0]10.0.0.0/9",
     servers: &[ROOT],
-};
-
-const TO_ELEVEN: Told = Told {
-    action: Action::NodeReferral,
-    prefix: "[0]11.0.0.0/8",
-    servers: &[TEN],
-};
-
-const TO_NO_SERVER: Told = Told {
-    action: Action::NodeReferral,
-    prefix: "[0]10.0.0.0/8",
-    servers: &[],
 };
 
 /// Where nobody answers, the one server of the set is asked once more, from moment 2000 on, and then the lookup ends.
@@ -113,7 +102,7 @@ const TOLD_OF_NOBODY: &[Step] = &[
 ];
 
 /// What can come of the lookup that waits. Together they tell all that it holds.
-const FATES: [&[Step]; 4] = [IN_SILENCE, TOLD_AGAIN, TOLD_OF_MORE, TOLD_OF_NOBODY];
+const FATES: &[&[Step]] = &[IN_SILENCE, TOLD_AGAIN, TOLD_OF_MORE, TOLD_OF_NOBODY];
 
 /// One millisecond before the deadline.
 const NOT_YET: &[Step] = &[(1999, Call::Tick, "nothing", 1)];
@@ -130,7 +119,7 @@ const FOUND: &[Step] = &[(
 const FOUND_LATE: &[Step] = &[(2000, Call::Hear(TEN, 2, TO_TEN), "ignored 4 Late", 1)];
 
 /// A reply that is ignored, what comes of the time until the deadline, and of the right reply under the same nonce.
-const IGNORED: [(&str, &[Step], &[Step], &[Step]); 6] = [
+const IGNORED: &[(&str, &[Step], &[Step], &[Step])] = &[
     (
         "one byte short",
         &[(0, Call::HearCut(TEN, 2, TO_TEN), "ignored 1 Undecodable", 1)],
@@ -179,6 +168,34 @@ const IGNORED: [(&str, &[Step], &[Step], &[Step]); 6] = [
     ),
 ];
 
+/// Plays three tables, one after the other.
+fn plays_in_turn(
+    alloc: Global,
+    rt: &impl Abort,
+    resolver: &mut ListResolver,
+    name: &str,
+    first: &[Step],
+    second: &[Step],
+    third: &[Step],
+) -> Result<(), Fail> {
+    plays(alloc, rt, resolver, name, first)?;
+    plays(alloc, rt, resolver, name, second)?;
+    plays(alloc, rt, resolver, name, third)
+}
+
+/// The same on a resolver with the lookup that waits.
+fn plays_anew(
+    alloc: Global,
+    rt: &impl Abort,
+    name: &str,
+    first: &[Step],
+    second: &[Step],
+    third: &[Step],
+) -> Result<(), Fail> {
+    let mut resolver = waiting(alloc, rt)?;
+    plays_in_turn(alloc, rt, &mut resolver, name, first, second, third)
+}
+
 /// After a reply that is ignored the lookup waits as it did, whatever comes.
 fn is_ignored(
     alloc: Global,
@@ -188,32 +205,20 @@ fn is_ignored(
     before: &[Step],
     found: &[Step],
 ) -> Result<(), Fail> {
-    let mut resolver = waiting(alloc, rt)?;
-    plays(alloc, rt, &mut resolver, name, reply)?;
-    plays(alloc, rt, &mut resolver, name, found)?;
-    for fate in FATES {
-        let mut resolver = waiting(alloc, rt)?;
-        plays(alloc, rt, &mut resolver, name, reply)?;
-        plays(alloc, rt, &mut resolver, name, before)?;
-        plays(alloc, rt, &mut resolver, name, fate)?;
+    plays_anew(alloc, rt, name, reply, &[], found)?;
+    for &fate in FATES {
+        plays_anew(alloc, rt, name, reply, before, fate)?;
     }
     Ok(())
 }
 
 #[test]
 fn a_reply_that_is_ignored_leaves_the_lookup_as_before(rt: HostRuntime) -> Result<(), Fail> {
-    for (name, reply, before, found) in IGNORED {
+    for &(name, reply, before, found) in IGNORED {
         is_ignored(rt.alloc(), &rt, name, reply, before, found)?;
     }
     Ok(())
 }
-
-/// A referral to the same prefix as before, which names the root's server.
-const BACK_TO_THE_ROOT: Told = Told {
-    action: Action::NodeReferral,
-    prefix: "[0]10.0.0.0/8",
-    servers: &[ROOT],
-};
 
 /// Nothing of the loop is saved: what is found is the root's referral of 10.0.0.0/8 to 127.0.0.10 alone.
 const A_LOOP: &[Step] = &[
@@ -282,16 +287,15 @@ const JUST_IN_TIME: &[Step] = &[(
     0,
 )];
 
-const TAKEN: [(&str, &[Step]); 2] = [
+const TAKEN: &[(&str, &[Step])] = &[
     ("a referral to the same prefix is a loop", A_LOOP),
     ("one millisecond before its deadline", JUST_IN_TIME),
 ];
 
 #[test]
 fn a_referral_to_the_same_prefix_is_a_loop(rt: HostRuntime) -> Result<(), Fail> {
-    for (name, steps) in TAKEN {
-        let mut resolver = waiting(rt.alloc(), &rt)?;
-        plays(rt.alloc(), &rt, &mut resolver, name, steps)?;
+    for &(name, steps) in TAKEN {
+        plays_anew(rt.alloc(), &rt, name, steps, &[], &[])?;
     }
     Ok(())
 }
@@ -314,12 +318,8 @@ const TO_EIGHT: Told = Told {
 
 /// Its Map-Referral, under the nonce 2, with 127.0.2.9 as its ninth locator.
 fn with_a_ninth(alloc: Global) -> Result<Vec<u8>, Fail> {
-    let mut bytes = referral_bytes(alloc, 2, &TO_EIGHT)?;
-    bytes.extend_from_slice(&[0x01, 0x64, 0xff, 0, 0, 1, 0, 1, 0x7f, 0, 2, 9])?;
-    if let Some(count) = bytes.get_mut(16) {
-        *count = 9;
-    }
-    Ok(bytes)
+    let bytes = referral_bytes(alloc, 2, &TO_EIGHT)?;
+    Ok(with_locator(bytes, [127, 0, 2, 9], 9)?)
 }
 
 /// Each of the eight is asked twice, one after the other, and then no other.
@@ -417,13 +417,27 @@ const EIGHT_IN_TURN: &[Step] = &[
     (32_000, Call::Tick, "ticket 1 gave up 1 NoReply", 0),
 ];
 
+/// The first of the nine is asked.
+fn hear_of_nine(alloc: Global, rt: &impl Abort, resolver: &mut ListResolver) -> Result<(), Fail> {
+    let bytes = with_a_ninth(alloc)?;
+    let line = hear(alloc, resolver, 0, TEN, bytes.as_slice())?;
+    judge_line(
+        rt,
+        "of nine",
+        &line,
+        "ticket 1 asks 127.0.2.1 for [0]10.1.2.3, nonce 3",
+    );
+    Ok(())
+}
+
+/// Then the others of the first eight are.
+fn ask_of_nine(alloc: Global, rt: &impl Abort, resolver: &mut ListResolver) -> Result<(), Fail> {
+    hear_of_nine(alloc, rt, resolver)?;
+    plays(alloc, rt, resolver, "in turn", EIGHT_IN_TURN)
+}
+
 #[test]
 fn of_nine_servers_the_first_eight_are_kept(rt: HostRuntime) -> Result<(), Fail> {
-    let alloc = rt.alloc();
-    let bytes = with_a_ninth(alloc)?;
-    let mut resolver = waiting(alloc, &rt)?;
-    let line = hear(alloc, &mut resolver, 0, TEN, bytes.as_slice())?;
-    let first = "ticket 1 asks 127.0.2.1 for [0]10.1.2.3, nonce 3";
-    assert_eq!(rt; line.as_str(), first);
-    plays(alloc, &rt, &mut resolver, "in turn", EIGHT_IN_TURN)
+    let mut resolver = waiting(rt.alloc(), &rt)?;
+    ask_of_nine(rt.alloc(), &rt, &mut resolver)
 }

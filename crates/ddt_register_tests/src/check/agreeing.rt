@@ -4,6 +4,7 @@ ghost use Rattle.std.specs.Prelude.{◌<◌, length};
 
 use crate::check::slow::{RULES, first_fault};
 use ddt_check::{Fault, Rule, check};
+use ddt_examples::Dice;
 use ddt_examples::registers::{CAMPUS, COLUMNS};
 use ddt_register::{Register, read_register};
 use std::alloc::{AllocError, Global};
@@ -44,37 +45,18 @@ const MORE: [&str; 30] = [
     "group-ms,,wider,127.0.6.1 127.0.6.2 127.0.6.3 127.0.6.4 127.0.6.5 127.0.6.6 127.0.6.7 ::1 ::2\n",
 ];
 
-/// Numbers that look random; the same ones in each run.
-#[derive(Drop)]
-struct Dice {
-    state: u64,
-}
-
-impl Dice {
-    fn roll(&mut self, sides: usize) -> usize
-        requires { 0 < sides }
-        ensures { result < sides }
-    {
-        self.state = self
-            .state
-            .wrapping_mul(6_364_136_223_846_793_005)
-            .wrapping_add(1_442_695_040_888_963_407);
-        (self.state >> 33) as usize % sides
-    }
-}
-
 /// A register of these rows from a random one on, with some left out and some others between.
 fn random_text(alloc: Global, dice: &mut Dice, rows: &[&str]) -> Result<String, AllocError>
     requires { 0 < length rows.now }
 {
     let mut text = String::from_str(alloc, COLUMNS)?;
-    let (later, sooner) = rows.split_at(dice.roll(rows.len()));
+    let (later, sooner) = rows.split_at(dice.below(rows.len()));
     for row in sooner.iter().chain(later) {
-        if dice.roll(40) > 0 {
+        if dice.below(40) > 0 {
             text.push_str(row)?;
         }
-        if dice.roll(5) == 0 {
-            text.push_str(MORE[dice.roll(MORE.len())])?;
+        if dice.below(5) == 0 {
+            text.push_str(dice.one_of(&MORE))?;
         }
     }
     Ok(text)
@@ -104,7 +86,7 @@ fn agreed(rt: &impl Abort, register: Register, text: &str) -> Option<Rule> {
 fn rules_of_many(alloc: Global, rt: &impl Abort, rows: &[&str]) -> Vec<Option<Rule>>
     requires { 0 < length rows.now }
 {
-    let mut dice = Dice { state: 8111 };
+    let mut dice = Dice::of(8111);
     let mut rules = Vec::new(alloc);
     for _ in 0..3000 {
         let text = random_text(alloc, &mut dice, rows).expect(rt, "out of memory");

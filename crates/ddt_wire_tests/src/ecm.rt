@@ -85,14 +85,14 @@ const DOCUMENTATION: Locator = Locator::V6(0x2001_0db8_0000_0000_0000_0000_0000_
 const ITR: Locator = Locator::V4(0x7f00_003c);
 
 /// The nonce and the address of requests of the resolver, and their bytes.
-const WRITTEN: [(u64, Locator, &str); 2] = [
+const WRITTEN: &[(u64, Locator, &str)] = &[
     (1, Locator::V4(0x0a01_0203), DDT_REQUEST),
     (2, DOCUMENTATION, IPV6_REQUEST),
 ];
 
 #[test]
 fn ipv4_and_ipv6_requests_are_written(rt: HostRuntime) {
-    for (nonce, address, fields) in WRITTEN {
+    for &(nonce, address, fields) in WRITTEN {
         writes(rt.alloc(), &rt, nonce, address, fields);
     }
 }
@@ -134,7 +134,7 @@ fn a_request_in_another_form_is_read(rt: HostRuntime) {
 }
 
 /// Another last byte, another option, and a source EID that seems to end behind the datagram.
-const OTHER_FORM_CHANGED: [([(usize, u8); 2], RequestFault); 3] = [
+const OTHER_FORM_CHANGED: &[([(usize, u8); 2], RequestFault)] = &[
     ([(98, 0xab), (1, 0)], RequestFault::UdpChecksum),
     ([(25, 2), (1, 0)], RequestFault::IpChecksum),
     ([(54, 0x0a), (34, 0xc4)], RequestFault::Short),
@@ -142,7 +142,7 @@ const OTHER_FORM_CHANGED: [([(usize, u8); 2], RequestFault); 3] = [
 
 #[test]
 fn a_request_in_another_form_is_refused_when_changed(rt: HostRuntime) {
-    for (changes, fault) in OTHER_FORM_CHANGED {
+    for &(changes, fault) in OTHER_FORM_CHANGED {
         refuses_changed(
             rt.alloc(),
             &rt,
@@ -186,7 +186,7 @@ fn refuses_fronts(
 }
 
 /// A message, the lengths of its fronts, from one to below another, and their fault.
-const FRONTS: [(&str, (usize, usize), RequestFault); 6] = [
+const FRONTS: &[(&str, (usize, usize), RequestFault)] = &[
     (DDT_REQUEST, (0, 24), RequestFault::Short),
     (DDT_REQUEST, (24, 60), RequestFault::IpLength),
     (ITR_REQUEST, (0, 24), RequestFault::Short),
@@ -197,13 +197,13 @@ const FRONTS: [(&str, (usize, usize), RequestFault); 6] = [
 
 #[test]
 fn every_proper_prefix_of_a_request_is_refused(rt: HostRuntime) {
-    for (fields, lengths, fault) in FRONTS {
+    for &(fields, lengths, fault) in FRONTS {
         refuses_fronts(rt.alloc(), &rt, fields, lengths, fault);
     }
 }
 
 /// A message, what is changed in it, and its fault then.
-const CHANGED: [(&str, &[(usize, u8)], RequestFault); 16] = [
+const CHANGED: &[(&str, &[(usize, u8)], RequestFault)] = &[
     (DDT_REQUEST, &[(0, 0x64), (1, 0)], RequestFault::MessageType),
     (DDT_REQUEST, &[(0, 0x8c), (1, 0)], RequestFault::Security),
     (DDT_REQUEST, &[(4, 0x55), (5, 0)], RequestFault::IpVersion),
@@ -233,7 +233,7 @@ const CHANGED: [(&str, &[(usize, u8)], RequestFault); 16] = [
 #[test]
 fn each_fault_of_the_headers_has_a_datagram(rt: HostRuntime) {
     refuses(&rt, &[], RequestFault::Short);
-    for (fields, changes, fault) in CHANGED {
+    for &(fields, changes, fault) in CHANGED {
         refuses_changed(rt.alloc(), &rt, fields, changes, fault);
     }
 }
@@ -249,7 +249,7 @@ fn refuses_without_a_sum(
 }
 
 /// What is changed in the Map-Request, and its fault.
-const CHANGED_MAP_REQUESTS: [([(usize, u8); 1], RequestFault); 10] = [
+const CHANGED_MAP_REQUESTS: &[([(usize, u8); 1], RequestFault)] = &[
     ([(55, 2)], RequestFault::Short),
     ([(45, 2)], RequestFault::Short),
     ([(47, 2)], RequestFault::Short),
@@ -264,7 +264,7 @@ const CHANGED_MAP_REQUESTS: [([(usize, u8); 1], RequestFault); 10] = [
 
 #[test]
 fn each_fault_of_the_map_request_has_a_datagram(rt: HostRuntime) {
-    for (changes, fault) in CHANGED_MAP_REQUESTS {
+    for &(changes, fault) in CHANGED_MAP_REQUESTS {
         refuses_without_a_sum(rt.alloc(), &rt, &changes, fault);
     }
 }
@@ -275,7 +275,7 @@ fn refuses_range(alloc: Global, rt: &impl Abort, changes: &[(usize, u8)], fault:
 }
 
 /// What is changed in the request for a range of instances, and its fault.
-const CHANGED_RANGES: [(&[(usize, u8)], RequestFault); 7] = [
+const CHANGED_RANGES: &[(&[(usize, u8)], RequestFault)] = &[
     // A range of no length, of one above 32, with bits past its length.
     (&[(81, 6)], RequestFault::NotHost),
     (&[(79, 33)], RequestFault::NotHost),
@@ -289,7 +289,7 @@ const CHANGED_RANGES: [(&[(usize, u8)], RequestFault); 7] = [
 
 #[test]
 fn each_fault_of_an_instance_has_a_datagram(rt: HostRuntime) {
-    for (changes, fault) in CHANGED_RANGES {
+    for &(changes, fault) in CHANGED_RANGES {
         refuses_range(rt.alloc(), &rt, changes, fault);
     }
 }
@@ -321,7 +321,7 @@ fn a_checksum_of_zero_counts_as_absent(rt: HostRuntime) {
 }
 
 /// A message, several faults that are put into it, and the first of them.
-const FIRST_FAULTS: [(&str, &[(usize, u8)], RequestFault); 13] = [
+const FIRST_FAULTS: &[(&str, &[(usize, u8)], RequestFault)] = &[
     (
         DDT_REQUEST,
         &[(0, 0x64), (4, 0x55)],
@@ -384,13 +384,13 @@ const FIRST_FAULTS: [(&str, &[(usize, u8)], RequestFault); 13] = [
 
 #[test]
 fn the_first_fault_of_the_headers_is_named(rt: HostRuntime) {
-    for (fields, changes, fault) in FIRST_FAULTS {
+    for &(fields, changes, fault) in FIRST_FAULTS {
         refuses_changed(rt.alloc(), &rt, fields, changes, fault);
     }
 }
 
 /// Bytes that end within a header, and their fault.
-const BEGUN: [(&[u8], RequestFault); 6] = [
+const BEGUN: &[(&[u8], RequestFault)] = &[
     (&[0x64, 0, 0, 0, 0x45], RequestFault::MessageType),
     (&[0x8c, 0, 0, 0, 0x45], RequestFault::Security),
     (&[0x84, 0, 0, 0, 0x55], RequestFault::IpVersion),
@@ -401,7 +401,7 @@ const BEGUN: [(&[u8], RequestFault); 6] = [
 
 #[test]
 fn a_wrong_field_is_named_before_the_end(rt: HostRuntime) {
-    for (bytes, fault) in BEGUN {
+    for &(bytes, fault) in BEGUN {
         refuses(&rt, bytes, fault);
     }
     // A Map-Request of 11 bytes, whose type is wrong: the lengths and the header's sum fit.
@@ -411,7 +411,7 @@ fn a_wrong_field_is_named_before_the_end(rt: HostRuntime) {
 }
 
 /// Two faults that are put into the request behind its headers, and the first of them.
-const FIRST_FAULTS_BEHIND: [([(usize, u8); 2], RequestFault); 10] = [
+const FIRST_FAULTS_BEHIND: &[([(usize, u8); 2], RequestFault)] = &[
     ([(27, 0xf7), (32, 0x20)], RequestFault::Port),
     ([(32, 0x20), (35, 2)], RequestFault::RequestType),
     ([(35, 2), (45, 3)], RequestFault::RecordCount),
@@ -426,7 +426,7 @@ const FIRST_FAULTS_BEHIND: [([(usize, u8); 2], RequestFault); 10] = [
 
 #[test]
 fn the_first_fault_behind_the_headers_is_named(rt: HostRuntime) {
-    for (changes, fault) in FIRST_FAULTS_BEHIND {
+    for &(changes, fault) in FIRST_FAULTS_BEHIND {
         refuses_without_a_sum(rt.alloc(), &rt, &changes, fault);
     }
     // A mask length that is too short, and bytes behind the EID.
@@ -434,7 +434,7 @@ fn the_first_fault_behind_the_headers_is_named(rt: HostRuntime) {
     refuses(&rt, loose.as_slice(), RequestFault::NotHost);
 }
 
-const FAULTS: [(RequestFault, &str); 18] = [
+const FAULTS: &[(RequestFault, &str)] = &[
     (RequestFault::Short, "1 Short"),
     (RequestFault::MessageType, "2 MessageType"),
     (RequestFault::Security, "3 Security"),
@@ -457,7 +457,7 @@ const FAULTS: [(RequestFault, &str); 18] = [
 
 #[test]
 fn faults_are_printed_by_number_and_name(rt: HostRuntime) {
-    for (fault, written) in FAULTS {
+    for &(fault, written) in FAULTS {
         prints(rt.alloc(), &rt, fault, written);
     }
 }

@@ -7,7 +7,7 @@ use ddt_examples::messages::{
     EAST_ACKNOWLEDGES, HOLE_OF_EVERYTHING, HOLE_OF_INSTANCES, HOLE_WITH_IGNORED_BITS,
     ROOT_REFERS_TO_TEN, TEN_IS_NOT_IN_CHARGE,
 };
-use ddt_examples::{changed, front};
+use ddt_examples::{changed, front, with_locator};
 use ddt_path::{Action, Locator, LocatorSet, Prefix, ReferralRecord};
 use ddt_text::parse_prefix;
 use ddt_wire::{
@@ -108,7 +108,7 @@ fn refuses_front(
 const TEN: Locator = Locator::V4(0x7f00_000a);
 
 /// Complete records with the nonce 1: the action, the prefix, the TTL, the servers, and the message.
-const WRITTEN: [(Action, &str, u32, &[Locator], &str); 4] = [
+const WRITTEN: &[(Action, &str, u32, &[Locator], &str)] = &[
     (
         Action::NodeReferral,
         "[0]10.0.0.0/8",
@@ -135,7 +135,7 @@ const WRITTEN: [(Action, &str, u32, &[Locator], &str); 4] = [
 
 #[test]
 fn a_node_two_holes_and_two_map_servers_are_written(rt: HostRuntime) {
-    for (action, prefix, ttl, locators, fields) in WRITTEN {
+    for &(action, prefix, ttl, locators, fields) in WRITTEN {
         let record = complete(&rt, action, prefix, ttl, locators);
         writes(rt.alloc(), &rt, &record, fields);
     }
@@ -196,12 +196,9 @@ fn ignored_bits_are_ignored(rt: HostRuntime) {
 
 /// The Map-Referral of the root to `ten` with nine locators.
 fn with_nine_locators(alloc: Global, rt: &impl Abort) -> Vec<u8> {
-    let mut bytes = changed(message(alloc, rt, ROOT_REFERS_TO_TEN), &[(16, 9)]);
+    let mut bytes = message(alloc, rt, ROOT_REFERS_TO_TEN);
     for last in 11..19 {
-        let locator = [0x01, 0x64, 0xff, 0, 0, 1, 0, 1, 0x7f, 0, 0, last];
-        bytes
-            .extend_from_slice(&locator)
-            .expect(rt, "out of memory");
+        bytes = with_locator(bytes, [127, 0, 0, last], 9).expect(rt, "out of memory");
     }
     bytes
 }
@@ -237,7 +234,7 @@ fn is_read_as_a_whole(alloc: Global, rt: &impl Abort, fields: &str) {
     }
 }
 
-const REFERRALS: [&str; 6] = [
+const REFERRALS: &[&str] = &[
     ROOT_REFERS_TO_TEN,
     HOLE_OF_INSTANCES,
     HOLE_WITH_IGNORED_BITS,
@@ -248,13 +245,13 @@ const REFERRALS: [&str; 6] = [
 
 #[test]
 fn every_proper_prefix_of_a_referral_is_short(rt: HostRuntime) {
-    for fields in REFERRALS {
+    for &fields in REFERRALS {
         is_read_as_a_whole(rt.alloc(), &rt, fields);
     }
 }
 
 /// A message, what is changed in it, and its fault then.
-const CHANGED: [(&str, &[(usize, u8)], ReferralFault); 18] = [
+const CHANGED: &[(&str, &[(usize, u8)], ReferralFault)] = &[
     (ROOT_REFERS_TO_TEN, &[(16, 2)], ReferralFault::Short),
     (ROOT_REFERS_TO_TEN, &[(0, 0x70)], ReferralFault::MessageType),
     (ROOT_REFERS_TO_TEN, &[(3, 0)], ReferralFault::RecordCount),
@@ -289,13 +286,13 @@ const CHANGED: [(&str, &[(usize, u8)], ReferralFault); 18] = [
 
 #[test]
 fn each_fault_of_a_referral_has_a_datagram(rt: HostRuntime) {
-    for (fields, changes, fault) in CHANGED {
+    for &(fields, changes, fault) in CHANGED {
         refuses_changed(rt.alloc(), &rt, fields, changes, fault);
     }
 }
 
 /// A message, several faults that are put into it, and the first of them.
-const FIRST_FAULTS: [(&str, &[(usize, u8)], ReferralFault); 15] = [
+const FIRST_FAULTS: &[(&str, &[(usize, u8)], ReferralFault)] = &[
     (
         ROOT_REFERS_TO_TEN,
         &[(0, 0x70), (3, 2), (18, 0xd0)],
@@ -375,13 +372,13 @@ const FIRST_FAULTS: [(&str, &[(usize, u8)], ReferralFault); 15] = [
 
 #[test]
 fn the_first_fault_of_a_referral_is_named(rt: HostRuntime) {
-    for (fields, changes, fault) in FIRST_FAULTS {
+    for &(fields, changes, fault) in FIRST_FAULTS {
         refuses_changed(rt.alloc(), &rt, fields, changes, fault);
     }
 }
 
 /// A message, how many bytes of its front are left, what is changed in them, and the fault.
-const CUT: [(&str, usize, (usize, u8), ReferralFault); 15] = [
+const CUT: &[(&str, usize, (usize, u8), ReferralFault)] = &[
     // Within the first field the end comes first.
     (ROOT_REFERS_TO_TEN, 3, (0, 0x70), ReferralFault::Short),
     (ROOT_REFERS_TO_TEN, 4, (0, 0x70), ReferralFault::MessageType),
@@ -408,7 +405,7 @@ const CUT: [(&str, usize, (usize, u8), ReferralFault); 15] = [
 
 #[test]
 fn a_wrong_field_is_named_before_the_end(rt: HostRuntime) {
-    for (fields, len, change, fault) in CUT {
+    for &(fields, len, change, fault) in CUT {
         refuses_front(rt.alloc(), &rt, fields, len, change, fault);
     }
 }
@@ -437,8 +434,12 @@ fn eids_are_read_from_the_front(rt: HostRuntime) {
     reads_eid(&rt, &instance, 24, prefix(&rt, "[7]10.1.2.0/24"), 18);
 }
 
-/// The EID of [2147483648/1]*.
-const RANGE: &str = "4003 0000 02 01 0006 80000000 0000";
+/// The EID of [2147483648/1]*, which the hole of these instances ends with.
+fn range_eid(alloc: Global, rt: &impl Abort) -> Vec<u8> {
+    let hole = message(alloc, rt, HOLE_OF_INSTANCES);
+    let eid = hole.get(22..).expect(rt, "no EID");
+    Vec::from_slice(alloc, eid).expect(rt, "out of memory")
+}
 
 fn refuses_eid(rt: &impl Abort, bytes: &[u8], len: u8, fault: EidFault) {
     assert_eq!(rt; read_eid(bytes, len).err(), Some(fault), "of {bytes:?}");
@@ -450,13 +451,13 @@ fn eids_are_refused_for_the_first_fault(rt: HostRuntime) {
     refuses_eid(&rt, &[0, 3, 0x0a, 1], 33, EidFault::EidFamily);
     refuses_eid(&rt, &[0, 1, 0x0a, 1, 2], 33, EidFault::Short);
     refuses_eid(&rt, &[0, 1, 0x0a, 1, 2, 0], 33, EidFault::MaskLength);
-    let range = message(rt.alloc(), &rt, RANGE);
+    let range = range_eid(rt.alloc(), &rt);
     refuses_eid(&rt, front(&range, 7), 0, EidFault::Short);
     refuses_eid(&rt, front(&range, 13), 0, EidFault::Short);
 }
 
 /// What is changed in the EID of the range, the mask length, and the fault.
-const CHANGED_RANGES: [(&[(usize, u8)], u8, EidFault); 4] = [
+const CHANGED_RANGES: &[(&[(usize, u8)], u8, EidFault)] = &[
     (&[(13, 3)], 0, EidFault::Lcaf),
     (&[(13, 1), (7, 10)], 33, EidFault::Short),
     (&[(5, 33)], 0, EidFault::MaskLength),
@@ -465,13 +466,13 @@ const CHANGED_RANGES: [(&[(usize, u8)], u8, EidFault); 4] = [
 
 #[test]
 fn eids_of_ranges_are_refused_for_the_first_fault(rt: HostRuntime) {
-    for (changes, len, fault) in CHANGED_RANGES {
-        let range = changed(message(rt.alloc(), &rt, RANGE), changes);
+    for &(changes, len, fault) in CHANGED_RANGES {
+        let range = changed(range_eid(rt.alloc(), &rt), changes);
         refuses_eid(&rt, range.as_slice(), len, fault);
     }
 }
 
-const REFERRAL_FAULTS: [(ReferralFault, &str); 11] = [
+const REFERRAL_FAULTS: &[(ReferralFault, &str)] = &[
     (ReferralFault::Short, "1 Short"),
     (ReferralFault::MessageType, "2 MessageType"),
     (ReferralFault::RecordCount, "3 RecordCount"),
@@ -485,7 +486,7 @@ const REFERRAL_FAULTS: [(ReferralFault, &str); 11] = [
     (ReferralFault::Trailing, "11 Trailing"),
 ];
 
-const EID_FAULTS: [(EidFault, &str); 5] = [
+const EID_FAULTS: &[(EidFault, &str)] = &[
     (EidFault::Short, "1 Short"),
     (EidFault::EidFamily, "2 EidFamily"),
     (EidFault::Lcaf, "3 Lcaf"),
@@ -493,20 +494,20 @@ const EID_FAULTS: [(EidFault, &str); 5] = [
     (EidFault::TailNotZero, "5 TailNotZero"),
 ];
 
-const ADDRESS_FAULTS: [(AddressFault, &str); 2] = [
+const ADDRESS_FAULTS: &[(AddressFault, &str)] = &[
     (AddressFault::Short, "1 Short"),
     (AddressFault::Family, "2 Family"),
 ];
 
 #[test]
 fn faults_are_printed_by_number_and_name(rt: HostRuntime) {
-    for (fault, written) in REFERRAL_FAULTS {
+    for &(fault, written) in REFERRAL_FAULTS {
         prints(rt.alloc(), &rt, fault, written);
     }
-    for (fault, written) in EID_FAULTS {
+    for &(fault, written) in EID_FAULTS {
         prints(rt.alloc(), &rt, fault, written);
     }
-    for (fault, written) in ADDRESS_FAULTS {
+    for &(fault, written) in ADDRESS_FAULTS {
         prints(rt.alloc(), &rt, fault, written);
     }
 }

@@ -67,7 +67,7 @@ fn refuses_front(
 }
 
 /// Prefixes, and the negative Map-Replies that are written of them and read as them.
-const WRITTEN: [(&str, &str); 3] = [
+const WRITTEN: &[(&str, &str)] = &[
     ("[0]10.2.0.0/15", NEGATIVE_REPLY),
     ("[2147483648/1]*", NEGATIVE_REPLY_OF_INSTANCES),
     ("[7]::/0", NEGATIVE_REPLY_OF_INSTANCE_7),
@@ -75,7 +75,7 @@ const WRITTEN: [(&str, &str); 3] = [
 
 #[test]
 fn negative_replies_are_written_and_read(rt: HostRuntime) {
-    for (text, fields) in WRITTEN {
+    for &(text, fields) in WRITTEN {
         let prefix = prefix(&rt, text);
         writes(rt.alloc(), &rt, prefix, fields);
         reads(rt.alloc(), &rt, fields, prefix);
@@ -97,7 +97,7 @@ fn is_read_as_a_whole(alloc: Global, rt: &impl Abort, fields: &str) {
     }
 }
 
-const REPLIES: [&str; 4] = [
+const REPLIES: &[&str] = &[
     NEGATIVE_REPLY,
     NEGATIVE_REPLY_WITH_IGNORED_BITS,
     NEGATIVE_REPLY_OF_INSTANCES,
@@ -106,13 +106,13 @@ const REPLIES: [&str; 4] = [
 
 #[test]
 fn every_proper_prefix_of_a_negative_reply_is_short(rt: HostRuntime) {
-    for fields in REPLIES {
+    for &fields in REPLIES {
         is_read_as_a_whole(rt.alloc(), &rt, fields);
     }
 }
 
 /// A message, what is changed in it, and its fault then.
-const CHANGED: [(&str, &[(usize, u8)], ReplyFault); 16] = [
+const CHANGED: &[(&str, &[(usize, u8)], ReplyFault)] = &[
     (NEGATIVE_REPLY, &[(0, 0x30)], ReplyFault::MessageType),
     (NEGATIVE_REPLY, &[(3, 0)], ReplyFault::RecordCount),
     (NEGATIVE_REPLY, &[(3, 2)], ReplyFault::RecordCount),
@@ -142,13 +142,13 @@ const CHANGED: [(&str, &[(usize, u8)], ReplyFault); 16] = [
 
 #[test]
 fn each_fault_of_a_negative_reply_has_a_datagram(rt: HostRuntime) {
-    for (fields, changes, fault) in CHANGED {
+    for &(fields, changes, fault) in CHANGED {
         refuses_changed(rt.alloc(), &rt, fields, changes, fault);
     }
 }
 
 /// A message, several faults that are put into it, and the first of them.
-const FIRST_FAULTS: [(&str, &[(usize, u8)], ReplyFault); 8] = [
+const FIRST_FAULTS: &[(&str, &[(usize, u8)], ReplyFault)] = &[
     (
         NEGATIVE_REPLY,
         &[(0, 0x60), (3, 2), (16, 1)],
@@ -193,13 +193,13 @@ const FIRST_FAULTS: [(&str, &[(usize, u8)], ReplyFault); 8] = [
 
 #[test]
 fn the_first_fault_of_a_negative_reply_is_named(rt: HostRuntime) {
-    for (fields, changes, fault) in FIRST_FAULTS {
+    for &(fields, changes, fault) in FIRST_FAULTS {
         refuses_changed(rt.alloc(), &rt, fields, changes, fault);
     }
 }
 
 /// How many bytes of the front are left, what is changed in them, and the fault.
-const CUT: [(usize, (usize, u8), ReplyFault); 9] = [
+const CUT: &[(usize, (usize, u8), ReplyFault)] = &[
     (3, (0, 0x60), ReplyFault::Short),
     (4, (0, 0x60), ReplyFault::MessageType),
     (4, (3, 2), ReplyFault::RecordCount),
@@ -213,7 +213,7 @@ const CUT: [(usize, (usize, u8), ReplyFault); 9] = [
 
 #[test]
 fn a_wrong_field_of_a_negative_reply_is_named_before_the_end(rt: HostRuntime) {
-    for (len, change, fault) in CUT {
+    for &(len, change, fault) in CUT {
         refuses_front(rt.alloc(), &rt, len, change, fault);
     }
 }
@@ -232,7 +232,7 @@ fn refuses_longer(
 }
 
 /// Messages, what is changed in them, and the fault with one more byte behind them.
-const LONGER: [(&str, &[(usize, u8)], ReplyFault); 3] = [
+const LONGER: &[(&str, &[(usize, u8)], ReplyFault)] = &[
     (NEGATIVE_REPLY, &[], ReplyFault::Trailing),
     (NEGATIVE_REPLY_OF_INSTANCES, &[], ReplyFault::Trailing),
     (NEGATIVE_REPLY, &[(17, 33)], ReplyFault::MaskLength),
@@ -240,12 +240,12 @@ const LONGER: [(&str, &[(usize, u8)], ReplyFault); 3] = [
 
 #[test]
 fn bytes_after_a_negative_reply_are_trailing(rt: HostRuntime) {
-    for (fields, changes, fault) in LONGER {
+    for &(fields, changes, fault) in LONGER {
         refuses_longer(rt.alloc(), &rt, fields, changes, fault);
     }
 }
 
-const FAULTS: [(ReplyFault, &str); 10] = [
+const FAULTS: &[(ReplyFault, &str)] = &[
     (ReplyFault::Short, "1 Short"),
     (ReplyFault::MessageType, "2 MessageType"),
     (ReplyFault::RecordCount, "3 RecordCount"),
@@ -260,7 +260,7 @@ const FAULTS: [(ReplyFault, &str); 10] = [
 
 #[test]
 fn faults_of_a_negative_reply_are_printed_by_number_and_name(rt: HostRuntime) {
-    for (fault, written) in FAULTS {
+    for &(fault, written) in FAULTS {
         prints(rt.alloc(), &rt, fault, written);
     }
 }

@@ -49,7 +49,7 @@ fn are_alike(alloc: Global, rt: &impl Abort, config: &ServerConfig, wanted: &Ser
 }
 
 /// Registers, and the configurations of their three groups in the order of their rows.
-const COMPILED: [(&str, [&str; 3]); 3] = [
+const COMPILED: &[(&str, [&str; 3])] = &[
     (CAMPUS, [ROOT, TEN, EAST]),
     // A zone and a site stand before the zone above.
     (SCATTERED, [SCATTERED_EAST, SCATTERED_TEN, ROOT]),
@@ -71,13 +71,13 @@ fn compiles(alloc: Global, rt: &impl Abort, text: &str, texts: &[&str]) {
 
 #[test]
 fn each_group_is_compiled(rt: HostRuntime) {
-    for (register, texts) in COMPILED {
+    for &(register, texts) in COMPILED {
         compiles(rt.alloc(), &rt, register, &texts);
     }
 }
 
 /// Groups of the register with sites inside sites, and their configurations.
-const ALONE: [(&str, &str); 2] = [("east", NESTED_EAST), ("ten", TEN)];
+const ALONE: &[(&str, &str)] = &[("east", NESTED_EAST), ("ten", TEN)];
 
 fn compiles_alone(alloc: Global, rt: &impl Abort, accepted: &Accepted, group: &str, text: &str) {
     let config = alone(alloc, rt, accepted, name(rt, group)).expect(rt, "no group");
@@ -87,7 +87,7 @@ fn compiles_alone(alloc: Global, rt: &impl Abort, accepted: &Accepted, group: &s
 #[test]
 fn one_group_is_compiled_alone(rt: HostRuntime) {
     let accepted = accepted(rt.alloc(), &rt, NESTED_SITES);
-    for (group, text) in ALONE {
+    for &(group, text) in ALONE {
         compiles_alone(rt.alloc(), &rt, &accepted, group, text);
     }
     assert!(rt; alone(rt.alloc(), &rt, &accepted, name(&rt, "west")).is_none());

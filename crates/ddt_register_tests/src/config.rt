@@ -150,7 +150,7 @@ fn a_text_is_read(rt: HostRuntime) {
 }
 
 /// Texts by hand, and the texts that are written of what they stand for.
-const WRITTEN: [(&str, &str); 2] = [
+const WRITTEN: &[(&str, &str)] = &[
     (EAST_BY_HAND, EAST),
     (TWO_AUTHORITIES_BY_HAND, TWO_AUTHORITIES),
 ];
@@ -161,7 +161,7 @@ fn writes(alloc: Global, rt: &impl Abort, by_hand: &str, text: &str) {
 
 #[test]
 fn a_configuration_is_written_with_its_keys_and_no_other(rt: HostRuntime) {
-    for (by_hand, text) in WRITTEN {
+    for &(by_hand, text) in WRITTEN {
         writes(rt.alloc(), &rt, by_hand, text);
     }
 }
@@ -192,7 +192,7 @@ fn no_authority_is_the_empty_list_and_other_keys_are_ignored(rt: HostRuntime) {
 }
 
 /// A part of the text of east, what stands in its place, and the fault.
-const FIRST_FAULTS: [(&str, &str, ConfigFault); 14] = [
+const FIRST_FAULTS: &[(&str, &str, ConfigFault)] = &[
     ("name = \"east\"", "name =", ConfigFault::Toml),
     ("name = \"east\"", "", ConfigFault::Field(Key::Name)),
     ("name = \"east\"", "name = 5", ConfigFault::Field(Key::Name)),
@@ -243,13 +243,13 @@ const FIRST_FAULTS: [(&str, &str, ConfigFault); 14] = [
 
 #[test]
 fn the_first_fault_decides(rt: HostRuntime) {
-    for (old, new, fault) in FIRST_FAULTS {
+    for &(old, new, fault) in FIRST_FAULTS {
         fails_replaced(rt.alloc(), &rt, EAST_BY_HAND, (old, new), fault);
     }
 }
 
 /// Whole texts with two faults, or with a list of another kind, and the fault that decides.
-const WHOLE_TEXTS: [(&str, ConfigFault); 5] = [
+const WHOLE_TEXTS: &[(&str, ConfigFault)] = &[
     ("name = 5\nkind = 5", ConfigFault::Field(Key::Name)),
     (
         "name = \"A\"\nkind = \"root\"",
@@ -271,7 +271,7 @@ const WHOLE_TEXTS: [(&str, ConfigFault); 5] = [
 
 #[test]
 fn the_first_of_two_faults_decides(rt: HostRuntime) {
-    for (text, fault) in WHOLE_TEXTS {
+    for &(text, fault) in WHOLE_TEXTS {
         fails(rt.alloc(), &rt, text, fault);
     }
 }
@@ -283,7 +283,7 @@ const NINE_ETRS: &str =
     "etrs = [\"1.0.0.1\", \"1.0.0.1\", \"1.0.0.1\", \"1.0.0.1\", \"1.0.0.1\", \"1.0.0.1\", \"1.0.0.1\", \"1.0.0.1\", \"1.0.0.1\"]";
 
 /// A configuration, a part of its text, and what stands in its place, of which one condition of the shape is broken.
-const WRONG_SHAPES: [(&str, &str, &str); 11] = [
+const WRONG_SHAPES: &[(&str, &str, &str)] = &[
     (
         EAST_BY_HAND,
         "locators = [\"127.0.1.1\", \"127.0.1.2\"]",
@@ -315,7 +315,7 @@ const WRONG_SHAPES: [(&str, &str, &str); 11] = [
 
 #[test]
 fn each_condition_of_the_shape_is_tested(rt: HostRuntime) {
-    for (whole, old, new) in WRONG_SHAPES {
+    for &(whole, old, new) in WRONG_SHAPES {
         fails_replaced(rt.alloc(), &rt, whole, (old, new), ConfigFault::Shape);
     }
 }
@@ -430,7 +430,7 @@ fn prints(alloc: Global, rt: &impl Abort, fault: ConfigFault, text: &str) {
     assert_eq!(rt; printed.as_str(), text);
 }
 
-const FAULTS: [(ConfigFault, &str); 5] = [
+const FAULTS: &[(ConfigFault, &str)] = &[
     (ConfigFault::Toml, "1 Toml"),
     (ConfigFault::Field(Key::Kind), "2 Field"),
     (ConfigFault::Value(Key::Etrs), "3 Value"),
@@ -440,7 +440,7 @@ const FAULTS: [(ConfigFault, &str); 5] = [
 
 #[test]
 fn a_fault_prints_its_number_and_its_name(rt: HostRuntime) {
-    for (fault, text) in FAULTS {
+    for &(fault, text) in FAULTS {
         prints(rt.alloc(), &rt, fault, text);
     }
 }

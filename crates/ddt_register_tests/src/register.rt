@@ -153,7 +153,7 @@ fn want_of_memory_is_the_only_other_answer(rt: HostRuntime) {
 }
 
 /// Rows behind those of the campus, and their fault.
-const NINTH_ROWS: [(&str, ReadFault); 5] = [
+const NINTH_ROWS: &[(&str, ReadFault)] = &[
     (TOO_FEW_FIELDS, ReadFault::Csv(9)),
     (NO_KIND, ReadFault::Kind(9)),
     (HOST_BITS, ReadFault::Prefix(9)),
@@ -163,13 +163,13 @@ const NINTH_ROWS: [(&str, ReadFault); 5] = [
 
 #[test]
 fn a_faulty_ninth_row_is_named(rt: HostRuntime) {
-    for (row, fault) in NINTH_ROWS {
+    for &(row, fault) in NINTH_ROWS {
         gives_behind(rt.alloc(), &rt, CAMPUS, row, Some(fault));
     }
 }
 
 /// Rows with several faults, and the first of them.
-const FIRST_FAULTS: [(&str, ReadFault); 11] = [
+const FIRST_FAULTS: &[(&str, ReadFault)] = &[
     ("zone,[0]10.0.0.1/8,Ten,x,", ReadFault::Csv(1)),
     ("zone,[0]10.0.0.1/8,Ten,x", ReadFault::Kind(1)),
     ("node,[0]10.0.0.1/8,Ten,x", ReadFault::Prefix(1)),
@@ -185,13 +185,13 @@ const FIRST_FAULTS: [(&str, ReadFault); 11] = [
 
 #[test]
 fn the_order_of_faults_in_a_row(rt: HostRuntime) {
-    for (row, fault) in FIRST_FAULTS {
+    for &(row, fault) in FIRST_FAULTS {
         rows_give(rt.alloc(), &rt, row, Some(fault));
     }
 }
 
 /// Rows with a field that must be empty and isn't, and their fault.
-const NOT_EMPTY: [(&str, ReadFault); 3] = [
+const NOT_EMPTY: &[(&str, ReadFault)] = &[
     ("group-node,*,ten,10.0.0.1", ReadFault::Prefix(1)),
     ("node,*,ten,10.0.0.1", ReadFault::Address(1)),
     ("site,*,ten,10.0.0.1", ReadFault::Name(1)),
@@ -199,14 +199,14 @@ const NOT_EMPTY: [(&str, ReadFault); 3] = [
 
 #[test]
 fn a_field_that_must_be_empty(rt: HostRuntime) {
-    for (row, fault) in NOT_EMPTY {
+    for &(row, fault) in NOT_EMPTY {
         rows_give(rt.alloc(), &rt, row, Some(fault));
     }
     rows_give(rt.alloc(), &rt, "group-node,,ten,\nsite,*,,", None);
 }
 
 /// Rows with more than one space between addresses, with one before or behind them, and with a tab.
-const OTHER_SPACES: [&str; 5] = [
+const OTHER_SPACES: &[&str] = &[
     "site,*,,10.0.0.1  10.0.0.2",
     "site,*,, 10.0.0.1",
     "site,*,,10.0.0.1 ",
@@ -217,7 +217,7 @@ const OTHER_SPACES: [&str; 5] = [
 #[test]
 fn one_space_stands_between_addresses(rt: HostRuntime) {
     rows_give(rt.alloc(), &rt, "site,*,,10.0.0.1 ::1 10.0.0.2", None);
-    for row in OTHER_SPACES {
+    for &row in OTHER_SPACES {
         rows_give(rt.alloc(), &rt, row, Some(ReadFault::Address(1)));
     }
 }
@@ -233,7 +233,7 @@ fn the_first_faulty_record_decides(rt: HostRuntime) {
 }
 
 /// First records that do not name the columns.
-const OTHER_COLUMNS: [&[u8]; 8] = [
+const OTHER_COLUMNS: &[&[u8]] = &[
     b"kind,prefix,group\n",
     b"kind,prefix,group,addresses,\n",
     b"prefix,kind,group,addresses\n",
@@ -246,7 +246,7 @@ const OTHER_COLUMNS: [&[u8]; 8] = [
 
 #[test]
 fn other_columns_are_refused(rt: HostRuntime) {
-    for text in OTHER_COLUMNS {
+    for &text in OTHER_COLUMNS {
         gives(rt.alloc(), &rt, text, Some(ReadFault::Columns));
     }
 }
@@ -257,7 +257,7 @@ fn reads_nothing(alloc: Global, rt: &impl Abort, text: &[u8]) {
 }
 
 /// Texts without a row.
-const NO_ROWS: [&[u8]; 5] = [
+const NO_ROWS: &[&[u8]] = &[
     b"",
     b"\n\r\n",
     b"\xef\xbb\xbf",
@@ -267,7 +267,7 @@ const NO_ROWS: [&[u8]; 5] = [
 
 #[test]
 fn no_row_is_the_register_without_items(rt: HostRuntime) {
-    for text in NO_ROWS {
+    for &text in NO_ROWS {
         reads_nothing(rt.alloc(), &rt, text);
     }
 }
@@ -317,7 +317,7 @@ fn row_gives(alloc: Global, rt: &impl Abort, row: &[u8], fault: ReadFault) {
 }
 
 /// Rows with a byte that is no text, and the fault of its field.
-const NO_TEXTS: [(&[u8], ReadFault); 4] = [
+const NO_TEXTS: &[(&[u8], ReadFault)] = &[
     (b"\xff,,,", ReadFault::Kind(1)),
     (b"node,\xff,ten,", ReadFault::Prefix(1)),
     (b"node,*,t\xffn,", ReadFault::Name(1)),
@@ -326,7 +326,7 @@ const NO_TEXTS: [(&[u8], ReadFault); 4] = [
 
 #[test]
 fn bytes_that_are_no_text_are_faults_of_their_field(rt: HostRuntime) {
-    for (row, fault) in NO_TEXTS {
+    for &(row, fault) in NO_TEXTS {
         row_gives(rt.alloc(), &rt, row, fault);
     }
 }
@@ -362,7 +362,7 @@ fn reads_sites(alloc: Global, rt: &impl Abort, rows: u32) {
 }
 
 /// What stands behind 65535 rows, and the fault.
-const TOO_MANY: [(&str, ReadFault); 4] = [
+const TOO_MANY: &[(&str, ReadFault)] = &[
     ("site,*,,\n", ReadFault::TooMany),
     ("zone,*,,\n", ReadFault::TooMany),
     ("site,*\n", ReadFault::Csv(65_536)),
@@ -372,7 +372,7 @@ const TOO_MANY: [(&str, ReadFault); 4] = [
 #[test]
 fn there_are_at_most_65535_rows(rt: HostRuntime) {
     reads_sites(rt.alloc(), &rt, 65_535);
-    for (last, fault) in TOO_MANY {
+    for &(last, fault) in TOO_MANY {
         many_give(rt.alloc(), &rt, 65_535, last, Some(fault));
     }
 }
@@ -431,7 +431,7 @@ fn tells_row(rt: &impl Abort, fault: ReadFault, row: Option<u32>) {
 }
 
 /// Faults, what is printed of them, and their row.
-const FAULTS: [(ReadFault, &str, Option<u32>); 9] = [
+const FAULTS: &[(ReadFault, &str, Option<u32>)] = &[
     (ReadFault::Csv(9), "1 Csv", Some(9)),
     (ReadFault::Columns, "2 Columns", None),
     (ReadFault::Kind(1), "3 Kind", Some(1)),
@@ -445,16 +445,23 @@ const FAULTS: [(ReadFault, &str, Option<u32>); 9] = [
 
 #[test]
 fn faults_are_written_and_tell_their_row(rt: HostRuntime) {
-    for (fault, written, row) in FAULTS {
+    for &(fault, written, row) in FAULTS {
         prints(rt.alloc(), &rt, fault, written);
         tells_row(&rt, fault, row);
     }
 }
 
-/// Three zones of which the third is of Map-Servers, and two sites of which the second has no ETR.
-fn judge_first_rows(rt: &impl Abort, zones: &[Zone], sites: &[Site]) {
+/// Three zones of which the third is of Map-Servers.
+fn judge_first_of_map_servers(rt: &impl Abort, zones: &[Zone]) {
     assert_eq!(rt; first_row(zones, |z| z.kind == Role::Ms), Some(6));
+}
+
+fn judge_first_of_many_digits(rt: &impl Abort, zones: &[Zone]) {
     assert_eq!(rt; first_row(zones, |z| z.prefix.len() > 100), None);
+}
+
+/// Two sites of which the second has no ETR.
+fn judge_first_without_etrs(rt: &impl Abort, sites: &[Site]) {
     assert_eq!(rt; first_row(sites, |s| s.etrs.as_slice().is_empty()), Some(8));
 }
 
@@ -469,6 +476,8 @@ fn judge_matches(rt: &impl Abort, zones: &[Zone], sites: &[Site]) {
 #[test]
 fn the_row_of_the_first_item_that_passes(rt: HostRuntime) {
     let campus = read(rt.alloc(), &rt, CAMPUS.as_bytes());
-    judge_first_rows(&rt, campus.zones.as_slice(), campus.sites.as_slice());
+    judge_first_of_map_servers(&rt, campus.zones.as_slice());
+    judge_first_of_many_digits(&rt, campus.zones.as_slice());
+    judge_first_without_etrs(&rt, campus.sites.as_slice());
     judge_matches(&rt, campus.zones.as_slice(), campus.sites.as_slice());
 }

@@ -114,7 +114,7 @@ fn fast_and_plain_bodies_agree(rt: HostRuntime) -> Result<(), Fail> {
     assert_eq!(rt; rows.len(), 8, "the rows of the campus");
     let rules = rules_of_many(rt.alloc(), &rt, rows.as_slice());
     are_broken(&rt, rules.as_slice(), None, 100);
-    for rule in RULES {
+    for &rule in RULES {
         are_broken(&rt, rules.as_slice(), Some(rule), 25);
     }
     Ok(())

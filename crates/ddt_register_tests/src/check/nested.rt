@@ -53,7 +53,7 @@ fn are_east(servers: LocatorSet) -> bool {
 }
 
 /// A ninth row, an identifier, whether its site is registered, and the prefix.
-const ASSIGNED: [(&str, &str, bool, &str); 4] = [
+const ASSIGNED: &[(&str, &str, bool, &str)] = &[
     (REGISTERED_INSIDE, "[0]10.1.4.7", false, "[0]10.1.4.0/25"),
     (REGISTERED_INSIDE, "[0]10.1.4.200", true, "[0]10.1.4.128/25"),
     (SILENT_INSIDE, "[0]10.1.2.3", true, "[0]10.1.2.0/24"),
@@ -70,7 +70,7 @@ fn assigns(rt: &impl Abort, accepted: &Accepted, x: Xeid, is_registered: bool, p
 
 #[test]
 fn sites_inside_sites_are_assigned(rt: HostRuntime) {
-    for (row, x, is_registered, wanted) in ASSIGNED {
+    for &(row, x, is_registered, wanted) in ASSIGNED {
         let accepted = campus_with(rt.alloc(), &rt, row);
         assigns(
             &rt,
@@ -83,7 +83,7 @@ fn sites_inside_sites_are_assigned(rt: HostRuntime) {
 }
 
 /// A ninth row, the server that is asked, the identifier, and what it answers.
-const ANSWERED: [(&str, Locator, &str, Action, &str); 2] = [
+const ANSWERED: &[(&str, Locator, &str, Action, &str)] = &[
     (
         REGISTERED_INSIDE,
         FIRST,
@@ -114,7 +114,7 @@ fn answers(
 
 #[test]
 fn sites_inside_sites_are_answered(rt: HostRuntime) {
-    for (row, server, x, action, wanted) in ANSWERED {
+    for &(row, server, x, action, wanted) in ANSWERED {
         let accepted = campus_with(rt.alloc(), &rt, row);
         let wanted = (action, prefix(&rt, wanted));
         answers(&rt, &accepted, server, identifier(&rt, x), wanted);

@@ -16,7 +16,7 @@ use ddt_path::{Locator, MOST_LOCATORS, Name, Prefix, Role, are_distinct, longest
 use ddt_register::{Group, Register, Site, Zone};
 
 /// The rules in the order of their numbers.
-pub const RULES: [Rule; 10] = [
+pub const RULES: &[Rule] = &[
     Rule::NoRoot,
     Rule::DuplicateZone,
     Rule::DuplicateSite,
@@ -31,7 +31,7 @@ pub const RULES: [Rule; 10] = [
 
 /// The broken rule of least number, with the least row that breaks it.
 pub fn first_fault(register: &Register) -> Option<Fault> {
-    for rule in RULES {
+    for &rule in RULES {
         if let Some(row) = first_row(register, rule) {
             return Some(Fault { rule, row });
         }

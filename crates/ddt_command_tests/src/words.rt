@@ -67,7 +67,7 @@ fn with_bars(alloc: Global, words: &[&str]) -> Result<String, AllocError> {
 }
 
 /// Parts of a call of `assign`; of the last one it takes none.
-const ASSIGNED: [(Part, &str); 4] = [
+const ASSIGNED: &[(Part, &str)] = &[
     (Part::Command, "assign"),
     (Part::Value("register"), "a register.csv"),
     (Part::Value("xeid"), "[0]10.1.2.3"),
@@ -77,7 +77,7 @@ const ASSIGNED: [(Part, &str); 4] = [
 #[test]
 fn a_command_has_its_words(rt: HostRuntime) -> Result<(), Fail> {
     let words = process(rt.alloc(), &["assign", "a register.csv", "[0]10.1.2.3"])?;
-    for (part, text) in ASSIGNED {
+    for &(part, text) in ASSIGNED {
         let said = said_of(rt.alloc(), &words, part)?;
         assert_eq!(rt; said.as_str(), text, "{part:?}");
     }
@@ -85,7 +85,7 @@ fn a_command_has_its_words(rt: HostRuntime) -> Result<(), Fail> {
 }
 
 /// The same call, with its options in front, behind, and in the middle.
-const LOOKUPS: [&[&str]; 3] = [
+const LOOKUPS: &[&[&str]] = &[
     &[
         "lookup",
         "--me",
@@ -117,7 +117,7 @@ const LOOKUPS: [&[&str]; 3] = [
 ];
 
 /// Parts of each of these.
-const LOOKED_UP: [(Part, &str); 4] = [
+const LOOKED_UP: &[(Part, &str)] = &[
     (Part::Value("register"), "f"),
     (Part::Setting("me"), "127.0.0.53"),
     (Part::Setting("seed"), "7"),
@@ -126,9 +126,9 @@ const LOOKED_UP: [(Part, &str); 4] = [
 
 #[test]
 fn the_value_of_an_option_is_no_argument(rt: HostRuntime) -> Result<(), Fail> {
-    for words in LOOKUPS {
+    for &words in LOOKUPS {
         let words = process(rt.alloc(), words)?;
-        for (part, text) in LOOKED_UP {
+        for &(part, text) in LOOKED_UP {
             let said = said_of(rt.alloc(), &words, part)?;
             assert_eq!(rt; said.as_str(), text, "{part:?} of {words:?}");
         }
@@ -144,7 +144,7 @@ fn an_option_may_be_left_out(rt: HostRuntime) -> Result<(), Fail> {
     Ok(())
 }
 
-const BAD: [&[&str]; 14] = [
+const BAD: &[&[&str]] = &[
     &[],
     &[""],
     &["assign"],
@@ -166,7 +166,7 @@ const FAULT: &str = "1 Bad";
 
 #[test]
 fn words_of_no_command_are_bad(rt: HostRuntime) -> Result<(), Fail> {
-    for words in BAD {
+    for &words in BAD {
         let words = process(rt.alloc(), words)?;
         let said = said_of(rt.alloc(), &words, Part::Command)?;
         assert_eq!(rt; said.as_str(), FAULT, "the fault of {words:?}");

@@ -9,7 +9,7 @@ use std::alloc::Global;
 use std::test::Fail;
 
 /// A register, and words whose lines or whose refusal have more than eight bytes.
-const LONG: [(&str, &[&str]); 8] = [
+const LONG: &[(&str, &[&str])] = &[
     (CAMPUS, &["assign", "register.csv", "[0]10.1.2.3"]),
     (CAMPUS, &["compile", "register.csv", "root"]),
     (CAMPUS, &["compile", "register.csv", "west"]),
@@ -55,7 +55,7 @@ fn run_in_eight(
 
 #[test]
 fn what_a_full_writer_refuses_is_unprinted(rt: HostRuntime) -> Result<(), Fail> {
-    for (register, words) in LONG {
+    for &(register, words) in LONG {
         let (status, _, _) = run_in_eight(rt.alloc(), register, words)?;
         assert_eq!(rt; status, Unprinted, "the status of {words:?}");
     }

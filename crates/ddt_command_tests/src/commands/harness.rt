@@ -94,6 +94,42 @@ pub fn run_at<C: Clock, W: Write, E: Write>(
     Ok(run(alloc, &all, open_file, wires, clock, bind, out, err))
 }
 
+/// What a command prints on each stream.
+#[derive(Drop)]
+pub struct Printed {
+    pub out: Vec<u8>,
+    pub err: Vec<u8>,
+}
+
+impl Printed {
+    pub fn nothing(alloc: Global) -> Printed {
+        Printed {
+            out: Vec::new(alloc),
+            err: Vec::new(alloc),
+        }
+    }
+
+    /// Runs `ddt` with these words at a place, over these wires and this clock, and keeps what it prints.
+    pub fn run<C: Clock>(
+        &mut self,
+        alloc: Global,
+        place: Place<'_>,
+        wires: &mut WiresInMemory,
+        clock: &mut C,
+        words: &[&str],
+    ) -> Result<Status, Fail> {
+        run_at(
+            alloc,
+            place,
+            wires,
+            clock,
+            words,
+            &mut self.out,
+            &mut self.err,
+        )
+    }
+}
+
 /// How a command ends, and what is printed on each stream.
 pub type End<'a> = (Status, &'a str, &'a str);
 
@@ -107,9 +143,9 @@ pub fn ends_at<R: Abort, C: Clock>(
     words: &[&str],
     want: End<'_>,
 ) -> Result<(), Fail> {
-    let (mut out, mut err) = (Vec::new(alloc), Vec::new(alloc));
-    let status = run_at(alloc, place, wires, clock, words, &mut out, &mut err)?;
-    compares(rt, words, status, &out, &err, want);
+    let mut printed = Printed::nothing(alloc);
+    let status = printed.run(alloc, place, wires, clock, words)?;
+    compares(rt, words, status, &printed, want);
     Ok(())
 }
 
@@ -118,13 +154,20 @@ pub fn compares<R: Abort>(
     rt: &R,
     words: &[&str],
     status: Status,
-    out: &[u8],
-    err: &[u8],
+    printed: &Printed,
     want: End<'_>,
 ) {
-    assert_eq!(rt; status, want.0, "the status of {words:?}");
-    assert_eq!(rt; out, want.1.as_bytes(), "what {words:?} prints");
-    assert_eq!(rt; err, want.2.as_bytes(), "what {words:?} refuses");
+    has_status(rt, words, status, want.0);
+    has_text(rt, words, "prints", &printed.out, want.1);
+    has_text(rt, words, "refuses", &printed.err, want.2);
+}
+
+fn has_status<R: Abort>(rt: &R, words: &[&str], status: Status, want: Status) {
+    assert_eq!(rt; status, want, "the status of {words:?}");
+}
+
+fn has_text<R: Abort>(rt: &R, words: &[&str], does: &str, text: &[u8], want: &str) {
+    assert_eq!(rt; text, want.as_bytes(), "what {words:?} {does}");
 }
 
 /// The same at moment 0, where so many calls are made over the wires.

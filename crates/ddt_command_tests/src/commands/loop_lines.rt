@@ -1,7 +1,7 @@
 //! `ddt loop`, over wires in memory: at the resolver's socket wait the replies of the campus's servers.
 
 use super::harness::{
-    End, PORT, Place, Source, add, at_start, ends, ends_at, message, refuses, run_at, with_byte,
+    End, PORT, Place, Printed, Source, add, at_start, ends, ends_at, message, refuses, with_byte,
 };
 use ddt_commands::Status;
 use ddt_commands::Status::{Answered, Incomplete, Refused};
@@ -45,21 +45,18 @@ type Reply = (Locator, &'static str, &'static str, u8);
 
 /// What a group of the campus replies to a request of this nonce for an identifier.
 fn reply(alloc: Global, group: &str, xeid: &str, nonce: u8) -> Result<Vec<u8>, Fail> {
-    let (mut out, mut err) = (Vec::new(alloc), Vec::new(alloc));
+    let mut printed = Printed::nothing(alloc);
+    answer(alloc, &mut printed, group, xeid)?;
+    let digits = printed.out.strip_suffix(b"\n").unwrap_or(&[]);
+    Ok(with_byte(hex::decode(alloc, digits)?, 11, nonce))
+}
+
+/// Prints what a group of the campus answers of an identifier.
+fn answer(alloc: Global, printed: &mut Printed, group: &str, xeid: &str) -> Result<Status, Fail> {
     let words = ["answer", "register.csv", group, xeid];
     let mut wires = WiresInMemory::new(alloc, 0);
     let place = Place::of_register(CAMPUS);
-    run_at(
-        alloc,
-        place,
-        &mut wires,
-        &mut at_start(),
-        &words,
-        &mut out,
-        &mut err,
-    )?;
-    let digits = out.as_slice().strip_suffix(b"\n").unwrap_or(&[]);
-    Ok(with_byte(hex::decode(alloc, digits)?, 11, nonce))
+    printed.run(alloc, place, &mut wires, &mut at_start(), &words)
 }
 
 /// Lets these replies wait at the resolver, in their order.
@@ -87,7 +84,7 @@ const BOTH: &str = "[0]10.1.2.3 registered [0]10.1.2.0/24 127.0.1.1 127.0.1.2\n\
 
 /// The turns, how the two lookups end, and the calls. In all these are two asks; sixteen turns, since the resolver's
 /// socket is the first of five; and two requests more.
-const TURNS: [(&str, Status, &str, usize); 6] = [
+const TURNS: &[(&str, Status, &str, usize)] = &[
     ("0", Incomplete, NONE, 2),
     ("5", Incomplete, NONE, 8),
     ("6", Incomplete, ONE, 9),
@@ -99,7 +96,7 @@ const TURNS: [(&str, Status, &str, usize); 6] = [
 #[test]
 fn each_turn_is_used(rt: HostRuntime) -> Result<(), Fail> {
     let alloc = rt.alloc();
-    for (turns, status, lines, calls) in TURNS {
+    for &(turns, status, lines, calls) in TURNS {
         let mut wires = WiresInMemory::new(alloc, 0);
         add_all(&mut wires, alloc, &CAMPUS_REPLIES)?;
         let words = [
@@ -128,7 +125,7 @@ fn each_identifier_has_its_line(rt: HostRuntime) -> Result<(), Fail> {
 }
 
 /// Words, by how much the clock steps, and how the lookup ends without an outcome.
-const ENDS: [(&[&str], u64, End<'static>); 3] = [
+const ENDS: &[(&[&str], u64, End<'static>)] = &[
     (
         &["loop", "register.csv", "[0]010.1.2.3"],
         0,
@@ -153,7 +150,7 @@ const ENDS: [(&[&str], u64, End<'static>); 3] = [
 
 #[test]
 fn an_end_without_an_outcome_is_told(rt: HostRuntime) -> Result<(), Fail> {
-    for (words, step, want) in ENDS {
+    for &(words, step, want) in ENDS {
         let mut wires = WiresInMemory::new(rt.alloc(), 0);
         let next = at_start().at;
         let mut clock = SteppingClock { next, step };
@@ -195,6 +192,13 @@ fn asked_by_itr(alloc: Global) -> Result<WiresInMemory, Fail> {
     Ok(wires)
 }
 
+/// How many times the ITR was sent its negative Map-Reply.
+fn times_told(alloc: Global, wires: &WiresInMemory) -> Result<usize, Fail> {
+    let reply = message(alloc, NEGATIVE_REPLY)?;
+    let calls = wires.told().ok_or("no memory")?;
+    Ok(calls.iter().filter(|call| tells_itr(call, &reply)).count())
+}
+
 #[test]
 fn an_itr_gets_its_negative_map_reply(rt: HostRuntime) -> Result<(), Fail> {
     let alloc = rt.alloc();
@@ -204,15 +208,13 @@ fn an_itr_gets_its_negative_map_reply(rt: HostRuntime) -> Result<(), Fail> {
     let (want, mut clock) = ((Answered, line, ""), at_start());
     let place = campus(&[], None);
     ends_at(&rt, alloc, place, &mut wires, &mut clock, &words, want)?;
-    let reply = message(alloc, NEGATIVE_REPLY)?;
-    let calls = wires.told().ok_or("no memory")?;
-    let told = calls.iter().filter(|call| tells_itr(call, &reply)).count();
+    let told = times_told(alloc, &wires)?;
     assert_eq!(rt; told, 1);
     Ok(())
 }
 
 /// Words that are refused: the first in the order of the command, and no socket is bound before.
-const REFUSED_WORDS: [(&[&str], &str); 16] = [
+const REFUSED_WORDS: &[(&[&str], &str)] = &[
     (
         &["loop", "missing", "10.1.2.3", "[0]1.2.3", "--me", "x"],
         "bad identifier 2 Bracket\n",
@@ -296,7 +298,7 @@ const REFUSED_WORDS: [(&[&str], &str); 16] = [
 
 #[test]
 fn the_first_of_what_stands_in_its_way_is_named(rt: HostRuntime) -> Result<(), Fail> {
-    for (words, line) in REFUSED_WORDS {
+    for &(words, line) in REFUSED_WORDS {
         let place = campus(&[], Some(ErrorKind::AddrInUse));
         refuses(&rt, rt.alloc(), place, words, line)?;
     }
@@ -304,7 +306,7 @@ fn the_first_of_what_stands_in_its_way_is_named(rt: HostRuntime) -> Result<(), F
 }
 
 /// The addresses that are free, why another can't be bound, and what is refused.
-const BOUND_BEFORE: [(&[Locator], ErrorKind, &str); 6] = [
+const BOUND_BEFORE: &[(&[Locator], ErrorKind, &str)] = &[
     (&[], ErrorKind::AddrInUse, "cannot bind 127.0.0.53\n"),
     (&[ME], ErrorKind::AddrInUse, "cannot bind 127.0.0.1\n"),
     (
@@ -328,7 +330,7 @@ const BOUND_BEFORE: [(&[Locator], ErrorKind, &str); 6] = [
 #[test]
 fn sockets_are_bound_in_order(rt: HostRuntime) -> Result<(), Fail> {
     let words = ["loop", "register.csv", "[0]10.1.2.3"];
-    for (free, kind, line) in BOUND_BEFORE {
+    for &(free, kind, line) in BOUND_BEFORE {
         let place = campus(free, Some(kind));
         refuses(&rt, rt.alloc(), place, &words, line)?;
     }
@@ -336,7 +338,7 @@ fn sockets_are_bound_in_order(rt: HostRuntime) -> Result<(), Fail> {
 }
 
 /// Rows of registers, and what is refused of them before a socket is bound.
-const REFUSED_ROWS: [(&str, &str); 4] = [
+const REFUSED_ROWS: &[(&str, &str)] = &[
     (
         "group-node,,root,127.0.0.1 192.0.2.1\nnode,*,root,\n",
         "not a loopback address 192.0.2.1\n",
@@ -352,7 +354,7 @@ const REFUSED_ROWS: [(&str, &str); 4] = [
 #[test]
 fn a_register_is_read_before_a_socket_is_bound(rt: HostRuntime) -> Result<(), Fail> {
     let words = ["loop", "register.csv", "[0]10.1.2.3"];
-    for (rows, line) in REFUSED_ROWS {
+    for &(rows, line) in REFUSED_ROWS {
         let register = format!(in rt.alloc(); "{COLUMNS}{rows}")?;
         let place = Place::of_register(register.as_str());
         refuses(&rt, rt.alloc(), place, &words, line)?;

@@ -1,6 +1,6 @@
 //! `run_script`: a replay without the words that ask for it.
 
-use super::harness::{End, Source, compares};
+use super::harness::{End, Printed, Source, compares};
 use ddt_commands::Status::{Answered, Refused};
 use ddt_commands::{Replay, run_script};
 use ddt_examples::registers::CAMPUS;
@@ -28,13 +28,19 @@ fn plays<R: Abort>(rt: &R, alloc: Global, script: Source<'_>, want: End<'_>) {
             Some(script)
         }
     };
-    let (mut out, mut err) = (Vec::new(alloc), Vec::new(alloc));
-    let status = run_script(alloc, &REPLAY, open_file, &mut out, &mut err);
-    compares(rt, &[REPLAY.script], status, &out, &err, want);
+    let mut printed = Printed::nothing(alloc);
+    let status = run_script(
+        alloc,
+        &REPLAY,
+        open_file,
+        &mut printed.out,
+        &mut printed.err,
+    );
+    compares(rt, &[REPLAY.script], status, &printed, want);
 }
 
 /// Scripts with their lines.
-const SCRIPTS: [(&str, &str); 3] = [
+const SCRIPTS: &[(&str, &str)] = &[
     (INTERLEAVED, INTERLEAVED_LINES),
     (HOLE_ENDS, HOLE_ENDS_LINES),
     (NEXT_SERVER, NEXT_SERVER_LINES),
@@ -42,7 +48,7 @@ const SCRIPTS: [(&str, &str); 3] = [
 
 #[test]
 fn each_step_has_its_line(rt: HostRuntime) -> Result<(), Fail> {
-    for (script, lines) in SCRIPTS {
+    for &(script, lines) in SCRIPTS {
         let script = Source::Bytes(script.as_bytes());
         plays(&rt, rt.alloc(), script, (Answered, lines, ""));
     }

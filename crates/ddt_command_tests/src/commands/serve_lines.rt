@@ -57,7 +57,7 @@ fn tried(call: Option<&Call>, addressee: Locator, sent: &[u8]) -> bool {
 }
 
 /// The turns, what the server counts, and the calls that it makes.
-const TURNS: [(&str, &str, usize); 5] = [
+const TURNS: &[(&str, &str, usize)] = &[
     ("0", "received 0 replied 0\n", 0),
     ("1", "received 1 replied 1\n", 3),
     ("2", "received 2 replied 1\n", 4),
@@ -67,7 +67,7 @@ const TURNS: [(&str, &str, usize); 5] = [
 
 #[test]
 fn each_turn_is_used(rt: HostRuntime) -> Result<(), Fail> {
-    for (turns, line, calls) in TURNS {
+    for &(turns, line, calls) in TURNS {
         let mut wires = busy(rt.alloc())?;
         let words = ["serve", "east.toml", "127.0.1.1", turns];
         let want = (Answered, line, "");
@@ -86,10 +86,30 @@ fn each_turn_is_used(rt: HostRuntime) -> Result<(), Fail> {
 
 /// Which call sends, to whom, and what: the referral of the worked messages, or the request without its bit that says
 /// that a resolver sent it.
-const SENT: [(usize, Locator, &str, Option<u8>); 2] = [
+const SENT: &[(usize, Locator, &str, Option<u8>)] = &[
     (1, RESOLVER, EAST_ACKNOWLEDGES, None),
     (2, ETR, DDT_REQUEST, Some(0x80)),
 ];
+
+/// The message, with another first byte where there is one.
+fn beginning(alloc: Global, fields: &str, first: Option<u8>) -> Result<Vec<u8>, Fail> {
+    match first {
+        Some(byte) => Ok(with_byte(message(alloc, fields)?, 0, byte)),
+        None => message(alloc, fields),
+    }
+}
+
+/// Whether a call tried to send this to an address.
+fn sends(
+    alloc: Global,
+    call: Option<&Call>,
+    addressee: Locator,
+    fields: &str,
+    first: Option<u8>,
+) -> Result<bool, Fail> {
+    let sent = beginning(alloc, fields, first)?;
+    Ok(tried(call, addressee, &sent))
+}
 
 #[test]
 fn a_server_counts_what_it_receives_and_replies(rt: HostRuntime) -> Result<(), Fail> {
@@ -99,18 +119,15 @@ fn a_server_counts_what_it_receives_and_replies(rt: HostRuntime) -> Result<(), F
     let want = (Answered, "received 2 replied 1\n", "");
     ends(&rt, alloc, campus(None), &mut wires, &words, want, 5)?;
     let calls = wires.told().ok_or("no memory")?;
-    for (number, addressee, fields, first) in SENT {
-        let sent = match first {
-            Some(byte) => with_byte(message(alloc, fields)?, 0, byte),
-            None => message(alloc, fields)?,
-        };
-        assert!(rt; tried(calls.get(number), addressee, &sent), "call {number}");
+    for &(number, addressee, fields, first) in SENT {
+        let is_sent = sends(alloc, calls.get(number), addressee, fields, first)?;
+        assert!(rt; is_sent, "call {number}");
     }
     Ok(())
 }
 
 /// Words that are refused: the first in the order of the command, and no socket is bound before.
-const REFUSED_WORDS: [(&[&str], &str); 15] = [
+const REFUSED_WORDS: &[(&[&str], &str)] = &[
     (&["serve", "missing", "127.0.1.256", "x"], "bad address\n"),
     (&["serve", "missing", "", "x"], "bad address\n"),
     (&["serve", "missing", "[0]127.0.1.1", "x"], "bad address\n"),
@@ -154,7 +171,7 @@ const REFUSED_WORDS: [(&[&str], &str); 15] = [
 
 #[test]
 fn the_first_of_what_stands_in_its_way_is_named(rt: HostRuntime) -> Result<(), Fail> {
-    for (words, line) in REFUSED_WORDS {
+    for &(words, line) in REFUSED_WORDS {
         let place = campus(Some(ErrorKind::AddrInUse));
         refuses(&rt, rt.alloc(), place, words, line)?;
     }
@@ -162,7 +179,7 @@ fn the_first_of_what_stands_in_its_way_is_named(rt: HostRuntime) -> Result<(), F
 }
 
 /// Files, and what is refused of them before a socket is bound.
-const REFUSED_FILES: [(Source<'static>, &str); 7] = [
+const REFUSED_FILES: &[(Source<'static>, &str)] = &[
     (Source::Broken, "cannot open east.toml\n"),
     (Source::Bytes(b"\xff"), "bad configuration 1 Toml\n"),
     (Source::Bytes(b"name =\n"), "bad configuration 1 Toml\n"),
@@ -181,7 +198,7 @@ const REFUSED_FILES: [(Source<'static>, &str); 7] = [
 #[test]
 fn a_configuration_is_read_before_a_socket_is_bound(rt: HostRuntime) -> Result<(), Fail> {
     let words = ["serve", "east.toml", "127.0.1.1", "1"];
-    for (file, line) in REFUSED_FILES {
+    for &(file, line) in REFUSED_FILES {
         let place = with_file(file, Some(ErrorKind::AddrInUse));
         refuses(&rt, rt.alloc(), place, &words, line)?;
     }

@@ -134,22 +134,16 @@ fn a_request_in_another_form_is_read(rt: HostRuntime) {
 }
 
 /// Another last byte, another option, and a source EID that seems to end behind the datagram.
-const OTHER_FORM_CHANGED: &[([(usize, u8); 2], RequestFault)] = &[
-    ([(98, 0xab), (1, 0)], RequestFault::UdpChecksum),
-    ([(25, 2), (1, 0)], RequestFault::IpChecksum),
-    ([(54, 0x0a), (34, 0xc4)], RequestFault::Short),
+const OTHER_FORM_CHANGED: &[(&[(usize, u8)], RequestFault)] = &[
+    (&[(98, 0xab), (1, 0)], RequestFault::UdpChecksum),
+    (&[(25, 2), (1, 0)], RequestFault::IpChecksum),
+    (&[(54, 0x0a), (34, 0xc4)], RequestFault::Short),
 ];
 
 #[test]
 fn a_request_in_another_form_is_refused_when_changed(rt: HostRuntime) {
     for &(changes, fault) in OTHER_FORM_CHANGED {
-        refuses_changed(
-            rt.alloc(),
-            &rt,
-            ITR_REQUEST_IN_ANOTHER_FORM,
-            &changes,
-            fault,
-        );
+        refuses_changed(rt.alloc(), &rt, ITR_REQUEST_IN_ANOTHER_FORM, changes, fault);
     }
 }
 
@@ -249,23 +243,23 @@ fn refuses_without_a_sum(
 }
 
 /// What is changed in the Map-Request, and its fault.
-const CHANGED_MAP_REQUESTS: &[([(usize, u8); 1], RequestFault)] = &[
-    ([(55, 2)], RequestFault::Short),
-    ([(45, 2)], RequestFault::Short),
-    ([(47, 2)], RequestFault::Short),
-    ([(32, 0x20)], RequestFault::RequestType),
-    ([(35, 2)], RequestFault::RecordCount),
-    ([(45, 3)], RequestFault::EidFamily),
-    ([(55, 3)], RequestFault::EidFamily),
-    ([(47, 3)], RequestFault::RlocFamily),
-    ([(53, 31)], RequestFault::NotHost),
-    ([(53, 33)], RequestFault::NotHost),
+const CHANGED_MAP_REQUESTS: &[(&[(usize, u8)], RequestFault)] = &[
+    (&[(55, 2)], RequestFault::Short),
+    (&[(45, 2)], RequestFault::Short),
+    (&[(47, 2)], RequestFault::Short),
+    (&[(32, 0x20)], RequestFault::RequestType),
+    (&[(35, 2)], RequestFault::RecordCount),
+    (&[(45, 3)], RequestFault::EidFamily),
+    (&[(55, 3)], RequestFault::EidFamily),
+    (&[(47, 3)], RequestFault::RlocFamily),
+    (&[(53, 31)], RequestFault::NotHost),
+    (&[(53, 33)], RequestFault::NotHost),
 ];
 
 #[test]
 fn each_fault_of_the_map_request_has_a_datagram(rt: HostRuntime) {
     for &(changes, fault) in CHANGED_MAP_REQUESTS {
-        refuses_without_a_sum(rt.alloc(), &rt, &changes, fault);
+        refuses_without_a_sum(rt.alloc(), &rt, changes, fault);
     }
 }
 
@@ -411,23 +405,23 @@ fn a_wrong_field_is_named_before_the_end(rt: HostRuntime) {
 }
 
 /// Two faults that are put into the request behind its headers, and the first of them.
-const FIRST_FAULTS_BEHIND: &[([(usize, u8); 2], RequestFault)] = &[
-    ([(27, 0xf7), (32, 0x20)], RequestFault::Port),
-    ([(32, 0x20), (35, 2)], RequestFault::RequestType),
-    ([(35, 2), (45, 3)], RequestFault::RecordCount),
-    ([(45, 3), (47, 3)], RequestFault::EidFamily),
-    ([(47, 3), (53, 31)], RequestFault::RlocFamily),
-    ([(34, 1), (55, 3)], RequestFault::RlocFamily),
-    ([(34, 1), (53, 1)], RequestFault::Short),
-    ([(34, 1), (53, 2)], RequestFault::Short),
-    ([(55, 3), (53, 31)], RequestFault::EidFamily),
-    ([(55, 2), (53, 31)], RequestFault::Short),
+const FIRST_FAULTS_BEHIND: &[(&[(usize, u8)], RequestFault)] = &[
+    (&[(27, 0xf7), (32, 0x20)], RequestFault::Port),
+    (&[(32, 0x20), (35, 2)], RequestFault::RequestType),
+    (&[(35, 2), (45, 3)], RequestFault::RecordCount),
+    (&[(45, 3), (47, 3)], RequestFault::EidFamily),
+    (&[(47, 3), (53, 31)], RequestFault::RlocFamily),
+    (&[(34, 1), (55, 3)], RequestFault::RlocFamily),
+    (&[(34, 1), (53, 1)], RequestFault::Short),
+    (&[(34, 1), (53, 2)], RequestFault::Short),
+    (&[(55, 3), (53, 31)], RequestFault::EidFamily),
+    (&[(55, 2), (53, 31)], RequestFault::Short),
 ];
 
 #[test]
 fn the_first_fault_behind_the_headers_is_named(rt: HostRuntime) {
     for &(changes, fault) in FIRST_FAULTS_BEHIND {
-        refuses_without_a_sum(rt.alloc(), &rt, &changes, fault);
+        refuses_without_a_sum(rt.alloc(), &rt, changes, fault);
     }
     // A mask length that is too short, and bytes behind the EID.
     let loose = ipv6_without_a_sum(rt.alloc(), &rt, &[(73, 31), (75, 1)]);

@@ -97,11 +97,14 @@ pub fn run_at<C: Clock, W: Write, E: Write>(
 /// What a command prints on each stream.
 #[derive(Drop)]
 pub struct Printed {
+    /// The bytes on the standard output.
     pub out: Vec<u8>,
+    /// The bytes on the standard error stream.
     pub err: Vec<u8>,
 }
 
 impl Printed {
+    /// Two empty streams.
     pub fn nothing(alloc: Global) -> Printed {
         Printed {
             out: Vec::new(alloc),

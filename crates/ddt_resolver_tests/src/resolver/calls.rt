@@ -36,12 +36,14 @@ pub const TO_TEN: Told = Told {
     servers: &[TEN],
 };
 
+/// A referral of another child of the root to the same server.
 pub const TO_ELEVEN: Told = Told {
     action: Action::NodeReferral,
     prefix: "[0]11.0.0.0/8",
     servers: &[TEN],
 };
 
+/// A referral that names no server.
 pub const TO_NO_SERVER: Told = Told {
     action: Action::NodeReferral,
     prefix: "[0]10.0.0.0/8",
@@ -189,6 +191,7 @@ pub fn gives(
     Ok(())
 }
 
+/// What is given is this line.
 pub fn judge_line(rt: &impl Abort, name: &str, given: &str, line: &str) {
     assert_eq!(rt; given, line, "{name}");
 }

@@ -230,7 +230,7 @@ const BELOW_TEN: Told = Told {
 };
 
 /// The lookup that waits longest is asked again, under a nonce, follows a referral of a server, and then ends as its
-/// next server isn't in charge: it has saved no prefix as long as that of the referral, and it started at the root.
+/// next server isn't in charge. It has saved no prefix as long as that of the referral, and it started at the root.
 fn ends_below(
     alloc: Global,
     rt: &impl Abort,
@@ -499,11 +499,7 @@ const AFTER_A_LOOP: &[Fate] = &[
 
 #[test]
 fn a_loop_leaves_1023_lookups_as_before(rt: HostRuntime) -> Result<(), Fail> {
-    for fate in [
-        Fate::Found(0, 3),
-        Fate::Silence(1023),
-        Fate::OthersEnd(1026),
-    ] {
+    for &fate in AFTER_A_LOOP {
         a_loop_leaves(rt.alloc(), &rt, fate)?;
     }
     Ok(())

@@ -3,8 +3,8 @@
 # again: the first run gets no memory at its first allocation, the next at its second, and so on up to the run that is
 # given all it asks for. A command is to say `out of memory` with status 1 and print nothing, or to answer what it
 # answers with ample memory. A test is to pass, to end with the error that says that memory is wanted, or to see just
-# that in place of the fault that it looks for. Left out are the commands loop, replay and serve; and the program's own
-# tests, which compare what the commands print. Wants a C compiler. Ends with status 1 where a run does anything else.
+# that in place of the fault that it looks for. Left out are the commands loop, replay and serve. Wants a C compiler.
+# Ends with status 1 where a run does anything else.
 set -u
 cd -- "$(dirname -- "${BASH_SOURCE[0]}")/.." || exit 1
 ./ddt check examples/campus.csv >/dev/null || exit 1
@@ -45,16 +45,18 @@ try_each check "$campus"
 try_each compile "$campus" root
 try_each compile "$campus" east
 try_each lookup "$campus" '[0]10.1.2.3' '[0]10.2.0.1'
-try_each show 600000010000000000000001000005a002185000000000010a0102000164ff00000100017f0001010164ff00000100017f000102
-try_each show 2000000111223344556677880000000f000f2000000000010a020000
+for name in EAST_ACKNOWLEDGES NEGATIVE_REPLY DDT_REQUEST; do
+    message=$(.ci/lines --message "$name") || exit 1
+    try_each show "$message"
+done
 try_each show 840000004500003800000000 # cut short: its refusal takes memory too
-try_each show 8400000045000038000000004011ef7c7f0000350a01020310f610f60024b723100000010000000000000001000000017f000035002000010a010203
 
 # tells_want OUTPUT: the error of the test, behind the words of the call that expected none, or the value at its left is
-# want of memory: a map that is refused memory hands back the pair that it was to insert, and some tests have no register
-# where theirs can't be read
+# want of memory: a map that is refused memory hands back the pair that it was to insert, and some tests have no
+# register where theirs can't be read
 tells_want() {
-    grep -qE '^[a-zA-Z][a-zA-Z -]*: .*(AllocError|AllocFailed|[Mm]emory)|^error: "no register"$|^ *left: ((Some|Err)\((OutOf)?Memory\)|Err\(\(Prefix .*\)\))$' "$1"
+    grep -qE -e '^[a-zA-Z][a-zA-Z -]*: .*(AllocError|AllocFailed|[Mm]emory)|^error: "no register"$' \
+        -e '^ *left: ((Some|Err)\((OutOf)?Memory\)|Err\(\(Prefix .*\)\))$' "$1"
 }
 
 # try_test PROGRAM TEST: a test, with each of its first 2,000 allocations refused in turn

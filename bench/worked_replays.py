@@ -38,54 +38,18 @@ class Worked(typing.NamedTuple):
     seed: int = 1
 
 
-HOLE = "hole [0]10.2.0.0/15"
+def example(name: str) -> list[tuple[str, str]]:
+    """The lines of a replay of examples/replays, which has no empty ones, each with the line that it prints."""
+    script, printed = (EXAMPLES / "replays" / f"{name}.{kind}" for kind in ("replay", "lines"))
+    return list(zip(script.read_text().splitlines(), printed.read_text().splitlines(), strict=True))
+
+
 SERVERS = "127.0.1.1 127.0.1.2"
 NOT_REGISTERED = f"not-registered [0]10.1.4.0/24 {SERVERS}"
 
 WORKED_SCRIPTS = [
-    Worked(
-        "a hole is answered from the cache until its fifteenth minute",
-        CAMPUS,
-        [
-            ("ask [0]10.2.0.1", "ticket 1 sent 0 to 127.0.0.1"),
-            ("deliver 0", "reply 1"),
-            ("deliver 1", "ticket 1 sent 2 to 127.0.0.10"),
-            ("deliver 2", "reply 3"),
-            ("deliver 3", f"ticket 1 answer {HOLE}"),
-            ("wait 60000", "now 60000"),
-            ("ask [0]10.2.0.1", f"answer {HOLE}"),
-            ("wait 840000", "now 900000"),
-            ("ask [0]10.2.0.1", "ticket 3 sent 4 to 127.0.0.10"),
-        ],
-    ),
-    Worked(
-        "two lookups, a repeated reply, a late one and a second try",
-        CAMPUS,
-        [
-            ("ask [0]10.1.2.3", "ticket 1 sent 0 to 127.0.0.1"),
-            ("ask [0]10.2.0.1", "ticket 2 sent 1 to 127.0.0.1"),
-            ("deliver 0", "reply 2"),
-            ("deliver 1", "reply 3"),
-            ("deliver 3", "ticket 2 sent 4 to 127.0.0.10"),
-            ("deliver 2", "ticket 1 sent 5 to 127.0.0.10"),
-            ("deliver 2", "ignored UnknownNonce"),
-            ("deliver 4", "reply 6"),
-            ("deliver 6", f"ticket 2 answer {HOLE}"),
-            ("deliver 6", "ignored UnknownNonce"),
-            ("wait 2000", "now 2000"),
-            ("deliver 5", "reply 7"),
-            ("deliver 7", "ignored Late"),
-            ("tick", "ticket 1 sent 8 to 127.0.0.10"),
-            ("deliver 7", "ignored UnknownNonce"),
-            ("tick", "nothing"),
-            ("deliver 8", "reply 9"),
-            ("deliver 9", "ticket 1 sent 10 to 127.0.1.1"),
-            ("deliver 10", "reply 11"),
-            ("deliver 11", f"ticket 1 answer registered [0]10.1.2.0/24 {SERVERS}"),
-            ("ask [0]10.2.5.5", f"answer {HOLE}"),
-            ("deliver 99", "nothing"),
-        ],
-    ),
+    Worked("a hole is answered from the cache until its fifteenth minute", CAMPUS, example("hole_ends")),
+    Worked("two lookups, a repeated reply, a late one and a second try", CAMPUS, example("interleaved")),
     Worked(
         "the only server is tried twice",
         ROOT_ALONE,

@@ -18,7 +18,7 @@ use ddt_trie::PrefixMap;
 use std::alloc::{AllocError, Global};
 use std::marker::Model;
 
-/// The entries that are live, the time, and the root's locators.
+/// The entries that are live, the time, and the root's locators. Contracts see just these.
 #[derive(Drop)]
 pub struct Cache<M: PrefixMap<Entry>> {
     held: Held<M>,
@@ -81,9 +81,10 @@ impl<M: PrefixMap<Entry>> Cache<M> {
         self.held.root.servers
     }
 
-    /// What holds of each cache: the time is a moment; at most 65,536 entries are live; each ends after the time, at
-    /// most 86,400,000 milliseconds after it, and at most 900,000 where it is negative; none is NOT-AUTHORITATIVE; each
-    /// positive one has a locator and a prefix that isn't everything. The call does nothing.
+    /// What holds of each cache: the time is a moment, and at most 65,536 entries are live. Each entry ends after the
+    /// time, at most 86,400,000 milliseconds after it, and at most 900,000 where it is negative. None is
+    /// NOT-AUTHORITATIVE, and each positive one has a locator and a prefix that isn't everything. The call does
+    /// nothing.
     pub fn in_order(&self)
         ensures { IsInOrder self.now }
     {

@@ -9,7 +9,7 @@ use std::marker::Model;
 /// The last moment, in milliseconds.
 pub const LAST_MOMENT: u64 = 9_223_372_036_854_775_807;
 
-/// A number of milliseconds, at most 9,223,372,036,854,775,807.
+/// A number of milliseconds, at most 9,223,372,036,854,775,807. Contracts see the number.
 #[derive(Clone, Copy, Debug, PartialEq, Eq, PartialOrd, Ord, Hash)]
 pub struct Moment {
     millis: u64,

@@ -67,7 +67,7 @@ impl Accepted {
         }
     }
 
-    /// The group of a name; None where no row has it.
+    /// The group of a name; None where no row has it. The register keeps all rules, as each accepted one does.
     pub fn group_named(&self, name: Name) -> Option<&Group>
         ensures group { option_copied result ≡ group_of_name self.now name }
         ensures accepted { IsAccepted self.now }

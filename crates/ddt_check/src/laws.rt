@@ -13,8 +13,8 @@ pub fn each_identifier_has_a_zone()
     ensures one_group { (r : Register) → IsAccepted r → EachLocatorIsOfOneGroup r }
 {}
 
-/// Each zone is served: its group has a row with 1 to 8 locators, and they are the zone's; and each group row has a first
-/// locator. So what looks up the locators of a zone's group, or the first of a group, never meets its default.
+/// Each zone is served: its group has a row with 1 to 8 locators, and they are the zone's; and each group row has a
+/// first locator. So what looks up the locators of a zone's group, or the first of a group, never meets its default.
 pub fn each_zone_has_servers()
     ensures served { (r : Register) → IsAccepted r → EachZoneHasServers r }
     ensures first { (r : Register) → IsAccepted r → EachGroupHasAFirstLocator r }
@@ -32,7 +32,7 @@ pub fn honest_servers_lead_to_the_assignment()
     ensures agree { (r : Register) → IsAccepted r → ServersOfAGroupAgree r }
 {}
 
-/// What the assignment of one identifier says of others: a registered prefix is a site, and says nothing of them; the
+/// What the assignment of one identifier says of others: a registered prefix is a site, and says nothing of them. The
 /// prefix of a hole, or of a part of a site that isn't registered, is assigned the same for each that it covers.
 pub fn negatives_hold_of_all_that_they_cover()
     ensures registered { (r : Register) → IsAccepted r → RegisteredPrefixesAreSites r }

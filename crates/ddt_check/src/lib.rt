@@ -1,8 +1,8 @@
 //! The check of a register, and what an accepted one says: which Map-Servers or which hole it assigns to an
 //! identifier, and what an honest server answers.
 //!
-//! In reading order: `fault`, `accepted`, `checking` (with `sorting` and `rules` below it), `assigning`, `saying`,
-//! `laws`.
+//! In reading order: `fault`, `accepted`, `checking` (with `sorting` and `rules` below it), `assigning` (with
+//! `lookup` and `holes` below it), `saying`, `laws`.
 #![tactic(auto)]
 
 mod accepted;

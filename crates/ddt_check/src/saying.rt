@@ -10,9 +10,9 @@ use crate::lookup::{next_zone, served_zone};
 use ddt_path::{Locator, Prefix, ReferralRecord, Xeid};
 use ddt_register::Zone;
 
-/// The record that an honest server with this locator answers for an identifier (RFC 8111, sections 6.1, 7.1 and 7.2):
-/// NOT-AUTHORITATIVE where none of its zones covers it, a referral where its longest one is delegated further, else
-/// the record of the assignment. It allocates nothing.
+/// The record that an honest server with this locator answers for an identifier (RFC 8111, sections 6.1, 7.1 and 7.2).
+/// It is NOT-AUTHORITATIVE where none of its zones covers the identifier, and a referral where the longest one that
+/// does is delegated further. Else it is the record of the assignment. The call allocates nothing.
 pub fn says(accepted: &Accepted, l: Locator, x: Xeid) -> ReferralRecord
     ensures { result ≡ says_of accepted.now l (xeid_path x) }
 {

@@ -1,4 +1,5 @@
 -- Which steps the lines of a script spell.
+use Rattle.std.proofs.lemmas.Fmt.{decimal_injective}
 use Rattle.std.proofs.Common.{◌≡◌, ◌≢◌, ℕ, suc, ◌+◌, ◌^◌, ◌<◌, List, [], ◌∷◌, ◌++◌, map, length, take, drop, get_or, codes, decimal, Option, Some, None, Result, Err, Bor, refl, sym, ap, ◌∙◌, subst, arith}
 use Rattle.std.specs.Prelude.{MatchOption}
 use Rattle.std.specs.Iterator.{Yields}
@@ -6,7 +7,6 @@ use Rattle.std.proofs.Math.Seq.{drop-cons}
 use Rattle.std.proofs.lemmas.Iterator.{YieldsList}
 use Rattle.std.proofs.lemmas.Iterator.Consumers.{YieldsList-end, YieldsList-so_far, YieldsList-turn}
 use Rattle.std.proofs.lemmas.List.{take-append-drop}
-use Rattle.std.proofs.lemmas.Option.{same_Some}
 use Rattle.ddt_path.specs.declared.xeid.Xeid.{Xeid}
 use Rattle.ddt_text.specs.FirstFault.{number_in}
 use Rattle.ddt_text.specs.Grammar.{SpellsXeid}
@@ -133,8 +133,7 @@ ended xs t y r u is next v all road = (YieldsList-end road xs t y r u is next).0
 -- ---- one reading at most
 
 number_once : (m n : ℕ) → m < 2 ^ 32 → n < 2 ^ 32 → decimal m ≡ decimal n → m ≡ n
-number_once m n fits small e =
-    same_Some m n (sym (number_in-complete 4294967295 m (omega arith) (omega arith)) ∙ ap (number_in 4294967295) e ∙ number_in-complete 4294967295 n (omega arith) (omega arith))
+number_once m n fits small e = decimal_injective m n (omega arith) (omega arith) e
 
 step_once : (line : List ℕ) (a b : Step) → SpellsStep line a → SpellsStep line b → a ≡ b
 step_once line (Ask x) (Ask y) h k =

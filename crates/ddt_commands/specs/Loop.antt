@@ -14,13 +14,12 @@ use Rattle.ddt_text.specs.Written.{written_xeid}
 use Rattle.ddt_register.specs.declared.register.Register.{Register}
 use Rattle.ddt_check.specs.Zones.{roots}
 use Rattle.ddt_wires.specs.declared.call.Call.{Call as WireCall}
-use Rattle.ddt_wires.specs.Calls.{Tells as TellCalls}
+use Rattle.ddt_wires.specs.Calls.{Tells}
 use Rattle.ddt_resolver.specs.State.{State, fresh}
 use Rattle.ddt_sim.specs.Compiled.{configs_of}
 use Rattle.ddt_loop.specs.declared.ends.LoopEnd.{LoopEnd}
 use Rattle.ddt_loop.specs.declared.ends.LoopEnd.TheVariants.{Answer, GaveUp, Refused, Unresolved}
 use Rattle.ddt_loop.specs.Askers.{has_unresolved}
-use Rattle.ddt_loop.specs.Readings.{Reads}
 use Rattle.ddt_loop.specs.Right.{IsFair, IsRightEnd, RepliesAreOwed, WhenTold, is_poll}
 use Rattle.ddt_loop.specs.Turns.{IsLoop}
 use Rattle.ddt_lines.specs.Lines.{ended, outcome_text}
@@ -89,8 +88,8 @@ pub record IsRun (r : Register) (task : Task) (before after : Option (List WireC
   pub moments : List ℕ
   pub calls : List WireCall
   pub last : State
-  pub reading : Reads read moments reads
-  pub telling : TellCalls before calls after
+  pub reading : Tells read moments reads
+  pub telling : Tells before calls after
   pub run : IsLoop (configs_of r) (fresh (roots r) task.me task.seed) task.me (server_locators r) task.ids.now
       task.turns moments calls ends last
   pub answers : WhereFair r task.me before after (λ told. AllZip (IsRightEnd r) task.ids.now ends)

@@ -13,8 +13,8 @@ use Rattle.ddt_ecm.specs.declared.fault.RequestFault.{RequestFault}
 use Rattle.ddt_ecm.specs.Request as request
 use Rattle.ddt_lines.specs.Lines.{ended, referral_text, reply_text, request_text}
 use Rattle.ddt_words.specs.Call.{Call, value}
-use Rattle.ddt_commands.specs.declared.commands.show.MessageKind.{MessageKind}
-use Rattle.ddt_commands.specs.declared.commands.show.MessageKind.TheVariants.{Reply, Referral, Request}
+use Rattle.ddt_commands.specs.declared.commands.show.MessageType.{MessageType}
+use Rattle.ddt_commands.specs.declared.commands.show.MessageType.TheVariants.{Reply, Referral, Request}
 use Rattle.ddt_commands.specs.declared.refusal.Refusal.{Refusal}
 use Rattle.ddt_commands.specs.declared.refusal.Refusal.TheVariants.{NoMessage, OutOfMemory}
 use Rattle.ddt_commands.specs.declared.refusal.message.MessageRefusal.TheVariants.{NotHex, UnknownMessage, NoReply, NoReferral, NoRequest}
@@ -38,8 +38,8 @@ IsShowText call text = (bytes : List ℕ) × (decode_of (hex_of call) ≡ Ok byt
 abbrev pub type_of : List ℕ → Option ℕ
 type_of bytes = option_map (λ byte. byte / 16) (slice_get bytes 0)
 
--- the type of each kind of message that is shown
-abbrev pub type_number : MessageKind → ℕ
+-- the number of each type of message that is shown
+abbrev pub type_number : MessageType → ℕ
 type_number Reply = map_reply
 type_number Referral = map_referral
 type_number Request = encapsulated

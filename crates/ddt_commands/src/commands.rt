@@ -110,7 +110,8 @@ where
         (over_wires (Binds B.Fn bind) W.calls C.readings wires.old wires.new clock.old clock.new)
         command (call_of words.now) lines.complete lines.text.items) }
     ensures refused { IfErr result (IsWhyOf (ReturnsAt O.Fn open_file) F.remaining
-        (over_wires (Binds B.Fn bind) W.calls C.readings wires.old wires.new clock.old clock.new) command (call_of words.now)) }
+        (over_wires (Binds B.Fn bind) W.calls C.readings wires.old wires.new clock.old clock.new)
+        command (call_of words.now)) }
     ensures quiet { command ≢ CommandAs.Serve → command ≢ CommandAs.Loop → wires.new ≡ wires.old }
     ensures still { command ≢ CommandAs.Loop → clock.new ≡ clock.old }
 {

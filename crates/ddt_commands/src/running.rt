@@ -55,7 +55,8 @@ where
     ensures bad { result ≡ IsBadWords → CallNone (map string_bytes words.now) }
     ensures answered { (complete : Bool) → result ≡ answer_status complete → HasText
         (IsAnswer (FnReturnsAt O.Fn open_file) F.remaining
-        (over_wires (Binds B.Fn bind) W.calls C.readings wires.old wires.new clock.old clock.new) (map string_bytes words.now) complete)
+        (over_wires (Binds B.Fn bind) W.calls C.readings wires.old wires.new clock.old clock.new)
+        (map string_bytes words.now) complete)
         (P.contents out.old) (P.contents out.new) }
     ensures refused { result ≡ IsRefused → HasRefused (IsWhyRefused (FnReturnsAt O.Fn open_file) F.remaining
         (over_wires (Binds B.Fn bind) W.calls C.readings wires.old wires.new clock.old clock.new)
@@ -126,16 +127,19 @@ where
     ensures fits { result ≢ IsBadWords }
     ensures answered { (complete : Bool) → result ≡ answer_status complete → HasText
         (IsTextOf (FnReturnsAt O.Fn open_file) F.remaining
-        (over_wires (Binds B.Fn bind) W.calls C.readings wires.old wires.new clock.old clock.new) command (call_of words.now) complete)
+        (over_wires (Binds B.Fn bind) W.calls C.readings wires.old wires.new clock.old clock.new)
+        command (call_of words.now) complete)
         (P.contents out.old) (P.contents out.new) }
     ensures refused { result ≡ IsRefused → HasRefused (IsWhyOf (FnReturnsAt O.Fn open_file) F.remaining
         (over_wires (Binds B.Fn bind) W.calls C.readings wires.old wires.new clock.old clock.new)
         command (call_of words.now)) (E.contents err.old) (E.contents err.new) }
     ensures unprinted { result ≡ IsUnprinted → HasPartOf
         (IsTextOf (FnReturnsAt O.Fn open_file) F.remaining
-        (over_wires (Binds B.Fn bind) W.calls C.readings wires.old wires.new clock.old clock.new) command (call_of words.now))
+        (over_wires (Binds B.Fn bind) W.calls C.readings wires.old wires.new clock.old clock.new)
+        command (call_of words.now))
         (IsWhyOf (FnReturnsAt O.Fn open_file) F.remaining
-        (over_wires (Binds B.Fn bind) W.calls C.readings wires.old wires.new clock.old clock.new) command (call_of words.now))
+        (over_wires (Binds B.Fn bind) W.calls C.readings wires.old wires.new clock.old clock.new)
+        command (call_of words.now))
         (P.contents out.old) (P.contents out.new) (E.contents err.old) (E.contents err.new) }
     ensures quiet { command ≢ CommandAs.Serve → command ≢ CommandAs.Loop → wires.new ≡ wires.old }
     ensures still { command ≢ CommandAs.Loop → clock.new ≡ clock.old }

@@ -1,7 +1,5 @@
 -- The configuration of a group of an accepted register has the shape that a configuration keeps.
-use Rattle.std.proofs.Common.{◌≡◌, ◌<◌, Bool, true, false, not, ◌&&◌, List, length, refl, sym, ap, ◌∙◌, arith, le-leb}
-use Rattle.std.specs.List.{list_any}
-use Rattle.std.proofs.lemmas.Bool.{false≢true, and_parts}
+use Rattle.std.proofs.Common.{◌≡◌, ◌<◌, Bool, true, false, ◌&&◌, List, length, refl, sym, ap, ◌∙◌, arith, le-leb}
 use Rattle.ddt_path.specs.declared.locator.Locator.{Locator}
 use Rattle.ddt_path.specs.declared.record.Role.{Role}
 use Rattle.ddt_path.specs.declared.record.Role.TheVariants.{Node, Ms}
@@ -20,6 +18,7 @@ use Rattle.ddt_path.proofs.MemberLemmas.{IsIn, fails_at}
 use Rattle.ddt_path.proofs.FrontLemmas.{apart}
 use Rattle.ddt_register.proofs.RisingLemmas.{zones_rise, sites_rise}
 use Rattle.ddt_check.proofs.KeptLemmas.{own_prefix, own_site, few_etrs, role_of_zone, server_set, servers_of_zone}
+use Rattle.ddt_compile.proofs.ChildLemmas.{child_parts}
 use Rattle.ddt_compile.proofs.NoTwoLemmas.{no_two_kept}
 use Rattle.ddt_path.proofs.FilterLemmas.{in_filter, all_kept}
 
@@ -29,14 +28,10 @@ as_set ls h = rw (le-leb 1 (length ls) (omega (arith, h.0)), le-leb (length ls) 
 
 not_between : (r : Register) (z c y : Zone) → is_direct_child r z c ≡ true → is_direct_child r z y ≡ true → IsIn y r.zones → is_strictly_below c.prefix y.prefix ≡ false
 not_between r z c y direct other k =
-    let p = and_parts (is_strictly_below c.prefix z.prefix) (not (list_any (is_between z c) r.zones)) direct in
-    let q = and_parts (is_strictly_below y.prefix z.prefix) (not (list_any (is_between z y) r.zones)) other in
-    let e = fails_at (is_between z c) r.zones y (turned (list_any (is_between z c) r.zones) p.1) k in
+    let p = child_parts r z c direct in
+    let q = child_parts r z y other in
+    let e = fails_at (is_between z c) r.zones y p.1 k in
     ap (λ (b : Bool). b && is_strictly_below c.prefix y.prefix) (sym q.0) ∙ e
-  where
-    turned : (b : Bool) → not b ≡ true → b ≡ false
-    turned false e = refl
-    turned true e = absurd (false≢true e)
 
 children_apart : (r : Register) → IsAccepted r → (z a b : Zone) → is_direct_child r z a ≡ true → is_direct_child r z b ≡ true → IsIn a r.zones → IsIn b r.zones → a.row < b.row → overlaps a.prefix b.prefix ≡ false
 children_apart r accepted z a b da db j k lt =
@@ -45,8 +40,7 @@ children_apart r accepted z a b da db j k lt =
 -- what a zone holds
 children_inside : (r : Register) → IsAccepted r → (z c : Zone) → IsIn c r.zones → is_direct_child r z c ≡ true → is_child_of z.prefix (child_of r c) ≡ true
 children_inside r accepted z c k direct =
-    let p = and_parts (is_strictly_below c.prefix z.prefix) (not (list_any (is_between z c) r.zones)) direct in
-    rw (p.0, as_set (locators_of r c.group) (servers_of_zone r accepted c k)) refl
+    rw ((child_parts r z c direct).0, as_set (locators_of r c.group) (servers_of_zone r accepted c k)) refl
 
 sites_inside : (r : Register) → IsAccepted r → (z : Zone) (s : Site) → IsIn s r.sites → is_site_in z s ≡ true → is_site_of z.prefix (entry_of s) ≡ true
 sites_inside r accepted z s k inside = rw (inside, le-leb (length s.etrs) 8 (few_etrs r accepted s k)) refl

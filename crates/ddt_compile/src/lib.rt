@@ -1,6 +1,6 @@
 //! The compiler: from an accepted register to one configuration for each server group.
 //!
-//! In reading order: `compiling`, `children`, `sites`, `nearest`, `lists`, `locators`, `laws`.
+//! In reading order: `compiling`, `children`, `sites`, `nearest`, `below`, `lists`, `locators`, `laws`.
 #![tactic(auto)]
 
 mod below;

@@ -50,7 +50,7 @@ pub enum ContentDraft {
     Sites(Listed<SiteDraft>),
 }
 
-/// An authority as its table has it, with any number of locators in each list.
+/// An authority as its table has it, with any number of locators in each list. Contracts see it as an authority.
 #[derive(Debug, Drop)]
 pub struct AuthorityDraft {
     pub prefix: Prefix,

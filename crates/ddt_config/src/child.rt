@@ -32,7 +32,7 @@ impl Prefixed for Child {
     }
 }
 
-/// A child as its table has it, with any number of locators.
+/// A child as its table has it, with any number of locators. Contracts see it as a child.
 #[derive(Debug, Drop)]
 pub struct ChildDraft {
     pub prefix: Prefix,

@@ -29,7 +29,7 @@ pub struct ServerConfig {
     pub ghost shaped: { is_shaped_of role locators authorities ≡ true },
 }
 
-/// What the top table holds, of any shape, with any number of locators in each list.
+/// What the top table holds, of any shape, with any number of locators in each list. Contracts see the outline.
 #[derive(Debug, Drop)]
 pub struct Draft {
     name: Name,

@@ -17,9 +17,15 @@ use toml::{Table, de, ser};
 /// The configuration that a text in TOML stands for. At its top stand `name`, `kind` (`node` or `ms`), `locators`, an
 /// array of texts, and `authority`, an array of tables. Such a table holds `prefix`; behind it stands, where nodes are
 /// in charge, `child`, tables of `prefix`, `kind` and `locators`, and where Map-Servers are, `site`, tables of `prefix`
-/// and `etrs`. The arrays of tables may be missing, and other keys are ignored. Refused as 1 Toml where the text is no
-/// TOML; else the first fault in this order decides: 2 Field where a key is missing or holds a value of another kind, 3
-/// Value where a text is malformed for its key; then 4 Shape. 5 Memory may come at any time.
+/// and `etrs`. The arrays of tables may be missing, and other keys are ignored.
+///
+/// Refused, by the first fault in the order of keys, the shape last:
+///
+/// - 1 Toml: the text is no TOML.
+/// - 2 Field: a key is missing that must be there, or a key holds a value of another kind.
+/// - 3 Value: a text isn't of its key's form.
+/// - 4 Shape: each text is right, but no server has such a configuration.
+/// - 5 Memory: memory ran out; it may come in place of any other.
 pub fn from_toml(alloc: Global, text: &str) -> Result<ServerConfig, ConfigFault>
     ensures found { IfOk result (StandsFor text.now) }
     ensures every { (c : ConfigValue) → StandsFor text.now c → (result ≡ Ok c) ⊎ (result ≡ Err ConfigFault.Memory) }

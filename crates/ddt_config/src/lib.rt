@@ -20,7 +20,6 @@ mod values;
 pub use authority::{Authority, Content};
 pub use child::Child;
 pub use config::ServerConfig;
-pub use ddt_path::Prefixed;
 pub use document::{from_toml, to_toml};
 pub use fault::{ConfigFault, Key};
 pub use laws::a_table_is_read_as_what_it_stands_for;

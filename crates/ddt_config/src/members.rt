@@ -27,7 +27,7 @@ fn text_in<'t>(value: &'t Value, key: Key) -> Result<&'t str, ConfigFault>
     value.as_str().ok_or(ConfigFault::Field(key))
 }
 
-/// The table that a value is. Refused as Field of the key where it is none.
+/// The table that a value is. Refused as 2 Field of the key where it is none.
 pub fn table_in<'t>(value: &'t Value, key: Key) -> Result<&'t Table, ConfigFault>
     ensures { IsReadAs (λ t. table_view t.now) result (table_of key (view value.now)) }
 {

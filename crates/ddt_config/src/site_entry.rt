@@ -30,7 +30,7 @@ impl Prefixed for SiteEntry {
     }
 }
 
-/// A site as its table has it, with any number of ETRs.
+/// A site as its table has it, with any number of ETRs. Contracts see it as a site.
 #[derive(Debug, Drop)]
 pub struct SiteDraft {
     pub prefix: Prefix,

@@ -26,7 +26,7 @@ use ddt_path::{Locator, Xeid};
 use std::alloc::{AllocError, Global};
 use std::marker::Model;
 
-/// What an Encapsulated Map-Request says. It lends the datagram for its ITR-RLOCs.
+/// What an Encapsulated Map-Request says. It lends the datagram for its ITR-RLOCs. Contracts see the message.
 #[derive(Debug, Drop)]
 pub struct Request<'a> {
     nonce: u64,
@@ -99,13 +99,30 @@ fn message(bytes: &[u8]) -> Result<Request<'_>, RequestFault>
     })
 }
 
-/// What the datagram says, all of it being one Encapsulated Map-Request for one identifier. Refused, in this order, as
-/// 1 Short within 4 bytes; 2 MessageType; 3 Security; 1 Short without an inner packet; 4 IpVersion; of IPv4 as 1 Short
-/// within 20 bytes, 5 IpLength, 6 IpChecksum, 7 NotUdp, 8 Fragment; of IPv6 as 1 Short within 40 bytes, 5 IpLength, 7
-/// NotUdp; as 9 UdpLength; 10 UdpChecksum, where it is there; 11 Port; 1 Short within 12 bytes of the Map-Request; 12
-/// RequestType; 13 RecordCount; 14 EidFamily or 1 Short of the source EID; for each ITR-RLOC 1 Short without its AFI,
-/// 17 RlocFamily, 1 Short without the address; the EID's 1 Short, 14 EidFamily, 15 Lcaf and 16 NotHost; and, where the
-/// bit M is clear, 18 Trailing (RFC 9301, sections 5.2 and 5.8).
+/// What the datagram says, all of it being one Encapsulated Map-Request for one identifier (RFC 9301,
+/// sections 5.2 and 5.8). Refused, in this order:
+///
+/// - 1 Short: fewer than 4 bytes.
+/// - 2 MessageType: the first four bits aren't 8.
+/// - 3 Security: the bit S is set.
+/// - 1 Short: nothing after the four bytes.
+/// - 4 IpVersion: the inner packet is neither IPv4 nor IPv6.
+/// - 1 Short: fewer than 20 bytes of IPv4, or 40 of IPv6.
+/// - 5 IpLength: a length of the IP header doesn't fit the bytes.
+/// - 6 IpChecksum: the sum over the IPv4 header is wrong.
+/// - 7 NotUdp: the inner protocol isn't UDP.
+/// - 8 Fragment: the inner IPv4 packet is a fragment.
+/// - 9 UdpLength: the UDP length isn't the number of bytes left.
+/// - 10 UdpChecksum: the UDP checksum is wrong; a checksum of 0 counts as absent.
+/// - 11 Port: the inner destination port isn't 4342.
+/// - 1 Short: fewer than 12 bytes of the Map-Request.
+/// - 12 RequestType: the inner message isn't a Map-Request.
+/// - 13 RecordCount: there isn't exactly one record.
+/// - 14 EidFamily, 1 Short: the source EID's AFI is none of 0, 1, 2 and 16387, or it is cut off.
+/// - 17 RlocFamily, 1 Short: an ITR-RLOC's AFI is neither 1 nor 2, or it is cut off.
+/// - 1 Short, 14 EidFamily, 15 Lcaf: the EID, as in a Map-Referral.
+/// - 16 NotHost: the EID is a range of instances, or its mask length isn't 32 for IPv4 or 128 for IPv6.
+/// - 18 Trailing: bytes after the EID, and the bit M is clear.
 pub fn read_request(bytes: &[u8]) -> Result<Request<'_>, RequestFault>
     // The bytes spell what is read.
     ensures found { IfOk result (λ v. Spells bytes.now v) }

@@ -59,7 +59,8 @@ prefix = "[0]10.1.4.0/24"
 etrs = []
 "#;
 
-/// The servers of group `east` of the nested sites: `examples/nested_sites/east.toml`. The other groups are the campus's.
+/// The servers of group `east` of the nested sites: `examples/nested_sites/east.toml`. The other groups are the
+/// campus's.
 pub const NESTED_EAST: &str = r#"kind = "ms"
 locators = ["127.0.1.1", "127.0.1.2"]
 name = "east"

@@ -1,7 +1,7 @@
 //! The worked registers, configurations and messages, each once, for the tests of all crates.
 //!
-//! `registers` and `rows` are CSV, `configurations` are TOML as `ddt compile` prints it, `messages` are hexadecimal, field by field,
-//! and `replays` are scripts with their lines. `Dice` draw what tests try at random.
+//! `registers` and `rows` are CSV, `configurations` are TOML as `ddt compile` prints it, `messages` are hexadecimal,
+//! field by field, and `replays` are scripts with their lines. `Dice` draw what tests try at random.
 #![tactic(auto)]
 
 ghost use Rattle.std.specs.Prelude.{◌≡◌, ◌++◌, [], ◌∷◌, take, Ok, IfOk, OnOk};

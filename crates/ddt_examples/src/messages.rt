@@ -44,8 +44,8 @@ pub const IPV6_REQUEST: &str =
 pub const ITR_REQUEST: &str =
     "80000000 45 00 003c 0000 0000 40 11 f172 7f00003c 0a020001 c350 10f6 0028 0000 10000001 1122334455667788 0001 0a050001 0001 7f00003c 00 20 0001 0a020001";
 
-/// The same ITR's in a form that we don't write: options behind the IPv4 header, the bit M and one more byte at the end,
-/// which makes the length odd, a source EID of instance 7, and ITR-RLOCs of two families.
+/// A request of the same ITR in a form that we don't write. It has options behind the IPv4 header and the bit M. One
+/// more byte at the end makes the length odd. The source EID is of instance 7, and the ITR-RLOCs are of two families.
 pub const ITR_REQUEST_IN_ANOTHER_FORM: &str =
     "80000000 46 00 005f 0000 0000 40 11 ee4e 7f00003c 0a020001 01010100 c350 10f6 0047 ce16 14000101 1122334455667788 4003 0000 02 00 000a 00000007 0001 0a050001 0001 7f00003c 0002 20010db8000000000000000000000035 00 20 0001 0a020001 aa";
 

@@ -1,6 +1,7 @@
 //! Scripts of replays over the campus, each with the lines that it prints.
 
-/// Two lookups at once, with a reply that is repeated, one that is late, and a second try: `examples/replays/interleaved.replay`.
+/// Two lookups at once, with a reply that is repeated, one that is late, and a second try:
+/// `examples/replays/interleaved.replay`.
 pub const INTERLEAVED: &str = r#"ask [0]10.1.2.3
 ask [0]10.2.0.1
 deliver 0

@@ -13,9 +13,9 @@ use ddt_path::{Prefix, Xeid};
 use ddt_trie::{PrefixMap, TrieMap};
 use std::alloc::Global;
 
-/// The form of a map from prefixes that is filled once and then asked often. Beside the tree stands a table, which finds
-/// the longest prefix. The table is given up, and the tree finds it, once an entry is removed, memory is refused to the
-/// table, or the prefixes have more than eight lengths.
+/// The form of a map from prefixes that is filled once and then asked often. Beside the tree stands a table, which
+/// finds the longest prefix. The table is given up, and the tree finds it, once an entry is removed, memory is refused
+/// to the table, or the prefixes have more than eight lengths.
 #[derive(Drop)]
 pub struct HashedMap<V> {
     tree: TrieMap<V>,

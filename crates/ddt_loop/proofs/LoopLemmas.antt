@@ -1,5 +1,5 @@
 -- The asks and the turns so far.
-use Rattle.std.proofs.Common.{◌≡◌, ℕ, zero, suc, ◌+◌, ◌%◌, ◌-◌, ◌<◌, List, [], ◌∷◌, ◌++◌, append_assoc, append-nil, length, get_or, true, Some, None, arith, refl, sym, ap, ◌∙◌}
+use Rattle.std.proofs.Common.{◌≡◌, ℕ, zero, suc, ◌+◌, ◌%◌, ◌-◌, ◌<◌, List, [], ◌∷◌, ◌++◌, length, true, Some, arith, refl, sym, ap, ◌∙◌}
 use Rattle.std.specs.Prelude.{Option, slice_get}
 use Rattle.ddt_path.specs.declared.locator.Locator.{Locator}
 use Rattle.ddt_path.specs.declared.xeid.Xeid.{Xeid}
@@ -9,18 +9,10 @@ use Rattle.ddt_wires.specs.declared.call.Call.{Call}
 use Rattle.ddt_wires.specs.Calls.{Tells}
 use Rattle.ddt_wires.proofs.TellLemmas.{tells_both, tells_none}
 use Rattle.ddt_sim.specs.Compiled.{AreCompiled, reply_at}
-use Rattle.ddt_loop.specs.Readings.{Reads}
 use Rattle.ddt_loop.specs.Askers.{AreOwners, has_unresolved}
 use Rattle.ddt_loop.specs.Acts.{Running, AsksAt}
 use Rattle.ddt_loop.specs.Polls.{PollsMe, IsReply, PollsServer, none_there, failed_there, served, out_of_memory, Polls}
 use Rattle.ddt_loop.specs.Turns.{HaveAsked, no_ask, one_ask, IsTurn, HaveTurned, no_turn, one_turn}
-
--- ---- an element
-
-pub got_at : {X : Type 0} (xs : List X) (k : ℕ) (d : X) → k < length xs → slice_get xs k ≡ Some (get_or xs k d)
-got_at [] k d lt = absurd (omega arith)
-got_at (x ∷ xs) zero d lt = refl
-got_at (x ∷ xs) (suc k) d lt = got_at xs k d (omega (arith, lt))
 
 -- ---- the asks
 
@@ -91,22 +83,10 @@ at_server servers me sockets now (suc k) w calls at above is polls =
 
 -- ---- the turns
 
--- what a clock tells of one part and then of the next
-pub reads_both : (before : Option (List ℕ)) (first : List ℕ) (midway : Option (List ℕ)) (second : List ℕ) (after : Option (List ℕ)) → Reads before first midway → Reads midway second after
-    → Reads before (first ++ second) after
-reads_both before first midway second None one two = tt
-reads_both before first None second (Some c) one two = absurd two
-reads_both None first (Some b) second (Some c) one two = absurd one
-reads_both (Some a) first (Some b) second (Some c) one two = two ∙ ap (λ (l : List ℕ). l ++ second) one ∙ append_assoc a first second
-
-reads_none : (told : Option (List ℕ)) → Reads told [] told
-reads_none None = tt
-reads_none (Some a) = sym (append-nil a)
-
 pub record IsTurning (unread read : Option (List ℕ)) (before told : Option (List Call)) (servers now : List Outline) (me : Locator) (sockets : List Locator) (start w : Running) (number : ℕ) : Type 0 where
   pub moments : List ℕ
   pub calls : List Call
-  pub reads : Reads unread moments read
+  pub reads : Tells unread moments read
   pub tells : Tells before calls told
   pub turned : HaveTurned servers me sockets start number moments calls w
   pub owners : AreOwners w.state w.desk.owners
@@ -115,16 +95,16 @@ pub record IsTurning (unread read : Option (List ℕ)) (before told : Option (Li
 pub turning_at_start : (read : Option (List ℕ)) (told : Option (List Call)) (servers : List Outline) (me : Locator) (sockets : List Locator) (start : Running)
     → AreOwners start.state start.desk.owners → IsTurning read read told told servers servers me sockets start start 0
 turning_at_start read told servers me sockets start owned =
-    record { moments = []; calls = []; reads = reads_none read; tells = tells_none told; turned = no_turn; owners = owned; stay = λ r is. is }
+    record { moments = []; calls = []; reads = tells_none read; tells = tells_none told; turned = no_turn; owners = owned; stay = λ r is. is }
 
 pub turning_on : (unread between read : Option (List ℕ)) (before midway told : Option (List Call)) (servers now after : List Outline) (me : Locator) (sockets : List Locator) (start w new : Running) (number moment : ℕ) (turn : List Call)
-    → IsTurning unread between before midway servers now me sockets start w number → has_unresolved w.desk.ends ≡ true → Reads between (moment ∷ []) read → Tells midway turn told → IsTurn now me sockets number moment w turn new
+    → IsTurning unread between before midway servers now me sockets start w number → has_unresolved w.desk.ends ≡ true → Tells between (moment ∷ []) read → Tells midway turn told → IsTurn now me sockets number moment w turn new
     → AreOwners new.state new.desk.owners → ((r : Register) → AreCompiled now r → AreCompiled after r)
     → IsTurning unread read before told servers after me sockets start new (number + 1)
 turning_on unread between read before midway told servers now after me sockets start w new number moment turn so_far more reads tells is owned stay = record {
   moments = so_far.moments ++ moment ∷ [];
   calls = so_far.calls ++ turn;
-  reads = reads_both unread so_far.moments between (moment ∷ []) read so_far.reads reads;
+  reads = tells_both unread so_far.moments between (moment ∷ []) read so_far.reads reads;
   tells = tells_both before so_far.calls midway turn told so_far.tells tells;
   turned = one_turn moment turn new so_far.turned more (still_turn servers now so_far.stay me sockets number moment w turn new is);
   owners = owned;

@@ -1,12 +1,12 @@
 -- The list of those who wait: who is taken off it, and how many there are.
-use Rattle.std.proofs.Common.{◌≡◌, ℕ, zero, suc, ◌+◌, ◌-◌, ◌<◌, ◌≤◌, ◌⊎◌, inl, inr, Bool, true, false, List, [], ◌∷◌, ◌++◌, length, take, drop, get_or, Option, Some, None, refl, sym, ap, ◌∙◌, subst, arith, nat_cmp, add-one}
+use Rattle.std.proofs.Common.{◌≡◌, ℕ, zero, suc, ◌+◌, ◌-◌, ◌<◌, ◌≤◌, Bool, true, false, List, [], ◌∷◌, ◌++◌, length, take, drop, get_or, Option, Some, None, refl, sym, ap, ◌∙◌, subst, arith, nat_cmp, add-one}
 use Rattle.std.specs.Prelude.{◌≢◌, ◌==◌, not, nat_lt, IsSome, All, position}
 use Rattle.std.specs.List.{position_or_len, remove}
 use Rattle.std.specs.Cmp.{nat_cmp_total}
 use Rattle.std.specs.FinMap.{FinMap, get, len, contains_key, len-remove, empty_of_len, get-empty}
 use Rattle.std.specs.FinMap as map
 use Rattle.std.proofs.lemmas.Option.{none-some}
-use Rattle.std.proofs.lemmas.Bool.{cond-true, cond-false, eqb-true, eq-eqb, lt-ltb, false≢true}
+use Rattle.std.proofs.lemmas.Bool.{cond-true, cond-false, eqb-true, eq-eqb, ne_eqb, lt-ltb, false≢true}
 use Rattle.std.proofs.lemmas.List.{take-append-drop, drop_more}
 use Rattle.std.proofs.lemmas.List.Elements.{All-nil, All-cons, All-head, All-tail, All-push}
 use Rattle.std.proofs.lemmas.List.Quantifiers.{position-Some}
@@ -16,27 +16,12 @@ use Rattle.ddt_loop.specs.Askers.{owner_of, Takes, nobody, somebody, AreApart}
 
 -- ---- who is taken off
 
--- a number is another one, or not
-pub same_or : (a b : ℕ) → (a ≡ b) ⊎ (a ≢ b)
-same_or a b = by (a == b) refl
-  where
-    by : (t : Bool) → (a == b) ≡ t → (a ≡ b) ⊎ (a ≢ b)
-    by true e = inl (eqb-true a b e)
-    by false e = inr (λ same. false≢true (sym e ∙ eq-eqb a b same))
-
-pub differ_test : (a b : ℕ) → a ≢ b → (a == b) ≡ false
-differ_test a b other = by (a == b) refl
-  where
-    by : (t : Bool) → (a == b) ≡ t → (a == b) ≡ false
-    by true e = absurd (other (eqb-true a b e))
-    by false e = e
-
 module _ {V : Type 0} (m : FinMap nat_cmp V) (k q : ℕ) (other : q ≢ k) where
   pub get_insert_other : (v : V) → get (map.insert m k v) q ≡ get m q
-  get_insert_other v = at_insert m k v q ∙ cond-false (q == k) (Some v) (get m q) (differ_test q k other)
+  get_insert_other v = at_insert m k v q ∙ cond-false (q == k) (Some v) (get m q) (ne_eqb q k other)
 
   pub get_remove_other : get (map.remove m k) q ≡ get m q
-  get_remove_other = at_remove m k q ∙ cond-false (q == k) None (get m q) (differ_test q k other)
+  get_remove_other = at_remove m k q ∙ cond-false (q == k) None (get m q) (ne_eqb q k other)
 
 pub some_of : {V : Type 0} (o : Option V) → IsSome o → (v : V) × (o ≡ Some v)
 some_of None some = absurd (false≢true some)

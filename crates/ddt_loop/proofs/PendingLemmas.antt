@@ -1,4 +1,5 @@
 -- Who waits for a lookup that is pending, over a step.
+use Rattle.std.proofs.lemmas.Bool.{cases_eq}
 use Rattle.std.proofs.Common.{◌≡◌, ℕ, ◌<◌, ◌≤◌, ◌⊎◌, inl, inr, List, [], ◌∷◌, ◌++◌, length, Option, Some, None, Result, Ok, Err, refl, sym, ap, ◌∙◌, subst, arith}
 use Rattle.std.specs.Prelude.{IsSome, All}
 use Rattle.std.specs.FinMap.{get, insert, len}
@@ -33,7 +34,7 @@ use Rattle.ddt_loop.specs.declared.owner.Owner.{Owner}
 use Rattle.ddt_loop.specs.Askers.{Desk, owner_of, with_owner, Takes, nobody, somebody, AreApart, AreOwners}
 use Rattle.ddt_loop.specs.Acts.{Starts, HasRoomFor, GoesOn, next_of, IsTold}
 use Rattle.ddt_sim.proofs.TicketLemmas.{goes_on_reply}
-use Rattle.ddt_loop.proofs.OwnerLemmas.{all_without, apart_push, apart_without, others_differ, few_owners, same_or, get_insert_other, get_remove_other, some_of}
+use Rattle.ddt_loop.proofs.OwnerLemmas.{all_without, apart_push, apart_without, others_differ, few_owners, get_insert_other, get_remove_other, some_of}
 
 -- what tells that a lookup has ended
 pub end_next : (a : Reply) (t : ℕ) (e : End) → shape.Ends a t e → (end : Result Outcome Why) × (next_of a ≡ next_as.End t end)
@@ -59,7 +60,7 @@ module _ (s : State) (o : IsInOrder s) (call : resolver.Call) (new : State) (a :
       let t : u ≤ l.nonce = w.ticket in
       let below : l.nonce < s.next = w.nonce in
       inr (l, ap (λ z. get z u) p ∙ get_insert_other s.pending s.next u (λ same. absurd (omega (arith, same, t, below))) (numbered s k) ∙ here, refl)
-  carried (sends t old k found x goes is more p n) u l here = elim (same_or u t) [
+  carried (sends t old k found x goes is more p n) u l here = elim (cases_eq u t) [
     | inl same ↦ inr (
       numbered s k,
       ap (λ z. get z u) p ∙ ap (get (insert s.pending t (numbered s k))) same ∙ get-insert_same s.pending t (numbered s k),
@@ -67,7 +68,7 @@ module _ (s : State) (o : IsInOrder s) (call : resolver.Call) (new : State) (a :
     )
     | inr other ↦ inr (l, ap (λ z. get z u) p ∙ get_insert_other s.pending t u other (numbered s k) ∙ here, refl)
   ]
-  carried (drops t k e found p n f) u l here = elim (same_or u t) [
+  carried (drops t k e found p n f) u l here = elim (cases_eq u t) [
     | inl same ↦ let is = end_next a t e f in inl (is.0, is.1 ∙ ap (λ v. next_as.End v is.0) (sym same))
     | inr other ↦ inr (l, ap (λ z. get z u) p ∙ get_remove_other s.pending t u other ∙ here, refl)
   ]

@@ -17,8 +17,7 @@ use Rattle.ddt_sim.specs.Sound.{IsSound, StepsKeepSoundness, TimeKeepsSoundness}
 use Rattle.ddt_loop.specs.declared.ends.LoopEnd.{LoopEnd}
 use Rattle.ddt_cache.specs.Moment.{last_moment}
 use Rattle.ddt_wires.proofs.TellLemmas.{tells_both}
-use Rattle.ddt_loop.specs.Readings.{Reads}
-use Rattle.ddt_loop.proofs.LoopLemmas.{reads_both}
+use Rattle.ddt_wires.proofs.TellLemmas.{tells_both}
 use Rattle.ddt_loop.specs.Askers.{Desk, opening_desk, has_unresolved}
 use Rattle.ddt_loop.specs.Acts.{Running, running}
 use Rattle.ddt_loop.specs.Turns.{HaveAsked, TurnsWithin, IsLoop}
@@ -44,20 +43,20 @@ pub record WasRun (unread read : Option (List ℕ)) (before after : Option (List
     (new : State) : Type 0 where
   pub moments : List ℕ
   pub calls : List Call
-  pub reads : Reads unread moments read
+  pub reads : Tells unread moments read
   pub tells : Tells before calls after
   pub loop : IsLoop servers old me sockets ids turns moments calls ends new
 
 pub ran : (unread begun read : Option (List ℕ)) (before midway after : Option (List Call)) (servers : List Outline) (old : State) (me : Locator) (sockets : List Locator) (ids : List Xeid) (turns : ℕ) (ends : List LoopEnd)
     (new : State) (begin : ℕ) → begin ≤ last_moment → (d : Desk) (asked last : Running) → d ≡ opening_desk ids
     → ((calls : List Call) × Tells before calls midway × HaveAsked me begin ids (running old d) (length ids) calls asked)
-    → Reads unread (begin ∷ []) begun
-    → ((moments : List ℕ) × (calls : List Call) × Reads begun moments read × Tells midway calls after × TurnsWithin servers me sockets turns asked moments calls last)
+    → Tells unread (begin ∷ []) begun
+    → ((moments : List ℕ) × (calls : List Call) × Tells begun moments read × Tells midway calls after × TurnsWithin servers me sockets turns asked moments calls last)
     → ends ≡ last.desk.ends → new ≡ last.state → WasRun unread read before after servers old me sockets ids turns ends new
 ran unread begun read before midway after servers old me sockets ids turns ends new begin le d asked last first w reads t ends_are state_is = record {
   moments = begin ∷ t.0;
   calls = w.0 ++ t.1;
-  reads = reads_both unread (begin ∷ []) begun t.0 read reads t.2;
+  reads = tells_both unread (begin ∷ []) begun t.0 read reads t.2;
   tells = tells_both before w.0 midway t.1 after w.1 t.3;
   loop = record {
     begin = begin;

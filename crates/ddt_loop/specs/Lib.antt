@@ -1,4 +1,3 @@
-pub mod Readings
 pub mod Askers
 pub mod Acts
 pub mod Polls

@@ -11,7 +11,8 @@ use ddt_resolver::{MOST_PENDING, Ticket};
 use std::alloc::{AllocError, Global};
 use std::marker::Model;
 
-/// All who wait for a lookup, and the ends of the identifiers' lookups, in the order of the identifiers.
+/// All who wait for a lookup, and the ends of the identifiers' lookups, in the order of the identifiers. Contracts see
+/// both lists.
 #[derive(Drop)]
 pub(crate) struct Askers {
     owners: Vec<Owner>,

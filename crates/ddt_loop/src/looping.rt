@@ -8,7 +8,6 @@ ghost use Rattle.ddt_wires.specs.Calls.{Tells};
 ghost use Rattle.ddt_wires.specs.Turns.{most_bytes};
 ghost use Rattle.ddt_sim.specs.Compiled.{AreCompiled};
 ghost use Rattle.ddt_sim.specs.Sound.{IsSound};
-ghost use Rattle.ddt_loop.specs.Readings.{Reads};
 ghost use Rattle.ddt_loop.specs.Askers.{AreOwners, has_unresolved};
 ghost use Rattle.ddt_loop.specs.Acts.{running};
 ghost use Rattle.ddt_loop.specs.Polls.{Polls};
@@ -71,7 +70,7 @@ pub fn loop_turns<W: Wires, C: Clock, N: PrefixMap<u32>, M: PrefixMap<Entry>>(
     // Whatever comes: some moments and some calls are those of such a run. A clock that tells its readings has told
     // just these moments, and wires that tell their calls just these calls.
     ensures run { IfOk result (λ ends. (moments : List ℕ) × (calls : List ACall)
-        × Reads (C.readings clock.old) moments (C.readings clock.new)
+        × Tells (C.readings clock.old) moments (C.readings clock.new)
         × Tells (W.calls wires.old) calls (W.calls wires.new)
         × IsLoop servers.old resolver.old me sockets.now ids.now turns moments calls ends.items resolver.new) }
     ensures stay { (r : Register) → AreCompiled servers.old r → AreCompiled servers.new r }
@@ -115,7 +114,7 @@ fn take_turns<W: Wires, C: Clock, N: PrefixMap<u32>, M: PrefixMap<Entry>>(
 )
     requires { AreOwners resolver.old askers.old.owners }
     ensures turns { (moments : List ℕ) × (calls : List ACall)
-        × Reads (C.readings clock.old) moments (C.readings clock.new)
+        × Tells (C.readings clock.old) moments (C.readings clock.new)
         × Tells (W.calls wires.old) calls (W.calls wires.new)
         × TurnsWithin servers.old me sockets.now turns (running resolver.old askers.old) moments calls
         (running resolver.new askers.new) }

@@ -19,8 +19,8 @@ ghost use Rattle.ddt_node.specs.Decisions.{etr_by, record_by};
 ghost use Rattle.ddt_node.specs.Server.{etr_in};
 
 use crate::referral_sets::{ReferralSet, ReferralSets};
-use ddt_config::{Authority, Child, Content, Prefixed, SiteEntry};
-use ddt_path::{Locator, LocatorSet, Outcome, Prefix, ReferralRecord, Xeid};
+use ddt_config::{Authority, Child, Content, SiteEntry};
+use ddt_path::{Locator, LocatorSet, Outcome, Prefix, Prefixed, ReferralRecord, Xeid};
 use ddt_trie::PrefixMap;
 
 /// The place of the longest item that covers the identifier. An item that is alone is looked at without the map.

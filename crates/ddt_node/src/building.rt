@@ -9,7 +9,8 @@ ghost use Rattle.ddt_node.specs.Places.{places as places_of, places_in as places
 ghost use Rattle.ddt_node.specs.ReferralSets.{kept_sets};
 
 use crate::referral_sets::{ReferralSets, referral_sets};
-use ddt_config::{Authority, Content, Prefixed, ServerConfig};
+use ddt_config::{Authority, Content, ServerConfig};
+use ddt_path::Prefixed;
 use ddt_trie::{MOST_ENTRIES, PrefixMap};
 use std::alloc::{AllocError, Global};
 

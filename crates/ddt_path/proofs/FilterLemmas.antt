@@ -4,7 +4,8 @@ use Rattle.std.specs.List.{list_all, filter, AllByRecursion, IsDistinct}
 use Rattle.std.proofs.lemmas.Bool.{cond-true, cond-false, false≢true}
 use Rattle.std.proofs.lemmas.List.{append-nil, map-append}
 use Rattle.std.proofs.lemmas.List.Elements.{filter_more}
-use Rattle.ddt_path.proofs.MemberLemmas.{IsIn, all_of, list_all-map}
+use Rattle.std.proofs.lemmas.List.Folds.{list_all-map}
+use Rattle.ddt_path.proofs.MemberLemmas.{IsIn, all_of}
 
 -- ---- its members are those that pass
 

@@ -5,11 +5,12 @@ use Rattle.std.specs.List.{list_any, list_all, filter}
 use Rattle.std.proofs.lemmas.Bool.{cond-true, cond-false, and_from, and_parts, not-true, not_from_false, false_from_ne_true, false≢true, lt-ltb, le-ltb, cases_lt}
 use Rattle.std.proofs.lemmas.Option.{same_Some, cond_some}
 use Rattle.std.proofs.lemmas.List.{append_assoc, take-append-drop, length-take, drop_more, take_more, take_all, drop_all, append-nil}
+use Rattle.std.proofs.lemmas.List.Folds.{list_all-map}
 use Rattle.ddt_path.specs.Path.{is_path, is_prefix_path}
 use Rattle.ddt_path.specs.Covers.{covers, overlaps, is_same_path}
 use Rattle.ddt_path.specs.Free.{lengthened, parts_from, overlaps_none, free, is_free, hole_of}
 use Rattle.ddt_path.proofs.CoverLemmas.{covers_self, covers_trans, covers-append, take-covered, length-covered, next_digit, same_path, fronts_overlap}
-use Rattle.ddt_path.proofs.MemberLemmas.{IsIn, holds_at, list_all-map, list_any-map, any_in, in_any, some_passes}
+use Rattle.ddt_path.proofs.MemberLemmas.{IsIn, holds_at, list_any-map, any_in, in_any, some_passes}
 use Rattle.ddt_path.proofs.FilterLemmas.{in_filter, filter_in, all_kept}
 use Rattle.ddt_path.proofs.EndLemmas.{one_identifier, overlaps_whole}
 

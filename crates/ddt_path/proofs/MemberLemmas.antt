@@ -1,6 +1,6 @@
 -- Which items a list has, and tests that hold of one, of all and of none of them. What a test keeps of a list is in
 -- FilterLemmas.
-use Rattle.std.proofs.Common.{◌≡◌, ◌⊎◌, ℕ, zero, suc, ◌+◌, ◌<◌, ◌≤◌, Bool, true, false, cond, ◌&&◌, ◌||◌, List, [], ◌∷◌, length, get_or, map, take, drop, find, IsPermutation, Option, Some, None, refl, sym, ap, subst, ◌∙◌, arith, inl, inr}
+use Rattle.std.proofs.Common.{◌≡◌, ◌⊎◌, ℕ, zero, suc, ◌+◌, ◌<◌, ◌≤◌, Bool, true, false, cond, ◌||◌, List, [], ◌∷◌, length, get_or, map, take, drop, find, IsPermutation, Option, Some, None, refl, sym, ap, subst, ◌∙◌, arith, inl, inr}
 use Rattle.std.specs.Prelude.{is_some, slice_get, not}
 use Rattle.std.specs.List.{list_any, list_all, All, AllByRecursion, Contains}
 use Rattle.std.specs.Option.{option_or}
@@ -133,10 +133,6 @@ in_left xs i x y lt is k = subst (IsIn y) (sym (drop_more xs i x lt ∙ ap (λ z
 pub list_any-map : {A B : Type 0} (test : B → Bool) (f : A → B) (xs : List A) → list_any test (map f xs) ≡ list_any (λ x. test (f x)) xs
 list_any-map test f [] = refl
 list_any-map test f (x ∷ xs) = ap (λ b. test (f x) || b) (list_any-map test f xs)
-
-pub list_all-map : {A B : Type 0} (test : B → Bool) (f : A → B) (xs : List A) → list_all test (map f xs) ≡ list_all (λ x. test (f x)) xs
-list_all-map test f [] = refl
-list_all-map test f (x ∷ xs) = ap (λ b. test (f x) && b) (list_all-map test f xs)
 
 -- what holds of all that is made of one list holds of a list of the same image
 each_made : {A B C : Type 0} (P : C → Type 0) (f : A → C) (g : B → C) (xs : List A) (ys : List B) → ((y : B) → IsIn y ys → P (g y)) → map f xs ≡ map g ys → AllByRecursion (λ x. P (f x)) xs

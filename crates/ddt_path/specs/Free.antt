@@ -28,7 +28,7 @@ free authority s x = find (overlaps_none s) (parts_from (length authority) x)
 abbrev pub is_free : List ℕ → List (List ℕ) → List ℕ → List ℕ → Bool
 is_free authority s x q = covers q x && (covers authority q && overlaps_none s q)
 
--- The prefix of the hole: the least specific free one. Where there is none this is the identifier itself, which nobody
--- asks for, since then a member covers it.
+-- The prefix of the hole: the least specific free one. Where a member covers the identifier there is none, and this is
+-- the identifier itself. An answer is a hole only where no member covers it, and so it is a free one.
 abbrev pub hole_of : List ℕ → List (List ℕ) → List ℕ → List ℕ
 hole_of authority s x = unwrap_or (free authority s x) x

@@ -1,4 +1,5 @@
--- Of the items whose prefix covers a path, the one of the longest or of the shortest prefix.
+-- Of the items whose prefix covers a path, the one of the longest or of the shortest prefix; of equal prefixes the
+-- first.
 use Rattle.std.specs.Prelude.{ℕ, ◌≡◌, Bool, nat_lt, if◌then◌else◌, List, [], ◌∷◌, length, Option, None, Some}
 use Rattle.std.specs.Fn.{FnReturnsAt}
 use denote.Ref.{Bor}
@@ -25,7 +26,7 @@ best_match preference prefix (a ∷ others) x =
     let later = best_match preference prefix others x in
     if covers (prefix a) x then Some (better_of preference prefix a later) else later
 
--- of the longest prefix, or of the shortest
+-- the item of the longest prefix that covers x, or of the shortest; of equal prefixes the first
 abbrev pub longest_match : {A : Type 0} → (A → List ℕ) → List A → List ℕ → Option A
 longest_match prefix items x = best_match Longest prefix items x
 

@@ -1,12 +1,11 @@
 //! The words that all crates speak.
 //!
 //! In reading order: `locator`, `xeid`, `form`, `prefix` (with `masks` below them), `prefixed`, `matching`;
-//! `locator_set`, `action`, `record`; `name`, `listed`; and the laws, `fronts` and `holes`.
+//! `locator_set`, `action`, `record`; `name`, `listed`; and the laws, `holes`.
 #![tactic(auto)]
 
 mod action;
 mod form;
-mod fronts;
 mod holes;
 mod listed;
 mod locator;
@@ -21,7 +20,6 @@ mod xeid;
 
 pub use action::Action;
 pub use form::{Form, PrefixFault};
-pub use fronts::the_longest_common_front;
 pub use holes::{
     a_hole_is_free, no_hole_under_a_key, none_free_is_covered, one_hole_for_all_it_covers,
 };

@@ -4,7 +4,7 @@ ghost use Rattle.std.specs.Prelude.{◌≡◌};
 
 use std::marker::Model;
 
-/// A list.
+/// A list. Contracts see the list itself.
 #[derive(Debug, Drop)]
 pub struct Listed<T> {
     items: Vec<T>,

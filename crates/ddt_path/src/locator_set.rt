@@ -15,7 +15,7 @@ pub const MOST_LOCATORS: usize = 8;
 
 const FILLER: Locator = Locator::V4(0);
 
-/// 0 to 8 locators in order.
+/// 0 to 8 locators in order. Contracts see the list.
 #[derive(Clone, Copy, Debug)]
 pub struct LocatorSet {
     slots: [Locator; MOST_LOCATORS],

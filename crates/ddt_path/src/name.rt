@@ -14,7 +14,7 @@ use std::marker::Model;
 /// How many bytes a name has at most.
 pub const LONGEST_NAME: usize = 63;
 
-/// Lower-case letters, digits and hyphens: at least one, at most 63.
+/// Lower-case letters, digits and hyphens: at least one, at most 63. Contracts see the bytes.
 #[derive(Clone, Copy, Debug)]
 pub struct Name {
     slots: [u8; LONGEST_NAME],

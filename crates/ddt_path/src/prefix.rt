@@ -17,7 +17,7 @@ use std::cmp::Ordering;
 use std::marker::Model;
 
 /// The first digits of the paths of identifiers: everything, a range of instances, or a block of addresses in one
-/// instance. Its length is from 0 to 65 or 161.
+/// instance. Its length is from 0 to 65 or 161. Contracts see the path.
 #[derive(Clone, Copy, Debug)]
 pub struct Prefix {
     form: Form,
@@ -194,9 +194,12 @@ impl Prefix {
         self.covers(other) || other.covers(self)
     }
 
-    /// The longest prefix that covers both.
+    /// The longest prefix that covers both: the digits with which both begin.
     pub fn longest_common(self, other: Prefix) -> Prefix
-        ensures { result ≡ take (shared_len self other) self }
+        ensures both { IsTrue (covers result self) × IsTrue (covers result other) }
+        ensures longest { (front : List ℕ) → IsTrue (covers front self) → IsTrue (covers front other)
+            → IsTrue (covers front result) }
+        ensures digits { result ≡ take (shared_len self other) self }
     {
         let x = self.inner();
         let shared = x.shared(other.inner());

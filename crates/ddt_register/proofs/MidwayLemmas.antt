@@ -7,9 +7,8 @@ use Rattle.csv.specs.declared.reader.Reader.{Reader}
 use Rattle.ddt_register.specs.declared.row.Row.{Row}
 use Rattle.ddt_register.specs.declared.fault.ReadFault.{ReadFault}
 use Rattle.ddt_register.specs.declared.fault.ReadFault.TheVariants as Fault
-use Rattle.ddt_register.specs.Spelled.{Lists, no_items, row_in, rows_in, columns_in, spelled, unless_too_many, UnlessMemory, Gives}
+use Rattle.ddt_register.specs.Spelled.{Lists, no_items, items_of, joined, row_in, rows_in, columns_in, spelled, unless_too_many, UnlessMemory, Gives}
 use Rattle.ddt_register.specs.Left.{IsReading, IsLeft, Takes}
-use Rattle.ddt_register.specs.Kept.{with_last}
 use Rattle.ddt_register.proofs.SpelledLemmas.{rows_in-done, rows_in-last, rows_in-fault, row_in-length}
 
 -- the reader stands before this row
@@ -28,7 +27,7 @@ pub IsMidway-next : {R : Type 0} (remaining : R → Option (List ℕ)) (first ol
     → IsMidway remaining first old row items
     → ((left : List (List (List ℕ))) → IsLeft remaining old left → Takes remaining old new row fields left (Ok true))
     → IsReading new → expected_len new ≡ Some 4 → row_in row fields ≡ Ok item
-    → IsMidway remaining first new (row + 1) (with_last item items)
+    → IsMidway remaining first new (row + 1) (joined items (items_of item))
 IsMidway-next remaining first old new row items fields item m takes set four e = record {
   reading = set;
   columns = four;

@@ -1,5 +1,5 @@
 -- What records spell, record after record.
-use Rattle.std.proofs.Common.{◌≡◌, ◌≢◌, ℕ, zero, suc, ◌+◌, ◌<◌, ◌≤◌, add-zero, List, [], ◌∷◌, ◌++◌, length, take, Bool, true, false, Result, Ok, Err, refl, sym, ap, subst, ◌∙◌, arith}
+use Rattle.std.proofs.Common.{◌≡◌, ◌≢◌, ℕ, zero, suc, ◌+◌, ◌<◌, ◌≤◌, add-zero, List, [], ◌∷◌, ◌++◌, length, take, Bool, true, false, Result, Ok, Err, append_assoc, refl, sym, ap, subst, ◌∙◌, arith}
 use Rattle.std.specs.Prelude.{⊤, nat_lt}
 use Rattle.std.proofs.lemmas.Bool.{lt-ltb, ltb-false}
 use Rattle.std.proofs.lemmas.List.{append-nil}
@@ -12,8 +12,7 @@ use Rattle.ddt_register.specs.declared.row.Row.TheVariants as Of
 use Rattle.ddt_register.specs.declared.fault.ReadFault.{ReadFault}
 use Rattle.ddt_register.specs.declared.fault.ReadFault.TheVariants as Fault
 use Rattle.ddt_register.specs.Rows.{most_rows, rise, are_apart, zone_rows, site_rows, group_rows, are_rows}
-use Rattle.ddt_register.specs.Spelled.{Lists, no_items, with_first, field_of, name_in, empty_in, locators_in, kind_in, group_in, zone_in, site_in, item_in, fields_in, row_in, rows_in, columns_in, spelled}
-use Rattle.ddt_register.specs.Kept.{with_last}
+use Rattle.ddt_register.specs.Spelled.{Lists, no_items, items_of, joined, field_of, name_in, empty_in, locators_in, kind_in, group_in, zone_in, site_in, item_in, fields_in, row_in, rows_in, columns_in, spelled}
 use Rattle.ddt_register.proofs.FieldLemmas.{four_fields}
 use Rattle.ddt_register.proofs.RisingLemmas.{rise-lower}
 use Rattle.ddt_register.proofs.RowLemmas.{rise-more, low_row, are_apart-first, are_apart-skip}
@@ -23,21 +22,12 @@ ok_eq a b e = cc
 
 -- ---- records after records
 
-abbrev joined : Lists → Lists → Lists
-joined a b = record { zones = a.zones ++ b.zones; sites = a.sites ++ b.sites; groups = a.groups ++ b.groups }
-
 abbrev after_items : Lists → Result Lists ReadFault → Result Lists ReadFault
 after_items items rest = rest >>= λ more. Ok (joined items more)
 
-joined-first : (item : Row) (a b : Lists) → with_first item (joined a b) ≡ joined (with_first item a) b
-joined-first (Of.Zone zone) a b = refl
-joined-first (Of.Site site) a b = refl
-joined-first (Of.Group group) a b = refl
-
-joined-last : (item : Row) (items : Lists) → joined items (with_first item no_items) ≡ with_last item items
-joined-last (Of.Zone zone) items = rw (append-nil items.sites, append-nil items.groups) refl
-joined-last (Of.Site site) items = rw (append-nil items.zones, append-nil items.groups) refl
-joined-last (Of.Group group) items = rw (append-nil items.zones, append-nil items.sites) refl
+joined-assoc : (a b c : Lists) → joined (joined a b) c ≡ joined a (joined b c)
+joined-assoc a b c =
+    rw (append_assoc a.zones b.zones c.zones, append_assoc a.sites b.sites c.sites, append_assoc a.groups b.groups c.groups) refl
 
 joined-none : (items : Lists) → joined items no_items ≡ items
 joined-none items = rw (append-nil items.zones, append-nil items.sites, append-nil items.groups) refl
@@ -46,13 +36,13 @@ after_items-none : (r : Result Lists ReadFault) → r ≡ after_items no_items r
 after_items-none (Ok more) = refl
 after_items-none (Err fault) = refl
 
-after_items-first : (item : Row) (items : Lists) (r : Result Lists ReadFault) → (after_items items r >>= (λ more. Ok (with_first item more))) ≡ after_items (with_first item items) r
-after_items-first item items (Ok more) = ap Ok (joined-first item items more)
-after_items-first item items (Err fault) = refl
+after_items-joined : (first items : Lists) (r : Result Lists ReadFault) → (after_items items r >>= (λ more. Ok (joined first more))) ≡ after_items (joined first items) r
+after_items-joined first items (Ok more) = ap Ok (sym (joined-assoc first items more))
+after_items-joined first items (Err fault) = refl
 
 -- the item of a row and those of the rows after it
-parts_of : (r : Result Row ReadFault) (rest : Result Lists ReadFault) (items : Lists) → (r >>= (λ item. (rest >>= λ more. Ok (with_first item more)))) ≡ Ok items
-    → (item : Row) × (more : Lists) × (r ≡ Ok item) × (rest ≡ Ok more) × (with_first item more ≡ items)
+parts_of : (r : Result Row ReadFault) (rest : Result Lists ReadFault) (items : Lists) → (r >>= (λ item. (rest >>= λ more. Ok (joined (items_of item) more)))) ≡ Ok items
+    → (item : Row) × (more : Lists) × (r ≡ Ok item) × (rest ≡ Ok more) × (joined (items_of item) more ≡ items)
 parts_of (Ok item) (Ok more) items e = (item, more, refl, refl, ok_eq _ items e)
 parts_of (Ok item) (Err fault) items e = cc e
 parts_of (Err fault) rest items e = cc e
@@ -65,13 +55,13 @@ rows_in-append n (fields ∷ done) rest items e =
     let p = parts_of (row_in n fields) (rows_in (n + 1) done) items e in
     let at : n + 1 + length done ≡ n + suc (length done) = omega arith in
     rw (p.2, rows_in-append (n + 1) done rest p.1 p.3, at) (
-    after_items-first p.0 p.1 (rows_in (n + suc (length done)) rest) ∙ ap (λ (i : Lists). after_items i (rows_in (n + suc (length done)) rest)) p.4)
+    after_items-joined (items_of p.0) p.1 (rows_in (n + suc (length done)) rest) ∙ ap (λ (i : Lists). after_items i (rows_in (n + suc (length done)) rest)) p.4)
 
 pub rows_in-done : (n : ℕ) (done : List (List (List ℕ))) (items : Lists) → rows_in n done ≡ Ok items → rows_in n (done ++ []) ≡ Ok items
 rows_in-done n done items e = rows_in-append n done [] items e ∙ ap Ok (joined-none items)
 
-pub rows_in-last : (n : ℕ) (done : List (List (List ℕ))) (items : Lists) (fields : List (List ℕ)) (item : Row) → rows_in n done ≡ Ok items → row_in (n + length done) fields ≡ Ok item → rows_in n (done ++ fields ∷ []) ≡ Ok (with_last item items)
-rows_in-last n done items fields item e f = rows_in-append n done (fields ∷ []) items e ∙ rw f (ap Ok (joined-last item items))
+pub rows_in-last : (n : ℕ) (done : List (List (List ℕ))) (items : Lists) (fields : List (List ℕ)) (item : Row) → rows_in n done ≡ Ok items → row_in (n + length done) fields ≡ Ok item → rows_in n (done ++ fields ∷ []) ≡ Ok (joined items (items_of item))
+rows_in-last n done items fields item e f = rows_in-append n done (fields ∷ []) items e ∙ rw f (ap (λ (i : Lists). Ok (joined items i)) (joined-none (items_of item)))
 
 pub rows_in-fault : (n : ℕ) (done rest : List (List (List ℕ))) (items : Lists) (fields : List (List ℕ)) (fault : ReadFault) → rows_in n done ≡ Ok items → row_in (n + length done) fields ≡ Err fault → rows_in n (done ++ fields ∷ rest) ≡ Err fault
 rows_in-fault n done rest items fields fault e f = rows_in-append n done (fields ∷ rest) items e ∙ rw f refl
@@ -159,7 +149,7 @@ record IsAbove (last : ℕ) (items : Lists) : Type 0 where
   zones_groups : are_apart (zone_rows items.zones) (group_rows items.groups) ≡ true
   sites_groups : are_apart (site_rows items.sites) (group_rows items.groups) ≡ true
 
-IsAbove-first : (last : ℕ) (item : Row) (items : Lists) → last < item_row item → item_row item ≤ 65535 → IsAbove (item_row item) items → IsAbove last (with_first item items)
+IsAbove-first : (last : ℕ) (item : Row) (items : Lists) → last < item_row item → item_row item ≤ 65535 → IsAbove (item_row item) items → IsAbove last (joined (items_of item) items)
 IsAbove-first last (Of.Zone zone) items lt le h =
     let same : zone.row ≤ zone.row = omega arith in
     let low : last ≤ zone.row = omega arith in

@@ -6,7 +6,7 @@
 --   group-node, group-ms    empty       its name         its locators
 --   node, ms                the zone    serving group    empty
 --   site                    the site    empty            its ETRs
-use Rattle.std.specs.Prelude.{ℕ, ◌+◌, Bool, false, ◌==◌, ◌&&◌, nat_lt, if◌then◌else◌, List, [], ◌∷◌, length, Option, Some, None, Result, Ok, Err, codes, ⊤, ◌≡◌}
+use Rattle.std.specs.Prelude.{ℕ, ◌+◌, Bool, false, ◌==◌, ◌&&◌, nat_lt, if◌then◌else◌, List, [], ◌∷◌, ◌++◌, length, Option, Some, None, Result, Ok, Err, codes, ⊤, ◌≡◌}
 use Rattle.std.specs.List.{slice_split}
 use Rattle.std.specs.Str.{bytes_eq}
 use Rattle.ddt_path.specs.declared.locator.Locator.{Locator}
@@ -49,6 +49,7 @@ field_of fault (Err why) = Err fault
 abbrev pub empty_in : ReadFault → List ℕ → Result (Unit {0}) ReadFault
 empty_in fault text = if length text == 0 then Ok tt else Err fault
 
+-- the name that a text is, else this fault
 abbrev pub name_in : ReadFault → List ℕ → Result (List ℕ) ReadFault
 name_in fault text = if is_name text then Ok text else Err fault
 
@@ -92,7 +93,7 @@ item_in (Kind.Group role) row prefix group addresses = group_in role row prefix 
 item_in (Kind.Zone role) row prefix group addresses = zone_in role row prefix group addresses
 item_in Kind.Site row prefix group addresses = site_in row prefix group addresses
 
--- the kind that a text names
+-- the kind that a text names, else this fault
 abbrev pub kind_in : ReadFault → List ℕ → Result Kind ReadFault
 kind_in fault text =
     if bytes_eq text (codes "group-node") then Ok (Kind.Group Node)
@@ -108,7 +109,7 @@ fields_in row text prefix group addresses = do
   kind ← kind_in (Fault.Kind row) text
   item_in kind row prefix group addresses
 
--- nothing where a row is not past the last that there may be
+-- nothing where a row is not past the last that there may be, else TooMany
 abbrev pub unless_too_many : Bool → Result (Unit {0}) ReadFault
 unless_too_many past = if past then Err Fault.TooMany else Ok tt
 
@@ -130,11 +131,15 @@ pub record Lists : Type 0 where
 abbrev pub no_items : Lists
 no_items = record { zones = []; sites = []; groups = [] }
 
--- an item, and then those of the rows after it
-abbrev pub with_first : Row → Lists → Lists
-with_first (Of.Zone zone) lists = record lists { zones = zone ∷ lists.zones }
-with_first (Of.Site site) lists = record lists { sites = site ∷ lists.sites }
-with_first (Of.Group group) lists = record lists { groups = group ∷ lists.groups }
+-- the lists of one row alone
+abbrev pub items_of : Row → Lists
+items_of (Of.Zone zone) = record { zones = zone ∷ []; sites = []; groups = [] }
+items_of (Of.Site site) = record { zones = []; sites = site ∷ []; groups = [] }
+items_of (Of.Group group) = record { zones = []; sites = []; groups = group ∷ [] }
+
+-- the items of some rows, and then those of others
+abbrev pub joined : Lists → Lists → Lists
+joined a b = record { zones = a.zones ++ b.zones; sites = a.sites ++ b.sites; groups = a.groups ++ b.groups }
 
 -- the items of the rows from this row on
 abbrev pub rows_in : ℕ → List (List (List ℕ)) → Result Lists ReadFault
@@ -142,7 +147,7 @@ rows_in row [] = Ok no_items
 rows_in row (fields ∷ records) = do
   item ← row_in row fields
   items ← rows_in (row + 1) records
-  Ok (with_first item items)
+  Ok (joined (items_of item) items)
 
 abbrev pub are_columns : List (List ℕ) → Bool
 are_columns (kind ∷ prefix ∷ group ∷ addresses ∷ []) =
@@ -150,7 +155,7 @@ are_columns (kind ∷ prefix ∷ group ∷ addresses ∷ []) =
     && (bytes_eq group (codes "group") && bytes_eq addresses (codes "addresses")))
 are_columns fields = false
 
--- nothing where the first record names the columns
+-- nothing where the first record names the columns, else Columns
 abbrev pub columns_in : List (List ℕ) → Result (Unit {0}) ReadFault
 columns_in fields = if are_columns fields then Ok tt else Err Fault.Columns
 

@@ -2,8 +2,7 @@
 
 ghost use Rattle.std.specs.Prelude.{◌≡◌, OnOk, true};
 ghost use Rattle.ddt_register.specs.Rows.{are_rows};
-ghost use Rattle.ddt_register.specs.Spelled.{no_items, lists_of};
-ghost use Rattle.ddt_register.specs.Kept.{kept, with_last};
+ghost use Rattle.ddt_register.specs.Spelled.{Lists, no_items, items_of, joined, lists_of};
 
 use crate::group::Group;
 use crate::register::Register;
@@ -11,8 +10,9 @@ use crate::row::Row;
 use crate::site::Site;
 use crate::zone::Zone;
 use std::alloc::{AllocError, Global};
+use std::marker::Model;
 
-/// The zones, sites and groups of the rows so far.
+/// The zones, sites and groups of the rows so far. Contracts see the lists.
 #[derive(Drop)]
 pub(crate) struct Items {
     zones: Vec<Zone>,
@@ -20,10 +20,16 @@ pub(crate) struct Items {
     groups: Vec<Group>,
 }
 
+impl Model for Items {
+    ghost Value = { Lists };
+
+    ghost view = { λ i. record { zones = i.zones.items; sites = i.sites.items; groups = i.groups.items } };
+}
+
 impl Items {
     /// No items.
     pub(crate) fn new(alloc: Global) -> Items
-        ensures { kept result ≡ no_items }
+        ensures { result ≡ no_items }
     {
         Items {
             zones: Vec::new(alloc),
@@ -32,9 +38,9 @@ impl Items {
         }
     }
 
-    /// Adds the item of one more row.
+    /// Adds the item of one more row. Fails only if out of memory.
     pub(crate) fn push(&mut self, row: Row) -> Result<(), AllocError>
-        ensures { OnOk result (kept self.new ≡ with_last row (kept self.old)) }
+        ensures { OnOk result (self.new ≡ joined self.old (items_of row)) }
     {
         match row {
             Row::Zone(zone) => self.zones.push(zone)?,
@@ -46,8 +52,8 @@ impl Items {
 
     /// The register of the items. It allocates nothing.
     pub(crate) fn into_register(self) -> Register
-        requires { are_rows self.zones.items self.sites.items self.groups.items ≡ true }
-        ensures { lists_of result ≡ kept self }
+        requires { are_rows self.zones self.sites self.groups ≡ true }
+        ensures { lists_of result ≡ self }
     {
         Register::of_rows(self.zones, self.sites, self.groups)
     }

@@ -1,6 +1,6 @@
 //! The register of a mapping system: its zones, its sites and its server groups, each with the row that it stands in.
 //!
-//! In reading order: `zone`, `site`, `group`, `register`; `row`, `reading`, `fault`.
+//! In reading order: `zone`, `site`, `group`, `item`, `rows`, `register`; `row`, `items`, `reading`, `fault`; `laws`.
 #![tactic(auto)]
 
 mod fault;

@@ -31,7 +31,7 @@ fn fault_of(kind: &ErrorKind, row: u32) -> ReadFault
 }
 
 /// Reads the next record, and answers whether there was one. A record of another length than the first is refused as
-/// Csv of this row.
+/// 1 Csv of this row.
 fn next_record<R: Read>(
     reader: &mut Reader<R>,
     fields: &mut ByteRecord,
@@ -53,7 +53,7 @@ fn next_record<R: Read>(
     }
 }
 
-/// Nothing where no row was found past the last that there may be, else TooMany.
+/// Nothing where no row was found past the last that there may be, else 7 TooMany.
 fn unless_too_many(past: bool) -> Result<(), ReadFault>
     ensures { result ≡ unless_too_many_of past }
 {
@@ -105,12 +105,18 @@ fn read_records<R: Read + Drop>(alloc: Global, mut reader: Reader<R>) -> Result<
 /// and the records behind it are the rows, from 1 on. A source without any record spells the register without items.
 /// Zones, sites and groups come in the order of their rows.
 ///
-/// The first record with a fault decides. Refused, within a record in this order, as 1 Csv where the row has another
-/// number of fields than the first record; 2 Columns where the first record isn't the one above; 7 TooMany at the
-/// 65,536th row; 3 Kind where the kind is none of `group-node`, `group-ms`, `node`, `ms` and `site`; 4 Prefix, 5 Name
-/// and 6 Address where the field isn't one or must be empty and isn't: the prefix of a group, the group of a site, the
-/// addresses of a zone. Refused as 8 Read where the reader fails, and as 9 Memory where memory runs out. No
-/// other answer depends on what follows the 65,537th record.
+/// The first record with a fault decides. Refused, within a record in this order:
+///
+/// - 1 Csv: the row has another number of fields than the first record.
+/// - 2 Columns: the first record isn't the one above.
+/// - 7 TooMany: it is the 65,536th row.
+/// - 3 Kind: the kind is none of `group-node`, `group-ms`, `node`, `ms` and `site`.
+/// - 4 Prefix: the field is no prefix, or a group's isn't empty.
+/// - 5 Name: the field is no group's name, or a site's isn't empty.
+/// - 6 Address: an address is wrong, or a zone's field isn't empty.
+///
+/// Refused as 8 Read where the reader fails, and as 9 Memory where memory runs out. No other answer depends on what
+/// follows the 65,537th record.
 pub fn read_register<R: Read + Drop>(alloc: Global, reader: R) -> Result<Register, ReadFault>
     ensures spelled { (bytes : List ℕ) → R.remaining reader ≡ Some bytes
         → Gives result (spelled (records default_config (strip_bom bytes))) }

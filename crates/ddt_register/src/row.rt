@@ -111,7 +111,7 @@ fn read_kind(row: u32, text: &[u8]) -> Result<Kind, ReadFault>
     }
 }
 
-/// The fields of a row behind its kind.
+/// The number of a row, and its fields behind the kind.
 #[derive(Clone, Copy, Debug)]
 struct Fields<'a> {
     row: u32,

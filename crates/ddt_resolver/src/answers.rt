@@ -4,7 +4,7 @@ use ddt_path::{Listed, Locator, Outcome};
 use std::marker::Model;
 use thiserror::Error;
 
-/// A lookup's ticket: the nonce of its first request, so that no ticket is used again.
+/// A lookup's ticket: the nonce of its first request, so that no ticket is used again. Contracts see the number.
 #[derive(Clone, Copy, Debug, PartialEq, Eq)]
 pub struct Ticket {
     number: u64,

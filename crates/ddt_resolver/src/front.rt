@@ -83,9 +83,8 @@ fn negative_for(x: Xeid, outcome: &Outcome) -> Option<(u32, Prefix)>
 }
 
 /// What the resolver sends to an ITR for the outcome of its request: a negative Map-Reply with the ITR's nonce, to its
-/// first ITR-RLOC at its inner source port, with a TTL of 15 minutes for a hole and of 1 minute for a site without a
-/// registration. None where a site is registered: the ITR is sent nothing then. Fails only if out of
-/// memory.
+/// first ITR-RLOC at its inner source port. The TTL is 15 minutes for a hole, and 1 minute for a site without a
+/// registration. None where a site is registered: the ITR is sent nothing then. Fails only if out of memory.
 pub fn itr_reply(
     alloc: Global,
     outcome: &Outcome,

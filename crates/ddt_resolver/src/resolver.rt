@@ -19,7 +19,8 @@ use std::marker::Model;
 /// How many lookups may be pending.
 pub const MOST_PENDING: usize = 1024;
 
-/// A resolver: what it remembers of the referrals that it got, and the lookups that wait for a reply.
+/// A resolver: what it remembers of the referrals that it got, and the lookups that wait for a reply. Contracts see its
+/// state.
 #[derive(Drop)]
 pub struct Resolver<M: PrefixMap<Entry>> {
     /// What it remembers, with the time and the root's servers.

@@ -108,7 +108,8 @@ impl Table {
         note(&mut self.tickets, nonce, ticket);
     }
 
-    /// Puts a lookup, whose nonce isn't in use, in the place of that of its ticket. It allocates nothing: there is room.
+    /// Puts a lookup, whose nonce isn't in use, in the place of that of its ticket. It allocates nothing: there is
+    /// room.
     pub(crate) fn replace(&mut self, ticket: u64, lookup: Pending)
         requires ticket { IsSome (map.get self.old.lookups ticket) }
         requires nonce { IsUnknown self.old.lookups lookup.nonce }

@@ -1,5 +1,5 @@
-//! Worked calls on a resolver: each is written as a line and compared. Random schedules beside a plain resolver stand in
-//! `bench/resolver_schedules`.
+//! Worked calls on a resolver: each is written as a line and compared. Random schedules beside a plain resolver stand
+//! in `bench/resolver_schedules`.
 //!
 //! In reading order: `lines`, `calls`, `replies`, `limits`, `crowded`, `refusals`; `itr_side` is what ITRs see.
 

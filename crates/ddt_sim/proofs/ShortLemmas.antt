@@ -26,11 +26,11 @@ use Rattle.ddt_resolver.specs.Records.{start_at}
 use Rattle.ddt_resolver.specs.Order.{IsInOrder, IsLookup}
 use Rattle.ddt_resolver.proofs.ShapeLemmas.{opening_lookup}
 use Rattle.ddt_sim.specs.declared.hop.Hop.{Hop}
-use Rattle.ddt_sim.specs.Sound.{IsSound, IsSoundLookup, KeepsLaws}
+use Rattle.ddt_sim.specs.Sound.{IsSound, IsSoundLookup}
 use Rattle.ddt_sim.specs.Headline.{IsHonestHop, zones_over}
 use Rattle.ddt_sim.specs.Trail as trail
 use Rattle.ddt_sim.specs.Trail.{IsHopTo, IsTrail, HasTrail}
-use Rattle.ddt_sim.proofs.SoundLemmas.{begun}
+use Rattle.ddt_sim.proofs.SoundLemmas.{KeepsLaws, begun}
 
 -- a zone that covers x and is longer than n
 abbrev is_deeper : List ℕ → ℕ → Zone → Bool

@@ -25,7 +25,7 @@ use Rattle.ddt_register.specs.declared.register.Register.{Register}
 use Rattle.ddt_check.specs.Zones.{locators_of}
 use Rattle.ddt_check.specs.Assignment.{assignment}
 use Rattle.ddt_check.specs.Says.{says, referral_to}
-use Rattle.ddt_check.specs.Laws.{IsReferral as RefersDown, IsFinal, IsItsZone, negative_prefix}
+use Rattle.ddt_check.specs.Laws.{IsReferral as RefersDown, IsFinal, IsItsZone, negative_prefix, EachIdentifierHasOneZone, TheRootIsServed, ServersReferDownwards, ReferralsAreToZones, FinalAnswersAreTheAssignment, RegisteredPrefixesAreSites, NegativesHoldOfAll}
 use Rattle.ddt_trie.proofs.MapLemmas.{found_after_insert}
 use Rattle.ddt_cache.specs.declared.entry.Entry.{Entry}
 use Rattle.ddt_cache.specs.Entry.{is_negative, entry_of}
@@ -48,7 +48,17 @@ use Rattle.ddt_resolver.specs.Step as steps
 use Rattle.ddt_resolver.specs.Step.{Call, Reply, Step, Ask, Hear, Tick, ToAsk, ToDatagram, ToTick}
 use Rattle.ddt_resolver.specs.Order.{IsInOrder}
 use Rattle.ddt_resolver.proofs.NumberMapLemmas.{found_insert, found_remove}
-use Rattle.ddt_sim.specs.Sound.{KeepsLaws, IsTrueEntry, delegates, registers, denies, IsSoundLookup, IsSound, IsFair, IsRight, IsRightAsked, IsRightHeard, IsRightTicked, IsRightEnd}
+use Rattle.ddt_sim.specs.Sound.{IsTrueEntry, delegates, registers, denies, IsSoundLookup, IsSound, IsFair, IsRight, IsRightAsked, IsRightHeard, IsRightTicked, IsRightEnd}
+
+-- the laws of a register that keep a resolver sound
+pub record KeepsLaws (r : Register) : Type 0 where
+  pub zones : EachIdentifierHasOneZone r
+  pub root : TheRootIsServed r
+  pub downwards : ServersReferDownwards r
+  pub to_zones : ReferralsAreToZones r
+  pub decided : FinalAnswersAreTheAssignment r
+  pub sites : RegisteredPrefixesAreSites r
+  pub negatives : NegativesHoldOfAll r
 
 -- ---- what an action means
 

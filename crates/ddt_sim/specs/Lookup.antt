@@ -102,7 +102,7 @@ pub data HasOutcome (now : ℕ) (x : Xeid) (start : State) (outcome : Outcome) (
   by_reply : {before : List Hop} {t : ℕ} {d : Outgoing} {s : State} → Reaches now x start before t d s
       → IsTurn now s t d before (Ends outcome) hops new → HasOutcome now x start outcome hops new
 
--- what a lookup fails as whose ask is refused
+-- what a lookup fails as whose ask is refused, or wants memory
 abbrev pub ask_failure : AskError → LookupError
 ask_failure ask_error.TooMany = TooMany
 ask_failure ask_error.Exhausted = GaveUp Exhausted

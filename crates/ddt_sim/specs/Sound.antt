@@ -15,7 +15,6 @@ use Rattle.ddt_check.specs.Rules.{IsAccepted}
 use Rattle.ddt_check.specs.Zones.{zone_of, locators_of, roots}
 use Rattle.ddt_check.specs.Assignment.{assignment}
 use Rattle.ddt_check.specs.Says.{says}
-use Rattle.ddt_check.specs.Laws.{EachIdentifierHasOneZone, TheRootIsServed, ServersReferDownwards, ReferralsAreToZones, FinalAnswersAreTheAssignment, RegisteredPrefixesAreSites, NegativesHoldOfAll}
 use Rattle.ddt_cache.specs.declared.entry.Entry.{Entry}
 use Rattle.ddt_cache.specs.Entry.{is_negative}
 use Rattle.ddt_resolver.specs.declared.pending.Pending.{Pending}
@@ -107,16 +106,6 @@ IsRight r s call (ToTick t) = IsRightTicked r s t
 IsRight r s call reply = Unit {0}
 
 -- ---- that a step keeps a resolver sound
-
--- the laws of a register that this stands on
-pub record KeepsLaws (r : Register) : Type 0 where
-  pub zones : EachIdentifierHasOneZone r
-  pub root : TheRootIsServed r
-  pub downwards : ServersReferDownwards r
-  pub to_zones : ReferralsAreToZones r
-  pub decided : FinalAnswersAreTheAssignment r
-  pub sites : RegisteredPrefixesAreSites r
-  pub negatives : NegativesHoldOfAll r
 
 -- Over an accepted register a step from a sound state, on a fair datagram if on any, leaves a sound state, and its
 -- answer is right.

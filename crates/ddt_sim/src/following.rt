@@ -28,7 +28,7 @@ pub enum Turn {
 }
 
 /// Sends a lookup's request to its server, and lets the resolver hear what comes back, which is one hop more. It gives
-/// up as NoReply where nothing comes back, or what comes is no reply to this lookup.
+/// up as 1 NoReply where nothing comes back, or what comes is no reply to this lookup.
 pub(crate) fn exchange<S: Servers, M: PrefixMap<Entry>>(
     alloc: Global,
     servers: &mut S,
@@ -65,7 +65,7 @@ pub(crate) fn exchange<S: Servers, M: PrefixMap<Entry>>(
         Ok(heard) => heard,
         Err(_refused) => return Err(LookupError::Memory),
     };
-    let turn = taken(own(ticket, heard))?;
+    let turn = turn_from(heard_for(ticket, heard))?;
     let hop = Hop {
         to: request.to,
         request: request.bytes,
@@ -77,7 +77,7 @@ pub(crate) fn exchange<S: Servers, M: PrefixMap<Entry>>(
     }
 }
 
-/// The reply that came back. GaveUp as NoReply where none did, and Memory if memory ran out.
+/// The reply that came back. 1 GaveUp as 1 NoReply where none did, and 3 Memory if memory ran out.
 fn replied(answer: Result<Option<Listed<u8>>, AllocError>) -> Result<Listed<u8>, LookupError>
     ensures { result ≡ reply_or_failure answer }
 {
@@ -88,11 +88,11 @@ fn replied(answer: Result<Option<Listed<u8>>, AllocError>) -> Result<Listed<u8>,
     }
 }
 
-/// How a lookup goes on or ends. GaveUp where it gave up, and as NoReply where the reply wasn't for its ticket.
-fn taken(own: Option<Result<Turn, Why>>) -> Result<Turn, LookupError>
-    ensures { result ≡ turn_or_failure own }
+/// How a lookup goes on or ends. 1 GaveUp where it gave up, and as 1 NoReply where the reply wasn't for its ticket.
+fn turn_from(heard: Option<Result<Turn, Why>>) -> Result<Turn, LookupError>
+    ensures { result ≡ turn_or_failure heard }
 {
-    match own {
+    match heard {
         Some(Ok(turn)) => Ok(turn),
         Some(Err(why)) => Err(LookupError::GaveUp(why)),
         None => Err(LookupError::GaveUp(Why::NoReply)),
@@ -101,8 +101,8 @@ fn taken(own: Option<Result<Turn, Why>>) -> Result<Turn, LookupError>
 
 /// What the resolver answered to a reply of a ticket: how the lookup goes on or ends, or why it gave up; None where the
 /// reply wasn't for this ticket.
-fn own(ticket: Ticket, heard: Heard) -> Option<Result<Turn, Why>>
-    ensures { MatchOption result (IsNotFor ticket heard) (λ own. heard ≡ heard_of ticket own) }
+fn heard_for(ticket: Ticket, heard: Heard) -> Option<Result<Turn, Why>>
+    ensures { MatchOption result (IsNotFor ticket heard) (λ turn. heard ≡ heard_of ticket turn) }
 {
     match heard {
         Heard::Followed(of, next) => {

@@ -37,9 +37,10 @@ use std::alloc::Global;
 /// Looks an identifier up at `now`: asks the resolver, and hands each of its requests to the servers and each reply
 /// back to it, until the outcome is there (RFC 8111, section 7.3). Where the outcome is remembered, no server is asked.
 ///
-/// Refused as GaveUp: for want of a reply as soon as a server gives none, or one that is no reply to this lookup; where
-/// a reply makes the resolver give up; where no nonce is left. As TooMany where 1,024 lookups are pending. Fails as
-/// Memory only if out of memory. After an error its own lookup is no longer pending, and what was saved stays.
+/// Refused as 1 GaveUp with its reason: 1 NoReply as soon as a server gives no reply, or one that is no reply to this
+/// lookup; 4 Exhausted where no nonce is left. Where a reply makes the resolver give up, the reason is the resolver's.
+/// Refused as 2 TooMany where 1,024 lookups are pending. Fails as 3 Memory only if out of memory. After an error its
+/// own lookup is no longer pending, and what was saved stays.
 pub fn lookup<S: Servers, M: PrefixMap<Entry>>(
     alloc: Global,
     servers: &mut S,
@@ -87,12 +88,12 @@ pub fn lookup<S: Servers, M: PrefixMap<Entry>>(
             can_be_asked(x, resolver.me());
             after_ask(alloc, servers, resolver, now, asked)
         }
-        Err(error) => Err(unasked(error)),
+        Err(error) => Err(ask_refused(error)),
     }
 }
 
-/// What a lookup whose ask is refused fails as.
-fn unasked(error: AskError) -> LookupError
+/// What a lookup fails as whose ask is refused, or wants memory.
+fn ask_refused(error: AskError) -> LookupError
     ensures { result ≡ ask_failure error }
 {
     match error {

@@ -1,5 +1,5 @@
 //! The texts of locators, identifiers and prefixes. A parser answers a value if and only if the text spells it
-//! (specs/Grammar.antt), else the first fault from left to right (specs/FirstFault.antt); a writer appends the one text
+//! (specs/Grammar.antt), else the first fault from left to right (specs/FirstFault.antt). A writer appends the one text
 //! that is written (specs/Written.antt), which spells the value, so that it is read again. Parsers allocate nothing.
 //!
 //! In reading order: `fault`, `number`, `parts`, `locator_text`, `xeid_text`, `prefix_text`.
@@ -14,6 +14,6 @@ mod xeid_text;
 
 pub use fault::TextFault;
 pub use locator_text::{parse_locator, write_locator};
-pub use number::read_number;
+pub use number::{number_laws, read_number};
 pub use prefix_text::{parse_prefix, write_prefix};
 pub use xeid_text::{parse_xeid, write_xeid};

@@ -77,10 +77,25 @@ fn read_prefix(text: &[u8]) -> Result<Prefix, TextFault>
     }
 }
 
-/// The prefix that the text spells. Refused, in this order, as 1 Empty; 7 Trailing where bytes follow a `*` at the
-/// front; 2 Bracket; 3 Instance; for a range 5 Length (1 to 32), 4 Address where no `*` follows the bracket, 7
-/// Trailing, 6 TailNotZero; for a block 4 Address where what stands up to the next `/` is no address, 5 Length (up to
-/// the width, 32 or 128), 6 TailNotZero.
+/// The prefix that the text spells. Refused, in this order:
+///
+/// - 1 Empty: there is no byte.
+/// - 7 Trailing: bytes follow a `*` at the front.
+/// - 2 Bracket: no `[` stands at the front, or no `]` follows.
+/// - 3 Instance: the number after the `[` is no Instance ID.
+///
+/// Of a range:
+///
+/// - 5 Length: LEN isn't 1 to 32.
+/// - 4 Address: no `*` stands after the bracket.
+/// - 7 Trailing: something follows that `*`.
+/// - 6 TailNotZero: a digit past LEN isn't 0.
+///
+/// Of a block:
+///
+/// - 4 Address: no address stands up to the next `/`.
+/// - 5 Length: LEN is above its width, 32 or 128, or is no number.
+/// - 6 TailNotZero: a digit past LEN isn't 0.
 pub fn parse_prefix(text: &[u8]) -> Result<Prefix, TextFault>
     ensures spelled { (path : List ℕ) → (result ≡ Ok path) ↔ SpellsPrefix text.now path }
     ensures fault { result ≡ prefix_in text.now }

@@ -13,7 +13,11 @@ use Rattle.std.proofs.lemmas.Option.{same_Some, none-some, cond_some, slice_get_
 use Rattle.std.proofs.lemmas.List.Sums.{passes_at_first}
 use Rattle.ddt_path.specs.Covers.{is_same_path}
 use Rattle.ddt_trie.specs.PrefixMap.{path_cmp}
-use Rattle.ddt_trie.specs.Entries.{have_own_keys, map_of, IsAt}
+use Rattle.ddt_trie.specs.Entries.{have_own_keys, map_of}
+
+-- the entry at a place has the key p
+abbrev pub IsAt : {V : Type 0} → List (List ℕ × V) → ℕ → List ℕ → Type 0
+IsAt {V} es i p = (v : V) × (slice_get es i ≡ Some (p, v))
 
 -- ---- keys
 

@@ -26,12 +26,6 @@ use Rattle.ddt_trie.proofs.ContentLemmas.{get-content, key_value}
 
 -- ---- the keys that count
 
--- what overlaps a prefix overlaps each that covers it
-overlaps_above : (p q from : List ℕ) → overlaps p q ≡ true → covers from q ≡ true → overlaps p from ≡ true
-overlaps_above p q from o inside =
-    or_comm (covers p from) (covers from p)
-    ∙ overlaps_front from q p inside (or_comm (covers q p) (covers p q) ∙ o)
-
 -- Among the keys of a map s has those that pass a test. A key that overlaps the prefix passes it from the length c on, and
 -- none that is shorter does.
 pub record Counts {V : Type 0} (m : FinMap path_cmp V) (from : List ℕ) (c : ℕ) (s : List (List ℕ)) : Type 0 where
@@ -80,9 +74,10 @@ module _ {V : Type 0} {m : FinMap path_cmp V} {from : List ℕ} {c : ℕ} {s : L
   taken : (q p : List ℕ) → covers from q ≡ true → contains_key m p ≡ true → c ≤ length p → overlaps p q ≡ true
       → overlaps_none s q ≡ false
   taken q p inside key le o = false_from_ne_true (overlaps_none s q) (λ none.
+      let turned = or_comm (covers q p) (covers p q) ∙ o in
+      let above = or_comm (covers p from) (covers from p) ∙ overlaps_front from q p inside turned in
       false≢true (sym
-      (not-true (overlaps p q)
-      (member_passes (λ k. not (overlaps k q)) s p none (is_member p key le (overlaps_above p q from o inside))))
+      (not-true (overlaps p q) (member_passes (λ k. not (overlaps k q)) s p none (is_member p key le above)))
       ∙ o))
 
   pub covered_none : (x p : List ℕ) → covers from x ≡ true → contains_key m p ≡ true → c ≤ length p → covers p x ≡ true

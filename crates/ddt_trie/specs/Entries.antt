@@ -1,5 +1,5 @@
 -- Entries in a list, each key once, as a finite map.
-use Rattle.std.specs.Prelude.{ℕ, ◌≡◌, Bool, true, ◌&&◌, not, List, [], ◌∷◌, is_some, Some, slice_get}
+use Rattle.std.specs.Prelude.{ℕ, Bool, true, ◌&&◌, not, List, [], ◌∷◌, is_some}
 use Rattle.std.specs.List.{list_all}
 use Rattle.std.specs.FinMap.{FinMap, find, from_entries}
 use Rattle.ddt_path.specs.Covers.{covers, overlaps, is_strictly_below}
@@ -13,10 +13,6 @@ have_own_keys (e ∷ es) = not (is_some (find path_cmp e.0 es)) && have_own_keys
 -- the map of the entries
 abbrev pub map_of : {V : Type 0} → List (List ℕ × V) → FinMap path_cmp V
 map_of es = from_entries {R = path_cmp} es
-
--- the entry at a place has the key p
-abbrev pub IsAt : {V : Type 0} → List (List ℕ × V) → ℕ → List ℕ → Type 0
-IsAt {V} es i p = (v : V) × (slice_get es i ≡ Some (p, v))
 
 -- whether no key covers x
 abbrev pub none_covers : {V : Type 0} → List (List ℕ × V) → List ℕ → Bool

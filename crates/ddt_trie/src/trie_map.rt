@@ -10,7 +10,8 @@ use ddt_path::{Prefix, Xeid};
 use std::alloc::Global;
 
 /// The form of a map from prefixes for many entries, which stand in a binary tree. Each node has an entry or one below
-/// it, each leaf's prefix begins with the digits above it, the entries are counted, and each is the path of a prefix, so that no path is longer than 161 digits.
+/// it, each leaf's prefix begins with the digits above it, the entries are counted, and each is the path of a prefix,
+/// so that no path is longer than 161 digits.
 #[derive(Drop)]
 pub struct TrieMap<V> {
     root: Tree<V>,

@@ -32,6 +32,7 @@ pub fn write_addresses(
 }
 
 /// Addresses in order, each behind its AFI and `BEFORE` ignored bytes before that, read from the datagram one by one.
+/// Contracts see the list of those that are left.
 #[derive(Debug, Drop)]
 pub struct Addresses<'a, const BEFORE: usize> {
     left: u8,

@@ -203,11 +203,17 @@ pub(crate) fn eid(bytes: &[u8], mask_len: u8) -> Result<(Prefix, usize), EidFaul
 }
 
 /// The prefix at the front of the bytes, from its AFI on, beside the EID mask-len of its record, and how many bytes it
-/// takes, 6 to 30. Address digits past the mask length are ignored. Refused as 1 Short without an AFI; 2 EidFamily; of
-/// AFI 1 and 2 as 1 Short without the address, then 4 MaskLength above its width; of AFI 16387 in this order: 1 Short
-/// within 8 bytes, 3 Lcaf for another type than 2, 1 Short within 14 bytes, 3 Lcaf for another AFI inside than 0, 1
-/// and 2 or a length that doesn't fit it, 1 Short without the address, then 4 MaskLength, and 5 TailNotZero for a range
-/// of instances with a digit past its length (RFC 8060, section 4.1).
+/// takes, 6 to 30 (RFC 8060, section 4.1). Address digits past the mask length are ignored. Refused, in this order:
+///
+/// - 1 Short: fewer than 2 bytes, so no AFI.
+/// - 2 EidFamily: the AFI is none of 1, 2 and 16387.
+/// - 1 Short: of AFI 16387, fewer than 8 bytes from this AFI on.
+/// - 3 Lcaf: its type isn't 2.
+/// - 1 Short: fewer than 14 bytes from this AFI on.
+/// - 3 Lcaf: the inner AFI is none of 0, 1 and 2, or the length doesn't belong to it.
+/// - 1 Short: the address is cut off.
+/// - 4 MaskLength: a mask length above the width of the address, or above 32 for a range of instances.
+/// - 5 TailNotZero: an Instance ID with digits past the length of its range.
 pub fn read_eid(bytes: &[u8], mask_len: u8) -> Result<(Prefix, usize), EidFault>
     // The bytes that were taken spell what is read.
     ensures found { IfOk result (λ x. SpellsEid mask_len (take x.1 bytes.now) x.0 × (x.1 ≤ length bytes.now)) }

@@ -11,9 +11,9 @@ ghost use Rattle.ddt_wire.specs.Laws.{IsPrefix, IsRecord, MessagesAreRead, Recor
 ghost use Rattle.ddt_wire.specs.Referral.{Spells, message_of, written};
 ghost use Rattle.ddt_wire.specs.NegativeReply.{SpellsReply, written_reply, reply_in};
 
-/// What spells a Map-Referral is read as it, and what is read is spelled; bytes spell one at most, only bytes spell, and
-/// a fault exists if and only if they spell none. What is written for a nonce and a record spells them, and a record of
-/// at most eight servers comes back from its message.
+/// What spells a Map-Referral is read as it, and what is read is spelled; bytes spell one at most, only bytes spell,
+/// and a fault exists if and only if they spell none. What is written for a nonce and a record spells them, and a
+/// record of at most eight servers comes back from its message.
 pub fn referral_laws()
     ensures read { MessagesAreRead }
     ensures written { (nonce : ℕ) (r : ReferralRecord) → IsRecord nonce r

@@ -1,6 +1,7 @@
 //! The bytes of Map-Referrals and of negative Map-Replies: the one spelling that is written, and what any bytes spell.
 //!
-//! In reading order: `message_type`, `address`, `addresses`, `eid`, `head`, `fault`, `locator_record`, `referral`, `negative_reply`, `laws`.
+//! In reading order: `message_type`, `address`, `addresses`, `eid`, `head`, `fault`, `locator_record`, `referral`,
+//! `negative_reply`, `laws`.
 #![tactic(auto)]
 
 mod address;

@@ -140,10 +140,18 @@ fn reply(bytes: &[u8]) -> Result<NegativeReply, ReplyFault>
     })
 }
 
-/// What the datagram says, all of it being one negative Map-Reply of one record. Refused, in this order, as 1 Short
-/// within 4 bytes; 2 MessageType; 3 RecordCount; 1 Short within 24 bytes; 4 LocatorCount; 5 BadAction; the EID's faults
-/// (1 Short, 6 EidFamily, 7 Lcaf, 8 MaskLength, 9 TailNotZero) as of `read_eid`; then 10 Trailing. The 20 bits behind
-/// the type, the bit A, the map version and reserved bits are ignored (RFC 9301, section 5.4).
+/// What the datagram says, all of it being one negative Map-Reply of one record. Refused, in this order:
+///
+/// - 1 Short: fewer than 4 bytes.
+/// - 2 MessageType: the first four bits aren't 2.
+/// - 3 RecordCount: there isn't exactly one record.
+/// - 1 Short: fewer than 24 bytes.
+/// - 4 LocatorCount: there is a locator, so the reply isn't negative.
+/// - 5 BadAction: ACT isn't 1.
+/// - 6 EidFamily, 7 Lcaf, 1 Short, 8 MaskLength, 9 TailNotZero: the EID, as of `read_eid`.
+/// - 10 Trailing: bytes after the EID.
+///
+/// The 20 bits behind the type, the bit A, the map version and reserved bits are ignored (RFC 9301, section 5.4).
 pub fn read_negative_reply(bytes: &[u8]) -> Result<NegativeReply, ReplyFault>
     // The bytes spell what is read.
     ensures found { IfOk result (λ v. SpellsReply bytes.now v) }

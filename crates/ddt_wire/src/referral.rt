@@ -68,9 +68,9 @@ fn referral_head(nonce: u64, referral: &ReferralRecord) -> Head
     }
 }
 
-/// The one spelling of a Map-Referral with this nonce and record: A is 1, no signature and map version 0, each locator
-/// with priority 1, weight 100, multicast priority 255 and weight 0, and the flag R; reserved bits are 0. Fails
-/// only if out of memory.
+/// The one spelling of a Map-Referral with this nonce and record: A is 1, no signature, map version 0, reserved bits 0.
+/// Each locator has priority 1, weight 100, multicast priority 255 and weight 0, and the flag R. Fails only if out of
+/// memory.
 pub fn write_referral(
     alloc: Global,
     nonce: u64,
@@ -87,7 +87,7 @@ pub fn write_referral(
     Ok(bytes)
 }
 
-/// What a Map-Referral says. It lends the datagram for its locators.
+/// What a Map-Referral says. It lends the datagram for its locators. Contracts see the message.
 #[derive(Debug, Drop)]
 pub struct Referral<'a> {
     nonce: u64,
@@ -221,11 +221,22 @@ fn message(bytes: &[u8]) -> Result<Referral<'_>, ReferralFault>
     })
 }
 
-/// What the datagram says, all of it being one Map-Referral of one record. Refused, in this order, as 1 Short within 4
-/// bytes; 2 MessageType; 3 RecordCount; 1 Short within 24 bytes; 4 BadAction; 5 Signed; the EID's faults (1 Short, 6
-/// EidFamily, 7 Lcaf, 8 MaskLength, 9 TailNotZero) as of `read_eid`; for each locator 1 Short within 8 bytes, 10
-/// LocatorFamily, 1 Short without the address; then 11 Trailing. The bit A, the map version, reserved bits, and the
-/// priorities, weights and flags of locators are ignored (RFC 8111, section 6.4).
+/// What the datagram says, all of it being one Map-Referral of one record. Refused, in this order:
+///
+/// - 1 Short: fewer than 4 bytes.
+/// - 2 MessageType: the first four bits aren't 6.
+/// - 3 RecordCount: there isn't exactly one record.
+/// - 1 Short: fewer than 24 bytes.
+/// - 4 BadAction: ACT is 6 or 7.
+/// - 5 Signed: SigCnt isn't 0.
+/// - 6 EidFamily, 7 Lcaf, 1 Short, 8 MaskLength, 9 TailNotZero: the EID, as of `read_eid`.
+/// - 1 Short: a locator of fewer than 8 bytes.
+/// - 10 LocatorFamily: a locator's AFI is neither 1 nor 2.
+/// - 1 Short: a locator's address is cut off.
+/// - 11 Trailing: bytes after the last locator.
+///
+/// The bit A, the map version, reserved bits, and the priorities, weights and flags of locators are ignored (RFC 8111,
+/// section 6.4).
 pub fn read_referral(bytes: &[u8]) -> Result<Referral<'_>, ReferralFault>
     // The bytes spell what is read.
     ensures found { IfOk result (λ v. Spells bytes.now v) }

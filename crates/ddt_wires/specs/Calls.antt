@@ -1,4 +1,4 @@
--- The calls of wires, and what wires tell of them.
+-- The calls of wires, and what is told of calls and readings.
 use Rattle.std.specs.Prelude.{ℕ, ◌≡◌, List, [], ◌++◌, length, take, Option, Some, None, Result, Ok, Err}
 use Rattle.ddt_path.specs.declared.locator.Locator.{Locator}
 use Rattle.ddt_wires.specs.declared.call.Call.{Call}
@@ -6,12 +6,12 @@ use Rattle.ddt_wires.specs.declared.call.Call.TheVariants.{Received}
 use Rattle.ddt_wires.specs.declared.call.NetFault.{NetFault}
 use Rattle.ddt_wires.specs.declared.call.Packet.{Packet}
 
--- Wires that tell their calls now tell these too, in their order, or don't tell any more. Wires that don't tell never
--- begin to.
-abbrev pub Tells : Option (List Call) → List Call → Option (List Call) → Type 0
-Tells before calls None = Unit {0}
-Tells None calls (Some now) = ⊥
-Tells (Some before) calls (Some now) = now ≡ before ++ calls
+-- What records its calls, as wires, or its readings, as a clock, now tells these too, in their order, or tells none any
+-- more. What tells none never begins to.
+abbrev pub Tells : {A : Type 0} → Option (List A) → List A → Option (List A) → Type 0
+Tells before more None = Unit {0}
+Tells None more (Some now) = ⊥
+Tells (Some before) more (Some now) = now ≡ before ++ more
 
 -- the bytes of the packet that an answer gives: so many at the front of the buffer
 abbrev pub packet_bytes : Result (Option Packet) NetFault → List ℕ → List ℕ

@@ -90,7 +90,8 @@ fn serve_packet<W: Wires, M: PrefixMap<u32>>(
     bytes: &[u8],
 ) -> bool
     ensures { (tries : List ACall) × Tells (W.calls wires.old) tries (W.calls wires.new)
-        × IsTurn server.now at (Received at most_bytes (Ok (Some packet)) bytes.now ∷ tries) × (result ≡ first_went_out tries) }
+        × IsTurn server.now at (Received at most_bytes (Ok (Some packet)) bytes.now ∷ tries)
+        × (result ≡ first_went_out tries) }
 {
     match server.handle(alloc, bytes) {
         Ok(handled) => send_all(wires, at, packet, &handled),

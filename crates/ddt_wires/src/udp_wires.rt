@@ -52,8 +52,8 @@ impl Bound {
 /// What the system does is trusted, and no contract says it: that `receive` gives what came to the socket, and that
 /// what `send` takes goes out. `receive` waits for up to 5 milliseconds where the calls before it leave nothing else to
 /// do: since the last packet and the last `send`, as many calls of `receive` as there are other sockets gave no packet.
-/// Else it takes what is there. A `send` waits for room as long, but not at all from a socket at which the last `receive`
-/// didn't wait; without room it is refused as 2 Send. An empty datagram is a packet without bytes.
+/// Else it takes what is there. A `send` waits for room as long, but not at all from a socket at which the last
+/// `receive` didn't wait; without room it is refused as 2 Send. An empty datagram is a packet without bytes.
 ///
 /// A datagram that fills the whole buffer is refused as 1 Receive, since its end may be cut off, and so is one whose
 /// source isn't an address and a port; that datagram alone is lost. A locator that no socket is bound to is refused as

@@ -1,17 +1,10 @@
 -- The command line, command by command, and a command, argument by argument.
-use Rattle.std.proofs.Common.{◌≡◌, ◌<◌, ◌+◌, ◌&&◌, ℕ, Bool, true, false, not, List, [], ◌∷◌, ◌++◌, length, take, get_or, refl, ap, ◌∙◌, sym, rules}
+use Rattle.std.proofs.Common.{◌≡◌, ◌&&◌, Bool, true, false, not, List, [], ◌∷◌, refl, sym, rules}
 use Rattle.std.specs.List.{fold}
-use Rattle.std.proofs.lemmas.List.{take_more}
-use Rattle.std.proofs.lemmas.List.Sums.{fold-append}
 use Rattle.clap.specs.Words.{App, new_app, with_subcommand}
 use Rattle.ddt_words.specs.declared.declaration.Argument.{Argument}
 use Rattle.ddt_words.specs.declared.declaration.Declaration.{Declaration}
 use Rattle.ddt_words.specs.Line.{bare_line, command_app, line, with_arguments}
-
--- one item more
-pub fold_more : {A B : Type 0} (f : B → A → B) (a : B) (xs : List A) (i : ℕ) (d : A) → i < length xs
-    → fold f a (take (i + 1) xs) ≡ f (fold f a (take i xs)) (get_or xs i d)
-fold_more f a xs i d h = ap (fold f a) (take_more xs i d h) ∙ fold-append f a (take i xs) (get_or xs i d ∷ [])
 
 -- arguments leave the command plain
 pub plain_arguments : (app : App) (xs : List Argument) → (with_arguments app xs).top.is_plain ≡ app.top.is_plain

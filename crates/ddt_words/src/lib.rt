@@ -1,8 +1,8 @@
 //! The words of a command line: which command they call, and the values of its arguments and options, by `clap`'s own
 //! rule.
 //!
-//! In reading order: `declaration` (what a command takes), `reading` (the words against all commands), `words` (a
-//! call).
+//! In reading order: `declaration` (what a command takes), `fault`, `reading` (the words against all commands),
+//! `words` (a call).
 #![tactic(auto)]
 
 mod declaration;

@@ -34,7 +34,7 @@ pub fn read_words<'a>(
     }
 }
 
-/// Memory where clap ran out of memory, and Bad for each other fault.
+/// 2 Memory where clap ran out of memory, and 1 Bad for each other fault.
 fn fault(kind: ErrorKind) -> WordsFault
     ensures bad { result ≡ IsBad → kind ≢ ErrorKind.OutOfMemory }
     ensures memory { result ≡ IsMemory → kind ≡ ErrorKind.OutOfMemory }

@@ -88,7 +88,8 @@ fn look_up_each(
     words: &[&str],
 ) -> Result<Lines, Refusal<'static>>
     ensures told { (r : Register) → AreCompiled servers.old r → IsSound r resolver.old → IfOk result (λ lines.
-        AreAllTold r resolver.old.known.time resolver.old (map (λ t. t.now) words.now) lines.complete lines.text.items) }
+        AreAllTold r resolver.old.known.time resolver.old (map (λ t. t.now) words.now)
+        lines.complete lines.text.items) }
     ensures refused { bad_identifier (map (λ t. t.now) words.now) ≡ None → IfErr result (λ why. why ≡ OutOfMemory) }
 {
     let now = resolver.time();

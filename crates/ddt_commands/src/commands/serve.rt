@@ -61,8 +61,8 @@ impl<'a> Serve<'a> {
     }
 }
 
-/// The line of what a server received and replied, or why it doesn't serve: the words are looked at first, then
-/// whether the address is a loopback address; then the file is opened and read, a socket is bound, and the turns are
+/// The line of what a server received and replied, or why it doesn't serve. The words are looked at first, then
+/// whether the address is a loopback address. Then the file is opened and read, a socket is bound, and the turns are
 /// taken. `open_file` gives a file, or None where it can't be opened; `bind` binds a socket of the wires to a locator.
 pub fn lines<'a, F, O, W, B>(
     alloc: Global,

@@ -21,9 +21,9 @@ pub const WORDS: Declaration<'static> = Declaration {
     arguments: &[Argument::One("hex")],
 };
 
-/// A kind of message that is shown.
+/// A type of message that is shown.
 #[derive(Clone, Copy, Debug)]
-pub enum MessageKind {
+pub enum MessageType {
     Reply,
     Referral,
     Request,
@@ -51,22 +51,22 @@ fn message_text(alloc: Global, words: &Words<'_>) -> Result<Vec<u8>, Refusal<'st
         Ok(bytes) => bytes,
         Err(fault) => return Err(undecoded(fault)),
     };
-    match kind_of(&bytes)? {
-        MessageKind::Reply => reply_in(alloc, &bytes),
-        MessageKind::Referral => referral_in(alloc, &bytes),
-        MessageKind::Request => request_in(alloc, &bytes),
+    match message_type(&bytes)? {
+        MessageType::Reply => reply_in(alloc, &bytes),
+        MessageType::Referral => referral_in(alloc, &bytes),
+        MessageType::Request => request_in(alloc, &bytes),
     }
 }
 
-/// The kind of message that the first byte begins. Refused as UnknownMessage where it begins none, or there is no byte.
-fn kind_of(bytes: &[u8]) -> Result<MessageKind, Refusal<'static>>
-    ensures known { IfOk result (λ kind. type_of bytes.now ≡ Some (type_number kind)) }
+/// The type of message that the first byte begins. Refused as UnknownMessage where it begins none, or there is no byte.
+fn message_type(bytes: &[u8]) -> Result<MessageType, Refusal<'static>>
+    ensures known { IfOk result (λ found. type_of bytes.now ≡ Some (type_number found)) }
     ensures unknown { IfErr result (λ why. (why ≡ IsNoMessage IsUnknownMessage) × IsUnknownType (type_of bytes.now)) }
 {
     match bytes.first().map(|byte| byte >> 4) {
-        Some(MAP_REPLY) => Ok(MessageKind::Reply),
-        Some(MAP_REFERRAL) => Ok(MessageKind::Referral),
-        Some(ENCAPSULATED) => Ok(MessageKind::Request),
+        Some(MAP_REPLY) => Ok(MessageType::Reply),
+        Some(MAP_REFERRAL) => Ok(MessageType::Referral),
+        Some(ENCAPSULATED) => Ok(MessageType::Request),
         _ => Err(Refusal::NoMessage(MessageRefusal::UnknownMessage)),
     }
 }

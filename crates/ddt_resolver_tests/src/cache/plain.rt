@@ -35,6 +35,7 @@ fn is_kept(referral: &ReferralRecord) -> bool {
 }
 
 impl Plain {
+    /// An empty cache at time 0, below these roots.
     pub fn new(alloc: Global, roots: LocatorSet) -> Plain {
         Plain {
             time: 0,
@@ -43,6 +44,7 @@ impl Plain {
         }
     }
 
+    /// The time goes on to a moment, in milliseconds, and what has ended is dropped.
     pub fn advance(&mut self, now: u64) {
         if now > self.time {
             self.time = now;
@@ -51,6 +53,7 @@ impl Plain {
         self.live.retain(|entry| entry.1.end > time);
     }
 
+    /// How many entries are live.
     pub fn len(&self) -> usize {
         self.live.len()
     }
@@ -60,6 +63,7 @@ impl Plain {
         self.live.iter().position(|entry| entry.0 == prefix)
     }
 
+    /// Saves a record that is to be kept, in the place of one of its prefix, if there is room.
     pub fn save(&mut self, referral: &ReferralRecord) -> Result<Saved, AllocError> {
         if !is_kept(referral) {
             return Ok(Saved::NotSaved);
@@ -78,6 +82,7 @@ impl Plain {
         Ok(Saved::Saved)
     }
 
+    /// Drops the entry of a prefix; whether there was one.
     pub fn forget(&mut self, prefix: Prefix) -> bool {
         match self.place(prefix) {
             Some(place) => {
@@ -104,6 +109,7 @@ impl Plain {
         best
     }
 
+    /// The entry of the longest prefix that covers the identifier, else that of the root.
     pub fn find(&self, x: Xeid) -> (Prefix, Entry) {
         match self.longest(x) {
             Some(place) if place < self.live.len() => self.live[place],

@@ -116,6 +116,7 @@ pub fn referral_bytes(alloc: Global, nonce: u64, told: &Told) -> Result<Vec<u8>,
     Ok(write_referral(alloc, nonce, &record)?)
 }
 
+/// Asks at a moment, in milliseconds, and answers the line of what comes of it.
 pub fn ask(
     alloc: Global,
     resolver: &mut ListResolver,
@@ -126,6 +127,7 @@ pub fn ask(
     asked_text(alloc, &resolver.ask(at(millis)?, x))
 }
 
+/// Hands the resolver a datagram at a moment, in milliseconds, and answers the line of what comes of it.
 pub fn hear(
     alloc: Global,
     resolver: &mut ListResolver,
@@ -137,6 +139,7 @@ pub fn hear(
     heard_text(alloc, &heard)
 }
 
+/// Ticks at a moment, in milliseconds, and answers the line of what comes of it.
 pub fn tick(alloc: Global, resolver: &mut ListResolver, millis: u64) -> Result<String, Fail> {
     let ticked = resolver.tick(at(millis)?)?;
     ticked_text(alloc, &ticked)

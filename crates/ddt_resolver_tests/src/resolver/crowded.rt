@@ -1,6 +1,6 @@
-//! Replies to a lookup beside 1,023 others: where one is ignored, the resolver is as before, but for its time; where the
-//! lookup ends, the others stay as they are. What a resolver holds shows in what it answers afterwards: it is to answer
-//! as one that didn't hear the reply.
+//! Replies to a lookup beside 1,023 others: where one is ignored, the resolver is as before, but for its time; where
+//! the lookup ends, the others stay as they are. What a resolver holds shows in what it answers afterwards: it is to
+//! answer as one that didn't hear the reply.
 
 use super::calls::{
     BACK_TO_THE_ROOT, Call, ListResolver, NOT_IN_CHARGE, ROOT, Step, TEN, TO_ELEVEN, TO_NO_SERVER,
@@ -139,8 +139,8 @@ fn ticks(
     Ok(())
 }
 
-/// At a moment, in milliseconds, a lookup of an identifier begins at a server: all that is remembered is the referral of
-/// 10.0.0.0/8 to 127.0.0.10, from one server.
+/// At a moment, in milliseconds, a lookup of an identifier begins at a server: all that is remembered is the referral
+/// of 10.0.0.0/8 to 127.0.0.10, from one server.
 const REMEMBERED: [(u64, &str, Locator); 6] = [
     (4000, "[0]10.0.0.0", TEN),
     (4000, "[0]10.255.255.255", TEN),
@@ -170,8 +170,8 @@ fn first_server(
     }
 }
 
-/// Where no server answers, each lookup is asked once more at its deadline, and ends: so many at both. Then both remember
-/// the same.
+/// Where no server answers, each lookup is asked once more at its deadline, and ends: so many at both. Then both
+/// remember the same.
 fn end_in_silence(
     alloc: Global,
     rt: &impl Abort,

@@ -1,7 +1,8 @@
 use Rattle.std.proofs.Common.{◌-◌, ◌<◌, length, get_or, arith}
 use Rattle.ddt_path.specs.declared.locator.Locator.TheVariants.{V4}
+use Rattle.std.proofs.lemmas.Option.{slice_get-get_or}
 use Rattle.ddt_loop.specs.Acts.{running}
-use Rattle.ddt_loop.proofs.LoopLemmas.{at_me, at_server, got_at}
+use Rattle.ddt_loop.proofs.LoopLemmas.{at_me, at_server}
 use Rattle.ddt_loop.proofs.looping.poll.Goals as goal
 
 pub returns-then-place-eq0-clause-polls : goal.returns-then-place-eq0-clause-polls
@@ -23,5 +24,5 @@ returns-else-place-eq0-clause-polls g c =
       w.1,
       at_server c.args.servers.now c.args.me c.args.sockets.now c.args.now c.args.place
           (running c.args.resolver.now c.args.askers.now) w.0 (get_or c.args.sockets.now (c.args.place - 1) (V4 0)) above
-          (got_at c.args.sockets.now (c.args.place - 1) (V4 0) within) w.2,
+          (slice_get-get_or c.args.sockets.now (c.args.place - 1) (V4 0) within) w.2,
     )

@@ -26,8 +26,8 @@ returns-in-Err-clause-sound g c = λ r x honest under.
 pub returns-in_err-turn-clause-failed : goal.returns-in_err-turn-clause-failed
 returns-in_err-turn-clause-failed g c =
     let e : c.from_residual-in_err-turn.result ≡ Err c.in_err-turn.field-0.0 = search rules in
-    rw e (untaken_fails c.args.ticket c.in-Ok.heard c.args.now c.args.resolver.now c.args.request c.as_slice-2.result.now c.datagram.new.self c.own.result c.in_err-turn.field-0.0
-    c.in-Ok.ensures.step c.own.ensures (sym c.in_err-turn.ensures))
+    rw e (untaken_fails c.args.ticket c.in-Ok.heard c.args.now c.args.resolver.now c.args.request c.as_slice-2.result.now c.datagram.new.self c.heard_for.result c.in_err-turn.field-0.0
+    c.in-Ok.ensures.step c.heard_for.ensures (sym c.in_err-turn.ensures))
 
 pub returns-in_err-turn-clause-sound : goal.returns-in_err-turn-clause-sound
 returns-in_err-turn-clause-sound g c = λ r x honest under.
@@ -44,14 +44,14 @@ returns-in_err-turn-clause-failure g c = λ r x honest under.
     let well = heard_well r c.args.now x c.args.resolver.now c.args.ticket c.args.request a
     c.as_slice.result.now c.as_slice.ensures c.answer.result (c.answer.ensures.says r a.request honest a.server)
     c.in_ok-reply.reply c.as_slice-2.result.now (sym c.in_ok-reply.ensures) c.as_slice-2.ensures c.datagram.new.self c.in-Ok.heard c.in-Ok.ensures.step in
-    rw e (untaken_is_right c.args.ticket c.in-Ok.heard r x c.args.resolver.now c.args.request c.in_ok-reply.reply c.datagram.new.self c.own.result c.in_err-turn.field-0.0
-    well c.own.ensures (sym c.in_err-turn.ensures))
+    rw e (untaken_is_right c.args.ticket c.in-Ok.heard r x c.args.resolver.now c.args.request c.in_ok-reply.reply c.datagram.new.self c.heard_for.result c.in_err-turn.field-0.0
+    well c.heard_for.ensures (sym c.in_err-turn.ensures))
 
 pub returns-in-Ok-push-clause-turn : goal.returns-in-Ok-push-clause-turn
 returns-in-Ok-push-clause-turn g c =
     turn_of c.args.now c.args.resolver.now c.args.ticket c.args.request c.args.hops.now.items c.push.new.self.items
     c.as_slice-2.result.now c.in_ok-reply.reply c.in-Ok.heard c.in_ok-turn.turn c.datagram.new.self
-    c.in-Ok.ensures.step c.as_slice-2.ensures (taken_is c.args.ticket c.in-Ok.heard c.own.result c.in_ok-turn.turn c.own.ensures (sym c.in_ok-turn.ensures)) c.in-Ok-push.ensures.items
+    c.in-Ok.ensures.step c.as_slice-2.ensures (taken_is c.args.ticket c.in-Ok.heard c.heard_for.result c.in_ok-turn.turn c.heard_for.ensures (sym c.in_ok-turn.ensures)) c.in-Ok-push.ensures.items
 
 pub returns-in-Ok-push-clause-sound : goal.returns-in-Ok-push-clause-sound
 returns-in-Ok-push-clause-sound g c = λ r x honest under.
@@ -68,12 +68,12 @@ returns-in-Ok-push-clause-right g c = λ r x honest under.
     c.as_slice.result.now c.as_slice.ensures c.answer.result (c.answer.ensures.says r a.request honest a.server)
     c.in_ok-reply.reply c.as_slice-2.result.now (sym c.in_ok-reply.ensures) c.as_slice-2.ensures c.datagram.new.self c.in-Ok.heard c.in-Ok.ensures.step in
     right_turn r x c.args.resolver.now c.args.ticket c.args.request c.in_ok-reply.reply c.datagram.new.self c.in-Ok.heard c.in_ok-turn.turn well
-    (taken_is c.args.ticket c.in-Ok.heard c.own.result c.in_ok-turn.turn c.own.ensures (sym c.in_ok-turn.ensures))
+    (taken_is c.args.ticket c.in-Ok.heard c.heard_for.result c.in_ok-turn.turn c.heard_for.ensures (sym c.in_ok-turn.ensures))
 
 pub returns-in-Ok-push-clause-nearer : goal.returns-in-Ok-push-clause-nearer
 returns-in-Ok-push-clause-nearer g c = λ x waits.
     turn_is_nearer c.args.now x c.args.resolver.now c.args.ticket c.args.request c.in_order.ensures waits c.as_slice-2.result.now c.in-Ok.heard
-    c.datagram.new.self c.in_ok-turn.turn c.in-Ok.ensures.step c.in-Ok.ensures.nearer (taken_is c.args.ticket c.in-Ok.heard c.own.result c.in_ok-turn.turn c.own.ensures (sym c.in_ok-turn.ensures))
+    c.datagram.new.self c.in_ok-turn.turn c.in-Ok.ensures.step c.in-Ok.ensures.nearer (taken_is c.args.ticket c.in-Ok.heard c.heard_for.result c.in_ok-turn.turn c.heard_for.ensures (sym c.in_ok-turn.ensures))
 
 pub returns-in-Err-push-clause-failed : goal.returns-in-Err-push-clause-failed
 returns-in-Err-push-clause-failed g c = unfinished c.as_slice-2.result.now c.in-Ok.heard c.in-Ok.ensures.step refl

@@ -2,8 +2,7 @@ use Rattle.std.proofs.Common.{refl, sym, ◌∙◌, nat_cmp}
 use Rattle.std.specs.FinMap.{get-empty}
 use Rattle.std.proofs.lemmas.Option.{none-some}
 use Rattle.ddt_trie.specs.PrefixMap.{path_cmp}
-use Rattle.ddt_sim.specs.Sound.{KeepsLaws}
-use Rattle.ddt_sim.proofs.SoundLemmas.{sound_step, sound_moved, sound_dropped}
+use Rattle.ddt_sim.proofs.SoundLemmas.{KeepsLaws, sound_step, sound_moved, sound_dropped}
 use Rattle.ddt_sim.proofs.laws.a_step_keeps_a_resolver_sound.Goals as goal
 
 pub returns-clause-steps : goal.returns-clause-steps

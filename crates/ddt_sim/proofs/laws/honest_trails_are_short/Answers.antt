@@ -1,4 +1,4 @@
-use Rattle.ddt_sim.specs.Sound.{KeepsLaws}
+use Rattle.ddt_sim.proofs.SoundLemmas.{KeepsLaws}
 use Rattle.ddt_sim.proofs.ShortLemmas.{ShortLaws, trail_is_short}
 use Rattle.ddt_sim.proofs.laws.honest_trails_are_short.Goals as goal
 

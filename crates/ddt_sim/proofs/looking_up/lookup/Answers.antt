@@ -71,11 +71,11 @@ returns-in-Err-clause-sound g c = λ r accepted honest sound.
 
 pub returns-in-Err-clause-errors : goal.returns-in-Err-clause-errors
 returns-in-Err-clause-errors g c = λ r accepted honest sound.
-    rw c.unasked.ensures (refused_is_right c.args.now c.args.x c.args.resolver.now c.ask.new.self c.in-Err.error c.in-Err.ensures.step)
+    rw c.ask_refused.ensures (refused_is_right c.args.now c.args.x c.args.resolver.now c.ask.new.self c.in-Err.error c.in-Err.ensures.step)
 
 pub returns-in-Err-clause-failed : goal.returns-in-Err-clause-failed
 returns-in-Err-clause-failed g c =
-    rw c.unasked.ensures (refused_fails c.args.now c.args.x c.args.resolver.now c.ask.new.self c.in-Err.error c.in-Err.ensures.step c.in-Err.ensures.memory)
+    rw c.ask_refused.ensures (refused_fails c.args.now c.args.x c.args.resolver.now c.ask.new.self c.in-Err.error c.in-Err.ensures.step c.in-Err.ensures.memory)
 
 pub returns-in-Err-clause-remembered : goal.returns-in-Err-clause-remembered
 returns-in-Err-clause-remembered g c = λ kept.

@@ -1,7 +1,8 @@
 use Rattle.std.proofs.Common.{◌∙◌, ap, ap₂, sym, rules, get_or}
 use Rattle.clap.specs.Words.{App, with_subcommand}
 use Rattle.ddt_words.specs.Line.{bare_line, command_app}
-use Rattle.ddt_words.proofs.LineLemmas.{fold_more, not_third, nothing, plain_command}
+use Rattle.std.proofs.lemmas.List.Sums.{fold_more}
+use Rattle.ddt_words.proofs.LineLemmas.{not_third, nothing, plain_command}
 use Rattle.ddt_words.proofs.declaration.command_line.Goals as goal
 
 pub loop-declaration-preserved : goal.loop-declaration-preserved

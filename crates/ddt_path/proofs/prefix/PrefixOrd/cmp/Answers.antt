@@ -10,5 +10,5 @@ returns c =
     let p = c.args.self.now in
     let q = c.args.other.now in
     let at : c.len-shared.result ≡ shared_len p q =
-    c.len-shared.ensures.digits ∙ ap length c.longest_common.ensures ∙ length-take (shared_len p q) p ∙ omega (arith, shared_len-le p q) in
+    c.len-shared.ensures.digits ∙ ap length c.longest_common.ensures.digits ∙ length-take (shared_len p q) p ∙ omega (arith, shared_len-le p q) in
     rw (c.cmp.ensures, c.digit.ensures, c.digit-2.ensures, at) (cmp_at_shared p q)

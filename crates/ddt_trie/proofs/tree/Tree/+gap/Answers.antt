@@ -123,7 +123,7 @@ returns-else-overlaps-clause-found g t c =
     let long : c.len.result ≡ length k =
     c.len.ensures.digits ∙ ap (λ (e : Entry _). length e.prefix) c.deref.ensures in
     let common : c.longest_common.result ≡ take (shared_len k p) k =
-    c.longest_common.ensures ∙ ap (λ (e : Entry _). take (shared_len e.prefix p) e.prefix) c.deref-in-Leaf-2.ensures in
+    c.longest_common.ensures.digits ∙ ap (λ (e : Entry _). take (shared_len e.prefix p) e.prefix) c.deref-in-Leaf-2.ensures in
     let shared : c.len-in-Leaf.result ≡ shared_len k p =
     c.len-in-Leaf.ensures.digits ∙ ap (λ (l : List ℕ). length l) common
     ∙ length-take-le (shared_len k p) k (shared_len-le k p) in

@@ -9,8 +9,8 @@ use Rattle.ddt_cache.specs.Entry.{is_positive, is_negative, most_positive_minute
 use Rattle.ddt_cache.specs.Live.{Known}
 use Rattle.ddt_cache.specs.Saved.{most_live_entries}
 
--- what holds of the live entry of a prefix: it ends after the time, within a day, and within a quarter of an hour where
--- it is negative; it isn't NOT-AUTHORITATIVE; a positive one has a locator and isn't for everything
+-- What holds of the live entry of a prefix. It ends after the time, within a day, and within a quarter of an hour where
+-- it is negative. It isn't NOT-AUTHORITATIVE; a positive one has a locator and isn't for everything.
 pub record IsEntryInOrder (time : ℕ) (p : List ℕ) (e : Entry) : Type 0 where
   pub live : time < e.end
   pub day : e.end ≤ time + most_positive_minutes * minute

@@ -1,23 +1,9 @@
 -- Pairs of numbers as keys, and the first item of a key in an earlier row.
-use Rattle.std.proofs.Common.{◌≡◌, ℕ, ◌+◌, Bool, true, false, cond, List, get_or, Ordering, Less, Equal, Greater, refl, sym, ap, ◌∙◌}
-use Rattle.std.specs.Prelude.{◌==◌, ◌&&◌, ◌||◌, nat_lt}
+use Rattle.std.proofs.Common.{◌≡◌, ℕ, ◌+◌, List, get_or, Ordering, Less, Equal, Greater, refl, ap, ◌∙◌}
 use Rattle.std.specs.List.Sorted.{IsSortedByKey}
 use Rattle.std.specs.Ordering.{nat_cmp, is_lt, ordering_then}
-use Rattle.std.specs.Cmp.Lexicographic.{slice_cmp}
 use Rattle.ddt_check.specs.Order.{IsInOrder}
 use Rattle.ddt_check.specs.Columns.{key_list}
-
-pair_cases : (l e m f : Bool)
-    → is_lt (ordering_then (cond l Less (cond e Equal Greater)) (ordering_then (cond m Less (cond f Equal Greater)) Equal)) ≡ (l || (e && m))
-pair_cases true e m f = refl
-pair_cases false true true f = refl
-pair_cases false true false true = refl
-pair_cases false true false false = refl
-pair_cases false false m f = refl
-
-pub pair_before : (p q : ℕ × ℕ)
-    → (nat_lt p.0 q.0 || (p.0 == q.0 && nat_lt p.1 q.1)) ≡ is_lt (slice_cmp nat_cmp (key_list p) (key_list q))
-pair_before p q = sym (pair_cases (nat_lt p.0 q.0) (p.0 == q.0) (nat_lt p.1 q.1) (p.1 == q.1))
 
 regroup : (a b c : Ordering)
     → ordering_then (ordering_then a (ordering_then b Equal)) c ≡ ordering_then (ordering_then a b) c

@@ -8,8 +8,8 @@ use Rattle.std.proofs.lemmas.List.Folds.{list_any_more}
 use Rattle.std.proofs.lemmas.List.Sorted.{list_any-IsPermutation}
 use Rattle.std.proofs.lemmas.List.{get_or_default}
 use Rattle.std.proofs.Math.Seq.{take-length}
-use Rattle.ddt_check.specs.Rules.{IsLeastRow}
-use Rattle.ddt_check.proofs.LeastRowLemmas.{IsLeastRow-same, item_at}
+use Rattle.ddt_check.specs.Rules.{IsLeastRow, item_at}
+use Rattle.ddt_check.proofs.LeastRowLemmas.{IsLeastRow-same}
 
 module _ {A : Type 0} (row : A → ℕ) (test : A → Bool) where
   one_more : (xs : List A) (i : ℕ) (x : A) → i < length xs → x ≡ get_or xs i x → (n : ℕ)

@@ -18,3 +18,4 @@ pub mod WrongLemmas
 pub mod RuleLemmas
 pub mod HolderLemmas
 pub mod ServersByNameLemmas
+pub mod ChildLemmas

@@ -1,13 +1,13 @@
 -- Lists sorted by a key and then by row: what stands between, and what is found beside an item.
 use Rattle.std.proofs.Common.{◌≡◌, ℕ, ◌+◌, ◌<◌, ◌≤◌, Bool, true, false, cond, ltb, List, length, get_or, IsPermutation, Ordering, Less, Equal, Greater, inl, inr, refl, ap, subst, ◌∙◌, arith}
 use Rattle.std.specs.Prelude.{◌==◌, ◌&&◌, nat_lt}
-use Rattle.std.specs.List.{list_any}
 use Rattle.std.specs.Ordering.{nat_cmp, is_lt, is_eq, ordering_then, ordering_reverse}
 use Rattle.std.specs.Cmp.{IsTotalOrder, then_total, on_total, nat_cmp_total}
 use Rattle.std.specs.Cmp.Lexicographic.{slice_cmp, texts_ties, nat_list_cmp_total, bytes_decides}
 use Rattle.std.proofs.lemmas.Bool.{true≢false, both_ways, false_from_ne_true, and_parts, and_from, eqb-false, ltb-true, ltb-false, lt-ltb, cases_lt}
 use Rattle.std.proofs.lemmas.List.Sorted.{sorted_far, ranks_by}
 use Rattle.ddt_path.specs.Covers.{is_same_path}
+use Rattle.ddt_check.specs.Rules.{is_duplicate}
 use Rattle.ddt_check.specs.Order.{in_order, IsInOrder}
 use Rattle.ddt_path.proofs.MemberLemmas.{placed, placed_in, any_in, in_any, iff_same}
 use Rattle.ddt_path.proofs.CoverLemmas.{same_path-flips}
@@ -49,13 +49,10 @@ module _ {A : Type 0} (key : A → List ℕ) (row : A → ℕ) where
         (ranks_by in_order_total (λ x. x)) xs sorted i j d le inside)
 
     module _ (zs : List A) (up : Rising row zs) (moved : IsPermutation zs xs) where
-      abbrev has_earlier : A → Bool
-      has_earlier x = list_any (λ y. nat_lt (row y) (row x) && is_same_path (key y) (key x)) zs
-
       -- the neighbour before, where its key is the same
       pub beside-earlier : (at : ℕ) (d : A) → at + 1 < length xs
           → is_same_path (key (get_or xs at d)) (key (get_or xs (at + 1) d)) ≡ true
-          → has_earlier (get_or xs (at + 1) d) ≡ true
+          → is_duplicate key row zs (get_or xs (at + 1) d) ≡ true
       beside-earlier at d inside same =
           let y = get_or xs at d in
           let x = get_or xs (at + 1) d in
@@ -67,7 +64,7 @@ module _ {A : Type 0} (key : A → List ℕ) (row : A → ℕ) where
           same)
 
       -- an earlier one of the same key stands before, and the neighbour before has the key too
-      earlier-place : (at : ℕ) (d : A) → at < length xs → has_earlier (get_or xs at d) ≡ true
+      earlier-place : (at : ℕ) (d : A) → at < length xs → is_duplicate key row zs (get_or xs at d) ≡ true
           → (j : ℕ) × (j < at) × (is_same_path (key (get_or xs j d)) (key (get_or xs at d)) ≡ true)
       earlier-place at d inside e =
           let x = get_or xs at d in
@@ -84,11 +81,11 @@ module _ {A : Type 0} (key : A → List ℕ) (row : A → ℕ) where
           ]
 
       -- whether an earlier row has the key, by the neighbour before
-      pub has_earlier-beside : (at : ℕ) (d : A) → at + 1 < length xs
-          → is_same_path (key (get_or xs at d)) (key (get_or xs (at + 1) d)) ≡ has_earlier (get_or xs (at + 1) d)
-      has_earlier-beside at d inside =
+      pub duplicate-beside : (at : ℕ) (d : A) → at + 1 < length xs
+          → is_same_path (key (get_or xs at d)) (key (get_or xs (at + 1) d)) ≡ is_duplicate key row zs (get_or xs (at + 1) d)
+      duplicate-beside at d inside =
           iff_same (is_same_path (key (get_or xs at d)) (key (get_or xs (at + 1) d)))
-          (has_earlier (get_or xs (at + 1) d))
+          (is_duplicate key row zs (get_or xs (at + 1) d))
           (beside-earlier at d inside)
           (λ e.
           let p = earlier-place (at + 1) d inside e in
@@ -102,6 +99,6 @@ module _ {A : Type 0} (key : A → List ℕ) (row : A → ℕ) where
           let first : a ≡ b = (bytes_decides a b).0 (is_same_path-between a b c up down across p.2) in
           subst (λ (k : List ℕ). is_same_path k c ≡ true) first p.2)
 
-      pub has_earlier-first : (d : A) → 0 < length xs → has_earlier (get_or xs 0 d) ≡ false
-      has_earlier-first d inside = false_from_ne_true (has_earlier (get_or xs 0 d))
+      pub duplicate-first : (d : A) → 0 < length xs → is_duplicate key row zs (get_or xs 0 d) ≡ false
+      duplicate-first d inside = false_from_ne_true (is_duplicate key row zs (get_or xs 0 d))
           (λ e. let p = earlier-place 0 d inside e in absurd (omega (arith, p.1)))

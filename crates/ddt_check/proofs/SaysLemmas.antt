@@ -25,7 +25,8 @@ use Rattle.ddt_check.specs.Zones.{zone_of, site_of, locators_of, served_zones}
 use Rattle.ddt_check.specs.Assignment.{assignment, assigned_in, assigned_site, prefixes_in, prefixes_below_site}
 use Rattle.ddt_check.specs.Says.{referral_to, next_zone, says_from, says}
 use Rattle.ddt_check.specs.Rules.{IsAccepted}
-use Rattle.ddt_check.specs.Laws.{IsReferral, IsFinal, NamesServers, AreServers}
+use Rattle.ddt_path.specs.Actions.{IsReferral}
+use Rattle.ddt_check.specs.Laws.{IsFinal, NamesServers, AreServers}
 use Rattle.ddt_path.proofs.MatchingLemmas.{best_member, best_found}
 use Rattle.ddt_check.proofs.NextLemmas.{next_is}
 use Rattle.ddt_check.proofs.RootLemmas.{served_alike}

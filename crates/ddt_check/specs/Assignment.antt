@@ -15,17 +15,23 @@ use Rattle.ddt_check.specs.declared.holes.Inside.{Inside}
 use Rattle.ddt_check.specs.declared.holes.Inside.TheVariants.{ZonesBelow, SitesWithin, SitesBelow}
 use Rattle.ddt_check.specs.Zones.{zone_of, site_of, locators_of}
 
+-- what lies inside a prefix, by what is sought: zones strictly below it, sites that it covers, sites strictly below it
+abbrev pub prefixes_inside : Register → List ℕ → Inside → List (List ℕ)
+prefixes_inside r p ZonesBelow = map (λ y. y.prefix) (filter (λ y. is_strictly_below y.prefix p) r.zones)
+prefixes_inside r p SitesWithin = map (λ s. s.prefix) (filter (λ s. covers p s.prefix) r.sites)
+prefixes_inside r p SitesBelow = map (λ s. s.prefix) (filter (λ s. is_strictly_below s.prefix p) r.sites)
+
 -- the prefixes of the zones strictly below a zone
 abbrev pub prefixes_below : Register → Zone → List (List ℕ)
-prefixes_below r z = map (λ y. y.prefix) (filter (λ y. is_strictly_below y.prefix z.prefix) r.zones)
+prefixes_below r z = prefixes_inside r z.prefix ZonesBelow
 
 -- the prefixes of the sites that a zone covers
 abbrev pub prefixes_within : Register → Zone → List (List ℕ)
-prefixes_within r z = map (λ s. s.prefix) (filter (λ s. covers z.prefix s.prefix) r.sites)
+prefixes_within r z = prefixes_inside r z.prefix SitesWithin
 
 -- the prefixes of the sites strictly below a site
 abbrev pub prefixes_below_site : Register → Site → List (List ℕ)
-prefixes_below_site r s = map (λ t. t.prefix) (filter (λ t. is_strictly_below t.prefix s.prefix) r.sites)
+prefixes_below_site r s = prefixes_inside r s.prefix SitesBelow
 
 -- what is delegated or registered inside a zone: zones in a zone of DDT nodes, sites in one of Map-Servers
 abbrev pub prefixes_in : Register → Zone → Role → List (List ℕ)
@@ -53,9 +59,3 @@ assigned_in r z Ms x =
 -- another register and an identifier that no zone covers this gives the hole of everything.
 abbrev pub assignment : Register → List ℕ → Outcome
 assignment r x = option_map_or (λ z. assigned_in r z z.kind x) (zone_of r x) (Hole [])
-
--- what lies inside a prefix, by what is sought: zones strictly below it, sites that it covers, sites strictly below it
-abbrev pub prefixes_inside : Register → List ℕ → Inside → List (List ℕ)
-prefixes_inside r p ZonesBelow = map (λ y. y.prefix) (filter (λ y. is_strictly_below y.prefix p) r.zones)
-prefixes_inside r p SitesWithin = map (λ s. s.prefix) (filter (λ s. covers p s.prefix) r.sites)
-prefixes_inside r p SitesBelow = map (λ s. s.prefix) (filter (λ s. is_strictly_below s.prefix p) r.sites)

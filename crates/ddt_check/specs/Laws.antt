@@ -4,10 +4,11 @@ use Rattle.std.specs.Prelude.{◌≡◌, ◌≢◌, ◌⊎◌, ℕ, ◌<◌, ◌
 use Rattle.ddt_path.specs.declared.locator.Locator.{Locator}
 use Rattle.ddt_path.specs.declared.record.Role.TheVariants.{Node}
 use Rattle.ddt_path.specs.declared.action.Action.{Action}
-use Rattle.ddt_path.specs.declared.action.Action.TheVariants.{NodeReferral, MsReferral, MsAck, MsNotRegistered, DelegationHole, NotAuthoritative}
+use Rattle.ddt_path.specs.declared.action.Action.TheVariants.{MsAck, MsNotRegistered, DelegationHole, NotAuthoritative}
 use Rattle.ddt_path.specs.declared.record.Outcome.{Outcome}
 use Rattle.ddt_path.specs.declared.record.Outcome.TheVariants.{Registered, NotRegistered, Hole}
 use Rattle.ddt_path.specs.declared.record.ReferralRecord.{ReferralRecord}
+use Rattle.ddt_path.specs.Actions.{IsReferral}
 use Rattle.ddt_path.specs.Covers.{covers}
 use Rattle.ddt_path.specs.Free.{free}
 use Rattle.ddt_path.specs.Locators.{lists, most_locators}
@@ -23,10 +24,6 @@ use Rattle.ddt_check.specs.Assignment.{assignment, prefixes_in, prefixes_below_s
 use Rattle.ddt_check.specs.Says.{referral_to, says}
 
 -- ---- what is said of a record
-
--- an action that refers to other servers
-abbrev pub IsReferral : Action → Type 0
-IsReferral action = (action ≡ NodeReferral) ⊎ (action ≡ MsReferral)
 
 -- an action that ends a lookup
 abbrev pub IsFinal : Action → Type 0

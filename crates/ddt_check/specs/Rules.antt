@@ -3,8 +3,9 @@
 use Rattle.std.specs.Prelude.{◌≡◌, ℕ, ◌<◌, Bool, true, false, ◌==◌, ◌&&◌, ◌||◌, not, nat_lt, if◌then◌else◌, List, length, is_some, Option, MatchOption}
 use Rattle.std.specs.List.{list_any}
 use Rattle.std.specs.Option.{option_map_or}
+use Rattle.std.specs.Cmp.Lexicographic.{pointwise}
 use Rattle.ddt_path.specs.declared.locator.Locator.{Locator}
-use Rattle.ddt_path.specs.Covers.{is_same_path, is_strictly_below}
+use Rattle.ddt_path.specs.Covers.{is_strictly_below}
 use Rattle.ddt_register.specs.declared.zone.Zone.{Zone}
 use Rattle.ddt_register.specs.declared.site.Site.{Site}
 use Rattle.ddt_register.specs.declared.group.Group.{Group}
@@ -12,28 +13,36 @@ use Rattle.ddt_register.specs.declared.register.Register.{Register}
 use Rattle.ddt_check.specs.declared.fault.Rule.{Rule}
 use Rattle.ddt_check.specs.declared.fault.Rule.TheVariants as rules
 use Rattle.ddt_path.specs.Locators.{lists, are_distinct, most_locators}
-use Rattle.ddt_path.specs.Names.{is_same_name}
 use Rattle.ddt_check.specs.Zones.{is_ms, is_same_role, zone_of, group_named}
 
--- some zone, site or group stands in the row and passes the test
+-- some item of a list stands in the row and passes the test
+abbrev pub item_at : {A : Type 0} → (A → ℕ) → (A → Bool) → List A → ℕ → Bool
+item_at row_of test items row = list_any (λ x. row_of x == row && test x) items
+
+-- the same of the zones, sites or groups of a register
 abbrev pub zone_at : Register → ℕ → (Zone → Bool) → Bool
-zone_at r row test = list_any (λ z. z.row == row && test z) r.zones
+zone_at r row test = item_at (λ z. z.row) test r.zones row
 
 abbrev pub site_at : Register → ℕ → (Site → Bool) → Bool
-site_at r row test = list_any (λ s. s.row == row && test s) r.sites
+site_at r row test = item_at (λ s. s.row) test r.sites row
 
 abbrev pub group_at : Register → ℕ → (Group → Bool) → Bool
-group_at r row test = list_any (λ g. g.row == row && test g) r.groups
+group_at r row test = item_at (λ g. g.row) test r.groups row
 
--- some zone, site or group of an earlier row passes the test
+-- some item of a list stands in an earlier row than this one and passes the test
+abbrev pub earlier_item : {A : Type 0} → (A → ℕ) → List A → A → (A → Bool) → Bool
+earlier_item row_of items x test = list_any (λ y. nat_lt (row_of y) (row_of x) && test y) items
+
+-- the same of the zones or groups of a register
 abbrev pub earlier_zone : Register → Zone → (Zone → Bool) → Bool
-earlier_zone r z test = list_any (λ y. nat_lt y.row z.row && test y) r.zones
-
-abbrev pub earlier_site : Register → Site → (Site → Bool) → Bool
-earlier_site r s test = list_any (λ t. nat_lt t.row s.row && test t) r.sites
+earlier_zone r z test = earlier_item (λ y. y.row) r.zones z test
 
 abbrev pub earlier_group : Register → Group → (Group → Bool) → Bool
-earlier_group r g test = list_any (λ h. nat_lt h.row g.row && test h) r.groups
+earlier_group r g test = earlier_item (λ h. h.row) r.groups g test
+
+-- an item of an earlier row has the item's key: the digits of its prefix, or the bytes of its name
+abbrev pub is_duplicate : {A : Type 0} → (A → List ℕ) → (A → ℕ) → List A → A → Bool
+is_duplicate key row_of items x = earlier_item row_of items x (λ y. pointwise ◌==◌ (key y) (key x))
 
 -- the zone of everything
 abbrev pub is_root : Zone → Bool
@@ -45,11 +54,11 @@ is_wrong_root r z = is_root z && (is_ms z.kind || earlier_zone r z is_root)
 
 -- A2: a zone of the same prefix stands in an earlier row
 abbrev pub is_duplicate_zone : Register → Zone → Bool
-is_duplicate_zone r z = earlier_zone r z (λ y. is_same_path y.prefix z.prefix)
+is_duplicate_zone r z = is_duplicate (λ y. y.prefix) (λ y. y.row) r.zones z
 
 -- A3: a site of the same prefix stands in an earlier row; a site inside another's prefix breaks no rule
 abbrev pub is_duplicate_site : Register → Site → Bool
-is_duplicate_site r s = earlier_site r s (λ t. is_same_path t.prefix s.prefix)
+is_duplicate_site r s = is_duplicate (λ t. t.prefix) (λ t. t.row) r.sites s
 
 -- A4: no row defines the zone's group
 abbrev pub is_of_unknown_group : Register → Zone → Bool
@@ -84,7 +93,7 @@ has_too_many_etrs s = nat_lt most_locators (length s.etrs)
 
 -- A10: a group of the same name stands in an earlier row
 abbrev pub is_duplicate_group : Register → Group → Bool
-is_duplicate_group r g = earlier_group r g (λ h. is_same_name h.name g.name)
+is_duplicate_group r g = is_duplicate (λ h. h.name) (λ h. h.row) r.groups g
 
 -- where a rule is broken; A1 at row 0 where no zone is the root
 abbrev pub broken : Register → Rule → ℕ → Bool

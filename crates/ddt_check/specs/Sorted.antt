@@ -27,10 +27,7 @@ AreEarlierKept r rule = (earlier : Rule) (n : ℕ) → rule_number earlier < rul
 abbrev pub IsLeastOfZones : List Zone → Rule → Option ℕ → Type 0
 IsLeastOfZones zones rule row = (r : Register) → IsPermutation r.zones zones → IsLeastRow (broken r rule) row
 
--- the same of sites, of groups, and of zones with groups
-abbrev pub IsLeastOfSites : List Site → Rule → Option ℕ → Type 0
-IsLeastOfSites sites rule row = (r : Register) → IsPermutation r.sites sites → IsLeastRow (broken r rule) row
-
+-- the same of groups, and of zones with groups
 abbrev pub IsLeastOfGroups : List Group → Rule → Option ℕ → Type 0
 IsLeastOfGroups groups rule row = (r : Register) → IsPermutation r.groups groups → IsLeastRow (broken r rule) row
 

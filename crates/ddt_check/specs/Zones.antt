@@ -1,12 +1,12 @@
 -- What is looked up in a register: a zone of an identifier, a group of a name, the locators of a group, served zones.
-use Rattle.std.specs.Prelude.{ℕ, Bool, true, false, List, [], ◌∷◌, find, Option}
-use Rattle.std.specs.List.{filter}
+use Rattle.std.specs.Prelude.{ℕ, Bool, true, false, ◌&&◌, not, List, [], ◌∷◌, find, Option}
+use Rattle.std.specs.List.{list_any, filter}
 use Rattle.std.specs.Option.{option_map_or}
 use Rattle.ddt_path.specs.declared.locator.Locator.{Locator}
 use Rattle.ddt_path.specs.declared.locator.Locator.TheVariants.{V4}
 use Rattle.ddt_path.specs.declared.record.Role.{Role}
 use Rattle.ddt_path.specs.declared.record.Role.TheVariants.{Node, Ms}
-use Rattle.ddt_path.specs.Covers.{covers}
+use Rattle.ddt_path.specs.Covers.{covers, is_strictly_below}
 use Rattle.ddt_path.specs.Locators.{lists}
 use Rattle.ddt_path.specs.Names.{is_same_name}
 use Rattle.ddt_path.specs.Matching.{longest_match}
@@ -52,6 +52,14 @@ first_locator (l ∷ ls) = l
 -- a zone that names a group as its own
 abbrev pub is_served_by : Group → Zone → Bool
 is_served_by g z = is_same_name g.name z.group
+
+-- a zone between two others: strictly below the one, and the other strictly below it
+abbrev pub is_between : Zone → Zone → Zone → Bool
+is_between z c y = is_strictly_below y.prefix z.prefix && is_strictly_below c.prefix y.prefix
+
+-- a zone strictly below another, with no zone between: a child in the delegation tree
+abbrev pub is_direct_child : Register → Zone → Zone → Bool
+is_direct_child r z c = is_strictly_below c.prefix z.prefix && not (list_any (is_between z c) r.zones)
 
 -- a site inside a zone: one that the zone covers
 abbrev pub is_site_in : Zone → Site → Bool

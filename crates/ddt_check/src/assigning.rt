@@ -1,9 +1,8 @@
 //! What longest match over an accepted register assigns to an identifier.
 
 ghost use Rattle.std.specs.Prelude.{◌≡◌};
-ghost use Rattle.std.specs.Option.{option_copied};
 ghost use Rattle.ddt_path.specs.Path.{xeid_path};
-ghost use Rattle.ddt_check.specs.Zones.{site_of as site_of_path, locators_of as locators_of_name};
+ghost use Rattle.ddt_check.specs.Zones.{locators_of as locators_of_name};
 ghost use Rattle.ddt_path.specs.Free.{hole_of};
 ghost use Rattle.ddt_check.specs.Assignment.{assignment, assigned_in, assigned_site, prefixes_in};
 ghost use Rattle.ddt_path.specs.declared.record.Outcome.TheVariants.{Hole};

@@ -9,11 +9,10 @@ ghost use Rattle.ddt_check.specs.Sorted.{AreReordered, AreEarlierKept, AreLeast}
 
 use crate::accepted::Accepted;
 use crate::fault::{Fault, Rule};
+use crate::rules::duplicates::duplicate;
 use crate::rules::locators::wrong_locators;
-use crate::rules::{groups, sites, zones};
-use crate::sorting::{
-    restore_groups, restore_sites, restore_zones, sort_groups, sort_sites, sort_zones,
-};
+use crate::rules::{sites, zones};
+use crate::sorting::{restore, sort_by_name, sort_by_prefix};
 use ddt_path::Listed;
 use ddt_register::{Group, Register, Site, Zone};
 
@@ -95,19 +94,19 @@ fn sort_and_test(
         → IsLeastRow (broken r Rule.NoRoot) root → IsLeastRow (broken r Rule.TooManyEtrs) etrs
         → MatchOption result (IsAccepted r) (λ f. IsLeastFault r f.rule f.row) }
 {
-    sort_zones(zones);
-    sort_sites(sites);
+    sort_by_prefix(zones);
+    sort_by_prefix(sites);
     let locators = wrong_locators(groups);
-    sort_groups(groups);
+    sort_by_name(groups);
     let found = Found {
         root,
         etrs,
         locators,
     };
     let fault = first_fault(&found, zones, sites, groups);
-    restore_zones(zones);
-    restore_sites(sites);
-    restore_groups(groups);
+    restore(zones);
+    restore(sites);
+    restore(groups);
     fault
 }
 
@@ -144,15 +143,15 @@ fn first_row(
 {
     match rule {
         Rule::NoRoot => found.root,
-        Rule::DuplicateZone => zones::duplicate(zones),
-        Rule::DuplicateSite => sites::duplicate(sites),
+        Rule::DuplicateZone => duplicate(zones),
+        Rule::DuplicateSite => duplicate(sites),
         Rule::UnknownGroup => zones::of_unknown_group(zones, groups),
         Rule::Role => zones::of_other_role(zones, groups),
         Rule::Locators => found.locators,
         Rule::BelowMapServer => zones::below_map_server(zones),
         Rule::SiteOutside => sites::outside(sites, zones),
         Rule::TooManyEtrs => found.etrs,
-        Rule::DuplicateGroup => groups::duplicate(groups),
+        Rule::DuplicateGroup => duplicate(groups),
     }
 }
 

@@ -1,15 +1,19 @@
 //! The ten rules, each as the least row that breaks it, over lists that are sorted in place: by prefix or name, then
 //! by row. An item's duplicates then stand beside it, and a name, a locator or a zone is found by halving.
 
-ghost use Rattle.std.specs.Prelude.{◌≡◌, min, Some};
+ghost use Rattle.std.specs.Prelude.{◌≡◌, Bool, List, min, Some, IsPermutation};
 ghost use Rattle.std.specs.Option.{option_map_or};
+ghost use Rattle.ddt_path.specs.Matching.{AnswersAs};
+ghost use Rattle.ddt_check.specs.Rules.{IsLeastRow, item_at};
 
-pub mod groups;
+use ddt_register::Item;
+
+pub mod duplicates;
 pub mod locators;
 pub mod sites;
 pub mod zones;
 
-/// The lower of two rows, where there is a first.
+/// The lower of a row and another, if there is one.
 fn lower(least: Option<u32>, row: u32) -> u32
     ensures { result ≡ option_map_or (λ l. min l row) least row }
 {
@@ -27,4 +31,19 @@ fn lower_of(a: Option<u32>, b: Option<u32>) -> Option<u32>
         Some(row) => Some(lower(b, row)),
         None => b,
     }
+}
+
+/// The least row of the items that pass a test; None where none does.
+fn least_row<T: Item, F: Fn(&T) -> bool>(items: &[T], test: F) -> Option<u32>
+    requires { F.IsAlwaysCallable test }
+    ensures { (passes : T → Bool) (all : List T) → AnswersAs F.Fn test passes → IsPermutation all items.now
+        → IsLeastRow (item_at T.row_of passes all) result }
+{
+    let mut least = None;
+    for item in items {
+        if test(item) {
+            least = Some(lower(least, item.row()));
+        }
+    }
+    least
 }

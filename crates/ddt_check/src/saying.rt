@@ -1,6 +1,6 @@
 //! What an honest server answers, over the lists of the register.
 
-ghost use Rattle.std.specs.Prelude.{◌≡◌, length};
+ghost use Rattle.std.specs.Prelude.{◌≡◌};
 ghost use Rattle.ddt_path.specs.Path.{xeid_path};
 ghost use Rattle.ddt_check.specs.Says.{says as says_of, says_from, referral_to};
 

@@ -1,16 +1,11 @@
 -- The configuration of the group of a name.
-use Rattle.std.proofs.Common.{◌≡◌, ℕ, true, List, [], ◌∷◌, Option, Some, None, Result, Ok, Err, IfOk, refl, MatchOption}
+use Rattle.std.proofs.Common.{◌≡◌, ℕ, List, Option, Some, None, Result, Ok, Err, IfOk, refl, MatchOption}
 use Rattle.std.specs.Prelude.{IfSome}
 use Rattle.std.specs.declared.alloc.AllocError.{AllocError}
 use Rattle.std.specs.Option.{option_map}
-use Rattle.std.proofs.lemmas.Bool.{and_parts, false≢true}
-use Rattle.ddt_path.specs.declared.locator.Locator.{Locator}
-use Rattle.ddt_path.specs.Locators.{lists}
-use Rattle.ddt_path.proofs.LocatorLemmas.{is_same_locator_self}
 use Rattle.ddt_register.specs.declared.register.Register.{Register}
-use Rattle.ddt_check.specs.Zones.{group_named, first_locator}
+use Rattle.ddt_check.specs.Zones.{group_named}
 use Rattle.ddt_config.specs.declared.config.ServerConfig.{ServerConfig}
-use Rattle.ddt_config.specs.Shaped.{is_server_set}
 use Rattle.ddt_config.specs.Table.{outline}
 use Rattle.ddt_compile.specs.GroupConfig.{config_named}
 use Rattle.ddt_compile.specs.Laws.{IsHonestConfig, HasRoom}
@@ -29,11 +24,3 @@ pub chosen_or_refused : (r : Register) (name : List ℕ) (result : Result (Optio
     → IfOk result (λ found. MatchOption found (group_named r name ≡ None) (λ (c : ServerConfig). IsConfigOfGroup r name c))
 chosen_or_refused r name (Ok found) e honest room = chosen r name found e honest room
 chosen_or_refused r name (Err refused) e honest room = tt
-
--- a server has a locator, and lists its first one
-first_listed : (ls : List Locator) → is_server_set ls ≡ true → lists ls (first_locator ls) ≡ true
-first_listed [] e = absurd (false≢true e)
-first_listed (l ∷ ls) e = rw (is_same_locator_self l) refl
-
-pub own_locator : (c : ServerConfig) → lists c.locators (first_locator c.locators) ≡ true
-own_locator c = first_listed c.locators (and_parts _ _ (and_parts _ _ c.shaped).0).0

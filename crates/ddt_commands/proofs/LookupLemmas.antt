@@ -136,10 +136,6 @@ spelled_more words i d x ids new lt so_far good is =
     ap (map xeid_in) (sym (one_more words i d lt)) ∙ map_push xeid_in (take i (texts words)) (get_or words i d).now ∙ (λ k. so_far k ++ good k ∷ [])
     ∙ sym (map_push Ok ids x) ∙ ap (map Ok) (sym is)
 
-pub spelled_all : (words : List (Bor (List ℕ))) (i : ℕ) (ids : List Xeid) → length words ≤ i → map xeid_in (take i (texts words)) ≡ map Ok ids → map xeid_in (texts words) ≡ map Ok ids
-spelled_all words i ids all so_far =
-    ap (map xeid_in) (sym (take_all i (texts words) (rw (length-map words (λ (t : Bor (List ℕ)). t.now)) all))) ∙ so_far
-
 pub told_all : (r : Register) (now time : ℕ) (start : State) (words : List (Bor (List ℕ))) (i : ℕ) (complete : Bool) (text : List ℕ) (after : State) → now ≡ time → length words ≤ i
     → AreTold r now start (take i (texts words)) complete text after → AreTold r time start (texts words) complete text after
 told_all r now time start words i complete text after is all told =

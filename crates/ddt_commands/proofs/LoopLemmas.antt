@@ -1,12 +1,11 @@
 -- From a run of a resolver over wires to what the command says of it.
-use Rattle.std.proofs.Common.{◌≡◌, ◌⊎◌, inl, inr, ℕ, ◌+◌, ◌<◌, ◌≤◌, false, true, Bor, List, [], ◌∷◌, ◌++◌, length, drop, get_or, Option, Some, None, Ok, map, refl, sym, ap, subst, ◌∙◌, append_assoc}
+use Rattle.std.proofs.Common.{◌≡◌, ◌⊎◌, inl, inr, ℕ, ◌+◌, false, true, Bor, List, [], ◌∷◌, ◌++◌, Option, Some, None, Ok, map, refl, sym, ap, subst, ◌∙◌, append_assoc}
 use Rattle.std.specs.Prelude.{count_by}
-use Rattle.std.specs.List.{AllZip, flat_map}
-use Rattle.std.proofs.lemmas.List.{append-nil, at_drop_all, at_drop_more}
+use Rattle.std.specs.List.{AllZip}
+use Rattle.std.proofs.lemmas.List.{append-nil}
 use Rattle.ddt_path.specs.declared.locator.Locator.{Locator}
 use Rattle.ddt_path.specs.declared.xeid.Xeid.{Xeid}
 use Rattle.ddt_path.specs.Locators.{lists}
-use Rattle.ddt_register.specs.declared.group.Group.{Group}
 use Rattle.ddt_register.specs.declared.register.Register.{Register}
 use Rattle.ddt_check.specs.Zones.{roots}
 use Rattle.ddt_config.specs.Table.{Outline}
@@ -37,20 +36,6 @@ good_words call me_ seed turns good e f h = rw (good, e, f, h) refl
 pub ids_of : (call : Call) (words : List (Bor (List ℕ))) (ids shown : List Xeid) → texts words ≡ xeid_words call → map xeid_in (texts words) ≡ map Ok ids → shown ≡ ids
     → map xeid_in (xeid_words call) ≡ map Ok shown
 ids_of call words ids shown same spelled is = ap (map xeid_in) (sym same) ∙ spelled ∙ ap (map Ok) (sym is)
-
--- ---- the locators of the servers
-
--- those of one group more
-pub locators_more : (groups : List Group) (i : ℕ) (d : Group) (old new all : List Locator) → i < length groups → old ++ flat_map (λ g. g.locators) (drop i groups) ≡ all
-    → new ≡ old ++ (get_or groups i d).locators → new ++ flat_map (λ g. g.locators) (drop (i + 1) groups) ≡ all
-locators_more groups i d old new all lt so_far grown =
-    let rest = flat_map (λ (g : Group). g.locators) (drop (i + 1) groups) in
-    ap (λ (l : List Locator). l ++ rest) grown ∙ append_assoc old (get_or groups i d).locators rest
-    ∙ ap (λ (l : List Locator). old ++ l) (sym (at_drop_more (flat_map (λ (g : Group). g.locators)) groups i d lt)) ∙ so_far
-
-pub locators_all : (groups : List Group) (i : ℕ) (found all : List Locator) → length groups ≤ i → found ++ flat_map (λ g. g.locators) (drop i groups) ≡ all → found ≡ all
-locators_all groups i found all le so_far =
-    sym (append-nil found) ∙ ap (λ (l : List Locator). found ++ l) (sym (at_drop_all (flat_map (λ (g : Group). g.locators)) groups i le)) ∙ so_far
 
 -- ---- the lines of the ends
 

@@ -6,7 +6,7 @@ use Rattle.ddt_words.specs.Call.{Call, value}
 use Rattle.ddt_commands.specs.declared.refusal.Refusal.{Refusal}
 use Rattle.ddt_commands.specs.declared.refusal.Refusal.TheVariants.{BadWord}
 use Rattle.ddt_commands.specs.declared.refusal.word.WordRefusal.{WordRefusal}
-use Rattle.ddt_commands.specs.Register.{IsWhyNoRegister, Spell, Tells}
+use Rattle.ddt_commands.specs.Register.{IsWhyNoRegister, Spell, HasBytes}
 
 -- the path of the register of a call
 abbrev pub path : Call → List ℕ
@@ -16,7 +16,7 @@ path call = value (codes "register") call
 abbrev pub OfItsRegister : {F : Type 0} → (F → Option (List ℕ)) → Option F → (Register → Type 0) → Type 0
 OfItsRegister remaining source is_so =
     (source ≢ None)
-    × ((r : Register) × IsAccepted r × ((bytes : List ℕ) → Tells remaining source bytes → Spell bytes r) × is_so r)
+    × ((r : Register) × IsAccepted r × ((bytes : List ℕ) → HasBytes remaining source bytes → Spell bytes r) × is_so r)
 
 -- the words are good, and the path may give this source, of which this is so
 abbrev pub OpensTo : {F : Type 0} → (List ℕ → Option F → Type 0) → Option WordRefusal → Call → (Option F → Type 0)

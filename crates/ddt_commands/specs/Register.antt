@@ -23,10 +23,10 @@ Spell bytes r = register_in bytes ≡ Ok (lists_of r)
 abbrev pub IsRuleBroken : Register → Refusal → Type 0
 IsRuleBroken r why = (fault : Fault) × (why ≡ NoRegister (BreaksRule fault)) × IsLeastFault r fault.rule fault.row
 
--- an opened file tells these bytes; one that couldn't be opened, or whose bytes aren't known, tells none
-abbrev pub Tells : {F : Type 0} → (F → Option (List ℕ)) → Option F → List ℕ → Type 0
-Tells remaining None bytes = ⊥
-Tells remaining (Some file) bytes = remaining file ≡ Some bytes
+-- an opened file has these bytes; one that couldn't be opened, or whose bytes aren't known, has none
+abbrev pub HasBytes : {F : Type 0} → (F → Option (List ℕ)) → Option F → List ℕ → Type 0
+HasBytes remaining None bytes = ⊥
+HasBytes remaining (Some file) bytes = remaining file ≡ Some bytes
 
 -- the bytes have this first fault, as bytes or against the rules, where the refusal names one
 abbrev pub IsFaultIn : List ℕ → RegisterRefusal → Type 0

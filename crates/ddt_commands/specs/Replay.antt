@@ -36,7 +36,7 @@ use Rattle.ddt_commands.specs.declared.script.ScriptFault.{ScriptFault}
 use Rattle.ddt_commands.specs.declared.script.ScriptFault.TheVariants as fault
 use Rattle.ddt_commands.specs.Lookup.{address_refusal, me_of, number_refusal, seed_of, why_text}
 use Rattle.ddt_commands.specs.Over.{OfItsRegister, path}
-use Rattle.ddt_commands.specs.Register.{IsWhyNoRegister, Tells}
+use Rattle.ddt_commands.specs.Register.{IsWhyNoRegister, HasBytes}
 use Rattle.ddt_commands.specs.Script.{IsRefusedAt, SpellsScript}
 
 -- ---- the line of a step
@@ -128,7 +128,7 @@ IsRunText r me_ seed steps text = (past : List Line) × IsRunOf r me_ seed steps
 abbrev pub OfItsScript : {F : Type 0} → (F → Option (List ℕ)) → Option F → (List Step → Type 0) → Type 0
 OfItsScript remaining source is_so =
     (source ≢ None)
-    × ((steps : List Step) × ((bytes : List ℕ) → Tells remaining source bytes → SpellsScript bytes steps) × is_so steps)
+    × ((steps : List Step) × ((bytes : List ℕ) → HasBytes remaining source bytes → SpellsScript bytes steps) × is_so steps)
 
 -- what is refused where bytes spell no script
 abbrev pub script_refusal : ScriptFault → Refusal

@@ -24,7 +24,7 @@ use Rattle.ddt_commands.specs.declared.refusal.server.ServerRefusal.TheVariants.
 use Rattle.ddt_commands.specs.declared.refusal.word.WordRefusal.{WordRefusal}
 use Rattle.ddt_commands.specs.Lookup.{address_refusal, number_refusal}
 use Rattle.ddt_commands.specs.Loopback.{is_loopback}
-use Rattle.ddt_commands.specs.Register.{Tells}
+use Rattle.ddt_commands.specs.Register.{HasBytes}
 use Rattle.ddt_commands.specs.Sockets.{Binding, bind_refusal}
 
 -- ---- what the words ask for
@@ -70,7 +70,7 @@ pub data IsConfigFault (bytes : List ℕ) : ConfigFault → Type 0 where
 abbrev pub OfItsConfig : {F : Type 0} → (F → Option (List ℕ)) → Option F → (Outline → Type 0) → Type 0
 OfItsConfig remaining source is_so =
     (source ≢ None)
-    × ((c : Outline) × ((bytes : List ℕ) → Tells remaining source bytes → IsServedConfig bytes c) × is_so c)
+    × ((c : Outline) × ((bytes : List ℕ) → HasBytes remaining source bytes → IsServedConfig bytes c) × is_so c)
 
 -- what is refused where bytes have this fault
 abbrev pub config_refusal : ConfigFault → Refusal
@@ -94,8 +94,8 @@ IsWhyNoConfig remaining source path why = ⊥
 
 -- ---- serving over wires
 
--- What comes of a server of a configuration at a locator, for so many turns, over wires: the counts of turns over the
--- wires that the socket was bound of, which tell just the calls of these turns; or why it wasn't bound.
+-- What comes of a server of a configuration at a locator, for so many turns, over wires. It is the counts of turns over
+-- the wires that the socket was bound of, which tell just the calls of these turns; or why it wasn't bound.
 abbrev pub ServesOver : {W : Type 0} → Binding W → (W → Option (List WireCall)) → W → W → Outline → Locator → ℕ
     → Result Served Error → Type 0
 ServesOver {W} binds calls before after c at turns (Ok counts) =

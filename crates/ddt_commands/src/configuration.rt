@@ -6,7 +6,7 @@ ghost use Rattle.ddt_config.specs.declared.fault.ConfigFault.TheVariants.{Toml a
 ghost use Rattle.ddt_config.specs.Entries.{entry_count};
 ghost use Rattle.ddt_config.specs.Table.{outline};
 ghost use Rattle.ddt_trie.specs.PrefixMap.{most_entries};
-ghost use Rattle.ddt_commands.specs.Register.{Tells};
+ghost use Rattle.ddt_commands.specs.Register.{HasBytes};
 ghost use Rattle.ddt_commands.specs.Serve.{IsBadConfig, IsServedConfig, IsWhyNoConfig, config_refusal};
 
 use crate::file::bytes_of;
@@ -23,7 +23,7 @@ pub fn config_at<F: Read + Drop>(
     source: Option<F>,
     path: &str,
 ) -> Result<ServerConfig, Refusal<'_>>
-    ensures spelled { IfOk result (λ c. (bytes : List ℕ) → Tells F.remaining source bytes
+    ensures spelled { IfOk result (λ c. (bytes : List ℕ) → HasBytes F.remaining source bytes
         → IsServedConfig bytes (outline c)) }
     ensures room { IfOk result (λ c. entry_count (outline c) < most_entries) }
     ensures refused { IfErr result (IsWhyNoConfig F.remaining source path.now) }

@@ -1,7 +1,6 @@
 //! Loopback addresses: the program binds sockets to no others.
 
 ghost use Rattle.std.specs.Prelude.{◌≡◌};
-ghost use Rattle.std.specs.Option.{option_copied};
 ghost use Rattle.ddt_commands.specs.Loopback.{first_outside as first_outside_of, is_loopback as is_loopback_of};
 
 use ddt_path::Locator;

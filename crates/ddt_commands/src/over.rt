@@ -3,14 +3,13 @@
 ghost use Rattle.std.specs.Prelude.{◌≡◌, ℕ, Bool, List, Option, None, Some, Err, IsErr, IfOk, IfErr};
 ghost use Rattle.std.specs.Fn.{FnReturnsAt};
 ghost use Rattle.ddt_register.specs.declared.register.Register.{Register as ARegister};
-ghost use Rattle.ddt_register.specs.declared.fault.ReadFault.{ReadFault as AReadFault};
 ghost use Rattle.ddt_check.specs.Rules.{IsAccepted};
 ghost use Rattle.ddt_words.specs.Call.{Call, call_of};
 ghost use Rattle.ddt_commands.specs.declared.refusal.Refusal.{Refusal as ARefusal};
 ghost use Rattle.ddt_commands.specs.declared.refusal.word.WordRefusal.{WordRefusal as AWordRefusal};
 ghost use Rattle.ddt_commands.specs.Over.{IsTextOver, IsWhyOver};
 ghost use Rattle.ddt_commands.specs.Refusal.{reading_refusal};
-ghost use Rattle.ddt_commands.specs.Register.{IsRuleBroken, IsWhyNoRegister, Spell, Tells};
+ghost use Rattle.ddt_commands.specs.Register.{IsRuleBroken, IsWhyNoRegister, Spell, HasBytes};
 
 use crate::lines::Lines;
 use crate::refusal::{Refusal, RegisterRefusal, WordRefusal};
@@ -83,7 +82,7 @@ pub fn register_at<F: Read + Drop>(
     path: &str,
 ) -> Result<Accepted, Refusal<'_>>
     ensures accepted { IfOk result (λ a. IsAccepted a) }
-    ensures spelled { IfOk result (λ a. (bytes : List ℕ) → Tells F.remaining source bytes → Spell bytes a) }
+    ensures spelled { IfOk result (λ a. (bytes : List ℕ) → HasBytes F.remaining source bytes → Spell bytes a) }
     ensures refused { IfErr result (IsWhyNoRegister F.remaining source path.now) }
     ensures closed { source ≡ None → IsErr result }
 {

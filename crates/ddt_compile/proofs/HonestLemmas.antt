@@ -33,14 +33,15 @@ use Rattle.ddt_config.specs.declared.site_entry.SiteEntry.{SiteEntry}
 use Rattle.ddt_config.specs.declared.config.ServerConfig.{ServerConfig}
 use Rattle.ddt_config.specs.Table.{outline}
 use Rattle.ddt_config.specs.Answer.{answer, answer_in, referral_to, site_outcome, strictly_below}
-use Rattle.ddt_compile.specs.GroupConfig.{is_direct_child, child_of, children_of, entry_of, sites_of, content_of, authority_of, group_config}
+use Rattle.ddt_check.specs.Zones.{is_direct_child}
+use Rattle.ddt_compile.specs.GroupConfig.{child_of, children_of, entry_of, sites_of, content_of, authority_of, group_config}
 use Rattle.ddt_check.specs.Zones.{is_site_in, is_served_by}
 use Rattle.ddt_compile.specs.Laws.{IsHonestConfig}
 use Rattle.ddt_path.proofs.MemberLemmas.{IsIn, all_made}
 use Rattle.ddt_path.specs.declared.matching.Preference.TheVariants.{Longest}
 use Rattle.ddt_check.proofs.ServedLemmas.{locators_of_zone, group_serves}
 use Rattle.ddt_check.proofs.NextLemmas.{assigned_here}
-use Rattle.ddt_compile.proofs.ChildLemmas.{longest_child, same_free}
+use Rattle.ddt_check.proofs.ChildLemmas.{longest_child, same_free}
 use Rattle.ddt_check.proofs.SiteLemmas.{no_next_zone, longest_site, site_inside}
 use Rattle.ddt_path.proofs.FilterLemmas.{in_filter, kept_by_both}
 use Rattle.ddt_path.proofs.MatchingLemmas.{best_member, best_match-map}

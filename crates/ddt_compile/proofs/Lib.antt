@@ -1,10 +1,9 @@
 pub mod ShapedLemmas
-pub mod ChildLemmas
 pub mod NearestLemmas
 pub mod GrowingLemmas
 pub mod HonestLemmas
 pub mod RoomLemmas
 pub mod NoTwoLemmas
 pub mod ContentLemmas
-pub mod SortedLemmas
 pub mod NamedLemmas
+pub mod SortedLemmas

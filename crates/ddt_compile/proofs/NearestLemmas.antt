@@ -11,12 +11,12 @@ use Rattle.ddt_trie.specs.PrefixMap.{path_cmp}
 use Rattle.ddt_register.specs.declared.site.Site.{Site}
 use Rattle.ddt_register.specs.declared.register.Register.{Register}
 use Rattle.ddt_check.specs.Rules.{IsAccepted}
-use Rattle.ddt_compile.specs.GroupConfig.{is_between, is_direct_child}
+use Rattle.ddt_check.specs.Zones.{is_between, is_direct_child}
 use Rattle.ddt_check.specs.Zones.{is_site_in}
 use Rattle.ddt_compile.specs.Nearest.{HasPrefixesOf, IsAbove}
 use Rattle.ddt_path.proofs.MemberLemmas.{IsIn, any_in, in_any, fails_at, none_of, iff_same}
 use Rattle.ddt_path.proofs.FrontLemmas.{one_front, front_below, below_parts}
-use Rattle.ddt_compile.proofs.ChildLemmas.{child_parts}
+use Rattle.ddt_check.proofs.ChildLemmas.{child_parts}
 use Rattle.ddt_check.proofs.SiteLemmas.{no_longer_zone}
 
 module _ (prefixes : FinMap path_cmp ℕ) (r : Register) (are_kept : HasPrefixesOf prefixes r.zones) where

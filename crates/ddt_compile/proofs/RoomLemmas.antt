@@ -1,12 +1,10 @@
 -- A compiled configuration has room: a register has at most 65,535 zones and as many sites; each zone is a direct child
 -- of one zone, and each site lies in one zone of Map-Servers.
-use Rattle.std.proofs.Common.{◌≡◌, ◌≤◌, true, List, length, map, refl, sym, ap, ◌∙◌, arith, inl, inr}
+use Rattle.std.proofs.Common.{◌≡◌, ◌≤◌, List, length, map, refl, sym, ap, ◌∙◌, arith}
 use Rattle.std.specs.List.{filter, sum_by, All}
-use Rattle.std.proofs.lemmas.Bool.{cases_lt, both_ways, and_from}
 use Rattle.std.proofs.lemmas.List.{length-map}
 use Rattle.ddt_path.specs.declared.record.Role.{Role}
 use Rattle.ddt_path.specs.declared.record.Role.TheVariants.{Node, Ms}
-use Rattle.ddt_path.specs.Covers.{is_strictly_below}
 use Rattle.ddt_register.specs.declared.zone.Zone.{Zone}
 use Rattle.ddt_register.specs.declared.site.Site.{Site}
 use Rattle.ddt_register.specs.declared.group.Group.{Group}
@@ -17,37 +15,18 @@ use Rattle.ddt_config.specs.declared.site_entry.SiteEntry.{SiteEntry}
 use Rattle.ddt_config.specs.declared.config.ServerConfig.{ServerConfig}
 use Rattle.ddt_config.specs.Table.{outline}
 use Rattle.ddt_config.specs.Entries.{prefixes_in, count_in}
-use Rattle.ddt_compile.specs.GroupConfig.{is_between, is_direct_child, child_of, children_of, entry_of, sites_of, content_of, authority_of, group_config}
+use Rattle.ddt_check.specs.Zones.{is_direct_child}
+use Rattle.ddt_compile.specs.GroupConfig.{child_of, children_of, entry_of, sites_of, content_of, authority_of, group_config}
 use Rattle.ddt_check.specs.Zones.{is_site_in, is_served_by}
 use Rattle.ddt_compile.specs.Laws.{HasRoom}
-use Rattle.ddt_path.proofs.MemberLemmas.{IsIn, fails_at, all_made}
+use Rattle.ddt_path.proofs.MemberLemmas.{IsIn, all_made}
 use Rattle.ddt_register.proofs.RisingLemmas.{rise-filter}
 use Rattle.ddt_register.proofs.RisingLemmas.{zones_rise, sites_rise}
-use Rattle.ddt_check.proofs.KeptLemmas.{role_of_zone, one_zone}
-use Rattle.ddt_path.proofs.FrontLemmas.{one_front, front_below, below_parts}
-use Rattle.ddt_compile.proofs.ChildLemmas.{child_parts}
+use Rattle.ddt_check.proofs.KeptLemmas.{role_of_zone}
+use Rattle.ddt_check.proofs.ChildLemmas.{one_parent}
 use Rattle.ddt_check.proofs.HolderLemmas.{one_holder}
 use Rattle.ddt_register.proofs.CountLemmas.{few_rows, filter_few, sum_made, kept_in_all}
 use Rattle.ddt_path.proofs.FilterLemmas.{in_filter}
-
--- a zone has one parent: of two zones above it the longer would stand between
-no_longer_parent : (r : Register) (a b c : Zone) → IsIn b r.zones → is_direct_child r a c ≡ true → is_direct_child r b c ≡ true → length b.prefix ≤ length a.prefix
-no_longer_parent r a b c k da db =
-    let s = child_parts r a c da in
-    let t = child_parts r b c db in
-    elim (cases_lt (length a.prefix) (length b.prefix)) [
-      | inl lt ↦ absurd (both_ways (is_between a c b) (fails_at (is_between a c) r.zones b s.1 k)
-          (and_from (is_strictly_below b.prefix a.prefix) (is_strictly_below c.prefix b.prefix)
-          (front_below a.prefix b.prefix c.prefix (below_parts c.prefix a.prefix s.0).0 (below_parts c.prefix b.prefix t.0).0 lt) t.0))
-      | inr le ↦ le
-    ]
-
-one_parent : (r : Register) → IsAccepted r → (a b c : Zone) → IsIn a r.zones → IsIn b r.zones → is_direct_child r a c ≡ true → is_direct_child r b c ≡ true → a ≡ b
-one_parent r accepted a b c j k da db =
-    let up = no_longer_parent r b a c j db da in
-    let down = no_longer_parent r a b c k da db in
-    one_zone r accepted a b j k (one_front a.prefix b.prefix c.prefix
-    (below_parts c.prefix a.prefix (child_parts r a c da).0).0 (below_parts c.prefix b.prefix (child_parts r b c db).0).0 (omega arith))
 
 -- what the authorities of a group hold
 child_count : (r : Register) (z : Zone) → length (prefixes_in (content_of r z Node)) ≡ length (filter (is_direct_child r z) r.zones)

@@ -1,9 +1,9 @@
 -- The configuration of a group of an accepted register has the shape that a configuration keeps.
-use Rattle.std.proofs.Common.{◌≡◌, ◌<◌, Bool, true, false, ◌&&◌, List, length, refl, sym, ap, ◌∙◌, arith, le-leb}
+use Rattle.std.proofs.Common.{◌≡◌, true, List, length, refl, arith, le-leb}
 use Rattle.ddt_path.specs.declared.locator.Locator.{Locator}
 use Rattle.ddt_path.specs.declared.record.Role.{Role}
 use Rattle.ddt_path.specs.declared.record.Role.TheVariants.{Node, Ms}
-use Rattle.ddt_path.specs.Covers.{overlaps, is_same_path, is_strictly_below}
+use Rattle.ddt_path.specs.Covers.{overlaps, is_same_path}
 use Rattle.ddt_register.specs.declared.zone.Zone.{Zone}
 use Rattle.ddt_register.specs.declared.site.Site.{Site}
 use Rattle.ddt_register.specs.declared.group.Group.{Group}
@@ -12,30 +12,19 @@ use Rattle.ddt_check.specs.Zones.{locators_of}
 use Rattle.ddt_check.specs.Rules.{IsAccepted}
 use Rattle.ddt_check.specs.Laws.{AreServers}
 use Rattle.ddt_config.specs.Shaped.{is_server_set, is_child_of, is_site_of, is_content_of, is_authority_of, is_shaped}
-use Rattle.ddt_compile.specs.GroupConfig.{is_between, is_direct_child, child_of, entry_of, content_of, authority_of, authorities_of}
+use Rattle.ddt_check.specs.Zones.{is_direct_child}
+use Rattle.ddt_compile.specs.GroupConfig.{child_of, entry_of, content_of, authority_of, authorities_of}
 use Rattle.ddt_check.specs.Zones.{is_site_in, is_served_by}
-use Rattle.ddt_path.proofs.MemberLemmas.{IsIn, fails_at}
-use Rattle.ddt_path.proofs.FrontLemmas.{apart}
+use Rattle.ddt_path.proofs.MemberLemmas.{IsIn}
 use Rattle.ddt_register.proofs.RisingLemmas.{zones_rise, sites_rise}
 use Rattle.ddt_check.proofs.KeptLemmas.{own_prefix, own_site, few_etrs, role_of_zone, server_set, servers_of_zone}
-use Rattle.ddt_compile.proofs.ChildLemmas.{child_parts}
+use Rattle.ddt_check.proofs.ChildLemmas.{child_parts, children_apart}
 use Rattle.ddt_compile.proofs.NoTwoLemmas.{no_two_kept}
 use Rattle.ddt_path.proofs.FilterLemmas.{in_filter, all_kept}
 
 -- the locators of a group, and of a zone's group
 as_set : (ls : List Locator) → AreServers ls → is_server_set ls ≡ true
 as_set ls h = rw (le-leb 1 (length ls) (omega (arith, h.0)), le-leb (length ls) 8 h.1) refl
-
-not_between : (r : Register) (z c y : Zone) → is_direct_child r z c ≡ true → is_direct_child r z y ≡ true → IsIn y r.zones → is_strictly_below c.prefix y.prefix ≡ false
-not_between r z c y direct other k =
-    let p = child_parts r z c direct in
-    let q = child_parts r z y other in
-    let e = fails_at (is_between z c) r.zones y p.1 k in
-    ap (λ (b : Bool). b && is_strictly_below c.prefix y.prefix) (sym q.0) ∙ e
-
-children_apart : (r : Register) → IsAccepted r → (z a b : Zone) → is_direct_child r z a ≡ true → is_direct_child r z b ≡ true → IsIn a r.zones → IsIn b r.zones → a.row < b.row → overlaps a.prefix b.prefix ≡ false
-children_apart r accepted z a b da db j k lt =
-    apart a.prefix b.prefix (not_between r z a b da db k) (not_between r z b a db da j) (own_prefix r accepted a b j k lt)
 
 -- what a zone holds
 children_inside : (r : Register) → IsAccepted r → (z c : Zone) → IsIn c r.zones → is_direct_child r z c ≡ true → is_child_of z.prefix (child_of r c) ≡ true

@@ -17,8 +17,8 @@ use Rattle.ddt_path.proofs.FilterLemmas.{none_later, none_first}
 use Rattle.ddt_path.proofs.PathOrderLemmas.{IsUpTo, covers-between, covers-back, le-is, not_lt-from_not_le, below_behind}
 use Rattle.ddt_check.proofs.OrderLemmas.{far}
 use Rattle.ddt_check.proofs.OutsideLemmas.{is_up_to}
-use Rattle.ddt_compile.specs.GroupConfig.{is_between, is_direct_child}
-use Rattle.ddt_compile.proofs.ChildLemmas.{child_parts, child_above}
+use Rattle.ddt_check.specs.Zones.{is_between, is_direct_child}
+use Rattle.ddt_check.proofs.ChildLemmas.{child_parts, child_above}
 
 -- ---- a walk over zones in order
 

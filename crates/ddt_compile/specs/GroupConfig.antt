@@ -1,29 +1,21 @@
 -- The configuration of a server group: its zones, and in each of them what is delegated or registered there
 -- (RFC 8111, section 4).
-use Rattle.std.specs.Prelude.{ℕ, Bool, ◌&&◌, not, List, map, Option}
+use Rattle.std.specs.Prelude.{ℕ, List, map, Option}
 use Rattle.std.specs.Option.{option_map}
-use Rattle.std.specs.List.{list_any, filter}
+use Rattle.std.specs.List.{filter}
 use Rattle.ddt_path.specs.declared.record.Role.{Role}
 use Rattle.ddt_path.specs.declared.record.Role.TheVariants.{Node, Ms}
-use Rattle.ddt_path.specs.Covers.{is_strictly_below}
 use Rattle.ddt_register.specs.declared.zone.Zone.{Zone}
 use Rattle.ddt_register.specs.declared.site.Site.{Site}
 use Rattle.ddt_register.specs.declared.group.Group.{Group}
 use Rattle.ddt_register.specs.declared.register.Register.{Register}
-use Rattle.ddt_check.specs.Zones.{is_served_by, is_site_in, locators_of, group_named}
+use Rattle.ddt_check.specs.Zones.{is_direct_child, is_served_by, is_site_in, locators_of, group_named}
 use Rattle.ddt_config.specs.declared.child.Child.{Child}
 use Rattle.ddt_config.specs.declared.site_entry.SiteEntry.{SiteEntry}
 use Rattle.ddt_config.specs.declared.authority.Content.{Content}
 use Rattle.ddt_config.specs.declared.authority.Content.TheVariants.{Children, Sites}
 use Rattle.ddt_config.specs.declared.authority.Authority.{Authority}
 use Rattle.ddt_config.specs.Table.{Outline}
-
--- a zone strictly below another, with no zone between
-abbrev pub is_between : Zone → Zone → Zone → Bool
-is_between z c y = is_strictly_below y.prefix z.prefix && is_strictly_below c.prefix y.prefix
-
-abbrev pub is_direct_child : Register → Zone → Zone → Bool
-is_direct_child r z c = is_strictly_below c.prefix z.prefix && not (list_any (is_between z c) r.zones)
 
 -- the referral to a zone: its kind, and the locators of its group
 abbrev pub child_of : Register → Zone → Child

@@ -1,7 +1,7 @@
 //! What stands below a zone and what holds a site, by the zones in the order of their prefixes: there a zone stands
 //! before all that it covers, and what it covers stands together.
 
-ghost use Rattle.std.specs.Prelude.{◌≡◌, true, false, List, IsPermutation, IfOk, MatchOption};
+ghost use Rattle.std.specs.Prelude.{◌≡◌, true, false, IsPermutation, IfOk, MatchOption};
 ghost use Rattle.std.specs.List.{filter, Contains};
 ghost use Rattle.std.specs.Option.{option_map, option_map_or, option_copied};
 ghost use Rattle.ddt_path.specs.Covers.{covers, is_strictly_below};
@@ -9,7 +9,7 @@ ghost use Rattle.ddt_path.specs.declared.record.Role.TheVariants.{Ms};
 ghost use Rattle.ddt_register.specs.declared.register.Register.{Register as ARegister};
 ghost use Rattle.ddt_check.specs.Order.{AreZonesInOrder};
 ghost use Rattle.ddt_check.specs.Rules.{IsAccepted};
-ghost use Rattle.ddt_compile.specs.GroupConfig.{is_direct_child};
+ghost use Rattle.ddt_check.specs.Zones.{is_direct_child};
 
 use ddt_register::{Site, Zone};
 use std::alloc::{AllocError, Global};
@@ -30,7 +30,7 @@ fn is_under(top: Option<&Zone>, z: &Zone) -> bool
         ≡ option_map_or (is_strictly_below z.now.prefix) (option_map (λ y. y.prefix) (option_copied top.entry)) false }
 {
     match top {
-        Some(top) => top.prefix.covers(z.prefix) && !z.prefix.covers(top.prefix),
+        Some(top) => z.prefix.is_strictly_below(top.prefix),
         None => false,
     }
 }

@@ -106,8 +106,7 @@ fn are_inside(authority: Prefix, children: &[ChildDraft]) -> bool
 fn is_child_of(authority: Prefix, child: &ChildDraft) -> bool
     ensures { result ≡ is_child_of_path authority child.now }
 {
-    (authority.covers(child.prefix) && !child.prefix.covers(authority))
-        && is_server_set(child.locators.as_slice())
+    child.prefix.is_strictly_below(authority) && is_server_set(child.locators.as_slice())
 }
 
 fn are_sites_of(

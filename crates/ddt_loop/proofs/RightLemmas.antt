@@ -42,9 +42,6 @@ module _ (r : Register) (me : Locator) (ids : List Xeid) (laws : StepsKeepSoundn
     pub kept : IsKept r me ids calls w
     pub owes : Owes r me calls (itrs w.desk.owners)
 
-  abbrev RightFrom : List Call → List Call → Running → Type 0
-  RightFrom calls more new = IsRightAfter (calls ++ more) new
-
   -- ---- an ask of an identifier
 
   right_end : (x : Xeid) (answer : Result (Option Outcome) AskError) → ((o : Outcome) → answer ≡ Ok (Some o) → o ≡ assignment r (xeid_path x)) → IsRightEnd r x (end_of_ask answer)

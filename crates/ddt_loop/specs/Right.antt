@@ -34,8 +34,8 @@ WasAsked me server nonce x calls =
     (answer : Result (Unit {0}) NetFault)
     × Contains calls (Tried me server control_port (request_bytes nonce x me) answer)
 
--- Where a request for x was tried to a server before, a packet at the resolver's socket that comes from the server's
--- UDP port 4342, and spells a Map-Referral of the request's nonce, says what the register says there of x.
+-- Of each request for x that was tried to a server before: a packet at the resolver's socket that comes from the
+-- server's UDP port 4342, and spells a Map-Referral of the nonce, says what the register says there of x.
 abbrev pub IsFair : Register → Locator → List Call → Type 0
 IsFair r me calls =
     (earlier later : List Call) (room : ℕ) (p : Packet) (bytes : List ℕ) (nonce : ℕ) (rec : ReferralRecord) (x : Xeid)

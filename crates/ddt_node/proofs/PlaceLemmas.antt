@@ -4,9 +4,8 @@ use Rattle.std.specs.Prelude.{is_some, slice_get}
 use Rattle.std.specs.Option.{option_map}
 use Rattle.std.specs.List.{list_any, enumerate_from}
 use Rattle.std.specs.Cmp.Lexicographic.{nat_list_cmp_total}
-use Rattle.std.specs.FinMap.{FinMap, from_entries, get, contains_key, keys, len, insert, empty, len-empty}
+use Rattle.std.specs.FinMap.{FinMap, from_entries, get, contains_key, keys, len, insert, len-empty}
 use Rattle.std.specs.FinMap.Entries.{is_some-find}
-use Rattle.std.proofs.Math.Seq.{drop-cons, drop-length}
 use Rattle.std.proofs.lemmas.List.{length-map}
 use Rattle.std.proofs.lemmas.Option.{none-some, same_Some, slice_get-map, slice_get_read, slice_get_within}
 use Rattle.ddt_path.proofs.MapSizeLemmas.{len_inserted}
@@ -116,17 +115,6 @@ free_below_of_places m ps is site x = members_free_below m ps (in_places m ps is
 module _ {A : Type 0} (prefix : A → List ℕ) where
   abbrev pub places_from : List A → ℕ → FinMap path_cmp ℕ
   places_from items n = from_entries {R = path_cmp} (numbered n (map prefix (drop n items)))
-
-  pub places_from_end : (items : List A) → places_from items (length items) ≡ empty
-  places_from_end items = ap (λ (rest : List A). from_entries {R = path_cmp} (numbered (length items) (map prefix rest))) (drop-length items)
-
-  pub places_from_next : (items : List A) (n : ℕ) (d : A) → n < length items → places_from items n ≡ insert (places_from items (n + 1)) (prefix (get_or items n d)) n
-  places_from_next items n d lt =
-      ap (λ (rest : List A). from_entries {R = path_cmp} (numbered n (map prefix rest))) (drop-cons items n d lt)
-      ∙ ap (λ (k : ℕ). insert (from_entries {R = path_cmp} (numbered (n + 1) (map prefix (drop k items)))) (prefix (get_or items n d)) n) (the_next n)
-    where
-      the_next : (k : ℕ) → suc k ≡ k + 1
-      the_next k = omega arith
 
 len_numbered : (n : ℕ) (ps : List (List ℕ)) → len (from_entries {R = path_cmp} (numbered n ps)) ≤ length ps
 len_numbered n [] = omega (arith, len-empty path_cmp ℕ)

@@ -1,5 +1,5 @@
--- What a server does with a datagram (RFC 8111, sections 7.1 and 7.2): a DDT Map-Request, whose bit D is set, is
--- answered by a Map-Referral, and a Map-Server that acknowledges it sends it on to the ETR of the site.
+-- What a server does with a datagram (RFC 8111, sections 7.1 and 7.2). A DDT Map-Request, whose bit D is set, is
+-- answered by a Map-Referral. A Map-Server that acknowledges it sends it on to the ETR of the site.
 use Rattle.std.specs.Prelude.{ℕ, ◌≡◌, ◌+◌, ◌*◌, ◌/◌, ◌%◌, Bool, true, false, if◌then◌else◌, List, [], ◌∷◌, Option, Some, None, Result, Ok, Err, option_and_then, slice_get}
 use Rattle.std.specs.Option.{option_map, option_map_or}
 use Rattle.ddt_path.specs.declared.locator.Locator.{Locator}

@@ -2,14 +2,14 @@
 use Rattle.std.proofs.Common.{◌≡◌, ℕ, zero, suc, ◌+◌, ◌-◌, ◌^◌, ◌<◌, ◌≤◌, true, false, List, [], ◌∷◌, ◌++◌, length, take, drop, refl, sym, ap, subst, ◌∙◌, arith, Ok, Err, inl, inr}
 use Rattle.std.specs.Prelude.{replicate, ◌==◌, ◌&&◌, nat_le, nat_lt, ◌≢◌, min}
 use Rattle.std.specs.Int.Digits.{number_from_digits}
-use Rattle.std.proofs.lemmas.Bool.{le-leb, lt-leb, le-ltb, lt-ltb, cond-true, cond-false, false_from_ne_true, cases_eq, eq-eqb, ne_eqb}
+use Rattle.std.proofs.lemmas.Bool.{le-leb, lt-leb, le-ltb, cond-true, cond-false, false_from_ne_true, cases_eq, eq-eqb, ne_eqb}
 use Rattle.std.proofs.lemmas.List.{take-append-drop, length-append, length-take, length-drop, take_at, drop_at, take-take, take-append-le}
 use Rattle.ddt_path.specs.declared.locator.Locator.{Locator}
 use Rattle.ddt_path.specs.declared.locator.Locator.TheVariants.{V4, V6}
 use Rattle.ddt_path.specs.declared.xeid.Xeid.{Xeid}
 use Rattle.ddt_path.specs.declared.form.Form.{Form}
 use Rattle.ddt_path.specs.declared.form.Form.TheVariants.{Range, Block}
-use Rattle.ddt_path.specs.declared.form.PrefixFault.TheVariants.{Length, TailNotZero}
+use Rattle.ddt_path.specs.declared.form.PrefixFault.TheVariants.{TailNotZero}
 use Rattle.ddt_path.specs.Path.{digits, are_zero, path, IsForm, family, address_digits, address_width, address_number, address_path, xeid_path, prefix_of, form_width, form_len, form_tail}
 use Rattle.ddt_path.specs.DigitLemmas.{length-digits, number_after-digits}
 use Rattle.ddt_path.specs.FormLemmas.{are_zero-replicate, mod_small, whole, none_left, take_len}
@@ -114,9 +114,6 @@ inner_block iid a len le =
     ap (λ (n : ℕ). take n (xeid_path x)) (length-block iid a len le) ∙ take-xeid_path-long x (33 + len) (omega arith) ∙ rw e refl
 
 -- ---- what is refused, and what is made
-
-pub prefix_of-long : (form : Form) → form_width form < form_len form → prefix_of form ≡ Err Length
-prefix_of-long form lt = cond-true (nat_lt (form_width form) (form_len form)) _ _ (lt-ltb _ _ lt)
 
 pub prefix_of-tail : (form : Form) → form_len form ≤ form_width form → are_zero (form_tail form) ≡ false → prefix_of form ≡ Err TailNotZero
 prefix_of-tail form le tail = cond-false (nat_lt (form_width form) (form_len form)) _ _ (le-ltb _ _ le) ∙ cond-false (are_zero (form_tail form)) _ _ tail

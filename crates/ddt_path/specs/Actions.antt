@@ -1,5 +1,5 @@
--- The actions of a Map-Referral: their numbers on the wire and their names (RFC 8111, section 6.1).
-use Rattle.std.specs.Prelude.{ℕ, ◌==◌, List, [], ◌∷◌, find, codes, Option}
+-- The actions of a Map-Referral: their numbers on the wire, their names and which refer (RFC 8111, section 6.1).
+use Rattle.std.specs.Prelude.{ℕ, ◌≡◌, ◌==◌, ◌⊎◌, List, [], ◌∷◌, find, codes, Option}
 use Rattle.ddt_path.specs.declared.action.Action.{Action}
 use Rattle.ddt_path.specs.declared.action.Action.TheVariants.{NodeReferral, MsReferral, MsAck, MsNotRegistered, DelegationHole, NotAuthoritative}
 
@@ -18,6 +18,10 @@ all_actions = NodeReferral ∷ MsReferral ∷ MsAck ∷ MsNotRegistered ∷ Dele
 -- the action of a number, of which there is none above 5
 abbrev pub action_of : ℕ → Option Action
 action_of n = find (λ action. number action == n) all_actions
+
+-- an action that refers to other servers
+abbrev pub IsReferral : Action → Type 0
+IsReferral action = (action ≡ NodeReferral) ⊎ (action ≡ MsReferral)
 
 -- the name of an action
 abbrev pub name : Action → List ℕ

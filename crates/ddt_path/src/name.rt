@@ -1,6 +1,6 @@
 //! The name of a server group.
 
-ghost use Rattle.std.specs.Prelude.{◌≡◌, ◌≤◌, ◌==◌, IsTrue, length, Some, refl};
+ghost use Rattle.std.specs.Prelude.{◌≡◌, ◌==◌, IsTrue, length, Some, refl};
 ghost use Rattle.std.specs.List.{list_all};
 ghost use Rattle.std.specs.Option.{SomeIff};
 ghost use Rattle.std.specs.Cmp.{partial_equiv_from_equiv};

@@ -7,7 +7,7 @@ ghost use Rattle.std.specs.Cmp.{partial_equiv_from_equiv};
 ghost use Rattle.ddt_path.specs.Path.{path, xeid_path, prefix_of, is_path, is_prefix_path, IsForm, IsInRange};
 ghost use Rattle.ddt_path.specs.declared.xeid.Xeid.{Xeid as AnXeid};
 ghost use Rattle.ddt_path.specs.declared.form.Form.{Form as AForm};
-ghost use Rattle.ddt_path.specs.Covers.{covers, overlaps, shared_len};
+ghost use Rattle.ddt_path.specs.Covers.{covers, overlaps, is_strictly_below, shared_len};
 
 use crate::form::{Form, PrefixFault};
 use crate::locator::Locator;
@@ -192,6 +192,13 @@ impl Prefix {
         ensures { result ≡ overlaps self other }
     {
         self.covers(other) || other.covers(self)
+    }
+
+    /// Whether the prefix is strictly below another, which covers it and is shorter.
+    pub fn is_strictly_below(self, other: Prefix) -> bool
+        ensures { result ≡ is_strictly_below self other }
+    {
+        other.covers(self) && !self.covers(other)
     }
 
     /// The longest prefix that covers both: the digits with which both begin.

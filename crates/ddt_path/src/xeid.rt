@@ -13,7 +13,7 @@ pub struct Xeid {
 }
 
 impl Xeid {
-    ghost use Rattle.std.specs.Prelude.{◌≡◌, ◌<◌, ◌≤◌, length, slice_get, Some};
+    ghost use Rattle.std.specs.Prelude.{◌≡◌, ◌<◌, length, slice_get, Some};
     ghost use Rattle.ddt_path.specs.Path.{xeid_path};
     ghost use Rattle.ddt_path.specs.Covers.{shared_len};
 

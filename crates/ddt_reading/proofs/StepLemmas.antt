@@ -1,7 +1,6 @@
 -- What is known of steps that went well.
-use Rattle.std.proofs.Common.{◌≡◌, ℕ, Bool, true, false, cond, List, Result, Ok, Err, refl, sym, subst, inl, inr}
-use Rattle.std.specs.Prelude.{◌⊎◌, OnOk, IfOk}
-use Rattle.std.specs.Global.{Vec}
+use Rattle.std.proofs.Common.{◌≡◌, Bool, true, false, cond, Result, Ok, Err, refl, inl, inr}
+use Rattle.std.specs.Prelude.{◌⊎◌, OnOk}
 use Rattle.std.specs.Result.{IsErr}
 use Rattle.ddt_reading.specs.Steps.{◌>>=◌, in_words}
 
@@ -57,8 +56,3 @@ err_unless (Err d) n = refl
 pub always : {A E P : Type 0} (r : Result A E) → P → OnOk r P
 always (Ok x) p = p
 always (Err d) p = tt
-
--- what holds of a text holds of the vector that it was written into
-pub in_vector : {E F : Type 0} (Holds : List ℕ → Type 0) (text : List ℕ) (r : Result (Vec ℕ) E) → IfOk r (λ bytes. bytes.items ≡ text) → OnOk r F → (F → Holds text) → IfOk r (λ bytes. Holds bytes.items)
-in_vector Holds text (Ok bytes) e fact holds = subst Holds (sym e) (holds fact)
-in_vector Holds text (Err d) e fact holds = tt

@@ -40,17 +40,8 @@ groups_in_range r =
 pub zone_prefix : (z : Zone) → is_zone_in_range z ≡ true → is_prefix_path z.prefix ≡ true
 zone_prefix z e = (and_parts (is_prefix_path z.prefix) (is_name z.group) e).0
 
-pub zone_group : (z : Zone) → is_zone_in_range z ≡ true → is_name z.group ≡ true
-zone_group z e = (and_parts (is_prefix_path z.prefix) (is_name z.group) e).1
-
 pub site_prefix : (s : Site) → is_site_in_range s ≡ true → is_prefix_path s.prefix ≡ true
 site_prefix s e = (and_parts (is_prefix_path s.prefix) (are_locators s.etrs) e).0
-
-pub site_etrs : (s : Site) → is_site_in_range s ≡ true → are_locators s.etrs ≡ true
-site_etrs s e = (and_parts (is_prefix_path s.prefix) (are_locators s.etrs) e).1
-
-pub group_name : (g : Group) → is_group_in_range g ≡ true → is_name g.name ≡ true
-group_name g e = (and_parts (is_name g.name) (are_locators g.locators) e).0
 
 pub group_locators : (g : Group) → is_group_in_range g ≡ true → are_locators g.locators ≡ true
 group_locators g e = (and_parts (is_name g.name) (are_locators g.locators) e).1

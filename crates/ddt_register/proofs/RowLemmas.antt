@@ -1,7 +1,7 @@
 -- Rising rows, one item after the other.
 use Rattle.std.proofs.Common.{◌≡◌, ℕ, ◌+◌, ◌<◌, ◌≤◌, Bool, true, false, List, [], ◌∷◌, length, get_or, drop, map, find, Some, cond, refl, sym, ap, subst, ◌∙◌, arith}
-use Rattle.std.specs.Prelude.{nat_lt, ◌==◌, ◌&&◌, not, ◌≢◌}
-use Rattle.std.proofs.lemmas.Bool.{lt-ltb, le-ltb, le-leb, lt-leb, or_parts, ne_eqb, eq-eqb, eqb-false}
+use Rattle.std.specs.Prelude.{◌==◌, ◌&&◌, not, ◌≢◌}
+use Rattle.std.proofs.lemmas.Bool.{lt-ltb, le-leb, or_parts, ne_eqb, eq-eqb, eqb-false}
 use Rattle.std.proofs.lemmas.List.{drop_more}
 use Rattle.std.specs.Option.{option_map}
 use Rattle.ddt_register.specs.Rows.{rise, has_row, are_apart, first_row}
@@ -9,12 +9,6 @@ use Rattle.ddt_register.proofs.RisingLemmas.{rise_parts}
 
 pub rise-more : (last row : ℕ) (rows : List ℕ) → last < row → row ≤ 65535 → rise last (row ∷ rows) ≡ rise row rows
 rise-more last row rows lt le = rw (lt-ltb last row lt, le-leb row 65535 le) refl
-
-pub rise-low : (last row : ℕ) (rows : List ℕ) → row ≤ last → rise last (row ∷ rows) ≡ false
-rise-low last row rows le = rw (le-ltb last row le) refl
-
-pub rise-high : (last row : ℕ) (rows : List ℕ) → 65535 < row → rise last (row ∷ rows) ≡ false
-rise-high last row rows lt = rw (lt-leb row 65535 lt) (elim (nat_lt last row) as (λ b. ((b && false) && rise row rows) ≡ false) [ true ↦ refl | false ↦ refl ])
 
 -- a row that is below all others isn't among them
 pub low_row : (low last : ℕ) (rows : List ℕ) → low ≤ last → rise last rows ≡ true → has_row rows low ≡ false
@@ -32,9 +26,6 @@ rise-tail last row rows e = (rise_parts last row rows e).1
 
 pub are_apart-first : (row : ℕ) (rows others : List ℕ) → has_row others row ≡ false → are_apart (row ∷ rows) others ≡ are_apart rows others
 are_apart-first row rows others e = rw e refl
-
-has_row-skip : (other row : ℕ) (others : List ℕ) → other ≢ row → has_row (other ∷ others) row ≡ has_row others row
-has_row-skip other row others apart = rw (ne_eqb other row apart) refl
 
 pub are_apart-skip : (other : ℕ) (rows others : List ℕ) → has_row rows other ≡ false → are_apart rows (other ∷ others) ≡ are_apart rows others
 are_apart-skip other [] others e = refl

@@ -12,11 +12,9 @@ use Rattle.std.proofs.lemmas.Map.Keys.{apart_from_distinct, IsDistinct-from_apar
 use Rattle.ddt_register.specs.Rows.{rise}
 use Rattle.ddt_path.proofs.MemberLemmas.{IsIn, in_contained, contained, moved_in}
 use Rattle.ddt_path.proofs.FilterLemmas.{in_filter, filter_in, distinct_kept}
-use Rattle.ddt_register.specs.declared.zone.Zone.{Zone}
-use Rattle.ddt_register.specs.declared.site.Site.{Site}
 use Rattle.ddt_register.specs.declared.group.Group.{Group}
 use Rattle.ddt_register.specs.declared.register.Register.{Register}
-use Rattle.ddt_register.proofs.RisingLemmas.{above, rise_parts, rise-filter, zones_rise, sites_rise, groups_rise}
+use Rattle.ddt_register.proofs.RisingLemmas.{above, rise_parts, rise-filter, groups_rise}
 
 abbrev pub Rising : {A : Type 0} → (A → ℕ) → List A → Type 0
 Rising row [] = ⊤
@@ -143,12 +141,6 @@ rows_again row items test xs found ys rises moved kept again sorted =
     filter_in test items a (moved_in xs items (IsPermutation-sym items xs moved) a p.0) p.1)
 
 -- ---- the rows of a register rise in each list
-
-pub zones_up : (r : Register) → Rising (λ (z : Zone). z.row) r.zones
-zones_up r = rising_from_rise (λ (z : Zone). z.row) r.zones 0 (zones_rise r)
-
-pub sites_up : (r : Register) → Rising (λ (s : Site). s.row) r.sites
-sites_up r = rising_from_rise (λ (s : Site). s.row) r.sites 0 (sites_rise r)
 
 pub groups_up : (r : Register) → Rising (λ (g : Group). g.row) r.groups
 groups_up r = rising_from_rise (λ (g : Group). g.row) r.groups 0 (groups_rise r)

@@ -20,7 +20,8 @@ use Rattle.ddt_resolver.specs.declared.answers.AskError.{AskError}
 use Rattle.ddt_resolver.specs.declared.answers.Heard.{Heard}
 use Rattle.ddt_resolver.specs.declared.answers.Heard.TheVariants as heard
 use Rattle.ddt_resolver.specs.State.{State, numbered, opening, referred, passed_on, started_over}
-use Rattle.ddt_resolver.specs.Records.{IsReferral, IsBelow, start_at}
+use Rattle.ddt_path.specs.Actions.{IsReferral}
+use Rattle.ddt_resolver.specs.Records.{IsBelow, start_at}
 use Rattle.ddt_resolver.specs.AskStep as ask
 use Rattle.ddt_resolver.specs.TakeUp.{IsTaken}
 use Rattle.ddt_resolver.specs.Act as act

@@ -29,7 +29,8 @@ use Rattle.ddt_path.specs.declared.record.Outcome.{Outcome}
 use Rattle.ddt_path.specs.declared.record.Outcome.TheVariants.{NotRegistered}
 use Rattle.ddt_resolver.specs.declared.answers.Why.TheVariants.{NoReply, Exhausted}
 use Rattle.ddt_resolver.specs.State.{State, last_nonce, request, numbered, dropped, stored, opening, referred, passed_on, started_over, tried_again, at_next}
-use Rattle.ddt_resolver.specs.Records.{IsReferral, IsAbout, negative_answer, start_at}
+use Rattle.ddt_path.specs.Actions.{IsReferral}
+use Rattle.ddt_resolver.specs.Records.{IsAbout, negative_answer, start_at}
 use Rattle.ddt_resolver.specs.AskStep.{answer_of, AskStep}
 use Rattle.ddt_resolver.specs.AskStep as ask
 use Rattle.ddt_resolver.specs.TakeUp.{IsTaken}

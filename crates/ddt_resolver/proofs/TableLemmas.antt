@@ -147,13 +147,6 @@ is_unknown h es ts nonce view noted none t l found same =
 pub is_found : (h : FinMap nat_cmp Pending) (es : List (ℕ × Pending)) (t : ℕ) (o : Option Pending) → map_of es ≡ h → o ≡ lookup (◌==◌ t) es → get h t ≡ o
 is_found h es t o view e = ap (λ (m : FinMap nat_cmp Pending). get m t) (sym view) ∙ at_map es t ∙ sym e
 
--- what is found under a nonce is a lookup with this nonce
-pub noted_lookup : (es : List (ℕ × Pending)) (ts : ℕ → Option ℕ) (nonce t : ℕ) (l : Pending) → AreNoted (λ q. lookup (◌==◌ q) es) ts → ts nonce ≡ Some t → lookup (◌==◌ t) es ≡ Some l → l.nonce ≡ nonce
-noted_lookup es ts nonce t l noted found here = let h = noted.only nonce t found in ap (λ (k : Pending). k.nonce) (same_Some l h.0 (sym here ∙ h.1)) ∙ h.2
-
-pub noted_absent : (es : List (ℕ × Pending)) (ts : ℕ → Option ℕ) (nonce t : ℕ) → AreNoted (λ q. lookup (◌==◌ q) es) ts → ts nonce ≡ Some t → lookup (◌==◌ t) es ≡ None → ⊥
-noted_absent es ts nonce t noted found none = let h = noted.only nonce t found in none-some h.0 (sym none ∙ h.1)
-
 -- a reordering changes nothing
 pub noted_reordered : (ls new_ls : ℕ → Option Pending) (ts new_ts : ℕ → Option ℕ) → AreNoted ls ts → ((q : ℕ) → new_ls q ≡ ls q) → ((q : ℕ) → new_ts q ≡ ts q) → AreNoted new_ls new_ts
 noted_reordered ls new_ls ts new_ts is e f = record {

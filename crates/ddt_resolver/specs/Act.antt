@@ -10,7 +10,8 @@ use Rattle.ddt_resolver.specs.declared.answers.Why.TheVariants.{Loop, NotAuthori
 use Rattle.ddt_resolver.specs.declared.answers.Heard.{Heard}
 use Rattle.ddt_resolver.specs.declared.answers.Heard.TheVariants.{Ignored, Followed, Answer, GaveUp}
 use Rattle.ddt_resolver.specs.State.{State, last_nonce, lodged, dropped, stored, forgotten, request, referred, passed_on, started_over}
-use Rattle.ddt_resolver.specs.Records.{IsReferral, IsBelow, outcome_of}
+use Rattle.ddt_path.specs.Actions.{IsReferral}
+use Rattle.ddt_resolver.specs.Records.{IsBelow, outcome_of}
 use Rattle.ddt_resolver.specs.TakeUp.{Ignores, IsTaken}
 
 -- The record makes the lookup go on: a referral below the saved prefix, an MS-NOT-REGISTERED with a server left in the

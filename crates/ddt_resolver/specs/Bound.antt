@@ -11,7 +11,8 @@ use Rattle.ddt_resolver.specs.declared.answers.Asked.TheVariants as asked
 use Rattle.ddt_resolver.specs.declared.answers.Heard.{Heard}
 use Rattle.ddt_resolver.specs.declared.answers.Heard.TheVariants.{Ignored, Followed, Answer, GaveUp}
 use Rattle.ddt_resolver.specs.State.{State}
-use Rattle.ddt_resolver.specs.Records.{IsReferral, IsBelow}
+use Rattle.ddt_path.specs.Actions.{IsReferral}
+use Rattle.ddt_resolver.specs.Records.{IsBelow}
 
 -- how many more referrals a lookup can follow on its way down to an identifier of so many digits
 abbrev pub room : ℕ → Option (List ℕ) → ℕ

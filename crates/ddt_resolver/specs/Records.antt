@@ -2,15 +2,12 @@
 use Rattle.std.specs.Prelude.{ℕ, ◌≡◌, ◌<◌, ◌⊎◌, List, [], ◌∷◌, length, IsTrue, Option, None, Some}
 use Rattle.ddt_path.specs.declared.locator.Locator.{Locator}
 use Rattle.ddt_path.specs.declared.action.Action.{Action}
-use Rattle.ddt_path.specs.declared.action.Action.TheVariants.{NodeReferral, MsReferral, MsAck, MsNotRegistered, DelegationHole, NotAuthoritative}
+use Rattle.ddt_path.specs.declared.action.Action.TheVariants.{MsAck, MsNotRegistered, DelegationHole, NotAuthoritative}
 use Rattle.ddt_path.specs.declared.record.Outcome.{Outcome}
 use Rattle.ddt_path.specs.declared.record.Outcome.TheVariants.{Registered, NotRegistered, Hole}
 use Rattle.ddt_path.specs.declared.record.ReferralRecord.{ReferralRecord}
+use Rattle.ddt_path.specs.Actions.{IsReferral}
 use Rattle.ddt_path.specs.Covers.{covers}
-
--- an action that refers to other servers
-abbrev pub IsReferral : Action → Type 0
-IsReferral action = (action ≡ NodeReferral) ⊎ (action ≡ MsReferral)
 
 -- a record that is about an identifier: its prefix covers it, or the server isn't in charge of it
 abbrev pub IsAbout : ReferralRecord → List ℕ → Type 0

@@ -4,8 +4,9 @@ ghost use Rattle.std.specs.Prelude.{◌≡◌, ◌<◌, IsTrue, false, IsSome, I
 ghost use Rattle.std.specs.FinMap as map;
 ghost use Rattle.ddt_path.specs.declared.action.Action.TheVariants as act;
 ghost use Rattle.ddt_resolver.specs.State.{moved, last_nonce};
-ghost use Rattle.ddt_resolver.specs.Records.{IsReferral, IsBelow, outcome_of};
-ghost use Rattle.ddt_resolver.specs.Act.{Act, GoesOn, HearStep, HearWants, Saves};
+ghost use Rattle.ddt_path.specs.Actions.{IsReferral};
+ghost use Rattle.ddt_resolver.specs.Records.{IsBelow, outcome_of};
+ghost use Rattle.ddt_resolver.specs.Act.{Act, HearStep, HearWants, Saves};
 ghost use Rattle.ddt_resolver.specs.Acting.{IsHeard, IsAnswered, IsSmall, SendsOn};
 ghost use Rattle.ddt_resolver.specs.Order.{IsLookup};
 ghost use Rattle.ddt_resolver.specs.Bound.{ComesNearer, GoesDown};

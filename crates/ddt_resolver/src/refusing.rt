@@ -3,7 +3,8 @@
 ghost use Rattle.std.specs.Prelude.{◌≡◌, ◌<◌, IsTrue, false, IfOk, IfErr, length};
 ghost use Rattle.ddt_path.specs.Path.{xeid_path};
 ghost use Rattle.ddt_path.specs.declared.locator.Locator.{Locator as ALocator};
-ghost use Rattle.ddt_resolver.specs.Records.{IsAbout, NamesServer, IsReferral};
+ghost use Rattle.ddt_path.specs.Actions.{IsReferral};
+ghost use Rattle.ddt_resolver.specs.Records.{IsAbout, NamesServer};
 ghost use Rattle.ddt_resolver.specs.State.{server as server_of};
 ghost use Rattle.ddt_resolver.specs.TakeUp.{IsReplyTo, IsTaken, Ignores};
 

@@ -1,11 +1,8 @@
 //! The resolver: what it remembers, what is pending, and its calls (RFC 8111, section 7.3).
 
-ghost use Rattle.std.specs.Prelude.{◌≡◌, ◌<◌, ◌≤◌, length, IsTrue, IfOk, IfErr, OnOk, OnErr};
+ghost use Rattle.std.specs.Prelude.{◌≡◌, ◌<◌, length};
 ghost use Rattle.std.specs.FinMap as map;
-ghost use Rattle.ddt_path.specs.Path.{xeid_path, is_path};
 ghost use Rattle.ddt_resolver.specs.State.{fresh, moved, dropped};
-ghost use Rattle.ddt_resolver.specs.AskStep.{AskStep, AskWants, UnlessMemory, OnMemory};
-ghost use Rattle.ddt_resolver.specs.Act.{HearStep, HearWants};
 ghost use Rattle.ddt_resolver.specs.Order.{IsInOrder};
 
 use crate::answers::{AskError, Asked, Heard, Ticket};

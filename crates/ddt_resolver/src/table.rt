@@ -1,6 +1,6 @@
 //! The pending lookups, found by ticket and by nonce with no walk.
 
-ghost use Rattle.std.specs.Prelude.{◌≡◌, ◌≢◌, ◌<◌, ◌≤◌, ◌+◌, ◌⊎◌, ◌==◌, ℕ, cond, is_some, None, Some, IsSome, IfSome, IfNone, OnOk};
+ghost use Rattle.std.specs.Prelude.{◌≡◌, ◌<◌, ◌≤◌, ◌+◌, ◌⊎◌, ◌==◌, ℕ, cond, is_some, None, Some, IsSome, IfSome, IfNone, OnOk};
 ghost use Rattle.std.specs.HashMap.{get, spare, hash_map_len};
 ghost use Rattle.std.specs.FinMap as map;
 ghost use Rattle.ddt_resolver.specs.Table.{map_of, IsUnknown, IsLeastDue, IsNextDue, IsNoneDue};

@@ -1,7 +1,6 @@
 //! A hash table answers as a list does.
 
-ghost use Rattle.std.specs.Prelude.{◌≤◌, length};
-ghost use Rattle.ddt_path.specs.Path.{xeid_path};
+ghost use Rattle.std.specs.Prelude.{◌≤◌};
 
 use ddt_hash::HashedMap;
 use ddt_path::{Locator, Prefix, Xeid};

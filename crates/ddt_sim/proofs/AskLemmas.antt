@@ -78,7 +78,7 @@ pub refused_fails : (now : ℕ) (x : Xeid) (s new : State) (error : AskError) �
     → OnMemory (Err error) ((new ≡ moved now s) × AskWants (moved now s) x) → Fails now x s (ask_failure error) new
 refused_fails now x s new ask_error.TooMany step wants = too_many step refl
 refused_fails now x s new ask_error.Exhausted step wants = used_up step refl
-refused_fails now x s new ask_error.Memory step wants = unasked wants.0 refl
+refused_fails now x s new ask_error.Memory step wants = unasked wants.1 wants.0 refl
 
 pub refused_is_right : (now : ℕ) (x : Xeid) (s new : State) (error : AskError) → UnlessMemory (Err error) (AskStep (moved now s) x new (Err error)) → IsRightError s new (ask_failure error)
 refused_is_right now x s new ask_error.TooMany step = full step.start

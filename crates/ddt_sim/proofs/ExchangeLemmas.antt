@@ -98,9 +98,6 @@ turn_is_nearer now x s t d o w bytes h new (Ends v) step near is =
 
 -- ---- a turn that fails
 
-as_failure : {A : Type 0} → LookupError → Result A LookupError
-as_failure error = Err error
-
 -- a request without a reply
 pub unreplied_fails : (now : ℕ) (s : State) (t : ℕ) (d : Outgoing) (answer : Result (Option (List ℕ)) AllocError) (error : LookupError)
     → reply_or_failure answer ≡ Err error → TurnFails now s t d error s

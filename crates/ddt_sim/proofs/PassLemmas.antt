@@ -19,7 +19,8 @@ use Rattle.ddt_resolver.specs.declared.answers.Outgoing.{Outgoing}
 use Rattle.ddt_resolver.specs.declared.answers.Asked.TheVariants as asked
 use Rattle.ddt_resolver.specs.declared.answers.Heard.TheVariants as heard
 use Rattle.ddt_resolver.specs.Bound.{room}
-use Rattle.ddt_resolver.specs.Records.{IsReferral, IsBelow, start_at}
+use Rattle.ddt_path.specs.Actions.{IsReferral}
+use Rattle.ddt_resolver.specs.Records.{IsBelow, start_at}
 use Rattle.ddt_resolver.specs.State.{State, moved, numbered, lodged, stored, forgotten, opening, referred, passed_on, started_over}
 use Rattle.ddt_resolver.specs.AskStep as ask
 use Rattle.ddt_resolver.specs.AskStep.{AskStep, Start}

@@ -19,7 +19,7 @@ use Rattle.ddt_resolver.specs.declared.answers.Ignored.{Ignored}
 use Rattle.ddt_resolver.specs.declared.answers.Heard.{Heard}
 use Rattle.ddt_resolver.specs.declared.answers.Heard.TheVariants as heard
 use Rattle.ddt_resolver.specs.State.{State, server}
-use Rattle.ddt_resolver.specs.Records.{IsReferral}
+use Rattle.ddt_path.specs.Actions.{IsReferral}
 use Rattle.ddt_resolver.specs.TakeUp as takes
 use Rattle.ddt_resolver.specs.TakeUp.{Tells, IsTaken, Ignores}
 use Rattle.ddt_resolver.specs.Act as acts

@@ -1,5 +1,5 @@
 -- The steps of a schedule as the calls take them.
-use Rattle.std.proofs.Common.{◌≡◌, ℕ, zero, suc, arith, ◌+◌, ◌<◌, ◌≤◌, Bool, true, false, List, length, get_or, take, drop, map, reverse, [], ◌∷◌, ◌++◌, Option, None, Some, Result, Ok, Err, refl, sym, ap, ◌∙◌, subst, inl, inr}
+use Rattle.std.proofs.Common.{◌≡◌, ℕ, zero, suc, arith, ◌+◌, ◌<◌, ◌≤◌, Bool, true, false, List, length, get_or, take, drop, map, reverse, [], ◌∷◌, ◌++◌, Option, None, Some, Result, Ok, Err, refl, sym, ap, ◌∙◌, subst, inl}
 use Rattle.std.specs.Prelude.{IsTrue, slice_get}
 use Rattle.std.specs.Result.{OnErr}
 use Rattle.std.specs.Option.{option_map}
@@ -14,7 +14,7 @@ use Rattle.ddt_resolver.specs.declared.answers.AskError.TheVariants as ask_error
 use Rattle.ddt_resolver.specs.declared.answers.Heard.{Heard as Hearing}
 use Rattle.ddt_resolver.specs.declared.answers.Ticked.{Ticked as Ticking}
 use Rattle.ddt_resolver.specs.State.{State, moved}
-use Rattle.ddt_resolver.specs.AskStep.{AskStep, AskWants, UnlessMemory, OnMemory}
+use Rattle.ddt_resolver.specs.AskStep.{AskStep, UnlessMemory}
 use Rattle.ddt_resolver.specs.Act.{HearStep}
 use Rattle.ddt_resolver.specs.TickStep.{TickStep}
 use Rattle.ddt_resolver.specs.Step as resolver
@@ -41,9 +41,6 @@ module _ (moment : ℕ) (sent more : List Datagram) (s new : State) (x : Xeid) (
   ask_resolves (Err ask_error.Exhausted) event step told grown =
       record { call = resolver.Ask x; reply = ToAsk (Err ask_error.Exhausted); state = new; calls = asked x fits refl refl; does = asks x (Err ask_error.Exhausted) id step refl refl; tells = told; goes_on = ap (λ l. world moment l new) grown }
   ask_resolves (Err ask_error.Memory) event step told grown = absurd told
-
-pub ask_stops : (moment : ℕ) (sent : List Datagram) (s new : State) (x : Xeid) (res : Result Asking AskError) → OnMemory res ((new ≡ moved moment s) × AskWants (moved moment s) x) → res ≡ Err ask_error.Memory → Stops (world moment sent s) (Ask x) new
-ask_stops moment sent s new x res wants is = undone (inr (subst (λ r. OnMemory r ((new ≡ moved moment s) × AskWants (moved moment s) x)) is wants).0)
 
 -- ---- a tick
 

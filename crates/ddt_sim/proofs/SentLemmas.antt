@@ -15,7 +15,7 @@ use Rattle.ddt_resolver.specs.declared.pending.Pending.{Pending}
 use Rattle.ddt_resolver.specs.declared.answers.Ignored.{Ignored}
 use Rattle.ddt_resolver.specs.declared.answers.Ignored.TheVariants.{UnknownNonce, Late}
 use Rattle.ddt_resolver.specs.State.{State, server, numbered, request_bytes}
-use Rattle.ddt_resolver.specs.Records.{IsReferral}
+use Rattle.ddt_path.specs.Actions.{IsReferral}
 use Rattle.ddt_resolver.specs.TakeUp as takes
 use Rattle.ddt_resolver.specs.TakeUp.{Tells, IsTaken, Ignores}
 use Rattle.ddt_resolver.specs.Step.{Call, Reply}

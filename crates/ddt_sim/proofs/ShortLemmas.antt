@@ -18,7 +18,8 @@ use Rattle.ddt_register.specs.declared.zone.Zone.{Zone}
 use Rattle.ddt_register.specs.declared.register.Register.{Register}
 use Rattle.ddt_check.specs.Zones.{locators_of}
 use Rattle.ddt_check.specs.Says.{says, referral_to}
-use Rattle.ddt_check.specs.Laws.{IsReferral, ServersReferDownwards, ReferralsAreToZones, AnswersHaveServers, ServersOfAGroupAgree, AnswersCanBeSent}
+use Rattle.ddt_path.specs.Actions.{IsReferral}
+use Rattle.ddt_check.specs.Laws.{ServersReferDownwards, ReferralsAreToZones, AnswersHaveServers, ServersOfAGroupAgree, AnswersCanBeSent}
 use Rattle.ddt_wire.specs.Referral.{message_of, message_record}
 use Rattle.ddt_wire.specs.Laws.{MessagesAreRead, RecordsComeBack}
 use Rattle.ddt_resolver.specs.State.{State, opening}

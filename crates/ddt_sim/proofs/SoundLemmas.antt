@@ -25,7 +25,7 @@ use Rattle.ddt_register.specs.declared.register.Register.{Register}
 use Rattle.ddt_check.specs.Zones.{locators_of}
 use Rattle.ddt_check.specs.Assignment.{assignment}
 use Rattle.ddt_check.specs.Says.{says, referral_to}
-use Rattle.ddt_check.specs.Laws.{IsReferral as RefersDown, IsFinal, IsItsZone, negative_prefix, EachIdentifierHasOneZone, TheRootIsServed, ServersReferDownwards, ReferralsAreToZones, FinalAnswersAreTheAssignment, RegisteredPrefixesAreSites, NegativesHoldOfAll}
+use Rattle.ddt_check.specs.Laws.{IsFinal, IsItsZone, negative_prefix, EachIdentifierHasOneZone, TheRootIsServed, ServersReferDownwards, ReferralsAreToZones, FinalAnswersAreTheAssignment, RegisteredPrefixesAreSites, NegativesHoldOfAll}
 use Rattle.ddt_trie.proofs.MapLemmas.{found_after_insert}
 use Rattle.ddt_cache.specs.declared.entry.Entry.{Entry}
 use Rattle.ddt_cache.specs.Entry.{is_negative, entry_of}
@@ -37,7 +37,8 @@ use Rattle.ddt_resolver.specs.declared.answers.Asked.{Asked}
 use Rattle.ddt_resolver.specs.declared.answers.AskError.{AskError}
 use Rattle.ddt_resolver.specs.declared.answers.Heard.{Heard}
 use Rattle.ddt_resolver.specs.declared.answers.Ticked.{Ticked}
-use Rattle.ddt_resolver.specs.Records.{IsReferral, IsBelow, outcome_at, outcome_of, negative_answer, start_at}
+use Rattle.ddt_path.specs.Actions.{IsReferral}
+use Rattle.ddt_resolver.specs.Records.{IsBelow, outcome_at, outcome_of, negative_answer, start_at}
 use Rattle.ddt_resolver.specs.State.{State, moved, server, numbered, lodged, dropped, stored, opening, referred, passed_on, tried_again, at_next}
 use Rattle.ddt_resolver.specs.AskStep.{AskStep, Start, cached, full, used_up, opened, answer_of}
 use Rattle.ddt_resolver.specs.Act as acts
@@ -45,7 +46,7 @@ use Rattle.ddt_resolver.specs.Act.{Act, HearStep}
 use Rattle.ddt_resolver.specs.TickStep as ticks
 use Rattle.ddt_resolver.specs.TickStep.{GoOn, TickStep}
 use Rattle.ddt_resolver.specs.Step as steps
-use Rattle.ddt_resolver.specs.Step.{Call, Reply, Step, Ask, Hear, Tick, ToAsk, ToDatagram, ToTick}
+use Rattle.ddt_resolver.specs.Step.{Call, Reply, Step, Hear}
 use Rattle.ddt_resolver.specs.Order.{IsInOrder}
 use Rattle.ddt_resolver.proofs.NumberMapLemmas.{found_insert, found_remove}
 use Rattle.ddt_sim.specs.Sound.{IsTrueEntry, delegates, registers, denies, IsSoundLookup, IsSound, IsFair, IsRight, IsRightAsked, IsRightHeard, IsRightTicked, IsRightEnd}
@@ -181,14 +182,14 @@ module _ (r : Register) (laws : KeepsLaws r) (s : State) (o : IsInOrder s) (i : 
     own = subst (λ (set : List Locator). IsTrue (lists set (server s.me l))) z.servers (lists_at l.servers l.place s.me (o.lookups t l here).lookup.place)
 
     module _ (rec : ReferralRecord) (honest : rec ≡ says r (server s.me l) (xeid_path l.x)) where
-      down : ((says r (server s.me l) (xeid_path l.x)).action ≢ NotAuthoritative) × (RefersDown (says r (server s.me l) (xeid_path l.x)).action → length z.zone.prefix < length (says r (server s.me l) (xeid_path l.x)).prefix)
+      down : ((says r (server s.me l) (xeid_path l.x)).action ≢ NotAuthoritative) × (IsReferral (says r (server s.me l) (xeid_path l.x)).action → length z.zone.prefix < length (says r (server s.me l) (xeid_path l.x)).prefix)
       down = laws.downwards z.zone (server s.me l) (xeid_path l.x) z.is_zone z.covers_x own
 
       in_charge : rec.action ≢ NotAuthoritative
       in_charge e = down.0 (ap (λ (v : ReferralRecord). v.action) (sym honest) ∙ e)
 
       longer : IsReferral rec.action → length z.zone.prefix < length rec.prefix
-      longer k = subst (λ (v : ReferralRecord). length z.zone.prefix < length v.prefix) (sym honest) (down.1 (subst (λ (v : ReferralRecord). RefersDown v.action) honest k))
+      longer k = subst (λ (v : ReferralRecord). length z.zone.prefix < length v.prefix) (sym honest) (down.1 (subst (λ (v : ReferralRecord). IsReferral v.action) honest k))
 
       below : IsReferral rec.action → IsBelow l.saved rec.prefix
       below k = by z.saved
@@ -204,7 +205,7 @@ module _ (r : Register) (laws : KeepsLaws r) (s : State) (o : IsInOrder s) (i : 
       gives k = ap outcome_of (final k) ∙ outcome_back (assignment r (xeid_path l.x))
 
       child : IsReferral rec.action → (w : Zone) × Contains r.zones w × IsTrue (covers w.prefix (xeid_path l.x)) × (rec ≡ referral_to r w)
-      child k = let h = laws.to_zones (server s.me l) (xeid_path l.x) (subst (λ (v : ReferralRecord). RefersDown v.action) honest k) in (h.0, h.1, h.2, honest ∙ h.3)
+      child k = let h = laws.to_zones (server s.me l) (xeid_path l.x) (subst (λ (v : ReferralRecord). IsReferral v.action) honest k) in (h.0, h.1, h.2, honest ∙ h.3)
 
       referral_entry : IsReferral rec.action → IsTrueEntry r rec.prefix (entry_of s.known.time rec)
       referral_entry k =

@@ -8,9 +8,7 @@ use Rattle.ddt_path.specs.declared.record.Outcome.{Outcome}
 use Rattle.ddt_path.specs.declared.xeid.Xeid.{Xeid}
 use Rattle.ddt_register.specs.declared.register.Register.{Register}
 use Rattle.ddt_check.specs.Rules.{IsAccepted}
-use Rattle.ddt_check.specs.Laws.{AnswersCover, AnswersHaveServers, AnswersCanBeSent}
-use Rattle.ddt_wire.specs.Laws.{MessagesAreRead, RecordsComeBack}
-use Rattle.ddt_ecm.specs.Laws.{WrittenSpells, message_of}
+use Rattle.ddt_ecm.specs.Laws.{message_of}
 use Rattle.ddt_resolver.specs.declared.pending.Pending.{Pending}
 use Rattle.ddt_resolver.specs.declared.answers.Asked.{Asked as Asking}
 use Rattle.ddt_resolver.specs.declared.answers.Asked.TheVariants as asked_as
@@ -32,7 +30,7 @@ use Rattle.ddt_resolver.specs.Act as act
 use Rattle.ddt_resolver.specs.Act.{Act, HearStep}
 use Rattle.ddt_resolver.specs.TakeUp.{Ignores}
 use Rattle.ddt_resolver.specs.TickStep as tick
-use Rattle.ddt_resolver.specs.TickStep.{GoOn, TickStep}
+use Rattle.ddt_resolver.specs.TickStep.{GoOn}
 use Rattle.ddt_resolver.specs.Order.{IsInOrder}
 use Rattle.ddt_sim.specs.declared.schedule.Step.{Step}
 use Rattle.ddt_sim.specs.declared.schedule.Step.TheVariants.{Deliver}
@@ -40,10 +38,11 @@ use Rattle.ddt_sim.specs.declared.schedule.Event.{Event}
 use Rattle.ddt_sim.specs.declared.schedule.Event.TheVariants.{Asked, Refused, Replied, Silent, Heard, Passed, Ticked, Nothing}
 use Rattle.ddt_sim.specs.declared.schedule.Datagram.{Datagram}
 use Rattle.ddt_sim.specs.declared.schedule.Transcript.{Transcript}
-use Rattle.ddt_sim.specs.Sound.{IsSound, StepsKeepSoundness, TimeKeepsSoundness, IsRight, IsRightHeard, IsRightEnd, IsRightWhy}
+use Rattle.ddt_sim.specs.RunLaws.{LawsOfRuns}
+use Rattle.ddt_sim.specs.Sound.{IsSound, IsRight, IsRightHeard, IsRightEnd, IsRightWhy}
 use Rattle.ddt_sim.specs.World.{World, honest_replies, event_of, Calls, asked, heard, ticked, Resolves, WorldStep, resolves, replies, silent, not_sent, passes}
 use Rattle.ddt_sim.specs.History.{Line, History, begin, next, Each, at_start, Tells, StopsAfter}
-use Rattle.ddt_sim.specs.Schedules.{StartsSound, Ends, IsRightAnswer, IsOnce, HasReply, IsRightReply, IsRightFailure}
+use Rattle.ddt_sim.specs.Schedules.{StartsSound, Ends, IsRightAnswer, IsOnce, IsRepliedTo, IsRightReply, IsRightFailure}
 use Rattle.ddt_sim.proofs.ReplyLemmas.{IsFor, act_is_for}
 use Rattle.ddt_sim.proofs.SentLemmas as sent
 use Rattle.ddt_sim.proofs.SentLemmas.{IsKnown, ignored_rightly}
@@ -290,7 +289,7 @@ module _ (r : Register) (are_honest : Register → Type 0) (on : Stands r are_ho
       let same : j ≡ k = cc (is, e) in
       let own : c ≡ d = same_Some c d (sym there ∙ ap (slice_get w.sent) same ∙ found) in
       let q = replied_honestly r are_honest on past w i j c (Some bytes) there other may in
-      subst (HasReply r line) own (record { request = message_of q.0 q.1 (w.state.me ∷ []) true; reply = bytes; asks = q.3; honest = q.4; replied = f; sent = ap (λ (v : World). v.sent) g })
+      subst (IsRepliedTo r line) own (record { request = message_of q.0 q.1 (w.state.me ∷ []) true; reply = bytes; asks = q.3; honest = q.4; replied = f; sent = ap (λ (v : World). v.sent) g })
   right_reply (silent j c e there other may f g) k d is found kind = absurd (replied_honestly r are_honest on past w i j c None there other may).4
   right_reply (not_sent j e gone f g) k d is found kind = let same : j ≡ k = cc (is, e) in let lt = slice_get_within w.sent k d found in absurd (omega (arith, gone, lt, same))
   right_reply (passes millis e f g) k d is found kind = absurd (cc (is, e))
@@ -344,18 +343,7 @@ first_tried r s starts = record {
   trails = λ t l found none. absurd (none-some l (sym (starts.at_rest t) ∙ found));
 }
 
--- what the crates below promise
-pub record Promises : Type 0 where
-  pub keeps : StepsKeepSoundness
-  pub time : TimeKeepsSoundness
-  pub messages : MessagesAreRead
-  pub back : RecordsComeBack
-  pub cover : (r : Register) → IsAccepted r → AnswersCover r
-  pub servers : (r : Register) → IsAccepted r → AnswersHaveServers r
-  pub sendable : (r : Register) → IsAccepted r → AnswersCanBeSent r
-  pub written : WrittenSpells
-
-module _ (laws : Promises) (are_honest : Register → Type 0) (old : State) (o : IsInOrder old) (steps : List Step) (r : Register) (honest : are_honest r) (starts : StartsSound r old) where
+module _ (laws : LawsOfRuns) (are_honest : Register → Type 0) (old : State) (o : IsInOrder old) (steps : List Step) (r : Register) (honest : are_honest r) (starts : StartsSound r old) where
   on : Stands r are_honest
   on = record {
     accepted = starts.accepted;
@@ -379,9 +367,6 @@ module _ (laws : Promises) (are_honest : Register → Type 0) (old : State) (o :
       ]
 
   module _ (t : Transcript) (new : State) where
-    pub ends_soundly : (past : List Line) → Tells are_honest old steps t new past → IsSound r new
-    ends_soundly past tells = subst (IsSound r) (sym tells.state_is) (sound_run r are_honest on (at_start old) first past tells.last tells.history).sound
-
     pub each_answer : (past : List Line) → Tells are_honest old steps t new past → Each (IsRightAnswer r) past
     each_answer past tells = each_line r are_honest on (at_start old) first (IsRightAnswer r) (right_answer r are_honest on) past tells.last tells.history
 

@@ -11,3 +11,4 @@ pub mod Waiting
 pub mod World
 pub mod Schedules
 pub mod Tries
+pub mod RunLaws

@@ -16,7 +16,7 @@ use Rattle.ddt_resolver.specs.declared.answers.Heard.TheVariants as heard
 use Rattle.ddt_resolver.specs.declared.answers.Why.{Why}
 use Rattle.ddt_resolver.specs.declared.answers.Why.TheVariants.{NoReply, Exhausted}
 use Rattle.ddt_resolver.specs.State.{State, moved, dropped}
-use Rattle.ddt_resolver.specs.AskStep.{AskStep, answer_of}
+use Rattle.ddt_resolver.specs.AskStep.{AskStep, AskWants, answer_of}
 use Rattle.ddt_resolver.specs.Act.{HearStep}
 use Rattle.ddt_sim.specs.declared.hop.Hop.{Hop}
 use Rattle.ddt_sim.specs.declared.hop.LookupError.{LookupError}
@@ -114,7 +114,7 @@ pub data Fails (now : ℕ) (x : Xeid) (start : State) (error : LookupError) (new
   too_many : AskStep (moved now start) x new (Err ask_error.TooMany) → error ≡ TooMany → Fails now x start error new
   used_up : AskStep (moved now start) x new (Err ask_error.Exhausted) → error ≡ GaveUp Exhausted
       → Fails now x start error new
-  unasked : new ≡ moved now start → error ≡ Memory → Fails now x start error new
+  unasked : AskWants (moved now start) x → new ≡ moved now start → error ≡ Memory → Fails now x start error new
   at_request : {hops : List Hop} {t : ℕ} {d : Outgoing} {s after : State} → Reaches now x start hops t d s
       → TurnFails now s t d error after → new ≡ dropped after t → Fails now x start error new
 

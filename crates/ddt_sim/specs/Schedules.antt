@@ -89,7 +89,7 @@ pub record IsOnce (past : List Line) (line : Line) : Type 0 where
 
 -- The reply to a datagram: one datagram more, which spells the nonce of the request that the datagram spells, and what
 -- the register says there of its identifier.
-pub record HasReply (r : Register) (line : Line) (d : Datagram) : Type 0 where
+pub record IsRepliedTo (r : Register) (line : Line) (d : Datagram) : Type 0 where
   pub request : Message
   pub reply : List ℕ
   pub asks : IsDdtRequest d.bytes request
@@ -101,7 +101,7 @@ pub record HasReply (r : Register) (line : Line) (d : Datagram) : Type 0 where
 abbrev pub IsRightReply : Register → List Line → Line → Type 0
 IsRightReply r past line =
     (k : ℕ) (d : Datagram) → line.step ≡ Deliver k → slice_get line.before.sent k ≡ Some d → d.is_reply ≡ false
-    → HasReply r line d
+    → IsRepliedTo r line d
 
 -- A lookup gives up for want of a reply, or of nonces. A reply is ignored where nobody waits for its nonce any more, or
 -- where it is late. An ask is refused where 1,024 lookups are pending, or no nonce is left.

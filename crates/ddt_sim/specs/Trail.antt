@@ -10,7 +10,8 @@ use Rattle.ddt_register.specs.declared.register.Register.{Register}
 use Rattle.ddt_check.specs.Rules.{IsAccepted}
 use Rattle.ddt_cache.specs.declared.entry.Entry.{Entry}
 use Rattle.ddt_cache.specs.Found.{IsFound}
-use Rattle.ddt_resolver.specs.Records.{IsReferral, IsAbout, IsBelow, outcome_of, start_at}
+use Rattle.ddt_path.specs.Actions.{IsReferral}
+use Rattle.ddt_resolver.specs.Records.{IsAbout, IsBelow, outcome_of, start_at}
 use Rattle.ddt_resolver.specs.State.{State, request_bytes}
 use Rattle.ddt_resolver.specs.TakeUp.{Tells}
 use Rattle.ddt_resolver.specs.AskStep.{answer_of}

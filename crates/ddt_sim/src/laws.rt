@@ -2,6 +2,7 @@
 
 ghost use Rattle.ddt_sim.specs.Sound.{NewResolversAreSound, StepsKeepSoundness, TimeKeepsSoundness, CancellingKeepsSoundness};
 ghost use Rattle.ddt_sim.specs.Reply.{RequestsAreUnderstood};
+ghost use Rattle.ddt_sim.specs.RunLaws.{LawsOfRuns};
 ghost use Rattle.ddt_sim.specs.Trail.{HonestTrailsAreShort};
 ghost use Rattle.ddt_sim.specs.Passes.{PassesAreShort};
 
@@ -32,6 +33,16 @@ pub fn a_step_keeps_a_resolver_sound()
 /// with the assignment, or without an outcome only where no nonce is left.
 pub(crate) fn requests_are_understood()
     ensures { RequestsAreUnderstood }
+{
+    a_step_keeps_a_resolver_sound();
+    honest_servers_lead_to_the_assignment();
+    request_laws();
+    referral_laws();
+}
+
+/// The laws that the contract of `run` rests on.
+pub(crate) fn laws_of_runs()
+    ensures { LawsOfRuns }
 {
     a_step_keeps_a_resolver_sound();
     honest_servers_lead_to_the_assignment();

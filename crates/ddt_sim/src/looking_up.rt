@@ -1,17 +1,10 @@
 //! A lookup, from an ask to its outcome, over servers that answer at once.
 
-ghost use Rattle.std.specs.Prelude.{◌≡◌, ◌≤◌, ℕ, List, [], length, Some, Ok, IsOk, IfOk, IfErr};
-ghost use Rattle.std.specs.List.{All};
+ghost use Rattle.std.specs.Prelude.{◌≡◌, ◌≤◌, length, Ok, IsOk, IfOk, IfErr};
 ghost use Rattle.ddt_path.specs.declared.xeid.Xeid.{Xeid as AnXeid};
 ghost use Rattle.ddt_path.specs.declared.record.Outcome.{Outcome as AnOutcome};
-ghost use Rattle.ddt_path.specs.Path.{xeid_path};
 ghost use Rattle.ddt_register.specs.declared.register.Register.{Register};
-ghost use Rattle.ddt_check.specs.Rules.{IsAccepted};
-ghost use Rattle.ddt_check.specs.Assignment.{assignment};
-ghost use Rattle.ddt_cache.specs.declared.entry.Entry.{Entry as AnEntry};
-ghost use Rattle.ddt_cache.specs.Found.{IsFound};
-ghost use Rattle.ddt_resolver.specs.State.{State, moved};
-ghost use Rattle.ddt_resolver.specs.AskStep.{AskStep, answer_of};
+ghost use Rattle.ddt_resolver.specs.State.{moved};
 ghost use Rattle.ddt_resolver.specs.declared.answers.Asked.TheVariants.{Answer};
 ghost use Rattle.ddt_resolver.specs.Bound.{StartsWithin};
 ghost use Rattle.ddt_wire.specs.Address.{IsAddress};

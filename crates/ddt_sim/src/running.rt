@@ -12,17 +12,14 @@ ghost use Rattle.ddt_sim.specs.Schedules.{StartsSound, AnswersAreRight, RepliesA
 ghost use Rattle.ddt_sim.specs.Tries.{NoRepliesAreRight};
 ghost use Rattle.ddt_sim.specs.Sound.{IsSound};
 
-use crate::laws::a_step_keeps_a_resolver_sound;
+use crate::laws::laws_of_runs;
 use crate::looking_up::can_be_asked;
 use crate::schedule::{Datagram, Event, Step, Transcript};
 use crate::servers::Servers;
 use ddt_cache::{Entry, LAST_MOMENT, Moment};
-use ddt_check::honest_servers_lead_to_the_assignment;
-use ddt_ecm::request_laws;
 use ddt_path::{Listed, Locator, Xeid};
 use ddt_resolver::{AskError, Asked, Resolver};
 use ddt_trie::PrefixMap;
-use ddt_wire::referral_laws;
 use std::alloc::{AllocError, Global};
 
 /// Runs a schedule of steps over servers and a resolver, from the moment that is the resolver's time. A datagram that a
@@ -61,10 +58,7 @@ pub fn run<S: Servers, M: PrefixMap<Entry>>(
     // No steps are never refused.
     ensures none { steps.now ≡ [] → IsOk result }
 {
-    a_step_keeps_a_resolver_sound();
-    honest_servers_lead_to_the_assignment();
-    request_laws();
-    referral_laws();
+    laws_of_runs();
     resolver.in_order();
     let mut moment = resolver.time();
     let mut events: Vec<Event> = Vec::new(alloc);

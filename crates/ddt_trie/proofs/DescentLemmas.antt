@@ -43,12 +43,6 @@ module _ {V : Type 0} {at : ℕ} {t : Tree V} {y : List ℕ} {low : ℕ} {s : Tr
     | inr f ↦ subst Found (sym f.1) (w.last (uncovered_end low s r ends f.0))
   ]
 
-  pub none_at_end : (next : Option (ℕ × Bor V)) → r ≡ [] → IsMetNext low s met next → Nothing next
-  none_at_end next ends m = elim m [
-    | inl f ↦ not_nothing next f.0 f.2
-    | inr f ↦ subst Nothing (sym f.1) (w.none (uncovered_end low s r ends f.0))
-  ]
-
   pub go_on : {u : Tree V} {q : List ℕ} (next : Option (ℕ × Bor V)) → IsStep low s r u q → IsMetNext low s met next
       → IsOnTheWay at t y (low + 1) u q next
   go_on {u} {q} next step m = record {

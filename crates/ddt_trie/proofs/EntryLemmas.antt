@@ -9,7 +9,7 @@ use Rattle.std.specs.Cmp.Lexicographic.{nat_list_cmp_total, texts_ties}
 use Rattle.std.specs.List.{remove as remove_at, position, position_or_len}
 use Rattle.std.specs.FinMap.{find, get, len, insert, remove, contains_key, get-from_entries, get-insert, get-remove, len-insert, len-empty, from_entries_push, same_map, IsAntisymmetric, slice_cmp-IsAntisymmetric, nat_cmp-IsAntisymmetric}
 use Rattle.std.proofs.lemmas.Bool.{and_parts, and_from, cond-true, cond-false, false_from_ne_true, false≢true, not-true, ltb-true, ltb-false}
-use Rattle.std.proofs.lemmas.Option.{same_Some, none-some, cond_some, slice_get_cases, slice_get_within, get_or_from_slice_get}
+use Rattle.std.proofs.lemmas.Option.{same_Some, none-some, cond_some, slice_get_cases, get_or_from_slice_get}
 use Rattle.std.proofs.lemmas.List.Sums.{passes_at_first}
 use Rattle.ddt_path.specs.Covers.{is_same_path}
 use Rattle.ddt_trie.specs.PrefixMap.{path_cmp}
@@ -217,9 +217,6 @@ module _ {V : Type 0} where
 
   pub get_absent : (es : List (List ℕ × V)) (p : List ℕ) → find path_cmp p es ≡ None → get (map_of es) p ≡ None
   get_absent es p none = get-map_of es p ∙ none
-
-  pub at_within : (es : List (List ℕ × V)) (i : ℕ) (p : List ℕ) → IsAt es i p → i < length es
-  at_within es i p at = slice_get_within es i (p, at.0) at.1
 
   entry_at : (es : List (List ℕ × V)) (i : ℕ) (p : List ℕ) (e : List ℕ × V) (at : IsAt es i p) → e ≡ get_or es i e → e ≡ (p, at.0)
   entry_at es i p e at read = read ∙ get_or_from_slice_get es i (p, at.0) e at.1

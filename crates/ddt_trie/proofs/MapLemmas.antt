@@ -3,8 +3,8 @@
 use Rattle.std.proofs.Common.{◌≡◌, ℕ, ◌≤◌, Bool, cond, true, false, List, length, take, Some, None, Option, refl, sym, ap, subst, ◌∙◌, arith, inl, inr, ◌⊎◌}
 use Rattle.std.specs.Prelude.{is_some, not, nat_lt, IsTrue, IfSome, ◌≢◌}
 use Rattle.std.specs.Cmp.Lexicographic.{nat_list_cmp_total}
-use Rattle.std.specs.FinMap.{FinMap, empty, get, len, len-empty, insert, remove, keys, contains_key, contains_key-keys, get-empty, get-insert, get-remove, get-retain_keys, get_tied, retain_keys, same_map, gets}
-use Rattle.std.proofs.lemmas.Bool.{cond-true, cond-false, false_from_ne_true, false≢true, not-true, not_from_false}
+use Rattle.std.specs.FinMap.{FinMap, empty, get, len, len-empty, insert, remove, keys, contains_key, contains_key-keys, get-empty, get-insert, get-remove, same_map, gets}
+use Rattle.std.proofs.lemmas.Bool.{cond-true, cond-false, false_from_ne_true, false≢true, not_from_false}
 use Rattle.std.proofs.lemmas.Option.{none-some, same_Some}
 use Rattle.ddt_path.specs.Covers.{covers, overlaps}
 use Rattle.ddt_path.specs.Free.{overlaps_none, free}
@@ -12,7 +12,7 @@ use Rattle.ddt_trie.specs.PrefixMap.{path_cmp, IsCovered, IsLongest, IsKept, IsR
 use Rattle.ddt_trie.proofs.EntryLemmas.{tied, tied-true, tied_self, same_keys}
 use Rattle.ddt_path.proofs.CoverLemmas.{take-covered, length-covered}
 use Rattle.ddt_path.proofs.HoleLemmas.{free_whole}
-use Rattle.ddt_trie.proofs.KeyLemmas.{all_from_members, member_passes}
+use Rattle.ddt_trie.proofs.KeyLemmas.{all_from_members}
 
 apart : (p q : List ℕ) → p ≢ q → tied q p ≡ false
 apart p q ne = false_from_ne_true (tied q p) (λ t. ne (sym (tied-true q p t)))
@@ -27,9 +27,6 @@ module _ {V : Type 0} (m : FinMap path_cmp V) (p : List ℕ) where
   pub get-remove_same : get (remove m p) p ≡ None
   get-remove_same = get-remove nat_list_cmp_total m p p ∙ cond-true (tied p p) None (get m p) (tied_self p)
 
-  pub get-remove_other : (q : List ℕ) → p ≢ q → get (remove m p) q ≡ get m q
-  get-remove_other q ne = get-remove nat_list_cmp_total m p q ∙ cond-false (tied q p) None (get m q) (apart p q ne)
-
   -- what is found after an insert is what was inserted, or was there
   pub found_after_insert : (v : V) (q : List ℕ) (w : V) → get (insert m p v) q ≡ Some w → ((q ≡ p) × (v ≡ w)) ⊎ (get m q ≡ Some w)
   found_after_insert v q w found =
@@ -43,9 +40,6 @@ module _ {V : Type 0} (m : FinMap path_cmp V) (q : List ℕ) where
   -- q overlaps no key, by each key
   pub overlaps_none-keys : ((p : List ℕ) → IsTrue (contains_key m p) → overlaps p q ≡ false) → overlaps_none (keys m) q ≡ true
   overlaps_none-keys h = all_from_members (λ p. not (overlaps p q)) (keys m) (λ p is. not_from_false (overlaps p q) (h p (contains_key-keys m p ∙ is)))
-
-  pub key_apart : overlaps_none (keys m) q ≡ true → (p : List ℕ) → IsTrue (contains_key m p) → overlaps p q ≡ false
-  key_apart none p is = not-true (overlaps p q) (member_passes (λ p. not (overlaps p q)) (keys m) p none (sym (contains_key-keys m p) ∙ is))
 
 -- ---- the longest of the keys
 
@@ -104,12 +98,6 @@ kept_where answers test says (Some v) after kept =
       | inl k ↦ k.1 ∙ sym (cond-true (test v) (Some v) None (sym (says v true k.0)))
       | inr k ↦ k.1 ∙ sym (cond-false (test v) (Some v) None (sym (says v false k.0)))
     ]
-
-pub IsRetained-is : {V : Type 0} (answers : V → Bool → Type 0) (test : V → Bool) → ((v : V) (b : Bool) → answers v b → b ≡ test v) → (before after : FinMap path_cmp V) → IsRetained answers before after
-    → after ≡ retain_keys before (λ p. passes test (get before p))
-IsRetained-is answers test says before after retained = same_map nat_list_cmp_total same_keys _ _ (λ q.
-    kept_where answers test says (get before q) (get after q) (retained.at q)
-    ∙ sym (get-retain_keys before (λ p. passes test (get before p)) q (λ p t. ap (passes test) (get_tied nat_list_cmp_total before q p t))))
 
 -- a filter that each value fails leaves nothing
 pub all_dropped : {V : Type 0} (answers : V → Bool → Type 0) (test : V → Bool) → ((v : V) (b : Bool) → answers v b → b ≡ test v) → (before after : FinMap path_cmp V) → ((p : List ℕ) (v : V) → get before p ≡ Some v → test v ≡ false)

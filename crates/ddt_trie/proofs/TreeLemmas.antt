@@ -21,12 +21,6 @@ pub if_none : {A : Type 0} (r : Option A) (P Q : Type 0) → (P → Q) → IfNon
 if_none None P Q f h = f h
 if_none (Some a) P Q f h = h
 
-pub if_some_at : {A : Type 0} (r b : Option A) (a : A) (P : A → Type 0) → b ≡ r → b ≡ Some a → IfSome r P → P a
-if_some_at r b a P same is h = subst (λ (o : Option _). IfSome o P) (sym same ∙ is) h
-
-pub if_none_at : {A : Type 0} (r b : Option A) (P : Type 0) → b ≡ r → b ≡ None → IfNone r P → P
-if_none_at r b P same is h = subst (λ (o : Option _). IfNone o P) (sym same ∙ is) h
-
 -- y goes on to the subtree s with what is left of it, r
 pub record IsStep {V : Type 0} (at : ℕ) (t : Tree V) (y : List ℕ) (s : Tree V) (r : List ℕ) : Type 0 where
   pub digit : ℕ
@@ -199,9 +193,6 @@ module _ {V : Type 0} where
 
   pub uncovered_end : (at : ℕ) (t : Tree V) (y : List ℕ) → y ≡ [] → lookup at t [] ≡ None → IsUncovered at t y
   uncovered_end at t y ends f = record { none = λ q c. only_here at t f q (ap (covers q) (sym ends) ∙ c) }
-
-  pub uncovered_empty : (at : ℕ) (t : Tree V) (y : List ℕ) → t ≡ Empty → IsUncovered at t y
-  uncovered_empty at t y is = record { none = λ q c. ap (λ (u : Tree V). lookup at u q) is }
 
   -- a subtree has an entry
   pub some_entry : (at : ℕ) (t : Tree V) → is_filled t ≡ true → is_pruned t ≡ true

@@ -3,7 +3,7 @@ use Rattle.std.proofs.Common.{◌≡◌, ℕ, ◌+◌, ◌≤◌, Bool, true, fa
 use Rattle.std.specs.Prelude.{◌&&◌, ◌||◌, ◌==◌, not, is_some, Option, IsTrue}
 use Rattle.std.specs.Option.{option_copied}
 use Rattle.std.specs.Bool.{then_some}
-use Rattle.std.proofs.lemmas.Bool.{and_parts, and_from, false≢true, not-true, not-false, eqb-true}
+use Rattle.std.proofs.lemmas.Bool.{and_parts, and_from, false≢true, not-true, eqb-true}
 use Rattle.std.proofs.lemmas.List.{length-take-le, take-append-drop}
 use Rattle.ddt_path.specs.Covers.{covers, shared_len, is_same_path}
 use Rattle.ddt_path.proofs.CoverLemmas.{eqb_self, take-covered, length-covered, front_covered}
@@ -149,10 +149,6 @@ module _ {V : Type 0} (at : ℕ) (p k : List ℕ) (v : V) (le : at ≤ length p)
   pub leaf_other : (b : Bool) → b ≡ not (is_same_path k p) → b ≡ true
       → cond (is_same_path (drop at p) (drop at k)) (Some v) None ≡ None
   leaf_other b is t = leaf_value false (sym (not-true (is_same_path k p) (sym is ∙ t)))
-
-  pub leaf_own : (b : Bool) → b ≡ not (is_same_path k p) → b ≡ false
-      → cond (is_same_path (drop at p) (drop at k)) (Some v) None ≡ Some v
-  leaf_own b is f = leaf_value true (sym (not-false (is_same_path k p) (sym is ∙ f)))
 
 -- ---- a node over a leaf
 

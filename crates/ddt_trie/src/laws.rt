@@ -1,7 +1,7 @@
 //! What holds of every map from prefixes, over the definitions alone: each law is the contract of a function that does
 //! nothing.
 
-ghost use Rattle.std.specs.Prelude.{◌≡◌, ℕ, IsTrue, List, filter, Option, None, Some};
+ghost use Rattle.std.specs.Prelude.{◌≡◌, ℕ, List, filter, None, Some};
 ghost use Rattle.std.specs.List.{list_any};
 ghost use Rattle.std.specs.FinMap as map;
 ghost use Rattle.ddt_path.specs.Covers.{is_same_path, is_strictly_below};

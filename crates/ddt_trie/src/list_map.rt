@@ -51,18 +51,11 @@ fn covers_none<V>(entries: &[(Prefix, V)], x: Xeid) -> bool
     entries.iter().all(|entry| !covers_alone(entry.0, x))
 }
 
-/// Whether the prefix is strictly below another, which covers it and is shorter.
-fn is_below(prefix: Prefix, other: Prefix) -> bool
-    ensures { result ≡ is_strictly_below prefix other }
-{
-    other.covers(prefix) && !prefix.covers(other)
-}
-
 /// Whether the prefix overlaps none of the entries strictly below `from`.
 fn overlaps_none_below<V>(entries: &[(Prefix, V)], from: Prefix, prefix: Prefix) -> bool
     ensures { result ≡ none_overlaps_below entries.now from prefix }
 {
-    entries.iter().all(|entry| !(is_below(entry.0, from) && entry.0.overlaps(prefix)))
+    entries.iter().all(|entry| !(entry.0.is_strictly_below(from) && entry.0.overlaps(prefix)))
 }
 
 /// Whether no entry strictly below `from` covers the identifier, which is whether it overlaps none of them.
@@ -70,7 +63,7 @@ fn covers_none_below<V>(entries: &[(Prefix, V)], from: Prefix, x: Xeid) -> bool
     ensures covers { result ≡ none_covers_below entries.now from (xeid_path x) }
     ensures overlaps { result ≡ none_overlaps_below entries.now from (xeid_path x) }
 {
-    entries.iter().all(|entry| !(is_below(entry.0, from) && covers_alone(entry.0, x)))
+    entries.iter().all(|entry| !(entry.0.is_strictly_below(from) && covers_alone(entry.0, x)))
 }
 
 impl<V: Drop> PrefixMap<V> for ListMap<V> {

@@ -113,8 +113,7 @@ lcaf_at mask bytes =
     else inside_at mask bytes
 
 -- The path of the prefix that stands at the front beside an EID mask-len, and how many bytes it takes; or the first
--- fault, from left to right, but for an LCAF's length, which is judged with the AFI inside it, and for the mask
--- length, which comes last.
+-- fault, from left to right. An LCAF's length is judged with the AFI inside it, and the mask length comes last.
 unfoldable pub eid_at : ℕ → List ℕ → Result (List ℕ × ℕ) EidFault
 eid_at mask bytes =
     if nat_lt (length bytes) 2 then Err Short

@@ -20,7 +20,7 @@
 //!
 //! A, the map version and the reserved bits are ignored.
 
-ghost use Rattle.std.specs.Prelude.{◌≡◌, ◌^◌, ◌<◌, ◌≤◌, true, length, Ok, IfOk};
+ghost use Rattle.std.specs.Prelude.{◌≡◌, ◌<◌, ◌≤◌, true, length, Ok, IfOk};
 ghost use Rattle.ddt_path.specs.Locators.{most_locators};
 ghost use Rattle.ddt_wire.specs.Referral.{written, written_head, flags_of, action_in, message_in, Spells, Message, message_of, message_record};
 

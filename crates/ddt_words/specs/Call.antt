@@ -1,6 +1,6 @@
 -- The call of a command: its name, and what was given to it, by `clap`'s rule for commands with plain arguments and
 -- options.
-use Rattle.std.specs.Prelude.{ℕ, ◌≡◌, List, [], Option, Some, unwrap_or}
+use Rattle.std.specs.Prelude.{◌≡◌, List, [], Option, Some, unwrap_or}
 use Rattle.clap.specs.Words.{Row, Text, all_of, fault_of, first_of, found_of, rows_of, subcommand_of}
 use Rattle.ddt_words.specs.declared.declaration.Declaration.{Declaration}
 use Rattle.ddt_words.specs.declared.words.Words.{Words}

@@ -1,5 +1,5 @@
 -- The command line of a program, as `clap` reads it.
-use Rattle.std.specs.Prelude.{ℕ, true, List, map, codes, Some}
+use Rattle.std.specs.Prelude.{true, List, codes, Some}
 use Rattle.clap.specs.Words.{App, Rule, Text, new_app, new_rule, with_rule, with_subcommand}
 use Rattle.std.specs.List.{fold}
 use Rattle.std.specs.Borrow.{Bor}

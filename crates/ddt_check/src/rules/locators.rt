@@ -16,7 +16,7 @@ ghost use Rattle.ddt_check.specs.Columns.{column_key, key_list};
 ghost use Rattle.ddt_check.specs.Columns.{first_in as first_of, meets_at, meets_in, is_met, is_wrong_alone as is_wrong_of};
 
 use crate::fault::Rule;
-use crate::rules::{lower, lower_of};
+use crate::rules::{least_row, lower_of};
 use ddt_path::{Locator, MOST_LOCATORS, are_distinct};
 use ddt_register::Group;
 
@@ -141,13 +141,7 @@ fn is_wrong_alone(g: &Group) -> bool
 fn wrong_alone(groups: &[Group]) -> Option<u32>
     ensures { (r : ARegister) → IsPermutation r.groups groups.now → IsLeastRow (λ n. group_at r n is_wrong_of) result }
 {
-    let mut least = None;
-    for g in groups {
-        if is_wrong_alone(g) {
-            least = Some(lower(least, g.row));
-        }
-    }
-    least
+    least_row(groups, |g| is_wrong_alone(g))
 }
 
 /// Whether a group has a locator in the column.

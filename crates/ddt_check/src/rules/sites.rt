@@ -1,19 +1,18 @@
-//! The rules that a site may break. The count of ETRs is looked at in the order of rows; the other rules see sites that
-//! are sorted by their prefixes, then by their rows.
+//! The rules that a site may break. The count of ETRs is looked at in the order of rows. Whether a site is outside is
+//! asked of zones that are sorted by their prefixes, then by their rows.
 
-ghost use Rattle.std.specs.Prelude.{◌≡◌, ◌<◌, ◌&&◌, IsPermutation, slice_index_or, length};
-ghost use Rattle.ddt_path.specs.Covers.{covers, is_same_path};
-ghost use Rattle.ddt_register.specs.declared.site.Site.{Site as ASite};
+ghost use Rattle.std.specs.Prelude.{◌≡◌, ◌&&◌, IsPermutation};
+ghost use Rattle.ddt_path.specs.Covers.{covers};
 ghost use Rattle.ddt_register.specs.declared.register.Register.{Register as ARegister};
 ghost use Rattle.ddt_register.specs.Rows.{first_row as first_row_of};
-ghost use Rattle.ddt_check.specs.Rules.{IsLeastRow, broken, is_duplicate_site};
+ghost use Rattle.ddt_check.specs.Rules.{IsLeastRow, broken};
 ghost use Rattle.ddt_check.specs.Rules.{is_outside as is_outside_of, has_too_many_etrs as has_too_many};
 ghost use Rattle.ddt_check.specs.Zones.{is_ms as is_ms_of};
-ghost use Rattle.ddt_check.specs.Order.{AreZonesInOrder, AreSitesInOrder};
-ghost use Rattle.ddt_check.specs.Sorted.{IsKept, IsLeastOfSites};
+ghost use Rattle.ddt_check.specs.Order.{AreZonesInOrder};
+ghost use Rattle.ddt_check.specs.Sorted.{IsKept};
 
 use crate::fault::Rule;
-use crate::rules::lower;
+use crate::rules::least_row;
 use ddt_path::{MOST_LOCATORS, Role};
 use ddt_register::{Register, Site, Zone, first_row};
 
@@ -28,40 +27,6 @@ pub fn too_many_etrs(register: &Register) -> Option<u32>
     ensures { result ≡ first_row_of (λ s. s.row) has_too_many register.now.sites }
 {
     first_row(register.sites.as_slice(), |s| has_too_many_etrs(s))
-}
-
-/// Whether two sites have one prefix.
-fn has_same_prefix(a: &Site, b: &Site) -> bool
-    ensures { result ≡ is_same_path a.now.prefix b.now.prefix }
-{
-    a.prefix == b.prefix
-}
-
-/// Whether a site of an earlier row has the prefix of the site at a place: its neighbour then has it.
-fn repeats(sites: &[Site], at: usize) -> bool
-    requires inside { at < length sites.now }
-    requires sorted { AreSitesInOrder sites.now }
-    ensures { (r : ARegister) (d : ASite) → IsPermutation r.sites sites.now
-        → result ≡ is_duplicate_site r (slice_index_or sites.now at d) }
-{
-    if at == 0 {
-        return false;
-    }
-    has_same_prefix(&sites[at - 1], &sites[at])
-}
-
-/// The least row of a site whose prefix an earlier one has.
-pub fn duplicate(sites: &[Site]) -> Option<u32>
-    requires { AreSitesInOrder sites.now }
-    ensures { IsLeastOfSites sites.now Rule.DuplicateSite result }
-{
-    let mut least = None;
-    for at in 0..sites.len() {
-        if repeats(sites, at) {
-            least = Some(lower(least, sites[at].row));
-        }
-    }
-    least
 }
 
 /// Whether a zone is of Map-Servers and covers a site.
@@ -92,11 +57,5 @@ pub fn outside(sites: &[Site], zones: &[Zone]) -> Option<u32>
     ensures { (r : ARegister) → IsPermutation r.sites sites.now → IsPermutation r.zones zones.now
         → IsKept r Rule.DuplicateZone → IsKept r Rule.BelowMapServer → IsLeastRow (broken r Rule.SiteOutside) result }
 {
-    let mut least = None;
-    for s in sites {
-        if is_outside(zones, s) {
-            least = Some(lower(least, s.row));
-        }
-    }
-    least
+    least_row(sites, |s| is_outside(zones, s))
 }

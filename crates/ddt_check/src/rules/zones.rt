@@ -1,24 +1,22 @@
 //! The rules that a zone may break. A root is looked for in the order of rows; the other rules see zones that are
 //! sorted by their prefixes, then by their rows.
 
-ghost use Rattle.std.specs.Prelude.{◌≡◌, ◌<◌, ◌&&◌, not, false, IsPermutation, slice_index_or, length};
+ghost use Rattle.std.specs.Prelude.{◌≡◌, ◌&&◌, not, false, IsPermutation};
 ghost use Rattle.std.specs.List.{list_any};
 ghost use Rattle.std.specs.Option.{option_map, option_map_or, option_copied};
-ghost use Rattle.ddt_path.specs.Covers.{covers, is_same_path, is_strictly_below};
-ghost use Rattle.ddt_register.specs.declared.zone.Zone.{Zone as AZone};
+ghost use Rattle.ddt_path.specs.Covers.{covers, is_strictly_below};
 ghost use Rattle.ddt_register.specs.declared.register.Register.{Register as ARegister};
 ghost use Rattle.ddt_register.specs.Rows.{first_row as first_row_of};
 ghost use Rattle.ddt_check.specs.Rules.{earlier_zone};
-ghost use Rattle.ddt_check.specs.Rules.{is_root as is_root_zone, is_wrong_root as is_wrong_root_of, is_duplicate_zone};
+ghost use Rattle.ddt_check.specs.Rules.{is_root as is_root_zone, is_wrong_root as is_wrong_root_of};
 ghost use Rattle.ddt_check.specs.Rules.{is_of_unknown_group as is_of_unknown, is_of_other_role as is_of_other};
 ghost use Rattle.ddt_check.specs.Order.{AreZonesInOrder, AreGroupsInOrder};
-ghost use Rattle.ddt_check.specs.Zones.{is_ms as is_ms_zone};
+ghost use Rattle.ddt_check.specs.Zones.{is_ms as is_ms_zone, group_named as group_of_name};
 ghost use Rattle.ddt_check.specs.Sorted.{IsLeastOfZones, IsLeastOfBoth};
 
 use crate::fault::Rule;
-use crate::rules::groups::group_named;
-use crate::rules::lower;
-use ddt_path::Role;
+use crate::rules::{least_row, lower};
+use ddt_path::{Name, Role};
 use ddt_register::{Group, Register, Zone, first_row};
 
 fn is_root(z: &Zone) -> bool
@@ -54,47 +52,13 @@ pub fn wrong_root(register: &Register) -> Option<u32>
     first_row(register.zones.as_slice(), |z| is_wrong_root(register, z))
 }
 
-/// Whether two zones have one prefix.
-fn has_same_prefix(a: &Zone, b: &Zone) -> bool
-    ensures { result ≡ is_same_path a.now.prefix b.now.prefix }
-{
-    a.prefix == b.prefix
-}
-
-/// Whether a zone of an earlier row has the prefix of the zone at a place: its neighbour then has it.
-fn repeats(zones: &[Zone], at: usize) -> bool
-    requires inside { at < length zones.now }
-    requires sorted { AreZonesInOrder zones.now }
-    ensures { (r : ARegister) (d : AZone) → IsPermutation r.zones zones.now
-        → result ≡ is_duplicate_zone r (slice_index_or zones.now at d) }
-{
-    if at == 0 {
-        return false;
-    }
-    has_same_prefix(&zones[at - 1], &zones[at])
-}
-
-/// The least row of a zone whose prefix an earlier one has.
-pub fn duplicate(zones: &[Zone]) -> Option<u32>
-    requires { AreZonesInOrder zones.now }
-    ensures { IsLeastOfZones zones.now Rule.DuplicateZone result }
-{
-    let mut least = None;
-    for at in 0..zones.len() {
-        if repeats(zones, at) {
-            least = Some(lower(least, zones[at].row));
-        }
-    }
-    least
-}
-
 /// Whether the zone that is kept holds a zone strictly inside it.
 fn is_under(top: Option<&Zone>, z: &Zone) -> bool
     ensures { result
         ≡ option_map_or (is_strictly_below z.now.prefix) (option_map (λ y. y.prefix) (option_copied top.entry)) false }
 {
     match top {
-        Some(top) => top.prefix.covers(z.prefix) && !z.prefix.covers(top.prefix),
+        Some(top) => z.prefix.is_strictly_below(top.prefix),
         None => false,
     }
 }
@@ -137,6 +101,18 @@ pub fn below_map_server(zones: &[Zone]) -> Option<u32>
     least
 }
 
+/// The first group row of a name.
+fn group_named(groups: &[Group], name: Name) -> Option<&Group>
+    requires { AreGroupsInOrder groups.now }
+    ensures { (r : ARegister) → IsPermutation r.groups groups.now → option_copied result ≡ group_of_name r name }
+{
+    let at = groups.partition_point(|g| g.name < name);
+    if at < groups.len() && groups[at].name == name {
+        return Some(&groups[at]);
+    }
+    None
+}
+
 /// Whether no row defines a zone's group.
 fn is_of_unknown_group(groups: &[Group], z: &Zone) -> bool
     requires { AreGroupsInOrder groups.now }
@@ -150,13 +126,7 @@ pub fn of_unknown_group(zones: &[Zone], groups: &[Group]) -> Option<u32>
     requires { AreGroupsInOrder groups.now }
     ensures { IsLeastOfBoth zones.now groups.now Rule.UnknownGroup result }
 {
-    let mut least = None;
-    for z in zones {
-        if is_of_unknown_group(groups, z) {
-            least = Some(lower(least, z.row));
-        }
-    }
-    least
+    least_row(zones, |z| is_of_unknown_group(groups, z))
 }
 
 /// Whether a zone's group is of the other kind.
@@ -175,11 +145,5 @@ pub fn of_other_role(zones: &[Zone], groups: &[Group]) -> Option<u32>
     requires { AreGroupsInOrder groups.now }
     ensures { IsLeastOfBoth zones.now groups.now Rule.Role result }
 {
-    let mut least = None;
-    for z in zones {
-        if is_of_other_role(groups, z) {
-            least = Some(lower(least, z.row));
-        }
-    }
-    least
+    least_row(zones, |z| is_of_other_role(groups, z))
 }

@@ -1,7 +1,7 @@
 //! `ddt replay REGISTER SCRIPT [--me ADDRESS] [--seed N]`: a schedule of a resolver among the servers of the register,
 //! step by step.
 
-ghost use Rattle.std.specs.Prelude.{◌≡◌, ◌≢◌, ◌⊎◌, ℕ, List, None, Some, Ok, IsErr, IfOk, IfErr, true};
+ghost use Rattle.std.specs.Prelude.{◌≡◌, ◌⊎◌, ℕ, List, None, Some, Ok, IsErr, IfOk, IfErr, true};
 ghost use Rattle.std.specs.Fn.{FnReturnsAt};
 ghost use Rattle.ddt_words.specs.Call.{call_of};
 ghost use Rattle.ddt_commands.specs.declared.status.Status.TheVariants.{
@@ -11,7 +11,7 @@ ghost use Rattle.ddt_commands.specs.declared.status.Status.TheVariants.{
 };
 ghost use Rattle.ddt_commands.specs.Lookup.{me_of, seed_of};
 ghost use Rattle.ddt_commands.specs.Over.{path};
-ghost use Rattle.ddt_commands.specs.Register.{Tells};
+ghost use Rattle.ddt_commands.specs.Register.{HasBytes};
 ghost use Rattle.ddt_commands.specs.Replay.{IsReplayOf, IsReplayText, IsWhyNoReplay, IsWhyNoScript, IsWhyNotReplayed, bad_replay, script_path, script_refusal};
 ghost use Rattle.ddt_commands.specs.Running.{HasPartOf, HasRefused, HasText, StayApart};
 ghost use Rattle.ddt_commands.specs.Script.{SpellsScript};
@@ -150,7 +150,7 @@ fn script_at<F: Read + Drop>(
     source: Option<F>,
     path: &str,
 ) -> Result<Vec<Step>, Refusal<'_>>
-    ensures spelled { IfOk result (λ steps. (bytes : List ℕ) → Tells F.remaining source bytes
+    ensures spelled { IfOk result (λ steps. (bytes : List ℕ) → HasBytes F.remaining source bytes
         → SpellsScript bytes steps.items) }
     ensures refused { IfErr result (IsWhyNoScript F.remaining source path.now) }
     ensures closed { source ≡ None → IsErr result }

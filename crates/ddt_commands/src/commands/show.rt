@@ -1,7 +1,6 @@
 //! `ddt show HEX`: what a datagram says, or the first fault in it.
 
-ghost use Rattle.std.specs.Prelude.{◌≡◌, ℕ, true, List, IfOk, IfErr, IsErr, Ok, Some, MatchResult};
-ghost use Rattle.hex.specs.Hex.{decode_of};
+ghost use Rattle.std.specs.Prelude.{◌≡◌, true, IfOk, IfErr, Ok, Some};
 ghost use Rattle.ddt_words.specs.Call.{call_of};
 ghost use Rattle.ddt_commands.specs.declared.refusal.Refusal.TheVariants.{NoMessage as IsNoMessage};
 ghost use Rattle.ddt_commands.specs.declared.refusal.message.MessageRefusal.TheVariants.{UnknownMessage as IsUnknownMessage};

@@ -1,13 +1,15 @@
 use Rattle.std.proofs.Common.{arith}
+use Rattle.ddt_register.proofs.RisingLemmas.{zones_rise, sites_rise, groups_rise}
 use Rattle.ddt_check.specs.declared.fault.Rule.TheVariants as rules
 use Rattle.ddt_check.proofs.checking.first_row.Goals as goal
 
 pub returns-in-DuplicateZone : goal.returns-in-DuplicateZone
-returns-in-DuplicateZone c = λ r moved found earlier. rw c.in-DuplicateZone.is (c.duplicate.ensures r moved.same_zones)
+returns-in-DuplicateZone c = λ r moved found earlier. rw c.in-DuplicateZone.is
+    (c.duplicate.ensures r.zones (zones_rise r) moved.same_zones)
 
 pub returns-in-DuplicateSite : goal.returns-in-DuplicateSite
 returns-in-DuplicateSite c = λ r moved found earlier. rw c.in-DuplicateSite.is
-    (c.duplicate-in-DuplicateSite.ensures r moved.same_sites)
+    (c.duplicate-in-DuplicateSite.ensures r.sites (sites_rise r) moved.same_sites)
 
 pub returns-in-UnknownGroup : goal.returns-in-UnknownGroup
 returns-in-UnknownGroup c = λ r moved found earlier. rw c.in-UnknownGroup.is
@@ -23,7 +25,7 @@ returns-in-BelowMapServer c = λ r moved found earlier. rw c.in-BelowMapServer.i
 
 pub returns-in-DuplicateGroup : goal.returns-in-DuplicateGroup
 returns-in-DuplicateGroup c = λ r moved found earlier. rw c.in-DuplicateGroup.is
-    (c.duplicate-in-DuplicateGroup.ensures r moved.same_groups)
+    (c.duplicate-in-DuplicateGroup.ensures r.groups (groups_rise r) moved.same_groups)
 
 pub returns-in-SiteOutside : goal.returns-in-SiteOutside
 returns-in-SiteOutside c = λ r moved found earlier.

@@ -4,7 +4,7 @@ use Rattle.std.specs.Option.{option_map, option_copied}
 use Rattle.std.proofs.lemmas.List.{take_all}
 use Rattle.std.proofs.lemmas.List.Sorted.{IsPartitionPoint-from_clause}
 use Rattle.ddt_register.specs.declared.zone.Zone.{Zone}
-use Rattle.ddt_compile.specs.GroupConfig.{is_direct_child}
+use Rattle.ddt_check.specs.Zones.{is_direct_child}
 use Rattle.ddt_check.proofs.OutsideLemmas.{is_up_to, up_to_parted}
 use Rattle.ddt_compile.proofs.SortedLemmas.{walk_first, found_first, walk_ends, strictly, held, unheld, last_new, last_same}
 use Rattle.ddt_path.proofs.FilterLemmas.{one_kept, one_left_out}

@@ -3,7 +3,7 @@ use Rattle.std.specs.List.{filter}
 use Rattle.std.specs.Option.{option_map, option_copied}
 use Rattle.ddt_register.specs.declared.zone.Zone.{Zone}
 use Rattle.ddt_register.specs.declared.register.Register.{Register}
-use Rattle.ddt_compile.specs.GroupConfig.{is_direct_child}
+use Rattle.ddt_check.specs.Zones.{is_direct_child}
 use Rattle.ddt_compile.proofs.SortedLemmas.{IsLast}
 use Rattle.ddt_compile.proofs.below.directly_below.Given as goal
 

@@ -1,7 +1,7 @@
 use Rattle.std.proofs.Common.{rules}
 use Rattle.std.proofs.lemmas.List.Sorted.{answers_always}
 use Rattle.ddt_register.specs.declared.zone.Zone.{Zone}
-use Rattle.ddt_compile.specs.GroupConfig.{is_direct_child}
+use Rattle.ddt_check.specs.Zones.{is_direct_child}
 use Rattle.ddt_register.proofs.RisingLemmas.{zones_rise}
 use Rattle.ddt_register.proofs.RowOrderLemmas.{rows_again}
 use Rattle.ddt_compile.proofs.below.zones_directly_below.Goals as goal

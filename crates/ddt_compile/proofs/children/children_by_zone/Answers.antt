@@ -9,7 +9,8 @@ use Rattle.ddt_register.specs.declared.zone.Zone.{Zone}
 use Rattle.ddt_register.specs.declared.register.Register.{Register}
 use Rattle.ddt_config.specs.declared.child.Child.{Child}
 use Rattle.ddt_trie.specs.Trie.{trie_content}
-use Rattle.ddt_compile.specs.GroupConfig.{child_of, is_direct_child}
+use Rattle.ddt_check.specs.Zones.{is_direct_child}
+use Rattle.ddt_compile.specs.GroupConfig.{child_of}
 use Rattle.ddt_compile.specs.Lists.{list_at}
 use Rattle.ddt_compile.specs.Nearest.{IsAbove}
 use Rattle.ddt_path.proofs.MemberLemmas.{in_contained}

@@ -3,7 +3,8 @@ use Rattle.std.specs.List.{filter}
 use Rattle.std.specs.Ordering.{nat_cmp}
 use Rattle.std.specs.Cmp.Lexicographic.{slice_cmp}
 use Rattle.ddt_register.specs.declared.zone.Zone.{Zone}
-use Rattle.ddt_compile.specs.GroupConfig.{child_of, is_direct_child}
+use Rattle.ddt_check.specs.Zones.{is_direct_child}
+use Rattle.ddt_compile.specs.GroupConfig.{child_of}
 use Rattle.ddt_compile.specs.Lists.{list_at}
 use Rattle.ddt_path.proofs.MemberLemmas.{IsIn}
 use Rattle.ddt_compile.proofs.children.children_by_zone.Given as goal

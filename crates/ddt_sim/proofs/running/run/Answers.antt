@@ -4,7 +4,7 @@ use Rattle.ddt_path.specs.declared.locator.Locator.TheVariants.{V4}
 use Rattle.ddt_sim.specs.declared.schedule.Step.{Step}
 use Rattle.ddt_sim.specs.declared.schedule.Step.TheVariants.{Ask}
 use Rattle.ddt_sim.proofs.RunLemmas.{running_at_start, runs_on, stops_in, stops_after, left_by}
-use Rattle.ddt_sim.proofs.StatementLemmas.{Promises, stops_soundly, each_answer, each_reply, each_once, each_failure, each_no_reply}
+use Rattle.ddt_sim.proofs.StatementLemmas.{stops_soundly, each_answer, each_reply, each_once, each_failure, each_no_reply}
 use Rattle.ddt_sim.proofs.running.run.Goals as goal
 
 -- the step that stands for one past the end
@@ -52,33 +52,13 @@ returns-clause-run g c =
 
 pub returns-in_err-event-clause-sound : goal.returns-in_err-event-clause-sound
 returns-in_err-event-clause-sound g c = λ r honest starts.
-    let laws : Promises = record {
-      keeps = c.a_step_keeps_a_resolver_sound.ensures.steps;
-      time = c.a_step_keeps_a_resolver_sound.ensures.time;
-      messages = c.referral_laws.ensures.read;
-      back = c.referral_laws.ensures.back;
-      cover = c.honest_servers_lead_to_the_assignment.ensures.cover;
-      servers = c.honest_servers_lead_to_the_assignment.ensures.servers;
-      sendable = c.honest_servers_lead_to_the_assignment.ensures.sendable;
-      written = c.request_laws.ensures.written;
-    } in
-    stops_soundly laws (g.S.Servers.honest c.args.servers.now) c.args.resolver.now c.in_order.ensures c.args.steps.now r honest starts c.take_step.new.resolver
+    stops_soundly c.laws_of_runs.ensures (g.S.Servers.honest c.args.servers.now) c.args.resolver.now c.in_order.ensures c.args.steps.now r honest starts c.take_step.new.resolver
     (stops_in (g.S.Servers.honest c.args.servers.now) (g.S.Servers.honest c.loop-step.servers) c.args.resolver.now c.args.steps.now c.loop-step.step-index c.loop-step.events.items c.loop-step.moment c.loop-step.sent.items
     c.loop-step.resolver c.loop-step.invariant c.loop-step-test.true first_step c.take_step.new.resolver c.in_err-event.ensures.stopped)
 
 pub returns-in_err-push-clause-sound : goal.returns-in_err-push-clause-sound
 returns-in_err-push-clause-sound g c = λ r honest starts.
-    let laws : Promises = record {
-      keeps = c.a_step_keeps_a_resolver_sound.ensures.steps;
-      time = c.a_step_keeps_a_resolver_sound.ensures.time;
-      messages = c.referral_laws.ensures.read;
-      back = c.referral_laws.ensures.back;
-      cover = c.honest_servers_lead_to_the_assignment.ensures.cover;
-      servers = c.honest_servers_lead_to_the_assignment.ensures.servers;
-      sendable = c.honest_servers_lead_to_the_assignment.ensures.sendable;
-      written = c.request_laws.ensures.written;
-    } in
-    stops_soundly laws (g.S.Servers.honest c.args.servers.now) c.args.resolver.now c.in_order.ensures c.args.steps.now r honest starts c.take_step.new.resolver
+    stops_soundly c.laws_of_runs.ensures (g.S.Servers.honest c.args.servers.now) c.args.resolver.now c.in_order.ensures c.args.steps.now r honest starts c.take_step.new.resolver
     (stops_after (g.S.Servers.honest c.args.servers.now) (g.S.Servers.honest c.take_step.new.servers) c.args.resolver.now c.args.steps.now (c.loop-step.step-index + 1) (c.loop-step.events.items ++ c.in_ok-event.event ∷ [])
     c.take_step.new.moment c.take_step.new.sent.items c.take_step.new.resolver
     (runs_on (g.S.Servers.honest c.args.servers.now) (g.S.Servers.honest c.loop-step.servers) c.args.resolver.now c.args.steps.now c.loop-step.step-index c.loop-step.events.items c.loop-step.moment c.loop-step.sent.items
@@ -87,86 +67,26 @@ returns-in_err-push-clause-sound g c = λ r honest starts.
 
 pub returns-clause-answers : goal.returns-clause-answers
 returns-clause-answers g c = λ r honest starts.
-    let laws : Promises = record {
-      keeps = c.a_step_keeps_a_resolver_sound.ensures.steps;
-      time = c.a_step_keeps_a_resolver_sound.ensures.time;
-      messages = c.referral_laws.ensures.read;
-      back = c.referral_laws.ensures.back;
-      cover = c.honest_servers_lead_to_the_assignment.ensures.cover;
-      servers = c.honest_servers_lead_to_the_assignment.ensures.servers;
-      sendable = c.honest_servers_lead_to_the_assignment.ensures.sendable;
-      written = c.request_laws.ensures.written;
-    } in
-    each_answer laws (g.S.Servers.honest c.args.servers.now) c.args.resolver.now c.in_order.ensures c.args.steps.now r honest starts _ c.loop-step.resolver
+    each_answer c.laws_of_runs.ensures (g.S.Servers.honest c.args.servers.now) c.args.resolver.now c.in_order.ensures c.args.steps.now r honest starts _ c.loop-step.resolver
 
 pub returns-clause-replies : goal.returns-clause-replies
 returns-clause-replies g c = λ r honest starts.
-    let laws : Promises = record {
-      keeps = c.a_step_keeps_a_resolver_sound.ensures.steps;
-      time = c.a_step_keeps_a_resolver_sound.ensures.time;
-      messages = c.referral_laws.ensures.read;
-      back = c.referral_laws.ensures.back;
-      cover = c.honest_servers_lead_to_the_assignment.ensures.cover;
-      servers = c.honest_servers_lead_to_the_assignment.ensures.servers;
-      sendable = c.honest_servers_lead_to_the_assignment.ensures.sendable;
-      written = c.request_laws.ensures.written;
-    } in
-    each_reply laws (g.S.Servers.honest c.args.servers.now) c.args.resolver.now c.in_order.ensures c.args.steps.now r honest starts _ c.loop-step.resolver
+    each_reply c.laws_of_runs.ensures (g.S.Servers.honest c.args.servers.now) c.args.resolver.now c.in_order.ensures c.args.steps.now r honest starts _ c.loop-step.resolver
 
 pub returns-clause-once : goal.returns-clause-once
 returns-clause-once g c = λ r honest starts.
-    let laws : Promises = record {
-      keeps = c.a_step_keeps_a_resolver_sound.ensures.steps;
-      time = c.a_step_keeps_a_resolver_sound.ensures.time;
-      messages = c.referral_laws.ensures.read;
-      back = c.referral_laws.ensures.back;
-      cover = c.honest_servers_lead_to_the_assignment.ensures.cover;
-      servers = c.honest_servers_lead_to_the_assignment.ensures.servers;
-      sendable = c.honest_servers_lead_to_the_assignment.ensures.sendable;
-      written = c.request_laws.ensures.written;
-    } in
-    each_once laws (g.S.Servers.honest c.args.servers.now) c.args.resolver.now c.in_order.ensures c.args.steps.now r honest starts _ c.loop-step.resolver
+    each_once c.laws_of_runs.ensures (g.S.Servers.honest c.args.servers.now) c.args.resolver.now c.in_order.ensures c.args.steps.now r honest starts _ c.loop-step.resolver
 
 pub returns-clause-failures : goal.returns-clause-failures
 returns-clause-failures g c = λ r honest starts.
-    let laws : Promises = record {
-      keeps = c.a_step_keeps_a_resolver_sound.ensures.steps;
-      time = c.a_step_keeps_a_resolver_sound.ensures.time;
-      messages = c.referral_laws.ensures.read;
-      back = c.referral_laws.ensures.back;
-      cover = c.honest_servers_lead_to_the_assignment.ensures.cover;
-      servers = c.honest_servers_lead_to_the_assignment.ensures.servers;
-      sendable = c.honest_servers_lead_to_the_assignment.ensures.sendable;
-      written = c.request_laws.ensures.written;
-    } in
-    each_failure laws (g.S.Servers.honest c.args.servers.now) c.args.resolver.now c.in_order.ensures c.args.steps.now r honest starts _ c.loop-step.resolver
+    each_failure c.laws_of_runs.ensures (g.S.Servers.honest c.args.servers.now) c.args.resolver.now c.in_order.ensures c.args.steps.now r honest starts _ c.loop-step.resolver
 
 pub returns-clause-no_reply : goal.returns-clause-no_reply
 returns-clause-no_reply g c = λ r honest starts.
-    let laws : Promises = record {
-      keeps = c.a_step_keeps_a_resolver_sound.ensures.steps;
-      time = c.a_step_keeps_a_resolver_sound.ensures.time;
-      messages = c.referral_laws.ensures.read;
-      back = c.referral_laws.ensures.back;
-      cover = c.honest_servers_lead_to_the_assignment.ensures.cover;
-      servers = c.honest_servers_lead_to_the_assignment.ensures.servers;
-      sendable = c.honest_servers_lead_to_the_assignment.ensures.sendable;
-      written = c.request_laws.ensures.written;
-    } in
-    each_no_reply laws (g.S.Servers.honest c.args.servers.now) c.args.resolver.now c.in_order.ensures c.args.steps.now r honest starts _ c.loop-step.resolver
+    each_no_reply c.laws_of_runs.ensures (g.S.Servers.honest c.args.servers.now) c.args.resolver.now c.in_order.ensures c.args.steps.now r honest starts _ c.loop-step.resolver
 
 pub returns-clause-sound : goal.returns-clause-sound
 returns-clause-sound g c = λ r honest starts.
-    let laws : Promises = record {
-      keeps = c.a_step_keeps_a_resolver_sound.ensures.steps;
-      time = c.a_step_keeps_a_resolver_sound.ensures.time;
-      messages = c.referral_laws.ensures.read;
-      back = c.referral_laws.ensures.back;
-      cover = c.honest_servers_lead_to_the_assignment.ensures.cover;
-      servers = c.honest_servers_lead_to_the_assignment.ensures.servers;
-      sendable = c.honest_servers_lead_to_the_assignment.ensures.sendable;
-      written = c.request_laws.ensures.written;
-    } in
-    stops_soundly laws (g.S.Servers.honest c.args.servers.now) c.args.resolver.now c.in_order.ensures c.args.steps.now r honest starts c.loop-step.resolver
+    stops_soundly c.laws_of_runs.ensures (g.S.Servers.honest c.args.servers.now) c.args.resolver.now c.in_order.ensures c.args.steps.now r honest starts c.loop-step.resolver
     (stops_after (g.S.Servers.honest c.args.servers.now) (g.S.Servers.honest c.loop-step.servers) c.args.resolver.now c.args.steps.now c.loop-step.step-index c.loop-step.events.items c.loop-step.moment
     c.loop-step.sent.items c.loop-step.resolver c.loop-step.invariant)

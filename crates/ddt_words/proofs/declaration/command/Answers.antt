@@ -1,5 +1,5 @@
-use Rattle.std.proofs.Common.{◌∙◌, ap, ap₂, sym, rules}
-use Rattle.clap.specs.Words.{App, new_app, with_rule}
+use Rattle.std.proofs.Common.{◌∙◌, ap₂, sym, rules}
+use Rattle.clap.specs.Words.{new_app, with_rule}
 use Rattle.ddt_words.specs.Line.{rule_of_argument}
 use Rattle.std.proofs.lemmas.List.Sums.{fold_more}
 use Rattle.ddt_words.proofs.declaration.command.Goals as goal

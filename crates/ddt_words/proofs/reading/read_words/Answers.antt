@@ -1,8 +1,7 @@
-use Rattle.std.proofs.Common.{◌∙◌, ap, sym, subst, rules, Bool, List, ℕ}
+use Rattle.std.proofs.Common.{◌∙◌, ap, sym, rules}
 use Rattle.std.specs.Prelude.{map, string_bytes}
 use Rattle.std.proofs.lemmas.Bool.{and_parts}
-use Rattle.clap.specs.Words.{App, fault_of, is_simple, is_simple_and_free, subcommand_of}
-use Rattle.ddt_words.specs.Line.{line}
+use Rattle.clap.specs.Words.{App, fault_of, is_simple_and_free, subcommand_of}
 use Rattle.clap.proofs.CallerLemmas.{subcommand_required}
 use Rattle.ddt_words.proofs.CallLemmas.{paired}
 use Rattle.ddt_words.proofs.LineLemmas.{not_third, plain_line, needs_command}

@@ -2,8 +2,7 @@ use Rattle.std.proofs.Common.{take, IsPermutation}
 use Rattle.std.specs.Option.{option_map, option_copied}
 use Rattle.ddt_register.specs.declared.zone.Zone.{Zone}
 use Rattle.ddt_register.specs.declared.register.Register.{Register}
-use Rattle.ddt_check.specs.Rules.{IsLeastRow, is_below_map_server}
-use Rattle.ddt_check.proofs.LeastRowLemmas.{item_at}
+use Rattle.ddt_check.specs.Rules.{IsLeastRow, item_at, is_below_map_server}
 use Rattle.ddt_check.proofs.BelowLemmas.{IsTop}
 use Rattle.ddt_check.proofs.rules.zones.below_map_server.Given as goal
 

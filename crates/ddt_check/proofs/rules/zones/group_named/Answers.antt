@@ -5,8 +5,8 @@ use Rattle.ddt_path.specs.Covers.{is_same_path}
 use Rattle.ddt_register.proofs.RowOrderLemmas.{groups_up}
 use Rattle.ddt_check.proofs.NameLemmas.{is_below, parted, found_key, no_key_past, no_key_at}
 use Rattle.std.proofs.lemmas.List.{get_or_default}
-use Rattle.ddt_check.proofs.rules.groups.group_named.Goals as goal
-use Rattle.ddt_check.proofs.rules.groups.group_named.Goals.{else-at-groups-via-then-at-groups+else-eq, else-at-groups-via-else-at-groups}
+use Rattle.ddt_check.proofs.rules.zones.group_named.Goals as goal
+use Rattle.ddt_check.proofs.rules.zones.group_named.Goals.{else-at-groups-via-then-at-groups+else-eq, else-at-groups-via-else-at-groups}
 
 abbrev key : Group → List ℕ
 key g = g.name

@@ -1,6 +1,7 @@
 -- The direct children of a zone of DDT nodes: the next zone towards an identifier is one of them, and what overlaps
 -- none of them overlaps no zone below.
-use Rattle.std.proofs.Common.{◌≡◌, ℕ, true, false, not, List, length, map, Option, Some, None, refl, sym, ◌∙◌, arith, inl, inr}
+use Rattle.std.proofs.Common.{◌≡◌, ℕ, ◌<◌, ◌≤◌, Bool, true, false, not, List, length, map, Option, Some, None, refl, sym, ap, ◌∙◌, arith, inl, inr}
+use Rattle.std.specs.Prelude.{◌&&◌}
 use Rattle.std.specs.List.{list_any, filter}
 use Rattle.std.proofs.lemmas.Bool.{cases_lt, and_parts, and_from, both_ways, not-true, not_from_false, false_from_ne_true}
 use Rattle.ddt_path.specs.Covers.{covers, overlaps, is_strictly_below}
@@ -13,12 +14,12 @@ use Rattle.ddt_check.specs.Says.{next_zone}
 use Rattle.ddt_check.specs.Assignment.{prefixes_below}
 use Rattle.ddt_check.specs.Rules.{IsAccepted}
 use Rattle.ddt_check.proofs.ZoneLemmas.{zone_prefix}
-use Rattle.ddt_compile.specs.GroupConfig.{is_between, is_direct_child}
+use Rattle.ddt_check.specs.Zones.{is_between, is_direct_child}
 use Rattle.ddt_path.proofs.MemberLemmas.{IsIn, iff_same, none_of, fails_at}
 use Rattle.ddt_path.specs.declared.matching.Preference.TheVariants.{Longest}
 use Rattle.ddt_path.proofs.HoleLemmas.{apart_from_kept, kept_apart}
-use Rattle.ddt_path.proofs.FrontLemmas.{one_front, front_below, below_parts, overlaps_front}
-use Rattle.ddt_check.proofs.KeptLemmas.{one_zone}
+use Rattle.ddt_path.proofs.FrontLemmas.{one_front, front_below, below_parts, overlaps_front, apart}
+use Rattle.ddt_check.proofs.KeptLemmas.{one_zone, own_prefix}
 use Rattle.ddt_check.proofs.NextLemmas.{next_is, next_least, no_next}
 use Rattle.ddt_path.proofs.FilterLemmas.{in_filter, filter_in}
 use Rattle.ddt_path.proofs.MatchingLemmas.{best_is, best_none}
@@ -95,3 +96,34 @@ same_free r p q =
     let c = child_above r p z k t in
     both_ways (overlaps c.0.prefix q) (kept_apart zone_prefix (is_direct_child r p) r.zones q e c.0 c.1 c.2) (overlaps_front c.0.prefix z.prefix q c.3 o))))
     (λ e. apart_from_kept zone_prefix (is_direct_child r p) r.zones q (λ z k t. kept_apart zone_prefix below r.zones q e z k (child_parts r p z t).0))
+
+-- a zone has one parent: of two zones above it the longer would stand between
+no_longer_parent : (r : Register) (a b c : Zone) → IsIn b r.zones → is_direct_child r a c ≡ true → is_direct_child r b c ≡ true → length b.prefix ≤ length a.prefix
+no_longer_parent r a b c k da db =
+    let s = child_parts r a c da in
+    let t = child_parts r b c db in
+    elim (cases_lt (length a.prefix) (length b.prefix)) [
+      | inl lt ↦ absurd (both_ways (is_between a c b) (fails_at (is_between a c) r.zones b s.1 k)
+          (and_from (is_strictly_below b.prefix a.prefix) (is_strictly_below c.prefix b.prefix)
+          (front_below a.prefix b.prefix c.prefix (below_parts c.prefix a.prefix s.0).0 (below_parts c.prefix b.prefix t.0).0 lt) t.0))
+      | inr le ↦ le
+    ]
+
+pub one_parent : (r : Register) → IsAccepted r → (a b c : Zone) → IsIn a r.zones → IsIn b r.zones → is_direct_child r a c ≡ true → is_direct_child r b c ≡ true → a ≡ b
+one_parent r accepted a b c j k da db =
+    let up = no_longer_parent r b a c j db da in
+    let down = no_longer_parent r a b c k da db in
+    one_zone r accepted a b j k (one_front a.prefix b.prefix c.prefix
+    (below_parts c.prefix a.prefix (child_parts r a c da).0).0 (below_parts c.prefix b.prefix (child_parts r b c db).0).0 (omega arith))
+
+-- two children of a zone do not overlap
+not_between : (r : Register) (z c y : Zone) → is_direct_child r z c ≡ true → is_direct_child r z y ≡ true → IsIn y r.zones → is_strictly_below c.prefix y.prefix ≡ false
+not_between r z c y direct other k =
+    let p = child_parts r z c direct in
+    let q = child_parts r z y other in
+    let e = fails_at (is_between z c) r.zones y p.1 k in
+    ap (λ (b : Bool). b && is_strictly_below c.prefix y.prefix) (sym q.0) ∙ e
+
+pub children_apart : (r : Register) → IsAccepted r → (z a b : Zone) → is_direct_child r z a ≡ true → is_direct_child r z b ≡ true → IsIn a r.zones → IsIn b r.zones → a.row < b.row → overlaps a.prefix b.prefix ≡ false
+children_apart r accepted z a b da db j k lt =
+    apart a.prefix b.prefix (not_between r z a b da db k) (not_between r z b a db da j) (own_prefix r accepted a b j k lt)

@@ -1,7 +1,7 @@
 #!/usr/bin/env python3
 """Shows the packets between a resolver and running servers, by tshark: bench/capture.py [--itr] PROGRAM [XEID..]
 
-PROGRAM is the program itself, crates/ddt/out/ddt. tshark captures what goes over the loopback at UDP port 4342.
+PROGRAM is the launcher or the program itself. tshark captures what goes over the loopback at UDP port 4342.
 
 Without identifiers the servers of examples/campus.csv run as `PROGRAM serve`, and from 127.0.0.53 each is asked for a
 few. Prints the lines of each LISP message that tshark finds there.

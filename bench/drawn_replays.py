@@ -68,14 +68,17 @@ def draw_locators(draw: random.Random, count: int) -> list[str]:
     return draw.sample(texts + [f"FD00:0::{n:04x}" for n in range(1, count)], count)
 
 
-def draw_groups(draw: random.Random) -> dict[str, tuple[str, str]]:
-    """Each group's kind, and its locators in one text; the first group is of nodes."""
+def draw_groups(draw: random.Random, root: str | None) -> dict[str, tuple[str, str]]:
+    """Each group's kind, and its locators in one text; the first group is of nodes, with these locators if given."""
     names = {"root": "node"} | {f"n{n}": "node" for n in range(draw.randrange(4))} | {f"ms-{n}": "ms" for n in range(3)}
-    locators = draw_locators(draw, 40)
+    taken = [] if root is None else root.split()
+    locators = [locator for locator in draw_locators(draw, 40) if locator not in taken]
     groups = {}
     for name, kind in names.items():
         count = draw.choice([1, 1, 1, 2, 2, 3, 3, 8 if draw.random() < 0.1 else 1])
         groups[name] = (kind, " ".join(locators.pop() for _ in range(count)))
+    if root is not None:
+        groups["root"] = ("node", root)
     return groups
 
 
@@ -107,17 +110,52 @@ def draw_sites(draw: random.Random, zones: list[Zone], homes: list[Path]) -> lis
     return sites
 
 
-def draw_register(draw: random.Random) -> str:
-    """The text of an accepted register, its rows in any order."""
+def draw_register(draw: random.Random, root: str | None = None) -> str:
+    """The text of an accepted register, its rows in any order; the root has these locators if they are given."""
     homes = [draw_home(draw) for _ in range(draw.choice([1, 3, 6]))]
     homes += [turned(home) for home in homes]
-    groups = draw_groups(draw)
+    groups = draw_groups(draw, root)
     zones = draw_zones(draw, groups, homes)
     rows = [f"group-{kind},,{name},{locators}\n" for name, (kind, locators) in groups.items()]
     rows += [f"{zone.kind},{write_prefix(zone.prefix)},{zone.group},\n" for zone in zones]
     rows += [f"site,{write_prefix(site.prefix)},,{' '.join(site.etrs)}\n" for site in draw_sites(draw, zones, homes)]
     draw.shuffle(rows)
     return COLUMNS + "".join(rows)
+
+
+def with_other_etrs(draw: random.Random, rows: list[str]) -> list[str]:
+    """The rows, of which a site has got its ETR or lost it."""
+    sites = [at for at, row in enumerate(rows) if row.startswith("site,")]
+    if sites:
+        at = draw.choice(sites)
+        before, _, etrs = rows[at].rpartition(",")
+        rows[at] = f"{before},{'' if etrs else '192.0.2.99'}"
+    return rows
+
+
+def with_other_group(draw: random.Random, rows: list[str]) -> list[str]:
+    """The rows, of which a zone other than the root's belongs to another group of its kind."""
+    zones = [at for at, row in enumerate(rows) if row.split(",")[0] in ("node", "ms") and row.split(",")[1] != "*"]
+    if zones:
+        at = draw.choice(zones)
+        kind, prefix, _, _ = rows[at].split(",")
+        names = [row.split(",")[2] for row in rows if row.startswith(f"group-{kind},")]
+        rows[at] = f"{kind},{prefix},{draw.choice(names)},"
+    return rows
+
+
+def draw_further(draw: random.Random, register: str) -> str:
+    """A register that may take the place of this one: mostly with the same root locators."""
+    rows = register.rstrip("\n").split("\n")
+    root_group = next(row.split(",")[2] for row in rows if row.startswith("node,*,"))
+    root = next(row.split(",")[3] for row in rows if row.startswith(f"group-node,,{root_group},"))
+    kind = draw.choice(["etrs", "etrs", "group", "group", "same root", "same root", "same root", "any"])
+    if kind == "any":
+        return draw_register(draw)
+    if kind == "same root":
+        return draw_register(draw, root)
+    changed = with_other_etrs(draw, rows) if kind == "etrs" else with_other_group(draw, rows)
+    return "\n".join(changed) + "\n"
 
 
 def draw_xeids(draw: random.Random, register: Register) -> list[Path]:
@@ -135,12 +173,12 @@ WAITS = [0, 1, 999, 1000, 1999, 2000, 2001, 59999, 60000, 899999, 900000, 863999
 
 # How often a step is an ask, the delivery of a new datagram, of an old one, of one not sent yet, a wait, a tick, or a
 # wait up to the next deadline with a tick.
-KINDS = ["ask", "new", "old", "unsent", "wait", "tick", "lose"]
+KINDS = ["ask", "new", "old", "unsent", "wait", "tick", "lose", "replace"]
 HABITS = {
-    "prompt": [3, 14, 1, 0.2, 1, 0.3, 0.5],
-    "mixed": [3, 8, 1, 0.3, 3, 1, 3],
-    "lossy": [1, 4, 0.5, 0.2, 1, 1, 6],
-    "repeating": [2, 6, 6, 0.5, 2, 1, 0.5],
+    "prompt": [3, 14, 1, 0.2, 1, 0.3, 0.5, 1.5],
+    "mixed": [3, 8, 1, 0.3, 3, 1, 3, 1.5],
+    "lossy": [1, 4, 0.5, 0.2, 1, 1, 6, 1],
+    "repeating": [2, 6, 6, 0.5, 2, 1, 0.5, 2],
 }
 
 
@@ -168,6 +206,9 @@ def draw_number(draw: random.Random, run: Run, kind: str, waiting: list[int]) ->
 def draw_line(draw: random.Random, run: Run, kind: str, xeids: list[Path], waiting: list[int]) -> str:
     if kind == "tick":
         return "tick"
+    if kind == "replace":
+        numbers = [*range(len(run.registers)), *range(len(run.registers)), len(run.registers), LARGEST_NUMBER]
+        return f"replace {draw.choice(numbers)}"
     if kind == "wait":
         return f"wait {draw_wait(draw, run)}"
     if kind == "deadline":
@@ -179,12 +220,13 @@ def draw_line(draw: random.Random, run: Run, kind: str, xeids: list[Path], waiti
     return f"deliver {draw_number(draw, run, kind, waiting)}"
 
 
-def draw_kinds(draw: random.Random) -> list[str]:
+def draw_kinds(draw: random.Random, replaces: bool) -> list[str]:
     """The kinds of a script's steps, in three parts with a habit each. One in a hundred fills the table first."""
     is_crowd = draw.random() < 0.01
     kinds = ["ask"] * (draw.choice([1023, 1024, 1025, 1040]) if is_crowd else 1)
     for habit in draw.choices(list(HABITS.values()), k=3):
-        kinds += draw.choices(KINDS, habit, k=draw.choice([5, 10, 20, 40]))
+        weights = habit if replaces else habit[:-1] + [0]
+        kinds += draw.choices(KINDS, weights, k=draw.choice([5, 10, 20, 40]))
     return [each for kind in kinds for each in (["deadline", "tick"] if kind == "lose" else [kind])]
 
 
@@ -193,7 +235,7 @@ def draw_lines(draw: random.Random, run: Run, xeids: list[Path]) -> list[str]:
     few = draw.sample(xeids, min(len(xeids), draw.choice([1, 2, 4, 8])))
     lines: list[str] = []
     waiting: list[int] = []
-    for kind in draw_kinds(draw):
+    for kind in draw_kinds(draw, len(run.registers) > 1):
         before = len(run.sent)
         line = draw_line(draw, run, kind, few, waiting)
         run.step(read_step(line))
@@ -205,6 +247,7 @@ def draw_lines(draw: random.Random, run: Run, xeids: list[Path]) -> list[str]:
 # Lines that are no steps, with the escapes of Python.
 WRONG_LINES = r"""
 deliver x|deliver|deliver |deliver -1|deliver +1|deliver 00|deliver 01|deliver 4294967296|deliver 18446744073709551616
+replace|replace x|replace -1|replace 01|replace 4294967296|replaced 1
 wait 4294967296|wait 1.5|wait 0x10|wait 007|wait  5|wait 5 |wait\t5|wait 5 5| wait 5|wait 5\0|wait \xb2
 tick | tick|tick 1|Tick|ticks|tick\r|\r| |#|\0|\xff|nothing|reply 1|now 5
 ask|ask |ask 10.0.0.1|ask *|ask [0]*|ask [0]10.0.0.1/32|ask [0]10.0.0|ask [00]10.0.0.1|ask [0]10.0.0.01
@@ -234,8 +277,8 @@ def spoiled(draw: random.Random, lines: list[bytes]) -> bytes:
     return (b"\r\n" if fault == "returns" else b"\n").join(lines + [b""])
 
 
-def draw_script(draw: random.Random, register: Register, words: Words, xeids: list[Path]) -> bytes:
-    lines = [line.encode() for line in draw_lines(draw, words.run(register), xeids)]
+def draw_script(draw: random.Random, registers: list[Register], words: Words, xeids: list[Path]) -> bytes:
+    lines = [line.encode() for line in draw_lines(draw, words.run(*registers), xeids)]
     if draw.random() < 0.06:
         return spoiled(draw, lines)
     if draw.random() < 0.05:

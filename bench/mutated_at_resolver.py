@@ -1,11 +1,11 @@
 #!/usr/bin/env python3
 """Sends random and mutated datagrams to a running resolver: bench/mutated_at_resolver.py PROGRAM [COUNT [SEED]]
 
-PROGRAM is the program itself, crates/ddt/out/ddt. `PROGRAM loop` looks identifiers up among the servers of the campus,
-whose root here has eight of them. Meanwhile its resolver is sent more than it can take: Map-Requests of an ITR and of
-DDT clients, Map-Referrals of an address that is no server, all of these mutated, and random bytes. So most replies of
-the servers are lost, and a run takes up to a minute. Runs follow one another until COUNT datagrams (1,000,000) have
-come to a resolver.
+PROGRAM is the program itself: `release/program ddt` prints its path. `PROGRAM loop` looks identifiers up among the
+servers of the campus, whose root here has eight of them. Meanwhile its resolver is sent more than it can take:
+Map-Requests of an ITR and of DDT clients, Map-Referrals of an address that is no server, all of these mutated, and
+random bytes. So most replies of the servers are lost, and a run takes up to a minute. Runs follow one another until
+COUNT datagrams (1,000,000) have come to a resolver.
 
 Each line of `loop` has to be what longest match over the register assigns, or `gave-up NoReply`. Each datagram that
 the ITR gets has to be the negative Map-Reply, by plain code, to a request that it has sent, and no request may have

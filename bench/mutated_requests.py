@@ -1,9 +1,9 @@
 #!/usr/bin/env python3
 """Sends random and mutated datagrams to running servers: bench/mutated_requests.py PROGRAM [COUNT [SEED]]
 
-PROGRAM is the program itself, crates/ddt/out/ddt. The servers of examples/campus.csv run one after the other as
-`PROGRAM serve`. Each gets a third of COUNT datagrams (1,000,000), of which some are good requests, some are
-mutated and some are random bytes. What it sends back, and what it sends on to an ETR, is compared with what plain
+PROGRAM is the program itself: `release/program ddt` prints its path. The servers of examples/campus.csv run one after
+the other as `PROGRAM serve`. Each gets a third of COUNT datagrams (1,000,000), of which some are good requests, some
+are mutated and some are random bytes. What it sends back, and what it sends on to an ETR, is compared with what plain
 code makes of the same datagram: a reader of Map-Requests and the servers of plain_replay.py, over lists.
 
 Prints for each server its own memory after 1,000 datagrams and at the end, and then its resident size, which has the

@@ -164,6 +164,10 @@ def read_register(text: str) -> Register:
     return register
 
 
+def roots_of(register: Register) -> list[Locator]:
+    return next(register.locators[zone.group] for zone in register.zones if zone.prefix == "")
+
+
 def covers(prefix: Path, other: Path) -> bool:
     return other.startswith(prefix)
 
@@ -283,27 +287,44 @@ class Step(typing.NamedTuple):
 
 
 class Run:
-    """A resolver, the servers of a register and all datagrams sent so far. Each step answers its line."""
+    """A resolver, the servers of registers and all datagrams sent so far. Each step answers its line.
 
-    def __init__(self, register: Register, me: Locator, seed: int) -> None:
-        self.register = register
+    The servers of the first register are in force until another is named.
+    """
+
+    def __init__(self, registers: list[Register], me: Locator, seed: int) -> None:
+        self.registers = registers
+        self.register = registers[0]
         self.me = me
         self.moment = 0
         self.time = 0
         self.next_nonce = seed
-        roots = next(register.locators[zone.group] for zone in register.zones if zone.prefix == "")
-        self.root = Entry("NODE-REFERRAL", roots, float("inf"))
+        self.root = Entry("NODE-REFERRAL", roots_of(self.register), float("inf"))
         self.entries: dict[Path, Entry] = {}
         self.pending: list[Lookup] = []
         self.sent: list[Request | Reply] = []
         self.met: collections.Counter[str] = collections.Counter()
 
     def step(self, step: Step) -> str:
+        line = self.line_of(step)
+        words = line.split()
+        self.met[f"event: {step.word} {words[2] if words[0] == 'ticket' else words[0]}"] += 1
+        return line
+
+    def line_of(self, step: Step) -> str:
         if step.word == "ask":
             return self.ask(step.value)
         if step.word == "deliver":
             return self.deliver(step.value)
+        if step.word == "replace":
+            return self.replace(step.value)
         return self.wait(step.value) if step.word == "wait" else self.tick()
+
+    def replace(self, number: int) -> str:
+        if number >= len(self.registers):
+            return "nothing"
+        self.register = self.registers[number]
+        return f"replaced {number}"
 
     def wait(self, milliseconds: int) -> str:
         self.moment = min(self.moment + milliseconds, LAST_MOMENT)
@@ -498,8 +519,8 @@ class Words(typing.NamedTuple):
         me = [] if self.me is None else ["--me", self.me]
         return me + ([] if self.seed is None else ["--seed", str(self.seed)])
 
-    def run(self, register: Register) -> Run:
-        return Run(register, self.me or "127.0.0.53", 1 if self.seed is None else self.seed)
+    def run(self, *registers: Register) -> Run:
+        return Run(list(registers), self.me or "127.0.0.53", 1 if self.seed is None else self.seed)
 
 
 def read_step(line: str) -> Step | None:
@@ -509,18 +530,27 @@ def read_step(line: str) -> Step | None:
     if word == "ask":
         xeid = read_xeid(value)
         return None if xeid is None else Step(word, xeid)
-    number = read_number(value, LARGEST_NUMBER) if word in ("deliver", "wait") else None
+    number = read_number(value, LARGEST_NUMBER) if word in ("deliver", "wait", "replace") else None
     return None if number is None else Step(word, number)
 
 
-def printed_replay(register: Register, words: Words, script: bytes) -> tuple[Printed, collections.Counter[str]]:
-    """What `ddt replay` is to print, and how often what was met. An empty line of a script has no number."""
+def printed_replay(
+    registers: dict[str, Register], words: Words, script: bytes
+) -> tuple[Printed, collections.Counter[str]]:
+    """What `ddt replay` is to print over registers by their paths, the first one first, and how often what was met.
+
+    An empty line of a script has no number.
+    """
     lines = [line for line in script.decode("latin-1").split("\n") if line]
     steps = [read_step(line) for line in lines]
     if None in steps:
         met = collections.Counter({"script refused": 1})
         return Printed("", f"script refused line {steps.index(None) + 1}\n", 1), met
-    run = words.run(register)
+    roots = [roots_of(register) for register in registers.values()]
+    for path, own in zip(registers, roots):
+        if own != roots[0]:
+            return Printed("", f"other root locators {path}\n", 1), collections.Counter({"other root locators": 1})
+    run = words.run(*registers.values())
     output = "".join(run.step(step) + "\n" for step in steps)
     run.met["steps"] += len(steps)
     return Printed(output, "", 0), run.met

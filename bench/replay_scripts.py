@@ -1,10 +1,12 @@
 #!/usr/bin/env python3
 """Compares `ddt replay` with a plain resolver over lists, on scripts drawn by lot.
 
-Usage: bench/replay_scripts.py --program PATH [--count N] [--seed N], or bench/replay_scripts.py --rows
+Usage: bench/replay_scripts.py --program PATH [--count N] [--seed N] [--replaced], or bench/replay_scripts.py --rows
 
 Draws N scripts (20,000 where no number is given), five to a register; most registers are drawn too, and the others are
-those in examples/. What the program prints on both streams, and its status, must be what the plain resolver of
+those in examples/. With --replaced one to three further registers stand behind each, most with the same root locators:
+the same register but for a site's ETR or for a zone's group, or another one; scripts then replace one by another. What
+the program prints on both streams, and its status, must be what the plain resolver of
 plain_replay.py says. A few identifiers of each register go through `ddt assign` and `ddt lookup` as well. The first
 that differ are printed, scripts made shorter before, and the status is then 1. The same seed draws the same registers
 and scripts. At the end stands how often what was met, as the plain resolver counts it.
@@ -26,7 +28,7 @@ import typing
 # No compiled copies of the imports below are left in the folder.
 sys.dont_write_bytecode = True
 
-from drawn_replays import draw_register, draw_script, draw_words, draw_xeids  # noqa: E402
+from drawn_replays import draw_further, draw_register, draw_script, draw_words, draw_xeids  # noqa: E402
 from plain_replay import (  # noqa: E402
     Path,
     Printed,
@@ -56,13 +58,13 @@ def printed_by(command: list[str]) -> Printed:
 
 class Difference(typing.NamedTuple):
     command: str
-    register: str
+    registers: list[str]
     script: str
     wanted: Printed
     found: Printed
 
     def __str__(self) -> str:
-        texts = {"register.csv": self.register, "script": self.script}
+        texts = {register_name(at): text for at, text in enumerate(self.registers)} | {"script": self.script}
         texts |= {"wanted": self.wanted.output, "wanted on standard error": self.wanted.refusal}
         texts |= {"printed": self.found.output, "printed on standard error": self.found.refusal}
         parts = [f"---- {name}\n{text}" for name, text in texts.items()]
@@ -70,26 +72,38 @@ class Difference(typing.NamedTuple):
         return "\n".join([f"==== ddt {self.command}: {statuses}", *parts])
 
 
+def register_name(at: int) -> str:
+    return f"register{at or ''}.csv"
+
+
 class Trial(typing.NamedTuple):
-    """A program, the text of a register, and a folder for the files that the program reads."""
+    """A program, the texts of registers, and a folder for the files that the program reads."""
 
     program: str
-    register: str
+    registers: list[str]
     folder: pathlib.Path
 
+    def paths(self) -> list[str]:
+        """The files of the registers, as they are to be."""
+        paths = [self.folder / register_name(at) for at in range(len(self.registers))]
+        for path, text in zip(paths, self.registers):
+            path.write_text(text)
+        return [str(path) for path in paths]
+
     def printed(self, command: str, words: list[str]) -> Printed:
-        path = self.folder / "register.csv"
-        path.write_text(self.register)
-        return printed_by([self.program, command, str(path), *words])
+        return printed_by([self.program, command, self.paths()[0], *words])
 
     def printed_replay(self, words: Words, script: bytes) -> Printed:
         path = self.folder / "script"
         path.write_bytes(script)
-        return self.printed("replay", [str(path), *words.options()])
+        return self.printed("replay", [str(path), *self.paths()[1:], *words.options()])
+
+    def wanted(self, words: Words, script: bytes) -> tuple[Printed, collections.Counter[str]]:
+        registers = dict(zip(self.paths(), map(read_register, self.registers)))
+        return printed_replay(registers, words, script)
 
     def differs(self, words: Words, script: bytes) -> bool:
-        wanted, _ = printed_replay(read_register(self.register), words, script)
-        return wanted != self.printed_replay(words, script)
+        return self.wanted(words, script)[0] != self.printed_replay(words, script)
 
     def shorter(self, words: Words, script: bytes) -> bytes:
         """The script without each part that the difference doesn't need, large parts first."""
@@ -107,9 +121,10 @@ class Trial(typing.NamedTuple):
 
     def difference(self, words: Words, script: bytes) -> Difference:
         script = self.shorter(words, script)
-        wanted, _ = printed_replay(read_register(self.register), words, script)
-        command = " ".join(["replay register.csv script", *words.options()])
-        return Difference(command, self.register, script.decode("latin-1"), wanted, self.printed_replay(words, script))
+        wanted, _ = self.wanted(words, script)
+        further = [register_name(at) for at in range(1, len(self.registers))]
+        command = " ".join(["replay register.csv script", *further, *words.options()])
+        return Difference(command, self.registers, script.decode("latin-1"), wanted, self.printed_replay(words, script))
 
 
 class Compared(typing.NamedTuple):
@@ -121,10 +136,10 @@ class Compared(typing.NamedTuple):
 
 
 def compare_script(trial: Trial, draw: random.Random, xeids: list[Path], compared: Compared) -> None:
-    register = read_register(trial.register)
-    words = draw_words(draw, register)
-    script = draw_script(draw, register, words, xeids)
-    wanted, met = printed_replay(register, words, script)
+    registers = [read_register(text) for text in trial.registers]
+    words = draw_words(draw, registers[0])
+    script = draw_script(draw, registers, words, xeids)
+    wanted, met = trial.wanted(words, script)
     compared.met.update(met)
     compared.met["scripts"] += 1
     if trial.printed_replay(words, script) != wanted:
@@ -136,12 +151,12 @@ def compare_words(trial: Trial, command: str, words: list[str], wanted: Printed,
     compared.met["assignments and lookups"] += 1
     if found != wanted:
         shown = " ".join([command, "register.csv", *words])
-        compared.lookups.append(Difference(shown, trial.register, "", wanted, found))
+        compared.lookups.append(Difference(shown, trial.registers[:1], "", wanted, found))
 
 
 def compare_lookup(trial: Trial, draw: random.Random, xeids: list[Path], compared: Compared) -> None:
     """One assignment, and the lookup of several identifiers by one resolver."""
-    register = read_register(trial.register)
+    register = read_register(trial.registers[0])
     words = draw_words(draw, register)
     several = draw.choices(xeids, k=5)
     texts = [write_xeid(xeid) for xeid in several]
@@ -150,12 +165,13 @@ def compare_lookup(trial: Trial, draw: random.Random, xeids: list[Path], compare
 
 
 class Task(typing.NamedTuple):
-    """A register by its number among those of the seed, and how many scripts it gets."""
+    """A register by its number among those of the seed, how many scripts it gets, and whether others replace it."""
 
     program: str
     seed: int
     number: int
     scripts: int
+    replaced: bool
 
 
 def compare(task: Task) -> Compared:
@@ -163,10 +179,13 @@ def compare(task: Task) -> Compared:
     examples = sorted(EXAMPLES.glob("*.csv"))
     turn, place = divmod(task.number, EXAMPLE_EVERY)
     register = examples[turn % len(examples)].read_text() if place == 0 else draw_register(draw)
-    xeids = draw_xeids(draw, read_register(register))
+    registers = [register]
+    if task.replaced:
+        registers += [draw_further(draw, register) for _ in range(draw.choice([1, 1, 2, 3]))]
+    xeids = draw_xeids(draw, read_register(draw.choice(registers)))
     compared = Compared(collections.Counter(), [], [])
     with tempfile.TemporaryDirectory() as folder:
-        trial = Trial(task.program, register, pathlib.Path(folder))
+        trial = Trial(task.program, registers, pathlib.Path(folder))
         compare_lookup(trial, draw, xeids, compared)
         for _ in range(task.scripts):
             compare_script(trial, draw, xeids, compared)
@@ -206,6 +225,7 @@ def main() -> int:
     parser.add_argument("--program")
     parser.add_argument("--count", type=int, default=20000)
     parser.add_argument("--seed", type=int, default=1)
+    parser.add_argument("--replaced", action="store_true")
     given = parser.parse_args()
     test_rows()
     if given.rows:
@@ -215,7 +235,8 @@ def main() -> int:
     print(f"seed {given.seed}", flush=True)
     starts = range(0, given.count, SCRIPTS_PER_REGISTER)
     sizes = [min(SCRIPTS_PER_REGISTER, given.count - start) for start in starts]
-    compared = compare_all([Task(given.program, given.seed, number, size) for number, size in enumerate(sizes)])
+    tasks = [Task(given.program, given.seed, number, size, given.replaced) for number, size in enumerate(sizes)]
+    compared = compare_all(tasks)
     tell(compared)
     return 1 if compared.scripts or compared.lookups else 0
 

@@ -2,7 +2,7 @@
 # Measures how many replies a second `ddt serve` gives on the loopback, beside nsd and a program that sends each
 # datagram back: bench/serve.sh [PROGRAM]
 #
-# PROGRAM is the program itself; without it that which the launcher built is taken. A register of 20,000 zones is
+# PROGRAM is the program itself; without it that which the launcher runs is taken. A register of 20,000 zones is
 # compiled, and its root's configuration served; nsd serves as many delegations, with one process. Each of the three is
 # loaded alone for three seconds by bench/serve/load.c, with at most 64 requests outstanding, in turn and three times
 # over; the best of the three counts. Each has one processor for itself, and the load another, so that no round hangs on
@@ -15,8 +15,7 @@ here=$(cd -- "$(dirname -- "${BASH_SOURCE[0]}")" && pwd)
 if [ $# -gt 0 ]; then
     program=$(realpath -- "$1")
 else
-    "$here/../ddt" check "$here/../examples/campus.csv" >&2
-    program=$here/../crates/ddt/out/ddt
+    program=$("$here/../release/program" ddt)
 fi
 seconds=3
 window=64

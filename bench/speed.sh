@@ -9,7 +9,7 @@
 # meet the same load. A ratio above 1 says that the program takes longer than nsd-checkzone.
 set -eu
 cd -- "$(dirname -- "${BASH_SOURCE[0]}")/.."
-./ddt check examples/campus.csv >/dev/null
+program=$(release/program ddt)
 checkzone=$(PATH=$PATH:/usr/sbin:/sbin command -v nsd-checkzone) || {
     echo 'speed.sh: nsd-checkzone is missing (Debian: apt-get install nsd)' >&2
     exit 1
@@ -68,7 +68,7 @@ for shape in "${shapes[@]}"; do
     for rows in "${sizes[@]}"; do
         ours='' theirs=''
         for _ in 1 2 3 4 5; do
-            lower ours "$(took crates/ddt/out/ddt check "$folder/$shape.$rows.csv")"
+            lower ours "$(took "$program" check "$folder/$shape.$rows.csv")"
             lower theirs "$(took "$checkzone" example "$folder/$rows.zone")"
         done
         growth=- zone_growth=-
@@ -89,10 +89,10 @@ for shape in "${shapes[@]}"; do
     group=$(awk -F, '$1 == "node" && $2 == "*" { print $3 }' "$register")
     check='' assign='' answer='' compile=''
     for _ in 1 2 3; do
-        lower check "$(took crates/ddt/out/ddt check "$register")"
-        lower assign "$(took crates/ddt/out/ddt assign "$register" '[0]10.1.2.3')"
-        lower answer "$(took crates/ddt/out/ddt answer "$register" "$group" '[0]10.1.2.3')"
-        lower compile "$(took crates/ddt/out/ddt compile "$register" "$group")"
+        lower check "$(took "$program" check "$register")"
+        lower assign "$(took "$program" assign "$register" '[0]10.1.2.3')"
+        lower answer "$(took "$program" answer "$register" "$group" '[0]10.1.2.3')"
+        lower compile "$(took "$program" compile "$register" "$group")"
     done
     printf '| %s | %s | %s | %s (%s) | %s (%s) | %s (%s) |\n' "$shape" "$rows" "$(shown "$check")" \
         "$(shown "$assign")" "$(ratio "$assign" "$check")" "$(shown "$answer")" "$(ratio "$answer" "$check")" \

@@ -10,8 +10,8 @@
 #             sites into a ListMap, a TrieMap or a HashedMap, of each call of `longest` for identifiers of the register,
 #             and of `free` from everything downwards for these and for identifiers of other instances; and the largest
 #             resident size of the process, with the register in it
-#   resolver  with 1,024 lookups pending: the time of a `tick` with nothing to do, of a `datagram` that belongs to no
-#             lookup, and of one that refers a lookup to the next server
+#   resolver  with 1, 100 and 1,024 lookups pending: the time of a `tick` with nothing due, and of a `datagram` that refers
+#             a lookup to a longer prefix; and with 1,024, of one that belongs to no lookup
 #   ordinary  the same with the sites of one instance, or of 256 instances, side by side; with single IPv4 addresses; and
 #             with single IPv6 addresses, each of an instance of its own, which is the worst shape for a tree
 #   register  the largest resident size of a process that reads and checks the register and does no more

@@ -28,6 +28,8 @@ ROOT_ALONE = (EXAMPLES / "lone_root.csv").read_text()
 CAMPUS = (EXAMPLES / "campus.csv").read_text()
 NESTED_SITES = (EXAMPLES / "nested_sites.csv").read_text()
 SHARED_GROUP = (EXAMPLES / "shared_group.csv").read_text()
+CAMPUS_GROWN = (EXAMPLES / "campus_grown.csv").read_text()
+WIDER_ZONE = (EXAMPLES / "wider_zone.csv").read_text()
 
 
 class Worked(typing.NamedTuple):
@@ -36,6 +38,8 @@ class Worked(typing.NamedTuple):
     # Each line of the script with the line that it prints.
     lines: list[tuple[str, str]]
     seed: int = 1
+    # Registers that may replace the first one.
+    further: tuple[str, ...] = ()
 
 
 def example(name: str) -> list[tuple[str, str]]:
@@ -49,6 +53,8 @@ NOT_REGISTERED = f"not-registered [0]10.1.4.0/24 {SERVERS}"
 
 WORKED_SCRIPTS = [
     Worked("a hole is answered from the cache until its fifteenth minute", CAMPUS, example("hole_ends")),
+    Worked("a zone comes and goes", CAMPUS, example("zone_comes_and_goes"), further=(CAMPUS_GROWN,)),
+    Worked("a zone gets wider", CAMPUS, example("zone_gets_wider"), further=(WIDER_ZONE,)),
     Worked("two lookups, a repeated reply, a late one and a second try", CAMPUS, example("interleaved")),
     Worked(
         "the only server is tried twice",
@@ -103,7 +109,8 @@ WORKED_SCRIPTS = [
 def test_scripts() -> None:
     for worked in WORKED_SCRIPTS:
         script = "".join(line + "\n" for line, _ in worked.lines).encode()
-        printed, _ = printed_replay(read_register(worked.register), Words(seed=worked.seed), script)
+        registers = {str(at): read_register(text) for at, text in enumerate([worked.register, *worked.further])}
+        printed, _ = printed_replay(registers, Words(seed=worked.seed), script)
         wanted = [line for _, line in worked.lines]
         assert printed.output.splitlines() == wanted, (worked.name, printed.output)
 
@@ -119,9 +126,9 @@ REFUSED = [
 
 def test_refusals() -> None:
     for script in REFUSED:
-        printed, _ = printed_replay(read_register(ROOT_ALONE), Words(), script)
+        printed, _ = printed_replay({"-": read_register(ROOT_ALONE)}, Words(), script)
         assert printed == Printed("", "script refused line 2\n", 1), (script, printed)
-    printed, _ = printed_replay(read_register(ROOT_ALONE), Words(), b"\ntick\n\ndeliver 4294967295")
+    printed, _ = printed_replay({"-": read_register(ROOT_ALONE)}, Words(), b"\ntick\n\ndeliver 4294967295")
     assert printed == Printed("nothing\nnothing\n", "", 0), printed
 
 
@@ -168,7 +175,7 @@ FORGED = [
 
 def test_forged_replies() -> None:
     for source, (action, prefix, servers), wanted in FORGED:
-        run = Run(read_register(CAMPUS), "127.0.0.53", 1)
+        run = Run([read_register(CAMPUS)], "127.0.0.53", 1)
         for step in (Step("ask", read_xeid("[0]10.1.2.3")), Step("deliver", 0), Step("deliver", 1)):
             run.step(step)
         run.sent.append(Reply(source, run.me, 2, Record(action, read_prefix(prefix), 1440, servers)))
@@ -178,7 +185,7 @@ def test_forged_replies() -> None:
 
 
 def test_one_restart() -> None:
-    run = Run(read_register(CAMPUS), "127.0.0.53", 1)
+    run = Run([read_register(CAMPUS)], "127.0.0.53", 1)
     run.save(Record("NODE-REFERRAL", read_prefix("[0]10.0.0.0/8"), 1440, ["127.0.0.10"]))
     xeid = read_xeid("[0]10.1.2.3")
     not_authoritative = Record("NOT-AUTHORITATIVE", xeid, 0, [])

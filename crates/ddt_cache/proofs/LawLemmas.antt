@@ -5,13 +5,13 @@ use Rattle.std.specs.FinMap.{get, insert}
 use Rattle.std.proofs.Math.Nat.{le-max_left}
 use Rattle.std.proofs.lemmas.Bool.{and_parts, cond-true, cond-false}
 use Rattle.ddt_path.specs.declared.record.ReferralRecord.{ReferralRecord}
-use Rattle.ddt_trie.proofs.MapLemmas.{get-insert_same}
+use Rattle.ddt_trie.specs.laws.Map.{get-insert_same}
 use Rattle.ddt_cache.specs.Entry.{end_of, entry_of}
 use Rattle.ddt_cache.specs.Live.{Known, live_at, moved}
 use Rattle.ddt_cache.specs.Saved.{savable, has_room, is_saved, stored, stored_in}
 use Rattle.ddt_cache.specs.InOrder.{IsInOrder}
-use Rattle.ddt_cache.proofs.LiveLemmas.{Entries, if_live, get-live_at, live_at-later, live_at-all, later_true, ended_false}
-use Rattle.ddt_cache.proofs.KnownLemmas.{ends_later}
+use Rattle.ddt_cache.specs.laws.Live.{Entries, if_live, get-live_at, live_at-later, live_at-all, later_true, ended_false}
+use Rattle.ddt_cache.specs.laws.Known.{ends_later}
 
 pub moved_together : (k : Known) (m n : ℕ) → moved n (moved m k) ≡ moved (max m n) k
 moved_together k m n =

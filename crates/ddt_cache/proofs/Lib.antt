@@ -1,5 +1,1 @@
-pub mod LiveLemmas
-pub mod SizeLemmas
-pub mod KnownLemmas
-pub mod OrderLemmas
 pub mod LawLemmas

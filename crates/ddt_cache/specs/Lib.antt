@@ -4,3 +4,5 @@ pub mod Live
 pub mod Saved
 pub mod Found
 pub mod InOrder
+pub mod Lending
+pub mod laws

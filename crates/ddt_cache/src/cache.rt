@@ -1,7 +1,7 @@
 //! A cache of referrals (RFC 8111, section 7.3). It keeps its own time, the greatest moment that a call was given, so
 //! that a clock that goes back brings no entry back.
 
-ghost use Rattle.std.specs.Prelude.{◌≡◌, IsTrue, IsOk, IfOk, OnOk, OnErr};
+ghost use Rattle.std.specs.Prelude.{◌≡◌, ◌≤◌, IsTrue, length, take, IsOk, IfOk, OnOk, OnErr};
 ghost use Rattle.std.specs.FinMap as map;
 ghost use Rattle.ddt_path.specs.Path.{xeid_path};
 ghost use Rattle.ddt_cache.specs.Live.{nothing_known, moved, forgotten};
@@ -47,6 +47,10 @@ impl<M: PrefixMap<Entry>> Model for Cache<M> {
 }
 
 impl<M: PrefixMap<Entry>> Cache<M> {
+    ghost use Rattle.std.specs.Borrow.{sem};
+    ghost use Rattle.ddt_cache.specs.Lending.{EndsAs};
+    ghost use Rattle.ddt_cache.specs.contracts.cache.Cache.{the_row};
+
     /// A cache at moment 0 with no entry but the root's, whose locators are these. It takes its memory from `alloc` as
     /// it grows.
     pub fn new(alloc: Global, roots: LocatorSet) -> Cache<M>
@@ -122,9 +126,8 @@ impl<M: PrefixMap<Entry>> Cache<M> {
     pub fn find(&mut self, now: Moment, x: Xeid) -> (Prefix, &Entry)
         ensures found { IsFound (moved now self.old) (xeid_path x) result.0 result.1.now }
     {
-        self.advance(now);
-        drop_ended_over(&mut self.held.entries, self.time, x);
-        self.held.longest_or_root(x)
+        let (length, entry) = self.longest_live(now, x);
+        (Prefix::cut(x, length), entry)
     }
 
     /// The same as `find`, by value; its contract also says what the cache knows afterwards.
@@ -132,10 +135,20 @@ impl<M: PrefixMap<Entry>> Cache<M> {
         ensures moved { self.new ≡ moved now self.old }
         ensures found { IsFound self.new (xeid_path x) result.0 result.1 }
     {
+        let (length, entry) = self.longest_live(now, x);
+        (Prefix::cut(x, length), *entry)
+    }
+
+    /// The same as `find`, but of the prefix its length. The cache is moved when the entry is given back: `after`.
+    fn longest_live(&mut self, now: Moment, x: Xeid) -> (u8, &Entry)
+        ensures* after { sem 𝓛 (EndsAs (the_row M.row M.PrefixMap) self.entry (moved now self.old)) }
+        ensures short { result.0 ≤ length (xeid_path x) }
+        ensures found { IsFound (moved now self.old) (xeid_path x) (take result.0 (xeid_path x)) result.1.now }
+    {
         self.advance(now);
         drop_ended_over(&mut self.held.entries, self.time, x);
         let (prefix, entry) = self.held.longest_or_root(x);
-        (prefix, *entry)
+        (prefix.len(), entry)
     }
 
     /// Saves a record at `now`, in place of the live entry of its prefix where there is one. It ends its TTL after the

@@ -13,29 +13,29 @@ use Rattle.ddt_path.specs.Covers.{covers, is_strictly_below}
 use Rattle.ddt_path.specs.Free.{free, hole_of}
 use Rattle.ddt_path.specs.Matching.{longest_match}
 use Rattle.ddt_path.specs.Path.{is_path, is_prefix_path}
-use Rattle.ddt_path.proofs.PathTestLemmas.{prefix_that_covers}
-use Rattle.ddt_path.proofs.HoleLemmas.{kept_covers, hole_is}
-use Rattle.ddt_path.proofs.FrontLemmas.{below_parts}
-use Rattle.ddt_path.proofs.MemberLemmas.{IsIn, holds_at, found_in}
+use Rattle.ddt_path.specs.laws.PathTest.{prefix_that_covers}
+use Rattle.ddt_path.specs.laws.Hole.{kept_covers, hole_is}
+use Rattle.ddt_path.specs.laws.Front.{below_parts}
+use Rattle.ddt_path.specs.laws.Member.{IsIn, holds_at, found_in}
 use Rattle.ddt_path.specs.declared.matching.Preference.TheVariants.{Longest}
 use Rattle.ddt_register.specs.declared.zone.Zone.{Zone}
 use Rattle.ddt_register.specs.declared.site.Site.{Site}
 use Rattle.ddt_register.specs.declared.group.Group.{Group}
 use Rattle.ddt_register.specs.declared.register.Register.{Register}
 use Rattle.ddt_register.specs.Ranges.{is_zone_in_range, is_site_in_range, is_group_in_range, are_locators}
-use Rattle.ddt_register.proofs.RangeLemmas.{zones_in_range, sites_in_range, groups_in_range}
-use Rattle.ddt_register.proofs.RangeLemmas as range
+use Rattle.ddt_register.specs.laws.Range.{zones_in_range, sites_in_range, groups_in_range}
+use Rattle.ddt_register.specs.laws.Range as range
 use Rattle.ddt_path.specs.Names.{is_same_name}
 use Rattle.ddt_check.specs.Zones.{zone_of, site_of, group_named, locators_of, served_zones}
 use Rattle.ddt_check.specs.Assignment.{assignment, assigned_in, assigned_site, part_of_site, prefixes_in, prefixes_below_site}
 use Rattle.ddt_check.specs.Says.{referral_to, next_zone, says_from, says}
 use Rattle.ddt_check.specs.Rules.{IsAccepted}
-use Rattle.ddt_check.specs.Laws.{IsPartOfItsSite, IsSendable}
-use Rattle.ddt_check.proofs.KeptLemmas.{few_locators}
+use Rattle.ddt_check.specs.laws.Statements.{IsPartOfItsSite, IsSendable}
+use Rattle.ddt_check.specs.laws.Kept.{few_locators}
 use Rattle.ddt_check.proofs.SaysLemmas.{says_what_covers}
-use Rattle.ddt_path.proofs.MatchingLemmas.{best_member, best_there, best_unbeaten}
+use Rattle.ddt_path.specs.laws.Matching.{best_member, best_there, best_unbeaten}
 use Rattle.ddt_check.proofs.RootLemmas.{zone_found}
-use Rattle.ddt_check.proofs.ZoneLemmas.{zone_prefix, site_prefix, assigned_at}
+use Rattle.ddt_check.specs.laws.Zone.{zone_prefix, site_prefix, assigned_at}
 
 module _ (r : Register) (accepted : IsAccepted r) where
   zone_is_prefix : (z : Zone) → IsIn z r.zones → is_prefix_path z.prefix ≡ true

@@ -8,7 +8,7 @@ use Rattle.ddt_register.specs.declared.zone.Zone.{Zone}
 use Rattle.ddt_register.specs.declared.site.Site.{Site}
 use Rattle.ddt_register.specs.declared.register.Register.{Register}
 use Rattle.ddt_register.specs.Rows.{rise, first_row}
-use Rattle.ddt_register.proofs.RisingLemmas.{rise_parts, zones_rise, sites_rise}
+use Rattle.ddt_register.specs.laws.Rising.{rise_parts, zones_rise, sites_rise}
 use Rattle.ddt_check.specs.declared.fault.Rule.TheVariants as rules
 use Rattle.ddt_check.specs.Rules.{IsLeastRow, item_at, zone_at, site_at, broken, is_root, is_wrong_root}
 

@@ -6,10 +6,10 @@ use Rattle.std.specs.Cmp.Lexicographic.{slice_cmp, bytes_decides}
 use Rattle.std.proofs.lemmas.Bool.{both_ways, false_from_ne_true, cases_lt}
 use Rattle.ddt_path.specs.Covers.{is_same_path}
 use Rattle.ddt_check.specs.Order.{IsInOrder}
-use Rattle.ddt_path.proofs.MemberLemmas.{IsIn, placed, placed_in, found_none}
-use Rattle.ddt_register.proofs.RowOrderLemmas.{Rising, found_first}
-use Rattle.ddt_check.proofs.OrderLemmas.{far}
-use Rattle.ddt_path.proofs.PathOrderLemmas.{IsUpTo, lt_after, same_from_ties, not_below_itself}
+use Rattle.ddt_path.specs.laws.Member.{IsIn, placed, placed_in, found_none}
+use Rattle.ddt_register.specs.laws.RowOrder.{Rising, found_first}
+use Rattle.ddt_check.specs.laws.Order.{far}
+use Rattle.ddt_path.specs.laws.PathOrder.{IsUpTo, lt_after, same_from_ties, not_below_itself}
 
 module _ {A : Type 0} (key : A → List ℕ) (row : A → ℕ) (xs : List A) (sorted : IsInOrder key row xs) (name : List ℕ)
   where

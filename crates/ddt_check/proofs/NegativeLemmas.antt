@@ -12,26 +12,26 @@ use Rattle.ddt_path.specs.Records.{record_of}
 use Rattle.ddt_path.specs.Covers.{covers, overlaps, is_same_path, is_strictly_below}
 use Rattle.ddt_path.specs.Free.{hole_of}
 use Rattle.ddt_path.specs.Path.{is_path}
-use Rattle.ddt_path.proofs.CoverLemmas.{covers_self, covers_trans}
-use Rattle.ddt_path.proofs.FrontLemmas.{front_below, one_front, one_path, overlaps_front}
-use Rattle.ddt_path.proofs.HoleLemmas.{kept_apart, IsFreeOf, hole_of_all_or_alone}
-use Rattle.ddt_path.proofs.MemberLemmas.{IsIn, contained}
+use Rattle.ddt_path.specs.laws.Cover.{covers_self, covers_trans}
+use Rattle.ddt_path.specs.laws.Front.{front_below, one_front, one_path, overlaps_front}
+use Rattle.ddt_path.specs.laws.Hole.{kept_apart, IsFreeOf, hole_of_all_or_alone}
+use Rattle.ddt_path.specs.laws.Member.{IsIn, contained}
 use Rattle.ddt_path.specs.declared.matching.Preference.TheVariants.{Longest}
 use Rattle.ddt_register.specs.declared.zone.Zone.{Zone}
 use Rattle.ddt_register.specs.declared.site.Site.{Site}
 use Rattle.ddt_register.specs.declared.register.Register.{Register}
-use Rattle.ddt_register.proofs.RisingLemmas.{one_row, sites_rise}
+use Rattle.ddt_register.specs.laws.Rising.{one_row, sites_rise}
 use Rattle.ddt_check.specs.Zones.{zone_of, site_of, locators_of}
 use Rattle.ddt_check.specs.Assignment.{assignment, assigned_in, assigned_site, part_of_site, prefixes_in, prefixes_below_site}
 use Rattle.ddt_check.specs.Rules.{IsAccepted}
-use Rattle.ddt_check.specs.Laws.{IsSiteWithServers, negative_prefix}
-use Rattle.ddt_check.proofs.KeptLemmas.{own_site}
-use Rattle.ddt_check.proofs.NextLemmas.{next_none, zone_is}
-use Rattle.ddt_check.proofs.SiteLemmas.{no_longer_zone, site_inside}
+use Rattle.ddt_check.specs.laws.Statements.{IsSiteWithServers, negative_prefix}
+use Rattle.ddt_check.specs.laws.Kept.{own_site}
+use Rattle.ddt_check.specs.laws.Next.{next_none, zone_is}
+use Rattle.ddt_check.specs.laws.Site.{no_longer_zone, site_inside}
 use Rattle.ddt_check.proofs.SaysLemmas.{assigned_covers}
 use Rattle.ddt_check.proofs.RootLemmas.{zone_found}
-use Rattle.ddt_check.proofs.ZoneLemmas.{zone_prefix, site_prefix, assigned_at}
-use Rattle.ddt_path.proofs.MatchingLemmas.{best_member, best_none, best_is}
+use Rattle.ddt_check.specs.laws.Zone.{zone_prefix, site_prefix, assigned_at}
+use Rattle.ddt_path.specs.laws.Matching.{best_member, best_none, best_is}
 
 -- two sites of one prefix are one
 pub one_site : (r : Register) → IsAccepted r → (a b : Site) → IsIn a r.sites → IsIn b r.sites → a.prefix ≡ b.prefix → a ≡ b

@@ -8,23 +8,23 @@ use Rattle.ddt_path.specs.declared.record.Role.{Role}
 use Rattle.ddt_path.specs.declared.record.Role.TheVariants.{Node, Ms}
 use Rattle.ddt_path.specs.Covers.{covers}
 use Rattle.ddt_path.specs.Locators.{lists}
-use Rattle.ddt_path.proofs.CoverLemmas.{same_path}
-use Rattle.ddt_path.proofs.MemberLemmas.{IsIn, any_in, in_contained, contained, found_in, found_passes}
-use Rattle.ddt_path.proofs.FrontLemmas.{one_front}
+use Rattle.ddt_path.specs.laws.Cover.{same_path}
+use Rattle.ddt_path.specs.laws.Member.{IsIn, any_in, in_contained, contained, found_in, found_passes}
+use Rattle.ddt_path.specs.laws.Front.{one_front}
 use Rattle.ddt_path.specs.declared.matching.Preference.TheVariants.{Longest}
 use Rattle.ddt_register.specs.declared.zone.Zone.{Zone}
 use Rattle.ddt_register.specs.declared.group.Group.{Group}
 use Rattle.ddt_register.specs.declared.register.Register.{Register}
-use Rattle.ddt_register.proofs.RisingLemmas.{rule_kept}
+use Rattle.ddt_register.specs.laws.Rising.{rule_kept}
 use Rattle.ddt_check.specs.declared.fault.Rule.TheVariants as rules
 use Rattle.ddt_path.specs.Names.{is_same_name}
 use Rattle.ddt_check.specs.Zones.{is_ms, zone_of, group_named, locators_of, served_zones, roots}
 use Rattle.ddt_check.specs.Rules.{IsAccepted, is_root, is_wrong_root, earlier_zone}
-use Rattle.ddt_check.specs.Laws.{IsItsZone, IsRootZone, AreServers}
-use Rattle.ddt_check.proofs.KeptLemmas.{servers_of_zone, one_zone}
-use Rattle.ddt_path.proofs.MatchingLemmas.{best_member, best_unbeaten, best_found}
-use Rattle.ddt_check.proofs.ServedLemmas.{one_group, group_serves}
-use Rattle.ddt_check.proofs.ZoneLemmas.{zone_prefix}
+use Rattle.ddt_check.specs.laws.Statements.{IsItsZone, IsRootZone, AreServers}
+use Rattle.ddt_check.specs.laws.Kept.{servers_of_zone, one_zone}
+use Rattle.ddt_path.specs.laws.Matching.{best_member, best_unbeaten, best_found}
+use Rattle.ddt_check.specs.laws.Served.{one_group, group_serves}
+use Rattle.ddt_check.specs.laws.Zone.{zone_prefix}
 
 empty_path : (p : List ℕ) → (length p == 0) ≡ true → p ≡ []
 empty_path [] e = refl

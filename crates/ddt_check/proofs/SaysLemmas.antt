@@ -14,9 +14,9 @@ use Rattle.ddt_path.specs.Covers.{covers}
 use Rattle.ddt_path.specs.Free.{hole_of}
 use Rattle.ddt_path.specs.Matching.{longest_match}
 use Rattle.ddt_path.specs.Locators.{lists}
-use Rattle.ddt_path.proofs.CoverLemmas.{covers_self}
-use Rattle.ddt_path.proofs.HoleLemmas.{hole_covers}
-use Rattle.ddt_path.proofs.MemberLemmas.{IsIn, contained}
+use Rattle.ddt_path.specs.laws.Cover.{covers_self}
+use Rattle.ddt_path.specs.laws.Hole.{hole_covers}
+use Rattle.ddt_path.specs.laws.Member.{IsIn, contained}
 use Rattle.ddt_path.specs.declared.matching.Preference.TheVariants.{Longest}
 use Rattle.ddt_register.specs.declared.zone.Zone.{Zone}
 use Rattle.ddt_register.specs.declared.site.Site.{Site}
@@ -26,13 +26,13 @@ use Rattle.ddt_check.specs.Assignment.{assignment, assigned_in, assigned_site, p
 use Rattle.ddt_check.specs.Says.{referral_to, next_zone, says_from, says}
 use Rattle.ddt_check.specs.Rules.{IsAccepted}
 use Rattle.ddt_path.specs.Actions.{IsReferral}
-use Rattle.ddt_check.specs.Laws.{IsFinal, NamesServers, AreServers}
-use Rattle.ddt_path.proofs.MatchingLemmas.{best_member, best_found}
-use Rattle.ddt_check.proofs.NextLemmas.{next_is}
+use Rattle.ddt_check.specs.laws.Statements.{IsFinal, NamesServers, AreServers}
+use Rattle.ddt_path.specs.laws.Matching.{best_member, best_found}
+use Rattle.ddt_check.specs.laws.Next.{next_is}
 use Rattle.ddt_check.proofs.RootLemmas.{served_alike}
-use Rattle.ddt_check.proofs.KeptLemmas.{servers_of_zone}
-use Rattle.ddt_check.proofs.ZoneLemmas.{zone_prefix, site_prefix}
-use Rattle.ddt_path.proofs.FilterLemmas.{filter_in}
+use Rattle.ddt_check.specs.laws.Kept.{servers_of_zone}
+use Rattle.ddt_check.specs.laws.Zone.{zone_prefix, site_prefix}
+use Rattle.ddt_path.specs.laws.Filter.{filter_in}
 
 -- ---- actions
 

@@ -8,14 +8,14 @@ use Rattle.ddt_path.specs.declared.locator.Locator.{Locator}
 use Rattle.ddt_path.specs.declared.locator.Locator.TheVariants.{V4, V6}
 use Rattle.ddt_path.specs.Locators.{is_same_locator, lists, are_distinct}
 use Rattle.ddt_path.specs.Covers.{is_same_path}
-use Rattle.ddt_path.proofs.LocatorLemmas.{same_locator, is_same_locator_self}
-use Rattle.ddt_path.proofs.MemberLemmas.{IsIn, in_get, get_in, in_drop, found_in, found_passes, fails_at, in_later, any_in, in_any}
+use Rattle.ddt_path.specs.laws.Locator.{same_locator, is_same_locator_self}
+use Rattle.ddt_path.specs.laws.Member.{IsIn, in_get, get_in, in_drop, found_in, found_passes, fails_at, in_later, any_in, in_any}
 use Rattle.ddt_register.specs.declared.group.Group.{Group}
 use Rattle.ddt_register.specs.declared.register.Register.{Register}
 use Rattle.ddt_check.specs.declared.fault.Rule.TheVariants as rules
 use Rattle.ddt_check.specs.Rules.{IsLeastRow, broken, group_at, has_wrong_locators, share, earlier_group}
 use Rattle.ddt_check.specs.Columns.{pair_or_none, key_list, column_key, locator_key, first_in, is_later_row, meets_at, meets_in, is_met, is_wrong_alone}
-use Rattle.ddt_register.proofs.RowOrderLemmas.{first_found, groups_up}
+use Rattle.ddt_register.specs.laws.RowOrder.{first_found, groups_up}
 
 -- a wider test that holds at no row without the narrow one at a row no higher
 least_wider : (t b : ℕ → Bool) (o : Option ℕ) → ((n : ℕ) → t n ≡ true → b n ≡ true)

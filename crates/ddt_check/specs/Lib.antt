@@ -6,4 +6,4 @@ pub mod Columns
 pub mod Assignment
 pub mod Says
 pub mod Worked
-pub mod Laws
+pub mod laws

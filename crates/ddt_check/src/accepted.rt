@@ -4,7 +4,7 @@ ghost use Rattle.std.specs.Prelude.{◌≡◌, [], length};
 ghost use Rattle.std.specs.Option.{option_copied};
 ghost use Rattle.ddt_check.specs.Rules.{IsAccepted};
 ghost use Rattle.ddt_check.specs.Zones.{group_named as group_of_name, roots as roots_of};
-ghost use Rattle.ddt_check.specs.Laws.{AreServers};
+ghost use Rattle.ddt_check.specs.laws.Statements.{AreServers};
 
 use crate::assigning::servers_of;
 use crate::lookup;

@@ -3,7 +3,7 @@
 
 ghost use Rattle.ddt_register.specs.declared.register.Register.{Register};
 ghost use Rattle.ddt_check.specs.Rules.{IsAccepted};
-ghost use Rattle.ddt_check.specs.Laws.{EachIdentifierHasOneZone, TheRootIsServed, EachLocatorIsOfOneGroup, EachZoneHasServers, EachGroupHasAFirstLocator, ServersReferDownwards, ReferralsAreToZones, FinalAnswersAreTheAssignment, AnswersCover, AnswersHaveServers, ServersOfAGroupAgree, AnswersCanBeSent, RegisteredPrefixesAreSites, NegativesHoldOfAll, HolesAreFree, PartsOfSitesAreFree};
+ghost use Rattle.ddt_check.specs.laws.Statements.{EachIdentifierHasOneZone, TheRootIsServed, EachLocatorIsOfOneGroup, EachZoneHasServers, EachGroupHasAFirstLocator, ServersReferDownwards, ReferralsAreToZones, FinalAnswersAreTheAssignment, AnswersCover, AnswersHaveServers, ServersOfAGroupAgree, AnswersCanBeSent, RegisteredPrefixesAreSites, NegativesHoldOfAll, HolesAreFree, PartsOfSitesAreFree};
 
 /// One zone is the longest that covers an identifier; DDT nodes serve everything at 1 to 8 locators, the roots; and a
 /// locator serves the zones of one group alone (RFC 8111, section 4).

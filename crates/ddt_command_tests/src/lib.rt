@@ -10,4 +10,6 @@ mod commands;
 #[cfg(test)]
 mod lines;
 #[cfg(test)]
+mod refused;
+#[cfg(test)]
 mod words;

@@ -1,6 +1,7 @@
-//! `ddt_words`: the words of a program with two commands.
+//! `ddt_words`: the words of a program with two commands. `read_words` of `ddt_commands`: those of the program's nine.
 
-use ddt_words::{Argument, Declaration, Words, WordsFault, read_words};
+use ddt_commands::read_words;
+use ddt_words::{Argument, Declaration, Words, WordsFault, read_call};
 use std::alloc::{AllocError, Global};
 use std::test::Fail;
 
@@ -40,7 +41,15 @@ enum Part {
 
 /// What the words of a process call, or the fault in them: one part as a text, several words with a bar behind each.
 fn said_of(alloc: Global, words: &[String], part: Part) -> Result<String, Fail> {
-    match read_words(alloc, COMMANDS, words) {
+    match read_call(alloc, COMMANDS, words) {
+        Ok(call) => Ok(part_of(alloc, &call, part)?),
+        Err(fault) => Ok(format!(in alloc; "{fault}")?),
+    }
+}
+
+/// The same of the program's own commands.
+fn said_of_nine(alloc: Global, words: &[String], part: Part) -> Result<String, Fail> {
+    match read_words(alloc, words) {
         Ok(call) => Ok(part_of(alloc, &call, part)?),
         Err(fault) => Ok(format!(in alloc; "{fault}")?),
     }
@@ -181,5 +190,147 @@ fn words_of_no_command_are_bad(rt: HostRuntime) -> Result<(), Fail> {
 fn faults_have_numbers(rt: HostRuntime) -> Result<(), Fail> {
     let text = format!(in rt.alloc(); "{} {}", WordsFault::Bad, WordsFault::Memory)?;
     assert_eq!(rt; text.as_str(), "1 Bad 2 Memory", "the faults' texts");
+    Ok(())
+}
+
+/// Words of each of the nine commands, and parts of the call.
+const NINE: &[(&[&str], &[(Part, &str)])] = &[
+    (
+        &["answer", "r", "g", "x"],
+        &[
+            (Part::Command, "answer"),
+            (Part::Value("register"), "r"),
+            (Part::Value("group"), "g"),
+            (Part::Value("xeid"), "x"),
+        ],
+    ),
+    (
+        &["assign", "r", "x"],
+        &[
+            (Part::Command, "assign"),
+            (Part::Value("register"), "r"),
+            (Part::Value("xeid"), "x"),
+        ],
+    ),
+    (
+        &["check", "r"],
+        &[(Part::Command, "check"), (Part::Value("register"), "r")],
+    ),
+    (
+        &["compile", "r", "g"],
+        &[
+            (Part::Command, "compile"),
+            (Part::Value("register"), "r"),
+            (Part::Value("group"), "g"),
+        ],
+    ),
+    (
+        &[
+            "loop",
+            "r",
+            "--turns=9",
+            "x",
+            "y",
+            "--me",
+            "m",
+            "--seed",
+            "s",
+        ],
+        &[
+            (Part::Command, "loop"),
+            (Part::Value("register"), "r"),
+            (Part::All("xeid"), "x|y|"),
+            (Part::Setting("me"), "m"),
+            (Part::Setting("seed"), "s"),
+            (Part::Setting("turns"), "9"),
+        ],
+    ),
+    (
+        &["lookup", "r", "x", "--seed", "s", "y", "z"],
+        &[
+            (Part::Command, "lookup"),
+            (Part::Value("register"), "r"),
+            (Part::All("xeid"), "x|y|z|"),
+            (Part::Setting("me"), "none"),
+            (Part::Setting("seed"), "s"),
+        ],
+    ),
+    (
+        &["replay", "--me=m", "r", "t"],
+        &[
+            (Part::Command, "replay"),
+            (Part::Value("register"), "r"),
+            (Part::Value("script"), "t"),
+            (Part::All("registers"), ""),
+            (Part::Setting("me"), "m"),
+            (Part::Setting("seed"), "none"),
+        ],
+    ),
+    (
+        &["replay", "r", "t", "u", "--seed", "s", "v"],
+        &[
+            (Part::Command, "replay"),
+            (Part::Value("register"), "r"),
+            (Part::Value("script"), "t"),
+            (Part::All("registers"), "u|v|"),
+            (Part::Setting("me"), "none"),
+            (Part::Setting("seed"), "s"),
+        ],
+    ),
+    (
+        &["serve", "c", "a", "9"],
+        &[
+            (Part::Command, "serve"),
+            (Part::Value("config"), "c"),
+            (Part::Value("address"), "a"),
+            (Part::Value("turns"), "9"),
+        ],
+    ),
+    (
+        &["show", "00ff"],
+        &[(Part::Command, "show"), (Part::Value("hex"), "00ff")],
+    ),
+];
+
+#[test]
+fn each_of_the_nine_commands_has_its_words(rt: HostRuntime) -> Result<(), Fail> {
+    for &(words, parts) in NINE {
+        let words = process(rt.alloc(), words)?;
+        for &(part, text) in parts {
+            let said = said_of_nine(rt.alloc(), &words, part)?;
+            assert_eq!(rt; said.as_str(), text, "{part:?} of {words:?}");
+        }
+    }
+    Ok(())
+}
+
+/// Words that call none of the nine.
+const NONE_OF_NINE: &[&[&str]] = &[
+    &[],
+    &["help"],
+    &["--help"],
+    &["Check", "r"],
+    &["answer", "r", "g"],
+    &["assign", "r", "x", "y"],
+    &["check"],
+    &["check", "r", "--me", "m"],
+    &["compile", "r"],
+    &["loop", "r"],
+    &["lookup", "r"],
+    &["lookup", "r", "x", "--turns", "9"],
+    &["replay", "r"],
+    &["replay", "r", "t", "--turns", "9"],
+    &["serve", "c", "a"],
+    &["show"],
+    &["show", "00", "--help"],
+];
+
+#[test]
+fn words_of_none_of_the_nine_are_bad(rt: HostRuntime) -> Result<(), Fail> {
+    for &words in NONE_OF_NINE {
+        let words = process(rt.alloc(), words)?;
+        let said = said_of_nine(rt.alloc(), &words, Part::Command)?;
+        assert_eq!(rt; said.as_str(), FAULT, "the fault of {words:?}");
+    }
     Ok(())
 }

@@ -8,8 +8,8 @@ use Rattle.ddt_check.specs.Zones.{group_named}
 use Rattle.ddt_config.specs.declared.config.ServerConfig.{ServerConfig}
 use Rattle.ddt_config.specs.Table.{outline}
 use Rattle.ddt_compile.specs.GroupConfig.{config_named}
-use Rattle.ddt_compile.specs.Laws.{IsHonestConfig, HasRoom}
-use Rattle.ddt_compile.proofs.NamedLemmas.{config_of, no_config}
+use Rattle.ddt_compile.specs.laws.Statements.{IsHonestConfig, HasRoom}
+use Rattle.ddt_compile.specs.laws.Named.{config_of, no_config}
 use Rattle.ddt_commands.specs.Answer.{IsConfigOfGroup}
 
 -- what is found for a name is its group's configuration

@@ -8,3 +8,4 @@ pub mod RunLemmas
 pub mod ScriptLemmas
 pub mod ServeLemmas
 pub mod SocketLemmas
+pub mod PrintedLemmas

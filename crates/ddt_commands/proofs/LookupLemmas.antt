@@ -17,7 +17,7 @@ use Rattle.ddt_check.specs.Assignment.{assignment}
 use Rattle.ddt_check.specs.Rules.{IsAccepted}
 use Rattle.ddt_check.specs.Says.{says}
 use Rattle.ddt_check.specs.Zones.{roots}
-use Rattle.ddt_wire.specs.Laws.{MessagesAreRead}
+use Rattle.ddt_wire.specs.laws.Statements.{MessagesAreRead}
 use Rattle.ddt_wire.specs.Referral.{Message, message_in, message_of}
 use Rattle.ddt_resolver.specs.declared.answers.Why.{Why}
 use Rattle.ddt_resolver.specs.State.{State, fresh}
@@ -116,7 +116,7 @@ pub told_none : (r : Register) (now : ℕ) (start : State) (complete : Bool) (te
 told_none r now start complete text c t =
     subst (λ (b : Bool). AreTold r now start [] b text start) (sym c) (subst (λ (l : List ℕ). AreTold r now start [] true l start) (sym t) none)
 
-one_more : (words : List (Bor (List ℕ))) (i : ℕ) (d : Bor (List ℕ)) → i < length words → take i (texts words) ++ (get_or words i d).now ∷ [] ≡ take (i + 1) (texts words)
+pub one_more : (words : List (Bor (List ℕ))) (i : ℕ) (d : Bor (List ℕ)) → i < length words → take i (texts words) ++ (get_or words i d).now ∷ [] ≡ take (i + 1) (texts words)
 one_more words i d lt =
     ap (λ (w : List ℕ). take i (texts words) ++ w ∷ []) (sym (get_or-map (λ (t : Bor (List ℕ)). t.now) words i d d.now lt))
     ∙ sym (take_more (texts words) i d.now (rw (length-map words (λ (t : Bor (List ℕ)). t.now)) lt))

@@ -6,7 +6,7 @@ use Rattle.ddt_words.specs.declared.declaration.Declaration.{Declaration}
 use Rattle.ddt_words.specs.Call.{Call, Calls}
 use Rattle.ddt_words.specs.Line.{line}
 use Rattle.ddt_commands.specs.declared.commands.Command.{Command}
-use Rattle.ddt_commands.specs.Commands.{IsTextOf, IsWhyOf, name_of, program_line}
+use Rattle.ddt_commands.specs.Commands.{IsTextOf, IsWhyOf, command_list, name_of, program_line}
 use Rattle.ddt_commands.specs.Running.{CallNone, CallsFor, DontCall, HasPartOf, HasRefused, HasText, IsAnswer, IsWhyRefused}
 use Rattle.ddt_commands.specs.Wires.{OverWires}
 
@@ -17,19 +17,16 @@ program_is_simple = refl
 pub simple_line : (ds : List Declaration) → line ds ≡ program_line → is_simple_and_free (line ds) ≡ true
 simple_line ds e = ap is_simple_and_free e ∙ program_is_simple
 
-pub calls_for : (ds : List Declaration) (words : List (List ℕ)) (command : Command) (call : Call) → line ds ≡ program_line → Calls ds words call → name_of command ≡ call.0
-    → CallsFor words command call
-calls_for ds words command call e calls named =
-    (subst (λ (a : App). (fault_of a words ≡ []) × (subcommand_of a words ≡ Some call)) e calls, sym named)
+-- a call by a list of declarations that make the program's command line is one by the program's own
+pub program_calls : (ds : List Declaration) (words : List (List ℕ)) (call : Call) → line ds ≡ program_line → Calls ds words call → Calls command_list words call
+program_calls ds words call e calls = subst (λ (a : App). (fault_of a words ≡ []) × (subcommand_of a words ≡ Some call)) e calls
 
--- words with a fault call nothing, nor do those whose command has no name of these
+pub calls_for : (words : List (List ℕ)) (command : Command) (call : Call) → Calls command_list words call → name_of command ≡ call.0 → CallsFor words command call
+calls_for words command call calls named = (calls, sym named)
+
+-- words with a fault call nothing
 pub bad_words : (ds : List Declaration) (words : List (List ℕ)) → line ds ≡ program_line → fault_of (line ds) words ≢ [] → CallNone words
 bad_words ds words e bad = λ command call calls. bad (ap (λ (a : App). fault_of a words) e ∙ calls.0.0)
-
-pub unknown : (ds : List Declaration) (words : List (List ℕ)) (call : Call) → line ds ≡ program_line → Calls ds words call → ((c : Command) → name_of c ≢ call.0) → CallNone words
-unknown ds words call e calls none = λ command other for_other.
-    let one = sym (ap (λ (a : App). subcommand_of a words) e) ∙ calls.1 in
-    none command (sym for_other.1 ∙ sym (ap (λ (p : Call). p.0) (same_Some call other (sym one ∙ for_other.0.1))))
 
 pub answered : {F : Type 0} (opens : List ℕ → Option F → Type 0) (remaining : F → Option (List ℕ)) (over : OverWires) (words : List (List ℕ)) (command : Command) (call : Call) (complete : Bool)
     (old new : Option (List ℕ)) → CallsFor words command call → HasText (IsTextOf opens remaining over command call complete) old new → HasText (IsAnswer opens remaining over words complete) old new

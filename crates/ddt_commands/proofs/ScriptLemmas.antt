@@ -10,10 +10,10 @@ use Rattle.std.proofs.lemmas.List.{take-append-drop}
 use Rattle.ddt_path.specs.declared.xeid.Xeid.{Xeid}
 use Rattle.ddt_text.specs.FirstFault.{number_in}
 use Rattle.ddt_text.specs.Grammar.{SpellsXeid}
-use Rattle.ddt_text.proofs.LawLemmas.{xeids_are_read}
-use Rattle.ddt_text.proofs.NumberLemmas.{number_in-sound, number_in-complete}
+use Rattle.ddt_text.specs.laws.Readers.{xeids_are_read}
+use Rattle.ddt_text.specs.laws.Number.{number_in-sound, number_in-complete}
 use Rattle.ddt_sim.specs.declared.schedule.Step.{Step}
-use Rattle.ddt_sim.specs.declared.schedule.Step.TheVariants.{Ask, Deliver, Pass, Tick}
+use Rattle.ddt_sim.specs.declared.schedule.Step.TheVariants.{Ask, Deliver, Pass, Tick, Replace}
 use Rattle.ddt_commands.proofs.Texts.{texts}
 use Rattle.ddt_commands.specs.declared.script.ScriptFault.{ScriptFault}
 use Rattle.ddt_commands.specs.declared.script.ScriptFault.TheVariants.{Line}
@@ -41,11 +41,15 @@ behind_deliver line s t e f = ap (drop 8) (sym e ∙ f)
 behind_wait : (line s t : List ℕ) → line ≡ codes "wait " ++ s → line ≡ codes "wait " ++ t → s ≡ t
 behind_wait line s t e f = ap (drop 5) (sym e ∙ f)
 
+behind_replace : (line s t : List ℕ) → line ≡ codes "replace " ++ s → line ≡ codes "replace " ++ t → s ≡ t
+behind_replace line s t e f = ap (drop 8) (sym e ∙ f)
+
 only_ask : (line text : List ℕ) → line ≡ codes "ask " ++ text → ((x : Xeid) → ¬ (SpellsXeid text x)) → (s : Step) → ¬ (SpellsStep line s)
 only_ask line text is none (Ask x) h = none x (subst (λ (t : List ℕ). SpellsXeid t x) (sym (behind_ask line text h.0 is h.1)) h.2)
 only_ask line text is none (Deliver k) h = absurd (omega (arith, letters 97 100 _ _ line is h.0))
 only_ask line text is none (Pass k) h = absurd (omega (arith, letters 97 119 _ _ line is h.0))
 only_ask line text is none Tick h = absurd (omega (arith, letters 97 116 _ _ line is h))
+only_ask line text is none (Replace k) h = absurd (omega (arith, letters 97 114 _ _ line is h.0))
 
 pub ask_step : (line text : List ℕ) (r : Option Step) → line ≡ codes "ask " ++ text → MatchOption r ((x : Xeid) → ¬ (SpellsXeid text x)) (λ s. (x : Xeid) × SpellsXeid text x × (s ≡ Ask x))
     → MatchOption r ((s : Step) → ¬ (SpellsStep line s)) (λ s. SpellsStep line s)
@@ -62,6 +66,7 @@ deliver_none line text is none (Ask x) h = absurd (omega (arith, letters 100 97 
 deliver_none line text is none (Deliver k) h = not_number text k none h.1 (behind_deliver line text (decimal k) is h.0)
 deliver_none line text is none (Pass k) h = absurd (omega (arith, letters 100 119 _ _ line is h.0))
 deliver_none line text is none Tick h = absurd (omega (arith, letters 100 116 _ _ line is h))
+deliver_none line text is none (Replace k) h = absurd (omega (arith, letters 100 114 _ _ line is h.0))
 
 pub deliver_some : (line text : List ℕ) (k : ℕ) → line ≡ codes "deliver " ++ text → Some k ≡ number_in 4294967295 text → SpellsStep line (Deliver k)
 deliver_some line text k is some =
@@ -73,11 +78,24 @@ wait_none line text is none (Ask x) h = absurd (omega (arith, letters 119 97 _ _
 wait_none line text is none (Deliver k) h = absurd (omega (arith, letters 119 100 _ _ line is h.0))
 wait_none line text is none (Pass k) h = not_number text k none h.1 (behind_wait line text (decimal k) is h.0)
 wait_none line text is none Tick h = absurd (omega (arith, letters 119 116 _ _ line is h))
+wait_none line text is none (Replace k) h = absurd (omega (arith, letters 119 114 _ _ line is h.0))
 
 pub wait_some : (line text : List ℕ) (k : ℕ) → line ≡ codes "wait " ++ text → Some k ≡ number_in 4294967295 text → SpellsStep line (Pass k)
 wait_some line text k is some =
     let h = number_in-sound 4294967295 text k (omega arith) (sym some) in
     (is ∙ ap (λ (t : List ℕ). codes "wait " ++ t) h.1, omega (arith, h.0))
+
+pub replace_none : (line text : List ℕ) → line ≡ codes "replace " ++ text → None ≡ number_in 4294967295 text → (s : Step) → ¬ (SpellsStep line s)
+replace_none line text is none (Ask x) h = absurd (omega (arith, letters 114 97 _ _ line is h.1))
+replace_none line text is none (Deliver k) h = absurd (omega (arith, letters 114 100 _ _ line is h.0))
+replace_none line text is none (Pass k) h = absurd (omega (arith, letters 114 119 _ _ line is h.0))
+replace_none line text is none Tick h = absurd (omega (arith, letters 114 116 _ _ line is h))
+replace_none line text is none (Replace k) h = not_number text k none h.1 (behind_replace line text (decimal k) is h.0)
+
+pub replace_some : (line text : List ℕ) (k : ℕ) → line ≡ codes "replace " ++ text → Some k ≡ number_in 4294967295 text → SpellsStep line (Replace k)
+replace_some line text k is some =
+    let h = number_in-sound 4294967295 text k (omega arith) (sym some) in
+    (is ∙ ap (λ (t : List ℕ). codes "replace " ++ t) h.1, omega (arith, h.0))
 
 -- ---- the lines of a script
 
@@ -141,18 +159,27 @@ step_once line (Ask x) (Ask y) h k =
 step_once line (Ask x) (Deliver k) h g = absurd (omega (arith, letters 97 100 _ _ line h.1 g.0))
 step_once line (Ask x) (Pass k) h g = absurd (omega (arith, letters 97 119 _ _ line h.1 g.0))
 step_once line (Ask x) Tick h g = absurd (omega (arith, letters 97 116 _ _ line h.1 g))
+step_once line (Ask x) (Replace k) h g = absurd (omega (arith, letters 97 114 _ _ line h.1 g.0))
 step_once line (Deliver m) (Ask y) h g = absurd (omega (arith, letters 100 97 _ _ line h.0 g.1))
 step_once line (Deliver m) (Deliver n) h g = ap Deliver (number_once m n h.1 g.1 (behind_deliver line (decimal m) (decimal n) h.0 g.0))
 step_once line (Deliver m) (Pass n) h g = absurd (omega (arith, letters 100 119 _ _ line h.0 g.0))
 step_once line (Deliver m) Tick h g = absurd (omega (arith, letters 100 116 _ _ line h.0 g))
+step_once line (Deliver m) (Replace n) h g = absurd (omega (arith, letters 100 114 _ _ line h.0 g.0))
 step_once line (Pass m) (Ask y) h g = absurd (omega (arith, letters 119 97 _ _ line h.0 g.1))
 step_once line (Pass m) (Deliver n) h g = absurd (omega (arith, letters 119 100 _ _ line h.0 g.0))
 step_once line (Pass m) (Pass n) h g = ap Pass (number_once m n h.1 g.1 (behind_wait line (decimal m) (decimal n) h.0 g.0))
 step_once line (Pass m) Tick h g = absurd (omega (arith, letters 119 116 _ _ line h.0 g))
+step_once line (Pass m) (Replace n) h g = absurd (omega (arith, letters 119 114 _ _ line h.0 g.0))
 step_once line Tick (Ask y) h g = absurd (omega (arith, letters 116 97 _ _ line h g.1))
 step_once line Tick (Deliver n) h g = absurd (omega (arith, letters 116 100 _ _ line h g.0))
 step_once line Tick (Pass n) h g = absurd (omega (arith, letters 116 119 _ _ line h g.0))
 step_once line Tick Tick h g = refl
+step_once line Tick (Replace n) h g = absurd (omega (arith, letters 116 114 _ _ line h g.0))
+step_once line (Replace m) (Ask y) h g = absurd (omega (arith, letters 114 97 _ _ line h.0 g.1))
+step_once line (Replace m) (Deliver n) h g = absurd (omega (arith, letters 114 100 _ _ line h.0 g.0))
+step_once line (Replace m) (Pass n) h g = absurd (omega (arith, letters 114 119 _ _ line h.0 g.0))
+step_once line (Replace m) Tick h g = absurd (omega (arith, letters 114 116 _ _ line h.0 g))
+step_once line (Replace m) (Replace n) h g = ap Replace (number_once m n h.1 g.1 (behind_replace line (decimal m) (decimal n) h.0 g.0))
 
 steps_once : (lines : List (List ℕ)) (a b : List Step) → SpellSteps lines a → SpellSteps lines b → a ≡ b
 steps_once [] [] [] h k = refl

@@ -8,7 +8,7 @@ use Rattle.ddt_check.specs.Says.{says}
 use Rattle.ddt_config.specs.declared.config.ServerConfig.{ServerConfig}
 use Rattle.ddt_config.specs.Table.{outline}
 use Rattle.ddt_compile.specs.GroupConfig.{group_config}
-use Rattle.ddt_compile.specs.Laws.{IsHonestConfig, HasRoom}
+use Rattle.ddt_compile.specs.laws.Statements.{IsHonestConfig, HasRoom}
 use Rattle.ddt_wire.specs.Referral.{written}
 use Rattle.hex.specs.Hex.{encode_lower}
 use Rattle.ddt_path.specs.declared.xeid.Xeid.{Xeid}

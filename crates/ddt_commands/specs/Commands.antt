@@ -3,7 +3,7 @@ use Rattle.std.specs.Prelude.{ℕ, Bool, true, ◌≡◌, List, [], ◌∷◌, c
 use Rattle.clap.specs.Words.{App}
 use Rattle.ddt_words.specs.declared.declaration.Declaration.{Declaration}
 use Rattle.ddt_words.specs.Call.{Call}
-use Rattle.ddt_words.specs.Line.{line, one, setting, several, takes}
+use Rattle.ddt_words.specs.Line.{line, one, setting, any, several, takes}
 use Rattle.ddt_commands.specs.declared.commands.Command.{Command}
 use Rattle.ddt_commands.specs.declared.commands.Command.TheVariants.{Answer, Assign, Check, Compile, Loop, Lookup, Replay, Serve, Show}
 use Rattle.ddt_commands.specs.declared.refusal.Refusal.{Refusal}
@@ -43,7 +43,8 @@ command_list =
     ∷ takes (codes "lookup")
     (one (codes "register") ∷ several (codes "xeid") ∷ setting (codes "me") ∷ setting (codes "seed") ∷ [])
     ∷ takes (codes "replay")
-    (one (codes "register") ∷ one (codes "script") ∷ setting (codes "me") ∷ setting (codes "seed") ∷ [])
+    (one (codes "register") ∷ one (codes "script") ∷ any (codes "registers") ∷ setting (codes "me")
+    ∷ setting (codes "seed") ∷ [])
     ∷ takes (codes "serve") (one (codes "config") ∷ one (codes "address") ∷ one (codes "turns") ∷ [])
     ∷ takes (codes "show") (one (codes "hex") ∷ [])
     ∷ []

@@ -11,7 +11,7 @@ use Rattle.ddt_commands.specs.declared.refusal.Refusal.TheVariants.{BadWord, NoR
 use Rattle.ddt_commands.specs.declared.refusal.word.WordRefusal.{WordRefusal}
 use Rattle.ddt_commands.specs.declared.refusal.word.WordRefusal.TheVariants.{Identifier, Address, Number}
 use Rattle.ddt_commands.specs.declared.refusal.register.RegisterRefusal.{RegisterRefusal}
-use Rattle.ddt_commands.specs.declared.refusal.register.RegisterRefusal.TheVariants.{CannotOpen, Unreadable, CannotRead, BreaksRule, NoSuchGroup}
+use Rattle.ddt_commands.specs.declared.refusal.register.RegisterRefusal.TheVariants.{CannotOpen, Unreadable, CannotRead, BreaksRule, NoSuchGroup, OtherRoots}
 use Rattle.ddt_commands.specs.declared.refusal.script.ScriptRefusal.{ScriptRefusal}
 use Rattle.ddt_commands.specs.declared.refusal.script.ScriptRefusal.TheVariants as script
 use Rattle.ddt_commands.specs.declared.refusal.server.ServerRefusal.{ServerRefusal}
@@ -30,6 +30,7 @@ register_refusal_text (Unreadable fault) = None
 register_refusal_text CannotRead = Some (codes "unreadable 8 Read")
 register_refusal_text (BreaksRule fault) = None
 register_refusal_text NoSuchGroup = Some (codes "no such group")
+register_refusal_text (OtherRoots path) = Some (codes "other root locators " ++ path.now)
 
 abbrev pub script_refusal_text : ScriptRefusal → Option (List ℕ)
 script_refusal_text (script.CannotOpen path) = Some (codes "cannot open " ++ path.now)

@@ -9,7 +9,7 @@ use Rattle.ddt_check.specs.Rules.{IsLeastFault}
 use Rattle.ddt_commands.specs.declared.refusal.Refusal.{Refusal}
 use Rattle.ddt_commands.specs.declared.refusal.Refusal.TheVariants.{NoRegister, OutOfMemory}
 use Rattle.ddt_commands.specs.declared.refusal.register.RegisterRefusal.{RegisterRefusal}
-use Rattle.ddt_commands.specs.declared.refusal.register.RegisterRefusal.TheVariants.{CannotOpen, Unreadable, CannotRead, BreaksRule, NoSuchGroup}
+use Rattle.ddt_commands.specs.declared.refusal.register.RegisterRefusal.TheVariants.{CannotOpen, Unreadable, CannotRead, BreaksRule, NoSuchGroup, OtherRoots}
 
 -- the register that the bytes of a file spell, or the first fault in them
 abbrev pub register_in : List ℕ → Result Lists ReadFault
@@ -35,6 +35,7 @@ IsFaultIn bytes (Unreadable fault) = register_in bytes ≡ Err fault
 IsFaultIn bytes CannotRead = ⊤
 IsFaultIn bytes (BreaksRule fault) = (r : Register) × Spell bytes r × IsLeastFault r fault.rule fault.row
 IsFaultIn bytes NoSuchGroup = ⊥
+IsFaultIn bytes (OtherRoots path) = ⊥
 
 -- why a path gives no accepted register: it can't be opened, or its bytes are at fault; reading may fail, and memory
 -- may be wanted, once a file is open

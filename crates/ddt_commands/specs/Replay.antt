@@ -1,6 +1,6 @@
--- `replay REGISTER SCRIPT [--me ADDRESS] [--seed N]`: a schedule of a resolver among the servers of the register, and a
--- line for each of its steps (RFC 8111, section 7.3).
-use Rattle.std.specs.Prelude.{ℕ, ◌+◌, ◌≡◌, ◌≢◌, ◌⊎◌, ⊤, List, [], ◌∷◌, ◌++◌, length, codes, decimal, Option, None, Some, Ok}
+-- `replay REGISTER SCRIPT [REGISTER...] [--me ADDRESS] [--seed N]`: a schedule of a resolver among the servers of the
+-- registers, and a line for each of its steps (RFC 8111, section 7.3).
+use Rattle.std.specs.Prelude.{ℕ, ◌+◌, ◌<◌, ◌≡◌, ◌≢◌, ◌⊎◌, ⊤, List, [], ◌∷◌, ◌++◌, length, map, take, get_or, slice_get, unwrap_or, All, codes, decimal, Option, None, Some, Ok}
 use Rattle.std.specs.Option.{option_or}
 use Rattle.ddt_path.specs.declared.locator.Locator.{Locator}
 use Rattle.ddt_path.specs.declared.record.Outcome.{Outcome}
@@ -19,17 +19,19 @@ use Rattle.ddt_resolver.specs.declared.answers.Why.{Why}
 use Rattle.ddt_resolver.specs.State.{State, fresh}
 use Rattle.ddt_sim.specs.declared.schedule.Step.{Step}
 use Rattle.ddt_sim.specs.declared.schedule.Event.{Event}
-use Rattle.ddt_sim.specs.declared.schedule.Event.TheVariants.{Asked, Refused, Replied, Silent, Heard, Passed, Ticked, Nothing}
+use Rattle.ddt_sim.specs.declared.schedule.Event.TheVariants.{Asked, Refused, Replied, Silent, Heard, Passed, Ticked, Replaced, Nothing}
 use Rattle.ddt_sim.specs.declared.schedule.Transcript.{Transcript}
 use Rattle.ddt_sim.specs.Compiled.{AreCompiled, configs_of}
 use Rattle.ddt_sim.specs.History.{Line, Each, Tells as TellsRun}
-use Rattle.ddt_sim.specs.Schedules.{IsRightAnswer, IsRightReply, IsOnce, IsRightFailure}
+use Rattle.ddt_sim.specs.Schedules.{KeepServers, IsRightAnswer, IsRightReply, IsOnce, IsRightFailure}
+use Rattle.ddt_sim.specs.InForce.{IsAnswerSince, IsAnswerOfLate, IsReplyInForce, IsFailureInForce}
 use Rattle.ddt_sim.specs.Tries.{IsRightNoReply}
-use Rattle.ddt_sim.specs.World.{request_at}
+use Rattle.ddt_sim.specs.World.{Members, members, request_at}
 use Rattle.ddt_lines.specs.Lines.{ended, outcome_text}
-use Rattle.ddt_words.specs.Call.{Call, value}
+use Rattle.ddt_words.specs.Call.{Call, all_values, value}
 use Rattle.ddt_commands.specs.declared.refusal.Refusal.{Refusal}
-use Rattle.ddt_commands.specs.declared.refusal.Refusal.TheVariants.{BadWord, NoScript, OutOfMemory}
+use Rattle.ddt_commands.specs.declared.refusal.Refusal.TheVariants.{BadWord, NoRegister, NoScript, OutOfMemory}
+use Rattle.ddt_commands.specs.declared.refusal.register.RegisterRefusal.TheVariants.{OtherRoots}
 use Rattle.ddt_commands.specs.declared.refusal.script.ScriptRefusal.TheVariants.{CannotOpen, RefusedLine}
 use Rattle.ddt_commands.specs.declared.refusal.word.WordRefusal.{WordRefusal}
 use Rattle.ddt_commands.specs.declared.script.ScriptFault.{ScriptFault}
@@ -82,6 +84,7 @@ event_text number (Ticked ticked_as.Nothing) = codes "nothing"
 event_text number (Ticked (ticked_as.Sent t d)) = sent_text t number d
 event_text number (Ticked (ticked_as.Answer t o)) = answer_text t o
 event_text number (Ticked (ticked_as.GaveUp t why)) = gave_up_text t why
+event_text number (Replaced k) = codes "replaced " ++ decimal k
 event_text number Nothing = codes "nothing"
 
 -- The lines of a run, the newest last. The number of a request is how many datagrams were sent before it.
@@ -105,22 +108,47 @@ lines_from number (event ∷ events) =
 
 -- ---- the run
 
--- What has happened in a run of these steps, by a new resolver with the root locators of the register, over its
--- servers. Each answer is the assignment of the identifier of its own ask. Each request that is delivered has its
--- reply, and no ticket ends twice. Nothing is refused, ignored or given up without its reason.
-pub record IsRunOf (r : Register) (me_ : Locator) (seed : ℕ) (steps : List Step) (past : List Line) : Type 0 where
-  pub transcript : Transcript
-  pub last : State
-  pub told : TellsRun (AreCompiled (configs_of r)) (fresh (roots r) me_ seed) steps transcript last past
+-- the register of each number: the first, then the others in their order; the first too for numbers past the list
+abbrev pub numbered : Register → List Register → ℕ → Register
+numbered first others k = get_or (first ∷ others) k first
+
+-- the servers of registers, each register's a member of its number
+abbrev pub servers_of : Register → List Register → Members
+servers_of first others = members AreCompiled AreCompiled (map configs_of (first ∷ others))
+
+-- What holds of a run in which no step replaces the servers: each answer is what the first register assigns to the
+-- identifier of its own ask, each request that is delivered has its reply, and nothing is refused, ignored or given up
+-- without its reason.
+pub record IsOfOne (r : Register) (past : List Line) : Type 0 where
   pub answers : Each (IsRightAnswer r) past
   pub replies : Each (IsRightReply r) past
-  pub once : Each IsOnce past
   pub failures : Each IsRightFailure past
   pub no_reply : Each (IsRightNoReply r) past
 
+-- What holds of any run: each answer to a ticket is what a register assigns that was in force since its ask, and each
+-- answer at once that of one in force less than 902,000 milliseconds before. Requests are delivered to the servers in
+-- force, and no ticket ends twice.
+pub record IsOfSome (registers : ℕ → Register) (past : List Line) : Type 0 where
+  pub answers : Each (IsAnswerSince registers) past
+  pub remembered : Each (IsAnswerOfLate registers) past
+  pub replies : Each (IsReplyInForce registers) past
+  pub failures : Each IsFailureInForce past
+  pub once : Each IsOnce past
+
+-- What has happened in a run of these steps, by a new resolver with the root locators of the first register, over the
+-- servers of registers that all have these root locators; those of the first are in force at first.
+pub record IsRunOf (first : Register) (others : List Register) (me_ : Locator) (seed : ℕ) (steps : List Step)
+    (past : List Line) : Type 0 where
+  pub transcript : Transcript
+  pub last : State
+  pub told : TellsRun (servers_of first others) (fresh (roots first) me_ seed) steps transcript last past
+  pub of_one : KeepServers steps → IsOfOne first past
+  pub of_some : IsOfSome (numbered first others) past
+
 -- the lines of such a run
-abbrev pub IsRunText : Register → Locator → ℕ → List Step → List ℕ → Type 0
-IsRunText r me_ seed steps text = (past : List Line) × IsRunOf r me_ seed steps past × (text ≡ run_text past)
+abbrev pub IsRunText : Register → List Register → Locator → ℕ → List Step → List ℕ → Type 0
+IsRunText first others me_ seed steps text =
+    (past : List Line) × IsRunOf first others me_ seed steps past × (text ≡ run_text past)
 
 -- ---- the files
 
@@ -144,26 +172,72 @@ IsWhyNoScript remaining (Some file) path (NoScript (RefusedLine number)) =
 IsWhyNoScript remaining (Some file) path OutOfMemory = ⊤
 IsWhyNoScript remaining source path why = ⊥
 
--- the text of a replay: the register's path, then the script's, were opened, and the lines are those of a run
-abbrev pub IsReplayOf : {F : Type 0} → (List ℕ → Option F → Type 0) → (F → Option (List ℕ)) → List ℕ → List ℕ
-    → Locator → ℕ → List ℕ → Type 0
-IsReplayOf opens remaining register script me_ seed text =
-    (source : Option _) × opens register source × OfItsRegister remaining source (λ r.
-    (other : Option _) × opens script other × OfItsScript remaining other (λ steps. IsRunText r me_ seed steps text))
+-- the path was opened, and gives this accepted register
+abbrev pub IsRegisterAt : {F : Type 0} → (List ℕ → Option F → Type 0) → (F → Option (List ℕ)) → List ℕ → Register
+    → Type 0
+IsRegisterAt opens remaining path r =
+    (source : Option _) × opens path source × OfItsRegister remaining source (λ own. own ≡ r)
 
--- why there is none: the register, then the script; memory may run out once the files are open
+-- so it is of each of these paths and its register
+abbrev pub AreRegistersAt : {F : Type 0} → (List ℕ → Option F → Type 0) → (F → Option (List ℕ)) → List (List ℕ)
+    → List Register → Type 0
+AreRegistersAt opens remaining [] [] = Unit {0}
+AreRegistersAt opens remaining [] (r ∷ rs) = ⊥
+AreRegistersAt opens remaining (path ∷ paths) [] = ⊥
+AreRegistersAt opens remaining (path ∷ paths) (r ∷ rs) =
+    IsRegisterAt opens remaining path r × AreRegistersAt opens remaining paths rs
+
+-- of these registers that of this place is the first whose root locators aren't those of another
+pub record IsFirstOther (first : Register) (others : List Register) (place : ℕ) : Type 0 where
+  pub within : place < length others
+  pub differs : roots (get_or others place first) ≢ roots first
+  pub before : (k : ℕ) → k < place → roots (get_or others k first) ≡ roots first
+
+-- the refusal names this path as one whose register has other root locators
+abbrev pub NamesOtherRoots : Refusal → List ℕ → Type 0
+NamesOtherRoots (NoRegister (OtherRoots name)) path = name.now ≡ path
+NamesOtherRoots why path = ⊥
+
+-- Why the paths of further registers give none to replay over. `no_register`: the first path that gives no accepted
+-- register. `other_roots`: all give one, and this is the first with other root locators.
+pub data IsWhyNoMore {F : Type 0} (opens : List ℕ → Option F → Type 0) (remaining : F → Option (List ℕ))
+    (first : Register) (paths : List (List ℕ)) (why : Refusal) : Type 0 where
+  no_register : (k : ℕ) (path : List ℕ) (registers : List Register) (source : Option F) → slice_get paths k ≡ Some path
+      → AreRegistersAt opens remaining (take k paths) registers → opens path source
+      → IsWhyNoRegister remaining source path why → IsWhyNoMore opens remaining first paths why
+  other_roots : (k : ℕ) (path : List ℕ) (registers : List Register) → slice_get paths k ≡ Some path
+      → AreRegistersAt opens remaining paths registers → IsFirstOther first registers k → NamesOtherRoots why path
+      → IsWhyNoMore opens remaining first paths why
+
+-- the text of a replay: the register's path, then the script's, then those of further registers were opened; all have
+-- the root locators of the first, and the lines are those of a run
+abbrev pub IsReplayOf : {F : Type 0} → (List ℕ → Option F → Type 0) → (F → Option (List ℕ)) → List ℕ → List ℕ
+    → List (List ℕ) → Locator → ℕ → List ℕ → Type 0
+IsReplayOf opens remaining register script more me_ seed text =
+    (source : Option _) × opens register source × OfItsRegister remaining source (λ r.
+    (other : Option _) × opens script other × OfItsScript remaining other (λ steps.
+    (others : List Register) × AreRegistersAt opens remaining more others × All (λ q. roots q ≡ roots r) others
+    × IsRunText r others me_ seed steps text))
+
+-- why there is none: the register, then the script, then the further registers; memory may run out once the files are
+-- open
 abbrev pub IsWhyNotReplayed : {F : Type 0} → (List ℕ → Option F → Type 0) → (F → Option (List ℕ)) → List ℕ → List ℕ
-    → Refusal → Type 0
-IsWhyNotReplayed opens remaining register script why =
+    → List (List ℕ) → Refusal → Type 0
+IsWhyNotReplayed opens remaining register script more why =
     (source : Option _) × opens register source × (IsWhyNoRegister remaining source register why
     ⊎ OfItsRegister remaining source (λ r. (other : Option _) × opens script other
-    × IsWhyNoScript remaining other script why))
+    × (IsWhyNoScript remaining other script why
+    ⊎ OfItsScript remaining other (λ steps. IsWhyNoMore opens remaining r more why))))
 
 -- ---- the command
 
 -- the path of the script of a call
 abbrev pub script_path : Call → List ℕ
 script_path call = value (codes "script") call
+
+-- the paths of its further registers
+abbrev pub more_paths : Call → List (List ℕ)
+more_paths call = unwrap_or (all_values (codes "registers") call) []
 
 -- the first bad word of a call: the address, then the seed
 abbrev pub bad_replay : Call → Option WordRefusal
@@ -174,11 +248,12 @@ abbrev pub IsReplayText : {F : Type 0} → (List ℕ → Option F → Type 0) �
     → Type 0
 IsReplayText opens remaining call text =
     (me_ : Locator) × (seed : ℕ) × (me_of call ≡ Ok me_) × (seed_of call ≡ Some seed)
-    × IsReplayOf opens remaining (path call) (script_path call) me_ seed text
+    × IsReplayOf opens remaining (path call) (script_path call) (more_paths call) me_ seed text
 
 -- why it refuses: its first bad word, else why there is no replay
 abbrev pub IsWhyNoReplay : {F : Type 0} → (List ℕ → Option F → Type 0) → (F → Option (List ℕ)) → Call → Refusal
     → Type 0
 IsWhyNoReplay opens remaining call why =
     ((w : WordRefusal) × (bad_replay call ≡ Some w) × (why ≡ BadWord w))
-    ⊎ ((bad_replay call ≡ None) × IsWhyNotReplayed opens remaining (path call) (script_path call) why)
+    ⊎ ((bad_replay call ≡ None) × IsWhyNotReplayed opens remaining (path call) (script_path call) (more_paths call)
+    why)

@@ -3,18 +3,19 @@ use Rattle.std.specs.Prelude.{ℕ, ◌+◌, ◌^◌, ◌<◌, ◌≡◌, ◌==�
 use Rattle.std.specs.List.{filter, slice_split}
 use Rattle.ddt_text.specs.Grammar.{SpellsXeid}
 use Rattle.ddt_sim.specs.declared.schedule.Step.{Step}
-use Rattle.ddt_sim.specs.declared.schedule.Step.TheVariants.{Ask, Deliver, Pass, Tick}
+use Rattle.ddt_sim.specs.declared.schedule.Step.TheVariants.{Ask, Deliver, Pass, Tick, Replace}
 
 -- the lines of a text: what stands between line feeds, before the first and behind the last, and isn't empty
 abbrev pub lines_in : List ℕ → List (List ℕ)
 lines_in text = filter (λ line. not (length line == 0)) (slice_split (λ b. b == 10) text)
 
--- `ask XEID`, `deliver K`, `wait MS`, `tick`; `decimal n` has no leading zero
+-- `ask XEID`, `deliver K`, `wait MS`, `tick`, `replace K`; `decimal n` has no leading zero
 abbrev pub SpellsStep : List ℕ → Step → Type 0
 SpellsStep line (Ask x) = (text : List ℕ) × (line ≡ codes "ask " ++ text) × SpellsXeid text x
 SpellsStep line (Deliver number) = (line ≡ codes "deliver " ++ decimal number) × (number < 2 ^ 32)
 SpellsStep line (Pass millis) = (line ≡ codes "wait " ++ decimal millis) × (millis < 2 ^ 32)
 SpellsStep line Tick = line ≡ codes "tick"
+SpellsStep line (Replace number) = (line ≡ codes "replace " ++ decimal number) × (number < 2 ^ 32)
 
 -- these lines spell these steps, each line its own
 abbrev pub SpellSteps : List (List ℕ) → List Step → Type 0

@@ -11,7 +11,7 @@ use Rattle.ddt_text.specs.FirstFault.{locator_in, number_in}
 use Rattle.ddt_config.specs.declared.fault.ConfigFault.{ConfigFault}
 use Rattle.ddt_config.specs.declared.fault.ConfigFault.TheVariants.{Toml, Shape, Memory}
 use Rattle.ddt_config.specs.Table.{Outline, config_in_text}
-use Rattle.ddt_compile.specs.Laws.{HasRoom}
+use Rattle.ddt_compile.specs.laws.Statements.{HasRoom}
 use Rattle.ddt_wires.specs.declared.call.Call.{Call as WireCall}
 use Rattle.ddt_wires.specs.declared.serving.Served.{Served}
 use Rattle.ddt_wires.specs.Calls.{Tells as TellCalls}

@@ -1,14 +1,14 @@
 //! The list of commands. Each is a file of its own.
 
-mod answer;
-mod assign;
-mod check;
-mod compile;
-mod lookup;
-mod looping;
+pub mod answer;
+pub mod assign;
+pub mod check;
+pub mod compile;
+pub mod lookup;
+pub mod looping;
 pub mod replay;
-mod serve;
-mod show;
+pub mod serve;
+pub mod show;
 
 ghost use Rattle.std.specs.Prelude.{◌≡◌, ◌≢◌, IfErr, IfOk, MatchOption};
 ghost use Rattle.std.specs.Fn.{FnReturnsAt as ReturnsAt};

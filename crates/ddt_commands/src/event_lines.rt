@@ -54,6 +54,7 @@ fn event_line(alloc: Global, number: u64, event: &Event) -> Result<Vec<u8>, Allo
         Event::Heard(heard) => heard_line(alloc, number, heard),
         Event::Passed(moment) => number_line(alloc, "now ", moment.millis()),
         Event::Ticked(ticked) => ticked_line(alloc, number, ticked),
+        Event::Replaced(number) => number_line(alloc, "replaced ", *number),
         Event::Nothing => plain_line(alloc, "nothing", ""),
     }
 }

@@ -1,12 +1,13 @@
 //! The program's commands: from the words of a process to what it prints and how it ends, over any files, sockets,
 //! clock and streams.
 //!
-//! In reading order: `running`, `commands` (the list), `over` (commands over a register), `commands/*`, `answering`,
-//! `looking_up`, `script`, `replaying`, `event_lines`, `configuration`, `loopback`, `sockets`, `serving`, `looping`,
-//! `end_lines`, `file`, `lines`, `telling`, `refusal`, `status`.
+//! In reading order: `running`, `calling`, `commands` (the list), `over` (commands over a register), `commands/*`,
+//! `answering`, `looking_up`, `script`, `replaying`, `event_lines`, `configuration`, `loopback`, `sockets`, `serving`,
+//! `looping`, `end_lines`, `file`, `lines`, `telling`, `refusal`, `status`.
 #![tactic(auto)]
 
 mod answering;
+mod calling;
 mod commands;
 mod configuration;
 mod end_lines;
@@ -26,7 +27,17 @@ mod sockets;
 mod status;
 mod telling;
 
-pub use commands::replay::{Replay, run_script};
+pub use answering::{RESOLVER, answer_group, answer_hex};
+pub use calling::read_words;
+pub use commands::answer::run_answer;
+pub use commands::assign::run_assign;
+pub use commands::check::run_check;
+pub use commands::compile::run_compile;
+pub use commands::lookup::run_lookup;
+pub use commands::looping::run_loop;
+pub use commands::replay::{Replay, run_replay, run_script};
+pub use commands::serve::run_serve;
+pub use commands::show::run_show;
 pub use refusal::Refusal;
 pub use running::run;
 pub use status::Status;

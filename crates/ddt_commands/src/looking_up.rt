@@ -16,7 +16,7 @@ use ddt_path::Xeid;
 use ddt_resolver::{Resolver, Why};
 use ddt_sim::{Compiled, Hop, Lookup, LookupError, lookup};
 use ddt_trie::TrieMap;
-use ddt_wire::{read_referral, referral_laws};
+use ddt_wire::read_referral;
 use std::alloc::{AllocError, Global};
 
 /// The servers of a register.
@@ -39,7 +39,6 @@ pub fn look_up(
     ensures sound { (r : Register) → AreCompiled servers.old r → IsSound r resolver.old → IsSound r resolver.new }
     ensures stay { (r : Register) → AreCompiled servers.old r → AreCompiled servers.new r }
 {
-    referral_laws();
     match lookup(alloc, servers, resolver, now, x) {
         Ok(lookup) => Ok(Lines::whole(found_text(alloc, &lookup)?)),
         Err(error) => {

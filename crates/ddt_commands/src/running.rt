@@ -17,14 +17,15 @@ ghost use Rattle.ddt_commands.specs.Sockets.{Binds};
 ghost use Rattle.ddt_commands.specs.Wires.{over_wires};
 ghost use Rattle.ddt_commands.specs.Running.{CallNone, DontCall, HasPartOf, HasRefused, HasText, IsAnswer, IsWhyRefused, StayApart};
 
-use crate::commands::{Command, command_list, lines_of};
+use crate::calling::read_words;
+use crate::commands::{Command, lines_of};
 use crate::refusal::Refusal;
 use crate::status::Status;
 use crate::telling::{answer, refuse, show_usage};
 use ddt_loop::Clock;
 use ddt_path::Locator;
 use ddt_wires::Wires;
-use ddt_words::{Words, WordsFault, read_words};
+use ddt_words::{Words, WordsFault};
 use std::alloc::Global;
 use std::io;
 use std::io::{Read, Write};
@@ -76,7 +77,7 @@ where
     ensures still { DontCall CommandAs.Loop (map string_bytes words.now) → clock.new ≡ clock.old }
     ensures streams { StayApart result (out.new ≡ out.old) (err.new ≡ err.old) }
 {
-    match read_words(alloc, command_list(), words) {
+    match read_words(alloc, words) {
         Ok(words) => match Command::of(words.command()) {
             Some(command) => {
                 run_command(

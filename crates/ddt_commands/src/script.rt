@@ -35,8 +35,8 @@ impl From<AllocError> for ScriptFault {
     }
 }
 
-/// The steps that the lines of a script spell, in order: `ask XEID`, `deliver K`, `wait MS`, `tick`, where K and MS are
-/// numbers up to 4294967295 without leading zeros. The first line that is none of these is refused.
+/// The steps that the lines of a script spell, in order: `ask XEID`, `deliver K`, `wait MS`, `tick`, `replace K`, where
+/// K and MS are numbers up to 4294967295 without leading zeros. The first line that is none of these is refused.
 pub fn read_script(alloc: Global, text: &[u8]) -> Result<Vec<Step>, ScriptFault>
     ensures spelled { IfOk result (λ steps. SpellsScript text.now steps.items) }
     ensures refused { (number : ℕ) → result ≡ Err (fault_as.Line number) → IsRefusedAt text.now number }
@@ -77,6 +77,10 @@ fn read_step(line: &[u8]) -> Option<Step>
     if let Some(text) = behind(line, "wait ") {
         let millis = read_number(text, MOST)?;
         return Some(Step::Pass(millis));
+    }
+    if let Some(text) = behind(line, "replace ") {
+        let number = read_number(text, MOST)?;
+        return Some(Step::Replace(number));
     }
     if line == b"tick".as_slice() {
         return Some(Step::Tick);

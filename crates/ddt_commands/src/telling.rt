@@ -26,7 +26,7 @@ pub const USAGE: &str = "usage: ddt answer REGISTER GROUP XEID
        ddt compile REGISTER GROUP
        ddt loop REGISTER XEID... [--me ADDRESS] [--seed N] [--turns N]
        ddt lookup REGISTER XEID... [--me ADDRESS] [--seed N]
-       ddt replay REGISTER SCRIPT [--me ADDRESS] [--seed N]
+       ddt replay REGISTER SCRIPT [REGISTER...] [--me ADDRESS] [--seed N]
        ddt serve CONFIG ADDRESS TURNS
        ddt show HEX
 ";

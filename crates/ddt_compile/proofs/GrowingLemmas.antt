@@ -9,8 +9,8 @@ use Rattle.std.specs.BTreeMap.{BTreeMap, is_at}
 use Rattle.std.specs.Global.{Vec}
 use Rattle.ddt_path.specs.Covers.{is_same_path}
 use Rattle.ddt_compile.specs.Lists.{list_at}
-use Rattle.ddt_path.proofs.CoverLemmas.{same_path}
-use Rattle.ddt_path.proofs.FilterLemmas.{one_made, none_made}
+use Rattle.ddt_path.specs.laws.Cover.{same_path}
+use Rattle.ddt_path.specs.laws.Filter.{one_made, none_made}
 
 -- no list is at a key of an empty map
 pub list_at-empty : {V : Type 0} (lists : BTreeMap (List ℕ) (Vec V)) (key : List ℕ) → lists.entries ≡ [] → list_at (slice_cmp nat_cmp) lists key ≡ []

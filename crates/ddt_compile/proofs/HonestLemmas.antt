@@ -14,9 +14,9 @@ use Rattle.ddt_path.specs.Records.{record_of, not_authoritative}
 use Rattle.ddt_path.specs.Free.{hole_of}
 use Rattle.ddt_path.specs.Matching.{longest_match}
 use Rattle.ddt_path.specs.Locators.{lists}
-use Rattle.ddt_path.proofs.HoleLemmas.{free_agree}
-use Rattle.ddt_path.proofs.CoverLemmas.{covers_trans}
-use Rattle.ddt_path.proofs.FrontLemmas.{below_parts}
+use Rattle.ddt_path.specs.laws.Hole.{free_agree}
+use Rattle.ddt_path.specs.laws.Cover.{covers_trans}
+use Rattle.ddt_path.specs.laws.Front.{below_parts}
 use Rattle.ddt_register.specs.declared.zone.Zone.{Zone}
 use Rattle.ddt_register.specs.declared.site.Site.{Site}
 use Rattle.ddt_register.specs.declared.group.Group.{Group}
@@ -25,7 +25,7 @@ use Rattle.ddt_check.specs.Zones.{site_of, locators_of}
 use Rattle.ddt_check.specs.Assignment.{assignment, assigned_in, assigned_site, prefixes_below, prefixes_below_site, prefixes_within}
 use Rattle.ddt_check.specs.Says.{next_zone, says, says_from, referral_to as referral_to_zone}
 use Rattle.ddt_check.specs.Rules.{IsAccepted}
-use Rattle.ddt_check.proofs.ZoneLemmas.{zone_prefix, site_prefix}
+use Rattle.ddt_check.specs.laws.Zone.{zone_prefix, site_prefix}
 use Rattle.ddt_config.specs.declared.authority.Authority.{Authority}
 use Rattle.ddt_config.specs.declared.authority.Content.TheVariants.{Children, Sites}
 use Rattle.ddt_config.specs.declared.child.Child.{Child}
@@ -36,15 +36,15 @@ use Rattle.ddt_config.specs.Answer.{answer, answer_in, referral_to, site_outcome
 use Rattle.ddt_check.specs.Zones.{is_direct_child}
 use Rattle.ddt_compile.specs.GroupConfig.{child_of, children_of, entry_of, sites_of, content_of, authority_of, group_config}
 use Rattle.ddt_check.specs.Zones.{is_site_in, is_served_by}
-use Rattle.ddt_compile.specs.Laws.{IsHonestConfig}
-use Rattle.ddt_path.proofs.MemberLemmas.{IsIn, all_made}
+use Rattle.ddt_compile.specs.laws.Statements.{IsHonestConfig}
+use Rattle.ddt_path.specs.laws.Member.{IsIn, all_made}
 use Rattle.ddt_path.specs.declared.matching.Preference.TheVariants.{Longest}
-use Rattle.ddt_check.proofs.ServedLemmas.{locators_of_zone, group_serves}
-use Rattle.ddt_check.proofs.NextLemmas.{assigned_here}
-use Rattle.ddt_check.proofs.ChildLemmas.{longest_child, same_free}
-use Rattle.ddt_check.proofs.SiteLemmas.{no_next_zone, longest_site, site_inside}
-use Rattle.ddt_path.proofs.FilterLemmas.{in_filter, kept_by_both}
-use Rattle.ddt_path.proofs.MatchingLemmas.{best_member, best_match-map}
+use Rattle.ddt_check.specs.laws.Served.{locators_of_zone, group_serves}
+use Rattle.ddt_check.specs.laws.Next.{assigned_here}
+use Rattle.ddt_check.specs.laws.Child.{longest_child, same_free}
+use Rattle.ddt_check.specs.laws.Site.{no_next_zone, longest_site, site_inside}
+use Rattle.ddt_path.specs.laws.Filter.{in_filter, kept_by_both}
+use Rattle.ddt_path.specs.laws.Matching.{best_member, best_match-map}
 
 -- ---- a zone of DDT nodes
 

@@ -5,5 +5,4 @@ pub mod HonestLemmas
 pub mod RoomLemmas
 pub mod NoTwoLemmas
 pub mod ContentLemmas
-pub mod NamedLemmas
 pub mod SortedLemmas

@@ -5,7 +5,7 @@ use Rattle.std.specs.FinMap.{FinMap, contains_key}
 use Rattle.std.proofs.lemmas.Bool.{cases_lt, and_parts, and_from, both_ways, not_from_false, false_from_ne_true}
 use Rattle.ddt_path.specs.declared.record.Role.TheVariants.{Ms}
 use Rattle.ddt_path.specs.Covers.{covers, is_same_path, is_strictly_below}
-use Rattle.ddt_path.proofs.CoverLemmas.{path_itself, covers_self, length-covered, same_path}
+use Rattle.ddt_path.specs.laws.Cover.{path_itself, covers_self, length-covered, same_path}
 use Rattle.ddt_register.specs.declared.zone.Zone.{Zone}
 use Rattle.ddt_trie.specs.PrefixMap.{path_cmp}
 use Rattle.ddt_register.specs.declared.site.Site.{Site}
@@ -14,10 +14,10 @@ use Rattle.ddt_check.specs.Rules.{IsAccepted}
 use Rattle.ddt_check.specs.Zones.{is_between, is_direct_child}
 use Rattle.ddt_check.specs.Zones.{is_site_in}
 use Rattle.ddt_compile.specs.Nearest.{HasPrefixesOf, IsAbove}
-use Rattle.ddt_path.proofs.MemberLemmas.{IsIn, any_in, in_any, fails_at, none_of, iff_same}
-use Rattle.ddt_path.proofs.FrontLemmas.{one_front, front_below, below_parts}
-use Rattle.ddt_check.proofs.ChildLemmas.{child_parts}
-use Rattle.ddt_check.proofs.SiteLemmas.{no_longer_zone}
+use Rattle.ddt_path.specs.laws.Member.{IsIn, any_in, in_any, fails_at, none_of, iff_same}
+use Rattle.ddt_path.specs.laws.Front.{one_front, front_below, below_parts}
+use Rattle.ddt_check.specs.laws.Child.{child_parts}
+use Rattle.ddt_check.specs.laws.Site.{no_longer_zone}
 
 module _ (prefixes : FinMap path_cmp ℕ) (r : Register) (are_kept : HasPrefixesOf prefixes r.zones) where
   kept_zone : (z : Zone) → IsIn z r.zones → contains_key prefixes z.prefix ≡ true

@@ -1,11 +1,11 @@
 -- Items of which no two clash, in rows that rise.
 use Rattle.std.proofs.Common.{◌≡◌, ℕ, ◌<◌, Bool, true, false, List, [], ◌∷◌, map, refl, ◌∙◌, inl, inr}
 use Rattle.std.specs.List.{filter}
-use Rattle.ddt_path.proofs.MemberLemmas.{IsIn, none_of}
+use Rattle.ddt_path.specs.laws.Member.{IsIn, none_of}
 use Rattle.ddt_register.specs.Rows.{rise}
-use Rattle.ddt_register.proofs.RisingLemmas.{rise_parts, above, rise-filter}
+use Rattle.ddt_register.specs.laws.Rising.{rise_parts, above, rise-filter}
 use Rattle.ddt_config.specs.Shaped.{no_two}
-use Rattle.ddt_config.proofs.NeighbourLemmas.{no_two-map}
+use Rattle.ddt_config.specs.laws.Neighbour.{no_two-map}
 
 -- of items in rising rows none clashes with a later one, if none clashes with one of a higher row
 no_two_rising : {A : Type 0} (row : A → ℕ) (clash : A → A → Bool) (xs : List A) (last : ℕ) → rise last (map row xs) ≡ true

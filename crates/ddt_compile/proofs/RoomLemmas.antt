@@ -18,15 +18,15 @@ use Rattle.ddt_config.specs.Entries.{prefixes_in, count_in}
 use Rattle.ddt_check.specs.Zones.{is_direct_child}
 use Rattle.ddt_compile.specs.GroupConfig.{child_of, children_of, entry_of, sites_of, content_of, authority_of, group_config}
 use Rattle.ddt_check.specs.Zones.{is_site_in, is_served_by}
-use Rattle.ddt_compile.specs.Laws.{HasRoom}
-use Rattle.ddt_path.proofs.MemberLemmas.{IsIn, all_made}
-use Rattle.ddt_register.proofs.RisingLemmas.{rise-filter}
-use Rattle.ddt_register.proofs.RisingLemmas.{zones_rise, sites_rise}
-use Rattle.ddt_check.proofs.KeptLemmas.{role_of_zone}
-use Rattle.ddt_check.proofs.ChildLemmas.{one_parent}
-use Rattle.ddt_check.proofs.HolderLemmas.{one_holder}
-use Rattle.ddt_register.proofs.CountLemmas.{few_rows, filter_few, sum_made, kept_in_all}
-use Rattle.ddt_path.proofs.FilterLemmas.{in_filter}
+use Rattle.ddt_compile.specs.laws.Statements.{HasRoom}
+use Rattle.ddt_path.specs.laws.Member.{IsIn, all_made}
+use Rattle.ddt_register.specs.laws.Rising.{rise-filter}
+use Rattle.ddt_register.specs.laws.Rising.{zones_rise, sites_rise}
+use Rattle.ddt_check.specs.laws.Kept.{role_of_zone}
+use Rattle.ddt_check.specs.laws.Child.{one_parent}
+use Rattle.ddt_check.specs.laws.Holder.{one_holder}
+use Rattle.ddt_register.specs.laws.Count.{few_rows, filter_few, sum_made, kept_in_all}
+use Rattle.ddt_path.specs.laws.Filter.{in_filter}
 
 -- what the authorities of a group hold
 child_count : (r : Register) (z : Zone) → length (prefixes_in (content_of r z Node)) ≡ length (filter (is_direct_child r z) r.zones)

@@ -10,17 +10,17 @@ use Rattle.ddt_register.specs.declared.group.Group.{Group}
 use Rattle.ddt_register.specs.declared.register.Register.{Register}
 use Rattle.ddt_check.specs.Zones.{locators_of}
 use Rattle.ddt_check.specs.Rules.{IsAccepted}
-use Rattle.ddt_check.specs.Laws.{AreServers}
+use Rattle.ddt_check.specs.laws.Statements.{AreServers}
 use Rattle.ddt_config.specs.Shaped.{is_server_set, is_child_of, is_site_of, is_content_of, is_authority_of, is_shaped}
 use Rattle.ddt_check.specs.Zones.{is_direct_child}
 use Rattle.ddt_compile.specs.GroupConfig.{child_of, entry_of, content_of, authority_of, authorities_of}
 use Rattle.ddt_check.specs.Zones.{is_site_in, is_served_by}
-use Rattle.ddt_path.proofs.MemberLemmas.{IsIn}
-use Rattle.ddt_register.proofs.RisingLemmas.{zones_rise, sites_rise}
-use Rattle.ddt_check.proofs.KeptLemmas.{own_prefix, own_site, few_etrs, role_of_zone, server_set, servers_of_zone}
-use Rattle.ddt_check.proofs.ChildLemmas.{child_parts, children_apart}
+use Rattle.ddt_path.specs.laws.Member.{IsIn}
+use Rattle.ddt_register.specs.laws.Rising.{zones_rise, sites_rise}
+use Rattle.ddt_check.specs.laws.Kept.{own_prefix, own_site, few_etrs, role_of_zone, server_set, servers_of_zone}
+use Rattle.ddt_check.specs.laws.Child.{child_parts, children_apart}
 use Rattle.ddt_compile.proofs.NoTwoLemmas.{no_two_kept}
-use Rattle.ddt_path.proofs.FilterLemmas.{in_filter, all_kept}
+use Rattle.ddt_path.specs.laws.Filter.{in_filter, all_kept}
 
 -- the locators of a group, and of a zone's group
 as_set : (ls : List Locator) → AreServers ls → is_server_set ls ≡ true

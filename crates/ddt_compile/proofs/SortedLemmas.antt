@@ -7,18 +7,18 @@ use Rattle.std.specs.Cmp.Lexicographic.{slice_cmp}
 use Rattle.std.proofs.lemmas.Bool.{cases_lt, false≢true, and_parts, and_from, both_ways, not_from_false, false_from_ne_true}
 use Rattle.std.proofs.lemmas.List.{get_or_default}
 use Rattle.ddt_path.specs.Covers.{covers, is_strictly_below}
-use Rattle.ddt_path.proofs.CoverLemmas.{below_from, below_is, below_wider}
-use Rattle.ddt_path.proofs.MemberLemmas.{IsIn, placed, placed_in, any_in, in_any}
+use Rattle.ddt_path.specs.laws.Cover.{below_from, below_is, below_wider}
+use Rattle.ddt_path.specs.laws.Member.{IsIn, placed, placed_in, any_in, in_any}
 use Rattle.ddt_register.specs.declared.zone.Zone.{Zone}
 use Rattle.ddt_register.specs.declared.register.Register.{Register}
 use Rattle.ddt_check.specs.Order.{IsInOrder}
-use Rattle.ddt_check.proofs.BelowLemmas.{is_under}
-use Rattle.ddt_path.proofs.FilterLemmas.{none_later, none_first}
-use Rattle.ddt_path.proofs.PathOrderLemmas.{IsUpTo, covers-between, covers-back, le-is, not_lt-from_not_le, below_behind}
-use Rattle.ddt_check.proofs.OrderLemmas.{far}
-use Rattle.ddt_check.proofs.OutsideLemmas.{is_up_to}
+use Rattle.ddt_check.specs.laws.Below.{is_under}
+use Rattle.ddt_path.specs.laws.Filter.{none_later, none_first}
+use Rattle.ddt_path.specs.laws.PathOrder.{IsUpTo, covers-between, covers-back, le-is, not_lt-from_not_le, below_behind}
+use Rattle.ddt_check.specs.laws.Order.{far}
+use Rattle.ddt_check.specs.laws.Outside.{is_up_to}
 use Rattle.ddt_check.specs.Zones.{is_between, is_direct_child}
-use Rattle.ddt_check.proofs.ChildLemmas.{child_parts, child_above}
+use Rattle.ddt_check.specs.laws.Child.{child_parts, child_above}
 
 -- ---- a walk over zones in order
 

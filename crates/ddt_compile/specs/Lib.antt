@@ -1,5 +1,5 @@
 pub mod GroupConfig
-pub mod Laws
 pub mod Lists
 pub mod Nearest
 pub mod Sorted
+pub mod laws

@@ -11,7 +11,7 @@ ghost use Rattle.ddt_config.specs.declared.authority.Content.TheVariants.{Childr
 ghost use Rattle.ddt_config.specs.Shaped.{is_shaped};
 ghost use Rattle.ddt_config.specs.Table.{outline};
 ghost use Rattle.ddt_compile.specs.GroupConfig.{group_config as group_config_of, config_named, children_of, authorities_of as authorities_of_group_of};
-ghost use Rattle.ddt_compile.specs.Laws.{IsHonestConfig, HasRoom};
+ghost use Rattle.ddt_compile.specs.laws.Statements.{IsHonestConfig, HasRoom};
 ghost use Rattle.ddt_compile.specs.Lists.{list_at};
 ghost use Rattle.ddt_compile.specs.Sorted.{AreSortedOf, HasLocatorsOf};
 

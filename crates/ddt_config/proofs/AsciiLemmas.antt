@@ -9,7 +9,7 @@ use Rattle.std.proofs.lemmas.Fmt.{IsAscii-decimal}
 use Rattle.std.proofs.lemmas.Bool.{and_parts}
 use Rattle.std.proofs.lemmas.Bool.Decides.{nat_tests}
 use Rattle.std.proofs.lemmas.List.Sums.{AllPass-from_list_all}
-use Rattle.ddt_path.proofs.PrefixLemmas.{width_most}
+use Rattle.ddt_path.specs.laws.Prefix.{width_most}
 use Rattle.ddt_path.specs.declared.locator.Locator.{Locator}
 use Rattle.ddt_path.specs.declared.form.Form.{Form}
 use Rattle.ddt_path.specs.declared.form.Form.TheVariants.{Range, Block}
@@ -18,9 +18,9 @@ use Rattle.ddt_path.specs.Path.{path, IsForm}
 use Rattle.ddt_path.specs.FormLemmas.{form_of-path}
 use Rattle.ddt_text.specs.Grammar.{SpellsLocator}
 use Rattle.ddt_text.specs.Written.{written_locator, written_form, written_prefix}
-use Rattle.ddt_text.proofs.ByteLemmas.{ArePlain}
-use Rattle.ddt_text.proofs.AddressLemmas.{plain-locator}
-use Rattle.ddt_text.proofs.WrittenLemmas.{written_locator-spells}
+use Rattle.ddt_text.specs.laws.Byte.{ArePlain}
+use Rattle.ddt_text.specs.laws.Address.{plain-locator}
+use Rattle.ddt_text.specs.laws.Written.{written_locator-spells}
 
 ascii_plain : (low : ℕ) (bytes : List ℕ) → ArePlain low bytes → IsAscii bytes
 ascii_plain low [] h = IsAscii-nil

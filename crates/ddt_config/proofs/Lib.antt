@@ -2,5 +2,3 @@ pub mod RoomLemmas
 pub mod StandsLemmas
 pub mod WriteLemmas
 pub mod AsciiLemmas
-pub mod SameLemmas
-pub mod NeighbourLemmas

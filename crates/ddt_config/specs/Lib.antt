@@ -5,4 +5,4 @@ pub mod Reading
 pub mod Writing
 pub mod Entries
 pub mod Stands
-pub mod Laws
+pub mod laws

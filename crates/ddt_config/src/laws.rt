@@ -1,6 +1,6 @@
 //! What holds of every table: the function is a law of the definitions, and does nothing.
 
-ghost use Rattle.ddt_config.specs.Laws.{TablesAreRead};
+ghost use Rattle.ddt_config.specs.laws.Statements.{TablesAreRead};
 
 /// A table is read as an outline if and only if each of its keys holds what the outline says, whichever is examined
 /// first, and the outline is shaped.

@@ -6,4 +6,4 @@ pub mod IpHeader
 pub mod EcmHeader
 pub mod MapRequest
 pub mod Request
-pub mod Laws
+pub mod laws

@@ -22,7 +22,7 @@
 
 ghost use Rattle.std.specs.Prelude.{◌≡◌, ◌≤◌, length, OnOk, IfOk};
 ghost use Rattle.ddt_path.specs.FormOf.{form_of};
-ghost use Rattle.ddt_ecm.specs.Laws.{IsRequest};
+ghost use Rattle.ddt_ecm.specs.laws.Statements.{IsRequest};
 ghost use Rattle.ddt_ecm.specs.MapRequest.{written_map_request, lcaf_at, source_at, host_of, xeid_at, head_at, map_request_at};
 
 use crate::fault::RequestFault;

@@ -15,7 +15,7 @@
 
 ghost use Rattle.std.specs.Prelude.{◌≡◌, ◌≤◌, length, Ok, IfOk};
 ghost use Rattle.ddt_ecm.specs.Request.{Message, Spells, message_in, written};
-ghost use Rattle.ddt_ecm.specs.Laws.{message_of};
+ghost use Rattle.ddt_ecm.specs.laws.Statements.{message_of};
 
 use crate::ecm_header::{D_SHIFT, ecm_header, read_ecm};
 use crate::fault::RequestFault;

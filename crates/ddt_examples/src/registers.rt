@@ -15,6 +15,30 @@ site,[0]10.1.2.0/24,,127.0.2.1
 site,[0]10.1.4.0/24,,
 "#;
 
+/// The campus with a zone more: `examples/campus_grown.csv`.
+pub const CAMPUS_GROWN: &str = r#"kind,prefix,group,addresses
+group-node,,root,127.0.0.1
+group-node,,ten,127.0.0.10
+group-ms,,east,127.0.1.1 127.0.1.2
+node,*,root,
+node,[0]10.0.0.0/8,ten,
+ms,[0]10.1.0.0/16,east,
+site,[0]10.1.2.0/24,,127.0.2.1
+site,[0]10.1.4.0/24,,
+group-node,,far,127.0.0.9
+node,[0]10.2.0.0/16,far,
+"#;
+
+/// Node zones alone; that of `ten` is wider than in the campus: `examples/wider_zone.csv`.
+pub const WIDER_ZONE: &str = r#"kind,prefix,group,addresses
+group-node,,root,127.0.0.1
+group-node,,ten,127.0.0.10
+group-node,,far,127.0.0.9
+node,*,root,
+node,[0]10.0.0.0/7,ten,
+node,[0]10.0.0.0/8,far,
+"#;
+
 /// The campus with a site inside each of its two sites: `examples/nested_sites.csv`.
 pub const NESTED_SITES: &str = r#"kind,prefix,group,addresses
 group-node,,root,127.0.0.1

@@ -1,4 +1,4 @@
-//! Scripts of replays over the campus, each with the lines that it prints.
+//! Scripts of replays, each with the lines that it prints.
 
 /// Two lookups at once, with a reply that is repeated, one that is late, and a second try:
 /// `examples/replays/interleaved.replay`.
@@ -101,4 +101,62 @@ now 4000
 ticket 1 sent 6 to 127.0.1.2
 reply 7
 ticket 1 answer registered [0]10.1.2.0/24 127.0.1.1 127.0.1.2
+"#;
+
+/// A zone comes and goes while its identifier is looked up, over the campus and the grown campus:
+/// `examples/replays/zone_comes_and_goes.replay`.
+pub const ZONE_COMES_AND_GOES: &str = r#"ask [0]10.2.0.1
+deliver 0
+deliver 1
+replace 1
+deliver 2
+deliver 3
+replace 0
+deliver 4
+wait 2000
+tick
+replace 1
+deliver 5
+deliver 6
+replace 0
+ask [0]10.2.0.1
+replace 9
+"#;
+
+/// What it prints: `examples/replays/zone_comes_and_goes.lines`.
+pub const ZONE_COMES_AND_GOES_LINES: &str = r#"ticket 1 sent 0 to 127.0.0.1
+reply 1
+ticket 1 sent 2 to 127.0.0.10
+replaced 1
+reply 3
+ticket 1 sent 4 to 127.0.0.9
+replaced 0
+silent
+now 2000
+ticket 1 sent 5 to 127.0.0.9
+replaced 1
+reply 6
+ticket 1 answer hole [0]10.2.0.0/16
+replaced 0
+answer hole [0]10.2.0.0/16
+nothing
+"#;
+
+/// A zone gets wider, over the campus and the register with the wider zone, and its servers refer upwards:
+/// `examples/replays/zone_gets_wider.replay`.
+pub const ZONE_GETS_WIDER: &str = r#"ask [0]10.2.0.1
+deliver 0
+deliver 1
+replace 1
+deliver 2
+deliver 3
+"#;
+
+/// What it prints: `examples/replays/zone_gets_wider.lines`.
+pub const ZONE_GETS_WIDER_LINES: &str = r#"ticket 1 sent 0 to 127.0.0.1
+reply 1
+ticket 1 sent 2 to 127.0.0.10
+replaced 1
+reply 3
+ticket 1 gave-up Loop
 "#;

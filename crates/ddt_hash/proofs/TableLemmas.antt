@@ -13,9 +13,9 @@ use Rattle.std.proofs.lemmas.List.{length-take-le, get_or_default}
 use Rattle.std.proofs.Math.Nat.{eq-or-lt_of_le}
 use Rattle.std.proofs.lemmas.Bool.{eqb-true, false≢true}
 use Rattle.ddt_path.specs.Covers.{covers, is_same_path}
-use Rattle.ddt_path.proofs.CoverLemmas.{same_path, path_itself, front_covered, take-covered, length-covered}
+use Rattle.ddt_path.specs.laws.Cover.{same_path, path_itself, front_covered, take-covered, length-covered}
 use Rattle.ddt_trie.specs.PrefixMap.{path_cmp, IsLongest}
-use Rattle.ddt_trie.proofs.MapLemmas.{get-insert_same, get-insert_other}
+use Rattle.ddt_trie.specs.laws.Map.{get-insert_same, get-insert_other}
 use Rattle.ddt_hash.specs.declared.table.Table.{Table}
 use Rattle.ddt_hash.specs.Key.{is_same_key, key_of}
 use Rattle.ddt_hash.specs.Table.{is_length, IsTableOf}

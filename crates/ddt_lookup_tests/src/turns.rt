@@ -1,7 +1,8 @@
 //! Worked runs over the campus, by wires in memory.
 
 mod clocks;
+mod crowd;
 mod ends;
 mod fairness;
-mod loopback;
+pub mod loopback;
 mod runs;

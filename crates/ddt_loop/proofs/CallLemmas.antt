@@ -10,8 +10,8 @@ use Rattle.ddt_path.specs.declared.record.Outcome.{Outcome}
 use Rattle.ddt_path.specs.declared.xeid.Xeid.{Xeid}
 use Rattle.ddt_path.specs.Path.{xeid_path}
 use Rattle.ddt_path.specs.Locators.{lists, is_same_locator}
-use Rattle.ddt_path.proofs.LocatorLemmas.{is_same_locator_self}
-use Rattle.ddt_path.proofs.MemberLemmas.{in_get, fails_at}
+use Rattle.ddt_path.specs.laws.Locator.{is_same_locator_self}
+use Rattle.ddt_path.specs.laws.Member.{in_get, fails_at}
 use Rattle.ddt_register.specs.declared.register.Register.{Register}
 use Rattle.ddt_check.specs.Assignment.{assignment}
 use Rattle.ddt_wires.specs.declared.call.Call.{Call}

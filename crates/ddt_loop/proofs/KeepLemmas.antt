@@ -31,10 +31,10 @@ use Rattle.ddt_resolver.specs.State.{State, moved, numbered, request, request_by
 use Rattle.ddt_resolver.specs.Step as resolver
 use Rattle.ddt_resolver.specs.Step.{Ask, Hear, Tick, Reply, ToAsk, ToDatagram, ToTick, Step, Wants}
 use Rattle.ddt_resolver.specs.Order.{IsInOrder}
-use Rattle.ddt_resolver.proofs.NumberMapLemmas.{found_insert, found_remove, get-insert_same}
-use Rattle.ddt_resolver.proofs.OrderLemmas.{order_after, order_moved}
-use Rattle.ddt_resolver.proofs.ShapeLemmas.{Move, stays, opens, sends, drops, IsQuiet, Goes, anew, keeps, repeats, goes_on, moved_by_step}
-use Rattle.ddt_resolver.proofs.ShapeLemmas as shape
+use Rattle.ddt_resolver.specs.laws.NumberMap.{found_insert, found_remove, get-insert_same}
+use Rattle.ddt_resolver.specs.laws.Order.{order_after, order_moved}
+use Rattle.ddt_resolver.specs.laws.Shape.{Move, stays, opens, sends, drops, IsQuiet, Goes, anew, keeps, repeats, goes_on, moved_by_step}
+use Rattle.ddt_resolver.specs.laws.Shape as shape
 use Rattle.ddt_sim.specs.Sound.{IsSound, IsFair as IsFairCall, IsRight, IsRightAsked, IsRightHeard, IsRightTicked, IsRightEnd as IsRightOutcome, IsRightWhy, StepsKeepSoundness, TimeKeepsSoundness}
 use Rattle.ddt_loop.specs.declared.acting.Next.{Next}
 use Rattle.ddt_loop.specs.declared.acting.Next.TheVariants as next_as
@@ -43,7 +43,7 @@ use Rattle.ddt_loop.specs.declared.owner.Asker.TheVariants.{Identifier, Itr}
 use Rattle.ddt_loop.specs.declared.owner.Owner.{Owner}
 use Rattle.ddt_loop.specs.Askers.{Desk, owner_of, end_of, Takes, nobody, somebody, AreApart, AreOwners}
 use Rattle.ddt_loop.specs.Acts.{Running, running, Starts, Asks, answered, refused, lacks_memory, remembered, GoesOn, Settles, IsTold, next_of, after_heard, after_ticked}
-use Rattle.ddt_sim.proofs.TicketLemmas.{goes_on_reply}
+use Rattle.ddt_sim.specs.laws.Ticket.{goes_on_reply}
 use Rattle.ddt_loop.specs.Right.{WasAsked, IsRightEnd, Owes, forgotten}
 use Rattle.ddt_loop.proofs.OwnerLemmas.{all_without, all_at, others_differ}
 use Rattle.ddt_loop.proofs.PendingLemmas.{carried, end_next, owners_go_on, owners_start, started, moved_owners}

@@ -22,10 +22,10 @@ use Rattle.ddt_resolver.specs.State.{State, moved, request, numbered}
 use Rattle.ddt_resolver.specs.Step as resolver
 use Rattle.ddt_resolver.specs.Step.{Ask, Reply, ToAsk, ToDatagram, ToTick, Step}
 use Rattle.ddt_resolver.specs.Order.{IsInOrder}
-use Rattle.ddt_resolver.proofs.NumberMapLemmas.{get-insert_same}
-use Rattle.ddt_resolver.proofs.ShapeLemmas.{Move, stays, opens, sends, drops, IsQuiet, End, Gives, Fails, moved_by_step}
-use Rattle.ddt_resolver.proofs.ShapeLemmas as shape
-use Rattle.ddt_resolver.proofs.OrderLemmas.{order_after}
+use Rattle.ddt_resolver.specs.laws.NumberMap.{get-insert_same}
+use Rattle.ddt_resolver.specs.laws.Shape.{Move, stays, opens, sends, drops, IsQuiet, End, Gives, Fails, moved_by_step}
+use Rattle.ddt_resolver.specs.laws.Shape as shape
+use Rattle.ddt_resolver.specs.laws.Order.{order_after}
 use Rattle.ddt_loop.specs.declared.acting.Next.{Next}
 use Rattle.ddt_loop.specs.declared.acting.Next.TheVariants as next_as
 use Rattle.ddt_loop.specs.declared.owner.Asker.{Asker}
@@ -33,7 +33,7 @@ use Rattle.ddt_loop.specs.declared.owner.Asker.TheVariants as asker_as
 use Rattle.ddt_loop.specs.declared.owner.Owner.{Owner}
 use Rattle.ddt_loop.specs.Askers.{Desk, owner_of, with_owner, Takes, nobody, somebody, AreApart, AreOwners}
 use Rattle.ddt_loop.specs.Acts.{Starts, HasRoomFor, GoesOn, next_of, IsTold}
-use Rattle.ddt_sim.proofs.TicketLemmas.{goes_on_reply}
+use Rattle.ddt_sim.specs.laws.Ticket.{goes_on_reply}
 use Rattle.ddt_loop.proofs.OwnerLemmas.{all_without, apart_push, apart_without, others_differ, few_owners, get_insert_other, get_remove_other, some_of}
 
 -- what tells that a lookup has ended

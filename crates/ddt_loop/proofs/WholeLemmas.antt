@@ -16,8 +16,8 @@ use Rattle.ddt_sim.specs.Schedules.{StartsSound}
 use Rattle.ddt_sim.specs.Sound.{IsSound, StepsKeepSoundness, TimeKeepsSoundness}
 use Rattle.ddt_loop.specs.declared.ends.LoopEnd.{LoopEnd}
 use Rattle.ddt_cache.specs.Moment.{last_moment}
-use Rattle.ddt_wires.proofs.TellLemmas.{tells_both}
-use Rattle.ddt_wires.proofs.TellLemmas.{tells_both}
+use Rattle.ddt_wires.specs.laws.Tell.{tells_both}
+use Rattle.ddt_wires.specs.laws.Tell.{tells_both}
 use Rattle.ddt_loop.specs.Askers.{Desk, opening_desk, has_unresolved}
 use Rattle.ddt_loop.specs.Acts.{Running, running}
 use Rattle.ddt_loop.specs.Turns.{HaveAsked, TurnsWithin, IsLoop}

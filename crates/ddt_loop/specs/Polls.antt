@@ -1,7 +1,6 @@
 -- A poll of one socket, and what is done with the packet that comes.
 use Rattle.std.specs.Prelude.{ℕ, ◌≡◌, ◌≢◌, ◌/◌, ◌==◌, Bool, true, false, List, [], ◌∷◌, slice_get, Option, Some, None, Result, Ok, Err, zero, suc}
 use Rattle.ddt_path.specs.declared.locator.Locator.{Locator}
-use Rattle.ddt_register.specs.declared.register.Register.{Register}
 use Rattle.ddt_config.specs.Table.{Outline}
 use Rattle.ddt_wires.specs.declared.call.Call.{Call}
 use Rattle.ddt_wires.specs.declared.call.Call.TheVariants.{Received}
@@ -12,7 +11,7 @@ use Rattle.ddt_wires.specs.Turns.{AreTried, most_bytes, reply_to}
 use Rattle.ddt_resolver.specs.declared.front.ItrRequest.{ItrRequest}
 use Rattle.ddt_resolver.specs.Front.{IsItrRequest}
 use Rattle.ddt_resolver.specs.Step.{Hear}
-use Rattle.ddt_sim.specs.Compiled.{AreCompiled, reply_at}
+use Rattle.ddt_sim.specs.Compiled.{reply_at}
 use Rattle.ddt_wire.specs.MessageType.{encapsulated}
 use Rattle.ddt_loop.specs.Acts.{Running, AsksForItr, Resolves}
 
@@ -49,18 +48,14 @@ pub data PollsMe (me : Locator) (now : ℕ) (w : Running) (calls : List Call) (n
 
 -- ---- at a server's socket
 
--- what the servers of a register reply at a locator
-abbrev pub IsReply : List Outline → Locator → List ℕ → Option (List ℕ) → Type 0
-IsReply servers at bytes reply = (r : Register) → AreCompiled servers r → reply ≡ reply_at servers at bytes
-
 -- A poll. `served`: the servers' reply, if there is one, is tried to where the packet came from. `out_of_memory`: the
 -- packet is lost.
 pub data PollsServer (servers : List Outline) (at : Locator) (calls : List Call) : Type 0 where
   none_there : calls ≡ polled at (Ok None) [] ∷ [] → PollsServer servers at calls
   failed_there : (fault : NetFault) → calls ≡ polled at (Err fault) [] ∷ [] → PollsServer servers at calls
-  served : (p : Packet) (bytes : List ℕ) (reply : Option (List ℕ)) (tries : List Call) → IsReply servers at bytes reply
-      → AreTried at (reply_to p reply) tries → calls ≡ polled at (Ok (Some p)) bytes ∷ tries
-      → PollsServer servers at calls
+  served : (p : Packet) (bytes : List ℕ) (reply : Option (List ℕ)) (tries : List Call)
+      → reply ≡ reply_at servers at bytes → AreTried at (reply_to p reply) tries
+      → calls ≡ polled at (Ok (Some p)) bytes ∷ tries → PollsServer servers at calls
   out_of_memory : (p : Packet) (bytes : List ℕ) → calls ≡ polled at (Ok (Some p)) bytes ∷ []
       → PollsServer servers at calls
 

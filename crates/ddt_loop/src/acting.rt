@@ -16,7 +16,7 @@ use crate::owner::Asker;
 use ddt_cache::{Entry, Moment};
 use ddt_ecm::CONTROL_PORT;
 use ddt_path::{Locator, Outcome};
-use ddt_resolver::{Heard, Outgoing, Resolver, Ticked, Ticket, Why, itr_request};
+use ddt_resolver::{Front, Heard, Outgoing, Resolver, Ticked, Ticket, Why};
 use ddt_trie::PrefixMap;
 use ddt_wire::ENCAPSULATED;
 use ddt_wires::{Packet, Wires};
@@ -100,7 +100,7 @@ fn take<W: Wires, M: PrefixMap<Entry>>(
     ensures owners { AreOwners resolver.new askers.new.owners }
 {
     if is_encapsulated(bytes) {
-        match itr_request(bytes) {
+        match Front::itr_request(bytes) {
             Some(request) => ask_for_itr(alloc, wires, resolver, me, now, request, askers),
             None => {}
         }

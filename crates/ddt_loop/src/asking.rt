@@ -13,7 +13,7 @@ use crate::ends::end_of_ask;
 use crate::owner::Asker;
 use ddt_cache::{Entry, Moment};
 use ddt_path::{Locator, Outcome, Xeid};
-use ddt_resolver::{AskError, Asked, ItrRequest, Outgoing, Resolver, itr_reply};
+use ddt_resolver::{AskError, Asked, Front, ItrRequest, Outgoing, Resolver};
 use ddt_trie::PrefixMap;
 use ddt_wires::Wires;
 use std::alloc::Global;
@@ -149,7 +149,7 @@ pub(crate) fn reply_to_itr<W: Wires>(
     ensures { (calls : List ACall) × Tells (W.calls wires.old) calls (W.calls wires.new)
         × IsToldItr me outcome.now request.now calls }
 {
-    match itr_reply(alloc, outcome, request) {
+    match Front::itr_reply(alloc, outcome, request) {
         Ok(Some(reply)) => try_to_send(wires, me, &reply),
         Ok(None) => {}
         Err(_refused) => {}

@@ -118,7 +118,7 @@ fn take_turns<W: Wires, C: Clock, N: PrefixMap<u32>, M: PrefixMap<Entry>>(
         × Tells (W.calls wires.old) calls (W.calls wires.new)
         × TurnsWithin servers.old me sockets.now turns (running resolver.old askers.old) moments calls
         (running resolver.new askers.new) }
-    ensures stay { (r : Register) → AreCompiled servers.old r → AreCompiled servers.new r }
+    ensures same { servers.new ≡ servers.old }
 {
     let mut buffer = [0; MOST_BYTES];
     for number in 0..turns {
@@ -160,7 +160,7 @@ fn take_turn<W: Wires, N: PrefixMap<u32>, M: PrefixMap<Entry>>(
         × IsTurn servers.old me sockets.now number now (running resolver.old askers.old) calls
         (running resolver.new askers.new) }
     ensures owners { AreOwners resolver.new askers.new.owners }
-    ensures stay { (r : Register) → AreCompiled servers.old r → AreCompiled servers.new r }
+    ensures same { servers.new ≡ servers.old }
 {
     // Read for its bound: no moment is later than the last.
     let _millis = now.millis();
@@ -191,7 +191,7 @@ fn poll<W: Wires, N: PrefixMap<u32>, M: PrefixMap<Entry>>(
         × Polls servers.old me sockets.now now place (running resolver.old askers.old) calls
         (running resolver.new askers.new) }
     ensures owners { AreOwners resolver.new askers.new.owners }
-    ensures stay { (r : Register) → AreCompiled servers.old r → AreCompiled servers.new r }
+    ensures same { servers.new ≡ servers.old }
 {
     if place == 0 {
         poll_me(alloc, wires, resolver, me, now, askers, buffer);

@@ -1,11 +1,9 @@
 //! The servers' sockets: what comes there is answered (RFC 8111, sections 7.1 and 7.2).
 
 ghost use Rattle.std.specs.Prelude.{◌≡◌, ◌∷◌, List, length, Ok, Some};
-ghost use Rattle.ddt_register.specs.declared.register.Register.{Register};
 ghost use Rattle.ddt_wires.specs.declared.call.Call.{Call as ACall};
 ghost use Rattle.ddt_wires.specs.Calls.{Tells};
 ghost use Rattle.ddt_wires.specs.Turns.{most_bytes};
-ghost use Rattle.ddt_sim.specs.Compiled.{AreCompiled};
 ghost use Rattle.ddt_loop.specs.Polls.{PollsServer, polled};
 
 use ddt_path::Locator;
@@ -25,7 +23,7 @@ pub(crate) fn poll_server<W: Wires, N: PrefixMap<u32>>(
     requires { length buffer.old ≡ most_bytes }
     ensures polls { (calls : List ACall) × Tells (W.calls wires.old) calls (W.calls wires.new)
         × PollsServer servers.old at calls }
-    ensures stay { (r : Register) → AreCompiled servers.old r → AreCompiled servers.new r }
+    ensures same { servers.new ≡ servers.old }
 {
     match wires.receive(at, buffer) {
         Ok(Some(packet)) => {
@@ -50,7 +48,7 @@ fn serve<W: Wires, N: PrefixMap<u32>>(
 )
     ensures serves { (tries : List ACall) × Tells (W.calls wires.old) tries (W.calls wires.new)
         × PollsServer servers.old at (polled at (Ok (Some packet)) bytes.now ∷ tries) }
-    ensures stay { (r : Register) → AreCompiled servers.old r → AreCompiled servers.new r }
+    ensures same { servers.new ≡ servers.old }
 {
     match servers.answer(alloc, at, bytes) {
         Ok(Some(reply)) => {

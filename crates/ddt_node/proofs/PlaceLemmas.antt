@@ -8,18 +8,18 @@ use Rattle.std.specs.FinMap.{FinMap, from_entries, get, contains_key, keys, len,
 use Rattle.std.specs.FinMap.Entries.{is_some-find}
 use Rattle.std.proofs.lemmas.List.{length-map}
 use Rattle.std.proofs.lemmas.Option.{none-some, same_Some, slice_get-map, slice_get_read, slice_get_within}
-use Rattle.ddt_path.proofs.MapSizeLemmas.{len_inserted}
+use Rattle.ddt_path.specs.laws.MapSize.{len_inserted}
 use Rattle.ddt_path.specs.declared.matching.Preference.TheVariants.{Longest}
 use Rattle.ddt_path.specs.Covers.{is_same_path}
 use Rattle.ddt_path.specs.Free.{free}
 use Rattle.ddt_path.specs.Matching.{longest_match}
-use Rattle.ddt_path.proofs.MatchingLemmas.{best_member, best_match-map}
-use Rattle.ddt_path.proofs.MemberLemmas.{IsIn}
+use Rattle.ddt_path.specs.laws.Matching.{best_member, best_match-map}
+use Rattle.ddt_path.specs.laws.Member.{IsIn}
 use Rattle.ddt_trie.specs.PrefixMap.{path_cmp, keys_below, IsCovered, IsLongest}
-use Rattle.ddt_trie.proofs.BelowLemmas.{members_free_below}
-use Rattle.ddt_trie.proofs.EntryLemmas.{tied, get-map_of}
-use Rattle.ddt_trie.proofs.KeyLemmas.{any_same, members_free}
-use Rattle.ddt_trie.proofs.MatchLemmas.{longest_of_entries, no_longest_of_entries}
+use Rattle.ddt_trie.specs.laws.Below.{members_free_below}
+use Rattle.ddt_trie.specs.laws.Entry.{tied, get-map_of}
+use Rattle.ddt_trie.specs.laws.Key.{any_same, members_free}
+use Rattle.ddt_trie.specs.laws.Match.{longest_of_entries, no_longest_of_entries}
 use Rattle.ddt_config.specs.Answer.{strictly_below}
 use Rattle.ddt_node.specs.Places.{numbered, places}
 

@@ -10,7 +10,7 @@ use Rattle.ddt_wire.specs.Referral.{message_of, Message as ReferralMessage}
 use Rattle.ddt_config.specs.Table.{Outline}
 use Rattle.ddt_config.specs.Answer.{answer}
 use Rattle.ddt_ecm.specs.Request.{Message}
-use Rattle.ddt_ecm.proofs.RequestLaws.{message_again}
+use Rattle.ddt_ecm.specs.laws.Request.{message_again}
 use Rattle.ddt_node.specs.declared.handling.Handled.{Handled}
 use Rattle.ddt_node.specs.Server.{IsDdtRequest, HasReply, reply_to, if_ddt, ddt_request}
 

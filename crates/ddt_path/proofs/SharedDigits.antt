@@ -9,7 +9,7 @@ use lib.Bits.{xor_assoc, xor_self, xor_zero_r, xor_zero_l}
 use Rattle.ddt_path.specs.Path.{digits}
 use Rattle.ddt_path.specs.Covers.{shared_len}
 use Rattle.ddt_path.specs.DigitLemmas.{digits-add, length-digits}
-use Rattle.ddt_path.proofs.ShareLemmas.{shared_len-append, shared_len-differ}
+use Rattle.ddt_path.specs.laws.Share.{shared_len-append, shared_len-differ}
 
 same_from_xor : (a b : ℕ) → bit_xor a b ≡ 0 → a ≡ b
 same_from_xor a b e =

@@ -10,3 +10,4 @@ pub mod Slots
 pub mod Locators
 pub mod Actions
 pub mod Records
+pub mod laws

@@ -6,4 +6,6 @@ mod examples;
 #[cfg(test)]
 mod path;
 #[cfg(test)]
+mod refused;
+#[cfg(test)]
 mod text;

@@ -1,10 +1,6 @@
 pub mod RowLemmas
-pub mod RangeLemmas
 pub mod FieldLemmas
 pub mod LocatorLemmas
 pub mod LeftLemmas
 pub mod SpelledLemmas
 pub mod MidwayLemmas
-pub mod RisingLemmas
-pub mod CountLemmas
-pub mod RowOrderLemmas

@@ -5,7 +5,7 @@ use Rattle.std.proofs.lemmas.Bool.{lt-ltb, le-leb, or_parts, ne_eqb, eq-eqb, eqb
 use Rattle.std.proofs.lemmas.List.{drop_more}
 use Rattle.std.specs.Option.{option_map}
 use Rattle.ddt_register.specs.Rows.{rise, has_row, are_apart, first_row}
-use Rattle.ddt_register.proofs.RisingLemmas.{rise_parts}
+use Rattle.ddt_register.specs.laws.Rising.{rise_parts}
 
 pub rise-more : (last row : ℕ) (rows : List ℕ) → last < row → row ≤ 65535 → rise last (row ∷ rows) ≡ rise row rows
 rise-more last row rows lt le = rw (lt-ltb last row lt, le-leb row 65535 le) refl

@@ -14,7 +14,7 @@ use Rattle.ddt_register.specs.declared.fault.ReadFault.TheVariants as Fault
 use Rattle.ddt_register.specs.Rows.{most_rows, rise, are_apart, zone_rows, site_rows, group_rows, are_rows}
 use Rattle.ddt_register.specs.Spelled.{Lists, no_items, items_of, joined, field_of, name_in, empty_in, locators_in, kind_in, group_in, zone_in, site_in, item_in, fields_in, row_in, rows_in, columns_in, spelled}
 use Rattle.ddt_register.proofs.FieldLemmas.{four_fields}
-use Rattle.ddt_register.proofs.RisingLemmas.{rise-lower}
+use Rattle.ddt_register.specs.laws.Rising.{rise-lower}
 use Rattle.ddt_register.proofs.RowLemmas.{rise-more, low_row, are_apart-first, are_apart-skip}
 
 ok_eq : {A : Type 0} (a b : A) → (let r : Result A ReadFault = Ok a in r) ≡ Ok b → a ≡ b

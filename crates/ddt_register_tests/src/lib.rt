@@ -9,4 +9,6 @@ mod compile;
 #[cfg(test)]
 mod config;
 #[cfg(test)]
+mod refused;
+#[cfg(test)]
 mod register;

@@ -9,9 +9,9 @@ use Rattle.ddt_path.specs.declared.action.Action.{Action}
 use Rattle.ddt_path.specs.declared.action.Action.TheVariants.{MsNotRegistered, NotAuthoritative}
 use Rattle.ddt_path.specs.declared.record.ReferralRecord.{ReferralRecord}
 use Rattle.ddt_path.specs.Path.{xeid_path, is_path}
-use Rattle.ddt_path.proofs.CoverLemmas.{length-covered}
+use Rattle.ddt_path.specs.laws.Cover.{length-covered}
 use Rattle.ddt_wire.specs.Referral.{Message, Spells, message_record}
-use Rattle.ddt_wire.proofs.MessageLaws.{messages_are_read}
+use Rattle.ddt_wire.specs.laws.Message.{messages_are_read}
 use Rattle.ddt_resolver.specs.declared.pending.Pending.{Pending}
 use Rattle.ddt_resolver.specs.declared.answers.Outgoing.{Outgoing}
 use Rattle.ddt_resolver.specs.declared.answers.Asked.{Asked}
@@ -27,8 +27,8 @@ use Rattle.ddt_resolver.specs.TakeUp.{IsTaken}
 use Rattle.ddt_resolver.specs.Act as act
 use Rattle.ddt_resolver.specs.Order.{IsLookup, IsInOrder}
 use Rattle.ddt_resolver.specs.Bound.{room, again, measure, StartsWithin, ComesNearer, GoesDown}
-use Rattle.ddt_resolver.proofs.NumberMapLemmas.{get-insert_same}
-use Rattle.ddt_resolver.proofs.ShapeLemmas.{opening_lookup, about_covers, referral_apart, few_servers}
+use Rattle.ddt_resolver.specs.laws.NumberMap.{get-insert_same}
+use Rattle.ddt_resolver.specs.laws.Shape.{opening_lookup, about_covers, referral_apart, few_servers}
 
 -- ---- one lookup
 
@@ -83,7 +83,7 @@ module _ (s : State) (o : IsInOrder s) (source : Locator) (bytes : List ℕ) (t 
   comes_nearer (act.passes_on k more room e f) = nearer s new t l (passed_on l rec) _ h here (ap (λ (z : State). z.pending) e) (passed_lower l rec lookup.place) f
   comes_nearer (act.concludes k end e f) = subst (ComesNearer s new) (sym f) tt
   comes_nearer (act.starts_over p k start room e f) =
-      nearer s new t l (started_over s l) _ h here (ap (λ (z : State). z.pending) e) (restarted_lower s l p lookup.place o.known.few start) f
+      nearer s new t l (started_over s l) _ h here (ap (λ (z : State). z.pending) e) (restarted_lower s l p lookup.place o.known.few start.start) f
   comes_nearer (act.nobody k start e f) = subst (ComesNearer s new) (sym f) tt
   comes_nearer (act.used_up on none e f) = subst (ComesNearer s new) (sym f) tt
 

@@ -1,5 +1,6 @@
 -- What the parts of a step on a datagram make together.
-use Rattle.std.proofs.Common.{◌≡◌, ℕ, List, Some, Result, Ok, Err, ap, ◌∙◌}
+use Rattle.std.proofs.Common.{◌≡◌, ℕ, Bool, true, false, List, Some, Result, Ok, Err, refl, sym, ap, ◌∙◌}
+use Rattle.std.proofs.lemmas.Option.{none-some}
 use Rattle.std.specs.Prelude.{IfOk, OnErr}
 use Rattle.ddt_path.specs.declared.action.Action.TheVariants.{NotAuthoritative}
 use Rattle.ddt_path.specs.declared.record.ReferralRecord.{ReferralRecord}
@@ -8,8 +9,9 @@ use Rattle.ddt_resolver.specs.declared.sending.Change.TheVariants.{Forget}
 use Rattle.ddt_resolver.specs.declared.answers.Heard.{Heard}
 use Rattle.ddt_resolver.specs.declared.answers.Heard.TheVariants.{Followed}
 use Rattle.ddt_resolver.specs.State.{State, lodged, forgotten, request, started_over}
-use Rattle.ddt_resolver.specs.Act.{Act, starts_over, used_up, from_root}
+use Rattle.ddt_resolver.specs.Act.{Act, MayStartOver, starts_over, used_up, from_root}
 use Rattle.ddt_resolver.specs.Acting as acting
+use Rattle.ddt_resolver.specs.Order.{IsLookup}
 
 -- ---- results
 
@@ -23,7 +25,15 @@ on_err (Err e) A B f h = f h
 
 -- ---- starting over
 
-pub forget_acts : (s : State) (t : ℕ) (l : Pending) (rec : ReferralRecord) (p : List ℕ) (m : Pending) (new : State) (h : Heard) → rec.action ≡ NotAuthoritative → l.start ≡ Some p → m ≡ started_over s l
+-- one that started at an entry hasn't started over
+pub may_start_over : (l : Pending) (p : List ℕ) → IsLookup l → l.start ≡ Some p → MayStartOver l p
+may_start_over l p is at = record { start = at; first = by l.restarted refl }
+  where
+    by : (b : Bool) → l.restarted ≡ b → l.restarted ≡ false
+    by true e = absurd (none-some p (sym (is.once e) ∙ at))
+    by false e = e
+
+pub forget_acts : (s : State) (t : ℕ) (l : Pending) (rec : ReferralRecord) (p : List ℕ) (m : Pending) (new : State) (h : Heard) → rec.action ≡ NotAuthoritative → MayStartOver l p → m ≡ started_over s l
     → acting.SendsOn s t m (Forget p) new h → Act s t l rec new h
 forget_acts s t l rec p m new h a at is (acting.followed more e f) =
     starts_over p a at more (e ∙ ap (λ (k : Pending). lodged (forgotten s p) t k) is) (f ∙ ap (λ (k : Pending). Followed t (request s k)) is)

@@ -6,7 +6,7 @@ use Rattle.ddt_path.specs.declared.locator.Locator.{Locator}
 use Rattle.ddt_path.specs.declared.record.ReferralRecord.{ReferralRecord}
 use Rattle.ddt_path.specs.Path.{xeid_path}
 use Rattle.ddt_wire.specs.Referral.{Message, message_record}
-use Rattle.ddt_wire.proofs.MessageLaws.{messages_are_read}
+use Rattle.ddt_wire.specs.laws.Message.{messages_are_read}
 use Rattle.ddt_resolver.specs.declared.pending.Pending.{Pending}
 use Rattle.ddt_resolver.specs.declared.answers.Heard.{Heard}
 use Rattle.ddt_resolver.specs.State.{State, server}

@@ -1,7 +1,7 @@
 -- Equations of states, and what holds of the states that a resolver's parts make.
 use Rattle.std.proofs.Common.{◌≡◌, ℕ, ◌+◌, ◌<◌, ◌≤◌, max, true, List, [], ◌∷◌, length, Option, Some, None, refl, sym, ap, ◌∙◌, subst, arith, inl, inr, nat_cmp}
-use Rattle.std.specs.Prelude.{IsSome}
-use Rattle.std.specs.FinMap.{FinMap, get, insert, len, get-empty, len-empty}
+use Rattle.std.specs.Prelude.{IfSome, IfNone}
+use Rattle.std.specs.FinMap.{FinMap, get, insert, remove, len, get-empty, len-empty}
 use Rattle.std.proofs.lemmas.Option.{none-some}
 use Rattle.ddt_path.specs.declared.locator.Locator.{Locator}
 use Rattle.ddt_path.specs.declared.record.ReferralRecord.{ReferralRecord}
@@ -11,20 +11,21 @@ use Rattle.ddt_cache.specs.declared.entry.Entry.{Entry}
 use Rattle.ddt_cache.specs.Live.{Known, live_at}
 use Rattle.ddt_cache.specs.Live as cache
 use Rattle.ddt_cache.specs.InOrder.{IsInOrder as IsKnownInOrder}
-use Rattle.ddt_cache.proofs.LiveLemmas.{live_at-all}
-use Rattle.ddt_cache.proofs.OrderLemmas.{nothing_in_order, stored_in_order, forgotten_in_order}
+use Rattle.ddt_cache.specs.laws.Live.{live_at-all}
+use Rattle.ddt_cache.specs.laws.Order.{nothing_in_order, stored_in_order, forgotten_in_order}
 use Rattle.ddt_resolver.specs.declared.answers.Outgoing.{Outgoing}
 use Rattle.ddt_resolver.specs.declared.pending.Pending.{Pending}
 use Rattle.ddt_resolver.specs.declared.sending.Change.{Change}
 use Rattle.ddt_resolver.specs.declared.sending.Change.TheVariants.{Keep, Save, Forget}
-use Rattle.ddt_resolver.specs.State.{State, last_nonce, most_pending, fresh, server, request, request_bytes, numbered, stored, changed}
-use Rattle.ddt_resolver.specs.Table.{IsUnknown}
+use Rattle.ddt_resolver.specs.State.{State, last_nonce, most_pending, patience, fresh, server, request, request_bytes, numbered, stored, changed}
+use Rattle.ddt_resolver.specs.Waiting.{Waiting}
+use Rattle.ddt_resolver.specs.Table.{Held, IsUnknown, HasNonce, IsNext}
 use Rattle.ddt_resolver.specs.Acting.{IsSmall}
 use Rattle.ddt_resolver.specs.Order.{IsLookup, IsWaiting, IsInOrder}
-use Rattle.ddt_resolver.proofs.NumberMapLemmas.{found_insert, len_replaced}
+use Rattle.ddt_resolver.specs.laws.NumberMap.{found_insert, len_replaced}
 use Rattle.std.specs.Cmp.{nat_cmp_total}
-use Rattle.ddt_path.proofs.MapSizeLemmas.{len_inserted}
-use Rattle.ddt_resolver.proofs.OrderLemmas.{apart_insert}
+use Rattle.ddt_path.specs.laws.MapSize.{len_inserted}
+use Rattle.ddt_resolver.specs.laws.Order.{apart_insert, order_dropped}
 
 -- the time moved to itself changes nothing
 pub moved_to_itself : (k : Known) (t : ℕ) → t ≡ k.time → IsKnownInOrder k → cache.moved t k ≡ k
@@ -109,19 +110,30 @@ module _ (s : State) (o : IsInOrder s) where
       order_put s.known p s.next l is more put o.known refl refl (omega arith) (rw put (omega (arith, len_inserted nat_cmp_total s.pending s.next (numbered s l))))
 
   -- a lookup goes on
-  pub order_sent : (k : Known) (p : FinMap nat_cmp Pending) (change : Change) (t : ℕ) (l : Pending) → IsSmall change → IsSome (get s.pending t) → IsLookup l → s.next < last_nonce
+  pub order_sent : (k : Known) (p : FinMap nat_cmp Pending) (change : Change) (t : ℕ) (l : Pending) → IsSmall change → HasNonce s.pending t l.nonce → IsLookup l → s.next < last_nonce
       → k ≡ changed s.known change → p ≡ insert s.pending t (numbered s l) → IsInOrder (record { known = k; me = s.me; next = s.next + 1; pending = p })
   order_sent k p change t l small there is more known put =
       let c = changed_order change small in
-      by (get s.pending t) refl there
-    where
-      by : (old : Option Pending) → get s.pending t ≡ old → IsSome old → IsInOrder (record { known = k; me = s.me; next = s.next + 1; pending = p })
-      by None e some = absurd (cc some)
-      by (Some old) e some =
-          let c = changed_order change small in
-          let w : IsWaiting s t old = o.lookups t old e in
-          order_put k p t l is more put (subst IsKnownInOrder (sym known) c.0) (ap (λ (z : Known). z.time) known ∙ c.1) (ap (λ (z : Known). z.roots) known ∙ c.2)
-          (omega (arith, w.ticket, w.nonce)) (rw (put, len_replaced s.pending t (numbered s l) old e) o.few)
+      let w : IsWaiting s t there.0 = o.lookups t there.0 there.1 in
+      order_put k p t l is more put (subst IsKnownInOrder (sym known) c.0) (ap (λ (z : Known). z.time) known ∙ c.1) (ap (λ (z : Known). z.roots) known ∙ c.2)
+      (omega (arith, w.ticket, w.nonce)) (rw (put, len_replaced s.pending t (numbered s l) there.0 there.1) o.few)
+
+  -- a lookup whose request is sent has the next nonce and the last deadline
+  pub is_next : (h : Held) (l n : Pending) → h.lookups ≡ s.pending → h.next ≡ s.next → s.next < last_nonce → n ≡ numbered s l → IsNext h n
+  is_next h l n same next more is = record {
+    nonce = ap (λ (k : Pending). k.nonce) is ∙ sym next;
+    latest = λ t k found.
+        let w : IsWaiting s t k = o.lookups t k (ap (λ (m : FinMap nat_cmp Pending). get m t) (sym same) ∙ found) in
+        let d : n.deadline ≡ s.known.time + patience = ap (λ (k : Pending). k.deadline) is in
+        omega (arith, w.deadline);
+    fits = omega arith;
+  }
+
+  -- a lookup is taken out, or none is
+  pub order_taken : (p : FinMap nat_cmp Pending) (next : ℕ) (taken : Option Waiting) → IfSome taken (λ w. p ≡ remove s.pending w.ticket) → IfNone taken (p ≡ s.pending) → next ≡ s.next
+      → IsInOrder (record { known = s.known; me = s.me; next = next; pending = p })
+  order_taken p next None gone kept same = rw (same, kept) o
+  order_taken p next (Some w) gone kept same = rw (same, gone) (order_dropped s w.ticket o)
 
 -- a resolver that has heard nothing
 pub order_fresh : (roots : List Locator) (me : Locator) (seed : ℕ) → 0 < length roots → length roots ≤ 8 → seed ≤ last_nonce → IsInOrder (fresh roots me seed)

@@ -1,6 +1,7 @@
 -- The resolver's step on a datagram: what it does with a reply that it takes, by the record's action (RFC 8111,
 -- sections 6.1 and 7.3).
-use Rattle.std.specs.Prelude.{ℕ, ◌≡◌, ◌+◌, ◌<◌, ◌≤◌, List, length, None, Some}
+use Rattle.std.specs.Prelude.{ℕ, ◌≡◌, ◌+◌, ◌<◌, ◌≤◌, IsTrue, false, List, length, Some}
+use Rattle.ddt_cache.specs.Saved.{is_saved}
 use Rattle.ddt_path.specs.declared.locator.Locator.{Locator}
 use Rattle.ddt_path.specs.declared.action.Action.TheVariants.{MsAck, MsNotRegistered, DelegationHole, NotAuthoritative}
 use Rattle.ddt_path.specs.declared.record.ReferralRecord.{ReferralRecord}
@@ -14,18 +15,23 @@ use Rattle.ddt_path.specs.Actions.{IsReferral}
 use Rattle.ddt_resolver.specs.Records.{IsBelow, outcome_of}
 use Rattle.ddt_resolver.specs.TakeUp.{Ignores, IsTaken}
 
+-- The lookup may start over: it started at the remembered entry of this prefix, and hasn't started over before.
+pub record MayStartOver (l : Pending) (p : List ℕ) : Type 0 where
+  pub start : l.start ≡ Some p
+  pub first : l.restarted ≡ false
+
 -- The record makes the lookup go on: a referral below the saved prefix, an MS-NOT-REGISTERED with a server left in the
--- set, or NOT-AUTHORITATIVE where the lookup started at a remembered entry.
+-- set, or NOT-AUTHORITATIVE where the lookup may start over.
 pub data GoesOn (l : Pending) (rec : ReferralRecord) : Type 0 where
   by_referral : IsReferral rec.action → IsBelow l.saved rec.prefix → GoesOn l rec
   to_next : rec.action ≡ MsNotRegistered → l.place + 1 < length l.servers → GoesOn l rec
-  from_root : (p : List ℕ) → rec.action ≡ NotAuthoritative → l.start ≡ Some p → GoesOn l rec
+  from_root : (p : List ℕ) → rec.action ≡ NotAuthoritative → MayStartOver l p → GoesOn l rec
 
 -- The nine cases. `loops`: a referral that isn't below the saved prefix. `refers`: another referral is saved and
 -- followed. `acknowledges`, `closes`: MS-ACK and DELEGATION-HOLE are saved and answered. `passes_on`: an
 -- MS-NOT-REGISTERED is kept and the next server asked. `concludes`: that of the last server is saved and answered.
 -- `starts_over`: at a server that isn't in charge, the entry that the lookup started at is forgotten, and the root
--- asked. `nobody`: there was no such entry. `used_up`: it would go on, but no nonce is left.
+-- asked. `nobody`: the lookup may not start over. `used_up`: it would go on, but no nonce is left.
 pub data Act (s : State) (t : ℕ) (l : Pending) (rec : ReferralRecord) (new : State) (heard : Heard) : Type 0 where
   loops : IsReferral rec.action → (IsBelow l.saved rec.prefix → ⊥)
       → new ≡ dropped s t → heard ≡ GaveUp t Loop → Act s t l rec new heard
@@ -40,10 +46,10 @@ pub data Act (s : State) (t : ℕ) (l : Pending) (rec : ReferralRecord) (new : S
       → new ≡ lodged s t (passed_on l rec) → heard ≡ Followed t (request s (passed_on l rec)) → Act s t l rec new heard
   concludes : rec.action ≡ MsNotRegistered → length l.servers ≤ l.place + 1
       → new ≡ dropped (stored s rec) t → heard ≡ Answer t (outcome_of rec) → Act s t l rec new heard
-  starts_over : (p : List ℕ) → rec.action ≡ NotAuthoritative → l.start ≡ Some p → s.next < last_nonce
+  starts_over : (p : List ℕ) → rec.action ≡ NotAuthoritative → MayStartOver l p → s.next < last_nonce
       → new ≡ lodged (forgotten s p) t (started_over s l) → heard ≡ Followed t (request s (started_over s l))
       → Act s t l rec new heard
-  nobody : rec.action ≡ NotAuthoritative → l.start ≡ None
+  nobody : rec.action ≡ NotAuthoritative → ((p : List ℕ) → MayStartOver l p → ⊥)
       → new ≡ dropped s t → heard ≡ GaveUp t NobodyInCharge → Act s t l rec new heard
   used_up : GoesOn l rec → s.next ≡ last_nonce
       → new ≡ dropped s t → heard ≡ GaveUp t Exhausted → Act s t l rec new heard
@@ -58,9 +64,10 @@ pub data HearStep (s : State) (source : Locator) (bytes : List ℕ) (new : State
 -- a reply whose record is saved or makes the lookup send
 pub data Saves (s : State) (l : Pending) (rec : ReferralRecord) : Type 0 where
   sends : GoesOn l rec → s.next < last_nonce → Saves s l rec
-  acknowledged : rec.action ≡ MsAck → Saves s l rec
-  closed : rec.action ≡ DelegationHole → Saves s l rec
-  concluded : rec.action ≡ MsNotRegistered → length l.servers ≤ l.place + 1 → Saves s l rec
+  acknowledged : rec.action ≡ MsAck → IsTrue (is_saved s.known.live rec) → Saves s l rec
+  closed : rec.action ≡ DelegationHole → IsTrue (is_saved s.known.live rec) → Saves s l rec
+  concluded : rec.action ≡ MsNotRegistered → length l.servers ≤ l.place + 1 → IsTrue (is_saved s.known.live rec)
+      → Saves s l rec
 
 -- the step would send a request or save a record, and so wants memory
 pub record HearWants (s : State) (source : Locator) (bytes : List ℕ) : Type 0 where

@@ -7,7 +7,8 @@ pub mod TickStep
 pub mod Step
 pub mod Order
 pub mod Bound
+pub mod Waiting
 pub mod Table
 pub mod Acting
-pub mod Laws
 pub mod Front
+pub mod laws

@@ -1,32 +1,62 @@
--- The table of pending lookups, each found by its ticket and by the nonce of its last request.
-use Rattle.std.specs.Prelude.{◌<◌, ◌≤◌, ℕ, ◌≡◌, ◌≢◌, List, Option, Some, refl}
+-- The table of pending lookups: each stands in a slot of a slab, and the nonce of its last request leads to its slot.
+use Rattle.std.specs.Prelude.{ℕ, ◌<◌, ◌≤◌, ◌≡◌, ◌≢◌, Bool, map, Option, Some, refl}
 use Rattle.std.specs.Ordering.{nat_cmp}
 use Rattle.std.specs.FinMap.{FinMap, get, from_entries, code}
-use Rattle.std.specs.Coded.{Coded, code_by, coded×, coded_ℕ}
+use Rattle.std.specs.Coded.{Coded, code_by, coded×, coded_ℕ, coded_bool}
+use Rattle.slab.specs.Slab.{Slab, entries}
 use Rattle.ddt_resolver.specs.declared.pending.Pending.{Pending}
+use Rattle.ddt_resolver.specs.Waiting.{Waiting}
 
--- the lookups by their tickets, and for how many more there is room
+-- the lookups by their tickets; the nonce of the next request; for how many more lookups there is room; whether there
+-- is room for that nonce
 pub record Held : Type 0 where
   pub lookups : FinMap nat_cmp Pending
+  pub next : ℕ
   pub spare : ℕ
+  pub is_ready : Bool
 
 -- how a compiled program may store it: as its parts
 abbrev pub held_code : Coded Pending → Coded Held
-held_code pending = code_by (FinMap nat_cmp Pending × ℕ) (coded× (code coded_ℕ pending) coded_ℕ) (λ h.
-    (h.lookups, h.spare)) (λ p. record { lookups = p.0; spare = p.1 }) (λ _. refl)
+held_code pending =
+    code_by (FinMap nat_cmp Pending × (ℕ × (ℕ × Bool)))
+    (coded× (code coded_ℕ pending) (coded× coded_ℕ (coded× coded_ℕ coded_bool)))
+    (λ h. (h.lookups, (h.next, (h.spare, h.is_ready)))) (λ p.
+    record { lookups = p.0; next = p.1.0; spare = p.1.1.0; is_ready = p.1.1.1 }) (λ _. refl)
 
--- the map of entries
-abbrev pub map_of : List (ℕ × Pending) → FinMap nat_cmp Pending
-map_of entries = from_entries {R = nat_cmp} entries
+-- a lookup behind its ticket
+abbrev pub ticketed : ℕ × Waiting → ℕ × Pending
+ticketed e = (e.1.ticket, e.1.lookup)
+
+-- the lookups of a slab by their tickets
+abbrev pub by_ticket : Slab Waiting → FinMap nat_cmp Pending
+by_ticket s = from_entries {R = nat_cmp} (map ticketed (entries s))
+
+-- What holds of a table. Each lookup has a ticket of its own and a nonce that was given out, which leads to its slot.
+-- No other nonce that was given out leads anywhere; the next one may, so that there is room for it. A lookup with a
+-- lower nonce has no later deadline.
+pub record IsTable (slot_of : ℕ → Option ℕ) (lookup_in : ℕ → Option Waiting) (next : ℕ) : Type 0 where
+  pub noted : (slot : ℕ) (w : Waiting) → lookup_in slot ≡ Some w → slot_of w.lookup.nonce ≡ Some slot
+  pub held : (nonce slot : ℕ) → slot_of nonce ≡ Some slot → nonce < next
+      → (w : Waiting) × (lookup_in slot ≡ Some w) × (w.lookup.nonce ≡ nonce)
+  pub given : (nonce slot : ℕ) → slot_of nonce ≡ Some slot → nonce ≤ next
+  pub nonces : (slot : ℕ) (w : Waiting) → lookup_in slot ≡ Some w → w.lookup.nonce < next
+  pub tickets : (i j : ℕ) (v w : Waiting) → lookup_in i ≡ Some v → lookup_in j ≡ Some w → v.ticket ≡ w.ticket → i ≡ j
+  pub rising : (i j : ℕ) (v w : Waiting) → lookup_in i ≡ Some v → lookup_in j ≡ Some w
+      → v.lookup.nonce < w.lookup.nonce → v.lookup.deadline ≤ w.lookup.deadline
 
 -- no pending lookup has this nonce
 abbrev pub IsUnknown : FinMap nat_cmp Pending → ℕ → Type 0
 IsUnknown lookups nonce = (t : ℕ) (l : Pending) → get lookups t ≡ Some l → l.nonce ≢ nonce
 
--- what is found under a nonce is the ticket of the lookup with this nonce, and every lookup is found so
-pub record AreNoted (lookup : ℕ → Option Pending) (ticket : ℕ → Option ℕ) : Type 0 where
-  pub noted : (t : ℕ) (l : Pending) → lookup t ≡ Some l → ticket l.nonce ≡ Some t
-  pub only : (n t : ℕ) → ticket n ≡ Some t → (l : Pending) × (lookup t ≡ Some l) × (l.nonce ≡ n)
+-- the pending lookup of this ticket has this nonce
+abbrev pub HasNonce : FinMap nat_cmp Pending → ℕ → ℕ → Type 0
+HasNonce lookups ticket nonce = (l : Pending) × (get lookups ticket ≡ Some l) × (l.nonce ≡ nonce)
+
+-- a lookup whose request is the next to be sent: it has the next nonce, and no pending one has a later deadline
+pub record IsNext (h : Held) (lookup : Pending) : Type 0 where
+  pub nonce : lookup.nonce ≡ h.next
+  pub latest : (t : ℕ) (l : Pending) → get h.lookups t ≡ Some l → l.deadline ≤ lookup.deadline
+  pub fits : h.next < 18446744073709551615
 
 -- no due lookup has a nonce below this one
 abbrev pub IsLeastDue : FinMap nat_cmp Pending → ℕ → ℕ → Type 0
@@ -35,8 +65,3 @@ IsLeastDue lookups time nonce = (u : ℕ) (m : Pending) → get lookups u ≡ So
 -- no lookup is due
 abbrev pub IsNoneDue : FinMap nat_cmp Pending → ℕ → Type 0
 IsNoneDue lookups time = (u : ℕ) (m : Pending) → get lookups u ≡ Some m → time < m.deadline
-
--- the lookup of this ticket is due and has this nonce, and no due lookup has a nonce below it
-pub record IsNextDue (lookups : FinMap nat_cmp Pending) (time ticket nonce : ℕ) : Type 0 where
-  pub due : (l : Pending) × (get lookups ticket ≡ Some l) × (l.nonce ≡ nonce) × (l.deadline ≤ time)
-  pub least : IsLeastDue lookups time nonce

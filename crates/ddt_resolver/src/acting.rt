@@ -1,7 +1,6 @@
 //! What is done with a reply, by the record's action (RFC 8111, sections 6.1 and 7.3).
 
-ghost use Rattle.std.specs.Prelude.{◌≡◌, ◌<◌, IsTrue, false, IsSome, IfOk, OnErr};
-ghost use Rattle.std.specs.FinMap as map;
+ghost use Rattle.std.specs.Prelude.{◌≡◌, ◌<◌, IsTrue, false, IfOk, OnErr};
 ghost use Rattle.ddt_path.specs.declared.action.Action.TheVariants as act;
 ghost use Rattle.ddt_resolver.specs.State.{moved, last_nonce};
 ghost use Rattle.ddt_path.specs.Actions.{IsReferral};
@@ -9,6 +8,8 @@ ghost use Rattle.ddt_resolver.specs.Records.{IsBelow, outcome_of};
 ghost use Rattle.ddt_resolver.specs.Act.{Act, HearStep, HearWants, Saves};
 ghost use Rattle.ddt_resolver.specs.Acting.{IsHeard, IsAnswered, IsSmall, SendsOn};
 ghost use Rattle.ddt_resolver.specs.Order.{IsLookup};
+ghost use Rattle.ddt_resolver.specs.Table.{HasNonce};
+ghost use Rattle.ddt_cache.specs.Saved.{is_saved};
 ghost use Rattle.ddt_resolver.specs.Bound.{ComesNearer, GoesDown};
 
 use crate::answers::{Heard, Ticket, Why};
@@ -87,9 +88,8 @@ impl<M: PrefixMap<Entry>> Resolver<M> {
         ensures unchanged { OnErr result (self.new ≡ self.old) }
         ensures wanted { OnErr result (Saves self.old taken.now.lookup taken.now.told) }
     {
-        self.in_order();
         if !is_below(taken.lookup.saved, taken.told.prefix) {
-            self.close(taken.ticket);
+            self.close(taken.lookup.nonce);
             return Ok(Heard::GaveUp(Ticket::of(taken.ticket), Why::Loop));
         }
         let lookup = taken.lookup.referred(&taken.told);
@@ -101,8 +101,9 @@ impl<M: PrefixMap<Entry>> Resolver<M> {
         requires { IsHeard self.old taken.now }
         ensures answered { IfOk result (λ heard. IsAnswered self.old taken.now self.new heard) }
         ensures unchanged { OnErr result (self.new ≡ self.old) }
+        ensures wanted { OnErr result (IsTrue (is_saved self.old.known.live taken.now.told)) }
     {
-        self.save_and_close(taken.ticket, &taken.told)?;
+        self.save_and_close(taken.lookup.nonce, &taken.told)?;
         Ok(Heard::Answer(Ticket::of(taken.ticket), outcome(&taken.told)))
     }
 
@@ -115,7 +116,6 @@ impl<M: PrefixMap<Entry>> Resolver<M> {
         ensures unchanged { OnErr result (self.new ≡ self.old) }
         ensures wanted { OnErr result (Saves self.old taken.now.lookup taken.now.told) }
     {
-        self.in_order();
         if taken.lookup.place + 1 >= taken.lookup.servers.as_slice().len() {
             return self.answer(taken);
         }
@@ -133,14 +133,13 @@ impl<M: PrefixMap<Entry>> Resolver<M> {
         ensures unchanged { OnErr result (self.new ≡ self.old) }
         ensures wanted { OnErr result (Saves self.old taken.now.lookup taken.now.told) }
     {
-        self.in_order();
         match taken.lookup.start {
             Some(prefix) => {
                 let lookup = taken.lookup.started_over(self.cache.roots());
                 self.send_on(taken.ticket, &lookup, &Change::Forget(prefix))
             }
             None => {
-                self.close(taken.ticket);
+                self.close(taken.lookup.nonce);
                 Ok(Heard::GaveUp(Ticket::of(taken.ticket), Why::NotAuthoritative))
             }
         }
@@ -153,7 +152,7 @@ impl<M: PrefixMap<Entry>> Resolver<M> {
         lookup: &Pending,
         change: &Change,
     ) -> Result<Heard, AllocError>
-        requires there { IsSome (map.get self.old.pending ticket) }
+        requires there { HasNonce self.old.pending ticket lookup.now.nonce }
         requires lookup { IsLookup lookup.now }
         requires change { IsSmall change.now }
         ensures sent { IfOk result (λ heard. SendsOn self.old ticket lookup.now change.now self.new heard) }
@@ -161,7 +160,7 @@ impl<M: PrefixMap<Entry>> Resolver<M> {
         ensures nonce { OnErr result (self.old.next < last_nonce) }
     {
         if self.next_nonce() == u64::MAX {
-            self.close(ticket);
+            self.close(lookup.nonce);
             return Ok(Heard::GaveUp(Ticket::of(ticket), Why::Exhausted));
         }
         let outgoing = self.lodge(ticket, lookup, change)?;

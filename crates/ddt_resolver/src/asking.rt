@@ -74,7 +74,7 @@ impl<M: PrefixMap<Entry>> Resolver<M> {
     pub(crate) fn next_nonce(&self) -> u64
         ensures { result ≡ self.now.next }
     {
-        self.next
+        self.table.next_nonce()
     }
 }
 

@@ -44,21 +44,6 @@ fn asked(request: &Request<'_>) -> Option<ItrRequest>
     })
 }
 
-/// The request of an ITR that the bytes are: an Encapsulated Map-Request whose bit D is clear. None for anything else.
-pub fn itr_request(bytes: &[u8]) -> Option<ItrRequest>
-    // The bytes spell what is read.
-    ensures found { IfSome result (λ q. IsItrRequest bytes.now q) }
-    // What they spell is read.
-    ensures only { (q : AnItrRequest) → IsItrRequest bytes.now q → result ≡ Some q }
-    // Each request whose bit D is clear is one.
-    ensures there { (m : Message) → Spells bytes.now m → m.ddt ≡ false → IsSome result }
-{
-    match read_request(bytes) {
-        Ok(request) => asked(&request),
-        Err(_fault) => None,
-    }
-}
-
 /// The prefix of a negative Map-Reply for the identifier: the block itself, or, in place of a range of instances, all
 /// addresses of the identifier's instance and family.
 fn block_for(x: Xeid, prefix: Prefix) -> Prefix
@@ -82,24 +67,46 @@ fn negative_for(x: Xeid, outcome: &Outcome) -> Option<(u32, Prefix)>
     }
 }
 
-/// What the resolver sends to an ITR for the outcome of its request: a negative Map-Reply with the ITR's nonce, to its
-/// first ITR-RLOC at its inner source port. The TTL is 15 minutes for a hole, and 1 minute for a site without a
-/// registration. None where a site is registered: the ITR is sent nothing then. Fails only if out of memory.
-pub fn itr_reply(
-    alloc: Global,
-    outcome: &Outcome,
-    request: &ItrRequest,
-) -> Result<Option<Outgoing>, AllocError>
-    ensures answered { IfOk result (λ r. r ≡ reply_to_itr outcome.now request.now) }
-    ensures unanswered { negative_for_of request.now.xeid outcome.now ≡ None → result ≡ Ok None }
-{
-    let Some((ttl, prefix)) = negative_for(request.xeid, outcome) else {
-        return Ok(None);
-    };
-    let bytes = write_negative_reply(alloc, request.nonce, ttl, prefix)?;
-    Ok(Some(Outgoing {
-        to: request.to,
-        port: request.port,
-        bytes: Listed::of(bytes),
-    }))
+/// The side of a Map-Resolver that ITRs see. It keeps nothing: an ITR's request says where its answer goes.
+#[derive(Clone, Copy, Debug)]
+pub struct Front;
+
+impl Front {
+    /// The request of an ITR that the bytes are: an Encapsulated Map-Request whose bit D is clear. None for anything
+    /// else.
+    pub fn itr_request(bytes: &[u8]) -> Option<ItrRequest>
+        // The bytes spell what is read.
+        ensures found { IfSome result (λ q. IsItrRequest bytes.now q) }
+        // What they spell is read.
+        ensures only { (q : AnItrRequest) → IsItrRequest bytes.now q → result ≡ Some q }
+        // Each request whose bit D is clear is one.
+        ensures there { (m : Message) → Spells bytes.now m → m.ddt ≡ false → IsSome result }
+    {
+        match read_request(bytes) {
+            Ok(request) => asked(&request),
+            Err(_fault) => None,
+        }
+    }
+
+    /// What the resolver sends to an ITR for the outcome of its request: a negative Map-Reply with the ITR's nonce, to
+    /// its first ITR-RLOC at its inner source port. The TTL is 15 minutes for a hole, and 1 minute for a site without a
+    /// registration. None where a site is registered: the ITR is sent nothing then. Fails only if out of memory.
+    pub fn itr_reply(
+        alloc: Global,
+        outcome: &Outcome,
+        request: &ItrRequest,
+    ) -> Result<Option<Outgoing>, AllocError>
+        ensures answered { IfOk result (λ r. r ≡ reply_to_itr outcome.now request.now) }
+        ensures unanswered { negative_for_of request.now.xeid outcome.now ≡ None → result ≡ Ok None }
+    {
+        let Some((ttl, prefix)) = negative_for(request.xeid, outcome) else {
+            return Ok(None);
+        };
+        let bytes = write_negative_reply(alloc, request.nonce, ttl, prefix)?;
+        Ok(Some(Outgoing {
+            to: request.to,
+            port: request.port,
+            bytes: Listed::of(bytes),
+        }))
+    }
 }

@@ -1,7 +1,7 @@
 //! A resolver of RFC 8111, section 7.3, as a machine of steps: an ask, a datagram, a tick. It sends nothing itself:
 //! each call answers what is to be sent, and learns the time from its caller.
 //!
-//! In reading order: `answers`, `pending`, `table`, `resolver`, `asking`, `refusing`, `acting`, `ticking`, `sending`,
+//! In reading order: `answers`, `pending`, `waiting`, `table`, `resolver`, `asking`, `refusing`, `acting`, `ticking`, `sending`,
 //! `laws`; `front` is the side that ITRs see.
 #![tactic(auto)]
 
@@ -16,10 +16,11 @@ mod resolver;
 mod sending;
 mod table;
 mod ticking;
+mod waiting;
 
 pub use answers::{AskError, Asked, Heard, Ignored, Outgoing, Ticked, Ticket, Why};
 pub use ddt_cache::Moment;
-pub use front::{ItrRequest, itr_reply, itr_request};
+pub use front::{Front, ItrRequest};
 pub use laws::{order_is_kept, tickets_are_new, usable_is_taken};
 pub use pending::Pending;
 pub use resolver::{MOST_PENDING, Resolver};

@@ -22,12 +22,10 @@ pub const MOST_PENDING: usize = 1024;
 pub struct Resolver<M: PrefixMap<Entry>> {
     /// What it remembers, with the time and the root's servers.
     pub(crate) cache: Cache<M>,
-    /// The pending lookups.
+    /// The pending lookups, and the nonce of the next request.
     pub(crate) table: Table,
     /// Its own address.
     pub(crate) me: Locator,
-    /// The nonce of the next request.
-    pub(crate) next: u64,
     /// Where it takes its memory from.
     pub(crate) alloc: Global,
 }
@@ -43,10 +41,10 @@ impl<M: PrefixMap<Entry>> Model for Resolver<M> {
 
     ghost coded = { state_code entry.the_row.coded locator.the_row.coded pending.the_row.coded };
 
-    ghost view = { λ r. record { known = r.cache; me = r.me; next = r.next; pending = r.table.lookups } };
+    ghost view = { λ r. record { known = r.cache; me = r.me; next = r.table.next; pending = r.table.lookups } };
 
     ghost invariant = { λ r.
-        IsInOrder (record { known = r.cache; me = r.me; next = r.next; pending = r.table.lookups }) };
+        IsInOrder (record { known = r.cache; me = r.me; next = r.table.next; pending = r.table.lookups }) };
 }
 
 impl<M: PrefixMap<Entry>> Resolver<M> {
@@ -60,9 +58,8 @@ impl<M: PrefixMap<Entry>> Resolver<M> {
         let _few = roots.as_slice();
         Resolver {
             cache: Cache::new(alloc, roots),
-            table: Table::new(alloc),
+            table: Table::new(alloc, seed),
             me,
-            next: seed,
             alloc,
         }
     }
@@ -100,7 +97,7 @@ impl<M: PrefixMap<Entry>> Resolver<M> {
         ensures dropped { self.new ≡ dropped self.old ticket }
         ensures there { result ≡ map.contains_key self.old.pending ticket }
     {
-        self.table.remove(ticket.number()).is_some()
+        self.table.cancel(ticket.number())
     }
 
     /// Moves the time to `now`, where that is later.

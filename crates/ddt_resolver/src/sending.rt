@@ -1,12 +1,16 @@
 //! How a lookup is sent on, and how it ends. What can run out of memory comes first: the request's bytes, the
 //! room in the table, the cache; what changes the table takes none.
 
-ghost use Rattle.std.specs.Prelude.{◌≡◌, ◌<◌, ◌≤◌, length, IsSome, IfOk, OnOk, OnErr};
+ghost use Rattle.std.specs.Prelude.{◌≡◌, ◌<◌, ℕ, ◌≤◌, length, IfOk, OnOk, OnErr, IsTrue};
 ghost use Rattle.std.specs.FinMap as map;
 ghost use Rattle.ddt_path.specs.Locators.{most_locators};
 ghost use Rattle.ddt_resolver.specs.State.{last_nonce, most_pending, request as request_of, numbered as numbered_of, changed, with_change, lodged, dropped, stored};
 ghost use Rattle.ddt_resolver.specs.Order.{IsLookup};
+ghost use Rattle.ddt_resolver.specs.Table.{HasNonce};
 ghost use Rattle.ddt_resolver.specs.Acting.{IsSmall};
+ghost use Rattle.ddt_cache.specs.Saved.{is_saved};
+ghost use Rattle.ddt_path.specs.declared.record.ReferralRecord.{ReferralRecord as RecordValue};
+ghost use Rattle.ddt_resolver.specs.declared.sending.Change.TheVariants.{Save};
 
 use crate::answers::Outgoing;
 use crate::pending::Pending;
@@ -38,7 +42,7 @@ impl<M: PrefixMap<Entry>> Resolver<M> {
         requires { lookup.now.place < length lookup.now.servers }
         ensures { IfOk result (λ d. d ≡ request_of self.now lookup.now) }
     {
-        let bytes = write_request(self.alloc, self.next, lookup.x, &[self.me], true)?;
+        let bytes = write_request(self.alloc, self.next_nonce(), lookup.x, &[self.me], true)?;
         Ok(Outgoing {
             to: lookup.server(),
             port: CONTROL_PORT,
@@ -51,7 +55,7 @@ impl<M: PrefixMap<Entry>> Resolver<M> {
         ensures { result ≡ numbered_of self.now lookup.now }
     {
         let deadline = self.cache.time().millis() + PATIENCE;
-        lookup.numbered(self.next, deadline)
+        lookup.numbered(self.next_nonce(), deadline)
     }
 
     /// A new lookup is pending, and its request is sent; its ticket is the nonce. It fails only if out of memory, and
@@ -67,20 +71,19 @@ impl<M: PrefixMap<Entry>> Resolver<M> {
         let outgoing = self.request(lookup)?;
         let numbered = self.numbered(lookup);
         self.table.reserve()?;
-        self.table.add(self.next, numbered);
-        self.next += 1;
+        self.table.add(numbered.nonce, numbered);
         Ok(outgoing)
     }
 
-    /// The pending lookup of a ticket goes on as this one: the cache changes, and its request is sent. It fails only if
-    /// out of memory, and then nothing changes.
+    /// The pending lookup of a ticket goes on as this one, which has its nonce still: the cache changes, and its request
+    /// is sent. It fails only if out of memory, and then nothing changes.
     pub(crate) fn lodge(
         &mut self,
         ticket: u64,
         lookup: &Pending,
         change: &Change,
     ) -> Result<Outgoing, AllocError>
-        requires there { IsSome (map.get self.old.pending ticket) }
+        requires there { HasNonce self.old.pending ticket lookup.now.nonce }
         requires lookup { IsLookup lookup.now }
         requires nonce { self.old.next < last_nonce }
         requires change { IsSmall change.now }
@@ -90,33 +93,35 @@ impl<M: PrefixMap<Entry>> Resolver<M> {
     {
         let outgoing = self.request(lookup)?;
         let numbered = self.numbered(lookup);
-        self.table.reserve()?;
+        self.table.prepare()?;
         apply(&mut self.cache, change)?;
-        self.table.replace(ticket, numbered);
-        self.next += 1;
+        self.table.replace(lookup.nonce, numbered);
         Ok(outgoing)
     }
 
-    /// The lookup of a ticket ends, and a record is saved. It fails only if out of memory, and then nothing changes.
+    /// The lookup whose last request has this nonce ends, and a record is saved. It fails only if out of memory, and
+    /// then nothing changes.
     pub(crate) fn save_and_close(
         &mut self,
-        ticket: u64,
+        nonce: u64,
         told: &ReferralRecord,
     ) -> Result<(), AllocError>
         requires { length told.now.servers ≤ most_locators }
-        ensures closed { OnOk result (self.new ≡ dropped (stored self.old told.now) ticket) }
+        ensures closed { (t : ℕ) → HasNonce self.old.pending t nonce
+            → OnOk result (self.new ≡ dropped (stored self.old told.now) t) }
         ensures unchanged { OnErr result (self.new ≡ self.old) }
+        ensures wanted { OnErr result (IsTrue (is_saved self.old.known.live told.now)) }
     {
         apply(&mut self.cache, &Change::Save(*told))?;
-        self.table.remove(ticket);
+        self.table.take(nonce);
         Ok(())
     }
 
-    /// The lookup of a ticket ends.
-    pub(crate) fn close(&mut self, ticket: u64)
-        ensures { self.new ≡ dropped self.old ticket }
+    /// The lookup whose last request has this nonce ends.
+    pub(crate) fn close(&mut self, nonce: u64)
+        ensures { (t : ℕ) → HasNonce self.old.pending t nonce → self.new ≡ dropped self.old t }
     {
-        self.table.remove(ticket);
+        self.table.take(nonce);
     }
 }
 
@@ -124,6 +129,7 @@ impl<M: PrefixMap<Entry>> Resolver<M> {
 fn apply<M: PrefixMap<Entry>>(cache: &mut Cache<M>, change: &Change) -> Result<(), AllocError>
     ensures applied { OnOk result (cache.new ≡ changed cache.old change.now) }
     ensures unchanged { OnErr result (cache.new ≡ cache.old) }
+    ensures wanted { (rec : RecordValue) → change.now ≡ Save rec → OnErr result (IsTrue (is_saved cache.old.live rec)) }
 {
     cache.in_order();
     let now = cache.time();

@@ -1,50 +1,68 @@
-//! The pending lookups, found by ticket and by nonce with no walk.
+//! The pending lookups and the nonces of their requests. A lookup is found by its nonce, and the first that is due by
+//! its place, with no walk.
 
-ghost use Rattle.std.specs.Prelude.{◌≡◌, ◌<◌, ◌≤◌, ◌+◌, ◌⊎◌, ◌==◌, ℕ, cond, is_some, None, Some, IsSome, IfSome, IfNone, OnOk};
-ghost use Rattle.std.specs.HashMap.{get, spare, hash_map_len};
+ghost use Rattle.std.specs.Prelude.{◌≡◌, ◌≢◌, ◌<◌, ◌≤◌, ◌+◌, ℕ, None, Some, IsTrue, IfSome, IfNone, OnOk, OnSome};
 ghost use Rattle.std.specs.FinMap as map;
-ghost use Rattle.ddt_resolver.specs.Table.{map_of, IsUnknown, IsLeastDue, IsNextDue, IsNoneDue};
+ghost use Rattle.std.specs.BTreeMap as btree;
+ghost use Rattle.std.specs.Ordering.{nat_cmp};
+ghost use Rattle.slab.specs.Slab.{get as in_slot};
+ghost use Rattle.ddt_resolver.specs.declared.pending.Pending.{Pending as APending};
+ghost use Rattle.ddt_resolver.specs.Waiting.{Waiting as AWaiting};
+ghost use Rattle.ddt_resolver.specs.Table.{IsUnknown, HasNonce, IsNext, IsLeastDue, IsNoneDue};
 
 use crate::pending::Pending;
+use crate::waiting::Waiting;
+use slab::Slab;
 use std::alloc::{AllocError, Global};
-use std::collections::HashMap;
+use std::collections::BTreeMap;
 use std::marker::Model;
 
-/// The pending lookups. Contracts see them as a finite map by ticket.
+/// The pending lookups. Contracts see them as a finite map by ticket, with the nonce of the next request.
 #[derive(Drop)]
 pub(crate) struct Table {
-    /// Each lookup by its ticket.
-    lookups: HashMap<u64, Pending>,
-    /// The ticket of each lookup by the nonce of its last request.
-    tickets: HashMap<u64, u64>,
+    /// Each lookup with its ticket, in a slot.
+    lookups: Slab<Waiting>,
+    /// The slot of each lookup by the nonce of its last request. The next nonce may lead to any slot: it has an entry
+    /// so that nothing is allocated once its request is sent.
+    slots: BTreeMap<u64, usize>,
+    /// The nonce of the next request. Deadlines rise with nonces, so the lookup with the least nonce is due first.
+    next: u64,
 }
 
 impl Model for Table {
-    ghost use Rattle.std.specs.Prelude.{◌≡◌, ◌==◌, length, min};
+    ghost use Rattle.std.specs.Prelude.{◌≡◌, ◌-◌, is_some};
+    ghost use Rattle.std.specs.Ordering.{nat_cmp};
     ghost use Rattle.std.specs.FinMap as map;
-    ghost use Rattle.std.specs.HashMap.{get, spare};
+    ghost use Rattle.std.specs.BTreeMap as btree;
+    ghost use Rattle.slab.specs.Slab.{get as in_slot, slab_len};
     ghost use Rattle.ddt_resolver.specs.contracts.pending.Pending as pending;
-    ghost use Rattle.ddt_resolver.specs.Table.{Held, held_code, map_of, AreNoted};
+    ghost use Rattle.ddt_resolver.specs.Table.{Held, held_code, by_ticket, IsTable};
 
     ghost Value = { Held };
 
     ghost coded = { held_code pending.the_row.coded };
 
-    ghost view = { λ a.
-        record { lookups = map_of a.lookups.entries; spare = min (spare a.lookups) (spare a.tickets) } };
+    ghost view = { λ a. record {
+      lookups = by_ticket a.lookups;
+      next = a.next;
+      spare = a.lookups.capacity - slab_len a.lookups;
+      is_ready = is_some (btree.get nat_cmp a.slots a.next);
+    } };
 
-    ghost invariant = { λ a. AreNoted (get ◌==◌ a.lookups) (get ◌==◌ a.tickets)
-        × (map.len (map_of a.lookups.entries) ≡ length a.lookups.entries) };
+    ghost invariant = { λ a. IsTable (btree.get nat_cmp a.slots) (in_slot a.lookups) a.next
+        × (map.len (by_ticket a.lookups) ≡ slab_len a.lookups) };
 }
 
 impl Table {
-    /// A table with no lookup.
-    pub(crate) fn new(alloc: Global) -> Table
-        ensures { result.lookups ≡ map.empty }
+    /// A table with no lookup; the first request gets this nonce.
+    pub(crate) fn new(alloc: Global, seed: u64) -> Table
+        ensures lookups { result.lookups ≡ map.empty }
+        ensures next { result.next ≡ seed }
     {
         Table {
-            lookups: HashMap::new(alloc),
-            tickets: HashMap::new(alloc),
+            lookups: Slab::new(alloc),
+            slots: BTreeMap::new(alloc),
+            next: seed,
         }
     }
 
@@ -55,17 +73,24 @@ impl Table {
         self.lookups.len()
     }
 
+    /// The nonce of the next request; the last one is never sent.
+    pub(crate) fn next_nonce(&self) -> u64
+        ensures { result ≡ self.now.next }
+    {
+        self.next
+    }
+
     /// The lookup whose last request has this nonce, with its ticket.
     pub(crate) fn with_nonce(&self, nonce: u64) -> Option<(u64, Pending)>
         ensures found { IfSome result (λ found. map.get self.now.lookups found.0 ≡ Some found.1) }
         ensures nonce { IfSome result (λ found. found.1.nonce ≡ nonce) }
         ensures none { IfNone result (IsUnknown self.now.lookups nonce) }
     {
-        match self.tickets.get(&nonce) {
-            Some(ticket) => match self.lookups.get(ticket) {
-                Some(lookup) => Some((*ticket, *lookup)),
-                None => None,
-            },
+        if nonce >= self.next {
+            return None;
+        }
+        match self.slots.get(&nonce) {
+            Some(slot) => ticket_and_lookup(&self.lookups, *slot),
             None => None,
         }
     }
@@ -78,104 +103,158 @@ impl Table {
         ensures least { IfSome result (λ d. IsLeastDue self.now.lookups time d.1.nonce) }
         ensures none { IfNone result (IsNoneDue self.now.lookups time) }
     {
-        match least_due(&self.lookups, time) {
-            Some((ticket, _nonce)) => match self.lookups.get(&ticket) {
-                Some(lookup) => Some((ticket, *lookup)),
-                None => None,
-            },
-            None => None,
-        }
-    }
-
-    /// Makes room for one more lookup and one more nonce. It fails only if out of memory.
-    pub(crate) fn reserve(&mut self) -> Result<(), AllocError>
-        ensures lookups { self.new.lookups ≡ self.old.lookups }
-        ensures room { OnOk result (0 < self.new.spare) }
-    {
-        self.lookups.reserve(1)?;
-        self.tickets.reserve(1)
-    }
-
-    /// Adds a lookup under a ticket; neither the ticket nor its nonce is in use. It allocates nothing: there is room.
-    pub(crate) fn add(&mut self, ticket: u64, lookup: Pending)
-        requires ticket { map.get self.old.lookups ticket ≡ None }
-        requires nonce { IsUnknown self.old.lookups lookup.nonce }
-        requires room { 0 < self.old.spare }
-        ensures { self.new.lookups ≡ map.insert self.old.lookups ticket lookup }
-    {
-        let nonce = lookup.nonce;
-        put(&mut self.lookups, ticket, lookup);
-        note(&mut self.tickets, nonce, ticket);
-    }
-
-    /// Puts a lookup, whose nonce isn't in use, in the place of that of its ticket. It allocates nothing: there is
-    /// room.
-    pub(crate) fn replace(&mut self, ticket: u64, lookup: Pending)
-        requires ticket { IsSome (map.get self.old.lookups ticket) }
-        requires nonce { IsUnknown self.old.lookups lookup.nonce }
-        requires room { 0 < self.old.spare }
-        ensures { self.new.lookups ≡ map.insert self.old.lookups ticket lookup }
-    {
-        let nonce = lookup.nonce;
-        if let Some(before) = put(&mut self.lookups, ticket, lookup) {
-            note(&mut self.tickets, nonce, ticket);
-            self.tickets.remove(&before.nonce);
-        }
-    }
-
-    /// Removes the lookup of a ticket, and answers it.
-    pub(crate) fn remove(&mut self, ticket: u64) -> Option<Pending>
-        ensures removed { self.new.lookups ≡ map.remove self.old.lookups ticket }
-        ensures before { result ≡ map.get self.old.lookups ticket }
-    {
-        match self.lookups.remove(&ticket) {
-            Some(before) => {
-                let nonce = before.nonce;
-                self.tickets.remove(&nonce);
-                Some(before)
+        match self.first() {
+            Some((ticket, lookup)) => {
+                if lookup.deadline <= time {
+                    Some((ticket, lookup))
+                } else {
+                    None
+                }
             }
             None => None,
         }
     }
+
+    /// The lookup whose last request has the least nonce, with its ticket.
+    fn first(&self) -> Option<(u64, Pending)>
+        ensures found { IfSome result (λ f. map.get self.now.lookups f.0 ≡ Some f.1) }
+        ensures least { IfSome result (λ f. (u : ℕ) (m : APending) → map.get self.now.lookups u ≡ Some m
+            → f.1.nonce ≤ m.nonce) }
+        ensures soonest { IfSome result (λ f. (u : ℕ) (m : APending) → map.get self.now.lookups u ≡ Some m
+            → f.1.deadline ≤ m.deadline) }
+        ensures none { IfNone result ((u : ℕ) → map.get self.now.lookups u ≡ None) }
+    {
+        match self.slots.first_key_value() {
+            Some((nonce, slot)) => {
+                if *nonce < self.next {
+                    ticket_and_lookup(&self.lookups, *slot)
+                } else {
+                    None
+                }
+            }
+            None => None,
+        }
+    }
+
+    /// Makes room for the next nonce. It fails only if out of memory.
+    pub(crate) fn prepare(&mut self) -> Result<(), AllocError>
+        ensures lookups { self.new.lookups ≡ self.old.lookups }
+        ensures next { self.new.next ≡ self.old.next }
+        ensures spare { self.new.spare ≡ self.old.spare }
+        ensures ready { OnOk result (IsTrue self.new.is_ready) }
+    {
+        match self.slots.insert(self.next, 0) {
+            Ok(_slot) => Ok(()),
+            Err(_refused) => Err(AllocError),
+        }
+    }
+
+    /// Makes room for one more lookup and for the next nonce. It fails only if out of memory.
+    pub(crate) fn reserve(&mut self) -> Result<(), AllocError>
+        ensures lookups { self.new.lookups ≡ self.old.lookups }
+        ensures next { self.new.next ≡ self.old.next }
+        ensures room { OnOk result (0 < self.new.spare) }
+        ensures ready { OnOk result (IsTrue self.new.is_ready) }
+    {
+        self.lookups.reserve(1)?;
+        self.prepare()
+    }
+
+    /// Adds a lookup, whose request is sent, under a ticket that isn't in use. It allocates nothing: there is room.
+    pub(crate) fn add(&mut self, ticket: u64, lookup: Pending)
+        requires ticket { map.get self.old.lookups ticket ≡ None }
+        requires next { IsNext self.old lookup }
+        requires room { 0 < self.old.spare }
+        requires ready { IsTrue self.old.is_ready }
+        ensures lookups { self.new.lookups ≡ map.insert self.old.lookups ticket lookup }
+        ensures next { self.new.next ≡ self.old.next + 1 }
+    {
+        let slot = self.lookups.insert_reserved(Waiting { ticket, lookup });
+        note(&mut self.slots, self.next, slot);
+        self.next += 1;
+    }
+
+    /// Puts a lookup, whose request is sent, in the place of that whose last request has this nonce. It allocates
+    /// nothing: there is room for its own nonce.
+    pub(crate) fn replace(&mut self, nonce: u64, lookup: Pending)
+        requires there { (t : ℕ) × HasNonce self.old.lookups t nonce }
+        requires next { IsNext self.old lookup }
+        requires ready { IsTrue self.old.is_ready }
+        ensures lookups { (t : ℕ) → HasNonce self.old.lookups t nonce
+            → self.new.lookups ≡ map.insert self.old.lookups t lookup }
+        ensures next { self.new.next ≡ self.old.next + 1 }
+    {
+        if let Some(before) = self.take(nonce) {
+            self.add(before.ticket, lookup);
+        }
+    }
+
+    /// Takes out the lookup whose last request has this nonce.
+    pub(crate) fn take(&mut self, nonce: u64) -> Option<Waiting>
+        ensures found { IfSome result (λ w. map.get self.old.lookups w.ticket ≡ Some w.lookup) }
+        ensures nonce { IfSome result (λ w. w.lookup.nonce ≡ nonce) }
+        ensures only { IfSome result (λ w. (t : ℕ) → HasNonce self.old.lookups t nonce → w.ticket ≡ t) }
+        ensures taken { IfSome result (λ w. self.new.lookups ≡ map.remove self.old.lookups w.ticket) }
+        ensures room { OnSome result (0 < self.new.spare) }
+        ensures ready { self.new.is_ready ≡ self.old.is_ready }
+        ensures next { self.new.next ≡ self.old.next }
+        ensures none { IfNone result (IsUnknown self.old.lookups nonce) }
+        ensures unchanged { IfNone result (self.new.lookups ≡ self.old.lookups) }
+    {
+        if nonce >= self.next {
+            return None;
+        }
+        match self.slots.remove(&nonce) {
+            Some(slot) => self.lookups.try_remove(slot),
+            None => None,
+        }
+    }
+
+    /// Takes out the lookup of a ticket, and says whether there was one. It walks over the lookups.
+    pub(crate) fn cancel(&mut self, ticket: u64) -> bool
+        ensures removed { self.new.lookups ≡ map.remove self.old.lookups ticket }
+        ensures next { self.new.next ≡ self.old.next }
+        ensures there { result ≡ map.contains_key self.old.lookups ticket }
+    {
+        match nonce_of(&self.lookups, ticket) {
+            Some(nonce) => self.take(nonce).is_some(),
+            None => false,
+        }
+    }
 }
 
-/// Puts a lookup under a ticket, and answers the one before. It allocates nothing: there is room, or there was one.
-fn put(lookups: &mut HashMap<u64, Pending>, ticket: u64, lookup: Pending) -> Option<Pending>
-    requires { (0 < spare lookups.old) ⊎ IsSome (get ◌==◌ lookups.old ticket) }
-    ensures before { result ≡ get ◌==◌ lookups.old ticket }
-    ensures put { (q : ℕ) → get ◌==◌ lookups.new q ≡ cond (ticket == q) (Some lookup) (get ◌==◌ lookups.old q) }
-    ensures len { hash_map_len lookups.new ≡ hash_map_len lookups.old + cond (is_some result) 0 1 }
+/// The lookup in a slot, with its ticket.
+fn ticket_and_lookup(lookups: &Slab<Waiting>, slot: usize) -> Option<(u64, Pending)>
+    ensures found { IfSome result (λ f. in_slot lookups.now slot ≡ Some (record { ticket = f.0; lookup = f.1 })) }
+    ensures none { IfNone result (in_slot lookups.now slot ≡ None) }
 {
-    let put: Result<_, _> = lookups.insert(ticket, lookup);
-    match put.unwrap() {
-        Some(before) => Some(before),
+    match lookups.get(slot) {
+        Some(waiting) => Some((waiting.ticket, waiting.lookup)),
         None => None,
     }
 }
 
-/// Notes the ticket of a nonce. It allocates nothing: there is room.
-fn note(tickets: &mut HashMap<u64, u64>, nonce: u64, ticket: u64)
-    requires { 0 < spare tickets.old }
-    ensures { (q : ℕ) → get ◌==◌ tickets.new q ≡ cond (nonce == q) (Some ticket) (get ◌==◌ tickets.old q) }
+/// Notes the slot of a nonce. It allocates nothing: the nonce has an entry.
+fn note(slots: &mut BTreeMap<u64, usize>, nonce: u64, slot: usize)
+    requires { btree.get nat_cmp slots.old nonce ≢ None }
+    ensures here { btree.get nat_cmp slots.new nonce ≡ Some slot }
+    ensures others { (q : ℕ) → q ≢ nonce → btree.get nat_cmp slots.new q ≡ btree.get nat_cmp slots.old q }
 {
-    let noted: Result<_, _> = tickets.insert(nonce, ticket);
+    let noted: Result<_, _> = slots.insert(nonce, slot);
     noted.unwrap();
 }
 
-/// Of the lookups whose deadline is at or before a time, the ticket and the nonce of that with the least nonce.
-fn least_due(lookups: &HashMap<u64, Pending>, time: u64) -> Option<(u64, u64)>
-    ensures found { IfSome result (λ d. IsNextDue (map_of lookups.now.entries) time d.0 d.1) }
-    ensures none { IfNone result (IsNoneDue (map_of lookups.now.entries) time) }
+/// The nonce of the last request of the lookup of a ticket.
+fn nonce_of(lookups: &Slab<Waiting>, ticket: u64) -> Option<u64>
+    ensures found { IfSome result (λ nonce. (slot : ℕ) × (w : AWaiting) × (in_slot lookups.now slot ≡ Some w)
+        × (w.ticket ≡ ticket) × (w.lookup.nonce ≡ nonce)) }
+    ensures none { IfNone result ((slot : ℕ) (w : AWaiting) → in_slot lookups.now slot ≡ Some w
+        → w.ticket ≢ ticket) }
 {
-    let mut least: Option<(u64, u64)> = None;
-    for (ticket, lookup) in lookups.iter() {
-        let is_first = match least {
-            Some((_ticket, nonce)) => lookup.nonce < nonce,
-            None => true,
-        };
-        if is_first && lookup.deadline <= time {
-            least = Some((*ticket, lookup.nonce));
+    for (_slot, waiting) in lookups.iter() {
+        if waiting.ticket == ticket {
+            return Some(waiting.lookup.nonce);
         }
     }
-    least
+    None
 }

@@ -1,12 +1,13 @@
 //! A tick: of the lookups whose deadline has come, the one that waits longest goes on or ends.
 
-ghost use Rattle.std.specs.Prelude.{◌≡◌, ◌<◌, ℕ, Some, IsSome, IfSome, IfNone, IfOk, OnErr};
+ghost use Rattle.std.specs.Prelude.{◌≡◌, ◌<◌, ℕ, Some, IfSome, IfNone, IfOk, OnErr};
 ghost use Rattle.std.specs.FinMap as map;
 ghost use Rattle.ddt_resolver.specs.declared.pending.Pending.{Pending as APending};
 ghost use Rattle.ddt_resolver.specs.State.{moved, last_nonce};
 ghost use Rattle.ddt_resolver.specs.TickStep.{IsDue, GoOn, TickStep, TickWants};
 ghost use Rattle.ddt_resolver.specs.Acting.{TriesOn};
 ghost use Rattle.ddt_resolver.specs.Order.{IsLookup};
+ghost use Rattle.ddt_resolver.specs.Table.{HasNonce};
 
 use crate::answers::{Ticked, Ticket, Why};
 use crate::pending::Pending;
@@ -69,7 +70,7 @@ impl<M: PrefixMap<Entry>> Resolver<M> {
         if lookup.place + 1 < lookup.servers.as_slice().len() {
             return self.try_on(ticket, &lookup.at_next());
         }
-        self.close(ticket);
+        self.close(lookup.nonce);
         match lookup.kept {
             Some(told) => Ok(Ticked::Answer(
                 Ticket::of(ticket),
@@ -84,14 +85,14 @@ impl<M: PrefixMap<Entry>> Resolver<M> {
 
     /// The lookup of a ticket goes on as this one, or ends where no nonce is left.
     fn try_on(&mut self, ticket: u64, lookup: &Pending) -> Result<Ticked, AllocError>
-        requires there { IsSome (map.get self.old.pending ticket) }
+        requires there { HasNonce self.old.pending ticket lookup.now.nonce }
         requires lookup { IsLookup lookup.now }
         ensures tried { IfOk result (λ ticked. TriesOn self.old ticket lookup.now self.new ticked) }
         ensures unchanged { OnErr result (self.new ≡ self.old) }
         ensures nonce { OnErr result (self.old.next < last_nonce) }
     {
         if self.next_nonce() == u64::MAX {
-            self.close(ticket);
+            self.close(lookup.nonce);
             return Ok(Ticked::GaveUp(Ticket::of(ticket), Why::Exhausted));
         }
         let outgoing = self.lodge(ticket, lookup, &Change::Keep)?;

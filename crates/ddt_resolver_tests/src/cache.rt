@@ -152,10 +152,6 @@ fn forgets<M: PrefixMap<Entry>>(rt: &impl Abort, cache: &mut Cache<M>, prefix: P
     assert_eq!(rt; cache.forget(prefix), went, "{prefix:?}");
 }
 
-fn keeps_time<M: PrefixMap<Entry>>(rt: &impl Abort, cache: &Cache<M>, millis: u64) {
-    assert_eq!(rt; cache.time().millis(), millis);
-}
-
 /// Milliseconds, and whether there is a moment of so many.
 const MOMENTS: &[(u64, bool)] = &[
     (0, true),
@@ -661,29 +657,6 @@ fn full_table<M: PrefixMap<Entry>>(alloc: Global, rt: &impl Abort) {
     has_no_room(rt, &mut cache);
 }
 
-/// Under `rt try --test --fail-alloc N` the allocation of `save` is refused.
-fn a_refused_save<M: PrefixMap<Entry>>(alloc: Global, rt: &impl Abort) {
-    let mut cache = rooted::<M>(alloc, rt);
-    let hole = bare(Action::DelegationHole, prefix(rt, "[0]10.0.0.0/8"), 15);
-    match tried(rt, &mut cache, 1_000, &hole) {
-        Some(saved) => assert_eq!(rt; saved, Saved::Saved),
-        None => is_as_it_was(rt, &mut cache, &hole),
-    }
-    counts(rt, &mut cache, 0, 1);
-}
-
-/// A refused save at moment 1,000 has only moved the time, and the next one is not refused.
-fn is_as_it_was<M: PrefixMap<Entry>>(rt: &impl Abort, cache: &mut Cache<M>, hole: &ReferralRecord) {
-    keeps_time(rt, cache, 1_000);
-    counts(rt, cache, 0, 0);
-    saves(rt, cache, 0, hole);
-}
-
-#[test]
-fn a_refused_save_leaves_the_cache_on_a_list_as_it_was(rt: HostRuntime) {
-    a_refused_save::<ListMap<Entry>>(rt.alloc(), &rt)
-}
-
 #[test]
 fn a_cache_on_a_trie_answers_the_worked_values(rt: HostRuntime) {
     battery::<TrieMap<Entry>>(rt.alloc(), &rt)
@@ -699,9 +672,4 @@ fn a_cache_on_a_trie_answers_as_a_plain_one(rt: HostRuntime) {
 #[test]
 fn a_full_table_on_a_trie(rt: HostRuntime) {
     full_table::<TrieMap<Entry>>(rt.alloc(), &rt)
-}
-
-#[test]
-fn a_refused_save_leaves_the_cache_on_a_trie_as_it_was(rt: HostRuntime) {
-    a_refused_save::<TrieMap<Entry>>(rt.alloc(), &rt)
 }

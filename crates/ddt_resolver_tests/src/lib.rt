@@ -4,4 +4,6 @@
 #[cfg(test)]
 mod cache;
 #[cfg(test)]
+mod refused;
+#[cfg(test)]
 mod resolver;

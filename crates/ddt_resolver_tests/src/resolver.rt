@@ -3,7 +3,7 @@
 //!
 //! In reading order: `lines`, `calls`, `replies`, `limits`, `crowded`, `refusals`; `itr_side` is what ITRs see.
 
-mod calls;
+pub mod calls;
 mod crowded;
 mod itr_side;
 mod limits;

@@ -11,7 +11,7 @@ use ddt_trie::PrefixMap;
 use std::alloc::Global;
 
 /// An empty map has no entry and no longest prefix, and the whole of `from` is free.
-#[tactic(auto, using(ddt_trie::proofs::MapLemmas::map_rules))]
+#[tactic(auto, using(ddt_trie::specs::laws::Map::map_rules))]
 fn nothing<M: PrefixMap<u32>>(
     alloc: Global,
     from: Prefix,
@@ -33,7 +33,7 @@ fn nothing<M: PrefixMap<u32>>(
 }
 
 /// What is inserted is found, and what is refused comes back and leaves the map as it was.
-#[tactic(auto, using(ddt_trie::proofs::MapLemmas::map_rules))]
+#[tactic(auto, using(ddt_trie::specs::laws::Map::map_rules))]
 fn found_again<M: PrefixMap<u32>>(
     kept: &mut M,
     prefix: Prefix,
@@ -49,7 +49,7 @@ fn found_again<M: PrefixMap<u32>>(
 }
 
 /// An insert leaves the value of each other prefix.
-#[tactic(auto, using(ddt_trie::proofs::MapLemmas::map_rules))]
+#[tactic(auto, using(ddt_trie::specs::laws::Map::map_rules))]
 fn others_stay<M: PrefixMap<u32>>(
     kept: &mut M,
     prefix: Prefix,
@@ -65,7 +65,7 @@ fn others_stay<M: PrefixMap<u32>>(
 }
 
 /// A second value takes the place of the first, which is answered, and the count stays.
-#[tactic(auto, using(ddt_trie::proofs::MapLemmas::map_rules))]
+#[tactic(auto, using(ddt_trie::specs::laws::Map::map_rules))]
 fn replaced<M: PrefixMap<u32>>(
     alloc: Global,
     prefix: Prefix,
@@ -81,7 +81,7 @@ fn replaced<M: PrefixMap<u32>>(
 }
 
 /// Of two prefixes that cover an identifier, the inner one is the longest.
-#[tactic(auto, using(ddt_trie::proofs::MapLemmas::map_rules))]
+#[tactic(auto, using(ddt_trie::specs::laws::Map::map_rules))]
 fn innermost<M: PrefixMap<u32>>(
     alloc: Global,
     outer: Prefix,
@@ -102,7 +102,7 @@ fn innermost<M: PrefixMap<u32>>(
 }
 
 /// Where a prefix covers an identifier, nothing is free for it.
-#[tactic(auto, using(ddt_trie::proofs::MapLemmas::map_rules))]
+#[tactic(auto, using(ddt_trie::specs::laws::Map::map_rules))]
 fn nothing_free<M: PrefixMap<u32>>(
     alloc: Global,
     from: Prefix,
@@ -119,7 +119,7 @@ fn nothing_free<M: PrefixMap<u32>>(
 }
 
 /// A prefix that has a value itself is free below.
-#[tactic(auto, using(ddt_trie::proofs::MapLemmas::map_rules))]
+#[tactic(auto, using(ddt_trie::specs::laws::Map::map_rules))]
 fn free_below_itself<M: PrefixMap<u32>>(
     alloc: Global,
     from: Prefix,
@@ -134,7 +134,7 @@ fn free_below_itself<M: PrefixMap<u32>>(
 }
 
 /// Where a prefix strictly below another covers an identifier, nothing is free for it below that one.
-#[tactic(auto, using(ddt_trie::proofs::MapLemmas::map_rules))]
+#[tactic(auto, using(ddt_trie::specs::laws::Map::map_rules))]
 fn nothing_free_below<M: PrefixMap<u32>>(
     alloc: Global,
     from: Prefix,
@@ -152,7 +152,7 @@ fn nothing_free_below<M: PrefixMap<u32>>(
 }
 
 /// What is removed is answered once.
-#[tactic(auto, using(ddt_trie::proofs::MapLemmas::map_rules))]
+#[tactic(auto, using(ddt_trie::specs::laws::Map::map_rules))]
 fn removed<M: PrefixMap<u32>>(
     alloc: Global,
     prefix: Prefix,
@@ -167,7 +167,7 @@ fn removed<M: PrefixMap<u32>>(
 }
 
 /// A filter keeps what passes and drops the rest.
-#[tactic(auto, using(ddt_trie::proofs::MapLemmas::map_rules))]
+#[tactic(auto, using(ddt_trie::specs::laws::Map::map_rules))]
 fn filtered<M: PrefixMap<u32>>(
     kept: &mut M,
     low: Prefix,
@@ -182,7 +182,7 @@ fn filtered<M: PrefixMap<u32>>(
 }
 
 /// A filter that drops the one value leaves nothing.
-#[tactic(auto, using(ddt_trie::proofs::MapLemmas::map_rules))]
+#[tactic(auto, using(ddt_trie::specs::laws::Map::map_rules))]
 fn emptied<M: PrefixMap<u32>>(alloc: Global, prefix: Prefix) -> Result<usize, (Prefix, u32)>
     ensures { IfOk result (λ len. len ≡ 0) }
 {

@@ -8,6 +8,8 @@ mod hash;
 #[cfg(test)]
 mod node;
 #[cfg(test)]
+mod refused;
+#[cfg(test)]
 mod trie;
 #[cfg(test)]
 mod wires;

@@ -1,6 +1,6 @@
 //! Servers of worked configurations: their answers, and what they send for a datagram.
 
-use ddt_config::{ServerConfig, from_toml};
+use ddt_config::from_toml;
 use ddt_ecm::write_request;
 use ddt_examples::configurations::{EAST, NESTED_EAST, ROOT, SHARED_ROOT, TEN, TWO_ETRS};
 use ddt_examples::messages::{
@@ -335,36 +335,6 @@ fn of_sites_inside_sites_the_longest_decides(rt: HostRuntime) -> Result<(), Fail
     for &(xeid, action, prefix) in NESTED {
         let answer = answer(rt.alloc(), &rt, NESTED_EAST, xeid)?;
         assert!(rt; is_of(&answer, action, prefix)?, "{xeid}");
-    }
-    Ok(())
-}
-
-fn is_east(config: &ServerConfig) -> bool {
-    config.name.as_bytes() == b"east".as_slice() && config.authorities.as_slice().len() == 1
-}
-
-/// The configuration of the east, read again where memory was refused.
-fn east(alloc: Global) -> Result<ServerConfig, Fail> {
-    match from_toml(alloc, EAST) {
-        Ok(config) => Ok(config),
-        Err(_refused) => Ok(from_toml(alloc, EAST)?),
-    }
-}
-
-/// The configuration of the east has come back, and is built now.
-fn is_built_again(alloc: Global, rt: &impl Abort, config: ServerConfig) {
-    assert!(rt; is_east(&config) && has_room_for(&config));
-    assert!(rt; ListServer::build(alloc, config).is_ok());
-}
-
-/// Under `rt try --test --fail-alloc N` one allocation is refused, of reading the text or of `build`.
-#[test]
-fn the_configuration_comes_back_where_memory_is_refused(rt: HostRuntime) -> Result<(), Fail> {
-    let config = east(rt.alloc())?;
-    assert!(rt; has_room_for(&config));
-    match ListServer::build(rt.alloc(), config) {
-        Ok(east) => assert!(rt; is_east(east.config())),
-        Err(config) => is_built_again(rt.alloc(), &rt, config),
     }
     Ok(())
 }

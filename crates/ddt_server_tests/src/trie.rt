@@ -1,6 +1,7 @@
-//! Worked values of prefix maps, refused memory, and both maps side by side.
+//! Worked values of prefix maps, and maps side by side.
 
 use ddt_examples::Dice;
+use ddt_hash::HashedMap;
 use ddt_path::{Locator, Prefix, Xeid};
 use ddt_text::{parse_prefix, parse_xeid};
 use ddt_trie::{ListMap, MOST_ENTRIES, PrefixMap, TrieMap};
@@ -10,9 +11,9 @@ use std::test::Fail;
 
 const TEN: u32 = 0x0a00_0000;
 
-const TEN_ONE: u32 = 0x0a01_0000;
+pub const TEN_ONE: u32 = 0x0a01_0000;
 
-const DOCUMENTATION: u128 = 0x2001_0db8_0000_0000_0000_0000_0000_0000;
+pub const DOCUMENTATION: u128 = 0x2001_0db8_0000_0000_0000_0000_0000_0000;
 
 fn v6(address: u128) -> Xeid {
     Xeid {
@@ -23,7 +24,7 @@ fn v6(address: u128) -> Xeid {
 
 // Each call on a map is made and judged in a function of its own, so that the proof of a worked example is short.
 
-fn put<M: PrefixMap<u32>>(
+pub fn put<M: PrefixMap<u32>>(
     rt: &impl Abort,
     map: &mut M,
     prefix: Prefix,
@@ -34,12 +35,12 @@ fn put<M: PrefixMap<u32>>(
 }
 
 /// The value of a prefix.
-fn got<M: PrefixMap<u32>>(map: &M, prefix: Prefix) -> Option<u32> {
+pub fn got<M: PrefixMap<u32>>(map: &M, prefix: Prefix) -> Option<u32> {
     map.get(prefix).copied()
 }
 
 /// The longest prefix that covers the identifier, with its value.
-fn longest<M: PrefixMap<u32>>(map: &M, x: Xeid) -> Option<(Prefix, u32)> {
+pub fn longest<M: PrefixMap<u32>>(map: &M, x: Xeid) -> Option<(Prefix, u32)> {
     match map.longest(x) {
         Some((prefix, value)) => Some((prefix, *value)),
         None => None,
@@ -53,7 +54,7 @@ fn hole_in<M: PrefixMap<u32>>(rt: &impl Abort, map: &M, from: Prefix, x: Xeid) -
 }
 
 /// What is free for the identifier from everything downwards.
-fn hole<M: PrefixMap<u32>>(rt: &impl Abort, map: &M, x: Xeid) -> Option<Prefix> {
+pub fn hole<M: PrefixMap<u32>>(rt: &impl Abort, map: &M, x: Xeid) -> Option<Prefix> {
     hole_in(rt, map, Prefix::cut(x, 0), x)
 }
 
@@ -330,83 +331,10 @@ fn filled<M: PrefixMap<u32>>(alloc: Global, rt: &impl Abort, len: u32) {
     );
 }
 
-/// What a map answers of a prefix, and of an identifier.
-#[derive(Clone, Copy, Debug, PartialEq)]
-struct Answers {
-    len: usize,
-    value: Option<u32>,
-    longest: Option<(Prefix, u32)>,
-    hole: Option<Prefix>,
-}
-
-fn seen<M: PrefixMap<u32>>(rt: &impl Abort, map: &M, prefix: Prefix, x: Xeid) -> Answers {
-    Answers {
-        len: map.len(),
-        value: got(map, prefix),
-        longest: longest(map, x),
-        hole: hole(rt, map, x),
-    }
-}
-
 /// The first digits of an identifier.
-fn front(rt: &impl Abort, x: Xeid, len: u8) -> Prefix {
+pub fn front(rt: &impl Abort, x: Xeid, len: u8) -> Prefix {
     assert!(rt; len <= x.path_len());
     Prefix::cut(x, len)
-}
-
-/// An insert that is refused memory returned the pair, and the map answers as before; asked again, it inserts.
-fn is_as_before<M: PrefixMap<u32>>(
-    rt: &impl Abort,
-    map: &mut M,
-    entry: (Prefix, u32),
-    back: (Prefix, u32),
-    x: Xeid,
-    before: Answers,
-) {
-    assert_eq!(rt; back, entry);
-    judge_answers(rt, seen(rt, map, entry.0, x), before);
-    puts(rt, map, entry.0, entry.1, None);
-}
-
-fn judge_answers(rt: &impl Abort, answers: Answers, before: Answers) {
-    assert_eq!(rt; answers, before);
-}
-
-/// An insert of a new prefix, which may be refused memory, but not twice.
-fn inserts<M: PrefixMap<u32>>(rt: &impl Abort, map: &mut M, prefix: Prefix, x: Xeid, value: u32) {
-    let before = seen(rt, map, prefix, x);
-    match put(rt, map, prefix, value) {
-        Ok(replaced) => assert_eq!(rt; replaced, None),
-        Err(back) => is_as_before(rt, map, (prefix, value), back, x, before),
-    }
-}
-
-/// The identifiers and the lengths of the prefixes that are inserted.
-const INSERTED: &[(Locator, u8)] = &[
-    (Locator::V4(TEN_ONE), 41),
-    (Locator::V4(TEN_ONE), 49),
-    (Locator::V4(TEN_ONE), 65),
-    (Locator::V4(TEN_ONE), 57),
-    (Locator::V4(TEN_ONE), 45),
-    (Locator::V4(TEN_ONE), 33),
-    (Locator::V4(TEN_ONE), 20),
-    (Locator::V6(DOCUMENTATION), 161),
-    (Locator::V6(DOCUMENTATION), 160),
-    (Locator::V4(TEN_ONE), 64),
-];
-
-/// Each of these is inserted, though one may be refused memory at first.
-fn refused<M: PrefixMap<u32>>(alloc: Global, rt: &impl Abort) {
-    let mut map = M::empty(alloc);
-    let mut value: u32 = 0;
-    for &(address, len) in INSERTED {
-        let x = Xeid { iid: 0, address };
-        let prefix = front(rt, x, len);
-        inserts(rt, &mut map, prefix, x, value);
-        gets(rt, &map, prefix, Some(value));
-        value = value.saturating_add(1);
-        counts(rt, &map, value as usize);
-    }
 }
 
 /// One of a few identifiers, many of which begin alike.
@@ -494,13 +422,8 @@ fn trie_map_answers_the_worked_values(rt: HostRuntime) -> Result<(), Fail> {
 }
 
 #[test]
-fn list_map_is_left_by_a_refused_insert(rt: HostRuntime) {
-    refused::<ListMap<u32>>(rt.alloc(), &rt);
-}
-
-#[test]
-fn trie_map_is_left_by_a_refused_insert(rt: HostRuntime) {
-    refused::<TrieMap<u32>>(rt.alloc(), &rt);
+fn hashed_map_answers_the_worked_values(rt: HostRuntime) -> Result<(), Fail> {
+    plays_all::<HashedMap<u32>>(rt.alloc(), &rt)
 }
 
 #[test]
@@ -511,6 +434,11 @@ fn list_map_is_filled_and_dropped(rt: HostRuntime) {
 #[test]
 fn trie_map_is_filled_and_dropped(rt: HostRuntime) {
     filled::<TrieMap<u32>>(rt.alloc(), &rt, 65_535);
+}
+
+#[test]
+fn hashed_map_is_filled_and_dropped(rt: HostRuntime) {
+    filled::<HashedMap<u32>>(rt.alloc(), &rt, 65_535);
 }
 
 #[test]
@@ -531,4 +459,14 @@ fn both_maps_agree_on_calls_of_a_third_draw(rt: HostRuntime) {
 #[test]
 fn both_maps_agree_on_calls_of_a_fourth_draw(rt: HostRuntime) {
     agree::<TrieMap<u32>, ListMap<u32>>(rt.alloc(), &rt, u64::MAX);
+}
+
+#[test]
+fn hashed_map_agrees_on_calls_drawn_by_lot(rt: HostRuntime) {
+    agree::<HashedMap<u32>, TrieMap<u32>>(rt.alloc(), &rt, 2);
+}
+
+#[test]
+fn hashed_map_agrees_on_other_calls(rt: HostRuntime) {
+    agree::<ListMap<u32>, HashedMap<u32>>(rt.alloc(), &rt, 9301);
 }

@@ -11,7 +11,7 @@ use Rattle.ddt_check.specs.Rules.{IsAccepted}
 use Rattle.ddt_cache.specs.declared.entry.Entry.{Entry}
 use Rattle.ddt_cache.specs.Found.{IsFound}
 use Rattle.ddt_cache.specs.Moment.{last_moment}
-use Rattle.ddt_cache.proofs.KnownLemmas.{IsFound-unique}
+use Rattle.ddt_cache.specs.laws.Known.{IsFound-unique}
 use Rattle.ddt_resolver.specs.declared.answers.Outgoing.{Outgoing}
 use Rattle.ddt_resolver.specs.declared.answers.Asked.{Asked}
 use Rattle.ddt_resolver.specs.declared.answers.Asked.TheVariants.{Answer, Sent}
@@ -22,7 +22,7 @@ use Rattle.ddt_resolver.specs.AskStep as ask
 use Rattle.ddt_resolver.specs.AskStep.{AskStep, AskWants, Start, UnlessMemory, OnMemory, answer_of}
 use Rattle.ddt_resolver.specs.Order.{IsInOrder}
 use Rattle.ddt_resolver.specs.Step.{Ask, ToAsk, asks}
-use Rattle.ddt_resolver.proofs.OrderLemmas.{order_moved}
+use Rattle.ddt_resolver.specs.laws.Order.{order_moved}
 use Rattle.ddt_sim.specs.declared.hop.Lookup.{Lookup}
 use Rattle.ddt_sim.specs.declared.hop.LookupError.{LookupError}
 use Rattle.ddt_sim.specs.declared.hop.LookupError.TheVariants.{GaveUp, TooMany, Memory}

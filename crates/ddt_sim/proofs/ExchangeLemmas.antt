@@ -8,7 +8,7 @@ use Rattle.ddt_register.specs.declared.register.Register.{Register}
 use Rattle.ddt_ecm.specs.Request.{Message, Spells}
 use Rattle.ddt_node.specs.Server.{IsDdtRequest}
 use Rattle.ddt_sim.specs.Honest.{IsHonestReply}
-use Rattle.ddt_ecm.specs.Laws.{WrittenSpells, message_of}
+use Rattle.ddt_ecm.specs.laws.Statements.{WrittenSpells, message_of}
 use Rattle.ddt_resolver.specs.declared.answers.Outgoing.{Outgoing}
 use Rattle.ddt_resolver.specs.declared.answers.Heard.{Heard}
 use Rattle.ddt_resolver.specs.declared.answers.Heard.TheVariants as heard

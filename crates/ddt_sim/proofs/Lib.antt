@@ -3,6 +3,7 @@ pub mod CompiledLemmas
 pub mod ExchangeLemmas
 pub mod FollowLemmas
 pub mod PassLemmas
+pub mod SecondPassLemmas
 pub mod ReplyLemmas
 pub mod RunLemmas
 pub mod ShortLemmas
@@ -12,7 +13,10 @@ pub mod TurnLemmas
 pub mod WaitingLemmas
 pub mod ServerLemmas
 pub mod SentLemmas
-pub mod TicketLemmas
 pub mod ScheduleLemmas
 pub mod TriesLemmas
 pub mod StatementLemmas
+pub mod SinceLemmas
+pub mod InForceLemmas
+pub mod AgedLemmas
+pub mod ReplacedLemmas

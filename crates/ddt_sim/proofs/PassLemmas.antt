@@ -11,9 +11,9 @@ use Rattle.ddt_path.specs.declared.record.ReferralRecord.{ReferralRecord}
 use Rattle.ddt_path.specs.declared.xeid.Xeid.{Xeid}
 use Rattle.ddt_path.specs.Covers.{covers}
 use Rattle.ddt_path.specs.Path.{xeid_path}
-use Rattle.ddt_path.proofs.CoverLemmas.{length-covered}
+use Rattle.ddt_path.specs.laws.Cover.{length-covered}
 use Rattle.ddt_wire.specs.Referral.{message_in}
-use Rattle.ddt_wire.specs.Laws.{MessagesAreRead}
+use Rattle.ddt_wire.specs.laws.Statements.{MessagesAreRead}
 use Rattle.ddt_resolver.specs.declared.pending.Pending.{Pending}
 use Rattle.ddt_resolver.specs.declared.answers.Outgoing.{Outgoing}
 use Rattle.ddt_resolver.specs.declared.answers.Asked.TheVariants as asked
@@ -27,8 +27,8 @@ use Rattle.ddt_resolver.specs.AskStep.{AskStep, Start}
 use Rattle.ddt_resolver.specs.TakeUp.{Tells, IsTaken}
 use Rattle.ddt_resolver.specs.Act as acts
 use Rattle.ddt_resolver.specs.Act.{Act, HearStep}
-use Rattle.ddt_resolver.proofs.NumberMapLemmas.{get-insert_same}
-use Rattle.ddt_resolver.proofs.ShapeLemmas.{about_covers, referral_apart}
+use Rattle.ddt_resolver.specs.laws.NumberMap.{get-insert_same}
+use Rattle.ddt_resolver.specs.laws.Shape.{about_covers, referral_apart}
 use Rattle.ddt_sim.specs.declared.hop.Hop.{Hop}
 use Rattle.ddt_sim.specs.declared.hop.Lookup.{Lookup}
 use Rattle.ddt_sim.specs.declared.hop.LookupError.{LookupError}
@@ -208,7 +208,7 @@ module _ (read : MessagesAreRead) (now : ℕ) (x : Xeid) where
     followed_pass new e (acts.concludes k last f g) = absurd (cc g)
     followed_pass new e (acts.starts_over p k start room f g) =
         rw f (lodged_pass (hops ++ hop_of d reply ∷ []) t (forgotten (moved now s) p) (started_over (moved now s) l) its i.begun
-        (λ later are. with_hop later (subst (λ begun. ArePasses top l.saved begun (in_front rec.action later)) (sym start) (before_restart top rec.action l.saved p later k are))))
+        (λ later are. with_hop later (subst (λ begun. ArePasses top l.saved begun (in_front rec.action later)) (sym start.start) (before_restart top rec.action l.saved p later k are))))
     followed_pass new e (acts.nobody k start f g) = absurd (cc g)
     followed_pass new e (acts.used_up k over f g) = absurd (cc g)
 

@@ -10,9 +10,9 @@ use Rattle.ddt_path.specs.Path.{xeid_path}
 use Rattle.ddt_path.specs.Covers.{covers}
 use Rattle.ddt_register.specs.declared.register.Register.{Register}
 use Rattle.ddt_check.specs.Says.{says}
-use Rattle.ddt_check.specs.Laws.{AnswersCover, AnswersHaveServers, AnswersCanBeSent}
+use Rattle.ddt_check.specs.laws.Statements.{AnswersCover, AnswersHaveServers, AnswersCanBeSent}
 use Rattle.ddt_wire.specs.Referral.{Message, Spells, message_of, message_record}
-use Rattle.ddt_wire.specs.Laws.{MessagesAreRead, RecordsComeBack}
+use Rattle.ddt_wire.specs.laws.Statements.{MessagesAreRead, RecordsComeBack}
 use Rattle.ddt_resolver.specs.declared.pending.Pending.{Pending}
 use Rattle.ddt_resolver.specs.declared.answers.Outgoing.{Outgoing}
 use Rattle.ddt_resolver.specs.declared.answers.Ignored.{Ignored}

@@ -7,7 +7,7 @@ use Rattle.ddt_path.specs.declared.locator.Locator.{Locator}
 use Rattle.ddt_path.specs.declared.xeid.Xeid.{Xeid}
 use Rattle.ddt_register.specs.declared.register.Register.{Register}
 use Rattle.ddt_check.specs.Rules.{IsAccepted}
-use Rattle.ddt_ecm.specs.Laws.{WrittenSpells, message_of}
+use Rattle.ddt_ecm.specs.laws.Statements.{WrittenSpells, message_of}
 use Rattle.ddt_node.specs.Server.{IsDdtRequest}
 use Rattle.ddt_cache.specs.Moment.{last_moment}
 use Rattle.ddt_resolver.specs.declared.pending.Pending.{Pending}
@@ -18,29 +18,29 @@ use Rattle.ddt_resolver.specs.State.{State, moved, numbered, request, request_by
 use Rattle.ddt_resolver.specs.Step as resolver
 use Rattle.ddt_resolver.specs.Step.{Call, Hear, Reply, ToAsk, ToDatagram, ToTick}
 use Rattle.ddt_resolver.specs.Order.{IsInOrder, IsLookup}
-use Rattle.ddt_resolver.proofs.OrderLemmas.{order_moved, order_kept}
-use Rattle.ddt_resolver.proofs.NumberMapLemmas.{found_insert, found_remove}
-use Rattle.ddt_resolver.proofs.ShapeLemmas.{Move, stays, opens, sends, drops, IsMoved, moved_by_step, IsQuiet, End}
-use Rattle.ddt_resolver.proofs.ShapeLemmas as shape
+use Rattle.ddt_resolver.specs.laws.Order.{order_moved, order_kept}
+use Rattle.ddt_resolver.specs.laws.NumberMap.{found_insert, found_remove}
+use Rattle.ddt_resolver.specs.laws.Shape.{Move, stays, opens, sends, drops, IsMoved, moved_by_step, IsQuiet, End}
+use Rattle.ddt_resolver.specs.laws.Shape as shape
 use Rattle.ddt_sim.specs.declared.schedule.Step.{Step}
-use Rattle.ddt_sim.specs.declared.schedule.Step.TheVariants.{Ask}
+use Rattle.ddt_sim.specs.declared.schedule.Step.TheVariants.{Ask, Replace}
 use Rattle.ddt_sim.specs.declared.schedule.Event.{Event}
 use Rattle.ddt_sim.specs.declared.schedule.Event.TheVariants.{Replied, Passed, Nothing}
 use Rattle.ddt_sim.specs.declared.schedule.Datagram.{Datagram}
 use Rattle.ddt_sim.specs.Honest.{IsHonestReply}
 use Rattle.ddt_sim.specs.Sound.{IsSound, IsFair, IsRight, StepsKeepSoundness, TimeKeepsSoundness}
 use Rattle.ddt_sim.specs.Waiting.{CanBeAsked}
-use Rattle.ddt_sim.specs.World.{World, honest_replies, request_at, request_from, sent_for, reply_to, event_of, Calls, asked, heard, ticked, Resolves, later, WorldStep, resolves, replies, silent, not_sent, passes}
+use Rattle.ddt_sim.specs.World.{World, Members, MayReply, request_at, request_from, sent_for, reply_to, event_of, Calls, asked, heard, ticked, Resolves, later, by_reply, by_silence, WorldStep, resolves, serves, not_sent, passes, replaces, no_member}
 use Rattle.ddt_sim.specs.History.{Line}
 use Rattle.ddt_sim.proofs.ReplyLemmas.{RepliesAreRead}
 use Rattle.ddt_sim.proofs.SentLemmas.{got_append, WasAsked, IsKnown, known_on, asks_now, reply_is_fair}
 use Rattle.ddt_sim.proofs.SentLemmas as sent
 use Rattle.ddt_sim.proofs.WaitingLemmas.{spelled_request}
-use Rattle.ddt_sim.proofs.TicketLemmas.{Tickets, IsStill, tickets_still, tickets_move}
+use Rattle.ddt_sim.specs.laws.Ticket.{Tickets, IsStill, tickets_still, tickets_move}
 
 -- ---- what a step of the resolver sends
 
-quiet_sends : (a : Reply) → IsQuiet a → request_at (event_of a) ≡ None
+pub quiet_sends : (a : Reply) → IsQuiet a → request_at (event_of a) ≡ None
 quiet_sends (ToAsk (Ok (asked_as.Answer o))) q = refl
 quiet_sends (ToAsk (Ok (asked_as.Sent t d))) q = absurd q
 quiet_sends (ToAsk (Err why)) q = refl
@@ -53,7 +53,7 @@ quiet_sends (ToTick (ticked_as.Sent t d)) q = absurd q
 quiet_sends (ToTick (ticked_as.Answer t o)) q = refl
 quiet_sends (ToTick (ticked_as.GaveUp t why)) q = refl
 
-end_sends : (a : Reply) (t : ℕ) (e : End) → shape.Ends a t e → request_at (event_of a) ≡ None
+pub end_sends : (a : Reply) (t : ℕ) (e : End) → shape.Ends a t e → request_at (event_of a) ≡ None
 end_sends (ToAsk (Ok (asked_as.Answer o))) t e f = refl
 end_sends (ToAsk (Ok (asked_as.Sent u d))) t e f = absurd f
 end_sends (ToAsk (Err why)) t e f = refl
@@ -86,7 +86,7 @@ module _ (s new : State) (call : Call) (a : Reply) (fits : (t : ℕ) (l : Pendin
   sent_by (drops t l e here p n f) = nothing (end_sends a t e f)
 
   -- who is pending can be asked
-  fits_on : Move s call new a → new.me ≡ s.me → (t : ℕ) (l : Pending) → get new.pending t ≡ Some l → CanBeAsked l.x new.me
+  pub fits_on : Move s call new a → new.me ≡ s.me → (t : ℕ) (l : Pending) → get new.pending t ≡ Some l → CanBeAsked l.x new.me
   fits_on m me t l found = subst (CanBeAsked l.x) (sym me) (by m)
     where
       inserted : (u : ℕ) (k : Pending) → CanBeAsked k.x s.me → new.pending ≡ insert s.pending u (numbered s k) → CanBeAsked l.x s.me
@@ -114,7 +114,7 @@ asks_by w step call x (asked y fits e f) g = let same : y ≡ x = cc (e, g) in f
 asks_by w step call x (heard k d e found kind f) g = absurd (cc (e, g))
 asks_by w step call x (ticked e f) g = absurd (cc (e, g))
 
-asked_fits : (w : World) (step : Step) (call : Call) → Calls w step call → (x : Xeid) → call ≡ resolver.Ask x → CanBeAsked x w.state.me
+pub asked_fits : (w : World) (step : Step) (call : Call) → Calls w step call → (x : Xeid) → call ≡ resolver.Ask x → CanBeAsked x w.state.me
 asked_fits w step call (asked y fits e f) x g = let same : y ≡ x = cc (f, g) in subst (λ z. CanBeAsked z w.state.me) same fits
 asked_fits w step call (heard k d e found kind f) x g = absurd (cc (f, g))
 asked_fits w step call (ticked e f) x g = absurd (cc (f, g))
@@ -124,6 +124,7 @@ asked_fits w step call (ticked e f) x g = absurd (cc (f, g))
 pub record IsSoundRun (r : Register) (past : List Line) (w : World) : Type 0 where
   pub order : IsInOrder w.state
   pub early : w.moment ≤ last_moment
+  pub member : w.member ≡ 0
   pub sound : IsSound r w.state
   pub known : (k : ℕ) (d : Datagram) → slice_get w.sent k ≡ Some d → IsKnown r w.state d
   pub fits : (t : ℕ) (l : Pending) → get w.state.pending t ≡ Some l → CanBeAsked l.x w.state.me
@@ -138,15 +139,15 @@ known_at r s now d (sent.request nonce x w is bytes) = sent.request nonce x (was
 known_at r s now d (sent.reply nonce x w is spells) = sent.reply nonce x (was_asked_at r s now d.source nonce x w) is spells
 
 -- what a schedule stands on
-pub record Stands (r : Register) (are_honest : Register → Type 0) : Type 0 where
+pub record Stands (r : Register) (servers : Members) : Type 0 where
   pub accepted : IsAccepted r
-  pub honest : are_honest r
+  pub honest : servers.honest 0 r
   pub keeps : StepsKeepSoundness
   pub time : TimeKeepsSoundness
   pub read : RepliesAreRead r
   pub written : WrittenSpells
 
-module _ (r : Register) (are_honest : Register → Type 0) (on : Stands r are_honest) (past : List Line) (w : World) (i : IsSoundRun r past w) where
+module _ (r : Register) (servers : Members) (on : Stands r servers) (past : List Line) (w : World) (i : IsSoundRun r past w) where
   abbrev pub s : State
   s = moved w.moment w.state
 
@@ -162,11 +163,11 @@ module _ (r : Register) (are_honest : Register → Type 0) (on : Stands r are_ho
       (nonce, x, a, (subst (λ (b : List ℕ). IsDdtRequest b (message_of nonce x (w.state.me ∷ []) true)) (sym bytes) (spelled_request on.written nonce x w.state.me few a.fits, refl)))
 
   -- and its server's reply is honest
-  pub replied_honestly : (k : ℕ) (d : Datagram) (reply : Option (List ℕ)) → slice_get w.sent k ≡ Some d → d.is_reply ≡ false → honest_replies are_honest w.member d.to d.bytes reply
+  pub replied_honestly : (k : ℕ) (d : Datagram) (reply : Option (List ℕ)) → slice_get w.sent k ≡ Some d → d.is_reply ≡ false → MayReply (servers.honest w.member) (servers.silent w.member) d.to d.bytes reply
       → (nonce : ℕ) × (x : Xeid) × WasAsked r w.state d.to nonce x × IsDdtRequest d.bytes (message_of nonce x (w.state.me ∷ []) true) × IsHonestReply r d.to (message_of nonce x (w.state.me ∷ []) true) reply
   replied_honestly k d reply found is may =
       let q = known_request d (i.known k d found) is in
-      (q.0, q.1, q.2, q.3, may r (message_of q.0 q.1 (w.state.me ∷ []) true) on.honest q.2.is_server q.3)
+      (q.0, q.1, q.2, q.3, may.honestly r (message_of q.0 q.1 (w.state.me ∷ []) true) (subst (λ k. servers.honest k r) (sym i.member) on.honest) q.2.is_server q.3)
 
   pub fair : (step : Step) (call : Call) → Calls w step call → IsFair r s call
   fair step call (asked x fits e f) = subst (IsFair r s) (sym f) tt
@@ -202,6 +203,7 @@ module _ (r : Register) (are_honest : Register → Type 0) (on : Stands r are_ho
     resolves_soundly = subst (IsSoundRun r (record { before = w; step = step; event = event; after = new } ∷ past)) (sym does.goes_on) (record {
       order = order_kept s does.call does.state does.reply order_now is_moved;
       early = i.early;
+      member = i.member;
       sound = right_now.0;
       known = λ k d found. known_more k d (subst (λ e. slice_get (w.sent ++ sent_for w.state.me (request_at e)) k ≡ Some d) does.tells found);
       fits = fits_on s does.state does.call does.reply i.fits (asked_fits w step does.call does.calls) is_moved.move is_moved.me;
@@ -218,29 +220,32 @@ module _ (r : Register) (are_honest : Register → Type 0) (on : Stands r are_ho
   pub still_passed : (event : Event) (m : ℕ) → event ≡ Passed m → IsStill event
   still_passed event m e = rw e (record { opens_none = λ t h. h; ends_none = λ t end h. h })
 
-  same_run : (step : Step) (event : Event) (new : World) → IsStill event → new.state ≡ w.state → new.moment ≤ last_moment → ((k : ℕ) (d : Datagram) → slice_get new.sent k ≡ Some d → IsKnown r w.state d)
+  same_run : (step : Step) (event : Event) (new : World) → IsStill event → new.state ≡ w.state → new.member ≡ w.member → new.moment ≤ last_moment → ((k : ℕ) (d : Datagram) → slice_get new.sent k ≡ Some d → IsKnown r w.state d)
       → IsSoundRun r (record { before = w; step = step; event = event; after = new } ∷ past) new
-  same_run step event new still e early known = record {
+  same_run step event new still e same early known = record {
     order = subst IsInOrder (sym e) i.order;
     early = early;
+    member = same ∙ i.member;
     sound = subst (IsSound r) (sym e) i.sound;
     known = λ k d found. subst (λ z. IsKnown r z d) (sym e) (known k d found);
     fits = subst (λ (z : State). (t : ℕ) (l : Pending) → get z.pending t ≡ Some l → CanBeAsked l.x z.me) (sym e) i.fits;
     tickets = tickets_still past (record { before = w; step = step; event = event; after = new }) w.state new.state i.tickets still e;
   }
 
-  pub steps_soundly : (step : Step) (event : Event) (new : World) → WorldStep (honest_replies are_honest) w step event new → IsSoundRun r (record { before = w; step = step; event = event; after = new } ∷ past) new
-  steps_soundly step event new (resolves does) = resolves_soundly step event new does
-  steps_soundly step event new (replies k d bytes is found kind may e f) =
-      same_run step event new (still_replied event (length w.sent) e) (ap (λ (v : World). v.state) f) (subst (λ (v : World). v.moment ≤ last_moment) (sym f) i.early)
-      (λ j c got. elim (got_append w.sent (reply_to d bytes) j c (subst (λ (v : World). slice_get v.sent j ≡ Some c) f got)) [
+  pub steps_soundly : (step : Step) (event : Event) (new : World) → ((k : ℕ) → step ≡ Replace k → ⊥) → WorldStep servers w step event new → IsSoundRun r (record { before = w; step = step; event = event; after = new } ∷ past) new
+  steps_soundly step event new keep (resolves does) = resolves_soundly step event new does
+  steps_soundly step event new keep (serves k more is (by_reply d bytes found kind may e g) f) =
+      same_run step event new (still_replied event (length w.sent) e) (ap (λ (v : World). v.state) f) (ap (λ (v : World). v.member) f) (subst (λ (v : World). v.moment ≤ last_moment) (sym f) i.early)
+      (λ j c got. elim (got_append w.sent (reply_to d bytes) j c (subst (λ l. slice_get l j ≡ Some c) g (subst (λ (v : World). slice_get v.sent j ≡ Some c) f got))) [
         | inl there ↦ i.known j c there
         | inr here ↦ let q = replied_honestly k d (Some bytes) found kind may in subst (IsKnown r w.state) here.1 (sent.reply q.0 q.1 q.2 refl q.4)
       ])
-  steps_soundly step event new (silent k d is found kind may e f) = let q = replied_honestly k d None found kind may in absurd q.4
-  steps_soundly step event new (not_sent k is gone e f) =
-      same_run step event new (still_nothing event e) (ap (λ (v : World). v.state) f) (subst (λ (v : World). v.moment ≤ last_moment) (sym f) i.early) (λ j c got. i.known j c (subst (λ (v : World). slice_get v.sent j ≡ Some c) f got))
-  steps_soundly step event new (passes millis is e f) =
-      same_run step event new (still_passed event (later w.moment millis) e) (ap (λ (v : World). v.state) f)
+  steps_soundly step event new keep (serves k more is (by_silence d found kind may e g) f) = let q = replied_honestly k d None found kind may in absurd q.4
+  steps_soundly step event new keep (not_sent k is gone e f) =
+      same_run step event new (still_nothing event e) (ap (λ (v : World). v.state) f) (ap (λ (v : World). v.member) f) (subst (λ (v : World). v.moment ≤ last_moment) (sym f) i.early) (λ j c got. i.known j c (subst (λ (v : World). slice_get v.sent j ≡ Some c) f got))
+  steps_soundly step event new keep (passes millis is e f) =
+      same_run step event new (still_passed event (later w.moment millis) e) (ap (λ (v : World). v.state) f) (ap (λ (v : World). v.member) f)
       (let le : min (w.moment + millis) last_moment ≤ last_moment = omega arith in subst (λ (v : World). v.moment ≤ last_moment) (sym f) le)
       (λ j c got. i.known j c (subst (λ (v : World). slice_get v.sent j ≡ Some c) f got))
+  steps_soundly step event new keep (replaces k is lt e f) = absurd (keep k is)
+  steps_soundly step event new keep (no_member k is le e f) = absurd (keep k is)

@@ -20,8 +20,8 @@ use Rattle.ddt_resolver.specs.TakeUp as takes
 use Rattle.ddt_resolver.specs.TakeUp.{Tells, IsTaken, Ignores}
 use Rattle.ddt_resolver.specs.Step.{Call, Reply}
 use Rattle.ddt_resolver.specs.Order.{IsInOrder, IsLookup}
-use Rattle.ddt_resolver.proofs.NumberMapLemmas.{found_insert, found_remove, get-insert_same}
-use Rattle.ddt_resolver.proofs.ShapeLemmas.{Move, stays, opens, sends, drops}
+use Rattle.ddt_resolver.specs.laws.NumberMap.{found_insert, found_remove, get-insert_same}
+use Rattle.ddt_resolver.specs.laws.Shape.{Move, stays, opens, sends, drops}
 use Rattle.ddt_sim.specs.declared.schedule.Datagram.{Datagram}
 use Rattle.ddt_sim.specs.Honest.{IsServer}
 use Rattle.ddt_sim.specs.Sound.{IsSound, IsFairDatagram}
@@ -115,7 +115,7 @@ module _ (r : Register) (s : State) (o : IsInOrder s) (call : Call) (new : State
 module _ (r : Register) (laws : RepliesAreRead r) (s : State) (source : Locator) (bytes : List ℕ) (nonce : ℕ) (x : Xeid) (w : WasAsked r s source nonce x)
     (spells : Spells bytes (message_of nonce (says r source (xeid_path x)))) where
   -- whatever the reply tells is this
-  told : (n : ℕ) (rec : ReferralRecord) → Tells bytes n rec → (n ≡ nonce) × (rec ≡ says r source (xeid_path x))
+  pub told : (n : ℕ) (rec : ReferralRecord) → Tells bytes n rec → (n ≡ nonce) × (rec ≡ says r source (xeid_path x))
   told n rec tells =
       let same : tells.message ≡ message_of nonce (says r source (xeid_path x)) = laws.messages.one bytes tells.message (message_of nonce (says r source (xeid_path x))) tells.spells spells in (
         sym tells.same_nonce ∙ ap (λ (m : Message). m.nonce) same,

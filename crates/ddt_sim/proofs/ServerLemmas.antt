@@ -6,7 +6,7 @@ use Rattle.std.proofs.lemmas.Bool.{false≢true}
 use Rattle.ddt_path.specs.declared.locator.Locator.{Locator}
 use Rattle.ddt_path.specs.Locators.{lists}
 use Rattle.ddt_path.specs.Names.{is_same_name}
-use Rattle.ddt_path.proofs.MemberLemmas.{contained, found_in}
+use Rattle.ddt_path.specs.laws.Member.{contained, found_in}
 use Rattle.ddt_register.specs.declared.group.Group.{Group}
 use Rattle.ddt_register.specs.declared.register.Register.{Register}
 use Rattle.ddt_check.specs.Zones.{group_named, locators_of}
@@ -14,7 +14,7 @@ use Rattle.ddt_resolver.specs.declared.pending.Pending.{Pending}
 use Rattle.ddt_resolver.specs.State.{server}
 use Rattle.ddt_sim.specs.Honest.{IsServer}
 use Rattle.ddt_sim.specs.Sound.{IsSoundLookup}
-use Rattle.ddt_path.proofs.LocatorLemmas.{lists_at}
+use Rattle.ddt_path.specs.laws.Locator.{lists_at}
 
 -- a locator of a group by its name is a server's
 server_of_group : (r : Register) (name : List ℕ) (l : Locator) → IsTrue (lists (locators_of r name) l) → IsServer r l

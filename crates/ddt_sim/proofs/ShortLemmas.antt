@@ -11,21 +11,21 @@ use Rattle.ddt_path.specs.declared.xeid.Xeid.{Xeid}
 use Rattle.ddt_path.specs.Covers.{covers}
 use Rattle.ddt_path.specs.Locators.{lists}
 use Rattle.ddt_path.specs.Path.{xeid_path, is_path}
-use Rattle.ddt_path.proofs.MemberLemmas.{in_contained}
-use Rattle.ddt_path.proofs.FilterLemmas.{fewer}
-use Rattle.ddt_path.proofs.LocatorLemmas.{lists_at}
+use Rattle.ddt_path.specs.laws.Member.{in_contained}
+use Rattle.ddt_path.specs.laws.Filter.{fewer}
+use Rattle.ddt_path.specs.laws.Locator.{lists_at}
 use Rattle.ddt_register.specs.declared.zone.Zone.{Zone}
 use Rattle.ddt_register.specs.declared.register.Register.{Register}
 use Rattle.ddt_check.specs.Zones.{locators_of}
 use Rattle.ddt_check.specs.Says.{says, referral_to}
 use Rattle.ddt_path.specs.Actions.{IsReferral}
-use Rattle.ddt_check.specs.Laws.{ServersReferDownwards, ReferralsAreToZones, AnswersHaveServers, ServersOfAGroupAgree, AnswersCanBeSent}
+use Rattle.ddt_check.specs.laws.Statements.{ServersReferDownwards, ReferralsAreToZones, AnswersHaveServers, ServersOfAGroupAgree, AnswersCanBeSent}
 use Rattle.ddt_wire.specs.Referral.{message_of, message_record}
-use Rattle.ddt_wire.specs.Laws.{MessagesAreRead, RecordsComeBack}
+use Rattle.ddt_wire.specs.laws.Statements.{MessagesAreRead, RecordsComeBack}
 use Rattle.ddt_resolver.specs.State.{State, opening}
 use Rattle.ddt_resolver.specs.Records.{start_at}
 use Rattle.ddt_resolver.specs.Order.{IsInOrder, IsLookup}
-use Rattle.ddt_resolver.proofs.ShapeLemmas.{opening_lookup}
+use Rattle.ddt_resolver.specs.laws.Shape.{opening_lookup}
 use Rattle.ddt_sim.specs.declared.hop.Hop.{Hop}
 use Rattle.ddt_sim.specs.Sound.{IsSound, IsSoundLookup}
 use Rattle.ddt_sim.specs.Headline.{IsHonestHop, zones_over}

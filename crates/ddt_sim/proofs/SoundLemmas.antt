@@ -17,21 +17,21 @@ use Rattle.ddt_path.specs.Records.{record_of, referral_action}
 use Rattle.ddt_path.specs.Covers.{covers}
 use Rattle.ddt_path.specs.Path.{xeid_path, is_path}
 use Rattle.ddt_path.specs.Locators.{lists}
-use Rattle.ddt_path.proofs.CoverLemmas.{covers_trans}
-use Rattle.ddt_path.proofs.LocatorLemmas.{lists_at}
-use Rattle.ddt_path.proofs.ActionLemmas.{ack_is}
+use Rattle.ddt_path.specs.laws.Cover.{covers_trans}
+use Rattle.ddt_path.specs.laws.Locator.{lists_at}
+use Rattle.ddt_path.specs.laws.Action.{ack_is}
 use Rattle.ddt_register.specs.declared.zone.Zone.{Zone}
 use Rattle.ddt_register.specs.declared.register.Register.{Register}
 use Rattle.ddt_check.specs.Zones.{locators_of}
 use Rattle.ddt_check.specs.Assignment.{assignment}
 use Rattle.ddt_check.specs.Says.{says, referral_to}
-use Rattle.ddt_check.specs.Laws.{IsFinal, IsItsZone, negative_prefix, EachIdentifierHasOneZone, TheRootIsServed, ServersReferDownwards, ReferralsAreToZones, FinalAnswersAreTheAssignment, RegisteredPrefixesAreSites, NegativesHoldOfAll}
-use Rattle.ddt_trie.proofs.MapLemmas.{found_after_insert}
+use Rattle.ddt_check.specs.laws.Statements.{IsFinal, IsItsZone, negative_prefix, EachIdentifierHasOneZone, TheRootIsServed, ServersReferDownwards, ReferralsAreToZones, FinalAnswersAreTheAssignment, RegisteredPrefixesAreSites, NegativesHoldOfAll}
+use Rattle.ddt_trie.specs.laws.Map.{found_after_insert}
 use Rattle.ddt_cache.specs.declared.entry.Entry.{Entry}
 use Rattle.ddt_cache.specs.Entry.{is_negative, entry_of}
 use Rattle.ddt_cache.specs.Found.{IsFound}
 use Rattle.ddt_cache.specs.Saved.{is_saved}
-use Rattle.ddt_cache.proofs.LiveLemmas.{live_at-is}
+use Rattle.ddt_cache.specs.laws.Live.{live_at-is}
 use Rattle.ddt_resolver.specs.declared.pending.Pending.{Pending}
 use Rattle.ddt_resolver.specs.declared.answers.Asked.{Asked}
 use Rattle.ddt_resolver.specs.declared.answers.AskError.{AskError}
@@ -48,8 +48,8 @@ use Rattle.ddt_resolver.specs.TickStep.{GoOn, TickStep}
 use Rattle.ddt_resolver.specs.Step as steps
 use Rattle.ddt_resolver.specs.Step.{Call, Reply, Step, Hear}
 use Rattle.ddt_resolver.specs.Order.{IsInOrder}
-use Rattle.ddt_resolver.proofs.NumberMapLemmas.{found_insert, found_remove}
-use Rattle.ddt_sim.specs.Sound.{IsTrueEntry, delegates, registers, denies, IsSoundLookup, IsSound, IsFair, IsRight, IsRightAsked, IsRightHeard, IsRightTicked, IsRightEnd}
+use Rattle.ddt_resolver.specs.laws.NumberMap.{found_insert, found_remove}
+use Rattle.ddt_sim.specs.Sound.{IsTrueEntry, delegates, registers, denies, IsNotRegistered, IsSoundLookup, IsSound, IsFair, IsRight, IsRightAsked, IsRightHeard, IsRightTicked, IsRightEnd}
 
 -- the laws of a register that keep a resolver sound
 pub record KeepsLaws (r : Register) : Type 0 where
@@ -64,7 +64,7 @@ pub record KeepsLaws (r : Register) : Type 0 where
 -- ---- what an action means
 
 -- an action with an answer of its own is negative, and the answer is its outcome
-negative_is : (a : Action) (p : List ℕ) (ls : List Locator) (o : Outcome) → negative_answer a p ls ≡ Some o → IsTrue (is_negative a) × (o ≡ outcome_at a p ls)
+pub negative_is : (a : Action) (p : List ℕ) (ls : List Locator) (o : Outcome) → negative_answer a p ls ≡ Some o → IsTrue (is_negative a) × (o ≡ outcome_at a p ls)
 negative_is MsNotRegistered p ls o e = (refl, sym (same_Some _ o e))
 negative_is DelegationHole p ls o e = (refl, sym (same_Some _ o e))
 negative_is NodeReferral p ls o e = absurd (none-some o e)
@@ -81,17 +81,32 @@ unanswered_not_negative MsReferral p ls e h = false≢true h
 unanswered_not_negative MsAck p ls e h = false≢true h
 unanswered_not_negative NotAuthoritative p ls e h = false≢true h
 
-referral_not_negative : (k : Role) → is_negative (referral_action k) ≡ false
+pub referral_not_negative : (k : Role) → is_negative (referral_action k) ≡ false
 referral_not_negative Node = refl
 referral_not_negative Ms = refl
 
 -- a record of an outcome says that outcome
-outcome_back : (o : Outcome) → outcome_of (record_of o) ≡ o
+pub outcome_back : (o : Outcome) → outcome_of (record_of o) ≡ o
 outcome_back (Registered p s) = refl
 outcome_back (NotRegistered p s) = refl
 outcome_back (Hole p) = refl
 
-negative_of : (o : Outcome) → IsTrue (is_negative (record_of o).action) → negative_prefix o ≡ Some (record_of o).prefix
+-- a record of an outcome that no ETR is registered for is of such a site
+unregistered_is : (o : Outcome) → (record_of o).action ≡ MsNotRegistered → (p : List ℕ) × (servers : List Locator) × (o ≡ NotRegistered p servers)
+unregistered_is (Registered p s) e = absurd (cc e)
+unregistered_is (NotRegistered p s) e = (p, s, refl)
+unregistered_is (Hole p) e = absurd (cc e)
+
+pub unregistered_record : (r : Register) (x : List ℕ) (rec : ReferralRecord) → rec ≡ record_of (assignment r x) → rec.action ≡ MsNotRegistered → IsNotRegistered r x rec
+unregistered_record r x rec is k =
+    let h = unregistered_is (assignment r x) (ap (λ (v : ReferralRecord). v.action) (sym is) ∙ k) in
+    (h.0, h.1, h.2, is ∙ ap record_of h.2)
+
+-- what a kept record is answered as is the assignment
+pub kept_is : (r : Register) (x : List ℕ) (rec : ReferralRecord) → IsNotRegistered r x rec → NotRegistered rec.prefix rec.servers ≡ assignment r x
+kept_is r x rec h = ap (λ (v : ReferralRecord). NotRegistered v.prefix v.servers) h.3 ∙ sym h.2
+
+pub negative_of : (o : Outcome) → IsTrue (is_negative (record_of o).action) → negative_prefix o ≡ Some (record_of o).prefix
 negative_of (Registered p s) e = absurd (false≢true e)
 negative_of (NotRegistered p s) e = refl
 negative_of (Hole p) e = refl
@@ -133,16 +148,16 @@ module _ (r : Register) (laws : KeepsLaws r) (s : State) (o : IsInOrder s) (i : 
   pub begun : (x : Xeid) (p : List ℕ) (e : Entry) → IsFound s.known (xeid_path x) p e → answer_of p e ≡ None → IsSoundLookup r (opening x e.servers (start_at p))
   begun x p e (inr root) free =
       let z = laws.root in
-      record { zone = z.0; is_zone = z.1.is_zone; covers_x = rw z.1.is_everything refl; servers = ap (λ (f : Entry). f.servers) root.entry ∙ i.root ∙ sym z.1.its_servers; saved = inl refl; kept = inl refl }
+      record { zone = z.0; is_zone = z.1.is_zone; covers_x = rw z.1.is_everything refl; servers = ap (λ (f : Entry). f.servers) root.entry ∙ i.root ∙ sym z.1.its_servers; saved = inl refl; kept = λ rec h. absurd (none-some rec h) }
   begun x p e (inl found) free = by (i.entries p e found.value)
     where
       by : IsTrueEntry r p e → IsSoundLookup r (opening x e.servers (start_at p))
-      by (delegates z is same action servers) = record { zone = z; is_zone = is; covers_x = rw same found.covers_it; servers = servers; saved = inl refl; kept = inl refl }
+      by (delegates z is same action servers) = record { zone = z; is_zone = is; covers_x = rw same found.covers_it; servers = servers; saved = inl refl; kept = λ rec h. absurd (none-some rec h) }
       by (registers site z is same action its_zone servers) =
           let h = laws.zones p in
           let one : h.0 ≡ z = same_Some h.0 z (sym h.1 ∙ its_zone) in
           let own : IsItsZone r p z = subst (IsItsZone r p) one h.2 in
-          record { zone = z; is_zone = own.is_zone; covers_x = covers_trans z.prefix p (xeid_path x) own.covers_it found.covers_it; servers = servers; saved = inl refl; kept = inl refl }
+          record { zone = z; is_zone = own.is_zone; covers_x = covers_trans z.prefix p (xeid_path x) own.covers_it found.covers_it; servers = servers; saved = inl refl; kept = λ rec h. absurd (none-some rec h) }
       by (denies neg h) = absurd (unanswered_not_negative e.action p e.servers free neg)
 
   -- an entry that answers by itself answers the assignment
@@ -204,6 +219,9 @@ module _ (r : Register) (laws : KeepsLaws r) (s : State) (o : IsInOrder s) (i : 
       gives : IsFinal rec.action → outcome_of rec ≡ assignment r (xeid_path l.x)
       gives k = ap outcome_of (final k) ∙ outcome_back (assignment r (xeid_path l.x))
 
+      unregistered : rec.action ≡ MsNotRegistered → IsNotRegistered r (xeid_path l.x) rec
+      unregistered k = unregistered_record r (xeid_path l.x) rec (final (inr (inl k))) k
+
       child : IsReferral rec.action → (w : Zone) × Contains r.zones w × IsTrue (covers w.prefix (xeid_path l.x)) × (rec ≡ referral_to r w)
       child k = let h = laws.to_zones (server s.me l) (xeid_path l.x) (subst (λ (v : ReferralRecord). IsReferral v.action) honest k) in (h.0, h.1, h.2, honest ∙ h.3)
 
@@ -232,13 +250,13 @@ module _ (r : Register) (laws : KeepsLaws r) (s : State) (o : IsInOrder s) (i : 
       acted new heard (acts.loops k loop e f) = absurd (loop (below k))
       acted new heard (acts.refers k lower more e f) =
           let h = child k in
-          let found : IsSoundLookup r (referred l rec) = record { zone = h.0; is_zone = h.1; covers_x = h.2; servers = ap (λ (v : ReferralRecord). v.servers) h.3; saved = inr (ap (λ (v : ReferralRecord). Some v.prefix) h.3); kept = inl refl } in
+          let found : IsSoundLookup r (referred l rec) = record { zone = h.0; is_zone = h.1; covers_x = h.2; servers = ap (λ (v : ReferralRecord). v.servers) h.3; saved = inr (ap (λ (v : ReferralRecord). Some v.prefix) h.3); kept = λ rec h. absurd (none-some rec h) } in
           rw (e, f) (sound_lodged r (stored s rec) (sound_stored r s i rec (referral_entry k)) t (referred l rec) found, tt)
       acted new heard (acts.acknowledges k e f) = rw (e, f) (sound_dropped r (stored s rec) (sound_stored r s i rec (ack_entry k)) t, ended (outcome_of rec) (gives (inl k)))
       acted new heard (acts.closes k e f) =
           rw (e, f) (sound_dropped r (stored s rec) (sound_stored r s i rec (negative_entry (inr (inr k)) (rw k refl))) t, ended (outcome_of rec) (gives (inr (inr k))))
       acted new heard (acts.passes_on k more room e f) =
-          let kept : IsSoundLookup r (passed_on l rec) = record { zone = z.zone; is_zone = z.is_zone; covers_x = z.covers_x; servers = z.servers; saved = z.saved; kept = inr (ap Some (final (inr (inl k)))) } in
+          let kept : IsSoundLookup r (passed_on l rec) = record { zone = z.zone; is_zone = z.is_zone; covers_x = z.covers_x; servers = z.servers; saved = z.saved; kept = λ own h. subst (IsNotRegistered r (xeid_path l.x)) (same_Some rec own h) (unregistered k) } in
           rw (e, f) (sound_lodged r s i t (passed_on l rec) kept, tt)
       acted new heard (acts.concludes k last e f) =
           rw (e, f) (sound_dropped r (stored s rec) (sound_stored r s i rec (negative_entry (inr (inl k)) (rw k refl))) t, ended (outcome_of rec) (gives (inr (inl k))))
@@ -250,19 +268,10 @@ module _ (r : Register) (laws : KeepsLaws r) (s : State) (o : IsInOrder s) (i : 
     same_place new x servers saved kept =
         record { zone = z.zone; is_zone = z.is_zone; covers_x = rw x z.covers_x; servers = servers ∙ z.servers; saved = rw saved z.saved; kept = rw (kept, x) z.kept }
 
-    kept_outcome : (rec : ReferralRecord) → rec.action ≡ MsNotRegistered → NotRegistered rec.prefix rec.servers ≡ outcome_of rec
-    kept_outcome rec k = rw k refl
-
     went_on : (new : State) (ticked : Ticked) → GoOn s t l new ticked → IsSound r new × IsRightTicked r s ticked
     went_on new ticked (ticks.again first room e f) = rw (e, f) (sound_lodged r s i t (tried_again l) (same_place (tried_again l) refl refl refl refl), tt)
     went_on new ticked (ticks.next_place second more room e f) = rw (e, f) (sound_lodged r s i t (at_next l) (same_place (at_next l) refl refl refl refl), tt)
-    went_on new ticked (ticks.answered rec second last kept e f) = rw (e, f) (sound_dropped r s i t, ended (NotRegistered rec.prefix rec.servers) (by z.kept))
-      where
-        by : (l.kept ≡ None) ⊎ (l.kept ≡ Some (record_of (assignment r (xeid_path l.x)))) → NotRegistered rec.prefix rec.servers ≡ assignment r (xeid_path l.x)
-        by (inl none) = absurd (none-some rec (sym none ∙ kept))
-        by (inr own_record) =
-            kept_outcome rec ((o.lookups t l here).lookup.kept_action rec kept)
-            ∙ ap outcome_of (same_Some rec (record_of (assignment r (xeid_path l.x))) (sym kept ∙ own_record)) ∙ outcome_back (assignment r (xeid_path l.x))
+    went_on new ticked (ticks.answered rec second last kept e f) = rw (e, f) (sound_dropped r s i t, ended (NotRegistered rec.prefix rec.servers) (kept_is r (xeid_path l.x) rec (z.kept rec kept)))
     went_on new ticked (ticks.no_reply second last none e f) = rw (e, f) (sound_dropped r s i t, inl refl)
     went_on new ticked (ticks.used_up more over e f) = rw (e, f) (sound_dropped r s i t, inr refl)
 

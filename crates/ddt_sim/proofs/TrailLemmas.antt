@@ -23,7 +23,7 @@ use Rattle.ddt_resolver.specs.TakeUp.{Tells, IsTaken}
 use Rattle.ddt_resolver.specs.Act as acts
 use Rattle.ddt_resolver.specs.Act.{Act, HearStep}
 use Rattle.ddt_resolver.specs.Order.{IsInOrder, IsLookup}
-use Rattle.ddt_resolver.proofs.ShapeLemmas.{opening_lookup}
+use Rattle.ddt_resolver.specs.laws.Shape.{opening_lookup}
 use Rattle.ddt_sim.specs.declared.hop.Hop.{Hop}
 use Rattle.ddt_sim.specs.declared.hop.Lookup.{Lookup}
 use Rattle.ddt_sim.specs.declared.hop.LookupError.{LookupError}
@@ -118,7 +118,7 @@ module _ (now : ℕ) (x : Xeid) (s0 : State) (outcome : Outcome) (rooted : 0 < l
         let out : e ≡ request (forgotten (moved now s) p) (started_over (moved now s) l) = cc g in
         let some : 0 < length s.known.roots = subst (λ (set : List Locator). 0 < length set) (sym a.roots) rooted in
         rw (f, out) (lodged_along now x s0 outcome (hops ++ hop_of d reply ∷ []) t (forgotten (moved now s) p) (started_over (moved now s) l) later its_x some a.me a.roots
-        (λ more left. with_hop more (subst (λ begun. IsTrail x s0.me s0.known.roots outcome l.saved begun (server s.me l ∷ drop (l.place + 1) l.servers) (hop_of d reply ∷ more)) (sym start)
+        (λ more left. with_hop more (subst (λ begun. IsTrail x s0.me s0.known.roots outcome l.saved begun (server s.me l ∷ drop (l.place + 1) l.servers) (hop_of d reply ∷ more)) (sym start.start)
         (trail.starts_over p rec hop k (subst (λ set. IsTrail x s0.me s0.known.roots outcome None None set more) a.roots left)))))
     acted_along new e (acts.nobody k start f g) = absurd (cc g)
     acted_along new e (acts.used_up k over f g) = absurd (cc g)

@@ -12,7 +12,7 @@ use Rattle.ddt_path.specs.Path.{xeid_path}
 use Rattle.ddt_register.specs.declared.register.Register.{Register}
 use Rattle.ddt_check.specs.Says.{says}
 use Rattle.ddt_ecm.specs.Request.{Message}
-use Rattle.ddt_ecm.specs.Laws.{message_of}
+use Rattle.ddt_ecm.specs.laws.Statements.{message_of}
 use Rattle.ddt_node.specs.Server.{IsDdtRequest}
 use Rattle.ddt_wire.specs.Referral.{Spells, message_of as referral_of}
 use Rattle.ddt_resolver.specs.declared.pending.Pending.{Pending}
@@ -32,23 +32,23 @@ use Rattle.ddt_resolver.specs.TickStep as tick
 use Rattle.ddt_resolver.specs.TickStep.{TickStep, GoOn}
 use Rattle.ddt_resolver.specs.Step as resolver
 use Rattle.ddt_resolver.specs.Step.{Call, Hear, Reply, ToAsk, ToDatagram, ToTick, asks, hears, ticks}
-use Rattle.ddt_resolver.proofs.NumberMapLemmas.{found_insert, found_remove}
-use Rattle.ddt_resolver.proofs.ShapeLemmas.{Move, stays, opens, sends, drops, IsMoved, IsQuiet, Goes, anew, keeps, repeats, goes_on, End}
-use Rattle.ddt_resolver.proofs.ShapeLemmas as shape
+use Rattle.ddt_resolver.specs.laws.NumberMap.{found_insert, found_remove}
+use Rattle.ddt_resolver.specs.laws.Shape.{Move, stays, opens, sends, drops, IsMoved, IsQuiet, Goes, anew, keeps, repeats, goes_on, End}
+use Rattle.ddt_resolver.specs.laws.Shape as shape
 use Rattle.ddt_sim.specs.declared.schedule.Step.{Step}
-use Rattle.ddt_sim.specs.declared.schedule.Step.TheVariants.{Deliver}
+use Rattle.ddt_sim.specs.declared.schedule.Step.TheVariants.{Deliver, Replace}
 use Rattle.ddt_sim.specs.declared.schedule.Event.{Event}
-use Rattle.ddt_sim.specs.declared.schedule.Event.TheVariants.{Asked, Refused, Replied, Silent, Heard, Passed, Ticked, Nothing}
+use Rattle.ddt_sim.specs.declared.schedule.Event.TheVariants.{Asked, Refused, Replied, Silent, Heard, Passed, Ticked, Replaced, Nothing}
 use Rattle.ddt_sim.specs.declared.schedule.Datagram.{Datagram}
 use Rattle.ddt_sim.specs.Honest.{IsServer, IsHonestReply}
-use Rattle.ddt_sim.specs.World.{World, honest_replies, request_at, request_from, sent_for, reply_to, event_of, Calls, asked, heard, ticked, Resolves, later, WorldStep, resolves, replies, silent, not_sent, passes}
+use Rattle.ddt_sim.specs.World.{World, Members, MayReply, request_at, request_from, sent_for, reply_to, event_of, Calls, asked, heard, ticked, Resolves, later, by_reply, by_silence, WorldStep, resolves, serves, not_sent, passes, replaces, no_member}
 use Rattle.ddt_sim.specs.History.{Line, Among}
 use Rattle.ddt_sim.specs.Schedules.{Ends}
 use Rattle.ddt_sim.specs.Tries.{Sends, Try, try_in, IsSentFor, IsReplyBy, IsHeardBy, IsUnanswered, request_to, IsInVain, IsLater, AreInVain, tries_after, tries_of, HasNoReply, IsRightNoReply}
 use Rattle.ddt_sim.proofs.ReplyLemmas.{IsFor, late_or_taken}
 use Rattle.ddt_sim.proofs.ServerLemmas.{asks_a_server}
 use Rattle.ddt_sim.proofs.SentLemmas.{get_append, get_last}
-use Rattle.ddt_sim.proofs.TicketLemmas.{goes_on_reply}
+use Rattle.ddt_sim.specs.laws.Ticket.{goes_on_reply}
 use Rattle.ddt_sim.proofs.WaitingLemmas.{spelled_request}
 use Rattle.ddt_sim.proofs.ScheduleLemmas.{IsSoundRun, Stands, goes_sends, order_now, is_moved}
 
@@ -67,6 +67,7 @@ Tells (Refused why) t = ⊥
 Tells (Replied k) t = ⊥
 Tells Silent t = ⊥
 Tells (Passed m) t = ⊥
+Tells (Replaced k) t = ⊥
 Tells Nothing t = ⊥
 
 quiet_tells : (a : Reply) (t : ℕ) → IsQuiet a → Tells (event_of a) t → ⊥
@@ -131,6 +132,7 @@ untold_tries t (Refused why) this earlier non = refl
 untold_tries t (Replied k) this earlier non = refl
 untold_tries t Silent this earlier non = refl
 untold_tries t (Passed m) this earlier non = refl
+untold_tries t (Replaced k) this earlier non = refl
 untold_tries t Nothing this earlier non = refl
 
 -- how many tries at its place a lookup has behind its last
@@ -256,7 +258,7 @@ none_replies (ToAsk (Err why)) event reply e f = cc (e, f)
 none_replies (ToDatagram h) event reply e f = cc (e, f)
 none_replies (ToTick t) event reply e f = cc (e, f)
 
-module _ (r : Register) (are_honest : Register → Type 0) (on : Stands r are_honest) (past : List Line) (w : World) (sound : IsSoundRun r past w) (i : IsTried r past w)
+module _ (r : Register) (servers : Members) (on : Stands r servers) (past : List Line) (w : World) (sound : IsSoundRun r past w) (i : IsTried r past w)
     (step : Step) (event : Event) (new : World) (does : Resolves w step event new) where
   abbrev now_line : Line
   now_line = record { before = w; step = step; event = event; after = new }
@@ -265,7 +267,7 @@ module _ (r : Register) (are_honest : Register → Type 0) (on : Stands r are_ho
   s = moved w.moment w.state
 
   moves : IsMoved s does.call does.state does.reply
-  moves = is_moved r are_honest on past w sound step event new does
+  moves = is_moved r servers on past w sound step event new does
 
   abbrev more : List Datagram
   more = sent_for w.state.me (request_at event)
@@ -313,7 +315,7 @@ module _ (r : Register) (are_honest : Register → Type 0) (on : Stands r are_ho
       let honest = p.honest (message_of l.nonce l.x (w.state.me ∷ []) true) (subst (λ (z : Datagram). IsServer r z.to) (sym asked) is_server) (subst (λ (z : Datagram). IsDdtRequest z.bytes (message_of l.nonce l.x (w.state.me ∷ []) true)) (sym asked) (spells, refl)) in
       let said : Spells d.0.bytes (referral_of l.nonce (says r d.0.source (xeid_path l.x))) = subst (λ (z : Datagram). Spells z.bytes (referral_of l.nonce (says r z.source (xeid_path l.x)))) (sym came) honest in
       let heard_it = hears_it does.call does.state does.reply d.0.source d.0.bytes hearing d.2 (sym does.tells ∙ happened) does.does in
-      elim (late_or_taken r on.read s (order_now r are_honest on past w sound) t l found d.0.source from d.0.bytes said does.state hearing heard_it) [
+      elim (late_or_taken r on.read s (order_now r servers on past w sound) t l found d.0.source from d.0.bytes said does.state hearing heard_it) [
         | inl late ↦ let e = h.deadline in let time = i.time in omega (arith, late, e, time)
         | inr told ↦ absurd (untold (subst (λ e. Tells e t) (sym happened) told))
       ]
@@ -421,7 +423,7 @@ module _ (r : Register) (are_honest : Register → Type 0) (on : Stands r are_ho
 
 -- ---- the other steps
 
-module _ (r : Register) (are_honest : Register → Type 0) (on : Stands r are_honest) (past : List Line) (w : World) (sound : IsSoundRun r past w) (i : IsTried r past w)
+module _ (r : Register) (servers : Members) (on : Stands r servers) (past : List Line) (w : World) (sound : IsSoundRun r past w) (i : IsTried r past w)
     (step : Step) (event : Event) (new : World) where
   abbrev this_line : Line
   this_line = record { before = w; step = step; event = event; after = new }
@@ -452,7 +454,7 @@ module _ (r : Register) (are_honest : Register → Type 0) (on : Stands r are_ho
       stays_tried [] (sent ∙ sym (append-nil w.sent)) same le unheard untold (λ reply e. absurd (unreplied reply e)) (λ reply number h. absurd (unreplied reply h.1))
 
   -- a server replies
-  reply_tried : (k : ℕ) (d : Datagram) (bytes : List ℕ) → step ≡ Deliver k → slice_get w.sent k ≡ Some d → honest_replies are_honest w.member d.to d.bytes (Some bytes) → event ≡ Replied (length w.sent)
+  reply_tried : (k : ℕ) (d : Datagram) (bytes : List ℕ) → step ≡ Deliver k → slice_get w.sent k ≡ Some d → MayReply (servers.honest w.member) (servers.silent w.member) d.to d.bytes (Some bytes) → event ≡ Replied (length w.sent)
       → new ≡ record w { sent = w.sent ++ reply_to d bytes ∷ [] } → IsTried r (this_line ∷ past) new
   reply_tried k d bytes is found may e f =
       stays_tried (reply_to d bytes ∷ []) sent (ap (λ (v : World). v.state) f) (subst (λ (v : World). w.moment ≤ v.moment) (sym f) (omega arith)) (λ h g. cc (e, g)) (λ t told. subst (λ v. Tells v t) e told) (λ reply g. cc (e, g))
@@ -467,19 +469,21 @@ module _ (r : Register) (are_honest : Register → Type 0) (on : Stands r are_ho
         bytes = bytes;
         is_request = get_append w.sent (reply_to d bytes ∷ []) k d found;
         is_reply = get_last w.sent (reply_to d bytes);
-        honest = λ m server spells. may r m on.honest server spells;
+        honest = λ m server spells. may.honestly r m (subst (λ k. servers.honest k r) (sym sound.member) on.honest) server spells;
       }
 
-  pub tried_on : WorldStep (honest_replies are_honest) w step event new → IsTried r (this_line ∷ past) new
-  tried_on (resolves does) = tried_move r are_honest on past w sound i step event new does
-  tried_on (replies k d bytes is found kind may e f) = reply_tried k d bytes is found may e f
-  tried_on (silent k d is found kind may e f) =
+  pub tried_on : ((k : ℕ) → step ≡ Replace k → ⊥) → WorldStep servers w step event new → IsTried r (this_line ∷ past) new
+  tried_on keep (resolves does) = tried_move r servers on past w sound i step event new does
+  tried_on keep (serves k more is (by_reply d bytes found kind may e g) f) = reply_tried k d bytes is found may e (f ∙ ap (λ l. record w { sent = l }) g)
+  tried_on keep (serves k more is (by_silence d found kind may e g) f) =
+      rests_tried (ap (λ (v : World). v.sent) f ∙ g) (ap (λ (v : World). v.state) f) (subst (λ (v : World). w.moment ≤ v.moment) (sym f) (omega arith)) (λ h g. cc (e, g)) (λ t told. subst (λ v. Tells v t) e told) (λ reply g. cc (e, g))
+  tried_on keep (not_sent k is gone e f) =
       rests_tried (ap (λ (v : World). v.sent) f) (ap (λ (v : World). v.state) f) (subst (λ (v : World). w.moment ≤ v.moment) (sym f) (omega arith)) (λ h g. cc (e, g)) (λ t told. subst (λ v. Tells v t) e told) (λ reply g. cc (e, g))
-  tried_on (not_sent k is gone e f) =
-      rests_tried (ap (λ (v : World). v.sent) f) (ap (λ (v : World). v.state) f) (subst (λ (v : World). w.moment ≤ v.moment) (sym f) (omega arith)) (λ h g. cc (e, g)) (λ t told. subst (λ v. Tells v t) e told) (λ reply g. cc (e, g))
-  tried_on (passes millis is e f) =
+  tried_on keep (passes millis is e f) =
       rests_tried (ap (λ (v : World). v.sent) f) (ap (λ (v : World). v.state) f)
       (let early = sound.early in let le : w.moment ≤ later w.moment millis = omega (arith, early) in subst (λ (v : World). w.moment ≤ v.moment) (sym f) le) (λ h g. cc (e, g)) (λ t told. subst (λ v. Tells v t) e told) (λ reply g. cc (e, g))
+  tried_on keep (replaces k is lt e f) = absurd (keep k is)
+  tried_on keep (no_member k is le e f) = absurd (keep k is)
 
 -- ---- the end without a reply
 
@@ -527,7 +531,7 @@ module _ (s : State) (new : State) (t : ℕ) where
   last_due call a (ticks h (tick.nothing none e f) called to) ends = absurd (subst (λ v. Ends (Ticked v) t end) f (subst (λ b. Ends (event_of b) t end) to ends))
   last_due call a (ticks h (tick.due u l due on) called to) ends = ticked_none u l h due.is_pending due.over on (subst (λ b. Ends (event_of b) t end) to ends)
 
-module _ (r : Register) (are_honest : Register → Type 0) (past : List Line) (w : World) (sound : IsSoundRun r past w) (i : IsTried r past w) where
+module _ (r : Register) (servers : Members) (past : List Line) (w : World) (sound : IsSoundRun r past w) (i : IsTried r past w) where
   no_reply_now : (t : ℕ) → IsLastDue (moved w.moment w.state) t → HasNoReply r past w t
   no_reply_now t d =
       let h : Trail past w t d.lookup = i.trails t d.lookup d.is_pending d.none in
@@ -550,9 +554,11 @@ module _ (r : Register) (are_honest : Register → Type 0) (past : List Line) (w
         in_vain = subst (AreInVain past w t d.lookup.servers d.lookup.x) (sym h.are_all) vain;
       }
 
-  pub right_no_reply : (step : Step) (event : Event) (new : World) → WorldStep (honest_replies are_honest) w step event new → IsRightNoReply r past (record { before = w; step = step; event = event; after = new })
+  pub right_no_reply : (step : Step) (event : Event) (new : World) → WorldStep servers w step event new → IsRightNoReply r past (record { before = w; step = step; event = event; after = new })
   right_no_reply step event new (resolves does) t ends = no_reply_now t (last_due (moved w.moment w.state) does.state t does.call does.reply does.does (subst (λ e. Ends e t (Err NoReply)) does.tells ends))
-  right_no_reply step event new (replies k d bytes is found kind may e f) t ends = absurd (subst (λ v. Ends v t (Err NoReply)) e ends)
-  right_no_reply step event new (silent k d is found kind may e f) t ends = absurd (subst (λ v. Ends v t (Err NoReply)) e ends)
+  right_no_reply step event new (serves k _ is (by_reply d bytes found kind may e g) f) t ends = absurd (subst (λ v. Ends v t (Err NoReply)) e ends)
+  right_no_reply step event new (serves k _ is (by_silence d found kind may e g) f) t ends = absurd (subst (λ v. Ends v t (Err NoReply)) e ends)
   right_no_reply step event new (not_sent k is gone e f) t ends = absurd (subst (λ v. Ends v t (Err NoReply)) e ends)
   right_no_reply step event new (passes millis is e f) t ends = absurd (subst (λ v. Ends v t (Err NoReply)) e ends)
+  right_no_reply step event new (replaces k is lt e f) t ends = absurd (subst (λ v. Ends v t (Err NoReply)) e ends)
+  right_no_reply step event new (no_member k is past_all e f) t ends = absurd (subst (λ v. Ends v t (Err NoReply)) e ends)

@@ -18,7 +18,7 @@ use Rattle.ddt_resolver.specs.Step as steps
 use Rattle.ddt_resolver.specs.Act as acts
 use Rattle.ddt_resolver.specs.Act.{Act, HearStep}
 use Rattle.ddt_resolver.specs.Order.{IsInOrder}
-use Rattle.ddt_resolver.proofs.OrderLemmas.{order_moved}
+use Rattle.ddt_resolver.specs.laws.Order.{order_moved}
 use Rattle.ddt_cache.specs.Moment.{last_moment}
 use Rattle.ddt_sim.specs.Honest.{IsServer}
 use Rattle.ddt_sim.specs.Sound.{IsSound, IsRightWhy, IsRightHeard, StepsKeepSoundness, TimeKeepsSoundness}

@@ -5,7 +5,7 @@ use Rattle.std.proofs.lemmas.Option.{same_Some}
 use Rattle.ddt_path.specs.declared.xeid.Xeid.{Xeid}
 use Rattle.ddt_path.specs.declared.locator.Locator.{Locator}
 use Rattle.ddt_ecm.specs.Request.{Spells}
-use Rattle.ddt_ecm.specs.Laws.{WrittenSpells, message_of}
+use Rattle.ddt_ecm.specs.laws.Statements.{WrittenSpells, message_of}
 use Rattle.ddt_resolver.specs.declared.pending.Pending.{Pending}
 use Rattle.ddt_resolver.specs.declared.answers.Outgoing.{Outgoing}
 use Rattle.ddt_resolver.specs.declared.answers.Asked.TheVariants as asked
@@ -15,7 +15,7 @@ use Rattle.ddt_resolver.specs.AskStep.{AskStep, Start, cached, full, used_up, op
 use Rattle.ddt_resolver.specs.Records.{start_at}
 use Rattle.ddt_resolver.specs.Act as acts
 use Rattle.ddt_resolver.specs.Act.{Act, HearStep}
-use Rattle.ddt_resolver.proofs.NumberMapLemmas.{get-insert_same}
+use Rattle.ddt_resolver.specs.laws.NumberMap.{get-insert_same}
 use Rattle.ddt_sim.specs.declared.hop.Hop.{Hop}
 use Rattle.ddt_sim.specs.Waiting.{Waits, CanBeAsked}
 use Rattle.ddt_sim.specs.Lookup.{Reaches, sent, followed}

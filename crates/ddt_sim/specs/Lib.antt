@@ -11,4 +11,6 @@ pub mod Waiting
 pub mod World
 pub mod Schedules
 pub mod Tries
+pub mod InForce
 pub mod RunLaws
+pub mod laws

@@ -71,8 +71,8 @@ pub data TurnFails (now : ℕ) (s : State) (t : ℕ) (d : Outgoing) (error : Loo
   not_taken : (reply : List ℕ) (h : Heard) → HearStep (moved now s) d.to reply after h → IsNotFor t h
       → error ≡ GaveUp NoReply → TurnFails now s t d error after
   stopped : (after ≡ s) ⊎ (after ≡ moved now s) → error ≡ Memory → TurnFails now s t d error after
-  unfinished : (reply : List ℕ) (h : Heard) → HearStep (moved now s) d.to reply after h → error ≡ Memory
-      → TurnFails now s t d error after
+  unfinished : (reply : List ℕ) (turn : Turn) → HearStep (moved now s) d.to reply after (heard_of t (Ok turn))
+      → error ≡ Memory → TurnFails now s t d error after
 
 -- ---- a lookup
 

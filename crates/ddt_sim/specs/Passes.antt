@@ -1,6 +1,7 @@
 -- The passes of a lookup: how many referrals it follows from its start, and once again from the root (RFC 8111,
 -- section 7.3).
-use Rattle.std.specs.Prelude.{ℕ, ◌+◌, ◌≤◌, List, [], ◌∷◌, length, All, Result, Ok, Err}
+use Rattle.std.specs.Prelude.{ℕ, ◌≡◌, ◌⊎◌, ◌+◌, ◌≤◌, true, false, List, [], ◌∷◌, length, All, Some, Result, Ok, Err}
+use Rattle.std.specs.FinMap.{get}
 use Rattle.ddt_path.specs.declared.action.Action.{Action}
 use Rattle.ddt_path.specs.declared.action.Action.TheVariants.{NodeReferral, MsReferral, NotAuthoritative}
 use Rattle.ddt_path.specs.declared.xeid.Xeid.{Xeid}
@@ -8,7 +9,11 @@ use Rattle.ddt_path.specs.Path.{xeid_path}
 use Rattle.ddt_wire.specs.declared.fault.ReferralFault.{ReferralFault}
 use Rattle.ddt_wire.specs.Referral.{Message, message_in}
 use Rattle.ddt_resolver.specs.declared.answers.Outgoing.{Outgoing}
+use Rattle.ddt_resolver.specs.declared.pending.Pending.{Pending}
+use Rattle.ddt_resolver.specs.Records.{IsBelow}
 use Rattle.ddt_resolver.specs.State.{State}
+use Rattle.ddt_resolver.specs.Step.{Call, Reply, Step}
+use Rattle.ddt_resolver.specs.Order.{IsInOrder}
 use Rattle.ddt_sim.specs.declared.hop.Hop.{Hop}
 use Rattle.ddt_sim.specs.Lookup.{Reaches}
 
@@ -33,6 +38,19 @@ passes_of (hop ∷ more) = told_in_front (message_in hop.reply) (passes_of more)
 pub record HasShortPasses (x : Xeid) (hops : List Hop) : Type 0 where
   pub two : length (passes_of hops) ≤ 2
   pub short : All (λ n. n ≤ length (xeid_path x) + 1) (passes_of hops)
+
+-- How a lookup that stays pending goes on in a step. `same_pass`: it stays in its pass, and its saved prefix is the
+-- same or a longer one. `second_pass`: its second pass begins. There is no third.
+pub data PassGoesOn (l new : Pending) : Type 0 where
+  same_pass : new.restarted ≡ l.restarted
+      → (new.saved ≡ l.saved) ⊎ ((p : List ℕ) × (new.saved ≡ Some p) × IsBelow l.saved p) → PassGoesOn l new
+  second_pass : l.restarted ≡ false → new.restarted ≡ true → PassGoesOn l new
+
+-- So it is in each step of a resolver, whatever comes, in whichever order: late, twice, among other lookups and ticks.
+abbrev pub PassesGoOn : Type 0
+PassesGoOn =
+    (s : State) (call : Call) (new : State) (reply : Reply) → IsInOrder s → Step s call new reply
+    → (t : ℕ) (l m : Pending) → get s.pending t ≡ Some l → get new.pending t ≡ Some m → PassGoesOn l m
 
 -- However far a lookup has come, also one that fails, its passes are short, whatever the servers say.
 abbrev pub PassesAreShort : Type 0

@@ -1,6 +1,6 @@
 -- What holds of each schedule over honest servers of an accepted register, from a resolver that is sound for it and has
 -- nothing pending (RFC 8111, section 7.3).
-use Rattle.std.specs.Prelude.{ℕ, ◌≡◌, ◌⊎◌, ◌++◌, false, List, [], ◌∷◌, length, slice_get, None, Some, Result, Ok, Err}
+use Rattle.std.specs.Prelude.{ℕ, ◌≡◌, ◌⊎◌, ◌++◌, false, List, [], ◌∷◌, length, slice_get, Contains, None, Some, Result, Ok, Err}
 use Rattle.std.specs.FinMap.{get, len}
 use Rattle.ddt_path.specs.declared.record.Outcome.{Outcome}
 use Rattle.ddt_path.specs.declared.xeid.Xeid.{Xeid}
@@ -21,14 +21,14 @@ use Rattle.ddt_resolver.specs.declared.answers.Why.{Why}
 use Rattle.ddt_resolver.specs.declared.answers.Why.TheVariants.{NoReply, Exhausted}
 use Rattle.ddt_resolver.specs.State.{State, last_nonce, most_pending}
 use Rattle.ddt_sim.specs.declared.schedule.Step.{Step}
-use Rattle.ddt_sim.specs.declared.schedule.Step.TheVariants.{Ask, Deliver}
+use Rattle.ddt_sim.specs.declared.schedule.Step.TheVariants.{Ask, Deliver, Replace}
 use Rattle.ddt_sim.specs.declared.schedule.Event.{Event}
-use Rattle.ddt_sim.specs.declared.schedule.Event.TheVariants.{Asked, Refused, Replied, Silent, Heard, Passed, Ticked, Nothing}
+use Rattle.ddt_sim.specs.declared.schedule.Event.TheVariants.{Asked, Refused, Replied, Silent, Heard, Passed, Ticked, Replaced, Nothing}
 use Rattle.ddt_sim.specs.declared.schedule.Datagram.{Datagram}
 use Rattle.ddt_sim.specs.declared.schedule.Transcript.{Transcript}
 use Rattle.ddt_sim.specs.Honest.{IsHonestReply}
 use Rattle.ddt_sim.specs.Sound.{IsSound}
-use Rattle.ddt_sim.specs.World.{reply_to}
+use Rattle.ddt_sim.specs.World.{Members, reply_to}
 use Rattle.ddt_sim.specs.History.{Line, Among, Each, Tells}
 
 -- the register is accepted, the resolver is sound for it, and nothing is pending
@@ -46,6 +46,7 @@ Opens (Replied k) t = ⊥
 Opens Silent t = ⊥
 Opens (Heard h) t = ⊥
 Opens (Passed m) t = ⊥
+Opens (Replaced k) t = ⊥
 Opens (Ticked h) t = ⊥
 Opens Nothing t = ⊥
 
@@ -63,6 +64,7 @@ Ends (Refused why) t end = ⊥
 Ends (Replied k) t end = ⊥
 Ends Silent t end = ⊥
 Ends (Passed m) t end = ⊥
+Ends (Replaced k) t end = ⊥
 Ends Nothing t end = ⊥
 
 -- a line asks for x under a new ticket; a line opens it; a line ends it
@@ -113,22 +115,25 @@ pub record IsRightFailure (past : List Line) (line : Line) : Type 0 where
       → ((why ≡ ask_error.TooMany) × (len line.before.state.pending ≡ most_pending))
       ⊎ ((why ≡ ask_error.Exhausted) × (line.before.state.next ≡ last_nonce))
 
--- Over servers that are honest to a register, and from such a resolver, this holds of each line of the history that a
--- transcript tells, and the lines before it.
-abbrev pub EachLine : (Register → List Line → Line → Type 0) → (Register → Type 0) → State → List Step → Transcript
-    → State → Type 0
-EachLine holds are_honest old steps t new =
-    (r : Register) → are_honest r → StartsSound r old → (past : List Line) → Tells are_honest old steps t new past
-    → Each (holds r) past
+-- no step replaces the servers
+abbrev pub KeepServers : List Step → Type 0
+KeepServers steps = (k : ℕ) → Contains steps (Replace k) → ⊥
 
-abbrev pub AnswersAreRight : (Register → Type 0) → State → List Step → Transcript → State → Type 0
+-- Over first servers that are honest to a register and aren't replaced, and from such a resolver, this holds of each
+-- line of the history that a transcript tells, and the lines before it.
+abbrev pub EachLine : (Register → List Line → Line → Type 0) → Members → State → List Step → Transcript → State → Type 0
+EachLine holds servers old steps t new =
+    (r : Register) → servers.honest 0 r → KeepServers steps → StartsSound r old → (past : List Line)
+    → Tells servers old steps t new past → Each (holds r) past
+
+abbrev pub AnswersAreRight : Members → State → List Step → Transcript → State → Type 0
 AnswersAreRight = EachLine IsRightAnswer
 
-abbrev pub RepliesAreRight : (Register → Type 0) → State → List Step → Transcript → State → Type 0
+abbrev pub RepliesAreRight : Members → State → List Step → Transcript → State → Type 0
 RepliesAreRight = EachLine IsRightReply
 
-abbrev pub TicketsEndOnce : (Register → Type 0) → State → List Step → Transcript → State → Type 0
+abbrev pub TicketsEndOnce : Members → State → List Step → Transcript → State → Type 0
 TicketsEndOnce = EachLine (λ r. IsOnce)
 
-abbrev pub FailuresAreRight : (Register → Type 0) → State → List Step → Transcript → State → Type 0
+abbrev pub FailuresAreRight : Members → State → List Step → Transcript → State → Type 0
 FailuresAreRight = EachLine (λ r. IsRightFailure)

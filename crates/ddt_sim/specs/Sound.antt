@@ -4,6 +4,7 @@ use Rattle.std.specs.FinMap.{get}
 use Rattle.ddt_path.specs.declared.locator.Locator.{Locator}
 use Rattle.ddt_path.specs.declared.action.Action.TheVariants.{MsAck}
 use Rattle.ddt_path.specs.declared.record.Outcome.{Outcome}
+use Rattle.ddt_path.specs.declared.record.Outcome.TheVariants.{NotRegistered}
 use Rattle.ddt_path.specs.declared.record.ReferralRecord.{ReferralRecord}
 use Rattle.ddt_path.specs.Records.{record_of, referral_action}
 use Rattle.ddt_path.specs.Covers.{covers}
@@ -45,15 +46,21 @@ pub data IsTrueEntry (r : Register) (p : List ℕ) (e : Entry) : Type 0 where
       → ((y : List ℕ) → IsTrue (is_path y) → IsTrue (covers p y) → assignment r y ≡ outcome_at e.action p e.servers)
       → IsTrueEntry r p e
 
+-- the record of an assignment that says that no ETR is registered
+abbrev pub IsNotRegistered : Register → List ℕ → ReferralRecord → Type 0
+IsNotRegistered r x rec =
+    (p : List ℕ) × (servers : List Locator) × (assignment r x ≡ NotRegistered p servers)
+    × (rec ≡ record_of (NotRegistered p servers))
+
 -- A sound lookup asks the servers of a zone that covers its identifier. The saved prefix, if there is one, is that
--- zone's; what is kept, if anything, is the record of the assignment.
+-- zone's; what is kept, if anything, is the record of the assignment, and says that no ETR is registered.
 pub record IsSoundLookup (r : Register) (l : Pending) : Type 0 where
   pub zone : Zone
   pub is_zone : Contains r.zones zone
   pub covers_x : IsTrue (covers zone.prefix (xeid_path l.x))
   pub servers : l.servers ≡ locators_of r zone.group
   pub saved : (l.saved ≡ None) ⊎ (l.saved ≡ Some zone.prefix)
-  pub kept : (l.kept ≡ None) ⊎ (l.kept ≡ Some (record_of (assignment r (xeid_path l.x))))
+  pub kept : (rec : ReferralRecord) → l.kept ≡ Some rec → IsNotRegistered r (xeid_path l.x) rec
 
 -- A sound resolver has the register's root locators, remembers true entries, and waits in sound lookups.
 pub record IsSound (r : Register) (s : State) : Type 0 where

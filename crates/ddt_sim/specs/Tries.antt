@@ -14,12 +14,12 @@ use Rattle.ddt_resolver.specs.declared.answers.Why.TheVariants.{NoReply}
 use Rattle.ddt_resolver.specs.State.{State, request_bytes, patience}
 use Rattle.ddt_sim.specs.declared.schedule.Step.TheVariants.{Deliver}
 use Rattle.ddt_sim.specs.declared.schedule.Event.{Event}
-use Rattle.ddt_sim.specs.declared.schedule.Event.TheVariants.{Asked, Refused, Replied, Silent, Heard, Passed, Ticked, Nothing}
+use Rattle.ddt_sim.specs.declared.schedule.Event.TheVariants.{Asked, Refused, Replied, Silent, Heard, Passed, Ticked, Replaced, Nothing}
 use Rattle.ddt_sim.specs.declared.schedule.Datagram.{Datagram}
 use Rattle.ddt_sim.specs.declared.schedule.Transcript.{Transcript}
 use Rattle.ddt_sim.specs.declared.schedule.Step.{Step}
 use Rattle.ddt_sim.specs.Sound.{IsSoundLookup}
-use Rattle.ddt_sim.specs.World.{World}
+use Rattle.ddt_sim.specs.World.{World, Members}
 use Rattle.ddt_sim.specs.History.{Line, Among}
 use Rattle.ddt_sim.specs.Schedules.{Ends, AsksFor, EachLine}
 
@@ -39,6 +39,7 @@ Sends (Refused why) t = ⊥
 Sends (Replied k) t = ⊥
 Sends Silent t = ⊥
 Sends (Passed m) t = ⊥
+Sends (Replaced k) t = ⊥
 Sends Nothing t = ⊥
 
 -- a request of a lookup: the datagram's number, and the moment of its sending
@@ -109,6 +110,7 @@ tries_after t (Refused why) this earlier = earlier
 tries_after t (Replied k) this earlier = earlier
 tries_after t Silent this earlier = earlier
 tries_after t (Passed m) this earlier = earlier
+tries_after t (Replaced k) this earlier = earlier
 tries_after t Nothing this earlier = earlier
 
 -- all of them, since the lookup was asked or last followed a reply; the newest first
@@ -130,5 +132,5 @@ pub record HasNoReply (r : Register) (past : List Line) (w : World) (t : ℕ) : 
 abbrev pub IsRightNoReply : Register → List Line → Line → Type 0
 IsRightNoReply r past line = (t : ℕ) → Ends line.event t (Err NoReply) → HasNoReply r past line.before t
 
-abbrev pub NoRepliesAreRight : (Register → Type 0) → State → List Step → Transcript → State → Type 0
+abbrev pub NoRepliesAreRight : Members → State → List Step → Transcript → State → Type 0
 NoRepliesAreRight = EachLine IsRightNoReply

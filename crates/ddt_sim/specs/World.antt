@@ -1,5 +1,5 @@
 -- A resolver among servers, and what each step of a schedule does there (RFC 8111, section 7.3).
-use Rattle.std.specs.Prelude.{ℕ, ◌≡◌, ◌+◌, ◌≤◌, ◌⊎◌, min, true, false, List, [], ◌∷◌, ◌++◌, length, slice_get, Option, None, Some, Result, Ok, Err}
+use Rattle.std.specs.Prelude.{ℕ, ◌≡◌, ◌+◌, ◌<◌, ◌≤◌, min, true, false, List, [], ◌∷◌, ◌++◌, length, slice_get, Option, None, Some, Result, Ok, Err}
 use Rattle.ddt_path.specs.declared.locator.Locator.{Locator}
 use Rattle.ddt_path.specs.declared.xeid.Xeid.{Xeid}
 use Rattle.ddt_register.specs.declared.register.Register.{Register}
@@ -15,36 +15,55 @@ use Rattle.ddt_resolver.specs.declared.answers.Heard.TheVariants as heard_as
 use Rattle.ddt_resolver.specs.declared.answers.Ticked.TheVariants as ticked_as
 use Rattle.ddt_resolver.specs.State.{State, moved}
 use Rattle.ddt_resolver.specs.Step as resolver
-use Rattle.ddt_resolver.specs.Step.{Call, Hear, Reply, ToAsk, ToDatagram, ToTick}
+use Rattle.ddt_resolver.specs.Step.{Call, Hear, Reply, ToAsk, ToDatagram, ToTick, Wants}
 use Rattle.ddt_sim.specs.declared.schedule.Step.{Step}
-use Rattle.ddt_sim.specs.declared.schedule.Step.TheVariants.{Ask, Deliver, Pass, Tick}
+use Rattle.ddt_sim.specs.declared.schedule.Step.TheVariants.{Ask, Deliver, Pass, Tick, Replace}
 use Rattle.ddt_sim.specs.declared.schedule.Event.{Event}
-use Rattle.ddt_sim.specs.declared.schedule.Event.TheVariants.{Asked, Refused, Replied, Silent, Heard, Passed, Ticked, Nothing}
+use Rattle.ddt_sim.specs.declared.schedule.Event.TheVariants.{Asked, Refused, Replied, Silent, Heard, Passed, Ticked, Replaced, Nothing}
 use Rattle.ddt_sim.specs.declared.schedule.Datagram.{Datagram}
 use Rattle.ddt_sim.specs.Honest.{IsServer, IsHonestReply}
 use Rattle.ddt_sim.specs.Waiting.{CanBeAsked}
 
--- The moment; which servers are in force, 0 where there is one choice only; all datagrams in the order of sending; and
--- the resolver. A datagram's number is its place.
+-- The moment; the number of the servers in force; all datagrams in the order of sending; and the resolver. A datagram's
+-- number is its place.
 pub record World : Type 0 where
   pub moment : ℕ
   pub member : ℕ
   pub sent : List Datagram
   pub state : State
 
--- a resolver and one choice of servers, at a moment
-abbrev pub world : ℕ → List Datagram → State → World
-world moment_ sent_ state_ = record { moment = moment_; member = 0; sent = sent_; state = state_ }
+abbrev pub world : ℕ → ℕ → List Datagram → State → World
+world moment_ member_ sent_ state_ =
+    record { moment = moment_; member = member_; sent = sent_; state = state_ }
 
--- what servers may reply: which ones, where, to which datagram
-abbrev pub Replies : Type 1
-Replies = ℕ → Locator → List ℕ → Option (List ℕ) → Type 0
+-- The servers of a run, one member for each number below the count: for which registers a member answers honestly, and
+-- for which it gives no reply at a locator that is no server's.
+pub record Members : Type 1 where
+  pub count : ℕ
+  pub honest : ℕ → Register → Type 0
+  pub silent : ℕ → Register → Type 0
 
--- what they may reply if they are honest to all these registers: at a server's locator, to a DDT Map-Request, what the
--- register says there; anything elsewhere
-abbrev pub honest_replies : (Register → Type 0) → Replies
-honest_replies are_honest member to bytes reply =
-    (r : Register) (m : Message) → are_honest r → IsServer r to → IsDdtRequest bytes m → IsHonestReply r to m reply
+-- a fact of the servers at a place of a list
+abbrev pub at_place : {S : Type 0} → (S → Register → Type 0) → List S → ℕ → Register → Type 0
+at_place {S} fact servers k r = (own : S) × (slice_get servers k ≡ Some own) × fact own r
+
+abbrev pub members : {S : Type 0} → (S → Register → Type 0) → (S → Register → Type 0) → List S → Members
+members are_honest are_silent servers =
+    record { count = length servers; honest = at_place are_honest servers; silent = at_place are_silent servers }
+
+-- each of them is what it was
+abbrev pub StillAre : {S : Type 0} → (S → Register → Type 0) → List S → List S → Type 0
+StillAre {S} fact servers later_ =
+    (length later_ ≡ length servers)
+    × ((k : ℕ) (r : Register) → at_place fact servers k r → at_place fact later_ k r)
+
+-- What may come back for a datagram to a locator: at a server's, for a DDT Map-Request, what each register says there
+-- that the servers are honest for; elsewhere nothing, where they are silent; anything where neither is known.
+pub record MayReply (are_honest are_silent : Register → Type 0) (to : Locator) (bytes : List ℕ)
+    (reply : Option (List ℕ)) : Type 0 where
+  pub honestly : (r : Register) (m : Message) → are_honest r → IsServer r to → IsDdtRequest bytes m
+      → IsHonestReply r to m reply
+  pub silently : (r : Register) → are_silent r → (IsServer r to → ⊥) → reply ≡ None
 
 -- the request that the resolver sends at an event
 abbrev pub request_at : Event → Option Outgoing
@@ -62,6 +81,7 @@ request_at (Refused why) = None
 request_at (Replied k) = None
 request_at Silent = None
 request_at (Passed m) = None
+request_at (Replaced k) = None
 request_at Nothing = None
 
 -- as a datagram from the resolver's address
@@ -97,6 +117,16 @@ pub data Calls (w : World) (step : Step) (call : Call) : Type 0 where
       → call ≡ Hear d.source d.bytes → Calls w step call
   ticked : step ≡ Tick → call ≡ resolver.Tick → Calls w step call
 
+-- A request is handed to servers: they reply, and the reply is one datagram more, or they give no reply.
+pub data Serves (are_honest are_silent : Register → Type 0) (sent : List Datagram) (k : ℕ) (more : List Datagram)
+    (event : Event) : Type 0 where
+  by_reply : (d : Datagram) (bytes : List ℕ) → slice_get sent k ≡ Some d → d.is_reply ≡ false
+      → MayReply are_honest are_silent d.to d.bytes (Some bytes) → event ≡ Replied (length sent)
+      → more ≡ sent ++ reply_to d bytes ∷ [] → Serves are_honest are_silent sent k more event
+  by_silence : (d : Datagram) → slice_get sent k ≡ Some d → d.is_reply ≡ false
+      → MayReply are_honest are_silent d.to d.bytes None → event ≡ Silent → more ≡ sent
+      → Serves are_honest are_silent sent k more event
+
 -- the world after a step of the resolver, which may have sent a request
 abbrev pub after : World → State → Event → World
 after w s event = record w { state = s; sent = w.sent ++ sent_for w.state.me (request_at event) }
@@ -115,23 +145,33 @@ pub record Resolves (w : World) (step : Step) (event : Event) (new : World) : Ty
 abbrev pub later : ℕ → ℕ → ℕ
 later moment millis = min (moment + millis) last_moment
 
--- The step. `resolves`: the resolver is asked, hears a reply, or ticks. `replies`: a request is handed to its server,
--- and the reply is one datagram more. `silent`: the server gives none. `not_sent`: no datagram has this number yet.
--- `passes`: the moment moves, and the resolver's time follows at its next call.
-pub data WorldStep (may : Replies) (w : World) (step : Step) (event : Event) (new : World) : Type 0 where
-  resolves : Resolves w step event new → WorldStep may w step event new
-  replies : (k : ℕ) (d : Datagram) (bytes : List ℕ) → step ≡ Deliver k → slice_get w.sent k ≡ Some d
-      → d.is_reply ≡ false
-      → may w.member d.to d.bytes (Some bytes) → event ≡ Replied (length w.sent)
-      → new ≡ record w { sent = w.sent ++ reply_to d bytes ∷ [] } → WorldStep may w step event new
-  silent : (k : ℕ) (d : Datagram) → step ≡ Deliver k → slice_get w.sent k ≡ Some d → d.is_reply ≡ false
-      → may w.member d.to d.bytes None → event ≡ Silent → new ≡ w → WorldStep may w step event new
-  not_sent : (k : ℕ) → step ≡ Deliver k → length w.sent ≤ k → event ≡ Nothing → new ≡ w → WorldStep may w step event new
+-- The step. `resolves`: the resolver is asked, hears a reply, or ticks. `serves`: a request is handed to the servers in
+-- force. `not_sent`: no datagram has this number yet. `passes`: the moment moves, and the resolver's time follows at its
+-- next call. `replaces`: other servers come into force. `no_member`: no servers have this number.
+pub data WorldStep (servers : Members) (w : World) (step : Step) (event : Event) (new : World) : Type 0 where
+  resolves : Resolves w step event new → WorldStep servers w step event new
+  serves : (k : ℕ) (more : List Datagram) → step ≡ Deliver k
+      → Serves (servers.honest w.member) (servers.silent w.member) w.sent k more event
+      → new ≡ record w { sent = more } → WorldStep servers w step event new
+  not_sent : (k : ℕ) → step ≡ Deliver k → length w.sent ≤ k → event ≡ Nothing → new ≡ w
+      → WorldStep servers w step event new
   passes : (millis : ℕ) → step ≡ Pass millis → event ≡ Passed (later w.moment millis)
-      → new ≡ record w { moment = later w.moment millis } → WorldStep may w step event new
+      → new ≡ record w { moment = later w.moment millis } → WorldStep servers w step event new
+  replaces : (k : ℕ) → step ≡ Replace k → k < servers.count → event ≡ Replaced k → new ≡ record w { member = k }
+      → WorldStep servers w step event new
+  no_member : (k : ℕ) → step ≡ Replace k → servers.count ≤ k → event ≡ Nothing → new ≡ w
+      → WorldStep servers w step event new
 
--- What a step leaves of the resolver that runs out of memory: nothing is done but for its time, or all is done and
--- isn't told.
+-- a step calls the resolver, which wants memory: nothing is done but for its time
+pub record WantsMemory (w : World) (step : Step) (s : State) : Type 0 where
+  pub call : Call
+  pub calls : Calls w step call
+  pub wants : Wants (moved w.moment w.state) call
+  pub goes_on : s ≡ moved w.moment w.state
+
+-- What a step leaves of the resolver that runs out of memory. `undone`: nothing is done. `wanting`: the resolver itself
+-- wants memory. `untold`: all is done, and isn't told.
 pub data Stops (w : World) (step : Step) (s : State) : Type 0 where
-  undone : (s ≡ w.state) ⊎ (s ≡ moved w.moment w.state) → Stops w step s
+  undone : s ≡ w.state → Stops w step s
+  wanting : WantsMemory w step s → Stops w step s
   untold : (event : Event) (new : World) → Resolves w step event new → s ≡ new.state → Stops w step s

@@ -1,10 +1,10 @@
 //! The servers of a register: each group's server, with the configuration that the register is compiled into.
 
-ghost use Rattle.std.specs.Prelude.{◌≡◌, map, IfOk};
+ghost use Rattle.std.specs.Prelude.{◌≡◌, map, IfOk, Ok, None};
 ghost use Rattle.std.specs.List.{All};
 ghost use Rattle.std.specs.Option.{option_copied};
 ghost use Rattle.ddt_config.specs.Table.{outline};
-ghost use Rattle.ddt_compile.specs.Laws.{HasRoom};
+ghost use Rattle.ddt_compile.specs.laws.Statements.{HasRoom};
 ghost use Rattle.ddt_register.specs.declared.register.Register.{Register};
 ghost use Rattle.ddt_ecm.specs.Request.{Message};
 ghost use Rattle.ddt_node.specs.Server.{IsDdtRequest};
@@ -88,6 +88,8 @@ fn build_each<M: PrefixMap<u32>>(
 impl<M: PrefixMap<u32>> Servers for Compiled<M> {
     ghost honest = { AreCompiled };
 
+    ghost silent = { AreCompiled };
+
     fn answer(
         &mut self,
         alloc: Global,
@@ -97,7 +99,11 @@ impl<M: PrefixMap<u32>> Servers for Compiled<M> {
         ensures reply { IfOk result (λ reply. reply ≡ reply_at self.old to request.now) }
         ensures says { (r : Register) (m : Message) → AreCompiled self.old r → IsServer r to
             → IsDdtRequest request.now m → IfOk result (IsHonestReply r to m) }
+        ensures nothing { (r : Register) → AreCompiled self.old r → (IsServer r to → ⊥) → result ≡ Ok None }
         ensures stay { (r : Register) → AreCompiled self.old r → AreCompiled self.new r }
+        ensures stay_silent { (r : Register) → AreCompiled self.old r → AreCompiled self.new r }
+        ensures none { server_at_locator self.old to ≡ None → result ≡ Ok None }
+        ensures same { self.new ≡ self.old }
     {
         a_compiled_configuration_answers_honestly();
         match self.server_at(to) {

@@ -4,14 +4,12 @@ ghost use Rattle.ddt_sim.specs.Sound.{NewResolversAreSound, StepsKeepSoundness, 
 ghost use Rattle.ddt_sim.specs.Reply.{RequestsAreUnderstood};
 ghost use Rattle.ddt_sim.specs.RunLaws.{LawsOfRuns};
 ghost use Rattle.ddt_sim.specs.Trail.{HonestTrailsAreShort};
-ghost use Rattle.ddt_sim.specs.Passes.{PassesAreShort};
+ghost use Rattle.ddt_sim.specs.Passes.{PassesAreShort, PassesGoOn};
 
 use ddt_check::{
     each_identifier_has_a_zone, honest_servers_lead_to_the_assignment,
     negatives_hold_of_all_that_they_cover,
 };
-use ddt_ecm::request_laws;
-use ddt_wire::referral_laws;
 
 /// A new resolver with the root's locators of a register is sound for it. One that is sound for an accepted register
 /// stays sound: by each step whose datagram, if it has one, is what the register says there; as time passes; and where
@@ -36,8 +34,6 @@ pub(crate) fn requests_are_understood()
 {
     a_step_keeps_a_resolver_sound();
     honest_servers_lead_to_the_assignment();
-    request_laws();
-    referral_laws();
 }
 
 /// The laws that the contract of `run` rests on.
@@ -46,8 +42,7 @@ pub(crate) fn laws_of_runs()
 {
     a_step_keeps_a_resolver_sound();
     honest_servers_lead_to_the_assignment();
-    request_laws();
-    referral_laws();
+    negatives_hold_of_all_that_they_cover();
 }
 
 /// Over honest servers of an accepted register a lookup takes at most 7 hops more than there are zones that cover its
@@ -58,14 +53,17 @@ pub(crate) fn honest_trails_are_short()
     each_identifier_has_a_zone();
     honest_servers_lead_to_the_assignment();
     negatives_hold_of_all_that_they_cover();
-    referral_laws();
 }
+
+/// Whatever a resolver is told: a lookup that stays pending in a step stays in its pass, with its saved prefix or a
+/// longer one, or its second pass begins. No third one does (RFC 8111, section 7.3).
+pub fn a_lookup_has_two_passes()
+    ensures { PassesGoOn }
+{}
 
 /// Whatever the servers of a lookup say, it has at most two passes. The second starts at the root, where a server that
 /// the lookup was led to by what is remembered isn't in charge. Each pass follows at most one referral more than the
 /// identifier has digits, since each referral has a longer prefix than the one before.
 pub(crate) fn passes_are_short()
     ensures { PassesAreShort }
-{
-    referral_laws();
-}
+{}

@@ -14,7 +14,7 @@ mod servers;
 
 pub use compiled::Compiled;
 pub use hop::{Hop, Lookup, LookupError};
-pub use laws::a_step_keeps_a_resolver_sound;
+pub use laws::{a_lookup_has_two_passes, a_step_keeps_a_resolver_sound};
 pub use looking_up::lookup;
 pub use running::run;
 pub use schedule::{Datagram, Event, Step, Transcript};

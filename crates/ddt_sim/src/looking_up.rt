@@ -24,7 +24,6 @@ use ddt_cache::{Entry, Moment};
 use ddt_path::{Listed, Locator, Xeid};
 use ddt_resolver::{AskError, Asked, Outgoing, Resolver, Ticket, Why};
 use ddt_trie::PrefixMap;
-use ddt_wire::referral_laws;
 use std::alloc::Global;
 
 /// Looks an identifier up at `now`: asks the resolver, and hands each of its requests to the servers and each reply
@@ -72,7 +71,6 @@ pub fn lookup<S: Servers, M: PrefixMap<Entry>>(
     a_step_keeps_a_resolver_sound();
     honest_trails_are_short();
     passes_are_short();
-    referral_laws();
     resolver.in_order();
     // The number tells the proof that it is a moment.
     let _millis = now.millis();

@@ -1,15 +1,15 @@
 //! A run of a schedule: each step, and the datagrams that are sent.
 
-ghost use Rattle.std.specs.Prelude.{◌≡◌, ◌++◌, ℕ, IfOk, OnOk, OnErr, IsOk, Err, Some, true, false, [], List, slice_get};
+ghost use Rattle.std.specs.Prelude.{◌≡◌, ◌++◌, ◌<◌, ℕ, IfOk, OnOk, OnErr, IsOk, Err, Some, true, false, [], List, length, slice_get};
 ghost use Rattle.std.specs.Option.{option_map};
 ghost use Rattle.ddt_register.specs.declared.register.Register.{Register};
 ghost use Rattle.ddt_sim.specs.declared.schedule.Step.TheVariants as step_as;
-ghost use Rattle.ddt_resolver.specs.State.{State};
 ghost use Rattle.ddt_resolver.specs.declared.answers.AskError.TheVariants as ask_error;
-ghost use Rattle.ddt_sim.specs.World.{world, honest_replies, request_at, sent_for, later as later_than, IsToldAsk, Resolves, WorldStep, Stops};
+ghost use Rattle.ddt_sim.specs.World.{world, members, at_place, request_at, sent_for, later as later_than, StillAre, IsToldAsk, Resolves, Serves, WorldStep, Stops};
 ghost use Rattle.ddt_sim.specs.History.{Line, Tells, StopsAfter};
-ghost use Rattle.ddt_sim.specs.Schedules.{StartsSound, AnswersAreRight, RepliesAreRight, TicketsEndOnce, FailuresAreRight};
+ghost use Rattle.ddt_sim.specs.Schedules.{KeepServers, StartsSound, AnswersAreRight, RepliesAreRight, TicketsEndOnce, FailuresAreRight};
 ghost use Rattle.ddt_sim.specs.Tries.{NoRepliesAreRight};
+ghost use Rattle.ddt_sim.specs.InForce.{AnswersAreSince, AnswersAreOfLate, RepliesAreInForce, FailuresAreInForce, TicketsEndOnceInForce};
 ghost use Rattle.ddt_sim.specs.Sound.{IsSound};
 
 use crate::laws::laws_of_runs;
@@ -24,77 +24,132 @@ use std::alloc::{AllocError, Global};
 
 /// Runs a schedule of steps over servers and a resolver, from the moment that is the resolver's time. A datagram that a
 /// step sends is numbered from 0 on, requests and replies alike. It is handed over only by a Deliver of its number, any
-/// number of times. Pass moves the moment alone, at most to the last one; the resolver's time follows at its next call.
+/// number of times: a request to the servers that are in force then. Pass moves the moment alone, at most to the last
+/// one; the resolver's time follows at its next call.
+///
+/// At first the servers of number 0 are in force, and from a Replace on those of its number, if there are any.
 ///
 /// Fails only if out of memory. Then the resolver is as after some first steps, but for the time.
 pub fn run<S: Servers, M: PrefixMap<Entry>>(
     alloc: Global,
-    servers: &mut S,
+    servers: &mut [S],
     resolver: &mut Resolver<M>,
     steps: &[Step],
 ) -> Result<Transcript, AllocError>
-    // Over honest servers of an accepted register, and from a resolver that is sound for it and has nothing pending,
-    // each answer is what the register assigns to the identifier of its own ask.
-    ensures answers { IfOk result (λ t. AnswersAreRight (S.honest servers.old) resolver.old steps.now t resolver.new) }
+    requires { 0 < length servers.old }
+    // Where no step replaces the servers: over honest servers of an accepted register, and from a resolver that is
+    // sound for it and has nothing pending, each answer is what the register assigns to the identifier of its own ask.
+    ensures answers { IfOk result (λ t. AnswersAreRight (members S.honest S.silent servers.old) resolver.old steps.now t
+        resolver.new) }
     // Each request that is delivered has its reply, which spells its nonce and what the register says there.
-    ensures replies { IfOk result (λ t. RepliesAreRight (S.honest servers.old) resolver.old steps.now t resolver.new) }
+    ensures replies { IfOk result (λ t. RepliesAreRight (members S.honest S.silent servers.old) resolver.old steps.now t
+        resolver.new) }
     // No ticket ends twice.
-    ensures once { IfOk result (λ t. TicketsEndOnce (S.honest servers.old) resolver.old steps.now t resolver.new) }
+    ensures once { IfOk result (λ t. TicketsEndOnce (members S.honest S.silent servers.old) resolver.old steps.now t
+        resolver.new) }
     // A lookup gives up only for want of a reply or of nonces, a reply is ignored only where it comes too late, and an
     // ask is refused only for want of room or of nonces.
-    ensures failures { IfOk result (λ t. FailuresAreRight (S.honest servers.old) resolver.old steps.now t
-        resolver.new) }
+    ensures failures { IfOk result (λ t. FailuresAreRight (members S.honest S.silent servers.old) resolver.old steps.now
+        t resolver.new) }
     // A lookup gives up for want of a reply only where each server of its zone was asked twice. The deadline of each of
     // these requests had come, and no reply to it was handed over before.
-    ensures no_reply { IfOk result (λ t. NoRepliesAreRight (S.honest servers.old) resolver.old steps.now t
-        resolver.new) }
+    ensures no_reply { IfOk result (λ t. NoRepliesAreRight (members S.honest S.silent servers.old) resolver.old
+        steps.now t resolver.new) }
     // The resolver is sound afterwards, also where memory stops it.
-    ensures sound { (r : Register) → S.honest servers.old r → StartsSound r resolver.old → IsSound r resolver.new }
-    // Whatever the servers reply: the transcript tells a run of the resolver's steps and the servers' replies.
-    ensures run { IfOk result (λ t. (past : List Line) × Tells (S.honest servers.old) resolver.old steps.now t
-        resolver.new past) }
-    ensures stopped { OnErr result (StopsAfter (S.honest servers.old) resolver.old steps.now resolver.new) }
-    ensures stay { (r : Register) → S.honest servers.old r → S.honest servers.new r }
+    ensures sound { (r : Register) → at_place S.honest servers.old 0 r → KeepServers steps.now
+        → StartsSound r resolver.old → IsSound r resolver.new }
+    // Where steps replace the servers: over honest servers of accepted registers with the same root locators, which are
+    // silent elsewhere, and from a resolver that is sound for the first and has nothing pending, each answer to a ticket
+    // is what a register assigns to its identifier that was in force at some step since its ask.
+    ensures replaced_answers { IfOk result (λ t. AnswersAreSince (members S.honest S.silent servers.old) resolver.old
+        steps.now t resolver.new) }
+    // Each answer at once is what a register assigns that was in force less than 902,000 milliseconds before.
+    ensures replaced_remembered { IfOk result (λ t. AnswersAreOfLate (members S.honest S.silent servers.old)
+        resolver.old steps.now t resolver.new) }
+    // Each request that is delivered to a server of the register in force has its reply, which spells its nonce and
+    // what that register says there. At every other locator it meets silence.
+    ensures replaced_replies { IfOk result (λ t. RepliesAreInForce (members S.honest S.silent servers.old) resolver.old
+        steps.now t resolver.new) }
+    // A lookup gives up for want of a reply or of nonces, because it is led round, or because nobody is in charge.
+    ensures replaced_failures { IfOk result (λ t. FailuresAreInForce (members S.honest S.silent servers.old)
+        resolver.old steps.now t resolver.new) }
+    // No ticket ends twice.
+    ensures replaced_once { IfOk result (λ t. TicketsEndOnceInForce (members S.honest S.silent servers.old) resolver.old
+        steps.now t resolver.new) }
+    // Whatever the servers reply, and whichever are in force: the transcript tells a run of the resolver's steps, the
+    // servers' replies and their replacements.
+    ensures run { IfOk result (λ t. (past : List Line) × Tells (members S.honest S.silent servers.old) resolver.old
+        steps.now t resolver.new past) }
+    ensures stopped { OnErr result (StopsAfter (members S.honest S.silent servers.old) resolver.old steps.now
+        resolver.new) }
+    ensures stay { (k : ℕ) (r : Register) → at_place S.honest servers.old k r → at_place S.honest servers.new k r }
+    ensures stay_silent { (k : ℕ) (r : Register) → at_place S.silent servers.old k r
+        → at_place S.silent servers.new k r }
     // No steps are never refused.
     ensures none { steps.now ≡ [] → IsOk result }
 {
     laws_of_runs();
     resolver.in_order();
-    let mut moment = resolver.time();
+    let mut scene = Scene {
+        moment: resolver.time(),
+        member: 0,
+        sent: Vec::new(alloc),
+    };
     let mut events: Vec<Event> = Vec::new(alloc);
-    let mut sent: Vec<Datagram> = Vec::new(alloc);
     for step in steps {
-        let event = take_step(alloc, servers, resolver, &mut moment, &mut sent, *step)?;
+        let event = take_step(alloc, servers, resolver, &mut scene, *step)?;
         events.push(event)?;
     }
     Ok(Transcript {
         events: Listed::of(events),
-        sent: Listed::of(sent),
+        sent: Listed::of(scene.sent),
     })
+}
+
+/// Where a run stands, beside its resolver.
+#[derive(Drop)]
+pub(crate) struct Scene {
+    /// The moment.
+    pub(crate) moment: Moment,
+    /// The number of the servers in force.
+    pub(crate) member: usize,
+    /// All datagrams in the order of sending.
+    pub(crate) sent: Vec<Datagram>,
 }
 
 /// One step of a schedule.
 fn take_step<S: Servers, M: PrefixMap<Entry>>(
     alloc: Global,
-    servers: &mut S,
+    servers: &mut [S],
     resolver: &mut Resolver<M>,
-    moment: &mut Moment,
-    sent: &mut Vec<Datagram>,
+    scene: &mut Scene,
     step: Step,
 ) -> Result<Event, AllocError>
-    ensures step { IfOk result (λ event. WorldStep (honest_replies (S.honest servers.old))
-        (world moment.old sent.old.items resolver.old) step event (world moment.new sent.new.items resolver.new)) }
-    ensures stopped { OnErr result (Stops (world moment.old sent.old.items resolver.old) step resolver.new) }
-    ensures stay { (r : Register) → S.honest servers.old r → S.honest servers.new r }
+    requires { scene.old.member < length servers.old }
+    ensures step { IfOk result (λ event. WorldStep (members S.honest S.silent servers.old)
+        (world scene.old.moment scene.old.member scene.old.sent.items resolver.old) step event
+        (world scene.new.moment scene.new.member scene.new.sent.items resolver.new)) }
+    ensures stopped { OnErr result (Stops
+        (world scene.old.moment scene.old.member scene.old.sent.items resolver.old) step resolver.new) }
+    ensures within { scene.new.member < length servers.new }
+    ensures stay { StillAre S.honest servers.old servers.new }
+    ensures stay_silent { StillAre S.silent servers.old servers.new }
 {
     match step {
-        Step::Ask(x) => ask(alloc, resolver, *moment, sent, x),
-        Step::Deliver(number) => deliver(alloc, servers, resolver, *moment, sent, number),
+        Step::Ask(x) => ask(alloc, resolver, scene, x),
+        Step::Deliver(number) => deliver(alloc, servers, resolver, scene, number),
         Step::Pass(millis) => {
-            *moment = later(*moment, millis);
-            Ok(Event::Passed(*moment))
+            scene.moment = later(scene.moment, millis);
+            Ok(Event::Passed(scene.moment))
         }
-        Step::Tick => tick(alloc, resolver, *moment, sent),
+        Step::Tick => tick(alloc, resolver, scene),
+        Step::Replace(number) => {
+            if number >= servers.len() as u64 {
+                return Ok(Event::Nothing);
+            }
+            scene.member = number as usize;
+            Ok(Event::Replaced(number))
+        }
     }
 }
 
@@ -113,18 +168,20 @@ fn later(moment: Moment, millis: u64) -> Moment
 fn ask<M: PrefixMap<Entry>>(
     alloc: Global,
     resolver: &mut Resolver<M>,
-    moment: Moment,
-    sent: &mut Vec<Datagram>,
+    scene: &mut Scene,
     x: Xeid,
 ) -> Result<Event, AllocError>
-    ensures step { IfOk result (λ event. Resolves (world moment sent.old.items resolver.old) (step_as.Ask x) event
-        (world moment sent.new.items resolver.new)) }
-    ensures stopped { OnErr result (Stops (world moment sent.old.items resolver.old) (step_as.Ask x) resolver.new) }
+    ensures step { IfOk result (λ event. Resolves
+        (world scene.old.moment scene.old.member scene.old.sent.items resolver.old) (step_as.Ask x) event
+        (world scene.new.moment scene.new.member scene.new.sent.items resolver.new)) }
+    ensures stopped { OnErr result (Stops
+        (world scene.old.moment scene.old.member scene.old.sent.items resolver.old) (step_as.Ask x) resolver.new) }
+    ensures member { scene.new.member ≡ scene.old.member }
 {
     let me = resolver.me();
     can_be_asked(x, me);
-    let event = asked(resolver.ask(moment, x))?;
-    send(alloc, sent, me, &event)?;
+    let event = asked(resolver.ask(scene.moment, x))?;
+    send(alloc, &mut scene.sent, me, &event)?;
     Ok(event)
 }
 
@@ -144,38 +201,43 @@ fn asked(answer: Result<Asked, AskError>) -> Result<Event, AllocError>
 fn tick<M: PrefixMap<Entry>>(
     alloc: Global,
     resolver: &mut Resolver<M>,
-    moment: Moment,
-    sent: &mut Vec<Datagram>,
+    scene: &mut Scene,
 ) -> Result<Event, AllocError>
-    ensures step { IfOk result (λ event. Resolves (world moment sent.old.items resolver.old) step_as.Tick event
-        (world moment sent.new.items resolver.new)) }
-    ensures stopped { OnErr result (Stops (world moment sent.old.items resolver.old) step_as.Tick resolver.new) }
+    ensures step { IfOk result (λ event. Resolves
+        (world scene.old.moment scene.old.member scene.old.sent.items resolver.old) step_as.Tick event
+        (world scene.new.moment scene.new.member scene.new.sent.items resolver.new)) }
+    ensures stopped { OnErr result (Stops
+        (world scene.old.moment scene.old.member scene.old.sent.items resolver.old) step_as.Tick resolver.new) }
+    ensures member { scene.new.member ≡ scene.old.member }
 {
     let me = resolver.me();
-    let event = Event::Ticked(resolver.tick(moment)?);
-    send(alloc, sent, me, &event)?;
+    let event = Event::Ticked(resolver.tick(scene.moment)?);
+    send(alloc, &mut scene.sent, me, &event)?;
     Ok(event)
 }
 
-/// A datagram is handed over: a request to its server, a reply to the resolver.
+/// A datagram is handed over: a request to the servers in force, a reply to the resolver.
 fn deliver<S: Servers, M: PrefixMap<Entry>>(
     alloc: Global,
-    servers: &mut S,
+    servers: &mut [S],
     resolver: &mut Resolver<M>,
-    moment: Moment,
-    sent: &mut Vec<Datagram>,
+    scene: &mut Scene,
     number: u64,
 ) -> Result<Event, AllocError>
-    ensures step { IfOk result (λ event. WorldStep (honest_replies (S.honest servers.old))
-        (world moment sent.old.items resolver.old) (step_as.Deliver number) event
-        (world moment sent.new.items resolver.new)) }
-    ensures stopped { OnErr result (Stops (world moment sent.old.items resolver.old) (step_as.Deliver number)
+    requires { scene.old.member < length servers.old }
+    ensures step { IfOk result (λ event. WorldStep (members S.honest S.silent servers.old)
+        (world scene.old.moment scene.old.member scene.old.sent.items resolver.old) (step_as.Deliver number) event
+        (world scene.new.moment scene.new.member scene.new.sent.items resolver.new)) }
+    ensures stopped { OnErr result (Stops
+        (world scene.old.moment scene.old.member scene.old.sent.items resolver.old) (step_as.Deliver number)
         resolver.new) }
-    ensures stay { (r : Register) → S.honest servers.old r → S.honest servers.new r }
+    ensures member { scene.new.member ≡ scene.old.member }
+    ensures stay { StillAre S.honest servers.old servers.new }
+    ensures stay_silent { StillAre S.silent servers.old servers.new }
 {
-    match is_reply(sent.as_slice(), number) {
-        Some(true) => hear(alloc, resolver, moment, sent, number),
-        Some(false) => serve(alloc, servers, sent, number),
+    match is_reply(scene.sent.as_slice(), number) {
+        Some(true) => hear(alloc, resolver, scene, number),
+        Some(false) => serve(alloc, &mut servers[scene.member], &mut scene.sent, number),
         None => Ok(Event::Nothing),
     }
 }
@@ -191,20 +253,26 @@ fn is_reply(sent: &[Datagram], number: u64) -> Option<bool>
 fn hear<M: PrefixMap<Entry>>(
     alloc: Global,
     resolver: &mut Resolver<M>,
-    moment: Moment,
-    sent: &mut Vec<Datagram>,
+    scene: &mut Scene,
     number: u64,
 ) -> Result<Event, AllocError>
-    requires { option_map (λ d. d.is_reply) (slice_get sent.old.items number) ≡ Some true }
-    ensures step { IfOk result (λ event. Resolves (world moment sent.old.items resolver.old) (step_as.Deliver number)
-        event (world moment sent.new.items resolver.new)) }
-    ensures stopped { OnErr result (Stops (world moment sent.old.items resolver.old) (step_as.Deliver number)
+    requires { option_map (λ d. d.is_reply) (slice_get scene.old.sent.items number) ≡ Some true }
+    ensures step { IfOk result (λ event. Resolves
+        (world scene.old.moment scene.old.member scene.old.sent.items resolver.old) (step_as.Deliver number) event
+        (world scene.new.moment scene.new.member scene.new.sent.items resolver.new)) }
+    ensures stopped { OnErr result (Stops
+        (world scene.old.moment scene.old.member scene.old.sent.items resolver.old) (step_as.Deliver number)
         resolver.new) }
+    ensures member { scene.new.member ≡ scene.old.member }
 {
     let me = resolver.me();
-    let reply = &sent[number as usize];
-    let event = Event::Heard(resolver.datagram(moment, reply.source, reply.bytes.as_slice())?);
-    send(alloc, sent, me, &event)?;
+    let reply = &scene.sent[number as usize];
+    let event = Event::Heard(resolver.datagram(
+        scene.moment,
+        reply.source,
+        reply.bytes.as_slice(),
+    )?);
+    send(alloc, &mut scene.sent, me, &event)?;
     Ok(event)
 }
 
@@ -216,10 +284,10 @@ fn serve<S: Servers>(
     number: u64,
 ) -> Result<Event, AllocError>
     requires { option_map (λ d. d.is_reply) (slice_get sent.old.items number) ≡ Some false }
-    ensures step { (moment : ℕ) (s : State) → IfOk result (λ event.
-        WorldStep (honest_replies (S.honest servers.old)) (world moment sent.old.items s) (step_as.Deliver number) event
-        (world moment sent.new.items s)) }
+    ensures serves { IfOk result (Serves (S.honest servers.old) (S.silent servers.old) sent.old.items number
+        sent.new.items) }
     ensures stay { (r : Register) → S.honest servers.old r → S.honest servers.new r }
+    ensures stay_silent { (r : Register) → S.silent servers.old r → S.silent servers.new r }
 {
     let request = &sent[number as usize];
     let source = request.to;

@@ -19,6 +19,8 @@ pub enum Step {
     Pass(u64),
     /// The resolver looks for a lookup whose deadline has come.
     Tick,
+    /// From now on the servers of this number, counted from 0, are in force.
+    Replace(u64),
 }
 
 /// What comes of a step.
@@ -38,7 +40,9 @@ pub enum Event {
     Passed(Moment),
     /// The tick is answered.
     Ticked(Ticked),
-    /// No datagram of this number has been sent yet.
+    /// The servers of this number are in force now.
+    Replaced(u64),
+    /// No datagram of this number has been sent yet, or no servers have this number.
     Nothing,
 }
 

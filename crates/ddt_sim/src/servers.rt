@@ -1,6 +1,6 @@
 //! Servers that a resolver asks, seen by their bytes alone.
 
-ghost use Rattle.std.specs.Prelude.{IfOk};
+ghost use Rattle.std.specs.Prelude.{◌≡◌, IfOk, Ok, None};
 ghost use Rattle.ddt_register.specs.declared.register.Register.{Register};
 ghost use Rattle.ddt_ecm.specs.Request.{Message};
 ghost use Rattle.ddt_node.specs.Server.{IsDdtRequest};
@@ -15,8 +15,11 @@ pub trait Servers {
     /// register says there.
     ghost honest: { Self → Register → Type 0 };
 
+    /// Whether they give no reply at any locator that no group of a register lists.
+    ghost silent: { Self → Register → Type 0 };
+
     /// What comes back for a datagram that is sent to a locator; None where nothing comes back. Fails only if out of
-    /// memory. Honest servers stay honest.
+    /// memory. Honest servers stay honest, and silent ones silent.
     fn answer(
         &mut self,
         alloc: Global,
@@ -25,5 +28,7 @@ pub trait Servers {
     ) -> Result<Option<Listed<u8>>, AllocError>
         ensures says { (r : Register) (m : Message) → honest self.old r → IsServer r to
             → IsDdtRequest request.now m → IfOk result (IsHonestReply r to m) }
-        ensures stay { (r : Register) → honest self.old r → honest self.new r };
+        ensures nothing { (r : Register) → silent self.old r → (IsServer r to → ⊥) → result ≡ Ok None }
+        ensures stay { (r : Register) → honest self.old r → honest self.new r }
+        ensures stay_silent { (r : Register) → silent self.old r → silent self.new r };
 }

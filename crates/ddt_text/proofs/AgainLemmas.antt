@@ -6,8 +6,8 @@ use Rattle.ddt_path.specs.declared.form.Form.{Form}
 use Rattle.ddt_path.specs.Path.{path, IsForm, address_number, address_width}
 use Rattle.ddt_text.specs.FirstFault.{locator_in, xeid_in, prefix_in}
 use Rattle.ddt_text.specs.Written.{written_locator, written_xeid, written_prefix}
-use Rattle.ddt_text.proofs.LawLemmas.{locators_are_read, xeids_are_read, prefixes_are_read}
-use Rattle.ddt_text.proofs.WrittenLemmas.{written_locator-spells, written_xeid-spells, written_prefix-spells}
+use Rattle.ddt_text.specs.laws.Readers.{locators_are_read, xeids_are_read, prefixes_are_read}
+use Rattle.ddt_text.specs.laws.Written.{written_locator-spells, written_xeid-spells, written_prefix-spells}
 
 pub written_locator-read : (a : Locator) → address_number a < 2 ^ address_width a → locator_in (written_locator a) ≡ Ok a
 written_locator-read a h = locators_are_read.read (written_locator a) a (written_locator-spells a h)

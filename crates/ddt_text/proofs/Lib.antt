@@ -1,9 +1,1 @@
-pub mod ByteLemmas
-pub mod NumberLemmas
-pub mod AddressLemmas
-pub mod PartLemmas
-pub mod XeidTextLemmas
-pub mod PrefixTextLemmas
-pub mod WrittenLemmas
-pub mod LawLemmas
 pub mod AgainLemmas

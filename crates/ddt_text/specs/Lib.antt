@@ -1,3 +1,4 @@
 pub mod Grammar
 pub mod FirstFault
 pub mod Written
+pub mod laws

@@ -56,7 +56,7 @@ impl fmt::Display for LocatorText {
 
     ghost output = { λ text. Some (written_locator text.0) };
 
-    #[tactic(auto, using(crate::proofs::WrittenLemmas::shown))]
+    #[tactic(auto, using(crate::specs::laws::Written::shown))]
     fn fmt<W: fmt::Write>(&self, f: &mut fmt::Formatter<W>) -> fmt::Result {
         match self.0 {
             Locator::V4(number) => write!(f, "{}", Ipv4Addr::from_bits(number)),

@@ -12,16 +12,16 @@ use Rattle.ddt_path.specs.declared.xeid.Xeid.{Xeid}
 use Rattle.ddt_path.specs.Path.{xeid_path}
 use Rattle.ddt_path.specs.Covers.{covers, overlaps, is_strictly_below}
 use Rattle.ddt_path.specs.Free.{free, parts_from, overlaps_none}
-use Rattle.ddt_path.proofs.CoverLemmas.{covers_trans, front_covered, length-covered, take-covered, fronts_overlap}
-use Rattle.ddt_path.proofs.EndLemmas.{overlaps_whole}
-use Rattle.ddt_path.proofs.FrontLemmas.{shorter_front, below_parts, longer_below, overlaps_front}
-use Rattle.ddt_path.proofs.PathTestLemmas.{is_path-xeid_path}
-use Rattle.ddt_path.proofs.HoleLemmas.{free_whole, member_covers_none}
+use Rattle.ddt_path.specs.laws.Cover.{covers_trans, front_covered, length-covered, take-covered, fronts_overlap}
+use Rattle.ddt_path.specs.laws.End.{overlaps_whole}
+use Rattle.ddt_path.specs.laws.Front.{shorter_front, below_parts, longer_below, overlaps_front}
+use Rattle.ddt_path.specs.laws.PathTest.{is_path-xeid_path}
+use Rattle.ddt_path.specs.laws.Hole.{free_whole, member_covers_none}
 use Rattle.ddt_trie.specs.declared.tree.Tree.{Tree}
 use Rattle.ddt_trie.specs.PrefixMap.{path_cmp, keys_below}
 use Rattle.ddt_trie.specs.Tree.{lookup, content_of, IsMet, IsGapBelow, HasPaths}
-use Rattle.ddt_trie.proofs.EntryLemmas.{tied}
-use Rattle.ddt_trie.proofs.KeyLemmas.{all_from_members, member_passes, free_start, free_here, free_later, free_last, any_kept, any_same}
+use Rattle.ddt_trie.specs.laws.Entry.{tied}
+use Rattle.ddt_trie.specs.laws.Key.{all_from_members, member_passes, free_start, free_here, free_later, free_last, any_kept, any_same}
 use Rattle.ddt_trie.proofs.ContentLemmas.{get-content, key_value}
 
 -- ---- the keys that count

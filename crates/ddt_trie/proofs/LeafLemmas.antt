@@ -5,8 +5,8 @@ use Rattle.std.proofs.lemmas.Bool.{and_from, and_parts, or_parts, or_right, fals
 use Rattle.std.proofs.lemmas.Option.{none-some}
 use Rattle.std.proofs.lemmas.List.{length-drop, length-take-le}
 use Rattle.ddt_path.specs.Covers.{covers, overlaps, shared_len, is_same_path}
-use Rattle.ddt_path.proofs.CoverLemmas.{front_covered, same_path, path_itself}
-use Rattle.ddt_path.proofs.ShareLemmas.{shared_len-sym, shares_less, covers-front}
+use Rattle.ddt_path.specs.laws.Cover.{front_covered, same_path, path_itself}
+use Rattle.ddt_path.specs.laws.Share.{shared_len-sym, shares_less, covers-front}
 use Rattle.ddt_trie.specs.PrefixMap.{IsKept}
 use Rattle.ddt_trie.specs.declared.tree.Tree.{Tree}
 use Rattle.ddt_trie.specs.declared.tree.Tree.TheVariants.{Empty, Leaf}

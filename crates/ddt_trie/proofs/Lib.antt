@@ -1,10 +1,4 @@
-pub mod EntryLemmas
-pub mod PassLemmas
 pub mod RetainLemmas
-pub mod KeyLemmas
-pub mod MapLemmas
-pub mod MatchLemmas
-pub mod BelowLemmas
 pub mod TurnLemmas
 pub mod TreeLemmas
 pub mod WayLemmas

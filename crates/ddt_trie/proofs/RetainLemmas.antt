@@ -5,7 +5,7 @@ use Rattle.std.specs.List.Retain.{IsFiltered, ReturnsInTurn}
 use Rattle.std.specs.FinMap.{find, get}
 use Rattle.ddt_trie.specs.PrefixMap.{path_cmp, IsKept, IsRetained}
 use Rattle.ddt_trie.specs.Entries.{have_own_keys, map_of}
-use Rattle.ddt_trie.proofs.EntryLemmas.{tied, tied-true, get-map_of, rest_distinct, absent_later, more_distinct}
+use Rattle.ddt_trie.specs.laws.Entry.{tied, tied-true, get-map_of, rest_distinct, absent_later, more_distinct}
 
 module _ {V F : Type 0} (R : F → List ℕ × V → Bool → F → Type 0) (answers : V → Bool → Type 0) (f : F) (each : (e : List ℕ × V) (b : Bool) (f' : F) → R f e b f' → answers e.1 b × (f' ≡ f)) where
   -- the head's key is k

@@ -7,7 +7,7 @@ use Rattle.std.proofs.lemmas.List.{length-drop}
 use Rattle.ddt_trie.specs.declared.tree.Tree.{Tree}
 use Rattle.ddt_trie.specs.declared.tree.Tree.TheVariants.{Empty, Leaf, Fork'}
 use Rattle.ddt_path.specs.Covers.{covers, is_same_path}
-use Rattle.ddt_path.proofs.CoverLemmas.{eqb_self, path_itself}
+use Rattle.ddt_path.specs.laws.Cover.{eqb_self, path_itself}
 use Rattle.ddt_trie.specs.Tree.{low, high, lookup, is_filled, is_pruned, IsUncovered, IsLongestBelow, IsMet, IsGapBelow}
 
 pub high_apart : (at : ℕ) → (high at == low at) ≡ false

@@ -6,8 +6,8 @@ use Rattle.std.specs.Bool.{then_some}
 use Rattle.std.proofs.lemmas.Bool.{and_parts, and_from, false≢true, not-true, eqb-true}
 use Rattle.std.proofs.lemmas.List.{length-take-le, take-append-drop}
 use Rattle.ddt_path.specs.Covers.{covers, shared_len, is_same_path}
-use Rattle.ddt_path.proofs.CoverLemmas.{eqb_self, take-covered, length-covered, front_covered}
-use Rattle.ddt_path.proofs.ShareLemmas.{shared_len-append, covers_both}
+use Rattle.ddt_path.specs.laws.Cover.{eqb_self, take-covered, length-covered, front_covered}
+use Rattle.ddt_path.specs.laws.Share.{shared_len-append, covers_both}
 use Rattle.ddt_trie.specs.declared.tree.Tree.{Tree}
 use Rattle.ddt_trie.specs.declared.tree.Tree.TheVariants.{Empty, Leaf, Fork'}
 use Rattle.ddt_trie.specs.declared.tree.Entry.{Entry}

@@ -253,7 +253,7 @@ impl<V: Drop> Tree<V> {
     }
 
     /// The same as `insert` for a tree without entries.
-    #[tactic(auto, using(ddt_path::proofs::CoverLemmas::front_covered))]
+    #[tactic(auto, using(ddt_path::specs::laws::Cover::front_covered))]
     fn grow(&mut self, alloc: Global, prefix: Prefix, at: u8, value: &mut Option<V>) -> bool
         requires within { at ≤ length prefix }
         requires empty { self.old ≡ Empty }

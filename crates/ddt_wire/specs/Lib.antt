@@ -6,4 +6,4 @@ pub mod LocatorRecord
 pub mod Head
 pub mod Referral
 pub mod NegativeReply
-pub mod Laws
+pub mod laws

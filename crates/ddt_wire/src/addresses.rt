@@ -1,7 +1,7 @@
 //! Addresses one after the other, each behind so many ignored bytes: the locators of a record, and the ITR-RLOCs of a
 //! Map-Request (RFC 9301, sections 5.2 and 5.4).
 
-ghost use Rattle.std.specs.Prelude.{◌≡◌, ◌≤◌, ◌++◌, Err, length, take, All, OnOk, IfOk, IfErr};
+ghost use Rattle.std.specs.Prelude.{◌≡◌, ◌≤◌, ◌++◌, Err, length, take, All, OnOk, OnErr, IfOk, IfErr};
 ghost use Rattle.std.specs.List.{flat_map};
 ghost use Rattle.std.specs.Iterator.{YieldsFirst, item_count};
 ghost use Rattle.ddt_path.specs.Locators.{most_locators};
@@ -14,7 +14,8 @@ use ddt_path::{Locator, LocatorSet, MOST_LOCATORS};
 use std::alloc::AllocError;
 use std::marker::Model;
 
-/// Appends the addresses in order, each behind these bytes and its AFI. Fails only if out of memory.
+/// Appends the addresses in order, each behind these bytes and its AFI. Fails only if out of memory, and then `bytes`
+/// is unchanged.
 pub fn write_addresses(
     bytes: &mut Vec<u8>,
     before: &[u8],
@@ -23,6 +24,26 @@ pub fn write_addresses(
     ensures written { OnOk result (bytes.new.items
         ≡ bytes.old.items ++ flat_map (written_behind before.now) addresses.now) }
     ensures fit { OnOk result (All IsAddress addresses.now) }
+    ensures unchanged { OnErr result (bytes.new.items ≡ bytes.old.items) }
+{
+    let len = bytes.len();
+    let written = append_addresses(bytes, before, addresses);
+    if written.is_err() {
+        bytes.truncate(len);
+    }
+    written
+}
+
+/// The same, but where it fails, some of the addresses may stand in `bytes`.
+fn append_addresses(
+    bytes: &mut Vec<u8>,
+    before: &[u8],
+    addresses: &[Locator],
+) -> Result<(), AllocError>
+    ensures written { OnOk result (bytes.new.items
+        ≡ bytes.old.items ++ flat_map (written_behind before.now) addresses.now) }
+    ensures fit { OnOk result (All IsAddress addresses.now) }
+    ensures kept { OnErr result (take (length bytes.old.items) bytes.new.items ≡ bytes.old.items) }
 {
     for address in addresses {
         bytes.extend_from_slice(before)?;

@@ -16,7 +16,7 @@
 
 ghost use Rattle.std.specs.Prelude.{◌≡◌, ◌++◌, ◌+◌, ◌≤◌, OnOk, OnErr, IsOk, List, ℕ, Ok, length, take, IfOk, vec_len, vec_capacity};
 ghost use Rattle.ddt_wire.specs.Eid.{written_eid, written_mask_len, instance_head, written_form, eid_at, lcaf_at, inside_at, block_at, has_length, SpellsEid};
-ghost use Rattle.ddt_wire.specs.Laws.{IsPrefix};
+ghost use Rattle.ddt_wire.specs.laws.Statements.{IsPrefix};
 
 use crate::address::{
     AddressFault, IPV4, IPV4_LEN, IPV6, IPV6_LEN, LCAF, NO_ADDRESS, address_len, read_address,
@@ -120,7 +120,7 @@ pub fn write_eid(bytes: &mut Vec<u8>, prefix: Prefix) -> Result<(), AllocError>
 }
 
 /// The block of an instance whose address stands at the front, from its AFI on.
-#[tactic(auto, using(crate::proofs::EidLemmas::cut_block), unfolding(crate::specs::Eid::block_at))]
+#[tactic(auto, using(crate::specs::laws::CutPrefix::cut_block), unfolding(crate::specs::Eid::block_at))]
 fn read_block(bytes: &[u8], iid: u32, mask_len: u8) -> Result<(Prefix, usize), EidFault>
     ensures exact { result ≡ block_at iid mask_len bytes.now }
     ensures within { IfOk result (λ x. x.1 ≤ length bytes.now) }

@@ -6,4 +6,6 @@ mod ecm;
 #[cfg(test)]
 mod messages;
 #[cfg(test)]
+mod refused;
+#[cfg(test)]
 mod wire;

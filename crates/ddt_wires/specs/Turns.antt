@@ -1,12 +1,12 @@
 -- The turns of a server over wires, by their calls (RFC 8111, sections 7.1 and 7.2).
-use Rattle.std.specs.Prelude.{ℕ, ◌≡◌, Bool, false, Option, Some, None, Ok, Err, is_some, is_ok}
+use Rattle.std.specs.Prelude.{ℕ, ◌≡◌, ◌≢◌, Bool, false, Option, Some, None, Ok, Err, is_some, is_ok}
 use Rattle.std.specs.Prelude.{List, [], ◌∷◌, ◌++◌, length, All, count_by, flat_map}
 use Rattle.ddt_path.specs.declared.locator.Locator.{Locator}
 use Rattle.ddt_config.specs.Table.{Outline}
 use Rattle.ddt_ecm.specs.UdpHeader.{control_port}
 use Rattle.ddt_node.specs.declared.handling.Forward.{Forward}
 use Rattle.ddt_node.specs.declared.handling.Handled.{Handled}
-use Rattle.ddt_node.specs.Server.{handled}
+use Rattle.ddt_node.specs.Server.{ddt_request, handled}
 use Rattle.ddt_wires.specs.declared.call.Call.{Call}
 use Rattle.ddt_wires.specs.declared.call.Call.TheVariants.{Received, Tried}
 use Rattle.ddt_wires.specs.declared.call.NetFault.{NetFault}
@@ -50,13 +50,14 @@ AreTried at (d ∷ others) [] = ⊥
 AreTried at (d ∷ others) (call ∷ calls) = IsTry at d call × AreTried at others calls
 
 -- One turn. `no_packet`, `failed`: the one call of `receive` gave no packet. `served`: it gave one, and what the server
--- sends for these bytes is tried. `out_of_memory`: it gave one, and the server had no memory for it.
+-- sends for these bytes is tried. `out_of_memory`: it gave a DDT Map-Request, and the server had no memory for it.
 pub data IsTurn (c : Outline) (at : Locator) : List Call → Type 0 where
   no_packet : IsTurn c at (Received at most_bytes (Ok None) [] ∷ [])
   failed : (fault : NetFault) → IsTurn c at (Received at most_bytes (Err fault) [] ∷ [])
   served : (p : Packet) (bytes : List ℕ) (tries : List Call) → AreTried at (sends_for p (handled c bytes)) tries
       → IsTurn c at (Received at most_bytes (Ok (Some p)) bytes ∷ tries)
-  out_of_memory : (p : Packet) (bytes : List ℕ) → IsTurn c at (Received at most_bytes (Ok (Some p)) bytes ∷ [])
+  out_of_memory : (p : Packet) (bytes : List ℕ) → ddt_request bytes ≢ None
+      → IsTurn c at (Received at most_bytes (Ok (Some p)) bytes ∷ [])
 
 -- whether a call gave a packet
 abbrev pub gives_packet : Call → Bool

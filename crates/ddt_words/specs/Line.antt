@@ -5,19 +5,22 @@ use Rattle.std.specs.List.{fold}
 use Rattle.std.specs.Borrow.{Bor}
 use Rattle.clap.specs.declared.builder.ArgAction.TheVariants.{Set, Append}
 use Rattle.ddt_words.specs.declared.declaration.Argument.{Argument}
-use Rattle.ddt_words.specs.declared.declaration.Argument.TheVariants.{One, Several, Setting}
+use Rattle.ddt_words.specs.declared.declaration.Argument.TheVariants.{One, Several, Any, Setting}
 use Rattle.ddt_words.specs.declared.declaration.Declaration.{Declaration}
 
 -- a value behind a reference
 abbrev lent : {A : Type 0} → A → Bor A
 lent x = record { ref_ptr = (0, 0); now = x }
 
--- an argument of one word, one of several, and an option, by their names
+-- an argument of one word, one of several, one of any number, and an option, by their names
 abbrev pub one : Text → Argument
 one name = One (lent name)
 
 abbrev pub several : Text → Argument
 several name = Several (lent name)
+
+abbrev pub any : Text → Argument
+any name = Any (lent name)
 
 abbrev pub setting : Text → Argument
 setting name = Setting (lent name)
@@ -30,6 +33,7 @@ takes name arguments = record { name = lent name; arguments = lent arguments }
 abbrev pub rule_of_argument : Argument → Rule
 rule_of_argument (One name) = record (new_rule name.now) { required = true; action = Some Set }
 rule_of_argument (Several name) = record (new_rule name.now) { required = true; action = Some Append }
+rule_of_argument (Any name) = record (new_rule name.now) { action = Some Append }
 rule_of_argument (Setting name) = record (new_rule name.now) { long = Some name.now; action = Some Set }
 
 -- a command with so many of its arguments

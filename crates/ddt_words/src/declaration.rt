@@ -14,6 +14,8 @@ pub enum Argument<'a> {
     One(&'a str),
     /// One word or more, behind all other arguments.
     Several(&'a str),
+    /// Words, none or more, behind all other arguments.
+    Any(&'a str),
     /// `--NAME VALUE` or `--NAME=VALUE`, at most once.
     Setting(&'a str),
 }
@@ -62,6 +64,7 @@ fn taken<'a>(alloc: Global, argument: Argument<'a>) -> Arg<'a>
         Argument::Several(name) => Arg::new(alloc, name)
             .required(true)
             .action(ArgAction::Append),
+        Argument::Any(name) => Arg::new(alloc, name).action(ArgAction::Append),
         Argument::Setting(name) => Arg::new(alloc, name).long(name).action(ArgAction::Set),
     }
 }

@@ -12,5 +12,5 @@ mod words;
 
 pub use declaration::{Argument, Declaration};
 pub use fault::WordsFault;
-pub use reading::read_words;
+pub use reading::read_call;
 pub use words::Words;

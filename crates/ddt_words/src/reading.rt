@@ -12,9 +12,9 @@ use crate::words::Words;
 use clap::error::ErrorKind;
 use std::alloc::Global;
 
-/// The command that the words call, of which the first is the program's name. Refusals: 1 Bad where the words fit none
-/// of the commands, as a request for help or the version does; 2 Memory, which comes only if out of memory.
-pub fn read_words<'a>(
+/// Which of the commands the words call, of which the first is the program's name. Refusals: 1 Bad where the words fit
+/// none of the commands, as a request for help or the version does; 2 Memory, which comes only if out of memory.
+pub fn read_call<'a>(
     alloc: Global,
     commands: &[Declaration<'a>],
     words: &'a [String],

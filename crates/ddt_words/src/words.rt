@@ -34,7 +34,8 @@ impl<'a> Words<'a> {
         self.matches.get_str(name)
     }
 
-    /// The words of an argument that takes several, in order; None where the command has no argument of this name.
+    /// The words of an argument that takes several, in order; None where the command has no argument of this name, or
+    /// was given no word of it.
     pub fn all_values(&self, name: &str) -> Option<&[&'a str]>
         ensures { option_map (λ s. map (λ t. t.now) s.now) result ≡ all_values name.now (call_of self.now) }
     {

@@ -16,7 +16,7 @@ use std::test::Fail;
 pub const PORT: u16 = 4342;
 
 /// The words of a process, behind the program's name.
-fn process(alloc: Global, words: &[&str]) -> Result<Vec<String>, Fail> {
+pub fn process(alloc: Global, words: &[&str]) -> Result<Vec<String>, Fail> {
     let mut all = vec![in alloc; String::from_str(alloc, "ddt")?]?;
     for word in words {
         all.push(String::from_str(alloc, word)?)?;
@@ -24,18 +24,25 @@ fn process(alloc: Global, words: &[&str]) -> Result<Vec<String>, Fail> {
     Ok(all)
 }
 
-/// A file, or one that can be opened and not read.
+/// A file, or one that can be opened and not read; or one that gives at most 16 bytes for a read, and fails after so many
+/// reads.
 #[derive(Clone, Copy, Drop)]
 pub enum Source<'a> {
     Bytes(&'a [u8]),
     Broken,
+    Failing(&'a [u8], usize),
 }
 
 impl Read for Source<'_> {
     fn read(&mut self, buffer: &mut [u8]) -> io::Result<usize> {
         match self {
             Source::Bytes(bytes) => bytes.read(buffer),
-            Source::Broken => Err(io::Error::from(ErrorKind::BrokenPipe)),
+            Source::Broken | Source::Failing(_, 0) => Err(io::Error::from(ErrorKind::BrokenPipe)),
+            Source::Failing(bytes, reads) => {
+                *reads -= 1;
+                let room = buffer.len().min(16);
+                bytes.read(&mut buffer[..room])
+            }
         }
     }
 }

@@ -1,22 +1,34 @@
 //! `ddt answer REGISTER GROUP XEID`: what the group's server answers to a request of nonce 1, in hexadecimal.
 
-ghost use Rattle.std.specs.Prelude.{◌≡◌, Ok, IfOk, string_bytes};
+ghost use Rattle.std.specs.Prelude.{◌≡◌, ◌≢◌, Bool, Ok, IfOk, string_bytes};
+ghost use Rattle.std.specs.Fn.{FnReturnsAt};
 ghost use Rattle.ddt_lines.specs.Lines.{ended as as_line};
+ghost use Rattle.ddt_words.specs.Call.{call_of};
+ghost use Rattle.ddt_commands.specs.declared.status.Status.TheVariants.{
+  Refused as IsRefused,
+  BadWords as IsBadWords,
+  Unprinted as IsUnprinted,
+};
 ghost use Rattle.ddt_commands.specs.Answer.{IsAnswerText};
 ghost use Rattle.ddt_commands.specs.Assign.{bad_xeid, xeid_of};
 ghost use Rattle.ddt_commands.specs.Compile.{IsWhyNoGroup, group_of};
-ghost use Rattle.ddt_commands.specs.Over.{whole};
+ghost use Rattle.ddt_commands.specs.Over.{IsTextOver, IsWhyOver, whole};
+ghost use Rattle.ddt_commands.specs.Running.{HasPartOf, HasRefused, HasText, StayApart};
+ghost use Rattle.ddt_commands.specs.Status.{answer_status};
 
 use crate::answering::answer_hex;
 use crate::commands::assign::identifier;
 use crate::commands::compile::of_group;
 use crate::lines::Lines;
-use crate::over::OverRegister;
+use crate::over::{OverRegister, lines_over};
 use crate::refusal::{Refusal, WordRefusal};
+use crate::status::Status;
+use crate::telling::{answer, refuse};
 use ddt_check::Accepted;
 use ddt_path::{Name, Xeid};
 use ddt_words::{Argument, Declaration, Words};
 use std::alloc::{AllocError, Global};
+use std::io::{Read, Write};
 
 pub const WORDS: Declaration<'static> = Declaration {
     name: "answer",
@@ -26,6 +38,42 @@ pub const WORDS: Declaration<'static> = Declaration {
         Argument::One("xeid"),
     ],
 };
+
+/// Prints what the group's server answers to a request of nonce 1, in hexadecimal, or tells why there is no answer:
+/// the identifier, the register, or a group that it doesn't have. `open_file` gives a file, or None where it can't be
+/// opened.
+pub fn run_answer<'a, F, O, P, E>(
+    alloc: Global,
+    words: &Words<'a>,
+    open_file: O,
+    out: &mut P,
+    err: &mut E,
+) -> Status
+where
+    F: Read + Drop,
+    O: Fn(&str) -> Option<F> + Drop,
+    P: Write,
+    E: Write,
+    requires { O.IsAlwaysCallable open_file }
+    ensures fits { result ≢ IsBadWords }
+    ensures answered { (complete : Bool) → result ≡ answer_status complete → HasText
+        (IsTextOver (FnReturnsAt O.Fn open_file) F.remaining bad_xeid (whole IsAnswerText complete) (call_of words.now))
+        (P.contents out.old) (P.contents out.new) }
+    ensures refused { result ≡ IsRefused → HasRefused
+        (IsWhyOver (FnReturnsAt O.Fn open_file) F.remaining bad_xeid IsWhyNoGroup (call_of words.now))
+        (E.contents err.old) (E.contents err.new) }
+    // Where a writer failed, it has a front of what it was to have.
+    ensures unprinted { result ≡ IsUnprinted → HasPartOf
+        (λ complete. IsTextOver (FnReturnsAt O.Fn open_file) F.remaining bad_xeid (whole IsAnswerText complete) (call_of words.now))
+        (IsWhyOver (FnReturnsAt O.Fn open_file) F.remaining bad_xeid IsWhyNoGroup (call_of words.now))
+        (P.contents out.old) (P.contents out.new) (E.contents err.old) (E.contents err.new) }
+    ensures streams { StayApart result (out.new ≡ out.old) (err.new ≡ err.old) }
+{
+    match lines_over::<Answer<'a>, F, O>(alloc, words, open_file) {
+        Ok(lines) => answer(&lines, out),
+        Err(refusal) => refuse(alloc, &refusal, err),
+    }
+}
 
 /// The word that names the group, and the identifier.
 #[derive(Clone, Copy, Debug)]

@@ -1,21 +1,32 @@
 //! `ddt lookup REGISTER XEID... [--me ADDRESS] [--seed N]`: identifiers looked up one after the other by one resolver,
 //! over the servers of the register.
 
-ghost use Rattle.std.specs.Prelude.{◌≡◌, Ok, None, Some, IfOk, IfErr, OnOk, map, option_map};
+ghost use Rattle.std.specs.Prelude.{◌≡◌, ◌≢◌, Bool, Ok, None, Some, IfOk, IfErr, OnOk, map, option_map};
+ghost use Rattle.std.specs.Fn.{FnReturnsAt};
 ghost use Rattle.ddt_register.specs.declared.register.Register.{Register};
 ghost use Rattle.ddt_sim.specs.Compiled.{AreCompiled};
 ghost use Rattle.ddt_words.specs.Call.{call_of};
 ghost use Rattle.ddt_sim.specs.Sound.{IsSound};
 ghost use Rattle.ddt_commands.specs.declared.refusal.Refusal.TheVariants.{OutOfMemory};
+ghost use Rattle.ddt_commands.specs.declared.status.Status.TheVariants.{
+  Refused as IsRefused,
+  BadWords as IsBadWords,
+  Unprinted as IsUnprinted,
+};
 ghost use Rattle.ddt_commands.specs.Assign.{WantsMemory};
 ghost use Rattle.ddt_commands.specs.Lookup.{AreAllTold, Asks, IsLookupText, address_refusal, bad_lookup, bad_identifier, me_in, number_refusal, seed_in, xeid_words};
+ghost use Rattle.ddt_commands.specs.Over.{IsTextOver, IsWhyOver};
+ghost use Rattle.ddt_commands.specs.Running.{HasPartOf, HasRefused, HasText, StayApart};
+ghost use Rattle.ddt_commands.specs.Status.{answer_status};
 
 use crate::answering::RESOLVER;
 use crate::commands::assign::identifier;
 use crate::lines::Lines;
 use crate::looking_up::{Client, Servers, look_up};
-use crate::over::OverRegister;
+use crate::over::{OverRegister, lines_over};
 use crate::refusal::{Refusal, WordRefusal};
+use crate::status::Status;
+use crate::telling::{answer, refuse};
 use ddt_check::Accepted;
 use ddt_path::Locator;
 use ddt_resolver::Resolver;
@@ -23,6 +34,7 @@ use ddt_sim::{Compiled, a_step_keeps_a_resolver_sound};
 use ddt_text::{parse_locator, read_number};
 use ddt_words::{Argument, Declaration, Words};
 use std::alloc::Global;
+use std::io::{Read, Write};
 
 pub const WORDS: Declaration<'static> = Declaration {
     name: "lookup",
@@ -33,6 +45,41 @@ pub const WORDS: Declaration<'static> = Declaration {
         Argument::Setting("seed"),
     ],
 };
+
+/// Prints the lines of a lookup of each identifier, or tells why there are none: the words from left to right, or the
+/// register. `open_file` gives a file, or None where it can't be opened.
+pub fn run_lookup<F, O, P, E>(
+    alloc: Global,
+    words: &Words<'_>,
+    open_file: O,
+    out: &mut P,
+    err: &mut E,
+) -> Status
+where
+    F: Read + Drop,
+    O: Fn(&str) -> Option<F> + Drop,
+    P: Write,
+    E: Write,
+    requires { O.IsAlwaysCallable open_file }
+    ensures fits { result ≢ IsBadWords }
+    ensures answered { (complete : Bool) → result ≡ answer_status complete → HasText
+        (IsTextOver (FnReturnsAt O.Fn open_file) F.remaining bad_lookup (IsLookupText complete) (call_of words.now))
+        (P.contents out.old) (P.contents out.new) }
+    ensures refused { result ≡ IsRefused → HasRefused
+        (IsWhyOver (FnReturnsAt O.Fn open_file) F.remaining bad_lookup WantsMemory (call_of words.now))
+        (E.contents err.old) (E.contents err.new) }
+    // Where a writer failed, it has a front of what it was to have.
+    ensures unprinted { result ≡ IsUnprinted → HasPartOf
+        (λ complete. IsTextOver (FnReturnsAt O.Fn open_file) F.remaining bad_lookup (IsLookupText complete) (call_of words.now))
+        (IsWhyOver (FnReturnsAt O.Fn open_file) F.remaining bad_lookup WantsMemory (call_of words.now))
+        (P.contents out.old) (P.contents out.new) (E.contents err.old) (E.contents err.new) }
+    ensures streams { StayApart result (out.new ≡ out.old) (err.new ≡ err.old) }
+{
+    match lines_over::<Lookup, F, O>(alloc, words, open_file) {
+        Ok(lines) => answer(&lines, out),
+        Err(refusal) => refuse(alloc, &refusal, err),
+    }
+}
 
 /// The resolver's own address, and the nonce of its first request. The identifiers are read from their words as they
 /// are looked up.

@@ -1,15 +1,22 @@
 //! `ddt loop REGISTER XEID... [--me ADDRESS] [--seed N] [--turns N]`: the servers of a register and one resolver, over
 //! sockets of the loopback, for so many turns at most.
 
-ghost use Rattle.std.specs.Prelude.{◌≡◌, Ok, Some, IfErr, IfOk, map, option_map};
+ghost use Rattle.std.specs.Prelude.{◌≡◌, ◌≢◌, Bool, Ok, Some, IfErr, IfOk, map, option_map};
 ghost use Rattle.std.specs.Fn.{FnReturnsAt};
 ghost use Rattle.ddt_text.specs.FirstFault.{xeid_in};
 ghost use Rattle.ddt_words.specs.Call.{call_of};
 ghost use Rattle.ddt_commands.specs.declared.refusal.Refusal.TheVariants.{OutOfMemory};
+ghost use Rattle.ddt_commands.specs.declared.status.Status.TheVariants.{
+  Refused as IsRefused,
+  BadWords as IsBadWords,
+  Unprinted as IsUnprinted,
+};
 ghost use Rattle.ddt_commands.specs.Lookup.{bad_identifier, me_of, number_refusal, seed_of, xeid_words};
 ghost use Rattle.ddt_commands.specs.Loop.{AreUntouched, IsLoopText, IsWhyNotLooped, LoopsOver, bad_loop, turns_in, turns_of};
 ghost use Rattle.ddt_commands.specs.Over.{path};
+ghost use Rattle.ddt_commands.specs.Running.{HasPartOf, HasRefused, HasText, StayApart};
 ghost use Rattle.ddt_commands.specs.Sockets.{Binds};
+ghost use Rattle.ddt_commands.specs.Status.{answer_status};
 
 use crate::commands::assign::identifier;
 use crate::commands::lookup::{are_identifiers, first_nonce, identifiers, own_address};
@@ -19,6 +26,8 @@ use crate::loopback::is_loopback;
 use crate::looping::{Task, loop_over};
 use crate::over::register_at;
 use crate::refusal::{Refusal, ServerRefusal, WordRefusal};
+use crate::status::Status;
+use crate::telling::{answer, refuse};
 use ddt_loop::Clock;
 use ddt_path::{Locator, Xeid};
 use ddt_text::read_number;
@@ -26,7 +35,7 @@ use ddt_wires::Wires;
 use ddt_words::{Argument, Declaration, Words};
 use std::alloc::{AllocError, Global};
 use std::io;
-use std::io::Read;
+use std::io::{Read, Write};
 
 pub const WORDS: Declaration<'static> = Declaration {
     name: "loop",
@@ -41,6 +50,58 @@ pub const WORDS: Declaration<'static> = Declaration {
 
 /// The greatest number of turns where none is given.
 const DEFAULT_TURNS: u32 = 20_000;
+
+/// Runs a resolver among the servers of a register, and prints what each identifier's lookup ends in, or tells why it
+/// doesn't run: the words from left to right, the resolver's address, the register, an address of its servers, or a
+/// socket. It runs over wires and a clock, for so many turns at most. `open_file` gives a file, or None where it can't
+/// be opened; `bind` binds a socket of the wires to a locator.
+pub fn run_loop<F, O, W, C, B, P, E>(
+    alloc: Global,
+    words: &Words<'_>,
+    open_file: O,
+    wires: &mut W,
+    clock: &mut C,
+    bind: B,
+    out: &mut P,
+    err: &mut E,
+) -> Status
+where
+    F: Read + Drop,
+    O: Fn(&str) -> Option<F> + Drop,
+    W: Wires,
+    C: Clock,
+    B: Fn(&mut W, Locator) -> io::Result<()> + Drop,
+    P: Write,
+    E: Write,
+    requires opens { O.IsAlwaysCallable open_file }
+    requires binds { B.IsAlwaysCallable bind }
+    ensures fits { result ≢ IsBadWords }
+    ensures answered { (complete : Bool) → result ≡ answer_status complete → HasText
+        (IsLoopText (FnReturnsAt O.Fn open_file) F.remaining
+        (LoopsOver (Binds B.Fn bind) W.calls C.readings wires.old wires.new clock.old clock.new)
+        (call_of words.now) complete)
+        (P.contents out.old) (P.contents out.new) }
+    ensures refused { result ≡ IsRefused → HasRefused
+        (IsWhyNotLooped (FnReturnsAt O.Fn open_file) F.remaining
+        (AreUntouched wires.old wires.new clock.old clock.new)
+        (LoopsOver (Binds B.Fn bind) W.calls C.readings wires.old wires.new clock.old clock.new) (call_of words.now))
+        (E.contents err.old) (E.contents err.new) }
+    // Where a writer failed, it has a front of what it was to have.
+    ensures unprinted { result ≡ IsUnprinted → HasPartOf
+        (λ complete. IsLoopText (FnReturnsAt O.Fn open_file) F.remaining
+        (LoopsOver (Binds B.Fn bind) W.calls C.readings wires.old wires.new clock.old clock.new)
+        (call_of words.now) complete)
+        (IsWhyNotLooped (FnReturnsAt O.Fn open_file) F.remaining
+        (AreUntouched wires.old wires.new clock.old clock.new)
+        (LoopsOver (Binds B.Fn bind) W.calls C.readings wires.old wires.new clock.old clock.new) (call_of words.now))
+        (P.contents out.old) (P.contents out.new) (E.contents err.old) (E.contents err.new) }
+    ensures streams { StayApart result (out.new ≡ out.old) (err.new ≡ err.old) }
+{
+    match lines(alloc, words, open_file, wires, clock, bind) {
+        Ok(lines) => answer(&lines, out),
+        Err(refusal) => refuse(alloc, &refusal, err),
+    }
+}
 
 /// The path of a register, and a resolver over its servers. The identifiers are read from their words once the register
 /// is known.

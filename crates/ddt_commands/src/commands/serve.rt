@@ -1,23 +1,32 @@
 //! `ddt serve CONFIG ADDRESS TURNS`: a server of the configuration, at a loopback address, for so many turns.
 
-ghost use Rattle.std.specs.Prelude.{◌≡◌, Some, Ok, IfOk, IfErr, true};
+ghost use Rattle.std.specs.Prelude.{◌≡◌, ◌≢◌, Bool, Some, Ok, IfOk, IfErr, true};
 ghost use Rattle.std.specs.Fn.{FnReturnsAt};
 ghost use Rattle.ddt_words.specs.Call.{call_of};
+ghost use Rattle.ddt_commands.specs.declared.status.Status.TheVariants.{
+  Refused as IsRefused,
+  BadWords as IsBadWords,
+  Unprinted as IsUnprinted,
+};
+ghost use Rattle.ddt_commands.specs.Running.{HasPartOf, HasRefused, HasText, StayApart};
 ghost use Rattle.ddt_commands.specs.Serve.{IsServeText, IsWhyNotServed, ServesOver, address_of, bad_serve, config_path, turns_of};
 ghost use Rattle.ddt_commands.specs.Sockets.{Binds};
+ghost use Rattle.ddt_commands.specs.Status.{answer_status};
 
 use crate::configuration::config_at;
 use crate::lines::Lines;
 use crate::loopback::is_loopback;
 use crate::refusal::{Refusal, ServerRefusal, WordRefusal};
 use crate::serving::serve_at;
+use crate::status::Status;
+use crate::telling::{answer, refuse};
 use ddt_path::Locator;
 use ddt_text::{parse_locator, read_number};
 use ddt_wires::Wires;
 use ddt_words::{Argument, Declaration, Words};
 use std::alloc::Global;
 use std::io;
-use std::io::Read;
+use std::io::{Read, Write};
 
 pub const WORDS: Declaration<'static> = Declaration {
     name: "serve",
@@ -58,6 +67,51 @@ impl<'a> Serve<'a> {
             at,
             turns: turns as u32,
         })
+    }
+}
+
+/// Serves a server of the configuration at a loopback address for so many turns, and prints what it received and
+/// replied, or tells why it doesn't serve: the address, the number of turns, the configuration, or the socket.
+/// `open_file` gives a file, or None where it can't be opened; `bind` binds a socket of the wires to a locator.
+pub fn run_serve<F, O, W, B, P, E>(
+    alloc: Global,
+    words: &Words<'_>,
+    open_file: O,
+    wires: &mut W,
+    bind: B,
+    out: &mut P,
+    err: &mut E,
+) -> Status
+where
+    F: Read + Drop,
+    O: Fn(&str) -> Option<F> + Drop,
+    W: Wires,
+    B: Fn(&mut W, Locator) -> io::Result<()> + Drop,
+    P: Write,
+    E: Write,
+    requires opens { O.IsAlwaysCallable open_file }
+    requires binds { B.IsAlwaysCallable bind }
+    ensures fits { result ≢ IsBadWords }
+    ensures answered { (complete : Bool) → result ≡ answer_status complete → HasText
+        (λ text. (complete ≡ true) × IsServeText (FnReturnsAt O.Fn open_file) F.remaining
+        (ServesOver (Binds B.Fn bind) W.calls wires.old wires.new) (call_of words.now) text)
+        (P.contents out.old) (P.contents out.new) }
+    ensures refused { result ≡ IsRefused → HasRefused
+        (IsWhyNotServed (FnReturnsAt O.Fn open_file) F.remaining (wires.new ≡ wires.old)
+        (ServesOver (Binds B.Fn bind) W.calls wires.old wires.new) (call_of words.now))
+        (E.contents err.old) (E.contents err.new) }
+    // Where a writer failed, it has a front of what it was to have.
+    ensures unprinted { result ≡ IsUnprinted → HasPartOf
+        (λ complete text. (complete ≡ true) × IsServeText (FnReturnsAt O.Fn open_file) F.remaining
+        (ServesOver (Binds B.Fn bind) W.calls wires.old wires.new) (call_of words.now) text)
+        (IsWhyNotServed (FnReturnsAt O.Fn open_file) F.remaining (wires.new ≡ wires.old)
+        (ServesOver (Binds B.Fn bind) W.calls wires.old wires.new) (call_of words.now))
+        (P.contents out.old) (P.contents out.new) (E.contents err.old) (E.contents err.new) }
+    ensures streams { StayApart result (out.new ≡ out.old) (err.new ≡ err.old) }
+{
+    match lines(alloc, words, open_file, wires, bind) {
+        Ok(lines) => answer(&lines, out),
+        Err(refusal) => refuse(alloc, &refusal, err),
     }
 }
 

@@ -17,6 +17,8 @@ pub enum RegisterRefusal<'a> {
     BreaksRule(Fault),
     /// The register has no group of the name that was asked for, or the word is no name.
     NoSuchGroup,
+    /// The root locators of the register at this path aren't those of the first.
+    OtherRoots(&'a str),
 }
 
 impl fmt::Display for RegisterRefusal<'_> {
@@ -34,6 +36,7 @@ impl fmt::Display for RegisterRefusal<'_> {
             RegisterRefusal::CannotRead => write!(f, "unreadable 8 Read"),
             RegisterRefusal::BreaksRule(fault) => write!(f, "refused {fault}"),
             RegisterRefusal::NoSuchGroup => write!(f, "no such group"),
+            RegisterRefusal::OtherRoots(path) => write!(f, "other root locators {path}"),
         }
     }
 }

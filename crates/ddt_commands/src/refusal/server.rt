@@ -45,7 +45,7 @@ struct Address(Locator);
 impl fmt::Display for Address {
     ghost output = { λ address. Some (written_locator address.0) };
 
-    #[tactic(auto, using(ddt_text::proofs::WrittenLemmas::shown))]
+    #[tactic(auto, using(ddt_text::specs::laws::Written::shown))]
     fn fmt<W: fmt::Write>(&self, f: &mut fmt::Formatter<W>) -> fmt::Result {
         match self.0 {
             Locator::V4(number) => write!(f, "{}", Ipv4Addr::from_bits(number)),

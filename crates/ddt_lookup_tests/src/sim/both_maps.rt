@@ -182,7 +182,7 @@ fn side_by_side<S: PrefixMap<u32>, M: PrefixMap<Entry>>(
     rt: &impl Abort,
     alloc: Global,
 ) -> Result<Vec<u8>, Fail> {
-    let transcript = played_anew::<S, M>(alloc, CAMPUS, SIDE_BY_SIDE)?;
+    let transcript = played_anew::<S, M>(alloc, &[CAMPUS], SIDE_BY_SIDE)?;
     let sent = transcript.sent.as_slice();
     judge_number(rt, "side by side", sent.len() as u64, 12);
     sent_text(alloc, sent)

@@ -4,7 +4,7 @@ ghost use Rattle.ddt_register.specs.declared.register.Register.{Register};
 ghost use Rattle.ddt_ecm.specs.Request.{Message};
 ghost use Rattle.ddt_node.specs.Server.{IsDdtRequest};
 ghost use Rattle.ddt_sim.specs.Honest.{IsServer, IsHonestReply};
-ghost use Rattle.std.specs.Prelude.{IfOk};
+ghost use Rattle.std.specs.Prelude.{◌≡◌, IfOk, Ok, None};
 
 use crate::texts::{prefix, set};
 use ddt_ecm::read_request;
@@ -161,6 +161,8 @@ impl Liars {
 impl Servers for Liars {
     ghost honest = { λ servers r. ⊥ };
 
+    ghost silent = { λ servers r. ⊥ };
+
     fn answer(
         &mut self,
         alloc: Global,
@@ -169,7 +171,9 @@ impl Servers for Liars {
     ) -> Result<Option<Listed<u8>>, AllocError>
         ensures says { (r : Register) (m : Message) → ⊥ → IsServer r to → IsDdtRequest request.now m
             → IfOk result (IsHonestReply r to m) }
+        ensures nothing { (r : Register) → ⊥ → (IsServer r to → ⊥) → result ≡ Ok None }
         ensures stay { (r : Register) → ⊥ → ⊥ }
+        ensures stay_silent { (r : Register) → ⊥ → ⊥ }
     {
         let _anyone = to;
         let Ok(request) = read_request(request) else {

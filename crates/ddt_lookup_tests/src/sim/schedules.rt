@@ -3,7 +3,7 @@
 use crate::texts::{identifier, judge_number, judge_text, locator_text, outcome_text};
 use crate::worlds::{ListResolver, ROOT, rooted, served};
 use ddt_cache::Entry;
-use ddt_examples::registers::{CAMPUS, LONE_ROOT};
+use ddt_examples::registers::{CAMPUS, CAMPUS_GROWN, LONE_ROOT, WIDER_ZONE};
 use ddt_path::Outcome;
 use ddt_resolver::{Asked, Heard, Ignored, Outgoing, Resolver, Ticked, Ticket, Why};
 use ddt_sim::{Compiled, Datagram, Event, Step, Transcript, run};
@@ -19,6 +19,7 @@ pub enum Act {
     Deliver(u64),
     Pass(u64),
     Tick,
+    Replace(u64),
 }
 
 /// Steps, each with what it tells. An answer at once has no ticket.
@@ -97,37 +98,98 @@ const ONE_HOLE: Lines = &[
     (Act::Deliver(1), "ticket 1 answer hole [0]11.0.0.0/8"),
 ];
 
-/// A schedule over the servers of a register.
+/// A zone comes, goes, comes and goes again while its identifier is looked up: the last hole is that of the register that
+/// went out of force last.
+const A_ZONE_COMES_AND_GOES: Lines = &[
+    (Act::Ask("[0]10.2.0.1"), "ticket 1 asks 127.0.0.1"),
+    (Act::Deliver(0), "reply 1"),
+    (Act::Deliver(1), "ticket 1 asks 127.0.0.10"),
+    (Act::Replace(1), "replaced 1"),
+    (Act::Deliver(2), "reply 3"),
+    (Act::Deliver(3), "ticket 1 asks 127.0.0.9"),
+    (Act::Replace(0), "replaced 0"),
+    (Act::Deliver(4), "silent"),
+    (Act::Pass(2_000), "now 2000"),
+    (Act::Tick, "ticket 1 asks 127.0.0.9"),
+    (Act::Replace(1), "replaced 1"),
+    (Act::Deliver(5), "reply 6"),
+    (Act::Deliver(6), "ticket 1 answer hole [0]10.2.0.0/16"),
+    (Act::Replace(0), "replaced 0"),
+    (Act::Ask("[0]10.2.0.1"), "answer hole [0]10.2.0.0/16"),
+    (Act::Replace(9), "nothing"),
+];
+
+/// A zone that becomes wider while its servers are asked: they refer back to a prefix that isn't longer.
+const A_ZONE_GETS_WIDER: Lines = &[
+    (Act::Ask("[0]10.2.0.1"), "ticket 1 asks 127.0.0.1"),
+    (Act::Deliver(0), "reply 1"),
+    (Act::Deliver(1), "ticket 1 asks 127.0.0.10"),
+    (Act::Replace(1), "replaced 1"),
+    (Act::Deliver(2), "reply 3"),
+    (Act::Deliver(3), "ticket 1 gave up 2 Loop"),
+];
+
+/// An answer from what is remembered, 901,998 milliseconds after its register went out of force.
+const A_HOLE_OUTLIVES_ITS_REGISTER: Lines = &[
+    (Act::Ask("[0]10.2.0.1"), "ticket 1 asks 127.0.0.1"),
+    (Act::Deliver(0), "reply 1"),
+    (Act::Deliver(1), "ticket 1 asks 127.0.0.10"),
+    (Act::Deliver(2), "reply 3"),
+    (Act::Replace(1), "replaced 1"),
+    (Act::Pass(1_999), "now 1999"),
+    (Act::Deliver(3), "ticket 1 answer hole [0]10.2.0.0/15"),
+    (Act::Pass(899_999), "now 901998"),
+    (Act::Ask("[0]10.2.0.1"), "answer hole [0]10.2.0.0/15"),
+    (Act::Pass(1), "now 901999"),
+    (Act::Ask("[0]10.2.0.1"), "ticket 3 asks 127.0.0.10"),
+];
+
+/// A schedule over the servers of registers, of which the first are in force at first.
 struct Schedule {
     says: &'static str,
-    register: &'static str,
+    registers: &'static [&'static str],
     lines: Lines,
 }
 
 const SCHEDULES: &[Schedule] = &[
     Schedule {
         says: "a hole ends and the referral lives",
-        register: CAMPUS,
+        registers: &[CAMPUS],
         lines: A_HOLE_ENDS,
     },
     Schedule {
         says: "two lookups go on side by side",
-        register: CAMPUS,
+        registers: &[CAMPUS],
         lines: SIDE_BY_SIDE,
     },
     Schedule {
         says: "two tries without a reply end a lookup",
-        register: LONE_ROOT,
+        registers: &[LONE_ROOT],
         lines: TWO_TRIES,
     },
     Schedule {
         says: "a kept answer is given and not remembered",
-        register: CAMPUS,
+        registers: &[CAMPUS],
         lines: A_KEPT_ANSWER,
     },
     Schedule {
+        says: "a zone comes and goes",
+        registers: &[CAMPUS, CAMPUS_GROWN],
+        lines: A_ZONE_COMES_AND_GOES,
+    },
+    Schedule {
+        says: "a zone gets wider",
+        registers: &[CAMPUS, WIDER_ZONE],
+        lines: A_ZONE_GETS_WIDER,
+    },
+    Schedule {
+        says: "a hole outlives its register",
+        registers: &[CAMPUS, CAMPUS_GROWN],
+        lines: A_HOLE_OUTLIVES_ITS_REGISTER,
+    },
+    Schedule {
         says: "one hole",
-        register: CAMPUS,
+        registers: &[CAMPUS],
         lines: ONE_HOLE,
     },
 ];
@@ -144,6 +206,7 @@ fn step_of(act: Act) -> Result<Step, Fail> {
         Act::Deliver(number) => Step::Deliver(number),
         Act::Pass(millis) => Step::Pass(millis),
         Act::Tick => Step::Tick,
+        Act::Replace(number) => Step::Replace(number),
     })
 }
 
@@ -156,39 +219,45 @@ fn steps_of(alloc: Global, lines: Lines) -> Result<Vec<Step>, Fail> {
     Ok(steps)
 }
 
-/// The transcript of these lines over the servers of a register.
+/// The transcript of these lines over the servers of registers, of which the first are in force at first.
 fn played<S: PrefixMap<u32>, M: PrefixMap<Entry>>(
     alloc: Global,
-    register: &str,
+    registers: &[&str],
     resolver: &mut Resolver<M>,
     lines: Lines,
 ) -> Result<Transcript, Fail> {
     let steps = steps_of(alloc, lines)?;
-    let mut servers: Compiled<S> = served(alloc, register)?;
+    let mut servers: Vec<Compiled<S>> = Vec::new(alloc);
+    for register in registers {
+        servers.push(served(alloc, register)?)?;
+    }
+    if servers.is_empty() {
+        return Err("no register".into());
+    }
     Ok(run(alloc, &mut servers, resolver, &steps)?)
 }
 
 /// The same by a new resolver.
 pub fn played_anew<S: PrefixMap<u32>, M: PrefixMap<Entry>>(
     alloc: Global,
-    register: &str,
+    registers: &[&str],
     lines: Lines,
 ) -> Result<Transcript, Fail> {
     let mut resolver: Resolver<M> = rooted(alloc, &[ROOT], 1)?;
-    played::<S, M>(alloc, register, &mut resolver, lines)
+    played::<S, M>(alloc, registers, &mut resolver, lines)
 }
 
 /// The same over lists.
-fn transcript(alloc: Global, register: &str, lines: Lines) -> Result<Transcript, Fail> {
-    played_anew::<ListMap<u32>, ListMap<Entry>>(alloc, register, lines)
+fn transcript(alloc: Global, registers: &[&str], lines: Lines) -> Result<Transcript, Fail> {
+    played_anew::<ListMap<u32>, ListMap<Entry>>(alloc, registers, lines)
 }
 
 /// How many lookups are pending after these lines.
-fn pending_after(alloc: Global, register: &str, lines: Lines) -> Result<usize, Fail> {
+fn pending_after(alloc: Global, registers: &[&str], lines: Lines) -> Result<usize, Fail> {
     let mut resolver: ListResolver = rooted(alloc, &[ROOT], 1)?;
     let _transcript = played::<ListMap<u32>, ListMap<Entry>>(
         alloc,
-        register,
+        registers,
         &mut resolver,
         lines,
     )?;
@@ -234,6 +303,7 @@ fn event_text(alloc: Global, event: &Event) -> Result<String, Fail> {
         Event::Passed(moment) => number_text(alloc, "now", moment.millis()),
         Event::Heard(heard) => heard_text(alloc, heard),
         Event::Ticked(ticked) => ticked_text(alloc, ticked),
+        Event::Replaced(number) => number_text(alloc, "replaced", *number),
         Event::Nothing => plain_text(alloc, "nothing"),
     }
 }
@@ -296,7 +366,7 @@ fn judge_events(
 
 /// Plays a schedule and judges it.
 fn judge(rt: &impl Abort, alloc: Global, schedule: &Schedule) -> Result<(), Fail> {
-    let transcript = transcript(alloc, schedule.register, schedule.lines)?;
+    let transcript = transcript(alloc, schedule.registers, schedule.lines)?;
     judge_events(rt, alloc, schedule, transcript.events.as_slice())
 }
 
@@ -343,8 +413,8 @@ fn judge_datagrams(rt: &impl Abort, alloc: Global, sent: &[Datagram]) -> Result<
 
 #[test]
 fn the_datagrams_of_a_schedule_are_kept_in_order(rt: HostRuntime) -> Result<(), Fail> {
-    let pending = pending_after(rt.alloc(), CAMPUS, ONE_HOLE)?;
+    let pending = pending_after(rt.alloc(), &[CAMPUS], ONE_HOLE)?;
     judge_number(&rt, "one hole", pending as u64, 0);
-    let transcript = transcript(rt.alloc(), CAMPUS, ONE_HOLE)?;
+    let transcript = transcript(rt.alloc(), &[CAMPUS], ONE_HOLE)?;
     judge_datagrams(&rt, rt.alloc(), transcript.sent.as_slice())
 }

@@ -287,14 +287,18 @@ const ITRS: &[Case] = &[
     },
 ];
 
-/// A run that a failing call doesn't change: each turn takes 100 milliseconds.
+/// A run that a failing call doesn't change: each turn takes 5 milliseconds, so that there are turns enough for a
+/// second try.
 const WITH_A_FAILURE: Run = Run {
     arrivals: &[],
-    step: 100,
+    step: 5,
     sockets: SOCKETS,
-    identifiers: &["[0]10.1.2.3"],
-    turns: 200,
-    ends: &["registered [0]10.1.2.0/24 127.0.1.1 127.0.1.2"],
+    identifiers: &["[0]10.1.2.3", "[0]11.0.0.1"],
+    turns: TURNS,
+    ends: &[
+        "registered [0]10.1.2.0/24 127.0.1.1 127.0.1.2",
+        "hole [0]11.0.0.0/8",
+    ],
     counts: &[],
     itr: &[],
 };

@@ -104,16 +104,20 @@ pub fn rooted(alloc: Global, seed: u64) -> Result<ListResolver, Fail> {
     }
 }
 
-/// The bytes of a Map-Referral.
-pub fn referral_bytes(alloc: Global, nonce: u64, told: &Told) -> Result<Vec<u8>, Fail> {
-    let record = ReferralRecord {
+/// The record of a Map-Referral.
+pub fn referral_record(told: &Told) -> Result<ReferralRecord, Fail> {
+    Ok(ReferralRecord {
         action: told.action,
         prefix: parse_prefix(told.prefix.as_bytes())?,
         ttl: 1440,
         incomplete: false,
         servers: set(told.servers)?,
-    };
-    Ok(write_referral(alloc, nonce, &record)?)
+    })
+}
+
+/// The bytes of a Map-Referral.
+pub fn referral_bytes(alloc: Global, nonce: u64, told: &Told) -> Result<Vec<u8>, Fail> {
+    Ok(write_referral(alloc, nonce, &referral_record(told)?)?)
 }
 
 /// Asks at a moment, in milliseconds, and answers the line of what comes of it.

@@ -3,7 +3,7 @@
 use ddt_examples::messages::{DDT_REQUEST, ITR_REQUEST, NEGATIVE_REPLY};
 use ddt_examples::{bytes_of, front};
 use ddt_path::{Locator, LocatorSet, Outcome};
-use ddt_resolver::{ItrRequest, Outgoing, itr_reply, itr_request};
+use ddt_resolver::{Front, ItrRequest, Outgoing};
 use ddt_text::{parse_prefix, parse_xeid};
 use ddt_wire::{NegativeReply, read_negative_reply};
 use std::alloc::Global;
@@ -42,7 +42,7 @@ fn outcome(kind: Kind, text: &str) -> Result<Outcome, Fail> {
 
 /// What an ITR is sent for an outcome, which is to go where it wants it.
 fn reply(alloc: Global, outcome: &Outcome, request: &ItrRequest) -> Result<Option<Outgoing>, Fail> {
-    match itr_reply(alloc, outcome, request)? {
+    match Front::itr_reply(alloc, outcome, request)? {
         None => Ok(None),
         Some(sent) if sent.to == request.to && sent.port == request.port => Ok(Some(sent)),
         Some(_sent) => Err("sent elsewhere".into()),
@@ -53,7 +53,7 @@ fn reply(alloc: Global, outcome: &Outcome, request: &ItrRequest) -> Result<Optio
 fn an_itr_asks(rt: HostRuntime) -> Result<(), Fail> {
     let bytes = bytes_of(rt.alloc(), ITR_REQUEST)?;
     let request = question(WORKED, "[0]10.2.0.1")?;
-    assert_eq!(rt; itr_request(bytes.as_slice()), Some(request));
+    assert_eq!(rt; Front::itr_request(bytes.as_slice()), Some(request));
     Ok(())
 }
 
@@ -76,7 +76,7 @@ fn an_itr_is_answered_at_its_first_rloc(rt: HostRuntime) -> Result<(), Fail> {
 /// Whether so many bytes of a message are a request of an ITR.
 fn is_request(alloc: Global, fields: &str, count: usize) -> Result<bool, Fail> {
     let bytes = bytes_of(alloc, fields)?;
-    Ok(itr_request(front(bytes.as_slice(), count)).is_some())
+    Ok(Front::itr_request(front(bytes.as_slice(), count)).is_some())
 }
 
 /// Messages, of which so many bytes are no request of an ITR.
@@ -100,7 +100,7 @@ fn other_datagrams_are_no_requests_of_itrs(rt: HostRuntime) -> Result<(), Fail> 
 fn a_registered_site_answers_for_itself(rt: HostRuntime) -> Result<(), Fail> {
     let registered = outcome(Kind::Registered, "[0]10.1.2.0/24")?;
     let request = question(7, "[0]10.1.2.3")?;
-    let sent = itr_reply(rt.alloc(), &registered, &request)?;
+    let sent = Front::itr_reply(rt.alloc(), &registered, &request)?;
     assert!(rt; sent.is_none());
     Ok(())
 }

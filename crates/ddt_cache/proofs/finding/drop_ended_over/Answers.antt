@@ -1,6 +1,6 @@
 use Rattle.std.proofs.Common.{ap, ◌∙◌, arith}
 use Rattle.ddt_cache.specs.Live.{live_at}
-use Rattle.ddt_cache.proofs.LiveLemmas.{len_less, live_at-remove_ended}
+use Rattle.ddt_cache.specs.laws.Live.{len_less, live_at-remove_ended}
 use Rattle.ddt_cache.proofs.finding.drop_ended_over.Goals as goal
 
 pub loop-prefix-smaller : goal.loop-prefix-smaller

@@ -1,6 +1,6 @@
 use Rattle.std.proofs.Common.{rules}
 use Rattle.ddt_path.specs.Path.{xeid_path}
-use Rattle.ddt_cache.proofs.LiveLemmas.{only_longest}
+use Rattle.ddt_cache.specs.laws.Live.{only_longest}
 use Rattle.ddt_cache.proofs.finding.ended_over.Goals as goal
 
 pub returns-else-entry-time-clause-none : goal.returns-else-entry-time-clause-none

@@ -1,4 +1,4 @@
-use Rattle.ddt_cache.proofs.KnownLemmas.{IsFound-unique}
+use Rattle.ddt_cache.specs.laws.Known.{IsFound-unique}
 use Rattle.ddt_cache.proofs.laws.one_is_found.Goals as goal
 
 pub returns : goal.returns

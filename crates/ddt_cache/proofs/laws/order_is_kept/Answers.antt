@@ -1,4 +1,4 @@
-use Rattle.ddt_cache.proofs.OrderLemmas.{nothing_in_order, moved_in_order, stored_in_order, forgotten_in_order}
+use Rattle.ddt_cache.specs.laws.Order.{nothing_in_order, moved_in_order, stored_in_order, forgotten_in_order}
 use Rattle.ddt_cache.proofs.laws.order_is_kept.Goals as goal
 
 pub returns : goal.returns

@@ -1,5 +1,5 @@
 use Rattle.std.proofs.Common.{rules}
-use Rattle.ddt_cache.proofs.LiveLemmas.{retained_live}
+use Rattle.ddt_cache.specs.laws.Live.{retained_live}
 use Rattle.ddt_cache.proofs.saving.drop_ended.Goals as goal
 
 pub returns : goal.returns

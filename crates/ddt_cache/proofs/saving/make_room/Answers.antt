@@ -1,7 +1,7 @@
 use Rattle.std.proofs.Common.{sym, arith}
 use Rattle.ddt_cache.specs.Live.{live_at}
-use Rattle.ddt_cache.proofs.KnownLemmas.{live_twice}
-use Rattle.ddt_cache.proofs.SizeLemmas.{len-live_at, room_below, len_dropped}
+use Rattle.ddt_cache.specs.laws.Known.{live_twice}
+use Rattle.ddt_cache.specs.laws.Size.{len-live_at, room_below, len_dropped}
 use Rattle.ddt_cache.proofs.saving.make_room.Goals as goal
 
 pub returns-then-len-lt-MOST_LIVE_ENTRIES-clause-room : goal.returns-then-len-lt-MOST_LIVE_ENTRIES-clause-room

@@ -1,6 +1,6 @@
 use Rattle.std.proofs.Common.{rules}
-use Rattle.ddt_cache.proofs.KnownLemmas.{stored_is, live_is_key}
-use Rattle.ddt_cache.proofs.SizeLemmas.{len_inserted}
+use Rattle.ddt_cache.specs.laws.Known.{stored_is, live_is_key}
+use Rattle.ddt_cache.specs.laws.Size.{len_inserted}
 use Rattle.ddt_cache.proofs.saving.save_among.Goals as goal
 
 pub returns-in-Ok-clause-stored : goal.returns-in-Ok-clause-stored

@@ -1,4 +1,4 @@
-use Rattle.ddt_check.proofs.KeptLemmas.{few_locators}
+use Rattle.ddt_check.specs.laws.Kept.{few_locators}
 use Rattle.ddt_check.proofs.assigning.servers_of.Goals as goal
 
 pub of_few-requires : goal.of_few-requires

@@ -1,5 +1,5 @@
 use Rattle.std.proofs.Common.{arith}
-use Rattle.ddt_register.proofs.RisingLemmas.{zones_rise, sites_rise, groups_rise}
+use Rattle.ddt_register.specs.laws.Rising.{zones_rise, sites_rise, groups_rise}
 use Rattle.ddt_check.specs.declared.fault.Rule.TheVariants as rules
 use Rattle.ddt_check.proofs.checking.first_row.Goals as goal
 

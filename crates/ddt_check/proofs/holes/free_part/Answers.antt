@@ -2,7 +2,7 @@ use Rattle.std.proofs.Common.{◌<◌, ◌≤◌, ◌∙◌, sym, ap, length, ar
 use Rattle.ddt_path.specs.Path.{xeid_path}
 use Rattle.ddt_path.specs.Free.{overlaps_none}
 use Rattle.ddt_check.specs.Assignment.{prefixes_inside}
-use Rattle.ddt_path.proofs.PartLemmas.{first_part-found, first_part-next, first_part-end}
+use Rattle.ddt_path.specs.laws.Part.{first_part-found, first_part-next, first_part-end}
 use Rattle.ddt_check.proofs.holes.free_part.Goals as goal
 
 pub returns-then-overlaps_none : goal.returns-then-overlaps_none

@@ -1,7 +1,7 @@
 use Rattle.ddt_register.specs.declared.zone.Zone.{Zone}
 use Rattle.ddt_register.specs.declared.site.Site.{Site}
 use Rattle.ddt_path.specs.Covers.{is_strictly_below, covers}
-use Rattle.ddt_path.proofs.HoleLemmas.{overlaps_none-filter}
+use Rattle.ddt_path.specs.laws.Hole.{overlaps_none-filter}
 use Rattle.ddt_check.proofs.holes.overlaps_none.Goals as goal
 
 pub returns-in-ZonesBelow : goal.returns-in-ZonesBelow

@@ -1,5 +1,5 @@
-use Rattle.ddt_path.proofs.MemberLemmas.{in_contained}
-use Rattle.ddt_check.proofs.KeptLemmas.{has_servers, starts_with_first}
+use Rattle.ddt_path.specs.laws.Member.{in_contained}
+use Rattle.ddt_check.specs.laws.Kept.{has_servers, starts_with_first}
 use Rattle.ddt_check.proofs.laws.each_zone_has_servers.Goals as goal
 
 pub returns : goal.returns

@@ -1,4 +1,4 @@
-use Rattle.ddt_path.proofs.MemberLemmas.{in_contained}
+use Rattle.ddt_path.specs.laws.Member.{in_contained}
 use Rattle.ddt_check.proofs.FreeLemmas.{sendable}
 use Rattle.ddt_check.proofs.SaysLemmas.{refers_to_zone, ends_with_assignment, says_what_covers, says_servers, goes_down, say_alike}
 use Rattle.ddt_check.proofs.laws.honest_servers_lead_to_the_assignment.Goals as goal

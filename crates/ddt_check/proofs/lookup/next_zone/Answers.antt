@@ -3,7 +3,7 @@ use Rattle.std.specs.Prelude.{nat_lt}
 use Rattle.std.specs.List.{filter}
 use Rattle.ddt_path.specs.Matching.{shortest_match}
 use Rattle.ddt_register.specs.declared.zone.Zone.{Zone}
-use Rattle.ddt_check.proofs.ZoneLemmas.{zone_prefix}
+use Rattle.ddt_check.specs.laws.Zone.{zone_prefix}
 use Rattle.ddt_check.proofs.lookup.next_zone.Goals as goal
 
 pub returns : goal.returns

@@ -4,7 +4,7 @@ use Rattle.ddt_path.specs.Matching.{longest_match}
 use Rattle.ddt_path.specs.Locators.{lists}
 use Rattle.ddt_register.specs.declared.zone.Zone.{Zone}
 use Rattle.ddt_check.specs.Zones.{locators_of}
-use Rattle.ddt_check.proofs.ZoneLemmas.{zone_prefix}
+use Rattle.ddt_check.specs.laws.Zone.{zone_prefix}
 use Rattle.ddt_check.proofs.lookup.served_zone.Goals as goal
 
 pub returns : goal.returns

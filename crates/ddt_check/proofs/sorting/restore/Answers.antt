@@ -1,6 +1,6 @@
 use Rattle.std.proofs.Common.{rules}
 use Rattle.std.proofs.lemmas.List.Sorted.{answers_always, IsPermutation-trans}
-use Rattle.ddt_register.proofs.RowOrderLemmas.{restored}
+use Rattle.ddt_register.specs.laws.RowOrder.{restored}
 use Rattle.ddt_check.proofs.sorting.restore.Goals as goal
 
 pub returns : goal.returns

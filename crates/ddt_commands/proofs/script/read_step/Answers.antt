@@ -1,5 +1,5 @@
 use Rattle.std.proofs.Common.{◌∙◌, sym}
-use Rattle.ddt_commands.proofs.ScriptLemmas.{ask_step, deliver_none, deliver_some, wait_none, wait_some}
+use Rattle.ddt_commands.proofs.ScriptLemmas.{ask_step, deliver_none, deliver_some, replace_none, replace_some, wait_none, wait_some}
 use Rattle.ddt_commands.proofs.script.read_step.Goals as goal
 
 pub returns-in-Some : goal.returns-in-Some
@@ -21,3 +21,12 @@ returns-in_err-millis c =
 pub returns-in-Some-behind-2 : goal.returns-in-Some-behind-2
 returns-in-Some-behind-2 c =
     wait_some c.args.line.now c.in-Some-behind-2.text.now c.in_ok-millis.millis c.in-Some-behind-2.ensures (sym c.in_ok-millis.was ∙ c.read_number-in-Some-behind-2.ensures.value)
+
+pub returns-in_err-number-2 : goal.returns-in_err-number-2
+returns-in_err-number-2 c =
+    rw c.from_residual-in_err-number-2.ensures
+    (replace_none c.args.line.now c.in-Some-behind-3.text.now c.in-Some-behind-3.ensures (sym c.in_err-number-2.was ∙ c.read_number-in-Some-behind-3.ensures.value))
+
+pub returns-in-Some-behind-3 : goal.returns-in-Some-behind-3
+returns-in-Some-behind-3 c =
+    replace_some c.args.line.now c.in-Some-behind-3.text.now c.in_ok-number-2.number c.in-Some-behind-3.ensures (sym c.in_ok-number-2.was ∙ c.read_number-in-Some-behind-3.ensures.value)

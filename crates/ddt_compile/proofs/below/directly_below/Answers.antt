@@ -5,9 +5,9 @@ use Rattle.std.proofs.lemmas.List.{take_all}
 use Rattle.std.proofs.lemmas.List.Sorted.{IsPartitionPoint-from_clause}
 use Rattle.ddt_register.specs.declared.zone.Zone.{Zone}
 use Rattle.ddt_check.specs.Zones.{is_direct_child}
-use Rattle.ddt_check.proofs.OutsideLemmas.{is_up_to, up_to_parted}
+use Rattle.ddt_check.specs.laws.Outside.{is_up_to, up_to_parted}
 use Rattle.ddt_compile.proofs.SortedLemmas.{walk_first, found_first, walk_ends, strictly, held, unheld, last_new, last_same}
-use Rattle.ddt_path.proofs.FilterLemmas.{one_kept, one_left_out}
+use Rattle.ddt_path.specs.laws.Filter.{one_kept, one_left_out}
 use Rattle.ddt_compile.proofs.below.directly_below.Goals as goal
 use Rattle.ddt_compile.proofs.below.directly_below.Goals.{then-not-is_under+in_ok-push, else-not-is_under}
 

@@ -1,8 +1,8 @@
 use Rattle.std.proofs.Common.{rules, ◌-◌, ◌<◌, ◌≤◌, length, arith}
 use Rattle.std.proofs.lemmas.List.Sorted.{IsPartitionPoint-from_clause, IsPermutation-sym}
-use Rattle.ddt_path.proofs.MemberLemmas.{in_contained, contained, in_at, moved_in}
-use Rattle.ddt_check.proofs.OutsideLemmas.{is_up_to, up_to_parted}
-use Rattle.ddt_check.proofs.HolderLemmas.{some_holder, holder_is}
+use Rattle.ddt_path.specs.laws.Member.{in_contained, contained, in_at, moved_in}
+use Rattle.ddt_check.specs.laws.Outside.{is_up_to, up_to_parted}
+use Rattle.ddt_check.specs.laws.Holder.{some_holder, holder_is}
 use Rattle.ddt_compile.proofs.below.holder.Goals as goal
 
 pub returns-then-after-eq0 : goal.returns-then-after-eq0

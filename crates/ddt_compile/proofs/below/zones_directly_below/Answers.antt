@@ -2,8 +2,8 @@ use Rattle.std.proofs.Common.{rules}
 use Rattle.std.proofs.lemmas.List.Sorted.{answers_always}
 use Rattle.ddt_register.specs.declared.zone.Zone.{Zone}
 use Rattle.ddt_check.specs.Zones.{is_direct_child}
-use Rattle.ddt_register.proofs.RisingLemmas.{zones_rise}
-use Rattle.ddt_register.proofs.RowOrderLemmas.{rows_again}
+use Rattle.ddt_register.specs.laws.Rising.{zones_rise}
+use Rattle.ddt_register.specs.laws.RowOrder.{rows_again}
 use Rattle.ddt_compile.proofs.below.zones_directly_below.Goals as goal
 
 pub returns : goal.returns

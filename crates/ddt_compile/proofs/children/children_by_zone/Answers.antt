@@ -13,12 +13,12 @@ use Rattle.ddt_check.specs.Zones.{is_direct_child}
 use Rattle.ddt_compile.specs.GroupConfig.{child_of}
 use Rattle.ddt_compile.specs.Lists.{list_at}
 use Rattle.ddt_compile.specs.Nearest.{IsAbove}
-use Rattle.ddt_path.proofs.MemberLemmas.{in_contained}
-use Rattle.ddt_config.proofs.SameLemmas.{same_child}
+use Rattle.ddt_path.specs.laws.Member.{in_contained}
+use Rattle.ddt_config.specs.laws.Same.{same_child}
 use Rattle.ddt_compile.proofs.NearestLemmas.{parent_nearest, no_parent}
 use Rattle.ddt_compile.proofs.GrowingLemmas.{grown}
-use Rattle.ddt_path.proofs.FilterLemmas.{none_made}
-use Rattle.ddt_check.proofs.ServersByNameLemmas.{servers_or_none}
+use Rattle.ddt_path.specs.laws.Filter.{none_made}
+use Rattle.ddt_check.specs.laws.ServersByName.{servers_or_none}
 use Rattle.ddt_compile.proofs.children.children_by_zone.Goals as goal
 use Rattle.ddt_compile.proofs.children.children_by_zone.Goals.{in-Some+in_ok-append, in_default}
 

@@ -6,7 +6,7 @@ use Rattle.ddt_register.specs.declared.zone.Zone.{Zone}
 use Rattle.ddt_check.specs.Zones.{is_direct_child}
 use Rattle.ddt_compile.specs.GroupConfig.{child_of}
 use Rattle.ddt_compile.specs.Lists.{list_at}
-use Rattle.ddt_path.proofs.MemberLemmas.{IsIn}
+use Rattle.ddt_path.specs.laws.Member.{IsIn}
 use Rattle.ddt_compile.proofs.children.children_by_zone.Given as goal
 
 abbrev pub invariant-loop-zone : goal.invariant-loop-zone

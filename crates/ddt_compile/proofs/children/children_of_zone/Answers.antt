@@ -3,8 +3,8 @@ use Rattle.std.proofs.lemmas.List.{take_all, take_more, map-append}
 use Rattle.ddt_register.specs.declared.zone.Zone.{Zone}
 use Rattle.ddt_config.specs.declared.child.Child.{Child}
 use Rattle.ddt_compile.specs.GroupConfig.{child_of}
-use Rattle.ddt_config.proofs.SameLemmas.{same_child}
-use Rattle.ddt_check.proofs.ServersByNameLemmas.{servers_or_none}
+use Rattle.ddt_config.specs.laws.Same.{same_child}
+use Rattle.ddt_check.specs.laws.ServersByName.{servers_or_none}
 use Rattle.ddt_compile.proofs.children.children_of_zone.Goals as goal
 
 pub loop-zone-init : goal.loop-zone-init

@@ -10,11 +10,11 @@ use Rattle.ddt_config.specs.declared.authority.Content.{Content}
 use Rattle.ddt_config.specs.declared.authority.Content.TheVariants.{Children, Sites}
 use Rattle.ddt_compile.specs.GroupConfig.{authority_of}
 use Rattle.ddt_check.specs.Zones.{is_served_by}
-use Rattle.ddt_path.proofs.MemberLemmas.{IsIn, in_at, in_left, in_later, contained}
-use Rattle.ddt_register.proofs.RisingLemmas.{later_row}
-use Rattle.ddt_register.proofs.RisingLemmas.{zones_rise}
-use Rattle.ddt_register.proofs.CountLemmas.{few_rows}
-use Rattle.ddt_check.proofs.KeptLemmas.{own_prefix}
+use Rattle.ddt_path.specs.laws.Member.{IsIn, in_at, in_left, in_later, contained}
+use Rattle.ddt_register.specs.laws.Rising.{later_row}
+use Rattle.ddt_register.specs.laws.Rising.{zones_rise}
+use Rattle.ddt_register.specs.laws.Count.{few_rows}
+use Rattle.ddt_check.specs.laws.Kept.{own_prefix}
 use Rattle.ddt_compile.proofs.ContentLemmas.{content_is}
 use Rattle.ddt_compile.proofs.GrowingLemmas.{grown, list_at-empty}
 use Rattle.ddt_compile.proofs.compiling.authorities_by_group.Goals as goal

@@ -8,7 +8,7 @@ use Rattle.ddt_register.specs.declared.group.Group.{Group}
 use Rattle.ddt_compile.specs.GroupConfig.{children_of, sites_of, authority_of}
 use Rattle.ddt_check.specs.Zones.{is_served_by}
 use Rattle.ddt_compile.specs.Lists.{list_at}
-use Rattle.ddt_path.proofs.MemberLemmas.{IsIn}
+use Rattle.ddt_path.specs.laws.Member.{IsIn}
 use Rattle.ddt_compile.proofs.compiling.authorities_by_group.Given as goal
 
 -- the lists of the zones that are left are whole, and the authorities of each group so far are in its list

@@ -14,10 +14,10 @@ use Rattle.ddt_compile.specs.Lists.{list_at}
 use Rattle.ddt_compile.specs.Sorted.{AreSortedOf}
 use Rattle.ddt_check.specs.Order.{AreZonesInOrder}
 use Rattle.ddt_check.specs.Zones.{is_served_by}
-use Rattle.ddt_path.proofs.MemberLemmas.{IsIn, in_at, in_left, in_later, contained}
-use Rattle.ddt_register.proofs.RisingLemmas.{later_row, zones_rise}
-use Rattle.ddt_check.proofs.KeptLemmas.{own_prefix}
-use Rattle.ddt_path.proofs.FilterLemmas.{one_made, none_made}
+use Rattle.ddt_path.specs.laws.Member.{IsIn, in_at, in_left, in_later, contained}
+use Rattle.ddt_register.specs.laws.Rising.{later_row, zones_rise}
+use Rattle.ddt_check.specs.laws.Kept.{own_prefix}
+use Rattle.ddt_path.specs.laws.Filter.{one_made, none_made}
 use Rattle.ddt_compile.proofs.ContentLemmas.{content_is}
 use Rattle.ddt_compile.proofs.compiling.authorities_of_group.Goals as goal
 use Rattle.ddt_compile.proofs.compiling.authorities_of_group.Goals.{then-eq+in_ok-content+in_ok-push, else-eq}

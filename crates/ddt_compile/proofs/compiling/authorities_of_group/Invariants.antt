@@ -7,7 +7,7 @@ use Rattle.ddt_register.specs.declared.zone.Zone.{Zone}
 use Rattle.ddt_compile.specs.GroupConfig.{sites_of, authority_of}
 use Rattle.ddt_check.specs.Zones.{is_served_by}
 use Rattle.ddt_compile.specs.Lists.{list_at}
-use Rattle.ddt_path.proofs.MemberLemmas.{IsIn}
+use Rattle.ddt_path.specs.laws.Member.{IsIn}
 use Rattle.ddt_compile.proofs.compiling.authorities_of_group.Given as goal
 
 -- the sites of the group's zones that are left are whole, and the authorities so far are those of the group's zones

@@ -8,11 +8,11 @@ use Rattle.ddt_config.specs.declared.authority.Authority.{Authority}
 use Rattle.ddt_config.specs.Shaped.{is_shaped}
 use Rattle.ddt_config.specs.Table.{Outline, outline}
 use Rattle.ddt_compile.specs.GroupConfig.{group_config}
-use Rattle.ddt_path.proofs.MemberLemmas.{IsIn, in_at, in_left, in_later}
-use Rattle.ddt_register.proofs.RisingLemmas.{later_row}
-use Rattle.ddt_register.proofs.RisingLemmas.{groups_rise}
-use Rattle.ddt_check.proofs.KeptLemmas.{own_name}
-use Rattle.ddt_config.proofs.SameLemmas.{same_outline}
+use Rattle.ddt_path.specs.laws.Member.{IsIn, in_at, in_left, in_later}
+use Rattle.ddt_register.specs.laws.Rising.{later_row}
+use Rattle.ddt_register.specs.laws.Rising.{groups_rise}
+use Rattle.ddt_check.specs.laws.Kept.{own_name}
+use Rattle.ddt_config.specs.laws.Same.{same_outline}
 use Rattle.ddt_compile.proofs.ShapedLemmas.{group_shaped}
 use Rattle.ddt_compile.proofs.HonestLemmas.{honest_configs}
 use Rattle.ddt_compile.proofs.RoomLemmas.{configs_have_room}

@@ -5,7 +5,7 @@ use Rattle.ddt_register.specs.declared.group.Group.{Group}
 use Rattle.ddt_config.specs.Table.{outline}
 use Rattle.ddt_compile.specs.GroupConfig.{group_config, authorities_of}
 use Rattle.ddt_compile.specs.Lists.{list_at}
-use Rattle.ddt_path.proofs.MemberLemmas.{IsIn}
+use Rattle.ddt_path.specs.laws.Member.{IsIn}
 use Rattle.ddt_compile.proofs.compiling.compile.Given as goal
 
 -- the lists of the groups that are left are whole

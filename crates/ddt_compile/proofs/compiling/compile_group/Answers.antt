@@ -7,9 +7,9 @@ use Rattle.ddt_config.specs.declared.authority.Authority.{Authority}
 use Rattle.ddt_config.specs.Shaped.{is_shaped}
 use Rattle.ddt_config.specs.Table.{outline}
 use Rattle.ddt_compile.specs.GroupConfig.{group_config}
-use Rattle.ddt_compile.specs.Laws.{IsHonestConfig, HasRoom}
-use Rattle.ddt_path.proofs.MemberLemmas.{IsIn, found_in, contained}
-use Rattle.ddt_config.proofs.SameLemmas.{same_outline}
+use Rattle.ddt_compile.specs.laws.Statements.{IsHonestConfig, HasRoom}
+use Rattle.ddt_path.specs.laws.Member.{IsIn, found_in, contained}
+use Rattle.ddt_config.specs.laws.Same.{same_outline}
 use Rattle.ddt_compile.proofs.ShapedLemmas.{group_shaped}
 use Rattle.ddt_compile.proofs.HonestLemmas.{honest_at}
 use Rattle.ddt_compile.proofs.RoomLemmas.{group_has_room}

@@ -1,7 +1,7 @@
 use Rattle.ddt_compile.proofs.HonestLemmas.{honest_at}
 use Rattle.ddt_compile.proofs.ShapedLemmas.{group_shaped}
 use Rattle.ddt_compile.proofs.RoomLemmas.{group_has_room}
-use Rattle.ddt_path.proofs.MemberLemmas.{in_contained}
+use Rattle.ddt_path.specs.laws.Member.{in_contained}
 use Rattle.ddt_compile.proofs.laws.a_compiled_configuration_answers_honestly.Goals as goal
 
 pub returns : goal.returns

@@ -4,9 +4,9 @@ use Rattle.std.specs.Cmp.Lexicographic.{slice_cmp}
 use Rattle.std.specs.BTreeMap.{BTreeMap, get}
 use Rattle.ddt_path.specs.declared.locator.Locator.{Locator}
 use Rattle.ddt_register.specs.declared.register.Register.{Register}
-use Rattle.ddt_path.proofs.MemberLemmas.{IsIn, in_at}
-use Rattle.ddt_check.proofs.KeptLemmas.{server_set}
-use Rattle.ddt_check.proofs.ServersByNameLemmas.{name_put, name_kept}
+use Rattle.ddt_path.specs.laws.Member.{IsIn, in_at}
+use Rattle.ddt_check.specs.laws.Kept.{server_set}
+use Rattle.ddt_check.specs.laws.ServersByName.{name_put, name_kept}
 use Rattle.ddt_compile.proofs.locators.locators_by_name.Goals as goal
 use Rattle.ddt_compile.proofs.locators.locators_by_name.Goals.{then-not-contains_key+in_ok-insert, else-not-contains_key}
 

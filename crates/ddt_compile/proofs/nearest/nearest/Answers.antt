@@ -3,8 +3,8 @@ use Rattle.std.specs.Prelude.{is_some}
 use Rattle.std.proofs.lemmas.Bool.{false≢true}
 use Rattle.std.proofs.lemmas.List.{length-take}
 use Rattle.ddt_path.specs.Covers.{covers}
-use Rattle.ddt_path.proofs.CoverLemmas.{covers_trans, length-covered, front_covered}
-use Rattle.ddt_path.proofs.FrontLemmas.{front_covers}
+use Rattle.ddt_path.specs.laws.Cover.{covers_trans, length-covered, front_covered}
+use Rattle.ddt_path.specs.laws.Front.{front_covers}
 use Rattle.ddt_compile.proofs.nearest.nearest.Goals as goal
 
 pub returns-in-Some : goal.returns-in-Some

@@ -13,11 +13,11 @@ use Rattle.ddt_compile.specs.GroupConfig.{entry_of}
 use Rattle.ddt_check.specs.Zones.{is_site_in}
 use Rattle.ddt_compile.specs.Lists.{list_at}
 use Rattle.ddt_compile.specs.Nearest.{IsAbove}
-use Rattle.ddt_path.proofs.MemberLemmas.{IsIn, in_at, in_contained}
-use Rattle.ddt_check.proofs.KeptLemmas.{few_etrs}
+use Rattle.ddt_path.specs.laws.Member.{IsIn, in_at, in_contained}
+use Rattle.ddt_check.specs.laws.Kept.{few_etrs}
 use Rattle.ddt_compile.proofs.NearestLemmas.{holder_nearest, no_holder}
 use Rattle.ddt_compile.proofs.GrowingLemmas.{grown}
-use Rattle.ddt_path.proofs.FilterLemmas.{none_made}
+use Rattle.ddt_path.specs.laws.Filter.{none_made}
 use Rattle.ddt_compile.proofs.sites.sites_by_zone.Goals as goal
 use Rattle.ddt_compile.proofs.sites.sites_by_zone.Goals.{in-Some+in_ok-append, in_default}
 

@@ -11,11 +11,11 @@ use Rattle.ddt_config.specs.declared.site_entry.SiteEntry.{SiteEntry}
 use Rattle.ddt_compile.specs.GroupConfig.{entry_of}
 use Rattle.ddt_check.specs.Zones.{is_site_in}
 use Rattle.ddt_compile.specs.Lists.{list_at}
-use Rattle.ddt_path.proofs.MemberLemmas.{IsIn, in_at, in_contained, contained}
-use Rattle.ddt_check.proofs.KeptLemmas.{few_etrs, role_of_zone}
+use Rattle.ddt_path.specs.laws.Member.{IsIn, in_at, in_contained, contained}
+use Rattle.ddt_check.specs.laws.Kept.{few_etrs, role_of_zone}
 use Rattle.ddt_compile.proofs.GrowingLemmas.{grown, list_at-empty}
-use Rattle.ddt_path.proofs.FilterLemmas.{none_made}
-use Rattle.ddt_check.proofs.HolderLemmas.{holds_site, held_elsewhere, node≢ms}
+use Rattle.ddt_path.specs.laws.Filter.{none_made}
+use Rattle.ddt_check.specs.laws.Holder.{holds_site, held_elsewhere, node≢ms}
 use Rattle.ddt_compile.proofs.sites.sites_of_group.Goals as goal
 use Rattle.ddt_compile.proofs.sites.sites_of_group.Goals.{in-Some+then-eq+in_ok-append, in-Some+else-eq, in_default-holder}
 

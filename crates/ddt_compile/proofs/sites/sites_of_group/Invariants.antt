@@ -7,7 +7,7 @@ use Rattle.ddt_register.specs.declared.zone.Zone.{Zone}
 use Rattle.ddt_compile.specs.GroupConfig.{entry_of}
 use Rattle.ddt_check.specs.Zones.{is_site_in, is_served_by}
 use Rattle.ddt_compile.specs.Lists.{list_at}
-use Rattle.ddt_path.proofs.MemberLemmas.{IsIn}
+use Rattle.ddt_path.specs.laws.Member.{IsIn}
 use Rattle.ddt_compile.proofs.sites.sites_of_group.Given as goal
 
 abbrev pub invariant-loop-site : goal.invariant-loop-site

@@ -1,5 +1,5 @@
 use Rattle.toml.specs.View.{table_view}
-use Rattle.ddt_config.proofs.SameLemmas.{determined}
+use Rattle.ddt_config.specs.laws.Same.{determined}
 use Rattle.ddt_config.proofs.document.from_toml.Goals as goal
 
 pub returns-in-Ok-clause-every : goal.returns-in-Ok-clause-every

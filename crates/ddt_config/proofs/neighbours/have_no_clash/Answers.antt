@@ -1,7 +1,7 @@
 use Rattle.std.proofs.Common.{ap, ◌∙◌}
 use Rattle.ddt_config.specs.Shaped.{no_two}
 use Rattle.ddt_config.specs.Reading.{clashes}
-use Rattle.ddt_config.proofs.NeighbourLemmas.{no_two-sorted}
+use Rattle.ddt_config.specs.laws.Neighbour.{no_two-sorted}
 use Rattle.ddt_config.proofs.neighbours.have_no_clash.Goals as goal
 
 pub returns : goal.returns

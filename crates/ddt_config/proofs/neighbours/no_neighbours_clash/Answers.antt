@@ -1,7 +1,7 @@
 use Rattle.std.proofs.Common.{◌-◌, ◌<◌, length, sym, ap₂, ◌∙◌, arith}
 use Rattle.std.proofs.lemmas.List.{get_or_read}
 use Rattle.ddt_config.specs.Reading.{clashes}
-use Rattle.ddt_config.proofs.NeighbourLemmas.{two_clash, none_clash}
+use Rattle.ddt_config.specs.laws.Neighbour.{two_clash, none_clash}
 use Rattle.ddt_config.proofs.neighbours.no_neighbours_clash.Goals as goal
 
 pub returns-then-is_between : goal.returns-then-is_between

@@ -1,6 +1,6 @@
 use Rattle.std.proofs.Common.{sym, ◌∙◌, arith, length}
 use Rattle.std.proofs.lemmas.Bool.{eqb-false}
-use Rattle.ddt_ecm.proofs.ChecksumLemmas.{word_done, one_done}
+use Rattle.ddt_ecm.specs.laws.Checksum.{word_done, one_done}
 use Rattle.ddt_ecm.proofs.checksum.sum.Goals as goal
 
 pub loop-rest-preserved : goal.loop-rest-preserved

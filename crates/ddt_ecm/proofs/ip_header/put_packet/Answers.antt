@@ -1,6 +1,6 @@
 use Rattle.ddt_ecm.specs.Ipv6Header.{written_ipv6}
 use Rattle.ddt_ecm.specs.IpHeader.{packet4, packet6}
-use Rattle.ddt_ecm.proofs.WritingLemmas.{two_appends}
+use Rattle.ddt_ecm.specs.laws.Writing.{two_appends}
 use Rattle.ddt_ecm.proofs.ip_header.put_packet.Goals as goal
 
 pub returns-in_ok-put_ipv4-in-V4 : goal.returns-in_ok-put_ipv4-in-V4

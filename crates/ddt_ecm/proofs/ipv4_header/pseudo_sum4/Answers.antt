@@ -1,6 +1,6 @@
 use Rattle.std.proofs.Common.{◌∷◌, [], refl}
 use Rattle.std.specs.Int.{w16, to_be_bytes}
-use Rattle.ddt_ecm.proofs.ChecksumLemmas.{ones_sum-three}
+use Rattle.ddt_ecm.specs.laws.Checksum.{ones_sum-three}
 use Rattle.ddt_ecm.proofs.ipv4_header.pseudo_sum4.Goals as goal
 
 pub returns : goal.returns

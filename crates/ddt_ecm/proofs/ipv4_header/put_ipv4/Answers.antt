@@ -1,7 +1,7 @@
 use Rattle.std.proofs.Common.{ℕ, ◌-◌, ap, ◌∙◌}
 use Rattle.ddt_ecm.specs.Checksum.{ones_sum}
 use Rattle.ddt_ecm.specs.Ipv4Header.{ipv4_header, written_ipv4}
-use Rattle.ddt_ecm.proofs.WritingLemmas.{appended}
+use Rattle.ddt_ecm.specs.laws.Writing.{appended}
 use Rattle.ddt_ecm.proofs.ipv4_header.put_ipv4.Goals as goal
 
 pub returns : goal.returns

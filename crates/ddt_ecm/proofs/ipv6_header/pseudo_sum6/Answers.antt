@@ -1,6 +1,6 @@
 use Rattle.std.proofs.Common.{refl}
 use Rattle.std.specs.Int.{w32, to_be_bytes}
-use Rattle.ddt_ecm.proofs.ChecksumLemmas.{ones_sum-three}
+use Rattle.ddt_ecm.specs.laws.Checksum.{ones_sum-three}
 use Rattle.ddt_ecm.proofs.ipv6_header.pseudo_sum6.Goals as goal
 
 pub returns : goal.returns

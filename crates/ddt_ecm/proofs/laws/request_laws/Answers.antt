@@ -1,5 +1,5 @@
-use Rattle.ddt_ecm.proofs.RequestLaws.{messages_are_read}
-use Rattle.ddt_ecm.proofs.WrittenLaws.{written_spells, written_is_read}
+use Rattle.ddt_ecm.specs.laws.Request.{messages_are_read}
+use Rattle.ddt_ecm.specs.laws.Written.{written_spells, written_is_read}
 use Rattle.ddt_ecm.proofs.laws.request_laws.Goals as goal
 
 pub returns : goal.returns

@@ -1,7 +1,7 @@
 use Rattle.std.proofs.Common.{sym, refl, ◌∙◌}
 use Rattle.std.proofs.lemmas.Bool.{eq-eqb, ne_eqb}
 use Rattle.ddt_path.specs.declared.form.Form.TheVariants.{Block}
-use Rattle.ddt_wire.proofs.EidLemmas.{form_of-named}
+use Rattle.ddt_wire.specs.laws.CutPrefix.{form_of-named}
 use Rattle.ddt_ecm.proofs.map_request.host.Goals as goal
 
 pub returns-then-len-width : goal.returns-then-len-width

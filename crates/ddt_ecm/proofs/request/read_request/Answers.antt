@@ -1,6 +1,6 @@
 use Rattle.std.proofs.Common.{◌∙◌, arith}
-use Rattle.ddt_reading.proofs.ReaderLemmas.{found}
-use Rattle.ddt_ecm.proofs.RequestLaws.{messages_are_read}
+use Rattle.ddt_reading.specs.laws.Reader.{found}
+use Rattle.ddt_ecm.specs.laws.Request.{messages_are_read}
 use Rattle.ddt_ecm.proofs.request.read_request.Goals as goal
 
 pub returns-clause-found : goal.returns-clause-found

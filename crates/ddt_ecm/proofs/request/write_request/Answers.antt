@@ -1,8 +1,8 @@
 use Rattle.std.proofs.Common.{◌≡◌, ◌≤◌, ℕ, List, length, sym, subst, ◌∙◌, Ok}
 use Rattle.ddt_ecm.specs.Request.{Spells, message_in}
-use Rattle.ddt_ecm.specs.Laws.{message_of}
-use Rattle.ddt_ecm.proofs.WritingLemmas.{request_small}
-use Rattle.ddt_ecm.proofs.WrittenLaws.{written_spells, written_is_read}
+use Rattle.ddt_ecm.specs.laws.Statements.{message_of}
+use Rattle.ddt_ecm.specs.laws.Writing.{request_small}
+use Rattle.ddt_ecm.specs.laws.Written.{written_spells, written_is_read}
 use Rattle.ddt_ecm.proofs.request.write_request.Goals as goal
 
 pub put_packet-requires : goal.put_packet-requires

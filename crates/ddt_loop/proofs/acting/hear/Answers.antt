@@ -1,9 +1,9 @@
 use Rattle.std.proofs.Common.{[], refl, subst}
-use Rattle.ddt_wires.proofs.TellLemmas.{tells_none}
+use Rattle.ddt_wires.specs.laws.Tell.{tells_none}
 use Rattle.ddt_resolver.specs.State.{moved}
 use Rattle.ddt_resolver.specs.Step.{Hear, ToDatagram, hears}
-use Rattle.ddt_resolver.proofs.OrderLemmas.{order_moved}
-use Rattle.ddt_resolver.proofs.ShapeLemmas.{moved_by_step}
+use Rattle.ddt_resolver.specs.laws.Order.{order_moved}
+use Rattle.ddt_resolver.specs.laws.Shape.{moved_by_step}
 use Rattle.ddt_loop.specs.declared.acting.Next.{Next}
 use Rattle.ddt_loop.specs.Acts.{GoesOn, does, fails}
 use Rattle.ddt_loop.proofs.PendingLemmas.{moved_owners, owners_go_on}

@@ -2,7 +2,7 @@ use Rattle.std.proofs.Common.{◌≡◌, ℕ, [], ◌∷◌, length, take, subst
 use Rattle.ddt_wires.specs.declared.call.Call.TheVariants.{Received}
 use Rattle.ddt_wires.specs.Calls.{Tells}
 use Rattle.ddt_wires.specs.Turns.{most_bytes}
-use Rattle.ddt_wires.proofs.TellLemmas.{tells_both}
+use Rattle.ddt_wires.specs.laws.Tell.{tells_both}
 use Rattle.ddt_loop.specs.Polls.{polled, no_packet, failed, came}
 use Rattle.ddt_loop.proofs.acting.poll_me.Goals as goal
 

@@ -1,6 +1,6 @@
 use Rattle.std.proofs.Common.{[], refl, Some}
 use Rattle.ddt_loop.specs.declared.owner.Asker.TheVariants.{Identifier}
-use Rattle.ddt_wires.proofs.TellLemmas.{tells_none}
+use Rattle.ddt_wires.specs.laws.Tell.{tells_none}
 use Rattle.ddt_loop.specs.Askers.{end_of}
 use Rattle.ddt_loop.proofs.ActLemmas.{settled_end}
 use Rattle.ddt_loop.proofs.acting.settle.Goals as goal

@@ -1,6 +1,6 @@
 use Rattle.std.proofs.Common.{[], refl, sym, ◌∙◌}
 use Rattle.std.proofs.lemmas.Option.{none-some}
-use Rattle.ddt_wires.proofs.TellLemmas.{tells_none}
+use Rattle.ddt_wires.specs.laws.Tell.{tells_none}
 use Rattle.ddt_loop.specs.Polls.{asks, no_request, hears}
 use Rattle.ddt_loop.proofs.acting.take.Goals as goal
 

@@ -1,8 +1,8 @@
 use Rattle.std.proofs.Common.{[], refl, ap, Ok}
 use Rattle.ddt_resolver.specs.State.{moved}
 use Rattle.ddt_resolver.specs.Step.{asks}
-use Rattle.ddt_resolver.proofs.OrderLemmas.{order_moved}
-use Rattle.ddt_wires.proofs.TellLemmas.{tells_none}
+use Rattle.ddt_resolver.specs.laws.Order.{order_moved}
+use Rattle.ddt_wires.specs.laws.Tell.{tells_none}
 use Rattle.ddt_loop.specs.Acts.{answered}
 use Rattle.ddt_loop.proofs.PendingLemmas.{moved_owners, owners_start, room_for}
 use Rattle.ddt_loop.proofs.ActLemmas.{ask_refused}

@@ -1,5 +1,5 @@
 use Rattle.std.proofs.Common.{[], ◌++◌, append-nil, refl, sym, Ok, Some, None}
-use Rattle.ddt_wires.proofs.TellLemmas.{tells_both}
+use Rattle.ddt_wires.specs.laws.Tell.{tells_both}
 use Rattle.ddt_loop.proofs.asking.ask_for_itr.Goals as goal
 
 pub returns-in-Ok-Some-clause-asks : goal.returns-in-Ok-Some-clause-asks

@@ -1,4 +1,5 @@
-use Rattle.std.proofs.Common.{refl}
+use Rattle.std.proofs.Common.{refl, sym, subst}
+use Rattle.ddt_sim.specs.Compiled.{AreCompiled}
 use Rattle.ddt_loop.specs.Acts.{running}
 use Rattle.ddt_loop.proofs.WholeLemmas.{ran, answers, replies, stays_sound, unresolved}
 use Rattle.ddt_loop.proofs.looping.loop_turns.Goals as goal
@@ -30,7 +31,7 @@ returns g c =
       sound = stays_sound unread read before after servers old me sockets ids turns ends new run steps time order;
       unresolved = unresolved unread read before after servers old me sockets ids turns ends new run;
       run = (run.moments, run.calls, run.reads, run.tells, run.loop);
-      stay = c.take_turns.ensures.stay;
+      stay = λ r compiled. subst (λ own. AreCompiled own r) (sym c.take_turns.ensures.same) compiled;
       undone = tt;
       untold = tt;
       unread = tt;

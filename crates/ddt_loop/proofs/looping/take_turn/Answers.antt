@@ -1,5 +1,5 @@
 use Rattle.std.proofs.Common.{◌++◌, refl}
-use Rattle.ddt_wires.proofs.TellLemmas.{tells_both}
+use Rattle.ddt_wires.specs.laws.Tell.{tells_both}
 use Rattle.ddt_loop.specs.Acts.{running}
 use Rattle.ddt_loop.proofs.looping.take_turn.Goals as goal
 

@@ -16,4 +16,4 @@ loop-number-preserved g c =
     c.args.servers.now c.loop-number.servers c.take_turn.new.servers c.args.me c.args.sockets.now
     (running c.args.resolver.now c.args.askers.now) (running c.loop-number.resolver c.loop-number.askers)
     (running c.take_turn.new.resolver c.take_turn.new.askers) c.loop-number.number c.now-now.result w.0 c.loop-number.invariant
-    (sym c.have_unresolved.ensures ∙ c.if-not-have_unresolved.false) c.now-now.ensures w.1 w.2 c.take_turn.ensures.owners c.take_turn.ensures.stay
+    (sym c.have_unresolved.ensures ∙ c.if-not-have_unresolved.false) c.now-now.ensures w.1 w.2 c.take_turn.ensures.owners c.take_turn.ensures.same

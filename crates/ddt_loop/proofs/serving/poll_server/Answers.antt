@@ -2,7 +2,7 @@ use Rattle.std.proofs.Common.{◌≡◌, ℕ, [], ◌∷◌, length, take, subst
 use Rattle.ddt_wires.specs.declared.call.Call.TheVariants.{Received}
 use Rattle.ddt_wires.specs.Calls.{Tells}
 use Rattle.ddt_wires.specs.Turns.{most_bytes}
-use Rattle.ddt_wires.proofs.TellLemmas.{tells_both}
+use Rattle.ddt_wires.specs.laws.Tell.{tells_both}
 use Rattle.ddt_loop.specs.Polls.{polled, none_there, failed_there}
 use Rattle.ddt_loop.proofs.serving.poll_server.Goals as goal
 

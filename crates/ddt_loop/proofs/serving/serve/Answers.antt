@@ -1,7 +1,7 @@
 use Rattle.std.proofs.Common.{[], ◌∷◌, refl, sym, ap, ◌∙◌, Some, None}
 use Rattle.ddt_wires.specs.declared.call.Call.TheVariants.{Tried}
-use Rattle.ddt_wires.proofs.TellLemmas.{tells_none}
-use Rattle.ddt_wires.proofs.TurnLemmas.{reply_tried}
+use Rattle.ddt_wires.specs.laws.Tell.{tells_none}
+use Rattle.ddt_wires.specs.laws.Turn.{reply_tried}
 use Rattle.ddt_loop.specs.Polls.{served, out_of_memory}
 use Rattle.ddt_loop.proofs.serving.serve.Goals as goal
 
@@ -12,7 +12,7 @@ returns-in-Ok-Some-clause-serves g c =
       tries,
       c.send-sent.ensures.told,
       served c.args.packet c.args.bytes.now (Some c.in-Ok-Some.reply) tries
-          (λ r compiled. sym c.in-Ok-Some.field-0-is ∙ c.in-Ok-Some.ensures.reply)
+          (sym c.in-Ok-Some.field-0-is ∙ c.in-Ok-Some.ensures.reply)
           (reply_tried c.args.at c.args.packet (Some c.in-Ok-Some.reply) bytes c.send-sent.result (ap Some (sym c.as_slice.ensures))) refl,
     )
 
@@ -21,7 +21,7 @@ returns-in-Ok-None-clause-serves g c = (
   [],
   tells_none (g.W.Wires.calls c.args.wires.now),
   served c.args.packet c.args.bytes.now None []
-      (λ r compiled. sym c.in-Ok-None.field-0-is ∙ c.in-Ok-None.ensures.reply) tt refl,
+      (sym c.in-Ok-None.field-0-is ∙ c.in-Ok-None.ensures.reply) tt refl,
 )
 
 pub returns-in-Err-clause-serves : goal.returns-in-Err-clause-serves

@@ -1,7 +1,7 @@
 use Rattle.std.proofs.Common.{◌∙◌, refl}
 use Rattle.ddt_path.specs.declared.matching.Preference.TheVariants.{Longest}
 use Rattle.ddt_path.specs.Path.{xeid_path}
-use Rattle.ddt_path.proofs.MatchingLemmas.{best_member}
+use Rattle.ddt_path.specs.laws.Matching.{best_member}
 use Rattle.ddt_config.specs.declared.site_entry.SiteEntry.{SiteEntry}
 use Rattle.ddt_node.specs.Decisions.{etr_by}
 use Rattle.ddt_node.proofs.AnswerLemmas.{site_answer, site_etr}

@@ -1,4 +1,4 @@
-use Rattle.ddt_path.proofs.HoleLemmas.{hole_is_free}
+use Rattle.ddt_path.specs.laws.Hole.{hole_is_free}
 use Rattle.ddt_path.proofs.holes.a_hole_is_free.Goals as goal
 
 pub returns : goal.returns

@@ -1,4 +1,4 @@
-use Rattle.ddt_path.proofs.HoleLemmas.{member_covers_none}
+use Rattle.ddt_path.specs.laws.Hole.{member_covers_none}
 use Rattle.ddt_path.proofs.holes.no_hole_under_a_key.Goals as goal
 
 pub returns : goal.returns

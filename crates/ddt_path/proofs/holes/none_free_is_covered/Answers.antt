@@ -1,4 +1,4 @@
-use Rattle.ddt_path.proofs.HoleLemmas.{none_free_covered}
+use Rattle.ddt_path.specs.laws.Hole.{none_free_covered}
 use Rattle.ddt_path.proofs.holes.none_free_is_covered.Goals as goal
 
 pub returns : goal.returns

@@ -1,6 +1,6 @@
 use Rattle.std.proofs.Common.{◌-◌, Some, sym, ap, ◌∙◌, ℕ}
 use Rattle.std.proofs.lemmas.Nat.Bits.{shr_and_one}
-use Rattle.ddt_path.proofs.PlaceLemmas.{digit-at}
+use Rattle.ddt_path.specs.laws.Place.{digit-at}
 use Rattle.ddt_path.proofs.masks.digit32.Goals as goal
 
 pub returns : goal.returns

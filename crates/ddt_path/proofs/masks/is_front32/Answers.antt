@@ -1,5 +1,5 @@
 use Rattle.std.proofs.Common.{arith}
-use Rattle.ddt_path.proofs.PrefixLemmas.{is_front_test}
+use Rattle.ddt_path.specs.laws.Prefix.{is_front_test}
 use Rattle.ddt_path.proofs.masks.is_front32.Goals as goal
 
 pub returns : goal.returns

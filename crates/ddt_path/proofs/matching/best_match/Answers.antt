@@ -4,7 +4,7 @@ use Rattle.std.specs.Option.{option_copied}
 use Rattle.std.proofs.lemmas.Fn.{says_at}
 use Rattle.ddt_path.specs.Covers.{covers}
 use Rattle.ddt_path.specs.Matching.{best_match}
-use Rattle.ddt_path.proofs.MatchingLemmas.{best_of, best_of-next, best_of-passes, best_of-fails}
+use Rattle.ddt_path.specs.laws.Matching.{best_of, best_of-next, best_of-passes, best_of-fails}
 use Rattle.ddt_path.proofs.matching.best_match.Goals as goal
 use Rattle.ddt_path.proofs.matching.best_match.Goals.{then-covers+then-test, else-covers, else-covers-via-then-covers+else-test, else-covers-via-else-covers}
 

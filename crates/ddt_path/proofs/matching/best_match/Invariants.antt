@@ -2,7 +2,7 @@ use Rattle.std.proofs.Common.{◌≡◌, Bool, drop}
 use Rattle.std.specs.List.{filter}
 use Rattle.std.specs.Option.{option_copied}
 use Rattle.ddt_path.specs.Matching.{best_match, AnswersAs}
-use Rattle.ddt_path.proofs.MatchingLemmas.{best_of}
+use Rattle.ddt_path.specs.laws.Matching.{best_of}
 use Rattle.ddt_path.proofs.matching.best_match.Given as goal
 
 abbrev pub invariant-loop-item : goal.invariant-loop-item

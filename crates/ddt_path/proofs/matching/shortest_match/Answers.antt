@@ -1,7 +1,7 @@
 use Rattle.std.proofs.Common.{◌∙◌, ap, rules, true, List}
 use Rattle.ddt_path.specs.declared.matching.Preference.TheVariants.{Shortest}
 use Rattle.ddt_path.specs.Matching.{best_match}
-use Rattle.ddt_path.proofs.FilterLemmas.{filter_everything}
+use Rattle.ddt_path.specs.laws.Filter.{filter_everything}
 use Rattle.ddt_path.proofs.matching.shortest_match.Goals as goal
 
 pub returns : goal.returns

@@ -1,4 +1,4 @@
-use Rattle.ddt_register.proofs.RangeLemmas.{zone_prefixes, site_prefixes}
+use Rattle.ddt_register.specs.laws.Range.{zone_prefixes, site_prefixes}
 use Rattle.ddt_register.proofs.laws.a_register_is_in_range.Goals as goal
 
 pub returns-clause-items : goal.returns-clause-items

@@ -1,5 +1,5 @@
 use Rattle.std.proofs.Common.{arith}
-use Rattle.ddt_path.proofs.PrefixLemmas.{length-xeid_path}
+use Rattle.ddt_path.specs.laws.Prefix.{length-xeid_path}
 use Rattle.ddt_resolver.proofs.front.block_for.Goals as goal
 
 pub cut-requires : goal.cut-requires

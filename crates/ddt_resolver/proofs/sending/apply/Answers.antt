@@ -1,4 +1,6 @@
-use Rattle.std.proofs.Common.{sym, ap, ◌∙◌}
+use Rattle.std.proofs.Common.{sym, ap, ◌∙◌, ◌≡◌, subst, IsTrue}
+use Rattle.ddt_path.specs.declared.record.ReferralRecord.{ReferralRecord}
+use Rattle.ddt_cache.specs.Saved.{is_saved}
 use Rattle.ddt_cache.specs.Live.{Known}
 use Rattle.ddt_cache.specs.Saved.{stored_in}
 use Rattle.ddt_resolver.specs.State.{changed}
@@ -11,3 +13,9 @@ returns-in-Ok-clause-applied g c =
 
 pub returns-in-Err-clause-unchanged : goal.returns-in-Err-clause-unchanged
 returns-in-Err-clause-unchanged g c = c.in-Err.ensures.unchanged ∙ moved_to_itself _ _ c.time-now.ensures c.in_order.ensures
+
+pub returns-in-Err-clause-wanted : goal.returns-in-Err-clause-wanted
+returns-in-Err-clause-wanted g c = λ rec is.
+    let same : c.in-Save.record ≡ rec = cc (c.in-Save.is, is) in
+    subst (λ (r : ReferralRecord). IsTrue (is_saved c.args.cache.now.live r)) same
+    (subst (λ (k : Known). IsTrue (is_saved k.live c.in-Save.record)) (moved_to_itself _ _ c.time-now.ensures c.in_order.ensures) c.in-Err.ensures.wanted)

@@ -1,6 +1,6 @@
 use Rattle.std.proofs.Common.{◌∙◌, ap, rules}
 use Rattle.std.specs.FinMap.{insert}
-use Rattle.ddt_trie.proofs.MapLemmas.{emptied}
+use Rattle.ddt_trie.specs.laws.Map.{emptied}
 use Rattle.ddt_server_tests.proofs.callers.emptied.Goals as goal
 
 pub returns : goal.returns

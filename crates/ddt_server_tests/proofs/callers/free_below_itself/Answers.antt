@@ -1,6 +1,6 @@
 use Rattle.std.proofs.Common.{◌∙◌}
 use Rattle.ddt_path.specs.Path.{xeid_path}
-use Rattle.ddt_trie.proofs.BelowLemmas.{free_below_alone}
+use Rattle.ddt_trie.specs.laws.Below.{free_below_alone}
 use Rattle.ddt_server_tests.proofs.callers.free_below_itself.Goals as goal
 
 pub returns : goal.returns

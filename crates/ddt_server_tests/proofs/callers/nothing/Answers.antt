@@ -1,6 +1,6 @@
 use Rattle.std.proofs.Common.{◌∙◌}
 use Rattle.ddt_path.specs.Path.{xeid_path}
-use Rattle.ddt_trie.proofs.MapLemmas.{none_longest, free_of_empty}
+use Rattle.ddt_trie.specs.laws.Map.{none_longest, free_of_empty}
 use Rattle.ddt_server_tests.proofs.callers.nothing.Goals as goal
 
 pub returns-clause-longest : goal.returns-clause-longest

@@ -1,6 +1,6 @@
 use Rattle.ddt_path.specs.Path.{xeid_path}
-use Rattle.ddt_trie.proofs.EntryLemmas.{is_some-None}
-use Rattle.ddt_trie.proofs.MapLemmas.{inserted_covers}
+use Rattle.ddt_trie.specs.laws.Entry.{is_some-None}
+use Rattle.ddt_trie.specs.laws.Map.{inserted_covers}
 use Rattle.ddt_server_tests.proofs.callers.nothing_free.Goals as goal
 
 pub returns : goal.returns

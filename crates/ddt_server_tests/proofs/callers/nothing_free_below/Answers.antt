@@ -1,5 +1,5 @@
-use Rattle.ddt_trie.proofs.EntryLemmas.{is_some-None}
-use Rattle.ddt_trie.proofs.MapLemmas.{inserted_key}
+use Rattle.ddt_trie.specs.laws.Entry.{is_some-None}
+use Rattle.ddt_trie.specs.laws.Map.{inserted_key}
 use Rattle.ddt_server_tests.proofs.callers.nothing_free_below.Goals as goal
 
 pub returns : goal.returns

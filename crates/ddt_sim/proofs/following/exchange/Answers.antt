@@ -1,5 +1,7 @@
 use Rattle.std.proofs.Common.{◌≡◌, Err, refl, rules, sym, subst}
 use Rattle.ddt_sim.specs.Sound.{IsSound}
+use Rattle.ddt_resolver.specs.State.{moved}
+use Rattle.ddt_resolver.specs.Act.{HearStep}
 use Rattle.ddt_sim.specs.Lookup.{hop_of, unfinished}
 use Rattle.ddt_sim.proofs.SoundLemmas.{sound_moved}
 use Rattle.ddt_sim.specs.Headline.{IsHonestHop}
@@ -76,7 +78,10 @@ returns-in-Ok-push-clause-nearer g c = λ x waits.
     c.datagram.new.self c.in_ok-turn.turn c.in-Ok.ensures.step c.in-Ok.ensures.nearer (taken_is c.args.ticket c.in-Ok.heard c.heard_for.result c.in_ok-turn.turn c.heard_for.ensures (sym c.in_ok-turn.ensures))
 
 pub returns-in-Err-push-clause-failed : goal.returns-in-Err-push-clause-failed
-returns-in-Err-push-clause-failed g c = unfinished c.as_slice-2.result.now c.in-Ok.heard c.in-Ok.ensures.step refl
+returns-in-Err-push-clause-failed g c =
+    unfinished c.as_slice-2.result.now c.in_ok-turn.turn
+    (subst (HearStep (moved c.args.now c.args.resolver.now) c.args.request.to c.as_slice-2.result.now c.datagram.new.self)
+    (taken_is c.args.ticket c.in-Ok.heard c.heard_for.result c.in_ok-turn.turn c.heard_for.ensures (sym c.in_ok-turn.ensures)) c.in-Ok.ensures.step) refl
 
 pub returns-in-Err-push-clause-sound : goal.returns-in-Err-push-clause-sound
 returns-in-Err-push-clause-sound g c = λ r x honest under.

@@ -1,5 +1,6 @@
 use Rattle.ddt_sim.proofs.SoundLemmas.{KeepsLaws}
 use Rattle.ddt_sim.proofs.ShortLemmas.{ShortLaws, trail_is_short}
+use Rattle.ddt_wire.specs.laws.Message.{messages_are_read, record_back}
 use Rattle.ddt_sim.proofs.laws.honest_trails_are_short.Goals as goal
 
 pub returns : goal.returns
@@ -7,7 +8,6 @@ returns c = λ r x s l accepted order sound id trail honest.
     let z = c.each_identifier_has_a_zone.ensures in
     let h = c.honest_servers_lead_to_the_assignment.ensures in
     let n = c.negatives_hold_of_all_that_they_cover.ensures in
-    let w = c.referral_laws.ensures in
     let keeps : KeepsLaws r = record {
       zones = z.one_zone r accepted;
       root = z.root r accepted;
@@ -24,7 +24,7 @@ returns c = λ r x s l accepted order sound id trail honest.
       servers = h.servers r accepted;
       agree = h.agree r accepted;
       sendable = h.sendable r accepted;
-      messages = w.read;
-      back = w.back;
+      messages = messages_are_read;
+      back = record_back;
     } in
     trail_is_short r laws x s l.outcome l.hops order sound id trail honest

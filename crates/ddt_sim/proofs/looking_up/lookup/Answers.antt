@@ -6,10 +6,11 @@ use Rattle.ddt_resolver.specs.State.{moved}
 use Rattle.ddt_sim.specs.declared.hop.Lookup.{Lookup}
 use Rattle.ddt_sim.specs.Waiting.{CanBeAsked}
 use Rattle.ddt_sim.specs.Headline.{IsHonestHop}
-use Rattle.ddt_resolver.proofs.OrderLemmas.{order_moved}
+use Rattle.ddt_resolver.specs.laws.Order.{order_moved}
 use Rattle.ddt_sim.proofs.PassLemmas.{short_passes}
 use Rattle.ddt_sim.proofs.TrailLemmas.{result_trail, short_result}
 use Rattle.ddt_sim.proofs.AskLemmas.{ask_keeps_sound, rightly_asked, answer_given, refused_fails, refused_is_right, failure_is_error, asked_me}
+use Rattle.ddt_wire.specs.laws.Message.{messages_are_read}
 use Rattle.ddt_sim.proofs.looking_up.lookup.Goals as goal
 
 pub returns-in-Ok-clause-headline : goal.returns-in-Ok-clause-headline
@@ -49,7 +50,7 @@ returns-in-Ok-clause-trail g c =
 
 pub returns-in-Ok-clause-passes : goal.returns-in-Ok-clause-passes
 returns-in-Ok-clause-passes g c =
-    short_passes c.referral_laws.ensures.read c.args.now c.args.x c.args.resolver.now c.after_ask.new.resolver c.after_ask.result (c.after_ask.ensures.steps c.args.x c.args.resolver.now c.in-Ok.ensures.step)
+    short_passes messages_are_read c.args.now c.args.x c.args.resolver.now c.after_ask.new.resolver c.after_ask.result (c.after_ask.ensures.steps c.args.x c.args.resolver.now c.in-Ok.ensures.step)
 
 pub returns-in-Ok-clause-short : goal.returns-in-Ok-clause-short
 returns-in-Ok-clause-short g c = λ r accepted honest sound.

@@ -1,4 +1,4 @@
-use Rattle.ddt_text.proofs.LawLemmas.{spelled_by, locators_are_read}
+use Rattle.ddt_text.specs.laws.Readers.{spelled_by, locators_are_read}
 use Rattle.ddt_text.proofs.locator_text.parse_locator.Goals as goal
 
 pub returns-clause-spelled : goal.returns-clause-spelled

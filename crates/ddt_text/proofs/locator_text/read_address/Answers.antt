@@ -1,6 +1,6 @@
 use Rattle.std.proofs.Common.{sym, ◌∙◌}
 use Rattle.std.specs.Net.Grammar.{IsIpv4Text, IsIpv6Text}
-use Rattle.ddt_text.proofs.AddressLemmas.{parsed, not_parsed, read_ipv4-some, read_ipv4-none, read_ipv6-some, read_ipv6-none}
+use Rattle.ddt_text.specs.laws.Address.{parsed, not_parsed, read_ipv4-some, read_ipv4-none, read_ipv6-some, read_ipv6-none}
 use Rattle.ddt_text.proofs.locator_text.read_address.Goals as goal
 
 pub returns-in_err-address : goal.returns-in_err-address

@@ -1,4 +1,4 @@
-use Rattle.ddt_text.proofs.NumberLemmas.{number_in-sound, number_in-complete}
+use Rattle.ddt_text.specs.laws.Number.{number_in-sound, number_in-complete}
 use Rattle.ddt_text.proofs.number.number_laws.Goals as goal
 
 pub returns-clause-read : goal.returns-clause-read

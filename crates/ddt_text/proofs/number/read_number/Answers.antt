@@ -1,5 +1,5 @@
 use Rattle.std.proofs.Common.{◌∙◌}
-use Rattle.ddt_text.proofs.NumberLemmas.{number_is_utf8, no_text, some_text, parse_fails, no_parse}
+use Rattle.ddt_text.specs.laws.Number.{number_is_utf8, no_text, some_text, parse_fails, no_parse}
 use Rattle.ddt_text.proofs.number.read_number.Goals as goal
 
 pub returns-in_err-ok-clause-value : goal.returns-in_err-ok-clause-value

@@ -1,4 +1,4 @@
-use Rattle.ddt_text.proofs.LawLemmas.{spelled_by, prefixes_are_read}
+use Rattle.ddt_text.specs.laws.Readers.{spelled_by, prefixes_are_read}
 use Rattle.ddt_text.proofs.prefix_text.parse_prefix.Goals as goal
 
 pub returns-clause-spelled : goal.returns-clause-spelled

@@ -1,4 +1,4 @@
-use Rattle.ddt_text.proofs.PrefixTextLemmas.{range_case}
+use Rattle.ddt_text.specs.laws.PrefixText.{range_case}
 use Rattle.ddt_text.proofs.prefix_text.read_bracketed.Goals as goal
 
 pub returns-in_default-len1-up : goal.returns-in_default-len1-up

@@ -1,6 +1,6 @@
 use Rattle.std.proofs.Common.{arith, ◌∙◌, ap}
 use Rattle.ddt_text.specs.FirstFault.{prefix_or_fault}
-use Rattle.ddt_text.proofs.PrefixTextLemmas.{star_case}
+use Rattle.ddt_text.specs.laws.PrefixText.{star_case}
 use Rattle.ddt_text.proofs.prefix_text.read_prefix.Goals as goal
 
 pub returns-in-42 : goal.returns-in-42

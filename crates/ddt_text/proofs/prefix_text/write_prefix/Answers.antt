@@ -1,5 +1,5 @@
 use Rattle.std.proofs.Common.{ℕ, List, ◌++◌, if◌then◌else◌, is_ok, ap, ◌∙◌}
-use Rattle.ddt_text.proofs.WrittenLemmas.{shown_prefix, written_prefix-spells}
+use Rattle.ddt_text.specs.laws.Written.{shown_prefix, written_prefix-spells}
 use Rattle.ddt_text.proofs.prefix_text.write_prefix.Goals as goal
 
 pub returns-clause-appended : goal.returns-clause-appended

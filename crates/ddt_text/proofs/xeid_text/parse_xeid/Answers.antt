@@ -1,4 +1,4 @@
-use Rattle.ddt_text.proofs.LawLemmas.{spelled_by, xeids_are_read}
+use Rattle.ddt_text.specs.laws.Readers.{spelled_by, xeids_are_read}
 use Rattle.ddt_text.proofs.xeid_text.parse_xeid.Goals as goal
 
 pub returns-clause-spelled : goal.returns-clause-spelled

@@ -1,5 +1,5 @@
 use Rattle.std.proofs.Common.{sym, ◌∙◌}
-use Rattle.ddt_text.proofs.XeidTextLemmas.{trailing_case}
+use Rattle.ddt_text.specs.laws.XeidText.{trailing_case}
 use Rattle.ddt_text.proofs.xeid_text.read_xeid.Goals as goal
 
 pub returns-in_default : goal.returns-in_default

@@ -1,4 +1,4 @@
-use Rattle.ddt_trie.proofs.KeyLemmas.{members_free}
+use Rattle.ddt_trie.specs.laws.Key.{members_free}
 use Rattle.ddt_trie.proofs.laws.free_by_members.Goals as goal
 
 pub returns : goal.returns

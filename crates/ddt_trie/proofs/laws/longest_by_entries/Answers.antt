@@ -1,4 +1,4 @@
-use Rattle.ddt_trie.proofs.MatchLemmas.{longest_of_entries, no_longest_of_entries}
+use Rattle.ddt_trie.specs.laws.Match.{longest_of_entries, no_longest_of_entries}
 use Rattle.ddt_trie.proofs.laws.longest_by_entries.Goals as goal
 
 pub returns-clause-found : goal.returns-clause-found

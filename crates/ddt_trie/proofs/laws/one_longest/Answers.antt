@@ -1,4 +1,4 @@
-use Rattle.ddt_trie.proofs.MapLemmas.{IsLongest-unique}
+use Rattle.ddt_trie.specs.laws.Map.{IsLongest-unique}
 use Rattle.ddt_trie.proofs.laws.one_longest.Goals as goal
 
 pub returns : goal.returns

@@ -1,7 +1,7 @@
 use Rattle.std.proofs.Common.{sym, ◌∙◌}
 use Rattle.ddt_path.specs.Path.{xeid_path}
-use Rattle.ddt_path.proofs.EndLemmas.{overlaps_whole}
-use Rattle.ddt_path.proofs.PathTestLemmas.{is_path-xeid_path}
+use Rattle.ddt_path.specs.laws.End.{overlaps_whole}
+use Rattle.ddt_path.specs.laws.PathTest.{is_path-xeid_path}
 use Rattle.ddt_trie.proofs.list_map.covers_alone.Goals as goal
 
 pub returns-clause-overlaps : goal.returns-clause-overlaps

@@ -1,6 +1,6 @@
 use Rattle.std.proofs.Common.{ap, ◌∙◌, arith}
 use Rattle.ddt_wire.specs.Eid.{eid_at}
-use Rattle.ddt_wire.proofs.EidLaws.{eid_again, eid_found}
+use Rattle.ddt_wire.specs.laws.Eid.{eid_again, eid_found}
 use Rattle.ddt_wire.proofs.eid.read_eid.Goals as goal
 
 pub returns-clause-found : goal.returns-clause-found

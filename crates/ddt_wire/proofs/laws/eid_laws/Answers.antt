@@ -1,4 +1,4 @@
-use Rattle.ddt_wire.proofs.EidLaws.{eid_again, one_eid, eid_is_bytes, eid_faults, eid_spells, eid_taken}
+use Rattle.ddt_wire.specs.laws.Eid.{eid_again, one_eid, eid_is_bytes, eid_faults, eid_spells, eid_taken}
 use Rattle.ddt_wire.proofs.laws.eid_laws.Goals as goal
 
 pub returns : goal.returns

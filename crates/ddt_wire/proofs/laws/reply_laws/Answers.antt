@@ -1,4 +1,4 @@
-use Rattle.ddt_wire.proofs.MessageLaws.{replies_are_read, written_reply_spells}
+use Rattle.ddt_wire.specs.laws.Message.{replies_are_read, written_reply_spells}
 use Rattle.ddt_wire.proofs.laws.reply_laws.Goals as goal
 
 pub returns : goal.returns

@@ -1,6 +1,6 @@
 use Rattle.std.proofs.Common.{◌∙◌, arith}
-use Rattle.ddt_reading.proofs.ReaderLemmas.{found}
-use Rattle.ddt_wire.proofs.MessageLaws.{replies_are_read}
+use Rattle.ddt_reading.specs.laws.Reader.{found}
+use Rattle.ddt_wire.specs.laws.Message.{replies_are_read}
 use Rattle.ddt_wire.proofs.negative_reply.read_negative_reply.Goals as goal
 
 pub returns-clause-found : goal.returns-clause-found

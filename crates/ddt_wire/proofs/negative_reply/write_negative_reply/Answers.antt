@@ -2,8 +2,8 @@ use Rattle.std.proofs.Common.{arith, ◌≡◌, List, ℕ, ◌++◌, ap, ◌∙�
 use Rattle.ddt_wire.specs.Head.{head_bytes}
 use Rattle.ddt_wire.specs.Eid.{written_eid, written_mask_len}
 use Rattle.ddt_wire.specs.NegativeReply.{SpellsReply, reply_head, reply_of, written_reply}
-use Rattle.ddt_wire.specs.Laws.{IsReply}
-use Rattle.ddt_wire.proofs.MessageLaws.{written_reply_spells}
+use Rattle.ddt_wire.specs.laws.Statements.{IsReply}
+use Rattle.ddt_wire.specs.laws.Message.{written_reply_spells}
 use Rattle.ddt_wire.proofs.negative_reply.write_negative_reply.Goals as goal
 
 pub returns-clause-spelled : goal.returns-clause-spelled

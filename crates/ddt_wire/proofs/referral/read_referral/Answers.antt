@@ -1,6 +1,6 @@
 use Rattle.std.proofs.Common.{◌∙◌, arith}
-use Rattle.ddt_reading.proofs.ReaderLemmas.{found}
-use Rattle.ddt_wire.proofs.MessageLaws.{messages_are_read}
+use Rattle.ddt_reading.specs.laws.Reader.{found}
+use Rattle.ddt_wire.specs.laws.Message.{messages_are_read}
 use Rattle.ddt_wire.proofs.referral.read_referral.Goals as goal
 
 pub returns-clause-found : goal.returns-clause-found

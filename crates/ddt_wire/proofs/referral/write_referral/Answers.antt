@@ -6,8 +6,8 @@ use Rattle.ddt_wire.specs.Head.{head_bytes}
 use Rattle.ddt_wire.specs.Eid.{written_eid}
 use Rattle.ddt_wire.specs.LocatorRecord.{written_locator}
 use Rattle.ddt_wire.specs.Referral.{Spells, message_of, written, written_head}
-use Rattle.ddt_wire.specs.Laws.{IsRecord}
-use Rattle.ddt_wire.proofs.MessageLaws.{written_spells}
+use Rattle.ddt_wire.specs.laws.Statements.{IsRecord}
+use Rattle.ddt_wire.specs.laws.Message.{written_spells}
 use Rattle.ddt_wire.proofs.AppendLemmas.{three_parts}
 use Rattle.ddt_wire.proofs.referral.write_referral.Goals as goal
 

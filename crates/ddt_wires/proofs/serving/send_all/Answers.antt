@@ -1,7 +1,7 @@
 use Rattle.std.proofs.Common.{◌++◌, ◌∙◌, sym}
 use Rattle.ddt_wires.specs.Turns.{reply_to, on_to_etr}
-use Rattle.ddt_wires.proofs.TellLemmas.{tells_both}
-use Rattle.ddt_wires.proofs.TurnLemmas.{tried_both, reply_is_first}
+use Rattle.ddt_wires.specs.laws.Tell.{tells_both}
+use Rattle.ddt_wires.specs.laws.Turn.{tried_both, reply_is_first}
 use Rattle.ddt_wires.proofs.serving.send_all.Goals as goal
 
 pub returns : goal.returns

@@ -1,7 +1,7 @@
 use Rattle.std.proofs.Common.{[], ◌∷◌}
 use Rattle.ddt_wires.specs.declared.call.Call.TheVariants.{Tried}
 use Rattle.ddt_ecm.specs.UdpHeader.{control_port}
-use Rattle.ddt_wires.proofs.TurnLemmas.{on_tried}
+use Rattle.ddt_wires.specs.laws.Turn.{on_tried}
 use Rattle.ddt_wires.proofs.serving.send_on.Goals as goal
 
 pub returns-in-Some : goal.returns-in-Some

@@ -1,6 +1,6 @@
 use Rattle.std.proofs.Common.{[], ◌∷◌}
 use Rattle.ddt_wires.specs.declared.call.Call.TheVariants.{Tried}
-use Rattle.ddt_wires.proofs.TurnLemmas.{reply_tried}
+use Rattle.ddt_wires.specs.laws.Turn.{reply_tried}
 use Rattle.ddt_wires.proofs.serving.send_reply.Goals as goal
 
 pub returns-in-Some : goal.returns-in-Some

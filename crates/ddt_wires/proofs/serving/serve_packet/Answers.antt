@@ -1,7 +1,7 @@
 use Rattle.std.proofs.Common.{[], refl, subst}
 use Rattle.ddt_node.specs.declared.handling.Handled.{Handled}
 use Rattle.ddt_wires.specs.Turns.{AreTried, sends_for, served, out_of_memory}
-use Rattle.ddt_wires.proofs.TellLemmas.{tells_none}
+use Rattle.ddt_wires.specs.laws.Tell.{tells_none}
 use Rattle.ddt_wires.proofs.serving.serve_packet.Goals as goal
 
 pub returns-in-Ok : goal.returns-in-Ok
@@ -18,6 +18,6 @@ pub returns-in-Err : goal.returns-in-Err
 returns-in-Err g c = (
   [],
   tells_none (g.W.Wires.calls c.args.wires.now),
-  out_of_memory c.args.packet c.args.bytes.now,
+  out_of_memory c.args.packet c.args.bytes.now (λ none. let answered = c.in-Err.ensures.ignored none in cc),
   refl,
 )

@@ -1,4 +1,4 @@
-use Rattle.ddt_wires.proofs.TurnLemmas.{serving_on}
+use Rattle.ddt_wires.specs.laws.Turn.{serving_on}
 use Rattle.ddt_wires.proofs.serving.serve_turns.Goals as goal
 
 pub loop-turn-preserved : goal.loop-turn-preserved

@@ -1,4 +1,4 @@
-use Rattle.ddt_wires.proofs.TurnLemmas.{IsServing}
+use Rattle.ddt_wires.specs.laws.Turn.{IsServing}
 use Rattle.ddt_wires.proofs.serving.serve_turns.Given as goal
 
 -- so many turns so far

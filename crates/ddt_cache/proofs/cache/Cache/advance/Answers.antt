@@ -1,8 +1,8 @@
 use Rattle.std.proofs.Common.{ap, ◌∙◌}
 use Rattle.std.specs.Prelude.{max}
 use Rattle.ddt_cache.specs.Live.{moved, known_of}
-use Rattle.ddt_cache.proofs.KnownLemmas.{moved_known}
-use Rattle.ddt_cache.proofs.OrderLemmas.{moved_in_order, in_order_along}
+use Rattle.ddt_cache.specs.laws.Known.{moved_known}
+use Rattle.ddt_cache.specs.laws.Order.{moved_in_order, in_order_along}
 use Rattle.ddt_cache.proofs.cache.Cache.advance.Goals as goal
 
 pub returns : goal.returns

@@ -1,9 +1,9 @@
 use Rattle.std.proofs.Common.{◌≡◌, rules, ap, ◌∙◌}
 use Rattle.std.specs.FinMap as map
 use Rattle.ddt_cache.specs.Live.{Known, is_live, known_of, forgotten}
-use Rattle.ddt_cache.proofs.KnownLemmas.{forgotten_known, live_key}
-use Rattle.ddt_cache.proofs.SizeLemmas.{len_removed}
-use Rattle.ddt_cache.proofs.OrderLemmas.{forgotten_in_order, in_order_along}
+use Rattle.ddt_cache.specs.laws.Known.{forgotten_known, live_key}
+use Rattle.ddt_cache.specs.laws.Size.{len_removed}
+use Rattle.ddt_cache.specs.laws.Order.{forgotten_in_order, in_order_along}
 use Rattle.ddt_cache.proofs.cache.Cache.forget.Goals as goal
 use Rattle.ddt_cache.proofs.cache.Cache.forget.Goals.{in-Some, in-None}
 

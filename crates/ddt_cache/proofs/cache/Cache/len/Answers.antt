@@ -1,9 +1,9 @@
 use Rattle.std.proofs.Common.{ap, sym, ◌∙◌}
 use Rattle.std.specs.FinMap as map
 use Rattle.ddt_cache.specs.Live.{known_of}
-use Rattle.ddt_cache.proofs.KnownLemmas.{live_twice, same_known}
-use Rattle.ddt_cache.proofs.SizeLemmas.{len_dropped}
-use Rattle.ddt_cache.proofs.OrderLemmas.{in_order_along}
+use Rattle.ddt_cache.specs.laws.Known.{live_twice, same_known}
+use Rattle.ddt_cache.specs.laws.Size.{len_dropped}
+use Rattle.ddt_cache.specs.laws.Order.{in_order_along}
 use Rattle.ddt_cache.proofs.cache.Cache.len.Goals as goal
 
 pub returns-clause-moved : goal.returns-clause-moved

@@ -1,8 +1,8 @@
 use Rattle.std.proofs.Common.{refl, ap, ◌∙◌}
 use Rattle.ddt_cache.specs.Live.{Known, live_at, known_of, nothing_known}
-use Rattle.ddt_cache.proofs.LiveLemmas.{Entries, live_at-empty}
-use Rattle.ddt_cache.proofs.SizeLemmas.{len_none}
-use Rattle.ddt_cache.proofs.OrderLemmas.{nothing_in_order, in_order_along}
+use Rattle.ddt_cache.specs.laws.Live.{Entries, live_at-empty}
+use Rattle.ddt_cache.specs.laws.Size.{len_none}
+use Rattle.ddt_cache.specs.laws.Order.{nothing_in_order, in_order_along}
 use Rattle.ddt_cache.proofs.cache.Cache.new.Goals as goal
 
 pub returns : goal.returns

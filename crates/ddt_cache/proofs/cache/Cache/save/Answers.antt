@@ -1,4 +1,4 @@
-use Rattle.ddt_cache.proofs.OrderLemmas.{saved_in_order}
+use Rattle.ddt_cache.specs.laws.Order.{saved_in_order}
 use Rattle.ddt_cache.proofs.cache.Cache.save.Goals as goal
 
 pub invariant_of-self : goal.invariant_of-self

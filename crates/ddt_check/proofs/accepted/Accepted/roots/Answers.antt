@@ -3,9 +3,9 @@ use Rattle.std.proofs.lemmas.Option.{none-some}
 use Rattle.ddt_path.specs.declared.matching.Preference.TheVariants.{Longest}
 use Rattle.ddt_check.specs.Zones.{zone_of}
 use Rattle.ddt_check.proofs.RootLemmas.{zone_found}
-use Rattle.ddt_check.proofs.ZoneLemmas.{zone_prefix}
-use Rattle.ddt_path.proofs.MatchingLemmas.{best_member}
-use Rattle.ddt_check.proofs.KeptLemmas.{servers_of_zone}
+use Rattle.ddt_check.specs.laws.Zone.{zone_prefix}
+use Rattle.ddt_path.specs.laws.Matching.{best_member}
+use Rattle.ddt_check.specs.laws.Kept.{servers_of_zone}
 use Rattle.ddt_check.proofs.accepted.Accepted.roots.Goals as goal
 
 pub returns-in-Some-clause-count : goal.returns-in-Some-clause-count

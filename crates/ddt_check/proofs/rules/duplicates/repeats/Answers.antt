@@ -1,9 +1,9 @@
 use Rattle.std.proofs.Common.{◌≡◌, ℕ, ◌+◌, ◌-◌, ◌<◌, length, get_or, sym, ap, ◌∙◌, arith}
 use Rattle.std.proofs.lemmas.List.{get_or_default}
 use Rattle.ddt_path.specs.Covers.{is_same_path}
-use Rattle.ddt_register.proofs.RowOrderLemmas.{rising_from_rise}
+use Rattle.ddt_register.specs.laws.RowOrder.{rising_from_rise}
 use Rattle.ddt_check.specs.Rules.{is_duplicate}
-use Rattle.ddt_check.proofs.OrderLemmas.{duplicate-beside, duplicate-first}
+use Rattle.ddt_check.specs.laws.Order.{duplicate-beside, duplicate-first}
 use Rattle.ddt_check.proofs.rules.duplicates.repeats.Goals as goal
 
 pub returns-then-at-eq0 : goal.returns-then-at-eq0

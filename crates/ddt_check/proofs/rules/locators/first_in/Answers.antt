@@ -3,7 +3,7 @@ use Rattle.std.proofs.lemmas.List.Sorted.{IsPartitionPoint-from_clause}
 use Rattle.ddt_register.specs.declared.group.Group.{Group}
 use Rattle.ddt_path.specs.Covers.{is_same_path}
 use Rattle.ddt_check.specs.Columns.{column_key, locator_key, key_list}
-use Rattle.ddt_register.proofs.RowOrderLemmas.{groups_up}
+use Rattle.ddt_register.specs.laws.RowOrder.{groups_up}
 use Rattle.ddt_check.proofs.NameLemmas.{is_below, parted, found_key, no_key_past, no_key_at}
 use Rattle.std.proofs.lemmas.List.{get_or_default}
 use Rattle.ddt_check.proofs.rules.locators.first_in.Goals as goal

@@ -4,7 +4,7 @@ use Rattle.std.specs.Prelude.{◌&&◌}
 use Rattle.ddt_path.specs.Covers.{covers}
 use Rattle.ddt_register.specs.declared.zone.Zone.{Zone}
 use Rattle.ddt_check.specs.Zones.{is_ms}
-use Rattle.ddt_check.proofs.OutsideLemmas.{is_up_to, up_to_parted, outside_at, outside_first}
+use Rattle.ddt_check.specs.laws.Outside.{is_up_to, up_to_parted, outside_at, outside_first}
 use Rattle.ddt_check.proofs.rules.sites.is_outside.Goals as goal
 
 pub returns-then-after-eq0 : goal.returns-then-after-eq0

@@ -7,7 +7,7 @@ use Rattle.ddt_register.specs.declared.zone.Zone.{Zone}
 use Rattle.ddt_check.specs.Zones.{is_ms}
 use Rattle.ddt_check.specs.Rules.{is_below_map_server}
 use Rattle.ddt_check.proofs.LeastLemmas.{least_more, least_same, least_of_all}
-use Rattle.ddt_check.proofs.BelowLemmas.{top_first, under_is, top_new, top_kept}
+use Rattle.ddt_check.specs.laws.Below.{top_first, under_is, top_new, top_kept}
 use Rattle.ddt_check.proofs.rules.zones.below_map_server.Goals as goal
 use Rattle.ddt_check.proofs.rules.zones.below_map_server.Goals.{then-is_under, else-is_under, then-is_top, else-is_top}
 

@@ -3,7 +3,7 @@ use Rattle.std.specs.Option.{option_map, option_copied}
 use Rattle.ddt_register.specs.declared.zone.Zone.{Zone}
 use Rattle.ddt_register.specs.declared.register.Register.{Register}
 use Rattle.ddt_check.specs.Rules.{IsLeastRow, item_at, is_below_map_server}
-use Rattle.ddt_check.proofs.BelowLemmas.{IsTop}
+use Rattle.ddt_check.specs.laws.Below.{IsTop}
 use Rattle.ddt_check.proofs.rules.zones.below_map_server.Given as goal
 
 abbrev pub invariant-loop-z : goal.invariant-loop-z

@@ -2,7 +2,7 @@ use Rattle.std.proofs.Common.{rules, ◌≡◌, ℕ, List, get_or, Some, sym, ap
 use Rattle.std.proofs.lemmas.List.Sorted.{IsPartitionPoint-from_clause}
 use Rattle.ddt_register.specs.declared.group.Group.{Group}
 use Rattle.ddt_path.specs.Covers.{is_same_path}
-use Rattle.ddt_register.proofs.RowOrderLemmas.{groups_up}
+use Rattle.ddt_register.specs.laws.RowOrder.{groups_up}
 use Rattle.ddt_check.proofs.NameLemmas.{is_below, parted, found_key, no_key_past, no_key_at}
 use Rattle.std.proofs.lemmas.List.{get_or_default}
 use Rattle.ddt_check.proofs.rules.zones.group_named.Goals as goal

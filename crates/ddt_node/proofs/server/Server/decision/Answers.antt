@@ -1,7 +1,7 @@
 use Rattle.std.proofs.Common.{ap, sym, ◌∙◌}
 use Rattle.ddt_path.specs.declared.matching.Preference.TheVariants.{Longest}
 use Rattle.ddt_path.specs.Path.{xeid_path}
-use Rattle.ddt_path.proofs.MatchingLemmas.{best_member}
+use Rattle.ddt_path.specs.laws.Matching.{best_member}
 use Rattle.ddt_config.specs.declared.authority.Authority.{Authority}
 use Rattle.ddt_config.specs.Table.{Outline, outline}
 use Rattle.ddt_node.specs.Decisions.{etr_by, record_by}

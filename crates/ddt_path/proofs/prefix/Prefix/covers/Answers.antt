@@ -1,7 +1,7 @@
 use Rattle.std.proofs.Common.{arith, sym, ◌∙◌, length}
 use Rattle.std.proofs.lemmas.Bool.{lt-leb}
 use Rattle.ddt_path.specs.Path.{xeid_path}
-use Rattle.ddt_path.proofs.PrefixLemmas.{covers_shorter, covers_longer}
+use Rattle.ddt_path.specs.laws.Prefix.{covers_shorter, covers_longer}
 use Rattle.ddt_path.proofs.prefix.Prefix.covers.Goals as goal
 
 pub returns-then-len : goal.returns-then-len

@@ -1,5 +1,5 @@
 use Rattle.std.proofs.Common.{arith, ◌∙◌, sym, ◌-◌}
-use Rattle.ddt_path.proofs.PrefixLemmas.{cut_long, cut_long_tail, take-front, drop-front, take-xeid_path-short, length-xeid_path}
+use Rattle.ddt_path.specs.laws.Prefix.{cut_long, cut_long_tail, take-front, drop-front, take-xeid_path-short, length-xeid_path}
 use Rattle.ddt_path.specs.DigitLemmas.{length-digits}
 use Rattle.ddt_path.specs.Path.{digits}
 use Rattle.ddt_path.proofs.prefix.Prefix.cut.Goals as goal

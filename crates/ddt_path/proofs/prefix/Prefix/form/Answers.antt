@@ -1,6 +1,6 @@
 use Rattle.std.proofs.Common.{ap, ◌∙◌, sym}
 use Rattle.ddt_path.specs.Path.{is_prefix_path}
-use Rattle.ddt_path.proofs.PathTestLemmas.{is_prefix_path-path, form_of_prefix}
+use Rattle.ddt_path.specs.laws.PathTest.{is_prefix_path-path, form_of_prefix}
 use Rattle.ddt_path.proofs.prefix.Prefix.form.Goals as goal
 
 pub returns-clause-passes : goal.returns-clause-passes

@@ -1,6 +1,6 @@
 use Rattle.std.proofs.Common.{arith}
-use Rattle.ddt_path.proofs.PrefixLemmas.{host_path, host_tail}
-use Rattle.ddt_path.proofs.PathTestLemmas.{is_path-xeid_path, identifier_of}
+use Rattle.ddt_path.specs.laws.Prefix.{host_path, host_tail}
+use Rattle.ddt_path.specs.laws.PathTest.{is_path-xeid_path, identifier_of}
 use Rattle.ddt_path.proofs.prefix.Prefix.host.Goals as goal
 
 pub invariant_of-result : goal.invariant_of-result

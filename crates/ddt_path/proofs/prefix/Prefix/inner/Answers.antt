@@ -1,5 +1,5 @@
 use Rattle.ddt_path.specs.declared.locator.Locator.TheVariants.{V4}
-use Rattle.ddt_path.proofs.PrefixLemmas.{inner_of_range, inner_of_block, inner_range_fits, inner_block_fits}
+use Rattle.ddt_path.specs.laws.Prefix.{inner_of_range, inner_of_block, inner_range_fits, inner_block_fits}
 use Rattle.ddt_path.proofs.prefix.Prefix.inner.Goals as goal
 
 pub returns-in-Range-clause-front : goal.returns-in-Range-clause-front

@@ -1,4 +1,4 @@
-use Rattle.ddt_path.proofs.PrefixLemmas.{length-of_range, length-of_block}
+use Rattle.ddt_path.specs.laws.Prefix.{length-of_range, length-of_block}
 use Rattle.ddt_path.proofs.prefix.Prefix.len.Goals as goal
 
 pub returns-in-Range-clause-digits : goal.returns-in-Range-clause-digits

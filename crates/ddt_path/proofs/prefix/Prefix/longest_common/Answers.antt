@@ -1,6 +1,6 @@
 use Rattle.ddt_path.specs.Path.{xeid_path}
-use Rattle.ddt_path.proofs.FrontLemmas.{common_covers, common_is_longest}
-use Rattle.ddt_path.proofs.PrefixLemmas.{common_of_fronts}
+use Rattle.ddt_path.specs.laws.Front.{common_covers, common_is_longest}
+use Rattle.ddt_path.specs.laws.Prefix.{common_of_fronts}
 use Rattle.ddt_path.proofs.prefix.Prefix.longest_common.Goals as goal
 
 pub returns-clause-digits : goal.returns-clause-digits

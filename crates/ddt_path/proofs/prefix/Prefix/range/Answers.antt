@@ -1,6 +1,6 @@
 use Rattle.std.proofs.Common.{arith, sym, ◌∙◌}
 use Rattle.ddt_path.specs.declared.form.Form.TheVariants.{Range}
-use Rattle.ddt_path.proofs.PrefixLemmas.{prefix_of-tail, prefix_of-made}
+use Rattle.ddt_path.specs.laws.Prefix.{prefix_of-tail, prefix_of-made}
 use Rattle.ddt_path.proofs.prefix.Prefix.range.Goals as goal
 
 pub returns-then-not-is_front32 : goal.returns-then-not-is_front32

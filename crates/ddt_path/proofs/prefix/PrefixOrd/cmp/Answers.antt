@@ -1,8 +1,8 @@
 use Rattle.std.proofs.Common.{◌≡◌, length, ap, ◌∙◌, arith}
 use Rattle.std.proofs.lemmas.List.{length-take}
 use Rattle.ddt_path.specs.Covers.{shared_len}
-use Rattle.ddt_path.proofs.ShareLemmas.{shared_len-le}
-use Rattle.ddt_path.proofs.PlaceLemmas.{cmp_at_shared}
+use Rattle.ddt_path.specs.laws.Share.{shared_len-le}
+use Rattle.ddt_path.specs.laws.Place.{cmp_at_shared}
 use Rattle.ddt_path.proofs.prefix.PrefixOrd.cmp.Goals as goal
 
 pub returns : goal.returns

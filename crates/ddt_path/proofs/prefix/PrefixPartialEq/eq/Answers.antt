@@ -1,7 +1,7 @@
 use Rattle.std.proofs.Common.{sym, ◌∙◌, ap}
 use Rattle.std.specs.Prelude.{Bool, ◌&&◌}
 use Rattle.ddt_path.specs.Covers.{covers}
-use Rattle.ddt_path.proofs.ShareLemmas.{covers_both, not_covered}
+use Rattle.ddt_path.specs.laws.Share.{covers_both, not_covered}
 use Rattle.ddt_path.proofs.prefix.PrefixPartialEq.eq.Goals as goal
 
 pub returns-then-covers : goal.returns-then-covers

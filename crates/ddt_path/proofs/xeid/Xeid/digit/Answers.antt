@@ -3,7 +3,7 @@ use Rattle.std.specs.Prelude.{slice_get}
 use Rattle.std.proofs.lemmas.List.{length-append}
 use Rattle.ddt_path.specs.DigitLemmas.{length-digits}
 use Rattle.ddt_path.specs.Path.{digits, address_path, xeid_path}
-use Rattle.ddt_path.proofs.PlaceLemmas.{slice_get-front, slice_get-behind}
+use Rattle.ddt_path.specs.laws.Place.{slice_get-front, slice_get-behind}
 use Rattle.ddt_path.proofs.xeid.Xeid.digit.Goals as goal
 
 pub symbol-requires : goal.symbol-requires

@@ -1,5 +1,5 @@
 use Rattle.std.proofs.Common.{arith}
-use Rattle.ddt_path.proofs.PrefixLemmas.{length-xeid_path}
+use Rattle.ddt_path.specs.laws.Prefix.{length-xeid_path}
 use Rattle.ddt_path.proofs.xeid.Xeid.path_len.Goals as goal
 
 pub returns : goal.returns

@@ -2,7 +2,7 @@ use Rattle.std.proofs.Common.{sym, ◌∙◌, ap, ℕ, ◌+◌}
 use Rattle.ddt_path.specs.Path.{digits, address_path}
 use Rattle.ddt_path.specs.Covers.{shared_len}
 use Rattle.ddt_path.specs.DigitLemmas.{length-digits}
-use Rattle.ddt_path.proofs.ShareLemmas.{shared_len-append_all, shared_len-append_some}
+use Rattle.ddt_path.specs.laws.Share.{shared_len-append_all, shared_len-append_some}
 use Rattle.ddt_path.proofs.xeid.Xeid.shared.Goals as goal
 
 pub returns-then-shared-eq32 : goal.returns-then-shared-eq32

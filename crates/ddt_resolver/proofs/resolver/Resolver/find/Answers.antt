@@ -9,12 +9,12 @@ use Rattle.ddt_resolver.proofs.resolver.Resolver.find.Goals as goal
 
 pub invariant_of-self : goal.invariant_of-self
 invariant_of-self g c =
-    subst (λ (k : Known). IsInOrder (record { known = k; me = c.self.inside.me; next = c.self.inside.next; pending = c.self.inside.table.lookups }))
+    subst (λ (k : Known). IsInOrder (record { known = k; me = c.self.inside.me; next = c.self.inside.table.next; pending = c.self.inside.table.lookups }))
     (sym (c.find_copied.ensures.moved ∙ moved_to_itself _ _ c.time-now.ensures c.in_order.ensures)) c.self.invariant
 
 pub returns-clause-unchanged : goal.returns-clause-unchanged
 returns-clause-unchanged g c =
-    ap (λ (k : Known). let s : State = record { known = k; me = c.self.inside.me; next = c.self.inside.next; pending = c.self.inside.table.lookups } in s)
+    ap (λ (k : Known). let s : State = record { known = k; me = c.self.inside.me; next = c.self.inside.table.next; pending = c.self.inside.table.lookups } in s)
     (c.find_copied.ensures.moved ∙ moved_to_itself _ _ c.time-now.ensures c.in_order.ensures) ∙ c.self.view_is
 
 pub returns-clause-found : goal.returns-clause-found

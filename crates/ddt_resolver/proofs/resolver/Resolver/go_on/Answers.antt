@@ -1,10 +1,10 @@
-use Rattle.std.proofs.Common.{◌<◌, ◌≤◌, ◌+◌, List, length, subst, sym, ap, arith}
+use Rattle.std.proofs.Common.{◌<◌, ◌≤◌, ◌+◌, List, length, refl, subst, sym, ap, arith}
 use Rattle.ddt_path.specs.declared.locator.Locator.{Locator}
 use Rattle.ddt_path.specs.declared.record.Outcome.TheVariants.{NotRegistered}
 use Rattle.ddt_resolver.specs.declared.answers.Ticked.TheVariants.{Answer}
 use Rattle.ddt_resolver.specs.TickStep.{answered}
 use Rattle.ddt_resolver.specs.Order.{IsLookup}
-use Rattle.ddt_resolver.proofs.ShapeLemmas.{again_lookup, next_lookup}
+use Rattle.ddt_resolver.specs.laws.Shape.{again_lookup, next_lookup}
 use Rattle.ddt_resolver.proofs.resolver.Resolver.go_on.Goals as goal
 
 pub try_on-requires-clause-lookup : goal.try_on-requires-clause-lookup
@@ -24,5 +24,5 @@ try_on-requires-then-lookup-as_slice-clause-lookup g c =
 pub returns-in-Some-clause-on : goal.returns-in-Some-clause-on
 returns-in-Some-clause-on g c =
     answered c.in-Some.told c.if-not-lookup.false
-    (subst (λ (ls : List Locator). length ls ≤ c.args.lookup.now.place + 1) c.as_slice.ensures.items c.if-lookup-as_slice.false) c.in-Some.is c.close.ensures
+    (subst (λ (ls : List Locator). length ls ≤ c.args.lookup.now.place + 1) c.as_slice.ensures.items c.if-lookup-as_slice.false) c.in-Some.is (c.close.ensures c.args.ticket (c.args.lookup.now, c.requires.is_pending, refl))
     (ap (λ z. Answer z (NotRegistered c.in-Some.told.prefix c.in-Some.told.servers)) c.of.ensures)

@@ -2,7 +2,7 @@ use Rattle.std.proofs.Common.{subst, sym, ap, ◌∙◌, refl}
 use Rattle.ddt_resolver.specs.State.{opening}
 use Rattle.ddt_resolver.specs.AskStep.{cached}
 use Rattle.ddt_resolver.specs.Order.{IsLookup}
-use Rattle.ddt_resolver.proofs.ShapeLemmas.{opening_lookup}
+use Rattle.ddt_resolver.specs.laws.Shape.{opening_lookup}
 use Rattle.ddt_resolver.proofs.resolver.Resolver.start.Goals as goal
 
 pub returns-in-Some-clause-step : goal.returns-in-Some-clause-step

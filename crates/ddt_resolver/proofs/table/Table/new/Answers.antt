@@ -1,5 +1,5 @@
-use Rattle.ddt_resolver.proofs.TableLemmas.{none_noted, count_none}
+use Rattle.ddt_resolver.proofs.TableLemmas.{no_table, no_count, nothing_at}
 use Rattle.ddt_resolver.proofs.table.Table.new.Goals as goal
 
 pub invariant_of-result : goal.invariant_of-result
-invariant_of-result c = (none_noted _ _ c.new.ensures.empty c.new-2.ensures.empty, count_none _ c.new.ensures.empty)
+invariant_of-result c = (no_table c.new.result _ _ c.new.ensures.empty (nothing_at c.new-2.result c.new-2.ensures.empty), no_count c.new.result c.new.ensures.empty)

@@ -1,22 +1,26 @@
-use Rattle.std.proofs.Common.{ap, ◌∙◌, sym}
-use Rattle.std.specs.FinMap.{insert}
-use Rattle.ddt_resolver.specs.Table.{Held}
-use Rattle.ddt_resolver.proofs.TableLemmas.{is_some_entry, not_gone, is_fresh, noted_replace, inserted_map, count_inserted}
+use Rattle.std.proofs.Common.{◌≡◌, ap, sym, ◌∙◌}
+use Rattle.std.specs.FinMap.{FinMap, get, insert, remove}
+use Rattle.std.specs.Ordering.{nat_cmp}
+use Rattle.ddt_resolver.specs.declared.pending.Pending.{Pending}
+use Rattle.ddt_resolver.specs.Waiting.{Waiting}
+use Rattle.ddt_resolver.specs.laws.NumberMap.{get-remove_same, found_remove}
+use Rattle.ddt_resolver.proofs.TableLemmas.{replaced}
 use Rattle.ddt_resolver.proofs.table.Table.replace.Goals as goal
 
-pub invariant_of-self : goal.invariant_of-self
-invariant_of-self c =
-    let view = ap (λ (h : Held). h.lookups) c.self.view_is in (
-      noted_replace _ _ c.self.invariant.0 _ c.args.ticket c.args.lookup (is_fresh _ _ _ view c.requires.nonce) c.put.ensures.put c.in-Some.before (sym c.in-Some.ensures.before) _ _ c.note.ensures c.remove.ensures.updates.0,
-      count_inserted _ _ c.args.ticket c.args.lookup c.put.result (inserted_map _ _ c.args.ticket c.args.lookup c.put.ensures.put) c.put.ensures.before c.put.ensures.len c.self.invariant.1,
-    )
+pub add-requires-clause-ticket : goal.add-requires-clause-ticket
+add-requires-clause-ticket c =
+    let same = ap (λ (w : Waiting). w.ticket) c.before-in-Some.view_is in
+    ap (λ (m : FinMap nat_cmp Pending). get m c.before-in-Some.inside.ticket) c.in-Some.ensures.taken ∙ ap (get _) same ∙ get-remove_same c.args.self.now.lookups c.in-Some.before.ticket
 
-pub returns-in-Some : goal.returns-in-Some
-returns-in-Some c = inserted_map _ _ c.args.ticket c.args.lookup c.put.ensures.put ∙ ap (λ (h : Held). insert h.lookups c.args.ticket c.args.lookup) c.self.view_is
+pub add-requires-clause-next : goal.add-requires-clause-next
+add-requires-clause-next c = record {
+  nonce = c.requires.next.nonce ∙ sym c.take.ensures.next;
+  latest = λ t l found. c.requires.next.latest t l (found_remove c.args.self.now.lookups c.in-Some.before.ticket t l (ap (λ (m : FinMap nat_cmp Pending). get m t) (sym c.in-Some.ensures.taken) ∙ found)).1;
+  fits = rw c.take.ensures.next c.requires.next.fits;
+}
 
-pub invariant_of-self-in_default : goal.invariant_of-self-in_default
-invariant_of-self-in_default c =
-    absurd (not_gone _ (is_some_entry _ _ c.args.ticket (ap (λ (h : Held). h.lookups) c.self.view_is) c.requires.ticket) (sym c.put.ensures.before ∙ c.in_default.is))
-
-pub returns-in_default : goal.returns-in_default
-returns-in_default c = inserted_map _ _ c.args.ticket c.args.lookup c.put.ensures.put ∙ ap (λ (h : Held). insert h.lookups c.args.ticket c.args.lookup) c.self.view_is
+pub returns-in-Some-clause-lookups : goal.returns-in-Some-clause-lookups
+returns-in-Some-clause-lookups c = λ t has.
+    let same : c.before-in-Some.inside.ticket ≡ t = ap (λ (w : Waiting). w.ticket) c.before-in-Some.view_is ∙ c.in-Some.ensures.only t has in
+    c.add.ensures.lookups ∙ ap (λ (m : FinMap nat_cmp Pending). insert m c.before-in-Some.inside.ticket c.args.lookup) (c.in-Some.ensures.taken ∙ ap (remove c.args.self.now.lookups) (c.in-Some.ensures.only t has))
+    ∙ ap (λ k. insert (remove c.args.self.now.lookups t) k c.args.lookup) same ∙ replaced c.args.self.now.lookups t c.args.lookup

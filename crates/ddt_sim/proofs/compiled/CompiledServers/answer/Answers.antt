@@ -5,7 +5,7 @@ use Rattle.ddt_path.specs.declared.record.ReferralRecord.{ReferralRecord}
 use Rattle.ddt_wire.specs.Referral.{message_of}
 use Rattle.ddt_node.specs.Server.{HasReply}
 use Rattle.ddt_sim.specs.Compiled.{server_at}
-use Rattle.ddt_sim.proofs.CompiledLemmas.{honest_server, server_is_there}
+use Rattle.ddt_sim.proofs.CompiledLemmas.{found_is_server, honest_server, server_is_there}
 use Rattle.ddt_sim.proofs.compiled.CompiledServers.answer.Goals as goal
 
 pub returns-in_ok-handle-in-Some-clause-says : goal.returns-in_ok-handle-in-Some-clause-says
@@ -20,3 +20,11 @@ returns-in_ok-handle-in-Some-clause-says g c = λ r m compiled known asked.
 pub returns-in-None-clause-says : goal.returns-in-None-clause-says
 returns-in-None-clause-says g c = λ r m compiled known asked.
     server_is_there c.a_compiled_configuration_answers_honestly.ensures.honest r c.args.self.now compiled c.args.to known (sym c.server_at.ensures ∙ ap option_copied c.in-None.is)
+
+pub returns-in_ok-handle-in-Some-clause-nothing : goal.returns-in_ok-handle-in-Some-clause-nothing
+returns-in_ok-handle-in-Some-clause-nothing g c = λ r compiled none.
+    absurd (none (found_is_server r c.args.self.now compiled c.args.to c.in-Some.server.now (sym c.server_at.ensures ∙ ap option_copied c.in-Some.is)))
+
+pub returns-in_err-handle-in-Some-clause-nothing : goal.returns-in_err-handle-in-Some-clause-nothing
+returns-in_err-handle-in-Some-clause-nothing g c = λ r compiled none.
+    absurd (none (found_is_server r c.args.self.now compiled c.args.to c.in-Some.server.now (sym c.server_at.ensures ∙ ap option_copied c.in-Some.is)))

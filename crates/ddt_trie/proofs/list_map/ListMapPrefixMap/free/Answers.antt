@@ -4,9 +4,9 @@ use Rattle.ddt_path.specs.Path.{xeid_path}
 use Rattle.ddt_path.specs.Free.{overlaps_none}
 use Rattle.ddt_trie.specs.PrefixMap.{IsCovered}
 use Rattle.ddt_trie.specs.Entries.{map_of}
-use Rattle.ddt_path.proofs.CoverLemmas.{length-covered}
-use Rattle.ddt_trie.proofs.PassLemmas.{uncovered}
-use Rattle.ddt_trie.proofs.KeyLemmas.{tested, some_covers, no_free_part, free_start, free_here, free_later, free_last, host_part, none_alone, none_where}
+use Rattle.ddt_path.specs.laws.Cover.{length-covered}
+use Rattle.ddt_trie.specs.laws.Pass.{uncovered}
+use Rattle.ddt_trie.specs.laws.Key.{tested, some_covers, no_free_part, free_start, free_here, free_later, free_last, host_part, none_alone, none_where}
 use Rattle.ddt_trie.proofs.list_map.ListMapPrefixMap.free.Goals as goal
 
 pub loop-len-init : goal.loop-len-init

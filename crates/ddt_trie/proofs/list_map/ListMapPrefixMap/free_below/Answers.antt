@@ -1,11 +1,11 @@
 use Rattle.std.proofs.Common.{Some, ◌≡◌, ◌<◌, true, false, length, take, sym, ap, ◌∙◌, refl, arith}
 use Rattle.ddt_path.specs.Path.{xeid_path}
 use Rattle.ddt_path.specs.Free.{overlaps_none}
-use Rattle.ddt_path.proofs.CoverLemmas.{length-covered}
+use Rattle.ddt_path.specs.laws.Cover.{length-covered}
 use Rattle.ddt_trie.specs.PrefixMap.{keys_below, IsCoveredBelow}
 use Rattle.ddt_trie.specs.Entries.{map_of}
-use Rattle.ddt_trie.proofs.KeyLemmas.{free_start, free_here, free_later, free_last, host_part, none_alone, none_where}
-use Rattle.ddt_trie.proofs.BelowLemmas.{tested_below, no_part_below, some_covers_below, uncovered_below}
+use Rattle.ddt_trie.specs.laws.Key.{free_start, free_here, free_later, free_last, host_part, none_alone, none_where}
+use Rattle.ddt_trie.specs.laws.Below.{tested_below, no_part_below, some_covers_below, uncovered_below}
 use Rattle.ddt_trie.proofs.list_map.ListMapPrefixMap.free_below.Goals as goal
 
 pub loop-len-init : goal.loop-len-init

@@ -1,6 +1,6 @@
 use Rattle.std.proofs.Common.{sym, ◌∙◌, ap}
 use Rattle.std.specs.Option.{option_copied}
-use Rattle.ddt_trie.proofs.EntryLemmas.{placed, absent, get_at, get_absent}
+use Rattle.ddt_trie.specs.laws.Entry.{placed, absent, get_at, get_absent}
 use Rattle.ddt_trie.proofs.list_map.ListMapPrefixMap.get.Goals as goal
 
 pub returns-in_err-at : goal.returns-in_err-at

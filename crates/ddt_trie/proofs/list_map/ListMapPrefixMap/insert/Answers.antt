@@ -1,5 +1,5 @@
 use Rattle.std.proofs.Common.{Some, sym, ◌∙◌, ap}
-use Rattle.ddt_trie.proofs.EntryLemmas.{placed, absent, key_at, get_at, get_absent, set_distinct, set_inserts, push_keeps_distinct, push_inserts, is_some_absent}
+use Rattle.ddt_trie.specs.laws.Entry.{placed, absent, key_at, get_at, get_absent, set_distinct, set_inserts, push_keeps_distinct, push_inserts, is_some_absent}
 use Rattle.ddt_trie.proofs.list_map.ListMapPrefixMap.insert.Goals as goal
 
 pub invariant_of-self : goal.invariant_of-self

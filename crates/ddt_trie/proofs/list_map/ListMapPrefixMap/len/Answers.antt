@@ -1,5 +1,5 @@
 use Rattle.std.proofs.Common.{rules}
-use Rattle.ddt_trie.proofs.EntryLemmas.{len-map_of}
+use Rattle.ddt_trie.specs.laws.Entry.{len-map_of}
 use Rattle.ddt_trie.proofs.list_map.ListMapPrefixMap.len.Goals as goal
 
 pub returns : goal.returns

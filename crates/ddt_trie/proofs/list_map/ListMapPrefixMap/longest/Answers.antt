@@ -1,7 +1,7 @@
 use Rattle.std.proofs.Common.{None, Some, ap}
 use Rattle.std.specs.Option.{option_copied}
 use Rattle.ddt_path.specs.Path.{xeid_path}
-use Rattle.ddt_trie.proofs.MatchLemmas.{asked, match_is_longest, no_match_is_uncovered}
+use Rattle.ddt_trie.specs.laws.Match.{asked, match_is_longest, no_match_is_uncovered}
 use Rattle.ddt_trie.proofs.list_map.ListMapPrefixMap.longest.Goals as goal
 
 pub returns-in_err-prefix-clause-covered : goal.returns-in_err-prefix-clause-covered

@@ -1,5 +1,5 @@
 use Rattle.std.proofs.Common.{sym, ◌∙◌}
-use Rattle.ddt_trie.proofs.EntryLemmas.{placed, absent, get_at, get_absent, remove_distinct, remove_removes, remove_absent}
+use Rattle.ddt_trie.specs.laws.Entry.{placed, absent, get_at, get_absent, remove_distinct, remove_removes, remove_absent}
 use Rattle.ddt_trie.proofs.list_map.ListMapPrefixMap.remove.Goals as goal
 
 pub returns-in_err-at-clause-before : goal.returns-in_err-at-clause-before

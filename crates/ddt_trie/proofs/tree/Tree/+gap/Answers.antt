@@ -1,7 +1,7 @@
 use Rattle.std.proofs.Common.{rules, ◌≡◌, ℕ, ◌+◌, ◌≤◌, ◌∙◌, List, ap, sym, take, drop, length, subst, arith}
 use Rattle.std.proofs.lemmas.List.{length-take-le}
 use Rattle.ddt_path.specs.Covers.{overlaps, shared_len}
-use Rattle.ddt_path.proofs.ShareLemmas.{shared_len-le}
+use Rattle.ddt_path.specs.laws.Share.{shared_len-le}
 use Rattle.ddt_trie.specs.declared.tree.Tree.{Tree}
 use Rattle.ddt_trie.specs.declared.tree.Entry.{Entry}
 use Rattle.ddt_trie.specs.declared.tree.Node.{Node}

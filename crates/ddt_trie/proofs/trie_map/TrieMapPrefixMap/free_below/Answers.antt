@@ -1,8 +1,8 @@
 use Rattle.std.proofs.Common.{◌≡◌, ◌+◌, Some, sym, ap, ◌∙◌, subst, arith, length}
 use Rattle.std.specs.Prelude.{max, IfNone, Option, List, ℕ}
 use Rattle.ddt_path.specs.Path.{xeid_path}
-use Rattle.ddt_path.proofs.CoverLemmas.{length-covered, fronts_overlap}
-use Rattle.ddt_path.proofs.FrontLemmas.{below_parts, longer_below}
+use Rattle.ddt_path.specs.laws.Cover.{length-covered, fronts_overlap}
+use Rattle.ddt_path.specs.laws.Front.{below_parts, longer_below}
 use Rattle.ddt_trie.specs.PrefixMap.{IsCoveredBelow, keys_below}
 use Rattle.ddt_trie.specs.Tree.{content_of, IsGapBelow, IsMet}
 use Rattle.ddt_trie.proofs.GapLemmas.{counts_below, met_covers, covered_none, gap_not_covered, gap_free, gap_within}

@@ -1,9 +1,0 @@
-pub mod ChecksumLemmas
-pub mod WritingLemmas
-pub mod SumLaws
-pub mod MapRequestLaws
-pub mod WrittenLaws
-pub mod UdpLaws
-pub mod IpLaws
-pub mod SourceLaws
-pub mod RequestLaws

@@ -1,0 +1,173 @@
+//! Memory is refused to what reads and writes registers and configurations: the whole comes or nothing, and the next
+//! call gives it.
+//!
+//! `.ci/memory` runs each of these tests with each growth refused in turn.
+
+use ddt_check::{Accepted, check};
+use ddt_compile::{compile, compile_group};
+use ddt_config::{ConfigFault, ServerConfig, from_toml, to_toml};
+use ddt_examples::configurations::{EAST, NESTED_EAST, ROOT, TEN, TWO_AUTHORITIES};
+use ddt_examples::registers::{CAMPUS, NESTED_SITES};
+use ddt_path::{Listed, Name};
+use ddt_register::{ReadFault, Register, read_register};
+use std::alloc::{AllocError, Global};
+use std::process::Abort;
+use std::test::Fail;
+
+/// The register of a text, read once more where memory is refused, of which it tells no other fault.
+fn register(rt: &impl Abort, alloc: Global, text: &str) -> Result<Register, Fail> {
+    match read_register(alloc, text.as_bytes()) {
+        Ok(register) => Ok(register),
+        Err(fault) => {
+            assert_eq!(rt; fault, ReadFault::Memory);
+            Ok(read_register(alloc, text.as_bytes())?)
+        },
+    }
+}
+
+/// The same, accepted.
+fn accepted(rt: &impl Abort, alloc: Global, text: &str) -> Result<Accepted, Fail> {
+    match check(register(rt, alloc, text)?) {
+        Ok(accepted) => Ok(accepted),
+        Err(_refused) => Err("not accepted".into()),
+    }
+}
+
+/// How many zones, sites and groups a register has, and the rows of the last of each.
+type Shape = [(usize, Option<u32>); 3];
+
+fn shape(register: &Register) -> Shape {
+    let (zones, sites) = (register.zones.as_slice(), register.sites.as_slice());
+    let groups = register.groups.as_slice();
+    [
+        (zones.len(), zones.last().map(|zone| zone.row)),
+        (sites.len(), sites.last().map(|site| site.row)),
+        (groups.len(), groups.last().map(|group| group.row)),
+    ]
+}
+
+/// Registers, and what they have.
+const SHAPES: &[(&str, Shape)] = &[
+    (CAMPUS, [(3, Some(6)), (2, Some(8)), (3, Some(3))]),
+    (NESTED_SITES, [(3, Some(6)), (4, Some(10)), (3, Some(3))]),
+];
+
+fn is_read(rt: &impl Abort, alloc: Global, text: &str, wanted: Shape) -> Result<(), Fail> {
+    let register = register(rt, alloc, text)?;
+    assert_eq!(rt; shape(&register), wanted);
+    Ok(())
+}
+
+#[test]
+fn a_register_is_read_whole(rt: HostRuntime) -> Result<(), Fail> {
+    for &(text, wanted) in SHAPES {
+        is_read(&rt, rt.alloc(), text, wanted)?;
+    }
+    Ok(())
+}
+
+/// The configuration of a text, read once more where memory is refused, of which it tells no other fault.
+fn config(rt: &impl Abort, alloc: Global, text: &str) -> Result<ServerConfig, Fail> {
+    match from_toml(alloc, text) {
+        Ok(config) => Ok(config),
+        Err(fault) => {
+            assert_eq!(rt; fault, ConfigFault::Memory);
+            Ok(from_toml(alloc, text)?)
+        },
+    }
+}
+
+/// The text of a configuration, written once more where memory is refused.
+fn text(alloc: Global, config: &ServerConfig) -> Result<String, AllocError> {
+    match to_toml(alloc, config) {
+        Ok(text) => Ok(text),
+        Err(_refused) => to_toml(alloc, config),
+    }
+}
+
+fn is_text(
+    rt: &impl Abort,
+    alloc: Global,
+    config: &ServerConfig,
+    wanted: &str,
+) -> Result<(), Fail> {
+    let text = text(alloc, config)?;
+    assert_eq!(rt; text.as_str(), wanted);
+    Ok(())
+}
+
+#[test]
+fn a_configuration_is_read_and_written_whole(rt: HostRuntime) -> Result<(), Fail> {
+    for wanted in [EAST, TWO_AUTHORITIES] {
+        let config = config(&rt, rt.alloc(), wanted)?;
+        is_text(&rt, rt.alloc(), &config, wanted)?;
+    }
+    Ok(())
+}
+
+/// All configurations of a register, compiled once more where memory is refused.
+fn all(alloc: Global, register: &Accepted) -> Result<Listed<ServerConfig>, AllocError> {
+    match compile(alloc, register) {
+        Ok(configs) => Ok(configs),
+        Err(_refused) => compile(alloc, register),
+    }
+}
+
+fn are_texts(
+    rt: &impl Abort,
+    alloc: Global,
+    configs: &[ServerConfig],
+    texts: &[&str],
+) -> Result<(), Fail> {
+    assert_eq!(rt; configs.len(), texts.len());
+    for (config, wanted) in configs.iter().zip(texts) {
+        is_text(rt, alloc, config, wanted)?;
+    }
+    Ok(())
+}
+
+/// Registers, and the configurations of their groups.
+const COMPILED: &[(&str, [&str; 3])] = &[
+    (CAMPUS, [ROOT, TEN, EAST]),
+    (NESTED_SITES, [ROOT, TEN, NESTED_EAST]),
+];
+
+fn compiles(rt: &impl Abort, alloc: Global, text: &str, texts: &[&str]) -> Result<(), Fail> {
+    let configs = all(alloc, &accepted(rt, alloc, text)?)?;
+    are_texts(rt, alloc, configs.as_slice(), texts)
+}
+
+#[test]
+fn all_groups_are_compiled(rt: HostRuntime) -> Result<(), Fail> {
+    for &(text, texts) in COMPILED {
+        compiles(&rt, rt.alloc(), text, &texts)?;
+    }
+    Ok(())
+}
+
+/// The configuration of one group, compiled once more where memory is refused.
+fn alone(
+    alloc: Global,
+    register: &Accepted,
+    name: Name,
+) -> Result<Option<ServerConfig>, AllocError> {
+    match compile_group(alloc, register, name) {
+        Ok(config) => Ok(config),
+        Err(_refused) => compile_group(alloc, register, name),
+    }
+}
+
+fn compiles_alone(rt: &impl Abort, alloc: Global, group: &str, wanted: &str) -> Result<(), Fail> {
+    let register = accepted(rt, alloc, NESTED_SITES)?;
+    let name = Name::of(group.as_bytes()).ok_or("no name")?;
+    let config = alone(alloc, &register, name)?.ok_or("no group")?;
+    is_text(rt, alloc, &config, wanted)
+}
+
+#[test]
+fn one_group_is_compiled(rt: HostRuntime) -> Result<(), Fail> {
+    for (group, wanted) in [("east", NESTED_EAST), ("ten", TEN)] {
+        compiles_alone(&rt, rt.alloc(), group, wanted)?;
+    }
+    Ok(())
+}

@@ -1,0 +1,293 @@
+-- The four ways in which a step changes what is pending: it stays, a lookup opens, sends again, or is dropped.
+use Rattle.std.proofs.Common.{◌≡◌, ℕ, ◌+◌, ◌<◌, ◌≤◌, true, false, List, [], ◌∷◌, length, take, min, Some, None, Result, Ok, Err, refl, sym, ap, ◌∙◌, subst, inl, inr, arith}
+use Rattle.std.specs.Prelude.{◌≢◌, IsTrue}
+use Rattle.std.specs.FinMap.{get, insert, remove, len}
+use Rattle.std.proofs.lemmas.Option.{none-some, same_Some}
+use Rattle.std.proofs.lemmas.List.{length-take}
+use Rattle.ddt_path.specs.declared.locator.Locator.{Locator}
+use Rattle.ddt_path.specs.declared.xeid.Xeid.{Xeid}
+use Rattle.ddt_path.specs.declared.action.Action.{Action}
+use Rattle.ddt_path.specs.declared.action.Action.TheVariants.{NodeReferral, MsReferral, MsAck, MsNotRegistered, DelegationHole, NotAuthoritative}
+use Rattle.ddt_path.specs.declared.record.ReferralRecord.{ReferralRecord}
+use Rattle.ddt_path.specs.Path.{xeid_path, is_path}
+use Rattle.ddt_path.specs.Covers.{covers}
+use Rattle.ddt_cache.specs.declared.entry.Entry.{Entry}
+use Rattle.ddt_cache.specs.Entry.{is_positive}
+use Rattle.ddt_cache.specs.Found.{IsFound}
+use Rattle.ddt_cache.specs.InOrder.{IsInOrder as IsKnownInOrder, IsEntryInOrder}
+use Rattle.ddt_cache.specs.laws.Order.{stored_in_order, forgotten_in_order}
+use Rattle.ddt_resolver.specs.declared.pending.Pending.{Pending}
+use Rattle.ddt_resolver.specs.declared.answers.Asked.{Asked}
+use Rattle.ddt_resolver.specs.declared.answers.Asked.TheVariants as asked
+use Rattle.ddt_resolver.specs.declared.answers.AskError.{AskError}
+use Rattle.ddt_resolver.specs.declared.answers.Why.{Why}
+use Rattle.ddt_resolver.specs.declared.answers.Heard.{Heard}
+use Rattle.ddt_resolver.specs.declared.answers.Heard.TheVariants as heard
+use Rattle.ddt_resolver.specs.declared.answers.Ticked.{Ticked}
+use Rattle.ddt_resolver.specs.declared.answers.Ticked.TheVariants as ticked
+use Rattle.ddt_path.specs.declared.record.Outcome.{Outcome}
+use Rattle.ddt_path.specs.declared.record.Outcome.TheVariants.{NotRegistered}
+use Rattle.ddt_resolver.specs.declared.answers.Why.TheVariants.{NoReply, Exhausted}
+use Rattle.ddt_resolver.specs.State.{State, last_nonce, request, numbered, dropped, stored, opening, referred, passed_on, started_over, tried_again, at_next}
+use Rattle.ddt_path.specs.Actions.{IsReferral}
+use Rattle.ddt_resolver.specs.Records.{IsAbout, negative_answer, start_at}
+use Rattle.ddt_resolver.specs.AskStep.{answer_of, AskStep}
+use Rattle.ddt_resolver.specs.AskStep as ask
+use Rattle.ddt_resolver.specs.TakeUp.{IsTaken}
+use Rattle.ddt_resolver.specs.Act.{Act, HearStep}
+use Rattle.ddt_resolver.specs.Act as act
+use Rattle.ddt_resolver.specs.TickStep.{GoOn, IsDue, TickStep}
+use Rattle.ddt_resolver.specs.TickStep as tick
+use Rattle.ddt_resolver.specs.Step.{Call, Ask, Hear, Reply, ToAsk, ToDatagram, ToTick, Step, asks, hears, ticks}
+use Rattle.ddt_resolver.specs.Order.{IsLookup, IsWaiting, IsInOrder}
+
+-- what ends a lookup: an outcome, or a reason why there is none
+pub data End : Type 0 where
+  Gives : Outcome → End
+  Fails : Why → End
+
+-- the reply tells that a lookup has ended
+abbrev pub Ends : Reply → ℕ → End → Type 0
+Ends (ToDatagram (heard.Answer t o)) u e = (t ≡ u) × (e ≡ Gives o)
+Ends (ToDatagram (heard.GaveUp t why)) u e = (t ≡ u) × (e ≡ Fails why)
+Ends (ToTick (ticked.Answer t o)) u e = (t ≡ u) × (e ≡ Gives o)
+Ends (ToTick (ticked.GaveUp t why)) u e = (t ≡ u) × (e ≡ Fails why)
+Ends _ u e = ⊥
+
+-- the reply is of no ticket
+abbrev pub IsQuiet : Reply → Type 0
+IsQuiet (ToAsk (Ok (asked.Answer o))) = Unit {0}
+IsQuiet (ToAsk (Ok (asked.Sent t d))) = ⊥
+IsQuiet (ToAsk (Err e)) = Unit {0}
+IsQuiet (ToDatagram (heard.Ignored why)) = Unit {0}
+IsQuiet (ToDatagram (heard.Followed t d)) = ⊥
+IsQuiet (ToDatagram (heard.Answer t o)) = ⊥
+IsQuiet (ToDatagram (heard.GaveUp t why)) = ⊥
+IsQuiet (ToTick ticked.Nothing) = Unit {0}
+IsQuiet (ToTick (ticked.Sent t d)) = ⊥
+IsQuiet (ToTick (ticked.Answer t o)) = ⊥
+IsQuiet (ToTick (ticked.GaveUp t why)) = ⊥
+
+-- How a lookup goes on: at a new set, at the next server after an MS-NOT-REGISTERED, at the same server again, or at the
+-- next one without a reply.
+pub data Goes (s : State) (call : Call) (reply : Reply) (t : ℕ) (l new : Pending) : Type 0 where
+  anew : reply ≡ ToDatagram (heard.Followed t (request s new)) → new.place ≡ 0 → new.second ≡ false → new.kept ≡ None → Goes s call reply t l new
+  keeps : (source : Locator) (bytes : List ℕ) (rec : ReferralRecord) → call ≡ Hear source bytes → IsTaken s source bytes t l rec
+      → reply ≡ ToDatagram (heard.Followed t (request s new)) → new ≡ passed_on l rec → Goes s call reply t l new
+  repeats : reply ≡ ToTick (ticked.Sent t (request s new)) → l.deadline ≤ s.known.time → l.second ≡ false → new ≡ tried_again l → Goes s call reply t l new
+  goes_on : reply ≡ ToTick (ticked.Sent t (request s new)) → l.deadline ≤ s.known.time → l.second ≡ true → l.place + 1 < length l.servers → new ≡ at_next l → Goes s call reply t l new
+
+pub data Move (s : State) (call : Call) (new : State) (reply : Reply) : Type 0 where
+  stays : new.pending ≡ s.pending → new.next ≡ s.next → IsQuiet reply → Move s call new reply
+  opens : (l : Pending) → call ≡ Ask l.x → l.place ≡ 0 → l.second ≡ false → l.kept ≡ None → l.saved ≡ None → IsLookup l → s.next < last_nonce
+      → len s.pending < 1024
+      → new.pending ≡ insert s.pending s.next (numbered s l) → new.next ≡ s.next + 1 → reply ≡ ToAsk (Ok (asked.Sent s.next (request s l))) → Move s call new reply
+  sends : (t : ℕ) (old l : Pending) → get s.pending t ≡ Some old → l.x ≡ old.x → Goes s call reply t old l → IsLookup l → s.next < last_nonce
+      → new.pending ≡ insert s.pending t (numbered s l) → new.next ≡ s.next + 1 → Move s call new reply
+  drops : (t : ℕ) (l : Pending) (e : End) → get s.pending t ≡ Some l → new.pending ≡ remove s.pending t → new.next ≡ s.next → Ends reply t e → Move s call new reply
+
+-- what a step leaves as it is, how it changes what is remembered, and what is pending
+pub record IsMoved (s : State) (call : Call) (new : State) (reply : Reply) : Type 0 where
+  pub time : new.known.time ≡ s.known.time
+  pub me : new.me ≡ s.me
+  pub roots : new.known.roots ≡ s.known.roots
+  pub known : IsKnownInOrder new.known
+  pub move : Move s call new reply
+
+-- ---- an ask
+
+positive : (a : Action) (p : List ℕ) (servers : List Locator) → negative_answer a p servers ≡ None → a ≢ NotAuthoritative → is_positive a ≡ true
+positive NodeReferral p servers e n = refl
+positive MsReferral p servers e n = refl
+positive MsAck p servers e n = refl
+positive MsNotRegistered p servers e n = absurd (none-some _ (sym e))
+positive DelegationHole p servers e n = absurd (none-some _ (sym e))
+positive NotAuthoritative p servers e n = absurd (n refl)
+
+started_below : (p : List ℕ) → start_at p ≢ Some []
+started_below [] e = absurd (none-some _ e)
+started_below (d ∷ ds) e = cc e
+
+started_covers : (p x q : List ℕ) → IsTrue (covers p x) → start_at p ≡ Some q → IsTrue (covers q x)
+started_covers [] x q c e = absurd (none-some _ e)
+started_covers (d ∷ ds) x q c e = subst (λ r. IsTrue (covers r x)) (same_Some _ _ e) c
+
+module _ (s : State) (o : IsInOrder s) (x : Xeid) (id : IsTrue (is_path (xeid_path x))) (p : List ℕ) (e : Entry) where
+  found_servers : IsFound s.known (xeid_path x) p e → answer_of p e ≡ None → (0 < length e.servers) × (length e.servers ≤ 8) × IsTrue (covers p (xeid_path x))
+  found_servers (inl found) none =
+      let is : IsEntryInOrder s.known.time p e = o.known.entries p e found.value in
+      (is.locator (positive e.action p e.servers none is.authoritative), is.few, found.covers_it)
+  found_servers (inr root) none = rw (root.entry, root.everything) (o.root, o.known.few, refl)
+
+  pub opening_lookup : IsFound s.known (xeid_path x) p e → answer_of p e ≡ None → IsLookup (opening x e.servers (start_at p))
+  opening_lookup found none =
+      let f = found_servers found none in
+      record {
+        identifier = id;
+        place = f.0;
+        few = f.1;
+        saved = λ q h. absurd (none-some _ h);
+        kept = λ r h. absurd (none-some _ h);
+        kept_action = λ r h. absurd (none-some _ h);
+        kept_place = λ r h. absurd (none-some _ h);
+        start = λ q h. started_covers p (xeid_path x) q f.2 h;
+        below_root = started_below p;
+        once = λ h. cc h;
+      }
+
+-- ---- a reply
+
+-- a record that isn't NOT-AUTHORITATIVE covers the identifier that it is about
+pub about_covers : (rec : ReferralRecord) (x : List ℕ) → IsAbout rec x → rec.action ≢ NotAuthoritative → IsTrue (covers rec.prefix x)
+about_covers rec x (inl c) apart = c
+about_covers rec x (inr is) apart = absurd (apart is)
+
+pub referral_apart : (a : Action) → IsReferral a → a ≢ NotAuthoritative
+referral_apart a (inl e) is = cc (e, is)
+referral_apart a (inr e) is = cc (e, is)
+
+pub few_servers : (s : State) (source : Locator) (bytes : List ℕ) (t : ℕ) (l : Pending) (rec : ReferralRecord) → IsTaken s source bytes t l rec → length rec.servers ≤ 8
+few_servers s source bytes t l rec is =
+    let told = is.in_time.from_server.reply.tells in
+    subst (λ (r : ReferralRecord). length r.servers ≤ 8) told.same_record (let n : length (take 8 told.message.locators) ≡ min 8 (length told.message.locators) = length-take 8 told.message.locators in omega arith)
+
+module _ (s : State) (o : IsInOrder s) (t : ℕ) (l : Pending) (here : get s.pending t ≡ Some l) where
+  waiting : IsWaiting s t l
+  waiting = o.lookups t l here
+
+  module _ (source : Locator) (bytes : List ℕ) (rec : ReferralRecord) (is : IsTaken s source bytes t l rec) where
+    pub referred_lookup : IsReferral rec.action → IsLookup (referred l rec)
+    referred_lookup r = let w = waiting.lookup in record {
+      identifier = w.identifier;
+      place = is.names_server r;
+      few = few_servers s source bytes t l rec is;
+      saved = λ q h. subst (λ p. IsTrue (covers p (xeid_path l.x))) (same_Some _ _ h) (about_covers rec (xeid_path l.x) is.about (referral_apart rec.action r));
+      kept = λ q h. absurd (none-some _ h);
+      kept_action = λ q h. absurd (none-some _ h);
+      kept_place = λ q h. absurd (none-some _ h);
+      start = w.start;
+      below_root = w.below_root;
+      once = w.once;
+    }
+
+    pub passed_lookup : rec.action ≡ MsNotRegistered → l.place + 1 < length l.servers → IsLookup (passed_on l rec)
+    passed_lookup a more = let w = waiting.lookup in record {
+      identifier = w.identifier;
+      place = more;
+      few = w.few;
+      saved = w.saved;
+      kept = λ q h. subst (λ (r : ReferralRecord). IsTrue (covers r.prefix (xeid_path l.x))) (same_Some _ _ h) (about_covers rec (xeid_path l.x) is.about (λ no. cc (a, no)));
+      kept_action = λ q h. subst (λ (r : ReferralRecord). r.action ≡ MsNotRegistered) (same_Some _ _ h) a;
+      kept_place = λ q h. omega arith;
+      start = w.start;
+      below_root = w.below_root;
+      once = w.once;
+    }
+
+  pub restarted_lookup : IsLookup (started_over s l)
+  restarted_lookup = let w = waiting.lookup in record {
+    identifier = w.identifier;
+    place = o.root;
+    few = o.known.few;
+    saved = λ q h. absurd (none-some _ h);
+    kept = λ q h. absurd (none-some _ h);
+    kept_action = λ q h. absurd (none-some _ h);
+    kept_place = λ q h. absurd (none-some _ h);
+    start = λ q h. absurd (none-some _ h);
+    below_root = λ h. absurd (none-some _ h);
+    once = λ _. refl;
+  }
+
+  pub again_lookup : IsLookup (tried_again l)
+  again_lookup = let w = waiting.lookup in record {
+    identifier = w.identifier;
+    place = w.place;
+    few = w.few;
+    saved = w.saved;
+    kept = w.kept;
+    kept_action = w.kept_action;
+    kept_place = w.kept_place;
+    start = w.start;
+    below_root = w.below_root;
+    once = w.once;
+  }
+
+  pub next_lookup : l.place + 1 < length l.servers → IsLookup (at_next l)
+  next_lookup more = let w = waiting.lookup in record {
+    identifier = w.identifier;
+    place = more;
+    few = w.few;
+    saved = w.saved;
+    kept = w.kept;
+    kept_action = w.kept_action;
+    kept_place = λ q h. omega arith;
+    start = w.start;
+    below_root = w.below_root;
+    once = w.once;
+  }
+
+-- ---- each case
+
+module _ (s : State) (o : IsInOrder s) (call : Call) (new : State) (a : Reply) where
+  staying : new ≡ s → IsQuiet a → IsMoved s call new a
+  staying e quiet = rw e (record { time = refl; me = refl; roots = refl; known = o.known; move = stays refl refl quiet })
+
+  started : (x : Xeid) (r : Result Asked AskError) → IsTrue (is_path (xeid_path x)) → call ≡ Ask x → a ≡ ToAsk r → AskStep s x new r → IsMoved s call new a
+  started x r id called is step = by step.start
+    where
+      by : ask.Start s x step.prefix step.entry new r → IsMoved s call new a
+      by (ask.cached out some e f) = staying e (rw (is, f) tt)
+      by (ask.full none many e f) = staying e (rw (is, f) tt)
+      by (ask.used_up none few end e f) = staying e (rw (is, f) tt)
+      by (ask.opened free e f) = rw e (record {
+        time = refl;
+        me = refl;
+        roots = refl;
+        known = o.known;
+        move = opens (opening x step.entry.servers (start_at step.prefix)) called refl refl refl refl (opening_lookup s o x id step.prefix step.entry step.found free.unanswered) free.nonce free.few refl refl (is ∙ ap ToAsk f);
+      })
+
+  module _ (t : ℕ) (l : Pending) (here : get s.pending t ≡ Some l) where
+    dropping : (e : End) → new ≡ dropped s t → Ends a t e → IsMoved s call new a
+    dropping e is ends = rw is (record { time = refl; me = refl; roots = refl; known = o.known; move = drops t l e here refl refl ends })
+
+    module _ (source : Locator) (bytes : List ℕ) (rec : ReferralRecord) (is : IsTaken s source bytes t l rec) (h : Heard) (to : a ≡ ToDatagram h) (called : call ≡ Hear source bytes) where
+      saved_known : IsKnownInOrder (stored s rec).known
+      saved_known = stored_in_order s.known rec (few_servers s source bytes t l rec is) o.known
+
+      saving : (out : Outcome) → new ≡ dropped (stored s rec) t → h ≡ heard.Answer t out → IsMoved s call new a
+      saving out e f = rw e (record { time = refl; me = refl; roots = refl; known = saved_known; move = drops t l (Gives out) here refl refl (rw (to, f) (refl, refl)) })
+
+      failing : (why : Why) → new ≡ dropped s t → h ≡ heard.GaveUp t why → IsMoved s call new a
+      failing why e f = dropping (Fails why) e (rw (to, f) (refl, refl))
+
+      acted : act.Act s t l rec new h → IsMoved s call new a
+      acted (act.loops r not_below e f) = failing _ e f
+      acted (act.refers r below more e f) = rw e (record { time = refl; me = refl; roots = refl; known = saved_known; move = sends t l (referred l rec) here refl (anew (to ∙ ap ToDatagram f) refl refl refl) (referred_lookup s o t l here source bytes rec is r) more refl refl })
+      acted (act.acknowledges k e f) = saving _ e f
+      acted (act.closes k e f) = saving _ e f
+      acted (act.passes_on k more room e f) = rw e (record { time = refl; me = refl; roots = refl; known = o.known; move = sends t l (passed_on l rec) here refl (keeps source bytes rec called is (to ∙ ap ToDatagram f) refl) (passed_lookup s o t l here source bytes rec is k more) room refl refl })
+      acted (act.concludes k end e f) = saving _ e f
+      acted (act.starts_over p k start room e f) = rw e (record { time = refl; me = refl; roots = refl; known = forgotten_in_order s.known p o.known; move = sends t l (started_over s l) here refl (anew (to ∙ ap ToDatagram f) refl refl refl) (restarted_lookup s o t l here) room refl refl })
+      acted (act.nobody k start e f) = failing _ e f
+      acted (act.used_up on none e f) = failing _ e f
+
+    going : (h : Ticked) → a ≡ ToTick h → l.deadline ≤ s.known.time → GoOn s t l new h → IsMoved s call new a
+    going h to over (tick.again first room e f) = rw e (record { time = refl; me = refl; roots = refl; known = o.known; move = sends t l (tried_again l) here refl (repeats (to ∙ ap ToTick f) over first refl) (again_lookup s o t l here) room refl refl })
+    going h to over (tick.next_place second more room e f) = rw e (record { time = refl; me = refl; roots = refl; known = o.known; move = sends t l (at_next l) here refl (goes_on (to ∙ ap ToTick f) over second more refl) (next_lookup s o t l here more) room refl refl })
+    going h to over (tick.answered rec second end kept e f) = dropping (Gives (NotRegistered rec.prefix rec.servers)) e (rw (to, f) (refl, refl))
+    going h to over (tick.no_reply second end kept e f) = dropping (Fails NoReply) e (rw (to, f) (refl, refl))
+    going h to over (tick.used_up has none e f) = dropping (Fails Exhausted) e (rw (to, f) (refl, refl))
+
+  heard_move : (source : Locator) (bytes : List ℕ) (h : Heard) → call ≡ Hear source bytes → a ≡ ToDatagram h → HearStep s source bytes new h → IsMoved s call new a
+  heard_move source bytes h called to (act.ignored why is e f) = staying e (rw (to, f) tt)
+  heard_move source bytes h called to (act.taken t l rec is does) = acted t l is.in_time.from_server.reply.is_pending source bytes rec is h to called does
+
+  ticked_move : (h : Ticked) → a ≡ ToTick h → TickStep s new h → IsMoved s call new a
+  ticked_move h to (tick.nothing none e f) = staying e (rw (to, f) tt)
+  ticked_move h to (tick.due t l is on) = going t l is.is_pending h to is.over on
+
+  pub moved_by_step : Step s call new a → IsMoved s call new a
+  moved_by_step (asks x r id step called to) = started x r id called to step
+  moved_by_step (hears source bytes h step called to) = heard_move source bytes h called to step
+  moved_by_step (ticks h step called to) = ticked_move h to step

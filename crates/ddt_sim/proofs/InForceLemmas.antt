@@ -1,0 +1,248 @@
+-- What each step keeps of a run over registers that replace each other.
+use Rattle.std.proofs.Common.{◌≡◌, ℕ, ◌+◌, ◌<◌, ◌≤◌, ◌^◌, true, false, List, [], ◌∷◌, Option, Some, None, refl, sym, ap, ◌∙◌, subst, subst₂, arith, inl, inr, ◌⊎◌}
+use Rattle.std.specs.Prelude.{IsTrue, slice_get, find}
+use Rattle.std.specs.FinMap.{get}
+use Rattle.std.proofs.lemmas.Bool.{false≢true}
+use Rattle.std.proofs.lemmas.Option.{none-some}
+use Rattle.ddt_path.specs.declared.locator.Locator.{Locator}
+use Rattle.ddt_path.specs.declared.record.ReferralRecord.{ReferralRecord}
+use Rattle.ddt_path.specs.declared.xeid.Xeid.{Xeid}
+use Rattle.ddt_path.specs.Covers.{covers}
+use Rattle.ddt_path.specs.Locators.{lists}
+use Rattle.ddt_path.specs.Path.{xeid_path, is_path}
+use Rattle.ddt_path.specs.Records.{record_of}
+use Rattle.ddt_path.specs.laws.Member.{in_contained, contained, found_in, found_passes, unfound}
+use Rattle.ddt_register.specs.declared.group.Group.{Group}
+use Rattle.ddt_register.specs.declared.register.Register.{Register}
+use Rattle.ddt_check.specs.Assignment.{assignment}
+use Rattle.ddt_check.specs.Says.{says}
+use Rattle.ddt_check.specs.laws.Statements.{IsFinal, FinalAnswersAreTheAssignment, NegativesHoldOfAll}
+use Rattle.ddt_wire.specs.Referral.{Spells, message_of as referral_of}
+use Rattle.ddt_ecm.specs.laws.Statements.{WrittenSpells, message_of}
+use Rattle.ddt_node.specs.Server.{IsDdtRequest}
+use Rattle.ddt_cache.specs.declared.entry.Entry.{Entry}
+use Rattle.ddt_cache.specs.Entry.{is_negative}
+use Rattle.ddt_cache.specs.Moment.{last_moment}
+use Rattle.ddt_resolver.specs.declared.pending.Pending.{Pending}
+use Rattle.ddt_resolver.specs.State.{State, moved, request_bytes, server, patience}
+use Rattle.ddt_resolver.specs.Records.{outcome_at, outcome_of}
+use Rattle.ddt_resolver.specs.TakeUp.{IsTaken}
+use Rattle.ddt_resolver.specs.Step.{Call, Hear}
+use Rattle.ddt_resolver.specs.Order.{IsInOrder}
+use Rattle.ddt_resolver.specs.laws.Order.{order_moved}
+use Rattle.ddt_sim.specs.declared.schedule.Step.{Step}
+use Rattle.ddt_sim.specs.declared.schedule.Event.{Event}
+use Rattle.ddt_sim.specs.declared.schedule.Datagram.{Datagram}
+use Rattle.ddt_sim.specs.Honest.{IsServer, IsHonestReply}
+use Rattle.ddt_sim.specs.Sound.{IsNotRegistered}
+use Rattle.ddt_sim.specs.Waiting.{CanBeAsked}
+use Rattle.ddt_sim.specs.World.{World, Members, MayReply, reply_to, Calls, asked, heard, ticked}
+use Rattle.ddt_sim.specs.History.{Line, Among}
+use Rattle.ddt_sim.specs.Schedules.{IsOpened}
+use Rattle.ddt_sim.specs.InForce.{in_force, SomeSince, most_age}
+use Rattle.ddt_sim.specs.laws.Ticket.{Tickets, IsStill, tickets_still}
+use Rattle.ddt_sim.proofs.ReplyLemmas.{RepliesAreRead}
+use Rattle.ddt_sim.proofs.SentLemmas.{WasAsked, told}
+use Rattle.ddt_sim.proofs.SinceLemmas.{since_map, since_any}
+use Rattle.ddt_sim.proofs.SoundLemmas.{outcome_back}
+use Rattle.ddt_sim.proofs.WaitingLemmas.{spelled_request}
+
+-- a locator is a server's or isn't
+pub server_or_not : (r : Register) (l : Locator) → IsServer r l ⊎ (IsServer r l → ⊥)
+server_or_not r l = by (find (λ (g : Group). lists g.locators l) r.groups) refl
+  where
+    by : (found : Option Group) → find (λ (g : Group). lists g.locators l) r.groups ≡ found → IsServer r l ⊎ (IsServer r l → ⊥)
+    by (Some g) e = inl (g, contained r.groups g (found_in (λ (h : Group). lists h.locators l) r.groups g e), found_passes (λ (h : Group). lists h.locators l) r.groups g e)
+    by None e = inr (λ s. false≢true (sym (unfound (λ (h : Group). lists h.locators l) r.groups s.0 e (in_contained r.groups s.0 s.1)) ∙ s.2))
+
+-- what a run over replaced registers stands on
+pub record HasLaws (servers : Members) (registers : ℕ → Register) : Type 0 where
+  pub honest : (k : ℕ) → k < servers.count → servers.honest k (registers k)
+  pub silent : (k : ℕ) → k < servers.count → servers.silent k (registers k)
+  pub read : (k : ℕ) → k < servers.count → RepliesAreRead (registers k)
+  pub decided : (k : ℕ) → k < servers.count → FinalAnswersAreTheAssignment (registers k)
+  pub negatives : (k : ℕ) → k < servers.count → NegativesHoldOfAll (registers k)
+  pub written : WrittenSpells
+
+-- ---- the invariant
+
+-- The resolver has asked `to` for x with this nonce, for the ticket t at the moment m. A pending lookup whose last request
+-- has this nonce is that one.
+pub record IsAsked (past : List Line) (w : World) (to : Locator) (nonce : ℕ) (x : Xeid) (t m : ℕ) : Type 0 where
+  pub fits : CanBeAsked x w.state.me
+  pub id : IsTrue (is_path (xeid_path x))
+  pub below : nonce < w.state.next
+  pub opened : Among past (IsOpened t)
+  pub before : m ≤ w.moment
+  pub waits : (u : ℕ) (l : Pending) → get w.state.pending u ≡ Some l → l.nonce ≡ nonce → (u ≡ t) × (l.x ≡ x) × (server w.state.me l ≡ to) × (l.deadline ≡ m + patience)
+
+-- at a line, of the moment m or a later one, the register in force says this in a reply of this nonce
+pub record IsSpelled (servers : Members) (registers : ℕ → Register) (source : Locator) (bytes : List ℕ) (nonce : ℕ) (x : Xeid) (m : ℕ) (line : Line) : Type 0 where
+  pub late : m ≤ line.before.moment
+  pub within : line.before.member < servers.count
+  pub is_server : IsServer (in_force registers line) source
+  pub spells : Spells bytes (referral_of nonce (says (in_force registers line) source (xeid_path x)))
+
+-- a datagram is a request, or the reply to one by the servers in force at some line since its ask
+pub data IsSent (servers : Members) (registers : ℕ → Register) (past : List Line) (w : World) (d : Datagram) : Type 0 where
+  asks : (nonce : ℕ) (x : Xeid) (t m : ℕ) → IsAsked past w d.to nonce x t m → d.is_reply ≡ false → d.bytes ≡ request_bytes nonce x w.state.me → IsSent servers registers past w d
+  tells : (nonce : ℕ) (x : Xeid) (t m : ℕ) → IsAsked past w d.source nonce x t m → d.is_reply ≡ true → SomeSince t (IsSpelled servers registers d.source d.bytes nonce x m) past → IsSent servers registers past w d
+
+-- a negative entry is true for a register that was in force at a moment, less than 902,000 milliseconds before its end
+pub record IsYoung (registers : ℕ → Register) (p : List ℕ) (e : Entry) (moment member : ℕ) : Type 0 where
+  pub young : e.end < moment + most_age
+  pub is_true : (y : List ℕ) → IsTrue (is_path y) → IsTrue (covers p y) → assignment (registers member) y ≡ outcome_at e.action p e.servers
+
+abbrev pub WasYoung : (ℕ → Register) → List ℕ → Entry → List Line → World → Type 0
+WasYoung registers p e past w =
+    IsYoung registers p e w.moment w.member ⊎ Among past (λ line. IsYoung registers p e line.before.moment line.before.member)
+
+pub record IsAged (servers : Members) (registers : ℕ → Register) (past : List Line) (w : World) : Type 0 where
+  pub order : IsInOrder w.state
+  pub early : w.moment ≤ last_moment
+  pub time : w.state.known.time ≤ w.moment
+  pub within : w.member < servers.count
+  pub sent : (k : ℕ) (d : Datagram) → slice_get w.sent k ≡ Some d → IsSent servers registers past w d
+  pub fits : (t : ℕ) (l : Pending) → get w.state.pending t ≡ Some l → CanBeAsked l.x w.state.me
+  pub tickets : Tickets past w.state
+  pub entries : (p : List ℕ) (e : Entry) → get w.state.known.live p ≡ Some e → IsTrue (is_negative e.action) → WasYoung registers p e past w
+  pub kept : (t : ℕ) (l : Pending) (rec : ReferralRecord) → get w.state.pending t ≡ Some l → l.kept ≡ Some rec → SomeSince t (λ line. IsNotRegistered (in_force registers line) (xeid_path l.x) rec) past
+
+-- ---- a reply that is taken
+
+-- at a line, of the moment m or a later one, a server says this record of x
+abbrev pub IsSaid : Members → (ℕ → Register) → ReferralRecord → Xeid → ℕ → Line → Type 0
+IsSaid servers registers rec x m line =
+    (m ≤ line.before.moment) × (line.before.member < servers.count) × ((from : Locator) × (rec ≡ says (in_force registers line) from (xeid_path x)))
+
+module _ (servers : Members) (registers : ℕ → Register) (on : HasLaws servers registers) where
+  -- a final record that is said is that of the assignment
+  pub said_final : (rec : ReferralRecord) (x : Xeid) (m : ℕ) (line : Line) → IsSaid servers registers rec x m line → IsFinal rec.action → rec ≡ record_of (assignment (in_force registers line) (xeid_path x))
+  said_final rec x m line h k = h.2.1 ∙ on.decided line.before.member h.1 h.2.0 (xeid_path x) (subst (λ (v : ReferralRecord). IsFinal v.action) h.2.1 k)
+
+  pub said_outcome : (rec : ReferralRecord) (x : Xeid) (m : ℕ) (line : Line) → IsSaid servers registers rec x m line → IsFinal rec.action → outcome_of rec ≡ assignment (in_force registers line) (xeid_path x)
+  said_outcome rec x m line h k = ap outcome_of (said_final rec x m line h k) ∙ outcome_back (assignment (in_force registers line) (xeid_path x))
+
+  module _ (past : List Line) (w : World) (i : IsAged servers registers past w) where
+    abbrev pub s : State
+    s = moved w.moment w.state
+
+    pub order_now : IsInOrder s
+    order_now = order_moved w.state w.moment i.early i.order
+
+    -- the time is the moment
+    pub at_moment : s.known.time ≡ w.moment
+    at_moment = let le = i.time in omega (arith, le)
+
+    pub was_asked : (r : Register) (to : Locator) (nonce : ℕ) (x : Xeid) (t m : ℕ) → IsAsked past w to nonce x t m → IsServer r to → WasAsked r s to nonce x
+    was_asked r to nonce x t m a is_server = record { is_server = is_server; fits = a.fits; id = a.id; below = a.below; waits = λ u l found same. let e = a.waits u l found same in (e.1, e.2) }
+
+    -- a record that is taken was said since the ask, and not before its last request
+    pub heard_since : (step : Step) (call : Call) → Calls w step call → (source : Locator) (bytes : List ℕ) (t : ℕ) (l : Pending) (rec : ReferralRecord) → call ≡ Hear source bytes → IsTaken s source bytes t l rec
+        → (m : ℕ) × (l.deadline ≡ m + patience) × SomeSince t (IsSaid servers registers rec l.x m) past
+    heard_since step call (asked x fits e f) source bytes t l rec is taken = absurd (cc (is, f))
+    heard_since step call (ticked e f) source bytes t l rec is taken = absurd (cc (is, f))
+    heard_since step call (heard k d e found kind f) source bytes t l rec is taken = by (i.sent k d found)
+      where
+        from : source ≡ d.source
+        from = cc (is, f)
+
+        text : bytes ≡ d.bytes
+        text = cc (is, f)
+
+        here : IsTaken s d.source d.bytes t l rec
+        here = subst₂ (λ y z. IsTaken s y z t l rec) from text taken
+
+        by : IsSent servers registers past w d → (m : ℕ) × (l.deadline ≡ m + patience) × SomeSince t (IsSaid servers registers rec l.x m) past
+        by (asks nonce x u m a other bytes_are) = absurd (false≢true (sym other ∙ kind))
+        by (tells nonce x u m a reply since) =
+            let reply_is = here.in_time.from_server.reply in
+            let says_it : (line : Line) → IsSpelled servers registers d.source d.bytes nonce x m line → (l.nonce ≡ nonce) × (rec ≡ says (in_force registers line) d.source (xeid_path x)) =
+            λ line h. told (in_force registers line) (on.read line.before.member h.within) s d.source d.bytes nonce x (was_asked (in_force registers line) d.source nonce x u m a h.is_server) h.spells l.nonce rec reply_is.tells in
+            let any = since_any u (IsSpelled servers registers d.source d.bytes nonce x m) past since in
+            let own = a.waits t l reply_is.is_pending (says_it any.0 any.1).0 in (
+              m,
+              own.3,
+              subst (λ v. SomeSince v (IsSaid servers registers rec l.x m) past) (sym own.0)
+                  (since_map u (IsSpelled servers registers d.source d.bytes nonce x m) (IsSaid servers registers rec l.x m)
+                  (λ line h. (h.late, h.within, (d.source, (says_it line h).1 ∙ ap (λ y. says (in_force registers line) d.source (xeid_path y)) (sym own.1)))) past since),
+            )
+
+    -- ---- one more line
+
+    module _ (step : Step) (event : Event) (new : World) where
+      abbrev pub line : Line
+      line = record { before = w; step = step; event = event; after = new }
+
+      pub young_more : (p : List ℕ) (e : Entry) → WasYoung registers p e past w → WasYoung registers p e (line ∷ past) new
+      young_more p e (inl h) = inr (inl h)
+      young_more p e (inr h) = inr (inr h)
+
+      -- what was asked before
+      pub asked_still : new.state.me ≡ w.state.me → w.state.next ≤ new.state.next → w.moment ≤ new.moment → (to : Locator) (nonce : ℕ) (x : Xeid) (t m : ℕ) → IsAsked past w to nonce x t m
+          → ((u : ℕ) (l : Pending) → get new.state.pending u ≡ Some l → l.nonce ≡ nonce → get w.state.pending u ≡ Some l) → IsAsked (line ∷ past) new to nonce x t m
+      asked_still me more le to nonce x t m a same = record {
+        fits = subst (CanBeAsked x) (sym me) a.fits;
+        id = a.id;
+        below = let b = a.below in omega (arith, b, more);
+        opened = inr a.opened;
+        before = let b = a.before in omega (arith, b, le);
+        waits = λ u l found is. let e = a.waits u l (same u l found is) is in (e.0, e.1, ap (λ own. server own l) me ∙ e.2, e.3);
+      }
+
+      pub sent_still : new.state.me ≡ w.state.me → w.state.next ≤ new.state.next → w.moment ≤ new.moment
+          → ((nonce u : ℕ) (l : Pending) → nonce < w.state.next → get new.state.pending u ≡ Some l → l.nonce ≡ nonce → get w.state.pending u ≡ Some l)
+          → (d : Datagram) → IsSent servers registers past w d → IsSent servers registers (line ∷ past) new d
+      sent_still me more le same d (asks nonce x t m a is bytes) =
+          asks nonce x t m (asked_still me more le d.to nonce x t m a (λ u l. same nonce u l a.below)) is (bytes ∙ ap (request_bytes nonce x) (sym me))
+      sent_still me more le same d (tells nonce x t m a is since) =
+          tells nonce x t m (asked_still me more le d.source nonce x t m a (λ u l. same nonce u l a.below)) is (inr since)
+
+      -- the resolver has no part in it
+      pub rests : IsStill event → new.state ≡ w.state → w.moment ≤ new.moment → new.moment ≤ last_moment → new.member < servers.count
+          → ((k : ℕ) (d : Datagram) → slice_get new.sent k ≡ Some d → IsSent servers registers (line ∷ past) new d) → IsAged servers registers (line ∷ past) new
+      rests still e le early within sent = record {
+        order = subst IsInOrder (sym e) i.order;
+        early = early;
+        time = let same : new.state.known.time ≡ w.state.known.time = ap (λ (z : State). z.known.time) e in let t = i.time in omega (arith, same, t, le);
+        within = within;
+        sent = sent;
+        fits = subst (λ (z : State). (t : ℕ) (l : Pending) → get z.pending t ≡ Some l → CanBeAsked l.x z.me) (sym e) i.fits;
+        tickets = tickets_still past line w.state new.state i.tickets still e;
+        entries = λ p v found neg. young_more p v (i.entries p v (ap (λ (z : State). get z.known.live p) (sym e) ∙ found) neg);
+        kept = λ t l rec found is. inr (i.kept t l rec (ap (λ (z : State). get z.pending t) (sym e) ∙ found) is);
+      }
+
+      pub still_sent : new.state ≡ w.state → w.moment ≤ new.moment → (d : Datagram) → IsSent servers registers past w d → IsSent servers registers (line ∷ past) new d
+      still_sent e le = sent_still (ap (λ (z : State). z.me) e) (let same : new.state.next ≡ w.state.next = ap (λ (z : State). z.next) e in omega (arith, same)) le
+          (λ nonce u l below found is. ap (λ (z : State). get z.pending u) (sym e) ∙ found)
+
+      -- ---- a request that is delivered
+
+      -- it spells one, with its identifier
+      pub spelled : (d : Datagram) → IsSent servers registers past w d → d.is_reply ≡ false
+          → (nonce : ℕ) × (x : Xeid) × (t : ℕ) × (m : ℕ) × IsAsked past w d.to nonce x t m × IsDdtRequest d.bytes (message_of nonce x (w.state.me ∷ []) true)
+      spelled d (tells nonce x t m a is since) kind = absurd (false≢true (sym kind ∙ is))
+      spelled d (asks nonce x t m a is bytes) kind =
+          let below = a.below in let last = i.order.next in
+          let few : nonce < 2 ^ 64 = omega (arith, below, last) in
+          (nonce, x, t, m, a, (subst (λ (b : List ℕ). IsDdtRequest b (message_of nonce x (w.state.me ∷ []) true)) (sym bytes) (spelled_request on.written nonce x w.state.me few a.fits, refl)))
+
+      -- what comes back is a reply of the register in force
+      pub replied : (d : Datagram) (bytes : List ℕ) → IsSent servers registers past w d → d.is_reply ≡ false → MayReply (servers.honest w.member) (servers.silent w.member) d.to d.bytes (Some bytes)
+          → new.state ≡ w.state → w.moment ≤ new.moment → IsSent servers registers (line ∷ past) new (reply_to d bytes)
+      replied d bytes sent kind may e le = elim (server_or_not (registers w.member) d.to) [
+        | inl is_server ↦ by is_server (spelled d sent kind)
+        | inr none ↦ absurd (none-some bytes (sym (may.silently (registers w.member) (on.silent w.member i.within) none)))
+      ]
+        where
+          by : IsServer (registers w.member) d.to → (nonce : ℕ) × (x : Xeid) × (t : ℕ) × (m : ℕ) × IsAsked past w d.to nonce x t m × IsDdtRequest d.bytes (message_of nonce x (w.state.me ∷ []) true)
+              → IsSent servers registers (line ∷ past) new (reply_to d bytes)
+          by is_server q =
+              let a : IsAsked past w d.to q.0 q.1 q.2 q.3 = q.4 in
+              let honest : IsHonestReply (registers w.member) d.to (message_of q.0 q.1 (w.state.me ∷ []) true) (Some bytes) =
+              may.honestly (registers w.member) (message_of q.0 q.1 (w.state.me ∷ []) true) (on.honest w.member i.within) is_server q.5 in
+              tells q.0 q.1 q.2 q.3
+              (asked_still (ap (λ (z : State). z.me) e) (let same : new.state.next ≡ w.state.next = ap (λ (z : State). z.next) e in omega (arith, same)) le d.to q.0 q.1 q.2 q.3 a
+              (λ u l found is. ap (λ (z : State). get z.pending u) (sym e) ∙ found))
+              refl (inl (inr a.opened, record { late = a.before; within = i.within; is_server = is_server; spells = honest }))

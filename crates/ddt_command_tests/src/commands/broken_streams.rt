@@ -1,10 +1,8 @@
 //! Writers without room for what a command has to say, and files that fail at some read.
 
-use super::harness::{Place, Printed, Source, at_start, run_at};
-use ddt_commands::Status;
-use ddt_commands::Status::{Answered, BadWords, Refused, Unprinted};
-use ddt_examples::configurations::EAST;
-use ddt_examples::registers::CAMPUS;
+use super::harness::{Printed, Source, at_start, bind, campus_file, process};
+use ddt_commands::Status::{BadWords, Refused, Unprinted};
+use ddt_commands::{Status, run};
 use ddt_wires::WiresInMemory;
 use std::alloc::Global;
 use std::io;
@@ -12,48 +10,89 @@ use std::io::Write;
 use std::process::Abort;
 use std::test::Fail;
 
-/// A register, and words whose lines or whose refusal have more than eight bytes.
-const LONG: &[(&str, &[&str])] = &[
-    (CAMPUS, &["assign", "register.csv", "[0]10.1.2.3"]),
-    (CAMPUS, &["compile", "register.csv", "root"]),
-    (CAMPUS, &["compile", "register.csv", "west"]),
-    (CAMPUS, &["assign", "missing.csv", "[0]10.1.2.3"]),
-    ("zone", &["assign", "register.csv", "[0]10.1.2.3"]),
-    (CAMPUS, &["lookup", "register.csv", "[0]10.1.2.3"]),
-    (
-        CAMPUS,
-        &[
-            "lookup",
-            "register.csv",
-            "[0]10.1.2.3",
-            "--seed=18446744073709551615",
-        ],
-    ),
-    (
-        CAMPUS,
-        &["lookup", "register.csv", "[0]10.1.2.3", "--seed=x"],
-    ),
+/// Words of each command whose lines have more than eight bytes, and words that are refused by such a line.
+const LONG: &[&[&str]] = &[
+    &["answer", "register.csv", "root", "[0]10.1.2.3"],
+    &["answer", "register.csv", "west", "[0]10.1.2.3"],
+    &["assign", "register.csv", "[0]10.1.2.3"],
+    &["assign", "missing.csv", "[0]10.1.2.3"],
+    &["assign", "zone.csv", "[0]10.1.2.3"],
+    &["check", "register.csv"],
+    &["check", "zone.csv"],
+    &["compile", "register.csv", "root"],
+    &["compile", "register.csv", "west"],
+    &["lookup", "register.csv", "[0]10.1.2.3"],
+    &[
+        "lookup",
+        "register.csv",
+        "[0]10.1.2.3",
+        "--seed=18446744073709551615",
+    ],
+    &["lookup", "register.csv", "[0]10.1.2.3", "--seed=x"],
+    &["loop", "register.csv", "[0]10.1.2.3", "--turns=1"],
+    &["loop", "register.csv", "[0]10.1.2.3", "--me=::1"],
+    &["replay", "register.csv", "steps.replay"],
+    &["replay", "register.csv", "missing.replay"],
+    &["serve", "east.toml", "127.0.1.1", "2"],
+    &["serve", "east.toml", "192.0.2.1", "2"],
+    &[
+        "show",
+        "600000010000000000000001000000000020b800000000010b000001",
+    ],
+    &["show", "0"],
 ];
 
-/// The status of these words over a register, where each writer has room for eight bytes; and what the writers hold.
-fn run_in_eight(
+/// The files of the campus, but that a named one gives so many reads and then fails.
+#[derive(Clone, Copy)]
+struct Failing<'a> {
+    name: &'a str,
+    reads: usize,
+}
+
+impl<'a> Failing<'a> {
+    /// No file fails.
+    fn none() -> Failing<'a> {
+        Failing { name: "", reads: 0 }
+    }
+
+    fn open(&self, path: &str) -> Option<Source<'static>> {
+        match campus_file(path) {
+            Some(Source::Bytes(text)) if path.as_bytes() == self.name.as_bytes() => {
+                Some(Source::Failing(text, self.reads))
+            }
+            file => file,
+        }
+    }
+}
+
+/// The status of these words over these files, where every socket can be bound and no packet comes.
+fn run_over<W: Write, E: Write>(
     alloc: Global,
-    register: &str,
+    files: Failing<'_>,
     words: &[&str],
-) -> Result<(Status, [u8; 8], [u8; 8]), Fail> {
-    let (mut out_room, mut err_room) = ([0; 8], [0; 8]);
-    let (mut out, mut err) = (out_room.as_mut_slice(), err_room.as_mut_slice());
+    out: &mut W,
+    err: &mut E,
+) -> Result<Status, Fail> {
+    let all = process(alloc, words)?;
     let mut wires = WiresInMemory::new(alloc, 0);
-    let place = Place::of_register(register);
-    let status = run_at(
+    let open_file = |path: &str| files.open(path);
+    Ok(run(
         alloc,
-        place,
+        &all,
+        open_file,
         &mut wires,
         &mut at_start(),
-        words,
-        &mut out,
-        &mut err,
-    )?;
+        bind,
+        out,
+        err,
+    ))
+}
+
+/// The status of these words where each writer has room for eight bytes; and what the writers hold.
+fn run_in_eight(alloc: Global, words: &[&str]) -> Result<(Status, [u8; 8], [u8; 8]), Fail> {
+    let (mut out_room, mut err_room) = ([0; 8], [0; 8]);
+    let (mut out, mut err) = (out_room.as_mut_slice(), err_room.as_mut_slice());
+    let status = run_over(alloc, Failing::none(), words, &mut out, &mut err)?;
     Ok((status, out_room, err_room))
 }
 
@@ -77,34 +116,19 @@ impl Write for Short {
     }
 }
 
-/// The status of these words over a register, where one stream has room for so many bytes, and what they hold.
-fn run_in(
-    alloc: Global,
-    register: &str,
-    words: &[&str],
-    room: usize,
-) -> Result<(Status, Short, Short), Fail> {
+/// The status of these words where each stream has room for so many bytes, and what the streams hold.
+fn run_in(alloc: Global, words: &[&str], room: usize) -> Result<(Status, Short, Short), Fail> {
     let (bytes, more) = (Vec::new(alloc), Vec::new(alloc));
     let (mut out, mut err) = (Short { bytes, room }, Short { bytes: more, room });
-    let status = run_at(
-        alloc,
-        Place::of_register(register),
-        &mut WiresInMemory::new(alloc, 0),
-        &mut at_start(),
-        words,
-        &mut out,
-        &mut err,
-    )?;
+    let status = run_over(alloc, Failing::none(), words, &mut out, &mut err)?;
     Ok((status, out, err))
 }
 
-/// What these words print over a register.
-fn printed(alloc: Global, register: &str, words: &[&str]) -> Result<Printed, Fail> {
+/// The status of these words over these files, and what they print.
+fn printed(alloc: Global, files: Failing<'_>, words: &[&str]) -> Result<(Status, Printed), Fail> {
     let mut printed = Printed::nothing(alloc);
-    let place = Place::of_register(register);
-    let mut wires = WiresInMemory::new(alloc, 0);
-    let _status = printed.run(alloc, place, &mut wires, &mut at_start(), words)?;
-    Ok(printed)
+    let status = run_over(alloc, files, words, &mut printed.out, &mut printed.err)?;
+    Ok((status, printed))
 }
 
 /// A stream has just so many bytes of what was to be printed on it, or all where there are fewer.
@@ -117,15 +141,10 @@ fn is_unprinted(rt: &impl Abort, words: &[&str], status: Status) {
 }
 
 /// At each byte the writer may be full.
-fn fails_at_each_byte(
-    rt: &impl Abort,
-    alloc: Global,
-    register: &str,
-    words: &[&str],
-) -> Result<(), Fail> {
-    let whole = printed(alloc, register, words)?;
+fn fails_at_each_byte(rt: &impl Abort, alloc: Global, words: &[&str]) -> Result<(), Fail> {
+    let (_status, whole) = printed(alloc, Failing::none(), words)?;
     for room in 0..whole.out.len().max(whole.err.len()) {
-        let (status, out, err) = run_in(alloc, register, words, room)?;
+        let (status, out, err) = run_in(alloc, words, room)?;
         is_unprinted(rt, words, status);
         has_front(rt, &out, &whole.out, room);
         has_front(rt, &err, &whole.err, room);
@@ -135,53 +154,63 @@ fn fails_at_each_byte(
 
 #[test]
 fn a_writer_may_be_full_at_each_byte(rt: HostRuntime) -> Result<(), Fail> {
-    for &(register, words) in LONG {
-        fails_at_each_byte(&rt, rt.alloc(), register, words)?;
+    for &words in LONG {
+        fails_at_each_byte(&rt, rt.alloc(), words)?;
     }
     Ok(())
 }
 
-/// Words, the name of the file that they read, its text, and the line of a file that can't be read.
-const READING: &[(&[&str], &str, &str, &str)] = &[
+const UNREADABLE: &str = "unreadable 8 Read\n";
+
+/// Words of each command that reads a file, the name of the file that fails, and the line of a file that can't be read.
+const READING: &[(&[&str], &str, &str)] = &[
     (
-        &["check", "register.csv"],
+        &["answer", "register.csv", "root", "[0]10.1.2.3"],
         "register.csv",
-        CAMPUS,
-        "unreadable 8 Read\n",
+        UNREADABLE,
+    ),
+    (
+        &["assign", "register.csv", "[0]10.1.2.3"],
+        "register.csv",
+        UNREADABLE,
+    ),
+    (&["check", "register.csv"], "register.csv", UNREADABLE),
+    (
+        &["compile", "register.csv", "root"],
+        "register.csv",
+        UNREADABLE,
     ),
     (
         &["lookup", "register.csv", "[0]10.1.2.3"],
         "register.csv",
-        CAMPUS,
-        "unreadable 8 Read\n",
+        UNREADABLE,
+    ),
+    (
+        &["loop", "register.csv", "[0]10.1.2.3", "--turns=1"],
+        "register.csv",
+        UNREADABLE,
+    ),
+    (
+        &["replay", "register.csv", "steps.replay"],
+        "register.csv",
+        UNREADABLE,
+    ),
+    (
+        &["replay", "register.csv", "steps.replay"],
+        "steps.replay",
+        "cannot open steps.replay\n",
+    ),
+    (
+        &["replay", "register.csv", "steps.replay", "grown.csv"],
+        "grown.csv",
+        UNREADABLE,
     ),
     (
         &["serve", "east.toml", "127.0.1.1", "1"],
         "east.toml",
-        EAST,
         "cannot open east.toml\n",
     ),
 ];
-
-/// The status of words whose file fails after so many reads, and what they print.
-fn run_reading(
-    alloc: Global,
-    words: &[&str],
-    name: &str,
-    text: &str,
-    reads: usize,
-) -> Result<(Status, Printed), Fail> {
-    let mut printed = Printed::nothing(alloc);
-    let place = Place {
-        name,
-        file: Source::Failing(text.as_bytes(), reads),
-        free: &[],
-        unbound: None,
-    };
-    let mut wires = WiresInMemory::new(alloc, 0);
-    let status = printed.run(alloc, place, &mut wires, &mut at_start(), words)?;
-    Ok((status, printed))
-}
 
 /// Nothing is printed but this line on the error stream.
 fn is_refused(rt: &impl Abort, printed: &Printed, line: &str) {
@@ -197,32 +226,38 @@ fn refused_reads(
     alloc: Global,
     words: &[&str],
     name: &str,
-    text: &str,
     line: &str,
 ) -> Result<usize, Fail> {
-    for reads in 0..100 {
-        match run_reading(alloc, words, name, text, reads)? {
+    for reads in 0..200 {
+        match printed(alloc, Failing { name, reads }, words)? {
             (Refused, printed) => is_refused(rt, &printed, line),
-            (Answered, _printed) => return Ok(reads),
-            _ => return Err("another status".into()),
+            (_answered, _printed) => return Ok(reads),
         }
     }
     Err("a file without an end".into())
 }
 
+/// The length of a file of the campus.
+fn length_of(name: &str) -> usize {
+    match campus_file(name) {
+        Some(Source::Bytes(text)) => text.len(),
+        _ => 0,
+    }
+}
+
 #[test]
 fn a_file_may_fail_at_each_read(rt: HostRuntime) -> Result<(), Fail> {
-    for &(words, name, text, line) in READING {
-        let refused = refused_reads(&rt, rt.alloc(), words, name, text, line)?;
-        assert!(rt; refused > text.len() / 16, "{words:?}");
+    for &(words, name, line) in READING {
+        let refused = refused_reads(&rt, rt.alloc(), words, name, line)?;
+        assert!(rt; refused > length_of(name) / 16, "{words:?}");
     }
     Ok(())
 }
 
 #[test]
 fn what_a_full_writer_refuses_is_unprinted(rt: HostRuntime) -> Result<(), Fail> {
-    for &(register, words) in LONG {
-        let (status, _, _) = run_in_eight(rt.alloc(), register, words)?;
+    for &words in LONG {
+        let (status, _, _) = run_in_eight(rt.alloc(), words)?;
         assert_eq!(rt; status, Unprinted, "the status of {words:?}");
     }
     Ok(())
@@ -230,7 +265,7 @@ fn what_a_full_writer_refuses_is_unprinted(rt: HostRuntime) -> Result<(), Fail> 
 
 #[test]
 fn bad_words_are_bad_though_the_usage_finds_no_room(rt: HostRuntime) -> Result<(), Fail> {
-    let (status, out, err) = run_in_eight(rt.alloc(), CAMPUS, &["serve"])?;
+    let (status, out, err) = run_in_eight(rt.alloc(), &["serve"])?;
     assert_eq!(rt; status, BadWords, "the status of words without a command");
     assert_eq!(rt; out, [0; 8], "what they print");
     assert_eq!(rt; err.as_slice(), b"usage: d".as_slice(), "what found room");

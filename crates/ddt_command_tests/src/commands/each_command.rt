@@ -1,61 +1,52 @@
 //! Each command by its own function: the words are read as its call, and it prints what it answers or why it refuses.
 
-use super::harness::{End, Printed, Source, at_start, compares, process};
+use super::harness::{End, Printed, at_start, bind, campus_file, compares, process};
 use ddt_commands::Status::{Answered, Incomplete, Refused};
 use ddt_commands::{
     Status, read_words, run_answer, run_assign, run_check, run_compile, run_lookup, run_loop,
     run_replay, run_serve, run_show,
 };
-use ddt_examples::configurations::{EAST, ROOT};
-use ddt_examples::registers::CAMPUS;
-use ddt_examples::replays::{INTERLEAVED, INTERLEAVED_LINES};
-use ddt_path::Locator;
+use ddt_examples::configurations::ROOT;
+use ddt_examples::replays::INTERLEAVED_LINES;
 use ddt_wires::WiresInMemory;
 use ddt_words::Words;
 use std::alloc::Global;
-use std::io;
 use std::process::Abort;
 use std::test::Fail;
-
-/// The files that commands find.
-fn file(path: &str) -> Option<Source<'static>> {
-    match path {
-        "register.csv" => Some(Source::Bytes(CAMPUS.as_bytes())),
-        "steps.replay" => Some(Source::Bytes(INTERLEAVED.as_bytes())),
-        "east.toml" => Some(Source::Bytes(EAST.as_bytes())),
-        _ => None,
-    }
-}
-
-/// Each socket can be bound.
-fn bind(_wires: &mut WiresInMemory, _at: Locator) -> io::Result<()> {
-    Ok(())
-}
 
 fn serve(alloc: Global, words: &Words<'_>, printed: &mut Printed) -> Status {
     let mut wires = WiresInMemory::new(alloc, 0);
     let Printed { out, err } = printed;
-    run_serve(alloc, words, file, &mut wires, bind, out, err)
+    run_serve(alloc, words, campus_file, &mut wires, bind, out, err)
 }
 
 fn loops(alloc: Global, words: &Words<'_>, printed: &mut Printed) -> Status {
     let mut wires = WiresInMemory::new(alloc, 0);
     let mut clock = at_start();
     let Printed { out, err } = printed;
-    run_loop(alloc, words, file, &mut wires, &mut clock, bind, out, err)
+    run_loop(
+        alloc,
+        words,
+        campus_file,
+        &mut wires,
+        &mut clock,
+        bind,
+        out,
+        err,
+    )
 }
 
 /// Runs the function of the command that the words call.
 fn run_called(alloc: Global, words: &Words<'_>, printed: &mut Printed) -> Option<Status> {
     let Printed { out, err } = printed;
     match words.command() {
-        "answer" => Some(run_answer(alloc, words, file, out, err)),
-        "assign" => Some(run_assign(alloc, words, file, out, err)),
-        "check" => Some(run_check(alloc, words, file, out, err)),
-        "compile" => Some(run_compile(alloc, words, file, out, err)),
-        "lookup" => Some(run_lookup(alloc, words, file, out, err)),
+        "answer" => Some(run_answer(alloc, words, campus_file, out, err)),
+        "assign" => Some(run_assign(alloc, words, campus_file, out, err)),
+        "check" => Some(run_check(alloc, words, campus_file, out, err)),
+        "compile" => Some(run_compile(alloc, words, campus_file, out, err)),
+        "lookup" => Some(run_lookup(alloc, words, campus_file, out, err)),
         "loop" => Some(loops(alloc, words, printed)),
-        "replay" => Some(run_replay(alloc, words, file, out, err)),
+        "replay" => Some(run_replay(alloc, words, campus_file, out, err)),
         "serve" => Some(serve(alloc, words, printed)),
         "show" => Some(run_show(alloc, words, out, err)),
         _ => None,

@@ -2,6 +2,9 @@
 
 use ddt_cache::Moment;
 use ddt_commands::{Status, run};
+use ddt_examples::configurations::EAST;
+use ddt_examples::registers::{CAMPUS, CAMPUS_GROWN};
+use ddt_examples::replays::INTERLEAVED;
 use ddt_examples::{bytes_of, changed};
 use ddt_loop::{Clock, StandingClock};
 use ddt_path::{Listed, Locator};
@@ -67,6 +70,24 @@ impl<'a> Place<'a> {
             unbound: Some(ErrorKind::AddrInUse),
         }
     }
+}
+
+/// The files of the campus, one of each kind; and a register that can't be read.
+pub fn campus_file(path: &str) -> Option<Source<'static>> {
+    let text = match path {
+        "register.csv" => CAMPUS,
+        "grown.csv" => CAMPUS_GROWN,
+        "zone.csv" => "zone",
+        "steps.replay" => INTERLEAVED,
+        "east.toml" => EAST,
+        _ => return None,
+    };
+    Some(Source::Bytes(text.as_bytes()))
+}
+
+/// Each socket can be bound.
+pub fn bind(_wires: &mut WiresInMemory, _at: Locator) -> io::Result<()> {
+    Ok(())
 }
 
 /// A clock that stands at 0.

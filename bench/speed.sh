@@ -1,37 +1,47 @@
 #!/usr/bin/env bash
-# Prints how long the program takes over a full register, beside nsd-checkzone (Debian: nsd) over a DNS zone of as many
-# records, in one run: bench/speed.sh [SHAPE..]
+# Prints how long the program takes over full registers, beside a plain program in Rust (bench/peer) that gives the same
+# answers, and nsd-checkzone (Debian: nsd) over a DNS zone of as many records: bench/speed.sh [--save] [SHAPE..]
 #
-# First, for each shape of make_register.py (nested, flat, groups and sites where none is named), the time of
-# `ddt check` at 1,000, 8,000 and 65,535 rows, its growth from one size to the next (the rows grow by 8.0 and 8.2), the
-# time of nsd-checkzone, and the ratio. Then, at 65,535 rows, `assign`, `answer` and `compile` of one group as multiples
-# of `check`. Times are milliseconds that passed, the shortest of five runs; the two programs take turns, so that both
-# meet the same load. A ratio above 1 says that the program takes longer than nsd-checkzone.
+# First, for each shape of make_register.py (all where none is named), the time of `ddt check` at 1,000, 8,000 and 65,535
+# rows, its growth from one size to the next (the rows grow by 8.0 and 8.2), the times of the other two, and the ratios:
+# above 1 where `ddt check` takes longer. Then, at 65,535 rows, `assign`, `answer` and `compile` of one group and `lookup`
+# of one identifier as multiples of `check`. Times are milliseconds that passed, the shortest of seven runs on one
+# processor. The programs take turns, so that all meet the same load.
+#
+# --save appends each row's ratios to bench/results/speed.tsv, with the date, the commit and the machine. The last column
+# shows the ratio to the peer that was saved last, so that a loss is seen.
+#
+# Wants cargo, and nsd-checkzone where its columns are to be filled.
 set -eu
 cd -- "$(dirname -- "${BASH_SOURCE[0]}")/.."
 program=$(release/program ddt)
-checkzone=$(PATH=$PATH:/usr/sbin:/sbin command -v nsd-checkzone) || {
-    echo 'speed.sh: nsd-checkzone is missing (Debian: apt-get install nsd)' >&2
-    exit 1
-}
+checkzone=$(PATH=$PATH:/usr/sbin:/sbin command -v nsd-checkzone) || checkzone=''
+saved=bench/results/speed.tsv
+save=''
+if [ "${1-}" = --save ]; then
+    save=yes
+    shift
+fi
 folder=$(mktemp -d)
 trap 'rm -rf -- "$folder"' EXIT
+cargo build --quiet --release --offline --manifest-path bench/peer/Cargo.toml --target-dir "$folder/peer"
+peer=$folder/peer/release/peer
 sizes=(1000 8000 65535)
 shapes=("$@")
-[ $# -gt 0 ] || shapes=(nested flat groups sites)
+[ $# -gt 0 ] || shapes=(nested flat groups sites locators)
 
-# took WORD..: the microseconds that the words run; nothing where they fail.
+# took WORD..: the microseconds that the words run on one processor; nothing where they fail.
 took() {
     local start end
     start=$(date +%s%N)
-    "$@" >/dev/null || return 1
+    taskset -c 1 "$@" >/dev/null || return 1
     end=$(date +%s%N)
     echo $(((end - start) / 1000))
 }
 
-# shown MICROSECONDS: the same in milliseconds.
+# shown MICROSECONDS: the same in milliseconds; a dash for nothing.
 shown() {
-    awk -v a="$1" 'BEGIN { printf "%.1f ms", a / 1000 }'
+    awk -v a="${1:-}" 'BEGIN { if (a == "") printf "-"; else printf "%.1f ms", a / 1000 }'
 }
 
 # lower NAME NUMBER: keeps the lower of both numbers in the variable.
@@ -50,10 +60,25 @@ zone_file() {
     }'
 }
 
+# ratio MICROSECONDS MICROSECONDS: of the first to the second; a dash where one is nothing.
 ratio() {
-    awk -v a="$1" -v b="$2" 'BEGIN { printf "%.2f", a / (b ? b : 1) }'
+    awk -v a="${1:-}" -v b="${2:-}" 'BEGIN { if (a == "" || b == "") printf "-"; else printf "%.2f", a / (b ? b : 1) }'
 }
 
+# saved_last SHAPE ROWS: the ratio to the peer that was saved last.
+saved_last() {
+    [ ! -f "$saved" ] || awk -F'\t' -v s="$1" -v r="$2" '$4 == s && $5 == r { x = $6 } END { print x }' "$saved"
+}
+
+# keep SHAPE ROWS RATIO RATIO: appends the ratios to the peer and to nsd-checkzone.
+keep() {
+    [ -n "$save" ] || return 0
+    mkdir -p -- bench/results
+    [ -f "$saved" ] || printf '#date\tcommit\tmachine\tshape\trows\tof the peer\tof nsd-checkzone\n' >"$saved"
+    printf '%s\t%s\t%s\t%s\t%s\t%s\t%s\n' "$(date -u +%F)" "$(git rev-parse --short HEAD)" "$machine" "$@" >>"$saved"
+}
+
+machine="$(nproc) x $(sed -n 's/^model name[^:]*: //p' /proc/cpuinfo | head -n 1)"
 for rows in "${sizes[@]}"; do
     zone_file "$rows" >"$folder/$rows.zone"
     for shape in "${shapes[@]}"; do
@@ -61,40 +86,43 @@ for rows in "${sizes[@]}"; do
     done
 done
 
-printf '%s processors\n\n' "$(nproc)"
-printf '| shape | rows | check | growth | nsd-checkzone | growth | ratio |\n|---|---|---|---|---|---|---|\n'
+printf '%s\n\n' "$machine"
+printf '| shape | rows | check | growth | peer | of the peer | nsd-checkzone | of nsd-checkzone | saved last |\n'
+printf '|---|---|---|---|---|---|---|---|---|\n'
 for shape in "${shapes[@]}"; do
-    before='' zone_before=''
+    before=''
     for rows in "${sizes[@]}"; do
-        ours='' theirs=''
-        for _ in 1 2 3 4 5; do
+        ours='' plain='' theirs=''
+        for _ in 1 2 3 4 5 6 7; do
             lower ours "$(took "$program" check "$folder/$shape.$rows.csv")"
-            lower theirs "$(took "$checkzone" example "$folder/$rows.zone")"
+            lower plain "$(took "$peer" check "$folder/$shape.$rows.csv")"
+            [ -z "$checkzone" ] || lower theirs "$(took "$checkzone" example "$folder/$rows.zone")"
         done
-        growth=- zone_growth=-
-        if [ -n "$before" ]; then
-            growth=$(ratio "$ours" "$before")
-            zone_growth=$(ratio "$theirs" "$zone_before")
-        fi
-        printf '| %s | %s | %s | %s | %s | %s | %s |\n' "$shape" "$rows" \
-            "$(shown "$ours")" "$growth" "$(shown "$theirs")" "$zone_growth" "$(ratio "$ours" "$theirs")"
-        before=$ours zone_before=$theirs
+        of_peer=$(ratio "$ours" "$plain") of_theirs=$(ratio "$ours" "$theirs")
+        printf '| %s | %s | %s | %s | %s | %s | %s | %s | %s |\n' "$shape" "$rows" "$(shown "$ours")" \
+            "$(ratio "$ours" "$before")" "$(shown "$plain")" "$of_peer" "$(shown "$theirs")" "$of_theirs" \
+            "$(saved_last "$shape" "$rows")"
+        keep "$shape" "$rows" "$of_peer" "$of_theirs"
+        before=$ours
     done
 done
 
-printf '\n| shape | rows | check | assign | answer | compile |\n|---|---|---|---|---|---|\n'
+printf '\n| shape | rows | check | assign | answer | compile | lookup |\n|---|---|---|---|---|---|---|\n'
 rows=${sizes[-1]}
 for shape in "${shapes[@]}"; do
     register=$folder/$shape.$rows.csv
     group=$(awk -F, '$1 == "node" && $2 == "*" { print $3 }' "$register")
-    check='' assign='' answer='' compile=''
-    for _ in 1 2 3; do
+    check='' assign='' answer='' compile='' lookup=''
+    for _ in 1 2 3 4 5 6 7; do
         lower check "$(took "$program" check "$register")"
         lower assign "$(took "$program" assign "$register" '[0]10.1.2.3')"
         lower answer "$(took "$program" answer "$register" "$group" '[0]10.1.2.3')"
         lower compile "$(took "$program" compile "$register" "$group")"
+        lower lookup "$(took "$program" lookup "$register" '[0]10.1.2.3')"
     done
-    printf '| %s | %s | %s | %s (%s) | %s (%s) | %s (%s) |\n' "$shape" "$rows" "$(shown "$check")" \
-        "$(shown "$assign")" "$(ratio "$assign" "$check")" "$(shown "$answer")" "$(ratio "$answer" "$check")" \
-        "$(shown "$compile")" "$(ratio "$compile" "$check")"
+    printf '| %s | %s | %s ' "$shape" "$rows" "$(shown "$check")"
+    for call in "$assign" "$answer" "$compile" "$lookup"; do
+        printf '| %s (%s) ' "$(shown "$call")" "$(ratio "$call" "$check")"
+    done
+    echo '|'
 done

@@ -244,7 +244,7 @@ struct Seen {
     asked: [Option<Locator>; 2],
 }
 
-fn seen(resolver: &mut ListResolver, now: Moment) -> Result<Seen, Fail> {
+fn look_at(resolver: &mut ListResolver, now: Moment) -> Result<Seen, Fail> {
     let pending = resolver.pending();
     let asked = [
         server_asked(resolver, now, SITE)?,
@@ -254,19 +254,19 @@ fn seen(resolver: &mut ListResolver, now: Moment) -> Result<Seen, Fail> {
 }
 
 /// The same after these steps.
-fn seen_after(alloc: Global, steps: &[Step], now: Moment) -> Result<Seen, Fail> {
+fn look_after(alloc: Global, steps: &[Step], now: Moment) -> Result<Seen, Fail> {
     let mut servers = [servers(alloc)?];
     let mut resolver = resolver(alloc)?;
     let _told = run(alloc, &mut servers, &mut resolver, steps)?;
-    seen(&mut resolver, now)
+    look_at(&mut resolver, now)
 }
 
 /// A run that memory stopped left its resolver as it is after some of the first steps.
 fn is_after_some(rt: &impl Abort, alloc: Global, resolver: &mut ListResolver) -> Result<(), Fail> {
     let (steps, now) = (schedule(), resolver.time());
-    let left = seen(resolver, now)?;
+    let left = look_at(resolver, now)?;
     for count in 0..=steps.len() {
-        if seen_after(alloc, &steps[..count], now)? == left {
+        if look_after(alloc, &steps[..count], now)? == left {
             return Ok(());
         }
     }

@@ -1,17 +1,25 @@
-//! Memory is refused to what groups answer and to the words of a process: an answer comes whole or not at all, and the
-//! next call gives it.
+//! Memory is refused to what groups answer, to the words of a process and to lines: each comes whole or not at all, and
+//! the next call gives it.
 //!
 //! `.ci/memory` runs each of these tests with each growth refused in turn.
 
+use crate::words::COMMANDS;
 use ddt_check::{Accepted, check};
 use ddt_commands::{answer_group, answer_hex, read_words};
+use ddt_ecm::read_request;
 use ddt_examples::bytes_of;
-use ddt_examples::messages::EAST_ACKNOWLEDGES;
+use ddt_examples::messages::{
+    DDT_REQUEST, EAST_ACKNOWLEDGES, NEGATIVE_REPLY, TEN_IS_NOT_IN_CHARGE,
+};
 use ddt_examples::registers::CAMPUS;
-use ddt_path::{Name, Xeid};
+use ddt_lines::{
+    accepted_line, hop_line, negative_reply_line, outcome_line, referral_line, request_line,
+};
+use ddt_path::{Locator, LocatorSet, Name, Outcome, Xeid};
 use ddt_register::read_register;
-use ddt_text::parse_xeid;
-use ddt_words::{Words, WordsFault};
+use ddt_text::{parse_prefix, parse_xeid};
+use ddt_wire::{read_negative_reply, read_referral};
+use ddt_words::{Words, WordsFault, read_call};
 use std::alloc::{AllocError, Global};
 use std::process::Abort;
 use std::test::Fail;
@@ -115,48 +123,264 @@ fn made(alloc: Global, words: &[&str]) -> Result<Vec<String>, AllocError> {
     }
 }
 
-/// The call, read once more where memory is refused, of which it tells no other fault.
-fn call<'a>(rt: &impl Abort, alloc: Global, words: &'a [String]) -> Result<Words<'a>, Fail> {
-    match read_words(alloc, words) {
-        Ok(call) => Ok(call),
-        Err(fault) => {
-            assert_eq!(rt; fault, WordsFault::Memory);
-            Ok(read_words(alloc, words)?)
-        }
+/// Reads words.
+#[derive(Clone, Copy, Debug)]
+enum Reader {
+    /// By the nine commands.
+    Nine,
+    /// By two commands of our own.
+    Two,
+}
+
+fn read_by<'a>(
+    reader: Reader,
+    alloc: Global,
+    words: &'a [String],
+) -> Result<Words<'a>, WordsFault> {
+    match reader {
+        Reader::Nine => read_words(alloc, words),
+        Reader::Two => read_call(alloc, COMMANDS, words),
     }
 }
 
-/// The words call this command with that register.
-fn calls(rt: &impl Abort, alloc: Global, words: &[&str]) -> Result<(), Fail> {
-    let all = made(alloc, words)?;
-    let call = call(rt, alloc, &all)?;
-    assert_eq!(rt; Some(&call.command()), words.first());
-    assert_eq!(rt; call.value("register"), "r");
+/// The call, read once more where memory is refused, of which it tells no other fault.
+fn call<'a>(
+    rt: &impl Abort,
+    alloc: Global,
+    reader: Reader,
+    words: &'a [String],
+) -> Result<Words<'a>, Fail> {
+    match read_by(reader, alloc, words) {
+        Ok(call) => Ok(call),
+        Err(fault) => {
+            assert_eq!(rt; fault, WordsFault::Memory);
+            Ok(read_by(reader, alloc, words)?)
+        },
+    }
+}
+
+/// Words that call a command: what is asked of the call, with all values behind it.
+struct Wanted {
+    reader: Reader,
+    words: &'static [&'static str],
+    values: &'static [(&'static str, &'static str)],
+    several: &'static [(&'static str, &'static [&'static str])],
+    settings: &'static [(&'static str, Option<&'static str>)],
+}
+
+fn have_values(rt: &impl Abort, call: &Words<'_>, values: &[(&str, &str)]) {
+    for (name, value) in values {
+        assert_eq!(rt; call.value(name), *value, "{name}");
+    }
+}
+
+fn have_several(rt: &impl Abort, call: &Words<'_>, several: &[(&str, &[&str])]) {
+    for (name, words) in several {
+        assert_eq!(rt; call.all_values(name), Some(*words), "{name}");
+    }
+}
+
+fn have_settings(rt: &impl Abort, call: &Words<'_>, settings: &[(&str, Option<&str>)]) {
+    for (name, setting) in settings {
+        assert_eq!(rt; call.setting(name), *setting, "{name}");
+    }
+}
+
+/// The call has just these words.
+fn is_called(rt: &impl Abort, call: &Words<'_>, called: &Wanted) {
+    assert_eq!(rt; Some(&call.command()), called.words.first());
+    have_values(rt, call, called.values);
+    have_several(rt, call, called.several);
+    have_settings(rt, call, called.settings);
+}
+
+fn calls(rt: &impl Abort, alloc: Global, called: &Wanted) -> Result<(), Fail> {
+    let all = made(alloc, called.words)?;
+    let call = call(rt, alloc, called.reader, &all)?;
+    is_called(rt, &call, called);
     Ok(())
 }
 
 /// Words that call commands.
-const CALLED: &[&[&str]] = &[
-    &["check", "r"],
-    &["answer", "r", "g", "x"],
-    &[
-        "loop",
-        "r",
-        "--turns=9",
-        "x",
-        "y",
-        "--me",
-        "m",
-        "--seed",
-        "s",
-    ],
-    &["replay", "--me=m", "r", "t"],
+const CALLED: &[Wanted] = &[
+    Wanted {
+        reader: Reader::Nine,
+        words: &["check", "r"],
+        values: &[("register", "r"), ("group", "")],
+        several: &[("register", &["r"])],
+        settings: &[],
+    },
+    Wanted {
+        reader: Reader::Nine,
+        words: &["answer", "r", "g", "x"],
+        values: &[("register", "r"), ("group", "g"), ("xeid", "x")],
+        several: &[("register", &["r"]), ("group", &["g"]), ("xeid", &["x"])],
+        settings: &[],
+    },
+    Wanted {
+        reader: Reader::Nine,
+        words: &[
+            "loop",
+            "r",
+            "--turns=9",
+            "x",
+            "y",
+            "--me",
+            "m",
+            "--seed",
+            "s",
+        ],
+        values: &[("register", "r")],
+        several: &[("register", &["r"]), ("xeid", &["x", "y"])],
+        settings: &[("turns", Some("9")), ("me", Some("m")), ("seed", Some("s"))],
+    },
+    Wanted {
+        reader: Reader::Nine,
+        words: &["replay", "--me=m", "r", "t", "u", "v", "w"],
+        values: &[("register", "r"), ("script", "t")],
+        several: &[
+            ("register", &["r"]),
+            ("script", &["t"]),
+            ("registers", &["u", "v", "w"]),
+        ],
+        settings: &[("me", Some("m")), ("seed", None)],
+    },
+    Wanted {
+        reader: Reader::Two,
+        words: &["lookup", "--seed", "7", "r", "x", "y", "z"],
+        values: &[("register", "r")],
+        several: &[("register", &["r"]), ("xeid", &["x", "y", "z"])],
+        settings: &[("seed", Some("7")), ("me", None)],
+    },
+    Wanted {
+        reader: Reader::Two,
+        words: &["assign", "r", "x"],
+        values: &[("register", "r"), ("xeid", "x")],
+        several: &[("xeid", &["x"])],
+        settings: &[],
+    },
 ];
 
 #[test]
 fn words_are_read_whole(rt: HostRuntime) -> Result<(), Fail> {
-    for &words in CALLED {
-        calls(&rt, rt.alloc(), words)?;
+    for called in CALLED {
+        calls(&rt, rt.alloc(), called)?;
+    }
+    Ok(())
+}
+
+// ---- lines
+
+/// What a line tells.
+#[derive(Clone, Copy, Debug)]
+enum Tells {
+    /// An outcome, by its word.
+    Outcome(&'static str),
+    /// A Map-Referral, a hop to 127.0.0.1 with one, a negative Map-Reply or a request, with these bytes.
+    Referral,
+    Hop,
+    Reply,
+    Request,
+    /// The counts of a register.
+    Counts(usize, usize, usize),
+}
+
+const ROOT: Locator = Locator::V4(0x7f00_0001);
+
+/// An outcome of the prefix 10.1.2.0/24, with two servers; by a hole's word, of the prefix alone.
+fn outcome(word: &str) -> Result<Outcome, Fail> {
+    let prefix = parse_prefix(b"[0]10.1.2.0/24")?;
+    let servers = LocatorSet::of(&[ROOT, Locator::V6(0x35)]).ok_or("too many locators")?;
+    Ok(match word {
+        "hole" => Outcome::Hole { prefix },
+        "registered" => Outcome::Registered { prefix, servers },
+        _ => Outcome::NotRegistered { prefix, servers },
+    })
+}
+
+/// The line of a message with these bytes, or of what else is told.
+fn line(alloc: Global, tells: &Tells, bytes: &[u8]) -> Result<Result<Vec<u8>, AllocError>, Fail> {
+    Ok(match tells {
+        Tells::Outcome(word) => outcome_line(alloc, &outcome(word)?),
+        Tells::Referral => referral_line(alloc, &read_referral(bytes)?),
+        Tells::Hop => hop_line(alloc, ROOT, &read_referral(bytes)?),
+        Tells::Reply => negative_reply_line(alloc, read_negative_reply(bytes)?),
+        Tells::Request => request_line(alloc, &read_request(bytes)?),
+        Tells::Counts(zones, sites, groups) => accepted_line(alloc, *zones, *sites, *groups),
+    })
+}
+
+/// The same, made once more where memory is refused.
+fn whole_line(alloc: Global, tells: &Tells, bytes: &[u8]) -> Result<Vec<u8>, Fail> {
+    match line(alloc, tells, bytes)? {
+        Ok(line) => Ok(line),
+        Err(_refused) => Ok(line(alloc, tells, bytes)??),
+    }
+}
+
+/// What is told has this line, without its line feed.
+fn has_line(
+    rt: &impl Abort,
+    alloc: Global,
+    tells: &Tells,
+    fields: &str,
+    wanted: &str,
+) -> Result<(), Fail> {
+    let bytes = message(alloc, fields)?;
+    let line = whole_line(alloc, tells, &bytes)?;
+    assert_eq!(rt; line.strip_suffix(b"\n"), Some(wanted.as_bytes()));
+    Ok(())
+}
+
+/// Messages, and their lines.
+const LINES: &[(Tells, &str, &str)] = &[
+    (
+        Tells::Referral,
+        EAST_ACKNOWLEDGES,
+        "referral nonce 0000000000000001 MS-ACK [0]10.1.2.0/24 ttl 1440 complete 127.0.1.1 127.0.1.2",
+    ),
+    (
+        Tells::Referral,
+        TEN_IS_NOT_IN_CHARGE,
+        "referral nonce 0000000000000001 NOT-AUTHORITATIVE [0]11.0.0.1/32 ttl 0 incomplete",
+    ),
+    (
+        Tells::Hop,
+        EAST_ACKNOWLEDGES,
+        "127.0.0.1 MS-ACK [0]10.1.2.0/24 1440 127.0.1.1 127.0.1.2",
+    ),
+    (
+        Tells::Reply,
+        NEGATIVE_REPLY,
+        "negative nonce 1122334455667788 [0]10.2.0.0/15 ttl 15",
+    ),
+    (
+        Tells::Request,
+        DDT_REQUEST,
+        "request nonce 0000000000000001 ddt [0]10.1.2.3 port 4342 itr 127.0.0.53",
+    ),
+    (Tells::Outcome("hole"), "", "hole [0]10.1.2.0/24"),
+    (
+        Tells::Outcome("registered"),
+        "",
+        "registered [0]10.1.2.0/24 127.0.0.1 ::35",
+    ),
+    (
+        Tells::Outcome("not-registered"),
+        "",
+        "not-registered [0]10.1.2.0/24 127.0.0.1 ::35",
+    ),
+    (
+        Tells::Counts(3, 20, 100),
+        "",
+        "accepted 3 zones 20 sites 100 groups",
+    ),
+];
+
+#[test]
+fn lines_are_written_whole(rt: HostRuntime) -> Result<(), Fail> {
+    for (tells, fields, wanted) in LINES {
+        has_line(&rt, rt.alloc(), tells, fields, wanted)?;
     }
     Ok(())
 }

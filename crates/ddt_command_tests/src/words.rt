@@ -5,7 +5,7 @@ use ddt_words::{Argument, Declaration, Words, WordsFault, read_call};
 use std::alloc::{AllocError, Global};
 use std::test::Fail;
 
-const COMMANDS: &[Declaration<'static>] = &[
+pub const COMMANDS: &[Declaration<'static>] = &[
     Declaration {
         name: "assign",
         arguments: &[Argument::One("register"), Argument::One("xeid")],

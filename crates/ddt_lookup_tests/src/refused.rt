@@ -3,19 +3,21 @@
 //!
 //! `.ci/memory` runs each of these tests with each growth refused in turn.
 
+use crate::sim::schedules::{A_ZONE_COMES_AND_GOES, Lines, SIDE_BY_SIDE, step_of};
 use crate::texts::{identifier, locator, prefix};
 use crate::turns::loopback::Loopback;
 use crate::worlds::{ListResolver, ListServers, ME, moment};
 use ddt_cache::Moment;
 use ddt_check::{Accepted, check};
+use ddt_ecm::read_request;
 use ddt_examples::bytes_of;
 use ddt_examples::messages::{DDT_REQUEST, ROOT_REFERS_TO_TEN};
-use ddt_examples::registers::CAMPUS;
+use ddt_examples::registers::{CAMPUS, CAMPUS_GROWN};
 use ddt_loop::{LoopEnd, SteppingClock, loop_turns};
 use ddt_path::{Listed, Locator, LocatorSet, Outcome, Xeid};
 use ddt_register::read_register;
-use ddt_resolver::{AskError, Asked, Resolver};
-use ddt_sim::{Compiled, LookupError, Servers, Step, lookup, run};
+use ddt_resolver::{AskError, Asked, Heard, Ignored, Resolver, Ticked, Why};
+use ddt_sim::{Compiled, Event, Hop, Lookup, LookupError, Servers, Step, Transcript, lookup, run};
 use std::alloc::{AllocError, Global};
 use std::process::Abort;
 use std::test::Fail;
@@ -27,11 +29,11 @@ const ROOT: Locator = Locator::V4(0x7f00_0001);
 /// Where no server is.
 const NOWHERE: Locator = Locator::V4(0x7f00_0009);
 
-/// The campus, read once more where memory is refused, and accepted.
-fn campus(alloc: Global) -> Result<Accepted, Fail> {
-    let register = match read_register(alloc, CAMPUS.as_bytes()) {
+/// The register of a text, read once more where memory is refused, and accepted.
+fn accepted(alloc: Global, text: &str) -> Result<Accepted, Fail> {
+    let register = match read_register(alloc, text.as_bytes()) {
         Ok(register) => register,
-        Err(_refused) => read_register(alloc, CAMPUS.as_bytes())?,
+        Err(_refused) => read_register(alloc, text.as_bytes())?,
     };
     match check(register) {
         Ok(accepted) => Ok(accepted),
@@ -40,8 +42,8 @@ fn campus(alloc: Global) -> Result<Accepted, Fail> {
 }
 
 /// Its servers, built once more where memory is refused.
-fn servers(alloc: Global) -> Result<ListServers, Fail> {
-    let register = campus(alloc)?;
+fn servers(alloc: Global, text: &str) -> Result<ListServers, Fail> {
+    let register = accepted(alloc, text)?;
     match Compiled::build(alloc, &register) {
         Ok(servers) => Ok(servers),
         Err(_refused) => Ok(Compiled::build(alloc, &register)?),
@@ -109,7 +111,7 @@ fn is_reply(rt: &impl Abort, reply: &Option<Listed<u8>>, wanted: &[u8]) {
 
 #[test]
 fn a_server_answers_whole(rt: HostRuntime) -> Result<(), Fail> {
-    let mut servers = servers(rt.alloc())?;
+    let mut servers = servers(rt.alloc(), CAMPUS)?;
     let request = message(rt.alloc(), DDT_REQUEST)?;
     let wanted = message(rt.alloc(), ROOT_REFERS_TO_TEN)?;
     is_reply(
@@ -124,24 +126,93 @@ fn a_server_answers_whole(rt: HostRuntime) -> Result<(), Fail> {
 
 // ---- lookups
 
-/// The outcome of a lookup, looked up once more where memory is refused: then no more is pending than before.
-fn looked_up(
+/// What a new lookup of an identifier is answered, asked for once more where memory is refused.
+fn asked(resolver: &mut ListResolver, now: Moment, text: &str) -> Result<Asked, Fail> {
+    let x = identifier(text)?;
+    match resolver.ask(now, x) {
+        Err(AskError::Memory) => Ok(resolver.ask(now, x)?),
+        asked => Ok(asked?),
+    }
+}
+
+/// The nonce of a new lookup, which stays pending, of an identifier that nothing is known of.
+fn next_nonce(resolver: &mut ListResolver) -> Result<u64, Fail> {
+    let now = resolver.time();
+    match &asked(resolver, now, "[0]11.0.0.1")? {
+        Asked::Sent(ticket, _request) => Ok(ticket.number()),
+        Asked::Answer(_outcome) => Err("an answer at once".into()),
+    }
+}
+
+/// A hop asks for the identifier under this nonce, and has the reply of its server.
+fn is_hop(
+    rt: &impl Abort,
+    alloc: Global,
+    servers: &mut ListServers,
+    x: Xeid,
+    hop: &Hop,
+    nonce: u64,
+) -> Result<(), Fail> {
+    let request = read_request(hop.request.as_slice())?;
+    assert_eq!(rt; (request.nonce(), request.xeid()), (nonce, x));
+    let reply = answered(alloc, servers, hop.to, hop.request.as_slice())?;
+    is_reply(rt, &reply, hop.reply.as_slice());
+    Ok(())
+}
+
+/// The hops have the nonces behind this one, and no other was used.
+fn are_all(
+    rt: &impl Abort,
+    alloc: Global,
+    servers: &mut ListServers,
+    x: Xeid,
+    hops: &[Hop],
+    nonces: (u64, u64),
+) -> Result<(), Fail> {
+    let mut nonce = nonces.0;
+    for hop in hops {
+        nonce = nonce.saturating_add(1);
+        is_hop(rt, alloc, servers, x, hop, nonce)?;
+    }
+    assert_eq!(rt; nonce.saturating_add(1), nonces.1);
+    Ok(())
+}
+
+fn is_outcome(rt: &impl Abort, outcome: &Outcome, text: &str) -> Result<(), Fail> {
+    assert_eq!(rt; *outcome, assigned(text)?);
+    Ok(())
+}
+
+/// A lookup of an identifier gives what is assigned and each of its hops; how it failed, where memory is refused.
+fn looks_up(
     rt: &impl Abort,
     alloc: Global,
     servers: &mut ListServers,
     resolver: &mut ListResolver,
-    x: Xeid,
-) -> Result<Outcome, LookupError> {
-    let (now, before) = (resolver.time(), resolver.pending());
-    match lookup(alloc, servers, resolver, now, x) {
-        Ok(found) => Ok(found.outcome),
-        Err(why) => {
-            assert_eq!(rt; (why, resolver.pending()), (LookupError::Memory, before));
-            Ok(lookup(alloc, servers, resolver, now, x)?.outcome)
-        }
-    }
+    text: &str,
+) -> Result<Option<LookupError>, Fail> {
+    let x = identifier(text)?;
+    let first = next_nonce(resolver)?;
+    let now = resolver.time();
+    let found: Lookup = match lookup(alloc, servers, resolver, now, x) {
+        Ok(found) => found,
+        Err(why) => return Ok(Some(why)),
+    };
+    is_outcome(rt, &found.outcome, text)?;
+    let next = next_nonce(resolver)?;
+    are_all(rt, alloc, servers, x, found.hops.as_slice(), (first, next))?;
+    Ok(None)
 }
 
+/// The lookup was refused memory, and it isn't pending; the one whose nonce was looked at before it is.
+fn is_undone(rt: &impl Abort, why: LookupError, resolver: &ListResolver, before: usize) {
+    assert_eq!(rt;
+        (why, resolver.pending()),
+        (LookupError::Memory, before.saturating_add(1))
+    );
+}
+
+/// A lookup, looked up once more where memory is refused: then no more is pending than before.
 fn is_found(
     rt: &impl Abort,
     alloc: Global,
@@ -149,14 +220,20 @@ fn is_found(
     resolver: &mut ListResolver,
     text: &str,
 ) -> Result<(), Fail> {
-    let outcome = looked_up(rt, alloc, servers, resolver, identifier(text)?)?;
-    assert_eq!(rt; outcome, assigned(text)?);
-    Ok(())
+    let before = resolver.pending();
+    let Some(why) = looks_up(rt, alloc, servers, resolver, text)? else {
+        return Ok(());
+    };
+    is_undone(rt, why, resolver, before);
+    match looks_up(rt, alloc, servers, resolver, text)? {
+        None => Ok(()),
+        Some(why) => Err(why.into()),
+    }
 }
 
 #[test]
 fn a_lookup_gives_its_outcome(rt: HostRuntime) -> Result<(), Fail> {
-    let mut servers = servers(rt.alloc())?;
+    let mut servers = servers(rt.alloc(), CAMPUS)?;
     let mut resolver = resolver(rt.alloc())?;
     for text in [SITE, HOLE] {
         is_found(&rt, rt.alloc(), &mut servers, &mut resolver, text)?;
@@ -166,82 +243,151 @@ fn a_lookup_gives_its_outcome(rt: HostRuntime) -> Result<(), Fail> {
 
 // ---- schedules
 
-const fn ask(address: u32) -> Step {
-    Step::Ask(Xeid {
-        iid: 0,
-        address: Locator::V4(address),
+/// The texts of two registers.
+type Registers = [&'static str; 2];
+
+const CAMPUS_ALONE: Registers = [CAMPUS, CAMPUS];
+
+const CAMPUS_GROWS: Registers = [CAMPUS, CAMPUS_GROWN];
+
+/// The servers of two registers, of which the first are in force at first, and a resolver.
+#[derive(Drop)]
+struct Stage {
+    members: [ListServers; 2],
+    resolver: ListResolver,
+}
+
+fn new_stage(alloc: Global, registers: &Registers) -> Result<Stage, Fail> {
+    Ok(Stage {
+        members: [servers(alloc, registers[0])?, servers(alloc, registers[1])?],
+        resolver: resolver(alloc)?,
     })
 }
 
-/// Two lookups, whose datagrams come out of order, late and twice.
-fn schedule() -> [Step; 22] {
-    [
-        ask(0x0a01_0203),
-        ask(0x0a02_0001),
-        Step::Deliver(0),
-        Step::Deliver(1),
-        Step::Deliver(3),
-        Step::Deliver(2),
-        Step::Deliver(2),
-        Step::Deliver(4),
-        Step::Deliver(6),
-        Step::Deliver(6),
-        Step::Pass(2_000),
-        Step::Deliver(5),
-        Step::Deliver(7),
-        Step::Tick,
-        Step::Deliver(7),
-        Step::Tick,
-        Step::Deliver(8),
-        Step::Deliver(9),
-        Step::Deliver(10),
-        Step::Deliver(11),
-        ask(0x0a02_0505),
-        Step::Deliver(99),
-    ]
+/// An empty list with room for so many steps, made once more where memory is refused.
+fn room(alloc: Global, count: usize) -> Result<Vec<Step>, AllocError> {
+    match Vec::with_capacity(alloc, count) {
+        Ok(room) => Ok(room),
+        Err(_refused) => Vec::with_capacity(alloc, count),
+    }
 }
 
-/// Whether a run of the schedule ends: then each step has its event, and 12 datagrams are sent. Refused memory it tells
-/// nothing.
-fn runs(
-    rt: &impl Abort,
+/// The steps of these lines.
+fn steps(alloc: Global, lines: Lines) -> Result<Vec<Step>, Fail> {
+    let mut steps = room(alloc, lines.len())?;
+    for (act, _told) in lines {
+        steps.push(step_of(*act)?)?;
+    }
+    Ok(steps)
+}
+
+/// What an event tells, without bytes. A lookup goes by its ticket, an answer at once by 0.
+#[derive(Clone, Copy, Debug, PartialEq)]
+enum Told {
+    Asks(u64, Locator),
+    Answer(u64, Outcome),
+    GaveUp(u64, Why),
+    Ignored(Ignored),
+    Refused(AskError),
+    Replied(u64),
+    Silent,
+    Passed(Moment),
+    Replaced(u64),
+    Nothing,
+}
+
+fn tells(event: &Event) -> Told {
+    match event {
+        Event::Asked(asked) => asked_tells(asked),
+        Event::Refused(why) => Told::Refused(*why),
+        Event::Replied(number) => Told::Replied(*number),
+        Event::Silent => Told::Silent,
+        Event::Heard(heard) => heard_tells(heard),
+        Event::Passed(moment) => Told::Passed(*moment),
+        Event::Ticked(ticked) => ticked_tells(ticked),
+        Event::Replaced(number) => Told::Replaced(*number),
+        Event::Nothing => Told::Nothing,
+    }
+}
+
+fn asked_tells(asked: &Asked) -> Told {
+    match asked {
+        Asked::Sent(ticket, request) => Told::Asks(ticket.number(), request.to),
+        Asked::Answer(outcome) => Told::Answer(0, *outcome),
+    }
+}
+
+fn heard_tells(heard: &Heard) -> Told {
+    match heard {
+        Heard::Ignored(why) => Told::Ignored(*why),
+        Heard::Followed(ticket, request) => Told::Asks(ticket.number(), request.to),
+        Heard::Answer(ticket, outcome) => Told::Answer(ticket.number(), *outcome),
+        Heard::GaveUp(ticket, why) => Told::GaveUp(ticket.number(), *why),
+    }
+}
+
+fn ticked_tells(ticked: &Ticked) -> Told {
+    match ticked {
+        Ticked::Nothing => Told::Nothing,
+        Ticked::Sent(ticket, request) => Told::Asks(ticket.number(), request.to),
+        Ticked::Answer(ticket, outcome) => Told::Answer(ticket.number(), *outcome),
+        Ticked::GaveUp(ticket, why) => Told::GaveUp(ticket.number(), *why),
+    }
+}
+
+fn is_alike(rt: &impl Abort, one: &Event, other: &Event) {
+    assert_eq!(rt; tells(one), tells(other));
+}
+
+fn are_alike(rt: &impl Abort, one: &[Event], other: &[Event]) {
+    assert_eq!(rt; one.len(), other.len());
+    for (event, wanted) in one.iter().zip(other) {
+        is_alike(rt, event, wanted);
+    }
+}
+
+/// What a run of these steps on a new stage tells.
+fn runs_anew(
     alloc: Global,
-    servers: &mut [ListServers; 1],
-    resolver: &mut ListResolver,
-) -> bool {
-    let steps = schedule();
-    let Ok(told) = run(alloc, servers, resolver, &steps) else {
-        return false;
-    };
-    let (events, sent) = (told.events.as_slice().len(), told.sent.as_slice().len());
-    assert_eq!(rt; (events, sent), (steps.len(), 12));
-    true
+    registers: &Registers,
+    steps: &[Step],
+) -> Result<Result<Transcript, AllocError>, Fail> {
+    let mut stage = new_stage(alloc, registers)?;
+    Ok(run(alloc, &mut stage.members, &mut stage.resolver, steps))
 }
 
-/// The server that a new lookup of an identifier asks, once more where memory is refused; None where it is answered at
-/// once.
+/// The same, once more where memory is refused.
+fn wanted(alloc: Global, registers: &Registers, steps: &[Step]) -> Result<Transcript, Fail> {
+    match runs_anew(alloc, registers, steps)? {
+        Ok(told) => Ok(told),
+        Err(_refused) => Ok(runs_anew(alloc, registers, steps)??),
+    }
+}
+
+/// A run on a new stage tells the same, and sends as many datagrams.
+fn is_whole(rt: &impl Abort, told: &Transcript, wanted: &Transcript) {
+    assert_eq!(rt; told.sent.as_slice().len(), wanted.sent.as_slice().len());
+    are_alike(rt, told.events.as_slice(), wanted.events.as_slice());
+}
+
+/// The nonce of a new lookup of an identifier and the server that it asks; None where it is answered at once.
 fn server_asked(
     resolver: &mut ListResolver,
     now: Moment,
     text: &str,
-) -> Result<Option<Locator>, Fail> {
-    let x = identifier(text)?;
-    let asked = match resolver.ask(now, x) {
-        Err(AskError::Memory) => resolver.ask(now, x),
-        asked => asked,
-    };
-    match &asked? {
-        Asked::Sent(_ticket, sent) => Ok(Some(sent.to)),
+) -> Result<Option<(u64, Locator)>, Fail> {
+    match &asked(resolver, now, text)? {
+        Asked::Sent(ticket, sent) => Ok(Some((ticket.number(), sent.to))),
         Asked::Answer(_outcome) => Ok(None),
     }
 }
 
-/// What can be seen of a resolver: how many lookups are pending, and which servers new ones of the schedule's
-/// identifiers ask.
+/// What can be seen of a resolver: how many lookups are pending, and of new ones of two identifiers the nonces and the
+/// servers that they ask.
 #[derive(Clone, Copy, Debug, PartialEq)]
 struct Seen {
     pending: usize,
-    asked: [Option<Locator>; 2],
+    asked: [Option<(u64, Locator)>; 2],
 }
 
 fn look_at(resolver: &mut ListResolver, now: Moment) -> Result<Seen, Fail> {
@@ -253,34 +399,79 @@ fn look_at(resolver: &mut ListResolver, now: Moment) -> Result<Seen, Fail> {
     Ok(Seen { pending, asked })
 }
 
-/// The same after these steps.
-fn look_after(alloc: Global, steps: &[Step], now: Moment) -> Result<Seen, Fail> {
-    let mut servers = [servers(alloc)?];
-    let mut resolver = resolver(alloc)?;
-    let _told = run(alloc, &mut servers, &mut resolver, steps)?;
-    look_at(&mut resolver, now)
+/// Whether another resolver is the same after these steps.
+fn is_after(
+    alloc: Global,
+    stage: &Stage,
+    other: &mut Stage,
+    left: &Seen,
+    first: &[Step],
+) -> Result<bool, Fail> {
+    let now = stage.resolver.time();
+    let _told = run(alloc, &mut other.members, &mut other.resolver, first)?;
+    Ok(look_at(&mut other.resolver, now)? == *left)
 }
 
-/// A run that memory stopped left its resolver as it is after some of the first steps.
-fn is_after_some(rt: &impl Abort, alloc: Global, resolver: &mut ListResolver) -> Result<(), Fail> {
-    let (steps, now) = (schedule(), resolver.time());
-    let left = look_at(resolver, now)?;
-    for count in 0..=steps.len() {
-        if look_after(alloc, &steps[..count], now)? == left {
-            return Ok(());
-        }
-    }
-    lost(rt, left);
+/// The same steps bring the same on two stages.
+fn go_on_alike(
+    rt: &impl Abort,
+    alloc: Global,
+    one: &mut Stage,
+    other: &mut Stage,
+    steps: &[Step],
+) -> Result<(), Fail> {
+    let told = run(alloc, &mut one.members, &mut one.resolver, steps)?;
+    let wanted = run(alloc, &mut other.members, &mut other.resolver, steps)?;
+    is_whole(rt, &told, &wanted);
     Ok(())
 }
 
-fn lost(rt: &impl Abort, left: Seen) {
+/// A run that memory stopped left its resolver as it is after some of the first steps. A second run goes on from there.
+fn is_after_some(
+    rt: &impl Abort,
+    alloc: Global,
+    stage: &mut Stage,
+    registers: &Registers,
+    steps: &[Step],
+) -> Result<(), Fail> {
+    let now = stage.resolver.time();
+    let left = look_at(&mut stage.resolver, now)?;
+    for count in 0..=steps.len() {
+        let mut other = new_stage(alloc, registers)?;
+        if is_after(alloc, stage, &mut other, &left, &steps[..count])? {
+            return go_on_alike(rt, alloc, stage, &mut other, steps);
+        }
+    }
+    lost(rt, &left);
+    Ok(())
+}
+
+fn lost(rt: &impl Abort, left: &Seen) {
     assert!(rt; false, "after no number of steps a resolver is {left:?}");
+}
+
+/// A run of these lines tells what it tells on a new stage. Refused memory it tells nothing, and a second run goes on
+/// where it stopped.
+fn plays(
+    rt: &impl Abort,
+    alloc: Global,
+    stage: &mut Stage,
+    registers: &Registers,
+    lines: Lines,
+) -> Result<(), Fail> {
+    let steps = steps(alloc, lines)?;
+    match run(alloc, &mut stage.members, &mut stage.resolver, &steps) {
+        Ok(told) => is_whole(rt, &told, &wanted(alloc, registers, &steps)?),
+        Err(_refused) => is_after_some(rt, alloc, stage, registers, &steps)?,
+    }
+    Ok(())
 }
 
 fn asks_the_root(rt: &impl Abort, resolver: &mut ListResolver) -> Result<(), Fail> {
     let now = resolver.time();
-    assert_eq!(rt; server_asked(resolver, now, "[0]11.0.0.1")?, Some(ROOT));
+    let asked = server_asked(resolver, now, "[0]11.0.0.1")?;
+    let (_nonce, server) = asked.ok_or("an answer at once")?;
+    assert_eq!(rt; server, ROOT);
     Ok(())
 }
 
@@ -288,16 +479,33 @@ fn asks_the_root(rt: &impl Abort, resolver: &mut ListResolver) -> Result<(), Fai
 /// right: lookups of them give what is assigned.
 #[test]
 fn after_a_schedule_the_resolver_is_sound(rt: HostRuntime) -> Result<(), Fail> {
-    let mut servers = [servers(rt.alloc())?];
-    let mut resolver = resolver(rt.alloc())?;
-    if !runs(&rt, rt.alloc(), &mut servers, &mut resolver) {
-        is_after_some(&rt, rt.alloc(), &mut resolver)?;
-    }
-    asks_the_root(&rt, &mut resolver)?;
+    let mut stage = new_stage(rt.alloc(), &CAMPUS_ALONE)?;
+    plays(&rt, rt.alloc(), &mut stage, &CAMPUS_ALONE, SIDE_BY_SIDE)?;
+    asks_the_root(&rt, &mut stage.resolver)?;
     for text in [SITE, HOLE] {
-        is_found(&rt, rt.alloc(), &mut servers[0], &mut resolver, text)?;
+        is_found(
+            &rt,
+            rt.alloc(),
+            &mut stage.members[0],
+            &mut stage.resolver,
+            text,
+        )?;
     }
     Ok(())
+}
+
+/// The same while servers are replaced, but that a hole is remembered which is no longer assigned.
+#[test]
+fn a_schedule_with_other_servers_is_told_or_undone(rt: HostRuntime) -> Result<(), Fail> {
+    let mut stage = new_stage(rt.alloc(), &CAMPUS_GROWS)?;
+    plays(
+        &rt,
+        rt.alloc(),
+        &mut stage,
+        &CAMPUS_GROWS,
+        A_ZONE_COMES_AND_GOES,
+    )?;
+    asks_the_root(&rt, &mut stage.resolver)
 }
 
 // ---- runs over wires
@@ -310,21 +518,21 @@ const SOCKETS: [Locator; 4] = [
     Locator::V4(0x7f00_0102),
 ];
 
-/// The servers of the campus, a resolver and a network.
+/// The servers of the campus, a resolver, a network and a clock.
 #[derive(Drop)]
 struct World {
     servers: ListServers,
     resolver: ListResolver,
     wires: Loopback,
+    clock: SteppingClock,
 }
 
 /// What both identifiers end in, in at most 20,000 turns of 5 milliseconds.
 fn turned(alloc: Global, world: &mut World, ids: &[Xeid]) -> Result<Vec<LoopEnd>, AllocError> {
-    let next = world.resolver.time();
     loop_turns(
         alloc,
         &mut world.wires,
-        &mut SteppingClock { next, step: 5 },
+        &mut world.clock,
         &mut world.servers,
         &mut world.resolver,
         ME,
@@ -334,45 +542,92 @@ fn turned(alloc: Global, world: &mut World, ids: &[Xeid]) -> Result<Vec<LoopEnd>
     )
 }
 
-/// The same, once more where memory is refused to its own lists: then no call was made, and nothing is pending.
+/// What can be seen of a world: how many calls were made, how many lookups are pending, the resolver's time and the
+/// clock's next reading.
+fn scene(world: &World) -> (u64, usize, Moment, Moment) {
+    let (wires, resolver) = (&world.wires, &world.resolver);
+    (
+        wires.made(),
+        resolver.pending(),
+        resolver.time(),
+        world.clock.next,
+    )
+}
+
+fn is_as_before(rt: &impl Abort, world: &World, before: (u64, usize, Moment, Moment)) {
+    assert_eq!(rt; scene(world), before);
+}
+
+/// The same, once more where memory is refused to its own lists: then no call was made and no clock read, and nothing
+/// is pending.
 fn ends(
     rt: &impl Abort,
     alloc: Global,
     world: &mut World,
     ids: &[Xeid],
 ) -> Result<Vec<LoopEnd>, AllocError> {
+    let before = scene(world);
     match turned(alloc, world, ids) {
         Ok(ends) => Ok(ends),
         Err(_refused) => {
-            assert_eq!(rt; (world.wires.made(), world.resolver.pending()), (0, 0));
+            is_as_before(rt, world, before);
             turned(alloc, world, ids)
         }
     }
 }
 
-/// An outcome is the one that is assigned. An ask to which memory was refused is the only other end, since one lost
-/// datagram is sent again.
-fn is_right(rt: &impl Abort, end: &LoopEnd, wanted: Outcome) -> Result<(), Fail> {
+/// Whether an end is the outcome that is assigned. An ask to which memory was refused is the only other end, since one
+/// lost datagram is sent again.
+fn is_right(rt: &impl Abort, end: &LoopEnd, text: &str) -> Result<bool, Fail> {
     match end {
-        LoopEnd::Answer(outcome) => assert_eq!(rt; *outcome, wanted),
-        LoopEnd::Refused(AskError::Memory) => (),
+        LoopEnd::Answer(outcome) => is_outcome(rt, outcome, text)?,
+        LoopEnd::Refused(AskError::Memory) => return Ok(false),
         _ => return Err("memory for more than one datagram is wanted".into()),
     }
-    Ok(())
+    Ok(true)
 }
 
+/// How many asks were refused memory; each other one has its outcome.
+fn refused(rt: &impl Abort, ends: &[LoopEnd]) -> Result<u64, Fail> {
+    let mut refused: u64 = 0;
+    for (end, text) in ends.iter().zip(&[SITE, HOLE]) {
+        if !is_right(rt, end, text)? {
+            refused = refused.saturating_add(1);
+        }
+    }
+    Ok(refused)
+}
+
+/// There are two ends, and no ask was refused whose request was to be sent.
+fn are_two(rt: &impl Abort, ends: &[LoopEnd], refused: u64, sent: u64) {
+    assert_eq!(rt; ends.len(), 2);
+    assert!(rt; refused.saturating_add(sent) <= 2);
+}
+
+/// A run over a new network; whether both identifiers have their outcomes.
+fn is_run_whole(rt: &impl Abort, alloc: Global, world: &mut World) -> Result<bool, Fail> {
+    let ids = [identifier(SITE)?, identifier(HOLE)?];
+    world.wires = Loopback::new(alloc, 0);
+    let ends = ends(rt, alloc, world, &ids)?;
+    let refused = refused(rt, &ends)?;
+    are_two(rt, &ends, refused, world.wires.sent_first());
+    Ok(refused == 0)
+}
+
+/// Where one growth is refused, a second run has all memory.
 #[test]
 fn a_run_gives_its_outcomes(rt: HostRuntime) -> Result<(), Fail> {
     let mut world = World {
-        servers: servers(rt.alloc())?,
+        servers: servers(rt.alloc(), CAMPUS)?,
         resolver: resolver(rt.alloc())?,
         wires: Loopback::new(rt.alloc(), 0),
+        clock: SteppingClock {
+            next: moment(0)?,
+            step: 5,
+        },
     };
-    let texts = [SITE, HOLE];
-    let ids = [identifier(SITE)?, identifier(HOLE)?];
-    let ends = ends(&rt, rt.alloc(), &mut world, &ids)?;
-    for (end, text) in ends.iter().zip(&texts) {
-        is_right(&rt, end, assigned(text)?)?;
+    if is_run_whole(&rt, rt.alloc(), &mut world)? || is_run_whole(&rt, rt.alloc(), &mut world)? {
+        return Ok(());
     }
-    Ok(())
+    Err("two runs refused an ask".into())
 }

@@ -5,4 +5,4 @@ mod bounds;
 mod campus;
 mod liars;
 mod lies;
-mod schedules;
+pub mod schedules;

@@ -9,7 +9,7 @@ use ddt_config::{ConfigFault, ServerConfig, from_toml, to_toml};
 use ddt_examples::configurations::{EAST, NESTED_EAST, ROOT, TEN, TWO_AUTHORITIES};
 use ddt_examples::registers::{CAMPUS, NESTED_SITES};
 use ddt_path::{Listed, Name};
-use ddt_register::{ReadFault, Register, read_register};
+use ddt_register::{Group, ReadFault, Register, Site, read_register};
 use std::alloc::{AllocError, Global};
 use std::process::Abort;
 use std::test::Fail;
@@ -52,15 +52,51 @@ const SHAPES: &[(&str, Shape)] = &[
     (NESTED_SITES, [(3, Some(6)), (4, Some(10)), (3, Some(3))]),
 ];
 
-fn is_read(rt: &impl Abort, alloc: Global, text: &str, wanted: Shape) -> Result<(), Fail> {
-    let register = register(rt, alloc, text)?;
-    assert_eq!(rt; shape(&register), wanted);
+fn is_site(rt: &impl Abort, site: &Site, other: &Site) {
+    assert_eq!(rt; (site.prefix, site.row), (other.prefix, other.row));
+    assert_eq!(rt; site.etrs.as_slice(), other.etrs.as_slice());
+}
+
+fn is_group(rt: &impl Abort, group: &Group, other: &Group) {
+    assert_eq!(rt;
+        (group.name, group.kind, group.row),
+        (other.name, other.kind, other.row)
+    );
+    assert_eq!(rt; group.locators.as_slice(), other.locators.as_slice());
+}
+
+fn are_sites(rt: &impl Abort, sites: &[Site], others: &[Site]) {
+    for (site, other) in sites.iter().zip(others) {
+        is_site(rt, site, other);
+    }
+}
+
+fn are_groups(rt: &impl Abort, groups: &[Group], others: &[Group]) {
+    for (group, other) in groups.iter().zip(others) {
+        is_group(rt, group, other);
+    }
+}
+
+/// A register has this shape and the items of another one.
+fn is_register(rt: &impl Abort, register: &Register, other: &Register, wanted: &Shape) {
+    assert_eq!(rt; shape(register), *wanted);
+    assert_eq!(rt; shape(other), *wanted);
+    assert_eq!(rt; register.zones.as_slice(), other.zones.as_slice());
+    are_sites(rt, register.sites.as_slice(), other.sites.as_slice());
+    are_groups(rt, register.groups.as_slice(), other.groups.as_slice());
+}
+
+/// A text is read twice, each time as the same register.
+fn is_read(rt: &impl Abort, alloc: Global, text: &str, wanted: &Shape) -> Result<(), Fail> {
+    let first = register(rt, alloc, text)?;
+    let second = register(rt, alloc, text)?;
+    is_register(rt, &first, &second, wanted);
     Ok(())
 }
 
 #[test]
 fn a_register_is_read_whole(rt: HostRuntime) -> Result<(), Fail> {
-    for &(text, wanted) in SHAPES {
+    for (text, wanted) in SHAPES {
         is_read(&rt, rt.alloc(), text, wanted)?;
     }
     Ok(())

@@ -11,8 +11,8 @@ use ddt_examples::bytes_of;
 use ddt_examples::messages::NEGATIVE_REPLY;
 use ddt_path::{Action, Locator, LocatorSet, Outcome, Prefix, ReferralRecord, Xeid};
 use ddt_resolver::{
-    AskError, Asked, Front, Heard, ItrRequest, MOST_PENDING, Moment, Outgoing, Resolver, Ticked,
-    Ticket, Why,
+    AskError, Asked, Front, Heard, Ignored, ItrRequest, MOST_PENDING, Moment, Outgoing, Resolver,
+    Ticked, Ticket, Why,
 };
 use ddt_text::{parse_prefix, parse_xeid};
 use ddt_trie::{ListMap, PrefixMap, TrieMap};
@@ -40,84 +40,132 @@ fn record(action: Action, prefix: Prefix) -> Result<ReferralRecord, Fail> {
     })
 }
 
-/// What is seen of a cache: its time, how many entries are live, and what is found for an identifier.
-#[derive(Clone, Copy, Debug, PartialEq)]
-struct Seen {
-    time: u64,
-    len: usize,
-    found: (Prefix, Entry),
+/// A record that is saved at a moment, in milliseconds: its action and its prefix, and how many entries are live then.
+type Row = (u64, Action, &'static str, usize);
+
+/// Records in the order in which they are saved.
+const RECORDS: &[Row] = &[
+    (1, Action::NodeReferral, "[0]10.0.0.0/8", 1),
+    (3, Action::DelegationHole, "[0]10.1.0.0/16", 2),
+    (5, Action::DelegationHole, "[0]10.1.2.0/24", 3),
+    (7, Action::NodeReferral, "[0]10.1.0.0/16", 3),
+    (9, Action::DelegationHole, "[0]10.1.2.3/32", 4),
+    (11, Action::NodeReferral, "[0]10.1.2.0/23", 5),
+];
+
+/// Identifiers, for each prefix one that no longer one covers, and one that none covers.
+const IDENTIFIERS: &[&str] = &[
+    "[0]10.9.9.9",
+    "[0]10.1.9.9",
+    "[0]10.1.2.9",
+    "[0]10.1.2.3",
+    "[0]10.1.3.9",
+    "[0]11.0.0.1",
+];
+
+/// Of the rows whose prefixes cover an identifier, the last of those with the longest prefix.
+fn longest_row(rows: &'static [Row], x: Xeid) -> Result<Option<&'static Row>, Fail> {
+    let mut len = 0;
+    let mut found = None;
+    for row in rows {
+        let prefix = parse_prefix(row.2.as_bytes())?;
+        if prefix.covers_xeid(x) && prefix.len() >= len {
+            len = prefix.len();
+            found = Some(row);
+        }
+    }
+    Ok(found)
 }
 
-fn look_at<M: PrefixMap<Entry>>(cache: &mut Cache<M>, millis: u64, x: Xeid) -> Result<Seen, Fail> {
-    let now = at(millis)?;
-    Ok(Seen {
-        len: cache.len(now),
-        found: cache.find_copied(now, x),
-        time: cache.time().millis(),
-    })
+/// What is found was saved by this row, and ends fifteen minutes later.
+fn is_of_row(rt: &impl Abort, found: &(Prefix, Entry), row: &Row) -> Result<(), Fail> {
+    let record = record(row.1, parse_prefix(row.2.as_bytes())?)?;
+    assert_eq!(rt;
+        (found.0, found.1.end),
+        (record.prefix, row.0.saturating_add(900_000))
+    );
+    assert_eq!(rt;
+        (found.1.action, found.1.servers),
+        (record.action, record.servers)
+    );
+    Ok(())
 }
 
-fn is_seen(rt: &impl Abort, seen: Seen, wanted: Seen) {
-    assert_eq!(rt; seen, wanted);
+/// What is found is the root.
+fn is_root(rt: &impl Abort, found: &(Prefix, Entry)) -> Result<(), Fail> {
+    let roots = LocatorSet::of(&[ROOT]).ok_or("too many locators")?;
+    assert_eq!(rt; (found.0.len(), found.1.action), (0, Action::NodeReferral));
+    assert_eq!(rt; (found.1.servers, found.1.end), (roots, u64::MAX));
+    Ok(())
+}
+
+/// The cache finds for an identifier what the rows, the last one last, have saved.
+fn finds<M: PrefixMap<Entry>>(
+    rt: &impl Abort,
+    cache: &mut Cache<M>,
+    now: Moment,
+    rows: &'static [Row],
+    text: &str,
+) -> Result<(), Fail> {
+    let x = parse_xeid(text.as_bytes())?;
+    let found = cache.find_copied(now, x);
+    match longest_row(rows, x)? {
+        Some(row) => is_of_row(rt, &found, row),
+        None => is_root(rt, &found),
+    }
+}
+
+/// It is this moment, and the cache has all that these rows have saved, and no more.
+fn has<M: PrefixMap<Entry>>(
+    rt: &impl Abort,
+    cache: &mut Cache<M>,
+    now: Moment,
+    rows: &'static [Row],
+) -> Result<(), Fail> {
+    let len = match rows.last() {
+        Some(row) => row.3,
+        None => 0,
+    };
+    assert_eq!(rt; (cache.time(), cache.len(now)), (now, len));
+    for text in IDENTIFIERS {
+        finds(rt, cache, now, rows, text)?;
+    }
+    Ok(())
 }
 
 fn is_saved(rt: &impl Abort, saved: Saved) {
     assert_eq!(rt; saved, Saved::Saved);
 }
 
-/// Saves a record, once more where memory is refused: then nothing but the time is another.
+/// Saves the record of a row behind others, once more where memory is refused: then nothing but the time is another.
 fn saves<M: PrefixMap<Entry>>(
     rt: &impl Abort,
     cache: &mut Cache<M>,
-    millis: u64,
-    record: &ReferralRecord,
-    x: Xeid,
+    row: &Row,
+    before: &'static [Row],
 ) -> Result<(), Fail> {
-    let now = at(millis)?;
-    let before = look_at(cache, millis, x)?;
-    let saved = match cache.save(now, record) {
+    let now = at(row.0)?;
+    let record = record(row.1, parse_prefix(row.2.as_bytes())?)?;
+    let saved = match cache.save(now, &record) {
         Ok(saved) => saved,
         Err(_refused) => {
-            is_seen(rt, look_at(cache, millis, x)?, before);
-            cache.save(now, record)?
+            has(rt, cache, now, before)?;
+            cache.save(now, &record)?
         }
     };
     is_saved(rt, saved);
     Ok(())
 }
 
-/// Records by their actions and prefixes, in the order in which they are saved, and how many entries are live then.
-const RECORDS: &[(Action, &str, usize)] = &[
-    (Action::NodeReferral, "[0]10.0.0.0/8", 1),
-    (Action::DelegationHole, "[0]10.1.0.0/16", 2),
-    (Action::DelegationHole, "[0]10.1.2.0/24", 3),
-    (Action::NodeReferral, "[0]10.1.0.0/16", 3),
-    (Action::DelegationHole, "[0]10.1.2.3/32", 4),
-    (Action::NodeReferral, "[0]10.1.2.0/23", 5),
-];
-
-/// Saves each of these, a millisecond after the other.
+/// Saves each of these, a millisecond after the cache was looked at.
 fn fills<M: PrefixMap<Entry>>(rt: &impl Abort, alloc: Global) -> Result<(), Fail> {
     let roots = LocatorSet::of(&[ROOT]).ok_or("too many locators")?;
     let mut cache = Cache::<M>::new(alloc, roots);
-    let x = parse_xeid(b"[0]10.1.2.3")?;
-    let mut millis = 0;
-    for &(action, text, len) in RECORDS {
-        let record = record(action, parse_prefix(text.as_bytes())?)?;
-        saves(rt, &mut cache, millis, &record, x)?;
-        has(rt, &mut cache, millis, len)?;
-        millis = millis.saturating_add(1);
+    for (place, row) in RECORDS.iter().enumerate() {
+        saves(rt, &mut cache, row, &RECORDS[..place])?;
+        has(rt, &mut cache, at(row.0)?, &RECORDS[..=place])?;
+        cache.advance(at(row.0.saturating_add(1))?);
     }
-    Ok(())
-}
-
-fn has<M: PrefixMap<Entry>>(
-    rt: &impl Abort,
-    cache: &mut Cache<M>,
-    millis: u64,
-    len: usize,
-) -> Result<(), Fail> {
-    assert_eq!(rt; cache.len(at(millis)?), len);
     Ok(())
 }
 
@@ -162,6 +210,7 @@ enum Came {
     Hole(u64, Prefix),
     Registered(u64, Prefix),
     GaveUp(u64, Why),
+    Ignored(Ignored),
     Nothing,
 }
 
@@ -213,16 +262,20 @@ fn is_as_before(rt: &impl Abort, resolver: &TrieResolver, now: Moment, pending: 
     assert_eq!(rt; (resolver.time(), resolver.pending()), (now, pending));
 }
 
+fn after_ask(asked: &Asked) -> Result<Came, Fail> {
+    match asked {
+        Asked::Sent(ticket, sent) => request(*ticket, sent),
+        Asked::Answer(answer) => outcome(0, *answer),
+    }
+}
+
 fn asked(
     rt: &impl Abort,
     resolver: &mut TrieResolver,
     now: Moment,
     text: &str,
 ) -> Result<Came, Fail> {
-    match asks(rt, resolver, now, parse_xeid(text.as_bytes())?)? {
-        Asked::Sent(ticket, sent) => request(ticket, &sent),
-        Asked::Answer(answer) => outcome(0, answer),
-    }
+    after_ask(&asks(rt, resolver, now, parse_xeid(text.as_bytes())?)?)
 }
 
 /// A datagram, once more where memory is refused: then as many lookups are pending as before.
@@ -243,6 +296,15 @@ fn hears(
     }
 }
 
+fn after_datagram(heard: &Heard) -> Result<Came, Fail> {
+    match heard {
+        Heard::Followed(ticket, sent) => request(*ticket, sent),
+        Heard::Answer(ticket, answer) => outcome(ticket.number(), *answer),
+        Heard::GaveUp(ticket, why) => Ok(Came::GaveUp(ticket.number(), *why)),
+        Heard::Ignored(why) => Ok(Came::Ignored(*why)),
+    }
+}
+
 fn heard(
     rt: &impl Abort,
     resolver: &mut TrieResolver,
@@ -250,12 +312,7 @@ fn heard(
     from: Locator,
     bytes: &[u8],
 ) -> Result<Came, Fail> {
-    match hears(rt, resolver, now, from, bytes)? {
-        Heard::Followed(ticket, sent) => request(ticket, &sent),
-        Heard::Answer(ticket, answer) => outcome(ticket.number(), answer),
-        Heard::GaveUp(ticket, why) => Ok(Came::GaveUp(ticket.number(), why)),
-        Heard::Ignored(_why) => Err("ignored".into()),
-    }
+    after_datagram(&hears(rt, resolver, now, from, bytes)?)
 }
 
 /// A tick, once more where memory is refused: then as many lookups are pending as before.
@@ -270,13 +327,17 @@ fn ticks(rt: &impl Abort, resolver: &mut TrieResolver, now: Moment) -> Result<Ti
     }
 }
 
-fn ticked(rt: &impl Abort, resolver: &mut TrieResolver, now: Moment) -> Result<Came, Fail> {
-    match ticks(rt, resolver, now)? {
-        Ticked::Sent(ticket, sent) => request(ticket, &sent),
-        Ticked::Answer(ticket, answer) => outcome(ticket.number(), answer),
-        Ticked::GaveUp(ticket, why) => Ok(Came::GaveUp(ticket.number(), why)),
+fn after_tick(ticked: &Ticked) -> Result<Came, Fail> {
+    match ticked {
+        Ticked::Sent(ticket, sent) => request(*ticket, sent),
+        Ticked::Answer(ticket, answer) => outcome(ticket.number(), *answer),
+        Ticked::GaveUp(ticket, why) => Ok(Came::GaveUp(ticket.number(), *why)),
         Ticked::Nothing => Ok(Came::Nothing),
     }
+}
+
+fn ticked(rt: &impl Abort, resolver: &mut TrieResolver, now: Moment) -> Result<Came, Fail> {
+    after_tick(&ticks(rt, resolver, now)?)
 }
 
 /// The bytes of a Map-Referral, written once more where memory is refused.
@@ -374,6 +435,136 @@ fn a_schedule_goes_on_as_with_ample_memory(rt: HostRuntime) -> Result<(), Fail> 
     Ok(())
 }
 
+// ---- calls that are not made again
+
+/// What comes of an ask that isn't made again; None where memory is refused.
+fn asked_once(resolver: &mut TrieResolver, now: Moment, text: &str) -> Result<Option<Came>, Fail> {
+    match resolver.ask(now, parse_xeid(text.as_bytes())?) {
+        Err(AskError::Memory) => Ok(None),
+        asked => Ok(Some(after_ask(&asked?)?)),
+    }
+}
+
+/// The same of a datagram.
+fn heard_once(
+    resolver: &mut TrieResolver,
+    now: Moment,
+    from: Locator,
+    bytes: &[u8],
+) -> Result<Option<Came>, Fail> {
+    match resolver.datagram(now, from, bytes) {
+        Ok(heard) => Ok(Some(after_datagram(&heard)?)),
+        Err(_refused) => Ok(None),
+    }
+}
+
+/// The same of a tick.
+fn ticked_once(resolver: &mut TrieResolver, now: Moment) -> Result<Option<Came>, Fail> {
+    match resolver.tick(now) {
+        Ok(ticked) => Ok(Some(after_tick(&ticked)?)),
+        Err(_refused) => Ok(None),
+    }
+}
+
+/// The same of any call.
+fn made_once(
+    alloc: Global,
+    resolver: &mut TrieResolver,
+    now: Moment,
+    call: &Call,
+) -> Result<Option<Came>, Fail> {
+    match call {
+        Call::Ask(text) => asked_once(resolver, now, text),
+        Call::Hear(from, nonce, told) | Call::HearCut(from, nonce, told) => {
+            heard_once(resolver, now, *from, &referral(alloc, *nonce, told)?)
+        }
+        Call::Tick => ticked_once(resolver, now),
+    }
+}
+
+/// A referral of another child of the root.
+const TO_TWENTY: Told = Told {
+    action: Action::NodeReferral,
+    prefix: "[0]20.0.0.0/8",
+    servers: &[TEN],
+};
+
+/// Moments in milliseconds, and how many times a call is made then. So many lookups are pending that a growth for the
+/// next nonce comes in datagrams and ticks too.
+const CROWDED: &[(u64, u32, Call)] = &[
+    (0, 18, Call::Ask("[0]20.0.0.1")),
+    (0, 1, Call::Ask("[0]10.1.2.3")),
+    (0, 1, Call::Ask("[0]10.2.0.1")),
+    (1, 1, Call::Hear(ROOT, 19, TO_TEN)),
+    (1, 1, Call::Hear(ROOT, 20, HOLE)),
+    (1, 1, Call::Ask("[0]10.2.5.5")),
+    (1, 1, Call::Ask("[0]10.1.2.9")),
+    (1, 1, Call::Hear(TEN, 22, NOT_IN_CHARGE)),
+    (1, 1, Call::Ask("[0]10.3.0.1")),
+    (2000, 19, Call::Tick),
+    (2000, 1, Call::Hear(TEN, 21, SITE)),
+    (2000, 1, Call::Hear(ROOT, 25, TO_TWENTY)),
+    (2000, 1, Call::Ask("[0]20.0.0.1")),
+    (2001, 3, Call::Tick),
+    (2001, 2, Call::Hear(ROOT, 26, TO_TWENTY)),
+    (4001, 24, Call::Tick),
+    (4001, 1, Call::Ask("[0]10.1.2.3")),
+    (4001, 1, Call::Ask("[0]10.2.5.6")),
+    (4001, 1, Call::Ask("[0]10.3.0.1")),
+    (4001, 1, Call::Ask("[0]20.0.0.1")),
+];
+
+/// A call on a resolver and on another one beside it, of which the same comes. Where memory is refused the first
+/// isn't called again, and the other isn't called at all. Whether memory was refused.
+fn goes_beside(
+    rt: &impl Abort,
+    alloc: Global,
+    resolver: &mut TrieResolver,
+    other: &mut TrieResolver,
+    now: Moment,
+    call: &Call,
+) -> Result<bool, Fail> {
+    let before = resolver.pending();
+    let Some(came) = made_once(alloc, resolver, now, call)? else {
+        is_as_before(rt, resolver, now, before);
+        return Ok(true);
+    };
+    is_wanted(rt, came, made(rt, alloc, other, now, call)?);
+    has_pending(rt, resolver, other.pending());
+    Ok(false)
+}
+
+/// A call that is made so many times; how many of these were refused memory.
+fn go_beside(
+    rt: &impl Abort,
+    alloc: Global,
+    resolver: &mut TrieResolver,
+    other: &mut TrieResolver,
+    row: &(u64, u32, Call),
+) -> Result<u32, Fail> {
+    let now = at(row.0)?;
+    let mut refused: u32 = 0;
+    for _ in 0..row.1 {
+        if goes_beside(rt, alloc, resolver, other, now, &row.2)? {
+            refused = refused.saturating_add(1);
+        }
+    }
+    Ok(refused)
+}
+
+/// All goes on as if what was refused memory had never been called.
+#[test]
+fn a_refused_call_that_is_not_made_again_leaves_nothing(rt: HostRuntime) -> Result<(), Fail> {
+    let mut resolver = rooted(rt.alloc())?;
+    let mut other = rooted(rt.alloc())?;
+    for row in CROWDED {
+        let _refused = go_beside(&rt, rt.alloc(), &mut resolver, &mut other, row)?;
+    }
+    Ok(())
+}
+
+// ---- as many lookups as may be pending
+
 /// A new lookup of an address.
 fn opens(rt: &impl Abort, resolver: &mut TrieResolver, address: u32) -> Result<(), Fail> {
     let x = Xeid {
@@ -430,8 +621,12 @@ fn message(alloc: Global, fields: &str) -> Result<Vec<u8>, Fail> {
     }
 }
 
-fn are(rt: &impl Abort, bytes: &[u8], wanted: &[u8]) {
-    assert_eq!(rt; bytes, wanted);
+/// A datagram goes to the ITR's address and port, with these bytes.
+fn goes(rt: &impl Abort, sent: &Outgoing, bytes: &[u8]) -> Result<(), Fail> {
+    let itr = itr()?;
+    assert_eq!(rt; (sent.to, sent.port), (itr.to, itr.port));
+    assert_eq!(rt; sent.bytes.as_slice(), bytes);
+    Ok(())
 }
 
 #[test]
@@ -441,6 +636,5 @@ fn an_itr_is_replied_to_whole(rt: HostRuntime) -> Result<(), Fail> {
         prefix: parse_prefix(b"[0]10.2.0.0/15")?,
     };
     let reply = reply(rt.alloc(), &hole)?;
-    are(&rt, reply.bytes.as_slice(), &wanted);
-    Ok(())
+    goes(&rt, &reply, &wanted)
 }

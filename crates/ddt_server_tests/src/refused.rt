@@ -2,7 +2,8 @@
 //!
 //! `.ci/memory` runs each of these tests with each growth refused in turn.
 
-use crate::trie::{DOCUMENTATION, TEN_ONE, front, got, hole, longest, put};
+use crate::trie::{DOCUMENTATION, TEN_ONE, finds_longest, front, gets, hole, put};
+use crate::wires::{ETR, gave, tried};
 use ddt_config::{ServerConfig, from_toml, to_toml};
 use ddt_examples::configurations::{EAST, SHARED_ROOT, TWO_AUTHORITIES};
 use ddt_examples::messages::{DDT_REQUEST, EAST_ACKNOWLEDGES};
@@ -11,33 +12,89 @@ use ddt_hash::HashedMap;
 use ddt_node::{Handled, Server, has_room_for};
 use ddt_path::{Listed, Locator, Prefix, Xeid};
 use ddt_trie::{ListMap, PrefixMap, TrieMap};
-use ddt_wires::{Served, Waiting, WiresInMemory, serve_turns};
+use ddt_wires::{Call, Served, Waiting, WiresInMemory, serve_turns};
 use std::alloc::{AllocError, Global};
 use std::process::Abort;
 use std::test::Fail;
 
 // ---- maps
 
-/// What a map answers of a prefix, and of an identifier.
-#[derive(Clone, Copy, Debug, PartialEq)]
-struct Answers {
-    len: usize,
-    value: Option<u32>,
-    longest: Option<(Prefix, u32)>,
-    hole: Option<Prefix>,
+/// The identifiers and the lengths of the prefixes that are inserted, and their values, which count them from 0 on.
+const INSERTED: &[(Locator, u8, u32)] = &[
+    (Locator::V4(TEN_ONE), 41, 0),
+    (Locator::V4(TEN_ONE), 49, 1),
+    (Locator::V4(TEN_ONE), 65, 2),
+    (Locator::V4(TEN_ONE), 57, 3),
+    (Locator::V4(TEN_ONE), 45, 4),
+    (Locator::V4(TEN_ONE), 33, 5),
+    (Locator::V4(TEN_ONE), 20, 6),
+    (Locator::V6(DOCUMENTATION), 161, 7),
+    (Locator::V6(DOCUMENTATION), 160, 8),
+    (Locator::V4(TEN_ONE), 64, 9),
+];
+
+fn identifier(address: Locator) -> Xeid {
+    Xeid { iid: 0, address }
 }
 
-fn seen<M: PrefixMap<u32>>(rt: &impl Abort, map: &M, prefix: Prefix, x: Xeid) -> Answers {
-    Answers {
-        len: map.len(),
-        value: got(map, prefix),
-        longest: longest(map, x),
-        hole: hole(rt, map, x),
+/// The prefix of a row.
+fn prefix_of(rt: &impl Abort, row: &(Locator, u8, u32)) -> Prefix {
+    front(rt, identifier(row.0), row.1)
+}
+
+/// Of the prefixes of the first rows, so many of them, the longest that covers the identifier, with its value.
+fn longest_among(rt: &impl Abort, count: u32, x: Xeid) -> Option<(Prefix, u32)> {
+    let mut len = 0;
+    let mut found = None;
+    for row in INSERTED {
+        let prefix = prefix_of(rt, row);
+        if row.2 < count && prefix.covers_xeid(x) && row.1 > len {
+            len = row.1;
+            found = Some((prefix, row.2));
+        }
+    }
+    found
+}
+
+/// The map has the values of the first rows, so many of them, and none of the others.
+fn has_values<M: PrefixMap<u32>>(rt: &impl Abort, map: &M, count: u32) {
+    assert_eq!(rt; map.len(), count as usize);
+    for row in INSERTED {
+        let value = if row.2 < count { Some(row.2) } else { None };
+        gets(rt, map, prefix_of(rt, row), value);
     }
 }
 
-fn are_as_before(rt: &impl Abort, answers: Answers, before: Answers) {
-    assert_eq!(rt; answers, before);
+/// The map finds for both identifiers the longest of these prefixes.
+fn has_longest<M: PrefixMap<u32>>(rt: &impl Abort, map: &M, count: u32) {
+    for address in [Locator::V4(TEN_ONE), Locator::V6(DOCUMENTATION)] {
+        let x = identifier(address);
+        finds_longest(rt, map, x, longest_among(rt, count, x));
+    }
+}
+
+/// What is free for both identifiers.
+fn holes<M: PrefixMap<u32>>(rt: &impl Abort, map: &M) -> [Option<Prefix>; 2] {
+    [
+        hole(rt, map, identifier(Locator::V4(TEN_ONE))),
+        hole(rt, map, identifier(Locator::V6(DOCUMENTATION))),
+    ]
+}
+
+/// The map is as it was before the insert of this row, when this was free.
+fn is_as_before<M: PrefixMap<u32>>(
+    rt: &impl Abort,
+    map: &M,
+    count: u32,
+    before: &[Option<Prefix>; 2],
+) {
+    has_values(rt, map, count);
+    has_longest(rt, map, count);
+    assert_eq!(rt; holes(rt, map), *before);
+}
+
+fn is_back(rt: &impl Abort, back: (Prefix, u32), prefix: Prefix, value: u32) {
+    assert_eq!(rt; back, (prefix, value));
 }
 
 /// An insert of a new prefix. Refused memory it hands the pair back, the map answers as before, and the next inserts.
@@ -45,47 +102,25 @@ fn inserts<M: PrefixMap<u32>>(
     rt: &impl Abort,
     map: &mut M,
     prefix: Prefix,
-    x: Xeid,
     value: u32,
 ) -> Result<(), Fail> {
-    let before = seen(rt, map, prefix, x);
+    let before = holes(rt, map);
     if let Err(back) = put(rt, map, prefix, value) {
-        assert_eq!(rt; back, (prefix, value));
-        are_as_before(rt, seen(rt, map, prefix, x), before);
+        is_back(rt, back, prefix, value);
+        is_as_before(rt, map, value, &before);
         put(rt, map, prefix, value).ok().ok_or("no memory")?;
     }
     Ok(())
 }
 
-/// The map has so many entries, and this value of a prefix, which the identifier finds.
-fn has<M: PrefixMap<u32>>(rt: &impl Abort, map: &M, prefix: Prefix, len: usize, value: u32) {
-    assert_eq!(rt; (map.len(), got(map, prefix)), (len, Some(value)));
-}
-
-/// The identifiers and the lengths of the prefixes that are inserted.
-const INSERTED: &[(Locator, u8)] = &[
-    (Locator::V4(TEN_ONE), 41),
-    (Locator::V4(TEN_ONE), 49),
-    (Locator::V4(TEN_ONE), 65),
-    (Locator::V4(TEN_ONE), 57),
-    (Locator::V4(TEN_ONE), 45),
-    (Locator::V4(TEN_ONE), 33),
-    (Locator::V4(TEN_ONE), 20),
-    (Locator::V6(DOCUMENTATION), 161),
-    (Locator::V6(DOCUMENTATION), 160),
-    (Locator::V4(TEN_ONE), 64),
-];
-
-/// Each of these is inserted.
+/// Each of these is inserted, and then the map has those up to it.
 fn fills<M: PrefixMap<u32>>(alloc: Global, rt: &impl Abort) -> Result<(), Fail> {
     let mut map = M::empty(alloc);
-    let mut value: u32 = 0;
-    for &(address, len) in INSERTED {
-        let x = Xeid { iid: 0, address };
-        let prefix = front(rt, x, len);
-        inserts(rt, &mut map, prefix, x, value)?;
-        has(rt, &map, prefix, value as usize + 1, value);
-        value = value.saturating_add(1);
+    for row in INSERTED {
+        let count = row.2.saturating_add(1);
+        inserts(rt, &mut map, prefix_of(rt, row), row.2)?;
+        has_values(rt, &map, count);
+        has_longest(rt, &map, count);
     }
     Ok(())
 }
@@ -177,16 +212,18 @@ fn handled(alloc: Global, server: &TrieServer, bytes: &[u8]) -> Result<Handled, 
     }
 }
 
-/// The reply and the request that goes on to the ETR.
-fn sent(handled: &Handled) -> Option<(&[u8], &[u8])> {
+/// The reply, and the request that goes on, with the ETR.
+fn sent(handled: &Handled) -> Option<(&[u8], &[u8], Locator)> {
     match (&handled.reply, &handled.forward) {
-        (Some(reply), Some(forward)) => Some((reply.as_slice(), forward.bytes.as_slice())),
+        (Some(reply), Some(forward)) => {
+            Some((reply.as_slice(), forward.bytes.as_slice(), forward.to))
+        },
         _ => None,
     }
 }
 
 fn are_sent(rt: &impl Abort, handled: &Handled, reply: &[u8], forward: &[u8]) {
-    assert_eq!(rt; sent(handled), Some((reply, forward)));
+    assert_eq!(rt; sent(handled), Some((reply, forward, ETR)));
 }
 
 #[test]
@@ -226,19 +263,102 @@ fn busy(alloc: Global) -> Result<WiresInMemory, Fail> {
     Ok(wires)
 }
 
-/// Three turns receive each request. One growth that is refused loses one reply, and the next turn goes on.
-fn are_served(rt: &impl Abort, served: Served) -> Result<(), Fail> {
+/// The request, the reply to it, and the request that goes on to the ETR.
+#[derive(Drop)]
+struct Messages {
+    request: Vec<u8>,
+    reply: Vec<u8>,
+    onward: Vec<u8>,
+}
+
+fn all_messages(alloc: Global) -> Result<Messages, Fail> {
+    Ok(Messages {
+        request: message(alloc, DDT_REQUEST)?,
+        reply: message(alloc, EAST_ACKNOWLEDGES)?,
+        onward: changed(message(alloc, DDT_REQUEST)?, &[(0, 0x80)]),
+    })
+}
+
+/// A call of a turn.
+#[derive(Clone, Copy, Debug, PartialEq)]
+enum Made {
+    /// The poll, which gave the request.
+    Polled,
+    /// The reply to it was tried.
+    Replied,
+    /// The request was tried at the ETR.
+    WentOn,
+}
+
+/// What a call is behind another one. Behind a poll comes a reply, or the poll of the next turn where the request is
+/// lost; behind a reply the request goes on, and then comes the next poll.
+fn made_behind(rt: &impl Abort, before: Made, call: &Call, messages: &Messages) -> Made {
+    if before == Made::Replied {
+        assert!(rt; tried(Some(call), ETR, 4342, &messages.onward));
+        return Made::WentOn;
+    }
+    if before == Made::Polled && tried(Some(call), RESOLVER, 4342, &messages.reply) {
+        return Made::Replied;
+    }
+    assert!(rt; gave(Some(call), 4342, &messages.request));
+    Made::Polled
+}
+
+/// How many replies are among the calls of turns, whose last call is whole too.
+fn replies(rt: &impl Abort, calls: &[Call], messages: &Messages) -> u32 {
+    let mut last = Made::WentOn;
+    let mut replies: u32 = 0;
+    for call in calls {
+        last = made_behind(rt, last, call, messages);
+        if last == Made::Replied {
+            replies = replies.saturating_add(1);
+        }
+    }
+    assert!(rt; last != Made::Replied);
+    replies
+}
+
+/// Three turns made these calls and no others.
+fn are_calls(rt: &impl Abort, calls: &[Call], served: &Served, messages: &Messages) {
+    let replies = replies(rt, calls, messages);
+    assert_eq!(rt;
+        (replies, calls.len() as u64),
+        (served.replied, 3 + 2 * u64::from(replies))
+    );
+}
+
+/// Three turns receive each request. Whether each was replied to: one growth that is refused loses one reply, and the
+/// next turn goes on. Wires to which memory is refused tell no call.
+fn are_served(
+    rt: &impl Abort,
+    wires: &WiresInMemory,
+    served: &Served,
+    messages: &Messages,
+) -> Result<bool, Fail> {
     assert_eq!(rt; served.received, 3);
+    if let Some(calls) = wires.told() {
+        are_calls(rt, calls, served, messages);
+    }
     match served.replied {
-        2 | 3 => Ok(()),
+        2 | 3 => Ok(served.replied == 3),
         _ => Err("memory for more than one datagram is wanted".into()),
     }
 }
 
+/// Three turns over wires at which the request waits three times; whether each was replied to.
+fn is_round_whole(rt: &impl Abort, alloc: Global, east: &TrieServer) -> Result<bool, Fail> {
+    let messages = all_messages(alloc)?;
+    let mut wires = busy(alloc)?;
+    let served = serve_turns(alloc, &mut wires, east, SERVER, 3);
+    are_served(rt, &wires, &served, &messages)
+}
+
+/// Where one growth is refused, a second round has all memory.
 #[test]
 fn a_turn_without_memory_loses_one_datagram(rt: HostRuntime) -> Result<(), Fail> {
     let east = server(&rt, rt.alloc(), EAST)?;
-    let mut wires = busy(rt.alloc())?;
-    let served = serve_turns(rt.alloc(), &mut wires, &east, SERVER, 3);
-    are_served(&rt, served)
+    if is_round_whole(&rt, rt.alloc(), &east)? || is_round_whole(&rt, rt.alloc(), &east)? {
+        return Ok(());
+    }
+    Err("two rounds lost a datagram".into())
 }

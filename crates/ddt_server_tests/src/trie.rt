@@ -87,11 +87,11 @@ fn counts<M: PrefixMap<u32>>(rt: &impl Abort, map: &M, count: usize) {
     assert_eq!(rt; map.len(), count);
 }
 
-fn gets<M: PrefixMap<u32>>(rt: &impl Abort, map: &M, prefix: Prefix, value: Option<u32>) {
+pub fn gets<M: PrefixMap<u32>>(rt: &impl Abort, map: &M, prefix: Prefix, value: Option<u32>) {
     assert_eq!(rt; got(map, prefix), value, "{prefix:?}");
 }
 
-fn finds_longest<M: PrefixMap<u32>>(
+pub fn finds_longest<M: PrefixMap<u32>>(
     rt: &impl Abort,
     map: &M,
     x: Xeid,

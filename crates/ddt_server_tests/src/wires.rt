@@ -20,7 +20,7 @@ const SERVER: Locator = Locator::V4(0x7f00_0101);
 
 const RESOLVER: Locator = Locator::V4(0x7f00_0035);
 
-const ETR: Locator = Locator::V4(0x7f00_0201);
+pub const ETR: Locator = Locator::V4(0x7f00_0201);
 
 /// The server of the campus group `east`.
 fn east(alloc: Global, rt: &impl Abort) -> Result<ListServer, Fail> {
@@ -64,7 +64,7 @@ fn busy(alloc: Global, failing: u64, port: u16) -> Result<WiresInMemory, Fail> {
 }
 
 /// Whether a call polled the server's socket and gave these bytes, from the resolver's port.
-fn gave(call: Option<&Call>, port: u16, bytes: &[u8]) -> bool {
+pub fn gave(call: Option<&Call>, port: u16, bytes: &[u8]) -> bool {
     match call {
         Some(
             Call::Received {
@@ -96,7 +96,7 @@ fn failed(call: Option<&Call>) -> bool {
 }
 
 /// Whether a call tried to send these bytes from the server's socket.
-fn tried(call: Option<&Call>, to: Locator, port: u16, bytes: &[u8]) -> bool {
+pub fn tried(call: Option<&Call>, to: Locator, port: u16, bytes: &[u8]) -> bool {
     match call {
         Some(
             Call::Tried {

@@ -9,8 +9,10 @@ use ddt_examples::messages::{
     NEGATIVE_REPLY_OF_INSTANCE_7, TEN_IS_NOT_IN_CHARGE,
 };
 use ddt_path::{Locator, ReferralRecord};
-use ddt_text::{parse_prefix, parse_xeid};
-use ddt_wire::{read_referral, write_eid, write_negative_reply, write_referral};
+use ddt_text::{parse_locator, parse_prefix, parse_xeid};
+use ddt_wire::{
+    read_referral, write_address, write_addresses, write_eid, write_negative_reply, write_referral,
+};
 use std::alloc::{AllocError, Global};
 use std::process::Abort;
 use std::test::Fail;
@@ -160,5 +162,55 @@ fn an_eid_is_appended_whole_or_not_at_all(rt: HostRuntime) -> Result<(), Fail> {
     for &(text, fields) in EIDS {
         appends(&rt, rt.alloc(), text, fields)?;
     }
+    Ok(())
+}
+
+/// No part of an address is appended where memory is refused, and the whole of it where it isn't.
+fn appends_address(rt: &impl Abort, alloc: Global, text: &str, fields: &str) -> Result<(), Fail> {
+    let (address, wanted) = (parse_locator(text.as_bytes())?, message(alloc, fields)?);
+    let mut out = begun(alloc)?;
+    if write_address(&mut out, address).is_err() {
+        are(rt, &out, BEFORE);
+        write_address(&mut out, address)?;
+    }
+    assert_eq!(rt; out.strip_prefix(BEFORE), Some(wanted.as_slice()));
+    Ok(())
+}
+
+/// Locators, and AFI and address.
+const ADDRESSES: &[(&str, &str)] = &[
+    ("127.0.0.53", "0001 7f000035"),
+    ("2001:db8::35", "0002 20010db8000000000000000000000035"),
+];
+
+#[test]
+fn an_address_is_appended_whole_or_not_at_all(rt: HostRuntime) -> Result<(), Fail> {
+    for &(text, fields) in ADDRESSES {
+        appends_address(&rt, rt.alloc(), text, fields)?;
+    }
+    Ok(())
+}
+
+/// Addresses of both families.
+const SEVERAL: &[Locator] = &[
+    RESOLVER,
+    Locator::V6(0x2001_0db8_0000_0000_0000_0000_0000_0035),
+    Locator::V4(0x7f00_000a),
+];
+
+/// The same, each behind its AFI and two bytes.
+const WRITTEN: &str =
+    "abcd 0001 7f000035 abcd 0002 20010db8000000000000000000000035 abcd 0001 7f00000a";
+
+/// No part of these is appended where memory is refused, and all of them where it isn't.
+#[test]
+fn addresses_are_appended_whole_or_not_at_all(rt: HostRuntime) -> Result<(), Fail> {
+    let wanted = message(rt.alloc(), WRITTEN)?;
+    let mut out = begun(rt.alloc())?;
+    if write_addresses(&mut out, b"\xab\xcd", SEVERAL).is_err() {
+        are(&rt, &out, BEFORE);
+        write_addresses(&mut out, b"\xab\xcd", SEVERAL)?;
+    }
+    assert_eq!(rt; out.strip_prefix(BEFORE), Some(wanted.as_slice()));
     Ok(())
 }

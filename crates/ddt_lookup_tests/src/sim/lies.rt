@@ -6,6 +6,7 @@ use crate::texts::{identifier, judge_text, locator_text, lookup_text};
 use crate::worlds::{EIGHT, ListResolver, looked_up, moment, rooted};
 use ddt_path::Action;
 use ddt_resolver::Asked;
+use ddt_sim::{Step, run};
 use std::alloc::Global;
 use std::process::Abort;
 use std::test::Fail;
@@ -448,5 +449,31 @@ fn answers_are_believed(rt: HostRuntime) -> Result<(), Fail> {
     for case in ANSWERS {
         judge(&rt, rt.alloc(), case)?;
     }
+    Ok(())
+}
+
+/// How many requests each of two members of the servers gets, where a request is handed over once to the first, and
+/// twice once the second is in force.
+fn requests_of_both(alloc: Global) -> Result<(u16, u16), Fail> {
+    let mut servers = [
+        Liars::new(alloc, Way::Always, &[HOLE])?,
+        Liars::new(alloc, Way::Always, &[HOLE])?,
+    ];
+    let mut resolver: ListResolver = rooted(alloc, ROOT, 1)?;
+    let steps = [
+        Step::Ask(identifier(X)?),
+        Step::Deliver(0),
+        Step::Replace(1),
+        Step::Deliver(0),
+        Step::Deliver(0),
+    ];
+    let _told = run(alloc, &mut servers, &mut resolver, &steps)?;
+    Ok((servers[0].requests(), servers[1].requests()))
+}
+
+#[test]
+fn a_request_is_handed_once_to_those_in_force(rt: HostRuntime) -> Result<(), Fail> {
+    let requests = requests_of_both(rt.alloc())?;
+    assert_eq!(rt; requests, (1, 2));
     Ok(())
 }

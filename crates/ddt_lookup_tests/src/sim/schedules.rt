@@ -23,7 +23,7 @@ pub enum Act {
 }
 
 /// Steps, each with what it tells. An answer at once has no ticket.
-type Lines = &'static [(Act, &'static str)];
+pub type Lines = &'static [(Act, &'static str)];
 
 const A_HOLE_ENDS: Lines = &[
     (Act::Ask("[0]10.2.0.1"), "ticket 1 asks 127.0.0.1"),
@@ -100,7 +100,7 @@ const ONE_HOLE: Lines = &[
 
 /// A zone comes, goes, comes and goes again while its identifier is looked up: the last hole is that of the register that
 /// went out of force last.
-const A_ZONE_COMES_AND_GOES: Lines = &[
+pub const A_ZONE_COMES_AND_GOES: Lines = &[
     (Act::Ask("[0]10.2.0.1"), "ticket 1 asks 127.0.0.1"),
     (Act::Deliver(0), "reply 1"),
     (Act::Deliver(1), "ticket 1 asks 127.0.0.10"),
@@ -200,7 +200,7 @@ const OF_ONE_HOLE: &[&str] = &[
     "reply from 127.0.0.1 to 127.0.0.53",
 ];
 
-fn step_of(act: Act) -> Result<Step, Fail> {
+pub fn step_of(act: Act) -> Result<Step, Fail> {
     Ok(match act {
         Act::Ask(text) => Step::Ask(identifier(text)?),
         Act::Deliver(number) => Step::Deliver(number),

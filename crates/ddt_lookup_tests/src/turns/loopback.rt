@@ -17,6 +17,8 @@ pub struct Loopback {
     /// How many calls were made, and how many of them polled a socket.
     made: u64,
     polled: u64,
+    /// How many datagrams were to be sent before the first poll.
+    sent_first: u64,
     /// The number of the call that fails, the first being 1; with 0 none fails.
     failing: u64,
 }
@@ -40,6 +42,7 @@ impl Loopback {
             sent: Vec::new(alloc),
             made: 0,
             polled: 0,
+            sent_first: 0,
             failing,
         }
     }
@@ -62,6 +65,11 @@ impl Loopback {
     /// How many times a socket was polled.
     pub fn polled(&self) -> u64 {
         self.polled
+    }
+
+    /// How many datagrams were to be sent before the first poll.
+    pub fn sent_first(&self) -> u64 {
+        self.sent_first
     }
 
     /// How many calls were made.
@@ -146,6 +154,9 @@ impl Wires for Loopback {
     }
 
     fn send(&mut self, at: Locator, to: Locator, port: u16, bytes: &[u8]) -> Result<(), NetFault> {
+        if self.polled == 0 {
+            self.sent_first = self.sent_first.saturating_add(1);
+        }
         if self.fails() {
             return Err(NetFault::Send);
         }

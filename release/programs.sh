@@ -6,7 +6,8 @@
 # other, a line for each program.
 # shellcheck shell=bash
 
-# The programs that are released.
+# The programs that are released. One more takes its name here, its words in run_words, a copy of ./ddt under its name,
+# a page in man/, and .ci/release once it is built.
 # shellcheck disable=SC2034
 programs=(ddt)
 
@@ -41,8 +42,8 @@ places_of() {
     done
 }
 
-# checksum_of NAME: the checksum of a program's sources: the SHA-256 of the list of theirs, by path; nothing, and another
-# status than 0, where one of them can't be read
+# checksum_of NAME: the checksum of a program's sources: the SHA-256 of the list of theirs, by path. Where one of them
+# can't be read it prints nothing and fails.
 checksum_of() {
     local places sum
     mapfile -t places < <(places_of "$1")

@@ -144,8 +144,10 @@ static int ends_otherwise(const char *one, ssize_t length, const char *other, ss
            && !memcmp(one, other, (size_t)(length - tail + 1));
 }
 
-/* Whether the lines are those of ample memory, but that some identifiers have no outcome for want of memory. */
+/* Whether the lines are those of ample memory, but that some identifiers have no outcome for want of memory: at least
+   one, which is why the status is 1. */
 static int leaves_some(const struct end *end, const struct end *ample) {
+    int left_out = 0;
     const char *one = end->out, *other = ample->out;
     ssize_t left = end->out_length, other_left = ample->out_length;
     if (!WIFEXITED(end->status) || WEXITSTATUS(end->status) != 1 || end->err_length != 0) return 0;
@@ -155,9 +157,10 @@ static int leaves_some(const struct end *end, const struct end *ample) {
         if (!same && !ends_otherwise(one, length, other, other_length, " unresolved\n")
             && !ends_otherwise(one, length, other, other_length, " refused Memory\n"))
             return 0;
+        left_out += !same;
         one += length, left -= length, other += other_length, other_left -= other_length;
     }
-    return left == 0 && other_left == 0;
+    return left_out > 0 && left == 0 && other_left == 0;
 }
 
 static void tell(const struct end *end, const char *how, long run_number) {

@@ -3,17 +3,20 @@
 # and a program that sends each datagram back: bench/serve.sh [--save] [PROGRAM]
 #
 # PROGRAM is the program itself; without it that which the launcher runs is taken. A register of 20,000 zones is
-# compiled, and its root's configuration served; nsd serves as many delegations, with one process. Each of the four is
-# loaded alone for three seconds by bench/serve/load.c, with at most 64 requests outstanding, in turn and seven times
-# over; the median of the seven counts. Each has one processor for itself, and the load another, so that no round hangs
-# on which ones the system chooses. Then, for the configurations of 65,535 rows: how long a server takes from its start
-# to its end after one turn, and how many bytes it has for each row, beside the peer. The status is 1 if `ddt serve` gives
-# less than nsd, or less than 0.8 of the program that sends back.
+# compiled, and its root's configuration served; nsd serves as many delegations, with one process. The peer is to answer
+# some requests with the same bytes. Each of the four is loaded alone for three seconds by bench/serve/load.c, with at
+# most 64 requests outstanding, in turn and seven times over; the median of the seven counts. A round without a reply
+# ends the script. Each has one processor for itself, and the load another, so that no round hangs on which ones the
+# system chooses. Then, for the configurations of 65,535 rows: how long a server takes from its start to its end after
+# one turn, and how many bytes it has for each row, beside the peer. The status is 1 if `ddt serve` gives less than nsd,
+# or less than 0.8 of the program that sends back.
 #
-# --save appends the ratios to bench/results/serve.tsv, with the date, the commit and the machine.
+# --save appends the ratios to bench/results/serve.tsv, with the date, the commit and the machine. For that the tree has
+# to be a git clone.
 #
-# It sends to 127.0.0.0/8 alone. Wants cargo, gcc, GNU time (Debian: time) and nsd (Debian: nsd).
-set -eu
+# It sends to 127.0.0.0/8 alone. Wants two processors, python3, gcc, GNU time (Debian: time), nsd (Debian: nsd), and a
+# cargo that knows Rust's edition 2024 (1.85).
+set -eu -o pipefail
 here=$(cd -- "$(dirname -- "${BASH_SOURCE[0]}")" && pwd)
 save=''
 if [ "${1-}" = --save ]; then
@@ -28,6 +31,12 @@ fi
 seconds=3
 window=64
 zones=20000
+commit=''
+if [ -n "$save" ]; then
+    commit=$(git -C "$here" rev-parse --short HEAD)
+    git -C "$here/.." diff --quiet HEAD -- . ':(exclude)bench/results' || commit+=-dirty
+fi
+nsd=$(PATH=$PATH:/usr/sbin:/sbin command -v nsd) || { echo "bench/serve.sh: nsd is missing" >&2; exit 1; }
 folder=$(mktemp -d)
 served=''
 trap '[ -z "$served" ] || kill "$served" 2>/dev/null || true; rm -rf -- "$folder"' EXIT
@@ -66,13 +75,47 @@ zone:
     zonefile: example.zone
 EOF
 
-# load MODE ADDRESS PORT: loads what was started last, stops it, and prints its replies a second.
-load() {
+# start WORD..: starts a server.
+start() {
+    taskset -c 1 "$@" >/dev/null 2>"$folder/said" &
+    served=$!
     sleep 1
-    taskset -c 0 "$folder/load" "$1" "$2" "$3" "$seconds" "$window" "$zones" | sed 's|\([0-9]*\) replies/s.*|\1|'
-    kill "$served" 2>/dev/null || true
+}
+
+# stop NAME: ends the server that was started last, so that its port is free. Where it has ended before, so does this.
+stop() {
+    kill "$served" 2>/dev/null || fail "$1 has ended early"
     wait "$served" 2>/dev/null || true
     served=''
+}
+
+# fail TEXT: ends the script, with what the server said.
+fail() {
+    cat -- "$folder/said" >&2
+    echo "bench/serve.sh: $1" >&2
+    exit 1
+}
+
+# load LIST NAME MODE ADDRESS PORT: loads the server of this name that was started last, appends its replies a second to
+# the list, and stops it. In the script's own shell, which alone can wait for the server.
+load() {
+    local -n rounds=$1
+    local replies
+    replies=$(taskset -c 0 "$folder/load" "$3" "$4" "$5" "$seconds" "$window" "$zones")
+    replies=${replies%% replies/s*}
+    [ "$replies" -gt 0 ] || fail "$2 gave no reply"
+    stop "$2"
+    rounds+=" $replies"
+}
+
+# replies NAME PROGRAM: what it answers to some requests.
+replies() {
+    local xeid
+    start "$2" serve "$folder/root.toml" 127.0.0.1 4294967295
+    for xeid in '[0]10.0.0.1' "[$((zones - 1))]10.1.2.3" '[5]11.0.0.1' "[$zones]10.0.0.1" '[0]2001:db8::1'; do
+        python3 "$here/ask.py" 127.0.0.1 "$xeid" || fail "$1 gave no reply to $xeid"
+    done >"$folder/replies"
+    stop "$1"
 }
 
 # median NUMBER..: of an odd count
@@ -80,29 +123,34 @@ median() {
     printf '%s\n' "$@" | sort -n | sed -n "$((($# + 1) / 2))p"
 }
 
+replies 'ddt serve' "$program"
+mv -- "$folder/replies" "$folder/ours"
+replies peer "$peer"
+cmp -- "$folder/ours" "$folder/replies" || fail 'ddt serve and the peer give other replies'
+
 ours='' plain='' theirs='' echoed=''
 for _ in 1 2 3 4 5 6 7; do
-    taskset -c 1 "$program" serve "$folder/root.toml" 127.0.0.1 4294967295 >/dev/null &
-    served=$!
-    ours+=" $(load ddt 127.0.0.1 4342)"
-    taskset -c 1 "$peer" serve "$folder/root.toml" 127.0.0.1 4294967295 >/dev/null &
-    served=$!
-    plain+=" $(load ddt 127.0.0.1 4342)"
-    taskset -c 1 nsd -d -c "$folder/nsd.conf" 2>/dev/null &
-    served=$!
-    theirs+=" $(load dns 127.0.0.4 5353)"
-    taskset -c 1 "$folder/echo" 127.0.0.3 5353 $((seconds + 2)) &
-    served=$!
-    echoed+=" $(load echo 127.0.0.3 5353)"
+    start "$program" serve "$folder/root.toml" 127.0.0.1 4294967295
+    load ours 'ddt serve' ddt 127.0.0.1 4342
+    start "$peer" serve "$folder/root.toml" 127.0.0.1 4294967295
+    load plain peer ddt 127.0.0.1 4342
+    start "$nsd" -d -c "$folder/nsd.conf"
+    load theirs nsd dns 127.0.0.4 5353
+    start "$folder/echo" 127.0.0.3 5353 $((seconds + 4))
+    load echoed 'what sends back' echo 127.0.0.3 5353
 done
 
-# started PROGRAM CONFIG ADDRESS: milliseconds of one turn with the start, and kilobytes; the least of five.
+# started PROGRAM CONFIG ADDRESS: milliseconds of one turn with the start, and kilobytes; the least of five. GNU time
+# has the size alone, since its clock has steps of ten milliseconds.
 started() {
-    local room=$folder/started
+    local room=$folder/started begin end
     for _ in 1 2 3 4 5; do
-        taskset -c 1 /usr/bin/time -f '%e %M' -o "$room" "$1" serve "$2" "$3" 1 >/dev/null
-        cat -- "$room"
-    done | awk 'NR == 1 || $1 < s { s = $1 } NR == 1 || $2 < m { m = $2 } END { print s * 1000, m }'
+        begin=${EPOCHREALTIME/[.,]/}
+        taskset -c 1 "$1" serve "$2" "$3" 1 >/dev/null
+        end=${EPOCHREALTIME/[.,]/}
+        /usr/bin/time -f %M -o "$room" "$1" serve "$2" "$3" 1 >/dev/null
+        echo "$((end - begin)) $(cat -- "$room")"
+    done | awk 'NR == 1 || $1 < s { s = $1 } NR == 1 || $2 < m { m = $2 } END { print s / 1000, m }'
 }
 
 echo "replies a second on $(nproc) cores: ddt serve$ours, peer$plain, nsd$theirs, sent back$echoed"
@@ -112,11 +160,12 @@ for place in flat:root:127.0.0.1 groups:g0:127.0.1.0 sites:east:127.0.0.2; do
     IFS=: read -r shape group address <<<"$place"
     python3 "$here/make_register.py" "$shape" "$rows" >"$folder/$shape.csv"
     "$program" compile "$folder/$shape.csv" "$group" >"$folder/$shape.toml"
-    read -r milliseconds kilobytes <<<"$(started "$program" "$folder/$shape.toml" "$address")"
-    read -r peer_milliseconds peer_kilobytes <<<"$(started "$peer" "$folder/$shape.toml" "$address")"
+    of_ours=$(started "$program" "$folder/$shape.toml" "$address")
+    of_peer=$(started "$peer" "$folder/$shape.toml" "$address")
+    read -r milliseconds kilobytes peer_milliseconds peer_kilobytes <<<"$of_ours $of_peer"
     awk -v s="$shape" -v r="$rows" -v a="$milliseconds" -v b="$peer_milliseconds" -v m="$kilobytes" \
         -v n="$peer_kilobytes" 'BEGIN {
-            printf "| %s | %d | %d ms | %d ms | %.2f | %d | %d |\n", s, r, a, b, a / (b ? b : 1), m * 1024 / r, n * 1024 / r
+            printf "| %s | %d | %.1f ms | %.1f ms | %.2f | %d | %d |\n", s, r, a, b, a / b, m * 1024 / r, n * 1024 / r
         }'
 done
 echo
@@ -127,7 +176,7 @@ if [ -n "$save" ]; then
     mkdir -p -- "$here/results"
     [ -f "$saved" ] || printf '#date\tcommit\tmachine\tof the peer\tof nsd\tof what is sent back\n' >"$saved"
     machine="$(nproc) x $(sed -n 's/^model name[^:]*: //p' /proc/cpuinfo | head -n 1)"
-    awk -v OFS='\t' -v d="$(date -u +%F)" -v c="$(git -C "$here" rev-parse --short HEAD)" -v m="$machine" \
+    awk -v OFS='\t' -v d="$(date -u +%F)" -v c="$commit" -v m="$machine" \
         -v o="$ours" -v p="$plain" -v t="$theirs" -v e="$echoed" \
         'BEGIN { CONVFMT = "%.2f"; print d, c, m, o / p "", o / t "", o / e "" }' >>"$saved"
 fi

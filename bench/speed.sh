@@ -6,12 +6,15 @@
 # rows, its growth from one size to the next (the rows grow by 8.0 and 8.2), the times of the other two, and the ratios:
 # above 1 where `ddt check` takes longer. Then, at 65,535 rows, `assign`, `answer` and `compile` of one group and `lookup`
 # of one identifier as multiples of `check`. Times are milliseconds that passed, the shortest of seven runs on one
-# processor. The programs take turns, so that all meet the same load.
+# processor. The programs take turns, so that all meet the same load. What /bin/true takes is a part of each time. A run
+# that fails, and a register of which the peer says something else, end the script.
 #
-# --save appends each row's ratios to bench/results/speed.tsv, with the date, the commit and the machine. The last column
-# shows the ratio to the peer that was saved last, so that a loss is seen.
+# --save appends each row's ratios to bench/results/speed.tsv, with the date, the commit and the machine. For that the
+# tree has to be a git clone. The last column shows the ratio to the peer that was saved last on such a machine, so that
+# a loss is seen.
 #
-# Wants cargo, and nsd-checkzone where its columns are to be filled.
+# Wants two processors, python3, a cargo that knows Rust's edition 2024 (1.85), and nsd-checkzone where its columns are
+# to be filled.
 set -eu
 cd -- "$(dirname -- "${BASH_SOURCE[0]}")/.."
 program=$(release/program ddt)
@@ -22,6 +25,11 @@ if [ "${1-}" = --save ]; then
     save=yes
     shift
 fi
+commit=''
+if [ -n "$save" ]; then
+    commit=$(git rev-parse --short HEAD)
+    git diff --quiet HEAD -- . ':(exclude)bench/results' || commit+=-dirty
+fi
 folder=$(mktemp -d)
 trap 'rm -rf -- "$folder"' EXIT
 cargo build --quiet --release --offline --manifest-path bench/peer/Cargo.toml --target-dir "$folder/peer"
@@ -30,24 +38,25 @@ sizes=(1000 8000 65535)
 shapes=("$@")
 [ $# -gt 0 ] || shapes=(nested flat groups sites locators)
 
-# took WORD..: the microseconds that the words run on one processor; nothing where they fail.
-took() {
-    local start end
-    start=$(date +%s%N)
-    taskset -c 1 "$@" >/dev/null || return 1
-    end=$(date +%s%N)
-    echo $(((end - start) / 1000))
-}
-
 # shown MICROSECONDS: the same in milliseconds; a dash for nothing.
 shown() {
     awk -v a="${1:-}" 'BEGIN { if (a == "") printf "-"; else printf "%.1f ms", a / 1000 }'
 }
 
-# lower NAME NUMBER: keeps the lower of both numbers in the variable.
+fail() {
+    echo "bench/speed.sh: $*" >&2
+    exit 1
+}
+
+# lower NAME WORD..: runs the words on one processor, and keeps in the variable the fewest microseconds that they took.
 lower() {
     local -n kept=$1
-    if [ -z "$kept" ] || [ "$2" -lt "$kept" ]; then kept=$2; fi
+    local begin end
+    shift
+    begin=${EPOCHREALTIME/[.,]/}
+    taskset -c 1 "$@" >/dev/null || fail "this failed: $*"
+    end=${EPOCHREALTIME/[.,]/}
+    if [ -z "$kept" ] || [ $((end - begin)) -lt "$kept" ]; then kept=$((end - begin)); fi
 }
 
 # A zone of two records more than the register has rows: SOA and NS, and an address for each row.
@@ -65,9 +74,10 @@ ratio() {
     awk -v a="${1:-}" -v b="${2:-}" 'BEGIN { if (a == "" || b == "") printf "-"; else printf "%.2f", a / (b ? b : 1) }'
 }
 
-# saved_last SHAPE ROWS: the ratio to the peer that was saved last.
+# saved_last SHAPE ROWS: the ratio to the peer that was saved last on such a machine.
 saved_last() {
-    [ ! -f "$saved" ] || awk -F'\t' -v s="$1" -v r="$2" '$4 == s && $5 == r { x = $6 } END { print x }' "$saved"
+    [ ! -f "$saved" ] || awk -F'\t' -v m="$machine" -v s="$1" -v r="$2" \
+        '$3 == m && $4 == s && $5 == r { x = $6 } END { print x }' "$saved"
 }
 
 # keep SHAPE ROWS RATIO RATIO: appends the ratios to the peer and to nsd-checkzone.
@@ -75,18 +85,26 @@ keep() {
     [ -n "$save" ] || return 0
     mkdir -p -- bench/results
     [ -f "$saved" ] || printf '#date\tcommit\tmachine\tshape\trows\tof the peer\tof nsd-checkzone\n' >"$saved"
-    printf '%s\t%s\t%s\t%s\t%s\t%s\t%s\n' "$(date -u +%F)" "$(git rev-parse --short HEAD)" "$machine" "$@" >>"$saved"
+    printf '%s\t%s\t%s\t%s\t%s\t%s\t%s\n' "$(date -u +%F)" "$commit" "$machine" "$@" >>"$saved"
 }
 
 machine="$(nproc) x $(sed -n 's/^model name[^:]*: //p' /proc/cpuinfo | head -n 1)"
 for rows in "${sizes[@]}"; do
     zone_file "$rows" >"$folder/$rows.zone"
     for shape in "${shapes[@]}"; do
-        python3 bench/make_register.py "$shape" "$rows" >"$folder/$shape.$rows.csv"
+        register=$folder/$shape.$rows.csv
+        python3 bench/make_register.py "$shape" "$rows" >"$register"
+        "$program" check "$register" >"$folder/ours"
+        "$peer" check "$register" >"$folder/plain"
+        cmp -- "$folder/ours" "$folder/plain" || fail "ddt check and the peer say other things of $shape, $rows rows"
     done
 done
 
-printf '%s\n\n' "$machine"
+empty=''
+for _ in 1 2 3 4 5 6 7; do
+    lower empty /bin/true
+done
+printf '%s; /bin/true takes %s\n\n' "$machine" "$(shown "$empty")"
 printf '| shape | rows | check | growth | peer | of the peer | nsd-checkzone | of nsd-checkzone | saved last |\n'
 printf '|---|---|---|---|---|---|---|---|---|\n'
 for shape in "${shapes[@]}"; do
@@ -94,9 +112,9 @@ for shape in "${shapes[@]}"; do
     for rows in "${sizes[@]}"; do
         ours='' plain='' theirs=''
         for _ in 1 2 3 4 5 6 7; do
-            lower ours "$(took "$program" check "$folder/$shape.$rows.csv")"
-            lower plain "$(took "$peer" check "$folder/$shape.$rows.csv")"
-            [ -z "$checkzone" ] || lower theirs "$(took "$checkzone" example "$folder/$rows.zone")"
+            lower ours "$program" check "$folder/$shape.$rows.csv"
+            lower plain "$peer" check "$folder/$shape.$rows.csv"
+            [ -z "$checkzone" ] || lower theirs "$checkzone" example "$folder/$rows.zone"
         done
         of_peer=$(ratio "$ours" "$plain") of_theirs=$(ratio "$ours" "$theirs")
         printf '| %s | %s | %s | %s | %s | %s | %s | %s | %s |\n' "$shape" "$rows" "$(shown "$ours")" \
@@ -114,11 +132,11 @@ for shape in "${shapes[@]}"; do
     group=$(awk -F, '$1 == "node" && $2 == "*" { print $3 }' "$register")
     check='' assign='' answer='' compile='' lookup=''
     for _ in 1 2 3 4 5 6 7; do
-        lower check "$(took "$program" check "$register")"
-        lower assign "$(took "$program" assign "$register" '[0]10.1.2.3')"
-        lower answer "$(took "$program" answer "$register" "$group" '[0]10.1.2.3')"
-        lower compile "$(took "$program" compile "$register" "$group")"
-        lower lookup "$(took "$program" lookup "$register" '[0]10.1.2.3')"
+        lower check "$program" check "$register"
+        lower assign "$program" assign "$register" '[0]10.1.2.3'
+        lower answer "$program" answer "$register" "$group" '[0]10.1.2.3'
+        lower compile "$program" compile "$register" "$group"
+        lower lookup "$program" lookup "$register" '[0]10.1.2.3'
     done
     printf '| %s | %s | %s ' "$shape" "$rows" "$(shown "$check")"
     for call in "$assign" "$answer" "$compile" "$lookup"; do

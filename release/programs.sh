@@ -6,7 +6,8 @@
 # other, a line for each program.
 # shellcheck shell=bash
 
-# The programs that are released.
+# The programs that are released. One more takes its name here, its words in run_words, a copy of ./ddt under its name,
+# a page in man/, and .ci/release once it is built.
 # shellcheck disable=SC2034
 programs=(ddt)
 
@@ -41,13 +42,16 @@ places_of() {
     done
 }
 
-# checksum_of NAME: the checksum of a program's sources: the SHA-256 of the list of theirs, by path
+# checksum_of NAME: the checksum of a program's sources: the SHA-256 of the list of theirs, by path. Where one of them
+# can't be read it prints nothing and fails.
 checksum_of() {
     local places sum
     mapfile -t places < <(places_of "$1")
-    sum=$(find "${places[@]}" -type f \( -name '*.rt' -o -name '*.antt' -o -name crates.txt \) -print0 |
-        LC_ALL=C sort -z | xargs -0 -r sha256sum | sha256sum)
-    echo "${sum%% *}"
+    sum=$(
+        set -o pipefail
+        find -L "${places[@]}" -type f \( -name '*.rt' -o -name '*.antt' -o -name crates.txt \) -print0 |
+            LC_ALL=C sort -z | xargs -0 -r sha256sum | sha256sum
+    ) && echo "${sum%% *}"
 }
 
 # sha256_of FILE: nothing where it can't be read
@@ -65,7 +69,7 @@ note_build() {
 # is_built NAME CHECKSUM: whether the program that stands in the crate's folder was proved and built from these sources
 is_built() {
     local build=crates/$1/out/$1
-    [ -x "$build" ] && [ "$(cat -- "$build.sources" 2>/dev/null)" = "$2 $(sha256_of "$build")" ]
+    [ -n "$2" ] && [ -x "$build" ] && [ "$(cat -- "$build.sources" 2>/dev/null)" = "$2 $(sha256_of "$build")" ]
 }
 
 # is_released NAME CHECKSUM: whether the program was released from these sources

@@ -53,6 +53,7 @@ gcc -O2 -Wall -Wextra -o "$folder/echo" "$here/serve/echo.c"
 "$program" compile "$folder/register.csv" root >"$folder/root.toml"
 
 {
+    # shellcheck disable=SC2016
     printf '$ORIGIN example.\n$TTL 3600\n@ SOA ns hostmaster 1 3600 600 86400 900\n@ NS ns\nns A 127.0.0.4\n'
     seq 0 $((zones - 1)) | sed 's|.*|d& NS ns.d&\nns.d& A 127.0.0.2|'
 } >"$folder/example.zone"

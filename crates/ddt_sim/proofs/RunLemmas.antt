@@ -1,14 +1,16 @@
 -- The steps of a schedule as the calls take them.
 use Rattle.std.proofs.Common.{◌≡◌, ℕ, zero, suc, arith, ◌+◌, ◌<◌, ◌≤◌, Bool, true, List, length, get_or, take, drop, map, reverse, [], ◌∷◌, ◌++◌, Option, None, Some, Result, Ok, Err, refl, sym, ap, ◌∙◌, subst, inl, inr, ◌⊎◌}
-use Rattle.std.specs.Prelude.{IsTrue, slice_get}
+use Rattle.std.specs.Prelude.{IsTrue, slice_get, Contains}
 use Rattle.std.specs.Result.{OnErr}
 use Rattle.std.specs.Option.{option_map}
 use Rattle.std.proofs.lemmas.Option.{none-some, same_Some, slice_get_read, slice_get_within}
 use Rattle.std.proofs.lemmas.List.{take_more, take-append-drop, drop_more, reverse-append, length-set}
 use Rattle.std.proofs.Math.ListN.{set}
+use Rattle.std.proofs.lemmas.List.Elements.{Contains-append_left, Contains-append_right}
 use Rattle.ddt_path.specs.declared.locator.Locator.{Locator}
 use Rattle.ddt_path.specs.declared.xeid.Xeid.{Xeid}
 use Rattle.ddt_path.specs.Path.{xeid_path, is_path}
+use Rattle.ddt_path.specs.laws.Member.{contained}
 use Rattle.ddt_resolver.specs.declared.answers.Asked.{Asked as Asking}
 use Rattle.ddt_resolver.specs.declared.answers.AskError.{AskError}
 use Rattle.ddt_resolver.specs.declared.answers.AskError.TheVariants as ask_error
@@ -21,13 +23,13 @@ use Rattle.ddt_resolver.specs.TickStep.{TickStep, TickWants}
 use Rattle.ddt_resolver.specs.Step as resolver
 use Rattle.ddt_resolver.specs.Step.{Hear, ToAsk, ToDatagram, ToTick, asks, hears, ticks}
 use Rattle.ddt_sim.specs.declared.schedule.Step.{Step}
-use Rattle.ddt_sim.specs.declared.schedule.Step.TheVariants.{Ask, Deliver, Tick}
+use Rattle.ddt_sim.specs.declared.schedule.Step.TheVariants.{Ask, Deliver, Tick, Replace}
 use Rattle.ddt_sim.specs.declared.schedule.Event.{Event}
 use Rattle.ddt_sim.specs.declared.schedule.Event.TheVariants.{Heard, Ticked}
 use Rattle.ddt_sim.specs.declared.schedule.Datagram.{Datagram}
 use Rattle.ddt_sim.specs.Waiting.{CanBeAsked}
 use Rattle.ddt_register.specs.declared.register.Register.{Register}
-use Rattle.ddt_sim.specs.World.{World, world, members, at_place, StillAre, MayReply, request_at, sent_for, IsToldAsk, Resolves, Serves, by_reply, by_silence, WorldStep, resolves, serves, not_sent, passes, replaces, no_member, Stops, undone, wanting, untold, asked, heard, ticked}
+use Rattle.ddt_sim.specs.World.{World, Members, world, members, at_place, StillAre, OthersStay, ComesIntoForce, MayReply, request_at, sent_for, IsToldAsk, Resolves, Serves, by_reply, by_silence, WorldStep, resolves, serves, not_sent, passes, replaces, no_member, Stops, undone, wanting, untold, asked, heard, ticked}
 use Rattle.ddt_sim.specs.History.{Line, History, begin, next, steps_of, events_of, at_start, WantsNext, StopsAfter}
 
 -- ---- an ask
@@ -121,6 +123,23 @@ module _ {S : Type 0} (fact : S → Register → Type 0) where
   pub own_place : (l : List S) (k : ℕ) (own : S) (r : Register) → k < length l → own ≡ get_or l k own → at_place fact l k r → fact own r
   own_place l k own r lt is h = subst (λ z. fact z r) (same_Some h.0 own (sym h.1 ∙ slice_get_read l (length l) k own refl lt is)) h.2
 
+-- what is set leaves the others
+pub set_others : {S : Type 0} → (l : List S) (k : ℕ) (new : S) → OthersStay (λ j. j ≡ k) l (set l k new)
+set_others [] k new j other = refl
+set_others (x ∷ l) zero new zero other = absurd (other refl)
+set_others (x ∷ l) zero new (suc j) other = refl
+set_others (x ∷ l) (suc k) new zero other = refl
+set_others (x ∷ l) (suc k) new (suc j) other = set_others l k new j (λ e. other (ap suc e))
+
+-- the servers in force after a step were in force before, or the step names them
+member_on : (servers : Members) (w : World) (step : Step) (event : Event) (new : World) → WorldStep servers w step event new → (new.member ≡ w.member) ⊎ (step ≡ Replace new.member)
+member_on servers w step event new (resolves r) = inl (ap (λ (v : World). v.member) r.goes_on)
+member_on servers w step event new (serves k more is by f) = inl (ap (λ (v : World). v.member) f)
+member_on servers w step event new (not_sent k is past e f) = inl (ap (λ (v : World). v.member) f)
+member_on servers w step event new (passes ms is e f) = inl (ap (λ (v : World). v.member) f)
+member_on servers w step event new (replaces k is lt e f) = inr (is ∙ ap Replace (sym (ap (λ (v : World). v.member) f)))
+member_on servers w step event new (no_member k is le e f) = inl (ap (λ (v : World). v.member) f)
+
 -- ---- a request
 
 module _ {S : Type 0} (is_honest is_silent : S → Register → Type 0) where
@@ -168,6 +187,8 @@ pub record IsRunning {S : Type 0} (is_honest is_silent : S → Register → Type
   pub within : w.member < length now
   pub honest : StillAre is_honest before now
   pub silent : StillAre is_silent before now
+  pub came : ComesIntoForce done w.member
+  pub others : OthersStay (ComesIntoForce done) before now
 
 module _ {S : Type 0} (is_honest is_silent : S → Register → Type 0) where
   pub running_at_start : (servers : List S) → 0 < length servers → (old : State) (done : List Step) (events : List Event) (moment : ℕ) (sent : List Datagram) → done ≡ [] → events ≡ [] → moment ≡ old.known.time → sent ≡ []
@@ -180,6 +201,8 @@ module _ {S : Type 0} (is_honest is_silent : S → Register → Type 0) where
     within = some;
     honest = still_same is_honest servers;
     silent = still_same is_silent servers;
+    came = inl refl;
+    others = λ k none. refl;
   }
 
   module _ (before now : List S) (old : State) (steps : List Step) (i : ℕ) (events : List Event) (w : World)
@@ -190,9 +213,23 @@ module _ {S : Type 0} (is_honest is_silent : S → Register → Type 0) where
     steps_more : take (i + 1) steps ≡ take i steps ++ step ∷ []
     steps_more = take_more steps i default lt
 
+    came_more : (k : ℕ) → ComesIntoForce (take i steps) k → ComesIntoForce (take (i + 1) steps) k
+    came_more k (inl e) = inl e
+    came_more k (inr h) = inr (subst (λ l. Contains l (Replace k)) (sym steps_more) (Contains-append_left (take i steps) (step ∷ []) (Replace k) h))
+
+    comes_now : (k : ℕ) → step ≡ Replace k → ComesIntoForce (take (i + 1) steps) k
+    comes_now k e = inr (subst (λ l. Contains l (Replace k)) (sym steps_more) (Contains-append_right (take i steps) (step ∷ []) (Replace k) (contained (step ∷ []) (Replace k) (inl (sym e)))))
+
+    came_on : (event : Event) (new : World) → WorldStep (members is_honest is_silent now) w step event new → ComesIntoForce (take (i + 1) steps) new.member
+    came_on event new does = elim (member_on (members is_honest is_silent now) w step event new does) [
+      | inl same ↦ subst (ComesIntoForce (take (i + 1) steps)) (sym same) (came_more w.member so_far.came)
+      | inr named ↦ comes_now new.member named
+    ]
+
     pub runs_on : (event : Event) (new : World) (events2 : List Event) (after : List S) → WorldStep (members is_honest is_silent now) w step event new
-        → events2 ≡ events ++ event ∷ [] → new.member < length after → StillAre is_honest now after → StillAre is_silent now after → IsRunning is_honest is_silent before after old (take (i + 1) steps) events2 new
-    runs_on event new events2 after does grown within honest silent = record {
+        → events2 ≡ events ++ event ∷ [] → new.member < length after → StillAre is_honest now after → StillAre is_silent now after → OthersStay (λ k. k ≡ w.member) now after
+        → IsRunning is_honest is_silent before after old (take (i + 1) steps) events2 new
+    runs_on event new events2 after does grown within honest silent others = record {
       past = record { before = w; step = step; event = event; after = new } ∷ so_far.past;
       history = next step event so_far.history (still_step is_honest is_silent before now so_far.honest so_far.silent w step event new does);
       steps_are = steps_more ∙ ap (λ l. l ++ step ∷ []) so_far.steps_are ∙ sym (reverse_more step (map (λ (line : Line). line.step) so_far.past));
@@ -200,6 +237,8 @@ module _ {S : Type 0} (is_honest is_silent : S → Register → Type 0) where
       within = within;
       honest = still_on is_honest before now after so_far.honest honest;
       silent = still_on is_silent before now after so_far.silent silent;
+      came = came_on event new does;
+      others = λ k none. others k (λ same. none (subst (ComesIntoForce (take (i + 1) steps)) (sym same) (came_more w.member so_far.came))) ∙ so_far.others k (λ h. none (came_more k h));
     }
 
     before_step : (new : State) → (new ≡ w.state) ⊎ WantsNext w (drop i steps) new → StopsAfter (members is_honest is_silent before) old steps new
@@ -235,3 +274,13 @@ module _ {S : Type 0} (is_honest is_silent : S → Register → Type 0) where
     steps_are = sym (take-append-drop i steps) ∙ ap (λ l. l ++ drop i steps) so_far.steps_are;
     state_is = inl refl;
   }
+
+  -- who doesn't come into force in any of the steps is what it was
+  pub others_stay : (before now after : List S) (old : State) (steps : List Step) (i : ℕ) (events : List Event) (w : World) → IsRunning is_honest is_silent before now old (take i steps) events w
+      → OthersStay (λ k. k ≡ w.member) now after → OthersStay (ComesIntoForce steps) before after
+  others_stay before now after old steps i events w so_far last k none =
+      last k (λ same. none (in_all k (subst (ComesIntoForce (take i steps)) (sym same) so_far.came))) ∙ so_far.others k (λ h. none (in_all k h))
+    where
+      in_all : (j : ℕ) → ComesIntoForce (take i steps) j → ComesIntoForce steps j
+      in_all j (inl e) = inl e
+      in_all j (inr h) = inr (subst (λ l. Contains l (Replace j)) (take-append-drop i steps) (Contains-append_left (take i steps) (drop i steps) (Replace j) h))

@@ -1,5 +1,5 @@
 -- A resolver among servers, and what each step of a schedule does there (RFC 8111, section 7.3).
-use Rattle.std.specs.Prelude.{ℕ, ◌≡◌, ◌+◌, ◌<◌, ◌≤◌, min, true, false, List, [], ◌∷◌, ◌++◌, length, slice_get, Option, None, Some, Result, Ok, Err}
+use Rattle.std.specs.Prelude.{ℕ, ◌≡◌, ◌⊎◌, ◌+◌, ◌<◌, ◌≤◌, min, true, false, List, [], ◌∷◌, ◌++◌, length, slice_get, Contains, Option, None, Some, Result, Ok, Err}
 use Rattle.ddt_path.specs.declared.locator.Locator.{Locator}
 use Rattle.ddt_path.specs.declared.xeid.Xeid.{Xeid}
 use Rattle.ddt_register.specs.declared.register.Register.{Register}
@@ -56,6 +56,15 @@ abbrev pub StillAre : {S : Type 0} → (S → Register → Type 0) → List S �
 StillAre {S} fact servers later_ =
     (length later_ ≡ length servers)
     × ((k : ℕ) (r : Register) → at_place fact servers k r → at_place fact later_ k r)
+
+-- whoever has none of these numbers is as before
+abbrev pub OthersStay : {S : Type 0} → (ℕ → Type 0) → List S → List S → Type 0
+OthersStay {S} these servers later_ =
+    (k : ℕ) → (these k → ⊥) → slice_get later_ k ≡ slice_get servers k
+
+-- the members that come into force in a run of these steps: the first, and each that a Replace names
+abbrev pub ComesIntoForce : List Step → ℕ → Type 0
+ComesIntoForce steps k = (k ≡ 0) ⊎ Contains steps (Replace k)
 
 -- What may come back for a datagram to a locator: at a server's, for a DDT Map-Request, what each register says there
 -- that the servers are honest for; elsewhere nothing, where they are silent; anything where neither is known.

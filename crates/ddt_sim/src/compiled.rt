@@ -7,7 +7,7 @@ ghost use Rattle.ddt_config.specs.Table.{outline};
 ghost use Rattle.ddt_compile.specs.laws.Statements.{HasRoom};
 ghost use Rattle.ddt_register.specs.declared.register.Register.{Register};
 ghost use Rattle.ddt_ecm.specs.Request.{Message};
-ghost use Rattle.ddt_node.specs.Server.{IsDdtRequest};
+ghost use Rattle.ddt_node.specs.Server.{IsDdtRequest, ddt_request};
 ghost use Rattle.ddt_sim.specs.Honest.{IsServer, IsHonestReply};
 ghost use Rattle.ddt_sim.specs.Compiled.{AreCompiled, configs_of, server_at as server_at_locator, reply_at};
 
@@ -103,6 +103,7 @@ impl<M: PrefixMap<u32>> Servers for Compiled<M> {
         ensures stay { (r : Register) → AreCompiled self.old r → AreCompiled self.new r }
         ensures stay_silent { (r : Register) → AreCompiled self.old r → AreCompiled self.new r }
         ensures none { server_at_locator self.old to ≡ None → result ≡ Ok None }
+        ensures ignored { ddt_request request.now ≡ None → result ≡ Ok None }
         ensures same { self.new ≡ self.old }
     {
         a_compiled_configuration_answers_honestly();

@@ -5,7 +5,7 @@ ghost use Rattle.std.specs.Option.{option_map};
 ghost use Rattle.ddt_register.specs.declared.register.Register.{Register};
 ghost use Rattle.ddt_sim.specs.declared.schedule.Step.TheVariants as step_as;
 ghost use Rattle.ddt_resolver.specs.declared.answers.AskError.TheVariants as ask_error;
-ghost use Rattle.ddt_sim.specs.World.{world, members, at_place, request_at, sent_for, later as later_than, StillAre, IsToldAsk, Resolves, Serves, WorldStep, Stops};
+ghost use Rattle.ddt_sim.specs.World.{world, members, at_place, request_at, sent_for, later as later_than, StillAre, OthersStay, ComesIntoForce, IsToldAsk, Resolves, Serves, WorldStep, Stops};
 ghost use Rattle.ddt_sim.specs.History.{Line, Tells, StopsAfter};
 ghost use Rattle.ddt_sim.specs.Schedules.{KeepServers, StartsSound, AnswersAreRight, RepliesAreRight, TicketsEndOnce, FailuresAreRight};
 ghost use Rattle.ddt_sim.specs.Tries.{NoRepliesAreRight};
@@ -77,7 +77,8 @@ pub fn run<S: Servers, M: PrefixMap<Entry>>(
     ensures replaced_once { IfOk result (λ t. TicketsEndOnceInForce (members S.honest S.silent servers.old) resolver.old
         steps.now t resolver.new) }
     // Whatever the servers reply, and whichever are in force: the transcript tells a run of the resolver's steps, the
-    // servers' replies and their replacements.
+    // servers' replies and their replacements. Where servers are neither known to be honest nor to be silent, any reply
+    // may come back from them, or none.
     ensures run { IfOk result (λ t. (past : List Line) × Tells (members S.honest S.silent servers.old) resolver.old
         steps.now t resolver.new past) }
     ensures stopped { OnErr result (StopsAfter (members S.honest S.silent servers.old) resolver.old steps.now
@@ -85,6 +86,8 @@ pub fn run<S: Servers, M: PrefixMap<Entry>>(
     ensures stay { (k : ℕ) (r : Register) → at_place S.honest servers.old k r → at_place S.honest servers.new k r }
     ensures stay_silent { (k : ℕ) (r : Register) → at_place S.silent servers.old k r
         → at_place S.silent servers.new k r }
+    // Servers that don't come into force are as before.
+    ensures others { OthersStay (ComesIntoForce steps.now) servers.old servers.new }
     // No steps are never refused.
     ensures none { steps.now ≡ [] → IsOk result }
 {
@@ -134,6 +137,7 @@ fn take_step<S: Servers, M: PrefixMap<Entry>>(
     ensures within { scene.new.member < length servers.new }
     ensures stay { StillAre S.honest servers.old servers.new }
     ensures stay_silent { StillAre S.silent servers.old servers.new }
+    ensures others { OthersStay (λ k. k ≡ scene.old.member) servers.old servers.new }
 {
     match step {
         Step::Ask(x) => ask(alloc, resolver, scene, x),
@@ -234,6 +238,7 @@ fn deliver<S: Servers, M: PrefixMap<Entry>>(
     ensures member { scene.new.member ≡ scene.old.member }
     ensures stay { StillAre S.honest servers.old servers.new }
     ensures stay_silent { StillAre S.silent servers.old servers.new }
+    ensures others { OthersStay (λ k. k ≡ scene.old.member) servers.old servers.new }
 {
     match is_reply(scene.sent.as_slice(), number) {
         Some(true) => hear(alloc, resolver, scene, number),

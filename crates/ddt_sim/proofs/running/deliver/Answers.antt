@@ -5,7 +5,7 @@ use Rattle.std.proofs.lemmas.Result.{IfOk-weaker}
 use Rattle.ddt_register.specs.declared.register.Register.{Register}
 use Rattle.ddt_sim.specs.declared.schedule.Datagram.{Datagram}
 use Rattle.ddt_sim.specs.World.{Serves, not_sent}
-use Rattle.ddt_sim.proofs.RunLemmas.{none_at, serves_at, still_set}
+use Rattle.ddt_sim.proofs.RunLemmas.{none_at, serves_at, still_set, set_others}
 use Rattle.ddt_sim.proofs.running.deliver.Goals as goal
 
 pub returns-in-Some-false-clause-step : goal.returns-in-Some-false-clause-step
@@ -27,6 +27,9 @@ returns-in-Some-false-clause-stay_silent g c =
     let own = c.index-servers-scene in
     still_set g.S.Servers.silent c.args.servers.now c.args.scene.now.member own.result c.serve.new.servers c.requires own.is
     (subst (λ z. (r : Register) → g.S.Servers.silent z r → g.S.Servers.silent c.serve.new.servers r) (sym own.is) c.serve.ensures.stay_silent)
+
+pub returns-in-Some-false-clause-others : goal.returns-in-Some-false-clause-others
+returns-in-Some-false-clause-others g c = set_others c.args.servers.now c.args.scene.now.member c.serve.new.servers
 
 pub returns-in-None-clause-step : goal.returns-in-None-clause-step
 returns-in-None-clause-step g c =

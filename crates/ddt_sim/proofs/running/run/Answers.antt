@@ -4,7 +4,7 @@ use Rattle.ddt_path.specs.declared.locator.Locator.TheVariants.{V4}
 use Rattle.ddt_sim.specs.declared.schedule.Step.{Step}
 use Rattle.ddt_sim.specs.declared.schedule.Step.TheVariants.{Ask}
 use Rattle.ddt_sim.specs.World.{world, members}
-use Rattle.ddt_sim.proofs.RunLemmas.{running_at_start, runs_on, stops_in, stops_after, left_by}
+use Rattle.ddt_sim.proofs.RunLemmas.{running_at_start, runs_on, stops_in, stops_after, others_stay, left_by}
 use Rattle.ddt_sim.proofs.StatementLemmas.{stops_soundly, each_answer, each_reply, each_once, each_failure, each_no_reply}
 use Rattle.ddt_sim.proofs.ReplacedLemmas.{each_since, each_of_late, each_reply_in_force, each_failure_in_force, each_once_in_force}
 use Rattle.ddt_sim.proofs.running.run.Goals as goal
@@ -33,7 +33,7 @@ returns-in_err-push-clause-stopped g c =
     (world c.loop-step.scene.moment c.loop-step.scene.member c.loop-step.scene.sent.items c.loop-step.resolver)
     c.loop-step.invariant c.loop-step-test.true first_step c.in_ok-event.event
     (world c.take_step.new.scene.moment c.take_step.new.scene.member c.take_step.new.scene.sent.items c.take_step.new.resolver)
-    (c.loop-step.events.items ++ c.in_ok-event.event ∷ []) c.take_step.new.servers c.in_ok-event.ensures.step refl c.take_step.ensures.within c.take_step.ensures.stay c.take_step.ensures.stay_silent))
+    (c.loop-step.events.items ++ c.in_ok-event.event ∷ []) c.take_step.new.servers c.in_ok-event.ensures.step refl c.take_step.ensures.within c.take_step.ensures.stay c.take_step.ensures.stay_silent c.take_step.ensures.others))
 
 pub loop-step-preserved : goal.loop-step-preserved
 loop-step-preserved g c =
@@ -41,7 +41,7 @@ loop-step-preserved g c =
     (world c.loop-step.scene.moment c.loop-step.scene.member c.loop-step.scene.sent.items c.loop-step.resolver)
     c.loop-step.invariant c.loop-step-test.true first_step c.in_ok-event.event
     (world c.take_step.new.scene.moment c.take_step.new.scene.member c.take_step.new.scene.sent.items c.take_step.new.resolver)
-    c.push.new.self.items c.take_step.new.servers c.in_ok-event.ensures.step c.in_ok-push.ensures.items c.take_step.ensures.within c.take_step.ensures.stay c.take_step.ensures.stay_silent
+    c.push.new.self.items c.take_step.new.servers c.in_ok-event.ensures.step c.in_ok-push.ensures.items c.take_step.ensures.within c.take_step.ensures.stay c.take_step.ensures.stay_silent c.take_step.ensures.others
 
 pub returns-clause-run : goal.returns-clause-run
 returns-clause-run g c =
@@ -73,7 +73,7 @@ returns-in_err-push-clause-sound g c = λ r honest keep starts.
     (world c.loop-step.scene.moment c.loop-step.scene.member c.loop-step.scene.sent.items c.loop-step.resolver)
     c.loop-step.invariant c.loop-step-test.true first_step c.in_ok-event.event
     (world c.take_step.new.scene.moment c.take_step.new.scene.member c.take_step.new.scene.sent.items c.take_step.new.resolver)
-    (c.loop-step.events.items ++ c.in_ok-event.event ∷ []) c.take_step.new.servers c.in_ok-event.ensures.step refl c.take_step.ensures.within c.take_step.ensures.stay c.take_step.ensures.stay_silent))
+    (c.loop-step.events.items ++ c.in_ok-event.event ∷ []) c.take_step.new.servers c.in_ok-event.ensures.step refl c.take_step.ensures.within c.take_step.ensures.stay c.take_step.ensures.stay_silent c.take_step.ensures.others))
 
 pub returns-clause-answers : goal.returns-clause-answers
 returns-clause-answers g c = λ r honest keep starts.
@@ -132,3 +132,18 @@ returns-in_err-push-clause-stay g c = λ k r h. c.take_step.ensures.stay.1 k r (
 
 pub returns-in_err-push-clause-stay_silent : goal.returns-in_err-push-clause-stay_silent
 returns-in_err-push-clause-stay_silent g c = λ k r h. c.take_step.ensures.stay_silent.1 k r (c.loop-step.invariant.silent.1 k r h)
+
+pub returns-in_err-event-clause-others : goal.returns-in_err-event-clause-others
+returns-in_err-event-clause-others g c =
+    others_stay g.S.Servers.honest g.S.Servers.silent c.args.servers.now c.loop-step.servers c.take_step.new.servers c.args.resolver.now c.args.steps.now c.loop-step.step-index c.loop-step.events.items
+    (world c.loop-step.scene.moment c.loop-step.scene.member c.loop-step.scene.sent.items c.loop-step.resolver) c.loop-step.invariant c.take_step.ensures.others
+
+pub returns-in_err-push-clause-others : goal.returns-in_err-push-clause-others
+returns-in_err-push-clause-others g c =
+    others_stay g.S.Servers.honest g.S.Servers.silent c.args.servers.now c.loop-step.servers c.take_step.new.servers c.args.resolver.now c.args.steps.now c.loop-step.step-index c.loop-step.events.items
+    (world c.loop-step.scene.moment c.loop-step.scene.member c.loop-step.scene.sent.items c.loop-step.resolver) c.loop-step.invariant c.take_step.ensures.others
+
+pub returns-clause-others : goal.returns-clause-others
+returns-clause-others g c =
+    others_stay g.S.Servers.honest g.S.Servers.silent c.args.servers.now c.loop-step.servers c.loop-step.servers c.args.resolver.now c.args.steps.now c.loop-step.step-index c.loop-step.events.items
+    (world c.loop-step.scene.moment c.loop-step.scene.member c.loop-step.scene.sent.items c.loop-step.resolver) c.loop-step.invariant (λ k none. refl)

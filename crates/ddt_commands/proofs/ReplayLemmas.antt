@@ -21,7 +21,7 @@ use Rattle.ddt_config.specs.Table.{Outline}
 use Rattle.ddt_sim.specs.declared.schedule.Transcript.{Transcript}
 use Rattle.ddt_sim.specs.Compiled.{AreCompiled, configs_of}
 use Rattle.ddt_sim.specs.Schedules.{StartsSound, AnswersAreRight, RepliesAreRight, FailuresAreRight}
-use Rattle.ddt_sim.specs.InForce.{AreRegisters, AnswersAreSince, AnswersAreOfLate, RepliesAreInForce, FailuresAreInForce, TicketsEndOnceInForce}
+use Rattle.ddt_sim.specs.InForce.{AreRegisters, AnswersAreSince, AnswersAreOfLate, RepliesAreInForce, FailuresAreInForce, NoRepliesAreInForce, TicketsEndOnceInForce}
 use Rattle.ddt_sim.specs.Tries.{NoRepliesAreRight}
 use Rattle.ddt_sim.specs.Sound.{NewResolversAreSound}
 use Rattle.ddt_lines.specs.Lines.{ended}
@@ -165,6 +165,7 @@ pub record HasRun (servers : List (List Outline)) (start : State) (steps : List 
   pub remembered : AnswersAreOfLate (members AreCompiled AreCompiled servers) start steps t after
   pub in_force : RepliesAreInForce (members AreCompiled AreCompiled servers) start steps t after
   pub failing : FailuresAreInForce (members AreCompiled AreCompiled servers) start steps t after
+  pub in_vain : NoRepliesAreInForce (members AreCompiled AreCompiled servers) start steps t after
   pub once : TicketsEndOnceInForce (members AreCompiled AreCompiled servers) start steps t after
 
 module _ (law : NewResolversAreSound) (r : Register) (others : List Register) (me_ : Locator) (seed : ℕ) (found : List Locator) (start : State) (at_root : found ≡ roots r) (new : start ≡ fresh found me_ seed)
@@ -197,6 +198,7 @@ module _ (law : NewResolversAreSound) (r : Register) (others : List Register) (m
             remembered = h.remembered (numbered r others) are past tells;
             replies = h.in_force (numbered r others) are past tells;
             failures = h.failing (numbered r others) are past tells;
+            no_reply = h.in_vain (numbered r others) are past tells;
             once = h.once (numbered r others) are past tells;
           };
         },

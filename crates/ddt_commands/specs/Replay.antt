@@ -24,7 +24,7 @@ use Rattle.ddt_sim.specs.declared.schedule.Transcript.{Transcript}
 use Rattle.ddt_sim.specs.Compiled.{AreCompiled, configs_of}
 use Rattle.ddt_sim.specs.History.{Line, Each, Tells as TellsRun}
 use Rattle.ddt_sim.specs.Schedules.{KeepServers, IsRightAnswer, IsRightReply, IsOnce, IsRightFailure}
-use Rattle.ddt_sim.specs.InForce.{IsAnswerSince, IsAnswerOfLate, IsReplyInForce, IsFailureInForce}
+use Rattle.ddt_sim.specs.InForce.{IsAnswerSince, IsAnswerOfLate, IsReplyInForce, IsFailureInForce, IsNoReplyInForce}
 use Rattle.ddt_sim.specs.Tries.{IsRightNoReply}
 use Rattle.ddt_sim.specs.World.{Members, members, request_at}
 use Rattle.ddt_lines.specs.Lines.{ended, outcome_text}
@@ -127,12 +127,13 @@ pub record IsOfOne (r : Register) (past : List Line) : Type 0 where
 
 -- What holds of any run: each answer to a ticket is what a register assigns that was in force since its ask, and each
 -- answer at once that of one in force less than 902,000 milliseconds before. Requests are delivered to the servers in
--- force, and no ticket ends twice.
+-- force, no ticket ends twice, and a lookup gives up for want of a reply only where it was in vain.
 pub record IsOfSome (registers : ℕ → Register) (past : List Line) : Type 0 where
   pub answers : Each (IsAnswerSince registers) past
   pub remembered : Each (IsAnswerOfLate registers) past
   pub replies : Each (IsReplyInForce registers) past
   pub failures : Each IsFailureInForce past
+  pub no_reply : Each IsNoReplyInForce past
   pub once : Each IsOnce past
 
 -- What has happened in a run of these steps, by a new resolver with the root locators of the first register, over the

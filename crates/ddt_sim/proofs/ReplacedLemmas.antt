@@ -10,6 +10,7 @@ use Rattle.ddt_path.specs.Covers.{covers}
 use Rattle.ddt_path.specs.Path.{xeid_path, is_path}
 use Rattle.ddt_register.specs.declared.register.Register.{Register}
 use Rattle.ddt_check.specs.Assignment.{assignment}
+use Rattle.ddt_check.specs.Says.{says}
 use Rattle.ddt_ecm.specs.laws.Statements.{message_of}
 use Rattle.ddt_cache.specs.declared.entry.Entry.{Entry}
 use Rattle.ddt_cache.specs.Entry.{is_negative}
@@ -39,19 +40,20 @@ use Rattle.ddt_sim.specs.declared.schedule.Transcript.{Transcript}
 use Rattle.ddt_sim.specs.Honest.{IsServer}
 use Rattle.ddt_sim.specs.RunLaws.{LawsOfRuns}
 use Rattle.ddt_sim.specs.Sound.{IsTrueEntry, delegates, registers, denies, IsNotRegistered}
-use Rattle.ddt_sim.specs.World.{World, Members, event_of, Calls, asked, heard, ticked, Resolves, by_reply, by_silence, WorldStep, resolves, serves, not_sent, passes, replaces, no_member}
+use Rattle.ddt_sim.specs.World.{World, Members, MayReply, event_of, Calls, asked, heard, ticked, Resolves, by_reply, by_silence, WorldStep, resolves, serves, not_sent, passes, replaces, no_member}
 use Rattle.ddt_sim.specs.History.{Line, History, begin, next, Among, Each, at_start, Tells}
 use Rattle.ddt_sim.specs.Schedules.{Ends, IsOnce, IsRepliedTo}
-use Rattle.ddt_sim.specs.InForce.{in_force, SomeSince, most_age, IsAnswerSince, IsAnswerOfLate, IsReplyInForce, IsFailureInForce, AreRegisters}
+use Rattle.ddt_sim.specs.InForce.{in_force, SomeSince, most_age, IsAnswerSince, IsAnswerOfLate, IsReplyInForce, IsFailureInForce, IsNoReplyInForce, AreRegisters}
 use Rattle.ddt_sim.specs.laws.Ticket.{still_once, once_move, ended_was_pending, among_map}
-use Rattle.ddt_sim.proofs.ReplyLemmas.{IsFor, act_is_for}
+use Rattle.ddt_sim.proofs.ReplyLemmas.{IsFor, act_is_for, says_usable}
 use Rattle.ddt_sim.proofs.SentLemmas.{ignored_rightly}
 use Rattle.ddt_sim.proofs.ScheduleLemmas.{asked_by, asks_by}
 use Rattle.ddt_sim.proofs.SinceLemmas.{since_map, since_any, IsOutcome, outcome_from}
 use Rattle.ddt_sim.proofs.SinceLemmas as since
 use Rattle.ddt_sim.proofs.SoundLemmas.{negative_is, referral_not_negative, kept_is}
-use Rattle.ddt_sim.proofs.StatementLemmas.{IsIdle, idle_still, idle_by, tells_asked, tells_refused, tells_heard, exhausted_at, refused_rightly, asked_by_delivery}
-use Rattle.ddt_sim.proofs.InForceLemmas.{HasLaws, IsSent, tells, IsYoung, WasYoung, IsAged, IsSaid, IsSpelled, said_outcome, order_now, was_asked, heard_since, spelled}
+use Rattle.ddt_sim.proofs.StatementLemmas.{IsIdle, idle_still, idle_by, tells_asked, tells_refused, tells_heard, exhausted_at, refused_rightly, asked_by_delivery, first_tried}
+use Rattle.ddt_sim.proofs.TriesLemmas.{IsTried, IsGround, AreBytesRead, ReplyUsably, tried_on, vain_now}
+use Rattle.ddt_sim.proofs.InForceLemmas.{server_or_not, HasLaws, IsSent, tells, IsYoung, WasYoung, IsAged, IsSaid, IsSpelled, said_outcome, order_now, was_asked, heard_since, spelled}
 use Rattle.ddt_sim.proofs.InForceLemmas as aged
 use Rattle.ddt_sim.proofs.AgedLemmas.{is_moved, aged_on}
 
@@ -225,12 +227,44 @@ module _ (servers : Members) (of : ℕ → Register) (on : HasLaws servers of) (
     | inr idle ↦ record { gave_up = λ t why ends. absurd ((idle_still event idle).ends_none t (Err why) ends); ignored = λ why e. absurd (subst IsIdle e idle); refused = λ why e. absurd (subst IsIdle e idle) }
   ]
 
+  -- ---- no reply
+
+  -- the replies of the servers in force are usable
+  usable_in_force : (k : ℕ) (d : Datagram) (bytes : List ℕ) → slice_get w.sent k ≡ Some d → d.is_reply ≡ false → MayReply (servers.honest w.member) (servers.silent w.member) d.to d.bytes (Some bytes) → ReplyUsably d bytes
+  usable_in_force k d bytes found kind may m id asks_it = elim (server_or_not (of w.member) d.to) [
+    | inl is_server ↦ (
+      says (of w.member) d.to (xeid_path m.xeid),
+      says_usable (of w.member) (on.read w.member i.within) d.to (xeid_path m.xeid) id,
+      may.honestly (of w.member) m (on.honest w.member i.within) is_server asks_it,
+    )
+    | inr none ↦ absurd (none-some bytes (sym (may.silently (of w.member) (on.silent w.member i.within) none)))
+  ]
+
+  ground : IsGround past w
+  ground = record { order = i.order; early = i.early; fits = i.fits; tickets = i.tickets }
+
+  tried_in_force : AreBytesRead → IsTried past w → WorldStep servers w step event new → IsTried (line ∷ past) new
+  tried_in_force read tried = tried_on read servers past w ground tried usable_in_force step event new
+
+  vain_in_force : IsTried past w → WorldStep servers w step event new → IsNoReplyInForce past line
+  vain_in_force tried = vain_now servers past w ground tried step event new
+
 -- ---- all lines
 
 module _ (servers : Members) (of : ℕ → Register) (on : HasLaws servers of) (start : World) (first : IsAged servers of [] start) where
   aged_run : (past : List Line) (w : World) → History servers start past w → IsAged servers of past w
   aged_run past w begin = first
   aged_run past w (next {past = p} {w = v} step event h does) = aged_on servers of on p v (aged_run p v h) step event w does
+
+  -- the tries of its lookups are known
+  module _ (read : AreBytesRead) (tried : IsTried [] start) where
+    tried_run : (past : List Line) (w : World) → History servers start past w → IsTried past w
+    tried_run past w begin = tried
+    tried_run past w (next {past = p} {w = v} step event h does) = tried_in_force servers of on p v (aged_run p v h) step event w read (tried_run p v h) does
+
+    pub each_vain : (past : List Line) (w : World) → History servers start past w → Each IsNoReplyInForce past
+    each_vain past w begin = tt
+    each_vain past w (next {past = p} {w = v} step event h does) = (vain_in_force servers of on p v (aged_run p v h) step event w (tried_run p v h) does, each_vain p v h)
 
   module _ (holds : List Line → Line → Type 0) (each : (past : List Line) (w : World) (i : IsAged servers of past w) (step : Step) (event : Event) (new : World) → WorldStep servers w step event new
       → holds past (record { before = w; step = step; event = event; after = new })) where
@@ -293,3 +327,6 @@ module _ (laws : LawsOfRuns) (servers : Members) (old : State) (o : IsInOrder ol
 
     pub each_failure_in_force : Each IsFailureInForce past
     each_failure_in_force = each_aged servers of stands (at_start old) first IsFailureInForce (failure_in_force servers of stands) past told.last told.history
+
+    pub each_no_reply_in_force : Each IsNoReplyInForce past
+    each_no_reply_in_force = each_vain servers of stands (at_start old) first (record { messages = laws.messages; back = laws.back; written = laws.written }) (first_tried old are.starts.at_rest) past told.last told.history

@@ -1,12 +1,13 @@
 -- The reply of an honest server is taken up by the lookup that asked, and is fair.
-use Rattle.std.proofs.Common.{◌≡◌, ℕ, ◌<◌, ◌≤◌, List, length, Some, refl, sym, ap, ◌∙◌, subst, arith, inl, inr, ◌⊎◌}
+use Rattle.std.proofs.Common.{◌≡◌, ℕ, ◌≤◌, List, length, Some, refl, sym, ap, ◌∙◌, subst, arith, inl, inr, ◌⊎◌}
 use Rattle.std.specs.Prelude.{IsTrue}
 use Rattle.std.specs.FinMap.{get}
 use Rattle.std.proofs.lemmas.Option.{same_Some}
 use Rattle.ddt_path.specs.declared.locator.Locator.{Locator}
 use Rattle.ddt_path.specs.declared.xeid.Xeid.{Xeid}
 use Rattle.ddt_path.specs.declared.record.ReferralRecord.{ReferralRecord}
-use Rattle.ddt_path.specs.Path.{xeid_path}
+use Rattle.ddt_path.specs.Locators.{most_locators}
+use Rattle.ddt_path.specs.Path.{xeid_path, is_path}
 use Rattle.ddt_path.specs.Covers.{covers}
 use Rattle.ddt_register.specs.declared.register.Register.{Register}
 use Rattle.ddt_check.specs.Says.{says}
@@ -19,7 +20,7 @@ use Rattle.ddt_resolver.specs.declared.answers.Ignored.{Ignored}
 use Rattle.ddt_resolver.specs.declared.answers.Heard.{Heard}
 use Rattle.ddt_resolver.specs.declared.answers.Heard.TheVariants as heard
 use Rattle.ddt_resolver.specs.State.{State, server}
-use Rattle.ddt_path.specs.Actions.{IsReferral}
+use Rattle.ddt_resolver.specs.Records.{NamesServer}
 use Rattle.ddt_resolver.specs.TakeUp as takes
 use Rattle.ddt_resolver.specs.TakeUp.{Tells, IsTaken, Ignores}
 use Rattle.ddt_resolver.specs.Act as acts
@@ -55,20 +56,26 @@ pub record RepliesAreRead (r : Register) : Type 0 where
   pub servers : AnswersHaveServers r
   pub sendable : AnswersCanBeSent r
 
--- ---- the reply of an honest server
+-- A reply is usable for x: its record covers x, names a server where it refers to others, and has at most eight.
+pub record IsUsable (rec : ReferralRecord) (x : List ℕ) : Type 0 where
+  pub covers_x : IsTrue (covers rec.prefix x)
+  pub names_server : NamesServer rec
+  pub few : length rec.servers ≤ most_locators
 
-module _ (r : Register) (laws : RepliesAreRead r) (s : State) (o : IsInOrder s) (t : ℕ) (l : Pending) (here : get s.pending t ≡ Some l) (source : Locator) (to : source ≡ server s.me l)
-    (reply : List ℕ) (spells : Spells reply (message_of l.nonce (says r source (xeid_path l.x)))) where
-  abbrev said : ReferralRecord
-  said = says r source (xeid_path l.x)
+-- so are those of a register
+pub says_usable : (r : Register) → RepliesAreRead r → (source : Locator) (x : List ℕ) → IsTrue (is_path x) → IsUsable (says r source x) x
+says_usable r laws source x id = record { covers_x = laws.cover source x; names_server = λ k. (laws.servers source x (inl k)).0; few = (laws.sendable source x id).few_servers }
 
+-- ---- a usable reply from the server that was asked
+
+module _ (messages : MessagesAreRead) (back : RecordsComeBack) (s : State) (o : IsInOrder s) (t : ℕ) (l : Pending) (here : get s.pending t ≡ Some l) (source : Locator) (to : source ≡ server s.me l)
+    (reply : List ℕ) (said : ReferralRecord) (usable : IsUsable said (xeid_path l.x)) (spells : Spells reply (message_of l.nonce said)) where
   -- whatever the reply tells is this
   told : (nonce : ℕ) (rec : ReferralRecord) → Tells reply nonce rec → (l.nonce ≡ nonce) × (rec ≡ said)
   told nonce rec tells =
-      let same : tells.message ≡ message_of l.nonce said = laws.messages.one reply tells.message (message_of l.nonce said) tells.spells spells in
-      let id = (o.lookups t l here).lookup.identifier in (
+      let same : tells.message ≡ message_of l.nonce said = messages.one reply tells.message (message_of l.nonce said) tells.spells spells in (
         sym (ap (λ (m : Message). m.nonce) same) ∙ tells.same_nonce,
-        sym tells.same_record ∙ ap message_record same ∙ laws.back l.nonce said (laws.sendable source (xeid_path l.x) id).few_servers,
+        sym tells.same_record ∙ ap message_record same ∙ back l.nonce said usable.few,
       )
 
   -- a lookup that has its nonce is the one that asked
@@ -77,11 +84,9 @@ module _ (r : Register) (laws : RepliesAreRead r) (s : State) (o : IsInOrder s) 
       let same : u ≡ t = o.nonces u t m l is.is_pending here (sym (told m.nonce rec is.tells).0) in
       (same, same_Some m l (sym is.is_pending ∙ ap (get s.pending) same ∙ here))
 
-  -- so a datagram that a lookup takes up is fair
-  fair : IsFairDatagram r s source reply
-  fair u m rec taken =
-      let is = taken.in_time.from_server.reply in
-      (told m.nonce rec is.tells).1 ∙ ap (λ (p : Pending). says r source (xeid_path p.x)) (sym (own_ticket u m rec is).1)
+  -- so what a lookup takes up is this record, and the lookup the one that asked
+  pub taken_by_own : (u : ℕ) (m : Pending) (rec : ReferralRecord) → IsTaken s source reply u m rec → (rec ≡ said) × (m ≡ l)
+  taken_by_own u m rec taken = let is = taken.in_time.from_server.reply in ((told m.nonce rec is.tells).1, (own_ticket u m rec is).1)
 
   -- and it is ignored only where it is late
   ignored_late : (why : Ignored) → Ignores s source reply why → l.deadline ≤ s.known.time
@@ -92,14 +97,8 @@ module _ (r : Register) (laws : RepliesAreRead r) (s : State) (o : IsInOrder s) 
   ignored_late why (takes.not_covering u m rec in_time away e) =
       let is = in_time.from_server.reply in
       absurd (away (inl (subst (λ (v : ReferralRecord). IsTrue (covers v.prefix (xeid_path m.x))) (sym (told m.nonce rec is.tells).1)
-      (subst (λ (p : Pending). IsTrue (covers said.prefix (xeid_path p.x))) (sym (own_ticket u m rec is).1) (laws.cover source (xeid_path l.x))))))
-  ignored_late why (takes.no_servers u m rec in_time about none e) = absurd (none named)
-    where
-      rec_is : rec ≡ said
-      rec_is = (told m.nonce rec in_time.from_server.reply.tells).1
-
-      named : IsReferral rec.action → 0 < length rec.servers
-      named k = subst (λ (v : ReferralRecord). 0 < length v.servers) (sym rec_is) (laws.servers source (xeid_path l.x) (inl (subst (λ (v : ReferralRecord). IsReferral v.action) rec_is k))).0
+      (subst (λ (p : Pending). IsTrue (covers said.prefix (xeid_path p.x))) (sym (own_ticket u m rec is).1) usable.covers_x))))
+  ignored_late why (takes.no_servers u m rec in_time about none e) = absurd (none (subst NamesServer (sym (told m.nonce rec in_time.from_server.reply.tells).1) usable.names_server))
 
   -- it is late, or for the lookup that asked
   pub late_or_taken : (new : State) (h : Heard) → HearStep s source reply new h → (l.deadline ≤ s.known.time) ⊎ IsFor t h
@@ -111,14 +110,19 @@ module _ (r : Register) (laws : RepliesAreRead r) (s : State) (o : IsInOrder s) 
 
 module _ (r : Register) (laws : RepliesAreRead r) (now : ℕ) (x : Xeid) (s : State) (t : ℕ) (d : Outgoing) (o : IsInOrder s) (w : Waits now x s t d)
     (reply : List ℕ) (spells : Spells reply (message_of w.lookup.nonce (says r d.to (xeid_path x)))) where
+  usable_here : IsUsable (says r d.to (xeid_path w.lookup.x)) (xeid_path w.lookup.x)
+  usable_here = says_usable r laws d.to (xeid_path w.lookup.x) (o.lookups t w.lookup w.is_pending).lookup.identifier
+
   of_its_x : Spells reply (message_of w.lookup.nonce (says r d.to (xeid_path w.lookup.x)))
   of_its_x = subst (λ y. Spells reply (message_of w.lookup.nonce (says r d.to (xeid_path y)))) (sym w.its_x) spells
 
   pub honest_reply_is_fair : IsFairDatagram r s d.to reply
-  honest_reply_is_fair = fair r laws s o t w.lookup w.is_pending d.to w.to reply of_its_x
+  honest_reply_is_fair u m rec taken =
+      let own = taken_by_own laws.messages laws.back s o t w.lookup w.is_pending d.to w.to reply (says r d.to (xeid_path w.lookup.x)) usable_here of_its_x u m rec taken in
+      own.0 ∙ ap (λ (p : Pending). says r d.to (xeid_path p.x)) (sym own.1)
 
   pub honest_reply_is_taken : (new : State) (h : Heard) → HearStep s d.to reply new h → IsFor t h
-  honest_reply_is_taken new h step = elim (late_or_taken r laws s o t w.lookup w.is_pending d.to w.to reply of_its_x new h step) [
+  honest_reply_is_taken new h step = elim (late_or_taken laws.messages laws.back s o t w.lookup w.is_pending d.to w.to reply (says r d.to (xeid_path w.lookup.x)) usable_here of_its_x new h step) [
     | inl late ↦ let e = w.deadline in absurd (omega (arith, e, late))
     | inr is ↦ is
   ]

@@ -3,12 +3,14 @@ use Rattle.std.proofs.Common.{◌≡◌, ℕ, true, false, List, [], ◌∷◌, 
 use Rattle.std.specs.Prelude.{slice_get, Contains}
 use Rattle.std.proofs.lemmas.List.Sorted.{IsPermutation-reverse}
 use Rattle.ddt_path.specs.laws.Member.{IsIn, in_contained, contained, moved_in}
-use Rattle.std.specs.FinMap.{len}
+use Rattle.std.specs.FinMap.{get, len}
 use Rattle.std.proofs.lemmas.Option.{none-some, same_Some, slice_get_within}
 use Rattle.std.proofs.lemmas.Bool.{false≢true}
 use Rattle.ddt_path.specs.declared.record.Outcome.{Outcome}
 use Rattle.ddt_path.specs.declared.xeid.Xeid.{Xeid}
+use Rattle.ddt_path.specs.Path.{xeid_path}
 use Rattle.ddt_register.specs.declared.register.Register.{Register}
+use Rattle.ddt_check.specs.Says.{says}
 use Rattle.ddt_ecm.specs.laws.Statements.{message_of}
 use Rattle.ddt_resolver.specs.declared.pending.Pending.{Pending}
 use Rattle.ddt_resolver.specs.declared.answers.Asked.{Asked as Asking}
@@ -41,16 +43,16 @@ use Rattle.ddt_sim.specs.declared.schedule.Datagram.{Datagram}
 use Rattle.ddt_sim.specs.declared.schedule.Transcript.{Transcript}
 use Rattle.ddt_sim.specs.RunLaws.{LawsOfRuns}
 use Rattle.ddt_sim.specs.Sound.{IsSound, IsRight, IsRightHeard, IsRightEnd, IsRightWhy}
-use Rattle.ddt_sim.specs.World.{World, Members, event_of, Calls, asked, heard, ticked, Resolves, by_reply, by_silence, WorldStep, resolves, serves, not_sent, passes, replaces, no_member}
+use Rattle.ddt_sim.specs.World.{World, Members, MayReply, event_of, Calls, asked, heard, ticked, Resolves, by_reply, by_silence, WorldStep, resolves, serves, not_sent, passes, replaces, no_member}
 use Rattle.ddt_sim.specs.History.{Line, History, begin, next, Each, steps_of, at_start, Tells, StopsAfter}
 use Rattle.ddt_sim.specs.Schedules.{StartsSound, KeepServers, Ends, IsRightAnswer, IsOnce, IsRepliedTo, IsRightReply, IsRightFailure}
-use Rattle.ddt_sim.proofs.ReplyLemmas.{IsFor, act_is_for}
+use Rattle.ddt_sim.proofs.ReplyLemmas.{IsFor, act_is_for, says_usable}
 use Rattle.ddt_sim.proofs.SentLemmas as sent
 use Rattle.ddt_sim.proofs.SentLemmas.{IsKnown, ignored_rightly}
 use Rattle.ddt_sim.specs.laws.Ticket.{IsStill, still_once, once_move, ended_was_pending}
 use Rattle.ddt_sim.specs.Tries.{IsRightNoReply}
-use Rattle.ddt_sim.proofs.TriesLemmas.{IsTried, tried_on, right_no_reply}
-use Rattle.ddt_sim.proofs.ScheduleLemmas.{asked_by, asks_by, IsSoundRun, was_asked_at, Stands, order_now, replied_honestly, right_now, is_moved, steps_soundly}
+use Rattle.ddt_sim.proofs.TriesLemmas.{IsTried, IsGround, AreBytesRead, ReplyUsably, tried_on, vain_now}
+use Rattle.ddt_sim.proofs.ScheduleLemmas.{asked_by, asks_by, IsSoundRun, was_asked_at, Stands, order_now, known_request, replied_honestly, right_now, is_moved, steps_soundly}
 
 -- ---- events
 
@@ -329,20 +331,43 @@ keep_first steps past rest keep are =
     in_front x (y ∷ xs) ys (inl h) = inl h
     in_front x (y ∷ xs) ys (inr h) = inr (in_front x xs ys h)
 
+-- the servers' replies are usable, as the requests go to servers of the register
+usable_reply : (r : Register) (servers : Members) (on : Stands r servers) (past : List Line) (w : World) (sound : IsSoundRun r past w) (k : ℕ) (d : Datagram) (bytes : List ℕ) → slice_get w.sent k ≡ Some d → d.is_reply ≡ false
+    → MayReply (servers.honest w.member) (servers.silent w.member) d.to d.bytes (Some bytes) → ReplyUsably d bytes
+usable_reply r servers on past w sound k d bytes found kind may m id spells = (
+  says r d.to (xeid_path m.xeid),
+  says_usable r on.read d.to (xeid_path m.xeid) id,
+  may.honestly r m (subst (λ j. servers.honest j r) (sym sound.member) on.honest) (known_request r servers on past w sound d (sound.known k d found) kind).2.is_server spells,
+)
+
+ground : (r : Register) (past : List Line) (w : World) → IsSoundRun r past w → IsGround past w
+ground r past w sound = record { order = sound.order; early = sound.early; fits = sound.fits; tickets = sound.tickets }
+
 module _ (r : Register) (servers : Members) (on : Stands r servers) (start : World) (first : IsSoundRun r [] start) where
+  bytes_read : AreBytesRead
+  bytes_read = record { messages = on.read.messages; back = on.read.back; written = on.written }
+
   pub sound_run : (past : List Line) (w : World) → KeepThem past → History servers start past w → IsSoundRun r past w
   sound_run past w keep begin = first
   sound_run past w keep (next {past = p} {w = v} step event h does) = steps_soundly r servers on p v (sound_run p v keep.1 h) step event w keep.0 does
 
   -- and the tries of its lookups are known
-  tried_run : IsTried r [] start → (past : List Line) (w : World) → KeepThem past → History servers start past w → IsTried r past w
+  tried_run : IsTried [] start → (past : List Line) (w : World) → KeepThem past → History servers start past w → IsTried past w
   tried_run tried past w keep begin = tried
-  tried_run tried past w keep (next {past = p} {w = v} step event h does) = tried_on r servers on p v (sound_run p v keep.1 h) (tried_run tried p v keep.1 h) step event w keep.0 does
+  tried_run tried past w keep (next {past = p} {w = v} step event h does) =
+      let sound = sound_run p v keep.1 h in tried_on bytes_read servers p v (ground r p v sound) (tried_run tried p v keep.1 h) (usable_reply r servers on p v sound) step event w does
 
-  pub each_right_no_reply : IsTried r [] start → (past : List Line) (w : World) → KeepThem past → History servers start past w → Each (IsRightNoReply r) past
+  right_no_reply : IsTried [] start → (past : List Line) (w : World) → KeepThem past → History servers start past w → (step : Step) (event : Event) (new : World) → WorldStep servers w step event new
+      → IsRightNoReply r past (record { before = w; step = step; event = event; after = new })
+  right_no_reply tried past w keep h step event new does t ends =
+      let sound = sound_run past w keep h in
+      let vain = vain_now servers past w (ground r past w sound) (tried_run tried past w keep h) step event new does t ends in
+      record { vain = vain; of_zone = sound.sound.lookups t vain.lookup vain.is_pending }
+
+  pub each_right_no_reply : IsTried [] start → (past : List Line) (w : World) → KeepThem past → History servers start past w → Each (IsRightNoReply r) past
   each_right_no_reply tried past w keep begin = tt
   each_right_no_reply tried past w keep (next {past = p} {w = v} step event h does) =
-      (right_no_reply r servers p v (sound_run p v keep.1 h) (tried_run tried p v keep.1 h) step event w does, each_right_no_reply tried p v keep.1 h)
+      (right_no_reply tried p v keep.1 h step event w does, each_right_no_reply tried p v keep.1 h)
 
   module _ (holds : List Line → Line → Type 0) (each : (past : List Line) (w : World) (i : IsSoundRun r past w) (step : Step) (event : Event) (new : World) → WorldStep servers w step event new
       → holds past (record { before = w; step = step; event = event; after = new })) where
@@ -369,12 +394,12 @@ first_run r s o starts = record {
   };
 }
 
-first_tried : (r : Register) (s : State) → StartsSound r s → IsTried r [] (at_start s)
-first_tried r s starts = record {
+pub first_tried : (s : State) → ((t : ℕ) → get s.pending t ≡ None) → IsTried [] (at_start s)
+first_tried s at_rest = record {
   time = omega arith;
   heard = λ reply moment h. absurd h;
   replied = λ reply number h. absurd h;
-  trails = λ t l found none. absurd (none-some l (sym (starts.at_rest t) ∙ found));
+  trails = λ t l found none. absurd (none-some l (sym (at_rest t) ∙ found));
 }
 
 module _ (laws : LawsOfRuns) (servers : Members) (old : State) (o : IsInOrder old) (steps : List Step) (r : Register) (honest : servers.honest 0 r) (keep : KeepServers steps) (starts : StartsSound r old) where
@@ -417,4 +442,4 @@ module _ (laws : LawsOfRuns) (servers : Members) (old : State) (o : IsInOrder ol
     each_failure = each_line r servers on (at_start old) first IsRightFailure (right_failure r servers on) past tells.last kept tells.history
 
     pub each_no_reply : Each (IsRightNoReply r) past
-    each_no_reply = each_right_no_reply r servers on (at_start old) first (first_tried r old starts) past tells.last kept tells.history
+    each_no_reply = each_right_no_reply r servers on (at_start old) first (first_tried old starts.at_rest) past tells.last kept tells.history

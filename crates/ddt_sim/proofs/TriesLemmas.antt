@@ -1,6 +1,6 @@
 -- A lookup that ends for want of a reply has asked each of its servers twice in vain.
 use Rattle.std.proofs.Common.{◌≡◌, ℕ, ◌+◌, ◌*◌, ◌/◌, ◌<◌, ◌≤◌, Bool, true, false, List, [], ◌∷◌, ◌++◌, length, get_or, Some, None, Result, Ok, Err, refl, sym, ap, ◌∙◌, subst, subst₂, arith, inl, inr, append-nil, length-append, ne_eqb, eq-eqb}
-use Rattle.std.specs.Prelude.{◌==◌, if◌then◌else◌, slice_get}
+use Rattle.std.specs.Prelude.{IsTrue, ◌==◌, if◌then◌else◌, slice_get}
 use Rattle.std.specs.FinMap.{get}
 use Rattle.std.proofs.lemmas.Bool.{cond-true, cond-false}
 use Rattle.std.proofs.lemmas.Option.{none-some, same_Some, slice_get_within}
@@ -8,13 +8,13 @@ use Rattle.ddt_path.specs.declared.locator.Locator.{Locator}
 use Rattle.ddt_path.specs.declared.record.Outcome.{Outcome}
 use Rattle.ddt_path.specs.declared.record.ReferralRecord.{ReferralRecord}
 use Rattle.ddt_path.specs.declared.xeid.Xeid.{Xeid}
-use Rattle.ddt_path.specs.Path.{xeid_path}
-use Rattle.ddt_register.specs.declared.register.Register.{Register}
-use Rattle.ddt_check.specs.Says.{says}
+use Rattle.ddt_path.specs.Path.{xeid_path, is_path}
 use Rattle.ddt_ecm.specs.Request.{Message}
-use Rattle.ddt_ecm.specs.laws.Statements.{message_of}
+use Rattle.ddt_ecm.specs.laws.Statements.{WrittenSpells, message_of}
 use Rattle.ddt_node.specs.Server.{IsDdtRequest}
 use Rattle.ddt_wire.specs.Referral.{Spells, message_of as referral_of}
+use Rattle.ddt_wire.specs.laws.Statements.{MessagesAreRead, RecordsComeBack}
+use Rattle.ddt_cache.specs.Moment.{last_moment}
 use Rattle.ddt_resolver.specs.declared.pending.Pending.{Pending}
 use Rattle.ddt_resolver.specs.declared.answers.Asked.{Asked as Asking}
 use Rattle.ddt_resolver.specs.declared.answers.AskError.{AskError}
@@ -32,25 +32,27 @@ use Rattle.ddt_resolver.specs.TickStep as tick
 use Rattle.ddt_resolver.specs.TickStep.{TickStep, GoOn}
 use Rattle.ddt_resolver.specs.Step as resolver
 use Rattle.ddt_resolver.specs.Step.{Call, Hear, Reply, ToAsk, ToDatagram, ToTick, asks, hears, ticks}
+use Rattle.ddt_resolver.specs.Order.{IsInOrder}
+use Rattle.ddt_resolver.specs.laws.Order.{order_moved}
 use Rattle.ddt_resolver.specs.laws.NumberMap.{found_insert, found_remove}
-use Rattle.ddt_resolver.specs.laws.Shape.{Move, stays, opens, sends, drops, IsMoved, IsQuiet, Goes, anew, keeps, repeats, goes_on, End}
+use Rattle.ddt_resolver.specs.laws.Shape.{Move, stays, opens, sends, drops, IsMoved, IsQuiet, Goes, anew, keeps, repeats, goes_on, End, moved_by_step}
 use Rattle.ddt_resolver.specs.laws.Shape as shape
 use Rattle.ddt_sim.specs.declared.schedule.Step.{Step}
-use Rattle.ddt_sim.specs.declared.schedule.Step.TheVariants.{Deliver, Replace}
+use Rattle.ddt_sim.specs.declared.schedule.Step.TheVariants.{Deliver}
 use Rattle.ddt_sim.specs.declared.schedule.Event.{Event}
 use Rattle.ddt_sim.specs.declared.schedule.Event.TheVariants.{Asked, Refused, Replied, Silent, Heard, Passed, Ticked, Replaced, Nothing}
 use Rattle.ddt_sim.specs.declared.schedule.Datagram.{Datagram}
-use Rattle.ddt_sim.specs.Honest.{IsServer, IsHonestReply}
+use Rattle.ddt_sim.specs.Waiting.{CanBeAsked}
 use Rattle.ddt_sim.specs.World.{World, Members, MayReply, request_at, request_from, sent_for, reply_to, event_of, Calls, asked, heard, ticked, Resolves, later, by_reply, by_silence, WorldStep, resolves, serves, not_sent, passes, replaces, no_member}
 use Rattle.ddt_sim.specs.History.{Line, Among}
 use Rattle.ddt_sim.specs.Schedules.{Ends}
-use Rattle.ddt_sim.specs.Tries.{Sends, Try, try_in, IsSentFor, IsReplyBy, IsHeardBy, IsUnanswered, request_to, IsInVain, IsLater, AreInVain, tries_after, tries_of, HasNoReply, IsRightNoReply}
-use Rattle.ddt_sim.proofs.ReplyLemmas.{IsFor, late_or_taken}
-use Rattle.ddt_sim.proofs.ServerLemmas.{asks_a_server}
+use Rattle.ddt_sim.specs.Tries.{Sends, Try, try_in, IsSentFor, IsReplyBy, IsHeardBy, IsUnanswered, request_to, IsInVain, IsLater, AreInVain, tries_after, tries_of, WasInVain}
+use Rattle.ddt_sim.specs.InForce.{IsNoReplyInForce}
+use Rattle.ddt_sim.proofs.ReplyLemmas.{IsFor, IsUsable, late_or_taken}
 use Rattle.ddt_sim.proofs.SentLemmas.{get_append, get_last}
-use Rattle.ddt_sim.specs.laws.Ticket.{goes_on_reply}
+use Rattle.ddt_sim.specs.laws.Ticket.{Tickets, goes_on_reply}
 use Rattle.ddt_sim.proofs.WaitingLemmas.{spelled_request}
-use Rattle.ddt_sim.proofs.ScheduleLemmas.{IsSoundRun, Stands, goes_sends, order_now, is_moved}
+use Rattle.ddt_sim.proofs.ScheduleLemmas.{goes_sends}
 
 -- ---- what an event tells of a ticket
 
@@ -151,13 +153,17 @@ half n p false e = omega arith
 abbrev pub waits_for : Locator → Pending → Datagram
 waits_for me l = request_to me l.nonce l.x (server me l)
 
--- a datagram is the reply to a request, and honest
-pub record IsReplyTo (r : Register) (sent : List Datagram) (reply number : ℕ) : Type 0 where
+-- bytes reply usably to a datagram: to each request that it spells, with its nonce and a record that is usable for its x
+abbrev pub ReplyUsably : Datagram → List ℕ → Type 0
+ReplyUsably d bytes = (m : Message) → IsTrue (is_path (xeid_path m.xeid)) → IsDdtRequest d.bytes m → (rec : ReferralRecord) × IsUsable rec (xeid_path m.xeid) × Spells bytes (referral_of m.nonce rec)
+
+-- a datagram is the reply to a request, and usable
+pub record IsReplyTo (sent : List Datagram) (reply number : ℕ) : Type 0 where
   pub request : Datagram
   pub bytes : List ℕ
   pub is_request : slice_get sent number ≡ Some request
   pub is_reply : slice_get sent reply ≡ Some (reply_to request bytes)
-  pub honest : (m : Message) → IsServer r request.to → IsDdtRequest request.bytes m → IsHonestReply r request.to m (Some bytes)
+  pub usable : ReplyUsably request bytes
 
 -- The tries of a lookup that keeps nothing: the last, which nothing replied to in time so far, and the others in vain.
 pub record Trail (past : List Line) (w : World) (t : ℕ) (l : Pending) : Type 0 where
@@ -172,15 +178,28 @@ pub record Trail (past : List Line) (w : World) (t : ℕ) (l : Pending) : Type 0
   pub is_later : IsLater last earlier
   pub in_vain : AreInVain past w t l.servers l.x earlier
 
-pub record IsTried (r : Register) (past : List Line) (w : World) : Type 0 where
+pub record IsTried (past : List Line) (w : World) : Type 0 where
   pub time : w.state.known.time ≤ w.moment
   pub heard : (reply moment : ℕ) → Among past (IsHeardBy reply moment) → reply < length w.sent
-  pub replied : (reply number : ℕ) → Among past (IsReplyBy reply number) → IsReplyTo r w.sent reply number
+  pub replied : (reply number : ℕ) → Among past (IsReplyBy reply number) → IsReplyTo w.sent reply number
   pub trails : (t : ℕ) (l : Pending) → get w.state.pending t ≡ Some l → l.kept ≡ None → Trail past w t l
+
+-- what is known besides of a run, whatever its servers say
+pub record IsGround (past : List Line) (w : World) : Type 0 where
+  pub order : IsInOrder w.state
+  pub early : w.moment ≤ last_moment
+  pub fits : (t : ℕ) (l : Pending) → get w.state.pending t ≡ Some l → CanBeAsked l.x w.state.me
+  pub tickets : Tickets past w.state
+
+-- what requests and replies as bytes stand on
+pub record AreBytesRead : Type 0 where
+  pub messages : MessagesAreRead
+  pub back : RecordsComeBack
+  pub written : WrittenSpells
 
 -- ---- one more line
 
-module _ (r : Register) (past : List Line) (w : World) (step : Step) (event : Event) (new : World) (i : IsTried r past w)
+module _ (past : List Line) (w : World) (step : Step) (event : Event) (new : World) (i : IsTried past w)
     (more : List Datagram) (grown : new.sent ≡ w.sent ++ more) (me : new.state.me ≡ w.state.me) (le : w.moment ≤ new.moment)
     (is_next : (reply : ℕ) → event ≡ Replied reply → reply ≡ length w.sent) where
   abbrev line : Line
@@ -237,13 +256,13 @@ module _ (r : Register) (past : List Line) (w : World) (step : Step) (event : Ev
   }
 
   -- replies
-  reply_stays : (reply number : ℕ) → IsReplyTo r w.sent reply number → IsReplyTo r new.sent reply number
+  reply_stays : (reply number : ℕ) → IsReplyTo w.sent reply number → IsReplyTo new.sent reply number
   reply_stays reply number h = rw grown (record {
     request = h.request;
     bytes = h.bytes;
     is_request = get_append w.sent more number h.request h.is_request;
     is_reply = get_append w.sent more reply (reply_to h.request h.bytes) h.is_reply;
-    honest = h.honest;
+    usable = h.usable;
   })
 
   longer : (n : ℕ) → n < length w.sent → n < length new.sent
@@ -258,16 +277,18 @@ none_replies (ToAsk (Err why)) event reply e f = cc (e, f)
 none_replies (ToDatagram h) event reply e f = cc (e, f)
 none_replies (ToTick t) event reply e f = cc (e, f)
 
-module _ (r : Register) (servers : Members) (on : Stands r servers) (past : List Line) (w : World) (sound : IsSoundRun r past w) (i : IsTried r past w)
-    (step : Step) (event : Event) (new : World) (does : Resolves w step event new) where
+module _ (on : AreBytesRead) (past : List Line) (w : World) (ground : IsGround past w) (i : IsTried past w) (step : Step) (event : Event) (new : World) (does : Resolves w step event new) where
   abbrev now_line : Line
   now_line = record { before = w; step = step; event = event; after = new }
 
   abbrev s : State
   s = moved w.moment w.state
 
+  order : IsInOrder s
+  order = order_moved w.state w.moment ground.early ground.order
+
   moves : IsMoved s does.call does.state does.reply
-  moves = is_moved r servers on past w sound step event new does
+  moves = moved_by_step s order does.call does.state does.reply does.does
 
   abbrev more : List Datagram
   more = sent_for w.state.me (request_at event)
@@ -308,14 +329,13 @@ module _ (r : Register) (servers : Members) (on : Stands r servers) (past : List
       let asked : p.request ≡ waits_for w.state.me l = same_Some p.request (waits_for w.state.me l) (sym p.is_request ∙ h.datagram) in
       let came : d.0 ≡ reply_to p.request p.bytes = same_Some d.0 (reply_to p.request p.bytes) (sym d.1 ∙ p.is_reply) in
       let from : d.0.source ≡ server w.state.me l = ap (λ (z : Datagram). z.source) came ∙ ap (λ (z : Datagram). z.to) asked in
-      let own = sound.order.lookups t l found in
-      let below = own.nonce in let last = sound.order.next in
-      let spells = spelled_request on.written l.nonce l.x w.state.me (omega (arith, below, last)) (sound.fits t l found) in
-      let is_server : IsServer r (server w.state.me l) = asks_a_server r w.state.me l (sound.sound.lookups t l found) own.lookup.place in
-      let honest = p.honest (message_of l.nonce l.x (w.state.me ∷ []) true) (subst (λ (z : Datagram). IsServer r z.to) (sym asked) is_server) (subst (λ (z : Datagram). IsDdtRequest z.bytes (message_of l.nonce l.x (w.state.me ∷ []) true)) (sym asked) (spells, refl)) in
-      let said : Spells d.0.bytes (referral_of l.nonce (says r d.0.source (xeid_path l.x))) = subst (λ (z : Datagram). Spells z.bytes (referral_of l.nonce (says r z.source (xeid_path l.x)))) (sym came) honest in
+      let own = ground.order.lookups t l found in
+      let below = own.nonce in let last = ground.order.next in
+      let spells = spelled_request on.written l.nonce l.x w.state.me (omega (arith, below, last)) (ground.fits t l found) in
+      let given = p.usable (message_of l.nonce l.x (w.state.me ∷ []) true) own.lookup.identifier (subst (λ (z : Datagram). IsDdtRequest z.bytes (message_of l.nonce l.x (w.state.me ∷ []) true)) (sym asked) (spells, refl)) in
+      let said : Spells d.0.bytes (referral_of l.nonce given.0) = subst (λ (z : Datagram). Spells z.bytes (referral_of l.nonce given.0)) (sym came) given.2 in
       let heard_it = hears_it does.call does.state does.reply d.0.source d.0.bytes hearing d.2 (sym does.tells ∙ happened) does.does in
-      elim (late_or_taken r on.read s (order_now r servers on past w sound) t l found d.0.source from d.0.bytes said does.state hearing heard_it) [
+      elim (late_or_taken on.messages on.back s order t l found d.0.source from d.0.bytes given.0 given.1 said does.state hearing heard_it) [
         | inl late ↦ let e = h.deadline in let time = i.time in omega (arith, late, e, time)
         | inr told ↦ absurd (untold (subst (λ e. Tells e t) (sym happened) told))
       ]
@@ -323,7 +343,7 @@ module _ (r : Register) (servers : Members) (on : Stands r servers) (past : List
   keeps_trail : (t : ℕ) (l : Pending) → get w.state.pending t ≡ Some l → l.kept ≡ None → (Tells event t → ⊥) → Trail (now_line ∷ past) new t l
   keeps_trail t l found none untold =
       let h = i.trails t l found none in
-      trail_stays r past w step event new i more grown same_me le is_next t l h untold (heard_late t l found h untold)
+      trail_stays past w step event new i more grown same_me le is_next t l h untold (heard_late t l found h untold)
 
   -- no reply to what is sent only now
   new_unanswered : IsUnanswered (now_line ∷ past) (try_in w)
@@ -360,9 +380,9 @@ module _ (r : Register) (servers : Members) (on : Stands r servers) (past : List
       let ended : h.last.moment + patience ≤ w.moment = omega (arith, time, deadline, over) in
       let place : length h.earlier / 2 ≡ old.place = half (length h.earlier) old.place old.second h.count in
       let vain : AreInVain (now_line ∷ past) new t old.servers old.x (h.last ∷ h.earlier) = (
-        rw place (last_in_vain r past w step event new i more grown same_me le is_next t old h ended),
+        rw place (last_in_vain past w step event new i more grown same_me le is_next t old h ended),
         h.is_later,
-        all_vain_more r past w step event new i more grown same_me le is_next t old.servers old.x h.earlier h.in_vain,
+        all_vain_more past w step event new i more grown same_me le is_next t old.servers old.x h.earlier h.in_vain,
       ) in
       let before = h.count in
       record {
@@ -407,83 +427,86 @@ module _ (r : Register) (servers : Members) (on : Stands r servers) (past : List
       let h = found_remove w.state.pending u t l (ap (λ z. get z t) (sym p) ∙ found) in
       keeps_trail t l h.1 none (λ told. h.0 (sym (end_tells does.reply u t end f (subst (λ v. Tells v t) does.tells told))))
 
-  tried_move : IsTried r (now_line ∷ past) new
+  tried_move : IsTried (now_line ∷ past) new
   tried_move = record {
     time = subst (λ (v : World). v.state.known.time ≤ v.moment) (sym does.goes_on) (let e : does.state.known.time ≡ s.known.time = moves.time in let time = i.time in omega (arith, e, time));
     heard = λ reply moment. elim [
-      | inl h ↦ let d = delivered does.call reply does.calls h.0 in longer r past w step event new i more grown same_me le is_next reply (slice_get_within w.sent reply d.0 d.1)
-      | inr h ↦ longer r past w step event new i more grown same_me le is_next reply (i.heard reply moment h)
+      | inl h ↦ let d = delivered does.call reply does.calls h.0 in longer past w step event new i more grown same_me le is_next reply (slice_get_within w.sent reply d.0 d.1)
+      | inr h ↦ longer past w step event new i more grown same_me le is_next reply (i.heard reply moment h)
     ];
     replied = λ reply number. elim [
       | inl h ↦ absurd (none_replies does.reply event reply does.tells h.1)
-      | inr h ↦ reply_stays r past w step event new i more grown same_me le is_next reply number (i.replied reply number h)
+      | inr h ↦ reply_stays past w step event new i more grown same_me le is_next reply number (i.replied reply number h)
     ];
     trails = λ t l found. trails_move moves.move t l (subst (λ (v : World). get v.state.pending t ≡ Some l) does.goes_on found);
   }
 
 -- ---- the other steps
 
-module _ (r : Register) (servers : Members) (on : Stands r servers) (past : List Line) (w : World) (sound : IsSoundRun r past w) (i : IsTried r past w)
+module _ (on : AreBytesRead) (servers : Members) (past : List Line) (w : World) (ground : IsGround past w) (i : IsTried past w)
+    (usable : (k : ℕ) (d : Datagram) (bytes : List ℕ) → slice_get w.sent k ≡ Some d → d.is_reply ≡ false → MayReply (servers.honest w.member) (servers.silent w.member) d.to d.bytes (Some bytes) → ReplyUsably d bytes)
     (step : Step) (event : Event) (new : World) where
   abbrev this_line : Line
   this_line = record { before = w; step = step; event = event; after = new }
 
   -- the resolver has no part in it
   stays_tried : (more : List Datagram) → new.sent ≡ w.sent ++ more → new.state ≡ w.state → w.moment ≤ new.moment → ((h : Hearing) → event ≡ Heard h → ⊥) → ((t : ℕ) → Tells event t → ⊥)
-      → ((reply : ℕ) → event ≡ Replied reply → reply ≡ length w.sent) → ((reply number : ℕ) → IsReplyBy reply number this_line → IsReplyTo r new.sent reply number) → IsTried r (this_line ∷ past) new
+      → ((reply : ℕ) → event ≡ Replied reply → reply ≡ length w.sent) → ((reply number : ℕ) → IsReplyBy reply number this_line → IsReplyTo new.sent reply number) → IsTried (this_line ∷ past) new
   stays_tried more grown same le unheard untold is_next newest =
       let me : new.state.me ≡ w.state.me = ap (λ (z : State). z.me) same in
       record {
         time = let e : new.state.known.time ≡ w.state.known.time = ap (λ (z : State). z.known.time) same in let time = i.time in omega (arith, e, time, le);
         heard = λ reply moment. elim [
           | inl h ↦ absurd (unheard h.1.0 h.1.1)
-          | inr h ↦ longer r past w step event new i more grown me le is_next reply (i.heard reply moment h)
+          | inr h ↦ longer past w step event new i more grown me le is_next reply (i.heard reply moment h)
         ];
         replied = λ reply number. elim [
           | inl h ↦ newest reply number h
-          | inr h ↦ reply_stays r past w step event new i more grown me le is_next reply number (i.replied reply number h)
+          | inr h ↦ reply_stays past w step event new i more grown me le is_next reply number (i.replied reply number h)
         ];
         trails = λ t l found none.
-            trail_stays r past w step event new i more grown me le is_next t l (i.trails t l (ap (λ (z : State). get z.pending t) (sym same) ∙ found) none) (untold t) (λ reply h p q did. absurd (unheard h did));
+            trail_stays past w step event new i more grown me le is_next t l (i.trails t l (ap (λ (z : State). get z.pending t) (sym same) ∙ found) none) (untold t) (λ reply h p q did. absurd (unheard h did));
       }
 
   -- nothing is sent
   rests_tried : new.sent ≡ w.sent → new.state ≡ w.state → w.moment ≤ new.moment → ((h : Hearing) → event ≡ Heard h → ⊥) → ((t : ℕ) → Tells event t → ⊥) → ((reply : ℕ) → event ≡ Replied reply → ⊥)
-      → IsTried r (this_line ∷ past) new
+      → IsTried (this_line ∷ past) new
   rests_tried sent same le unheard untold unreplied =
       stays_tried [] (sent ∙ sym (append-nil w.sent)) same le unheard untold (λ reply e. absurd (unreplied reply e)) (λ reply number h. absurd (unreplied reply h.1))
 
   -- a server replies
-  reply_tried : (k : ℕ) (d : Datagram) (bytes : List ℕ) → step ≡ Deliver k → slice_get w.sent k ≡ Some d → MayReply (servers.honest w.member) (servers.silent w.member) d.to d.bytes (Some bytes) → event ≡ Replied (length w.sent)
-      → new ≡ record w { sent = w.sent ++ reply_to d bytes ∷ [] } → IsTried r (this_line ∷ past) new
-  reply_tried k d bytes is found may e f =
+  reply_tried : (k : ℕ) (d : Datagram) (bytes : List ℕ) → step ≡ Deliver k → slice_get w.sent k ≡ Some d → ReplyUsably d bytes → event ≡ Replied (length w.sent)
+      → new ≡ record w { sent = w.sent ++ reply_to d bytes ∷ [] } → IsTried (this_line ∷ past) new
+  reply_tried k d bytes is found uses e f =
       stays_tried (reply_to d bytes ∷ []) sent (ap (λ (v : World). v.state) f) (subst (λ (v : World). w.moment ≤ v.moment) (sym f) (omega arith)) (λ h g. cc (e, g)) (λ t told. subst (λ v. Tells v t) e told) (λ reply g. cc (e, g))
       (λ reply number h. let one : reply ≡ length w.sent = cc (h.1, e) in let two : number ≡ k = cc (h.0, is) in rw (one, two, sent) here)
     where
       sent : new.sent ≡ w.sent ++ reply_to d bytes ∷ []
       sent = ap (λ (v : World). v.sent) f
 
-      here : IsReplyTo r (w.sent ++ reply_to d bytes ∷ []) (length w.sent) k
+      here : IsReplyTo (w.sent ++ reply_to d bytes ∷ []) (length w.sent) k
       here = record {
         request = d;
         bytes = bytes;
         is_request = get_append w.sent (reply_to d bytes ∷ []) k d found;
         is_reply = get_last w.sent (reply_to d bytes);
-        honest = λ m server spells. may.honestly r m (subst (λ k. servers.honest k r) (sym sound.member) on.honest) server spells;
+        usable = uses;
       }
 
-  pub tried_on : ((k : ℕ) → step ≡ Replace k → ⊥) → WorldStep servers w step event new → IsTried r (this_line ∷ past) new
-  tried_on keep (resolves does) = tried_move r servers on past w sound i step event new does
-  tried_on keep (serves k more is (by_reply d bytes found kind may e g) f) = reply_tried k d bytes is found may e (f ∙ ap (λ l. record w { sent = l }) g)
-  tried_on keep (serves k more is (by_silence d found kind may e g) f) =
+  pub tried_on : WorldStep servers w step event new → IsTried (this_line ∷ past) new
+  tried_on (resolves does) = tried_move on past w ground i step event new does
+  tried_on (serves k more is (by_reply d bytes found kind may e g) f) = reply_tried k d bytes is found (usable k d bytes found kind may) e (f ∙ ap (λ l. record w { sent = l }) g)
+  tried_on (serves k more is (by_silence d found kind may e g) f) =
       rests_tried (ap (λ (v : World). v.sent) f ∙ g) (ap (λ (v : World). v.state) f) (subst (λ (v : World). w.moment ≤ v.moment) (sym f) (omega arith)) (λ h g. cc (e, g)) (λ t told. subst (λ v. Tells v t) e told) (λ reply g. cc (e, g))
-  tried_on keep (not_sent k is gone e f) =
+  tried_on (not_sent k is gone e f) =
       rests_tried (ap (λ (v : World). v.sent) f) (ap (λ (v : World). v.state) f) (subst (λ (v : World). w.moment ≤ v.moment) (sym f) (omega arith)) (λ h g. cc (e, g)) (λ t told. subst (λ v. Tells v t) e told) (λ reply g. cc (e, g))
-  tried_on keep (passes millis is e f) =
+  tried_on (passes millis is e f) =
       rests_tried (ap (λ (v : World). v.sent) f) (ap (λ (v : World). v.state) f)
-      (let early = sound.early in let le : w.moment ≤ later w.moment millis = omega (arith, early) in subst (λ (v : World). w.moment ≤ v.moment) (sym f) le) (λ h g. cc (e, g)) (λ t told. subst (λ v. Tells v t) e told) (λ reply g. cc (e, g))
-  tried_on keep (replaces k is lt e f) = absurd (keep k is)
-  tried_on keep (no_member k is le e f) = absurd (keep k is)
+      (let early = ground.early in let le : w.moment ≤ later w.moment millis = omega (arith, early) in subst (λ (v : World). w.moment ≤ v.moment) (sym f) le) (λ h g. cc (e, g)) (λ t told. subst (λ v. Tells v t) e told) (λ reply g. cc (e, g))
+  tried_on (replaces k is lt e f) =
+      rests_tried (ap (λ (v : World). v.sent) f) (ap (λ (v : World). v.state) f) (subst (λ (v : World). w.moment ≤ v.moment) (sym f) (omega arith)) (λ h g. cc (e, g)) (λ t told. subst (λ v. Tells v t) e told) (λ reply g. cc (e, g))
+  tried_on (no_member k is le e f) =
+      rests_tried (ap (λ (v : World). v.sent) f) (ap (λ (v : World). v.state) f) (subst (λ (v : World). w.moment ≤ v.moment) (sym f) (omega arith)) (λ h g. cc (e, g)) (λ t told. subst (λ v. Tells v t) e told) (λ reply g. cc (e, g))
 
 -- ---- the end without a reply
 
@@ -531,11 +554,11 @@ module _ (s : State) (new : State) (t : ℕ) where
   last_due call a (ticks h (tick.nothing none e f) called to) ends = absurd (subst (λ v. Ends (Ticked v) t end) f (subst (λ b. Ends (event_of b) t end) to ends))
   last_due call a (ticks h (tick.due u l due on) called to) ends = ticked_none u l h due.is_pending due.over on (subst (λ b. Ends (event_of b) t end) to ends)
 
-module _ (r : Register) (servers : Members) (past : List Line) (w : World) (sound : IsSoundRun r past w) (i : IsTried r past w) where
-  no_reply_now : (t : ℕ) → IsLastDue (moved w.moment w.state) t → HasNoReply r past w t
+module _ (servers : Members) (past : List Line) (w : World) (ground : IsGround past w) (i : IsTried past w) where
+  no_reply_now : (t : ℕ) → IsLastDue (moved w.moment w.state) t → WasInVain past w t
   no_reply_now t d =
       let h : Trail past w t d.lookup = i.trails t d.lookup d.is_pending d.none in
-      let within = (sound.order.lookups t d.lookup d.is_pending).lookup.place in
+      let within = (ground.order.lookups t d.lookup d.is_pending).lookup.place in
       let at_end = d.at_end in
       let count : length h.earlier ≡ 2 * d.lookup.place + 1 = h.count ∙ ap (λ b. 2 * d.lookup.place + behind b) d.second in
       let place : length h.earlier / 2 ≡ d.lookup.place = half (length h.earlier) d.lookup.place d.lookup.second h.count in
@@ -548,17 +571,17 @@ module _ (r : Register) (servers : Members) (past : List Line) (w : World) (soun
       record {
         lookup = d.lookup;
         is_pending = d.is_pending;
-        its_ask = sound.tickets.asked_for t d.lookup d.is_pending;
-        of_zone = sound.sound.lookups t d.lookup d.is_pending;
+        its_ask = ground.tickets.asked_for t d.lookup d.is_pending;
+        has_servers = omega (arith, within);
         two_each = let all : length (h.last ∷ h.earlier) ≡ 2 * length d.lookup.servers = omega (arith, within, at_end, count) in ap length h.are_all ∙ all;
         in_vain = subst (AreInVain past w t d.lookup.servers d.lookup.x) (sym h.are_all) vain;
       }
 
-  pub right_no_reply : (step : Step) (event : Event) (new : World) → WorldStep servers w step event new → IsRightNoReply r past (record { before = w; step = step; event = event; after = new })
-  right_no_reply step event new (resolves does) t ends = no_reply_now t (last_due (moved w.moment w.state) does.state t does.call does.reply does.does (subst (λ e. Ends e t (Err NoReply)) does.tells ends))
-  right_no_reply step event new (serves k _ is (by_reply d bytes found kind may e g) f) t ends = absurd (subst (λ v. Ends v t (Err NoReply)) e ends)
-  right_no_reply step event new (serves k _ is (by_silence d found kind may e g) f) t ends = absurd (subst (λ v. Ends v t (Err NoReply)) e ends)
-  right_no_reply step event new (not_sent k is gone e f) t ends = absurd (subst (λ v. Ends v t (Err NoReply)) e ends)
-  right_no_reply step event new (passes millis is e f) t ends = absurd (subst (λ v. Ends v t (Err NoReply)) e ends)
-  right_no_reply step event new (replaces k is lt e f) t ends = absurd (subst (λ v. Ends v t (Err NoReply)) e ends)
-  right_no_reply step event new (no_member k is past_all e f) t ends = absurd (subst (λ v. Ends v t (Err NoReply)) e ends)
+  pub vain_now : (step : Step) (event : Event) (new : World) → WorldStep servers w step event new → IsNoReplyInForce past (record { before = w; step = step; event = event; after = new })
+  vain_now step event new (resolves does) t ends = no_reply_now t (last_due (moved w.moment w.state) does.state t does.call does.reply does.does (subst (λ e. Ends e t (Err NoReply)) does.tells ends))
+  vain_now step event new (serves k _ is (by_reply d bytes found kind may e g) f) t ends = absurd (subst (λ v. Ends v t (Err NoReply)) e ends)
+  vain_now step event new (serves k _ is (by_silence d found kind may e g) f) t ends = absurd (subst (λ v. Ends v t (Err NoReply)) e ends)
+  vain_now step event new (not_sent k is gone e f) t ends = absurd (subst (λ v. Ends v t (Err NoReply)) e ends)
+  vain_now step event new (passes millis is e f) t ends = absurd (subst (λ v. Ends v t (Err NoReply)) e ends)
+  vain_now step event new (replaces k is lt e f) t ends = absurd (subst (λ v. Ends v t (Err NoReply)) e ends)
+  vain_now step event new (no_member k is past_all e f) t ends = absurd (subst (λ v. Ends v t (Err NoReply)) e ends)

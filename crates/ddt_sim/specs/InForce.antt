@@ -26,6 +26,7 @@ use Rattle.ddt_sim.specs.declared.schedule.Transcript.{Transcript}
 use Rattle.ddt_sim.specs.Honest.{IsServer}
 use Rattle.ddt_sim.specs.World.{Members}
 use Rattle.ddt_sim.specs.History.{Line, Among, Each, Tells}
+use Rattle.ddt_sim.specs.Tries.{WasInVain}
 use Rattle.ddt_sim.specs.Schedules.{StartsSound, Ends, AsksFor, IsOpened, IsOnce, IsRepliedTo}
 
 -- the register whose servers are in force at a line, where each number of servers has a register
@@ -79,6 +80,11 @@ pub record IsFailureInForce (past : List Line) (line : Line) : Type 0 where
       → ((why ≡ ask_error.TooMany) × (len line.before.state.pending ≡ most_pending))
       ⊎ ((why ≡ ask_error.Exhausted) × (line.before.state.next ≡ last_nonce))
 
+-- A lookup gives up for want of a reply only where it was in vain. Its servers may be those of a register that went out
+-- of force before its ask.
+abbrev pub IsNoReplyInForce : List Line → Line → Type 0
+IsNoReplyInForce past line = (t : ℕ) → Ends line.event t (Err NoReply) → WasInVain past line.before t
+
 -- ---- all lines
 
 -- Each number of servers has an accepted register, for which they answer honestly and give no reply elsewhere, and all
@@ -108,6 +114,9 @@ RepliesAreInForce = EachLineInForce IsReplyInForce
 
 abbrev pub FailuresAreInForce : Members → State → List Step → Transcript → State → Type 0
 FailuresAreInForce = EachLineInForce (λ registers. IsFailureInForce)
+
+abbrev pub NoRepliesAreInForce : Members → State → List Step → Transcript → State → Type 0
+NoRepliesAreInForce = EachLineInForce (λ registers. IsNoReplyInForce)
 
 abbrev pub TicketsEndOnceInForce : Members → State → List Step → Transcript → State → Type 0
 TicketsEndOnceInForce = EachLineInForce (λ registers. IsOnce)

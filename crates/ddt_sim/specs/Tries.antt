@@ -118,15 +118,20 @@ abbrev pub tries_of : ℕ → List Line → List Try
 tries_of t [] = []
 tries_of t (line ∷ past) = tries_after t line.event (try_in line.before) (tries_of t past)
 
--- A lookup had no reply: its servers are those of a zone that covers its identifier. Each was asked twice since the
--- lookup turned to them, and all of that was in vain.
-pub record HasNoReply (r : Register) (past : List Line) (w : World) (t : ℕ) : Type 0 where
+-- A lookup was in vain: each of its servers, one at least, was asked twice since it turned to them, and none of these
+-- requests had a reply in time.
+pub record WasInVain (past : List Line) (w : World) (t : ℕ) : Type 0 where
   pub lookup : Pending
   pub is_pending : get w.state.pending t ≡ Some lookup
   pub its_ask : Among past (AsksFor t lookup.x)
-  pub of_zone : IsSoundLookup r lookup
+  pub has_servers : 0 < length lookup.servers
   pub two_each : length (tries_of t past) ≡ 2 * length lookup.servers
   pub in_vain : AreInVain past w t lookup.servers lookup.x (tries_of t past)
+
+-- A lookup had no reply: it was in vain, and its servers are those of a zone that covers its identifier.
+pub record HasNoReply (r : Register) (past : List Line) (w : World) (t : ℕ) : Type 0 where
+  pub vain : WasInVain past w t
+  pub of_zone : IsSoundLookup r vain.lookup
 
 -- A lookup gives up for want of a reply only where it had none.
 abbrev pub IsRightNoReply : Register → List Line → Line → Type 0

@@ -9,7 +9,7 @@ ghost use Rattle.ddt_sim.specs.World.{world, members, at_place, request_at, sent
 ghost use Rattle.ddt_sim.specs.History.{Line, Tells, StopsAfter};
 ghost use Rattle.ddt_sim.specs.Schedules.{KeepServers, StartsSound, AnswersAreRight, RepliesAreRight, TicketsEndOnce, FailuresAreRight};
 ghost use Rattle.ddt_sim.specs.Tries.{NoRepliesAreRight};
-ghost use Rattle.ddt_sim.specs.InForce.{AnswersAreSince, AnswersAreOfLate, RepliesAreInForce, FailuresAreInForce, TicketsEndOnceInForce};
+ghost use Rattle.ddt_sim.specs.InForce.{AnswersAreSince, AnswersAreOfLate, RepliesAreInForce, FailuresAreInForce, NoRepliesAreInForce, TicketsEndOnceInForce};
 ghost use Rattle.ddt_sim.specs.Sound.{IsSound};
 
 use crate::laws::laws_of_runs;
@@ -72,6 +72,10 @@ pub fn run<S: Servers, M: PrefixMap<Entry>>(
         steps.now t resolver.new) }
     // A lookup gives up for want of a reply or of nonces, because it is led round, or because nobody is in charge.
     ensures replaced_failures { IfOk result (λ t. FailuresAreInForce (members S.honest S.silent servers.old)
+        resolver.old steps.now t resolver.new) }
+    // A lookup gives up for want of a reply only where each of its servers was asked twice since it turned to them. The
+    // deadline of each of these requests had come, and no reply to it was handed over before.
+    ensures replaced_no_reply { IfOk result (λ t. NoRepliesAreInForce (members S.honest S.silent servers.old)
         resolver.old steps.now t resolver.new) }
     // No ticket ends twice.
     ensures replaced_once { IfOk result (λ t. TicketsEndOnceInForce (members S.honest S.silent servers.old) resolver.old

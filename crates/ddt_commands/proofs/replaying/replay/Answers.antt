@@ -20,5 +20,6 @@ returns c =
       remembered = ran.replaced_remembered;
       in_force = ran.replaced_replies;
       failing = ran.replaced_failures;
+      in_vain = ran.replaced_no_reply;
       once = ran.replaced_once;
     }) text.items (is ∙ ap (lines_from 0) c.as_slice.ensures)) c.event_lines.ensures

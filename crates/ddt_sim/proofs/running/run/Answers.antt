@@ -6,7 +6,7 @@ use Rattle.ddt_sim.specs.declared.schedule.Step.TheVariants.{Ask}
 use Rattle.ddt_sim.specs.World.{world, members}
 use Rattle.ddt_sim.proofs.RunLemmas.{running_at_start, runs_on, stops_in, stops_after, others_stay, left_by}
 use Rattle.ddt_sim.proofs.StatementLemmas.{stops_soundly, each_answer, each_reply, each_once, each_failure, each_no_reply}
-use Rattle.ddt_sim.proofs.ReplacedLemmas.{each_since, each_of_late, each_reply_in_force, each_failure_in_force, each_once_in_force}
+use Rattle.ddt_sim.proofs.ReplacedLemmas.{each_since, each_of_late, each_reply_in_force, each_failure_in_force, each_no_reply_in_force, each_once_in_force}
 use Rattle.ddt_sim.proofs.running.run.Goals as goal
 
 -- the step that stands for one past the end
@@ -116,6 +116,10 @@ returns-clause-replaced_replies g c = λ of are.
 pub returns-clause-replaced_failures : goal.returns-clause-replaced_failures
 returns-clause-replaced_failures g c = λ of are.
     each_failure_in_force c.laws_of_runs.ensures (members g.S.Servers.honest g.S.Servers.silent c.args.servers.now) c.args.resolver.now c.in_order.ensures c.args.steps.now c.requires of are _ c.loop-step.resolver
+
+pub returns-clause-replaced_no_reply : goal.returns-clause-replaced_no_reply
+returns-clause-replaced_no_reply g c = λ of are.
+    each_no_reply_in_force c.laws_of_runs.ensures (members g.S.Servers.honest g.S.Servers.silent c.args.servers.now) c.args.resolver.now c.in_order.ensures c.args.steps.now c.requires of are _ c.loop-step.resolver
 
 pub returns-clause-replaced_once : goal.returns-clause-replaced_once
 returns-clause-replaced_once g c = λ of are.

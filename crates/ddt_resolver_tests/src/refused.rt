@@ -157,13 +157,23 @@ fn saves<M: PrefixMap<Entry>>(
     Ok(())
 }
 
+/// The first rows, so many of them.
+fn first_rows(count: usize) -> &'static [Row] {
+    &RECORDS[..count.min(RECORDS.len())]
+}
+
 /// Saves each of these, a millisecond after the cache was looked at.
 fn fills<M: PrefixMap<Entry>>(rt: &impl Abort, alloc: Global) -> Result<(), Fail> {
     let roots = LocatorSet::of(&[ROOT]).ok_or("too many locators")?;
     let mut cache = Cache::<M>::new(alloc, roots);
     for (place, row) in RECORDS.iter().enumerate() {
-        saves(rt, &mut cache, row, &RECORDS[..place])?;
-        has(rt, &mut cache, at(row.0)?, &RECORDS[..=place])?;
+        saves(rt, &mut cache, row, first_rows(place))?;
+        has(
+            rt,
+            &mut cache,
+            at(row.0)?,
+            first_rows(place.saturating_add(1)),
+        )?;
         cache.advance(at(row.0.saturating_add(1))?);
     }
     Ok(())

@@ -33,6 +33,9 @@ const INSERTED: &[(Locator, u8, u32)] = &[
     (Locator::V4(TEN_ONE), 64, 9),
 ];
 
+/// The addresses of both identifiers.
+const ADDRESSES: &[Locator] = &[Locator::V4(TEN_ONE), Locator::V6(DOCUMENTATION)];
+
 fn identifier(address: Locator) -> Xeid {
     Xeid { iid: 0, address }
 }
@@ -67,8 +70,8 @@ fn has_values<M: PrefixMap<u32>>(rt: &impl Abort, map: &M, count: u32) {
 
 /// The map finds for both identifiers the longest of these prefixes.
 fn has_longest<M: PrefixMap<u32>>(rt: &impl Abort, map: &M, count: u32) {
-    for address in [Locator::V4(TEN_ONE), Locator::V6(DOCUMENTATION)] {
-        let x = identifier(address);
+    for address in ADDRESSES {
+        let x = identifier(*address);
         finds_longest(rt, map, x, longest_among(rt, count, x));
     }
 }

@@ -22,7 +22,7 @@ use Rattle.ddt_plan.specs.declared.outcomes.Reading.{Reading}
 use Rattle.ddt_plan.specs.declared.listing.Block.{Block}
 use Rattle.ddt_plan.specs.declared.comparing.Change.{Change}
 use Rattle.ddt_plan.specs.Blocks.{keys_of, is_undivided, block_inside, stands_before, are_in_order, pieces}
-use Rattle.ddt_plan.specs.Changes.{is_same_outcome, AreBlocks, AreChanges, block_at, change_at, changes_at, is_apart}
+use Rattle.ddt_plan.specs.Changes.{is_same_outcome, AreBlocks, AreChanges, block_at, change_at, is_apart}
 use Rattle.ddt_plan.proofs.AlikeLemmas.{assigned_as_block}
 use Rattle.ddt_plan.proofs.PieceLemmas.{piece_there, piece_covered, piece_whole, piece_found, pieces_in_order}
 

@@ -1,10 +1,10 @@
 -- What a sink was given, part by part.
-use Rattle.std.proofs.Common.{◌≡◌, List, [], ◌∷◌, ◌++◌, refl, sym, ap, subst, ◌∙◌}
+use Rattle.std.proofs.Common.{List, [], ◌∷◌, ◌++◌, refl, sym, ap, subst, ◌∙◌}
 use Rattle.std.specs.Prelude.{Result, Ok, Err}
-use Rattle.std.proofs.lemmas.List.{append_assoc, append-nil}
+use Rattle.std.proofs.lemmas.List.{append_assoc}
 use Rattle.ddt_plan.specs.declared.sink.PlanFault.{PlanFault}
 use Rattle.ddt_plan.specs.declared.sink.PlanFault.TheVariants.{Memory, Refused}
-use Rattle.ddt_plan.specs.Sinks.{HasTaken, HasTakenFront, HasRefused, HasGiven}
+use Rattle.ddt_plan.specs.Sinks.{HasTaken, HasGiven}
 
 module _ {S T R : Type 0} (takes : S → T → Result (Unit {0}) R → S → Type 0) where
   -- what it took in two parts, it took as a whole
@@ -55,9 +55,6 @@ module _ {S T R : Type 0} (takes : S → T → Result (Unit {0}) R → S → Typ
   pub given_nothing : (xs : List T) (before : S) → HasGiven takes before xs (Err Memory) before
   given_nothing xs before = record { taken = []; left = xs; all = refl; took = refl }
 
-  -- one item
-  pub given_one : (item : T) (before after : S) → takes before item (Ok tt) after → HasGiven takes before (item ∷ []) (Ok tt) after
-  given_one item before after a = (after, a, refl)
-
+  -- before one item, which was refused
   pub refused_one : (item : T) (before after : S) (e : R) → takes before item (Err e) after → HasGiven takes before (item ∷ []) (Err (Refused e)) after
   refused_one item before after e a = record { taken = []; item = item; left = []; all = refl; until = before; took = refl; refused = a }

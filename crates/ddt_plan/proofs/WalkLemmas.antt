@@ -1,6 +1,6 @@
 -- What a walk gives of the halves of a prefix, it gives of the prefix.
 use Rattle.std.proofs.Common.{◌≡◌, ℕ, ◌<◌, false, true, List, ◌++◌, length, ◌-◌, sym, ap, subst, ◌∙◌}
-use Rattle.std.specs.Prelude.{Result, Ok, Err}
+use Rattle.std.specs.Prelude.{Result, Err}
 use Rattle.ddt_plan.specs.declared.sink.PlanFault.{PlanFault}
 use Rattle.ddt_plan.specs.Blocks.{is_undivided, half, pieces}
 use Rattle.ddt_plan.specs.Sinks.{HasTaken, HasGiven}

@@ -13,8 +13,8 @@ keys_of r = map (λ z. z.prefix) r.zones ++ map (λ s. s.prefix) r.sites
 abbrev pub is_undivided : List (List ℕ) → List ℕ → Bool
 is_undivided keys q = list_all (λ k. not (is_strictly_below k q)) keys
 
--- The block of an identifier inside a prefix that covers it: of its initial parts, by length from that of the prefix on,
--- the first that no key is strictly below.
+-- The block of an identifier inside a prefix that covers it: of its initial parts, by length from that of the prefix
+-- on, the first that no key is strictly below.
 abbrev pub block_inside : List ℕ → List (List ℕ) → List ℕ → Option (List ℕ)
 block_inside inside keys x = find (is_undivided keys) (parts_from (length inside) x)
 

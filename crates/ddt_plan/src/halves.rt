@@ -1,6 +1,6 @@
 //! The two halves of a prefix: one digit more, or the family behind the instance.
 
-ghost use Rattle.std.specs.Prelude.{◌≡◌, ◌+◌, ◌-◌, ◌^◌, ◌<◌, ◌≤◌, ◌++◌, ◌∷◌, [], true, length, take, drop};
+ghost use Rattle.std.specs.Prelude.{◌≡◌, ◌+◌, ◌-◌, ◌<◌, ◌≤◌, ◌++◌, ◌∷◌, [], true, length, take, drop};
 ghost use Rattle.ddt_path.specs.Path.{digits, are_zero, xeid_path, is_prefix_path};
 ghost use Rattle.ddt_plan.specs.Blocks.{half as half_of, bit};
 

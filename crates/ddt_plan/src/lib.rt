@@ -3,8 +3,8 @@
 //!
 //! Nothing is kept: a walk down the digits hands each block or change to a sink as it finds it.
 //!
-//! In reading order: `sink`, `listing`, `comparing`, `outcomes`, `counting`; `walking`, `sides`, `halves` below them;
-//! and `laws`.
+//! In reading order: `sink`, `listing`, `comparing`, `outcomes`, `counting`; `walking`, `sides`, `halves`, `servers`
+//! below them; and `laws`.
 #![tactic(auto)]
 
 mod comparing;
@@ -13,6 +13,7 @@ mod halves;
 mod laws;
 mod listing;
 mod outcomes;
+mod servers;
 mod sides;
 mod sink;
 mod walking;

@@ -1,17 +1,17 @@
 //! What one register says at a prefix: what all of it is assigned, or the zone and the site around it and what is
 //! strictly below it.
 
-ghost use Rattle.std.specs.Prelude.{◌≡◌, ◌==◌, ◌&&◌, ℕ, ◌<◌, false, true, List, map, length, find, IsTrue, IfOk};
+ghost use Rattle.std.specs.Prelude.{◌≡◌, ◌==◌, ◌&&◌, ℕ, ◌<◌, false, true, List, length, find, IfOk};
 ghost use Rattle.std.specs.List.{filter};
 ghost use Rattle.std.specs.Option.{option_or};
 ghost use Rattle.ddt_path.specs.Covers.{covers, is_strictly_below, is_same_path};
-ghost use Rattle.ddt_check.specs.Zones.{locators_of};
 ghost use Rattle.ddt_plan.specs.Blocks.{keys_of, is_undivided, half as half_of};
 ghost use Rattle.ddt_plan.specs.Fast.{IsDivision, IsSide, AreSides, delegations_of, delegations_below, delegation_at, states_of, states_below, state_at, outcome_from, outcome_in as outcome_in_of, outcome_of_site as outcome_of_site_of};
 
 use crate::halves::half;
+use crate::servers::{servers_by_name, servers_of};
 use ddt_check::{Accepted, assign};
-use ddt_path::{LocatorSet, Name, Outcome, Prefix, Prefixed, Role, longest_match};
+use ddt_path::{LocatorSet, Outcome, Prefix, Prefixed, Role, longest_match};
 use std::alloc::{AllocError, Global};
 
 /// A zone, with the servers that it is delegated to.
@@ -255,25 +255,16 @@ fn outcome_of_site(servers: LocatorSet, site: SiteState, block: Prefix) -> Outco
 fn delegations(alloc: Global, accepted: &Accepted) -> Result<Vec<Delegation>, AllocError>
     ensures { IfOk result (λ zones. zones.items ≡ delegations_of accepted.now) }
 {
+    let servers = servers_by_name(alloc, accepted)?;
     let mut zones = Vec::new(alloc);
     for zone in accepted.register().zones.as_slice() {
         zones.push(Delegation {
             prefix: zone.prefix,
             role: zone.kind,
-            servers: servers_of(accepted, zone.group),
+            servers: servers_of(&servers, zone.group),
         })?;
     }
     Ok(zones)
-}
-
-/// The locators of a group, of which an accepted register has at most 8.
-fn servers_of(accepted: &Accepted, group: Name) -> LocatorSet
-    ensures { result ≡ locators_of accepted.now group }
-{
-    match accepted.group_named(group) {
-        Some(group) => LocatorSet::of_few(group.locators.as_slice()),
-        None => LocatorSet::none(),
-    }
 }
 
 /// The states of a register's sites.

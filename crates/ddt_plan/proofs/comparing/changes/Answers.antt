@@ -8,8 +8,7 @@ use Rattle.ddt_plan.proofs.comparing.changes.Goals as goal
 pub returns-in-Ok : goal.returns-in-Ok
 returns-in-Ok g c =
     let r = c.args.before.now in
-    let s = c.args.after.now in
-    (
+    let s = c.args.after.now in (
       changes_at c.args.reading r s (pieces (161 - length c.args.inside) (keys_of r ++ keys_of s) c.args.inside),
       are_changes c.args.reading r s c.args.inside,
       c.walk_both.ensures,

@@ -1,7 +1,5 @@
 //! The walk and the plain bodies agree on random registers, at each identifier of a small prefix.
 
-ghost use Rattle.std.specs.Prelude.{◌<◌, length};
-
 use crate::slow::block_inside;
 use ddt_check::{Accepted, assign, check};
 use ddt_examples::Dice;

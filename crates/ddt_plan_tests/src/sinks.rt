@@ -1,6 +1,6 @@
 //! Sinks that refuse: what they have taken is a front of all, and the walk ends with their refusal.
 
-ghost use Rattle.std.specs.Prelude.{◌≡◌, MatchResult};
+ghost use Rattle.std.specs.Prelude.{⊤};
 
 use crate::registers::{accepted, prefix};
 use ddt_examples::registers::{CAMPUS, LONE_ROOT, NESTED_SITES};
@@ -43,7 +43,7 @@ impl Room {
 impl Sink<Block> for Room {
     type Refusal = Full;
 
-    ghost takes = { λ before block answer after. before.most ≡ before.most };
+    ghost takes = { λ before block answer after. ⊤ };
 
     fn give(&mut self, block: Block) -> Result<(), Full> {
         self.keep(block.prefix)
@@ -53,7 +53,7 @@ impl Sink<Block> for Room {
 impl Sink<Change> for Room {
     type Refusal = Full;
 
-    ghost takes = { λ before change answer after. before.most ≡ before.most };
+    ghost takes = { λ before change answer after. ⊤ };
 
     fn give(&mut self, change: Change) -> Result<(), Full> {
         self.keep(change.prefix)

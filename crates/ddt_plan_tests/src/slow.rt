@@ -1,7 +1,6 @@
 //! Plain bodies, step by step as the definitions say: the reference for the walk.
 
-ghost use Rattle.std.specs.Prelude.{◌≡◌, ◌++◌, map, not};
-ghost use Rattle.std.specs.List.{list_all};
+ghost use Rattle.std.specs.Prelude.{◌≡◌};
 ghost use Rattle.ddt_path.specs.Covers.{is_strictly_below};
 ghost use Rattle.ddt_plan.specs.Blocks.{keys_of, is_undivided as is_undivided_at};
 

@@ -1,0 +1,10 @@
+pub mod AlikeLemmas
+pub mod HalfLemmas
+pub mod PieceLemmas
+pub mod ListingLemmas
+pub mod NegativeLemmas
+pub mod ReadOffLemmas
+pub mod SameLemmas
+pub mod SideLemmas
+pub mod SinkLemmas
+pub mod WalkLemmas

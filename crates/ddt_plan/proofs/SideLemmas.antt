@@ -1,0 +1,374 @@
+-- What one register says at a prefix, carried down to its halves.
+use Rattle.std.proofs.Common.{◌≡◌, ◌⊎◌, ℕ, ◌<◌, Bool, true, false, cond, not, ◌==◌, List, [], ◌∷◌, ◌++◌, length, map, take, ◌-◌, find, Option, Some, None, refl, sym, ap, subst, ◌∙◌, arith, inl, inr}
+use Rattle.std.specs.List.{filter}
+use Rattle.std.specs.Prelude.{unwrap_or}
+use Rattle.std.specs.Option.{option_or, option_map, option_map_or}
+use Rattle.std.specs.Ordering.{nat_cmp}
+use Rattle.std.specs.Cmp.Lexicographic.{slice_cmp}
+use Rattle.std.specs.BTreeMap.{BTreeMap, get}
+use Rattle.ddt_path.specs.declared.locator.Locator.{Locator}
+use Rattle.ddt_register.specs.declared.group.Group.{Group}
+use Rattle.ddt_check.specs.Zones.{locators_of, group_named}
+use Rattle.std.proofs.lemmas.Bool.{cases_lt, both_ways, eqb-true, eq-eqb, false_from_ne_true, not-true, not_from_false, cond-false, and_from}
+use Rattle.std.proofs.lemmas.Option.{same_Some}
+use Rattle.std.proofs.lemmas.List.{map-append}
+use Rattle.std.proofs.lemmas.List.Elements.{filter-append}
+use Rattle.std.proofs.lemmas.List.Folds.{list_all-append}
+use Rattle.ddt_path.specs.declared.xeid.Xeid.{Xeid}
+use Rattle.ddt_path.specs.declared.record.Outcome.{Outcome}
+use Rattle.ddt_path.specs.declared.matching.Preference.TheVariants.{Longest}
+use Rattle.ddt_path.specs.Covers.{covers, is_same_path, is_strictly_below}
+use Rattle.ddt_path.specs.Matching.{longest_match}
+use Rattle.ddt_path.specs.Path.{xeid_path}
+use Rattle.ddt_path.specs.laws.Cover.{covers_self, covers_trans, covers-append, covered_same, length-covered, same_path, path_itself, below_wider, front_covered}
+use Rattle.ddt_path.specs.laws.Front.{front_below, front_covers, one_front}
+use Rattle.ddt_path.specs.laws.Matching.{best_is}
+use Rattle.ddt_path.specs.laws.Member.{IsIn, all_of, holds_at, in_map, map_in, some_passes, unfound, found_in, found_passes}
+use Rattle.ddt_path.specs.laws.Filter.{filter_in}
+use Rattle.ddt_path.specs.laws.PathTest.{is_path-xeid_path}
+use Rattle.ddt_register.specs.declared.zone.Zone.{Zone}
+use Rattle.ddt_register.specs.declared.register.Register.{Register}
+use Rattle.ddt_check.specs.Assignment.{assignment}
+use Rattle.ddt_check.specs.Rules.{IsAccepted}
+use Rattle.ddt_check.specs.laws.Kept.{one_zone}
+use Rattle.ddt_check.proofs.NegativeLemmas.{one_site}
+use Rattle.ddt_check.specs.laws.Zone.{zone_prefix, site_prefix}
+use Rattle.ddt_plan.specs.declared.sides.Delegation.{Delegation}
+use Rattle.ddt_plan.specs.declared.sides.SiteState.{SiteState}
+use Rattle.ddt_plan.specs.declared.sides.Division.{Division}
+use Rattle.ddt_plan.specs.declared.sides.Side.{Side}
+use Rattle.ddt_plan.specs.declared.sides.Side.TheVariants.{Settled, Divided}
+use Rattle.ddt_plan.specs.declared.sides.Sides.{Sides}
+use Rattle.ddt_plan.specs.Blocks.{keys_of, is_undivided, half, next_digit, pieces}
+use Rattle.ddt_plan.specs.declared.outcomes.Reading.{Reading}
+use Rattle.ddt_plan.specs.declared.comparing.Change.{Change}
+use Rattle.ddt_plan.specs.Changes.{block_at, change_at, changes_at, is_apart}
+use Rattle.ddt_plan.specs.declared.listing.Block.{Block}
+use Rattle.ddt_plan.specs.Fast.{HasServersOf, delegation_of, delegations_of, delegation_at, delegations_below, state_of, states_of, state_at, states_below, outcome_from, IsSettled, IsDivision, IsSide, AreSides, outcomes_settled, both_settled}
+use Rattle.ddt_plan.proofs.AlikeLemmas.{in_first, in_second, best_match-alike, assigned_as_block}
+use Rattle.ddt_plan.proofs.HalfLemmas.{length-half}
+use Rattle.ddt_plan.proofs.ListingLemmas.{undivided_parts}
+use Rattle.ddt_plan.proofs.NegativeLemmas.{block_is}
+use Rattle.ddt_plan.proofs.PieceLemmas.{pieces_one}
+use Rattle.ddt_plan.proofs.ReadOffLemmas.{read_off}
+
+-- ---- lists
+
+kept_twice_case : {A : Type 0} (weak strong : A → Bool) (x : A) (kept rest : List A) → (strong x ≡ true → weak x ≡ true) → filter strong kept ≡ rest → (b : Bool) → weak x ≡ b
+    → filter strong (cond b (x ∷ kept) kept) ≡ cond (strong x) (x ∷ rest) rest
+kept_twice_case weak strong x kept rest h ih true e = ap (λ (ys : List _). cond (strong x) (x ∷ ys) ys) ih
+kept_twice_case weak strong x kept rest h ih false e =
+    ih ∙ sym (cond-false (strong x) (x ∷ rest) rest (false_from_ne_true (strong x) (λ s. both_ways (weak x) e (h s))))
+
+pub kept_twice : {A : Type 0} (weak strong : A → Bool) (xs : List A) → ((a : A) → strong a ≡ true → weak a ≡ true) → filter strong (filter weak xs) ≡ filter strong xs
+kept_twice weak strong [] h = refl
+kept_twice weak strong (x ∷ xs) h = kept_twice_case weak strong x (filter weak xs) (filter strong xs) (h x) (kept_twice weak strong xs h) (weak x) refl
+
+find_kept_case : {A : Type 0} (weak strong : A → Bool) (x : A) (kept : List A) (found : Option A) → (strong x ≡ true → weak x ≡ true) → find strong kept ≡ found → (b : Bool) → weak x ≡ b
+    → find strong (cond b (x ∷ kept) kept) ≡ cond (strong x) (Some x) found
+find_kept_case weak strong x kept found h ih true e = ap (cond (strong x) (Some x)) ih
+find_kept_case weak strong x kept found h ih false e =
+    ih ∙ sym (cond-false (strong x) (Some x) found (false_from_ne_true (strong x) (λ s. both_ways (weak x) e (h s))))
+
+pub find_kept : {A : Type 0} (weak strong : A → Bool) (xs : List A) → ((a : A) → strong a ≡ true → weak a ≡ true) → find strong (filter weak xs) ≡ find strong xs
+find_kept weak strong [] h = refl
+find_kept weak strong (x ∷ xs) h = find_kept_case weak strong x (filter weak xs) (find strong xs) (h x) (find_kept weak strong xs h) (weak x) refl
+
+-- ---- the best match of a half
+
+half_below : (upper : Bool) (q : List ℕ) → is_strictly_below (half upper q) q ≡ true
+half_below upper q =
+    let c = covers-append q (next_digit 32 upper q ∷ []) in
+    front_below q (half upper q) (half upper q) c (covers_self (half upper q)) (let n = length-half upper q in omega arith)
+
+module _ {A : Type 0} (prefix : A → List ℕ) (items : List A) (one : (a b : A) → IsIn a items → IsIn b items → prefix a ≡ prefix b → a ≡ b) where
+  abbrev at : List ℕ → A → Bool
+  at h a = is_same_path (prefix a) h
+
+  -- an item of this prefix is the best match
+  found_here : (h : List ℕ) (a : A) → find (at h) items ≡ Some a → longest_match prefix items h ≡ Some a
+  found_here h a e =
+      let k = found_in (at h) items a e in
+      let same : prefix a ≡ h = same_path (prefix a) h (found_passes (at h) items a e) in
+      let c : covers (prefix a) h ≡ true = subst (λ (l : List ℕ). covers (prefix a) l ≡ true) same (covers_self (prefix a)) in
+      best_is Longest prefix h items a k c (λ b j d. elim (cases_lt (length (prefix b)) (length (prefix a))) [
+        | inl shorter ↦ inr shorter
+        | inr ge ↦ inl (one b a j k (one_front (prefix b) (prefix a) h d c (let le = length-covered (prefix b) h d in let n : length (prefix a) ≡ length h = ap (λ (l : List ℕ). length l) same in omega arith)))
+      ])
+
+  -- where there is none, the half has the best match of the whole
+  not_here : (upper : Bool) (q : List ℕ) → find (at (half upper q)) items ≡ None → longest_match prefix items (half upper q) ≡ longest_match prefix items q
+  not_here upper q none =
+      let h = half upper q in
+      let c = covers-append q (next_digit 32 upper q ∷ []) in
+      best_match-alike Longest prefix items h q (λ a k. same_cover a k h c)
+    where
+      same_cover : (a : A) → IsIn a items → (h : List ℕ) → covers q (half upper q) ≡ true → covers (prefix a) (half upper q) ≡ covers (prefix a) q
+      same_cover a k h c = iff_cover (covers (prefix a) (half upper q)) (covers (prefix a) q)
+          (λ d. elim (cases_lt (length q) (length (prefix a))) [
+            | inl lt ↦
+                let n = length-half upper q in
+                let same : prefix a ≡ half upper q = covered_same (prefix a) (half upper q) d (omega (arith, lt, n)) in
+                absurd (both_ways (at (half upper q) a) (unfound (at (half upper q)) items a none k) (path_itself (prefix a) (half upper q) same))
+            | inr le ↦ front_covers (prefix a) q (half upper q) d c le
+          ])
+          (λ d. covers_trans (prefix a) q (half upper q) d c)
+        where
+          iff_cover : (x y : Bool) → (x ≡ true → y ≡ true) → (y ≡ true → x ≡ true) → x ≡ y
+          iff_cover true y f g = sym (f refl)
+          iff_cover false true f g = g refl
+          iff_cover false false f g = refl
+
+  half_case : (upper : Bool) (q : List ℕ) (found : Option A) → find (at (half upper q)) items ≡ found → longest_match prefix items (half upper q) ≡ option_or found (longest_match prefix items q)
+  half_case upper q None e = not_here upper q e
+  half_case upper q (Some a) e = found_here (half upper q) a e
+
+  pub best_at_half : (upper : Bool) (q : List ℕ) (kept : List A) (above : Option A) → kept ≡ filter (λ a. is_strictly_below (prefix a) q) items → above ≡ longest_match prefix items q
+      → option_or (find (λ a. is_same_path (prefix a) (half upper q)) kept) above ≡ longest_match prefix items (half upper q)
+  best_at_half upper q kept above e f =
+      let found : find (at (half upper q)) kept ≡ find (at (half upper q)) items =
+      ap (find (at (half upper q))) e ∙ find_kept (λ a. is_strictly_below (prefix a) q) (at (half upper q)) items (λ a s.
+      subst (λ (l : List ℕ). is_strictly_below l q ≡ true) (sym (same_path (prefix a) (half upper q) s)) (half_below upper q)) in
+      ap (λ (o : Option A). option_or o above) found
+      ∙ ap (option_or (find (at (half upper q)) items)) f
+      ∙ sym (half_case upper q (find (at (half upper q)) items) refl)
+
+-- ---- an accepted register
+
+abbrev delegation_prefix : Delegation → List ℕ
+delegation_prefix z = z.prefix
+
+abbrev state_prefix : SiteState → List ℕ
+state_prefix s = s.prefix
+
+module _ (r : Register) (accepted : IsAccepted r) where
+  pub one_delegation : (a b : Delegation) → IsIn a (delegations_of r) → IsIn b (delegations_of r) → a.prefix ≡ b.prefix → a ≡ b
+  one_delegation a b j k same =
+      let s = in_map (delegation_of r) r.zones a j in
+      let t = in_map (delegation_of r) r.zones b k in
+      let e : s.0.prefix ≡ t.0.prefix = sym (ap delegation_prefix s.2) ∙ same ∙ ap delegation_prefix t.2 in
+      s.2 ∙ ap (delegation_of r) (one_zone r accepted s.0 t.0 s.1 t.1 e) ∙ sym t.2
+
+  pub one_state : (a b : SiteState) → IsIn a (states_of r) → IsIn b (states_of r) → a.prefix ≡ b.prefix → a ≡ b
+  one_state a b j k same =
+      let s = in_map state_of r.sites a j in
+      let t = in_map state_of r.sites b k in
+      let e : s.0.prefix ≡ t.0.prefix = sym (ap state_prefix s.2) ∙ same ∙ ap state_prefix t.2 in
+      s.2 ∙ ap state_of (one_site r accepted s.0 t.0 s.1 t.1 e) ∙ sym t.2
+
+  pub delegation_at_half : (upper : Bool) (q : List ℕ) (kept : List Delegation) (above : Option Delegation) → kept ≡ delegations_below r q → above ≡ delegation_at r q
+      → option_or (find (λ z. is_same_path z.prefix (half upper q)) kept) above ≡ delegation_at r (half upper q)
+  delegation_at_half = best_at_half delegation_prefix (delegations_of r) one_delegation
+
+  pub state_at_half : (upper : Bool) (q : List ℕ) (kept : List SiteState) (above : Option SiteState) → kept ≡ states_below r q → above ≡ state_at r q
+      → option_or (find (λ m. is_same_path m.prefix (half upper q)) kept) above ≡ state_at r (half upper q)
+  state_at_half = best_at_half state_prefix (states_of r) one_state
+
+module _ (r : Register) where
+  further : (upper : Bool) (q p : List ℕ) → is_strictly_below p (half upper q) ≡ true → is_strictly_below p q ≡ true
+  further upper q p below = below_wider p (half upper q) q (covers-append q (next_digit 32 upper q ∷ [])) below
+
+  pub delegations_at_half : (upper : Bool) (q : List ℕ) (kept : List Delegation) → kept ≡ delegations_below r q → filter (λ z. is_strictly_below z.prefix (half upper q)) kept ≡ delegations_below r (half upper q)
+  delegations_at_half upper q kept e =
+      ap (filter (λ z. is_strictly_below z.prefix (half upper q))) e
+      ∙ kept_twice (λ (z : Delegation). is_strictly_below z.prefix q) (λ (z : Delegation). is_strictly_below z.prefix (half upper q)) (delegations_of r) (λ z below. further upper q z.prefix below)
+
+  pub states_at_half : (upper : Bool) (q : List ℕ) (kept : List SiteState) → kept ≡ states_below r q → filter (λ m. is_strictly_below m.prefix (half upper q)) kept ≡ states_below r (half upper q)
+  states_at_half upper q kept e =
+      ap (filter (λ m. is_strictly_below m.prefix (half upper q))) e
+      ∙ kept_twice (λ (m : SiteState). is_strictly_below m.prefix q) (λ (m : SiteState). is_strictly_below m.prefix (half upper q)) (states_of r) (λ m below. further upper q m.prefix below)
+
+  -- ---- which keys are strictly below
+
+  none_kept : {A : Type 0} (prefix : A → List ℕ) (q : List ℕ) (items : List A) → filter (λ a. is_strictly_below (prefix a) q) items ≡ [] → (a : A) → IsIn a items → is_strictly_below (prefix a) q ≡ false
+  none_kept prefix q items e a k = false_from_ne_true (is_strictly_below (prefix a) q) (λ below.
+      absurd (subst (IsIn a) e (filter_in (λ a. is_strictly_below (prefix a) q) items a k below)))
+
+  in_keys : (k : List ℕ) → IsIn k (keys_of r) → ((z : Delegation) × IsIn z (delegations_of r) × (k ≡ z.prefix)) ⊎ ((m : SiteState) × IsIn m (states_of r) × (k ≡ m.prefix))
+  in_keys k j = elim (either (map zone_prefix r.zones) (map site_prefix r.sites) k j) [
+    | inl a ↦ let z = in_map zone_prefix r.zones k a in inl (delegation_of r z.0, map_in (delegation_of r) r.zones z.0 z.1, z.2)
+    | inr b ↦ let s = in_map site_prefix r.sites k b in inr (state_of s.0, map_in state_of r.sites s.0 s.1, s.2)
+  ]
+    where
+      either : (xs ys : List (List ℕ)) (a : List ℕ) → IsIn a (xs ++ ys) → IsIn a xs ⊎ IsIn a ys
+      either [] ys a k = inr k
+      either (x ∷ xs) ys a (inl same) = inl (inl same)
+      either (x ∷ xs) ys a (inr later) = elim (either xs ys a later) [ inl k ↦ inl (inr k) | inr k ↦ inr k ]
+
+  pub undivided_from : (q : List ℕ) → delegations_below r q ≡ [] → states_below r q ≡ [] → is_undivided (keys_of r) q ≡ true
+  undivided_from q e f = all_of (λ (k : List ℕ). not (is_strictly_below k q)) (keys_of r) (λ k j. not_from_false (is_strictly_below k q) (elim (in_keys k j) [
+    | inl z ↦ ap (λ (l : List ℕ). is_strictly_below l q) z.2 ∙ none_kept delegation_prefix q (delegations_of r) e z.0 z.1
+    | inr m ↦ ap (λ (l : List ℕ). is_strictly_below l q) m.2 ∙ none_kept state_prefix q (states_of r) f m.0 m.1
+  ]))
+
+  -- an undivided prefix has nothing strictly below it
+  nothing_case : {A : Type 0} (prefix : A → List ℕ) (q : List ℕ) (items : List A) → ((a : A) → IsIn a items → is_strictly_below (prefix a) q ≡ false) → filter (λ a. is_strictly_below (prefix a) q) items ≡ []
+  nothing_case prefix q [] h = refl
+  nothing_case prefix q (a ∷ items) h = rw (h a (inl refl)) (nothing_case prefix q items (λ b k. h b (inr k)))
+
+  not_below : (q : List ℕ) → is_undivided (keys_of r) q ≡ true → (k : List ℕ) → IsIn k (keys_of r) → is_strictly_below k q ≡ false
+  not_below q e k j = not-true (is_strictly_below k q) (holds_at (λ (k : List ℕ). not (is_strictly_below k q)) (keys_of r) k e j)
+
+  pub nothing_below : (q : List ℕ) → is_undivided (keys_of r) q ≡ true → (delegations_below r q ≡ []) × (states_below r q ≡ [])
+  nothing_below q e = (
+    nothing_case delegation_prefix q (delegations_of r) (λ z k.
+        let s = in_map (delegation_of r) r.zones z k in
+        ap (λ (z : Delegation). is_strictly_below z.prefix q) s.2
+        ∙ not_below q e s.0.prefix (in_first (map zone_prefix r.zones) (map site_prefix r.sites) s.0.prefix (map_in zone_prefix r.zones s.0 s.1))),
+    nothing_case state_prefix q (states_of r) (λ m k.
+        let s = in_map state_of r.sites m k in
+        ap (λ (m : SiteState). is_strictly_below m.prefix q) s.2
+        ∙ not_below q e s.0.prefix (in_second (map zone_prefix r.zones) (map site_prefix r.sites) s.0.prefix (map_in site_prefix r.sites s.0 s.1))),
+  )
+
+  -- each front of a prefix that is divided is divided
+  pub fronts_divided : (upper : Bool) (q : List ℕ) → is_undivided (keys_of r) q ≡ false → (f : List ℕ) → covers f (half upper q) ≡ true → length f < length (half upper q) → is_undivided (keys_of r) f ≡ false
+  fronts_divided upper q divided f c lt =
+      let k = some_passes (λ (k : List ℕ). is_strictly_below k q) (keys_of r) divided in
+      let n = length-half upper q in
+      let over : covers f q ≡ true = front_covers f q (half upper q) c (covers-append q (next_digit 32 upper q ∷ [])) (omega (arith, lt, n)) in
+      false_from_ne_true (is_undivided (keys_of r) f) (λ e. both_ways (is_strictly_below k.0 f) (not_below f e k.0 k.1) (below_wider k.0 q f over k.2))
+
+-- ---- servers
+
+found_or : (o : Option Group) → unwrap_or (option_map (λ (g : Group). g.locators) o) [] ≡ option_map_or (λ (g : Group). g.locators) o []
+found_or None = refl
+found_or (Some g) = refl
+
+pub servers_found : (r : Register) (servers : BTreeMap (List ℕ) (List Locator)) (name : List ℕ) → HasServersOf servers r → unwrap_or (get (slice_cmp nat_cmp) servers name) [] ≡ locators_of r name
+servers_found r servers name has = ap (λ (o : Option (List Locator)). unwrap_or o []) (has name) ∙ found_or (group_named r name)
+
+-- ---- a block
+
+pub settled : (r : Register) → IsAccepted r → (q : List ℕ) (x : Xeid) (zone : Option Delegation) (site : Option SiteState) (o : Outcome) → take (length q) (xeid_path x) ≡ q → zone ≡ delegation_at r q → site ≡ state_at r q
+    → delegations_below r q ≡ [] → states_below r q ≡ [] → ((f : List ℕ) → covers f q ≡ true → length f < length q → is_undivided (keys_of r) f ≡ false)
+    → o ≡ outcome_from zone site q → IsSettled r q o
+settled r accepted q x above site o front ez es nz ns fronts eo =
+    let whole = undivided_from r q nz ns in
+    let c : covers q (xeid_path x) ≡ true = subst (λ (l : List ℕ). covers l (xeid_path x) ≡ true) front (front_covered (length q) (xeid_path x)) in
+    let block = block_is (keys_of r) q whole fronts (xeid_path x) c in
+    let told = read_off r accepted (xeid_path x) q (is_path-xeid_path x) block in
+    record {
+      whole = whole;
+      assigned = eo ∙ ap (λ (z : Option Delegation). outcome_from z site q) ez ∙ ap (λ (m : Option SiteState). outcome_from (delegation_at r q) m q) es ∙ sym told
+          ∙ assigned_as_block r q whole (xeid_path x) c;
+    }
+
+-- what nothing is strictly below is assigned as an identifier that it covers
+pub settled_at : (r : Register) (q : List ℕ) (x : Xeid) (o : Outcome) → take (length q) (xeid_path x) ≡ q → delegations_below r q ≡ [] → states_below r q ≡ []
+    → o ≡ assignment r (xeid_path x) → IsSettled r q o
+settled_at r q x o front nz ns eo =
+    let whole = undivided_from r q nz ns in
+    let c : covers q (xeid_path x) ≡ true = subst (λ (l : List ℕ). covers l (xeid_path x) ≡ true) front (front_covered (length q) (xeid_path x)) in
+    record { whole = whole; assigned = eo ∙ assigned_as_block r q whole (xeid_path x) c }
+
+-- where something is strictly below, the prefix is divided
+pub divided_from : (r : Register) (q : List ℕ) → ((delegations_below r q ≡ []) × (states_below r q ≡ []) → ⊥) → is_undivided (keys_of r) q ≡ false
+divided_from r q some = false_from_ne_true (is_undivided (keys_of r) q) (λ e. some (nothing_below r q e))
+
+pub empty_is : {A : Type 0} (xs : List A) → (length xs == 0) ≡ true → xs ≡ []
+empty_is [] e = refl
+empty_is (x ∷ xs) e = absurd (let n : length (x ∷ xs) ≡ 0 = eqb-true (length (x ∷ xs)) 0 e in omega arith)
+
+pub is_empty : {A : Type 0} (xs : List A) → xs ≡ [] → (length xs == 0) ≡ true
+is_empty xs e = eq-eqb (length xs) 0 (ap (λ (ys : List _). length ys) e)
+
+-- ---- as the code goes
+
+module _ (r : Register) (accepted : IsAccepted r) (upper : Bool) (whole h : List ℕ) (e : h ≡ half upper whole) where
+  pub zone_goes : (kept : List Delegation) (above result : Option Delegation) → kept ≡ delegations_below r whole → above ≡ delegation_at r whole
+      → result ≡ option_or (find (λ z. is_same_path z.prefix h) kept) above → result ≡ delegation_at r h
+  zone_goes kept above result f g answer =
+      answer ∙ ap (λ (l : List ℕ). option_or (find (λ (z : Delegation). is_same_path z.prefix l) kept) above) e
+      ∙ delegation_at_half r accepted upper whole kept above f g ∙ ap (delegation_at r) (sym e)
+
+  pub site_goes : (kept : List SiteState) (above result : Option SiteState) → kept ≡ states_below r whole → above ≡ state_at r whole
+      → result ≡ option_or (find (λ s. is_same_path s.prefix h) kept) above → result ≡ state_at r h
+  site_goes kept above result f g answer =
+      answer ∙ ap (λ (l : List ℕ). option_or (find (λ (s : SiteState). is_same_path s.prefix l) kept) above) e
+      ∙ state_at_half r accepted upper whole kept above f g ∙ ap (state_at r) (sym e)
+
+module _ (r : Register) (upper : Bool) (whole h : List ℕ) (e : h ≡ half upper whole) where
+  pub zones_go : (kept : List Delegation) (result : List Delegation) → kept ≡ delegations_below r whole → result ≡ filter (λ z. is_strictly_below z.prefix h) kept → result ≡ delegations_below r h
+  zones_go kept result f answer =
+      answer ∙ ap (λ (l : List ℕ). filter (λ (z : Delegation). is_strictly_below z.prefix l) kept) e ∙ delegations_at_half r upper whole kept f ∙ ap (delegations_below r) (sym e)
+
+  pub sites_go : (kept : List SiteState) (result : List SiteState) → kept ≡ states_below r whole → result ≡ filter (λ s. is_strictly_below s.prefix h) kept → result ≡ states_below r h
+  sites_go kept result f answer =
+      answer ∙ ap (λ (l : List ℕ). filter (λ (s : SiteState). is_strictly_below s.prefix l) kept) e ∙ states_at_half r upper whole kept f ∙ ap (states_below r) (sym e)
+
+  pub fronts_go : is_undivided (keys_of r) whole ≡ false → (f : List ℕ) → covers f h ≡ true → length f < length h → is_undivided (keys_of r) f ≡ false
+  fronts_go divided f c lt =
+      fronts_divided r upper whole divided f (subst (λ (l : List ℕ). covers f l ≡ true) e c) (subst (λ (l : List ℕ). length f < length l) e lt)
+
+-- what is settled of the whole is settled of each half
+pub settled_goes : (r : Register) (upper : Bool) (whole : List ℕ) (o : Outcome) → IsSettled r whole o → IsSettled r (half upper whole) o
+settled_goes r upper whole o is =
+    let h = half upper whole in
+    let c : covers whole h ≡ true = covers-append whole (next_digit 32 upper whole ∷ []) in
+    record {
+      whole = all_of (λ (k : List ℕ). not (is_strictly_below k h)) (keys_of r) (λ k j. not_from_false (is_strictly_below k h) (false_from_ne_true (is_strictly_below k h) (λ below.
+          both_ways (is_strictly_below k whole) (not_below r whole is.whole k j) (below_wider k h whole c below))));
+      assigned = is.assigned ∙ sym (assigned_as_block r whole is.whole h c);
+    }
+
+pub is_settled : (r : Register) (q : List ℕ) (side : Side) (o : Outcome) → IsSide r q side → side ≡ Settled o → IsSettled r q o
+is_settled r q side o is e = subst (IsSide r q) e is
+
+pub is_divided : (r : Register) (q : List ℕ) (side : Side) (d : Division) → IsSide r q side → side ≡ Divided d → IsDivision r q d
+is_divided r q side d is e = subst (IsSide r q) e is
+
+-- ---- a walk
+
+-- what is settled is one block
+pub one_block : (r : Register) (q : List ℕ) (o : Outcome) → IsSettled r q o
+    → let made : Block = record { prefix = q; outcome = o } in made ∷ [] ≡ map (block_at r) (pieces (161 - length q) (keys_of r) q)
+one_block r q o is =
+    ap (λ (w : Outcome). let made : Block = record { prefix = q; outcome = w } in made ∷ []) is.assigned
+    ∙ ap (map (block_at r)) (sym (pieces_one (161 - length q) (keys_of r) q is.whole))
+
+-- ---- two registers
+
+both_undivided : (r s : Register) (q : List ℕ) → is_undivided (keys_of r) q ≡ true → is_undivided (keys_of s) q ≡ true → is_undivided (keys_of r ++ keys_of s) q ≡ true
+both_undivided r s q e f = list_all-append _ (keys_of r) (keys_of s) ∙ and_from (is_undivided (keys_of r) q) (is_undivided (keys_of s) q) e f
+
+first_divided : (r s : Register) (q : List ℕ) → is_undivided (keys_of r) q ≡ false → is_undivided (keys_of r ++ keys_of s) q ≡ false
+first_divided r s q e = false_from_ne_true (is_undivided (keys_of r ++ keys_of s) q) (λ f. both_ways (is_undivided (keys_of r) q) e (undivided_parts r s q f).0)
+
+second_divided : (r s : Register) (q : List ℕ) → is_undivided (keys_of s) q ≡ false → is_undivided (keys_of r ++ keys_of s) q ≡ false
+second_divided r s q e = false_from_ne_true (is_undivided (keys_of r ++ keys_of s) q) (λ f. both_ways (is_undivided (keys_of s) q) e (undivided_parts r s q f).1)
+
+some_divided : (r s : Register) (q : List ℕ) (old new : Side) → IsSide r q old → IsSide s q new → outcomes_settled old new ≡ None → is_undivided (keys_of r ++ keys_of s) q ≡ false
+some_divided r s q (Settled o) (Settled p) a b e = absurd cc
+some_divided r s q (Settled o) (Divided d) a b e = second_divided r s q b.divided
+some_divided r s q (Divided d) new a b e = first_divided r s q a.divided
+
+pub sides_divided : (r s : Register) (q : List ℕ) (sides : Sides) → AreSides r s q sides → both_settled sides ≡ None → is_undivided (keys_of r ++ keys_of s) q ≡ false
+sides_divided r s q sides are e = some_divided r s q sides.before sides.after are.before are.after e
+
+record AreSettled (r s : Register) (q : List ℕ) (o p : Outcome) : Type 0 where
+  old : IsSettled r q o
+  new : IsSettled s q p
+
+sides_settled : (r s : Register) (q : List ℕ) (old new : Side) (o p : Outcome) → IsSide r q old → IsSide s q new → outcomes_settled old new ≡ Some (o, p) → AreSettled r s q o p
+sides_settled r s q (Settled w) (Settled v) o p a b e =
+    let same = same_Some (w, v) (o, p) e in
+    let first : w ≡ o = ap (λ (x : Outcome × Outcome). x.0) same in
+    let second : v ≡ p = ap (λ (x : Outcome × Outcome). x.1) same in
+    record { old = subst (IsSettled r q) first a; new = subst (IsSettled s q) second b }
+sides_settled r s q (Settled w) (Divided d) o p a b e = absurd cc
+sides_settled r s q (Divided d) new o p a b e = absurd cc
+
+-- what both settle is one block of both, and at most one change
+pub one_change : (reading : Reading) (r s : Register) (q : List ℕ) (o p : Outcome) (sides : Sides) → AreSides r s q sides → both_settled sides ≡ Some (o, p)
+    → let made : Change = record { prefix = q; before = o; after = p } in
+    filter (is_apart reading) (made ∷ []) ≡ changes_at reading r s (pieces (161 - length q) (keys_of r ++ keys_of s) q)
+one_change reading r s q o p sides are e =
+    let is = sides_settled r s q sides.before sides.after o p are.before are.after e in
+    let made : Outcome → Outcome → Change = λ w v. record { prefix = q; before = w; after = v } in
+    ap (λ (w : Outcome). filter (is_apart reading) (made w p ∷ [])) is.old.assigned
+    ∙ ap (λ (v : Outcome). filter (is_apart reading) (made (assignment r q) v ∷ [])) is.new.assigned
+    ∙ ap (changes_at reading r s) (sym (pieces_one (161 - length q) (keys_of r ++ keys_of s) q (both_undivided r s q is.old.whole is.new.whole)))
+
+pub changes_split : (reading : Reading) (r s : Register) (xs ys : List (List ℕ)) → changes_at reading r s (xs ++ ys) ≡ changes_at reading r s xs ++ changes_at reading r s ys
+changes_split reading r s xs ys = ap (filter (is_apart reading)) (map-append (change_at r s) xs ys) ∙ filter-append (is_apart reading) (map (change_at r s) xs) (map (change_at r s) ys)

@@ -1,0 +1,104 @@
+-- What a block is assigned, by its zone and its site alone: no lengths are tried. A walk down the digits carries both.
+use Rattle.std.specs.Prelude.{ℕ, ◌≡◌, ◌==◌, not, true, false, List, map, length, Option, None, Some, if◌then◌else◌}
+use Rattle.std.specs.List.{filter}
+use Rattle.std.specs.Option.{option_map, option_map_or}
+use Rattle.std.specs.Ordering.{nat_cmp}
+use Rattle.std.specs.Cmp.Lexicographic.{slice_cmp}
+use Rattle.std.specs.BTreeMap.{BTreeMap, get}
+use Rattle.ddt_path.specs.declared.locator.Locator.{Locator}
+use Rattle.ddt_path.specs.declared.record.Role.{Role}
+use Rattle.ddt_path.specs.declared.record.Role.TheVariants.{Node, Ms}
+use Rattle.ddt_path.specs.declared.record.Outcome.{Outcome}
+use Rattle.ddt_path.specs.declared.record.Outcome.TheVariants.{Registered, NotRegistered, Hole}
+use Rattle.ddt_path.specs.Covers.{is_strictly_below}
+use Rattle.ddt_path.specs.Matching.{longest_match}
+use Rattle.ddt_register.specs.declared.zone.Zone.{Zone}
+use Rattle.ddt_register.specs.declared.site.Site.{Site}
+use Rattle.ddt_register.specs.declared.register.Register.{Register}
+use Rattle.ddt_check.specs.Assignment.{assignment}
+use Rattle.ddt_check.specs.Zones.{locators_of, group_named}
+use Rattle.ddt_plan.specs.declared.sides.Delegation.{Delegation}
+use Rattle.ddt_plan.specs.declared.sides.SiteState.{SiteState}
+use Rattle.ddt_plan.specs.declared.sides.Division.{Division}
+use Rattle.ddt_plan.specs.declared.sides.Side.{Side}
+use Rattle.ddt_plan.specs.declared.sides.Side.TheVariants.{Settled, Divided}
+use Rattle.ddt_plan.specs.declared.sides.Sides.{Sides}
+use Rattle.ddt_plan.specs.Blocks.{keys_of, is_undivided}
+
+-- the locators of each group, by its name
+abbrev pub HasServersOf : BTreeMap (List ℕ) (List Locator) → Register → Type 0
+HasServersOf servers r = (name : List ℕ) → get (slice_cmp nat_cmp) servers name ≡ option_map (λ g. g.locators)
+    (group_named r name)
+
+-- a zone, with the locators of its group
+abbrev pub delegation_of : Register → Zone → Delegation
+delegation_of r z = record { prefix = z.prefix; role = z.kind; servers = locators_of r z.group }
+
+abbrev pub delegations_of : Register → List Delegation
+delegations_of r = map (delegation_of r) r.zones
+
+-- a site's prefix, and whether it has an ETR
+abbrev pub state_of : Site → SiteState
+state_of s = record { prefix = s.prefix; is_registered = not (length s.etrs == 0) }
+
+abbrev pub states_of : Register → List SiteState
+states_of r = map state_of r.sites
+
+-- a block of a site: the site where it has an ETR, else the block
+abbrev pub outcome_of_site : List Locator → List ℕ → SiteState → Outcome
+outcome_of_site servers q s = if s.is_registered then Registered s.prefix servers else NotRegistered q servers
+
+-- a block in a zone: of no site it is a hole as a whole
+abbrev pub outcome_in : Delegation → Role → Option SiteState → List ℕ → Outcome
+outcome_in z Node site q = Hole q
+outcome_in z Ms site q = option_map_or (outcome_of_site z.servers q) site (Hole q)
+
+abbrev pub outcome_from : Option Delegation → Option SiteState → List ℕ → Outcome
+outcome_from zone site q = option_map_or (λ z. outcome_in z z.role site q) zone (Hole q)
+
+-- the longest zone and the longest site that cover a path
+abbrev pub delegation_at : Register → List ℕ → Option Delegation
+delegation_at r q = longest_match (λ z. z.prefix) (delegations_of r) q
+
+abbrev pub state_at : Register → List ℕ → Option SiteState
+state_at r q = longest_match (λ s. s.prefix) (states_of r) q
+
+abbrev pub outcome_at : Register → List ℕ → Outcome
+outcome_at r q = outcome_from (delegation_at r q) (state_at r q) q
+
+-- what is strictly below a prefix
+abbrev pub delegations_below : Register → List ℕ → List Delegation
+delegations_below r q = filter (λ z. is_strictly_below z.prefix q) (delegations_of r)
+
+abbrev pub states_below : Register → List ℕ → List SiteState
+states_below r q = filter (λ s. is_strictly_below s.prefix q) (states_of r)
+
+-- what is kept at a prefix that some zone or site is strictly below
+pub record IsDivision (r : Register) (q : List ℕ) (d : Division) : Type 0 where
+  pub zone : d.zone ≡ delegation_at r q
+  pub site : d.site ≡ state_at r q
+  pub zones : d.zones.items ≡ delegations_below r q
+  pub sites : d.sites.items ≡ states_below r q
+  pub divided : is_undivided (keys_of r) q ≡ false
+
+-- what is kept at one that none is, nor at any that it covers
+pub record IsSettled (r : Register) (q : List ℕ) (outcome : Outcome) : Type 0 where
+  pub whole : is_undivided (keys_of r) q ≡ true
+  pub assigned : outcome ≡ assignment r q
+
+abbrev pub IsSide : Register → List ℕ → Side → Type 0
+IsSide r q (Settled outcome) = IsSettled r q outcome
+IsSide r q (Divided division) = IsDivision r q division
+
+pub record AreSides (r s : Register) (q : List ℕ) (sides : Sides) : Type 0 where
+  pub before : IsSide r q sides.before
+  pub after : IsSide s q sides.after
+
+abbrev pub outcomes_settled : Side → Side → Option (Outcome × Outcome)
+outcomes_settled (Settled o) (Settled p) = Some (o, p)
+outcomes_settled (Settled o) (Divided e) = None
+outcomes_settled (Divided d) side = None
+
+-- the outcomes of two sides that are settled
+abbrev pub both_settled : Sides → Option (Outcome × Outcome)
+both_settled sides = outcomes_settled sides.before sides.after

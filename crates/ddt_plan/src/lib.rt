@@ -1,0 +1,26 @@
+//! What a register says of all identifiers, block by block, and what a change of the register changes (RFC 8111,
+//! section 7.3: what following referrals from the root has to end in).
+//!
+//! Nothing is kept: a walk down the digits hands each block or change to a sink as it finds it.
+//!
+//! In reading order: `sink`, `listing`, `comparing`, `outcomes`, `counting`; `walking`, `sides`, `halves`, `servers`
+//! below them; and `laws`.
+#![tactic(auto)]
+
+mod comparing;
+mod counting;
+mod halves;
+mod laws;
+mod listing;
+mod outcomes;
+mod servers;
+mod sides;
+mod sink;
+mod walking;
+
+pub use comparing::{Change, changes};
+pub use counting::{ChangeCounts, CountFull, OutcomeCounts};
+pub use laws::{a_block_is_assigned_alike, a_negative_is_its_block, exactly_the_same_is_equal};
+pub use listing::{Block, blocks};
+pub use outcomes::{Reading, is_same_outcome};
+pub use sink::{PlanFault, Sink};

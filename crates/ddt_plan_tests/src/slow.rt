@@ -1,20 +1,31 @@
 //! Plain bodies, step by step as the definitions say: the reference for the walk.
 
-ghost use Rattle.std.specs.Prelude.{◌≡◌};
+ghost use Rattle.std.specs.Prelude.{◌≡◌, ◌&&◌, not};
+ghost use Rattle.std.specs.List.{list_all};
 ghost use Rattle.ddt_path.specs.Covers.{is_strictly_below};
-ghost use Rattle.ddt_plan.specs.Blocks.{keys_of, is_undivided as is_undivided_at};
 
 use ddt_path::{Prefix, Xeid};
-use ddt_register::Register;
+use ddt_register::{Register, Site, Zone};
 
 /// Whether no zone and no site is strictly below a prefix.
 fn is_undivided(register: &Register, at: Prefix) -> bool
-    ensures { result ≡ is_undivided_at (keys_of register.now) at }
+    ensures { result ≡ (list_all (λ z. not (is_strictly_below z.prefix at)) register.now.zones
+        && list_all (λ s. not (is_strictly_below s.prefix at)) register.now.sites) }
 {
-    let zones = register.zones.as_slice();
-    let sites = register.sites.as_slice();
+    no_zone_is_below(register.zones.as_slice(), at)
+        && no_site_is_below(register.sites.as_slice(), at)
+}
+
+fn no_zone_is_below(zones: &[Zone], at: Prefix) -> bool
+    ensures { result ≡ list_all (λ z. not (is_strictly_below z.prefix at)) zones.now }
+{
     zones.iter().all(|zone| !zone.prefix.is_strictly_below(at))
-        && sites.iter().all(|site| !site.prefix.is_strictly_below(at))
+}
+
+fn no_site_is_below(sites: &[Site], at: Prefix) -> bool
+    ensures { result ≡ list_all (λ s. not (is_strictly_below s.prefix at)) sites.now }
+{
+    sites.iter().all(|site| !site.prefix.is_strictly_below(at))
 }
 
 /// The block of an identifier over the zones and sites of several registers, inside a prefix that covers it: of its

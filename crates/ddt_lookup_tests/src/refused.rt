@@ -481,15 +481,13 @@ fn asks_the_root(rt: &impl Abort, resolver: &mut ListResolver) -> Result<(), Fai
 fn after_a_schedule_the_resolver_is_sound(rt: HostRuntime) -> Result<(), Fail> {
     let mut stage = new_stage(rt.alloc(), &CAMPUS_ALONE)?;
     plays(&rt, rt.alloc(), &mut stage, &CAMPUS_ALONE, SIDE_BY_SIDE)?;
-    asks_the_root(&rt, &mut stage.resolver)?;
+    let Stage {
+        mut members,
+        mut resolver,
+    } = stage;
+    asks_the_root(&rt, &mut resolver)?;
     for text in [SITE, HOLE] {
-        is_found(
-            &rt,
-            rt.alloc(),
-            &mut stage.members[0],
-            &mut stage.resolver,
-            text,
-        )?;
+        is_found(&rt, rt.alloc(), &mut members[0], &mut resolver, text)?;
     }
     Ok(())
 }

@@ -56,15 +56,43 @@ fn changed(alloc: Global, old: &Accepted, new: &Accepted) -> (Vec<Change>, End) 
     (list, end)
 }
 
-/// What came first is a front of what came again, and all of it unless memory was refused. What came again is all.
-fn is_front<T: PartialEq>(
-    rt: &impl Abort,
-    first: &(Vec<T>, End),
-    again: &(Vec<T>, End),
-    count: usize,
-) {
-    let (front, all) = (first.0.as_slice(), again.0.as_slice());
-    assert!(rt; again.1.is_ok());
+/// All blocks; None where memory is refused.
+fn all_listed(alloc: Global, register: &Accepted) -> Option<Vec<Block>> {
+    let mut list = Vec::new(alloc);
+    match blocks(alloc, register, everything(), &mut list) {
+        Ok(()) => Some(list),
+        Err(_refused) => None,
+    }
+}
+
+/// All changes; None where memory is refused.
+fn all_changed(alloc: Global, old: &Accepted, new: &Accepted) -> Option<Vec<Change>> {
+    let mut list = Vec::new(alloc);
+    match changes(alloc, Reading::Exact, old, new, everything(), &mut list) {
+        Ok(()) => Some(list),
+        Err(_refused) => None,
+    }
+}
+
+/// All blocks, listed once more where memory is refused.
+fn all_blocks(alloc: Global, register: &Accepted) -> Result<Vec<Block>, Fail> {
+    match all_listed(alloc, register) {
+        Some(list) => Ok(list),
+        None => Ok(all_listed(alloc, register).ok_or("memory stays away")?),
+    }
+}
+
+/// All changes, listed once more where memory is refused.
+fn all_changes(alloc: Global, old: &Accepted, new: &Accepted) -> Result<Vec<Change>, Fail> {
+    match all_changed(alloc, old, new) {
+        Some(list) => Ok(list),
+        None => Ok(all_changed(alloc, old, new).ok_or("memory stays away")?),
+    }
+}
+
+/// What came first is a front of all, and all of it unless memory was refused.
+fn is_front<T: PartialEq>(rt: &impl Abort, first: &(Vec<T>, End), all: &[T], count: usize) {
+    let front = first.0.as_slice();
     assert_eq!(rt; all.len(), count);
     assert_eq!(rt; front.len() == all.len(), first.1.is_ok());
     assert!(rt; front.iter().zip(all).all(|(one, other)| one == other));
@@ -74,7 +102,8 @@ fn is_front<T: PartialEq>(
 fn blocks_are_given_up_to_the_refusal(rt: HostRuntime) -> Result<(), Fail> {
     let register = accepted(&rt, rt.alloc(), NESTED_SITES)?;
     let first = listed(rt.alloc(), &register);
-    is_front(&rt, &first, &listed(rt.alloc(), &register), 63);
+    let all = all_blocks(rt.alloc(), &register)?;
+    is_front(&rt, &first, &all, 63);
     Ok(())
 }
 
@@ -83,6 +112,7 @@ fn changes_are_given_up_to_the_refusal(rt: HostRuntime) -> Result<(), Fail> {
     let old = accepted(&rt, rt.alloc(), CAMPUS)?;
     let new = accepted(&rt, rt.alloc(), NESTED_SITES)?;
     let first = changed(rt.alloc(), &old, &new);
-    is_front(&rt, &first, &changed(rt.alloc(), &old, &new), 3);
+    let all = all_changes(rt.alloc(), &old, &new)?;
+    is_front(&rt, &first, &all, 3);
     Ok(())
 }

@@ -1,4 +1,3 @@
 pub mod RoomLemmas
 pub mod StandsLemmas
 pub mod WriteLemmas
-pub mod AsciiLemmas

@@ -34,7 +34,7 @@ impl Written for Locator {
 
     ghost is_spelled = { λ l. SpellsLocator (written_locator l) l };
 
-    #[tactic(auto, using(crate::proofs::AsciiLemmas::utf8_locator))]
+    #[tactic(auto, using(ddt_text::specs::laws::Ascii::utf8_locator))]
     fn write(&self, alloc: Global) -> Result<Value, AllocError> {
         let mut text = Vec::new(alloc);
         write_locator(&mut text, *self)?;
@@ -74,7 +74,7 @@ fn text_value(text: Vec<u8>) -> Value
 }
 
 /// The name as a text.
-#[tactic(auto, using(crate::proofs::AsciiLemmas::utf8_name))]
+#[tactic(auto, using(ddt_text::specs::laws::Ascii::utf8_name))]
 pub fn name_value(alloc: Global, name: Name) -> Result<Value, AllocError>
     ensures { IfOk result (λ v. (view v ≡ string name) × (is_name name ≡ true)) }
 {

@@ -16,7 +16,7 @@ mod text;
 pub use counts::accepted_line;
 pub use hop::hop_line;
 pub use negative_reply::negative_reply_line;
-pub use outcome::outcome_line;
+pub use outcome::{outcome_line, push_outcome};
 pub use printing::print;
 pub use referral::referral_line;
 pub use request::request_line;

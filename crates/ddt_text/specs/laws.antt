@@ -1,5 +1,6 @@
 -- What follows from the definitions, for this crate and for those above.
 pub mod Address
+pub mod Ascii
 pub mod Byte
 pub mod Number
 pub mod Part

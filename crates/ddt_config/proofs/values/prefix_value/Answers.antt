@@ -1,4 +1,4 @@
-use Rattle.ddt_config.proofs.AsciiLemmas.{utf8_prefix}
+use Rattle.ddt_text.specs.laws.Ascii.{utf8_prefix}
 use Rattle.ddt_config.proofs.values.prefix_value.Goals as goal
 
 pub text_value-requires : goal.text_value-requires

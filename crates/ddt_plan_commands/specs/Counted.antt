@@ -1,0 +1,23 @@
+-- The counts of all blocks, and of all changes.
+use Rattle.std.specs.Prelude.{ℕ, List, [], ◌∷◌}
+use Rattle.ddt_plan.specs.declared.listing.Block.{Block}
+use Rattle.ddt_plan.specs.declared.comparing.Change.{Change}
+use Rattle.ddt_plan.specs.declared.counting.OutcomeCounts.{OutcomeCounts}
+use Rattle.ddt_plan.specs.declared.counting.ChangeCounts.{ChangeCounts}
+use Rattle.ddt_plan.specs.Counts.{counted, changes_counted}
+
+-- none of any kind
+abbrev pub no_outcomes : OutcomeCounts
+no_outcomes = record { holes = 0; registered = 0; not_registered = 0 }
+
+abbrev pub no_changes : ChangeCounts
+no_changes = record { before = no_outcomes; after = no_outcomes }
+
+-- the counts with those of more blocks, or of more changes
+abbrev pub with_blocks : OutcomeCounts → List Block → OutcomeCounts
+with_blocks n [] = n
+with_blocks n (b ∷ bs) = with_blocks (counted n b.outcome) bs
+
+abbrev pub with_changes : ChangeCounts → List Change → ChangeCounts
+with_changes n [] = n
+with_changes n (c ∷ cs) = with_changes (changes_counted n c) cs

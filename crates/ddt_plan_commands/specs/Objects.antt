@@ -1,0 +1,50 @@
+-- A block, a change and counts as JSON objects, whose members stand in the order of their names.
+use Rattle.std.specs.Prelude.{ℕ, List, [], codes, map}
+use Rattle.serde_json.specs.Data.{Data, Items, Members, number, unsigned, string, array, object, member, no_members}
+use Rattle.serde_json.specs.View.{items_of}
+use Rattle.ddt_path.specs.declared.locator.Locator.{Locator}
+use Rattle.ddt_path.specs.declared.record.Outcome.{Outcome}
+use Rattle.ddt_path.specs.declared.record.Outcome.TheVariants.{Registered, NotRegistered, Hole}
+use Rattle.ddt_text.specs.Written.{written_locator, written_prefix}
+use Rattle.ddt_plan.specs.declared.listing.Block.{Block}
+use Rattle.ddt_plan.specs.declared.comparing.Change.{Change}
+use Rattle.ddt_plan.specs.declared.counting.OutcomeCounts.{OutcomeCounts}
+use Rattle.ddt_plan.specs.declared.counting.ChangeCounts.{ChangeCounts}
+
+abbrev pub prefix_data : List ℕ → Data
+prefix_data prefix = string (written_prefix prefix)
+
+abbrev pub server_data : Locator → Data
+server_data l = string (written_locator l)
+
+abbrev pub server_items : List Locator → Items
+server_items servers = items_of (map server_data servers)
+
+abbrev pub kind_data : List ℕ → List ℕ → List Locator → Data
+kind_data kind prefix servers =
+    object (member (codes "kind") (string kind) (member (codes "prefix") (prefix_data prefix)
+    (member (codes "servers") (array (server_items servers)) no_members)))
+
+-- the kind, the prefix and the servers of an outcome; a hole has no servers
+abbrev pub outcome_data : Outcome → Data
+outcome_data (Registered prefix servers) = kind_data (codes "registered") prefix servers
+outcome_data (NotRegistered prefix servers) = kind_data (codes "not-registered") prefix servers
+outcome_data (Hole prefix) = kind_data (codes "hole") prefix []
+
+abbrev pub block_data : Block → Data
+block_data b =
+    object (member (codes "block") (prefix_data b.prefix) (member (codes "outcome") (outcome_data b.outcome) no_members))
+
+abbrev pub change_data : Change → Data
+change_data c =
+    object (member (codes "after") (outcome_data c.after) (member (codes "before") (outcome_data c.before)
+    (member (codes "block") (prefix_data c.prefix) no_members)))
+
+abbrev pub counts_data : OutcomeCounts → Data
+counts_data n =
+    object (member (codes "holes") (number (unsigned n.holes)) (member (codes "not-registered")
+    (number (unsigned n.not_registered)) (member (codes "registered") (number (unsigned n.registered)) no_members)))
+
+abbrev pub change_counts_data : ChangeCounts → Data
+change_counts_data n =
+    object (member (codes "after") (counts_data n.after) (member (codes "before") (counts_data n.before) no_members))

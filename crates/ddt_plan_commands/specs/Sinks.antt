@@ -1,0 +1,34 @@
+-- What the sinks that write do with an item.
+use Rattle.std.specs.Prelude.{ℕ, Bool, ◌≡◌, ⊤, List, Option, Result, Ok, Err}
+use Rattle.std.specs.Io.KnownBytes.{Appends}
+use Rattle.ddt_lines.specs.Printing.{AppendsFront}
+use Rattle.ddt_plan.specs.declared.listing.Block.{Block}
+use Rattle.ddt_plan.specs.declared.comparing.Change.{Change}
+use Rattle.ddt_plan.specs.Counts.{changes_counted}
+use Rattle.ddt_plan_commands.specs.declared.block_lines.LineFault.{LineFault}
+use Rattle.ddt_plan_commands.specs.declared.block_lines.BlockLines.{BlockLines}
+use Rattle.ddt_plan_commands.specs.declared.change_lines.ChangeLines.{ChangeLines}
+use Rattle.ddt_plan_commands.specs.Written.{listed_block, written_change}
+
+-- a text is appended, or a front of it where that fails
+abbrev pub Prints : Result (Unit {0}) LineFault → Option (List ℕ) → Option (List ℕ) → List ℕ → Type 0
+Prints (Ok all) old new text = Appends old new text
+Prints (Err why) old new text = AppendsFront old new text
+
+-- what is asked for stays, and the line of a block is printed
+abbrev pub TakesBlock : {W : Type 0} → (W → Option (List ℕ)) → BlockLines W → Block → Result (Unit {0}) LineFault
+    → BlockLines W → Type 0
+TakesBlock contents before block answer after =
+    (after.form ≡ before.form) × (after.with_holes ≡ before.with_holes)
+    × Prints answer (contents before.out) (contents after.out) (listed_block before.form before.with_holes block)
+
+-- a change that is taken is counted
+abbrev pub IsCounted : Result (Unit {0}) LineFault → Type 0 → Type 0
+IsCounted (Ok all) counted = counted
+IsCounted (Err why) counted = ⊤
+
+abbrev pub TakesChange : {W : Type 0} → (W → Option (List ℕ)) → ChangeLines W → Change → Result (Unit {0}) LineFault
+    → ChangeLines W → Type 0
+TakesChange contents before change answer after =
+    (after.form ≡ before.form) × IsCounted answer (after.counts ≡ changes_counted before.counts change)
+    × Prints answer (contents before.out) (contents after.out) (written_change before.form change)

@@ -1,0 +1,99 @@
+//! Blocks, written as they are found.
+
+ghost use Rattle.std.specs.Prelude.{◌≡◌, IfOk};
+ghost use Rattle.ddt_plan_commands.specs.Sinks.{TakesBlock};
+ghost use Rattle.ddt_plan_commands.specs.Written.{is_hole as is_hole_of, written_block};
+
+use crate::asking::Form;
+use crate::lines::block_fields;
+use crate::objects::block_object;
+use ddt_lines::print;
+use ddt_path::Outcome;
+use ddt_plan::{Block, CountFull, Sink};
+use std::alloc::{AllocError, Global};
+use std::io;
+use std::io::Write;
+
+/// Why a line isn't written whole.
+#[derive(Clone, Copy, Debug, PartialEq, Eq)]
+pub enum LineFault {
+    /// There is no memory for it.
+    Memory,
+    /// There are more than 18446744073709551615 of a kind.
+    CountFull,
+    /// The writer failed.
+    Unprinted,
+}
+
+impl From<CountFull> for LineFault {
+    ghost use Rattle.std.specs.Prelude.{◌≡◌};
+    ghost use Rattle.ddt_plan_commands.specs.declared.block_lines.LineFault.TheVariants.{CountFull as IsCountFull};
+
+    ghost from_gives = { λ full fault. fault ≡ IsCountFull };
+
+    fn from(_full: CountFull) -> Self {
+        LineFault::CountFull
+    }
+}
+
+impl From<AllocError> for LineFault {
+    ghost use Rattle.std.specs.Prelude.{◌≡◌};
+    ghost use Rattle.ddt_plan_commands.specs.declared.block_lines.LineFault.TheVariants.{Memory};
+
+    ghost from_gives = { λ error fault. fault ≡ Memory };
+
+    fn from(_error: AllocError) -> Self {
+        LineFault::Memory
+    }
+}
+
+impl From<io::Error> for LineFault {
+    ghost use Rattle.std.specs.Prelude.{◌≡◌};
+    ghost use Rattle.ddt_plan_commands.specs.declared.block_lines.LineFault.TheVariants.{Unprinted};
+
+    ghost from_gives = { λ error fault. fault ≡ Unprinted };
+
+    fn from(_error: io::Error) -> Self {
+        LineFault::Unprinted
+    }
+}
+
+/// Writes a line for each block, or for each that is no hole.
+#[derive(Drop)]
+pub struct BlockLines<W> {
+    pub alloc: Global,
+    pub form: Form,
+    pub with_holes: bool,
+    pub out: W,
+}
+
+/// The line of a block, in a form. Fails only if out of memory.
+fn block_line(alloc: Global, form: Form, block: &Block) -> Result<Vec<u8>, AllocError>
+    ensures { IfOk result (λ line. line.items ≡ written_block form block.now) }
+{
+    match form {
+        Form::Text => block_fields(alloc, block),
+        Form::Json => block_object(alloc, block),
+    }
+}
+
+fn is_hole(outcome: &Outcome) -> bool
+    ensures { result ≡ is_hole_of outcome.now }
+{
+    matches!(outcome, Outcome::Hole { .. })
+}
+
+impl<W: Write + Drop> Sink<Block> for BlockLines<W> {
+    type Refusal = LineFault;
+
+    ghost takes = { TakesBlock W.contents };
+
+    fn give(&mut self, block: Block) -> Result<(), LineFault> {
+        if !self.with_holes && is_hole(&block.outcome) {
+            return Ok(());
+        }
+        let line = block_line(self.alloc, self.form, &block)?;
+        print(&line, &mut self.out)?;
+        Ok(())
+    }
+}

@@ -1,0 +1,43 @@
+//! The register of a path, and a prefix of a word.
+
+use crate::refusal::PlanRefusal;
+use ddt_check::Accepted;
+use ddt_commands::register_at;
+use ddt_path::Prefix;
+use ddt_text::parse_prefix;
+use std::alloc::Global;
+use std::io::Read;
+
+ghost use Rattle.std.specs.Prelude.{◌≡◌, ◌≢◌, List, ℕ, Ok, Err, None, Some, IfOk, IfErr};
+ghost use Rattle.ddt_text.specs.FirstFault.{prefix_in};
+ghost use Rattle.ddt_check.specs.Rules.{IsAccepted};
+ghost use Rattle.ddt_commands.specs.Register.{HasBytes, Spell};
+ghost use Rattle.ddt_plan_commands.specs.Refusals.{IsWhyUnopened, bad_prefix};
+
+/// The accepted register of a source that could be opened, or why there is none.
+pub fn register_of<F: Read + Drop>(
+    alloc: Global,
+    source: Option<F>,
+    path: &str,
+) -> Result<Accepted, PlanRefusal<'_>>
+    ensures opened { IfOk result (λ a. source ≢ None) }
+    ensures accepted { IfOk result (λ a. IsAccepted a) }
+    ensures spelled { IfOk result (λ a. (bytes : List ℕ) → HasBytes F.remaining source bytes → Spell bytes a) }
+    ensures refused { IfErr result (IsWhyUnopened F.remaining source path.now) }
+{
+    match register_at(alloc, source, path) {
+        Ok(register) => Ok(register),
+        Err(why) => Err(PlanRefusal::NoRegister { path, why }),
+    }
+}
+
+/// The prefix that a word spells.
+pub fn prefix_of(word: &str) -> Result<Prefix, PlanRefusal<'static>>
+    ensures found { IfOk result (λ p. prefix_in word.now ≡ Ok p) }
+    ensures refused { IfErr result (λ why. bad_prefix (prefix_in word.now) ≡ Some why) }
+{
+    match parse_prefix(word.as_bytes()) {
+        Ok(prefix) => Ok(prefix),
+        Err(fault) => Err(PlanRefusal::BadPrefix(fault)),
+    }
+}

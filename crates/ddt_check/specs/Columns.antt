@@ -8,6 +8,7 @@ use Rattle.ddt_path.specs.Covers.{is_same_path}
 use Rattle.ddt_path.specs.Locators.{are_distinct, most_locators}
 use Rattle.ddt_register.specs.declared.group.Group.{Group}
 use Rattle.ddt_register.specs.declared.register.Register.{Register}
+use Rattle.ddt_check.specs.declared.rules.locators.Cell.{Cell}
 
 -- a locator as its family and its number
 abbrev pub locator_pair : Locator → ℕ × ℕ
@@ -30,6 +31,20 @@ column_key column g = key_list (column_pair column g)
 
 abbrev pub locator_key : Locator → List ℕ
 locator_key l = key_list (locator_pair l)
+
+-- what is kept of a group in a column, and its key
+abbrev pub cell_of : ℕ → Group → Cell
+cell_of column g = record {
+  number = (column_pair column g).1;
+  family = (column_pair column g).0;
+  row = g.row;
+}
+
+abbrev pub cell_pair : Cell → ℕ × ℕ
+cell_pair c = (c.family, c.number)
+
+abbrev pub cell_key : Cell → List ℕ
+cell_key c = key_list (cell_pair c)
 
 -- the first group row that has the locator in the column
 abbrev pub first_in : Register → ℕ → Locator → Option Group

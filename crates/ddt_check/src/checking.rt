@@ -94,9 +94,9 @@ fn sort_and_test(
         → IsLeastRow (broken r Rule.NoRoot) root → IsLeastRow (broken r Rule.TooManyEtrs) etrs
         → MatchOption result (IsAccepted r) (λ f. IsLeastFault r f.rule f.row) }
 {
+    let locators = wrong_locators(groups);
     sort_by_prefix(zones);
     sort_by_prefix(sites);
-    let locators = wrong_locators(groups);
     sort_by_name(groups);
     let found = Found {
         root,

@@ -1,6 +1,7 @@
 pub mod Path
 pub mod DigitLemmas
 pub mod FormOf
+pub mod FormOrder
 pub mod FormLemmas
 pub mod Covers
 pub mod Matching

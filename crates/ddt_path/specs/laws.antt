@@ -3,6 +3,7 @@ pub mod Action
 pub mod Cover
 pub mod End
 pub mod Filter
+pub mod FormOrder
 pub mod Front
 pub mod Hole
 pub mod Locator

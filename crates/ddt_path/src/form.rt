@@ -12,6 +12,31 @@ pub enum Form {
     Block { iid: u32, address: Locator, len: u8 },
 }
 
+impl Form {
+    ghost use Rattle.std.specs.Prelude.{◌≡◌};
+    ghost use Rattle.ddt_path.specs.FormOrder.{parts_of};
+
+    /// Numbers that compare as the paths of forms do: the Instance ID, the family symbol or 0 of a range, the address
+    /// and the length.
+    pub(crate) fn parts(self) -> (u32, u8, u128, u8)
+        ensures { result ≡ parts_of self }
+    {
+        match self {
+            Form::Range { iid, len } => (iid, 0, 0, len),
+            Form::Block {
+                iid,
+                address: Locator::V4(number),
+                len,
+            } => (iid, 4, u128::from(number), len),
+            Form::Block {
+                iid,
+                address: Locator::V6(number),
+                len,
+            } => (iid, 6, number, len),
+        }
+    }
+}
+
 /// Why a form names no prefix.
 #[derive(Clone, Copy, Debug, PartialEq, Eq, Error)]
 pub enum PrefixFault {

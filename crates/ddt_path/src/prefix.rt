@@ -249,7 +249,7 @@ impl Ord for Prefix {
     ghost matches_eq = { texts_ties };
 
     fn cmp(&self, other: &Prefix) -> Ordering {
-        let shared = self.longest_common(*other).len();
-        self.digit(shared).cmp(&other.digit(shared))
+        let parts = self.form().parts();
+        parts.cmp(&other.form().parts())
     }
 }

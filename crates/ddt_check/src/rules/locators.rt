@@ -1,18 +1,15 @@
-//! The rule on the locators of groups. The groups are sorted by their first locators, then by their second ones, and so
-//! on; in each such column a locator is found by halving.
+//! The rule on the locators of groups. Their first locators are sorted, then their second ones, and so on, as small cells
+//! in a frame; in each such column a locator is found by halving.
 
-ghost use Rattle.std.specs.Prelude.{◌≡◌, ◌<◌, nat_lt, IsPermutation, drop, length};
+ghost use Rattle.std.specs.Prelude.{◌≡◌, ◌<◌, ◌≤◌, ℕ, true, nat_lt, IsPermutation, map, drop, length};
 ghost use Rattle.std.specs.List.{list_any};
-ghost use Rattle.std.specs.Option.{option_copied};
-ghost use Rattle.std.specs.Ordering.{nat_cmp, is_lt};
-ghost use Rattle.std.specs.Cmp.Lexicographic.{slice_cmp};
-ghost use Rattle.ddt_path.specs.Covers.{is_same_path};
+ghost use Rattle.std.specs.Option.{option_map};
 ghost use Rattle.ddt_register.specs.declared.register.Register.{Register as ARegister};
-ghost use Rattle.ddt_check.specs.Rules.{IsLeastRow, group_at};
+ghost use Rattle.ddt_register.specs.Rows.{rise, group_rows};
+ghost use Rattle.ddt_check.specs.Rules.{IsLeastRow, broken, group_at};
 ghost use Rattle.ddt_check.specs.Order.{IsInOrder};
-ghost use Rattle.ddt_check.specs.Sorted.{IsLeastOfGroups};
 ghost use Rattle.ddt_check.specs.Columns.{locator_pair as locator_pair_of, column_pair as column_pair_of};
-ghost use Rattle.ddt_check.specs.Columns.{column_key, key_list};
+ghost use Rattle.ddt_check.specs.Columns.{cell_of, cell_key};
 ghost use Rattle.ddt_check.specs.Columns.{first_in as first_of, meets_at, meets_in, is_met, is_wrong_alone as is_wrong_of};
 
 use crate::fault::Rule;
@@ -40,54 +37,103 @@ fn column_pair(g: &Group, column: usize) -> (u8, u128)
     }
 }
 
-fn is_before(g: &Group, column: usize, key: (u8, u128)) -> bool
-    ensures { result ≡ is_lt (slice_cmp nat_cmp (column_key column g.now) (key_list key)) }
-{
-    let own = column_pair(g, column);
-    own.0 < key.0 || (own.0 == key.0 && own.1 < key.1)
+/// A group's locator in one column as its family and its number, zeros where it has none there; and the group's row.
+/// These are sorted in place of the groups, which stay where they are.
+#[derive(Clone, Copy)]
+struct Cell {
+    number: u128,
+    family: u8,
+    row: u32,
 }
 
-fn has_key(g: &Group, column: usize, key: (u8, u128)) -> bool
-    ensures { result ≡ is_same_path (column_key column g.now) (key_list key) }
-{
-    let own = column_pair(g, column);
-    own.0 == key.0 && own.1 == key.1
+impl Cell {
+    /// What the frame of a function holds before the cells of a column are written.
+    const EMPTY: Cell = Cell {
+        number: 0,
+        family: 0,
+        row: 0,
+    };
+
+    ghost use Rattle.std.specs.Prelude.{◌≡◌};
+    ghost use Rattle.std.specs.Ordering.{nat_cmp, is_lt};
+    ghost use Rattle.std.specs.Cmp.Lexicographic.{slice_cmp};
+    ghost use Rattle.ddt_path.specs.Covers.{is_same_path};
+    ghost use Rattle.ddt_check.specs.Columns.{key_list, cell_of, cell_pair, cell_key};
+
+    fn of(g: &Group, column: usize) -> Cell
+        ensures { result ≡ cell_of column g.now }
+    {
+        let (family, number) = column_pair(g, column);
+        Cell {
+            number,
+            family,
+            row: g.row,
+        }
+    }
+
+    /// By the family and the number, then by the row.
+    fn sort_key(&self) -> ((u8, u128), u32)
+        ensures { result ≡ (cell_pair self.now, self.now.row) }
+    {
+        ((self.family, self.number), self.row)
+    }
+
+    fn is_before(&self, key: (u8, u128)) -> bool
+        ensures { result ≡ is_lt (slice_cmp nat_cmp (cell_key self.now) (key_list key)) }
+    {
+        self.family < key.0 || (self.family == key.0 && self.number < key.1)
+    }
+
+    fn has_key(&self, key: (u8, u128)) -> bool
+        ensures { result ≡ is_same_path (cell_key self.now) (key_list key) }
+    {
+        self.family == key.0 && self.number == key.1
+    }
 }
 
-fn column_and_row(g: &Group, column: usize) -> ((u8, u128), u32)
-    ensures { result ≡ (column_pair_of column g.now, g.now.row) }
+/// Writes the cells of a column, in the order of the groups.
+fn write_column(cells: &mut [Cell], groups: &[Group], column: usize)
+    requires { length cells.old ≡ length groups.now }
+    ensures { cells.new ≡ map (cell_of column) groups.now }
 {
-    (column_pair(g, column), g.row)
+    for at in 0..cells.len() {
+        cells[at] = Cell::of(&groups[at], column);
+    }
 }
 
-/// Sorts groups by a column, then by their rows.
-fn sort_column(groups: &mut [Group], column: usize)
-    ensures moved { IsPermutation groups.old groups.new }
-    ensures sorted { IsInOrder (column_key column) (λ g. g.row) groups.new }
+/// The cells of a column, sorted by their locators, then by their rows.
+fn sort_column(cells: &mut [Cell], groups: &[Group], column: usize)
+    requires { length cells.old ≡ length groups.now }
+    ensures length { length cells.new ≡ length groups.now }
+    ensures moved { IsPermutation (map (cell_of column) groups.now) cells.new }
+    ensures sorted { IsInOrder cell_key (λ c. c.row) cells.new }
 {
-    groups.sort_unstable_by_key(|g| column_and_row(g, column));
+    write_column(cells, groups, column);
+    cells.sort_unstable_by_key(|cell| cell.sort_key());
 }
 
-/// The first group row of those that have a locator in the column.
-fn first_in(groups: &[Group], column: usize, l: Locator) -> Option<&Group>
-    requires { IsInOrder (column_key column) (λ g. g.row) groups.now }
-    ensures { (r : ARegister) → IsPermutation r.groups groups.now → option_copied result ≡ first_of r column l }
+/// The row of the first group that has a locator in the column.
+fn first_in(cells: &[Cell], l: Locator) -> Option<u32>
+    requires { IsInOrder cell_key (λ c. c.row) cells.now }
+    ensures { (r : ARegister) (column : ℕ) → IsPermutation (map (cell_of column) r.groups) cells.now
+        → result ≡ option_map (λ g. g.row) (first_of r column l) }
 {
     let key = locator_pair(l);
-    let at = groups.partition_point(|g| is_before(g, column, key));
-    if at < groups.len() && has_key(&groups[at], column, key) {
-        return Some(&groups[at]);
+    let at = cells.partition_point(|cell| cell.is_before(key));
+    if at < cells.len() && cells[at].has_key(key) {
+        return Some(cells[at].row);
     }
     None
 }
 
 /// Where the first group row that has the locator in the column isn't the group's own, the later of both rows.
-fn meeting_row(groups: &[Group], column: usize, g: &Group, l: Locator) -> Option<u32>
-    requires { IsInOrder (column_key column) (λ g. g.row) groups.now }
-    ensures { (r : ARegister) → IsPermutation r.groups groups.now → IsLeastRow (meets_at r column g.now l) result }
+fn meeting_row(cells: &[Cell], g: &Group, l: Locator) -> Option<u32>
+    requires { IsInOrder cell_key (λ c. c.row) cells.now }
+    ensures { (r : ARegister) (column : ℕ) → IsPermutation (map (cell_of column) r.groups) cells.now
+        → IsLeastRow (meets_at r column g.now l) result }
 {
-    match first_in(groups, column, l) {
-        Some(h) if h.row != g.row => Some(h.row.max(g.row)),
+    match first_in(cells, l) {
+        Some(row) if row != g.row => Some(row.max(g.row)),
         _ => None,
     }
 }
@@ -104,27 +150,29 @@ fn locators_from(locators: &[Locator], place: usize) -> &[Locator]
 }
 
 /// The least row of those where another group has one of the group's locators, from the column on, in the column.
-fn least_meeting(groups: &[Group], column: usize, g: &Group) -> Option<u32>
-    requires { IsInOrder (column_key column) (λ g. g.row) groups.now }
-    ensures { (r : ARegister) → IsPermutation r.groups groups.now → IsLeastRow (meets_in r column g.now) result }
+fn least_meeting(cells: &[Cell], column: usize, g: &Group) -> Option<u32>
+    requires { IsInOrder cell_key (λ c. c.row) cells.now }
+    ensures { (r : ARegister) → IsPermutation (map (cell_of column) r.groups) cells.now
+        → IsLeastRow (meets_in r column g.now) result }
 {
     let mut least = None;
     let locators = locators_from(g.locators.as_slice(), column);
     for l in locators {
-        least = lower_of(least, meeting_row(groups, column, g, *l));
+        least = lower_of(least, meeting_row(cells, g, *l));
     }
     least
 }
 
 /// The least row of a group that shares a locator with an earlier one, where the one has it in the column, and the
 /// other in the column or behind it.
-fn shared(groups: &[Group], column: usize) -> Option<u32>
-    requires { IsInOrder (column_key column) (λ g. g.row) groups.now }
-    ensures { (r : ARegister) → IsPermutation r.groups groups.now → IsLeastRow (is_met r column) result }
+fn shared(cells: &[Cell], groups: &[Group], column: usize) -> Option<u32>
+    requires sorted { IsInOrder cell_key (λ c. c.row) cells.now }
+    requires moved { IsPermutation (map (cell_of column) groups.now) cells.now }
+    ensures { (r : ARegister) → r.groups ≡ groups.now → IsLeastRow (is_met r column) result }
 {
     let mut least = None;
     for g in groups {
-        least = lower_of(least, least_meeting(groups, column, g));
+        least = lower_of(least, least_meeting(cells, column, g));
     }
     least
 }
@@ -139,7 +187,7 @@ fn is_wrong_alone(g: &Group) -> bool
 
 /// The least row of a group with no locator, more than 8, or one twice.
 fn wrong_alone(groups: &[Group]) -> Option<u32>
-    ensures { (r : ARegister) → IsPermutation r.groups groups.now → IsLeastRow (λ n. group_at r n is_wrong_of) result }
+    ensures { (r : ARegister) → r.groups ≡ groups.now → IsLeastRow (λ n. group_at r n is_wrong_of) result }
 {
     least_row(groups, |g| is_wrong_alone(g))
 }
@@ -151,19 +199,48 @@ fn has_column(groups: &[Group], column: usize) -> bool
     groups.iter().any(|g| column < g.locators.as_slice().len())
 }
 
-/// The least row of a group with no locator, more than 8, or one that isn't new. The groups come back in another
-/// order.
-pub fn wrong_locators(groups: &mut [Group]) -> Option<u32>
-    ensures moved { IsPermutation groups.old groups.new }
-    ensures least { IsLeastOfGroups groups.old Rule.Locators result }
+/// The least row of a group with no locator, more than 8, or one that isn't new, by a cell for each group.
+fn wrong_by_cells(cells: &mut [Cell], groups: &[Group]) -> Option<u32>
+    requires { length cells.old ≡ length groups.now }
+    ensures { (r : ARegister) → r.groups ≡ groups.now → IsLeastRow (broken r Rule.Locators) result }
 {
     let mut least = wrong_alone(groups);
     for column in 0..MOST_LOCATORS {
         if !has_column(groups, column) {
             return least;
         }
-        sort_column(groups, column);
-        least = lower_of(least, shared(groups, column));
+        sort_column(cells, groups, column);
+        least = lower_of(least, shared(cells, groups, column));
     }
     least
+}
+
+/// The same of few groups, by a frame of few cells.
+fn wrong_of_few(groups: &[Group]) -> Option<u32>
+    requires { length groups.now ≤ 1024 }
+    ensures { (r : ARegister) → r.groups ≡ groups.now → IsLeastRow (broken r Rule.Locators) result }
+{
+    let mut cells = [Cell::EMPTY; 1_024];
+    wrong_by_cells(&mut cells[..groups.len()], groups)
+}
+
+/// The same of as many groups as a register has at most.
+fn wrong_of_many(groups: &[Group]) -> Option<u32>
+    requires { length groups.now ≤ 65535 }
+    ensures { (r : ARegister) → r.groups ≡ groups.now → IsLeastRow (broken r Rule.Locators) result }
+{
+    let mut cells = [Cell::EMPTY; 65_535];
+    wrong_by_cells(&mut cells[..groups.len()], groups)
+}
+
+/// The least row of a group with no locator, more than 8, or one that isn't new.
+pub fn wrong_locators(groups: &[Group]) -> Option<u32>
+    requires { rise 0 (group_rows groups.now) ≡ true }
+    ensures { (r : ARegister) → r.groups ≡ groups.now → IsLeastRow (broken r Rule.Locators) result }
+{
+    if groups.len() <= 1_024 {
+        wrong_of_few(groups)
+    } else {
+        wrong_of_many(groups)
+    }
 }

@@ -14,7 +14,7 @@ loop-l-preserved c = λ r moved.
     least_next (λ (x : Locator). meets_at r c.args.column c.args.g.now x) xs i (get_or xs i (V4 0)) c.loop-l.least
     c.meeting_row.result c.lower_of-least.result
     c.loop-l-test.true (get_or_default xs i (V4 0) (get_or xs i (V4 0)) c.loop-l-test.true)
-    (c.meeting_row.ensures r moved) c.lower_of-least.ensures (c.loop-l.invariant r moved)
+    (c.meeting_row.ensures r c.args.column moved) c.lower_of-least.ensures (c.loop-l.invariant r moved)
 
 pub returns : goal.returns
 returns c = λ r moved.

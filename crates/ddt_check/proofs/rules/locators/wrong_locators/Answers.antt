@@ -1,38 +1,6 @@
-use Rattle.std.proofs.Common.{◌≡◌, ℕ, sym, subst, ◌∙◌, arith, add-one}
-use Rattle.std.specs.Prelude.{nat_lt, length}
-use Rattle.std.proofs.lemmas.List.Sorted.{IsPermutation-trans, list_any-IsPermutation}
 use Rattle.ddt_register.specs.declared.group.Group.{Group}
-use Rattle.ddt_check.specs.Rules.{IsLeastRow}
-use Rattle.ddt_check.specs.Columns.{is_met}
-use Rattle.ddt_check.proofs.LeastLemmas.{least_both}
-use Rattle.ddt_check.proofs.WrongLemmas.{wrong_upto, least_wrong, within_8, within_none}
+use Rattle.ddt_register.specs.laws.Count.{few_rows}
 use Rattle.ddt_check.proofs.rules.locators.wrong_locators.Goals as goal
 
-pub loop-column-preserved : goal.loop-column-preserved
-loop-column-preserved c =
-    let k = c.loop-column.column in
-    let moved = IsPermutation-trans _ _ _ c.loop-column.invariant.moved c.sort_column.ensures.moved in
-    record {
-      moved = moved;
-      rows = λ r from.
-          subst (λ (j : ℕ). IsLeastRow (wrong_upto r j) c.lower_of-least.result) (sym (add-one k))
-          (rw c.lower_of-least.ensures
-          (least_both (wrong_upto r k) (is_met r k) c.loop-column.least c.shared.result
-          (c.loop-column.invariant.rows r from) (c.shared.ensures r (IsPermutation-trans _ _ _ from moved))));
-    }
-
-pub returns-then-not-has_column-clause-least : goal.returns-then-not-has_column-clause-least
-returns-then-not-has_column-clause-least c = λ r from.
-    let k = c.loop-column.column in
-    let longer = λ (g : Group). nat_lt k (length g.locators) in
-    let none : _ = list_any-IsPermutation longer r.groups _ (IsPermutation-trans _ _ _ from
-    c.loop-column.invariant.moved) ∙ sym c.has_column.ensures ∙ c.if-not-has_column.true in
-    least_wrong r k c.loop-column.least (within_none r k none) (c.loop-column.invariant.rows r from)
-
-pub returns-clause-least : goal.returns-clause-least
-returns-clause-least c = λ r from.
-    let up = c.loop-column.auto.column-end in
-    let down = c.loop-column-test.false in
-    let all : c.loop-column.column ≡ 8 = omega arith in
-    least_wrong r 8 c.loop-column.least (within_8 r) (subst
-    (λ (k : ℕ). IsLeastRow (wrong_upto r k) c.loop-column.least) all (c.loop-column.invariant.rows r from))
+pub wrong_of_many-requires : goal.wrong_of_many-requires
+wrong_of_many-requires c = few_rows (λ (g : Group). g.row) c.args.groups.now c.requires

@@ -8,7 +8,9 @@
 #![tactic(auto)]
 
 mod comparing;
+mod configs;
 mod counting;
+mod groups;
 mod halves;
 mod laws;
 mod listing;
@@ -16,10 +18,12 @@ mod outcomes;
 mod servers;
 mod sides;
 mod sink;
+mod versions;
 mod walking;
 
 pub use comparing::{Change, changes};
 pub use counting::{ChangeCounts, CountFull, OutcomeCounts};
+pub use groups::{GroupChange, GroupChangeKind, group_changes};
 pub use laws::{a_block_is_assigned_alike, a_negative_is_its_block, exactly_the_same_is_equal};
 pub use listing::{Block, blocks};
 pub use outcomes::{Reading, is_same_outcome};

@@ -5,6 +5,7 @@ pub mod ListingLemmas
 pub mod NegativeLemmas
 pub mod ReadOffLemmas
 pub mod SameLemmas
+pub mod OrderLemmas
 pub mod SideLemmas
 pub mod SinkLemmas
 pub mod WalkLemmas

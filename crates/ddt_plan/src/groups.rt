@@ -2,7 +2,8 @@
 
 ghost use Rattle.std.specs.Prelude.{◌≡◌, IfOk};
 ghost use Rattle.std.specs.Option.{option_map};
-ghost use Rattle.ddt_plan.specs.Groups.{AreGroupChanges, kind_of as kind_of_versions};
+ghost use Rattle.ddt_plan.specs.Groups.{AreGroupChanges};
+ghost use Rattle.ddt_plan.specs.Versions.{kind_of as kind_of_versions};
 
 use crate::configs::is_same_config;
 use crate::versions::{Versions, versions_by_name};

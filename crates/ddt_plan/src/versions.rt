@@ -1,5 +1,12 @@
 //! The configurations of each group in two registers, by the group's name.
 
+ghost use Rattle.std.specs.Prelude.{◌≡◌, List, ℕ, None, IfOk};
+ghost use Rattle.std.specs.Ordering.{nat_cmp};
+ghost use Rattle.std.specs.Cmp.Lexicographic.{slice_cmp};
+ghost use Rattle.std.specs.BTreeMap.{get};
+ghost use Rattle.ddt_compile.specs.GroupConfig.{config_named};
+ghost use Rattle.ddt_plan.specs.Versions.{AreVersions, earlier, later};
+
 use ddt_check::Accepted;
 use ddt_compile::compile;
 use ddt_config::ServerConfig;
@@ -23,7 +30,9 @@ pub fn versions_by_name(
     alloc: Global,
     before: &Accepted,
     after: &Accepted,
-) -> Result<BTreeMap<Name, Versions>, AllocError> {
+) -> Result<BTreeMap<Name, Versions>, AllocError>
+    ensures { IfOk result (λ versions. AreVersions before.now after.now versions) }
+{
     let mut versions = earlier_versions(alloc, before)?;
     for config in compile(alloc, after)?.into_vec() {
         let name = config.name;
@@ -41,7 +50,11 @@ pub fn versions_by_name(
 fn earlier_versions(
     alloc: Global,
     before: &Accepted,
-) -> Result<BTreeMap<Name, Versions>, AllocError> {
+) -> Result<BTreeMap<Name, Versions>, AllocError>
+    ensures before { IfOk result (λ versions. (name : List ℕ) → earlier (get (slice_cmp nat_cmp) versions name)
+        ≡ config_named before.now name) }
+    ensures alone { IfOk result (λ versions. (name : List ℕ) → later (get (slice_cmp nat_cmp) versions name) ≡ None) }
+{
     let mut versions = BTreeMap::new(alloc);
     for config in compile(alloc, before)?.into_vec() {
         if !versions.contains_key(&config.name) {

@@ -13,7 +13,7 @@ use std::alloc::{AllocError, Global};
 use std::process::Abort;
 use std::test::Fail;
 
-/// Of each line of these a register has one row, or none where the row is empty.
+/// Of each line of these a register has one row, mostly the first, or none where the row is empty.
 const CHOICES: [[&str; 3]; 13] = [
     [
         "group-node,,root,127.0.0.1\n",
@@ -56,7 +56,7 @@ const CHOICES: [[&str; 3]; 13] = [
         "ms,[0]10.2.0.0/16,west,\n",
         "",
     ],
-    ["node,[0]10.3.0.0/16,west,\n", "", ""],
+    ["", "", "node,[0]10.3.0.0/16,west,\n"],
     [
         "site,[0]10.1.2.0/24,,127.0.2.1 127.0.2.2\n",
         "site,[0]10.1.2.0/24,,127.0.2.1 127.0.2.2\n",
@@ -77,7 +77,12 @@ const NAMES: [&str; 5] = ["east", "idle", "root", "ten", "west"];
 fn random_rows(alloc: Global, dice: &mut Dice) -> Result<Vec<&'static str>, AllocError> {
     let mut rows = Vec::new(alloc);
     for choice in &CHOICES {
-        rows.push(dice.one_of(choice))?;
+        let row = if dice.below(8) == 0 {
+            dice.one_of(choice)
+        } else {
+            choice[0]
+        };
+        rows.push(row)?;
     }
     for at in 1..rows.len() {
         let other = dice.below(at + 1);
@@ -151,7 +156,7 @@ fn groups_agree(rt: HostRuntime) -> Result<(), Fail> {
             old = new;
         }
     }
-    assert!(rt; pairs > 20, "{pairs} pairs are too few");
-    assert!(rt; same > 0, "none of {pairs} pairs is the same");
+    assert!(rt; same > 10, "{same} of {pairs} pairs that are the same are too few");
+    assert!(rt; pairs.saturating_sub(same) > 100, "{same} of {pairs} pairs are the same");
     Ok(())
 }

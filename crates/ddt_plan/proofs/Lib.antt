@@ -1,4 +1,5 @@
 pub mod AlikeLemmas
+pub mod ConfigLemmas
 pub mod HalfLemmas
 pub mod PieceLemmas
 pub mod ListingLemmas
@@ -8,4 +9,5 @@ pub mod SameLemmas
 pub mod OrderLemmas
 pub mod SideLemmas
 pub mod SinkLemmas
+pub mod VersionLemmas
 pub mod WalkLemmas

@@ -8,7 +8,7 @@ ghost use Rattle.ddt_path.specs.Covers.{is_same_path};
 ghost use Rattle.ddt_check.specs.Zones.{is_same_role};
 ghost use Rattle.ddt_config.specs.Table.{outline};
 ghost use Rattle.ddt_config.specs.Shaped.{have_own_prefixes};
-ghost use Rattle.ddt_plan.specs.Changes.{are_same_servers};
+ghost use Rattle.ddt_plan.specs.Changes.{are_same_servers as are_same_servers_of};
 ghost use Rattle.ddt_plan.specs.Groups.{are_alike as are_alike_of, is_same_content, is_same_config as is_same_config_of};
 ghost use Rattle.ddt_plan.specs.Entries.{holds_own_prefixes};
 
@@ -33,7 +33,7 @@ pub trait Entry: Prefixed + Drop {
 impl Entry for Child {
     ghost is_whole = { λ _. true };
 
-    ghost same = { λ c d. is_same_role c.role d.role && are_same_servers c.locators d.locators };
+    ghost same = { λ c d. is_same_role c.role d.role && are_same_servers_of c.locators d.locators };
 
     fn says_same(self, other: Child) -> bool {
         self.role == other.role && self.locators == other.locators
@@ -43,7 +43,7 @@ impl Entry for Child {
 impl Entry for SiteEntry {
     ghost is_whole = { λ _. true };
 
-    ghost same = { λ s t. are_same_servers s.etrs t.etrs };
+    ghost same = { λ s t. are_same_servers_of s.etrs t.etrs };
 
     fn says_same(self, other: SiteEntry) -> bool {
         self.etrs == other.etrs
@@ -68,9 +68,15 @@ impl Entry for Authority {
 pub fn is_same_config(before: ServerConfig, after: ServerConfig) -> bool
     ensures { result ≡ is_same_config_of (outline before) (outline after) }
 {
-    before.role == after.role
-        && before.locators == after.locators
-        && are_alike(before.authorities, after.authorities)
+    are_same_servers(&before, &after) && are_alike(before.authorities, after.authorities)
+}
+
+/// Whether they are of the same kind and have the same locators, in the same order.
+fn are_same_servers(before: &ServerConfig, after: &ServerConfig) -> bool
+    ensures { result ≡ (is_same_role before.now.role after.now.role
+        && are_same_servers_of before.now.locators after.now.locators) }
+{
+    before.role == after.role && before.locators == after.locators
 }
 
 /// Whether each of some entries has its like among others, and each of those among these. It allocates nothing.

@@ -1,11 +1,7 @@
 //! The configurations of each group in two registers, by the group's name.
 
-ghost use Rattle.std.specs.Prelude.{◌≡◌, List, ℕ, None, IfOk};
-ghost use Rattle.std.specs.Ordering.{nat_cmp};
-ghost use Rattle.std.specs.Cmp.Lexicographic.{slice_cmp};
-ghost use Rattle.std.specs.BTreeMap.{get};
-ghost use Rattle.ddt_compile.specs.GroupConfig.{config_named};
-ghost use Rattle.ddt_plan.specs.Versions.{AreVersions, earlier, later};
+ghost use Rattle.std.specs.Prelude.{◌≡◌, IfOk};
+ghost use Rattle.ddt_plan.specs.Versions.{AreVersions, HasPut, joined as joined_of};
 
 use ddt_check::Accepted;
 use ddt_compile::compile;
@@ -21,8 +17,15 @@ pub enum Versions {
     Before(ServerConfig),
     /// Of the later register alone.
     After(ServerConfig),
-    /// Of the earlier and of the later one.
+    /// Of the earlier register and of the later one.
     Both(ServerConfig, ServerConfig),
+}
+
+/// Which of two registers.
+#[derive(Clone, Copy)]
+pub enum Which {
+    Earlier,
+    Later,
 }
 
 /// The configurations of each group of two registers, by its name.
@@ -33,33 +36,36 @@ pub fn versions_by_name(
 ) -> Result<BTreeMap<Name, Versions>, AllocError>
     ensures { IfOk result (λ versions. AreVersions before.now after.now versions) }
 {
-    let mut versions = earlier_versions(alloc, before)?;
-    for config in compile(alloc, after)?.into_vec() {
-        let name = config.name;
-        let known = match versions.remove(&name) {
-            Some(Versions::Before(earlier)) => Versions::Both(earlier, config),
-            Some(known) => known,
-            None => Versions::After(config),
-        };
-        versions.insert(name, known)?;
-    }
-    Ok(versions)
+    let earlier = put_all(alloc, BTreeMap::new(alloc), Which::Earlier, before)?;
+    put_all(alloc, earlier, Which::Later, after)
 }
 
-/// Those of the earlier register.
-fn earlier_versions(
+/// Puts the configuration of each group to what is there by its name.
+fn put_all(
     alloc: Global,
-    before: &Accepted,
+    versions: BTreeMap<Name, Versions>,
+    which: Which,
+    accepted: &Accepted,
 ) -> Result<BTreeMap<Name, Versions>, AllocError>
-    ensures before { IfOk result (λ versions. (name : List ℕ) → earlier (get (slice_cmp nat_cmp) versions name)
-        ≡ config_named before.now name) }
-    ensures alone { IfOk result (λ versions. (name : List ℕ) → later (get (slice_cmp nat_cmp) versions name) ≡ None) }
+    ensures { IfOk result (λ put. HasPut which accepted.now versions put) }
 {
-    let mut versions = BTreeMap::new(alloc);
-    for config in compile(alloc, before)?.into_vec() {
-        if !versions.contains_key(&config.name) {
-            versions.insert(config.name, Versions::Before(config))?;
-        }
+    let mut all = versions;
+    for config in compile(alloc, accepted)?.into_vec() {
+        let name = config.name;
+        let known = all.remove(&name);
+        all.insert(name, joined(which, known, config))?;
     }
-    Ok(versions)
+    Ok(all)
+}
+
+/// A configuration beside what is there; of two of one name in a register, the first counts.
+fn joined(which: Which, known: Option<Versions>, config: ServerConfig) -> Versions
+    ensures { result ≡ joined_of which known config }
+{
+    match (which, known) {
+        (Which::Earlier, None) => Versions::Before(config),
+        (Which::Later, None) => Versions::After(config),
+        (Which::Later, Some(Versions::Before(earlier))) => Versions::Both(earlier, config),
+        (_, Some(known)) => known,
+    }
 }

@@ -16,4 +16,4 @@ returns g c = λ whole others.
     told_by_all (AreWhole g.T.Entry.is_whole) test (zip before after) c.all.result (whole_pairs g.T.Entry.is_whole before after whole others)
     (cases_from_all c.all.new.self _ c.all.result (λ p. AreWhole g.T.Entry.is_whole p → test p ≡ true) (λ p. AreWhole g.T.Entry.is_whole p → test p ≡ false) c.all.ensures.ran
     (YieldsList-from_zip (YieldsList-from_vec {s = c.zip.result.a} before (search rules) (search rules)) (YieldsList-from_vec {s = c.zip.result.b} after (search rules) (search rules)))
-    (λ x q k. let h = k in ?) (λ x q k. let h = k in ?))
+    (λ x q k. search (rules, tests)) (λ x q k. search (rules, tests)))

@@ -20,32 +20,17 @@ use Rattle.ddt_path.specs.declared.matching.Preference.TheVariants.{Longest}
 use Rattle.ddt_register.specs.declared.zone.Zone.{Zone}
 use Rattle.ddt_register.specs.declared.site.Site.{Site}
 use Rattle.ddt_register.specs.declared.register.Register.{Register}
-use Rattle.ddt_register.specs.laws.Rising.{one_row, sites_rise}
 use Rattle.ddt_check.specs.Zones.{zone_of, site_of, locators_of}
 use Rattle.ddt_check.specs.Assignment.{assignment, assigned_in, assigned_site, part_of_site, prefixes_in, prefixes_below_site}
 use Rattle.ddt_check.specs.Rules.{IsAccepted}
 use Rattle.ddt_check.specs.laws.Statements.{IsSiteWithServers, negative_prefix}
-use Rattle.ddt_check.specs.laws.Kept.{own_site}
+use Rattle.ddt_check.specs.laws.Kept.{one_site}
 use Rattle.ddt_check.specs.laws.Next.{next_none, zone_is}
 use Rattle.ddt_check.specs.laws.Site.{no_longer_zone, site_inside}
 use Rattle.ddt_check.proofs.SaysLemmas.{assigned_covers}
-use Rattle.ddt_check.proofs.RootLemmas.{zone_found}
+use Rattle.ddt_check.specs.laws.Root.{zone_found}
 use Rattle.ddt_check.specs.laws.Zone.{zone_prefix, site_prefix, assigned_at}
 use Rattle.ddt_path.specs.laws.Matching.{best_member, best_none, best_is}
-
--- two sites of one prefix are one
-pub one_site : (r : Register) → IsAccepted r → (a b : Site) → IsIn a r.sites → IsIn b r.sites → a.prefix ≡ b.prefix → a ≡ b
-one_site r accepted a b j k same =
-    let itself = one_path a.prefix a.prefix (covers_self a.prefix) (covers_self a.prefix) in
-    let here : is_same_path a.prefix b.prefix ≡ true = subst (λ (p : List ℕ). is_same_path a.prefix p ≡ true) same itself in
-    let there : is_same_path b.prefix a.prefix ≡ true = subst (λ (p : List ℕ). is_same_path p a.prefix ≡ true) same itself in
-    elim (one_row (λ (s : Site). s.row) r.sites 0 a b (sites_rise r) j k) [
-      | inl one ↦ one
-      | inr rows ↦ elim rows [
-        | inl lt ↦ absurd (both_ways (is_same_path a.prefix b.prefix) (own_site r accepted a b j k lt) here)
-        | inr gt ↦ absurd (both_ways (is_same_path b.prefix a.prefix) (own_site r accepted b a k j gt) there)
-      ]
-    ]
 
 module _ (r : Register) (accepted : IsAccepted r) where
   assigned_of : (x : List ℕ) (z : Zone) (role : Role) → zone_of r x ≡ Some z → z.kind ≡ role → assignment r x ≡ assigned_in r z role x

@@ -31,9 +31,9 @@ module _ {A : Type 0} (key : A → List ℕ) where
   from_places : (xs : List A) → ((i j : ℕ) (d : A) → i < j → j < length xs → Stands (get_or xs i d) (get_or xs j d)) → Rises xs
   from_places [] h = tt
   from_places (x ∷ xs) h = (
-      λ y k. let c = contained xs y k in subst (Stands x) c.2 (h 0 (suc c.0) y (omega arith) (omega (arith, c.1))),
-      from_places xs (λ i j d below inside. h (suc i) (suc j) d (omega arith) (omega arith)),
-    )
+    λ y k. let c = contained xs y k in subst (Stands x) c.2 (h 0 (suc c.0) y (omega arith) (omega (arith, c.1))),
+    from_places xs (λ i j d below inside. h (suc i) (suc j) d (omega arith) (omega arith)),
+  )
 
   own_at : (xs : List A) → have_own_prefixes key xs ≡ true → (i j : ℕ) (d : A) → i < j → j < length xs → is_same_path (key (get_or xs i d)) (key (get_or xs j d)) ≡ false
   own_at xs own i j d below inside =

@@ -123,7 +123,7 @@ both_later (Some c) (Some d) = refl
 pub are_versions : (r s : Register) (empty one two : BTreeMap (List ℕ) Versions) → ((name : List ℕ) → get (slice_cmp nat_cmp) empty name ≡ None) → HasPut Earlier r empty one → HasPut Later s one two → AreVersions r s two
 are_versions r s empty one two none p q =
     let there : (name : List ℕ) → get (slice_cmp nat_cmp) two name ≡ joined_if Later (joined_if Earlier None (p name).0) (q name).0 =
-        λ name. (q name).2 ∙ ap (λ (o : Option Versions). joined_if Later o (q name).0) ((p name).2 ∙ ap (λ (o : Option Versions). joined_if Earlier o (p name).0) (none name)) in
+    λ name. (q name).2 ∙ ap (λ (o : Option Versions). joined_if Later o (q name).0) ((p name).2 ∙ ap (λ (o : Option Versions). joined_if Earlier o (p name).0) (none name)) in
     record {
       before = λ name. ap earlier (there name) ∙ both_earlier (p name).0 (q name).0 ∙ (p name).1;
       after = λ name. ap later (there name) ∙ both_later (p name).0 (q name).0 ∙ (q name).1;
@@ -204,8 +204,8 @@ module _ (r s : Register) (m : BTreeMap (List ℕ) Versions) (ordered : IsOrdere
   pub changes_are : AreGroupChanges r s (filter_map told m.entries)
   changes_are = record {
     exact = λ c. (
-        λ k. listed_changes c (in_contained (filter_map told m.entries) c k),
-        λ e. contained (filter_map told m.entries) c (change_listed c (get (slice_cmp nat_cmp) m c.name) refl (change_at c.name (get (slice_cmp nat_cmp) m c.name) refl ∙ e)),
-      );
+      λ k. listed_changes c (in_contained (filter_map told m.entries) c k),
+      λ e. contained (filter_map told m.entries) c (change_listed c (get (slice_cmp nat_cmp) m c.name) refl (change_at c.name (get (slice_cmp nat_cmp) m c.name) refl ∙ e)),
+    );
     in_order = names_sorted m.entries ordered;
   }

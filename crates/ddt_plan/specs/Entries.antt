@@ -1,5 +1,5 @@
 -- What a configuration holds under its prefixes.
-use Rattle.std.specs.Prelude.{◌≡◌, Bool, Option, None, Some}
+use Rattle.std.specs.Prelude.{Bool}
 use Rattle.ddt_config.specs.declared.authority.Content.{Content}
 use Rattle.ddt_config.specs.declared.authority.Content.TheVariants.{Children, Sites}
 use Rattle.ddt_config.specs.Shaped.{have_own_prefixes}

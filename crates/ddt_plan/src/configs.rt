@@ -104,10 +104,8 @@ fn in_order<T: Entry>(entries: Listed<T>) -> Vec<T>
 fn are_same_in_turn<T: Entry>(before: Vec<T>, after: Vec<T>) -> bool
     ensures { list_all T.is_whole before.items ≡ true → list_all T.is_whole after.items ≡ true
         → result ≡ list_all (λ p. is_same_path (T.path p.0) (T.path p.1) && T.same p.0 p.1)
-            (zip before.items after.items) }
+        (zip before.items after.items) }
 {
-    before
-        .into_iter()
-        .zip(after)
-        .all(|(old, new)| old.prefix() == new.prefix() && old.says_same(new))
+    before.into_iter().zip(after).all(|(old, new)| old.prefix() == new.prefix()
+        && old.says_same(new))
 }

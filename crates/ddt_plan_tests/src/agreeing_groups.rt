@@ -41,21 +41,13 @@ const CHOICES: [[&str; 3]; 13] = [
         "group-ms,,idle,127.0.1.5\n",
         "",
     ],
-    [
-        "node,[0]10.0.0.0/8,ten,\n",
-        "node,[0]10.0.0.0/8,ten,\n",
-        "",
-    ],
+    ["node,[0]10.0.0.0/8,ten,\n", "node,[0]10.0.0.0/8,ten,\n", ""],
     [
         "ms,[0]10.1.0.0/16,east,\n",
         "ms,[0]10.1.0.0/16,east,\n",
         "ms,[0]10.1.0.0/16,west,\n",
     ],
-    [
-        "ms,[0]10.2.0.0/16,east,\n",
-        "ms,[0]10.2.0.0/16,west,\n",
-        "",
-    ],
+    ["ms,[0]10.2.0.0/16,east,\n", "ms,[0]10.2.0.0/16,west,\n", ""],
     ["", "", "node,[0]10.3.0.0/16,west,\n"],
     [
         "site,[0]10.1.2.0/24,,127.0.2.1 127.0.2.2\n",
@@ -156,7 +148,13 @@ fn groups_agree(rt: HostRuntime) -> Result<(), Fail> {
             old = new;
         }
     }
-    assert!(rt; same > 10, "{same} of {pairs} pairs that are the same are too few");
-    assert!(rt; pairs.saturating_sub(same) > 100, "{same} of {pairs} pairs are the same");
+    assert!(rt;
+        same > 10,
+        "{same} of {pairs} pairs that are the same are too few"
+    );
+    assert!(rt;
+        pairs.saturating_sub(same) > 100,
+        "{same} of {pairs} pairs are the same"
+    );
     Ok(())
 }

@@ -109,7 +109,11 @@ const LISTED: [(&str, &str, &str); 12] = [
     // The root's group has the children's locators too.
     (TWO_ZONES, OTHER_LOCATOR, "root changed\nwest changed\n"),
     (TWO_ZONES, LOCATORS_TURNED, "east changed\nroot changed\n"),
-    (TWO_ZONES, ZONE_MOVED, "east changed\nroot changed\nwest changed\n"),
+    (
+        TWO_ZONES,
+        ZONE_MOVED,
+        "east changed\nroot changed\nwest changed\n",
+    ),
     (TWO_ZONES_SHUFFLED, ETRS_TURNED, "west changed\n"),
     (
         TWO_ZONES,

@@ -38,9 +38,7 @@ fn is_same_content(a: &Content, b: &Content) -> bool {
 
 fn has_authorities(authorities: &[Authority], others: &[Authority]) -> bool {
     authorities.iter().all(|a| {
-        others
-            .iter()
-            .any(|b| a.prefix == b.prefix && is_same_content(&a.content, &b.content))
+        others.iter().any(|b| a.prefix == b.prefix && is_same_content(&a.content, &b.content))
     })
 }
 

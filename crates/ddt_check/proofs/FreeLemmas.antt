@@ -1,5 +1,5 @@
 -- The numbers of each answer are such as a message holds.
-use Rattle.std.proofs.Common.{◌≡◌, ℕ, ◌≤◌, Bool, true, false, cond, ◌==◌, List, [], length, Option, Some, None, refl, sym, ◌∙◌, arith}
+use Rattle.std.proofs.Common.{◌≡◌, ℕ, ◌≤◌, Bool, true, false, cond, ◌==◌, List, [], length, Option, Some, None, refl, arith}
 use Rattle.std.specs.Option.{option_map_or}
 use Rattle.ddt_path.specs.declared.locator.Locator.{Locator}
 use Rattle.ddt_path.specs.declared.record.Role.{Role}
@@ -8,33 +8,27 @@ use Rattle.ddt_path.specs.declared.record.Outcome.{Outcome}
 use Rattle.ddt_path.specs.declared.record.Outcome.TheVariants.{Registered, NotRegistered, Hole}
 use Rattle.ddt_path.specs.declared.record.ReferralRecord.{ReferralRecord}
 use Rattle.ddt_path.specs.Records.{record_of, not_authoritative}
-use Rattle.ddt_path.specs.Covers.{covers, is_strictly_below}
-use Rattle.ddt_path.specs.Free.{free, hole_of}
+use Rattle.ddt_path.specs.Free.{hole_of}
 use Rattle.ddt_path.specs.Matching.{longest_match}
-use Rattle.ddt_path.specs.Path.{is_path, is_prefix_path}
+use Rattle.ddt_path.specs.Path.{is_path}
 use Rattle.ddt_path.specs.laws.PathTest.{prefix_that_covers}
-use Rattle.ddt_path.specs.laws.Hole.{kept_covers, hole_is}
-use Rattle.ddt_path.specs.laws.Front.{below_parts}
-use Rattle.ddt_path.specs.laws.Member.{IsIn, holds_at, found_in}
-use Rattle.ddt_path.specs.declared.matching.Preference.TheVariants.{Longest}
+use Rattle.ddt_path.specs.laws.Member.{holds_at, found_in}
 use Rattle.ddt_register.specs.declared.zone.Zone.{Zone}
 use Rattle.ddt_register.specs.declared.site.Site.{Site}
 use Rattle.ddt_register.specs.declared.group.Group.{Group}
 use Rattle.ddt_register.specs.declared.register.Register.{Register}
-use Rattle.ddt_register.specs.Ranges.{is_zone_in_range, is_site_in_range, is_group_in_range, are_locators}
-use Rattle.ddt_register.specs.laws.Range.{zones_in_range, sites_in_range, groups_in_range}
+use Rattle.ddt_register.specs.Ranges.{is_group_in_range, are_locators}
+use Rattle.ddt_register.specs.laws.Range.{groups_in_range}
 use Rattle.ddt_register.specs.laws.Range as range
 use Rattle.ddt_path.specs.Names.{is_same_name}
 use Rattle.ddt_check.specs.Zones.{zone_of, site_of, group_named, locators_of, served_zones}
-use Rattle.ddt_check.specs.Assignment.{assignment, assigned_in, assigned_site, part_of_site, prefixes_in, prefixes_below_site}
+use Rattle.ddt_check.specs.Assignment.{assignment, assigned_in, assigned_site, part_of_site, prefixes_in}
 use Rattle.ddt_check.specs.Says.{referral_to, next_zone, says_from, says}
 use Rattle.ddt_check.specs.Rules.{IsAccepted}
-use Rattle.ddt_check.specs.laws.Statements.{IsPartOfItsSite, IsSendable}
+use Rattle.ddt_check.specs.laws.Statements.{IsSendable}
 use Rattle.ddt_check.specs.laws.Kept.{few_locators}
 use Rattle.ddt_check.proofs.SaysLemmas.{says_what_covers}
-use Rattle.ddt_path.specs.laws.Matching.{best_member, best_there, best_unbeaten}
-use Rattle.ddt_check.proofs.RootLemmas.{zone_found}
-use Rattle.ddt_check.specs.laws.Zone.{zone_prefix, site_prefix, assigned_at}
+use Rattle.ddt_check.specs.laws.Zone.{zone_prefix}
 
 module _ (r : Register) (accepted : IsAccepted r) where
   pub locators_fit : (name : List ℕ) → are_locators (locators_of r name) ≡ true

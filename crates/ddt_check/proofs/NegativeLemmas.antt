@@ -1,5 +1,5 @@
 -- What the assignment of one identifier says of others that its prefix covers.
-use Rattle.std.proofs.Common.{◌≡◌, ℕ, ◌≤◌, Bool, true, false, cond, ◌==◌, List, length, Option, Some, None, refl, sym, ap, subst, ◌∙◌, arith, inl, inr}
+use Rattle.std.proofs.Common.{◌≡◌, ℕ, ◌≤◌, Bool, true, false, cond, ◌==◌, List, length, Option, Some, None, refl, sym, ap, ◌∙◌, arith, inl, inr}
 use Rattle.std.specs.Option.{option_map_or}
 use Rattle.std.proofs.lemmas.Bool.{or_right, cases_lt, both_ways, false_from_ne_true}
 use Rattle.std.proofs.lemmas.Option.{same_Some, none-some}
@@ -9,11 +9,11 @@ use Rattle.ddt_path.specs.declared.record.Role.TheVariants.{Node, Ms}
 use Rattle.ddt_path.specs.declared.record.Outcome.{Outcome}
 use Rattle.ddt_path.specs.declared.record.Outcome.TheVariants.{Registered, NotRegistered, Hole}
 use Rattle.ddt_path.specs.Records.{record_of}
-use Rattle.ddt_path.specs.Covers.{covers, overlaps, is_same_path, is_strictly_below}
+use Rattle.ddt_path.specs.Covers.{covers, overlaps, is_strictly_below}
 use Rattle.ddt_path.specs.Free.{hole_of}
 use Rattle.ddt_path.specs.Path.{is_path}
-use Rattle.ddt_path.specs.laws.Cover.{covers_self, covers_trans}
-use Rattle.ddt_path.specs.laws.Front.{front_below, one_front, one_path, overlaps_front}
+use Rattle.ddt_path.specs.laws.Cover.{covers_trans}
+use Rattle.ddt_path.specs.laws.Front.{front_below, one_front, overlaps_front}
 use Rattle.ddt_path.specs.laws.Hole.{kept_apart, IsFreeOf, hole_of_all_or_alone}
 use Rattle.ddt_path.specs.laws.Member.{IsIn, contained}
 use Rattle.ddt_path.specs.declared.matching.Preference.TheVariants.{Longest}

@@ -1,15 +1,15 @@
 -- The root of an accepted register is served; the zone of each identifier, and the group of each locator.
-use Rattle.std.proofs.Common.{◌≡◌, ◌⊎◌, ℕ, ◌<◌, ◌≤◌, Bool, true, false, ◌||◌, ◌&&◌, ◌==◌, List, [], ◌∷◌, length, Option, Some, None, refl, sym, ap, subst, ◌∙◌, arith, inl, inr}
+use Rattle.std.proofs.Common.{◌≡◌, ◌⊎◌, ℕ, ◌<◌, ◌≤◌, Bool, true, false, ◌||◌, ◌&&◌, List, [], ◌∷◌, length, Option, Some, None, refl, sym, ap, subst, ◌∙◌, arith, inl, inr}
 use Rattle.std.specs.List.{list_any}
 use Rattle.std.specs.Option.{option_map_or}
-use Rattle.std.proofs.lemmas.Bool.{true≢false, false≢true, cond-true, cond-false, or_parts, cases_lt, eqb-true}
+use Rattle.std.proofs.lemmas.Bool.{true≢false, false≢true, cond-true, or_parts, cases_lt}
 use Rattle.ddt_path.specs.declared.locator.Locator.{Locator}
 use Rattle.ddt_path.specs.declared.record.Role.{Role}
 use Rattle.ddt_path.specs.declared.record.Role.TheVariants.{Node, Ms}
 use Rattle.ddt_path.specs.Covers.{covers}
 use Rattle.ddt_path.specs.Locators.{lists}
 use Rattle.ddt_path.specs.laws.Cover.{same_path}
-use Rattle.ddt_path.specs.laws.Member.{IsIn, any_in, in_contained, contained, found_in, found_passes}
+use Rattle.ddt_path.specs.laws.Member.{IsIn, in_contained, contained, found_in, found_passes}
 use Rattle.ddt_path.specs.laws.Front.{one_front}
 use Rattle.ddt_path.specs.declared.matching.Preference.TheVariants.{Longest}
 use Rattle.ddt_register.specs.declared.zone.Zone.{Zone}
@@ -22,7 +22,7 @@ use Rattle.ddt_check.specs.Zones.{is_ms, zone_of, group_named, locators_of, serv
 use Rattle.ddt_check.specs.Rules.{IsAccepted, is_root, is_wrong_root, earlier_zone}
 use Rattle.ddt_check.specs.laws.Statements.{IsItsZone, IsRootZone, AreServers}
 use Rattle.ddt_check.specs.laws.Kept.{servers_of_zone, one_zone}
-use Rattle.ddt_path.specs.laws.Matching.{best_member, best_unbeaten, best_found}
+use Rattle.ddt_path.specs.laws.Matching.{best_member, best_unbeaten}
 use Rattle.ddt_check.specs.laws.Served.{one_group, group_serves}
 use Rattle.ddt_check.specs.laws.Root.{empty_path, some_root, the_root, zone_found}
 use Rattle.ddt_check.specs.laws.Zone.{zone_prefix}

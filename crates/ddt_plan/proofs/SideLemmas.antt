@@ -19,7 +19,6 @@ use Rattle.ddt_path.specs.laws.Matching.{best_is}
 use Rattle.ddt_path.specs.laws.Member.{IsIn, all_of, holds_at, in_map, map_in, some_passes, unfound, found_in, found_passes}
 use Rattle.ddt_path.specs.laws.Filter.{filter_in}
 use Rattle.ddt_path.specs.laws.PathTest.{is_path-xeid_path}
-use Rattle.ddt_register.specs.declared.zone.Zone.{Zone}
 use Rattle.ddt_register.specs.declared.register.Register.{Register}
 use Rattle.ddt_check.specs.Assignment.{assignment}
 use Rattle.ddt_check.specs.Rules.{IsAccepted}

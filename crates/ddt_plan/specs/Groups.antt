@@ -1,6 +1,6 @@
 -- When the configurations of two groups are alike, and which groups change from one register to another. The order of
 -- what a configuration holds, which is that of the register's rows, is no part of it (RFC 8111, section 4).
-use Rattle.std.specs.Prelude.{◌≡◌, ◌↔◌, ℕ, Bool, true, false, ◌&&◌, if◌then◌else◌, List, map, Option, None, Some, Contains}
+use Rattle.std.specs.Prelude.{◌≡◌, ◌↔◌, ℕ, Bool, false, ◌&&◌, if◌then◌else◌, List, map, Option, None, Some, Contains}
 use Rattle.std.specs.List.{list_any, list_all}
 use Rattle.std.specs.List.Sorted.{IsStrictlySortedBy}
 use Rattle.std.specs.Ordering.{nat_cmp}
@@ -22,11 +22,13 @@ use Rattle.ddt_plan.specs.Changes.{are_same_servers}
 
 -- each item of either list has its like in the other, whatever the order
 abbrev pub are_alike : {A : Type 0} → (A → A → Bool) → List A → List A → Bool
-are_alike same xs ys = list_all (λ x. list_any (λ y. same x y) ys) xs && list_all (λ y. list_any (λ x. same x y) xs) ys
+are_alike same xs ys =
+    list_all (λ x. list_any (λ y. same x y) ys) xs && list_all (λ y. list_any (λ x. same x y) xs) ys
 
 -- a child of the same prefix, kind and servers; a site of the same prefix and ETRs
 abbrev pub is_same_child : Child → Child → Bool
-is_same_child c d = is_same_path c.prefix d.prefix && (is_same_role c.role d.role && are_same_servers c.locators d.locators)
+is_same_child c d =
+    is_same_path c.prefix d.prefix && (is_same_role c.role d.role && are_same_servers c.locators d.locators)
 
 abbrev pub is_same_site : SiteEntry → SiteEntry → Bool
 is_same_site s t = is_same_path s.prefix t.prefix && are_same_servers s.etrs t.etrs

@@ -68,11 +68,11 @@ impl Entry for Authority {
 pub fn is_same_config(before: ServerConfig, after: ServerConfig) -> bool
     ensures { result ≡ is_same_config_of (outline before) (outline after) }
 {
-    are_same_servers(&before, &after) && are_alike(before.authorities, after.authorities)
+    have_same_servers(&before, &after) && are_alike(before.authorities, after.authorities)
 }
 
 /// Whether they are of the same kind and have the same locators, in the same order.
-fn are_same_servers(before: &ServerConfig, after: &ServerConfig) -> bool
+fn have_same_servers(before: &ServerConfig, after: &ServerConfig) -> bool
     ensures { result ≡ (is_same_role before.now.role after.now.role
         && are_same_servers_of before.now.locators after.now.locators) }
 {

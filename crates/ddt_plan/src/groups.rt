@@ -30,10 +30,12 @@ pub struct GroupChange {
     pub kind: GroupChangeKind,
 }
 
-/// The groups whose servers need another configuration in a later register than in an earlier one, in the order of their
-/// names, none twice. A configuration is that of `ddt_compile`. Two are alike where they have the same kind, the same
-/// locators in the same order, and the same authorities, each with the same children or sites (RFC 8111, section 4).
-/// The order of authorities, children and sites, which is that of the rows, is no change. Fails only if out of memory.
+/// The groups whose servers need another configuration in a later register than in an earlier one, in the order of
+/// their names, none twice. A configuration is that of `ddt_compile`. Two are alike where they have the same kind, the
+/// same locators in the same order, and the same authorities, each with the same children or the same sites (RFC 8111,
+/// section 4). The order of authorities, of children and of sites, which is that of the rows, is no change.
+///
+/// Fails only if out of memory.
 pub fn group_changes(
     alloc: Global,
     before: &Accepted,

@@ -76,11 +76,15 @@ fn random_rows(alloc: Global, dice: &mut Dice) -> Result<Vec<&'static str>, Allo
         };
         rows.push(row)?;
     }
+    shuffle(rows.as_mut_slice(), dice);
+    Ok(rows)
+}
+
+fn shuffle(rows: &mut [&'static str], dice: &mut Dice) {
     for at in 1..rows.len() {
         let other = dice.below(at + 1);
         rows.swap(at, other);
     }
-    Ok(rows)
 }
 
 fn random_text(alloc: Global, dice: &mut Dice) -> Result<String, AllocError> {

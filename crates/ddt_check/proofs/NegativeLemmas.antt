@@ -1,5 +1,5 @@
 -- What the assignment of one identifier says of others that its prefix covers.
-use Rattle.std.proofs.Common.{◌≡◌, ℕ, ◌≤◌, Bool, true, false, cond, ◌==◌, List, length, Option, Some, None, refl, sym, ap, subst, ◌∙◌, arith, inl, inr}
+use Rattle.std.proofs.Common.{◌≡◌, ℕ, ◌≤◌, Bool, true, false, cond, ◌==◌, List, length, Option, Some, None, refl, sym, ap, ◌∙◌, arith, inl, inr}
 use Rattle.std.specs.Option.{option_map_or}
 use Rattle.std.proofs.lemmas.Bool.{or_right, cases_lt, both_ways, false_from_ne_true}
 use Rattle.std.proofs.lemmas.Option.{same_Some, none-some}
@@ -9,43 +9,28 @@ use Rattle.ddt_path.specs.declared.record.Role.TheVariants.{Node, Ms}
 use Rattle.ddt_path.specs.declared.record.Outcome.{Outcome}
 use Rattle.ddt_path.specs.declared.record.Outcome.TheVariants.{Registered, NotRegistered, Hole}
 use Rattle.ddt_path.specs.Records.{record_of}
-use Rattle.ddt_path.specs.Covers.{covers, overlaps, is_same_path, is_strictly_below}
+use Rattle.ddt_path.specs.Covers.{covers, overlaps, is_strictly_below}
 use Rattle.ddt_path.specs.Free.{hole_of}
 use Rattle.ddt_path.specs.Path.{is_path}
-use Rattle.ddt_path.specs.laws.Cover.{covers_self, covers_trans}
-use Rattle.ddt_path.specs.laws.Front.{front_below, one_front, one_path, overlaps_front}
+use Rattle.ddt_path.specs.laws.Cover.{covers_trans}
+use Rattle.ddt_path.specs.laws.Front.{front_below, one_front, overlaps_front}
 use Rattle.ddt_path.specs.laws.Hole.{kept_apart, IsFreeOf, hole_of_all_or_alone}
 use Rattle.ddt_path.specs.laws.Member.{IsIn, contained}
 use Rattle.ddt_path.specs.declared.matching.Preference.TheVariants.{Longest}
 use Rattle.ddt_register.specs.declared.zone.Zone.{Zone}
 use Rattle.ddt_register.specs.declared.site.Site.{Site}
 use Rattle.ddt_register.specs.declared.register.Register.{Register}
-use Rattle.ddt_register.specs.laws.Rising.{one_row, sites_rise}
 use Rattle.ddt_check.specs.Zones.{zone_of, site_of, locators_of}
 use Rattle.ddt_check.specs.Assignment.{assignment, assigned_in, assigned_site, part_of_site, prefixes_in, prefixes_below_site}
 use Rattle.ddt_check.specs.Rules.{IsAccepted}
 use Rattle.ddt_check.specs.laws.Statements.{IsSiteWithServers, negative_prefix}
-use Rattle.ddt_check.specs.laws.Kept.{own_site}
+use Rattle.ddt_check.specs.laws.Kept.{one_site}
 use Rattle.ddt_check.specs.laws.Next.{next_none, zone_is}
 use Rattle.ddt_check.specs.laws.Site.{no_longer_zone, site_inside}
 use Rattle.ddt_check.proofs.SaysLemmas.{assigned_covers}
-use Rattle.ddt_check.proofs.RootLemmas.{zone_found}
+use Rattle.ddt_check.specs.laws.Root.{zone_found}
 use Rattle.ddt_check.specs.laws.Zone.{zone_prefix, site_prefix, assigned_at}
 use Rattle.ddt_path.specs.laws.Matching.{best_member, best_none, best_is}
-
--- two sites of one prefix are one
-pub one_site : (r : Register) → IsAccepted r → (a b : Site) → IsIn a r.sites → IsIn b r.sites → a.prefix ≡ b.prefix → a ≡ b
-one_site r accepted a b j k same =
-    let itself = one_path a.prefix a.prefix (covers_self a.prefix) (covers_self a.prefix) in
-    let here : is_same_path a.prefix b.prefix ≡ true = subst (λ (p : List ℕ). is_same_path a.prefix p ≡ true) same itself in
-    let there : is_same_path b.prefix a.prefix ≡ true = subst (λ (p : List ℕ). is_same_path p a.prefix ≡ true) same itself in
-    elim (one_row (λ (s : Site). s.row) r.sites 0 a b (sites_rise r) j k) [
-      | inl one ↦ one
-      | inr rows ↦ elim rows [
-        | inl lt ↦ absurd (both_ways (is_same_path a.prefix b.prefix) (own_site r accepted a b j k lt) here)
-        | inr gt ↦ absurd (both_ways (is_same_path b.prefix a.prefix) (own_site r accepted b a k j gt) there)
-      ]
-    ]
 
 module _ (r : Register) (accepted : IsAccepted r) where
   assigned_of : (x : List ℕ) (z : Zone) (role : Role) → zone_of r x ≡ Some z → z.kind ≡ role → assignment r x ≡ assigned_in r z role x

@@ -1,15 +1,15 @@
--- The root of an accepted register, the zone of each identifier, and the group of each locator.
-use Rattle.std.proofs.Common.{◌≡◌, ◌⊎◌, ℕ, ◌<◌, ◌≤◌, Bool, true, false, ◌||◌, ◌&&◌, ◌==◌, List, [], ◌∷◌, length, Option, Some, None, refl, sym, ap, subst, ◌∙◌, arith, inl, inr}
+-- The root of an accepted register is served; the zone of each identifier, and the group of each locator.
+use Rattle.std.proofs.Common.{◌≡◌, ◌⊎◌, ℕ, ◌<◌, ◌≤◌, Bool, true, false, ◌||◌, ◌&&◌, List, [], ◌∷◌, length, Option, Some, None, refl, sym, ap, subst, ◌∙◌, arith, inl, inr}
 use Rattle.std.specs.List.{list_any}
 use Rattle.std.specs.Option.{option_map_or}
-use Rattle.std.proofs.lemmas.Bool.{true≢false, false≢true, cond-true, cond-false, or_parts, cases_lt, eqb-true}
+use Rattle.std.proofs.lemmas.Bool.{true≢false, false≢true, cond-true, or_parts, cases_lt}
 use Rattle.ddt_path.specs.declared.locator.Locator.{Locator}
 use Rattle.ddt_path.specs.declared.record.Role.{Role}
 use Rattle.ddt_path.specs.declared.record.Role.TheVariants.{Node, Ms}
 use Rattle.ddt_path.specs.Covers.{covers}
 use Rattle.ddt_path.specs.Locators.{lists}
 use Rattle.ddt_path.specs.laws.Cover.{same_path}
-use Rattle.ddt_path.specs.laws.Member.{IsIn, any_in, in_contained, contained, found_in, found_passes}
+use Rattle.ddt_path.specs.laws.Member.{IsIn, in_contained, contained, found_in, found_passes}
 use Rattle.ddt_path.specs.laws.Front.{one_front}
 use Rattle.ddt_path.specs.declared.matching.Preference.TheVariants.{Longest}
 use Rattle.ddt_register.specs.declared.zone.Zone.{Zone}
@@ -22,42 +22,21 @@ use Rattle.ddt_check.specs.Zones.{is_ms, zone_of, group_named, locators_of, serv
 use Rattle.ddt_check.specs.Rules.{IsAccepted, is_root, is_wrong_root, earlier_zone}
 use Rattle.ddt_check.specs.laws.Statements.{IsItsZone, IsRootZone, AreServers}
 use Rattle.ddt_check.specs.laws.Kept.{servers_of_zone, one_zone}
-use Rattle.ddt_path.specs.laws.Matching.{best_member, best_unbeaten, best_found}
+use Rattle.ddt_path.specs.laws.Matching.{best_member, best_unbeaten}
 use Rattle.ddt_check.specs.laws.Served.{one_group, group_serves}
+use Rattle.ddt_check.specs.laws.Root.{empty_path, some_root, the_root, zone_found}
 use Rattle.ddt_check.specs.laws.Zone.{zone_prefix}
-
-empty_path : (p : List ℕ) → (length p == 0) ≡ true → p ≡ []
-empty_path [] e = refl
-empty_path (d ∷ p) e = let n : length (d ∷ p) ≡ 0 = eqb-true (length (d ∷ p)) 0 e in absurd (omega arith)
 
 is_node : (role : Role) → is_ms role ≡ false → role ≡ Node
 is_node Node e = refl
 is_node Ms e = absurd (true≢false e)
 
 module _ (r : Register) (accepted : IsAccepted r) where
-  some_root : list_any is_root r.zones ≡ true
-  some_root = go (list_any is_root r.zones) refl
-    where
-      go : (b : Bool) → list_any is_root r.zones ≡ b → list_any is_root r.zones ≡ true
-      go true e = e
-      go false e = absurd (true≢false (sym (cond-false (list_any is_root r.zones) _ _ e) ∙ accepted rules.NoRoot 0))
-
-  the_root : (z : Zone) × IsIn z r.zones × (is_root z ≡ true)
-  the_root = any_in is_root r.zones some_root
-
   root_kind : (z : Zone) → IsIn z r.zones → is_root z ≡ true → z.kind ≡ Node
   root_kind z k e =
-      let kept = rule_kept (λ (y : Zone). y.row) (is_wrong_root r) r.zones (λ n. sym (cond-true (list_any is_root r.zones) _ _ some_root) ∙ accepted rules.NoRoot n) z k in
+      let kept = rule_kept (λ (y : Zone). y.row) (is_wrong_root r) r.zones (λ n. sym (cond-true (list_any is_root r.zones) _ _ (some_root r accepted)) ∙ accepted rules.NoRoot n) z k in
       let here : (is_ms z.kind || earlier_zone r z is_root) ≡ false = ap (λ (b : Bool). b && (is_ms z.kind || earlier_zone r z is_root)) (sym e) ∙ kept in
       is_node z.kind (or_parts (is_ms z.kind) (earlier_zone r z is_root) here).0
-
-  -- the zone of a path
-  pub zone_found : (x : List ℕ) → (z : Zone) × (zone_of r x ≡ Some z)
-  zone_found x =
-      let root = the_root in
-      let everything : root.0.prefix ≡ [] = empty_path root.0.prefix root.2 in
-      let found = best_found Longest zone_prefix x r.zones root.0 root.1 (ap (λ (p : List ℕ). covers p x) everything) in
-      (found.0, found.1)
 
   pub zone_beats : (x : List ℕ) (z y : Zone) → zone_of r x ≡ Some z → IsIn y r.zones → covers y.prefix x ≡ true → (y ≡ z) ⊎ (length y.prefix < length z.prefix)
   zone_beats x z y e k c =
@@ -70,7 +49,7 @@ module _ (r : Register) (accepted : IsAccepted r) where
 
   pub its_zone : (x : List ℕ) → (z : Zone) × (zone_of r x ≡ Some z) × IsItsZone r x z
   its_zone x =
-      let found = zone_found x in
+      let found = zone_found r accepted x in
       let z = found.0 in
       let at_z = best_member Longest zone_prefix x r.zones z found.1 in (
         z,
@@ -84,10 +63,10 @@ module _ (r : Register) (accepted : IsAccepted r) where
 
   pub root_is_served : (z : Zone) × IsRootZone r z
   root_is_served =
-      let root = the_root in
+      let root = the_root r accepted in
       let z = root.0 in
       let everything : z.prefix ≡ [] = empty_path z.prefix root.2 in
-      let found = zone_found [] in
+      let found = zone_found r accepted [] in
       let same : z ≡ found.0 = only [] z found.0 found.1 root.1 everything in
       let servers : locators_of r z.group ≡ roots r = ap (λ (w : Zone). locators_of r w.group) same ∙ ap (λ (o : Option Zone). option_map_or (λ (w : Zone). locators_of r w.group) o []) (sym found.1) in (
         z,

@@ -14,3 +14,4 @@ mod sites;
 
 pub use compiling::{compile, compile_group};
 pub use laws::a_compiled_configuration_answers_honestly;
+pub use locators::locators_by_name;

@@ -1,10 +1,13 @@
 pub mod AlikeLemmas
+pub mod ConfigLemmas
 pub mod HalfLemmas
 pub mod PieceLemmas
 pub mod ListingLemmas
 pub mod NegativeLemmas
 pub mod ReadOffLemmas
 pub mod SameLemmas
+pub mod OrderLemmas
 pub mod SideLemmas
 pub mod SinkLemmas
+pub mod VersionLemmas
 pub mod WalkLemmas

@@ -29,7 +29,7 @@ use Rattle.ddt_check.specs.Zones.{is_ms, zone_of, site_of, locators_of}
 use Rattle.ddt_check.specs.Assignment.{assignment, assigned_in, assigned_site, part_of_site, prefixes_in, prefixes_below_site}
 use Rattle.ddt_check.specs.Rules.{IsAccepted, is_outside}
 use Rattle.ddt_check.specs.laws.Statements.{negative_prefix}
-use Rattle.ddt_check.proofs.FreeLemmas.{hole_is_free_in, part_is_free_in}
+use Rattle.ddt_check.specs.laws.Free.{hole_is_free_in, part_is_free_in}
 use Rattle.ddt_check.specs.laws.Kept.{one_zone}
 use Rattle.ddt_check.specs.laws.Site.{no_longer_zone, site_inside}
 use Rattle.ddt_check.specs.laws.Zone.{zone_prefix, site_prefix, assigned_at}

@@ -20,7 +20,7 @@ use Rattle.ddt_check.specs.Zones.{zone_of, site_of, locators_of}
 use Rattle.ddt_check.specs.Assignment.{assignment, assigned_in, assigned_site, part_of_site, prefixes_in}
 use Rattle.ddt_check.specs.Rules.{IsAccepted}
 use Rattle.ddt_check.specs.laws.Statements.{negative_prefix}
-use Rattle.ddt_check.proofs.RootLemmas.{zone_found}
+use Rattle.ddt_check.specs.laws.Root.{zone_found}
 use Rattle.ddt_check.specs.laws.Zone.{assigned_at}
 use Rattle.ddt_plan.specs.Blocks.{keys_of, is_undivided, block_of}
 use Rattle.ddt_path.specs.declared.matching.Preference.TheVariants.{Longest}

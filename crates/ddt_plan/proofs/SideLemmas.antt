@@ -1,14 +1,7 @@
 -- What one register says at a prefix, carried down to its halves.
 use Rattle.std.proofs.Common.{◌≡◌, ◌⊎◌, ℕ, ◌<◌, Bool, true, false, cond, not, ◌==◌, List, [], ◌∷◌, ◌++◌, length, map, take, ◌-◌, find, Option, Some, None, refl, sym, ap, subst, ◌∙◌, arith, inl, inr}
 use Rattle.std.specs.List.{filter}
-use Rattle.std.specs.Prelude.{unwrap_or}
-use Rattle.std.specs.Option.{option_or, option_map, option_map_or}
-use Rattle.std.specs.Ordering.{nat_cmp}
-use Rattle.std.specs.Cmp.Lexicographic.{slice_cmp}
-use Rattle.std.specs.BTreeMap.{BTreeMap, get}
-use Rattle.ddt_path.specs.declared.locator.Locator.{Locator}
-use Rattle.ddt_register.specs.declared.group.Group.{Group}
-use Rattle.ddt_check.specs.Zones.{locators_of, group_named}
+use Rattle.std.specs.Option.{option_or}
 use Rattle.std.proofs.lemmas.Bool.{cases_lt, both_ways, eqb-true, eq-eqb, false_from_ne_true, not-true, not_from_false, cond-false, and_from}
 use Rattle.std.proofs.lemmas.Option.{same_Some}
 use Rattle.std.proofs.lemmas.List.{map-append}
@@ -26,12 +19,10 @@ use Rattle.ddt_path.specs.laws.Matching.{best_is}
 use Rattle.ddt_path.specs.laws.Member.{IsIn, all_of, holds_at, in_map, map_in, some_passes, unfound, found_in, found_passes}
 use Rattle.ddt_path.specs.laws.Filter.{filter_in}
 use Rattle.ddt_path.specs.laws.PathTest.{is_path-xeid_path}
-use Rattle.ddt_register.specs.declared.zone.Zone.{Zone}
 use Rattle.ddt_register.specs.declared.register.Register.{Register}
 use Rattle.ddt_check.specs.Assignment.{assignment}
 use Rattle.ddt_check.specs.Rules.{IsAccepted}
-use Rattle.ddt_check.specs.laws.Kept.{one_zone}
-use Rattle.ddt_check.proofs.NegativeLemmas.{one_site}
+use Rattle.ddt_check.specs.laws.Kept.{one_zone, one_site}
 use Rattle.ddt_check.specs.laws.Zone.{zone_prefix, site_prefix}
 use Rattle.ddt_plan.specs.declared.sides.Delegation.{Delegation}
 use Rattle.ddt_plan.specs.declared.sides.SiteState.{SiteState}
@@ -44,7 +35,7 @@ use Rattle.ddt_plan.specs.declared.outcomes.Reading.{Reading}
 use Rattle.ddt_plan.specs.declared.comparing.Change.{Change}
 use Rattle.ddt_plan.specs.Changes.{block_at, change_at, changes_at, is_apart}
 use Rattle.ddt_plan.specs.declared.listing.Block.{Block}
-use Rattle.ddt_plan.specs.Fast.{HasServersOf, delegation_of, delegations_of, delegation_at, delegations_below, state_of, states_of, state_at, states_below, outcome_from, IsSettled, IsDivision, IsSide, AreSides, outcomes_settled, both_settled}
+use Rattle.ddt_plan.specs.Fast.{delegation_of, delegations_of, delegation_at, delegations_below, state_of, states_of, state_at, states_below, outcome_from, IsSettled, IsDivision, IsSide, AreSides, outcomes_settled, both_settled}
 use Rattle.ddt_plan.proofs.AlikeLemmas.{in_first, in_second, best_match-alike, assigned_as_block}
 use Rattle.ddt_plan.proofs.HalfLemmas.{length-half}
 use Rattle.ddt_plan.proofs.ListingLemmas.{undivided_parts}
@@ -228,15 +219,6 @@ module _ (r : Register) where
       let n = length-half upper q in
       let over : covers f q ≡ true = front_covers f q (half upper q) c (covers-append q (next_digit 32 upper q ∷ [])) (omega (arith, lt, n)) in
       false_from_ne_true (is_undivided (keys_of r) f) (λ e. both_ways (is_strictly_below k.0 f) (not_below f e k.0 k.1) (below_wider k.0 q f over k.2))
-
--- ---- servers
-
-found_or : (o : Option Group) → unwrap_or (option_map (λ (g : Group). g.locators) o) [] ≡ option_map_or (λ (g : Group). g.locators) o []
-found_or None = refl
-found_or (Some g) = refl
-
-pub servers_found : (r : Register) (servers : BTreeMap (List ℕ) (List Locator)) (name : List ℕ) → HasServersOf servers r → unwrap_or (get (slice_cmp nat_cmp) servers name) [] ≡ locators_of r name
-servers_found r servers name has = ap (λ (o : Option (List Locator)). unwrap_or o []) (has name) ∙ found_or (group_named r name)
 
 -- ---- a block
 

@@ -1,10 +1,7 @@
 -- What a block is assigned, by its zone and its site alone: no lengths are tried. A walk down the digits carries both.
 use Rattle.std.specs.Prelude.{ℕ, ◌≡◌, ◌==◌, not, true, false, List, map, length, Option, None, Some, if◌then◌else◌}
 use Rattle.std.specs.List.{filter}
-use Rattle.std.specs.Option.{option_map, option_map_or}
-use Rattle.std.specs.Ordering.{nat_cmp}
-use Rattle.std.specs.Cmp.Lexicographic.{slice_cmp}
-use Rattle.std.specs.BTreeMap.{BTreeMap, get}
+use Rattle.std.specs.Option.{option_map_or}
 use Rattle.ddt_path.specs.declared.locator.Locator.{Locator}
 use Rattle.ddt_path.specs.declared.record.Role.{Role}
 use Rattle.ddt_path.specs.declared.record.Role.TheVariants.{Node, Ms}
@@ -16,7 +13,7 @@ use Rattle.ddt_register.specs.declared.zone.Zone.{Zone}
 use Rattle.ddt_register.specs.declared.site.Site.{Site}
 use Rattle.ddt_register.specs.declared.register.Register.{Register}
 use Rattle.ddt_check.specs.Assignment.{assignment}
-use Rattle.ddt_check.specs.Zones.{locators_of, group_named}
+use Rattle.ddt_check.specs.Zones.{locators_of}
 use Rattle.ddt_plan.specs.declared.sides.Delegation.{Delegation}
 use Rattle.ddt_plan.specs.declared.sides.SiteState.{SiteState}
 use Rattle.ddt_plan.specs.declared.sides.Division.{Division}
@@ -24,11 +21,6 @@ use Rattle.ddt_plan.specs.declared.sides.Side.{Side}
 use Rattle.ddt_plan.specs.declared.sides.Side.TheVariants.{Settled, Divided}
 use Rattle.ddt_plan.specs.declared.sides.Sides.{Sides}
 use Rattle.ddt_plan.specs.Blocks.{keys_of, is_undivided}
-
--- the locators of each group, by its name
-abbrev pub HasServersOf : BTreeMap (List ℕ) (List Locator) → Register → Type 0
-HasServersOf servers r = (name : List ℕ) → get (slice_cmp nat_cmp) servers name ≡ option_map (λ g. g.locators)
-    (group_named r name)
 
 -- a zone, with the locators of its group
 abbrev pub delegation_of : Register → Zone → Delegation

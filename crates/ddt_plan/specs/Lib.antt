@@ -4,3 +4,6 @@ pub mod Fast
 pub mod Changes
 pub mod Counts
 pub mod Laws
+pub mod Groups
+pub mod Entries
+pub mod Versions

@@ -1,14 +1,18 @@
 //! What a register says of all identifiers, block by block, and what a change of the register changes (RFC 8111,
 //! section 7.3: what following referrals from the root has to end in).
 //!
-//! Nothing is kept: a walk down the digits hands each block or change to a sink as it finds it.
+//! Nothing is kept: a walk down the digits hands each block or change to a sink as it finds it. Which groups of servers
+//! need another configuration is told by the configurations themselves: `ddt_compile` makes those of both registers,
+//! and the types of `ddt_config` are compared, whatever the order of rows.
 //!
 //! In reading order: `sink`, `listing`, `comparing`, `outcomes`, `counting`; `walking`, `sides`, `halves`, `servers`
-//! below them; and `laws`.
+//! below them; `groups`, with `versions` and `configs` below it; and `laws`.
 #![tactic(auto)]
 
 mod comparing;
+mod configs;
 mod counting;
+mod groups;
 mod halves;
 mod laws;
 mod listing;
@@ -16,10 +20,12 @@ mod outcomes;
 mod servers;
 mod sides;
 mod sink;
+mod versions;
 mod walking;
 
 pub use comparing::{Change, changes};
 pub use counting::{ChangeCounts, CountFull, OutcomeCounts};
+pub use groups::{GroupChange, GroupChangeKind, group_changes};
 pub use laws::{a_block_is_assigned_alike, a_negative_is_its_block, exactly_the_same_is_equal};
 pub use listing::{Block, blocks};
 pub use outcomes::{Reading, is_same_outcome};

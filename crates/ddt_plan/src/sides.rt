@@ -9,8 +9,9 @@ ghost use Rattle.ddt_plan.specs.Blocks.{keys_of, is_undivided, half as half_of};
 ghost use Rattle.ddt_plan.specs.Fast.{IsDivision, IsSide, AreSides, delegations_of, delegations_below, delegation_at, states_of, states_below, state_at, outcome_from, outcome_in as outcome_in_of, outcome_of_site as outcome_of_site_of};
 
 use crate::halves::half;
-use crate::servers::{servers_by_name, servers_of};
+use crate::servers::servers_of;
 use ddt_check::{Accepted, assign};
+use ddt_compile::locators_by_name;
 use ddt_path::{LocatorSet, Outcome, Prefix, Prefixed, Role, longest_match};
 use std::alloc::{AllocError, Global};
 
@@ -255,7 +256,7 @@ fn outcome_of_site(servers: LocatorSet, site: SiteState, block: Prefix) -> Outco
 fn delegations(alloc: Global, accepted: &Accepted) -> Result<Vec<Delegation>, AllocError>
     ensures { IfOk result (λ zones. zones.items ≡ delegations_of accepted.now) }
 {
-    let servers = servers_by_name(alloc, accepted)?;
+    let servers = locators_by_name(alloc, accepted)?;
     let mut zones = Vec::new(alloc);
     for zone in accepted.register().zones.as_slice() {
         zones.push(Delegation {

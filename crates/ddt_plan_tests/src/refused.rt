@@ -3,9 +3,9 @@
 //! `.ci/memory` runs each of these tests with each growth refused in turn.
 
 use ddt_check::{Accepted, check};
-use ddt_examples::registers::{CAMPUS, NESTED_SITES};
+use ddt_examples::registers::{CAMPUS, CAMPUS_GROWN, NESTED_SITES};
 use ddt_path::{Locator, Prefix, Xeid};
-use ddt_plan::{Block, Change, PlanFault, Reading, blocks, changes};
+use ddt_plan::{Block, Change, GroupChange, PlanFault, Reading, blocks, changes, group_changes};
 use ddt_register::{ReadFault, Register, read_register};
 use std::alloc::{AllocError, Global};
 use std::process::Abort;
@@ -114,5 +114,25 @@ fn changes_are_given_up_to_the_refusal(rt: HostRuntime) -> Result<(), Fail> {
     let first = changed(rt.alloc(), &old, &new);
     let all = all_changes(rt.alloc(), &old, &new)?;
     is_front(&rt, &first, &all, 3);
+    Ok(())
+}
+
+/// The groups that change, asked once more where memory is refused.
+fn all_groups(alloc: Global, old: &Accepted, new: &Accepted) -> Result<Vec<GroupChange>, Fail> {
+    match group_changes(alloc, old, new) {
+        Ok(list) => Ok(list),
+        Err(_refused) => Ok(group_changes(alloc, old, new)?),
+    }
+}
+
+#[test]
+fn groups_are_told_after_a_refusal(rt: HostRuntime) -> Result<(), Fail> {
+    let old = accepted(&rt, rt.alloc(), CAMPUS)?;
+    let new = accepted(&rt, rt.alloc(), CAMPUS_GROWN)?;
+    let all = all_groups(rt.alloc(), &old, &new)?;
+    let mut names = all.iter().map(|change| change.name.as_bytes());
+    assert_eq!(&rt; names.next(), Some(b"far".as_slice()));
+    assert_eq!(&rt; names.next(), Some(b"ten".as_slice()));
+    assert_eq!(&rt; names.next(), None);
     Ok(())
 }

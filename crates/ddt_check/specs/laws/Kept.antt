@@ -20,7 +20,7 @@ use Rattle.ddt_check.specs.Rules.{IsAccepted, broken, is_duplicate_zone, is_dupl
 use Rattle.ddt_check.specs.laws.Statements.{AreServers, IsItsGroup}
 use Rattle.ddt_path.specs.laws.Member.{IsIn, contained, fails_at, found_in}
 use Rattle.ddt_path.specs.laws.Cover.{same_path, path_itself}
-use Rattle.ddt_register.specs.laws.Rising.{rule_kept, one_row, zones_rise, earlier_fails}
+use Rattle.ddt_register.specs.laws.Rising.{rule_kept, one_row, zones_rise, sites_rise, earlier_fails}
 use Rattle.ddt_register.specs.laws.RowOrder.{found_first, groups_up}
 
 -- where no two zones have one prefix, whatever the other rules say
@@ -56,6 +56,15 @@ own_site r accepted a b j k lt =
     let e = rule_kept (λ (s : Site). s.row) (is_duplicate_site r) r.sites (accepted rules.DuplicateSite) b k in
     let test = λ (t : Site). nat_lt t.row b.row && is_same_path t.prefix b.prefix in
     earlier_fails a.row b.row _ lt (fails_at test r.sites a e j)
+
+-- two sites of one prefix are one
+pub one_site : (r : Register) → IsAccepted r → (a b : Site) → IsIn a r.sites → IsIn b r.sites → a.prefix ≡ b.prefix → a ≡ b
+one_site r accepted a b j k same =
+    elim (one_row (λ (s : Site). s.row) r.sites 0 a b (sites_rise r) j k) [
+      | inl one ↦ one
+      | inr (inl lt) ↦ absurd (both_ways (is_same_path a.prefix b.prefix) (own_site r accepted a b j k lt) (path_itself a.prefix b.prefix same))
+      | inr (inr gt) ↦ absurd (both_ways (is_same_path b.prefix a.prefix) (own_site r accepted b a k j gt) (path_itself b.prefix a.prefix (sym same)))
+    ]
 
 pub few_etrs : (r : Register) → IsAccepted r → (s : Site) → IsIn s r.sites → length s.etrs ≤ 8
 few_etrs r accepted s k = ltb-false 8 (length s.etrs) (rule_kept (λ (t : Site). t.row) has_too_many_etrs r.sites (accepted rules.TooManyEtrs) s k)

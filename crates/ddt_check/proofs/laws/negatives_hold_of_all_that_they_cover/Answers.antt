@@ -1,4 +1,4 @@
-use Rattle.ddt_check.proofs.FreeLemmas.{hole_is_free_in, part_is_free_in}
+use Rattle.ddt_check.specs.laws.Free.{hole_is_free_in, part_is_free_in}
 use Rattle.ddt_check.proofs.NegativeLemmas.{registered_is_site, negative_covers, holds_of_all}
 use Rattle.ddt_check.proofs.laws.negatives_hold_of_all_that_they_cover.Goals as goal
 

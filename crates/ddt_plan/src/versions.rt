@@ -1,0 +1,71 @@
+//! The configurations of each group in two registers, by the group's name.
+
+ghost use Rattle.std.specs.Prelude.{◌≡◌, IfOk};
+ghost use Rattle.ddt_plan.specs.Versions.{AreVersions, HasPut, joined as joined_of};
+
+use ddt_check::Accepted;
+use ddt_compile::compile;
+use ddt_config::ServerConfig;
+use ddt_path::Name;
+use std::alloc::{AllocError, Global};
+use std::collections::BTreeMap;
+
+/// The configurations of one group.
+#[derive(Drop)]
+pub enum Versions {
+    /// Of the earlier register alone.
+    Before(ServerConfig),
+    /// Of the later register alone.
+    After(ServerConfig),
+    /// Of the earlier register and of the later one.
+    Both(ServerConfig, ServerConfig),
+}
+
+/// Which of two registers.
+#[derive(Clone, Copy)]
+pub enum Which {
+    Earlier,
+    Later,
+}
+
+/// The configurations of each group of two registers, by its name.
+pub fn versions_by_name(
+    alloc: Global,
+    before: &Accepted,
+    after: &Accepted,
+) -> Result<BTreeMap<Name, Versions>, AllocError>
+    ensures { IfOk result (λ versions. AreVersions before.now after.now versions) }
+{
+    let earlier = put_all(alloc, BTreeMap::new(alloc), Which::Earlier, before)?;
+    put_all(alloc, earlier, Which::Later, after)
+}
+
+/// Puts the configuration of each group to what is there by its name.
+fn put_all(
+    alloc: Global,
+    versions: BTreeMap<Name, Versions>,
+    which: Which,
+    accepted: &Accepted,
+) -> Result<BTreeMap<Name, Versions>, AllocError>
+    ensures { IfOk result (λ put. HasPut which accepted.now versions put) }
+{
+    let mut all = versions;
+    for config in compile(alloc, accepted)?.into_vec() {
+        let name = config.name;
+        let known = all.remove(&name);
+        all.insert(name, joined(which, known, config))?;
+    }
+    Ok(all)
+}
+
+/// A configuration beside what is there; of two of one name in a register, the first counts.
+fn joined(which: Which, known: Option<Versions>, config: ServerConfig) -> Versions
+    ensures { result ≡ joined_of which known config }
+{
+    match (which, known) {
+        (Which::Earlier, None) => Versions::Before(config),
+        (Which::Later, None) => Versions::After(config),
+        (Which::Later, Some(Versions::Before(earlier))) => Versions::Both(earlier, config),
+        (_, Some(known)) => known,
+    }
+}

@@ -1,4 +1,4 @@
 pub mod WriterLemmas
 pub mod SinkLemmas
-pub mod AsciiLemmas
+pub mod EndLemmas
 pub mod FloatLemmas

@@ -79,9 +79,16 @@ pub front_behind : (a b c : Option (List ℕ)) (xs ys zs : List ℕ) → Appends
 front_behind a b c xs ys zs h k =
     (length xs + min k.0 (length ys), subst (Appends a c) (sym (seam k.0 xs ys zs)) (appends_both a b c xs (take k.0 ys) h k.1))
 
-module _ {S T R : Type 0} (takes : S → T → Result (Unit {0}) R → S → Type 0) (contents : S → Option (List ℕ))
-  (text : T → List ℕ) (IsSo : S → Type 0) where
+-- the same with nothing behind it, and with nothing before it
+pub front_after : (a b c : Option (List ℕ)) (xs ys : List ℕ) → Appends a b xs → AppendsFront b c ys → AppendsFront a c (xs ++ ys)
+front_after a b c xs ys h k =
+    (length xs + k.0, subst (Appends a c) (sym (take-append-add xs ys k.0)) (appends_both a b c xs (take k.0 ys) h k.1))
 
+pub front_before : (a c : Option (List ℕ)) (ys zs : List ℕ) → AppendsFront a c ys → AppendsFront a c (ys ++ zs)
+front_before a c ys zs k = front_behind a a c [] ys zs (appends_none a) k
+
+module _ {S T R : Type 0} (takes : S → T → Result (Unit {0}) R → S → Type 0) (contents : S → Option (List ℕ))
+    (text : T → List ℕ) (IsSo : S → Type 0) where
   -- Such a sink appends the text of an item that it takes, and a front of it where it refuses the item.
   pub record IsWriter : Type 0 where
     pub stays : (s : S) (item : T) (next : S) → IsSo s → takes s item (Ok tt) next → IsSo next

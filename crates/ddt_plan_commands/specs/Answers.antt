@@ -1,17 +1,23 @@
 -- What the commands answer.
-use Rattle.std.specs.Prelude.{ℕ, Bool, true, false, ◌≡◌, ◌⊎◌, List, Option, Ok}
+use Rattle.std.specs.Prelude.{ℕ, Bool, true, false, ◌≡◌, ◌⊎◌, List, [], length, Option, Ok}
 use Rattle.std.specs.List.{flat_map}
 use Rattle.std.specs.Io.KnownBytes.{Keeps}
 use Rattle.ddt_text.specs.FirstFault.{prefix_in}
 use Rattle.ddt_register.specs.declared.register.Register.{Register}
 use Rattle.ddt_plan.specs.declared.listing.Block.{Block}
-use Rattle.ddt_plan.specs.Changes.{AreBlocks}
+use Rattle.ddt_plan.specs.declared.comparing.Change.{Change}
+use Rattle.ddt_plan.specs.declared.groups.GroupChange.{GroupChange}
+use Rattle.ddt_plan.specs.declared.outcomes.Reading.{Reading}
+use Rattle.ddt_plan.specs.Changes.{AreBlocks, AreChanges}
+use Rattle.ddt_plan.specs.Groups.{AreGroupChanges}
 use Rattle.ddt_lines.specs.Printing.{AppendsFront}
 use Rattle.ddt_commands.specs.Over.{OfItsRegister}
 use Rattle.ddt_plan_commands.specs.declared.asking.Form.{Form}
 use Rattle.ddt_plan_commands.specs.declared.asking.BlocksAsked.{BlocksAsked}
-use Rattle.ddt_plan_commands.specs.Counted.{no_outcomes, with_blocks}
-use Rattle.ddt_plan_commands.specs.Written.{listed_block, written_counts}
+use Rattle.ddt_plan_commands.specs.declared.asking.DiffAsked.{DiffAsked}
+use Rattle.ddt_plan_commands.specs.Counted.{no_outcomes, with_blocks, no_changes, with_changes}
+use Rattle.ddt_plan_commands.specs.Written.{listed_block, written_counts, written_changes, written_change_counts}
+use Rattle.ddt_plan_commands.specs.Written.{differs as are_different}
 
 -- a line for each block of a register inside a prefix, or for each that is no hole
 abbrev pub IsListedText : Form → Bool → Register → List ℕ → List ℕ → Type 0
@@ -39,6 +45,42 @@ IsBlocksAnswer opens remaining asked text =
     (inside : List ℕ) × (prefix_in asked.inside.now ≡ Ok inside)
     × ((source : Option _) × opens asked.register.now source
     × OfItsRegister remaining source (λ r. IsBlocksText asked r inside text))
+
+-- the changes from one register to another, and the groups that change
+abbrev pub IsChangesText : Reading → Form → Register → Register → Bool → List ℕ → Type 0
+IsChangesText reading form before after differs text =
+    (all : List Change) × AreChanges reading before after [] all
+    × ((groups : List GroupChange) × AreGroupChanges before after groups
+    × (differs ≡ are_different all groups) × (text ≡ written_changes form all groups))
+
+-- how many of them there are of each kind
+abbrev pub IsChangeCountsText : Reading → Form → Register → Register → Bool → List ℕ → Type 0
+IsChangeCountsText reading form before after differs text =
+    (all : List Change) × AreChanges reading before after [] all
+    × ((groups : List GroupChange) × AreGroupChanges before after groups
+    × (differs ≡ are_different all groups)
+    × (text ≡ written_change_counts form (with_changes no_changes all) (length groups)))
+
+-- what is asked of them, and whether anything differs
+abbrev pub IsTextOfChanges : Bool → Reading → Form → Register → Register → Bool → List ℕ → Type 0
+IsTextOfChanges true = IsChangeCountsText
+IsTextOfChanges false = IsChangesText
+
+abbrev pub IsDiffText : DiffAsked → Register → Register → Bool → List ℕ → Type 0
+IsDiffText asked = IsTextOfChanges asked.counted asked.reading asked.form
+
+-- The answer of `diff`: the paths of both registers gave sources, and this is the text of the registers there.
+abbrev pub IsDiffAnswer : {F : Type 0} → (List ℕ → Option F → Type 0) → (F → Option (List ℕ)) → DiffAsked → Bool
+    → List ℕ → Type 0
+IsDiffAnswer opens remaining asked differs text =
+    (old : Option _) × opens asked.before.now old × OfItsRegister remaining old (λ before.
+    (new : Option _) × opens asked.after.now new × OfItsRegister remaining new (λ after.
+    IsDiffText asked before after differs text))
+
+-- the same, whether anything differs or not
+abbrev pub IsAnyDiff : {F : Type 0} → (List ℕ → Option F → Type 0) → (F → Option (List ℕ)) → DiffAsked → List ℕ
+    → Type 0
+IsAnyDiff opens remaining asked text = (differs : Bool) × IsDiffAnswer opens remaining asked differs text
 
 -- nothing was appended, or a front of such a text
 abbrev pub HasFront : (List ℕ → Type 0) → Option (List ℕ) → Option (List ℕ) → Type 0

@@ -1,5 +1,5 @@
 -- The counts of all blocks, and of all changes.
-use Rattle.std.specs.Prelude.{ℕ, List, [], ◌∷◌}
+use Rattle.std.specs.Prelude.{ℕ, nat_lt, Bool, ◌||◌, List, [], ◌∷◌}
 use Rattle.ddt_plan.specs.declared.listing.Block.{Block}
 use Rattle.ddt_plan.specs.declared.comparing.Change.{Change}
 use Rattle.ddt_plan.specs.declared.counting.OutcomeCounts.{OutcomeCounts}
@@ -21,3 +21,7 @@ with_blocks n (b ∷ bs) = with_blocks (counted n b.outcome) bs
 abbrev pub with_changes : ChangeCounts → List Change → ChangeCounts
 with_changes n [] = n
 with_changes n (c ∷ cs) = with_changes (changes_counted n c) cs
+
+-- a block was counted
+abbrev pub has_counted : OutcomeCounts → Bool
+has_counted n = nat_lt 0 n.holes || (nat_lt 0 n.registered || nat_lt 0 n.not_registered)

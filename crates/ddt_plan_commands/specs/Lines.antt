@@ -5,6 +5,9 @@ use Rattle.ddt_text.specs.Written.{written_prefix}
 use Rattle.ddt_lines.specs.Lines.{ended, outcome_text}
 use Rattle.ddt_plan.specs.declared.listing.Block.{Block}
 use Rattle.ddt_plan.specs.declared.comparing.Change.{Change}
+use Rattle.ddt_plan.specs.declared.groups.GroupChange.{GroupChange}
+use Rattle.ddt_plan.specs.declared.groups.GroupChangeKind.{GroupChangeKind}
+use Rattle.ddt_plan.specs.declared.groups.GroupChangeKind.TheVariants.{Added, Removed, Changed}
 use Rattle.ddt_plan.specs.declared.counting.OutcomeCounts.{OutcomeCounts}
 use Rattle.ddt_plan.specs.declared.counting.ChangeCounts.{ChangeCounts}
 
@@ -19,6 +22,22 @@ block_text b = written_prefix b.prefix ++ outcome_field b.outcome
 -- the block, what it was assigned, and what it is assigned now
 abbrev pub change_text : Change → List ℕ
 change_text c = written_prefix c.prefix ++ (outcome_field c.before ++ outcome_field c.after)
+
+abbrev pub kind_word : GroupChangeKind → List ℕ
+kind_word Added = codes "added"
+kind_word Removed = codes "removed"
+kind_word Changed = codes "changed"
+
+-- a group, and how its configuration changes
+abbrev pub group_text : GroupChange → List ℕ
+group_text c = codes "group\t" ++ c.name ++ codes "\t" ++ kind_word c.kind
+
+-- for how long caches may go on to answer the old way
+abbrev pub negative_cache_text : List ℕ
+negative_cache_text = codes "caches\tnegative answers\t15 minutes 2 seconds"
+
+abbrev pub server_cache_text : List ℕ
+server_cache_text = codes "caches\tservers\t1 day 2 seconds"
 
 -- a number behind a tab
 abbrev pub number_field : ℕ → List ℕ
@@ -39,8 +58,10 @@ counts_text n =
     ++ ended (count_text (codes "not-registered") n.not_registered)
     ++ ended (count_text (codes "hole") n.holes)
 
-abbrev pub change_counts_text : ChangeCounts → List ℕ
-change_counts_text n =
+-- and how many groups' configurations change
+abbrev pub change_counts_text : ChangeCounts → ℕ → List ℕ
+change_counts_text n groups =
     ended (change_count_text (codes "registered") n.before.registered n.after.registered)
     ++ ended (change_count_text (codes "not-registered") n.before.not_registered n.after.not_registered)
     ++ ended (change_count_text (codes "hole") n.before.holes n.after.holes)
+    ++ ended (count_text (codes "group") groups)

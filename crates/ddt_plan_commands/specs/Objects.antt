@@ -8,8 +8,10 @@ use Rattle.ddt_path.specs.declared.record.Outcome.TheVariants.{Registered, NotRe
 use Rattle.ddt_text.specs.Written.{written_locator, written_prefix}
 use Rattle.ddt_plan.specs.declared.listing.Block.{Block}
 use Rattle.ddt_plan.specs.declared.comparing.Change.{Change}
+use Rattle.ddt_plan.specs.declared.groups.GroupChange.{GroupChange}
 use Rattle.ddt_plan.specs.declared.counting.OutcomeCounts.{OutcomeCounts}
 use Rattle.ddt_plan.specs.declared.counting.ChangeCounts.{ChangeCounts}
+use Rattle.ddt_plan_commands.specs.Lines.{kind_word}
 
 abbrev pub prefix_data : List ℕ → Data
 prefix_data prefix = string (written_prefix prefix)
@@ -45,6 +47,16 @@ counts_data n =
     object (member (codes "holes") (number (unsigned n.holes)) (member (codes "not-registered")
     (number (unsigned n.not_registered)) (member (codes "registered") (number (unsigned n.registered)) no_members)))
 
-abbrev pub change_counts_data : ChangeCounts → Data
-change_counts_data n =
-    object (member (codes "after") (counts_data n.after) (member (codes "before") (counts_data n.before) no_members))
+abbrev pub change_counts_data : ChangeCounts → ℕ → Data
+change_counts_data n groups =
+    object (member (codes "after") (counts_data n.after) (member (codes "before") (counts_data n.before)
+    (member (codes "groups") (number (unsigned groups)) no_members)))
+
+abbrev pub group_data : GroupChange → Data
+group_data c =
+    object (member (codes "configuration") (string (kind_word c.kind)) (member (codes "group") (string c.name) no_members))
+
+-- what caches may hold, and for how many seconds
+abbrev pub cache_data : List ℕ → ℕ → Data
+cache_data held seconds =
+    object (member (codes "caches") (string held) (member (codes "seconds") (number (unsigned seconds)) no_members))

@@ -16,6 +16,7 @@ use Rattle.ddt_plan.specs.declared.sink.PlanFault.TheVariants as plan
 use Rattle.ddt_plan_commands.specs.declared.block_lines.LineFault.{LineFault}
 use Rattle.ddt_plan_commands.specs.declared.block_lines.LineFault.TheVariants as line
 use Rattle.ddt_plan_commands.specs.declared.asking.BlocksAsked.{BlocksAsked}
+use Rattle.ddt_plan_commands.specs.declared.asking.DiffAsked.{DiffAsked}
 use Rattle.ddt_plan_commands.specs.declared.refusal.PlanRefusal.{PlanRefusal}
 use Rattle.ddt_plan_commands.specs.declared.refusal.PlanRefusal.TheVariants.{BadPrefix, NoRegister, CountFull, OutOfMemory}
 use Rattle.ddt_plan_commands.specs.declared.stop.Stop.{Stop}
@@ -46,7 +47,6 @@ IsWhyUnwritten Unprinted = ⊤
 abbrev pub stop_of_lines : PlanFault LineFault → Stop
 stop_of_lines plan.Memory = Refused OutOfMemory
 stop_of_lines (plan.Refused line.Memory) = Refused OutOfMemory
-stop_of_lines (plan.Refused line.CountFull) = Refused CountFull
 stop_of_lines (plan.Refused line.Unprinted) = Unprinted
 
 abbrev pub stop_of_counts : PlanFault TooManyToCount → Stop
@@ -60,6 +60,14 @@ IsWhyNoBlocks opens remaining asked why =
     (bad_prefix (prefix_in asked.inside.now) ≡ Some why)
     ⊎ ((source : Option _) × opens asked.register.now source
     × (IsWhyUnopened remaining source asked.register.now why ⊎ IsWhyUnwritten (Refused why)))
+
+-- why `diff` refuses: one of its registers; or counts are full, or memory runs out, once both are read
+abbrev pub IsWhyNoDiff : {F : Type 0} → (List ℕ → Option F → Type 0) → (F → Option (List ℕ)) → DiffAsked → PlanRefusal
+    → Type 0
+IsWhyNoDiff opens remaining asked why =
+    ((source : Option _) × opens asked.before.now source × IsWhyUnopened remaining source asked.before.now why)
+    ⊎ (((source : Option _) × opens asked.after.now source × IsWhyUnopened remaining source asked.after.now why)
+    ⊎ IsWhyUnwritten (Refused why))
 
 -- the text of a refusal; None for those that show a fault, whose text is the fault's own
 abbrev pub no_register_text : List ℕ → Refusal → Option (List ℕ)

@@ -1,17 +1,20 @@
 -- What the commands write of a block, of a change and of counts, in the form that is asked for.
-use Rattle.std.specs.Prelude.{ℕ, Bool, true, false, ◌&&◌, not, if◌then◌else◌, List, []}
+use Rattle.std.specs.Prelude.{ℕ, Bool, true, false, ◌&&◌, ◌||◌, not, if◌then◌else◌, List, [], ◌∷◌, ◌++◌, codes}
+use Rattle.std.specs.List.{flat_map, list_any}
 use Rattle.serde_json.specs.Written.{compact_text}
 use Rattle.ddt_path.specs.declared.record.Outcome.{Outcome}
 use Rattle.ddt_path.specs.declared.record.Outcome.TheVariants.{Registered, NotRegistered, Hole}
 use Rattle.ddt_lines.specs.Lines.{ended}
 use Rattle.ddt_plan.specs.declared.listing.Block.{Block}
 use Rattle.ddt_plan.specs.declared.comparing.Change.{Change}
+use Rattle.ddt_plan.specs.declared.groups.GroupChange.{GroupChange}
 use Rattle.ddt_plan.specs.declared.counting.OutcomeCounts.{OutcomeCounts}
 use Rattle.ddt_plan.specs.declared.counting.ChangeCounts.{ChangeCounts}
 use Rattle.ddt_plan_commands.specs.declared.asking.Form.{Form}
 use Rattle.ddt_plan_commands.specs.declared.asking.Form.TheVariants.{Text, Json}
-use Rattle.ddt_plan_commands.specs.Lines.{block_text, change_text, counts_text, change_counts_text}
-use Rattle.ddt_plan_commands.specs.Objects.{block_data, change_data, counts_data, change_counts_data}
+use Rattle.ddt_plan_commands.specs.Lines.{block_text, change_text, counts_text, change_counts_text, group_text}
+use Rattle.ddt_plan_commands.specs.Lines.{negative_cache_text, server_cache_text}
+use Rattle.ddt_plan_commands.specs.Objects.{block_data, change_data, counts_data, change_counts_data, group_data, cache_data}
 
 abbrev pub is_hole : Outcome → Bool
 is_hole (Registered p s) = false
@@ -34,6 +37,55 @@ abbrev pub written_counts : Form → OutcomeCounts → List ℕ
 written_counts Text n = counts_text n
 written_counts Json n = ended (compact_text (counts_data n))
 
-abbrev pub written_change_counts : Form → ChangeCounts → List ℕ
-written_change_counts Text n = change_counts_text n
-written_change_counts Json n = ended (compact_text (change_counts_data n))
+abbrev pub written_change_counts : Form → ChangeCounts → ℕ → List ℕ
+written_change_counts Text n groups = change_counts_text n groups
+written_change_counts Json n groups = ended (compact_text (change_counts_data n groups))
+
+abbrev pub written_group : Form → GroupChange → List ℕ
+written_group Text c = ended (group_text c)
+written_group Json c = ended (compact_text (group_data c))
+
+-- what resolvers may hold of the old answers, and for how long
+abbrev pub negative_cache : Form → List ℕ
+negative_cache Text = ended negative_cache_text
+negative_cache Json = ended (compact_text (cache_data (codes "negative answers") 902))
+
+abbrev pub server_cache : Form → List ℕ
+server_cache Text = ended server_cache_text
+server_cache Json = ended (compact_text (cache_data (codes "servers") 86402))
+
+abbrev pub written_caches : Form → Bool → List ℕ
+written_caches form negative = (if negative then negative_cache form else []) ++ server_cache form
+
+-- an empty line between the changes and what follows
+abbrev pub parting : Form → List ℕ
+parting Text = codes "\n"
+parting Json = []
+
+-- What stands behind the changes, if anything differs: the groups, and for how long caches answer the old way.
+abbrev pub written_ending : Form → Bool → Bool → List GroupChange → List ℕ
+written_ending form false negative groups = []
+written_ending form true negative groups =
+    parting form ++ flat_map (written_group form) groups ++ written_caches form negative
+
+-- a hole, or a site that isn't registered
+abbrev pub is_negative : Outcome → Bool
+is_negative (Registered p s) = false
+is_negative (NotRegistered p s) = true
+is_negative (Hole p) = true
+
+abbrev pub was_negative : Change → Bool
+was_negative c = is_negative c.before
+
+abbrev pub has_some : {A : Type 0} → List A → Bool
+has_some [] = false
+has_some (x ∷ xs) = true
+
+-- something differs
+abbrev pub differs : List Change → List GroupChange → Bool
+differs all groups = has_some all || has_some groups
+
+-- the changes, and what stands behind them
+abbrev pub written_changes : Form → List Change → List GroupChange → List ℕ
+written_changes form all groups =
+    flat_map (written_change form) all ++ written_ending form (differs all groups) (list_any was_negative all) groups

@@ -113,12 +113,14 @@ fn command_line<'a>(alloc: Global) -> Result<Command<'a>, AllocError> {
 
 fn blocks_command<'a>(alloc: Global) -> Result<Command<'a>, AllocError> {
     Command::new(alloc, "blocks")
-        .about("List the blocks of identifiers that a register assigns alike, and what it assigns to each.")
+        .about(
+            "List the blocks of identifiers that a register assigns alike, and what it assigns to each.",
+        )
         .arg(path(alloc, "register").help("The register, a CSV file"))?
         .arg(
-            Arg::new(alloc, "prefix")
-                .action(ArgAction::Set)
-                .help("The identifiers that are asked for; all, where it isn't given"),
+            Arg::new(alloc, "prefix").action(ArgAction::Set).help(
+                "The identifiers that are asked for; all, where it isn't given",
+            ),
         )?
         .arg(flag(alloc, "no-holes").help("Leave out the holes"))?
         .arg(flag(alloc, "count").help("Print only how many blocks there are of each kind"))?
@@ -131,19 +133,17 @@ fn diff_command<'a>(alloc: Global) -> Result<Command<'a>, AllocError> {
         .arg(path(alloc, "old").help("The register that is in force, a CSV file"))?
         .arg(path(alloc, "new").help("The register that is to come into force, a CSV file"))?
         .arg(flag(alloc, "exact").help("List also where only the prefix of an outcome differs"))?
-        .arg(flag(alloc, "count").help("Print only how many changed blocks there are of each kind"))?
+        .arg(flag(alloc, "count").help(
+            "Print only how many changed blocks there are of each kind",
+        ))?
         .arg(flag(alloc, "json").help("Print a JSON object a line"))
 }
 
 /// A path that must be given.
 fn path<'a>(alloc: Global, name: &'a str) -> Arg<'a> {
-    Arg::new(alloc, name)
-        .required(true)
-        .action(ArgAction::Set)
+    Arg::new(alloc, name).required(true).action(ArgAction::Set)
 }
 
 fn flag<'a>(alloc: Global, name: &'a str) -> Arg<'a> {
-    Arg::new(alloc, name)
-        .long(name)
-        .action(ArgAction::SetTrue)
+    Arg::new(alloc, name).long(name).action(ArgAction::SetTrue)
 }

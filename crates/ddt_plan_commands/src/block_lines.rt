@@ -9,7 +9,7 @@ use crate::lines::block_fields;
 use crate::objects::block_object;
 use ddt_lines::print;
 use ddt_path::Outcome;
-use ddt_plan::{Block, CountFull, Sink};
+use ddt_plan::{Block, Sink};
 use std::alloc::{AllocError, Global};
 use std::io;
 use std::io::Write;
@@ -19,21 +19,8 @@ use std::io::Write;
 pub enum LineFault {
     /// There is no memory for it.
     Memory,
-    /// There are more than 18446744073709551615 of a kind.
-    CountFull,
     /// The writer failed.
     Unprinted,
-}
-
-impl From<CountFull> for LineFault {
-    ghost use Rattle.std.specs.Prelude.{◌≡◌};
-    ghost use Rattle.ddt_plan_commands.specs.declared.block_lines.LineFault.TheVariants.{CountFull as IsCountFull};
-
-    ghost from_gives = { λ full fault. fault ≡ IsCountFull };
-
-    fn from(_full: CountFull) -> Self {
-        LineFault::CountFull
-    }
 }
 
 impl From<AllocError> for LineFault {

@@ -2,24 +2,37 @@
 
 ghost use Rattle.std.specs.Prelude.{◌≡◌, IfOk};
 ghost use Rattle.ddt_plan_commands.specs.Sinks.{TakesChange};
-ghost use Rattle.ddt_plan_commands.specs.Written.{written_change};
+ghost use Rattle.ddt_plan_commands.specs.Written.{was_negative as was_negative_of, written_change};
 
 use crate::asking::Form;
 use crate::block_lines::LineFault;
 use crate::lines::change_fields;
 use crate::objects::change_object;
 use ddt_lines::print;
-use ddt_plan::{Change, ChangeCounts, Sink};
+use ddt_path::Outcome;
+use ddt_plan::{Change, Sink};
 use std::alloc::{AllocError, Global};
 use std::io::Write;
 
-/// Writes a line for each change, and counts them.
+/// Writes a line for each change.
 #[derive(Drop)]
 pub struct ChangeLines<W> {
     pub alloc: Global,
     pub form: Form,
-    pub counts: ChangeCounts,
+    /// Whether there was a change.
+    pub some: bool,
+    /// Whether one was a hole, or a site that isn't registered, before.
+    pub negative: bool,
     pub out: W,
+}
+
+fn was_negative(change: &Change) -> bool
+    ensures { result ≡ was_negative_of change.now }
+{
+    match change.before {
+        Outcome::Registered { .. } => false,
+        Outcome::NotRegistered { .. } | Outcome::Hole { .. } => true,
+    }
 }
 
 /// The line of a change, in a form. Fails only if out of memory.
@@ -32,16 +45,16 @@ fn change_line(alloc: Global, form: Form, change: &Change) -> Result<Vec<u8>, Al
     }
 }
 
-/// Before a change is written it is counted; where its count is full, it isn't written.
 impl<W: Write + Drop> Sink<Change> for ChangeLines<W> {
     type Refusal = LineFault;
 
     ghost takes = { TakesChange W.contents };
 
     fn give(&mut self, change: Change) -> Result<(), LineFault> {
-        self.counts.give(change)?;
         let line = change_line(self.alloc, self.form, &change)?;
         print(&line, &mut self.out)?;
+        self.some = true;
+        self.negative = self.negative || was_negative(&change);
         Ok(())
     }
 }

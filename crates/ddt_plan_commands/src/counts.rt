@@ -53,33 +53,50 @@ fn push_number(text: &mut Vec<u8>, number: u64) -> Result<(), AllocError>
     text.extend_from_slice(digits.as_bytes())
 }
 
-/// How many changed blocks there were of each kind, and how many there are now.
+/// How many changed blocks there were of each kind, and how many there are now; and how many groups' configurations
+/// change.
 pub(crate) fn change_counts_lines(
     alloc: Global,
     form: Form,
     counts: ChangeCounts,
+    groups: usize,
 ) -> Result<Vec<u8>, AllocError>
-    ensures { IfOk result (λ lines. lines.items ≡ written_change_counts form counts) }
+    ensures { IfOk result (λ lines. lines.items ≡ written_change_counts form counts groups) }
 {
     match form {
-        Form::Text => change_counts_fields(alloc, counts),
-        Form::Json => change_counts_object(alloc, counts),
+        Form::Text => change_counts_fields(alloc, counts, groups),
+        Form::Json => change_counts_object(alloc, counts, groups),
     }
 }
 
-fn change_counts_fields(alloc: Global, counts: ChangeCounts) -> Result<Vec<u8>, AllocError>
-    ensures { IfOk result (λ text. text.items ≡ change_counts_text counts) }
+fn change_counts_fields(
+    alloc: Global,
+    counts: ChangeCounts,
+    groups: usize,
+) -> Result<Vec<u8>, AllocError>
+    ensures { IfOk result (λ text. text.items ≡ change_counts_text counts groups) }
 {
     let ChangeCounts { before, after } = counts;
     let mut text = Vec::new(alloc);
     push_change_count(&mut text, "registered", before.registered, after.registered)?;
-    push_change_count(&mut text, "not-registered", before.not_registered, after.not_registered)?;
+    push_change_count(
+        &mut text,
+        "not-registered",
+        before.not_registered,
+        after.not_registered,
+    )?;
     push_change_count(&mut text, "hole", before.holes, after.holes)?;
+    push_count(&mut text, "group", groups as u64)?;
     Ok(text)
 }
 
 /// Appends the line of a count before and a count after.
-fn push_change_count(text: &mut Vec<u8>, kind: &str, before: u64, after: u64) -> Result<(), AllocError>
+fn push_change_count(
+    text: &mut Vec<u8>,
+    kind: &str,
+    before: u64,
+    after: u64,
+) -> Result<(), AllocError>
     ensures { OnOk result (text.new.items ≡ text.old.items ++ ended (change_count_text kind.now before after)) }
 {
     text.extend_from_slice(kind.as_bytes())?;

@@ -2,7 +2,7 @@
 //! over any files and streams. Each line is written as it is found, and none is kept.
 //!
 //! In reading order: `asking` (what is asked, and the words that ask it), `listed_blocks`, `told_changes` (the two
-//! commands), `block_lines`, `change_lines` (the sinks that write), `lines` and `objects` (a line as text and as JSON),
+//! commands), `block_lines`, `change_lines` (the sinks that write), `ending`, `lines` and `objects` (a line as text and as JSON),
 //! `counts`, `opening`, `refusal`,
 //! `stop`, `end`.
 #![tactic(auto)]
@@ -12,6 +12,7 @@ mod block_lines;
 mod change_lines;
 mod counts;
 mod end;
+mod ending;
 mod lines;
 mod listed_blocks;
 mod objects;

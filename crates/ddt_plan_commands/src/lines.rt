@@ -1,14 +1,13 @@
 //! A block, a change and the counts of either, as lines of fields that a tab divides. What appends fails only if out of
 //! memory.
 
-ghost use Rattle.std.specs.Prelude.{◌≡◌, ◌++◌, codes, IfOk, OnOk};
-ghost use Rattle.ddt_text.specs.Written.{written_locator, written_prefix};
-ghost use Rattle.ddt_lines.specs.Lines.{ended, outcome_text, spaced};
-ghost use Rattle.ddt_plan_commands.specs.Lines.{block_text, change_text, outcome_field};
+ghost use Rattle.std.specs.Prelude.{◌≡◌, ◌++◌, IfOk, OnOk};
+ghost use Rattle.ddt_lines.specs.Lines.{ended};
+ghost use Rattle.ddt_plan_commands.specs.Lines.{block_text, change_text, group_text, kind_word as kind_word_of, outcome_field};
 
-
-use ddt_path::{LocatorSet, Outcome, Prefix};
-use ddt_plan::{Block, Change};
+use ddt_lines::push_outcome;
+use ddt_path::Outcome;
+use ddt_plan::{Block, Change, GroupChange, GroupChangeKind};
 use ddt_text::write_prefix;
 use std::alloc::{AllocError, Global};
 
@@ -43,50 +42,25 @@ fn push_field(line: &mut Vec<u8>, outcome: &Outcome) -> Result<(), AllocError>
     push_outcome(line, outcome)
 }
 
-/// TEMPORARY
-fn push_outcome(line: &mut Vec<u8>, outcome: &Outcome) -> Result<(), AllocError>
-    ensures { OnOk result (line.new.items ≡ line.old.items ++ outcome_text outcome.now) }
+/// `group`, a tab, the name, a tab, and how its configuration changes.
+pub(crate) fn group_fields(alloc: Global, change: &GroupChange) -> Result<Vec<u8>, AllocError>
+    ensures { IfOk result (λ line. line.items ≡ ended (group_text change.now)) }
 {
-    match outcome {
-        Outcome::Registered { prefix, servers } => {
-            push_served(line, "registered ", *prefix, servers)
-        },
-        Outcome::NotRegistered { prefix, servers } => {
-            push_served(line, "not-registered ", *prefix, servers)
-        },
-        Outcome::Hole { prefix } => {
-            line.extend_from_slice(b"hole ")?;
-            write_prefix(line, *prefix)
-        },
+    let mut line = Vec::from_slice(alloc, b"group\t")?;
+    line.extend_from_slice(change.name.as_bytes())?;
+    line.push(b'\t')?;
+    line.extend_from_slice(kind_word(change.kind).as_bytes())?;
+    line.push(b'\n')?;
+    Ok(line)
+}
+
+/// How the configuration of a group changes, in a word.
+pub(crate) fn kind_word(kind: GroupChangeKind) -> &'static str
+    ensures { result.now ≡ kind_word_of kind }
+{
+    match kind {
+        GroupChangeKind::Added => "added",
+        GroupChangeKind::Removed => "removed",
+        GroupChangeKind::Changed => "changed",
     }
-}
-
-/// Appends a word, the prefix, and each server behind a blank.
-fn push_served(
-    line: &mut Vec<u8>,
-    word: &str,
-    prefix: Prefix,
-    servers: &LocatorSet,
-) -> Result<(), AllocError>
-    ensures { OnOk result (line.new.items ≡ line.old.items ++ (word.now ++ written_prefix prefix ++ spaced servers.now)) }
-{
-    line.extend_from_slice(word.as_bytes())?;
-    write_prefix(line, prefix)?;
-    push_spaced(line, servers.as_slice())
-}
-
-fn push_spaced(line: &mut Vec<u8>, locators: &[ddt_path::Locator]) -> Result<(), AllocError>
-    ensures { OnOk result (line.new.items ≡ line.old.items ++ spaced locators.now) }
-{
-    for locator in locators {
-        push_one(line, *locator)?;
-    }
-    Ok(())
-}
-
-fn push_one(line: &mut Vec<u8>, locator: ddt_path::Locator) -> Result<(), AllocError>
-    ensures { OnOk result (line.new.items ≡ line.old.items ++ codes " " ++ written_locator locator) }
-{
-    line.push(b' ')?;
-    ddt_text::write_locator(line, locator)
 }

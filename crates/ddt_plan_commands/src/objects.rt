@@ -7,17 +7,20 @@ ghost use Rattle.serde_json.specs.Written.{compact_text, has_float};
 ghost use Rattle.ddt_lines.specs.Lines.{ended};
 ghost use Rattle.ddt_plan_commands.specs.Objects.{
   block_data,
+  cache_data,
   change_counts_data,
   change_data,
   counts_data,
+  group_data,
   outcome_data,
   prefix_data,
   server_data,
   server_items,
 };
 
-use ddt_path::{Locator, LocatorSet, Outcome, Prefix};
-use ddt_plan::{Block, Change, ChangeCounts, OutcomeCounts};
+use crate::lines::kind_word;
+use ddt_path::{Locator, LocatorSet, Name, Outcome, Prefix};
+use ddt_plan::{Block, Change, ChangeCounts, GroupChange, OutcomeCounts};
 use ddt_text::{write_locator, write_prefix};
 use serde_json::{Value, json};
 use std::alloc::{AllocError, Global};
@@ -69,19 +72,53 @@ pub(crate) fn counts_object(alloc: Global, counts: OutcomeCounts) -> Result<Vec<
 pub(crate) fn change_counts_object(
     alloc: Global,
     counts: ChangeCounts,
+    groups: usize,
 ) -> Result<Vec<u8>, AllocError>
-    ensures { IfOk result (λ line. line.items ≡ ended (compact_text (change_counts_data counts))) }
+    ensures { IfOk result (λ line. line.items ≡ ended (compact_text (change_counts_data counts groups))) }
 {
-    let value = change_counts_value(alloc, counts)?;
+    let value = change_counts_value(alloc, counts, groups)?;
     line_of(alloc, &value)
 }
 
-fn change_counts_value(alloc: Global, counts: ChangeCounts) -> Result<Value, AllocError>
-    ensures { IfOk result (λ v. view v ≡ change_counts_data counts) }
+fn change_counts_value(
+    alloc: Global,
+    counts: ChangeCounts,
+    groups: usize,
+) -> Result<Value, AllocError>
+    ensures { IfOk result (λ v. view v ≡ change_counts_data counts groups) }
 {
     let before = counts_value(alloc, counts.before)?;
     let after = counts_value(alloc, counts.after)?;
-    json!(in alloc; {"before": before, "after": after})
+    json!(in alloc; {"before": before, "after": after, "groups": groups})
+}
+
+/// The line of a group whose configuration changes.
+pub(crate) fn group_object(alloc: Global, change: &GroupChange) -> Result<Vec<u8>, AllocError>
+    ensures { IfOk result (λ line. line.items ≡ ended (compact_text (group_data change.now))) }
+{
+    let value = group_value(alloc, change)?;
+    line_of(alloc, &value)
+}
+
+fn group_value(alloc: Global, change: &GroupChange) -> Result<Value, AllocError>
+    ensures { IfOk result (λ v. view v ≡ group_data change.now) }
+{
+    let name = name_value(alloc, change.name)?;
+    json!(in alloc; {"group": name, "configuration": kind_word(change.kind)})
+}
+
+/// The line of how many seconds caches hold something.
+pub(crate) fn cache_object(alloc: Global, held: &str, seconds: u64) -> Result<Vec<u8>, AllocError>
+    ensures { IfOk result (λ line. line.items ≡ ended (compact_text (cache_data held.now seconds))) }
+{
+    let value = cache_value(alloc, held, seconds)?;
+    line_of(alloc, &value)
+}
+
+fn cache_value(alloc: Global, held: &str, seconds: u64) -> Result<Value, AllocError>
+    ensures { IfOk result (λ v. view v ≡ cache_data held.now seconds) }
+{
+    json!(in alloc; {"caches": held, "seconds": seconds})
 }
 
 /// The kind, the prefix and the servers of an outcome; a hole has no servers.
@@ -118,6 +155,14 @@ fn prefix_value(alloc: Global, prefix: Prefix) -> Result<Value, AllocError>
     Ok(string_value(text))
 }
 
+#[tactic(auto, using(ddt_text::specs::laws::Ascii::utf8_name))]
+fn name_value(alloc: Global, name: Name) -> Result<Value, AllocError>
+    ensures { IfOk result (λ v. view v ≡ string name) }
+{
+    let text = Vec::from_slice(alloc, name.as_bytes())?;
+    Ok(string_value(text))
+}
+
 fn server_values(alloc: Global, servers: &[Locator]) -> Result<Vec<Value>, AllocError>
     ensures { IfOk result (λ values. items_view values.items ≡ server_items servers.now) }
 {
@@ -128,7 +173,7 @@ fn server_values(alloc: Global, servers: &[Locator]) -> Result<Vec<Value>, Alloc
     Ok(values)
 }
 
-#[tactic(auto, using(crate::proofs::AsciiLemmas::utf8_locator))]
+#[tactic(auto, using(ddt_text::specs::laws::Ascii::utf8_locator))]
 fn server_value(alloc: Global, server: Locator) -> Result<Value, AllocError>
     ensures { IfOk result (λ v. view v ≡ server_data server) }
 {

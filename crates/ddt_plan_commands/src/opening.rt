@@ -1,5 +1,11 @@
 //! The register of a path, and a prefix of a word.
 
+ghost use Rattle.std.specs.Prelude.{◌≡◌, ◌≢◌, List, ℕ, Ok, Err, None, Some, IfOk, IfErr};
+ghost use Rattle.ddt_text.specs.FirstFault.{prefix_in};
+ghost use Rattle.ddt_check.specs.Rules.{IsAccepted};
+ghost use Rattle.ddt_commands.specs.Register.{HasBytes, Spell};
+ghost use Rattle.ddt_plan_commands.specs.Refusals.{IsWhyUnopened, bad_prefix};
+
 use crate::refusal::PlanRefusal;
 use ddt_check::Accepted;
 use ddt_commands::register_at;
@@ -7,12 +13,6 @@ use ddt_path::Prefix;
 use ddt_text::parse_prefix;
 use std::alloc::Global;
 use std::io::Read;
-
-ghost use Rattle.std.specs.Prelude.{◌≡◌, ◌≢◌, List, ℕ, Ok, Err, None, Some, IfOk, IfErr};
-ghost use Rattle.ddt_text.specs.FirstFault.{prefix_in};
-ghost use Rattle.ddt_check.specs.Rules.{IsAccepted};
-ghost use Rattle.ddt_commands.specs.Register.{HasBytes, Spell};
-ghost use Rattle.ddt_plan_commands.specs.Refusals.{IsWhyUnopened, bad_prefix};
 
 /// The accepted register of a source that could be opened, or why there is none.
 pub fn register_of<F: Read + Drop>(

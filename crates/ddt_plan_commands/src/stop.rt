@@ -68,7 +68,6 @@ impl From<PlanFault<LineFault>> for Stop<'_> {
             PlanFault::Memory | PlanFault::Refused(LineFault::Memory) => {
                 Stop::Refused(PlanRefusal::OutOfMemory)
             }
-            PlanFault::Refused(LineFault::CountFull) => Stop::Refused(PlanRefusal::CountFull),
             PlanFault::Refused(LineFault::Unprinted) => Stop::Unprinted,
         }
     }

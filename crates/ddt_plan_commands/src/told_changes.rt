@@ -1,19 +1,33 @@
 //! `diff OLD NEW`: what a change of a register changes.
 
-use crate::asking::DiffAsked;
+ghost use Rattle.std.specs.Prelude.{◌≡◌, ◌||◌, Bool, false, [], IfOk, IfErr};
+ghost use Rattle.std.specs.Fn.{FnReturnsAt};
+ghost use Rattle.ddt_commands.specs.Running.{HasText};
+ghost use Rattle.ddt_plan_commands.specs.declared.end.End.TheVariants.{Refused as IsRefused};
+ghost use Rattle.ddt_plan_commands.specs.declared.stop.Stop.TheVariants.{Refused as StopsRefused};
+ghost use Rattle.ddt_plan_commands.specs.Answers.{HasFront, IsAnyDiff, IsChangeCountsText, IsChangesText, IsDiffAnswer, IsDiffText};
+ghost use Rattle.ddt_plan_commands.specs.Counted.{has_counted as has_counted_of};
+ghost use Rattle.ddt_plan_commands.specs.Ends.{diff_end as diff_end_of};
+ghost use Rattle.ddt_plan_commands.specs.Refusals.{HasRefused, IsWhyNoDiff, IsWhyUnwritten};
+ghost use Rattle.ddt_plan_commands.specs.Written.{has_some};
+
+use crate::asking::{DiffAsked, Form};
 use crate::change_lines::ChangeLines;
 use crate::counts::change_counts_lines;
 use crate::end::End;
-use crate::opening::{prefix_of, register_of};
+use crate::ending::ending;
+use crate::opening::register_of;
 use crate::stop::Stop;
+use ddt_check::Accepted;
 use ddt_lines::print;
-use ddt_plan::{ChangeCounts, changes};
+use ddt_path::{Locator, Prefix, Xeid};
+use ddt_plan::{ChangeCounts, GroupChange, OutcomeCounts, Reading, changes, group_changes};
 use std::alloc::Global;
 use std::io::{Read, Write};
 
 /// Writes a line for each block whose assignment changes from one register to the other, in the order of their digits,
-/// or how many there are of each kind; then which groups' configurations change, and how long caches may answer the old
-/// way. `open_file` gives a file, or None where it can't be opened. The writer is given back.
+/// and behind them which groups' configurations change, and for how long caches may answer the old way; or how many
+/// there are of each kind. `open_file` gives a file, or None where it can't be opened. The writer is given back.
 pub fn run_diff<F, O, W, E>(
     alloc: Global,
     asked: &DiffAsked<'_>,
@@ -27,44 +41,177 @@ where
     W: Write + Drop,
     E: Write,
     requires { O.IsAlwaysCallable open_file }
+    ensures answered { (differs : Bool) → result.0 ≡ diff_end_of differs
+        → HasText (IsDiffAnswer (FnReturnsAt O.Fn open_file) F.remaining asked.now differs)
+        (W.contents out) (W.contents result.1) }
+    ensures front { HasFront (IsAnyDiff (FnReturnsAt O.Fn open_file) F.remaining asked.now)
+        (W.contents out) (W.contents result.1) }
+    ensures refused { result.0 ≡ IsRefused
+        → HasRefused (IsWhyNoDiff (FnReturnsAt O.Fn open_file) F.remaining asked.now)
+        (E.contents err.old) (E.contents err.new) }
 {
     let mut lines = ChangeLines {
         alloc,
         form: asked.form,
-        counts: ChangeCounts::default(),
+        some: false,
+        negative: false,
         out,
     };
-    let end = match write_changes(alloc, asked, open_file, &mut lines) {
-        Ok(()) if lines.counts == ChangeCounts::default() => End::Answered,
-        Ok(()) => End::Different,
+    let answered = write_changes(alloc, asked, open_file, &mut lines);
+    let ChangeLines { out, .. } = lines;
+    let end = match answered {
+        Ok(differs) => diff_end(differs),
         Err(stop) => stop.told(alloc, err),
     };
-    let ChangeLines { out, .. } = lines;
     (end, out)
 }
 
-/// Writes the answer, and flushes the writer.
+fn diff_end(differs: bool) -> End
+    ensures { result ≡ diff_end_of differs }
+{
+    if differs {
+        End::Different
+    } else {
+        End::Answered
+    }
+}
+
+/// Writes the answer, flushes the writer, and says whether anything differs.
 fn write_changes<'a, F, O, W>(
     alloc: Global,
     asked: &DiffAsked<'a>,
     open_file: O,
     lines: &mut ChangeLines<W>,
-) -> Result<(), Stop<'a>>
+) -> Result<bool, Stop<'a>>
 where
     F: Read + Drop,
     O: Fn(&str) -> Option<F> + Drop,
     W: Write + Drop,
-    requires { O.IsAlwaysCallable open_file }
+    requires opens { O.IsAlwaysCallable open_file }
+    requires form { lines.old.form ≡ asked.now.form }
+    requires some { lines.old.some ≡ false }
+    requires negative { lines.old.negative ≡ false }
+    ensures whole { IfOk result (λ differs.
+        HasText (IsDiffAnswer (FnReturnsAt O.Fn open_file) F.remaining asked.now differs)
+        (W.contents lines.old.out) (W.contents lines.new.out)) }
+    ensures front { HasFront (IsAnyDiff (FnReturnsAt O.Fn open_file) F.remaining asked.now)
+        (W.contents lines.old.out) (W.contents lines.new.out) }
+    ensures refused { IfErr result (λ stop. (why : _) → stop ≡ StopsRefused why
+        → IsWhyNoDiff (FnReturnsAt O.Fn open_file) F.remaining asked.now why) }
 {
     let before = register_of(alloc, open_file(asked.before), asked.before)?;
     let after = register_of(alloc, open_file(asked.after), asked.after)?;
-    let everything = prefix_of("*")?;
-    if asked.counted {
-        changes(alloc, asked.reading, &before, &after, everything, &mut lines.counts)?;
-        print(&change_counts_lines(alloc, asked.form, lines.counts)?, &mut lines.out)?;
-    } else {
-        changes(alloc, asked.reading, &before, &after, everything, lines)?;
-    }
+    let differs = write_between(alloc, asked, &before, &after, lines)?;
     lines.out.flush()?;
-    Ok(())
+    Ok(differs)
+}
+
+/// Writes what is asked of the changes from one register to another, and says whether anything differs.
+fn write_between<W: Write + Drop>(
+    alloc: Global,
+    asked: &DiffAsked<'_>,
+    before: &Accepted,
+    after: &Accepted,
+    lines: &mut ChangeLines<W>,
+) -> Result<bool, Stop<'static>>
+    requires form { lines.old.form ≡ asked.now.form }
+    requires some { lines.old.some ≡ false }
+    requires negative { lines.old.negative ≡ false }
+    ensures whole { IfOk result (λ differs. HasText (IsDiffText asked.now before.now after.now differs)
+        (W.contents lines.old.out) (W.contents lines.new.out)) }
+    ensures front { HasFront (λ text. (differs : Bool) × IsDiffText asked.now before.now after.now differs text)
+        (W.contents lines.old.out) (W.contents lines.new.out) }
+    ensures refused { IfErr result IsWhyUnwritten }
+{
+    if asked.counted {
+        count_changes(
+            alloc,
+            asked.reading,
+            asked.form,
+            before,
+            after,
+            &mut lines.out,
+        )
+    } else {
+        list_changes(alloc, asked.reading, before, after, lines)
+    }
+}
+
+/// Writes the line of each change, and what stands behind them.
+fn list_changes<W: Write + Drop>(
+    alloc: Global,
+    reading: Reading,
+    before: &Accepted,
+    after: &Accepted,
+    lines: &mut ChangeLines<W>,
+) -> Result<bool, Stop<'static>>
+    requires some { lines.old.some ≡ false }
+    requires negative { lines.old.negative ≡ false }
+    ensures whole { IfOk result (λ differs.
+        HasText (IsChangesText reading lines.old.form before.now after.now differs)
+        (W.contents lines.old.out) (W.contents lines.new.out)) }
+    ensures front { HasFront (λ text. (differs : Bool)
+        × IsChangesText reading lines.old.form before.now after.now differs text)
+        (W.contents lines.old.out) (W.contents lines.new.out) }
+    ensures refused { IfErr result IsWhyUnwritten }
+{
+    let groups = group_changes(alloc, before, after)?;
+    changes(alloc, reading, before, after, everything(), lines)?;
+    let groups = groups.as_slice();
+    let differs = is_different(lines.some, groups);
+    let ending = ending(alloc, lines.form, differs, lines.negative, groups)?;
+    print(&ending, &mut lines.out)?;
+    Ok(differs)
+}
+
+/// Writes how many changes there are of each kind.
+fn count_changes<W: Write>(
+    alloc: Global,
+    reading: Reading,
+    form: Form,
+    before: &Accepted,
+    after: &Accepted,
+    out: &mut W,
+) -> Result<bool, Stop<'static>>
+    ensures whole { IfOk result (λ differs.
+        HasText (IsChangeCountsText reading form before.now after.now differs)
+        (W.contents out.old) (W.contents out.new)) }
+    ensures front { HasFront (λ text. (differs : Bool)
+        × IsChangeCountsText reading form before.now after.now differs text)
+        (W.contents out.old) (W.contents out.new) }
+    ensures refused { IfErr result IsWhyUnwritten }
+{
+    let groups = group_changes(alloc, before, after)?;
+    let groups = groups.as_slice();
+    let mut counts = ChangeCounts::default();
+    changes(alloc, reading, before, after, everything(), &mut counts)?;
+    print(
+        &change_counts_lines(alloc, form, counts, groups.len())?,
+        out,
+    )?;
+    Ok(is_different(has_counted(counts.before), groups))
+}
+
+/// Whether there are changes, or groups that change.
+fn is_different(some: bool, groups: &[GroupChange]) -> bool
+    ensures { result ≡ (some || has_some groups.now) }
+{
+    some || !groups.is_empty()
+}
+
+fn has_counted(counts: OutcomeCounts) -> bool
+    ensures { result ≡ has_counted_of counts }
+{
+    counts.holes > 0 || counts.registered > 0 || counts.not_registered > 0
+}
+
+/// The prefix of everything.
+fn everything() -> Prefix
+    ensures { result ≡ [] }
+{
+    let any = Xeid {
+        iid: 0,
+        address: Locator::V4(0),
+    };
+    Prefix::cut(any, 0)
 }

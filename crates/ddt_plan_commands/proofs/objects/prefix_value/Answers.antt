@@ -1,4 +1,4 @@
-use Rattle.ddt_plan_commands.proofs.AsciiLemmas.{utf8_prefix}
+use Rattle.ddt_text.specs.laws.Ascii.{utf8_prefix}
 use Rattle.ddt_plan_commands.proofs.objects.prefix_value.Goals as goal
 
 pub string_value-requires : goal.string_value-requires

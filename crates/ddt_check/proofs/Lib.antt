@@ -5,6 +5,8 @@ pub mod NegativeLemmas
 pub mod FreeLemmas
 pub mod LeastLemmas
 pub mod NameLemmas
+pub mod EntryKinds
+pub mod EntryLemmas
 pub mod ColumnLemmas
 pub mod WrongLemmas
 pub mod RuleLemmas

@@ -1,4 +1,6 @@
 pub mod Zones
+pub mod FormOrder
+pub mod Fronts
 pub mod Rules
 pub mod Order
 pub mod Sorted

@@ -7,13 +7,9 @@ use Rattle.ddt_register.specs.declared.register.Register.{Register}
 use Rattle.ddt_check.specs.declared.fault.Rule.{Rule}
 use Rattle.ddt_check.specs.declared.fault.Rule.TheVariants as rules
 use Rattle.ddt_check.specs.declared.checking.Found.{Found}
+use Rattle.ddt_check.specs.declared.frames.ZoneRows.{ZoneRows}
+use Rattle.ddt_check.specs.declared.frames.GroupRows.{GroupRows}
 use Rattle.ddt_check.specs.Rules.{IsLeastRow, broken, rule_number}
-
--- the lists of a register in another order
-pub record AreReordered (r : Register) (zones : List Zone) (sites : List Site) (groups : List Group) : Type 0 where
-  pub same_zones : IsPermutation r.zones zones
-  pub same_sites : IsPermutation r.sites sites
-  pub same_groups : IsPermutation r.groups groups
 
 -- a rule is broken at no row
 abbrev pub IsKept : Register → Rule → Type 0
@@ -27,16 +23,28 @@ AreEarlierKept r rule = (earlier : Rule) (n : ℕ) → rule_number earlier < rul
 abbrev pub IsLeastOfZones : List Zone → Rule → Option ℕ → Type 0
 IsLeastOfZones zones rule row = (r : Register) → IsPermutation r.zones zones → IsLeastRow (broken r rule) row
 
--- the same of groups, and of zones with groups
-abbrev pub IsLeastOfGroups : List Group → Rule → Option ℕ → Type 0
-IsLeastOfGroups groups rule row = (r : Register) → IsPermutation r.groups groups → IsLeastRow (broken r rule) row
-
+-- the same of zones with groups
 abbrev pub IsLeastOfBoth : List Zone → List Group → Rule → Option ℕ → Type 0
 IsLeastOfBoth zones groups rule row =
     (r : Register) → IsPermutation r.zones zones → IsPermutation r.groups groups → IsLeastRow (broken r rule) row
 
--- the rows that are found before the other rules are looked at are the least ones
+-- the rows that are found of zones and of groups are the least ones
+pub record AreZoneRows (r : Register) (rows : ZoneRows) : Type 0 where
+  pub duplicate : IsLeastRow (broken r rules.DuplicateZone) rows.duplicate
+  pub below : IsLeastRow (broken r rules.BelowMapServer) rows.below
+  pub outside : IsKept r rules.DuplicateZone → IsKept r rules.BelowMapServer
+      → IsLeastRow (broken r rules.SiteOutside) rows.outside
+
+pub record AreGroupRows (r : Register) (rows : GroupRows) : Type 0 where
+  pub unknown : IsLeastRow (broken r rules.UnknownGroup) rows.unknown
+  pub role : IsLeastRow (broken r rules.Role) rows.role
+  pub duplicate : IsLeastRow (broken r rules.DuplicateGroup) rows.duplicate
+
+-- the same of all rules
 pub record AreLeast (r : Register) (found : Found) : Type 0 where
   pub root : IsLeastRow (broken r rules.NoRoot) found.root
   pub etrs : IsLeastRow (broken r rules.TooManyEtrs) found.etrs
   pub locators : IsLeastRow (broken r rules.Locators) found.locators
+  pub duplicate_site : IsLeastRow (broken r rules.DuplicateSite) found.duplicate_site
+  pub zones : AreZoneRows r found.zones
+  pub groups : AreGroupRows r found.groups

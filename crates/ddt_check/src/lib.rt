@@ -1,20 +1,23 @@
 //! The check of a register, and what an accepted one says: which Map-Servers or which hole it assigns to an
 //! identifier, and what an honest server answers.
 //!
-//! In reading order: `fault`, `accepted`, `checking` (with `sorting` and `rules` below it), `assigning` (with
-//! `lookup` and `holes` below it), `saying`, `laws`.
+//! In reading order: `fault`, `accepted`, `checking` (with `frames`, `entries`, `keyed`, `fronts` and `rules` below it),
+//! `assigning` (with `lookup` and `holes` below it), `saying`, `laws`.
 #![tactic(auto)]
 
 mod accepted;
 mod assigning;
 mod checking;
+mod entries;
 mod fault;
+mod frames;
+mod fronts;
 mod holes;
+mod keyed;
 mod laws;
 mod lookup;
 mod rules;
 mod saying;
-mod sorting;
 
 pub use accepted::{Accepted, Counts};
 pub use assigning::assign;

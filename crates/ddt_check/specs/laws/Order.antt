@@ -21,7 +21,7 @@ lt_part true same h = h
 lt_part false same h = refl
 
 module _ {A : Type 0} (key : A → List ℕ) (row : A → ℕ) where
-  in_order_total : IsTotalOrder (in_order key row)
+  pub in_order_total : IsTotalOrder (in_order key row)
   in_order_total = then_total (on_total key nat_list_cmp_total) (on_total row nat_cmp_total)
 
   order_cases : (a b : A) (o : Ordering) → slice_cmp nat_cmp (key b) (key a) ≡ o

@@ -1,7 +1,7 @@
 //! The rules that a site may break. The count of ETRs is looked at in the order of rows. Whether a site is outside is
 //! asked of zones that are sorted by their prefixes, then by their rows.
 
-ghost use Rattle.std.specs.Prelude.{◌≡◌, ◌&&◌, IsPermutation};
+ghost use Rattle.std.specs.Prelude.{◌≡◌, ◌&&◌, IsPermutation, map};
 ghost use Rattle.ddt_path.specs.Covers.{covers};
 ghost use Rattle.ddt_register.specs.declared.register.Register.{Register as ARegister};
 ghost use Rattle.ddt_register.specs.Rows.{first_row as first_row_of};
@@ -11,6 +11,7 @@ ghost use Rattle.ddt_check.specs.Zones.{is_ms as is_ms_of};
 ghost use Rattle.ddt_check.specs.Order.{AreZonesInOrder};
 ghost use Rattle.ddt_check.specs.Sorted.{IsKept};
 
+use crate::entries::Entry;
 use crate::fault::Rule;
 use crate::rules::least_row;
 use ddt_path::{MOST_LOCATORS, Role};
@@ -38,24 +39,24 @@ fn is_right(z: &Zone, s: &Site) -> bool
 
 /// Whether the longest zone of a site isn't of Map-Servers. Where each prefix has one zone, and none is below one of
 /// Map-Servers, the last zone that stands up to the site's prefix tells.
-fn is_outside(zones: &[Zone], s: &Site) -> bool
-    requires { AreZonesInOrder zones.now }
-    ensures { (r : ARegister) → IsPermutation r.zones zones.now → IsKept r Rule.DuplicateZone
+fn is_outside(zones: &[Entry<Zone>], s: &Site) -> bool
+    requires { AreZonesInOrder (map (λ e. e.item.now) zones.now) }
+    ensures { (r : ARegister) → IsPermutation r.zones (map (λ e. e.item.now) zones.now) → IsKept r Rule.DuplicateZone
         → IsKept r Rule.BelowMapServer
         → result ≡ is_outside_of r s.now }
 {
-    let after = zones.partition_point(|z| z.prefix <= s.prefix);
+    let after = zones.partition_point(|e| e.item.prefix <= s.prefix);
     if after == 0 {
         return true;
     }
-    !is_right(&zones[after - 1], s)
+    !is_right(zones[after - 1].item, s)
 }
 
 /// The least row of a site whose longest covering zone isn't of Map-Servers.
-pub fn outside(sites: &[Site], zones: &[Zone]) -> Option<u32>
-    requires { AreZonesInOrder zones.now }
-    ensures { (r : ARegister) → IsPermutation r.sites sites.now → IsPermutation r.zones zones.now
-        → IsKept r Rule.DuplicateZone → IsKept r Rule.BelowMapServer → IsLeastRow (broken r Rule.SiteOutside) result }
+pub fn outside(sites: &[Site], zones: &[Entry<Zone>]) -> Option<u32>
+    requires { AreZonesInOrder (map (λ e. e.item.now) zones.now) }
+    ensures { (r : ARegister) → IsPermutation r.sites sites.now
+        → IsPermutation r.zones (map (λ e. e.item.now) zones.now) → IsKept r Rule.DuplicateZone → IsKept r Rule.BelowMapServer → IsLeastRow (broken r Rule.SiteOutside) result }
 {
     least_row(sites, |s| is_outside(zones, s))
 }

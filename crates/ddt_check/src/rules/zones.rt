@@ -1,7 +1,7 @@
 //! The rules that a zone may break. A root is looked for in the order of rows; the other rules see zones that are
 //! sorted by their prefixes, then by their rows.
 
-ghost use Rattle.std.specs.Prelude.{◌≡◌, ◌&&◌, not, false, IsPermutation};
+ghost use Rattle.std.specs.Prelude.{◌≡◌, ◌&&◌, not, false, IsPermutation, map};
 ghost use Rattle.std.specs.List.{list_any};
 ghost use Rattle.std.specs.Option.{option_map, option_map_or, option_copied};
 ghost use Rattle.ddt_path.specs.Covers.{covers, is_strictly_below};
@@ -14,6 +14,7 @@ ghost use Rattle.ddt_check.specs.Order.{AreZonesInOrder, AreGroupsInOrder};
 ghost use Rattle.ddt_check.specs.Zones.{is_ms as is_ms_zone, group_named as group_of_name};
 ghost use Rattle.ddt_check.specs.Sorted.{IsLeastOfZones, IsLeastOfBoth};
 
+use crate::entries::Entry;
 use crate::fault::Rule;
 use crate::rules::{least_row, lower};
 use ddt_path::{Name, Role};
@@ -84,13 +85,14 @@ fn is_top(top: Option<&Zone>, z: &Zone) -> bool
 
 /// The least row of a zone strictly below a zone of Map-Servers. What a zone holds follows it in this order, so it is
 /// enough to keep the widest zone of Map-Servers that may still hold what comes.
-pub fn below_map_server(zones: &[Zone]) -> Option<u32>
-    requires { AreZonesInOrder zones.now }
-    ensures { IsLeastOfZones zones.now Rule.BelowMapServer result }
+pub fn below_map_server(entries: &[Entry<Zone>]) -> Option<u32>
+    requires { AreZonesInOrder (map (λ e. e.item.now) entries.now) }
+    ensures { IsLeastOfZones (map (λ e. e.item.now) entries.now) Rule.BelowMapServer result }
 {
     let mut least = None;
     let mut top: Option<&Zone> = None;
-    for z in zones {
+    for entry in entries {
+        let z = entry.item;
         if is_under(top, z) {
             least = Some(lower(least, z.row));
         }
@@ -102,37 +104,41 @@ pub fn below_map_server(zones: &[Zone]) -> Option<u32>
 }
 
 /// The first group row of a name.
-fn group_named(groups: &[Group], name: Name) -> Option<&Group>
-    requires { AreGroupsInOrder groups.now }
-    ensures { (r : ARegister) → IsPermutation r.groups groups.now → option_copied result ≡ group_of_name r name }
+fn group_named<'a>(groups: &[Entry<'a, Group>], name: Name) -> Option<&'a Group>
+    requires { AreGroupsInOrder (map (λ e. e.item.now) groups.now) }
+    ensures { (r : ARegister) → IsPermutation r.groups (map (λ e. e.item.now) groups.now)
+        → option_copied result ≡ group_of_name r name }
 {
-    let at = groups.partition_point(|g| g.name < name);
-    if at < groups.len() && groups[at].name == name {
-        return Some(&groups[at]);
+    let at = groups.partition_point(|e| e.item.name < name);
+    if at < groups.len() {
+        let group = groups[at].item;
+        if group.name == name {
+            return Some(group);
+        }
     }
     None
 }
 
 /// Whether no row defines a zone's group.
-fn is_of_unknown_group(groups: &[Group], z: &Zone) -> bool
-    requires { AreGroupsInOrder groups.now }
-    ensures { (r : ARegister) → IsPermutation r.groups groups.now → result ≡ is_of_unknown r z.now }
+fn is_of_unknown_group(groups: &[Entry<Group>], z: &Zone) -> bool
+    requires { AreGroupsInOrder (map (λ e. e.item.now) groups.now) }
+    ensures { (r : ARegister) → IsPermutation r.groups (map (λ e. e.item.now) groups.now) → result ≡ is_of_unknown r z.now }
 {
     group_named(groups, z.group).is_none()
 }
 
 /// The least row of a zone whose group has no row.
-pub fn of_unknown_group(zones: &[Zone], groups: &[Group]) -> Option<u32>
-    requires { AreGroupsInOrder groups.now }
-    ensures { IsLeastOfBoth zones.now groups.now Rule.UnknownGroup result }
+pub fn of_unknown_group(zones: &[Zone], groups: &[Entry<Group>]) -> Option<u32>
+    requires { AreGroupsInOrder (map (λ e. e.item.now) groups.now) }
+    ensures { IsLeastOfBoth zones.now (map (λ e. e.item.now) groups.now) Rule.UnknownGroup result }
 {
     least_row(zones, |z| is_of_unknown_group(groups, z))
 }
 
 /// Whether a zone's group is of the other kind.
-fn is_of_other_role(groups: &[Group], z: &Zone) -> bool
-    requires { AreGroupsInOrder groups.now }
-    ensures { (r : ARegister) → IsPermutation r.groups groups.now → result ≡ is_of_other r z.now }
+fn is_of_other_role(groups: &[Entry<Group>], z: &Zone) -> bool
+    requires { AreGroupsInOrder (map (λ e. e.item.now) groups.now) }
+    ensures { (r : ARegister) → IsPermutation r.groups (map (λ e. e.item.now) groups.now) → result ≡ is_of_other r z.now }
 {
     match group_named(groups, z.group) {
         Some(group) => group.kind != z.kind,
@@ -141,9 +147,9 @@ fn is_of_other_role(groups: &[Group], z: &Zone) -> bool
 }
 
 /// The least row of a zone whose group is of the other kind.
-pub fn of_other_role(zones: &[Zone], groups: &[Group]) -> Option<u32>
-    requires { AreGroupsInOrder groups.now }
-    ensures { IsLeastOfBoth zones.now groups.now Rule.Role result }
+pub fn of_other_role(zones: &[Zone], groups: &[Entry<Group>]) -> Option<u32>
+    requires { AreGroupsInOrder (map (λ e. e.item.now) groups.now) }
+    ensures { IsLeastOfBoth zones.now (map (λ e. e.item.now) groups.now) Rule.Role result }
 {
     least_row(zones, |z| is_of_other_role(groups, z))
 }

@@ -6,9 +6,9 @@ use Rattle.ddt_check.proofs.RuleLemmas.{up_to, same_at}
 use Rattle.ddt_check.proofs.checking.first_fault.Goals as goal
 
 pub returns-in-Some : goal.returns-in-Some
-returns-in-Some c = λ r moved found.
-    let so_far = c.loop-rule.invariant r moved found in
-    let f = c.in-Some.ensures r moved found (λ earlier n lt. so_far earlier n
+returns-in-Some c = λ r found.
+    let so_far = c.loop-rule.invariant r found in
+    let f = c.in-Some.ensures r found (λ earlier n lt. so_far earlier n
     (up_to earlier c.loop-rule.rule-index _ c.loop-rule-test.true lt)) in
     record {
       breaks = f.0;
@@ -17,9 +17,9 @@ returns-in-Some c = λ r moved found.
     }
 
 pub loop-rule-preserved : goal.loop-rule-preserved
-loop-rule-preserved c = λ r moved found earlier n le.
-    let so_far = c.loop-rule.invariant r moved found in
-    let f = c.in_default.ensures r moved found (λ earlier n lt. so_far earlier n
+loop-rule-preserved c = λ r found earlier n le.
+    let so_far = c.loop-rule.invariant r found in
+    let f = c.in_default.ensures r found (λ earlier n lt. so_far earlier n
     (up_to earlier c.loop-rule.rule-index _ c.loop-rule-test.true lt)) in
     elim (cases_lt c.loop-rule.rule-index (rule_number earlier)) [
       | inl here ↦ subst (λ (rule : Rule). broken r rule n ≡ false)

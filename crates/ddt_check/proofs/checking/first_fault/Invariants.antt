@@ -2,10 +2,10 @@ use Rattle.std.proofs.Common.{◌≡◌, ◌≤◌, ℕ, false}
 use Rattle.ddt_register.specs.declared.register.Register.{Register}
 use Rattle.ddt_check.specs.declared.fault.Rule.{Rule}
 use Rattle.ddt_check.specs.Rules.{broken, rule_number}
-use Rattle.ddt_check.specs.Sorted.{AreReordered, AreLeast}
+use Rattle.ddt_check.specs.Sorted.{AreLeast}
 use Rattle.ddt_check.proofs.checking.first_fault.Given as goal
 
 abbrev pub invariant-loop-rule : goal.invariant-loop-rule
 invariant-loop-rule l =
-    (r : Register) → AreReordered r l.zones l.sites l.groups → AreLeast r l.found
+    (r : Register) → AreLeast r l.found
     → (earlier : Rule) (n : ℕ) → rule_number earlier ≤ l.rule-index → broken r earlier n ≡ false

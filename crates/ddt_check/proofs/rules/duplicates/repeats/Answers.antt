@@ -1,35 +1,40 @@
-use Rattle.std.proofs.Common.{◌≡◌, ℕ, ◌+◌, ◌-◌, ◌<◌, length, get_or, sym, ap, ◌∙◌, arith}
-use Rattle.std.proofs.lemmas.List.{get_or_default}
+use Rattle.std.proofs.Common.{◌≡◌, ℕ, ◌+◌, ◌-◌, ◌<◌, length, map, get_or, sym, ap, ◌∙◌, arith}
+use Rattle.std.proofs.lemmas.List.{get_or-map, length-map}
 use Rattle.ddt_path.specs.Covers.{is_same_path}
 use Rattle.ddt_register.specs.laws.RowOrder.{rising_from_rise}
+use Rattle.ddt_check.specs.declared.entries.Entry.{Entry}
 use Rattle.ddt_check.specs.Rules.{is_duplicate}
 use Rattle.ddt_check.specs.laws.Order.{duplicate-beside, duplicate-first}
+use Rattle.ddt_check.proofs.EntryLemmas.{inside_items}
 use Rattle.ddt_check.proofs.rules.duplicates.repeats.Goals as goal
 
 pub returns-then-at-eq0 : goal.returns-then-at-eq0
 returns-then-at-eq0 g c = λ all d rises moved.
     let key = g.T.Keyed.key in
     let row = g.T.Item.row_of in
-    let items = c.args.items.now in
+    let item = λ (e : Entry g.row.T.Denot g.T.Keyed g.T.Item). e.item.now in
+    let items = map item c.args.entries.now in
     let zero : c.args.at ≡ 0 = c.if-at-eq0.true in
+    let lt : c.args.at < length items = inside_items item c.args.entries.now c.args.at c.requires.inside in
     sym (ap (λ (k : ℕ). is_duplicate key row all (get_or items k d)) zero
-    ∙ duplicate-first key row items c.requires.sorted all (rising_from_rise row all 0 rises) moved d
-    (let lt : c.args.at < length items = c.requires.inside in omega arith))
+    ∙ duplicate-first key row items c.requires.sorted all (rising_from_rise row all 0 rises) moved d (omega arith))
 
 pub returns : goal.returns
 returns g c = λ all d rises moved.
     let key = g.T.Keyed.key in
     let row = g.T.Item.row_of in
-    let items = c.args.items.now in
-    let at : c.args.at < length items = c.requires.inside in
+    let item = λ (e : Entry g.row.T.Denot g.T.Keyed g.T.Item). e.item.now in
+    let entries = c.args.entries.now in
+    let items = map item entries in
+    let at : c.args.at < length entries = c.requires.inside in
+    let lt : c.args.at < length items = inside_items item entries c.args.at at in
     let up : c.args.at ≡ c.args.at - 1 + 1 = let ne = c.if-at-eq0.false in omega arith in
-    let x = c.index-items-at.result in
-    let y = c.index-items-at-2.result in
+    let y = c.index-entries-at-2.result in
     c.has_same_key.ensures
-    ∙ ap (λ (z : _). is_same_path (key z) (key y)) (c.index-items-at.is ∙ get_or_default items (c.args.at - 1) x d
-    (omega arith))
+    ∙ ap (λ (z : _). is_same_path (key z) (key (item (get_or entries c.args.at y))))
+    (sym (get_or-map item entries (c.args.at - 1) c.index-entries-at.result d (omega arith)))
     ∙ ap (λ (z : _). is_same_path (key (get_or items (c.args.at - 1) d)) (key z))
-    (c.index-items-at-2.is ∙ get_or_default items c.args.at y d at)
+    (sym (get_or-map item entries c.args.at y d at))
     ∙ ap (λ (k : ℕ). is_same_path (key (get_or items (c.args.at - 1) d)) (key (get_or items k d))) up
     ∙ duplicate-beside key row items c.requires.sorted all (rising_from_rise row all 0 rises) moved (c.args.at - 1) d
     (omega arith)

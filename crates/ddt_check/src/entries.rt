@@ -1,0 +1,80 @@
+//! Small entries that are sorted in place of the items of a list, which stay where they are.
+
+ghost use Rattle.std.specs.Prelude.{◌≡◌, IsTrue, IsPermutation, map, length};
+ghost use Rattle.ddt_check.specs.Order.{in_order, IsInOrder};
+
+use crate::keyed::Keyed;
+use std::alloc::AllocError;
+use std::cmp::Ordering;
+
+/// An item with the number that settles most comparisons, 16 bytes in place of its own.
+pub struct Entry<'a, T: Keyed> {
+    front: u64,
+    pub item: &'a T,
+    ghost fronted: { front ≡ T.front_of item.now },
+    ghost in_range: { IsTrue (T.is_in_range item.now) },
+}
+
+impl<'a, T: Keyed> Clone for Entry<'a, T> {
+    fn clone(&self) -> Result<Entry<'a, T>, AllocError> {
+        Ok(*self)
+    }
+}
+
+impl<'a, T: Keyed> Copy for Entry<'a, T> {}
+
+impl<'a, T: Keyed> Entry<'a, T> {
+    ghost use Rattle.std.specs.Prelude.{◌≡◌};
+
+    /// The entry of an item.
+    pub fn of(item: &'a T) -> Entry<'a, T>
+        ensures { result.item.now ≡ item.now }
+    {
+        item.in_range();
+        let front = item.front();
+        Entry { front, item }
+    }
+}
+
+/// How two items compare, by their keys and then by their rows. The items are looked at only where their numbers tie.
+fn compared<T: Keyed>(a: &Entry<T>, b: &Entry<T>) -> Ordering
+    ensures { result ≡ in_order T.key T.row_of a.now.item.now b.now.item.now }
+{
+    match a.front.cmp(&b.front) {
+        Ordering::Equal => tied(a.item, b.item),
+        apart => apart,
+    }
+}
+
+fn tied<T: Keyed>(a: &T, b: &T) -> Ordering
+    ensures { result ≡ in_order T.key T.row_of a.now b.now }
+{
+    a.cmp_key(b).then(a.row().cmp(&b.row()))
+}
+
+/// Writes an entry for each item, in the order of the items.
+fn write_entries<'a, T: Keyed>(entries: &mut [Entry<'a, T>], items: &'a [T])
+    requires { length entries.old ≡ length items.now }
+    ensures { map (λ e. e.item.now) entries.new ≡ items.now }
+{
+    for at in 0..entries.len() {
+        entries[at] = Entry::of(&items[at]);
+    }
+}
+
+fn sort_entries<T: Keyed>(entries: &mut [Entry<T>])
+    ensures moved { IsPermutation entries.old entries.new }
+    ensures sorted { IsInOrder T.key T.row_of (map (λ e. e.item.now) entries.new) }
+{
+    entries.sort_unstable_by(|a, b| compared(a, b));
+}
+
+/// Makes the entries those of the items, sorted by their keys, then by their rows.
+pub fn sort_items<'a, T: Keyed>(entries: &mut [Entry<'a, T>], items: &'a [T])
+    requires { length entries.old ≡ length items.now }
+    ensures moved { IsPermutation items.now (map (λ e. e.item.now) entries.new) }
+    ensures sorted { IsInOrder T.key T.row_of (map (λ e. e.item.now) entries.new) }
+{
+    write_entries(entries, items);
+    sort_entries(entries);
+}

@@ -1,0 +1,173 @@
+//! The rules that want a list sorted, each by entries in a frame: of 1,024 entries where those are enough, else of as
+//! many as a register has rows. So nothing is allocated, and no item is moved.
+
+ghost use Rattle.std.specs.Prelude.{◌≡◌, ◌≤◌, length};
+ghost use Rattle.ddt_check.specs.Rules.{IsLeastRow, broken};
+ghost use Rattle.ddt_check.specs.Sorted.{AreZoneRows, AreGroupRows};
+
+use crate::entries::{Entry, sort_items};
+use crate::fault::Rule;
+use crate::rules::duplicates::duplicate;
+use crate::rules::{sites, zones};
+use ddt_register::{Group, Register, Site, Zone};
+
+/// How many entries a small frame has.
+const FEW: usize = 1_024;
+
+/// How many entries a large frame has: as many as a register has rows at most.
+const MANY: usize = 65_535;
+
+/// The least rows that break the rules on zones by their prefixes, and that on sites outside. The last is such where
+/// the other two rules are kept.
+#[derive(Clone, Copy)]
+pub struct ZoneRows {
+    pub duplicate: Option<u32>,
+    pub below: Option<u32>,
+    pub outside: Option<u32>,
+}
+
+/// The least rows that break the rules on groups by their names.
+#[derive(Clone, Copy)]
+pub struct GroupRows {
+    pub unknown: Option<u32>,
+    pub role: Option<u32>,
+    pub duplicate: Option<u32>,
+}
+
+fn zone_rows_by<'a>(entries: &mut [Entry<'a, Zone>], register: &'a Register) -> ZoneRows
+    requires { length register.now.zones ≤ length entries.old }
+    ensures { AreZoneRows register.now result }
+{
+    let zones = register.zones.as_slice();
+    let entries = &mut entries[..zones.len()];
+    sort_items(entries, zones);
+    ZoneRows {
+        duplicate: duplicate(entries),
+        below: zones::below_map_server(entries),
+        outside: sites::outside(register.sites.as_slice(), entries),
+    }
+}
+
+fn zone_rows_of_few(register: &Register) -> ZoneRows
+    requires { length register.now.zones ≤ 1024 }
+    ensures { AreZoneRows register.now result }
+{
+    let Some(first) = register.zones.as_slice().first() else {
+        return zone_rows_by(&mut [], register);
+    };
+    let mut entries = [Entry::of(first); FEW];
+    zone_rows_by(&mut entries, register)
+}
+
+fn zone_rows_of_many(register: &Register) -> ZoneRows
+    requires { length register.now.zones ≤ 65535 }
+    ensures { AreZoneRows register.now result }
+{
+    let Some(first) = register.zones.as_slice().first() else {
+        return zone_rows_by(&mut [], register);
+    };
+    let mut entries = [Entry::of(first); MANY];
+    zone_rows_by(&mut entries, register)
+}
+
+/// The rows of the rules that want the zones sorted.
+pub fn zone_rows(register: &Register) -> ZoneRows
+    ensures { AreZoneRows register.now result }
+{
+    if register.zones.as_slice().len() <= FEW {
+        zone_rows_of_few(register)
+    } else {
+        zone_rows_of_many(register)
+    }
+}
+
+fn duplicate_site_by<'a>(entries: &mut [Entry<'a, Site>], register: &'a Register) -> Option<u32>
+    requires { length register.now.sites ≤ length entries.old }
+    ensures { IsLeastRow (broken register.now Rule.DuplicateSite) result }
+{
+    let sites = register.sites.as_slice();
+    let entries = &mut entries[..sites.len()];
+    sort_items(entries, sites);
+    duplicate(entries)
+}
+
+fn duplicate_site_of_few(register: &Register) -> Option<u32>
+    requires { length register.now.sites ≤ 1024 }
+    ensures { IsLeastRow (broken register.now Rule.DuplicateSite) result }
+{
+    let Some(first) = register.sites.as_slice().first() else {
+        return duplicate_site_by(&mut [], register);
+    };
+    let mut entries = [Entry::of(first); FEW];
+    duplicate_site_by(&mut entries, register)
+}
+
+fn duplicate_site_of_many(register: &Register) -> Option<u32>
+    requires { length register.now.sites ≤ 65535 }
+    ensures { IsLeastRow (broken register.now Rule.DuplicateSite) result }
+{
+    let Some(first) = register.sites.as_slice().first() else {
+        return duplicate_site_by(&mut [], register);
+    };
+    let mut entries = [Entry::of(first); MANY];
+    duplicate_site_by(&mut entries, register)
+}
+
+/// The least row of a site whose prefix an earlier one has.
+pub fn duplicate_site(register: &Register) -> Option<u32>
+    ensures { IsLeastRow (broken register.now Rule.DuplicateSite) result }
+{
+    if register.sites.as_slice().len() <= FEW {
+        duplicate_site_of_few(register)
+    } else {
+        duplicate_site_of_many(register)
+    }
+}
+
+fn group_rows_by<'a>(entries: &mut [Entry<'a, Group>], register: &'a Register) -> GroupRows
+    requires { length register.now.groups ≤ length entries.old }
+    ensures { AreGroupRows register.now result }
+{
+    let groups = register.groups.as_slice();
+    let entries = &mut entries[..groups.len()];
+    sort_items(entries, groups);
+    let zones = register.zones.as_slice();
+    GroupRows {
+        unknown: zones::of_unknown_group(zones, entries),
+        role: zones::of_other_role(zones, entries),
+        duplicate: duplicate(entries),
+    }
+}
+
+fn group_rows_of_few(register: &Register) -> GroupRows
+    requires { length register.now.groups ≤ 1024 }
+    ensures { AreGroupRows register.now result }
+{
+    let Some(first) = register.groups.as_slice().first() else {
+        return group_rows_by(&mut [], register);
+    };
+    let mut entries = [Entry::of(first); FEW];
+    group_rows_by(&mut entries, register)
+}
+
+fn group_rows_of_many(register: &Register) -> GroupRows
+    requires { length register.now.groups ≤ 65535 }
+    ensures { AreGroupRows register.now result }
+{
+    let Some(first) = register.groups.as_slice().first() else {
+        return group_rows_by(&mut [], register);
+    };
+    let mut entries = [Entry::of(first); MANY];
+    group_rows_by(&mut entries, register)
+}
+
+/// The rows of the rules that want the groups sorted by their names.
+pub fn group_rows(register: &Register) -> GroupRows
+    ensures { AreGroupRows register.now result }
+{
+    if register.groups.as_slice().len() <= FEW {
+        group_rows_of_few(register)
+    } else {
+        group_rows_of_many(register)
+    }
+}

@@ -30,21 +30,21 @@ always xs = all_of (λ _. true) xs (λ x k. refl)
 
 pub children_told : (a b : Content) (cs ds : List Child) → a ≡ Children cs → b ≡ Children ds → (r : Bool)
     → (have_own_prefixes (λ (c : Child). c.prefix) cs ≡ true → have_own_prefixes (λ (c : Child). c.prefix) ds ≡ true
-        → list_all (λ _. true) cs ≡ true → list_all (λ _. true) ds ≡ true → r ≡ are_alike is_same_child cs ds)
+    → list_all (λ _. true) cs ≡ true → list_all (λ _. true) ds ≡ true → r ≡ are_alike is_same_child cs ds)
     → holds_own_prefixes a ≡ true → holds_own_prefixes b ≡ true → r ≡ is_same_content a b
 children_told a b cs ds e f r told own others =
     told (subst (λ z. holds_own_prefixes z ≡ true) e own) (subst (λ z. holds_own_prefixes z ≡ true) f others)
-        (always cs) (always ds)
+    (always cs) (always ds)
     ∙ sym (ap₂ is_same_content e f)
 
 pub sites_told : (a b : Content) (ss ts : List SiteEntry) → a ≡ Sites ss → b ≡ Sites ts → (r : Bool)
     → (have_own_prefixes (λ (s : SiteEntry). s.prefix) ss ≡ true
-        → have_own_prefixes (λ (s : SiteEntry). s.prefix) ts ≡ true → list_all (λ _. true) ss ≡ true
-        → list_all (λ _. true) ts ≡ true → r ≡ are_alike is_same_site ss ts)
+    → have_own_prefixes (λ (s : SiteEntry). s.prefix) ts ≡ true → list_all (λ _. true) ss ≡ true
+    → list_all (λ _. true) ts ≡ true → r ≡ are_alike is_same_site ss ts)
     → holds_own_prefixes a ≡ true → holds_own_prefixes b ≡ true → r ≡ is_same_content a b
 sites_told a b ss ts e f r told own others =
     told (subst (λ z. holds_own_prefixes z ≡ true) e own) (subst (λ z. holds_own_prefixes z ≡ true) f others)
-        (always ss) (always ts)
+    (always ss) (always ts)
     ∙ sym (ap₂ is_same_content e f)
 
 -- ---- the shape
@@ -58,15 +58,15 @@ apart_own : (cs : List Child) → are_apart (λ (c : Child). c.prefix) cs ≡ tr
 apart_own [] e = refl
 apart_own (c ∷ cs) e =
     let p = and_parts (not (list_any (λ (d : Child). overlaps c.prefix d.prefix) cs))
-        (are_apart (λ (d : Child). d.prefix) cs) e in
+    (are_apart (λ (d : Child). d.prefix) cs) e in
     let none = not-true (list_any (λ (d : Child). overlaps c.prefix d.prefix) cs) p.0 in
     and_from (not (list_any (λ (d : Child). is_same_path c.prefix d.prefix) cs))
-        (have_own_prefixes (λ (d : Child). d.prefix) cs)
+    (have_own_prefixes (λ (d : Child). d.prefix) cs)
     (not_from_false (list_any (λ (d : Child). is_same_path c.prefix d.prefix) cs)
-        (none_of (λ (d : Child). is_same_path c.prefix d.prefix) cs (λ d k.
+    (none_of (λ (d : Child). is_same_path c.prefix d.prefix) cs (λ d k.
     false_from_ne_true (is_same_path c.prefix d.prefix) (λ same.
     both_ways (overlaps c.prefix d.prefix) (fails_at (λ (y : Child). overlaps c.prefix y.prefix) cs d none k)
-        (one_overlaps c.prefix d.prefix same)))))
+    (one_overlaps c.prefix d.prefix same)))))
     (apart_own cs p.1)
 
 content_whole : (role : Role) (prefix : List ℕ) (content : Content) → is_content_of role prefix content ≡ true
@@ -81,23 +81,25 @@ content_whole Ms prefix (Children cs) e = absurd (false≢true e)
 shape_parts : (role : Role) (locators : List Locator) (authorities : List Authority)
     → is_shaped role locators authorities ≡ true
     → (have_own_prefixes (λ (a : Authority). a.prefix) authorities ≡ true)
-        × (list_all (λ (a : Authority). holds_own_prefixes a.content) authorities ≡ true)
+    × (list_all (λ (a : Authority). holds_own_prefixes a.content) authorities ≡ true)
 shape_parts role locators authorities e =
     let p = and_parts (is_server_set locators && are_distinct locators)
-        (have_own_prefixes (λ (a : Authority). a.prefix) authorities && list_all (is_authority_of role) authorities)
-        e in
+    (have_own_prefixes (λ (a : Authority). a.prefix) authorities && list_all (is_authority_of role) authorities)
+    e in
     let q = and_parts (have_own_prefixes (λ (a : Authority). a.prefix) authorities)
-        (list_all (is_authority_of role) authorities) p.1 in
-    (q.0, all_of (λ (a : Authority). holds_own_prefixes a.content) authorities
-        (λ a k. content_whole role a.prefix a.content (holds_at (is_authority_of role) authorities a q.1 k)))
+    (list_all (is_authority_of role) authorities) p.1 in (
+      q.0,
+      all_of (λ (a : Authority). holds_own_prefixes a.content) authorities
+          (λ a k. content_whole role a.prefix a.content (holds_at (is_authority_of role) authorities a q.1 k)),
+    )
 
 -- two configurations of one kind and the same locators
 pub config_told : (c d : ServerConfig) (r : Bool) → is_same_role c.role d.role ≡ true
     → are_same_servers c.locators d.locators ≡ true
     → (have_own_prefixes (λ (a : Authority). a.prefix) c.authorities ≡ true
-        → have_own_prefixes (λ (a : Authority). a.prefix) d.authorities ≡ true
+    → have_own_prefixes (λ (a : Authority). a.prefix) d.authorities ≡ true
     → list_all (λ (a : Authority). holds_own_prefixes a.content) c.authorities ≡ true
-        → list_all (λ (a : Authority). holds_own_prefixes a.content) d.authorities ≡ true
+    → list_all (λ (a : Authority). holds_own_prefixes a.content) d.authorities ≡ true
     → r ≡ are_alike is_same_authority c.authorities d.authorities)
     → r ≡ is_same_config (outline c) (outline d)
 config_told c d r role servers told =

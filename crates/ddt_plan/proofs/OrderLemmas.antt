@@ -41,7 +41,7 @@ module _ {A : Type 0} (key : A → List ℕ) where
   own_at xs own i j d below inside =
       false_from_ne_true (is_same_path (key (get_or xs i d)) (key (get_or xs j d))) (λ e.
       both_ways (have_own_prefixes key xs)
-          (two_clash (λ (a b : A). is_same_path (key a) (key b)) xs i j d below inside e) own)
+      (two_clash (λ (a b : A). is_same_path (key a) (key b)) xs i j d below inside e) own)
 
   pub rises : (xs : List A) → IsSorted (λ x y. slice_cmp nat_cmp (key x) (key y)) xs → have_own_prefixes key xs ≡ true
       → Rises xs
@@ -56,7 +56,7 @@ module _ {A : Type 0} (key : A → List ℕ) where
       → have_own_prefixes key ys ≡ true
   own_moved xs ys moved own =
       sym (no_two-IsPermutation (λ (a b : A). is_same_path (key a) (key b))
-          (λ a b. nat_list_eq_equiv.symm (key a) (key b)) xs ys moved) ∙ own
+      (λ a b. nat_list_eq_equiv.symm (key a) (key b)) xs ys moved) ∙ own
 
 -- ---- items and their likes
 
@@ -69,7 +69,7 @@ module _ {A : Type 0} (same : A → A → Bool) where
   have_likes : (xs ys : List A) → are_alike same xs ys ≡ true → HaveLikes same xs ys
   have_likes xs ys e =
       let p = and_parts (list_all (λ x. list_any (λ y. same x y) ys) xs)
-          (list_all (λ y. list_any (λ x. same x y) xs) ys) e in record {
+      (list_all (λ y. list_any (λ x. same x y) xs) ys) e in record {
         there = λ x k. any_in (λ y. same x y) ys (holds_at (λ z. list_any (λ y. same z y) ys) xs x p.0 k);
         back = λ y k. any_in (λ x. same x y) xs (holds_at (λ z. list_any (λ x. same x z) xs) ys y p.1 k);
       }
@@ -78,9 +78,9 @@ module _ {A : Type 0} (same : A → A → Bool) where
   alike_from xs ys h =
       and_from (list_all (λ x. list_any (λ y. same x y) ys) xs) (list_all (λ y. list_any (λ x. same x y) xs) ys)
       (all_of (λ z. list_any (λ y. same z y) ys) xs (λ x k. let f = h.there x k in
-          in_any (λ y. same x y) ys f.0 f.1 f.2))
+      in_any (λ y. same x y) ys f.0 f.1 f.2))
       (all_of (λ z. list_any (λ x. same x z) xs) ys (λ y k. let f = h.back y k in
-          in_any (λ x. same x y) xs f.0 f.1 f.2))
+      in_any (λ x. same x y) xs f.0 f.1 f.2))
 
   moved_likes : (xs ys us vs : List A) → IsPermutation xs us → IsPermutation ys vs → HaveLikes same xs ys
       → HaveLikes same us vs
@@ -163,9 +163,11 @@ module _ {A : Type 0} (same : A → A → Bool) where
     turn_by_likes (x ∷ xs) (y ∷ ys) up vp h =
         let tie = heads_tie x y xs ys up vp h in
         let f = h.there x (inl refl) in
-        let rest = turn_by_likes xs ys up.1 vp.1 (tails x y xs ys up vp tie h) in
-        (omega (arith, rest.0), and_from (same x y) (list_all same_at (zip xs ys))
-            (heads_same x y ys vp tie f.0 f.1 f.2) rest.1)
+        let rest = turn_by_likes xs ys up.1 vp.1 (tails x y xs ys up vp tie h) in (
+          omega (arith, rest.0),
+          and_from (same x y) (list_all same_at (zip xs ys))
+              (heads_same x y ys vp tie f.0 f.1 f.2) rest.1,
+        )
 
     -- ---- from lists in any order
 
@@ -176,15 +178,15 @@ module _ {A : Type 0} (same : A → A → Bool) where
       turned : are_alike same xs ys ≡ true → (length us ≡ length vs) × (list_all same_at (zip us vs) ≡ true)
       turned e =
           turn_by_likes us vs (rises key us sorted (own_moved key xs us m own))
-              (rises key vs in_order (own_moved key ys vs n others))
+          (rises key vs in_order (own_moved key ys vs n others))
           (moved_likes xs ys us vs m n (have_likes xs ys e))
 
       pub alike_in_turn : length us ≡ length vs → list_all same_at (zip us vs) ≡ are_alike same xs ys
       alike_in_turn long =
           iff_same (list_all same_at (zip us vs)) (are_alike same xs ys)
           (λ e. alike_from xs ys
-              (moved_likes us vs xs ys (IsPermutation-sym xs us m) (IsPermutation-sym ys vs n)
-              (likes_in_turn us vs long e)))
+          (moved_likes us vs xs ys (IsPermutation-sym xs us m) (IsPermutation-sym ys vs n)
+          (likes_in_turn us vs long e)))
           (λ e. (turned e).1)
 
       pub others_long : (length us ≡ length vs → ⊥) → false ≡ are_alike same xs ys
@@ -206,7 +208,7 @@ module _ {A : Type 0} (whole : A → Bool) where
       (ap (λ (q : A × A). whole q.0) one ∙ a.0, ap (λ (q : A × A). whole q.1) one ∙ b.0)
   whole_pairs (x ∷ xs) (y ∷ ys) e f p (inr later) =
       whole_pairs xs ys (and_parts (whole x) (list_all whole xs) e).1 (and_parts (whole y) (list_all whole ys) f).1 p
-          later
+      later
 
   pub whole_moved : (xs ys : List A) → IsPermutation xs ys → list_all whole xs ≡ true → list_all whole ys ≡ true
   whole_moved xs ys m e = all_of whole ys
@@ -220,7 +222,7 @@ at_place (p ∷ ps) (suc k) lt = at_place ps k (omega arith)
 pub told_by_all : {B : Type 0} (Whole : B → Type 0) (test : B → Bool) (ps : List B) (r : Bool)
     → ((p : B) → IsIn p ps → Whole p)
     → MatchBool r (AllWithin (λ p. Whole p → test p ≡ true) ps 0 (length ps))
-        ((k : ℕ) × (k < length ps) × HoldsAt (λ p. Whole p → test p ≡ false) ps k)
+    ((k : ℕ) × (k < length ps) × HoldsAt (λ p. Whole p → test p ≡ false) ps k)
     → r ≡ list_all test ps
 told_by_all Whole test ps true whole h =
     sym (all_of test ps (λ p k. let c = contained ps p k in
@@ -230,4 +232,4 @@ told_by_all Whole test ps false whole h =
     let k = in_at ps h.0 at.0 h.1 at.1 in
     sym (false_from_ne_true (list_all test ps) (λ e.
     both_ways (test at.0) (subst (λ q. Whole q → test q ≡ false) (sym at.1) (h.2 at.0) (whole at.0 k))
-        (holds_at test ps at.0 e k)))
+    (holds_at test ps at.0 e k)))

@@ -46,7 +46,7 @@ config_case name r c g cs gs one rest false = rest
 pub found_config : (r : Register) (name : List ℕ) (cs : List ServerConfig) (gs : List Group)
     → map outline cs ≡ map (group_config r) gs
     → option_map outline (found cs name) ≡ option_map (group_config r)
-        (find (λ (g : Group). is_same_name g.name name) gs)
+    (find (λ (g : Group). is_same_name g.name name) gs)
 found_config r name [] [] e = refl
 found_config r name [] (g ∷ gs) e = absurd cc
 found_config r name (c ∷ cs) [] e = absurd cc
@@ -55,9 +55,9 @@ found_config r name (c ∷ cs) (g ∷ gs) e =
     let rest : map outline cs ≡ map (group_config r) gs = cc in
     let names : c.name ≡ g.name = ap (λ (o : Outline). o.name) one in
     config_case name r c g (found cs name) (find (λ (h : Group). is_same_name h.name name) gs) one
-        (found_config r name cs gs rest) (is_same_name c.name name)
+    (found_config r name cs gs rest) (is_same_name c.name name)
     ∙ ap (λ (n : List ℕ). option_map (group_config r)
-        (cond (is_same_name n name) (Some g) (find (λ (h : Group). is_same_name h.name name) gs))) names
+    (cond (is_same_name n name) (Some g) (find (λ (h : Group). is_same_name h.name name) gs))) names
 
 -- ---- a loop's step
 
@@ -79,9 +79,9 @@ joined_next which known (Some c) d = ap (λ (v : Versions). Some v) (joined_agai
 
 module _ (which : Which) (first old mid new : BTreeMap (List ℕ) Versions) (ys : List ServerConfig) (c : ServerConfig)
     (before : (name : List ℕ)
-        → get (slice_cmp nat_cmp) old name ≡ joined_if which (get (slice_cmp nat_cmp) first name) (found ys name))
+    → get (slice_cmp nat_cmp) old name ≡ joined_if which (get (slice_cmp nat_cmp) first name) (found ys name))
     (known : Option Versions) (was : known ≡ get (slice_cmp nat_cmp) old c.name)
-        (taken : Updates (slice_cmp nat_cmp) old mid c.name None)
+    (taken : Updates (slice_cmp nat_cmp) old mid c.name None)
     (put : Updates (slice_cmp nat_cmp) mid new c.name (Some (joined which known c))) where
   found_more : (name : List ℕ)
       → found (ys ++ c ∷ []) name ≡ option_or (found ys name) (cond (named name c) (Some c) None)
@@ -106,13 +106,13 @@ module _ (which : Which) (first old mid new : BTreeMap (List ℕ) Versions) (ys 
           (found (ys ++ c ∷ []) name)
       by_name true e =
           let here : known ≡ joined_if which (get (slice_cmp nat_cmp) first name) (found ys name) =
-              was ∙ ap (get (slice_cmp nat_cmp) old) (same_path c.name name e) ∙ before name in
+          was ∙ ap (get (slice_cmp nat_cmp) old) (same_path c.name name e) ∙ before name in
           updated (Some (joined which known c)) mid new put name
           ∙ cond-true (named name c) (Some (joined which known c)) (get (slice_cmp nat_cmp) mid name) e
           ∙ ap (λ (o : Option Versions). Some (joined which o c)) here
           ∙ joined_next which (get (slice_cmp nat_cmp) first name) (found ys name) c
           ∙ ap (λ (o : Option ServerConfig). joined_if which (get (slice_cmp nat_cmp) first name) o)
-              (sym (found_more name ∙ ap (option_or (found ys name)) (cond-true (named name c) (Some c) None e)))
+          (sym (found_more name ∙ ap (option_or (found ys name)) (cond-true (named name c) (Some c) None e)))
       by_name false e =
           updated (Some (joined which known c)) mid new put name
           ∙ cond-false (named name c) (Some (joined which known c)) (get (slice_cmp nat_cmp) mid name) e
@@ -120,8 +120,8 @@ module _ (which : Which) (first old mid new : BTreeMap (List ℕ) Versions) (ys 
           ∙ cond-false (named name c) None (get (slice_cmp nat_cmp) old name) e
           ∙ before name
           ∙ ap (λ (o : Option ServerConfig). joined_if which (get (slice_cmp nat_cmp) first name) o)
-              (sym (found_more name ∙ ap (option_or (found ys name)) (cond-false (named name c) (Some c) None e)
-              ∙ or_none (found ys name)))
+          (sym (found_more name ∙ ap (option_or (found ys name)) (cond-false (named name c) (Some c) None e)
+          ∙ or_none (found ys name)))
 
 -- ---- both registers
 
@@ -144,10 +144,10 @@ pub are_versions : (r s : Register) (empty one two : BTreeMap (List ℕ) Version
     → HasPut Later s one two → AreVersions r s two
 are_versions r s empty one two none p q =
     let there : (name : List ℕ)
-        → get (slice_cmp nat_cmp) two name ≡ joined_if Later (joined_if Earlier None (p name).0) (q name).0 =
-        λ name. (q name).2
-            ∙ ap (λ (o : Option Versions). joined_if Later o (q name).0)
-                ((p name).2 ∙ ap (λ (o : Option Versions). joined_if Earlier o (p name).0) (none name)) in
+    → get (slice_cmp nat_cmp) two name ≡ joined_if Later (joined_if Earlier None (p name).0) (q name).0 =
+    λ name. (q name).2
+    ∙ ap (λ (o : Option Versions). joined_if Later o (q name).0)
+    ((p name).2 ∙ ap (λ (o : Option Versions). joined_if Earlier o (p name).0) (none name)) in
     record {
       before = λ name. ap earlier (there name) ∙ both_earlier (p name).0 (q name).0 ∙ (p name).1;
       after = λ name. ap later (there name) ∙ both_later (p name).0 (q name).0 ∙ (q name).1;
@@ -208,10 +208,10 @@ sorted_case : (e : List ℕ × Versions) (o : Option GroupChange) (cs : List Gro
 unfolding IsStrictlySortedBy
 sorted_case e None cs is below sorted = sorted
 sorted_case e (Some c) cs is below sorted = (
-    subst (λ (m : List ℕ). AllByRecursion (λ (n : List ℕ). slice_cmp nat_cmp m n ≡ Less) (names cs))
-        (told_case e.0 c (kind_of e.1) is).0 below,
-    sorted,
-  )
+  subst (λ (m : List ℕ). AllByRecursion (λ (n : List ℕ). slice_cmp nat_cmp m n ≡ Less) (names cs))
+      (told_case e.0 c (kind_of e.1) is).0 below,
+  sorted,
+)
 
 names_sorted : (es : List (List ℕ × Versions)) → IsStrictlySortedBy (slice_cmp nat_cmp) (keys_of es)
     → IsStrictlySortedBy (slice_cmp nat_cmp) (names (filter_map told es))
@@ -243,8 +243,8 @@ module _ (r s : Register) (m : BTreeMap (List ℕ) Versions) (ordered : IsOrdere
       let p = place_from_lookup (is_at (slice_cmp nat_cmp c.name)) m.entries v e in
       let name : c.name ≡ p.1 = same_path c.name p.1 (texts_ties c.name p.1 ∙ p.3) in
       let is : told (p.1, v) ≡ Some c =
-          ap₂ (λ (n : List ℕ) (kind : Option GroupChangeKind).
-              option_map (λ k. let d : GroupChange = record { name = n; kind = k } in d) kind) (sym name) change in
+      ap₂ (λ (n : List ℕ) (kind : Option GroupChangeKind).
+      option_map (λ k. let d : GroupChange = record { name = n; kind = k } in d) kind) (sym name) change in
       is_kept told m.entries (p.1, v) c (in_get m.entries p.0 (p.1, v) p.2) is
 
   pub changes_are : AreGroupChanges r s (filter_map told m.entries)

@@ -65,32 +65,38 @@ const CHOICES: [[&str; 3]; 13] = [
 /// The names of all these groups.
 const NAMES: [&str; 5] = ["east", "idle", "root", "ten", "west"];
 
-/// The rows of a register in a random order.
-fn random_rows(alloc: Global, dice: &mut Dice) -> Result<Vec<&'static str>, AllocError> {
-    let mut rows = Vec::new(alloc);
-    for choice in &CHOICES {
-        let row = if dice.below(8) == 0 {
-            dice.one_of(choice)
-        } else {
-            choice[0]
-        };
-        rows.push(row)?;
+/// The places of all lines, in a random order.
+fn random_order(alloc: Global, dice: &mut Dice) -> Result<Vec<usize>, AllocError> {
+    let mut order = Vec::new(alloc);
+    for at in 0..CHOICES.len() {
+        order.push(at)?;
     }
-    shuffle(rows.as_mut_slice(), dice);
-    Ok(rows)
+    shuffle(order.as_mut_slice(), dice);
+    Ok(order)
 }
 
-fn shuffle(rows: &mut [&'static str], dice: &mut Dice) {
-    for at in 1..rows.len() {
+fn shuffle(order: &mut [usize], dice: &mut Dice) {
+    for at in 1..order.len() {
         let other = dice.below(at + 1);
-        rows.swap(at, other);
+        order.swap(at, other);
+    }
+}
+
+/// A row of a line; one time in eight any of them.
+fn random_row(line: &[&'static str; 3], dice: &mut Dice) -> &'static str {
+    if dice.below(8) == 0 {
+        dice.one_of(line)
+    } else {
+        line[0]
     }
 }
 
 fn random_text(alloc: Global, dice: &mut Dice) -> Result<String, AllocError> {
     let mut text = String::from_str(alloc, COLUMNS)?;
-    for row in &random_rows(alloc, dice)? {
-        text.push_str(row)?;
+    for at in &random_order(alloc, dice)? {
+        if let Some(line) = CHOICES.get(*at) {
+            text.push_str(random_row(line, dice))?;
+        }
     }
     Ok(text)
 }

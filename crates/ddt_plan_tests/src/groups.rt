@@ -123,7 +123,11 @@ fn are_listed(alloc: Global, rt: &impl Abort, before: &str, after: &str, listed:
 fn with_row(alloc: Global, old: &str, new: &str) -> Result<String, AllocError> {
     let mut text = String::new(alloc);
     for row in TWO_ZONES.split_inclusive('\n') {
-        text.push_str(if row == old { new } else { row })?;
+        if row.as_bytes() == old.as_bytes() {
+            text.push_str(new)?;
+        } else {
+            text.push_str(row)?;
+        }
     }
     Ok(text)
 }

@@ -1,5 +1,5 @@
-//! The tests of ddt_plan: worked registers in `blocks`, `changes` and `groups`, plain bodies (`slow`, `slow_groups`) over
-//! random ones in `agreeing` and `agreeing_groups`, sinks that refuse in `sinks`, and refused memory in `refused`.
+//! The tests of ddt_plan: worked registers in `blocks`, `changes` and `groups`, plain bodies (`slow`, `slow_groups`)
+//! over random ones in `agreeing` and `agreeing_groups`, sinks that refuse in `sinks`, and refused memory in `refused`.
 #![tactic(auto)]
 
 #[cfg(test)]

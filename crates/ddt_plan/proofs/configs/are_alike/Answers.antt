@@ -12,7 +12,7 @@ returns-then-len g c = λ own others whole wholes.
     let before = c.in_order-before.ensures in
     let after = c.in_order-after.ensures in
     c.are_same_in_turn.ensures (whole_moved g.T.Entry.is_whole _ _ before.moved whole)
-        (whole_moved g.T.Entry.is_whole _ _ after.moved wholes)
+    (whole_moved g.T.Entry.is_whole _ _ after.moved wholes)
     ∙ alike_in_turn same key (λ x y e. (and_parts (is_same_path (key x) (key y)) (g.T.Entry.same x y) e).0)
     c.args.before c.args.after _ _ before.moved after.moved own others before.sorted after.sorted (search rules)
 
@@ -25,4 +25,4 @@ returns-else-len g c = λ own others whole wholes.
     ne_eqb c.len.result c.len-2.result c.if-len.false
     ∙ others_long same key (λ x y e. (and_parts (is_same_path (key x) (key y)) (g.T.Entry.same x y) e).0)
     c.args.before c.args.after _ _ before.moved after.moved own others before.sorted after.sorted
-        (λ e. c.if-len.false (search rules))
+    (λ e. c.if-len.false (search rules))

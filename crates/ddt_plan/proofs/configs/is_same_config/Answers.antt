@@ -10,5 +10,5 @@ returns-then-have_same_servers c =
     let a = c.args.before in
     let b = c.args.after in
     let p = and_parts (is_same_role a.role b.role) (are_same_servers a.locators b.locators)
-        (sym c.have_same_servers.ensures ∙ c.if-have_same_servers.true) in
+    (sym c.have_same_servers.ensures ∙ c.if-have_same_servers.true) in
     config_told a b c.are_alike.result p.0 p.1 c.are_alike.ensures

@@ -13,8 +13,8 @@ returns c =
     let s = c.args.after.now in
     let m = c.in_ok-versions_by_name.field-0 in
     IfOk-weaker c.collect.result _ _
-        (λ changes e. subst (AreGroupChanges r s) (sym e)
-        (changes_are r s m c.into_iter.ensures.into_iter_gives.5 c.in_ok-versions_by_name.ensures))
+    (λ changes e. subst (AreGroupChanges r s) (sym e)
+    (changes_are r s m c.into_iter.ensures.into_iter_gives.5 c.in_ok-versions_by_name.ensures))
     (items_from_collect c.collect.result c.collect.ensures.ran
     (YieldsList-from_filter_map _ told (YieldsList-from_rest m.entries (search rules)) c.filter_map.ensures.closure
-        (λ x q p k. search (rules, tests))))
+    (λ x q p k. search (rules, tests))))

@@ -16,19 +16,22 @@ loop-config-preserved c =
     let new = c.insert.new.self in
     let config = c.in-Some.config in
     put_one c.args.which c.args.versions c.loop-config.all mid new c.loop-config.yielded config c.loop-config.invariant
-        c.remove-known.result
+    c.remove-known.result
     c.remove-known.ensures.value c.remove-known.ensures.updates
     (subst (λ (v : Versions). Updates (slice_cmp nat_cmp) mid new config.name (Some v)) c.joined.ensures
-        c.in_ok-insert.ensures.updates)
+    c.in_ok-insert.ensures.updates)
 
 pub returns : goal.returns
 returns c = λ name.
     let items = c.into_vec-config-items.result.items in
     let all = YieldsList-end
-        (YieldsList-from_vec {s = c.into_iter-config-iterator.result} items (search rules) (search rules))
-        c.loop-config.yielded c.loop-config.config-iterator c.loop-config.yielded_by c.next.result c.next.new.self
-        c.in-None.is c.next.ensures.steps in
+    (YieldsList-from_vec {s = c.into_iter-config-iterator.result} items (search rules) (search rules))
+    c.loop-config.yielded c.loop-config.config-iterator c.loop-config.yielded_by c.next.result c.next.new.self
+    c.in-None.is c.next.ensures.steps in
     let yielded = sym (map-id c.loop-config.yielded) ∙ all.0 in
-    let each = ap (map outline) (yielded ∙ c.into_vec-config-items.ensures) ∙ c.in_ok-compile.ensures.each in
-    (found c.loop-config.yielded name, found_config c.args.accepted.now name c.loop-config.yielded
-        c.args.accepted.now.groups each, c.loop-config.invariant name)
+    let each = ap (map outline) (yielded ∙ c.into_vec-config-items.ensures) ∙ c.in_ok-compile.ensures.each in (
+      found c.loop-config.yielded name,
+      found_config c.args.accepted.now name c.loop-config.yielded
+          c.args.accepted.now.groups each,
+      c.loop-config.invariant name,
+    )

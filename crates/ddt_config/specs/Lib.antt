@@ -6,3 +6,4 @@ pub mod Writing
 pub mod Entries
 pub mod Stands
 pub mod laws
+pub mod Printed

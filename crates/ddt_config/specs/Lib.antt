@@ -6,4 +6,3 @@ pub mod Writing
 pub mod Entries
 pub mod Stands
 pub mod laws
-pub mod Printed

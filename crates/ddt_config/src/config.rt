@@ -32,10 +32,10 @@ pub struct ServerConfig {
 /// What the top table holds, of any shape, with any number of locators in each list. Contracts see the outline.
 #[derive(Debug, Drop)]
 pub struct Draft {
-    pub name: Name,
-    pub role: Role,
-    pub locators: Listed<Locator>,
-    pub authorities: Listed<AuthorityDraft>,
+    name: Name,
+    role: Role,
+    locators: Listed<Locator>,
+    authorities: Listed<AuthorityDraft>,
 }
 
 impl Model for Draft {

@@ -11,7 +11,6 @@ ghost use Rattle.ddt_config.specs.Writing.{written_config};
 
 use crate::config::{Draft, ServerConfig};
 use crate::fault::ConfigFault;
-use crate::printed::printed_config;
 use std::alloc::{AllocError, Global};
 use toml::{Table, de, ser};
 
@@ -32,9 +31,6 @@ pub fn from_toml(alloc: Global, text: &str) -> Result<ServerConfig, ConfigFault>
     ensures every { (c : ConfigValue) → StandsFor text.now c → (result ≡ Ok c) ⊎ (result ≡ Err ConfigFault.Memory) }
     ensures refused { IfErr result (λ fault. fault ≢ ConfigFault.Memory → config_in_text text.now ≡ Err fault) }
 {
-    if let Some(config) = printed_config(alloc, text) {
-        return Ok(config);
-    }
     match toml::table_from_str(alloc, text) {
         Ok(table) => read_config(alloc, table),
         Err(fault) => Err(toml_fault(&fault)),

@@ -1,7 +1,7 @@
 //! The configuration of a server group: what it holds, the shape that it keeps, and its text.
 //!
 //! In reading order: `fault`, `members`, `values`, `entry`, `child`, `site_entry`, `authority`, `config`, `neighbours`,
-//! `shape`, `printed`, `document`, `laws`.
+//! `shape`, `document`, `laws`.
 #![tactic(auto)]
 
 mod authority;
@@ -13,7 +13,6 @@ mod fault;
 mod laws;
 mod members;
 mod neighbours;
-mod printed;
 mod shape;
 mod site_entry;
 mod values;

@@ -20,9 +20,6 @@ made-same o p e s t = subst (λ (q : Outline). (u : is_shaped q.role q.locators 
 same_config : (c d : ServerConfig) → outline c ≡ outline d → c ≡ d
 same_config c d e = made-same (outline c) (outline d) e c.shaped d.shaped
 
-pub stands_for_one : (text : List ℕ) (c d : ServerConfig) → StandsFor text c → StandsFor text d → c ≡ d
-stands_for_one text c d h k = let same : outline c ≡ outline d = cc in same_config c d same
-
 among : (ms : Members) (r : Result ServerConfig ConfigFault) → IfOk r (λ c. config_in ms ≡ Ok (outline c)) → IfErr r (λ fault. fault ≢ Memory → config_in ms ≡ Err fault)
     → (c : ServerConfig) → config_in ms ≡ Ok (outline c) → (r ≡ Ok c) ⊎ (r ≡ Err Memory)
 among ms (Ok d) found refused c stands = let same : outline d ≡ outline c = cc in inl (ap Ok (same_config d c same))

@@ -1,3 +1,4 @@
 pub mod RoomLemmas
 pub mod StandsLemmas
 pub mod WriteLemmas
+pub mod OrderLemmas

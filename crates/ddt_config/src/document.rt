@@ -5,8 +5,8 @@ ghost use Rattle.toml.specs.Errors.{IsMemory};
 ghost use Rattle.toml.specs.Text.{IsDocumentText};
 ghost use Rattle.toml.specs.View.{table_view};
 ghost use Rattle.ddt_config.specs.declared.config.ServerConfig.{ServerConfig as ConfigValue};
-ghost use Rattle.ddt_config.specs.Table.{config_in, config_in_text, outline, StandsFor};
-ghost use Rattle.ddt_config.specs.Reading.{IsToldAs};
+ghost use Rattle.ddt_config.specs.Table.{config_in, config_in_text, outline, outline_in, StandsFor};
+ghost use Rattle.ddt_config.specs.Reading.{IsToldAs, Reads};
 ghost use Rattle.ddt_config.specs.Writing.{written_config};
 
 use crate::config::{Draft, ServerConfig};
@@ -32,7 +32,7 @@ pub fn from_toml(alloc: Global, text: &str) -> Result<ServerConfig, ConfigFault>
     ensures refused { IfErr result (λ fault. fault ≢ ConfigFault.Memory → config_in_text text.now ≡ Err fault) }
 {
     match toml::table_from_str(alloc, text) {
-        Ok(table) => read_config(alloc, &table),
+        Ok(table) => read_config(alloc, table),
         Err(fault) => Err(toml_fault(&fault)),
     }
 }
@@ -48,13 +48,20 @@ fn toml_fault(fault: &de::Error) -> ConfigFault
     }
 }
 
-fn read_config(alloc: Global, table: &Table) -> Result<ServerConfig, ConfigFault>
-    ensures found { IfOk result (λ c. config_in (table_view table.now) ≡ Ok (outline c)) }
-    ensures refused { IfErr result (λ fault. fault ≢ ConfigFault.Memory → config_in (table_view table.now)
+/// The configuration of a table, which is dropped before the configuration is made.
+fn read_config(alloc: Global, table: Table) -> Result<ServerConfig, ConfigFault>
+    ensures found { IfOk result (λ c. config_in (table_view table) ≡ Ok (outline c)) }
+    ensures refused { IfErr result (λ fault. fault ≢ ConfigFault.Memory → config_in (table_view table)
         ≡ Err fault) }
 {
-    let draft = Draft::read(alloc, table)?;
+    let draft = read_draft(alloc, table)?;
     ServerConfig::of(alloc, &draft)
+}
+
+fn read_draft(alloc: Global, table: Table) -> Result<Draft, ConfigFault>
+    ensures { Reads (outline_in (table_view table)) result }
+{
+    Draft::read(alloc, &table)
 }
 
 /// The configuration as a text in TOML, as `from_toml` reads it. At its top stand `name`, `kind` (`node` or `ms`),

@@ -59,7 +59,7 @@ fn read_each<T: Entry>(
 ) -> Result<Listed<T>, ConfigFault>
     ensures { Reads (each (entry_of key (T.entry_in role)) (map view values.now)) result }
 {
-    let mut entries = Vec::new(alloc);
+    let mut entries = Vec::with_capacity(alloc, values.len())?;
     for value in values {
         let entry = read_entry::<T>(alloc, role, value, key)?;
         entries.push(entry)?;
@@ -84,7 +84,7 @@ pub fn settle_each<T: Entry>(alloc: Global, drafts: &[T]) -> Result<Listed<T::Se
     requires { list_all T.has_room drafts.now ≡ true }
     ensures { IfOk result (λ entries. entries ≡ map T.settled drafts.now) }
 {
-    let mut entries = Vec::new(alloc);
+    let mut entries = Vec::with_capacity(alloc, drafts.len())?;
     for draft in drafts {
         entries.push(draft.settle(alloc)?)?;
     }

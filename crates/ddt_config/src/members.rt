@@ -154,7 +154,7 @@ fn locator_in(value: &Value, key: Key) -> Result<Locator, ConfigFault>
 fn read_locators(alloc: Global, values: &[Value], key: Key) -> Result<Listed<Locator>, ConfigFault>
     ensures { Reads (each (locator_of key) (map view values.now)) result }
 {
-    let mut locators = Vec::new(alloc);
+    let mut locators = Vec::with_capacity(alloc, values.len())?;
     for value in values {
         let locator = locator_in(value, key)?;
         locators.push(locator)?;

@@ -49,6 +49,9 @@ fn sorted_prefixes<T: Prefixed>(alloc: Global, items: &[T]) -> Result<Vec<Prefix
     for item in items {
         prefixes.push(item.prefix())?;
     }
+    if prefixes.is_sorted() {
+        return Ok(prefixes);
+    }
     prefixes.sort_unstable();
     Ok(prefixes)
 }

@@ -2,7 +2,9 @@
 
 ghost use Rattle.std.specs.Prelude.{◌≡◌};
 ghost use Rattle.std.specs.Cmp.{partial_equiv_from_equiv};
-ghost use Rattle.ddt_hash.specs.Key.{is_same_key, key_writes};
+ghost use Rattle.ddt_path.specs.Path.{path, IsForm};
+ghost use Rattle.ddt_path.specs.declared.form.Form.{Form as AForm};
+ghost use Rattle.ddt_hash.specs.Key.{is_same_key, key_writes, slot_of as slot_of_form};
 ghost use Rattle.ddt_hash.specs.KeyLemmas.{keys_equal, keys_alike};
 
 use ddt_path::{Form, Locator, Prefix};
@@ -23,6 +25,15 @@ impl Twin for u32 {
 
 /// How many IPv4 addresses an instance has.
 const ONE_INSTANCE: u64 = 1 << 32;
+
+/// A block of IPv4 addresses as a key, in a quarter of the memory that its prefix takes.
+#[derive(Clone, Copy, PartialEq, Eq, Hash)]
+pub struct BlockKey {
+    /// The Instance ID, and behind it the address.
+    pub number: u64,
+    /// How many digits of the address the block has.
+    pub len: u8,
+}
 
 /// A prefix as a key. Two are equal if and only if their paths are.
 #[derive(Clone, Copy)]
@@ -74,5 +85,34 @@ impl Hash for Key {
                 state.write_u8(len);
             }
         }
+    }
+}
+
+/// The key of a prefix.
+#[derive(Clone, Copy)]
+pub enum Slot {
+    Block(BlockKey),
+    Other(Key),
+}
+
+/// The key of a prefix, by the form that it is written down as.
+pub fn slot_of(prefix: Prefix) -> Slot
+    ensures { (form : AForm) × IsForm form × (path form ≡ prefix) × (result ≡ slot_of_form form) }
+{
+    match prefix.form() {
+        Form::Block {
+            iid,
+            address: Locator::V4(address),
+            len,
+        } => Slot::Block(BlockKey {
+            number: u64::from(iid) * ONE_INSTANCE + u64::from(address),
+            len,
+        }),
+        Form::Block {
+            iid: _iid,
+            address: Locator::V6(_address),
+            len: _len,
+        } => Slot::Other(Key { prefix }),
+        Form::Range { .. } => Slot::Other(Key { prefix }),
     }
 }

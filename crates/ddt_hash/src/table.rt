@@ -4,13 +4,12 @@
 ghost use Rattle.std.specs.Prelude.{◌≡◌, ◌≤◌, ℕ, None, Some, IsTrue, IsSome, IfSome, IfNone, IfOk, [], ◌∷◌, ◌++◌, take, length};
 ghost use Rattle.std.specs.List.Sorted.{IsNonDecreasing, IsPermutation};
 ghost use Rattle.std.specs.FinMap as map;
-ghost use Rattle.std.specs.HashMap as hash;
+ghost use Rattle.std.specs.Option.{option_map};
 ghost use Rattle.ddt_path.specs.Path.{xeid_path};
 ghost use Rattle.ddt_trie.specs.PrefixMap.{path_cmp, IsCovered, IsLongest};
-ghost use Rattle.ddt_hash.specs.Key.{is_same_key, key_of};
-ghost use Rattle.ddt_hash.specs.Table.{is_length, IsTableOf};
+ghost use Rattle.ddt_hash.specs.Table.{is_length, IsSetAt, IsTableOf};
 
-use crate::key::Key;
+use crate::key::{BlockKey, Key, Slot, slot_of};
 use ddt_path::{Prefix, Xeid};
 use std::alloc::{AllocError, Global};
 use std::collections::HashMap;
@@ -21,7 +20,10 @@ const MOST_LENGTHS: usize = 8;
 /// The values of prefixes.
 #[derive(Drop)]
 pub struct Table<V> {
-    values: HashMap<Key, V>,
+    /// The values of blocks of IPv4 addresses.
+    blocks: HashMap<BlockKey, V>,
+    /// The values of all other prefixes.
+    others: HashMap<Key, V>,
     /// The lengths that the prefixes have, from the shortest on.
     lengths: Vec<u8>,
 }
@@ -32,7 +34,8 @@ impl<V: Drop> Table<V> {
         ensures { IsTableOf result map.empty }
     {
         Table {
-            values: HashMap::new(alloc),
+            blocks: HashMap::new(alloc),
+            others: HashMap::new(alloc),
             lengths: Vec::new(alloc),
         }
     }
@@ -44,9 +47,22 @@ impl<V: Drop> Table<V> {
             → IfSome result (λ t. IsTableOf t (map.insert m prefix value)) }
     {
         self.lengths = with_length(self.lengths, prefix.len())?;
-        match self.values.insert(Key { prefix }, value) {
-            Ok(_before) => Some(self),
-            Err(_refused) => None,
+        self.set(slot_of(prefix), value)
+    }
+
+    /// The table with the value at a key set. None where memory runs out.
+    fn set(mut self, slot: Slot, value: V) -> Option<Table<V>>
+        ensures { IfSome result (λ t. IsSetAt self t slot value) }
+    {
+        match slot {
+            Slot::Block(key) => match self.blocks.insert(key, value) {
+                Ok(_before) => Some(self),
+                Err(_refused) => None,
+            },
+            Slot::Other(key) => match self.others.insert(key, value) {
+                Ok(_before) => Some(self),
+                Err(_refused) => None,
+            },
         }
     }
 
@@ -65,19 +81,31 @@ impl<V: Drop> Table<V> {
         None
     }
 
+    /// The value of a prefix.
+    fn get(&self, prefix: Prefix) -> Option<&V>
+        ensures { (m : map.FinMap path_cmp V) → IsTableOf self.now m
+            → option_map (λ v. v.now) result ≡ map.get m prefix }
+    {
+        match slot_of(prefix) {
+            Slot::Block(key) => self.blocks.get(&key),
+            Slot::Other(key) => self.others.get(&key),
+        }
+    }
+
     /// Its prefix of this length that covers the identifier, with its value.
     fn at_length(&self, x: Xeid, len: u8) -> Option<(Prefix, &V)>
         ensures fits { IfSome result (λ found. len ≤ length (xeid_path x)) }
         ensures front { IfSome result (λ found. found.0 ≡ take len (xeid_path x)) }
-        ensures value { IfSome result (λ f. hash.get is_same_key self.now.values (key_of f.0) ≡ Some f.1.now) }
-        ensures none { IfNone result (len ≤ length (xeid_path x)
-            → hash.get is_same_key self.now.values (key_of (take len (xeid_path x))) ≡ None) }
+        ensures value { (m : map.FinMap path_cmp V) → IsTableOf self.now m
+            → IfSome result (λ found. map.get m found.0 ≡ Some found.1.now) }
+        ensures none { (m : map.FinMap path_cmp V) → IsTableOf self.now m
+            → IfNone result (len ≤ length (xeid_path x) → map.get m (take len (xeid_path x)) ≡ None) }
     {
         if len > x.path_len() {
             return None;
         }
         let prefix = Prefix::cut(x, len);
-        match self.values.get(&Key { prefix }) {
+        match self.get(prefix) {
             Some(value) => Some((prefix, value)),
             None => None,
         }

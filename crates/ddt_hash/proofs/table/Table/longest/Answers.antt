@@ -12,10 +12,10 @@ pub returns-in-Some-clause-longest : goal.returns-in-Some-clause-longest
 returns-in-Some-clause-longest g c m is =
     found_longest c.args.self.now m is (xeid_path c.args.x) c.loop-at.at c.index.result.now c.in-Some.found.0 _
     (omega (arith, c.loop-at-test.true)) (omega (arith, c.loop-at.auto.at, c.len-at.ensures)) c.index.ensures
-    c.in-Some.ensures.fits c.in-Some.ensures.front c.in-Some.ensures.value (c.loop-at.invariant m is)
+    c.in-Some.ensures.fits c.in-Some.ensures.front (c.in-Some.ensures.value m is) (c.loop-at.invariant m is)
 
 pub loop-at-preserved : goal.loop-at-preserved
 loop-at-preserved g c m is =
     fewer c.args.self.now m is (xeid_path c.args.x) c.loop-at.at c.index.result.now
     (omega (arith, c.loop-at-test.true)) (omega (arith, c.loop-at.auto.at, c.len-at.ensures)) c.index.ensures
-    c.in_default.ensures.none (c.loop-at.invariant m is)
+    (c.in_default.ensures.none m is) (c.loop-at.invariant m is)

@@ -25,9 +25,9 @@ use ddt_plan::{ChangeCounts, GroupChange, OutcomeCounts, Reading, changes, group
 use std::alloc::Global;
 use std::io::{Read, Write};
 
-/// Writes a line for each block whose assignment changes from one register to the other, in the order of their digits,
-/// and behind them which groups' configurations change, and for how long caches may answer the old way; or how many
-/// there are of each kind. `open_file` gives a file, or None where it can't be opened. The writer is given back.
+/// Writes a line for each block whose assignment changes from one register to the other, in the order of their digits.
+/// Behind them stands which groups' configurations change, and for how long caches may answer the old way. Or it writes
+/// how many there are of each kind. `open_file` gives a file, or None where it can't be opened. The writer is given back.
 pub fn run_diff<F, O, W, E>(
     alloc: Global,
     asked: &DiffAsked<'_>,

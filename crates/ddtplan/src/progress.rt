@@ -37,7 +37,9 @@ impl<W: Write + Drop, T: Clock + Drop> Progress<W, T> {
     }
 
     /// Counts the lines of a text, and says how many there are where a second has passed.
-    fn note(&mut self, text: &[u8]) {
+    fn note(&mut self, text: &[u8])
+        ensures { self.new.out ≡ self.old.out }
+    {
         let ends = text.iter().filter(|byte| **byte == b'\n').count() as u64;
         self.lines = self.lines.saturating_add(ends);
         if self.lines >= self.next_look {
@@ -47,7 +49,9 @@ impl<W: Write + Drop, T: Clock + Drop> Progress<W, T> {
     }
 
     /// Says how many lines there are, where a second has passed since it last did.
-    fn tell(&mut self) {
+    fn tell(&mut self)
+        ensures { self.new.out ≡ self.old.out }
+    {
         let (Some(told), Ok(now)) = (self.told, Instant::now(&self.runtime)) else {
             return;
         };
@@ -64,7 +68,7 @@ impl<W: Write + Drop, T: Clock + Drop> Write for Progress<W, T> {
     fn write(&mut self, buf: &[u8]) -> io::Result<usize> {
         let count = self.out.write(buf)?;
         if self.told.is_some() {
-            self.note(buf);
+            self.note(&buf[..count]);
         }
         Ok(count)
     }

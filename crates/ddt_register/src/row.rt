@@ -1,6 +1,6 @@
 //! What one record spells: a zone, a site or a server group.
 
-ghost use Rattle.std.specs.Prelude.{◌≡◌, ◌≤◌, [], length, get_or};
+ghost use Rattle.std.specs.Prelude.{◌≡◌, ◌≤◌, [], length, get_or, MatchResult};
 ghost use Rattle.csv.specs.Records.{fields_of};
 ghost use Rattle.ddt_text.specs.FirstFault.{locator_in, prefix_in};
 ghost use Rattle.ddt_register.specs.Rows.{most_rows};
@@ -11,7 +11,7 @@ use crate::group::Group;
 use crate::site::Site;
 use crate::zone::Zone;
 use csv::ByteRecord;
-use ddt_path::{Listed, Locator, Name, Prefix, Role};
+use ddt_path::{Listed, Locator, MOST_LOCATORS, Name, Prefix, Role};
 use ddt_text::{parse_locator, parse_prefix};
 use std::alloc::Global;
 
@@ -49,14 +49,25 @@ fn read_locator(row: u32, text: &[u8]) -> Result<Locator, ReadFault>
     parse_locator(text).map_err(|_| ReadFault::Address(row))
 }
 
+/// An empty list with room for as many locators as a text has parts, but for no more than a group may have.
+fn room_for(alloc: Global, text: &[u8]) -> Result<Vec<Locator>, ReadFault>
+    ensures { MatchResult result (λ locators. locators.items ≡ []) (λ fault. fault ≡ ReadFault.Memory) }
+{
+    let parts = text
+        .split(|byte| *byte == b' ')
+        .take(MOST_LOCATORS)
+        .count();
+    Vec::with_capacity(alloc, parts).map_err(|_| ReadFault::Memory)
+}
+
 /// The locators, between which stands exactly one space; none in an empty text.
 fn read_locators(alloc: Global, row: u32, text: &[u8]) -> Result<Listed<Locator>, ReadFault>
     ensures { UnlessMemory result (locators_in (ReadFault.Address row) text.now) }
 {
-    let mut locators = Vec::new(alloc);
     if text.is_empty() {
-        return Ok(Listed::of(locators));
+        return Ok(Listed::of(Vec::new(alloc)));
     }
+    let mut locators = room_for(alloc, text)?;
     for part in text.split(|byte| *byte == b' ') {
         let locator = read_locator(row, part)?;
         locators.push(locator).map_err(|_| ReadFault::Memory)?;

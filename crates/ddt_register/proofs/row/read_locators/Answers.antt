@@ -9,13 +9,13 @@ use Rattle.ddt_register.proofs.row.read_locators.Goals as goal
 
 pub loop-part-init : goal.loop-part-init
 loop-part-init c =
-    rw (c.new-locators.ensures.items, c.into_iter-part-iterator.ensures.into_iter_gives) (
+    rw (c.in_ok-locators.ensures, c.into_iter-part-iterator.ensures.into_iter_gives) (
     PartsLeft-start (Address c.args.row) (slice_split (λ b. nat_eq b 32) c.args.text.now)
     (YieldsList-from_slice_split _ _ c.args.text.now c.split-part-items.ensures.rest c.split-part-items.ensures.done c.split-part-items.ensures.closure (λ x r q k. search (rules, tests))))
 
 pub returns-in_err-locator : goal.returns-in_err-locator
 returns-in_err-locator c =
-    let e : c.from_residual.result ≡ Err c.in_err-locator.field-0.0 = search rules in
+    let e : c.from_residual-in_err-locator.result ≡ Err c.in_err-locator.field-0.0 = search rules in
     rw (e, sym c.is_empty.ensures ∙ c.if-is_empty.false) (
     PartsLeft-fault c.loop-part.part-iterator c.next.new.self c.in-Some.part c.in_err-locator.field-0.0 c.loop-part.invariant c.in-Some.ensures.steps (sym c.in_err-locator.ensures))
 

@@ -11,7 +11,9 @@ not_after Less h = refl
 not_after Equal h = refl
 not_after Greater h = absurd (false≢true h)
 
-pub in_order : (xs : List (List ℕ)) → AllAdjacentBelow (λ x y. is_some_and is_le (Some (slice_cmp nat_cmp x y)) ≡ true) xs (length xs) → IsSorted (slice_cmp nat_cmp) xs
+pub in_order : (xs : List (List ℕ))
+    → AllAdjacentBelow (λ x y. is_some_and is_le (Some (slice_cmp nat_cmp x y)) ≡ true) xs (length xs)
+    → IsSorted (slice_cmp nat_cmp) xs
 in_order xs h =
     λ k d low inside. let a = get_or xs k d in let b = get_or xs (k + 1) d in
     ap is_lt (nat_list_cmp_total.antisymm b a) ∙ not_after (slice_cmp nat_cmp a b) (h k d inside)

@@ -56,13 +56,15 @@ same_form : (f g : Form) → IsForm f → IsForm g → path f ≡ path g → f �
 same_form f g a b e = sym (form_of-path f a) ∙ ap form_of e ∙ form_of-path g b
 
 apart : (f g : Form) → IsForm f → IsForm g → (f ≡ g → ⊥) → is_same_path (path f) (path g) ≡ false
-apart f g a b other = false_from_ne_true (is_same_path (path f) (path g)) (λ e. other (same_form f g a b (same_path (path f) (path g) e)))
+apart f g a b other =
+    false_from_ne_true (is_same_path (path f) (path g)) (λ e. other (same_form f g a b (same_path (path f) (path g) e)))
 
 same_words : (i a j b : ℕ) → a < 2 ^ 32 → b < 2 ^ 32 → i * 2 ^ 32 + a ≡ j * 2 ^ 32 + b → (i ≡ j) × (a ≡ b)
 same_words i a j b low high e = (omega arith, omega arith)
 
 same_block : (i a m j b n : ℕ) → IsForm (Block i (V4 a) m) → IsForm (Block j (V4 b) n)
-    → is_same_path (path (Block i (V4 a) m)) (path (Block j (V4 b) n)) ≡ is_same_block (record { number = i * 2 ^ 32 + a; len = m }) (record { number = j * 2 ^ 32 + b; len = n })
+    → is_same_path (path (Block i (V4 a) m)) (path (Block j (V4 b) n))
+    ≡ is_same_block (record { number = i * 2 ^ 32 + a; len = m }) (record { number = j * 2 ^ 32 + b; len = n })
 same_block i a m j b n f g =
     let p = path (Block i (V4 a) m) in
     let q = path (Block j (V4 b) n) in
@@ -75,7 +77,8 @@ same_block i a m j b n f g =
     path_itself p q (λ k. path (Block (words.0 k) (V4 (words.1 k)) (eqb-true m n parts.1 k))))
 
 -- two forms have one path if and only if they have one key
-pub same_slots : (f g : Form) → IsForm f → IsForm g → is_same_path (path f) (path g) ≡ is_same_slot (slot_of f) (slot_of g)
+pub same_slots : (f g : Form) → IsForm f → IsForm g
+    → is_same_path (path f) (path g) ≡ is_same_slot (slot_of f) (slot_of g)
 same_slots (Range i m) (Range j n) a b = refl
 same_slots (Range i m) (Block j (V4 y) n) a b = apart (Range i m) (Block j (V4 y) n) a b (λ e. cc)
 same_slots (Range i m) (Block j (V6 y) n) a b = refl
@@ -86,10 +89,12 @@ same_slots (Block i (V6 x) m) (Range j n) a b = refl
 same_slots (Block i (V6 x) m) (Block j (V4 y) n) a b = apart (Block i (V6 x) m) (Block j (V4 y) n) a b (λ e. cc)
 same_slots (Block i (V6 x) m) (Block j (V6 y) n) a b = refl
 
-pub other_slot : (form : Form) (p : List ℕ) (i n a : ℕ) → form ≡ Block i (V6 a) n → path form ≡ p → slot.Other (key_of p) ≡ slot_of form
+pub other_slot : (form : Form) (p : List ℕ) (i n a : ℕ) → form ≡ Block i (V6 a) n → path form ≡ p
+    → slot.Other (key_of p) ≡ slot_of form
 other_slot form p i n a e is = rw e (ap (λ (q : List ℕ). slot.Other (key_of q)) (sym (rw e at is)))
 
-pub nothing_at : {V : Type 0} (t : Table V) → ((k : BlockKey) → hash.get is_same_block t.blocks k ≡ None) → ((k : Key) → hash.get is_same_key t.others k ≡ None) → (f : Form) → value_at t (slot_of f) ≡ None
+pub nothing_at : {V : Type 0} (t : Table V) → ((k : BlockKey) → hash.get is_same_block t.blocks k ≡ None)
+    → ((k : Key) → hash.get is_same_key t.others k ≡ None) → (f : Form) → value_at t (slot_of f) ≡ None
 nothing_at t blocks others (Range i n) = others _
 nothing_at t blocks others (Block i (V4 a) n) = blocks _
 nothing_at t blocks others (Block i (V6 a) n) = others _
@@ -102,10 +107,12 @@ module _ {V : Type 0} (m : FinMap path_cmp V) (p : List ℕ) (v : V) where
   value_by false q e = sym (get-insert_other m p v q (λ same. absurd (false≢true (sym e ∙ path_itself p q same))))
 
   -- the value at a form, where the keys of the two forms are one or not
-  pub put : (before after : Option V) (q : List ℕ) (same : Bool) → before ≡ get m q → is_same_path p q ≡ same → after ≡ cond same (Some v) before → after ≡ get (insert m p v) q
+  pub put : (before after : Option V) (q : List ℕ) (same : Bool) → before ≡ get m q → is_same_path p q ≡ same
+      → after ≡ cond same (Some v) before → after ≡ get (insert m p v) q
   put before after q same old is new = new ∙ ap (cond same (Some v)) old ∙ value_by same q is
 
-  pub put_at : (t u : Table V) (r : Slot) (f : Form) → IsForm f → path f ≡ p → r ≡ slot_of f → IsSetAt t u r v → ((g : Form) → IsForm g → value_at t (slot_of g) ≡ get m (path g))
+  pub put_at : (t u : Table V) (r : Slot) (f : Form) → IsForm f → path f ≡ p → r ≡ slot_of f → IsSetAt t u r v
+      → ((g : Form) → IsForm g → value_at t (slot_of g) ≡ get m (path g))
       → (g : Form) → IsForm g → value_at u (slot_of g) ≡ get (insert m p v) (path g)
   put_at t u r f fits is e set same g at =
       put (value_at t (slot_of g)) (value_at u (slot_of g)) (path g) (is_same_slot (slot_of f) (slot_of g)) (same g at)

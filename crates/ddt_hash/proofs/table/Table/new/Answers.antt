@@ -12,7 +12,8 @@ use Rattle.ddt_hash.proofs.table.Table.new.Goals as goal
 
 pub returns : goal.returns
 returns g c = record {
-  same = λ f fits. nothing_at (record { blocks = c.new.result; others = c.new-2.result; lengths = c.new-3.result }) (λ k. ap (lookup (is_same_block k)) c.new.ensures.empty) (λ k. ap (lookup (is_same_key k)) c.new-2.ensures.empty) f
+  same = λ f fits. nothing_at (record { blocks = c.new.result; others = c.new-2.result; lengths = c.new-3.result })
+      (λ k. ap (lookup (is_same_block k)) c.new.ensures.empty) (λ k. ap (lookup (is_same_key k)) c.new-2.ensures.empty) f
       ∙ sym (get-empty path_cmp (path f));
   known = λ p key. absurd (false≢true (sym (ap (λ (o : Option _). is_some o) (get-empty path_cmp p)) ∙ key));
   rising = IsNonDecreasingBy-short (λ n. n) _ (omega (arith, c.new-3.ensures.len));

@@ -1,4 +1,5 @@
 pub mod WriterLemmas
 pub mod SinkLemmas
+pub mod AnswerLemmas
 pub mod EndLemmas
 pub mod FloatLemmas

@@ -87,6 +87,10 @@ front_after a b c xs ys h k =
 pub front_before : (a c : Option (List ℕ)) (ys zs : List ℕ) → AppendsFront a c ys → AppendsFront a c (ys ++ zs)
 front_before a c ys zs k = front_behind a a c [] ys zs (appends_none a) k
 
+-- a whole text is a front of one
+pub text_front : (is_text : List ℕ → Type 0) (a b : Option (List ℕ)) → HasText is_text a b → HasFront is_text a b
+text_front is_text a b h = inr (h.0, h.1, whole_front a b h.0 h.2)
+
 module _ {S T R : Type 0} (takes : S → T → Result (Unit {0}) R → S → Type 0) (contents : S → Option (List ℕ))
     (text : T → List ℕ) (IsSo : S → Type 0) where
   -- Such a sink appends the text of an item that it takes, and a front of it where it refuses the item.

@@ -2,8 +2,7 @@
 use Rattle.std.proofs.Common.{◌≡◌, ℕ, suc, ◌+◌, ◌<◌, Bool, true, false, cond, List, [], ◌∷◌, ◌++◌, take, length, map, find, get_or, Option, Some, None, Ordering, Less, Equal, Greater, refl, sym, ap, ◌∙◌, arith}
 use Rattle.std.specs.Prelude.{slice_set}
 use Rattle.std.specs.Option.{option_map}
-use Rattle.std.proofs.lemmas.List.{length-map, take_more_set, get_or-map}
-use Rattle.std.proofs.Math.Seq.{take-suc}
+use Rattle.std.proofs.lemmas.List.{length-map, get_or-map}
 use Rattle.std.specs.List.Sorted.{IsSortedByKey}
 use Rattle.std.specs.Ordering.{nat_cmp, is_lt, ordering_then}
 use Rattle.ddt_check.specs.Order.{IsInOrder}
@@ -16,6 +15,7 @@ use Rattle.ddt_register.specs.laws.Rising.{groups_rise}
 use Rattle.ddt_register.specs.laws.RowOrder.{Rising, rising_from_rise}
 use Rattle.ddt_check.specs.declared.rules.locators.Cell.{Cell}
 use Rattle.ddt_check.specs.Columns.{key_list, column_key, locator_key, cell_of, cell_key, first_in}
+use Rattle.ddt_check.proofs.EntryLemmas.{one_more_written}
 
 regroup : (a b c : Ordering)
     → ordering_then (ordering_then a (ordering_then b Equal)) c ≡ ordering_then (ordering_then a b) c
@@ -41,7 +41,7 @@ in_order_by_pairs pair row xs sorted = λ k d low lt.
 abbrev pub cell_row : Cell → ℕ
 cell_row x = x.row
 
-abbrev group_row : Group → ℕ
+abbrev pub group_row : Group → ℕ
 group_row g = g.row
 
 cell_rows : (k : ℕ) (gs : List Group) → map cell_row (map (cell_of k) gs) ≡ map group_row gs
@@ -49,7 +49,8 @@ cell_rows k [] = refl
 cell_rows k (g ∷ gs) = ap (λ (rows : List ℕ). g.row ∷ rows) (cell_rows k gs)
 
 pub cells_up : (r : Register) (k : ℕ) → Rising cell_row (map (cell_of k) r.groups)
-cells_up r k = rising_from_rise cell_row (map (cell_of k) r.groups) 0 (ap (rise 0) (cell_rows k r.groups) ∙ groups_rise r)
+cells_up r k = rising_from_rise cell_row (map (cell_of k) r.groups) 0
+    (ap (rise 0) (cell_rows k r.groups) ∙ groups_rise r)
 
 first_cell : (k : ℕ) (l : Locator) (gs : List Group)
     → find (λ (x : Cell). is_same_path (cell_key x) (locator_key l)) (map (cell_of k) gs)
@@ -79,8 +80,5 @@ pub one_written : (k i : ℕ) (gs : List Group) (xs : List Cell) (g : Group) →
     → take (i + 1) (slice_set xs i (cell_of k g)) ≡ take (i + 1) (map (cell_of k) gs)
 one_written k i gs xs g lt n is so_far =
     let f = cell_of k in
-    let inside : i < length gs = omega arith in
-    let next : i + 1 ≡ suc i = omega arith in
-    take_more_set xs i (f g) lt ∙ ap (λ (ys : List Cell). ys ++ (f g ∷ [])) so_far
-    ∙ ap (λ (y : Cell). take i (map f gs) ++ (y ∷ [])) (ap f is ∙ sym (get_or-map f gs i g (f g) inside))
-    ∙ sym (ap (λ (n : ℕ). take n (map f gs)) next ∙ take-suc (map f gs) i (f g) (omega (arith, length-map gs f)))
+    one_more_written (map f gs) xs i (f g) lt (n ∙ sym (length-map gs f))
+    (ap f is ∙ sym (get_or-map f gs i g (f g) (omega arith))) so_far

@@ -1,11 +1,11 @@
 -- Entries that are sorted by the numbers of their items, and then by the items.
 use Rattle.std.proofs.Common.{◌≡◌, ℕ, suc, ◌+◌, ◌<◌, ◌≤◌, true, false, List, [], ◌∷◌, ◌++◌, take, length, map, get_or, Ordering, Less, Equal, Greater, inl, inr, refl, sym, ap, ◌∙◌, arith}
-use Rattle.std.specs.Prelude.{Bool, slice_set, IsSorted}
+use Rattle.std.specs.Prelude.{Bool, ◌==◌, ◌&&◌, ◌||◌, nat_lt, slice_set, IsSorted}
 use Rattle.std.specs.List.Sorted.{IsPartitionedBy, IsPartitionPoint}
 use Rattle.std.specs.Cmp.{nat_cmp_is}
 use Rattle.std.specs.Ordering.{nat_cmp, is_lt, ordering_then, ordering_reverse}
 use Rattle.std.specs.Cmp.Lexicographic.{slice_cmp, nat_list_cmp_total}
-use Rattle.std.proofs.lemmas.Bool.{false≢true, cases_lt, cases_eq}
+use Rattle.std.proofs.lemmas.Bool.{false≢true, cases_lt, cases_eq, lt-ltb, le-ltb, eq-eqb, ne_eqb}
 use Rattle.std.proofs.lemmas.List.{length-map, length-set, take_all, take_more_set, map-set, get_or-map}
 use Rattle.std.proofs.Math.Seq.{take-suc}
 use Rattle.ddt_check.specs.Order.{in_order, IsInOrder}
@@ -32,6 +32,25 @@ by_front key row a b m n up down apart = elim (cases_lt m n) [
         ∙ sym (ap (λ (o : Ordering). ordering_then o (nat_cmp (row a) (row b)))
         (nat_list_cmp_total.antisymm (key a) (key b)
         ∙ ap ordering_reverse (less_from (slice_cmp nat_cmp (key b) (key a)) (down lt))))
+  ]
+]
+
+-- the same of a search for what stands before a key
+pub lt_by_front : (a b : List ℕ) (m n : ℕ) → (m < n → is_lt (slice_cmp nat_cmp a b) ≡ true)
+    → (n < m → is_lt (slice_cmp nat_cmp b a) ≡ true)
+    → (nat_lt m n || (m == n && is_lt (slice_cmp nat_cmp a b))) ≡ is_lt (slice_cmp nat_cmp a b)
+lt_by_front a b m n up down = elim (cases_lt m n) [
+  | inl lt ↦ ap (λ (x : Bool). x || (m == n && is_lt (slice_cmp nat_cmp a b))) (lt-ltb m n lt) ∙ sym (up lt)
+  | inr ge ↦ elim (cases_eq m n) [
+    | inl same ↦
+        ap (λ (x : Bool). x || (m == n && is_lt (slice_cmp nat_cmp a b))) (le-ltb m n ge)
+        ∙ ap (λ (x : Bool). x && is_lt (slice_cmp nat_cmp a b)) (eq-eqb m n same)
+    | inr differ ↦
+        let lt : n < m = omega arith in
+        ap (λ (x : Bool). x || (m == n && is_lt (slice_cmp nat_cmp a b))) (le-ltb m n ge)
+        ∙ ap (λ (x : Bool). x && is_lt (slice_cmp nat_cmp a b)) (ne_eqb m n differ)
+        ∙ sym (ap is_lt (nat_list_cmp_total.antisymm a b
+        ∙ ap ordering_reverse (less_from (slice_cmp nat_cmp b a) (down lt))))
   ]
 ]
 
@@ -62,7 +81,8 @@ pub one_entry_written : {E A : Type 0} (item : E → A) (ys : List A) (xs : List
     → take (i + 1) (map item (slice_set xs i e)) ≡ take (i + 1) ys
 one_entry_written item ys xs i e lt n is so_far =
     ap (take (i + 1)) (map-set item xs i e)
-    ∙ one_more_written ys (map item xs) i (item e) (omega (arith, length-map xs item)) (length-map xs item ∙ n) is so_far
+    ∙ one_more_written ys (map item xs) i (item e) (omega (arith, length-map xs item)) (length-map xs item ∙ n) is
+    so_far
 
 pub all_written : {A : Type 0} (ys xs : List A) (i : ℕ) → length xs ≡ length ys → length ys ≤ i
     → take i xs ≡ take i ys → xs ≡ ys

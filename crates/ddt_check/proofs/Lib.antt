@@ -8,5 +8,6 @@ pub mod NameLemmas
 pub mod EntryKinds
 pub mod EntryLemmas
 pub mod ColumnLemmas
+pub mod MarkLemmas
 pub mod WrongLemmas
 pub mod RuleLemmas

@@ -1,5 +1,5 @@
 -- The locators of groups by columns, as pairs of numbers that can be sorted, and the rows of groups that share one.
-use Rattle.std.specs.Prelude.{ℕ, Bool, false, ◌==◌, ◌&&◌, ◌||◌, not, nat_lt, List, [], ◌∷◌, length, drop, find, slice_get, max, Option, None, Some}
+use Rattle.std.specs.Prelude.{ℕ, ◌+◌, ◌/◌, ◌%◌, ◌^◌, ◌<◌, ◌≡◌, slice_index_or, Bool, true, false, ◌==◌, ◌&&◌, ◌||◌, not, nat_lt, List, [], ◌∷◌, length, drop, find, slice_get, max, Option, None, Some}
 use Rattle.std.specs.List.{list_any}
 use Rattle.std.specs.Option.{option_map_or}
 use Rattle.ddt_path.specs.declared.locator.Locator.{Locator}
@@ -45,6 +45,15 @@ cell_pair c = (c.family, c.number)
 
 abbrev pub cell_key : Cell → List ℕ
 cell_key c = key_list (cell_pair c)
+
+-- where the mark of a locator stands, by its number
+abbrev pub slot_of : ℕ → ℕ
+slot_of number = number % 262144 + number / 2 ^ 64 % 262144
+
+-- the mark of each cell is set, where there is one
+abbrev pub AreMarked : List Bool → List Cell → Type 0
+AreMarked marks cells = (i : ℕ) (d : Cell) → i < length cells
+    → slice_index_or marks (slot_of (slice_index_or cells i d).number) true ≡ true
 
 -- the first group row that has the locator in the column
 abbrev pub first_in : Register → ℕ → Locator → Option Group

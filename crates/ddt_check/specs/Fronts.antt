@@ -1,5 +1,5 @@
--- Numbers of 64 binary digits that settle most comparisons of prefixes.
-use Rattle.std.specs.Prelude.{ℕ, ◌+◌, ◌*◌, ◌/◌, ◌^◌, List}
+-- Numbers of 64 binary digits that settle most comparisons of prefixes and of names.
+use Rattle.std.specs.Prelude.{ℕ, zero, suc, ◌+◌, ◌*◌, ◌/◌, ◌^◌, List, [], ◌∷◌}
 use Rattle.ddt_path.specs.declared.locator.Locator.{Locator}
 use Rattle.ddt_path.specs.declared.locator.Locator.TheVariants.{V4, V6}
 use Rattle.ddt_path.specs.declared.form.Form.{Form}
@@ -18,3 +18,13 @@ form_front (Block iid address len) = iid * 2 ^ 32 + address_front address
 
 abbrev pub prefix_front : List ℕ → ℕ
 prefix_front path = form_front (form_of path)
+
+-- the first bytes of a list as digits of base 256, zeros where it has fewer
+abbrev pub bytes_front : ℕ → List ℕ → ℕ
+bytes_front zero bytes = 0
+bytes_front (suc n) [] = 0
+bytes_front (suc n) (byte ∷ bytes) = byte * 256 ^ n + bytes_front n bytes
+
+-- the first eight
+abbrev pub name_front : List ℕ → ℕ
+name_front name = bytes_front 8 name

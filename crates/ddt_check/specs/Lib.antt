@@ -1,5 +1,4 @@
 pub mod Zones
-pub mod FormOrder
 pub mod Fronts
 pub mod Rules
 pub mod Order

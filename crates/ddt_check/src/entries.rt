@@ -9,7 +9,7 @@ use std::cmp::Ordering;
 
 /// An item with the number that settles most comparisons, 16 bytes in place of its own.
 pub struct Entry<'a, T: Keyed> {
-    front: u64,
+    pub front: u64,
     pub item: &'a T,
     ghost fronted: { front ≡ T.front_of item.now },
     ghost in_range: { IsTrue (T.is_in_range item.now) },

@@ -3,10 +3,10 @@
 ghost use Rattle.std.specs.Prelude.{◌≡◌, ◌==◌, ◌<◌, true, IsTrue, List, ℕ};
 ghost use Rattle.std.specs.Cmp.Lexicographic.{pointwise, slice_cmp};
 ghost use Rattle.std.specs.Ordering.{nat_cmp, is_lt};
-ghost use Rattle.ddt_check.specs.Fronts.{prefix_front as prefix_front_of};
+ghost use Rattle.ddt_check.specs.Fronts.{prefix_front as prefix_front_of, name_front as name_front_of};
 ghost use Rattle.ddt_check.specs.laws.Fronts.{zones_by_front, sites_by_front, groups_by_front};
 
-use crate::fronts::prefix_front;
+use crate::fronts::{name_front, prefix_front};
 use ddt_register::{Group, Item, Site, Zone};
 use std::cmp::Ordering;
 
@@ -77,7 +77,7 @@ impl Keyed for Site {
 impl Keyed for Group {
     ghost key = { λ g. g.name };
 
-    ghost front_of = { λ g. 0 };
+    ghost front_of = { λ g. name_front_of g.name };
 
     fn has_same_key(&self, other: &Group) -> bool {
         self.name == other.name
@@ -88,7 +88,7 @@ impl Keyed for Group {
     }
 
     fn front(&self) -> u64 {
-        0
+        name_front(&self.name)
     }
 
     ghost fronts = { groups_by_front };

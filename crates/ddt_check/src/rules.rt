@@ -1,5 +1,5 @@
-//! The ten rules, each as the least row that breaks it, over lists that are sorted in place: by prefix or name, then
-//! by row. An item's duplicates then stand beside it, and a name, a locator or a zone is found by halving.
+//! The ten rules, each as the least row that breaks it, over sorted entries: by prefix or name, then by row. An item's
+//! duplicates then stand beside it, and a name, a locator or a zone is found by halving.
 
 ghost use Rattle.std.specs.Prelude.{◌≡◌, Bool, List, min, Some, IsPermutation};
 ghost use Rattle.std.specs.Option.{option_map_or};

@@ -1,5 +1,5 @@
-//! The rule on the locators of groups. Their first locators are sorted, then their second ones, and so on, as small cells
-//! in a frame; in each such column a locator is found by halving.
+//! The rule on the locators of groups. Their first locators are sorted, then their second ones, and so on, as small
+//! cells in a frame; in each such column a locator is found by halving.
 
 ghost use Rattle.std.specs.Prelude.{◌≡◌, ◌<◌, ◌≤◌, ℕ, true, nat_lt, IsPermutation, map, drop, length};
 ghost use Rattle.std.specs.List.{list_any};
@@ -9,7 +9,7 @@ ghost use Rattle.ddt_register.specs.Rows.{rise, group_rows};
 ghost use Rattle.ddt_check.specs.Rules.{IsLeastRow, broken, group_at};
 ghost use Rattle.ddt_check.specs.Order.{IsInOrder};
 ghost use Rattle.ddt_check.specs.Columns.{locator_pair as locator_pair_of, column_pair as column_pair_of};
-ghost use Rattle.ddt_check.specs.Columns.{cell_of, cell_key};
+ghost use Rattle.ddt_check.specs.Columns.{cell_of, cell_key, slot_of, AreMarked};
 ghost use Rattle.ddt_check.specs.Columns.{first_in as first_of, meets_at, meets_in, is_met, is_wrong_alone as is_wrong_of};
 
 use crate::fault::Rule;
@@ -91,6 +91,29 @@ impl Cell {
     }
 }
 
+/// How many marks a large frame has. A mark is set where some locator of the column has that slot.
+const MARKS: usize = 524_288;
+
+/// The slot of a locator's number: the sum of 18 digits of each of its halves.
+fn slot(number: u128) -> usize
+    ensures { result ≡ slot_of number }
+{
+    (number % 262_144 + (number >> 64) % 262_144) as usize
+}
+
+/// Sets the marks of a column's locators, and no others. Where there are few marks, or none, a slot may have none.
+fn mark_column(marks: &mut [bool], cells: &[Cell])
+    ensures { AreMarked marks.new cells.now }
+{
+    marks.fill(false);
+    for cell in cells {
+        let at = slot(cell.number);
+        if at < marks.len() {
+            marks[at] = true;
+        }
+    }
+}
+
 /// Writes the cells of a column, in the order of the groups.
 fn write_column(cells: &mut [Cell], groups: &[Group], column: usize)
     requires { length cells.old ≡ length groups.now }
@@ -112,8 +135,8 @@ fn sort_column(cells: &mut [Cell], groups: &[Group], column: usize)
     cells.sort_unstable_by_key(|cell| cell.sort_key());
 }
 
-/// The row of the first group that has a locator in the column.
-fn first_in(cells: &[Cell], l: Locator) -> Option<u32>
+/// The row of the first group that has a locator in the column, found by halving.
+fn searched(cells: &[Cell], l: Locator) -> Option<u32>
     requires { IsInOrder cell_key (λ c. c.row) cells.now }
     ensures { (r : ARegister) (column : ℕ) → IsPermutation (map (cell_of column) r.groups) cells.now
         → result ≡ option_map (λ g. g.row) (first_of r column l) }
@@ -126,13 +149,29 @@ fn first_in(cells: &[Cell], l: Locator) -> Option<u32>
     None
 }
 
+/// The row of the first group that has a locator in the column. Most locators that none has are told by a mark.
+fn first_in(cells: &[Cell], marks: &[bool], l: Locator) -> Option<u32>
+    requires sorted { IsInOrder cell_key (λ c. c.row) cells.now }
+    requires marked { AreMarked marks.now cells.now }
+    ensures { (r : ARegister) (column : ℕ) → IsPermutation (map (cell_of column) r.groups) cells.now
+        → result ≡ option_map (λ g. g.row) (first_of r column l) }
+{
+    let (_family, number) = locator_pair(l);
+    let at = slot(number);
+    if at < marks.len() && !marks[at] {
+        return None;
+    }
+    searched(cells, l)
+}
+
 /// Where the first group row that has the locator in the column isn't the group's own, the later of both rows.
-fn meeting_row(cells: &[Cell], g: &Group, l: Locator) -> Option<u32>
-    requires { IsInOrder cell_key (λ c. c.row) cells.now }
+fn meeting_row(cells: &[Cell], marks: &[bool], g: &Group, l: Locator) -> Option<u32>
+    requires sorted { IsInOrder cell_key (λ c. c.row) cells.now }
+    requires marked { AreMarked marks.now cells.now }
     ensures { (r : ARegister) (column : ℕ) → IsPermutation (map (cell_of column) r.groups) cells.now
         → IsLeastRow (meets_at r column g.now l) result }
 {
-    match first_in(cells, l) {
+    match first_in(cells, marks, l) {
         Some(row) if row != g.row => Some(row.max(g.row)),
         _ => None,
     }
@@ -150,29 +189,31 @@ fn locators_from(locators: &[Locator], place: usize) -> &[Locator]
 }
 
 /// The least row of those where another group has one of the group's locators, from the column on, in the column.
-fn least_meeting(cells: &[Cell], column: usize, g: &Group) -> Option<u32>
-    requires { IsInOrder cell_key (λ c. c.row) cells.now }
+fn least_meeting(cells: &[Cell], marks: &[bool], column: usize, g: &Group) -> Option<u32>
+    requires sorted { IsInOrder cell_key (λ c. c.row) cells.now }
+    requires marked { AreMarked marks.now cells.now }
     ensures { (r : ARegister) → IsPermutation (map (cell_of column) r.groups) cells.now
         → IsLeastRow (meets_in r column g.now) result }
 {
     let mut least = None;
     let locators = locators_from(g.locators.as_slice(), column);
     for l in locators {
-        least = lower_of(least, meeting_row(cells, g, *l));
+        least = lower_of(least, meeting_row(cells, marks, g, *l));
     }
     least
 }
 
 /// The least row of a group that shares a locator with an earlier one, where the one has it in the column, and the
 /// other in the column or behind it.
-fn shared(cells: &[Cell], groups: &[Group], column: usize) -> Option<u32>
+fn shared(cells: &[Cell], marks: &[bool], groups: &[Group], column: usize) -> Option<u32>
     requires sorted { IsInOrder cell_key (λ c. c.row) cells.now }
+    requires marked { AreMarked marks.now cells.now }
     requires moved { IsPermutation (map (cell_of column) groups.now) cells.now }
     ensures { (r : ARegister) → r.groups ≡ groups.now → IsLeastRow (is_met r column) result }
 {
     let mut least = None;
     for g in groups {
-        least = lower_of(least, least_meeting(cells, column, g));
+        least = lower_of(least, least_meeting(cells, marks, column, g));
     }
     least
 }
@@ -200,7 +241,7 @@ fn has_column(groups: &[Group], column: usize) -> bool
 }
 
 /// The least row of a group with no locator, more than 8, or one that isn't new, by a cell for each group.
-fn wrong_by_cells(cells: &mut [Cell], groups: &[Group]) -> Option<u32>
+fn wrong_by_cells(cells: &mut [Cell], marks: &mut [bool], groups: &[Group]) -> Option<u32>
     requires { length cells.old ≡ length groups.now }
     ensures { (r : ARegister) → r.groups ≡ groups.now → IsLeastRow (broken r Rule.Locators) result }
 {
@@ -210,7 +251,8 @@ fn wrong_by_cells(cells: &mut [Cell], groups: &[Group]) -> Option<u32>
             return least;
         }
         sort_column(cells, groups, column);
-        least = lower_of(least, shared(cells, groups, column));
+        mark_column(marks, cells);
+        least = lower_of(least, shared(cells, marks, groups, column));
     }
     least
 }
@@ -221,7 +263,7 @@ fn wrong_of_few(groups: &[Group]) -> Option<u32>
     ensures { (r : ARegister) → r.groups ≡ groups.now → IsLeastRow (broken r Rule.Locators) result }
 {
     let mut cells = [Cell::EMPTY; 1_024];
-    wrong_by_cells(&mut cells[..groups.len()], groups)
+    wrong_by_cells(&mut cells[..groups.len()], &mut [], groups)
 }
 
 /// The same of as many groups as a register has at most.
@@ -230,7 +272,8 @@ fn wrong_of_many(groups: &[Group]) -> Option<u32>
     ensures { (r : ARegister) → r.groups ≡ groups.now → IsLeastRow (broken r Rule.Locators) result }
 {
     let mut cells = [Cell::EMPTY; 65_535];
-    wrong_by_cells(&mut cells[..groups.len()], groups)
+    let mut marks = [false; MARKS];
+    wrong_by_cells(&mut cells[..groups.len()], &mut marks, groups)
 }
 
 /// The least row of a group with no locator, more than 8, or one that isn't new.

@@ -1,7 +1,11 @@
 //! The rules that a zone may break. A root is looked for in the order of rows; the other rules see zones that are
 //! sorted by their prefixes, then by their rows.
 
-ghost use Rattle.std.specs.Prelude.{◌≡◌, ◌&&◌, not, false, IsPermutation, map};
+ghost use Rattle.std.specs.Prelude.{◌≡◌, ◌==◌, ◌&&◌, ◌||◌, not, nat_lt, false, IsTrue, IsPermutation, map};
+ghost use Rattle.std.specs.Ordering.{nat_cmp, is_lt};
+ghost use Rattle.std.specs.Cmp.Lexicographic.{slice_cmp};
+ghost use Rattle.ddt_path.specs.Names.{is_name};
+ghost use Rattle.ddt_check.specs.Fronts.{name_front as name_front_of};
 ghost use Rattle.std.specs.List.{list_any};
 ghost use Rattle.std.specs.Option.{option_map, option_map_or, option_copied};
 ghost use Rattle.ddt_path.specs.Covers.{covers, is_strictly_below};
@@ -16,6 +20,7 @@ ghost use Rattle.ddt_check.specs.Sorted.{IsLeastOfZones, IsLeastOfBoth};
 
 use crate::entries::Entry;
 use crate::fault::Rule;
+use crate::fronts::name_front;
 use crate::rules::{least_row, lower};
 use ddt_path::{Name, Role};
 use ddt_register::{Group, Register, Zone, first_row};
@@ -103,13 +108,51 @@ pub fn below_map_server(entries: &[Entry<Zone>]) -> Option<u32>
     least
 }
 
+/// A name that is looked for, with the number that settles most comparisons.
+#[derive(Clone, Copy)]
+struct Sought {
+    name: Name,
+    front: u64,
+    ghost fronted: { front ≡ name_front_of name },
+    ghost is_name: { IsTrue (is_name name) },
+}
+
+impl Sought {
+    ghost use Rattle.std.specs.Prelude.{◌≡◌};
+
+    fn of(name: Name) -> Sought
+        ensures { result.name ≡ name }
+    {
+        let _bytes = name.as_bytes();
+        let front = name_front(&name);
+        Sought { name, front }
+    }
+}
+
+/// Whether a group's name stands before the one that is looked for, by their numbers and, where these tie, themselves.
+fn is_before_by_front(entry: &Entry<Group>, sought: &Sought) -> bool
+    ensures { result ≡ (nat_lt entry.now.front sought.now.front || (entry.now.front == sought.now.front
+        && is_lt (slice_cmp nat_cmp entry.now.item.now.name sought.now.name))) }
+{
+    entry.front < sought.front
+        || (entry.front == sought.front && entry.item.name < sought.name)
+}
+
+/// Whether a group's name stands before the one that is looked for.
+fn is_before(entry: &Entry<Group>, sought: &Sought) -> bool
+    ensures { result ≡ is_lt (slice_cmp nat_cmp entry.now.item.now.name sought.now.name) }
+{
+    is_before_by_front(entry, sought)
+}
+
 /// The first group row of a name.
 fn group_named<'a>(groups: &[Entry<'a, Group>], name: Name) -> Option<&'a Group>
     requires { AreGroupsInOrder (map (λ e. e.item.now) groups.now) }
     ensures { (r : ARegister) → IsPermutation r.groups (map (λ e. e.item.now) groups.now)
         → option_copied result ≡ group_of_name r name }
 {
-    let at = groups.partition_point(|e| e.item.name < name);
+    let sought = Sought::of(name);
+    let at = groups.partition_point(|entry| is_before(entry, &sought));
     if at < groups.len() {
         let group = groups[at].item;
         if group.name == name {
@@ -122,7 +165,8 @@ fn group_named<'a>(groups: &[Entry<'a, Group>], name: Name) -> Option<&'a Group>
 /// Whether no row defines a zone's group.
 fn is_of_unknown_group(groups: &[Entry<Group>], z: &Zone) -> bool
     requires { AreGroupsInOrder (map (λ e. e.item.now) groups.now) }
-    ensures { (r : ARegister) → IsPermutation r.groups (map (λ e. e.item.now) groups.now) → result ≡ is_of_unknown r z.now }
+    ensures { (r : ARegister) → IsPermutation r.groups (map (λ e. e.item.now) groups.now)
+        → result ≡ is_of_unknown r z.now }
 {
     group_named(groups, z.group).is_none()
 }
@@ -138,7 +182,8 @@ pub fn of_unknown_group(zones: &[Zone], groups: &[Entry<Group>]) -> Option<u32>
 /// Whether a zone's group is of the other kind.
 fn is_of_other_role(groups: &[Entry<Group>], z: &Zone) -> bool
     requires { AreGroupsInOrder (map (λ e. e.item.now) groups.now) }
-    ensures { (r : ARegister) → IsPermutation r.groups (map (λ e. e.item.now) groups.now) → result ≡ is_of_other r z.now }
+    ensures { (r : ARegister) → IsPermutation r.groups (map (λ e. e.item.now) groups.now)
+        → result ≡ is_of_other r z.now }
 {
     match group_named(groups, z.group) {
         Some(group) => group.kind != z.kind,

@@ -5,8 +5,8 @@ use Rattle.ddt_check.specs.declared.rules.locators.Cell.{Cell}
 use Rattle.ddt_check.specs.Columns.{cell_of, cell_key, locator_key, key_list}
 use Rattle.ddt_check.proofs.NameLemmas.{is_below, parted, found_key, no_key_past, no_key_at}
 use Rattle.ddt_check.proofs.ColumnLemmas.{cell_row, cells_up, first_row_in}
-use Rattle.ddt_check.proofs.rules.locators.first_in.Goals as goal
-use Rattle.ddt_check.proofs.rules.locators.first_in.Goals.{else-at-cells-via-then-at-cells+else-has_key, else-at-cells-via-else-at-cells}
+use Rattle.ddt_check.proofs.rules.locators.searched.Goals as goal
+use Rattle.ddt_check.proofs.rules.locators.searched.Goals.{else-at-cells-via-then-at-cells+else-has_key, else-at-cells-via-else-at-cells}
 
 abbrev empty : Cell
 empty = record { number = 0; family = 0; row = 0 }

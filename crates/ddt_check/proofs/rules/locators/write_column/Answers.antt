@@ -1,10 +1,11 @@
-use Rattle.std.proofs.Common.{◌+◌, map, take, sym, ap, ◌∙◌, arith}
+use Rattle.std.proofs.Common.{◌+◌, ◌≤◌, length, map, take, sym, ap, ◌∙◌, arith}
 use Rattle.std.specs.Prelude.{slice_set}
-use Rattle.std.proofs.lemmas.List.{length-map, length-set, take_all}
+use Rattle.std.proofs.lemmas.List.{length-map, length-set}
 use Rattle.ddt_check.specs.declared.rules.locators.Cell.{Cell}
 use Rattle.ddt_check.specs.Columns.{cell_of}
-use Rattle.ddt_check.proofs.rules.locators.write_column.Goals as goal
+use Rattle.ddt_check.proofs.EntryLemmas.{all_written}
 use Rattle.ddt_check.proofs.ColumnLemmas.{one_written}
+use Rattle.ddt_check.proofs.rules.locators.write_column.Goals as goal
 
 pub loop-at-preserved : goal.loop-at-preserved
 loop-at-preserved c =
@@ -21,11 +22,9 @@ loop-at-preserved c =
 
 pub returns : goal.returns
 returns c =
-    let xs = c.loop-at.cells in
-    let i = c.loop-at.at in
-    let ys = map (cell_of c.args.column) c.args.groups.now in
     let n = c.loop-at.auto.cells in
     let past = c.loop-at-test.false in
     let same = c.loop-at.invariant.same in
     let m = length-map c.args.groups.now (cell_of c.args.column) in
-    sym (take_all i xs (omega arith)) ∙ c.loop-at.invariant.written ∙ take_all i ys (omega arith)
+    all_written (map (cell_of c.args.column) c.args.groups.now) c.loop-at.cells c.loop-at.at (omega arith) (omega arith)
+    c.loop-at.invariant.written

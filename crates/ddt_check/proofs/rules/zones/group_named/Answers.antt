@@ -25,7 +25,8 @@ returns-then-eq c = λ r moved.
     let test = is_below key group_row xs c.requires name in
     let point = point_of_items entry_group test entries at c.partition_point-at.ensures.bound
     (IsPartitionPoint-from_clause (λ e. test (entry_group e)) entries at c.partition_point-at.ensures.partitioned
-    (parted_entries entry_group test entries (parted key group_row xs c.requires name)) (λ a r q k. search rules)) in
+    (parted_entries entry_group test entries (parted key group_row xs c.requires name))
+    (λ a r q k. search (rules, c.of-sought.ensures))) in
     let g = c.index-groups-at.result in
     let d = entry_group g in
     let same = get_or-map entry_group entries at g d c.if-at-groups.true in
@@ -44,7 +45,8 @@ returns c = λ r moved.
     let test = is_below key group_row xs c.requires name in
     let point = point_of_items entry_group test entries at c.partition_point-at.ensures.bound
     (IsPartitionPoint-from_clause (λ e. test (entry_group e)) entries at c.partition_point-at.ensures.partitioned
-    (parted_entries entry_group test entries (parted key group_row xs c.requires name)) (λ a r q k. search rules)) in
+    (parted_entries entry_group test entries (parted key group_row xs c.requires name))
+    (λ a r q k. search (rules, c.of-sought.ensures))) in
     elim c.if-at-groups.branch [
       | then-at-groups+else-eq w ↦
           let g = w.index-groups-at.result in

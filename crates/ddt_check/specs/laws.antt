@@ -1,7 +1,6 @@
 -- What follows from the definitions, for this crate and for those above.
 pub mod Below
 pub mod Child
-pub mod FormOrder
 pub mod Free
 pub mod Fronts
 pub mod Holder

@@ -123,8 +123,7 @@ module _ {E A : Type 0} (item : E → A) (test : A → Bool) where
     λ k d low lt. absurd (omega arith),
   )
   point_of_items (x ∷ xs) at le point =
-      let all = x ∷ xs in
-      (
+      let all = x ∷ xs in (
         λ k d low lt. ap test (get_or-map item all k x d (omega arith)) ∙ point.0 k x low lt,
         λ k d low lt.
             let inside : k < length all = omega (arith, length-map all item) in

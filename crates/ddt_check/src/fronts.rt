@@ -46,9 +46,5 @@ pub fn name_front(name: &Name) -> u64
 fn byte_at(bytes: &[u8], place: usize) -> u8
     ensures { result ≡ slice_index_or bytes.now place 0 }
 {
-    if place < bytes.len() {
-        bytes[place]
-    } else {
-        0
-    }
+    if place < bytes.len() { bytes[place] } else { 0 }
 }

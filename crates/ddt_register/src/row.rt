@@ -53,10 +53,7 @@ fn read_locator(row: u32, text: &[u8]) -> Result<Locator, ReadFault>
 fn room_for(alloc: Global, text: &[u8]) -> Result<Vec<Locator>, ReadFault>
     ensures { MatchResult result (λ locators. locators.items ≡ []) (λ fault. fault ≡ ReadFault.Memory) }
 {
-    let parts = text
-        .split(|byte| *byte == b' ')
-        .take(MOST_LOCATORS)
-        .count();
+    let parts = text.split(|byte| *byte == b' ').take(MOST_LOCATORS).count();
     Vec::with_capacity(alloc, parts).map_err(|_| ReadFault::Memory)
 }
 

@@ -163,6 +163,7 @@ bytes_before (suc n) (x ∷ xs) (y ∷ ys) h k lt = elim (cases_lt x y) [
   where
     lower_first : (x y : ℕ) (xs ys : List ℕ) → x < y → is_lt (slice_cmp nat_cmp (x ∷ xs) (y ∷ ys)) ≡ true
     lower_first x y xs ys lt = ap (λ (o : Ordering). is_lt (ordering_then o (slice_cmp nat_cmp xs ys))) (less x y lt)
+
     same_first : (x y : ℕ) (xs ys : List ℕ) → x ≡ y → is_lt (slice_cmp nat_cmp xs ys) ≡ true
         → is_lt (slice_cmp nat_cmp (x ∷ xs) (y ∷ ys)) ≡ true
     same_first x y xs ys same rest =

@@ -134,8 +134,7 @@ fn is_before_by_front(entry: &Entry<Group>, sought: &Sought) -> bool
     ensures { result ≡ (nat_lt entry.now.front sought.now.front || (entry.now.front == sought.now.front
         && is_lt (slice_cmp nat_cmp entry.now.item.now.name sought.now.name))) }
 {
-    entry.front < sought.front
-        || (entry.front == sought.front && entry.item.name < sought.name)
+    entry.front < sought.front || (entry.front == sought.front && entry.item.name < sought.name)
 }
 
 /// Whether a group's name stands before the one that is looked for.

@@ -24,7 +24,7 @@ use Rattle.ddt_plan.specs.declared.comparing.Change.{Change}
 use Rattle.ddt_plan.specs.Blocks.{keys_of, is_undivided, block_inside, stands_before, are_in_order, pieces}
 use Rattle.ddt_plan.specs.Changes.{is_same_outcome, AreBlocks, AreChanges, block_at, change_at, is_apart}
 use Rattle.ddt_plan.proofs.AlikeLemmas.{assigned_as_block}
-use Rattle.ddt_plan.proofs.PieceLemmas.{piece_there, piece_covered, piece_whole, piece_found, pieces_in_order}
+use Rattle.ddt_plan.proofs.PieceLemmas.{piece_there, piece_path, piece_covered, piece_whole, piece_found, pieces_in_order}
 
 -- ---- lists in order
 
@@ -128,6 +128,9 @@ module _ (r : Register) (inside : List ℕ) where
         p.same
         ∙ ap (block_at r) (one_at keys paths inside p.piece q.piece x p.among q.among (covers_at b p.piece x p.same over) (covers_at c q.piece x q.same under))
         ∙ sym q.same;
+    are_prefixes = λ whole b k.
+        let p = piece_of b k in
+        ap is_prefix_path (is_at b p.piece p.same) ∙ piece_path keys paths (161 - length inside) inside p.piece whole p.among;
     within = λ b k.
         let p = piece_of b k in
         subst (λ (q : List ℕ). covers inside q ≡ true) (sym (is_at b p.piece p.same)) (inside_at keys paths inside p.piece p.among);
@@ -207,6 +210,9 @@ module _ (reading : Reading) (r s : Register) (inside : List ℕ) where
         let p = change_of c k in
         ap (λ (c : Change). c.after) p.same
         ∙ sym (assigned_as_block s p.piece (whole_in_both p.piece p.among).1 x (covers_piece c p.piece x p.same inside));
+    are_prefixes = λ whole c k.
+        let p = change_of c k in
+        ap is_prefix_path (prefix_is c p.piece p.same) ∙ piece_path keys_both (both_are_paths r s) (161 - length inside) inside p.piece whole p.among;
     within = λ c k.
         let p = change_of c k in
         subst (λ (q : List ℕ). covers inside q ≡ true) (sym (prefix_is c p.piece p.same)) (inside_at keys_both (both_are_paths r s) inside p.piece p.among);

@@ -203,3 +203,22 @@ keys_go_on keys paths q divided =
     let lt : length q < length k.0 = b.1 in
     let most : length k.0 ≤ 161 = length_most k.0 e in
     ((goes_on q k.0 e b.0 b.1).0, omega arith)
+
+-- what a prefix is divided into are prefixes
+path_case : (keys : List (List ℕ)) → list_all is_prefix_path keys ≡ true → (n : ℕ) (q p : List ℕ) → is_prefix_path q ≡ true
+    → ((upper : Bool) → is_prefix_path (half upper q) ≡ true → IsIn p (pieces n keys (half upper q)) → is_prefix_path p ≡ true)
+    → (b : Bool) → is_undivided keys q ≡ b → IsIn p (Kept keys b n q) → is_prefix_path p ≡ true
+path_case keys paths n q p whole ih true e (inl same) = ap is_prefix_path same ∙ whole
+path_case keys paths n q p whole ih true e (inr later) = absurd later
+path_case keys paths n q p whole ih false e k =
+    let halves = (keys_go_on keys paths q e).0 in
+    elim (in_either (pieces n keys (half false q)) (pieces n keys (half true q)) p k) [
+      | inl low ↦ ih false (halves false) low
+      | inr high ↦ ih true (halves true) high
+    ]
+
+pub piece_path : (keys : List (List ℕ)) → list_all is_prefix_path keys ≡ true → (n : ℕ) (q p : List ℕ) → is_prefix_path q ≡ true → IsIn p (pieces n keys q) → is_prefix_path p ≡ true
+unfolding pieces
+piece_path keys paths zero q p whole (inl same) = ap is_prefix_path same ∙ whole
+piece_path keys paths zero q p whole (inr later) = absurd later
+piece_path keys paths (suc n) q p whole k = path_case keys paths n q p whole (λ upper e j. piece_path keys paths n (half upper q) p e j) (is_undivided keys q) refl k

@@ -7,7 +7,7 @@ use Rattle.ddt_path.specs.declared.record.Outcome.{Outcome}
 use Rattle.ddt_path.specs.declared.record.Outcome.TheVariants.{Registered, NotRegistered, Hole}
 use Rattle.ddt_path.specs.Covers.{covers, is_same_path}
 use Rattle.ddt_path.specs.Locators.{is_same_locator}
-use Rattle.ddt_path.specs.Path.{is_path}
+use Rattle.ddt_path.specs.Path.{is_path, is_prefix_path}
 use Rattle.ddt_path.specs.Records.{record_of}
 use Rattle.ddt_register.specs.declared.register.Register.{Register}
 use Rattle.ddt_check.specs.Assignment.{assignment}
@@ -54,13 +54,14 @@ abbrev pub changes_at : Reading → Register → Register → List (List ℕ) �
 changes_at reading r s ps = filter (is_apart reading) (map (change_at r s) ps)
 
 -- The blocks of a register inside a prefix. Each identifier there is covered by one of them (`all`), and by one alone
--- (`one`). A block lies inside the prefix, is the block of each identifier that it covers, and its outcome is the
+-- (`one`). A block is a prefix and lies inside that prefix, is the block of each identifier that it covers, and its outcome is the
 -- assignment of each. They stand in the order of their digits, none overlapping another.
 pub record AreBlocks (r : Register) (inside : List ℕ) (blocks : List Block) : Type 0 where
   pub all : (x : List ℕ) → IsTrue (is_path x) → IsTrue (covers inside x)
       → (b : Block) × Contains blocks b × IsTrue (covers b.prefix x)
   pub one : (b c : Block) (x : List ℕ) → Contains blocks b → Contains blocks c
       → IsTrue (covers b.prefix x) → IsTrue (covers c.prefix x) → b ≡ c
+  pub are_prefixes : IsTrue (is_prefix_path inside) → (b : Block) → Contains blocks b → IsTrue (is_prefix_path b.prefix)
   pub within : (b : Block) → Contains blocks b → IsTrue (covers inside b.prefix)
   pub least : (b : Block) (x : List ℕ) → Contains blocks b → IsTrue (covers b.prefix x)
       → block_inside inside (keys_of r) x ≡ Some b.prefix
@@ -70,7 +71,7 @@ pub record AreBlocks (r : Register) (inside : List ℕ) (blocks : List Block) : 
 
 -- What changes inside a prefix from one register to another. Each identifier there whose two assignments aren't one is
 -- covered by a change, and by one alone. The two outcomes of a change aren't one, and are the assignments of each
--- identifier that it covers. A change lies inside the prefix, and is a block of the keys of both registers. The changes
+-- identifier that it covers. A change is a prefix inside that prefix, and a block of the keys of both registers. The changes
 -- stand in the order of their digits, none overlapping another.
 pub record AreChanges (reading : Reading) (before after : Register) (inside : List ℕ) (changes : List Change)
     : Type 0 where
@@ -84,6 +85,8 @@ pub record AreChanges (reading : Reading) (before after : Register) (inside : Li
       → c.before ≡ assignment before x
   pub assigned_after : (c : Change) (x : List ℕ) → Contains changes c → IsTrue (covers c.prefix x)
       → c.after ≡ assignment after x
+  pub are_prefixes : IsTrue (is_prefix_path inside) → (c : Change) → Contains changes c
+      → IsTrue (is_prefix_path c.prefix)
   pub within : (c : Change) → Contains changes c → IsTrue (covers inside c.prefix)
   pub least : (c : Change) (x : List ℕ) → Contains changes c → IsTrue (covers c.prefix x)
       → block_inside inside (keys_of before ++ keys_of after) x ≡ Some c.prefix

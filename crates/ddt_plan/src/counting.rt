@@ -1,7 +1,7 @@
 //! Sinks that count, and keep nothing.
 
-ghost use Rattle.std.specs.Prelude.{◌≡◌, ◌+◌, MatchResult, IfOk};
-ghost use Rattle.ddt_plan.specs.Counts.{counted, changes_counted};
+ghost use Rattle.std.specs.Prelude.{◌≡◌, ◌+◌, MatchResult};
+ghost use Rattle.ddt_plan.specs.Counts.{CountsBlock, CountsChange, IsFull, count_of, counted};
 
 use crate::comparing::Change;
 use crate::listing::Block;
@@ -30,7 +30,8 @@ pub struct CountFull;
 impl OutcomeCounts {
     /// The counts with one more outcome of this kind.
     fn with(self, outcome: &Outcome) -> Result<OutcomeCounts, CountFull>
-        ensures { IfOk result (λ counts. counts ≡ counted self outcome.now) }
+        ensures { MatchResult result (λ counts. counts ≡ counted self outcome.now)
+            (λ full. IsFull (count_of self outcome.now)) }
     {
         match outcome {
             Outcome::Registered { .. } => Ok(OutcomeCounts {
@@ -50,7 +51,7 @@ impl OutcomeCounts {
 }
 
 fn one_more(count: u64) -> Result<u64, CountFull>
-    ensures { IfOk result (λ more. more ≡ count + 1) }
+    ensures { MatchResult result (λ more. more ≡ count + 1) (λ full. IsFull count) }
 {
     count.checked_add(1).ok_or(CountFull)
 }
@@ -59,8 +60,7 @@ fn one_more(count: u64) -> Result<u64, CountFull>
 impl Sink<Block> for OutcomeCounts {
     type Refusal = CountFull;
 
-    ghost takes = { λ before block answer after.
-        MatchResult answer (λ _. after ≡ counted before block.outcome) (λ _. after ≡ before) };
+    ghost takes = { CountsBlock };
 
     fn give(&mut self, block: Block) -> Result<(), CountFull> {
         *self = self.with(&block.outcome)?;
@@ -72,8 +72,7 @@ impl Sink<Block> for OutcomeCounts {
 impl Sink<Change> for ChangeCounts {
     type Refusal = CountFull;
 
-    ghost takes = { λ before change answer after.
-        MatchResult answer (λ _. after ≡ changes_counted before change) (λ _. after ≡ before) };
+    ghost takes = { CountsChange };
 
     fn give(&mut self, change: Change) -> Result<(), CountFull> {
         let before = self.before.with(&change.before)?;

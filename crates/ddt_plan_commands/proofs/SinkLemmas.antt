@@ -7,13 +7,12 @@ use Rattle.ddt_plan.specs.declared.comparing.Change.{Change}
 use Rattle.ddt_plan.specs.declared.counting.ChangeCounts.{ChangeCounts}
 use Rattle.ddt_plan_commands.specs.declared.change_lines.ChangeLines.{ChangeLines}
 use Rattle.std.proofs.Common.{true, false, ◌+◌, refl, sym, arith, ◌≡◌, ℕ, Bool, List, [], ◌∷◌, Option, subst, ap, ◌∙◌}
-use Rattle.std.specs.Prelude.{◌||◌, nat_lt, MatchResult, Result, Ok, Err}
+use Rattle.std.specs.Prelude.{◌||◌, nat_lt}
 use Rattle.ddt_lines.specs.Printing.{AppendsFront}
 use Rattle.std.specs.Io.KnownBytes.{Appends}
 use Rattle.ddt_plan.specs.declared.listing.Block.{Block}
 use Rattle.ddt_plan.specs.declared.counting.OutcomeCounts.{OutcomeCounts}
-use Rattle.ddt_plan.specs.declared.counting.CountFull.{CountFull}
-use Rattle.ddt_plan.specs.Counts.{counted, changes_counted}
+use Rattle.ddt_plan.specs.Counts.{CountsBlock, CountsChange, counted, changes_counted}
 use Rattle.ddt_plan.specs.Sinks.{HasTaken}
 use Rattle.ddt_plan_commands.specs.declared.asking.Form.{Form}
 use Rattle.ddt_plan_commands.specs.declared.block_lines.LineFault.{LineFault}
@@ -37,12 +36,8 @@ block_writer contents form with_holes = record {
       (subst (λ (b : Bool). AppendsFront (contents s.out) (contents next.out) (listed_block s.form b item)) so.1 h.2);
 }
 
--- what counts do with a block
-abbrev pub counting : OutcomeCounts → Block → Result (Unit {0}) CountFull → OutcomeCounts → Type 0
-counting n b answer m = MatchResult answer (λ all. m ≡ counted n b.outcome) (λ full. m ≡ n)
-
 -- a count that takes all blocks has counted them
-pub taken_counts : (all : List Block) (n after : OutcomeCounts) → HasTaken counting n all after → after ≡ with_blocks n all
+pub taken_counts : (all : List Block) (n after : OutcomeCounts) → HasTaken CountsBlock n all after → after ≡ with_blocks n all
 taken_counts [] n after h = h
 taken_counts (b ∷ bs) n after h =
     taken_counts bs h.0 after h.2 ∙ ap (λ (m : OutcomeCounts). with_blocks m bs) h.1
@@ -83,11 +78,8 @@ taken_negative contents (c ∷ cs) before after h =
     taken_negative contents cs h.0 after h.2 ∙ ap (λ (b : Bool). b || list_any was_negative cs) h.1.1.1
     ∙ or_both before.negative (was_negative c) (list_any was_negative cs)
 
--- what counts do with a change
-abbrev pub counting_changes : ChangeCounts → Change → Result (Unit {0}) CountFull → ChangeCounts → Type 0
-counting_changes n c answer m = MatchResult answer (λ all. m ≡ changes_counted n c) (λ full. m ≡ n)
-
-pub taken_change_counts : (all : List Change) (n after : ChangeCounts) → HasTaken counting_changes n all after → after ≡ with_changes n all
+-- the same of changes
+pub taken_change_counts : (all : List Change) (n after : ChangeCounts) → HasTaken CountsChange n all after → after ≡ with_changes n all
 taken_change_counts [] n after h = h
 taken_change_counts (c ∷ cs) n after h =
     taken_change_counts cs h.0 after h.2 ∙ ap (λ (m : ChangeCounts). with_changes m cs) h.1

@@ -1,10 +1,12 @@
 -- Why the commands refuse, and what they then say.
-use Rattle.std.specs.Prelude.{ℕ, ◌≡◌, ◌⊎◌, ⊤, true, List, ◌++◌, Option, None, Some, Result, Ok, Err, codes, IfSome}
+use Rattle.std.specs.Prelude.{ℕ, Bool, ◌≡◌, ◌⊎◌, ⊤, true, List, ◌++◌, Option, None, Some, Result, Ok, Err, codes, IfSome}
 use Rattle.std.specs.Option.{option_map}
 use Rattle.std.specs.Io.KnownBytes.{Appends}
 use Rattle.ddt_text.specs.declared.fault.TextFault.{TextFault}
 use Rattle.ddt_text.specs.FirstFault.{prefix_in}
 use Rattle.ddt_lines.specs.Lines.{ended}
+use Rattle.ddt_lines.specs.Printing.{AppendsFront}
+use Rattle.ddt_commands.specs.Over.{OfItsRegister}
 use Rattle.ddt_commands.specs.Register.{IsWhyNoRegister}
 use Rattle.ddt_commands.specs.Refusal.{refusal_text}
 use Rattle.ddt_commands.specs.declared.refusal.Refusal.{Refusal}
@@ -35,13 +37,13 @@ IsWhyUnopened remaining source path (NoRegister name why) =
 IsWhyUnopened remaining source path CountFull = ⊥
 IsWhyUnopened remaining source path OutOfMemory = ⊥
 
--- why an answer stops once its registers are read
-abbrev pub IsWhyUnwritten : Stop → Type 0
-IsWhyUnwritten (Refused (BadPrefix fault)) = ⊥
-IsWhyUnwritten (Refused (NoRegister name why)) = ⊥
-IsWhyUnwritten (Refused CountFull) = ⊤
-IsWhyUnwritten (Refused OutOfMemory) = ⊤
-IsWhyUnwritten Unprinted = ⊤
+-- why an answer stops once its registers are read; a count may be full only where counts are asked for
+abbrev pub IsWhyUnwritten : Bool → Stop → Type 0
+IsWhyUnwritten counted (Refused (BadPrefix fault)) = ⊥
+IsWhyUnwritten counted (Refused (NoRegister name why)) = ⊥
+IsWhyUnwritten counted (Refused CountFull) = counted ≡ true
+IsWhyUnwritten counted (Refused OutOfMemory) = ⊤
+IsWhyUnwritten counted Unprinted = ⊤
 
 -- how a command stops where a sink didn't take all
 abbrev pub stop_of_lines : PlanFault LineFault → Stop
@@ -59,15 +61,18 @@ abbrev pub IsWhyNoBlocks : {F : Type 0} → (List ℕ → Option F → Type 0) �
 IsWhyNoBlocks opens remaining asked why =
     (bad_prefix (prefix_in asked.inside.now) ≡ Some why)
     ⊎ ((source : Option _) × opens asked.register.now source
-    × (IsWhyUnopened remaining source asked.register.now why ⊎ IsWhyUnwritten (Refused why)))
+    × (IsWhyUnopened remaining source asked.register.now why
+    ⊎ OfItsRegister remaining source (λ r. IsWhyUnwritten asked.counted (Refused why))))
 
 -- why `diff` refuses: one of its registers; or counts are full, or memory runs out, once both are read
 abbrev pub IsWhyNoDiff : {F : Type 0} → (List ℕ → Option F → Type 0) → (F → Option (List ℕ)) → DiffAsked → PlanRefusal
     → Type 0
 IsWhyNoDiff opens remaining asked why =
-    ((source : Option _) × opens asked.before.now source × IsWhyUnopened remaining source asked.before.now why)
-    ⊎ (((source : Option _) × opens asked.after.now source × IsWhyUnopened remaining source asked.after.now why)
-    ⊎ IsWhyUnwritten (Refused why))
+    (old : Option _) × opens asked.before.now old
+    × (IsWhyUnopened remaining old asked.before.now why ⊎ OfItsRegister remaining old (λ before.
+    (new : Option _) × opens asked.after.now new
+    × (IsWhyUnopened remaining new asked.after.now why
+    ⊎ OfItsRegister remaining new (λ after. IsWhyUnwritten asked.counted (Refused why)))))
 
 -- the text of a refusal; None for those that show a fault, whose text is the fault's own
 abbrev pub no_register_text : List ℕ → Refusal → Option (List ℕ)
@@ -92,3 +97,8 @@ IsToldAs why line = IsLineOf why line ⊎ (line ≡ ended (codes "out of memory"
 -- a line that tells such a refusal was appended
 abbrev pub HasRefused : (PlanRefusal → Type 0) → Option (List ℕ) → Option (List ℕ) → Type 0
 HasRefused is_why old new = (why : PlanRefusal) × is_why why × ((line : List ℕ) × IsToldAs why line × Appends old new line)
+
+-- a front of such a line was appended
+abbrev pub HasRefusedFront : (PlanRefusal → Type 0) → Option (List ℕ) → Option (List ℕ) → Type 0
+HasRefusedFront is_why old new =
+    (why : PlanRefusal) × is_why why × ((line : List ℕ) × IsToldAs why line × AppendsFront old new line)

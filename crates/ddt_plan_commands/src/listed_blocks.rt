@@ -1,6 +1,6 @@
 //! `blocks REGISTER [PREFIX]`: what a register assigns to identifiers, block by block.
 
-ghost use Rattle.std.specs.Prelude.{◌≡◌, ◌≢◌, List, ℕ, OnOk, IfErr};
+ghost use Rattle.std.specs.Prelude.{◌≡◌, ◌≢◌, ◌⊎◌, true, false, OnOk, IfErr};
 ghost use Rattle.std.specs.Fn.{FnReturnsAt};
 ghost use Rattle.ddt_commands.specs.Running.{HasText};
 ghost use Rattle.ddt_plan_commands.specs.declared.end.End.TheVariants.{
@@ -10,7 +10,7 @@ ghost use Rattle.ddt_plan_commands.specs.declared.end.End.TheVariants.{
 };
 ghost use Rattle.ddt_plan_commands.specs.declared.stop.Stop.TheVariants.{Refused as StopsRefused, Unprinted as StopsUnprinted};
 ghost use Rattle.ddt_plan_commands.specs.Answers.{HasFront, IsBlocksAnswer, IsBlocksText, IsListedText, IsCountedText};
-ghost use Rattle.ddt_plan_commands.specs.Refusals.{IsWhyNoBlocks, IsWhyUnwritten, HasRefused};
+ghost use Rattle.ddt_plan_commands.specs.Refusals.{HasRefused, HasRefusedFront, IsWhyNoBlocks, IsWhyUnwritten};
 
 use crate::asking::{BlocksAsked, Form};
 use crate::block_lines::BlockLines;
@@ -48,6 +48,10 @@ where
         (W.contents out) (W.contents result.1) }
     ensures refused { result.0 ≡ IsRefused
         → HasRefused (IsWhyNoBlocks (FnReturnsAt O.Fn open_file) F.remaining asked.now)
+        (E.contents err.old) (E.contents err.new) }
+    ensures quiet { result.0 ≡ IsAnswered → err.new ≡ err.old }
+    ensures told { (err.new ≡ err.old)
+        ⊎ HasRefusedFront (IsWhyNoBlocks (FnReturnsAt O.Fn open_file) F.remaining asked.now)
         (E.contents err.old) (E.contents err.new) }
 {
     let mut lines = BlockLines {
@@ -107,7 +111,7 @@ fn write_inside<W: Write + Drop>(
         (W.contents lines.old.out) (W.contents lines.new.out)) }
     ensures front { HasFront (IsBlocksText asked.now register.now inside)
         (W.contents lines.old.out) (W.contents lines.new.out) }
-    ensures refused { IfErr result IsWhyUnwritten }
+    ensures refused { IfErr result (IsWhyUnwritten asked.now.counted) }
 {
     if asked.counted {
         count_blocks(alloc, asked.form, register, inside, &mut lines.out)
@@ -127,7 +131,7 @@ fn list_blocks<W: Write + Drop>(
         (W.contents lines.old.out) (W.contents lines.new.out)) }
     ensures front { HasFront (IsListedText lines.old.form lines.old.with_holes register.now inside)
         (W.contents lines.old.out) (W.contents lines.new.out) }
-    ensures refused { IfErr result IsWhyUnwritten }
+    ensures refused { IfErr result (IsWhyUnwritten false) }
 {
     blocks(alloc, register, inside, lines)?;
     Ok(())
@@ -144,7 +148,7 @@ fn count_blocks<W: Write>(
     ensures whole { OnOk result (HasText (IsCountedText form register.now inside)
         (W.contents out.old) (W.contents out.new)) }
     ensures front { HasFront (IsCountedText form register.now inside) (W.contents out.old) (W.contents out.new) }
-    ensures refused { IfErr result IsWhyUnwritten }
+    ensures refused { IfErr result (IsWhyUnwritten true) }
 {
     let mut counts = OutcomeCounts::default();
     blocks(alloc, register, inside, &mut counts)?;

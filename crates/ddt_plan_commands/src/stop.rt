@@ -3,7 +3,7 @@
 ghost use Rattle.std.specs.Prelude.{◌≡◌, ◌⊎◌, IfOk, string_bytes};
 ghost use Rattle.ddt_plan_commands.specs.declared.end.End.TheVariants.{Refused as EndsRefused, Unprinted as EndsUnprinted};
 ghost use Rattle.ddt_plan_commands.specs.declared.stop.Stop.TheVariants.{Refused as StopsRefused};
-ghost use Rattle.ddt_plan_commands.specs.Refusals.{HasRefused, IsLineOf};
+ghost use Rattle.ddt_plan_commands.specs.Refusals.{HasRefused, HasRefusedFront, IsLineOf};
 
 use crate::block_lines::LineFault;
 use crate::end::End;
@@ -93,6 +93,8 @@ impl Stop<'_> {
         ensures ends { (result ≡ EndsRefused) ⊎ (result ≡ EndsUnprinted) }
         ensures told { result ≡ EndsRefused
             → HasRefused (λ why. self.now ≡ StopsRefused why) (E.contents err.old) (E.contents err.new) }
+        ensures front { (err.new ≡ err.old)
+            ⊎ HasRefusedFront (λ why. self.now ≡ StopsRefused why) (E.contents err.old) (E.contents err.new) }
     {
         match self {
             Stop::Refused(why) => refuse(alloc, why, err),
@@ -106,6 +108,7 @@ fn refuse<E: Write>(alloc: Global, refusal: &PlanRefusal<'_>, err: &mut E) -> En
     ensures ends { (result ≡ EndsRefused) ⊎ (result ≡ EndsUnprinted) }
     ensures told { result ≡ EndsRefused
         → HasRefused (λ why. refusal.now ≡ why) (E.contents err.old) (E.contents err.new) }
+    ensures front { HasRefusedFront (λ why. refusal.now ≡ why) (E.contents err.old) (E.contents err.new) }
 {
     let printed = match line_of(alloc, refusal) {
         Ok(line) => print(line.as_bytes(), err),

@@ -1,6 +1,6 @@
 //! `diff OLD NEW`: what a change of a register changes.
 
-ghost use Rattle.std.specs.Prelude.{◌≡◌, ◌||◌, Bool, false, [], IfOk, IfErr};
+ghost use Rattle.std.specs.Prelude.{◌≡◌, ◌⊎◌, ◌||◌, Bool, true, false, [], IfOk, IfErr};
 ghost use Rattle.std.specs.Fn.{FnReturnsAt};
 ghost use Rattle.ddt_commands.specs.Running.{HasText};
 ghost use Rattle.ddt_plan_commands.specs.declared.end.End.TheVariants.{Refused as IsRefused};
@@ -8,7 +8,7 @@ ghost use Rattle.ddt_plan_commands.specs.declared.stop.Stop.TheVariants.{Refused
 ghost use Rattle.ddt_plan_commands.specs.Answers.{HasFront, IsAnyDiff, IsChangeCountsText, IsChangesText, IsDiffAnswer, IsDiffText};
 ghost use Rattle.ddt_plan_commands.specs.Counted.{has_counted as has_counted_of};
 ghost use Rattle.ddt_plan_commands.specs.Ends.{diff_end as diff_end_of};
-ghost use Rattle.ddt_plan_commands.specs.Refusals.{HasRefused, IsWhyNoDiff, IsWhyUnwritten};
+ghost use Rattle.ddt_plan_commands.specs.Refusals.{HasRefused, HasRefusedFront, IsWhyNoDiff, IsWhyUnwritten};
 ghost use Rattle.ddt_plan_commands.specs.Written.{has_some};
 
 use crate::asking::{DiffAsked, Form};
@@ -48,6 +48,10 @@ where
         (W.contents out) (W.contents result.1) }
     ensures refused { result.0 ≡ IsRefused
         → HasRefused (IsWhyNoDiff (FnReturnsAt O.Fn open_file) F.remaining asked.now)
+        (E.contents err.old) (E.contents err.new) }
+    ensures quiet { (differs : Bool) → result.0 ≡ diff_end_of differs → err.new ≡ err.old }
+    ensures told { (err.new ≡ err.old)
+        ⊎ HasRefusedFront (IsWhyNoDiff (FnReturnsAt O.Fn open_file) F.remaining asked.now)
         (E.contents err.old) (E.contents err.new) }
 {
     let mut lines = ChangeLines {
@@ -121,7 +125,7 @@ fn write_between<W: Write + Drop>(
         (W.contents lines.old.out) (W.contents lines.new.out)) }
     ensures front { HasFront (λ text. (differs : Bool) × IsDiffText asked.now before.now after.now differs text)
         (W.contents lines.old.out) (W.contents lines.new.out) }
-    ensures refused { IfErr result IsWhyUnwritten }
+    ensures refused { IfErr result (IsWhyUnwritten asked.now.counted) }
 {
     if asked.counted {
         count_changes(
@@ -153,7 +157,7 @@ fn list_changes<W: Write + Drop>(
     ensures front { HasFront (λ text. (differs : Bool)
         × IsChangesText reading lines.old.form before.now after.now differs text)
         (W.contents lines.old.out) (W.contents lines.new.out) }
-    ensures refused { IfErr result IsWhyUnwritten }
+    ensures refused { IfErr result (IsWhyUnwritten false) }
 {
     let groups = group_changes(alloc, before, after)?;
     changes(alloc, reading, before, after, everything(), lines)?;
@@ -179,7 +183,7 @@ fn count_changes<W: Write>(
     ensures front { HasFront (λ text. (differs : Bool)
         × IsChangeCountsText reading form before.now after.now differs text)
         (W.contents out.old) (W.contents out.new) }
-    ensures refused { IfErr result IsWhyUnwritten }
+    ensures refused { IfErr result (IsWhyUnwritten true) }
 {
     let groups = group_changes(alloc, before, after)?;
     let groups = groups.as_slice();

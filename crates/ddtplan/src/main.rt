@@ -7,7 +7,7 @@ mod progress;
 use ddt_plan_commands::{Asked, End, read_asked, run_blocks, run_diff};
 use progress::Progress;
 use std::fs::File;
-use std::io::{BufWriter, IsTerminal, Read, Stdin};
+use std::io::{BufWriter, ErrorKind, IsTerminal, Read, Stdin, Write};
 use std::process::ExitCode;
 use std::{env, fs, io};
 
@@ -28,32 +28,50 @@ impl Read for Source {
 }
 
 fn main(rt: HostRuntime) -> ExitCode {
-    let words = match words_of(&rt) {
+    ExitCode::from(run_words(&rt).number())
+}
+
+/// Runs the command that the words of the process ask for.
+fn run_words(rt: &HostRuntime) -> End {
+    let words = match words_of(rt) {
         Ok(words) => words,
-        Err(_) => return ExitCode::from(End::Refused.number()),
+        Err(error) if error.kind() == ErrorKind::OutOfMemory => return refuse(rt, "out of memory"),
+        Err(_) => return refuse(rt, "a word is no text"),
     };
     match read_asked(rt.alloc(), &words) {
-        Ok(asked) => ExitCode::from(run(&rt, &asked).number()),
-        Err(error) => {
-            let _ = error.print(&rt);
-            ExitCode::from(if error.use_stderr() { 2 } else { 0 })
+        Ok(Asked::Diff(asked)) if asked.before == "-" && asked.after == "-" => {
+            refuse(rt, "only one register can be standard input")
         }
+        Ok(asked) => run(rt, &asked),
+        // Help and the version are no mistakes, if they could be printed.
+        Err(error) => match error.print(rt) {
+            Ok(()) if !error.use_stderr() => End::Answered,
+            _ => End::Refused,
+        },
     }
+}
+
+/// Says why there is no answer.
+fn refuse(rt: &HostRuntime, why: &str) -> End {
+    let _ = writeln!(rt.stderr(), "{why}");
+    End::Refused
 }
 
 /// Runs a command over the files and the streams of the process.
 fn run(rt: &HostRuntime, asked: &Asked<'_>) -> End {
     let Ok(out) = BufWriter::new(rt.alloc(), rt.stdout()) else {
-        return End::Refused;
+        return refuse(rt, "out of memory");
     };
     let mut err = rt.stderr();
     let is_shown = err.is_terminal() && !rt.stdout().is_terminal();
     let out = Progress::new(out, rt, rt.stderr(), is_shown);
     let open_file = |path: &str| source_at(rt, path);
-    match asked {
-        Asked::Blocks(asked) => run_blocks(rt.alloc(), asked, open_file, out, &mut err).0,
-        Asked::Diff(asked) => run_diff(rt.alloc(), asked, open_file, out, &mut err).0,
-    }
+    let (end, mut out) = match asked {
+        Asked::Blocks(asked) => run_blocks(rt.alloc(), asked, open_file, out, &mut err),
+        Asked::Diff(asked) => run_diff(rt.alloc(), asked, open_file, out, &mut err),
+    };
+    out.finish();
+    end
 }
 
 /// The source at a path; `-` is standard input.

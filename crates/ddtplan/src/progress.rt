@@ -20,6 +20,8 @@ pub struct Progress<W, T> {
     lines: u64,
     /// The number of lines at which it looks at the clock again.
     next_look: u64,
+    /// Whether it has said anything.
+    is_begun: bool,
 }
 
 impl<W: Write + Drop, T: Clock + Drop> Progress<W, T> {
@@ -33,6 +35,14 @@ impl<W: Write + Drop, T: Clock + Drop> Progress<W, T> {
             told: now.filter(|_now| is_shown),
             lines: 0,
             next_look: LINES_A_LOOK,
+            is_begun: false,
+        }
+    }
+
+    /// Says the number of all lines, if it has said any.
+    pub fn finish(&mut self) {
+        if self.is_begun {
+            let _ = writeln!(self.err, "{} lines", self.lines);
         }
     }
 
@@ -57,7 +67,9 @@ impl<W: Write + Drop, T: Clock + Drop> Progress<W, T> {
         };
         if now.duration_since(told) >= Duration::from_secs(1) {
             self.told = Some(now);
-            let _ = write!(self.err, "\r{} lines", self.lines);
+            // What is said next begins where this does, and covers it.
+            let _ = write!(self.err, "{} lines\r", self.lines);
+            self.is_begun = true;
         }
     }
 }

@@ -1,6 +1,6 @@
-use Rattle.std.proofs.Common.{sym, subst, ◌∙◌}
+use Rattle.std.proofs.Common.{inl, inr, sym, subst, ◌∙◌}
 use Rattle.std.specs.Fn.{FnReturnsAt}
-use Rattle.ddt_plan_commands.specs.Refusals.{HasRefused, IsWhyNoBlocks}
+use Rattle.ddt_plan_commands.specs.Refusals.{HasRefused, HasRefusedFront, IsWhyNoBlocks}
 use Rattle.ddt_plan_commands.proofs.listed_blocks.run_blocks.Goals as goal
 use Rattle.ddt_plan_commands.proofs.listed_blocks.run_blocks.Goals.{in-Ok, in-Err}
 
@@ -11,4 +11,16 @@ returns-clause-refused g c = λ e. elim c.match-answered.branch [
       let told = w.told-end.ensures.told (sym w.end-is ∙ e) in
       subst (λ (err : g.row.E.Denot). HasRefused (IsWhyNoBlocks (FnReturnsAt g.O.Fn c.args.open_file) g.F.Read.remaining c.args.asked.now) (g.E.Write.contents c.args.err.now) (g.E.Write.contents err)) (sym w.err-is)
       (told.0, w.in-Err.ensures.refused told.0 told.1, told.2)
+]
+
+pub returns-clause-told : goal.returns-clause-told
+returns-clause-told g c = elim c.match-answered.branch [
+  | in-Ok w ↦ inl w.err-is
+  | in-Err w ↦ elim w.told-end.ensures.front [
+    | inl same ↦ inl (w.err-is ∙ same)
+    | inr told ↦ inr (
+        subst (λ (err : g.row.E.Denot). HasRefusedFront (IsWhyNoBlocks (FnReturnsAt g.O.Fn c.args.open_file) g.F.Read.remaining c.args.asked.now) (g.E.Write.contents c.args.err.now) (g.E.Write.contents err)) (sym w.err-is)
+        (told.0, w.in-Err.ensures.refused told.0 told.1, told.2)
+        )
+  ]
 ]

@@ -1,6 +1,9 @@
-use Rattle.std.proofs.Common.{refl}
+use Rattle.std.proofs.Common.{inr, refl, rules, subst}
+use Rattle.std.specs.Prelude.{IfErr}
+use Rattle.std.proofs.lemmas.Result.{IfErr-weaker}
 use Rattle.std.specs.Fn.{FnReturnsAt}
 use Rattle.ddt_plan_commands.specs.Answers.{IsBlocksText}
+use Rattle.ddt_plan_commands.specs.Refusals.{IsWhyUnwritten}
 use Rattle.ddt_plan_commands.proofs.AnswerLemmas.{blocks_answer}
 use Rattle.ddt_plan_commands.proofs.WriterLemmas.{front_kept, front_wider, text_front, text_kept, text_wider}
 use Rattle.ddt_plan_commands.proofs.listed_blocks.write_blocks.Goals as goal
@@ -47,3 +50,21 @@ returns-clause-whole g c =
 
 pub returns-clause-front : goal.returns-clause-front
 returns-clause-front g c = text_front _ _ _ (returns-clause-whole g c)
+
+pub returns-in_err-write_inside-clause-refused : goal.returns-in_err-write_inside-clause-refused
+returns-in_err-write_inside-clause-refused g c =
+    let unwritten : IfErr c.from_residual-in_err-write_inside.result (IsWhyUnwritten c.args.asked.now.counted) = search (rules, c.in_err-write_inside.ensures.refused) in
+    IfErr-weaker c.from_residual-in_err-write_inside.result _ _ (λ stop h why e.
+    inr (
+      c.open_file.result,
+      record { shown = c.args.asked.now.register; shows = refl; says = record { met = c.open_file.ensures } },
+      inr (
+        c.in_ok-register.ensures.opened,
+        (
+          c.in_ok-register.register,
+          c.in_ok-register.ensures.accepted,
+          c.in_ok-register.ensures.spelled,
+          subst (IsWhyUnwritten c.args.asked.now.counted) e h,
+        ),
+      ),
+    )) unwritten

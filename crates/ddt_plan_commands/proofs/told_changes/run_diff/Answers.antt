@@ -3,7 +3,7 @@ use Rattle.std.specs.Fn.{FnReturnsAt}
 use Rattle.ddt_commands.specs.Running.{HasText}
 use Rattle.ddt_plan_commands.specs.Answers.{IsDiffAnswer}
 use Rattle.ddt_plan_commands.specs.Ends.{diff_end}
-use Rattle.ddt_plan_commands.specs.Refusals.{HasRefused, IsWhyNoDiff}
+use Rattle.ddt_plan_commands.specs.Refusals.{HasRefused, HasRefusedFront, IsWhyNoDiff}
 use Rattle.ddt_plan_commands.proofs.EndLemmas.{ends_apart, no_refusal, same_end}
 use Rattle.ddt_plan_commands.proofs.told_changes.run_diff.Goals as goal
 use Rattle.ddt_plan_commands.proofs.told_changes.run_diff.Goals.{in-Ok, in-Err}
@@ -23,4 +23,16 @@ returns-clause-refused g c = λ e. elim c.match-answered.branch [
       let told = w.told-end.ensures.told (sym w.end-is ∙ e) in
       subst (λ (err : g.row.E.Denot). HasRefused (IsWhyNoDiff (FnReturnsAt g.O.Fn c.args.open_file) g.F.Read.remaining c.args.asked.now) (g.E.Write.contents c.args.err.now) (g.E.Write.contents err)) (sym w.err-is)
       (told.0, w.in-Err.ensures.refused told.0 told.1, told.2)
+]
+
+pub returns-clause-told : goal.returns-clause-told
+returns-clause-told g c = elim c.match-answered.branch [
+  | in-Ok w ↦ inl w.err-is
+  | in-Err w ↦ elim w.told-end.ensures.front [
+    | inl same ↦ inl (w.err-is ∙ same)
+    | inr told ↦ inr (
+        subst (λ (err : g.row.E.Denot). HasRefusedFront (IsWhyNoDiff (FnReturnsAt g.O.Fn c.args.open_file) g.F.Read.remaining c.args.asked.now) (g.E.Write.contents c.args.err.now) (g.E.Write.contents err)) (sym w.err-is)
+        (told.0, w.in-Err.ensures.refused told.0 told.1, told.2)
+        )
+  ]
 ]

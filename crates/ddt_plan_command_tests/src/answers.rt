@@ -68,7 +68,7 @@ fn blocks_of_the_campus_as_objects(rt: HostRuntime) {
         &rt,
         &counted,
         End::Answered,
-        "{\"holes\":1,\"not-registered\":0,\"registered\":1}\n",
+        "{\"hole\":1,\"not-registered\":0,\"registered\":1}\n",
         "",
     );
 }
@@ -131,7 +131,7 @@ fn changes_of_the_campus_as_objects(rt: HostRuntime) {
         &rt,
         &counted,
         End::Answered,
-        "{\"after\":{\"holes\":0,\"not-registered\":0,\"registered\":0},\"before\":{\"holes\":0,\"not-registered\":0,\"registered\":0},\"groups\":0}\n",
+        "{\"after\":{\"hole\":0,\"not-registered\":0,\"registered\":0},\"before\":{\"hole\":0,\"not-registered\":0,\"registered\":0},\"groups\":0}\n",
         "",
     );
 }

@@ -44,7 +44,7 @@ change_data c =
 
 abbrev pub counts_data : OutcomeCounts → Data
 counts_data n =
-    object (member (codes "holes") (number (unsigned n.holes)) (member (codes "not-registered")
+    object (member (codes "hole") (number (unsigned n.holes)) (member (codes "not-registered")
     (number (unsigned n.not_registered)) (member (codes "registered") (number (unsigned n.registered)) no_members)))
 
 abbrev pub change_counts_data : ChangeCounts → ℕ → Data

@@ -140,7 +140,7 @@ fn counts_value(alloc: Global, counts: OutcomeCounts) -> Result<Value, AllocErro
     ensures { IfOk result (λ v. view v ≡ counts_data counts) }
 {
     json!(in alloc; {
-        "holes": counts.holes,
+        "hole": counts.holes,
         "not-registered": counts.not_registered,
         "registered": counts.registered
     })

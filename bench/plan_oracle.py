@@ -90,10 +90,9 @@ class Register:
 
     def assignment(self, x: str) -> tuple[str, str, list[str]]:
         """What is assigned to a whole path, by longest match over the rows."""
-        fronts = [x[:n] for n in range(len(x) + 1)]
-        zone = max((f for f in fronts if f in self.zones), key=len)
+        zone = max((z for z in self.zones if x.startswith(z)), key=len)
         kind, group = self.zones[zone]
-        sites = [f for f in fronts if f in self.sites]
+        sites = [s for s in self.sites if x.startswith(s)]
         if kind == "node" or not sites:
             others = self.zones if kind == "node" else self.sites
             return "hole", free(zone, x, [k for k in others if k.startswith(zone) and k != zone]), []
@@ -105,12 +104,8 @@ class Register:
 
 
 def free(whole: str, x: str, inside: list[str]) -> str:
-    """The widest front of x within a prefix that overlaps none of those inside it."""
-    for length in range(len(whole), len(x) + 1):
-        front = x[:length]
-        if not any(k.startswith(front) or front.startswith(k) for k in inside):
-            return front
-    raise ValueError("no part is free")
+    """The widest front of x within a prefix that overlaps none of those inside it: one digit more than it shares."""
+    return x[: max([len(whole), *(len(os.path.commonprefix([x, k])) + 1 for k in inside)])]
 
 
 def blocks(whole: str, keys: list[str]) -> list[str]:

@@ -47,14 +47,20 @@ pub enum Asked<'a> {
     Diff(DiffAsked<'a>),
 }
 
-const EXAMPLES: &str = "Examples:
+const HELP: &str =
+    "A register that is named - is read from standard input. ddtplan(1) says what is printed.";
+
+const BLOCKS_HELP: &str = "Examples:
   ddtplan blocks register.csv '[0]10.0.0.0/8'   what is assigned inside 10.0.0.0/8 of instance 0
   ddtplan blocks --count register.csv           how many blocks there are of each kind
+
+Status: 0, or 2 if it refuses.";
+
+const DIFF_HELP: &str = "Examples:
   ddtplan diff old.csv new.csv                  the identifiers whose servers change
   git show HEAD:register.csv | ddtplan diff - register.csv
 
-A register that is named - is read from standard input.
-Status of blocks: 0, or 2 if it refuses. Status of diff: 0 if nothing changes, 1 if something does, 2 if it refuses.";
+Status: 0 if nothing changes, 1 if something does, 2 if it refuses.";
 
 /// What the words ask, of which the first is the program's name. A request for help or for the version is an error that
 /// shows it, as clap does.
@@ -105,7 +111,7 @@ fn command_line<'a>(alloc: Global) -> Result<Command<'a>, AllocError> {
     Command::new(alloc, "ddtplan")
         .version("1.0.0")
         .about("What a LISP-DDT register says of all identifiers, and what a change of it changes.")
-        .after_help(EXAMPLES)
+        .after_help(HELP)
         .subcommand_required(true)
         .subcommand(blocks_command(alloc)?)?
         .subcommand(diff_command(alloc)?)
@@ -113,6 +119,7 @@ fn command_line<'a>(alloc: Global) -> Result<Command<'a>, AllocError> {
 
 fn blocks_command<'a>(alloc: Global) -> Result<Command<'a>, AllocError> {
     Command::new(alloc, "blocks")
+        .after_help(BLOCKS_HELP)
         .about(
             "List the blocks of identifiers that a register assigns alike, and what it assigns to each.",
         )
@@ -129,6 +136,7 @@ fn blocks_command<'a>(alloc: Global) -> Result<Command<'a>, AllocError> {
 
 fn diff_command<'a>(alloc: Global) -> Result<Command<'a>, AllocError> {
     Command::new(alloc, "diff")
+        .after_help(DIFF_HELP)
         .about("List the blocks of identifiers whose assignment changes, and how.")
         .arg(path(alloc, "old").help("The register that is in force, a CSV file"))?
         .arg(path(alloc, "new").help("The register that is to come into force, a CSV file"))?

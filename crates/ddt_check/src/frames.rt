@@ -14,7 +14,8 @@ use ddt_register::{Group, Register, Site, Zone};
 /// How many entries a small frame has.
 const FEW: usize = 1_024;
 
-/// How many entries a large frame has: as many as a register has rows at most.
+/// How many entries a large frame has: as many as a register has rows at most. A function with such a frame is never a
+/// part of its caller, which would have to pay for the frame each time.
 const MANY: usize = 65_535;
 
 /// The least rows that break the rules on zones by their prefixes, and that on sites outside. The last is such where
@@ -59,6 +60,7 @@ fn zone_rows_of_few(register: &Register) -> ZoneRows
     zone_rows_by(&mut entries, register)
 }
 
+#[inline(never)]
 fn zone_rows_of_many(register: &Register) -> ZoneRows
     requires { length register.now.zones ≤ 65535 }
     ensures { AreZoneRows register.now result }
@@ -102,6 +104,7 @@ fn duplicate_site_of_few(register: &Register) -> Option<u32>
     duplicate_site_by(&mut entries, register)
 }
 
+#[inline(never)]
 fn duplicate_site_of_many(register: &Register) -> Option<u32>
     requires { length register.now.sites ≤ 65535 }
     ensures { IsLeastRow (broken register.now Rule.DuplicateSite) result }
@@ -150,6 +153,7 @@ fn group_rows_of_few(register: &Register) -> GroupRows
     group_rows_by(&mut entries, register)
 }
 
+#[inline(never)]
 fn group_rows_of_many(register: &Register) -> GroupRows
     requires { length register.now.groups ≤ 65535 }
     ensures { AreGroupRows register.now result }

@@ -267,6 +267,7 @@ fn wrong_of_few(groups: &[Group]) -> Option<u32>
 }
 
 /// The same of as many groups as a register has at most.
+#[inline(never)]
 fn wrong_of_many(groups: &[Group]) -> Option<u32>
     requires { length groups.now ≤ 65535 }
     ensures { (r : ARegister) → r.groups ≡ groups.now → IsLeastRow (broken r Rule.Locators) result }

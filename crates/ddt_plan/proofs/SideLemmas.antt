@@ -1,5 +1,5 @@
 -- What one register says at a prefix, carried down to its halves.
-use Rattle.std.proofs.Common.{◌≡◌, ◌⊎◌, ℕ, ◌<◌, Bool, true, false, cond, not, ◌==◌, List, [], ◌∷◌, ◌++◌, length, map, take, ◌-◌, find, Option, Some, None, refl, sym, ap, subst, ◌∙◌, arith, inl, inr}
+use Rattle.std.proofs.Common.{◌≡◌, ◌⊎◌, ℕ, ◌<◌, Bool, true, false, cond, not, ◌==◌, List, [], ◌∷◌, ◌++◌, length, map, take, ◌-◌, find, IsPermutation, Option, Some, None, refl, sym, ap, subst, ◌∙◌, arith, inl, inr}
 use Rattle.std.specs.List.{filter}
 use Rattle.std.specs.Option.{option_or}
 use Rattle.std.proofs.lemmas.Bool.{cases_lt, both_ways, eqb-true, eq-eqb, false_from_ne_true, not-true, not_from_false, cond-false, and_from}
@@ -7,6 +7,7 @@ use Rattle.std.proofs.lemmas.Option.{same_Some}
 use Rattle.std.proofs.lemmas.List.{map-append}
 use Rattle.std.proofs.lemmas.List.Elements.{filter-append}
 use Rattle.std.proofs.lemmas.List.Folds.{list_all-append}
+use Rattle.std.proofs.lemmas.List.Sorted.{IsPermutation-sym}
 use Rattle.ddt_path.specs.declared.xeid.Xeid.{Xeid}
 use Rattle.ddt_path.specs.declared.record.Outcome.{Outcome}
 use Rattle.ddt_path.specs.declared.matching.Preference.TheVariants.{Longest}
@@ -15,8 +16,8 @@ use Rattle.ddt_path.specs.Matching.{longest_match}
 use Rattle.ddt_path.specs.Path.{xeid_path}
 use Rattle.ddt_path.specs.laws.Cover.{covers_self, covers_trans, covers-append, covered_same, length-covered, same_path, path_itself, below_wider, front_covered}
 use Rattle.ddt_path.specs.laws.Front.{front_below, front_covers, one_front}
-use Rattle.ddt_path.specs.laws.Matching.{best_is}
-use Rattle.ddt_path.specs.laws.Member.{IsIn, all_of, holds_at, in_map, map_in, some_passes, unfound, found_in, found_passes}
+use Rattle.ddt_path.specs.laws.Matching.{best_is, best_none, best_there, best_member, best_unbeaten}
+use Rattle.ddt_path.specs.laws.Member.{IsIn, all_of, holds_at, in_map, map_in, some_passes, unfound, found_in, found_passes, moved_in}
 use Rattle.ddt_path.specs.laws.Filter.{filter_in}
 use Rattle.ddt_path.specs.laws.PathTest.{is_path-xeid_path}
 use Rattle.ddt_register.specs.declared.register.Register.{Register}
@@ -35,35 +36,14 @@ use Rattle.ddt_plan.specs.declared.outcomes.Reading.{Reading}
 use Rattle.ddt_plan.specs.declared.comparing.Change.{Change}
 use Rattle.ddt_plan.specs.Changes.{block_at, change_at, changes_at, is_apart}
 use Rattle.ddt_plan.specs.declared.listing.Block.{Block}
-use Rattle.ddt_plan.specs.Fast.{delegation_of, delegations_of, delegation_at, delegations_below, state_of, states_of, state_at, states_below, outcome_from, IsSettled, IsDivision, IsSide, AreSides, outcomes_settled, both_settled}
+use Rattle.ddt_plan.specs.Fast.{delegation_of, delegations_of, delegation_at, delegations_below, state_of, states_of, state_at, states_below, outcome_from, AreBelow, IsSettled, IsDivision, IsSide, AreSides, outcomes_settled, both_settled}
 use Rattle.ddt_plan.proofs.AlikeLemmas.{in_first, in_second, best_match-alike, assigned_as_block}
 use Rattle.ddt_plan.proofs.HalfLemmas.{length-half}
 use Rattle.ddt_plan.proofs.ListingLemmas.{undivided_parts}
 use Rattle.ddt_plan.proofs.NegativeLemmas.{block_is}
 use Rattle.ddt_plan.proofs.PieceLemmas.{pieces_one}
 use Rattle.ddt_plan.proofs.ReadOffLemmas.{read_off}
-
--- ---- lists
-
-kept_twice_case : {A : Type 0} (weak strong : A → Bool) (x : A) (kept rest : List A) → (strong x ≡ true → weak x ≡ true) → filter strong kept ≡ rest → (b : Bool) → weak x ≡ b
-    → filter strong (cond b (x ∷ kept) kept) ≡ cond (strong x) (x ∷ rest) rest
-kept_twice_case weak strong x kept rest h ih true e = ap (λ (ys : List _). cond (strong x) (x ∷ ys) ys) ih
-kept_twice_case weak strong x kept rest h ih false e =
-    ih ∙ sym (cond-false (strong x) (x ∷ rest) rest (false_from_ne_true (strong x) (λ s. both_ways (weak x) e (h s))))
-
-pub kept_twice : {A : Type 0} (weak strong : A → Bool) (xs : List A) → ((a : A) → strong a ≡ true → weak a ≡ true) → filter strong (filter weak xs) ≡ filter strong xs
-kept_twice weak strong [] h = refl
-kept_twice weak strong (x ∷ xs) h = kept_twice_case weak strong x (filter weak xs) (filter strong xs) (h x) (kept_twice weak strong xs h) (weak x) refl
-
-find_kept_case : {A : Type 0} (weak strong : A → Bool) (x : A) (kept : List A) (found : Option A) → (strong x ≡ true → weak x ≡ true) → find strong kept ≡ found → (b : Bool) → weak x ≡ b
-    → find strong (cond b (x ∷ kept) kept) ≡ cond (strong x) (Some x) found
-find_kept_case weak strong x kept found h ih true e = ap (cond (strong x) (Some x)) ih
-find_kept_case weak strong x kept found h ih false e =
-    ih ∙ sym (cond-false (strong x) (Some x) found (false_from_ne_true (strong x) (λ s. both_ways (weak x) e (h s))))
-
-pub find_kept : {A : Type 0} (weak strong : A → Bool) (xs : List A) → ((a : A) → strong a ≡ true → weak a ≡ true) → find strong (filter weak xs) ≡ find strong xs
-find_kept weak strong [] h = refl
-find_kept weak strong (x ∷ xs) h = find_kept_case weak strong x (filter weak xs) (find strong xs) (h x) (find_kept weak strong xs h) (weak x) refl
+use Rattle.ddt_plan.proofs.SliceLemmas.{nothing_case, below_kept}
 
 -- ---- the best match of a half
 
@@ -114,22 +94,61 @@ module _ {A : Type 0} (prefix : A → List ℕ) (items : List A) (one : (a b : A
   half_case upper q None e = not_here upper q e
   half_case upper q (Some a) e = found_here (half upper q) a e
 
-  pub best_at_half : (upper : Bool) (q : List ℕ) (kept : List A) (above : Option A) → kept ≡ filter (λ a. is_strictly_below (prefix a) q) items → above ≡ longest_match prefix items q
-      → option_or (find (λ a. is_same_path (prefix a) (half upper q)) kept) above ≡ longest_match prefix items (half upper q)
-  best_at_half upper q kept above e f =
-      let found : find (at (half upper q)) kept ≡ find (at (half upper q)) items =
-      ap (find (at (half upper q))) e ∙ find_kept (λ a. is_strictly_below (prefix a) q) (at (half upper q)) items (λ a s.
-      subst (λ (l : List ℕ). is_strictly_below l q ≡ true) (sym (same_path (prefix a) (half upper q) s)) (half_below upper q)) in
+  -- what is found among items that have all of a prefix is found among all
+  same_found : (h : List ℕ) (kept : List A) → ((a : A) → IsIn a kept → IsIn a items)
+      → ((a : A) → IsIn a items → at h a ≡ true → IsIn a kept)
+      → (found known : Option A) → find (at h) kept ≡ found → find (at h) items ≡ known → found ≡ known
+  same_found h kept from all None None e f = refl
+  same_found h kept from all None (Some b) e f =
+      let s = found_passes (at h) items b f in
+      absurd (both_ways (at h b) (unfound (at h) kept b e (all b (found_in (at h) items b f) s)) s)
+  same_found h kept from all (Some a) None e f =
+      let k = from a (found_in (at h) kept a e) in
+      absurd (both_ways (at h a) (unfound (at h) items a f k) (found_passes (at h) kept a e))
+  same_found h kept from all (Some a) (Some b) e f =
+      ap (λ (x : A). Some x) (one a b (from a (found_in (at h) kept a e)) (found_in (at h) items b f)
+      (same_path (prefix a) h (found_passes (at h) kept a e)
+      ∙ sym (same_path (prefix b) h (found_passes (at h) items b f))))
+
+  pub best_at_half : (upper : Bool) (q : List ℕ) (kept : List A) (above : Option A) → AreBelow prefix items q kept
+      → above ≡ longest_match prefix items q
+      → option_or (find (λ a. is_same_path (prefix a) (half upper q)) kept) above
+      ≡ longest_match prefix items (half upper q)
+  best_at_half upper q kept above are f =
+      let h = half upper q in
+      let found : find (at h) kept ≡ find (at h) items = same_found h kept (λ a k. (are.from a k).0)
+      (λ a k s. are.all a k (subst (λ (l : List ℕ). is_strictly_below l q ≡ true)
+      (sym (same_path (prefix a) h s)) (half_below upper q))) (find (at h) kept) (find (at h) items) refl refl in
       ap (λ (o : Option A). option_or o above) found
-      ∙ ap (option_or (find (at (half upper q)) items)) f
-      ∙ sym (half_case upper q (find (at (half upper q)) items) refl)
+      ∙ ap (option_or (find (at h) items)) f
+      ∙ sym (half_case upper q (find (at h) items) refl)
+
+  -- in another order the best match is the same
+  moved_case : (xs : List A) → IsPermutation items xs → (q : List ℕ) (found : Option A)
+      → longest_match prefix items q ≡ found → longest_match prefix xs q ≡ found
+  moved_case xs moved q None e =
+      best_none Longest prefix q xs (λ b k. false_from_ne_true (covers (prefix b) q)
+      (best_there Longest prefix q items b e (moved_in xs items (IsPermutation-sym items xs moved) b k)))
+  moved_case xs moved q (Some a) e =
+      let m = best_member Longest prefix q items a e in
+      best_is Longest prefix q xs a (moved_in items xs moved a m.0) m.1 (λ b j d.
+      let i = moved_in xs items (IsPermutation-sym items xs moved) b j in
+      let le = best_unbeaten Longest prefix q items a b e i d in
+      elim (cases_lt (length (prefix b)) (length (prefix a))) [
+        | inl shorter ↦ inr shorter
+        | inr ge ↦ inl (one b a i m.0 (one_front (prefix b) (prefix a) q d m.1 (omega (arith, le, ge))))
+      ])
+
+  pub best_moved : (xs : List A) → IsPermutation items xs → (q : List ℕ)
+      → longest_match prefix xs q ≡ longest_match prefix items q
+  best_moved xs moved q = moved_case xs moved q (longest_match prefix items q) refl
 
 -- ---- an accepted register
 
-abbrev delegation_prefix : Delegation → List ℕ
+abbrev pub delegation_prefix : Delegation → List ℕ
 delegation_prefix z = z.prefix
 
-abbrev state_prefix : SiteState → List ℕ
+abbrev pub state_prefix : SiteState → List ℕ
 state_prefix s = s.prefix
 
 module _ (r : Register) (accepted : IsAccepted r) where
@@ -147,27 +166,19 @@ module _ (r : Register) (accepted : IsAccepted r) where
       let e : s.0.prefix ≡ t.0.prefix = sym (ap state_prefix s.2) ∙ same ∙ ap state_prefix t.2 in
       s.2 ∙ ap state_of (one_site r accepted s.0 t.0 s.1 t.1 e) ∙ sym t.2
 
-  pub delegation_at_half : (upper : Bool) (q : List ℕ) (kept : List Delegation) (above : Option Delegation) → kept ≡ delegations_below r q → above ≡ delegation_at r q
+  pub delegation_at_half : (upper : Bool) (q : List ℕ) (kept : List Delegation) (above : Option Delegation)
+      → AreBelow delegation_prefix (delegations_of r) q kept → above ≡ delegation_at r q
       → option_or (find (λ z. is_same_path z.prefix (half upper q)) kept) above ≡ delegation_at r (half upper q)
   delegation_at_half = best_at_half delegation_prefix (delegations_of r) one_delegation
 
-  pub state_at_half : (upper : Bool) (q : List ℕ) (kept : List SiteState) (above : Option SiteState) → kept ≡ states_below r q → above ≡ state_at r q
+  pub state_at_half : (upper : Bool) (q : List ℕ) (kept : List SiteState) (above : Option SiteState)
+      → AreBelow state_prefix (states_of r) q kept → above ≡ state_at r q
       → option_or (find (λ m. is_same_path m.prefix (half upper q)) kept) above ≡ state_at r (half upper q)
   state_at_half = best_at_half state_prefix (states_of r) one_state
 
 module _ (r : Register) where
   further : (upper : Bool) (q p : List ℕ) → is_strictly_below p (half upper q) ≡ true → is_strictly_below p q ≡ true
   further upper q p below = below_wider p (half upper q) q (covers-append q (next_digit 32 upper q ∷ [])) below
-
-  pub delegations_at_half : (upper : Bool) (q : List ℕ) (kept : List Delegation) → kept ≡ delegations_below r q → filter (λ z. is_strictly_below z.prefix (half upper q)) kept ≡ delegations_below r (half upper q)
-  delegations_at_half upper q kept e =
-      ap (filter (λ z. is_strictly_below z.prefix (half upper q))) e
-      ∙ kept_twice (λ (z : Delegation). is_strictly_below z.prefix q) (λ (z : Delegation). is_strictly_below z.prefix (half upper q)) (delegations_of r) (λ z below. further upper q z.prefix below)
-
-  pub states_at_half : (upper : Bool) (q : List ℕ) (kept : List SiteState) → kept ≡ states_below r q → filter (λ m. is_strictly_below m.prefix (half upper q)) kept ≡ states_below r (half upper q)
-  states_at_half upper q kept e =
-      ap (filter (λ m. is_strictly_below m.prefix (half upper q))) e
-      ∙ kept_twice (λ (m : SiteState). is_strictly_below m.prefix q) (λ (m : SiteState). is_strictly_below m.prefix (half upper q)) (states_of r) (λ m below. further upper q m.prefix below)
 
   -- ---- which keys are strictly below
 
@@ -193,10 +204,6 @@ module _ (r : Register) where
   ]))
 
   -- an undivided prefix has nothing strictly below it
-  nothing_case : {A : Type 0} (prefix : A → List ℕ) (q : List ℕ) (items : List A) → ((a : A) → IsIn a items → is_strictly_below (prefix a) q ≡ false) → filter (λ a. is_strictly_below (prefix a) q) items ≡ []
-  nothing_case prefix q [] h = refl
-  nothing_case prefix q (a ∷ items) h = rw (h a (inl refl)) (nothing_case prefix q items (λ b k. h b (inr k)))
-
   not_below : (q : List ℕ) → is_undivided (keys_of r) q ≡ true → (k : List ℕ) → IsIn k (keys_of r) → is_strictly_below k q ≡ false
   not_below q e k j = not-true (is_strictly_below k q) (holds_at (λ (k : List ℕ). not (is_strictly_below k q)) (keys_of r) k e j)
 
@@ -258,26 +265,36 @@ is_empty xs e = eq-eqb (length xs) 0 (ap (λ (ys : List _). length ys) e)
 -- ---- as the code goes
 
 module _ (r : Register) (accepted : IsAccepted r) (upper : Bool) (whole h : List ℕ) (e : h ≡ half upper whole) where
-  pub zone_goes : (kept : List Delegation) (above result : Option Delegation) → kept ≡ delegations_below r whole → above ≡ delegation_at r whole
+  pub zone_goes : (kept : List Delegation) (above result : Option Delegation)
+      → AreBelow delegation_prefix (delegations_of r) whole kept → above ≡ delegation_at r whole
       → result ≡ option_or (find (λ z. is_same_path z.prefix h) kept) above → result ≡ delegation_at r h
   zone_goes kept above result f g answer =
       answer ∙ ap (λ (l : List ℕ). option_or (find (λ (z : Delegation). is_same_path z.prefix l) kept) above) e
       ∙ delegation_at_half r accepted upper whole kept above f g ∙ ap (delegation_at r) (sym e)
 
-  pub site_goes : (kept : List SiteState) (above result : Option SiteState) → kept ≡ states_below r whole → above ≡ state_at r whole
+  pub site_goes : (kept : List SiteState) (above result : Option SiteState)
+      → AreBelow state_prefix (states_of r) whole kept → above ≡ state_at r whole
       → result ≡ option_or (find (λ s. is_same_path s.prefix h) kept) above → result ≡ state_at r h
   site_goes kept above result f g answer =
       answer ∙ ap (λ (l : List ℕ). option_or (find (λ (s : SiteState). is_same_path s.prefix l) kept) above) e
       ∙ state_at_half r accepted upper whole kept above f g ∙ ap (state_at r) (sym e)
 
 module _ (r : Register) (upper : Bool) (whole h : List ℕ) (e : h ≡ half upper whole) where
-  pub zones_go : (kept : List Delegation) (result : List Delegation) → kept ≡ delegations_below r whole → result ≡ filter (λ z. is_strictly_below z.prefix h) kept → result ≡ delegations_below r h
-  zones_go kept result f answer =
-      answer ∙ ap (λ (l : List ℕ). filter (λ (z : Delegation). is_strictly_below z.prefix l) kept) e ∙ delegations_at_half r upper whole kept f ∙ ap (delegations_below r) (sym e)
+  narrower : (p : List ℕ) → is_strictly_below p h ≡ true → is_strictly_below p whole ≡ true
+  narrower p b = further r upper whole p (subst (λ (l : List ℕ). is_strictly_below p l ≡ true) e b)
 
-  pub sites_go : (kept : List SiteState) (result : List SiteState) → kept ≡ states_below r whole → result ≡ filter (λ s. is_strictly_below s.prefix h) kept → result ≡ states_below r h
-  sites_go kept result f answer =
-      answer ∙ ap (λ (l : List ℕ). filter (λ (s : SiteState). is_strictly_below s.prefix l) kept) e ∙ states_at_half r upper whole kept f ∙ ap (states_below r) (sym e)
+  pub zones_go : (kept result : List Delegation) → AreBelow delegation_prefix (delegations_of r) whole kept
+      → result ≡ filter (λ z. is_strictly_below z.prefix h) kept
+      → AreBelow delegation_prefix (delegations_of r) h result
+  zones_go kept result are answer =
+      subst (AreBelow delegation_prefix (delegations_of r) h) (sym answer)
+      (below_kept delegation_prefix (delegations_of r) kept whole h are (λ z b. narrower z.prefix b))
+
+  pub sites_go : (kept result : List SiteState) → AreBelow state_prefix (states_of r) whole kept
+      → result ≡ filter (λ s. is_strictly_below s.prefix h) kept → AreBelow state_prefix (states_of r) h result
+  sites_go kept result are answer =
+      subst (AreBelow state_prefix (states_of r) h) (sym answer)
+      (below_kept state_prefix (states_of r) kept whole h are (λ s b. narrower s.prefix b))
 
   pub fronts_go : is_undivided (keys_of r) whole ≡ false → (f : List ℕ) → covers f h ≡ true → length f < length h → is_undivided (keys_of r) f ≡ false
   fronts_go divided f c lt =

@@ -1,7 +1,9 @@
 -- What a block is assigned, by its zone and its site alone: no lengths are tried. A walk down the digits carries both.
-use Rattle.std.specs.Prelude.{ℕ, ◌≡◌, ◌==◌, not, true, false, List, map, length, Option, None, Some, if◌then◌else◌}
+use Rattle.std.specs.Prelude.{ℕ, ◌≡◌, ◌==◌, not, true, false, List, map, length, Option, None, Some, if◌then◌else◌, IsPermutation, IsSorted}
 use Rattle.std.specs.List.{filter}
 use Rattle.std.specs.Option.{option_map_or}
+use Rattle.std.specs.Ordering.{nat_cmp}
+use Rattle.std.specs.Cmp.Lexicographic.{slice_cmp}
 use Rattle.ddt_path.specs.declared.locator.Locator.{Locator}
 use Rattle.ddt_path.specs.declared.record.Role.{Role}
 use Rattle.ddt_path.specs.declared.record.Role.TheVariants.{Node, Ms}
@@ -9,6 +11,7 @@ use Rattle.ddt_path.specs.declared.record.Outcome.{Outcome}
 use Rattle.ddt_path.specs.declared.record.Outcome.TheVariants.{Registered, NotRegistered, Hole}
 use Rattle.ddt_path.specs.Covers.{is_strictly_below}
 use Rattle.ddt_path.specs.Matching.{longest_match}
+use Rattle.ddt_path.specs.laws.Member.{IsIn}
 use Rattle.ddt_register.specs.declared.zone.Zone.{Zone}
 use Rattle.ddt_register.specs.declared.site.Site.{Site}
 use Rattle.ddt_register.specs.declared.register.Register.{Register}
@@ -16,6 +19,7 @@ use Rattle.ddt_check.specs.Assignment.{assignment}
 use Rattle.ddt_check.specs.Zones.{locators_of}
 use Rattle.ddt_plan.specs.declared.sides.Delegation.{Delegation}
 use Rattle.ddt_plan.specs.declared.sides.SiteState.{SiteState}
+use Rattle.ddt_plan.specs.declared.sides.SortedItems.{SortedItems}
 use Rattle.ddt_plan.specs.declared.sides.Division.{Division}
 use Rattle.ddt_plan.specs.declared.sides.Side.{Side}
 use Rattle.ddt_plan.specs.declared.sides.Side.TheVariants.{Settled, Divided}
@@ -58,6 +62,23 @@ state_at r q = longest_match (λ s. s.prefix) (states_of r) q
 abbrev pub outcome_at : Register → List ℕ → Outcome
 outcome_at r q = outcome_from (delegation_at r q) (state_at r q) q
 
+-- items in the order of their prefixes
+abbrev pub AreInOrder : {A : Type 0} → (A → List ℕ) → List A → Type 0
+AreInOrder prefix items = IsSorted (λ a b. slice_cmp nat_cmp (prefix a) (prefix b)) items
+
+-- the items strictly below a path, and no others, in the order of their prefixes
+pub record AreBelow {A : Type 0} (prefix : A → List ℕ) (items : List A) (q : List ℕ) (kept : List A) : Type 0 where
+  pub from : (a : A) → IsIn a kept → IsIn a items × (is_strictly_below (prefix a) q ≡ true)
+  pub all : (a : A) → IsIn a items → is_strictly_below (prefix a) q ≡ true → IsIn a kept
+  pub in_order : AreInOrder prefix kept
+
+-- the zones and the sites of a register, in the order of their prefixes
+pub record AreItemsOf (r : Register) (items : SortedItems) : Type 0 where
+  pub zones : IsPermutation (delegations_of r) items.zones.items
+  pub sites : IsPermutation (states_of r) items.sites.items
+  pub zones_in_order : AreInOrder (λ z. z.prefix) items.zones.items
+  pub sites_in_order : AreInOrder (λ s. s.prefix) items.sites.items
+
 -- what is strictly below a prefix
 abbrev pub delegations_below : Register → List ℕ → List Delegation
 delegations_below r q = filter (λ z. is_strictly_below z.prefix q) (delegations_of r)
@@ -69,8 +90,8 @@ states_below r q = filter (λ s. is_strictly_below s.prefix q) (states_of r)
 pub record IsDivision (r : Register) (q : List ℕ) (d : Division) : Type 0 where
   pub zone : d.zone ≡ delegation_at r q
   pub site : d.site ≡ state_at r q
-  pub zones : d.zones.items ≡ delegations_below r q
-  pub sites : d.sites.items ≡ states_below r q
+  pub zones : AreBelow (λ z. z.prefix) (delegations_of r) q d.zones.now
+  pub sites : AreBelow (λ s. s.prefix) (states_of r) q d.sites.now
   pub divided : is_undivided (keys_of r) q ≡ false
 
 -- what is kept at one that none is, nor at any that it covers

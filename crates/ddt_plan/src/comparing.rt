@@ -1,17 +1,18 @@
 //! What a change of a register changes.
 
-ghost use Rattle.std.specs.Prelude.{List};
+ghost use Rattle.std.specs.Prelude.{List, IfOk};
 ghost use Rattle.ddt_plan.specs.Changes.{AreChanges};
+ghost use Rattle.ddt_plan.specs.Fast.{AreItemsOf};
 ghost use Rattle.ddt_plan.specs.Sinks.{HasGiven};
 ghost use Rattle.ddt_plan.specs.declared.comparing.Change.{Change as AChange};
 
 use crate::outcomes::Reading;
-use crate::sides::sides_at;
+use crate::sides::{SortedItems, Sides, side_at, sort_items};
 use crate::sink::{PlanFault, Sink};
-use crate::walking::{Comparison, walk_both};
+use crate::walking::walk_both;
 use ddt_check::Accepted;
 use ddt_path::{Outcome, Prefix};
-use std::alloc::Global;
+use std::alloc::{AllocError, Global};
 
 /// Identifiers whose assignment changes.
 #[derive(Clone, Copy, Debug, PartialEq, Eq)]
@@ -42,9 +43,27 @@ pub fn changes<S: Sink<Change>>(
     ensures { (all : List AChange) × AreChanges reading before.now after.now inside all
         × HasGiven S.takes sink.old all result sink.new }
 {
-    let how = Comparison { alloc, reading };
-    match sides_at(alloc, before, after, inside) {
-        Ok(sides) => walk_both(how, before, after, inside, sides, sink),
+    match sort_both(alloc, before, after) {
+        Ok((earlier, later)) => {
+            let sides = Sides {
+                before: side_at(before, &earlier, inside),
+                after: side_at(after, &later, inside),
+            };
+            walk_both(reading, before, after, inside, &sides, sink)
+        }
         Err(_refused) => Err(PlanFault::Memory),
     }
+}
+
+/// The zones and the sites of two registers, in the order of their prefixes.
+fn sort_both(
+    alloc: Global,
+    before: &Accepted,
+    after: &Accepted,
+) -> Result<(SortedItems, SortedItems), AllocError>
+    ensures { IfOk result (λ items. AreItemsOf before.now items.0 × AreItemsOf after.now items.1) }
+{
+    let earlier = sort_items(alloc, before)?;
+    let later = sort_items(alloc, after)?;
+    Ok((earlier, later))
 }

@@ -5,7 +5,7 @@ ghost use Rattle.ddt_plan.specs.Changes.{AreBlocks};
 ghost use Rattle.ddt_plan.specs.Sinks.{HasGiven};
 ghost use Rattle.ddt_plan.specs.declared.listing.Block.{Block as ABlock};
 
-use crate::sides::side_at;
+use crate::sides::{side_at, sort_items};
 use crate::sink::{PlanFault, Sink};
 use crate::walking::walk;
 use ddt_check::Accepted;
@@ -36,8 +36,8 @@ pub fn blocks<S: Sink<Block>>(
 ) -> Result<(), PlanFault<S::Refusal>>
     ensures { (all : List ABlock) × AreBlocks accepted.now inside all × HasGiven S.takes sink.old all result sink.new }
 {
-    match side_at(alloc, accepted, inside) {
-        Ok(side) => walk(alloc, accepted, inside, side, sink),
+    match sort_items(alloc, accepted) {
+        Ok(items) => walk(accepted, inside, &side_at(accepted, &items, inside), sink),
         Err(_refused) => Err(PlanFault::Memory),
     }
 }

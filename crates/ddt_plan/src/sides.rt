@@ -1,12 +1,12 @@
 //! What one register says at a prefix: what all of it is assigned, or the zone and the site around it and what is
-//! strictly below it.
+//! strictly below it. In the order of prefixes all that is strictly below one stands together, so nothing is copied.
 
 ghost use Rattle.std.specs.Prelude.{◌≡◌, ◌==◌, ◌&&◌, ℕ, ◌<◌, false, true, List, length, find, IfOk};
 ghost use Rattle.std.specs.List.{filter};
 ghost use Rattle.std.specs.Option.{option_or};
 ghost use Rattle.ddt_path.specs.Covers.{covers, is_strictly_below, is_same_path};
 ghost use Rattle.ddt_plan.specs.Blocks.{keys_of, is_undivided, half as half_of};
-ghost use Rattle.ddt_plan.specs.Fast.{IsDivision, IsSide, AreSides, delegations_of, delegations_below, delegation_at, states_of, states_below, state_at, outcome_from, outcome_in as outcome_in_of, outcome_of_site as outcome_of_site_of};
+ghost use Rattle.ddt_plan.specs.Fast.{AreInOrder, AreBelow, AreItemsOf, IsDivision, IsSide, AreSides, delegations_of, delegation_at, states_of, state_at, outcome_from, outcome_in as outcome_in_of, outcome_of_site as outcome_of_site_of};
 
 use crate::halves::half;
 use crate::servers::servers_of;
@@ -32,31 +32,38 @@ pub struct SiteState {
     pub is_registered: bool,
 }
 
-/// What one register says at a prefix.
+/// The zones and the sites of a register, in the order of their prefixes.
 #[derive(Drop)]
-pub enum Side {
-    /// All of it is assigned this.
-    Settled(Outcome),
-    /// Some zone or site is strictly below it.
-    Divided(Division),
-}
-
-/// What is around a prefix and what is strictly below it.
-#[derive(Drop)]
-pub struct Division {
-    /// Its zone.
-    pub zone: Option<Delegation>,
-    /// The longest site that covers it.
-    pub site: Option<SiteState>,
+pub struct SortedItems {
     pub zones: Vec<Delegation>,
     pub sites: Vec<SiteState>,
 }
 
+/// What one register says at a prefix.
+#[derive(Clone, Copy)]
+pub enum Side<'a> {
+    /// All of it is assigned this.
+    Settled(Outcome),
+    /// Some zone or site is strictly below it.
+    Divided(Division<'a>),
+}
+
+/// What is around a prefix and what is strictly below it.
+#[derive(Clone, Copy)]
+pub struct Division<'a> {
+    /// Its zone.
+    pub zone: Option<Delegation>,
+    /// The longest site that covers it.
+    pub site: Option<SiteState>,
+    pub zones: &'a [Delegation],
+    pub sites: &'a [SiteState],
+}
+
 /// What two registers say at a prefix.
-#[derive(Drop)]
-pub struct Sides {
-    pub before: Side,
-    pub after: Side,
+#[derive(Clone, Copy)]
+pub struct Sides<'a> {
+    pub before: Side<'a>,
+    pub after: Side<'a>,
 }
 
 impl Prefixed for Delegation {
@@ -75,53 +82,51 @@ impl Prefixed for SiteState {
     }
 }
 
-/// What two accepted registers say at a prefix.
-pub fn sides_at(
-    alloc: Global,
-    before: &Accepted,
-    after: &Accepted,
-    at: Prefix,
-) -> Result<Sides, AllocError>
-    ensures { IfOk result (λ sides. AreSides before.now after.now at sides) }
+/// The zones and the sites of an accepted register, in the order of their prefixes.
+pub fn sort_items(alloc: Global, accepted: &Accepted) -> Result<SortedItems, AllocError>
+    ensures { IfOk result (λ items. AreItemsOf accepted.now items) }
 {
-    let before = side_at(alloc, before, at)?;
-    let after = side_at(alloc, after, at)?;
-    Ok(Sides { before, after })
+    let mut zones = delegations(alloc, accepted)?;
+    let mut sites = site_states(alloc, accepted)?;
+    zones.sort_unstable_by_key(|zone| zone.prefix);
+    sites.sort_unstable_by_key(|site| site.prefix);
+    Ok(SortedItems { zones, sites })
 }
 
 /// What an accepted register says at a prefix.
-pub fn side_at(alloc: Global, accepted: &Accepted, at: Prefix) -> Result<Side, AllocError>
-    ensures { IfOk result (λ side. IsSide accepted.now at side) }
+pub fn side_at<'a>(accepted: &Accepted, items: &'a SortedItems, at: Prefix) -> Side<'a>
+    requires { AreItemsOf accepted.now items.now }
+    ensures { IsSide accepted.now at result }
 {
-    let zones = delegations(alloc, accepted)?;
-    let sites = site_states(alloc, accepted)?;
-    let zones_below = items_below(alloc, zones.as_slice(), at)?;
-    let sites_below = items_below(alloc, sites.as_slice(), at)?;
-    if are_empty(zones_below.as_slice(), sites_below.as_slice()) {
-        return Ok(Side::Settled(assign(accepted, at.inner())));
+    let _register = accepted.register();
+    let zones = items.zones.as_slice();
+    let sites = items.sites.as_slice();
+    let zones_below = items_below(zones, at);
+    let sites_below = items_below(sites, at);
+    if are_empty(zones_below, sites_below) {
+        return Side::Settled(assign(accepted, at.inner()));
     }
-    Ok(Side::Divided(Division {
-        zone: longest_match(zones.as_slice(), at).copied(),
-        site: longest_match(sites.as_slice(), at).copied(),
+    Side::Divided(Division {
+        zone: longest_match(zones, at).copied(),
+        site: longest_match(sites, at).copied(),
         zones: zones_below,
         sites: sites_below,
-    }))
+    })
 }
 
 /// What two registers say at the two halves of a prefix of which one says that it is divided.
-pub fn sides_of_both_below(
-    alloc: Global,
+pub fn sides_of_both_below<'a>(
     before: &Accepted,
     after: &Accepted,
     whole: Prefix,
-    sides: Sides,
-) -> Result<(Sides, Sides), AllocError>
-    requires sides { AreSides before.now after.now whole sides }
-    ensures { IfOk result (λ halves. AreSides before.now after.now (half_of false whole) halves.0
-        × AreSides before.now after.now (half_of true whole) halves.1) }
+    sides: &Sides<'a>,
+) -> (Sides<'a>, Sides<'a>)
+    requires { AreSides before.now after.now whole sides.now }
+    ensures { AreSides before.now after.now (half_of false whole) result.0
+        × AreSides before.now after.now (half_of true whole) result.1 }
 {
-    let (old_low, old_high) = sides_at_halves(alloc, before, whole, &sides.before)?;
-    let (new_low, new_high) = sides_at_halves(alloc, after, whole, &sides.after)?;
+    let (old_low, old_high) = sides_at_halves(before, whole, &sides.before);
+    let (new_low, new_high) = sides_at_halves(after, whole, &sides.after);
     let low = Sides {
         before: old_low,
         after: new_low,
@@ -130,85 +135,80 @@ pub fn sides_of_both_below(
         before: old_high,
         after: new_high,
     };
-    Ok((low, high))
+    (low, high)
 }
 
 /// What a register says at the two halves of a prefix.
-fn sides_at_halves(
-    alloc: Global,
-    accepted: &Accepted,
-    whole: Prefix,
-    side: &Side,
-) -> Result<(Side, Side), AllocError>
+fn sides_at_halves<'a>(accepted: &Accepted, whole: Prefix, side: &Side<'a>) -> (Side<'a>, Side<'a>)
     requires side { IsSide accepted.now whole side.now }
-    ensures { IfOk result (λ halves. IsSide accepted.now (half_of false whole) halves.0
-        × IsSide accepted.now (half_of true whole) halves.1) }
+    ensures { IsSide accepted.now (half_of false whole) result.0 × IsSide accepted.now (half_of true whole) result.1 }
 {
     match side {
-        Side::Settled(outcome) => Ok((Side::Settled(*outcome), Side::Settled(*outcome))),
-        Side::Divided(division) => sides_below(alloc, accepted, whole, division),
+        Side::Settled(outcome) => (Side::Settled(*outcome), Side::Settled(*outcome)),
+        Side::Divided(division) => sides_below(accepted, whole, division),
     }
 }
 
 /// The same where the prefix is divided.
-pub fn sides_below(
-    alloc: Global,
+pub fn sides_below<'a>(
     accepted: &Accepted,
     whole: Prefix,
-    division: &Division,
-) -> Result<(Side, Side), AllocError>
+    division: &Division<'a>,
+) -> (Side<'a>, Side<'a>)
     requires division { IsDivision accepted.now whole division.now }
-    ensures { IfOk result (λ halves. IsSide accepted.now (half_of false whole) halves.0
-        × IsSide accepted.now (half_of true whole) halves.1) }
+    ensures { IsSide accepted.now (half_of false whole) result.0 × IsSide accepted.now (half_of true whole) result.1 }
 {
-    let low = side_below(alloc, accepted, whole, division, false)?;
-    let high = side_below(alloc, accepted, whole, division, true)?;
-    Ok((low, high))
+    let low = side_below(accepted, whole, division, false);
+    let high = side_below(accepted, whole, division, true);
+    (low, high)
 }
 
 /// What it says at one half.
-fn side_below(
-    alloc: Global,
+fn side_below<'a>(
     accepted: &Accepted,
     whole: Prefix,
-    division: &Division,
+    division: &Division<'a>,
     upper: bool,
-) -> Result<Side, AllocError>
+) -> Side<'a>
     requires division { IsDivision accepted.now whole division.now }
-    ensures { IfOk result (λ side. IsSide accepted.now (half_of upper whole) side) }
+    ensures { IsSide accepted.now (half_of upper whole) result }
 {
     let _register = accepted.register();
     let at = half(whole, upper);
-    let zones = division.zones.as_slice();
-    let sites = division.sites.as_slice();
-    let zone = item_at(zones, at, division.zone);
-    let site = item_at(sites, at, division.site);
-    let zones = items_below(alloc, zones, at)?;
-    let sites = items_below(alloc, sites, at)?;
-    let around = Division {
-        zone,
-        site,
-        zones,
-        sites,
-    };
-    Ok(settle(accepted, at, around))
+    let zone = item_at(division.zones, at, division.zone);
+    let site = item_at(division.sites, at, division.site);
+    let zones = items_below(division.zones, at);
+    let sites = items_below(division.sites, at);
+    settle(accepted, at, zone, site, zones, sites)
 }
 
 /// What it says at a prefix whose shorter fronts are all divided.
-fn settle(accepted: &Accepted, at: Prefix, around: Division) -> Side
-    requires zone { around.zone ≡ delegation_at accepted.now at }
-    requires site { around.site ≡ state_at accepted.now at }
-    requires zones { around.zones.items ≡ delegations_below accepted.now at }
-    requires sites { around.sites.items ≡ states_below accepted.now at }
+fn settle<'a>(
+    accepted: &Accepted,
+    at: Prefix,
+    zone: Option<Delegation>,
+    site: Option<SiteState>,
+    zones: &'a [Delegation],
+    sites: &'a [SiteState],
+) -> Side<'a>
+    requires zone { zone ≡ delegation_at accepted.now at }
+    requires site { site ≡ state_at accepted.now at }
+    requires zones { AreBelow (λ z. z.prefix) (delegations_of accepted.now) at zones.now }
+    requires sites { AreBelow (λ s. s.prefix) (states_of accepted.now) at sites.now }
     requires fronts { (f : List ℕ) → covers f at ≡ true → length f < length at
         → is_undivided (keys_of accepted.now) f ≡ false }
     ensures { IsSide accepted.now at result }
 {
     let (_register, _inside) = (accepted.register(), at.inner());
-    if are_empty(around.zones.as_slice(), around.sites.as_slice()) {
-        return Side::Settled(outcome_at(around.zone, around.site, at));
+    if are_empty(zones, sites) {
+        return Side::Settled(outcome_at(zone, site, at));
     }
-    Side::Divided(around)
+    Side::Divided(Division {
+        zone,
+        site,
+        zones,
+        sites,
+    })
 }
 
 fn are_empty(zones: &[Delegation], sites: &[SiteState]) -> bool
@@ -284,6 +284,7 @@ fn site_states(alloc: Global, accepted: &Accepted) -> Result<Vec<SiteState>, All
 
 /// The item of this prefix, else the one above.
 fn item_at<T: Prefixed + Copy>(items: &[T], at: Prefix, above: Option<T>) -> Option<T>
+    requires { AreInOrder T.path items.now }
     ensures { result ≡ option_or (find (λ item. is_same_path (T.path item) at) items.now) above }
 {
     match item_of_prefix(items, at) {
@@ -293,22 +294,29 @@ fn item_at<T: Prefixed + Copy>(items: &[T], at: Prefix, above: Option<T>) -> Opt
 }
 
 fn item_of_prefix<T: Prefixed + Copy>(items: &[T], at: Prefix) -> Option<T>
+    requires { AreInOrder T.path items.now }
     ensures { result ≡ find (λ item. is_same_path (T.path item) at) items.now }
 {
-    items.iter().copied().find(|item| item.prefix() == at)
+    let first = items.partition_point(|item| item.prefix() < at);
+    if first == items.len() {
+        return None;
+    }
+    let item = items[first];
+    if item.prefix() == at {
+        Some(item)
+    } else {
+        None
+    }
 }
 
-/// The items strictly below a prefix.
-fn items_below<T: Prefixed + Copy>(
-    alloc: Global,
-    items: &[T],
-    at: Prefix,
-) -> Result<Vec<T>, AllocError>
-    ensures { IfOk result (λ below. below.items ≡ filter (λ item. is_strictly_below (T.path item) at) items.now) }
+/// The items strictly below a prefix: of those behind it in order, the ones that it covers come first.
+fn items_below<T: Prefixed>(items: &[T], at: Prefix) -> &[T]
+    requires { AreInOrder T.path items.now }
+    ensures { result.now ≡ filter (λ item. is_strictly_below (T.path item) at) items.now }
 {
-    items
-        .iter()
-        .copied()
-        .filter(|item| item.prefix().is_strictly_below(at))
-        .collect(alloc)
+    let first = items.partition_point(|item| item.prefix() <= at);
+    let (_before, behind) = items.split_at(first);
+    let count = behind.partition_point(|item| at.covers(item.prefix()));
+    let (below, _after) = behind.split_at(count);
+    below
 }

@@ -15,26 +15,15 @@ use crate::sides::{Side, Sides, sides_below, sides_of_both_below};
 use crate::sink::{PlanFault, Sink, give};
 use ddt_check::Accepted;
 use ddt_path::{Outcome, Prefix};
-use std::alloc::Global;
-
-/// How two registers are compared.
-#[derive(Clone, Copy)]
-pub struct Comparison {
-    /// Where the memory of the walk comes from.
-    pub alloc: Global,
-    /// When two outcomes are one.
-    pub reading: Reading,
-}
 
 /// Gives the blocks of a register inside a prefix. It goes 161 calls deep at most.
 pub fn walk<S: Sink<Block>>(
-    alloc: Global,
     accepted: &Accepted,
     whole: Prefix,
-    side: Side,
+    side: &Side<'_>,
     sink: &mut S,
 ) -> Result<(), PlanFault<S::Refusal>>
-    requires { IsSide accepted.now whole side }
+    requires { IsSide accepted.now whole side.now }
     ensures { HasGiven S.takes sink.old
         (map (block_at accepted.now) (pieces (161 - length whole) (keys_of accepted.now) whole)) result sink.new }
 {
@@ -43,49 +32,41 @@ pub fn walk<S: Sink<Block>>(
             sink,
             Block {
                 prefix: whole,
-                outcome,
+                outcome: *outcome,
             },
         ),
         Side::Divided(division) => {
-            let halves = sides_below(alloc, accepted, whole, &division);
-            drop(division);
-            match halves {
-                Ok((low, high)) => {
-                    walk(alloc, accepted, half(whole, false), low, sink)?;
-                    walk(alloc, accepted, half(whole, true), high, sink)
-                }
-                Err(_refused) => Err(PlanFault::Memory),
-            }
+            let (low, high) = sides_below(accepted, whole, division);
+            walk(accepted, half(whole, false), &low, sink)?;
+            walk(accepted, half(whole, true), &high, sink)
         }
     }
 }
 
 /// Gives what changes inside a prefix from one register to another. It goes 161 calls deep at most.
 pub fn walk_both<S: Sink<Change>>(
-    how: Comparison,
+    reading: Reading,
     before: &Accepted,
     after: &Accepted,
     whole: Prefix,
-    sides: Sides,
+    sides: &Sides<'_>,
     sink: &mut S,
 ) -> Result<(), PlanFault<S::Refusal>>
-    requires { AreSides before.now after.now whole sides }
-    ensures { HasGiven S.takes sink.old (changes_at how.reading before.now after.now
+    requires { AreSides before.now after.now whole sides.now }
+    ensures { HasGiven S.takes sink.old (changes_at reading before.now after.now
         (pieces (161 - length whole) (keys_of before.now ++ keys_of after.now) whole)) result sink.new }
 {
-    match both_settled(&sides) {
-        Some((earlier, later)) => give_if_apart(how.reading, whole, earlier, later, sink),
-        None => match sides_of_both_below(how.alloc, before, after, whole, sides) {
-            Ok((low, high)) => {
-                walk_both(how, before, after, half(whole, false), low, sink)?;
-                walk_both(how, before, after, half(whole, true), high, sink)
-            }
-            Err(_refused) => Err(PlanFault::Memory),
-        },
+    match both_settled(sides) {
+        Some((earlier, later)) => give_if_apart(reading, whole, earlier, later, sink),
+        None => {
+            let (low, high) = sides_of_both_below(before, after, whole, sides);
+            walk_both(reading, before, after, half(whole, false), &low, sink)?;
+            walk_both(reading, before, after, half(whole, true), &high, sink)
+        }
     }
 }
 
-fn both_settled(sides: &Sides) -> Option<(Outcome, Outcome)>
+fn both_settled(sides: &Sides<'_>) -> Option<(Outcome, Outcome)>
     ensures { result ≡ both_settled_of sides.now }
 {
     match (&sides.before, &sides.after) {

@@ -7,7 +7,7 @@ ghost use Rattle.ddt_plan.specs.Sinks.{HasGiven};
 ghost use Rattle.ddt_plan.specs.declared.comparing.Change.{Change as AChange};
 
 use crate::outcomes::Reading;
-use crate::sides::{SortedItems, Sides, side_at, sort_items};
+use crate::sides::{Sides, SortedItems, side_at, sort_items};
 use crate::sink::{PlanFault, Sink};
 use crate::walking::walk_both;
 use ddt_check::Accepted;

@@ -1,9 +1,10 @@
 //! The answer for an identifier, by the maps of a server.
 
-ghost use Rattle.std.specs.Prelude.{◌≡◌, ◌<◌, IsTrue, List, None, Some, length, map, slice_get, IfSome, IfNone};
+ghost use Rattle.std.specs.Prelude.{◌≡◌, ◌<◌, ◌≤◌, IsTrue, List, None, Some, length, map, slice_get, IfSome, IfNone};
 ghost use Rattle.std.specs.FinMap.{keys};
 ghost use Rattle.std.specs.Option.{option_map};
 ghost use Rattle.ddt_path.specs.declared.locator.Locator.{Locator as ALocator};
+ghost use Rattle.ddt_path.specs.Locators.{most_locators};
 ghost use Rattle.ddt_path.specs.Records.{record_of};
 ghost use Rattle.ddt_path.specs.Path.{xeid_path};
 ghost use Rattle.ddt_path.specs.Covers.{covers};
@@ -12,6 +13,7 @@ ghost use Rattle.ddt_path.specs.Matching.{longest_match};
 ghost use Rattle.ddt_config.specs.Answer.{answer_in as answer_in_of, site_outcome as site_outcome_of, referral_to as referral_to_child};
 ghost use Rattle.ddt_config.specs.Entries.{prefixes_in};
 ghost use Rattle.ddt_trie.specs.PrefixMap.{keys_below};
+ghost use Rattle.ddt_wire.specs.Referral.{lent_record};
 ghost use Rattle.ddt_node.specs.Places.{places as places_of};
 ghost use Rattle.ddt_node.specs.ReferralSets.{kept_sets, set_of, sets_in};
 ghost use Rattle.ddt_node.specs.declared.answering.Decision.TheVariants.{Hole};
@@ -20,8 +22,15 @@ ghost use Rattle.ddt_node.specs.Server.{etr_in};
 
 use crate::referral_sets::{ReferralSet, ReferralSets};
 use ddt_config::{Authority, Child, Content, SiteEntry};
-use ddt_path::{Locator, LocatorSet, Outcome, Prefix, Prefixed, ReferralRecord, Xeid};
+use ddt_path::{
+    Action, HOLE_TTL, Locator, LocatorSet, NOT_AUTHORITATIVE_TTL, NOT_REGISTERED_TTL, POSITIVE_TTL,
+    Prefix, Prefixed, Role, Xeid,
+};
 use ddt_trie::PrefixMap;
+use ddt_wire::LentRecord;
+
+/// What a record names where nobody else is to be asked.
+const NO_SERVERS: &[Locator] = &[];
 
 /// The place of the longest item that covers the identifier. An item that is alone is looked at without the map.
 pub fn longest<T: Prefixed, M: PrefixMap<u32>>(items: &[T], places: &M, x: Xeid) -> Option<usize>
@@ -65,20 +74,45 @@ pub enum Decision<'a> {
 }
 
 impl<'a> Decision<'a> {
-    /// The record that says so, of servers with these locators, for an identifier.
-    pub fn record(&self, servers: LocatorSet, x: Xeid) -> ReferralRecord
-        ensures { result ≡ record_by servers (xeid_path x) self.now }
+    /// The record that says so, of servers with these locators, for an identifier. It lends what it names.
+    pub fn record(&self, servers: &'a LocatorSet, x: Xeid) -> LentRecord<'a>
+        ensures record { lent_record result ≡ record_by servers.now (xeid_path x) self.now }
+        ensures few { length result.servers.now ≤ most_locators }
     {
-        let outcome = match *self {
+        let (action, prefix, ttl, servers) = match *self {
             Decision::Child { prefix, set } => {
-                return ReferralRecord::referral(set.role, prefix, set.locators);
+                let action = match set.role {
+                    Role::Node => Action::NodeReferral,
+                    Role::Ms => Action::MsReferral,
+                };
+                (action, prefix, POSITIVE_TTL, set.locators.as_slice())
             }
-            Decision::Outside => return ReferralRecord::not_authoritative(x),
-            Decision::Registered { prefix, .. } => Outcome::Registered { prefix, servers },
-            Decision::NotRegistered { prefix } => Outcome::NotRegistered { prefix, servers },
-            Decision::Hole { prefix } => Outcome::Hole { prefix },
+            Decision::Registered { prefix, .. } => {
+                (Action::MsAck, prefix, POSITIVE_TTL, servers.as_slice())
+            }
+            Decision::NotRegistered { prefix } => {
+                (
+                    Action::MsNotRegistered,
+                    prefix,
+                    NOT_REGISTERED_TTL,
+                    servers.as_slice(),
+                )
+            }
+            Decision::Hole { prefix } => (Action::DelegationHole, prefix, HOLE_TTL, NO_SERVERS),
+            Decision::Outside => (
+                Action::NotAuthoritative,
+                Prefix::host(x),
+                NOT_AUTHORITATIVE_TTL,
+                NO_SERVERS,
+            ),
         };
-        ReferralRecord::of(outcome)
+        LentRecord {
+            action,
+            prefix,
+            ttl,
+            incomplete: matches!(self, Decision::Outside),
+            servers,
+        }
     }
 
     /// The ETR that a request goes on to where it is acknowledged.

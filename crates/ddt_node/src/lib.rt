@@ -10,5 +10,5 @@ mod referral_sets;
 mod server;
 
 pub use building::has_room_for;
-pub use handling::{Forward, Handled};
+pub use handling::{Buffered, Forward, Handled};
 pub use server::Server;

@@ -5,7 +5,7 @@ ghost use Rattle.std.specs.FinMap.{keys};
 ghost use Rattle.std.specs.Option.{option_map};
 ghost use Rattle.ddt_path.specs.declared.locator.Locator.{Locator as ALocator};
 ghost use Rattle.ddt_path.specs.Locators.{most_locators};
-ghost use Rattle.ddt_path.specs.Records.{record_of};
+ghost use Rattle.ddt_path.specs.Records.{record_of, referral_action as referral_action_of};
 ghost use Rattle.ddt_path.specs.Path.{xeid_path};
 ghost use Rattle.ddt_path.specs.Covers.{covers};
 ghost use Rattle.ddt_path.specs.Free.{hole_of};
@@ -17,7 +17,7 @@ ghost use Rattle.ddt_wire.specs.Referral.{lent_record};
 ghost use Rattle.ddt_node.specs.Places.{places as places_of};
 ghost use Rattle.ddt_node.specs.ReferralSets.{kept_sets, set_of, sets_in};
 ghost use Rattle.ddt_node.specs.declared.answering.Decision.TheVariants.{Hole};
-ghost use Rattle.ddt_node.specs.Decisions.{etr_by, record_by};
+ghost use Rattle.ddt_node.specs.Decisions.{etr_by, record_by, whole_record};
 ghost use Rattle.ddt_node.specs.Server.{etr_in};
 
 use crate::referral_sets::{ReferralSet, ReferralSets};
@@ -28,9 +28,6 @@ use ddt_path::{
 };
 use ddt_trie::PrefixMap;
 use ddt_wire::LentRecord;
-
-/// What a record names where nobody else is to be asked.
-const NO_SERVERS: &[Locator] = &[];
 
 /// The place of the longest item that covers the identifier. An item that is alone is looked at without the map.
 pub fn longest<T: Prefixed, M: PrefixMap<u32>>(items: &[T], places: &M, x: Xeid) -> Option<usize>
@@ -45,6 +42,30 @@ pub fn longest<T: Prefixed, M: PrefixMap<u32>>(items: &[T], places: &M, x: Xeid)
     match places.longest(x) {
         Some(found) => Some(*found.1 as usize),
         None => None,
+    }
+}
+
+/// The action of a referral to servers that are this.
+fn referral_action(role: Role) -> Action
+    ensures { result ≡ referral_action_of role }
+{
+    match role {
+        Role::Node => Action::NodeReferral,
+        Role::Ms => Action::MsReferral,
+    }
+}
+
+/// A record whose referral set is the whole of it.
+fn whole(action: Action, prefix: Prefix, ttl: u32, servers: &[Locator]) -> LentRecord<'_>
+    ensures record { lent_record result ≡ whole_record action prefix ttl servers.now }
+    ensures servers { result.servers.now ≡ servers.now }
+{
+    LentRecord {
+        action,
+        prefix,
+        ttl,
+        incomplete: false,
+        servers,
     }
 }
 
@@ -79,39 +100,26 @@ impl<'a> Decision<'a> {
         ensures record { lent_record result ≡ record_by servers.now (xeid_path x) self.now }
         ensures few { length result.servers.now ≤ most_locators }
     {
-        let (action, prefix, ttl, servers) = match *self {
+        match *self {
             Decision::Child { prefix, set } => {
-                let action = match set.role {
-                    Role::Node => Action::NodeReferral,
-                    Role::Ms => Action::MsReferral,
-                };
-                (action, prefix, POSITIVE_TTL, set.locators.as_slice())
+                let action = referral_action(set.role);
+                whole(action, prefix, POSITIVE_TTL, set.locators.as_slice())
             }
             Decision::Registered { prefix, .. } => {
-                (Action::MsAck, prefix, POSITIVE_TTL, servers.as_slice())
+                whole(Action::MsAck, prefix, POSITIVE_TTL, servers.as_slice())
             }
             Decision::NotRegistered { prefix } => {
-                (
-                    Action::MsNotRegistered,
-                    prefix,
-                    NOT_REGISTERED_TTL,
-                    servers.as_slice(),
-                )
+                let action = Action::MsNotRegistered;
+                whole(action, prefix, NOT_REGISTERED_TTL, servers.as_slice())
             }
-            Decision::Hole { prefix } => (Action::DelegationHole, prefix, HOLE_TTL, NO_SERVERS),
-            Decision::Outside => (
-                Action::NotAuthoritative,
-                Prefix::host(x),
-                NOT_AUTHORITATIVE_TTL,
-                NO_SERVERS,
-            ),
-        };
-        LentRecord {
-            action,
-            prefix,
-            ttl,
-            incomplete: matches!(self, Decision::Outside),
-            servers,
+            Decision::Hole { prefix } => whole(Action::DelegationHole, prefix, HOLE_TTL, &[]),
+            Decision::Outside => LentRecord {
+                action: Action::NotAuthoritative,
+                prefix: Prefix::host(x),
+                ttl: NOT_AUTHORITATIVE_TTL,
+                incomplete: true,
+                servers: &[],
+            },
         }
     }
 

@@ -137,8 +137,11 @@ impl Sockets {
         }
     }
 
-    /// Sends a datagram from the socket of an address.
+    /// Sends a datagram from the socket of an address, or, to another family, from the first socket of that.
     fn send_from(&self, at: Locator, to: Locator, port: u16, bytes: &[u8]) -> Result<(), NetFault> {
+        if at.width() != to.width() {
+            return self.send_any(to, port, bytes);
+        }
         match self.place_of(at) {
             Some(place) => self.bound[place].send(to, port, bytes),
             None => Err(NetFault::Send),
@@ -173,7 +176,8 @@ fn locator_of(ip: IpAddr) -> Locator {
 /// How many datagrams are dropped at once.
 const MOST_DRAINED: u32 = 64;
 
-/// The wires of a server: each socket stands for the locator that it is bound to.
+/// The wires of a server: each socket stands for the locator that it is bound to. What a server at an IPv4 socket sends
+/// to an ETR over IPv6, or the other way round, goes out of the first socket of the other family.
 #[derive(Drop)]
 pub struct ServerWires {
     pub sockets: Sockets,

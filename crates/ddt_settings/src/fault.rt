@@ -2,7 +2,7 @@
 
 ghost use Rattle.std.specs.Prelude.{◌≡◌};
 
-use ddt_path::{Listed, Locator};
+use ddt_path::Listed;
 use std::alloc::{AllocError, AllocFailed};
 use thiserror::Error;
 
@@ -15,9 +15,11 @@ pub enum Key {
 }
 
 impl Key {
+    ghost use Rattle.ddt_settings.specs.Table.{key_text};
 
     /// The word that stands in the text.
     pub fn text(self) -> &'static str
+        ensures { result.now ≡ key_text self }
     {
         match self {
             Key::Roots => "roots",
@@ -47,7 +49,7 @@ pub enum SettingsFault {
     Wildcard,
     /// A locator stands twice where it is to listen.
     #[error("6 Twice")]
-    Twice(Locator),
+    Twice,
     /// Memory was refused.
     #[error("7 Memory")]
     Memory,

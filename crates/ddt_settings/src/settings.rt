@@ -1,9 +1,15 @@
 //! What the settings of a resolver hold.
 
+ghost use Rattle.std.specs.Prelude.{◌≡◌};
+ghost use Rattle.toml.specs.View.{table_view};
+ghost use Rattle.ddt_settings.specs.Rlocs.{is_allowed};
+ghost use Rattle.ddt_settings.specs.Table.{settings_in, few as few_of, judged, is_wildcard as is_wildcard_of};
+ghost use Rattle.ddt_settings.specs.Reading.{Reads};
+
 use crate::fault::{Key, SettingsFault};
 use crate::members::{locators_at, prefixes_at};
 use crate::rloc_prefix::RlocPrefix;
-use ddt_path::{Listed, Locator, LocatorSet};
+use ddt_path::{Listed, Locator, LocatorSet, are_distinct};
 use std::alloc::Global;
 use toml::Table;
 
@@ -20,7 +26,9 @@ pub struct Settings {
 
 impl Settings {
     /// Whether an ITR may ask from this address: one of the prefixes covers it.
-    pub fn allows(&self, locator: Locator) -> bool {
+    pub fn allows(&self, locator: Locator) -> bool
+        ensures { result ≡ is_allowed self.now.allow locator }
+    {
         self.allow
             .as_slice()
             .iter()
@@ -28,11 +36,13 @@ impl Settings {
     }
 
     /// The settings of a table.
-    pub(crate) fn read(alloc: Global, table: &Table) -> Result<Settings, SettingsFault> {
+    pub(crate) fn read(alloc: Global, table: &Table) -> Result<Settings, SettingsFault>
+        ensures { Reads (settings_in (table_view table.now)) result }
+    {
         let roots = locators_at(alloc, table, Key::Roots)?;
         let roots = few(roots.as_slice())?;
         let listen = locators_at(alloc, table, Key::Listen)?;
-        judge_listen(listen.as_slice())?;
+        judge(listen.as_slice())?;
         let allow = prefixes_at(alloc, table, Key::Allow)?;
         Ok(Settings {
             roots,
@@ -43,43 +53,38 @@ impl Settings {
 }
 
 /// The root's servers, 1 to 8.
-fn few(roots: &[Locator]) -> Result<LocatorSet, SettingsFault> {
+fn few(roots: &[Locator]) -> Result<LocatorSet, SettingsFault>
+    ensures { result ≡ few_of roots.now }
+{
     match LocatorSet::of(roots) {
-        Some(roots) if !roots.as_slice().is_empty() => Ok(roots),
+        Some(set) if !roots.is_empty() => Ok(set),
         _ => Err(SettingsFault::Count(Key::Roots)),
     }
 }
 
 /// Whether it can listen at these locators.
-fn judge_listen(listen: &[Locator]) -> Result<(), SettingsFault> {
+fn judge(listen: &[Locator]) -> Result<(), SettingsFault>
+    ensures { result ≡ judged listen.now }
+{
     if listen.is_empty() {
         return Err(SettingsFault::Count(Key::Listen));
     }
     if listen.iter().any(|locator| is_wildcard(*locator)) {
         return Err(SettingsFault::Wildcard);
     }
-    match first_twice(listen) {
-        Some(locator) => Err(SettingsFault::Twice(locator)),
-        None => Ok(()),
+    if are_distinct(listen) {
+        Ok(())
+    } else {
+        Err(SettingsFault::Twice)
     }
 }
 
-/// Whether it stands for all addresses of a machine.
-fn is_wildcard(locator: Locator) -> bool {
+/// Whether it is the address of no machine.
+fn is_wildcard(locator: Locator) -> bool
+    ensures { result ≡ is_wildcard_of locator }
+{
     match locator {
         Locator::V4(number) => number == 0,
         Locator::V6(number) => number == 0,
     }
-}
-
-/// The first locator that stands again behind its place.
-fn first_twice(locators: &[Locator]) -> Option<Locator> {
-    let mut rest = locators;
-    while let [first, others @ ..] = rest {
-        if others.contains(first) {
-            return Some(*first);
-        }
-        rest = others;
-    }
-    None
 }

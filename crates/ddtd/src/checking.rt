@@ -3,7 +3,6 @@
 use crate::configuration::{fault_text, server_in, toml_text};
 use crate::end::End;
 use ddt_settings::{Key, Settings, SettingsFault, from_toml};
-use ddt_text::write_locator;
 use std::alloc::{AllocError, Global};
 use std::{fs, str};
 
@@ -76,12 +75,7 @@ pub fn settings_text(
             format!(in alloc; "{fault}: {} wants 1{most}", key.text())
         }
         SettingsFault::Wildcard => format!(in alloc; "{fault}: listen has a wildcard"),
-        SettingsFault::Twice(locator) => {
-            let mut text = Vec::new(alloc);
-            write_locator(&mut text, *locator)?;
-            let text = str::from_utf8(&text).unwrap_or("");
-            format!(in alloc; "{fault}: listen has {text} twice")
-        }
+        SettingsFault::Twice => format!(in alloc; "{fault}: listen has a locator twice"),
         SettingsFault::Memory => format!(in alloc; "{fault}: out of memory"),
     }
 }

@@ -62,6 +62,14 @@ pub record IsNext (h : Held) (lookup : Pending) : Type 0 where
 abbrev pub IsLeastDue : FinMap nat_cmp Pending → ℕ → ℕ → Type 0
 IsLeastDue lookups time nonce = (u : ℕ) (m : Pending) → get lookups u ≡ Some m → m.deadline ≤ time → nonce ≤ m.nonce
 
+-- the least deadline of the pending lookups: one has it, and none has an earlier one
+pub record IsLeastDeadline (lookups : FinMap nat_cmp Pending) (deadline : ℕ) : Type 0 where
+  pub ticket : ℕ
+  pub lookup : Pending
+  pub is_pending : get lookups ticket ≡ Some lookup
+  pub own : lookup.deadline ≡ deadline
+  pub least : (u : ℕ) (m : Pending) → get lookups u ≡ Some m → deadline ≤ m.deadline
+
 -- no lookup is due
 abbrev pub IsNoneDue : FinMap nat_cmp Pending → ℕ → Type 0
 IsNoneDue lookups time = (u : ℕ) (m : Pending) → get lookups u ≡ Some m → time < m.deadline

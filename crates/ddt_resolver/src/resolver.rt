@@ -1,9 +1,10 @@
 //! The resolver: what it remembers, what is pending, and its calls (RFC 8111, section 7.3).
 
-ghost use Rattle.std.specs.Prelude.{◌≡◌, ◌<◌, length};
+ghost use Rattle.std.specs.Prelude.{◌≡◌, ◌<◌, ℕ, length, None, IfSome, IfNone};
 ghost use Rattle.std.specs.FinMap as map;
 ghost use Rattle.ddt_resolver.specs.State.{fresh, moved, dropped};
 ghost use Rattle.ddt_resolver.specs.Order.{IsInOrder};
+ghost use Rattle.ddt_resolver.specs.Table.{IsLeastDeadline};
 
 use crate::answers::{AskError, Asked, Heard, Ticket};
 use crate::table::Table;
@@ -83,6 +84,15 @@ impl<M: PrefixMap<Entry>> Resolver<M> {
         ensures { result ≡ map.len self.now.pending }
     {
         self.table.len()
+    }
+
+    /// The least deadline of the pending lookups, in milliseconds as moments are; None where none is pending. Until then
+    /// a tick answers Nothing.
+    pub fn next_deadline(&self) -> Option<u64>
+        ensures least { IfSome result (IsLeastDeadline self.now.pending) }
+        ensures none { IfNone result ((t : ℕ) → map.get self.now.pending t ≡ None) }
+    {
+        self.table.next_deadline()
     }
 
     /// What holds of each resolver. The call does nothing.

@@ -8,7 +8,7 @@ ghost use Rattle.std.specs.Ordering.{nat_cmp};
 ghost use Rattle.slab.specs.Slab.{get as in_slot};
 ghost use Rattle.ddt_resolver.specs.declared.pending.Pending.{Pending as APending};
 ghost use Rattle.ddt_resolver.specs.Waiting.{Waiting as AWaiting};
-ghost use Rattle.ddt_resolver.specs.Table.{IsUnknown, HasNonce, IsNext, IsLeastDue, IsNoneDue};
+ghost use Rattle.ddt_resolver.specs.Table.{IsUnknown, HasNonce, IsNext, IsLeastDue, IsLeastDeadline, IsNoneDue};
 
 use crate::pending::Pending;
 use crate::waiting::Waiting;
@@ -111,6 +111,17 @@ impl Table {
                     None
                 }
             }
+            None => None,
+        }
+    }
+
+    /// The least deadline of the lookups, in milliseconds; None where there is no lookup.
+    pub(crate) fn next_deadline(&self) -> Option<u64>
+        ensures least { IfSome result (IsLeastDeadline self.now.lookups) }
+        ensures none { IfNone result ((u : ℕ) → map.get self.now.lookups u ≡ None) }
+    {
+        match self.first() {
+            Some((_ticket, lookup)) => Some(lookup.deadline),
             None => None,
         }
     }

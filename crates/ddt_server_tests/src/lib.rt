@@ -8,6 +8,8 @@ mod hash;
 #[cfg(test)]
 mod node;
 #[cfg(test)]
+mod polled;
+#[cfg(test)]
 mod refused;
 #[cfg(test)]
 mod trie;

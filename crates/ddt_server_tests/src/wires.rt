@@ -8,7 +8,10 @@ use ddt_examples::{bytes_of, changed};
 use ddt_node::{Server, has_room_for};
 use ddt_path::{Listed, Locator};
 use ddt_trie::ListMap;
-use ddt_wires::{Call, NetFault, Packet, UdpWires, Waiting, Wires, WiresInMemory, serve_turns};
+use ddt_wires::{
+    Call, MOST_BYTES, NetFault, Packet, Served, UdpWires, Waiting, Wires, WiresInMemory,
+    serve_turn, serve_turns,
+};
 use std::alloc::Global;
 use std::process::Abort;
 use std::test::Fail;
@@ -188,6 +191,19 @@ const FAILING: &[(u64, (u32, u32, usize))] = &[
     (3, (2, 1, 5)),
     (4, (1, 1, 5)),
 ];
+
+#[test]
+fn a_turn_by_itself_is_counted(rt: HostRuntime) -> Result<(), Fail> {
+    let alloc = rt.alloc();
+    let mut wires = busy(alloc, 0, CONTROL_PORT)?;
+    let server = east(alloc, &rt)?;
+    let mut buffer = [0; MOST_BYTES];
+    for (received, replied) in [(1, 1), (1, 0), (0, 0)] {
+        let turn = serve_turn(alloc, &mut wires, &server, SERVER, &mut buffer);
+        assert_eq!(rt; turn, Served { received, replied });
+    }
+    Ok(())
+}
 
 #[test]
 fn a_failed_call_loses_its_datagram_alone(rt: HostRuntime) -> Result<(), Fail> {

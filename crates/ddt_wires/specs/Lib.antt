@@ -1,3 +1,4 @@
 pub mod Calls
+pub mod Addresses
 pub mod Turns
 pub mod laws

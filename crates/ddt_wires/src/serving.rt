@@ -54,8 +54,8 @@ pub fn serve_turns<W: Wires, M: PrefixMap<u32>>(
     Served { received, replied }
 }
 
-/// One turn, and its counts, each 0 or 1.
-fn serve_turn<W: Wires, M: PrefixMap<u32>>(
+/// One turn, as each of `serve_turns`, with a buffer of 65,535 bytes; its counts are 0 or 1 each.
+pub fn serve_turn<W: Wires, M: PrefixMap<u32>>(
     alloc: Global,
     wires: &mut W,
     server: &Server<M>,

@@ -2,14 +2,15 @@
 
 ghost use Rattle.std.specs.Prelude.{◌≤◌, length, IfOk, IfSome};
 
+use crate::addresses::ip_of;
 use crate::call::{NetFault, Packet};
+use crate::sockets::{receive_from, send_from};
 use crate::wires::Wires;
 use ddt_ecm::CONTROL_PORT;
 use ddt_path::Locator;
 use std::alloc::Global;
 use std::io;
-use std::io::ErrorKind;
-use std::net::{IpAddr, Ipv4Addr, Ipv6Addr, Net, SocketAddr, UdpSocket};
+use std::net::{Net, SocketAddr, UdpSocket};
 use std::time::Duration;
 
 /// How long `receive` waits for a datagram, and `send` for room, in milliseconds.
@@ -35,15 +36,7 @@ impl Bound {
             }
             self.waits = waits;
         }
-        match self.socket.recv_from(buffer) {
-            Ok((len, source)) if len < buffer.len() => Ok(Some(Packet {
-                from: locator_of(source.ip()),
-                port: source.port(),
-                len,
-            })),
-            Err(error) if error.kind() == ErrorKind::WouldBlock => Ok(None),
-            Ok(_) | Err(_) => Err(NetFault::Receive),
-        }
+        receive_from(&self.socket, buffer)
     }
 }
 
@@ -106,20 +99,6 @@ impl UdpWires {
     }
 }
 
-fn ip_of(locator: Locator) -> IpAddr {
-    match locator {
-        Locator::V4(number) => IpAddr::V4(Ipv4Addr::from_bits(number)),
-        Locator::V6(number) => IpAddr::V6(Ipv6Addr::from_bits(number)),
-    }
-}
-
-fn locator_of(ip: IpAddr) -> Locator {
-    match ip {
-        IpAddr::V4(ip) => Locator::V4(ip.to_bits()),
-        IpAddr::V6(ip) => Locator::V6(ip.to_bits()),
-    }
-}
-
 impl Wires for UdpWires {
     fn receive(&mut self, at: Locator, buffer: &mut [u8]) -> Result<Option<Packet>, NetFault> {
         let answer = self.receive_at(at, buffer);
@@ -132,12 +111,9 @@ impl Wires for UdpWires {
 
     fn send(&mut self, at: Locator, to: Locator, port: u16, bytes: &[u8]) -> Result<(), NetFault> {
         self.in_vain = 0;
-        let Some(socket) = self.socket(at) else {
-            return Err(NetFault::Send);
-        };
-        match socket.send_to(bytes, SocketAddr::new(ip_of(to), port)) {
-            Ok(len) if len == bytes.len() => Ok(()),
-            Ok(_) | Err(_) => Err(NetFault::Send),
+        match self.socket(at) {
+            Some(socket) => send_from(socket, to, port, bytes),
+            None => Err(NetFault::Send),
         }
     }
 }

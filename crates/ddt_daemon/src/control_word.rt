@@ -1,5 +1,9 @@
 //! What a daemon is told to do.
 
+ghost use Rattle.std.specs.Prelude.{◌≡◌, ◌↔◌, Some};
+ghost use Rattle.ddt_daemon.specs.declared.control_word.ControlWord.{ControlWord as AWord};
+ghost use Rattle.ddt_daemon.specs.Words.{word_text};
+
 /// What a daemon is told to do.
 #[derive(Clone, Copy, Debug, PartialEq, Eq)]
 pub enum ControlWord {
@@ -15,7 +19,9 @@ pub enum ControlWord {
 
 impl ControlWord {
     /// The word.
-    pub fn text(self) -> &'static str {
+    pub fn text(self) -> &'static str
+        ensures { result.now ≡ word_text self }
+    {
         match self {
             ControlWord::Stats => "stats",
             ControlWord::Reload => "reload",
@@ -25,13 +31,19 @@ impl ControlWord {
     }
 
     /// What a line says, without its end; None where it says nothing of this.
-    pub fn of(line: &str) -> Option<ControlWord> {
-        match line {
-            "stats" => Some(ControlWord::Stats),
-            "reload" => Some(ControlWord::Reload),
-            "flush" => Some(ControlWord::Flush),
-            "stop" => Some(ControlWord::Stop),
-            _ => None,
+    pub fn of(line: &str) -> Option<ControlWord>
+        ensures { (w : AWord) → (result ≡ Some w) ↔ (line.now ≡ word_text w) }
+    {
+        if line == "stats" {
+            Some(ControlWord::Stats)
+        } else if line == "reload" {
+            Some(ControlWord::Reload)
+        } else if line == "flush" {
+            Some(ControlWord::Flush)
+        } else if line == "stop" {
+            Some(ControlWord::Stop)
+        } else {
+            None
         }
     }
 }

@@ -1,5 +1,11 @@
 //! Wires that count what their calls came to.
 
+ghost use Rattle.std.specs.Prelude.{◌≡◌, ◌≤◌, [], ◌∷◌, length, IfOk, IfSome};
+ghost use Rattle.ddt_wires.specs.declared.call.Call.TheVariants.{Tried};
+ghost use Rattle.ddt_wires.specs.Calls.{Tells, received};
+ghost use Rattle.ddt_daemon.specs.Counted.{with_received, with_sent};
+
+use crate::counts::one_more;
 use ddt_path::Locator;
 use ddt_wires::{NetFault, Packet, Wires};
 
@@ -16,6 +22,29 @@ pub struct WireCounts {
     pub unsent: u64,
 }
 
+impl WireCounts {
+    /// Counts a call of `receive`.
+    fn receive_one(&mut self, answer: &Result<Option<Packet>, NetFault>)
+        ensures { self.new ≡ with_received self.old answer.now }
+    {
+        match answer {
+            Ok(Some(_packet)) => self.received = one_more(self.received),
+            Ok(None) => {}
+            Err(_fault) => self.unreceived = one_more(self.unreceived),
+        }
+    }
+
+    /// Counts a call of `send`.
+    fn send_one(&mut self, answer: &Result<(), NetFault>)
+        ensures { self.new ≡ with_sent self.old answer.now }
+    {
+        match answer {
+            Ok(()) => self.sent = one_more(self.sent),
+            Err(_fault) => self.unsent = one_more(self.unsent),
+        }
+    }
+}
+
 /// Wires that count what their calls came to.
 #[derive(Drop)]
 pub struct Counted<W: Wires + Drop> {
@@ -25,7 +54,9 @@ pub struct Counted<W: Wires + Drop> {
 
 impl<W: Wires + Drop> Counted<W> {
     /// The wires, of whose calls none is counted yet.
-    pub fn new(wires: W) -> Counted<W> {
+    pub fn new(wires: W) -> Counted<W>
+        ensures { result.wires ≡ wires }
+    {
         Counted {
             wires,
             counts: WireCounts::default(),
@@ -36,22 +67,23 @@ impl<W: Wires + Drop> Counted<W> {
 impl<W: Wires + Drop> Wires for Counted<W> {
     ghost calls = { λ counted. W.calls counted.wires };
 
-    fn receive(&mut self, at: Locator, buffer: &mut [u8]) -> Result<Option<Packet>, NetFault> {
+    fn receive(&mut self, at: Locator, buffer: &mut [u8]) -> Result<Option<Packet>, NetFault>
+        ensures fits { IfOk result (λ answer. IfSome answer (λ packet. packet.len ≤ length buffer.new)) }
+        ensures told { Tells (W.calls self.old.wires) (received at result buffer.new ∷ []) (W.calls self.new.wires) }
+        ensures counts { self.new.counts ≡ with_received self.old.counts result }
+    {
         let answer = self.wires.receive(at, buffer);
-        match answer {
-            Ok(Some(_packet)) => self.counts.received = self.counts.received.saturating_add(1),
-            Ok(None) => {}
-            Err(_fault) => self.counts.unreceived = self.counts.unreceived.saturating_add(1),
-        }
+        self.counts.receive_one(&answer);
         answer
     }
 
-    fn send(&mut self, at: Locator, to: Locator, port: u16, bytes: &[u8]) -> Result<(), NetFault> {
+    fn send(&mut self, at: Locator, to: Locator, port: u16, bytes: &[u8]) -> Result<(), NetFault>
+        ensures told { Tells (W.calls self.old.wires) (Tried at to port bytes.now result ∷ [])
+            (W.calls self.new.wires) }
+        ensures counts { self.new.counts ≡ with_sent self.old.counts result }
+    {
         let answer = self.wires.send(at, to, port, bytes);
-        match answer {
-            Ok(()) => self.counts.sent = self.counts.sent.saturating_add(1),
-            Err(_fault) => self.counts.unsent = self.counts.unsent.saturating_add(1),
-        }
+        self.counts.send_one(&answer);
         answer
     }
 }

@@ -1,5 +1,9 @@
 //! What a daemon counts. A count that is full stays so.
 
+ghost use Rattle.std.specs.Prelude.{◌≡◌};
+ghost use Rattle.ddt_daemon.specs.Counted.{plus, with_served, with_dropped, with_ended};
+
+use crate::admitting::Dropped;
 use ddt_path::Outcome;
 use ddt_resolver::Why;
 use ddt_wires::Served;
@@ -15,7 +19,9 @@ pub struct ServerCounts {
 
 impl ServerCounts {
     /// Counts what was served.
-    pub fn add(&mut self, served: Served) {
+    pub fn add(&mut self, served: Served)
+        ensures { self.new ≡ with_served self.old served }
+    {
         self.received = self.received.saturating_add(u64::from(served.received));
         self.replied = self.replied.saturating_add(u64::from(served.replied));
     }
@@ -24,25 +30,17 @@ impl ServerCounts {
 /// What a resolver has done.
 #[derive(Clone, Copy, Debug, Default, PartialEq, Eq)]
 pub struct ResolverCounts {
-    /// Requests of ITRs for which a lookup was started.
-    pub waited: u64,
-    /// Encapsulated Control Messages from an address that isn't allowed.
+    /// Requests of ITRs whose lookup has started.
+    pub lookups: u64,
+    /// Encapsulated Control Messages that were dropped, by why.
     pub denied: u64,
-    /// Those of more bytes than are kept.
     pub too_long: u64,
-    /// Those that are no request of an ITR.
-    pub unreadable: u64,
-    /// Requests of ITRs of which the same waits already.
+    pub no_request: u64,
     pub repeated: u64,
-    /// Requests of ITRs that came where as many waited as may wait.
     pub full: u64,
-    /// Requests of ITRs for which there was no memory.
-    pub no_memory: u64,
-    /// Lookups of ITRs that ended as registered.
+    /// Lookups of ITRs that have ended, by their outcome.
     pub registered: u64,
-    /// Lookups of ITRs that ended as not registered.
     pub not_registered: u64,
-    /// Lookups of ITRs that ended in a hole.
     pub holes: u64,
     /// Lookups of ITRs that gave up, by why.
     pub no_reply: u64,
@@ -51,22 +49,43 @@ pub struct ResolverCounts {
     pub exhausted: u64,
 }
 
-/// One more, unless it is full.
-pub(crate) fn count(number: &mut u64) {
-    *number = number.saturating_add(1);
+/// One more.
+pub(crate) fn one_more(count: u64) -> u64
+    ensures { result ≡ plus count 1 }
+{
+    count.saturating_add(1)
 }
 
 impl ResolverCounts {
+    /// Counts a message that was dropped.
+    pub(crate) fn drop_one(&mut self, why: Dropped)
+        ensures { self.new ≡ with_dropped self.old why }
+    {
+        match why {
+            Dropped::Denied => self.denied = one_more(self.denied),
+            Dropped::TooLong => self.too_long = one_more(self.too_long),
+            Dropped::NoRequest => self.no_request = one_more(self.no_request),
+            Dropped::Repeated => self.repeated = one_more(self.repeated),
+            Dropped::Full => self.full = one_more(self.full),
+        }
+    }
+
     /// Counts the end of a lookup.
-    pub(crate) fn end(&mut self, end: &Result<Outcome, Why>) {
+    pub(crate) fn end_one(&mut self, end: &Result<Outcome, Why>)
+        ensures { self.new ≡ with_ended self.old end.now }
+    {
         match end {
-            Ok(Outcome::Registered { .. }) => count(&mut self.registered),
-            Ok(Outcome::NotRegistered { .. }) => count(&mut self.not_registered),
-            Ok(Outcome::Hole { .. }) => count(&mut self.holes),
-            Err(Why::NoReply) => count(&mut self.no_reply),
-            Err(Why::Loop) => count(&mut self.looped),
-            Err(Why::NotAuthoritative) => count(&mut self.not_authoritative),
-            Err(Why::Exhausted) => count(&mut self.exhausted),
+            Ok(Outcome::Registered { .. }) => self.registered = one_more(self.registered),
+            Ok(Outcome::NotRegistered { .. }) => {
+                self.not_registered = one_more(self.not_registered);
+            }
+            Ok(Outcome::Hole { .. }) => self.holes = one_more(self.holes),
+            Err(Why::NoReply) => self.no_reply = one_more(self.no_reply),
+            Err(Why::Loop) => self.looped = one_more(self.looped),
+            Err(Why::NotAuthoritative) => {
+                self.not_authoritative = one_more(self.not_authoritative);
+            }
+            Err(Why::Exhausted) => self.exhausted = one_more(self.exhausted),
         }
     }
 }

@@ -56,8 +56,8 @@ pub struct ResolverStatistics {
     pub pending: u64,
     /// Requests of ITRs that wait.
     pub waiting: u64,
-    /// Records of the cache.
-    pub entries: u64,
+    /// Datagrams that came to a socket where their sort may not come in.
+    pub strays: u64,
     /// Settings that were refused at a reload.
     pub refused: u64,
     /// Lines of the log that were lost.
@@ -70,12 +70,12 @@ impl fmt::Display for ResolverStatistics {
         write!(f, "num.received={}\n", self.near.received)?;
         write!(f, "num.sent={}\n", self.near.sent)?;
         write!(f, "num.onward={}\n", self.far.sent)?;
-        write!(f, "num.unreceived={}\n", self.near.unreceived)?;
+        write!(f, "num.unreceived={}\n", self.near.unreceived.saturating_sub(self.strays))?;
         write!(f, "num.unsent={}\n", self.near.unsent.saturating_add(self.far.unsent))?;
         write!(f, "{}", self.counts)?;
         write!(f, "now.pending={}\n", self.pending)?;
         write!(f, "now.waiting={}\n", self.waiting)?;
-        write!(f, "now.entries={}\n", self.entries)?;
+        write!(f, "num.strays={}\n", self.strays)?;
         write!(f, "num.reload.refused={}\n", self.refused)?;
         write!(f, "num.log.lost={}\n", self.unlogged)
     }
@@ -83,13 +83,12 @@ impl fmt::Display for ResolverStatistics {
 
 impl fmt::Display for ResolverCounts {
     fn fmt<W: fmt::Write>(&self, f: &mut fmt::Formatter<W>) -> fmt::Result {
-        write!(f, "num.lookups={}\n", self.waited)?;
+        write!(f, "num.lookups={}\n", self.lookups)?;
         write!(f, "num.dropped.denied={}\n", self.denied)?;
         write!(f, "num.dropped.toolong={}\n", self.too_long)?;
-        write!(f, "num.dropped.unreadable={}\n", self.unreadable)?;
+        write!(f, "num.dropped.norequest={}\n", self.no_request)?;
         write!(f, "num.dropped.repeated={}\n", self.repeated)?;
         write!(f, "num.dropped.full={}\n", self.full)?;
-        write!(f, "num.dropped.memory={}\n", self.no_memory)?;
         write!(f, "num.ended.registered={}\n", self.registered)?;
         write!(f, "num.ended.notregistered={}\n", self.not_registered)?;
         write!(f, "num.ended.hole={}\n", self.holes)?;

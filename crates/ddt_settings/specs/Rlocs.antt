@@ -28,5 +28,5 @@ abbrev pub SpellsRlocPrefix : List ℕ → List ℕ → Type 0
 SpellsRlocPrefix text p = SpellsPrefix (with_instance text) p
 
 -- the digits that a text spells, or its first fault
-abbrev pub block_in : List ℕ → Result (List ℕ) TextFault
+unfoldable pub block_in : List ℕ → Result (List ℕ) TextFault
 block_in text = prefix_in (with_instance text)

@@ -1,6 +1,7 @@
 //! What the settings of a resolver hold.
 
 ghost use Rattle.std.specs.Prelude.{◌≡◌};
+ghost use Rattle.std.specs.List.{list_any};
 ghost use Rattle.toml.specs.View.{table_view};
 ghost use Rattle.ddt_settings.specs.Rlocs.{is_allowed};
 ghost use Rattle.ddt_settings.specs.Table.{settings_in, few as few_of, judged, is_wildcard as is_wildcard_of};
@@ -69,7 +70,7 @@ fn judge(listen: &[Locator]) -> Result<(), SettingsFault>
     if listen.is_empty() {
         return Err(SettingsFault::Count(Key::Listen));
     }
-    if listen.iter().any(|locator| is_wildcard(*locator)) {
+    if have_wildcard(listen) {
         return Err(SettingsFault::Wildcard);
     }
     if are_distinct(listen) {
@@ -77,6 +78,13 @@ fn judge(listen: &[Locator]) -> Result<(), SettingsFault>
     } else {
         Err(SettingsFault::Twice)
     }
+}
+
+/// Whether one of them is the address of no machine.
+fn have_wildcard(locators: &[Locator]) -> bool
+    ensures { result ≡ list_any is_wildcard_of locators.now }
+{
+    locators.iter().any(|locator| is_wildcard(*locator))
 }
 
 /// Whether it is the address of no machine.

@@ -1,7 +1,8 @@
 //! `ddtd check CONFIG`: says whether a configuration, or the settings of a resolver, are good.
 
-use crate::configuration::{fault_text, server_in, toml_text};
+use crate::configuration::{fault_text, toml_text};
 use crate::end::End;
+use ddt_node::config_in;
 use ddt_settings::{Key, Settings, SettingsFault, from_toml};
 use std::alloc::{AllocError, Global};
 use std::{fs, str};
@@ -34,8 +35,8 @@ fn are_settings(alloc: Global, bytes: &[u8]) -> bool {
 
 /// What is wrong, or None.
 fn config_fault(alloc: Global, bytes: &[u8]) -> Option<Result<String, AllocError>> {
-    match server_in(alloc, bytes) {
-        Ok(_server) => None,
+    match config_in(alloc, bytes) {
+        Ok(_config) => None,
         Err(fault) => Some(fault_text(alloc, bytes, fault)),
     }
 }

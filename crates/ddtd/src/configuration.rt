@@ -1,41 +1,10 @@
-//! The configuration of a file, and what is wrong with one.
+//! What is wrong with a configuration, in words.
 
-ghost use Rattle.std.specs.Prelude.{◌≡◌, ◌<◌, IfOk};
-ghost use Rattle.ddt_config.specs.Entries.{entry_count};
-ghost use Rattle.ddt_config.specs.Table.{outline};
-ghost use Rattle.ddt_trie.specs.PrefixMap.{most_entries};
-
-use ddt_config::{ConfigFault, Key, ServerConfig, from_toml};
-use ddt_hash::HashedMap;
-use ddt_node::{Server, has_room_for};
+use ddt_config::{ConfigFault, Key};
 use ddt_text::{parse_locator, parse_prefix};
 use std::alloc::{AllocError, Global};
 use std::str;
 use toml::{Table, Value};
-
-pub type Running = Server<HashedMap<u32>>;
-
-/// The configuration that bytes spell, of which a server can be built.
-fn config_in(alloc: Global, bytes: &[u8]) -> Result<ServerConfig, ConfigFault>
-    ensures room { IfOk result (λ c. entry_count (outline c) < most_entries) }
-{
-    let Ok(text) = str::from_utf8(bytes) else {
-        return Err(ConfigFault::Toml);
-    };
-    match from_toml(alloc, text) {
-        Ok(config) if has_room_for(&config) => Ok(config),
-        Ok(_config) => Err(ConfigFault::Shape),
-        Err(fault) => Err(fault),
-    }
-}
-
-/// The server of the configuration that bytes spell.
-pub fn server_in(alloc: Global, bytes: &[u8]) -> Result<Running, ConfigFault> {
-    match config_in(alloc, bytes) {
-        Ok(config) => Server::build(alloc, config).map_err(|_config| ConfigFault::Memory),
-        Err(fault) => Err(fault),
-    }
-}
 
 /// What is wrong with a configuration, in words: the line, or the key and its value where there is one.
 pub fn fault_text(alloc: Global, bytes: &[u8], fault: ConfigFault) -> Result<String, AllocError> {

@@ -6,21 +6,21 @@ use crate::control::{Control, Told};
 use crate::end::End;
 use crate::log::{Log, Priority};
 use crate::polling::Poll;
-use crate::sockets::{FarWires, ResolverWires, Sockets, ip_of};
+use crate::sockets::{FarWires, ResolverWires, Sockets};
 use crate::times::{Moments, rest, seconds};
-use ddt_cache::Entry;
+use ddt_cache::{Entry, Moment};
 use ddt_daemon::{ControlWord, Counted, MapResolver, ResolverStatistics, Times};
 use ddt_path::Locator;
+use ddt_resolver::Resolver;
 use ddt_settings::Settings;
 use ddt_trie::TrieMap;
-use ddt_wires::MOST_BYTES;
+use ddt_wires::{MOST_BYTES, ip_of};
 use std::alloc::AllocError;
 use std::fs;
 use std::random::RandomSource;
 
-/// How long it is waited at most for what may come, in milliseconds, with no lookup pending, and with one.
-const PATIENCE: i32 = 1000;
-const PATIENCE_PENDING: i32 = 100;
+/// How long it is waited at most for what may come, in milliseconds.
+const PATIENCE: u64 = 1000;
 
 /// How many packets are taken before the deadlines are looked at again.
 const MOST_PACKETS: u32 = 64;
@@ -97,18 +97,12 @@ fn seed(rt: &HostRuntime) -> Result<u64, Why> {
 }
 
 /// A resolver that remembers nothing but the roots.
-fn resolver_of(
-    rt: &HostRuntime,
-    settings: &Settings,
-) -> Result<MapResolver<TrieMap<Entry>>, Why> {
-    let Some(me) = settings.listen.as_slice().first().copied() else {
-        return Err(Err(AllocError));
+fn resolver_of(rt: &HostRuntime, settings: &Settings) -> Result<Resolver<TrieMap<Entry>>, Why> {
+    let Some(me) = settings.listen.as_slice().first() else {
+        return Err(format!(in rt.alloc(); "it listens nowhere"));
     };
     let seed = seed(rt)?;
-    match MapResolver::new(rt.alloc(), settings.roots, me, seed) {
-        Ok(resolver) => Ok(resolver),
-        Err(refused) => Err(Err(refused)),
-    }
+    Ok(Resolver::new(rt.alloc(), settings.roots, *me, seed))
 }
 
 impl Daemon {
@@ -134,9 +128,12 @@ impl Daemon {
         let Ok(moments) = Moments::new(rt) else {
             return Err(format!(in rt.alloc(); "the system tells no time"));
         };
+        let Ok(resolver) = MapResolver::new(rt.alloc(), resolver_of(rt, &settings)?) else {
+            return Err(Err(AllocError));
+        };
         let now = seconds(rt);
         Ok(Daemon {
-            resolver: resolver_of(rt, &settings)?,
+            resolver,
             settings,
             near: Counted::new(near),
             far: Counted::new(far),
@@ -161,42 +158,46 @@ impl Daemon {
             self.far.wires.sockets.add_to(&mut self.poll);
             let first = self.poll.len();
             self.control.add_to(&mut self.poll);
-            if !self.poll.wait(self.patience()) {
+            let patience = self.patience(rt);
+            if !self.poll.wait(patience) {
                 rest(rt);
             }
             let now = self.moments.now(rt);
-            self.take_packets(rt, now);
-            self.resolver.tick_all(rt.alloc(), &mut self.near, now);
-            self.far.wires.drain(self.buffer.as_mut_slice());
+            self.resolve(now);
             if self.obey(rt, asked, first, log) {
                 return;
             }
         }
     }
 
-    fn patience(&self) -> i32 {
-        if self.resolver.pending() == 0 {
-            PATIENCE
-        } else {
-            PATIENCE_PENDING
-        }
+    /// How long it is waited for what may come: until the next deadline.
+    fn patience(&mut self, rt: &HostRuntime) -> i32 {
+        let now = self.moments.now(rt).millis();
+        let millis = match self.resolver.resolver().next_deadline() {
+            Some(deadline) => deadline.saturating_sub(now).min(PATIENCE),
+            None => PATIENCE,
+        };
+        millis as i32
     }
 
-    /// Takes what came.
-    fn take_packets(&mut self, rt: &HostRuntime, now: ddt_cache::Moment) {
+    /// Takes what came, and lets go on or end what is due.
+    fn resolve(&mut self, now: Moment) {
+        let me = self.resolver.resolver().me();
         for _packet in 0..MOST_PACKETS {
             let came = self.resolver.receive(
-                rt.alloc(),
                 &mut self.near,
                 &mut self.far,
                 &self.settings,
+                me,
                 now,
                 self.buffer.as_mut_slice(),
             );
             if !came {
-                return;
+                break;
             }
         }
+        self.resolver.tick_due(&mut self.near, me, now);
+        self.far.wires.drain(self.buffer.as_mut_slice());
     }
 
     /// Does what it is told at the control socket; whether it is to stop.
@@ -238,9 +239,9 @@ impl Daemon {
             counts: self.resolver.counts(),
             near: self.near.counts,
             far: self.far.counts,
-            pending: self.resolver.pending() as u64,
+            strays: self.near.wires.strays,
+            pending: self.resolver.resolver().pending() as u64,
             waiting: self.resolver.waiting() as u64,
-            entries: 0,
             refused: self.refused,
             unlogged: log.lost(),
         };
@@ -249,9 +250,8 @@ impl Daemon {
 
     /// Forgets what it remembers of referrals, and its pending lookups with it.
     fn flush(&mut self, rt: &HostRuntime, log: &mut Log) -> Why {
-        match resolver_of(rt, &self.settings) {
-            Ok(resolver) => {
-                self.resolver = resolver;
+        match self.renew(rt) {
+            Ok(()) => {
                 log.say(rt, Priority::Notice, format!(in rt.alloc(); "flushed"));
                 format!(in rt.alloc(); "flushed\n")
             }
@@ -260,6 +260,11 @@ impl Daemon {
                 format!(in rt.alloc(); "refused: {why}\n")
             }
         }
+    }
+
+    fn renew(&mut self, rt: &HostRuntime) -> Result<(), Why> {
+        let resolver = resolver_of(rt, &self.settings)?;
+        self.resolver.renew(resolver).map_err(|refused| Err(refused))
     }
 
     /// Takes up the file's settings, or goes on with the old ones and says why.
@@ -290,7 +295,10 @@ impl Daemon {
         let is_same = settings.roots == self.settings.roots
             && settings.listen.as_slice().first() == self.settings.listen.as_slice().first();
         if !is_same {
-            self.resolver = resolver_of(rt, &settings)?;
+            let resolver = resolver_of(rt, &settings)?;
+            if let Err(refused) = self.resolver.renew(resolver) {
+                return Err(Err(refused));
+            }
         }
         self.near.wires.listening.keep(listen);
         self.near.wires.asking.keep(listen);

@@ -1,20 +1,22 @@
 //! `ddtd serve CONFIG [ADDRESS..]`: a server that runs until it is stopped.
 
 use crate::asking::ServeAsked;
-use crate::configuration::{Running, fault_text, server_in};
+use crate::configuration::fault_text;
 use crate::control::{Control, Told};
 use crate::end::End;
 use crate::log::{Log, Priority};
 use crate::polling::Poll;
-use crate::sockets::{ServerWires, Sockets, ip_of};
+use crate::sockets::{ServerWires, Sockets};
 use crate::times::{rest, seconds};
 use crate::watching::Watch;
-use ddt_config::ServerConfig;
+use ddt_config::{ConfigFault, ServerConfig};
 use ddt_daemon::{ControlWord, Counted, ServerCounts, ServerStatistics, Times, serve_ready};
 use ddt_ecm::CONTROL_PORT;
+use ddt_hash::HashedMap;
+use ddt_node::{Server, config_in};
 use ddt_path::Locator;
 use ddt_text::parse_locator;
-use ddt_wires::MOST_BYTES;
+use ddt_wires::{MOST_BYTES, ip_of};
 use std::alloc::AllocError;
 use std::io::ErrorKind;
 use std::{fs, io};
@@ -31,7 +33,7 @@ type Why = Result<String, AllocError>;
 /// A server that runs, and what it runs on.
 #[derive(Drop)]
 struct Daemon {
-    server: Running,
+    server: Server<HashedMap<u32>>,
     wires: Counted<ServerWires>,
     control: Control,
     poll: Poll,
@@ -58,16 +60,21 @@ pub fn serve(rt: &HostRuntime, asked: &ServeAsked<'_>, log: &mut Log) -> End {
     }
 }
 
-/// The server of the file's configuration.
-fn read(rt: &HostRuntime, path: &str) -> Result<Running, Why> {
+/// The file's bytes, and the configuration that they spell.
+fn read(rt: &HostRuntime, path: &str) -> Result<(Vec<u8>, ServerConfig), Why> {
     let bytes = match fs::read(rt, path) {
         Ok(bytes) => bytes,
         Err(error) => return Err(format!(in rt.alloc(); "{path}: {error}")),
     };
-    match server_in(rt.alloc(), &bytes) {
-        Ok(server) => Ok(server),
-        Err(fault) => Err(told_of(rt, path, fault_text(rt.alloc(), &bytes, fault))),
+    match config_in(rt.alloc(), &bytes) {
+        Ok(config) => Ok((bytes, config)),
+        Err(fault) => Err(refused(rt, path, &bytes, fault)),
     }
+}
+
+/// What is wrong with a configuration.
+fn refused(rt: &HostRuntime, path: &str, bytes: &[u8], fault: ConfigFault) -> Why {
+    told_of(rt, path, fault_text(rt.alloc(), bytes, fault))
 }
 
 /// The same with the path in front.
@@ -136,10 +143,14 @@ impl Daemon {
     /// A server of the file's configuration, at its sockets.
     fn start(rt: &HostRuntime, asked: &ServeAsked<'_>) -> Result<Daemon, Why> {
         let watch = Watch::new(rt, asked.config, asked.is_watched);
-        let server = read(rt, asked.config)?;
-        let addresses = addresses_in(rt, asked, server.config())?;
+        let (bytes, config) = read(rt, asked.config)?;
+        let addresses = addresses_in(rt, asked, &config)?;
         let mut sockets = Sockets::new(rt.alloc(), CONTROL_PORT);
-        bind_all(rt, &addresses, server.config(), &mut sockets)?;
+        bind_all(rt, &addresses, &config, &mut sockets)?;
+        let server = match Server::read(rt.alloc(), &bytes) {
+            Ok(server) => server,
+            Err(fault) => return Err(refused(rt, asked.config, &bytes, fault)),
+        };
         let control = match Control::open(rt, asked.control) {
             Ok(control) => control,
             Err(error) => {
@@ -266,12 +277,14 @@ impl Daemon {
     }
 
     fn take_up(&mut self, rt: &HostRuntime, asked: &ServeAsked<'_>) -> Result<(), Why> {
-        let server = read(rt, asked.config)?;
-        let addresses = addresses_in(rt, asked, server.config())?;
+        let (bytes, config) = read(rt, asked.config)?;
+        let addresses = addresses_in(rt, asked, &config)?;
         let sockets = &mut self.wires.wires.sockets;
-        bind_all(rt, &addresses, server.config(), sockets)?;
-        self.server = server;
-        Ok(())
+        bind_all(rt, &addresses, &config, sockets)?;
+        match self.server.take_up(rt.alloc(), &bytes) {
+            Ok(()) => Ok(()),
+            Err(fault) => Err(refused(rt, asked.config, &bytes, fault)),
+        }
     }
 
     /// Says in the log what it serves and where.

@@ -4,11 +4,11 @@ use crate::polling::Poll;
 use ddt_ecm::CONTROL_PORT;
 use ddt_path::Locator;
 use ddt_wire::ENCAPSULATED;
-use ddt_wires::{NetFault, Packet, Wires};
+use ddt_wires::{NetFault, Packet, Wires, ip_of, locator_of};
 use std::alloc::Global;
 use std::io;
 use std::io::ErrorKind;
-use std::net::{IpAddr, Ipv4Addr, Ipv6Addr, Net, SocketAddr, UdpSocket};
+use std::net::{Net, SocketAddr, UdpSocket};
 
 ghost use Rattle.std.specs.Prelude.{◌≤◌, length, IfOk, IfSome};
 
@@ -158,21 +158,6 @@ impl Sockets {
     }
 }
 
-/// The address that a locator is.
-pub fn ip_of(locator: Locator) -> IpAddr {
-    match locator {
-        Locator::V4(number) => IpAddr::V4(Ipv4Addr::from_bits(number)),
-        Locator::V6(number) => IpAddr::V6(Ipv6Addr::from_bits(number)),
-    }
-}
-
-fn locator_of(ip: IpAddr) -> Locator {
-    match ip {
-        IpAddr::V4(ip) => Locator::V4(ip.to_bits()),
-        IpAddr::V6(ip) => Locator::V6(ip.to_bits()),
-    }
-}
-
 /// How many datagrams are dropped at once.
 const MOST_DRAINED: u32 = 64;
 
@@ -205,6 +190,8 @@ pub struct ResolverWires {
     pub asking: Sockets,
     /// Whether it is looked first at where it listens.
     listens_first: bool,
+    /// How many datagrams were dropped since they weren't of the sort that may come in there.
+    pub strays: u64,
 }
 
 impl ResolverWires {
@@ -214,23 +201,8 @@ impl ResolverWires {
             listening: Sockets::new(alloc, CONTROL_PORT),
             asking: Sockets::new(alloc, 0),
             listens_first: false,
+            strays: 0,
         }
-    }
-}
-
-/// A datagram that is at one of the sockets, if it is of the sort that may come in there. Another is lost.
-fn receive_sort(
-    sockets: &mut Sockets,
-    encapsulated: bool,
-    buffer: &mut [u8],
-) -> Result<Option<Packet>, NetFault>
-    ensures fits { IfOk result (λ answer. IfSome answer (λ packet. packet.len ≤ length buffer.new)) }
-{
-    match sockets.receive_any(buffer) {
-        Ok(Some(packet)) if is_encapsulated(&buffer[..packet.len]) != encapsulated => {
-            Err(NetFault::Receive)
-        }
-        answer => answer,
     }
 }
 
@@ -242,19 +214,37 @@ fn is_encapsulated(bytes: &[u8]) -> bool {
     }
 }
 
+impl ResolverWires {
+    /// A datagram that is at one of the sockets where it listens, or where it asks.
+    fn receive_at(
+        &mut self,
+        listens: bool,
+        buffer: &mut [u8],
+    ) -> Result<Option<Packet>, NetFault>
+        ensures fits { IfOk result (λ answer. IfSome answer (λ packet. packet.len ≤ length buffer.new)) }
+    {
+        let answer = if listens {
+            self.listening.receive_any(buffer)
+        } else {
+            self.asking.receive_any(buffer)
+        };
+        match answer {
+            Ok(Some(packet)) if is_encapsulated(&buffer[..packet.len]) != listens => {
+                self.strays = self.strays.saturating_add(1);
+                Err(NetFault::Receive)
+            }
+            answer => answer,
+        }
+    }
+}
+
 impl Wires for ResolverWires {
     fn receive(&mut self, _at: Locator, buffer: &mut [u8]) -> Result<Option<Packet>, NetFault> {
         self.listens_first = !self.listens_first;
-        if self.listens_first {
-            match receive_sort(&mut self.listening, true, buffer) {
-                Ok(None) => receive_sort(&mut self.asking, false, buffer),
-                answer => answer,
-            }
-        } else {
-            match receive_sort(&mut self.asking, false, buffer) {
-                Ok(None) => receive_sort(&mut self.listening, true, buffer),
-                answer => answer,
-            }
+        let first = self.listens_first;
+        match self.receive_at(first, buffer) {
+            Ok(None) => self.receive_at(!first, buffer),
+            answer => answer,
         }
     }
 

@@ -1,0 +1,5 @@
+pub mod Words
+pub mod Kept
+pub mod Counted
+pub mod Admitted
+pub mod Rounds

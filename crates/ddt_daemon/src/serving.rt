@@ -33,7 +33,7 @@ pub fn serve_ready<W: Wires, M: PrefixMap<u32>>(
         received += turn.received;
         replied += turn.replied;
         if turn.received == 0 {
-            break;
+            return Served { received, replied };
         }
     }
     Served { received, replied }

@@ -3,15 +3,14 @@
 use Rattle.std.specs.Prelude.{ℕ, false, true, ◌≡◌, ◌≢◌, ◌⊎◌, ⊤, List, ◌++◌, codes, decimal, Option, None, Some, Result, Ok, Err}
 use Rattle.std.specs.IoError.{error_kind}
 use Rattle.std.specs.Option.{option_or}
-use Rattle.std.specs.Str.{IsUtf8}
 use Rattle.std.specs.declared.io.Error.{Error}
 use Rattle.ddt_path.specs.declared.locator.Locator.{Locator}
 use Rattle.ddt_text.specs.declared.fault.TextFault.{TextFault}
 use Rattle.ddt_text.specs.FirstFault.{locator_in, number_in}
 use Rattle.ddt_config.specs.declared.fault.ConfigFault.{ConfigFault}
-use Rattle.ddt_config.specs.declared.fault.ConfigFault.TheVariants.{Toml, Shape, Memory}
-use Rattle.ddt_config.specs.Table.{Outline, config_in_text}
-use Rattle.ddt_compile.specs.laws.Statements.{HasRoom}
+use Rattle.ddt_config.specs.declared.fault.ConfigFault.TheVariants.{Memory}
+use Rattle.ddt_config.specs.Table.{Outline}
+use Rattle.ddt_node.specs.Spelled.{IsServedConfig, IsConfigFault}
 use Rattle.ddt_wires.specs.declared.call.Call.{Call as WireCall}
 use Rattle.ddt_wires.specs.declared.serving.Served.{Served}
 use Rattle.ddt_wires.specs.Calls.{Tells as TellCalls}
@@ -52,19 +51,6 @@ pub record AsksToServe (call : Call) (at : Locator) (turns : ℕ) : Type 0 where
   pub loopback : is_loopback at ≡ true
 
 -- ---- the configuration in a file
-
--- the bytes spell this configuration, and a server has room for it
-pub record IsServedConfig (bytes : List ℕ) (c : Outline) : Type 0 where
-  pub text : IsUtf8 bytes
-  pub stands_for : config_in_text bytes ≡ Ok c
-  pub room : HasRoom c
-
--- the first fault of the bytes as a configuration: 1 Toml where they are no UTF-8; the fault of their text; 4 Shape
--- where a server has no room for what they spell
-pub data IsConfigFault (bytes : List ℕ) : ConfigFault → Type 0 where
-  no_text : ¬ (IsUtf8 bytes) → IsConfigFault bytes Toml
-  of_text : {fault : ConfigFault} → IsUtf8 bytes → config_in_text bytes ≡ Err fault → IsConfigFault bytes fault
-  no_room : {c : Outline} → IsUtf8 bytes → config_in_text bytes ≡ Ok c → ¬ (HasRoom c) → IsConfigFault bytes Shape
 
 -- The path was opened, and this is so of a configuration. Where the file tells its bytes, they spell it.
 abbrev pub OfItsConfig : {F : Type 0} → (F → Option (List ℕ)) → Option F → (Outline → Type 0) → Type 0

@@ -3,6 +3,8 @@
 #![tactic(auto)]
 
 #[cfg(test)]
+mod onward;
+#[cfg(test)]
 mod refused;
 #[cfg(test)]
 mod sim;

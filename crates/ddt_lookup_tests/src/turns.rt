@@ -4,5 +4,6 @@ mod clocks;
 mod crowd;
 mod ends;
 mod fairness;
+mod itrs;
 pub mod loopback;
 mod runs;

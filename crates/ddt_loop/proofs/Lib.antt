@@ -7,3 +7,5 @@ pub mod KeepLemmas
 pub mod RightLemmas
 pub mod PollLemmas
 pub mod WholeLemmas
+pub mod EndLemmas
+pub mod RunLemmas

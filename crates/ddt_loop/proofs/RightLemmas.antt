@@ -97,7 +97,7 @@ module _ (r : Register) (me : Locator) (ids : List Xeid) (laws : StepsKeepSoundn
 
   -- ---- a datagram and a tick
 
-  right_resolves : (calls : List Call) (w : Running) → IsRightAfter calls w → (now : ℕ) → now ≤ last_moment → (call : resolver.Call) → ((x : Xeid) → call ≡ Ask x → ⊥)
+  pub right_resolves : (calls : List Call) (w : Running) → IsRightAfter calls w → (now : ℕ) → now ≤ last_moment → (call : resolver.Call) → ((x : Xeid) → call ≡ Ask x → ⊥)
       → IsFairCall r (moved now w.state) call → (tries : List Call) (new : Running) → Resolves me now call w tries new → IsRightAfter (calls ++ tries) new
   right_resolves calls w i now le call unasked fair tries new (does reply step goes) = record {
     kept = kept_on r me ids laws time accepted calls w i.kept now le call new.state reply step fair new.desk tries goes unasked;
@@ -112,7 +112,7 @@ module _ (r : Register) (me : Locator) (ids : List Xeid) (laws : StepsKeepSoundn
   -- ---- a poll of the resolver's socket
 
   -- a call that tries no reply, and changes nothing
-  right_other : (calls : List Call) (w : Running) (call : Call) → IsNoReply me call → IsRightAfter calls w → IsRightAfter (calls ++ call ∷ []) w
+  pub right_other : (calls : List Call) (w : Running) (call : Call) → IsNoReply me call → IsRightAfter calls w → IsRightAfter (calls ++ call ∷ []) w
   right_other calls w call none i = record { kept = kept_more r me ids calls (call ∷ []) w i.kept; owes = other call i.owes none }
 
   fair_datagram : (calls rest : List Call) (w : Running) (now room : ℕ) (p : Packet) (bytes : List ℕ) → IsKept r me ids calls w
@@ -122,7 +122,7 @@ module _ (r : Register) (me : Locator) (ids : List Xeid) (laws : StepsKeepSoundn
       let there : p.from ≡ server me l = from.same_source ∙ ap (λ own. server own l) k.own in
       fair calls rest room p bytes l.nonce rec l.x refl port from.reply.tells (subst (λ at. WasAsked me at l.nonce l.x calls) (sym there) (k.tried t l from.reply.is_pending))
 
-  right_taken : (calls : List Call) (w : Running) → IsRightAfter calls w → (now : ℕ) → now ≤ last_moment → (room : ℕ) (p : Packet) (bytes : List ℕ) (rest : List Call) (new : Running)
+  pub right_taken : (calls : List Call) (w : Running) → IsRightAfter calls w → (now : ℕ) → now ≤ last_moment → (room : ℕ) (p : Packet) (bytes : List ℕ) (rest : List Call) (new : Running)
       → IsFair r me (calls ++ Received me room (Ok (Some p)) bytes ∷ rest) → IsTaken me now p bytes w rest new → IsRightAfter (calls ++ Received me room (Ok (Some p)) bytes ∷ rest) new
   right_taken calls w i now le room p bytes rest new fair taken = subst (λ l. IsRightAfter l new) (append_assoc calls (Received me room (Ok (Some p)) bytes ∷ []) rest) (by taken)
     where

@@ -1,6 +1,7 @@
 -- What an ask, a datagram and a tick do: the resolver's step, what is tried over the wires, and who is told (RFC 8111,
 -- section 7.3).
-use Rattle.std.specs.Prelude.{ℕ, ◌≡◌, ◌⊎◌, ◌<◌, List, [], ◌∷◌, ◌++◌, length, Option, Some, None, Result, Ok, Err}
+use Rattle.std.specs.Prelude.{ℕ, ◌≡◌, ◌⊎◌, ◌<◌, List, [], ◌∷◌, ◌++◌, length, Option, Some, None, Result, Ok, Err, refl}
+use Rattle.std.specs.Coded.{Coded, code_by, coded×}
 use Rattle.ddt_path.specs.declared.locator.Locator.{Locator}
 use Rattle.ddt_path.specs.declared.record.Outcome.{Outcome}
 use Rattle.ddt_path.specs.declared.xeid.Xeid.{Xeid}
@@ -35,6 +36,12 @@ pub record Running : Type 0 where
 
 abbrev pub running : State → Desk → Running
 running s d = record { state = s; desk = d }
+
+-- how a compiled program may store it: as its parts
+abbrev pub running_code : Coded State → Coded Desk → Coded Running
+running_code state desk =
+    code_by (State × Desk) (coded× state desk) (λ w. (w.state, w.desk)) (λ p.
+    record { state = p.0; desk = p.1 }) (λ _. refl)
 
 -- ---- what is tried from the resolver's socket
 

@@ -4,19 +4,23 @@ ghost use Rattle.std.specs.Prelude.{◌≡◌, List, length};
 ghost use Rattle.ddt_wires.specs.declared.call.Call.{Call as ACall};
 ghost use Rattle.ddt_wires.specs.Calls.{Tells};
 ghost use Rattle.ddt_wires.specs.Turns.{most_bytes};
+ghost use Rattle.ddt_resolver.specs.State.{moved};
 ghost use Rattle.ddt_resolver.specs.Step.{Hear, Tick};
 ghost use Rattle.ddt_loop.specs.Askers.{AreOwners};
 ghost use Rattle.ddt_loop.specs.Acts.{running, after_heard, after_ticked, GoesOn, Settles, Resolves};
+ghost use Rattle.ddt_loop.specs.Ends.{IsToldEnd, IsEnd, HasEnded, HasEndedBy};
+ghost use Rattle.ddt_loop.specs.Coming.{IsCame};
 ghost use Rattle.ddt_loop.specs.Polls.{is_encapsulated as is_encapsulated_of, IsTaken, PollsMe};
 
 use crate::askers::Askers;
 use crate::asking::{ask_for_itr, reply_to_itr, try_to_send};
+use crate::coming::{Came, Ended, ended_so, ends, waits};
 use crate::ends::end_of;
 use crate::owner::Asker;
 use ddt_cache::{Entry, Moment};
 use ddt_ecm::CONTROL_PORT;
 use ddt_path::{Locator, Outcome};
-use ddt_resolver::{Front, Heard, Outgoing, Resolver, Ticked, Ticket, Why};
+use ddt_resolver::{Front, Heard, ItrRequest, Outgoing, Resolver, Ticked, Ticket, Why};
 use ddt_trie::PrefixMap;
 use ddt_wire::ENCAPSULATED;
 use ddt_wires::{Packet, Wires};
@@ -75,7 +79,7 @@ pub(crate) fn poll_me<W: Wires, M: PrefixMap<Entry>>(
     match wires.receive(me, buffer) {
         Ok(Some(packet)) => {
             let bytes = &buffer[..packet.len];
-            take(alloc, wires, resolver, me, now, askers, packet, bytes);
+            let _came = take(alloc, wires, resolver, me, now, askers, packet, bytes);
         }
         Ok(None) => {}
         // One datagram is lost, and the next turn goes on.
@@ -83,8 +87,8 @@ pub(crate) fn poll_me<W: Wires, M: PrefixMap<Entry>>(
     }
 }
 
-/// Takes a packet of these bytes.
-fn take<W: Wires, M: PrefixMap<Entry>>(
+/// Takes a packet of these bytes. Answers what comes of it for the ITRs that wait.
+pub(crate) fn take<W: Wires, M: PrefixMap<Entry>>(
     alloc: Global,
     wires: &mut W,
     resolver: &mut Resolver<M>,
@@ -93,19 +97,27 @@ fn take<W: Wires, M: PrefixMap<Entry>>(
     askers: &mut Askers,
     packet: Packet,
     bytes: &[u8],
-)
+) -> Came
     requires { AreOwners resolver.old askers.old.owners }
+    ensures came { IsCame now packet.from bytes.now (running resolver.old askers.old)
+        (running resolver.new askers.new) result }
     ensures taken { (calls : List ACall) × Tells (W.calls wires.old) calls (W.calls wires.new)
         × IsTaken me now packet bytes.now (running resolver.old askers.old) calls (running resolver.new askers.new) }
     ensures owners { AreOwners resolver.new askers.new.owners }
 {
     if is_encapsulated(bytes) {
         match Front::itr_request(bytes) {
-            Some(request) => ask_for_itr(alloc, wires, resolver, me, now, request, askers),
-            None => {}
+            Some(request) => {
+                let ticket = ask_for_itr(alloc, wires, resolver, me, now, request, askers);
+                waits(ticket, bytes.len())
+            }
+            None => Came::Nothing,
         }
     } else if packet.port == CONTROL_PORT {
-        hear(alloc, wires, resolver, me, now, askers, packet.from, bytes);
+        let ended = hear(alloc, wires, resolver, me, now, askers, packet.from, bytes);
+        ends(packet.from, ended)
+    } else {
+        Came::Nothing
     }
 }
 
@@ -129,8 +141,10 @@ fn hear<W: Wires, M: PrefixMap<Entry>>(
     askers: &mut Askers,
     from: Locator,
     bytes: &[u8],
-)
+) -> Option<Ended>
     requires { AreOwners resolver.old askers.old.owners }
+    ensures ended { HasEndedBy (Hear from bytes.now) (moved now resolver.old) resolver.new
+        askers.old.owners askers.new.owners result }
     ensures resolves { (calls : List ACall) × Tells (W.calls wires.old) calls (W.calls wires.new)
         × Resolves me now (Hear from bytes.now) (running resolver.old askers.old) calls
         (running resolver.new askers.new) }
@@ -141,7 +155,7 @@ fn hear<W: Wires, M: PrefixMap<Entry>>(
     let _millis = now.millis();
     match resolver.datagram(now, from, bytes) {
         Ok(heard) => go_on(alloc, wires, me, askers, after_datagram(heard)),
-        Err(_refused) => {}
+        Err(_refused) => None,
     }
 }
 
@@ -153,8 +167,10 @@ pub(crate) fn tick<W: Wires, M: PrefixMap<Entry>>(
     me: Locator,
     now: Moment,
     askers: &mut Askers,
-)
+) -> Option<Ended>
     requires { AreOwners resolver.old askers.old.owners }
+    ensures ended { HasEndedBy Tick (moved now resolver.old) resolver.new
+        askers.old.owners askers.new.owners result }
     ensures resolves { (calls : List ACall) × Tells (W.calls wires.old) calls (W.calls wires.new)
         × Resolves me now Tick (running resolver.old askers.old) calls (running resolver.new askers.new) }
     ensures owners { AreOwners resolver.new askers.new.owners }
@@ -164,18 +180,28 @@ pub(crate) fn tick<W: Wires, M: PrefixMap<Entry>>(
     let _millis = now.millis();
     match resolver.tick(now) {
         Ok(ticked) => go_on(alloc, wires, me, askers, after_tick(ticked)),
-        Err(_refused) => {}
+        Err(_refused) => None,
     }
 }
 
 /// A lookup goes on or ends.
-fn go_on<W: Wires>(alloc: Global, wires: &mut W, me: Locator, askers: &mut Askers, next: Next)
-    ensures { (calls : List ACall) × Tells (W.calls wires.old) calls (W.calls wires.new)
+fn go_on<W: Wires>(
+    alloc: Global,
+    wires: &mut W,
+    me: Locator,
+    askers: &mut Askers,
+    next: Next,
+) -> Option<Ended>
+    ensures goes { (calls : List ACall) × Tells (W.calls wires.old) calls (W.calls wires.new)
         × GoesOn me askers.old next calls askers.new }
+    ensures ended { HasEnded next askers.old.owners askers.new.owners result }
 {
     match next {
-        Next::Nothing => {}
-        Next::Request(request) => try_to_send(wires, me, &request),
+        Next::Nothing => None,
+        Next::Request(request) => {
+            try_to_send(wires, me, &request);
+            None
+        }
         Next::End(ticket, end) => settle(alloc, wires, me, askers, ticket, end),
     }
 }
@@ -188,16 +214,37 @@ fn settle<W: Wires>(
     askers: &mut Askers,
     ticket: Ticket,
     end: Result<Outcome, Why>,
-)
-    ensures { (calls : List ACall) × Tells (W.calls wires.old) calls (W.calls wires.new)
+) -> Option<Ended>
+    ensures settles { (calls : List ACall) × Tells (W.calls wires.old) calls (W.calls wires.new)
         × Settles me ticket end askers.old calls askers.new }
+    ensures ended { IsEnd ticket end askers.old.owners askers.new.owners result }
 {
     match askers.take(ticket) {
-        Some(Asker::Identifier(place)) => askers.end(place, end_of(end)),
-        Some(Asker::Itr(request)) => match end {
-            Ok(outcome) => reply_to_itr(alloc, wires, me, &outcome, &request),
-            Err(_why) => {}
-        },
-        None => {}
+        Some(Asker::Identifier(place)) => {
+            askers.end(place, end_of(end));
+            None
+        }
+        Some(Asker::Itr(request)) => {
+            tell_itr(alloc, wires, me, &request, &end);
+            Some(ended_so(ticket, &end))
+        }
+        None => None,
+    }
+}
+
+/// An ITR whose lookup has ended is sent the negative Map-Reply, if there is one.
+fn tell_itr<W: Wires>(
+    alloc: Global,
+    wires: &mut W,
+    me: Locator,
+    request: &ItrRequest,
+    end: &Result<Outcome, Why>,
+)
+    ensures { (calls : List ACall) × Tells (W.calls wires.old) calls (W.calls wires.new)
+        × IsToldEnd me end.now request.now calls }
+{
+    match end {
+        Ok(outcome) => reply_to_itr(alloc, wires, me, outcome, request),
+        Err(_why) => {}
     }
 }

@@ -1,8 +1,9 @@
 //! Who waits for which lookup, and what the identifiers' lookups have ended in so far.
 
-ghost use Rattle.std.specs.Prelude.{◌≡◌, ◌<◌, ◌==◌, length, position, IfOk};
+ghost use Rattle.std.specs.Prelude.{◌≡◌, ◌<◌, ◌==◌, ℕ, Some, length, position, IfOk};
 ghost use Rattle.ddt_resolver.specs.State.{most_pending};
-ghost use Rattle.ddt_loop.specs.Askers.{opening_desk, with_owner, with_end, has_unresolved, Takes};
+ghost use Rattle.ddt_loop.specs.declared.owner.Asker.{Asker as AnAsker};
+ghost use Rattle.ddt_loop.specs.Askers.{Desk, opening_desk, with_owner, with_end, has_unresolved, Takes};
 
 use crate::ends::{LoopEnd, is_open, unresolved};
 use crate::owner::{Asker, Owner};
@@ -64,6 +65,14 @@ impl Askers {
     {
         let place = place_of(self.owners.as_slice(), ticket.number())?;
         Some(self.owners.remove(place).asker)
+    }
+
+    /// The ticket of the last who came to wait; None where nobody waits.
+    pub(crate) fn newest(&self) -> Option<u64>
+        ensures { (d : Desk) (t : ℕ) (who : AnAsker) → self.now ≡ with_owner d t who → result ≡ Some t }
+    {
+        let owner = self.owners.as_slice().last()?;
+        Some(owner.ticket)
     }
 
     /// The lookup of the identifier at this place has ended so.

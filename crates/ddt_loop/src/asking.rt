@@ -1,9 +1,10 @@
 //! Asks: of the identifiers before the first turn, and of ITRs (RFC 8111, section 7.3).
 
-ghost use Rattle.std.specs.Prelude.{◌≡◌, List, length};
+ghost use Rattle.std.specs.Prelude.{◌≡◌, List, length, IfSome, IfNone};
 ghost use Rattle.ddt_wires.specs.declared.call.Call.{Call as ACall};
 ghost use Rattle.ddt_wires.specs.Calls.{Tells};
-ghost use Rattle.ddt_loop.specs.Askers.{AreOwners};
+ghost use Rattle.ddt_loop.specs.declared.owner.Asker.TheVariants.{Itr as IsItr};
+ghost use Rattle.ddt_loop.specs.Askers.{AreOwners, with_owner};
 ghost use Rattle.ddt_loop.specs.Acts.{running, remembered, IsSent, IsToldItr, Starts, HasRoomFor};
 ghost use Rattle.ddt_loop.specs.Acts.{Asks, AsksAt, AsksForItr};
 ghost use Rattle.ddt_loop.specs.Turns.{HaveAsked};
@@ -67,8 +68,10 @@ pub(crate) fn ask_for_itr<W: Wires, M: PrefixMap<Entry>>(
     now: Moment,
     request: ItrRequest,
     askers: &mut Askers,
-)
+) -> Option<u64>
     requires { AreOwners resolver.old askers.old.owners }
+    ensures waits { IfSome result (λ t. askers.new ≡ with_owner askers.old t (IsItr request)) }
+    ensures none { IfNone result (askers.new ≡ askers.old) }
     ensures asks { (calls : List ACall) × Tells (W.calls wires.old) calls (W.calls wires.new)
         × AsksForItr me now request (running resolver.old askers.old) calls (running resolver.new askers.new) }
     ensures owners { AreOwners resolver.new askers.new.owners }
@@ -76,9 +79,12 @@ pub(crate) fn ask_for_itr<W: Wires, M: PrefixMap<Entry>>(
     let asker = Asker::Itr(request);
     let answer = ask(wires, resolver, me, now, request.xeid, asker, askers);
     match answer {
-        Ok(Some(outcome)) => reply_to_itr(alloc, wires, me, &outcome, &request),
-        Ok(None) => {}
-        Err(_why) => {}
+        Ok(Some(outcome)) => {
+            reply_to_itr(alloc, wires, me, &outcome, &request);
+            None
+        }
+        Ok(None) => askers.newest(),
+        Err(_why) => None,
     }
 }
 

@@ -168,7 +168,7 @@ fn take_turn<W: Wires, N: PrefixMap<u32>, M: PrefixMap<Entry>>(
     poll(
         alloc, wires, servers, resolver, me, sockets, now, askers, place, buffer,
     );
-    tick(alloc, wires, resolver, me, now, askers);
+    let _ended = tick(alloc, wires, resolver, me, now, askers);
 }
 
 /// Polls the socket of a place: 0 is the resolver's own, and the others follow in their order.

@@ -3,3 +3,4 @@ pub mod BitLemmas
 pub mod PlaceLemmas
 pub mod ReplyLemmas
 pub mod SetLemmas
+pub mod SpelledLemmas

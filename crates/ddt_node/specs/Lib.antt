@@ -2,3 +2,4 @@ pub mod Decisions
 pub mod Places
 pub mod ReferralSets
 pub mod Server
+pub mod Spelled

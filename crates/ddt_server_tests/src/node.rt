@@ -1,6 +1,6 @@
 //! Servers of worked configurations: their answers, and what they send for a datagram.
 
-use ddt_config::from_toml;
+use ddt_config::{ConfigFault, from_toml};
 use ddt_ecm::write_request;
 use ddt_examples::configurations::{EAST, NESTED_EAST, ROOT, SHARED_ROOT, TEN, TWO_ETRS};
 use ddt_examples::messages::{
@@ -336,5 +336,32 @@ fn of_sites_inside_sites_the_longest_decides(rt: HostRuntime) -> Result<(), Fail
         let answer = answer(rt.alloc(), &rt, NESTED_EAST, xeid)?;
         assert!(rt; is_of(&answer, action, prefix)?, "{xeid}");
     }
+    Ok(())
+}
+
+fn is_named(server: &ListServer, name: &str) -> bool {
+    server.config().name.as_bytes() == name.as_bytes()
+}
+
+/// Bytes that are no configuration, and their first fault: no UTF-8, no TOML, and a server without a locator.
+const NO_CONFIGURATIONS: &[(&[u8], ConfigFault)] = &[
+    (&[0xff], ConfigFault::Toml),
+    (b"name = [", ConfigFault::Toml),
+    (
+        b"name = \"west\"\nkind = \"node\"\nlocators = []\n",
+        ConfigFault::Shape,
+    ),
+];
+
+#[test]
+fn a_server_takes_up_another_configuration_or_keeps_its_own(rt: HostRuntime) -> Result<(), Fail> {
+    let alloc = rt.alloc();
+    let mut server: ListServer = Server::read(alloc, EAST.as_bytes())?;
+    for &(bytes, fault) in NO_CONFIGURATIONS {
+        assert_eq!(rt; server.take_up(alloc, bytes), Err(fault));
+        assert!(rt; is_named(&server, "east"), "{fault}");
+    }
+    server.take_up(alloc, TEN.as_bytes())?;
+    assert!(rt; is_named(&server, "ten"));
     Ok(())
 }

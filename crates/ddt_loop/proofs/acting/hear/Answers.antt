@@ -1,4 +1,4 @@
-use Rattle.std.proofs.Common.{[], refl, subst}
+use Rattle.std.proofs.Common.{[], refl, subst, sym}
 use Rattle.ddt_wires.specs.laws.Tell.{tells_none}
 use Rattle.ddt_resolver.specs.State.{moved}
 use Rattle.ddt_resolver.specs.Step.{Hear, ToDatagram, hears}
@@ -6,12 +6,13 @@ use Rattle.ddt_resolver.specs.laws.Order.{order_moved}
 use Rattle.ddt_resolver.specs.laws.Shape.{moved_by_step}
 use Rattle.ddt_loop.specs.declared.acting.Next.{Next}
 use Rattle.ddt_loop.specs.Acts.{GoesOn, does, fails}
+use Rattle.ddt_loop.proofs.EndLemmas.{ends_by}
 use Rattle.ddt_loop.proofs.PendingLemmas.{moved_owners, owners_go_on}
 use Rattle.ddt_loop.proofs.acting.hear.Goals as goal
 
 pub returns-in-Ok-clause-resolves : goal.returns-in-Ok-clause-resolves
 returns-in-Ok-clause-resolves g c =
-    let w = c.go_on.ensures in
+    let w = c.go_on.ensures.goes in
     let goes = λ (next : Next). GoesOn c.args.me c.args.askers.now next w.0 c.go_on.new.askers in (
       w.0,
       w.1,
@@ -21,7 +22,7 @@ returns-in-Ok-clause-resolves g c =
 
 pub returns-in-Ok-clause-owners : goal.returns-in-Ok-clause-owners
 returns-in-Ok-clause-owners g c =
-    let w = c.go_on.ensures in
+    let w = c.go_on.ensures.goes in
     let s = moved c.args.now c.args.resolver.now in
     let call = Hear c.args.from c.args.bytes.now in
     let reply = ToDatagram c.in-Ok.heard in
@@ -35,3 +36,9 @@ returns-in-Ok-clause-owners g c =
 pub returns-in-Err-clause-resolves : goal.returns-in-Err-clause-resolves
 returns-in-Err-clause-resolves g c =
     ([], tells_none (g.W.Wires.calls c.args.wires.now), fails c.in-Err.ensures.wanted c.in-Err.ensures.unchanged refl refl)
+
+pub returns-in-Ok-clause-ended : goal.returns-in-Ok-clause-ended
+returns-in-Ok-clause-ended g c =
+    ends_by (Hear c.args.from c.args.bytes.now) (moved c.args.now c.args.resolver.now) c.datagram.new.self c.args.askers.now.owners
+    c.go_on.new.askers.owners (ToDatagram c.in-Ok.heard) c.after_datagram.result c.go_on.result
+    (hears c.args.from c.args.bytes.now c.in-Ok.heard c.in-Ok.ensures.step refl refl) (sym c.after_datagram.ensures) c.go_on.ensures.ended

@@ -8,7 +8,7 @@ use Rattle.ddt_loop.proofs.acting.poll_me.Goals as goal
 
 pub returns-in-Ok-Some-clause-polls : goal.returns-in-Ok-Some-clause-polls
 returns-in-Ok-Some-clause-polls g c =
-    let w = c.take.ensures.taken in
+    let w = c.take-came.ensures.taken in
     let bytes = take c.in-Ok-Some.packet.len c.receive.new.buffer in
     let room : length c.receive.new.buffer ≡ most_bytes = omega (arith, c.receive.auto.buffer, c.requires.buffer) in
     let first = polled c.args.me (Ok (Some c.in-Ok-Some.packet)) bytes in
@@ -16,7 +16,7 @@ returns-in-Ok-Some-clause-polls g c =
     (Received c.args.me n (Ok (Some c.in-Ok-Some.packet)) bytes ∷ []) (g.W.Wires.calls c.receive.new.self) in (
       first ∷ w.0,
       tells_both (g.W.Wires.calls c.args.wires.now) (first ∷ []) (g.W.Wires.calls c.receive.new.self) w.0
-          (g.W.Wires.calls c.take.new.wires) (subst told room (rw c.in-Ok-Some.field-0-is at c.in-Ok-Some.ensures.told)) w.1,
+          (g.W.Wires.calls c.take-came.new.wires) (subst told room (rw c.in-Ok-Some.field-0-is at c.in-Ok-Some.ensures.told)) w.1,
       came c.in-Ok-Some.packet bytes w.0 w.2 refl,
     )
 

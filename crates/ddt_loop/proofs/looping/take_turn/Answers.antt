@@ -6,9 +6,9 @@ use Rattle.ddt_loop.proofs.looping.take_turn.Goals as goal
 pub returns-clause-turn : goal.returns-clause-turn
 returns-clause-turn g c =
     let w = c.poll.ensures.polls in
-    let t = c.tick.ensures.resolves in (
+    let t = c.tick-ended.ensures.resolves in (
       w.0 ++ t.0,
-      tells_both (g.W.Wires.calls c.args.wires.now) w.0 (g.W.Wires.calls c.poll.new.wires) t.0 (g.W.Wires.calls c.tick.new.wires)
+      tells_both (g.W.Wires.calls c.args.wires.now) w.0 (g.W.Wires.calls c.poll.new.wires) t.0 (g.W.Wires.calls c.tick-ended.new.wires)
           w.1 t.1,
       record {
         is_moment = c.millis-millis.ensures.bound;

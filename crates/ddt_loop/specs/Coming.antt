@@ -1,0 +1,32 @@
+-- What comes of a packet for the ITRs that wait.
+use Rattle.std.specs.Prelude.{ℕ, ◌≡◌, List, length, Option, Some, None}
+use Rattle.ddt_path.specs.declared.locator.Locator.{Locator}
+use Rattle.ddt_resolver.specs.declared.front.ItrRequest.{ItrRequest}
+use Rattle.ddt_resolver.specs.Front.{IsItrRequest}
+use Rattle.ddt_resolver.specs.State.{moved}
+use Rattle.ddt_resolver.specs.Step.{Hear}
+use Rattle.ddt_loop.specs.declared.coming.Came.{Came}
+use Rattle.ddt_loop.specs.declared.coming.Came.TheVariants.{Nothing, Waits, Ended}
+use Rattle.ddt_loop.specs.declared.coming.Ended.{Ended as End}
+use Rattle.ddt_loop.specs.declared.owner.Asker.TheVariants.{Itr}
+use Rattle.ddt_loop.specs.Askers.{with_owner}
+use Rattle.ddt_loop.specs.Acts.{Running}
+use Rattle.ddt_loop.specs.Ends.{EndsBy, waiting_itrs}
+
+abbrev pub came_to_wait : Option ℕ → ℕ → Came
+came_to_wait (Some t) len = Waits t len
+came_to_wait None len = Nothing
+
+abbrev pub came_to_end : Locator → Option End → Came
+came_to_end by_ (Some e) = Ended by_ e
+came_to_end by_ None = Nothing
+
+-- What a packet of these bytes, from a source, does for the ITRs that wait. Nothing: the same wait as before. An ITR
+-- waits: these bytes, all of them, are its request. A lookup has ended: its ITR waits no longer, and the source ended
+-- it by these bytes.
+abbrev pub IsCame : ℕ → Locator → List ℕ → Running → Running → Came → Type 0
+IsCame now from bytes w new Nothing = waiting_itrs new.desk.owners ≡ waiting_itrs w.desk.owners
+IsCame now from bytes w new (Waits t len) =
+    (len ≡ length bytes) × ((q : ItrRequest) × IsItrRequest bytes q × (new.desk ≡ with_owner w.desk t (Itr q)))
+IsCame now from bytes w new (Ended by_ e) =
+    (by_ ≡ from) × EndsBy (Hear from bytes) (moved now w.state) new.state w.desk.owners new.desk.owners e

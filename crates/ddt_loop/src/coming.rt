@@ -1,0 +1,68 @@
+//! What comes of a packet, or of a tick, for the ITRs that wait.
+
+ghost use Rattle.std.specs.Prelude.{◌≡◌};
+ghost use Rattle.ddt_loop.specs.Coming.{came_to_wait, came_to_end};
+
+use ddt_path::{Locator, Outcome};
+use ddt_resolver::{Ticket, Why};
+
+/// A lookup that an ITR waited for has ended.
+#[derive(Clone, Copy, Debug)]
+pub struct Ended {
+    /// The number of its ticket.
+    pub ticket: u64,
+    /// Its outcome, or why it has none.
+    pub end: Result<Outcome, Why>,
+}
+
+/// What comes of a packet for the ITRs that wait.
+#[derive(Clone, Copy, Debug)]
+pub enum Came {
+    /// The same ITRs wait as before.
+    Nothing,
+    /// An ITR waits for the lookup that its request has started.
+    Waits {
+        /// The number of the lookup's ticket.
+        ticket: u64,
+        /// How many bytes the request has.
+        len: usize,
+    },
+    /// The lookup of an ITR has ended by the packet.
+    Ended {
+        /// The server that sent it.
+        by: Locator,
+        /// The lookup and its end.
+        ended: Ended,
+    },
+}
+
+/// What comes of a request of so many bytes that has started the lookup of a ticket, or none.
+pub(crate) fn waits(ticket: Option<u64>, len: usize) -> Came
+    ensures { result ≡ came_to_wait ticket len }
+{
+    match ticket {
+        Some(ticket) => Came::Waits { ticket, len },
+        None => Came::Nothing,
+    }
+}
+
+/// What comes of a datagram of this server that has ended a lookup, or none.
+pub(crate) fn ends(by: Locator, ended: Option<Ended>) -> Came
+    ensures { result ≡ came_to_end by ended }
+{
+    match ended {
+        Some(ended) => Came::Ended { by, ended },
+        None => Came::Nothing,
+    }
+}
+
+/// The end of the lookup of a ticket.
+pub(crate) fn ended_so(ticket: Ticket, end: &Result<Outcome, Why>) -> Ended
+    ensures ticket { result.ticket ≡ ticket }
+    ensures end { result.end ≡ end.now }
+{
+    Ended {
+        ticket: ticket.number(),
+        end: *end,
+    }
+}

@@ -1,0 +1,2 @@
+mod OnwardLemmas
+mod BitLemmas

@@ -3,3 +3,4 @@ pub mod Kept
 pub mod Counted
 pub mod Admitted
 pub mod Rounds
+pub mod Runs

@@ -24,7 +24,7 @@ for tool in ip python3; do
     command -v "$tool" >/dev/null || { echo "namespaces.sh: it wants $tool"; exit 1; }
 done
 
-# Runs a command in a namespace.
+# Runs a command in a namespace. What is to run on is started without it, so that its number is known.
 within() {
     local name=$1
     shift
@@ -55,7 +55,7 @@ make_namespaces() {
         number=$((number + 1))
     done
     echo 0 >"$folder/loss"
-    within switch python3 "$scripts/switch.py" "$folder/loss" "$folder/capture.pcap" "${names[@]}" \
+    ip netns exec "$prefix.switch" python3 "$scripts/switch.py" "$folder/loss" "$folder/capture.pcap" "${names[@]}" \
         2>"$folder/switch.log" &
     pids+=($!)
 }
@@ -64,10 +64,10 @@ make_namespaces() {
 start() {
     local name=$1
     shift
-    within "$name" "$ddtd" "$@" --control "$folder/$name.sock" 2>"$folder/$name.log" &
+    ip netns exec "$prefix.$name" "$ddtd" "$@" --control "$folder/$name.sock" 2>"$folder/$name.log" &
     pids+=($!)
     for _ in {1..200}; do
-        grep -q ready "$folder/$name.log" && return
+        grep -qs ready "$folder/$name.log" && return
         sleep 0.05
     done
     echo "namespaces.sh: the daemon of $name isn't ready:"
@@ -146,7 +146,7 @@ END
 make_namespaces
 compile
 hole='[0]10.2.0.0/15'
-within etr python3 "$scripts/etr.py" 192.0.2.7 2001:db8::7 10.1.2.0/24=192.0.2.7 \
+ip netns exec "$prefix.etr" python3 "$scripts/etr.py" 192.0.2.7 2001:db8::7 10.1.2.0/24=192.0.2.7 \
     2001:db8:a::/48=2001:db8::7 10.2.0.0/16=192.0.2.7 >"$folder/etr.log" 2>&1 &
 pids+=($!)
 start root serve "$folder/root.toml"

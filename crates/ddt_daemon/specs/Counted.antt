@@ -7,9 +7,6 @@ use Rattle.ddt_wires.specs.declared.call.Packet.{Packet}
 use Rattle.ddt_wires.specs.declared.call.NetFault.{NetFault}
 use Rattle.ddt_resolver.specs.declared.answers.Why.{Why}
 use Rattle.ddt_resolver.specs.declared.answers.Why.TheVariants.{NoReply, Loop, NotAuthoritative, Exhausted}
-use Rattle.ddt_loop.specs.declared.coming.Came.{Came}
-use Rattle.ddt_loop.specs.declared.coming.Came.TheVariants.{Nothing, Waits, Ended}
-use Rattle.ddt_loop.specs.declared.coming.Ended.{Ended as End}
 use Rattle.ddt_daemon.specs.declared.admitting.Dropped.{Dropped}
 use Rattle.ddt_daemon.specs.declared.admitting.Dropped.TheVariants.{Denied, TooLong, NoRequest, Repeated, Full}
 use Rattle.ddt_daemon.specs.declared.counts.ServerCounts.{ServerCounts}
@@ -38,16 +35,6 @@ with_ended c (Err NoReply) = record c { no_reply = plus c.no_reply 1 }
 with_ended c (Err Loop) = record c { looped = plus c.looped 1 }
 with_ended c (Err NotAuthoritative) = record c { not_authoritative = plus c.not_authoritative 1 }
 with_ended c (Err Exhausted) = record c { exhausted = plus c.exhausted 1 }
-
--- what came of a packet, or of a tick, for the ITRs that wait
-abbrev pub with_came : ResolverCounts → Came → ResolverCounts
-with_came c Nothing = c
-with_came c (Waits t len) = record c { lookups = plus c.lookups 1 }
-with_came c (Ended by_ e) = with_ended c e.end
-
-abbrev pub with_ticked : ResolverCounts → Option End → ResolverCounts
-with_ticked c None = c
-with_ticked c (Some e) = with_ended c e.end
 
 -- what a call of wires came to
 abbrev pub with_received : WireCounts → Result (Option Packet) NetFault → WireCounts

@@ -1,5 +1,5 @@
 -- The rounds of a daemon: of a server at one of its sockets, and of a resolver between ITRs, servers and Map-Servers.
-use Rattle.std.specs.Prelude.{ℕ, ◌≡◌, ◌≤◌, ◌⊎◌, List, [], ◌∷◌, ◌++◌, Option, Some, None, Ok, Err, true, false, suc}
+use Rattle.std.specs.Prelude.{ℕ, ◌≡◌, ◌≤◌, ◌⊎◌, List, [], ◌∷◌, ◌++◌, Option, Some, None, Ok, Err, true, false, ◌+◌}
 use Rattle.ddt_path.specs.declared.locator.Locator.{Locator}
 use Rattle.ddt_wires.specs.declared.call.Call.{Call}
 use Rattle.ddt_wires.specs.declared.call.NetFault.{NetFault}
@@ -16,8 +16,8 @@ use Rattle.ddt_daemon.specs.declared.waiting.Kept.{Kept}
 use Rattle.ddt_daemon.specs.declared.admitting.Dropped.{Dropped}
 use Rattle.ddt_daemon.specs.declared.counts.ResolverCounts.{ResolverCounts}
 use Rattle.ddt_daemon.specs.Admitted.{IsAdmitted, IsDropped}
-use Rattle.ddt_daemon.specs.Counted.{with_dropped, with_came, with_ticked}
-use Rattle.ddt_daemon.specs.Kept.{Follows, FollowsTick}
+use Rattle.ddt_daemon.specs.Counted.{with_dropped}
+use Rattle.ddt_daemon.specs.Goes.{Follows, FollowsTick, with_came, with_ticked}
 
 -- a resolver, the requests that wait for its lookups, and what it has counted
 pub record Resolving : Type 0 where
@@ -74,4 +74,4 @@ pub record IsTick (me : Locator) (now : ℕ) (w : Resolving) (near : List Call) 
 pub data AreTicks (me : Locator) (now : ℕ) (w : Resolving) : ℕ → List Call → Resolving → Type 0 where
   no_tick : AreTicks me now w 0 [] w
   one_tick : {count : ℕ} {calls : List Call} {v : Resolving} (more : List Call) (new : Resolving)
-      → AreTicks me now w count calls v → IsTick me now v more new → AreTicks me now w (suc count) (calls ++ more) new
+      → AreTicks me now w count calls v → IsTick me now v more new → AreTicks me now w (count + 1) (calls ++ more) new

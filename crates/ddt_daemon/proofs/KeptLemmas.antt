@@ -1,0 +1,52 @@
+-- The request that waits for a lookup is taken off the list.
+use Rattle.std.proofs.Common.{◌≡◌, ℕ, zero, suc, ◌+◌, ◌<◌, Bool, true, false, List, [], ◌∷◌, ◌++◌, length, take, drop, get_or, Option, Some, None, refl, sym, ap, ◌∙◌, arith, add-one}
+use Rattle.std.specs.Prelude.{◌≢◌, ◌==◌, not, nat_lt, All, position}
+use Rattle.std.specs.List.{position_or_len, remove}
+use Rattle.std.proofs.lemmas.Option.{none-some}
+use Rattle.std.proofs.lemmas.Bool.{cond-true, cond-false, eqb-true, eq-eqb, lt-ltb, false≢true}
+use Rattle.std.proofs.lemmas.List.{take-append-drop, drop_more}
+use Rattle.std.proofs.lemmas.List.Elements.{All-nil, All-cons}
+use Rattle.std.proofs.lemmas.List.Quantifiers.{position-Some}
+use Rattle.ddt_daemon.specs.declared.waiting.Kept.{Kept}
+use Rattle.ddt_daemon.specs.Kept.{kept_of, TakesKept, nobody, somebody}
+
+abbrev pub has_ticket : ℕ → Kept → Bool
+has_ticket t o = o.ticket == t
+
+-- where the place of the first would be behind the end, there is none
+none_more : (t : ℕ) (o : Kept) (kept : List Kept) → (position_or_len (has_ticket t) (o ∷ kept) < length (o ∷ kept) → ⊥)
+    → ((position_or_len (has_ticket t) kept < length kept → ⊥) → All (λ p. p.ticket ≢ t) kept)
+    → (b : Bool) → has_ticket t o ≡ b → All (λ p. p.ticket ≢ t) (o ∷ kept)
+none_more t o kept none ih true e =
+    let first : position_or_len (has_ticket t) (o ∷ kept) ≡ 0 = cond-false (not (has_ticket t o)) (1 + position_or_len (has_ticket t) kept) 0 (ap not e) in
+    absurd (none (omega (arith, first)))
+none_more t o kept none ih false e =
+    let later : position_or_len (has_ticket t) (o ∷ kept) ≡ 1 + position_or_len (has_ticket t) kept = cond-true (not (has_ticket t o)) (1 + position_or_len (has_ticket t) kept) 0 (ap not e) in
+    All-cons (λ p. p.ticket ≢ t) o kept (λ same. false≢true (sym e ∙ eq-eqb o.ticket t same))
+    (ih (λ lt. none (omega (arith, later, lt))))
+
+none_before : (t : ℕ) (kept : List Kept) → (position_or_len (has_ticket t) kept < length kept → ⊥) → All (λ p. p.ticket ≢ t) kept
+none_before t [] none = All-nil (λ p. p.ticket ≢ t)
+none_before t (o ∷ kept) none = none_more t o kept none (none_before t kept) (has_ticket t o) refl
+
+-- the place is looked for in the list that a slice lends
+pub place_in : (t n : ℕ) (kept seen : List Kept) (r found : Option ℕ) → r ≡ position (has_ticket n) seen → n ≡ t → seen ≡ kept
+    → r ≡ found → position (has_ticket t) kept ≡ found
+place_in t n kept seen r found is number same given =
+    ap (λ m. position (has_ticket m) kept) (sym number) ∙ ap (position (has_ticket n)) (sym same) ∙ sym is ∙ given
+
+pub nobody_at : (t : ℕ) (kept : List Kept) → position (has_ticket t) kept ≡ None → TakesKept t kept kept None
+nobody_at t kept none = nobody (none_before t kept (λ lt. none-some _ (sym none ∙ cond-true (nat_lt (position_or_len (has_ticket t) kept) (length kept)) (Some (position_or_len (has_ticket t) kept)) None (lt-ltb _ _ lt)))) refl refl
+
+pub somebody_at : (t : ℕ) (kept : List Kept) (i : ℕ) (o : Kept) → position (has_ticket t) kept ≡ Some i
+    → o ≡ get_or kept i o → TakesKept t kept (remove kept i) (Some o.bytes)
+somebody_at t kept i o found read =
+    let at = position-Some (has_ticket t) kept i o found in
+    let within : i < length kept = at.0 in
+    let its : o.ticket ≡ t = eqb-true o.ticket t (ap (has_ticket t) read ∙ at.1) in
+    let is : o ≡ kept_of t o.request o.bytes = ap (λ n. kept_of n o.request o.bytes) its in
+    let tail : drop i kept ≡ kept_of t o.request o.bytes ∷ drop (suc i) kept =
+    drop_more kept i o within ∙ ap (λ p. p ∷ drop (i + 1) kept) (sym read ∙ is)
+    ∙ ap (λ n. kept_of t o.request o.bytes ∷ drop n kept) (add-one i) in
+    somebody (take i kept) (drop (suc i) kept) o.request o.bytes
+    (sym (take-append-drop i kept) ∙ ap (λ rest. take i kept ++ rest) tail) refl refl

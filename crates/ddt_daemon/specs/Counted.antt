@@ -1,0 +1,47 @@
+-- What is counted. A count that is full stays so.
+use Rattle.std.specs.Prelude.{ℕ, ◌+◌, ◌-◌, ◌^◌, min, Result, Ok, Err, Option, Some, None}
+use Rattle.ddt_path.specs.declared.record.Outcome.{Outcome}
+use Rattle.ddt_path.specs.declared.record.Outcome.TheVariants.{Registered, NotRegistered, Hole}
+use Rattle.ddt_wires.specs.declared.serving.Served.{Served}
+use Rattle.ddt_wires.specs.declared.call.Packet.{Packet}
+use Rattle.ddt_wires.specs.declared.call.NetFault.{NetFault}
+use Rattle.ddt_resolver.specs.declared.answers.Why.{Why}
+use Rattle.ddt_resolver.specs.declared.answers.Why.TheVariants.{NoReply, Loop, NotAuthoritative, Exhausted}
+use Rattle.ddt_daemon.specs.declared.admitting.Dropped.{Dropped}
+use Rattle.ddt_daemon.specs.declared.admitting.Dropped.TheVariants.{Denied, TooLong, NoRequest, Repeated, Full}
+use Rattle.ddt_daemon.specs.declared.counts.ServerCounts.{ServerCounts}
+use Rattle.ddt_daemon.specs.declared.counts.ResolverCounts.{ResolverCounts}
+use Rattle.ddt_daemon.specs.declared.counted.WireCounts.{WireCounts}
+
+abbrev pub plus : ℕ → ℕ → ℕ
+plus count more = min (count + more) (2 ^ 64 - 1)
+
+abbrev pub with_served : ServerCounts → Served → ServerCounts
+with_served c s = record { received = plus c.received s.received; replied = plus c.replied s.replied }
+
+abbrev pub with_dropped : ResolverCounts → Dropped → ResolverCounts
+with_dropped c Denied = record c { denied = plus c.denied 1 }
+with_dropped c TooLong = record c { too_long = plus c.too_long 1 }
+with_dropped c NoRequest = record c { no_request = plus c.no_request 1 }
+with_dropped c Repeated = record c { repeated = plus c.repeated 1 }
+with_dropped c Full = record c { full = plus c.full 1 }
+
+-- the end of an ITR's lookup
+abbrev pub with_ended : ResolverCounts → Result Outcome Why → ResolverCounts
+with_ended c (Ok (Registered p servers)) = record c { registered = plus c.registered 1 }
+with_ended c (Ok (NotRegistered p servers)) = record c { not_registered = plus c.not_registered 1 }
+with_ended c (Ok (Hole p)) = record c { holes = plus c.holes 1 }
+with_ended c (Err NoReply) = record c { no_reply = plus c.no_reply 1 }
+with_ended c (Err Loop) = record c { looped = plus c.looped 1 }
+with_ended c (Err NotAuthoritative) = record c { not_authoritative = plus c.not_authoritative 1 }
+with_ended c (Err Exhausted) = record c { exhausted = plus c.exhausted 1 }
+
+-- what a call of wires came to
+abbrev pub with_received : WireCounts → Result (Option Packet) NetFault → WireCounts
+with_received c (Ok (Some p)) = record c { received = plus c.received 1 }
+with_received c (Ok None) = c
+with_received c (Err fault) = record c { unreceived = plus c.unreceived 1 }
+
+abbrev pub with_sent : WireCounts → Result (Unit {0}) NetFault → WireCounts
+with_sent c (Ok done) = record c { sent = plus c.sent 1 }
+with_sent c (Err fault) = record c { unsent = plus c.unsent 1 }

@@ -1,0 +1,27 @@
+-- The requests of ITRs that wait for lookups.
+use Rattle.std.specs.Prelude.{ℕ, ◌≡◌, ◌≢◌, ◌==◌, ◌&&◌, Bool, List, [], ◌∷◌, ◌++◌, All, Option, Some, None}
+use Rattle.std.specs.List.{list_any}
+use Rattle.ddt_path.specs.declared.xeid.Xeid.{Xeid}
+use Rattle.ddt_path.specs.Locators.{is_same_locator}
+use Rattle.ddt_resolver.specs.declared.front.ItrRequest.{ItrRequest}
+use Rattle.ddt_daemon.specs.declared.waiting.Kept.{Kept}
+
+-- the same identifier, nonce, RLOC and port
+abbrev pub is_same_xeid : Xeid → Xeid → Bool
+is_same_xeid x y = (x.iid == y.iid) && is_same_locator x.address y.address
+
+abbrev pub is_same_request : ItrRequest → ItrRequest → Bool
+is_same_request p q = is_same_xeid p.xeid q.xeid && ((p.nonce == q.nonce) && (is_same_locator p.to q.to && (p.port == q.port)))
+
+-- whether such a request waits
+abbrev pub waits_for : List Kept → ItrRequest → Bool
+waits_for kept q = list_any (λ k. is_same_request k.request q) kept
+
+abbrev pub kept_of : ℕ → ItrRequest → List ℕ → Kept
+kept_of t q bytes_ = record { ticket = t; request = q; bytes = bytes_ }
+
+-- What waits for the lookup of a ticket waits no longer. `nobody`: nothing waits for it. `somebody`: this does.
+pub data TakesKept (t : ℕ) (old new : List Kept) (taken : Option (List ℕ)) : Type 0 where
+  nobody : All (λ k. k.ticket ≢ t) old → new ≡ old → taken ≡ None → TakesKept t old new taken
+  somebody : (before after : List Kept) (q : ItrRequest) (bytes : List ℕ) → old ≡ before ++ kept_of t q bytes ∷ after
+      → new ≡ before ++ after → taken ≡ Some bytes → TakesKept t old new taken

@@ -1,0 +1,49 @@
+-- What a Map-Resolver has done over any number of rounds, and what follows.
+use Rattle.std.specs.Prelude.{ℕ, ◌≡◌, ◌≤◌, List, [], ◌++◌, All, Result}
+use Rattle.ddt_path.specs.declared.locator.Locator.{Locator}
+use Rattle.ddt_wires.specs.declared.call.Call.{Call}
+use Rattle.ddt_wires.specs.declared.call.Call.TheVariants.{Tried}
+use Rattle.ddt_wires.specs.declared.call.NetFault.{NetFault}
+use Rattle.ddt_cache.specs.Moment.{last_moment}
+use Rattle.ddt_ecm.specs.UdpHeader.{control_port}
+use Rattle.ddt_resolver.specs.declared.front.ItrRequest.{ItrRequest}
+use Rattle.ddt_resolver.specs.Front.{IsItrRequest}
+use Rattle.ddt_loop.specs.Acts.{Running}
+use Rattle.ddt_loop.specs.Runs.{HasRun}
+use Rattle.ddt_onward.specs.Onward.{with_d}
+use Rattle.ddt_daemon.specs.declared.waiting.Kept.{Kept}
+use Rattle.ddt_daemon.specs.Rounds.{Resolving, IsRound, IsTick}
+
+-- What has been done so far, by the calls of the near wires and those of the far wires: rounds, each by the settings in
+-- force, and ticks, in any order.
+pub data HasServed (me : Locator) (start : Resolving) : List Call → List Call → Resolving → Type 0 where
+  begins : HasServed me start [] [] start
+  round : {calls onward : List Call} {w : Resolving} (allow : List (List ℕ)) (now : ℕ) (near far : List Call)
+      (new : Resolving) → HasServed me start calls onward w → now ≤ last_moment
+      → IsRound allow me now w near far new → HasServed me start (calls ++ near) (onward ++ far) new
+  tick : {calls onward : List Call} {w : Resolving} (now : ℕ) (near : List Call) (new : Resolving)
+      → HasServed me start calls onward w → now ≤ last_moment → IsTick me now w near new
+      → HasServed me start (calls ++ near) onward new
+
+-- by its near wires it is a running resolver, so that what holds of those holds of it
+abbrev pub RunsAsAResolver : Type 0
+RunsAsAResolver = (me : Locator) (start : Resolving) (calls onward : List Call) (w : Resolving)
+    → HasServed me start calls onward w → HasRun me start.running calls w.running
+
+-- a try of an ITR's request, its bit D set, to a server
+pub record IsOnward (me : Locator) (call : Call) : Type 0 where
+  pub to : Locator
+  pub request : ItrRequest
+  pub bytes : List ℕ
+  pub answer : Result (Unit {0}) NetFault
+  pub asks : IsItrRequest bytes request
+  pub is : call ≡ Tried me to control_port (with_d bytes) answer
+
+-- the bytes of what waits are its request
+abbrev pub AreRequests : List Kept → Type 0
+AreRequests kept = All (λ k. IsItrRequest k.bytes k.request) kept
+
+-- over the far wires go only requests of ITRs, their bit D set
+abbrev pub OnlyRequestsGoOn : Type 0
+OnlyRequestsGoOn = (me : Locator) (start : Resolving) (calls onward : List Call) (w : Resolving)
+    → AreRequests start.kept → HasServed me start calls onward w → All (IsOnward me) onward

@@ -1,0 +1,49 @@
+//! What a daemon is told to do.
+
+ghost use Rattle.std.specs.Prelude.{◌≡◌, ◌↔◌, Some};
+ghost use Rattle.ddt_daemon.specs.declared.control_word.ControlWord.{ControlWord as AWord};
+ghost use Rattle.ddt_daemon.specs.Words.{word_text};
+
+/// What a daemon is told to do.
+#[derive(Clone, Copy, Debug, PartialEq, Eq)]
+pub enum ControlWord {
+    /// To tell what it has counted.
+    Stats,
+    /// To take up its configuration or its settings anew.
+    Reload,
+    /// To forget what it remembers of referrals.
+    Flush,
+    /// To end.
+    Stop,
+}
+
+impl ControlWord {
+    /// The word.
+    pub fn text(self) -> &'static str
+        ensures { result.now ≡ word_text self }
+    {
+        match self {
+            ControlWord::Stats => "stats",
+            ControlWord::Reload => "reload",
+            ControlWord::Flush => "flush",
+            ControlWord::Stop => "stop",
+        }
+    }
+
+    /// What a line says, without its end; None where it says nothing of this.
+    pub fn of(line: &str) -> Option<ControlWord>
+        ensures { (w : AWord) → (result ≡ Some w) ↔ (line.now ≡ word_text w) }
+    {
+        if line == "stats" {
+            Some(ControlWord::Stats)
+        } else if line == "reload" {
+            Some(ControlWord::Reload)
+        } else if line == "flush" {
+            Some(ControlWord::Flush)
+        } else if line == "stop" {
+            Some(ControlWord::Stop)
+        } else {
+            None
+        }
+    }
+}

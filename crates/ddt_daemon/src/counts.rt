@@ -1,0 +1,91 @@
+//! What a daemon counts. A count that is full stays so.
+
+ghost use Rattle.std.specs.Prelude.{◌≡◌};
+ghost use Rattle.ddt_daemon.specs.Counted.{plus, with_served, with_dropped, with_ended};
+
+use crate::admitting::Dropped;
+use ddt_path::Outcome;
+use ddt_resolver::Why;
+use ddt_wires::Served;
+
+/// What a server has done.
+#[derive(Clone, Copy, Debug, Default, PartialEq, Eq)]
+pub struct ServerCounts {
+    /// Packets that came.
+    pub received: u64,
+    /// Replies that were sent.
+    pub replied: u64,
+}
+
+impl ServerCounts {
+    /// Counts what was served.
+    pub fn add(&mut self, served: Served)
+        ensures { self.new ≡ with_served self.old served }
+    {
+        self.received = self.received.saturating_add(u64::from(served.received));
+        self.replied = self.replied.saturating_add(u64::from(served.replied));
+    }
+}
+
+/// What a resolver has done.
+#[derive(Clone, Copy, Debug, Default, PartialEq, Eq)]
+pub struct ResolverCounts {
+    /// Requests of ITRs whose lookup has started.
+    pub lookups: u64,
+    /// Encapsulated Control Messages that were dropped, by why.
+    pub denied: u64,
+    pub too_long: u64,
+    pub no_request: u64,
+    pub repeated: u64,
+    pub full: u64,
+    /// Lookups of ITRs that have ended, by their outcome.
+    pub registered: u64,
+    pub not_registered: u64,
+    pub holes: u64,
+    /// Lookups of ITRs that gave up, by why.
+    pub no_reply: u64,
+    pub looped: u64,
+    pub not_authoritative: u64,
+    pub exhausted: u64,
+}
+
+/// One more.
+pub(crate) fn one_more(count: u64) -> u64
+    ensures { result ≡ plus count 1 }
+{
+    count.saturating_add(1)
+}
+
+impl ResolverCounts {
+    /// Counts a message that was dropped.
+    pub(crate) fn drop_one(&mut self, why: Dropped)
+        ensures { self.new ≡ with_dropped self.old why }
+    {
+        match why {
+            Dropped::Denied => self.denied = one_more(self.denied),
+            Dropped::TooLong => self.too_long = one_more(self.too_long),
+            Dropped::NoRequest => self.no_request = one_more(self.no_request),
+            Dropped::Repeated => self.repeated = one_more(self.repeated),
+            Dropped::Full => self.full = one_more(self.full),
+        }
+    }
+
+    /// Counts the end of a lookup.
+    pub(crate) fn end_one(&mut self, end: &Result<Outcome, Why>)
+        ensures { self.new ≡ with_ended self.old end.now }
+    {
+        match end {
+            Ok(Outcome::Registered { .. }) => self.registered = one_more(self.registered),
+            Ok(Outcome::NotRegistered { .. }) => {
+                self.not_registered = one_more(self.not_registered);
+            }
+            Ok(Outcome::Hole { .. }) => self.holes = one_more(self.holes),
+            Err(Why::NoReply) => self.no_reply = one_more(self.no_reply),
+            Err(Why::Loop) => self.looped = one_more(self.looped),
+            Err(Why::NotAuthoritative) => {
+                self.not_authoritative = one_more(self.not_authoritative);
+            }
+            Err(Why::Exhausted) => self.exhausted = one_more(self.exhausted),
+        }
+    }
+}

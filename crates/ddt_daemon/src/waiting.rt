@@ -1,0 +1,98 @@
+//! The requests of ITRs whose lookups are pending.
+
+ghost use Rattle.std.specs.Prelude.{◌≡◌, ◌≤◌, ◌<◌, ◌++◌, [], ◌∷◌, ◌==◌, true, false, length, position};
+ghost use Rattle.ddt_resolver.specs.State.{most_pending};
+ghost use Rattle.ddt_daemon.specs.Kept.{TakesKept, is_same_request as is_same_request_of, waits_for};
+
+use ddt_path::Listed;
+use ddt_resolver::{ItrRequest, MOST_PENDING};
+use std::alloc::{AllocError, Global};
+
+/// A request of an ITR that waits for a lookup.
+#[derive(Debug, Drop)]
+pub struct Kept {
+    /// The number of the lookup's ticket.
+    pub ticket: u64,
+    pub request: ItrRequest,
+    /// The request's bytes, as they came.
+    pub bytes: Listed<u8>,
+}
+
+/// The requests of ITRs that wait, in the order in which they came.
+#[derive(Debug, Drop)]
+pub struct Waiting {
+    kept: Vec<Kept>,
+}
+
+impl Waiting {
+    /// No request waits.
+    pub fn new(alloc: Global) -> Waiting
+        ensures { result.kept.items ≡ [] }
+    {
+        Waiting {
+            kept: Vec::new(alloc),
+        }
+    }
+
+    /// How many requests wait.
+    pub fn len(&self) -> usize
+        ensures { result ≡ length self.now.kept.items }
+    {
+        self.kept.len()
+    }
+
+    /// Whether as many wait as lookups can be pending.
+    pub fn is_full(&self) -> bool
+        ensures full { result ≡ true → most_pending ≤ length self.now.kept.items }
+        ensures room { result ≡ false → length self.now.kept.items < most_pending }
+    {
+        self.kept.len() >= MOST_PENDING
+    }
+
+    /// Whether the same request waits: for the same identifier, with the same nonce, RLOC and port.
+    pub fn has(&self, request: &ItrRequest) -> bool
+        ensures { result ≡ waits_for self.now.kept.items request.now }
+    {
+        self.kept
+            .as_slice()
+            .iter()
+            .any(|kept| is_same_request(&kept.request, request))
+    }
+
+    /// One more waits. If out of memory, all stays as it was, and it is false.
+    pub fn add(&mut self, kept: Kept) -> bool
+        ensures added { result ≡ true → self.new.kept.items ≡ self.old.kept.items ++ kept ∷ [] }
+        ensures refused { result ≡ false → self.new.kept.items ≡ self.old.kept.items }
+    {
+        match self.kept.push(kept) {
+            Ok(()) => true,
+            Err(_refused) => false,
+        }
+    }
+
+    /// The bytes of the request that waits for the lookup of a ticket, and waits no longer.
+    pub fn take(&mut self, ticket: u64) -> Option<Listed<u8>>
+        ensures { TakesKept ticket self.old.kept.items self.new.kept.items result }
+    {
+        let place = place_of(self.kept.as_slice(), ticket)?;
+        Some(self.kept.remove(place).bytes)
+    }
+}
+
+/// The place of the first request that waits for the lookup of a ticket.
+fn place_of(kept: &[Kept], ticket: u64) -> Option<usize>
+    ensures { result ≡ position (λ k. k.ticket == ticket) kept.now }
+{
+    kept.iter().position(|k| k.ticket == ticket)
+}
+
+/// Whether two requests are for the same identifier, with the same nonce, RLOC and port.
+fn is_same_request(one: &ItrRequest, other: &ItrRequest) -> bool
+    ensures { result ≡ is_same_request_of one.now other.now }
+{
+    one.xeid.iid == other.xeid.iid
+        && one.xeid.address == other.xeid.address
+        && one.nonce == other.nonce
+        && one.to == other.to
+        && one.port == other.port
+}

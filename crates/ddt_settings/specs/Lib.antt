@@ -1,0 +1,3 @@
+pub mod Rlocs
+pub mod Table
+pub mod Reading

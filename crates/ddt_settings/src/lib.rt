@@ -1,0 +1,15 @@
+//! The settings of a Map-Resolver: which servers are the root's, where it listens, and which ITRs may ask.
+//!
+//! In reading order: `fault`, `rloc_prefix`, `members`, `settings`, `document`.
+#![tactic(auto)]
+
+mod document;
+mod fault;
+mod members;
+mod rloc_prefix;
+mod settings;
+
+pub use document::from_toml;
+pub use fault::{Key, SettingsFault};
+pub use rloc_prefix::{RlocPrefix, parse_rloc_prefix};
+pub use settings::Settings;

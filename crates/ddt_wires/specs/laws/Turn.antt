@@ -1,7 +1,7 @@
 -- One turn of a server, and many turns one after the other.
 use Rattle.std.proofs.Common.{◌≡◌, ℕ, ◌+◌, List, [], ◌∷◌, ◌++◌, refl, sym, ap, ◌∙◌}
 use Rattle.std.proofs.lemmas.List.{length_push, flat_map_more}
-use Rattle.std.proofs.lemmas.List.Elements.{All-push}
+use Rattle.std.proofs.lemmas.List.Elements.{All-nil, All-push}
 use Rattle.std.proofs.lemmas.List.Sums.{sum_by_push}
 use Rattle.std.proofs.lemmas.Option.{none-some}
 use Rattle.std.specs.Prelude.{Bool, true, false, cond, Option, Some, None, Result, count_by}
@@ -17,7 +17,7 @@ use Rattle.ddt_wires.specs.Calls.{Tells}
 use Rattle.ddt_ecm.specs.UdpHeader.{control_port}
 use Rattle.ddt_wires.specs.Turns.{Outgoing, AreTried, reply_to, on_to_etr, first_went_out}
 use Rattle.ddt_wires.specs.Turns.{IsTurn, Serves, is_received, is_replied}
-use Rattle.ddt_wires.specs.laws.Tell.{tells_both}
+use Rattle.ddt_wires.specs.laws.Tell.{tells_both, tells_none}
 
 -- the one try of a reply, and of a request that goes on
 pub reply_tried : (at : Locator) (p : Packet) (reply : Option (List ℕ)) (bytes : List ℕ)
@@ -62,6 +62,13 @@ pub record IsServing (before now : Option (List Call)) (c : Outline) (at : Locat
   pub calls : List Call
   pub told : Tells before calls now
   pub serves : Serves c at count calls (record { received = received; replied = replied })
+
+pub no_turn_yet : (now : Option (List Call)) (c : Outline) (at : Locator) → IsServing now now c at 0 0 0
+no_turn_yet now c at = record {
+  calls = [];
+  told = tells_none now;
+  serves = record { turns = []; calls_are = refl; count_is = refl; each = All-nil (IsTurn c at); received = refl; replied = refl };
+}
 
 from_bool_is : (b : Bool) → from_bool b ≡ cond b 1 0
 from_bool_is true = refl

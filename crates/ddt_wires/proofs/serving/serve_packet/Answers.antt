@@ -1,5 +1,6 @@
-use Rattle.std.proofs.Common.{[], refl, subst}
+use Rattle.std.proofs.Common.{ℕ, List, [], refl, subst}
 use Rattle.ddt_node.specs.declared.handling.Handled.{Handled}
+use Rattle.ddt_node.specs.Server.{in_buffer}
 use Rattle.ddt_wires.specs.Turns.{AreTried, sends_for, served, out_of_memory}
 use Rattle.ddt_wires.specs.laws.Tell.{tells_none}
 use Rattle.ddt_wires.proofs.serving.serve_packet.Goals as goal
@@ -7,10 +8,12 @@ use Rattle.ddt_wires.proofs.serving.serve_packet.Goals as goal
 pub returns-in-Ok : goal.returns-in-Ok
 returns-in-Ok g c =
     let w = c.send_all.ensures in
-    let tried = λ (h : Handled). AreTried c.args.at (sends_for c.args.packet h) w.0 in (
+    let tried = λ (h : Handled). AreTried c.args.at (sends_for c.args.packet h) w.0 in
+    let of_reply = λ (reply : List ℕ). tried (in_buffer reply c.in-Ok.sending) in (
       w.0,
       w.1,
-      served c.args.packet c.args.bytes.now w.0 (subst tried c.in-Ok.ensures.handled w.2),
+      served c.args.packet c.args.bytes.now w.0
+          (subst tried c.in-Ok.ensures.handled (subst of_reply c.deref.ensures.value w.2)),
       w.3,
     )
 

@@ -1,5 +1,8 @@
-use Rattle.ddt_wires.specs.laws.Turn.{serving_on}
+use Rattle.ddt_wires.specs.laws.Turn.{no_turn_yet, serving_on}
 use Rattle.ddt_wires.proofs.serving.serve_turns.Goals as goal
+
+pub loop-turn-init : goal.loop-turn-init
+loop-turn-init g c = no_turn_yet (g.W.Wires.calls c.args.wires.now) c.args.server.now c.args.at
 
 pub loop-turn-preserved : goal.loop-turn-preserved
 loop-turn-preserved g c =

@@ -116,7 +116,8 @@ fn the_etr_gets_what_the_itr_sent(rt: HostRuntime) -> Result<(), Fail> {
     let asked = write_request(alloc, 7, parse_xeid(b"[0]10.1.2.3")?, &[ITR], false)?;
     let plain = Vec::from_slice(alloc, asked.as_slice())?;
     let marked = with_d(Listed::of(asked));
-    match handled(alloc, &rt, marked.as_slice())?.forward {
+    let sent = handled(alloc, &rt, marked.as_slice())?;
+    match &sent.forward {
         Some(forward) => {
             assert_eq!(rt; forward.to, ETR);
             assert_eq!(rt; forward.bytes.as_slice(), plain.as_slice());

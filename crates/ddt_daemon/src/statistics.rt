@@ -15,7 +15,11 @@ pub struct Times {
 
 impl fmt::Display for Times {
     fn fmt<W: fmt::Write>(&self, f: &mut fmt::Formatter<W>) -> fmt::Result {
-        write!(f, "time.start={}\ntime.reload={}\n", self.start, self.reload)
+        write!(
+            f,
+            "time.start={}\ntime.reload={}\n",
+            self.start, self.reload
+        )
     }
 }
 
@@ -70,8 +74,16 @@ impl fmt::Display for ResolverStatistics {
         write!(f, "num.received={}\n", self.near.received)?;
         write!(f, "num.sent={}\n", self.near.sent)?;
         write!(f, "num.onward={}\n", self.far.sent)?;
-        write!(f, "num.unreceived={}\n", self.near.unreceived.saturating_sub(self.strays))?;
-        write!(f, "num.unsent={}\n", self.near.unsent.saturating_add(self.far.unsent))?;
+        write!(
+            f,
+            "num.unreceived={}\n",
+            self.near.unreceived.saturating_sub(self.strays)
+        )?;
+        write!(
+            f,
+            "num.unsent={}\n",
+            self.near.unsent.saturating_add(self.far.unsent)
+        )?;
         write!(f, "{}", self.counts)?;
         write!(f, "now.pending={}\n", self.pending)?;
         write!(f, "now.waiting={}\n", self.waiting)?;
@@ -94,7 +106,11 @@ impl fmt::Display for ResolverCounts {
         write!(f, "num.ended.hole={}\n", self.holes)?;
         write!(f, "num.gaveup.noreply={}\n", self.no_reply)?;
         write!(f, "num.gaveup.loop={}\n", self.looped)?;
-        write!(f, "num.gaveup.notauthoritative={}\n", self.not_authoritative)?;
+        write!(
+            f,
+            "num.gaveup.notauthoritative={}\n",
+            self.not_authoritative
+        )?;
         write!(f, "num.gaveup.exhausted={}\n", self.exhausted)
     }
 }

@@ -84,7 +84,11 @@ impl World {
 
 /// The tries among calls: to whom, and the first byte.
 fn tries(calls: Option<&[Call]>) -> usize {
-    calls.unwrap_or(&[]).iter().filter(|call| is_try(call)).count()
+    calls
+        .unwrap_or(&[])
+        .iter()
+        .filter(|call| is_try(call))
+        .count()
 }
 
 fn is_try(call: &Call) -> bool {
@@ -95,12 +99,19 @@ fn is_try(call: &Call) -> bool {
 fn is_onward(alloc: Global, call: Option<&Call>) -> Result<bool, Fail> {
     let plain = bytes_of(alloc, ITR_REQUEST)?;
     match call {
-        Some(Call::Tried {
-            to, port, bytes, ..
-        }) => Ok(*to == SERVER
-            && *port == CONTROL_PORT
-            && bytes.as_slice().first() == Some(&0x84)
-            && bytes.as_slice().get(1..) == plain.as_slice().get(1..)),
+        Some(
+            Call::Tried {
+                to,
+                port,
+                bytes,
+                ..
+            },
+        ) => Ok(
+            *to == SERVER
+                && *port == CONTROL_PORT
+                && bytes.as_slice().first() == Some(&0x84)
+                && bytes.as_slice().get(1..) == plain.as_slice().get(1..),
+        ),
         _ => Ok(false),
     }
 }

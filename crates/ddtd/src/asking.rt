@@ -29,15 +29,10 @@ pub struct ResolveAsked<'a> {
 /// A command, and what it is asked.
 #[derive(Debug, Drop)]
 pub enum Asked<'a> {
-    Check {
-        config: &'a str,
-    },
+    Check { config: &'a str },
     Serve(ServeAsked<'a>),
     Resolve(ResolveAsked<'a>),
-    Tell {
-        socket: &'a str,
-        word: ControlWord,
-    },
+    Tell { socket: &'a str, word: ControlWord },
 }
 
 /// The words that a daemon is told.
@@ -80,10 +75,7 @@ pub fn read_asked<'a>(alloc: Global, words: &'a [String]) -> Result<Asked<'a>, E
     }
 }
 
-fn serve_asked<'a>(
-    alloc: Global,
-    matches: &ArgMatches<'a>,
-) -> Result<ServeAsked<'a>, AllocError> {
+fn serve_asked<'a>(alloc: Global, matches: &ArgMatches<'a>) -> Result<ServeAsked<'a>, AllocError> {
     let addresses = match matches.get_raw("address") {
         Some(addresses) => Vec::from_slice(alloc, addresses)?,
         None => Vec::new(alloc),

@@ -11,12 +11,13 @@ pub fn fault_text(alloc: Global, bytes: &[u8], fault: ConfigFault) -> Result<Str
     match fault {
         ConfigFault::Toml => toml_text(alloc, bytes),
         ConfigFault::Field(key) => {
-            format!(in alloc; "{fault}: {} is missing, or its value is of another kind", key.text())
+            format!(in alloc;
+                "{fault}: {} is missing, or its value is of another kind",
+                key.text()
+            )
         }
         ConfigFault::Value(key) => value_text(alloc, bytes, key),
-        ConfigFault::Shape => {
-            format!(in alloc; "{fault}: no server has such a configuration")
-        }
+        ConfigFault::Shape => { format!(in alloc; "{fault}: no server has such a configuration") }
         ConfigFault::Memory => format!(in alloc; "{fault}: out of memory"),
     }
 }
@@ -74,7 +75,9 @@ fn bad_in_authority<'t>(value: &'t Value, key: Key) -> Option<&'t str> {
 }
 
 fn bad_below<'t>(values: &'t [Value], key: Key) -> Option<&'t str> {
-    values.iter().find_map(|value| bad_in(value.as_table()?, key))
+    values
+        .iter()
+        .find_map(|value| bad_in(value.as_table()?, key))
 }
 
 fn tables_of<'t>(table: &'t Table, key: Key) -> &'t [Value] {

@@ -3,11 +3,10 @@
 use crate::polling::Poll;
 use ddt_daemon::ControlWord;
 use std::alloc::{AllocError, Global};
-use std::io;
 use std::io::{ErrorKind, Read, Write};
 use std::os::unix::fs::FileTypeExt;
 use std::os::unix::net::{UnixListener, UnixStream};
-use std::{fs, str};
+use std::{fs, io, str};
 
 /// How many may be there at once. Where one more comes, who has been there longest is let go.
 const MOST_CLIENTS: usize = 8;

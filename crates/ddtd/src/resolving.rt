@@ -264,7 +264,9 @@ impl Daemon {
 
     fn renew(&mut self, rt: &HostRuntime) -> Result<(), Why> {
         let resolver = resolver_of(rt, &self.settings)?;
-        self.resolver.renew(resolver).map_err(|refused| Err(refused))
+        self.resolver
+            .renew(resolver)
+            .map_err(|refused| Err(refused))
     }
 
     /// Takes up the file's settings, or goes on with the old ones and says why.

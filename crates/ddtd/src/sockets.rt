@@ -1,5 +1,7 @@
 //! The UDP sockets of a daemon, and the wires over them. None waits: what isn't there is waited for by a poll of all.
 
+ghost use Rattle.std.specs.Prelude.{◌≤◌, length, IfOk, IfSome};
+
 use crate::polling::Poll;
 use ddt_ecm::CONTROL_PORT;
 use ddt_path::Locator;
@@ -9,8 +11,6 @@ use std::alloc::Global;
 use std::io;
 use std::io::ErrorKind;
 use std::net::{Net, SocketAddr, UdpSocket};
-
-ghost use Rattle.std.specs.Prelude.{◌≤◌, length, IfOk, IfSome};
 
 /// A socket and the address that it is bound to.
 #[derive(Drop)]
@@ -216,11 +216,7 @@ fn is_encapsulated(bytes: &[u8]) -> bool {
 
 impl ResolverWires {
     /// A datagram that is at one of the sockets where it listens, or where it asks.
-    fn receive_at(
-        &mut self,
-        listens: bool,
-        buffer: &mut [u8],
-    ) -> Result<Option<Packet>, NetFault>
+    fn receive_at(&mut self, listens: bool, buffer: &mut [u8]) -> Result<Option<Packet>, NetFault>
         ensures fits { IfOk result (λ answer. IfSome answer (λ packet. packet.len ≤ length buffer.new)) }
     {
         let answer = if listens {

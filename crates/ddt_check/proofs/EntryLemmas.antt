@@ -3,9 +3,11 @@ use Rattle.std.proofs.Common.{◌≡◌, ℕ, suc, ◌+◌, ◌<◌, ◌≤◌, 
 use Rattle.std.specs.Prelude.{Bool, ◌==◌, ◌&&◌, ◌||◌, nat_lt, slice_set, IsSorted}
 use Rattle.std.specs.List.Sorted.{IsPartitionedBy, IsPartitionPoint}
 use Rattle.std.specs.Cmp.{nat_cmp_is}
-use Rattle.std.specs.Ordering.{nat_cmp, is_lt, ordering_then, ordering_reverse}
-use Rattle.std.specs.Cmp.Lexicographic.{slice_cmp, nat_list_cmp_total}
-use Rattle.std.proofs.lemmas.Bool.{false≢true, cases_lt, cases_eq, lt-ltb, le-ltb, eq-eqb, ne_eqb}
+use Rattle.std.specs.Ordering.{nat_cmp, is_lt, is_le, ordering_then, ordering_reverse}
+use Rattle.std.specs.Cmp.Lexicographic.{slice_cmp, nat_list_cmp_total, bytes_decides}
+use Rattle.ddt_path.specs.Covers.{is_same_path}
+use Rattle.ddt_path.specs.laws.PathOrder.{not_below_itself}
+use Rattle.std.proofs.lemmas.Bool.{false≢true, both_ways, false_from_ne_true, cases_lt, cases_eq, lt-ltb, le-ltb, eq-eqb, ne_eqb}
 use Rattle.std.proofs.lemmas.List.{length-map, length-set, take_all, take_more_set, map-set, get_or-map}
 use Rattle.std.proofs.Math.Seq.{take-suc}
 use Rattle.ddt_check.specs.Order.{in_order, IsInOrder}
@@ -35,23 +37,50 @@ by_front key row a b m n up down apart = elim (cases_lt m n) [
   ]
 ]
 
--- the same of a search for what stands before a key
+-- the same of a search for what stands before a key, or up to it
+passes_by_front : (passes : Ordering → Bool) → passes Less ≡ true → passes Greater ≡ false
+    → (a b : List ℕ) (m n : ℕ) → (m < n → is_lt (slice_cmp nat_cmp a b) ≡ true)
+    → (n < m → is_lt (slice_cmp nat_cmp b a) ≡ true)
+    → (nat_lt m n || (m == n && passes (slice_cmp nat_cmp a b))) ≡ passes (slice_cmp nat_cmp a b)
+passes_by_front passes less greater a b m n up down = elim (cases_lt m n) [
+  | inl lt ↦ ap (λ (x : Bool). x || (m == n && passes (slice_cmp nat_cmp a b))) (lt-ltb m n lt)
+      ∙ sym (ap passes (less_from (slice_cmp nat_cmp a b) (up lt)) ∙ less)
+  | inr ge ↦ elim (cases_eq m n) [
+    | inl same ↦
+        ap (λ (x : Bool). x || (m == n && passes (slice_cmp nat_cmp a b))) (le-ltb m n ge)
+        ∙ ap (λ (x : Bool). x && passes (slice_cmp nat_cmp a b)) (eq-eqb m n same)
+    | inr differ ↦
+        let lt : n < m = omega arith in
+        ap (λ (x : Bool). x || (m == n && passes (slice_cmp nat_cmp a b))) (le-ltb m n ge)
+        ∙ ap (λ (x : Bool). x && passes (slice_cmp nat_cmp a b)) (ne_eqb m n differ)
+        ∙ sym (ap passes (nat_list_cmp_total.antisymm a b
+        ∙ ap ordering_reverse (less_from (slice_cmp nat_cmp b a) (down lt))) ∙ greater)
+  ]
+]
+
 pub lt_by_front : (a b : List ℕ) (m n : ℕ) → (m < n → is_lt (slice_cmp nat_cmp a b) ≡ true)
     → (n < m → is_lt (slice_cmp nat_cmp b a) ≡ true)
     → (nat_lt m n || (m == n && is_lt (slice_cmp nat_cmp a b))) ≡ is_lt (slice_cmp nat_cmp a b)
-lt_by_front a b m n up down = elim (cases_lt m n) [
-  | inl lt ↦ ap (λ (x : Bool). x || (m == n && is_lt (slice_cmp nat_cmp a b))) (lt-ltb m n lt) ∙ sym (up lt)
-  | inr ge ↦ elim (cases_eq m n) [
-    | inl same ↦
-        ap (λ (x : Bool). x || (m == n && is_lt (slice_cmp nat_cmp a b))) (le-ltb m n ge)
-        ∙ ap (λ (x : Bool). x && is_lt (slice_cmp nat_cmp a b)) (eq-eqb m n same)
-    | inr differ ↦
-        let lt : n < m = omega arith in
-        ap (λ (x : Bool). x || (m == n && is_lt (slice_cmp nat_cmp a b))) (le-ltb m n ge)
-        ∙ ap (λ (x : Bool). x && is_lt (slice_cmp nat_cmp a b)) (ne_eqb m n differ)
-        ∙ sym (ap is_lt (nat_list_cmp_total.antisymm a b
-        ∙ ap ordering_reverse (less_from (slice_cmp nat_cmp b a) (down lt))))
-  ]
+lt_by_front a b m n up down = passes_by_front is_lt refl refl a b m n up down
+
+pub le_by_front : (a b : List ℕ) (m n : ℕ) → (m < n → is_lt (slice_cmp nat_cmp a b) ≡ true)
+    → (n < m → is_lt (slice_cmp nat_cmp b a) ≡ true)
+    → (nat_lt m n || (m == n && is_le (slice_cmp nat_cmp a b))) ≡ is_le (slice_cmp nat_cmp a b)
+le_by_front a b m n up down = passes_by_front is_le refl refl a b m n up down
+
+-- the same of whether two keys are one
+pub same_by_front : (a b : List ℕ) (m n : ℕ) → (m < n → is_lt (slice_cmp nat_cmp a b) ≡ true)
+    → (n < m → is_lt (slice_cmp nat_cmp b a) ≡ true)
+    → (m == n && is_same_path a b) ≡ is_same_path a b
+same_by_front a b m n up down = elim (cases_eq m n) [
+  | inl same ↦ ap (λ (x : Bool). x && is_same_path a b) (eq-eqb m n same)
+  | inr differ ↦
+      ap (λ (x : Bool). x && is_same_path a b) (ne_eqb m n differ)
+      ∙ sym (false_from_ne_true (is_same_path a b) (λ e. elim (cases_lt m n) [
+        | inl lt ↦ both_ways (is_lt (slice_cmp nat_cmp a b)) (not_below_itself a b e) (up lt)
+        | inr ge ↦ both_ways (is_lt (slice_cmp nat_cmp b a))
+            (not_below_itself b a ((bytes_decides b a).1 (sym ((bytes_decides a b).0 e)))) (down (omega arith))
+      ]))
 ]
 
 -- what is sorted by its items has them sorted

@@ -1,6 +1,6 @@
 -- The least row of the items so far that pass a test, with one more item; and in another order of the items.
 use Rattle.std.proofs.Common.{◌≡◌, ℕ, ◌+◌, ◌<◌, ◌≤◌, Bool, true, false, List, take, length, get_or, min, IsPermutation, Option, Some, None, inl, inr, refl, sym, ap, subst, ◌∙◌, arith, [], ◌∷◌}
-use Rattle.std.specs.Prelude.{◌==◌, ◌&&◌, ◌||◌, ◌≢◌}
+use Rattle.std.specs.Prelude.{◌==◌, ◌&&◌, ◌||◌, ◌≢◌, if◌then◌else◌}
 use Rattle.std.specs.List.{list_any}
 use Rattle.std.specs.Option.{option_map_or}
 use Rattle.std.proofs.lemmas.Bool.{cases_lt, eq-eqb, ne_eqb, or_from, or_left, or_right, and_right}
@@ -63,6 +63,18 @@ module _ {A : Type 0} (row : A → ℕ) (test : A → Bool) where
   least_more xs i x least low lt is e lows so_far =
       subst (λ (k : ℕ). IsLeastRow (item_at row test (take (i + 1) xs)) (Some k)) (sym lows)
       (least_with xs i x least e (one_more xs i x lt is) so_far)
+
+  -- the same of an item that may pass
+  pub least_if : (xs : List A) (i : ℕ) (x : A) (least low : Option ℕ) (counts : Bool) → i < length xs
+      → x ≡ get_or xs i x → counts ≡ test x
+      → low ≡ (if counts then Some (option_map_or (λ l. min l (row x)) least (row x)) else least)
+      → IsLeastRow (item_at row test (take i xs)) least → IsLeastRow (item_at row test (take (i + 1) xs)) low
+  least_if xs i x least low true lt is e lows so_far =
+      subst (IsLeastRow (item_at row test (take (i + 1) xs))) (sym lows)
+      (least_more xs i x least (option_map_or (λ l. min l (row x)) least (row x)) lt is (sym e) refl so_far)
+  least_if xs i x least low false lt is e lows so_far =
+      subst (IsLeastRow (item_at row test (take (i + 1) xs))) (sym lows)
+      (least_same xs i x least lt is (sym e) so_far)
 
   pub least_moved : (xs ys : List A) (least : Option ℕ) → IsPermutation xs ys → IsLeastRow (item_at row test ys) least
       → IsLeastRow (item_at row test xs) least

@@ -1,6 +1,7 @@
 //! Small entries that are sorted in place of the items of a list, which stay where they are.
 
-ghost use Rattle.std.specs.Prelude.{◌≡◌, IsTrue, IsPermutation, map, length};
+ghost use Rattle.std.specs.Prelude.{◌≡◌, ◌==◌, ◌&&◌, IsTrue, IsPermutation, map, length};
+ghost use Rattle.std.specs.Cmp.Lexicographic.{pointwise};
 ghost use Rattle.ddt_check.specs.Order.{in_order, IsInOrder};
 
 use crate::keyed::Keyed;
@@ -50,6 +51,21 @@ fn tied<T: Keyed>(a: &T, b: &T) -> Ordering
     ensures { result ≡ in_order T.key T.row_of a.now b.now }
 {
     a.cmp_key(b).then(a.row().cmp(&b.row()))
+}
+
+/// Whether two items have one number, and one key.
+fn is_same_by_front<T: Keyed>(a: &Entry<T>, b: &Entry<T>) -> bool
+    ensures { result ≡ (a.now.front == b.now.front
+        && pointwise ◌==◌ (T.key a.now.item.now) (T.key b.now.item.now)) }
+{
+    a.front == b.front && a.item.has_same_key(b.item)
+}
+
+/// Whether two items have one key. The items are looked at only where their numbers tie.
+pub fn is_same<T: Keyed>(a: &Entry<T>, b: &Entry<T>) -> bool
+    ensures { result ≡ pointwise ◌==◌ (T.key a.now.item.now) (T.key b.now.item.now) }
+{
+    is_same_by_front(a, b)
 }
 
 /// Writes an entry for each item, in the order of the items.

@@ -1,4 +1,4 @@
-//! The rules that want a list sorted, each by entries in a frame: of 1,024 entries where those are enough, else of as
+//! The rules that want a list sorted, each by entries in a frame: of 4,096 entries where those are enough, else of as
 //! many as a register has rows. So nothing is allocated, and no item is moved.
 
 ghost use Rattle.std.specs.Prelude.{◌≡◌, ◌≤◌, length};
@@ -12,7 +12,7 @@ use crate::rules::{sites, zones};
 use ddt_register::{Group, Register, Site, Zone};
 
 /// How many entries a small frame has.
-const FEW: usize = 1_024;
+const FEW: usize = 4_096;
 
 /// How many entries a large frame has: as many as a register has rows at most. A function with such a frame is never a
 /// part of its caller, which would have to pay for the frame each time.
@@ -50,7 +50,7 @@ fn zone_rows_by<'a>(entries: &mut [Entry<'a, Zone>], register: &'a Register) -> 
 }
 
 fn zone_rows_of_few(register: &Register) -> ZoneRows
-    requires { length register.now.zones ≤ 1024 }
+    requires { length register.now.zones ≤ 4096 }
     ensures { AreZoneRows register.now result }
 {
     let Some(first) = register.zones.as_slice().first() else {
@@ -94,7 +94,7 @@ fn duplicate_site_by<'a>(entries: &mut [Entry<'a, Site>], register: &'a Register
 }
 
 fn duplicate_site_of_few(register: &Register) -> Option<u32>
-    requires { length register.now.sites ≤ 1024 }
+    requires { length register.now.sites ≤ 4096 }
     ensures { IsLeastRow (broken register.now Rule.DuplicateSite) result }
 {
     let Some(first) = register.sites.as_slice().first() else {
@@ -134,16 +134,16 @@ fn group_rows_by<'a>(entries: &mut [Entry<'a, Group>], register: &'a Register) -
     let groups = register.groups.as_slice();
     let entries = &mut entries[..groups.len()];
     sort_items(entries, groups);
-    let zones = register.zones.as_slice();
+    let wrong = zones::of_wrong_groups(register.zones.as_slice(), entries);
     GroupRows {
-        unknown: zones::of_unknown_group(zones, entries),
-        role: zones::of_other_role(zones, entries),
+        unknown: wrong.unknown,
+        role: wrong.role,
         duplicate: duplicate(entries),
     }
 }
 
 fn group_rows_of_few(register: &Register) -> GroupRows
-    requires { length register.now.groups ≤ 1024 }
+    requires { length register.now.groups ≤ 4096 }
     ensures { AreGroupRows register.now result }
 {
     let Some(first) = register.groups.as_slice().first() else {

@@ -1,7 +1,7 @@
 //! The ten rules, each as the least row that breaks it, over sorted entries: by prefix or name, then by row. An item's
 //! duplicates then stand beside it, and a name, a locator or a zone is found by halving.
 
-ghost use Rattle.std.specs.Prelude.{◌≡◌, Bool, List, min, Some, IsPermutation};
+ghost use Rattle.std.specs.Prelude.{◌≡◌, Bool, List, min, Some, IsPermutation, if◌then◌else◌};
 ghost use Rattle.std.specs.Option.{option_map_or};
 ghost use Rattle.ddt_path.specs.Matching.{AnswersAs};
 ghost use Rattle.ddt_check.specs.Rules.{IsLeastRow, item_at};
@@ -30,6 +30,17 @@ fn lower_of(a: Option<u32>, b: Option<u32>) -> Option<u32>
     match a {
         Some(row) => Some(lower(b, row)),
         None => b,
+    }
+}
+
+/// The lower of a row and another where that one is to count, else the first.
+fn lower_if(least: Option<u32>, counts: bool, row: u32) -> Option<u32>
+    ensures { result ≡ (if counts then Some (option_map_or (λ l. min l row) least row) else least) }
+{
+    if counts {
+        Some(lower(least, row))
+    } else {
+        least
     }
 }
 

@@ -8,18 +8,17 @@ ghost use Rattle.ddt_wires.specs.Turns.{Serves, most_bytes};
 use ddt_node::Server;
 use ddt_path::Locator;
 use ddt_trie::PrefixMap;
-use ddt_wires::{Served, Wires, serve_turn};
-use std::alloc::Global;
+use ddt_wires::{Outbox, Served, Wires, serve_turn};
 
 /// Takes turns of a server at a socket, at most so many, and none behind one that is given no packet. Each is as those
 /// of `serve_turns`.
 pub fn serve_ready<W: Wires, M: PrefixMap<u32>>(
-    alloc: Global,
     wires: &mut W,
     server: &Server<M>,
     at: Locator,
     most: u32,
     buffer: &mut [u8],
+    outbox: &mut Outbox,
 ) -> Served
     requires { length buffer.old ≡ most_bytes }
     ensures serves { (turns : ℕ) × (turns ≤ most) × (calls : List ACall) × Tells (W.calls wires.old) calls (W.calls wires.new)
@@ -29,7 +28,7 @@ pub fn serve_ready<W: Wires, M: PrefixMap<u32>>(
     let mut received = 0;
     let mut replied = 0;
     for _turn in 0..most {
-        let turn = serve_turn(alloc, wires, server, at, buffer);
+        let turn = serve_turn(wires, server, at, buffer, outbox);
         received += turn.received;
         replied += turn.replied;
         if turn.received == 0 {

@@ -1,11 +1,17 @@
 -- The record that a decision leads to (RFC 8111, sections 6.1, 7.1 and 7.2).
-use Rattle.std.specs.Prelude.{ℕ, List, Option, Some, None}
+use Rattle.std.specs.Prelude.{ℕ, false, List, Option, Some, None}
+use Rattle.ddt_path.specs.declared.action.Action.{Action}
 use Rattle.ddt_path.specs.declared.locator.Locator.{Locator}
 use Rattle.ddt_path.specs.declared.record.ReferralRecord.{ReferralRecord}
 use Rattle.ddt_path.specs.declared.record.Outcome.TheVariants as outcome
 use Rattle.ddt_path.specs.Records.{referral, record_of, not_authoritative}
 use Rattle.ddt_node.specs.declared.answering.Decision.{Decision}
 use Rattle.ddt_node.specs.declared.answering.Decision.TheVariants.{Child, Registered, NotRegistered, Hole, Outside}
+
+-- a record whose referral set is the whole of it
+abbrev pub whole_record : Action → List ℕ → ℕ → List Locator → ReferralRecord
+whole_record action_ prefix_ ttl_ servers_ =
+    record { action = action_; prefix = prefix_; ttl = ttl_; incomplete = false; servers = servers_ }
 
 -- of servers with these locators, for an identifier
 abbrev pub record_by : List Locator → List ℕ → Decision → ReferralRecord

@@ -17,6 +17,7 @@ use Rattle.ddt_wire.specs.Referral.{written, message_of, Message as ReferralMess
 use Rattle.ddt_ecm.specs.declared.fault.RequestFault.{RequestFault}
 use Rattle.ddt_ecm.specs.EcmHeader.{s_place, d_place}
 use Rattle.ddt_ecm.specs.Request.{Message, Spells as SpellsRequest, message_in}
+use Rattle.ddt_node.specs.declared.handling.Buffered.{Buffered}
 use Rattle.ddt_node.specs.declared.handling.Forward.{Forward}
 use Rattle.ddt_node.specs.declared.handling.Handled.{Handled}
 
@@ -55,6 +56,13 @@ answered c bytes m = record {
 -- nothing is answered and nothing is sent on
 abbrev pub ignored : Handled
 ignored = record { reply = None; forward = None }
+
+-- what is sent where the reply stands in a buffer
+abbrev pub in_buffer : List ℕ → Buffered → Handled
+in_buffer bytes b = record { reply = if b.has_reply then Some bytes else None; forward = b.forward }
+
+abbrev pub nothing_sent : Buffered
+nothing_sent = record { has_reply = false; forward = None }
 
 -- the bytes spell a DDT Map-Request
 abbrev pub IsDdtRequest : List ℕ → Message → Type 0

@@ -1,10 +1,11 @@
 //! The answer for an identifier, by the maps of a server.
 
-ghost use Rattle.std.specs.Prelude.{◌≡◌, ◌<◌, IsTrue, List, None, Some, length, map, slice_get, IfSome, IfNone};
+ghost use Rattle.std.specs.Prelude.{◌≡◌, ◌<◌, ◌≤◌, IsTrue, List, None, Some, length, map, slice_get, IfSome, IfNone};
 ghost use Rattle.std.specs.FinMap.{keys};
 ghost use Rattle.std.specs.Option.{option_map};
 ghost use Rattle.ddt_path.specs.declared.locator.Locator.{Locator as ALocator};
-ghost use Rattle.ddt_path.specs.Records.{record_of};
+ghost use Rattle.ddt_path.specs.Locators.{most_locators};
+ghost use Rattle.ddt_path.specs.Records.{record_of, referral_action as referral_action_of};
 ghost use Rattle.ddt_path.specs.Path.{xeid_path};
 ghost use Rattle.ddt_path.specs.Covers.{covers};
 ghost use Rattle.ddt_path.specs.Free.{hole_of};
@@ -12,16 +13,21 @@ ghost use Rattle.ddt_path.specs.Matching.{longest_match};
 ghost use Rattle.ddt_config.specs.Answer.{answer_in as answer_in_of, site_outcome as site_outcome_of, referral_to as referral_to_child};
 ghost use Rattle.ddt_config.specs.Entries.{prefixes_in};
 ghost use Rattle.ddt_trie.specs.PrefixMap.{keys_below};
+ghost use Rattle.ddt_wire.specs.Referral.{lent_record};
 ghost use Rattle.ddt_node.specs.Places.{places as places_of};
 ghost use Rattle.ddt_node.specs.ReferralSets.{kept_sets, set_of, sets_in};
 ghost use Rattle.ddt_node.specs.declared.answering.Decision.TheVariants.{Hole};
-ghost use Rattle.ddt_node.specs.Decisions.{etr_by, record_by};
+ghost use Rattle.ddt_node.specs.Decisions.{etr_by, record_by, whole_record};
 ghost use Rattle.ddt_node.specs.Server.{etr_in};
 
 use crate::referral_sets::{ReferralSet, ReferralSets};
 use ddt_config::{Authority, Child, Content, SiteEntry};
-use ddt_path::{Locator, LocatorSet, Outcome, Prefix, Prefixed, ReferralRecord, Xeid};
+use ddt_path::{
+    Action, HOLE_TTL, Locator, LocatorSet, NOT_AUTHORITATIVE_TTL, NOT_REGISTERED_TTL, POSITIVE_TTL,
+    Prefix, Prefixed, Role, Xeid,
+};
 use ddt_trie::PrefixMap;
+use ddt_wire::LentRecord;
 
 /// The place of the longest item that covers the identifier. An item that is alone is looked at without the map.
 pub fn longest<T: Prefixed, M: PrefixMap<u32>>(items: &[T], places: &M, x: Xeid) -> Option<usize>
@@ -36,6 +42,30 @@ pub fn longest<T: Prefixed, M: PrefixMap<u32>>(items: &[T], places: &M, x: Xeid)
     match places.longest(x) {
         Some(found) => Some(*found.1 as usize),
         None => None,
+    }
+}
+
+/// The action of a referral to servers that are this.
+fn referral_action(role: Role) -> Action
+    ensures { result ≡ referral_action_of role }
+{
+    match role {
+        Role::Node => Action::NodeReferral,
+        Role::Ms => Action::MsReferral,
+    }
+}
+
+/// A record whose referral set is the whole of it.
+fn whole(action: Action, prefix: Prefix, ttl: u32, servers: &[Locator]) -> LentRecord<'_>
+    ensures record { lent_record result ≡ whole_record action prefix ttl servers.now }
+    ensures servers { result.servers.now ≡ servers.now }
+{
+    LentRecord {
+        action,
+        prefix,
+        ttl,
+        incomplete: false,
+        servers,
     }
 }
 
@@ -65,20 +95,32 @@ pub enum Decision<'a> {
 }
 
 impl<'a> Decision<'a> {
-    /// The record that says so, of servers with these locators, for an identifier.
-    pub fn record(&self, servers: LocatorSet, x: Xeid) -> ReferralRecord
-        ensures { result ≡ record_by servers (xeid_path x) self.now }
+    /// The record that says so, of servers with these locators, for an identifier. It lends what it names.
+    pub fn record(&self, servers: &'a LocatorSet, x: Xeid) -> LentRecord<'a>
+        ensures record { lent_record result ≡ record_by servers.now (xeid_path x) self.now }
+        ensures few { length result.servers.now ≤ most_locators }
     {
-        let outcome = match *self {
+        match *self {
             Decision::Child { prefix, set } => {
-                return ReferralRecord::referral(set.role, prefix, set.locators);
+                let action = referral_action(set.role);
+                whole(action, prefix, POSITIVE_TTL, set.locators.as_slice())
             }
-            Decision::Outside => return ReferralRecord::not_authoritative(x),
-            Decision::Registered { prefix, .. } => Outcome::Registered { prefix, servers },
-            Decision::NotRegistered { prefix } => Outcome::NotRegistered { prefix, servers },
-            Decision::Hole { prefix } => Outcome::Hole { prefix },
-        };
-        ReferralRecord::of(outcome)
+            Decision::Registered { prefix, .. } => {
+                whole(Action::MsAck, prefix, POSITIVE_TTL, servers.as_slice())
+            }
+            Decision::NotRegistered { prefix } => {
+                let action = Action::MsNotRegistered;
+                whole(action, prefix, NOT_REGISTERED_TTL, servers.as_slice())
+            }
+            Decision::Hole { prefix } => whole(Action::DelegationHole, prefix, HOLE_TTL, &[]),
+            Decision::Outside => LentRecord {
+                action: Action::NotAuthoritative,
+                prefix: Prefix::host(x),
+                ttl: NOT_AUTHORITATIVE_TTL,
+                incomplete: true,
+                servers: &[],
+            },
+        }
     }
 
     /// The ETR that a request goes on to where it is acknowledged.

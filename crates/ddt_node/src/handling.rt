@@ -1,16 +1,15 @@
 //! What a server sends for a datagram.
 
-ghost use Rattle.std.specs.Prelude.{◌≡◌, is_some, Some, None, Ok, IfOk};
+ghost use Rattle.std.specs.Prelude.{◌≡◌, is_some, None, Ok, IfOk};
 ghost use Rattle.std.specs.Option.{option_map};
-ghost use Rattle.ddt_wire.specs.Referral.{written, message_of};
 ghost use Rattle.ddt_ecm.specs.Request.{Message};
-ghost use Rattle.ddt_node.specs.Server.{ddt_request as ddt_request_of, handled as handled_of, forward_to, without_d, ignored as ignored_of, acknowledges, IsDdtRequest, HasReply, reply_to};
+ghost use Rattle.ddt_node.specs.Server.{ddt_request as ddt_request_of, handled as handled_of, in_buffer, forward_to as forward_to_of, without_d, ignored as ignored_of, nothing_sent, acknowledges, IsDdtRequest, HasReply, reply_to};
 
 use crate::server::Server;
 use ddt_ecm::{DDT, Request, read_request};
-use ddt_path::{Listed, Locator, ReferralRecord};
+use ddt_path::{Listed, Locator};
 use ddt_trie::PrefixMap;
-use ddt_wire::write_referral;
+use ddt_wire::put_referral;
 use std::alloc::{AllocError, Global};
 
 /// A request on its way to an ETR.
@@ -31,42 +30,13 @@ pub struct Handled {
     pub forward: Option<Forward>,
 }
 
-impl Handled {
-    /// Nothing is sent.
-    fn ignored() -> Handled
-        ensures { result ≡ ignored_of }
-    {
-        Handled {
-            reply: None,
-            forward: None,
-        }
-    }
-
-    /// The answer to a request of this nonce, which goes on to an ETR if one is given.
-    fn answered(
-        alloc: Global,
-        nonce: u64,
-        answer: &ReferralRecord,
-        etr: Option<Locator>,
-        request: &[u8],
-    ) -> Result<Handled, AllocError>
-        ensures reply { IfOk result (λ h. h.reply ≡ Some (written nonce answer.now)) }
-        ensures spelled { IfOk result (λ h. HasReply h.reply (message_of nonce answer.now)) }
-        ensures forward { IfOk result (λ h. h.forward ≡ option_map (forward_to request.now) etr) }
-    {
-        let reply = write_referral(alloc, nonce, answer)?;
-        let forward = match etr {
-            Some(to) => Some(Forward {
-                to,
-                bytes: Listed::of(plain_request(alloc, request)?),
-            }),
-            None => None,
-        };
-        Ok(Handled {
-            reply: Some(Listed::of(reply)),
-            forward,
-        })
-    }
+/// What is sent for a datagram whose reply stands in a buffer.
+#[derive(Debug, Drop)]
+pub struct Buffered {
+    /// Whether there is a reply.
+    pub has_reply: bool,
+    /// The request for the ETR of the site that is acknowledged.
+    pub forward: Option<Forward>,
 }
 
 impl<M: PrefixMap<u32>> Server<M> {
@@ -74,7 +44,6 @@ impl<M: PrefixMap<u32>> Server<M> {
     /// nonce and the answer for its identifier, to be sent to where it came from. On MS-ACK the datagram with that bit
     /// clear goes on to the first ETR of the site (RFC 8111, sections 7.1 and 7.2). For any other datagram nothing is
     /// sent, and nothing is allocated. Fails only if out of memory.
-    #[tactic(auto, using(crate::proofs::AnswerLemmas::acknowledged))]
     pub fn handle(&self, alloc: Global, bytes: &[u8]) -> Result<Handled, AllocError>
         ensures handled { IfOk result (λ h. h ≡ handled_of self.now bytes.now) }
         ensures replied { (m : Message) → IsDdtRequest bytes.now m
@@ -82,15 +51,69 @@ impl<M: PrefixMap<u32>> Server<M> {
         ensures acknowledged { IfOk result (λ h. is_some h.forward ≡ acknowledges self.now bytes.now) }
         ensures ignored { ddt_request_of bytes.now ≡ None → result ≡ Ok ignored_of }
     {
+        let mut buffer = Vec::new(alloc);
+        let Buffered { has_reply, forward } = self.handle_into(alloc, bytes, &mut buffer)?;
+        Ok(Handled {
+            reply: if has_reply {
+                Some(Listed::of(buffer))
+            } else {
+                None
+            },
+            forward,
+        })
+    }
+
+    /// What is sent for a datagram, as `handle` says it, but the reply is put into a buffer, in place of what that holds.
+    /// Where nothing is sent, the buffer stays as it is. It allocates only what the buffer lacks, and the request that
+    /// goes on. Fails only if out of memory.
+    #[tactic(auto, using(crate::proofs::AnswerLemmas::acknowledged))]
+    pub fn handle_into(
+        &self,
+        alloc: Global,
+        bytes: &[u8],
+        buffer: &mut Vec<u8>,
+    ) -> Result<Buffered, AllocError>
+        ensures handled { IfOk result (λ b. in_buffer buffer.new.items b ≡ handled_of self.now bytes.now) }
+        ensures replied { (m : Message) → IsDdtRequest bytes.now m
+            → IfOk result (λ b. HasReply (in_buffer buffer.new.items b).reply (reply_to self.now m)) }
+        ensures acknowledged { IfOk result (λ b. is_some b.forward ≡ acknowledges self.now bytes.now) }
+        ensures ignored { ddt_request_of bytes.now ≡ None → result ≡ Ok nothing_sent }
+        ensures kept { ddt_request_of bytes.now ≡ None → buffer.new.items ≡ buffer.old.items }
+    {
         match ddt_request(bytes) {
             Some(request) => {
                 let x = request.xeid();
                 let decision = self.decision(x);
-                let record = decision.record(self.config().locators, x);
-                Handled::answered(alloc, request.nonce(), &record, decision.etr(), bytes)
+                let record = decision.record(&self.config().locators, x);
+                put_referral(buffer, request.nonce(), &record)?;
+                let forward = forward_to(alloc, decision.etr(), bytes)?;
+                Ok(Buffered {
+                    has_reply: true,
+                    forward,
+                })
             }
-            None => Ok(Handled::ignored()),
+            None => Ok(Buffered {
+                has_reply: false,
+                forward: None,
+            }),
         }
+    }
+}
+
+/// The request as it goes on to an ETR, if one is given.
+fn forward_to(
+    alloc: Global,
+    etr: Option<Locator>,
+    request: &[u8],
+) -> Result<Option<Forward>, AllocError>
+    ensures { IfOk result (λ forward. forward ≡ option_map (forward_to_of request.now) etr) }
+{
+    match etr {
+        Some(to) => Ok(Some(Forward {
+            to,
+            bytes: Listed::of(plain_request(alloc, request)?),
+        })),
+        None => Ok(None),
     }
 }
 

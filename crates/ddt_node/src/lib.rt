@@ -11,6 +11,6 @@ mod referral_sets;
 mod server;
 
 pub use building::has_room_for;
-pub use handling::{Forward, Handled};
+pub use handling::{Buffered, Forward, Handled};
 pub use reading::config_in;
 pub use server::Server;

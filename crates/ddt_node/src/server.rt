@@ -67,7 +67,8 @@ impl<M: PrefixMap<u32>> Server<M> {
     pub fn answer(&self, x: Xeid) -> ReferralRecord
         ensures { result ≡ answer_of self.now (xeid_path x) }
     {
-        self.decision(x).record(self.config.locators, x)
+        let decision = self.decision(x);
+        decision.record(&self.config.locators, x).to_record()
     }
 
     /// What decides the answer for an identifier.

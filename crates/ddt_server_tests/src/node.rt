@@ -365,3 +365,47 @@ fn a_server_takes_up_another_configuration_or_keeps_its_own(rt: HostRuntime) -> 
     assert!(rt; is_named(&server, "ten"));
     Ok(())
 }
+
+/// Requests to servers, with the reply to each: longer and shorter ones, and none.
+const IN_TURN: &[(&str, &str, Option<&str>)] = &[
+    (EAST, DDT_REQUEST, Some(EAST_ACKNOWLEDGES)),
+    (ROOT, DDT_REQUEST, Some(ROOT_REFERS_TO_TEN)),
+    (ROOT, ITR_REQUEST, None),
+    (ROOT, IPV6_REQUEST, Some(HOLE_OF_IPV6)),
+    (EAST, "00", None),
+    (EAST, DDT_REQUEST, Some(EAST_ACKNOWLEDGES)),
+];
+
+/// The reply to a datagram, put into a buffer.
+fn reply_in(
+    alloc: Global,
+    rt: &impl Abort,
+    text: &str,
+    request: &str,
+    buffer: &mut Vec<u8>,
+) -> Result<bool, Fail> {
+    let server = server(alloc, rt, text)?;
+    let request = bytes_of(alloc, request)?;
+    Ok(server.handle_into(alloc, &request, buffer)?.has_reply)
+}
+
+#[test]
+fn one_buffer_takes_all_replies(rt: HostRuntime) -> Result<(), Fail> {
+    let mut buffer = Vec::new(rt.alloc());
+    for (text, request, wanted) in IN_TURN {
+        let replied = reply_in(rt.alloc(), &rt, text, request, &mut buffer)?;
+        assert_eq!(rt; replied, wanted.is_some());
+        if let Some(wanted) = wanted {
+            assert!(rt; buffer.as_slice() == bytes_of(rt.alloc(), wanted)?.as_slice());
+        }
+    }
+    Ok(())
+}
+
+#[test]
+fn a_buffer_stays_where_nothing_is_sent(rt: HostRuntime) -> Result<(), Fail> {
+    let mut buffer = bytes_of(rt.alloc(), "c0ffee")?;
+    assert!(rt; !reply_in(rt.alloc(), &rt, EAST, "00", &mut buffer)?);
+    assert!(rt; buffer.as_slice() == bytes_of(rt.alloc(), "c0ffee")?.as_slice());
+    Ok(())
+}

@@ -9,7 +9,7 @@ use ddt_node::{Server, has_room_for};
 use ddt_path::{Listed, Locator};
 use ddt_trie::ListMap;
 use ddt_wires::{
-    Call, MOST_BYTES, NetFault, Packet, Served, UdpWires, Waiting, Wires, WiresInMemory,
+    Call, MOST_BYTES, NetFault, Outbox, Packet, Served, UdpWires, Waiting, Wires, WiresInMemory,
     serve_turn, serve_turns,
 };
 use std::alloc::Global;
@@ -198,8 +198,9 @@ fn a_turn_by_itself_is_counted(rt: HostRuntime) -> Result<(), Fail> {
     let mut wires = busy(alloc, 0, CONTROL_PORT)?;
     let server = east(alloc, &rt)?;
     let mut buffer = [0; MOST_BYTES];
+    let mut outbox = Outbox::new(alloc);
     for (received, replied) in [(1, 1), (1, 0), (0, 0)] {
-        let turn = serve_turn(alloc, &mut wires, &server, SERVER, &mut buffer);
+        let turn = serve_turn(&mut wires, &server, SERVER, &mut buffer, &mut outbox);
         assert_eq!(rt; turn, Served { received, replied });
     }
     Ok(())

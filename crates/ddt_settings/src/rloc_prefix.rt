@@ -39,7 +39,7 @@ impl RlocPrefix {
     }
 }
 
-/// The prefix of RLOCs that a text spells: an address, a slash, and a length. Refused as `parse_prefix` refuses the same
+/// The prefix of RLOCs that a text spells: an address, a slash and a length. Refused as `parse_prefix` refuses the same
 /// with `[0]` in front: 4 Address, 5 Length, 6 TailNotZero. Fails beside that only if out of memory.
 #[tactic(auto, unfolding(crate::specs::Rlocs::block_in))]
 pub fn parse_rloc_prefix(

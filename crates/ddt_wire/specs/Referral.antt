@@ -9,6 +9,7 @@ use Rattle.ddt_path.specs.declared.record.ReferralRecord.{ReferralRecord}
 use Rattle.ddt_wire.specs.declared.eid.EidFault.{EidFault}
 use Rattle.ddt_wire.specs.declared.head.Head.{Head}
 use Rattle.ddt_wire.specs.declared.head.HeadFault.{HeadFault}
+use Rattle.ddt_wire.specs.declared.referral.LentRecord.{LentRecord}
 use Rattle.ddt_wire.specs.declared.fault.ReferralFault.{ReferralFault}
 use Rattle.ddt_wire.specs.declared.fault.ReferralFault.TheVariants as fault
 use Rattle.ddt_reading.specs.Steps.{◌>>=◌, in_words}
@@ -105,6 +106,16 @@ message_record v = record {
   ttl = v.ttl;
   incomplete = v.incomplete;
   servers = take most_locators v.locators;
+}
+
+-- the record whose locators are lent
+abbrev pub lent_record : LentRecord → ReferralRecord
+lent_record l = record {
+  action = l.action;
+  prefix = l.prefix;
+  ttl = l.ttl;
+  incomplete = l.incomplete;
+  servers = l.servers.now;
 }
 
 -- the one spelling that is written: A is 1, the reserved bits and the map version are 0

@@ -23,4 +23,4 @@ pub use laws::{eid_laws, referral_laws, reply_laws};
 pub use locator_record::Locators;
 pub use message_type::{ENCAPSULATED, MAP_REFERRAL, MAP_REPLY, MAP_REQUEST, TYPE_SHIFT};
 pub use negative_reply::{NegativeReply, ReplyFault, read_negative_reply, write_negative_reply};
-pub use referral::{Referral, read_referral, write_referral};
+pub use referral::{LentRecord, Referral, put_referral, read_referral, write_referral};

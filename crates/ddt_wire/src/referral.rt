@@ -20,9 +20,9 @@
 //!
 //! A, the map version and the reserved bits are ignored.
 
-ghost use Rattle.std.specs.Prelude.{◌≡◌, ◌<◌, ◌≤◌, true, length, Ok, IfOk};
+ghost use Rattle.std.specs.Prelude.{◌≡◌, ◌<◌, ◌≤◌, true, [], length, Ok, IfOk, OnOk, OnErr};
 ghost use Rattle.ddt_path.specs.Locators.{most_locators};
-ghost use Rattle.ddt_wire.specs.Referral.{written, written_head, flags_of, action_in, message_in, Spells, Message, message_of, message_record};
+ghost use Rattle.ddt_wire.specs.Referral.{written, written_head, lent_record, flags_of, action_in, message_in, Spells, Message, message_of, message_record};
 
 use crate::address::AddressFault;
 use crate::eid::{EidFault, eid, mask_len, write_eid};
@@ -30,7 +30,7 @@ use crate::fault::ReferralFault;
 use crate::head::{ACT, BEFORE_EID, Head, HeadFault, put_head, read_head};
 use crate::locator_record::{Locators, put_locators};
 use crate::message_type::MAP_REFERRAL;
-use ddt_path::{Action, Prefix, ReferralRecord};
+use ddt_path::{Action, Locator, LocatorSet, Prefix, ReferralRecord};
 use std::alloc::{AllocError, Global};
 use std::marker::Model;
 
@@ -45,8 +45,59 @@ const SIGNATURE: u16 = 1 << 12;
 /// SigCnt 0 and map version 0.
 const NOT_SIGNED: u16 = 0;
 
+/// The record of a Map-Referral that is to be written. It lends its referral set, of at most 8 locators.
+#[derive(Clone, Copy, Debug)]
+pub struct LentRecord<'a> {
+    pub action: Action,
+    /// The prefix that the answer holds for.
+    pub prefix: Prefix,
+    /// How long it may be kept, in minutes.
+    pub ttl: u32,
+    /// The Incomplete bit: the referral set isn't the whole of it.
+    pub incomplete: bool,
+    /// The referral set.
+    pub servers: &'a [Locator],
+}
+
+impl<'a> LentRecord<'a> {
+    /// The same record, whose referral set is lent.
+    pub fn of(record: &'a ReferralRecord) -> LentRecord<'a>
+        ensures same { lent_record result ≡ record.now }
+        ensures few { length result.servers.now ≤ most_locators }
+    {
+        LentRecord {
+            action: record.action,
+            prefix: record.prefix,
+            ttl: record.ttl,
+            incomplete: record.incomplete,
+            servers: record.servers.as_slice(),
+        }
+    }
+
+    /// The record with a referral set of its own.
+    pub fn to_record(&self) -> ReferralRecord
+        requires { length self.now.servers.now ≤ most_locators }
+        ensures { result ≡ lent_record self.now }
+    {
+        let LentRecord {
+            action,
+            prefix,
+            ttl,
+            incomplete,
+            servers,
+        } = *self;
+        ReferralRecord {
+            action,
+            prefix,
+            ttl,
+            incomplete,
+            servers: LocatorSet::of_few(servers),
+        }
+    }
+}
+
 /// The flags of a record; A is written 1.
-fn flags(referral: &ReferralRecord) -> u16
+fn flags(referral: &LentRecord<'_>) -> u16
     ensures { result ≡ flags_of referral.now.action true referral.now.incomplete 0 }
 {
     let incomplete = if referral.incomplete { INCOMPLETE } else { 0 };
@@ -54,22 +105,56 @@ fn flags(referral: &ReferralRecord) -> u16
 }
 
 /// The head of the message of a record.
-fn referral_head(nonce: u64, referral: &ReferralRecord) -> Head
-    ensures head { result ≡ written_head nonce referral.now }
-    ensures count { length referral.now.servers ≤ most_locators }
+fn referral_head(nonce: u64, referral: &LentRecord<'_>) -> Head
+    requires { length referral.now.servers.now ≤ most_locators }
+    ensures { result ≡ written_head nonce (lent_record referral.now) }
 {
     Head {
         nonce,
         ttl: referral.ttl,
-        locators: referral.servers.as_slice().len() as u8,
+        locators: referral.servers.len() as u8,
         mask_len: mask_len(referral.prefix),
         flags: flags(referral),
         version: NOT_SIGNED,
     }
 }
 
-/// The one spelling of a Map-Referral with this nonce and record: A is 1, no signature, map version 0, reserved bits 0.
-/// Each locator has priority 1, weight 100, multicast priority 255 and weight 0, and the flag R. Fails only if out of
+/// Puts the message of this nonce and record in place of the bytes. Where it fails, some of it may stand there.
+fn fill(bytes: &mut Vec<u8>, nonce: u64, referral: &LentRecord<'_>) -> Result<(), AllocError>
+    requires { length referral.now.servers.now ≤ most_locators }
+    ensures written { OnOk result (bytes.new.items ≡ written nonce (lent_record referral.now)) }
+    ensures spelled { OnOk result (Spells bytes.new.items (message_of nonce (lent_record referral.now))) }
+{
+    let head = referral_head(nonce, referral);
+    bytes.clear();
+    bytes.reserve(MOST_BYTES)?;
+    put_head(bytes, MAP_REFERRAL, &head)?;
+    write_eid(bytes, referral.prefix)?;
+    put_locators(bytes, referral.servers)?;
+    Ok(())
+}
+
+/// Puts the one spelling of a Map-Referral with this nonce and record into a buffer, in place of what that holds: A is
+/// 1, no signature, map version 0, reserved bits 0. Each locator has priority 1, weight 100, multicast priority 255 and
+/// weight 0, and the flag R. Fails only if out of memory, and then the buffer is empty.
+pub fn put_referral(
+    buffer: &mut Vec<u8>,
+    nonce: u64,
+    referral: &LentRecord<'_>,
+) -> Result<(), AllocError>
+    requires { length referral.now.servers.now ≤ most_locators }
+    ensures written { OnOk result (buffer.new.items ≡ written nonce (lent_record referral.now)) }
+    ensures spelled { OnOk result (Spells buffer.new.items (message_of nonce (lent_record referral.now))) }
+    ensures emptied { OnErr result (buffer.new.items ≡ []) }
+{
+    let filled = fill(buffer, nonce, referral);
+    if filled.is_err() {
+        buffer.clear();
+    }
+    filled
+}
+
+/// The one spelling of a Map-Referral with this nonce and record, as `put_referral` writes it. Fails only if out of
 /// memory.
 pub fn write_referral(
     alloc: Global,
@@ -79,11 +164,8 @@ pub fn write_referral(
     ensures written { IfOk result (λ bytes. bytes.items ≡ written nonce referral.now) }
     ensures spelled { IfOk result (λ bytes. Spells bytes.items (message_of nonce referral.now)) }
 {
-    let head = referral_head(nonce, referral);
-    let mut bytes = Vec::with_capacity(alloc, MOST_BYTES)?;
-    put_head(&mut bytes, MAP_REFERRAL, &head)?;
-    write_eid(&mut bytes, referral.prefix)?;
-    put_locators(&mut bytes, referral.servers.as_slice())?;
+    let mut bytes = Vec::new(alloc);
+    put_referral(&mut bytes, nonce, &LentRecord::of(referral))?;
     Ok(bytes)
 }
 

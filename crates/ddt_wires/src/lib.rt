@@ -16,7 +16,7 @@ mod wires_in_memory;
 pub use addresses::{ip_of, locator_of};
 pub use call::{Call, NetFault, Packet};
 pub use polled_wires::PolledWires;
-pub use serving::{MOST_BYTES, Served, serve_turn, serve_turns};
+pub use serving::{MOST_BYTES, Outbox, Served, serve_turn, serve_turns};
 pub use udp_wires::UdpWires;
 pub use wires::Wires;
 pub use wires_in_memory::{Waiting, WiresInMemory};

@@ -16,7 +16,7 @@ use ddt_hash::HashedMap;
 use ddt_node::{Server, config_in};
 use ddt_path::Locator;
 use ddt_text::parse_locator;
-use ddt_wires::{MOST_BYTES, ip_of};
+use ddt_wires::{MOST_BYTES, Outbox, ip_of};
 use std::alloc::AllocError;
 use std::io::ErrorKind;
 use std::{fs, io};
@@ -38,6 +38,7 @@ struct Daemon {
     control: Control,
     poll: Poll,
     buffer: Vec<u8>,
+    outbox: Outbox,
     watch: Watch,
     counts: ServerCounts,
     times: Times,
@@ -167,6 +168,7 @@ impl Daemon {
             control,
             poll: Poll::new(rt.alloc()),
             buffer,
+            outbox: Outbox::new(rt.alloc()),
             watch,
             counts: ServerCounts::default(),
             times: Times {
@@ -186,7 +188,7 @@ impl Daemon {
             if !self.poll.wait(PATIENCE) {
                 rest(rt);
             }
-            self.serve(rt);
+            self.serve();
             if self.watch.has_changed(rt, asked.config, seconds(rt)) {
                 let _answer = self.reload(rt, asked, log);
             }
@@ -197,23 +199,23 @@ impl Daemon {
     }
 
     /// Serves at each socket at which something came.
-    fn serve(&mut self, rt: &HostRuntime) {
+    fn serve(&mut self) {
         for place in 0..self.wires.wires.sockets.len() {
             if self.poll.is_ready(place) {
-                self.serve_at(rt, place);
+                self.serve_at(place);
             }
         }
     }
 
-    fn serve_at(&mut self, rt: &HostRuntime, place: usize) {
+    fn serve_at(&mut self, place: usize) {
         if let Some(at) = self.wires.wires.sockets.at(place) {
             let served = serve_ready(
-                rt.alloc(),
                 &mut self.wires,
                 &self.server,
                 at,
                 MOST_TURNS,
                 self.buffer.as_mut_slice(),
+                &mut self.outbox,
             );
             self.counts.add(served);
         }

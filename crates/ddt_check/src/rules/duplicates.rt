@@ -6,7 +6,7 @@ ghost use Rattle.ddt_register.specs.Rows.{rise};
 ghost use Rattle.ddt_check.specs.Rules.{IsLeastRow, item_at, is_duplicate};
 ghost use Rattle.ddt_check.specs.Order.{IsInOrder};
 
-use crate::entries::Entry;
+use crate::entries::{Entry, is_same};
 use crate::keyed::Keyed;
 use crate::rules::lower;
 
@@ -21,7 +21,7 @@ fn repeats<T: Keyed>(entries: &[Entry<T>], at: usize) -> bool
     if at == 0 {
         return false;
     }
-    entries[at - 1].item.has_same_key(entries[at].item)
+    is_same(&entries[at - 1], &entries[at])
 }
 
 /// The least row of an item whose key an earlier one has.

@@ -259,10 +259,10 @@ fn wrong_by_cells(cells: &mut [Cell], marks: &mut [bool], groups: &[Group]) -> O
 
 /// The same of few groups, by a frame of few cells.
 fn wrong_of_few(groups: &[Group]) -> Option<u32>
-    requires { length groups.now ≤ 1024 }
+    requires { length groups.now ≤ 4096 }
     ensures { (r : ARegister) → r.groups ≡ groups.now → IsLeastRow (broken r Rule.Locators) result }
 {
-    let mut cells = [Cell::EMPTY; 1_024];
+    let mut cells = [Cell::EMPTY; 4_096];
     wrong_by_cells(&mut cells[..groups.len()], &mut [], groups)
 }
 
@@ -282,7 +282,7 @@ pub fn wrong_locators(groups: &[Group]) -> Option<u32>
     requires { rise 0 (group_rows groups.now) ≡ true }
     ensures { (r : ARegister) → r.groups ≡ groups.now → IsLeastRow (broken r Rule.Locators) result }
 {
-    if groups.len() <= 1_024 {
+    if groups.len() <= 4_096 {
         wrong_of_few(groups)
     } else {
         wrong_of_many(groups)

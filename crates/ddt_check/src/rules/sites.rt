@@ -1,7 +1,9 @@
 //! The rules that a site may break. The count of ETRs is looked at in the order of rows. Whether a site is outside is
 //! asked of zones that are sorted by their prefixes, then by their rows.
 
-ghost use Rattle.std.specs.Prelude.{◌≡◌, ◌&&◌, IsPermutation, map};
+ghost use Rattle.std.specs.Prelude.{◌≡◌, ◌==◌, ◌&&◌, ◌||◌, nat_lt, IsPermutation, map};
+ghost use Rattle.std.specs.Ordering.{nat_cmp, is_le};
+ghost use Rattle.std.specs.Cmp.Lexicographic.{slice_cmp};
 ghost use Rattle.ddt_path.specs.Covers.{covers};
 ghost use Rattle.ddt_register.specs.declared.register.Register.{Register as ARegister};
 ghost use Rattle.ddt_register.specs.Rows.{first_row as first_row_of};
@@ -37,6 +39,21 @@ fn is_right(z: &Zone, s: &Site) -> bool
     z.kind == Role::Ms && z.prefix.covers(s.prefix)
 }
 
+/// Whether a zone stands up to a site's prefix, by their numbers and, where these tie, by their prefixes.
+fn is_up_to_by_front(zone: &Entry<Zone>, site: &Entry<Site>) -> bool
+    ensures { result ≡ (nat_lt zone.now.front site.now.front || (zone.now.front == site.now.front
+        && is_le (slice_cmp nat_cmp zone.now.item.now.prefix site.now.item.now.prefix))) }
+{
+    zone.front < site.front || (zone.front == site.front && zone.item.prefix <= site.item.prefix)
+}
+
+/// Whether a zone stands up to a site's prefix.
+fn is_up_to(zone: &Entry<Zone>, site: &Entry<Site>) -> bool
+    ensures { result ≡ is_le (slice_cmp nat_cmp zone.now.item.now.prefix site.now.item.now.prefix) }
+{
+    is_up_to_by_front(zone, site)
+}
+
 /// Whether the longest zone of a site isn't of Map-Servers. Where each prefix has one zone, and none is below one of
 /// Map-Servers, the last zone that stands up to the site's prefix tells.
 fn is_outside(zones: &[Entry<Zone>], s: &Site) -> bool
@@ -45,7 +62,8 @@ fn is_outside(zones: &[Entry<Zone>], s: &Site) -> bool
         → IsKept r Rule.BelowMapServer
         → result ≡ is_outside_of r s.now }
 {
-    let after = zones.partition_point(|e| e.item.prefix <= s.prefix);
+    let site = Entry::of(s);
+    let after = zones.partition_point(|zone| is_up_to(zone, &site));
     if after == 0 {
         return true;
     }

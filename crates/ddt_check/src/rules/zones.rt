@@ -1,7 +1,7 @@
 //! The rules that a zone may break. A root is looked for in the order of rows; the other rules see zones that are
 //! sorted by their prefixes, then by their rows.
 
-ghost use Rattle.std.specs.Prelude.{◌≡◌, ◌==◌, ◌&&◌, ◌||◌, not, nat_lt, false, IsTrue, IsPermutation, map};
+ghost use Rattle.std.specs.Prelude.{◌≡◌, ◌==◌, ◌&&◌, ◌||◌, not, nat_lt, is_some, false, IsTrue, IsPermutation, map};
 ghost use Rattle.std.specs.Ordering.{nat_cmp, is_lt};
 ghost use Rattle.std.specs.Cmp.Lexicographic.{slice_cmp};
 ghost use Rattle.ddt_path.specs.Names.{is_name};
@@ -13,15 +13,14 @@ ghost use Rattle.ddt_register.specs.declared.register.Register.{Register as AReg
 ghost use Rattle.ddt_register.specs.Rows.{first_row as first_row_of};
 ghost use Rattle.ddt_check.specs.Rules.{earlier_zone};
 ghost use Rattle.ddt_check.specs.Rules.{is_root as is_root_zone, is_wrong_root as is_wrong_root_of};
-ghost use Rattle.ddt_check.specs.Rules.{is_of_unknown_group as is_of_unknown, is_of_other_role as is_of_other};
 ghost use Rattle.ddt_check.specs.Order.{AreZonesInOrder, AreGroupsInOrder};
-ghost use Rattle.ddt_check.specs.Zones.{is_ms as is_ms_zone, group_named as group_of_name};
+ghost use Rattle.ddt_check.specs.Zones.{is_ms as is_ms_zone, is_same_role, group_named as group_of_name};
 ghost use Rattle.ddt_check.specs.Sorted.{IsLeastOfZones, IsLeastOfBoth};
 
 use crate::entries::Entry;
 use crate::fault::Rule;
 use crate::fronts::name_front;
-use crate::rules::{least_row, lower};
+use crate::rules::{lower, lower_if};
 use ddt_path::{Name, Role};
 use ddt_register::{Group, Register, Zone, first_row};
 
@@ -161,39 +160,44 @@ fn group_named<'a>(groups: &[Entry<'a, Group>], name: Name) -> Option<&'a Group>
     None
 }
 
-/// Whether no row defines a zone's group.
-fn is_of_unknown_group(groups: &[Entry<Group>], z: &Zone) -> bool
-    requires { AreGroupsInOrder (map (λ e. e.item.now) groups.now) }
-    ensures { (r : ARegister) → IsPermutation r.groups (map (λ e. e.item.now) groups.now)
-        → result ≡ is_of_unknown r z.now }
+/// Whether no row defines a group.
+fn is_unknown(group: Option<&Group>) -> bool
+    ensures { result ≡ not (is_some (option_copied group.entry)) }
 {
-    group_named(groups, z.group).is_none()
+    group.is_none()
 }
 
-/// The least row of a zone whose group has no row.
-pub fn of_unknown_group(zones: &[Zone], groups: &[Entry<Group>]) -> Option<u32>
-    requires { AreGroupsInOrder (map (λ e. e.item.now) groups.now) }
-    ensures { IsLeastOfBoth zones.now (map (λ e. e.item.now) groups.now) Rule.UnknownGroup result }
+/// Whether a zone's group is of the other kind; not where no row defines it.
+fn is_of_other_role(group: Option<&Group>, z: &Zone) -> bool
+    ensures { result ≡ option_map_or (λ g. not (is_same_role g.kind z.now.kind)) (option_copied group.entry) false }
 {
-    least_row(zones, |z| is_of_unknown_group(groups, z))
-}
-
-/// Whether a zone's group is of the other kind.
-fn is_of_other_role(groups: &[Entry<Group>], z: &Zone) -> bool
-    requires { AreGroupsInOrder (map (λ e. e.item.now) groups.now) }
-    ensures { (r : ARegister) → IsPermutation r.groups (map (λ e. e.item.now) groups.now)
-        → result ≡ is_of_other r z.now }
-{
-    match group_named(groups, z.group) {
+    match group {
         Some(group) => group.kind != z.kind,
         None => false,
     }
 }
 
-/// The least row of a zone whose group is of the other kind.
-pub fn of_other_role(zones: &[Zone], groups: &[Entry<Group>]) -> Option<u32>
+/// The least row of a zone whose group has no row, and of one whose group is of the other kind.
+#[derive(Clone, Copy)]
+pub struct WrongGroups {
+    pub unknown: Option<u32>,
+    pub role: Option<u32>,
+}
+
+/// The least rows of zones of wrong groups. Each zone's group is looked up once.
+pub fn of_wrong_groups(zones: &[Zone], groups: &[Entry<Group>]) -> WrongGroups
     requires { AreGroupsInOrder (map (λ e. e.item.now) groups.now) }
-    ensures { IsLeastOfBoth zones.now (map (λ e. e.item.now) groups.now) Rule.Role result }
+    ensures unknown { IsLeastOfBoth zones.now (map (λ e. e.item.now) groups.now) Rule.UnknownGroup result.unknown }
+    ensures role { IsLeastOfBoth zones.now (map (λ e. e.item.now) groups.now) Rule.Role result.role }
 {
-    least_row(zones, |z| is_of_other_role(groups, z))
+    let mut found = WrongGroups {
+        unknown: None,
+        role: None,
+    };
+    for z in zones {
+        let group = group_named(groups, z.group);
+        found.unknown = lower_if(found.unknown, is_unknown(group), z.row);
+        found.role = lower_if(found.role, is_of_other_role(group, z), z.row);
+    }
+    found
 }

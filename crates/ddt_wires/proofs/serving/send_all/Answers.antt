@@ -1,4 +1,5 @@
 use Rattle.std.proofs.Common.{◌++◌, ◌∙◌, sym}
+use Rattle.ddt_node.specs.Server.{in_buffer}
 use Rattle.ddt_wires.specs.Turns.{reply_to, on_to_etr}
 use Rattle.ddt_wires.specs.laws.Tell.{tells_both}
 use Rattle.ddt_wires.specs.laws.Turn.{tried_both, reply_is_first}
@@ -6,7 +7,7 @@ use Rattle.ddt_wires.proofs.serving.send_all.Goals as goal
 
 pub returns : goal.returns
 returns g c =
-    let h = c.args.handled.now in
+    let h = in_buffer c.args.reply.now c.args.sending.now in
     let one = c.send_reply-replied.ensures in
     let two = c.send_on.ensures in (
       one.0 ++ two.0,

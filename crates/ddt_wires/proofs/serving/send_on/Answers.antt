@@ -9,6 +9,6 @@ returns-in-Some g c =
     let bytes = c.as_slice.result.now in (
       Tried c.args.at c.in-Some.forward.to control_port bytes c.send-sent.result ∷ [],
       c.send-sent.ensures.told,
-      on_tried c.args.at c.args.handled.now.forward c.in-Some.forward bytes c.send-sent.result c.in-Some.is
+      on_tried c.args.at c.args.sending.now.forward c.in-Some.forward bytes c.send-sent.result c.in-Some.is
           c.as_slice.ensures,
     )

@@ -1,11 +1,11 @@
 use Rattle.std.proofs.Common.{◌≡◌, ℕ, ◌+◌, ◌-◌, ◌<◌, length, map, get_or, sym, ap, ◌∙◌, arith}
-use Rattle.std.proofs.lemmas.List.{get_or-map, length-map}
+use Rattle.std.proofs.lemmas.List.{length-map}
 use Rattle.ddt_path.specs.Covers.{is_same_path}
 use Rattle.ddt_register.specs.laws.RowOrder.{rising_from_rise}
 use Rattle.ddt_check.specs.declared.entries.Entry.{Entry}
 use Rattle.ddt_check.specs.Rules.{is_duplicate}
 use Rattle.ddt_check.specs.laws.Order.{duplicate-beside, duplicate-first}
-use Rattle.ddt_check.proofs.EntryLemmas.{inside_items}
+use Rattle.ddt_check.proofs.EntryLemmas.{inside_items, item_at_any}
 use Rattle.ddt_check.proofs.rules.duplicates.repeats.Goals as goal
 
 pub returns-then-at-eq0 : goal.returns-then-at-eq0
@@ -29,12 +29,13 @@ returns g c = λ all d rises moved.
     let at : c.args.at < length entries = c.requires.inside in
     let lt : c.args.at < length items = inside_items item entries c.args.at at in
     let up : c.args.at ≡ c.args.at - 1 + 1 = let ne = c.if-at-eq0.false in omega arith in
+    let x = c.index-entries-at.result in
     let y = c.index-entries-at-2.result in
-    c.has_same_key.ensures
-    ∙ ap (λ (z : _). is_same_path (key z) (key (item (get_or entries c.args.at y))))
-    (sym (get_or-map item entries (c.args.at - 1) c.index-entries-at.result d (omega arith)))
+    c.is_same.ensures
+    ∙ ap (λ (z : _). is_same_path (key z) (key (item y)))
+    (item_at_any item entries (c.args.at - 1) x d (omega arith) c.index-entries-at.is)
     ∙ ap (λ (z : _). is_same_path (key (get_or items (c.args.at - 1) d)) (key z))
-    (sym (get_or-map item entries c.args.at y d at))
+    (item_at_any item entries c.args.at y d at c.index-entries-at-2.is)
     ∙ ap (λ (k : ℕ). is_same_path (key (get_or items (c.args.at - 1) d)) (key (get_or items k d))) up
     ∙ duplicate-beside key row items c.requires.sorted all (rising_from_rise row all 0 rises) moved (c.args.at - 1) d
     (omega arith)

@@ -19,7 +19,7 @@ returns-then-after-eq0 c = λ r moved single leaves.
     let point = point_of_items entry_zone test entries c.partition_point-after.result c.partition_point-after.ensures.bound
     (IsPartitionPoint-from_clause (λ e. test (entry_zone e)) entries c.partition_point-after.result
     c.partition_point-after.ensures.partitioned (parted_entries entry_zone test entries (up_to_parted xs c.requires x))
-    (λ a r q k. search rules)) in
+    (λ a r q k. search (rules, c.of-site.ensures))) in
     outside_first xs c.requires x r moved c.partition_point-after.result point c.if-after-eq0.true
 
 pub returns : goal.returns
@@ -32,7 +32,7 @@ returns c = λ r moved single leaves.
     let point = point_of_items entry_zone test entries after c.partition_point-after.ensures.bound
     (IsPartitionPoint-from_clause (λ e. test (entry_zone e)) entries after
     c.partition_point-after.ensures.partitioned (parted_entries entry_zone test entries (up_to_parted xs c.requires x))
-    (λ a r q k. search rules)) in
+    (λ a r q k. search (rules, c.of-site.ensures))) in
     let most : after ≤ length entries = c.partition_point-after.ensures.bound in
     let ne = c.if-after-eq0.false in
     let w = c.index-zones-after.result in

@@ -34,7 +34,7 @@ module _ (me : Locator) (start : Running) where
       → HasRun me start (calls ++ polled me (Ok (Some p)) bytes ∷ tries) new.running
   handled_run allow now p bytes calls tries far w new run le (dropped why sort is none nothing stays) =
       rw (none, stays) (passed (polled me (Ok (Some p)) bytes) run tt)
-  handled_run allow now p bytes calls tries far w new run le (taken in takes) =
+  handled_run allow now p bytes calls tries far w new run le (taken entry takes) =
       took now most_bytes p bytes tries new.running run le takes.taken
 
   round_run : (allow : List (List ℕ)) (now : ℕ) (calls near far : List Call) (w new : Resolving) → HasRun me start calls w.running → now ≤ last_moment
@@ -69,7 +69,7 @@ IsSomeRequest (Some bytes) = (q : ItrRequest) × IsItrRequest bytes q
 took_request : (t : ℕ) (old new : List Kept) (off : Option (List ℕ)) → TakesKept t old new off → AreRequests old → AreRequests new × IsSomeRequest off
 took_request t old new off (nobody none is e) all = rw (is, e) (all, tt)
 took_request t old new off (somebody before after q bytes was is e) all =
-    let split = take_out IsKeptRequest before after (kept_of t q bytes) (subst AreRequests was all) in
+    let split = take_out IsKeptRequest before after (kept_of t q bytes) (subst (λ (l : List Kept). All IsKeptRequest l) was all) in
     rw (is, e) (split.1, (q, split.0))
 
 none_onward : (me : Locator) (far : List Call) → AreTried me [] far → All (IsOnward me) far
@@ -87,7 +87,7 @@ one_onward me by_ bytes q (Tried from to port b answer ∷ []) asks tried =
       bytes = bytes;
       answer = answer;
       asks = asks;
-      is = rw (tried.0.0, tried.0.2.0, tried.0.2.1) refl;
+      is = rw (tried.0.0, tried.0.2, tried.0.3) refl;
     } in
     All-cons (IsOnward me) (Tried from to port b answer) [] it (All-nil (IsOnward me))
 
@@ -103,9 +103,9 @@ followed : (me : Locator) (bytes : List ℕ) (old : List Kept) (c : Came) (far :
 followed me bytes old c far new same all = (all, All-nil (IsOnward me))
 followed me bytes old c far new (waits t len q asks) all = (All-push IsKeptRequest old (kept_of t q bytes) all asks, All-nil (IsOnward me))
 followed me bytes old c far new (lost t len) all = (all, All-nil (IsOnward me))
-followed me bytes old c far new (ends by_ e off onwards left takes tried) all =
+followed me bytes old c far new (ends server e off onwards left takes tried) all =
     let off_is = took_request e.ticket old left off takes all in
-    (off_is.0, tried_onward me by_ e.end off onwards off_is.1 tried)
+    (off_is.0, tried_onward me server e.end off onwards off_is.1 tried)
 
 after_tick : (ended : Option End) (old new : List Kept) → FollowsTick ended old new → AreRequests old → AreRequests new
 after_tick None old new is all = rw is all
@@ -114,7 +114,7 @@ after_tick (Some e) old new takes all = (took_request e.ticket old new takes.0 t
 handled_onward : (me : Locator) (allow : List (List ℕ)) (now : ℕ) (p : Packet) (bytes : List ℕ) (w new : Resolving) (tries far : List Call) → IsHandled allow me now p bytes w tries far new → AreRequests w.kept
     → AreRequests new.kept × All (IsOnward me) far
 handled_onward me allow now p bytes w new tries far (dropped why sort is none nothing stays) all = rw (nothing, stays) (all, All-nil (IsOnward me))
-handled_onward me allow now p bytes w new tries far (taken in takes) all = followed me bytes w.kept takes.came far new.kept takes.follows all
+handled_onward me allow now p bytes w new tries far (taken entry takes) all = followed me bytes w.kept takes.came far new.kept takes.follows all
 
 round_onward : (me : Locator) (allow : List (List ℕ)) (now : ℕ) (w new : Resolving) (near far : List Call) → IsRound allow me now w near far new → AreRequests w.kept
     → AreRequests new.kept × All (IsOnward me) far

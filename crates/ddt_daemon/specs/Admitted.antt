@@ -24,13 +24,17 @@ pub record IsAdmitted (allow : List (List ℕ)) (kept : List Kept) (from : Locat
   pub unlike : waits_for kept request ≡ false
   pub room : length kept < most_pending
 
+-- it may come from there, and it is short enough to be kept
+abbrev pub IsAllowed : List (List ℕ) → Locator → List ℕ → Type 0
+IsAllowed allow from bytes = (is_allowed allow from ≡ true) × (length bytes ≤ most_kept_bytes)
+
 -- It is dropped, by the first of these reasons.
-pub data IsDropped (allow : List (List ℕ)) (kept : List Kept) (from : Locator) (bytes : List ℕ) : Dropped → Type 0 where
-  denied : is_allowed allow from ≡ false → IsDropped allow kept from bytes Denied
-  too_long : is_allowed allow from ≡ true → most_kept_bytes < length bytes → IsDropped allow kept from bytes TooLong
-  no_request : is_allowed allow from ≡ true → length bytes ≤ most_kept_bytes
-      → ((q : ItrRequest) → IsItrRequest bytes q → ⊥) → IsDropped allow kept from bytes NoRequest
-  repeated : is_allowed allow from ≡ true → length bytes ≤ most_kept_bytes → (q : ItrRequest) → IsItrRequest bytes q
-      → waits_for kept q ≡ true → IsDropped allow kept from bytes Repeated
-  full : is_allowed allow from ≡ true → length bytes ≤ most_kept_bytes → (q : ItrRequest) → IsItrRequest bytes q
-      → waits_for kept q ≡ false → most_pending ≤ length kept → IsDropped allow kept from bytes Full
+abbrev pub IsDropped : List (List ℕ) → List Kept → Locator → List ℕ → Dropped → Type 0
+IsDropped allow kept from bytes Denied = is_allowed allow from ≡ false
+IsDropped allow kept from bytes TooLong = (is_allowed allow from ≡ true) × (most_kept_bytes < length bytes)
+IsDropped allow kept from bytes NoRequest = IsAllowed allow from bytes × ((q : ItrRequest) → IsItrRequest bytes q → ⊥)
+IsDropped allow kept from bytes Repeated =
+    IsAllowed allow from bytes × ((q : ItrRequest) × IsItrRequest bytes q × (waits_for kept q ≡ true))
+IsDropped allow kept from bytes Full =
+    IsAllowed allow from bytes × ((q : ItrRequest) × IsItrRequest bytes q × (waits_for kept q ≡ false))
+    × (most_pending ≤ length kept)

@@ -23,9 +23,9 @@ pub data Follows (me : Locator) (bytes : List ℕ) (old : List Kept) : Came → 
   waits : (t len : ℕ) (q : ItrRequest) → IsItrRequest bytes q
       → Follows me bytes old (Waits t len) [] (old ++ kept_of t q bytes ∷ [])
   lost : (t len : ℕ) → Follows me bytes old (Waits t len) [] old
-  ends : (by : Locator) (e : End) (taken : Option (List ℕ)) (far : List Call) (new : List Kept)
-      → TakesKept e.ticket old new taken → AreTried me (onward by e.end taken) far
-      → Follows me bytes old (Ended by e) far new
+  ends : (server : Locator) (e : End) (taken : Option (List ℕ)) (far : List Call) (new : List Kept)
+      → TakesKept e.ticket old new taken → AreTried me (onward server e.end taken) far
+      → Follows me bytes old (Ended server e) far new
 
 -- what waits for a lookup that has ended at a tick waits no longer
 abbrev pub FollowsTick : Option End → List Kept → List Kept → Type 0
@@ -36,7 +36,7 @@ FollowsTick (Some e) old new = (taken : Option (List ℕ)) × TakesKept e.ticket
 abbrev pub with_came : ResolverCounts → Came → ResolverCounts
 with_came c Nothing = c
 with_came c (Waits t len) = record c { lookups = plus c.lookups 1 }
-with_came c (Ended by_ e) = with_ended c e.end
+with_came c (Ended server e) = with_ended c e.end
 
 abbrev pub with_ticked : ResolverCounts → Option End → ResolverCounts
 with_ticked c None = c

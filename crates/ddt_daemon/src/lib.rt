@@ -22,4 +22,3 @@ pub use laws::a_map_resolver_runs;
 pub use resolving::MapResolver;
 pub use serving::serve_ready;
 pub use statistics::{ResolverStatistics, ServerStatistics, Times};
-pub use waiting::{Kept, Waiting};

@@ -4,6 +4,7 @@ use crate::polling::Poll;
 use ddt_daemon::ControlWord;
 use std::alloc::{AllocError, Global};
 use std::io::{ErrorKind, Read, Write};
+use std::os::unix::fs::FileTypeExt;
 use std::os::unix::net::{UnixListener, UnixStream};
 use std::{fs, io, str};
 
@@ -175,9 +176,10 @@ fn listen(rt: &HostRuntime, path: &str) -> io::Result<UnixListener> {
     Ok(listener)
 }
 
-/// Replaces a socket at which nobody listens.
+/// Replaces a socket at which nobody listens. Anything else that is there stays.
 fn listen_again(rt: &HostRuntime, path: &str) -> io::Result<UnixListener> {
-    if UnixStream::connect(rt, path).is_ok() {
+    let is_socket = fs::symlink_metadata(rt, path)?.file_type().is_socket();
+    if !is_socket || UnixStream::connect(rt, path).is_ok() {
         return Err(ErrorKind::AddrInUse.into());
     }
     fs::remove_file(rt, path)?;

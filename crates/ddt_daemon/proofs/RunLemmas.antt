@@ -1,5 +1,5 @@
 -- A Map-Resolver runs as a resolver, and only requests of ITRs go on.
-use Rattle.std.proofs.Common.{◌≡◌, ℕ, ◌≤◌, List, [], ◌∷◌, ◌++◌, Option, Some, None, Result, Ok, Err, refl, sym, ap, ◌∙◌, subst}
+use Rattle.std.proofs.Common.{ℕ, ◌≤◌, List, [], ◌∷◌, ◌++◌, Option, Some, None, Result, Ok, Err, refl, subst}
 use Rattle.std.specs.Prelude.{All}
 use Rattle.std.proofs.lemmas.List.Elements.{All-nil, All-cons, All-head, All-tail, All-push, All-append}
 use Rattle.ddt_path.specs.declared.locator.Locator.{Locator}
@@ -23,7 +23,7 @@ use Rattle.ddt_onward.specs.Onward.{onward, to_server}
 use Rattle.ddt_daemon.specs.declared.waiting.Kept.{Kept}
 use Rattle.ddt_daemon.specs.Kept.{kept_of, TakesKept, nobody, somebody}
 use Rattle.ddt_daemon.specs.Goes.{Follows, same, waits, lost, ends, FollowsTick}
-use Rattle.ddt_daemon.specs.Rounds.{Resolving, IsHandled, dropped, taken, IsRound, no_packet, failed, came, IsTick}
+use Rattle.ddt_daemon.specs.Rounds.{Resolving, IsHandled, dropped, taken, IsRound, no_packet, failed, came}
 use Rattle.ddt_daemon.specs.Runs.{HasServed, begins, round, tick, RunsAsAResolver, IsOnward, AreRequests, OnlyRequestsGoOn}
 
 -- ---- the near wires

@@ -1,5 +1,5 @@
 -- The requests of ITRs that wait for lookups.
-use Rattle.std.specs.Prelude.{ℕ, ◌≡◌, ◌≢◌, ◌==◌, ◌&&◌, Bool, List, [], ◌∷◌, ◌++◌, All, Option, Some, None}
+use Rattle.std.specs.Prelude.{ℕ, ◌≡◌, ◌≢◌, ◌==◌, ◌&&◌, Bool, List, ◌∷◌, ◌++◌, All, Option, Some, None}
 use Rattle.std.specs.List.{list_any}
 use Rattle.ddt_path.specs.declared.xeid.Xeid.{Xeid}
 use Rattle.ddt_path.specs.Locators.{is_same_locator}

@@ -8,7 +8,6 @@ use Rattle.ddt_cache.specs.Moment.{last_moment}
 use Rattle.ddt_ecm.specs.UdpHeader.{control_port}
 use Rattle.ddt_resolver.specs.declared.front.ItrRequest.{ItrRequest}
 use Rattle.ddt_resolver.specs.Front.{IsItrRequest}
-use Rattle.ddt_loop.specs.Acts.{Running}
 use Rattle.ddt_loop.specs.Runs.{HasRun}
 use Rattle.ddt_onward.specs.Onward.{with_d}
 use Rattle.ddt_daemon.specs.declared.waiting.Kept.{Kept}

@@ -1,5 +1,4 @@
 use Rattle.std.proofs.Common.{sym, ◌∙◌, arith}
-use Rattle.std.proofs.lemmas.Option.{none-some}
 use Rattle.ddt_daemon.proofs.admitting.admit.Goals as goal
 
 pub returns-in_default-clause-dropped : goal.returns-in_default-clause-dropped

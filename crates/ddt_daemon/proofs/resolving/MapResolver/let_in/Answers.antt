@@ -21,5 +21,5 @@ returns-in-Err g c = (
 
 pub returns-else-is_encapsulated : goal.returns-else-is_encapsulated
 returns-else-is_encapsulated g c =
-    let w = c.take.ensures in
+    let w = c.take-else-is_encapsulated.ensures in
     (w.0, w.1, w.2, w.3, taken (inl (sym c.is_encapsulated.ensures ∙ c.if-is_encapsulated.false)) w.4)

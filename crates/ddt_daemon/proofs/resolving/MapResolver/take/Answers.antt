@@ -1,5 +1,5 @@
 use Rattle.std.proofs.Common.{[], refl}
-use Rattle.ddt_loop.specs.declared.coming.Came.TheVariants.{Nothing, Waits, Ended}
+use Rattle.ddt_loop.specs.declared.coming.Came.TheVariants.{Nothing, Ended}
 use Rattle.ddt_wires.specs.laws.Tell.{tells_none}
 use Rattle.ddt_daemon.specs.Goes.{same, ends}
 use Rattle.ddt_daemon.proofs.FollowLemmas.{kept_or_lost}
@@ -34,14 +34,14 @@ returns-in-Waits g c =
         comes = c.take-came.ensures.came;
         follows = rw c.in-Waits.is (kept_or_lost c.args.me c.args.bytes.now c.args.self.now.waiting.kept.items c.keep.new.waiting.kept.items
             c.in-Waits.ticket _ c.keep.result c.keep.ensures.kept c.keep.ensures.lost);
-        counts = rw (c.in-Waits.is, c.one_more.ensures) refl;
+        counts = rw (c.in-Waits.is, c.one_more-self.ensures) refl;
       },
     )
 
 pub returns-in-Ended : goal.returns-in-Ended
 returns-in-Ended g c =
     let w = c.take-came.ensures.taken in
-    let on = c.send_on.ensures in (
+    let on = c.send_on-sent.ensures in (
       w.0,
       on.0,
       w.1,

@@ -10,20 +10,20 @@ returns-in-Some g c =
         ended = Some c.in-Some.ended;
         resolves = w.2;
         ends = rw c.in-Some.is at c.tick-ended.ensures.ended;
-        follows = (c.take-_request.result, c.take-_request.ensures);
+        follows = (c.take-request.result, c.take-request.ensures);
         counts = c.end_one.ensures;
       },
     )
 
-pub returns-in-None : goal.returns-in-None
-returns-in-None g c =
+pub returns-in_default : goal.returns-in_default
+returns-in_default g c =
     let w = c.tick-ended.ensures.resolves in (
       w.0,
       w.1,
       record {
         ended = None;
         resolves = w.2;
-        ends = rw c.in-None.is at c.tick-ended.ensures.ended;
+        ends = rw c.in_default.is at c.tick-ended.ensures.ended;
         follows = refl;
         counts = refl;
       },

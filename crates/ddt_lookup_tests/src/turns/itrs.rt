@@ -1,23 +1,19 @@
-//! A resolver that runs for ITRs, whose caller makes the turns: who waits, whose lookup ends, and what is sent.
+//! A resolver that runs for ITRs, whose caller makes the turns: who waits, and whose lookup ends at a tick.
 
 use crate::worlds::{ME, ROOT, moment, rooted};
 use ddt_cache::Entry;
-use ddt_ecm::CONTROL_PORT;
 use ddt_examples::bytes_of;
-use ddt_examples::messages::{DDT_REQUEST, HOLE_OF_EVERYTHING, ITR_REQUEST};
+use ddt_examples::messages::ITR_REQUEST;
 use ddt_loop::{Came, Ended, RunningResolver};
-use ddt_path::{Locator, Outcome};
+use ddt_path::Locator;
 use ddt_resolver::Why;
 use ddt_trie::ListMap;
-use ddt_wires::{Call, Packet, WiresInMemory};
+use ddt_wires::{Packet, WiresInMemory};
 use std::alloc::Global;
 use std::process::Abort;
 use std::test::Fail;
 
 type ListRunning = RunningResolver<ListMap<Entry>>;
-
-/// The server of the root.
-const SERVER: Locator = Locator::V4(0x7f00_0001);
 
 /// The ITR of the worked request, and the port that it asks from.
 const ITR: Locator = Locator::V4(0x7f00_003c);
@@ -56,76 +52,6 @@ fn waited_for(
         "{came:?}"
     );
     Ok(running)
-}
-
-/// The address and the port that a call tried to send to.
-fn receiver(call: Option<&Call>) -> Option<(Locator, u16)> {
-    match call {
-        Some(Call::Tried { to, port, .. }) => Some((*to, *port)),
-        _ => None,
-    }
-}
-
-/// The lookup of ticket 1 has ended in the hole of everything.
-fn is_hole(ended: &Ended) -> bool {
-    match &ended.end {
-        Ok(Outcome::Hole { prefix }) => ended.ticket == 1 && prefix.len() == 0,
-        _ => false,
-    }
-}
-
-#[test]
-fn an_itr_waits_until_a_server_ends_its_lookup(rt: HostRuntime) -> Result<(), Fail> {
-    let alloc = rt.alloc();
-    let mut wires = WiresInMemory::new(alloc, 0);
-    let mut running = waited_for(alloc, &rt, &mut wires)?;
-    let source = (SERVER, CONTROL_PORT);
-    let came = take(
-        alloc,
-        &mut running,
-        &mut wires,
-        10,
-        source,
-        HOLE_OF_EVERYTHING,
-    )?;
-    match &came {
-        Came::Ended { by, ended } => assert!(rt; *by == SERVER && is_hole(ended), "{came:?}"),
-        _ => return Err("not ended".into()),
-    }
-    let calls = wires.told().ok_or("no record")?;
-    assert_eq!(rt; receiver(calls.first()), Some((SERVER, CONTROL_PORT)));
-    assert_eq!(rt; receiver(calls.get(1)), Some((ITR, ITR_PORT)));
-    assert_eq!(rt; calls.len(), 2);
-    Ok(())
-}
-
-/// Messages from sources that do nothing for an ITR.
-const IDLE: &[(&str, (Locator, u16), &str)] = &[
-    (
-        "a reply from another port",
-        (SERVER, 4343),
-        HOLE_OF_EVERYTHING,
-    ),
-    (
-        "a reply of another server",
-        (ITR, CONTROL_PORT),
-        HOLE_OF_EVERYTHING,
-    ),
-    ("a request with the bit D", (ITR, ITR_PORT), DDT_REQUEST),
-    ("no message", (SERVER, CONTROL_PORT), "00"),
-];
-
-#[test]
-fn other_packets_change_nothing_for_an_itr(rt: HostRuntime) -> Result<(), Fail> {
-    let alloc = rt.alloc();
-    let mut wires = WiresInMemory::new(alloc, 0);
-    let mut running = waited_for(alloc, &rt, &mut wires)?;
-    for &(says, source, message) in IDLE {
-        let came = take(alloc, &mut running, &mut wires, 10, source, message)?;
-        assert!(rt; matches!(came, Came::Nothing), "{says}: {came:?}");
-    }
-    assert_eq!(rt; running.resolver().pending(), 1);
-    Ok(())
 }
 
 /// Moments, in milliseconds, and whether a tick then ends the lookup for want of a reply.

@@ -39,7 +39,8 @@ struct World {
     far: WiresInMemory,
 }
 
-fn world(alloc: Global) -> Result<World, Fail> {
+/// One that remembers nothing, and at which nothing waits.
+fn new_world(alloc: Global) -> Result<World, Fail> {
     let Ok(settings) = from_toml(alloc, SETTINGS) else {
         return Err("no settings".into());
     };
@@ -119,7 +120,7 @@ fn is_onward(alloc: Global, call: Option<&Call>) -> Result<bool, Fail> {
 #[test]
 fn a_registered_request_goes_on_once(rt: HostRuntime) -> Result<(), Fail> {
     let alloc = rt.alloc();
-    let mut world = world(alloc)?;
+    let mut world = new_world(alloc)?;
     world.take(alloc, ITR, ITR_PORT, ITR_REQUEST)?;
     assert_eq!(rt; world.resolver.waiting(), 1);
     assert_eq!(rt; tries(world.far.told()), 0);
@@ -137,7 +138,7 @@ fn a_registered_request_goes_on_once(rt: HostRuntime) -> Result<(), Fail> {
 #[test]
 fn a_hole_goes_back_and_not_on(rt: HostRuntime) -> Result<(), Fail> {
     let alloc = rt.alloc();
-    let mut world = world(alloc)?;
+    let mut world = new_world(alloc)?;
     world.take(alloc, ITR, ITR_PORT, ITR_REQUEST)?;
     world.take(alloc, SERVER, CONTROL_PORT, HOLE_OF_EVERYTHING)?;
     assert_eq!(rt; tries(world.far.told()), 0);
@@ -149,7 +150,7 @@ fn a_hole_goes_back_and_not_on(rt: HostRuntime) -> Result<(), Fail> {
 #[test]
 fn who_is_not_allowed_is_not_asked_for(rt: HostRuntime) -> Result<(), Fail> {
     let alloc = rt.alloc();
-    let mut world = world(alloc)?;
+    let mut world = new_world(alloc)?;
     world.take(alloc, SERVER, ITR_PORT, ITR_REQUEST)?;
     assert_eq!(rt; tries(world.near.told()), 0);
     assert_eq!(rt; world.resolver.counts().denied, 1);
@@ -159,7 +160,7 @@ fn who_is_not_allowed_is_not_asked_for(rt: HostRuntime) -> Result<(), Fail> {
 #[test]
 fn a_repeat_waits_once(rt: HostRuntime) -> Result<(), Fail> {
     let alloc = rt.alloc();
-    let mut world = world(alloc)?;
+    let mut world = new_world(alloc)?;
     world.take(alloc, ITR, ITR_PORT, ITR_REQUEST)?;
     world.take(alloc, ITR, ITR_PORT, ITR_REQUEST)?;
     assert_eq!(rt; world.resolver.waiting(), 1);

@@ -1,2 +1,1 @@
 pub mod AgainLemmas
-pub mod NumberLemmas

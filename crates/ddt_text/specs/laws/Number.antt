@@ -60,34 +60,3 @@ number_in-complete most n small le =
     let (numeral, value) = decimal_is_IsNumeral n fits in
     let test = is_number-made (decimal n) (own.from (decimal n) numeral.1) numeral.0 (alone_zero n fits) in
     rw (test, value, le-leb n most le)
-
--- what std's parser of numbers tells
-pub number_is_utf8 : (text : List ℕ) → true ≡ is_number text → IsUtf8 text
-number_is_utf8 text e = IsUtf8-from_ascii text (IsAscii-from_digits text (own.to text (is_number-sound text (sym e)).0))
-
-first_is_digit : (text : List ℕ) → is_number text ≡ true → get_or text 0 0 ≢ 43
-first_is_digit [] e = cc
-first_is_digit (d ∷ ds) e =
-    let k = digit_from_value d (own.to (d ∷ ds) (is_number-sound (d ∷ ds) e).0).0 in
-    omega arith
-
-pub parse_fails : (most : ℕ) (text ds : List ℕ) → most < 2 ^ 64 → true ≡ is_number text → ds ≡ text → ¬ (IsNumeral 10 (without_leading_plus ds) × (digits_value 10 (without_leading_plus ds) < 2 ^ 64)) → None ≡ number_in most text
-parse_fails most text ds small test is failed =
-    let plain : without_leading_plus ds ≡ text = ap without_leading_plus is ∙ without_leading_plus_none text (first_is_digit text (sym test)) in
-    let (digits, some, alone) = is_number-sound text (sym test) in
-    elim (cases_lt most (digits_value 10 text)) [
-      | inl large ↦ rw (← test, lt-leb (digits_value 10 text) most large)
-      | inr fits ↦ absurd (failed (rw plain ((some, own.to text digits), omega arith)))
-    ]
-
-pub no_text : {E : Type 0} (text : List ℕ) (r : Result (Bor (List ℕ)) E) (P : Bor (List ℕ) → Type 0) (Q : E → Type 0) → IsUtf8 text → MatchResult r P (λ e. ¬ (IsUtf8 text) × Q e) → None ≡ result_ok r → ⊥
-no_text text (Ok s) P Q utf8 h e = none-some s e
-no_text text (Err f) P Q utf8 h e = h.0 utf8
-
-pub no_parse : {E : Type 0} (r : Result ℕ E) (P : Type 0) (n : ℕ) → OkIff r P n → None ≡ result_ok r → ¬ P
-no_parse (Ok m) P n h e = absurd (none-some m e)
-no_parse (Err f) P n h e = h
-
-pub some_text : {E : Type 0} (r : Result (Bor (List ℕ)) E) (P : Bor (List ℕ) → Type 0) (Q : E → Type 0) (s : Bor (List ℕ)) → MatchResult r P Q → Some s ≡ result_ok r → P s
-some_text (Ok t) P Q s h e = subst P (sym (same_Some s t e)) h
-some_text (Err f) P Q s h e = absurd (none-some s (sym e))

@@ -9,13 +9,14 @@
 # The programs that are released. One more takes its name here, its words in run_words, a copy of ./ddt under its name,
 # a page in man/, and .ci/release once it is built.
 # shellcheck disable=SC2034
-programs=(ddt ddtplan)
+programs=(ddt ddtplan ddtd)
 
 # run_words NAME: the words of a run that ends with status 0, in the crate's folder: rt builds a program by running it.
 run_words() {
     case $1 in
         ddt) echo check data/campus.csv ;;
         ddtplan) echo blocks data/campus.csv ;;
+        ddtd) echo check data/root.toml ;;
     esac
 }
 

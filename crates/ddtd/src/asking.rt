@@ -1,0 +1,167 @@
+//! What the program is asked, and the words that ask it.
+
+use clap::{Arg, ArgAction, ArgMatches, Command, Error};
+use ddt_daemon::ControlWord;
+use std::alloc::{AllocError, Global};
+
+/// What `serve` is asked.
+#[derive(Debug, Drop)]
+pub struct ServeAsked<'a> {
+    /// The path of the configuration.
+    pub config: &'a str,
+    /// Where it is to serve; none where it is to serve at all locators of the configuration that are this machine's.
+    pub addresses: Vec<&'a str>,
+    /// The path of the control socket.
+    pub control: Option<&'a str>,
+    /// Whether the file is watched.
+    pub is_watched: bool,
+}
+
+/// What `resolve` is asked.
+#[derive(Clone, Copy, Debug)]
+pub struct ResolveAsked<'a> {
+    /// The path of the settings.
+    pub settings: &'a str,
+    /// The path of the control socket.
+    pub control: Option<&'a str>,
+}
+
+/// A command, and what it is asked.
+#[derive(Debug, Drop)]
+pub enum Asked<'a> {
+    Check { config: &'a str },
+    Serve(ServeAsked<'a>),
+    Resolve(ResolveAsked<'a>),
+    Tell { socket: &'a str, word: ControlWord },
+}
+
+/// The words that a daemon is told.
+const WORDS: [&str; 4] = ["stats", "reload", "flush", "stop"];
+
+const HELP: &str = "ddtd(8) says what each command reads, logs and counts.";
+
+const SERVE_HELP: &str = "Examples:
+  ddtd serve node.toml                          at all locators of the file that are this machine's
+  ddtd serve node.toml 192.0.2.3 --control /run/ddtd/serve.sock
+
+Status: 0 if it was told to stop, 2 if it refuses.";
+
+const RESOLVE_HELP: &str = "The settings:
+  roots = [\"192.0.2.3\", \"2001:db8::3\"]          the root's servers, 1 to 8
+  listen = [\"192.0.2.2\"]                        where ITRs ask, at UDP port 4342
+  allow = [\"192.0.2.0/24\", \"2001:db8::/32\"]     which ITRs may ask; by default none
+
+Status: 0 if it was told to stop, 2 if it refuses.";
+
+/// What the words ask, of which the first is the program's name. A request for help or for the version is an error that
+/// shows it, as clap does.
+pub fn read_asked<'a>(alloc: Global, words: &'a [String]) -> Result<Asked<'a>, Error> {
+    let mut matches = command_line(alloc)?.try_get_matches_from(words)?;
+    match matches.remove_subcommand() {
+        Some(("serve", matches)) => Ok(Asked::Serve(serve_asked(alloc, &matches)?)),
+        Some(("resolve", matches)) => Ok(Asked::Resolve(ResolveAsked {
+            settings: matches.get_str("settings").unwrap_or(""),
+            control: matches.get_str("control"),
+        })),
+        Some(("tell", matches)) => Ok(Asked::Tell {
+            socket: matches.get_str("socket").unwrap_or(""),
+            word: word_asked(&matches),
+        }),
+        Some((_, matches)) => Ok(Asked::Check {
+            config: matches.get_str("config").unwrap_or(""),
+        }),
+        // The command line requires one of its commands.
+        None => Ok(Asked::Check { config: "" }),
+    }
+}
+
+fn serve_asked<'a>(alloc: Global, matches: &ArgMatches<'a>) -> Result<ServeAsked<'a>, AllocError> {
+    let addresses = match matches.get_raw("address") {
+        Some(addresses) => Vec::from_slice(alloc, addresses)?,
+        None => Vec::new(alloc),
+    };
+    Ok(ServeAsked {
+        config: matches.get_str("config").unwrap_or(""),
+        addresses,
+        control: matches.get_str("control"),
+        is_watched: matches.get_flag("watch"),
+    })
+}
+
+fn word_asked(matches: &ArgMatches<'_>) -> ControlWord {
+    let word = matches.get_str("word").unwrap_or("");
+    ControlWord::of(word).unwrap_or(ControlWord::Stats)
+}
+
+/// The program's command line.
+fn command_line<'a>(alloc: Global) -> Result<Command<'a>, AllocError> {
+    Command::new(alloc, "ddtd")
+        .version("1.0.0")
+        .about("A LISP-DDT node, Map-Server or Map-Resolver that runs until it is stopped.")
+        .after_help(HELP)
+        .subcommand_required(true)
+        .subcommand(check_command(alloc)?)?
+        .subcommand(serve_command(alloc)?)?
+        .subcommand(resolve_command(alloc)?)?
+        .subcommand(tell_command(alloc)?)
+}
+
+fn check_command<'a>(alloc: Global) -> Result<Command<'a>, AllocError> {
+    Command::new(alloc, "check")
+        .about("Say whether a configuration, or the settings of a resolver, are good.")
+        .arg(path(alloc, "config").help("The configuration or the settings, a TOML file"))
+}
+
+fn serve_command<'a>(alloc: Global) -> Result<Command<'a>, AllocError> {
+    Command::new(alloc, "serve")
+        .after_help(SERVE_HELP)
+        .about("Serve a configuration as a DDT node or a Map-Server.")
+        .arg(path(alloc, "config").help("The configuration, a TOML file"))?
+        .arg(
+            Arg::new(alloc, "address")
+                .action(ArgAction::Append)
+                .help("Where it serves, each a locator of the configuration"),
+        )?
+        .arg(control(alloc))?
+        .arg(
+            Arg::new(alloc, "watch")
+                .long("watch")
+                .action(ArgAction::SetTrue)
+                .help("Take the file up whenever it has changed"),
+        )
+}
+
+fn resolve_command<'a>(alloc: Global) -> Result<Command<'a>, AllocError> {
+    Command::new(alloc, "resolve")
+        .after_help(RESOLVE_HELP)
+        .about("Resolve for ITRs as a Map-Resolver.")
+        .arg(path(alloc, "settings").help("The settings, a TOML file"))?
+        .arg(control(alloc))
+}
+
+fn tell_command<'a>(alloc: Global) -> Result<Command<'a>, AllocError> {
+    Command::new(alloc, "tell")
+        .about("Tell a running daemon what to do, and print what it answers.")
+        .arg(path(alloc, "socket").help("The daemon's control socket"))?
+        .arg(
+            Arg::new(alloc, "word")
+                .required(true)
+                .action(ArgAction::Set)
+                .value_parser(WORDS.as_slice())
+                .help("What it is to do"),
+        )
+}
+
+/// The path of the control socket.
+fn control<'a>(alloc: Global) -> Arg<'a> {
+    Arg::new(alloc, "control")
+        .long("control")
+        .value_name("SOCKET")
+        .action(ArgAction::Set)
+        .help("Listen at this Unix socket for what it is told")
+}
+
+/// A path that must be given.
+fn path<'a>(alloc: Global, name: &'a str) -> Arg<'a> {
+    Arg::new(alloc, name).required(true).action(ArgAction::Set)
+}

@@ -1,0 +1,192 @@
+//! The control socket: who comes there says one line, gets one answer, and is let go.
+
+use crate::polling::Poll;
+use ddt_daemon::ControlWord;
+use std::alloc::{AllocError, Global};
+use std::io::{ErrorKind, Read, Write};
+use std::os::unix::fs::FileTypeExt;
+use std::os::unix::net::{UnixListener, UnixStream};
+use std::{fs, io, str};
+
+/// How many may be there at once. Where one more comes, who has been there longest is let go.
+const MOST_CLIENTS: usize = 8;
+
+/// A line has at most so many bytes.
+const MOST_LINE: usize = 16;
+
+/// Somebody who has come, and what was said so far.
+#[derive(Drop)]
+struct Client {
+    stream: UnixStream,
+    line: [u8; MOST_LINE],
+    len: usize,
+}
+
+/// What a client has said.
+#[derive(Clone, Copy)]
+enum Said {
+    /// Not a whole line yet.
+    Part,
+    /// A line.
+    Line,
+    /// Nothing that is a line: the client is let go.
+    End,
+}
+
+impl Client {
+    /// Reads what is there.
+    fn read(&mut self) -> Said {
+        match self.stream.read(&mut self.line[self.len.min(MOST_LINE)..]) {
+            Ok(0) => Said::End,
+            Ok(count) => {
+                self.len = (self.len.saturating_add(count)).min(MOST_LINE);
+                self.said()
+            }
+            Err(error) if error.kind() == ErrorKind::WouldBlock => Said::Part,
+            Err(_) => Said::End,
+        }
+    }
+
+    fn said(&self) -> Said {
+        match self.line[..self.len.min(MOST_LINE)]
+            .iter()
+            .position(|b| *b == b'\n')
+        {
+            Some(_) => Said::Line,
+            None if self.len == MOST_LINE => Said::End,
+            None => Said::Part,
+        }
+    }
+
+    /// The word of the line.
+    fn word(&self) -> Option<ControlWord> {
+        let end = self.line[..self.len.min(MOST_LINE)]
+            .iter()
+            .position(|b| *b == b'\n')?;
+        ControlWord::of(str::from_utf8(&self.line[..end]).ok()?)
+    }
+}
+
+/// Somebody who is owed an answer, and what was asked for, if it was a word.
+#[derive(Drop)]
+pub struct Told {
+    stream: UnixStream,
+    pub word: Option<ControlWord>,
+}
+
+impl Told {
+    /// Gives the answer. One that there is no room or no memory for is lost.
+    pub fn answer(&mut self, text: Result<String, AllocError>) {
+        if let Ok(text) = text {
+            let _written = self.stream.write_all(text.as_bytes());
+        }
+    }
+}
+
+/// The control socket, or none.
+#[derive(Drop)]
+pub struct Control {
+    listener: Option<UnixListener>,
+    clients: Vec<Client>,
+}
+
+impl Control {
+    /// The control socket at a path. One that a daemon has left there, at which nobody listens, is replaced. Refused as
+    /// the system refuses it.
+    pub fn open(rt: &HostRuntime, path: Option<&str>) -> io::Result<Control> {
+        let listener = match path {
+            Some(path) => Some(listen(rt, path)?),
+            None => None,
+        };
+        Ok(Control {
+            listener,
+            clients: Vec::new(rt.alloc()),
+        })
+    }
+
+    /// Has all that may come there waited for: first those who are there, then who comes.
+    pub fn add_to(&self, poll: &mut Poll) {
+        for client in self.clients.as_slice() {
+            poll.add(&client.stream);
+        }
+        if let Some(listener) = &self.listener {
+            poll.add(listener);
+        }
+    }
+
+    /// Takes what came at the places from `first` on: the first who has said a line.
+    pub fn take(&mut self, poll: &Poll, first: usize) -> Option<Told> {
+        let clients = self.clients.len();
+        for place in 0..clients {
+            if poll.is_ready(first.saturating_add(place)) {
+                return self.read(place);
+            }
+        }
+        if poll.is_ready(first.saturating_add(clients)) {
+            self.accept();
+        }
+        None
+    }
+
+    /// Reads what the client at a place says.
+    fn read(&mut self, place: usize) -> Option<Told> {
+        if place >= self.clients.len() {
+            return None;
+        }
+        match self.clients[place].read() {
+            Said::Part => None,
+            Said::End => {
+                let _client = self.clients.remove(place);
+                None
+            }
+            Said::Line => {
+                let client = self.clients.remove(place);
+                let word = client.word();
+                Some(Told {
+                    stream: client.stream,
+                    word,
+                })
+            }
+        }
+    }
+
+    /// Lets somebody in.
+    fn accept(&mut self) {
+        let Some(listener) = &self.listener else {
+            return;
+        };
+        let Ok((stream, _address)) = listener.accept() else {
+            return;
+        };
+        if stream.set_nonblocking(true).is_err() {
+            return;
+        }
+        if self.clients.len() >= MOST_CLIENTS {
+            let _longest = self.clients.remove(0);
+        }
+        let _added = self.clients.push(Client {
+            stream,
+            line: [0; MOST_LINE],
+            len: 0,
+        });
+    }
+}
+
+fn listen(rt: &HostRuntime, path: &str) -> io::Result<UnixListener> {
+    let listener = match UnixListener::bind(rt, path) {
+        Err(error) if error.kind() == ErrorKind::AddrInUse => listen_again(rt, path)?,
+        bound => bound?,
+    };
+    listener.set_nonblocking(true)?;
+    Ok(listener)
+}
+
+/// Replaces a socket at which nobody listens. Anything else that is there stays.
+fn listen_again(rt: &HostRuntime, path: &str) -> io::Result<UnixListener> {
+    let is_socket = fs::symlink_metadata(rt, path)?.file_type().is_socket();
+    if !is_socket || UnixStream::connect(rt, path).is_ok() {
+        return Err(ErrorKind::AddrInUse.into());
+    }
+    fs::remove_file(rt, path)?;
+    UnixListener::bind(rt, path)
+}

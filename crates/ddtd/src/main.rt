@@ -1,0 +1,60 @@
+//! The daemon: a DDT node or a Map-Server, or a Map-Resolver, that runs until it is stopped, over the files, the sockets,
+//! the clock and the streams of a process. Its rounds are those of `ddt_daemon`.
+#![tactic(auto)]
+
+mod asking;
+mod checking;
+mod configuration;
+mod control;
+mod end;
+mod log;
+mod polling;
+mod resolving;
+mod serving;
+mod sockets;
+mod telling;
+mod times;
+mod watching;
+
+use asking::{Asked, read_asked};
+use end::End;
+use log::Log;
+use std::io::ErrorKind;
+use std::process::ExitCode;
+use std::{env, io};
+
+fn main(rt: HostRuntime) -> ExitCode {
+    let mut log = Log::new();
+    ExitCode::from(run_words(&rt, &mut log).number())
+}
+
+/// Runs the command that the words of the process ask for.
+fn run_words(rt: &HostRuntime, log: &mut Log) -> End {
+    let words = match words_of(rt) {
+        Ok(words) => words,
+        Err(error) if error.kind() == ErrorKind::OutOfMemory => {
+            log.refuse(rt, "out of memory");
+            return End::Refused;
+        }
+        Err(_) => {
+            log.refuse(rt, "a word is no text");
+            return End::Refused;
+        }
+    };
+    match read_asked(rt.alloc(), &words) {
+        Ok(Asked::Check { config }) => checking::check(rt, config),
+        Ok(Asked::Serve(asked)) => serving::serve(rt, &asked, log),
+        Ok(Asked::Resolve(asked)) => resolving::resolve(rt, &asked, log),
+        Ok(Asked::Tell { socket, word }) => telling::tell(rt, socket, word, log),
+        // Help and the version are no mistakes, if they could be printed.
+        Err(error) => match error.print(rt) {
+            Ok(()) if !error.use_stderr() => End::Answered,
+            _ => End::Refused,
+        },
+    }
+}
+
+/// The words that the process was started with, the program's name first.
+fn words_of(rt: &HostRuntime) -> io::Result<Vec<String>> {
+    Ok(env::args(rt)?.collect(rt.alloc())?)
+}

@@ -1,0 +1,53 @@
+//! What is waited for, all at once.
+
+use libc::net::{POLLIN, poll};
+use libc::types::pollfd;
+use std::alloc::Global;
+use std::os::fd::AsRawFd;
+
+/// The descriptors that are waited for, each known by its place.
+#[derive(Drop)]
+pub struct Poll {
+    asked: Vec<pollfd>,
+}
+
+impl Poll {
+    /// Nothing is waited for.
+    pub fn new(alloc: Global) -> Poll {
+        Poll {
+            asked: Vec::new(alloc),
+        }
+    }
+
+    /// Waits for nothing any more. It keeps its memory.
+    pub fn clear(&mut self) {
+        self.asked.clear();
+    }
+
+    /// How many are waited for.
+    pub fn len(&self) -> usize {
+        self.asked.len()
+    }
+
+    /// Waits for this one too. It is left out if out of memory.
+    pub fn add<F: AsRawFd>(&mut self, source: &F) {
+        let _added = self.asked.push(pollfd {
+            fd: source.as_raw_fd(),
+            events: POLLIN,
+            revents: 0,
+        });
+    }
+
+    /// Waits until something is there, at most so many milliseconds; whether the system did so.
+    pub fn wait(&mut self, millis: i32) -> bool {
+        poll(self.asked.as_mut_slice(), millis) >= 0
+    }
+
+    /// Whether something is at a place.
+    pub fn is_ready(&self, place: usize) -> bool {
+        match self.asked.as_slice().get(place) {
+            Some(asked) => asked.revents != 0,
+            None => false,
+        }
+    }
+}

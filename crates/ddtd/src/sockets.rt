@@ -1,0 +1,281 @@
+//! The UDP sockets of a daemon, and the wires over them. None waits: what isn't there is waited for by a poll of all.
+
+ghost use Rattle.std.specs.Prelude.{◌≤◌, length, IfOk, IfSome};
+
+use crate::polling::Poll;
+use ddt_ecm::CONTROL_PORT;
+use ddt_path::Locator;
+use ddt_wire::ENCAPSULATED;
+use ddt_wires::{NetFault, Packet, Wires, ip_of, locator_of};
+use std::alloc::Global;
+use std::io;
+use std::io::ErrorKind;
+use std::net::{Net, SocketAddr, UdpSocket};
+
+/// A socket and the address that it is bound to.
+#[derive(Drop)]
+struct Bound {
+    at: Locator,
+    socket: UdpSocket,
+}
+
+impl Bound {
+    fn bind<N: Net>(net: &N, at: Locator, port: u16) -> io::Result<Bound> {
+        let socket = UdpSocket::bind(net, SocketAddr::new(ip_of(at), port))?;
+        socket.set_nonblocking(true)?;
+        Ok(Bound { at, socket })
+    }
+
+    /// A datagram that is there.
+    fn receive(&self, buffer: &mut [u8]) -> Result<Option<Packet>, NetFault>
+        ensures fits { IfOk result (λ answer. IfSome answer (λ packet. packet.len ≤ length buffer.new)) }
+    {
+        match self.socket.recv_from(buffer) {
+            Ok((len, source)) if len < buffer.len() => Ok(Some(Packet {
+                from: locator_of(source.ip()),
+                port: source.port(),
+                len,
+            })),
+            Err(error) if error.kind() == ErrorKind::WouldBlock => Ok(None),
+            Ok(_) | Err(_) => Err(NetFault::Receive),
+        }
+    }
+
+    fn send(&self, to: Locator, port: u16, bytes: &[u8]) -> Result<(), NetFault> {
+        match self.socket.send_to(bytes, SocketAddr::new(ip_of(to), port)) {
+            Ok(len) if len == bytes.len() => Ok(()),
+            Ok(_) | Err(_) => Err(NetFault::Send),
+        }
+    }
+}
+
+/// Sockets, each at an address of its own.
+#[derive(Drop)]
+pub struct Sockets {
+    bound: Vec<Bound>,
+    port: u16,
+    /// The place that was looked at last.
+    last: usize,
+}
+
+impl Sockets {
+    /// No socket yet. Those that are bound get this port, or with 0 one of the system's choice.
+    pub fn new(alloc: Global, port: u16) -> Sockets {
+        Sockets {
+            bound: Vec::new(alloc),
+            port,
+            last: 0,
+        }
+    }
+
+    /// Binds a socket to an address, if it has none. Refused as the system refuses it, or if out of memory.
+    pub fn bind<N: Net>(&mut self, net: &N, at: Locator) -> io::Result<()> {
+        if self.socket_at(at).is_none() {
+            self.bound.push(Bound::bind(net, at, self.port)?)?;
+        }
+        Ok(())
+    }
+
+    /// Closes each socket whose address isn't one of these.
+    pub fn keep(&mut self, addresses: &[Locator]) {
+        self.bound.retain(|bound| addresses.contains(&bound.at));
+    }
+
+    /// How many sockets there are.
+    pub fn len(&self) -> usize {
+        self.bound.len()
+    }
+
+    /// The address of the socket at a place.
+    pub fn at(&self, place: usize) -> Option<Locator> {
+        Some(self.bound.as_slice().get(place)?.at)
+    }
+
+    /// Has all sockets waited for, in their order.
+    pub fn add_to(&self, poll: &mut Poll) {
+        for bound in self.bound.as_slice() {
+            poll.add(&bound.socket);
+        }
+    }
+
+    fn socket_at(&self, at: Locator) -> Option<&Bound> {
+        self.bound.as_slice().iter().find(|b| b.at == at)
+    }
+
+    /// A datagram that is at the socket of an address.
+    fn receive_at(&self, at: Locator, buffer: &mut [u8]) -> Result<Option<Packet>, NetFault>
+        ensures fits { IfOk result (λ answer. IfSome answer (λ packet. packet.len ≤ length buffer.new)) }
+    {
+        match self.socket_at(at) {
+            Some(bound) => bound.receive(buffer),
+            None => Err(NetFault::Receive),
+        }
+    }
+
+    /// A datagram that is at one of the sockets. They take turns.
+    fn receive_any(&mut self, buffer: &mut [u8]) -> Result<Option<Packet>, NetFault>
+        ensures fits { IfOk result (λ answer. IfSome answer (λ packet. packet.len ≤ length buffer.new)) }
+    {
+        for _place in 0..self.bound.len() {
+            match self.receive_next(buffer) {
+                Ok(None) => {}
+                answer => return answer,
+            }
+        }
+        Ok(None)
+    }
+
+    /// A datagram that is at the socket behind the one that was looked at last.
+    fn receive_next(&mut self, buffer: &mut [u8]) -> Result<Option<Packet>, NetFault>
+        ensures fits { IfOk result (λ answer. IfSome answer (λ packet. packet.len ≤ length buffer.new)) }
+    {
+        let next = self.last.saturating_add(1);
+        self.last = if next < self.bound.len() { next } else { 0 };
+        match self.bound.as_slice().get(self.last) {
+            Some(bound) => bound.receive(buffer),
+            None => Ok(None),
+        }
+    }
+
+    /// Sends a datagram from the socket of an address, or, to another family, from the first socket of that.
+    fn send_from(&self, at: Locator, to: Locator, port: u16, bytes: &[u8]) -> Result<(), NetFault> {
+        if at.width() != to.width() {
+            return self.send_any(to, port, bytes);
+        }
+        match self.socket_at(at) {
+            Some(bound) => bound.send(to, port, bytes),
+            None => Err(NetFault::Send),
+        }
+    }
+
+    /// Sends a datagram from the first socket of its family.
+    fn send_any(&self, to: Locator, port: u16, bytes: &[u8]) -> Result<(), NetFault> {
+        let mut sockets = self.bound.as_slice().iter();
+        match sockets.find(|bound| bound.at.width() == to.width()) {
+            Some(bound) => bound.send(to, port, bytes),
+            None => Err(NetFault::Send),
+        }
+    }
+}
+
+/// How many datagrams are dropped at once.
+const MOST_DRAINED: u32 = 64;
+
+/// The wires of a server: each socket stands for the locator that it is bound to. What a server at an IPv4 socket sends
+/// to an ETR over IPv6, or the other way round, goes out of the first socket of the other family.
+#[derive(Drop)]
+pub struct ServerWires {
+    pub sockets: Sockets,
+}
+
+impl Wires for ServerWires {
+    fn receive(&mut self, at: Locator, buffer: &mut [u8]) -> Result<Option<Packet>, NetFault> {
+        self.sockets.receive_at(at, buffer)
+    }
+
+    fn send(&mut self, at: Locator, to: Locator, port: u16, bytes: &[u8]) -> Result<(), NetFault> {
+        self.sockets.send_from(at, to, port, bytes)
+    }
+}
+
+/// The near wires of a resolver, which all stand for its one address. Only Encapsulated Control Messages come in where
+/// it listens, and only other messages where it asks: there each socket has a port of the system's choice, which a
+/// forger of replies has to guess. Its own requests go out there, and its replies to ITRs where it listens, each from
+/// the socket of its family.
+#[derive(Drop)]
+pub struct ResolverWires {
+    /// Where ITRs ask, at port 4342.
+    pub listening: Sockets,
+    /// Where it asks servers.
+    pub asking: Sockets,
+    /// Whether it is looked first at where it listens.
+    listens_first: bool,
+    /// How many datagrams were dropped since they weren't of the sort that may come in there.
+    pub strays: u64,
+}
+
+impl ResolverWires {
+    /// Wires with no socket.
+    pub fn new(alloc: Global) -> ResolverWires {
+        ResolverWires {
+            listening: Sockets::new(alloc, CONTROL_PORT),
+            asking: Sockets::new(alloc, 0),
+            listens_first: false,
+            strays: 0,
+        }
+    }
+}
+
+/// Whether the first four bits are those of an Encapsulated Control Message.
+fn is_encapsulated(bytes: &[u8]) -> bool {
+    match bytes {
+        [first, ..] => *first / 16 == ENCAPSULATED,
+        [] => false,
+    }
+}
+
+impl ResolverWires {
+    /// A datagram that is at one of the sockets where it listens, or where it asks.
+    fn receive_at(&mut self, listens: bool, buffer: &mut [u8]) -> Result<Option<Packet>, NetFault>
+        ensures fits { IfOk result (λ answer. IfSome answer (λ packet. packet.len ≤ length buffer.new)) }
+    {
+        let answer = if listens {
+            self.listening.receive_any(buffer)
+        } else {
+            self.asking.receive_any(buffer)
+        };
+        match answer {
+            Ok(Some(packet)) if is_encapsulated(&buffer[..packet.len]) != listens => {
+                self.strays = self.strays.saturating_add(1);
+                Err(NetFault::Receive)
+            }
+            answer => answer,
+        }
+    }
+}
+
+impl Wires for ResolverWires {
+    fn receive(&mut self, _at: Locator, buffer: &mut [u8]) -> Result<Option<Packet>, NetFault> {
+        self.listens_first = !self.listens_first;
+        let first = self.listens_first;
+        match self.receive_at(first, buffer) {
+            Ok(None) => self.receive_at(!first, buffer),
+            answer => answer,
+        }
+    }
+
+    fn send(&mut self, _at: Locator, to: Locator, port: u16, bytes: &[u8]) -> Result<(), NetFault> {
+        if is_encapsulated(bytes) {
+            self.asking.send_any(to, port, bytes)
+        } else {
+            self.listening.send_any(to, port, bytes)
+        }
+    }
+}
+
+/// The far wires of a resolver, by which requests of ITRs go on. What comes in there is dropped.
+#[derive(Drop)]
+pub struct FarWires {
+    pub sockets: Sockets,
+}
+
+impl FarWires {
+    /// Drops what came, so that it is waited for what comes next.
+    pub fn drain(&mut self, buffer: &mut [u8]) {
+        for _datagram in 0..MOST_DRAINED {
+            if let Ok(None) = self.sockets.receive_any(buffer) {
+                return;
+            }
+        }
+    }
+}
+
+impl Wires for FarWires {
+    fn receive(&mut self, _at: Locator, buffer: &mut [u8]) -> Result<Option<Packet>, NetFault> {
+        self.sockets.receive_any(buffer)
+    }
+
+    fn send(&mut self, _at: Locator, to: Locator, port: u16, bytes: &[u8]) -> Result<(), NetFault> {
+        self.sockets.send_any(to, port, bytes)
+    }
+}

@@ -15,6 +15,7 @@ abbrev pub locator_pair : Locator → ℕ × ℕ
 locator_pair (V4 a) = (4, a)
 locator_pair (V6 a) = (6, a)
 
+-- The pair of a locator, and (0, 0) for none: no locator has that pair, since a family is 4 or 6.
 abbrev pub pair_or_none : Option Locator → ℕ × ℕ
 pair_or_none None = (0, 0)
 pair_or_none (Some l) = locator_pair l
@@ -23,12 +24,15 @@ pair_or_none (Some l) = locator_pair l
 abbrev pub column_pair : ℕ → Group → ℕ × ℕ
 column_pair column g = pair_or_none (slice_get g.locators column)
 
+-- A pair as a key of two numbers: keys compare by the family first, so IPv4 before IPv6, then by the address.
 abbrev pub key_list : ℕ × ℕ → List ℕ
 key_list p = p.0 ∷ p.1 ∷ []
 
+-- What a group is found by in a column: the family and the number of its locator there, zeros where it has none.
 abbrev pub column_key : ℕ → Group → List ℕ
 column_key column g = key_list (column_pair column g)
 
+-- The key of a locator that is looked for in a column: its family, 4 or 6, then the number of its address.
 abbrev pub locator_key : Locator → List ℕ
 locator_key l = key_list (locator_pair l)
 
@@ -40,9 +44,11 @@ cell_of column g = record {
   row = g.row;
 }
 
+-- The family and the number that a cell keeps: zeros where its group has no locator in the column.
 abbrev pub cell_pair : Cell → ℕ × ℕ
 cell_pair c = (c.family, c.number)
 
+-- What the cells of a column are sorted by, ahead of their rows: the family, then the number.
 abbrev pub cell_key : Cell → List ℕ
 cell_key c = key_list (cell_pair c)
 

@@ -16,6 +16,8 @@ abbrev pub form_front : Form → ℕ
 form_front (Range iid len) = iid * 2 ^ 32
 form_front (Block iid address len) = iid * 2 ^ 32 + address_front address
 
+-- Of two prefixes with different fronts, the one of the lower front stands first.
+-- Prefixes of one front are compared in full.
 abbrev pub prefix_front : List ℕ → ℕ
 prefix_front path = form_front (form_of path)
 

@@ -11,6 +11,7 @@ use Rattle.ddt_register.specs.declared.group.Group.{Group}
 abbrev pub in_order : {A : Type 0} → (A → List ℕ) → (A → ℕ) → A → A → Ordering
 in_order key row a b = ordering_then (slice_cmp nat_cmp (key a) (key b)) (nat_cmp (row a) (row b))
 
+-- A list sorted by a key; items of one key stand in the order of their rows. A key stands before those that it begins.
 abbrev pub IsInOrder : {A : Type 0} → (A → List ℕ) → (A → ℕ) → List A → Type 0
 IsInOrder key row xs = IsSorted (in_order key row) xs
 
@@ -18,8 +19,10 @@ IsInOrder key row xs = IsSorted (in_order key row) xs
 abbrev pub AreZonesInOrder : List Zone → Type 0
 AreZonesInOrder zones = IsInOrder (λ z. z.prefix) (λ z. z.row) zones
 
+-- Sites by the digits of their prefixes, then by row: a site stands before the sites inside it.
 abbrev pub AreSitesInOrder : List Site → Type 0
 AreSitesInOrder sites = IsInOrder (λ s. s.prefix) (λ s. s.row) sites
 
+-- Groups by the bytes of their names, then by row. For A4 and A5 a zone's group is looked up by halving in this order.
 abbrev pub AreGroupsInOrder : List Group → Type 0
 AreGroupsInOrder groups = IsInOrder (λ g. g.name) (λ g. g.row) groups

@@ -23,9 +23,11 @@ item_at row_of test items row = list_any (λ x. row_of x == row && test x) items
 abbrev pub zone_at : Register → ℕ → (Zone → Bool) → Bool
 zone_at r row test = item_at (λ z. z.row) test r.zones row
 
+-- Whether a site stands in this row and passes the test: so A3, A8 and A9 are tested at a row.
 abbrev pub site_at : Register → ℕ → (Site → Bool) → Bool
 site_at r row test = item_at (λ s. s.row) test r.sites row
 
+-- Whether a group stands in this row and passes the test: so A6 and A10 are tested at a row.
 abbrev pub group_at : Register → ℕ → (Group → Bool) → Bool
 group_at r row test = item_at (λ g. g.row) test r.groups row
 
@@ -37,6 +39,7 @@ earlier_item row_of items x test = list_any (λ y. nat_lt (row_of y) (row_of x) 
 abbrev pub earlier_zone : Register → Zone → (Zone → Bool) → Bool
 earlier_zone r z test = earlier_item (λ y. y.row) r.zones z test
 
+-- Whether a group in an earlier row than this one passes the test: A6 looks there for a locator of this group.
 abbrev pub earlier_group : Register → Group → (Group → Bool) → Bool
 earlier_group r g test = earlier_item (λ h. h.row) r.groups g test
 

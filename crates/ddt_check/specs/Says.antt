@@ -24,6 +24,8 @@ next_zone r n x = shortest_match (λ z. z.prefix) (filter (λ z. nat_lt n (lengt
 abbrev pub says_from : Register → Zone → List ℕ → ReferralRecord
 says_from r z x = option_map_or (referral_to r) (next_zone r (length z.prefix) x) (record_of (assignment r x))
 
+-- The record that an honest server at this locator sends: from the longest of its zones that cover the identifier.
+-- Where none does, it is NOT-AUTHORITATIVE, for this identifier alone, with TTL 0 and the incomplete bit set.
 abbrev pub says : Register → Locator → List ℕ → ReferralRecord
 says r l x = option_map_or (λ z. says_from r z x) (longest_match (λ z. z.prefix) (served_zones r l) x)
     (not_authoritative x)

@@ -35,6 +35,7 @@ pub record AreZoneRows (r : Register) (rows : ZoneRows) : Type 0 where
   pub outside : IsKept r rules.DuplicateZone → IsKept r rules.BelowMapServer
       → IsLeastRow (broken r rules.SiteOutside) rows.outside
 
+-- For A4, A5 and A10: each row found is the lowest that breaks the rule, and none is found where no row breaks it.
 pub record AreGroupRows (r : Register) (rows : GroupRows) : Type 0 where
   pub unknown : IsLeastRow (broken r rules.UnknownGroup) rows.unknown
   pub role : IsLeastRow (broken r rules.Role) rows.role

@@ -28,12 +28,15 @@ v4 iid address = xeid_path (record { iid = iid; address = V4 address })
 abbrev pub block : ℕ → ℕ → List ℕ
 block address len = path (Block 0 (V4 address) len)
 
+-- The name, in bytes, of the group that serves everything.
 abbrev pub root : List ℕ
 root = codes "root"
 
+-- The name of the group of DDT nodes that serves [0]10.0.0.0/8.
 abbrev pub ten : List ℕ
 ten = codes "ten"
 
+-- The name of the group of Map-Servers that serves [0]10.1.0.0/16 in the campus.
 abbrev pub east : List ℕ
 east = codes "east"
 
@@ -41,36 +44,47 @@ east = codes "east"
 abbrev pub at_root : Locator
 at_root = V4 0x7f000001
 
+-- 127.0.0.10: the one server of ten.
 abbrev pub at_ten : Locator
 at_ten = V4 0x7f00000a
 
+-- 127.0.1.1 and 127.0.1.2: the Map-Servers of east, in the order in which answers list them.
 abbrev pub at_east : List Locator
 at_east = V4 0x7f000101 ∷ V4 0x7f000102 ∷ []
 
+-- Row 1: DDT nodes, at 127.0.0.1 alone.
 abbrev pub root_group : Group
 root_group = record { name = root; kind = Node; locators = at_root ∷ []; row = 1 }
 
+-- Row 2: DDT nodes, at 127.0.0.10 alone.
 abbrev pub ten_group : Group
 ten_group = record { name = ten; kind = Node; locators = at_ten ∷ []; row = 2 }
 
+-- Row 3: Map-Servers, at 127.0.1.1 and 127.0.1.2.
 abbrev pub east_group : Group
 east_group = record { name = east; kind = Ms; locators = at_east; row = 3 }
 
+-- The zone * of root in the row that is given: row 4 in the campus, and 9 where it is a second root.
 abbrev pub root_zone : ℕ → Zone
 root_zone row = record { prefix = []; kind = Node; group = root; row = row }
 
+-- [0]10.0.0.0/8, served by the DDT nodes of ten, in the row that is given: row 5 in the campus, 4 in shared_group.
 abbrev pub ten_zone : ℕ → Zone
 ten_zone row = record { prefix = block 0x0a000000 8; kind = Node; group = ten; row = row }
 
+-- [0]10.1.0.0/16 in row 6, served by the Map-Servers of east.
 abbrev pub east_zone : Zone
 east_zone = record { prefix = block 0x0a010000 16; kind = Ms; group = east; row = 6 }
 
+-- [0]10.1.2.0/24 in row 7, registered: its one ETR is 127.0.2.1.
 abbrev pub registered_site : Site
 registered_site = record { prefix = block 0x0a010200 24; etrs = V4 0x7f000201 ∷ []; row = 7 }
 
+-- [0]10.1.4.0/24 in row 8, known but not registered: it has no ETR.
 abbrev pub silent_site : Site
 silent_site = record { prefix = block 0x0a010400 24; etrs = []; row = 8 }
 
+-- [0]10.1.0.0/16 in row 5 of shared_group: root serves it too, inside the zone of ten.
 abbrev pub inner_root_zone : Zone
 inner_root_zone = record { prefix = block 0x0a010000 16; kind = Node; group = root; row = 5 }
 
@@ -78,27 +92,35 @@ inner_root_zone = record { prefix = block 0x0a010000 16; kind = Node; group = ro
 abbrev pub campus_zones : List Zone
 campus_zones = root_zone 4 ∷ ten_zone 5 ∷ east_zone ∷ []
 
+-- The zones of the campus and one more behind them; each example puts that one in row 9.
 abbrev pub with_zone : Zone → List Zone
 with_zone z = root_zone 4 ∷ ten_zone 5 ∷ east_zone ∷ z ∷ []
 
+-- A zone of DDT nodes in row 9, a block of instance 0 by its address and length, served by ten.
 abbrev pub zone_nine : ℕ → ℕ → Zone
 zone_nine address len = record { prefix = block address len; kind = Node; group = ten; row = 9 }
 
+-- The registered site and the silent one, both inside the zone of east.
 abbrev pub campus_sites : List Site
 campus_sites = registered_site ∷ silent_site ∷ []
 
+-- The sites of the campus and one more behind them; each example puts that one in row 9.
 abbrev pub with_site : Site → List Site
 with_site s = registered_site ∷ silent_site ∷ s ∷ []
 
+-- A site in row 9, a block of instance 0 by its address and length, with these ETRs: with none it isn't registered.
 abbrev pub site_nine : ℕ → ℕ → List Locator → Site
 site_nine address len etrs = record { prefix = block address len; etrs = etrs; row = 9 }
 
+-- The groups of the campus, in rows 1 to 3: DDT nodes in root and ten, Map-Servers in east.
 abbrev pub campus_groups : List Group
 campus_groups = root_group ∷ ten_group ∷ east_group ∷ []
 
+-- The groups of the campus and one more behind them; each example puts that one in row 9.
 abbrev pub with_group : Group → List Group
 with_group g = root_group ∷ ten_group ∷ east_group ∷ g ∷ []
 
+-- A group of DDT nodes in row 9, of this name and with these locators.
 abbrev pub group_nine : List ℕ → List Locator → Group
 group_nine name locators = record { name = name; kind = Node; locators = locators; row = 9 }
 
@@ -106,6 +128,7 @@ group_nine name locators = record { name = name; kind = Node; locators = locator
 abbrev pub ms_zone : Zone
 ms_zone = record { prefix = block 0x0c000000 8; kind = Ms; group = ten; row = 9 }
 
+-- [0]12.0.0.0/8 in row 9, a zone of DDT nodes whose group, west, has no row: the example of A4.
 abbrev pub west_zone : Zone
 west_zone = record { prefix = block 0x0c000000 8; kind = Node; group = codes "west"; row = 9 }
 
@@ -162,6 +185,7 @@ numbers = record {
   duplicate_group = refl;
 }
 
+-- examples/campus.csv, an accepted register: groups in rows 1 to 3, zones in rows 4 to 6, sites in rows 7 and 8.
 abbrev pub campus : Register
 campus = record {
   zones = campus_zones;
@@ -281,6 +305,7 @@ zone_in_nine address len fits = record {
   in_range = fits;
 }
 
+-- The campus with a zone of Map-Servers in row 9, [0]12.0.0.0/8, whose group has DDT nodes: it breaks A5.
 abbrev pub ms_zone_of_ten : Register
 ms_zone_of_ten = record {
   zones = with_zone ms_zone;
@@ -290,6 +315,7 @@ ms_zone_of_ten = record {
   in_range = numbers.ms_zone;
 }
 
+-- The campus with [0]12.0.0.0/8 in row 9, a zone whose group has no row: it breaks A4.
 abbrev pub zone_of_west : Register
 zone_of_west = record {
   zones = with_zone west_zone;
@@ -299,6 +325,7 @@ zone_of_west = record {
   in_range = numbers.west_zone;
 }
 
+-- The campus with a second zone * in row 9: it breaks A1 there, and A2 too, of which A1 is the one that is named.
 abbrev pub second_root : Register
 second_root = record {
   zones = with_zone (root_zone 9);
@@ -308,6 +335,7 @@ second_root = record {
   in_range = numbers.second_root;
 }
 
+-- The campus with a site of instance 0 in row 9: the examples of A3, A8 and A9, and of sites inside sites.
 abbrev pub site_in_nine : (address len : ℕ) (etrs : List Locator)
     → is_in_range campus_zones (with_site (site_nine address len etrs)) campus_groups ≡ true → Register
 site_in_nine address len etrs fits = record {
@@ -318,6 +346,7 @@ site_in_nine address len etrs fits = record {
   in_range = fits;
 }
 
+-- The campus with a group of DDT nodes in row 9: the examples of A6 and A10.
 abbrev pub group_in_nine : (name : List ℕ) (locators : List Locator) → is_in_range campus_zones campus_sites
     (with_group (group_nine name locators)) ≡ true → Register
 group_in_nine name locators fits = record {
@@ -332,6 +361,7 @@ group_in_nine name locators fits = record {
 abbrev pub with_inner_site : Register
 with_inner_site = site_in_nine 0x0a010480 25 (V4 0x7f000202 ∷ []) numbers.inner_site
 
+-- [0]10.1.2.64/26 in row 9, a site without ETRs inside the registered [0]10.1.2.0/24.
 abbrev pub with_inner_silent_site : Register
 with_inner_silent_site = site_in_nine 0x0a010240 26 [] numbers.inner_silent_site
 
@@ -357,15 +387,18 @@ pub record NestedSitesAssign : Type 0 where
   pub east_acknowledges_the_inner_site : says with_inner_site (V4 0x7f000101) (v4 0 0x0a0104c8)
       ≡ record { action = MsAck; prefix = block 0x0a010480 25; ttl = 1440; incomplete = false; servers = at_east }
 
+-- The register without any row: it breaks A1 at row 0, since no zone covers everything.
 abbrev pub nothing : Register
 nothing = record { zones = []; sites = []; groups = []; rows = refl; in_range = refl }
 
+-- The rules A1 to A10, in the order in which a fault is named.
 abbrev pub all_rules : List Rule
 all_rules =
     rules.NoRoot ∷ rules.DuplicateZone ∷ rules.DuplicateSite ∷ rules.UnknownGroup ∷ rules.Role ∷ rules.Locators
     ∷ rules.BelowMapServer
     ∷ rules.SiteOutside ∷ rules.TooManyEtrs ∷ rules.DuplicateGroup ∷ []
 
+-- The rows of the campus, 1 to 8, and row 0, which a fault names where no row is to blame.
 abbrev pub rows_to_eight : List ℕ
 rows_to_eight = 0 ∷ 1 ∷ 2 ∷ 3 ∷ 4 ∷ 5 ∷ 6 ∷ 7 ∷ 8 ∷ []
 

@@ -15,10 +15,12 @@ use Rattle.ddt_register.specs.declared.site.Site.{Site}
 use Rattle.ddt_register.specs.declared.group.Group.{Group}
 use Rattle.ddt_register.specs.declared.register.Register.{Register}
 
+-- Whether a zone is of Map-Servers, and not of DDT nodes: A1, A7 and A8 ask it.
 abbrev pub is_ms : Role → Bool
 is_ms Node = false
 is_ms Ms = true
 
+-- Both are DDT nodes, or both are Map-Servers: A5 compares the kinds of a zone and of its group.
 abbrev pub is_same_role : Role → Role → Bool
 is_same_role Node Node = true
 is_same_role Ms Ms = true

@@ -19,6 +19,7 @@ use Rattle.ddt_commands.specs.Serve.{IsServeText, IsWhyNotServed}
 use Rattle.ddt_commands.specs.Show.{IsShowText, IsWhyNotShown}
 use Rattle.ddt_commands.specs.Wires.{OverWires}
 
+-- The word that asks for a command on the command line; `command_list` says what each of these takes.
 abbrev pub name_of : Command → List ℕ
 name_of Answer = codes "answer"
 name_of Assign = codes "assign"

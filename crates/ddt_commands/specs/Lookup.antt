@@ -50,16 +50,21 @@ abbrev pub seed_in : Option (List ℕ) → Option ℕ
 seed_in None = Some 1
 seed_in (Some word) = number_in last_nonce word
 
+-- The resolver's own address, as `--me` gives it, else 127.0.0.53; a fault where the word is no address.
 abbrev pub me_of : Call → Result Locator TextFault
 me_of call = me_in (setting (codes "me") call)
 
+-- The nonce of the resolver's first request, as `--seed` gives it, else 1; none where the word is no number below 2^64.
 abbrev pub seed_of : Call → Option ℕ
 seed_of call = seed_in (setting (codes "seed") call)
 
+-- A word that is no address is refused as `bad address`, whatever its fault. It is for `--me` and for the address of
+-- `serve`.
 abbrev pub address_refusal : Result Locator TextFault → Option WordRefusal
 address_refusal (Ok me) = None
 address_refusal (Err fault) = Some Address
 
+-- A word that is no number, or one too great for its place, is refused as `bad number`. It is for seeds and turns.
 abbrev pub number_refusal : Option ℕ → Option WordRefusal
 number_refusal None = Some Number
 number_refusal (Some n) = None
@@ -87,6 +92,8 @@ abbrev pub read_line : Locator → Result Message ReferralFault → List ℕ
 read_line to (Ok v) = ended (hop_text to v)
 read_line to (Err fault) = []
 
+-- The line of a hop, from the bytes of its reply: the server that was asked and what its Map-Referral says. It is empty
+-- where the bytes are no Map-Referral.
 abbrev pub replied_line : Hop → List ℕ
 replied_line hop = read_line hop.to (message_in hop.reply)
 
@@ -124,6 +131,7 @@ pub data AreTold (r : Register) (now : ℕ) (start : State) : List (List ℕ) �
       → xeid_in word ≡ Ok x → IsTold r now x before found lines after
       → AreTold r now start (words ++ word ∷ []) (complete && found) (text ++ lines) after
 
+-- The same, whatever state the lookups leave the resolver in.
 abbrev pub AreAllTold : Register → ℕ → State → List (List ℕ) → Bool → List ℕ → Type 0
 AreAllTold r now start words complete text = (after : State) × AreTold r now start words complete text after
 

@@ -44,6 +44,7 @@ abbrev pub turns_in : Option (List ℕ) → Option ℕ
 turns_in None = Some 20000
 turns_in (Some word) = number_in most_turns word
 
+-- The most turns that a run may take: as `--turns` says, else 20,000; none where the word is no number below 2^32.
 abbrev pub turns_of : Call → Option ℕ
 turns_of call = turns_in (setting (codes "turns") call)
 
@@ -117,6 +118,8 @@ LoopsOver binds calls readings before after clock clock_after r task (Err unboun
 
 -- ---- what is printed
 
+-- What is printed behind an identifier: its outcome, why its lookup gave up, why the ask was refused, or `unresolved`
+-- where the turns were used first.
 abbrev pub end_text : LoopEnd → List ℕ
 end_text (Answer o) = outcome_text o
 end_text (GaveUp why) = codes "gave-up " ++ why_text why
@@ -131,6 +134,8 @@ end_line (x, end) = ended (written_xeid x ++ codes " " ++ end_text end)
 abbrev pub end_lines : List Xeid → List LoopEnd → List ℕ
 end_lines ids ends = flat_map end_line (zip ids ends)
 
+-- The lookup ended with an outcome, of which a delegation hole is one. Lines are complete, and the exit status is 0,
+-- only where this is so of each identifier.
 abbrev pub is_outcome : LoopEnd → Bool
 is_outcome (Answer o) = true
 is_outcome (GaveUp why) = false

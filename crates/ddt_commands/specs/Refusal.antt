@@ -19,11 +19,14 @@ use Rattle.ddt_commands.specs.declared.refusal.server.ServerRefusal.TheVariants 
 use Rattle.ddt_commands.specs.declared.refusal.message.MessageRefusal.{MessageRefusal}
 use Rattle.ddt_commands.specs.declared.refusal.message.MessageRefusal.TheVariants.{NotHex, UnknownMessage, NoReply, NoReferral, NoRequest}
 
+-- The text for a word that is no address or no number; none for one that is no identifier, where it shows the fault.
 abbrev pub word_refusal_text : WordRefusal → Option (List ℕ)
 word_refusal_text (Identifier fault) = None
 word_refusal_text Address = Some (codes "bad address")
 word_refusal_text Number = Some (codes "bad number")
 
+-- The text for a register that can't be opened or read, that lacks the group, or whose root locators aren't those of
+-- the first; none where it shows a fault of the bytes or a broken rule.
 abbrev pub register_refusal_text : RegisterRefusal → Option (List ℕ)
 register_refusal_text (CannotOpen path) = Some (codes "cannot open " ++ path.now)
 register_refusal_text (Unreadable fault) = None
@@ -32,16 +35,22 @@ register_refusal_text (BreaksRule fault) = None
 register_refusal_text NoSuchGroup = Some (codes "no such group")
 register_refusal_text (OtherRoots path) = Some (codes "other root locators " ++ path.now)
 
+-- The text for a script: its path where it can't be opened or read, else the number of the first line that spells no
+-- step. Lines count from 1, and empty ones don't count.
 abbrev pub script_refusal_text : ScriptRefusal → Option (List ℕ)
 script_refusal_text (script.CannotOpen path) = Some (codes "cannot open " ++ path.now)
 script_refusal_text (script.RefusedLine number) = Some (codes "script refused line " ++ decimal number)
 
+-- The text for an address outside 127.0.0.0/8, a file that can't be opened or read, or a locator where no socket can be
+-- bound; none for a bad configuration, where it shows the fault.
 abbrev pub server_refusal_text : ServerRefusal → Option (List ℕ)
 server_refusal_text (server.NotLoopback at) = Some (codes "not a loopback address " ++ written_locator at)
 server_refusal_text (server.CannotOpen path) = Some (codes "cannot open " ++ path.now)
 server_refusal_text (server.BadConfig fault) = None
 server_refusal_text (server.CannotBind at) = Some (codes "cannot bind " ++ written_locator at)
 
+-- The text for a word that is no hexadecimal, or bytes of no type that `show` knows; none for bytes of a known type,
+-- where it shows their fault.
 abbrev pub message_refusal_text : MessageRefusal → Option (List ℕ)
 message_refusal_text NotHex = Some (codes "refused hex")
 message_refusal_text UnknownMessage = Some (codes "refused unknown message")
@@ -49,6 +58,7 @@ message_refusal_text (NoReply fault) = None
 message_refusal_text (NoReferral fault) = None
 message_refusal_text (NoRequest fault) = None
 
+-- The text for whatever is refused, without the line feed that ends its line.
 abbrev pub refusal_text : Refusal → Option (List ℕ)
 refusal_text (BadWord why) = word_refusal_text why
 refusal_text (NoRegister why) = register_refusal_text why

@@ -49,6 +49,7 @@ ask_error_text TooMany = codes "TooMany"
 ask_error_text Exhausted = codes "Exhausted"
 ask_error_text Memory = codes "Memory"
 
+-- The name of why the resolver ignored a datagram. It tests for these reasons in this order, and names the first.
 abbrev pub ignored_text : WhyIgnored → List ℕ
 ignored_text Undecodable = codes "Undecodable"
 ignored_text UnknownNonce = codes "UnknownNonce"
@@ -62,9 +63,11 @@ abbrev pub sent_text : ℕ → ℕ → Outgoing → List ℕ
 sent_text t number d =
     codes "ticket " ++ decimal t ++ codes " sent " ++ decimal number ++ codes " to " ++ written_locator d.to
 
+-- The outcome of the lookup with this ticket. A ticket's number is the nonce of the lookup's first request.
 abbrev pub answer_text : ℕ → Outcome → List ℕ
 answer_text t o = codes "ticket " ++ decimal t ++ codes " answer " ++ outcome_text o
 
+-- Why the lookup with this ticket ended without an outcome.
 abbrev pub gave_up_text : ℕ → Why → List ℕ
 gave_up_text t why = codes "ticket " ++ decimal t ++ codes " gave-up " ++ why_text why
 
@@ -97,10 +100,12 @@ abbrev pub requests : Option Outgoing → ℕ
 requests None = 0
 requests (Some d) = 1
 
+-- How many datagrams are sent at an event: 1 for a request of the resolver or for a server's reply, else 0.
 abbrev pub datagrams_at : Event → ℕ
 datagrams_at (Replied k) = 1
 datagrams_at event = requests (request_at event)
 
+-- The lines of these events, the earliest first, where so many datagrams were sent before them.
 abbrev pub lines_from : ℕ → List Event → List ℕ
 lines_from number [] = []
 lines_from number (event ∷ events) =

@@ -28,15 +28,20 @@ use Rattle.ddt_commands.specs.Sockets.{Binding, bind_refusal}
 
 -- ---- what the words ask for
 
+-- The path of the file with the server's configuration, which is the word CONFIG.
 abbrev pub config_path : Call → List ℕ
 config_path call = value (codes "config") call
 
+-- The locator where the server's socket is to be bound, which is the word ADDRESS; a fault where that is no address.
 abbrev pub address_of : Call → Result Locator TextFault
 address_of call = locator_in (value (codes "address") call)
 
+-- The greatest number of turns that `serve` and `loop` take: 2^32 - 1.
 abbrev pub most_turns : ℕ
 most_turns = 4294967295
 
+-- For how many turns the server runs, in each of which it polls its socket once; none where the word is no number up to
+-- `most_turns`.
 abbrev pub turns_of : Call → Option ℕ
 turns_of call = number_in most_turns (value (codes "turns") call)
 
@@ -95,6 +100,7 @@ ServesOver {W} binds calls before after c at turns (Err error) = binds before at
 abbrev pub Serving : Type 1
 Serving = Outline → Locator → ℕ → Result Served Error → Type 0
 
+-- How many packets the server was given, and how many of its replies were sent without a fault.
 abbrev pub served_text : Served → List ℕ
 served_text counts = codes "received " ++ decimal counts.received ++ codes " replied " ++ decimal counts.replied
 

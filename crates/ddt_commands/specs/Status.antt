@@ -3,6 +3,8 @@ use Rattle.std.specs.Prelude.{ℕ, Bool, true, false}
 use Rattle.ddt_commands.specs.declared.status.Status.{Status}
 use Rattle.ddt_commands.specs.declared.status.Status.TheVariants.{Answered, Incomplete, Refused, BadWords, Unprinted}
 
+-- 0 where all that was asked is answered; 2 where the words fit no command; 1 for an identifier without an outcome, a
+-- refusal, or a writer that failed.
 abbrev pub number_of : Status → ℕ
 number_of Answered = 0
 number_of Incomplete = 1

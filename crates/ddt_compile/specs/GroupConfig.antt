@@ -21,12 +21,15 @@ use Rattle.ddt_config.specs.Table.{Outline}
 abbrev pub child_of : Register → Zone → Child
 child_of r c = record { prefix = c.prefix; role = c.kind; locators = locators_of r c.group }
 
+-- The referrals of a zone: one to each zone directly below it, in the order of their rows.
 abbrev pub children_of : Register → Zone → List Child
 children_of r z = map (child_of r) (filter (is_direct_child r z) r.zones)
 
+-- What a Map-Server knows of a site: its prefix and its ETRs, none where it isn't registered.
 abbrev pub entry_of : Site → SiteEntry
 entry_of s = record { prefix = s.prefix; etrs = s.etrs }
 
+-- The sites that a zone covers, in the order of their rows: one equal to the zone counts, and so do sites inside sites.
 abbrev pub sites_of : Register → Zone → List SiteEntry
 sites_of r z = map entry_of (filter (is_site_in z) r.sites)
 
@@ -35,6 +38,7 @@ abbrev pub content_of : Register → Zone → Role → Content
 content_of r z Node = Children (children_of r z)
 content_of r z Ms = Sites (sites_of r z)
 
+-- A zone as the servers of its group have it: the prefix that they are in charge of, with its children or sites.
 abbrev pub authority_of : Register → Zone → Authority
 authority_of r z = record { prefix = z.prefix; content = content_of r z z.kind }
 
@@ -42,6 +46,7 @@ authority_of r z = record { prefix = z.prefix; content = content_of r z z.kind }
 abbrev pub authorities_of : Register → Group → List Authority
 authorities_of r g = map (authority_of r) (filter (is_served_by g) r.zones)
 
+-- The one configuration of all servers of a group: name, kind, locators, and an authority for each zone that it serves.
 abbrev pub group_config : Register → Group → Outline
 group_config r g = record { name = g.name; role = g.kind; locators = g.locators; authorities = authorities_of r g }
 

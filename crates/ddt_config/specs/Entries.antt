@@ -11,6 +11,7 @@ abbrev pub prefixes_in : Content → List (List ℕ)
 prefixes_in (Children cs) = map (λ c. c.prefix) cs
 prefixes_in (Sites ss) = map (λ s. s.prefix) ss
 
+-- How many children an authority of a DDT node has, or how many sites that of a Map-Server.
 abbrev pub count_in : Authority → ℕ
 count_in a = length (prefixes_in a.content)
 

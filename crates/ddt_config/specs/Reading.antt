@@ -27,6 +27,7 @@ abbrev pub content_fits : Content → Bool
 content_fits (Children cs) = list_all (λ c. fits c.locators) cs
 content_fits (Sites ss) = list_all (λ s. fits s.etrs) ss
 
+-- No child of the authority has more than 8 locators, or no site of it more than 8 ETRs.
 abbrev pub authority_fits : Authority → Bool
 authority_fits a = content_fits a.content
 

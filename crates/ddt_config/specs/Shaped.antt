@@ -50,9 +50,13 @@ is_content_of Ms authority (Sites ss) = list_all (is_site_of authority) ss && ha
 is_content_of Node authority (Sites ss) = false
 is_content_of Ms authority (Children cs) = false
 
+-- An authority holds what servers of this role may have there: children for DDT nodes, sites for Map-Servers, all
+-- of them inside its prefix.
 abbrev pub is_authority_of : Role → Authority → Bool
 is_authority_of role a = is_content_of role a.prefix a.content
 
+-- The shape of a configuration: the group has 1 to 8 locators, none of them twice, and no two authorities have the same
+-- prefix. Each holds what the role allows; one may lie inside another, and there may be none.
 abbrev pub is_shaped : Role → List Locator → List Authority → Bool
 is_shaped role locators authorities =
     (is_server_set locators && are_distinct locators)

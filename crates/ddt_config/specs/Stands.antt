@@ -30,6 +30,7 @@ AreFor IsFor (item d ds) (x ∷ xs) = IsFor d x × AreFor IsFor ds xs
 AreFor IsFor no_items (x ∷ xs) = ⊥
 AreFor IsFor (item d ds) [] = ⊥
 
+-- An array with one item for each value, in the same order.
 abbrev pub IsArrayOf : {A : Type 0} → (Data → A → Type 0) → Data → List A → Type 0
 IsArrayOf IsFor d xs = (ds : Items) × (d ≡ array ds) × AreFor IsFor ds xs
 
@@ -51,11 +52,13 @@ HoldsTables Stands ms k xs =
     ((d : Data) × (get_member (key_text k) ms ≡ Some d) × IsArrayOf (IsTableOf Stands) d xs)
     ⊎ ((get_member (key_text k) ms ≡ None) × (xs ≡ []))
 
+-- The table of a child: its prefix, `kind` for DDT nodes or Map-Servers, and the locators to refer to.
 pub record IsChild (ms : Members) (c : Child) : Type 0 where
   pub prefix : HoldsPrefix ms c.prefix
   pub kind : HoldsText ms key.Kind (role_text c.role)
   pub locators : HoldsLocators ms key.Locators c.locators
 
+-- The table of a site: its prefix and its ETRs' locators. `etrs` must be there, and is empty for a site without an ETR.
 pub record IsSite (ms : Members) (s : SiteEntry) : Type 0 where
   pub prefix : HoldsPrefix ms s.prefix
   pub etrs : HoldsLocators ms key.Etrs s.etrs
@@ -67,6 +70,7 @@ IsContent Ms ms (Sites ss) = HoldsTables IsSite ms key.Site ss
 IsContent Node ms (Sites ss) = ⊥
 IsContent Ms ms (Children cs) = ⊥
 
+-- The table of an authority: its prefix, and the children or sites in it, by the server's role.
 pub record IsAuthority (role : Role) (ms : Members) (a : Authority) : Type 0 where
   pub prefix : HoldsPrefix ms a.prefix
   pub content : IsContent role ms a.content

@@ -37,6 +37,7 @@ key_text key.Child = codes "child"
 key_text key.Site = codes "site"
 key_text key.Etrs = codes "etrs"
 
+-- The word at the key `kind`: `node` for DDT nodes, `ms` for Map-Servers.
 abbrev pub role_text : Role → List ℕ
 role_text Node = codes "node"
 role_text Ms = codes "ms"
@@ -61,12 +62,15 @@ abbrev pub listed : Items → List Data
 listed no_items = []
 listed (item d ds) = d ∷ listed ds
 
+-- The text that a value is; a value of another kind is the fault Field of the key.
 abbrev pub text_of : Key → Data → Result (List ℕ) ConfigFault
 text_of k d = of_kind k (as_str d)
 
+-- The values of an array; a value of another kind is the fault Field of the key.
 abbrev pub array_of : Key → Data → Result (List Data) ConfigFault
 array_of k d = of_kind k (option_map listed (as_array d))
 
+-- The members of a table; a value of another kind is the fault Field of the key.
 abbrev pub table_of : Key → Data → Result Members ConfigFault
 table_of k d = of_kind k (as_table d)
 
@@ -74,6 +78,7 @@ table_of k d = of_kind k (as_table d)
 abbrev pub text_at : Key → Members → Result (List ℕ) ConfigFault
 text_at k ms = of_kind k (get_member (key_text k) ms) >>= text_of k
 
+-- The array at a key; Field where the key is missing or holds something else.
 abbrev pub array_at : Key → Members → Result (List Data) ConfigFault
 array_at k ms = of_kind k (get_member (key_text k) ms) >>= array_of k
 
@@ -81,6 +86,7 @@ array_at k ms = of_kind k (get_member (key_text k) ms) >>= array_of k
 abbrev pub is_text_value : Data → Bool
 is_text_value d = is_some (as_str d)
 
+-- Whether a value is a table; asked of each one under `authority`, `child` and `site`.
 abbrev pub is_table_value : Data → Bool
 is_table_value d = is_some (as_table d)
 
@@ -97,6 +103,7 @@ abbrev pub array_or_none : Key → Option Data → Result (List Data) ConfigFaul
 array_or_none k None = Ok []
 array_or_none k (Some d) = array_of k d
 
+-- The array of tables at a key; where the key is missing there are none. A value that is no table is the fault Field.
 abbrev pub tables_at : Key → Members → Result (List Data) ConfigFault
 tables_at k ms = array_or_none k (get_member (key_text k) ms) >>= all_of k is_table_value
 
@@ -104,6 +111,7 @@ tables_at k ms = array_or_none k (get_member (key_text k) ms) >>= all_of k is_ta
 abbrev pub entry_of : {A : Type 0} → Key → (Members → Result A ConfigFault) → Data → Result A ConfigFault
 entry_of k examine d = table_of k d >>= examine
 
+-- The authorities, children or sites at a key, examined from first to last; where the key is missing there are none.
 abbrev pub entries_in : {A : Type 0} → Key → (Members → Result A ConfigFault) → Members → Result (List A) ConfigFault
 entries_in k examine ms = tables_at k ms >>= each (entry_of k examine)
 
@@ -116,18 +124,23 @@ abbrev pub role_of : List ℕ → Result Role ConfigFault
 role_of text = if bytes_eq text (role_text Node) then Ok Node else if bytes_eq text (role_text Ms) then Ok Ms
     else Err (Value key.Kind)
 
+-- The role of a group or of a child, at `kind`: Field where no text stands there, Value where it is another word.
 abbrev pub role_in : Members → Result Role ConfigFault
 role_in ms = text_at key.Kind ms >>= role_of
 
+-- The locator that a value spells: Field where it is no text, Value where the text is no address.
 abbrev pub locator_of : Key → Data → Result Locator ConfigFault
 locator_of k d = text_of k d >>= λ text. of_form k (locator_in text)
 
+-- The locators at `locators`, or of ETRs at `etrs`. The key must be there, and all values texts, before one is read.
 abbrev pub locators_in : Key → Members → Result (List Locator) ConfigFault
 locators_in k ms = texts_at k ms >>= each (locator_of k)
 
+-- The prefix at `prefix`: Field where no text stands there, Value where the text is no prefix.
 abbrev pub path_in : Members → Result (List ℕ) ConfigFault
 path_in ms = text_at key.Prefix ms >>= λ text. of_form key.Prefix (prefix_in text)
 
+-- A child: its keys are examined in the order `prefix`, `kind`, `locators`.
 abbrev pub child_in : Members → Result Child ConfigFault
 child_in ms = do
   prefix ← path_in ms
@@ -135,6 +148,7 @@ child_in ms = do
   locators ← locators_in key.Locators ms
   Ok (record { prefix = prefix; role = role; locators = locators })
 
+-- A site: `prefix` is examined before `etrs`.
 abbrev pub site_in : Members → Result SiteEntry ConfigFault
 site_in ms = do
   prefix ← path_in ms
@@ -146,6 +160,7 @@ abbrev pub content_in : Role → Members → Result Content ConfigFault
 content_in Node ms = entries_in key.Child child_in ms >>= λ children. Ok (Children children)
 content_in Ms ms = entries_in key.Site site_in ms >>= λ sites. Ok (Sites sites)
 
+-- An authority: `prefix` is examined before its children or sites.
 abbrev pub authority_in : Role → Members → Result Authority ConfigFault
 authority_in role ms = do
   prefix ← path_in ms
@@ -159,6 +174,7 @@ pub record Outline : Type 0 where
   pub locators : List Locator
   pub authorities : List Authority
 
+-- The contents of a configuration in memory, for comparison with what a text stands for.
 abbrev pub outline : ServerConfig → Outline
 outline c = record { name = c.name; role = c.role; locators = c.locators; authorities = c.authorities }
 
@@ -171,6 +187,7 @@ outline_in ms = do
   authorities ← entries_in key.Authority (authority_in role) ms
   Ok (record { name = name; role = role; locators = locators; authorities = authorities })
 
+-- A configuration that servers can have, else the fault Shape.
 abbrev pub with_shape : Outline → Result Outline ConfigFault
 with_shape o = if is_shaped o.role o.locators o.authorities then Ok o else Err Shape
 
@@ -189,6 +206,7 @@ abbrev pub config_in_document : Option Members → Result Outline ConfigFault
 config_in_document None = Err Toml
 config_in_document (Some ms) = config_in ms
 
+-- The configuration that a text stands for, or its first fault: Toml where it isn't TOML.
 abbrev pub config_in_text : List ℕ → Result Outline ConfigFault
 config_in_text text = config_in_document (parse_document text)
 

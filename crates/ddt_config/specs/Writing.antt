@@ -45,6 +45,7 @@ written_child c =
     ∷ (key.Prefix, string (written_prefix c.prefix))
     ∷ [])
 
+-- The table of a site; `etrs` is written also where it has none, as an empty array.
 abbrev pub written_site : SiteEntry → Members
 written_site s = with_keys ((key.Etrs, written_locators s.etrs) ∷ (key.Prefix, string (written_prefix s.prefix)) ∷ [])
 
@@ -61,6 +62,7 @@ written_content prefix (Sites ss) =
     ∷ (key.Site, written_each (λ s. table (written_site s)) ss)
     ∷ [])
 
+-- The table of an authority, under `authority`.
 abbrev pub written_authority : Authority → Members
 written_authority a = written_content a.prefix a.content
 
@@ -76,19 +78,24 @@ written_config c =
 
 -- ---- and that its texts spell what they are written for
 
+-- Each locator is spelled by the text that is written for it.
 abbrev pub AreLocatorsSpelled : List Locator → Type 0
 AreLocatorsSpelled ls = All (λ l. SpellsLocator (written_locator l) l) ls
 
+-- The texts written for a child spell its prefix and its locators.
 abbrev pub IsChildSpelled : Child → Type 0
 IsChildSpelled c = SpellsPrefix (written_prefix c.prefix) c.prefix × AreLocatorsSpelled c.locators
 
+-- The texts written for a site spell its prefix and its ETRs' locators.
 abbrev pub IsSiteSpelled : SiteEntry → Type 0
 IsSiteSpelled s = SpellsPrefix (written_prefix s.prefix) s.prefix × AreLocatorsSpelled s.etrs
 
+-- The texts written for the children, or for the sites, of an authority spell them.
 abbrev pub IsContentSpelled : Content → Type 0
 IsContentSpelled (Children cs) = All IsChildSpelled cs
 IsContentSpelled (Sites ss) = All IsSiteSpelled ss
 
+-- The texts written for an authority spell its prefix and what it holds.
 abbrev pub IsAuthoritySpelled : Authority → Type 0
 IsAuthoritySpelled a = SpellsPrefix (written_prefix a.prefix) a.prefix × IsContentSpelled a.content
 
@@ -105,6 +112,7 @@ abbrev pub content_key : Content → Key
 content_key (Children cs) = key.Child
 content_key (Sites ss) = key.Site
 
+-- The array written at that key: a table for each child or site, in their order.
 abbrev pub content_data : Content → Data
 content_data (Children cs) = written_each (λ c. table (written_child c)) cs
 content_data (Sites ss) = written_each (λ s. table (written_site s)) ss

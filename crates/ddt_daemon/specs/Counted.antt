@@ -13,12 +13,15 @@ use Rattle.ddt_daemon.specs.declared.counts.ServerCounts.{ServerCounts}
 use Rattle.ddt_daemon.specs.declared.counts.ResolverCounts.{ResolverCounts}
 use Rattle.ddt_daemon.specs.declared.counted.WireCounts.{WireCounts}
 
+-- A count after so many more. Counts have 64 bits; one that would pass 2^64 - 1 stays there.
 abbrev pub plus : ℕ → ℕ → ℕ
 plus count more = min (count + more) (2 ^ 64 - 1)
 
+-- a server's counts after what it has served: packets that came, and replies that were sent without a fault
 abbrev pub with_served : ServerCounts → Served → ServerCounts
 with_served c s = record { received = plus c.received s.received; replied = plus c.replied s.replied }
 
+-- one more Encapsulated Control Message that a resolver has dropped, counted by the reason
 abbrev pub with_dropped : ResolverCounts → Dropped → ResolverCounts
 with_dropped c Denied = record c { denied = plus c.denied 1 }
 with_dropped c TooLong = record c { too_long = plus c.too_long 1 }
@@ -42,6 +45,7 @@ with_received c (Ok (Some p)) = record c { received = plus c.received 1 }
 with_received c (Ok None) = c
 with_received c (Err fault) = record c { unreceived = plus c.unreceived 1 }
 
+-- one more datagram that was sent, or one more call of `send` that failed
 abbrev pub with_sent : WireCounts → Result (Unit {0}) NetFault → WireCounts
 with_sent c (Ok done) = record c { sent = plus c.sent 1 }
 with_sent c (Err fault) = record c { unsent = plus c.unsent 1 }

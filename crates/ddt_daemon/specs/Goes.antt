@@ -38,6 +38,7 @@ with_came c Nothing = c
 with_came c (Waits t len) = record c { lookups = plus c.lookups 1 }
 with_came c (Ended server e) = with_ended c e.end
 
+-- a tick that ends the lookup of an ITR is counted by the outcome, or by why the lookup gave up; others aren't counted
 abbrev pub with_ticked : ResolverCounts → Option End → ResolverCounts
 with_ticked c None = c
 with_ticked c (Some e) = with_ended c e.end

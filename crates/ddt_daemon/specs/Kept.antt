@@ -6,10 +6,11 @@ use Rattle.ddt_path.specs.Locators.{is_same_locator}
 use Rattle.ddt_resolver.specs.declared.front.ItrRequest.{ItrRequest}
 use Rattle.ddt_daemon.specs.declared.waiting.Kept.{Kept}
 
--- the same identifier, nonce, RLOC and port
+-- whether two XEIDs are the same: the instance and the address
 abbrev pub is_same_xeid : Xeid → Xeid → Bool
 is_same_xeid x y = (x.iid == y.iid) && is_same_locator x.address y.address
 
+-- Whether an ITR repeats a request: the XEID, the nonce, the ITR-RLOC and the port that the reply goes to are the same.
 abbrev pub is_same_request : ItrRequest → ItrRequest → Bool
 is_same_request p q = is_same_xeid p.xeid q.xeid && ((p.nonce == q.nonce) && (is_same_locator p.to q.to && (p.port == q.port)))
 
@@ -17,6 +18,8 @@ is_same_request p q = is_same_xeid p.xeid q.xeid && ((p.nonce == q.nonce) && (is
 abbrev pub waits_for : List Kept → ItrRequest → Bool
 waits_for kept q = list_any (λ k. is_same_request k.request q) kept
 
+-- the request of an ITR that waits for the lookup of a ticket, with its bytes as they came: they go on to a
+-- Map-Server if its site is registered
 abbrev pub kept_of : ℕ → ItrRequest → List ℕ → Kept
 kept_of t q bytes_ = record { ticket = t; request = q; bytes = bytes_ }
 

@@ -25,6 +25,7 @@ pub record Resolving : Type 0 where
   pub kept : List Kept
   pub counts : ResolverCounts
 
+-- a resolver of these three parts, as a round or a tick begins with it and leaves it
 abbrev pub resolving : Running → List Kept → ResolverCounts → Resolving
 resolving w k c = record { running = w; kept = k; counts = c }
 

@@ -10,9 +10,11 @@ use Rattle.ddt_ecm.specs.declared.fault.RequestFault.TheVariants.{Short, Message
 abbrev pub d_place : ℕ
 d_place = 2 ^ 2
 
+-- the bit S asks for LISP-SEC: a message with it set is refused
 abbrev pub s_place : ℕ
 s_place = 2 * d_place
 
+-- the type is the first four bits of the byte, as in a Map-Request too
 abbrev pub type_place : ℕ
 type_place = 2 * s_place
 
@@ -24,6 +26,7 @@ first_byte = 2 ^ 24
 abbrev pub ecm_word : Bool → ℕ → ℕ
 ecm_word ddt ignored = (encapsulated * type_place + bit ddt * d_place) * first_byte + ignored
 
+-- these 32 bits as the four bytes in front of the inner IP header
 abbrev pub ecm_fields : Bool → ℕ → List ℕ
 ecm_fields ddt ignored = to_be_bytes w32 (ecm_word ddt ignored)
 

@@ -23,6 +23,7 @@ source4 [] = 0
 source4 (V4 a ∷ rlocs) = a
 source4 (V6 a ∷ rlocs) = 0
 
+-- the same for an EID of IPv6: a first ITR-RLOC of IPv4 gives zeros
 abbrev pub source6 : List Locator → ℕ
 source6 [] = 0
 source6 (V4 a ∷ rlocs) = 0
@@ -35,18 +36,22 @@ packet4 source destination message =
     ++ written_udp (ones_sum 0 (pseudo4 (to_be_bytes w32 source ++ to_be_bytes w32 destination) (8 + length message)))
     message
 
+-- the same over IPv6; either datagram goes from port 4342 to port 4342, and has a UDP checksum
 unfoldable pub packet6 : ℕ → ℕ → List ℕ → List ℕ
 packet6 source destination message =
     written_ipv6 (8 + length message) source destination
     ++ written_udp (ones_sum 0 (pseudo6 (to_be_bytes w128 source ++ to_be_bytes w128 destination) (8 + length message)))
     message
 
+-- the inner packet of a Map-Request for an EID of this address, in the EID's family, with these ITR-RLOCs
 abbrev pub packet : Locator → List Locator → List ℕ → List ℕ
 packet (V4 destination) rlocs message = packet4 (source4 rlocs) destination message
 packet (V6 destination) rlocs message = packet6 (source6 rlocs) destination message
 
 -- ---- the first fault
 
+-- The checksum's sum over the pseudo-header, and the UDP datagram behind the IP header; or the first fault: no byte, a
+-- version other than 4 and 6, or one of that header.
 unfoldable pub ip_at : List ℕ → Result (ℕ × List ℕ) RequestFault
 ip_at ip =
     if nat_lt (length ip) 1 then Err Short

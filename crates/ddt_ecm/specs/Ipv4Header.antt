@@ -60,6 +60,7 @@ ipv4_header total checksum source destination =
     (69 ∷ 0 ∷ []) ++ to_be_bytes w16 total ++ (0 ∷ 0 ∷ 0 ∷ 0 ∷ 64 ∷ 17 ∷ []) ++ to_be_bytes w16 checksum ++ to_be_bytes
     w32 source ++ to_be_bytes w32 destination
 
+-- the 20 bytes of header for a total length, a source and a destination, with the header checksum in place
 unfoldable pub written_ipv4 : ℕ → ℕ → ℕ → List ℕ
 written_ipv4 total source destination = ipv4_header total
     (complement (ones_sum 0 (ipv4_header total 0 source destination))) source destination

@@ -42,6 +42,7 @@ pub record SpellsIpv6 (bytes pseudo udp : List ℕ) : Type 0 where
 abbrev pub ipv6_head : ℕ → List ℕ
 ipv6_head payload = (96 ∷ 0 ∷ 0 ∷ 0 ∷ []) ++ to_be_bytes w16 payload ++ (17 ∷ 64 ∷ [])
 
+-- the 40 bytes of header for a payload length, a source and a destination
 unfoldable pub written_ipv6 : ℕ → ℕ → ℕ → List ℕ
 written_ipv6 payload source destination = ipv6_head payload ++ (to_be_bytes w128 source ++ to_be_bytes w128 destination)
 
@@ -51,6 +52,8 @@ written_ipv6 payload source destination = ipv6_head payload ++ (to_be_bytes w128
 abbrev pub has_length6 : List ℕ → Bool
 has_length6 ip = big_number 2 (drop 4 ip) + 40 == length ip && nat_le 48 (length ip)
 
+-- The checksum's sum over the pseudo-header, and the UDP datagram behind the 40 bytes of header; or the first fault.
+-- Extension headers are refused: the next header has to be 17, UDP.
 unfoldable pub ipv6_at : List ℕ → Result (ℕ × List ℕ) RequestFault
 ipv6_at ip =
     if nat_lt (length ip) 40 then Err Short

@@ -37,6 +37,7 @@ pub record Ignored : Type 0 where
 abbrev pub m_place : ℕ
 m_place = 2 ^ 2
 
+-- the bit A, for an authoritative answer, stands before M; it is ignored
 abbrev pub a_place : ℕ
 a_place = 2 * m_place
 
@@ -44,9 +45,11 @@ a_place = 2 * m_place
 abbrev pub irc_limit : ℕ
 irc_limit = 2 ^ 5
 
+-- IRC stands before the 8 bits of the record count, and is the number of ITR-RLOCs less 1
 abbrev pub irc_place : ℕ
 irc_place = 2 ^ 8
 
+-- the 13 ignored bits stand between the bit M and IRC
 abbrev pub flags_place : ℕ
 flags_place = irc_limit * irc_place
 
@@ -116,6 +119,7 @@ lcaf_at bytes =
     else if nat_lt (length bytes) (8 + big_number 2 (drop 6 bytes)) then Err fault.Short
     else Ok (8 + big_number 2 (drop 6 bytes))
 
+-- a fault of the source EID's address as one of the request: it is cut, or its AFI is none of 0, 1, 2 and 16387
 abbrev pub from_source : AddressFault → RequestFault
 from_source address_fault.Short = fault.Short
 from_source address_fault.Family = fault.EidFamily
@@ -128,6 +132,7 @@ source_at bytes =
     else if big_number 2 bytes == lcaf then lcaf_at bytes
     else (in_words from_source (address_at bytes) >>= λ a. Ok a.1)
 
+-- a fault of an ITR-RLOC as one of the request: it is cut, or its AFI is neither IPv4's nor IPv6's
 abbrev pub from_address : AddressFault → RequestFault
 from_address address_fault.Short = fault.Short
 from_address address_fault.Family = fault.RlocFamily
@@ -143,6 +148,8 @@ from_eid eid_fault.EidFamily = fault.EidFamily
 from_eid eid_fault.Lcaf = fault.Lcaf
 from_eid other = fault.NotHost
 
+-- the identifier that a prefix of the whole width of an address names; a shorter EID-prefix or a range of instances is
+-- refused as NotHost
 abbrev pub host_of : Form → Result Xeid RequestFault
 host_of (Range iid_ len) = Err fault.NotHost
 host_of (Block iid_ address_ len) = if len == address_width address_ then Ok (record { iid = iid_; address = address_ })

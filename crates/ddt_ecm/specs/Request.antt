@@ -41,6 +41,8 @@ written nonce x rlocs ddt = ecm_header ddt ++ packet x.address rlocs (written_ma
 
 -- ---- the first fault
 
+-- The request, or the first fault. The ECM header is judged first, then the IP header, the UDP header and the
+-- Map-Request.
 unfoldable pub message_in : List ℕ → Result Message RequestFault
 message_in bytes = do
   ip ← ecm_at bytes

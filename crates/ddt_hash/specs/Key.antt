@@ -22,6 +22,7 @@ form_writes (Range iid len) = u32 iid ++ u8 len
 form_writes (Block iid (V4 address) len) = u64 (iid * 2 ^ 32 + address) ++ u8 len
 form_writes (Block iid (V6 address) len) = u32 iid ++ (u128 address ++ u8 len)
 
+-- what is hashed of a prefix as a key, so that two keys of the same prefix have the same hash
 abbrev pub key_writes : Key → HashWrites
 key_writes k = form_writes (form_of k.prefix)
 

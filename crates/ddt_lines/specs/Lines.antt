@@ -21,6 +21,7 @@ ended line = line ++ codes "\n"
 abbrev pub spaced : List Locator → List ℕ
 spaced locators = flat_map (λ l. codes " " ++ written_locator l) locators
 
+-- the word of an outcome, and its XEID-prefix; behind them the locators of the Map-Servers, unless it is a hole
 abbrev pub outcome_text : Outcome → List ℕ
 outcome_text (Registered prefix servers) = codes "registered " ++ written_prefix prefix ++ spaced servers
 outcome_text (NotRegistered prefix servers) = codes "not-registered " ++ written_prefix prefix ++ spaced servers
@@ -36,16 +37,19 @@ counts_text zones sites groups =
 unfoldable pub nonce_text : ℕ → List ℕ
 nonce_text nonce = encode_lower (to_be_bytes w64 nonce)
 
+-- whether a Map-Referral has the Incomplete bit, with a blank in front
 abbrev pub whole_text : Bool → List ℕ
 whole_text true = codes " incomplete"
 whole_text false = codes " complete"
 
+-- a Map-Referral: nonce, action, XEID-prefix, TTL in minutes, Incomplete bit, and the locators of its referral set
 abbrev pub referral_text : referral.Message → List ℕ
 referral_text v =
     codes "referral nonce " ++ nonce_text v.nonce ++ codes " " ++ action.name v.action ++ codes " "
     ++ written_prefix v.prefix
     ++ codes " ttl " ++ decimal v.ttl ++ whole_text v.incomplete ++ spaced v.locators
 
+-- a negative Map-Reply: nonce, XEID-prefix, and TTL in minutes
 abbrev pub reply_text : NegativeReply → List ℕ
 reply_text v =
     codes "negative nonce " ++ nonce_text v.nonce ++ codes " " ++ written_prefix v.prefix ++ codes " ttl "
@@ -62,6 +66,7 @@ abbrev pub client_text : Bool → List ℕ
 client_text true = codes " ddt "
 client_text false = codes " plain "
 
+-- an encapsulated Map-Request: nonce, whether it has the bit D, XEID, inner source port, and all its ITR-RLOCs
 abbrev pub request_text : request.Message → List ℕ
 request_text v =
     codes "request nonce " ++ nonce_text v.nonce ++ client_text v.ddt ++ written_xeid v.xeid

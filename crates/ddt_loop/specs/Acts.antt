@@ -34,6 +34,7 @@ pub record Running : Type 0 where
   pub state : State
   pub desk : Desk
 
+-- a resolver in this state, and the desk of those who wait for its lookups
 abbrev pub running : State → Desk → Running
 running s d = record { state = s; desk = d }
 
@@ -49,6 +50,7 @@ running_code state desk =
 abbrev pub sent : Sending → Outgoing
 sent d = record { to = d.to; port = d.port; bytes = d.bytes }
 
+-- a request of the resolver is tried once from its own address, whatever `send` answers
 abbrev pub IsSent : Locator → Sending → List Call → Type 0
 IsSent me d calls = AreTried me (sent d ∷ []) calls
 
@@ -123,6 +125,7 @@ after_heard (heard_as.Followed t d) = Request d
 after_heard (heard_as.Answer t o) = End t (Ok o)
 after_heard (heard_as.GaveUp t why) = End t (Err why)
 
+-- a tick sends a lookup's next request or ends the lookup; where no deadline has come it does nothing
 abbrev pub after_ticked : Ticked → Next
 after_ticked ticked_as.Nothing = Nothing
 after_ticked (ticked_as.Sent t d) = Request d

@@ -33,6 +33,7 @@ opening_desk ids = record { owners = []; ends = map (λ _. Unresolved) ids }
 abbrev pub owner_of : ℕ → Asker → Owner
 owner_of t who = record { ticket = t; asker = who }
 
+-- whoever asked waits for the lookup of this ticket, behind all who wait already
 abbrev pub with_owner : Desk → ℕ → Asker → Desk
 with_owner d t who = record d { owners = d.owners ++ owner_of t who ∷ [] }
 
@@ -58,6 +59,7 @@ is_unresolved (GaveUp why) = false
 is_unresolved (Refused why) = false
 is_unresolved Unresolved = true
 
+-- whether some identifier's lookup hasn't ended: as long as that is so there are more turns, up to the most allowed
 abbrev pub has_unresolved : List LoopEnd → Bool
 has_unresolved ends = list_any is_unresolved ends
 

@@ -13,10 +13,13 @@ use Rattle.ddt_loop.specs.Askers.{with_owner}
 use Rattle.ddt_loop.specs.Acts.{Running}
 use Rattle.ddt_loop.specs.Ends.{EndsBy, waiting_itrs}
 
+-- What comes of an ITR's request of so many bytes: the ITR waits for the lookup of this ticket. Without a ticket no
+-- lookup has started: the outcome was remembered, or the ask was refused.
 abbrev pub came_to_wait : Option ℕ → ℕ → Came
 came_to_wait (Some t) len = Waits t len
 came_to_wait None len = Nothing
 
+-- what comes of a datagram of this server: it has ended the lookup of an ITR, or none
 abbrev pub came_to_end : Locator → Option End → Came
 came_to_end by_ (Some e) = Ended by_ e
 came_to_end by_ None = Nothing

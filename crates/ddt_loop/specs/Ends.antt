@@ -26,6 +26,7 @@ abbrev pub if_itr : Owner → Asker → List Owner
 if_itr o (Identifier place) = []
 if_itr o (Itr q) = o ∷ []
 
+-- of all who wait only the ITRs, in the order of their asks; the identifiers of the loop's own list are left out
 abbrev pub waiting_itrs : List Owner → List Owner
 waiting_itrs [] = []
 waiting_itrs (o ∷ owners) = if_itr o o.asker ++ waiting_itrs owners
@@ -42,6 +43,8 @@ pub record IsEnd (t : ℕ) (end : Result Outcome Why) (owners after : List Owner
   pub takes : Takes t owners after taken
   pub is : ended ≡ ended_of t end taken
 
+-- A lookup that goes on leaves all who wait. Where one ends, whoever waited for it is taken off the list, and the end
+-- is given only if that was an ITR.
 abbrev pub HasEnded : Next → List Owner → List Owner → Option Ended → Type 0
 HasEnded Nothing owners after ended = (after ≡ owners) × (ended ≡ None)
 HasEnded (Request d) owners after ended = (after ≡ owners) × (ended ≡ None)

@@ -61,6 +61,8 @@ pub data PollsServer (servers : List Outline) (at : Locator) (calls : List Call)
 
 -- ---- at the socket of a place: 0 is the resolver's own
 
+-- Place 0 is the socket of the resolver's own address. Place k + 1 is that of a server's locator, at place k of the
+-- list; a poll there leaves the resolver as it was.
 abbrev pub Polls : List Outline → Locator → List Locator → ℕ → ℕ → Running → List Call → Running → Type 0
 Polls servers me sockets now zero w calls new = PollsMe me now w calls new
 Polls servers me sockets now (suc k) w calls new =

@@ -20,5 +20,6 @@ abbrev pub sets_in : Content → List (Option ReferralSet)
 sets_in (Children cs) = map (λ c. Some (set_of c)) cs
 sets_in (Sites ss) = []
 
+-- the referral sets of an authority's children, in the order of the configuration; an empty list where it has sites
 abbrev pub sets_of : Authority → List (Option ReferralSet)
 sets_of a = sets_in a.content

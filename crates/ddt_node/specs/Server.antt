@@ -43,6 +43,7 @@ abbrev pub without_d : List ℕ → List ℕ
 without_d [] = []
 without_d (b ∷ others) = (b / s_place * s_place + b % d_place) ∷ others
 
+-- the request on its way to an ETR: as it came, but for the bit D, which is clear
 abbrev pub forward_to : List ℕ → Locator → Forward
 forward_to bytes_ to_ = record { to = to_; bytes = without_d bytes_ }
 
@@ -61,6 +62,7 @@ ignored = record { reply = None; forward = None }
 abbrev pub in_buffer : List ℕ → Buffered → Handled
 in_buffer bytes b = record { reply = if b.has_reply then Some bytes else None; forward = b.forward }
 
+-- what is sent for a datagram that is ignored, where a reply would stand in a buffer: nothing
 abbrev pub nothing_sent : Buffered
 nothing_sent = record { has_reply = false; forward = None }
 
@@ -82,6 +84,7 @@ abbrev pub if_ddt : Result Message RequestFault → Option Message
 if_ddt (Ok m) = if m.ddt then Some m else None
 if_ddt (Err fault) = None
 
+-- the DDT Map-Request that the bytes are; none where they are no request, or one of an ITR with the bit D clear
 abbrev pub ddt_request : List ℕ → Option Message
 ddt_request bytes = if_ddt (message_in bytes)
 
@@ -90,6 +93,8 @@ abbrev pub handled_as : Outline → List ℕ → Option Message → Handled
 handled_as c bytes (Some m) = answered c bytes m
 handled_as c bytes None = ignored
 
+-- What a server with this configuration sends for a datagram: a Map-Referral, and on MS-ACK also the request to the
+-- site's first ETR; nothing where it is no DDT Map-Request.
 abbrev pub handled : Outline → List ℕ → Handled
 handled c bytes = handled_as c bytes (ddt_request bytes)
 
@@ -102,5 +107,6 @@ is_ack MsNotRegistered = false
 is_ack DelegationHole = false
 is_ack NotAuthoritative = false
 
+-- whether a datagram is a DDT Map-Request that is answered by MS-ACK: just then the request goes on to an ETR
 abbrev pub acknowledges : Outline → List ℕ → Bool
 acknowledges c bytes = option_map_or (λ m. is_ack (answer c (xeid_path m.xeid)).action) (ddt_request bytes) false

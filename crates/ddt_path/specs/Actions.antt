@@ -12,6 +12,7 @@ number MsNotRegistered = 3
 number DelegationHole = 4
 number NotAuthoritative = 5
 
+-- The six actions of a Map-Referral, by rising number from 0 to 5.
 abbrev pub all_actions : List Action
 all_actions = NodeReferral ∷ MsReferral ∷ MsAck ∷ MsNotRegistered ∷ DelegationHole ∷ NotAuthoritative ∷ []
 

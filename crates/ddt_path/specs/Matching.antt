@@ -30,6 +30,8 @@ best_match preference prefix (a ∷ others) x =
 abbrev pub longest_match : {A : Type 0} → (A → List ℕ) → List A → List ℕ → Option A
 longest_match prefix items x = best_match Longest prefix items x
 
+-- The item of the shortest prefix that covers x, or none; of equal prefixes the first. Used for the next zone that
+-- a server refers to.
 abbrev pub shortest_match : {A : Type 0} → (A → List ℕ) → List A → List ℕ → Option A
 shortest_match prefix items x = best_match Shortest prefix items x
 

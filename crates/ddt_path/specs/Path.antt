@@ -26,10 +26,12 @@ abbrev pub address_width : Locator → ℕ
 address_width (V4 a) = 32
 address_width (V6 a) = 128
 
+-- An address as one number, its first byte the most significant: 10.0.0.1 is 167772161.
 abbrev pub address_number : Locator → ℕ
 address_number (V4 a) = a
 address_number (V6 a) = a
 
+-- The binary digits of an address, most significant first: 32 of IPv4, 128 of IPv6.
 abbrev pub address_digits : Locator → List ℕ
 address_digits a = digits (address_width a) (address_number a)
 
@@ -50,10 +52,12 @@ path (Block iid address len) = digits 32 iid ++ (family address ∷ take len (ad
 abbrev pub are_binary : List ℕ → Bool
 are_binary ds = list_all (λ d. nat_lt d 2) ds
 
+-- What follows the 32 digits of the Instance ID: the symbol 4 and 32 binary digits, or the symbol 6 and 128.
 abbrev pub is_address_part : List ℕ → Bool
 is_address_part [] = false
 is_address_part (symbol ∷ ds) = are_binary ds && ((symbol == 4 && length ds == 32) || (symbol == 6 && length ds == 128))
 
+-- The path of a whole XEID: 32 digits of the Instance ID, then an address in full.
 abbrev pub is_path : List ℕ → Bool
 is_path ds = are_binary (take 32 ds) && is_address_part (drop 32 ds)
 
@@ -67,6 +71,8 @@ is_address_front [] = true
 is_address_front (symbol ∷ ds) = are_binary ds
     && ((symbol == 4 && nat_le (length ds) 32) || (symbol == 6 && nat_le (length ds) 128))
 
+-- The path of an XEID-prefix, which may end anywhere: that of the root, `*`, has no digits, and that of a single XEID
+-- has all of them.
 abbrev pub is_prefix_path : List ℕ → Bool
 is_prefix_path ds = are_binary (take 32 ds) && is_address_front (drop 32 ds)
 
@@ -74,14 +80,17 @@ is_prefix_path ds = are_binary (take 32 ds) && is_address_front (drop 32 ds)
 abbrev pub are_zero : List ℕ → Bool
 are_zero ds = list_all (λ d. d == 0) ds
 
+-- The digits past the length: the rest of a range's Instance ID, or of a block's address.
 abbrev pub form_tail : Form → List ℕ
 form_tail (Range iid len) = drop len (digits 32 iid)
 form_tail (Block iid address len) = drop len (address_digits address)
 
+-- The greatest length that a form may have: 32 for a range of instances or of IPv4 addresses, 128 for IPv6.
 abbrev pub form_width : Form → ℕ
 form_width (Range iid len) = 32
 form_width (Block iid address len) = address_width address
 
+-- The length as it is written: it counts a range's digits of the Instance ID, or a block's digits of the address alone.
 abbrev pub form_len : Form → ℕ
 form_len (Range iid len) = len
 form_len (Block iid address len) = len

@@ -13,15 +13,19 @@ use Rattle.ddt_path.specs.declared.locator.Locator.{Locator}
 abbrev pub positive_ttl : ℕ
 positive_ttl = 1440
 
+-- The TTL of a DELEGATION-HOLE, in minutes (RFC 8111, section 8.3).
 abbrev pub hole_ttl : ℕ
 hole_ttl = 15
 
+-- The TTL of MS-NOT-REGISTERED, in minutes (RFC 8111, section 8.3).
 abbrev pub not_registered_ttl : ℕ
 not_registered_ttl = 1
 
+-- The TTL of NOT-AUTHORITATIVE, in minutes: 0, so that it is never cached (RFC 8111, section 8.3).
 abbrev pub not_authoritative_ttl : ℕ
 not_authoritative_ttl = 0
 
+-- DDT nodes are referred to by NODE-REFERRAL, Map-Servers by MS-REFERRAL (RFC 8111, section 6.1).
 abbrev pub referral_action : Role → Action
 referral_action Node = NodeReferral
 referral_action Ms = MsReferral

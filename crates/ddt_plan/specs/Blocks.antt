@@ -39,6 +39,8 @@ abbrev pub bit : Bool → ℕ
 bit false = 0
 bit true = 1
 
+-- The digit of the address family, which follows the 32 binary digits of the instance: 4 for IPv4, the lower half, and
+-- 6 for IPv6, the upper one.
 abbrev pub family_bit : Bool → ℕ
 family_bit false = 4
 family_bit true = 6

@@ -42,6 +42,8 @@ is_same_outcome Exact o p = is_same_service o p && is_same_path (record_of o).pr
 abbrev pub block_at : Register → List ℕ → Block
 block_at r p = record { prefix = p; outcome = assignment r p }
 
+-- A prefix with its assignment in register r, the earlier one, and in s, the later one. The two may be the same;
+-- `changes_at` leaves such prefixes out.
 abbrev pub change_at : Register → Register → List ℕ → Change
 change_at r s p = record { prefix = p; before = assignment r p; after = assignment s p }
 

@@ -16,6 +16,7 @@ counted n (NotRegistered p s) =
     record { holes = n.holes; registered = n.registered; not_registered = n.not_registered + 1 }
 counted n (Hole p) = record { holes = n.holes + 1; registered = n.registered; not_registered = n.not_registered }
 
+-- The counts with one more change: its earlier outcome counts as before, and its later outcome as after.
 abbrev pub changes_counted : ChangeCounts → Change → ChangeCounts
 changes_counted n c = record { before = counted n.before c.before; after = counted n.after c.after }
 

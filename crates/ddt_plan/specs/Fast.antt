@@ -30,6 +30,7 @@ use Rattle.ddt_plan.specs.Blocks.{keys_of, is_undivided}
 abbrev pub delegation_of : Register → Zone → Delegation
 delegation_of r z = record { prefix = z.prefix; role = z.kind; servers = locators_of r z.group }
 
+-- All zones of a register in the order of its rows, each with the locators of its group.
 abbrev pub delegations_of : Register → List Delegation
 delegations_of r = map (delegation_of r) r.zones
 
@@ -37,6 +38,7 @@ delegations_of r = map (delegation_of r) r.zones
 abbrev pub state_of : Site → SiteState
 state_of s = record { prefix = s.prefix; is_registered = not (length s.etrs == 0) }
 
+-- All sites of a register in the order of its rows, each as registered where it has an ETR.
 abbrev pub states_of : Register → List SiteState
 states_of r = map state_of r.sites
 
@@ -49,6 +51,7 @@ abbrev pub outcome_in : Delegation → Role → Option SiteState → List ℕ �
 outcome_in z Node site q = Hole q
 outcome_in z Ms site q = option_map_or (outcome_of_site z.servers q) site (Hole q)
 
+-- What a block q is assigned by its zone and its site; a delegation hole where it lies in no zone.
 abbrev pub outcome_from : Option Delegation → Option SiteState → List ℕ → Outcome
 outcome_from zone site q = option_map_or (λ z. outcome_in z z.role site q) zone (Hole q)
 
@@ -56,9 +59,11 @@ outcome_from zone site q = option_map_or (λ z. outcome_in z z.role site q) zone
 abbrev pub delegation_at : Register → List ℕ → Option Delegation
 delegation_at r q = longest_match (λ z. z.prefix) (delegations_of r) q
 
+-- The site with the longest EID-prefix that covers q, and whether it is registered; none where no site covers q.
 abbrev pub state_at : Register → List ℕ → Option SiteState
 state_at r q = longest_match (λ s. s.prefix) (states_of r) q
 
+-- What an accepted register assigns to block q, by the zone and the site that cover q most closely.
 abbrev pub outcome_at : Register → List ℕ → Outcome
 outcome_at r q = outcome_from (delegation_at r q) (state_at r q) q
 
@@ -83,6 +88,7 @@ pub record AreItemsOf (r : Register) (items : SortedItems) : Type 0 where
 abbrev pub delegations_below : Register → List ℕ → List Delegation
 delegations_below r q = filter (λ z. is_strictly_below z.prefix q) (delegations_of r)
 
+-- The sites of a register whose EID-prefixes lie inside q and are longer than it.
 abbrev pub states_below : Register → List ℕ → List SiteState
 states_below r q = filter (λ s. is_strictly_below s.prefix q) (states_of r)
 
@@ -99,14 +105,19 @@ pub record IsSettled (r : Register) (q : List ℕ) (outcome : Outcome) : Type 0 
   pub whole : is_undivided (keys_of r) q ≡ true
   pub assigned : outcome ≡ assignment r q
 
+-- What a register says at q: the one outcome of all that q covers; or, where zones or sites are strictly below q,
+-- these, and the zone and the site around it.
 abbrev pub IsSide : Register → List ℕ → Side → Type 0
 IsSide r q (Settled outcome) = IsSettled r q outcome
 IsSide r q (Divided division) = IsDivision r q division
 
+-- What two registers say at the same prefix: r, the earlier one, and s, the later one.
 pub record AreSides (r s : Register) (q : List ℕ) (sides : Sides) : Type 0 where
   pub before : IsSide r q sides.before
   pub after : IsSide s q sides.after
 
+-- The earlier outcome and the later one, where each register assigns the same to all of the prefix. There is none where
+-- either divides it, and then its two halves are looked at.
 abbrev pub outcomes_settled : Side → Side → Option (Outcome × Outcome)
 outcomes_settled (Settled o) (Settled p) = Some (o, p)
 outcomes_settled (Settled o) (Divided e) = None

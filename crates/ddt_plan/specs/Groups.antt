@@ -30,6 +30,7 @@ abbrev pub is_same_child : Child → Child → Bool
 is_same_child c d =
     is_same_path c.prefix d.prefix && (is_same_role c.role d.role && are_same_servers c.locators d.locators)
 
+-- Two sites have the same EID-prefix, and the same ETRs in the same order.
 abbrev pub is_same_site : SiteEntry → SiteEntry → Bool
 is_same_site s t = is_same_path s.prefix t.prefix && are_same_servers s.etrs t.etrs
 

@@ -22,6 +22,7 @@ earlier (Some (Before c)) = Some (outline c)
 earlier (Some (After d)) = None
 earlier (Some (Both c d)) = Some (outline c)
 
+-- The configuration that the group has in the later register; none where that register lacks the group.
 abbrev pub later : Option Versions → Option Outline
 later None = None
 later (Some (Before c)) = None

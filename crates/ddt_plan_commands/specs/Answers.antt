@@ -34,6 +34,8 @@ abbrev pub IsTextOfBlocks : Bool → Form → Bool → Register → List ℕ →
 IsTextOfBlocks true form with_holes = IsCountedText form
 IsTextOfBlocks false form with_holes = IsListedText form with_holes
 
+-- The text that `blocks` prints of a register: counts under `--count`, otherwise a line for each block inside the
+-- prefix, where `--no-holes` leaves out the delegation holes.
 abbrev pub IsBlocksText : BlocksAsked → Register → List ℕ → List ℕ → Type 0
 IsBlocksText asked = IsTextOfBlocks asked.counted asked.form asked.with_holes
 
@@ -66,6 +68,8 @@ abbrev pub IsTextOfChanges : Bool → Reading → Form → Register → Register
 IsTextOfChanges true = IsChangeCountsText
 IsTextOfChanges false = IsChangesText
 
+-- The text that `diff` prints of two registers, and whether anything differs: counts under `--count`, otherwise the
+-- changes and the groups.
 abbrev pub IsDiffText : DiffAsked → Register → Register → Bool → List ℕ → Type 0
 IsDiffText asked = IsTextOfChanges asked.counted asked.reading asked.form
 

@@ -10,6 +10,7 @@ use Rattle.ddt_plan.specs.Counts.{counted, changes_counted}
 abbrev pub no_outcomes : OutcomeCounts
 no_outcomes = record { holes = 0; registered = 0; not_registered = 0 }
 
+-- The counts at the start of `diff --count`: 0 of each kind, before and after.
 abbrev pub no_changes : ChangeCounts
 no_changes = record { before = no_outcomes; after = no_outcomes }
 
@@ -18,6 +19,7 @@ abbrev pub with_blocks : OutcomeCounts → List Block → OutcomeCounts
 with_blocks n [] = n
 with_blocks n (b ∷ bs) = with_blocks (counted n b.outcome) bs
 
+-- The counts with those of more changes, each of which counts by its outcome before and by its outcome after.
 abbrev pub with_changes : ChangeCounts → List Change → ChangeCounts
 with_changes n [] = n
 with_changes n (c ∷ cs) = with_changes (changes_counted n c) cs

@@ -23,6 +23,8 @@ block_text b = written_prefix b.prefix ++ outcome_field b.outcome
 abbrev pub change_text : Change → List ℕ
 change_text c = written_prefix c.prefix ++ (outcome_field c.before ++ outcome_field c.after)
 
+-- How a group's configuration changes: only the later register has the group, only the earlier one has it, or both have
+-- it with configurations that aren't alike.
 abbrev pub kind_word : GroupChangeKind → List ℕ
 kind_word Added = codes "added"
 kind_word Removed = codes "removed"
@@ -36,6 +38,8 @@ group_text c = codes "group\t" ++ c.name ++ codes "\t" ++ kind_word c.kind
 abbrev pub negative_cache_text : List ℕ
 negative_cache_text = codes "caches\tnegative answers\t15 minutes 2 seconds"
 
+-- For how long resolvers may go on to use old referrals, and so old servers: the day that a referral is kept, and two
+-- seconds for a reply that was on its way.
 abbrev pub server_cache_text : List ℕ
 server_cache_text = codes "caches\tservers\t1 day 2 seconds"
 

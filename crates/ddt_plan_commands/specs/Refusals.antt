@@ -51,6 +51,7 @@ stop_of_lines plan.Memory = Refused OutOfMemory
 stop_of_lines (plan.Refused line.Memory) = Refused OutOfMemory
 stop_of_lines (plan.Refused line.Unprinted) = Unprinted
 
+-- How a command stops where not all was counted: it refuses, as memory ran out or as a count would pass 2^64 - 1.
 abbrev pub stop_of_counts : PlanFault TooManyToCount → Stop
 stop_of_counts plan.Memory = Refused OutOfMemory
 stop_of_counts (plan.Refused full) = Refused CountFull
@@ -80,6 +81,7 @@ no_register_text path (ddt.NoRegister (register.CannotOpen name)) = Some (codes 
 no_register_text path ddt.OutOfMemory = Some (codes "out of memory")
 no_register_text path why = option_map (λ text. path ++ (codes ": " ++ text)) (refusal_text why)
 
+-- The text for whatever `blocks` or `diff` refuses; none where it shows the fault of a prefix or of a register.
 abbrev pub plan_refusal_text : PlanRefusal → Option (List ℕ)
 plan_refusal_text (BadPrefix fault) = None
 plan_refusal_text (NoRegister path why) = no_register_text path.now why

@@ -30,6 +30,7 @@ IfTaken (Err why) so = ⊤
 abbrev pub Notes : {W : Type 0} → ChangeLines W → Change → ChangeLines W → Type 0
 Notes before change after = (after.some ≡ true) × (after.negative ≡ (before.negative || was_negative change))
 
+-- The line of a change is printed, in the form that is asked for, which stays. Where that succeeds the change is noted.
 abbrev pub TakesChange : {W : Type 0} → (W → Option (List ℕ)) → ChangeLines W → Change → Result (Unit {0}) LineFault
     → ChangeLines W → Type 0
 TakesChange contents before change answer after =

@@ -16,11 +16,13 @@ use Rattle.ddt_plan_commands.specs.Lines.{block_text, change_text, counts_text, 
 use Rattle.ddt_plan_commands.specs.Lines.{negative_cache_text, server_cache_text}
 use Rattle.ddt_plan_commands.specs.Objects.{block_data, change_data, counts_data, change_counts_data, group_data, cache_data}
 
+-- The outcome is a delegation hole, which `blocks --no-holes` leaves out.
 abbrev pub is_hole : Outcome → Bool
 is_hole (Registered p s) = false
 is_hole (NotRegistered p s) = false
 is_hole (Hole p) = true
 
+-- The line of a block: its prefix and its outcome, as fields that a tab divides or as a JSON object.
 abbrev pub written_block : Form → Block → List ℕ
 written_block Text b = ended (block_text b)
 written_block Json b = ended (compact_text (block_data b))
@@ -29,18 +31,23 @@ written_block Json b = ended (compact_text (block_data b))
 abbrev pub listed_block : Form → Bool → Block → List ℕ
 listed_block form with_holes b = if not with_holes && is_hole b.outcome then [] else written_block form b
 
+-- The line of a change: the prefix, the outcome before and the outcome after.
 abbrev pub written_change : Form → Change → List ℕ
 written_change Text c = ended (change_text c)
 written_change Json c = ended (compact_text (change_data c))
 
+-- How many blocks there are of each kind: as text a line for each, as JSON one line for all.
 abbrev pub written_counts : Form → OutcomeCounts → List ℕ
 written_counts Text n = counts_text n
 written_counts Json n = ended (compact_text (counts_data n))
 
+-- How many changed blocks there were and are of each kind, and how many groups' configurations change: as text a line
+-- for each number or pair, as JSON one line for all.
 abbrev pub written_change_counts : Form → ChangeCounts → ℕ → List ℕ
 written_change_counts Text n groups = change_counts_text n groups
 written_change_counts Json n groups = ended (compact_text (change_counts_data n groups))
 
+-- The line of a group whose configuration changes.
 abbrev pub written_group : Form → GroupChange → List ℕ
 written_group Text c = ended (group_text c)
 written_group Json c = ended (compact_text (group_data c))
@@ -50,10 +57,13 @@ abbrev pub negative_cache : Form → List ℕ
 negative_cache Text = ended negative_cache_text
 negative_cache Json = ended (compact_text (cache_data (codes "negative answers") 902))
 
+-- The line that says for how long resolvers may use old servers: a day and two seconds, in JSON 86,402 seconds.
 abbrev pub server_cache : Form → List ℕ
 server_cache Text = ended server_cache_text
 server_cache Json = ended (compact_text (cache_data (codes "servers") 86402))
 
+-- For how long caches answer the old way: always the line for servers, and that for negative answers only where a
+-- changed block had one before.
 abbrev pub written_caches : Form → Bool → List ℕ
 written_caches form negative = (if negative then negative_cache form else []) ++ server_cache form
 
@@ -74,9 +84,12 @@ is_negative (Registered p s) = false
 is_negative (NotRegistered p s) = true
 is_negative (Hole p) = true
 
+-- The identifiers were in a hole or in a site that wasn't registered, so a resolver may still hold a negative answer
+-- for them.
 abbrev pub was_negative : Change → Bool
 was_negative c = is_negative c.before
 
+-- At least one is listed. `differs` asks this of the changes and of the groups.
 abbrev pub has_some : {A : Type 0} → List A → Bool
 has_some [] = false
 has_some (x ∷ xs) = true

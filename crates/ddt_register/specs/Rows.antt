@@ -23,15 +23,20 @@ has_row rows row = list_any (λ r. r == row) rows
 abbrev pub are_apart : List ℕ → List ℕ → Bool
 are_apart rows others = list_all (λ row. not (has_row others row)) rows
 
+-- The row of each zone, in the order of the list.
 abbrev pub zone_rows : List Zone → List ℕ
 zone_rows zones = map (λ z. z.row) zones
 
+-- The row of each site, in the order of the list.
 abbrev pub site_rows : List Site → List ℕ
 site_rows sites = map (λ s. s.row) sites
 
+-- The row of each server group, in the order of the list.
 abbrev pub group_rows : List Group → List ℕ
 group_rows groups = map (λ g. g.row) groups
 
+-- The rows of a register: within each of the three lists they rise, from 1 to at most 65,535, and no row stands in two
+-- lists. Items whose rows are not so make no register.
 abbrev pub are_rows : List Zone → List Site → List Group → Bool
 are_rows zones sites groups =
     (rise 0 (zone_rows zones) && (rise 0 (site_rows sites) && rise 0 (group_rows groups)))

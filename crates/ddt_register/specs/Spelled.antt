@@ -67,6 +67,7 @@ locators_in fault text = if length text == 0 then Ok [] else each_locator fault 
 
 -- ---- a row of each kind: prefix, group and addresses are examined in this order
 
+-- A server group, `group-node` or `group-ms`: no prefix, its name, and the locators of its servers.
 abbrev pub group_in : Role → ℕ → List ℕ → List ℕ → List ℕ → Result Row ReadFault
 group_in role row prefix group addresses = do
   _ ← empty_in (Fault.Prefix row) prefix
@@ -74,6 +75,7 @@ group_in role row prefix group addresses = do
   locators ← locators_in (Fault.Address row) addresses
   Ok (Of.Group (record { name = name; kind = role; locators = locators; row = row }))
 
+-- A zone, `node` or `ms`: its prefix, the name of the group that serves it, and no addresses.
 abbrev pub zone_in : Role → ℕ → List ℕ → List ℕ → List ℕ → Result Row ReadFault
 zone_in role row prefix group addresses = do
   path ← field_of (Fault.Prefix row) (prefix_in prefix)
@@ -81,6 +83,7 @@ zone_in role row prefix group addresses = do
   _ ← empty_in (Fault.Address row) addresses
   Ok (Of.Zone (record { prefix = path; kind = role; group = name; row = row }))
 
+-- A site: its prefix, no group, and its ETRs' locators. A site without an ETR isn't registered.
 abbrev pub site_in : ℕ → List ℕ → List ℕ → List ℕ → Result Row ReadFault
 site_in row prefix group addresses = do
   path ← field_of (Fault.Prefix row) (prefix_in prefix)
@@ -88,6 +91,7 @@ site_in row prefix group addresses = do
   etrs ← locators_in (Fault.Address row) addresses
   Ok (Of.Site (record { prefix = path; etrs = etrs; row = row }))
 
+-- A row of the kind that its first field names: a server group, a zone or a site.
 abbrev pub item_in : Kind → ℕ → List ℕ → List ℕ → List ℕ → Result Row ReadFault
 item_in (Kind.Group role) row prefix group addresses = group_in role row prefix group addresses
 item_in (Kind.Zone role) row prefix group addresses = zone_in role row prefix group addresses
@@ -128,6 +132,7 @@ pub record Lists : Type 0 where
   pub sites : List Site
   pub groups : List Group
 
+-- The lists of an empty file, and of one that holds only the names of the columns.
 abbrev pub no_items : Lists
 no_items = record { zones = []; sites = []; groups = [] }
 
@@ -149,6 +154,7 @@ rows_in row (fields ∷ records) = do
   items ← rows_in (row + 1) records
   Ok (joined (items_of item) items)
 
+-- The first record has just the fields `kind`, `prefix`, `group` and `addresses`, in this order and in lower case.
 abbrev pub are_columns : List (List ℕ) → Bool
 are_columns (kind ∷ prefix ∷ group ∷ addresses ∷ []) =
     bytes_eq kind (codes "kind") && (bytes_eq prefix (codes "prefix")
@@ -168,6 +174,7 @@ spelled (columns ∷ rows) = do
 
 -- ---- an answer against what is spelled
 
+-- The zones, sites and groups of a register, for comparison with what a file spells.
 abbrev pub lists_of : Register → Lists
 lists_of register = record { zones = register.zones; sites = register.sites; groups = register.groups }
 

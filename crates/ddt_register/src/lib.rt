@@ -21,5 +21,6 @@ pub use item::{Item, first_row};
 pub use laws::a_register_is_in_range;
 pub use reading::read_register;
 pub use register::{MOST_ROWS, Register};
+pub use row::{Row, read_row};
 pub use site::Site;
 pub use zone::Zone;

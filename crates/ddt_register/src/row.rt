@@ -17,7 +17,7 @@ use std::alloc::Global;
 
 /// One row of the register.
 #[derive(Debug, Drop)]
-pub(crate) enum Row {
+pub enum Row {
     Zone(Zone),
     Site(Site),
     Group(Group),
@@ -192,8 +192,9 @@ fn field(fields: &ByteRecord, place: usize) -> &[u8]
     fields.get(place).unwrap_or(b"")
 }
 
-/// What a record of four fields spells as the row of this number.
-pub(crate) fn read_row(alloc: Global, row: u32, fields: &ByteRecord) -> Result<Row, ReadFault>
+/// What a record of four fields spells as the row of this number, as `read_register` reads it. The first fault of the
+/// record decides: 3 Kind, 4 Prefix, 5 Name or 6 Address of this row; 9 Memory where memory runs out.
+pub fn read_row(alloc: Global, row: u32, fields: &ByteRecord) -> Result<Row, ReadFault>
     requires row { row ≤ most_rows }
     requires four { length (fields_of fields.now) ≡ 4 }
     ensures { UnlessMemory result (row_in row (fields_of fields.now)) }

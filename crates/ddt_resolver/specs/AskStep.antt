@@ -57,6 +57,7 @@ UnlessMemory (Err TooMany) P = P
 UnlessMemory (Err Exhausted) P = P
 UnlessMemory (Ok asked) P = P
 
+-- a fact that is claimed only of an ask that is refused for want of memory; of other answers nothing is claimed
 abbrev pub OnMemory : Result Asked AskError → Type 0 → Type 0
 OnMemory (Err Memory) P = P
 OnMemory (Err TooMany) P = Unit {0}

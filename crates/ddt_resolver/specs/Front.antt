@@ -34,6 +34,7 @@ pub record IsItrRequest (bytes : List ℕ) (q : ItrRequest) : Type 0 where
 abbrev pub asked_at : Message → Locator → ItrRequest
 asked_at m l = record { xeid = m.xeid; nonce = m.nonce; to = l; port = m.port }
 
+-- what an ITR asks by this message; none where the bit D is set, for then a resolver asks, or without an ITR-RLOC
 abbrev pub asked_by : Message → Option ItrRequest
 asked_by m = if m.ddt then None else option_map (asked_at m) (slice_get m.rlocs 0)
 
@@ -54,6 +55,8 @@ negative_for x (Registered p servers) = None
 negative_for x (NotRegistered p servers) = Some (not_registered_ttl, block_for x p)
 negative_for x (Hole p) = Some (hole_ttl, block_for x p)
 
+-- the negative Map-Reply with this TTL in minutes and this prefix: it repeats the nonce of the request, and goes to
+-- its first ITR-RLOC at its inner source port
 abbrev pub datagram_for : ItrRequest → (ℕ × List ℕ) → Outgoing
 datagram_for q n = record { to = q.to; port = q.port; bytes = written_reply (reply_of q.nonce n.0 n.1) }
 

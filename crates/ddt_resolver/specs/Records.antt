@@ -28,6 +28,7 @@ outcome_at MsAck prefix servers = Registered prefix servers
 outcome_at MsNotRegistered prefix servers = NotRegistered prefix servers
 outcome_at _ prefix servers = Hole prefix
 
+-- how a lookup ends at its last record: MS-ACK is registered, MS-NOT-REGISTERED not registered, DELEGATION-HOLE a hole
 abbrev pub outcome_of : ReferralRecord → Outcome
 outcome_of rec = outcome_at rec.action rec.prefix rec.servers
 

@@ -3,6 +3,7 @@ use Rattle.std.specs.Prelude.{ℕ, refl}
 use Rattle.std.specs.Coded.{Coded, code_by, coded×, coded_ℕ}
 use Rattle.ddt_resolver.specs.declared.pending.Pending.{Pending}
 
+-- a pending lookup under its ticket: the nonce of its first request, also where later requests got other nonces
 pub record Waiting : Type 0 where
   pub ticket : ℕ
   pub lookup : Pending

@@ -9,6 +9,7 @@ use Rattle.ddt_text.specs.declared.fault.TextFault.{TextFault}
 use Rattle.ddt_text.specs.FirstFault.{prefix_in}
 use Rattle.ddt_text.specs.Grammar.{SpellsPrefix}
 
+-- the digits of an RLOC: 32 zeros for instance 0, the family symbol 4 or 6, and the binary digits of the address
 abbrev pub rloc_path : Locator → List ℕ
 rloc_path l = xeid_path (record { iid = 0; address = l })
 
@@ -24,6 +25,7 @@ is_allowed prefixes l = list_any (λ p. is_in p l) prefixes
 abbrev pub with_instance : List ℕ → List ℕ
 with_instance text = codes "[0]" ++ text
 
+-- a text `ADDRESS/LENGTH` spells the prefix with these digits
 abbrev pub SpellsRlocPrefix : List ℕ → List ℕ → Type 0
 SpellsRlocPrefix text p = SpellsPrefix (with_instance text) p
 

@@ -44,9 +44,11 @@ abbrev pub listed : Items → List Data
 listed no_items = []
 listed (item d ds) = d ∷ listed ds
 
+-- the text that a value is; any other kind of value is the fault Field of the key
 abbrev pub text_of : Key → Data → Result (List ℕ) SettingsFault
 text_of k d = of_kind k (as_str d)
 
+-- the values of the array that a value is, in their order; any other kind of value is the fault Field of the key
 abbrev pub array_of : Key → Data → Result (List Data) SettingsFault
 array_of k d = of_kind k (option_map listed (as_array d))
 
@@ -54,6 +56,7 @@ array_of k d = of_kind k (option_map listed (as_array d))
 abbrev pub locator_of : Key → Data → Result Locator SettingsFault
 locator_of k d = text_of k d >>= λ text. of_form k text (locator_in text)
 
+-- the digits of the prefix of RLOCs that a value is, as "192.0.2.0/24"; a text of another form is the fault Value
 abbrev pub rlocs_of : Key → Data → Result (List ℕ) SettingsFault
 rlocs_of k d = text_of k d >>= λ text. of_form k text (block_in text)
 
@@ -66,6 +69,7 @@ abbrev pub prefixes_at : Key → Option Data → Result (List (List ℕ)) Settin
 prefixes_at k None = Ok []
 prefixes_at k (Some d) = array_of k d >>= each (rlocs_of k)
 
+-- the prefixes of RLOCs at a key of the table; a table without the key `allow` allows no ITR
 abbrev pub prefixes_in : Key → Members → Result (List (List ℕ)) SettingsFault
 prefixes_in k ms = prefixes_at k (get_member (key_text k) ms)
 
@@ -98,5 +102,6 @@ abbrev pub settings_in_document : Option Members → Result Settings SettingsFau
 settings_in_document None = Err Toml
 settings_in_document (Some ms) = settings_in ms
 
+-- the settings that a text stands for, or its first fault: Toml where the text is no TOML
 abbrev pub settings_in_text : List ℕ → Result Settings SettingsFault
 settings_in_text text = settings_in_document (parse_document text)

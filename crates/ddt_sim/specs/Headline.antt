@@ -59,6 +59,7 @@ IsHonestHop r x me hop =
 abbrev pub IsAssigned : Register → Xeid → Lookup → Type 0
 IsAssigned r x l = l.outcome ≡ assignment r (xeid_path x)
 
+-- each of its hops asks for x, and the reply is what the register says of x at the locator that was asked
 abbrev pub HasHonestHops : Register → Xeid → Locator → Lookup → Type 0
 HasHonestHops r x me l = All (IsHonestHop r x me) l.hops
 
@@ -66,6 +67,7 @@ HasHonestHops r x me l = All (IsHonestHop r x me) l.hops
 abbrev pub zones_over : Register → List ℕ → ℕ
 zones_over r x = length (filter (λ z. covers z.prefix x) r.zones)
 
+-- it sends at most 7 requests more than there are zones that cover x
 abbrev pub HasFewHops : Register → Xeid → Lookup → Type 0
 HasFewHops r x l = length l.hops ≤ zones_over r (xeid_path x) + 7
 

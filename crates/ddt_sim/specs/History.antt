@@ -34,6 +34,7 @@ Each holds (line ∷ past) = holds past line × Each holds past
 abbrev pub steps_of : List Line → List Step
 steps_of past = reverse (map (λ line. line.step) past)
 
+-- what came of each step, the oldest first, as a transcript lists it
 abbrev pub events_of : List Line → List Event
 events_of past = reverse (map (λ line. line.event) past)
 

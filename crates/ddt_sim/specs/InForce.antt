@@ -103,20 +103,29 @@ EachLineInForce holds servers old steps t new =
     (registers : ℕ → Register) → AreRegisters servers registers old → (past : List Line)
     → Tells servers old steps t new past → Each (holds registers) past
 
+-- A lookup's outcome is what a register assigns to the identifier of its ask, one that was in force then or since.
 abbrev pub AnswersAreSince : Members → State → List Step → Transcript → State → Type 0
 AnswersAreSince = EachLineInForce IsAnswerSince
 
+-- What is answered from what is remembered is the assignment of a register that is in force, or that was less than
+-- 902,000 milliseconds before.
 abbrev pub AnswersAreOfLate : Members → State → List Step → Transcript → State → Type 0
 AnswersAreOfLate = EachLineInForce IsAnswerOfLate
 
+-- A request that is delivered to a server of the register in force has that register's reply; elsewhere it has none.
 abbrev pub RepliesAreInForce : Members → State → List Step → Transcript → State → Type 0
 RepliesAreInForce = EachLineInForce IsReplyInForce
 
+-- A lookup gives up only as NoReply, Loop, NotAuthoritative or Exhausted. A reply is ignored only as UnknownNonce or
+-- Late, and an ask is refused only as TooMany or Exhausted.
 abbrev pub FailuresAreInForce : Members → State → List Step → Transcript → State → Type 0
 FailuresAreInForce = EachLineInForce (λ registers. IsFailureInForce)
 
+-- A lookup gives up for want of a reply only where each server of its set was asked twice, and none of these requests
+-- had a reply within 2,000 milliseconds.
 abbrev pub NoRepliesAreInForce : Members → State → List Step → Transcript → State → Type 0
 NoRepliesAreInForce = EachLineInForce (λ registers. IsNoReplyInForce)
 
+-- No ticket is given to two asks, and no lookup ends twice, also where registers replace each other.
 abbrev pub TicketsEndOnceInForce : Members → State → List Step → Transcript → State → Type 0
 TicketsEndOnceInForce = EachLineInForce (λ registers. IsOnce)

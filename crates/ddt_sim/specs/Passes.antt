@@ -25,6 +25,7 @@ in_front MsReferral (n ∷ passes) = (n + 1) ∷ passes
 in_front NotAuthoritative passes = 0 ∷ passes
 in_front action passes = passes
 
+-- the same by the reply of a hop; one that can't be read as a Map-Referral changes nothing
 abbrev pub told_in_front : Result Message ReferralFault → List ℕ → List ℕ
 told_in_front (Ok message) passes = in_front message.action passes
 told_in_front (Err fault) passes = passes

@@ -50,6 +50,7 @@ Opens (Replaced k) t = ⊥
 Opens (Ticked h) t = ⊥
 Opens Nothing t = ⊥
 
+-- The lookup of a ticket ends by a reply that is heard or by a tick: with its outcome, or with why it gave up.
 abbrev pub Ends : Event → ℕ → Result Outcome Why → Type 0
 Ends (Heard (heard_as.Answer u o)) t end = (u ≡ t) × (end ≡ Ok o)
 Ends (Heard (heard_as.GaveUp u why)) t end = (u ≡ t) × (end ≡ Err why)
@@ -71,9 +72,11 @@ Ends Nothing t end = ⊥
 abbrev pub AsksFor : ℕ → Xeid → Line → Type 0
 AsksFor t x line = (line.step ≡ Ask x) × Opens line.event t
 
+-- a line's ask sends the first request of a lookup under this ticket; an ask that is answered at once has none
 abbrev pub IsOpened : ℕ → Line → Type 0
 IsOpened t line = Opens line.event t
 
+-- a line ends the lookup of a ticket, with an outcome or without one
 abbrev pub IsEnded : ℕ → Line → Type 0
 IsEnded t line = (end : Result Outcome Why) × Ends line.event t end
 
@@ -126,14 +129,20 @@ EachLine holds servers old steps t new =
     (r : Register) → servers.honest 0 r → KeepServers steps → StartsSound r old → (past : List Line)
     → Tells servers old steps t new past → Each (holds r) past
 
+-- Each outcome, remembered or of a lookup, is what the register assigns to the identifier that was asked for.
 abbrev pub AnswersAreRight : Members → State → List Step → Transcript → State → Type 0
 AnswersAreRight = EachLine IsRightAnswer
 
+-- Each request that is delivered has one reply: a datagram with the request's nonce, and what the register says there
+-- of its identifier.
 abbrev pub RepliesAreRight : Members → State → List Step → Transcript → State → Type 0
 RepliesAreRight = EachLine IsRightReply
 
+-- No ticket is given to two asks, and no lookup ends twice.
 abbrev pub TicketsEndOnce : Members → State → List Step → Transcript → State → Type 0
 TicketsEndOnce = EachLine (λ r. IsOnce)
 
+-- A lookup gives up only as NoReply or Exhausted, a reply is ignored only as UnknownNonce or Late, and an ask is
+-- refused only as TooMany or Exhausted.
 abbrev pub FailuresAreRight : Members → State → List Step → Transcript → State → Type 0
 FailuresAreRight = EachLine (λ r. IsRightFailure)

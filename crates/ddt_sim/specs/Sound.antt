@@ -93,12 +93,15 @@ IsRightAsked r x (Err why) = Unit {0}
 abbrev pub IsRightEnd : Register → State → ℕ → Outcome → Type 0
 IsRightEnd r s t o = (l : Pending) → get s.pending t ≡ Some l → o ≡ assignment r (xeid_path l.x)
 
+-- A datagram ends a lookup with the assignment of the lookup's identifier, or for want of a reply or of nonces. Nothing
+-- is asked of a datagram that is ignored, or that the lookup follows.
 abbrev pub IsRightHeard : Register → State → Heard → Type 0
 IsRightHeard r s (heard.Answer t o) = IsRightEnd r s t o
 IsRightHeard r s (heard.GaveUp t why) = IsRightWhy why
 IsRightHeard r s (heard.Ignored why) = Unit {0}
 IsRightHeard r s (heard.Followed t d) = Unit {0}
 
+-- So it is with a tick. Nothing is asked of one that sends a request, or finds no deadline that has come.
 abbrev pub IsRightTicked : Register → State → Ticked → Type 0
 IsRightTicked r s (ticked.Answer t o) = IsRightEnd r s t o
 IsRightTicked r s (ticked.GaveUp t why) = IsRightWhy why

@@ -137,5 +137,7 @@ pub record HasNoReply (r : Register) (past : List Line) (w : World) (t : ℕ) : 
 abbrev pub IsRightNoReply : Register → List Line → Line → Type 0
 IsRightNoReply r past line = (t : ℕ) → Ends line.event t (Err NoReply) → HasNoReply r past line.before t
 
+-- A lookup gives up for want of a reply only where its servers are those of a zone that covers its identifier, each was
+-- asked twice, and none of these requests had a reply within 2,000 milliseconds.
 abbrev pub NoRepliesAreRight : Members → State → List Step → Transcript → State → Type 0
 NoRepliesAreRight = EachLine IsRightNoReply

@@ -32,6 +32,7 @@ pub record World : Type 0 where
   pub sent : List Datagram
   pub state : State
 
+-- a world of these parts: the moment in milliseconds, the number of the servers in force, the datagrams, the resolver
 abbrev pub world : ℕ → ℕ → List Datagram → State → World
 world moment_ member_ sent_ state_ =
     record { moment = moment_; member = member_; sent = sent_; state = state_ }
@@ -47,6 +48,7 @@ pub record Members : Type 1 where
 abbrev pub at_place : {S : Type 0} → (S → Register → Type 0) → List S → ℕ → Register → Type 0
 at_place {S} fact servers k r = (own : S) × (slice_get servers k ≡ Some own) × fact own r
 
+-- the servers of a list as members: the number of each is its place, from 0, and the first are in force at the start
 abbrev pub members : {S : Type 0} → (S → Register → Type 0) → (S → Register → Type 0) → List S → Members
 members are_honest are_silent servers =
     record { count = length servers; honest = at_place are_honest servers; silent = at_place are_silent servers }
@@ -97,6 +99,7 @@ request_at Nothing = None
 abbrev pub request_from : Locator → Outgoing → Datagram
 request_from me d = record { source = me; to = d.to; is_reply = false; bytes = d.bytes }
 
+-- the datagrams that a step of the resolver adds: its request, if it sends one
 abbrev pub sent_for : Locator → Option Outgoing → List Datagram
 sent_for me (Some d) = request_from me d ∷ []
 sent_for me None = []

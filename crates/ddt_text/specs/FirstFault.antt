@@ -41,6 +41,7 @@ address_in text =
 abbrev pub before : ℕ → List ℕ → List ℕ
 before byte text = take (position_or_len (λ b. b == byte) text) text
 
+-- The text from the first such byte on, that byte included; empty where there is none.
 abbrev pub onward : ℕ → List ℕ → List ℕ
 onward byte text = drop (position_or_len (λ b. b == byte) text) text
 
@@ -54,10 +55,13 @@ abbrev pub inner_or_bracket : List ℕ → List ℕ → Result (List ℕ × List
 inner_or_bracket inner [] = Err Bracket
 inner_or_bracket inner (bracket ∷ rest) = Ok (inner, rest)
 
+-- What stands in the brackets at the front of a text, and what follows them. Empty where the text is empty, Bracket
+-- where it has no `[` at its front or no `]`.
 abbrev pub brackets_in : List ℕ → Result (List ℕ × List ℕ) TextFault
 brackets_in [] = Err Empty
 brackets_in (first ∷ rest) = if first == 91 then inner_or_bracket (before 93 rest) (onward 93 rest) else Err Bracket
 
+-- An Instance ID: a decimal number up to 4,294,967,295, without leading zeros. All else is the fault Instance.
 abbrev pub iid_in : List ℕ → Result ℕ TextFault
 iid_in text = value_or Instance (number_in 4294967295 text)
 
@@ -71,6 +75,7 @@ abbrev pub nothing_after : {A : Type 0} → A → List ℕ → Result A TextFaul
 nothing_after a [] = Ok a
 nothing_after a (slash ∷ rest) = Err Trailing
 
+-- An identifier, as `[7]10.1.2.3`; Trailing is the fault of one with a `/` behind its address.
 abbrev pub xeid_in : List ℕ → Result Xeid TextFault
 xeid_in text = do
   parts ← brackets_in text
@@ -118,6 +123,7 @@ abbrev pub range_or_block : List ℕ → List ℕ → List ℕ → Result (List 
 range_or_block iid [] rest = block_in iid rest
 range_or_block iid (slash ∷ len) rest = range_in iid len rest
 
+-- A prefix other than `*`: a range, as `[16/28]*`, or a block, as `[0]10.0.0.0/8`.
 abbrev pub bracketed_prefix_in : List ℕ → Result (List ℕ) TextFault
 bracketed_prefix_in text = do
   parts ← brackets_in text

@@ -16,9 +16,12 @@ abbrev pub written_locator : Locator → List ℕ
 written_locator (V4 address) = ipv4_text (to_be_bytes w32 address)
 written_locator (V6 address) = hex_groups_text (segments_of (to_be_bytes w128 address))
 
+-- An identifier, as `[7]2001:db8::1`: the Instance ID in decimal without leading zeros, then the address.
 abbrev pub written_xeid : Xeid → List ℕ
 written_xeid x = codes "[" ++ decimal x.iid ++ codes "]" ++ written_locator x.address
 
+-- A prefix: `*` for everything, which is a range of length 0; else a range, as `[16/28]*`, or a block, as
+-- `[0]10.0.0.0/8`.
 abbrev pub written_form : Form → List ℕ
 written_form (Range iid len) = if len == 0 then codes "*" else codes "[" ++ decimal iid ++ codes "/" ++ decimal len
     ++ codes "]*"

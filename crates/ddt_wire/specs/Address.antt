@@ -13,12 +13,15 @@ use Rattle.ddt_wire.specs.declared.address.AddressFault.TheVariants.{Short, Fami
 abbrev pub no_address : ℕ
 no_address = 0
 
+-- the AFI in front of an IPv4 address, of 4 bytes
 abbrev pub ipv4 : ℕ
 ipv4 = 1
 
+-- the AFI in front of an IPv6 address, of 16 bytes
 abbrev pub ipv6 : ℕ
 ipv6 = 2
 
+-- the AFI in front of an LCAF: an EID with an Instance ID has one, and a source EID may have one of any type
 abbrev pub lcaf : ℕ
 lcaf = 16387
 
@@ -26,9 +29,11 @@ lcaf = 16387
 abbrev pub ipv4_len : ℕ
 ipv4_len = 6
 
+-- 2 bytes of AFI and 16 of address
 abbrev pub ipv6_len : ℕ
 ipv6_len = 18
 
+-- the AFI that is written in front of an address: 1 for IPv4, 2 for IPv6
 abbrev pub afi : Locator → ℕ
 afi (V4 a) = ipv4
 afi (V6 a) = ipv6

@@ -26,6 +26,7 @@ instance_head reserved flags iid_mask iid inner_len =
     to_be_bytes w16 lcaf ++ (reserved ∷ flags ∷ 2 ∷ iid_mask ∷ []) ++ to_be_bytes w16 (4 + inner_len) ++ to_be_bytes
     w32 iid
 
+-- a whole LCAF of type 2 with an Instance ID: its head, then an AFI and perhaps an address
 abbrev pub instance_lcaf : ℕ → ℕ → ℕ → ℕ → List ℕ → List ℕ
 instance_lcaf reserved flags iid_mask iid inner = instance_head reserved flags iid_mask iid (length inner) ++ inner
 
@@ -71,15 +72,18 @@ form_mask_len (Block iid address len) = len
 abbrev pub written_eid : List ℕ → List ℕ
 written_eid p = written_form (form_of p)
 
+-- of the prefix of a path: how many bits of its address count, or 0 where it is a range of instances
 abbrev pub written_mask_len : List ℕ → ℕ
 written_mask_len p = form_mask_len (form_of p)
 
 -- ---- the first fault
 
+-- a fault of an EID's address as one of the EID: it is cut, or its AFI is neither IPv4's nor IPv6's
 abbrev pub from_address : AddressFault → EidFault
 from_address address_fault.Short = Short
 from_address address_fault.Family = EidFamily
 
+-- a fault of a range of instances as one of the EID: its IID mask-len is over 32, or bits past it are set
 abbrev pub from_prefix : PrefixFault → EidFault
 from_prefix prefix_fault.Length = MaskLength
 from_prefix prefix_fault.TailNotZero = TailNotZero

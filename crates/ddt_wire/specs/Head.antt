@@ -27,6 +27,7 @@ pub record IsHead (h : Head) : Type 0 where
 abbrev pub act_place : ℕ
 act_place = 2 ^ 13
 
+-- the code in ACT, 0 to 7: the first three of the 16 bits of flags
 abbrev pub action_number : Head → ℕ
 action_number h = h.flags / act_place
 

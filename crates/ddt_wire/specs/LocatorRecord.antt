@@ -18,6 +18,7 @@ SpellsLocators = SpellsAddresses 6
 abbrev pub before_written : List ℕ
 before_written = (1 ∷ 100 ∷ 255 ∷ 0 ∷ []) ++ to_be_bytes w16 1
 
+-- a locator as it is written: these 6 bytes, then its AFI and its address
 abbrev pub written_locator : Locator → List ℕ
 written_locator = written_behind before_written
 
@@ -26,5 +27,7 @@ abbrev pub from_address : AddressFault → ReferralFault
 from_address address_fault.Short = Short
 from_address address_fault.Family = LocatorFamily
 
+-- as many locators as the record's locator count says, and the bytes after them; or the first fault: one is cut, or
+-- its AFI is neither IPv4's nor IPv6's
 abbrev pub locators_at : ℕ → List ℕ → Result (List Locator × List ℕ) ReferralFault
 locators_at n bytes = in_words from_address (addresses_at 6 n bytes)

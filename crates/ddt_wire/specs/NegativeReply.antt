@@ -62,9 +62,12 @@ reply_of n minutes p = record { nonce = n; ttl = minutes; prefix = p }
 
 -- ---- the first fault
 
+-- a fault of the head as one of the Map-Reply: it is cut, has another type, or a record count other than 1
 abbrev pub from_head : HeadFault → ReplyFault
 from_head = head_words fault.Short fault.MessageType fault.RecordCount
 
+-- a fault of the EID as one of the Map-Reply: it is cut, or its AFI, LCAF or mask length is wrong, or bits of its
+-- Instance ID past the IID mask-len are set
 abbrev pub from_eid : EidFault → ReplyFault
 from_eid = eid_words fault.Short fault.EidFamily fault.Lcaf fault.MaskLength fault.TailNotZero
 

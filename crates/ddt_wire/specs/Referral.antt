@@ -27,6 +27,7 @@ pub record Message : Type 0 where
   pub incomplete : Bool
   pub locators : List Locator
 
+-- a flag as the number of its bit: 1 where it is set; the headers of requests use it too
 abbrev pub bit : Bool → ℕ
 bit false = 0
 bit true = 1
@@ -122,17 +123,23 @@ lent_record l = record {
 abbrev pub written_head : ℕ → ReferralRecord → Head
 written_head n r = message_head (written_mask_len r.prefix) true 0 0 (message_of n r)
 
+-- the Map-Referral that is written for a record, with the nonce of its request: head, EID, and the referral set in
+-- its order
 abbrev pub written : ℕ → ReferralRecord → List ℕ
 written n r = head_bytes map_referral 0 (written_head n r) ++ written_eid r.prefix ++ flat_map written_locator r.servers
 
 -- ---- the first fault
 
+-- a fault of the head as one of the Map-Referral: it is cut, has another type, or a record count other than 1
 abbrev pub from_head : HeadFault → ReferralFault
 from_head = head_words fault.Short fault.MessageType fault.RecordCount
 
+-- a fault of the EID as one of the Map-Referral: it is cut, or its AFI, LCAF or mask length is wrong, or bits of its
+-- Instance ID past the IID mask-len are set
 abbrev pub from_eid : EidFault → ReferralFault
 from_eid = eid_words fault.Short fault.EidFamily fault.Lcaf fault.MaskLength fault.TailNotZero
 
+-- the action that ACT names, or the fault BadAction: the codes 6 and 7 name none
 abbrev pub action_or_fault : Option Action → Result Action ReferralFault
 action_or_fault (Some action) = Ok action
 action_or_fault None = Err fault.BadAction

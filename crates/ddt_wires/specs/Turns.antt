@@ -70,6 +70,7 @@ abbrev pub went_out : Call → Bool
 went_out (Received at room answer bytes) = false
 went_out (Tried at to port bytes answer) = is_ok answer
 
+-- whether the first of these calls sent its datagram; false where there is none
 abbrev pub first_went_out : List Call → Bool
 first_went_out [] = false
 first_went_out (call ∷ calls) = went_out call

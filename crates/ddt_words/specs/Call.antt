@@ -10,6 +10,7 @@ use Rattle.ddt_words.specs.Line.{line}
 abbrev pub Call : Type 0
 Call = Text × List Row
 
+-- the call that a command line was read as: the command's name, and a row for each argument or option that was found
 abbrev pub call_of : Words → Call
 call_of w = (w.command.now, rows_of (found_of w.matches))
 

@@ -16,12 +16,15 @@ lent x = record { ref_ptr = (0, 0); now = x }
 abbrev pub one : Text → Argument
 one name = One (lent name)
 
+-- one word or more, behind all other arguments
 abbrev pub several : Text → Argument
 several name = Several (lent name)
 
+-- any number of words, also none, behind all other arguments
 abbrev pub any : Text → Argument
 any name = Any (lent name)
 
+-- an option that may be left out, as `--NAME VALUE` or `--NAME=VALUE`, at most once
 abbrev pub setting : Text → Argument
 setting name = Setting (lent name)
 

@@ -46,6 +46,7 @@ pub record IsItsZone (r : Register) (x : List ℕ) (z : Zone) : Type 0 where
   pub longest : (y : Zone) → Contains r.zones y → IsTrue (covers y.prefix x)
       → (y ≡ z) ⊎ (length y.prefix < length z.prefix)
 
+-- Each identifier has a zone, the one that longest match finds, and all others that cover it are shorter.
 abbrev pub EachIdentifierHasOneZone : Register → Type 0
 EachIdentifierHasOneZone r = (x : List ℕ) → (z : Zone) × (zone_of r x ≡ Some z) × IsItsZone r x z
 
@@ -57,6 +58,7 @@ pub record IsRootZone (r : Register) (z : Zone) : Type 0 where
   pub its_servers : locators_of r z.group ≡ roots r
   pub are_servers : AreServers (roots r)
 
+-- There is a zone of everything, of DDT nodes, and its 1 to 8 locators are those at which lookups start.
 abbrev pub TheRootIsServed : Register → Type 0
 TheRootIsServed r = (z : Zone) × IsRootZone r z
 
@@ -107,6 +109,7 @@ FinalAnswersAreTheAssignment r =
 abbrev pub AnswersCover : Register → Type 0
 AnswersCover r = (l : Locator) (x : List ℕ) → IsTrue (covers (says r l x).prefix x)
 
+-- A NODE-REFERRAL, an MS-REFERRAL, an MS-ACK or an MS-NOT-REGISTERED lists 1 to 8 locators, whoever sends it.
 abbrev pub AnswersHaveServers : Register → Type 0
 AnswersHaveServers r = (l : Locator) (x : List ℕ) → NamesServers (says r l x).action → AreServers (says r l x).servers
 
@@ -123,6 +126,7 @@ pub record IsSendable (v : ReferralRecord) : Type 0 where
   pub few_servers : length v.servers ≤ most_locators
   pub servers_fit : IsTrue (are_locators v.servers)
 
+-- Each answer to an identifier fits a Map-Referral: a TTL of at most 1,440 minutes, and at most 8 locators.
 abbrev pub AnswersCanBeSent : Register → Type 0
 AnswersCanBeSent r = (l : Locator) (x : List ℕ) → IsTrue (is_path x) → IsSendable (says r l x)
 
@@ -142,6 +146,7 @@ pub record IsSiteWithServers (r : Register) (x q : List ℕ) (servers : List Loc
   pub covers_site : IsTrue (covers zone.prefix q)
   pub its_servers : servers ≡ locators_of r zone.group
 
+-- Whatever is assigned as registered is the longest site that covers the identifier, with the locators of its zone.
 abbrev pub RegisteredPrefixesAreSites : Register → Type 0
 RegisteredPrefixesAreSites r =
     (x q : List ℕ) (servers : List Locator) → assignment r x ≡ Registered q servers → IsSiteWithServers r x q servers
@@ -175,6 +180,7 @@ pub record IsPartOfItsSite (r : Register) (x q : List ℕ) (servers : List Locat
   pub its_zone : zone_of r x ≡ Some zone
   pub its_servers : servers ≡ locators_of r zone.group
 
+-- Whatever is assigned as not registered is such a part of the identifier's own site, with its zone's locators.
 abbrev pub PartsOfSitesAreFree : Register → Type 0
 PartsOfSitesAreFree r =
     (x q : List ℕ) (servers : List Locator) → IsTrue (is_path x) → assignment r x ≡ NotRegistered q servers

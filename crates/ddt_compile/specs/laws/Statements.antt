@@ -18,6 +18,8 @@ use Rattle.ddt_compile.specs.GroupConfig.{group_config}
 abbrev pub IsHonestConfig : Register → Outline → Type 0
 IsHonestConfig r c = (l : Locator) (x : List ℕ) → IsTrue (lists c.locators l) → answer c x ≡ says r l x
 
+-- 1 to 8 distinct locators, and no two authorities of one prefix. In one of DDT nodes lie children strictly below it,
+-- no two overlapping, of 1 to 8 locators each; in one of Map-Servers lie sites of distinct prefixes, of up to 8 ETRs.
 abbrev pub IsShapedConfig : Outline → Type 0
 IsShapedConfig c = IsTrue (is_shaped c.role c.locators c.authorities)
 

@@ -19,6 +19,7 @@ abbrev pub OrderIsKept : Type 0
 OrderIsKept = (s : State) (call : Call) (new : State) (reply : Reply) → IsInOrder s → Step s call new reply
     → IsInOrder new
 
+-- What holds of a resolver at all times holds still once its time has moved on, to any moment up to the last one.
 abbrev pub TimeKeepsOrder : Type 0
 TimeKeepsOrder = (s : State) (now : ℕ) → now ≤ last_moment → IsInOrder s → IsInOrder (moved now s)
 

@@ -4,7 +4,6 @@ use Rattle.std.specs.declared.cmp.Ordering.{Ordering}
 use Rattle.std.specs.Ordering.{nat_cmp, ordering_then}
 use Rattle.std.specs.Cmp.Lexicographic.{slice_cmp}
 use Rattle.ddt_register.specs.declared.zone.Zone.{Zone}
-use Rattle.ddt_register.specs.declared.site.Site.{Site}
 use Rattle.ddt_register.specs.declared.group.Group.{Group}
 
 -- how two items compare by a key, and by their rows where they have one key
@@ -15,13 +14,9 @@ in_order key row a b = ordering_then (slice_cmp nat_cmp (key a) (key b)) (nat_cm
 abbrev pub IsInOrder : {A : Type 0} → (A → List ℕ) → (A → ℕ) → List A → Type 0
 IsInOrder key row xs = IsSorted (in_order key row) xs
 
--- zones by prefix and row, sites by prefix and row, groups by name and row
+-- Zones by the digits of their prefixes, then by row: a zone stands before the zones inside it.
 abbrev pub AreZonesInOrder : List Zone → Type 0
 AreZonesInOrder zones = IsInOrder (λ z. z.prefix) (λ z. z.row) zones
-
--- Sites by the digits of their prefixes, then by row: a site stands before the sites inside it.
-abbrev pub AreSitesInOrder : List Site → Type 0
-AreSitesInOrder sites = IsInOrder (λ s. s.prefix) (λ s. s.row) sites
 
 -- Groups by the bytes of their names, then by row. For A4 and A5 a zone's group is looked up by halving in this order.
 abbrev pub AreGroupsInOrder : List Group → Type 0

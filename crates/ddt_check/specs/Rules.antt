@@ -19,7 +19,7 @@ use Rattle.ddt_check.specs.Zones.{is_ms, is_same_role, zone_of, group_named}
 abbrev pub item_at : {A : Type 0} → (A → ℕ) → (A → Bool) → List A → ℕ → Bool
 item_at row_of test items row = list_any (λ x. row_of x == row && test x) items
 
--- the same of the zones, sites or groups of a register
+-- Whether a zone stands in this row and passes the test: so A1, A2, A4, A5 and A7 are tested at a row.
 abbrev pub zone_at : Register → ℕ → (Zone → Bool) → Bool
 zone_at r row test = item_at (λ z. z.row) test r.zones row
 
@@ -35,7 +35,7 @@ group_at r row test = item_at (λ g. g.row) test r.groups row
 abbrev pub earlier_item : {A : Type 0} → (A → ℕ) → List A → A → (A → Bool) → Bool
 earlier_item row_of items x test = list_any (λ y. nat_lt (row_of y) (row_of x) && test y) items
 
--- the same of the zones or groups of a register
+-- Whether a zone in an earlier row than this one passes the test: A1 looks there for another root.
 abbrev pub earlier_zone : Register → Zone → (Zone → Bool) → Bool
 earlier_zone r z test = earlier_item (λ y. y.row) r.zones z test
 

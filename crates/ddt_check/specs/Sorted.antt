@@ -28,7 +28,7 @@ abbrev pub IsLeastOfBoth : List Zone → List Group → Rule → Option ℕ → 
 IsLeastOfBoth zones groups rule row =
     (r : Register) → IsPermutation r.zones zones → IsPermutation r.groups groups → IsLeastRow (broken r rule) row
 
--- the rows that are found of zones and of groups are the least ones
+-- For A2, A7 and A8: each row found is the lowest that breaks the rule; of A8 only where A2 and A7 are kept.
 pub record AreZoneRows (r : Register) (rows : ZoneRows) : Type 0 where
   pub duplicate : IsLeastRow (broken r rules.DuplicateZone) rows.duplicate
   pub below : IsLeastRow (broken r rules.BelowMapServer) rows.below

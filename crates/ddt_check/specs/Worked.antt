@@ -1,4 +1,4 @@
--- Two worked registers, and what the definitions give of them.
+-- Worked registers, foremost the campus of examples/campus.csv, and what the definitions give of them.
 use Rattle.std.specs.Prelude.{◌≡◌, ℕ, List, [], ◌∷◌, map, take, true, false, codes, refl, Some, None}
 use Rattle.std.specs.List.{list_any}
 use Rattle.ddt_path.specs.declared.locator.Locator.{Locator}
@@ -40,7 +40,7 @@ ten = codes "ten"
 abbrev pub east : List ℕ
 east = codes "east"
 
--- 127.0.0.1, 127.0.0.10, 127.0.1.1, 127.0.1.2 and 127.0.2.1
+-- 127.0.0.1: the one server of root.
 abbrev pub at_root : Locator
 at_root = V4 0x7f000001
 
@@ -88,7 +88,7 @@ silent_site = record { prefix = block 0x0a010400 24; etrs = []; row = 8 }
 abbrev pub inner_root_zone : Zone
 inner_root_zone = record { prefix = block 0x0a010000 16; kind = Node; group = root; row = 5 }
 
--- the items of examples/campus.csv, and one more zone, site or group in row 9
+-- The zones of the campus, in rows 4 to 6: everything, [0]10.0.0.0/8 and [0]10.1.0.0/16.
 abbrev pub campus_zones : List Zone
 campus_zones = root_zone 4 ∷ ten_zone 5 ∷ east_zone ∷ []
 
@@ -124,7 +124,7 @@ with_group g = root_group ∷ ten_group ∷ east_group ∷ g ∷ []
 abbrev pub group_nine : List ℕ → List Locator → Group
 group_nine name locators = record { name = name; kind = Node; locators = locators; row = 9 }
 
--- a zone of Map-Servers whose group is one of nodes, a zone of no group, and a second zone of everything
+-- [0]12.0.0.0/8 in row 9, a zone of Map-Servers whose group, ten, has DDT nodes: the example of A5.
 abbrev pub ms_zone : Zone
 ms_zone = record { prefix = block 0x0c000000 8; kind = Ms; group = ten; row = 9 }
 
@@ -294,7 +294,7 @@ pub record OthersAssign : Type 0 where
   pub free_beside_ten : free [] (block 0x0a000000 8 ∷ []) (v4 0 0x0b000001) ≡ Some (block 0x0b000000 8)
   pub none_free : free [] (block 0x0a000000 8 ∷ []) (v4 0 0x0a010203) ≡ None
 
--- the campus with one more zone, site or group in row 9, whose numbers are in range
+-- The campus with a zone of DDT nodes in row 9, a block of instance 0 that ten serves: the examples of A2 and A7.
 abbrev pub zone_in_nine : (address len : ℕ) → is_in_range (with_zone (zone_nine address len)) campus_sites campus_groups
     ≡ true → Register
 zone_in_nine address len fits = record {
@@ -357,11 +357,11 @@ group_in_nine name locators fits = record {
   in_range = fits;
 }
 
--- a site with an ETR inside the silent site, and a silent site inside the registered one
+-- The campus with [0]10.1.4.128/25 in row 9, a site with an ETR inside the silent [0]10.1.4.0/24.
 abbrev pub with_inner_site : Register
 with_inner_site = site_in_nine 0x0a010480 25 (V4 0x7f000202 ∷ []) numbers.inner_site
 
--- [0]10.1.2.64/26 in row 9, a site without ETRs inside the registered [0]10.1.2.0/24.
+-- The campus with [0]10.1.2.64/26 in row 9, a site without ETRs inside the registered [0]10.1.2.0/24.
 abbrev pub with_inner_silent_site : Register
 with_inner_silent_site = site_in_nine 0x0a010240 26 [] numbers.inner_silent_site
 

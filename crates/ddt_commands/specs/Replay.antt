@@ -95,7 +95,7 @@ abbrev pub run_text : List Line → List ℕ
 run_text [] = []
 run_text (line ∷ past) = run_text past ++ ended (event_text (length line.before.sent) line.event)
 
--- the same, counted along the events
+-- how many requests a resolver sends where it has this one to send, or none
 abbrev pub requests : Option Outgoing → ℕ
 requests None = 0
 requests (Some d) = 1
@@ -105,7 +105,8 @@ abbrev pub datagrams_at : Event → ℕ
 datagrams_at (Replied k) = 1
 datagrams_at event = requests (request_at event)
 
--- The lines of these events, the earliest first, where so many datagrams were sent before them.
+-- The lines of these events, the earliest first, where so many datagrams were sent before them; the number is counted
+-- along the events.
 abbrev pub lines_from : ℕ → List Event → List ℕ
 lines_from number [] = []
 lines_from number (event ∷ events) =

@@ -82,7 +82,7 @@ text_at k ms = of_kind k (get_member (key_text k) ms) >>= text_of k
 abbrev pub array_at : Key → Members → Result (List Data) ConfigFault
 array_at k ms = of_kind k (get_member (key_text k) ms) >>= array_of k
 
--- whether a value is a text, or a table
+-- whether a value is a text; asked of each one under `locators` and `etrs`
 abbrev pub is_text_value : Data → Bool
 is_text_value d = is_some (as_str d)
 
@@ -98,16 +98,16 @@ all_of k is_kind ds = if list_all is_kind ds then Ok ds else Err (Field k)
 abbrev pub texts_at : Key → Members → Result (List Data) ConfigFault
 texts_at k ms = array_at k ms >>= all_of k is_text_value
 
--- the tables at a key, none where it is missing; each value is a table before one is examined
+-- the values of an array that may be missing: then there are none; a value of another kind is the fault Field
 abbrev pub array_or_none : Key → Option Data → Result (List Data) ConfigFault
 array_or_none k None = Ok []
 array_or_none k (Some d) = array_of k d
 
--- The array of tables at a key; where the key is missing there are none. A value that is no table is the fault Field.
+-- The tables at a key, none where it is missing; each value is a table, else the fault Field, before one is examined.
 abbrev pub tables_at : Key → Members → Result (List Data) ConfigFault
 tables_at k ms = array_or_none k (get_member (key_text k) ms) >>= all_of k is_table_value
 
--- what stands in the table that a value is, and in each table at a key
+-- what is examined in the table that a value is; a value of another kind is the fault Field of the key
 abbrev pub entry_of : {A : Type 0} → Key → (Members → Result A ConfigFault) → Data → Result A ConfigFault
 entry_of k examine d = table_of k d >>= examine
 

@@ -36,7 +36,7 @@ written_each write xs = array (items_of (map write xs))
 abbrev pub written_locators : List Locator → Data
 written_locators ls = written_each (λ l. string (written_locator l)) ls
 
--- the tables of a child and of a site
+-- the table of a child: `kind`, `locators` and `prefix`
 abbrev pub written_child : Child → Members
 written_child c =
     with_keys (

@@ -32,7 +32,7 @@ abbrev pub FollowsTick : Option End → List Kept → List Kept → Type 0
 FollowsTick None old new = new ≡ old
 FollowsTick (Some e) old new = (taken : Option (List ℕ)) × TakesKept e.ticket old new taken
 
--- what came of a packet, or of a tick, for the ITRs that wait
+-- the counts once a packet came: what it was for the ITRs that wait
 abbrev pub with_came : ResolverCounts → Came → ResolverCounts
 with_came c Nothing = c
 with_came c (Waits t len) = record c { lookups = plus c.lookups 1 }

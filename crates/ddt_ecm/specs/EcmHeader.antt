@@ -26,7 +26,7 @@ first_byte = 2 ^ 24
 abbrev pub ecm_word : Bool → ℕ → ℕ
 ecm_word ddt ignored = (encapsulated * type_place + bit ddt * d_place) * first_byte + ignored
 
--- these 32 bits as the four bytes in front of the inner IP header
+-- the word of the header as the four bytes in front of the inner IP header
 abbrev pub ecm_fields : Bool → ℕ → List ℕ
 ecm_fields ddt ignored = to_be_bytes w32 (ecm_word ddt ignored)
 

@@ -17,26 +17,26 @@ pub data SpellsIp (bytes pseudo udp : List ℕ) : Type 0 where
 
 -- ---- what is written
 
--- the source address: the first ITR-RLOC where it has the family of the EID, else zeros
+-- the source address for an EID of IPv4: the first ITR-RLOC where it is one of IPv4, else zeros
 abbrev pub source4 : List Locator → ℕ
 source4 [] = 0
 source4 (V4 a ∷ rlocs) = a
 source4 (V6 a ∷ rlocs) = 0
 
--- the same for an EID of IPv6: a first ITR-RLOC of IPv4 gives zeros
+-- the source address for an EID of IPv6: the first ITR-RLOC where it is one of IPv6, else zeros
 abbrev pub source6 : List Locator → ℕ
 source6 [] = 0
 source6 (V4 a ∷ rlocs) = 0
 source6 (V6 a ∷ rlocs) = a
 
--- the destination is the EID's address
+-- an IPv4 packet to the EID's address: a message in a UDP datagram from port 4342 to port 4342, with a UDP checksum
 unfoldable pub packet4 : ℕ → ℕ → List ℕ → List ℕ
 packet4 source destination message =
     written_ipv4 (28 + length message) source destination
     ++ written_udp (ones_sum 0 (pseudo4 (to_be_bytes w32 source ++ to_be_bytes w32 destination) (8 + length message)))
     message
 
--- the same over IPv6; either datagram goes from port 4342 to port 4342, and has a UDP checksum
+-- an IPv6 packet to the EID's address: a message in a UDP datagram from port 4342 to port 4342, with a UDP checksum
 unfoldable pub packet6 : ℕ → ℕ → List ℕ → List ℕ
 packet6 source destination message =
     written_ipv6 (8 + length message) source destination

@@ -119,7 +119,8 @@ lcaf_at bytes =
     else if nat_lt (length bytes) (8 + big_number 2 (drop 6 bytes)) then Err fault.Short
     else Ok (8 + big_number 2 (drop 6 bytes))
 
--- a fault of the source EID's address as one of the request: it is cut, or its AFI is none of 0, 1, 2 and 16387
+-- a fault of the source EID's address as one of the request: it is cut, or its AFI is none of 0, 1, 2 and 16387, which
+-- is told by EidFamily, the fault of the EID's own family
 abbrev pub from_source : AddressFault → RequestFault
 from_source address_fault.Short = fault.Short
 from_source address_fault.Family = fault.EidFamily

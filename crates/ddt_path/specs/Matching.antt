@@ -26,7 +26,7 @@ best_match preference prefix (a ∷ others) x =
     let later = best_match preference prefix others x in
     if covers (prefix a) x then Some (better_of preference prefix a later) else later
 
--- the item of the longest prefix that covers x, or of the shortest; of equal prefixes the first
+-- the item of the longest prefix that covers x, or none; of equal prefixes the first
 abbrev pub longest_match : {A : Type 0} → (A → List ℕ) → List A → List ℕ → Option A
 longest_match prefix items x = best_match Longest prefix items x
 

@@ -48,7 +48,7 @@ abbrev pub path : Form → List ℕ
 path (Range iid len) = take len (digits 32 iid)
 path (Block iid address len) = digits 32 iid ++ (family address ∷ take len (address_digits address))
 
--- Whether a list is the path of an XEID: 32 binary digits, the symbol 4 or 6, and 32 or 128 binary digits.
+-- Whether each digit is 0 or 1.
 abbrev pub are_binary : List ℕ → Bool
 are_binary ds = list_all (λ d. nat_lt d 2) ds
 
@@ -57,7 +57,7 @@ abbrev pub is_address_part : List ℕ → Bool
 is_address_part [] = false
 is_address_part (symbol ∷ ds) = are_binary ds && ((symbol == 4 && length ds == 32) || (symbol == 6 && length ds == 128))
 
--- The path of a whole XEID: 32 digits of the Instance ID, then an address in full.
+-- Whether a list is the path of an XEID: 32 binary digits, the symbol 4 or 6, and 32 or 128 binary digits.
 abbrev pub is_path : List ℕ → Bool
 is_path ds = are_binary (take 32 ds) && is_address_part (drop 32 ds)
 
@@ -65,18 +65,19 @@ is_path ds = are_binary (take 32 ds) && is_address_part (drop 32 ds)
 abbrev pub IsInRange : Xeid → Type 0
 IsInRange x = (x.iid < 2 ^ 32) × (address_number x.address < 2 ^ address_width x.address)
 
--- Whether a list is the front of such a path.
+-- Whether a list is a front of what follows the Instance ID: nothing, or the symbol 4 and at most 32 binary digits, or
+-- the symbol 6 and at most 128.
 abbrev pub is_address_front : List ℕ → Bool
 is_address_front [] = true
 is_address_front (symbol ∷ ds) = are_binary ds
     && ((symbol == 4 && nat_le (length ds) 32) || (symbol == 6 && nat_le (length ds) 128))
 
--- The path of an XEID-prefix, which may end anywhere: that of the root, `*`, has no digits, and that of a single XEID
--- has all of them.
+-- Whether a list is the path of an XEID-prefix, which may end anywhere: that of the root, `*`, has no digits, and that
+-- of a single XEID has all of them.
 abbrev pub is_prefix_path : List ℕ → Bool
 is_prefix_path ds = are_binary (take 32 ds) && is_address_front (drop 32 ds)
 
--- Digits past the length of a form are 0.
+-- Whether each digit is 0: asked of the digits past the length of a prefix that is written.
 abbrev pub are_zero : List ℕ → Bool
 are_zero ds = list_all (λ d. d == 0) ds
 

@@ -9,7 +9,7 @@ use Rattle.ddt_path.specs.declared.record.Outcome.TheVariants.{Registered, NotRe
 use Rattle.ddt_path.specs.declared.record.ReferralRecord.{ReferralRecord}
 use Rattle.ddt_path.specs.declared.locator.Locator.{Locator}
 
--- how long an answer may be kept, in minutes, as the pseudocode of RFC 8111, section 8.3, has it
+-- The TTL of NODE-REFERRAL, MS-REFERRAL and MS-ACK, in minutes, as the pseudocode of RFC 8111, section 8.3, has it.
 abbrev pub positive_ttl : ℕ
 positive_ttl = 1440
 

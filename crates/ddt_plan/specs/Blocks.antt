@@ -34,7 +34,7 @@ abbrev pub are_in_order : List (List ℕ) → Bool
 are_in_order [] = true
 are_in_order (p ∷ ps) = list_all (stands_before p) ps && are_in_order ps
 
--- the lower digit or the upper one, and the lower family or the upper one
+-- the binary digit of the lower half, or of the upper one
 abbrev pub bit : Bool → ℕ
 bit false = 0
 bit true = 1

@@ -75,7 +75,8 @@ IsWhyNoDiff opens remaining asked why =
     × (IsWhyUnopened remaining new asked.after.now why
     ⊎ OfItsRegister remaining new (λ after. IsWhyUnwritten asked.counted (Refused why)))))
 
--- the text of a refusal; None for those that show a fault, whose text is the fault's own
+-- the text where this path gives no accepted register: the path and why, or that memory ran out; None where a fault is
+-- shown, whose text is the fault's own
 abbrev pub no_register_text : List ℕ → Refusal → Option (List ℕ)
 no_register_text path (ddt.NoRegister (register.CannotOpen name)) = Some (codes "cannot open " ++ name.now)
 no_register_text path ddt.OutOfMemory = Some (codes "out of memory")

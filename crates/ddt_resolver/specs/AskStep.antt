@@ -50,7 +50,7 @@ pub record AskWants (s : State) (x : Xeid) : Type 0 where
   pub found : IsFound s.known (xeid_path x) prefix entry
   pub free : IsFree s prefix entry
 
--- a fact of an answer but for Memory, and a fact of Memory alone
+-- a fact that is claimed of every answer to an ask but the refusal for want of memory
 abbrev pub UnlessMemory : Result Asked AskError → Type 0 → Type 0
 UnlessMemory (Err Memory) P = Unit {0}
 UnlessMemory (Err TooMany) P = P

@@ -91,7 +91,7 @@ changed k Keep = k
 changed k (Save rec) = cache_saved.stored_in k rec
 changed k (Forget p) = cache.forgotten k p
 
--- a resolver after such a change: its time, its nonce counter and its pending lookups stay as they are
+-- a resolver after a change of what it remembers: its time, its nonce counter and its pending lookups stay as they are
 abbrev pub with_change : State → Change → State
 with_change s change = record s { known = changed s.known change }
 

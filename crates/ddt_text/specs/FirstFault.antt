@@ -37,7 +37,7 @@ address_in text =
     (whole_value (read_ipv4 text))
     else option_map (λ groups. V6 (from_be_bytes w128 (octets_of groups))) (whole_value (read_ipv6 text))
 
--- what stands before the first such byte, and what begins with it
+-- what stands before the first such byte; the whole text where there is none
 abbrev pub before : ℕ → List ℕ → List ℕ
 before byte text = take (position_or_len (λ b. b == byte) text) text
 
@@ -70,12 +70,13 @@ abbrev pub locator_in : List ℕ → Result Locator TextFault
 locator_in [] = Err Empty
 locator_in (first ∷ rest) = value_or Address (address_in (first ∷ rest))
 
--- An identifier: Empty, Bracket, Instance, Address, Trailing.
+-- The value that was read, where nothing is left of the text; whatever is left is the fault Trailing.
 abbrev pub nothing_after : {A : Type 0} → A → List ℕ → Result A TextFault
 nothing_after a [] = Ok a
 nothing_after a (slash ∷ rest) = Err Trailing
 
--- An identifier, as `[7]10.1.2.3`; Trailing is the fault of one with a `/` behind its address.
+-- An identifier, as `[7]10.1.2.3`: Empty, Bracket, Instance, Address, Trailing. The last is the fault of one with a `/`
+-- behind its address.
 abbrev pub xeid_in : List ℕ → Result Xeid TextFault
 xeid_in text = do
   parts ← brackets_in text

@@ -18,11 +18,11 @@ SpellsLocators = SpellsAddresses 6
 abbrev pub before_written : List ℕ
 before_written = (1 ∷ 100 ∷ 255 ∷ 0 ∷ []) ++ to_be_bytes w16 1
 
--- a locator as it is written: these 6 bytes, then its AFI and its address
+-- a locator as it is written: 6 bytes of priorities, weights and flags, then its AFI and its address
 abbrev pub written_locator : Locator → List ℕ
 written_locator = written_behind before_written
 
--- so many locators from the front, and the bytes after them; or the first fault
+-- a fault of a locator's address as one of the Map-Referral: Short or LocatorFamily
 abbrev pub from_address : AddressFault → ReferralFault
 from_address address_fault.Short = Short
 from_address address_fault.Family = LocatorFamily

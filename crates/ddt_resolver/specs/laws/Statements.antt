@@ -14,7 +14,7 @@ use Rattle.ddt_resolver.specs.Act.{Act, HearStep}
 use Rattle.ddt_resolver.specs.Step.{Call, Reply, Step}
 use Rattle.ddt_resolver.specs.Order.{IsInOrder}
 
--- each step, and each move of the time to a moment, keeps what holds at all times
+-- each step of a resolver keeps what holds of it at all times
 abbrev pub OrderIsKept : Type 0
 OrderIsKept = (s : State) (call : Call) (new : State) (reply : Reply) → IsInOrder s → Step s call new reply
     → IsInOrder new

@@ -1,12 +1,14 @@
 #!/usr/bin/env bash
 # Measures the daemon as a resolver on the loopback, beside unbound, over a tree of 65,536 identifiers and one of as many
-# names: bench/daemon.sh [--soak MINUTES]
+# names: bench/daemon.sh [--soak MINUTES | --hostile COUNT]
 #
 # Each resolver has one processor, the load another, and the servers the rest. First each identifier is asked for once
 # with an empty cache, then once more, then at random for five seconds. Each answer is compared with what the register
 # assigns (bench/daemon/lookups.c says how). Then the daemons are left alone for ten seconds: how often they wake up,
 # and what time they take. --soak asks at random for so many minutes, and prints what memory each daemon has, a line a
-# minute: seconds, and kilobytes of the resolver, the root, the node and both Map-Servers.
+# minute: seconds, and kilobytes of the resolver, the root, the node and both Map-Servers. --hostile measures nothing:
+# while it asks, fuzz/hostile.py sends COUNT datagrams to each socket of each daemon, and then requests of an address that
+# may not ask flood the resolver for ten seconds.
 #
 # It sends to 127.0.0.0/8 alone. Wants root for port 53, four processors, python3, gcc, nsd and unbound (Debian's
 # packages of these names). DDT, DDTD and DDTPLAN name the programs, by default those that the launchers run.
@@ -15,8 +17,11 @@ here=$(cd -- "$(dirname -- "${BASH_SOURCE[0]}")" && pwd)
 ddt=${DDT:-$("$here/../release/program" ddt)}
 ddtd=${DDTD:-$("$here/../release/program" ddtd)}
 ddtplan=${DDTPLAN:-$("$here/../release/program" ddtplan)}
-minutes=0
-[ "${1-}" != --soak ] || minutes=$2
+minutes=0 hostile=0
+case "${1-}" in
+    --soak) minutes=$2 ;;
+    --hostile) hostile=$2 ;;
+esac
 PATH=$PATH:/usr/sbin:/sbin
 for tool in nsd unbound gcc python3; do
     command -v "$tool" >/dev/null || { echo "bench/daemon.sh: it wants $tool" >&2; exit 1; }
@@ -51,11 +56,35 @@ compiled() {
     echo "$folder/$1.toml"
 }
 
+# judge: asks the resolver while it and the servers are attacked. Each answer has to be right, and each daemon to run on.
+judge() {
+    local status=0 pid
+    taskset -c 0 "$folder/lookups" lisp 127.0.0.53 "$folder/items" 36000 32 127.0.4.1 127.0.3.1 >"$folder/judged" &
+    local asking=$!
+    for pid in "${daemons[@]}"; do
+        python3 "$here/../fuzz/hostile.py" "$pid" "$hostile"
+    done
+    echo 'flooded by an address that may not ask:'
+    "$folder/lookups" lisp 127.0.0.53 "$folder/items" 10 4096 127.0.66.1 127.0.66.1 || true
+    kill -INT "$asking"
+    wait "$asking" || status=$?
+    tail -n 1 "$folder/judged"
+    for pid in "${daemons[@]}"; do
+        kill -0 "$pid" || status=1
+    done
+    "$ddtd" tell "$folder/resolver.sock" stats
+    return "$status"
+}
+
 resolver_on
 for group in root ten g0 g1; do
     run 2,3 "$ddtd" serve "$(compiled "$group")"
 done
 sleep 2
+if [ "$hostile" != 0 ]; then
+    judge
+    exit
+fi
 echo 'ddtd, an empty cache:'
 load lisp 127.0.0.53 "$folder/items" 600 256 127.0.4.1 127.0.3.1 once
 echo 'ddtd, once more:'

@@ -1,9 +1,10 @@
 #!/usr/bin/env bash
-# Fills a cache that keeps its entries in a list with 65,536 of them, saves one more, and lets them end: bench/full_list.sh
+# Fills a cache that keeps its entries in a list with 65,536 of them, saves one more, and lets them end:
+# fuzz/full_list.sh
 #
-# It is the test `a_full_table_on_a_trie` of ddt_resolver_tests with a list in the place of the tree. On a list each save
-# looks at all entries, so this takes some minutes, and stands in no test that the gate runs. The test is proved and run
-# in a copy of the repository, with the libraries that it wants.
+# It is the test `a_full_table_on_a_trie` of ddt_resolver_tests with a list in the place of the tree. On a list each
+# save looks at all entries, so this takes some minutes, and stands in no test that the gate runs. The test is proved
+# and run in a copy of the repository, with the libraries that it wants.
 set -eu
 top=$(cd -- "$(dirname -- "${BASH_SOURCE[0]}")/.." && pwd)
 copy=$(mktemp -d)

@@ -1,9 +1,9 @@
 #!/usr/bin/env python3
 """Compares ddtplan with a slow reading of registers that shares no code with it.
 
-bench/plan_oracle.py small COUNT [SEED]   random small registers: blocks, blocks inside a prefix, and changes, line by line
-bench/plan_oracle.py full SHAPE ROWS      both ends of every block of a register of bench/make_register.py, by `ddt lookup`
-                                          in batches, and by `ddt assign` at 200 of them
+fuzz/plan_oracle.py small COUNT [SEED]   random small registers: blocks, those inside a prefix, and changes, by lines
+fuzz/plan_oracle.py full SHAPE ROWS      both ends of every block of a register of tools/make_register.py, by
+                                         `ddt lookup` in batches, and by `ddt assign` at 200 of them
 
 DDT and DDTPLAN name the programs; by default they are ./ddt and ./ddtplan. The last line is 'N passed, M failed'.
 """
@@ -236,7 +236,7 @@ def full(shape: str, rows: str) -> int:
     with tempfile.TemporaryDirectory() as room:
         register = f"{room}/full.csv"
         with open(register, "w", encoding="ascii") as out:
-            subprocess.run([str(HERE / "make_register.py"), shape, rows], stdout=out, check=True)
+            subprocess.run([str(HERE.parent / "tools" / "make_register.py"), shape, rows], stdout=out, check=True)
         wanted = []
         for line in lines_of(DDTPLAN, "blocks", register)[1]:
             block, outcome = line.split("\t")

@@ -1,7 +1,7 @@
 #!/usr/bin/env python3
 """Draws what a change of a register changes inside a prefix, as an SVG on standard output.
 
-Usage: bench/draw_change.py OLD NEW PREFIX > change.svg. Each register is a bar of its blocks in the order of their
+Usage: tools/draw_change.py OLD NEW PREFIX > change.svg. Each register is a bar of its blocks in the order of their
 digits, as `ddtplan blocks` lists them, as wide as they are; blocks that `ddtplan diff` lists stand between dashed
 lines. DDTPLAN names the program; by default it is ./ddtplan. At most 64 blocks are drawn of a register.
 """

@@ -1,7 +1,7 @@
 #!/usr/bin/env python3
 """Draws the delegation tree of an accepted register, as text for Graphviz on standard output.
 
-Usage: bench/draw_tree.py REGISTER | dot -Tsvg > tree.svg. Each zone stands below the longest zone strictly above it,
+Usage: tools/draw_tree.py REGISTER | dot -Tsvg > tree.svg. Each zone stands below the longest zone strictly above it,
 with its group and the group's locators. Each site stands below the longest zone that covers it, with its ETRs.
 """
 from __future__ import annotations
@@ -10,7 +10,11 @@ import pathlib
 import sys
 import typing
 
-from plain_replay import Path, Register, Site, Zone, longest, read_register, write_prefix
+# The plain code of the oracles is taken from their folder, and no compiled copies of it are left there.
+sys.path.append(str(pathlib.Path(__file__).resolve().parent.parent / "fuzz"))
+sys.dont_write_bytecode = True
+
+from plain_replay import Path, Register, Site, Zone, longest, read_register, write_prefix  # noqa: E402
 
 COLOURS = {
     "a zone of DDT nodes": "#cfe2f3",

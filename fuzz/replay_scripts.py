@@ -1,7 +1,7 @@
 #!/usr/bin/env python3
 """Compares `ddt replay` with a plain resolver over lists, on scripts drawn by lot.
 
-Usage: bench/replay_scripts.py --program PATH [--count N] [--seed N] [--replaced], or bench/replay_scripts.py --rows
+Usage: fuzz/replay_scripts.py --program PATH [--count N] [--seed N] [--replaced], or fuzz/replay_scripts.py --rows
 
 Draws N scripts (20,000 where no number is given), five to a register; most registers are drawn too, and the others are
 those in examples/. With --replaced one to three further registers stand behind each, most with the same root locators:

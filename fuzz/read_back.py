@@ -1,19 +1,21 @@
 #!/usr/bin/env python3
 """Reads what `ddt compile` prints by Python's own TOML reader, and compares it with the register's rows.
 
-Usage: bench/read_back.py [REGISTER...]; by default the registers in examples/. Wants Python 3.11. For each group row the
+Usage: fuzz/read_back.py [REGISTER...]; by default the registers in examples/. Wants Python 3.11. For each group row the
 name, kind and locators, the authorities, and in each of them the direct children or the sites are computed from the CSV
-by comparing pairs, by prefixes as ipaddress reads them, and compared with the keys of the text. Ends with status 1 at the
-first difference.
+by comparing pairs, by prefixes as ipaddress reads them, and compared with the keys of the text. Ends with status 1 at
+the first difference. DDT names the program; by default it is ./ddt.
 """
 import csv
 import ipaddress
+import os
 import pathlib
 import subprocess
 import sys
 import tomllib
 
 HERE = pathlib.Path(__file__).resolve().parent.parent
+DDT = os.environ.get("DDT", str(HERE / "ddt"))
 
 
 def path(prefix):
@@ -64,7 +66,7 @@ def read_back(register):
     groups = [r for r in rows if r["kind"].startswith("group-")]
     for group in groups:
         printed = subprocess.run(
-            [HERE / "ddt", "compile", register, group["group"]], check=True, capture_output=True, text=True
+            [DDT, "compile", register, group["group"]], check=True, capture_output=True, text=True
         )
         found, wanted = tomllib.loads(printed.stdout), configuration(rows, group)
         if found != wanted:

@@ -1,5 +1,5 @@
 #!/usr/bin/env python3
-"""Sends a DDT Map-Request to a running server and prints its reply: bench/ask.py ADDRESS XEID
+"""Sends a DDT Map-Request to a running server and prints its reply: tools/ask.py ADDRESS XEID
 
 ADDRESS is that of the server, within 127.0.0.0/8. The request has nonce 1 and names 127.0.0.53 as its ITR-RLOC. The
 reply is printed in hexadecimal digits, for `ddt show`. Where none comes within a second it prints `silent`, and the
@@ -7,11 +7,16 @@ status is 1.
 """
 from __future__ import annotations
 
+import pathlib
 import socket
 import sys
 
-import plain_replay
-import plain_wire
+# The plain code of the oracles is taken from their folder, and no compiled copies of it are left there.
+sys.path.append(str(pathlib.Path(__file__).resolve().parent.parent / "fuzz"))
+sys.dont_write_bytecode = True
+
+import plain_replay  # noqa: E402
+import plain_wire  # noqa: E402
 
 
 def main(words: list[str]) -> int:

@@ -1,5 +1,5 @@
 #!/usr/bin/env bash
-# Shows what tshark reads in datagrams: bench/dissect.sh [HEX..]; without words, in the answers of the campus's servers.
+# Shows what tshark reads in datagrams: tools/dissect.sh [HEX..]; without words, in the answers of the campus's servers.
 # It needs tshark and text2pcap (Debian: tshark) and xxd. Each datagram is put into UDP on port 4342.
 set -eu
 here=$(cd -- "$(dirname -- "${BASH_SOURCE[0]}")/.." && pwd)

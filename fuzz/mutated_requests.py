@@ -1,5 +1,5 @@
 #!/usr/bin/env python3
-"""Sends random and mutated datagrams to running servers: bench/mutated_requests.py PROGRAM [COUNT [SEED]]
+"""Sends random and mutated datagrams to running servers: fuzz/mutated_requests.py PROGRAM [COUNT [SEED]]
 
 PROGRAM is the program itself: `release/program ddt` prints its path. The servers of examples/campus.csv run one after
 the other as `PROGRAM serve`. Each gets a third of COUNT datagrams (1,000,000), of which some are good requests, some

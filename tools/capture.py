@@ -1,5 +1,5 @@
 #!/usr/bin/env python3
-"""Shows the packets between a resolver and running servers, by tshark: bench/capture.py [--itr] PROGRAM [XEID..]
+"""Shows the packets between a resolver and running servers, by tshark: tools/capture.py [--itr] PROGRAM [XEID..]
 
 PROGRAM is the launcher or the program itself. tshark captures what goes over the loopback at UDP port 4342.
 
@@ -31,10 +31,14 @@ import tempfile
 import time
 import typing
 
-import mutated_at_resolver
-import mutated_requests
-import plain_replay
-import plain_wire
+# The plain code of the oracles is taken from their folder, and no compiled copies of it are left there.
+sys.path.append(str(pathlib.Path(__file__).resolve().parent.parent / "fuzz"))
+sys.dont_write_bytecode = True
+
+import mutated_at_resolver  # noqa: E402
+import mutated_requests  # noqa: E402
+import plain_replay  # noqa: E402
+import plain_wire  # noqa: E402
 
 XEIDS = ("[0]10.1.2.3", "[0]10.1.4.7", "[0]10.1.3.9", "[0]10.2.0.1", "[0]11.0.0.1", "[0]2001:db8::1", "[7]10.0.0.1")
 # What the ITR asks for, and its nonce. The run goes on as long as the lookup of an identifier that no server answers.

@@ -1,5 +1,5 @@
 #!/usr/bin/env python3
-"""Sends random and mutated datagrams to a running resolver: bench/mutated_at_resolver.py PROGRAM [COUNT [SEED]]
+"""Sends random and mutated datagrams to a running resolver: fuzz/mutated_at_resolver.py PROGRAM [COUNT [SEED]]
 
 PROGRAM is the program itself: `release/program ddt` prints its path. `PROGRAM loop` looks identifiers up among the
 servers of the campus, whose root here has eight of them. Meanwhile its resolver is sent more than it can take:

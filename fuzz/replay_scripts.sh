@@ -1,6 +1,6 @@
 #!/usr/bin/env bash
 # Compares what `ddt replay` prints with a plain resolver over lists, on scripts drawn by lot:
-# bench/replay_scripts.sh [COUNT [SEED [--replaced]]]; by default 20,000 scripts, and the seed 1. With --replaced the
+# fuzz/replay_scripts.sh [COUNT [SEED [--replaced]]]; by default 20,000 scripts, and the seed 1. With --replaced the
 # scripts go over several registers, of which one replaces another.
 #
 # The program is the one that the launcher runs. replay_scripts.py says what is drawn and compared; it takes some
@@ -8,4 +8,4 @@
 set -eu
 cd -- "$(dirname -- "${BASH_SOURCE[0]}")/.."
 program=$(release/program ddt)
-exec python3 bench/replay_scripts.py --program "$program" --count "${1:-20000}" --seed "${2:-1}" "${@:3}"
+exec python3 fuzz/replay_scripts.py --program "$program" --count "${1:-20000}" --seed "${2:-1}" "${@:3}"

@@ -1,5 +1,5 @@
 #!/usr/bin/env python3
-"""Writes an accepted register to standard output: bench/make_register.py SHAPE ROWS
+"""Writes an accepted register to standard output: tools/make_register.py SHAPE ROWS
 
 Shapes:
   nested    chains of 20 node zones, each inside the one before, a zone of Map-Servers at the end and 16 sites in it; the

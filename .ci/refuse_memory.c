@@ -169,6 +169,8 @@ static void tell(const struct end *end, const char *how, long run_number) {
     else printf("status %d\n", WEXITSTATUS(end->status));
     printf("  %.*s", end->out_length < SHOWN ? (int)end->out_length : SHOWN, end->out);
     printf("%.*s\n", end->err_length < SHOWN ? (int)end->err_length : SHOWN, end->err);
+    /* The next run's process is not to have it in its buffer too, and print it as its own. */
+    fflush(stdout);
 }
 
 __attribute__((constructor)) static void each_run(void) {

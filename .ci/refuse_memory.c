@@ -5,9 +5,9 @@
    REFUSE says which growths: `each` the first alone, then the second alone, and so on; `after` all from the first on,
    then all from the second on, and so on; both until a run ends without a refusal. `random` any, in 200 runs.
 
-   REFUSE_OF says what a run may end in. Of a `test`: success; where memory stays away (`after`, `random`) an error
-   that it returns too. Of a `command`: the status, output and error stream that it has with ample memory; or status
-   1, nothing on the output and the line `out of memory`. Of a `loop` also status 1, and behind identifiers `unresolved`,
+   REFUSE_OF says what a run may end in. Of a `test`: success; where memory stays away (`after`, `random`) an error that
+   it returns too. Of a `command`: the status, output and error stream that it has with ample memory; or status 1,
+   nothing on the output and the line `out of memory`. Of a `loop` also status 1, and behind identifiers `unresolved`,
    where what memory ran out for was lost and the turns were used, or `refused Memory`, where no lookup began.
 
    Prints a line with the number of growths that were refused, and tells runs that end otherwise. The status is 1 if one

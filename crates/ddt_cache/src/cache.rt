@@ -5,7 +5,7 @@ ghost use Rattle.std.specs.Prelude.{◌≡◌, ◌≤◌, IsTrue, length, take, 
 ghost use Rattle.std.specs.FinMap as map;
 ghost use Rattle.ddt_path.specs.Path.{xeid_path};
 ghost use Rattle.ddt_cache.specs.Live.{nothing_known, moved, forgotten};
-ghost use Rattle.ddt_cache.specs.Saved.{is_saved, saving, stored_in};
+ghost use Rattle.ddt_cache.specs.Saved.{is_saved, most_live_entries, saving, stored_in};
 ghost use Rattle.ddt_cache.specs.Found.{IsFound};
 ghost use Rattle.ddt_cache.specs.InOrder.{IsInOrder};
 
@@ -119,6 +119,14 @@ impl<M: PrefixMap<Entry>> Cache<M> {
         let entries = &mut self.held.entries;
         drop_ended(entries, self.time);
         entries.len()
+    }
+
+    /// How many entries it holds, the root's not among them: those that are live, and those that have ended since and
+    /// aren't dropped yet. Contracts don't see the latter, so the clause has no more than the limit.
+    pub fn held(&self) -> usize
+        ensures most { result ≤ most_live_entries }
+    {
+        self.held.entries.len()
     }
 
     /// Of the live entries whose prefixes cover the identifier, that of the longest prefix, lent; where there is none,

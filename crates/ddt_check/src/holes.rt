@@ -67,9 +67,7 @@ fn overlaps_none(register: &Register, authority: Prefix, inside: Inside, part: P
 }
 
 fn overlaps_zone_below(register: &Register, authority: Prefix, part: Prefix) -> bool
-    ensures {
-        result ≡ list_any (λ y. is_strictly_below y.prefix authority && overlap y.prefix part) register.now.zones
-    }
+    ensures { result ≡ list_any (λ y. is_strictly_below y.prefix authority && overlap y.prefix part) register.now.zones }
 {
     let zones = register.zones.as_slice();
     zones.iter().any(|y| y.prefix.is_strictly_below(authority) && y.prefix.overlaps(part))
@@ -85,9 +83,7 @@ fn overlaps_site_within(register: &Register, authority: Prefix, part: Prefix) ->
 }
 
 fn overlaps_site_below(register: &Register, authority: Prefix, part: Prefix) -> bool
-    ensures {
-        result ≡ list_any (λ s. is_strictly_below s.prefix authority && overlap s.prefix part) register.now.sites
-    }
+    ensures { result ≡ list_any (λ s. is_strictly_below s.prefix authority && overlap s.prefix part) register.now.sites }
 {
     let sites = register.sites.as_slice();
     sites.iter().any(|s| s.prefix.is_strictly_below(authority) && s.prefix.overlaps(part))

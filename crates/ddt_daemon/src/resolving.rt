@@ -1,6 +1,6 @@
 //! The rounds of a Map-Resolver between ITRs, servers and Map-Servers.
 
-ghost use Rattle.std.specs.Prelude.{◌≡◌, ◌++◌, ◌∷◌, ℕ, [], true, false, List, length, IfOk};
+ghost use Rattle.std.specs.Prelude.{◌≡◌, ◌++◌, ◌∷◌, ℕ, [], true, false, List, length, IfOk, OnOk, OnErr};
 ghost use Rattle.ddt_wires.specs.declared.call.Call.{Call as ACall};
 ghost use Rattle.ddt_wires.specs.Calls.{Tells};
 ghost use Rattle.ddt_wires.specs.Turns.{most_bytes};
@@ -53,7 +53,13 @@ impl<M: PrefixMap<Entry>> MapResolver<M> {
 
     /// Goes on with another resolver, for which nobody waits, and with its counts. Fails only if out of memory, and then
     /// all stays as it was.
-    pub fn renew(&mut self, resolver: Resolver<M>) -> Result<(), AllocError> {
+    pub fn renew(&mut self, resolver: Resolver<M>) -> Result<(), AllocError>
+        ensures running { OnOk result (self.new.running ≡ running resolver (opening_desk [])) }
+        ensures waiting { OnOk result (self.new.waiting.kept.items ≡ []) }
+        ensures counts { self.new.counts ≡ self.old.counts }
+        ensures unchanged { OnErr result ((self.new.running ≡ self.old.running)
+            × (self.new.waiting.kept.items ≡ self.old.waiting.kept.items)) }
+    {
         let running = RunningResolver::new(self.alloc, resolver)?;
         self.running = running;
         self.waiting = Waiting::new(self.alloc);

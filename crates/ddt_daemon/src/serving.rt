@@ -21,11 +21,9 @@ pub fn serve_ready<W: Wires, M: PrefixMap<u32>>(
     outbox: &mut Outbox,
 ) -> Served
     requires { length buffer.old ≡ most_bytes }
-    ensures serves {
-        (turns : ℕ) × (turns ≤ most) × (calls : List ACall)
-            × Tells (W.calls wires.old) calls (W.calls wires.new)
-            × Serves server.now at turns calls result
-    }
+    ensures serves { (turns : ℕ) × (turns ≤ most) × (calls : List ACall)
+        × Tells (W.calls wires.old) calls (W.calls wires.new)
+        × Serves server.now at turns calls result }
     ensures room { length buffer.new ≡ most_bytes }
 {
     let mut received = 0;

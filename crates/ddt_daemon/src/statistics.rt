@@ -60,6 +60,8 @@ pub struct ResolverStatistics {
     pub pending: u64,
     /// Requests of ITRs that wait.
     pub waiting: u64,
+    /// Entries of the cache.
+    pub remembered: u64,
     /// Datagrams that came to a socket where their sort may not come in.
     pub strays: u64,
     /// Settings that were refused at a reload.
@@ -87,6 +89,7 @@ impl fmt::Display for ResolverStatistics {
         write!(f, "{}", self.counts)?;
         write!(f, "now.pending={}\n", self.pending)?;
         write!(f, "now.waiting={}\n", self.waiting)?;
+        write!(f, "now.cached={}\n", self.remembered)?;
         write!(f, "num.strays={}\n", self.strays)?;
         write!(f, "num.reload.refused={}\n", self.refused)?;
         write!(f, "num.log.lost={}\n", self.unlogged)

@@ -1,7 +1,8 @@
 //! The resolver: what it remembers, what is pending, and its calls (RFC 8111, section 7.3).
 
-ghost use Rattle.std.specs.Prelude.{◌≡◌, ◌<◌, ℕ, length, None, IfSome, IfNone};
+ghost use Rattle.std.specs.Prelude.{◌≡◌, ◌<◌, ◌≤◌, ℕ, length, None, IfSome, IfNone};
 ghost use Rattle.std.specs.FinMap as map;
+ghost use Rattle.ddt_cache.specs.Saved.{most_live_entries};
 ghost use Rattle.ddt_resolver.specs.State.{fresh, moved, dropped};
 ghost use Rattle.ddt_resolver.specs.Order.{IsInOrder};
 ghost use Rattle.ddt_resolver.specs.Table.{IsLeastDeadline};
@@ -77,6 +78,13 @@ impl<M: PrefixMap<Entry>> Resolver<M> {
         ensures { result ≡ self.now.me }
     {
         self.me
+    }
+
+    /// How many referrals it remembers, the root's servers not among them, as `Cache::held` counts them.
+    pub fn remembered(&self) -> usize
+        ensures most { result ≤ most_live_entries }
+    {
+        self.cache.held()
     }
 
     /// How many lookups are pending.

@@ -252,6 +252,7 @@ impl Daemon {
             strays: self.near.wires.strays,
             pending: self.resolver.resolver().pending() as u64,
             waiting: self.resolver.waiting() as u64,
+            remembered: self.resolver.resolver().remembered() as u64,
             refused: self.refused,
             unlogged: log.lost(),
         };
@@ -297,9 +298,19 @@ impl Daemon {
         }
     }
 
-    /// The cache is kept where the roots and the resolver's own address stay the same.
     fn take_up(&mut self, rt: &HostRuntime, asked: &ResolveAsked<'_>) -> Result<(), Why> {
         let settings = read(rt, asked.settings)?;
+        let taken = self.take_up_settings(rt, settings);
+        // The sockets are those of the settings that are in force from now on.
+        let listen = self.settings.listen.as_slice();
+        self.near.wires.listening.keep(listen);
+        self.near.wires.asking.keep(listen);
+        self.far.wires.sockets.keep(listen);
+        taken
+    }
+
+    /// The cache is kept where the roots and the resolver's own address stay the same.
+    fn take_up_settings(&mut self, rt: &HostRuntime, settings: Settings) -> Result<(), Why> {
         let listen = settings.listen.as_slice();
         bind_all(rt, listen, &mut self.near.wires.listening)?;
         bind_all(rt, listen, &mut self.near.wires.asking)?;
@@ -312,9 +323,6 @@ impl Daemon {
                 return Err(Err(refused));
             }
         }
-        self.near.wires.listening.keep(listen);
-        self.near.wires.asking.keep(listen);
-        self.far.wires.sockets.keep(listen);
         self.settings = settings;
         Ok(())
     }

@@ -105,20 +105,23 @@ fn addresses_in(
     Ok(addresses)
 }
 
-/// Binds the sockets: at these addresses, or, where there are none, at all locators of the configuration that are this
-/// machine's. The sockets that are bound already stay.
+/// Where it may serve: at these addresses, or, where there are none, at all locators of the configuration.
+fn places_of<'a>(given: &'a [Locator], config: &'a ServerConfig) -> &'a [Locator] {
+    if given.is_empty() {
+        config.locators.as_slice()
+    } else {
+        given
+    }
+}
+
+/// Binds a socket at each address, or, where they aren't chosen, at each that is this machine's. The sockets that are
+/// bound already stay.
 fn bind_all(
     rt: &HostRuntime,
-    given: &[Locator],
-    config: &ServerConfig,
+    addresses: &[Locator],
+    is_chosen: bool,
     sockets: &mut Sockets,
 ) -> Result<(), Why> {
-    let is_chosen = !given.is_empty();
-    let addresses = if is_chosen {
-        given
-    } else {
-        config.locators.as_slice()
-    };
     for address in addresses {
         match bind(rt, *address, sockets) {
             Err(error) if !is_chosen && error.kind() == ErrorKind::AddrNotAvailable => {}
@@ -126,8 +129,7 @@ fn bind_all(
             Ok(()) => {}
         }
     }
-    sockets.keep(addresses);
-    if sockets.len() == 0 {
+    if !addresses.iter().any(|address| sockets.has(*address)) {
         return Err(format!(in rt.alloc(); "no locator is this machine's"));
     }
     Ok(())
@@ -147,7 +149,12 @@ impl Daemon {
         let (bytes, config) = read(rt, asked.config)?;
         let addresses = addresses_in(rt, asked, &config)?;
         let mut sockets = Sockets::new(rt.alloc(), CONTROL_PORT);
-        bind_all(rt, &addresses, &config, &mut sockets)?;
+        bind_all(
+            rt,
+            places_of(&addresses, &config),
+            !addresses.is_empty(),
+            &mut sockets,
+        )?;
         let server = match Server::read(rt.alloc(), &bytes) {
             Ok(server) => server,
             Err(fault) => return Err(refused(rt, asked.config, &bytes, fault)),
@@ -184,6 +191,7 @@ impl Daemon {
         for _round in 0..u64::MAX {
             self.poll.clear();
             self.wires.wires.sockets.add_to(&mut self.poll);
+            let first = self.poll.len();
             self.control.add_to(&mut self.poll);
             if !self.poll.wait(PATIENCE) {
                 rest(rt);
@@ -192,7 +200,7 @@ impl Daemon {
             if self.watch.has_changed(rt, asked.config, seconds(rt)) {
                 let _answer = self.reload(rt, asked, log);
             }
-            if self.obey(rt, asked, log) {
+            if self.obey(rt, asked, first, log) {
                 return;
             }
         }
@@ -225,8 +233,13 @@ impl Daemon {
     }
 
     /// Does what it is told at the control socket; whether it is to stop.
-    fn obey(&mut self, rt: &HostRuntime, asked: &ServeAsked<'_>, log: &mut Log) -> bool {
-        let first = self.wires.wires.sockets.len();
+    fn obey(
+        &mut self,
+        rt: &HostRuntime,
+        asked: &ServeAsked<'_>,
+        first: usize,
+        log: &mut Log,
+    ) -> bool {
         let Some(mut told) = self.control.take(&self.poll, first) else {
             return false;
         };
@@ -284,11 +297,30 @@ impl Daemon {
     fn take_up(&mut self, rt: &HostRuntime, asked: &ServeAsked<'_>) -> Result<(), Why> {
         let (bytes, config) = read(rt, asked.config)?;
         let addresses = addresses_in(rt, asked, &config)?;
+        let places = places_of(&addresses, &config);
+        let taken = self.take_up_at(rt, asked, &bytes, places, !addresses.is_empty());
+        // The sockets are those of the configuration that is in force from now on.
         let sockets = &mut self.wires.wires.sockets;
-        bind_all(rt, &addresses, &config, sockets)?;
-        match self.server.take_up(rt.alloc(), &bytes) {
+        match &taken {
+            Ok(()) => sockets.keep(places),
+            Err(_) => sockets.keep(places_of(&addresses, self.server.config())),
+        }
+        taken
+    }
+
+    /// Binds what isn't bound of these places, and takes up the configuration that the bytes spell.
+    fn take_up_at(
+        &mut self,
+        rt: &HostRuntime,
+        asked: &ServeAsked<'_>,
+        bytes: &[u8],
+        places: &[Locator],
+        is_chosen: bool,
+    ) -> Result<(), Why> {
+        bind_all(rt, places, is_chosen, &mut self.wires.wires.sockets)?;
+        match self.server.take_up(rt.alloc(), bytes) {
             Ok(()) => Ok(()),
-            Err(fault) => Err(refused(rt, asked.config, &bytes, fault)),
+            Err(fault) => Err(refused(rt, asked.config, bytes, fault)),
         }
     }
 

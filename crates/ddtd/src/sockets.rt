@@ -81,6 +81,11 @@ impl Sockets {
         self.bound.retain(|bound| addresses.contains(&bound.at));
     }
 
+    /// Whether a socket is bound to an address.
+    pub fn has(&self, at: Locator) -> bool {
+        self.socket_at(at).is_some()
+    }
+
     /// How many sockets there are.
     pub fn len(&self) -> usize {
         self.bound.len()

@@ -5,9 +5,9 @@
    REFUSE says which growths: `each` the first alone, then the second alone, and so on; `after` all from the first on,
    then all from the second on, and so on; both until a run ends without a refusal. `random` any, in 200 runs.
 
-   REFUSE_OF says what a run may end in. Of a `test`: success; where memory stays away (`after`, `random`) an error
-   that it returns too. Of a `command`: the status, output and error stream that it has with ample memory; or status
-   1, nothing on the output and the line `out of memory`. Of a `loop` also status 1, and behind identifiers `unresolved`,
+   REFUSE_OF says what a run may end in. Of a `test`: success; where memory stays away (`after`, `random`) an error that
+   it returns too. Of a `command`: the status, output and error stream that it has with ample memory; or status 1,
+   nothing on the output and the line `out of memory`. Of a `loop` also status 1, and behind identifiers `unresolved`,
    where what memory ran out for was lost and the turns were used, or `refused Memory`, where no lookup began.
 
    Prints a line with the number of growths that were refused, and tells runs that end otherwise. The status is 1 if one
@@ -169,6 +169,8 @@ static void tell(const struct end *end, const char *how, long run_number) {
     else printf("status %d\n", WEXITSTATUS(end->status));
     printf("  %.*s", end->out_length < SHOWN ? (int)end->out_length : SHOWN, end->out);
     printf("%.*s\n", end->err_length < SHOWN ? (int)end->err_length : SHOWN, end->err);
+    /* The next run's process is not to have it in its buffer too, and print it as its own. */
+    fflush(stdout);
 }
 
 __attribute__((constructor)) static void each_run(void) {

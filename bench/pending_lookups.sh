@@ -1,9 +1,9 @@
 #!/usr/bin/env bash
-# Prints what a tick with nothing due and a followed reply take with 1, 100 and 1,024 lookups pending, in instructions of
-# the program that the launcher runs: bench/pending_lookups.sh
+# Prints what a tick with nothing due and a followed reply take with 1, 100 and 1,024 lookups pending, in instructions
+# of the program that the launcher runs: bench/pending_lookups.sh
 #
-# Each number is the difference of two replays, of which one has so many steps more, for each of these steps; reading the
-# step and printing its line are in it. Instructions depend on no load. Wants valgrind (Debian: valgrind).
+# Each number is the difference of two replays, of which one has so many steps more, for each of these steps; reading
+# the step and printing its line are in it. Instructions depend on no load. Wants valgrind (Debian: valgrind).
 set -eu
 cd -- "$(dirname -- "${BASH_SOURCE[0]}")/.."
 program=$(release/program ddt)
@@ -15,7 +15,8 @@ ticks=20000
 
 # instructions SCRIPT: those of its replay
 instructions() {
-    valgrind --tool=callgrind --callgrind-out-file=/dev/null "$program" replay "$folder/register.csv" "$1" 2>&1 >/dev/null |
+    valgrind --tool=callgrind --callgrind-out-file=/dev/null "$program" replay "$folder/register.csv" "$1" \
+        2>&1 >/dev/null |
         sed -n 's/.*Collected : //p'
 }
 

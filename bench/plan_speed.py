@@ -1,10 +1,10 @@
 #!/usr/bin/env python3
 """Prints how fast ddtplan is over registers of 65,535 rows, and how much memory it takes: bench/plan_speed.py [SHAPE..]
 
-For each shape of bench/make_register.py: the seconds of `ddtplan blocks`, the blocks that it wrote, how many that is a
-second, and its memory; then the seconds and the memory of `ddtplan diff` from the register to one of which ten rows were
-changed, and how many lines that wrote. Ten sites lose their ETRs; where there are no such sites, ten zones are gone.
-Times are the shortest of three runs, into /dev/null. Memory is the most that the process had, in megabytes.
+For each shape of tools/make_register.py: the seconds of `ddtplan blocks`, the blocks that it wrote, how many that is a
+second, and its memory; then the seconds and the memory of `ddtplan diff` from the register to one of which ten rows
+were changed, and how many lines that wrote. Ten sites lose their ETRs; where there are no such sites, ten zones are
+gone. Times are the shortest of three runs, into /dev/null. Memory is the most that the process had, in megabytes.
 
 DDTPLAN names the program; by default it is what release/program finds.
 """
@@ -70,7 +70,10 @@ def main() -> int:
         for shape in sys.argv[1:] or SHAPES:
             old, new = f"{room}/old.csv", f"{room}/new.csv"
             text = subprocess.run(
-                [HERE / "make_register.py", shape, str(ROWS)], capture_output=True, text=True, check=True
+                [HERE.parent / "tools" / "make_register.py", shape, str(ROWS)],
+                capture_output=True,
+                text=True,
+                check=True,
             ).stdout
             pathlib.Path(old).write_text(text)
             pathlib.Path(new).write_text("\n".join(changed(text.splitlines())) + "\n")

@@ -114,7 +114,7 @@ replies() {
     local xeid
     start "$2" serve "$folder/root.toml" 127.0.0.1 4294967295
     for xeid in '[0]10.0.0.1' "[$((zones - 1))]10.1.2.3" '[5]11.0.0.1' "[$zones]10.0.0.1" '[0]2001:db8::1'; do
-        python3 "$here/ask.py" 127.0.0.1 "$xeid" || fail "$1 gave no reply to $xeid"
+        python3 "$here/../tools/ask.py" 127.0.0.1 "$xeid" || fail "$1 gave no reply to $xeid"
     done >"$folder/replies"
     stop "$1"
 }
@@ -159,7 +159,7 @@ printf '\n| shape | rows | start | peer | of the peer | bytes a row | peer |\n|-
 rows=65535
 for place in flat:root:127.0.0.1 groups:g0:127.0.1.0 sites:east:127.0.0.2; do
     IFS=: read -r shape group address <<<"$place"
-    python3 "$here/make_register.py" "$shape" "$rows" >"$folder/$shape.csv"
+    python3 "$here/../tools/make_register.py" "$shape" "$rows" >"$folder/$shape.csv"
     "$program" compile "$folder/$shape.csv" "$group" >"$folder/$shape.toml"
     of_ours=$(started "$program" "$folder/$shape.toml" "$address")
     of_peer=$(started "$peer" "$folder/$shape.toml" "$address")

@@ -2,12 +2,12 @@
 # Prints how long the program takes over full registers, beside a plain program in Rust (bench/peer) that gives the same
 # answers, and nsd-checkzone (Debian: nsd) over a DNS zone of as many records: bench/speed.sh [--save] [SHAPE..]
 #
-# First, for each shape of make_register.py (all where none is named), the time of `ddt check` at 1,000, 8,000 and 65,535
-# rows, its growth from one size to the next (the rows grow by 8.0 and 8.2), the times of the other two, and the ratios:
-# above 1 where `ddt check` takes longer. Then, at 65,535 rows, `assign`, `answer` and `compile` of one group and `lookup`
-# of one identifier as multiples of `check`. Times are milliseconds that passed, the shortest of seven runs on one
-# processor. The programs take turns, so that all meet the same load. What /bin/true takes is a part of each time. A run
-# that fails, and a register of which the peer says something else, end the script.
+# First, for each shape of tools/make_register.py (all where none is named), the time of `ddt check` at 1,000, 8,000 and
+# 65,535 rows, its growth from one size to the next (the rows grow by 8.0 and 8.2), the times of the other two, and the
+# ratios: above 1 where `ddt check` takes longer. Then, at 65,535 rows, `assign`, `answer` and `compile` of one group
+# and `lookup` of one identifier as multiples of `check`. Times are milliseconds that passed, the shortest of seven runs
+# on one processor. The programs take turns, so that all meet the same load. What /bin/true takes is a part of each
+# time. A run that fails, and a register of which the peer says something else, end the script.
 #
 # --save appends each row's ratios to bench/results/speed.tsv, with the date, the commit and the machine. For that the
 # tree has to be a git clone. The last column shows the ratio to the peer that was saved last on such a machine, so that
@@ -93,7 +93,7 @@ for rows in "${sizes[@]}"; do
     zone_file "$rows" >"$folder/$rows.zone"
     for shape in "${shapes[@]}"; do
         register=$folder/$shape.$rows.csv
-        python3 bench/make_register.py "$shape" "$rows" >"$register"
+        python3 tools/make_register.py "$shape" "$rows" >"$register"
         "$program" check "$register" >"$folder/ours"
         "$peer" check "$register" >"$folder/plain"
         cmp -- "$folder/ours" "$folder/plain" || fail "ddt check and the peer say other things of $shape, $rows rows"

@@ -1,5 +1,5 @@
 #!/usr/bin/env bash
-# Prints what servers, prefix maps and a resolver take over full registers of make_register.py: bench/speeds.sh
+# Prints what servers, prefix maps and a resolver take over full registers of tools/make_register.py: bench/speeds.sh
 #
 # It proves and builds the program of bench/speeds in a copy of the repository, which takes as long as the first build
 # of the repository. Then it prints, for each shape (nested, flat, groups, sites):
@@ -27,7 +27,7 @@ cp -- "$top/bench/speeds/main.rt.in" "$copy/crates/speeds/src/main.rt"
 libraries=$(sed -n 's/^\(ddt_[a-z]*\):.*/\1/p' "$top/crates.txt" | tr '\n' ' ')
 echo "speeds: $libraries" >>"$copy/crates.txt"
 register() {
-    python3 "$top/bench/make_register.py" "$1" "$2" >"$copy/$1.$2.csv"
+    python3 "$top/tools/make_register.py" "$1" "$2" >"$copy/$1.$2.csv"
     echo "$copy/$1.$2.csv"
 }
 # Everything is proved here; without a register the program ends with status 1.

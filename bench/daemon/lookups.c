@@ -17,6 +17,7 @@
 #include <arpa/inet.h>
 #include <netinet/in.h>
 #include <poll.h>
+#include <signal.h>
 #include <stdbool.h>
 #include <stdint.h>
 #include <stdio.h>
@@ -38,6 +39,15 @@ enum {
 };
 
 static const double PATIENCE = 8;
+
+/* Set by SIGINT, which ends a run as its time does. */
+static volatile sig_atomic_t is_over;
+
+static void end(int signal)
+{
+    (void)signal;
+    is_over = 1;
+}
 
 enum outcome { REGISTERED, NOT_REGISTERED, HOLE };
 
@@ -332,7 +342,7 @@ static void load(struct run *run, double seconds)
     struct pollfd polled[2] = {{run->itr, POLLIN, 0}, {run->etr, POLLIN, 0}};
     double begin = now(), told = begin;
     bool has_more = true;
-    while (now() - begin < seconds && (has_more || run->waiting)) {
+    while (!is_over && now() - begin < seconds && (has_more || run->waiting)) {
         while (has_more && run->waiting < run->window)
             has_more = ask(run);
         poll(polled, run->etr < 0 ? 1 : 2, 100);
@@ -410,6 +420,7 @@ int main(int count, char **words)
         fprintf(stderr, "lookups: no loopback address, no socket, no items, or too many outstanding\n");
         return 1;
     }
+    signal(SIGINT, end);
     getsockname(run.itr, (void *)&mine, &size);
     run.port = ntohs(mine.sin_port);
     run.itr_address = ntohl(mine.sin_addr.s_addr);

@@ -1,0 +1,138 @@
+#!/usr/bin/env bash
+# Measures the daemon as a resolver on the loopback, beside unbound, over a tree of 65,536 identifiers and one of as many
+# names: bench/daemon.sh [--soak MINUTES | --hostile COUNT]
+#
+# Each resolver has one processor, the load another, and the servers the rest. First each identifier is asked for once
+# with an empty cache, then once more, then at random for five seconds. Each answer is compared with what the register
+# assigns (bench/daemon/lookups.c says how). Then the daemons are left alone for ten seconds: how often they wake up,
+# and what time they take. --soak asks at random for so many minutes, and prints what memory each daemon has, a line a
+# minute: seconds, and kilobytes of the resolver, the root, the node and both Map-Servers. --hostile measures nothing:
+# while it asks, fuzz/hostile.py sends COUNT datagrams to each socket of each daemon, and then requests of an address that
+# may not ask flood the resolver for ten seconds.
+#
+# It sends to 127.0.0.0/8 alone. Wants root for port 53, four processors, python3, gcc, nsd and unbound (Debian's
+# packages of these names). DDT, DDTD and DDTPLAN name the programs, by default those that the launchers run.
+set -eu -o pipefail
+here=$(cd -- "$(dirname -- "${BASH_SOURCE[0]}")" && pwd)
+ddt=${DDT:-$("$here/../release/program" ddt)}
+ddtd=${DDTD:-$("$here/../release/program" ddtd)}
+ddtplan=${DDTPLAN:-$("$here/../release/program" ddtplan)}
+minutes=0 hostile=0
+case "${1-}" in
+    --soak) minutes=$2 ;;
+    --hostile) hostile=$2 ;;
+esac
+PATH=$PATH:/usr/sbin:/sbin
+for tool in nsd unbound gcc python3; do
+    command -v "$tool" >/dev/null || { echo "bench/daemon.sh: it wants $tool" >&2; exit 1; }
+done
+folder=$(mktemp -d)
+daemons=() others=()
+trap 'kill "${daemons[@]}" "${others[@]}" 2>/dev/null || true; wait; rm -rf -- "$folder"' EXIT
+
+gcc -O2 -Wall -Wextra -o "$folder/lookups" "$here/daemon/lookups.c"
+python3 "$here/daemon/tree.py" "$folder"
+"$ddtplan" blocks "$folder/register.csv" | python3 "$here/daemon/tree.py" "$folder" items
+
+# run CORE WORD..: starts a daemon of ours on some processors.
+run() {
+    taskset -c "$1" "${@:2}" 2>>"$folder/log" &
+    daemons+=($!)
+}
+
+resolver_on() {
+    run 1 "$ddtd" resolve "$folder/resolver.toml" --control "$folder/resolver.sock"
+    sleep 0.5
+}
+
+# load WORD..: one line of what the load says, behind the last line of the minutes.
+load() {
+    taskset -c 0 "$folder/lookups" "$@" | tail -n 1
+}
+
+# compiled GROUP: its configuration, in a file.
+compiled() {
+    "$ddt" compile "$folder/register.csv" "$1" >"$folder/$1.toml"
+    echo "$folder/$1.toml"
+}
+
+# judge: asks the resolver while it and the servers are attacked. Each answer has to be right, and each daemon to run on.
+judge() {
+    local status=0 pid
+    taskset -c 0 "$folder/lookups" lisp 127.0.0.53 "$folder/items" 36000 32 127.0.4.1 127.0.3.1 >"$folder/judged" &
+    local asking=$!
+    for pid in "${daemons[@]}"; do
+        python3 "$here/../fuzz/hostile.py" "$pid" "$hostile"
+    done
+    echo 'flooded by an address that may not ask:'
+    "$folder/lookups" lisp 127.0.0.53 "$folder/items" 10 4096 127.0.66.1 127.0.66.1 || true
+    kill -INT "$asking"
+    wait "$asking" || status=$?
+    tail -n 1 "$folder/judged"
+    for pid in "${daemons[@]}"; do
+        kill -0 "$pid" || status=1
+    done
+    "$ddtd" tell "$folder/resolver.sock" stats
+    return "$status"
+}
+
+resolver_on
+for group in root ten g0 g1; do
+    run 2,3 "$ddtd" serve "$(compiled "$group")"
+done
+sleep 2
+if [ "$hostile" != 0 ]; then
+    judge
+    exit
+fi
+echo 'ddtd, an empty cache:'
+load lisp 127.0.0.53 "$folder/items" 600 256 127.0.4.1 127.0.3.1 once
+echo 'ddtd, once more:'
+load lisp 127.0.0.53 "$folder/items" 600 256 127.0.4.1 127.0.3.1 once
+echo 'ddtd, at random:'
+load lisp 127.0.0.53 "$folder/items" 5 256 127.0.4.1 127.0.3.1
+
+# woken PID: how often it was woken up so far, and its time in hundredths of a second.
+woken() {
+    awk '/^voluntary/ { print $2 }' "/proc/$1/status"
+    awk '{ print $14 + $15 }' "/proc/$1/stat"
+}
+sleep 12
+for pid in "${daemons[@]}"; do
+    woken "$pid" | paste -sd ' '
+done >"$folder/before"
+sleep 10
+for pid in "${daemons[@]}"; do
+    woken "$pid" | paste -sd ' '
+done | paste -d ' ' "$folder/before" - |
+    awk '{ printf "at rest: %.1f wake-ups a second, %.2f ms a second\n", ($3 - $1) / 10, ($4 - $2) }'
+
+for name in root ten below; do
+    taskset -c 2,3 nsd -d -c "$folder/$name.nsd" >/dev/null 2>&1 &
+    others+=($!)
+done
+taskset -c 1 unbound -c "$folder/unbound.conf" >/dev/null 2>&1 &
+others+=($!)
+sleep 2
+echo 'unbound, an empty cache:'
+load dns 127.0.5.53 "$folder/names" 600 256 127.0.4.1 once
+echo 'unbound, once more:'
+load dns 127.0.5.53 "$folder/names" 600 256 127.0.4.1 once
+echo 'unbound, at random:'
+load dns 127.0.5.53 "$folder/names" 5 256 127.0.4.1
+kill "${others[@]}"
+others=()
+
+[ "$minutes" != 0 ] || exit 0
+taskset -c 0 "$folder/lookups" lisp 127.0.0.53 "$folder/items" $((minutes * 60)) 256+ 127.0.4.1 127.0.3.1 \
+    >"$folder/soak" &
+soak=$!
+for ((second = 0; second <= minutes * 60; second += 60)); do
+    echo "$second $(for pid in "${daemons[@]}"; do awk '/^VmRSS/ { print $2 }' "/proc/$pid/status"; done | paste -sd ' ')"
+    [ "$second" = $((minutes * 60)) ] || sleep 60
+done
+status=0
+wait "$soak" || status=$?
+cat -- "$folder/soak"
+"$ddtd" tell "$folder/resolver.sock" stats
+exit "$status"

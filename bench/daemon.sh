@@ -59,7 +59,7 @@ compiled() {
 # judge: asks the resolver while it and the servers are attacked. Each answer has to be right, and each daemon to run on.
 judge() {
     local status=0 pid
-    taskset -c 0 "$folder/lookups" lisp 127.0.0.53 "$folder/items" 36000 32 127.0.4.1 127.0.3.1 >"$folder/judged" &
+    taskset -c 0 "$folder/lookups" lisp 127.0.0.53 "$folder/items" 36000 4 127.0.4.1 127.0.3.1 >"$folder/judged" &
     local asking=$!
     for pid in "${daemons[@]}"; do
         python3 "$here/../fuzz/hostile.py" "$pid" "$hostile"
@@ -86,11 +86,11 @@ if [ "$hostile" != 0 ]; then
     exit
 fi
 echo 'ddtd, an empty cache:'
-load lisp 127.0.0.53 "$folder/items" 600 256 127.0.4.1 127.0.3.1 once
+load lisp 127.0.0.53 "$folder/items" 600 128 127.0.4.1 127.0.3.1 once
 echo 'ddtd, once more:'
-load lisp 127.0.0.53 "$folder/items" 600 256 127.0.4.1 127.0.3.1 once
+load lisp 127.0.0.53 "$folder/items" 600 128 127.0.4.1 127.0.3.1 once
 echo 'ddtd, at random:'
-load lisp 127.0.0.53 "$folder/items" 5 256 127.0.4.1 127.0.3.1
+load lisp 127.0.0.53 "$folder/items" 5 128 127.0.4.1 127.0.3.1
 
 # woken PID: how often it was woken up so far, and its time in hundredths of a second.
 woken() {
@@ -108,23 +108,26 @@ done | paste -d ' ' "$folder/before" - |
     awk '{ printf "at rest: %.1f wake-ups a second, %.2f ms a second\n", ($3 - $1) / 10, ($4 - $2) }'
 
 for name in root ten below; do
-    taskset -c 2,3 nsd -d -c "$folder/$name.nsd" >/dev/null 2>&1 &
+    taskset -c 2,3 nsd -d -c "$folder/$name.nsd" >"$folder/$name.log" 2>&1 &
     others+=($!)
+done
+for name in root ten below; do
+    until grep -q 'nsd started' "$folder/$name.log"; do sleep 0.2; done
 done
 taskset -c 1 unbound -c "$folder/unbound.conf" >/dev/null 2>&1 &
 others+=($!)
-sleep 2
+sleep 3
 echo 'unbound, an empty cache:'
-load dns 127.0.5.53 "$folder/names" 600 256 127.0.4.1 once
+load dns 127.0.5.53 "$folder/names" 600 128 127.0.4.1 once
 echo 'unbound, once more:'
-load dns 127.0.5.53 "$folder/names" 600 256 127.0.4.1 once
+load dns 127.0.5.53 "$folder/names" 600 128 127.0.4.1 once
 echo 'unbound, at random:'
-load dns 127.0.5.53 "$folder/names" 5 256 127.0.4.1
+load dns 127.0.5.53 "$folder/names" 5 128 127.0.4.1
 kill "${others[@]}"
 others=()
 
 [ "$minutes" != 0 ] || exit 0
-taskset -c 0 "$folder/lookups" lisp 127.0.0.53 "$folder/items" $((minutes * 60)) 256+ 127.0.4.1 127.0.3.1 \
+taskset -c 0 "$folder/lookups" lisp 127.0.0.53 "$folder/items" $((minutes * 60)) 128+ 127.0.4.1 127.0.3.1 \
     >"$folder/soak" &
 soak=$!
 for ((second = 0; second <= minutes * 60; second += 60)); do

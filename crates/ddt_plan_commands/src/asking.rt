@@ -1,6 +1,7 @@
 //! What a command is asked, and the words that ask it.
 
-use clap::{Arg, ArgAction, ArgMatches, Command, Error};
+use crate::command_line::command_line;
+use clap::{ArgMatches, Error};
 use ddt_plan::Reading;
 use std::alloc::{AllocError, Global};
 
@@ -40,43 +41,135 @@ pub struct DiffAsked<'a> {
     pub form: Form,
 }
 
-/// A command, and what it is asked.
+/// What `warn` is asked.
+#[derive(Debug, Drop)]
+pub struct WarnAsked<'a> {
+    /// The path of the register.
+    pub register: &'a str,
+    /// The kinds of warnings that are turned off, by their names.
+    pub off: Vec<&'a str>,
+}
+
+/// What `compile` is asked.
 #[derive(Clone, Copy, Debug)]
+pub struct CompileAsked<'a> {
+    /// The path of the register.
+    pub register: &'a str,
+    /// The path of the folder.
+    pub folder: &'a str,
+    /// Whether files of groups that are gone are removed.
+    pub removes: bool,
+}
+
+/// What `loopback` is asked.
+#[derive(Clone, Copy, Debug)]
+pub struct LoopbackAsked<'a> {
+    /// The path of the register.
+    pub register: &'a str,
+    /// Whether only what became what is asked for.
+    pub as_table: bool,
+}
+
+/// What `ask` is asked. A number is None where it isn't given.
+#[derive(Debug, Drop)]
+pub struct AskAsked<'a> {
+    /// The path of the register.
+    pub register: &'a str,
+    /// The identifiers; none where one of each block is meant.
+    pub identifiers: Vec<&'a str>,
+    /// Questions a second.
+    pub rate: Option<u32>,
+    /// Milliseconds until a try is over.
+    pub timeout: Option<u32>,
+    /// How often a server is tried.
+    pub tries: Option<u32>,
+}
+
+/// What `tree` is asked.
+#[derive(Clone, Copy, Debug)]
+pub struct TreeAsked<'a> {
+    /// The path of the register.
+    pub register: &'a str,
+    /// The prefix below which it is drawn, as text; `*` is the root.
+    pub under: &'a str,
+    /// How many levels of zones are drawn, or None where it isn't given.
+    pub depth: Option<u32>,
+}
+
+/// What `ladder` is asked.
+#[derive(Clone, Copy, Debug)]
+pub struct LadderAsked<'a> {
+    /// The path of the register.
+    pub register: &'a str,
+    pub identifier: &'a str,
+}
+
+/// A command, and what it is asked.
+#[derive(Debug, Drop)]
 pub enum Asked<'a> {
     Blocks(BlocksAsked<'a>),
     Diff(DiffAsked<'a>),
+    /// All faults of the file at a path.
+    Faults(&'a str),
+    Warn(WarnAsked<'a>),
+    Compile(CompileAsked<'a>),
+    Loopback(LoopbackAsked<'a>),
+    Ask(AskAsked<'a>),
+    Tree(TreeAsked<'a>),
+    Ladder(LadderAsked<'a>),
 }
-
-const HELP: &str =
-    "A register that is named - is read from standard input. ddtplan(1) says what is printed.";
-
-const BLOCKS_HELP: &str = "Examples:
-  ddtplan blocks register.csv '[0]10.0.0.0/8'   what is assigned inside 10.0.0.0/8 of instance 0
-  ddtplan blocks --count register.csv           how many blocks there are of each kind
-
-Status: 0, or 2 if it refuses.";
-
-const DIFF_HELP: &str = "Examples:
-  ddtplan diff old.csv new.csv                  the identifiers whose servers change
-  git show HEAD:register.csv | ddtplan diff - register.csv
-
-Status: 0 if nothing changes, 1 if something does, 2 if it refuses.";
 
 /// What the words ask, of which the first is the program's name. A request for help or for the version is an error that
 /// shows it, as clap does.
 pub fn read_asked<'a>(alloc: Global, words: &'a [String]) -> Result<Asked<'a>, Error> {
     let mut matches = command_line(alloc)?.try_get_matches_from(words)?;
     match matches.remove_subcommand() {
-        Some(("blocks", matches)) => Ok(Asked::Blocks(blocks_asked(&matches))),
-        Some((_, matches)) => Ok(Asked::Diff(diff_asked(&matches))),
+        Some((command, matches)) => Ok(asked_of(alloc, command, &matches)?),
         // The command line requires one of its commands.
-        None => Ok(Asked::Blocks(blocks_asked(&matches))),
+        None => Ok(Asked::Faults("-")),
     }
 }
 
-fn blocks_asked<'a>(matches: &ArgMatches<'a>) -> BlocksAsked<'a> {
+/// What a command is asked. All of them name a register or a file.
+fn asked_of<'a>(
+    alloc: Global,
+    command: &str,
+    matches: &ArgMatches<'a>,
+) -> Result<Asked<'a>, AllocError> {
+    let register = matches.get_str("register").unwrap_or("-");
+    match command {
+        "blocks" => Ok(Asked::Blocks(blocks_asked(register, matches))),
+        "diff" => Ok(Asked::Diff(diff_asked(matches))),
+        "warn" => Ok(Asked::Warn(WarnAsked {
+            register,
+            off: values_of(alloc, matches, "off")?,
+        })),
+        "compile" => Ok(Asked::Compile(CompileAsked {
+            register,
+            folder: matches.get_str("folder").unwrap_or(""),
+            removes: matches.get_flag("remove"),
+        })),
+        "loopback" => Ok(Asked::Loopback(LoopbackAsked {
+            register,
+            as_table: matches.get_flag("table"),
+        })),
+        "ask" => Ok(Asked::Ask(ask_asked(alloc, register, matches)?)),
+        "tree" => Ok(Asked::Tree(TreeAsked {
+            register,
+            under: matches.get_str("under").unwrap_or("*"),
+            depth: matches.get_one("depth"),
+        })),
+        "ladder" => Ok(Asked::Ladder(LadderAsked {
+            register,
+            identifier: matches.get_str("identifier").unwrap_or(""),
+        })),
+        _ => Ok(Asked::Faults(register)),
+    }
+}
+
+fn blocks_asked<'a>(register: &'a str, matches: &ArgMatches<'a>) -> BlocksAsked<'a> {
     BlocksAsked {
-        register: matches.get_str("register").unwrap_or("-"),
+        register,
         inside: matches.get_str("prefix").unwrap_or("*"),
         with_holes: !matches.get_flag("no-holes"),
         counted: matches.get_flag("count"),
@@ -98,60 +191,36 @@ fn diff_asked<'a>(matches: &ArgMatches<'a>) -> DiffAsked<'a> {
     }
 }
 
+fn ask_asked<'a>(
+    alloc: Global,
+    register: &'a str,
+    matches: &ArgMatches<'a>,
+) -> Result<AskAsked<'a>, AllocError> {
+    Ok(AskAsked {
+        register,
+        identifiers: values_of(alloc, matches, "identifier")?,
+        rate: matches.get_one("rate"),
+        timeout: matches.get_one("timeout"),
+        tries: matches.get_one("tries"),
+    })
+}
+
+/// The values of an argument that may be given several times.
+fn values_of<'a>(
+    alloc: Global,
+    matches: &ArgMatches<'a>,
+    name: &str,
+) -> Result<Vec<&'a str>, AllocError> {
+    match matches.get_raw(name) {
+        Some(values) => Vec::from_slice(alloc, values),
+        None => Ok(Vec::new(alloc)),
+    }
+}
+
 fn form_asked(matches: &ArgMatches<'_>) -> Form {
     if matches.get_flag("json") {
         Form::Json
     } else {
         Form::Text
     }
-}
-
-/// The program's command line.
-fn command_line<'a>(alloc: Global) -> Result<Command<'a>, AllocError> {
-    Command::new(alloc, "ddtplan")
-        .version("1.0.0")
-        .about("What a LISP-DDT register says of all identifiers, and what a change of it changes.")
-        .after_help(HELP)
-        .subcommand_required(true)
-        .subcommand(blocks_command(alloc)?)?
-        .subcommand(diff_command(alloc)?)
-}
-
-fn blocks_command<'a>(alloc: Global) -> Result<Command<'a>, AllocError> {
-    Command::new(alloc, "blocks")
-        .after_help(BLOCKS_HELP)
-        .about(
-            "List the blocks of identifiers that a register assigns alike, and what it assigns to each.",
-        )
-        .arg(path(alloc, "register").help("The register, a CSV file"))?
-        .arg(
-            Arg::new(alloc, "prefix").action(ArgAction::Set).help(
-                "The identifiers that are asked for; all, where it isn't given",
-            ),
-        )?
-        .arg(flag(alloc, "no-holes").help("Leave out the holes"))?
-        .arg(flag(alloc, "count").help("Print only how many blocks there are of each kind"))?
-        .arg(flag(alloc, "json").help("Print a JSON object a line"))
-}
-
-fn diff_command<'a>(alloc: Global) -> Result<Command<'a>, AllocError> {
-    Command::new(alloc, "diff")
-        .after_help(DIFF_HELP)
-        .about("List the blocks of identifiers whose assignment changes, and how.")
-        .arg(path(alloc, "old").help("The register that is in force, a CSV file"))?
-        .arg(path(alloc, "new").help("The register that is to come into force, a CSV file"))?
-        .arg(flag(alloc, "exact").help("List also where only the prefix of an outcome differs"))?
-        .arg(flag(alloc, "count").help(
-            "Print only how many changed blocks there are of each kind",
-        ))?
-        .arg(flag(alloc, "json").help("Print a JSON object a line"))
-}
-
-/// A path that must be given.
-fn path<'a>(alloc: Global, name: &'a str) -> Arg<'a> {
-    Arg::new(alloc, name).required(true).action(ArgAction::Set)
-}
-
-fn flag<'a>(alloc: Global, name: &'a str) -> Arg<'a> {
-    Arg::new(alloc, name).long(name).action(ArgAction::SetTrue)
 }

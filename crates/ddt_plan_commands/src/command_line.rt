@@ -1,0 +1,201 @@
+//! The words of the program, as clap reads them.
+
+use clap::{Arg, ArgAction, Command, value_parser};
+use std::alloc::{AllocError, Global};
+
+const HELP: &str =
+    "A register that is named - is read from standard input. ddtplan(1) says what is printed.";
+
+const BLOCKS_HELP: &str = "Examples:
+  ddtplan blocks register.csv '[0]10.0.0.0/8'   what is assigned inside 10.0.0.0/8 of instance 0
+  ddtplan blocks --count register.csv           how many blocks there are of each kind
+
+Status: 0, or 2 if it refuses.";
+
+const DIFF_HELP: &str = "Examples:
+  ddtplan diff old.csv new.csv                  the identifiers whose servers change
+  git show HEAD:register.csv | ddtplan diff - register.csv
+
+Status: 0 if nothing changes, 1 if something does, 2 if it refuses.";
+
+const FAULTS_HELP: &str =
+    "Each fault has a line: FILE:LINE: NUMBER NAME: reason. The last line says how many there are.
+
+Status: 0 for none, 1 if there are faults, 2 if the file can't be read.";
+
+const WARN_HELP: &str = "Example:
+  ddtplan warn --off node-zone-without-child register.csv
+
+Status: 0 for none, 1 if it warns, 2 if it refuses.";
+
+const COMPILE_HELP: &str =
+    "Each file is written beside the old one and renamed. Files that stay the same are left alone. Where the register is
+refused, nothing is touched. `sha256sum -c MANIFEST` checks the files.
+
+Status: 0, or 2 if it refuses.";
+
+const LOOPBACK_HELP: &str = "Example:
+  ddtplan loopback register.csv > here.csv && ddt loop here.csv '[0]10.1.2.3'
+
+Status: 0, or 2 if it refuses.";
+
+const ASK_HELP: &str =
+    "Each question has a line: the identifier, the server, and `agrees`, `differs` or `silent`.
+
+Status: 0 if all agree, 1 if not, 2 if it refuses.";
+
+const TREE_HELP: &str = "Example:
+  ddtplan tree register.csv --under '[0]10.0.0.0/8' > tree.svg
+
+Status: 0, or 2 if it refuses.";
+
+const LADDER_HELP: &str = "Example:
+  ddtplan ladder register.csv '[0]10.1.2.3' > ladder.svg
+
+Status: 0, or 2 if it refuses.";
+
+/// The program's command line.
+pub(crate) fn command_line<'a>(alloc: Global) -> Result<Command<'a>, AllocError> {
+    Command::new(alloc, "ddtplan")
+        .version("1.0.0")
+        .about(
+            "Review a LISP-DDT register: its faults, what it says of all identifiers, and what a change of it changes.",
+        )
+        .after_help(HELP)
+        .subcommand_required(true)
+        .subcommand(blocks_command(alloc)?)?
+        .subcommand(diff_command(alloc)?)?
+        .subcommand(faults_command(alloc)?)?
+        .subcommand(warn_command(alloc)?)?
+        .subcommand(compile_command(alloc)?)?
+        .subcommand(loopback_command(alloc)?)?
+        .subcommand(ask_command(alloc)?)?
+        .subcommand(tree_command(alloc)?)?
+        .subcommand(ladder_command(alloc)?)
+}
+
+fn blocks_command<'a>(alloc: Global) -> Result<Command<'a>, AllocError> {
+    Command::new(alloc, "blocks")
+        .after_help(BLOCKS_HELP)
+        .about(
+            "List the blocks of identifiers that a register assigns alike, and what it assigns to each.",
+        )
+        .arg(path(alloc, "register").help("The register, a CSV file"))?
+        .arg(
+            Arg::new(alloc, "prefix").action(ArgAction::Set).help(
+                "The identifiers that are asked for; all, where it isn't given",
+            ),
+        )?
+        .arg(flag(alloc, "no-holes").help("Leave out the holes"))?
+        .arg(flag(alloc, "count").help("Print only how many blocks there are of each kind"))?
+        .arg(flag(alloc, "json").help("Print a JSON object a line"))
+}
+
+fn diff_command<'a>(alloc: Global) -> Result<Command<'a>, AllocError> {
+    Command::new(alloc, "diff")
+        .after_help(DIFF_HELP)
+        .about("List the blocks of identifiers whose assignment changes, and how.")
+        .arg(path(alloc, "old").help("The register that is in force, a CSV file"))?
+        .arg(path(alloc, "new").help("The register that is to come into force, a CSV file"))?
+        .arg(flag(alloc, "exact").help("List also where only the prefix of an outcome differs"))?
+        .arg(flag(alloc, "count").help(
+            "Print only how many changed blocks there are of each kind",
+        ))?
+        .arg(flag(alloc, "json").help("Print a JSON object a line"))
+}
+
+fn faults_command<'a>(alloc: Global) -> Result<Command<'a>, AllocError> {
+    Command::new(alloc, "faults")
+        .after_help(FAULTS_HELP)
+        .about("List every fault of a register's file, with its line.")
+        .arg(path(alloc, "register").help("The file, as people and spreadsheets write it"))
+}
+
+fn warn_command<'a>(alloc: Global) -> Result<Command<'a>, AllocError> {
+    Command::new(alloc, "warn")
+        .after_help(WARN_HELP)
+        .about("List what a register has that is mostly a mistake.")
+        .arg(path(alloc, "register").help("The register, a CSV file"))?
+        .arg(
+            Arg::new(alloc, "off")
+                .long("off")
+                .value_name("KIND")
+                .action(ArgAction::Append)
+                .help("Turn a kind of warning off"),
+        )
+}
+
+fn compile_command<'a>(alloc: Global) -> Result<Command<'a>, AllocError> {
+    Command::new(alloc, "compile")
+        .after_help(COMPILE_HELP)
+        .about("Write the configuration of each group into a folder, with a manifest.")
+        .arg(path(alloc, "register").help("The register, a CSV file"))?
+        .arg(path(alloc, "folder").help("The folder"))?
+        .arg(flag(alloc, "remove").help("Remove the files of groups that are gone"))
+}
+
+fn loopback_command<'a>(alloc: Global) -> Result<Command<'a>, AllocError> {
+    Command::new(alloc, "loopback")
+        .after_help(LOOPBACK_HELP)
+        .about("Print the register with its servers at addresses of 127.0.0.0/8.")
+        .arg(path(alloc, "register").help("The register, a CSV file"))?
+        .arg(flag(alloc, "table").help("Print only which address became which"))
+}
+
+fn ask_command<'a>(alloc: Global) -> Result<Command<'a>, AllocError> {
+    Command::new(alloc, "ask")
+        .after_help(ASK_HELP)
+        .about("Ask the servers of a register, and compare what they say with it.")
+        .arg(path(alloc, "register").help("The register, a CSV file"))?
+        .arg(
+            Arg::new(alloc, "identifier").action(ArgAction::Append).help(
+                "What is asked for; one identifier of each block, where none is given",
+            ),
+        )?
+        .arg(number(alloc, "rate").help("Questions a second; 100, where it isn't given"))?
+        .arg(number(alloc, "timeout").help("Milliseconds for a reply; 2000, where it isn't given"))?
+        .arg(number(alloc, "tries").help(
+            "Requests to a server that is silent; 2, where it isn't given",
+        ))
+}
+
+fn tree_command<'a>(alloc: Global) -> Result<Command<'a>, AllocError> {
+    Command::new(alloc, "tree")
+        .after_help(TREE_HELP)
+        .about("Draw the tree of a register as SVG.")
+        .arg(path(alloc, "register").help("The register, a CSV file"))?
+        .arg(
+            Arg::new(alloc, "under")
+                .long("under")
+                .value_name("PREFIX")
+                .action(ArgAction::Set)
+                .help("Draw what is inside this prefix"),
+        )?
+        .arg(number(alloc, "depth").help("How many levels of zones are drawn"))
+}
+
+fn ladder_command<'a>(alloc: Global) -> Result<Command<'a>, AllocError> {
+    Command::new(alloc, "ladder")
+        .after_help(LADDER_HELP)
+        .about("Draw the messages of a lookup as SVG.")
+        .arg(path(alloc, "register").help("The register, a CSV file"))?
+        .arg(path(alloc, "identifier").help("What is looked up"))
+}
+
+/// An option that has a number above 0.
+fn number<'a>(alloc: Global, name: &'a str) -> Arg<'a> {
+    Arg::new(alloc, name)
+        .long(name)
+        .value_name("N")
+        .action(ArgAction::Set)
+        .value_parser(value_parser!(u32).range(1..))
+}
+
+/// A path that must be given.
+fn path<'a>(alloc: Global, name: &'a str) -> Arg<'a> {
+    Arg::new(alloc, name).required(true).action(ArgAction::Set)
+}
+
+fn flag<'a>(alloc: Global, name: &'a str) -> Arg<'a> {
+    Arg::new(alloc, name).long(name).action(ArgAction::SetTrue)
+}

@@ -7,8 +7,8 @@
 # assigns (bench/daemon/lookups.c says how). Then the daemons are left alone for ten seconds: how often they wake up,
 # and what time they take. --soak asks at random for so many minutes, and prints what memory each daemon has, a line a
 # minute: seconds, and kilobytes of the resolver, the root, the node and both Map-Servers. --hostile measures nothing:
-# while it asks, fuzz/hostile.py sends COUNT datagrams to each socket of each daemon, and then requests of an address that
-# may not ask flood the resolver for ten seconds.
+# while it asks, fuzz/hostile.py sends COUNT datagrams to each socket of each daemon, and then floods the resolver for ten
+# seconds with requests of an address that may not ask.
 #
 # It sends to 127.0.0.0/8 alone. Wants root for port 53, four processors, python3, gcc, nsd and unbound (Debian's
 # packages of these names). DDT, DDTD and DDTPLAN name the programs, by default those that the launchers run.
@@ -64,8 +64,7 @@ judge() {
     for pid in "${daemons[@]}"; do
         python3 "$here/../fuzz/hostile.py" "$pid" "$hostile"
     done
-    echo 'flooded by an address that may not ask:'
-    "$folder/lookups" lisp 127.0.0.53 "$folder/items" 10 4096 127.0.66.1 127.0.66.1 || true
+    python3 "$here/../fuzz/hostile.py" flood 127.0.0.53 10
     kill -INT "$asking"
     wait "$asking" || status=$?
     tail -n 1 "$folder/judged"

@@ -1,10 +1,10 @@
 #!/usr/bin/env bash
-# Measures how many replies a second `ddt serve` gives on the loopback, beside a plain program in Rust (bench/peer), nsd
-# and a program that sends each datagram back: bench/serve.sh [--save] [PROGRAM]
+# Measures how many replies a second `ddt serve` gives on the loopback, beside `ddtd serve`, a plain program in Rust
+# (bench/peer), nsd and a program that sends each datagram back: bench/serve.sh [--save] [PROGRAM]
 #
-# PROGRAM is the program itself; without it that which the launcher runs is taken. A register of 20,000 zones is
+# PROGRAM is the program itself; without it that which the launcher runs is taken. DDTD names the daemon likewise. A register of 20,000 zones is
 # compiled, and its root's configuration served; nsd serves as many delegations, with one process. The peer is to answer
-# some requests with the same bytes. Each of the four is loaded alone for three seconds by bench/serve/load.c, with at
+# some requests with the same bytes. Each of the five is loaded alone for three seconds by bench/serve/load.c, with at
 # most 64 requests outstanding, in turn and seven times over; the median of the seven counts. A round without a reply
 # ends the script. Each has one processor for itself, and the load another, so that no round hangs on which ones the
 # system chooses. Then, for the configurations of 65,535 rows: how long a server takes from its start to its end after
@@ -28,6 +28,7 @@ if [ $# -gt 0 ]; then
 else
     program=$("$here/../release/program" ddt)
 fi
+daemon=${DDTD:-$("$here/../release/program" ddtd)}
 seconds=3
 window=64
 zones=20000
@@ -129,10 +130,12 @@ mv -- "$folder/replies" "$folder/ours"
 replies peer "$peer"
 cmp -- "$folder/ours" "$folder/replies" || fail 'ddt serve and the peer give other replies'
 
-ours='' plain='' theirs='' echoed=''
+ours='' served_on='' plain='' theirs='' echoed=''
 for _ in 1 2 3 4 5 6 7; do
     start "$program" serve "$folder/root.toml" 127.0.0.1 4294967295
     load ours 'ddt serve' ddt 127.0.0.1 4342
+    start "$daemon" serve "$folder/root.toml"
+    load served_on 'ddtd serve' ddt 127.0.0.1 4342
     start "$peer" serve "$folder/root.toml" 127.0.0.1 4294967295
     load plain peer ddt 127.0.0.1 4342
     start "$nsd" -d -c "$folder/nsd.conf"
@@ -154,7 +157,7 @@ started() {
     done | awk 'NR == 1 || $1 < s { s = $1 } NR == 1 || $2 < m { m = $2 } END { print s / 1000, m }'
 }
 
-echo "replies a second on $(nproc) cores: ddt serve$ours, peer$plain, nsd$theirs, sent back$echoed"
+echo "replies a second on $(nproc) cores: ddt serve$ours, ddtd$served_on, peer$plain, nsd$theirs, sent back$echoed"
 printf '\n| shape | rows | start | peer | of the peer | bytes a row | peer |\n|---|---|---|---|---|---|---|\n'
 rows=65535
 for place in flat:root:127.0.0.1 groups:g0:127.0.1.0 sites:east:127.0.0.2; do
@@ -171,7 +174,8 @@ for place in flat:root:127.0.0.1 groups:g0:127.0.1.0 sites:east:127.0.0.2; do
 done
 echo
 # shellcheck disable=SC2086
-read -r ours plain theirs echoed <<<"$(median $ours) $(median $plain) $(median $theirs) $(median $echoed)"
+read -r ours served_on plain theirs echoed \
+    <<<"$(median $ours) $(median $served_on) $(median $plain) $(median $theirs) $(median $echoed)"
 if [ -n "$save" ]; then
     saved=$here/results/serve.tsv
     mkdir -p -- "$here/results"
@@ -181,8 +185,9 @@ if [ -n "$save" ]; then
         -v o="$ours" -v p="$plain" -v t="$theirs" -v e="$echoed" \
         'BEGIN { CONVFMT = "%.2f"; print d, c, m, o / p "", o / t "", o / e "" }' >>"$saved"
 fi
-awk -v ours="$ours" -v plain="$plain" -v theirs="$theirs" -v echoed="$echoed" 'BEGIN {
-    printf "ddt serve %d, peer %d (%.2f of it), nsd %d (%.2f of it), ", ours, plain, ours / plain, theirs, ours / theirs
+awk -v ours="$ours" -v daemon="$served_on" -v plain="$plain" -v theirs="$theirs" -v echoed="$echoed" 'BEGIN {
+    printf "ddt serve %d, ddtd serve %d (%.2f of it), ", ours, daemon, daemon / ours
+    printf "peer %d (%.2f of it), nsd %d (%.2f of it), ", plain, ours / plain, theirs, ours / theirs
     printf "sent back %d (%.2f of it)\n", echoed, ours / echoed
     exit ours >= theirs && ours >= 0.8 * echoed ? 0 : 1
 }'

@@ -1,12 +1,13 @@
 """Sends random and mutated datagrams to each UDP socket of a daemon on the loopback.
 
-usage: hostile.py PID COUNT [SEED]
+usage: hostile.py PID COUNT [SEED], or hostile.py flood ADDRESS SECONDS
 
 COUNT datagrams go to each socket of the process: a quarter random bytes, the others messages of which up to eight bytes
 were changed, cut off or added: an ITR's request, a request with the bit D, a Map-Referral, a negative Map-Reply. Half
 come from an address that a resolver of bench/daemon.sh lets ask, half from others; half from port 4342. They are sent
 at some 30,000 a second, so that the daemon takes most of them. Prints how many were sent to each socket.
-bench/daemon.sh --hostile runs it, and judges the answers that others get meanwhile.
+The second form sends requests of ITRs that may not ask, as fast as it can. bench/daemon.sh --hostile runs both, and
+judges the answers that others get meanwhile.
 """
 from __future__ import annotations
 
@@ -91,7 +92,23 @@ def attack(lot: random.Random, target: tuple[str, int], count: int) -> int:
     return sent
 
 
+def flood(address: str, seconds: float) -> int:
+    requests = [packets.encapsulated(nonce, "10.1.2.3", 0, OTHERS[0], 4343) for nonce in range(1000)]
+    sent, end = 0, time.monotonic() + seconds
+    with socket.socket(socket.AF_INET, socket.SOCK_DGRAM) as sender:
+        sender.bind((OTHERS[0], 0))
+        sender.connect((address, packets.CONTROL_PORT))
+        while time.monotonic() < end:
+            for request in requests:
+                sender.send(request)
+            sent += len(requests)
+    return sent
+
+
 def main(words: list[str]) -> int:
+    if words[0] == "flood":
+        print(f"{words[1]}: a flood of {flood(words[1], float(words[2]))} requests")
+        return 0
     pid, count = int(words[0]), int(words[1])
     lot = random.Random(int(words[2]) if len(words) > 2 else 1)
     for target in sockets_of(pid):

@@ -27,5 +27,6 @@ pub use asking::{
 };
 pub use end::End;
 pub use listed_blocks::run_blocks;
+pub use opening::register_of;
 pub use refusal::PlanRefusal;
 pub use told_changes::run_diff;

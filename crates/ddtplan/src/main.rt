@@ -1,31 +1,22 @@
-//! The companion program: its words, and the command that they ask for, over the files and the streams of a process. The
-//! commands are those of `ddt_plan_commands`.
+//! The companion program: its words, and the command that they ask for, over the files, the sockets and the streams of a
+//! process. What a command answers is made by the crates below: `ddt_plan_commands` and those that each module names.
 #![tactic(auto)]
 
+mod asking;
+mod compiling;
+mod drawing;
+mod faults;
+mod loopback;
 mod progress;
+mod reading;
+mod warning;
 
-use ddt_plan_commands::{Asked, End, read_asked, run_blocks, run_diff};
+use ddt_plan_commands::{Asked, BlocksAsked, DiffAsked, End, read_asked, run_blocks, run_diff};
 use progress::Progress;
-use std::fs::File;
-use std::io::{BufWriter, ErrorKind, IsTerminal, Read, Stdin, Write};
+use reading::{Why, source_at};
+use std::io::{BufWriter, ErrorKind, IsTerminal, Stdout, Write};
 use std::process::ExitCode;
-use std::{env, fs, io};
-
-/// Where a register's bytes come from.
-#[derive(Drop)]
-enum Source {
-    File(File),
-    Stdin(Stdin),
-}
-
-impl Read for Source {
-    fn read(&mut self, buf: &mut [u8]) -> io::Result<usize> {
-        match self {
-            Source::File(file) => file.read(buf),
-            Source::Stdin(stdin) => stdin.read(buf),
-        }
-    }
-}
+use std::{env, io};
 
 fn main(rt: HostRuntime) -> ExitCode {
     ExitCode::from(run_words(&rt).number())
@@ -59,27 +50,57 @@ fn refuse(rt: &HostRuntime, why: &str) -> End {
 
 /// Runs a command over the files and the streams of the process.
 fn run(rt: &HostRuntime, asked: &Asked<'_>) -> End {
-    let Ok(out) = BufWriter::new(rt.alloc(), rt.stdout()) else {
+    let answered = match asked {
+        Asked::Blocks(asked) => return blocks(rt, asked),
+        Asked::Diff(asked) => return diff(rt, asked),
+        Asked::Faults(path) => faults::faults(rt, path),
+        Asked::Warn(asked) => warning::warn(rt, asked),
+        Asked::Compile(asked) => compiling::compile(rt, asked),
+        Asked::Loopback(asked) => loopback::loopback(rt, asked),
+        Asked::Ask(asked) => asking::ask(rt, asked),
+        Asked::Tree(asked) => drawing::tree(rt, asked),
+        Asked::Ladder(asked) => drawing::ladder(rt, asked),
+    };
+    match answered {
+        Ok(end) => end,
+        Err(why) => refuse_for(rt, why),
+    }
+}
+
+/// Says why there is no answer, or that there is no memory to say it.
+fn refuse_for(rt: &HostRuntime, why: Why) -> End {
+    match why {
+        Ok(why) => refuse(rt, why.as_str()),
+        Err(_refused) => refuse(rt, "out of memory"),
+    }
+}
+
+/// The process's output, which says on standard error how far a long list is; None if out of memory.
+fn list_output(rt: &HostRuntime) -> Option<Progress<BufWriter<Stdout>, &HostRuntime>> {
+    let out = BufWriter::new(rt.alloc(), rt.stdout()).ok()?;
+    let err = rt.stderr();
+    let is_shown = err.is_terminal() && !rt.stdout().is_terminal();
+    Some(Progress::new(out, rt, err, is_shown))
+}
+
+fn blocks(rt: &HostRuntime, asked: &BlocksAsked<'_>) -> End {
+    let Some(out) = list_output(rt) else {
         return refuse(rt, "out of memory");
     };
-    let mut err = rt.stderr();
-    let is_shown = err.is_terminal() && !rt.stdout().is_terminal();
-    let out = Progress::new(out, rt, rt.stderr(), is_shown);
     let open_file = |path: &str| source_at(rt, path);
-    let (end, mut out) = match asked {
-        Asked::Blocks(asked) => run_blocks(rt.alloc(), asked, open_file, out, &mut err),
-        Asked::Diff(asked) => run_diff(rt.alloc(), asked, open_file, out, &mut err),
-    };
+    let (end, mut out) = run_blocks(rt.alloc(), asked, open_file, out, &mut rt.stderr());
     out.finish();
     end
 }
 
-/// The source at a path; `-` is standard input.
-fn source_at(rt: &HostRuntime, path: &str) -> Option<Source> {
-    match path {
-        "-" => Some(Source::Stdin(rt.stdin())),
-        path => fs::open(rt, path).ok().map(Source::File),
-    }
+fn diff(rt: &HostRuntime, asked: &DiffAsked<'_>) -> End {
+    let Some(out) = list_output(rt) else {
+        return refuse(rt, "out of memory");
+    };
+    let open_file = |path: &str| source_at(rt, path);
+    let (end, mut out) = run_diff(rt.alloc(), asked, open_file, out, &mut rt.stderr());
+    out.finish();
+    end
 }
 
 /// The words that the process was started with, the program's name first.

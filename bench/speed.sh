@@ -13,11 +13,11 @@
 # tree has to be a git clone. The last column shows the ratio to the peer that was saved last on such a machine, so that
 # a loss is seen.
 #
-# Wants two processors, python3, a cargo that knows Rust's edition 2024 (1.85), and nsd-checkzone where its columns are
+# DDT names the program, by default that which the launcher runs. Wants two processors, python3, a cargo that knows Rust's edition 2024 (1.85), and nsd-checkzone where its columns are
 # to be filled.
 set -eu
 cd -- "$(dirname -- "${BASH_SOURCE[0]}")/.."
-program=$(release/program ddt)
+program=${DDT:-$(release/program ddt)}
 checkzone=$(PATH=$PATH:/usr/sbin:/sbin command -v nsd-checkzone) || checkzone=''
 saved=bench/results/speed.tsv
 save=''

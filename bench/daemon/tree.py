@@ -36,7 +36,7 @@ def zone(origin: str, server: str, lines: list[str]) -> list[str]:
 
 def nsd(folder: pathlib.Path, name: str, zones: list[str]) -> list[str]:
     lines = ["server:", " server-count: 1", f" ip-address: {DNS[name]}@53", " do-ip6: no", ' username: ""',
-             ' chroot: ""', f' zonesdir: "{folder}"', f' pidfile: "{folder}/{name}.pid"',
+             ' chroot: ""', ' database: ""', f' zonesdir: "{folder}"', f' pidfile: "{folder}/{name}.pid"',
              f' xfrdfile: "{folder}/{name}.xfrd"', f' zonelistfile: "{folder}/{name}.list"', " rrl-ratelimit: 0",
              "remote-control:", " control-enable: no"]
     for each in zones:

@@ -11,12 +11,14 @@
 # seconds with requests of an address that may not ask.
 #
 # It sends to 127.0.0.0/8 alone. Wants root for port 53, four processors, python3, gcc, nsd and unbound (Debian's
-# packages of these names). DDT, DDTD and DDTPLAN name the programs, by default those that the launchers run.
+# packages of these names). DDT, DDTD and DDTPLAN name the programs, by default those that the launchers run. ONE_CORE
+# names a processor that everything shares.
 set -eu -o pipefail
 here=$(cd -- "$(dirname -- "${BASH_SOURCE[0]}")" && pwd)
 ddt=${DDT:-$("$here/../release/program" ddt)}
 ddtd=${DDTD:-$("$here/../release/program" ddtd)}
 ddtplan=${DDTPLAN:-$("$here/../release/program" ddtplan)}
+load_core=${ONE_CORE:-0} resolver_core=${ONE_CORE:-1} server_cores=${ONE_CORE:-2,3}
 minutes=0 hostile=0
 case "${1-}" in
     --soak) minutes=$2 ;;
@@ -41,13 +43,13 @@ run() {
 }
 
 resolver_on() {
-    run 1 "$ddtd" resolve "$folder/resolver.toml" --control "$folder/resolver.sock"
+    run "$resolver_core" "$ddtd" resolve "$folder/resolver.toml" --control "$folder/resolver.sock"
     sleep 0.5
 }
 
 # load WORD..: one line of what the load says, behind the last line of the minutes.
 load() {
-    taskset -c 0 "$folder/lookups" "$@" | tail -n 1
+    taskset -c "$load_core" "$folder/lookups" "$@" | tail -n 1
 }
 
 # compiled GROUP: its configuration, in a file.
@@ -59,7 +61,7 @@ compiled() {
 # judge: asks the resolver while it and the servers are attacked. Each answer has to be right, and each daemon to run on.
 judge() {
     local status=0 pid
-    taskset -c 0 "$folder/lookups" lisp 127.0.0.53 "$folder/items" 36000 4 127.0.4.1 127.0.3.1 >"$folder/judged" &
+    taskset -c "$load_core" "$folder/lookups" lisp 127.0.0.53 "$folder/items" 36000 4 127.0.4.1 127.0.3.1 >"$folder/judged" &
     local asking=$!
     for pid in "${daemons[@]}"; do
         python3 "$here/../fuzz/hostile.py" "$pid" "$hostile"
@@ -77,7 +79,7 @@ judge() {
 
 resolver_on
 for group in root ten g0 g1; do
-    run 2,3 "$ddtd" serve "$(compiled "$group")"
+    run "$server_cores" "$ddtd" serve "$(compiled "$group")"
 done
 sleep 2
 if [ "$hostile" != 0 ]; then
@@ -107,13 +109,13 @@ done | paste -d ' ' "$folder/before" - |
     awk '{ printf "at rest: %.1f wake-ups a second, %.2f ms a second\n", ($3 - $1) / 10, ($4 - $2) }'
 
 for name in root ten below; do
-    taskset -c 2,3 nsd -d -c "$folder/$name.nsd" >"$folder/$name.log" 2>&1 &
+    taskset -c "$server_cores" nsd -d -c "$folder/$name.nsd" >"$folder/$name.log" 2>&1 &
     others+=($!)
 done
 for name in root ten below; do
     until grep -q 'nsd started' "$folder/$name.log"; do sleep 0.2; done
 done
-taskset -c 1 unbound -c "$folder/unbound.conf" >/dev/null 2>&1 &
+taskset -c "$resolver_core" unbound -c "$folder/unbound.conf" >/dev/null 2>&1 &
 others+=($!)
 sleep 3
 echo 'unbound, an empty cache:'
@@ -126,7 +128,7 @@ kill "${others[@]}"
 others=()
 
 [ "$minutes" != 0 ] || exit 0
-taskset -c 0 "$folder/lookups" lisp 127.0.0.53 "$folder/items" $((minutes * 60)) 128+ 127.0.4.1 127.0.3.1 \
+taskset -c "$load_core" "$folder/lookups" lisp 127.0.0.53 "$folder/items" $((minutes * 60)) 128+ 127.0.4.1 127.0.3.1 \
     >"$folder/soak" &
 soak=$!
 for ((second = 0; second <= minutes * 60; second += 60)); do

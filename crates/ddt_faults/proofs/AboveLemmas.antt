@@ -102,7 +102,8 @@ never false c = refl
 pub root_not_below : (r : Register) (z : Zone) → length z.prefix ≡ 0 → is_below_map_server r z ≡ false
 root_not_below r z e = go z.prefix e
   where
-    go : (p : List ℕ) → length p ≡ 0 → list_any (λ (y : Zone). is_ms y.kind && is_strictly_below p y.prefix) r.zones ≡ false
+    go : (p : List ℕ) → length p ≡ 0
+        → list_any (λ (y : Zone). is_ms y.kind && is_strictly_below p y.prefix) r.zones ≡ false
     go [] n = none_of (λ (y : Zone). is_ms y.kind && is_strictly_below [] y.prefix) r.zones
         (λ y k. never (is_ms y.kind) (covers y.prefix []))
     go (h ∷ p) n = absurd (omega arith)

@@ -30,7 +30,8 @@ or_none (Some x) = refl
 
 -- ---- one more item
 
-module _ {A V : Type 0} (f : A → V) (test : A → Bool) (xs : List A) (i : ℕ) (x : A) (lt : i < length xs) (is : x ≡ get_or xs i x) where
+module _ {A V : Type 0} (f : A → V) (test : A → Bool) (xs : List A) (i : ℕ) (x : A)
+    (lt : i < length xs) (is : x ≡ get_or xs i x) where
   found_more : find test (take (i + 1) xs) ≡ option_or (find test (take i xs)) (cond (test x) (Some x) None)
   found_more =
       ap (find test) (take_more xs i x lt)
@@ -118,7 +119,8 @@ module _ {V : Type 0} (old : FinMap path_cmp V) (p : List ℕ) (v : V) (q : List
   known_case None true h = absurd (false≢true (h refl))
   known_case None false h = refl
 
-  pub tree_known : is_some (get old p) ≡ true → get old q ≡ option_or (get old q) (cond (is_same_path p q) (Some v) None)
+  pub tree_known : is_some (get old p) ≡ true
+      → get old q ≡ option_or (get old q) (cond (is_same_path p q) (Some v) None)
   tree_known known = known_case (get old q) (is_same_path p q)
       (λ e. subst (λ (k : List ℕ). is_some (get old k) ≡ true) (same_path p q e) known)
 

@@ -24,12 +24,12 @@ use Rattle.ddt_check.specs.declared.fault.Rule.TheVariants as variants
 use Rattle.ddt_check.specs.Rules.{broken, rule_number, item_at, is_root, zone_at, is_wrong_root}
 use Rattle.ddt_faults.specs.declared.broken.Broken.{Broken}
 use Rattle.ddt_faults.specs.Broken.{other_row, is_told, place_cmp, AreBroken}
-use Rattle.ddt_faults.specs.Told.{fault_if, told, rules}
+use Rattle.ddt_faults.specs.Told.{fault_if, told, all_rules}
 use Rattle.ddt_faults.proofs.RowLemmas.{most_row}
 
--- ---- rules and their numbers
+-- ---- the rules and their numbers
 
-at_number : (rule : Rule) → get_or rules (rule_number rule - 1) variants.NoRoot ≡ rule
+at_number : (rule : Rule) → get_or all_rules (rule_number rule - 1) variants.NoRoot ≡ rule
 at_number variants.NoRoot = refl
 at_number variants.DuplicateZone = refl
 at_number variants.DuplicateSite = refl
@@ -42,9 +42,9 @@ at_number variants.TooManyEtrs = refl
 at_number variants.DuplicateGroup = refl
 
 same_rule : (a b : Rule) → rule_number a ≡ rule_number b → a ≡ b
-same_rule a b e = sym (at_number a) ∙ ap (λ (k : ℕ). get_or rules (k - 1) variants.NoRoot) e ∙ at_number b
+same_rule a b e = sym (at_number a) ∙ ap (λ (k : ℕ). get_or all_rules (k - 1) variants.NoRoot) e ∙ at_number b
 
-each_rule : (rule : Rule) → IsIn rule rules
+each_rule : (rule : Rule) → IsIn rule all_rules
 each_rule variants.NoRoot = inl refl
 each_rule variants.DuplicateZone = inr (inl refl)
 each_rule variants.DuplicateSite = inr (inr (inl refl))
@@ -56,8 +56,8 @@ each_rule variants.SiteOutside = inr (inr (inr (inr (inr (inr (inr (inl refl))))
 each_rule variants.TooManyEtrs = inr (inr (inr (inr (inr (inr (inr (inr (inl refl))))))))
 each_rule variants.DuplicateGroup = inr (inr (inr (inr (inr (inr (inr (inr (inr (inl refl)))))))))
 
-rules_rise : Rising rule_number rules
-rules_rise = rising_from_rise rule_number rules 0 refl
+rules_rise : Rising rule_number all_rules
+rules_rise = rising_from_rise rule_number all_rules 0 refl
 
 -- what holds of each member, by recursion
 each_by_recursion : {A : Type 0} (P : A → Type 0) (xs : List A) → ((x : A) → IsIn x xs → P x) → AllByRecursion P xs
@@ -123,11 +123,11 @@ module _ (r : Register) (row : ℕ) where
   told_in ρs = filter_map (told r row) ρs
 
   -- a rule is told of the row if and only if it is broken there
-  told_exact : (ρ : Rule) (n : ℕ) → is_told (told_in rules) ρ n ≡ (row == n && broken r ρ n)
-  told_exact ρ n = iff_same (is_told (told_in rules) ρ n) (row == n && broken r ρ n) (λ t.
-      let b = any_in (λ (b : Broken). b.row == n && rule_number b.rule == rule_number ρ) (told_in rules) t in
+  told_exact : (ρ : Rule) (n : ℕ) → is_told (told_in all_rules) ρ n ≡ (row == n && broken r ρ n)
+  told_exact ρ n = iff_same (is_told (told_in all_rules) ρ n) (row == n && broken r ρ n) (λ t.
+      let b = any_in (λ (b : Broken). b.row == n && rule_number b.rule == rule_number ρ) (told_in all_rules) t in
       let p = and_parts (b.0.row == n) (rule_number b.0.rule == rule_number ρ) b.2 in
-      let k = from_kept (told r row) rules b.0 b.1 in
+      let k = from_kept (told r row) all_rules b.0 b.1 in
       let f = told_is k.0 b.0 k.2 in
       let here : row ≡ n = sym f.at ∙ eqb-true b.0.row n p.0 in
       let same : k.0 ≡ ρ = sym f.of ∙ same_rule b.0.rule ρ (eqb-true (rule_number b.0.rule) (rule_number ρ) p.1) in
@@ -138,8 +138,8 @@ module _ (r : Register) (row : ℕ) where
       let here : row ≡ n = eqb-true row n p.0 in
       let breaks : broken r ρ row ≡ true = ap (broken r ρ) here ∙ p.1 in
       let b : Broken = record { row = row; rule = ρ; other = other_row r ρ row } in
-      in_any (λ (c : Broken). c.row == n && rule_number c.rule == rule_number ρ) (told_in rules) b
-      (is_kept (told r row) rules ρ b (each_rule ρ) (cond-true (broken r ρ row) (Some b) None breaks))
+      in_any (λ (c : Broken). c.row == n && rule_number c.rule == rule_number ρ) (told_in all_rules) b
+      (is_kept (told r row) all_rules ρ b (each_rule ρ) (cond-true (broken r ρ row) (Some b) None breaks))
       (ap (λ (c : Bool). c && (rule_number ρ == rule_number ρ)) p.0 ∙ eq-eqb (rule_number ρ) (rule_number ρ) refl))
 
   -- in the order of the rules
@@ -172,22 +172,26 @@ module _ (r : Register) (row : ℕ) where
 
   -- one more rule
   pub told_push : (k : ℕ) (d : Rule) (first old new : List Broken) (fault : Option Broken) → k < 10
-      → fault ≡ told r row (get_or rules k d) → old ≡ first ++ told_in (take k rules) → new ≡ old ++ cons_option fault []
-      → new ≡ first ++ told_in (take (k + 1) rules)
+      → fault ≡ told r row (get_or all_rules k d) → old ≡ first ++ told_in (take k all_rules)
+      → new ≡ old ++ cons_option fault []
+      → new ≡ first ++ told_in (take (k + 1) all_rules)
   told_push k d first old new fault lt is before step =
       step
       ∙ ap₂ (λ (xs : List Broken) (o : Option Broken). xs ++ cons_option o []) before is
-      ∙ append_assoc first (told_in (take k rules)) (cons_option (told r row (get_or rules k d)) [])
+      ∙ append_assoc first (told_in (take k all_rules)) (cons_option (told r row (get_or all_rules k d)) [])
       ∙ ap (λ (xs : List Broken). first ++ xs)
-      (sym (filter_map-append (told r row) (take k rules) (get_or rules k d ∷ [])))
-      ∙ ap (λ (ρs : List Rule). first ++ told_in ρs) (sym (take_more rules k d lt))
+      (sym (filter_map-append (told r row) (take k all_rules) (get_or all_rules k d ∷ [])))
+      ∙ ap (λ (ρs : List Rule). first ++ told_in ρs) (sym (take_more all_rules k d lt))
 
 -- ---- row by row
 
 in_either : {A : Type 0} (xs ys : List A) (x : A) → IsIn x (xs ++ ys) → IsIn x xs ⊎ IsIn x ys
 in_either [] ys x k = inr k
 in_either (y ∷ xs) ys x (inl same) = inl (inl same)
-in_either (y ∷ xs) ys x (inr later) = elim (in_either xs ys x later) [ inl here ↦ inl (inr here) | inr there ↦ inr there ]
+in_either (y ∷ xs) ys x (inr later) = elim (in_either xs ys x later) [
+  | inl here ↦ inl (inr here)
+  | inr there ↦ inr there
+]
 
 sorted_append : (xs ys : List Broken) → IsStrictlySortedBy place_cmp xs → IsStrictlySortedBy place_cmp ys
     → ((x y : Broken) → IsIn x xs → IsIn y ys → place_cmp x y ≡ Less) → IsStrictlySortedBy place_cmp (xs ++ ys)
@@ -220,23 +224,23 @@ one_more_row n row true = grind (arith, nat_tests)
 one_more_row n row false = grind (arith, nat_tests)
 
 pub told_more : (r : Register) (row : ℕ) (list : List Broken) → AreToldBelow r row list
-    → AreToldBelow r (row + 1) (list ++ filter_map (told r row) rules)
+    → AreToldBelow r (row + 1) (list ++ filter_map (told r row) all_rules)
 told_more r row list below =
-    let new = filter_map (told r row) rules in
+    let new = filter_map (told r row) all_rules in
     record {
       exact = λ ρ n. list_any-append (λ (b : Broken). b.row == n && rule_number b.rule == rule_number ρ) list new
           ∙ ap₂ (λ (x y : Bool). x || y) (below.exact ρ n) (told_exact r row ρ n)
           ∙ one_more_row n row (broken r ρ n);
-      ordered = sorted_append list new below.ordered (told_sorted r row rules rules_rise) (λ x y j k.
+      ordered = sorted_append list new below.ordered (told_sorted r row all_rules rules_rise) (λ x y j k.
           let low = (below.others x j).0 in
-          let p = from_kept (told r row) rules y k in
+          let p = from_kept (told r row) all_rules y k in
           let at : y.row ≡ row = (told_is r row p.0 y p.2).at in
           ap (λ (o : Ordering). ordering_then o (nat_cmp (rule_number x.rule) (rule_number y.rule)))
           (less x.row y.row (omega arith)));
       others = λ b k. elim (in_either list new b k) [
         | inl old ↦ let o = below.others b old in (let lt = o.0 in omega arith, o.1)
         | inr fresh ↦
-            let p = from_kept (told r row) rules b fresh in
+            let p = from_kept (told r row) all_rules b fresh in
             let f = told_is r row p.0 b p.2 in
             (let at = f.at in omega arith, f.other ∙ ap₂ (other_row r) (sym f.of) (sym f.at))
       ];

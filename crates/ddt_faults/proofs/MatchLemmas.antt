@@ -59,7 +59,8 @@ module _ (first : FinMap path_cmp RowAndKind) (zones : List Zone) (has : HasFirs
           λ y. ap (λ (q : List ℕ). is_same_path q y.prefix) same ∙ nat_list_eq_equiv.symm p y.prefix in
           let one : Some a ≡ Some z =
           sym (best_first Longest zone_prefix x zones a best.1)
-          ∙ found_same (λ (y : Zone). is_same_path a.prefix y.prefix) (λ (y : Zone). is_same_path y.prefix p) zones tests
+          ∙ found_same (λ (y : Zone). is_same_path a.prefix y.prefix) (λ (y : Zone). is_same_path y.prefix p) zones
+          tests
           ∙ e in
           ap (option_map row_of_zone) (best.1 ∙ one)
 

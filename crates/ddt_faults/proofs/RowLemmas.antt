@@ -99,7 +99,8 @@ module _ {A : Type 0} (row : A → ℕ) (xs : List A) (rises : rise 0 (map row x
       let p = and_parts (row f.0 == n) (test f.0) f.2 in
       let q : Some f.0 ≡ Some x = sym (found_here f.0 f.1 p.0) ∙ e in
       let same : f.0 ≡ x = cc in
-      ap test (sym same) ∙ p.1) (λ t. in_any (λ y. row y == n && test y) xs x k (ap (λ (b : Bool). b && test x) here ∙ t))
+      ap test (sym same) ∙ p.1) (λ t. in_any (λ y. row y == n && test y) xs x k
+      (ap (λ (b : Bool). b && test x) here ∙ t))
 
   pub item_missing : (test : A → Bool) → find (λ y. row y == n) xs ≡ None → item_at row test xs n ≡ false
   item_missing test e =

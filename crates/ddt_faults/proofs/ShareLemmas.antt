@@ -67,7 +67,8 @@ module _ (r : Register) (n : ℕ) (ls : List Locator) (i : ℕ) (l : Locator) (l
       go true = refl
       go false = refl
 
-  either : (h : Group) → has_any (take (i + 1) ls) h ≡ true → (has_any (take i ls) h ≡ true) ⊎ (lists h.locators l ≡ true)
+  either : (h : Group) → has_any (take (i + 1) ls) h ≡ true
+      → (has_any (take i ls) h ≡ true) ⊎ (lists h.locators l ≡ true)
   either h e = or_cases (has_any (take i ls) h) (lists h.locators l) (sym (more h) ∙ e)
 
   -- no group has the locator
@@ -77,7 +78,8 @@ module _ (r : Register) (n : ℕ) (ls : List Locator) (i : ℕ) (l : Locator) (l
     upper = before.upper;
     below = λ h k e. elim (either h e) [
       | inl old ↦ before.below h k old
-      | inr new ↦ absurd (both_ways (lists h.locators l) (unfound (λ (g : Group). lists g.locators l) r.groups h missing k) new)
+      | inr new ↦ absurd (both_ways (lists h.locators l)
+          (unfound (λ (g : Group). lists g.locators l) r.groups h missing k) new)
     ];
     attained = λ low. let a = before.attained low in (a.0, a.1, a.2, kept a.0 a.3);
   }
@@ -106,7 +108,8 @@ module _ (r : Register) (n : ℕ) (ls : List Locator) (i : ℕ) (l : Locator) (l
             below = λ h k t. elim (either h t) [
               | inl old ↦ let b = before.below h k old in omega arith
               | inr new ↦
-                  let first = first_found (λ (y : Group). y.row) (λ (y : Group). lists y.locators l) r.groups h (groups_up r) k new in
+                  let first = first_found (λ (y : Group). y.row) (λ (y : Group). lists y.locators l) r.groups h
+                  (groups_up r) k new in
                   let one : g ≡ first.0 = same_Some g first.0 (sym e ∙ first.1) in
                   let low : first.0.row ≤ h.row = first.2 in
                   let same : g.row ≡ first.0.row = ap (λ (y : Group). y.row) one in
@@ -134,14 +137,15 @@ least_is_sharer r g least found = go (nat_lt least g.row) refl
     has_one h e = sym (share_flips h g.locators) ∙ e
 
     go : (b : Bool) → nat_lt least g.row ≡ b
-        → cond b (Some least) None ≡ first_row (λ (h : Group). h.row) (λ (h : Group). nat_lt h.row g.row && share h.locators g.locators) r.groups
+        → cond b (Some least) None ≡ earlier_sharer r g
     go true e =
         let a = found.attained (ltb-true least g.row e) in
         let at : a.0.row ≡ least = a.2 in
         let low : nat_lt a.0.row g.row ≡ true = ap (λ (n : ℕ). nat_lt n g.row) at ∙ e in
         let shares : share a.0.locators g.locators ≡ true = share_flips a.0 g.locators ∙ a.3 in
         sym (ap (option_map (λ (h : Group). h.row))
-        (found_first (λ (h : Group). h.row) (λ (h : Group). nat_lt h.row g.row && share h.locators g.locators) r.groups a.0
+        (found_first (λ (h : Group). h.row) (λ (h : Group). nat_lt h.row g.row && share h.locators g.locators)
+        r.groups a.0
         (groups_up r) a.1 (ap (λ (b : Bool). b && share a.0.locators g.locators) low ∙ shares) (λ y k lt.
         false_from_ne_true (nat_lt y.row g.row && share y.locators g.locators) (λ t.
         let p = and_parts (nat_lt y.row g.row) (share y.locators g.locators) t in

@@ -31,11 +31,13 @@ fault_same b c m n rule o p e f g =
     ∙ ap (λ (k : ℕ). fault_if c k rule o) f
     ∙ ap (λ (q : Option ℕ). fault_if c n rule q) g
 
-pub row_of_first_zone : (o : Option Zone) → option_map (λ (f : RowAndKind). f.row) (option_map row_of_zone o) ≡ option_map (λ (z : Zone). z.row) o
+pub row_of_first_zone : (o : Option Zone)
+    → option_map (λ (f : RowAndKind). f.row) (option_map row_of_zone o) ≡ option_map (λ (z : Zone). z.row) o
 row_of_first_zone None = refl
 row_of_first_zone (Some z) = refl
 
-pub row_of_first_group : (o : Option Group) → option_map (λ (f : RowAndKind). f.row) (option_map row_of_group o) ≡ option_map (λ (g : Group). g.row) o
+pub row_of_first_group : (o : Option Group)
+    → option_map (λ (f : RowAndKind). f.row) (option_map row_of_group o) ≡ option_map (λ (g : Group). g.row) o
 row_of_first_group None = refl
 row_of_first_group (Some g) = refl
 
@@ -59,7 +61,8 @@ no_other None = refl
 no_other (Some x) = refl
 
 -- where no rule has another row
-module _ {A : Type 0} (row : A → ℕ) (xs : List A) (rises : rise 0 (map row xs) ≡ true) (n : ℕ) (rule : Rule) (test : A → Bool) where
+module _ {A : Type 0} (row : A → ℕ) (xs : List A) (rises : rise 0 (map row xs) ≡ true) (n : ℕ) (rule : Rule)
+    (test : A → Bool) where
   pub told_alone : (x : A) → find (λ y. row y == n) xs ≡ Some x
       → fault_if (test x) (row x) rule None ≡ fault_if (item_at row test xs n) n rule None
   told_alone x e = fault_same (test x) (item_at row test xs n) (row x) n rule None None
@@ -72,7 +75,8 @@ module _ {A : Type 0} (row : A → ℕ) (xs : List A) (rises : rise 0 (map row x
 
 module _ (r : Register) (n : ℕ) where
   root_before : earlier_root r n ≡ kept_before n (first_row (λ (z : Zone). z.row) is_root r.zones)
-  root_before = first_before (λ (z : Zone). z.row) is_root n r.zones (rising_from_rise (λ (z : Zone). z.row) r.zones 0 (zones_rise r))
+  root_before = first_before (λ (z : Zone). z.row) is_root n r.zones
+      (rising_from_rise (λ (z : Zone). z.row) r.zones 0 (zones_rise r))
 
   has_root : list_any is_root r.zones ≡ is_some (first_row (λ (z : Zone). z.row) is_root r.zones)
   has_root = any_found is_root r.zones ∙ sym (some_mapped (λ (z : Zone). z.row) (find is_root r.zones))
@@ -138,11 +142,13 @@ pub told_locators : (r : Register) (g : Group) (a b : Bool) (earlier : Option �
 told_locators r g a b earlier e f h =
     let some : is_some earlier ≡ list_any (λ (k : Group). nat_lt k.row g.row && share k.locators g.locators) r.groups =
     ap is_some h
-    ∙ some_mapped (λ (k : Group). k.row) (find (λ (k : Group). nat_lt k.row g.row && share k.locators g.locators) r.groups)
+    ∙ some_mapped (λ (k : Group). k.row)
+    (find (λ (k : Group). nat_lt k.row g.row && share k.locators g.locators) r.groups)
     ∙ sym (any_found (λ (k : Group). nat_lt k.row g.row && share k.locators g.locators) r.groups) in
     fault_same (a || (b || is_some earlier)) (has_wrong_locators r g) g.row g.row rules.Locators earlier
     (earlier_sharer r g) (ap (λ (t : Bool). t || (b || is_some earlier)) e
-    ∙ ap (λ (t : Bool). (length g.locators == 0 || nat_lt most_locators (length g.locators)) || (t || is_some earlier)) f
+    ∙ ap (λ (t : Bool). (length g.locators == 0 || nat_lt most_locators (length g.locators))
+    || (t || is_some earlier)) f
     ∙ ap (λ (t : Bool). (length g.locators == 0 || nat_lt most_locators (length g.locators))
     || (not (are_distinct g.locators) || t)) some) refl h
 

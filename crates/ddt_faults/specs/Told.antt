@@ -70,6 +70,6 @@ abbrev pub told : Register → ℕ → Rule → Option Broken
 told r row rule = fault_if (broken r rule row) row rule (other_row r rule row)
 
 -- the rules in the order of their numbers
-abbrev pub rules : List Rule
-rules = NoRoot ∷ DuplicateZone ∷ DuplicateSite ∷ UnknownGroup ∷ Role ∷ Locators ∷ BelowMapServer ∷ SiteOutside
+abbrev pub all_rules : List Rule
+all_rules = NoRoot ∷ DuplicateZone ∷ DuplicateSite ∷ UnknownGroup ∷ Role ∷ Locators ∷ BelowMapServer ∷ SiteOutside
     ∷ TooManyEtrs ∷ DuplicateGroup ∷ []

@@ -4,7 +4,7 @@ ghost use Rattle.std.specs.Prelude.{◌≡◌, ◌++◌, IfOk, OnOk};
 ghost use Rattle.std.specs.List.{filter_map};
 ghost use Rattle.ddt_register.specs.declared.register.Register.{Register as ARegister};
 ghost use Rattle.ddt_faults.specs.Broken.{AreBroken};
-ghost use Rattle.ddt_faults.specs.Told.{IsIndexOf, IsInRow, told, rules};
+ghost use Rattle.ddt_faults.specs.Told.{IsIndexOf, IsInRow, told, all_rules};
 
 use crate::in_row::InRow;
 use crate::index::Index;
@@ -61,7 +61,7 @@ fn push_faults(
     items: InRow,
 ) -> Result<(), AllocError>
     ensures { (r : ARegister) → IsIndexOf r index.now → IsInRow r row items.entry
-        → OnOk result (list.new.items ≡ list.old.items ++ filter_map (told r row) rules) }
+        → OnOk result (list.new.items ≡ list.old.items ++ filter_map (told r row) all_rules) }
 {
     for rule in RULES {
         if let Some(broken) = index.fault(rule, row, items) {

@@ -98,12 +98,8 @@ impl Index {
             zone.now.row Rule.DuplicateZone (first_zone r zone.now.prefix) }
     {
         let first = row_of(self.zones.get(zone.prefix));
-        fault_if(
-            is_before(first, zone.row),
-            zone.row,
-            Rule::DuplicateZone,
-            first,
-        )
+        let breaks = is_before(first, zone.row);
+        fault_if(breaks, zone.row, Rule::DuplicateZone, first)
     }
 
     /// A3: a site whose prefix an earlier one has.
@@ -112,12 +108,8 @@ impl Index {
             site.now.row Rule.DuplicateSite (first_site r site.now.prefix) }
     {
         let first = self.sites.get(&site.prefix).copied();
-        fault_if(
-            is_before(first, site.row),
-            site.row,
-            Rule::DuplicateSite,
-            first,
-        )
+        let breaks = is_before(first, site.row);
+        fault_if(breaks, site.row, Rule::DuplicateSite, first)
     }
 
     /// A4: a zone whose group has no row.
@@ -135,12 +127,8 @@ impl Index {
             zone.now.row Rule.Role (group_row r zone.now.group) }
     {
         let group = self.groups.get(&zone.group)?;
-        fault_if(
-            group.kind != zone.kind,
-            zone.row,
-            Rule::Role,
-            Some(group.row),
-        )
+        let breaks = group.kind != zone.kind;
+        fault_if(breaks, zone.row, Rule::Role, Some(group.row))
     }
 
     /// A6: a group whose locators are wrong by themselves, or of which an earlier group has one.
@@ -149,12 +137,8 @@ impl Index {
             group.now.row Rule.Locators (earlier_sharer r group.now) }
     {
         let earlier = self.earlier_sharer(group);
-        fault_if(
-            are_wrong(group, earlier),
-            group.row,
-            Rule::Locators,
-            earlier,
-        )
+        let breaks = are_wrong(group, earlier);
+        fault_if(breaks, group.row, Rule::Locators, earlier)
     }
 
     /// The first group before this one that has one of its locators.
@@ -185,17 +169,11 @@ impl Index {
         ensures { (r : ARegister) → IsIndexOf r self.now → result ≡ fault_if_of (is_outside r site.now)
             site.now.row Rule.SiteOutside (option_map (λ z. z.row) (zone_of r site.now.prefix)) }
     {
-        match longest(&self.zones, site.prefix) {
-            Some(zone) => {
-                fault_if(
-                    zone.kind != Role::Ms,
-                    site.row,
-                    Rule::SiteOutside,
-                    Some(zone.row),
-                )
-            }
-            None => fault_if(true, site.row, Rule::SiteOutside, None),
-        }
+        let Some(zone) = longest(&self.zones, site.prefix) else {
+            return fault_if(true, site.row, Rule::SiteOutside, None);
+        };
+        let breaks = zone.kind != Role::Ms;
+        fault_if(breaks, site.row, Rule::SiteOutside, Some(zone.row))
     }
 
     /// A10: a group whose name an earlier one has.
@@ -204,12 +182,8 @@ impl Index {
             group.now.row Rule.DuplicateGroup (group_row r group.now.name) }
     {
         let first = row_of(self.groups.get(&group.name));
-        fault_if(
-            is_before(first, group.row),
-            group.row,
-            Rule::DuplicateGroup,
-            first,
-        )
+        let breaks = is_before(first, group.row);
+        fault_if(breaks, group.row, Rule::DuplicateGroup, first)
     }
 }
 

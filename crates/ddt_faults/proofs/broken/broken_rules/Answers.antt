@@ -10,7 +10,8 @@ pub loop-row-preserved : goal.loop-row-preserved
 loop-row-preserved c =
     let r = c.args.register.now in
     let row = c.loop-row.row in
-    subst (AreToldBelow r (row + 1)) (sym (c.in_ok-push_faults.ensures r c.in_ok-index.ensures c.of-in-loop-row.ensures))
+    subst (AreToldBelow r (row + 1))
+    (sym (c.in_ok-push_faults.ensures r c.in_ok-index.ensures c.of-in-loop-row.ensures))
     (told_more r row c.loop-row.list.items c.loop-row.invariant)
 
 pub returns : goal.returns

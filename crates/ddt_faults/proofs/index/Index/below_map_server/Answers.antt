@@ -26,9 +26,11 @@ returns-in_err-above c = λ r index.
     let some : 0 < length z.prefix = let le = c.in_ok-len.ensures.0 in omega arith in
     let less : c.in_ok-len.len ≡ length z.prefix - 1 = let e = c.in_ok-len.ensures.1 in omega arith in
     let at = above_by_front r z.prefix some
-    ∙ ap (longest_match zone_prefix (filter ms_zone r.zones)) (ap (λ (k : ℕ). take k z.prefix) (sym less) ∙ sym c.front.ensures) in
+    ∙ ap (longest_match zone_prefix (filter ms_zone r.zones))
+    (ap (λ (k : ℕ). take k z.prefix) (sym less) ∙ sym c.front.ensures) in
     c.from_residual-in_err-above.ensures
-    ∙ told_above r z None (c.in_err-above.ensures (filter ms_zone r.zones) index.map_servers ∙ ap (option_map row_of_zone) (sym at))
+    ∙ told_above r z None
+    (c.in_err-above.ensures (filter ms_zone r.zones) index.map_servers ∙ ap (option_map row_of_zone) (sym at))
 
 pub returns : goal.returns
 returns c = λ r index.
@@ -37,7 +39,8 @@ returns c = λ r index.
     let some : 0 < length z.prefix = let le = c.in_ok-len.ensures.0 in omega arith in
     let less : c.in_ok-len.len ≡ length z.prefix - 1 = let e = c.in_ok-len.ensures.1 in omega arith in
     let at = above_by_front r z.prefix some
-    ∙ ap (longest_match zone_prefix (filter ms_zone r.zones)) (ap (λ (k : ℕ). take k z.prefix) (sym less) ∙ sym c.front.ensures) in
+    ∙ ap (longest_match zone_prefix (filter ms_zone r.zones))
+    (ap (λ (k : ℕ). take k z.prefix) (sym less) ∙ sym c.front.ensures) in
     c.fault_if.ensures
     ∙ told_above r z (Some c.in_ok-above.above)
     (c.in_ok-above.ensures (filter ms_zone r.zones) index.map_servers ∙ ap (option_map row_of_zone) (sym at))

@@ -14,7 +14,7 @@ returns c = λ r index.
     let g = c.args.group.now in
     let first = c.row_of-first.result in
     c.fault_if.ensures
-    ∙ fault_same _ _ g.row g.row DuplicateGroup first first c.is_before.ensures refl refl
+    ∙ fault_same _ _ g.row g.row DuplicateGroup first first c.is_before-breaks.ensures refl refl
     ∙ told_duplicate (λ (h : Group). h.row) (λ (h : Group). is_same_name h.name g.name) r.groups (groups_rise r) g.row
     DuplicateGroup first (c.row_of-first.ensures
     ∙ ap (option_map (λ (f : RowAndKind). f.row)) (c.get.ensures.value ∙ index.groups g.name)

@@ -11,6 +11,6 @@ returns c = λ r index.
     let s = c.args.site.now in
     let first = c.copied-first.result in
     c.fault_if.ensures
-    ∙ fault_same _ _ s.row s.row DuplicateSite first first c.is_before.ensures refl refl
+    ∙ fault_same _ _ s.row s.row DuplicateSite first first c.is_before-breaks.ensures refl refl
     ∙ told_duplicate (λ (t : Site). t.row) (λ (t : Site). is_same_path t.prefix s.prefix) r.sites (sites_rise r) s.row
     DuplicateSite first (c.copied-first.ensures ∙ c.get.ensures.value ∙ index.sites s.prefix)

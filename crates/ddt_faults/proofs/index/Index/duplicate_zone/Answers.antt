@@ -13,7 +13,7 @@ returns c = λ r index.
     let z = c.args.zone.now in
     let first = c.row_of-first.result in
     c.fault_if.ensures
-    ∙ fault_same _ _ z.row z.row DuplicateZone first first c.is_before.ensures refl refl
+    ∙ fault_same _ _ z.row z.row DuplicateZone first first c.is_before-breaks.ensures refl refl
     ∙ told_duplicate (λ (y : Zone). y.row) (λ (y : Zone). is_same_path y.prefix z.prefix) r.zones (zones_rise r) z.row
     DuplicateZone first (c.row_of-first.ensures
     ∙ ap (option_map (λ (f : RowAndKind). f.row)) (c.get.ensures ∙ index.zones z.prefix)

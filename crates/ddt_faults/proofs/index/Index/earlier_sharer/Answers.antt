@@ -37,4 +37,5 @@ returns c = λ r index.
     c.then_some.ensures
     ∙ then_is _ c.loop-locator.least
     ∙ least_is_sharer r g c.loop-locator.least
-    (subst (λ (ls : List Locator). IsLeastSharer r g.row ls c.loop-locator.least) all (c.loop-locator.invariant r index))
+    (subst (λ (ls : List Locator). IsLeastSharer r g.row ls c.loop-locator.least) all
+    (c.loop-locator.invariant r index))

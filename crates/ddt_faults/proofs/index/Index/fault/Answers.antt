@@ -25,7 +25,8 @@ pub returns-in_err-items-in-DuplicateZone : goal.returns-in_err-items-in-Duplica
 returns-in_err-items-in-DuplicateZone c = λ r index items.
     c.from_residual.ensures
     ∙ told_of_none zone_row r.zones (zones_rise r) c.args.row rules.DuplicateZone
-    (is_duplicate_zone r) (λ (z : Zone). first_zone r z.prefix) (sym items.zone ∙ ap option_copied c.in_err-items-in-DuplicateZone.was)
+    (is_duplicate_zone r) (λ (z : Zone). first_zone r z.prefix)
+    (sym items.zone ∙ ap option_copied c.in_err-items-in-DuplicateZone.was)
     ∙ ap (told r c.args.row) (sym c.in-DuplicateZone.is)
 
 pub returns-in_ok-items-in-DuplicateZone : goal.returns-in_ok-items-in-DuplicateZone
@@ -40,7 +41,8 @@ pub returns-in_err-items-in-DuplicateSite : goal.returns-in_err-items-in-Duplica
 returns-in_err-items-in-DuplicateSite c = λ r index items.
     c.from_residual-in_err-items-in-DuplicateSite.ensures
     ∙ told_of_none site_row r.sites (sites_rise r) c.args.row rules.DuplicateSite
-    (is_duplicate_site r) (λ (s : Site). first_site r s.prefix) (sym items.site ∙ ap option_copied c.in_err-items-in-DuplicateSite.was)
+    (is_duplicate_site r) (λ (s : Site). first_site r s.prefix)
+    (sym items.site ∙ ap option_copied c.in_err-items-in-DuplicateSite.was)
     ∙ ap (told r c.args.row) (sym c.in-DuplicateSite.is)
 
 pub returns-in_ok-items-in-DuplicateSite : goal.returns-in_ok-items-in-DuplicateSite
@@ -70,7 +72,8 @@ pub returns-in_err-items-in-Role : goal.returns-in_err-items-in-Role
 returns-in_err-items-in-Role c = λ r index items.
     c.from_residual-in_err-items-in-Role.ensures
     ∙ told_of_none zone_row r.zones (zones_rise r) c.args.row rules.Role
-    (is_of_other_role r) (λ (z : Zone). group_row r z.group) (sym items.zone ∙ ap option_copied c.in_err-items-in-Role.was)
+    (is_of_other_role r) (λ (z : Zone). group_row r z.group)
+    (sym items.zone ∙ ap option_copied c.in_err-items-in-Role.was)
     ∙ ap (told r c.args.row) (sym c.in-Role.is)
 
 pub returns-in_ok-items-in-Role : goal.returns-in_ok-items-in-Role
@@ -85,7 +88,8 @@ pub returns-in_err-items-in-Locators : goal.returns-in_err-items-in-Locators
 returns-in_err-items-in-Locators c = λ r index items.
     c.from_residual-in_err-items-in-Locators.ensures
     ∙ told_of_none row_of_group r.groups (groups_rise r) c.args.row rules.Locators
-    (has_wrong_locators r) (λ (g : Group). earlier_sharer r g) (sym items.group ∙ ap option_copied c.in_err-items-in-Locators.was)
+    (has_wrong_locators r) (λ (g : Group). earlier_sharer r g)
+    (sym items.group ∙ ap option_copied c.in_err-items-in-Locators.was)
     ∙ ap (told r c.args.row) (sym c.in-Locators.is)
 
 pub returns-in_ok-items-in-Locators : goal.returns-in_ok-items-in-Locators
@@ -100,14 +104,16 @@ pub returns-in_err-items-in-BelowMapServer : goal.returns-in_err-items-in-BelowM
 returns-in_err-items-in-BelowMapServer c = λ r index items.
     c.from_residual-in_err-items-in-BelowMapServer.ensures
     ∙ told_of_none zone_row r.zones (zones_rise r) c.args.row rules.BelowMapServer
-    (is_below_map_server r) (λ (z : Zone). option_map (λ (y : Zone). y.row) (zone_above r z.prefix)) (sym items.zone ∙ ap option_copied c.in_err-items-in-BelowMapServer.was)
+    (is_below_map_server r) (λ (z : Zone). option_map (λ (y : Zone). y.row) (zone_above r z.prefix))
+    (sym items.zone ∙ ap option_copied c.in_err-items-in-BelowMapServer.was)
     ∙ ap (told r c.args.row) (sym c.in-BelowMapServer.is)
 
 pub returns-in_ok-items-in-BelowMapServer : goal.returns-in_ok-items-in-BelowMapServer
 returns-in_ok-items-in-BelowMapServer c = λ r index items.
     c.below_map_server.ensures r index
     ∙ told_of zone_row r.zones (zones_rise r) c.args.row rules.BelowMapServer
-    (is_below_map_server r) (λ (z : Zone). option_map (λ (y : Zone). y.row) (zone_above r z.prefix)) c.in_ok-items-in-BelowMapServer.field-0.now
+    (is_below_map_server r) (λ (z : Zone). option_map (λ (y : Zone). y.row) (zone_above r z.prefix))
+    c.in_ok-items-in-BelowMapServer.field-0.now
     (sym items.zone ∙ ap option_copied c.in_ok-items-in-BelowMapServer.was)
     ∙ ap (told r c.args.row) (sym c.in-BelowMapServer.is)
 
@@ -115,14 +121,16 @@ pub returns-in_err-items-in-SiteOutside : goal.returns-in_err-items-in-SiteOutsi
 returns-in_err-items-in-SiteOutside c = λ r index items.
     c.from_residual-in_err-items-in-SiteOutside.ensures
     ∙ told_of_none site_row r.sites (sites_rise r) c.args.row rules.SiteOutside
-    (is_outside r) (λ (s : Site). option_map (λ (z : Zone). z.row) (zone_of r s.prefix)) (sym items.site ∙ ap option_copied c.in_err-items-in-SiteOutside.was)
+    (is_outside r) (λ (s : Site). option_map (λ (z : Zone). z.row) (zone_of r s.prefix))
+    (sym items.site ∙ ap option_copied c.in_err-items-in-SiteOutside.was)
     ∙ ap (told r c.args.row) (sym c.in-SiteOutside.is)
 
 pub returns-in_ok-items-in-SiteOutside : goal.returns-in_ok-items-in-SiteOutside
 returns-in_ok-items-in-SiteOutside c = λ r index items.
     c.site_outside.ensures r index
     ∙ told_of site_row r.sites (sites_rise r) c.args.row rules.SiteOutside
-    (is_outside r) (λ (s : Site). option_map (λ (z : Zone). z.row) (zone_of r s.prefix)) c.in_ok-items-in-SiteOutside.field-0.now
+    (is_outside r) (λ (s : Site). option_map (λ (z : Zone). z.row) (zone_of r s.prefix))
+    c.in_ok-items-in-SiteOutside.field-0.now
     (sym items.site ∙ ap option_copied c.in_ok-items-in-SiteOutside.was)
     ∙ ap (told r c.args.row) (sym c.in-SiteOutside.is)
 
@@ -145,7 +153,8 @@ pub returns-in_err-items-in-DuplicateGroup : goal.returns-in_err-items-in-Duplic
 returns-in_err-items-in-DuplicateGroup c = λ r index items.
     c.from_residual-in_err-items-in-DuplicateGroup.ensures
     ∙ told_of_none row_of_group r.groups (groups_rise r) c.args.row rules.DuplicateGroup
-    (is_duplicate_group r) (λ (g : Group). group_row r g.name) (sym items.group ∙ ap option_copied c.in_err-items-in-DuplicateGroup.was)
+    (is_duplicate_group r) (λ (g : Group). group_row r g.name)
+    (sym items.group ∙ ap option_copied c.in_err-items-in-DuplicateGroup.was)
     ∙ ap (told r c.args.row) (sym c.in-DuplicateGroup.is)
 
 pub returns-in_ok-items-in-DuplicateGroup : goal.returns-in_ok-items-in-DuplicateGroup

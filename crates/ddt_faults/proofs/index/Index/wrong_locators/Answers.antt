@@ -8,5 +8,5 @@ returns c = λ r index.
     let g = c.args.group.now in
     let earlier = c.earlier_sharer-earlier.result in
     c.fault_if.ensures
-    ∙ fault_same _ _ g.row g.row Locators earlier earlier c.are_wrong.ensures refl refl
+    ∙ fault_same _ _ g.row g.row Locators earlier earlier c.are_wrong-breaks.ensures refl refl
     ∙ told_locators r g _ _ earlier refl refl (c.earlier_sharer-earlier.ensures r index)

@@ -1,5 +1,5 @@
 -- The list of all that is told, row by row.
-use Rattle.std.proofs.Common.{◌≡◌, ◌⊎◌, ℕ, ◌+◌, ◌-◌, ◌<◌, Bool, true, false, cond, ◌&&◌, ◌||◌, ◌==◌, List, [], ◌∷◌, ◌++◌, map, take, get_or, append_assoc, Option, Some, None, Ordering, Less, refl, sym, ap, ap₂, subst, ◌∙◌, arith, inl, inr}
+use Rattle.std.proofs.Common.{◌≡◌, ◌⊎◌, ℕ, ◌+◌, ◌-◌, ◌<◌, Bool, true, false, cond, ◌&&◌, ◌||◌, ◌==◌, List, [], ◌∷◌, ◌++◌, take, get_or, append_assoc, Option, Some, None, Ordering, Less, refl, sym, ap, ap₂, subst, ◌∙◌, arith, inl, inr}
 use Rattle.std.specs.Prelude.{nat_lt}
 use Rattle.std.specs.List.{list_any, filter_map, cons_option, AllByRecursion}
 use Rattle.std.specs.List.Sorted.{IsStrictlySortedBy}
@@ -16,16 +16,13 @@ use Rattle.ddt_register.specs.declared.zone.Zone.{Zone}
 use Rattle.ddt_register.specs.declared.site.Site.{Site}
 use Rattle.ddt_register.specs.declared.group.Group.{Group}
 use Rattle.ddt_register.specs.declared.register.Register.{Register}
-use Rattle.ddt_register.specs.Rows.{rise}
-use Rattle.ddt_register.specs.laws.Rising.{zones_rise, sites_rise, groups_rise}
 use Rattle.ddt_register.specs.laws.RowOrder.{Rising, rising_from_rise}
 use Rattle.ddt_check.specs.declared.fault.Rule.{Rule}
 use Rattle.ddt_check.specs.declared.fault.Rule.TheVariants as variants
-use Rattle.ddt_check.specs.Rules.{broken, rule_number, item_at, is_root, zone_at, is_wrong_root}
+use Rattle.ddt_check.specs.Rules.{broken, rule_number, item_at, zone_at, site_at, group_at, is_root, is_wrong_root, is_duplicate_zone, is_duplicate_site, is_of_unknown_group, is_of_other_role, has_wrong_locators, is_below_map_server, is_outside, has_too_many_etrs, is_duplicate_group}
 use Rattle.ddt_faults.specs.declared.broken.Broken.{Broken}
 use Rattle.ddt_faults.specs.Broken.{other_row, is_told, place_cmp, AreBroken}
 use Rattle.ddt_faults.specs.Told.{fault_if, told, all_rules}
-use Rattle.ddt_faults.proofs.RowLemmas.{most_row}
 
 -- ---- the rules and their numbers
 
@@ -246,32 +243,43 @@ told_more r row list below =
       ];
     }
 
--- ---- no row is above the last
+-- ---- no broken rule is behind the last row
 
-low_item : {A : Type 0} (row : A → ℕ) (test : A → Bool) (xs : List A) (n : ℕ) → rise 0 (map row xs) ≡ true
-    → item_at row test xs n ≡ true → n < 65536
-low_item row test xs n rises t =
+low_item : {A : Type 0} (row : A → ℕ) (test : A → Bool) (xs : List A) (end n : ℕ)
+    → ((x : A) → IsIn x xs → row x < end) → item_at row test xs n ≡ true → n < end
+low_item row test xs end n low t =
     let f = any_in (λ x. row x == n && test x) xs t in
     let p = and_parts (row f.0 == n) (test f.0) f.2 in
     let at : row f.0 ≡ n = eqb-true (row f.0) n p.0 in
-    let most = most_row row xs 0 f.0 rises f.1 in
+    let lt = low f.0 f.1 in
     omega arith
 
-root_low : (r : Register) (n : ℕ) (any : Bool) → cond any (zone_at r n (is_wrong_root r)) (n == 0) ≡ true → n < 65536
-root_low r n true e = low_item (λ (z : Zone). z.row) (is_wrong_root r) r.zones n (zones_rise r) e
-root_low r n false e = let zero : n ≡ 0 = eqb-true n 0 e in omega arith
+module _ (r : Register) (end : ℕ) (some : 0 < end) (zones : (z : Zone) → IsIn z r.zones → z.row < end)
+    (sites : (s : Site) → IsIn s r.sites → s.row < end) (groups : (g : Group) → IsIn g r.groups → g.row < end) where
+  zone_low : (test : Zone → Bool) (n : ℕ) → zone_at r n test ≡ true → n < end
+  zone_low test n t = low_item (λ (z : Zone). z.row) test r.zones end n zones t
 
-broken_low : (r : Register) (ρ : Rule) (n : ℕ) → broken r ρ n ≡ true → n < 65536
-broken_low r variants.NoRoot n e = root_low r n (list_any is_root r.zones) e
-broken_low r variants.DuplicateZone n e = low_item (λ (z : Zone). z.row) _ r.zones n (zones_rise r) e
-broken_low r variants.DuplicateSite n e = low_item (λ (s : Site). s.row) _ r.sites n (sites_rise r) e
-broken_low r variants.UnknownGroup n e = low_item (λ (z : Zone). z.row) _ r.zones n (zones_rise r) e
-broken_low r variants.Role n e = low_item (λ (z : Zone). z.row) _ r.zones n (zones_rise r) e
-broken_low r variants.Locators n e = low_item (λ (g : Group). g.row) _ r.groups n (groups_rise r) e
-broken_low r variants.BelowMapServer n e = low_item (λ (z : Zone). z.row) _ r.zones n (zones_rise r) e
-broken_low r variants.SiteOutside n e = low_item (λ (s : Site). s.row) _ r.sites n (sites_rise r) e
-broken_low r variants.TooManyEtrs n e = low_item (λ (s : Site). s.row) _ r.sites n (sites_rise r) e
-broken_low r variants.DuplicateGroup n e = low_item (λ (g : Group). g.row) _ r.groups n (groups_rise r) e
+  site_low : (test : Site → Bool) (n : ℕ) → site_at r n test ≡ true → n < end
+  site_low test n t = low_item (λ (s : Site). s.row) test r.sites end n sites t
+
+  group_low : (test : Group → Bool) (n : ℕ) → group_at r n test ≡ true → n < end
+  group_low test n t = low_item (λ (g : Group). g.row) test r.groups end n groups t
+
+  root_low : (n : ℕ) (any : Bool) → cond any (zone_at r n (is_wrong_root r)) (n == 0) ≡ true → n < end
+  root_low n true e = zone_low (is_wrong_root r) n e
+  root_low n false e = let zero : n ≡ 0 = eqb-true n 0 e in omega arith
+
+  pub broken_low : (ρ : Rule) (n : ℕ) → broken r ρ n ≡ true → n < end
+  broken_low variants.NoRoot n e = root_low n (list_any is_root r.zones) e
+  broken_low variants.DuplicateZone n e = zone_low (is_duplicate_zone r) n e
+  broken_low variants.DuplicateSite n e = site_low (is_duplicate_site r) n e
+  broken_low variants.UnknownGroup n e = zone_low (is_of_unknown_group r) n e
+  broken_low variants.Role n e = zone_low (is_of_other_role r) n e
+  broken_low variants.Locators n e = group_low (has_wrong_locators r) n e
+  broken_low variants.BelowMapServer n e = zone_low (is_below_map_server r) n e
+  broken_low variants.SiteOutside n e = site_low (is_outside r) n e
+  broken_low variants.TooManyEtrs n e = site_low has_too_many_etrs n e
+  broken_low variants.DuplicateGroup n e = group_low (is_duplicate_group r) n e
 
 low_case : (n end : ℕ) (b : Bool) → (b ≡ true → n < end) → (nat_lt n end && b) ≡ b
 low_case n end true h = ap (λ (t : Bool). t && true) (lt-ltb n end (h refl))
@@ -281,9 +289,10 @@ low_case n end false h = go (nat_lt n end)
     go true = refl
     go false = refl
 
-pub told_all : (r : Register) (row : ℕ) (list : List Broken) → row ≡ 65536 → AreToldBelow r row list → AreBroken r list
+pub told_all : (r : Register) (row : ℕ) (list : List Broken) → ((ρ : Rule) (n : ℕ) → broken r ρ n ≡ true → n < row)
+    → AreToldBelow r row list → AreBroken r list
 told_all r row list end below = record {
-  exact = λ ρ n. below.exact ρ n ∙ low_case n row (broken r ρ n) (λ e. let lt = broken_low r ρ n e in omega arith);
+  exact = λ ρ n. below.exact ρ n ∙ low_case n row (broken r ρ n) (end ρ n);
   ordered = below.ordered;
   others = λ b k. (below.others b (in_contained list b k)).1;
 }

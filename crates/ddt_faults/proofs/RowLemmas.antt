@@ -1,11 +1,12 @@
 -- Items in rows that rise: the one in a row, and the first of those before a row.
-use Rattle.std.proofs.Common.{◌≡◌, ℕ, zero, suc, ◌<◌, ◌≤◌, Bool, true, false, cond, ◌&&◌, ◌||◌, ◌==◌, List, [], ◌∷◌, length, get_or, map, find, Option, Some, None, refl, sym, ap, subst, ◌∙◌, arith, inl, inr, nat_le}
-use Rattle.std.specs.Prelude.{nat_lt, is_some}
-use Rattle.std.specs.List.{list_any}
+use Rattle.std.proofs.Common.{◌≡◌, ℕ, zero, suc, ◌-◌, ◌<◌, ◌≤◌, Bool, true, false, cond, ◌&&◌, ◌||◌, ◌==◌, List, [], ◌∷◌, length, get_or, map, find, Option, Some, None, refl, sym, ap, subst, ◌∙◌, arith, inl, inr, nat_le}
+use Rattle.std.specs.Prelude.{nat_lt, is_some, slice_get}
+use Rattle.std.specs.List.{list_any, Contains}
 use Rattle.std.specs.List.Sorted.{IsPartitionedBy, IsPartitionPoint}
 use Rattle.std.specs.Option.{option_map, option_map_or}
 use Rattle.std.proofs.lemmas.Bool.{and_parts, cond-true, cond-false, eq-eqb, eqb-true, ne_eqb, lt-ltb, le-ltb, ltb-true, ltb-false, leb-true, cases_lt, both_ways}
-use Rattle.ddt_path.specs.laws.Member.{IsIn, in_at, contained, found_none, iff_same, any_in, in_any, found_in, found_passes, unfound}
+use Rattle.std.proofs.lemmas.Option.{get_or_from_slice_get}
+use Rattle.ddt_path.specs.laws.Member.{IsIn, in_at, in_get, contained, found_none, iff_same, any_in, in_any, found_in, found_passes, unfound}
 use Rattle.ddt_register.specs.Rows.{rise, first_row}
 use Rattle.ddt_register.specs.laws.Rising.{rise_parts}
 use Rattle.ddt_register.specs.laws.RowOrder.{Rising, rising_from_rise, found_first}
@@ -126,6 +127,28 @@ rising_places row (x ∷ xs) up zero (suc j) d below inside = up.0 (get_or xs j 
     (omega arith) (same_default xs j d (get_or xs j d) (omega arith)))
 rising_places row (x ∷ xs) up (suc i) (suc j) d below inside = rising_places row xs up.1 i j d (omega arith)
     (omega arith)
+
+-- the last item stands in the highest row
+pub last_is_highest : {A : Type 0} (row : A → ℕ) (xs : List A) → rise 0 (map row xs) ≡ true → (w : A)
+    → slice_get xs (length xs - 1) ≡ Some w → (x : A) → Contains xs x → row x ≤ row w
+last_is_highest row xs rises w last x (i, lt, at) =
+    let end : get_or xs (length xs - 1) x ≡ w = get_or_from_slice_get xs (length xs - 1) w x last in
+    let high : row (get_or xs (length xs - 1) x) ≡ row w = ap row end in
+    let here : row (get_or xs i x) ≡ row x = ap row at in
+    elim (cases_lt i (length xs - 1)) [
+      | inl below ↦
+          let up = rising_places row xs (rising_from_rise row xs 0 rises) i (length xs - 1) x below (omega arith) in
+          omega arith
+      | inr ge ↦
+          let same : i ≡ length xs - 1 = omega arith in
+          let one : row (get_or xs i x) ≡ row (get_or xs (length xs - 1) x) =
+          ap (λ (k : ℕ). row (get_or xs k x)) same in
+          omega arith
+    ]
+
+pub last_row_bound : {A : Type 0} (row : A → ℕ) (xs : List A) → rise 0 (map row xs) ≡ true → (w : A)
+    → slice_get xs (length xs - 1) ≡ Some w → row w ≤ 65535
+last_row_bound row xs rises w last = most_row row xs 0 w rises (in_get xs (length xs - 1) w last)
 
 module _ {A : Type 0} (row : A → ℕ) (xs : List A) (rises : rise 0 (map row xs) ≡ true) (n : ℕ) where
   abbrev pub is_low : A → Bool

@@ -6,10 +6,10 @@ ghost use Rattle.ddt_register.specs.declared.register.Register.{Register as AReg
 ghost use Rattle.ddt_faults.specs.Broken.{AreBroken};
 ghost use Rattle.ddt_faults.specs.Told.{IsIndexOf, IsInRow, told, all_rules};
 
-use crate::in_row::InRow;
+use crate::in_row::{InRow, end_of_rows};
 use crate::index::Index;
 use ddt_check::Rule;
-use ddt_register::{MOST_ROWS, Register};
+use ddt_register::Register;
 use std::alloc::{AllocError, Global};
 
 /// The rules in the order of their numbers.
@@ -39,7 +39,7 @@ pub struct Broken {
 }
 
 /// All broken rules of a register, by row and then by the number of the rule, none twice: a rule is told of a row if
-/// and only if it is broken there. An accepted register has none.
+/// and only if it is broken there (RFC 8111, section 4: the delegation tree). An accepted register has none.
 ///
 /// Fails only if out of memory.
 pub fn broken_rules(alloc: Global, register: &Register) -> Result<Vec<Broken>, AllocError>
@@ -47,7 +47,7 @@ pub fn broken_rules(alloc: Global, register: &Register) -> Result<Vec<Broken>, A
 {
     let index = Index::of(alloc, register)?;
     let mut list = Vec::new(alloc);
-    for row in 0..MOST_ROWS + 1 {
+    for row in 0..end_of_rows(register) {
         push_faults(&mut list, &index, row, InRow::of(register, row))?;
     }
     Ok(list)

@@ -16,6 +16,6 @@ loop-row-preserved c =
 
 pub returns : goal.returns
 returns c =
-    let most = c.loop-row.auto.row-end in
     let end = c.loop-row-test.false in
-    told_all c.args.register.now c.loop-row.row c.loop-row.list.items (omega arith) c.loop-row.invariant
+    told_all c.args.register.now c.loop-row.row c.loop-row.list.items
+    (λ rule n e. let lt = c.end_of_rows-row-end.ensures rule n e in omega arith) c.loop-row.invariant

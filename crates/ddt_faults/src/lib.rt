@@ -1,0 +1,13 @@
+//! All broken rules of a register that isn't accepted, each with the row that breaks it and the other row of the fault.
+//!
+//! In reading order: `broken`; `index`, with `firsts` and `matching` below it; `in_row`; `faults`.
+#![tactic(auto)]
+
+mod broken;
+mod faults;
+mod firsts;
+mod in_row;
+mod index;
+mod matching;
+
+pub use broken::{Broken, broken_rules};

@@ -1,0 +1,9 @@
+pub mod NameLemmas
+pub mod MemoryLemmas
+pub mod ManifestLemmas
+pub mod OrderLemmas
+pub mod AlikeLemmas
+pub mod ListLemmas
+pub mod StepLemmas
+pub mod AfterLemmas
+pub mod PublishLemmas

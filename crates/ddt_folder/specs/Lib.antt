@@ -1,0 +1,10 @@
+pub mod Names
+pub mod Contents
+pub mod Steps
+pub mod Memory
+pub mod Manifest
+pub mod Ordered
+pub mod Wanted
+pub mod Plans
+pub mod Lines
+pub mod Laws

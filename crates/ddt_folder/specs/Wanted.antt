@@ -1,0 +1,112 @@
+-- Which files a register asks for, and what is to be done with each by what stands in the folder.
+use Rattle.std.specs.Prelude.{◌≡◌, ◌↔◌, ℕ, Bool, true, false, if◌then◌else◌, List, [], ◌∷◌, map, Contains, Option, None, Some, is_some, unwrap_or, IsPermutation, IsSorted}
+use Rattle.std.specs.List.{flat_map}
+use Rattle.std.specs.List.Sorted.{IsStrictlySortedBy}
+use Rattle.std.specs.Str.{bytes_eq}
+use Rattle.std.specs.Ordering.{nat_cmp}
+use Rattle.std.specs.Cmp.Lexicographic.{slice_cmp}
+use Rattle.toml.specs.Text.{IsDocumentText}
+use Rattle.ddt_register.specs.declared.register.Register.{Register}
+use Rattle.ddt_check.specs.Zones.{group_named}
+use Rattle.ddt_config.specs.declared.config.ServerConfig.{ServerConfig}
+use Rattle.ddt_config.specs.Table.{Outline, outline}
+use Rattle.ddt_config.specs.Writing.{written_config}
+use Rattle.ddt_compile.specs.GroupConfig.{group_config}
+use Rattle.ddt_folder.specs.declared.file_name.FileName.{FileName}
+use Rattle.ddt_folder.specs.declared.file_name.FileName.TheVariants.{Register as OfRegister, Config, Manifest}
+use Rattle.ddt_folder.specs.declared.step.NamedFile.{NamedFile}
+use Rattle.ddt_folder.specs.declared.step.Step.{Step}
+use Rattle.ddt_folder.specs.declared.step.Step.TheVariants.{Add, Change, Remove}
+use Rattle.ddt_folder.specs.Manifest.{manifest_text, IsListedIn}
+use Rattle.ddt_folder.specs.Ordered.{ordered}
+
+-- ---- what a register asks for
+
+-- the register itself
+abbrev pub register_file : List ℕ → NamedFile
+register_file register = record { name = OfRegister; bytes = register }
+
+-- a text in TOML of a configuration, in the order of prefixes
+abbrev pub IsConfigText : Outline → List ℕ → Type 0
+IsConfigText c text = IsDocumentText false (written_config (ordered c)) text
+
+-- the file of a configuration, which is named for its group
+abbrev pub IsConfigFile : ServerConfig → NamedFile → Type 0
+IsConfigFile c file = (file.name ≡ Config c.name) × IsConfigText (outline c) file.bytes
+
+-- the files of these configurations, one after the other
+abbrev pub AreConfigFiles : List ServerConfig → List NamedFile → Type 0
+AreConfigFiles [] [] = Unit {0}
+AreConfigFiles (c ∷ cs) (file ∷ files) = IsConfigFile c file × AreConfigFiles cs files
+AreConfigFiles [] (file ∷ files) = ⊥
+AreConfigFiles (c ∷ cs) [] = ⊥
+
+-- the files of the configurations of all groups, in the order of the groups' names
+pub record AreGroupFiles (r : Register) (files : List NamedFile) : Type 0 where
+  pub compiled : List ServerConfig
+  pub each : map outline compiled ≡ map (group_config r) r.groups
+  pub configs : List ServerConfig
+  pub moved : IsPermutation compiled configs
+  pub in_order : IsSorted (λ c d. slice_cmp nat_cmp c.name d.name) configs
+  pub texts : AreConfigFiles configs files
+
+-- ---- what is gone
+
+-- the last manifest of a folder; an empty one where it has none
+abbrev pub last_manifest : (FileName → Option (List ℕ)) → List ℕ
+last_manifest files = unwrap_or (files Manifest) []
+
+-- the last manifest lists the configuration of a group that the register lacks
+abbrev pub IsGone : Register → (FileName → Option (List ℕ)) → List ℕ → Type 0
+IsGone r files name = IsListedIn (last_manifest files) name × (group_named r name ≡ None)
+
+-- the configuration of a group, if the register lacks the group and the file is there
+abbrev pub gone_if : Bool → List ℕ → Option (List ℕ) → List NamedFile
+gone_if true name found = []
+gone_if false name None = []
+gone_if false name (Some bytes) = record { name = Config name; bytes = bytes } ∷ []
+
+-- the same, by what stands in the folder
+abbrev pub gone_for : Register → (FileName → Option (List ℕ)) → List ℕ → List NamedFile
+gone_for r files name = gone_if (is_some (group_named r name)) name (files (Config name))
+
+-- the configurations of groups that are gone, in the order of the groups' names
+pub record AreGoneFiles (r : Register) (files : FileName → Option (List ℕ)) (gone : List NamedFile) : Type 0 where
+  pub names : List (List ℕ)
+  pub listed : (name : List ℕ) → Contains names name ↔ IsListedIn (last_manifest files) name
+  pub in_order : IsStrictlySortedBy (slice_cmp nat_cmp) names
+  pub are : gone ≡ flat_map (gone_for r files) names
+
+-- ---- what is to be done
+
+-- a file is written that isn't there, or has other bytes
+abbrev pub step_for : NamedFile → Option (List ℕ) → List Step
+step_for file None = Add file ∷ []
+step_for file (Some bytes) = if bytes_eq bytes file.bytes then [] else Change file ∷ []
+
+-- a file that has these bytes stays as it is
+abbrev pub same_for : NamedFile → Option (List ℕ) → List FileName
+same_for file None = []
+same_for file (Some bytes) = if bytes_eq bytes file.bytes then file.name ∷ [] else []
+
+-- the same of each file, by what stands in the folder
+abbrev pub steps_for : (FileName → Option (List ℕ)) → List NamedFile → List Step
+steps_for files wanted = flat_map (λ file. step_for file (files file.name)) wanted
+
+-- the files that stay as they are
+abbrev pub same_in : (FileName → Option (List ℕ)) → List NamedFile → List FileName
+same_in files wanted = flat_map (λ file. same_for file (files file.name)) wanted
+
+-- the files of groups that are gone are removed, if that is asked for
+abbrev pub removals : Bool → List NamedFile → List Step
+removals true gone = map (λ file. Remove file.name) gone
+removals false gone = []
+
+-- and are left there otherwise
+abbrev pub left_of : Bool → List NamedFile → List NamedFile
+left_of true gone = []
+left_of false gone = gone
+
+-- the manifest of some files
+abbrev pub manifest_file : List NamedFile → NamedFile
+manifest_file files = record { name = Manifest; bytes = manifest_text files }

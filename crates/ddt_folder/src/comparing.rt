@@ -1,0 +1,89 @@
+//! What is to be done with each file, by what stands in the folder.
+
+ghost use Rattle.std.specs.Prelude.{◌≡◌, ◌++◌, IfOk, OnOk};
+ghost use Rattle.std.specs.Option.{option_map};
+ghost use Rattle.ddt_folder.specs.Contents.{Contents};
+ghost use Rattle.ddt_folder.specs.Wanted.{same_for, same_in, step_for, steps_for};
+
+use crate::fault::PublishFault;
+use crate::file_name::FileName;
+use crate::folder::Folder;
+use crate::step::{NamedFile, Step};
+use std::alloc::{AllocError, Global};
+
+/// Steps, and the files that stay as they are.
+#[derive(Drop)]
+pub(crate) struct Draft {
+    pub steps: Vec<Step>,
+    pub same: Vec<FileName>,
+}
+
+impl Draft {
+    /// Decides what is done with a file, by the bytes that stand there.
+    fn decide(&mut self, file: NamedFile, found: Option<Vec<u8>>) -> Result<(), AllocError>
+        ensures steps { OnOk result (self.new.steps.items ≡ self.old.steps.items
+            ++ step_for file (option_map (λ bytes. bytes.items) found)) }
+        ensures same { OnOk result (self.new.same.items ≡ self.old.same.items
+            ++ same_for file (option_map (λ bytes. bytes.items) found)) }
+    {
+        match found {
+            None => self.steps.push(Step::Add(file))?,
+            Some(bytes) => {
+                if bytes.as_slice() == file.bytes.as_slice() {
+                    self.same.push(file.name)?;
+                } else {
+                    self.steps.push(Step::Change(file))?;
+                }
+            }
+        }
+        Ok(())
+    }
+}
+
+/// The bytes of a file of a folder; None where there is none. Refused as Failed where the folder can't be read.
+pub(crate) fn read_file<F: Folder>(
+    alloc: Global,
+    folder: &mut F,
+    name: &FileName,
+) -> Result<Option<Vec<u8>>, PublishFault<F::Fault>>
+    ensures { (s : Contents) → F.holds folder.old s → F.holds folder.new s
+        × IfOk result (λ found. s.files name.now ≡ option_map (λ bytes. bytes.items) found) }
+{
+    match folder.read(alloc, *name) {
+        Ok(found) => Ok(found),
+        Err(fault) => Err(PublishFault::Failed { name: *name, fault }),
+    }
+}
+
+/// Decides what is done with each of some files.
+pub(crate) fn compare<F: Folder>(
+    alloc: Global,
+    folder: &mut F,
+    draft: &mut Draft,
+    files: Vec<NamedFile>,
+) -> Result<(), PublishFault<F::Fault>>
+    ensures { (s : Contents) → F.holds folder.old s → F.holds folder.new s
+        × OnOk result ((draft.new.steps.items ≡ draft.old.steps.items ++ steps_for s.files files.items)
+        × (draft.new.same.items ≡ draft.old.same.items ++ same_in s.files files.items)) }
+{
+    for file in files {
+        compare_one(alloc, folder, draft, file)?;
+    }
+    Ok(())
+}
+
+/// Decides what is done with one file.
+pub(crate) fn compare_one<F: Folder>(
+    alloc: Global,
+    folder: &mut F,
+    draft: &mut Draft,
+    file: NamedFile,
+) -> Result<(), PublishFault<F::Fault>>
+    ensures { (s : Contents) → F.holds folder.old s → F.holds folder.new s
+        × OnOk result ((draft.new.steps.items ≡ draft.old.steps.items ++ step_for file (s.files file.name))
+        × (draft.new.same.items ≡ draft.old.same.items ++ same_for file (s.files file.name))) }
+{
+    let found = read_file(alloc, folder, &file.name)?;
+    draft.decide(file, found)?;
+    Ok(())
+}

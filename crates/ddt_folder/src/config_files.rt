@@ -1,0 +1,50 @@
+//! The files that a register asks for.
+
+ghost use Rattle.std.specs.Prelude.{◌≡◌, ◌∷◌, List, IfOk};
+ghost use Rattle.ddt_folder.specs.declared.step.NamedFile.{NamedFile as AFile};
+ghost use Rattle.ddt_folder.specs.Wanted.{register_file, AreGroupFiles, IsConfigFile};
+
+use crate::file_name::FileName;
+use crate::ordering::in_order;
+use crate::step::NamedFile;
+use ddt_check::Accepted;
+use ddt_compile::compile;
+use ddt_config::{ServerConfig, to_toml};
+use ddt_path::Listed;
+use std::alloc::{AllocError, Global};
+
+/// The register itself, and the configuration of each group as TOML, in the order of the groups' names. Fails only if
+/// out of memory.
+pub(crate) fn wanted_files(
+    alloc: Global,
+    accepted: &Accepted,
+    register: &[u8],
+) -> Result<Vec<NamedFile>, AllocError>
+    ensures { IfOk result (λ files. (configs : List AFile) × AreGroupFiles accepted.now configs
+        × (files.items ≡ register_file register.now ∷ configs)) }
+{
+    let mut files = Vec::new(alloc);
+    files.push(NamedFile {
+        name: FileName::Register,
+        bytes: Listed::of(Vec::from_slice(alloc, register)?),
+    })?;
+    let mut configs = compile(alloc, accepted)?.into_vec();
+    configs.sort_unstable_by_key(|config| config.name);
+    for config in configs {
+        files.push(config_file(alloc, config)?)?;
+    }
+    Ok(files)
+}
+
+/// The file of a configuration.
+fn config_file(alloc: Global, config: ServerConfig) -> Result<NamedFile, AllocError>
+    ensures { IfOk result (IsConfigFile config) }
+{
+    let name = FileName::Config(config.name);
+    let ordered = in_order(alloc, config)?;
+    let text = to_toml(alloc, &ordered)?;
+    Ok(NamedFile {
+        name,
+        bytes: Listed::of(text.into_bytes()),
+    })
+}

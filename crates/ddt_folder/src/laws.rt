@@ -1,0 +1,16 @@
+//! Laws of what is published, over the definitions alone: each is the contract of a function that does nothing.
+
+ghost use Rattle.ddt_folder.specs.Laws.{OrderDoesNotMatter, PlansPublish};
+
+/// Two configurations of one name that are alike, whatever the order of what they hold, are one in the order of
+/// prefixes; and so their files are.
+pub fn the_order_of_rows_does_not_matter()
+    ensures { OrderDoesNotMatter }
+{}
+
+/// Where the plan of a folder was carried out, the folder has the register, the configuration of each group, and a
+/// manifest in which each line is that of a file which stands there. The files of groups that are gone are removed if
+/// that was asked for, and stay as they were otherwise, and so does each other file.
+pub fn a_plan_that_is_carried_out_publishes()
+    ensures { PlansPublish }
+{}

@@ -123,9 +123,18 @@ fn list_and_plain_bodies_agree(rt: HostRuntime) -> Result<(), Fail> {
     for &rule in slow::RULES {
         let with_other = count(&told, rule, true);
         let without = count(&told, rule, false);
-        assert!(rt; alone.contains(&rule) == (with_other == 0), "{rule:?} with another row");
-        assert!(rt; (both.contains(&rule) || alone.contains(&rule)) == (without > 0), "{rule:?} alone");
-        assert!(rt; with_other.saturating_add(without) >= 25, "{rule:?} is told too seldom");
+        assert!(rt;
+            alone.contains(&rule) == (with_other == 0),
+            "{rule:?} with another row"
+        );
+        assert!(rt;
+            (both.contains(&rule) || alone.contains(&rule)) == (without > 0),
+            "{rule:?} alone"
+        );
+        assert!(rt;
+            with_other.saturating_add(without) >= 25,
+            "{rule:?} is told too seldom"
+        );
     }
     Ok(())
 }

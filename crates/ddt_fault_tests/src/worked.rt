@@ -95,7 +95,12 @@ fn groups_of_zones_are_told(rt: HostRuntime) -> Result<(), Fail> {
     let of_nodes = [(9, Rule::Role, Some(2))];
     is_told(&rt, rt.alloc(), "ms,[0]11.0.0.0/8,ten,\n", &of_nodes);
     let of_map_servers = [(9, Rule::Role, Some(3))];
-    is_told(&rt, rt.alloc(), "node,[0]11.0.0.0/8,east,\n", &of_map_servers);
+    is_told(
+        &rt,
+        rt.alloc(),
+        "node,[0]11.0.0.0/8,east,\n",
+        &of_map_servers,
+    );
     // Of two rows of one name the first counts.
     let first = [
         (9, Rule::DuplicateGroup, Some(2)),
@@ -110,15 +115,23 @@ fn groups_of_zones_are_told(rt: HostRuntime) -> Result<(), Fail> {
 fn locators_are_told_with_the_first_earlier_group(rt: HostRuntime) -> Result<(), Fail> {
     let alone = [(9, Rule::Locators, None)];
     is_told(&rt, rt.alloc(), "group-node,,west,\n", &alone);
-    is_told(&rt, rt.alloc(), "group-node,,west,127.0.3.1 127.0.3.1\n", &alone);
-    let nine = "group-ms,,west,1.0.0.1 1.0.0.2 1.0.0.3 1.0.0.4 1.0.0.5 1.0.0.6 1.0.0.7 1.0.0.8 1.0.0.9\n";
+    is_told(
+        &rt,
+        rt.alloc(),
+        "group-node,,west,127.0.3.1 127.0.3.1\n",
+        &alone,
+    );
+    let nine =
+        "group-ms,,west,1.0.0.1 1.0.0.2 1.0.0.3 1.0.0.4 1.0.0.5 1.0.0.6 1.0.0.7 1.0.0.8 1.0.0.9\n";
     is_told(&rt, rt.alloc(), nine, &alone);
     let shared = [(9, Rule::Locators, Some(2))];
-    is_told(&rt, rt.alloc(), "group-node,,west,127.0.1.2 127.0.0.10\n", &shared);
-    let twice = [
-        (9, Rule::Locators, Some(1)),
-        (10, Rule::Locators, Some(1)),
-    ];
+    is_told(
+        &rt,
+        rt.alloc(),
+        "group-node,,west,127.0.1.2 127.0.0.10\n",
+        &shared,
+    );
+    let twice = [(9, Rule::Locators, Some(1)), (10, Rule::Locators, Some(1))];
     let rows = "group-node,,west,127.0.0.1\ngroup-node,,south,127.0.5.1 127.0.0.1\n";
     is_told(&rt, rt.alloc(), rows, &twice);
     let eight = "group-ms,,west,1.0.0.1 1.0.0.2 1.0.0.3 1.0.0.4 1.0.0.5 1.0.0.6 1.0.0.7 1.0.0.8\n";
@@ -151,19 +164,18 @@ fn sites_outside_are_told_with_their_zone(rt: HostRuntime) -> Result<(), Fail> {
     let of_nodes = [(9, Rule::SiteOutside, Some(5))];
     is_told(&rt, rt.alloc(), "site,[0]10.2.0.0/24,,\n", &of_nodes);
     is_told(&rt, rt.alloc(), "site,[0]10.1.0.0/16,,\n", &[]);
-    let no_zone = [
-        (0, Rule::NoRoot, None),
-        (1, Rule::SiteOutside, None),
-    ];
+    let no_zone = [(0, Rule::NoRoot, None), (1, Rule::SiteOutside, None)];
     is_told_alone(&rt, rt.alloc(), "site,[0]10.1.2.0/24,,\n", &no_zone);
     Ok(())
 }
 
 #[test]
 fn too_many_etrs_are_told(rt: HostRuntime) -> Result<(), Fail> {
-    let nine = "site,[0]10.1.8.0/24,,1.0.0.1 1.0.0.2 1.0.0.3 1.0.0.4 1.0.0.5 1.0.0.6 1.0.0.7 1.0.0.8 1.0.0.9\n";
+    let nine =
+        "site,[0]10.1.8.0/24,,1.0.0.1 1.0.0.2 1.0.0.3 1.0.0.4 1.0.0.5 1.0.0.6 1.0.0.7 1.0.0.8 1.0.0.9\n";
     is_told(&rt, rt.alloc(), nine, &[(9, Rule::TooManyEtrs, None)]);
-    let eight = "site,[0]10.1.8.0/24,,1.0.0.1 1.0.0.2 1.0.0.3 1.0.0.4 1.0.0.5 1.0.0.6 1.0.0.7 1.0.0.8\n";
+    let eight =
+        "site,[0]10.1.8.0/24,,1.0.0.1 1.0.0.2 1.0.0.3 1.0.0.4 1.0.0.5 1.0.0.6 1.0.0.7 1.0.0.8\n";
     is_told(&rt, rt.alloc(), eight, &[]);
     Ok(())
 }

@@ -14,7 +14,9 @@ use std::random::RandomSource;
 
 /// Questions a second, milliseconds for a reply, and tries, where nothing is said of them.
 const RATE: u32 = 100;
+
 const TIMEOUT: u32 = 2000;
+
 const TRIES: u32 = 2;
 
 /// The address that each request names as its sender's; servers don't look at it.
@@ -57,7 +59,10 @@ fn one_of_each_block(
 ) -> Result<Vec<Xeid>, AllocError> {
     let mut found: Vec<Block> = Vec::new(alloc);
     match blocks(alloc, accepted, inside, &mut found) {
-        Ok(()) => found.into_iter().map(|block| block.prefix.inner()).collect(alloc),
+        Ok(()) => found
+            .into_iter()
+            .map(|block| block.prefix.inner())
+            .collect(alloc),
         Err(_fault) => Err(AllocError),
     }
 }
@@ -110,7 +115,13 @@ impl<'a> Session<'a> {
     ) -> Result<Option<End>, Why> {
         let findings = self
             .asker
-            .ask(&mut self.wires, &mut self.clock, &mut self.nonces, accepted, xeid)
+            .ask(
+                &mut self.wires,
+                &mut self.clock,
+                &mut self.nonces,
+                accepted,
+                xeid,
+            )
             .map_err(no_memory)?;
         let mut text = Vec::new(rt.alloc());
         for finding in findings.as_slice() {

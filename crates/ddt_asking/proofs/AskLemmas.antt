@@ -1,0 +1,119 @@
+-- Questions asked so far.
+use Rattle.std.proofs.Common.{◌≡◌, ℕ, ◌+◌, ◌<◌, true, List, [], ◌∷◌, ◌++◌, length, get_or, take, map, refl, sym, ap, subst, ◌∙◌}
+use Rattle.std.proofs.lemmas.List.{map_push, take_more}
+use Rattle.std.specs.Prelude.{Option, Some, None, Result, Ok, Err}
+use Rattle.rand_core.specs.Stream.{Stream, next_u64}
+use Rattle.ddt_path.specs.declared.xeid.Xeid.{Xeid}
+use Rattle.ddt_path.specs.declared.locator.Locator.{Locator}
+use Rattle.ddt_ecm.specs.Request.{written}
+use Rattle.ddt_resolver.specs.State.{request_bytes}
+use Rattle.ddt_wires.specs.declared.call.Call.{Call}
+use Rattle.ddt_wires.specs.declared.call.Call.TheVariants.{Received, Tried}
+use Rattle.ddt_wires.specs.declared.call.NetFault.{NetFault}
+use Rattle.ddt_wires.specs.declared.call.Packet.{Packet}
+use Rattle.ddt_wires.specs.Calls.{Tells, received}
+use Rattle.ddt_wires.specs.Turns.{most_bytes}
+use Rattle.ddt_asking.specs.declared.manner.Manner.{Manner}
+use Rattle.ddt_asking.specs.declared.question.Question.{Question}
+use Rattle.ddt_asking.specs.declared.verdict.Finding.{Finding}
+use Rattle.ddt_asking.specs.declared.verdict.Verdict.{Verdict}
+use Rattle.ddt_asking.specs.declared.waiting.Wait.{Wait}
+use Rattle.ddt_asking.specs.Replies.{reply_of}
+use Rattle.ddt_asking.specs.Steps.{Step, step_of, HasDone}
+use Rattle.ddt_asking.specs.Verdicts.{IsVerdict}
+use Rattle.ddt_asking.specs.Waits.{IsWait, replied, over, used_up}
+use Rattle.ddt_asking.specs.Tries.{AreTries}
+use Rattle.ddt_asking.specs.Asked.{awaited_for, pause_of, IsAsked, IsPause, no_pause, pauses, HasAsked, none_yet, one_more}
+use Rattle.ddt_asking.proofs.StepLemmas.{nothing_done, one_done, both_done}
+
+-- ---- one question
+
+-- the request is that of a resolver
+is_requested : (nonce : ℕ) (x : Xeid) (me : Locator) (request : List ℕ) → request ≡ written nonce x (me ∷ []) true
+    → request ≡ request_bytes nonce x me
+unfolding request_bytes
+is_requested nonce x me request is = is
+
+pub question_asked : (m : Manner) (x : Xeid) (nonce : ℕ) (request : List ℕ) (steps : List Step)
+    (its_reply : Option (List ℕ)) (q : Question) (found : Verdict) → request ≡ written nonce x (m.me ∷ []) true
+    → AreTries m request (awaited_for q nonce) steps its_reply → IsVerdict q.demanded nonce its_reply found
+    → IsAsked m x nonce steps (record { question = q; verdict = found })
+question_asked m x nonce request steps its_reply q found is tried judged = record {
+  reply = its_reply;
+  tries = subst (λ (bytes : List ℕ). AreTries m bytes (awaited_for q nonce) steps its_reply)
+      (is_requested nonce x m.me request is) tried;
+  verdict = judged;
+}
+
+-- ---- a pause
+
+-- where no reply is awaited, no call gives one
+none_awaited : (call : Call) (bytes : List ℕ) → reply_of None call ≡ Some bytes → ⊥
+none_awaited (Received at room (Ok (Some p)) b) bytes is = absurd (cc)
+none_awaited (Received at room (Ok None) b) bytes is = absurd (cc)
+none_awaited (Received at room (Err fault) b) bytes is = absurd (cc)
+none_awaited (Tried at to port b answer) bytes is = absurd (cc)
+
+no_reply : (w : Wait) (steps : List Step) (reply : Option (List ℕ)) → w.awaited ≡ None → IsWait w steps reply
+    → IsWait w steps None
+no_reply w steps reply none (replied vain last bytes vains poll early is) =
+    absurd (none_awaited last.call bytes (subst (λ a. reply_of a last.call ≡ Some bytes) none is))
+no_reply w steps reply none (over vain last vains poll late) = over vain last vains poll late
+no_reply w steps reply none (used_up vain vains all) = used_up vain vains all
+
+pub has_no_pause : (told : Option (List Call)) (read : Option (List ℕ)) (m : Manner) → pause_of m.rate ≡ 0
+    → (steps : List Step) × HasDone told told read read steps × IsPause m steps
+has_no_pause told read m none = ([], nothing_done told read, no_pause none)
+
+pub has_paused : (told midway telling : Option (List Call)) (read between reading : Option (List ℕ)) (m : Manner)
+    (answer : Result (Option Packet) NetFault) (buffer : List ℕ) (now pause : ℕ) (polls : List Step)
+    (reply : Option (List ℕ)) → pause ≡ pause_of m.rate → length buffer ≡ most_bytes
+    → Tells told (received m.me answer buffer ∷ []) midway → Tells read (now ∷ []) between
+    → HasDone midway telling between reading polls
+    → IsWait (record { at = m.me; awaited = None; since = now; millis = pause }) polls reply
+    → (steps : List Step) × HasDone told telling read reading steps × IsPause m steps
+has_paused told midway telling read between reading m answer buffer now pause polls reply is room tells reads done w =
+    let waited = no_reply (record { at = m.me; awaited = None; since = now; millis = pause }) polls reply refl w in (
+      step_of (received m.me answer buffer) now ∷ polls,
+      both_done told midway telling read between reading (step_of (received m.me answer buffer) now ∷ []) polls
+          (one_done told midway read between (received m.me answer buffer) now tells reads) done,
+      pauses (step_of (received m.me answer buffer) now) polls (refl, room)
+          (subst
+          (λ (n : ℕ). IsWait (record { at = m.me; awaited = None; since = now; millis = n }) polls None) is waited),
+    )
+
+-- ---- the questions so far
+
+pub record IsAsking (told telling : Option (List Call)) (read reading : Option (List ℕ)) (m : Manner) (x : Xeid)
+    (s : Stream) (findings : List Finding) (t : Stream) : Type 0 where
+  pub steps : List Step
+  pub done : HasDone told telling read reading steps
+  pub asked : HasAsked m x s steps findings t
+
+pub none_asked_yet : (told : Option (List Call)) (read : Option (List ℕ)) (m : Manner) (x : Xeid) (s : Stream)
+    → IsAsking told told read read m x s [] s
+none_asked_yet told read m x s = record { steps = []; done = nothing_done told read; asked = none_yet }
+
+pub one_more_asked : (told one two telling : Option (List Call)) (read once twice reading : Option (List ℕ))
+    (m : Manner) (x : Xeid) (s : Stream) (findings : List Finding) (t : Stream) (nonce : ℕ) (u : Stream)
+    (asking pausing : List Step) (f : Finding) → IsAsking told one read once m x s findings t
+    → (nonce, u) ≡ next_u64 t → HasDone one two once twice asking → IsAsked m x nonce asking f
+    → HasDone two telling twice reading pausing → IsPause m pausing
+    → IsAsking told telling read reading m x s (findings ++ f ∷ []) u
+one_more_asked told one two telling read once twice reading m x s findings t nonce u asking pausing f so_far next
+    done is rested pause = record {
+      steps = so_far.steps ++ (asking ++ pausing);
+      done = both_done told one telling read once reading so_far.steps (asking ++ pausing) so_far.done
+          (both_done one two telling once twice reading asking pausing done rested);
+      asked = one_more so_far.steps findings t nonce u asking pausing f so_far.asked next is pause;
+    }
+
+pub questions_so_far : (questions : List Question) (findings : List Finding) (i : ℕ) (q : Question) (f : Finding)
+    → i < length questions → q ≡ get_or questions i q → f.question ≡ q
+    → map (λ (g : Finding). g.question) findings ≡ take i questions
+    → map (λ (g : Finding). g.question) (findings ++ f ∷ []) ≡ take (i + 1) questions
+questions_so_far questions findings i q f lt is same so_far =
+    map_push (λ (g : Finding). g.question) findings f
+    ∙ ap (λ (qs : List Question). qs ++ f.question ∷ []) so_far
+    ∙ ap (λ (p : Question). take i questions ++ p ∷ []) (same ∙ is)
+    ∙ sym (take_more questions i q lt)

@@ -1,0 +1,4 @@
+pub mod StepLemmas
+pub mod TryLemmas
+pub mod AskLemmas
+pub mod QuestionLemmas

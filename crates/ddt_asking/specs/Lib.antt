@@ -1,0 +1,9 @@
+pub mod Questions
+pub mod Verdicts
+pub mod Replies
+pub mod Steps
+pub mod Waits
+pub mod Tries
+pub mod Asked
+pub mod Counted
+pub mod Lines

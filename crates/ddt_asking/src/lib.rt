@@ -1,0 +1,25 @@
+//! Real servers compared with a register: each server that the register leads to is asked, and its reply held against
+//! the record that the register demands (RFC 8111, sections 6 and 7).
+//!
+//! In reading order: `question`, `verdict`, `manner`, `reply`, `waiting`, `trying`, `asking`,
+//! `patient_wires`, `lines`, `counts`.
+#![tactic(auto)]
+
+mod asking;
+mod counts;
+mod lines;
+mod manner;
+mod patient_wires;
+mod question;
+mod reply;
+mod trying;
+mod verdict;
+mod waiting;
+
+pub use asking::Asker;
+pub use counts::FindingCounts;
+pub use lines::finding_line;
+pub use manner::Manner;
+pub use patient_wires::PatientWires;
+pub use question::{Question, questions_of};
+pub use verdict::{Finding, Verdict, judged};

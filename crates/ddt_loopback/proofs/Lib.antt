@@ -1,0 +1,5 @@
+mod AddressLemmas
+mod DistinctLemmas
+mod MovedLemmas
+mod AcceptedLemmas
+mod RowsLemmas

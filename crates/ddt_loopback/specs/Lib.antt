@@ -1,0 +1,4 @@
+pub mod Addresses
+pub mod Moved
+pub mod Records
+pub mod Written

@@ -3,3 +3,5 @@ mod DistinctLemmas
 mod MovedLemmas
 mod AcceptedLemmas
 mod RowsLemmas
+mod AgainLemmas
+mod TableLemmas

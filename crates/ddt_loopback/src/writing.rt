@@ -1,10 +1,12 @@
 //! A register as CSV (RFC 4180), row after row.
 
-ghost use Rattle.std.specs.Prelude.{◌≡◌, ◌++◌, ◌∷◌, List, IfOk, OnOk, MatchOption, map};
+ghost use Rattle.std.specs.Prelude.{◌≡◌, ◌++◌, ◌∷◌, List, ℕ, Ok, IfOk, OnOk, MatchOption, map};
 ghost use Rattle.std.specs.Option.{option_map};
+ghost use Rattle.csv.specs.Reading.{default_config, records, strip_bom};
 ghost use Rattle.csv.specs.Records.{fields_of};
 ghost use Rattle.csv.specs.Writing.{default_writer, row_text};
 ghost use Rattle.ddt_register.specs.declared.row.Row.{Row};
+ghost use Rattle.ddt_register.specs.Spelled.{lists_of, spelled};
 ghost use Rattle.ddt_loopback.specs.Records.{AreItsRows, records_of, row_fields};
 ghost use Rattle.ddt_loopback.specs.Written.{IsFresh, IsNotFirst, Takes, left_of, text_of, text_so_far};
 
@@ -87,10 +89,13 @@ fn push_rows(alloc: Global, writer: &mut Writer<Vec<u8>>, register: &Register) -
 
 /// The text of a register as CSV, in the form that `read_register` of `ddt_register` reads: the record that names the
 /// columns, `kind,prefix,group,addresses`, and a record for each row, in their order. Prefixes and locators are written
-/// as `ddt_text` writes them. Fails only if out of memory.
+/// as `ddt_text` writes them. A register that some text spells, whose rows so have no gap between them, is read again as
+/// it is. Fails only if out of memory.
 pub fn register_text(alloc: Global, register: &Register) -> Result<Vec<u8>, AllocError>
-    ensures { IfOk result (λ text. (rows : List Row) × AreItsRows register.now rows
+    ensures written { IfOk result (λ text. (rows : List Row) × AreItsRows register.now rows
         × (text.items ≡ text_of (records_of rows))) }
+    ensures again { IfOk result (λ text. (all : List (List (List ℕ))) → spelled all ≡ Ok (lists_of register.now)
+        → spelled (records default_config (strip_bom text.items)) ≡ Ok (lists_of register.now)) }
 {
     let mut writer = WriterBuilder::new().from_writer(Vec::new(alloc));
     let columns = record_of(alloc, b"kind", b"prefix", b"group", b"addresses")?;

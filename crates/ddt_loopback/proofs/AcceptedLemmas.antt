@@ -39,12 +39,14 @@ fails_with false b e = refl
 
 -- ---- what is looked up by name
 
-kept_case : (g : Group) (found : Option Group) (b : Bool) → option_map kept_of (cond b (Some g) found) ≡ cond b (Some (kept_of g)) (option_map kept_of found)
+kept_case : (g : Group) (found : Option Group) (b : Bool)
+    → option_map kept_of (cond b (Some g) found) ≡ cond b (Some (kept_of g)) (option_map kept_of found)
 kept_case g found true = refl
 kept_case g found false = refl
 
 found_kept : (name : List ℕ) (gs : List Group)
-    → option_map kept_of (find (λ g. is_same_name g.name name) gs) ≡ find (λ (k : Kept). is_same_name k.0 name) (map kept_of gs)
+    → option_map kept_of (find (λ g. is_same_name g.name name) gs) ≡ find (λ (k : Kept). is_same_name k.0 name)
+    (map kept_of gs)
 found_kept name [] = refl
 found_kept name (g ∷ gs) =
     kept_case g (find (λ (h : Group). is_same_name h.name name) gs) (is_same_name g.name name)
@@ -55,24 +57,28 @@ some_kept None = refl
 some_kept (Some g) = refl
 
 role_kept : (kind : Role) (found : Option Group)
-    → option_map_or (λ (k : Kept). not (is_same_role k.1 kind)) (option_map kept_of found) false ≡ option_map_or (λ g. not (is_same_role g.kind kind)) found false
+    → option_map_or (λ (k : Kept). not (is_same_role k.1 kind)) (option_map kept_of found) false ≡ option_map_or
+    (λ g. not (is_same_role g.kind kind)) found false
 role_kept kind None = refl
 role_kept kind (Some g) = refl
 
 -- ---- the rules
 
-module _ (r s : Register) (zones : s.zones ≡ r.zones) (sites : s.sites ≡ r.sites) (groups : map kept_of s.groups ≡ map kept_of r.groups) (apart : are_distinct (locators_in s.groups) ≡ true) (accepted : IsAccepted r) where
+module _ (r s : Register) (zones : s.zones ≡ r.zones) (sites : s.sites ≡ r.sites) (groups : map kept_of s.groups
+    ≡ map kept_of r.groups) (apart : are_distinct (locators_in s.groups) ≡ true) (accepted : IsAccepted r) where
   same_named : (name : List ℕ) → option_map kept_of (group_named s name) ≡ option_map kept_of (group_named r name)
   same_named name =
       found_kept name s.groups ∙ ap (find (λ (k : Kept). is_same_name k.0 name)) groups ∙ sym (found_kept name r.groups)
 
   known : (z : Zone) → is_of_unknown_group s z ≡ is_of_unknown_group r z
-  known z = ap not (sym (some_kept (group_named s z.group)) ∙ ap (λ (k : Option Kept). is_some k) (same_named z.group) ∙ some_kept (group_named r z.group))
+  known z = ap not (sym (some_kept (group_named s z.group))
+      ∙ ap (λ (k : Option Kept). is_some k) (same_named z.group) ∙ some_kept (group_named r z.group))
 
   of_role : (z : Zone) → is_of_other_role s z ≡ is_of_other_role r z
   of_role z =
       sym (role_kept z.kind (group_named s z.group))
-      ∙ ap (λ (k : Option Kept). option_map_or (λ (k : Kept). not (is_same_role k.1 z.kind)) k false) (same_named z.group)
+      ∙ ap (λ (k : Option Kept). option_map_or (λ (k : Kept). not (is_same_role k.1 z.kind)) k false)
+      (same_named z.group)
       ∙ role_kept z.kind (group_named r z.group)
 
   -- the group of the other register that keeps the same
@@ -102,7 +108,8 @@ module _ (r s : Register) (zones : s.zones ≡ r.zones) (sites : s.sites ≡ r.s
       let h = other g k in
       let few = (server_set r accepted h.0 h.1).0 in
       let many : length g.locators ≡ length h.0.locators = ap (λ (k : Kept). k.3) h.2 in
-      let some : (length g.locators == 0) ≡ false = ne_eqb (length g.locators) 0 (λ none. absurd (omega (arith, few.0))) in
+      let some : (length g.locators == 0) ≡ false = ne_eqb (length g.locators) 0 (λ none. absurd (omega
+      (arith, few.0))) in
       let most : nat_lt 8 (length g.locators) ≡ false = le-ltb 8 (length g.locators) (omega (arith, few.1)) in
       rw (some, most, distinct_at s.groups g apart k)
       (none_of (λ (h : Group). nat_lt h.row g.row && share h.locators g.locators) s.groups
@@ -113,11 +120,15 @@ module _ (r s : Register) (zones : s.zones ≡ r.zones) (sites : s.sites ≡ r.s
   still_accepted rules.DuplicateZone row = rw zones (accepted rules.DuplicateZone row)
   still_accepted rules.DuplicateSite row = rw sites (accepted rules.DuplicateSite row)
   still_accepted rules.UnknownGroup row =
-      none_of (λ (z : Zone). z.row == row && is_of_unknown_group s z) s.zones (λ z k. fails_with (z.row == row) (is_of_unknown_group s z)
-      (known z ∙ rule_kept (λ (z : Zone). z.row) (is_of_unknown_group r) r.zones (accepted rules.UnknownGroup) z (subst (IsIn z) zones k)))
+      none_of (λ (z : Zone). z.row == row && is_of_unknown_group s z) s.zones (λ z k. fails_with (z.row == row)
+      (is_of_unknown_group s z)
+      (known z ∙ rule_kept (λ (z : Zone). z.row) (is_of_unknown_group r) r.zones (accepted rules.UnknownGroup) z
+      (subst (IsIn z) zones k)))
   still_accepted rules.Role row =
-      none_of (λ (z : Zone). z.row == row && is_of_other_role s z) s.zones (λ z k. fails_with (z.row == row) (is_of_other_role s z)
-      (of_role z ∙ rule_kept (λ (z : Zone). z.row) (is_of_other_role r) r.zones (accepted rules.Role) z (subst (IsIn z) zones k)))
+      none_of (λ (z : Zone). z.row == row && is_of_other_role s z) s.zones (λ z k. fails_with (z.row == row)
+      (is_of_other_role s z)
+      (of_role z ∙ rule_kept (λ (z : Zone). z.row) (is_of_other_role r) r.zones (accepted rules.Role) z (subst
+      (IsIn z) zones k)))
   still_accepted rules.Locators row =
       none_of (λ (g : Group). g.row == row && has_wrong_locators s g) s.groups
       (λ g k. fails_with (g.row == row) (has_wrong_locators s g) (own_locators g k))
@@ -135,7 +146,8 @@ all_distinct r accepted =
     let e = rule_kept (λ (i : Group). i.row) (has_wrong_locators r) r.groups (accepted rules.Locators) g k in
     let p = or_parts (length g.locators == 0 || nat_lt 8 (length g.locators)) _ e in
     let q = or_parts (not (are_distinct g.locators)) _ p.1 in
-    earlier_fails h.row g.row _ lt (fails_at (λ (i : Group). nat_lt i.row g.row && share i.locators g.locators) r.groups h q.1 j))
+    earlier_fails h.row g.row _ lt (fails_at (λ
+    (i : Group). nat_lt i.row g.row && share i.locators g.locators) r.groups h q.1 j))
 
 -- ---- the register whose servers have other addresses
 
@@ -143,14 +155,17 @@ rows_of_kept : (gs : List Group) → map (λ (k : Kept). k.2) (map kept_of gs) �
 rows_of_kept gs = map-map (λ (k : Kept). k.2) kept_of gs
 
 -- the same zones and sites, with groups of the same rows, are a register
-pub same_rows : (r : Register) (zones : List Zone) (sites : List Site) (groups : List Group) → zones ≡ r.zones → sites ≡ r.sites
+pub same_rows : (r : Register) (zones : List Zone) (sites : List Site) (groups : List Group) → zones ≡ r.zones
+    → sites ≡ r.sites
     → map kept_of groups ≡ map kept_of r.groups → are_rows zones sites groups ≡ true
 same_rows r zones sites groups zs ss kept =
     let rows : group_rows groups ≡ group_rows r.groups =
     sym (rows_of_kept groups) ∙ ap (map (λ (k : Kept). k.2)) kept ∙ rows_of_kept r.groups in
     rw (zs, ss, rows) r.rows
 
-module _ (r s : Register) (accepted : IsAccepted r) (zones : s.zones ≡ r.zones) (sites : s.sites ≡ r.sites) (groups : map kept_of s.groups ≡ map kept_of r.groups) (located : locators_in s.groups ≡ server_addresses (length (locators_in r.groups))) where
+module _ (r s : Register) (accepted : IsAccepted r) (zones : s.zones ≡ r.zones) (sites : s.sites ≡ r.sites)
+    (groups : map kept_of s.groups ≡ map kept_of r.groups) (located : locators_in s.groups ≡ server_addresses
+    (length (locators_in r.groups))) where
   distinct : are_distinct (locators_in s.groups) ≡ true
   distinct = ap are_distinct located ∙ addresses_distinct 0 (length (locators_in r.groups))
 
@@ -160,7 +175,8 @@ module _ (r s : Register) (accepted : IsAccepted r) (zones : s.zones ≡ r.zones
       (ap length located ∙ count_of_servers (length (locators_in r.groups)))
 
   pub moved_may_be : list_all is_server_address (locators_in s.groups) ≡ true
-  moved_may_be = ap (list_all is_server_address) located ∙ addresses_may_be (length (locators_in r.groups)) (few_servers r accepted)
+  moved_may_be = ap (list_all is_server_address) located
+      ∙ addresses_may_be (length (locators_in r.groups)) (few_servers r accepted)
 
   pub moved_accepted : IsAccepted s
   moved_accepted = still_accepted r s zones sites groups distinct accepted

@@ -45,15 +45,27 @@ addresses_distinct a (suc n) =
 
 -- the address of each server is one that a server may have
 may_have : (k : ℕ) → k < 524280 → (b : Bool) → nat_lt k 52 ≡ b
-    → ((nat_lt 2130706432 (2130706432 + step_of b + k) && nat_lt (2130706432 + step_of b + k) 2147483647) && not ((2130706432 + step_of b + k) == 2130706485)) ≡ true
+    → ((nat_lt 2130706432 (2130706432 + step_of b + k) && nat_lt (2130706432 + step_of b + k) 2147483647) && not
+    ((2130706432 + step_of b + k) == 2130706485)) ≡ true
 may_have k lt true e =
     let small = ltb-true k 52 e in
-    rw (lt-ltb 2130706432 (2130706432 + 1 + k) (omega arith), lt-ltb (2130706432 + 1 + k) 2147483647 (omega arith), ne_eqb (2130706432 + 1 + k) 2130706485 (λ same. absurd (omega (arith, same)))) refl
+    rw (
+      lt-ltb 2130706432 (2130706432 + 1 + k) (omega arith),
+      lt-ltb (2130706432 + 1 + k) 2147483647
+          (omega arith),
+      ne_eqb (2130706432 + 1 + k) 2130706485 (λ same. absurd (omega (arith, same))),
+    ) refl
 may_have k lt false e =
     let large = ltb-false k 52 e in
-    rw (lt-ltb 2130706432 (2130706432 + 2 + k) (omega arith), lt-ltb (2130706432 + 2 + k) 2147483647 (omega arith), ne_eqb (2130706432 + 2 + k) 2130706485 (λ same. absurd (omega (arith, same)))) refl
+    rw (
+      lt-ltb 2130706432 (2130706432 + 2 + k) (omega arith),
+      lt-ltb (2130706432 + 2 + k) 2147483647
+          (omega arith),
+      ne_eqb (2130706432 + 2 + k) 2130706485 (λ same. absurd (omega (arith, same))),
+    ) refl
 
-pub addresses_may_be : (n : ℕ) → n ≤ 524280 → list_all is_server_address (map server_address (range_with_len 0 n)) ≡ true
+pub addresses_may_be : (n : ℕ) → n ≤ 524280
+    → list_all is_server_address (map server_address (range_with_len 0 n)) ≡ true
 addresses_may_be n few = all_of is_server_address (map server_address (range_with_len 0 n)) (λ l k.
     let p = in_map server_address (range_with_len 0 n) l k in
     let q = above 0 n p.0 p.1 in

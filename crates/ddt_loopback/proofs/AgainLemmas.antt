@@ -64,11 +64,13 @@ read_all (fields ∷ all) whole (suc n) lt =
     let text = flat_map-cons (row_text default_writer) fields all in
     let some = row_is_some fields (text_of all) in
     rw (text, read-write fields (text_of all))
-    (ap (λ (first : List (List ℕ)). first ∷ records_from default_config n st.StartRecord (text_of all)) (whole fields (inl refl))
+    (ap (λ (first : List (List ℕ)). first ∷ records_from default_config n st.StartRecord (text_of all))
+    (whole fields (inl refl))
     ∙ ap (λ (more : List (List (List ℕ))). fields ∷ more)
     (read_all all (λ f k. whole f (inr k)) n (omega (arith, ap length text, some))))
 
-no_mark : (rest : List ℕ) → strip_bom (row_text default_writer columns ++ rest) ≡ row_text default_writer columns ++ rest
+no_mark : (rest : List ℕ)
+    → strip_bom (row_text default_writer columns ++ rest) ≡ row_text default_writer columns ++ rest
 unfolding strip_bom is_blank fields_text escaped
 no_mark rest = refl
 
@@ -91,7 +93,8 @@ records_again rows =
     let text = flat_map-cons (row_text default_writer) columns (map row_fields rows) in
     let same : strip_bom (text_of (records_of rows)) ≡ text_of (records_of rows) =
     ap strip_bom text ∙ no_mark (text_of (map row_fields rows)) ∙ sym text in
-    ap (records default_config) same ∙ read_all (records_of rows) (all_whole rows) (length (text_of (records_of rows)) + 1) (omega arith)
+    ap (records default_config) same
+    ∙ read_all (records_of rows) (all_whole rows) (length (text_of (records_of rows)) + 1) (omega arith)
 
 -- ---- the fields of a row
 
@@ -136,7 +139,8 @@ spaced_parts l (m ∷ ls) e =
     ∙ slice_split_at is_space (written_locator l) 32 (written_locator m ++ more_locators ls) (unspaced l fits.0) refl
     ∙ ap (λ (parts : List (List ℕ)). written_locator l ∷ parts) (spaced_parts m ls fits.1)
 
-each_again : (fault : ReadFault) (ls : List Locator) → are_locators ls ≡ true → each_locator fault (map written_locator ls) ≡ Ok ls
+each_again : (fault : ReadFault) (ls : List Locator) → are_locators ls ≡ true
+    → each_locator fault (map written_locator ls) ≡ Ok ls
 each_again fault [] e = refl
 each_again fault (l ∷ ls) e =
     let fits = first_fits l ls e in
@@ -146,7 +150,8 @@ is_some_text : (text more : List ℕ) (l : Locator) → locator_in text ≡ Ok l
 is_some_text [] more l e = absurd (cc e)
 is_some_text (b ∷ text) more l e = ne_eqb (suc (length (text ++ more))) 0 (λ none. absurd (omega (arith, none)))
 
-locators_again : (fault : ReadFault) (ls : List Locator) → are_locators ls ≡ true → locators_in fault (spaced ls) ≡ Ok ls
+locators_again : (fault : ReadFault) (ls : List Locator) → are_locators ls ≡ true
+    → locators_in fault (spaced ls) ≡ Ok ls
 locators_again fault [] e = refl
 locators_again fault (l ∷ ls) e =
     let fits = first_fits l ls e in
@@ -155,30 +160,36 @@ locators_again fault (l ∷ ls) e =
 
 -- ---- a row
 
-zone_again : (kind : Role) (n : ℕ) (prefix group : List ℕ) → n ≤ 65535 → is_prefix_path prefix ≡ true → is_name group ≡ true
+zone_again : (kind : Role) (n : ℕ) (prefix group : List ℕ) → n ≤ 65535 → is_prefix_path prefix ≡ true
+    → is_name group ≡ true
     → row_in n (zone_kind kind ∷ written_prefix prefix ∷ group ∷ [] ∷ [])
     ≡ Ok (Of.Zone (record { prefix = prefix; kind = kind; group = group; row = n }))
 zone_again Node n prefix group most p g = rw (le-ltb 65535 n most, prefix_again prefix p, g) refl
 zone_again Ms n prefix group most p g = rw (le-ltb 65535 n most, prefix_again prefix p, g) refl
 
-site_again : (n : ℕ) (prefix : List ℕ) (etrs : List Locator) → n ≤ 65535 → is_prefix_path prefix ≡ true → are_locators etrs ≡ true
+site_again : (n : ℕ) (prefix : List ℕ) (etrs : List Locator) → n ≤ 65535 → is_prefix_path prefix ≡ true
+    → are_locators etrs ≡ true
     → row_in n (site_fields (record { prefix = prefix; etrs = etrs; row = n }))
     ≡ Ok (Of.Site (record { prefix = prefix; etrs = etrs; row = n }))
 site_again n prefix etrs most p e =
     rw (le-ltb 65535 n most, prefix_again prefix p)
-    (ap (λ (r : Result (List Locator) ReadFault). r >>= (λ ls. Ok (Of.Site (record { prefix = prefix; etrs = ls; row = n }))))
+    (ap (λ (r : Result (List Locator) ReadFault). r >>= (λ ls. Ok (Of.Site
+    (record { prefix = prefix; etrs = ls; row = n }))))
     (locators_again (Fault.Address n) etrs e))
 
-group_again : (kind : Role) (n : ℕ) (name : List ℕ) (ls : List Locator) → n ≤ 65535 → is_name name ≡ true → are_locators ls ≡ true
+group_again : (kind : Role) (n : ℕ) (name : List ℕ) (ls : List Locator) → n ≤ 65535 → is_name name ≡ true
+    → are_locators ls ≡ true
     → row_in n (group_kind kind ∷ [] ∷ name ∷ spaced ls ∷ [])
     ≡ Ok (Of.Group (record { name = name; kind = kind; locators = ls; row = n }))
 group_again Node n name ls most g e =
     rw (le-ltb 65535 n most, g)
-    (ap (λ (r : Result (List Locator) ReadFault). r >>= (λ ls. Ok (Of.Group (record { name = name; kind = Node; locators = ls; row = n }))))
+    (ap (λ (r : Result (List Locator) ReadFault). r >>= (λ ls. Ok (Of.Group
+    (record { name = name; kind = Node; locators = ls; row = n }))))
     (locators_again (Fault.Address n) ls e))
 group_again Ms n name ls most g e =
     rw (le-ltb 65535 n most, g)
-    (ap (λ (r : Result (List Locator) ReadFault). r >>= (λ ls. Ok (Of.Group (record { name = name; kind = Ms; locators = ls; row = n }))))
+    (ap (λ (r : Result (List Locator) ReadFault). r >>= (λ ls. Ok (Of.Group
+    (record { name = name; kind = Ms; locators = ls; row = n }))))
     (locators_again (Fault.Address n) ls e))
 
 -- a row is one of some lists
@@ -187,7 +198,8 @@ Has items (Of.Zone z) = IsIn z items.zones
 Has items (Of.Site s) = IsIn s items.sites
 Has items (Of.Group g) = IsIn g items.groups
 
-row_again : (r : Register) (row : Row) (n : ℕ) → Has (lists_of r) row → row_number row ≡ n → n ≤ 65535 → row_in n (row_fields row) ≡ Ok row
+row_again : (r : Register) (row : Row) (n : ℕ) → Has (lists_of r) row → row_number row ≡ n → n ≤ 65535
+    → row_in n (row_fields row) ≡ Ok row
 row_again r (Of.Zone z) n k is most =
     let fits = and_parts (is_prefix_path z.prefix) (is_name z.group) (zone_at r z k) in
     zone_again z.kind n z.prefix z.group most fits.0 fits.1
@@ -236,7 +248,8 @@ either_in (Of.Group y) (Of.Group g) items (inr k) = inr k
 has_row : (rows : List Row) (row : Row) → IsIn row rows → Has (items_of_rows rows) row
 has_row [] row k = absurd k
 has_row (first ∷ rows) row (inl same) =
-    subst (λ (x : Row). Has (joined (items_of first) (items_of_rows rows)) x) (sym same) (first_in first (items_of_rows rows))
+    subst (λ (x : Row). Has (joined (items_of first) (items_of_rows rows)) x) (sym same) (first_in first
+    (items_of_rows rows))
 has_row (first ∷ rows) row (inr later) = kept_in first row (items_of_rows rows) (has_row rows row later)
 
 nothing_in : (row : Row) → Has no_items row → ⊥
@@ -263,7 +276,8 @@ rows_rise last [] h = refl
 rows_rise last (row ∷ rows) h =
     rw (h.0, lt-ltb last (last + 1) (omega arith), le-leb (last + 1) 65535 h.1) (rows_rise (last + 1) rows h.2)
 
-rows_again : (r : Register) (n : ℕ) (rows : List Row) → ((row : Row) → IsIn row rows → Has (lists_of r) row) → InTurn n rows
+rows_again : (r : Register) (n : ℕ) (rows : List Row) → ((row : Row) → IsIn row rows → Has (lists_of r) row)
+    → InTurn n rows
     → rows_in n (map row_fields rows) ≡ Ok (items_of_rows rows)
 rows_again r n [] has h = refl
 rows_again r n (row ∷ rows) has h =
@@ -275,10 +289,12 @@ stepped : {A B : Type 0} (a : Result A ReadFault) (f : A → Result B ReadFault)
 stepped (Ok x) f b e = (x, refl, e)
 stepped (Err fault) f b e = absurd (cc e)
 
-number_case : (row item : Row) → (let r : Result Row ReadFault = Ok row in r) ≡ Ok item → row_number item ≡ row_number row
+number_case : (row item : Row) → (let r : Result Row ReadFault = Ok row in r) ≡ Ok item
+    → row_number item ≡ row_number row
 number_case row item e = let same : row ≡ item = cc e in ap row_number (sym same)
 
-group_number : (role : Role) (n : ℕ) (prefix group addresses : List ℕ) (item : Row) → group_in role n prefix group addresses ≡ Ok item
+group_number : (role : Role) (n : ℕ) (prefix group addresses : List ℕ) (item : Row)
+    → group_in role n prefix group addresses ≡ Ok item
     → row_number item ≡ n
 group_number role n prefix group addresses item e =
     let a = stepped (empty_in (Fault.Prefix n) prefix) _ item e in
@@ -286,7 +302,8 @@ group_number role n prefix group addresses item e =
     let c = stepped (locators_in (Fault.Address n) addresses) _ item b.2 in
     number_case _ item c.2
 
-zone_number : (role : Role) (n : ℕ) (prefix group addresses : List ℕ) (item : Row) → zone_in role n prefix group addresses ≡ Ok item
+zone_number : (role : Role) (n : ℕ) (prefix group addresses : List ℕ) (item : Row)
+    → zone_in role n prefix group addresses ≡ Ok item
     → row_number item ≡ n
 zone_number role n prefix group addresses item e =
     let a = stepped (field_of (Fault.Prefix n) (prefix_in prefix)) _ item e in
@@ -294,14 +311,16 @@ zone_number role n prefix group addresses item e =
     let c = stepped (empty_in (Fault.Address n) addresses) _ item b.2 in
     number_case _ item c.2
 
-site_number : (n : ℕ) (prefix group addresses : List ℕ) (item : Row) → site_in n prefix group addresses ≡ Ok item → row_number item ≡ n
+site_number : (n : ℕ) (prefix group addresses : List ℕ) (item : Row) → site_in n prefix group addresses ≡ Ok item
+    → row_number item ≡ n
 site_number n prefix group addresses item e =
     let a = stepped (field_of (Fault.Prefix n) (prefix_in prefix)) _ item e in
     let b = stepped (empty_in (Fault.Name n) group) _ item a.2 in
     let c = stepped (locators_in (Fault.Address n) addresses) _ item b.2 in
     number_case _ item c.2
 
-number_in : (n : ℕ) (kind prefix group addresses : List ℕ) (item : Row) → fields_in n kind prefix group addresses ≡ Ok item
+number_in : (n : ℕ) (kind prefix group addresses : List ℕ) (item : Row)
+    → fields_in n kind prefix group addresses ≡ Ok item
     → row_number item ≡ n
 number_in n kind prefix group addresses item e = elim (cases_Bool (bytes_eq kind (codes "group-node"))) [
   | inl hit ↦ group_number Node n prefix group addresses item (rw hit at e)
@@ -324,7 +343,8 @@ few_case : (n : ℕ) (past : Bool) (u : Unit {0}) → nat_lt most_rows n ≡ pas
 few_case n true u is e = absurd (cc e)
 few_case n false u is e = ltb-false 65535 n is
 
-number_of_row : (n : ℕ) (fields : List (List ℕ)) (item : Row) → row_in n fields ≡ Ok item → (row_number item ≡ n) × (n ≤ 65535)
+number_of_row : (n : ℕ) (fields : List (List ℕ)) (item : Row) → row_in n fields ≡ Ok item
+    → (row_number item ≡ n) × (n ≤ 65535)
 number_of_row n [] item e = absurd (cc e)
 number_of_row n (a ∷ []) item e = absurd (cc e)
 number_of_row n (a ∷ b ∷ []) item e = absurd (cc e)
@@ -346,12 +366,14 @@ rows_of n (fields ∷ all) items e =
     let whole : joined (items_of a.0) b.0 ≡ items = cc b.2 in
     (a.0 ∷ rest.0, ap (joined (items_of a.0)) rest.1 ∙ whole, (number.0, number.1, rest.2))
 
-spelled_rows : (all : List (List (List ℕ))) (items : Lists) → spelled all ≡ Ok items → (rows : List Row) × (items_of_rows rows ≡ items) × InTurn 1 rows
+spelled_rows : (all : List (List (List ℕ))) (items : Lists) → spelled all ≡ Ok items
+    → (rows : List Row) × (items_of_rows rows ≡ items) × InTurn 1 rows
 spelled_rows [] items e = ([], cc e, tt)
 spelled_rows (first ∷ all) items e = let p = stepped (columns_in first) _ items e in rows_of 1 all items p.2
 
 -- the rows of a register are those that some records spell, if they spell it
-same_rows : (r : Register) (rows found : List Row) → AreItsRows r rows → items_of_rows found ≡ lists_of r → InTurn 1 found → found ≡ rows
+same_rows : (r : Register) (rows found : List Row) → AreItsRows r rows → items_of_rows found ≡ lists_of r
+    → InTurn 1 found → found ≡ rows
 same_rows r rows found its items turn =
     let same : items_of_rows rows ≡ items_of_rows found = its.items ∙ sym items in
     one_order row_number rows found (rising_from_rise row_number rows 0 its.rising)

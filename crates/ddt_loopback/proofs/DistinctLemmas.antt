@@ -42,7 +42,8 @@ distinct_both (x ∷ a) b e f s =
 -- ---- the locators of groups
 
 -- what is shared with none of some groups is shared with each of them, and the other way round
-unshared_each : (a : List Locator) (b c : List Locator) → share a (b ++ c) ≡ false → (share a b ≡ false) × (share a c ≡ false)
+unshared_each : (a : List Locator) (b c : List Locator) → share a (b ++ c) ≡ false
+    → (share a b ≡ false) × (share a c ≡ false)
 unshared_each [] b c e = (refl, refl)
 unshared_each (x ∷ a) b c e =
     let p = or_parts (lists (b ++ c) x) (share a (b ++ c)) e in
@@ -50,7 +51,8 @@ unshared_each (x ∷ a) b c e =
     let rest = unshared_each a b c p.1 in
     (rw (q.0) rest.0, rw (q.1) rest.1)
 
-unshared_both : (a : List Locator) (b c : List Locator) → share a b ≡ false → share a c ≡ false → share a (b ++ c) ≡ false
+unshared_both : (a : List Locator) (b c : List Locator) → share a b ≡ false → share a c ≡ false
+    → share a (b ++ c) ≡ false
 unshared_both [] b c e f = refl
 unshared_both (x ∷ a) b c e f =
     let p = or_parts (lists b x) (share a b) e in
@@ -61,18 +63,24 @@ unshared_nil : (a : List Locator) → share a [] ≡ false
 unshared_nil [] = refl
 unshared_nil (x ∷ a) = unshared_nil a
 
-unshared_at : (a : List Locator) (gs : List Group) (g : Group) → share a (locators_in gs) ≡ false → IsIn g gs → share a g.locators ≡ false
+unshared_at : (a : List Locator) (gs : List Group) (g : Group) → share a (locators_in gs) ≡ false → IsIn g gs
+    → share a g.locators ≡ false
 unshared_at a [] g e k = absurd k
-unshared_at a (h ∷ gs) g e (inl same) = ap (λ (i : Group). share a i.locators) same ∙ (unshared_each a h.locators (locators_in gs) e).0
+unshared_at a (h ∷ gs) g e (inl same) = ap (λ (i : Group). share a i.locators) same
+    ∙ (unshared_each a h.locators (locators_in gs) e).0
 unshared_at a (h ∷ gs) g e (inr later) = unshared_at a gs g (unshared_each a h.locators (locators_in gs) e).1 later
 
-unshared_all : (a : List Locator) (gs : List Group) → ((g : Group) → IsIn g gs → share a g.locators ≡ false) → share a (locators_in gs) ≡ false
+unshared_all : (a : List Locator) (gs : List Group) → ((g : Group) → IsIn g gs → share a g.locators ≡ false)
+    → share a (locators_in gs) ≡ false
 unshared_all a [] h = unshared_nil a
-unshared_all a (g ∷ gs) h = unshared_both a g.locators (locators_in gs) (h g (inl refl)) (unshared_all a gs (λ i k. h i (inr k)))
+unshared_all a (g ∷ gs) h = unshared_both a g.locators (locators_in gs) (h g (inl refl)) (unshared_all a gs
+    (λ i k. h i (inr k)))
 
-pub distinct_at : (gs : List Group) (g : Group) → are_distinct (locators_in gs) ≡ true → IsIn g gs → are_distinct g.locators ≡ true
+pub distinct_at : (gs : List Group) (g : Group) → are_distinct (locators_in gs) ≡ true → IsIn g gs
+    → are_distinct g.locators ≡ true
 distinct_at [] g e k = absurd k
-distinct_at (h ∷ gs) g e (inl same) = ap (λ (i : Group). are_distinct i.locators) same ∙ (distinct_parts h.locators (locators_in gs) e).0
+distinct_at (h ∷ gs) g e (inl same) = ap (λ (i : Group). are_distinct i.locators) same
+    ∙ (distinct_parts h.locators (locators_in gs) e).0
 distinct_at (h ∷ gs) g e (inr later) = distinct_at gs g (distinct_parts h.locators (locators_in gs) e).1 later
 
 abbrev row_of : Group → ℕ
@@ -91,7 +99,8 @@ unshared_pair (x ∷ gs) last h g up e (inr j) (inl b) lt =
     let r : x.row < h.row = above row_of gs x.row h (rise_parts last x.row (map row_of gs) up).1 j in
     absurd (omega arith)
 unshared_pair (x ∷ gs) last h g up e (inr j) (inr k) lt =
-    unshared_pair gs x.row h g (rise_parts last x.row (map row_of gs) up).1 (distinct_parts x.locators (locators_in gs) e).1 j k lt
+    unshared_pair gs x.row h g (rise_parts last x.row (map row_of gs) up).1 (distinct_parts x.locators
+    (locators_in gs) e).1 j k lt
 
 pub distinct_all : (gs : List Group) (last : ℕ) → rise last (map (λ (i : Group). i.row) gs) ≡ true
     → ((g : Group) → IsIn g gs → are_distinct g.locators ≡ true)

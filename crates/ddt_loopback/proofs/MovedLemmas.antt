@@ -27,6 +27,7 @@ ranges_meet a zero m = rw (zero_plus m, plus_zero a) refl
   where
     zero_plus : (m : ℕ) → zero + m ≡ m
     zero_plus m = omega arith
+
     plus_zero : (a : ℕ) → a + zero ≡ a
     plus_zero a = omega arith
 ranges_meet a (suc n) m =
@@ -34,6 +35,7 @@ ranges_meet a (suc n) m =
   where
     suc_plus : (n m : ℕ) → suc n + m ≡ suc (n + m)
     suc_plus n m = omega arith
+
     moves : (a n : ℕ) → a + suc n ≡ (a + 1) + n
     moves a n = omega arith
 
@@ -48,7 +50,8 @@ pub count_of_servers : (n : ℕ) → length (server_addresses n) ≡ n
 count_of_servers n = length-map (range_with_len 0 n) server_address ∙ length-range_with_len 0 n
 
 -- the groups of an accepted register have few locators
-eight_each : (gs : List Group) → ((g : Group) → IsIn g gs → length g.locators ≤ 8) → length (locators_in gs) ≤ 8 * length gs
+eight_each : (gs : List Group) → ((g : Group) → IsIn g gs → length g.locators ≤ 8)
+    → length (locators_in gs) ≤ 8 * length gs
 eight_each [] h = omega arith
 eight_each (g ∷ gs) h =
     let first = h g (inl refl) in
@@ -62,7 +65,8 @@ few_servers r accepted =
     omega arith
 
 -- two lists of one length, in which nothing stands twice, are one for one
-pub one_for_one : (olds news : List Locator) → are_distinct olds ≡ true → are_distinct news ≡ true → length news ≡ length olds
+pub one_for_one : (olds news : List Locator) → are_distinct olds ≡ true → are_distinct news ≡ true
+    → length news ≡ length olds
     → AreOneForOne olds news
 one_for_one olds news e f same = (
   same,
@@ -92,7 +96,8 @@ module _ (gs : List Group) (i : ℕ) (g : Group) (lt : i < length gs) (is : g �
       → length (locators_in gs) ≤ 524280 → first + length ls ≤ 524280
   few_more first ls same so_far few =
       let more = length-flat_map-take (λ (h : Group). h.locators) gs i g lt in
-      let here : length (get_or gs i g).locators ≡ length ls = ap (λ (h : Group). length h.locators) (sym is) ∙ ap length (sym same) in
+      let here : length (get_or gs i g).locators ≡ length ls = ap (λ (h : Group). length h.locators) (sym is)
+      ∙ ap length (sym same) in
       omega (arith, more, here)
 
   -- the groups so far, with as many addresses as they have locators
@@ -107,8 +112,7 @@ module _ (gs : List Group) (i : ℕ) (g : Group) (lt : i < length gs) (is : g �
       let new : Group = record { name = g.name; kind = g.kind; locators = news; row = g.row } in
       let many : length news ≡ length g.locators =
       ap length addresses ∙ length-map (range_with_len first (length ls)) server_address
-      ∙ length-range_with_len first (length ls) ∙ ap length same in
-      (
+      ∙ length-range_with_len first (length ls) ∙ ap length same in (
         omega (arith, ap length locators_more, length-append (locators_in (take i gs)) g.locators, ap length same),
         ap (map kept_of) pushed ∙ map-append kept_of moved (new ∷ [])
             ∙ ap (λ (k : List (List ℕ × Role × ℕ × ℕ)). k ++ kept_of new ∷ []) kept

@@ -29,12 +29,18 @@ joined_assoc a b c = λ i. record {
 }
 
 joined_none : (a : Lists) → joined a no_items ≡ a
-joined_none a = λ i. record { zones = append-nil a.zones i; sites = append-nil a.sites i; groups = append-nil a.groups i }
+joined_none a = λ i. record {
+  zones = append-nil a.zones i;
+  sites = append-nil a.sites i;
+  groups =
+      append-nil a.groups i;
+}
 
 one_more : (rows : List Row) (row : Row) → items_of_rows (rows ++ row ∷ []) ≡ joined (items_of_rows rows) (items_of row)
 one_more [] row = joined_none (items_of row)
 one_more (first ∷ rows) row =
-    ap (joined (items_of first)) (one_more rows row) ∙ sym (joined_assoc (items_of first) (items_of_rows rows) (items_of row))
+    ap (joined (items_of first)) (one_more rows row)
+    ∙ sym (joined_assoc (items_of first) (items_of_rows rows) (items_of row))
 
 -- ---- rows that rise
 
@@ -55,7 +61,8 @@ rise_more last (first ∷ rows) row e lt most =
     rw (p.0) (rise_more first rows row p.1 lt most)
 
 -- a first row that isn't the next one stands behind it
-head_skips : (last row : ℕ) (rows : List ℕ) → rise last (row ∷ rows) ≡ true → (row ≢ last + 1) → rise (last + 1) (row ∷ rows) ≡ true
+head_skips : (last row : ℕ) (rows : List ℕ) → rise last (row ∷ rows) ≡ true → (row ≢ last + 1)
+    → rise (last + 1) (row ∷ rows) ≡ true
 head_skips last row rows e other =
     let p = and_parts (nat_lt last row && nat_le row 65535) (rise row rows) e in
     let q = and_parts (nat_lt last row) (nat_le row 65535) p.0 in
@@ -65,7 +72,8 @@ head_skips last row rows e other =
     next : (last row : ℕ) → last < row → (row ≢ last + 1) → last + 1 < row
     next last row up other = omega (arith, other)
 
-skips : (last : ℕ) (rows : List ℕ) → rise last rows ≡ true → has_row rows (last + 1) ≡ false → rise (last + 1) rows ≡ true
+skips : (last : ℕ) (rows : List ℕ) → rise last rows ≡ true → has_row rows (last + 1) ≡ false
+    → rise (last + 1) rows ≡ true
 skips last [] e none = refl
 skips last (row ∷ rows) e none =
     head_skips last row rows e (eqb-false row (last + 1) (or_parts (row == last + 1) (has_row rows (last + 1)) none).0)
@@ -145,21 +153,26 @@ none_taken r n rows left m z s g = record {
   rising = m.rising;
   below = omega (arith, m.below);
   items = m.items;
-  zones = skips_first (λ (z : Zone). z.row) m.last left.zones m.zones (subst (λ (k : ℕ). IsNotFirst (λ (z : Zone). z.row) k left.zones) m.next z);
-  sites = skips_first (λ (s : Site). s.row) m.last left.sites m.sites (subst (λ (k : ℕ). IsNotFirst (λ (s : Site). s.row) k left.sites) m.next s);
-  groups = skips_first (λ (g : Group). g.row) m.last left.groups m.groups (subst (λ (k : ℕ). IsNotFirst (λ (g : Group). g.row) k left.groups) m.next g);
+  zones = skips_first (λ (z : Zone). z.row) m.last left.zones m.zones (subst (λ (k : ℕ). IsNotFirst (λ
+      (z : Zone). z.row) k left.zones) m.next z);
+  sites = skips_first (λ (s : Site). s.row) m.last left.sites m.sites (subst (λ (k : ℕ). IsNotFirst (λ
+      (s : Site). s.row) k left.sites) m.next s);
+  groups = skips_first (λ (g : Group). g.row) m.last left.groups m.groups (subst (λ (k : ℕ). IsNotFirst (λ
+      (g : Group). g.row) k left.groups) m.next g);
   zones_sites = m.zones_sites;
   zones_groups = m.zones_groups;
   sites_groups = m.sites_groups;
 }
 
 -- what holds of all rows when one more is written
-module _ (r : Register) (n : ℕ) (rows : List Row) (row : Row) (left : Lists) (m : IsMidway r n rows (joined (items_of row) left)) (is : row_number row ≡ n) (most : n ≤ 65535) where
+module _ (r : Register) (n : ℕ) (rows : List Row) (row : Row) (left : Lists) (m : IsMidway r n rows (joined
+    (items_of row) left)) (is : row_number row ≡ n) (most : n ≤ 65535) where
   more_numbers : map row_number (rows ++ row ∷ []) ≡ map row_number rows ++ n ∷ []
   more_numbers = map-append row_number rows (row ∷ []) ∙ ap (λ (k : ℕ). map row_number rows ++ k ∷ []) is
 
   more_rising : rise 0 (map row_number (rows ++ row ∷ [])) ≡ true
-  more_rising = ap (rise 0) more_numbers ∙ rise_more 0 (map row_number rows) n m.rising (omega (arith, m.below, m.next)) most
+  more_rising = ap (rise 0) more_numbers
+      ∙ rise_more 0 (map row_number rows) n m.rising (omega (arith, m.below, m.next)) most
 
   more_below : last_or 0 (map row_number (rows ++ row ∷ [])) ≤ n
   more_below = let e = ap (last_or 0) more_numbers ∙ last_more 0 (map row_number rows) n in omega (arith, e)
@@ -178,7 +191,8 @@ module _ (r : Register) (n : ℕ) (rows : List Row) (row : Row) (left : Lists) (
       subst (λ (k : ℕ). rise k rest ≡ true) (sym m.next)
       (skips m.last rest e (subst (λ (k : ℕ). has_row rest k ≡ false) (is ∙ m.next) none))
 
-one_taken : (r : Register) (n : ℕ) (rows : List Row) (row : Row) (left : Lists) → IsMidway r n rows (joined (items_of row) left)
+one_taken : (r : Register) (n : ℕ) (rows : List Row) (row : Row) (left : Lists)
+    → IsMidway r n rows (joined (items_of row) left)
     → row_number row ≡ n → n ≤ 65535 → IsMidway r (n + 1) (rows ++ row ∷ []) left
 one_taken r n rows (Of.Zone z) left m is most =
     let s = apart_first z.row (zone_rows left.zones) (site_rows left.sites) m.zones_sites in
@@ -230,20 +244,25 @@ one_taken r n rows (Of.Group g) left m is most =
     }
 
 -- the next number, whether a row has it or not
-pub passes : (r : Register) (n : ℕ) (rows : List Row) (left after : Lists) → IsMidway r n rows left → Takes n left after None
+pub passes : (r : Register) (n : ℕ) (rows : List Row) (left after : Lists) → IsMidway r n rows left
+    → Takes n left after None
     → IsMidway r (n + 1) rows after
 passes r n rows left after m t = subst (IsMidway r (n + 1) rows) (sym t.0) (none_taken r n rows left m t.1 t.2 t.3)
 
-pub takes : (r : Register) (n : ℕ) (rows : List Row) (left after : Lists) (fields : List (List ℕ)) → IsMidway r n rows left
+pub takes : (r : Register) (n : ℕ) (rows : List Row) (left after : Lists) (fields : List (List ℕ))
+    → IsMidway r n rows left
     → n ≤ 65535 → (t : Takes n left after (Some fields)) → IsMidway r (n + 1) (rows ++ t.0 ∷ []) after
 takes r n rows left after fields m most t = one_taken r n rows t.0 after (subst (IsMidway r n rows) t.3 m) t.2 most
 
 pub ends : (r : Register) (rows : List Row) (left : Lists) → IsMidway r 65536 rows left → AreItsRows r rows
 ends r rows left m =
     let last : m.last ≡ 65535 = omega (arith, m.next) in
-    let zones = none_left (λ (z : Zone). z.row) left.zones (subst (λ (k : ℕ). rise k (zone_rows left.zones) ≡ true) last m.zones) in
-    let sites = none_left (λ (s : Site). s.row) left.sites (subst (λ (k : ℕ). rise k (site_rows left.sites) ≡ true) last m.sites) in
-    let groups = none_left (λ (g : Group). g.row) left.groups (subst (λ (k : ℕ). rise k (group_rows left.groups) ≡ true) last m.groups) in
+    let zones = none_left (λ (z : Zone). z.row) left.zones (subst (λ (k : ℕ). rise k (zone_rows left.zones)
+    ≡ true) last m.zones) in
+    let sites = none_left (λ (s : Site). s.row) left.sites (subst (λ (k : ℕ). rise k (site_rows left.sites)
+    ≡ true) last m.sites) in
+    let groups = none_left (λ (g : Group). g.row) left.groups (subst (λ (k : ℕ). rise k (group_rows left.groups)
+    ≡ true) last m.groups) in
     let none : left ≡ no_items = λ i. record { zones = zones i; sites = sites i; groups = groups i } in
     record {
       rising = m.rising;
@@ -251,7 +270,8 @@ ends r rows left m =
     }
 
 -- the text of one more row
-pub text_more : (before now after : List ℕ) (rows : List Row) (row : Row) (fields : List (List ℕ)) → fields ≡ row_fields row
+pub text_more : (before now after : List ℕ) (rows : List Row) (row : Row) (fields : List (List ℕ))
+    → fields ≡ row_fields row
     → now ≡ before ++ text_of (map row_fields rows) → after ≡ now ++ row_text default_writer fields
     → after ≡ before ++ text_of (map row_fields (rows ++ row ∷ []))
 text_more before now after rows row fields is e f =
@@ -259,7 +279,8 @@ text_more before now after rows row fields is e f =
     ∙ append_assoc before (text_of (map row_fields rows)) (row_text default_writer fields)
     ∙ ap (λ (t : List ℕ). before ++ t)
     (ap (λ (t : List (List ℕ)). text_of (map row_fields rows) ++ row_text default_writer t) is
-    ∙ ap (λ (t : List ℕ). text_of (map row_fields rows) ++ t) (sym (append-nil (row_text default_writer (row_fields row))))
+    ∙ ap (λ (t : List ℕ). text_of (map row_fields rows) ++ t) (sym (append-nil (row_text default_writer
+    (row_fields row))))
     ∙ sym (flat_map-append (row_text default_writer) (map row_fields rows) (row_fields row ∷ []))
     ∙ ap text_of (sym (map-append row_fields rows (row ∷ []))))
 

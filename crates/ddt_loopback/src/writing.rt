@@ -69,7 +69,11 @@ fn push_record(writer: &mut Writer<Vec<u8>>, fields: &ByteRecord) -> Result<(), 
 }
 
 /// Writes the records of all rows, in their order. Fails only if out of memory.
-fn push_rows(alloc: Global, writer: &mut Writer<Vec<u8>>, register: &Register) -> Result<(), AllocError>
+fn push_rows(
+    alloc: Global,
+    writer: &mut Writer<Vec<u8>>,
+    register: &Register,
+) -> Result<(), AllocError>
     requires { IsFresh writer.old }
     ensures { OnOk result ((rows : List Row) × AreItsRows register.now rows
         × (text_so_far writer.new ≡ text_so_far writer.old ++ text_of (map row_fields rows))) }

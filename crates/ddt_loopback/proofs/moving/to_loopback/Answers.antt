@@ -30,7 +30,7 @@ returns-clause-one_for_one c =
     let sites : c.unwrap.result.sites ≡ c.args.register.now.sites = search rules in
     let groups : map kept_of c.unwrap.result.groups ≡ map kept_of c.args.register.now.groups = search rules in
     let located : locators_in c.unwrap.result.groups
-        ≡ server_addresses (length (locators_in c.args.register.now.groups)) = search rules in
+    ≡ server_addresses (length (locators_in c.args.register.now.groups)) = search rules in
     moved_one_for_one c.args.register.now c.unwrap.result c.register-old.ensures.accepted zones sites groups located
 
 pub returns-clause-loopback : goal.returns-clause-loopback
@@ -39,7 +39,7 @@ returns-clause-loopback c =
     let sites : c.unwrap.result.sites ≡ c.args.register.now.sites = search rules in
     let groups : map kept_of c.unwrap.result.groups ≡ map kept_of c.args.register.now.groups = search rules in
     let located : locators_in c.unwrap.result.groups
-        ≡ server_addresses (length (locators_in c.args.register.now.groups)) = search rules in
+    ≡ server_addresses (length (locators_in c.args.register.now.groups)) = search rules in
     moved_may_be c.args.register.now c.unwrap.result c.register-old.ensures.accepted zones sites groups located
 
 pub returns-clause-accepted : goal.returns-clause-accepted
@@ -48,5 +48,5 @@ returns-clause-accepted c =
     let sites : c.unwrap.result.sites ≡ c.args.register.now.sites = search rules in
     let groups : map kept_of c.unwrap.result.groups ≡ map kept_of c.args.register.now.groups = search rules in
     let located : locators_in c.unwrap.result.groups
-        ≡ server_addresses (length (locators_in c.args.register.now.groups)) = search rules in
+    ≡ server_addresses (length (locators_in c.args.register.now.groups)) = search rules in
     moved_accepted c.args.register.now c.unwrap.result c.register-old.ensures.accepted zones sites groups located

@@ -20,8 +20,7 @@ loop-row-preserved c =
       | in-Some+in_ok-push_record w ↦
           let fields = fields_of w.in-Some.fields in
           let t : Takes n left after (Some fields) =
-          subst (λ (o : Option ByteRecord). Takes n left after (option_map fields_of o)) w.in-Some.is c.in_ok-fields.ensures in
-          (
+          subst (λ (o : Option ByteRecord). Takes n left after (option_map fields_of o)) w.in-Some.is c.in_ok-fields.ensures in (
             subst (λ (x : Writer (Vec ℕ Global)). IsFresh x) (sym w.writer-is) w.in_ok-push_record.ensures.fresh,
             rows ++ t.0 ∷ [],
             ap text_so_far w.writer-is ∙ text_more (text_so_far c.args.writer.now) (text_so_far c.loop-row.writer)
@@ -30,8 +29,7 @@ loop-row-preserved c =
           )
       | in_default w ↦
           let t : Takes n left after None =
-          subst (λ (o : Option ByteRecord). Takes n left after (option_map fields_of o)) w.in_default.is c.in_ok-fields.ensures in
-          (
+          subst (λ (o : Option ByteRecord). Takes n left after (option_map fields_of o)) w.in_default.is c.in_ok-fields.ensures in (
             subst (λ (x : Writer (Vec ℕ Global)). IsFresh x) (sym w.writer-is) inv.0,
             rows,
             ap text_so_far w.writer-is ∙ inv.2,
@@ -42,6 +40,9 @@ loop-row-preserved c =
 pub returns : goal.returns
 returns c =
     let inv = c.loop-row.invariant in
-    let last : c.loop-row.row ≡ 65536 = omega arith in
-    (inv.1, ends c.args.register.now inv.1 (left_of c.loop-row.left)
-    (subst (λ (n : ℕ). IsMidway c.args.register.now n inv.1 (left_of c.loop-row.left)) last inv.3), inv.2)
+    let last : c.loop-row.row ≡ 65536 = omega arith in (
+      inv.1,
+      ends c.args.register.now inv.1 (left_of c.loop-row.left)
+          (subst (λ (n : ℕ). IsMidway c.args.register.now n inv.1 (left_of c.loop-row.left)) last inv.3),
+      inv.2,
+    )

@@ -1,0 +1,5 @@
+pub mod Addresses
+pub mod Moved
+pub mod Records
+pub mod Written
+pub mod Table

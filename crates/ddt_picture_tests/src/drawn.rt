@@ -1,0 +1,70 @@
+//! The pictures of the worked campus.
+
+use ddt_check::{Accepted, check};
+use ddt_examples::registers::CAMPUS;
+use ddt_path::{Action, Locator, Prefix, Xeid};
+use ddt_pictures::{boxes_under, hops_of, ladder_picture, tree_picture};
+use ddt_register::read_register;
+use std::alloc::Global;
+use std::process::Abort;
+use std::test::Fail;
+
+/// The accepted register of the campus.
+fn campus(rt: &impl Abort, alloc: Global) -> Accepted {
+    let register = read_register(alloc, CAMPUS.as_bytes()).expect(rt, "a register");
+    check(register).ok().expect(rt, "not accepted")
+}
+
+/// 10.1.2.3 in instance 0, which a site covers.
+const HOST: Xeid = Xeid {
+    iid: 0,
+    address: Locator::V4(0x0a01_0203),
+};
+
+/// How often a text stands in another.
+fn count(whole: &[u8], text: &[u8]) -> usize {
+    whole
+        .windows(text.len().max(1))
+        .filter(|window| *window == text)
+        .count()
+}
+
+#[test]
+fn each_group_has_a_box(rt: HostRuntime) -> Result<(), Fail> {
+    let campus = campus(&rt, rt.alloc());
+    let boxes = boxes_under(rt.alloc(), &campus, Prefix::cut(HOST, 0), 2)?;
+    assert!(rt; boxes.len() == 3);
+    let svg = tree_picture(rt.alloc(), &campus, Prefix::cut(HOST, 0), 2)?;
+    for name in [b">root<".as_slice(), b">ten<", b">east<"] {
+        assert!(rt; count(&svg, name) == 1);
+    }
+    assert!(rt; count(&svg, b"sites: 2, 1 without an ETR") == 1);
+    Ok(())
+}
+
+#[test]
+fn what_is_deep_is_counted(rt: HostRuntime) -> Result<(), Fail> {
+    let campus = campus(&rt, rt.alloc());
+    let boxes = boxes_under(rt.alloc(), &campus, Prefix::cut(HOST, 0), 1)?;
+    assert!(rt; boxes.len() == 2);
+    let svg = tree_picture(rt.alloc(), &campus, Prefix::cut(HOST, 0), 1)?;
+    assert!(rt; count(&svg, b"deeper zones: 1, with sites: 2") == 1);
+    Ok(())
+}
+
+#[test]
+fn a_lookup_asks_a_server_of_each_zone(rt: HostRuntime) -> Result<(), Fail> {
+    let campus = campus(&rt, rt.alloc());
+    let hops = hops_of(rt.alloc(), &campus, HOST)?;
+    assert!(rt; hops.len() == 3);
+    assert!(rt; hops[2].said.action == Action::MsAck);
+    let svg = ladder_picture(rt.alloc(), &campus, HOST)?;
+    assert!(rt;
+        count(
+            &svg,
+            b"Map-Referral NODE-REFERRAL [0]10.0.0.0/8 kept 1440 min"
+        ) == 1
+    );
+    assert!(rt; count(&svg, b"Map-Reply [0]10.1.2.0/24") == 1);
+    Ok(())
+}

@@ -53,7 +53,7 @@ pub fn broken_rules(alloc: Global, register: &Register) -> Result<Vec<Broken>, A
     Ok(list)
 }
 
-/// Puts the rules that are broken at a row behind a list.
+/// Puts the rules that are broken at a row behind a list, with the items of the row. Fails only if out of memory.
 fn push_faults(
     list: &mut Vec<Broken>,
     index: &Index,

@@ -28,7 +28,7 @@ pub struct RowAndKind {
     pub kind: Role,
 }
 
-/// Puts a value at a key that has none.
+/// Puts a value at a key that has none. Fails only if out of memory.
 fn put_first<K: Ord + Drop, V: Drop>(
     map: &mut BTreeMap<K, V>,
     key: K,
@@ -42,7 +42,7 @@ fn put_first<K: Ord + Drop, V: Drop>(
     Ok(())
 }
 
-/// Puts a zone at its prefix, where that has none.
+/// Puts a zone at its prefix, where that has none. Fails only if out of memory.
 fn put_zone(first: &mut TrieMap<RowAndKind>, zone: &Zone) -> Result<(), AllocError>
     requires { map.len (trie_content first.old) < most_entries }
     ensures first { OnOk result ((p : List ℕ) → map.get (trie_content first.new) p
@@ -63,7 +63,7 @@ fn put_zone(first: &mut TrieMap<RowAndKind>, zone: &Zone) -> Result<(), AllocErr
     }
 }
 
-/// The first zone of each prefix.
+/// The first zone of each prefix. Fails only if out of memory.
 pub fn first_zones(alloc: Global, zones: &[Zone]) -> Result<TrieMap<RowAndKind>, AllocError>
     requires { length zones.now < most_entries }
     ensures { IfOk result (λ first. HasFirstOf (trie_content first) zones.now) }
@@ -75,7 +75,7 @@ pub fn first_zones(alloc: Global, zones: &[Zone]) -> Result<TrieMap<RowAndKind>,
     Ok(first)
 }
 
-/// The first site of each prefix.
+/// The row of the first site of each prefix. Fails only if out of memory.
 pub fn first_sites(alloc: Global, sites: &[Site]) -> Result<BTreeMap<Prefix, u32>, AllocError>
     ensures { IfOk result (λ first. (p : List ℕ) → get (slice_cmp nat_cmp) first p
         ≡ first_row (λ s. s.row) (λ s. is_same_path s.prefix p) sites.now) }
@@ -87,7 +87,7 @@ pub fn first_sites(alloc: Global, sites: &[Site]) -> Result<BTreeMap<Prefix, u32
     Ok(first)
 }
 
-/// The first group of each name.
+/// The first group of each name. Fails only if out of memory.
 pub fn first_groups(
     alloc: Global,
     groups: &[Group],
@@ -106,7 +106,7 @@ pub fn first_groups(
     Ok(first)
 }
 
-/// Puts the row of a group at each of its locators that has none.
+/// Puts the row of a group at each of its locators that has none. Fails only if out of memory.
 fn put_locators(first: &mut BTreeMap<Locator, u32>, group: &Group) -> Result<(), AllocError>
     ensures { OnOk result ((l : ALocator) → get locator_cmp first.new l ≡ option_or (get locator_cmp first.old l)
         (if lists group.now.locators l then Some group.now.row else None)) }
@@ -117,7 +117,7 @@ fn put_locators(first: &mut BTreeMap<Locator, u32>, group: &Group) -> Result<(),
     Ok(())
 }
 
-/// The first group of each locator.
+/// The row of the first group of each locator. Fails only if out of memory.
 pub fn first_of_locators(
     alloc: Global,
     groups: &[Group],

@@ -56,7 +56,7 @@ pub fn is_root(zone: &Zone) -> bool
     zone.prefix.len() == 0
 }
 
-/// The zones of Map-Servers.
+/// The zones of Map-Servers. Fails only if out of memory.
 fn map_server_zones(alloc: Global, zones: &[Zone]) -> Result<Vec<Zone>, AllocError>
     ensures { IfOk result (λ found. found.items ≡ filter (λ z. is_ms z.kind) zones.now) }
 {

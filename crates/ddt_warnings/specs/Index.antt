@@ -1,0 +1,22 @@
+-- What the index of a register holds.
+use Rattle.std.specs.Prelude.{◌≡◌}
+use Rattle.ddt_register.specs.declared.register.Register.{Register}
+use Rattle.ddt_trie.specs.Trie.{trie_content}
+use Rattle.ddt_warnings.specs.declared.index.Index.{Index}
+use Rattle.ddt_warnings.specs.Found.{IsTree, HasItems, HasParents, HasMixed, HasServers, HasNames, AreInOrder}
+use Rattle.ddt_warnings.specs.Reach.{is_on_loopback}
+
+-- the register whose index it is
+abbrev pub register_of : Index → Register
+register_of index = index.tree.register.now
+
+-- the index holds what is in the register
+pub record IsIndex (index : Index) : Type 0 where
+  pub tree : IsTree index.tree
+  pub parents : HasParents (register_of index) index.children.parents
+  pub mixed : HasMixed (register_of index) index.children.mixed
+  pub sites : HasItems (λ s. s.prefix) (register_of index).sites (trie_content index.sites)
+  pub order : AreInOrder (register_of index) index.order.items
+  pub servers : HasServers (register_of index).groups index.servers
+  pub named : HasNames (register_of index).zones index.named
+  pub rig : index.is_rig ≡ is_on_loopback (register_of index)

@@ -1,0 +1,104 @@
+//! The kinds of warnings, and their names.
+
+ghost use Rattle.std.specs.Prelude.{◌≡◌, ◌≢◌, MatchOption};
+ghost use Rattle.ddt_warnings.specs.declared.kind.Kind.{Kind as AKind};
+ghost use Rattle.ddt_warnings.specs.Names.{name_of, kind_number};
+
+use std::fmt;
+
+/// What may be mostly a mistake, in the order in which the warnings of a row are told.
+#[derive(Clone, Copy, Debug, PartialEq, Eq, PartialOrd, Ord)]
+pub enum Kind {
+    /// A group's locator that can't be reached from elsewhere: unspecified, link-local, multicast or broadcast; a
+    /// loopback one too, unless the register is wholly on the loopback.
+    UnreachableLocator,
+    /// An ETR stands twice in a site.
+    RepeatedEtr,
+    /// An ETR of a site is a locator of a group.
+    EtrIsServer,
+    /// A site covers a group's locator in instance 0.
+    LocatorInsideEids,
+    /// No zone names the group.
+    GroupWithoutZone,
+    /// A zone of DDT nodes has no zone below it.
+    NodeZoneWithoutChild,
+    /// A zone of DDT nodes stands between a zone and those directly below it, which share another group.
+    ZoneBetween,
+    /// The sites just before and just behind a site are near, and served by one group, the site itself by another.
+    SiteInOtherRegion,
+}
+
+impl Kind {
+    /// All kinds, in their order.
+    pub const ALL: [Kind; 8] = [
+        Kind::UnreachableLocator,
+        Kind::RepeatedEtr,
+        Kind::EtrIsServer,
+        Kind::LocatorInsideEids,
+        Kind::GroupWithoutZone,
+        Kind::NodeZoneWithoutChild,
+        Kind::ZoneBetween,
+        Kind::SiteInOtherRegion,
+    ];
+
+    /// The kind of this name; None of any other text.
+    pub fn of(name: &str) -> Option<Kind>
+        ensures { MatchOption result ((kind : AKind) → name_of kind ≢ name.now) (λ kind. name_of kind ≡ name.now) }
+    {
+        match name {
+            "unreachable-locator" => Some(Kind::UnreachableLocator),
+            "repeated-etr" => Some(Kind::RepeatedEtr),
+            "etr-is-server" => Some(Kind::EtrIsServer),
+            "locator-inside-eids" => Some(Kind::LocatorInsideEids),
+            "group-without-zone" => Some(Kind::GroupWithoutZone),
+            "node-zone-without-child" => Some(Kind::NodeZoneWithoutChild),
+            "zone-between" => Some(Kind::ZoneBetween),
+            "site-in-other-region" => Some(Kind::SiteInOtherRegion),
+            _ => None,
+        }
+    }
+
+    /// Its place in `ALL`, from 0.
+    pub(crate) fn place(self) -> u8
+        ensures { result ≡ kind_number self }
+    {
+        match self {
+            Kind::UnreachableLocator => 0,
+            Kind::RepeatedEtr => 1,
+            Kind::EtrIsServer => 2,
+            Kind::LocatorInsideEids => 3,
+            Kind::GroupWithoutZone => 4,
+            Kind::NodeZoneWithoutChild => 5,
+            Kind::ZoneBetween => 6,
+            Kind::SiteInOtherRegion => 7,
+        }
+    }
+
+    /// Its name.
+    pub fn name(self) -> &'static str
+        ensures { result.now ≡ name_of self }
+    {
+        match self {
+            Kind::UnreachableLocator => "unreachable-locator",
+            Kind::RepeatedEtr => "repeated-etr",
+            Kind::EtrIsServer => "etr-is-server",
+            Kind::LocatorInsideEids => "locator-inside-eids",
+            Kind::GroupWithoutZone => "group-without-zone",
+            Kind::NodeZoneWithoutChild => "node-zone-without-child",
+            Kind::ZoneBetween => "zone-between",
+            Kind::SiteInOtherRegion => "site-in-other-region",
+        }
+    }
+}
+
+/// The name.
+impl fmt::Display for Kind {
+    ghost use Rattle.std.specs.Prelude.{Some};
+    ghost use Rattle.ddt_warnings.specs.Names.{name_of};
+
+    ghost output = { λ kind. Some (name_of kind) };
+
+    fn fmt<W: fmt::Write>(&self, f: &mut fmt::Formatter<W>) -> fmt::Result {
+        f.write_str(self.name())
+    }
+}

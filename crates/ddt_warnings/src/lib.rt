@@ -1,0 +1,25 @@
+//! What an accepted register has that is mostly a mistake, though it breaks no rule.
+//!
+//! In reading order: `kind`, `reach`, `warning`, `telling`, `warned`, `of_groups`, `of_sites`, `of_zones`, and `index`
+//! with `by_prefix`, `zone_tree`, `children`, `servers` and `order` below it.
+#![tactic(auto)]
+
+mod by_prefix;
+mod children;
+mod index;
+mod kind;
+mod of_groups;
+mod of_sites;
+mod of_zones;
+mod order;
+mod reach;
+mod servers;
+mod telling;
+mod warned;
+mod warning;
+mod zone_tree;
+
+pub use kind::Kind;
+pub use reach::{Reach, reach_of};
+pub use telling::warnings;
+pub use warning::{Finding, Warning};

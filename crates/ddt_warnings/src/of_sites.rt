@@ -1,0 +1,127 @@
+//! What a site may have that is mostly a mistake.
+
+ghost use Rattle.std.specs.Prelude.{◌≡◌, ◌&&◌};
+ghost use Rattle.std.specs.List.{Contains, count_by};
+ghost use Rattle.ddt_path.specs.Locators.{is_same_locator};
+ghost use Rattle.std.specs.Option.{option_copied};
+ghost use Rattle.ddt_warnings.specs.Found.{IsFound};
+ghost use Rattle.ddt_warnings.specs.Index.{IsIndex, register_of};
+ghost use Rattle.ddt_warnings.specs.Warnings.{site_has, is_repeated as is_repeated_of, is_server, is_in_other_region, len_above as len_above_of, are_near as are_near_sites, is_odd as is_odd_site, have_one_group as have_one_group_of};
+
+use crate::index::Index;
+use crate::kind::Kind;
+use crate::order::neighbours;
+use crate::servers::address;
+use crate::warned::{Warned, first_found};
+use crate::warning::Finding;
+use ddt_path::Locator;
+use ddt_register::{Site, Zone};
+
+impl Warned for Site {
+    ghost items_of = { λ r. r.sites };
+
+    ghost has = { site_has };
+
+    fn find(&self, index: &Index, kind: Kind) -> Option<Finding> {
+        let etrs = self.etrs.as_slice();
+        match kind {
+            Kind::RepeatedEtr => first_found(etrs, |l| repeated_etr(self, *l)),
+            Kind::EtrIsServer => first_found(etrs, |l| etr_is_server(index, *l)),
+            Kind::SiteInOtherRegion => in_other_region(index, self),
+            _ => None,
+        }
+    }
+}
+
+/// An ETR that stands more than once in a site, of which there are at most 8.
+fn repeated_etr(site: &Site, etr: Locator) -> Option<Finding>
+    ensures { IsFound (is_repeated_of site.now.etrs etr) Kind.RepeatedEtr result }
+{
+    is_repeated(site.etrs.as_slice(), etr).then_some(Finding::RepeatedEtr { etr })
+}
+
+fn is_repeated(etrs: &[Locator], etr: Locator) -> bool
+    ensures { result ≡ is_repeated_of etrs.now etr }
+{
+    times(etrs, etr) > 1
+}
+
+/// How often a locator stands in a list.
+fn times(etrs: &[Locator], etr: Locator) -> usize
+    ensures { result ≡ count_by (λ l. is_same_locator l etr) etrs.now }
+{
+    etrs.iter().filter(|l| **l == etr).count()
+}
+
+/// Whether an ETR is a locator of a group.
+fn etr_is_server(index: &Index, etr: Locator) -> Option<Finding>
+    requires { IsIndex index.now }
+    ensures { IsFound (is_server (register_of index.now) etr) Kind.EtrIsServer result }
+{
+    let group = *index.servers.get(&address(etr))?;
+    Some(Finding::EtrIsServer { etr, group })
+}
+
+/// Whether the sites just before and just behind are near, and served by one group, and the site by another.
+fn in_other_region(index: &Index, site: &Site) -> Option<Finding>
+    requires index { IsIndex index.now }
+    requires member { Contains (register_of index.now).sites site.now }
+    ensures { IsFound (is_in_other_region (register_of index.now) site.now) Kind.SiteInOtherRegion result }
+{
+    let (before, behind) = neighbours(index.order.as_slice(), site)?;
+    is_other(index, site, before, behind).then_some(Finding::SiteInOtherRegion {
+        before: before.row,
+        behind: behind.row,
+    })
+}
+
+/// Whether two sites are near, and served by one group, and a third one by another.
+fn is_other(index: &Index, site: &Site, before: &Site, behind: &Site) -> bool
+    requires { IsIndex index.now }
+    ensures { result ≡ (are_near_sites (register_of index.now) site.now before.now behind.now
+        && is_odd_site (register_of index.now) site.now before.now behind.now) }
+{
+    are_near(index, site, before, behind) && is_odd(index, site, before, behind)
+}
+
+/// Whether two sites are of one instance and family, and share more digits than the zone directly above a third one's
+/// has.
+fn are_near(index: &Index, site: &Site, before: &Site, behind: &Site) -> bool
+    requires { IsIndex index.now }
+    ensures { result ≡ are_near_sites (register_of index.now) site.now before.now behind.now }
+{
+    before.prefix.longest_common(behind.prefix).len() > len_above(index, site).max(32)
+}
+
+/// How many digits the zone directly above a site's own has; 0 of the root.
+fn len_above(index: &Index, site: &Site) -> u8
+    requires { IsIndex index.now }
+    ensures { result ≡ len_above_of (register_of index.now) site.now }
+{
+    let Some(zone) = index.tree.zone_of(site.prefix) else {
+        return 0;
+    };
+    match index.tree.zone_above(zone) {
+        Some(above) => above.prefix.len(),
+        None => 0,
+    }
+}
+
+/// Whether one group serves two sites, and another one the third.
+fn is_odd(index: &Index, site: &Site, before: &Site, behind: &Site) -> bool
+    requires { IsIndex index.now }
+    ensures { result ≡ is_odd_site (register_of index.now) site.now before.now behind.now }
+{
+    let first = index.tree.zone_of(before.prefix);
+    have_one_group(first, index.tree.zone_of(behind.prefix))
+        && !have_one_group(index.tree.zone_of(site.prefix), first)
+}
+
+fn have_one_group(first: Option<&Zone>, second: Option<&Zone>) -> bool
+    ensures { result ≡ have_one_group_of (option_copied first.entry) (option_copied second.entry) }
+{
+    match (first, second) {
+        (Some(first), Some(second)) => first.group == second.group,
+        _ => false,
+    }
+}

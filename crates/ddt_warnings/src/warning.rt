@@ -1,0 +1,133 @@
+//! A warning: a row of the register, and what was found in it.
+
+ghost use Rattle.std.specs.Prelude.{◌≡◌};
+ghost use Rattle.ddt_warnings.specs.Findings.{kind_of as kind_of_finding, other_of};
+
+use crate::kind::Kind;
+use crate::reach::Reach;
+use ddt_path::Locator;
+use std::fmt;
+use std::net::{Ipv4Addr, Ipv6Addr};
+
+/// What was found in a row. Numbers are rows of the register, as those of its items.
+#[derive(Clone, Copy, Debug, PartialEq, Eq)]
+pub enum Finding {
+    /// The first locator of the group that can't be reached, and why.
+    UnreachableLocator { locator: Locator, reach: Reach },
+    /// The first ETR of the site that stands in it again.
+    RepeatedEtr { etr: Locator },
+    /// The first ETR of the site that is a server's, and the row of the server's group.
+    EtrIsServer { etr: Locator, group: u32 },
+    /// The first locator of the group that a site covers, and the row of the longest such site.
+    LocatorInsideEids { locator: Locator, site: u32 },
+    GroupWithoutZone,
+    NodeZoneWithoutChild,
+    /// The row of the zone directly above.
+    ZoneBetween { above: u32 },
+    /// The rows of the sites just before and just behind.
+    SiteInOtherRegion { before: u32, behind: u32 },
+}
+
+/// What a row has that is mostly a mistake.
+#[derive(Clone, Copy, Debug, PartialEq, Eq)]
+pub struct Warning {
+    /// The row of the group, site or zone, 1 to 65,535.
+    pub row: u32,
+    pub finding: Finding,
+}
+
+impl Finding {
+    /// Its kind, by which it can be turned off.
+    pub fn kind(self) -> Kind
+        ensures { result ≡ kind_of_finding self }
+    {
+        match self {
+            Finding::UnreachableLocator { .. } => Kind::UnreachableLocator,
+            Finding::RepeatedEtr { .. } => Kind::RepeatedEtr,
+            Finding::EtrIsServer { .. } => Kind::EtrIsServer,
+            Finding::LocatorInsideEids { .. } => Kind::LocatorInsideEids,
+            Finding::GroupWithoutZone => Kind::GroupWithoutZone,
+            Finding::NodeZoneWithoutChild => Kind::NodeZoneWithoutChild,
+            Finding::ZoneBetween { .. } => Kind::ZoneBetween,
+            Finding::SiteInOtherRegion { .. } => Kind::SiteInOtherRegion,
+        }
+    }
+}
+
+impl Finding {
+    /// The row of the item that it names, if it names one: the group of a server, the site that covers a locator, the
+    /// zone directly above, or the site just before.
+    pub fn other(self) -> Option<u32>
+        ensures { result ≡ other_of self }
+    {
+        match self {
+            Finding::EtrIsServer { group, .. } => Some(group),
+            Finding::LocatorInsideEids { site, .. } => Some(site),
+            Finding::ZoneBetween { above } => Some(above),
+            Finding::SiteInOtherRegion { before, .. } => Some(before),
+            _ => None,
+        }
+    }
+}
+
+/// A locator as it is written.
+#[derive(Clone, Copy)]
+struct Shown(Locator);
+
+impl fmt::Display for Shown {
+    ghost use Rattle.std.specs.Prelude.{Some};
+    ghost use Rattle.ddt_text.specs.Written.{written_locator};
+
+    ghost output = { λ shown. Some (written_locator shown.0) };
+
+    #[tactic(auto, using(ddt_text::specs::laws::Written::shown))]
+    fn fmt<W: fmt::Write>(&self, f: &mut fmt::Formatter<W>) -> fmt::Result {
+        match self.0 {
+            Locator::V4(number) => write!(f, "{}", Ipv4Addr::from_bits(number)),
+            Locator::V6(number) => write!(f, "{}", Ipv6Addr::from_bits(number).hex_groups()),
+        }
+    }
+}
+
+/// The reason, without the rows.
+impl fmt::Display for Finding {
+    ghost use Rattle.std.specs.Prelude.{Some};
+    ghost use Rattle.ddt_warnings.specs.Findings.{text_of};
+
+    ghost output = { λ finding. Some (text_of finding) };
+
+    fn fmt<W: fmt::Write>(&self, f: &mut fmt::Formatter<W>) -> fmt::Result {
+        match self {
+            Finding::UnreachableLocator { locator, reach } => {
+                write!(f, "the locator {} is {reach}", Shown(*locator))
+            }
+            Finding::RepeatedEtr { etr } => write!(f, "the ETR {} stands twice", Shown(*etr)),
+            Finding::EtrIsServer { etr, .. } => {
+                write!(f, "the ETR {} is a locator of a group", Shown(*etr))
+            }
+            Finding::LocatorInsideEids { locator, .. } => {
+                write!(f, "the locator {} is inside a site", Shown(*locator))
+            }
+            Finding::GroupWithoutZone => f.write_str("no zone names the group"),
+            Finding::NodeZoneWithoutChild => f.write_str("no zone is below this one of DDT nodes"),
+            Finding::ZoneBetween { .. } => {
+                f.write_str("the zones above and below share a group that isn't its own")
+            }
+            Finding::SiteInOtherRegion { .. } => {
+                f.write_str("the sites just before and behind share a group that isn't its own")
+            }
+        }
+    }
+}
+
+/// The reason, without the rows.
+impl fmt::Display for Warning {
+    ghost use Rattle.std.specs.Prelude.{Some};
+    ghost use Rattle.ddt_warnings.specs.Findings.{text_of};
+
+    ghost output = { λ warning. Some (text_of warning.finding) };
+
+    fn fmt<W: fmt::Write>(&self, f: &mut fmt::Formatter<W>) -> fmt::Result {
+        self.finding.fmt(f)
+    }
+}

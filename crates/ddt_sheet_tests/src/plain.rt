@@ -8,8 +8,8 @@ use std::process::Abort;
 /// The text that is told of a file named `r.csv` in which these rules are broken.
 fn told_of(alloc: Global, rt: &impl Abort, bytes: &[u8], broken: &[BrokenRule]) -> String {
     let find = |_register: &Register| Vec::from_slice(alloc, broken);
-    let faults = told_faults(alloc, "r.csv", bytes, find).expect(rt, "faults");
-    let text = told_text(alloc, &faults).expect(rt, "a text");
+    let faults = told_faults(alloc, bytes, find).expect(rt, "faults");
+    let text = told_text(alloc, "r.csv", &faults).expect(rt, "a text");
     String::from_utf8_lossy(alloc, &text).expect(rt, "a text")
 }
 

@@ -11,7 +11,7 @@ use std::test::Fail;
 const FILE: &[u8] = b"kind\tprefix\tgroup\taddresses\nnode\t*\t\t\n";
 
 fn faults(alloc: Global) -> Result<Vec<FaultLine>, ReadFault> {
-    told_faults(alloc, "r.csv", FILE, |_register: &Register| {
+    told_faults(alloc, FILE, |_register: &Register| {
         let none: Vec<BrokenRule> = Vec::new(alloc);
         Ok(none)
     })

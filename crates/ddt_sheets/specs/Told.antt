@@ -31,9 +31,21 @@ abbrev pub Tells : (Register → Result (Vec BrokenRule) AllocError → Type 0) 
 Tells finds (Ok lists) told = TellsBroken finds lists told
 Tells finds (Err fault) told = 0 < length told
 
+-- where a fault stands: the file's name, and the line
+abbrev pub place_text : List ℕ → ℕ → List ℕ
+place_text name line = name ++ codes ":" ++ decimal line
+
+-- what is told of it, and the end of the line
+abbrev pub ended_text : List ℕ → List ℕ
+ended_text told = codes ": " ++ told ++ codes "\n"
+
+-- the line of a fault
+abbrev pub fault_text : List ℕ → FaultLine → List ℕ
+fault_text name f = place_text name f.line ++ ended_text (string_bytes f.text)
+
 -- the line of each fault
-abbrev pub lines_text : List FaultLine → List ℕ
-lines_text faults = flat_map (λ f. string_bytes f.text ++ codes "\n") faults
+abbrev pub lines_text : List ℕ → List FaultLine → List ℕ
+lines_text name faults = flat_map (fault_text name) faults
 
 -- how many faults there are
 abbrev pub count_text : ℕ → List ℕ
@@ -43,5 +55,5 @@ count_text n =
     else decimal n ++ codes " faults\n"
 
 -- the line of each fault, and how many there are
-abbrev pub faults_text : List FaultLine → List ℕ
-faults_text faults = lines_text faults ++ count_text (length faults)
+abbrev pub faults_text : List ℕ → List FaultLine → List ℕ
+faults_text name faults = lines_text name faults ++ count_text (length faults)

@@ -5,14 +5,14 @@ use std::fmt;
 
 /// Which byte of a code unit of UTF-16 comes first.
 #[derive(Clone, Copy, Debug, PartialEq, Eq)]
-pub enum ByteOrder {
+pub(crate) enum ByteOrder {
     LittleEndian,
     BigEndian,
 }
 
 /// What a whole file differs in. It is told once, at the line where it is first seen.
 #[derive(Debug, Drop)]
-pub enum Difference {
+pub(crate) enum Difference {
     /// The text isn't UTF-8.
     Utf16(ByteOrder),
     /// Fields are divided by semicolons.
@@ -39,7 +39,7 @@ pub enum Difference {
 
 impl Difference {
     /// The fault by whose number and name the difference is told.
-    pub fn fault(&self) -> ReadFault {
+    pub(crate) fn fault(&self) -> ReadFault {
         match self {
             Difference::Blanks(fault) => *fault,
             Difference::Comments => ReadFault::Csv(0),

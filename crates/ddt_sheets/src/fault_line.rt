@@ -30,6 +30,6 @@ pub struct FaultLine {
     /// The line of the file, from 1.
     pub line: u64,
     pub about: About,
-    /// `FILE:LINE: NUMBER NAME: reason`, without a line end.
+    /// Its number, its name and the reason, as `4 Prefix: there is no prefix`.
     pub text: String,
 }

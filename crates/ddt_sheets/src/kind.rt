@@ -2,7 +2,7 @@
 
 /// What a record defines.
 #[derive(Clone, Copy, Debug, PartialEq, Eq)]
-pub enum RecordKind {
+pub(crate) enum RecordKind {
     Group,
     Zone,
     Site,
@@ -11,7 +11,7 @@ pub enum RecordKind {
 impl RecordKind {
     /// What a record with this first field is meant to define, without regard to capital letters; None where the field
     /// doesn't say.
-    pub fn named(text: &[u8]) -> Option<RecordKind> {
+    pub(crate) fn named(text: &[u8]) -> Option<RecordKind> {
         let is = |name: &str| text.eq_ignore_ascii_case(name.as_bytes());
         if is("group-node") || is("group-ms") {
             Some(RecordKind::Group)

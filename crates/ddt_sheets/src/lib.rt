@@ -1,8 +1,8 @@
 //! A register's file as people and spreadsheets write it, and every fault of it.
 //!
 //! In reading order: `difference`, `notes`, `kind`, `unread`, `sheet` (what a file holds); `decoding`, `dividing`,
-//! `line_count`, `columns`, `rows`, `reading` (how it is read); `broken_rule`, `fault_line`, `causes`, `rule_reasons`,
-//! `printed`, `telling` (what is told of it).
+//! `line_count`, `columns`, `rows`, `reading` (how it is read); `broken_rule`, `fault_line`, `causes`, `field_reasons`,
+//! `rule_reasons`, `printed`, `telling` (what is told of it), `printing`.
 #![tactic(auto)]
 
 mod broken_rule;
@@ -12,10 +12,12 @@ mod decoding;
 mod difference;
 mod dividing;
 mod fault_line;
+mod field_reasons;
 mod kind;
 mod line_count;
 mod notes;
 mod printed;
+mod printing;
 mod reading;
 mod rows;
 mod rule_reasons;
@@ -24,11 +26,6 @@ mod telling;
 mod unread;
 
 pub use broken_rule::BrokenRule;
-pub use difference::{ByteOrder, Difference};
 pub use fault_line::{About, FaultLine, Standing};
-pub use kind::RecordKind;
-pub use notes::Noted;
-pub use reading::read_sheet;
-pub use sheet::Sheet;
-pub use telling::{told_faults, told_text};
-pub use unread::Unread;
+pub use printing::told_text;
+pub use telling::told_faults;

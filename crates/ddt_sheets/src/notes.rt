@@ -6,10 +6,10 @@ use std::alloc::{AllocError, Global};
 
 /// What a file differs in, and the line where that is first seen.
 #[derive(Debug, Drop)]
-pub struct Noted {
+pub(crate) struct Noted {
     /// The line, from 1.
-    pub line: u64,
-    pub difference: Difference,
+    pub(crate) line: u64,
+    pub(crate) difference: Difference,
 }
 
 /// The differences so far.

@@ -250,8 +250,8 @@ fn read_lines(alloc: Global, text: &[u8], mut notes: Notes) -> Result<Sheet, Rea
     Ok(reader.into_sheet())
 }
 
-/// The sheet that a file spells.
-pub fn read_sheet(alloc: Global, bytes: &[u8]) -> Result<Sheet, ReadFault> {
+/// The sheet that a file spells. Refused as 8 Read where the reader fails, and as 9 Memory where memory runs out.
+pub(crate) fn read_sheet(alloc: Global, bytes: &[u8]) -> Result<Sheet, ReadFault> {
     let mut notes = Notes::new(alloc);
     match utf16_of(bytes) {
         Some((order, units)) => {

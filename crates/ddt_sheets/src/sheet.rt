@@ -6,15 +6,15 @@ use ddt_register::Register;
 
 /// A register's file, read as far as its sense is plain.
 #[derive(Debug, Drop)]
-pub struct Sheet {
+pub(crate) struct Sheet {
     /// What the whole file differs in, in the order in which it was seen.
-    pub differences: Vec<Noted>,
+    pub(crate) differences: Vec<Noted>,
     /// The records that are no rows, in order.
-    pub unread: Vec<Unread>,
+    pub(crate) unread: Vec<Unread>,
     /// The line of each row, the unread ones too, from row 1 on.
-    pub lines: Vec<u64>,
+    pub(crate) lines: Vec<u64>,
     /// The rows that are read; None where a column is missing, so that none is looked at.
-    pub register: Option<Register>,
+    pub(crate) register: Option<Register>,
 }
 
 /// The line of a row, given those of all rows; line 1 for row 0, which is none.

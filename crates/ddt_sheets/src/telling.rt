@@ -2,11 +2,10 @@
 
 ghost use Rattle.std.specs.Prelude.{◌≡◌, ◌<◌, ◌++◌, List, ℕ, map, length, true, IfOk, IfErr, OnOk};
 ghost use Rattle.std.specs.Fn.{FnReturnsAt};
-ghost use Rattle.std.specs.String.{string_bytes};
 ghost use Rattle.csv.specs.Reading.{default_config, records, strip_bom};
 ghost use Rattle.ddt_register.specs.Left.{stops};
 ghost use Rattle.ddt_register.specs.Spelled.{spelled};
-ghost use Rattle.ddt_sheets.specs.Told.{Tells, faults_text, count_text, lines_text, abouts, rules_of};
+ghost use Rattle.ddt_sheets.specs.Told.{Tells, abouts, rules_of};
 
 use crate::broken_rule::BrokenRule;
 use crate::causes::Causes;
@@ -24,8 +23,6 @@ use std::alloc::{AllocError, Global};
 #[derive(Clone, Copy)]
 struct Telling<'a> {
     lined: Lined<'a>,
-    /// The name of the file.
-    name: &'a str,
     /// The records that can't be read.
     causes: &'a Causes,
 }
@@ -48,24 +45,18 @@ impl Telling<'_> {
         ensures { IfOk result (λ fault. fault.about ≡ About.Rule broken) }
     {
         let alloc = self.lined.alloc;
-        let (name, rule) = (self.name, broken.rule);
-        let line = line_of(self.lined.lines, broken.row);
+        let rule = broken.rule;
         let reason = self.lined.reason(broken)?;
         let (standing, text) = match self.cause(broken) {
             Some(cause) => (
                 Standing::Follows,
-                format!(in alloc;
-                    "{name}:{line}: {rule}: {reason} (follows: line {cause} can't be read)"
-                )?,
+                format!(in alloc; "{rule}: {reason} (follows: line {cause} can't be read)")?,
             ),
-            None => (
-                Standing::Record,
-                format!(in alloc; "{name}:{line}: {rule}: {reason}")?,
-            ),
+            None => (Standing::Record, format!(in alloc; "{rule}: {reason}")?),
         };
         Ok(FaultLine {
             standing,
-            line,
+            line: line_of(self.lined.lines, broken.row),
             about: About::Rule(broken),
             text,
         })
@@ -87,19 +78,19 @@ impl Telling<'_> {
 }
 
 /// The line of what a file differs in. Fails only if out of memory.
-fn difference_line(alloc: Global, name: &str, noted: &Noted) -> Result<FaultLine, AllocError> {
+fn difference_line(alloc: Global, noted: &Noted) -> Result<FaultLine, AllocError> {
     let Noted { line, difference } = noted;
     let fault = difference.fault();
     Ok(FaultLine {
         standing: Standing::File,
         line: *line,
         about: About::Reading(fault),
-        text: format!(in alloc; "{name}:{line}: {fault}: {difference}")?,
+        text: format!(in alloc; "{fault}: {difference}")?,
     })
 }
 
 /// The line of a record that can't be read. Fails only if out of memory.
-fn record_line(alloc: Global, name: &str, unread: &Unread) -> Result<FaultLine, AllocError> {
+fn record_line(alloc: Global, unread: &Unread) -> Result<FaultLine, AllocError> {
     let Unread {
         line,
         fault,
@@ -110,44 +101,38 @@ fn record_line(alloc: Global, name: &str, unread: &Unread) -> Result<FaultLine, 
         standing: Standing::Record,
         line: *line,
         about: About::Reading(*fault),
-        text: format!(in alloc; "{name}:{line}: {fault}: {reason}")?,
+        text: format!(in alloc; "{fault}: {reason}")?,
     })
 }
 
 /// The line of the fault for which `ddt` refuses a file. Fails only if out of memory.
-fn refusal_line(
-    alloc: Global,
-    name: &str,
-    lines: &[u64],
-    fault: ReadFault,
-) -> Result<FaultLine, AllocError> {
+fn refusal_line(alloc: Global, lines: &[u64], fault: ReadFault) -> Result<FaultLine, AllocError> {
     let line = line_of(lines, fault.row().unwrap_or(0));
     Ok(FaultLine {
         standing: Standing::File,
         line,
         about: About::Reading(fault),
-        text: format!(in alloc; "{name}:{line}: {fault}: the file can't be read from here on")?,
+        text: format!(in alloc; "{fault}: the file can't be read from here on")?,
     })
 }
 
 /// The lines of what a file differs in, and of the records that can't be read. Fails only if out of memory.
-fn reading_lines(alloc: Global, name: &str, sheet: &Sheet) -> Result<Vec<FaultLine>, AllocError> {
+fn reading_lines(alloc: Global, sheet: &Sheet) -> Result<Vec<FaultLine>, AllocError> {
     let mut faults = Vec::new(alloc);
     for noted in &sheet.differences {
-        faults.push(difference_line(alloc, name, noted)?)?;
+        faults.push(difference_line(alloc, noted)?)?;
     }
-    push_records(alloc, name, &sheet.unread, &mut faults)?;
+    push_records(alloc, &sheet.unread, &mut faults)?;
     Ok(faults)
 }
 
 fn push_records(
     alloc: Global,
-    name: &str,
     unread: &[Unread],
     faults: &mut Vec<FaultLine>,
 ) -> Result<(), AllocError> {
     for record in unread {
-        faults.push(record_line(alloc, name, record)?)?;
+        faults.push(record_line(alloc, record)?)?;
     }
     Ok(())
 }
@@ -155,7 +140,6 @@ fn push_records(
 /// The lines of the rules that a register breaks, which the file spells.
 fn told_rules(
     alloc: Global,
-    name: &str,
     bytes: &[u8],
     register: &Register,
     broken: &[BrokenRule],
@@ -174,7 +158,6 @@ fn told_rules(
             register,
             lines: &sheet.lines,
         },
-        name,
         causes: &Causes::of(alloc, &[])?,
     };
     telling.push_rules(broken, &mut faults)?;
@@ -184,7 +167,6 @@ fn told_rules(
 /// The lines of the faults of a file that spells no register, for this reason.
 fn told_unread<F>(
     alloc: Global,
-    name: &str,
     bytes: &[u8],
     fault: ReadFault,
     find: F,
@@ -196,7 +178,7 @@ where
     ensures refused { IfErr result (λ fault. stops fault ≡ true) }
 {
     let sheet = read_sheet(alloc, bytes)?;
-    let mut faults = reading_lines(alloc, name, &sheet)?;
+    let mut faults = reading_lines(alloc, &sheet)?;
     if let Some(register) = &sheet.register {
         let telling = Telling {
             lined: Lined {
@@ -204,32 +186,26 @@ where
                 register,
                 lines: &sheet.lines,
             },
-            name,
             causes: &Causes::of(alloc, &sheet.unread)?,
         };
         telling.push_rules(&find(register)?, &mut faults)?;
     }
     if faults.is_empty() {
-        let refusal = refusal_line(alloc, name, &sheet.lines, fault)?;
+        let refusal = refusal_line(alloc, &sheet.lines, fault)?;
         faults.push(refusal).map_err(AllocError::from)?;
     }
     faults.sort_by_key(|fault| (fault.standing, fault.line))?;
     Ok(faults)
 }
 
-/// Every fault of a register's file, whose name and bytes are given. `find` finds the rules that a register breaks.
+/// Every fault of a register's file, whose bytes are given. `find` finds the rules that a register breaks.
 ///
 /// - Of a file that `ddt` reads: the broken rules, in the order in which `find` gives them.
 /// - Of any other: what the whole file differs in, then the records that can't be read and the broken rules by their
 ///   lines, then the broken rules that may follow from a record that can't be read. There is at least one.
 ///
 /// Refused as 8 Read where the reader fails, and as 9 Memory where memory runs out.
-pub fn told_faults<F>(
-    alloc: Global,
-    name: &str,
-    bytes: &[u8],
-    find: F,
-) -> Result<Vec<FaultLine>, ReadFault>
+pub fn told_faults<F>(alloc: Global, bytes: &[u8], find: F) -> Result<Vec<FaultLine>, ReadFault>
 where
     F: Fn(&Register) -> Result<Vec<BrokenRule>, AllocError> + Drop,
     requires { F.IsAlwaysCallable find }
@@ -240,42 +216,10 @@ where
     match read_register(alloc, bytes) {
         Ok(register) => {
             let broken = find(&register)?;
-            told_rules(alloc, name, bytes, &register, &broken)
+            told_rules(alloc, bytes, &register, &broken)
         }
         Err(ReadFault::Read) => Err(ReadFault::Read),
         Err(ReadFault::Memory) => Err(ReadFault::Memory),
-        Err(fault) => told_unread(alloc, name, bytes, fault, find),
-    }
-}
-
-/// A line for each fault, and a last one with their number. Fails only if out of memory.
-pub fn told_text(alloc: Global, faults: &[FaultLine]) -> Result<Vec<u8>, AllocError>
-    ensures { IfOk result (λ text. text.items ≡ faults_text faults.now) }
-{
-    let mut text = Vec::new(alloc);
-    push_lines(&mut text, faults)?;
-    let last = count_line(alloc, faults.len())?;
-    text.extend_from_slice(last.as_bytes())?;
-    Ok(text)
-}
-
-fn push_lines(text: &mut Vec<u8>, faults: &[FaultLine]) -> Result<(), AllocError>
-    ensures { OnOk result (text.new.items ≡ text.old.items ++ lines_text faults.now) }
-{
-    for fault in faults {
-        text.extend_from_slice(fault.text.as_bytes())?;
-        text.push(b'\n')?;
-    }
-    Ok(())
-}
-
-/// The last line, of how many faults there are.
-fn count_line(alloc: Global, count: usize) -> Result<String, AllocError>
-    ensures { IfOk result (λ text. string_bytes text ≡ count_text count) }
-{
-    match count {
-        0 => format!(in alloc; "no fault\n"),
-        1 => format!(in alloc; "1 fault\n"),
-        _ => format!(in alloc; "{count} faults\n"),
+        Err(fault) => told_unread(alloc, bytes, fault, find),
     }
 }

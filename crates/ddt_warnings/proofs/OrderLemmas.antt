@@ -19,7 +19,8 @@ use Rattle.ddt_register.specs.declared.site.Site.{Site}
 use Rattle.ddt_register.specs.declared.register.Register.{Register}
 use Rattle.ddt_register.specs.laws.RowOrder.{rising_from_rise, rows_apart}
 use Rattle.ddt_register.specs.laws.Rising.{sites_rise}
-use Rattle.ddt_check.specs.Order.{AreSitesInOrder, in_order}
+use Rattle.ddt_check.specs.Order.{in_order}
+use Rattle.ddt_warnings.specs.Order.{AreSitesInOrder}
 use Rattle.ddt_check.specs.Rules.{IsAccepted}
 use Rattle.ddt_check.specs.laws.Order.{far}
 use Rattle.ddt_check.specs.laws.Kept.{one_site}

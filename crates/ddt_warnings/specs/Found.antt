@@ -22,7 +22,7 @@ use Rattle.ddt_trie.specs.PrefixMap.{path_cmp}
 use Rattle.ddt_register.specs.declared.zone.Zone.{Zone}
 use Rattle.ddt_register.specs.declared.site.Site.{Site}
 use Rattle.ddt_register.specs.declared.register.Register.{Register}
-use Rattle.ddt_check.specs.Order.{AreSitesInOrder}
+use Rattle.ddt_warnings.specs.Order.{AreSitesInOrder}
 use Rattle.ddt_check.specs.Rules.{IsAccepted}
 use Rattle.ddt_trie.specs.Trie.{trie_content}
 use Rattle.ddt_warnings.specs.declared.zone_tree.ZoneTree.{ZoneTree}

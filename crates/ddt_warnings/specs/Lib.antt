@@ -1,3 +1,4 @@
+pub mod Order
 pub mod Names
 pub mod Reach
 pub mod Warnings

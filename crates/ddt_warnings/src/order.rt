@@ -2,7 +2,7 @@
 
 ghost use Rattle.std.specs.Prelude.{◌≡◌, IfOk, MatchOption, map, IsPermutation};
 ghost use Rattle.ddt_register.specs.declared.register.Register.{Register as ARegister};
-ghost use Rattle.ddt_check.specs.Order.{AreSitesInOrder};
+ghost use Rattle.ddt_warnings.specs.Order.{AreSitesInOrder};
 ghost use Rattle.ddt_check.specs.Rules.{IsAccepted};
 ghost use Rattle.ddt_warnings.specs.Found.{AreInOrder, AreNeighbours, HasNone};
 ghost use Rattle.std.specs.List.{Contains};

@@ -1,5 +1,8 @@
 //! Where the four columns stand, as the first record says.
 
+ghost use Rattle.std.specs.Prelude.{◌≡◌, length, IfOk};
+ghost use Rattle.csv.specs.Records.{fields_of};
+
 use crate::difference::Difference;
 use crate::kind::RecordKind;
 use crate::printed::printed;
@@ -46,7 +49,9 @@ impl Columns {
         &self,
         alloc: Global,
         record: &ByteRecord,
-    ) -> Result<ByteRecord, AllocError> {
+    ) -> Result<ByteRecord, AllocError>
+        ensures { IfOk result (λ fields. length (fields_of fields) ≡ 4) }
+    {
         let [kind, prefix, group, addresses] = self.places;
         ByteRecord::from_fields(
             alloc,
@@ -161,7 +166,7 @@ pub(crate) fn read_head(record: &ByteRecord) -> Head {
             *place = found;
         } else if let Some(found) = stand_in(record, missing) {
             *place = found;
-            missing += 1;
+            missing = missing.saturating_add(1);
         } else {
             return Head::Without(name);
         }

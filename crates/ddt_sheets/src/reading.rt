@@ -1,5 +1,10 @@
 //! The lenient reader of a register's file.
 
+ghost use Rattle.std.specs.Prelude.{◌≡◌, ◌≤◌, IfErr, length, true};
+ghost use Rattle.csv.specs.Records.{fields_of};
+ghost use Rattle.ddt_register.specs.Left.{stops};
+ghost use Rattle.ddt_register.specs.Rows.{most_rows};
+
 use crate::columns::{Columns, Head, read_head};
 use crate::decoding::{decode_utf16, ends_by_returns, utf16_of, with_line_feeds, without_mark};
 use crate::difference::Difference;
@@ -77,7 +82,9 @@ impl<'a> SheetReader<'a> {
     }
 
     /// Reads the next record.
-    fn take(&mut self, mut record: ByteRecord) -> Result<(), ReadFault> {
+    fn take(&mut self, mut record: ByteRecord) -> Result<(), ReadFault>
+        ensures stopped { IfErr result (λ fault. stops fault ≡ true) }
+    {
         self.go_to(&record)?;
         if let Some(place) = padded_place(&record) {
             record.trim()?;
@@ -125,7 +132,9 @@ impl<'a> SheetReader<'a> {
     }
 
     /// Reads the first record.
-    fn take_head(&mut self, record: &ByteRecord) -> Result<(), ReadFault> {
+    fn take_head(&mut self, record: &ByteRecord) -> Result<(), ReadFault>
+        ensures stopped { IfErr result (λ fault. stops fault ≡ true) }
+    {
         let line = self.count.line();
         match read_head(record) {
             Head::Columns(columns) => {
@@ -147,7 +156,9 @@ impl<'a> SheetReader<'a> {
     }
 
     /// Reads a record behind the first.
-    fn take_row(&mut self, columns: Columns, record: &ByteRecord) -> Result<(), ReadFault> {
+    fn take_row(&mut self, columns: Columns, record: &ByteRecord) -> Result<(), ReadFault>
+        ensures stopped { IfErr result (λ fault. stops fault ≡ true) }
+    {
         let (row, line) = (self.next_row(), self.count.line());
         if row > MOST_ROWS {
             self.stage = Stage::Full;
@@ -175,7 +186,11 @@ impl<'a> SheetReader<'a> {
     }
 
     /// Reads the four fields of a row.
-    fn take_fields(&mut self, row: u32, fields: &ByteRecord) -> Result<(), ReadFault> {
+    fn take_fields(&mut self, row: u32, fields: &ByteRecord) -> Result<(), ReadFault>
+        requires row { row ≤ most_rows }
+        requires four { length (fields_of fields.now) ≡ 4 }
+        ensures stopped { IfErr result (λ fault. stops fault ≡ true) }
+    {
         match read_row(self.alloc, row, fields) {
             Ok(item) => self.rows.push(item)?,
             Err(ReadFault::Memory) => return Err(ReadFault::Memory),
@@ -211,7 +226,9 @@ impl<'a> SheetReader<'a> {
 }
 
 /// What is told where csv reads no record: memory ran out, or the reader failed.
-fn stopped_by(error: &csv::Error) -> ReadFault {
+fn stopped_by(error: &csv::Error) -> ReadFault
+    ensures { stops result ≡ true }
+{
     match error.kind() {
         ErrorKind::OutOfMemory => ReadFault::Memory,
         _ => ReadFault::Read,
@@ -219,7 +236,9 @@ fn stopped_by(error: &csv::Error) -> ReadFault {
 }
 
 /// The sheet that a text in UTF-8 spells, behind these notes.
-fn read_text(alloc: Global, text: &[u8], notes: Notes) -> Result<Sheet, ReadFault> {
+fn read_text(alloc: Global, text: &[u8], notes: Notes) -> Result<Sheet, ReadFault>
+    ensures stopped { IfErr result (λ fault. stops fault ≡ true) }
+{
     let text = without_mark(text);
     if ends_by_returns(text) {
         let text = with_line_feeds(alloc, text)?;
@@ -229,7 +248,9 @@ fn read_text(alloc: Global, text: &[u8], notes: Notes) -> Result<Sheet, ReadFaul
 }
 
 /// The sheet that lines spell, behind these notes.
-fn read_lines(alloc: Global, text: &[u8], mut notes: Notes) -> Result<Sheet, ReadFault> {
+fn read_lines(alloc: Global, text: &[u8], mut notes: Notes) -> Result<Sheet, ReadFault>
+    ensures stopped { IfErr result (λ fault. stops fault ≡ true) }
+{
     let divider = divider_of(text);
     match divider {
         b';' => notes.note(1, Difference::Semicolons)?,
@@ -251,7 +272,9 @@ fn read_lines(alloc: Global, text: &[u8], mut notes: Notes) -> Result<Sheet, Rea
 }
 
 /// The sheet that a file spells. Refused as 8 Read where the reader fails, and as 9 Memory where memory runs out.
-pub(crate) fn read_sheet(alloc: Global, bytes: &[u8]) -> Result<Sheet, ReadFault> {
+pub(crate) fn read_sheet(alloc: Global, bytes: &[u8]) -> Result<Sheet, ReadFault>
+    ensures stopped { IfErr result (λ fault. stops fault ≡ true) }
+{
     let mut notes = Notes::new(alloc);
     match utf16_of(bytes) {
         Some((order, units)) => {

@@ -4,8 +4,8 @@ ghost use Rattle.std.specs.Prelude.{◌≡◌, ◌<◌, ◌++◌, List, ℕ, map
 ghost use Rattle.std.specs.Fn.{FnReturnsAt};
 ghost use Rattle.csv.specs.Reading.{default_config, records, strip_bom};
 ghost use Rattle.ddt_register.specs.Left.{stops};
-ghost use Rattle.ddt_register.specs.Spelled.{spelled};
-ghost use Rattle.ddt_sheets.specs.Told.{Tells, abouts, rules_of};
+ghost use Rattle.ddt_register.specs.Spelled.{lists_of, spelled};
+ghost use Rattle.ddt_sheets.specs.Told.{Tells, TellsBroken, abouts, rules_of};
 
 use crate::broken_rule::BrokenRule;
 use crate::causes::Causes;
@@ -164,6 +164,24 @@ fn told_rules(
     Ok(faults)
 }
 
+/// The lines of the rules that are found broken in a register, which the file spells.
+fn told_found<F>(
+    alloc: Global,
+    bytes: &[u8],
+    register: &Register,
+    find: F,
+) -> Result<Vec<FaultLine>, ReadFault>
+where
+    F: Fn(&Register) -> Result<Vec<BrokenRule>, AllocError> + Drop,
+    requires { F.IsAlwaysCallable find }
+    ensures told { IfOk result (λ faults. TellsBroken (FnReturnsAt F.Fn find) (lists_of register.now)
+        (abouts faults.items)) }
+    ensures refused { IfErr result (λ fault. stops fault ≡ true) }
+{
+    let broken = find(register)?;
+    told_rules(alloc, bytes, register, &broken)
+}
+
 /// The lines of the faults of a file that spells no register, for this reason.
 fn told_unread<F>(
     alloc: Global,
@@ -214,10 +232,7 @@ where
     ensures refused { IfErr result (λ fault. stops fault ≡ true) }
 {
     match read_register(alloc, bytes) {
-        Ok(register) => {
-            let broken = find(&register)?;
-            told_rules(alloc, bytes, &register, &broken)
-        }
+        Ok(register) => told_found(alloc, bytes, &register, find),
         Err(ReadFault::Read) => Err(ReadFault::Read),
         Err(ReadFault::Memory) => Err(ReadFault::Memory),
         Err(fault) => told_unread(alloc, bytes, fault, find),

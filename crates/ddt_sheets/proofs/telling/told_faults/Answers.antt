@@ -7,5 +7,5 @@ use Rattle.ddt_sheets.proofs.telling.told_faults.Goals as goal
 pub returns-in-Ok-clause-told : goal.returns-in-Ok-clause-told
 returns-in-Ok-clause-told g c =
     IfOk-weaker c.told_found.result _ _
-        (λ faults tells. tells_spelled (FnReturnsAt g.F.Fn c.args.find) _ _ _ (c.in-Ok.ensures.spelled c.args.bytes.now refl) tells)
-        c.told_found.ensures.told
+    (λ faults tells. tells_spelled (FnReturnsAt g.F.Fn c.args.find) _ _ _ (c.in-Ok.ensures.spelled c.args.bytes.now refl) tells)
+    c.told_found.ensures.told

@@ -40,6 +40,6 @@ fn a_refused_list_is_told_by_the_next_call(rt: HostRuntime) -> Result<(), Fail> 
         row: 9,
         finding: Finding::GroupWithoutZone,
     };
-    assert_eq!(rt; told.as_slice(), &[idle]);
+    assert_eq!(rt; told.as_slice(), [idle].as_slice());
     Ok(())
 }

@@ -146,17 +146,16 @@ fn is_between(register: &Register, zone: &Zone) -> bool {
 
 /// The longest zone that covers a prefix.
 fn zone_of(register: &Register, prefix: Prefix) -> Option<Zone> {
-    let mut longest: Option<Zone> = None;
-    for zone in register.zones.as_slice() {
-        let is_longer = match longest {
-            Some(other) => zone.prefix.len() > other.prefix.len(),
-            None => true,
-        };
-        if zone.prefix.covers(prefix) && is_longer {
-            longest = Some(*zone);
-        }
-    }
-    longest
+    let zones = register.zones.as_slice();
+    zones
+        .iter()
+        .find(|z| z.prefix.covers(prefix) && !is_exceeded(zones, z, prefix))
+        .copied()
+}
+
+/// Whether a longer zone covers a prefix.
+fn is_exceeded(zones: &[Zone], zone: &Zone, prefix: Prefix) -> bool {
+    zones.iter().any(|z| z.prefix.covers(prefix) && z.prefix.len() > zone.prefix.len())
 }
 
 fn group_of(register: &Register, site: &Site) -> Option<Name> {

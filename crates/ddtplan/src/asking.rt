@@ -1,11 +1,13 @@
 //! `ddtplan ask REGISTER [XEID..]`: what real servers say, beside what the register demands.
 
+ghost use Rattle.std.specs.Prelude.{⊤};
+
 use crate::reading::{Why, accepted_at, no_memory, prefix_in, print, xeid_in};
 use ddt_asking::{Asker, FindingCounts, Manner, PatientWires, finding_line};
 use ddt_check::Accepted;
 use ddt_loop::SystemClock;
 use ddt_path::{Locator, Prefix, Xeid};
-use ddt_plan::{Block, blocks};
+use ddt_plan::{Block, Sink, blocks};
 use ddt_plan_commands::{AskAsked, End};
 use rand_core::SeedableRng;
 use rand_pcg::Pcg32;
@@ -51,18 +53,34 @@ fn identifiers_in(rt: &HostRuntime, words: &[&str]) -> Result<Vec<Xeid>, Why> {
     Ok(identifiers)
 }
 
+/// An identifier of each block, in their order.
+#[derive(Drop)]
+struct Firsts {
+    found: Vec<Xeid>,
+}
+
+impl Sink<Block> for Firsts {
+    type Refusal = AllocError;
+
+    ghost takes = { λ before block answer after. ⊤ };
+
+    fn give(&mut self, block: Block) -> Result<(), AllocError> {
+        self.found.push(block.prefix.inner())?;
+        Ok(())
+    }
+}
+
 /// An identifier of each block inside a prefix that the register assigns alike.
 fn one_of_each_block(
     alloc: Global,
     accepted: &Accepted,
     inside: Prefix,
 ) -> Result<Vec<Xeid>, AllocError> {
-    let mut found: Vec<Block> = Vec::new(alloc);
-    match blocks(alloc, accepted, inside, &mut found) {
-        Ok(()) => found
-            .into_iter()
-            .map(|block| block.prefix.inner())
-            .collect(alloc),
+    let mut firsts = Firsts {
+        found: Vec::new(alloc),
+    };
+    match blocks(alloc, accepted, inside, &mut firsts) {
+        Ok(()) => Ok(firsts.found),
         Err(_fault) => Err(AllocError),
     }
 }

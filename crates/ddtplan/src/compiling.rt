@@ -1,7 +1,5 @@
 //! `ddtplan compile REGISTER FOLDER`: all configurations of a register in a folder.
 
-ghost use Rattle.std.specs.Prelude.{⊥};
-
 use crate::reading::{Why, accepted_in, bytes_at, no_memory, print};
 use ddt_folder::{FileName, Folder, PublishFault, lines_of, publish};
 use ddt_plan_commands::{CompileAsked, End};
@@ -11,6 +9,7 @@ use std::io::{ErrorKind, Write};
 use std::{fs, io};
 
 /// A folder on a disk. Others may write there too, so nothing is known of what it holds.
+#[derive(Drop)]
 struct DiskFolder<'a> {
     rt: &'a HostRuntime,
     path: &'a str,
@@ -29,6 +28,11 @@ impl DiskFolder<'_> {
 
     fn path_beside(&self, name: FileName) -> io::Result<String> {
         self.path_of(name.text_beside(self.rt.alloc())?.as_slice())
+    }
+
+    fn rename(&self, from: &str, to: FileName) -> io::Result<()> {
+        let path = self.path_at(to)?;
+        fs::rename(self.rt, from, path.as_str())
     }
 }
 
@@ -55,8 +59,7 @@ impl Folder for DiskFolder<'_> {
 
     fn put_in_place(&mut self, name: FileName) -> Result<(), io::Error> {
         let beside = self.path_beside(name)?;
-        let path = self.path_at(name)?;
-        fs::rename(self.rt, beside.as_str(), path.as_str())
+        self.rename(&beside, name)
     }
 
     fn remove(&mut self, name: FileName) -> Result<(), io::Error> {

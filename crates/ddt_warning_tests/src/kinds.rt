@@ -167,9 +167,10 @@ fn each_kind_is_told_and_none_beside_it(rt: HostRuntime) -> Result<(), Fail> {
 }
 
 #[test]
-fn the_worked_registers_have_none(rt: HostRuntime) -> Result<(), Fail> {
-    for text in [CAMPUS, CAMPUS_GROWN, NESTED_SITES] {
-        assert_eq!(rt; lines_of(rt.alloc(), &rt, text).as_str(), "", "{text}");
+fn the_worked_registers_have_none_but_the_new_zone(rt: HostRuntime) -> Result<(), Fail> {
+    let new = "10 node-zone-without-child no zone is below this one of DDT nodes\n";
+    for (text, wanted) in [(CAMPUS, ""), (NESTED_SITES, ""), (CAMPUS_GROWN, new)] {
+        assert_eq!(rt; lines_of(rt.alloc(), &rt, text).as_str(), wanted, "{text}");
     }
     Ok(())
 }

@@ -17,22 +17,15 @@ struct DiskFolder<'a> {
 
 impl DiskFolder<'_> {
     /// The path of a file in the folder.
-    fn path_of(&self, name: &[u8]) -> io::Result<String> {
-        let name = std::str::from_utf8(name).unwrap_or("");
+    fn path_at(&self, name: FileName) -> io::Result<String> {
+        let name = name.text(self.rt.alloc())?;
+        let name = std::str::from_utf8(name.as_slice()).unwrap_or("");
         Ok(format!(in self.rt.alloc(); "{}/{name}", self.path)?)
     }
 
-    fn path_at(&self, name: FileName) -> io::Result<String> {
-        self.path_of(name.text(self.rt.alloc())?.as_slice())
-    }
-
-    fn path_beside(&self, name: FileName) -> io::Result<String> {
-        self.path_of(name.text_beside(self.rt.alloc())?.as_slice())
-    }
-
-    fn rename(&self, from: &str, to: FileName) -> io::Result<()> {
-        let path = self.path_at(to)?;
-        fs::rename(self.rt, from, path.as_str())
+    /// The path of the file beside one.
+    fn path_beside(&self, path: &str) -> io::Result<String> {
+        Ok(format!(in self.rt.alloc(); "{path}.new")?)
     }
 }
 
@@ -51,15 +44,17 @@ impl Folder for DiskFolder<'_> {
     }
 
     fn write_beside(&mut self, name: FileName, bytes: &[u8]) -> Result<(), io::Error> {
-        let path = self.path_beside(name)?;
-        let mut file = File::create(self.rt, path.as_str())?;
+        let path = self.path_at(name)?;
+        let beside = self.path_beside(&path)?;
+        let mut file = File::create(self.rt, beside.as_str())?;
         file.write_all(bytes)?;
         file.sync_all()
     }
 
     fn put_in_place(&mut self, name: FileName) -> Result<(), io::Error> {
-        let beside = self.path_beside(name)?;
-        self.rename(&beside, name)
+        let path = self.path_at(name)?;
+        let beside = self.path_beside(&path)?;
+        fs::rename(self.rt, beside.as_str(), path.as_str())
     }
 
     fn remove(&mut self, name: FileName) -> Result<(), io::Error> {

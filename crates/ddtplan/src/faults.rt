@@ -15,7 +15,7 @@ pub fn faults(rt: &HostRuntime, path: &str) -> Result<End, Why> {
         Ok(_accepted) => Vec::new(rt.alloc()),
         Err(_refused) => faults_in(rt, path, &bytes)?,
     };
-    let text = told_text(rt.alloc(), &told).map_err(no_memory)?;
+    let text = told_text(rt.alloc(), path, &told).map_err(no_memory)?;
     let end = if told.is_empty() {
         End::Answered
     } else {
@@ -27,7 +27,7 @@ pub fn faults(rt: &HostRuntime, path: &str) -> Result<End, Why> {
 /// The faults of bytes that spell no accepted register.
 fn faults_in(rt: &HostRuntime, path: &str, bytes: &[u8]) -> Result<Vec<FaultLine>, Why> {
     let alloc = rt.alloc();
-    match told_faults(alloc, path, bytes, |register| broken_of(alloc, register)) {
+    match told_faults(alloc, bytes, |register| broken_of(alloc, register)) {
         Ok(told) => Ok(told),
         Err(fault) => Err(format!(in alloc; "{path}: unreadable {fault}")),
     }

@@ -1,25 +1,21 @@
 //! `ddtplan warn REGISTER`: what an accepted register has that is mostly a mistake.
 
 use crate::reading::{Why, accepted_in, bytes_at, no_memory, print};
+use ddt_check::Rule;
 use ddt_plan_commands::{End, WarnAsked};
-use ddt_sheets::{Sheet, read_sheet};
+use ddt_sheets::{BrokenRule, FaultLine, told_faults};
 use ddt_warnings::{Kind, Warning, warnings};
-use std::alloc::AllocError;
+use std::alloc::{AllocError, Global};
 
 /// Prints a line for each warning of a kind that isn't turned off.
 pub fn warn(rt: &HostRuntime, asked: &WarnAsked<'_>) -> Result<End, Why> {
     let off = kinds_off(rt, asked.off.as_slice())?;
     let bytes = bytes_at(rt, asked.register)?;
     let accepted = accepted_in(rt, asked.register, &bytes)?;
-    let Ok(sheet) = read_sheet(rt.alloc(), &bytes) else {
-        return Err(Err(AllocError));
-    };
-    let mut text = Vec::new(rt.alloc());
-    for warning in warnings(rt.alloc(), &accepted).map_err(no_memory)? {
-        if !off.as_slice().contains(&warning.finding.kind()) {
-            push_warning(rt, &mut text, asked.register, &sheet, &warning).map_err(no_memory)?;
-        }
-    }
+    let mut told = warnings(rt.alloc(), &accepted).map_err(no_memory)?;
+    told.retain(|warning| !off.as_slice().contains(&warning.finding.kind()));
+    let places = places_of(rt.alloc(), &bytes, &told).map_err(no_memory)?;
+    let text = text_of(rt.alloc(), asked.register, &told, &places).map_err(no_memory)?;
     let end = if text.is_empty() {
         End::Answered
     } else {
@@ -40,28 +36,59 @@ fn kinds_off(rt: &HostRuntime, names: &[&str]) -> Result<Vec<Kind>, Why> {
     Ok(kinds)
 }
 
-/// Appends `FILE:LINE: KIND: reason`, and the line of the other row where there is one.
-fn push_warning(
-    rt: &HostRuntime,
-    text: &mut Vec<u8>,
-    path: &str,
-    sheet: &Sheet,
-    warning: &Warning,
-) -> Result<(), AllocError> {
-    let line = line_of(sheet, warning.row);
-    let kind = warning.finding.kind();
-    let told = format!(in rt.alloc(); "{path}:{line}: {kind}: {warning}")?;
-    text.extend_from_slice(told.as_bytes())?;
-    if let Some(other) = warning.finding.other() {
-        let other = format!(in rt.alloc(); " (line {})", line_of(sheet, other))?;
-        text.extend_from_slice(other.as_bytes())?;
+/// Where the rows of warnings are in the file, in their order: the row of each, and its other row where it has one. They
+/// are found as the places of broken rules are, so each row is given as one that breaks a rule.
+fn places_of(
+    alloc: Global,
+    bytes: &[u8],
+    warnings: &[Warning],
+) -> Result<Vec<FaultLine>, AllocError> {
+    match told_faults(alloc, bytes, |_register| rows_of(alloc, warnings)) {
+        Ok(places) => Ok(places),
+        // The bytes were read already.
+        Err(_fault) => Err(AllocError),
     }
-    text.push(b'\n')?;
-    Ok(())
 }
 
-/// The line of the file on which a row begins.
-fn line_of(sheet: &Sheet, row: u32) -> u64 {
-    let place = row.saturating_sub(1) as usize;
-    sheet.lines.as_slice().get(place).copied().unwrap_or(1)
+fn rows_of(alloc: Global, warnings: &[Warning]) -> Result<Vec<BrokenRule>, AllocError> {
+    let mut rows = Vec::new(alloc);
+    for warning in warnings {
+        rows.push(at_row(warning.row))?;
+        if let Some(other) = warning.finding.other() {
+            rows.push(at_row(other))?;
+        }
+    }
+    Ok(rows)
+}
+
+fn at_row(row: u32) -> BrokenRule {
+    BrokenRule {
+        row,
+        rule: Rule::NoRoot,
+        other: None,
+    }
+}
+
+/// A line for each warning: `FILE:LINE: KIND: reason`, with the line of the other row where there is one.
+fn text_of(
+    alloc: Global,
+    path: &str,
+    warnings: &[Warning],
+    places: &[FaultLine],
+) -> Result<Vec<u8>, AllocError> {
+    let mut text = Vec::new(alloc);
+    let mut places = places.iter();
+    for warning in warnings {
+        let line = places.next().map(|place| place.line).unwrap_or(1);
+        let kind = warning.finding.kind();
+        let told = format!(in alloc; "{path}:{line}: {kind}: {warning}")?;
+        text.extend_from_slice(told.as_bytes())?;
+        if warning.finding.other().is_some() {
+            let line = places.next().map(|place| place.line).unwrap_or(1);
+            let other = format!(in alloc; " (line {line})")?;
+            text.extend_from_slice(other.as_bytes())?;
+        }
+        text.push(b'\n')?;
+    }
+    Ok(text)
 }

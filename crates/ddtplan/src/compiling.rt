@@ -47,8 +47,7 @@ impl Folder for DiskFolder<'_> {
         let path = self.path_at(name)?;
         let beside = self.path_beside(&path)?;
         let mut file = File::create(self.rt, beside.as_str())?;
-        file.write_all(bytes)?;
-        file.sync_all()
+        file.write_all(bytes)
     }
 
     fn put_in_place(&mut self, name: FileName) -> Result<(), io::Error> {

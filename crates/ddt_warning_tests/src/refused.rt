@@ -6,7 +6,7 @@ use ddt_check::{Accepted, check};
 use ddt_examples::registers::CAMPUS;
 use ddt_register::{ReadFault, Register, read_register};
 use ddt_warnings::{Finding, Warning, warnings};
-use std::alloc::Global;
+use std::alloc::{AllocError, Global};
 use std::process::Abort;
 use std::test::Fail;
 
@@ -28,9 +28,17 @@ fn accepted(rt: &impl Abort, alloc: Global, text: &str) -> Result<Accepted, Fail
     }
 }
 
+/// A register with a group that no zone names.
+fn text_of(alloc: Global) -> Result<String, AllocError> {
+    format!(in alloc; "{CAMPUS}group-ms,,idle,127.0.1.9\n")
+}
+
 #[test]
 fn a_refused_list_is_told_by_the_next_call(rt: HostRuntime) -> Result<(), Fail> {
-    let text = format!(in rt.alloc(); "{CAMPUS}group-ms,,idle,127.0.1.9\n")?;
+    let text = match text_of(rt.alloc()) {
+        Ok(text) => text,
+        Err(_refused) => text_of(rt.alloc())?,
+    };
     let register = accepted(&rt, rt.alloc(), text.as_str())?;
     let told = match warnings(rt.alloc(), &register) {
         Ok(told) => told,

@@ -4,3 +4,4 @@ pub mod HearLemmas
 pub mod BoundLemmas
 pub mod ReplyLemmas
 pub mod FrontLemmas
+mod StepLemmas

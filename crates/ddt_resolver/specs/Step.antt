@@ -1,12 +1,21 @@
 -- Any step of a resolver, from a state whose time has been moved.
-use Rattle.std.specs.Prelude.{ℕ, ◌≡◌, IsTrue, List, Result}
+use Rattle.std.specs.Prelude.{ℕ, ◌≡◌, IsTrue, List, Result, Ok, Err}
 use Rattle.ddt_path.specs.declared.locator.Locator.{Locator}
 use Rattle.ddt_path.specs.declared.xeid.Xeid.{Xeid}
 use Rattle.ddt_path.specs.Path.{xeid_path, is_path}
 use Rattle.ddt_resolver.specs.declared.answers.Asked.{Asked}
+use Rattle.ddt_resolver.specs.declared.answers.Asked.TheVariants as asked
 use Rattle.ddt_resolver.specs.declared.answers.AskError.{AskError}
 use Rattle.ddt_resolver.specs.declared.answers.Heard.{Heard}
+use Rattle.ddt_resolver.specs.declared.answers.Heard.TheVariants as heard
 use Rattle.ddt_resolver.specs.declared.answers.Ticked.{Ticked}
+use Rattle.ddt_resolver.specs.declared.answers.Ticked.TheVariants as ticked
+use Rattle.ddt_resolver.specs.declared.step.Input.{Input}
+use Rattle.ddt_resolver.specs.declared.step.Input.TheVariants as input
+use Rattle.ddt_resolver.specs.declared.step.Reply.{Reply}
+use Rattle.ddt_resolver.specs.declared.step.Reply.TheVariants.{ToAsk, ToDatagram, ToTick}
+use Rattle.ddt_resolver.specs.declared.step.Progress.{Progress}
+use Rattle.ddt_resolver.specs.declared.step.Progress.TheVariants.{Stays, Sends, Ends}
 use Rattle.ddt_resolver.specs.State.{State}
 use Rattle.ddt_resolver.specs.AskStep.{AskStep, AskWants}
 use Rattle.ddt_resolver.specs.Act.{HearStep, HearWants}
@@ -18,11 +27,25 @@ pub data Call : Type 0 where
   Hear : Locator → List ℕ → Call
   Tick : Call
 
--- what it answers
-pub data Reply : Type 0 where
-  ToAsk : Result Asked AskError → Reply
-  ToDatagram : Heard → Reply
-  ToTick : Ticked → Reply
+-- an input as what it asks for, with the bytes themselves
+abbrev pub call_of : Input → Call
+call_of (input.Ask x) = Ask x
+call_of (input.Datagram source bytes) = Hear source bytes.now
+call_of input.Tick = Tick
+
+-- what a reply makes of the pending lookups: they stay, or one sends a request or ends
+abbrev pub progress_of : Reply → Progress
+progress_of (ToAsk (Ok (asked.Sent t d))) = Sends t d
+progress_of (ToAsk (Ok (asked.Answer o))) = Stays
+progress_of (ToAsk (Err why)) = Stays
+progress_of (ToDatagram (heard.Ignored why)) = Stays
+progress_of (ToDatagram (heard.Followed t d)) = Sends t d
+progress_of (ToDatagram (heard.Answer t o)) = Ends t (Ok o)
+progress_of (ToDatagram (heard.GaveUp t why)) = Ends t (Err why)
+progress_of (ToTick ticked.Nothing) = Stays
+progress_of (ToTick (ticked.Sent t d)) = Sends t d
+progress_of (ToTick (ticked.Answer t o)) = Ends t (Ok o)
+progress_of (ToTick (ticked.GaveUp t why)) = Ends t (Err why)
 
 -- an ask of an identifier, a datagram from a source, or a tick
 pub data Step (s : State) (call : Call) (new : State) (reply : Reply) : Type 0 where

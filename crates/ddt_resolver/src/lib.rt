@@ -1,8 +1,8 @@
 //! A resolver of RFC 8111, section 7.3, as a machine of steps: an ask, a datagram, a tick. It sends nothing itself:
 //! each call answers what is to be sent, and learns the time from its caller.
 //!
-//! In reading order: `answers`, `pending`, `waiting`, `table`, `resolver`, `asking`, `refusing`, `acting`, `ticking`, `sending`,
-//! `laws`; `front` is the side that ITRs see.
+//! In reading order: `answers`, `pending`, `waiting`, `table`, `resolver`, `asking`, `refusing`, `acting`, `ticking`, `step`,
+//! `sending`, `laws`; `front` is the side that ITRs see.
 #![tactic(auto)]
 
 mod acting;
@@ -14,6 +14,7 @@ mod pending;
 mod refusing;
 mod resolver;
 mod sending;
+mod step;
 mod table;
 mod ticking;
 mod waiting;
@@ -24,3 +25,4 @@ pub use front::{Front, ItrRequest};
 pub use laws::{order_is_kept, tickets_are_new, usable_is_taken};
 pub use pending::Pending;
 pub use resolver::{MOST_PENDING, Resolver};
+pub use step::{Input, Progress, Reply};

@@ -5,7 +5,8 @@ use Rattle.ddt_cache.specs.Moment.{last_moment}
 use Rattle.ddt_cache.specs.laws.Order.{moved_in_order}
 use Rattle.ddt_resolver.specs.declared.pending.Pending.{Pending}
 use Rattle.ddt_resolver.specs.State.{State, last_nonce, numbered, moved, dropped}
-use Rattle.ddt_resolver.specs.Step.{Call, Reply, Step}
+use Rattle.ddt_resolver.specs.declared.step.Reply.{Reply}
+use Rattle.ddt_resolver.specs.Step.{Call, Step}
 use Rattle.ddt_resolver.specs.Order.{IsLookup, IsWaiting, IsInOrder}
 use Rattle.ddt_resolver.specs.laws.NumberMap.{found_insert, found_remove, len_replaced}
 use Rattle.std.specs.Cmp.{nat_cmp_total}
@@ -59,13 +60,13 @@ module _ (s : State) (call : Call) (new : State) (a : Reply) (o : IsInOrder s) (
   next_kept (stays p n q) = rw n o.next
   next_kept (opens l asked place first empty fresh is more few p n f) = omega arith
   next_kept (sends t old l here x goes is more p n) = omega arith
-  next_kept (drops t l e here p n f) = rw n o.next
+  next_kept (drops t l e here p n f why) = rw n o.next
 
   few_kept : Move s call new a → len new.pending ≤ 1024
   few_kept (stays p n q) = rw p o.few
   few_kept (opens l asked place first empty fresh is more few p n f) = rw p (omega (arith, len_inserted nat_cmp_total s.pending s.next (numbered s l)))
   few_kept (sends t old l here x goes is more p n) = rw (p, len_replaced s.pending t (numbered s l) old here) o.few
-  few_kept (drops t l e here p n f) = rw p (omega (arith, o.few, len_removed nat_cmp_total s.pending t))
+  few_kept (drops t l e here p n f why) = rw p (omega (arith, o.few, len_removed nat_cmp_total s.pending t))
 
   lookups_kept : Move s call new a → (t : ℕ) (l : Pending) → get new.pending t ≡ Some l → IsWaiting new t l
   lookups_kept (stays p n q) t l found = later t l (omega arith) (o.lookups t l (ap (λ z. get z t) (sym p) ∙ found))
@@ -80,13 +81,13 @@ module _ (s : State) (call : Call) (new : State) (a : Reply) (o : IsInOrder s) (
         | inl e ↦ placed t u k l is (omega (arith, w.ticket, w.nonce)) n e
         | inr e ↦ later t l (omega arith) (o.lookups t l e.1)
       ]
-  lookups_kept (drops u k e here p n f) t l found = later t l (omega arith) (o.lookups t l (found_remove s.pending u t l (ap (λ z. get z t) (sym p) ∙ found)).1)
+  lookups_kept (drops u k e here p n f why) t l found = later t l (omega arith) (o.lookups t l (found_remove s.pending u t l (ap (λ z. get z t) (sym p) ∙ found)).1)
 
   nonces_kept : Move s call new a → Apart new.pending
   nonces_kept (stays p n q) = rw p o.nonces
   nonces_kept (opens k asked place first empty fresh is more few p n f) = rw p (apart_insert s.pending s.next (numbered s k) o.nonces (λ t l found. (o.lookups t l found).nonce))
   nonces_kept (sends u old k here x goes is more p n) = rw p (apart_insert s.pending u (numbered s k) o.nonces (λ t l found. (o.lookups t l found).nonce))
-  nonces_kept (drops u k e here p n f) = rw p (apart_remove s.pending u o.nonces)
+  nonces_kept (drops u k e here p n f why) = rw p (apart_remove s.pending u o.nonces)
 
   pub order_kept : IsInOrder new
   order_kept = record {

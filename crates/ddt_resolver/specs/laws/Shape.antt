@@ -1,5 +1,5 @@
 -- The four ways in which a step changes what is pending: it stays, a lookup opens, sends again, or is dropped.
-use Rattle.std.proofs.Common.{◌≡◌, ℕ, ◌+◌, ◌<◌, ◌≤◌, true, false, List, [], ◌∷◌, length, take, min, Some, None, Result, Ok, Err, refl, sym, ap, ◌∙◌, subst, inl, inr, arith}
+use Rattle.std.proofs.Common.{◌≡◌, ◌⊎◌, ℕ, ◌+◌, ◌<◌, ◌≤◌, true, false, List, [], ◌∷◌, length, take, min, Some, None, Result, Ok, Err, refl, sym, ap, ◌∙◌, subst, inl, inr, arith}
 use Rattle.std.specs.Prelude.{◌≢◌, IsTrue}
 use Rattle.std.specs.FinMap.{get, insert, remove, len}
 use Rattle.std.proofs.lemmas.Option.{none-some, same_Some}
@@ -27,46 +27,52 @@ use Rattle.ddt_resolver.specs.declared.answers.Ticked.{Ticked}
 use Rattle.ddt_resolver.specs.declared.answers.Ticked.TheVariants as ticked
 use Rattle.ddt_path.specs.declared.record.Outcome.{Outcome}
 use Rattle.ddt_path.specs.declared.record.Outcome.TheVariants.{NotRegistered}
-use Rattle.ddt_resolver.specs.declared.answers.Why.TheVariants.{NoReply, Exhausted}
+use Rattle.ddt_resolver.specs.declared.answers.Why.TheVariants.{NoReply, Loop, NotAuthoritative as NobodyInCharge, Exhausted}
+use Rattle.ddt_resolver.specs.declared.step.Reply.{Reply}
+use Rattle.ddt_resolver.specs.declared.step.Reply.TheVariants.{ToAsk, ToDatagram, ToTick}
+use Rattle.ddt_resolver.specs.declared.step.Progress.TheVariants.{Stays, Sends, Ends}
 use Rattle.ddt_resolver.specs.State.{State, last_nonce, request, numbered, dropped, stored, opening, referred, passed_on, started_over, tried_again, at_next}
 use Rattle.ddt_path.specs.Actions.{IsReferral}
-use Rattle.ddt_resolver.specs.Records.{IsAbout, negative_answer, start_at}
+use Rattle.ddt_resolver.specs.Records.{IsAbout, IsBelow, negative_answer, outcome_of, start_at}
 use Rattle.ddt_resolver.specs.AskStep.{answer_of, AskStep}
 use Rattle.ddt_resolver.specs.AskStep as ask
 use Rattle.ddt_resolver.specs.TakeUp.{IsTaken}
-use Rattle.ddt_resolver.specs.Act.{Act, HearStep}
+use Rattle.ddt_resolver.specs.Act.{Act, HearStep, MayStartOver}
 use Rattle.ddt_resolver.specs.Act as act
 use Rattle.ddt_resolver.specs.TickStep.{GoOn, IsDue, TickStep}
 use Rattle.ddt_resolver.specs.TickStep as tick
-use Rattle.ddt_resolver.specs.Step.{Call, Ask, Hear, Reply, ToAsk, ToDatagram, ToTick, Step, asks, hears, ticks}
+use Rattle.ddt_resolver.specs.Step.{Call, Ask, Hear, Tick, Step, asks, hears, ticks, progress_of}
 use Rattle.ddt_resolver.specs.Order.{IsLookup, IsWaiting, IsInOrder}
 
--- what ends a lookup: an outcome, or a reason why there is none
-pub data End : Type 0 where
-  Gives : Outcome → End
-  Fails : Why → End
+-- MS-ACK, MS-NOT-REGISTERED or DELEGATION-HOLE: the outcome is there
+abbrev pub IsFinal : Action → Type 0
+IsFinal a = (a ≡ MsAck) ⊎ (a ≡ MsNotRegistered) ⊎ (a ≡ DelegationHole)
 
--- the reply tells that a lookup has ended
-abbrev pub Ends : Reply → ℕ → End → Type 0
-Ends (ToDatagram (heard.Answer t o)) u e = (t ≡ u) × (e ≡ Gives o)
-Ends (ToDatagram (heard.GaveUp t why)) u e = (t ≡ u) × (e ≡ Fails why)
-Ends (ToTick (ticked.Answer t o)) u e = (t ≡ u) × (e ≡ Gives o)
-Ends (ToTick (ticked.GaveUp t why)) u e = (t ≡ u) × (e ≡ Fails why)
-Ends _ u e = ⊥
+-- A datagram that the lookup of a ticket takes, and the record that it tells.
+pub record Takes (s : State) (call : Call) (t : ℕ) (l : Pending) (rec : ReferralRecord) : Type 0 where
+  pub source : Locator
+  pub bytes : List ℕ
+  pub called : call ≡ Hear source bytes
+  pub taken : IsTaken s source bytes t l rec
 
--- the reply is of no ticket
-abbrev pub IsQuiet : Reply → Type 0
-IsQuiet (ToAsk (Ok (asked.Answer o))) = Unit {0}
-IsQuiet (ToAsk (Ok (asked.Sent t d))) = ⊥
-IsQuiet (ToAsk (Err e)) = Unit {0}
-IsQuiet (ToDatagram (heard.Ignored why)) = Unit {0}
-IsQuiet (ToDatagram (heard.Followed t d)) = ⊥
-IsQuiet (ToDatagram (heard.Answer t o)) = ⊥
-IsQuiet (ToDatagram (heard.GaveUp t why)) = ⊥
-IsQuiet (ToTick ticked.Nothing) = Unit {0}
-IsQuiet (ToTick (ticked.Sent t d)) = ⊥
-IsQuiet (ToTick (ticked.Answer t o)) = ⊥
-IsQuiet (ToTick (ticked.GaveUp t why)) = ⊥
+-- The deadline of the second request to the last server has come at a tick.
+pub record IsLastDue (s : State) (call : Call) (l : Pending) : Type 0 where
+  pub called : call ≡ Tick
+  pub over : l.deadline ≤ s.known.time
+  pub second : l.second ≡ true
+  pub at_end : length l.servers ≤ l.place + 1
+
+-- Why a lookup ends. `by_record`: with the outcome of a final record. `by_kept`: no server is left, and one of the set
+-- has said that the site isn't registered. `by_loop`: at a referral that isn't below the saved prefix. `by_nobody`: at a
+-- server that isn't in charge, where it may not start over. `by_silence`: no server is left. `by_nonce`: it would go
+-- on, but no nonce is left.
+pub data Leaves (s : State) (call : Call) (t : ℕ) (l : Pending) (end : Result Outcome Why) : Type 0 where
+  by_record : (rec : ReferralRecord) → Takes s call t l rec → IsFinal rec.action → end ≡ Ok (outcome_of rec) → Leaves s call t l end
+  by_kept : (rec : ReferralRecord) → IsLastDue s call l → l.kept ≡ Some rec → end ≡ Ok (NotRegistered rec.prefix rec.servers) → Leaves s call t l end
+  by_loop : (rec : ReferralRecord) → Takes s call t l rec → IsReferral rec.action → (IsBelow l.saved rec.prefix → ⊥) → end ≡ Err Loop → Leaves s call t l end
+  by_nobody : (rec : ReferralRecord) → Takes s call t l rec → rec.action ≡ NotAuthoritative → ((p : List ℕ) → MayStartOver l p → ⊥) → end ≡ Err NobodyInCharge → Leaves s call t l end
+  by_silence : IsLastDue s call l → l.kept ≡ None → end ≡ Err NoReply → Leaves s call t l end
+  by_nonce : s.next ≡ last_nonce → end ≡ Err Exhausted → Leaves s call t l end
 
 -- How a lookup goes on: at a new set, at the next server after an MS-NOT-REGISTERED, at the same server again, or at the
 -- next one without a reply.
@@ -77,14 +83,23 @@ pub data Goes (s : State) (call : Call) (reply : Reply) (t : ℕ) (l new : Pendi
   repeats : reply ≡ ToTick (ticked.Sent t (request s new)) → l.deadline ≤ s.known.time → l.second ≡ false → new ≡ tried_again l → Goes s call reply t l new
   goes_on : reply ≡ ToTick (ticked.Sent t (request s new)) → l.deadline ≤ s.known.time → l.second ≡ true → l.place + 1 < length l.servers → new ≡ at_next l → Goes s call reply t l new
 
+-- it sends its next request
+pub goes_sends : (s : State) (call : Call) (reply : Reply) (t : ℕ) (l new : Pending) → Goes s call reply t l new → progress_of reply ≡ Sends t (request s new)
+goes_sends s call reply t l new (anew f place first empty) = ap progress_of f
+goes_sends s call reply t l new (keeps source bytes rec called is f e) = ap progress_of f
+goes_sends s call reply t l new (repeats f over first e) = ap progress_of f
+goes_sends s call reply t l new (goes_on f over second more e) = ap progress_of f
+
+-- What a step does to the pending lookups, by its progress.
 pub data Move (s : State) (call : Call) (new : State) (reply : Reply) : Type 0 where
-  stays : new.pending ≡ s.pending → new.next ≡ s.next → IsQuiet reply → Move s call new reply
+  stays : new.pending ≡ s.pending → new.next ≡ s.next → progress_of reply ≡ Stays → Move s call new reply
   opens : (l : Pending) → call ≡ Ask l.x → l.place ≡ 0 → l.second ≡ false → l.kept ≡ None → l.saved ≡ None → IsLookup l → s.next < last_nonce
       → len s.pending < 1024
       → new.pending ≡ insert s.pending s.next (numbered s l) → new.next ≡ s.next + 1 → reply ≡ ToAsk (Ok (asked.Sent s.next (request s l))) → Move s call new reply
   sends : (t : ℕ) (old l : Pending) → get s.pending t ≡ Some old → l.x ≡ old.x → Goes s call reply t old l → IsLookup l → s.next < last_nonce
       → new.pending ≡ insert s.pending t (numbered s l) → new.next ≡ s.next + 1 → Move s call new reply
-  drops : (t : ℕ) (l : Pending) (e : End) → get s.pending t ≡ Some l → new.pending ≡ remove s.pending t → new.next ≡ s.next → Ends reply t e → Move s call new reply
+  drops : (t : ℕ) (l : Pending) (end : Result Outcome Why) → get s.pending t ≡ Some l → new.pending ≡ remove s.pending t → new.next ≡ s.next → progress_of reply ≡ Ends t end
+      → Leaves s call t l end → Move s call new reply
 
 -- what a step leaves as it is, how it changes what is remembered, and what is pending
 pub record IsMoved (s : State) (call : Call) (new : State) (reply : Reply) : Type 0 where
@@ -229,16 +244,16 @@ module _ (s : State) (o : IsInOrder s) (t : ℕ) (l : Pending) (here : get s.pen
 -- ---- each case
 
 module _ (s : State) (o : IsInOrder s) (call : Call) (new : State) (a : Reply) where
-  staying : new ≡ s → IsQuiet a → IsMoved s call new a
+  staying : new ≡ s → progress_of a ≡ Stays → IsMoved s call new a
   staying e quiet = rw e (record { time = refl; me = refl; roots = refl; known = o.known; move = stays refl refl quiet })
 
   started : (x : Xeid) (r : Result Asked AskError) → IsTrue (is_path (xeid_path x)) → call ≡ Ask x → a ≡ ToAsk r → AskStep s x new r → IsMoved s call new a
   started x r id called is step = by step.start
     where
       by : ask.Start s x step.prefix step.entry new r → IsMoved s call new a
-      by (ask.cached out some e f) = staying e (rw (is, f) tt)
-      by (ask.full none many e f) = staying e (rw (is, f) tt)
-      by (ask.used_up none few end e f) = staying e (rw (is, f) tt)
+      by (ask.cached out some e f) = staying e (rw (is, f) refl)
+      by (ask.full none many e f) = staying e (rw (is, f) refl)
+      by (ask.used_up none few end e f) = staying e (rw (is, f) refl)
       by (ask.opened free e f) = rw e (record {
         time = refl;
         me = refl;
@@ -248,46 +263,51 @@ module _ (s : State) (o : IsInOrder s) (call : Call) (new : State) (a : Reply) w
       })
 
   module _ (t : ℕ) (l : Pending) (here : get s.pending t ≡ Some l) where
-    dropping : (e : End) → new ≡ dropped s t → Ends a t e → IsMoved s call new a
-    dropping e is ends = rw is (record { time = refl; me = refl; roots = refl; known = o.known; move = drops t l e here refl refl ends })
+    dropping : (end : Result Outcome Why) → new ≡ dropped s t → progress_of a ≡ Ends t end → Leaves s call t l end → IsMoved s call new a
+    dropping end is ends leaves = rw is (record { time = refl; me = refl; roots = refl; known = o.known; move = drops t l end here refl refl ends leaves })
 
     module _ (source : Locator) (bytes : List ℕ) (rec : ReferralRecord) (is : IsTaken s source bytes t l rec) (h : Heard) (to : a ≡ ToDatagram h) (called : call ≡ Hear source bytes) where
       saved_known : IsKnownInOrder (stored s rec).known
       saved_known = stored_in_order s.known rec (few_servers s source bytes t l rec is) o.known
 
-      saving : (out : Outcome) → new ≡ dropped (stored s rec) t → h ≡ heard.Answer t out → IsMoved s call new a
-      saving out e f = rw e (record { time = refl; me = refl; roots = refl; known = saved_known; move = drops t l (Gives out) here refl refl (rw (to, f) (refl, refl)) })
+      takes : Takes s call t l rec
+      takes = record { source = source; bytes = bytes; called = called; taken = is }
 
-      failing : (why : Why) → new ≡ dropped s t → h ≡ heard.GaveUp t why → IsMoved s call new a
-      failing why e f = dropping (Fails why) e (rw (to, f) (refl, refl))
+      saving : IsFinal rec.action → new ≡ dropped (stored s rec) t → h ≡ heard.Answer t (outcome_of rec) → IsMoved s call new a
+      saving final e f = rw e (record { time = refl; me = refl; roots = refl; known = saved_known; move = drops t l (Ok (outcome_of rec)) here refl refl (rw (to, f) refl) (by_record rec takes final refl) })
+
+      failing : (why : Why) → new ≡ dropped s t → h ≡ heard.GaveUp t why → Leaves s call t l (Err why) → IsMoved s call new a
+      failing why e f = dropping (Err why) e (rw (to, f) refl)
 
       acted : act.Act s t l rec new h → IsMoved s call new a
-      acted (act.loops r not_below e f) = failing _ e f
+      acted (act.loops r not_below e f) = failing Loop e f (by_loop rec takes r not_below refl)
       acted (act.refers r below more e f) = rw e (record { time = refl; me = refl; roots = refl; known = saved_known; move = sends t l (referred l rec) here refl (anew (to ∙ ap ToDatagram f) refl refl refl) (referred_lookup s o t l here source bytes rec is r) more refl refl })
-      acted (act.acknowledges k e f) = saving _ e f
-      acted (act.closes k e f) = saving _ e f
+      acted (act.acknowledges k e f) = saving (inl k) e f
+      acted (act.closes k e f) = saving (inr (inr k)) e f
       acted (act.passes_on k more room e f) = rw e (record { time = refl; me = refl; roots = refl; known = o.known; move = sends t l (passed_on l rec) here refl (keeps source bytes rec called is (to ∙ ap ToDatagram f) refl) (passed_lookup s o t l here source bytes rec is k more) room refl refl })
-      acted (act.concludes k end e f) = saving _ e f
+      acted (act.concludes k end e f) = saving (inr (inl k)) e f
       acted (act.starts_over p k start room e f) = rw e (record { time = refl; me = refl; roots = refl; known = forgotten_in_order s.known p o.known; move = sends t l (started_over s l) here refl (anew (to ∙ ap ToDatagram f) refl refl refl) (restarted_lookup s o t l here) room refl refl })
-      acted (act.nobody k start e f) = failing _ e f
-      acted (act.used_up on none e f) = failing _ e f
+      acted (act.nobody k start e f) = failing NobodyInCharge e f (by_nobody rec takes k start refl)
+      acted (act.used_up on none e f) = failing Exhausted e f (by_nonce none refl)
 
-    going : (h : Ticked) → a ≡ ToTick h → l.deadline ≤ s.known.time → GoOn s t l new h → IsMoved s call new a
-    going h to over (tick.again first room e f) = rw e (record { time = refl; me = refl; roots = refl; known = o.known; move = sends t l (tried_again l) here refl (repeats (to ∙ ap ToTick f) over first refl) (again_lookup s o t l here) room refl refl })
-    going h to over (tick.next_place second more room e f) = rw e (record { time = refl; me = refl; roots = refl; known = o.known; move = sends t l (at_next l) here refl (goes_on (to ∙ ap ToTick f) over second more refl) (next_lookup s o t l here more) room refl refl })
-    going h to over (tick.answered rec second end kept e f) = dropping (Gives (NotRegistered rec.prefix rec.servers)) e (rw (to, f) (refl, refl))
-    going h to over (tick.no_reply second end kept e f) = dropping (Fails NoReply) e (rw (to, f) (refl, refl))
-    going h to over (tick.used_up has none e f) = dropping (Fails Exhausted) e (rw (to, f) (refl, refl))
+    going : (h : Ticked) → a ≡ ToTick h → call ≡ Tick → l.deadline ≤ s.known.time → GoOn s t l new h → IsMoved s call new a
+    going h to called over (tick.again first room e f) = rw e (record { time = refl; me = refl; roots = refl; known = o.known; move = sends t l (tried_again l) here refl (repeats (to ∙ ap ToTick f) over first refl) (again_lookup s o t l here) room refl refl })
+    going h to called over (tick.next_place second more room e f) = rw e (record { time = refl; me = refl; roots = refl; known = o.known; move = sends t l (at_next l) here refl (goes_on (to ∙ ap ToTick f) over second more refl) (next_lookup s o t l here more) room refl refl })
+    going h to called over (tick.answered rec second end kept e f) =
+        dropping (Ok (NotRegistered rec.prefix rec.servers)) e (rw (to, f) refl) (by_kept rec (record { called = called; over = over; second = second; at_end = end }) kept refl)
+    going h to called over (tick.no_reply second end kept e f) =
+        dropping (Err NoReply) e (rw (to, f) refl) (by_silence (record { called = called; over = over; second = second; at_end = end }) kept refl)
+    going h to called over (tick.used_up has none e f) = dropping (Err Exhausted) e (rw (to, f) refl) (by_nonce none refl)
 
   heard_move : (source : Locator) (bytes : List ℕ) (h : Heard) → call ≡ Hear source bytes → a ≡ ToDatagram h → HearStep s source bytes new h → IsMoved s call new a
-  heard_move source bytes h called to (act.ignored why is e f) = staying e (rw (to, f) tt)
+  heard_move source bytes h called to (act.ignored why is e f) = staying e (rw (to, f) refl)
   heard_move source bytes h called to (act.taken t l rec is does) = acted t l is.in_time.from_server.reply.is_pending source bytes rec is h to called does
 
-  ticked_move : (h : Ticked) → a ≡ ToTick h → TickStep s new h → IsMoved s call new a
-  ticked_move h to (tick.nothing none e f) = staying e (rw (to, f) tt)
-  ticked_move h to (tick.due t l is on) = going t l is.is_pending h to is.over on
+  ticked_move : (h : Ticked) → a ≡ ToTick h → call ≡ Tick → TickStep s new h → IsMoved s call new a
+  ticked_move h to called (tick.nothing none e f) = staying e (rw (to, f) refl)
+  ticked_move h to called (tick.due t l is on) = going t l is.is_pending h to called is.over on
 
   pub moved_by_step : Step s call new a → IsMoved s call new a
   moved_by_step (asks x r id step called to) = started x r id called to step
   moved_by_step (hears source bytes h step called to) = heard_move source bytes h called to step
-  moved_by_step (ticks h step called to) = ticked_move h to step
+  moved_by_step (ticks h step called to) = ticked_move h to called step

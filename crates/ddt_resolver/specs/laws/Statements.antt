@@ -11,7 +11,8 @@ use Rattle.ddt_resolver.specs.State.{State, moved, server}
 use Rattle.ddt_resolver.specs.Records.{IsAbout, NamesServer}
 use Rattle.ddt_resolver.specs.TakeUp.{Tells}
 use Rattle.ddt_resolver.specs.Act.{Act, HearStep}
-use Rattle.ddt_resolver.specs.Step.{Call, Reply, Step}
+use Rattle.ddt_resolver.specs.declared.step.Reply.{Reply}
+use Rattle.ddt_resolver.specs.Step.{Call, Step}
 use Rattle.ddt_resolver.specs.Order.{IsInOrder}
 
 -- each step of a resolver keeps what holds of it at all times

@@ -1,0 +1,131 @@
+//! One step of a resolver, whichever of its calls it is: what it is called for, what it answers, and what that makes of
+//! its lookups (RFC 8111, section 7.3).
+
+ghost use Rattle.std.specs.Prelude.{◌≡◌, ◌≢◌, Ok, Err, IfOk, OnOk, OnErr};
+ghost use Rattle.ddt_resolver.specs.State.{moved};
+ghost use Rattle.ddt_resolver.specs.declared.answers.AskError.TheVariants.{Memory};
+ghost use Rattle.ddt_resolver.specs.declared.step.Reply.TheVariants.{ToAsk, ToDatagram, ToTick};
+ghost use Rattle.ddt_resolver.specs.Step.{Step, Wants, call_of, progress_of};
+
+use crate::answers::{AskError, Asked, Heard, Outgoing, Ticked, Ticket, Why};
+use crate::resolver::Resolver;
+use ddt_cache::{Entry, Moment};
+use ddt_path::{Locator, Outcome, Xeid};
+use ddt_trie::PrefixMap;
+use std::alloc::AllocError;
+
+/// What a resolver is called for.
+#[derive(Clone, Copy, Debug)]
+pub enum Input<'a> {
+    /// Somebody asks for an identifier.
+    Ask(Xeid),
+    /// A datagram of these bytes has come from a source.
+    Datagram(Locator, &'a [u8]),
+    /// It is time to look for a lookup whose deadline has come.
+    Tick,
+}
+
+/// What it answers.
+#[derive(Debug, Drop)]
+pub enum Reply {
+    /// To an ask. For want of memory a step fails, so this is never 3 Memory.
+    ToAsk(Result<Asked, AskError>),
+    /// To a datagram.
+    ToDatagram(Heard),
+    /// To a tick.
+    ToTick(Ticked),
+}
+
+/// What a step makes of the pending lookups.
+#[derive(Debug, Drop)]
+pub enum Progress {
+    /// All stay as they are.
+    Stays,
+    /// The lookup of a ticket starts, or goes on, with this request.
+    Sends(Ticket, Outgoing),
+    /// The lookup of a ticket ends: with its outcome, or with the reason why there is none.
+    Ends(Ticket, Result<Outcome, Why>),
+}
+
+impl Reply {
+    /// What the step has made of the pending lookups.
+    pub fn progress(self) -> Progress
+        ensures { result ≡ progress_of self }
+    {
+        match self {
+            Reply::ToAsk(answer) => after_ask(answer),
+            Reply::ToDatagram(heard) => after_datagram(heard),
+            Reply::ToTick(ticked) => after_tick(ticked),
+        }
+    }
+}
+
+fn after_ask(answer: Result<Asked, AskError>) -> Progress
+    ensures { result ≡ progress_of (ToAsk answer) }
+{
+    match answer {
+        Ok(asked) => after_asked(asked),
+        Err(_why) => Progress::Stays,
+    }
+}
+
+fn after_asked(asked: Asked) -> Progress
+    ensures { result ≡ progress_of (ToAsk (Ok asked)) }
+{
+    match asked {
+        Asked::Answer(_outcome) => Progress::Stays,
+        Asked::Sent(ticket, request) => Progress::Sends(ticket, request),
+    }
+}
+
+fn after_datagram(heard: Heard) -> Progress
+    ensures { result ≡ progress_of (ToDatagram heard) }
+{
+    match heard {
+        Heard::Ignored(_why) => Progress::Stays,
+        Heard::Followed(ticket, request) => Progress::Sends(ticket, request),
+        Heard::Answer(ticket, outcome) => Progress::Ends(ticket, Ok(outcome)),
+        Heard::GaveUp(ticket, why) => Progress::Ends(ticket, Err(why)),
+    }
+}
+
+fn after_tick(ticked: Ticked) -> Progress
+    ensures { result ≡ progress_of (ToTick ticked) }
+{
+    match ticked {
+        Ticked::Nothing => Progress::Stays,
+        Ticked::Sent(ticket, request) => Progress::Sends(ticket, request),
+        Ticked::Answer(ticket, outcome) => Progress::Ends(ticket, Ok(outcome)),
+        Ticked::GaveUp(ticket, why) => Progress::Ends(ticket, Err(why)),
+    }
+}
+
+impl<M: PrefixMap<Entry>> Resolver<M> {
+    /// Does what it is called for at `now`, as `ask`, `datagram` and `tick` say. It fails only if out of memory, where a
+    /// request is to be sent or a record to be saved; then nothing changes but the time.
+    pub fn step(&mut self, now: Moment, input: Input<'_>) -> Result<Reply, AllocError>
+        ensures step { IfOk result (λ reply. Step (moved now self.old) (call_of input.entry) self.new reply) }
+        ensures unchanged { OnErr result (self.new ≡ moved now self.old) }
+        ensures wanted { OnErr result (Wants (moved now self.old) (call_of input.entry)) }
+    {
+        match input {
+            Input::Ask(x) => unless_out_of_memory(self.ask(now, x)),
+            Input::Datagram(from, bytes) => Ok(Reply::ToDatagram(self.datagram(now, from, bytes)?)),
+            Input::Tick => Ok(Reply::ToTick(self.tick(now)?)),
+        }
+    }
+}
+
+/// The reply to an ask; a step fails where an ask is refused as 3 Memory.
+fn unless_out_of_memory(answer: Result<Asked, AskError>) -> Result<Reply, AllocError>
+    ensures reply { IfOk result (λ reply. reply ≡ ToAsk answer) }
+    ensures answered { OnOk result (answer ≢ Err Memory) }
+    ensures memory { OnErr result (answer ≡ Err Memory) }
+{
+    match answer {
+        Ok(asked) => Ok(Reply::ToAsk(Ok(asked))),
+        Err(AskError::TooMany) => Ok(Reply::ToAsk(Err(AskError::TooMany))),
+        Err(AskError::Exhausted) => Ok(Reply::ToAsk(Err(AskError::Exhausted))),
+        Err(AskError::Memory) => Err(AllocError),
+    }
+}

@@ -1,10 +1,15 @@
 //! What a server sends for a datagram.
 
-ghost use Rattle.std.specs.Prelude.{◌≡◌, is_some, None, Ok, IfOk};
+ghost use Rattle.std.specs.Prelude.{◌≡◌, is_some, None, Some, Ok, IfOk, OnOk};
 ghost use Rattle.std.specs.Option.{option_map};
 ghost use Rattle.ddt_ecm.specs.Request.{Message};
+ghost use Rattle.ddt_path.specs.Path.{xeid_path};
+ghost use Rattle.ddt_config.specs.Answer.{answer as answer_of};
+ghost use Rattle.ddt_wire.specs.Referral.{written};
+ghost use Rattle.ddt_node.specs.Decisions.{record_by};
 ghost use Rattle.ddt_node.specs.Server.{ddt_request as ddt_request_of, handled as handled_of, in_buffer, forward_to as forward_to_of, without_d, ignored as ignored_of, nothing_sent, acknowledges, IsDdtRequest, HasReply, reply_to};
 
+use crate::answering::Decision;
 use crate::server::Server;
 use ddt_ecm::{DDT, Request, read_request};
 use ddt_path::{Listed, Locator};
@@ -82,10 +87,8 @@ impl<M: PrefixMap<u32>> Server<M> {
     {
         match ddt_request(bytes) {
             Some(request) => {
-                let x = request.xeid();
-                let decision = self.decision(x);
-                let record = decision.record(&self.config().locators, x);
-                put_referral(buffer, request.nonce(), &record)?;
+                let decision = self.decision(request.xeid());
+                self.put_reply(&request, &decision, buffer)?;
                 let forward = forward_to(alloc, decision.etr(), bytes)?;
                 Ok(Buffered {
                     has_reply: true,
@@ -97,6 +100,42 @@ impl<M: PrefixMap<u32>> Server<M> {
                 forward: None,
             }),
         }
+    }
+
+    /// The reply to a datagram alone, as `handle` says it: no request is made for an ETR. Fails only if out of memory.
+    pub fn reply(&self, alloc: Global, bytes: &[u8]) -> Result<Option<Listed<u8>>, AllocError>
+        ensures reply { IfOk result (λ r. r ≡ (handled_of self.now bytes.now).reply) }
+        ensures replied { (m : Message) → IsDdtRequest bytes.now m
+            → IfOk result (λ r. HasReply r (reply_to self.now m)) }
+        ensures ignored { ddt_request_of bytes.now ≡ None → result ≡ Ok None }
+    {
+        match ddt_request(bytes) {
+            Some(request) => {
+                let mut buffer = Vec::new(alloc);
+                let decision = self.decision(request.xeid());
+                self.put_reply(&request, &decision, &mut buffer)?;
+                Ok(Some(Listed::of(buffer)))
+            }
+            None => Ok(None),
+        }
+    }
+
+    /// Puts the reply to a DDT Map-Request, as this decides it, into a buffer, in place of what that holds. Fails only if
+    /// out of memory.
+    fn put_reply(
+        &self,
+        request: &Request<'_>,
+        decision: &Decision<'_>,
+        buffer: &mut Vec<u8>,
+    ) -> Result<(), AllocError>
+        requires { record_by self.now.locators (xeid_path request.now.xeid) decision.now
+            ≡ answer_of self.now (xeid_path request.now.xeid) }
+        ensures put { OnOk result (buffer.new.items
+            ≡ written request.now.nonce (answer_of self.now (xeid_path request.now.xeid))) }
+        ensures spelled { OnOk result (HasReply (Some buffer.new.items) (reply_to self.now request.now)) }
+    {
+        let record = decision.record(&self.config().locators, request.xeid());
+        put_referral(buffer, request.nonce(), &record)
     }
 }
 

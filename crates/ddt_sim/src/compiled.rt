@@ -56,6 +56,29 @@ impl<M: PrefixMap<u32>> Compiled<M> {
         self.servers.as_slice()
     }
 
+    /// The reply to a datagram that is sent to a locator: a Map-Referral where it is a DDT Map-Request to a server of
+    /// the register. None where no group lists the locator, or where the server sends nothing. Fails only if out of
+    /// memory (RFC 8111, sections 7.1 and 7.2).
+    pub fn reply(
+        &self,
+        alloc: Global,
+        to: Locator,
+        request: &[u8],
+    ) -> Result<Option<Listed<u8>>, AllocError>
+        ensures reply { IfOk result (λ reply. reply ≡ reply_at self.now to request.now) }
+        ensures says { (r : Register) (m : Message) → AreCompiled self.now r → IsServer r to
+            → IsDdtRequest request.now m → IfOk result (IsHonestReply r to m) }
+        ensures nothing { (r : Register) → AreCompiled self.now r → (IsServer r to → ⊥) → result ≡ Ok None }
+        ensures none { server_at_locator self.now to ≡ None → result ≡ Ok None }
+        ensures ignored { ddt_request request.now ≡ None → result ≡ Ok None }
+    {
+        a_compiled_configuration_answers_honestly();
+        match self.server_at(to) {
+            Some(server) => server.reply(alloc, request),
+            None => Ok(None),
+        }
+    }
+
     /// The server at a locator; None where no group lists it.
     fn server_at(&self, l: Locator) -> Option<&Server<M>>
         ensures { option_copied result ≡ server_at_locator self.now l }
@@ -106,10 +129,6 @@ impl<M: PrefixMap<u32>> Servers for Compiled<M> {
         ensures ignored { ddt_request request.now ≡ None → result ≡ Ok None }
         ensures same { self.new ≡ self.old }
     {
-        a_compiled_configuration_answers_honestly();
-        match self.server_at(to) {
-            Some(server) => Ok(server.handle(alloc, request)?.reply),
-            None => Ok(None),
-        }
+        self.reply(alloc, to, request)
     }
 }

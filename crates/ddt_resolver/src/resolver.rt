@@ -80,6 +80,11 @@ impl<M: PrefixMap<Entry>> Resolver<M> {
         self.me
     }
 
+    /// Where it takes its memory from.
+    pub fn alloc(&self) -> Global {
+        self.alloc
+    }
+
     /// How many referrals it remembers, the root's servers not among them, as `Cache::held` counts them.
     pub fn remembered(&self) -> usize
         ensures most { result ≤ most_live_entries }

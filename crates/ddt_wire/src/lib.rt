@@ -21,6 +21,8 @@ pub use eid::{EidFault, mask_len, read_eid, write_eid};
 pub use fault::ReferralFault;
 pub use laws::{eid_laws, referral_laws, reply_laws};
 pub use locator_record::Locators;
-pub use message_type::{ENCAPSULATED, MAP_REFERRAL, MAP_REPLY, MAP_REQUEST, TYPE_SHIFT};
+pub use message_type::{
+    ENCAPSULATED, MAP_REFERRAL, MAP_REPLY, MAP_REQUEST, MessageType, TYPE_SHIFT,
+};
 pub use negative_reply::{NegativeReply, ReplyFault, read_negative_reply, write_negative_reply};
 pub use referral::{LentRecord, Referral, put_referral, read_referral, write_referral};

@@ -3,7 +3,7 @@ use Rattle.std.proofs.Common.{◌≡◌, ℕ, Bool, true, false, List, [], ◌�
 use Rattle.ddt_path.specs.declared.locator.Locator.{Locator}
 use Rattle.ddt_resolver.specs.declared.front.ItrRequest.{ItrRequest}
 use Rattle.ddt_resolver.specs.Front.{IsItrRequest}
-use Rattle.ddt_loop.specs.declared.coming.Came.TheVariants.{Waits}
+use Rattle.ddt_loop.specs.declared.came.Came.TheVariants.{Waits}
 use Rattle.ddt_daemon.specs.declared.waiting.Kept.{Kept}
 use Rattle.ddt_daemon.specs.Kept.{kept_of}
 use Rattle.ddt_daemon.specs.Goes.{Follows, waits, lost}

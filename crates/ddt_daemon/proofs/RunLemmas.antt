@@ -12,8 +12,8 @@ use Rattle.ddt_cache.specs.Moment.{last_moment}
 use Rattle.ddt_resolver.specs.declared.answers.Why.{Why}
 use Rattle.ddt_resolver.specs.declared.front.ItrRequest.{ItrRequest}
 use Rattle.ddt_resolver.specs.Front.{IsItrRequest}
-use Rattle.ddt_loop.specs.declared.coming.Came.{Came}
-use Rattle.ddt_loop.specs.declared.coming.Ended.{Ended as End}
+use Rattle.ddt_loop.specs.declared.came.Came.{Came}
+use Rattle.ddt_loop.specs.declared.came.Ended.{Ended as End}
 use Rattle.ddt_loop.specs.Acts.{Running}
 use Rattle.ddt_loop.specs.Polls.{polled}
 use Rattle.ddt_loop.specs.Runs.{HasRun, took, ticked, passed}

@@ -5,9 +5,9 @@ use Rattle.ddt_wires.specs.declared.call.Call.{Call}
 use Rattle.ddt_wires.specs.Turns.{AreTried}
 use Rattle.ddt_resolver.specs.Front.{IsItrRequest}
 use Rattle.ddt_resolver.specs.declared.front.ItrRequest.{ItrRequest}
-use Rattle.ddt_loop.specs.declared.coming.Came.{Came}
-use Rattle.ddt_loop.specs.declared.coming.Came.TheVariants.{Nothing, Waits, Ended}
-use Rattle.ddt_loop.specs.declared.coming.Ended.{Ended as End}
+use Rattle.ddt_loop.specs.declared.came.Came.{Came}
+use Rattle.ddt_loop.specs.declared.came.Came.TheVariants.{Nothing, Waits, Ended}
+use Rattle.ddt_loop.specs.declared.came.Ended.{Ended as End}
 use Rattle.ddt_onward.specs.Onward.{onward}
 use Rattle.ddt_daemon.specs.declared.counts.ResolverCounts.{ResolverCounts}
 use Rattle.ddt_daemon.specs.declared.waiting.Kept.{Kept}

@@ -6,12 +6,14 @@ use Rattle.ddt_wires.specs.declared.call.NetFault.{NetFault}
 use Rattle.ddt_wires.specs.declared.call.Packet.{Packet}
 use Rattle.ddt_resolver.specs.State.{moved}
 use Rattle.ddt_resolver.specs.Step.{Tick}
-use Rattle.ddt_loop.specs.declared.coming.Came.{Came}
-use Rattle.ddt_loop.specs.declared.coming.Ended.{Ended as End}
+use Rattle.ddt_loop.specs.declared.came.Came.{Came}
+use Rattle.ddt_loop.specs.declared.came.Ended.{Ended as End}
 use Rattle.ddt_loop.specs.Acts.{Running, Resolves}
 use Rattle.ddt_loop.specs.Coming.{IsCame}
 use Rattle.ddt_loop.specs.Ends.{HasEndedBy}
-use Rattle.ddt_loop.specs.Polls.{is_encapsulated, polled, IsTaken}
+use Rattle.ddt_wire.specs.declared.message_type.MessageType.TheVariants.{Encapsulated}
+use Rattle.ddt_wire.specs.MessageType.{is_of}
+use Rattle.ddt_loop.specs.Polls.{polled, IsTaken}
 use Rattle.ddt_daemon.specs.declared.waiting.Kept.{Kept}
 use Rattle.ddt_daemon.specs.declared.admitting.Dropped.{Dropped}
 use Rattle.ddt_daemon.specs.declared.counts.ResolverCounts.{ResolverCounts}
@@ -31,7 +33,7 @@ resolving w k c = record { running = w; kept = k; counts = c }
 
 -- an Encapsulated Control Message is asked for; any other datagram is heard
 abbrev pub IsLetIn : List (List ℕ) → List Kept → Packet → List ℕ → Type 0
-IsLetIn allow kept p bytes = (is_encapsulated bytes ≡ false) ⊎ ((is_encapsulated bytes ≡ true) × IsAdmitted allow kept p.from bytes)
+IsLetIn allow kept p bytes = (is_of Encapsulated bytes ≡ false) ⊎ ((is_of Encapsulated bytes ≡ true) × IsAdmitted allow kept p.from bytes)
 
 -- A packet that is let in is taken as a running resolver takes it, over the near wires; what goes on goes over the far
 -- wires.
@@ -47,7 +49,7 @@ pub record TakesIn (me : Locator) (now : ℕ) (p : Packet) (bytes : List ℕ) (w
 -- let in.
 pub data IsHandled (allow : List (List ℕ)) (me : Locator) (now : ℕ) (p : Packet) (bytes : List ℕ) (w : Resolving)
     (near far : List Call) (new : Resolving) : Type 0 where
-  dropped : (why : Dropped) → is_encapsulated bytes ≡ true → IsDropped allow w.kept p.from bytes why → near ≡ []
+  dropped : (why : Dropped) → is_of Encapsulated bytes ≡ true → IsDropped allow w.kept p.from bytes why → near ≡ []
       → far ≡ [] → new ≡ record w { counts = with_dropped w.counts why }
       → IsHandled allow me now p bytes w near far new
   taken : IsLetIn allow w.kept p bytes → TakesIn me now p bytes w near far new

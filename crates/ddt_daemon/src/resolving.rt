@@ -6,7 +6,6 @@ ghost use Rattle.ddt_wires.specs.Calls.{Tells};
 ghost use Rattle.ddt_wires.specs.Turns.{most_bytes};
 ghost use Rattle.ddt_loop.specs.Acts.{running};
 ghost use Rattle.ddt_loop.specs.Askers.{opening_desk};
-ghost use Rattle.ddt_loop.specs.Polls.{is_encapsulated as is_encapsulated_of};
 ghost use Rattle.ddt_resolver.specs.declared.front.ItrRequest.{ItrRequest as AnItrRequest};
 ghost use Rattle.ddt_resolver.specs.Front.{IsItrRequest};
 ghost use Rattle.ddt_daemon.specs.Kept.{kept_of};
@@ -22,7 +21,7 @@ use ddt_path::{Listed, Locator};
 use ddt_resolver::{Front, MOST_PENDING, Resolver};
 use ddt_settings::Settings;
 use ddt_trie::PrefixMap;
-use ddt_wire::ENCAPSULATED;
+use ddt_wire::MessageType;
 use ddt_wires::{Packet, Wires};
 use std::alloc::{AllocError, Global};
 
@@ -140,7 +139,7 @@ impl<M: PrefixMap<Entry>> MapResolver<M> {
             (resolving self.old.running self.old.waiting.kept.items self.old.counts)
             calls onward (resolving self.new.running self.new.waiting.kept.items self.new.counts) }
     {
-        if is_encapsulated(bytes) {
+        if MessageType::Encapsulated.is_of(bytes) {
             match admit(settings, &self.waiting, packet.from, bytes) {
                 Ok(()) => self.take(near, far, me, now, packet, bytes),
                 Err(why) => self.counts.drop_one(why),
@@ -234,14 +233,4 @@ fn keep(alloc: Global, waiting: &mut Waiting, ticket: u64, bytes: &[u8]) -> bool
         request,
         bytes: Listed::of(bytes),
     })
-}
-
-/// Whether the first four bits are those of an Encapsulated Control Message.
-fn is_encapsulated(bytes: &[u8]) -> bool
-    ensures { result ≡ is_encapsulated_of bytes.now }
-{
-    match bytes {
-        [first, ..] => *first / 16 == ENCAPSULATED,
-        [] => false,
-    }
 }

@@ -13,7 +13,7 @@ use ddt_ecm::read_request;
 use ddt_examples::bytes_of;
 use ddt_examples::messages::{DDT_REQUEST, ROOT_REFERS_TO_TEN};
 use ddt_examples::registers::{CAMPUS, CAMPUS_GROWN};
-use ddt_loop::{LoopEnd, SteppingClock, loop_turns};
+use ddt_loop::{LoopEnd, SteppingClock, Tree, loop_turns};
 use ddt_path::{Listed, Locator, LocatorSet, Outcome, Xeid};
 use ddt_register::read_register;
 use ddt_resolver::{AskError, Asked, Heard, Ignored, Resolver, Ticked, Why};
@@ -528,13 +528,14 @@ struct World {
 /// What both identifiers end in, in at most 20,000 turns of 5 milliseconds.
 fn turned(alloc: Global, world: &mut World, ids: &[Xeid]) -> Result<Vec<LoopEnd>, AllocError> {
     loop_turns(
-        alloc,
         &mut world.wires,
         &mut world.clock,
-        &mut world.servers,
+        &Tree {
+            me: ME,
+            sockets: &SOCKETS,
+            servers: &world.servers,
+        },
         &mut world.resolver,
-        ME,
-        &SOCKETS,
         ids,
         20_000,
     )

@@ -11,15 +11,16 @@ use Rattle.ddt_resolver.specs.declared.answers.Why.{Why}
 use Rattle.ddt_resolver.specs.declared.front.ItrRequest.{ItrRequest}
 use Rattle.ddt_resolver.specs.Front.{IsItrRequest}
 use Rattle.ddt_resolver.specs.State.{State, moved}
-use Rattle.ddt_resolver.specs.Step.{Call, Reply, Step, Hear}
-use Rattle.ddt_loop.specs.declared.acting.Next.{Next}
-use Rattle.ddt_loop.specs.declared.acting.Next.TheVariants.{Nothing, Request, End}
-use Rattle.ddt_loop.specs.declared.coming.Ended.{Ended}
+use Rattle.ddt_resolver.specs.Step.{Call, Step, Hear, progress_of}
+use Rattle.ddt_resolver.specs.declared.step.Progress.{Progress}
+use Rattle.ddt_resolver.specs.declared.step.Progress.TheVariants.{Stays, Sends, Ends}
+use Rattle.ddt_resolver.specs.declared.step.Reply.{Reply}
+use Rattle.ddt_loop.specs.declared.came.Ended.{Ended}
 use Rattle.ddt_loop.specs.declared.owner.Asker.{Asker}
 use Rattle.ddt_loop.specs.declared.owner.Asker.TheVariants.{Identifier, Itr}
 use Rattle.ddt_loop.specs.declared.owner.Owner.{Owner}
 use Rattle.ddt_loop.specs.Askers.{Desk, owner_of, with_owner, Takes, nobody, somebody}
-use Rattle.ddt_loop.specs.Acts.{Running, Asks, answered, refused, lacks_memory, next_of}
+use Rattle.ddt_loop.specs.Acts.{Running, Asks, answered, refused, lacks_memory}
 use Rattle.ddt_loop.specs.Ends.{if_itr, waiting_itrs, ended_of, HasEnded, HasEndedBy}
 use Rattle.ddt_loop.specs.Coming.{IsCame, came_to_wait, came_to_end}
 
@@ -40,16 +41,16 @@ same_itrs t old new taken (somebody before after (Itr q) was is e) not = absurd 
 -- ---- a datagram and a tick
 
 by_taken : (call : Call) (s new : State) (owners after : List Owner) (reply : Reply) (t : ℕ) (end : Result Outcome Why) (r : Option Ended) (taken : Option Asker)
-    → Step s call new reply → next_of reply ≡ End t end → Takes t owners after taken → r ≡ ended_of t end taken → HasEndedBy call s new owners after r
+    → Step s call new reply → progress_of reply ≡ Ends t end → Takes t owners after taken → r ≡ ended_of t end taken → HasEndedBy call s new owners after r
 by_taken call s new owners after reply t end r None step is takes e = rw e (same_itrs t owners after None takes (λ q f. cc f))
 by_taken call s new owners after reply t end r (Some (Identifier place)) step is takes e = rw e (same_itrs t owners after (Some (Identifier place)) takes (λ q f. cc f))
 by_taken call s new owners after reply t end r (Some (Itr q)) step is takes e = rw e (record { reply = reply; step = step; ends = is; request = q; takes = takes })
 
-pub ends_by : (call : Call) (s new : State) (owners after : List Owner) (reply : Reply) (next : Next) (r : Option Ended) → Step s call new reply → next_of reply ≡ next
-    → HasEnded next owners after r → HasEndedBy call s new owners after r
-ends_by call s new owners after reply Nothing r step is h = rw h.1 (ap waiting_itrs h.0)
-ends_by call s new owners after reply (Request d) r step is h = rw h.1 (ap waiting_itrs h.0)
-ends_by call s new owners after reply (End t end) r step is h = by_taken call s new owners after reply t end r h.taken step is h.takes h.is
+pub ends_by : (call : Call) (s new : State) (owners after : List Owner) (reply : Reply) (p : Progress) (r : Option Ended) → Step s call new reply → progress_of reply ≡ p
+    → HasEnded p owners after r → HasEndedBy call s new owners after r
+ends_by call s new owners after reply Stays r step is h = rw h.1 (ap waiting_itrs h.0)
+ends_by call s new owners after reply (Sends t d) r step is h = rw h.1 (ap waiting_itrs h.0)
+ends_by call s new owners after reply (Ends t end) r step is h = by_taken call s new owners after reply t end r h.taken step is h.takes h.is
 
 pub ends_came : (now : ℕ) (from : Locator) (bytes : List ℕ) (w new : Running) (ended : Option Ended) → HasEndedBy (Hear from bytes) (moved now w.state) new.state w.desk.owners new.desk.owners ended
     → IsCame now from bytes w new (came_to_end from ended)

@@ -29,24 +29,25 @@ use Rattle.ddt_resolver.specs.declared.front.ItrRequest.{ItrRequest}
 use Rattle.ddt_resolver.specs.declared.pending.Pending.{Pending}
 use Rattle.ddt_resolver.specs.State.{State, moved, numbered, request, request_bytes, server}
 use Rattle.ddt_resolver.specs.Step as resolver
-use Rattle.ddt_resolver.specs.Step.{Ask, Hear, Tick, Reply, ToAsk, ToDatagram, ToTick, Step, Wants}
+use Rattle.ddt_resolver.specs.Step.{Ask, Hear, Tick, Step, Wants, progress_of}
+use Rattle.ddt_resolver.specs.declared.step.Progress.{Progress}
+use Rattle.ddt_resolver.specs.declared.step.Progress.TheVariants.{Stays, Sends, Ends}
+use Rattle.ddt_resolver.specs.declared.step.Reply.{Reply}
+use Rattle.ddt_resolver.specs.declared.step.Reply.TheVariants.{ToAsk, ToDatagram, ToTick}
 use Rattle.ddt_resolver.specs.Order.{IsInOrder}
 use Rattle.ddt_resolver.specs.laws.NumberMap.{found_insert, found_remove, get-insert_same}
 use Rattle.ddt_resolver.specs.laws.Order.{order_after, order_moved}
-use Rattle.ddt_resolver.specs.laws.Shape.{Move, stays, opens, sends, drops, IsQuiet, Goes, anew, keeps, repeats, goes_on, moved_by_step}
+use Rattle.ddt_resolver.specs.laws.Shape.{Move, stays, opens, sends, drops, goes_sends, moved_by_step}
 use Rattle.ddt_resolver.specs.laws.Shape as shape
 use Rattle.ddt_sim.specs.Sound.{IsSound, IsFair as IsFairCall, IsRight, IsRightAsked, IsRightHeard, IsRightTicked, IsRightEnd as IsRightOutcome, IsRightWhy, StepsKeepSoundness, TimeKeepsSoundness}
-use Rattle.ddt_loop.specs.declared.acting.Next.{Next}
-use Rattle.ddt_loop.specs.declared.acting.Next.TheVariants as next_as
 use Rattle.ddt_loop.specs.declared.owner.Asker.{Asker}
 use Rattle.ddt_loop.specs.declared.owner.Asker.TheVariants.{Identifier, Itr}
 use Rattle.ddt_loop.specs.declared.owner.Owner.{Owner}
 use Rattle.ddt_loop.specs.Askers.{Desk, owner_of, end_of, Takes, nobody, somebody, AreApart, AreOwners}
-use Rattle.ddt_loop.specs.Acts.{Running, running, Starts, Asks, answered, refused, lacks_memory, remembered, GoesOn, Settles, IsTold, next_of, after_heard, after_ticked}
-use Rattle.ddt_sim.specs.laws.Ticket.{goes_on_reply}
+use Rattle.ddt_loop.specs.Acts.{Running, running, Starts, Asks, answered, refused, lacks_memory, remembered, GoesOn, Settles, IsTold}
 use Rattle.ddt_loop.specs.Right.{WasAsked, IsRightEnd, Owes, forgotten}
 use Rattle.ddt_loop.proofs.OwnerLemmas.{all_without, all_at, others_differ}
-use Rattle.ddt_loop.proofs.PendingLemmas.{carried, end_next, owners_go_on, owners_start, started, moved_owners}
+use Rattle.ddt_loop.proofs.PendingLemmas.{carried, no_ask_goes, owners_go_on, owners_start, started, moved_owners}
 use Rattle.ddt_loop.proofs.CallLemmas.{was_asked_more, WasSent, was_sent, itr_of, itrs, itrs_push, itrs_append, itrs_at, owes_request, owes_told, end_set}
 
 -- ---- what is kept
@@ -82,29 +83,12 @@ kept_more r me ids calls more w k = record {
 
 -- ---- what a reply tells
 
-quiet_next : (a : Reply) → IsQuiet a → next_of a ≡ next_as.Nothing
-quiet_next (ToAsk b) q = refl
-quiet_next (ToDatagram (heard_as.Ignored why)) q = refl
-quiet_next (ToDatagram (heard_as.Followed t d)) q = absurd q
-quiet_next (ToDatagram (heard_as.Answer t o)) q = absurd q
-quiet_next (ToDatagram (heard_as.GaveUp t why)) q = absurd q
-quiet_next (ToTick ticked_as.Nothing) q = refl
-quiet_next (ToTick (ticked_as.Sent t d)) q = absurd q
-quiet_next (ToTick (ticked_as.Answer t o)) q = absurd q
-quiet_next (ToTick (ticked_as.GaveUp t why)) q = absurd q
-
-goes_next : (s : State) (call : resolver.Call) (a : Reply) (t : ℕ) (l new : Pending) → Goes s call a t l new → next_of a ≡ next_as.Request (request s new)
-goes_next s call a t l new (anew f place first empty) = ap next_of f
-goes_next s call a t l new (keeps source bytes rec called is f e) = ap next_of f
-goes_next s call a t l new (repeats f over first e) = ap next_of f
-goes_next s call a t l new (goes_on f over second more e) = ap next_of f
-
 -- an end that is right for whoever waits for it
 abbrev EndsRight : Register → State → ℕ → Result Outcome Why → Type 0
 EndsRight r s t (Ok o) = IsRightOutcome r s t o
 EndsRight r s t (Err why) = IsRightWhy why
 
-heard_right : (r : Register) (s : State) (h : Heard) (t : ℕ) (end : Result Outcome Why) → IsRightHeard r s h → after_heard h ≡ next_as.End t end → EndsRight r s t end
+heard_right : (r : Register) (s : State) (h : Heard) (t : ℕ) (end : Result Outcome Why) → IsRightHeard r s h → progress_of (ToDatagram h) ≡ Ends t end → EndsRight r s t end
 heard_right r s (heard_as.Ignored why) t end right is = absurd (cc is)
 heard_right r s (heard_as.Followed u d) t end right is = absurd (cc is)
 heard_right r s (heard_as.Answer u o) t end right is =
@@ -113,7 +97,7 @@ heard_right r s (heard_as.Answer u o) t end right is =
 heard_right r s (heard_as.GaveUp u why) t end right is =
     let e : end ≡ Err why = cc is in subst (EndsRight r s t) (sym e) right
 
-ticked_right : (r : Register) (s : State) (h : Ticked) (t : ℕ) (end : Result Outcome Why) → IsRightTicked r s h → after_ticked h ≡ next_as.End t end → EndsRight r s t end
+ticked_right : (r : Register) (s : State) (h : Ticked) (t : ℕ) (end : Result Outcome Why) → IsRightTicked r s h → progress_of (ToTick h) ≡ Ends t end → EndsRight r s t end
 ticked_right r s ticked_as.Nothing t end right is = absurd (cc is)
 ticked_right r s (ticked_as.Sent u d) t end right is = absurd (cc is)
 ticked_right r s (ticked_as.Answer u o) t end right is =
@@ -122,8 +106,10 @@ ticked_right r s (ticked_as.Answer u o) t end right is =
 ticked_right r s (ticked_as.GaveUp u why) t end right is =
     let e : end ≡ Err why = cc is in subst (EndsRight r s t) (sym e) right
 
-right_end : (r : Register) (s : State) (call : resolver.Call) (a : Reply) (t : ℕ) (end : Result Outcome Why) → IsRight r s call a → next_of a ≡ next_as.End t end → EndsRight r s t end
-right_end r s call (ToAsk b) t end right is = absurd (cc is)
+right_end : (r : Register) (s : State) (call : resolver.Call) (a : Reply) (t : ℕ) (end : Result Outcome Why) → IsRight r s call a → progress_of a ≡ Ends t end → EndsRight r s t end
+right_end r s call (ToAsk (Ok (asked_as.Answer o))) t end right is = absurd (cc is)
+right_end r s call (ToAsk (Ok (asked_as.Sent u d))) t end right is = absurd (cc is)
+right_end r s call (ToAsk (Err why)) t end right is = absurd (cc is)
 right_end r s (Ask x) (ToDatagram h) t end right is = heard_right r s h t end right is
 right_end r s (Hear source bytes) (ToDatagram h) t end right is = heard_right r s h t end right is
 right_end r s Tick (ToDatagram h) t end right is = heard_right r s h t end right is
@@ -186,13 +172,13 @@ module _ (r : Register) (me : Locator) (ids : List Xeid) (laws : StepsKeepSoundn
     tried_removed u tries p t m here = was_asked_more me (server me m) m.nonce m.x calls tries (k.tried t m (found_remove s.pending u t m (ap (λ z. get z t) (sym p) ∙ here)).1)
 
     -- one who waits for a lookup that hasn't ended waits on
-    still_waits : (p : Owner) → ((end : Result Outcome Why) → next_of a ≡ next_as.End p.ticket end → ⊥) → WaitsFor ids s p → WaitsFor ids new p
+    still_waits : (p : Owner) → ((end : Result Outcome Why) → progress_of a ≡ Ends p.ticket end → ⊥) → WaitsFor ids s p → WaitsFor ids new p
     still_waits p on waits = elim (carried s o call new a is_moved.move p.ticket waits.0 waits.1) [
       | inl ended ↦ absurd (on ended.0 ended.1)
       | inr m ↦ (m.0, m.1, subst (AsksFor ids p.asker) (sym m.2) waits.2)
     ]
 
-    all_wait : (owners : List Owner) → All (λ p. (end : Result Outcome Why) → next_of a ≡ next_as.End p.ticket end → ⊥) owners → All (WaitsFor ids s) owners → All (WaitsFor ids new) owners
+    all_wait : (owners : List Owner) → All (λ p. (end : Result Outcome Why) → progress_of a ≡ Ends p.ticket end → ⊥) owners → All (WaitsFor ids s) owners → All (WaitsFor ids new) owners
     all_wait owners on waits i d lt = still_waits _ (on i d lt) (waits i d lt)
 
     -- with a desk that the step leaves so
@@ -203,24 +189,24 @@ module _ (r : Register) (me : Locator) (ids : List Xeid) (laws : StepsKeepSoundn
 
     -- ---- a datagram or a tick
 
-    module _ (desk : Desk) (tries : List Call) (goes : GoesOn me w.desk (next_of a) tries desk) (no_ask : (x : Xeid) → call ≡ Ask x → ⊥) where
+    module _ (desk : Desk) (tries : List Call) (goes : GoesOn me w.desk (progress_of a) tries desk) (no_ask : (x : Xeid) → call ≡ Ask x → ⊥) where
       owned_on : AreOwners new desk.owners
       owned_on = owners_go_on s o call new a is_moved.move me w.desk tries desk (moved_owners w.state now w.desk.owners k.owned) goes
 
-      goes_as : (N : Next) → next_of a ≡ N → GoesOn me w.desk N tries desk
-      goes_as N is = subst (λ n. GoesOn me w.desk n tries desk) is goes
+      goes_as : (p : Progress) → progress_of a ≡ p → GoesOn me w.desk p tries desk
+      goes_as p is = subst (λ p. GoesOn me w.desk p tries desk) is goes
 
       -- nothing changes on the desk
-      same_desk : (N : Next) → next_of a ≡ N → ((t : ℕ) (end : Result Outcome Why) → N ≡ next_as.End t end → ⊥) → desk ≡ w.desk
+      same_desk : (p : Progress) → progress_of a ≡ p → ((t : ℕ) (end : Result Outcome Why) → p ≡ Ends t end → ⊥) → desk ≡ w.desk
           → ((t : ℕ) (m : Pending) → get new.pending t ≡ Some m → WasAsked me (server me m) m.nonce m.x (calls ++ tries)) → IsKept r me ids (calls ++ tries) (running new desk)
-      same_desk N is none e tried =
+      same_desk p is none e tried =
           kept_at tries desk tried owned_on
           (subst (λ (d : Desk). All (WaitsFor ids new) d.owners) (sym e) (all_wait w.desk.owners (λ i d lt end f. none _ end (sym is ∙ f)) k.waits))
           (subst (λ (d : Desk). AllZip (IsRightEnd r) ids d.ends) (sym e) k.ends)
 
-      module _ (t : ℕ) (end : Result Outcome Why) (is : next_of a ≡ next_as.End t end) where
+      module _ (t : ℕ) (end : Result Outcome Why) (is : progress_of a ≡ Ends t end) where
         settles : Settles me t end w.desk tries desk
-        settles = goes_as (next_as.End t end) is
+        settles = goes_as (Ends t end) is
 
         right : EndsRight r s t end
         right = right_end r s call a t end both.1 is
@@ -300,14 +286,13 @@ module _ (r : Register) (me : Locator) (ids : List Xeid) (laws : StepsKeepSoundn
         where
           by : Move s call new a → IsKept r me ids (calls ++ tries) (running new desk)
           by (stays p n q) =
-              let g = goes_as next_as.Nothing (quiet_next a q) in
-              same_desk next_as.Nothing (quiet_next a q) (λ t end e. cc e) g.1 (tried_same tries p)
+              same_desk Stays q (λ t end e. cc e) (goes_as Stays q).1 (tried_same tries p)
           by (opens l asked place first empty fresh is more few p n f) = absurd (no_ask l.x asked)
           by (sends t old l here x goes is more p n) =
-              let next = goes_next s call a t old l goes in
-              let g = goes_as (next_as.Request (request s l)) next in
-              same_desk (next_as.Request (request s l)) next (λ u end e. cc e) g.1 (tried_inserted t l (request s l) tries p refl (was_sent me (request s l) tries g.0))
-          by (drops t l e here p n f) = let is = end_next a t e f in kept_end t is.0 is.1 (tried_removed t tries p)
+              let sent = goes_sends s call a t old l goes in
+              let g = goes_as (Sends t (request s l)) sent in
+              same_desk (Sends t (request s l)) sent (λ u end e. cc e) g.1 (tried_inserted t l (request s l) tries p refl (was_sent me (request s l) tries g.0))
+          by (drops t l e here p n f why) = kept_end t e f (tried_removed t tries p)
 
       pub owes_on : Owes r me calls (itrs w.desk.owners) → Owes r me (calls ++ tries) (itrs desk.owners)
       owes_on owes = by is_moved.move
@@ -318,13 +303,13 @@ module _ (r : Register) (me : Locator) (ids : List Xeid) (laws : StepsKeepSoundn
               (subst (λ (d : Desk). Owes r me calls (itrs d.owners)) (sym e) owes))
 
           by : Move s call new a → Owes r me (calls ++ tries) (itrs desk.owners)
-          by (stays p n q) = let g = goes_as next_as.Nothing (quiet_next a q) in quiet g.0 g.1
+          by (stays p n q) = let g = goes_as Stays q in quiet g.0 g.1
           by (opens l asked place first empty fresh is more few p n f) = absurd (no_ask l.x asked)
           by (sends t old l here x goes is more p n) =
-              let g = goes_as (next_as.Request (request s l)) (goes_next s call a t old l goes) in
+              let g = goes_as (Sends t (request s l)) (goes_sends s call a t old l goes) in
               subst (λ (d : Desk). Owes r me (calls ++ tries) (itrs d.owners)) (sym g.1)
               (owes_request r me calls (itrs w.desk.owners) (request s l) tries s.next l.x owes (was_sent me (request s l) tries g.0) (ap (request_bytes s.next l.x) k.own))
-          by (drops t l e here p n f) = let is = end_next a t e f in owes_end t is.0 is.1 owes
+          by (drops t l e here p n f why) = owes_end t e f owes
 
   -- ---- an ask
 
@@ -347,15 +332,13 @@ module _ (r : Register) (me : Locator) (ids : List Xeid) (laws : StepsKeepSoundn
       same_pending : ((t : ℕ) (d : Outgoing) → res ≡ Ok (asked_as.Sent t d) → ⊥) → Move at (Ask x) new (ToAsk res) → new.pending ≡ at.pending
       same_pending none (stays p n q) = p
       same_pending none (opens l asked place first empty fresh is more few p n f) = absurd (none at.next (request at l) (cc f))
-      same_pending none (sends t old l here same goes is more p n) = elim (goes_on_reply at (Ask x) (ToAsk res) t old l goes) [
-        | inl f ↦ absurd (cc (f.1))
-        | inr f ↦ absurd (cc (f.1))
-      ]
-      same_pending none (drops t l e here p n f) = absurd (no_end res t e f)
+      same_pending none (sends t old l here same goes is more p n) = absurd (no_ask_goes at (Ask x) res t old l goes)
+      same_pending none (drops t l e here p n f why) = absurd (no_end res t e f)
         where
-          no_end : (b : Result Asked AskError) (t : ℕ) (e : shape.End) → shape.Ends (ToAsk b) t e → ⊥
-          no_end (Ok b) t e f = f
-          no_end (Err why) t e f = f
+          no_end : (b : Result Asked AskError) (t : ℕ) (e : Result Outcome Why) → progress_of (ToAsk b) ≡ Ends t e → ⊥
+          no_end (Ok (asked_as.Answer o)) t e f = cc f
+          no_end (Ok (asked_as.Sent u d)) t e f = cc f
+          no_end (Err why) t e f = cc f
 
       pub kept_quiet : ((t : ℕ) (d : Outgoing) → res ≡ Ok (asked_as.Sent t d) → ⊥) → desk ≡ w.desk → IsKept r me ids (calls ++ tries) (running new desk)
       kept_quiet none e =

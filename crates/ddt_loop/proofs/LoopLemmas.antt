@@ -1,5 +1,5 @@
 -- The asks and the turns so far.
-use Rattle.std.proofs.Common.{◌≡◌, ℕ, zero, suc, ◌+◌, ◌-◌, ◌<◌, List, [], ◌∷◌, ◌++◌, length, true, Some, arith, refl, sym, ap, subst, ◌∙◌}
+use Rattle.std.proofs.Common.{◌≡◌, ℕ, zero, suc, ◌+◌, ◌-◌, ◌<◌, List, [], ◌∷◌, ◌++◌, length, true, Some, arith, refl, sym, ap, ◌∙◌}
 use Rattle.std.specs.Prelude.{Option, slice_get}
 use Rattle.ddt_path.specs.declared.locator.Locator.{Locator}
 use Rattle.ddt_path.specs.declared.xeid.Xeid.{Xeid}
@@ -50,30 +50,27 @@ at_server servers me sockets now (suc k) w calls at above is polls =
 
 -- ---- the turns
 
-pub record IsTurning (unread read : Option (List ℕ)) (before told : Option (List Call)) (servers now : List Outline) (me : Locator) (sockets : List Locator) (start w : Running) (number : ℕ) : Type 0 where
+pub record IsTurning (unread read : Option (List ℕ)) (before told : Option (List Call)) (servers : List Outline) (me : Locator) (sockets : List Locator) (start w : Running) (number : ℕ) : Type 0 where
   pub moments : List ℕ
   pub calls : List Call
   pub reads : Tells unread moments read
   pub tells : Tells before calls told
   pub turned : HaveTurned servers me sockets start number moments calls w
   pub owners : AreOwners w.state w.desk.owners
-  pub same : now ≡ servers
 
 pub turning_at_start : (read : Option (List ℕ)) (told : Option (List Call)) (servers : List Outline) (me : Locator) (sockets : List Locator) (start : Running)
-    → AreOwners start.state start.desk.owners → IsTurning read read told told servers servers me sockets start start 0
+    → AreOwners start.state start.desk.owners → IsTurning read read told told servers me sockets start start 0
 turning_at_start read told servers me sockets start owned =
-    record { moments = []; calls = []; reads = tells_none read; tells = tells_none told; turned = no_turn; owners = owned; same = refl }
+    record { moments = []; calls = []; reads = tells_none read; tells = tells_none told; turned = no_turn; owners = owned }
 
-pub turning_on : (unread between read : Option (List ℕ)) (before midway told : Option (List Call)) (servers now after : List Outline) (me : Locator) (sockets : List Locator) (start w new : Running) (number moment : ℕ) (turn : List Call)
-    → IsTurning unread between before midway servers now me sockets start w number → has_unresolved w.desk.ends ≡ true → Tells between (moment ∷ []) read → Tells midway turn told → IsTurn now me sockets number moment w turn new
-    → AreOwners new.state new.desk.owners → after ≡ now
-    → IsTurning unread read before told servers after me sockets start new (number + 1)
-turning_on unread between read before midway told servers now after me sockets start w new number moment turn so_far more reads tells is owned same = record {
+pub turning_on : (unread between read : Option (List ℕ)) (before midway told : Option (List Call)) (servers : List Outline) (me : Locator) (sockets : List Locator) (start w new : Running) (number moment : ℕ) (turn : List Call)
+    → IsTurning unread between before midway servers me sockets start w number → has_unresolved w.desk.ends ≡ true → Tells between (moment ∷ []) read → Tells midway turn told → IsTurn servers me sockets number moment w turn new
+    → AreOwners new.state new.desk.owners → IsTurning unread read before told servers me sockets start new (number + 1)
+turning_on unread between read before midway told servers me sockets start w new number moment turn so_far more reads tells is owned = record {
   moments = so_far.moments ++ moment ∷ [];
   calls = so_far.calls ++ turn;
   reads = tells_both unread so_far.moments between (moment ∷ []) read so_far.reads reads;
   tells = tells_both before so_far.calls midway turn told so_far.tells tells;
-  turned = one_turn moment turn new so_far.turned more (subst (λ own. IsTurn own me sockets number moment w turn new) so_far.same is);
+  turned = one_turn moment turn new so_far.turned more is;
   owners = owned;
-  same = same ∙ so_far.same;
 }

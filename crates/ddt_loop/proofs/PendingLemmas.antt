@@ -14,45 +14,31 @@ use Rattle.ddt_wires.specs.declared.call.Call.TheVariants.{Tried}
 use Rattle.ddt_resolver.specs.declared.answers.Outgoing.{Outgoing}
 use Rattle.ddt_resolver.specs.declared.answers.Asked.{Asked}
 use Rattle.ddt_resolver.specs.declared.answers.Asked.TheVariants as asked_as
-use Rattle.ddt_resolver.specs.declared.answers.Heard.TheVariants as heard_as
-use Rattle.ddt_resolver.specs.declared.answers.Ticked.TheVariants as ticked_as
+use Rattle.ddt_resolver.specs.declared.answers.AskError.{AskError}
 use Rattle.ddt_resolver.specs.declared.answers.Why.{Why}
 use Rattle.ddt_resolver.specs.declared.pending.Pending.{Pending}
 use Rattle.ddt_resolver.specs.State.{State, moved, request, numbered}
 use Rattle.ddt_resolver.specs.Step as resolver
-use Rattle.ddt_resolver.specs.Step.{Ask, Reply, ToAsk, ToDatagram, ToTick, Step}
+use Rattle.ddt_resolver.specs.Step.{Ask, Step, progress_of}
+use Rattle.ddt_resolver.specs.declared.step.Progress.{Progress}
+use Rattle.ddt_resolver.specs.declared.step.Progress.TheVariants.{Stays, Sends, Ends}
+use Rattle.ddt_resolver.specs.declared.step.Reply.{Reply}
+use Rattle.ddt_resolver.specs.declared.step.Reply.TheVariants.{ToAsk}
 use Rattle.ddt_resolver.specs.Order.{IsInOrder}
 use Rattle.ddt_resolver.specs.laws.NumberMap.{get-insert_same}
-use Rattle.ddt_resolver.specs.laws.Shape.{Move, stays, opens, sends, drops, IsQuiet, End, Gives, Fails, moved_by_step}
-use Rattle.ddt_resolver.specs.laws.Shape as shape
+use Rattle.ddt_resolver.specs.laws.Shape.{Move, stays, opens, sends, drops, Goes, anew, keeps, repeats, goes_on, moved_by_step}
 use Rattle.ddt_resolver.specs.laws.Order.{order_after}
-use Rattle.ddt_loop.specs.declared.acting.Next.{Next}
-use Rattle.ddt_loop.specs.declared.acting.Next.TheVariants as next_as
 use Rattle.ddt_loop.specs.declared.owner.Asker.{Asker}
 use Rattle.ddt_loop.specs.declared.owner.Asker.TheVariants as asker_as
 use Rattle.ddt_loop.specs.declared.owner.Owner.{Owner}
 use Rattle.ddt_loop.specs.Askers.{Desk, owner_of, with_owner, Takes, nobody, somebody, AreApart, AreOwners}
-use Rattle.ddt_loop.specs.Acts.{Starts, HasRoomFor, GoesOn, next_of, IsTold}
-use Rattle.ddt_sim.specs.laws.Ticket.{goes_on_reply}
+use Rattle.ddt_loop.specs.Acts.{Starts, HasRoomFor, GoesOn, IsTold}
 use Rattle.ddt_loop.proofs.OwnerLemmas.{all_without, apart_push, apart_without, others_differ, few_owners, get_insert_other, get_remove_other, some_of}
-
--- what tells that a lookup has ended
-pub end_next : (a : Reply) (t : ℕ) (e : End) → shape.Ends a t e → (end : Result Outcome Why) × (next_of a ≡ next_as.End t end)
-end_next (ToAsk (Ok a)) t e f = absurd f
-end_next (ToAsk (Err why)) t e f = absurd f
-end_next (ToDatagram (heard_as.Ignored why)) t e f = absurd f
-end_next (ToDatagram (heard_as.Followed u d)) t e f = absurd f
-end_next (ToDatagram (heard_as.Answer u o)) t e f = (Ok o, ap (λ v. next_as.End v (Ok o)) f.0)
-end_next (ToDatagram (heard_as.GaveUp u why)) t e f = (Err why, ap (λ v. next_as.End v (Err why)) f.0)
-end_next (ToTick ticked_as.Nothing) t e f = absurd f
-end_next (ToTick (ticked_as.Sent u d)) t e f = absurd f
-end_next (ToTick (ticked_as.Answer u o)) t e f = (Ok o, ap (λ v. next_as.End v (Ok o)) f.0)
-end_next (ToTick (ticked_as.GaveUp u why)) t e f = (Err why, ap (λ v. next_as.End v (Err why)) f.0)
 
 module _ (s : State) (o : IsInOrder s) (call : resolver.Call) (new : State) (a : Reply) where
   -- a lookup that is pending has ended, or is pending still, for the same identifier
   pub carried : Move s call new a → (u : ℕ) (l : Pending) → get s.pending u ≡ Some l
-      → ((end : Result Outcome Why) × (next_of a ≡ next_as.End u end))
+      → ((end : Result Outcome Why) × (progress_of a ≡ Ends u end))
       ⊎ ((m : Pending) × (get new.pending u ≡ Some m) × (m.x ≡ l.x))
   carried (stays p n q) u l here = inr (l, ap (λ z. get z u) p ∙ here, refl)
   carried (opens k asked place first empty fresh is more few p n f) u l here =
@@ -68,12 +54,12 @@ module _ (s : State) (o : IsInOrder s) (call : resolver.Call) (new : State) (a :
     )
     | inr other ↦ inr (l, ap (λ z. get z u) p ∙ get_insert_other s.pending t u other (numbered s k) ∙ here, refl)
   ]
-  carried (drops t k e found p n f) u l here = elim (cases_eq u t) [
-    | inl same ↦ let is = end_next a t e f in inl (is.0, is.1 ∙ ap (λ v. next_as.End v is.0) (sym same))
+  carried (drops t k e found p n f why) u l here = elim (cases_eq u t) [
+    | inl same ↦ inl (e, f ∙ ap (λ v. Ends v e) (sym same))
     | inr other ↦ inr (l, ap (λ z. get z u) p ∙ get_remove_other s.pending t u other ∙ here, refl)
   ]
 
-  still_pending : Move s call new a → (u : ℕ) → ((end : Result Outcome Why) → next_of a ≡ next_as.End u end → ⊥)
+  still_pending : Move s call new a → (u : ℕ) → ((end : Result Outcome Why) → progress_of a ≡ Ends u end → ⊥)
       → IsSome (get s.pending u) → IsSome (get new.pending u)
   still_pending m u goes_on some =
       let found = some_of (get s.pending u) some in
@@ -83,16 +69,16 @@ module _ (s : State) (o : IsInOrder s) (call : resolver.Call) (new : State) (a :
       ]
 
   -- those who wait for another lookup than the one that has ended wait on
-  wait_on : Move s call new a → (owners : List Owner) → All (λ p. (end : Result Outcome Why) → next_of a ≡ next_as.End p.ticket end → ⊥) owners
+  wait_on : Move s call new a → (owners : List Owner) → All (λ p. (end : Result Outcome Why) → progress_of a ≡ Ends p.ticket end → ⊥) owners
       → All (λ p. IsSome (get s.pending p.ticket)) owners → All (λ p. IsSome (get new.pending p.ticket)) owners
   wait_on m owners others there k d lt = still_pending m _ (others k d lt) (there k d lt)
 
   pub owners_go_on : Move s call new a → (me : Locator) (d : Desk) (calls : List Call) (after : Desk) → AreOwners s d.owners
-      → GoesOn me d (next_of a) calls after → AreOwners new after.owners
-  owners_go_on m me d calls after owned goes = by (next_of a) refl goes
+      → GoesOn me d (progress_of a) calls after → AreOwners new after.owners
+  owners_go_on m me d calls after owned goes = by (progress_of a) refl goes
     where
-      same : (N : Next) → next_of a ≡ N → ((t : ℕ) (end : Result Outcome Why) → N ≡ next_as.End t end → ⊥) → after ≡ d → AreOwners new after.owners
-      same N is none e = subst (λ (z : Desk). AreOwners new z.owners) (sym e) (record {
+      same : (p : Progress) → progress_of a ≡ p → ((t : ℕ) (end : Result Outcome Why) → p ≡ Ends t end → ⊥) → after ≡ d → AreOwners new after.owners
+      same p is none e = subst (λ (z : Desk). AreOwners new z.owners) (sym e) (record {
         apart = owned.apart;
         pending = wait_on m d.owners (λ k p lt end f. none _ end (sym is ∙ f)) owned.pending;
       })
@@ -103,7 +89,7 @@ module _ (s : State) (o : IsInOrder s) (call : resolver.Call) (new : State) (a :
       told_owners (Ok out) (Some (asker_as.Itr q)) b t = ap (λ (z : Desk). z.owners) t.1
       told_owners (Err why) (Some (asker_as.Itr q)) b t = ap (λ (z : Desk). z.owners) t.1
 
-      rest_wait : (t : ℕ) (end : Result Outcome Why) → next_of a ≡ next_as.End t end → (rest : List Owner) (taken : Option Asker) → Takes t d.owners rest taken → AreOwners new rest
+      rest_wait : (t : ℕ) (end : Result Outcome Why) → progress_of a ≡ Ends t end → (rest : List Owner) (taken : Option Asker) → Takes t d.owners rest taken → AreOwners new rest
       rest_wait t end is rest taken (nobody none e f) = subst (AreOwners new) (sym e) (record {
         apart = owned.apart;
         pending = wait_on m d.owners (λ k p lt end2 g. none k p lt (cc (is, g))) owned.pending;
@@ -115,23 +101,27 @@ module _ (s : State) (o : IsInOrder s) (call : resolver.Call) (new : State) (a :
             (all_without (λ p. IsSome (get s.pending p.ticket)) before (owner_of t who) later (subst (All (λ p. IsSome (get s.pending p.ticket))) e owned.pending));
       })
 
-      by : (N : Next) → next_of a ≡ N → GoesOn me d N calls after → AreOwners new after.owners
-      by next_as.Nothing is g = same next_as.Nothing is (λ t end e. cc e) g.1
-      by (next_as.Request out) is g = same (next_as.Request out) is (λ t end e. cc e) g.1
-      by (next_as.End t end) is g = subst (AreOwners new) (sym (told_owners end g.taken (record d { owners = g.rest }) g.told)) (rest_wait t end is g.rest g.taken g.takes)
+      by : (p : Progress) → progress_of a ≡ p → GoesOn me d p calls after → AreOwners new after.owners
+      by Stays is g = same Stays is (λ t end e. cc e) g.1
+      by (Sends t out) is g = same (Sends t out) is (λ u end e. cc e) g.1
+      by (Ends t end) is g = subst (AreOwners new) (sym (told_owners end g.taken (record d { owners = g.rest }) g.told)) (rest_wait t end is g.rest g.taken g.takes)
 
 -- ---- an ask
+
+-- nothing goes on by an ask
+pub no_ask_goes : (s : State) (call : resolver.Call) (r : Result Asked AskError) (t : ℕ) (l new : Pending) → Goes s call (ToAsk r) t l new → ⊥
+no_ask_goes s call r t l new (anew f place first empty) = cc f
+no_ask_goes s call r t l new (keeps source bytes rec called is f e) = cc f
+no_ask_goes s call r t l new (repeats f over first e) = cc f
+no_ask_goes s call r t l new (goes_on f over second more e) = cc f
 
 -- the lookup that an ask starts
 pub started : (s : State) (call : resolver.Call) (new : State) (t : ℕ) (d : Outgoing) → Move s call new (ToAsk (Ok (asked_as.Sent t d)))
     → (l : Pending) × (call ≡ Ask l.x) × (t ≡ s.next) × (d ≡ request s l) × (new.pending ≡ insert s.pending s.next (numbered s l))
-started s call new t d (stays p n q) = absurd q
+started s call new t d (stays p n q) = absurd (cc q)
 started s call new t d (opens l asked place first empty fresh is more few p n f) = (l, asked, cc f, cc f, p)
-started s call new t d (sends u old l found x goes is more p n) = elim (goes_on_reply s call (ToAsk (Ok (asked_as.Sent t d))) u old l goes) [
-  | inl f ↦ absurd (cc (f.1))
-  | inr f ↦ absurd (cc (f.1))
-]
-started s call new t d (drops u l e found p n f) = absurd f
+started s call new t d (sends u old l found x goes is more p n) = absurd (no_ask_goes s call (Ok (asked_as.Sent t d)) u old l goes)
+started s call new t d (drops u l e found p n f why) = absurd (cc f)
 
 module _ (s : State) (o : IsInOrder s) (x : Xeid) (new : State) (a : Asked) (step : Step s (Ask x) new (ToAsk (Ok a))) where
   m : Move s (Ask x) new (ToAsk (Ok a))

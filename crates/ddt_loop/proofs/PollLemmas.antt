@@ -17,13 +17,14 @@ use Rattle.ddt_resolver.specs.declared.answers.Why.{Why}
 use Rattle.ddt_resolver.specs.declared.front.ItrRequest.{ItrRequest}
 use Rattle.ddt_resolver.specs.Front.{reply_to_itr}
 use Rattle.ddt_resolver.specs.Step as resolver
-use Rattle.ddt_loop.specs.declared.acting.Next.{Next}
-use Rattle.ddt_loop.specs.declared.acting.Next.TheVariants as next_as
+use Rattle.ddt_resolver.specs.Step.{progress_of}
+use Rattle.ddt_resolver.specs.declared.step.Progress.{Progress}
+use Rattle.ddt_resolver.specs.declared.step.Progress.TheVariants.{Stays, Sends, Ends}
 use Rattle.ddt_loop.specs.declared.owner.Asker.{Asker}
 use Rattle.ddt_loop.specs.declared.owner.Asker.TheVariants.{Identifier, Itr}
 use Rattle.ddt_loop.specs.Askers.{Desk}
-use Rattle.ddt_loop.specs.Acts.{Running, sent, sent_if, IsToldItr, Starts, Asks, answered, refused, lacks_memory, IsToldAtOnce, AsksForItr, IsTold, GoesOn, Resolves, does, fails, next_of}
-use Rattle.ddt_loop.specs.Polls.{IsTaken, asks, no_request, hears, other_port, polled, PollsMe, no_packet, failed, came, PollsServer, none_there, failed_there, served, out_of_memory, Polls}
+use Rattle.ddt_loop.specs.Acts.{Running, sent, sent_if, IsToldItr, Starts, Asks, answered, refused, lacks_memory, IsToldAtOnce, AsksForItr, IsTold, GoesOn, Resolves, does, fails}
+use Rattle.ddt_loop.specs.Polls.{IsTaken, asks, no_request, hears, other_port, polled, IsNoPacket, PollsMe, no_packet, came, PollsServer, none_there, served, out_of_memory, Polls}
 use Rattle.ddt_loop.specs.Turns.{HaveAsked, no_ask, one_ask, IsTurn, HaveTurned, no_turn, one_turn}
 use Rattle.ddt_loop.specs.Right.{is_poll}
 
@@ -76,13 +77,13 @@ polls_settle me end (Some (Identifier place)) d calls new told = none_of_none ca
 polls_settle me (Ok o) (Some (Itr q)) d calls new told = polls_told me o q calls told.0
 polls_settle me (Err why) (Some (Itr q)) d calls new told = none_of_none calls told.0
 
-polls_on : (me : Locator) (d : Desk) (next : Next) (calls : List Call) (new : Desk) → GoesOn me d next calls new → polls_in calls ≡ 0
-polls_on me d next_as.Nothing calls new goes = none_of_none calls goes.0
-polls_on me d (next_as.Request e) calls new goes = polls_tried me (sent e ∷ []) calls goes.0
-polls_on me d (next_as.End t end) calls new goes = polls_settle me end goes.taken (record d { owners = goes.rest }) calls new goes.told
+polls_on : (me : Locator) (d : Desk) (p : Progress) (calls : List Call) (new : Desk) → GoesOn me d p calls new → polls_in calls ≡ 0
+polls_on me d Stays calls new goes = none_of_none calls goes.0
+polls_on me d (Sends t e) calls new goes = polls_tried me (sent e ∷ []) calls goes.0
+polls_on me d (Ends t end) calls new goes = polls_settle me end goes.taken (record d { owners = goes.rest }) calls new goes.told
 
 polls_resolve : (me : Locator) (now : ℕ) (call : resolver.Call) (w : Running) (calls : List Call) (new : Running) → Resolves me now call w calls new → polls_in calls ≡ 0
-polls_resolve me now call w calls new (does reply step goes) = polls_on me w.desk (next_of reply) calls new.desk goes
+polls_resolve me now call w calls new (does reply step goes) = polls_on me w.desk (progress_of reply) calls new.desk goes
 polls_resolve me now call w calls new (fails wants state desk none) = none_of_none calls none
 
 polls_taken : (me : Locator) (now : ℕ) (p : Packet) (bytes : List ℕ) (w : Running) (calls : List Call) (new : Running) → IsTaken me now p bytes w calls new → polls_in calls ≡ 0
@@ -95,14 +96,16 @@ polls_first : (calls : List Call) (first : Call) (rest : List Call) → is_poll 
 polls_first calls first rest is none e =
     ap polls_in e ∙ polls_both (first ∷ []) rest ∙ ap (λ n. polls_in (first ∷ []) + n) none ∙ ap (λ b. (0 + cond b 1 0) + 0) is
 
+polls_nothing : (at : Locator) (call : Call) → IsNoPacket at call → polls_in (call ∷ []) ≡ 1
+polls_nothing at call (inl is) = ap (λ c. polls_in (c ∷ [])) is
+polls_nothing at call (inr is) = ap (λ c. polls_in (c ∷ [])) is.1
+
 polls_me : (me : Locator) (now : ℕ) (w : Running) (calls : List Call) (new : Running) → PollsMe me now w calls new → polls_in calls ≡ 1
-polls_me me now w calls new (no_packet is same) = ap polls_in is
-polls_me me now w calls new (failed fault is same) = ap polls_in is
+polls_me me now w calls new (no_packet call none is same) = ap polls_in is ∙ polls_nothing me call none
 polls_me me now w calls new (came p bytes rest taken is) = polls_first calls (polled me (Ok (Some p)) bytes) rest refl (polls_taken me now p bytes w rest new taken) is
 
 polls_server : (servers : List Outline) (at : Locator) (calls : List Call) → PollsServer servers at calls → polls_in calls ≡ 1
-polls_server servers at calls (none_there is) = ap polls_in is
-polls_server servers at calls (failed_there fault is) = ap polls_in is
+polls_server servers at calls (none_there call none is) = ap polls_in is ∙ polls_nothing at call none
 polls_server servers at calls (served p bytes reply tries says tried is) = polls_first calls (polled at (Ok (Some p)) bytes) tries refl (polls_tried at (reply_to p reply) tries tried) is
 polls_server servers at calls (out_of_memory p bytes is) = ap polls_in is
 

@@ -30,11 +30,16 @@ use Rattle.ddt_loop.specs.declared.owner.Asker.TheVariants.{Identifier, Itr}
 use Rattle.ddt_loop.specs.declared.owner.Owner.{Owner}
 use Rattle.ddt_loop.specs.Askers.{Desk, end_of_ask, opening_desk}
 use Rattle.ddt_loop.specs.Acts.{Running, running, AsksAt, AsksForItr, IsToldAtOnce, Resolves, does, fails}
-use Rattle.ddt_loop.specs.Polls.{IsTaken, asks, no_request, hears, other_port, PollsMe, no_packet, failed, came, PollsServer, none_there, failed_there, served, out_of_memory, Polls}
+use Rattle.ddt_loop.specs.Polls.{IsTaken, asks, no_request, hears, other_port, IsNoPacket, PollsMe, no_packet, came, PollsServer, none_there, served, out_of_memory, Polls}
 use Rattle.ddt_loop.specs.Turns.{HaveAsked, no_ask, one_ask, IsTurn, HaveTurned, no_turn, one_turn}
 use Rattle.ddt_loop.specs.Right.{WasAsked, IsFair, IsRightEnd, IsNoReply, Owes, begin, asked, forgotten, other}
 use Rattle.ddt_loop.proofs.CallLemmas.{fair_front, itrs, owes_others, owes_told, other_socket, no_replies_there, open_ends, end_set}
 use Rattle.ddt_loop.proofs.KeepLemmas.{IsKept, WaitsFor, kept_more, kept_moved, kept_on, owes_on, left_over, kept_ask}
+
+-- a poll that gives no packet tries no reply
+nothing_tried : (me at : Locator) (call : Call) → IsNoPacket at call → IsNoReply me call
+nothing_tried me at call (inl is) = rw is tt
+nothing_tried me at call (inr is) = rw is.1 tt
 
 module _ (r : Register) (me : Locator) (ids : List Xeid) (laws : StepsKeepSoundness) (time : TimeKeepsSoundness) (accepted : IsAccepted r) where
   -- after some calls the resolver is right, and these ITRs may be replied to
@@ -141,12 +146,9 @@ module _ (r : Register) (me : Locator) (ids : List Xeid) (laws : StepsKeepSoundn
 
   right_poll : (calls : List Call) (w : Running) → IsRightAfter calls w → (now : ℕ) → now ≤ last_moment → (polling : List Call) (new : Running) → IsFair r me (calls ++ polling)
       → PollsMe me now w polling new → IsRightAfter (calls ++ polling) new
-  right_poll calls w i now le polling new fair (no_packet is same) =
-      subst (λ l. IsRightAfter (calls ++ l) new) (sym is) (subst (IsRightAfter (calls ++ Received me most_bytes (Ok None) [] ∷ [])) (sym same) (right_other calls w (Received me most_bytes (Ok None) []) tt i))
-  right_poll calls w i now le polling new fair (failed fault is same) =
-      subst (λ l. IsRightAfter (calls ++ l) new) (sym is) (subst (IsRightAfter (calls ++ Received me most_bytes (Err fault) [] ∷ [])) (sym same) (right_other calls w (Received me most_bytes (Err fault) []) tt i))
+  right_poll calls w i now le polling new fair (no_packet call none is same) = rw (is, same) (right_other calls w call (nothing_tried me me call none) i)
   right_poll calls w i now le polling new fair (came p bytes rest taken is) =
-      subst (λ l. IsRightAfter (calls ++ l) new) (sym is) (right_taken calls w i now le most_bytes p bytes rest new (subst (λ l. IsFair r me (calls ++ l)) is fair) taken)
+      rw is (right_taken calls w i now le most_bytes p bytes rest new (rw is at fair) taken)
 
   -- ---- a poll of a server's socket
 
@@ -158,13 +160,12 @@ module _ (r : Register) (me : Locator) (ids : List Xeid) (laws : StepsKeepSoundn
     one_none call none = All-cons (IsNoReply me) call [] none (All-nil (IsNoReply me))
 
     right_server : (servers : List Outline) (polling : List Call) → PollsServer servers at polling → IsRightAfter (calls ++ polling) w
-    right_server servers polling (none_there is) = subst (λ l. IsRightAfter (calls ++ l) w) (sym is) (right_others (Received at most_bytes (Ok None) [] ∷ []) (one_none (Received at most_bytes (Ok None) []) tt))
-    right_server servers polling (failed_there fault is) = subst (λ l. IsRightAfter (calls ++ l) w) (sym is) (right_others (Received at most_bytes (Err fault) [] ∷ []) (one_none (Received at most_bytes (Err fault) []) tt))
+    right_server servers polling (none_there call none is) = rw is (right_others (call ∷ []) (one_none call (nothing_tried me at call none)))
     right_server servers polling (served p bytes reply tries says tried is) =
-        subst (λ l. IsRightAfter (calls ++ l) w) (sym is) (right_others (Received at most_bytes (Ok (Some p)) bytes ∷ tries)
+        rw is (right_others (Received at most_bytes (Ok (Some p)) bytes ∷ tries)
         (All-cons (IsNoReply me) (Received at most_bytes (Ok (Some p)) bytes) tries tt (no_replies_there at me p reply tries apart tried)))
     right_server servers polling (out_of_memory p bytes is) =
-        subst (λ l. IsRightAfter (calls ++ l) w) (sym is) (right_others (Received at most_bytes (Ok (Some p)) bytes ∷ []) (one_none (Received at most_bytes (Ok (Some p)) bytes) tt))
+        rw is (right_others (Received at most_bytes (Ok (Some p)) bytes ∷ []) (one_none (Received at most_bytes (Ok (Some p)) bytes) tt))
 
   -- ---- turns
 

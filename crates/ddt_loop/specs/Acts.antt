@@ -12,18 +12,16 @@ use Rattle.ddt_resolver.specs.declared.answers.Asked.{Asked}
 use Rattle.ddt_resolver.specs.declared.answers.Asked.TheVariants as asked_as
 use Rattle.ddt_resolver.specs.declared.answers.AskError.{AskError}
 use Rattle.ddt_resolver.specs.declared.answers.AskError.TheVariants.{Memory}
-use Rattle.ddt_resolver.specs.declared.answers.Heard.{Heard}
-use Rattle.ddt_resolver.specs.declared.answers.Heard.TheVariants as heard_as
-use Rattle.ddt_resolver.specs.declared.answers.Ticked.{Ticked}
-use Rattle.ddt_resolver.specs.declared.answers.Ticked.TheVariants as ticked_as
 use Rattle.ddt_resolver.specs.declared.answers.Why.{Why}
 use Rattle.ddt_resolver.specs.declared.front.ItrRequest.{ItrRequest}
+use Rattle.ddt_resolver.specs.declared.step.Progress.{Progress}
+use Rattle.ddt_resolver.specs.declared.step.Progress.TheVariants.{Stays, Sends, Ends}
+use Rattle.ddt_resolver.specs.declared.step.Reply.{Reply}
+use Rattle.ddt_resolver.specs.declared.step.Reply.TheVariants.{ToAsk}
 use Rattle.ddt_resolver.specs.Front.{reply_to_itr}
 use Rattle.ddt_resolver.specs.State.{State, moved, most_pending}
 use Rattle.ddt_resolver.specs.Step as resolver
-use Rattle.ddt_resolver.specs.Step.{Ask, Reply, ToAsk, ToDatagram, ToTick, Step, Wants}
-use Rattle.ddt_loop.specs.declared.acting.Next.{Next}
-use Rattle.ddt_loop.specs.declared.acting.Next.TheVariants.{Nothing, Request, End}
+use Rattle.ddt_resolver.specs.Step.{Ask, Step, Wants, progress_of}
 use Rattle.ddt_loop.specs.declared.owner.Asker.{Asker}
 use Rattle.ddt_loop.specs.declared.owner.Asker.TheVariants.{Identifier, Itr}
 use Rattle.ddt_loop.specs.declared.owner.Owner.{Owner}
@@ -118,26 +116,6 @@ pub record AsksForItr (me : Locator) (now : ℕ) (q : ItrRequest) (w : Running) 
 
 -- ---- a datagram and a tick
 
--- what a datagram, or a tick, makes of a lookup
-abbrev pub after_heard : Heard → Next
-after_heard (heard_as.Ignored why) = Nothing
-after_heard (heard_as.Followed t d) = Request d
-after_heard (heard_as.Answer t o) = End t (Ok o)
-after_heard (heard_as.GaveUp t why) = End t (Err why)
-
--- a tick sends a lookup's next request or ends the lookup; where no deadline has come it does nothing
-abbrev pub after_ticked : Ticked → Next
-after_ticked ticked_as.Nothing = Nothing
-after_ticked (ticked_as.Sent t d) = Request d
-after_ticked (ticked_as.Answer t o) = End t (Ok o)
-after_ticked (ticked_as.GaveUp t why) = End t (Err why)
-
--- an ask's answer is none of these
-abbrev pub next_of : Reply → Next
-next_of (ToAsk a) = Nothing
-next_of (ToDatagram h) = after_heard h
-next_of (ToTick t) = after_ticked t
-
 -- Who waited for a lookup that has ended is told: an identifier has its end, and an ITR is sent the negative Map-Reply
 -- to an outcome, if there is one.
 abbrev pub IsTold : Locator → Result Outcome Why → Option Asker → Desk → List Call → Desk → Type 0
@@ -155,16 +133,16 @@ pub record Settles (me : Locator) (t : ℕ) (end : Result Outcome Why) (d : Desk
   pub told : IsTold me end taken (record d { owners = rest }) calls new
 
 -- a lookup goes on, and its request is tried, or it ends
-abbrev pub GoesOn : Locator → Desk → Next → List Call → Desk → Type 0
-GoesOn me d Nothing calls new = (calls ≡ []) × (new ≡ d)
-GoesOn me d (Request e) calls new = IsSent me e calls × (new ≡ d)
-GoesOn me d (End t end) calls new = Settles me t end d calls new
+abbrev pub GoesOn : Locator → Desk → Progress → List Call → Desk → Type 0
+GoesOn me d Stays calls new = (calls ≡ []) × (new ≡ d)
+GoesOn me d (Sends t e) calls new = IsSent me e calls × (new ≡ d)
+GoesOn me d (Ends t end) calls new = Settles me t end d calls new
 
 -- The resolver hears a datagram, or ticks, at a moment. `fails`: a request would be sent or a record saved, and
 -- memory ran out; nothing changes but the time.
 pub data Resolves (me : Locator) (now : ℕ) (call : resolver.Call) (w : Running) (calls : List Call) (new : Running) :
     Type 0 where
   does : (reply : Reply) → Step (moved now w.state) call new.state reply
-      → GoesOn me w.desk (next_of reply) calls new.desk → Resolves me now call w calls new
+      → GoesOn me w.desk (progress_of reply) calls new.desk → Resolves me now call w calls new
   fails : Wants (moved now w.state) call → new.state ≡ moved now w.state → new.desk ≡ w.desk → calls ≡ []
       → Resolves me now call w calls new

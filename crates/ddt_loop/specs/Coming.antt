@@ -5,9 +5,9 @@ use Rattle.ddt_resolver.specs.declared.front.ItrRequest.{ItrRequest}
 use Rattle.ddt_resolver.specs.Front.{IsItrRequest}
 use Rattle.ddt_resolver.specs.State.{moved}
 use Rattle.ddt_resolver.specs.Step.{Hear}
-use Rattle.ddt_loop.specs.declared.coming.Came.{Came}
-use Rattle.ddt_loop.specs.declared.coming.Came.TheVariants.{Nothing, Waits, Ended}
-use Rattle.ddt_loop.specs.declared.coming.Ended.{Ended as End}
+use Rattle.ddt_loop.specs.declared.came.Came.{Came}
+use Rattle.ddt_loop.specs.declared.came.Came.TheVariants.{Nothing, Waits, Ended}
+use Rattle.ddt_loop.specs.declared.came.Ended.{Ended as End}
 use Rattle.ddt_loop.specs.declared.owner.Asker.TheVariants.{Itr}
 use Rattle.ddt_loop.specs.Askers.{with_owner}
 use Rattle.ddt_loop.specs.Acts.{Running}

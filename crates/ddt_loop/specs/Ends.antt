@@ -5,16 +5,17 @@ use Rattle.ddt_path.specs.declared.record.Outcome.{Outcome}
 use Rattle.ddt_wires.specs.declared.call.Call.{Call as WireCall}
 use Rattle.ddt_resolver.specs.declared.answers.Why.{Why}
 use Rattle.ddt_resolver.specs.declared.front.ItrRequest.{ItrRequest}
+use Rattle.ddt_resolver.specs.declared.step.Progress.{Progress}
+use Rattle.ddt_resolver.specs.declared.step.Progress.TheVariants.{Stays, Sends, Ends}
+use Rattle.ddt_resolver.specs.declared.step.Reply.{Reply}
 use Rattle.ddt_resolver.specs.State.{State}
-use Rattle.ddt_resolver.specs.Step.{Call, Reply, Step}
-use Rattle.ddt_loop.specs.declared.acting.Next.{Next}
-use Rattle.ddt_loop.specs.declared.acting.Next.TheVariants.{Nothing, Request, End}
-use Rattle.ddt_loop.specs.declared.coming.Ended.{Ended}
+use Rattle.ddt_resolver.specs.Step.{Call, Step, progress_of}
+use Rattle.ddt_loop.specs.declared.came.Ended.{Ended}
 use Rattle.ddt_loop.specs.declared.owner.Asker.{Asker}
 use Rattle.ddt_loop.specs.declared.owner.Asker.TheVariants.{Identifier, Itr}
 use Rattle.ddt_loop.specs.declared.owner.Owner.{Owner}
 use Rattle.ddt_loop.specs.Askers.{Takes}
-use Rattle.ddt_loop.specs.Acts.{IsToldItr, next_of}
+use Rattle.ddt_loop.specs.Acts.{IsToldItr}
 
 -- what an ITR is told at the end of its lookup
 abbrev pub IsToldEnd : Locator → Result Outcome Why → ItrRequest → List WireCall → Type 0
@@ -45,16 +46,16 @@ pub record IsEnd (t : ℕ) (end : Result Outcome Why) (owners after : List Owner
 
 -- A lookup that goes on leaves all who wait. Where one ends, whoever waited for it is taken off the list, and the end
 -- is given only if that was an ITR.
-abbrev pub HasEnded : Next → List Owner → List Owner → Option Ended → Type 0
-HasEnded Nothing owners after ended = (after ≡ owners) × (ended ≡ None)
-HasEnded (Request d) owners after ended = (after ≡ owners) × (ended ≡ None)
-HasEnded (End t end) owners after ended = IsEnd t end owners after ended
+abbrev pub HasEnded : Progress → List Owner → List Owner → Option Ended → Type 0
+HasEnded Stays owners after ended = (after ≡ owners) × (ended ≡ None)
+HasEnded (Sends t d) owners after ended = (after ≡ owners) × (ended ≡ None)
+HasEnded (Ends t end) owners after ended = IsEnd t end owners after ended
 
 -- the resolver's step by a call ends this lookup so, and the ITR that waited for it does so no longer
 pub record EndsBy (call : Call) (s new : State) (owners after : List Owner) (e : Ended) : Type 0 where
   pub reply : Reply
   pub step : Step s call new reply
-  pub ends : next_of reply ≡ End e.ticket e.end
+  pub ends : progress_of reply ≡ Ends e.ticket e.end
   pub request : ItrRequest
   pub takes : Takes e.ticket owners after (Some (Itr request))
 

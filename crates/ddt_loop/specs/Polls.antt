@@ -1,5 +1,5 @@
 -- A poll of one socket, and what is done with the packet that comes.
-use Rattle.std.specs.Prelude.{ℕ, ◌≡◌, ◌≢◌, ◌/◌, ◌==◌, Bool, true, false, List, [], ◌∷◌, slice_get, Option, Some, None, Result, Ok, Err, zero, suc}
+use Rattle.std.specs.Prelude.{ℕ, ◌≡◌, ◌≢◌, ◌⊎◌, true, false, List, [], ◌∷◌, slice_get, Option, Some, None, Result, Ok, Err, zero, suc}
 use Rattle.ddt_path.specs.declared.locator.Locator.{Locator}
 use Rattle.ddt_config.specs.Table.{Outline}
 use Rattle.ddt_wires.specs.declared.call.Call.{Call}
@@ -12,37 +12,36 @@ use Rattle.ddt_resolver.specs.declared.front.ItrRequest.{ItrRequest}
 use Rattle.ddt_resolver.specs.Front.{IsItrRequest}
 use Rattle.ddt_resolver.specs.Step.{Hear}
 use Rattle.ddt_sim.specs.Compiled.{reply_at}
-use Rattle.ddt_wire.specs.MessageType.{encapsulated}
+use Rattle.ddt_wire.specs.declared.message_type.MessageType.TheVariants.{Encapsulated}
+use Rattle.ddt_wire.specs.MessageType.{is_of}
 use Rattle.ddt_loop.specs.Acts.{Running, AsksForItr, Resolves}
 
 -- ---- at the resolver's own socket
-
--- the first four bits are those of an Encapsulated Control Message (RFC 9301, section 5.8)
-abbrev pub is_encapsulated : List ℕ → Bool
-is_encapsulated [] = false
-is_encapsulated (first ∷ rest) = first / 16 == encapsulated
 
 -- What is done with a packet. `asks`: it is the request of an ITR. `no_request`: another Encapsulated Control Message
 -- is dropped. `hears`: any other datagram from UDP port 4342 is heard. `other_port`: from another port it is dropped.
 pub data IsTaken (me : Locator) (now : ℕ) (p : Packet) (bytes : List ℕ) (w : Running) (calls : List Call)
     (new : Running) : Type 0 where
-  asks : is_encapsulated bytes ≡ true → (q : ItrRequest) → IsItrRequest bytes q → AsksForItr me now q w calls new
+  asks : is_of Encapsulated bytes ≡ true → (q : ItrRequest) → IsItrRequest bytes q → AsksForItr me now q w calls new
       → IsTaken me now p bytes w calls new
-  no_request : is_encapsulated bytes ≡ true → ((q : ItrRequest) → IsItrRequest bytes q → ⊥) → calls ≡ [] → new ≡ w
+  no_request : is_of Encapsulated bytes ≡ true → ((q : ItrRequest) → IsItrRequest bytes q → ⊥) → calls ≡ [] → new ≡ w
       → IsTaken me now p bytes w calls new
-  hears : is_encapsulated bytes ≡ false → p.port ≡ control_port → Resolves me now (Hear p.from bytes) w calls new
+  hears : is_of Encapsulated bytes ≡ false → p.port ≡ control_port → Resolves me now (Hear p.from bytes) w calls new
       → IsTaken me now p bytes w calls new
-  other_port : is_encapsulated bytes ≡ false → p.port ≢ control_port → calls ≡ [] → new ≡ w
+  other_port : is_of Encapsulated bytes ≡ false → p.port ≢ control_port → calls ≡ [] → new ≡ w
       → IsTaken me now p bytes w calls new
 
 -- the call of `receive` that gives this answer
 abbrev pub polled : Locator → Result (Option Packet) NetFault → List ℕ → Call
 polled at answer bytes = Received at most_bytes answer bytes
 
--- a poll: no packet comes, `receive` fails, or a packet is taken
+-- a poll that gives no packet: none came, or `receive` failed
+abbrev pub IsNoPacket : Locator → Call → Type 0
+IsNoPacket at call = (call ≡ polled at (Ok None) []) ⊎ ((fault : NetFault) × (call ≡ polled at (Err fault) []))
+
+-- a poll: no packet comes, or one is taken
 pub data PollsMe (me : Locator) (now : ℕ) (w : Running) (calls : List Call) (new : Running) : Type 0 where
-  no_packet : calls ≡ polled me (Ok None) [] ∷ [] → new ≡ w → PollsMe me now w calls new
-  failed : (fault : NetFault) → calls ≡ polled me (Err fault) [] ∷ [] → new ≡ w → PollsMe me now w calls new
+  no_packet : (call : Call) → IsNoPacket me call → calls ≡ call ∷ [] → new ≡ w → PollsMe me now w calls new
   came : (p : Packet) (bytes : List ℕ) (rest : List Call) → IsTaken me now p bytes w rest new
       → calls ≡ polled me (Ok (Some p)) bytes ∷ rest → PollsMe me now w calls new
 
@@ -51,8 +50,7 @@ pub data PollsMe (me : Locator) (now : ℕ) (w : Running) (calls : List Call) (n
 -- A poll. `served`: the servers' reply, if there is one, is tried to where the packet came from. `out_of_memory`: the
 -- packet is lost.
 pub data PollsServer (servers : List Outline) (at : Locator) (calls : List Call) : Type 0 where
-  none_there : calls ≡ polled at (Ok None) [] ∷ [] → PollsServer servers at calls
-  failed_there : (fault : NetFault) → calls ≡ polled at (Err fault) [] ∷ [] → PollsServer servers at calls
+  none_there : (call : Call) → IsNoPacket at call → calls ≡ call ∷ [] → PollsServer servers at calls
   served : (p : Packet) (bytes : List ℕ) (reply : Option (List ℕ)) (tries : List Call)
       → reply ≡ reply_at servers at bytes → AreTried at (reply_to p reply) tries
       → calls ≡ polled at (Ok (Some p)) bytes ∷ tries → PollsServer servers at calls

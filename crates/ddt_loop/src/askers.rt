@@ -16,6 +16,7 @@ use std::marker::Model;
 /// both lists.
 #[derive(Drop)]
 pub(crate) struct Askers {
+    alloc: Global,
     owners: Vec<Owner>,
     ends: Vec<LoopEnd>,
 }
@@ -43,9 +44,18 @@ impl Askers {
     {
         let owners = Vec::with_capacity(alloc, MOST_PENDING)?;
         match unresolved(alloc, ids) {
-            Ok(ends) => Ok(Askers { owners, ends }),
+            Ok(ends) => Ok(Askers {
+                alloc,
+                owners,
+                ends,
+            }),
             Err(refused) => Err(refused),
         }
+    }
+
+    /// Where they take their memory from.
+    pub(crate) fn alloc(&self) -> Global {
+        self.alloc
     }
 
     /// Somebody waits for the end of a lookup. It allocates nothing: there is room.
@@ -96,6 +106,7 @@ impl Askers {
         ensures { result.items ≡ self.ends }
     {
         let Askers {
+            alloc: _alloc,
             owners: _owners,
             ends,
         } = self;

@@ -5,7 +5,7 @@ ghost use Rattle.std.specs.Prelude.{◌≤◌, length, IfOk, IfSome};
 use crate::polling::Poll;
 use ddt_ecm::CONTROL_PORT;
 use ddt_path::Locator;
-use ddt_wire::ENCAPSULATED;
+use ddt_wire::MessageType;
 use ddt_wires::{NetFault, Packet, Wires, ip_of, locator_of};
 use std::alloc::Global;
 use std::io;
@@ -211,14 +211,6 @@ impl ResolverWires {
     }
 }
 
-/// Whether the first four bits are those of an Encapsulated Control Message.
-fn is_encapsulated(bytes: &[u8]) -> bool {
-    match bytes {
-        [first, ..] => *first / 16 == ENCAPSULATED,
-        [] => false,
-    }
-}
-
 impl ResolverWires {
     /// A datagram that is at one of the sockets where it listens, or where it asks.
     fn receive_at(&mut self, listens: bool, buffer: &mut [u8]) -> Result<Option<Packet>, NetFault>
@@ -230,10 +222,11 @@ impl ResolverWires {
             self.asking.receive_any(buffer)
         };
         match answer {
-            Ok(Some(packet)) if is_encapsulated(&buffer[..packet.len]) != listens => {
-                self.strays = self.strays.saturating_add(1);
-                Err(NetFault::Receive)
-            }
+            Ok(Some(packet)) if MessageType::Encapsulated.is_of(&buffer[..packet.len]) != listens =>
+                {
+                    self.strays = self.strays.saturating_add(1);
+                    Err(NetFault::Receive)
+                }
             answer => answer,
         }
     }
@@ -250,7 +243,7 @@ impl Wires for ResolverWires {
     }
 
     fn send(&mut self, _at: Locator, to: Locator, port: u16, bytes: &[u8]) -> Result<(), NetFault> {
-        if is_encapsulated(bytes) {
+        if MessageType::Encapsulated.is_of(bytes) {
             self.asking.send_any(to, port, bytes)
         } else {
             self.listening.send_any(to, port, bytes)

@@ -4,7 +4,7 @@ use super::loopback::Loopback;
 use crate::texts::{locator, prefix};
 use crate::worlds::{ListResolver, ListServers, ME, ROOT, moment, rooted, served};
 use ddt_examples::registers::LONE_ROOT;
-use ddt_loop::{LoopEnd, StandingClock, loop_turns};
+use ddt_loop::{LoopEnd, StandingClock, Tree, loop_turns};
 use ddt_path::{Locator, Outcome, Xeid};
 use ddt_resolver::{AskError, MOST_PENDING};
 use std::alloc::Global;
@@ -25,17 +25,18 @@ fn crowd(alloc: Global) -> Result<Vec<Xeid>, Fail> {
 
 /// What these end in over a lone root, while the clock stands.
 fn ends(alloc: Global, crowd: &[Xeid]) -> Result<Vec<LoopEnd>, Fail> {
-    let mut servers: ListServers = served(alloc, LONE_ROOT)?;
+    let servers: ListServers = served(alloc, LONE_ROOT)?;
     let mut resolver: ListResolver = rooted(alloc, &[ROOT], 1)?;
     let mut clock = StandingClock { at: moment(0)? };
     Ok(loop_turns(
-        alloc,
         &mut Loopback::new(alloc, 0),
         &mut clock,
-        &mut servers,
+        &Tree {
+            me: ME,
+            sockets: &[locator(ROOT)?],
+            servers: &servers,
+        },
         &mut resolver,
-        ME,
-        &[locator(ROOT)?],
         crowd,
         20_000,
     )?)

@@ -8,7 +8,7 @@ use ddt_ecm::{CONTROL_PORT, read_request, write_request};
 use ddt_examples::bytes_of;
 use ddt_examples::messages::HOLE_OF_EVERYTHING;
 use ddt_examples::registers::CAMPUS;
-use ddt_loop::{LoopEnd, StandingClock, loop_turns};
+use ddt_loop::{LoopEnd, StandingClock, Tree, loop_turns};
 use ddt_path::{Listed, Locator, ReferralRecord};
 use ddt_sim::Servers;
 use ddt_wire::read_referral;
@@ -222,13 +222,14 @@ fn end_over(
     let mut resolver: ListResolver = rooted(alloc, &[ROOT], 1)?;
     let mut clock = StandingClock { at };
     Ok(loop_turns(
-        alloc,
         wires,
         &mut clock,
-        servers,
+        &Tree {
+            me: ME,
+            sockets: &[],
+            servers,
+        },
         &mut resolver,
-        ME,
-        &[],
         &[x],
         10,
     )?)

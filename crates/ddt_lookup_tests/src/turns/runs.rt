@@ -10,7 +10,7 @@ use ddt_examples::messages::{
 };
 use ddt_examples::registers::CAMPUS;
 use ddt_examples::{bytes_of, changed};
-use ddt_loop::{Clock, LoopEnd, StandingClock, SteppingClock, loop_turns};
+use ddt_loop::{Clock, LoopEnd, StandingClock, SteppingClock, Tree, loop_turns};
 use ddt_path::{Locator, Xeid};
 use std::alloc::Global;
 use std::process::Abort;
@@ -378,13 +378,14 @@ impl World {
         turns: u32,
     ) -> Result<Vec<LoopEnd>, Fail> {
         Ok(loop_turns(
-            self.alloc,
             &mut self.wires,
             clock,
-            &mut self.servers,
+            &Tree {
+                me: ME,
+                sockets,
+                servers: &self.servers,
+            },
             &mut self.resolver,
-            ME,
-            sockets,
             identifiers,
             turns,
         )?)

@@ -1,5 +1,5 @@
 use Rattle.std.proofs.Common.{[], refl}
-use Rattle.ddt_loop.specs.declared.coming.Came.TheVariants.{Nothing, Ended}
+use Rattle.ddt_loop.specs.declared.came.Came.TheVariants.{Nothing, Ended}
 use Rattle.ddt_wires.specs.laws.Tell.{tells_none}
 use Rattle.ddt_daemon.specs.Goes.{same, ends}
 use Rattle.ddt_daemon.proofs.FollowLemmas.{kept_or_lost}

@@ -1,0 +1,41 @@
+use Rattle.std.proofs.Common.{[], refl, ap, Ok}
+use Rattle.ddt_resolver.specs.State.{moved}
+use Rattle.ddt_resolver.specs.Step.{asks}
+use Rattle.ddt_resolver.specs.laws.Order.{order_moved}
+use Rattle.ddt_wires.specs.laws.Tell.{tells_none}
+use Rattle.ddt_loop.specs.Acts.{answered}
+use Rattle.ddt_loop.proofs.PendingLemmas.{moved_owners, owners_start, room_for}
+use Rattle.ddt_loop.proofs.ActLemmas.{ask_refused}
+use Rattle.ddt_loop.proofs.asks.ask.Goals as goal
+
+pub after_ask-requires : goal.after_ask-requires
+after_ask-requires g c =
+    let s = moved c.args.here.now c.args.resolver.now in
+    room_for s (order_moved c.args.resolver.now c.args.here.now c.millis-millis.ensures.bound c.in_order.ensures) c.args.x c.ask.new.self
+    c.in-Ok.asked (asks c.args.x (Ok c.in-Ok.asked) c.in-Ok.ensures.identifier c.in-Ok.ensures.step refl refl) c.args.askers.now
+    (moved_owners c.args.resolver.now c.args.here.now c.args.askers.now.owners c.requires)
+
+pub returns-in-Ok-clause-asks : goal.returns-in-Ok-clause-asks
+returns-in-Ok-clause-asks g c =
+    let w = c.after_ask.ensures.starts in (
+      w.0,
+      w.1,
+      answered c.in-Ok.asked (asks c.args.x (Ok c.in-Ok.asked) c.in-Ok.ensures.identifier c.in-Ok.ensures.step refl refl) w.2
+          (ap Ok c.after_ask.ensures.remembered),
+    )
+
+pub returns-in-Ok-clause-owners : goal.returns-in-Ok-clause-owners
+returns-in-Ok-clause-owners g c =
+    let s = moved c.args.here.now c.args.resolver.now in
+    let w = c.after_ask.ensures.starts in
+    owners_start s (order_moved c.args.resolver.now c.args.here.now c.millis-millis.ensures.bound c.in_order.ensures) c.args.x c.ask.new.self
+    c.in-Ok.asked (asks c.args.x (Ok c.in-Ok.asked) c.in-Ok.ensures.identifier c.in-Ok.ensures.step refl refl) c.args.here.me c.args.asker
+    c.args.askers.now w.0 c.after_ask.new.askers (moved_owners c.args.resolver.now c.args.here.now c.args.askers.now.owners c.requires) w.2
+
+pub returns-in-Err-clause-asks : goal.returns-in-Err-clause-asks
+returns-in-Err-clause-asks g c = (
+  [],
+  tells_none (g.W.Wires.calls c.args.wires.now),
+  ask_refused c.args.here.me c.args.here.now c.args.x c.args.asker c.args.resolver.now
+      c.ask.new.self c.args.askers.now c.in-Err.why c.in-Err.ensures.identifier c.in-Err.ensures.step c.in-Err.ensures.memory,
+)

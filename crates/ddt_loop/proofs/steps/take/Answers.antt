@@ -1,0 +1,41 @@
+use Rattle.std.proofs.Common.{[], refl, sym, ◌∙◌, subst, arith}
+use Rattle.std.proofs.lemmas.Option.{none-some}
+use Rattle.ddt_wires.specs.laws.Tell.{tells_none}
+use Rattle.ddt_loop.specs.Coming.{IsCame}
+use Rattle.ddt_loop.specs.Acts.{running}
+use Rattle.ddt_loop.proofs.EndLemmas.{waits_came, ends_came}
+use Rattle.ddt_loop.specs.Polls.{asks, no_request, hears}
+use Rattle.ddt_loop.proofs.steps.take.Goals as goal
+
+pub returns-in-Some-clause-taken : goal.returns-in-Some-clause-taken
+returns-in-Some-clause-taken g c =
+    let w = c.ask_for_itr-ticket.ensures.asks in
+    (w.0, w.1, asks (sym c.is_of.ensures ∙ c.if-is_of.true) c.in-Some.request c.in-Some.ensures.found w.2)
+
+pub returns-in-None-clause-taken : goal.returns-in-None-clause-taken
+returns-in-None-clause-taken g c = (
+  [],
+  tells_none (g.W.Wires.calls c.args.wires.now),
+  no_request (sym c.is_of.ensures ∙ c.if-is_of.true)
+      (λ q is. none-some q (c.in-None.ensures.only q is)) refl refl,
+)
+
+pub returns-then-packet-eq-CONTROL_PORT-clause-taken : goal.returns-then-packet-eq-CONTROL_PORT-clause-taken
+returns-then-packet-eq-CONTROL_PORT-clause-taken g c =
+    let w = c.resolve-ended.ensures.resolves in
+    (w.0, w.1, hears (sym c.is_of.ensures ∙ c.if-is_of.false) c.if-packet-eq-CONTROL_PORT.true w.2)
+
+pub returns-in-Some-clause-came : goal.returns-in-Some-clause-came
+returns-in-Some-clause-came g c =
+    let w = running c.args.resolver.now c.args.askers.now in
+    let new = running c.ask_for_itr-ticket.new.resolver c.ask_for_itr-ticket.new.askers in
+    subst (IsCame c.args.here.now c.args.packet.from c.args.bytes.now w new) (sym c.waits.ensures)
+    (waits_came c.args.here.now c.args.packet.from c.args.bytes.now w new c.ask_for_itr-ticket.result _ c.in-Some.request
+    (omega (arith, c.type_inv.bytes)) c.in-Some.ensures.found c.ask_for_itr-ticket.ensures.waits c.ask_for_itr-ticket.ensures.none)
+
+pub returns-then-packet-eq-CONTROL_PORT-clause-came : goal.returns-then-packet-eq-CONTROL_PORT-clause-came
+returns-then-packet-eq-CONTROL_PORT-clause-came g c =
+    let w = running c.args.resolver.now c.args.askers.now in
+    let new = running c.resolve-ended.new.resolver c.resolve-ended.new.askers in
+    subst (IsCame c.args.here.now c.args.packet.from c.args.bytes.now w new) (sym c.ends.ensures)
+    (ends_came c.args.here.now c.args.packet.from c.args.bytes.now w new c.resolve-ended.result c.resolve-ended.ensures.ended)

@@ -1,0 +1,129 @@
+//! A resolver that runs for ITRs: what comes to its own socket, and its ticks.
+
+ghost use Rattle.std.specs.Prelude.{◌≡◌, [], List, IfOk};
+ghost use Rattle.ddt_wires.specs.declared.call.Call.{Call as ACall};
+ghost use Rattle.ddt_wires.specs.Calls.{Tells};
+ghost use Rattle.ddt_resolver.specs.State.{moved};
+ghost use Rattle.ddt_resolver.specs.Step.{Tick};
+ghost use Rattle.ddt_loop.specs.Askers.{opening_desk};
+ghost use Rattle.ddt_loop.specs.Acts.{running, Resolves};
+ghost use Rattle.ddt_loop.specs.Coming.{IsCame};
+ghost use Rattle.ddt_loop.specs.Ends.{HasEndedBy};
+ghost use Rattle.ddt_loop.specs.Polls.{IsTaken};
+ghost use Rattle.ddt_loop.specs.Runs.{FairRunsAreRight};
+
+use crate::askers::Askers;
+use crate::came::{Came, Ended};
+use crate::steps::{Here, resolve, take};
+use ddt_cache::{Entry, Moment};
+use ddt_path::Locator;
+use ddt_resolver::{Input, Resolver};
+use ddt_sim::a_step_keeps_a_resolver_sound;
+use ddt_trie::PrefixMap;
+use ddt_wires::{Packet, Wires};
+use std::alloc::{AllocError, Global};
+use std::marker::Model;
+
+/// A resolver, and the ITRs that wait for its lookups. Contracts see both.
+#[derive(Drop)]
+pub struct RunningResolver<M: PrefixMap<Entry>> {
+    resolver: Resolver<M>,
+    askers: Askers,
+}
+
+impl<M: PrefixMap<Entry>> Model for RunningResolver<M> {
+    ghost use Rattle.ddt_path.specs.contracts.locator.Locator as locator;
+    ghost use Rattle.ddt_cache.specs.contracts.entry.Entry as entry;
+    ghost use Rattle.ddt_resolver.specs.contracts.pending.Pending as pending;
+    ghost use Rattle.ddt_resolver.specs.State.{state_code};
+    ghost use Rattle.ddt_loop.specs.contracts.owner.Owner as owner;
+    ghost use Rattle.ddt_loop.specs.contracts.ends.LoopEnd as loop_end;
+    ghost use Rattle.ddt_loop.specs.Acts.{Running, running_code};
+    ghost use Rattle.ddt_loop.specs.Askers.{AreOwners, desk_code};
+
+    ghost Value = { Running };
+
+    ghost coded = { running_code (state_code entry.the_row.coded locator.the_row.coded pending.the_row.coded)
+        (desk_code owner.the_row.coded loop_end.the_row.coded) };
+
+    ghost view = { λ r. record { state = r.resolver; desk = r.askers } };
+
+    ghost invariant = { λ r. AreOwners r.resolver r.askers.owners };
+}
+
+impl<M: PrefixMap<Entry>> RunningResolver<M> {
+    /// A resolver for whose lookups nobody waits yet. Fails only if out of memory.
+    pub fn new(alloc: Global, resolver: Resolver<M>) -> Result<RunningResolver<M>, AllocError>
+        ensures { IfOk result (λ it. it ≡ running resolver (opening_desk [])) }
+    {
+        match Askers::new(alloc, &[]) {
+            Ok(askers) => Ok(RunningResolver { resolver, askers }),
+            Err(refused) => Err(refused),
+        }
+    }
+
+    /// The resolver.
+    pub fn resolver(&self) -> &Resolver<M>
+        ensures { result.now ≡ self.now.state }
+    {
+        &self.resolver
+    }
+
+    /// Takes a packet that came to the resolver's socket, of these bytes. An Encapsulated Control Message is asked where
+    /// it is the request of an ITR, and any other datagram is heard where it comes from UDP port 4342. The rest is
+    /// dropped. Answers what comes of it for the ITRs that wait.
+    ///
+    /// A remembered outcome is sent to the ITR at once, and so is that of a lookup which has ended: the negative
+    /// Map-Reply for a hole or a site that isn't registered, and nothing for another end. What memory is short for is
+    /// lost: the packet, or the reply (RFC 8111, section 7.3; RFC 9301, sections 5.4 and 5.8).
+    pub fn take<W: Wires>(
+        &mut self,
+        wires: &mut W,
+        me: Locator,
+        now: Moment,
+        packet: Packet,
+        bytes: &[u8],
+    ) -> Came
+        ensures came { IsCame now packet.from bytes.now self.old self.new result }
+        ensures taken { (calls : List ACall) × Tells (W.calls wires.old) calls (W.calls wires.new)
+            × IsTaken me now packet bytes.now self.old calls self.new }
+    {
+        let here = Here { me, now };
+        take(
+            wires,
+            &mut self.resolver,
+            here,
+            &mut self.askers,
+            packet,
+            bytes,
+        )
+    }
+
+    /// Ticks once: a lookup whose deadline has come goes on or ends. Answers the end of a lookup that an ITR waited for;
+    /// the ITR is then told as by `take`. If out of memory it is due again at the next tick. The resolver's next
+    /// deadline says when a tick has something to do.
+    pub fn tick<W: Wires>(&mut self, wires: &mut W, me: Locator, now: Moment) -> Option<Ended>
+        ensures ended { HasEndedBy Tick (moved now self.old.state) self.new.state
+            self.old.desk.owners self.new.desk.owners result }
+        ensures resolves { (calls : List ACall) × Tells (W.calls wires.old) calls (W.calls wires.new)
+            × Resolves me now Tick self.old calls self.new }
+    {
+        let here = Here { me, now };
+        resolve(
+            wires,
+            &mut self.resolver,
+            here,
+            &mut self.askers,
+            Input::Tick,
+        )
+    }
+}
+
+/// A law of packets that were taken or dropped and of ticks, in any order and number. Where packets from the servers
+/// that were asked tell the truth, each negative Map-Reply is for what the register assigns to an ITR's identifier, and
+/// each of its requests gets at most one. The resolver stays sound.
+pub fn fair_runs_are_right()
+    ensures { FairRunsAreRight }
+{
+    a_step_keeps_a_resolver_sound();
+}

@@ -1,0 +1,158 @@
+//! What comes to the resolver's own socket, and its ticks: each is a step that makes a lookup go on or end.
+
+ghost use Rattle.std.specs.Prelude.{◌≡◌, List};
+ghost use Rattle.ddt_wires.specs.declared.call.Call.{Call as ACall};
+ghost use Rattle.ddt_wires.specs.Calls.{Tells};
+ghost use Rattle.ddt_resolver.specs.State.{moved};
+ghost use Rattle.ddt_resolver.specs.Step.{call_of};
+ghost use Rattle.ddt_loop.specs.Askers.{AreOwners};
+ghost use Rattle.ddt_loop.specs.Acts.{running, GoesOn, Settles, Resolves};
+ghost use Rattle.ddt_loop.specs.Ends.{IsToldEnd, IsEnd, HasEnded, HasEndedBy};
+ghost use Rattle.ddt_loop.specs.Coming.{IsCame};
+ghost use Rattle.ddt_loop.specs.Polls.{IsTaken};
+
+use crate::askers::Askers;
+use crate::asks::{ask_for_itr, reply_to_itr, try_to_send};
+use crate::came::{Came, Ended, ended_so, ends, waits};
+use crate::ends::end_of;
+use crate::owner::Asker;
+use ddt_cache::{Entry, Moment};
+use ddt_ecm::CONTROL_PORT;
+use ddt_path::{Locator, Outcome};
+use ddt_resolver::{Front, Input, ItrRequest, Progress, Resolver, Ticket, Why};
+use ddt_trie::PrefixMap;
+use ddt_wire::MessageType;
+use ddt_wires::{Packet, Wires};
+use std::alloc::Global;
+
+/// The resolver's own address, and the moment of what it does.
+#[derive(Clone, Copy, Debug)]
+pub(crate) struct Here {
+    pub(crate) me: Locator,
+    pub(crate) now: Moment,
+}
+
+/// Takes a packet of these bytes that came to the resolver's own socket. An Encapsulated Control Message is asked where
+/// it is the request of an ITR, and any other datagram is heard where it comes from UDP port 4342. The rest is dropped.
+/// Answers what comes of it for the ITRs that wait.
+pub(crate) fn take<W: Wires, M: PrefixMap<Entry>>(
+    wires: &mut W,
+    resolver: &mut Resolver<M>,
+    here: Here,
+    askers: &mut Askers,
+    packet: Packet,
+    bytes: &[u8],
+) -> Came
+    requires { AreOwners resolver.old askers.old.owners }
+    ensures came { IsCame here.now packet.from bytes.now (running resolver.old askers.old)
+        (running resolver.new askers.new) result }
+    ensures taken { (calls : List ACall) × Tells (W.calls wires.old) calls (W.calls wires.new)
+        × IsTaken here.me here.now packet bytes.now (running resolver.old askers.old) calls
+        (running resolver.new askers.new) }
+    ensures owners { AreOwners resolver.new askers.new.owners }
+{
+    if MessageType::Encapsulated.is_of(bytes) {
+        match Front::itr_request(bytes) {
+            Some(request) => {
+                let ticket = ask_for_itr(wires, resolver, here, request, askers);
+                waits(ticket, bytes.len())
+            }
+            None => Came::Nothing,
+        }
+    } else if packet.port == CONTROL_PORT {
+        let input = Input::Datagram(packet.from, bytes);
+        let ended = resolve(wires, resolver, here, askers, input);
+        ends(packet.from, ended)
+    } else {
+        Came::Nothing
+    }
+}
+
+/// The resolver does a step: a lookup goes on or ends, or all stay. Where memory runs out nothing is done: a datagram is
+/// lost, and a deadline that has come is due again at the next tick.
+pub(crate) fn resolve<W: Wires, M: PrefixMap<Entry>>(
+    wires: &mut W,
+    resolver: &mut Resolver<M>,
+    here: Here,
+    askers: &mut Askers,
+    input: Input<'_>,
+) -> Option<Ended>
+    requires { AreOwners resolver.old askers.old.owners }
+    ensures ended { HasEndedBy (call_of input.entry) (moved here.now resolver.old) resolver.new
+        askers.old.owners askers.new.owners result }
+    ensures resolves { (calls : List ACall) × Tells (W.calls wires.old) calls (W.calls wires.new)
+        × Resolves here.me here.now (call_of input.entry) (running resolver.old askers.old) calls
+        (running resolver.new askers.new) }
+    ensures owners { AreOwners resolver.new askers.new.owners }
+{
+    resolver.in_order();
+    // Read for its bound: no moment is later than the last.
+    let _millis = here.now.millis();
+    match resolver.step(here.now, input) {
+        Ok(reply) => go_on(wires, here.me, askers, reply.progress()),
+        Err(_refused) => None,
+    }
+}
+
+/// A lookup goes on or ends.
+fn go_on<W: Wires>(
+    wires: &mut W,
+    me: Locator,
+    askers: &mut Askers,
+    progress: Progress,
+) -> Option<Ended>
+    ensures goes { (calls : List ACall) × Tells (W.calls wires.old) calls (W.calls wires.new)
+        × GoesOn me askers.old progress calls askers.new }
+    ensures ended { HasEnded progress askers.old.owners askers.new.owners result }
+{
+    match progress {
+        Progress::Stays => None,
+        Progress::Sends(_ticket, request) => {
+            try_to_send(wires, me, &request);
+            None
+        }
+        Progress::Ends(ticket, end) => settle(wires, me, askers, ticket, end),
+    }
+}
+
+/// A lookup has ended: its identifier has its end, or its ITR is sent the negative Map-Reply, if there is one.
+fn settle<W: Wires>(
+    wires: &mut W,
+    me: Locator,
+    askers: &mut Askers,
+    ticket: Ticket,
+    end: Result<Outcome, Why>,
+) -> Option<Ended>
+    ensures settles { (calls : List ACall) × Tells (W.calls wires.old) calls (W.calls wires.new)
+        × Settles me ticket end askers.old calls askers.new }
+    ensures ended { IsEnd ticket end askers.old.owners askers.new.owners result }
+{
+    match askers.take(ticket) {
+        Some(Asker::Identifier(place)) => {
+            askers.end(place, end_of(end));
+            None
+        }
+        Some(Asker::Itr(request)) => {
+            tell_itr(askers.alloc(), wires, me, &request, &end);
+            Some(ended_so(ticket, &end))
+        }
+        None => None,
+    }
+}
+
+/// An ITR whose lookup has ended is sent the negative Map-Reply, if there is one.
+fn tell_itr<W: Wires>(
+    alloc: Global,
+    wires: &mut W,
+    me: Locator,
+    request: &ItrRequest,
+    end: &Result<Outcome, Why>,
+)
+    ensures { (calls : List ACall) × Tells (W.calls wires.old) calls (W.calls wires.new)
+        × IsToldEnd me end.now request.now calls }
+{
+    match end {
+        Ok(outcome) => reply_to_itr(alloc, wires, me, outcome, request),
+        Err(_why) => {}
+    }
+}

@@ -1,5 +1,5 @@
 -- A compiled configuration answers what the register says: at a zone of DDT nodes, at one of Map-Servers, at a locator.
-use Rattle.std.proofs.Common.{◌≡◌, ℕ, true, List, length, map, Option, Some, None, cond, refl, sym, ap, ◌∙◌}
+use Rattle.std.proofs.Common.{◌≡◌, ℕ, true, List, length, map, Option, Some, None, cond, refl, sym, ap, subst, ◌∙◌}
 use Rattle.std.specs.Prelude.{◌==◌, unwrap_or}
 use Rattle.std.specs.List.{filter, All}
 use Rattle.std.specs.Option.{option_map, option_map_or}
@@ -21,7 +21,7 @@ use Rattle.ddt_register.specs.declared.zone.Zone.{Zone}
 use Rattle.ddt_register.specs.declared.site.Site.{Site}
 use Rattle.ddt_register.specs.declared.group.Group.{Group}
 use Rattle.ddt_register.specs.declared.register.Register.{Register}
-use Rattle.ddt_check.specs.Zones.{site_of, locators_of}
+use Rattle.ddt_check.specs.Zones.{site_of, locators_of, is_direct_child, is_site_in, is_served_by}
 use Rattle.ddt_check.specs.Assignment.{assignment, assigned_in, assigned_site, prefixes_below, prefixes_below_site, prefixes_within}
 use Rattle.ddt_check.specs.Says.{next_zone, says, says_from, referral_to as referral_to_zone}
 use Rattle.ddt_check.specs.Rules.{IsAccepted}
@@ -33,9 +33,7 @@ use Rattle.ddt_config.specs.declared.site_entry.SiteEntry.{SiteEntry}
 use Rattle.ddt_config.specs.declared.config.ServerConfig.{ServerConfig}
 use Rattle.ddt_config.specs.Table.{outline}
 use Rattle.ddt_config.specs.Answer.{answer, answer_in, referral_to, site_outcome, strictly_below}
-use Rattle.ddt_check.specs.Zones.{is_direct_child}
 use Rattle.ddt_compile.specs.GroupConfig.{child_of, children_of, entry_of, sites_of, content_of, authority_of, group_config}
-use Rattle.ddt_check.specs.Zones.{is_site_in, is_served_by}
 use Rattle.ddt_compile.specs.laws.Statements.{IsHonestConfig}
 use Rattle.ddt_path.specs.laws.Member.{IsIn, all_made}
 use Rattle.ddt_path.specs.declared.matching.Preference.TheVariants.{Longest}
@@ -46,98 +44,98 @@ use Rattle.ddt_check.specs.laws.Site.{no_next_zone, longest_site, site_inside}
 use Rattle.ddt_path.specs.laws.Filter.{in_filter, kept_by_both}
 use Rattle.ddt_path.specs.laws.Matching.{best_member, best_match-map}
 
--- ---- a zone of DDT nodes
-
 abbrev child_prefix : Child → List ℕ
 child_prefix c = c.prefix
-
-same_hole : (r : Register) (p : Zone) (x : List ℕ) → Hole (hole_of p.prefix (map child_prefix (children_of r p)) x) ≡ Hole (hole_of p.prefix (prefixes_below r p) x)
-same_hole r p x =
-    ap (λ (ps : List (List ℕ)). Hole (hole_of p.prefix ps x)) (map-map child_prefix (child_of r) (filter (is_direct_child r p) r.zones))
-    ∙ ap (λ (hole : Option (List ℕ)). Hole (unwrap_or hole x)) (free_agree p.prefix (map zone_prefix (filter (is_direct_child r p) r.zones)) (prefixes_below r p) x (same_free r p))
-
-found_child : (r : Register) → IsAccepted r → (p : Zone) (x : List ℕ) → covers p.prefix x ≡ true → longest_match child_prefix (children_of r p) x ≡ option_map (child_of r) (next_zone r (length p.prefix) x)
-found_child r accepted p x c = best_match-map Longest (child_of r) child_prefix (filter (is_direct_child r p) r.zones) x ∙ ap (option_map (child_of r)) (longest_child r accepted p x c)
-
-node_answers : (r : Register) → IsAccepted r → (servers : List Locator) (p : Zone) (x : List ℕ) → IsIn p r.zones → p.kind ≡ Node → covers p.prefix x ≡ true → answer_in servers p.prefix (Children (children_of r p)) x ≡ says_from r p x
-node_answers r accepted servers p x j node c =
-    ap (λ (o : Option Child). option_map_or referral_to o (record_of (Hole (hole_of p.prefix (map child_prefix (children_of r p)) x)))) (found_child r accepted p x c)
-    ∙ go (next_zone r (length p.prefix) x) refl
-  where
-    go : (found : Option Zone) → next_zone r (length p.prefix) x ≡ found
-        → option_map_or referral_to (option_map (child_of r) found) (record_of (Hole (hole_of p.prefix (map child_prefix (children_of r p)) x))) ≡ option_map_or (referral_to_zone r) found (record_of (assignment r x))
-    go (Some z) e = refl
-    go None e =
-        ap record_of (same_hole r p x ∙ sym (assigned_here r accepted p x j c e ∙ ap (λ (role : Role). assigned_in r p role x) node))
-
--- ---- a zone of Map-Servers
 
 abbrev entry_prefix : SiteEntry → List ℕ
 entry_prefix s = s.prefix
 
-found_site : (r : Register) → IsAccepted r → (p : Zone) (x : List ℕ) → IsIn p r.zones → covers p.prefix x ≡ true → longest_match entry_prefix (sites_of r p) x ≡ option_map entry_of (site_of r x)
-found_site r accepted p x j c = best_match-map Longest entry_of entry_prefix (filter (is_site_in p) r.sites) x ∙ ap (option_map entry_of) (longest_site r accepted p x j c)
-
--- a zone that covers a site has all the sites inside this one
-same_below : (r : Register) (p : Zone) (s : Site) → covers p.prefix s.prefix ≡ true → strictly_below s.prefix (map entry_prefix (sites_of r p)) ≡ prefixes_below_site r s
-same_below r p s c =
-    ap (strictly_below s.prefix) (map-map entry_prefix entry_of (filter (is_site_in p) r.sites))
-    ∙ kept_by_both site_prefix (is_site_in p) (λ q. is_strictly_below q s.prefix) (λ t below. covers_trans p.prefix s.prefix t.prefix c (below_parts t.prefix s.prefix below).0) r.sites
-
-same_part : (r : Register) (p : Zone) (s : Site) (x : List ℕ) → covers p.prefix s.prefix ≡ true → hole_of s.prefix (strictly_below s.prefix (map entry_prefix (sites_of r p))) x ≡ hole_of s.prefix (prefixes_below_site r s) x
-same_part r p s x c = ap (λ (ps : List (List ℕ)). hole_of s.prefix ps x) (same_below r p s c)
-
-same_outcome : (r : Register) (servers : List Locator) (p : Zone) (s : Site) (x : List ℕ) → locators_of r p.group ≡ servers → covers p.prefix s.prefix ≡ true
-    → site_outcome servers (map entry_prefix (sites_of r p)) x (entry_of s) ≡ assigned_site r p s x
-same_outcome r servers p s x e c =
-    ap (λ (q : List ℕ). cond (length s.etrs == 0) (NotRegistered q servers) (Registered s.prefix servers)) (same_part r p s x c)
-    ∙ ap (λ (ls : List Locator). cond (length s.etrs == 0) (NotRegistered (hole_of s.prefix (prefixes_below_site r s) x) ls) (Registered s.prefix ls)) (sym e)
-
-site_outcomes : (r : Register) → IsAccepted r → (servers : List Locator) (p : Zone) (x : List ℕ) (hole : Outcome) (found : Option Site) → IsIn p r.zones → covers p.prefix x ≡ true → locators_of r p.group ≡ servers → site_of r x ≡ found
-    → option_map_or (site_outcome servers (map entry_prefix (sites_of r p)) x) (option_map entry_of found) hole ≡ option_map_or (λ (s : Site). assigned_site r p s x) found hole
-site_outcomes r accepted servers p x hole None j c here is = refl
-site_outcomes r accepted servers p x hole (Some s) j c here is =
-    let m = best_member Longest site_prefix x r.sites s is in
-    same_outcome r servers p s x here (site_inside r accepted p s x j c m.0 m.1)
-
-site_answers : (r : Register) → IsAccepted r → (servers : List Locator) (p : Zone) (x : List ℕ) → IsIn p r.zones → p.kind ≡ Ms → covers p.prefix x ≡ true → locators_of r p.group ≡ servers → answer_in servers p.prefix (Sites (sites_of r p)) x ≡ says_from r p x
-site_answers r accepted servers p x j ms c here =
-    let next = no_next_zone r accepted p x j ms c in
-    let hole = Hole (hole_of p.prefix (prefixes_within r p) x) in
-    let prefixes = map entry_prefix (sites_of r p) in
-    let same : Hole (hole_of p.prefix prefixes x) ≡ hole = ap (λ (ps : List (List ℕ)). Hole (hole_of p.prefix ps x)) (map-map entry_prefix entry_of (filter (is_site_in p) r.sites)) in
-    ap (λ (o : Option SiteEntry). record_of (option_map_or (site_outcome servers prefixes x) o (Hole (hole_of p.prefix prefixes x)))) (found_site r accepted p x j c)
-    ∙ ap (λ (o : Outcome). record_of (option_map_or (site_outcome servers prefixes x) (option_map entry_of (site_of r x)) o)) same
-    ∙ ap record_of (site_outcomes r accepted servers p x hole (site_of r x) j c here refl ∙ sym (assigned_here r accepted p x j c next ∙ ap (λ (role : Role). assigned_in r p role x) ms))
-    ∙ ap (λ (o : Option Zone). option_map_or (referral_to_zone r) o (record_of (assignment r x))) (sym next)
-
--- ---- the whole
-
 abbrev authority_prefix : Authority → List ℕ
 authority_prefix a = a.prefix
 
-zone_answers : (r : Register) → IsAccepted r → (servers : List Locator) (p : Zone) (x : List ℕ) → IsIn p r.zones → covers p.prefix x ≡ true → locators_of r p.group ≡ servers → answer_in servers p.prefix (content_of r p p.kind) x ≡ says_from r p x
-zone_answers r accepted servers p x j c here = go p.kind refl
-  where
-    go : (role : Role) → p.kind ≡ role → answer_in servers p.prefix (content_of r p role) x ≡ says_from r p x
-    go Node e = node_answers r accepted servers p x j e c
-    go Ms e = site_answers r accepted servers p x j e c here
+-- ---- at a zone that covers an identifier
 
-pub honest_at : (r : Register) → IsAccepted r → (g : Group) (l : Locator) (x : List ℕ) → IsIn g r.groups → lists g.locators l ≡ true → answer (group_config r g) x ≡ says r l x
+module _ (r : Register) (accepted : IsAccepted r) (p : Zone) (x : List ℕ) (j : IsIn p r.zones) (c : covers p.prefix x ≡ true) where
+  abbrev servers : List Locator
+  servers = locators_of r p.group
+
+  same_hole : hole_of p.prefix (map child_prefix (children_of r p)) x ≡ hole_of p.prefix (prefixes_below r p) x
+  same_hole =
+      ap (λ (ps : List (List ℕ)). hole_of p.prefix ps x) (map-map child_prefix (child_of r) _)
+      ∙ ap (λ (hole : Option (List ℕ)). unwrap_or hole x) (free_agree p.prefix _ _ x (same_free r p))
+
+  found_child : longest_match child_prefix (children_of r p) x ≡ option_map (child_of r) (next_zone r (length p.prefix) x)
+  found_child = best_match-map Longest (child_of r) child_prefix _ x ∙ ap (option_map (child_of r)) (longest_child r accepted p x c)
+
+  node_answers : p.kind ≡ Node → answer_in servers p.prefix (Children (children_of r p)) x ≡ says_from r p x
+  node_answers node =
+      ap (λ (o : Option Child). option_map_or referral_to o (record_of (Hole (hole_of p.prefix (map child_prefix (children_of r p)) x)))) found_child
+      ∙ go (next_zone r (length p.prefix) x) refl
+    where
+      go : (found : Option Zone) → next_zone r (length p.prefix) x ≡ found
+          → option_map_or referral_to (option_map (child_of r) found) (record_of (Hole (hole_of p.prefix (map child_prefix (children_of r p)) x)))
+          ≡ option_map_or (referral_to_zone r) found (record_of (assignment r x))
+      go (Some z) e = refl
+      go None e =
+          ap (λ (q : List ℕ). record_of (Hole q)) same_hole
+          ∙ ap record_of (sym (assigned_here r accepted p x j c e ∙ ap (λ (role : Role). assigned_in r p role x) node))
+
+  -- what the zone has strictly below one of its sites is all that is there
+  same_below : (s : Site) → covers p.prefix s.prefix ≡ true → strictly_below s.prefix (map entry_prefix (sites_of r p)) ≡ prefixes_below_site r s
+  same_below s inside =
+      ap (strictly_below s.prefix) (map-map entry_prefix entry_of _)
+      ∙ kept_by_both site_prefix (is_site_in p) (λ q. is_strictly_below q s.prefix)
+      (λ t below. covers_trans p.prefix s.prefix t.prefix inside (below_parts t.prefix s.prefix below).0) r.sites
+
+  site_outcomes : (hole : Outcome) (found : Option Site) → site_of r x ≡ found
+      → option_map_or (site_outcome servers (map entry_prefix (sites_of r p)) x) (option_map entry_of found) hole
+      ≡ option_map_or (λ (s : Site). assigned_site r p s x) found hole
+  site_outcomes hole None is = refl
+  site_outcomes hole (Some s) is =
+      let m = best_member Longest site_prefix x r.sites s is in
+      ap (λ (ps : List (List ℕ)). cond (length s.etrs == 0) (NotRegistered (hole_of s.prefix ps x) servers) (Registered s.prefix servers))
+      (same_below s (site_inside r accepted p s x j c m.0 m.1))
+
+  site_answers : p.kind ≡ Ms → answer_in servers p.prefix (Sites (sites_of r p)) x ≡ says_from r p x
+  site_answers ms =
+      let next = no_next_zone r accepted p x j ms c in
+      let outcome = site_outcome servers (map entry_prefix (sites_of r p)) x in
+      ap (λ (o : Option SiteEntry). record_of (option_map_or outcome o (Hole (hole_of p.prefix (map entry_prefix (sites_of r p)) x))))
+      (best_match-map Longest entry_of entry_prefix _ x ∙ ap (option_map entry_of) (longest_site r accepted p x j c))
+      ∙ ap (λ (ps : List (List ℕ)). record_of (option_map_or outcome (option_map entry_of (site_of r x)) (Hole (hole_of p.prefix ps x))))
+      (map-map entry_prefix entry_of _)
+      ∙ ap record_of (site_outcomes (Hole (hole_of p.prefix (prefixes_within r p) x)) (site_of r x) refl
+      ∙ sym (assigned_here r accepted p x j c next ∙ ap (λ (role : Role). assigned_in r p role x) ms))
+      ∙ ap (λ (o : Option Zone). option_map_or (referral_to_zone r) o (record_of (assignment r x))) (sym next)
+
+  zone_answers : (role : Role) → p.kind ≡ role → answer_in servers p.prefix (content_of r p role) x ≡ says_from r p x
+  zone_answers Node e = node_answers e
+  zone_answers Ms e = site_answers e
+
+-- ---- at a locator
+
+pub honest_at : (r : Register) → IsAccepted r → (g : Group) (l : Locator) (x : List ℕ) → IsIn g r.groups → lists g.locators l ≡ true
+    → answer (group_config r g) x ≡ says r l x
 honest_at r accepted g l x k here =
     let zones = filter (is_served_by g) r.zones in
-    ap (λ (o : Option Authority). option_map_or (λ (a : Authority). answer_in g.locators a.prefix a.content x) o (not_authoritative x)) (best_match-map Longest (authority_of r) authority_prefix zones x)
+    ap (λ (o : Option Authority). option_map_or (λ (a : Authority). answer_in g.locators a.prefix a.content x) o (not_authoritative x))
+    (best_match-map Longest (authority_of r) authority_prefix zones x)
     ∙ go (longest_match zone_prefix zones x) refl
-    ∙ ap (λ (served : List Zone). option_map_or (λ (z : Zone). says_from r z x) (longest_match zone_prefix served x) (not_authoritative x)) (sym (group_serves r accepted g l k here))
+    ∙ ap (λ (served : List Zone). option_map_or (λ (z : Zone). says_from r z x) (longest_match zone_prefix served x) (not_authoritative x))
+    (sym (group_serves r accepted g l k here))
   where
     go : (found : Option Zone) → longest_match zone_prefix (filter (is_served_by g) r.zones) x ≡ found
-        → option_map_or (λ (a : Authority). answer_in g.locators a.prefix a.content x) (option_map (authority_of r) found) (not_authoritative x) ≡ option_map_or (λ (z : Zone). says_from r z x) found (not_authoritative x)
+        → option_map_or (λ (a : Authority). answer_in g.locators a.prefix a.content x) (option_map (authority_of r) found) (not_authoritative x)
+        ≡ option_map_or (λ (z : Zone). says_from r z x) found (not_authoritative x)
     go None e = refl
     go (Some p) e =
         let m = best_member Longest zone_prefix x (filter (is_served_by g) r.zones) p e in
         let q = in_filter (is_served_by g) r.zones p m.0 in
-        zone_answers r accepted g.locators p x q.0 m.1 (locators_of_zone r accepted g p k q.1)
+        subst (λ (ls : List Locator). answer_in ls p.prefix (content_of r p p.kind) x ≡ says_from r p x) (locators_of_zone r accepted g p k q.1)
+        (zone_answers r accepted p x q.0 m.1 p.kind refl)
 
 -- the same of a list of configurations, one for each group
-pub honest_configs : (r : Register) → IsAccepted r → (configs : List ServerConfig) → map outline configs ≡ map (group_config r) r.groups → All (λ (c : ServerConfig). IsHonestConfig r (outline c)) configs
-honest_configs r accepted configs e = all_made (IsHonestConfig r) outline (group_config r) configs r.groups (λ g k l x here. honest_at r accepted g l x k here) e
+pub honest_configs : (r : Register) → IsAccepted r → (configs : List ServerConfig) → map outline configs ≡ map (group_config r) r.groups
+    → All (λ (c : ServerConfig). IsHonestConfig r (outline c)) configs
+honest_configs r accepted configs e =
+    all_made (IsHonestConfig r) outline (group_config r) configs r.groups (λ g k l x here. honest_at r accepted g l x k here) e

@@ -1,10 +1,11 @@
 -- The configuration of a server group: its zones, and in each of them what is delegated or registered there
 -- (RFC 8111, section 4).
-use Rattle.std.specs.Prelude.{ℕ, List, map, Option}
-use Rattle.std.specs.Option.{option_map}
+use Rattle.std.specs.Prelude.{ℕ, Bool, true, List, map, Option}
+use Rattle.std.specs.Option.{option_map, option_map_or}
 use Rattle.std.specs.List.{filter}
 use Rattle.ddt_path.specs.declared.record.Role.{Role}
 use Rattle.ddt_path.specs.declared.record.Role.TheVariants.{Node, Ms}
+use Rattle.ddt_path.specs.Names.{is_same_name}
 use Rattle.ddt_register.specs.declared.zone.Zone.{Zone}
 use Rattle.ddt_register.specs.declared.site.Site.{Site}
 use Rattle.ddt_register.specs.declared.group.Group.{Group}
@@ -53,3 +54,7 @@ group_config r g = record { name = g.name; role = g.kind; locators = g.locators;
 -- the configuration of the group of a name, if a group has it
 abbrev pub config_named : Register → List ℕ → Option Outline
 config_named r name = option_map (group_config r) (group_named r name)
+
+-- whether the group of a name is compiled: each is, or the one of the name that is asked for alone
+abbrev pub is_wanted : Option (List ℕ) → List ℕ → Bool
+is_wanted only name = option_map_or (is_same_name name) only true

@@ -1,5 +1,4 @@
 pub mod GroupConfig
 pub mod Lists
-pub mod Nearest
 pub mod Sorted
 pub mod laws

@@ -1,16 +1,19 @@
 //! What stands below a zone and what holds a site, by the zones in the order of their prefixes: there a zone stands
 //! before all that it covers, and what it covers stands together.
 
-ghost use Rattle.std.specs.Prelude.{◌≡◌, true, false, IsPermutation, IfOk, MatchOption};
+ghost use Rattle.std.specs.Prelude.{◌≡◌, ◌<◌, ◌≤◌, true, false, length, IsPermutation, IfOk, MatchOption};
 ghost use Rattle.std.specs.List.{filter, Contains};
-ghost use Rattle.std.specs.Option.{option_map, option_map_or, option_copied};
-ghost use Rattle.ddt_path.specs.Covers.{covers, is_strictly_below};
+ghost use Rattle.std.specs.List.Sorted.{IsPartitionPoint};
+ghost use Rattle.std.specs.Ordering.{nat_cmp, is_le};
+ghost use Rattle.std.specs.Cmp.Lexicographic.{slice_cmp};
+ghost use Rattle.ddt_path.specs.Covers.{covers};
 ghost use Rattle.ddt_path.specs.declared.record.Role.TheVariants.{Ms};
 ghost use Rattle.ddt_register.specs.declared.register.Register.{Register as ARegister};
 ghost use Rattle.ddt_check.specs.Order.{AreZonesInOrder};
-ghost use Rattle.ddt_check.specs.Rules.{IsAccepted};
 ghost use Rattle.ddt_check.specs.Zones.{is_direct_child};
+ghost use Rattle.ddt_compile.specs.Sorted.{AreSortedOf, IsEndOf};
 
+use ddt_path::Prefix;
 use ddt_register::{Site, Zone};
 use std::alloc::{AllocError, Global};
 
@@ -24,36 +27,43 @@ pub fn sorted_zones(alloc: Global, zones: &[Zone]) -> Result<Vec<Zone>, AllocErr
     Ok(sorted)
 }
 
-/// Whether the zone that is kept holds a zone strictly inside it.
-fn is_under(top: Option<&Zone>, z: &Zone) -> bool
-    ensures { result
-        ≡ option_map_or (is_strictly_below z.now.prefix) (option_map (λ y. y.prefix) (option_copied top.entry)) false }
+/// How many zones stand up to a prefix.
+fn count_up_to(sorted: &[Zone], prefix: Prefix) -> usize
+    requires { AreZonesInOrder sorted.now }
+    ensures within { result ≤ length sorted.now }
+    ensures point { IsPartitionPoint (λ z. is_le (slice_cmp nat_cmp z.prefix prefix) ≡ true)
+        (λ z. is_le (slice_cmp nat_cmp z.prefix prefix) ≡ false) sorted.now result }
 {
-    match top {
-        Some(top) => z.prefix.is_strictly_below(top.prefix),
-        None => false,
-    }
+    sorted.partition_point(|z| z.prefix <= prefix)
 }
 
-/// The zones strictly below a zone with no zone between, in the order of their prefixes. What such a zone covers
-/// follows it, so it is enough to keep the last one.
+/// The place behind a zone and all that it covers.
+fn end_of(sorted: &[Zone], at: usize) -> usize
+    requires order { AreZonesInOrder sorted.now }
+    requires at { at < length sorted.now }
+    ensures { IsEndOf sorted.now at result }
+{
+    let prefix = sorted[at].prefix;
+    let behind = &sorted[at + 1..];
+    at + 1 + behind.partition_point(|z| prefix.covers(z.prefix))
+}
+
+/// The zones strictly below a zone with no zone between, in the order of their prefixes. What such a zone covers is
+/// left out.
 fn directly_below(alloc: Global, sorted: &[Zone], zone: &Zone) -> Result<Vec<Zone>, AllocError>
     requires { AreZonesInOrder sorted.now }
-    ensures { IfOk result (λ found. (r : ARegister) → IsPermutation r.zones sorted.now
+    ensures { IfOk result (λ found. (r : ARegister) → AreSortedOf r sorted.now
         → found.items ≡ filter (is_direct_child r zone.now) sorted.now) }
 {
     let mut found = Vec::new(alloc);
-    let mut top: Option<&Zone> = None;
-    let first = sorted.partition_point(|z| z.prefix <= zone.prefix);
-    for at in first..sorted.len() {
-        let next = &sorted[at];
+    let mut at = count_up_to(sorted, zone.prefix);
+    while at < sorted.len() {
+        let next = sorted[at];
         if !zone.prefix.covers(next.prefix) {
             return Ok(found);
         }
-        if !is_under(top, next) {
-            found.push(*next)?;
-            top = Some(next);
-        }
+        found.push(next)?;
+        at = end_of(sorted, at);
     }
     Ok(found)
 }
@@ -65,7 +75,7 @@ pub fn zones_directly_below(
     zone: &Zone,
 ) -> Result<Vec<Zone>, AllocError>
     requires { AreZonesInOrder sorted.now }
-    ensures { IfOk result (λ found. (r : ARegister) → IsPermutation r.zones sorted.now
+    ensures { IfOk result (λ found. (r : ARegister) → AreSortedOf r sorted.now
         → found.items ≡ filter (is_direct_child r zone.now) r.zones) }
 {
     let mut found = directly_below(alloc, sorted, zone)?;
@@ -77,10 +87,10 @@ pub fn zones_directly_below(
 /// prefix.
 pub fn holder(sorted: &[Zone], site: &Site) -> Option<Zone>
     requires { AreZonesInOrder sorted.now }
-    ensures { (r : ARegister) → IsAccepted r → IsPermutation r.zones sorted.now → Contains r.sites site.now
+    ensures { (r : ARegister) → AreSortedOf r sorted.now → Contains r.sites site.now
         → MatchOption result ⊥ (λ z. Contains r.zones z × (z.kind ≡ Ms) × (covers z.prefix site.now.prefix ≡ true)) }
 {
-    let after = sorted.partition_point(|z| z.prefix <= site.prefix);
+    let after = count_up_to(sorted, site.prefix);
     if after == 0 {
         return None;
     }

@@ -1,48 +1,19 @@
-//! The delegations of each zone: the zones strictly below it with no zone between.
+//! The delegations of a zone: the zones strictly below it with no zone between.
 
 ghost use Rattle.std.specs.Prelude.{◌≡◌, [], IfOk, unwrap_or};
-ghost use Rattle.std.specs.List.{Contains};
 ghost use Rattle.std.specs.Ordering.{nat_cmp};
 ghost use Rattle.std.specs.Cmp.Lexicographic.{slice_cmp};
 ghost use Rattle.std.specs.BTreeMap.{get};
-ghost use Rattle.ddt_register.specs.declared.zone.Zone.{Zone as AZone};
 ghost use Rattle.ddt_compile.specs.GroupConfig.{children_of};
-ghost use Rattle.ddt_compile.specs.Lists.{list_at};
-ghost use Rattle.ddt_trie.specs.Trie.{trie_content};
-ghost use Rattle.ddt_compile.specs.Nearest.{HasPrefixesOf};
 ghost use Rattle.ddt_compile.specs.Sorted.{AreSortedOf, HasLocatorsOf};
 
 use crate::below::zones_directly_below;
-use crate::lists::append;
-use crate::locators::locators_by_name;
-use crate::nearest::nearest;
 use ddt_check::Accepted;
 use ddt_config::Child;
-use ddt_path::{Listed, LocatorSet, Name, Prefix};
+use ddt_path::{Listed, LocatorSet, Name};
 use ddt_register::Zone;
-use ddt_trie::TrieMap;
 use std::alloc::{AllocError, Global};
 use std::collections::BTreeMap;
-
-/// The children of each zone, by its prefix, each list in the order of their rows.
-pub fn children_by_zone(
-    alloc: Global,
-    accepted: &Accepted,
-    prefixes: &TrieMap<u32>,
-) -> Result<BTreeMap<Prefix, Vec<Child>>, AllocError>
-    requires { HasPrefixesOf (trie_content prefixes.now) accepted.now.zones }
-    ensures { IfOk result (λ lists. (z : AZone) → Contains accepted.now.zones z → list_at (slice_cmp nat_cmp) lists
-        z.prefix ≡ children_of accepted.now z) }
-{
-    let sets = locators_by_name(alloc, accepted)?;
-    let mut lists = BTreeMap::new(alloc);
-    for zone in accepted.register().zones.as_slice() {
-        if let Some(above) = nearest(prefixes, zone.prefix, zone.prefix.len()) {
-            append(&mut lists, alloc, above, child(&sets, zone))?;
-        }
-    }
-    Ok(lists)
-}
 
 /// The children of a zone, in the order of their rows.
 pub fn children_of_zone(
@@ -58,8 +29,8 @@ pub fn children_of_zone(
 {
     let below = zones_directly_below(alloc, sorted, zone)?;
     let mut children = Vec::with_capacity(alloc, below.len())?;
-    for zone in &below {
-        children.push(child(sets, zone))?;
+    for delegated in &below {
+        children.push(child(sets, delegated))?;
     }
     Ok(Listed::of(children))
 }

@@ -1,10 +1,6 @@
-use Rattle.std.proofs.Common.{sym, ap, subst, ◌∙◌, ℕ, List}
-use Rattle.std.specs.Ordering.{nat_cmp}
-use Rattle.std.specs.Cmp.Lexicographic.{slice_cmp}
-use Rattle.std.specs.BTreeMap.{BTreeMap, get}
-use Rattle.ddt_path.specs.declared.locator.Locator.{Locator}
+use Rattle.std.proofs.Common.{sym, ap, ◌∙◌}
+use Rattle.ddt_path.specs.laws.Member.{in_at}
 use Rattle.ddt_register.specs.declared.register.Register.{Register}
-use Rattle.ddt_path.specs.laws.Member.{IsIn, in_at}
 use Rattle.ddt_check.specs.laws.Kept.{server_set}
 use Rattle.ddt_check.specs.laws.ServersByName.{name_put, name_kept}
 use Rattle.ddt_compile.proofs.locators.locators_by_name.Goals as goal
@@ -12,9 +8,11 @@ use Rattle.ddt_compile.proofs.locators.locators_by_name.Goals.{then-not-contains
 
 pub of_few-requires : goal.of_few-requires
 of_few-requires c =
+    let r = c.args.accepted.now in
+    let g = c.group-item.result in
     let same = c.as_slice-group-items.ensures ∙ ap (λ (r : Register). r.groups) c.register.ensures.register in
-    let here = in_at c.as_slice-group-items.result.now c.loop-group.group-index c.group-item.result c.loop-group-test.true c.group-item.is in
-    rw c.as_slice.ensures (server_set c.args.accepted.now c.register.ensures.accepted c.group-item.result (subst (IsIn c.group-item.result) same here)).0.1
+    rw c.as_slice.ensures (server_set r c.register.ensures.accepted g
+    (in_at r.groups c.loop-group.group-index g (rw same at c.loop-group-test.true) (rw same at c.group-item.is))).0.1
 
 pub loop-group-preserved : goal.loop-group-preserved
 loop-group-preserved c = λ name.
@@ -23,11 +21,10 @@ loop-group-preserved c = λ name.
     let g = c.group-item.result in
     elim c.if-not-contains_key.branch [
       | then-not-contains_key+in_ok-insert w ↦
-          ap (λ (m : BTreeMap (List ℕ) (List Locator)). get (slice_cmp nat_cmp) m name) w.sets-is
-          ∙ name_put groups i g c.loop-group-test.true c.group-item.is c.loop-group.sets w.insert.new.self c.loop-group.invariant w.of_few.result (w.of_few.ensures ∙ w.as_slice.ensures)
-          (sym c.contains_key.ensures ∙ w.if-not-contains_key.true) w.in_ok-insert.ensures.updates name
+          rw w.sets-is
+          (name_put groups i g c.loop-group-test.true c.group-item.is c.loop-group.sets w.insert.new.self c.loop-group.invariant w.of_few.result
+          (w.of_few.ensures ∙ w.as_slice.ensures) (sym c.contains_key.ensures ∙ w.if-not-contains_key.true) w.in_ok-insert.ensures.updates name)
       | else-not-contains_key w ↦
-          ap (λ (m : BTreeMap (List ℕ) (List Locator)). get (slice_cmp nat_cmp) m name) w.sets-is
-          ∙ name_kept groups i g c.loop-group-test.true c.group-item.is c.loop-group.sets c.loop-group.sets c.loop-group.invariant
-          (sym c.contains_key.ensures ∙ w.if-not-contains_key.false) name
+          rw w.sets-is (name_kept groups i g c.loop-group-test.true c.group-item.is c.loop-group.sets c.loop-group.sets c.loop-group.invariant
+          (sym c.contains_key.ensures ∙ w.if-not-contains_key.false) name)
     ]

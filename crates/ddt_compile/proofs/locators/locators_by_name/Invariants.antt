@@ -8,4 +8,6 @@ use Rattle.ddt_path.specs.Names.{is_same_name}
 use Rattle.ddt_compile.proofs.locators.locators_by_name.Given as goal
 
 abbrev pub invariant-loop-group : goal.invariant-loop-group
-invariant-loop-group l = (name : List ℕ) → get (slice_cmp nat_cmp) l.sets name ≡ option_map (λ (g : Group). g.locators) (find (λ (g : Group). is_same_name g.name name) (take l.group-index l.group-items))
+invariant-loop-group l = (name : List ℕ)
+    → get (slice_cmp nat_cmp) l.sets name
+    ≡ option_map (λ (g : Group). g.locators) (find (λ (g : Group). is_same_name g.name name) (take l.group-index l.group-items))

@@ -17,7 +17,7 @@ use Rattle.ddt_asking.specs.declared.manner.Manner.{Manner}
 use Rattle.ddt_asking.specs.declared.question.Question.{Question}
 use Rattle.ddt_asking.specs.declared.verdict.Finding.{Finding}
 use Rattle.ddt_asking.specs.declared.verdict.Verdict.{Verdict}
-use Rattle.ddt_asking.specs.declared.waiting.Wait.{Wait}
+use Rattle.ddt_asking.specs.declared.wait.Wait.{Wait}
 use Rattle.ddt_asking.specs.Replies.{reply_of}
 use Rattle.ddt_asking.specs.Steps.{Step, step_of, HasDone}
 use Rattle.ddt_asking.specs.Verdicts.{IsVerdict}

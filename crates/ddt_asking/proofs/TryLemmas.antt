@@ -15,7 +15,7 @@ use Rattle.ddt_wires.specs.Calls.{Tells, packet_bytes, received}
 use Rattle.ddt_wires.specs.Turns.{most_bytes}
 use Rattle.ddt_asking.specs.declared.manner.Manner.{Manner}
 use Rattle.ddt_asking.specs.declared.reply.Awaited.{Awaited}
-use Rattle.ddt_asking.specs.declared.waiting.Wait.{Wait}
+use Rattle.ddt_asking.specs.declared.wait.Wait.{Wait}
 use Rattle.ddt_asking.specs.Replies.{reply_in}
 use Rattle.ddt_asking.specs.Steps.{Step, step_of, HasDone}
 use Rattle.ddt_asking.specs.Waits.{IsVain, IsWait, replied, over, used_up, most_polls}

@@ -7,7 +7,7 @@ use Rattle.ddt_asking.specs.declared.manner.Manner.{Manner}
 use Rattle.ddt_asking.specs.declared.question.Question.{Question}
 use Rattle.ddt_asking.specs.declared.reply.Awaited.{Awaited}
 use Rattle.ddt_asking.specs.declared.verdict.Finding.{Finding}
-use Rattle.ddt_asking.specs.declared.waiting.Wait.{Wait}
+use Rattle.ddt_asking.specs.declared.wait.Wait.{Wait}
 use Rattle.ddt_asking.specs.Steps.{Step}
 use Rattle.ddt_asking.specs.Waits.{IsPoll, IsWait}
 use Rattle.ddt_asking.specs.Tries.{AreTries}

@@ -5,7 +5,7 @@ use Rattle.ddt_path.specs.declared.locator.Locator.{Locator}
 use Rattle.ddt_wires.specs.declared.call.Call.{Call}
 use Rattle.ddt_wires.specs.declared.call.Call.TheVariants.{Received, Tried}
 use Rattle.ddt_wires.specs.Turns.{most_bytes}
-use Rattle.ddt_asking.specs.declared.waiting.Wait.{Wait}
+use Rattle.ddt_asking.specs.declared.wait.Wait.{Wait}
 use Rattle.ddt_asking.specs.Replies.{reply_of}
 use Rattle.ddt_asking.specs.Steps.{Step}
 

@@ -1,22 +1,22 @@
 //! Real servers compared with a register: each server that the register leads to is asked, and its reply held against
 //! the record that the register demands (RFC 8111, sections 6 and 7).
 //!
-//! In reading order: `question`, `verdict`, `manner`, `reply`, `waiting`, `trying`, `asking`,
+//! In reading order: `question`, `verdict`, `manner`, `reply`, `wait`, `tries`, `asker`,
 //! `patient_wires`, `lines`, `counts`.
 #![tactic(auto)]
 
-mod asking;
+mod asker;
 mod counts;
 mod lines;
 mod manner;
 mod patient_wires;
 mod question;
 mod reply;
-mod trying;
+mod tries;
 mod verdict;
-mod waiting;
+mod wait;
 
-pub use asking::Asker;
+pub use asker::Asker;
 pub use counts::FindingCounts;
 pub use lines::finding_line;
 pub use manner::Manner;

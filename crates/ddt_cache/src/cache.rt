@@ -10,9 +10,9 @@ ghost use Rattle.ddt_cache.specs.Found.{IsFound};
 ghost use Rattle.ddt_cache.specs.InOrder.{IsInOrder};
 
 use crate::entry::{Entry, Saved};
-use crate::finding::{Held, drop_ended_over};
+use crate::longest_live::{Held, drop_ended_over};
 use crate::moment::Moment;
-use crate::saving::{drop_ended, save_among};
+use crate::saved_records::{drop_ended, save_among};
 use ddt_path::{Action, LocatorSet, Prefix, ReferralRecord, Xeid};
 use ddt_trie::PrefixMap;
 use std::alloc::{AllocError, Global};

@@ -4,13 +4,13 @@
 
 mod cache;
 mod entry;
-mod finding;
 mod laws;
+mod longest_live;
 mod moment;
-mod saving;
+mod saved_records;
 
 pub use cache::Cache;
 pub use entry::{Entry, Saved};
 pub use laws::{one_is_found, order_is_kept, saved_until_its_end, time_moves_on};
 pub use moment::{LAST_MOMENT, Moment};
-pub use saving::MOST_LIVE_ENTRIES;
+pub use saved_records::MOST_LIVE_ENTRIES;

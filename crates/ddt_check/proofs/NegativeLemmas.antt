@@ -16,7 +16,7 @@ use Rattle.ddt_path.specs.laws.Cover.{covers_trans}
 use Rattle.ddt_path.specs.laws.Front.{front_below, one_front, overlaps_front}
 use Rattle.ddt_path.specs.laws.Hole.{kept_apart, IsFreeOf, hole_of_all_or_alone}
 use Rattle.ddt_path.specs.laws.Member.{IsIn, contained}
-use Rattle.ddt_path.specs.declared.matching.Preference.TheVariants.{Longest}
+use Rattle.ddt_path.specs.declared.matches.Preference.TheVariants.{Longest}
 use Rattle.ddt_register.specs.declared.zone.Zone.{Zone}
 use Rattle.ddt_register.specs.declared.site.Site.{Site}
 use Rattle.ddt_register.specs.declared.register.Register.{Register}

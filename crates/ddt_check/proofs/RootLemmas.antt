@@ -11,7 +11,7 @@ use Rattle.ddt_path.specs.Locators.{lists}
 use Rattle.ddt_path.specs.laws.Cover.{same_path}
 use Rattle.ddt_path.specs.laws.Member.{IsIn, in_contained, contained, found_in, found_passes}
 use Rattle.ddt_path.specs.laws.Front.{one_front}
-use Rattle.ddt_path.specs.declared.matching.Preference.TheVariants.{Longest}
+use Rattle.ddt_path.specs.declared.matches.Preference.TheVariants.{Longest}
 use Rattle.ddt_register.specs.declared.zone.Zone.{Zone}
 use Rattle.ddt_register.specs.declared.group.Group.{Group}
 use Rattle.ddt_register.specs.declared.register.Register.{Register}

@@ -17,7 +17,7 @@ use Rattle.ddt_path.specs.Locators.{lists}
 use Rattle.ddt_path.specs.laws.Cover.{covers_self}
 use Rattle.ddt_path.specs.laws.Hole.{hole_covers}
 use Rattle.ddt_path.specs.laws.Member.{IsIn, contained}
-use Rattle.ddt_path.specs.declared.matching.Preference.TheVariants.{Longest}
+use Rattle.ddt_path.specs.declared.matches.Preference.TheVariants.{Longest}
 use Rattle.ddt_register.specs.declared.zone.Zone.{Zone}
 use Rattle.ddt_register.specs.declared.site.Site.{Site}
 use Rattle.ddt_register.specs.declared.register.Register.{Register}

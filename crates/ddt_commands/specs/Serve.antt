@@ -12,7 +12,7 @@ use Rattle.ddt_config.specs.declared.fault.ConfigFault.TheVariants.{Memory}
 use Rattle.ddt_config.specs.Table.{Outline}
 use Rattle.ddt_node.specs.Spelled.{IsServedConfig, IsConfigFault}
 use Rattle.ddt_wires.specs.declared.call.Call.{Call as WireCall}
-use Rattle.ddt_wires.specs.declared.serving.Served.{Served}
+use Rattle.ddt_wires.specs.declared.turns.Served.{Served}
 use Rattle.ddt_wires.specs.Calls.{Tells as TellCalls}
 use Rattle.ddt_wires.specs.Turns.{Serves}
 use Rattle.ddt_lines.specs.Lines.{ended}

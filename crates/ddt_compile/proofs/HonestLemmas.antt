@@ -36,7 +36,7 @@ use Rattle.ddt_config.specs.Answer.{answer, answer_in, referral_to, site_outcome
 use Rattle.ddt_compile.specs.GroupConfig.{child_of, children_of, entry_of, sites_of, content_of, authority_of, group_config}
 use Rattle.ddt_compile.specs.laws.Statements.{IsHonestConfig}
 use Rattle.ddt_path.specs.laws.Member.{IsIn, all_made}
-use Rattle.ddt_path.specs.declared.matching.Preference.TheVariants.{Longest}
+use Rattle.ddt_path.specs.declared.matches.Preference.TheVariants.{Longest}
 use Rattle.ddt_check.specs.laws.Served.{locators_of_zone, group_serves}
 use Rattle.ddt_check.specs.laws.Next.{assigned_here}
 use Rattle.ddt_check.specs.laws.Child.{longest_child, same_free}

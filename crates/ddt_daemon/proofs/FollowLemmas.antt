@@ -4,7 +4,7 @@ use Rattle.ddt_path.specs.declared.locator.Locator.{Locator}
 use Rattle.ddt_resolver.specs.declared.front.ItrRequest.{ItrRequest}
 use Rattle.ddt_resolver.specs.Front.{IsItrRequest}
 use Rattle.ddt_loop.specs.declared.came.Came.TheVariants.{Waits}
-use Rattle.ddt_daemon.specs.declared.waiting.Kept.{Kept}
+use Rattle.ddt_daemon.specs.declared.itr_requests.Kept.{Kept}
 use Rattle.ddt_daemon.specs.Kept.{kept_of}
 use Rattle.ddt_daemon.specs.Goes.{Follows, waits, lost}
 

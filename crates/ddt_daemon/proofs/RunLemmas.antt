@@ -20,7 +20,7 @@ use Rattle.ddt_loop.specs.Runs.{HasRun, took, ticked, passed}
 use Rattle.ddt_loop.specs.Runs.{begins as run_begins}
 use Rattle.ddt_wires.specs.declared.call.Packet.{Packet}
 use Rattle.ddt_onward.specs.Onward.{onward, to_server}
-use Rattle.ddt_daemon.specs.declared.waiting.Kept.{Kept}
+use Rattle.ddt_daemon.specs.declared.itr_requests.Kept.{Kept}
 use Rattle.ddt_daemon.specs.Kept.{kept_of, TakesKept, nobody, somebody}
 use Rattle.ddt_daemon.specs.Goes.{Follows, same, waits, lost, ends, FollowsTick}
 use Rattle.ddt_daemon.specs.Rounds.{Resolving, IsHandled, dropped, taken, IsRound, no_packet, failed, came}

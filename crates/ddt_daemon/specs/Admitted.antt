@@ -5,9 +5,9 @@ use Rattle.ddt_resolver.specs.declared.front.ItrRequest.{ItrRequest}
 use Rattle.ddt_resolver.specs.Front.{IsItrRequest}
 use Rattle.ddt_resolver.specs.State.{most_pending}
 use Rattle.ddt_settings.specs.Rlocs.{is_allowed}
-use Rattle.ddt_daemon.specs.declared.waiting.Kept.{Kept}
-use Rattle.ddt_daemon.specs.declared.admitting.Dropped.{Dropped}
-use Rattle.ddt_daemon.specs.declared.admitting.Dropped.TheVariants.{Denied, TooLong, NoRequest, Repeated, Full}
+use Rattle.ddt_daemon.specs.declared.itr_requests.Kept.{Kept}
+use Rattle.ddt_daemon.specs.declared.admission.Dropped.{Dropped}
+use Rattle.ddt_daemon.specs.declared.admission.Dropped.TheVariants.{Denied, TooLong, NoRequest, Repeated, Full}
 use Rattle.ddt_daemon.specs.Kept.{waits_for}
 
 -- no longer request is kept

@@ -10,7 +10,7 @@ use Rattle.ddt_loop.specs.declared.came.Came.TheVariants.{Nothing, Waits, Ended}
 use Rattle.ddt_loop.specs.declared.came.Ended.{Ended as End}
 use Rattle.ddt_onward.specs.Onward.{onward}
 use Rattle.ddt_daemon.specs.declared.counts.ResolverCounts.{ResolverCounts}
-use Rattle.ddt_daemon.specs.declared.waiting.Kept.{Kept}
+use Rattle.ddt_daemon.specs.declared.itr_requests.Kept.{Kept}
 use Rattle.ddt_daemon.specs.Counted.{plus, with_ended}
 use Rattle.ddt_daemon.specs.Kept.{kept_of, TakesKept}
 

@@ -14,8 +14,8 @@ use Rattle.ddt_loop.specs.Ends.{HasEndedBy}
 use Rattle.ddt_wire.specs.declared.message_type.MessageType.TheVariants.{Encapsulated}
 use Rattle.ddt_wire.specs.MessageType.{is_of}
 use Rattle.ddt_loop.specs.Polls.{polled, IsTaken}
-use Rattle.ddt_daemon.specs.declared.waiting.Kept.{Kept}
-use Rattle.ddt_daemon.specs.declared.admitting.Dropped.{Dropped}
+use Rattle.ddt_daemon.specs.declared.itr_requests.Kept.{Kept}
+use Rattle.ddt_daemon.specs.declared.admission.Dropped.{Dropped}
 use Rattle.ddt_daemon.specs.declared.counts.ResolverCounts.{ResolverCounts}
 use Rattle.ddt_daemon.specs.Admitted.{IsAdmitted, IsDropped}
 use Rattle.ddt_daemon.specs.Counted.{with_dropped}

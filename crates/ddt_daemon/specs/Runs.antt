@@ -10,7 +10,7 @@ use Rattle.ddt_resolver.specs.declared.front.ItrRequest.{ItrRequest}
 use Rattle.ddt_resolver.specs.Front.{IsItrRequest}
 use Rattle.ddt_loop.specs.Runs.{HasRun}
 use Rattle.ddt_onward.specs.Onward.{with_d}
-use Rattle.ddt_daemon.specs.declared.waiting.Kept.{Kept}
+use Rattle.ddt_daemon.specs.declared.itr_requests.Kept.{Kept}
 use Rattle.ddt_daemon.specs.Rounds.{Resolving, IsRound, IsTick}
 
 -- What has been done so far, by the calls of the near wires and those of the far wires: rounds, each by the settings in

@@ -3,7 +3,7 @@
 ghost use Rattle.std.specs.Prelude.{◌≡◌};
 ghost use Rattle.ddt_daemon.specs.Counted.{plus, with_served, with_dropped, with_ended};
 
-use crate::admitting::Dropped;
+use crate::admission::Dropped;
 use ddt_path::Outcome;
 use ddt_resolver::Why;
 use ddt_wires::Served;

@@ -1,24 +1,24 @@
 //! The rounds of a daemon: of a server over its sockets, and of a Map-Resolver between ITRs, servers and Map-Servers; what
 //! it counts; and the words that it is told.
 //!
-//! In reading order: `control_word`, `counts`, `counted`, `serving`, `waiting`, `admitting`, `resolving`, `laws`, `statistics`.
+//! In reading order: `control_word`, `counts`, `counted`, `server_round`, `itr_requests`, `admission`, `map_resolver`, `laws`, `statistics`.
 #![tactic(auto)]
 
-mod admitting;
+mod admission;
 mod control_word;
 mod counted;
 mod counts;
+mod itr_requests;
 mod laws;
-mod resolving;
-mod serving;
+mod map_resolver;
+mod server_round;
 mod statistics;
-mod waiting;
 
-pub use admitting::Dropped;
+pub use admission::Dropped;
 pub use control_word::ControlWord;
 pub use counted::{Counted, WireCounts};
 pub use counts::{ResolverCounts, ServerCounts};
 pub use laws::a_map_resolver_runs;
-pub use resolving::MapResolver;
-pub use serving::serve_ready;
+pub use map_resolver::MapResolver;
+pub use server_round::serve_ready;
 pub use statistics::{ResolverStatistics, ServerStatistics, Times};

@@ -4,7 +4,7 @@ use Rattle.std.specs.Prelude.{is_some, not, ◌&&◌}
 use Rattle.std.specs.List.{list_any, filter}
 use Rattle.std.proofs.lemmas.Bool.{cond-true, cond-false, both_ways, false_from_ne_true, and_parts, cases_lt}
 use Rattle.std.proofs.lemmas.List.{length-take}
-use Rattle.ddt_path.specs.declared.matching.Preference.TheVariants.{Longest}
+use Rattle.ddt_path.specs.declared.matches.Preference.TheVariants.{Longest}
 use Rattle.ddt_path.specs.Covers.{covers, is_strictly_below}
 use Rattle.ddt_path.specs.Matching.{best_match, better_of, longest_match}
 use Rattle.ddt_path.specs.laws.Cover.{covers_trans, length-covered, covered_same, covers_self, front_covered, below_is, below_from}

@@ -13,7 +13,7 @@ use crate::broken::Broken;
 use crate::firsts::RowAndKind;
 use crate::in_row::InRow;
 use crate::index::{Index, is_root};
-use crate::matching::longest;
+use crate::longest_zone::longest;
 use ddt_check::Rule;
 use ddt_path::{MOST_LOCATORS, Role, are_distinct};
 use ddt_register::{Group, Site, Zone};

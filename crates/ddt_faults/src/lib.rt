@@ -1,6 +1,6 @@
 //! All broken rules of a register that isn't accepted, each with the row that breaks it and the other row of the fault.
 //!
-//! In reading order: `broken`; `index`, with `firsts` and `matching` below it; `in_row`; `faults`.
+//! In reading order: `broken`; `index`, with `firsts` and `longest_zone` below it; `in_row`; `faults`.
 #![tactic(auto)]
 
 mod broken;
@@ -8,6 +8,6 @@ mod faults;
 mod firsts;
 mod in_row;
 mod index;
-mod matching;
+mod longest_zone;
 
 pub use broken::{Broken, broken_rules};

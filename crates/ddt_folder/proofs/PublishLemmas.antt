@@ -22,7 +22,7 @@ use Rattle.ddt_compile.specs.GroupConfig.{group_config}
 use Rattle.ddt_folder.specs.declared.file_name.FileName.{FileName}
 use Rattle.ddt_folder.specs.declared.file_name.FileName.TheVariants.{Register as OfRegister, Config, Manifest}
 use Rattle.ddt_folder.specs.declared.step.NamedFile.{NamedFile}
-use Rattle.ddt_folder.specs.declared.planning.Plan.{Plan}
+use Rattle.ddt_folder.specs.declared.plan.Plan.{Plan}
 use Rattle.ddt_folder.specs.Names.{is_same_file}
 use Rattle.ddt_folder.specs.Contents.{Contents}
 use Rattle.ddt_folder.specs.Steps.{after}

@@ -10,7 +10,7 @@ use Rattle.ddt_compile.specs.laws.Statements.{IsShapedConfig}
 use Rattle.ddt_plan.specs.Groups.{is_same_config}
 use Rattle.ddt_folder.specs.declared.file_name.FileName.TheVariants.{Register as OfRegister, Config, Manifest}
 use Rattle.ddt_folder.specs.declared.step.NamedFile.{NamedFile}
-use Rattle.ddt_folder.specs.declared.planning.Plan.{Plan}
+use Rattle.ddt_folder.specs.declared.plan.Plan.{Plan}
 use Rattle.ddt_folder.specs.Contents.{Contents}
 use Rattle.ddt_folder.specs.Steps.{after}
 use Rattle.ddt_folder.specs.Manifest.{manifest_text, IsListedIn}

@@ -4,7 +4,7 @@ use Rattle.std.specs.List.{flat_map}
 use Rattle.ddt_folder.specs.declared.file_name.FileName.{FileName}
 use Rattle.ddt_folder.specs.declared.step.Step.{Step}
 use Rattle.ddt_folder.specs.declared.step.Step.TheVariants.{Add, Change, Remove}
-use Rattle.ddt_folder.specs.declared.planning.Plan.{Plan}
+use Rattle.ddt_folder.specs.declared.plan.Plan.{Plan}
 use Rattle.ddt_folder.specs.Names.{file_text}
 use Rattle.ddt_folder.specs.Steps.{name_of}
 

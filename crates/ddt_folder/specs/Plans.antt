@@ -6,7 +6,7 @@ use Rattle.ddt_folder.specs.declared.fault.PublishFault.{PublishFault}
 use Rattle.ddt_folder.specs.declared.fault.PublishFault.TheVariants.{Memory, Failed}
 use Rattle.ddt_folder.specs.declared.step.NamedFile.{NamedFile}
 use Rattle.ddt_folder.specs.declared.step.Step.{Step}
-use Rattle.ddt_folder.specs.declared.planning.Plan.{Plan}
+use Rattle.ddt_folder.specs.declared.plan.Plan.{Plan}
 use Rattle.ddt_folder.specs.Contents.{Contents}
 use Rattle.ddt_folder.specs.Steps.{after, HasStopped}
 use Rattle.ddt_folder.specs.Wanted.{register_file, steps_for, same_in, removals, left_of, manifest_file, AreGroupFiles, AreGoneFiles}

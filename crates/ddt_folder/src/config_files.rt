@@ -5,7 +5,7 @@ ghost use Rattle.ddt_folder.specs.declared.step.NamedFile.{NamedFile as AFile};
 ghost use Rattle.ddt_folder.specs.Wanted.{register_file, AreGroupFiles, IsConfigFile};
 
 use crate::file_name::FileName;
-use crate::ordering::in_order;
+use crate::order::in_order;
 use crate::step::NamedFile;
 use ddt_check::Accepted;
 use ddt_compile::compile;

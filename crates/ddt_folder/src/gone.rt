@@ -9,8 +9,8 @@ ghost use Rattle.ddt_folder.specs.Contents.{Contents};
 ghost use Rattle.ddt_folder.specs.Manifest.{AreConfigsIn};
 ghost use Rattle.ddt_folder.specs.Wanted.{gone_if, AreGoneFiles};
 
-use crate::comparing::read_file;
 use crate::fault::PublishFault;
+use crate::file_changes::read_file;
 use crate::file_name::FileName;
 use crate::folder::Folder;
 use crate::manifest::configs_in;

@@ -5,7 +5,7 @@ use Rattle.csv.specs.Writing.{default_writer, row_text, writer_setup, fields_wri
 use Rattle.csv.specs.declared.writer.Writer.{Writer}
 use Rattle.ddt_register.specs.declared.row.Row.{Row}
 use Rattle.ddt_register.specs.Spelled.{Lists, items_of, joined}
-use Rattle.ddt_loopback.specs.declared.writing.Left.{Left}
+use Rattle.ddt_loopback.specs.declared.csv_text.Left.{Left}
 use Rattle.ddt_loopback.specs.Records.{row_fields, row_number}
 
 -- the text of some records, as csv writes them with its defaults

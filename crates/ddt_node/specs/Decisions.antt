@@ -5,8 +5,8 @@ use Rattle.ddt_path.specs.declared.locator.Locator.{Locator}
 use Rattle.ddt_path.specs.declared.record.ReferralRecord.{ReferralRecord}
 use Rattle.ddt_path.specs.declared.record.Outcome.TheVariants as outcome
 use Rattle.ddt_path.specs.Records.{referral, record_of, not_authoritative}
-use Rattle.ddt_node.specs.declared.answering.Decision.{Decision}
-use Rattle.ddt_node.specs.declared.answering.Decision.TheVariants.{Child, Registered, NotRegistered, Hole, Outside}
+use Rattle.ddt_node.specs.declared.decision.Decision.{Decision}
+use Rattle.ddt_node.specs.declared.decision.Decision.TheVariants.{Child, Registered, NotRegistered, Hole, Outside}
 
 -- a record whose referral set is the whole of it
 abbrev pub whole_record : Action → List ℕ → ℕ → List Locator → ReferralRecord

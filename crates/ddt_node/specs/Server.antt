@@ -17,9 +17,9 @@ use Rattle.ddt_wire.specs.Referral.{written, message_of, Message as ReferralMess
 use Rattle.ddt_ecm.specs.declared.fault.RequestFault.{RequestFault}
 use Rattle.ddt_ecm.specs.EcmHeader.{s_place, d_place}
 use Rattle.ddt_ecm.specs.Request.{Message, Spells as SpellsRequest, message_in}
-use Rattle.ddt_node.specs.declared.handling.Buffered.{Buffered}
-use Rattle.ddt_node.specs.declared.handling.Forward.{Forward}
-use Rattle.ddt_node.specs.declared.handling.Handled.{Handled}
+use Rattle.ddt_node.specs.declared.datagram.Buffered.{Buffered}
+use Rattle.ddt_node.specs.declared.datagram.Forward.{Forward}
+use Rattle.ddt_node.specs.declared.datagram.Handled.{Handled}
 
 -- the longest authority that covers the identifier
 abbrev pub authority_of : Outline → List ℕ → Option Authority

@@ -1,16 +1,16 @@
 //! A server of one configuration: which Map-Referral answers an identifier, and what is sent for a datagram.
 //!
-//! In reading order: `server`, `referral_sets`, `building`, `reading`, `answering`, `handling`.
+//! In reading order: `server`, `referral_sets`, `index`, `configuration`, `decision`, `datagram`.
 #![tactic(auto)]
 
-mod answering;
-mod building;
-mod handling;
-mod reading;
+mod configuration;
+mod datagram;
+mod decision;
+mod index;
 mod referral_sets;
 mod server;
 
-pub use building::has_room_for;
-pub use handling::{Buffered, Forward, Handled};
-pub use reading::config_in;
+pub use configuration::config_in;
+pub use datagram::{Buffered, Forward, Handled};
+pub use index::has_room_for;
 pub use server::Server;

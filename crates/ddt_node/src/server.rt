@@ -9,8 +9,8 @@ ghost use Rattle.ddt_config.specs.Entries.{entry_count};
 ghost use Rattle.ddt_node.specs.Decisions.{etr_by, record_by};
 ghost use Rattle.ddt_node.specs.Server.{first_etr};
 
-use crate::answering::{Decision, decision_in, longest};
-use crate::building::{Indexed, index};
+use crate::decision::{Decision, decision_in, longest};
+use crate::index::{Indexed, index};
 use ddt_config::ServerConfig;
 use ddt_path::{ReferralRecord, Xeid};
 use ddt_trie::PrefixMap;

@@ -4,8 +4,8 @@ use Rattle.std.specs.Prelude.{ℕ, ◌≡◌, Bool, nat_lt, if◌then◌else◌,
 use Rattle.std.specs.Fn.{FnReturnsAt}
 use denote.Ref.{Bor}
 use denote.Param.Members.{Shared}
-use Rattle.ddt_path.specs.declared.matching.Preference.{Preference}
-use Rattle.ddt_path.specs.declared.matching.Preference.TheVariants.{Longest, Shortest}
+use Rattle.ddt_path.specs.declared.matches.Preference.{Preference}
+use Rattle.ddt_path.specs.declared.matches.Preference.TheVariants.{Longest, Shortest}
 use Rattle.ddt_path.specs.Covers.{covers}
 
 -- whether a prefix of m digits is preferred to one of n

@@ -1,6 +1,6 @@
 //! The words that all crates speak.
 //!
-//! In reading order: `locator`, `xeid`, `form`, `prefix` (with `masks` below them), `prefixed`, `matching`;
+//! In reading order: `locator`, `xeid`, `form`, `prefix` (with `masks` below them), `prefixed`, `matches`;
 //! `locator_set`, `action`, `record`; `name`, `listed`; and the laws, `holes`.
 #![tactic(auto)]
 
@@ -11,7 +11,7 @@ mod listed;
 mod locator;
 mod locator_set;
 mod masks;
-mod matching;
+mod matches;
 mod name;
 mod prefix;
 mod prefixed;
@@ -26,7 +26,7 @@ pub use holes::{
 pub use listed::Listed;
 pub use locator::{Locator, are_distinct};
 pub use locator_set::{LocatorSet, MOST_LOCATORS};
-pub use matching::{Preference, best_match, longest_match, shortest_match};
+pub use matches::{Preference, best_match, longest_match, shortest_match};
 pub use name::{LONGEST_NAME, Name};
 pub use prefix::Prefix;
 pub use prefixed::Prefixed;

@@ -19,8 +19,8 @@ use Rattle.ddt_register.specs.laws.Range.{zone_prefixes, site_prefixes}
 use Rattle.ddt_check.specs.Assignment.{assignment}
 use Rattle.ddt_check.specs.laws.Zone.{zone_prefix, site_prefix}
 use Rattle.ddt_plan.specs.declared.outcomes.Reading.{Reading}
-use Rattle.ddt_plan.specs.declared.listing.Block.{Block}
-use Rattle.ddt_plan.specs.declared.comparing.Change.{Change}
+use Rattle.ddt_plan.specs.declared.block_list.Block.{Block}
+use Rattle.ddt_plan.specs.declared.change_list.Change.{Change}
 use Rattle.ddt_plan.specs.Blocks.{keys_of, is_undivided, block_inside, stands_before, are_in_order, pieces}
 use Rattle.ddt_plan.specs.Changes.{is_same_outcome, AreBlocks, AreChanges, block_at, change_at, is_apart}
 use Rattle.ddt_plan.proofs.AlikeLemmas.{assigned_as_block}

@@ -23,7 +23,7 @@ use Rattle.ddt_check.specs.laws.Statements.{negative_prefix}
 use Rattle.ddt_check.specs.laws.Root.{zone_found}
 use Rattle.ddt_check.specs.laws.Zone.{assigned_at}
 use Rattle.ddt_plan.specs.Blocks.{keys_of, is_undivided, block_of}
-use Rattle.ddt_path.specs.declared.matching.Preference.TheVariants.{Longest}
+use Rattle.ddt_path.specs.declared.matches.Preference.TheVariants.{Longest}
 use Rattle.ddt_path.specs.laws.Matching.{best_match-map}
 use Rattle.ddt_plan.specs.declared.sides.Delegation.{Delegation}
 use Rattle.ddt_plan.specs.declared.sides.SiteState.{SiteState}

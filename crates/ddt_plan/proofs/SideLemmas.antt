@@ -10,7 +10,7 @@ use Rattle.std.proofs.lemmas.List.Folds.{list_all-append}
 use Rattle.std.proofs.lemmas.List.Sorted.{IsPermutation-sym}
 use Rattle.ddt_path.specs.declared.xeid.Xeid.{Xeid}
 use Rattle.ddt_path.specs.declared.record.Outcome.{Outcome}
-use Rattle.ddt_path.specs.declared.matching.Preference.TheVariants.{Longest}
+use Rattle.ddt_path.specs.declared.matches.Preference.TheVariants.{Longest}
 use Rattle.ddt_path.specs.Covers.{covers, is_same_path, is_strictly_below}
 use Rattle.ddt_path.specs.Matching.{longest_match}
 use Rattle.ddt_path.specs.Path.{xeid_path}
@@ -33,9 +33,9 @@ use Rattle.ddt_plan.specs.declared.sides.Side.TheVariants.{Settled, Divided}
 use Rattle.ddt_plan.specs.declared.sides.Sides.{Sides}
 use Rattle.ddt_plan.specs.Blocks.{keys_of, is_undivided, half, next_digit, pieces}
 use Rattle.ddt_plan.specs.declared.outcomes.Reading.{Reading}
-use Rattle.ddt_plan.specs.declared.comparing.Change.{Change}
+use Rattle.ddt_plan.specs.declared.change_list.Change.{Change}
 use Rattle.ddt_plan.specs.Changes.{block_at, change_at, changes_at, is_apart}
-use Rattle.ddt_plan.specs.declared.listing.Block.{Block}
+use Rattle.ddt_plan.specs.declared.block_list.Block.{Block}
 use Rattle.ddt_plan.specs.Fast.{delegation_of, delegations_of, delegation_at, delegations_below, state_of, states_of, state_at, states_below, outcome_from, AreBelow, IsSettled, IsDivision, IsSide, AreSides, outcomes_settled, both_settled}
 use Rattle.ddt_plan.proofs.AlikeLemmas.{in_first, in_second, best_match-alike, assigned_as_block}
 use Rattle.ddt_plan.proofs.HalfLemmas.{length-half}

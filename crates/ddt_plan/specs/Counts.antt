@@ -2,11 +2,11 @@
 use Rattle.std.specs.Prelude.{ℕ, ◌≡◌, ◌⊎◌, ◌+◌, Result, Ok, Err}
 use Rattle.ddt_path.specs.declared.record.Outcome.{Outcome}
 use Rattle.ddt_path.specs.declared.record.Outcome.TheVariants.{Registered, NotRegistered, Hole}
-use Rattle.ddt_plan.specs.declared.listing.Block.{Block}
-use Rattle.ddt_plan.specs.declared.comparing.Change.{Change}
-use Rattle.ddt_plan.specs.declared.counting.CountFull.{CountFull}
-use Rattle.ddt_plan.specs.declared.counting.OutcomeCounts.{OutcomeCounts}
-use Rattle.ddt_plan.specs.declared.counting.ChangeCounts.{ChangeCounts}
+use Rattle.ddt_plan.specs.declared.block_list.Block.{Block}
+use Rattle.ddt_plan.specs.declared.change_list.Change.{Change}
+use Rattle.ddt_plan.specs.declared.counts.CountFull.{CountFull}
+use Rattle.ddt_plan.specs.declared.counts.OutcomeCounts.{OutcomeCounts}
+use Rattle.ddt_plan.specs.declared.counts.ChangeCounts.{ChangeCounts}
 
 -- one more of its kind
 abbrev pub counted : OutcomeCounts → Outcome → OutcomeCounts

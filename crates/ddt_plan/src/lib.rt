@@ -5,28 +5,28 @@
 //! need another configuration is told by the configurations themselves: `ddt_compile` makes those of both registers,
 //! and the types of `ddt_config` are compared, whatever the order of rows.
 //!
-//! In reading order: `sink`, `listing`, `comparing`, `outcomes`, `counting`; `walking`, `sides`, `halves`, `servers`
+//! In reading order: `sink`, `block_list`, `change_list`, `outcomes`, `counts`; `walk`, `sides`, `halves`, `servers`
 //! below them; `groups`, with `versions` and `configs` below it; and `laws`.
 #![tactic(auto)]
 
-mod comparing;
+mod block_list;
+mod change_list;
 mod configs;
-mod counting;
+mod counts;
 mod groups;
 mod halves;
 mod laws;
-mod listing;
 mod outcomes;
 mod servers;
 mod sides;
 mod sink;
 mod versions;
-mod walking;
+mod walk;
 
-pub use comparing::{Change, changes};
-pub use counting::{ChangeCounts, CountFull, OutcomeCounts};
+pub use block_list::{Block, blocks};
+pub use change_list::{Change, changes};
+pub use counts::{ChangeCounts, CountFull, OutcomeCounts};
 pub use groups::{GroupChange, GroupChangeKind, group_changes};
 pub use laws::{a_block_is_assigned_alike, a_negative_is_its_block, exactly_the_same_is_equal};
-pub use listing::{Block, blocks};
 pub use outcomes::{Reading, is_same_outcome};
 pub use sink::{PlanFault, Sink};

@@ -6,14 +6,14 @@ use Rattle.std.specs.Io.KnownBytes.{Appends}
 use Rattle.ddt_text.specs.FirstFault.{prefix_in}
 use Rattle.ddt_register.specs.declared.register.Register.{Register}
 use Rattle.ddt_check.specs.Rules.{IsAccepted}
-use Rattle.ddt_plan.specs.declared.comparing.Change.{Change}
-use Rattle.ddt_plan.specs.declared.counting.ChangeCounts.{ChangeCounts}
+use Rattle.ddt_plan.specs.declared.change_list.Change.{Change}
+use Rattle.ddt_plan.specs.declared.counts.ChangeCounts.{ChangeCounts}
 use Rattle.ddt_plan.specs.declared.groups.GroupChange.{GroupChange}
 use Rattle.ddt_plan.specs.Sinks.{HasTaken}
 use Rattle.ddt_commands.specs.Register.{HasBytes, Spell}
-use Rattle.ddt_plan_commands.specs.declared.asking.BlocksAsked.{BlocksAsked}
-use Rattle.ddt_plan_commands.specs.declared.asking.DiffAsked.{DiffAsked}
-use Rattle.ddt_plan_commands.specs.declared.asking.Form.{Form}
+use Rattle.ddt_plan_commands.specs.declared.words.BlocksAsked.{BlocksAsked}
+use Rattle.ddt_plan_commands.specs.declared.words.DiffAsked.{DiffAsked}
+use Rattle.ddt_plan_commands.specs.declared.words.Form.{Form}
 use Rattle.ddt_plan_commands.specs.declared.change_lines.ChangeLines.{ChangeLines}
 use Rattle.ddt_plan_commands.specs.Answers.{IsBlocksText, IsBlocksAnswer, IsDiffText, IsDiffAnswer}
 use Rattle.ddt_plan_commands.specs.Counted.{has_counted, no_changes, with_changes}

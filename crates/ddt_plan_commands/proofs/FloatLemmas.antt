@@ -5,8 +5,8 @@ use Rattle.serde_json.specs.Written.{has_float, items_have_float}
 use Rattle.ddt_path.specs.declared.locator.Locator.{Locator}
 use Rattle.ddt_path.specs.declared.record.Outcome.{Outcome}
 use Rattle.ddt_path.specs.declared.record.Outcome.TheVariants.{Registered, NotRegistered, Hole}
-use Rattle.ddt_plan.specs.declared.listing.Block.{Block}
-use Rattle.ddt_plan.specs.declared.comparing.Change.{Change}
+use Rattle.ddt_plan.specs.declared.block_list.Block.{Block}
+use Rattle.ddt_plan.specs.declared.change_list.Change.{Change}
 use Rattle.ddt_plan_commands.specs.Objects.{server_items, kind_data, outcome_data, block_data, change_data}
 
 servers : (ls : List Locator) → items_have_float (server_items ls) ≡ false

@@ -3,18 +3,18 @@ use Rattle.std.proofs.lemmas.Bool.Decides.{nat_tests}
 use Rattle.std.specs.List.{list_any}
 use Rattle.ddt_path.specs.declared.record.Outcome.{Outcome}
 use Rattle.ddt_path.specs.declared.record.Outcome.TheVariants.{Registered, NotRegistered, Hole}
-use Rattle.ddt_plan.specs.declared.comparing.Change.{Change}
-use Rattle.ddt_plan.specs.declared.counting.ChangeCounts.{ChangeCounts}
+use Rattle.ddt_plan.specs.declared.change_list.Change.{Change}
+use Rattle.ddt_plan.specs.declared.counts.ChangeCounts.{ChangeCounts}
 use Rattle.ddt_plan_commands.specs.declared.change_lines.ChangeLines.{ChangeLines}
 use Rattle.std.proofs.Common.{true, false, ◌+◌, refl, sym, arith, ◌≡◌, ℕ, Bool, List, [], ◌∷◌, Option, subst, ap, ◌∙◌}
 use Rattle.std.specs.Prelude.{◌||◌, nat_lt}
 use Rattle.ddt_lines.specs.Printing.{AppendsFront}
 use Rattle.std.specs.Io.KnownBytes.{Appends}
-use Rattle.ddt_plan.specs.declared.listing.Block.{Block}
-use Rattle.ddt_plan.specs.declared.counting.OutcomeCounts.{OutcomeCounts}
+use Rattle.ddt_plan.specs.declared.block_list.Block.{Block}
+use Rattle.ddt_plan.specs.declared.counts.OutcomeCounts.{OutcomeCounts}
 use Rattle.ddt_plan.specs.Counts.{CountsBlock, CountsChange, counted, changes_counted}
 use Rattle.ddt_plan.specs.Sinks.{HasTaken}
-use Rattle.ddt_plan_commands.specs.declared.asking.Form.{Form}
+use Rattle.ddt_plan_commands.specs.declared.words.Form.{Form}
 use Rattle.ddt_plan_commands.specs.declared.block_lines.LineFault.{LineFault}
 use Rattle.ddt_plan_commands.specs.declared.block_lines.BlockLines.{BlockLines}
 use Rattle.ddt_plan_commands.specs.Counted.{has_counted, with_blocks, with_changes}

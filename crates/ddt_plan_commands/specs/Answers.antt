@@ -4,17 +4,17 @@ use Rattle.std.specs.List.{flat_map}
 use Rattle.std.specs.Io.KnownBytes.{Keeps}
 use Rattle.ddt_text.specs.FirstFault.{prefix_in}
 use Rattle.ddt_register.specs.declared.register.Register.{Register}
-use Rattle.ddt_plan.specs.declared.listing.Block.{Block}
-use Rattle.ddt_plan.specs.declared.comparing.Change.{Change}
+use Rattle.ddt_plan.specs.declared.block_list.Block.{Block}
+use Rattle.ddt_plan.specs.declared.change_list.Change.{Change}
 use Rattle.ddt_plan.specs.declared.groups.GroupChange.{GroupChange}
 use Rattle.ddt_plan.specs.declared.outcomes.Reading.{Reading}
 use Rattle.ddt_plan.specs.Changes.{AreBlocks, AreChanges}
 use Rattle.ddt_plan.specs.Groups.{AreGroupChanges}
 use Rattle.ddt_lines.specs.Printing.{AppendsFront}
 use Rattle.ddt_commands.specs.Over.{OfItsRegister}
-use Rattle.ddt_plan_commands.specs.declared.asking.Form.{Form}
-use Rattle.ddt_plan_commands.specs.declared.asking.BlocksAsked.{BlocksAsked}
-use Rattle.ddt_plan_commands.specs.declared.asking.DiffAsked.{DiffAsked}
+use Rattle.ddt_plan_commands.specs.declared.words.Form.{Form}
+use Rattle.ddt_plan_commands.specs.declared.words.BlocksAsked.{BlocksAsked}
+use Rattle.ddt_plan_commands.specs.declared.words.DiffAsked.{DiffAsked}
 use Rattle.ddt_plan_commands.specs.Counted.{no_outcomes, with_blocks, no_changes, with_changes}
 use Rattle.ddt_plan_commands.specs.Written.{listed_block, written_counts, written_changes, written_change_counts}
 use Rattle.ddt_plan_commands.specs.Written.{differs as are_different}

@@ -1,9 +1,9 @@
 -- The counts of all blocks, and of all changes.
 use Rattle.std.specs.Prelude.{ℕ, nat_lt, Bool, ◌||◌, List, [], ◌∷◌}
-use Rattle.ddt_plan.specs.declared.listing.Block.{Block}
-use Rattle.ddt_plan.specs.declared.comparing.Change.{Change}
-use Rattle.ddt_plan.specs.declared.counting.OutcomeCounts.{OutcomeCounts}
-use Rattle.ddt_plan.specs.declared.counting.ChangeCounts.{ChangeCounts}
+use Rattle.ddt_plan.specs.declared.block_list.Block.{Block}
+use Rattle.ddt_plan.specs.declared.change_list.Change.{Change}
+use Rattle.ddt_plan.specs.declared.counts.OutcomeCounts.{OutcomeCounts}
+use Rattle.ddt_plan.specs.declared.counts.ChangeCounts.{ChangeCounts}
 use Rattle.ddt_plan.specs.Counts.{counted, changes_counted}
 
 -- none of any kind

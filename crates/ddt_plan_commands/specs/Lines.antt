@@ -3,13 +3,13 @@ use Rattle.std.specs.Prelude.{ℕ, List, ◌++◌, codes, decimal}
 use Rattle.ddt_path.specs.declared.record.Outcome.{Outcome}
 use Rattle.ddt_text.specs.Written.{written_prefix}
 use Rattle.ddt_lines.specs.Lines.{ended, outcome_text}
-use Rattle.ddt_plan.specs.declared.listing.Block.{Block}
-use Rattle.ddt_plan.specs.declared.comparing.Change.{Change}
+use Rattle.ddt_plan.specs.declared.block_list.Block.{Block}
+use Rattle.ddt_plan.specs.declared.change_list.Change.{Change}
 use Rattle.ddt_plan.specs.declared.groups.GroupChange.{GroupChange}
 use Rattle.ddt_plan.specs.declared.groups.GroupChangeKind.{GroupChangeKind}
 use Rattle.ddt_plan.specs.declared.groups.GroupChangeKind.TheVariants.{Added, Removed, Changed}
-use Rattle.ddt_plan.specs.declared.counting.OutcomeCounts.{OutcomeCounts}
-use Rattle.ddt_plan.specs.declared.counting.ChangeCounts.{ChangeCounts}
+use Rattle.ddt_plan.specs.declared.counts.OutcomeCounts.{OutcomeCounts}
+use Rattle.ddt_plan.specs.declared.counts.ChangeCounts.{ChangeCounts}
 
 -- an outcome behind a tab
 abbrev pub outcome_field : Outcome → List ℕ

@@ -12,13 +12,13 @@ use Rattle.ddt_commands.specs.Refusal.{refusal_text}
 use Rattle.ddt_commands.specs.declared.refusal.Refusal.{Refusal}
 use Rattle.ddt_commands.specs.declared.refusal.Refusal.TheVariants as ddt
 use Rattle.ddt_commands.specs.declared.refusal.register.RegisterRefusal.TheVariants as register
-use Rattle.ddt_plan.specs.declared.counting.CountFull.{CountFull as TooManyToCount}
+use Rattle.ddt_plan.specs.declared.counts.CountFull.{CountFull as TooManyToCount}
 use Rattle.ddt_plan.specs.declared.sink.PlanFault.{PlanFault}
 use Rattle.ddt_plan.specs.declared.sink.PlanFault.TheVariants as plan
 use Rattle.ddt_plan_commands.specs.declared.block_lines.LineFault.{LineFault}
 use Rattle.ddt_plan_commands.specs.declared.block_lines.LineFault.TheVariants as line
-use Rattle.ddt_plan_commands.specs.declared.asking.BlocksAsked.{BlocksAsked}
-use Rattle.ddt_plan_commands.specs.declared.asking.DiffAsked.{DiffAsked}
+use Rattle.ddt_plan_commands.specs.declared.words.BlocksAsked.{BlocksAsked}
+use Rattle.ddt_plan_commands.specs.declared.words.DiffAsked.{DiffAsked}
 use Rattle.ddt_plan_commands.specs.declared.refusal.PlanRefusal.{PlanRefusal}
 use Rattle.ddt_plan_commands.specs.declared.refusal.PlanRefusal.TheVariants.{BadPrefix, NoRegister, CountFull, OutOfMemory}
 use Rattle.ddt_plan_commands.specs.declared.stop.Stop.{Stop}

@@ -2,8 +2,8 @@
 use Rattle.std.specs.Prelude.{ℕ, Bool, true, ◌≡◌, ◌||◌, ⊤, List, Option, Result, Ok, Err}
 use Rattle.std.specs.Io.KnownBytes.{Appends}
 use Rattle.ddt_lines.specs.Printing.{AppendsFront}
-use Rattle.ddt_plan.specs.declared.listing.Block.{Block}
-use Rattle.ddt_plan.specs.declared.comparing.Change.{Change}
+use Rattle.ddt_plan.specs.declared.block_list.Block.{Block}
+use Rattle.ddt_plan.specs.declared.change_list.Change.{Change}
 use Rattle.ddt_plan_commands.specs.declared.block_lines.LineFault.{LineFault}
 use Rattle.ddt_plan_commands.specs.declared.block_lines.BlockLines.{BlockLines}
 use Rattle.ddt_plan_commands.specs.declared.change_lines.ChangeLines.{ChangeLines}

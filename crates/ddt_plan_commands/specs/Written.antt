@@ -5,13 +5,13 @@ use Rattle.serde_json.specs.Written.{compact_text}
 use Rattle.ddt_path.specs.declared.record.Outcome.{Outcome}
 use Rattle.ddt_path.specs.declared.record.Outcome.TheVariants.{Registered, NotRegistered, Hole}
 use Rattle.ddt_lines.specs.Lines.{ended}
-use Rattle.ddt_plan.specs.declared.listing.Block.{Block}
-use Rattle.ddt_plan.specs.declared.comparing.Change.{Change}
+use Rattle.ddt_plan.specs.declared.block_list.Block.{Block}
+use Rattle.ddt_plan.specs.declared.change_list.Change.{Change}
 use Rattle.ddt_plan.specs.declared.groups.GroupChange.{GroupChange}
-use Rattle.ddt_plan.specs.declared.counting.OutcomeCounts.{OutcomeCounts}
-use Rattle.ddt_plan.specs.declared.counting.ChangeCounts.{ChangeCounts}
-use Rattle.ddt_plan_commands.specs.declared.asking.Form.{Form}
-use Rattle.ddt_plan_commands.specs.declared.asking.Form.TheVariants.{Text, Json}
+use Rattle.ddt_plan.specs.declared.counts.OutcomeCounts.{OutcomeCounts}
+use Rattle.ddt_plan.specs.declared.counts.ChangeCounts.{ChangeCounts}
+use Rattle.ddt_plan_commands.specs.declared.words.Form.{Form}
+use Rattle.ddt_plan_commands.specs.declared.words.Form.TheVariants.{Text, Json}
 use Rattle.ddt_plan_commands.specs.Lines.{block_text, change_text, counts_text, change_counts_text, group_text}
 use Rattle.ddt_plan_commands.specs.Lines.{negative_cache_text, server_cache_text}
 use Rattle.ddt_plan_commands.specs.Objects.{block_data, change_data, counts_data, change_counts_data, group_data, cache_data}

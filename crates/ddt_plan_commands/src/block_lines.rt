@@ -4,9 +4,9 @@ ghost use Rattle.std.specs.Prelude.{◌≡◌, IfOk};
 ghost use Rattle.ddt_plan_commands.specs.Sinks.{TakesBlock};
 ghost use Rattle.ddt_plan_commands.specs.Written.{is_hole as is_hole_of, written_block};
 
-use crate::asking::Form;
 use crate::lines::block_fields;
 use crate::objects::block_object;
+use crate::words::Form;
 use ddt_lines::print;
 use ddt_path::Outcome;
 use ddt_plan::{Block, Sink};

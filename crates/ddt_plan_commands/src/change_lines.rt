@@ -4,10 +4,10 @@ ghost use Rattle.std.specs.Prelude.{◌≡◌, IfOk};
 ghost use Rattle.ddt_plan_commands.specs.Sinks.{TakesChange};
 ghost use Rattle.ddt_plan_commands.specs.Written.{was_negative as was_negative_of, written_change};
 
-use crate::asking::Form;
 use crate::block_lines::LineFault;
 use crate::lines::change_fields;
 use crate::objects::change_object;
+use crate::words::Form;
 use ddt_lines::print;
 use ddt_path::Outcome;
 use ddt_plan::{Change, Sink};

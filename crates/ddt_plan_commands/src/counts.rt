@@ -5,8 +5,8 @@ ghost use Rattle.ddt_lines.specs.Lines.{ended};
 ghost use Rattle.ddt_plan_commands.specs.Lines.{change_count_text, change_counts_text, count_text, counts_text, number_field};
 ghost use Rattle.ddt_plan_commands.specs.Written.{written_change_counts, written_counts};
 
-use crate::asking::Form;
 use crate::objects::{change_counts_object, counts_object};
+use crate::words::Form;
 use ddt_plan::{ChangeCounts, OutcomeCounts};
 use std::alloc::{AllocError, Global};
 

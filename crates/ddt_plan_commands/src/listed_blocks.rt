@@ -12,12 +12,12 @@ ghost use Rattle.ddt_plan_commands.specs.declared.stop.Stop.TheVariants.{Refused
 ghost use Rattle.ddt_plan_commands.specs.Answers.{HasFront, IsBlocksAnswer, IsBlocksText, IsListedText, IsCountedText};
 ghost use Rattle.ddt_plan_commands.specs.Refusals.{HasRefused, HasRefusedFront, IsWhyNoBlocks, IsWhyUnwritten};
 
-use crate::asking::{BlocksAsked, Form};
 use crate::block_lines::BlockLines;
 use crate::counts::counts_lines;
 use crate::end::End;
-use crate::opening::{prefix_of, register_of};
+use crate::inputs::{prefix_of, register_of};
 use crate::stop::Stop;
+use crate::words::{BlocksAsked, Form};
 use ddt_check::Accepted;
 use ddt_lines::print;
 use ddt_path::Prefix;

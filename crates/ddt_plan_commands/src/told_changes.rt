@@ -11,13 +11,13 @@ ghost use Rattle.ddt_plan_commands.specs.Ends.{diff_end as diff_end_of};
 ghost use Rattle.ddt_plan_commands.specs.Refusals.{HasRefused, HasRefusedFront, IsWhyNoDiff, IsWhyUnwritten};
 ghost use Rattle.ddt_plan_commands.specs.Written.{has_some};
 
-use crate::asking::{DiffAsked, Form};
+use crate::after_changes::ending;
 use crate::change_lines::ChangeLines;
 use crate::counts::change_counts_lines;
 use crate::end::End;
-use crate::ending::ending;
-use crate::opening::register_of;
+use crate::inputs::register_of;
 use crate::stop::Stop;
+use crate::words::{DiffAsked, Form};
 use ddt_check::Accepted;
 use ddt_lines::print;
 use ddt_path::{Locator, Prefix, Xeid};

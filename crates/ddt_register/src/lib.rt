@@ -1,6 +1,6 @@
 //! The register of a mapping system: its zones, its sites and its server groups, each with the row that it stands in.
 //!
-//! In reading order: `zone`, `site`, `group`, `item`, `rows`, `register`; `row`, `items`, `reading`, `fault`; `laws`.
+//! In reading order: `zone`, `site`, `group`, `item`, `rows`, `register`; `row`, `items`, `reader`, `fault`; `laws`.
 #![tactic(auto)]
 
 mod fault;
@@ -8,7 +8,7 @@ mod group;
 mod item;
 mod items;
 mod laws;
-mod reading;
+mod reader;
 mod register;
 mod row;
 mod rows;
@@ -19,7 +19,7 @@ pub use fault::ReadFault;
 pub use group::Group;
 pub use item::{Item, first_row};
 pub use laws::a_register_is_in_range;
-pub use reading::read_register;
+pub use reader::read_register;
 pub use register::{MOST_ROWS, Register};
 pub use row::{Row, read_row};
 pub use site::Site;

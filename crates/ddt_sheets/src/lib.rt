@@ -1,31 +1,31 @@
 //! A register's file as people and spreadsheets write it, and every fault of it.
 //!
-//! In reading order: `difference`, `notes`, `kind`, `unread`, `sheet` (what a file holds); `decoding`, `dividing`,
-//! `line_count`, `columns`, `rows`, `reading` (how it is read); `broken_rule`, `fault_line`, `causes`, `field_reasons`,
-//! `rule_reasons`, `printed`, `telling` (what is told of it), `printing`.
+//! In reading order: `difference`, `notes`, `kind`, `unread`, `sheet` (what a file holds); `encodings`, `divider`,
+//! `line_count`, `columns`, `rows`, `reader` (how it is read); `broken_rule`, `fault_line`, `causes`, `field_reasons`,
+//! `rule_reasons`, `printed`, `all_faults` (what is told of it), `fault_text`.
 #![tactic(auto)]
 
+mod all_faults;
 mod broken_rule;
 mod causes;
 mod columns;
-mod decoding;
 mod difference;
-mod dividing;
+mod divider;
+mod encodings;
 mod fault_line;
+mod fault_text;
 mod field_reasons;
 mod kind;
 mod line_count;
 mod notes;
 mod printed;
-mod printing;
-mod reading;
+mod reader;
 mod rows;
 mod rule_reasons;
 mod sheet;
-mod telling;
 mod unread;
 
+pub use all_faults::told_faults;
 pub use broken_rule::BrokenRule;
 pub use fault_line::{About, FaultLine, Standing};
-pub use printing::told_text;
-pub use telling::told_faults;
+pub use fault_text::told_text;

@@ -6,7 +6,7 @@ use Rattle.std.proofs.lemmas.Bool.{cases_lt, and_parts, and_from, not_from_false
 use Rattle.std.proofs.lemmas.List.{length-take}
 use Rattle.ddt_path.specs.Covers.{covers, is_strictly_below}
 use Rattle.ddt_path.specs.Matching.{longest_match}
-use Rattle.ddt_path.specs.declared.matching.Preference.TheVariants.{Longest}
+use Rattle.ddt_path.specs.declared.matches.Preference.TheVariants.{Longest}
 use Rattle.ddt_path.specs.laws.Cover.{covers_self, covers_trans, front_covered, length-covered}
 use Rattle.ddt_path.specs.laws.Front.{front_covers, front_below, below_parts}
 use Rattle.ddt_path.specs.laws.Member.{IsIn, in_contained, none_of, found_in, found_none, found_passes}

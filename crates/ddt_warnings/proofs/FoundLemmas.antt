@@ -10,7 +10,7 @@ use Rattle.std.proofs.lemmas.List.Elements.{Contains-get_or}
 use Rattle.ddt_path.specs.declared.locator.Locator.{Locator}
 use Rattle.ddt_path.specs.Covers.{covers}
 use Rattle.ddt_path.specs.Matching.{longest_match}
-use Rattle.ddt_path.specs.declared.matching.Preference.TheVariants.{Longest}
+use Rattle.ddt_path.specs.declared.matches.Preference.TheVariants.{Longest}
 use Rattle.ddt_path.specs.laws.Member.{IsIn, none_of, in_any, any_in, iff_same, contained, in_contained, fails_at}
 use Rattle.ddt_path.specs.laws.Matching.{best_member, best_there}
 use Rattle.ddt_register.specs.declared.site.Site.{Site}

@@ -9,7 +9,7 @@ use denote.Ref.{Bor}
 use Rattle.std.proofs.lemmas.Bool.{cases_lt, false≢true, false_from_ne_true}
 use Rattle.ddt_path.specs.Covers.{covers, is_same_path}
 use Rattle.ddt_path.specs.Matching.{longest_match}
-use Rattle.ddt_path.specs.declared.matching.Preference.TheVariants.{Longest}
+use Rattle.ddt_path.specs.declared.matches.Preference.TheVariants.{Longest}
 use Rattle.ddt_path.specs.laws.Cover.{same_path, path_itself}
 use Rattle.ddt_path.specs.laws.Front.{one_front}
 use Rattle.ddt_path.specs.laws.Member.{IsIn, contained, found_in, found_passes, unfound, found_now, found_before}

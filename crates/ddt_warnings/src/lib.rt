@@ -1,9 +1,10 @@
 //! What an accepted register has that is mostly a mistake, though it breaks no rule.
 //!
-//! In reading order: `kind`, `reach`, `warning`, `telling`, `warned`, `of_groups`, `of_sites`, `of_zones`, and `index`
+//! In reading order: `kind`, `reach`, `warning`, `all_warnings`, `warned`, `of_groups`, `of_sites`, `of_zones`, and `index`
 //! with `by_prefix`, `zone_tree`, `children`, `servers` and `order` below it.
 #![tactic(auto)]
 
+mod all_warnings;
 mod by_prefix;
 mod children;
 mod index;
@@ -14,12 +15,11 @@ mod of_zones;
 mod order;
 mod reach;
 mod servers;
-mod telling;
 mod warned;
 mod warning;
 mod zone_tree;
 
+pub use all_warnings::warnings;
 pub use kind::Kind;
 pub use reach::{Reach, reach_of};
-pub use telling::warnings;
 pub use warning::{Finding, Warning};

@@ -4,14 +4,14 @@ use Rattle.std.specs.Prelude.{List, [], ◌∷◌, ◌++◌, length, All, count_
 use Rattle.ddt_path.specs.declared.locator.Locator.{Locator}
 use Rattle.ddt_config.specs.Table.{Outline}
 use Rattle.ddt_ecm.specs.UdpHeader.{control_port}
-use Rattle.ddt_node.specs.declared.handling.Forward.{Forward}
-use Rattle.ddt_node.specs.declared.handling.Handled.{Handled}
+use Rattle.ddt_node.specs.declared.datagram.Forward.{Forward}
+use Rattle.ddt_node.specs.declared.datagram.Handled.{Handled}
 use Rattle.ddt_node.specs.Server.{ddt_request, handled}
 use Rattle.ddt_wires.specs.declared.call.Call.{Call}
 use Rattle.ddt_wires.specs.declared.call.Call.TheVariants.{Received, Tried}
 use Rattle.ddt_wires.specs.declared.call.NetFault.{NetFault}
 use Rattle.ddt_wires.specs.declared.call.Packet.{Packet}
-use Rattle.ddt_wires.specs.declared.serving.Served.{Served}
+use Rattle.ddt_wires.specs.declared.turns.Served.{Served}
 
 -- no UDP datagram has more bytes, and so many have room in the buffer of each turn
 abbrev pub most_bytes : ℕ

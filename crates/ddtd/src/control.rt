@@ -1,6 +1,6 @@
 //! The control socket: who comes there says one line, gets one answer, and is let go.
 
-use crate::polling::Poll;
+use crate::poll::Poll;
 use ddt_daemon::ControlWord;
 use std::alloc::{AllocError, Global};
 use std::io::{ErrorKind, Read, Write};

@@ -2,26 +2,26 @@
 //! the clock and the streams of a process. Its rounds are those of `ddt_daemon`.
 #![tactic(auto)]
 
-mod asking;
-mod checking;
 mod configuration;
+mod configuration_check;
 mod control;
+mod control_client;
 mod end;
 mod log;
-mod polling;
-mod resolving;
-mod serving;
+mod map_resolver;
+mod poll;
+mod server;
 mod sockets;
-mod telling;
 mod times;
-mod watching;
+mod watch;
+mod words;
 
-use asking::{Asked, read_asked};
 use end::End;
 use log::Log;
 use std::io::ErrorKind;
 use std::process::ExitCode;
 use std::{env, io};
+use words::{Asked, read_asked};
 
 fn main(rt: HostRuntime) -> ExitCode {
     let mut log = Log::new();
@@ -42,10 +42,10 @@ fn run_words(rt: &HostRuntime, log: &mut Log) -> End {
         }
     };
     match read_asked(rt.alloc(), &words) {
-        Ok(Asked::Check { config }) => checking::check(rt, config),
-        Ok(Asked::Serve(asked)) => serving::serve(rt, &asked, log),
-        Ok(Asked::Resolve(asked)) => resolving::resolve(rt, &asked, log),
-        Ok(Asked::Tell { socket, word }) => telling::tell(rt, socket, word, log),
+        Ok(Asked::Check { config }) => configuration_check::check(rt, config),
+        Ok(Asked::Serve(asked)) => server::serve(rt, &asked, log),
+        Ok(Asked::Resolve(asked)) => map_resolver::resolve(rt, &asked, log),
+        Ok(Asked::Tell { socket, word }) => control_client::tell(rt, socket, word, log),
         // Help and the version are no mistakes, if they could be printed.
         Err(error) => match error.print(rt) {
             Ok(()) if !error.use_stderr() => End::Answered,

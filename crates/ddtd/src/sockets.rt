@@ -2,7 +2,7 @@
 
 ghost use Rattle.std.specs.Prelude.{◌≤◌, length, IfOk, IfSome};
 
-use crate::polling::Poll;
+use crate::poll::Poll;
 use ddt_ecm::CONTROL_PORT;
 use ddt_path::Locator;
 use ddt_wire::MessageType;

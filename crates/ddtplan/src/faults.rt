@@ -1,6 +1,6 @@
 //! `ddtplan faults FILE`: every fault of a register's file.
 
-use crate::reading::{Why, accepted_in, bytes_at, no_memory, print};
+use crate::inputs::{Why, accepted_in, bytes_at, no_memory, print};
 use ddt_faults::broken_rules;
 use ddt_plan_commands::End;
 use ddt_register::Register;

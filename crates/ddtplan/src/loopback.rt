@@ -1,6 +1,6 @@
 //! `ddtplan loopback REGISTER`: the register with its servers on the loopback.
 
-use crate::reading::{Why, accepted_at, no_memory, print};
+use crate::inputs::{Why, accepted_at, no_memory, print};
 use ddt_loopback::{moves_text, register_text, to_loopback};
 use ddt_plan_commands::{End, LoopbackAsked};
 

@@ -2,18 +2,18 @@
 //! process. What a command answers is made by the crates below: `ddt_plan_commands` and those that each module names.
 #![tactic(auto)]
 
-mod asking;
-mod compiling;
-mod drawing;
 mod faults;
+mod folder;
+mod inputs;
 mod loopback;
+mod pictures;
 mod progress;
-mod reading;
-mod warning;
+mod questions;
+mod warnings;
 
 use ddt_plan_commands::{Asked, BlocksAsked, DiffAsked, End, read_asked, run_blocks, run_diff};
+use inputs::{Why, source_at};
 use progress::Progress;
-use reading::{Why, source_at};
 use std::io::{BufWriter, ErrorKind, IsTerminal, Stdout, Write};
 use std::process::ExitCode;
 use std::{env, io};
@@ -54,12 +54,12 @@ fn run(rt: &HostRuntime, asked: &Asked<'_>) -> End {
         Asked::Blocks(asked) => return blocks(rt, asked),
         Asked::Diff(asked) => return diff(rt, asked),
         Asked::Faults(path) => faults::faults(rt, path),
-        Asked::Warn(asked) => warning::warn(rt, asked),
-        Asked::Compile(asked) => compiling::compile(rt, asked),
+        Asked::Warn(asked) => warnings::warn(rt, asked),
+        Asked::Compile(asked) => folder::compile(rt, asked),
         Asked::Loopback(asked) => loopback::loopback(rt, asked),
-        Asked::Ask(asked) => asking::ask(rt, asked),
-        Asked::Tree(asked) => drawing::tree(rt, asked),
-        Asked::Ladder(asked) => drawing::ladder(rt, asked),
+        Asked::Ask(asked) => questions::ask(rt, asked),
+        Asked::Tree(asked) => pictures::tree(rt, asked),
+        Asked::Ladder(asked) => pictures::ladder(rt, asked),
     };
     match answered {
         Ok(end) => end,

@@ -16,7 +16,7 @@ use Rattle.ddt_check.specs.Rules.{IsAccepted}
 use Rattle.ddt_check.specs.laws.Zone.{zone_prefix}
 use Rattle.ddt_check.specs.Zones.{is_between, is_direct_child}
 use Rattle.ddt_path.specs.laws.Member.{IsIn, iff_same, none_of, fails_at}
-use Rattle.ddt_path.specs.declared.matching.Preference.TheVariants.{Longest}
+use Rattle.ddt_path.specs.declared.matches.Preference.TheVariants.{Longest}
 use Rattle.ddt_path.specs.laws.Hole.{apart_from_kept, kept_apart}
 use Rattle.ddt_path.specs.laws.Front.{one_front, front_below, below_parts, overlaps_front, apart}
 use Rattle.ddt_check.specs.laws.Kept.{one_zone, own_prefix}

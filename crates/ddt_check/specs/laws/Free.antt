@@ -2,7 +2,7 @@
 use Rattle.std.proofs.Common.{◌≡◌, ℕ, ◌≤◌, Bool, true, false, cond, ◌==◌, List, length, Option, Some, None, refl, sym, ◌∙◌, arith}
 use Rattle.std.specs.Option.{option_map_or}
 use Rattle.ddt_path.specs.declared.locator.Locator.{Locator}
-use Rattle.ddt_path.specs.declared.matching.Preference.TheVariants.{Longest}
+use Rattle.ddt_path.specs.declared.matches.Preference.TheVariants.{Longest}
 use Rattle.ddt_path.specs.declared.record.Role.{Role}
 use Rattle.ddt_path.specs.declared.record.Role.TheVariants.{Node, Ms}
 use Rattle.ddt_path.specs.declared.record.Outcome.TheVariants.{Registered, NotRegistered, Hole}

@@ -12,7 +12,7 @@ use Rattle.ddt_check.specs.Rules.{IsAccepted}
 use Rattle.ddt_check.specs.Assignment.{assignment, assigned_in}
 use Rattle.ddt_check.specs.laws.Zone.{zone_prefix, assigned_at}
 use Rattle.ddt_path.specs.laws.Member.{IsIn}
-use Rattle.ddt_path.specs.declared.matching.Preference.TheVariants.{Longest, Shortest}
+use Rattle.ddt_path.specs.declared.matches.Preference.TheVariants.{Longest, Shortest}
 use Rattle.ddt_path.specs.laws.Front.{one_front}
 use Rattle.ddt_check.specs.laws.Kept.{one_zone}
 use Rattle.ddt_path.specs.laws.Filter.{in_filter, filter_in}

@@ -19,7 +19,7 @@ use Rattle.ddt_check.specs.laws.Zone.{zone_prefix, site_prefix}
 use Rattle.ddt_check.specs.Zones.{is_site_in}
 use Rattle.ddt_path.specs.laws.Member.{IsIn, fails_at}
 use Rattle.ddt_register.specs.laws.Rising.{rule_kept}
-use Rattle.ddt_path.specs.declared.matching.Preference.TheVariants.{Longest}
+use Rattle.ddt_path.specs.declared.matches.Preference.TheVariants.{Longest}
 use Rattle.ddt_path.specs.laws.Front.{front_covers, front_below}
 use Rattle.ddt_check.specs.laws.Next.{next_none}
 use Rattle.ddt_path.specs.laws.Matching.{best_member, best_match-filter}

@@ -7,8 +7,8 @@ use Rattle.std.specs.Option.{option_map, option_map_or}
 use Rattle.std.proofs.lemmas.Bool.{cond-true, cond-false, lt-ltb, le-ltb, ltb-true, ltb-false, false≢true, false_from_ne_true, and_cases}
 use Rattle.std.proofs.lemmas.List.{drop_more}
 use Rattle.std.proofs.lemmas.Option.{none-some, same_Some, MatchOption-at_some, MatchOption-at_none}
-use Rattle.ddt_path.specs.declared.matching.Preference.{Preference}
-use Rattle.ddt_path.specs.declared.matching.Preference.TheVariants.{Longest, Shortest}
+use Rattle.ddt_path.specs.declared.matches.Preference.{Preference}
+use Rattle.ddt_path.specs.declared.matches.Preference.TheVariants.{Longest, Shortest}
 use Rattle.ddt_path.specs.Covers.{covers, is_same_path}
 use Rattle.ddt_path.specs.Matching.{is_better, better_of, best_match}
 use Rattle.ddt_path.specs.laws.Cover.{same_path, path_itself}

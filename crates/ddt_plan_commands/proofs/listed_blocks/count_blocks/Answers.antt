@@ -1,5 +1,5 @@
 use Rattle.std.proofs.Common.{◌≡◌, inl, inr, ap, ◌∙◌, rules}
-use Rattle.ddt_plan.specs.declared.counting.OutcomeCounts.{OutcomeCounts}
+use Rattle.ddt_plan.specs.declared.counts.OutcomeCounts.{OutcomeCounts}
 use Rattle.ddt_plan_commands.specs.Counted.{no_outcomes, with_blocks}
 use Rattle.ddt_plan_commands.specs.Written.{written_counts}
 use Rattle.ddt_plan_commands.proofs.SinkLemmas.{taken_counts}

@@ -1,6 +1,6 @@
 use Rattle.std.proofs.Common.{◌≡◌, ◌∙◌, ℕ, Bool, List, ap, inr, refl, sym, subst, rules}
 use Rattle.std.specs.Prelude.{◌||◌}
-use Rattle.ddt_plan.specs.declared.counting.ChangeCounts.{ChangeCounts}
+use Rattle.ddt_plan.specs.declared.counts.ChangeCounts.{ChangeCounts}
 use Rattle.ddt_plan.specs.Changes.{AreChanges}
 use Rattle.ddt_plan.specs.Groups.{AreGroupChanges}
 use Rattle.ddt_plan_commands.specs.Counted.{no_changes, with_changes}

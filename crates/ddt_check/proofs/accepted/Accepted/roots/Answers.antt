@@ -1,6 +1,6 @@
 use Rattle.std.proofs.Common.{◌∙◌, sym, ap, []}
 use Rattle.std.proofs.lemmas.Option.{none-some}
-use Rattle.ddt_path.specs.declared.matching.Preference.TheVariants.{Longest}
+use Rattle.ddt_path.specs.declared.matches.Preference.TheVariants.{Longest}
 use Rattle.ddt_check.specs.Zones.{zone_of}
 use Rattle.ddt_check.specs.laws.Root.{zone_found}
 use Rattle.ddt_check.specs.laws.Zone.{zone_prefix}

@@ -1,0 +1,144 @@
+//! The questions for an identifier are asked, one after the other.
+
+ghost use Rattle.std.specs.Prelude.{◌≡◌, List, length, map, IfOk};
+ghost use Rattle.rand_core.specs.Stream.{next_u64};
+ghost use Rattle.ddt_path.specs.Path.{xeid_path};
+ghost use Rattle.ddt_wires.specs.Turns.{most_bytes};
+ghost use Rattle.ddt_asking.specs.Questions.{AreQuestions};
+ghost use Rattle.ddt_asking.specs.Steps.{Step as AStep, HasDone};
+ghost use Rattle.ddt_asking.specs.Asked.{IsAsked, IsPause, HasAsked};
+
+use crate::manner::Manner;
+use crate::question::{Question, questions_of};
+use crate::reply::Awaited;
+use crate::tries::try_each;
+use crate::verdict::{Finding, verdict_of};
+use crate::wait::{Wait, await_reply};
+use ddt_check::Accepted;
+use ddt_ecm::write_request;
+use ddt_loop::Clock;
+use ddt_path::Xeid;
+use ddt_wires::{MOST_BYTES, Wires};
+use rand_core::Rng;
+use std::alloc::{AllocError, Global};
+
+/// Asks servers over wires.
+#[derive(Clone, Copy)]
+pub struct Asker {
+    alloc: Global,
+    manner: Manner,
+}
+
+impl Asker {
+    /// Asks in this manner.
+    pub fn new(alloc: Global, manner: Manner) -> Asker
+        ensures { result.manner ≡ manner }
+    {
+        Asker { alloc, manner }
+    }
+
+    /// Asks the questions that an accepted register has for an identifier, each under a nonce of its own, and answers
+    /// what comes of each, in their order. A question is an Encapsulated DDT Map-Request, as a resolver sends it, to
+    /// UDP port 4342 of a server. Its reply is the first packet from there that carries its nonce and comes in time
+    /// (RFC 8111, sections 6 and 7.3). Behind each question it pauses, and what comes then is lost.
+    ///
+    /// Fails only if out of memory, and then some of the questions may have been asked.
+    pub fn ask<W: Wires, C: Clock, R: Rng>(
+        &self,
+        wires: &mut W,
+        clock: &mut C,
+        nonces: &mut R,
+        accepted: &Accepted,
+        x: Xeid,
+    ) -> Result<Vec<Finding>, AllocError>
+        // Each server of each set that the register demands is asked, and the register's record is demanded of it.
+        ensures complete { IfOk result (λ findings.
+            AreQuestions accepted.now (xeid_path x) (map (λ f. f.question) findings.items)) }
+        // What is found follows from what comes over the wires, and when.
+        ensures asked { IfOk result (λ findings. (steps : List AStep)
+            × HasDone (W.calls wires.old) (W.calls wires.new) (C.readings clock.old) (C.readings clock.new) steps
+            × HasAsked self.now.manner x (R.stream nonces.old) steps findings.items (R.stream nonces.new)) }
+    {
+        let questions = questions_of(self.alloc, accepted, x)?;
+        self.ask_each(wires, clock, nonces, x, &questions)
+    }
+
+    /// Asks these questions about an identifier, one after the other, with a pause behind each.
+    fn ask_each<W: Wires, C: Clock, R: Rng>(
+        &self,
+        wires: &mut W,
+        clock: &mut C,
+        nonces: &mut R,
+        x: Xeid,
+        questions: &[Question],
+    ) -> Result<Vec<Finding>, AllocError>
+        ensures each { IfOk result (λ findings. map (λ f. f.question) findings.items ≡ questions.now) }
+        ensures asked { IfOk result (λ findings. (steps : List AStep)
+            × HasDone (W.calls wires.old) (W.calls wires.new) (C.readings clock.old) (C.readings clock.new) steps
+            × HasAsked self.now.manner x (R.stream nonces.old) steps findings.items (R.stream nonces.new)) }
+    {
+        let mut buffer = [0; MOST_BYTES];
+        let mut findings = Vec::new(self.alloc);
+        for question in questions {
+            let nonce = nonces.next_u64();
+            let finding = self.ask_one(wires, clock, &mut buffer, x, nonce, *question)?;
+            findings.push(finding)?;
+            self.pause(wires, clock, &mut buffer);
+        }
+        Ok(findings)
+    }
+
+    /// Asks one question about an identifier, under a nonce. Fails only if out of memory.
+    fn ask_one<W: Wires, C: Clock>(
+        &self,
+        wires: &mut W,
+        clock: &mut C,
+        buffer: &mut [u8],
+        x: Xeid,
+        nonce: u64,
+        question: Question,
+    ) -> Result<Finding, AllocError>
+        requires { length buffer.old ≡ most_bytes }
+        ensures question { IfOk result (λ finding. finding.question ≡ question) }
+        ensures asked { IfOk result (λ finding. (steps : List AStep)
+            × HasDone (W.calls wires.old) (W.calls wires.new) (C.readings clock.old) (C.readings clock.new) steps
+            × IsAsked self.now.manner x nonce steps finding) }
+        ensures room { length buffer.new ≡ most_bytes }
+    {
+        let request = write_request(self.alloc, nonce, x, &[self.manner.me], true)?;
+        let awaited = Awaited {
+            from: question.to,
+            nonce,
+        };
+        let reply = try_each(wires, clock, buffer, &self.manner, &request, awaited);
+        let verdict = verdict_of(self.alloc, &question.demanded, nonce, buffer, reply)?;
+        Ok(Finding { question, verdict })
+    }
+
+    /// Pauses behind a question.
+    fn pause<W: Wires, C: Clock>(&self, wires: &mut W, clock: &mut C, buffer: &mut [u8])
+        requires { length buffer.old ≡ most_bytes }
+        ensures pause { (steps : List AStep)
+            × HasDone (W.calls wires.old) (W.calls wires.new) (C.readings clock.old) (C.readings clock.new) steps
+            × IsPause self.now.manner steps }
+        ensures room { length buffer.new ≡ most_bytes }
+    {
+        let pause = self.manner.pause();
+        if pause == 0 {
+            return;
+        }
+        let _lost = wires.receive(self.manner.me, buffer);
+        let since = clock.now().millis();
+        let _none = await_reply(
+            wires,
+            clock,
+            buffer,
+            &Wait {
+                at: self.manner.me,
+                awaited: None,
+                since,
+                millis: pause,
+            },
+        );
+    }
+}

@@ -1,0 +1,27 @@
+use Rattle.std.proofs.Common.{◌+◌, arith}
+use Rattle.ddt_wires.specs.laws.Turn.{serving_on}
+use Rattle.ddt_daemon.proofs.server_round.serve_ready.Goals as goal
+
+pub returns-then-turn-eq0-clause-serves : goal.returns-then-turn-eq0-clause-serves
+returns-then-turn-eq0-clause-serves g c =
+    let w = c.serve_turn-turn.ensures in
+    let so_far =
+    serving_on (g.W.Wires.calls c.args.wires.now) (g.W.Wires.calls c.loop-turn.wires)
+    (g.W.Wires.calls c.serve_turn-turn.new.wires) c.args.server.now c.args.at c.loop-turn._turn c.loop-turn.received
+    c.loop-turn.replied w.0 c.loop-turn.invariant.0 w.1 w.2 in (
+      c.loop-turn._turn + 1,
+      omega (arith, c.loop-turn-test.true),
+      so_far.calls,
+      so_far.told,
+      rw (w.3, w.4) so_far.serves,
+    )
+
+pub loop-turn-preserved : goal.loop-turn-preserved
+loop-turn-preserved g c =
+    let w = c.serve_turn-turn.ensures in (
+      rw (w.3, w.4)
+          (serving_on (g.W.Wires.calls c.args.wires.now) (g.W.Wires.calls c.loop-turn.wires)
+          (g.W.Wires.calls c.serve_turn-turn.new.wires) c.args.server.now c.args.at c.loop-turn._turn
+          c.loop-turn.received c.loop-turn.replied w.0 c.loop-turn.invariant.0 w.1 w.2),
+      omega (arith, c.serve_turn-turn.auto.buffer, c.loop-turn.invariant.1),
+    )

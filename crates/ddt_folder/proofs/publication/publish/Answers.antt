@@ -1,0 +1,15 @@
+use Rattle.std.proofs.Common.{List, subst}
+use Rattle.ddt_folder.specs.declared.step.Step.{Step}
+use Rattle.ddt_folder.specs.Steps.{after}
+use Rattle.ddt_folder.proofs.PublishLemmas.{plans_publish}
+use Rattle.ddt_folder.proofs.publication.publish.Goals as goal
+
+pub returns-clause-published : goal.returns-clause-published
+returns-clause-published g c = λ s h accepted.
+    let plan = c.in_ok-plan.plan in
+    let made = c.in_ok-plan.ensures s h in
+    let done = c.in_ok-carry_out.ensures s made.0 in (
+      after plan.steps s,
+      subst (λ (steps : List Step). g.F.Folder.holds c.carry_out.new.folder (after steps s)) c.as_slice.ensures done,
+      plans_publish c.args.accepted.now c.args.register.now c.args.removes s plan accepted made.1,
+    )

@@ -1,0 +1,111 @@
+//! The plan of what is to be done with a folder. Making it touches nothing.
+
+ghost use Rattle.std.specs.Prelude.{◌≡◌, ◌++◌, map, if◌then◌else◌, IfOk, OnOk};
+ghost use Rattle.ddt_folder.specs.Contents.{Contents};
+ghost use Rattle.ddt_folder.specs.Wanted.{left_of, manifest_file as manifest_file_of, removals};
+ghost use Rattle.ddt_folder.specs.Plans.{IsPlan};
+
+use crate::config_files::wanted_files;
+use crate::fault::PublishFault;
+use crate::file_changes::{Draft, compare, compare_one};
+use crate::file_name::FileName;
+use crate::folder::Folder;
+use crate::gone::gone_files;
+use crate::manifest::push_lines;
+use crate::step::{NamedFile, Step};
+use ddt_check::Accepted;
+use ddt_path::Listed;
+use std::alloc::{AllocError, Global};
+
+/// What is to be done with a folder, so that it has all configurations of a register.
+#[derive(Debug, Drop)]
+pub struct Plan {
+    /// What is done, one step after the other, the manifest last.
+    pub steps: Listed<Step>,
+    /// The files that stay as they are.
+    pub same: Listed<FileName>,
+    /// The configurations of groups that are gone, if they are left there.
+    pub left: Listed<FileName>,
+}
+
+/// What is to be done with a folder, so that it has the register, the configuration of each of its groups, and a
+/// manifest of these. The configurations are written in the order of prefixes, so that the order of the register's rows
+/// doesn't matter. A file that has these bytes already is left alone.
+///
+/// A configuration that the last manifest lists, of a group that the register lacks, is gone. It is removed if that is
+/// asked for; otherwise it is left, and the new manifest lists it too. No other file is named. Nothing is touched.
+///
+/// Refused as Memory if out of memory, and as Failed where a file can't be read.
+pub fn plan_for<F: Folder>(
+    alloc: Global,
+    accepted: &Accepted,
+    register: &[u8],
+    removes: bool,
+    folder: &mut F,
+) -> Result<Plan, PublishFault<F::Fault>>
+    ensures { (s : Contents) → F.holds folder.old s → F.holds folder.new s
+        × IfOk result (IsPlan accepted.now register.now removes s.files) }
+{
+    let wanted = wanted_files(alloc, accepted, register)?;
+    let gone = gone_files(alloc, accepted, folder)?;
+    let manifest = manifest_file(alloc, &wanted, left(removes, &gone))?;
+    let mut draft = Draft {
+        steps: Vec::new(alloc),
+        same: Vec::new(alloc),
+    };
+    compare(alloc, folder, &mut draft, wanted)?;
+    push_removals(&mut draft.steps, removes, &gone)?;
+    compare_one(alloc, folder, &mut draft, manifest)?;
+    Ok(Plan {
+        steps: Listed::of(draft.steps),
+        same: Listed::of(draft.same),
+        left: names_of(alloc, left(removes, &gone))?,
+    })
+}
+
+/// Those of the files that are gone which are left there.
+fn left(removes: bool, gone: &[NamedFile]) -> &[NamedFile]
+    ensures { result.now ≡ left_of removes gone.now }
+{
+    if removes { &[] } else { gone }
+}
+
+/// The manifest of some files and of those that are left.
+fn manifest_file(
+    alloc: Global,
+    wanted: &[NamedFile],
+    left: &[NamedFile],
+) -> Result<NamedFile, AllocError>
+    ensures { IfOk result (λ file. file ≡ manifest_file_of (wanted.now ++ left.now)) }
+{
+    let mut text = Vec::new(alloc);
+    push_lines(&mut text, wanted)?;
+    push_lines(&mut text, left)?;
+    Ok(NamedFile {
+        name: FileName::Manifest,
+        bytes: Listed::of(text),
+    })
+}
+
+/// Appends the removal of each file that is gone, if that is asked for.
+fn push_removals(steps: &mut Vec<Step>, removes: bool, gone: &[NamedFile]) -> Result<(), AllocError>
+    ensures { OnOk result (steps.new.items ≡ steps.old.items ++ removals removes gone.now) }
+{
+    if !removes {
+        return Ok(());
+    }
+    for file in gone {
+        steps.push(Step::Remove(file.name))?;
+    }
+    Ok(())
+}
+
+fn names_of(alloc: Global, files: &[NamedFile]) -> Result<Listed<FileName>, AllocError>
+    ensures { IfOk result (λ names. names ≡ map (λ file. file.name) files.now) }
+{
+    let mut names = Vec::new(alloc);
+    for file in files {
+        names.push(file.name)?;
+    }
+    Ok(Listed::of(names))
+}

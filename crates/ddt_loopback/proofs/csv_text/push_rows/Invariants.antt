@@ -1,0 +1,11 @@
+use Rattle.std.proofs.Common.{◌≡◌, ◌++◌, List, map}
+use Rattle.ddt_register.specs.declared.row.Row.{Row}
+use Rattle.ddt_loopback.specs.Records.{row_fields}
+use Rattle.ddt_loopback.specs.Written.{IsFresh, left_of, text_of, text_so_far}
+use Rattle.ddt_loopback.proofs.RowsLemmas.{IsMidway}
+use Rattle.ddt_loopback.proofs.csv_text.push_rows.Given as goal
+
+abbrev pub invariant-loop-row : goal.invariant-loop-row
+invariant-loop-row l = IsFresh l.writer × (rows : List Row)
+    × (text_so_far l.writer ≡ text_so_far l.fn.writer ++ text_of (map row_fields rows))
+    × IsMidway l.register l.row rows (left_of l.left)

@@ -1,0 +1,100 @@
+//! A walk down the digits, through what each register says at each prefix.
+
+ghost use Rattle.std.specs.Prelude.{◌≡◌, ◌-◌, ◌++◌, ◌∷◌, [], map, length};
+ghost use Rattle.std.specs.List.{filter};
+ghost use Rattle.ddt_plan.specs.Blocks.{keys_of, pieces};
+ghost use Rattle.ddt_plan.specs.Changes.{block_at, changes_at, is_apart};
+ghost use Rattle.ddt_plan.specs.Fast.{IsSide, AreSides, both_settled as both_settled_of};
+ghost use Rattle.ddt_plan.specs.Sinks.{HasGiven};
+
+use crate::block_list::Block;
+use crate::change_list::Change;
+use crate::halves::half;
+use crate::outcomes::{Reading, is_same_outcome};
+use crate::sides::{Side, Sides, sides_below, sides_of_both_below};
+use crate::sink::{PlanFault, Sink, give};
+use ddt_check::Accepted;
+use ddt_path::{Outcome, Prefix};
+
+/// Gives the blocks of a register inside a prefix. It goes 161 calls deep at most.
+pub fn walk<S: Sink<Block>>(
+    accepted: &Accepted,
+    whole: Prefix,
+    side: &Side<'_>,
+    sink: &mut S,
+) -> Result<(), PlanFault<S::Refusal>>
+    requires { IsSide accepted.now whole side.now }
+    ensures { HasGiven S.takes sink.old
+        (map (block_at accepted.now) (pieces (161 - length whole) (keys_of accepted.now) whole)) result sink.new }
+{
+    match side {
+        Side::Settled(outcome) => give(
+            sink,
+            Block {
+                prefix: whole,
+                outcome: *outcome,
+            },
+        ),
+        Side::Divided(division) => {
+            let (low, high) = sides_below(accepted, whole, division);
+            walk(accepted, half(whole, false), &low, sink)?;
+            walk(accepted, half(whole, true), &high, sink)
+        }
+    }
+}
+
+/// Gives what changes inside a prefix from one register to another. It goes 161 calls deep at most.
+pub fn walk_both<S: Sink<Change>>(
+    reading: Reading,
+    before: &Accepted,
+    after: &Accepted,
+    whole: Prefix,
+    sides: &Sides<'_>,
+    sink: &mut S,
+) -> Result<(), PlanFault<S::Refusal>>
+    requires { AreSides before.now after.now whole sides.now }
+    ensures { HasGiven S.takes sink.old (changes_at reading before.now after.now
+        (pieces (161 - length whole) (keys_of before.now ++ keys_of after.now) whole)) result sink.new }
+{
+    match both_settled(sides) {
+        Some((earlier, later)) => give_if_apart(reading, whole, earlier, later, sink),
+        None => {
+            let (low, high) = sides_of_both_below(before, after, whole, sides);
+            walk_both(reading, before, after, half(whole, false), &low, sink)?;
+            walk_both(reading, before, after, half(whole, true), &high, sink)
+        }
+    }
+}
+
+fn both_settled(sides: &Sides<'_>) -> Option<(Outcome, Outcome)>
+    ensures { result ≡ both_settled_of sides.now }
+{
+    match (&sides.before, &sides.after) {
+        (Side::Settled(before), Side::Settled(after)) => Some((*before, *after)),
+        _ => None,
+    }
+}
+
+/// Gives a change, if it is one.
+fn give_if_apart<S: Sink<Change>>(
+    reading: Reading,
+    prefix: Prefix,
+    before: Outcome,
+    after: Outcome,
+    sink: &mut S,
+) -> Result<(), PlanFault<S::Refusal>>
+    ensures { HasGiven S.takes sink.old
+        (filter (is_apart reading) (record { prefix = prefix; before = before; after = after } ∷ [])) result sink.new }
+{
+    if is_same_outcome(reading, &before, &after) {
+        return Ok(());
+    }
+    give(
+        sink,
+        Change {
+            prefix,
+            before,
+            after,
+        },
+    )
+}

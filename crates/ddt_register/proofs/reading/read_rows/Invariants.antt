@@ -1,5 +1,0 @@
-use Rattle.ddt_register.proofs.MidwayLemmas.{IsMidway}
-use Rattle.ddt_register.proofs.reading.read_rows.Given as goal
-
-abbrev pub invariant-loop-row : goal.invariant-loop-row
-invariant-loop-row g l = IsMidway g.R.Read.remaining l.fn.reader l.reader l.row l.items

@@ -1,0 +1,342 @@
+//! `ddtd resolve SETTINGS`: a Map-Resolver that runs until it is stopped.
+
+use crate::configuration_check::{settings_in, settings_text};
+use crate::control::{Control, Told};
+use crate::end::End;
+use crate::log::{Log, Priority};
+use crate::poll::Poll;
+use crate::sockets::{FarWires, ResolverWires, Sockets};
+use crate::times::{Moments, rest, seconds};
+use crate::words::ResolveAsked;
+use ddt_cache::{Entry, Moment};
+use ddt_daemon::{ControlWord, Counted, MapResolver, ResolverStatistics, Times};
+use ddt_path::Locator;
+use ddt_resolver::Resolver;
+use ddt_settings::Settings;
+use ddt_trie::TrieMap;
+use ddt_wires::{MOST_BYTES, ip_of};
+use std::alloc::AllocError;
+use std::fs;
+use std::random::RandomSource;
+
+/// How long it is waited at most for what may come, in milliseconds.
+const PATIENCE: u64 = 1000;
+
+/// How many packets are taken before the deadlines are looked at again.
+const MOST_PACKETS: u32 = 64;
+
+/// Why there is nothing to resolve, in words; or no memory for them.
+type Why = Result<String, AllocError>;
+
+/// A resolver that runs, and what it runs on.
+#[derive(Drop)]
+struct Daemon {
+    resolver: MapResolver<TrieMap<Entry>>,
+    settings: Settings,
+    near: Counted<ResolverWires>,
+    far: Counted<FarWires>,
+    control: Control,
+    poll: Poll,
+    buffer: Vec<u8>,
+    moments: Moments,
+    times: Times,
+    refused: u64,
+}
+
+/// Resolves for ITRs until it is told to stop.
+pub fn resolve(rt: &HostRuntime, asked: &ResolveAsked<'_>, log: &mut Log) -> End {
+    match Daemon::start(rt, asked) {
+        Ok(mut daemon) => {
+            daemon.say_where(rt, "ready", log);
+            daemon.run(rt, asked, log);
+            log.say(rt, Priority::Notice, format!(in rt.alloc(); "stopped"));
+            End::Answered
+        }
+        Err(why) => {
+            log.say(rt, Priority::Error, why);
+            End::Refused
+        }
+    }
+}
+
+/// The file's settings.
+fn read(rt: &HostRuntime, path: &str) -> Result<Settings, Why> {
+    let bytes = match fs::read(rt, path) {
+        Ok(bytes) => bytes,
+        Err(error) => return Err(format!(in rt.alloc(); "{path}: {error}")),
+    };
+    match settings_in(rt.alloc(), &bytes) {
+        Ok(settings) => Ok(settings),
+        Err(fault) => Err(told_of(rt, path, settings_text(rt.alloc(), &bytes, &fault))),
+    }
+}
+
+/// The same with the path in front.
+fn told_of(rt: &HostRuntime, path: &str, text: Why) -> Why {
+    let text = text?;
+    format!(in rt.alloc(); "{path}: {text}")
+}
+
+/// Binds a socket at each address. Those that are bound already stay.
+fn bind_all(rt: &HostRuntime, addresses: &[Locator], sockets: &mut Sockets) -> Result<(), Why> {
+    for address in addresses {
+        if let Err(error) = sockets.bind(rt, *address) {
+            return Err(format!(in rt.alloc(); "{}: {error}", ip_of(*address)));
+        }
+    }
+    Ok(())
+}
+
+/// A nonce to begin with, of the lower half of all, so that they don't run out.
+fn seed(rt: &HostRuntime) -> Result<u64, Why> {
+    let mut bytes = [0u8; 8];
+    match rt.fill_bytes(&mut bytes) {
+        Ok(()) => Ok(u64::from_be_bytes(bytes) / 2),
+        Err(error) => Err(format!(in rt.alloc(); "no random numbers: {error}")),
+    }
+}
+
+/// A resolver that remembers nothing but the roots.
+fn resolver_of(rt: &HostRuntime, settings: &Settings) -> Result<Resolver<TrieMap<Entry>>, Why> {
+    let Some(me) = settings.listen.as_slice().first() else {
+        return Err(format!(in rt.alloc(); "it listens nowhere"));
+    };
+    if settings.roots.as_slice().is_empty() {
+        return Err(format!(in rt.alloc(); "it knows no root"));
+    }
+    let seed = seed(rt)?;
+    Ok(Resolver::new(rt.alloc(), settings.roots, *me, seed))
+}
+
+impl Daemon {
+    /// A resolver of the file's settings, at its sockets.
+    fn start(rt: &HostRuntime, asked: &ResolveAsked<'_>) -> Result<Daemon, Why> {
+        let settings = read(rt, asked.settings)?;
+        let mut near = ResolverWires::new(rt.alloc());
+        let mut far = FarWires {
+            sockets: Sockets::new(rt.alloc(), 0),
+        };
+        bind_all(rt, settings.listen.as_slice(), &mut near.listening)?;
+        bind_all(rt, settings.listen.as_slice(), &mut near.asking)?;
+        bind_all(rt, settings.listen.as_slice(), &mut far.sockets)?;
+        let control = match Control::open(rt, asked.control) {
+            Ok(control) => control,
+            Err(error) => {
+                return Err(format!(in rt.alloc(); "the control socket: {error}"));
+            }
+        };
+        let Ok(buffer) = Vec::from_elem(rt.alloc(), 0u8, MOST_BYTES) else {
+            return Err(Err(AllocError));
+        };
+        let Ok(moments) = Moments::new(rt) else {
+            return Err(format!(in rt.alloc(); "the system tells no time"));
+        };
+        let Ok(resolver) = MapResolver::new(rt.alloc(), resolver_of(rt, &settings)?) else {
+            return Err(Err(AllocError));
+        };
+        let now = seconds(rt);
+        Ok(Daemon {
+            resolver,
+            settings,
+            near: Counted::new(near),
+            far: Counted::new(far),
+            control,
+            poll: Poll::new(rt.alloc()),
+            buffer,
+            moments,
+            times: Times {
+                start: now,
+                reload: now,
+            },
+            refused: 0,
+        })
+    }
+
+    /// Runs until it is told to stop.
+    fn run(&mut self, rt: &HostRuntime, asked: &ResolveAsked<'_>, log: &mut Log) {
+        for _round in 0..u64::MAX {
+            self.poll.clear();
+            self.near.wires.listening.add_to(&mut self.poll);
+            self.near.wires.asking.add_to(&mut self.poll);
+            self.far.wires.sockets.add_to(&mut self.poll);
+            let first = self.poll.len();
+            self.control.add_to(&mut self.poll);
+            let patience = self.patience(rt);
+            if !self.poll.wait(patience) {
+                rest(rt);
+            }
+            let now = self.moments.now(rt);
+            self.resolve(now);
+            if self.obey(rt, asked, first, log) {
+                return;
+            }
+        }
+    }
+
+    /// How long it is waited for what may come: until the next deadline.
+    fn patience(&mut self, rt: &HostRuntime) -> i32 {
+        let now = self.moments.now(rt).millis();
+        let millis = match self.resolver.resolver().next_deadline() {
+            Some(deadline) => deadline.saturating_sub(now).min(PATIENCE),
+            None => PATIENCE,
+        };
+        millis as i32
+    }
+
+    /// Takes a packet; whether something was there.
+    fn receive(&mut self, me: Locator, now: Moment) -> bool {
+        if self.buffer.len() != MOST_BYTES {
+            return false;
+        }
+        self.resolver.receive(
+            &mut self.near,
+            &mut self.far,
+            &self.settings,
+            me,
+            now,
+            self.buffer.as_mut_slice(),
+        )
+    }
+
+    /// Takes what came, and lets go on or end what is due.
+    fn resolve(&mut self, now: Moment) {
+        let me = self.resolver.resolver().me();
+        for _packet in 0..MOST_PACKETS {
+            if !self.receive(me, now) {
+                break;
+            }
+        }
+        self.resolver.tick_due(&mut self.near, me, now);
+        self.far.wires.drain(self.buffer.as_mut_slice());
+    }
+
+    /// Does what it is told at the control socket; whether it is to stop.
+    fn obey(
+        &mut self,
+        rt: &HostRuntime,
+        asked: &ResolveAsked<'_>,
+        first: usize,
+        log: &mut Log,
+    ) -> bool {
+        let Some(mut told) = self.control.take(&self.poll, first) else {
+            return false;
+        };
+        let is_stop = told.word == Some(ControlWord::Stop);
+        let answer = self.answer(rt, asked, &told, log);
+        told.answer(answer);
+        is_stop
+    }
+
+    fn answer(
+        &mut self,
+        rt: &HostRuntime,
+        asked: &ResolveAsked<'_>,
+        told: &Told,
+        log: &mut Log,
+    ) -> Why {
+        match told.word {
+            Some(ControlWord::Stats) => self.statistics(rt, log),
+            Some(ControlWord::Reload) => self.reload(rt, asked, log),
+            Some(ControlWord::Flush) => self.flush(rt, log),
+            Some(ControlWord::Stop) => format!(in rt.alloc(); "stopping\n"),
+            None => format!(in rt.alloc(); "refused: no such word\n"),
+        }
+    }
+
+    fn statistics(&self, rt: &HostRuntime, log: &Log) -> Why {
+        let statistics = ResolverStatistics {
+            times: self.times,
+            counts: self.resolver.counts(),
+            near: self.near.counts,
+            far: self.far.counts,
+            strays: self.near.wires.strays,
+            pending: self.resolver.resolver().pending() as u64,
+            waiting: self.resolver.waiting() as u64,
+            remembered: self.resolver.resolver().remembered() as u64,
+            refused: self.refused,
+            unlogged: log.lost(),
+        };
+        format!(in rt.alloc(); "{statistics}")
+    }
+
+    /// Forgets what it remembers of referrals, and its pending lookups with it.
+    fn flush(&mut self, rt: &HostRuntime, log: &mut Log) -> Why {
+        match self.renew(rt) {
+            Ok(()) => {
+                log.say(rt, Priority::Notice, format!(in rt.alloc(); "flushed"));
+                format!(in rt.alloc(); "flushed\n")
+            }
+            Err(why) => {
+                let why = why?;
+                format!(in rt.alloc(); "refused: {why}\n")
+            }
+        }
+    }
+
+    fn renew(&mut self, rt: &HostRuntime) -> Result<(), Why> {
+        let resolver = resolver_of(rt, &self.settings)?;
+        self.resolver
+            .renew(resolver)
+            .map_err(|refused| Err(refused))
+    }
+
+    /// Takes up the file's settings, or goes on with the old ones and says why.
+    fn reload(&mut self, rt: &HostRuntime, asked: &ResolveAsked<'_>, log: &mut Log) -> Why {
+        match self.take_up(rt, asked) {
+            Ok(()) => {
+                self.times.reload = seconds(rt);
+                self.say_where(rt, "reloaded", log);
+                format!(in rt.alloc(); "reloaded\n")
+            }
+            Err(why) => {
+                self.refused = self.refused.saturating_add(1);
+                let why = why?;
+                let line = format!(in rt.alloc(); "refused, the old settings go on: {why}");
+                log.say(rt, Priority::Warning, line);
+                format!(in rt.alloc(); "refused: {why}\n")
+            }
+        }
+    }
+
+    fn take_up(&mut self, rt: &HostRuntime, asked: &ResolveAsked<'_>) -> Result<(), Why> {
+        let settings = read(rt, asked.settings)?;
+        let taken = self.take_up_settings(rt, settings);
+        // The sockets are those of the settings that are in force from now on.
+        let listen = self.settings.listen.as_slice();
+        self.near.wires.listening.keep(listen);
+        self.near.wires.asking.keep(listen);
+        self.far.wires.sockets.keep(listen);
+        taken
+    }
+
+    /// The cache is kept where the roots and the resolver's own address stay the same.
+    fn take_up_settings(&mut self, rt: &HostRuntime, settings: Settings) -> Result<(), Why> {
+        let listen = settings.listen.as_slice();
+        bind_all(rt, listen, &mut self.near.wires.listening)?;
+        bind_all(rt, listen, &mut self.near.wires.asking)?;
+        bind_all(rt, listen, &mut self.far.wires.sockets)?;
+        let is_same = settings.roots == self.settings.roots
+            && settings.listen.as_slice().first() == self.settings.listen.as_slice().first();
+        if !is_same {
+            let resolver = resolver_of(rt, &settings)?;
+            if let Err(refused) = self.resolver.renew(resolver) {
+                return Err(Err(refused));
+            }
+        }
+        self.settings = settings;
+        Ok(())
+    }
+
+    /// Says in the log where it listens.
+    fn say_where(&self, rt: &HostRuntime, what: &str, log: &mut Log) {
+        log.say(rt, Priority::Notice, self.place_text(rt, what));
+    }
+
+    fn place_text(&self, rt: &HostRuntime, what: &str) -> Why {
+        let mut text = format!(in rt.alloc(); "{what}: resolving")?;
+        for at in self.settings.listen.as_slice() {
+            text.push_str(&format!(in rt.alloc(); " {}", ip_of(*at))?)?;
+        }
+        Ok(text)
+    }
+}

@@ -1,0 +1,94 @@
+//! `ddtplan warn REGISTER`: what an accepted register has that is mostly a mistake.
+
+use crate::inputs::{Why, accepted_in, bytes_at, no_memory, print};
+use ddt_check::Rule;
+use ddt_plan_commands::{End, WarnAsked};
+use ddt_sheets::{BrokenRule, FaultLine, told_faults};
+use ddt_warnings::{Kind, Warning, warnings};
+use std::alloc::{AllocError, Global};
+
+/// Prints a line for each warning of a kind that isn't turned off.
+pub fn warn(rt: &HostRuntime, asked: &WarnAsked<'_>) -> Result<End, Why> {
+    let off = kinds_off(rt, asked.off.as_slice())?;
+    let bytes = bytes_at(rt, asked.register)?;
+    let accepted = accepted_in(rt, asked.register, &bytes)?;
+    let mut told = warnings(rt.alloc(), &accepted).map_err(no_memory)?;
+    told.retain(|warning| !off.as_slice().contains(&warning.finding.kind()));
+    let places = places_of(rt.alloc(), &bytes, &told).map_err(no_memory)?;
+    let text = text_of(rt.alloc(), asked.register, &told, &places).map_err(no_memory)?;
+    let end = if text.is_empty() {
+        End::Answered
+    } else {
+        End::Different
+    };
+    Ok(print(rt, &text, end))
+}
+
+/// The kinds of these names.
+fn kinds_off(rt: &HostRuntime, names: &[&str]) -> Result<Vec<Kind>, Why> {
+    let mut kinds = Vec::new(rt.alloc());
+    for name in names {
+        match Kind::of(name) {
+            Some(kind) => kinds.push(kind).map_err(|_| Err(AllocError))?,
+            None => return Err(format!(in rt.alloc(); "no kind of warnings is named {name}")),
+        }
+    }
+    Ok(kinds)
+}
+
+/// Where the rows of warnings are in the file, in their order: the row of each, and its other row where it has one. They
+/// are found as the places of broken rules are, so each row is given as one that breaks a rule.
+fn places_of(
+    alloc: Global,
+    bytes: &[u8],
+    warnings: &[Warning],
+) -> Result<Vec<FaultLine>, AllocError> {
+    match told_faults(alloc, bytes, |_register| rows_of(alloc, warnings)) {
+        Ok(places) => Ok(places),
+        // The bytes were read already.
+        Err(_fault) => Err(AllocError),
+    }
+}
+
+fn rows_of(alloc: Global, warnings: &[Warning]) -> Result<Vec<BrokenRule>, AllocError> {
+    let mut rows = Vec::new(alloc);
+    for warning in warnings {
+        rows.push(at_row(warning.row))?;
+        if let Some(other) = warning.finding.other() {
+            rows.push(at_row(other))?;
+        }
+    }
+    Ok(rows)
+}
+
+fn at_row(row: u32) -> BrokenRule {
+    BrokenRule {
+        row,
+        rule: Rule::NoRoot,
+        other: None,
+    }
+}
+
+/// A line for each warning: `FILE:LINE: KIND: reason`, with the line of the other row where there is one.
+fn text_of(
+    alloc: Global,
+    path: &str,
+    warnings: &[Warning],
+    places: &[FaultLine],
+) -> Result<Vec<u8>, AllocError> {
+    let mut text = Vec::new(alloc);
+    let mut places = places.iter();
+    for warning in warnings {
+        let line = places.next().map(|place| place.line).unwrap_or(1);
+        let kind = warning.finding.kind();
+        let told = format!(in alloc; "{path}:{line}: {kind}: {warning}")?;
+        text.extend_from_slice(told.as_bytes())?;
+        if warning.finding.other().is_some() {
+            let line = places.next().map(|place| place.line).unwrap_or(1);
+            let other = format!(in alloc; " (line {line})")?;
+            text.extend_from_slice(other.as_bytes())?;
+        }
+        text.push(b'\n')?;
+    }
+    Ok(text)
+}

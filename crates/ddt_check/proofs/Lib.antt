@@ -1,5 +1,6 @@
 pub mod LeastRowLemmas
 pub mod RootLemmas
+pub mod CaseLemmas
 pub mod SaysLemmas
 pub mod NegativeLemmas
 pub mod FreeLemmas

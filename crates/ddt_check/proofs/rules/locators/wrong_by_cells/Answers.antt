@@ -26,12 +26,12 @@ returns-then-not-has_column c = λ r same.
     let longer = λ (g : Group). nat_lt k (length g.locators) in
     let none : _ = ap (λ (gs : List Group). list_any longer gs) same ∙ sym c.has_column.ensures
     ∙ c.if-not-has_column.true in
-    least_wrong r k c.loop-column.least (within_none r k none) (c.loop-column.invariant.rows r same)
+    least_wrong r k (within_none r k none) c.loop-column.least (c.loop-column.invariant.rows r same)
 
 pub returns : goal.returns
 returns c = λ r same.
     let up = c.loop-column.auto.column-end in
     let down = c.loop-column-test.false in
     let all : c.loop-column.column ≡ 8 = omega arith in
-    least_wrong r 8 c.loop-column.least (within_8 r) (subst
+    least_wrong r 8 (within_8 r) c.loop-column.least (subst
     (λ (k : ℕ). IsLeastRow (wrong_upto r k) c.loop-column.least) all (c.loop-column.invariant.rows r same))

@@ -1,4 +1,3 @@
-pub mod LeastRowLemmas
 pub mod RootLemmas
 pub mod CaseLemmas
 pub mod SaysLemmas

@@ -1,8 +1,8 @@
 use Rattle.std.proofs.Common.{List, IsPermutation, map, sym, subst}
 use Rattle.ddt_register.specs.declared.group.Group.{Group}
-use Rattle.ddt_check.specs.Rules.{IsLeastRow}
+use Rattle.std.proofs.lemmas.List.Sorted.{IsPermutation-refl}
 use Rattle.ddt_check.specs.Columns.{cell_of, meets_in}
-use Rattle.ddt_check.proofs.LeastLemmas.{any_at, least_next, least_walked}
+use Rattle.ddt_check.proofs.LeastLemmas.{least_next, least_of_all}
 use Rattle.ddt_check.proofs.rules.locators.shared.Goals as goal
 
 pub loop-g-preserved : goal.loop-g-preserved
@@ -15,8 +15,5 @@ loop-g-preserved c = λ r same.
 
 pub returns : goal.returns
 returns c = λ r same.
-    let at = λ (x : Group). meets_in r c.args.column x in
-    let groups = c.args.groups.now in
-    subst (λ (gs : List Group). IsLeastRow (any_at at gs) c.loop-g.least) (sym same)
-    (least_walked at groups c.loop-g.g-index c.loop-g.least c.loop-g.auto.g-index-end c.loop-g-test.false
-    (c.loop-g.invariant r same))
+    least_of_all (λ (x : Group). meets_in r c.args.column x) r.groups c.args.groups.now c.loop-g.g-index c.loop-g.least
+    (rw same (IsPermutation-refl c.args.groups.now)) c.loop-g-test.false (c.loop-g.invariant r same)

@@ -1,5 +1,5 @@
 -- Entries that are sorted by the numbers of their items, and then by the items.
-use Rattle.std.proofs.Common.{◌≡◌, ℕ, suc, ◌+◌, ◌<◌, ◌≤◌, true, false, List, [], ◌∷◌, ◌++◌, take, length, map, get_or, Ordering, Less, Equal, Greater, inl, inr, refl, sym, ap, ◌∙◌, arith}
+use Rattle.std.proofs.Common.{◌≡◌, ◌⊎◌, ℕ, suc, ◌+◌, ◌<◌, ◌≤◌, true, false, List, [], ◌∷◌, ◌++◌, take, length, map, get_or, Ordering, Less, Equal, Greater, inl, inr, refl, sym, ap, ◌∙◌, arith}
 use Rattle.std.specs.Prelude.{Bool, ◌==◌, ◌&&◌, ◌||◌, nat_lt, slice_set, IsSorted}
 use Rattle.std.specs.List.Sorted.{IsPartitionedBy, IsPartitionPoint}
 use Rattle.std.specs.Cmp.{nat_cmp_is}
@@ -7,81 +7,61 @@ use Rattle.std.specs.Ordering.{nat_cmp, is_lt, is_le, ordering_then, ordering_re
 use Rattle.std.specs.Cmp.Lexicographic.{slice_cmp, nat_list_cmp_total, bytes_decides}
 use Rattle.ddt_path.specs.Covers.{is_same_path}
 use Rattle.ddt_path.specs.laws.PathOrder.{not_below_itself}
-use Rattle.std.proofs.lemmas.Bool.{false≢true, both_ways, false_from_ne_true, cases_lt, cases_eq, lt-ltb, le-ltb, eq-eqb, ne_eqb}
+use Rattle.ddt_path.specs.laws.Cover.{same_path-flips}
+use Rattle.std.proofs.lemmas.Bool.{false≢true, both_ways, false_from_ne_true, cases_lt, cases_eq, cases_order, lt-ltb, le-ltb, eq-eqb, ne_eqb}
 use Rattle.std.proofs.lemmas.List.{length-map, length-set, take_all, take_more_set, map-set, get_or-map}
 use Rattle.std.proofs.Math.Seq.{take-suc}
 use Rattle.ddt_check.specs.Order.{in_order, IsInOrder}
 
-less_from : (o : Ordering) → is_lt o ≡ true → o ≡ Less
-less_from Less e = refl
-less_from Equal e = absurd (false≢true e)
-less_from Greater e = absurd (false≢true e)
+-- two numbers that rise only with their keys
+module _ (a b : List ℕ) (m n : ℕ) (up : m < n → is_lt (slice_cmp nat_cmp a b) ≡ true)
+    (down : n < m → is_lt (slice_cmp nat_cmp b a) ≡ true) where
+  -- where they differ they compare as the keys do
+  front_cases : (m ≡ n) ⊎ (((m < n) × (slice_cmp nat_cmp a b ≡ Less)) ⊎ ((n < m) × (slice_cmp nat_cmp a b ≡ Greater)))
+  front_cases = elim (cases_order m n) [
+    | inl same ↦ inl same
+    | inr differ ↦ elim differ [
+      | inl lt ↦ inr (inl (lt, less_from (slice_cmp nat_cmp a b) (up lt)))
+      | inr gt ↦ inr (inr (gt, nat_list_cmp_total.antisymm a b
+          ∙ ap ordering_reverse (less_from (slice_cmp nat_cmp b a) (down gt))))
+    ]
+  ]
+    where
+      less_from : (o : Ordering) → is_lt o ≡ true → o ≡ Less
+      less_from Less e = refl
+      less_from Equal e = absurd (false≢true e)
+      less_from Greater e = absurd (false≢true e)
 
--- where two numbers differ that rise only with the keys, they compare as the items do
-pub by_front : {A : Type 0} (key : A → List ℕ) (row : A → ℕ) (a b : A) (m n : ℕ)
-    → (m < n → is_lt (slice_cmp nat_cmp (key a) (key b)) ≡ true)
-    → (n < m → is_lt (slice_cmp nat_cmp (key b) (key a)) ≡ true)
-    → (nat_cmp m n ≡ Equal → ⊥) → nat_cmp m n ≡ in_order key row a b
-by_front key row a b m n up down apart = elim (cases_lt m n) [
-  | inl lt ↦ sym (nat_cmp_is m n Less lt)
-      ∙ sym (ap (λ (o : Ordering). ordering_then o (nat_cmp (row a) (row b)))
-      (less_from (slice_cmp nat_cmp (key a) (key b)) (up lt)))
-  | inr ge ↦ elim (cases_eq m n) [
+  -- so do items of these keys
+  pub by_front : (k : Ordering) → (nat_cmp m n ≡ Equal → ⊥) → nat_cmp m n ≡ ordering_then (slice_cmp nat_cmp a b) k
+  by_front k apart = elim front_cases [
     | inl same ↦ absurd (apart (sym (nat_cmp_is m n Equal same)))
-    | inr differ ↦
-        let lt : n < m = omega arith in
-        sym (nat_cmp_is m n Greater lt)
-        ∙ sym (ap (λ (o : Ordering). ordering_then o (nat_cmp (row a) (row b)))
-        (nat_list_cmp_total.antisymm (key a) (key b)
-        ∙ ap ordering_reverse (less_from (slice_cmp nat_cmp (key b) (key a)) (down lt))))
+    | inr differ ↦ elim differ [
+      | inl p ↦ rw (← nat_cmp_is m n Less p.0, p.1)
+      | inr p ↦ rw (← nat_cmp_is m n Greater p.0, p.1)
+    ]
   ]
-]
 
--- the same of a search for what stands before a key, or up to it
-passes_by_front : (passes : Ordering → Bool) → passes Less ≡ true → passes Greater ≡ false
-    → (a b : List ℕ) (m n : ℕ) → (m < n → is_lt (slice_cmp nat_cmp a b) ≡ true)
-    → (n < m → is_lt (slice_cmp nat_cmp b a) ≡ true)
-    → (nat_lt m n || (m == n && passes (slice_cmp nat_cmp a b))) ≡ passes (slice_cmp nat_cmp a b)
-passes_by_front passes less greater a b m n up down = elim (cases_lt m n) [
-  | inl lt ↦ ap (λ (x : Bool). x || (m == n && passes (slice_cmp nat_cmp a b))) (lt-ltb m n lt)
-      ∙ sym (ap passes (less_from (slice_cmp nat_cmp a b) (up lt)) ∙ less)
-  | inr ge ↦ elim (cases_eq m n) [
-    | inl same ↦
-        ap (λ (x : Bool). x || (m == n && passes (slice_cmp nat_cmp a b))) (le-ltb m n ge)
-        ∙ ap (λ (x : Bool). x && passes (slice_cmp nat_cmp a b)) (eq-eqb m n same)
-    | inr differ ↦
-        let lt : n < m = omega arith in
-        ap (λ (x : Bool). x || (m == n && passes (slice_cmp nat_cmp a b))) (le-ltb m n ge)
-        ∙ ap (λ (x : Bool). x && passes (slice_cmp nat_cmp a b)) (ne_eqb m n differ)
-        ∙ sym (ap passes (nat_list_cmp_total.antisymm a b
-        ∙ ap ordering_reverse (less_from (slice_cmp nat_cmp b a) (down lt))) ∙ greater)
+  -- the same of a search for what stands before a key, or up to it
+  pub passes_by_front : (passes : Ordering → Bool) → passes Less ≡ true → passes Greater ≡ false
+      → (nat_lt m n || (m == n && passes (slice_cmp nat_cmp a b))) ≡ passes (slice_cmp nat_cmp a b)
+  passes_by_front passes less greater = elim front_cases [
+    | inl same ↦ rw (le-ltb m n (omega arith), eq-eqb m n same)
+    | inr differ ↦ elim differ [
+      | inl p ↦ rw (lt-ltb m n p.0, p.1, less)
+      | inr p ↦ rw (le-ltb m n (omega arith), ne_eqb m n (λ e. omega arith), p.1, greater)
+    ]
   ]
-]
 
-pub lt_by_front : (a b : List ℕ) (m n : ℕ) → (m < n → is_lt (slice_cmp nat_cmp a b) ≡ true)
-    → (n < m → is_lt (slice_cmp nat_cmp b a) ≡ true)
-    → (nat_lt m n || (m == n && is_lt (slice_cmp nat_cmp a b))) ≡ is_lt (slice_cmp nat_cmp a b)
-lt_by_front a b m n up down = passes_by_front is_lt refl refl a b m n up down
-
-pub le_by_front : (a b : List ℕ) (m n : ℕ) → (m < n → is_lt (slice_cmp nat_cmp a b) ≡ true)
-    → (n < m → is_lt (slice_cmp nat_cmp b a) ≡ true)
-    → (nat_lt m n || (m == n && is_le (slice_cmp nat_cmp a b))) ≡ is_le (slice_cmp nat_cmp a b)
-le_by_front a b m n up down = passes_by_front is_le refl refl a b m n up down
-
--- the same of whether two keys are one
-pub same_by_front : (a b : List ℕ) (m n : ℕ) → (m < n → is_lt (slice_cmp nat_cmp a b) ≡ true)
-    → (n < m → is_lt (slice_cmp nat_cmp b a) ≡ true)
-    → (m == n && is_same_path a b) ≡ is_same_path a b
-same_by_front a b m n up down = elim (cases_eq m n) [
-  | inl same ↦ ap (λ (x : Bool). x && is_same_path a b) (eq-eqb m n same)
-  | inr differ ↦
-      ap (λ (x : Bool). x && is_same_path a b) (ne_eqb m n differ)
-      ∙ sym (false_from_ne_true (is_same_path a b) (λ e. elim (cases_lt m n) [
-        | inl lt ↦ both_ways (is_lt (slice_cmp nat_cmp a b)) (not_below_itself a b e) (up lt)
-        | inr ge ↦ both_ways (is_lt (slice_cmp nat_cmp b a))
-            (not_below_itself b a ((bytes_decides b a).1 (sym ((bytes_decides a b).0 e)))) (down (omega arith))
-      ]))
-]
+  -- the same of whether two keys are one
+  pub same_by_front : (m == n && is_same_path a b) ≡ is_same_path a b
+  same_by_front = elim (cases_eq m n) [
+    | inl same ↦ rw (eq-eqb m n same)
+    | inr differ ↦ rw (ne_eqb m n differ) (sym (false_from_ne_true (is_same_path a b) (λ e. elim (cases_lt m n) [
+      | inl lt ↦ both_ways (is_lt (slice_cmp nat_cmp a b)) (not_below_itself a b e) (up lt)
+      | inr ge ↦ both_ways (is_lt (slice_cmp nat_cmp b a)) (not_below_itself b a (same_path-flips a b e)) (down (omega arith))
+    ])))
+  ]
 
 -- what is sorted by its items has them sorted
 pub items_in_order : {E A : Type 0} (item : E → A) (key : A → List ℕ) (row : A → ℕ) (xs : List E)

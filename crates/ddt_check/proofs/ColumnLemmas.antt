@@ -15,7 +15,6 @@ use Rattle.ddt_register.specs.laws.Rising.{groups_rise}
 use Rattle.ddt_register.specs.laws.RowOrder.{Rising, rising_from_rise}
 use Rattle.ddt_check.specs.declared.rules.locators.Cell.{Cell}
 use Rattle.ddt_check.specs.Columns.{key_list, column_key, locator_key, cell_of, cell_key, first_in}
-use Rattle.ddt_check.proofs.EntryLemmas.{one_more_written}
 
 regroup : (a b c : Ordering)
     → ordering_then (ordering_then a (ordering_then b Equal)) c ≡ ordering_then (ordering_then a b) c
@@ -73,12 +72,3 @@ pub first_row_in : (r : Register) (k : ℕ) (l : Locator) (found : Option Cell)
     → option_map cell_row found ≡ option_map group_row (first_in r k l)
 first_row_in r k l found e =
     ap (option_map cell_row) (sym e ∙ first_cell k l r.groups) ∙ row_of_cell k (first_in r k l)
-
--- one cell more is written
-pub one_written : (k i : ℕ) (gs : List Group) (xs : List Cell) (g : Group) → i < length xs → length xs ≡ length gs
-    → g ≡ get_or gs i g → take i xs ≡ take i (map (cell_of k) gs)
-    → take (i + 1) (slice_set xs i (cell_of k g)) ≡ take (i + 1) (map (cell_of k) gs)
-one_written k i gs xs g lt n is so_far =
-    let f = cell_of k in
-    one_more_written (map f gs) xs i (f g) lt (n ∙ sym (length-map gs f))
-    (ap f is ∙ sym (get_or-map f gs i g (f g) (omega arith))) so_far

@@ -9,7 +9,8 @@ use Rattle.ddt_path.specs.Covers.{is_same_path}
 use Rattle.ddt_path.specs.laws.PathOrder.{not_below_itself}
 use Rattle.ddt_path.specs.laws.Cover.{same_path-flips}
 use Rattle.std.proofs.lemmas.Bool.{false≢true, both_ways, false_from_ne_true, cases_lt, cases_eq, cases_order, lt-ltb, le-ltb, eq-eqb, ne_eqb}
-use Rattle.std.proofs.lemmas.List.{length-map, length-set, take_all, take_more_set, map-set, get_or-map}
+use Rattle.std.proofs.lemmas.List.{length-map, take_all, get_or-map, get_or_default}
+use Rattle.std.proofs.lemmas.Grind.{common_steps}
 use Rattle.std.proofs.Math.Seq.{take-suc}
 use Rattle.ddt_check.specs.Order.{in_order, IsInOrder}
 
@@ -63,78 +64,53 @@ module _ (a b : List ℕ) (m n : ℕ) (up : m < n → is_lt (slice_cmp nat_cmp a
     ])))
   ]
 
--- what is sorted by its items has them sorted
-pub items_in_order : {E A : Type 0} (item : E → A) (key : A → List ℕ) (row : A → ℕ) (xs : List E)
-    → IsSorted (λ x y. in_order key row (item x) (item y)) xs → IsInOrder key row (map item xs)
-items_in_order item key row [] sorted = λ k d low lt. absurd (omega arith)
-items_in_order item key row (x ∷ xs) sorted = λ k d low lt.
-    let all = x ∷ xs in
-    let inside : k + 1 < length all = omega (arith, length-map all item) in
-    let before : k < length all = omega arith in
-    ap (λ (y : _). is_lt (in_order key row y (get_or (map item all) k d))) (get_or-map item all (k + 1) x d inside)
-    ∙ ap (λ (y : _). is_lt (in_order key row (item (get_or all (k + 1) x)) y)) (get_or-map item all k x d before)
-    ∙ sorted k x low inside
+-- some item stands at a place
+pub item_there : {A : Type 0} (xs : List A) (i : ℕ) → i < length xs → (x : A) × (x ≡ get_or xs i x)
+item_there [] i lt = absurd (omega arith)
+item_there (x ∷ xs) i lt = let y = get_or (x ∷ xs) i x in (y, get_or_default (x ∷ xs) i x y lt)
 
 -- one more is written
 pub one_more_written : {A : Type 0} (ys xs : List A) (i : ℕ) (x : A) → i < length xs → length xs ≡ length ys
     → x ≡ get_or ys i x → take i xs ≡ take i ys → take (i + 1) (slice_set xs i x) ≡ take (i + 1) ys
-one_more_written ys xs i x lt n is so_far =
-    let inside : i < length ys = omega arith in
-    let next : i + 1 ≡ suc i = omega arith in
-    take_more_set xs i x lt ∙ ap (λ (zs : List _). zs ++ (x ∷ [])) so_far
-    ∙ ap (λ (y : _). take i ys ++ (y ∷ [])) is
-    ∙ sym (ap (λ (n : ℕ). take n ys) next ∙ take-suc ys i x inside)
-
-pub one_entry_written : {E A : Type 0} (item : E → A) (ys : List A) (xs : List E) (i : ℕ) (e : E) → i < length xs
-    → length xs ≡ length ys → item e ≡ get_or ys i (item e) → take i (map item xs) ≡ take i ys
-    → take (i + 1) (map item (slice_set xs i e)) ≡ take (i + 1) ys
-one_entry_written item ys xs i e lt n is so_far =
-    ap (take (i + 1)) (map-set item xs i e)
-    ∙ one_more_written ys (map item xs) i (item e) (omega (arith, length-map xs item)) (length-map xs item ∙ n) is
-    so_far
+one_more_written ys xs i x lt n is so_far = grind (arith, common_steps)
 
 pub all_written : {A : Type 0} (ys xs : List A) (i : ℕ) → length xs ≡ length ys → length ys ≤ i
     → take i xs ≡ take i ys → xs ≡ ys
-all_written ys xs i n past so_far = sym (take_all i xs (omega arith)) ∙ so_far ∙ take_all i ys past
+all_written ys xs i n past so_far = rw (take_all i xs (omega arith), take_all i ys past) at so_far
 
--- the item of an entry, among the items
-pub item_is : {E A : Type 0} (item : E → A) (xs : List E) (i : ℕ) (e : E) → i < length xs → e ≡ get_or xs i e
-    → item e ≡ get_or (map item xs) i (item e)
-item_is item xs i e lt is = ap item is ∙ sym (get_or-map item xs i e (item e) lt)
+module _ {E A : Type 0} (item : E → A) where
+  -- what is sorted by its items has them sorted
+  pub items_in_order : (key : A → List ℕ) (row : A → ℕ) (xs : List E)
+      → IsSorted (λ x y. in_order key row (item x) (item y)) xs → IsInOrder key row (map item xs)
+  items_in_order key row xs sorted = λ k d low lt.
+      let inside : k + 1 < length xs = omega (arith, length-map xs item) in
+      let x = (item_there xs (k + 1) inside).0 in
+      rw (get_or-map item xs (k + 1) x d inside, get_or-map item xs k x d (omega arith)) (sorted k x low inside)
 
-pub item_at_any : {E A : Type 0} (item : E → A) (xs : List E) (i : ℕ) (e : E) (d : A) → i < length xs
-    → e ≡ get_or xs i e → item e ≡ get_or (map item xs) i d
-item_at_any item xs i e d lt is = ap item is ∙ sym (get_or-map item xs i e d lt)
+  -- the item of an entry, among the items
+  pub item_is : (xs : List E) (i : ℕ) (e : E) (d : A) → i < length xs → e ≡ get_or xs i e
+      → item e ≡ get_or (map item xs) i d
+  item_is xs i e d lt is = ap item is ∙ sym (get_or-map item xs i e d lt)
 
-pub inside_items : {E A : Type 0} (item : E → A) (xs : List E) (i : ℕ) → i < length xs → i < length (map item xs)
-inside_items item xs i lt = omega (arith, length-map xs item)
+  pub inside_items : (xs : List E) (i : ℕ) → i < length xs → i < length (map item xs)
+  inside_items xs i lt = omega (arith, length-map xs item)
 
-pub up_to_items : {E A : Type 0} (item : E → A) (xs : List E) (i : ℕ) → i ≤ length xs → i ≤ length (map item xs)
-up_to_items item xs i le = omega (arith, length-map xs item)
+  pub past_items : (xs : List E) (i : ℕ) → length xs ≤ i → length (map item xs) ≤ i
+  past_items xs i le = omega (arith, length-map xs item)
 
-pub past_items : {E A : Type 0} (item : E → A) (xs : List E) (i : ℕ) → length xs ≤ i → length (map item xs) ≤ i
-past_items item xs i le = omega (arith, length-map xs item)
-
--- a search by items is a search of the items
-module _ {E A : Type 0} (item : E → A) (test : A → Bool) where
-  pub parted_entries : (xs : List E) → IsPartitionedBy test (map item xs) → IsPartitionedBy (λ e. test (item e)) xs
-  parted_entries xs parted = λ i j d le inside e.
-      let before : i < length xs = omega arith in
-      sym (ap test (get_or-map item xs i d (item d) before))
-      ∙ parted i j (item d) le (inside_items item xs j inside)
-      (ap test (get_or-map item xs j d (item d) inside) ∙ e)
-
-  pub point_of_items : (xs : List E) (at : ℕ) → at ≤ length xs
-      → IsPartitionPoint (λ e. test (item e) ≡ true) (λ e. test (item e) ≡ false) xs at
-      → IsPartitionPoint (λ x. test x ≡ true) (λ x. test x ≡ false) (map item xs) at
-  point_of_items [] at le point = (
-    λ k d low lt. absurd (omega arith),
-    λ k d low lt. absurd (omega arith),
-  )
-  point_of_items (x ∷ xs) at le point =
-      let all = x ∷ xs in (
-        λ k d low lt. ap test (get_or-map item all k x d (omega arith)) ∙ point.0 k x low lt,
+  -- a search by items is a search of the items
+  pub point_of_items : (test : A → Bool) (xs : List E) (at : ℕ) → at ≤ length xs
+      → (IsPartitionedBy (λ e. test (item e)) xs
+          → IsPartitionPoint (λ e. test (item e) ≡ true) (λ e. test (item e) ≡ false) xs at)
+      → IsPartitionedBy test (map item xs) → IsPartitionPoint (λ x. test x ≡ true) (λ x. test x ≡ false) (map item xs) at
+  point_of_items test xs at le found parted =
+      let point = found (λ i j d le inside e. rw (get_or-map item xs i d (item d) (omega arith)) at
+      (parted i j (item d) le (inside_items xs j inside) (rw (get_or-map item xs j d (item d) inside) e))) in (
         λ k d low lt.
-            let inside : k < length all = omega (arith, length-map all item) in
-            ap test (get_or-map item all k x d inside) ∙ point.1 k x low inside,
+            let x = (item_there xs k (omega arith)).0 in
+            rw (get_or-map item xs k x d (omega arith)) (point.0 k x low lt),
+        λ k d low lt.
+            let inside : k < length xs = omega (arith, length-map xs item) in
+            let x = (item_there xs k inside).0 in
+            rw (get_or-map item xs k x d inside) (point.1 k x low inside),
       )

@@ -90,8 +90,3 @@ module _ {A : Type 0} (row : A → ℕ) (test : A → Bool) where
               absurd (omega (arith, eqb-true (row y.0) n p.0))),
         )
       ] refl
-
--- some item stands at a place
-pub item_there : {A : Type 0} (xs : List A) (i : ℕ) → i < length xs → (x : A) × (x ≡ get_or xs i x)
-item_there [] i lt = absurd (omega arith)
-item_there (x ∷ xs) i lt = let y = get_or (x ∷ xs) i x in (y, get_or_default (x ∷ xs) i x y lt)

@@ -1,8 +1,8 @@
 use Rattle.std.proofs.Common.{◌∙◌, map, sym, ap, refl, true, false, Some}
 use Rattle.ddt_check.specs.declared.entries.Entry.{Entry}
 use Rattle.ddt_check.specs.Rules.{is_duplicate}
-use Rattle.ddt_check.proofs.EntryLemmas.{item_at_any, inside_items, past_items}
-use Rattle.ddt_check.proofs.LeastLemmas.{passes_at, least_if, least_of_all, item_there}
+use Rattle.ddt_check.proofs.EntryLemmas.{item_is, inside_items, past_items, item_there}
+use Rattle.ddt_check.proofs.LeastLemmas.{passes_at, least_if, least_of_all}
 use Rattle.ddt_check.proofs.rules.duplicates.duplicate.Goals as goal
 use Rattle.ddt_check.proofs.rules.duplicates.duplicate.Goals.{then-repeats, else-repeats}
 
@@ -19,7 +19,7 @@ loop-at-preserved g c = λ all rises moved.
     elim c.if-repeats.branch [
       | then-repeats w ↦
           let x = w.index-entries-at.result in
-          let is = item_at_any item entries i x (item x) c.loop-at-test.true w.index-entries-at.is in
+          let is = item_is item entries i x (item x) c.loop-at-test.true w.index-entries-at.is in
           rw w.least-is (least_if row repeated items i (item x) c.loop-at.least (Some w.lower.result) true lt is
           (rw (← is) at (sym w.if-repeats.true ∙ c.repeats.ensures all (item x) rises moved))
           (ap Some (rw (w.row.ensures, ← w.index-entries-at.is) at w.lower.ensures)) so_far)

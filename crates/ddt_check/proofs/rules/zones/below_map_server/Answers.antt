@@ -30,7 +30,7 @@ loop-entry-preserved c =
     let i = c.loop-entry.entry-index in
     let w = c.entry-item.result.item.now in
     let lt = inside_items item entries i c.loop-entry-test.true in
-    let is = item_is item entries i c.entry-item.result c.loop-entry-test.true c.entry-item.is in
+    let is = item_is item entries i c.entry-item.result w c.loop-entry-test.true c.entry-item.is in
     let top = option_map (λ (z : Zone). z.prefix) (option_copied c.loop-entry.top) in
     let state = c.loop-entry.invariant.top in
     record {

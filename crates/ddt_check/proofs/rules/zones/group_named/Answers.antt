@@ -5,7 +5,7 @@ use Rattle.ddt_path.specs.Covers.{is_same_path}
 use Rattle.ddt_register.specs.laws.RowOrder.{groups_up}
 use Rattle.ddt_check.proofs.NameLemmas.{is_below, parted, found_key, no_key_past, no_key_at}
 use Rattle.ddt_check.proofs.EntryKinds.{entry_group}
-use Rattle.ddt_check.proofs.EntryLemmas.{parted_entries, point_of_items, inside_items, past_items}
+use Rattle.ddt_check.proofs.EntryLemmas.{point_of_items, inside_items, past_items}
 use Rattle.std.proofs.lemmas.List.{get_or-map}
 use Rattle.ddt_check.proofs.rules.zones.group_named.Goals as goal
 use Rattle.ddt_check.proofs.rules.zones.group_named.Goals.{then-at-groups+else-eq, else-at-groups}
@@ -24,9 +24,8 @@ returns-then-eq c = λ r moved.
     let name = c.args.name in
     let test = is_below key group_row xs c.requires name in
     let point = point_of_items entry_group test entries at c.partition_point-at.ensures.bound
-    (IsPartitionPoint-from_clause (λ e. test (entry_group e)) entries at c.partition_point-at.ensures.partitioned
-    (parted_entries entry_group test entries (parted key group_row xs c.requires name))
-    (λ a r q k. search (rules, c.of-sought.ensures))) in
+    (λ p. IsPartitionPoint-from_clause (λ e. test (entry_group e)) entries at c.partition_point-at.ensures.partitioned
+    p (λ a r q k. search (rules, c.of-sought.ensures))) (parted key group_row xs c.requires name) in
     let g = c.index-groups-at.result in
     let d = entry_group g in
     let same = get_or-map entry_group entries at g d c.if-at-groups.true in
@@ -44,9 +43,8 @@ returns c = λ r moved.
     let name = c.args.name in
     let test = is_below key group_row xs c.requires name in
     let point = point_of_items entry_group test entries at c.partition_point-at.ensures.bound
-    (IsPartitionPoint-from_clause (λ e. test (entry_group e)) entries at c.partition_point-at.ensures.partitioned
-    (parted_entries entry_group test entries (parted key group_row xs c.requires name))
-    (λ a r q k. search (rules, c.of-sought.ensures))) in
+    (λ p. IsPartitionPoint-from_clause (λ e. test (entry_group e)) entries at c.partition_point-at.ensures.partitioned
+    p (λ a r q k. search (rules, c.of-sought.ensures))) (parted key group_row xs c.requires name) in
     elim c.if-at-groups.branch [
       | then-at-groups+else-eq w ↦
           let g = w.index-groups-at.result in

@@ -1,5 +1,4 @@
 -- The items of entries of each kind.
-use Rattle.std.proofs.Common.{ℕ}
 use Rattle.ddt_register.specs.declared.zone.Zone.{Zone}
 use Rattle.ddt_register.specs.declared.group.Group.{Group}
 use Rattle.ddt_register.specs.contracts.item.ZoneItem.TheImpl as zone_item

@@ -1,12 +1,10 @@
 -- The root of an accepted register is served; the zone of each identifier, and the group of each locator.
-use Rattle.std.proofs.Common.{◌≡◌, ◌⊎◌, ℕ, ◌<◌, ◌≤◌, true, false, List, [], length, Some, refl, sym, ap, ◌∙◌, arith, inl, inr}
+use Rattle.std.proofs.Common.{◌≡◌, ℕ, ◌≤◌, true, false, List, [], length, Some, refl, sym, ap, ◌∙◌, arith, inl, inr}
 use Rattle.std.specs.List.{list_any}
-use Rattle.std.specs.Option.{option_map_or}
 use Rattle.std.proofs.lemmas.Bool.{true≢false, false≢true, cond-true, or_parts, cases_lt}
 use Rattle.ddt_path.specs.declared.locator.Locator.{Locator}
 use Rattle.ddt_path.specs.declared.record.Role.{Role}
 use Rattle.ddt_path.specs.declared.record.Role.TheVariants.{Node, Ms}
-use Rattle.ddt_path.specs.Covers.{covers}
 use Rattle.ddt_path.specs.Locators.{lists}
 use Rattle.ddt_path.specs.Names.{is_same_name}
 use Rattle.ddt_path.specs.laws.Cover.{same_path, covered_same}

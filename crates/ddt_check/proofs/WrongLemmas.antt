@@ -1,12 +1,10 @@
 -- The least row of a group of wrong locators, by what is wrong of it alone and by the columns.
-use Rattle.std.proofs.Common.{◌≡◌, ◌⊎◌, ℕ, zero, suc, ◌<◌, ◌≤◌, Bool, true, false, not, length, drop, max, Option, Some, None, inl, inr, refl, sym, ap, ◌∙◌, arith}
+use Rattle.std.proofs.Common.{◌≡◌, ◌⊎◌, ℕ, zero, suc, ◌<◌, ◌≤◌, Bool, true, false, not, length, drop, max, Option, Some, None, inl, inr, refl, sym, ◌∙◌, arith}
 use Rattle.std.specs.Prelude.{◌==◌, ◌&&◌, ◌||◌, nat_lt, slice_get, ◌≢◌}
 use Rattle.std.specs.List.{list_any}
-use Rattle.std.specs.Option.{option_map_or}
-use Rattle.std.proofs.lemmas.Bool.{false≢true, both_ways, false_from_ne_true, not-true, and_parts, and_from, or_left, or_right, or_cases, cases_lt, lt-ltb, ltb-true, ltb-false, eq-eqb, eqb-true, eqb-false, ne_eqb}
+use Rattle.std.proofs.lemmas.Bool.{false≢true, both_ways, false_from_ne_true, and_parts, and_from, or_left, or_right, or_cases, cases_lt, lt-ltb, ltb-true, ltb-false, eq-eqb, eqb-true, ne_eqb}
 use Rattle.std.proofs.lemmas.Bool.Decides.{nat_tests}
 use Rattle.ddt_path.specs.declared.locator.Locator.{Locator}
-use Rattle.ddt_path.specs.declared.locator.Locator.TheVariants.{V4, V6}
 use Rattle.ddt_path.specs.Locators.{is_same_locator, lists, are_distinct}
 use Rattle.ddt_path.specs.Covers.{is_same_path}
 use Rattle.ddt_path.specs.laws.Cover.{same_path, path_itself}

@@ -1,6 +1,6 @@
-use Rattle.std.proofs.Common.{◌≡◌, ℕ, ◌+◌, ◌*◌, ◌<◌, ◌≤◌, ◌^◌, ap, ◌∙◌, arith}
+use Rattle.std.proofs.Common.{ap, ◌∙◌, arith}
 use Rattle.ddt_check.specs.Fronts.{name_front}
-use Rattle.ddt_check.specs.laws.Fronts.{IsFrontTo, front_next, front_room, front_done}
+use Rattle.ddt_check.specs.laws.Fronts.{front_next, front_room, front_done}
 use Rattle.ddt_check.proofs.fronts.name_front.Goals as goal
 
 pub overflow_mul-front : goal.overflow_mul-front

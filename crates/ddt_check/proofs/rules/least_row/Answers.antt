@@ -1,4 +1,4 @@
-use Rattle.std.proofs.Common.{◌≡◌, Some, sym, ap, refl}
+use Rattle.std.proofs.Common.{◌≡◌, Some, ap, refl}
 use Rattle.std.proofs.lemmas.Fn.{says_at}
 use Rattle.ddt_check.proofs.LeastLemmas.{passes_at, least_if, least_of_all}
 use Rattle.ddt_check.proofs.rules.least_row.Goals as goal

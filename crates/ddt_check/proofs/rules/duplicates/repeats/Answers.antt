@@ -1,9 +1,6 @@
-use Rattle.std.proofs.Common.{◌≡◌, ℕ, ◌+◌, ◌-◌, ◌<◌, length, map, get_or, sym, ap, ◌∙◌, arith}
-use Rattle.std.proofs.lemmas.List.{length-map}
-use Rattle.ddt_path.specs.Covers.{is_same_path}
+use Rattle.std.proofs.Common.{◌≡◌, ◌+◌, ◌-◌, ◌<◌, length, map, sym, ◌∙◌, arith}
 use Rattle.ddt_register.specs.laws.RowOrder.{rising_from_rise}
 use Rattle.ddt_check.specs.declared.entries.Entry.{Entry}
-use Rattle.ddt_check.specs.Rules.{is_duplicate}
 use Rattle.ddt_check.specs.laws.Order.{duplicate-beside, duplicate-first}
 use Rattle.ddt_check.proofs.EntryLemmas.{inside_items, item_is}
 use Rattle.ddt_check.proofs.rules.duplicates.repeats.Goals as goal

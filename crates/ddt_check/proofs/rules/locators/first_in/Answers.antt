@@ -1,4 +1,4 @@
-use Rattle.std.proofs.Common.{◌≡◌, ℕ, true, false, get_or, sym, ap, ◌∙◌}
+use Rattle.std.proofs.Common.{ℕ, true, false, get_or, sym, ap, ◌∙◌}
 use Rattle.std.proofs.lemmas.List.{get_or_default}
 use Rattle.ddt_check.specs.Columns.{slot_of}
 use Rattle.ddt_check.proofs.MarkLemmas.{none_in_column}

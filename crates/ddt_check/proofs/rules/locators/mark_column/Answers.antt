@@ -1,7 +1,6 @@
-use Rattle.std.proofs.Common.{◌≡◌, ℕ, ◌+◌, ◌<◌, ◌≤◌, Bool, true, List, length, get_or, sym, subst, arith}
+use Rattle.std.proofs.Common.{ℕ, ◌+◌, ◌≤◌, Bool, true, List, length, sym, subst, arith}
 use Rattle.std.specs.Prelude.{slice_set}
 use Rattle.ddt_check.specs.declared.rules.locators.Cell.{Cell}
-use Rattle.ddt_check.specs.Columns.{slot_of}
 use Rattle.ddt_check.proofs.MarkLemmas.{AreMarkedTo, marked_more, marked_past}
 use Rattle.ddt_check.proofs.rules.locators.mark_column.Goals as goal
 use Rattle.ddt_check.proofs.rules.locators.mark_column.Goals.{then-at-marks, else-at-marks}

@@ -1,4 +1,4 @@
-use Rattle.std.proofs.Common.{◌≡◌, ◌<◌, true, refl, ◌∙◌, arith}
+use Rattle.std.proofs.Common.{◌≡◌, true, refl, ◌∙◌, arith}
 use Rattle.std.proofs.lemmas.Bool.{and_parts}
 use Rattle.std.specs.Ordering.{is_lt}
 use Rattle.ddt_path.specs.Names.{is_name}

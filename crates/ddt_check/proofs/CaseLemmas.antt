@@ -42,11 +42,11 @@ module _ (r : Register) (x : List ℕ) where
   -- what holds in each case of an assignment holds of it
   module _ (P : Outcome → Type 0)
       (hole : (z : Zone) (role : Role) → zone_of r x ≡ Some z → z.kind ≡ role
-          → P (Hole (hole_of z.prefix (prefixes_in r z role) x)))
+      → P (Hole (hole_of z.prefix (prefixes_in r z role) x)))
       (part : (z : Zone) (s : Site) → zone_of r x ≡ Some z → z.kind ≡ Ms → site_of r x ≡ Some s
-          → (length s.etrs == 0) ≡ true → P (NotRegistered (part_of_site r s x) (locators_of r z.group)))
+      → (length s.etrs == 0) ≡ true → P (NotRegistered (part_of_site r s x) (locators_of r z.group)))
       (whole : (z : Zone) (s : Site) → zone_of r x ≡ Some z → z.kind ≡ Ms → site_of r x ≡ Some s
-          → P (Registered s.prefix (locators_of r z.group)))
+      → P (Registered s.prefix (locators_of r z.group)))
     where
       by_role : (z : Zone) (role : Role) → zone_of r x ≡ Some z → z.kind ≡ role → P (assigned_in r z role x)
       by_role z Node here kind = hole z Node here kind

@@ -22,8 +22,11 @@ module _ (a b : List ℕ) (m n : ℕ) (up : m < n → is_lt (slice_cmp nat_cmp a
     | inl same ↦ inl same
     | inr differ ↦ elim differ [
       | inl lt ↦ inr (inl (lt, less_from (slice_cmp nat_cmp a b) (up lt)))
-      | inr gt ↦ inr (inr (gt, nat_list_cmp_total.antisymm a b
-          ∙ ap ordering_reverse (less_from (slice_cmp nat_cmp b a) (down gt))))
+      | inr gt ↦ inr (inr (
+        gt,
+        nat_list_cmp_total.antisymm a b
+            ∙ ap ordering_reverse (less_from (slice_cmp nat_cmp b a) (down gt)),
+      ))
     ]
   ]
     where
@@ -100,7 +103,7 @@ module _ {E A : Type 0} (item : E → A) where
   -- a search by items is a search of the items
   pub point_of_items : (test : A → Bool) (xs : List E) (at : ℕ) → at ≤ length xs
       → (IsPartitionedBy (λ e. test (item e)) xs
-          → IsPartitionPoint (λ e. test (item e) ≡ true) (λ e. test (item e) ≡ false) xs at)
+      → IsPartitionPoint (λ e. test (item e) ≡ true) (λ e. test (item e) ≡ false) xs at)
       → IsPartitionedBy test (map item xs) → IsPartitionPoint (λ x. test x ≡ true) (λ x. test x ≡ false) (map item xs) at
   point_of_items test xs at le found parted =
       let point = found (λ i j d le inside e. rw (get_or-map item xs i d (item d) (omega arith)) at

@@ -80,7 +80,7 @@ module _ {A : Type 0} (row : A → ℕ) (test : A → Bool) where
         | None ↦ λ e n. none_of (λ x. passes_at x n) xs (λ x k. and_right (row x == n) (test x) (unfound test xs x e k))
         | Some z ↦ λ e. (
           in_any (λ x. passes_at x (row z)) xs z (found_in test xs z e)
-          (rw (eq-eqb (row z) (row z) refl, found_passes test xs z e)),
+              (rw (eq-eqb (row z) (row z) refl, found_passes test xs z e)),
           λ n lt. false_from_ne_true (item_at row test xs n) (λ q.
               let y = any_in (λ x. passes_at x n) xs q in
               let p = and_parts (row y.0 == n) (test y.0) y.2 in

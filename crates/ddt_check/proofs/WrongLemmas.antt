@@ -163,8 +163,12 @@ module _ (r : Register) where
         let m = met_by_both h g l a.0 b.0 p a.2 b.2 in
         elim (within h p.0) [
           | inl few ↦ (g.row, omega arith, column_upto m.0 k g.row (omega arith) m.2)
-          | inr many ↦ (h.row, omega arith, alone_upto k h.row (at_row h is_wrong_alone p.0
-              (search (or_left, or_right, lt-ltb 8 (length h.locators) many))))
+          | inr many ↦ (
+            h.row,
+            omega arith,
+            alone_upto k h.row (at_row h is_wrong_alone p.0
+                (search (or_left, or_right, lt-ltb 8 (length h.locators) many))),
+          )
         ]
 
     wrong_found : (n : ℕ) → broken r rules.Locators n ≡ true → (m : ℕ) × (m ≤ n) × (wrong_upto r k m ≡ true)

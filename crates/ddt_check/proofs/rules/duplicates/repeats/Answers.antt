@@ -28,7 +28,9 @@ returns g c = λ all d rises moved.
     let x = c.index-entries-at.result in
     let y = c.index-entries-at-2.result in
     c.is_same.ensures
-    ∙ rw (item_is item entries (c.args.at - 1) x d (omega arith) c.index-entries-at.is,
-    item_is item entries c.args.at y d at c.index-entries-at-2.is)
+    ∙ rw (
+      item_is item entries (c.args.at - 1) x d (omega arith) c.index-entries-at.is,
+      item_is item entries c.args.at y d at c.index-entries-at-2.is,
+    )
     (rw (← up) at (duplicate-beside key row items c.requires.sorted all (rising_from_rise row all 0 rises) moved
     (c.args.at - 1) d (omega arith)))

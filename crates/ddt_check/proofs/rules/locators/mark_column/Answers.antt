@@ -1,7 +1,8 @@
-use Rattle.std.proofs.Common.{ℕ, ◌+◌, ◌≤◌, Bool, true, List, length, sym, subst, arith}
+use Rattle.std.proofs.Common.{true, arith}
 use Rattle.std.specs.Prelude.{slice_set}
+use Rattle.std.proofs.lemmas.List.{get_or_past}
 use Rattle.ddt_check.specs.declared.rules.locators.Cell.{Cell}
-use Rattle.ddt_check.proofs.MarkLemmas.{AreMarkedTo, marked_more, marked_past}
+use Rattle.ddt_check.proofs.MarkLemmas.{mark_set, mark_kept, marked_more}
 use Rattle.ddt_check.proofs.rules.locators.mark_column.Goals as goal
 use Rattle.ddt_check.proofs.rules.locators.mark_column.Goals.{then-at-marks, else-at-marks}
 
@@ -13,14 +14,13 @@ loop-cell-preserved c =
     let cells = c.args.cells.now in
     let marks = c.loop-cell.marks in
     let at = c.loop-cell.cell-index in
+    let slot = c.slot-at.result in
+    let lt = c.loop-cell-test.true in
     elim c.if-at-marks.branch [
-      | then-at-marks w ↦ subst (λ (ms : List Bool). AreMarkedTo ms cells (at + 1)) (sym w.marks-is)
-          (subst (λ (s : ℕ). AreMarkedTo (slice_set marks s true) cells (at + 1)) (sym c.slot-at.ensures)
-          (marked_more cells marks at empty c.loop-cell-test.true c.loop-cell.invariant))
-      | else-at-marks w ↦ subst (λ (ms : List Bool). AreMarkedTo ms cells (at + 1)) (sym w.marks-is)
-          (marked_past cells marks at empty c.loop-cell-test.true
-          (subst (λ (s : ℕ). length marks ≤ s) c.slot-at.ensures
-          (let past = w.if-at-marks.false in let n = c.if-at-marks.auto.marks in omega arith)) c.loop-cell.invariant)
+      | then-at-marks w ↦ rw w.marks-is (marked_more cells marks (slice_set marks slot true) at slot empty lt
+          c.slot-at.ensures (mark_kept marks slot) (mark_set marks slot) c.loop-cell.invariant)
+      | else-at-marks w ↦ rw w.marks-is (marked_more cells marks marks at slot empty lt c.slot-at.ensures (λ s h. h)
+          (let n = c.if-at-marks.auto.marks in get_or_past marks slot true (omega arith)) c.loop-cell.invariant)
     ]
 
 pub returns : goal.returns

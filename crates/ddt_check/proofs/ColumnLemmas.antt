@@ -31,6 +31,9 @@ in_order_by_pairs pair row xs sorted = λ k d low lt.
 
 -- ---- the cells of a column
 
+abbrev pub empty : Cell
+empty = record { number = 0; family = 0; row = 0 }
+
 abbrev pub cell_row : Cell → ℕ
 cell_row x = x.row
 

@@ -1,13 +1,10 @@
 use Rattle.std.proofs.Common.{true, arith}
 use Rattle.std.specs.Prelude.{slice_set}
 use Rattle.std.proofs.lemmas.List.{get_or_past}
-use Rattle.ddt_check.specs.declared.rules.locators.Cell.{Cell}
+use Rattle.ddt_check.proofs.ColumnLemmas.{empty}
 use Rattle.ddt_check.proofs.MarkLemmas.{mark_set, mark_kept, marked_more}
 use Rattle.ddt_check.proofs.rules.locators.mark_column.Goals as goal
 use Rattle.ddt_check.proofs.rules.locators.mark_column.Goals.{then-at-marks, else-at-marks}
-
-abbrev empty : Cell
-empty = record { number = 0; family = 0; row = 0 }
 
 pub loop-cell-preserved : goal.loop-cell-preserved
 loop-cell-preserved c =

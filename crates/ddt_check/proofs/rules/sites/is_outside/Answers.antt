@@ -1,10 +1,6 @@
-use Rattle.std.proofs.Common.{rules, map, ◌-◌, ◌≤◌, length, not, sym, ap, ◌∙◌, arith}
+use Rattle.std.proofs.Common.{rules, map, ◌-◌, ◌≤◌, length, not, ap, ◌∙◌, arith}
 use Rattle.std.proofs.lemmas.List.{length-map, get_or-map}
 use Rattle.std.proofs.lemmas.List.Sorted.{IsPartitionPoint-from_clause}
-use Rattle.std.specs.Prelude.{◌&&◌}
-use Rattle.ddt_path.specs.Covers.{covers}
-use Rattle.ddt_register.specs.declared.zone.Zone.{Zone}
-use Rattle.ddt_check.specs.Zones.{is_ms}
 use Rattle.ddt_check.specs.laws.Outside.{is_up_to, up_to_parted, outside_at, outside_first}
 use Rattle.ddt_check.proofs.EntryKinds.{entry_zone}
 use Rattle.ddt_check.proofs.EntryLemmas.{point_of_items}
@@ -38,8 +34,6 @@ returns c = λ r moved single leaves.
     let ne = c.if-after-eq0.false in
     let w = c.index-zones-after.result in
     let d = entry_zone w in
-    ap not c.is_right.ensures
-    ∙ ap (λ (z : Zone). not (is_ms z.kind && covers z.prefix x))
-    (sym (get_or-map entry_zone entries (after - 1) w d (omega arith)))
-    ∙ outside_at xs c.requires x r moved after point single leaves (after - 1) d
-    (omega arith) (omega (arith, length-map entries entry_zone))
+    ap not c.is_right.ensures ∙ rw (get_or-map entry_zone entries (after - 1) w d (omega arith)) at
+    (outside_at xs c.requires x r moved after point single leaves (after - 1) d
+    (omega arith) (omega (arith, length-map entries entry_zone)))

@@ -1,4 +1,4 @@
-use Rattle.std.proofs.Common.{◌≡◌, ℕ, Some, true, false, map, sym, ap, ◌∙◌, refl}
+use Rattle.std.proofs.Common.{◌≡◌, Some, true, false, map, sym, ap, ◌∙◌, refl}
 use Rattle.std.specs.Prelude.{◌&&◌}
 use Rattle.std.specs.Option.{option_map, option_copied}
 use Rattle.std.proofs.lemmas.List.Sorted.{list_any-IsPermutation}
@@ -6,15 +6,12 @@ use Rattle.ddt_path.specs.Covers.{is_strictly_below}
 use Rattle.ddt_register.specs.declared.zone.Zone.{Zone}
 use Rattle.ddt_check.specs.Zones.{is_ms}
 use Rattle.ddt_check.specs.Rules.{is_below_map_server}
-use Rattle.ddt_check.proofs.EntryKinds.{entry_zone}
+use Rattle.ddt_check.proofs.EntryKinds.{entry_zone, zone_row}
 use Rattle.ddt_check.proofs.EntryLemmas.{item_is, inside_items, past_items}
 use Rattle.ddt_check.proofs.LeastLemmas.{passes_at, least_if, least_of_all}
 use Rattle.ddt_check.specs.laws.Below.{top_first, under_is, top_new, top_kept}
 use Rattle.ddt_check.proofs.rules.zones.below_map_server.Goals as goal
 use Rattle.ddt_check.proofs.rules.zones.below_map_server.Goals.{then-is_under, else-is_under, then-is_top, else-is_top}
-
-abbrev zone_row : Zone → ℕ
-zone_row z = z.row
 
 pub loop-entry-init : goal.loop-entry-init
 loop-entry-init c = record {

@@ -9,7 +9,7 @@ use Rattle.ddt_path.specs.Covers.{is_same_path}
 use Rattle.ddt_path.specs.laws.PathOrder.{not_below_itself}
 use Rattle.ddt_path.specs.laws.Cover.{same_path-flips}
 use Rattle.std.proofs.lemmas.Bool.{false≢true, both_ways, false_from_ne_true, cases_lt, cases_eq, cases_order, lt-ltb, le-ltb, eq-eqb, ne_eqb}
-use Rattle.std.proofs.lemmas.List.{length-map, take_all, get_or-map, get_or_default}
+use Rattle.std.proofs.lemmas.List.{length-map, get_or-map, get_or_default}
 use Rattle.std.proofs.lemmas.Grind.{common_steps}
 use Rattle.ddt_check.specs.Order.{in_order, IsInOrder}
 
@@ -75,10 +75,6 @@ item_there (x ∷ xs) i lt = let y = get_or (x ∷ xs) i x in (y, get_or_default
 pub one_more_written : {A : Type 0} (ys xs : List A) (i : ℕ) (x : A) → i < length xs → length xs ≡ length ys
     → x ≡ get_or ys i x → take i xs ≡ take i ys → take (i + 1) (slice_set xs i x) ≡ take (i + 1) ys
 one_more_written ys xs i x lt n is so_far = grind (arith, common_steps)
-
-pub all_written : {A : Type 0} (ys xs : List A) (i : ℕ) → length xs ≡ length ys → length ys ≤ i
-    → take i xs ≡ take i ys → xs ≡ ys
-all_written ys xs i n past so_far = rw (take_all i xs (omega arith), take_all i ys past) at so_far
 
 module _ {E A : Type 0} (item : E → A) where
   -- what is sorted by its items has them sorted

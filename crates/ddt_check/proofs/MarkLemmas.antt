@@ -1,11 +1,8 @@
 -- The marks of a column: a locator whose mark isn't set is none of the column's.
-use Rattle.std.proofs.Common.{◌≡◌, ℕ, ◌+◌, ◌<◌, Bool, true, false, List, length, map, get_or, IsPermutation, None, inl, inr, arith}
-use Rattle.std.specs.Prelude.{slice_set}
+use Rattle.std.proofs.Common.{◌≡◌, ℕ, ◌<◌, Bool, true, false, List, map, get_or, IsPermutation, None}
 use Rattle.std.specs.Option.{option_map}
-use Rattle.std.proofs.lemmas.Bool.{both_ways, false_from_ne_true, cases_lt}
-use Rattle.std.proofs.lemmas.List.{get_or_default}
+use Rattle.std.proofs.lemmas.Bool.{both_ways, false_from_ne_true}
 use Rattle.ddt_path.specs.declared.locator.Locator.{Locator}
-use Rattle.std.proofs.lemmas.Grind.{common_steps}
 use Rattle.ddt_path.specs.Covers.{is_same_path}
 use Rattle.ddt_path.specs.laws.Cover.{same_path}
 use Rattle.ddt_path.specs.laws.Member.{placed, found_none}
@@ -14,23 +11,8 @@ use Rattle.ddt_check.specs.declared.rules.locators.Cell.{Cell}
 use Rattle.ddt_check.specs.Columns.{locator_pair, locator_key, cell_of, cell_key, slot_of, AreMarked, first_in}
 use Rattle.ddt_check.proofs.ColumnLemmas.{group_row, first_row_in}
 
-pub mark_set : (marks : List Bool) (s : ℕ) → get_or (slice_set marks s true) s true ≡ true
-mark_set marks s = grind (arith, common_steps)
-
-pub mark_kept : (marks : List Bool) (s t : ℕ) → get_or marks t true ≡ true → get_or (slice_set marks s true) t true ≡ true
-mark_kept marks s t h = grind (arith, common_steps)
-
 abbrev pub AreMarkedTo : List Bool → List Cell → ℕ → Type 0
 AreMarkedTo marks cells n = (i : ℕ) (d : Cell) → i < n → get_or marks (slot_of (get_or cells i d).number) true ≡ true
-
-pub marked_more : (cells : List Cell) (marks new : List Bool) (at slot : ℕ) (e : Cell) → at < length cells
-    → slot ≡ slot_of (get_or cells at e).number
-    → ((s : ℕ) → get_or marks s true ≡ true → get_or new s true ≡ true) → get_or new slot true ≡ true
-    → AreMarkedTo marks cells at → AreMarkedTo new cells (at + 1)
-marked_more cells marks new at slot e inside is kept here so_far = λ i d lt. elim (cases_lt i at) [
-  | inl less ↦ kept (slot_of (get_or cells i d).number) (so_far i d less)
-  | inr more ↦ let same : i ≡ at = omega arith in rw (same, get_or_default cells at d e inside, ← is) here
-]
 
 -- a locator whose mark isn't set is none of the column's
 pub none_in_column : (r : Register) (k : ℕ) (l : Locator) (cells : List Cell) (marks : List Bool)

@@ -1,7 +1,7 @@
 use Rattle.std.proofs.Common.{map, ◌∙◌, arith}
 use Rattle.std.proofs.lemmas.List.{length-map, map-set, length-set, get_or_default}
 use Rattle.ddt_check.specs.declared.entries.Entry.{Entry}
-use Rattle.ddt_check.proofs.EntryLemmas.{one_more_written, all_written}
+use Rattle.ddt_check.proofs.EntryLemmas.{one_more_written}
 use Rattle.ddt_check.proofs.entries.write_entries.Goals as goal
 
 pub loop-at-preserved : goal.loop-at-preserved
@@ -22,12 +22,3 @@ loop-at-preserved g c =
           (c.of.ensures ∙ c.index-items-at.is ∙ get_or_default items i c.index-items-at.result x (omega arith))
           c.loop-at.invariant.written);
     }
-
-pub returns : goal.returns
-returns g c =
-    let item = λ (e : Entry g.row.T.Denot g.T.Keyed g.T.Item). e.item.now in
-    let past = c.loop-at-test.false in
-    let same = c.loop-at.invariant.same in
-    let n = c.loop-at.auto.entries in
-    all_written c.args.items.now (map item c.loop-at.entries) c.loop-at.at (length-map c.loop-at.entries item ∙ same)
-    (omega arith) c.loop-at.invariant.written

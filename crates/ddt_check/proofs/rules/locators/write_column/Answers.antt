@@ -1,7 +1,7 @@
 use Rattle.std.proofs.Common.{map, ◌∙◌, arith}
 use Rattle.std.proofs.lemmas.List.{length-map, length-set}
 use Rattle.ddt_check.specs.Columns.{cell_of}
-use Rattle.ddt_check.proofs.EntryLemmas.{all_written, one_more_written, item_is}
+use Rattle.ddt_check.proofs.EntryLemmas.{one_more_written, item_is}
 use Rattle.ddt_check.proofs.rules.locators.write_column.Goals as goal
 
 pub loop-at-preserved : goal.loop-at-preserved
@@ -20,12 +20,3 @@ loop-at-preserved c =
       written = rw c.of.ensures (one_more_written (map f groups) xs i (f g) (omega arith) (omega arith)
           (item_is f groups i g (f g) (omega arith) c.index-groups-at.is) c.loop-at.invariant.written);
     }
-
-pub returns : goal.returns
-returns c =
-    let groups = c.args.groups.now in
-    let past = c.loop-at-test.false in
-    let same = c.loop-at.invariant.same in
-    let n = length-map groups (cell_of c.args.column) in
-    all_written (map (cell_of c.args.column) groups) c.loop-at.cells c.loop-at.at (omega arith) (omega arith)
-    c.loop-at.invariant.written

@@ -9,15 +9,9 @@ use Rattle.ddt_check.specs.Rules.{is_below_map_server}
 use Rattle.ddt_check.proofs.EntryKinds.{entry_zone, zone_row}
 use Rattle.ddt_check.proofs.EntryLemmas.{item_is, inside_items, past_items}
 use Rattle.ddt_check.proofs.LeastLemmas.{passes_at, least_if, least_of_all}
-use Rattle.ddt_check.specs.laws.Below.{top_first, under_is, top_new, top_kept}
+use Rattle.ddt_check.specs.laws.Below.{under_is, top_new, top_kept}
 use Rattle.ddt_check.proofs.rules.zones.below_map_server.Goals as goal
 use Rattle.ddt_check.proofs.rules.zones.below_map_server.Goals.{then-is_under, else-is_under, then-is_top, else-is_top}
-
-pub loop-entry-init : goal.loop-entry-init
-loop-entry-init c = record {
-  rows = λ r moved n. refl;
-  top = top_first (map entry_zone c.args.entries.now);
-}
 
 pub loop-entry-preserved : goal.loop-entry-preserved
 loop-entry-preserved c =

@@ -6,7 +6,9 @@ use Rattle.ddt_check.specs.declared.fault.Rule.TheVariants as rules
 use Rattle.ddt_check.specs.Rules.{rule_number}
 
 abbrev pub all_rules : List Rule
-all_rules = rules.NoRoot ∷ rules.DuplicateZone ∷ rules.DuplicateSite ∷ rules.UnknownGroup ∷ rules.Role ∷ rules.Locators ∷ rules.BelowMapServer ∷ rules.SiteOutside ∷ rules.TooManyEtrs ∷ rules.DuplicateGroup ∷ []
+all_rules =
+    rules.NoRoot ∷ rules.DuplicateZone ∷ rules.DuplicateSite ∷ rules.UnknownGroup ∷ rules.Role ∷ rules.Locators ∷ rules.BelowMapServer
+    ∷ rules.SiteOutside ∷ rules.TooManyEtrs ∷ rules.DuplicateGroup ∷ []
 
 -- the rule of each number
 in_order : (earlier : Rule) (d : Rule) → get_or all_rules (rule_number earlier - 1) d ≡ earlier

@@ -1,8 +1,6 @@
 -- Pairs of numbers as keys, and the cells of a column.
-use Rattle.std.proofs.Common.{◌≡◌, ℕ, suc, ◌+◌, ◌<◌, Bool, true, false, cond, List, [], ◌∷◌, ◌++◌, take, length, map, find, get_or, Option, Some, None, Ordering, Less, Equal, Greater, refl, sym, ap, ◌∙◌, arith}
-use Rattle.std.specs.Prelude.{slice_set}
+use Rattle.std.proofs.Common.{◌≡◌, ℕ, ◌+◌, true, false, cond, List, [], ◌∷◌, map, find, get_or, Option, Some, Ordering, Equal, refl, ap, ◌∙◌, arith}
 use Rattle.std.specs.Option.{option_map}
-use Rattle.std.proofs.lemmas.List.{length-map, get_or-map}
 use Rattle.std.specs.List.Sorted.{IsSortedByKey}
 use Rattle.std.specs.Ordering.{nat_cmp, is_lt, ordering_then}
 use Rattle.ddt_check.specs.Order.{IsInOrder}
@@ -15,15 +13,10 @@ use Rattle.ddt_register.specs.laws.Rising.{groups_rise}
 use Rattle.ddt_register.specs.laws.RowOrder.{Rising, rising_from_rise}
 use Rattle.ddt_check.specs.declared.rules.locators.Cell.{Cell}
 use Rattle.ddt_check.specs.Columns.{key_list, column_key, locator_key, cell_of, cell_key, first_in}
-use Rattle.ddt_check.proofs.EntryLemmas.{one_more_written}
 
 regroup : (a b c : Ordering)
     → ordering_then (ordering_then a (ordering_then b Equal)) c ≡ ordering_then (ordering_then a b) c
-regroup Less b c = refl
-regroup Greater b c = refl
-regroup Equal Less c = refl
-regroup Equal Equal c = refl
-regroup Equal Greater c = refl
+regroup a b c = grind arith
 
 -- sorted by pairs and rows
 pub in_order_by_pairs : {A : Type 0} (pair : A → ℕ × ℕ) (row : A → ℕ) (xs : List A)
@@ -37,6 +30,9 @@ in_order_by_pairs pair row xs sorted = λ k d low lt.
     sorted k d low lt
 
 -- ---- the cells of a column
+
+abbrev pub empty : Cell
+empty = record { number = 0; family = 0; row = 0 }
 
 abbrev pub cell_row : Cell → ℕ
 cell_row x = x.row
@@ -52,33 +48,18 @@ pub cells_up : (r : Register) (k : ℕ) → Rising cell_row (map (cell_of k) r.g
 cells_up r k = rising_from_rise cell_row (map (cell_of k) r.groups) 0
     (ap (rise 0) (cell_rows k r.groups) ∙ groups_rise r)
 
-first_cell : (k : ℕ) (l : Locator) (gs : List Group)
-    → find (λ (x : Cell). is_same_path (cell_key x) (locator_key l)) (map (cell_of k) gs)
-    ≡ option_map (cell_of k) (find (λ (h : Group). is_same_path (column_key k h) (locator_key l)) gs)
-first_cell k l [] = refl
-first_cell k l (g ∷ gs) = go (is_same_path (column_key k g) (locator_key l)) _ _ (first_cell k l gs)
-  where
-    go : (b : Bool) (found : Option Cell) (first : Option Group) → found ≡ option_map (cell_of k) first
-        → cond b (Some (cell_of k g)) found ≡ option_map (cell_of k) (cond b (Some g) first)
-    go true found first e = refl
-    go false found first e = e
-
-row_of_cell : (k : ℕ) (o : Option Group) → option_map cell_row (option_map (cell_of k) o) ≡ option_map group_row o
-row_of_cell k None = refl
-row_of_cell k (Some g) = refl
-
 -- the row of the first cell that has a locator is that of the first group that has it in the column
 pub first_row_in : (r : Register) (k : ℕ) (l : Locator) (found : Option Cell)
     → find (λ (x : Cell). is_same_path (cell_key x) (locator_key l)) (map (cell_of k) r.groups) ≡ found
     → option_map cell_row found ≡ option_map group_row (first_in r k l)
-first_row_in r k l found e =
-    ap (option_map cell_row) (sym e ∙ first_cell k l r.groups) ∙ row_of_cell k (first_in r k l)
-
--- one cell more is written
-pub one_written : (k i : ℕ) (gs : List Group) (xs : List Cell) (g : Group) → i < length xs → length xs ≡ length gs
-    → g ≡ get_or gs i g → take i xs ≡ take i (map (cell_of k) gs)
-    → take (i + 1) (slice_set xs i (cell_of k g)) ≡ take (i + 1) (map (cell_of k) gs)
-one_written k i gs xs g lt n is so_far =
-    let f = cell_of k in
-    one_more_written (map f gs) xs i (f g) lt (n ∙ sym (length-map gs f))
-    (ap f is ∙ sym (get_or-map f gs i g (f g) (omega arith))) so_far
+first_row_in r k l found e = rw (← e) (go r.groups)
+  where
+    go : (gs : List Group) → option_map cell_row (find (λ x. is_same_path (cell_key x) (locator_key l)) (map (cell_of k) gs))
+        ≡ option_map group_row (find (λ h. is_same_path (column_key k h) (locator_key l)) gs)
+    go [] = refl
+    go (g ∷ gs) = elim (is_same_path (column_key k g) (locator_key l)) as (λ b. option_map cell_row (cond b (Some (cell_of k g))
+        (find (λ x. is_same_path (cell_key x) (locator_key l)) (map (cell_of k) gs)))
+        ≡ option_map group_row (cond b (Some g) (find (λ h. is_same_path (column_key k h) (locator_key l)) gs))) [
+          | true ↦ refl
+          | false ↦ go gs
+        ]

@@ -11,5 +11,8 @@ use Rattle.ddt_check.specs.contracts.keyed.GroupKeyed.TheImpl as group_keyed
 abbrev pub entry_zone : Entry Zone zone_keyed.ghosts zone_item.ghosts → Zone
 entry_zone e = e.item.now
 
+abbrev pub zone_row : Zone → ℕ
+zone_row z = z.row
+
 abbrev pub entry_group : Entry Group group_keyed.ghosts group_item.ghosts → Group
 entry_group e = e.item.now

@@ -1,5 +1,5 @@
-pub mod LeastRowLemmas
 pub mod RootLemmas
+pub mod CaseLemmas
 pub mod SaysLemmas
 pub mod NegativeLemmas
 pub mod FreeLemmas

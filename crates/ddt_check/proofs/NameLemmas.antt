@@ -1,10 +1,11 @@
 -- The first item of a key in a list whose rows rise, by the place where a search of the sorted list ends.
-use Rattle.std.proofs.Common.{◌≡◌, ℕ, ◌<◌, ◌≤◌, Bool, true, false, List, length, get_or, IsPermutation, find, Some, None, inl, inr, refl, sym, ap, subst, ◌∙◌, arith}
+use Rattle.std.proofs.Common.{◌≡◌, ℕ, ◌<◌, ◌≤◌, Bool, true, false, List, length, get_or, IsPermutation, find, Some, None, inl, inr, sym, ◌∙◌, arith}
 use Rattle.std.specs.List.Sorted.{IsPartitionedBy, IsPartitionPoint}
 use Rattle.std.specs.Ordering.{nat_cmp, is_lt}
-use Rattle.std.specs.Cmp.Lexicographic.{slice_cmp, bytes_decides}
+use Rattle.std.specs.Cmp.Lexicographic.{slice_cmp}
 use Rattle.std.proofs.lemmas.Bool.{both_ways, false_from_ne_true, cases_lt}
 use Rattle.ddt_path.specs.Covers.{is_same_path}
+use Rattle.ddt_path.specs.laws.Cover.{same_path, path_itself}
 use Rattle.ddt_check.specs.Order.{IsInOrder}
 use Rattle.ddt_path.specs.laws.Member.{IsIn, placed, placed_in, found_none}
 use Rattle.ddt_register.specs.laws.RowOrder.{Rising, found_first}
@@ -32,7 +33,7 @@ module _ {A : Type 0} (key : A → List ℕ) (row : A → ℕ) (xs : List A) (so
           let c = placed zs xs moved h k d in
           elim (cases_lt c.0 at) [
             | inl before ↦ absurd (both_ways (is_below h) (not_below_itself (key h) name e)
-                (subst (λ (x : A). is_below x ≡ true) (sym c.2) (point.0 c.0 d (omega arith) before)))
+                (rw (← c.2) at (point.0 c.0 d (omega arith) before)))
             | inr behind ↦ (c.0, behind, c.1, c.2)
           ]
 
@@ -42,21 +43,16 @@ module _ {A : Type 0} (key : A → List ℕ) (row : A → ℕ) (xs : List A) (so
           found_first row has_key zs g up (placed_in zs xs moved at d inside) e
           (λ h k lt. false_from_ne_true (has_key h) (λ f.
           let p = placed_from h k f d in
-          let one : key g ≡ key h = (bytes_decides (key g) name).0 e ∙ sym ((bytes_decides (key h) name).0 f) in
-          let le : row g ≤ row h = subst (λ (x : A). row g ≤ row x) (sym p.3)
-          ((far key row xs sorted at p.0 d p.1 p.2).1 (subst (λ (q : List ℕ). is_same_path (key g) q ≡ true)
-          (one ∙ ap key p.3) ((bytes_decides (key g) (key g)).1 refl))) in
+          let one : key g ≡ key h = same_path (key g) name e ∙ sym (same_path (key h) name f) in
+          let le : row g ≤ row h = (rw (← p.3) at (far key row xs sorted at p.0 d p.1 p.2)).1
+          (path_itself (key g) (key h) one) in
           absurd (omega arith)))
 
-      pub no_key_past : length xs ≤ at → find has_key zs ≡ None
-      no_key_past past = found_none has_key zs (λ h k. false_from_ne_true (has_key h)
-          (λ e. let p = placed_from h k e h in absurd (omega (arith, p.1, p.2))))
-
-      pub no_key_at : (d : A) → at < length xs → has_key (get_or xs at d) ≡ false → find has_key zs ≡ None
-      no_key_at d inside out = found_none has_key zs (λ h k. false_from_ne_true (has_key h) (λ e.
-          let p = placed_from h k e d in
-          let g = get_or xs at d in
-          let down : IsUpTo name (key g) = point.1 at d (omega arith) inside in
-          let one : key (get_or xs p.0 d) ≡ name = ap key (sym p.3) ∙ (bytes_decides (key h) name).0 e in
-          let rise_ : IsUpTo (key g) name = subst (IsUpTo (key g)) one (far key row xs sorted at p.0 d p.1 p.2).0 in
-          both_ways (has_key g) out (same_from_ties (key g) name rise_ down)))
+      pub no_key : ((d : A) → at < length xs → has_key (get_or xs at d) ≡ false) → find has_key zs ≡ None
+      no_key none = found_none has_key zs (λ h k. false_from_ne_true (has_key h) (λ e.
+          let p = placed_from h k e h in
+          let inside : at < length xs = omega (arith, p.1, p.2) in
+          let g = get_or xs at h in
+          let up_to : IsUpTo (key g) (key h) = (rw (← p.3) at (far key row xs sorted at p.0 h p.1 p.2)).0 in
+          both_ways (has_key g) (none h inside) (same_from_ties (key g) name (rw (same_path (key h) name e) at up_to)
+          (point.1 at h (omega arith) inside))))

@@ -6,7 +6,7 @@ ghost use Rattle.ddt_check.specs.Rules.{IsAccepted};
 ghost use Rattle.ddt_check.specs.Zones.{group_named as group_of_name, roots as roots_of};
 ghost use Rattle.ddt_check.specs.laws.Statements.{AreServers};
 
-use crate::assigning::servers_of;
+use crate::assignment::servers_of;
 use crate::lookup;
 use ddt_path::{Locator, LocatorSet, Name, Prefix, Xeid};
 use ddt_register::{Group, Register};

@@ -4,7 +4,7 @@
 ghost use Rattle.std.specs.Prelude.{◌≡◌, ◌&&◌};
 ghost use Rattle.std.specs.List.{list_any};
 ghost use Rattle.ddt_path.specs.Path.{xeid_path};
-ghost use Rattle.ddt_path.specs.Covers.{is_strictly_below, overlaps as overlap, covers as cover};
+ghost use Rattle.ddt_path.specs.Covers.{is_strictly_below as strictly_below, overlaps as overlap, covers as cover};
 ghost use Rattle.ddt_path.specs.Free.{overlaps_none as overlaps_none_of, hole_of};
 ghost use Rattle.ddt_check.specs.Assignment.{prefixes_in, prefixes_inside, part_of_site as part_of_site_at};
 
@@ -67,7 +67,7 @@ fn overlaps_none(register: &Register, authority: Prefix, inside: Inside, part: P
 }
 
 fn overlaps_zone_below(register: &Register, authority: Prefix, part: Prefix) -> bool
-    ensures { result ≡ list_any (λ y. is_strictly_below y.prefix authority && overlap y.prefix part) register.now.zones }
+    ensures { result ≡ list_any (λ y. strictly_below y.prefix authority && overlap y.prefix part) register.now.zones }
 {
     let zones = register.zones.as_slice();
     zones.iter().any(|y| y.prefix.is_strictly_below(authority) && y.prefix.overlaps(part))
@@ -83,7 +83,7 @@ fn overlaps_site_within(register: &Register, authority: Prefix, part: Prefix) ->
 }
 
 fn overlaps_site_below(register: &Register, authority: Prefix, part: Prefix) -> bool
-    ensures { result ≡ list_any (λ s. is_strictly_below s.prefix authority && overlap s.prefix part) register.now.sites }
+    ensures { result ≡ list_any (λ s. strictly_below s.prefix authority && overlap s.prefix part) register.now.sites }
 {
     let sites = register.sites.as_slice();
     sites.iter().any(|s| s.prefix.is_strictly_below(authority) && s.prefix.overlaps(part))

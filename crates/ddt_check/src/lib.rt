@@ -1,30 +1,30 @@
 //! The check of a register, and what an accepted one says: which Map-Servers or which hole it assigns to an
 //! identifier, and what an honest server answers.
 //!
-//! In reading order: `fault`, `accepted`, `checking` (with `frames`, `entries`, `keyed`, `fronts` and `rules` below it),
-//! `assigning` (with `lookup` and `holes` below it), `saying`, `laws`.
+//! In reading order: `fault`, `accepted`, `ten_rules` (with `frames`, `entries`, `keyed`, `fronts` and `rules` below it),
+//! `assignment` (with `lookup` and `holes` below it), `honest_answer`, `laws`.
 #![tactic(auto)]
 
 mod accepted;
-mod assigning;
-mod checking;
+mod assignment;
 mod entries;
 mod fault;
 mod frames;
 mod fronts;
 mod holes;
+mod honest_answer;
 mod keyed;
 mod laws;
 mod lookup;
 mod rules;
-mod saying;
+mod ten_rules;
 
 pub use accepted::{Accepted, Counts};
-pub use assigning::assign;
-pub use checking::check;
+pub use assignment::assign;
 pub use fault::{Fault, Rule};
+pub use honest_answer::says;
 pub use laws::{
     each_identifier_has_a_zone, each_zone_has_servers, honest_servers_lead_to_the_assignment,
     negatives_hold_of_all_that_they_cover,
 };
-pub use saying::says;
+pub use ten_rules::check;

@@ -1,4 +1,4 @@
-use Rattle.std.proofs.Common.{◌≡◌, ◌<◌, ◌∙◌, arith}
+use Rattle.std.proofs.Common.{◌≡◌, ◌∙◌, arith}
 use Rattle.ddt_check.proofs.EntryLemmas.{same_by_front}
 use Rattle.ddt_check.proofs.entries.is_same.Goals as goal
 

@@ -1,4 +1,3 @@
-use Rattle.std.proofs.Common.{List, IsPermutation, map, subst}
 use Rattle.std.proofs.lemmas.List.Sorted.{IsPermutation-map}
 use Rattle.ddt_check.specs.declared.entries.Entry.{Entry}
 use Rattle.ddt_check.proofs.entries.sort_items.Goals as goal
@@ -6,5 +5,5 @@ use Rattle.ddt_check.proofs.entries.sort_items.Goals as goal
 pub returns-clause-moved : goal.returns-clause-moved
 returns-clause-moved g c =
     let item = λ (e : Entry g.row.T.Denot g.T.Keyed g.T.Item). e.item.now in
-    subst (λ (xs : List _). IsPermutation xs (map item c.sort_entries.new.entries)) c.write_entries.ensures
+    rw c.write_entries.ensures at
     (IsPermutation-map item c.write_entries.new.entries c.sort_entries.new.entries c.sort_entries.ensures.moved)

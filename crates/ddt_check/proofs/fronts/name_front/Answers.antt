@@ -1,6 +1,5 @@
-use Rattle.std.proofs.Common.{◌≡◌, ℕ, ◌+◌, ◌*◌, ◌<◌, ◌≤◌, ◌^◌, ap, ◌∙◌, arith}
-use Rattle.ddt_check.specs.Fronts.{name_front}
-use Rattle.ddt_check.specs.laws.Fronts.{IsFrontTo, front_next, front_room, front_done}
+use Rattle.std.proofs.Common.{◌∙◌, arith}
+use Rattle.ddt_check.specs.laws.Fronts.{front_next, front_room}
 use Rattle.ddt_check.proofs.fronts.name_front.Goals as goal
 
 pub overflow_mul-front : goal.overflow_mul-front
@@ -17,19 +16,9 @@ overflow_add-front c =
     c.loop-place.invariant.fits in
     omega arith
 
-pub loop-place-init : goal.loop-place-init
-loop-place-init c = record { so_far = omega arith; fits = omega arith }
-
 pub loop-place-preserved : goal.loop-place-preserved
 loop-place-preserved c =
     let small = c.byte_at.type_inv in
     let same = c.from.ensures in
     front_next c.as_bytes-bytes.result.now c.loop-place.place c.loop-place.front c.from.result c.loop-place-test.true
     (omega arith) (c.from.ensures ∙ c.byte_at.ensures) c.loop-place.invariant
-
-pub returns : goal.returns
-returns c =
-    let up = c.loop-place.auto.place-end in
-    let down = c.loop-place-test.false in
-    front_done c.as_bytes-bytes.result.now c.loop-place.place c.loop-place.front (omega arith) c.loop-place.invariant
-    ∙ ap name_front c.as_bytes-bytes.ensures.bytes

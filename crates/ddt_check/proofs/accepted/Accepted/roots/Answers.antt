@@ -1,11 +1,13 @@
 use Rattle.std.proofs.Common.{◌∙◌, sym, ap, []}
 use Rattle.std.proofs.lemmas.Option.{none-some}
+<<<<<<< HEAD
 use Rattle.ddt_path.specs.declared.matches.Preference.TheVariants.{Longest}
+=======
+>>>>>>> 3518a7d2141699e95cc1517b0c0f71b406f8c422
 use Rattle.ddt_check.specs.Zones.{zone_of}
 use Rattle.ddt_check.specs.laws.Root.{zone_found}
-use Rattle.ddt_check.specs.laws.Zone.{zone_prefix}
-use Rattle.ddt_path.specs.laws.Matching.{best_member}
 use Rattle.ddt_check.specs.laws.Kept.{servers_of_zone}
+use Rattle.ddt_check.proofs.CaseLemmas.{in_zone}
 use Rattle.ddt_check.proofs.accepted.Accepted.roots.Goals as goal
 
 pub returns-in-Some-clause-count : goal.returns-in-Some-clause-count
@@ -13,7 +15,7 @@ returns-in-Some-clause-count c =
     let r = c.self.inside.register in
     let found = ap (zone_of r) (sym c.everything.ensures) ∙ sym c.in-Some.ensures in
     let zone = c.in-Some.zone in
-    rw (c.servers_of.ensures, ← c.self.view_is) (servers_of_zone r c.self.invariant zone (best_member Longest zone_prefix [] r.zones zone found).0)
+    rw (c.servers_of.ensures, ← c.self.view_is) (servers_of_zone r c.self.invariant zone (in_zone r [] zone found).0)
 
 pub returns-in-None-clause-count : goal.returns-in-None-clause-count
 returns-in-None-clause-count c =

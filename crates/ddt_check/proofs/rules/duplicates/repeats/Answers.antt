@@ -1,11 +1,8 @@
-use Rattle.std.proofs.Common.{◌≡◌, ℕ, ◌+◌, ◌-◌, ◌<◌, length, map, get_or, sym, ap, ◌∙◌, arith}
-use Rattle.std.proofs.lemmas.List.{length-map}
-use Rattle.ddt_path.specs.Covers.{is_same_path}
+use Rattle.std.proofs.Common.{◌≡◌, ◌+◌, ◌-◌, ◌<◌, length, map, sym, ◌∙◌, arith}
 use Rattle.ddt_register.specs.laws.RowOrder.{rising_from_rise}
 use Rattle.ddt_check.specs.declared.entries.Entry.{Entry}
-use Rattle.ddt_check.specs.Rules.{is_duplicate}
 use Rattle.ddt_check.specs.laws.Order.{duplicate-beside, duplicate-first}
-use Rattle.ddt_check.proofs.EntryLemmas.{inside_items, item_at_any}
+use Rattle.ddt_check.proofs.EntryLemmas.{inside_items, item_is}
 use Rattle.ddt_check.proofs.rules.duplicates.repeats.Goals as goal
 
 pub returns-then-at-eq0 : goal.returns-then-at-eq0
@@ -16,8 +13,7 @@ returns-then-at-eq0 g c = λ all d rises moved.
     let items = map item c.args.entries.now in
     let zero : c.args.at ≡ 0 = c.if-at-eq0.true in
     let lt : c.args.at < length items = inside_items item c.args.entries.now c.args.at c.requires.inside in
-    sym (ap (λ (k : ℕ). is_duplicate key row all (get_or items k d)) zero
-    ∙ duplicate-first key row items c.requires.sorted all (rising_from_rise row all 0 rises) moved d (omega arith))
+    rw zero (sym (duplicate-first key row items c.requires.sorted all (rising_from_rise row all 0 rises) moved d (omega arith)))
 
 pub returns : goal.returns
 returns g c = λ all d rises moved.
@@ -32,11 +28,9 @@ returns g c = λ all d rises moved.
     let x = c.index-entries-at.result in
     let y = c.index-entries-at-2.result in
     c.is_same.ensures
-    ∙ ap (λ (z : _). is_same_path (key z) (key (item y)))
-    (item_at_any item entries (c.args.at - 1) x d (omega arith) c.index-entries-at.is)
-    ∙ ap (λ (z : _). is_same_path (key (get_or items (c.args.at - 1) d)) (key z))
-    (item_at_any item entries c.args.at y d at c.index-entries-at-2.is)
-    ∙ ap (λ (k : ℕ). is_same_path (key (get_or items (c.args.at - 1) d)) (key (get_or items k d))) up
-    ∙ duplicate-beside key row items c.requires.sorted all (rising_from_rise row all 0 rises) moved (c.args.at - 1) d
-    (omega arith)
-    ∙ ap (λ (k : ℕ). is_duplicate key row all (get_or items k d)) (sym up)
+    ∙ rw (
+      item_is item entries (c.args.at - 1) x d (omega arith) c.index-entries-at.is,
+      item_is item entries c.args.at y d at c.index-entries-at-2.is,
+    )
+    (rw (← up) at (duplicate-beside key row items c.requires.sorted all (rising_from_rise row all 0 rises) moved
+    (c.args.at - 1) d (omega arith)))

@@ -1,9 +1,9 @@
-use Rattle.std.proofs.Common.{List, get_or, drop, ap, ◌∙◌, subst}
+use Rattle.std.proofs.Common.{get_or, drop}
 use Rattle.ddt_path.specs.declared.locator.Locator.{Locator}
 use Rattle.ddt_path.specs.declared.locator.Locator.TheVariants.{V4}
-use Rattle.ddt_check.specs.Rules.{IsLeastRow}
+use Rattle.std.proofs.lemmas.List.Sorted.{IsPermutation-refl}
 use Rattle.ddt_check.specs.Columns.{meets_at}
-use Rattle.ddt_check.proofs.LeastLemmas.{any_at, least_next, least_walked}
+use Rattle.ddt_check.proofs.LeastLemmas.{least_next, least_of_all}
 use Rattle.std.proofs.lemmas.List.{get_or_default}
 use Rattle.ddt_check.proofs.rules.locators.least_meeting.Goals as goal
 
@@ -18,8 +18,7 @@ loop-l-preserved c = λ r moved.
 
 pub returns : goal.returns
 returns c = λ r moved.
-    let at = λ (x : Locator). meets_at r c.args.column c.args.g.now x in
-    subst (λ (ls : List Locator). IsLeastRow (any_at at ls) c.loop-l.least)
-    (c.locators_from-locators.ensures ∙ ap (drop c.args.column) c.as_slice.ensures)
-    (least_walked at c.locators_from-locators.result.now c.loop-l.l-index c.loop-l.least c.loop-l.auto.l-index-end
-    c.loop-l-test.false (c.loop-l.invariant r moved))
+    least_of_all (λ (x : Locator). meets_at r c.args.column c.args.g.now x) (drop c.args.column c.args.g.now.locators)
+    c.locators_from-locators.result.now c.loop-l.l-index c.loop-l.least
+    (rw (c.locators_from-locators.ensures, c.as_slice.ensures) (IsPermutation-refl (drop c.args.column c.args.g.now.locators)))
+    c.loop-l-test.false (c.loop-l.invariant r moved)

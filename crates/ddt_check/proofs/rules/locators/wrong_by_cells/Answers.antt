@@ -1,8 +1,7 @@
-use Rattle.std.proofs.Common.{◌≡◌, ℕ, List, sym, ap, subst, ◌∙◌, arith, add-one}
+use Rattle.std.proofs.Common.{◌≡◌, List, sym, ap, ◌∙◌, arith, add-one}
 use Rattle.std.specs.Prelude.{nat_lt, length}
 use Rattle.std.specs.List.{list_any}
 use Rattle.ddt_register.specs.declared.group.Group.{Group}
-use Rattle.ddt_check.specs.Rules.{IsLeastRow}
 use Rattle.ddt_check.specs.Columns.{is_met}
 use Rattle.ddt_check.proofs.LeastLemmas.{least_both}
 use Rattle.ddt_check.proofs.WrongLemmas.{wrong_upto, least_wrong, within_8, within_none}
@@ -14,10 +13,8 @@ loop-column-preserved c =
     record {
       same = c.sort_column.ensures.length;
       rows = λ r same.
-          subst (λ (j : ℕ). IsLeastRow (wrong_upto r j) c.lower_of-least.result) (sym (add-one k))
-          (rw c.lower_of-least.ensures
-          (least_both (wrong_upto r k) (is_met r k) c.loop-column.least c.shared.result
-          (c.loop-column.invariant.rows r same) (c.shared.ensures r same)));
+          rw (add-one k, c.lower_of-least.ensures) (least_both (wrong_upto r k) (is_met r k) c.loop-column.least
+          c.shared.result (c.loop-column.invariant.rows r same) (c.shared.ensures r same));
     }
 
 pub returns-then-not-has_column : goal.returns-then-not-has_column
@@ -26,12 +23,11 @@ returns-then-not-has_column c = λ r same.
     let longer = λ (g : Group). nat_lt k (length g.locators) in
     let none : _ = ap (λ (gs : List Group). list_any longer gs) same ∙ sym c.has_column.ensures
     ∙ c.if-not-has_column.true in
-    least_wrong r k c.loop-column.least (within_none r k none) (c.loop-column.invariant.rows r same)
+    least_wrong r k (within_none r k none) c.loop-column.least (c.loop-column.invariant.rows r same)
 
 pub returns : goal.returns
 returns c = λ r same.
     let up = c.loop-column.auto.column-end in
     let down = c.loop-column-test.false in
     let all : c.loop-column.column ≡ 8 = omega arith in
-    least_wrong r 8 c.loop-column.least (within_8 r) (subst
-    (λ (k : ℕ). IsLeastRow (wrong_upto r k) c.loop-column.least) all (c.loop-column.invariant.rows r same))
+    least_wrong r 8 (within_8 r) c.loop-column.least (rw all at (c.loop-column.invariant.rows r same))

@@ -1,13 +1,9 @@
-use Rattle.std.proofs.Common.{rules, map, ◌-◌, ◌≤◌, length, not, sym, ap, ◌∙◌, arith}
+use Rattle.std.proofs.Common.{rules, map, ◌-◌, ◌≤◌, length, not, ap, ◌∙◌, arith}
 use Rattle.std.proofs.lemmas.List.{length-map, get_or-map}
 use Rattle.std.proofs.lemmas.List.Sorted.{IsPartitionPoint-from_clause}
-use Rattle.std.specs.Prelude.{◌&&◌}
-use Rattle.ddt_path.specs.Covers.{covers}
-use Rattle.ddt_register.specs.declared.zone.Zone.{Zone}
-use Rattle.ddt_check.specs.Zones.{is_ms}
 use Rattle.ddt_check.specs.laws.Outside.{is_up_to, up_to_parted, outside_at, outside_first}
 use Rattle.ddt_check.proofs.EntryKinds.{entry_zone}
-use Rattle.ddt_check.proofs.EntryLemmas.{parted_entries, point_of_items}
+use Rattle.ddt_check.proofs.EntryLemmas.{point_of_items}
 use Rattle.ddt_check.proofs.rules.sites.is_outside.Goals as goal
 
 pub returns-then-after-eq0 : goal.returns-then-after-eq0
@@ -16,11 +12,12 @@ returns-then-after-eq0 c = λ r moved single leaves.
     let xs = map entry_zone entries in
     let x = c.args.s.now.prefix in
     let test = is_up_to xs c.requires x in
-    let point = point_of_items entry_zone test entries c.partition_point-after.result c.partition_point-after.ensures.bound
-    (IsPartitionPoint-from_clause (λ e. test (entry_zone e)) entries c.partition_point-after.result
-    c.partition_point-after.ensures.partitioned (parted_entries entry_zone test entries (up_to_parted xs c.requires x))
-    (λ a r q k. search (rules, c.of-site.ensures))) in
-    outside_first xs c.requires x r moved c.partition_point-after.result point c.if-after-eq0.true
+    let after = c.partition_point-after.result in
+    let point = point_of_items entry_zone test entries after c.partition_point-after.ensures.bound
+    (λ p. IsPartitionPoint-from_clause (λ e. test (entry_zone e)) entries after
+    c.partition_point-after.ensures.partitioned p (λ a r q k. search (rules, c.of-site.ensures)))
+    (up_to_parted xs c.requires x) in
+    outside_first xs c.requires x r moved after point c.if-after-eq0.true
 
 pub returns : goal.returns
 returns c = λ r moved single leaves.
@@ -30,15 +27,13 @@ returns c = λ r moved single leaves.
     let after = c.partition_point-after.result in
     let test = is_up_to xs c.requires x in
     let point = point_of_items entry_zone test entries after c.partition_point-after.ensures.bound
-    (IsPartitionPoint-from_clause (λ e. test (entry_zone e)) entries after
-    c.partition_point-after.ensures.partitioned (parted_entries entry_zone test entries (up_to_parted xs c.requires x))
-    (λ a r q k. search (rules, c.of-site.ensures))) in
+    (λ p. IsPartitionPoint-from_clause (λ e. test (entry_zone e)) entries after
+    c.partition_point-after.ensures.partitioned p (λ a r q k. search (rules, c.of-site.ensures)))
+    (up_to_parted xs c.requires x) in
     let most : after ≤ length entries = c.partition_point-after.ensures.bound in
     let ne = c.if-after-eq0.false in
     let w = c.index-zones-after.result in
     let d = entry_zone w in
-    ap not c.is_right.ensures
-    ∙ ap (λ (z : Zone). not (is_ms z.kind && covers z.prefix x))
-    (sym (get_or-map entry_zone entries (after - 1) w d (omega arith)))
-    ∙ outside_at xs c.requires x r moved after point single leaves (after - 1) d
-    (omega arith) (omega (arith, length-map entries entry_zone))
+    ap not c.is_right.ensures ∙ rw (get_or-map entry_zone entries (after - 1) w d (omega arith)) at
+    (outside_at xs c.requires x r moved after point single leaves (after - 1) d
+    (omega arith) (omega (arith, length-map entries entry_zone)))

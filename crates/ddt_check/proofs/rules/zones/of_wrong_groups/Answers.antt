@@ -1,15 +1,12 @@
-use Rattle.std.proofs.Common.{ℕ, not, false, ap, ◌∙◌}
+use Rattle.std.proofs.Common.{not, false, ap, ◌∙◌}
 use Rattle.std.specs.Prelude.{is_some, Option}
 use Rattle.std.specs.Option.{option_map_or}
-use Rattle.ddt_register.specs.declared.zone.Zone.{Zone}
 use Rattle.ddt_register.specs.declared.group.Group.{Group}
 use Rattle.ddt_check.specs.Zones.{is_same_role}
 use Rattle.ddt_check.specs.Rules.{is_of_unknown_group, is_of_other_role}
-use Rattle.ddt_check.proofs.LeastLemmas.{least_if, least_of_all}
+use Rattle.ddt_check.proofs.EntryKinds.{zone_row}
+use Rattle.ddt_check.proofs.LeastLemmas.{passes_at, least_if, least_of_all}
 use Rattle.ddt_check.proofs.rules.zones.of_wrong_groups.Goals as goal
-
-abbrev zone_row : Zone → ℕ
-zone_row z = z.row
 
 pub loop-z-preserved : goal.loop-z-preserved
 loop-z-preserved c =
@@ -35,10 +32,10 @@ loop-z-preserved c =
 
 pub returns-clause-unknown : goal.returns-clause-unknown
 returns-clause-unknown c = λ r moved grouped.
-    least_of_all zone_row (is_of_unknown_group r) r.zones c.args.zones.now c.loop-z.z-index c.loop-z.found.unknown
-    moved c.loop-z.auto.z-index-end c.loop-z-test.false (c.loop-z.invariant.unknown r grouped)
+    least_of_all (passes_at zone_row (is_of_unknown_group r)) r.zones c.args.zones.now c.loop-z.z-index c.loop-z.found.unknown
+    moved c.loop-z-test.false (c.loop-z.invariant.unknown r grouped)
 
 pub returns-clause-role : goal.returns-clause-role
 returns-clause-role c = λ r moved grouped.
-    least_of_all zone_row (is_of_other_role r) r.zones c.args.zones.now c.loop-z.z-index c.loop-z.found.role
-    moved c.loop-z.auto.z-index-end c.loop-z-test.false (c.loop-z.invariant.role r grouped)
+    least_of_all (passes_at zone_row (is_of_other_role r)) r.zones c.args.zones.now c.loop-z.z-index c.loop-z.found.role
+    moved c.loop-z-test.false (c.loop-z.invariant.role r grouped)

@@ -5,7 +5,7 @@ ghost use Rattle.ddt_path.specs.Path.{xeid_path};
 ghost use Rattle.ddt_check.specs.Says.{says as says_of, says_from, referral_to};
 
 use crate::accepted::Accepted;
-use crate::assigning::{assign, servers_of};
+use crate::assignment::{assign, servers_of};
 use crate::lookup::{next_zone, served_zone};
 use ddt_path::{Locator, Prefix, ReferralRecord, Xeid};
 use ddt_register::Zone;

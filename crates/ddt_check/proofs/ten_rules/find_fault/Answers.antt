@@ -1,5 +1,5 @@
 use Rattle.std.proofs.Common.{sym}
-use Rattle.ddt_check.proofs.checking.find_fault.Goals as goal
+use Rattle.ddt_check.proofs.ten_rules.find_fault.Goals as goal
 
 pub returns : goal.returns
 returns c =

@@ -1,5 +1,5 @@
 use Rattle.ddt_check.specs.laws.Kept.{few_locators}
-use Rattle.ddt_check.proofs.assigning.servers_of.Goals as goal
+use Rattle.ddt_check.proofs.assignment.servers_of.Goals as goal
 
 pub of_few-requires : goal.of_few-requires
 of_few-requires c =

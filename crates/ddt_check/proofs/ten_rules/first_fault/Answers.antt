@@ -3,7 +3,7 @@ use Rattle.std.proofs.lemmas.Bool.{cases_lt}
 use Rattle.ddt_check.specs.declared.fault.Rule.{Rule}
 use Rattle.ddt_check.specs.Rules.{broken, rule_number}
 use Rattle.ddt_check.proofs.RuleLemmas.{up_to, same_at}
-use Rattle.ddt_check.proofs.checking.first_fault.Goals as goal
+use Rattle.ddt_check.proofs.ten_rules.first_fault.Goals as goal
 
 pub returns-in-Some : goal.returns-in-Some
 returns-in-Some c = λ r found.

@@ -13,7 +13,7 @@ use Rattle.ddt_path.specs.Covers.{covers}
 use Rattle.ddt_path.specs.Free.{hole_of}
 use Rattle.ddt_path.specs.Matching.{longest_match}
 use Rattle.ddt_path.specs.laws.Member.{IsIn}
-use Rattle.ddt_path.specs.declared.matching.Preference.TheVariants.{Longest}
+use Rattle.ddt_path.specs.declared.matches.Preference.TheVariants.{Longest}
 use Rattle.ddt_path.specs.laws.Matching.{best_member}
 use Rattle.ddt_register.specs.declared.zone.Zone.{Zone}
 use Rattle.ddt_register.specs.declared.site.Site.{Site}

@@ -15,12 +15,8 @@ use Rattle.ddt_path.specs.laws.Cover.{covers_trans, fronts_overlap}
 use Rattle.ddt_path.specs.laws.Front.{front_below, one_front}
 use Rattle.ddt_path.specs.laws.Hole.{kept_apart, IsFreeOf, hole_of_all_or_alone}
 use Rattle.ddt_path.specs.laws.Member.{IsIn, contained}
-<<<<<<< HEAD
-use Rattle.ddt_path.specs.declared.matches.Preference.TheVariants.{Longest}
-=======
 use Rattle.ddt_path.specs.laws.Matching.{best_none, best_is}
-use Rattle.ddt_path.specs.declared.matching.Preference.TheVariants.{Longest}
->>>>>>> 3518a7d2141699e95cc1517b0c0f71b406f8c422
+use Rattle.ddt_path.specs.declared.matches.Preference.TheVariants.{Longest}
 use Rattle.ddt_register.specs.declared.zone.Zone.{Zone}
 use Rattle.ddt_register.specs.declared.site.Site.{Site}
 use Rattle.ddt_register.specs.declared.register.Register.{Register}

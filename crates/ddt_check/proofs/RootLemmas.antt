@@ -10,12 +10,8 @@ use Rattle.ddt_path.specs.Names.{is_same_name}
 use Rattle.ddt_path.specs.laws.Cover.{same_path, covered_same}
 use Rattle.ddt_path.specs.laws.Member.{IsIn, in_contained, contained, found_in, found_passes}
 use Rattle.ddt_path.specs.laws.Front.{one_front}
-<<<<<<< HEAD
-use Rattle.ddt_path.specs.declared.matches.Preference.TheVariants.{Longest}
-=======
 use Rattle.ddt_path.specs.laws.Matching.{best_unbeaten}
-use Rattle.ddt_path.specs.declared.matching.Preference.TheVariants.{Longest}
->>>>>>> 3518a7d2141699e95cc1517b0c0f71b406f8c422
+use Rattle.ddt_path.specs.declared.matches.Preference.TheVariants.{Longest}
 use Rattle.ddt_register.specs.declared.zone.Zone.{Zone}
 use Rattle.ddt_register.specs.declared.group.Group.{Group}
 use Rattle.ddt_register.specs.declared.register.Register.{Register}

@@ -15,12 +15,8 @@ use Rattle.ddt_path.specs.laws.Cover.{covers_self}
 use Rattle.ddt_path.specs.laws.Hole.{hole_covers}
 use Rattle.ddt_path.specs.laws.Filter.{filter_in}
 use Rattle.ddt_path.specs.laws.Member.{IsIn, contained}
-<<<<<<< HEAD
-use Rattle.ddt_path.specs.declared.matches.Preference.TheVariants.{Longest}
-=======
 use Rattle.ddt_path.specs.laws.Matching.{best_found}
-use Rattle.ddt_path.specs.declared.matching.Preference.TheVariants.{Longest}
->>>>>>> 3518a7d2141699e95cc1517b0c0f71b406f8c422
+use Rattle.ddt_path.specs.declared.matches.Preference.TheVariants.{Longest}
 use Rattle.ddt_register.specs.declared.zone.Zone.{Zone}
 use Rattle.ddt_register.specs.declared.register.Register.{Register}
 use Rattle.ddt_check.specs.Zones.{locators_of, served_zones}

@@ -1,9 +1,5 @@
 use Rattle.std.proofs.Common.{◌∙◌, sym, ap, []}
 use Rattle.std.proofs.lemmas.Option.{none-some}
-<<<<<<< HEAD
-use Rattle.ddt_path.specs.declared.matches.Preference.TheVariants.{Longest}
-=======
->>>>>>> 3518a7d2141699e95cc1517b0c0f71b406f8c422
 use Rattle.ddt_check.specs.Zones.{zone_of}
 use Rattle.ddt_check.specs.laws.Root.{zone_found}
 use Rattle.ddt_check.specs.laws.Kept.{servers_of_zone}

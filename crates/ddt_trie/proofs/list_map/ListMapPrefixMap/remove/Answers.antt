@@ -16,7 +16,7 @@ pub invariant_of-self : goal.invariant_of-self
 invariant_of-self g c =
     let es = c.args.self.now.entries.items in
     let place = placed _ es c.args.prefix _ _ c.deref.ensures.value c.place_of.ensures c.in_ok-at.was in
-    record { distinct = remove_distinct es _ _ c.args.prefix c.args.self.now.distinct place c.remove.ensures.items }
+    record { distinct = remove_distinct es c.remove.new.self.items _ c.args.prefix c.args.self.now.distinct place c.remove.ensures.items }
 
 pub returns-clause-before : goal.returns-clause-before
 returns-clause-before g c =

@@ -24,7 +24,7 @@ pub invariant_of-self-in-None : goal.invariant_of-self-in-None
 invariant_of-self-in-None g c =
     let es = c.args.self.now.entries.items in
     record {
-      distinct = push_keeps_distinct es _ c.args.prefix c.args.value _ c.args.self.now.distinct
+      distinct = push_keeps_distinct es c.push.new.self.items c.args.prefix c.args.value _ c.args.self.now.distinct
           (absent _ es c.args.prefix _ c.deref.ensures.value c.place_of.ensures c.in-None.is) c.push.ensures.items;
     }
 

@@ -1,5 +1,4 @@
 use Rattle.std.proofs.Common.{arith, sym, ◌∙◌, inl, inr}
-use Rattle.ddt_path.specs.Covers.{covers}
 use Rattle.ddt_trie.proofs.TreeLemmas.{step_low, step_high}
 use Rattle.ddt_trie.proofs.WayLemmas.{into_low, into_high}
 use Rattle.ddt_trie.proofs.LeafLemmas.{leaf_longest, leaf_uncovered}

@@ -1,5 +1,5 @@
 -- The way down along a path, on which the last value that was met is kept.
-use Rattle.std.proofs.Common.{◌≡◌, ℕ, ◌+◌, List, [], Some, None, Option, Bor, sym, subst, inl, inr}
+use Rattle.std.proofs.Common.{◌≡◌, ℕ, ◌+◌, List, [], Some, None, Option, Bor, inl, inr}
 use Rattle.std.specs.Prelude.{◌⊎◌, IfSome, IfNone}
 use Rattle.ddt_trie.specs.declared.tree.Tree.{Tree}
 use Rattle.ddt_trie.specs.Tree.{lookup, IsUncovered, IsLongestBelow}
@@ -27,32 +27,22 @@ module _ {V : Type 0} {at : ℕ} {t : Tree V} {y : List ℕ} {low : ℕ} {s : Tr
   abbrev pub Found : Option (ℕ × Bor V) → Type 0
   Found o = IfSome o (λ f. IsLongestBelow at t y f.0 f.1.now)
 
-  abbrev pub Nothing : Option (ℕ × Bor V) → Type 0
-  Nothing o = IfNone o (IsUncovered at t y)
-
-  met_here : (next : Option (ℕ × Bor V)) (b : Bor V) → next ≡ Some (low, b) → IsLongestBelow low s r low b.now
-      → Found next
-  met_here next b is l = subst Found (sym is) (w.below low b.now l)
-
-  not_nothing : (next : Option (ℕ × Bor V)) (b : Bor V) → next ≡ Some (low, b) → Nothing next
-  not_nothing next b is = subst Nothing (sym is) record {}
-
-  pub found_at_end : (next : Option (ℕ × Bor V)) → r ≡ [] → IsMetNext low s met next → Found next
-  found_at_end next ends m = elim m [
-    | inl f ↦ met_here next f.0 f.2 (longest_end low s r f.0.now ends f.1)
-    | inr f ↦ subst Found (sym f.1) (w.last (uncovered_end low s r ends f.0))
+  pub found_at_end : {next : Option (ℕ × Bor V)} → r ≡ [] → IsMetNext low s met next → Found next
+  found_at_end ends m = elim m [
+    | inl f ↦ rw f.2 (w.below low f.0.now (longest_end ends f.0.now f.1))
+    | inr f ↦ rw f.1 (w.last (uncovered_end ends f.0))
   ]
 
-  pub go_on : {u : Tree V} {q : List ℕ} (next : Option (ℕ × Bor V)) → IsStep low s r u q → IsMetNext low s met next
+  pub go_on : {u : Tree V} {q : List ℕ} {next : Option (ℕ × Bor V)} → IsStep low s r u q → IsMetNext low s met next
       → IsOnTheWay at t y (low + 1) u q next
-  go_on {u} {q} next step m = record {
+  go_on step m = record {
     below = λ n v l. w.below n v (longest_step step n v l);
     last = λ free. elim m [
-      | inl f ↦ met_here next f.0 f.2 (longest_here step f.0.now f.1 free)
-      | inr f ↦ subst Found (sym f.1) (w.last (uncovered_step step f.0 free))
+      | inl f ↦ rw f.2 (w.below low f.0.now (longest_here step f.0.now f.1 free))
+      | inr f ↦ rw f.1 (w.last (uncovered_step step f.0 free))
     ];
     none = λ free. elim m [
-      | inl f ↦ not_nothing next f.0 f.2
-      | inr f ↦ subst Nothing (sym f.1) (w.none (uncovered_step step f.0 free))
+      | inl f ↦ rw f.2 record {}
+      | inr f ↦ rw f.1 (w.none (uncovered_step step f.0 free))
     ];
   }

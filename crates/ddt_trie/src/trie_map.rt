@@ -40,6 +40,7 @@ impl<V: Drop> TrieMap<V> {
     }
 }
 
+#[tactic(auto, using(crate::proofs::ContentLemmas::content_rules))]
 impl<V: Drop> PrefixMap<V> for TrieMap<V> {
     ghost content = { λ m. content_of m.root };
 

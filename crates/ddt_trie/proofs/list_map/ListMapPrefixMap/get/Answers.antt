@@ -5,10 +5,10 @@ use Rattle.ddt_trie.proofs.list_map.ListMapPrefixMap.get.Goals as goal
 
 pub returns-in_err-at : goal.returns-in_err-at
 returns-in_err-at g c =
-    let es = c.args.self.now.entries.items in
-    ap option_copied c.from_residual.ensures ∙ sym (get_absent es c.args.prefix (absent c.deref.result.now es c.args.prefix c.place_of.result c.deref.ensures.value c.place_of.ensures c.in_err-at.was))
+    ap option_copied c.from_residual.ensures ∙ sym (get_absent _ c.args.prefix
+    (absent _ _ c.args.prefix _ c.deref.ensures.value c.place_of.ensures c.in_err-at.was))
 
 pub returns : goal.returns
 returns g c =
-    let es = c.args.self.now.entries.items in
-    sym (get_at es c.in_ok-at.at c.args.prefix c.index.result.now c.args.self.now.distinct (placed c.deref.result.now es c.args.prefix c.place_of.result c.in_ok-at.at c.deref.ensures.value c.place_of.ensures c.in_ok-at.was) c.index.ensures)
+    sym (get_at _ _ c.args.prefix c.index.result.now c.args.self.now.distinct
+    (placed _ _ c.args.prefix _ _ c.deref.ensures.value c.place_of.ensures c.in_ok-at.was) c.index.ensures)

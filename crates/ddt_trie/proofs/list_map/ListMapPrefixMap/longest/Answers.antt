@@ -6,13 +6,11 @@ use Rattle.ddt_trie.proofs.list_map.ListMapPrefixMap.longest.Goals as goal
 
 pub returns-in_err-prefix-clause-covered : goal.returns-in_err-prefix-clause-covered
 returns-in_err-prefix-clause-covered g c =
-    let es = c.args.self.now.entries.items in
-    λ covered. absurd (no_match_is_uncovered (xeid_path c.args.x) es
-    (asked (xeid_path c.args.x) c.deref.result.now es c.host.result _ None c.deref.ensures.value c.host.ensures.whole c.longest_match.ensures (ap option_copied c.in_err-prefix.was)) covered)
+    λ covered. absurd (no_match_is_uncovered (xeid_path c.args.x) _
+    (asked (xeid_path c.args.x) _ _ _ _ None c.deref.ensures.value c.host.ensures.whole c.longest_match.ensures (ap option_copied c.in_err-prefix.was)) covered)
 
 pub returns-clause-longest : goal.returns-clause-longest
 returns-clause-longest g c =
-    let es = c.args.self.now.entries.items in
     let found = c.in_ok-prefix.field-0.now in
-    match_is_longest (xeid_path c.args.x) es found
-    (asked (xeid_path c.args.x) c.deref.result.now es c.host.result _ (Some found) c.deref.ensures.value c.host.ensures.whole c.longest_match.ensures (ap option_copied c.in_ok-prefix.was))
+    match_is_longest (xeid_path c.args.x) _ found
+    (asked (xeid_path c.args.x) _ _ _ _ (Some found) c.deref.ensures.value c.host.ensures.whole c.longest_match.ensures (ap option_copied c.in_ok-prefix.was))

@@ -47,7 +47,7 @@ use Rattle.ddt_loop.specs.Askers.{Desk, owner_of, end_of, Takes, nobody, somebod
 use Rattle.ddt_loop.specs.Acts.{Running, running, Starts, Asks, answered, refused, lacks_memory, remembered, GoesOn, Settles, IsTold}
 use Rattle.ddt_loop.specs.Right.{WasAsked, IsRightEnd, Owes, forgotten}
 use Rattle.ddt_loop.proofs.OwnerLemmas.{all_without, all_at, others_differ}
-use Rattle.ddt_loop.proofs.PendingLemmas.{carried, no_ask_goes, owners_go_on, owners_start, started, moved_owners}
+use Rattle.ddt_loop.proofs.PendingLemmas.{carried, no_ask_goes, ask_ends_none, owners_go_on, owners_start, started, moved_owners}
 use Rattle.ddt_loop.proofs.CallLemmas.{was_asked_more, WasSent, was_sent, itr_of, itrs, itrs_push, itrs_append, itrs_at, owes_request, owes_told, end_set}
 
 -- ---- what is kept
@@ -107,9 +107,7 @@ ticked_right r s (ticked_as.GaveUp u why) t end right is =
     let e : end ≡ Err why = cc is in subst (EndsRight r s t) (sym e) right
 
 right_end : (r : Register) (s : State) (call : resolver.Call) (a : Reply) (t : ℕ) (end : Result Outcome Why) → IsRight r s call a → progress_of a ≡ Ends t end → EndsRight r s t end
-right_end r s call (ToAsk (Ok (asked_as.Answer o))) t end right is = absurd (cc is)
-right_end r s call (ToAsk (Ok (asked_as.Sent u d))) t end right is = absurd (cc is)
-right_end r s call (ToAsk (Err why)) t end right is = absurd (cc is)
+right_end r s call (ToAsk b) t end right is = absurd (ask_ends_none b t end is)
 right_end r s (Ask x) (ToDatagram h) t end right is = heard_right r s h t end right is
 right_end r s (Hear source bytes) (ToDatagram h) t end right is = heard_right r s h t end right is
 right_end r s Tick (ToDatagram h) t end right is = heard_right r s h t end right is
@@ -333,12 +331,7 @@ module _ (r : Register) (me : Locator) (ids : List Xeid) (laws : StepsKeepSoundn
       same_pending none (stays p n q) = p
       same_pending none (opens l asked place first empty fresh is more few p n f) = absurd (none at.next (request at l) (cc f))
       same_pending none (sends t old l here same goes is more p n) = absurd (no_ask_goes at (Ask x) res t old l goes)
-      same_pending none (drops t l e here p n f why) = absurd (no_end res t e f)
-        where
-          no_end : (b : Result Asked AskError) (t : ℕ) (e : Result Outcome Why) → progress_of (ToAsk b) ≡ Ends t e → ⊥
-          no_end (Ok (asked_as.Answer o)) t e f = cc f
-          no_end (Ok (asked_as.Sent u d)) t e f = cc f
-          no_end (Err why) t e f = cc f
+      same_pending none (drops t l e here p n f why) = absurd (ask_ends_none res t e f)
 
       pub kept_quiet : ((t : ℕ) (d : Outgoing) → res ≡ Ok (asked_as.Sent t d) → ⊥) → desk ≡ w.desk → IsKept r me ids (calls ++ tries) (running new desk)
       kept_quiet none e =
@@ -367,7 +360,7 @@ module _ (r : Register) (me : Locator) (ids : List Xeid) (laws : StepsKeepSoundn
           (owners_start at in_order x new (asked_as.Sent t d) step me who w.desk tries desk (moved_owners w.state now w.desk.owners k.owned) starts)
           (subst (λ (z : Desk). All (WaitsFor ids new) z.owners) (sym starts.1)
           (All-push (WaitsFor ids new) w.desk.owners (owner_of t who)
-          (all_wait calls w k now le (Ask x) new (ToAsk (Ok (asked_as.Sent t d))) step tt w.desk.owners (λ i o lt end e. cc e) k.waits)
+          (all_wait calls w k now le (Ask x) new (ToAsk (Ok (asked_as.Sent t d))) step tt w.desk.owners (λ i o lt end. ask_ends_none (Ok (asked_as.Sent t d)) _ end) k.waits)
           (numbered at l, ap (λ z. get z t) opened.4 ∙ ap (get (insert at.pending at.next (numbered at l))) opened.2 ∙ get-insert_same at.pending at.next (numbered at l), subst (AsksFor ids who) its_x wants)))
           (subst (λ (z : Desk). AllZip (IsRightEnd r) ids z.ends) (sym starts.1) k.ends)
 

@@ -1,15 +1,18 @@
 -- The asks and the turns so far.
-use Rattle.std.proofs.Common.{◌≡◌, ℕ, zero, suc, ◌+◌, ◌-◌, ◌<◌, List, [], ◌∷◌, ◌++◌, length, true, Some, arith, refl, sym, ap, ◌∙◌}
-use Rattle.std.specs.Prelude.{Option, slice_get}
+use Rattle.std.proofs.Common.{◌≡◌, ℕ, zero, suc, ◌+◌, ◌-◌, ◌<◌, List, [], ◌∷◌, ◌++◌, length, true, Some, arith, refl, sym, ap, ◌∙◌, inl, None, Ok}
+use Rattle.std.specs.Prelude.{Option, slice_get, IfNone}
 use Rattle.ddt_path.specs.declared.locator.Locator.{Locator}
 use Rattle.ddt_path.specs.declared.xeid.Xeid.{Xeid}
 use Rattle.ddt_config.specs.Table.{Outline}
 use Rattle.ddt_wires.specs.declared.call.Call.{Call}
-use Rattle.ddt_wires.specs.Calls.{Tells}
+use Rattle.ddt_wires.specs.declared.call.Call.TheVariants.{Received}
+use Rattle.ddt_wires.specs.declared.call.Packet.{Packet}
+use Rattle.ddt_wires.specs.Calls.{Tells, received}
+use Rattle.ddt_wires.specs.Turns.{most_bytes}
 use Rattle.ddt_wires.specs.laws.Tell.{tells_both, tells_none}
 use Rattle.ddt_loop.specs.Askers.{AreOwners, has_unresolved}
 use Rattle.ddt_loop.specs.Acts.{Running, AsksAt}
-use Rattle.ddt_loop.specs.Polls.{PollsMe, PollsServer, Polls}
+use Rattle.ddt_loop.specs.Polls.{IsNoPacket, PollsMe, PollsServer, Polls}
 use Rattle.ddt_loop.specs.Turns.{HaveAsked, no_ask, one_ask, IsTurn, HaveTurned, no_turn, one_turn}
 
 -- ---- the asks
@@ -35,6 +38,12 @@ asking_on before midway told me now ids start w new place x more so_far its tell
 }
 
 -- ---- a poll
+
+-- the call of `receive` that gives no packet
+pub unanswered : (at : Locator) (answer : Option Packet) (buffer : List ℕ) (before after : Option (List Call)) → length buffer ≡ most_bytes → Tells before (received at (Ok answer) buffer ∷ []) after
+    → IfNone answer ((call : Call) × IsNoPacket at call × Tells before (call ∷ []) after)
+unanswered at None buffer before after room told = (received at (Ok None) buffer, inl (ap (λ n. Received at n (Ok None) []) room), told)
+unanswered at (Some p) buffer before after room told = tt
 
 pub at_me : (servers : List Outline) (me : Locator) (sockets : List Locator) (now place : ℕ) (w : Running) (calls : List Call) (new : Running)
     → place ≡ 0 → PollsMe me now w calls new → Polls servers me sockets now place w calls new

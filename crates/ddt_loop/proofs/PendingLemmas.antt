@@ -61,10 +61,10 @@ module _ (s : State) (o : IsInOrder s) (call : resolver.Call) (new : State) (a :
 
   still_pending : Move s call new a → (u : ℕ) → ((end : Result Outcome Why) → progress_of a ≡ Ends u end → ⊥)
       → IsSome (get s.pending u) → IsSome (get new.pending u)
-  still_pending m u goes_on some =
+  still_pending m u unended some =
       let found = some_of (get s.pending u) some in
       elim (carried m u found.0 found.1) [
-        | inl ended ↦ absurd (goes_on ended.0 ended.1)
+        | inl ended ↦ absurd (unended ended.0 ended.1)
         | inr on ↦ subst IsSome (sym on.1) refl
       ]
 
@@ -115,6 +115,12 @@ no_ask_goes s call r t l new (keeps source bytes rec called is f e) = cc f
 no_ask_goes s call r t l new (repeats f over first e) = cc f
 no_ask_goes s call r t l new (goes_on f over second more e) = cc f
 
+-- nor does one end
+pub ask_ends_none : (r : Result Asked AskError) (t : ℕ) (end : Result Outcome Why) → progress_of (ToAsk r) ≡ Ends t end → ⊥
+ask_ends_none (Ok (asked_as.Answer o)) t end is = cc is
+ask_ends_none (Ok (asked_as.Sent u d)) t end is = cc is
+ask_ends_none (Err why) t end is = cc is
+
 -- the lookup that an ask starts
 pub started : (s : State) (call : resolver.Call) (new : State) (t : ℕ) (d : Outgoing) → Move s call new (ToAsk (Ok (asked_as.Sent t d)))
     → (l : Pending) × (call ≡ Ask l.x) × (t ≡ s.next) × (d ≡ request s l) × (new.pending ≡ insert s.pending s.next (numbered s l))
@@ -128,7 +134,7 @@ module _ (s : State) (o : IsInOrder s) (x : Xeid) (new : State) (a : Asked) (ste
   m = (moved_by_step s o (Ask x) new (ToAsk (Ok a)) step).move
 
   wait_still : (owners : List Owner) → AreOwners s owners → All (λ p. IsSome (get new.pending p.ticket)) owners
-  wait_still owners owned = wait_on s o (Ask x) new (ToAsk (Ok a)) m owners (λ k p lt end e. cc e) owned.pending
+  wait_still owners owned = wait_on s o (Ask x) new (ToAsk (Ok a)) m owners (λ k p lt end. ask_ends_none (Ok a) _ end) owned.pending
 
   pub owners_start : (me : Locator) (who : Asker) (d : Desk) (calls : List Call) (after : Desk) → AreOwners s d.owners → Starts me who d a calls after → AreOwners new after.owners
   owners_start me who d calls after owned starts = by a refl starts

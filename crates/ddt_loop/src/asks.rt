@@ -24,13 +24,13 @@ use std::alloc::Global;
 pub(crate) fn ask_all<W: Wires, M: PrefixMap<Entry>>(
     wires: &mut W,
     resolver: &mut Resolver<M>,
-    here: Here,
+    here: &Here,
     ids: &[Xeid],
     askers: &mut Askers,
 )
     requires { AreOwners resolver.old askers.old.owners }
     ensures asks { (calls : List ACall) × Tells (W.calls wires.old) calls (W.calls wires.new)
-        × HaveAsked here.me here.now ids.now (running resolver.old askers.old) (length ids.now) calls
+        × HaveAsked here.now.me here.now.moment ids.now (running resolver.old askers.old) (length ids.now) calls
         (running resolver.new askers.new) }
     ensures owners { AreOwners resolver.new askers.new.owners }
 {
@@ -43,14 +43,14 @@ pub(crate) fn ask_all<W: Wires, M: PrefixMap<Entry>>(
 fn ask_at<W: Wires, M: PrefixMap<Entry>>(
     wires: &mut W,
     resolver: &mut Resolver<M>,
-    here: Here,
+    here: &Here,
     x: Xeid,
     place: usize,
     askers: &mut Askers,
 )
     requires { AreOwners resolver.old askers.old.owners }
     ensures asks { (calls : List ACall) × Tells (W.calls wires.old) calls (W.calls wires.new)
-        × AsksAt here.me here.now place x (running resolver.old askers.old) calls (running resolver.new askers.new) }
+        × AsksAt here.now.me here.now.moment place x (running resolver.old askers.old) calls (running resolver.new askers.new) }
     ensures owners { AreOwners resolver.new askers.new.owners }
 {
     let asker = Asker::Identifier(place);
@@ -62,7 +62,7 @@ fn ask_at<W: Wires, M: PrefixMap<Entry>>(
 pub(crate) fn ask_for_itr<W: Wires, M: PrefixMap<Entry>>(
     wires: &mut W,
     resolver: &mut Resolver<M>,
-    here: Here,
+    here: &Here,
     request: ItrRequest,
     askers: &mut Askers,
 ) -> Option<u64>
@@ -70,7 +70,7 @@ pub(crate) fn ask_for_itr<W: Wires, M: PrefixMap<Entry>>(
     ensures waits { IfSome result (λ t. askers.new ≡ with_owner askers.old t (IsItr request)) }
     ensures none { IfNone result (askers.new ≡ askers.old) }
     ensures asks { (calls : List ACall) × Tells (W.calls wires.old) calls (W.calls wires.new)
-        × AsksForItr here.me here.now request (running resolver.old askers.old) calls (running resolver.new askers.new) }
+        × AsksForItr here.now.me here.now.moment request (running resolver.old askers.old) calls (running resolver.new askers.new) }
     ensures owners { AreOwners resolver.new askers.new.owners }
 {
     let asker = Asker::Itr(request);
@@ -90,20 +90,20 @@ pub(crate) fn ask_for_itr<W: Wires, M: PrefixMap<Entry>>(
 fn ask<W: Wires, M: PrefixMap<Entry>>(
     wires: &mut W,
     resolver: &mut Resolver<M>,
-    here: Here,
+    here: &Here,
     x: Xeid,
     asker: Asker,
     askers: &mut Askers,
 ) -> Result<Option<Outcome>, AskError>
     requires { AreOwners resolver.old askers.old.owners }
     ensures asks { (calls : List ACall) × Tells (W.calls wires.old) calls (W.calls wires.new)
-        × Asks here.me here.now x asker (running resolver.old askers.old) result calls (running resolver.new askers.new) }
+        × Asks here.now.me here.now.moment x asker (running resolver.old askers.old) result calls (running resolver.new askers.new) }
     ensures owners { AreOwners resolver.new askers.new.owners }
 {
     resolver.in_order();
     // Read for its bound: no moment is later than the last.
-    let _millis = here.now.millis();
-    match resolver.ask(here.now, x) {
+    let _millis = here.moment.millis();
+    match resolver.ask(here.moment, x) {
         Ok(asked) => Ok(after_ask(wires, here.me, asker, askers, asked)),
         Err(why) => Err(why),
     }

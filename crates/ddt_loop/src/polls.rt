@@ -40,19 +40,22 @@ fn poll<W: Wires>(wires: &mut W, at: Locator, buffer: &mut [u8]) -> Option<Packe
 pub(crate) fn poll_me<W: Wires, M: PrefixMap<Entry>>(
     wires: &mut W,
     resolver: &mut Resolver<M>,
-    here: Here,
+    here: &Here,
     askers: &mut Askers,
     buffer: &mut [u8],
 )
     requires buffer { length buffer.old ≡ most_bytes }
     requires owners { AreOwners resolver.old askers.old.owners }
     ensures polls { (calls : List ACall) × Tells (W.calls wires.old) calls (W.calls wires.new)
-        × PollsMe here.me here.now (running resolver.old askers.old) calls (running resolver.new askers.new) }
+        × PollsMe here.now.me here.now.moment (running resolver.old askers.old) calls (running resolver.new askers.new) }
     ensures owners { AreOwners resolver.new askers.new.owners }
 {
-    if let Some(packet) = poll(wires, here.me, buffer) {
-        let bytes = &buffer[..packet.len];
-        let _came = take(wires, resolver, here, askers, packet, bytes);
+    match poll(wires, here.me, buffer) {
+        Some(packet) => {
+            let bytes = &buffer[..packet.len];
+            let _came = take(wires, resolver, here, askers, packet, bytes);
+        }
+        None => {}
     }
 }
 
@@ -68,9 +71,12 @@ pub(crate) fn poll_server<W: Wires, N: PrefixMap<u32>>(
     ensures { (calls : List ACall) × Tells (W.calls wires.old) calls (W.calls wires.new)
         × PollsServer servers.now at calls }
 {
-    if let Some(packet) = poll(wires, at, buffer) {
-        let bytes = &buffer[..packet.len];
-        serve(alloc, wires, servers, at, packet, bytes);
+    match poll(wires, at, buffer) {
+        Some(packet) => {
+            let bytes = &buffer[..packet.len];
+            serve(alloc, wires, servers, at, packet, bytes);
+        }
+        None => {}
     }
 }
 

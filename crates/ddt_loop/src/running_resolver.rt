@@ -88,11 +88,11 @@ impl<M: PrefixMap<Entry>> RunningResolver<M> {
         ensures taken { (calls : List ACall) × Tells (W.calls wires.old) calls (W.calls wires.new)
             × IsTaken me now packet bytes.now self.old calls self.new }
     {
-        let here = Here { me, now };
+        let here = Here { me, moment: now };
         take(
             wires,
             &mut self.resolver,
-            here,
+            &here,
             &mut self.askers,
             packet,
             bytes,
@@ -108,11 +108,11 @@ impl<M: PrefixMap<Entry>> RunningResolver<M> {
         ensures resolves { (calls : List ACall) × Tells (W.calls wires.old) calls (W.calls wires.new)
             × Resolves me now Tick self.old calls self.new }
     {
-        let here = Here { me, now };
+        let here = Here { me, moment: now };
         resolve(
             wires,
             &mut self.resolver,
-            here,
+            &here,
             &mut self.askers,
             Input::Tick,
         )

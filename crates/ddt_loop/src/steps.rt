@@ -29,7 +29,7 @@ use std::alloc::Global;
 #[derive(Clone, Copy, Debug)]
 pub(crate) struct Here {
     pub(crate) me: Locator,
-    pub(crate) now: Moment,
+    pub(crate) moment: Moment,
 }
 
 /// Takes a packet of these bytes that came to the resolver's own socket. An Encapsulated Control Message is asked where
@@ -38,16 +38,16 @@ pub(crate) struct Here {
 pub(crate) fn take<W: Wires, M: PrefixMap<Entry>>(
     wires: &mut W,
     resolver: &mut Resolver<M>,
-    here: Here,
+    here: &Here,
     askers: &mut Askers,
     packet: Packet,
     bytes: &[u8],
 ) -> Came
     requires { AreOwners resolver.old askers.old.owners }
-    ensures came { IsCame here.now packet.from bytes.now (running resolver.old askers.old)
+    ensures came { IsCame here.now.moment packet.from bytes.now (running resolver.old askers.old)
         (running resolver.new askers.new) result }
     ensures taken { (calls : List ACall) × Tells (W.calls wires.old) calls (W.calls wires.new)
-        × IsTaken here.me here.now packet bytes.now (running resolver.old askers.old) calls
+        × IsTaken here.now.me here.now.moment packet bytes.now (running resolver.old askers.old) calls
         (running resolver.new askers.new) }
     ensures owners { AreOwners resolver.new askers.new.owners }
 {
@@ -73,22 +73,22 @@ pub(crate) fn take<W: Wires, M: PrefixMap<Entry>>(
 pub(crate) fn resolve<W: Wires, M: PrefixMap<Entry>>(
     wires: &mut W,
     resolver: &mut Resolver<M>,
-    here: Here,
+    here: &Here,
     askers: &mut Askers,
     input: Input<'_>,
 ) -> Option<Ended>
     requires { AreOwners resolver.old askers.old.owners }
-    ensures ended { HasEndedBy (call_of input.entry) (moved here.now resolver.old) resolver.new
+    ensures ended { HasEndedBy (call_of input.entry) (moved here.now.moment resolver.old) resolver.new
         askers.old.owners askers.new.owners result }
     ensures resolves { (calls : List ACall) × Tells (W.calls wires.old) calls (W.calls wires.new)
-        × Resolves here.me here.now (call_of input.entry) (running resolver.old askers.old) calls
+        × Resolves here.now.me here.now.moment (call_of input.entry) (running resolver.old askers.old) calls
         (running resolver.new askers.new) }
     ensures owners { AreOwners resolver.new askers.new.owners }
 {
     resolver.in_order();
     // Read for its bound: no moment is later than the last.
-    let _millis = here.now.millis();
-    match resolver.step(here.now, input) {
+    let _millis = here.moment.millis();
+    match resolver.step(here.moment, input) {
         Ok(reply) => go_on(wires, here.me, askers, reply.progress()),
         Err(_refused) => None,
     }

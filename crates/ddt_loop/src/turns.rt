@@ -93,8 +93,11 @@ pub fn loop_turns<W: Wires, C: Clock, N: PrefixMap<u32>, M: PrefixMap<Entry>>(
     let now = clock.now();
     // Read for its bound: no moment is later than the last.
     let _millis = now.millis();
-    let here = Here { me: tree.me, now };
-    ask_all(wires, resolver, here, ids, &mut askers);
+    let here = Here {
+        me: tree.me,
+        moment: now,
+    };
+    ask_all(wires, resolver, &here, ids, &mut askers);
     take_turns(wires, clock, tree, resolver, &mut askers, turns);
     Ok(askers.into_ends())
 }
@@ -122,9 +125,9 @@ fn take_turns<W: Wires, C: Clock, N: PrefixMap<u32>, M: PrefixMap<Entry>>(
         }
         let turn = Turn {
             number,
-            now: clock.now(),
+            moment: clock.now(),
         };
-        take_turn(wires, tree, resolver, askers, turn, &mut buffer);
+        take_turn(wires, tree, resolver, askers, &turn, &mut buffer);
     }
 }
 
@@ -132,7 +135,7 @@ fn take_turns<W: Wires, C: Clock, N: PrefixMap<u32>, M: PrefixMap<Entry>>(
 #[derive(Clone, Copy, Debug)]
 struct Turn {
     number: u32,
-    now: Moment,
+    moment: Moment,
 }
 
 /// One turn: a poll and a tick.
@@ -141,24 +144,24 @@ fn take_turn<W: Wires, N: PrefixMap<u32>, M: PrefixMap<Entry>>(
     tree: &Tree<'_, N>,
     resolver: &mut Resolver<M>,
     askers: &mut Askers,
-    turn: Turn,
+    turn: &Turn,
     buffer: &mut [u8],
 )
     requires buffer { length buffer.old ≡ most_bytes }
     requires owners { AreOwners resolver.old askers.old.owners }
     ensures turn { (calls : List ACall) × Tells (W.calls wires.old) calls (W.calls wires.new)
-        × IsTurn tree.now.servers.now tree.now.me tree.now.sockets.now turn.number turn.now
+        × IsTurn tree.now.servers.now tree.now.me tree.now.sockets.now turn.now.number turn.now.moment
         (running resolver.old askers.old) calls (running resolver.new askers.new) }
     ensures owners { AreOwners resolver.new askers.new.owners }
 {
     // Read for its bound: no moment is later than the last.
-    let _millis = turn.now.millis();
+    let _millis = turn.moment.millis();
     poll_in_turn(wires, tree, resolver, askers, turn, buffer);
     let here = Here {
         me: tree.me,
-        now: turn.now,
+        moment: turn.moment,
     };
-    let _ended = resolve(wires, resolver, here, askers, Input::Tick);
+    let _ended = resolve(wires, resolver, &here, askers, Input::Tick);
 }
 
 /// Polls the socket whose turn it is: the resolver's own first, and the others in their order.
@@ -167,14 +170,14 @@ fn poll_in_turn<W: Wires, N: PrefixMap<u32>, M: PrefixMap<Entry>>(
     tree: &Tree<'_, N>,
     resolver: &mut Resolver<M>,
     askers: &mut Askers,
-    turn: Turn,
+    turn: &Turn,
     buffer: &mut [u8],
 )
     requires buffer { length buffer.old ≡ most_bytes }
     requires owners { AreOwners resolver.old askers.old.owners }
     ensures polls { (calls : List ACall) × Tells (W.calls wires.old) calls (W.calls wires.new)
-        × Polls tree.now.servers.now tree.now.me tree.now.sockets.now turn.now
-        (turn.number % (length tree.now.sockets.now + 1)) (running resolver.old askers.old) calls
+        × Polls tree.now.servers.now tree.now.me tree.now.sockets.now turn.now.moment
+        (turn.now.number % (length tree.now.sockets.now + 1)) (running resolver.old askers.old) calls
         (running resolver.new askers.new) }
     ensures owners { AreOwners resolver.new askers.new.owners }
 {
@@ -182,9 +185,9 @@ fn poll_in_turn<W: Wires, N: PrefixMap<u32>, M: PrefixMap<Entry>>(
     if place == 0 {
         let here = Here {
             me: tree.me,
-            now: turn.now,
+            moment: turn.moment,
         };
-        poll_me(wires, resolver, here, askers, buffer);
+        poll_me(wires, resolver, &here, askers, buffer);
     } else {
         let at = tree.sockets[place - 1];
         poll_server(askers.alloc(), wires, tree.servers, at, buffer);

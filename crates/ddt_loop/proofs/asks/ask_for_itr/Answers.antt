@@ -23,11 +23,11 @@ returns-in-Ok-None-clause-asks g c =
 pub returns-in-Ok-Some-clause-none : goal.returns-in-Ok-Some-clause-none
 returns-in-Ok-Some-clause-none g c =
     let w = rw c.in-Ok-Some.field-0-is at c.in-Ok-Some.ensures.asks in
-    not_waiting c.args.here.me c.args.here.now c.args.request.xeid (Itr c.args.request) (running c.args.resolver.now c.args.askers.now)
+    not_waiting c.args.here.now.me c.args.here.now.moment c.args.request.xeid (Itr c.args.request) (running c.args.resolver.now c.args.askers.now)
     (Ok (Some c.in-Ok-Some.outcome)) w.0 (running c.ask-answer.new.resolver c.ask-answer.new.askers) w.2 (λ e. cc e)
 
 pub returns-in-Err-clause-none : goal.returns-in-Err-clause-none
 returns-in-Err-clause-none g c =
     let w = c.in-Err.ensures.asks in
-    not_waiting c.args.here.me c.args.here.now c.args.request.xeid (Itr c.args.request) (running c.args.resolver.now c.args.askers.now)
+    not_waiting c.args.here.now.me c.args.here.now.moment c.args.request.xeid (Itr c.args.request) (running c.args.resolver.now c.args.askers.now)
     (Err c.in-Err._why) w.0 (running c.ask-answer.new.resolver c.ask-answer.new.askers) w.2 (λ e. cc e)

@@ -13,19 +13,19 @@ use Rattle.ddt_loop.proofs.steps.resolve.Goals as goal
 pub returns-in-Ok-clause-resolves : goal.returns-in-Ok-clause-resolves
 returns-in-Ok-clause-resolves g c =
     let w = c.go_on.ensures.goes in
-    let goes = λ (p : Progress). GoesOn c.args.here.me c.args.askers.now p w.0 c.go_on.new.askers in
+    let goes = λ (p : Progress). GoesOn c.args.here.now.me c.args.askers.now p w.0 c.go_on.new.askers in
     (w.0, w.1, does c.in-Ok.reply c.in-Ok.ensures.step (subst goes c.progress.ensures w.2))
 
 pub returns-in-Ok-clause-owners : goal.returns-in-Ok-clause-owners
 returns-in-Ok-clause-owners g c =
     let w = c.go_on.ensures.goes in
-    let s = moved c.args.here.now c.args.resolver.now in
+    let s = moved c.args.here.now.moment c.args.resolver.now in
     let call = call_of c.args.input in
-    let goes = λ (p : Progress). GoesOn c.args.here.me c.args.askers.now p w.0 c.go_on.new.askers in
-    let order = order_moved c.args.resolver.now c.args.here.now c.millis-millis.ensures.bound c.in_order.ensures in
+    let goes = λ (p : Progress). GoesOn c.args.here.now.me c.args.askers.now p w.0 c.go_on.new.askers in
+    let order = order_moved c.args.resolver.now c.args.here.now.moment c.millis-millis.ensures.bound c.in_order.ensures in
     let move = moved_by_step s order call c.step.new.self c.in-Ok.reply c.in-Ok.ensures.step in
-    owners_go_on s order call c.step.new.self c.in-Ok.reply move.move c.args.here.me c.args.askers.now w.0 c.go_on.new.askers
-    (moved_owners c.args.resolver.now c.args.here.now c.args.askers.now.owners c.requires) (subst goes c.progress.ensures w.2)
+    owners_go_on s order call c.step.new.self c.in-Ok.reply move.move c.args.here.now.me c.args.askers.now w.0 c.go_on.new.askers
+    (moved_owners c.args.resolver.now c.args.here.now.moment c.args.askers.now.owners c.requires) (subst goes c.progress.ensures w.2)
 
 pub returns-in-Err-clause-resolves : goal.returns-in-Err-clause-resolves
 returns-in-Err-clause-resolves g c =
@@ -33,5 +33,5 @@ returns-in-Err-clause-resolves g c =
 
 pub returns-in-Ok-clause-ended : goal.returns-in-Ok-clause-ended
 returns-in-Ok-clause-ended g c =
-    ends_by (call_of c.args.input) (moved c.args.here.now c.args.resolver.now) c.step.new.self c.args.askers.now.owners
+    ends_by (call_of c.args.input) (moved c.args.here.now.moment c.args.resolver.now) c.step.new.self c.args.askers.now.owners
     c.go_on.new.askers.owners c.in-Ok.reply c.progress.result c.go_on.result c.in-Ok.ensures.step (sym c.progress.ensures) c.go_on.ensures.ended

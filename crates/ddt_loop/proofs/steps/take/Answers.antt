@@ -29,13 +29,13 @@ pub returns-in-Some-clause-came : goal.returns-in-Some-clause-came
 returns-in-Some-clause-came g c =
     let w = running c.args.resolver.now c.args.askers.now in
     let new = running c.ask_for_itr-ticket.new.resolver c.ask_for_itr-ticket.new.askers in
-    subst (IsCame c.args.here.now c.args.packet.from c.args.bytes.now w new) (sym c.waits.ensures)
-    (waits_came c.args.here.now c.args.packet.from c.args.bytes.now w new c.ask_for_itr-ticket.result _ c.in-Some.request
+    subst (IsCame c.args.here.now.moment c.args.packet.from c.args.bytes.now w new) (sym c.waits.ensures)
+    (waits_came c.args.here.now.moment c.args.packet.from c.args.bytes.now w new c.ask_for_itr-ticket.result _ c.in-Some.request
     (omega (arith, c.type_inv.bytes)) c.in-Some.ensures.found c.ask_for_itr-ticket.ensures.waits c.ask_for_itr-ticket.ensures.none)
 
 pub returns-then-packet-eq-CONTROL_PORT-clause-came : goal.returns-then-packet-eq-CONTROL_PORT-clause-came
 returns-then-packet-eq-CONTROL_PORT-clause-came g c =
     let w = running c.args.resolver.now c.args.askers.now in
     let new = running c.resolve-ended.new.resolver c.resolve-ended.new.askers in
-    subst (IsCame c.args.here.now c.args.packet.from c.args.bytes.now w new) (sym c.ends.ensures)
-    (ends_came c.args.here.now c.args.packet.from c.args.bytes.now w new c.resolve-ended.result c.resolve-ended.ensures.ended)
+    subst (IsCame c.args.here.now.moment c.args.packet.from c.args.bytes.now w new) (sym c.ends.ensures)
+    (ends_came c.args.here.now.moment c.args.packet.from c.args.bytes.now w new c.resolve-ended.result c.resolve-ended.ensures.ended)

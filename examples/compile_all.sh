@@ -2,6 +2,7 @@
 #
 # A register with a fault, or a full disk, leaves the files as they are. The last line says what was written.
 set -eu
+[ $# -ge 2 ] || { echo "usage: sh compile_all.sh REGISTER GROUP.." >&2; exit 2; }
 ddt=./ddt
 [ -x "$ddt" ] || ddt=ddt
 register=$1

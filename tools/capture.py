@@ -25,6 +25,7 @@ import contextlib
 import os
 import pathlib
 import select
+import shutil
 import subprocess
 import sys
 import tempfile
@@ -220,6 +221,8 @@ def captured(words: list[str], packets: pathlib.Path) -> Count:
 def main(words: list[str]) -> int:
     if not words or words == ["--itr"]:
         sys.exit(__doc__)
+    if not shutil.which("tshark"):
+        sys.exit("capture.py: it wants tshark (Debian: tshark)")
     with tempfile.TemporaryDirectory() as name:
         packets = pathlib.Path(name) / "packets"
         count = captured(words, packets)

@@ -22,14 +22,12 @@ use Rattle.ddt_ecm.specs.laws.Statements.{WrittenSpells, message_of}
 use Rattle.ddt_node.specs.Server.{IsDdtRequest}
 use Rattle.ddt_cache.specs.declared.entry.Entry.{Entry}
 use Rattle.ddt_cache.specs.Entry.{is_negative}
-use Rattle.ddt_cache.specs.Moment.{last_moment}
 use Rattle.ddt_resolver.specs.declared.pending.Pending.{Pending}
 use Rattle.ddt_resolver.specs.State.{State, moved, request_bytes, server, patience}
 use Rattle.ddt_resolver.specs.Records.{outcome_at, outcome_of}
 use Rattle.ddt_resolver.specs.TakeUp.{IsTaken}
-use Rattle.ddt_resolver.specs.Step.{Call, Hear}
-use Rattle.ddt_resolver.specs.Order.{IsInOrder}
-use Rattle.ddt_resolver.specs.laws.Order.{order_moved}
+use Rattle.ddt_resolver.specs.Step.{Call}
+use Rattle.ddt_resolver.specs.laws.Shape.{Takes}
 use Rattle.ddt_sim.specs.declared.schedule.Step.{Step}
 use Rattle.ddt_sim.specs.declared.schedule.Event.{Event}
 use Rattle.ddt_sim.specs.declared.schedule.Datagram.{Datagram}
@@ -40,7 +38,7 @@ use Rattle.ddt_sim.specs.World.{World, Members, MayReply, reply_to, Calls, asked
 use Rattle.ddt_sim.specs.History.{Line, Among}
 use Rattle.ddt_sim.specs.Schedules.{IsOpened}
 use Rattle.ddt_sim.specs.InForce.{in_force, SomeSince, most_age}
-use Rattle.ddt_sim.specs.laws.Ticket.{Tickets, IsStill, tickets_still}
+use Rattle.ddt_sim.proofs.GroundLemmas.{IsGround, Follows}
 use Rattle.ddt_sim.proofs.ReplyLemmas.{RepliesAreRead}
 use Rattle.ddt_sim.proofs.SentLemmas.{WasAsked, told}
 use Rattle.ddt_sim.proofs.SinceLemmas.{since_map, since_any}
@@ -98,13 +96,9 @@ WasYoung registers p e past w =
     IsYoung registers p e w.moment w.member ⊎ Among past (λ line. IsYoung registers p e line.before.moment line.before.member)
 
 pub record IsAged (servers : Members) (registers : ℕ → Register) (past : List Line) (w : World) : Type 0 where
-  pub order : IsInOrder w.state
-  pub early : w.moment ≤ last_moment
-  pub time : w.state.known.time ≤ w.moment
+  pub ground : IsGround past w
   pub within : w.member < servers.count
   pub sent : (k : ℕ) (d : Datagram) → slice_get w.sent k ≡ Some d → IsSent servers registers past w d
-  pub fits : (t : ℕ) (l : Pending) → get w.state.pending t ≡ Some l → CanBeAsked l.x w.state.me
-  pub tickets : Tickets past w.state
   pub entries : (p : List ℕ) (e : Entry) → get w.state.known.live p ≡ Some e → IsTrue (is_negative e.action) → WasYoung registers p e past w
   pub kept : (t : ℕ) (l : Pending) (rec : ReferralRecord) → get w.state.pending t ≡ Some l → l.kept ≡ Some rec → SomeSince t (λ line. IsNotRegistered (in_force registers line) (xeid_path l.x) rec) past
 
@@ -118,7 +112,7 @@ IsSaid servers registers rec x m line =
 module _ (servers : Members) (registers : ℕ → Register) (on : HasLaws servers registers) where
   -- a final record that is said is that of the assignment
   pub said_final : (rec : ReferralRecord) (x : Xeid) (m : ℕ) (line : Line) → IsSaid servers registers rec x m line → IsFinal rec.action → rec ≡ record_of (assignment (in_force registers line) (xeid_path x))
-  said_final rec x m line h k = h.2.1 ∙ on.decided line.before.member h.1 h.2.0 (xeid_path x) (subst (λ (v : ReferralRecord). IsFinal v.action) h.2.1 k)
+  said_final rec x m line h k = h.2.1 ∙ on.decided line.before.member h.1 h.2.0 (xeid_path x) (rw h.2.1 at k)
 
   pub said_outcome : (rec : ReferralRecord) (x : Xeid) (m : ℕ) (line : Line) → IsSaid servers registers rec x m line → IsFinal rec.action → outcome_of rec ≡ assignment (in_force registers line) (xeid_path x)
   said_outcome rec x m line h k = ap outcome_of (said_final rec x m line h k) ∙ outcome_back (assignment (in_force registers line) (xeid_path x))
@@ -127,31 +121,23 @@ module _ (servers : Members) (registers : ℕ → Register) (on : HasLaws server
     abbrev pub s : State
     s = moved w.moment w.state
 
-    pub order_now : IsInOrder s
-    order_now = order_moved w.state w.moment i.early i.order
-
-    -- the time is the moment
-    pub at_moment : s.known.time ≡ w.moment
-    at_moment = let le = i.time in omega (arith, le)
-
     pub was_asked : (r : Register) (to : Locator) (nonce : ℕ) (x : Xeid) (t m : ℕ) → IsAsked past w to nonce x t m → IsServer r to → WasAsked r s to nonce x
     was_asked r to nonce x t m a is_server = record { is_server = is_server; fits = a.fits; id = a.id; below = a.below; waits = λ u l found same. let e = a.waits u l found same in (e.1, e.2) }
 
     -- a record that is taken was said since the ask, and not before its last request
-    pub heard_since : (step : Step) (call : Call) → Calls w step call → (source : Locator) (bytes : List ℕ) (t : ℕ) (l : Pending) (rec : ReferralRecord) → call ≡ Hear source bytes → IsTaken s source bytes t l rec
-        → (m : ℕ) × (l.deadline ≡ m + patience) × SomeSince t (IsSaid servers registers rec l.x m) past
-    heard_since step call (asked x fits e f) source bytes t l rec is taken = absurd (cc (is, f))
-    heard_since step call (ticked e f) source bytes t l rec is taken = absurd (cc (is, f))
-    heard_since step call (heard k d e found kind f) source bytes t l rec is taken = by (i.sent k d found)
+    pub heard_since : (step : Step) (call : Call) → Calls w step call → (t : ℕ) (l : Pending) (rec : ReferralRecord) → Takes s call t l rec → (m : ℕ) × (l.deadline ≡ m + patience) × SomeSince t (IsSaid servers registers rec l.x m) past
+    heard_since step call (asked x fits e f) t l rec takes = absurd (cc (takes.called, f))
+    heard_since step call (ticked e f) t l rec takes = absurd (cc (takes.called, f))
+    heard_since step call (heard k d e found kind f) t l rec takes = by (i.sent k d found)
       where
-        from : source ≡ d.source
-        from = cc (is, f)
+        from : takes.source ≡ d.source
+        from = cc (takes.called, f)
 
-        text : bytes ≡ d.bytes
-        text = cc (is, f)
+        text : takes.bytes ≡ d.bytes
+        text = cc (takes.called, f)
 
         here : IsTaken s d.source d.bytes t l rec
-        here = subst₂ (λ y z. IsTaken s y z t l rec) from text taken
+        here = subst₂ (λ y z. IsTaken s y z t l rec) from text takes.taken
 
         by : IsSent servers registers past w d → (m : ℕ) × (l.deadline ≡ m + patience) × SomeSince t (IsSaid servers registers rec l.x m) past
         by (asks nonce x u m a other bytes_are) = absurd (false≢true (sym other ∙ kind))
@@ -168,9 +154,20 @@ module _ (servers : Members) (registers : ℕ → Register) (on : HasLaws server
                   (λ line h. (h.late, h.within, (d.source, (says_it line h).1 ∙ ap (λ y. says (in_force registers line) d.source (xeid_path y)) (sym own.1)))) past since),
             )
 
+    -- ---- a request that is delivered
+
+    -- it spells one, with its identifier
+    pub spelled : (d : Datagram) → IsSent servers registers past w d → d.is_reply ≡ false
+        → (nonce : ℕ) × (x : Xeid) × (t : ℕ) × (m : ℕ) × IsAsked past w d.to nonce x t m × IsDdtRequest d.bytes (message_of nonce x (w.state.me ∷ []) true)
+    spelled d (tells nonce x t m a is since) kind = absurd (false≢true (sym kind ∙ is))
+    spelled d (asks nonce x t m a is bytes) kind =
+        let below = a.below in let last = i.ground.order.next in
+        let few : nonce < 2 ^ 64 = omega (arith, below, last) in
+        (nonce, x, t, m, a, rw bytes (spelled_request on.written nonce x w.state.me few a.fits, refl))
+
     -- ---- one more line
 
-    module _ (step : Step) (event : Event) (new : World) where
+    module _ (step : Step) (event : Event) (new : World) (f : Follows w new) where
       abbrev pub line : Line
       line = record { before = w; step = step; event = event; after = new }
 
@@ -179,59 +176,23 @@ module _ (servers : Members) (registers : ℕ → Register) (on : HasLaws server
       young_more p e (inr h) = inr (inr h)
 
       -- what was asked before
-      pub asked_still : new.state.me ≡ w.state.me → w.state.next ≤ new.state.next → w.moment ≤ new.moment → (to : Locator) (nonce : ℕ) (x : Xeid) (t m : ℕ) → IsAsked past w to nonce x t m
-          → ((u : ℕ) (l : Pending) → get new.state.pending u ≡ Some l → l.nonce ≡ nonce → get w.state.pending u ≡ Some l) → IsAsked (line ∷ past) new to nonce x t m
-      asked_still me more le to nonce x t m a same = record {
-        fits = subst (CanBeAsked x) (sym me) a.fits;
+      asked_still : (to : Locator) (nonce : ℕ) (x : Xeid) (t m : ℕ) → IsAsked past w to nonce x t m → IsAsked (line ∷ past) new to nonce x t m
+      asked_still to nonce x t m a = let below = a.below in let more = f.grows in let before = a.before in let le = f.later in record {
+        fits = rw f.me a.fits;
         id = a.id;
-        below = let b = a.below in omega (arith, b, more);
+        below = omega (arith, below, more);
         opened = inr a.opened;
-        before = let b = a.before in omega (arith, b, le);
-        waits = λ u l found is. let e = a.waits u l (same u l found is) is in (e.0, e.1, ap (λ own. server own l) me ∙ e.2, e.3);
+        before = omega (arith, before, le);
+        waits = λ u l found is. rw f.me (a.waits u l (f.older u l found (omega (arith, below, is))) is);
       }
 
-      pub sent_still : new.state.me ≡ w.state.me → w.state.next ≤ new.state.next → w.moment ≤ new.moment
-          → ((nonce u : ℕ) (l : Pending) → nonce < w.state.next → get new.state.pending u ≡ Some l → l.nonce ≡ nonce → get w.state.pending u ≡ Some l)
-          → (d : Datagram) → IsSent servers registers past w d → IsSent servers registers (line ∷ past) new d
-      sent_still me more le same d (asks nonce x t m a is bytes) =
-          asks nonce x t m (asked_still me more le d.to nonce x t m a (λ u l. same nonce u l a.below)) is (bytes ∙ ap (request_bytes nonce x) (sym me))
-      sent_still me more le same d (tells nonce x t m a is since) =
-          tells nonce x t m (asked_still me more le d.source nonce x t m a (λ u l. same nonce u l a.below)) is (inr since)
-
-      -- the resolver has no part in it
-      pub rests : IsStill event → new.state ≡ w.state → w.moment ≤ new.moment → new.moment ≤ last_moment → new.member < servers.count
-          → ((k : ℕ) (d : Datagram) → slice_get new.sent k ≡ Some d → IsSent servers registers (line ∷ past) new d) → IsAged servers registers (line ∷ past) new
-      rests still e le early within sent = record {
-        order = subst IsInOrder (sym e) i.order;
-        early = early;
-        time = let same : new.state.known.time ≡ w.state.known.time = ap (λ (z : State). z.known.time) e in let t = i.time in omega (arith, same, t, le);
-        within = within;
-        sent = sent;
-        fits = subst (λ (z : State). (t : ℕ) (l : Pending) → get z.pending t ≡ Some l → CanBeAsked l.x z.me) (sym e) i.fits;
-        tickets = tickets_still past line w.state new.state i.tickets still e;
-        entries = λ p v found neg. young_more p v (i.entries p v (ap (λ (z : State). get z.known.live p) (sym e) ∙ found) neg);
-        kept = λ t l rec found is. inr (i.kept t l rec (ap (λ (z : State). get z.pending t) (sym e) ∙ found) is);
-      }
-
-      pub still_sent : new.state ≡ w.state → w.moment ≤ new.moment → (d : Datagram) → IsSent servers registers past w d → IsSent servers registers (line ∷ past) new d
-      still_sent e le = sent_still (ap (λ (z : State). z.me) e) (let same : new.state.next ≡ w.state.next = ap (λ (z : State). z.next) e in omega (arith, same)) le
-          (λ nonce u l below found is. ap (λ (z : State). get z.pending u) (sym e) ∙ found)
-
-      -- ---- a request that is delivered
-
-      -- it spells one, with its identifier
-      pub spelled : (d : Datagram) → IsSent servers registers past w d → d.is_reply ≡ false
-          → (nonce : ℕ) × (x : Xeid) × (t : ℕ) × (m : ℕ) × IsAsked past w d.to nonce x t m × IsDdtRequest d.bytes (message_of nonce x (w.state.me ∷ []) true)
-      spelled d (tells nonce x t m a is since) kind = absurd (false≢true (sym kind ∙ is))
-      spelled d (asks nonce x t m a is bytes) kind =
-          let below = a.below in let last = i.order.next in
-          let few : nonce < 2 ^ 64 = omega (arith, below, last) in
-          (nonce, x, t, m, a, (subst (λ (b : List ℕ). IsDdtRequest b (message_of nonce x (w.state.me ∷ []) true)) (sym bytes) (spelled_request on.written nonce x w.state.me few a.fits, refl)))
+      pub sent_still : (d : Datagram) → IsSent servers registers past w d → IsSent servers registers (line ∷ past) new d
+      sent_still d (asks nonce x t m a is bytes) = asks nonce x t m (asked_still d.to nonce x t m a) is (rw f.me bytes)
+      sent_still d (tells nonce x t m a is since) = tells nonce x t m (asked_still d.source nonce x t m a) is (inr since)
 
       -- what comes back is a reply of the register in force
-      pub replied : (d : Datagram) (bytes : List ℕ) → IsSent servers registers past w d → d.is_reply ≡ false → MayReply (servers.honest w.member) (servers.silent w.member) d.to d.bytes (Some bytes)
-          → new.state ≡ w.state → w.moment ≤ new.moment → IsSent servers registers (line ∷ past) new (reply_to d bytes)
-      replied d bytes sent kind may e le = elim (server_or_not (registers w.member) d.to) [
+      pub replied : (d : Datagram) (bytes : List ℕ) → IsSent servers registers past w d → d.is_reply ≡ false → MayReply (servers.honest w.member) (servers.silent w.member) d.to d.bytes (Some bytes) → IsSent servers registers (line ∷ past) new (reply_to d bytes)
+      replied d bytes sent kind may = elim (server_or_not (registers w.member) d.to) [
         | inl is_server ↦ by is_server (spelled d sent kind)
         | inr none ↦ absurd (none-some bytes (sym (may.silently (registers w.member) (on.silent w.member i.within) none)))
       ]
@@ -242,7 +203,4 @@ module _ (servers : Members) (registers : ℕ → Register) (on : HasLaws server
               let a : IsAsked past w d.to q.0 q.1 q.2 q.3 = q.4 in
               let honest : IsHonestReply (registers w.member) d.to (message_of q.0 q.1 (w.state.me ∷ []) true) (Some bytes) =
               may.honestly (registers w.member) (message_of q.0 q.1 (w.state.me ∷ []) true) (on.honest w.member i.within) is_server q.5 in
-              tells q.0 q.1 q.2 q.3
-              (asked_still (ap (λ (z : State). z.me) e) (let same : new.state.next ≡ w.state.next = ap (λ (z : State). z.next) e in omega (arith, same)) le d.to q.0 q.1 q.2 q.3 a
-              (λ u l found is. ap (λ (z : State). get z.pending u) (sym e) ∙ found))
-              refl (inl (inr a.opened, record { late = a.before; within = i.within; is_server = is_server; spells = honest }))
+              tells q.0 q.1 q.2 q.3 (asked_still d.to q.0 q.1 q.2 q.3 a) refl (inl (inr a.opened, record { late = a.before; within = i.within; is_server = is_server; spells = honest }))

@@ -5,6 +5,8 @@ pub mod FollowLemmas
 pub mod PassLemmas
 pub mod SecondPassLemmas
 pub mod ReplyLemmas
+pub mod ListLemmas
+pub mod GroundLemmas
 pub mod RunLemmas
 pub mod ShortLemmas
 pub mod SoundLemmas

@@ -5,7 +5,6 @@ pub mod FollowLemmas
 pub mod PassLemmas
 pub mod SecondPassLemmas
 pub mod ReplyLemmas
-pub mod ListLemmas
 pub mod GroundLemmas
 pub mod RunLemmas
 pub mod ShortLemmas
@@ -14,11 +13,9 @@ pub mod TrailLemmas
 pub mod TurnLemmas
 pub mod WaitingLemmas
 pub mod ServerLemmas
-pub mod SentLemmas
 pub mod ScheduleLemmas
 pub mod TriesLemmas
 pub mod StatementLemmas
 pub mod SinceLemmas
 pub mod InForceLemmas
-pub mod AgedLemmas
 pub mod ReplacedLemmas

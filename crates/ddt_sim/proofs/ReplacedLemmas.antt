@@ -40,40 +40,35 @@ use Rattle.ddt_sim.specs.declared.schedule.Transcript.{Transcript}
 use Rattle.ddt_sim.specs.Honest.{IsServer, IsHonestReply}
 use Rattle.ddt_sim.specs.RunLaws.{LawsOfRuns}
 use Rattle.ddt_sim.specs.Sound.{IsTrueEntry, delegates, registers, denies, IsNotRegistered}
-use Rattle.ddt_sim.specs.World.{World, Members, MayReply, Calls, WorldStep}
+use Rattle.ddt_sim.specs.World.{World, Members, MayReply, Calls}
 use Rattle.ddt_sim.specs.History.{Line, Among, Each, at_start, Tells}
 use Rattle.ddt_sim.specs.Schedules.{IsOnce}
 use Rattle.ddt_sim.specs.InForce.{in_force, SomeSince, most_age, IsAnswerSince, IsAnswerOfLate, IsReplyInForce, IsFailureInForce, IsNoReplyInForce, AreRegisters}
 use Rattle.ddt_sim.specs.laws.Ticket.{among_map}
-use Rattle.ddt_sim.proofs.GroundLemmas.{order_now, at_moment, rest_by, asks_by, tells_asked, left_now, once_now, first_ground, each_kept}
+use Rattle.ddt_sim.proofs.GroundLemmas.{Part, one_line, served, order_now, at_moment, asks_by, answer_is, rest_ends, left_now, once_now, first_ground, each_kept}
 use Rattle.ddt_sim.proofs.ReplyLemmas.{says_usable}
-use Rattle.ddt_sim.proofs.SentLemmas.{ignored_rightly}
+use Rattle.ddt_sim.proofs.ScheduleLemmas.{ignored_rightly}
 use Rattle.ddt_sim.proofs.SinceLemmas.{since_map, since_any}
 use Rattle.ddt_sim.proofs.SoundLemmas.{negative_is, referral_not_negative, kept_is}
-use Rattle.ddt_sim.proofs.StatementLemmas.{served, gave_up_now, refused_now, ignored_now, first_tried}
+use Rattle.ddt_sim.proofs.StatementLemmas.{gave_up_now, refused_now, ignored_now, first_tried}
 use Rattle.ddt_sim.proofs.TriesLemmas.{IsTried, ReplyUsably, tried_on, vain_now}
-use Rattle.ddt_sim.proofs.InForceLemmas.{server_or_not, HasLaws, IsAsked, IsSent, tells, IsYoung, WasYoung, IsAged, IsSaid, IsSpelled, said_outcome, was_asked, heard_since, spelled}
+use Rattle.ddt_sim.proofs.InForceLemmas.{server_or_not, HasLaws, IsAsked, IsSent, tells, IsYoung, WasYoung, IsAged, IsSaid, IsSpelled, said_outcome, was_asked, heard_since, spelled, aged_on}
 use Rattle.ddt_sim.proofs.InForceLemmas as aged
-use Rattle.ddt_sim.proofs.AgedLemmas.{aged_on}
 
-module _ (servers : Members) (of : ℕ → Register) (on : HasLaws servers of) (past : List Line) (w : World) (i : IsAged servers of past w) (step : Step) (event : Event) (new : World)
-    (does : WorldStep servers w step event new) where
+module _ {servers : Members} {of : ℕ → Register} (on : HasLaws servers of) {past : List Line} {w : World} (i : IsAged servers of past w) {step : Step} {event : Event} {new : World} (part : Part servers w step event new) where
   abbrev line : Line
-  line = record { before = w; step = step; event = event; after = new }
+  line = one_line w step event new
 
   abbrev s : State
   s = moved w.moment w.state
-
-  order : IsInOrder s
-  order = order_now past w i.ground
 
   -- ---- answers to tickets
 
   outcome_since : (call : Call) → Calls w step call → (t : ℕ) (o : Outcome) (l : Pending) → get w.state.pending t ≡ Some l → Leaves s call t l (Ok o) → SomeSince t (λ at. o ≡ assignment (in_force of at) (xeid_path l.x)) past
   outcome_since call calls t o l found (by_record rec takes final e) =
       let own : o ≡ outcome_of rec = cc e in
-      let h = heard_since servers of on past w i step call calls t l rec takes in
-      since_map t (IsSaid servers of rec l.x h.0) (λ at. o ≡ assignment (in_force of at) (xeid_path l.x)) (λ at said. own ∙ said_outcome servers of on rec l.x h.0 at said final) past h.2
+      let h = heard_since on i calls takes in
+      since_map t (IsSaid servers of rec l.x h.0) (λ at. o ≡ assignment (in_force of at) (xeid_path l.x)) (λ at said. own ∙ said_outcome on l.x at said final) past h.2
   outcome_since call calls t o l found (by_kept rec due kept e) =
       let own : o ≡ NotRegistered rec.prefix rec.servers = cc e in
       since_map t (λ at. IsNotRegistered (in_force of at) (xeid_path l.x) rec) (λ at. o ≡ assignment (in_force of at) (xeid_path l.x)) (λ at h. own ∙ kept_is (in_force of at) (xeid_path l.x) rec h) past (i.kept t l rec found kept)
@@ -83,9 +78,9 @@ module _ (servers : Members) (of : ℕ → Register) (on : HasLaws servers of) (
   outcome_since call calls t o l found (by_nonce over e) = absurd (cc e)
 
   pub answer_since : IsAnswerSince of past line
-  answer_since t o ends = elim (rest_by servers w step event new i.ground.early does) [
-    | inl d ↦ let l = left_now past w i.ground step event new d t (Ok o) ends in (l.0.x, i.ground.tickets.asked_for t l.0 l.1, outcome_since d.call d.calls t o l.0 l.1 l.2)
-    | inr rest ↦ absurd (cc (ends, rest.stays))
+  answer_since t o ends = elim part [
+    | inl d ↦ let l = left_now i.ground d t (Ok o) ends in (l.0.x, i.ground.tickets.asked_for t l.0 l.1, outcome_since d.call d.calls t o l.0 l.1 l.2)
+    | inr rest ↦ absurd (cc (ends, rest_ends i.ground rest))
   ]
 
   -- ---- answers at once
@@ -103,8 +98,8 @@ module _ (servers : Members) (of : ℕ → Register) (on : HasLaws servers of) (
   found_young x p e o id (inl found) answer =
       let own = negative_is e.action p e.servers o answer in
       let was = live_at-is (Rattle.std.proofs.Common.max w.state.known.time w.moment) w.state.known.live p e found.value in
-      let live = (order.known.entries p e found.value).live in
-      let time = at_moment past w i.ground in
+      let live = ((order_now i.ground).known.entries p e found.value).live in
+      let time = at_moment i.ground in
       young_answer x p e o id found.covers_it own.1 (omega (arith, live, time)) (i.entries p e was.0 own.0)
 
   at_once_by : (call : Call) (after : State) (a : Reply) (x : Xeid) (o : Outcome) → resolver.Step s call after a → call ≡ resolver.Ask x → a ≡ ToAsk (Ok (asked_as.Answer o))
@@ -128,15 +123,15 @@ module _ (servers : Members) (of : ℕ → Register) (on : HasLaws servers of) (
       by (ask.opened free e f) = absurd (cc (given, f))
 
   pub answer_of_late : IsAnswerOfLate of past line
-  answer_of_late x o is e = elim (rest_by servers w step event new i.ground.early does) [
-    | inl d ↦ at_once_by d.call d.state d.reply x o d.does (asks_by w step d.call x d.calls is) (tells_asked d.reply (asked_as.Answer o) (sym d.tells ∙ e))
-    | inr rest ↦ absurd (rw e at rest.idle)
+  answer_of_late x o is e = elim part [
+    | inl d ↦ at_once_by d.call d.state d.reply x o d.does (asks_by x d.calls is) (answer_is i.ground d (ToAsk (Ok (asked_as.Answer o))) e)
+    | inr rest ↦ absurd (cc (rest.idle, e))
   ]
 
   -- ---- replies
 
   pub reply_in_force : IsReplyInForce of past line
-  reply_in_force k d is found kind = elim (served servers past w i.ground step event new k d is found kind does) [
+  reply_in_force k d is found kind = elim (served part k d is found kind) [
     | inl h ↦ (
       λ is_server. record { request = message_of q.0 q.1 (w.state.me ∷ []) true; reply = h.0; asks = q.5; honest = honestly (Some h.0) h.1 is_server; replied = h.2; sent = h.3 },
       λ none. absurd (none-some h.0 (sym (h.1.silently (of w.member) (on.silent w.member i.within) none))),
@@ -145,15 +140,10 @@ module _ (servers : Members) (of : ℕ → Register) (on : HasLaws servers of) (
   ]
     where
       q : (nonce : ℕ) × (x : Xeid) × (t : ℕ) × (m : ℕ) × IsAsked past w d.to nonce x t m × IsDdtRequest d.bytes (message_of nonce x (w.state.me ∷ []) true)
-      q = spelled servers of on past w i d (i.sent k d found) kind
+      q = spelled on i d (i.sent k d found) kind
 
       honestly : (reply : Option (List ℕ)) → MayReply (servers.honest w.member) (servers.silent w.member) d.to d.bytes reply → IsServer (of w.member) d.to → IsHonestReply (of w.member) d.to (message_of q.0 q.1 (w.state.me ∷ []) true) reply
       honestly reply may is_server = may.honestly (of w.member) (message_of q.0 q.1 (w.state.me ∷ []) true) (on.honest w.member i.within) is_server q.5
-
-  -- ---- tickets
-
-  pub once_in_force : IsOnce past line
-  once_in_force = once_now past w i.ground step event new servers does
 
   -- ---- failures
 
@@ -164,14 +154,13 @@ module _ (servers : Members) (of : ℕ → Register) (on : HasLaws servers of) (
       by (aged.asks nonce x t m a is bytes) = absurd (false≢true (sym is ∙ kind))
       by (tells nonce x t m a is h) =
           let any = since_any t (IsSpelled servers of d.source d.bytes nonce x m) past h in
-          ignored_rightly (in_force of any.0) (on.read any.0.before.member any.1.within) s d.source d.bytes nonce x
-          (was_asked servers of on past w i (in_force of any.0) d.source nonce x t m a any.1.is_server) any.1.spells why ignores
+          ignored_rightly (on.read any.0.before.member any.1.within) d.bytes (was_asked on i a any.1.is_server) any.1.spells why ignores
 
   pub failure_in_force : IsFailureInForce past line
   failure_in_force = record {
-    gave_up = gave_up_now servers past w i.ground step event new does;
-    ignored = ignored_now servers past w i.ground step event new does sent_ignored;
-    refused = refused_now servers past w i.ground step event new does;
+    gave_up = gave_up_now i.ground part;
+    ignored = ignored_now i.ground part sent_ignored;
+    refused = refused_now i.ground part;
   }
 
   -- the replies of the servers in force are usable
@@ -223,35 +212,32 @@ module _ (laws : LawsOfRuns) (servers : Members) (old : State) (o : IsInOrder ol
     first_tried old are.starts.at_rest,
   )
 
-  goes_agedly : (past : List Line) (w : World) → IsAgedly past w → (step : Step) (event : Event) (new : World) → WorldStep servers w step event new → Unit {0}
-      → IsAgedly (record { before = w; step = step; event = event; after = new } ∷ past) new
-  goes_agedly past w i step event new does any = (
-    aged_on servers of stands past w i.0 step event new does,
-    tried_on (record { messages = laws.messages; back = laws.back; written = laws.written }) servers past w i.0.ground i.1 (usable_in_force servers of stands past w i.0 step event new does) step event new does,
-  )
+  goes_agedly : (past : List Line) (w : World) → IsAgedly past w → (step : Step) (event : Event) (new : World) → Part servers w step event new → Unit {0} → IsAgedly (one_line w step event new ∷ past) new
+  goes_agedly past w i step event new part any =
+      (aged_on stands i.0 part, tried_on (record { messages = laws.messages; back = laws.back; written = laws.written }) i.0.ground i.1 (usable_in_force stands i.0 part) part)
 
   any_lines : (past : List Line) → Each (λ past line. Unit {0}) past
   any_lines [] = tt
   any_lines (_ ∷ past) = (tt, any_lines past)
 
   module _ (t : Transcript) (new : State) (past : List Line) (told : Tells servers old steps t new past) where
-    each : (holds : List Line → Line → Type 0) → ((past : List Line) (w : World) → IsAgedly past w → (step : Step) (event : Event) (new : World) → WorldStep servers w step event new → holds past (record { before = w; step = step; event = event; after = new })) → Each holds past
-    each holds each_line = each_kept servers (at_start old) (λ line. Unit {0}) IsAgedly first goes_agedly holds each_line past told.last (any_lines past) told.history
+    each : (holds : List Line → Line → Type 0) → ((past : List Line) (w : World) → IsAgedly past w → (step : Step) (event : Event) (new : World) → Part servers w step event new → holds past (one_line w step event new)) → Each holds past
+    each holds each_line = each_kept (λ line. Unit {0}) IsAgedly first goes_agedly holds each_line (any_lines past) told.history
 
     pub each_since : Each (IsAnswerSince of) past
-    each_since = each (IsAnswerSince of) (λ past w i. answer_since servers of stands past w i.0)
+    each_since = each (IsAnswerSince of) (λ past w i step event new. answer_since stands i.0)
 
     pub each_of_late : Each (IsAnswerOfLate of) past
-    each_of_late = each (IsAnswerOfLate of) (λ past w i. answer_of_late servers of stands past w i.0)
+    each_of_late = each (IsAnswerOfLate of) (λ past w i step event new. answer_of_late stands i.0)
 
     pub each_reply_in_force : Each (IsReplyInForce of) past
-    each_reply_in_force = each (IsReplyInForce of) (λ past w i. reply_in_force servers of stands past w i.0)
+    each_reply_in_force = each (IsReplyInForce of) (λ past w i step event new. reply_in_force stands i.0)
 
     pub each_once_in_force : Each IsOnce past
-    each_once_in_force = each IsOnce (λ past w i. once_in_force servers of stands past w i.0)
+    each_once_in_force = each IsOnce (λ past w i step event new. once_now i.0.ground)
 
     pub each_failure_in_force : Each IsFailureInForce past
-    each_failure_in_force = each IsFailureInForce (λ past w i. failure_in_force servers of stands past w i.0)
+    each_failure_in_force = each IsFailureInForce (λ past w i step event new. failure_in_force stands i.0)
 
     pub each_no_reply_in_force : Each IsNoReplyInForce past
-    each_no_reply_in_force = each IsNoReplyInForce (λ past w i. vain_now servers past w i.0.ground i.1)
+    each_no_reply_in_force = each IsNoReplyInForce (λ past w i step event new. vain_now i.0.ground i.1)

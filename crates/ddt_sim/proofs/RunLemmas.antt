@@ -18,7 +18,8 @@ use Rattle.ddt_sim.specs.declared.schedule.Step.TheVariants.{Deliver, Replace}
 use Rattle.ddt_sim.specs.declared.schedule.Event.{Event}
 use Rattle.ddt_sim.specs.declared.schedule.Datagram.{Datagram}
 use Rattle.ddt_register.specs.declared.register.Register.{Register}
-use Rattle.ddt_sim.specs.World.{World, Members, world, members, at_place, StillAre, OthersStay, ComesIntoForce, MayReply, event_of, after, Calls, call_at, Resolves, Serves, by_reply, by_silence, WorldStep, resolves, serves, not_sent, passes, replaces, no_member, Stops, undone, wanting, untold, asked, heard, ticked}
+use Rattle.ddt_sim.specs.World.{World, world, members, at_place, StillAre, OthersStay, ComesIntoForce, MayReply, event_of, after, Calls, call_at, Resolves, Serves, by_reply, by_silence, WorldStep, resolves, serves, not_sent, passes, replaces, no_member, Stops, undone, wanting, untold, asked, heard, ticked}
+use Rattle.ddt_sim.proofs.GroundLemmas.{part_of, member_on}
 use Rattle.ddt_sim.specs.History.{Line, History, begin, next, steps_of, events_of, at_start, WantsNext, StopsAfter}
 
 -- ---- a datagram that is delivered
@@ -93,15 +94,6 @@ set_others (x ∷ l) zero new zero other = absurd (other refl)
 set_others (x ∷ l) zero new (suc j) other = refl
 set_others (x ∷ l) (suc k) new zero other = refl
 set_others (x ∷ l) (suc k) new (suc j) other = set_others l k new j (λ e. other (ap suc e))
-
--- the servers in force after a step were in force before, or the step names them
-pub member_on : (servers : Members) (w : World) (step : Step) (event : Event) (new : World) → WorldStep servers w step event new → (new.member ≡ w.member) ⊎ (step ≡ Replace new.member)
-member_on servers w step event new (resolves r) = inl (ap (λ (v : World). v.member) r.goes_on)
-member_on servers w step event new (serves k more is by f) = inl (ap (λ (v : World). v.member) f)
-member_on servers w step event new (not_sent k is past e f) = inl (ap (λ (v : World). v.member) f)
-member_on servers w step event new (passes ms is e f) = inl (ap (λ (v : World). v.member) f)
-member_on servers w step event new (replaces k is lt e f) = inr (is ∙ ap Replace (sym (ap (λ (v : World). v.member) f)))
-member_on servers w step event new (no_member k is le e f) = inl (ap (λ (v : World). v.member) f)
 
 -- ---- a request
 
@@ -203,9 +195,9 @@ module _ {S : Type 0} {is_honest is_silent : S → Register → Type 0} where
       came_more k (inr h) = inr (rw steps_more (Contains-append_left (take i steps) (step ∷ []) (Replace k) h))
 
       came_on : (event : Event) (new : World) → WorldStep (members is_honest is_silent now) w step event new → ComesIntoForce (take (i + 1) steps) new.member
-      came_on event new does = elim (member_on (members is_honest is_silent now) w step event new does) [
+      came_on event new does = elim (member_on (part_of (members is_honest is_silent now) w step event new does)) [
         | inl same ↦ rw same (came_more w.member so_far.came)
-        | inr named ↦ inr (rw steps_more (Contains-append_right (take i steps) (step ∷ []) (Replace new.member) (contained (step ∷ []) (Replace new.member) (inl (sym named)))))
+        | inr named ↦ inr (rw steps_more (Contains-append_right (take i steps) (step ∷ []) (Replace new.member) (contained (step ∷ []) (Replace new.member) (inl (sym named.0)))))
       ]
 
       done_more : (past : List Line) → take i steps ≡ steps_of past → take (i + 1) steps ≡ reverse (step ∷ map (λ (line : Line). line.step) past)

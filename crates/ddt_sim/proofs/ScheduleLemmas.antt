@@ -1,29 +1,128 @@
--- What each step of a schedule over honest servers keeps.
-use Rattle.std.proofs.Common.{◌≡◌, ℕ, ◌<◌, ◌^◌, true, false, List, [], ◌∷◌, Option, Some, refl, sym, ◌∙◌, arith, inl, inr}
-use Rattle.std.specs.Prelude.{slice_get}
+-- What each step of a schedule over honest servers keeps. Its datagrams are requests of the resolver to servers of the
+-- register, and honest replies to them.
+use Rattle.std.proofs.Common.{◌≡◌, ℕ, ◌<◌, ◌^◌, true, false, List, [], ◌∷◌, length, Option, Some, refl, sym, ap, ◌∙◌, subst, arith, inl, inr, ◌⊎◌}
+use Rattle.std.specs.Prelude.{IsTrue, slice_get}
+use Rattle.std.specs.FinMap.{get}
 use Rattle.std.proofs.lemmas.Bool.{false≢true}
+use Rattle.ddt_path.specs.declared.locator.Locator.{Locator}
+use Rattle.ddt_path.specs.declared.record.ReferralRecord.{ReferralRecord}
 use Rattle.ddt_path.specs.declared.xeid.Xeid.{Xeid}
+use Rattle.ddt_path.specs.Actions.{IsReferral}
+use Rattle.ddt_path.specs.Covers.{covers}
+use Rattle.ddt_path.specs.Path.{xeid_path, is_path}
 use Rattle.ddt_register.specs.declared.register.Register.{Register}
 use Rattle.ddt_check.specs.Rules.{IsAccepted}
+use Rattle.ddt_check.specs.Says.{says}
+use Rattle.ddt_wire.specs.Referral.{Message, Spells, message_of as referral_of, message_record}
 use Rattle.ddt_ecm.specs.laws.Statements.{WrittenSpells, message_of}
 use Rattle.ddt_node.specs.Server.{IsDdtRequest}
-use Rattle.ddt_resolver.specs.State.{State, moved, numbered}
+use Rattle.ddt_resolver.specs.declared.pending.Pending.{Pending}
+use Rattle.ddt_resolver.specs.declared.answers.Ignored.{Ignored}
+use Rattle.ddt_resolver.specs.declared.answers.Ignored.TheVariants.{UnknownNonce, Late}
+use Rattle.ddt_resolver.specs.State.{State, moved, numbered, request_bytes, server}
 use Rattle.ddt_resolver.specs.Step.{Call, Hear}
+use Rattle.ddt_resolver.specs.TakeUp as takes
+use Rattle.ddt_resolver.specs.TakeUp.{Tells, IsTaken, Ignores}
 use Rattle.ddt_sim.specs.declared.schedule.Step.{Step}
 use Rattle.ddt_sim.specs.declared.schedule.Step.TheVariants.{Replace}
 use Rattle.ddt_sim.specs.declared.schedule.Event.{Event}
 use Rattle.ddt_sim.specs.declared.schedule.Datagram.{Datagram}
-use Rattle.ddt_sim.specs.Honest.{IsHonestReply}
-use Rattle.ddt_sim.specs.Sound.{IsSound, IsFair, IsRight, StepsKeepSoundness, TimeKeepsSoundness}
-use Rattle.ddt_sim.specs.World.{World, Members, MayReply, Calls, asked, heard, ticked, Resolves, WorldStep}
+use Rattle.ddt_sim.specs.Honest.{IsServer, IsHonestReply}
+use Rattle.ddt_sim.specs.Sound.{IsSound, IsFair, IsFairDatagram, IsRight, StepsKeepSoundness, TimeKeepsSoundness}
+use Rattle.ddt_sim.specs.Waiting.{CanBeAsked}
+use Rattle.ddt_sim.specs.World.{World, Members, MayReply, Calls, asked, heard, ticked, Resolves}
 use Rattle.ddt_sim.specs.History.{Line}
-use Rattle.ddt_sim.proofs.GroundLemmas.{IsGround, order_now, state_is, rest_by, IsNew, ground_on, follows, sent_by}
+use Rattle.ddt_sim.proofs.GroundLemmas.{IsGround, Follows, HasSent, Part, one_line, member_on, order_now, state_is, IsNew, ground_on, follows, sent_by}
 use Rattle.ddt_sim.proofs.GroundLemmas as ground
 use Rattle.ddt_sim.proofs.ReplyLemmas.{RepliesAreRead}
-use Rattle.ddt_sim.proofs.RunLemmas.{member_on}
-use Rattle.ddt_sim.proofs.SentLemmas.{WasAsked, IsKnown, was_asked_at, known_on, asks_now, reply_is_fair}
-use Rattle.ddt_sim.proofs.SentLemmas as sent
+use Rattle.ddt_sim.proofs.ServerLemmas.{asks_a_server}
 use Rattle.ddt_sim.proofs.WaitingLemmas.{spelled_request}
+
+-- ---- a request
+
+-- The resolver has once asked a server of the register for x with this nonce. A pending lookup whose last request has this
+-- nonce asks for x, there.
+pub record WasAsked (r : Register) (s : State) (to : Locator) (nonce : ℕ) (x : Xeid) : Type 0 where
+  pub is_server : IsServer r to
+  pub fits : CanBeAsked x s.me
+  pub id : IsTrue (is_path (xeid_path x))
+  pub below : nonce < s.next
+  pub waits : (t : ℕ) (l : Pending) → get s.pending t ≡ Some l → l.nonce ≡ nonce → (l.x ≡ x) × (server s.me l ≡ to)
+
+-- a datagram is such a request, or an honest reply to one
+pub data IsKnown (r : Register) (s : State) (d : Datagram) : Type 0 where
+  requested : (nonce : ℕ) (x : Xeid) → WasAsked r s d.to nonce x → d.is_reply ≡ false → d.bytes ≡ request_bytes nonce x s.me → IsKnown r s d
+  replied : (nonce : ℕ) (x : Xeid) → WasAsked r s d.source nonce x → d.is_reply ≡ true → Spells d.bytes (referral_of nonce (says r d.source (xeid_path x))) → IsKnown r s d
+
+-- ---- a step
+
+-- the passing of time changes nothing of what was asked
+pub was_asked_at : {r : Register} {s : State} {to : Locator} {nonce : ℕ} {x : Xeid} (now : ℕ) → WasAsked r s to nonce x → WasAsked r (moved now s) to nonce x
+was_asked_at now w = record { is_server = w.is_server; fits = w.fits; id = w.id; below = w.below; waits = w.waits }
+
+module _ {r : Register} {w new : World} (f : Follows w new) where
+  was_asked_on : {to : Locator} {nonce : ℕ} {x : Xeid} → WasAsked r w.state to nonce x → WasAsked r new.state to nonce x
+  was_asked_on a = let below = a.below in let more = f.grows in record {
+    is_server = a.is_server;
+    fits = rw f.me a.fits;
+    id = a.id;
+    below = omega (arith, below, more);
+    waits = λ t l found same. rw f.me (a.waits t l (f.older t l found (omega (arith, below, same))) same);
+  }
+
+  pub known_on : (d : Datagram) → IsKnown r w.state d → IsKnown r new.state d
+  known_on d (requested nonce x a is bytes) = requested nonce x (was_asked_on a) is (rw f.me bytes)
+  known_on d (replied nonce x a is spells) = replied nonce x (was_asked_on a) is spells
+
+  -- what is sent now was asked
+  pub asks_now : IsSound r new.state → (t : ℕ) (l : Pending) → HasSent w new t l → CanBeAsked l.x new.state.me → WasAsked r new.state (server w.state.me l) w.state.next l.x
+  asks_now sound t l h fits = record {
+    is_server = asks_a_server r w.state.me (numbered (moved w.moment w.state) l) (sound.lookups t (numbered (moved w.moment w.state) l) h.pending) h.lookup.place;
+    fits = fits;
+    id = h.lookup.identifier;
+    below = h.below;
+    waits = λ u k found same. let e = h.alone u k found same in rw (f.me, ← e.1) (refl, refl);
+  }
+
+-- ---- a reply that is heard
+
+module _ {r : Register} (laws : RepliesAreRead r) {s : State} {source : Locator} (bytes : List ℕ) {nonce : ℕ} {x : Xeid} (w : WasAsked r s source nonce x)
+    (spells : Spells bytes (referral_of nonce (says r source (xeid_path x)))) where
+  -- whatever the reply tells is this
+  pub told : (n : ℕ) (rec : ReferralRecord) → Tells bytes n rec → (n ≡ nonce) × (rec ≡ says r source (xeid_path x))
+  told n rec tells =
+      let same : tells.message ≡ referral_of nonce (says r source (xeid_path x)) = laws.messages.one bytes tells.message (referral_of nonce (says r source (xeid_path x))) tells.spells spells in (
+        sym tells.same_nonce ∙ ap (λ (m : Message). m.nonce) same,
+        sym tells.same_record ∙ ap message_record same ∙ laws.back nonce (says r source (xeid_path x)) (laws.sendable source (xeid_path x) w.id).few_servers,
+      )
+
+  -- a lookup that has its nonce asks for the identifier, there
+  its_lookup : (t : ℕ) (l : Pending) (rec : ReferralRecord) → takes.IsReplyTo s bytes t l rec → (l.x ≡ x) × (server s.me l ≡ source)
+  its_lookup t l rec to = w.waits t l to.is_pending (told l.nonce rec to.tells).0
+
+  -- so it is fair
+  pub reply_is_fair : IsFairDatagram r s source bytes
+  reply_is_fair t l rec taken =
+      let to = taken.in_time.from_server.reply in
+      (told l.nonce rec to.tells).1 ∙ ap (λ y. says r source (xeid_path y)) (sym (its_lookup t l rec to).0)
+
+  -- and ignored only where nobody waits for its nonce, or late
+  pub ignored_rightly : (why : Ignored) → Ignores s source bytes why → (why ≡ UnknownNonce) ⊎ (why ≡ Late)
+  ignored_rightly why (takes.undecodable none e) = absurd (none (referral_of nonce (says r source (xeid_path x))) spells)
+  ignored_rightly why (takes.unknown_nonce n rec tells none e) = inl e
+  ignored_rightly why (takes.wrong_source t l rec to other e) = absurd (other (sym (its_lookup t l rec to).1))
+  ignored_rightly why (takes.late t l rec from late e) = inr e
+  ignored_rightly why (takes.not_covering t l rec in_time away e) =
+      let to = in_time.from_server.reply in
+      absurd (away (inl (subst (λ (v : ReferralRecord). IsTrue (covers v.prefix (xeid_path l.x))) (sym (told l.nonce rec to.tells).1)
+      (subst (λ y. IsTrue (covers (says r source (xeid_path x)).prefix (xeid_path y))) (sym (its_lookup t l rec to).0) (laws.cover source (xeid_path x))))))
+  ignored_rightly why (takes.no_servers t l rec in_time about none e) = absurd (none named)
+    where
+      is : rec ≡ says r source (xeid_path x)
+      is = (told l.nonce rec in_time.from_server.reply.tells).1
+
+      named : IsReferral rec.action → 0 < length rec.servers
+      named k = subst (λ (v : ReferralRecord). 0 < length v.servers) (sym is) (laws.servers source (xeid_path x) (inl (subst (λ (v : ReferralRecord). IsReferral v.action) is k))).0
 
 -- ---- the invariant
 
@@ -42,14 +141,14 @@ pub record Stands (r : Register) (servers : Members) : Type 0 where
   pub read : RepliesAreRead r
   pub written : WrittenSpells
 
-module _ (r : Register) (servers : Members) (on : Stands r servers) (past : List Line) (w : World) (i : IsSoundRun r past w) where
-  abbrev pub s : State
+module _ {r : Register} {servers : Members} (on : Stands r servers) {past : List Line} {w : World} (i : IsSoundRun r past w) where
+  abbrev s : State
   s = moved w.moment w.state
 
   -- a request that was sent spells one, and its server is the register's
   pub known_request : (d : Datagram) → IsKnown r w.state d → d.is_reply ≡ false → (nonce : ℕ) × (x : Xeid) × WasAsked r w.state d.to nonce x × IsDdtRequest d.bytes (message_of nonce x (w.state.me ∷ []) true)
-  known_request d (sent.reply nonce x a is spells) kind = absurd (false≢true (sym kind ∙ is))
-  known_request d (sent.request nonce x a is bytes) kind =
+  known_request d (replied nonce x a is spells) kind = absurd (false≢true (sym kind ∙ is))
+  known_request d (requested nonce x a is bytes) kind =
       let below = a.below in let last = i.ground.order.next in
       let few : nonce < 2 ^ 64 = omega (arith, below, last) in
       (nonce, x, a, rw bytes (spelled_request on.written nonce x w.state.me few a.fits, refl))
@@ -61,43 +160,37 @@ module _ (r : Register) (servers : Members) (on : Stands r servers) (past : List
       let q = known_request d (i.known k d found) is in
       (q.0, q.1, q.2, q.3, may.honestly r (message_of q.0 q.1 (w.state.me ∷ []) true) (rw i.member on.honest) q.2.is_server q.3)
 
-  pub fair : (step : Step) (call : Call) → Calls w step call → IsFair r s call
+  pub fair : (step : Step) (call : Call) → Calls w step call → IsFair r (moved w.moment w.state) call
   fair step call (asked x fits e f) = rw f tt
   fair step call (ticked e f) = rw f tt
   fair step call (heard k d e found kind f) = rw f (by (i.known k d found))
     where
       by : IsKnown r w.state d → IsFair r s (Hear d.source d.bytes)
-      by (sent.request nonce x a is bytes) = absurd (false≢true (sym is ∙ kind))
-      by (sent.reply nonce x a is spells) = reply_is_fair r on.read s d.source d.bytes nonce x (was_asked_at r w.state w.moment d.source nonce x a) spells
+      by (requested nonce x a is bytes) = absurd (false≢true (sym is ∙ kind))
+      by (replied nonce x a is spells) = reply_is_fair on.read d.bytes (was_asked_at w.moment a) spells
 
-  module _ (step : Step) (event : Event) (new : World) where
-    pub right_now : (does : Resolves w step event new) → IsSound r does.state × IsRight r s does.call does.reply
-    right_now does = on.keeps r s does.call does.state does.reply on.accepted (order_now past w i.ground) (on.time r w.state w.moment i.sound) (fair step does.call does.calls) does.does
+  module _ {step : Step} {event : Event} {new : World} where
+    pub right_now : (does : Resolves w step event new) → IsSound r does.state × IsRight r (moved w.moment w.state) does.call does.reply
+    right_now does = on.keeps r s does.call does.state does.reply on.accepted (order_now i.ground) (on.time r w.state w.moment i.sound) (fair step does.call does.calls) does.does
 
-    module _ (does : WorldStep servers w step event new) where
-      sound_on : IsSound r new.state
-      sound_on = elim (rest_by servers w step event new i.ground.early does) [
-        | inl d ↦ rw (state_is past w i.ground step event new d) (right_now d).0
-        | inr rest ↦ rw rest.state i.sound
-      ]
+    sound_on : Part servers w step event new → IsSound r new.state
+    sound_on (inl does) = rw (state_is i.ground does) (right_now does).0
+    sound_on (inr rest) = rw rest.state i.sound
 
-      still_known : (d : Datagram) → IsKnown r w.state d → IsKnown r new.state d
-      still_known = known_on r w new (follows past w i.ground step event new servers does)
+    new_known : Part servers w step event new → (d : Datagram) → IsNew servers w new d → IsKnown r new.state d
+    new_known part d (ground.request t l h is) =
+        let f = follows i.ground part in
+        rw (← is) (requested w.state.next l.x (asks_now f (sound_on part) t l h ((ground_on i.ground part).fits t (numbered s l) h.pending)) refl (rw f.me refl))
+    new_known part d (ground.reply k c bytes found kind may is) =
+        let q = replied_honestly k c (Some bytes) found kind may in rw (← is) (known_on (follows i.ground part) _ (replied q.0 q.1 q.2 refl q.4))
 
-      new_known : (d : Datagram) → IsNew servers w new d → IsKnown r new.state d
-      new_known d (ground.request t l h is) =
-          let f = follows past w i.ground step event new servers does in
-          let fits = (ground_on past w i.ground step event new servers does).fits t (numbered s l) h.pending in
-          rw (← is) (sent.request w.state.next l.x (asks_now r w new f sound_on t l h fits) refl (rw f.me refl))
-      new_known d (ground.reply k c bytes found kind may is) = let q = replied_honestly k c (Some bytes) found kind may in rw (← is) (still_known _ (sent.reply q.0 q.1 q.2 refl q.4))
-
-      pub steps_soundly : ((k : ℕ) → step ≡ Replace k → ⊥) → IsSoundRun r (record { before = w; step = step; event = event; after = new } ∷ past) new
-      steps_soundly keep = record {
-        ground = ground_on past w i.ground step event new servers does;
-        member = elim (member_on servers w step event new does) [ inl same ↦ same ∙ i.member | inr named ↦ absurd (keep new.member named) ];
-        sound = sound_on;
-        known = λ k d found. elim (sent_by past w i.ground step event new servers does k d found) [
-          | inl there ↦ still_known d (i.known k d there)
-          | inr is ↦ new_known d is
-        ];
-      }
+    pub steps_soundly : Part servers w step event new → ((k : ℕ) → step ≡ Replace k → ⊥) → IsSoundRun r (one_line w step event new ∷ past) new
+    steps_soundly part keep = record {
+      ground = ground_on i.ground part;
+      member = elim (member_on part) [ inl same ↦ same ∙ i.member | inr named ↦ absurd (keep new.member named.0) ];
+      sound = sound_on part;
+      known = λ k d found. elim (sent_by i.ground part k d found) [
+        | inl there ↦ known_on (follows i.ground part) d (i.known k d there)
+        | inr is ↦ new_known part d is
+      ];
+    }

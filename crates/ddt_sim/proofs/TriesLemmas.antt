@@ -29,13 +29,12 @@ use Rattle.ddt_sim.specs.declared.schedule.Step.TheVariants.{Deliver}
 use Rattle.ddt_sim.specs.declared.schedule.Event.{Event}
 use Rattle.ddt_sim.specs.declared.schedule.Event.TheVariants.{Heard}
 use Rattle.ddt_sim.specs.declared.schedule.Datagram.{Datagram}
-use Rattle.ddt_sim.specs.World.{World, Members, MayReply, request_in, request_from, reply_to, event_of, progress_at, Resolves, WorldStep}
+use Rattle.ddt_sim.specs.World.{World, Members, MayReply, request_in, request_from, reply_to, event_of, reply_at, progress_at, Resolves}
 use Rattle.ddt_sim.specs.History.{Line, Among}
 use Rattle.ddt_sim.specs.Tries.{Try, try_in, IsSentFor, IsReplyBy, IsHeardBy, IsUnanswered, request_to, IsInVain, IsLater, AreInVain, tries_before, tries_by, tries_of, WasInVain}
 use Rattle.ddt_sim.specs.InForce.{IsNoReplyInForce}
 use Rattle.ddt_sim.specs.laws.Ticket.{IsOf, Came, stayed, opened, went_on}
-use Rattle.ddt_sim.proofs.GroundLemmas.{IsGround, IsIdle, never_idle, Adds, unsent, answered, rest_by, Follows, follows, order_now, at_moment, progress_now, came_by, heard_by, left_now}
-use Rattle.ddt_sim.proofs.ListLemmas.{get_last}
+use Rattle.ddt_sim.proofs.GroundLemmas.{get_last, IsGround, Adds, unsent, answered, rest_ends, Part, one_line, Follows, follows, order_now, at_moment, reply_now, progress_now, came_by, heard_by, left_now}
 use Rattle.ddt_sim.proofs.ReplyLemmas.{IsFor, IsUsable, late_or_taken}
 use Rattle.ddt_sim.proofs.WaitingLemmas.{spelled_request}
 
@@ -111,27 +110,27 @@ pub record AreBytesRead : Type 0 where
 
 -- ---- one more line
 
-module _ (on : AreBytesRead) (servers : Members) (past : List Line) (w : World) (g : IsGround past w) (i : IsTried past w)
+module _ (on : AreBytesRead) {servers : Members} {past : List Line} {w : World} (g : IsGround past w) (i : IsTried past w)
     (usable : (k : ℕ) (d : Datagram) (bytes : List ℕ) → slice_get w.sent k ≡ Some d → d.is_reply ≡ false → MayReply (servers.honest w.member) (servers.silent w.member) d.to d.bytes (Some bytes) → ReplyUsably d bytes)
-    (step : Step) (event : Event) (new : World) (does : WorldStep servers w step event new) where
+    {step : Step} {event : Event} {new : World} (part : Part servers w step event new) where
   abbrev line : Line
-  line = record { before = w; step = step; event = event; after = new }
+  line = one_line w step event new
 
   abbrev s : State
   s = moved w.moment w.state
 
   f : Follows w new
-  f = follows past w g step event new servers does
+  f = follows g part
 
   -- a reply takes the next number
   new_reply : (reply number : ℕ) → IsReplyBy reply number line → (reply ≡ length w.sent) × IsReplyTo new.sent reply number
-  new_reply reply number h = elim (rest_by servers w step event new g.early does) [
-    | inl d ↦ absurd (never_idle d.reply (subst IsIdle (sym h.1 ∙ d.tells) tt))
+  new_reply reply number h = elim part [
+    | inl d ↦ absurd (cc (reply_now g d, ap reply_at h.1))
     | inr rest ↦ by rest.adds
   ]
     where
       by : Adds servers w step event new → (reply ≡ length w.sent) × IsReplyTo new.sent reply number
-      by (unsent same other) = absurd (other reply h.1)
+      by (unsent same other silent) = absurd (other reply h.1)
       by (answered k d bytes is found kind may e sent) =
           let last : reply ≡ length w.sent = cc (h.1, e) in let own : number ≡ k = cc (h.0, is) in
           (last, record { request = d; bytes = bytes; is_request = rw own (f.sent k d found); is_reply = rw (last, sent) (get_last w.sent (reply_to d bytes)); usable = usable k d bytes found kind may })
@@ -164,15 +163,12 @@ module _ (on : AreBytesRead) (servers : Members) (past : List Line) (w : World) 
   -- a reply to a lookup of which nothing is told comes late
   heard_late : (t : ℕ) (l : Pending) → get w.state.pending t ≡ Some l → (h : Trail past w t l) → (IsOf (progress_at event) t → ⊥)
       → (reply : ℕ) (hearing : Hearing) → Among past (IsReplyBy reply h.last.number) → step ≡ Deliver reply → event ≡ Heard hearing → h.last.moment + patience ≤ w.moment
-  heard_late t l found h untold reply hearing replied is happened = elim (rest_by servers w step event new g.early does) [
-    | inl d ↦ by d
-    | inr rest ↦ absurd (rw happened at rest.idle)
-  ]
+  heard_late t l found h untold reply hearing replied is happened = elim part [ inl d ↦ by d | inr rest ↦ absurd (cc (rest.idle, ap reply_at happened)) ]
     where
       by : Resolves w step event new → h.last.moment + patience ≤ w.moment
       by d =
           let p = i.replied reply h.last.number replied in
-          let c = heard_by past w g step event new d hearing happened in
+          let c = heard_by g d hearing happened in
           let same : c.0 ≡ reply = cc (c.2, is) in
           let came : c.1 ≡ reply_to p.request p.bytes = same_Some c.1 (reply_to p.request p.bytes) (sym c.3 ∙ ap (slice_get w.sent) same ∙ p.is_reply) in
           let asked : p.request ≡ waits_for w.state.me l = same_Some p.request (waits_for w.state.me l) (sym p.is_request ∙ h.datagram) in
@@ -181,7 +177,7 @@ module _ (on : AreBytesRead) (servers : Members) (past : List Line) (w : World) 
           let below = own.nonce in let last = g.order.next in
           let spells = spelled_request on.written l.nonce l.x w.state.me (omega (arith, below, last)) (g.fits t l found) in
           let given = p.usable (message_of l.nonce l.x (w.state.me ∷ []) true) own.lookup.identifier (rw asked (spells, refl)) in
-          elim (late_or_taken on.messages on.back s (order_now past w g) t l found c.1.source from c.1.bytes given.0 given.1 (rw came given.2) d.state hearing c.5) [
+          elim (late_or_taken on.messages on.back s (order_now g) t l found c.1.source from c.1.bytes given.0 given.1 (rw came given.2) d.state hearing c.5) [
             | inl late ↦ let e = h.deadline in let time = g.time in omega (arith, late, e, time)
             | inr told ↦ absurd (untold (rw happened (heard_of t hearing told)))
           ]
@@ -205,7 +201,7 @@ module _ (on : AreBytesRead) (servers : Members) (past : List Line) (w : World) 
   module _ (d : Resolves w step event new) where
     -- no reply to what is sent only now
     new_unanswered : IsUnanswered (line ∷ past) (try_in w)
-    new_unanswered reply came (inl p) q = absurd (never_idle d.reply (subst IsIdle (sym p.1 ∙ d.tells) tt))
+    new_unanswered reply came (inl p) q = absurd (cc (reply_now g d, ap reply_at p.1))
     new_unanswered reply came (inr p) q =
         let e = i.replied reply (length w.sent) p in let lt = slice_get_within w.sent (length w.sent) e.request e.is_request in absurd (omega (arith, lt))
 
@@ -215,7 +211,7 @@ module _ (on : AreBytesRead) (servers : Members) (past : List Line) (w : World) 
       last = try_in w;
       sent = inl ((request s l, sends), refl);
       datagram = rw (f.me, ap (λ (v : World). v.sent) d.goes_on, ap request_in sends) (get_last w.sent (request_from w.state.me (request s l)));
-      deadline = let time = at_moment past w g in omega (arith, time);
+      deadline = let time = at_moment g in omega (arith, time);
       unanswered = new_unanswered;
       earlier = earlier;
       are_all = rw (sends, before) (own_tries t _ _);
@@ -228,7 +224,7 @@ module _ (on : AreBytesRead) (servers : Members) (past : List Line) (w : World) 
         → old.deadline ≤ s.known.time → l.servers ≡ old.servers → l.x ≡ old.x → 2 * l.place + behind l.second ≡ 2 * old.place + behind old.second + 1 → Trail (line ∷ past) new t (numbered s l)
     longer_trail t old l sends before found empty over servers x count =
         let h = i.trails t old found empty in
-        let time = at_moment past w g in let deadline = h.deadline in let number = h.count in let le = f.later in
+        let time = at_moment g in let deadline = h.deadline in let number = h.count in let le = f.later in
         let ended : h.last.moment + patience ≤ w.moment = omega (arith, time, deadline, over) in
         let place : length h.earlier / 2 ≡ old.place = half (length h.earlier) old.place old.second h.count in
         let last : IsInVain (line ∷ past) new t (server new.state.me old) old.x h.last = record {
@@ -254,18 +250,18 @@ module _ (on : AreBytesRead) (servers : Members) (past : List Line) (w : World) 
         rw is (longer_trail t old (at_next old) (rw is at sends) (rw (event_is _ e) refl) found (rw is at none) over refl refl (rw second (omega arith)))
 
     trail_by : (t : ℕ) (l : Pending) → l.kept ≡ None → Came s d.call d.reply t l → Trail (line ∷ past) new t l
-    trail_by t l none (stayed there other) = keeps_trail t l there none (λ of. other (rw (progress_now past w g step event new d) at of))
+    trail_by t l none (stayed there other) = keeps_trail t l there none (λ of. other (rw (progress_now g d) at of))
     trail_by t l none (opened k is here called place first empty e) =
         rw (← is) (new_trail t k (rw (here, event_is _ e) refl) [] (rw (event_is _ e) refl) (rw (place, first) refl) tt tt)
     trail_by t l none (went_on old k is there x goes lookup) =
-        rw (← is) (gone_on t old k there goes (progress_now past w g step event new d ∙ goes_sends s d.call d.reply t old k goes) (rw (← is) at none))
+        rw (← is) (gone_on t old k there goes (progress_now g d ∙ goes_sends s d.call d.reply t old k goes) (rw (← is) at none))
 
   pub tried_on : IsTried (line ∷ past) new
   tried_on = record {
     heard = λ reply moment. elim [
-      | inl h ↦ elim (rest_by servers w step event new g.early does) [
-        | inl d ↦ let c = heard_by past w g step event new d h.1.0 h.1.1 in let same : c.0 ≡ reply = cc (c.2, h.0) in rw (← same) (slice_get_within new.sent c.0 c.1 (f.sent c.0 c.1 c.3))
-        | inr rest ↦ absurd (rw h.1.1 at rest.idle)
+      | inl h ↦ elim part [
+        | inl d ↦ let c = heard_by g d h.1.0 h.1.1 in let same : c.0 ≡ reply = cc (c.2, h.0) in rw (← same) (slice_get_within new.sent c.0 c.1 (f.sent c.0 c.1 c.3))
+        | inr rest ↦ absurd (cc (rest.idle, ap reply_at h.1.1))
       ]
       | inr h ↦ let lt = i.heard reply moment h in let le = f.longer in omega (arith, lt, le)
     ];
@@ -273,9 +269,9 @@ module _ (on : AreBytesRead) (servers : Members) (past : List Line) (w : World) 
       | inl h ↦ (new_reply reply number h).1
       | inr h ↦ reply_stays reply number (i.replied reply number h)
     ];
-    trails = λ t l found empty. elim (rest_by servers w step event new g.early does) [
-      | inl d ↦ trail_by d t l empty (came_by past w g step event new d t l found)
-      | inr rest ↦ keeps_trail t l (rw rest.state at found) empty (λ of. rw rest.stays at of)
+    trails = λ t l found empty. elim part [
+      | inl d ↦ trail_by d t l empty (came_by g d t l found)
+      | inr rest ↦ keeps_trail t l (rw rest.state at found) empty (λ of. rw (rest_ends g rest) at of)
     ];
   }
 
@@ -290,7 +286,7 @@ last_due s call t l (by_loop rec takes referral below is) = absurd (cc is)
 last_due s call t l (by_nobody rec takes away start is) = absurd (cc is)
 last_due s call t l (by_nonce none is) = absurd (cc is)
 
-module _ (servers : Members) (past : List Line) (w : World) (g : IsGround past w) (i : IsTried past w) where
+module _ {past : List Line} {w : World} (g : IsGround past w) (i : IsTried past w) where
   no_reply_now : (t : ℕ) (l : Pending) (call : Call) → get w.state.pending t ≡ Some l → IsLastDue (moved w.moment w.state) call l → l.kept ≡ None → WasInVain past w t
   no_reply_now t l call found d empty =
       let h : Trail past w t l = i.trails t l found empty in
@@ -298,7 +294,7 @@ module _ (servers : Members) (past : List Line) (w : World) (g : IsGround past w
       let at_end = d.at_end in
       let count : length h.earlier ≡ 2 * l.place + 1 = h.count ∙ ap (λ b. 2 * l.place + behind b) d.second in
       let place : length h.earlier / 2 ≡ l.place = half (length h.earlier) l.place l.second h.count in
-      let time = at_moment past w g in let deadline = h.deadline in let over = d.over in
+      let time = at_moment g in let deadline = h.deadline in let over = d.over in
       let vain : AreInVain past w t l.servers l.x (h.last ∷ h.earlier) = (
         record { sent = h.sent; nonce = l.nonce; request = rw place h.datagram; over = omega (arith, time, deadline, over); unanswered = h.unanswered },
         h.is_later,
@@ -313,8 +309,6 @@ module _ (servers : Members) (past : List Line) (w : World) (g : IsGround past w
         in_vain = rw h.are_all vain;
       }
 
-  pub vain_now : (step : Step) (event : Event) (new : World) → WorldStep servers w step event new → IsNoReplyInForce past (record { before = w; step = step; event = event; after = new })
-  vain_now step event new does t ends = elim (rest_by servers w step event new g.early does) [
-    | inl d ↦ let left = left_now past w g step event new d t (Err NoReply) ends in let due = last_due (moved w.moment w.state) d.call t left.0 left.2 in no_reply_now t left.0 d.call left.1 due.0 due.1
-    | inr rest ↦ absurd (cc (ends, rest.stays))
-  ]
+  pub vain_now : {servers : Members} {step : Step} {event : Event} {new : World} → Part servers w step event new → IsNoReplyInForce past (one_line w step event new)
+  vain_now (inl d) t ends = let left = left_now g d t (Err NoReply) ends in let due = last_due (moved w.moment w.state) d.call t left.0 left.2 in no_reply_now t left.0 d.call left.1 due.0 due.1
+  vain_now (inr rest) t ends = absurd (cc (ends, rest_ends g rest))

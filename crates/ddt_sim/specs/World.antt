@@ -75,17 +75,17 @@ pub record MayReply (are_honest are_silent : Register → Type 0) (to : Locator)
       → IsHonestReply r to m reply
   pub silently : (r : Register) → are_silent r → (IsServer r to → ⊥) → reply ≡ None
 
--- what a step makes of the resolver's pending lookups: nothing, where the resolver has no part in it
+-- what the resolver answered at an event, if it had a part in it
+abbrev pub reply_at : Event → Option Reply
+reply_at (Asked a) = Some (ToAsk (Ok a))
+reply_at (Refused why) = Some (ToAsk (Err why))
+reply_at (Heard h) = Some (ToDatagram h)
+reply_at (Ticked h) = Some (ToTick h)
+reply_at _ = None
+
+-- what an event makes of the pending lookups: nothing, where the resolver has no part in it
 abbrev pub progress_at : Event → Progress
-progress_at (Asked a) = progress_of (ToAsk (Ok a))
-progress_at (Heard h) = progress_of (ToDatagram h)
-progress_at (Ticked h) = progress_of (ToTick h)
-progress_at (Refused why) = Stays
-progress_at (Replied k) = Stays
-progress_at Silent = Stays
-progress_at (Passed m) = Stays
-progress_at (Replaced k) = Stays
-progress_at Nothing = Stays
+progress_at event = option_map_or progress_of (reply_at event) Stays
 
 -- the request that goes out
 abbrev pub request_in : Progress → Option Outgoing

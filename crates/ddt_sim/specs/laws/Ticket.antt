@@ -1,5 +1,6 @@
 -- A ticket of a schedule is opened once, and ends at most once.
 use Rattle.std.proofs.Common.{◌≡◌, ℕ, ◌<◌, ◌≤◌, false, List, [], ◌∷◌, Some, None, Ok, Err, refl, sym, ap, ◌∙◌, arith, inl, inr, ◌⊎◌}
+use Rattle.std.specs.Option.{option_map_or}
 use Rattle.std.specs.FinMap.{get}
 use Rattle.ddt_path.specs.declared.xeid.Xeid.{Xeid}
 use Rattle.ddt_resolver.specs.declared.pending.Pending.{Pending}
@@ -18,7 +19,7 @@ use Rattle.ddt_resolver.specs.Order.{IsLookup}
 use Rattle.ddt_resolver.specs.laws.NumberMap.{found_insert, found_remove}
 use Rattle.ddt_resolver.specs.laws.Shape.{Move, stays, opens, sends, drops, Goes, anew, keeps, repeats, goes_on, goes_sends}
 use Rattle.ddt_sim.specs.declared.schedule.Step.TheVariants.{Ask}
-use Rattle.ddt_sim.specs.World.{event_of, progress_at}
+use Rattle.ddt_sim.specs.World.{event_of, reply_at, progress_at}
 use Rattle.ddt_sim.specs.History.{Line, Among}
 use Rattle.ddt_sim.specs.Schedules.{AsksFor, IsOpened, IsEnded, IsOnce}
 
@@ -29,12 +30,16 @@ among_map (line ∷ past) is are f (inr h) = inr (among_map past is are f h)
 
 -- ---- what a reply tells of a ticket
 
--- the event of a reply says what the reply makes of the pending lookups
+-- the event of a reply tells it
+pub reply_told : (a : Reply) → reply_at (event_of a) ≡ Some a
+reply_told (ToAsk (Ok a)) = refl
+reply_told (ToAsk (Err why)) = refl
+reply_told (ToDatagram h) = refl
+reply_told (ToTick h) = refl
+
+-- and what it makes of the pending lookups
 pub told_progress : (a : Reply) → progress_at (event_of a) ≡ progress_of a
-told_progress (ToAsk (Ok a)) = refl
-told_progress (ToAsk (Err why)) = refl
-told_progress (ToDatagram h) = refl
-told_progress (ToTick h) = refl
+told_progress a = ap (λ r. option_map_or progress_of r progress.Stays) (reply_told a)
 
 -- it is of a ticket: it sends for it, or ends it
 abbrev pub IsOf : Progress → ℕ → Type 0
@@ -59,17 +64,17 @@ pub data Came (s : State) (call : Call) (a : Reply) (t : ℕ) (l : Pending) : Ty
       → a ≡ ToAsk (Ok (asked_as.Sent s.next (request s k))) → Came s call a t l
   went_on : (old k : Pending) → numbered s k ≡ l → get s.pending t ≡ Some old → k.x ≡ old.x → Goes s call a t old k → IsLookup k → Came s call a t l
 
-pub came : (s : State) (call : Call) (new : State) (a : Reply) → Move s call new a → (t : ℕ) (l : Pending) → get new.pending t ≡ Some l → Came s call a t l
-came s call new a (stays p n q) t l found = stayed (rw p at found) (λ of. rw q at of)
-came s call new a (opens k called place first empty unsaved is more few p n f) t l found = elim (found_insert s.pending s.next (numbered s k) t l (rw p at found)) [
+pub came : {s : State} {call : Call} {new : State} {a : Reply} → Move s call new a → (t : ℕ) (l : Pending) → get new.pending t ≡ Some l → Came s call a t l
+came {s = s} (stays p n q) t l found = stayed (rw p at found) (λ of. rw q at of)
+came {s = s} (opens k called place first empty unsaved is more few p n f) t l found = elim (found_insert s.pending s.next (numbered s k) t l (rw p at found)) [
   | inl e ↦ opened k e.1 e.0 called place first empty f
   | inr e ↦ stayed e.1 (λ of. e.0 (sym (rw f at of)))
 ]
-came s call new a (sends u old k here x goes is more p n) t l found = elim (found_insert s.pending u (numbered s k) t l (rw p at found)) [
+came {s = s} (sends u old k here x goes is more p n) t l found = elim (found_insert s.pending u (numbered s k) t l (rw p at found)) [
   | inl e ↦ went_on old k e.1 (rw e.0 here) x (rw e.0 goes) is
-  | inr e ↦ stayed e.1 (λ of. e.0 (sym (rw (goes_sends s call a u old k goes) at of)))
+  | inr e ↦ stayed e.1 (λ of. e.0 (sym (rw (goes_sends s _ _ u old k goes) at of)))
 ]
-came s call new a (drops u k end here p n f why) t l found =
+came {s = s} (drops u k end here p n f why) t l found =
     let e = found_remove s.pending u t l (rw p at found) in
     stayed e.1 (λ of. e.0 (sym (rw f at of)))
 
@@ -88,7 +93,7 @@ pub record IsTurn (line : Line) (old new : State) : Type 0 where
   pub opens : (t : ℕ) → IsOpened t line → (t ≡ old.next) × (old.next < new.next)
   pub ends : (t : ℕ) → IsEnded t line → (k : Pending) × (get old.pending t ≡ Some k) × ((l : Pending) → get new.pending t ≡ Some l → ⊥)
 
-module _ (past : List Line) (line : Line) (old new : State) (i : Tickets past old) (turn : IsTurn line old new) where
+module _ {past : List Line} {line : Line} {old new : State} (i : Tickets past old) (turn : IsTurn line old new) where
   pub tickets_on : Tickets (line ∷ past) new
   tickets_on = record {
     asked_for = λ t l found. elim (turn.was t l found) [
@@ -160,7 +165,7 @@ module _ (line : Line) (moment : ℕ) (old new : State) (call : Call) (a : Reply
   pub move_turn : Move (moved moment old) call new a → IsTurn line old new
   move_turn m = record {
     grows = move_grows m;
-    was = λ t l found. came_was t l (came (moved moment old) call new a m t l found);
+    was = λ t l found. came_was t l (came m t l found);
     opens = move_opens m;
     ends = move_ends m;
   }

@@ -22,14 +22,14 @@ use Rattle.ddt_resolver.specs.Act.{HearStep}
 use Rattle.ddt_resolver.specs.Order.{IsInOrder, IsLookup}
 use Rattle.ddt_resolver.specs.laws.Order.{order_moved, order_kept}
 use Rattle.ddt_resolver.specs.laws.NumberMap.{found_insert, get-insert_same}
-use Rattle.ddt_resolver.specs.laws.Shape.{Move, stays, opens, sends, drops, IsMoved, moved_by_step, goes_sends, Leaves}
+use Rattle.ddt_resolver.specs.laws.Shape.{stays, opens, sends, drops, IsMoved, moved_by_step, goes_sends, Leaves}
 use Rattle.ddt_sim.specs.declared.schedule.Step.{Step}
 use Rattle.ddt_sim.specs.declared.schedule.Step.TheVariants.{Ask, Deliver, Replace}
 use Rattle.ddt_sim.specs.declared.schedule.Event.{Event}
 use Rattle.ddt_sim.specs.declared.schedule.Event.TheVariants.{Replied, Silent, Heard}
 use Rattle.ddt_sim.specs.declared.schedule.Datagram.{Datagram}
 use Rattle.ddt_sim.specs.Waiting.{CanBeAsked}
-use Rattle.ddt_sim.specs.World.{World, Members, MayReply, reply_to, request_from, request_in, request_at, sent_for, event_of, reply_at, progress_at, Calls, asked, heard, ticked, Resolves, by_reply, by_silence, WorldStep, resolves, serves, not_sent, passes, replaces, no_member}
+use Rattle.ddt_sim.specs.World.{World, Members, MayReply, reply_to, request_from, request_in, request_at, sent_for, event_of, reply_at, progress_at, call_at, Calls, asked, heard, ticked, Resolves, by_reply, by_silence, WorldStep, resolves, serves, not_sent, passes, replaces, no_member}
 use Rattle.ddt_sim.specs.History.{Line, History, begin, next, Each, at_start}
 use Rattle.ddt_sim.specs.Schedules.{Ends, IsOnce}
 use Rattle.ddt_sim.specs.laws.Ticket.{Tickets, tickets_on, once_on, IsTurn, still_turn, move_turn, reply_told, told_progress, Came, came, stayed, opened, went_on}
@@ -55,16 +55,17 @@ module _ {X : Type 0} where
 
 -- ---- how the resolver is called
 
--- an ask's call is an ask of the identifier, and the other way round
+-- an ask's call is an ask of the identifier
 pub asked_by : {w : World} {step : Step} {call : Call} (x : Xeid) → Calls w step call → call ≡ resolver.Ask x → (step ≡ Ask x) × CanBeAsked x w.state.me
 asked_by x (asked y fits e f) g = let same : y ≡ x = cc (f, g) in (e ∙ ap Ask same, rw same at fits)
 asked_by x (heard k d e found kind f) g = absurd (cc (f, g))
 asked_by x (ticked e f) g = absurd (cc (f, g))
 
-pub asks_by : {w : World} {step : Step} {call : Call} (x : Xeid) → Calls w step call → step ≡ Ask x → call ≡ resolver.Ask x
-asks_by x (asked y fits e f) g = let same : y ≡ x = cc (e, g) in f ∙ ap resolver.Ask same
-asks_by x (heard k d e found kind f) g = absurd (cc (e, g))
-asks_by x (ticked e f) g = absurd (cc (e, g))
+-- what a step calls for
+pub calls_at : {w : World} {step : Step} {call : Call} → Calls w step call → call ≡ call_at w.sent step
+calls_at (asked x fits e f) = rw e f
+calls_at (heard k d e found kind f) = rw (e, found) f
+calls_at (ticked e f) = rw e f
 
 -- a request that is delivered isn't heard
 request_unheard : {w : World} {step : Step} {call : Call} (k : ℕ) (d : Datagram) → step ≡ Deliver k → slice_get w.sent k ≡ Some d → d.is_reply ≡ false → Calls w step call → ⊥
@@ -127,11 +128,10 @@ IsServed servers w event new d =
 
 pub served : {servers : Members} {w : World} {step : Step} {event : Event} {new : World} → Part servers w step event new → (k : ℕ) (d : Datagram) → step ≡ Deliver k → slice_get w.sent k ≡ Some d → d.is_reply ≡ false → IsServed servers w event new d
 served (inl r) k d is found kind = absurd (request_unheard k d is found kind r.calls)
-served {servers = servers} {w = w} {step = step} {event = event} {new = new} (inr rest) k d is found kind = by rest.adds
-  where
-    by : Adds servers w step event new → IsServed servers w event new d
-    by (unsent same other silent) = inr (silent k d is found)
-    by (answered j c bytes e there other may f h) = let own = same_datagram w step j k c d e there is found in inl (bytes, rw own at may, f, rw own at h)
+served {w = w} {step = step} (inr rest) k d is found kind = elim rest.adds [
+  | unsent same other silent ↦ inr (silent k d is found)
+  | answered j c bytes e there other may f h ↦ let own = same_datagram w step j k c d e there is found in inl (bytes, rw own at may, f, rw own at h)
+]
 
 -- ---- the invariant
 
@@ -227,13 +227,12 @@ module _ {past : List Line} {w : World} (g : IsGround past w) where
 
     -- why a lookup ends
     pub left_now : (t : ℕ) (end : Result Outcome Why) → Ends event t end → (l : Pending) × (get w.state.pending t ≡ Some l) × Leaves (moved w.moment w.state) does.call t l end
-    left_now t end ends = by is_moved.move
-      where
-        by : Move now does.call does.state does.reply → (l : Pending) × (get w.state.pending t ≡ Some l) × Leaves now does.call t l end
-        by (stays p n quiet) = absurd (cc (ends, progress_now, quiet))
-        by (opens l called place first empty unsaved lookup more few p n f) = absurd (cc (ends, progress_now, ap progress_of f))
-        by (sends u old l there x goes lookup more p n) = absurd (cc (ends, progress_now, goes_sends now does.call does.reply u old l goes))
-        by (drops u l e there p n f why) = let same : u ≡ t = cc (ends, progress_now, f) in let own : e ≡ end = cc (ends, progress_now, f) in (l, rw same at there, rw (same, own) at why)
+    left_now t end ends = elim is_moved.move [
+      | stays p n quiet ↦ absurd (cc (ends, progress_now, quiet))
+      | opens l called place first empty unsaved lookup more few p n f ↦ absurd (cc (ends, progress_now, ap progress_of f))
+      | sends u old l there x goes lookup more p n ↦ absurd (cc (ends, progress_now, goes_sends now does.call does.reply u old l goes))
+      | drops u l e there p n f why ↦ let same : u ≡ t = cc (ends, progress_now, f) in let own : e ≡ end = cc (ends, progress_now, f) in (l, rw same at there, rw (same, own) at why)
+    ]
 
     -- what it sends
     has_sent : (t : ℕ) (l : Pending) → IsLookup l → does.state.pending ≡ insert w.state.pending t (numbered now l) → does.state.next ≡ w.state.next + 1 → HasSent w new t l
@@ -251,17 +250,16 @@ module _ {past : List Line} {w : World} (g : IsGround past w) where
     new_request servers k d None found is = inl (rw append-nil at found)
     new_request servers k d (Some q) found is = elim (got_append w.sent (request_from w.state.me q) k d found) [
       | inl there ↦ inl there
-      | inr here ↦ inr (by here.1 is_moved.move)
+      | inr here ↦ inr (elim is_moved.move [
+        | stays p n quiet ↦ absurd (none-some q (ap request_in (sym quiet) ∙ is))
+        | opens l called place first empty unsaved lookup more few p n f ↦ this here.1 w.state.next l (has_sent w.state.next l lookup p n) (ap progress_of f)
+        | sends t old l there x goes lookup more p n ↦ this here.1 t l (has_sent t l lookup p n) (goes_sends now does.call does.reply t old l goes)
+        | drops t l end there p n f why ↦ absurd (none-some q (ap request_in (sym f) ∙ is))
+      ])
     ]
       where
         this : request_from w.state.me q ≡ d → (t : ℕ) (l : Pending) → HasSent w new t l → progress_of does.reply ≡ Sends t (request_of now l) → IsNew servers w new d
         this here t l has f = let same : q ≡ request_of now l = same_Some q (request_of now l) (sym is ∙ ap request_in f) in request t l has (ap (request_from w.state.me) (sym same) ∙ here)
-
-        by : request_from w.state.me q ≡ d → Move now does.call does.state does.reply → IsNew servers w new d
-        by here (stays p n quiet) = absurd (none-some q (ap request_in (sym quiet) ∙ is))
-        by here (opens l called place first empty unsaved lookup more few p n f) = this here w.state.next l (has_sent w.state.next l lookup p n) (ap progress_of f)
-        by here (sends t old l there x goes lookup more p n) = this here t l (has_sent t l lookup p n) (goes_sends now does.call does.reply t old l goes)
-        by here (drops t l end there p n f why) = absurd (none-some q (ap request_in (sym f) ∙ is))
 
   -- ---- any step
 
@@ -296,11 +294,7 @@ module _ {past : List Line} {w : World} (g : IsGround past w) where
 
     sent_on : Part servers w step event new → (more : List Datagram) × (new.sent ≡ w.sent ++ more)
     sent_on (inl does) = (sent_for w.state.me (request_at event), ap (λ (v : World). v.sent) does.goes_on)
-    sent_on (inr rest) = by rest.adds
-      where
-        by : Adds servers w step event new → (more : List Datagram) × (new.sent ≡ w.sent ++ more)
-        by (unsent same other silent) = ([], same ∙ sym (append-nil w.sent))
-        by (answered k c bytes is there kind may e f) = (reply_to c bytes ∷ [], f)
+    sent_on (inr rest) = elim rest.adds [ unsent same other silent ↦ ([], same ∙ sym (append-nil w.sent)) | answered k c bytes is there kind may e f ↦ (reply_to c bytes ∷ [], f) ]
 
     pub follows : Part servers w step event new → Follows w new
     follows part = record {
@@ -315,14 +309,10 @@ module _ {past : List Line} {w : World} (g : IsGround past w) where
     -- a datagram that is there after a step was there before, or is new
     pub sent_by : Part servers w step event new → (k : ℕ) (d : Datagram) → slice_get new.sent k ≡ Some d → (slice_get w.sent k ≡ Some d) ⊎ IsNew servers w new d
     sent_by (inl does) k d found = new_request does servers k d (request_at event) (rw (ap (λ (v : World). v.sent) does.goes_on) at found) (sym (ap request_in (progress_now does)))
-    sent_by (inr rest) k d found = by rest.adds
-      where
-        by : Adds servers w step event new → (slice_get w.sent k ≡ Some d) ⊎ IsNew servers w new d
-        by (unsent same other silent) = inl (rw same at found)
-        by (answered j c bytes is there kind may e f) = elim (got_append w.sent (reply_to c bytes) k d (rw f at found)) [
-          | inl old ↦ inl old
-          | inr here ↦ inr (reply j c bytes there kind may here.1)
-        ]
+    sent_by (inr rest) k d found = elim rest.adds [
+      | unsent same other silent ↦ inl (rw same at found)
+      | answered j c bytes is there kind may e f ↦ elim (got_append w.sent (reply_to c bytes) k d (rw f at found)) [ inl old ↦ inl old | inr here ↦ inr (reply j c bytes there kind may here.1) ]
+    ]
 
 -- ---- a run
 

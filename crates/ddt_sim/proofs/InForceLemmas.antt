@@ -179,10 +179,6 @@ module _ {servers : Members} {registers : ℕ → Register} (on : HasLaws server
       f : Follows w new
       f = follows i.ground part
 
-      young_more : (p : List ℕ) (e : Entry) → WasYoung registers p e past w → WasYoung registers p e (line ∷ past) new
-      young_more p e (inl h) = inr (inl h)
-      young_more p e (inr h) = inr (inr h)
-
       -- what was asked before
       asked_still : {to : Locator} {nonce : ℕ} {x : Xeid} {t m : ℕ} → IsAsked past w to nonce x t m → IsAsked (line ∷ past) new to nonce x t m
       asked_still a = let below = a.below in let more = f.grows in let before = a.before in let le = f.later in record {
@@ -267,7 +263,7 @@ module _ {servers : Members} {registers : ℕ → Register} (on : HasLaws server
 
         entries_now : (p : List ℕ) (e : Entry) → get d.state.known.live p ≡ Some e → IsTrue (is_negative e.action) → WasYoung registers p e (line ∷ past) new
         entries_now p e found neg = elim (was_or_saved s d.call d.state p e found d.reply d.does) [
-          | inl there ↦ young_more p e (i.entries p e (live_at-is (max w.state.known.time w.moment) w.state.known.live p e there).0 neg)
+          | inl there ↦ inr (i.entries p e (live_at-is (max w.state.known.time w.moment) w.state.known.live p e there).0 neg)
           | inr saved ↦ inr (inr (since_among saved.ticket (IsSaid servers registers saved.told saved.lookup.x (m p e found neg saved)) (λ at. IsYoung registers p e at.before.moment at.before.member) (young_at p e found neg saved) past
               (heard_since d.calls saved.takes).2))
         ]
@@ -302,7 +298,7 @@ module _ {servers : Members} {registers : ℕ → Register} (on : HasLaws server
         ];
         entries = λ p e found neg. elim part [
           | inl d ↦ entries_now d p e (rw (state_is i.ground d) at found) neg
-          | inr rest ↦ young_more p e (i.entries p e (rw rest.state at found) neg)
+          | inr rest ↦ inr (i.entries p e (rw rest.state at found) neg)
         ];
         kept = λ t l rec found is. elim part [
           | inl d ↦ kept_by d t l rec is (came_by i.ground d t l found)

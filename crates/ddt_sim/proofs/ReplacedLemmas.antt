@@ -40,12 +40,12 @@ use Rattle.ddt_sim.specs.declared.schedule.Transcript.{Transcript}
 use Rattle.ddt_sim.specs.Honest.{IsServer, IsHonestReply}
 use Rattle.ddt_sim.specs.RunLaws.{LawsOfRuns}
 use Rattle.ddt_sim.specs.Sound.{IsTrueEntry, delegates, registers, denies, IsNotRegistered}
-use Rattle.ddt_sim.specs.World.{World, Members, MayReply, Calls}
+use Rattle.ddt_sim.specs.World.{World, Members, MayReply, call_at, Calls}
 use Rattle.ddt_sim.specs.History.{Line, Among, Each, at_start, Tells}
 use Rattle.ddt_sim.specs.Schedules.{IsOnce}
 use Rattle.ddt_sim.specs.InForce.{in_force, SomeSince, most_age, IsAnswerSince, IsAnswerOfLate, IsReplyInForce, IsFailureInForce, IsNoReplyInForce, AreRegisters}
 use Rattle.ddt_sim.specs.laws.Ticket.{among_map}
-use Rattle.ddt_sim.proofs.GroundLemmas.{Part, one_line, served, order_now, at_moment, asks_by, answer_is, rest_ends, left_now, once_now, first_ground, each_kept}
+use Rattle.ddt_sim.proofs.GroundLemmas.{Part, one_line, served, order_now, at_moment, calls_at, answer_is, rest_ends, left_now, once_now, first_ground, each_kept}
 use Rattle.ddt_sim.proofs.ReplyLemmas.{says_usable}
 use Rattle.ddt_sim.proofs.ScheduleLemmas.{ignored_rightly}
 use Rattle.ddt_sim.proofs.SinceLemmas.{since_map, since_any}
@@ -85,13 +85,6 @@ module _ {servers : Members} {of : ℕ → Register} (on : HasLaws servers of) {
 
   -- ---- answers at once
 
-  young_answer : (x : Xeid) (p : List ℕ) (e : Entry) (o : Outcome) → IsTrue (is_path (xeid_path x)) → IsTrue (covers p (xeid_path x)) → o ≡ outcome_at e.action p e.servers → w.moment < e.end → WasYoung of p e past w
-      → Among (line ∷ past) (λ at. (w.moment < at.before.moment + most_age) × (o ≡ assignment (in_force of at) (xeid_path x)))
-  young_answer x p e o id covers_it is live (inl h) = let y = h.young in inl (omega (arith, y, live), is ∙ sym (h.is_true (xeid_path x) id covers_it))
-  young_answer x p e o id covers_it is live (inr h) =
-      inr (among_map past (λ at. IsYoung of p e at.before.moment at.before.member) (λ at. (w.moment < at.before.moment + most_age) × (o ≡ assignment (in_force of at) (xeid_path x)))
-      (λ at h. let y = h.young in (omega (arith, y, live), is ∙ sym (h.is_true (xeid_path x) id covers_it))) h)
-
   found_young : (x : Xeid) (p : List ℕ) (e : Entry) (o : Outcome) → IsTrue (is_path (xeid_path x)) → IsFound s.known (xeid_path x) p e → answer_of p e ≡ Some o
       → Among (line ∷ past) (λ at. (w.moment < at.before.moment + most_age) × (o ≡ assignment (in_force of at) (xeid_path x)))
   found_young x p e o id (inr root) answer = absurd (none-some o (sym (ap (λ (f : Entry). answer_of p f) root.entry) ∙ answer))
@@ -100,31 +93,25 @@ module _ {servers : Members} {of : ℕ → Register} (on : HasLaws servers of) {
       let was = live_at-is (Rattle.std.proofs.Common.max w.state.known.time w.moment) w.state.known.live p e found.value in
       let live = ((order_now i.ground).known.entries p e found.value).live in
       let time = at_moment i.ground in
-      young_answer x p e o id found.covers_it own.1 (omega (arith, live, time)) (i.entries p e was.0 own.0)
+      among_map (line ∷ past) (λ at. IsYoung of p e at.before.moment at.before.member) (λ at. (w.moment < at.before.moment + most_age) × (o ≡ assignment (in_force of at) (xeid_path x)))
+      (λ at h. let y = h.young in (omega (arith, y, live, time), own.1 ∙ sym (h.is_true (xeid_path x) id found.covers_it))) (i.entries p e was.0 own.0)
 
   at_once_by : (call : Call) (after : State) (a : Reply) (x : Xeid) (o : Outcome) → resolver.Step s call after a → call ≡ resolver.Ask x → a ≡ ToAsk (Ok (asked_as.Answer o))
       → Among (line ∷ past) (λ at. (w.moment < at.before.moment + most_age) × (o ≡ assignment (in_force of at) (xeid_path x)))
   at_once_by call after a x o (hears source bytes h step called to) is told = absurd (cc (is, called))
   at_once_by call after a x o (ticks h step called to) is told = absurd (cc (is, called))
-  at_once_by call after a x o (asks y res id step called to) is told = by step.start
-    where
-      same : y ≡ x
-      same = cc (called, is)
-
-      given : res ≡ Ok (asked_as.Answer o)
-      given = cc (to, told)
-
-      by : ask.Start s y step.prefix step.entry after res → Among (line ∷ past) (λ at. (w.moment < at.before.moment + most_age) × (o ≡ assignment (in_force of at) (xeid_path x)))
-      by (ask.cached v answer e f) =
-          let one : v ≡ o = cc (given, f) in
-          found_young x step.prefix step.entry o (rw same at id) (rw same at step.found) (answer ∙ ap Some one)
-      by (ask.full none many e f) = absurd (cc (given, f))
-      by (ask.used_up none few over e f) = absurd (cc (given, f))
-      by (ask.opened free e f) = absurd (cc (given, f))
+  at_once_by call after a x o (asks y res id step called to) is told =
+      let same : y ≡ x = cc (called, is) in let given : res ≡ Ok (asked_as.Answer o) = cc (to, told) in
+      elim step.start [
+        | ask.cached v answer e f ↦ let one : v ≡ o = cc (given, f) in found_young x step.prefix step.entry o (rw same at id) (rw same at step.found) (answer ∙ ap Some one)
+        | ask.full none many e f ↦ absurd (cc (given, f))
+        | ask.used_up none few over e f ↦ absurd (cc (given, f))
+        | ask.opened free e f ↦ absurd (cc (given, f))
+      ]
 
   pub answer_of_late : IsAnswerOfLate of past line
   answer_of_late x o is e = elim part [
-    | inl d ↦ at_once_by d.call d.state d.reply x o d.does (asks_by x d.calls is) (answer_is i.ground d (ToAsk (Ok (asked_as.Answer o))) e)
+    | inl d ↦ at_once_by d.call d.state d.reply x o d.does (calls_at d.calls ∙ ap (call_at w.sent) is) (answer_is i.ground d (ToAsk (Ok (asked_as.Answer o))) e)
     | inr rest ↦ absurd (cc (rest.idle, e))
   ]
 
@@ -148,13 +135,10 @@ module _ {servers : Members} {of : ℕ → Register} (on : HasLaws servers of) {
   -- ---- failures
 
   sent_ignored : (k : ℕ) (d : Datagram) → slice_get w.sent k ≡ Some d → d.is_reply ≡ true → (why : Ignored) → Ignores s d.source d.bytes why → (why ≡ UnknownNonce) ⊎ (why ≡ Late)
-  sent_ignored k d found kind why ignores = by (i.sent k d found)
-    where
-      by : IsSent servers of past w d → (why ≡ UnknownNonce) ⊎ (why ≡ Late)
-      by (aged.asks nonce x t m a is bytes) = absurd (false≢true (sym is ∙ kind))
-      by (tells nonce x t m a is h) =
-          let any = since_any t (IsSpelled servers of d.source d.bytes nonce x m) past h in
-          ignored_rightly (on.read any.0.before.member any.1.within) d.bytes (was_asked on i a any.1.is_server) any.1.spells why ignores
+  sent_ignored k d found kind why ignores = elim (i.sent k d found) [
+    | aged.asks nonce x t m a is bytes ↦ absurd (false≢true (sym is ∙ kind))
+    | tells nonce x t m a is h ↦ let any = since_any t (IsSpelled servers of d.source d.bytes nonce x m) past h in ignored_rightly (on.read any.0.before.member any.1.within) d.bytes (was_asked on i a any.1.is_server) any.1.spells why ignores
+  ]
 
   pub failure_in_force : IsFailureInForce past line
   failure_in_force = record {

@@ -18,8 +18,8 @@ use Rattle.ddt_sim.specs.declared.schedule.Step.TheVariants.{Deliver, Replace}
 use Rattle.ddt_sim.specs.declared.schedule.Event.{Event}
 use Rattle.ddt_sim.specs.declared.schedule.Datagram.{Datagram}
 use Rattle.ddt_register.specs.declared.register.Register.{Register}
-use Rattle.ddt_sim.specs.World.{World, world, members, at_place, StillAre, OthersStay, ComesIntoForce, MayReply, event_of, after, Calls, call_at, Resolves, Serves, by_reply, by_silence, WorldStep, resolves, serves, not_sent, passes, replaces, no_member, Stops, undone, wanting, untold, asked, heard, ticked}
-use Rattle.ddt_sim.proofs.GroundLemmas.{part_of, member_on}
+use Rattle.ddt_sim.specs.World.{World, world, members, at_place, StillAre, OthersStay, ComesIntoForce, MayReply, event_of, after, Calls, call_at, Resolves, Serves, by_reply, by_silence, WorldStep, resolves, serves, not_sent, passes, replaces, no_member, Stops, undone, wanting, untold, heard}
+use Rattle.ddt_sim.proofs.GroundLemmas.{calls_at, part_of, member_on}
 use Rattle.ddt_sim.specs.History.{Line, History, begin, next, steps_of, events_of, at_start, WantsNext, StopsAfter}
 
 -- ---- a datagram that is delivered
@@ -46,15 +46,9 @@ none_at (d ∷ ds) (suc k) none = let le : length ds ≤ k = none_at ds k none i
 
 -- ---- a call of the resolver
 
--- what a step calls for
-calls_at : (w : World) (step : Step) (call : Call) → Calls w step call → call ≡ call_at w.sent step
-calls_at w step call (asked x fits e f) = rw e f
-calls_at w step call (heard k d e found kind f) = rw (e, found) f
-calls_at w step call (ticked e f) = rw e f
-
 module _ (w : World) (step : Step) (asks : (call : Call) × Calls w step call) (sent : List Datagram) (here : sent ≡ w.sent) (call : Call) (is : call ≡ call_at sent step) where
   pub called_by : Calls w step call
-  called_by = subst (Calls w step) (calls_at w step asks.0 asks.1 ∙ ap (λ l. call_at l step) (sym here) ∙ sym is) asks.1
+  called_by = subst (Calls w step) (calls_at asks.1 ∙ ap (λ l. call_at l step) (sym here) ∙ sym is) asks.1
 
   pub resolved_by : (reply : Reply) (s : State) (event : Event) → resolver.Step (moved w.moment w.state) call s reply → event ≡ event_of reply → Resolves w step event (after w s event)
   resolved_by reply s event does tells = record { call = call; reply = reply; state = s; calls = called_by; does = does; tells = tells; goes_on = refl }
@@ -97,37 +91,30 @@ set_others (x ∷ l) (suc k) new (suc j) other = set_others l k new j (λ e. oth
 
 -- ---- a request
 
-module _ {S : Type 0} (is_honest is_silent : S → Register → Type 0) where
-  may_at : (l : List S) (k : ℕ) (own : S) → k < length l → own ≡ get_or l k own → (to : Locator) (bytes : List ℕ) (reply : Option (List ℕ)) → MayReply (is_honest own) (is_silent own) to bytes reply
-      → MayReply (at_place is_honest l k) (at_place is_silent l k) to bytes reply
-  may_at l k own lt is to bytes reply may = record {
-    honestly = λ r m h. may.honestly r m (own_place is_honest l k own r lt is h);
-    silently = λ r h. may.silently r (own_place is_silent l k own r lt is h);
-  }
+-- what fewer registers are known to be served by may still reply
+module _ {honest silent honest2 silent2 : Register → Type 0} (keeps : (r : Register) → honest2 r → honest r) (still : (r : Register) → silent2 r → silent r) where
+  less_known : (to : Locator) (bytes : List ℕ) (reply : Option (List ℕ)) → MayReply honest silent to bytes reply → MayReply honest2 silent2 to bytes reply
+  less_known to bytes reply may = record { honestly = λ r m h. may.honestly r m (keeps r h); silently = λ r h. may.silently r (still r h) }
 
+  serves_less : (sent : List Datagram) (k : ℕ) (more : List Datagram) (event : Event) → Serves honest silent sent k more event → Serves honest2 silent2 sent k more event
+  serves_less sent k more event (by_reply d bytes found kind may e f) = by_reply d bytes found kind (less_known d.to d.bytes (Some bytes) may) e f
+  serves_less sent k more event (by_silence d found kind may e f) = by_silence d found kind (less_known d.to d.bytes None may) e f
+
+module _ {S : Type 0} (is_honest is_silent : S → Register → Type 0) where
   pub serves_at : (l : List S) (k : ℕ) (own : S) → k < length l → own ≡ get_or l k own → (moment number : ℕ) (sent more : List Datagram) (s : State) (event : Event) → Serves (is_honest own) (is_silent own) sent number more event
       → WorldStep (members is_honest is_silent l) (world moment k sent s) (Deliver number) event (world moment k more s)
-  serves_at l k own lt is moment number sent more s event (by_reply d bytes found kind may e f) = serves number more refl (by_reply d bytes found kind (may_at l k own lt is d.to d.bytes (Some bytes) may) e f) refl
-  serves_at l k own lt is moment number sent more s event (by_silence d found kind may e f) = serves number more refl (by_silence d found kind (may_at l k own lt is d.to d.bytes None may) e f) refl
+  serves_at l k own lt is moment number sent more s event serve =
+      serves number more refl (serves_less (λ r. own_place is_honest l k own r lt is) (λ r. own_place is_silent l k own r lt is) sent number more event serve) refl
 
-  -- ---- a run so far
-
-  module _ (before now : List S) (honest : StillAre is_honest before now) (silent : StillAre is_silent before now) where
-    still_may : (k : ℕ) (to : Locator) (bytes : List ℕ) (reply : Option (List ℕ)) → MayReply (at_place is_honest now k) (at_place is_silent now k) to bytes reply → MayReply (at_place is_honest before k) (at_place is_silent before k) to bytes reply
-    still_may k to bytes reply may = record { honestly = λ r m h. may.honestly r m (honest.1 k r h); silently = λ r h. may.silently r (silent.1 k r h) }
-
-    still_serves : (w : World) (k : ℕ) (more : List Datagram) (event : Event) → Serves (at_place is_honest now w.member) (at_place is_silent now w.member) w.sent k more event → Serves (at_place is_honest before w.member) (at_place is_silent before w.member) w.sent k more event
-    still_serves w k more event (by_reply d bytes found kind may e f) = by_reply d bytes found kind (still_may w.member d.to d.bytes (Some bytes) may) e f
-    still_serves w k more event (by_silence d found kind may e f) = by_silence d found kind (still_may w.member d.to d.bytes None may) e f
-
-    -- a step over what the servers were before
-    pub still_step : (w : World) (step : Step) (event : Event) (new : World) → WorldStep (members is_honest is_silent now) w step event new → WorldStep (members is_honest is_silent before) w step event new
-    still_step w step event new (resolves r) = resolves r
-    still_step w step event new (serves k more is by f) = serves k more is (still_serves w k more event by) f
-    still_step w step event new (not_sent k is past e f) = not_sent k is past e f
-    still_step w step event new (passes ms is e f) = passes ms is e f
-    still_step w step event new (replaces k is lt e f) = let same = honest.0 in replaces k is (omega (arith, lt, same)) e f
-    still_step w step event new (no_member k is le e f) = let same = honest.0 in no_member k is (omega (arith, le, same)) e f
+  -- a step over what the servers were before
+  still_step : (before now : List S) → StillAre is_honest before now → StillAre is_silent before now → (w : World) (step : Step) (event : Event) (new : World) → WorldStep (members is_honest is_silent now) w step event new
+      → WorldStep (members is_honest is_silent before) w step event new
+  still_step before now honest silent w step event new (resolves r) = resolves r
+  still_step before now honest silent w step event new (serves k more is by f) = serves k more is (serves_less (honest.1 w.member) (silent.1 w.member) w.sent k more event by) f
+  still_step before now honest silent w step event new (not_sent k is past e f) = not_sent k is past e f
+  still_step before now honest silent w step event new (passes ms is e f) = passes ms is e f
+  still_step before now honest silent w step event new (replaces k is lt e f) = let same = honest.0 in replaces k is (omega (arith, lt, same)) e f
+  still_step before now honest silent w step event new (no_member k is le e f) = let same = honest.0 in no_member k is (omega (arith, le, same)) e f
 
 -- one more at the end
 pub reverse_more : {X : Type 0} (x : X) (xs : List X) → reverse (x ∷ xs) ≡ reverse xs ++ x ∷ []

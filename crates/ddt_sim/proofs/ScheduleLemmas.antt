@@ -1,14 +1,12 @@
 -- What each step of a schedule over honest servers keeps. Its datagrams are requests of the resolver to servers of the
 -- register, and honest replies to them.
-use Rattle.std.proofs.Common.{◌≡◌, ℕ, ◌<◌, ◌^◌, true, false, List, [], ◌∷◌, length, Option, Some, refl, sym, ap, ◌∙◌, subst, arith, inl, inr, ◌⊎◌}
+use Rattle.std.proofs.Common.{◌≡◌, ℕ, ◌<◌, ◌^◌, true, false, List, [], ◌∷◌, Option, Some, refl, sym, ap, ◌∙◌, arith, inl, inr, ◌⊎◌}
 use Rattle.std.specs.Prelude.{IsTrue, slice_get}
 use Rattle.std.specs.FinMap.{get}
 use Rattle.std.proofs.lemmas.Bool.{false≢true}
 use Rattle.ddt_path.specs.declared.locator.Locator.{Locator}
 use Rattle.ddt_path.specs.declared.record.ReferralRecord.{ReferralRecord}
 use Rattle.ddt_path.specs.declared.xeid.Xeid.{Xeid}
-use Rattle.ddt_path.specs.Actions.{IsReferral}
-use Rattle.ddt_path.specs.Covers.{covers}
 use Rattle.ddt_path.specs.Path.{xeid_path, is_path}
 use Rattle.ddt_register.specs.declared.register.Register.{Register}
 use Rattle.ddt_check.specs.Rules.{IsAccepted}
@@ -20,7 +18,7 @@ use Rattle.ddt_resolver.specs.declared.pending.Pending.{Pending}
 use Rattle.ddt_resolver.specs.declared.answers.Ignored.{Ignored}
 use Rattle.ddt_resolver.specs.declared.answers.Ignored.TheVariants.{UnknownNonce, Late}
 use Rattle.ddt_resolver.specs.State.{State, moved, numbered, request_bytes, server}
-use Rattle.ddt_resolver.specs.Step.{Call, Hear}
+use Rattle.ddt_resolver.specs.Step.{Call}
 use Rattle.ddt_resolver.specs.TakeUp as takes
 use Rattle.ddt_resolver.specs.TakeUp.{Tells, IsTaken, Ignores}
 use Rattle.ddt_sim.specs.declared.schedule.Step.{Step}
@@ -114,15 +112,9 @@ module _ {r : Register} (laws : RepliesAreRead r) {s : State} {source : Locator}
   ignored_rightly why (takes.late t l rec from late e) = inr e
   ignored_rightly why (takes.not_covering t l rec in_time away e) =
       let to = in_time.from_server.reply in
-      absurd (away (inl (subst (λ (v : ReferralRecord). IsTrue (covers v.prefix (xeid_path l.x))) (sym (told l.nonce rec to.tells).1)
-      (subst (λ y. IsTrue (covers (says r source (xeid_path x)).prefix (xeid_path y))) (sym (its_lookup t l rec to).0) (laws.cover source (xeid_path x))))))
-  ignored_rightly why (takes.no_servers t l rec in_time about none e) = absurd (none named)
-    where
-      is : rec ≡ says r source (xeid_path x)
-      is = (told l.nonce rec in_time.from_server.reply.tells).1
-
-      named : IsReferral rec.action → 0 < length rec.servers
-      named k = subst (λ (v : ReferralRecord). 0 < length v.servers) (sym is) (laws.servers source (xeid_path x) (inl (subst (λ (v : ReferralRecord). IsReferral v.action) is k))).0
+      absurd (away (inl (rw ((told l.nonce rec to.tells).1, (its_lookup t l rec to).0) (laws.cover source (xeid_path x)))))
+  ignored_rightly why (takes.no_servers t l rec in_time about none e) =
+      let is : rec ≡ says r source (xeid_path x) = (told l.nonce rec in_time.from_server.reply.tells).1 in absurd (none (λ k. rw is (laws.servers source (xeid_path x) (inl (rw is at k))).0))
 
 -- ---- the invariant
 
@@ -160,18 +152,21 @@ module _ {r : Register} {servers : Members} (on : Stands r servers) {past : List
       let q = known_request d (i.known k d found) is in
       (q.0, q.1, q.2, q.3, may.honestly r (message_of q.0 q.1 (w.state.me ∷ []) true) (rw i.member on.honest) q.2.is_server q.3)
 
-  pub fair : (step : Step) (call : Call) → Calls w step call → IsFair r (moved w.moment w.state) call
-  fair step call (asked x fits e f) = rw f tt
-  fair step call (ticked e f) = rw f tt
-  fair step call (heard k d e found kind f) = rw f (by (i.known k d found))
-    where
-      by : IsKnown r w.state d → IsFair r s (Hear d.source d.bytes)
-      by (requested nonce x a is bytes) = absurd (false≢true (sym is ∙ kind))
-      by (replied nonce x a is spells) = reply_is_fair on.read d.bytes (was_asked_at w.moment a) spells
+  -- what it has sent as a reply is one
+  pub known_reply : (k : ℕ) (d : Datagram) → slice_get w.sent k ≡ Some d → d.is_reply ≡ true → (nonce : ℕ) × (x : Xeid) × WasAsked r (moved w.moment w.state) d.source nonce x × Spells d.bytes (referral_of nonce (says r d.source (xeid_path x)))
+  known_reply k d found kind = elim (i.known k d found) [
+    | requested nonce x a is bytes ↦ absurd (false≢true (sym is ∙ kind))
+    | replied nonce x a is spells ↦ (nonce, x, was_asked_at w.moment a, spells)
+  ]
+
+  fair : {step : Step} {call : Call} → Calls w step call → IsFair r (moved w.moment w.state) call
+  fair (asked x fits e f) = rw f tt
+  fair (ticked e f) = rw f tt
+  fair (heard k d e found kind f) = let q = known_reply k d found kind in rw f (reply_is_fair on.read d.bytes q.2 q.3)
 
   module _ {step : Step} {event : Event} {new : World} where
     pub right_now : (does : Resolves w step event new) → IsSound r does.state × IsRight r (moved w.moment w.state) does.call does.reply
-    right_now does = on.keeps r s does.call does.state does.reply on.accepted (order_now i.ground) (on.time r w.state w.moment i.sound) (fair step does.call does.calls) does.does
+    right_now does = on.keeps r s does.call does.state does.reply on.accepted (order_now i.ground) (on.time r w.state w.moment i.sound) (fair does.calls) does.does
 
     sound_on : Part servers w step event new → IsSound r new.state
     sound_on (inl does) = rw (state_is i.ground does) (right_now does).0

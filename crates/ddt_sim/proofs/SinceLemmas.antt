@@ -91,13 +91,12 @@ module _ (s : State) (call : Call) (new : State) (p : List ℕ) (e : Entry) (fou
     acted h (acts.used_up k over f g) = inl (rw f at found)
 
   started : (x : _) (r : _) → AskStep s x new r → WasOrSaved s call p e
-  started x r step = by step.start
-    where
-      by : ask.Start s x step.prefix step.entry new r → WasOrSaved s call p e
-      by (ask.cached v answer f g) = inl (rw f at found)
-      by (ask.full none many f g) = inl (rw f at found)
-      by (ask.used_up none few over f g) = inl (rw f at found)
-      by (ask.opened free f g) = inl (rw f at found)
+  started x r step = elim step.start [
+    | ask.cached v answer f g ↦ inl (rw f at found)
+    | ask.full none many f g ↦ inl (rw f at found)
+    | ask.used_up none few over f g ↦ inl (rw f at found)
+    | ask.opened free f g ↦ inl (rw f at found)
+  ]
 
   went_on : (t : ℕ) (l : Pending) (h : Ticked) → GoOn s t l new h → WasOrSaved s call p e
   went_on t l h (ticks.again first room f g) = inl (rw f at found)

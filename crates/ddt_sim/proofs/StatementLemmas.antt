@@ -1,11 +1,11 @@
 -- What holds of each line of a schedule over honest servers.
 use Rattle.std.proofs.Common.{◌≡◌, ℕ, true, false, List, [], ◌∷◌, ◌++◌, map, Some, None, Result, Ok, Err, refl, sym, ap, ◌∙◌, subst, arith, inl, inr, ◌⊎◌}
-use Rattle.std.specs.Prelude.{slice_get, Contains}
+use Rattle.std.specs.Prelude.{slice_get}
+use Rattle.std.proofs.lemmas.List.Elements.{Contains-append_left}
 use Rattle.std.proofs.lemmas.List.Sorted.{IsPermutation-reverse}
-use Rattle.ddt_path.specs.laws.Member.{IsIn, in_contained, contained, moved_in}
+use Rattle.ddt_path.specs.laws.Member.{IsIn, contained, moved_in}
 use Rattle.std.specs.FinMap.{get, len}
 use Rattle.std.proofs.lemmas.Option.{none-some}
-use Rattle.std.proofs.lemmas.Bool.{false≢true}
 use Rattle.ddt_path.specs.Path.{xeid_path}
 use Rattle.ddt_register.specs.declared.register.Register.{Register}
 use Rattle.ddt_check.specs.Says.{says}
@@ -45,14 +45,14 @@ use Rattle.ddt_sim.specs.declared.schedule.Datagram.{Datagram}
 use Rattle.ddt_sim.specs.declared.schedule.Transcript.{Transcript}
 use Rattle.ddt_sim.specs.RunLaws.{LawsOfRuns}
 use Rattle.ddt_sim.specs.Sound.{IsSound, IsRight, IsRightHeard, IsRightTicked, IsRightEnd, IsRightWhy}
-use Rattle.ddt_sim.specs.World.{World, Members, MayReply, reply_at, Resolves}
+use Rattle.ddt_sim.specs.World.{World, Members, MayReply, reply_at, call_at, Resolves}
 use Rattle.ddt_sim.specs.History.{Line, Each, steps_of, at_start, Tells, StopsAfter}
 use Rattle.ddt_sim.specs.Schedules.{StartsSound, KeepServers, Ends, IsRightAnswer, IsOnce, IsRightReply, IsRightFailure}
 use Rattle.ddt_sim.specs.Tries.{IsRightNoReply}
-use Rattle.ddt_sim.proofs.GroundLemmas.{IsGround, Part, one_line, served, order_now, answer_is, asks_by, progress_now, rest_ends, heard_by, left_now, once_now, first_ground, run_kept, each_kept}
+use Rattle.ddt_sim.proofs.GroundLemmas.{IsGround, Part, one_line, served, order_now, answer_is, calls_at, progress_now, rest_ends, heard_by, left_now, once_now, first_ground, run_kept, each_kept}
 use Rattle.ddt_sim.proofs.ReplyLemmas.{act_is_for, says_usable}
 use Rattle.ddt_sim.proofs.TriesLemmas.{IsTried, ReplyUsably, tried_on, vain_now}
-use Rattle.ddt_sim.proofs.ScheduleLemmas.{IsKnown, requested, replied, was_asked_at, ignored_rightly, IsSoundRun, Stands, known_request, replied_honestly, right_now, steps_soundly}
+use Rattle.ddt_sim.proofs.ScheduleLemmas.{ignored_rightly, IsSoundRun, Stands, known_request, known_reply, replied_honestly, right_now, steps_soundly}
 
 -- ---- failures, whatever the servers say
 
@@ -73,16 +73,12 @@ IsRightRefusal s why = ((why ≡ ask_error.TooMany) × (len s.pending ≡ most_p
 refused_by : (s : State) → IsInOrder s → (call : Call) (new : State) (a : Reply) (why : AskError) → resolver.Step s call new a → a ≡ ToAsk (Err why) → IsRightRefusal s why
 refused_by s o call new a why (hears source bytes h step called to) is = absurd (cc (to, is))
 refused_by s o call new a why (ticks h step called to) is = absurd (cc (to, is))
-refused_by s o call new a why (asks x res id step called to) is = by step.start
-  where
-    same : res ≡ Err why
-    same = cc (to, is)
-
-    by : ask.Start s x step.prefix step.entry new res → IsRightRefusal s why
-    by (ask.cached out some e f) = absurd (cc (same, f))
-    by (ask.full none many e f) = let few = o.few in inl (cc (same, f), omega (arith, many, few))
-    by (ask.used_up none few over e f) = inr (cc (same, f), over)
-    by (ask.opened free e f) = absurd (cc (same, f))
+refused_by s o call new a why (asks x res id step called to) is = let same : res ≡ Err why = cc (to, is) in elim step.start [
+  | ask.cached out some e f ↦ absurd (cc (same, f))
+  | ask.full none many e f ↦ let few = o.few in inl (cc (same, f), omega (arith, many, few))
+  | ask.used_up none few over e f ↦ inr (cc (same, f), over)
+  | ask.opened free e f ↦ absurd (cc (same, f))
+]
 
 module _ {servers : Members} {past : List Line} {w : World} (g : IsGround past w) {step : Step} {event : Event} {new : World} where
   pub gave_up_now : Part servers w step event new → (t : ℕ) (why : Why) → Ends event t (Err why) → (why ≡ NoReply) ⊎ (why ≡ Loop) ⊎ (why ≡ NotAuthoritative) ⊎ ((why ≡ Exhausted) × (w.state.next ≡ last_nonce))
@@ -98,11 +94,10 @@ module _ {servers : Members} {past : List Line} {w : World} (g : IsGround past w
       → ((k : ℕ) (c : Datagram) → slice_get w.sent k ≡ Some c → c.is_reply ≡ true → (why : Ignored) → Ignores (moved w.moment w.state) c.source c.bytes why → (why ≡ UnknownNonce) ⊎ (why ≡ Late))
       → (why : Ignored) → event ≡ Heard (heard_as.Ignored why) → (why ≡ UnknownNonce) ⊎ (why ≡ Late)
   ignored_now (inr rest) rightly why is = absurd (cc (rest.idle, ap reply_at is))
-  ignored_now (inl d) rightly why is = let c = heard_by g d (heard_as.Ignored why) is in by c.0 c.1 c.3 c.4 c.5
-    where
-      by : (k : ℕ) (c : Datagram) → slice_get w.sent k ≡ Some c → c.is_reply ≡ true → HearStep (moved w.moment w.state) c.source c.bytes d.state (heard_as.Ignored why) → (why ≡ UnknownNonce) ⊎ (why ≡ Late)
-      by k c found kind (act.taken t l rec taken acts) = absurd (act_is_for (moved w.moment w.state) t l rec d.state (heard_as.Ignored why) acts)
-      by k c found kind (act.ignored reason ignores e told) = let own : reason ≡ why = cc told in rw own at (rightly k c found kind reason ignores)
+  ignored_now (inl d) rightly why is = let c = heard_by g d (heard_as.Ignored why) is in elim c.5 [
+    | act.taken t l rec taken acts ↦ absurd (act_is_for (moved w.moment w.state) t l rec d.state (heard_as.Ignored why) acts)
+    | act.ignored reason ignores e told ↦ let own : reason ≡ why = cc told in rw own at (rightly c.0 c.1 c.3 c.4 reason ignores)
+  ]
 
 -- ---- right answers
 
@@ -139,13 +134,6 @@ module _ (r : Register) (s : State) where
 -- ---- each line
 
 module _ {r : Register} {servers : Members} (on : Stands r servers) {past : List Line} {w : World} (i : IsSoundRun r past w) where
-  known_ignored : (k : ℕ) (d : Datagram) → slice_get w.sent k ≡ Some d → d.is_reply ≡ true → (why : Ignored) → Ignores (moved w.moment w.state) d.source d.bytes why → (why ≡ UnknownNonce) ⊎ (why ≡ Late)
-  known_ignored k d found kind why ignores = by (i.known k d found)
-    where
-      by : IsKnown r w.state d → (why ≡ UnknownNonce) ⊎ (why ≡ Late)
-      by (requested nonce x a is bytes) = absurd (false≢true (sym is ∙ kind))
-      by (replied nonce x a is spells) = ignored_rightly on.read d.bytes (was_asked_at w.moment a) spells why ignores
-
   module _ {step : Step} {event : Event} {new : World} where
     right_end : (d : Resolves w step event new) (t : ℕ) (end : Result _ _) → Ends event t end → IsRightProgress r (moved w.moment w.state) (progress.Ends t end)
     right_end d t end ends = subst (IsRightProgress r (moved w.moment w.state)) (sym (progress_now i.ground d) ∙ ends) (right_progress r (moved w.moment w.state) d.call d.state d.reply d.does (right_now on i d).1)
@@ -157,7 +145,7 @@ module _ {r : Register} {servers : Members} (on : Stands r servers) {past : List
     right_answer : Part servers w step event new → IsRightAnswer r past (one_line w step event new)
     right_answer (inr rest) = record { at_once = λ x o is e. absurd (cc (rest.idle, e)); to_ticket = λ t o ends. absurd (cc (ends, rest_ends i.ground rest)) }
     right_answer (inl d) = record {
-      at_once = λ x o is e. rw (asks_by x d.calls is, answer_is i.ground d (ToAsk (Ok (asked_as.Answer o))) e) at (right_now on i d).1;
+      at_once = λ x o is e. rw (calls_at d.calls ∙ ap (call_at w.sent) is, answer_is i.ground d (ToAsk (Ok (asked_as.Answer o))) e) at (right_now on i d).1;
       to_ticket = λ t o ends. let l = left_now i.ground d t (Ok o) ends in (l.0.x, i.ground.tickets.asked_for t l.0 l.1, right_end d t (Ok o) ends l.0 l.1);
     }
 
@@ -169,7 +157,7 @@ module _ {r : Register} {servers : Members} (on : Stands r servers) {past : List
         | inr (inr (inl a)) ↦ elim (right_why part t why ends) [ inl b ↦ inl b | inr b ↦ absurd (cc (a, b)) ]
         | inr (inr (inr a)) ↦ inr a
       ];
-      ignored = ignored_now i.ground part known_ignored;
+      ignored = ignored_now i.ground part (λ k d found kind. let q = known_reply on i k d found kind in ignored_rightly on.read d.bytes q.2 q.3);
       refused = refused_now i.ground part;
     }
 
@@ -204,20 +192,14 @@ in_steps : (past : List Line) → ((k : ℕ) → IsIn (Replace k) (map (λ (line
 in_steps [] none = tt
 in_steps (l ∷ past) none = ((λ k is. none k (inl (sym is))), in_steps past (λ k there. none k (inr there)))
 
-pub keep_them : (steps : List Step) (past : List Line) → KeepServers steps → steps ≡ steps_of past → KeepThem past
+keep_them : (steps : List Step) (past : List Line) → KeepServers steps → steps ≡ steps_of past → KeepThem past
 keep_them steps past keep are =
-    in_steps past (λ k there. keep k (subst (λ l. Contains l (Replace k)) (sym are)
+    in_steps past (λ k there. keep k (rw are
     (contained (steps_of past) (Replace k) (moved_in (map (λ (line : Line). line.step) past) (steps_of past) (IsPermutation-reverse (map (λ (line : Line). line.step) past)) (Replace k) there))))
 
 -- those that were done of some steps
-pub keep_first : (steps : List Step) (past : List Line) (rest : List Step) → KeepServers steps → steps ≡ steps_of past ++ rest → KeepThem past
-keep_first steps past rest keep are =
-    keep_them (steps_of past) past (λ k there. keep k (subst (λ l. Contains l (Replace k)) (sym are) (contained (steps_of past ++ rest) (Replace k) (in_front (Replace k) (steps_of past) rest (in_contained (steps_of past) (Replace k) there))))) refl
-  where
-    in_front : (x : Step) (xs ys : List Step) → IsIn x xs → IsIn x (xs ++ ys)
-    in_front x [] ys h = absurd h
-    in_front x (y ∷ xs) ys (inl h) = inl h
-    in_front x (y ∷ xs) ys (inr h) = inr (in_front x xs ys h)
+keep_first : (steps : List Step) (past : List Line) (rest : List Step) → KeepServers steps → steps ≡ steps_of past ++ rest → KeepThem past
+keep_first steps past rest keep are = keep_them (steps_of past) past (λ k there. keep k (rw are (Contains-append_left (steps_of past) rest (Replace k) there))) refl
 
 -- ---- a run
 

@@ -34,7 +34,7 @@ use Rattle.ddt_sim.specs.History.{Line, Among}
 use Rattle.ddt_sim.specs.Tries.{Try, try_in, IsSentFor, IsReplyBy, IsHeardBy, IsUnanswered, request_to, IsInVain, IsLater, AreInVain, tries_before, tries_by, tries_of, WasInVain}
 use Rattle.ddt_sim.specs.InForce.{IsNoReplyInForce}
 use Rattle.ddt_sim.specs.laws.Ticket.{IsOf, Came, stayed, opened, went_on}
-use Rattle.ddt_sim.proofs.GroundLemmas.{get_last, IsGround, Adds, unsent, answered, rest_ends, Part, one_line, Follows, follows, order_now, at_moment, reply_now, progress_now, came_by, heard_by, left_now}
+use Rattle.ddt_sim.proofs.GroundLemmas.{get_last, IsGround, unsent, answered, rest_ends, Part, one_line, Follows, follows, order_now, at_moment, reply_now, progress_now, came_by, heard_by, left_now}
 use Rattle.ddt_sim.proofs.ReplyLemmas.{IsFor, IsUsable, late_or_taken}
 use Rattle.ddt_sim.proofs.WaitingLemmas.{spelled_request}
 
@@ -102,6 +102,10 @@ pub record IsTried (past : List Line) (w : World) : Type 0 where
   pub replied : (reply number : ℕ) → Among past (IsReplyBy reply number) → IsReplyTo w.sent reply number
   pub trails : (t : ℕ) (l : Pending) → get w.state.pending t ≡ Some l → l.kept ≡ None → Trail past w t l
 
+-- all the tries of a lookup were in vain once the time of the last is over
+all_vain : {past : List Line} {w : World} {t : ℕ} {l : Pending} (h : Trail past w t l) → h.last.moment + patience ≤ w.moment → AreInVain past w t l.servers l.x (h.last ∷ h.earlier)
+all_vain {l = l} h over = (record { sent = h.sent; nonce = l.nonce; request = rw (half (length h.earlier) l.place l.second h.count) h.datagram; over = over; unanswered = h.unanswered }, h.is_later, h.in_vain)
+
 -- what requests and replies as bytes stand on
 pub record AreBytesRead : Type 0 where
   pub messages : MessagesAreRead
@@ -126,14 +130,13 @@ module _ (on : AreBytesRead) {servers : Members} {past : List Line} {w : World} 
   new_reply : (reply number : ℕ) → IsReplyBy reply number line → (reply ≡ length w.sent) × IsReplyTo new.sent reply number
   new_reply reply number h = elim part [
     | inl d ↦ absurd (cc (reply_now g d, ap reply_at h.1))
-    | inr rest ↦ by rest.adds
-  ]
-    where
-      by : Adds servers w step event new → (reply ≡ length w.sent) × IsReplyTo new.sent reply number
-      by (unsent same other silent) = absurd (other reply h.1)
-      by (answered k d bytes is found kind may e sent) =
+    | inr rest ↦ elim rest.adds [
+      | unsent same other silent ↦ absurd (other reply h.1)
+      | answered k d bytes is found kind may e sent ↦
           let last : reply ≡ length w.sent = cc (h.1, e) in let own : number ≡ k = cc (h.0, is) in
           (last, record { request = d; bytes = bytes; is_request = rw own (f.sent k d found); is_reply = rw (last, sent) (get_last w.sent (reply_to d bytes)); usable = usable k d bytes found kind may })
+    ]
+  ]
 
   reply_stays : (reply number : ℕ) → IsReplyTo w.sent reply number → IsReplyTo new.sent reply number
   reply_stays reply number h = record { request = h.request; bytes = h.bytes; is_request = f.sent number h.request h.is_request; is_reply = f.sent reply _ h.is_reply; usable = h.usable }
@@ -224,17 +227,8 @@ module _ (on : AreBytesRead) {servers : Members} {past : List Line} {w : World} 
         → old.deadline ≤ s.known.time → l.servers ≡ old.servers → l.x ≡ old.x → 2 * l.place + behind l.second ≡ 2 * old.place + behind old.second + 1 → Trail (line ∷ past) new t (numbered s l)
     longer_trail t old l sends before found empty over servers x count =
         let h = i.trails t old found empty in
-        let time = at_moment g in let deadline = h.deadline in let number = h.count in let le = f.later in
-        let ended : h.last.moment + patience ≤ w.moment = omega (arith, time, deadline, over) in
-        let place : length h.earlier / 2 ≡ old.place = half (length h.earlier) old.place old.second h.count in
-        let last : IsInVain (line ∷ past) new t (server new.state.me old) old.x h.last = record {
-          sent = inr h.sent;
-          nonce = old.nonce;
-          request = rw f.me (f.sent h.last.number _ h.datagram);
-          over = omega (arith, ended, le);
-          unanswered = unanswered_more h.last h.unanswered (λ reply heard p q did. ended);
-        } in
-        let vain : AreInVain (line ∷ past) new t old.servers old.x (h.last ∷ h.earlier) = (rw place last, h.is_later, all_vain_more t old.servers old.x h.earlier h.in_vain) in
+        let time = at_moment g in let deadline = h.deadline in let number = h.count in
+        let vain = all_vain_more t old.servers old.x (h.last ∷ h.earlier) (all_vain h (omega (arith, time, deadline, over))) in
         new_trail t l sends (h.last ∷ h.earlier) (before ∙ h.are_all) (omega (arith, number, count))
         (slice_get_within w.sent h.last.number _ h.datagram) (subst₂ (λ set y. AreInVain (line ∷ past) new t set y (h.last ∷ h.earlier)) (sym servers) (sym x) vain)
 
@@ -293,20 +287,14 @@ module _ {past : List Line} {w : World} (g : IsGround past w) (i : IsTried past 
       let within = (g.order.lookups t l found).lookup.place in
       let at_end = d.at_end in
       let count : length h.earlier ≡ 2 * l.place + 1 = h.count ∙ ap (λ b. 2 * l.place + behind b) d.second in
-      let place : length h.earlier / 2 ≡ l.place = half (length h.earlier) l.place l.second h.count in
       let time = at_moment g in let deadline = h.deadline in let over = d.over in
-      let vain : AreInVain past w t l.servers l.x (h.last ∷ h.earlier) = (
-        record { sent = h.sent; nonce = l.nonce; request = rw place h.datagram; over = omega (arith, time, deadline, over); unanswered = h.unanswered },
-        h.is_later,
-        h.in_vain,
-      ) in
       record {
         lookup = l;
         is_pending = found;
         its_ask = g.tickets.asked_for t l found;
         has_servers = omega (arith, within);
         two_each = rw h.are_all (omega (arith, within, at_end, count));
-        in_vain = rw h.are_all vain;
+        in_vain = rw h.are_all (all_vain h (omega (arith, time, deadline, over)));
       }
 
   pub vain_now : {servers : Members} {step : Step} {event : Event} {new : World} → Part servers w step event new → IsNoReplyInForce past (one_line w step event new)

@@ -211,19 +211,17 @@ module _ {past : List Line} {w : World} (g : IsGround past w) where
 
     -- what is heard was sent
     pub heard_by : (h : Hearing) → event ≡ Heard h → (k : ℕ) × (c : Datagram) × (step ≡ Deliver k) × (slice_get w.sent k ≡ Some c) × (c.is_reply ≡ true) × HearStep (moved w.moment w.state) c.source c.bytes does.state h
-    heard_by h is = by does.calls does.does
-      where
-        told : does.reply ≡ ToDatagram h
-        told = answer_is (ToDatagram h) is
-
-        by : Calls w step does.call → resolver.Step now does.call does.state does.reply → (k : ℕ) × (c : Datagram) × (step ≡ Deliver k) × (slice_get w.sent k ≡ Some c) × (c.is_reply ≡ true) × HearStep now c.source c.bytes does.state h
-        by calls (asks x r id st called to) = absurd (cc (told, to))
-        by calls (ticks r st called to) = absurd (cc (told, to))
-        by (asked x fits e f) (hears source bytes own st called to) = absurd (cc (f, called))
-        by (ticked e f) (hears source bytes own st called to) = absurd (cc (f, called))
-        by (heard k c e found kind f) (hears source bytes own st called to) =
+    heard_by h is = let told : does.reply ≡ ToDatagram h = answer_is (ToDatagram h) is in elim does.does [
+      | asks x r id st called to ↦ absurd (cc (told, to))
+      | ticks r st called to ↦ absurd (cc (told, to))
+      | hears source bytes own st called to ↦ elim does.calls [
+        | asked x fits e f ↦ absurd (cc (f, called))
+        | ticked e f ↦ absurd (cc (f, called))
+        | heard k c e found kind f ↦
             let from : c.source ≡ source = cc (f, called) in let text : c.bytes ≡ bytes = cc (f, called) in let same : own ≡ h = cc (told, to) in
             (k, c, e, found, kind, rw (from, text, ← same) st)
+      ]
+    ]
 
     -- why a lookup ends
     pub left_now : (t : ℕ) (end : Result Outcome Why) → Ends event t end → (l : Pending) × (get w.state.pending t ≡ Some l) × Leaves (moved w.moment w.state) does.call t l end

@@ -1,5 +1,5 @@
 -- What each step keeps of a run over registers that replace each other.
-use Rattle.std.proofs.Common.{◌≡◌, ℕ, ◌+◌, ◌<◌, ◌≤◌, ◌^◌, true, false, List, [], ◌∷◌, Option, Some, None, refl, sym, ap, ◌∙◌, subst, subst₂, arith, inl, inr, ◌⊎◌, max}
+use Rattle.std.proofs.Common.{◌≡◌, ℕ, ◌+◌, ◌<◌, ◌≤◌, ◌^◌, true, false, List, [], ◌∷◌, Option, Some, None, refl, sym, ap, ◌∙◌, subst, arith, inl, inr, ◌⊎◌, max}
 use Rattle.std.specs.Prelude.{IsTrue, slice_get, find}
 use Rattle.std.specs.FinMap.{get}
 use Rattle.std.proofs.lemmas.Bool.{false≢true}
@@ -25,7 +25,6 @@ use Rattle.ddt_cache.specs.Entry.{is_negative}
 use Rattle.ddt_resolver.specs.declared.pending.Pending.{Pending}
 use Rattle.ddt_resolver.specs.State.{State, moved, request_bytes, server, patience, numbered}
 use Rattle.ddt_resolver.specs.Records.{outcome_at, outcome_of}
-use Rattle.ddt_resolver.specs.TakeUp.{IsTaken}
 use Rattle.ddt_resolver.specs.Step.{Call}
 use Rattle.ddt_resolver.specs.laws.Shape.{Takes, Goes, anew, keeps, repeats, goes_on}
 use Rattle.ddt_sim.specs.declared.schedule.Step.{Step}
@@ -133,31 +132,22 @@ module _ {servers : Members} {registers : ℕ → Register} (on : HasLaws server
     pub heard_since : {step : Step} {call : Call} → Calls w step call → {t : ℕ} {l : Pending} {rec : ReferralRecord} → Takes (moved w.moment w.state) call t l rec → (m : ℕ) × (l.deadline ≡ m + patience) × SomeSince t (IsSaid servers registers rec l.x m) past
     heard_since (asked x fits e f) takes = absurd (cc (takes.called, f))
     heard_since (ticked e f) takes = absurd (cc (takes.called, f))
-    heard_since (heard k d e found kind f) {t = t} {l = l} {rec = rec} takes = by (i.sent k d found)
-      where
-        from : takes.source ≡ d.source
-        from = cc (takes.called, f)
-
-        text : takes.bytes ≡ d.bytes
-        text = cc (takes.called, f)
-
-        here : IsTaken s d.source d.bytes t l rec
-        here = subst₂ (λ y z. IsTaken s y z t l rec) from text takes.taken
-
-        by : IsSent servers registers past w d → (m : ℕ) × (l.deadline ≡ m + patience) × SomeSince t (IsSaid servers registers rec l.x m) past
-        by (asks nonce x u m a other bytes_are) = absurd (false≢true (sym other ∙ kind))
-        by (tells nonce x u m a reply since) =
-            let reply_is = here.in_time.from_server.reply in
-            let says_it : (line : Line) → IsSpelled servers registers d.source d.bytes nonce x m line → (l.nonce ≡ nonce) × (rec ≡ says (in_force registers line) d.source (xeid_path x)) =
-            λ line h. told (on.read line.before.member h.within) d.bytes (was_asked a h.is_server) h.spells l.nonce rec reply_is.tells in
-            let any = since_any u (IsSpelled servers registers d.source d.bytes nonce x m) past since in
-            let own = a.waits t l reply_is.is_pending (says_it any.0 any.1).0 in (
-              m,
-              own.3,
-              subst (λ v. SomeSince v (IsSaid servers registers rec l.x m) past) (sym own.0)
-                  (since_map u (IsSpelled servers registers d.source d.bytes nonce x m) (IsSaid servers registers rec l.x m)
-                  (λ line h. (h.late, h.within, (d.source, (says_it line h).1 ∙ ap (λ y. says (in_force registers line) d.source (xeid_path y)) (sym own.1)))) past since),
-            )
+    heard_since (heard k d e found kind f) {t = t} {l = l} {rec = rec} takes = elim (i.sent k d found) [
+      | asks nonce x u m a other bytes_are ↦ absurd (false≢true (sym other ∙ kind))
+      | tells nonce x u m a reply since ↦
+          let text : takes.bytes ≡ d.bytes = cc (takes.called, f) in
+          let reply_is = takes.taken.in_time.from_server.reply in
+          let says_it : (line : Line) → IsSpelled servers registers d.source d.bytes nonce x m line → (l.nonce ≡ nonce) × (rec ≡ says (in_force registers line) d.source (xeid_path x)) =
+          λ line h. told (on.read line.before.member h.within) d.bytes (was_asked a h.is_server) h.spells l.nonce rec (rw text at reply_is.tells) in
+          let any = since_any u (IsSpelled servers registers d.source d.bytes nonce x m) past since in
+          let own = a.waits t l reply_is.is_pending (says_it any.0 any.1).0 in (
+            m,
+            own.3,
+            subst (λ v. SomeSince v (IsSaid servers registers rec l.x m) past) (sym own.0)
+                (since_map u (IsSpelled servers registers d.source d.bytes nonce x m) (IsSaid servers registers rec l.x m)
+                (λ line h. (h.late, h.within, (d.source, (says_it line h).1 ∙ ap (λ y. says (in_force registers line) d.source (xeid_path y)) (sym own.1)))) past since),
+          )
+    ]
 
     -- ---- a request that is delivered
 
@@ -209,24 +199,18 @@ module _ {servers : Members} {registers : ℕ → Register} (on : HasLaws server
         | inr none ↦ absurd (none-some bytes (sym (may.silently (registers w.member) (on.silent w.member i.within) none)))
       ]
 
-      after : IsGround (line ∷ past) new
-      after = ground_on i.ground part
-
-      time : s.known.time ≡ w.moment
-      time = at_moment i.ground
-
       new_sent : (d : Datagram) → IsNew servers w new d → IsSent servers registers (line ∷ past) new d
       new_sent d (ground.reply k c bytes found kind may is) = rw (← is) (replied c bytes (i.sent k c found) kind may)
       new_sent d (ground.request t l h is) = rw (← is) (asks w.state.next l.x t w.moment own refl (rw f.me refl))
         where
           own : IsAsked (line ∷ past) new (server w.state.me l) w.state.next l.x t w.moment
           own = record {
-            fits = after.fits t (numbered s l) h.pending;
+            fits = (ground_on i.ground part).fits t (numbered s l) h.pending;
             id = h.lookup.identifier;
             below = h.below;
-            opened = among_map (line ∷ past) (AsksFor t l.x) (IsOpened t) (λ z asks. asks.1) (after.tickets.asked_for t (numbered s l) h.pending);
+            opened = among_map (line ∷ past) (AsksFor t l.x) (IsOpened t) (λ z asks. asks.1) ((ground_on i.ground part).tickets.asked_for t (numbered s l) h.pending);
             before = f.later;
-            waits = λ u k found same. let e = h.alone u k found same in rw (f.me, ← e.1) (e.0, refl, refl, ap (λ n. n + patience) time);
+            waits = λ u k found same. let e = h.alone u k found same in rw (f.me, ← e.1) (e.0, refl, refl, ap (λ n. n + patience) (at_moment i.ground));
           }
 
       module _ (d : Resolves w step event new) where
@@ -246,7 +230,7 @@ module _ {servers : Members} {registers : ℕ → Register} (on : HasLaws server
           soon : e.end ≤ w.moment + 900000
           soon =
               let moves = is_moved i.ground d in
-              let le = (moves.known.entries p e found).negative neg in let one = moves.time in let two = time in omega (arith, le, one, two)
+              let le = (moves.known.entries p e found).negative neg in let one = moves.time in let two = at_moment i.ground in omega (arith, le, one, two)
 
           young_at : (at : Line) → IsSaid servers registers saved.told saved.lookup.x m at → IsYoung registers p e at.before.moment at.before.member
           young_at at said =
@@ -257,7 +241,7 @@ module _ {servers : Members} {registers : ℕ → Register} (on : HasLaws server
               let law = on.negatives at.before.member said.1 (xeid_path saved.lookup.x) saved.told.prefix id q in
               let out = said_outcome saved.lookup.x at said final in
               record {
-                young = let late = said.0 in let early = saved.takes.taken.in_time.early in let two = time in omega (arith, soon, late, early, due, two);
+                young = let late = said.0 in let early = saved.takes.taken.in_time.early in let two = at_moment i.ground in omega (arith, soon, late, early, due, two);
                 is_true = rw (saved.is_prefix, saved.is_entry) (λ y y_id c. law.1 y y_id c ∙ sym out);
               }
 
@@ -290,7 +274,7 @@ module _ {servers : Members} {registers : ℕ → Register} (on : HasLaws server
 
       pub aged_on : IsAged servers registers (line ∷ past) new
       aged_on = record {
-        ground = after;
+        ground = ground_on i.ground part;
         within = elim (member_on part) [ inl same ↦ rw same i.within | inr named ↦ named.1 ];
         sent = λ k d found. elim (sent_by i.ground part k d found) [
           | inl there ↦ sent_still d (i.sent k d there)

@@ -46,12 +46,12 @@ none_at (d ∷ ds) (suc k) none = let le : length ds ≤ k = none_at ds k none i
 
 -- ---- a call of the resolver
 
-module _ (w : World) (step : Step) (asks : (call : Call) × Calls w step call) (sent : List Datagram) (here : sent ≡ w.sent) (call : Call) (is : call ≡ call_at sent step) where
+module _ {w : World} {step : Step} (asks : (call : Call) × Calls w step call) {sent : List Datagram} (here : sent ≡ w.sent) {call : Call} (is : call ≡ call_at sent step) where
   pub called_by : Calls w step call
   called_by = subst (Calls w step) (calls_at asks.1 ∙ ap (λ l. call_at l step) (sym here) ∙ sym is) asks.1
 
-  pub resolved_by : (reply : Reply) (s : State) (event : Event) → resolver.Step (moved w.moment w.state) call s reply → event ≡ event_of reply → Resolves w step event (after w s event)
-  resolved_by reply s event does tells = record { call = call; reply = reply; state = s; calls = called_by; does = does; tells = tells; goes_on = refl }
+  pub resolved_by : {reply : Reply} {s : State} {event : Event} → resolver.Step (moved w.moment w.state) call s reply → event ≡ event_of reply → Resolves w step event (after w s event)
+  resolved_by {reply = reply} {s = s} does tells = record { call = call; reply = reply; state = s; calls = called_by; does = does; tells = tells; goes_on = refl }
 
 -- an error leaves what it left
 pub left_by : {T E : Type 0} {P : Type 0} (r : Result T E) → P → OnErr r P
@@ -91,7 +91,7 @@ set_others (x ∷ l) (suc k) new (suc j) other = set_others l k new j (λ e. oth
 
 -- ---- a request
 
--- what fewer registers are known to be served by may still reply
+-- what may come back from servers may come back where less is known of them
 module _ {honest silent honest2 silent2 : Register → Type 0} (keeps : (r : Register) → honest2 r → honest r) (still : (r : Register) → silent2 r → silent r) where
   less_known : (to : Locator) (bytes : List ℕ) (reply : Option (List ℕ)) → MayReply honest silent to bytes reply → MayReply honest2 silent2 to bytes reply
   less_known to bytes reply may = record { honestly = λ r m h. may.honestly r m (keeps r h); silently = λ r h. may.silently r (still r h) }

@@ -152,7 +152,7 @@ module _ {r : Register} {servers : Members} (on : Stands r servers) {past : List
       let q = known_request d (i.known k d found) is in
       (q.0, q.1, q.2, q.3, may.honestly r (message_of q.0 q.1 (w.state.me ∷ []) true) (rw i.member on.honest) q.2.is_server q.3)
 
-  -- what it has sent as a reply is one
+  -- a reply that was sent is what the register says, to a request of the resolver
   pub known_reply : (k : ℕ) (d : Datagram) → slice_get w.sent k ≡ Some d → d.is_reply ≡ true → (nonce : ℕ) × (x : Xeid) × WasAsked r (moved w.moment w.state) d.source nonce x × Spells d.bytes (referral_of nonce (says r d.source (xeid_path x)))
   known_reply k d found kind = elim (i.known k d found) [
     | requested nonce x a is bytes ↦ absurd (false≢true (sym is ∙ kind))

@@ -166,24 +166,24 @@ module _ (on : AreBytesRead) {servers : Members} {past : List Line} {w : World} 
   -- a reply to a lookup of which nothing is told comes late
   heard_late : (t : ℕ) (l : Pending) → get w.state.pending t ≡ Some l → (h : Trail past w t l) → (IsOf (progress_at event) t → ⊥)
       → (reply : ℕ) (hearing : Hearing) → Among past (IsReplyBy reply h.last.number) → step ≡ Deliver reply → event ≡ Heard hearing → h.last.moment + patience ≤ w.moment
-  heard_late t l found h untold reply hearing replied is happened = elim part [ inl d ↦ by d | inr rest ↦ absurd (cc (rest.idle, ap reply_at happened)) ]
-    where
-      by : Resolves w step event new → h.last.moment + patience ≤ w.moment
-      by d =
-          let p = i.replied reply h.last.number replied in
-          let c = heard_by g d hearing happened in
-          let same : c.0 ≡ reply = cc (c.2, is) in
-          let came : c.1 ≡ reply_to p.request p.bytes = same_Some c.1 (reply_to p.request p.bytes) (sym c.3 ∙ ap (slice_get w.sent) same ∙ p.is_reply) in
-          let asked : p.request ≡ waits_for w.state.me l = same_Some p.request (waits_for w.state.me l) (sym p.is_request ∙ h.datagram) in
-          let from : c.1.source ≡ server w.state.me l = rw (came, asked) refl in
-          let own = g.order.lookups t l found in
-          let below = own.nonce in let last = g.order.next in
-          let spells = spelled_request on.written l.nonce l.x w.state.me (omega (arith, below, last)) (g.fits t l found) in
-          let given = p.usable (message_of l.nonce l.x (w.state.me ∷ []) true) own.lookup.identifier (rw asked (spells, refl)) in
-          elim (late_or_taken on.messages on.back s (order_now g) t l found c.1.source from c.1.bytes given.0 given.1 (rw came given.2) d.state hearing c.5) [
-            | inl late ↦ let e = h.deadline in let time = g.time in omega (arith, late, e, time)
-            | inr told ↦ absurd (untold (rw happened (heard_of t hearing told)))
-          ]
+  heard_late t l found h untold reply hearing replied is happened = elim part [
+    | inl d ↦
+        let p = i.replied reply h.last.number replied in
+        let c = heard_by g d hearing happened in
+        let same : c.0 ≡ reply = cc (c.2, is) in
+        let came : c.1 ≡ reply_to p.request p.bytes = same_Some c.1 (reply_to p.request p.bytes) (sym c.3 ∙ ap (slice_get w.sent) same ∙ p.is_reply) in
+        let asked : p.request ≡ waits_for w.state.me l = same_Some p.request (waits_for w.state.me l) (sym p.is_request ∙ h.datagram) in
+        let from : c.1.source ≡ server w.state.me l = rw (came, asked) refl in
+        let own = g.order.lookups t l found in
+        let below = own.nonce in let last = g.order.next in
+        let spells = spelled_request on.written l.nonce l.x w.state.me (omega (arith, below, last)) (g.fits t l found) in
+        let given = p.usable (message_of l.nonce l.x (w.state.me ∷ []) true) own.lookup.identifier (rw asked (spells, refl)) in
+        elim (late_or_taken on.messages on.back s (order_now g) t l found c.1.source from c.1.bytes given.0 given.1 (rw came given.2) d.state hearing c.5) [
+          | inl late ↦ let e = h.deadline in let time = g.time in omega (arith, late, e, time)
+          | inr told ↦ absurd (untold (rw happened (heard_of t hearing told)))
+        ]
+    | inr rest ↦ absurd (cc (rest.idle, ap reply_at happened))
+  ]
 
   keeps_trail : (t : ℕ) (l : Pending) → get w.state.pending t ≡ Some l → l.kept ≡ None → (IsOf (progress_at event) t → ⊥) → Trail (line ∷ past) new t l
   keeps_trail t l found empty untold = let h = i.trails t l found empty in record {

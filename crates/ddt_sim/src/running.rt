@@ -175,7 +175,7 @@ fn later(moment: Moment, millis: u64) -> Moment
     }
 }
 
-/// A step of the resolver, where the step calls it: the request that follows is sent.
+/// The resolver does what a step calls it for, and the request that follows is sent.
 fn resolve<M: PrefixMap<Entry>>(
     alloc: Global,
     resolver: &mut Resolver<M>,

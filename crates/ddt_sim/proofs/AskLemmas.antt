@@ -21,7 +21,8 @@ use Rattle.ddt_resolver.specs.State.{State, moved, dropped, last_nonce, most_pen
 use Rattle.ddt_resolver.specs.AskStep as ask
 use Rattle.ddt_resolver.specs.AskStep.{AskStep, AskWants, Start, UnlessMemory, OnMemory, answer_of}
 use Rattle.ddt_resolver.specs.Order.{IsInOrder}
-use Rattle.ddt_resolver.specs.Step.{Ask, ToAsk, asks}
+use Rattle.ddt_resolver.specs.declared.step.Reply.TheVariants.{ToAsk}
+use Rattle.ddt_resolver.specs.Step.{Ask, asks}
 use Rattle.ddt_resolver.specs.laws.Order.{order_moved}
 use Rattle.ddt_sim.specs.declared.hop.Lookup.{Lookup}
 use Rattle.ddt_sim.specs.declared.hop.LookupError.{LookupError}

@@ -5,6 +5,7 @@ pub mod FollowLemmas
 pub mod PassLemmas
 pub mod SecondPassLemmas
 pub mod ReplyLemmas
+pub mod GroundLemmas
 pub mod RunLemmas
 pub mod ShortLemmas
 pub mod SoundLemmas
@@ -12,11 +13,9 @@ pub mod TrailLemmas
 pub mod TurnLemmas
 pub mod WaitingLemmas
 pub mod ServerLemmas
-pub mod SentLemmas
 pub mod ScheduleLemmas
 pub mod TriesLemmas
 pub mod StatementLemmas
 pub mod SinceLemmas
 pub mod InForceLemmas
-pub mod AgedLemmas
 pub mod ReplacedLemmas

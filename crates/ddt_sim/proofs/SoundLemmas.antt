@@ -46,7 +46,8 @@ use Rattle.ddt_resolver.specs.Act.{Act, HearStep}
 use Rattle.ddt_resolver.specs.TickStep as ticks
 use Rattle.ddt_resolver.specs.TickStep.{GoOn, TickStep}
 use Rattle.ddt_resolver.specs.Step as steps
-use Rattle.ddt_resolver.specs.Step.{Call, Reply, Step, Hear}
+use Rattle.ddt_resolver.specs.declared.step.Reply.{Reply}
+use Rattle.ddt_resolver.specs.Step.{Call, Step, Hear}
 use Rattle.ddt_resolver.specs.Order.{IsInOrder}
 use Rattle.ddt_resolver.specs.laws.NumberMap.{found_insert, found_remove}
 use Rattle.ddt_sim.specs.Sound.{IsTrueEntry, delegates, registers, denies, IsNotRegistered, IsSoundLookup, IsSound, IsFair, IsRight, IsRightAsked, IsRightHeard, IsRightTicked, IsRightEnd}

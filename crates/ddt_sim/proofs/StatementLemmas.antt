@@ -1,13 +1,11 @@
 -- What holds of each line of a schedule over honest servers.
-use Rattle.std.proofs.Common.{◌≡◌, ℕ, true, false, List, [], ◌∷◌, ◌++◌, map, Some, None, Result, Ok, Err, refl, sym, ap, ◌∙◌, subst, subst₂, arith, inl, inr, ◌⊎◌}
-use Rattle.std.specs.Prelude.{slice_get, Contains}
+use Rattle.std.proofs.Common.{◌≡◌, ℕ, true, false, List, [], ◌∷◌, ◌++◌, map, Some, None, Result, Ok, Err, refl, sym, ap, ◌∙◌, subst, arith, inl, inr, ◌⊎◌}
+use Rattle.std.specs.Prelude.{slice_get}
+use Rattle.std.proofs.lemmas.List.Elements.{Contains-append_left}
 use Rattle.std.proofs.lemmas.List.Sorted.{IsPermutation-reverse}
-use Rattle.ddt_path.specs.laws.Member.{IsIn, in_contained, contained, moved_in}
+use Rattle.ddt_path.specs.laws.Member.{IsIn, contained, moved_in}
 use Rattle.std.specs.FinMap.{get, len}
-use Rattle.std.proofs.lemmas.Option.{none-some, same_Some, slice_get_within}
-use Rattle.std.proofs.lemmas.Bool.{false≢true}
-use Rattle.ddt_path.specs.declared.record.Outcome.{Outcome}
-use Rattle.ddt_path.specs.declared.xeid.Xeid.{Xeid}
+use Rattle.std.proofs.lemmas.Option.{none-some}
 use Rattle.ddt_path.specs.Path.{xeid_path}
 use Rattle.ddt_register.specs.declared.register.Register.{Register}
 use Rattle.ddt_check.specs.Says.{says}
@@ -21,386 +19,192 @@ use Rattle.ddt_resolver.specs.declared.answers.Heard.{Heard as Hearing}
 use Rattle.ddt_resolver.specs.declared.answers.Heard.TheVariants as heard_as
 use Rattle.ddt_resolver.specs.declared.answers.Ignored.{Ignored}
 use Rattle.ddt_resolver.specs.declared.answers.Ignored.TheVariants.{UnknownNonce, Late}
+use Rattle.ddt_resolver.specs.declared.answers.Ticked.{Ticked as Ticking}
 use Rattle.ddt_resolver.specs.declared.answers.Ticked.TheVariants as ticked_as
 use Rattle.ddt_resolver.specs.declared.answers.Why.{Why}
-use Rattle.ddt_resolver.specs.declared.answers.Why.TheVariants.{Exhausted}
+use Rattle.ddt_resolver.specs.declared.answers.Why.TheVariants.{NoReply, Loop, NotAuthoritative, Exhausted}
+use Rattle.ddt_resolver.specs.declared.step.Reply.{Reply}
+use Rattle.ddt_resolver.specs.declared.step.Reply.TheVariants.{ToAsk, ToDatagram, ToTick}
+use Rattle.ddt_resolver.specs.declared.step.Progress.{Progress}
+use Rattle.ddt_resolver.specs.declared.step.Progress.TheVariants as progress
 use Rattle.ddt_resolver.specs.State.{State, moved, last_nonce, most_pending}
 use Rattle.ddt_resolver.specs.Step as resolver
-use Rattle.ddt_resolver.specs.Step.{Call, Hear, Reply, ToAsk, ToDatagram, ToTick, asks, hears, ticks}
+use Rattle.ddt_resolver.specs.Step.{Call, asks, hears, ticks, progress_of}
 use Rattle.ddt_resolver.specs.AskStep as ask
 use Rattle.ddt_resolver.specs.AskStep.{AskStep}
 use Rattle.ddt_resolver.specs.Act as act
-use Rattle.ddt_resolver.specs.Act.{Act, HearStep}
+use Rattle.ddt_resolver.specs.Act.{HearStep}
 use Rattle.ddt_resolver.specs.TakeUp.{Ignores}
-use Rattle.ddt_resolver.specs.TickStep as tick
-use Rattle.ddt_resolver.specs.TickStep.{GoOn}
 use Rattle.ddt_resolver.specs.Order.{IsInOrder}
+use Rattle.ddt_resolver.specs.laws.Shape.{Leaves, by_record, by_kept, by_loop, by_nobody, by_silence, by_nonce}
 use Rattle.ddt_sim.specs.declared.schedule.Step.{Step}
-use Rattle.ddt_sim.specs.declared.schedule.Step.TheVariants.{Deliver, Replace}
+use Rattle.ddt_sim.specs.declared.schedule.Step.TheVariants.{Replace}
 use Rattle.ddt_sim.specs.declared.schedule.Event.{Event}
-use Rattle.ddt_sim.specs.declared.schedule.Event.TheVariants.{Asked, Refused, Replied, Silent, Heard, Passed, Ticked, Replaced, Nothing}
+use Rattle.ddt_sim.specs.declared.schedule.Event.TheVariants.{Refused, Heard}
 use Rattle.ddt_sim.specs.declared.schedule.Datagram.{Datagram}
 use Rattle.ddt_sim.specs.declared.schedule.Transcript.{Transcript}
 use Rattle.ddt_sim.specs.RunLaws.{LawsOfRuns}
-use Rattle.ddt_sim.specs.Sound.{IsSound, IsRight, IsRightHeard, IsRightEnd, IsRightWhy}
-use Rattle.ddt_sim.specs.World.{World, Members, MayReply, event_of, Calls, asked, heard, ticked, Resolves, by_reply, by_silence, WorldStep, resolves, serves, not_sent, passes, replaces, no_member}
-use Rattle.ddt_sim.specs.History.{Line, History, begin, next, Each, steps_of, at_start, Tells, StopsAfter}
-use Rattle.ddt_sim.specs.Schedules.{StartsSound, KeepServers, Ends, IsRightAnswer, IsOnce, IsRepliedTo, IsRightReply, IsRightFailure}
-use Rattle.ddt_sim.proofs.ReplyLemmas.{IsFor, act_is_for, says_usable}
-use Rattle.ddt_sim.proofs.SentLemmas as sent
-use Rattle.ddt_sim.proofs.SentLemmas.{IsKnown, ignored_rightly}
-use Rattle.ddt_sim.specs.laws.Ticket.{IsStill, still_once, once_move, ended_was_pending}
+use Rattle.ddt_sim.specs.Sound.{IsSound, IsRight, IsRightHeard, IsRightTicked, IsRightEnd, IsRightWhy}
+use Rattle.ddt_sim.specs.World.{World, Members, MayReply, reply_at, call_at, Resolves}
+use Rattle.ddt_sim.specs.History.{Line, Each, steps_of, at_start, Tells, StopsAfter}
+use Rattle.ddt_sim.specs.Schedules.{StartsSound, KeepServers, Ends, IsRightAnswer, IsOnce, IsRightReply, IsRightFailure}
 use Rattle.ddt_sim.specs.Tries.{IsRightNoReply}
-use Rattle.ddt_sim.proofs.TriesLemmas.{IsTried, IsGround, AreBytesRead, ReplyUsably, tried_on, vain_now}
-use Rattle.ddt_sim.proofs.ScheduleLemmas.{asked_by, asks_by, IsSoundRun, was_asked_at, Stands, order_now, known_request, replied_honestly, right_now, is_moved, steps_soundly}
+use Rattle.ddt_sim.proofs.GroundLemmas.{IsGround, Part, one_line, served, order_now, answer_is, calls_at, progress_now, rest_ends, heard_by, left_now, once_now, first_ground, run_kept, each_kept}
+use Rattle.ddt_sim.proofs.ReplyLemmas.{act_is_for, says_usable}
+use Rattle.ddt_sim.proofs.TriesLemmas.{IsTried, ReplyUsably, tried_on, vain_now}
+use Rattle.ddt_sim.proofs.ScheduleLemmas.{ignored_rightly, IsSoundRun, Stands, known_request, known_reply, replied_honestly, right_now, steps_soundly}
 
--- ---- events
+-- ---- failures, whatever the servers say
 
--- the event of a step that the resolver has no part in
-abbrev pub IsIdle : Event → Type 0
-IsIdle (Asked a) = ⊥
-IsIdle (Refused why) = ⊥
-IsIdle (Replied k) = Unit {0}
-IsIdle Silent = Unit {0}
-IsIdle (Heard h) = ⊥
-IsIdle (Passed m) = Unit {0}
-IsIdle (Replaced k) = Unit {0}
-IsIdle (Ticked h) = ⊥
-IsIdle Nothing = Unit {0}
-
-pub idle_still : (event : Event) → IsIdle event → IsStill event
-idle_still (Asked a) idle = absurd idle
-idle_still (Refused why) idle = absurd idle
-idle_still (Replied k) idle = record { opens_none = λ t h. h; ends_none = λ t end h. h }
-idle_still Silent idle = record { opens_none = λ t h. h; ends_none = λ t end h. h }
-idle_still (Heard h) idle = absurd idle
-idle_still (Passed m) idle = record { opens_none = λ t h. h; ends_none = λ t end h. h }
-idle_still (Replaced k) idle = record { opens_none = λ t h. h; ends_none = λ t end h. h }
-idle_still (Ticked h) idle = absurd idle
-idle_still Nothing idle = record { opens_none = λ t h. h; ends_none = λ t end h. h }
-
--- a step is the resolver's, or it has no part in it
-pub idle_by : (servers : Members) (w : World) (step : Step) (event : Event) (new : World) → WorldStep servers w step event new → Resolves w step event new ⊎ IsIdle event
-idle_by servers w step event new (resolves does) = inl does
-idle_by servers w step event new (serves k more is (by_reply d bytes found kind may e g) f) = inr (subst IsIdle (sym e) tt)
-idle_by servers w step event new (serves k more is (by_silence d found kind may e g) f) = inr (subst IsIdle (sym e) tt)
-idle_by servers w step event new (not_sent k is gone e f) = inr (subst IsIdle (sym e) tt)
-idle_by servers w step event new (passes millis is e f) = inr (subst IsIdle (sym e) tt)
-idle_by servers w step event new (replaces k is lt e f) = inr (subst IsIdle (sym e) tt)
-idle_by servers w step event new (no_member k is le e f) = inr (subst IsIdle (sym e) tt)
-
--- a request that is delivered isn't heard
-pub asked_by_delivery : (w : World) (step : Step) (k : ℕ) (d : Datagram) (call : Call) → step ≡ Deliver k → slice_get w.sent k ≡ Some d → d.is_reply ≡ false → Calls w step call → ⊥
-asked_by_delivery w step k d call is found kind (asked x fits e f) = cc (is, e)
-asked_by_delivery w step k d call is found kind (ticked e f) = cc (is, e)
-asked_by_delivery w step k d call is found kind (heard j c e there other f) =
-    let same : j ≡ k = cc (is, e) in
-    let own : c ≡ d = same_Some c d (sym there ∙ ap (slice_get w.sent) same ∙ found) in
-    false≢true (sym kind ∙ ap (λ (v : Datagram). v.is_reply) (sym own) ∙ other)
-
--- which answer an event tells
-pub tells_asked : (a : Reply) (v : Asking) → event_of a ≡ Asked v → a ≡ ToAsk (Ok v)
-tells_asked (ToAsk (Ok b)) v e = let same : b ≡ v = cc e in ap (λ z. ToAsk (Ok z)) same
-tells_asked (ToAsk (Err why)) v e = absurd (cc e)
-tells_asked (ToDatagram h) v e = absurd (cc e)
-tells_asked (ToTick h) v e = absurd (cc e)
-
-pub tells_refused : (a : Reply) (why : AskError) → event_of a ≡ Refused why → a ≡ ToAsk (Err why)
-tells_refused (ToAsk (Ok b)) why e = absurd (cc e)
-tells_refused (ToAsk (Err other)) why e = let same : other ≡ why = cc e in ap (λ z. ToAsk (Err z)) same
-tells_refused (ToDatagram h) why e = absurd (cc e)
-tells_refused (ToTick h) why e = absurd (cc e)
-
-pub tells_heard : (a : Reply) (h : Hearing) → event_of a ≡ Heard h → a ≡ ToDatagram h
-tells_heard (ToAsk (Ok b)) h e = absurd (cc e)
-tells_heard (ToAsk (Err why)) h e = absurd (cc e)
-tells_heard (ToDatagram k) h e = let same : k ≡ h = cc e in ap ToDatagram same
-tells_heard (ToTick k) h e = absurd (cc e)
-
--- ---- right answers
-
-right_heard : (r : Register) (s : State) (call : Call) (h : Hearing) → IsRight r s call (ToDatagram h) → IsRightHeard r s h
-right_heard r s (resolver.Ask x) h right = right
-right_heard r s (Hear source bytes) h right = right
-right_heard r s resolver.Tick h right = right
-
-right_end : (r : Register) (s : State) (call : Call) (a : Reply) (t : ℕ) (o : Outcome) → IsRight r s call a → Ends (event_of a) t (Ok o) → IsRightEnd r s t o
-right_end r s call (ToAsk (Ok a)) t o right h = absurd h
-right_end r s call (ToAsk (Err why)) t o right h = absurd h
-right_end r s call (ToDatagram (heard_as.Ignored why)) t o right h = absurd h
-right_end r s call (ToDatagram (heard_as.Followed u d)) t o right h = absurd h
-right_end r s call (ToDatagram (heard_as.Answer u p)) t o right h =
-    let same : o ≡ p = cc h.1 in subst (λ v. IsRightEnd r s v o) h.0 (subst (IsRightEnd r s u) (sym same) (right_heard r s call (heard_as.Answer u p) right))
-right_end r s call (ToDatagram (heard_as.GaveUp u why)) t o right h = absurd (cc h.1)
-right_end r s call (ToTick ticked_as.Nothing) t o right h = absurd h
-right_end r s call (ToTick (ticked_as.Sent u d)) t o right h = absurd h
-right_end r s call (ToTick (ticked_as.Answer u p)) t o right h =
-    let same : o ≡ p = cc h.1 in subst (λ v. IsRightEnd r s v o) h.0 (subst (IsRightEnd r s u) (sym same) (by call right))
-  where
-    by : (c : Call) → IsRight r s c (ToTick (ticked_as.Answer u p)) → IsRightEnd r s u p
-    by (resolver.Ask x) right = right
-    by (Hear source bytes) right = right
-    by resolver.Tick right = right
-right_end r s call (ToTick (ticked_as.GaveUp u why)) t o right h = absurd (cc h.1)
-
-right_why : (r : Register) (s : State) (call : Call) (a : Reply) (t : ℕ) (why : Why) → IsRight r s call a → Ends (event_of a) t (Err why) → IsRightWhy why
-right_why r s call (ToAsk (Ok a)) t why right h = absurd h
-right_why r s call (ToAsk (Err e)) t why right h = absurd h
-right_why r s call (ToDatagram (heard_as.Ignored e)) t why right h = absurd h
-right_why r s call (ToDatagram (heard_as.Followed u d)) t why right h = absurd h
-right_why r s call (ToDatagram (heard_as.Answer u p)) t why right h = absurd (cc h.1)
-right_why r s call (ToDatagram (heard_as.GaveUp u e)) t why right h = let same : why ≡ e = cc h.1 in subst IsRightWhy (sym same) (right_heard r s call (heard_as.GaveUp u e) right)
-right_why r s call (ToTick ticked_as.Nothing) t why right h = absurd h
-right_why r s call (ToTick (ticked_as.Sent u d)) t why right h = absurd h
-right_why r s call (ToTick (ticked_as.Answer u p)) t why right h = absurd (cc h.1)
-right_why r s call (ToTick (ticked_as.GaveUp u e)) t why right h = let same : why ≡ e = cc h.1 in subst IsRightWhy (sym same) (by call right)
-  where
-    by : (c : Call) → IsRight r s c (ToTick (ticked_as.GaveUp u e)) → IsRightWhy e
-    by (resolver.Ask x) right = right
-    by (Hear source bytes) right = right
-    by resolver.Tick right = right
-
--- ---- failures
-
--- a lookup gives up as Exhausted only at the last nonce
-heard_used_up : (s : State) (t : ℕ) (l : Pending) (new : State) (h : Hearing) (u : ℕ) → (rec : _) → Act s t l rec new h → Ends (Heard h) u (Err Exhausted) → s.next ≡ last_nonce
-heard_used_up s t l new h u rec (act.loops k below e f) ends = let g = subst (λ v. Ends (Heard v) u (Err Exhausted)) f ends in absurd (cc g.1)
-heard_used_up s t l new h u rec (act.refers k below more e f) ends = absurd (subst (λ v. Ends (Heard v) u (Err Exhausted)) f ends)
-heard_used_up s t l new h u rec (act.acknowledges k e f) ends = let g = subst (λ v. Ends (Heard v) u (Err Exhausted)) f ends in absurd (cc g.1)
-heard_used_up s t l new h u rec (act.closes k e f) ends = let g = subst (λ v. Ends (Heard v) u (Err Exhausted)) f ends in absurd (cc g.1)
-heard_used_up s t l new h u rec (act.passes_on k more room e f) ends = absurd (subst (λ v. Ends (Heard v) u (Err Exhausted)) f ends)
-heard_used_up s t l new h u rec (act.concludes k last e f) ends = let g = subst (λ v. Ends (Heard v) u (Err Exhausted)) f ends in absurd (cc g.1)
-heard_used_up s t l new h u rec (act.starts_over p k start room e f) ends = absurd (subst (λ v. Ends (Heard v) u (Err Exhausted)) f ends)
-heard_used_up s t l new h u rec (act.nobody k start e f) ends = let g = subst (λ v. Ends (Heard v) u (Err Exhausted)) f ends in absurd (cc g.1)
-heard_used_up s t l new h u rec (act.used_up k over e f) ends = over
-
-ticked_used_up : (s : State) (t : ℕ) (l : Pending) (new : State) (h : _) (u : ℕ) → GoOn s t l new h → Ends (Ticked h) u (Err Exhausted) → s.next ≡ last_nonce
-ticked_used_up s t l new h u (tick.again first room e f) ends = absurd (subst (λ v. Ends (Ticked v) u (Err Exhausted)) f ends)
-ticked_used_up s t l new h u (tick.next_place second more room e f) ends = absurd (subst (λ v. Ends (Ticked v) u (Err Exhausted)) f ends)
-ticked_used_up s t l new h u (tick.answered rec second more kept e f) ends = let g = subst (λ v. Ends (Ticked v) u (Err Exhausted)) f ends in absurd (cc g.1)
-ticked_used_up s t l new h u (tick.no_reply second more kept e f) ends = let g = subst (λ v. Ends (Ticked v) u (Err Exhausted)) f ends in absurd (cc g.1)
-ticked_used_up s t l new h u (tick.used_up k over e f) ends = over
-
-pub exhausted_at : (s : State) (call : Call) (new : State) (a : Reply) (u : ℕ) → resolver.Step s call new a → Ends (event_of a) u (Err Exhausted) → s.next ≡ last_nonce
-exhausted_at s call new a u (asks x res id step called to) ends = absurd (none res (subst (λ b. Ends (event_of b) u (Err Exhausted)) to ends))
-  where
-    none : (res : Result Asking AskError) → Ends (event_of (ToAsk res)) u (Err Exhausted) → ⊥
-    none (Ok a) h = h
-    none (Err why) h = h
-exhausted_at s call new a u (hears source bytes h (act.ignored why ignores e f) called to) ends = absurd (subst (λ v. Ends (Heard v) u (Err Exhausted)) f (subst (λ b. Ends (event_of b) u (Err Exhausted)) to ends))
-exhausted_at s call new a u (hears source bytes h (act.taken t l rec taken does) called to) ends = heard_used_up s t l new h u rec does (subst (λ b. Ends (event_of b) u (Err Exhausted)) to ends)
-exhausted_at s call new a u (ticks h (tick.nothing none e f) called to) ends = absurd (subst (λ v. Ends (Ticked v) u (Err Exhausted)) f (subst (λ b. Ends (event_of b) u (Err Exhausted)) to ends))
-exhausted_at s call new a u (ticks h (tick.due t l due on) called to) ends = ticked_used_up s t l new h u on (subst (λ b. Ends (event_of b) u (Err Exhausted)) to ends)
+-- a lookup gives up for want of a reply, as it is led round, as nobody is in charge, or at the last nonce
+why_left : (s : State) (call : Call) (t : ℕ) (l : Pending) (why : Why) → Leaves s call t l (Err why)
+    → (why ≡ NoReply) ⊎ (why ≡ Loop) ⊎ (why ≡ NotAuthoritative) ⊎ ((why ≡ Exhausted) × (s.next ≡ last_nonce))
+why_left s call t l why (by_record rec takes final is) = absurd (cc is)
+why_left s call t l why (by_kept rec due kept is) = absurd (cc is)
+why_left s call t l why (by_loop rec takes referral below is) = inr (inl (cc is))
+why_left s call t l why (by_nobody rec takes away start is) = inr (inr (inl (cc is)))
+why_left s call t l why (by_silence due empty is) = inl (cc is)
+why_left s call t l why (by_nonce over is) = inr (inr (inr (cc is, over)))
 
 -- an ask is refused only where 1,024 lookups are pending, or at the last nonce
 abbrev IsRightRefusal : State → AskError → Type 0
 IsRightRefusal s why = ((why ≡ ask_error.TooMany) × (len s.pending ≡ most_pending)) ⊎ ((why ≡ ask_error.Exhausted) × (s.next ≡ last_nonce))
 
-refused_by : (s : State) → IsInOrder s → (x : Xeid) (new : State) (why : AskError) → AskStep s x new (Err why) → IsRightRefusal s why
-refused_by s o x new why step = by step.start
-  where
-    by : ask.Start s x step.prefix step.entry new (Err why) → IsRightRefusal s why
-    by (ask.cached out some e f) = absurd (cc f)
-    by (ask.full none many e f) = let few = o.few in inl (cc f, omega (arith, many, few))
-    by (ask.used_up none few over e f) = inr (cc f, over)
-    by (ask.opened free e f) = absurd (cc f)
+refused_by : (s : State) → IsInOrder s → (call : Call) (new : State) (a : Reply) (why : AskError) → resolver.Step s call new a → a ≡ ToAsk (Err why) → IsRightRefusal s why
+refused_by s o call new a why (hears source bytes h step called to) is = absurd (cc (to, is))
+refused_by s o call new a why (ticks h step called to) is = absurd (cc (to, is))
+refused_by s o call new a why (asks x res id step called to) is = let same : res ≡ Err why = cc (to, is) in elim step.start [
+  | ask.cached out some e f ↦ absurd (cc (same, f))
+  | ask.full none many e f ↦ let few = o.few in inl (cc (same, f), omega (arith, many, few))
+  | ask.used_up none few over e f ↦ inr (cc (same, f), over)
+  | ask.opened free e f ↦ absurd (cc (same, f))
+]
 
-pub refused_rightly : (s : State) → IsInOrder s → (call : Call) (new : State) (a : Reply) (why : AskError) → resolver.Step s call new a → a ≡ ToAsk (Err why) → IsRightRefusal s why
-refused_rightly s o call new a why (asks x res id step called to) is = let same : res ≡ Err why = cc (to, is) in refused_by s o x new why (subst (AskStep s x new) same step)
-refused_rightly s o call new a why (hears source bytes h step called to) is = absurd (cc (to, is))
-refused_rightly s o call new a why (ticks h step called to) is = absurd (cc (to, is))
+module _ {servers : Members} {past : List Line} {w : World} (g : IsGround past w) {step : Step} {event : Event} {new : World} where
+  pub gave_up_now : Part servers w step event new → (t : ℕ) (why : Why) → Ends event t (Err why) → (why ≡ NoReply) ⊎ (why ≡ Loop) ⊎ (why ≡ NotAuthoritative) ⊎ ((why ≡ Exhausted) × (w.state.next ≡ last_nonce))
+  gave_up_now (inl d) t why ends = let left = left_now g d t (Err why) ends in why_left (moved w.moment w.state) d.call t left.0 why left.2
+  gave_up_now (inr rest) t why ends = absurd (cc (ends, rest_ends g rest))
+
+  pub refused_now : Part servers w step event new → (why : AskError) → event ≡ Refused why → IsRightRefusal w.state why
+  refused_now (inl d) why is = refused_by (moved w.moment w.state) (order_now g) d.call d.state d.reply why d.does (answer_is g d (ToAsk (Err why)) is)
+  refused_now (inr rest) why is = absurd (cc (rest.idle, ap reply_at is))
+
+  -- a reply is ignored for the reason that its datagram has
+  pub ignored_now : Part servers w step event new
+      → ((k : ℕ) (c : Datagram) → slice_get w.sent k ≡ Some c → c.is_reply ≡ true → (why : Ignored) → Ignores (moved w.moment w.state) c.source c.bytes why → (why ≡ UnknownNonce) ⊎ (why ≡ Late))
+      → (why : Ignored) → event ≡ Heard (heard_as.Ignored why) → (why ≡ UnknownNonce) ⊎ (why ≡ Late)
+  ignored_now (inr rest) rightly why is = absurd (cc (rest.idle, ap reply_at is))
+  ignored_now (inl d) rightly why is = let c = heard_by g d (heard_as.Ignored why) is in elim c.5 [
+    | act.taken t l rec taken acts ↦ absurd (act_is_for (moved w.moment w.state) t l rec d.state (heard_as.Ignored why) acts)
+    | act.ignored reason ignores e told ↦ let own : reason ≡ why = cc told in rw own at (rightly c.0 c.1 c.3 c.4 reason ignores)
+  ]
+
+-- ---- right answers
+
+-- what a step makes of the lookups is right: an outcome is the assignment, and none gives up but for a reply or a nonce
+abbrev IsRightProgress : Register → State → Progress → Type 0
+IsRightProgress r s progress.Stays = Unit {0}
+IsRightProgress r s (progress.Sends t d) = Unit {0}
+IsRightProgress r s (progress.Ends t (Ok o)) = IsRightEnd r s t o
+IsRightProgress r s (progress.Ends t (Err why)) = IsRightWhy why
+
+module _ (r : Register) (s : State) where
+  right_asked : (a : Result Asking AskError) → IsRightProgress r s (progress_of (ToAsk a))
+  right_asked (Ok (asked_as.Sent t d)) = tt
+  right_asked (Ok (asked_as.Answer o)) = tt
+  right_asked (Err why) = tt
+
+  right_heard : (h : Hearing) → IsRightHeard r s h → IsRightProgress r s (progress_of (ToDatagram h))
+  right_heard (heard_as.Ignored why) right = tt
+  right_heard (heard_as.Followed t d) right = tt
+  right_heard (heard_as.Answer t o) right = right
+  right_heard (heard_as.GaveUp t why) right = right
+
+  right_ticked : (h : Ticking) → IsRightTicked r s h → IsRightProgress r s (progress_of (ToTick h))
+  right_ticked ticked_as.Nothing right = tt
+  right_ticked (ticked_as.Sent t d) right = tt
+  right_ticked (ticked_as.Answer t o) right = right
+  right_ticked (ticked_as.GaveUp t why) right = right
+
+  right_progress : (call : Call) (new : State) (a : Reply) → resolver.Step s call new a → IsRight r s call a → IsRightProgress r s (progress_of a)
+  right_progress call new a (asks x res id step called to) right = rw to (right_asked res)
+  right_progress call new a (hears source bytes h step called to) right = rw to (right_heard h (rw (called, to) at right))
+  right_progress call new a (ticks h step called to) right = rw to (right_ticked h (rw (called, to) at right))
 
 -- ---- each line
 
-module _ (r : Register) (servers : Members) (on : Stands r servers) (past : List Line) (w : World) (i : IsSoundRun r past w) (step : Step) (event : Event) (new : World) where
-  abbrev line : Line
-  line = record { before = w; step = step; event = event; after = new }
+module _ {r : Register} {servers : Members} (on : Stands r servers) {past : List Line} {w : World} (i : IsSoundRun r past w) where
+  module _ {step : Step} {event : Event} {new : World} where
+    right_end : (d : Resolves w step event new) (t : ℕ) (end : Result _ _) → Ends event t end → IsRightProgress r (moved w.moment w.state) (progress.Ends t end)
+    right_end d t end ends = subst (IsRightProgress r (moved w.moment w.state)) (sym (progress_now i.ground d) ∙ ends) (right_progress r (moved w.moment w.state) d.call d.state d.reply d.does (right_now on i d).1)
 
-  abbrev s : State
-  s = moved w.moment w.state
+    right_why : Part servers w step event new → (t : ℕ) (why : Why) → Ends event t (Err why) → IsRightWhy why
+    right_why (inl d) t why ends = right_end d t (Err why) ends
+    right_why (inr rest) t why ends = absurd (cc (ends, rest_ends i.ground rest))
 
-  -- answers
-  answers_by : Resolves w step event new → IsRightAnswer r past line
-  answers_by does =
-      let now = right_now r servers on past w i step event new does in
-      let moves = is_moved r servers on past w i step event new does in
-      record {
-        at_once = λ x o is e.
-            let told : does.reply ≡ ToAsk (Ok (asked_as.Answer o)) = tells_asked does.reply (asked_as.Answer o) (sym does.tells ∙ e) in
-            subst (λ c. IsRight r s c (ToAsk (Ok (asked_as.Answer o)))) (asks_by w step does.call x does.calls is) (subst (IsRight r s does.call) told now.1);
-        to_ticket = λ t o ends.
-            let h = subst (λ e. Ends e t (Ok o)) does.tells ends in
-            let p = ended_was_pending past line w.state does.state i.tickets w.moment does.call does.reply (λ x. asked_by w step does.call x does.calls) does.tells moves.move t (Ok o) h in
-            (p.0.x, i.tickets.asked_for t p.0 p.1, right_end r s does.call does.reply t o now.1 h p.0 p.1);
-      }
+    right_answer : Part servers w step event new → IsRightAnswer r past (one_line w step event new)
+    right_answer (inr rest) = record { at_once = λ x o is e. absurd (cc (rest.idle, e)); to_ticket = λ t o ends. absurd (cc (ends, rest_ends i.ground rest)) }
+    right_answer (inl d) = record {
+      at_once = λ x o is e. rw (calls_at d.calls ∙ ap (call_at w.sent) is, answer_is i.ground d (ToAsk (Ok (asked_as.Answer o))) e) at (right_now on i d).1;
+      to_ticket = λ t o ends. let l = left_now i.ground d t (Ok o) ends in (l.0.x, i.ground.tickets.asked_for t l.0 l.1, right_end d t (Ok o) ends l.0 l.1);
+    }
 
-  pub right_answer : WorldStep servers w step event new → IsRightAnswer r past line
-  right_answer does = elim (idle_by servers w step event new does) [
-    | inl d ↦ answers_by d
-    | inr idle ↦ record { at_once = λ x o is e. absurd (subst IsIdle e idle); to_ticket = λ t o ends. absurd ((idle_still event idle).ends_none t (Ok o) ends) }
-  ]
+    right_failure : Part servers w step event new → IsRightFailure past (one_line w step event new)
+    right_failure part = record {
+      gave_up = λ t why ends. elim (gave_up_now i.ground part t why ends) [
+        | inl a ↦ inl a
+        | inr (inl a) ↦ elim (right_why part t why ends) [ inl b ↦ inl b | inr b ↦ absurd (cc (a, b)) ]
+        | inr (inr (inl a)) ↦ elim (right_why part t why ends) [ inl b ↦ inl b | inr b ↦ absurd (cc (a, b)) ]
+        | inr (inr (inr a)) ↦ inr a
+      ];
+      ignored = ignored_now i.ground part (λ k d found kind. let q = known_reply on i k d found kind in ignored_rightly on.read d.bytes q.2 q.3);
+      refused = refused_now i.ground part;
+    }
 
-  -- tickets
-  pub once_each : WorldStep servers w step event new → IsOnce past line
-  once_each does = elim (idle_by servers w step event new does) [
-    | inl d ↦ once_move past line w.state d.state i.tickets w.moment d.call d.reply (λ x. asked_by w step d.call x d.calls) d.tells (is_moved r servers on past w i step event new d).move
-    | inr idle ↦ still_once past line w.state w.state i.tickets (idle_still event idle)
-  ]
+    right_reply : Part servers w step event new → IsRightReply r past (one_line w step event new)
+    right_reply part k d is found kind = elim (served part k d is found kind) [
+      | inl h ↦ let q = replied_honestly on i k d (Some h.0) found kind h.1 in record { request = message_of q.0 q.1 (w.state.me ∷ []) true; reply = h.0; asks = q.3; honest = q.4; replied = h.2; sent = h.3 }
+      | inr h ↦ absurd (replied_honestly on i k d None found kind h.0).4
+    ]
 
-  -- failures
-  known_ignored : (d : Datagram) → IsKnown r w.state d → d.is_reply ≡ true → (reason : Ignored) → Ignores s d.source d.bytes reason → (reason ≡ UnknownNonce) ⊎ (reason ≡ Late)
-  known_ignored d (sent.request nonce x a is bytes) kind reason ignores = absurd (false≢true (sym is ∙ kind))
-  known_ignored d (sent.reply nonce x a is spells) kind reason ignores =
-      ignored_rightly r on.read s d.source d.bytes nonce x (was_asked_at r w.state w.moment d.source nonce x a) spells reason ignores
+    right_no_reply : IsTried past w → Part servers w step event new → IsRightNoReply r past (one_line w step event new)
+    right_no_reply tried part t ends = let vain = vain_now i.ground tried part t ends in record { vain = vain; of_zone = i.sound.lookups t vain.lookup vain.is_pending }
 
-  ignored_by : (why : Ignored) (call : Call) (after : State) (a : Reply) → Calls w step call → a ≡ ToDatagram (heard_as.Ignored why) → resolver.Step s call after a → (why ≡ UnknownNonce) ⊎ (why ≡ Late)
-  ignored_by why call after a calls is (asks x res id does called to) = absurd (cc (is, to))
-  ignored_by why call after a calls is (ticks h does called to) = absurd (cc (is, to))
-  ignored_by why call after a calls is (hears source bytes h does called to) = by calls does
-    where
-      same : h ≡ heard_as.Ignored why
-      same = cc (is, to)
-
-      by : Calls w step call → HearStep s source bytes after h → (why ≡ UnknownNonce) ⊎ (why ≡ Late)
-      by (asked x fits e f) does = absurd (cc (f, called))
-      by (ticked e f) does = absurd (cc (f, called))
-      by (heard k d e found kind f) (act.taken t l rec taken acts) = absurd (subst (IsFor t) same (act_is_for s t l rec after h acts))
-      by (heard k d e found kind f) (act.ignored reason ignores g told) =
-          let own : reason ≡ why = cc (same, told) in
-          let from : d.source ≡ source = cc (f, called) in
-          let text : d.bytes ≡ bytes = cc (f, called) in
-          subst (λ v. (v ≡ UnknownNonce) ⊎ (v ≡ Late)) own (known_ignored d (i.known k d found) kind reason (subst₂ (λ x y. Ignores s x y reason) (sym from) (sym text) ignores))
-
-  fails_by : Resolves w step event new → IsRightFailure past line
-  fails_by does =
-      let now = right_now r servers on past w i step event new does in
-      record {
-        gave_up = λ t why ends.
-            let h = subst (λ e. Ends e t (Err why)) does.tells ends in
-            elim (right_why r s does.call does.reply t why now.1 h) [
-              | inl none ↦ inl none
-              | inr over ↦ inr (over, exhausted_at s does.call does.state does.reply t does.does (subst (λ v. Ends (event_of does.reply) t (Err v)) over h))
-            ];
-        ignored = λ why e. ignored_by why does.call does.state does.reply does.calls (tells_heard does.reply (heard_as.Ignored why) (sym does.tells ∙ e)) does.does;
-        refused = λ why e. refused_rightly s (order_now r servers on past w i) does.call does.state does.reply why does.does (tells_refused does.reply why (sym does.tells ∙ e));
-      }
-
-  pub right_failure : WorldStep servers w step event new → IsRightFailure past line
-  right_failure does = elim (idle_by servers w step event new does) [
-    | inl d ↦ fails_by d
-    | inr idle ↦ record { gave_up = λ t why ends. absurd ((idle_still event idle).ends_none t (Err why) ends); ignored = λ why e. absurd (subst IsIdle e idle); refused = λ why e. absurd (subst IsIdle e idle) }
-  ]
-
-  -- replies
-  pub right_reply : WorldStep servers w step event new → IsRightReply r past line
-  right_reply (resolves does) k d is found kind = absurd (asked_by_delivery w step k d does.call is found kind does.calls)
-  right_reply (serves j more e (by_reply c bytes there other may f h) g) k d is found kind =
-      let same : j ≡ k = cc (is, e) in
-      let own : c ≡ d = same_Some c d (sym there ∙ ap (slice_get w.sent) same ∙ found) in
-      let q = replied_honestly r servers on past w i j c (Some bytes) there other may in
-      subst (IsRepliedTo r line) own (record { request = message_of q.0 q.1 (w.state.me ∷ []) true; reply = bytes; asks = q.3; honest = q.4; replied = f; sent = ap (λ (v : World). v.sent) g ∙ h })
-  right_reply (serves j more e (by_silence c there other may f h) g) k d is found kind = absurd (replied_honestly r servers on past w i j c None there other may).4
-  right_reply (not_sent j e gone f g) k d is found kind = let same : j ≡ k = cc (is, e) in let lt = slice_get_within w.sent k d found in absurd (omega (arith, gone, lt, same))
-  right_reply (passes millis e f g) k d is found kind = absurd (cc (is, e))
-  right_reply (replaces j e lt f g) k d is found kind = absurd (cc (is, e))
-  right_reply (no_member j e le f g) k d is found kind = absurd (cc (is, e))
+-- the servers' replies are usable, as the requests go to servers of the register
+usable_reply : {r : Register} {servers : Members} (on : Stands r servers) {past : List Line} {w : World} (i : IsSoundRun r past w) (k : ℕ) (d : Datagram) (bytes : List ℕ) → slice_get w.sent k ≡ Some d → d.is_reply ≡ false
+    → MayReply (servers.honest w.member) (servers.silent w.member) d.to d.bytes (Some bytes) → ReplyUsably d bytes
+usable_reply {r = r} on i k d bytes found kind may m id spells = (
+  says r d.to (xeid_path m.xeid),
+  says_usable r on.read d.to (xeid_path m.xeid) id,
+  may.honestly r m (rw i.member on.honest) (known_request on i d (i.known k d found) kind).2.is_server spells,
+)
 
 -- ---- all lines
 
 -- no line replaces the servers
-abbrev pub KeepThem : List Line → Type 0
-KeepThem [] = Unit {0}
-KeepThem (line ∷ past) = ((k : ℕ) → line.step ≡ Replace k → ⊥) × KeepThem past
+abbrev Keeps : Line → Type 0
+Keeps line = (k : ℕ) → line.step ≡ Replace k → ⊥
+
+abbrev KeepThem : List Line → Type 0
+KeepThem = Each (λ past. Keeps)
 
 in_steps : (past : List Line) → ((k : ℕ) → IsIn (Replace k) (map (λ (line : Line). line.step) past) → ⊥) → KeepThem past
 in_steps [] none = tt
 in_steps (l ∷ past) none = ((λ k is. none k (inl (sym is))), in_steps past (λ k there. none k (inr there)))
 
-pub keep_them : (steps : List Step) (past : List Line) → KeepServers steps → steps ≡ steps_of past → KeepThem past
+keep_them : (steps : List Step) (past : List Line) → KeepServers steps → steps ≡ steps_of past → KeepThem past
 keep_them steps past keep are =
-    in_steps past (λ k there. keep k (subst (λ l. Contains l (Replace k)) (sym are)
+    in_steps past (λ k there. keep k (rw are
     (contained (steps_of past) (Replace k) (moved_in (map (λ (line : Line). line.step) past) (steps_of past) (IsPermutation-reverse (map (λ (line : Line). line.step) past)) (Replace k) there))))
 
 -- those that were done of some steps
-pub keep_first : (steps : List Step) (past : List Line) (rest : List Step) → KeepServers steps → steps ≡ steps_of past ++ rest → KeepThem past
-keep_first steps past rest keep are =
-    keep_them (steps_of past) past (λ k there. keep k (subst (λ l. Contains l (Replace k)) (sym are) (contained (steps_of past ++ rest) (Replace k) (in_front (Replace k) (steps_of past) rest (in_contained (steps_of past) (Replace k) there))))) refl
-  where
-    in_front : (x : Step) (xs ys : List Step) → IsIn x xs → IsIn x (xs ++ ys)
-    in_front x [] ys h = absurd h
-    in_front x (y ∷ xs) ys (inl h) = inl h
-    in_front x (y ∷ xs) ys (inr h) = inr (in_front x xs ys h)
-
--- the servers' replies are usable, as the requests go to servers of the register
-usable_reply : (r : Register) (servers : Members) (on : Stands r servers) (past : List Line) (w : World) (sound : IsSoundRun r past w) (k : ℕ) (d : Datagram) (bytes : List ℕ) → slice_get w.sent k ≡ Some d → d.is_reply ≡ false
-    → MayReply (servers.honest w.member) (servers.silent w.member) d.to d.bytes (Some bytes) → ReplyUsably d bytes
-usable_reply r servers on past w sound k d bytes found kind may m id spells = (
-  says r d.to (xeid_path m.xeid),
-  says_usable r on.read d.to (xeid_path m.xeid) id,
-  may.honestly r m (subst (λ j. servers.honest j r) (sym sound.member) on.honest) (known_request r servers on past w sound d (sound.known k d found) kind).2.is_server spells,
-)
-
-ground : (r : Register) (past : List Line) (w : World) → IsSoundRun r past w → IsGround past w
-ground r past w sound = record { order = sound.order; early = sound.early; fits = sound.fits; tickets = sound.tickets }
-
-module _ (r : Register) (servers : Members) (on : Stands r servers) (start : World) (first : IsSoundRun r [] start) where
-  bytes_read : AreBytesRead
-  bytes_read = record { messages = on.read.messages; back = on.read.back; written = on.written }
-
-  pub sound_run : (past : List Line) (w : World) → KeepThem past → History servers start past w → IsSoundRun r past w
-  sound_run past w keep begin = first
-  sound_run past w keep (next {past = p} {w = v} step event h does) = steps_soundly r servers on p v (sound_run p v keep.1 h) step event w keep.0 does
-
-  -- and the tries of its lookups are known
-  tried_run : IsTried [] start → (past : List Line) (w : World) → KeepThem past → History servers start past w → IsTried past w
-  tried_run tried past w keep begin = tried
-  tried_run tried past w keep (next {past = p} {w = v} step event h does) =
-      let sound = sound_run p v keep.1 h in tried_on bytes_read servers p v (ground r p v sound) (tried_run tried p v keep.1 h) (usable_reply r servers on p v sound) step event w does
-
-  right_no_reply : IsTried [] start → (past : List Line) (w : World) → KeepThem past → History servers start past w → (step : Step) (event : Event) (new : World) → WorldStep servers w step event new
-      → IsRightNoReply r past (record { before = w; step = step; event = event; after = new })
-  right_no_reply tried past w keep h step event new does t ends =
-      let sound = sound_run past w keep h in
-      let vain = vain_now servers past w (ground r past w sound) (tried_run tried past w keep h) step event new does t ends in
-      record { vain = vain; of_zone = sound.sound.lookups t vain.lookup vain.is_pending }
-
-  pub each_right_no_reply : IsTried [] start → (past : List Line) (w : World) → KeepThem past → History servers start past w → Each (IsRightNoReply r) past
-  each_right_no_reply tried past w keep begin = tt
-  each_right_no_reply tried past w keep (next {past = p} {w = v} step event h does) =
-      (right_no_reply tried p v keep.1 h step event w does, each_right_no_reply tried p v keep.1 h)
-
-  module _ (holds : List Line → Line → Type 0) (each : (past : List Line) (w : World) (i : IsSoundRun r past w) (step : Step) (event : Event) (new : World) → WorldStep servers w step event new
-      → holds past (record { before = w; step = step; event = event; after = new })) where
-    pub each_line : (past : List Line) (w : World) → KeepThem past → History servers start past w → Each holds past
-    each_line past w keep begin = tt
-    each_line past w keep (next {past = p} {w = v} step event h does) = (each p v (sound_run p v keep.1 h) step event w does, each_line p v keep.1 h)
+keep_first : (steps : List Step) (past : List Line) (rest : List Step) → KeepServers steps → steps ≡ steps_of past ++ rest → KeepThem past
+keep_first steps past rest keep are = keep_them (steps_of past) past (λ k there. keep k (rw are (Contains-append_left (steps_of past) rest (Replace k) there))) refl
 
 -- ---- a run
 
--- at first nothing was sent and nothing is pending
-pub first_run : (r : Register) (s : State) → IsInOrder s → StartsSound r s → IsSoundRun r [] (at_start s)
-first_run r s o starts = record {
-  order = o;
-  early = o.known.time;
-  member = refl;
-  sound = starts.sound;
-  known = λ k d found. absurd (none-some d found);
-  fits = λ t l found. absurd (none-some l (sym (starts.at_rest t) ∙ found));
-  tickets = record {
-    asked_for = λ t l found. absurd (none-some l (sym (starts.at_rest t) ∙ found));
-    running = λ t l found h. h;
-    known = λ t h. absurd h;
-    ended = λ t h. absurd h;
-  };
-}
-
 pub first_tried : (s : State) → ((t : ℕ) → get s.pending t ≡ None) → IsTried [] (at_start s)
-first_tried s at_rest = record {
-  time = omega arith;
-  heard = λ reply moment h. absurd h;
-  replied = λ reply number h. absurd h;
-  trails = λ t l found none. absurd (none-some l (sym (at_rest t) ∙ found));
-}
+first_tried s at_rest = record { heard = λ reply moment h. absurd h; replied = λ reply number h. absurd h; trails = λ t l found none. absurd (none-some l (sym (at_rest t) ∙ found)) }
 
 module _ (laws : LawsOfRuns) (servers : Members) (old : State) (o : IsInOrder old) (steps : List Step) (r : Register) (honest : servers.honest 0 r) (keep : KeepServers steps) (starts : StartsSound r old) where
   on : Stands r servers
@@ -413,33 +217,38 @@ module _ (laws : LawsOfRuns) (servers : Members) (old : State) (o : IsInOrder ol
     written = laws.written;
   }
 
-  first : IsSoundRun r [] (at_start old)
-  first = first_run r old o starts
+  -- the run is sound, and the tries of its lookups are known
+  abbrev IsSoundly : List Line → World → Type 0
+  IsSoundly past w = IsSoundRun r past w × IsTried past w
+
+  first : IsSoundly [] (at_start old)
+  first = (record { ground = first_ground old o starts.at_rest; member = refl; sound = starts.sound; known = λ k d found. absurd (none-some d found) }, first_tried old starts.at_rest)
+
+  goes_soundly : (past : List Line) (w : World) → IsSoundly past w → (step : Step) (event : Event) (new : World) → Part servers w step event new → Keeps (one_line w step event new) → IsSoundly (one_line w step event new ∷ past) new
+  goes_soundly past w i step event new part keep =
+      (steps_soundly on i.0 part keep, tried_on (record { messages = laws.messages; back = laws.back; written = laws.written }) i.0.ground i.1 (usable_reply on i.0) part)
 
   -- where memory stops it, the resolver is sound too
   pub stops_soundly : (new : State) → StopsAfter servers old steps new → IsSound r new
   stops_soundly new stop =
-      let last = (sound_run r servers on (at_start old) first stop.past stop.last (keep_first steps stop.past stop.rest keep stop.steps_are) stop.history).sound in
-      elim stop.state_is [
-        | inl same ↦ subst (IsSound r) (sym same) last
-        | inr waiting ↦ subst (IsSound r) (sym waiting.wants.goes_on) (laws.time r stop.last.state stop.last.moment last)
-      ]
+      let last = (run_kept Keeps IsSoundly first goes_soundly (keep_first steps stop.past stop.rest keep stop.steps_are) stop.history).0.sound in
+      elim stop.state_is [ inl same ↦ rw same last | inr waiting ↦ rw waiting.wants.goes_on (laws.time r stop.last.state stop.last.moment last) ]
 
   module _ (t : Transcript) (new : State) (past : List Line) (tells : Tells servers old steps t new past) where
-    kept : KeepThem past
-    kept = keep_them steps past keep tells.steps_are
+    each : (holds : List Line → Line → Type 0) → ((past : List Line) (w : World) → IsSoundly past w → (step : Step) (event : Event) (new : World) → Part servers w step event new → holds past (one_line w step event new)) → Each holds past
+    each holds each_line = each_kept Keeps IsSoundly first goes_soundly holds each_line (keep_them steps past keep tells.steps_are) tells.history
 
     pub each_answer : Each (IsRightAnswer r) past
-    each_answer = each_line r servers on (at_start old) first (IsRightAnswer r) (right_answer r servers on) past tells.last kept tells.history
+    each_answer = each (IsRightAnswer r) (λ past w i step event new. right_answer on i.0)
 
     pub each_reply : Each (IsRightReply r) past
-    each_reply = each_line r servers on (at_start old) first (IsRightReply r) (right_reply r servers on) past tells.last kept tells.history
+    each_reply = each (IsRightReply r) (λ past w i step event new. right_reply on i.0)
 
     pub each_once : Each IsOnce past
-    each_once = each_line r servers on (at_start old) first IsOnce (once_each r servers on) past tells.last kept tells.history
+    each_once = each IsOnce (λ past w i step event new. once_now i.0.ground)
 
     pub each_failure : Each IsRightFailure past
-    each_failure = each_line r servers on (at_start old) first IsRightFailure (right_failure r servers on) past tells.last kept tells.history
+    each_failure = each IsRightFailure (λ past w i step event new. right_failure on i.0)
 
     pub each_no_reply : Each (IsRightNoReply r) past
-    each_no_reply = each_right_no_reply r servers on (at_start old) first (first_tried old starts.at_rest) past tells.last kept tells.history
+    each_no_reply = each (IsRightNoReply r) (λ past w i step event new. right_no_reply on i.0 i.1)

@@ -14,6 +14,7 @@ use Rattle.ddt_resolver.specs.declared.answers.Heard.TheVariants as heard
 use Rattle.ddt_resolver.specs.declared.answers.Why.{Why}
 use Rattle.ddt_resolver.specs.declared.answers.Why.TheVariants.{Loop, NotAuthoritative as NobodyInCharge, Exhausted}
 use Rattle.ddt_resolver.specs.State.{State, moved, last_nonce}
+use Rattle.ddt_resolver.specs.declared.step.Reply.TheVariants.{ToDatagram}
 use Rattle.ddt_resolver.specs.Step as steps
 use Rattle.ddt_resolver.specs.Act as acts
 use Rattle.ddt_resolver.specs.Act.{Act, HearStep}
@@ -48,7 +49,7 @@ module _ (r : Register) (now : ℕ) (x : Xeid) (s : State) (t : ℕ) (d : Outgoi
     turn_is_own = honest_reply_is_taken r laws now x (moved now s) t d order w reply spells new h step
 
     kept : IsSound r new × IsRightHeard r (moved now s) h
-    kept = keeps r (moved now s) (steps.Hear d.to reply) new (steps.ToDatagram h) u.accepted order (time r s now u.sound) (honest_reply_is_fair r laws now x (moved now s) t d order w reply spells) (steps.hears d.to reply h step refl refl)
+    kept = keeps r (moved now s) (steps.Hear d.to reply) new (ToDatagram h) u.accepted order (time r s now u.sound) (honest_reply_is_fair r laws now x (moved now s) t d order w reply spells) (steps.hears d.to reply h step refl refl)
 
     pub turn_keeps_sound : IsSound r new
     turn_keeps_sound = kept.0

@@ -12,7 +12,8 @@ use Rattle.ddt_resolver.specs.declared.answers.Outgoing.{Outgoing}
 use Rattle.ddt_resolver.specs.declared.pending.Pending.{Pending}
 use Rattle.ddt_resolver.specs.Records.{IsBelow}
 use Rattle.ddt_resolver.specs.State.{State}
-use Rattle.ddt_resolver.specs.Step.{Call, Reply, Step}
+use Rattle.ddt_resolver.specs.declared.step.Reply.{Reply}
+use Rattle.ddt_resolver.specs.Step.{Call, Step}
 use Rattle.ddt_resolver.specs.Order.{IsInOrder}
 use Rattle.ddt_sim.specs.declared.hop.Hop.{Hop}
 use Rattle.ddt_sim.specs.Lookup.{Reaches}

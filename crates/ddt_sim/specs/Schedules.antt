@@ -16,19 +16,20 @@ use Rattle.ddt_resolver.specs.declared.answers.AskError.TheVariants as ask_error
 use Rattle.ddt_resolver.specs.declared.answers.Heard.TheVariants as heard_as
 use Rattle.ddt_resolver.specs.declared.answers.Ignored.{Ignored}
 use Rattle.ddt_resolver.specs.declared.answers.Ignored.TheVariants.{UnknownNonce, Late}
-use Rattle.ddt_resolver.specs.declared.answers.Ticked.TheVariants as ticked_as
+use Rattle.ddt_resolver.specs.declared.answers.Outgoing.{Outgoing}
 use Rattle.ddt_resolver.specs.declared.answers.Why.{Why}
 use Rattle.ddt_resolver.specs.declared.answers.Why.TheVariants.{NoReply, Exhausted}
+use Rattle.ddt_resolver.specs.declared.step.Progress.TheVariants as progress
 use Rattle.ddt_resolver.specs.State.{State, last_nonce, most_pending}
 use Rattle.ddt_sim.specs.declared.schedule.Step.{Step}
 use Rattle.ddt_sim.specs.declared.schedule.Step.TheVariants.{Ask, Deliver, Replace}
 use Rattle.ddt_sim.specs.declared.schedule.Event.{Event}
-use Rattle.ddt_sim.specs.declared.schedule.Event.TheVariants.{Asked, Refused, Replied, Silent, Heard, Passed, Ticked, Replaced, Nothing}
+use Rattle.ddt_sim.specs.declared.schedule.Event.TheVariants.{Asked, Refused, Replied, Heard}
 use Rattle.ddt_sim.specs.declared.schedule.Datagram.{Datagram}
 use Rattle.ddt_sim.specs.declared.schedule.Transcript.{Transcript}
 use Rattle.ddt_sim.specs.Honest.{IsHonestReply}
 use Rattle.ddt_sim.specs.Sound.{IsSound}
-use Rattle.ddt_sim.specs.World.{Members, reply_to}
+use Rattle.ddt_sim.specs.World.{Members, reply_to, progress_at}
 use Rattle.ddt_sim.specs.History.{Line, Among, Each, Tells}
 
 -- the register is accepted, the resolver is sound for it, and nothing is pending
@@ -37,36 +38,13 @@ pub record StartsSound (r : Register) (s : State) : Type 0 where
   pub sound : IsSound r s
   pub at_rest : (t : ℕ) → get s.pending t ≡ None
 
--- an event opens a ticket, or ends it: with an outcome, or with the reason why there is none
+-- an ask opens a ticket: it sends the first request of a lookup
 abbrev pub Opens : Event → ℕ → Type 0
-Opens (Asked (asked_as.Sent u d)) t = u ≡ t
-Opens (Asked (asked_as.Answer o)) t = ⊥
-Opens (Refused why) t = ⊥
-Opens (Replied k) t = ⊥
-Opens Silent t = ⊥
-Opens (Heard h) t = ⊥
-Opens (Passed m) t = ⊥
-Opens (Replaced k) t = ⊥
-Opens (Ticked h) t = ⊥
-Opens Nothing t = ⊥
+Opens event t = (d : Outgoing) × (event ≡ Asked (asked_as.Sent t d))
 
 -- The lookup of a ticket ends by a reply that is heard or by a tick: with its outcome, or with why it gave up.
 abbrev pub Ends : Event → ℕ → Result Outcome Why → Type 0
-Ends (Heard (heard_as.Answer u o)) t end = (u ≡ t) × (end ≡ Ok o)
-Ends (Heard (heard_as.GaveUp u why)) t end = (u ≡ t) × (end ≡ Err why)
-Ends (Heard (heard_as.Ignored why)) t end = ⊥
-Ends (Heard (heard_as.Followed u d)) t end = ⊥
-Ends (Ticked (ticked_as.Answer u o)) t end = (u ≡ t) × (end ≡ Ok o)
-Ends (Ticked (ticked_as.GaveUp u why)) t end = (u ≡ t) × (end ≡ Err why)
-Ends (Ticked (ticked_as.Sent u d)) t end = ⊥
-Ends (Ticked ticked_as.Nothing) t end = ⊥
-Ends (Asked a) t end = ⊥
-Ends (Refused why) t end = ⊥
-Ends (Replied k) t end = ⊥
-Ends Silent t end = ⊥
-Ends (Passed m) t end = ⊥
-Ends (Replaced k) t end = ⊥
-Ends Nothing t end = ⊥
+Ends event t end = progress_at event ≡ progress.Ends t end
 
 -- a line asks for x under a new ticket; a line opens it; a line ends it
 abbrev pub AsksFor : ℕ → Xeid → Line → Type 0

@@ -31,7 +31,9 @@ use Rattle.ddt_resolver.specs.declared.answers.Why.TheVariants.{NoReply, Exhaust
 use Rattle.ddt_resolver.specs.Records.{outcome_at}
 use Rattle.ddt_resolver.specs.State.{State, fresh, moved, dropped}
 use Rattle.ddt_resolver.specs.Order.{IsInOrder}
-use Rattle.ddt_resolver.specs.Step.{Call, Ask, Hear, Tick, Reply, ToAsk, ToDatagram, ToTick, Step}
+use Rattle.ddt_resolver.specs.declared.step.Reply.{Reply}
+use Rattle.ddt_resolver.specs.declared.step.Reply.TheVariants.{ToAsk, ToDatagram, ToTick}
+use Rattle.ddt_resolver.specs.Step.{Call, Ask, Hear, Tick, Step}
 use Rattle.ddt_resolver.specs.TakeUp.{IsTaken}
 
 -- What makes an entry true. `delegates`: a referral to a zone, with the zone's kind and the locators of its group.

@@ -6,41 +6,26 @@ use Rattle.ddt_path.specs.declared.locator.Locator.{Locator}
 use Rattle.ddt_path.specs.declared.xeid.Xeid.{Xeid}
 use Rattle.ddt_register.specs.declared.register.Register.{Register}
 use Rattle.ddt_resolver.specs.declared.pending.Pending.{Pending}
-use Rattle.ddt_resolver.specs.declared.answers.Asked.TheVariants as asked_as
+use Rattle.ddt_resolver.specs.declared.answers.Outgoing.{Outgoing}
 use Rattle.ddt_resolver.specs.declared.answers.Heard.{Heard as Hearing}
-use Rattle.ddt_resolver.specs.declared.answers.Heard.TheVariants as heard_as
-use Rattle.ddt_resolver.specs.declared.answers.Ticked.TheVariants as ticked_as
 use Rattle.ddt_resolver.specs.declared.answers.Why.TheVariants.{NoReply}
+use Rattle.ddt_resolver.specs.declared.step.Progress.{Progress}
+use Rattle.ddt_resolver.specs.declared.step.Progress.TheVariants as progress
 use Rattle.ddt_resolver.specs.State.{State, request_bytes, patience}
 use Rattle.ddt_sim.specs.declared.schedule.Step.TheVariants.{Deliver}
 use Rattle.ddt_sim.specs.declared.schedule.Event.{Event}
-use Rattle.ddt_sim.specs.declared.schedule.Event.TheVariants.{Asked, Refused, Replied, Silent, Heard, Passed, Ticked, Replaced, Nothing}
+use Rattle.ddt_sim.specs.declared.schedule.Event.TheVariants.{Replied, Heard, Ticked}
 use Rattle.ddt_sim.specs.declared.schedule.Datagram.{Datagram}
 use Rattle.ddt_sim.specs.declared.schedule.Transcript.{Transcript}
 use Rattle.ddt_sim.specs.declared.schedule.Step.{Step}
 use Rattle.ddt_sim.specs.Sound.{IsSoundLookup}
-use Rattle.ddt_sim.specs.World.{World, Members}
+use Rattle.ddt_sim.specs.World.{World, Members, progress_at}
 use Rattle.ddt_sim.specs.History.{Line, Among}
 use Rattle.ddt_sim.specs.Schedules.{Ends, AsksFor, EachLine}
 
 -- an event sends a request for a ticket
 abbrev pub Sends : Event → ℕ → Type 0
-Sends (Asked (asked_as.Sent u d)) t = u ≡ t
-Sends (Asked (asked_as.Answer o)) t = ⊥
-Sends (Heard (heard_as.Followed u d)) t = u ≡ t
-Sends (Heard (heard_as.Ignored why)) t = ⊥
-Sends (Heard (heard_as.Answer u o)) t = ⊥
-Sends (Heard (heard_as.GaveUp u why)) t = ⊥
-Sends (Ticked (ticked_as.Sent u d)) t = u ≡ t
-Sends (Ticked ticked_as.Nothing) t = ⊥
-Sends (Ticked (ticked_as.Answer u o)) t = ⊥
-Sends (Ticked (ticked_as.GaveUp u why)) t = ⊥
-Sends (Refused why) t = ⊥
-Sends (Replied k) t = ⊥
-Sends Silent t = ⊥
-Sends (Passed m) t = ⊥
-Sends (Replaced k) t = ⊥
-Sends Nothing t = ⊥
+Sends event t = (d : Outgoing) × (progress_at event ≡ progress.Sends t d)
 
 -- a request of a lookup: the datagram's number, and the moment of its sending
 pub record Try : Type 0 where
@@ -94,24 +79,20 @@ AreInVain past w t servers x (try ∷ earlier) =
     IsInVain past w t (get_or servers (length earlier / 2) w.state.me) x try × IsLater try earlier
     × AreInVain past w t servers x earlier
 
--- The tries of a ticket after one more event: an ask, or a reply that is followed, begins anew; a tick adds one.
+-- The tries that a request is added to: at a tick the earlier ones. An ask, or a reply that is followed, begins anew.
+abbrev pub tries_before : Event → List Try → List Try
+tries_before (Ticked h) earlier = earlier
+tries_before _ earlier = []
+
+-- the tries of a ticket, where the request of one may be among these
+abbrev pub tries_by : ℕ → Progress → List Try → List Try → List Try
+tries_by t (progress.Sends u d) these earlier = if u == t then these else earlier
+tries_by t progress.Stays these earlier = earlier
+tries_by t (progress.Ends u end) these earlier = earlier
+
+-- The tries of a ticket after one more event.
 abbrev pub tries_after : ℕ → Event → Try → List Try → List Try
-tries_after t (Asked (asked_as.Sent u d)) this earlier = if u == t then this ∷ [] else earlier
-tries_after t (Asked (asked_as.Answer o)) this earlier = earlier
-tries_after t (Heard (heard_as.Followed u d)) this earlier = if u == t then this ∷ [] else earlier
-tries_after t (Heard (heard_as.Ignored why)) this earlier = earlier
-tries_after t (Heard (heard_as.Answer u o)) this earlier = earlier
-tries_after t (Heard (heard_as.GaveUp u why)) this earlier = earlier
-tries_after t (Ticked (ticked_as.Sent u d)) this earlier = if u == t then this ∷ earlier else earlier
-tries_after t (Ticked ticked_as.Nothing) this earlier = earlier
-tries_after t (Ticked (ticked_as.Answer u o)) this earlier = earlier
-tries_after t (Ticked (ticked_as.GaveUp u why)) this earlier = earlier
-tries_after t (Refused why) this earlier = earlier
-tries_after t (Replied k) this earlier = earlier
-tries_after t Silent this earlier = earlier
-tries_after t (Passed m) this earlier = earlier
-tries_after t (Replaced k) this earlier = earlier
-tries_after t Nothing this earlier = earlier
+tries_after t event this earlier = tries_by t (progress_at event) (this ∷ tries_before event earlier) earlier
 
 -- all of them, since the lookup was asked or last followed a reply; the newest first
 abbrev pub tries_of : ℕ → List Line → List Try

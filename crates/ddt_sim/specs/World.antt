@@ -1,5 +1,6 @@
 -- A resolver among servers, and what each step of a schedule does there (RFC 8111, section 7.3).
-use Rattle.std.specs.Prelude.{ℕ, ◌≡◌, ◌⊎◌, ◌+◌, ◌<◌, ◌≤◌, min, true, false, List, [], ◌∷◌, ◌++◌, length, slice_get, Contains, Option, None, Some, Result, Ok, Err}
+use Rattle.std.specs.Prelude.{ℕ, ◌≡◌, ◌⊎◌, ◌+◌, ◌<◌, ◌≤◌, min, true, false, List, [], ◌∷◌, ◌++◌, length, slice_get, Contains, Option, None, Some, Ok, Err}
+use Rattle.std.specs.Option.{option_map_or}
 use Rattle.ddt_path.specs.declared.locator.Locator.{Locator}
 use Rattle.ddt_path.specs.declared.xeid.Xeid.{Xeid}
 use Rattle.ddt_register.specs.declared.register.Register.{Register}
@@ -7,15 +8,13 @@ use Rattle.ddt_ecm.specs.Request.{Message}
 use Rattle.ddt_node.specs.Server.{IsDdtRequest}
 use Rattle.ddt_cache.specs.Moment.{last_moment}
 use Rattle.ddt_resolver.specs.declared.answers.Outgoing.{Outgoing}
-use Rattle.ddt_resolver.specs.declared.answers.Asked.{Asked as Asking}
-use Rattle.ddt_resolver.specs.declared.answers.Asked.TheVariants as asked_as
-use Rattle.ddt_resolver.specs.declared.answers.AskError.{AskError}
-use Rattle.ddt_resolver.specs.declared.answers.AskError.TheVariants as ask_error
-use Rattle.ddt_resolver.specs.declared.answers.Heard.TheVariants as heard_as
-use Rattle.ddt_resolver.specs.declared.answers.Ticked.TheVariants as ticked_as
+use Rattle.ddt_resolver.specs.declared.step.Reply.{Reply}
+use Rattle.ddt_resolver.specs.declared.step.Reply.TheVariants.{ToAsk, ToDatagram, ToTick}
+use Rattle.ddt_resolver.specs.declared.step.Progress.{Progress}
+use Rattle.ddt_resolver.specs.declared.step.Progress.TheVariants.{Stays, Sends, Ends}
 use Rattle.ddt_resolver.specs.State.{State, moved}
 use Rattle.ddt_resolver.specs.Step as resolver
-use Rattle.ddt_resolver.specs.Step.{Call, Hear, Reply, ToAsk, ToDatagram, ToTick, Wants}
+use Rattle.ddt_resolver.specs.Step.{Call, Hear, Wants, progress_of}
 use Rattle.ddt_sim.specs.declared.schedule.Step.{Step}
 use Rattle.ddt_sim.specs.declared.schedule.Step.TheVariants.{Ask, Deliver, Pass, Tick, Replace}
 use Rattle.ddt_sim.specs.declared.schedule.Event.{Event}
@@ -76,24 +75,27 @@ pub record MayReply (are_honest are_silent : Register → Type 0) (to : Locator)
       → IsHonestReply r to m reply
   pub silently : (r : Register) → are_silent r → (IsServer r to → ⊥) → reply ≡ None
 
+-- what the resolver answered at an event, if it had a part in it
+abbrev pub reply_at : Event → Option Reply
+reply_at (Asked a) = Some (ToAsk (Ok a))
+reply_at (Refused why) = Some (ToAsk (Err why))
+reply_at (Heard h) = Some (ToDatagram h)
+reply_at (Ticked h) = Some (ToTick h)
+reply_at _ = None
+
+-- what an event makes of the pending lookups: nothing, where the resolver has no part in it
+abbrev pub progress_at : Event → Progress
+progress_at event = option_map_or progress_of (reply_at event) Stays
+
+-- the request that goes out
+abbrev pub request_in : Progress → Option Outgoing
+request_in (Sends t d) = Some d
+request_in Stays = None
+request_in (Ends t end) = None
+
 -- the request that the resolver sends at an event
 abbrev pub request_at : Event → Option Outgoing
-request_at (Asked (asked_as.Sent t d)) = Some d
-request_at (Asked (asked_as.Answer o)) = None
-request_at (Heard (heard_as.Followed t d)) = Some d
-request_at (Heard (heard_as.Ignored why)) = None
-request_at (Heard (heard_as.Answer t o)) = None
-request_at (Heard (heard_as.GaveUp t why)) = None
-request_at (Ticked (ticked_as.Sent t d)) = Some d
-request_at (Ticked ticked_as.Nothing) = None
-request_at (Ticked (ticked_as.Answer t o)) = None
-request_at (Ticked (ticked_as.GaveUp t why)) = None
-request_at (Refused why) = None
-request_at (Replied k) = None
-request_at Silent = None
-request_at (Passed m) = None
-request_at (Replaced k) = None
-request_at Nothing = None
+request_at event = request_in (progress_at event)
 
 -- as a datagram from the resolver's address
 abbrev pub request_from : Locator → Outgoing → Datagram
@@ -115,19 +117,18 @@ event_of (ToAsk (Err why)) = Refused why
 event_of (ToDatagram h) = Heard h
 event_of (ToTick t) = Ticked t
 
--- an ask's answer is told, as it isn't one of memory
-abbrev pub IsToldAsk : Result Asking AskError → Event → Type 0
-IsToldAsk (Ok a) event = event ≡ Asked a
-IsToldAsk (Err ask_error.TooMany) event = event ≡ Refused ask_error.TooMany
-IsToldAsk (Err ask_error.Exhausted) event = event ≡ Refused ask_error.Exhausted
-IsToldAsk (Err ask_error.Memory) event = ⊥
-
 -- How a step calls the resolver: for an ask of an identifier, for a reply that was sent, for a tick.
 pub data Calls (w : World) (step : Step) (call : Call) : Type 0 where
   asked : (x : Xeid) → CanBeAsked x w.state.me → step ≡ Ask x → call ≡ resolver.Ask x → Calls w step call
   heard : (k : ℕ) (d : Datagram) → step ≡ Deliver k → slice_get w.sent k ≡ Some d → d.is_reply ≡ true
       → call ≡ Hear d.source d.bytes → Calls w step call
   ticked : step ≡ Tick → call ≡ resolver.Tick → Calls w step call
+
+-- what a step calls the resolver for, if it calls it
+abbrev pub call_at : List Datagram → Step → Call
+call_at sent (Ask x) = resolver.Ask x
+call_at sent (Deliver k) = option_map_or (λ (d : Datagram). Hear d.source d.bytes) (slice_get sent k) resolver.Tick
+call_at sent _ = resolver.Tick
 
 -- A request is handed to servers: they reply, and the reply is one datagram more, or they give no reply.
 pub data Serves (are_honest are_silent : Register → Type 0) (sent : List Datagram) (k : ℕ) (more : List Datagram)

@@ -1,11 +1,11 @@
 //! A run of a schedule: each step, and the datagrams that are sent.
 
-ghost use Rattle.std.specs.Prelude.{◌≡◌, ◌++◌, ◌<◌, ℕ, IfOk, OnOk, OnErr, IsOk, Err, Some, true, false, [], List, length, slice_get};
+ghost use Rattle.std.specs.Prelude.{◌≡◌, ◌++◌, ◌<◌, ℕ, IfOk, OnOk, OnErr, IsOk, Some, false, [], List, length, slice_get};
 ghost use Rattle.std.specs.Option.{option_map};
 ghost use Rattle.ddt_register.specs.declared.register.Register.{Register};
 ghost use Rattle.ddt_sim.specs.declared.schedule.Step.TheVariants as step_as;
-ghost use Rattle.ddt_resolver.specs.declared.answers.AskError.TheVariants as ask_error;
-ghost use Rattle.ddt_sim.specs.World.{world, members, at_place, request_at, sent_for, later as later_than, StillAre, OthersStay, ComesIntoForce, IsToldAsk, Resolves, Serves, WorldStep, Stops};
+ghost use Rattle.ddt_resolver.specs.Step.{Call, call_of};
+ghost use Rattle.ddt_sim.specs.World.{world, members, at_place, request_at, sent_for, later as later_than, StillAre, OthersStay, ComesIntoForce, Calls, call_at, Resolves, Serves, WorldStep, Stops};
 ghost use Rattle.ddt_sim.specs.History.{Line, Tells, StopsAfter};
 ghost use Rattle.ddt_sim.specs.Schedules.{KeepServers, StartsSound, AnswersAreRight, RepliesAreRight, TicketsEndOnce, FailuresAreRight};
 ghost use Rattle.ddt_sim.specs.Tries.{NoRepliesAreRight};
@@ -17,8 +17,8 @@ use crate::looking_up::can_be_asked;
 use crate::schedule::{Datagram, Event, Step, Transcript};
 use crate::servers::Servers;
 use ddt_cache::{Entry, LAST_MOMENT, Moment};
-use ddt_path::{Listed, Locator, Xeid};
-use ddt_resolver::{AskError, Asked, Resolver};
+use ddt_path::{Listed, Locator};
+use ddt_resolver::{Input, Resolver};
 use ddt_trie::PrefixMap;
 use std::alloc::{AllocError, Global};
 
@@ -144,13 +144,16 @@ fn take_step<S: Servers, M: PrefixMap<Entry>>(
     ensures others { OthersStay (λ k. k ≡ scene.old.member) servers.old servers.new }
 {
     match step {
-        Step::Ask(x) => ask(alloc, resolver, scene, x),
+        Step::Ask(x) => {
+            can_be_asked(x, resolver.me());
+            resolve(alloc, resolver, scene, step)
+        }
         Step::Deliver(number) => deliver(alloc, servers, resolver, scene, number),
         Step::Pass(millis) => {
             scene.moment = later(scene.moment, millis);
             Ok(Event::Passed(scene.moment))
         }
-        Step::Tick => tick(alloc, resolver, scene),
+        Step::Tick => resolve(alloc, resolver, scene, step),
         Step::Replace(number) => {
             if number >= servers.len() as u64 {
                 return Ok(Event::Nothing);
@@ -172,56 +175,41 @@ fn later(moment: Moment, millis: u64) -> Moment
     }
 }
 
-/// An ask: its request is sent.
-fn ask<M: PrefixMap<Entry>>(
+/// The resolver does what a step calls it for, and the request that follows is sent.
+fn resolve<M: PrefixMap<Entry>>(
     alloc: Global,
     resolver: &mut Resolver<M>,
     scene: &mut Scene,
-    x: Xeid,
+    step: Step,
 ) -> Result<Event, AllocError>
+    requires { (call : Call) × Calls (world scene.old.moment scene.old.member scene.old.sent.items resolver.old)
+        step call }
     ensures step { IfOk result (λ event. Resolves
-        (world scene.old.moment scene.old.member scene.old.sent.items resolver.old) (step_as.Ask x) event
+        (world scene.old.moment scene.old.member scene.old.sent.items resolver.old) step event
         (world scene.new.moment scene.new.member scene.new.sent.items resolver.new)) }
     ensures stopped { OnErr result (Stops
-        (world scene.old.moment scene.old.member scene.old.sent.items resolver.old) (step_as.Ask x) resolver.new) }
+        (world scene.old.moment scene.old.member scene.old.sent.items resolver.old) step resolver.new) }
     ensures member { scene.new.member ≡ scene.old.member }
 {
     let me = resolver.me();
-    can_be_asked(x, me);
-    let event = asked(resolver.ask(scene.moment, x))?;
+    let input = input_of(step, scene.sent.as_slice());
+    let event = Event::of(resolver.step(scene.moment, input)?);
     send(alloc, &mut scene.sent, me, &event)?;
     Ok(event)
 }
 
-/// What an ask is answered; fails only if out of memory.
-fn asked(answer: Result<Asked, AskError>) -> Result<Event, AllocError>
-    ensures event { IfOk result (λ event. IsToldAsk answer event) }
-    ensures memory { OnErr result (answer ≡ Err ask_error.Memory) }
+/// What a step calls the resolver for, if it calls it.
+fn input_of(step: Step, sent: &[Datagram]) -> Input<'_>
+    ensures { call_of result ≡ call_at sent.now step }
 {
-    match answer {
-        Ok(asked) => Ok(Event::Asked(asked)),
-        Err(AskError::Memory) => Err(AllocError),
-        Err(error) => Ok(Event::Refused(error)),
+    match step {
+        Step::Ask(x) => Input::Ask(x),
+        Step::Deliver(number) => match sent.get(number as usize) {
+            Some(reply) => Input::Datagram(reply.source, reply.bytes.as_slice()),
+            None => Input::Tick,
+        },
+        Step::Tick | Step::Pass(_) | Step::Replace(_) => Input::Tick,
     }
-}
-
-/// A tick: its request is sent.
-fn tick<M: PrefixMap<Entry>>(
-    alloc: Global,
-    resolver: &mut Resolver<M>,
-    scene: &mut Scene,
-) -> Result<Event, AllocError>
-    ensures step { IfOk result (λ event. Resolves
-        (world scene.old.moment scene.old.member scene.old.sent.items resolver.old) step_as.Tick event
-        (world scene.new.moment scene.new.member scene.new.sent.items resolver.new)) }
-    ensures stopped { OnErr result (Stops
-        (world scene.old.moment scene.old.member scene.old.sent.items resolver.old) step_as.Tick resolver.new) }
-    ensures member { scene.new.member ≡ scene.old.member }
-{
-    let me = resolver.me();
-    let event = Event::Ticked(resolver.tick(scene.moment)?);
-    send(alloc, &mut scene.sent, me, &event)?;
-    Ok(event)
 }
 
 /// A datagram is handed over: a request to the servers in force, a reply to the resolver.
@@ -245,7 +233,7 @@ fn deliver<S: Servers, M: PrefixMap<Entry>>(
     ensures others { OthersStay (λ k. k ≡ scene.old.member) servers.old servers.new }
 {
     match is_reply(scene.sent.as_slice(), number) {
-        Some(true) => hear(alloc, resolver, scene, number),
+        Some(true) => resolve(alloc, resolver, scene, Step::Deliver(number)),
         Some(false) => serve(alloc, &mut servers[scene.member], &mut scene.sent, number),
         None => Ok(Event::Nothing),
     }
@@ -256,33 +244,6 @@ fn is_reply(sent: &[Datagram], number: u64) -> Option<bool>
     ensures { result ≡ option_map (λ d. d.is_reply) (slice_get sent.now number) }
 {
     sent.get(number as usize).map(|d| d.is_reply)
-}
-
-/// A reply is handed to the resolver: the request that follows is sent.
-fn hear<M: PrefixMap<Entry>>(
-    alloc: Global,
-    resolver: &mut Resolver<M>,
-    scene: &mut Scene,
-    number: u64,
-) -> Result<Event, AllocError>
-    requires { option_map (λ d. d.is_reply) (slice_get scene.old.sent.items number) ≡ Some true }
-    ensures step { IfOk result (λ event. Resolves
-        (world scene.old.moment scene.old.member scene.old.sent.items resolver.old) (step_as.Deliver number) event
-        (world scene.new.moment scene.new.member scene.new.sent.items resolver.new)) }
-    ensures stopped { OnErr result (Stops
-        (world scene.old.moment scene.old.member scene.old.sent.items resolver.old) (step_as.Deliver number)
-        resolver.new) }
-    ensures member { scene.new.member ≡ scene.old.member }
-{
-    let me = resolver.me();
-    let reply = &scene.sent[number as usize];
-    let event = Event::Heard(resolver.datagram(
-        scene.moment,
-        reply.source,
-        reply.bytes.as_slice(),
-    )?);
-    send(alloc, &mut scene.sent, me, &event)?;
-    Ok(event)
 }
 
 /// A request is handed to its server: the reply is sent.

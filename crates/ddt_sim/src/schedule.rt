@@ -2,11 +2,11 @@
 
 ghost use Rattle.std.specs.Prelude.{◌≡◌};
 ghost use Rattle.std.specs.Option.{option_copied};
-ghost use Rattle.ddt_sim.specs.World.{request_at};
+ghost use Rattle.ddt_sim.specs.World.{event_of, request_at};
 
 use ddt_cache::Moment;
 use ddt_path::{Listed, Locator, Xeid};
-use ddt_resolver::{AskError, Asked, Heard, Outgoing, Ticked};
+use ddt_resolver::{AskError, Asked, Heard, Outgoing, Reply, Ticked};
 
 /// A step of a schedule.
 #[derive(Clone, Copy, Debug, PartialEq, Eq)]
@@ -47,6 +47,18 @@ pub enum Event {
 }
 
 impl Event {
+    /// The event that tells what the resolver answered.
+    pub(crate) fn of(reply: Reply) -> Event
+        ensures { result ≡ event_of reply }
+    {
+        match reply {
+            Reply::ToAsk(Ok(asked)) => Event::Asked(asked),
+            Reply::ToAsk(Err(error)) => Event::Refused(error),
+            Reply::ToDatagram(heard) => Event::Heard(heard),
+            Reply::ToTick(ticked) => Event::Ticked(ticked),
+        }
+    }
+
     /// The request that the resolver sends.
     pub(crate) fn request(&self) -> Option<&Outgoing>
         ensures { option_copied result ≡ request_at self.now }

@@ -1,12 +1,14 @@
-use Rattle.std.proofs.Common.{List, ap, sym, ◌∙◌, refl, subst}
-use Rattle.std.specs.Prelude.{slice_get}
-use Rattle.std.specs.Option.{option_map}
+use Rattle.std.proofs.Common.{sym, refl, subst}
 use Rattle.std.proofs.lemmas.Result.{IfOk-weaker}
 use Rattle.ddt_register.specs.declared.register.Register.{Register}
-use Rattle.ddt_sim.specs.declared.schedule.Datagram.{Datagram}
-use Rattle.ddt_sim.specs.World.{Serves, not_sent}
-use Rattle.ddt_sim.proofs.RunLemmas.{none_at, serves_at, still_set, set_others}
+use Rattle.ddt_sim.specs.World.{world, Serves, not_sent}
+use Rattle.ddt_sim.proofs.RunLemmas.{hears_call, none_at, serves_at, still_set, set_others}
 use Rattle.ddt_sim.proofs.running.deliver.Goals as goal
+
+pub resolve-requires : goal.resolve-requires
+resolve-requires g c =
+    let scene = c.args.scene.now in
+    hears_call (world scene.moment scene.member scene.sent.items c.args.resolver.now) c.args.number (cc (c.as_slice.ensures.value, c.is_reply.ensures, c.in-Some-true.is, c.in-Some-true.field-0-test))
 
 pub returns-in-Some-false-clause-step : goal.returns-in-Some-false-clause-step
 returns-in-Some-false-clause-step g c =
@@ -32,7 +34,4 @@ pub returns-in-Some-false-clause-others : goal.returns-in-Some-false-clause-othe
 returns-in-Some-false-clause-others g c = set_others c.args.servers.now c.args.scene.now.member c.serve.new.servers
 
 pub returns-in-None-clause-step : goal.returns-in-None-clause-step
-returns-in-None-clause-step g c =
-    let scene = c.args.scene.now in
-    let none = ap (λ (l : List Datagram). option_map (λ (d : Datagram). d.is_reply) (slice_get l c.args.number)) (sym c.as_slice.ensures.value) ∙ sym c.is_reply.ensures ∙ c.in-None.is in
-    not_sent c.args.number refl (none_at scene.sent.items c.args.number none) refl refl
+returns-in-None-clause-step g c = not_sent c.args.number refl (none_at c.args.scene.now.sent.items c.args.number (cc (c.as_slice.ensures.value, c.is_reply.ensures, c.in-None.is))) refl refl

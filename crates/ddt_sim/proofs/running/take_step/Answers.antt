@@ -1,7 +1,11 @@
-use Rattle.std.proofs.Common.{ℕ, refl, ap, arith}
+use Rattle.std.proofs.Common.{ℕ, refl, ap, subst, arith}
 use Rattle.ddt_sim.specs.declared.schedule.Event.TheVariants.{Passed}
-use Rattle.ddt_sim.specs.World.{world, passes, replaces, no_member}
+use Rattle.ddt_sim.specs.World.{asked, world, passes, replaces, no_member}
+use Rattle.ddt_sim.specs.Waiting.{CanBeAsked}
 use Rattle.ddt_sim.proofs.running.take_step.Goals as goal
+
+pub resolve-requires : goal.resolve-requires
+resolve-requires g c = (_, asked c.in-Ask.x (subst (CanBeAsked c.in-Ask.x) c.me.ensures c.can_be_asked.ensures) refl refl)
 
 pub returns-in-Pass-clause-step : goal.returns-in-Pass-clause-step
 returns-in-Pass-clause-step g c =

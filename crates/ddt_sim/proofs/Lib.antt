@@ -10,7 +10,6 @@ pub mod RunLemmas
 pub mod ShortLemmas
 pub mod SoundLemmas
 pub mod TrailLemmas
-pub mod TurnLemmas
 pub mod WaitingLemmas
 pub mod ServerLemmas
 pub mod ScheduleLemmas

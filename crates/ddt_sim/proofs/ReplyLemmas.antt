@@ -1,5 +1,5 @@
 -- The reply of an honest server is taken up by the lookup that asked, and is fair.
-use Rattle.std.proofs.Common.{◌≡◌, ℕ, ◌≤◌, List, length, Some, refl, sym, ap, ◌∙◌, subst, arith, inl, inr, ◌⊎◌}
+use Rattle.std.proofs.Common.{◌≡◌, ℕ, ◌≤◌, List, length, Some, refl, sym, ap, ◌∙◌, arith, inl, inr, ◌⊎◌}
 use Rattle.std.specs.Prelude.{IsTrue}
 use Rattle.std.specs.FinMap.{get}
 use Rattle.std.proofs.lemmas.Option.{same_Some}
@@ -12,7 +12,7 @@ use Rattle.ddt_path.specs.Covers.{covers}
 use Rattle.ddt_register.specs.declared.register.Register.{Register}
 use Rattle.ddt_check.specs.Says.{says}
 use Rattle.ddt_check.specs.laws.Statements.{AnswersCover, AnswersHaveServers, AnswersCanBeSent}
-use Rattle.ddt_wire.specs.Referral.{Message, Spells, message_of, message_record}
+use Rattle.ddt_wire.specs.Referral.{Spells, message_of, message_record}
 use Rattle.ddt_wire.specs.laws.Statements.{MessagesAreRead, RecordsComeBack}
 use Rattle.ddt_resolver.specs.declared.pending.Pending.{Pending}
 use Rattle.ddt_resolver.specs.declared.answers.Outgoing.{Outgoing}
@@ -73,56 +73,44 @@ module _ (messages : MessagesAreRead) (back : RecordsComeBack) (s : State) (o : 
   -- whatever the reply tells is this
   told : (nonce : ℕ) (rec : ReferralRecord) → Tells reply nonce rec → (l.nonce ≡ nonce) × (rec ≡ said)
   told nonce rec tells =
-      let same : tells.message ≡ message_of l.nonce said = messages.one reply tells.message (message_of l.nonce said) tells.spells spells in (
-        sym (ap (λ (m : Message). m.nonce) same) ∙ tells.same_nonce,
-        sym tells.same_record ∙ ap message_record same ∙ back l.nonce said usable.few,
-      )
+      let same : tells.message ≡ message_of l.nonce said = messages.one reply tells.message (message_of l.nonce said) tells.spells spells in
+      (cc (same, tells.same_nonce), sym tells.same_record ∙ ap message_record same ∙ back l.nonce said usable.few)
 
-  -- a lookup that has its nonce is the one that asked
-  own_ticket : (u : ℕ) (m : Pending) (rec : ReferralRecord) → takes.IsReplyTo s reply u m rec → (u ≡ t) × (m ≡ l)
-  own_ticket u m rec is =
-      let same : u ≡ t = o.nonces u t m l is.is_pending here (sym (told m.nonce rec is.tells).0) in
-      (same, same_Some m l (sym is.is_pending ∙ ap (get s.pending) same ∙ here))
-
-  -- so what a lookup takes up is this record, and the lookup the one that asked
-  pub taken_by_own : (u : ℕ) (m : Pending) (rec : ReferralRecord) → IsTaken s source reply u m rec → (rec ≡ said) × (m ≡ l)
-  taken_by_own u m rec taken = let is = taken.in_time.from_server.reply in ((told m.nonce rec is.tells).1, (own_ticket u m rec is).1)
+  -- so a lookup that has its nonce is the one that asked
+  own_ticket : {u : ℕ} {m : Pending} {rec : ReferralRecord} → takes.IsReplyTo s reply u m rec → (u ≡ t) × (m ≡ l) × (rec ≡ said)
+  own_ticket {u = u} {m = m} {rec = rec} is =
+      let tells = told m.nonce rec is.tells in
+      let same : u ≡ t = o.nonces u t m l is.is_pending here (sym tells.0) in
+      (same, same_Some m l (sym is.is_pending ∙ ap (get s.pending) same ∙ here), tells.1)
 
   -- and it is ignored only where it is late
   ignored_late : (why : Ignored) → Ignores s source reply why → l.deadline ≤ s.known.time
   ignored_late why (takes.undecodable none e) = absurd (none (message_of l.nonce said) spells)
   ignored_late why (takes.unknown_nonce nonce rec tells none e) = absurd (none t l here (told nonce rec tells).0)
-  ignored_late why (takes.wrong_source u m rec is other e) = absurd (other (to ∙ ap (server s.me) (sym (own_ticket u m rec is).1)))
-  ignored_late why (takes.late u m rec from late e) = subst (λ (p : Pending). p.deadline ≤ s.known.time) (own_ticket u m rec from.reply).1 late
+  ignored_late why (takes.wrong_source u m rec is other e) = absurd (other (rw (own_ticket is).1 to))
+  ignored_late why (takes.late u m rec from late e) = rw (← (own_ticket from.reply).1) late
   ignored_late why (takes.not_covering u m rec in_time away e) =
-      let is = in_time.from_server.reply in
-      absurd (away (inl (subst (λ (v : ReferralRecord). IsTrue (covers v.prefix (xeid_path m.x))) (sym (told m.nonce rec is.tells).1)
-      (subst (λ (p : Pending). IsTrue (covers said.prefix (xeid_path p.x))) (sym (own_ticket u m rec is).1) usable.covers_x))))
-  ignored_late why (takes.no_servers u m rec in_time about none e) = absurd (none (subst NamesServer (sym (told m.nonce rec in_time.from_server.reply.tells).1) usable.names_server))
+      let own = own_ticket in_time.from_server.reply in absurd (away (inl (rw (own.2, own.1) usable.covers_x)))
+  ignored_late why (takes.no_servers u m rec in_time about none e) = absurd (none (rw (own_ticket in_time.from_server.reply).2 usable.names_server))
 
   -- it is late, or for the lookup that asked
   pub late_or_taken : (new : State) (h : Heard) → HearStep s source reply new h → (l.deadline ≤ s.known.time) ⊎ IsFor t h
   late_or_taken new h (acts.ignored why ignores e f) = inl (ignored_late why ignores)
-  late_or_taken new h (acts.taken u m rec taken act) =
-      inr (subst (λ v. IsFor v h) (own_ticket u m rec taken.in_time.from_server.reply).0 (act_is_for s u m rec new h act))
+  late_or_taken new h (acts.taken u m rec taken act) = inr (rw (← (own_ticket taken.in_time.from_server.reply).0) (act_is_for s u m rec new h act))
 
 -- ---- to a lookup that has just asked
 
-module _ (r : Register) (laws : RepliesAreRead r) (now : ℕ) (x : Xeid) (s : State) (t : ℕ) (d : Outgoing) (o : IsInOrder s) (w : Waits now x s t d)
+module _ (r : Register) (laws : RepliesAreRead r) {now : ℕ} {x : Xeid} {s : State} {t : ℕ} {d : Outgoing} (o : IsInOrder s) (w : Waits now x s t d)
     (reply : List ℕ) (spells : Spells reply (message_of w.lookup.nonce (says r d.to (xeid_path x)))) where
-  usable_here : IsUsable (says r d.to (xeid_path w.lookup.x)) (xeid_path w.lookup.x)
-  usable_here = says_usable r laws d.to (xeid_path w.lookup.x) (o.lookups t w.lookup w.is_pending).lookup.identifier
-
-  of_its_x : Spells reply (message_of w.lookup.nonce (says r d.to (xeid_path w.lookup.x)))
-  of_its_x = subst (λ y. Spells reply (message_of w.lookup.nonce (says r d.to (xeid_path y)))) (sym w.its_x) spells
+  usable_here : IsUsable (says r d.to (xeid_path x)) (xeid_path w.lookup.x)
+  usable_here = rw (← w.its_x) (says_usable r laws d.to (xeid_path w.lookup.x) (o.lookups t w.lookup w.is_pending).lookup.identifier)
 
   pub honest_reply_is_fair : IsFairDatagram r s d.to reply
   honest_reply_is_fair u m rec taken =
-      let own = taken_by_own laws.messages laws.back s o t w.lookup w.is_pending d.to w.to reply (says r d.to (xeid_path w.lookup.x)) usable_here of_its_x u m rec taken in
-      own.0 ∙ ap (λ (p : Pending). says r d.to (xeid_path p.x)) (sym own.1)
+      let own = own_ticket laws.messages laws.back s o t w.lookup w.is_pending d.to w.to reply _ usable_here spells taken.in_time.from_server.reply in rw (own.1, w.its_x) own.2
 
-  pub honest_reply_is_taken : (new : State) (h : Heard) → HearStep s d.to reply new h → IsFor t h
-  honest_reply_is_taken new h step = elim (late_or_taken laws.messages laws.back s o t w.lookup w.is_pending d.to w.to reply (says r d.to (xeid_path w.lookup.x)) usable_here of_its_x new h step) [
+  pub honest_reply_is_taken : {new : State} {h : Heard} → HearStep s d.to reply new h → IsFor t h
+  honest_reply_is_taken step = elim (late_or_taken laws.messages laws.back s o t w.lookup w.is_pending d.to w.to reply _ usable_here spells _ _ step) [
     | inl late ↦ let e = w.deadline in absurd (omega (arith, e, late))
     | inr is ↦ is
   ]

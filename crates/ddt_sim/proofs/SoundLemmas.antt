@@ -8,7 +8,7 @@ use Rattle.ddt_path.specs.declared.locator.Locator.{Locator}
 use Rattle.ddt_path.specs.declared.record.Role.{Role}
 use Rattle.ddt_path.specs.declared.record.Role.TheVariants.{Node, Ms}
 use Rattle.ddt_path.specs.declared.action.Action.{Action}
-use Rattle.ddt_path.specs.declared.action.Action.TheVariants.{NodeReferral, MsReferral, MsAck, MsNotRegistered, DelegationHole, NotAuthoritative}
+use Rattle.ddt_path.specs.declared.action.Action.TheVariants.{MsAck, MsNotRegistered, DelegationHole, NotAuthoritative}
 use Rattle.ddt_path.specs.declared.record.Outcome.{Outcome}
 use Rattle.ddt_path.specs.declared.record.Outcome.TheVariants.{Registered, NotRegistered, Hole}
 use Rattle.ddt_path.specs.declared.record.ReferralRecord.{ReferralRecord}
@@ -68,19 +68,13 @@ pub record KeepsLaws (r : Register) : Type 0 where
 pub negative_is : (a : Action) (p : List ℕ) (ls : List Locator) (o : Outcome) → negative_answer a p ls ≡ Some o → IsTrue (is_negative a) × (o ≡ outcome_at a p ls)
 negative_is MsNotRegistered p ls o e = (refl, sym (same_Some _ o e))
 negative_is DelegationHole p ls o e = (refl, sym (same_Some _ o e))
-negative_is NodeReferral p ls o e = absurd (none-some o e)
-negative_is MsReferral p ls o e = absurd (none-some o e)
-negative_is MsAck p ls o e = absurd (none-some o e)
-negative_is NotAuthoritative p ls o e = absurd (none-some o e)
+negative_is _ p ls o e = absurd (none-some o e)
 
 -- a negative action has one
 unanswered_not_negative : (a : Action) (p : List ℕ) (ls : List Locator) → negative_answer a p ls ≡ None → IsTrue (is_negative a) → ⊥
 unanswered_not_negative MsNotRegistered p ls e h = none-some _ (sym e)
 unanswered_not_negative DelegationHole p ls e h = none-some _ (sym e)
-unanswered_not_negative NodeReferral p ls e h = false≢true h
-unanswered_not_negative MsReferral p ls e h = false≢true h
-unanswered_not_negative MsAck p ls e h = false≢true h
-unanswered_not_negative NotAuthoritative p ls e h = false≢true h
+unanswered_not_negative _ p ls e h = false≢true h
 
 pub referral_not_negative : (k : Role) → is_negative (referral_action k) ≡ false
 referral_not_negative Node = refl
@@ -94,9 +88,8 @@ outcome_back (Hole p) = refl
 
 -- a record of an outcome that no ETR is registered for is of such a site
 unregistered_is : (o : Outcome) → (record_of o).action ≡ MsNotRegistered → (p : List ℕ) × (servers : List Locator) × (o ≡ NotRegistered p servers)
-unregistered_is (Registered p s) e = absurd (cc e)
 unregistered_is (NotRegistered p s) e = (p, s, refl)
-unregistered_is (Hole p) e = absurd (cc e)
+unregistered_is _ e = absurd (cc e)
 
 pub unregistered_record : (r : Register) (x : List ℕ) (rec : ReferralRecord) → rec ≡ record_of (assignment r x) → rec.action ≡ MsNotRegistered → IsNotRegistered r x rec
 unregistered_record r x rec is k =
@@ -114,6 +107,17 @@ negative_of (Hole p) e = refl
 
 -- ---- changes of a sound state
 
+-- a lookup at the first server of a set is sound where that is the set of a zone of its identifier
+at_zone : {r : Register} {l : Pending} (z : Zone) → Contains r.zones z → IsTrue (covers z.prefix (xeid_path l.x)) → l.servers ≡ locators_of r z.group
+    → (l.saved ≡ None) ⊎ (l.saved ≡ Some z.prefix) → l.kept ≡ None → IsSoundLookup r l
+at_zone z is over servers saved none =
+    record { zone = z; is_zone = is; covers_x = over; servers = servers; saved = saved; kept = λ rec h. absurd (none-some rec (sym none ∙ h)) }
+
+-- so is one that differs from a sound one in nothing of this
+same_lookup : {r : Register} {l m : Pending} → IsSoundLookup r l → m.x ≡ l.x → m.servers ≡ l.servers → m.saved ≡ l.saved → m.kept ≡ l.kept → IsSoundLookup r m
+same_lookup i x servers saved kept =
+    record { zone = i.zone; is_zone = i.is_zone; covers_x = rw x i.covers_x; servers = servers ∙ i.servers; saved = rw saved i.saved; kept = rw (kept, x) i.kept }
+
 module _ (r : Register) (s : State) (i : IsSound r s) where
   pub sound_dropped : (t : ℕ) → IsSound r (dropped s t)
   sound_dropped t = record { root = i.root; entries = i.entries; lookups = λ u l found. i.lookups u l (found_remove s.pending t u l found).1 }
@@ -123,7 +127,7 @@ module _ (r : Register) (s : State) (i : IsSound r s) where
     root = i.root;
     entries = i.entries;
     lookups = λ u m found. elim (found_insert s.pending t (numbered s l) u m found) [
-      | inl e ↦ subst (IsSoundLookup r) e.1 (record { zone = sound.zone; is_zone = sound.is_zone; covers_x = sound.covers_x; servers = sound.servers; saved = sound.saved; kept = sound.kept })
+      | inl e ↦ subst (IsSoundLookup r) e.1 (same_lookup sound refl refl refl refl)
       | inr e ↦ i.lookups u m e.1
     ];
   }
@@ -138,7 +142,7 @@ module _ (r : Register) (s : State) (i : IsSound r s) where
       by : (p : List ℕ) (e : Entry) (b : Bool) → get (cond b (insert s.known.live rec.prefix (entry_of s.known.time rec)) s.known.live) p ≡ Some e → IsTrueEntry r p e
       by p e false found = i.entries p e found
       by p e true found = elim (found_after_insert s.known.live rec.prefix (entry_of s.known.time rec) p e found) [
-        | inl put ↦ subst (IsTrueEntry r p) put.1 (subst (λ q. IsTrueEntry r q (entry_of s.known.time rec)) (sym put.0) true_entry)
+        | inl put ↦ rw (put.0, ← put.1) true_entry
         | inr there ↦ i.entries p e there
       ]
 
@@ -147,23 +151,20 @@ module _ (r : Register) (s : State) (i : IsSound r s) where
 module _ (r : Register) (laws : KeepsLaws r) (s : State) (o : IsInOrder s) (i : IsSound r s) where
   -- the servers with which a lookup begins are those of a zone of its identifier
   pub begun : (x : Xeid) (p : List ℕ) (e : Entry) → IsFound s.known (xeid_path x) p e → answer_of p e ≡ None → IsSoundLookup r (opening x e.servers (start_at p))
-  begun x p e (inr root) free =
-      let z = laws.root in
-      record { zone = z.0; is_zone = z.1.is_zone; covers_x = rw z.1.is_everything refl; servers = ap (λ (f : Entry). f.servers) root.entry ∙ i.root ∙ sym z.1.its_servers; saved = inl refl; kept = λ rec h. absurd (none-some rec h) }
+  begun x p e (inr root) free = let z = laws.root in at_zone z.0 z.1.is_zone (rw z.1.is_everything refl) (rw root.entry (i.root ∙ sym z.1.its_servers)) (inl refl) refl
   begun x p e (inl found) free = by (i.entries p e found.value)
     where
       by : IsTrueEntry r p e → IsSoundLookup r (opening x e.servers (start_at p))
-      by (delegates z is same action servers) = record { zone = z; is_zone = is; covers_x = rw same found.covers_it; servers = servers; saved = inl refl; kept = λ rec h. absurd (none-some rec h) }
+      by (delegates z is same action servers) = at_zone z is (rw same found.covers_it) servers (inl refl) refl
       by (registers site z is same action its_zone servers) =
           let h = laws.zones p in
-          let one : h.0 ≡ z = same_Some h.0 z (sym h.1 ∙ its_zone) in
-          let own : IsItsZone r p z = subst (IsItsZone r p) one h.2 in
-          record { zone = z; is_zone = own.is_zone; covers_x = covers_trans z.prefix p (xeid_path x) own.covers_it found.covers_it; servers = servers; saved = inl refl; kept = λ rec h. absurd (none-some rec h) }
+          let own : IsItsZone r p z = subst (IsItsZone r p) (same_Some h.0 z (sym h.1 ∙ its_zone)) h.2 in
+          at_zone z own.is_zone (covers_trans z.prefix p (xeid_path x) own.covers_it found.covers_it) servers (inl refl) refl
       by (denies neg h) = absurd (unanswered_not_negative e.action p e.servers free neg)
 
   -- an entry that answers by itself answers the assignment
   remembered : (x : Xeid) (p : List ℕ) (e : Entry) (v : Outcome) → IsTrue (is_path (xeid_path x)) → IsFound s.known (xeid_path x) p e → answer_of p e ≡ Some v → v ≡ assignment r (xeid_path x)
-  remembered x p e v id (inr root) answer = absurd (none-some v (sym (ap (λ (f : Entry). answer_of p f) root.entry) ∙ answer))
+  remembered x p e v id (inr root) answer = absurd (none-some v (rw root.entry at answer))
   remembered x p e v id (inl found) answer = by (i.entries p e found.value)
     where
       own : IsTrue (is_negative e.action) × (v ≡ outcome_at e.action p e.servers)
@@ -181,112 +182,92 @@ module _ (r : Register) (laws : KeepsLaws r) (s : State) (o : IsInOrder s) (i : 
       by (cached v answer e f) = rw (e, f) (i, remembered x step.prefix step.entry v id step.found answer)
       by (full none many e f) = rw (e, f) (i, tt)
       by (used_up none few over e f) = rw (e, f) (i, tt)
-      by (opened free e f) = rw (e, f) (sound_lodged r s i s.next (opening x step.entry.servers (start_at step.prefix)) (begun x step.prefix step.entry step.found free.unanswered), tt)
+      by (opened free e f) = rw (e, f) (sound_lodged r s i s.next _ (begun x step.prefix step.entry step.found free.unanswered), tt)
 
   module _ (t : ℕ) (l : Pending) (here : get s.pending t ≡ Some l) where
     z : IsSoundLookup r l
     z = i.lookups t l here
 
-    id : IsTrue (is_path (xeid_path l.x))
-    id = (o.lookups t l here).lookup.identifier
+    abbrev x : List ℕ
+    x = xeid_path l.x
 
-    ended : (v : Outcome) → v ≡ assignment r (xeid_path l.x) → IsRightEnd r s t v
+    -- what the register says at the server that was asked, which lists its locator for the zone
+    abbrev rec : ReferralRecord
+    rec = says r (server s.me l) x
+
+    ended : (v : Outcome) → v ≡ assignment r x → IsRightEnd r s t v
     ended v is m found = is ∙ ap (λ (p : Pending). assignment r (xeid_path p.x)) (same_Some l m (sym here ∙ found))
 
-    -- the server that was asked lists its locator for the zone
-    own : IsTrue (lists (locators_of r z.zone.group) (server s.me l))
-    own = subst (λ (set : List Locator). IsTrue (lists set (server s.me l))) z.servers (lists_at l.servers l.place s.me (o.lookups t l here).lookup.place)
+    down : (rec.action ≢ NotAuthoritative) × (IsReferral rec.action → length z.zone.prefix < length rec.prefix)
+    down = laws.downwards z.zone (server s.me l) x z.is_zone z.covers_x
+        (subst (λ (set : List Locator). IsTrue (lists set (server s.me l))) z.servers (lists_at l.servers l.place s.me (o.lookups t l here).lookup.place))
 
-    module _ (rec : ReferralRecord) (honest : rec ≡ says r (server s.me l) (xeid_path l.x)) where
-      down : ((says r (server s.me l) (xeid_path l.x)).action ≢ NotAuthoritative) × (IsReferral (says r (server s.me l) (xeid_path l.x)).action → length z.zone.prefix < length (says r (server s.me l) (xeid_path l.x)).prefix)
-      down = laws.downwards z.zone (server s.me l) (xeid_path l.x) z.is_zone z.covers_x own
+    below : IsReferral rec.action → IsBelow l.saved rec.prefix
+    below k = elim z.saved [ inl none ↦ rw none (omega arith) | inr saved ↦ rw saved (down.1 k) ]
 
-      in_charge : rec.action ≢ NotAuthoritative
-      in_charge e = down.0 (ap (λ (v : ReferralRecord). v.action) (sym honest) ∙ e)
+    final : IsFinal rec.action → rec ≡ record_of (assignment r x)
+    final k = laws.decided (server s.me l) x k
 
-      longer : IsReferral rec.action → length z.zone.prefix < length rec.prefix
-      longer k = subst (λ (v : ReferralRecord). length z.zone.prefix < length v.prefix) (sym honest) (down.1 (subst (λ (v : ReferralRecord). IsReferral v.action) honest k))
+    gives : IsFinal rec.action → outcome_of rec ≡ assignment r x
+    gives k = ap outcome_of (final k) ∙ outcome_back (assignment r x)
 
-      below : IsReferral rec.action → IsBelow l.saved rec.prefix
-      below k = by z.saved
-        where
-          by : (l.saved ≡ None) ⊎ (l.saved ≡ Some z.zone.prefix) → IsBelow l.saved rec.prefix
-          by (inl none) = rw none (omega arith)
-          by (inr saved) = rw saved (longer k)
+    child : IsReferral rec.action → (w : Zone) × Contains r.zones w × IsTrue (covers w.prefix x) × (rec ≡ referral_to r w)
+    child k = laws.to_zones (server s.me l) x k
 
-      final : IsFinal rec.action → rec ≡ record_of (assignment r (xeid_path l.x))
-      final k = honest ∙ laws.decided (server s.me l) (xeid_path l.x) (subst (λ (v : ReferralRecord). IsFinal v.action) honest k)
+    referral_entry : IsReferral rec.action → IsTrueEntry r rec.prefix (entry_of s.known.time rec)
+    referral_entry k = let h = child k in rw h.3 (delegates h.0 h.1 refl refl refl)
 
-      gives : IsFinal rec.action → outcome_of rec ≡ assignment r (xeid_path l.x)
-      gives k = ap outcome_of (final k) ∙ outcome_back (assignment r (xeid_path l.x))
+    ack_entry : rec.action ≡ MsAck → IsTrueEntry r rec.prefix (entry_of s.known.time rec)
+    ack_entry k =
+        let f = final (inl k) in
+        let h = laws.sites x rec.prefix rec.servers (rw (← f) at (ack_is (assignment r x) (rw f at k))) in
+        registers h.site h.zone h.is_site h.its_prefix k h.its_zone h.its_servers
 
-      unregistered : rec.action ≡ MsNotRegistered → IsNotRegistered r (xeid_path l.x) rec
-      unregistered k = unregistered_record r (xeid_path l.x) rec (final (inr (inl k))) k
+    negative_entry : IsFinal rec.action → IsTrue (is_negative rec.action) → IsTrueEntry r rec.prefix (entry_of s.known.time rec)
+    negative_entry k neg =
+        let f = final k in
+        let h = laws.negatives x rec.prefix (o.lookups t l here).lookup.identifier (rw f (negative_of (assignment r x) (rw f at neg))) in
+        denies neg (λ y y_id c. h.1 y y_id c ∙ sym (gives k))
 
-      child : IsReferral rec.action → (w : Zone) × Contains r.zones w × IsTrue (covers w.prefix (xeid_path l.x)) × (rec ≡ referral_to r w)
-      child k = let h = laws.to_zones (server s.me l) (xeid_path l.x) (subst (λ (v : ReferralRecord). IsReferral v.action) honest k) in (h.0, h.1, h.2, honest ∙ h.3)
+    -- a record that is saved and answered
+    closed : IsFinal rec.action → IsTrueEntry r rec.prefix (entry_of s.known.time rec) → IsSound r (dropped (stored s rec) t) × IsRightEnd r s t (outcome_of rec)
+    closed k entry = (sound_dropped r (stored s rec) (sound_stored r s i rec entry) t, ended (outcome_of rec) (gives k))
 
-      referral_entry : IsReferral rec.action → IsTrueEntry r rec.prefix (entry_of s.known.time rec)
-      referral_entry k =
-          let h = child k in
-          delegates h.0 h.1 (sym (ap (λ (v : ReferralRecord). v.prefix) h.3)) (ap (λ (v : ReferralRecord). v.action) h.3) (ap (λ (v : ReferralRecord). v.servers) h.3)
-
-      ack_entry : rec.action ≡ MsAck → IsTrueEntry r rec.prefix (entry_of s.known.time rec)
-      ack_entry k =
-          let f : rec ≡ record_of (assignment r (xeid_path l.x)) = final (inl k) in
-          let is : assignment r (xeid_path l.x) ≡ Registered rec.prefix rec.servers =
-          subst (λ (v : ReferralRecord). assignment r (xeid_path l.x) ≡ Registered v.prefix v.servers) (sym f) (ack_is (assignment r (xeid_path l.x)) (ap (λ (v : ReferralRecord). v.action) (sym f) ∙ k)) in
-          let h = laws.sites (xeid_path l.x) rec.prefix rec.servers is in
-          registers h.site h.zone h.is_site h.its_prefix k h.its_zone h.its_servers
-
-      negative_entry : IsFinal rec.action → IsTrue (is_negative rec.action) → IsTrueEntry r rec.prefix (entry_of s.known.time rec)
-      negative_entry k neg =
-          let f : rec ≡ record_of (assignment r (xeid_path l.x)) = final k in
-          let q : negative_prefix (assignment r (xeid_path l.x)) ≡ Some rec.prefix =
-          negative_of (assignment r (xeid_path l.x)) (subst (λ (v : ReferralRecord). IsTrue (is_negative v.action)) f neg) ∙ ap (λ (v : ReferralRecord). Some v.prefix) (sym f) in
-          let h = laws.negatives (xeid_path l.x) rec.prefix id q in
-          denies neg (λ y y_id c. h.1 y y_id c ∙ sym (gives k))
-
-      acted : (new : State) (heard : Heard) → Act s t l rec new heard → IsSound r new × IsRightHeard r s heard
-      acted new heard (acts.loops k loop e f) = absurd (loop (below k))
-      acted new heard (acts.refers k lower more e f) =
-          let h = child k in
-          let found : IsSoundLookup r (referred l rec) = record { zone = h.0; is_zone = h.1; covers_x = h.2; servers = ap (λ (v : ReferralRecord). v.servers) h.3; saved = inr (ap (λ (v : ReferralRecord). Some v.prefix) h.3); kept = λ rec h. absurd (none-some rec h) } in
-          rw (e, f) (sound_lodged r (stored s rec) (sound_stored r s i rec (referral_entry k)) t (referred l rec) found, tt)
-      acted new heard (acts.acknowledges k e f) = rw (e, f) (sound_dropped r (stored s rec) (sound_stored r s i rec (ack_entry k)) t, ended (outcome_of rec) (gives (inl k)))
-      acted new heard (acts.closes k e f) =
-          rw (e, f) (sound_dropped r (stored s rec) (sound_stored r s i rec (negative_entry (inr (inr k)) (rw k refl))) t, ended (outcome_of rec) (gives (inr (inr k))))
-      acted new heard (acts.passes_on k more room e f) =
-          let kept : IsSoundLookup r (passed_on l rec) = record { zone = z.zone; is_zone = z.is_zone; covers_x = z.covers_x; servers = z.servers; saved = z.saved; kept = λ own h. subst (IsNotRegistered r (xeid_path l.x)) (same_Some rec own h) (unregistered k) } in
-          rw (e, f) (sound_lodged r s i t (passed_on l rec) kept, tt)
-      acted new heard (acts.concludes k last e f) =
-          rw (e, f) (sound_dropped r (stored s rec) (sound_stored r s i rec (negative_entry (inr (inl k)) (rw k refl))) t, ended (outcome_of rec) (gives (inr (inl k))))
-      acted new heard (acts.starts_over p k start room e f) = absurd (in_charge k)
-      acted new heard (acts.nobody k start e f) = absurd (in_charge k)
-      acted new heard (acts.used_up k over e f) = rw (e, f) (sound_dropped r s i t, inr refl)
-
-    same_place : (new : Pending) → new.x ≡ l.x → new.servers ≡ l.servers → new.saved ≡ l.saved → new.kept ≡ l.kept → IsSoundLookup r new
-    same_place new x servers saved kept =
-        record { zone = z.zone; is_zone = z.is_zone; covers_x = rw x z.covers_x; servers = servers ∙ z.servers; saved = rw saved z.saved; kept = rw (kept, x) z.kept }
+    acted : (new : State) (heard : Heard) → Act s t l rec new heard → IsSound r new × IsRightHeard r s heard
+    acted new heard (acts.loops k loop e f) = absurd (loop (below k))
+    acted new heard (acts.refers k lower more e f) =
+        let h = child k in
+        rw (e, f) (sound_lodged r (stored s rec) (sound_stored r s i rec (referral_entry k)) t (referred l rec) (at_zone h.0 h.1 h.2 (rw h.3 refl) (inr (rw h.3 refl)) refl), tt)
+    acted new heard (acts.acknowledges k e f) = rw (e, f) (closed (inl k) (ack_entry k))
+    acted new heard (acts.closes k e f) = rw (e, f) (closed (inr (inr k)) (negative_entry (inr (inr k)) (rw k refl)))
+    acted new heard (acts.passes_on k more room e f) =
+        let kept : IsSoundLookup r (passed_on l rec) = record {
+          zone = z.zone;
+          is_zone = z.is_zone;
+          covers_x = z.covers_x;
+          servers = z.servers;
+          saved = z.saved;
+          kept = λ own h. subst (IsNotRegistered r x) (same_Some rec own h) (unregistered_record r x rec (final (inr (inl k))) k);
+        } in
+        rw (e, f) (sound_lodged r s i t (passed_on l rec) kept, tt)
+    acted new heard (acts.concludes k last e f) = rw (e, f) (closed (inr (inl k)) (negative_entry (inr (inl k)) (rw k refl)))
+    acted new heard (acts.starts_over p k start room e f) = absurd (down.0 k)
+    acted new heard (acts.nobody k start e f) = absurd (down.0 k)
+    acted new heard (acts.used_up k over e f) = rw (e, f) (sound_dropped r s i t, inr refl)
 
     went_on : (new : State) (ticked : Ticked) → GoOn s t l new ticked → IsSound r new × IsRightTicked r s ticked
-    went_on new ticked (ticks.again first room e f) = rw (e, f) (sound_lodged r s i t (tried_again l) (same_place (tried_again l) refl refl refl refl), tt)
-    went_on new ticked (ticks.next_place second more room e f) = rw (e, f) (sound_lodged r s i t (at_next l) (same_place (at_next l) refl refl refl refl), tt)
-    went_on new ticked (ticks.answered rec second last kept e f) = rw (e, f) (sound_dropped r s i t, ended (NotRegistered rec.prefix rec.servers) (kept_is r (xeid_path l.x) rec (z.kept rec kept)))
+    went_on new ticked (ticks.again first room e f) = rw (e, f) (sound_lodged r s i t (tried_again l) (same_lookup z refl refl refl refl), tt)
+    went_on new ticked (ticks.next_place second more room e f) = rw (e, f) (sound_lodged r s i t (at_next l) (same_lookup z refl refl refl refl), tt)
+    went_on new ticked (ticks.answered rec second last kept e f) = rw (e, f) (sound_dropped r s i t, ended (NotRegistered rec.prefix rec.servers) (kept_is r x rec (z.kept rec kept)))
     went_on new ticked (ticks.no_reply second last none e f) = rw (e, f) (sound_dropped r s i t, inl refl)
     went_on new ticked (ticks.used_up more over e f) = rw (e, f) (sound_dropped r s i t, inr refl)
 
-  heard_step : (source : Locator) (bytes : List ℕ) (new : State) (heard : Heard) → IsFair r s (Hear source bytes) → HearStep s source bytes new heard → IsSound r new × IsRightHeard r s heard
-  heard_step source bytes new heard fair (acts.ignored why ignores e f) = rw (e, f) (i, tt)
-  heard_step source bytes new heard fair (acts.taken t l rec taken act) =
-      let from = taken.in_time.from_server in
-      acted t l from.reply.is_pending rec (subst (λ (at : Locator). rec ≡ says r at (xeid_path l.x)) from.same_source (fair t l rec taken)) new heard act
-
-  ticked_step : (new : State) (ticked : Ticked) → TickStep s new ticked → IsSound r new × IsRightTicked r s ticked
-  ticked_step new ticked (ticks.nothing none e f) = rw (e, f) (i, tt)
-  ticked_step new ticked (ticks.due t l due on) = went_on t l due.is_pending new ticked on
-
   pub sound_step : (call : Call) (new : State) (reply : Reply) → IsFair r s call → Step s call new reply → IsSound r new × IsRight r s call reply
   sound_step call new reply fair (steps.asks x a id step e f) = rw (e, f) (started x new a id step)
-  sound_step call new reply fair (steps.hears source bytes heard step e f) = rw (e, f) (heard_step source bytes new heard (subst (IsFair r s) e fair) step)
-  sound_step call new reply fair (steps.ticks ticked step e f) = rw (e, f) (ticked_step new ticked step)
+  sound_step call new reply fair (steps.hears source bytes heard (acts.ignored why ignores same is) e f) = rw (e, f, same, is) (i, tt)
+  sound_step call new reply fair (steps.hears source bytes heard (acts.taken t l rec taken act) e f) =
+      let from = taken.in_time.from_server in
+      let honest : rec ≡ says r (server s.me l) (xeid_path l.x) = rw from.same_source at ((rw e at fair) t l rec taken) in
+      rw (e, f) (acted t l from.reply.is_pending new heard (subst (λ v. Act s t l v new heard) honest act))
+  sound_step call new reply fair (steps.ticks ticked (ticks.nothing none same is) e f) = rw (e, f, same, is) (i, tt)
+  sound_step call new reply fair (steps.ticks ticked (ticks.due t l due on) e f) = rw (e, f) (went_on t l due.is_pending new ticked on)

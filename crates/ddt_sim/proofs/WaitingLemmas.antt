@@ -1,24 +1,30 @@
 -- A lookup that waits for the reply to its last request, from its ask to its end.
-use Rattle.std.proofs.Common.{◌≡◌, ℕ, ◌+◌, ◌^◌, ◌<◌, ◌≤◌, true, List, [], ◌∷◌, Some, Ok, refl, sym, ap, ◌∙◌, arith, max}
-use Rattle.std.specs.FinMap.{get}
+use Rattle.std.proofs.Common.{◌≡◌, ℕ, ◌+◌, ◌^◌, ◌<◌, ◌≤◌, ◌⊎◌, true, List, [], ◌∷◌, length, None, Ok, inl, inr, refl, sym, ap, ◌∙◌, arith, max}
 use Rattle.std.proofs.lemmas.Option.{same_Some}
 use Rattle.ddt_path.specs.declared.xeid.Xeid.{Xeid}
 use Rattle.ddt_path.specs.declared.locator.Locator.{Locator}
+use Rattle.ddt_path.specs.declared.action.Action.TheVariants.{MsAck, MsNotRegistered, DelegationHole, NotAuthoritative}
+use Rattle.ddt_path.specs.declared.record.Outcome.{Outcome}
+use Rattle.ddt_path.specs.declared.record.ReferralRecord.{ReferralRecord}
+use Rattle.ddt_path.specs.Actions.{IsReferral}
+use Rattle.ddt_path.specs.Path.{xeid_path}
 use Rattle.ddt_ecm.specs.Request.{Spells}
 use Rattle.ddt_ecm.specs.laws.Statements.{WrittenSpells, message_of}
+use Rattle.ddt_cache.specs.Found.{IsFound}
 use Rattle.ddt_resolver.specs.declared.pending.Pending.{Pending}
 use Rattle.ddt_resolver.specs.declared.answers.Outgoing.{Outgoing}
 use Rattle.ddt_resolver.specs.declared.answers.Asked.TheVariants as asked
+use Rattle.ddt_resolver.specs.declared.answers.Heard.{Heard}
 use Rattle.ddt_resolver.specs.declared.answers.Heard.TheVariants as heard
-use Rattle.ddt_resolver.specs.State.{State, moved, request, request_bytes, numbered, lodged, stored, forgotten, opening, referred, passed_on, started_over}
-use Rattle.ddt_resolver.specs.AskStep.{AskStep, Start, cached, full, used_up, opened}
-use Rattle.ddt_resolver.specs.Records.{start_at}
+use Rattle.ddt_resolver.specs.declared.answers.Why.TheVariants.{Loop, NotAuthoritative as NobodyInCharge, Exhausted}
+use Rattle.ddt_resolver.specs.State.{State, moved, request, request_bytes, numbered, lodged, stored, forgotten, opening, referred, passed_on, started_over, last_nonce}
+use Rattle.ddt_resolver.specs.Records.{IsBelow, outcome_of, start_at}
+use Rattle.ddt_resolver.specs.AskStep.{AskStep, Start, cached, full, used_up, opened, answer_of}
+use Rattle.ddt_resolver.specs.TakeUp.{IsTaken}
 use Rattle.ddt_resolver.specs.Act as acts
-use Rattle.ddt_resolver.specs.Act.{Act, HearStep}
+use Rattle.ddt_resolver.specs.Act.{Act, HearStep, MayStartOver}
 use Rattle.ddt_resolver.specs.laws.NumberMap.{get-insert_same}
-use Rattle.ddt_sim.specs.declared.hop.Hop.{Hop}
 use Rattle.ddt_sim.specs.Waiting.{Waits, CanBeAsked}
-use Rattle.ddt_sim.specs.Lookup.{Reaches, sent, followed}
 
 -- a request that is written spells a DDT Map-Request
 pub spelled_request : WrittenSpells → (nonce : ℕ) (x : Xeid) (me : Locator) → nonce < 2 ^ 64 → CanBeAsked x me
@@ -32,6 +38,75 @@ spelled_request written nonce x me few fits = written nonce x (me ∷ []) true (
   few = omega arith;
   rlocs_fit = (fits.me_fits, tt);
 })
+
+-- ---- what an ask and a reply do
+
+-- an ask that sends a request opens a lookup at the entry that is found, under the ticket and with the request
+pub data Opens (s : State) (x : Xeid) : State → ℕ → Outgoing → Type 0 where
+  opens : (p : _) (e : _) → IsFound s.known (xeid_path x) p e → answer_of p e ≡ None
+      → Opens s x (lodged s s.next (opening x e.servers (start_at p))) s.next (request s (opening x e.servers (start_at p)))
+
+pub opened_by : {s new : State} {x : Xeid} {t : ℕ} {d : Outgoing} → AskStep s x new (Ok (asked.Sent t d)) → Opens s x new t d
+opened_by {s = s} {new = new} {x = x} {t = t} {d = d} step = by step.start
+  where
+    by : Start s x step.prefix step.entry new (Ok (asked.Sent t d)) → Opens s x new t d
+    by (cached o answer e f) = absurd (cc f)
+    by (full none many e f) = absurd (cc f)
+    by (used_up none few over e f) = absurd (cc f)
+    by (opened free e f) =
+        let ticket : t ≡ s.next = cc f in
+        let out : d ≡ request s (opening x step.entry.servers (start_at step.prefix)) = cc f in
+        rw (e, ticket, out) (opens step.prefix step.entry step.found free.unanswered)
+
+-- how a lookup goes on after a record: from which state, and as which lookup
+pub data Onward (s : State) (l : Pending) (rec : ReferralRecord) : State → Pending → Type 0 where
+  refers : IsReferral rec.action → IsBelow l.saved rec.prefix → Onward s l rec (stored s rec) (referred l rec)
+  passes_on : rec.action ≡ MsNotRegistered → l.place + 1 < length l.servers → Onward s l rec s (passed_on l rec)
+  starts_over : (p : List ℕ) → rec.action ≡ NotAuthoritative → MayStartOver l p → Onward s l rec (forgotten s p) (started_over s l)
+
+pub onward_keeps : {s : State} {l : Pending} {rec : ReferralRecord} {base : State} {m : Pending} → Onward s l rec base m
+    → (base.known.time ≡ s.known.time) × (m.x ≡ l.x) × (base.me ≡ s.me) × (base.known.roots ≡ s.known.roots)
+onward_keeps (refers k lower) = (refl, refl, refl, refl)
+onward_keeps (passes_on k more) = (refl, refl, refl, refl)
+onward_keeps (starts_over p k start) = (refl, refl, refl, refl)
+
+-- a reply that a lookup follows, to this state and request
+pub data Follows (s : State) (source : Locator) (reply : List ℕ) (t : ℕ) : State → Outgoing → Type 0 where
+  follows : (l : Pending) (rec : ReferralRecord) (base : State) (m : Pending) → IsTaken s source reply t l rec → Onward s l rec base m
+      → Follows s source reply t (lodged base t m) (request base m)
+
+-- a record after which it has an outcome
+pub data Closes (l : Pending) (rec : ReferralRecord) : Type 0 where
+  ends : (rec.action ≡ MsAck) ⊎ (rec.action ≡ DelegationHole) → Closes l rec
+  concludes : rec.action ≡ MsNotRegistered → length l.servers ≤ l.place + 1 → Closes l rec
+
+-- a reply that ends a lookup with this outcome
+pub data Answers (s : State) (source : Locator) (reply : List ℕ) (t : ℕ) : Outcome → Type 0 where
+  answers : (l : Pending) (rec : ReferralRecord) → IsTaken s source reply t l rec → Closes l rec → Answers s source reply t (outcome_of rec)
+
+-- what a reply does, by what is answered to it
+abbrev pub Does : State → Locator → List ℕ → State → Heard → Type 0
+Does s source reply new (heard.Ignored why) = Unit {0}
+Does s source reply new (heard.Followed t e) = Follows s source reply t new e
+Does s source reply new (heard.Answer t o) = Answers s source reply t o
+Does s source reply new (heard.GaveUp t why) = (why ≡ Loop) ⊎ (why ≡ NobodyInCharge) ⊎ ((why ≡ Exhausted) × (new.next ≡ last_nonce))
+
+pub does : {s new : State} {source : Locator} {reply : List ℕ} {h : Heard} → HearStep s source reply new h → Does s source reply new h
+does (acts.ignored why ignores e f) = rw f tt
+does {s = s} {new = new} {source = source} {reply = reply} {h = h} (acts.taken t l rec taken act) = by act
+  where
+    by : Act s t l rec new h → Does s source reply new h
+    by (acts.loops k loop e f) = rw f (inl refl)
+    by (acts.refers k lower more e f) = rw (e, f) (follows l rec _ _ taken (refers k lower))
+    by (acts.acknowledges k e f) = rw f (answers l rec taken (ends (inl k)))
+    by (acts.closes k e f) = rw f (answers l rec taken (ends (inr k)))
+    by (acts.passes_on k more room e f) = rw (e, f) (follows l rec _ _ taken (passes_on k more))
+    by (acts.concludes k last e f) = rw f (answers l rec taken (concludes k last))
+    by (acts.starts_over p k start room e f) = rw (e, f) (follows l rec _ _ taken (starts_over p k start))
+    by (acts.nobody k start e f) = rw f (inr (inl refl))
+    by (acts.used_up k over e f) = rw f (inr (inr (refl, ap (λ (v : State). v.next) e ∙ over)))
+
+-- ---- so it waits
 
 -- at the time that a lookup has, the passing of time to `now` changes nothing of it
 abbrev pub waits_on : (now : ℕ) (x : Xeid) (s : State) (t : ℕ) (d : Outgoing) → Waits now x s t d → Waits now x (moved now s) t d
@@ -52,52 +127,20 @@ lodged_waits now x s t l le same = record {
   time = le;
 }
 
--- after an ask
-pub asked_waits : (now : ℕ) (x : Xeid) (s new : State) (t : ℕ) (d : Outgoing) → now ≤ s.known.time → AskStep s x new (Ok (asked.Sent t d)) → Waits now x new t d
-asked_waits now x s new t d le step = by step.start
-  where
-    by : Start s x step.prefix step.entry new (Ok (asked.Sent t d)) → Waits now x new t d
-    by (cached o answer e f) = absurd (cc f)
-    by (full none many e f) = absurd (cc f)
-    by (used_up none few over e f) = absurd (cc f)
-    by (opened free e f) =
-        let l : Pending = opening x step.entry.servers (start_at step.prefix) in
-        let ticket : t ≡ s.next = cc f in
-        let out : d ≡ request s l = cc f in
-        rw (e, ticket, out) (lodged_waits now x s s.next l le refl)
+-- a lookup that takes a reply to the ticket of one that waits is that one
+pub own_lookup : {now t : ℕ} {x : Xeid} {s : State} {d : Outgoing} {source : Locator} {reply : List ℕ} {l : Pending} {rec : ReferralRecord}
+    → (w : Waits now x s t d) → IsTaken (moved now s) source reply t l rec → l ≡ w.lookup
+own_lookup w taken = same_Some _ _ (sym taken.in_time.from_server.reply.is_pending ∙ w.is_pending)
 
--- after a reply that is followed
-pub followed_waits : (now : ℕ) (x : Xeid) (s : State) (t : ℕ) (d : Outgoing) → Waits now x s t d
-    → (source : Locator) (reply : List ℕ) (e : Outgoing) (new : State) → HearStep s source reply new (heard.Followed t e) → Waits now x new t e
-followed_waits now x s t d w source reply e new (acts.ignored why ignores f g) = absurd (cc g)
-followed_waits now x s t d w source reply e new (acts.taken u l rec taken act) = by act
-  where
-    here : get s.pending u ≡ Some l
-    here = taken.in_time.from_server.reply.is_pending
+abbrev pub asked_waits : {now t : ℕ} {x : Xeid} {s new : State} {d : Outgoing} → now ≤ s.known.time → Opens s x new t d → Waits now x new t d
+asked_waits le (opens p e found none) = lodged_waits _ _ _ _ (opening _ e.servers (start_at p)) le refl
 
-    its : t ≡ u → l.x ≡ x
-    its same = ap (λ (p : Pending). p.x) (same_Some l w.lookup (sym here ∙ ap (get s.pending) (sym same) ∙ w.is_pending)) ∙ w.its_x
+abbrev pub followed_waits : {now t : ℕ} {x : Xeid} {s new : State} {d e : Outgoing} {source : Locator} {reply : List ℕ}
+    → Waits now x s t d → Follows (moved now s) source reply t new e → Waits now x new t e
+followed_waits {now = now} w (follows l rec base m taken on) =
+    let k = onward_keeps on in
+    let le : now ≤ base.known.time = let same = k.0 in omega arith in
+    lodged_waits _ _ base _ m le (k.1 ∙ ap (λ (p : Pending). p.x) (own_lookup w taken) ∙ w.its_x)
 
-    lodged_at : (base : State) (m : Pending) → base.known.time ≡ s.known.time → m.x ≡ l.x → new ≡ lodged base u m → heard.Followed t e ≡ heard.Followed u (request base m) → Waits now x new t e
-    lodged_at base m time same f g =
-        let ticket : t ≡ u = cc g in
-        let out : e ≡ request base m = cc g in
-        let le : now ≤ base.known.time = let known = w.time in omega arith in
-        rw (f, out, ticket) (lodged_waits now x base u m le (same ∙ its ticket))
-
-    by : Act s u l rec new (heard.Followed t e) → Waits now x new t e
-    by (acts.loops k loop f g) = absurd (cc g)
-    by (acts.refers k lower more f g) = lodged_at (stored s rec) (referred l rec) refl refl f g
-    by (acts.acknowledges k f g) = absurd (cc g)
-    by (acts.closes k f g) = absurd (cc g)
-    by (acts.passes_on k more room f g) = lodged_at s (passed_on l rec) refl refl f g
-    by (acts.concludes k last f g) = absurd (cc g)
-    by (acts.starts_over p k start room f g) = lodged_at (forgotten s p) (started_over s l) refl refl f g
-    by (acts.nobody k start f g) = absurd (cc g)
-    by (acts.used_up k over f g) = absurd (cc g)
-
--- so a lookup that has come this far waits
-pub reached_waits : (now : ℕ) (x : Xeid) (start : State) (hops : List Hop) (t : ℕ) (d : Outgoing) (s : State) → Reaches now x start hops t d s → Waits now x s t d
-reached_waits now x start hops t d s (sent u c v step) = let le : now ≤ max start.known.time now = omega arith in asked_waits now x (moved now start) v u c le step
-reached_waits now x start hops t d s (followed {hops = hs} {t = u} {d = c} {s = before} reply e new reaches step) =
-    followed_waits now x (moved now before) u c (waits_on now x before u c (reached_waits now x start hs u c before reaches)) c.to reply e new step
+pub followed_me : {s : State} {source : Locator} {reply : List ℕ} {t : ℕ} {new : State} {e : Outgoing} → Follows s source reply t new e → new.me ≡ s.me
+followed_me (follows l rec base m taken on) = (onward_keeps on).2

@@ -1,5 +1,5 @@
 -- What a lookup over honest servers of a register ends in: what the register assigns (RFC 8111, section 7.3).
-use Rattle.std.specs.Prelude.{ℕ, ◌≡◌, ◌≤◌, ◌+◌, ◌*◌, List, length, Ok}
+use Rattle.std.specs.Prelude.{ℕ, ◌≡◌, ◌≤◌, ◌+◌, ◌*◌, List, length, Result, Ok, IfOk, OnOk, IfErr}
 use Rattle.std.specs.List.{All, filter}
 use Rattle.std.specs.FinMap.{len}
 use Rattle.ddt_path.specs.declared.locator.Locator.{Locator}
@@ -87,6 +87,22 @@ abbrev pub IsRightError : State → State → LookupError → Type 0
 IsRightError old new (GaveUp why) = (why ≡ Exhausted) × (new.next ≡ last_nonce)
 IsRightError old new TooMany = most_pending ≤ len old.pending
 IsRightError old new Memory = Unit {0}
+
+-- what a request of a lookup of x gives over honest servers, and what it leaves: hops that were honest are honest yet
+pub record IsRightlyTurned (r : Register) (x : Xeid) (me : Locator) (before : List Hop) (res : Result Turn LookupError)
+    (after : List Hop) (new : State) : Type 0 where
+  pub sound : IsSound r new
+  pub turn : IfOk res (IsRightTurn r x)
+  pub failure : IfErr res (IsRightFailure new)
+  pub hops : All (IsHonestHop r x me) before → OnOk res (All (IsHonestHop r x me) after)
+
+-- and what the whole lookup gives
+pub record IsRightlyEnded (r : Register) (x : Xeid) (me : Locator) (res : Result Lookup LookupError) (new : State)
+    : Type 0 where
+  pub sound : IsSound r new
+  pub right : IfOk res (IsAssigned r x)
+  pub failure : IfErr res (IsRightFailure new)
+  pub fair : IfOk res (HasHonestHops r x me)
 
 -- how many hops a lookup has at most, whatever the servers say
 abbrev pub most_hops : Xeid → ℕ

@@ -1,13 +1,11 @@
 //! The requests of a lookup, each with what comes back.
 
-ghost use Rattle.std.specs.Prelude.{◌≡◌, ◌<◌, IfOk, OnOk, IfErr, MatchOption};
-ghost use Rattle.std.specs.List.{All};
+ghost use Rattle.std.specs.Prelude.{◌≡◌, ◌<◌, IfOk, IfErr, MatchOption};
 ghost use Rattle.ddt_path.specs.declared.xeid.Xeid.{Xeid as AnXeid};
 ghost use Rattle.ddt_register.specs.declared.register.Register.{Register};
-ghost use Rattle.ddt_sim.specs.Sound.{IsSound};
 ghost use Rattle.ddt_sim.specs.Lookup.{IsTurn, TurnFails, IsNotFor, heard_of, reply_or_failure, turn_or_failure};
 ghost use Rattle.ddt_sim.specs.Waiting.{Waits, requests_left, left_after};
-ghost use Rattle.ddt_sim.specs.Headline.{WhileUnderWay, IsHonestHop, IsRightTurn, IsRightFailure};
+ghost use Rattle.ddt_sim.specs.Headline.{WhileUnderWay, IsRightlyTurned};
 
 use crate::hop::{Hop, LookupError};
 use crate::laws::requests_are_understood;
@@ -41,17 +39,10 @@ pub(crate) fn exchange<S: Servers, M: PrefixMap<Entry>>(
     ensures turn { IfOk result (λ turn.
         IsTurn now resolver.old ticket request hops.old.items turn hops.new.items resolver.new) }
     ensures failed { IfErr result (λ error. TurnFails now resolver.old ticket request error resolver.new) }
-    ensures sound { WhileUnderWay (S.honest servers.old) now resolver.old ticket request
-        (λ r x. IsSound r resolver.new) }
-    ensures right { WhileUnderWay (S.honest servers.old) now resolver.old ticket request
-        (λ r x. IfOk result (IsRightTurn r x)) }
-    ensures failure { WhileUnderWay (S.honest servers.old) now resolver.old ticket request
-        (λ r x. IfErr result (IsRightFailure resolver.new)) }
+    // Over honest servers it is right, its hop is honest, and the resolver stays sound.
+    ensures honest { WhileUnderWay (S.honest servers.old) now resolver.old ticket request (λ r x.
+        IsRightlyTurned r x resolver.old.me hops.old.items result hops.new.items resolver.new) }
     ensures stay { (r : Register) → S.honest servers.old r → S.honest servers.new r }
-    // Over honest servers its hop is honest.
-    ensures hop { WhileUnderWay (S.honest servers.old) now resolver.old ticket request (λ r x.
-        All (IsHonestHop r x resolver.old.me) hops.old.items
-        → OnOk result (All (IsHonestHop r x resolver.old.me) hops.new.items)) }
     // Where the lookup waited, each request that follows leaves fewer that can follow.
     ensures nearer { (x : AnXeid) → Waits now x resolver.old ticket request
         → IfOk result (λ turn. left_after resolver.new ticket turn < requests_left resolver.old ticket) }

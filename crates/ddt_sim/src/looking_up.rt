@@ -14,7 +14,7 @@ ghost use Rattle.ddt_sim.specs.Lookup.{HasOutcome, Fails, FailsUnder, IsRemember
 ghost use Rattle.ddt_sim.specs.Trail.{HasTrail};
 ghost use Rattle.ddt_sim.specs.Passes.{HasShortPasses, PassesAreShort};
 ghost use Rattle.ddt_sim.specs.Headline.{OverHonest, WhenAsked, WhileUnderWay, IsAsked};
-ghost use Rattle.ddt_sim.specs.Headline.{IsAssigned, HasHonestHops, HasFewHops, IsRightFailure, IsRightError, most_hops};
+ghost use Rattle.ddt_sim.specs.Headline.{IsAssigned, HasHonestHops, HasFewHops, IsRightlyEnded, IsRightError, most_hops};
 
 use crate::following::{Turn, exchange};
 use crate::hop::{Hop, Lookup, LookupError};
@@ -126,12 +126,8 @@ fn after_ask<S: Servers, M: PrefixMap<Entry>>(
         (λ x start. IfOk result (λ l. HasOutcome now x start l.outcome l.hops resolver.new)) }
     ensures failed { WhateverAsked now resolver.old asked
         (λ x start. IfErr result (λ error. Fails now x start error resolver.new)) }
-    ensures sound { WhenAsked (S.honest servers.old) now resolver.old asked (λ r x. IsSound r resolver.new) }
-    ensures right { WhenAsked (S.honest servers.old) now resolver.old asked (λ r x. IfOk result (IsAssigned r x)) }
-    ensures failure { WhenAsked (S.honest servers.old) now resolver.old asked
-        (λ r x. IfErr result (IsRightFailure resolver.new)) }
-    ensures fair { WhenAsked (S.honest servers.old) now resolver.old asked
-        (λ r x. IfOk result (HasHonestHops r x resolver.old.me)) }
+    ensures honest { WhenAsked (S.honest servers.old) now resolver.old asked
+        (λ r x. IsRightlyEnded r x resolver.old.me result resolver.new) }
     ensures stay { (r : Register) → S.honest servers.old r → S.honest servers.new r }
     ensures answered { (o : AnOutcome) → asked ≡ Answer o → IsOk result }
     ensures bound { (x : AnXeid) → StartsWithin resolver.old x asked → IfOk result (λ l. length l.hops ≤ most_hops x) }
@@ -167,15 +163,9 @@ fn follow<S: Servers, M: PrefixMap<Entry>>(
         (λ x start. IfOk result (λ l. HasOutcome now x start l.outcome l.hops resolver.new)) }
     ensures failed { WhateverSent now resolver.old ticket request
         (λ x start. IfErr result (λ error. FailsUnder now x start ticket error resolver.new)) }
-    ensures sound { WhileUnderWay (S.honest servers.old) now resolver.old ticket request
-        (λ r x. IsSound r resolver.new) }
-    ensures right { WhileUnderWay (S.honest servers.old) now resolver.old ticket request
-        (λ r x. IfOk result (IsAssigned r x)) }
-    ensures failure { WhileUnderWay (S.honest servers.old) now resolver.old ticket request
-        (λ r x. IfErr result (IsRightFailure resolver.new)) }
+    ensures honest { WhileUnderWay (S.honest servers.old) now resolver.old ticket request
+        (λ r x. IsRightlyEnded r x resolver.old.me result resolver.new) }
     ensures stay { (r : Register) → S.honest servers.old r → S.honest servers.new r }
-    ensures fair { WhileUnderWay (S.honest servers.old) now resolver.old ticket request
-        (λ r x. IfOk result (HasHonestHops r x resolver.old.me)) }
     ensures bound { IfOk result (λ l. length l.hops ≤ requests_left resolver.old ticket) }
 {
     let mut hops: Vec<Hop> = Vec::new(alloc);

@@ -1,100 +1,53 @@
-use Rattle.std.proofs.Common.{◌≡◌, Err, refl, rules, sym, subst}
-use Rattle.ddt_sim.specs.Sound.{IsSound}
-use Rattle.ddt_resolver.specs.State.{moved}
-use Rattle.ddt_resolver.specs.Act.{HearStep}
-use Rattle.ddt_sim.specs.Lookup.{hop_of, unfinished}
+use Rattle.std.proofs.Common.{◌≡◌, Err, refl, rules}
+use Rattle.ddt_sim.specs.Lookup.{unfinished}
 use Rattle.ddt_sim.proofs.SoundLemmas.{sound_moved}
-use Rattle.ddt_sim.specs.Headline.{IsHonestHop}
-use Rattle.ddt_sim.proofs.FollowLemmas.{one_more}
-use Rattle.ddt_sim.proofs.ExchangeLemmas.{turn_of, right_turn, turn_is_nearer, heard_well, taken_is, unreplied_fails, unreplied_is_right, untaken_fails, untaken_is_right}
+use Rattle.ddt_sim.proofs.ExchangeLemmas.{came_back, turn_of, unreplied_well, unreplied_fails, taken_is, untaken_fails, untaken_well, taken_well, unfinished_well, turn_is_nearer}
 use Rattle.ddt_sim.proofs.following.exchange.Goals as goal
 
 pub returns-in_err-reply-clause-failed : goal.returns-in_err-reply-clause-failed
 returns-in_err-reply-clause-failed g c =
-    let e : c.from_residual.result ≡ Err c.in_err-reply.field-0.0 = search rules in
-    rw e (unreplied_fails c.args.now c.args.resolver.now c.args.ticket c.args.request c.answer.result c.in_err-reply.field-0.0 (sym c.in_err-reply.ensures))
+    let e : c.from_residual.result ≡ Err c.in_err-reply.field-0.0 = search rules in rw e (unreplied_fails c.answer.result c.in_err-reply.ensures)
 
-pub returns-in_err-reply-clause-failure : goal.returns-in_err-reply-clause-failure
-returns-in_err-reply-clause-failure g c = λ r x honest under.
+pub returns-in_err-reply-clause-honest : goal.returns-in_err-reply-clause-honest
+returns-in_err-reply-clause-honest g c = λ r x honest under.
     let e : c.from_residual.result ≡ Err c.in_err-reply.field-0.0 = search rules in
-    let a = c.requests_are_understood.ensures r c.args.now x c.args.resolver.now c.args.ticket c.args.request c.millis-millis.ensures.bound c.in_order.ensures under in
-    rw e (unreplied_is_right r c.args.now x c.args.resolver.now c.args.ticket c.args.request a
-    c.as_slice.result.now c.as_slice.ensures c.answer.result (c.answer.ensures.says r a.request honest a.server) c.args.resolver.now c.in_err-reply.field-0.0 (sym c.in_err-reply.ensures))
+    rw e (unreplied_well c.args.request c.answer.result c.as_slice.ensures c.answer.ensures.says honest under (c.requests_are_understood.ensures r _ x _ _ _ c.millis-millis.ensures.bound c.in_order.ensures under) c.in_err-reply.ensures)
 
-pub returns-in-Err-clause-sound : goal.returns-in-Err-clause-sound
-returns-in-Err-clause-sound g c = λ r x honest under.
-    subst (IsSound r) (sym c.in-Err.ensures.unchanged) (sound_moved r c.args.resolver.now under.sound c.args.now)
+pub returns-in-Err-clause-honest : goal.returns-in-Err-clause-honest
+returns-in-Err-clause-honest g c = λ r x honest under.
+    record { sound = rw c.in-Err.ensures.unchanged (sound_moved r c.args.resolver.now under.sound c.args.now); turn = tt; failure = tt; hops = λ all. tt }
 
 pub returns-in_err-turn-clause-failed : goal.returns-in_err-turn-clause-failed
 returns-in_err-turn-clause-failed g c =
     let e : c.from_residual-in_err-turn.result ≡ Err c.in_err-turn.field-0.0 = search rules in
-    rw e (untaken_fails c.args.ticket c.in-Ok.heard c.args.now c.args.resolver.now c.args.request c.as_slice-2.result.now c.datagram.new.self c.heard_for.result c.in_err-turn.field-0.0
-    c.in-Ok.ensures.step c.heard_for.ensures (sym c.in_err-turn.ensures))
+    rw e (untaken_fails (came_back c.args.request c.answer.result c.as_slice.ensures c.answer.ensures.says c.in_ok-reply.ensures c.as_slice-2.ensures c.in-Ok.ensures.step) c.heard_for.result c.heard_for.ensures c.in_err-turn.ensures)
 
-pub returns-in_err-turn-clause-sound : goal.returns-in_err-turn-clause-sound
-returns-in_err-turn-clause-sound g c = λ r x honest under.
-    let a = c.requests_are_understood.ensures r c.args.now x c.args.resolver.now c.args.ticket c.args.request c.millis-millis.ensures.bound c.in_order.ensures under in
-    let well = heard_well r c.args.now x c.args.resolver.now c.args.ticket c.args.request a
-    c.as_slice.result.now c.as_slice.ensures c.answer.result (c.answer.ensures.says r a.request honest a.server)
-    c.in_ok-reply.reply c.as_slice-2.result.now (sym c.in_ok-reply.ensures) c.as_slice-2.ensures c.datagram.new.self c.in-Ok.heard c.in-Ok.ensures.step in
-    well.sound
-
-pub returns-in_err-turn-clause-failure : goal.returns-in_err-turn-clause-failure
-returns-in_err-turn-clause-failure g c = λ r x honest under.
+pub returns-in_err-turn-clause-honest : goal.returns-in_err-turn-clause-honest
+returns-in_err-turn-clause-honest g c = λ r x honest under.
     let e : c.from_residual-in_err-turn.result ≡ Err c.in_err-turn.field-0.0 = search rules in
-    let a = c.requests_are_understood.ensures r c.args.now x c.args.resolver.now c.args.ticket c.args.request c.millis-millis.ensures.bound c.in_order.ensures under in
-    let well = heard_well r c.args.now x c.args.resolver.now c.args.ticket c.args.request a
-    c.as_slice.result.now c.as_slice.ensures c.answer.result (c.answer.ensures.says r a.request honest a.server)
-    c.in_ok-reply.reply c.as_slice-2.result.now (sym c.in_ok-reply.ensures) c.as_slice-2.ensures c.datagram.new.self c.in-Ok.heard c.in-Ok.ensures.step in
-    rw e (untaken_is_right c.args.ticket c.in-Ok.heard r x c.args.resolver.now c.args.request c.in_ok-reply.reply c.datagram.new.self c.heard_for.result c.in_err-turn.field-0.0
-    well c.heard_for.ensures (sym c.in_err-turn.ensures))
+    rw e (untaken_well (came_back c.args.request c.answer.result c.as_slice.ensures c.answer.ensures.says c.in_ok-reply.ensures c.as_slice-2.ensures c.in-Ok.ensures.step) honest
+    (c.requests_are_understood.ensures r _ x _ _ _ c.millis-millis.ensures.bound c.in_order.ensures under) c.heard_for.result c.heard_for.ensures c.in_err-turn.ensures)
 
 pub returns-in-Ok-push-clause-turn : goal.returns-in-Ok-push-clause-turn
 returns-in-Ok-push-clause-turn g c =
-    turn_of c.args.now c.args.resolver.now c.args.ticket c.args.request c.args.hops.now.items c.push.new.self.items
-    c.as_slice-2.result.now c.in_ok-reply.reply c.in-Ok.heard c.in_ok-turn.turn c.datagram.new.self
-    c.in-Ok.ensures.step c.as_slice-2.ensures (taken_is c.args.ticket c.in-Ok.heard c.heard_for.result c.in_ok-turn.turn c.heard_for.ensures (sym c.in_ok-turn.ensures)) c.in-Ok-push.ensures.items
+    turn_of (came_back c.args.request c.answer.result c.as_slice.ensures c.answer.ensures.says c.in_ok-reply.ensures c.as_slice-2.ensures c.in-Ok.ensures.step)
+    (taken_is c.args.ticket c.heard_for.result c.heard_for.ensures c.in_ok-turn.ensures) c.in-Ok-push.ensures.items
 
-pub returns-in-Ok-push-clause-sound : goal.returns-in-Ok-push-clause-sound
-returns-in-Ok-push-clause-sound g c = λ r x honest under.
-    let a = c.requests_are_understood.ensures r c.args.now x c.args.resolver.now c.args.ticket c.args.request c.millis-millis.ensures.bound c.in_order.ensures under in
-    let well = heard_well r c.args.now x c.args.resolver.now c.args.ticket c.args.request a
-    c.as_slice.result.now c.as_slice.ensures c.answer.result (c.answer.ensures.says r a.request honest a.server)
-    c.in_ok-reply.reply c.as_slice-2.result.now (sym c.in_ok-reply.ensures) c.as_slice-2.ensures c.datagram.new.self c.in-Ok.heard c.in-Ok.ensures.step in
-    well.sound
-
-pub returns-in-Ok-push-clause-right : goal.returns-in-Ok-push-clause-right
-returns-in-Ok-push-clause-right g c = λ r x honest under.
-    let a = c.requests_are_understood.ensures r c.args.now x c.args.resolver.now c.args.ticket c.args.request c.millis-millis.ensures.bound c.in_order.ensures under in
-    let well = heard_well r c.args.now x c.args.resolver.now c.args.ticket c.args.request a
-    c.as_slice.result.now c.as_slice.ensures c.answer.result (c.answer.ensures.says r a.request honest a.server)
-    c.in_ok-reply.reply c.as_slice-2.result.now (sym c.in_ok-reply.ensures) c.as_slice-2.ensures c.datagram.new.self c.in-Ok.heard c.in-Ok.ensures.step in
-    right_turn r x c.args.resolver.now c.args.ticket c.args.request c.in_ok-reply.reply c.datagram.new.self c.in-Ok.heard c.in_ok-turn.turn well
-    (taken_is c.args.ticket c.in-Ok.heard c.heard_for.result c.in_ok-turn.turn c.heard_for.ensures (sym c.in_ok-turn.ensures))
+pub returns-in-Ok-push-clause-honest : goal.returns-in-Ok-push-clause-honest
+returns-in-Ok-push-clause-honest g c = λ r x honest under.
+    taken_well (came_back c.args.request c.answer.result c.as_slice.ensures c.answer.ensures.says c.in_ok-reply.ensures c.as_slice-2.ensures c.in-Ok.ensures.step) honest
+    (c.requests_are_understood.ensures r _ x _ _ _ c.millis-millis.ensures.bound c.in_order.ensures under)
+    c.in_ok-turn.turn (taken_is c.args.ticket c.heard_for.result c.heard_for.ensures c.in_ok-turn.ensures) c.in-Ok-push.ensures.items
 
 pub returns-in-Ok-push-clause-nearer : goal.returns-in-Ok-push-clause-nearer
-returns-in-Ok-push-clause-nearer g c = λ x waits.
-    turn_is_nearer c.args.now x c.args.resolver.now c.args.ticket c.args.request c.in_order.ensures waits c.as_slice-2.result.now c.in-Ok.heard
-    c.datagram.new.self c.in_ok-turn.turn c.in-Ok.ensures.step c.in-Ok.ensures.nearer (taken_is c.args.ticket c.in-Ok.heard c.heard_for.result c.in_ok-turn.turn c.heard_for.ensures (sym c.in_ok-turn.ensures))
+returns-in-Ok-push-clause-nearer g c = λ x.
+    turn_is_nearer c.in_ok-turn.turn c.in_order.ensures c.in-Ok.ensures.step c.in-Ok.ensures.nearer (taken_is c.args.ticket c.heard_for.result c.heard_for.ensures c.in_ok-turn.ensures)
 
 pub returns-in-Err-push-clause-failed : goal.returns-in-Err-push-clause-failed
 returns-in-Err-push-clause-failed g c =
-    unfinished c.as_slice-2.result.now c.in_ok-turn.turn
-    (subst (HearStep (moved c.args.now c.args.resolver.now) c.args.request.to c.as_slice-2.result.now c.datagram.new.self)
-    (taken_is c.args.ticket c.in-Ok.heard c.heard_for.result c.in_ok-turn.turn c.heard_for.ensures (sym c.in_ok-turn.ensures)) c.in-Ok.ensures.step) refl
+    unfinished c.as_slice-2.result.now c.in_ok-turn.turn (rw (← taken_is c.args.ticket c.heard_for.result c.heard_for.ensures c.in_ok-turn.ensures) c.in-Ok.ensures.step) refl
 
-pub returns-in-Err-push-clause-sound : goal.returns-in-Err-push-clause-sound
-returns-in-Err-push-clause-sound g c = λ r x honest under.
-    let a = c.requests_are_understood.ensures r c.args.now x c.args.resolver.now c.args.ticket c.args.request c.millis-millis.ensures.bound c.in_order.ensures under in
-    let well = heard_well r c.args.now x c.args.resolver.now c.args.ticket c.args.request a
-    c.as_slice.result.now c.as_slice.ensures c.answer.result (c.answer.ensures.says r a.request honest a.server)
-    c.in_ok-reply.reply c.as_slice-2.result.now (sym c.in_ok-reply.ensures) c.as_slice-2.ensures c.datagram.new.self c.in-Ok.heard c.in-Ok.ensures.step in
-    well.sound
-
-pub returns-in-Ok-push-clause-hop : goal.returns-in-Ok-push-clause-hop
-returns-in-Ok-push-clause-hop g c = λ r x honest under all.
-    let a = c.requests_are_understood.ensures r c.args.now x c.args.resolver.now c.args.ticket c.args.request c.millis-millis.ensures.bound c.in_order.ensures under in
-    let well = heard_well r c.args.now x c.args.resolver.now c.args.ticket c.args.request a
-    c.as_slice.result.now c.as_slice.ensures c.answer.result (c.answer.ensures.says r a.request honest a.server)
-    c.in_ok-reply.reply c.as_slice-2.result.now (sym c.in_ok-reply.ensures) c.as_slice-2.ensures c.datagram.new.self c.in-Ok.heard c.in-Ok.ensures.step in
-    one_more (IsHonestHop r x c.args.resolver.now.me) c.args.hops.now.items c.push.new.self.items (hop_of c.args.request c.in_ok-reply.reply) c.in-Ok-push.ensures.items all well.hop
+pub returns-in-Err-push-clause-honest : goal.returns-in-Err-push-clause-honest
+returns-in-Err-push-clause-honest g c = λ r x honest under.
+    unfinished_well (came_back c.args.request c.answer.result c.as_slice.ensures c.answer.ensures.says c.in_ok-reply.ensures c.as_slice-2.ensures c.in-Ok.ensures.step) honest
+    (c.requests_are_understood.ensures r _ x _ _ _ c.millis-millis.ensures.bound c.in_order.ensures under)

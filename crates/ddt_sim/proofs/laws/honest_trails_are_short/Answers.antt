@@ -19,8 +19,6 @@ returns c = λ r x s l accepted order sound id trail honest.
     } in
     let laws : ShortLaws r = record {
       keeps = keeps;
-      downwards = h.downwards r accepted;
-      to_zones = h.to_zones r accepted;
       servers = h.servers r accepted;
       agree = h.agree r accepted;
       sendable = h.sendable r accepted;

@@ -1,26 +1,28 @@
 -- A usable reply to a pending lookup is late or taken; and tickets are new.
-use Rattle.std.proofs.Common.{◌≡◌, ℕ, ◌<◌, ◌≤◌, List, Some, None, sym, ap, ◌∙◌, subst, arith, inl, inr, ◌⊎◌}
+use Rattle.std.proofs.Common.{◌≡◌, ℕ, ◌<◌, ◌≤◌, List, Some, None, sym, ap, ◌∙◌, arith, inl, inr, ◌⊎◌}
 use Rattle.std.specs.FinMap.{get}
 use Rattle.std.proofs.lemmas.Option.{same_Some}
 use Rattle.ddt_path.specs.declared.locator.Locator.{Locator}
 use Rattle.ddt_path.specs.declared.record.ReferralRecord.{ReferralRecord}
 use Rattle.ddt_path.specs.Path.{xeid_path}
-use Rattle.ddt_wire.specs.Referral.{Message, message_record}
 use Rattle.ddt_wire.specs.laws.Message.{messages_are_read}
 use Rattle.ddt_resolver.specs.declared.pending.Pending.{Pending}
 use Rattle.ddt_resolver.specs.declared.answers.Heard.{Heard}
 use Rattle.ddt_resolver.specs.State.{State, server}
 use Rattle.ddt_resolver.specs.Records.{IsAbout, NamesServer}
-use Rattle.ddt_resolver.specs.TakeUp.{Tells, IsReplyTo, Ignores, undecodable, unknown_nonce, wrong_source, late, not_covering, no_servers}
+use Rattle.ddt_resolver.specs.TakeUp.{Tells, IsReplyTo, IsInTime, Ignores, undecodable, unknown_nonce, wrong_source, late, not_covering, no_servers}
 use Rattle.ddt_resolver.specs.Act.{Act, HearStep, ignored, taken}
 use Rattle.ddt_resolver.specs.Order.{IsWaiting, IsInOrder}
 use Rattle.ddt_resolver.proofs.StateLemmas.{next_absent}
+
+pub in_time : {s : State} {source : Locator} {bytes : List ℕ} {t : ℕ} {l : Pending} {rec : ReferralRecord} → IsReplyTo s bytes t l rec → source ≡ server s.me l → s.known.time < l.deadline → IsInTime s source bytes t l rec
+in_time is from in_due = record { from_server = record { reply = is; same_source = from }; early = in_due }
 
 -- bytes tell one nonce and one record
 pub told_once : (bytes : List ℕ) (n m : ℕ) (rec told : ReferralRecord) → Tells bytes n rec → Tells bytes m told → (n ≡ m) × (rec ≡ told)
 told_once bytes n m rec told a b =
     let e : a.message ≡ b.message = messages_are_read.one bytes a.message b.message a.spells b.spells in
-    (sym a.same_nonce ∙ ap (λ (v : Message). v.nonce) e ∙ b.same_nonce, sym a.same_record ∙ ap message_record e ∙ b.same_record)
+    ((cc), cc)
 
 module _ (s : State) (o : IsInOrder s) (source : Locator) (bytes : List ℕ) (t : ℕ) (l : Pending) (rec : ReferralRecord)
     (here : get s.pending t ≡ Some l) (tells : Tells bytes l.nonce rec) where
@@ -35,19 +37,16 @@ module _ (s : State) (o : IsInOrder s) (source : Locator) (bytes : List ℕ) (t 
     not_ignored : (why : _) → Ignores s source bytes why → l.deadline ≤ s.known.time
     not_ignored why (undecodable none g) = absurd (none tells.message tells.spells)
     not_ignored why (unknown_nonce n told tell none g) = absurd (none t l here (told_once bytes l.nonce n rec told tells tell).0)
-    not_ignored why (wrong_source u m told reply apart g) = absurd (apart (from ∙ ap (server s.me) (sym (this_one u m told reply).1)))
-    not_ignored why (late u m told sent over g) = subst (λ (k : Pending). k.deadline ≤ s.known.time) (this_one u m told sent.reply).1 over
-    not_ignored why (not_covering u m told early none g) =
-        let e = this_one u m told early.from_server.reply in
-        absurd (none (subst (λ (k : Pending). IsAbout told (xeid_path k.x)) (sym e.1) (subst (λ (r : ReferralRecord). IsAbout r (xeid_path l.x)) (sym e.2) about)))
-    not_ignored why (no_servers u m told early some none g) =
-        let e = this_one u m told early.from_server.reply in absurd (none (subst NamesServer (sym e.2) names))
+    not_ignored why (wrong_source u m told reply apart g) = absurd (apart (rw (this_one u m told reply).1 from))
+    not_ignored why (late u m told sent over g) = rw (this_one u m told sent.reply).1 at over
+    not_ignored why (not_covering u m told early none g) = let e = this_one u m told early.from_server.reply in absurd (none (rw (e.1, e.2) about))
+    not_ignored why (no_servers u m told early some none g) = absurd (none (rw (this_one u m told early.from_server.reply).2 names))
 
     pub usable_taken : HearStep s source bytes new h → (l.deadline ≤ s.known.time) ⊎ Act s t l rec new h
     usable_taken (ignored why is e f) = inl (not_ignored why is)
     usable_taken (taken u m told is does) =
         let e = this_one u m told is.in_time.from_server.reply in
-        inr (subst (λ (z : ℕ). Act s z l rec new h) e.0 (subst (λ (k : Pending). Act s u k rec new h) e.1 (subst (λ (r : ReferralRecord). Act s u m r new h) e.2 does)))
+        inr (rw (e.0, e.1, e.2) at does)
 
 pub tickets_new : (s : State) → IsInOrder s → (get s.pending s.next ≡ None) × ((t : ℕ) (l : Pending) → get s.pending t ≡ Some l → t < s.next)
 tickets_new s o = (next_absent s o, λ t l found. let w : IsWaiting s t l = o.lookups t l found in omega (arith, w.ticket, w.nonce))

@@ -9,8 +9,9 @@ ghost use Rattle.ddt_resolver.specs.AskStep.{answer_of as answer_of_entry, AskSt
 ghost use Rattle.ddt_resolver.specs.Bound.{StartsWithin};
 
 use crate::answers::{AskError, Asked, Ticket};
+use crate::limits::MOST_PENDING;
 use crate::pending::Pending;
-use crate::resolver::{MOST_PENDING, Resolver};
+use crate::resolver::Resolver;
 use ddt_cache::{Entry, Moment};
 use ddt_path::{Action, Outcome, Prefix, Xeid};
 use ddt_trie::PrefixMap;

@@ -1,8 +1,8 @@
 //! A resolver of RFC 8111, section 7.3, as a machine of steps: an ask, a datagram, a tick. It sends nothing itself:
 //! each call answers what is to be sent, and learns the time from its caller.
 //!
-//! In reading order: `answers`, `pending`, `waiting`, `table`, `resolver`, `asking`, `refusing`, `acting`, `ticking`, `step`,
-//! `sending`, `laws`; `front` is the side that ITRs see.
+//! In reading order: `answers`, `limits`, `pending`, `waiting`, `table`, `resolver`, `asking`, `refusing`, `acting`,
+//! `ticking`, `step`, `sending`, `laws`; `front` is the side that ITRs see.
 #![tactic(auto)]
 
 mod acting;
@@ -10,6 +10,7 @@ mod answers;
 mod asking;
 mod front;
 mod laws;
+mod limits;
 mod pending;
 mod refusing;
 mod resolver;
@@ -23,6 +24,7 @@ pub use answers::{AskError, Asked, Heard, Ignored, Outgoing, Ticked, Ticket, Why
 pub use ddt_cache::Moment;
 pub use front::{Front, ItrRequest};
 pub use laws::{order_is_kept, tickets_are_new, usable_is_taken};
+pub use limits::MOST_PENDING;
 pub use pending::Pending;
-pub use resolver::{MOST_PENDING, Resolver};
+pub use resolver::Resolver;
 pub use step::{Input, Progress, Reply};

@@ -15,9 +15,6 @@ use ddt_trie::PrefixMap;
 use std::alloc::{AllocError, Global};
 use std::marker::Model;
 
-/// How many lookups may be pending.
-pub const MOST_PENDING: usize = 1024;
-
 /// A resolver: what it remembers of the referrals that it got, and the lookups that wait for a reply. Contracts see its
 /// state.
 #[derive(Drop)]

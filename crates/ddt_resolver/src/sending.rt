@@ -13,6 +13,7 @@ ghost use Rattle.ddt_path.specs.declared.record.ReferralRecord.{ReferralRecord a
 ghost use Rattle.ddt_resolver.specs.declared.sending.Change.TheVariants.{Save};
 
 use crate::answers::Outgoing;
+use crate::limits::PATIENCE;
 use crate::pending::Pending;
 use crate::resolver::Resolver;
 use ddt_cache::{Cache, Entry};
@@ -20,9 +21,6 @@ use ddt_ecm::{CONTROL_PORT, write_request};
 use ddt_path::{Listed, Prefix, ReferralRecord};
 use ddt_trie::PrefixMap;
 use std::alloc::AllocError;
-
-/// How many milliseconds a lookup waits for a reply.
-const PATIENCE: u64 = 2000;
 
 /// What becomes of the cache where a lookup goes on.
 #[derive(Clone, Copy, Debug)]

@@ -31,7 +31,7 @@ use Rattle.ddt_resolver.specs.declared.answers.Why.TheVariants.{NoReply, Loop, N
 use Rattle.ddt_resolver.specs.declared.step.Reply.{Reply}
 use Rattle.ddt_resolver.specs.declared.step.Reply.TheVariants.{ToAsk, ToDatagram, ToTick}
 use Rattle.ddt_resolver.specs.declared.step.Progress.TheVariants.{Stays, Sends, Ends}
-use Rattle.ddt_resolver.specs.State.{State, last_nonce, request, numbered, dropped, stored, opening, referred, passed_on, started_over, tried_again, at_next}
+use Rattle.ddt_resolver.specs.State.{State, last_nonce, most_pending, request, numbered, dropped, stored, opening, referred, passed_on, started_over, tried_again, at_next}
 use Rattle.ddt_path.specs.Actions.{IsReferral}
 use Rattle.ddt_resolver.specs.Records.{IsAbout, IsBelow, negative_answer, outcome_of, start_at}
 use Rattle.ddt_resolver.specs.AskStep.{answer_of, AskStep}
@@ -94,7 +94,7 @@ goes_sends s call reply t l new (goes_on f over second more e) = ap progress_of 
 pub data Move (s : State) (call : Call) (new : State) (reply : Reply) : Type 0 where
   stays : new.pending ≡ s.pending → new.next ≡ s.next → progress_of reply ≡ Stays → Move s call new reply
   opens : (l : Pending) → call ≡ Ask l.x → l.place ≡ 0 → l.second ≡ false → l.kept ≡ None → l.saved ≡ None → IsLookup l → s.next < last_nonce
-      → len s.pending < 1024
+      → len s.pending < most_pending
       → new.pending ≡ insert s.pending s.next (numbered s l) → new.next ≡ s.next + 1 → reply ≡ ToAsk (Ok (asked.Sent s.next (request s l))) → Move s call new reply
   sends : (t : ℕ) (old l : Pending) → get s.pending t ≡ Some old → l.x ≡ old.x → Goes s call reply t old l → IsLookup l → s.next < last_nonce
       → new.pending ≡ insert s.pending t (numbered s l) → new.next ≡ s.next + 1 → Move s call new reply

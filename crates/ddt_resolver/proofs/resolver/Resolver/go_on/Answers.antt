@@ -1,14 +1,12 @@
-use Rattle.std.proofs.Common.{◌<◌, ◌≤◌, ◌+◌, List, length, refl, subst, sym, ap, arith}
-use Rattle.ddt_path.specs.declared.locator.Locator.{Locator}
+use Rattle.std.proofs.Common.{refl, ap, arith}
 use Rattle.ddt_path.specs.declared.record.Outcome.TheVariants.{NotRegistered}
 use Rattle.ddt_resolver.specs.declared.answers.Ticked.TheVariants.{Answer}
 use Rattle.ddt_resolver.specs.TickStep.{answered}
-use Rattle.ddt_resolver.specs.Order.{IsLookup}
 use Rattle.ddt_resolver.specs.laws.Shape.{again_lookup, next_lookup}
 use Rattle.ddt_resolver.proofs.resolver.Resolver.go_on.Goals as goal
 
 pub try_on-requires-clause-lookup : goal.try_on-requires-clause-lookup
-try_on-requires-clause-lookup g c = subst IsLookup (sym c.tried_again.ensures) (again_lookup c.args.self.now c.in_order.ensures c.args.ticket c.args.lookup.now c.requires.is_pending)
+try_on-requires-clause-lookup g c = rw c.tried_again.ensures (again_lookup _ c.in_order.ensures _ _ c.requires.is_pending)
 
 pub overflow_add-lookup : goal.overflow_add-lookup
 overflow_add-lookup g c =
@@ -17,12 +15,9 @@ overflow_add-lookup g c =
 
 pub try_on-requires-then-lookup-as_slice-clause-lookup : goal.try_on-requires-then-lookup-as_slice-clause-lookup
 try_on-requires-then-lookup-as_slice-clause-lookup g c =
-    subst IsLookup (sym c.at_next.ensures)
-    (next_lookup c.args.self.now c.in_order.ensures c.args.ticket c.args.lookup.now c.requires.is_pending
-    (subst (λ (ls : List Locator). c.args.lookup.now.place + 1 < length ls) c.as_slice.ensures.items c.if-lookup-as_slice.true))
+    rw c.at_next.ensures (next_lookup _ c.in_order.ensures _ _ c.requires.is_pending (rw c.as_slice.ensures.items at c.if-lookup-as_slice.true))
 
 pub returns-in-Some-clause-on : goal.returns-in-Some-clause-on
 returns-in-Some-clause-on g c =
-    answered c.in-Some.told c.if-not-lookup.false
-    (subst (λ (ls : List Locator). length ls ≤ c.args.lookup.now.place + 1) c.as_slice.ensures.items c.if-lookup-as_slice.false) c.in-Some.is (c.close.ensures c.args.ticket (c.args.lookup.now, c.requires.is_pending, refl))
-    (ap (λ z. Answer z (NotRegistered c.in-Some.told.prefix c.in-Some.told.servers)) c.of.ensures)
+    answered c.in-Some.told c.if-not-lookup.false (rw c.as_slice.ensures.items at c.if-lookup-as_slice.false) c.in-Some.is
+    (c.close.ensures c.args.ticket (c.args.lookup.now, c.requires.is_pending, refl)) (ap (λ z. Answer z (NotRegistered c.in-Some.told.prefix c.in-Some.told.servers)) c.of.ensures)

@@ -1,10 +1,7 @@
-use Rattle.std.proofs.Common.{subst, sym}
-use Rattle.ddt_cache.specs.Live.{Known}
-use Rattle.ddt_resolver.specs.Order.{IsInOrder}
 use Rattle.ddt_resolver.proofs.StateLemmas.{order_stored, order_taken}
 use Rattle.ddt_resolver.proofs.resolver.Resolver.save_and_close.Goals as goal
 
 pub invariant_of-self-2 : goal.invariant_of-self-2
 invariant_of-self-2 g c =
-    subst (λ (k : Known). IsInOrder (record { known = k; me = c.self.inside.me; next = c.take.new.self.next; pending = c.take.new.self.lookups })) (sym c.in_ok-apply.ensures.applied)
+    rw c.in_ok-apply.ensures.applied
     (order_taken _ (order_stored _ c.self.invariant c.args.told.now c.requires) c.take.new.self.lookups c.take.new.self.next c.take.result c.take.ensures.taken c.take.ensures.unchanged c.take.ensures.next)

@@ -1,7 +1,5 @@
-use Rattle.std.proofs.Common.{subst, sym, ap, ◌∙◌, refl}
-use Rattle.ddt_resolver.specs.State.{opening}
+use Rattle.std.proofs.Common.{sym, ◌∙◌, refl}
 use Rattle.ddt_resolver.specs.AskStep.{cached}
-use Rattle.ddt_resolver.specs.Order.{IsLookup}
 use Rattle.ddt_resolver.specs.laws.Shape.{opening_lookup}
 use Rattle.ddt_resolver.proofs.resolver.Resolver.start.Goals as goal
 
@@ -15,5 +13,5 @@ returns-in-Some-clause-step g c = record {
 
 pub open-requires-clause-lookup : goal.open-requires-clause-lookup
 open-requires-clause-lookup g c =
-    subst IsLookup (sym (c.opening.ensures ∙ ap (opening c.args.x c.find-prefix.result.1.servers) c.start_at.ensures))
-    (opening_lookup c.args.self.now c.in_order.ensures c.args.x c.host-identifier.ensures.passes c.find-prefix.result.0 c.find-prefix.result.1 c.find-prefix.ensures.found (sym c.answer_of.ensures ∙ c.in_default.is))
+    rw (c.opening.ensures, c.start_at.ensures)
+    (opening_lookup _ c.in_order.ensures c.args.x c.host-identifier.ensures.passes _ _ c.find-prefix.ensures.found (sym c.answer_of.ensures ∙ c.in_default.is))

@@ -21,7 +21,7 @@ use Rattle.ddt_ecm.specs.UdpHeader.{control_port}
 use Rattle.ddt_wires.specs.Turns.{AreTried, reply_to}
 use Rattle.ddt_wires.specs.declared.call.Packet.{Packet}
 use Rattle.ddt_resolver.specs.declared.answers.Outgoing.{Outgoing}
-use Rattle.ddt_resolver.specs.declared.front.ItrRequest.{ItrRequest}
+use Rattle.ddt_resolver.specs.declared.itrs.ItrRequest.{ItrRequest}
 use Rattle.ddt_resolver.specs.Front.{reply_to_itr}
 use Rattle.ddt_resolver.specs.State.{request_bytes}
 use Rattle.ddt_loop.specs.declared.ends.LoopEnd.{LoopEnd}

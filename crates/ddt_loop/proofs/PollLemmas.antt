@@ -14,7 +14,7 @@ use Rattle.ddt_resolver.specs.declared.answers.Asked.{Asked}
 use Rattle.ddt_resolver.specs.declared.answers.Asked.TheVariants as asked_as
 use Rattle.ddt_resolver.specs.declared.answers.AskError.{AskError}
 use Rattle.ddt_resolver.specs.declared.answers.Why.{Why}
-use Rattle.ddt_resolver.specs.declared.front.ItrRequest.{ItrRequest}
+use Rattle.ddt_resolver.specs.declared.itrs.ItrRequest.{ItrRequest}
 use Rattle.ddt_resolver.specs.Front.{reply_to_itr}
 use Rattle.ddt_resolver.specs.Step as resolver
 use Rattle.ddt_resolver.specs.Step.{progress_of}

@@ -20,7 +20,7 @@ use Rattle.ddt_wires.specs.declared.call.Call.TheVariants.{Received}
 use Rattle.ddt_wires.specs.declared.call.Packet.{Packet}
 use Rattle.ddt_wires.specs.Turns.{most_bytes}
 use Rattle.ddt_resolver.specs.declared.answers.AskError.{AskError}
-use Rattle.ddt_resolver.specs.declared.front.ItrRequest.{ItrRequest}
+use Rattle.ddt_resolver.specs.declared.itrs.ItrRequest.{ItrRequest}
 use Rattle.ddt_resolver.specs.Order.{IsInOrder}
 use Rattle.ddt_resolver.specs.State.{State, moved, server}
 use Rattle.ddt_resolver.specs.Step as resolver

@@ -13,7 +13,7 @@ use Rattle.ddt_resolver.specs.declared.answers.Asked.TheVariants as asked_as
 use Rattle.ddt_resolver.specs.declared.answers.AskError.{AskError}
 use Rattle.ddt_resolver.specs.declared.answers.AskError.TheVariants.{Memory}
 use Rattle.ddt_resolver.specs.declared.answers.Why.{Why}
-use Rattle.ddt_resolver.specs.declared.front.ItrRequest.{ItrRequest}
+use Rattle.ddt_resolver.specs.declared.itrs.ItrRequest.{ItrRequest}
 use Rattle.ddt_resolver.specs.declared.step.Progress.{Progress}
 use Rattle.ddt_resolver.specs.declared.step.Progress.TheVariants.{Stays, Sends, Ends}
 use Rattle.ddt_resolver.specs.declared.step.Reply.{Reply}

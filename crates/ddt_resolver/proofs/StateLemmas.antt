@@ -10,8 +10,8 @@ use Rattle.ddt_cache.specs.InOrder.{IsInOrder as IsKnownInOrder}
 use Rattle.ddt_cache.specs.laws.Live.{live_at-all}
 use Rattle.ddt_cache.specs.laws.Order.{nothing_in_order, stored_in_order, forgotten_in_order}
 use Rattle.ddt_resolver.specs.declared.pending.Pending.{Pending}
-use Rattle.ddt_resolver.specs.declared.sending.Change.{Change}
-use Rattle.ddt_resolver.specs.declared.sending.Change.TheVariants.{Keep, Save, Forget}
+use Rattle.ddt_resolver.specs.declared.requests.Change.{Change}
+use Rattle.ddt_resolver.specs.declared.requests.Change.TheVariants.{Keep, Save, Forget}
 use Rattle.ddt_resolver.specs.State.{State, last_nonce, most_pending, fresh, numbered, stored, changed}
 use Rattle.ddt_resolver.specs.Waiting.{Waiting}
 use Rattle.ddt_resolver.specs.Table.{Held, HasNonce, IsNext}

@@ -4,9 +4,9 @@ use Rattle.std.specs.FinMap.{get}
 use Rattle.ddt_path.specs.Locators.{most_locators}
 use Rattle.ddt_path.specs.Path.{xeid_path}
 use Rattle.ddt_resolver.specs.declared.pending.Pending.{Pending}
-use Rattle.ddt_resolver.specs.declared.refusing.Taken.{Taken}
-use Rattle.ddt_resolver.specs.declared.sending.Change.{Change}
-use Rattle.ddt_resolver.specs.declared.sending.Change.TheVariants.{Keep, Save, Forget}
+use Rattle.ddt_resolver.specs.declared.replies.Taken.{Taken}
+use Rattle.ddt_resolver.specs.declared.requests.Change.{Change}
+use Rattle.ddt_resolver.specs.declared.requests.Change.TheVariants.{Keep, Save, Forget}
 use Rattle.ddt_resolver.specs.declared.answers.Why.TheVariants.{Exhausted}
 use Rattle.ddt_resolver.specs.declared.answers.Heard.{Heard}
 use Rattle.ddt_resolver.specs.declared.answers.Heard.TheVariants.{Followed, Answer, GaveUp}

@@ -14,8 +14,8 @@ use Rattle.ddt_cache.specs.Live as cache
 use Rattle.ddt_cache.specs.Saved as cache_saved
 use Rattle.ddt_resolver.specs.declared.answers.Outgoing.{Outgoing}
 use Rattle.ddt_resolver.specs.declared.pending.Pending.{Pending}
-use Rattle.ddt_resolver.specs.declared.sending.Change.{Change}
-use Rattle.ddt_resolver.specs.declared.sending.Change.TheVariants.{Keep, Save, Forget}
+use Rattle.ddt_resolver.specs.declared.requests.Change.{Change}
+use Rattle.ddt_resolver.specs.declared.requests.Change.TheVariants.{Keep, Save, Forget}
 
 -- what it remembers, with the time and the root's locators; its own address; the next nonce; the pending lookups by
 -- their tickets

@@ -1,28 +1,28 @@
 //! A resolver of RFC 8111, section 7.3, as a machine of steps: an ask, a datagram, a tick. It sends nothing itself:
 //! each call answers what is to be sent, and learns the time from its caller.
 //!
-//! In reading order: `answers`, `limits`, `pending`, `waiting`, `table`, `resolver`, `asking`, `refusing`, `acting`,
-//! `ticking`, `step`, `sending`, `laws`; `front` is the side that ITRs see.
+//! In reading order: `answers`, `limits`, `pending`, `waiting`, `table`, `resolver`, `asks`, `replies`, `actions`,
+//! `ticks`, `step`, `requests`, `laws`; `itrs` is the side that ITRs see.
 #![tactic(auto)]
 
-mod acting;
+mod actions;
 mod answers;
-mod asking;
-mod front;
+mod asks;
+mod itrs;
 mod laws;
 mod limits;
 mod pending;
-mod refusing;
+mod replies;
+mod requests;
 mod resolver;
-mod sending;
 mod step;
 mod table;
-mod ticking;
+mod ticks;
 mod waiting;
 
 pub use answers::{AskError, Asked, Heard, Ignored, Outgoing, Ticked, Ticket, Why};
 pub use ddt_cache::Moment;
-pub use front::{Front, ItrRequest};
+pub use itrs::{Front, ItrRequest};
 pub use laws::{order_is_kept, tickets_are_new, usable_is_taken};
 pub use limits::MOST_PENDING;
 pub use pending::Pending;

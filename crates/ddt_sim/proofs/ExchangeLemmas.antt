@@ -27,8 +27,8 @@ use Rattle.ddt_cache.specs.Moment.{last_moment}
 use Rattle.ddt_sim.specs.declared.hop.Hop.{Hop}
 use Rattle.ddt_sim.specs.declared.hop.LookupError.{LookupError}
 use Rattle.ddt_sim.specs.declared.hop.LookupError.TheVariants.{GaveUp, Memory}
-use Rattle.ddt_sim.specs.declared.following.Turn.{Turn}
-use Rattle.ddt_sim.specs.declared.following.Turn.TheVariants.{GoesOn, Ends}
+use Rattle.ddt_sim.specs.declared.exchange.Turn.{Turn}
+use Rattle.ddt_sim.specs.declared.exchange.Turn.TheVariants.{GoesOn, Ends}
 use Rattle.ddt_sim.specs.Honest.{IsServer, IsHonestReply}
 use Rattle.ddt_sim.specs.Sound.{IsSound, IsRightWhy, IsRightHeard, StepsKeepSoundness, TimeKeepsSoundness}
 use Rattle.ddt_sim.specs.Waiting.{Waits, requests_left, left_after}

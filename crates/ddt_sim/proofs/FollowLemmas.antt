@@ -10,8 +10,8 @@ use Rattle.ddt_resolver.specs.State.{State, moved}
 use Rattle.ddt_resolver.specs.Act.{HearStep}
 use Rattle.ddt_sim.specs.declared.hop.Hop.{Hop}
 use Rattle.ddt_sim.specs.declared.hop.LookupError.{LookupError}
-use Rattle.ddt_sim.specs.declared.following.Turn.{Turn}
-use Rattle.ddt_sim.specs.declared.following.Turn.TheVariants.{GoesOn, Ends}
+use Rattle.ddt_sim.specs.declared.exchange.Turn.{Turn}
+use Rattle.ddt_sim.specs.declared.exchange.Turn.TheVariants.{GoesOn, Ends}
 use Rattle.ddt_sim.specs.Waiting.{Waits, IsAwaited, requests_left, left_after}
 use Rattle.ddt_sim.specs.Lookup.{IsTurn, TurnFails, heard_of, Reaches, followed, FailsUnder, HasOutcome, by_reply, hop_of}
 use Rattle.ddt_sim.specs.Headline.{IsUnderWay, IsHonestHop, IsRightTurn, WhileUnderWay, IsRightlyTurned, IsRightlyEnded}

@@ -21,8 +21,8 @@ use Rattle.ddt_resolver.specs.Act.{HearStep}
 use Rattle.ddt_sim.specs.declared.hop.Hop.{Hop}
 use Rattle.ddt_sim.specs.declared.hop.LookupError.{LookupError}
 use Rattle.ddt_sim.specs.declared.hop.LookupError.TheVariants.{GaveUp, TooMany, Memory}
-use Rattle.ddt_sim.specs.declared.following.Turn.{Turn}
-use Rattle.ddt_sim.specs.declared.following.Turn.TheVariants.{GoesOn, Ends}
+use Rattle.ddt_sim.specs.declared.exchange.Turn.{Turn}
+use Rattle.ddt_sim.specs.declared.exchange.Turn.TheVariants.{GoesOn, Ends}
 
 -- a request and the reply to it
 abbrev pub hop_of : Outgoing → List ℕ → Hop

@@ -9,8 +9,8 @@ use Rattle.ddt_resolver.specs.declared.pending.Pending.{Pending}
 use Rattle.ddt_resolver.specs.declared.answers.Outgoing.{Outgoing}
 use Rattle.ddt_resolver.specs.State.{State, server, request_bytes, patience}
 use Rattle.ddt_resolver.specs.Bound.{measure}
-use Rattle.ddt_sim.specs.declared.following.Turn.{Turn}
-use Rattle.ddt_sim.specs.declared.following.Turn.TheVariants.{GoesOn, Ends}
+use Rattle.ddt_sim.specs.declared.exchange.Turn.{Turn}
+use Rattle.ddt_sim.specs.declared.exchange.Turn.TheVariants.{GoesOn, Ends}
 
 -- The lookup of x under the ticket t waits for the reply to the request d, which was sent at the resolver's time.
 pub record Waits (now : ℕ) (x : Xeid) (s : State) (t : ℕ) (d : Outgoing) : Type 0 where

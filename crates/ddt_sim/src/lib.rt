@@ -1,21 +1,21 @@
 //! Servers and a resolver together: what following Map-Referrals from the root ends in.
 //!
-//! In reading order: `servers`, `compiled`, `laws`, `hop`, `following`, `looking_up`, `schedule`, `running`.
+//! In reading order: `servers`, `compiled`, `laws`, `hop`, `exchange`, `one_lookup`, `schedule`, `schedule_run`.
 #![tactic(auto)]
 
 mod compiled;
-mod following;
+mod exchange;
 mod hop;
 mod laws;
-mod looking_up;
-mod running;
+mod one_lookup;
 mod schedule;
+mod schedule_run;
 mod servers;
 
 pub use compiled::Compiled;
 pub use hop::{Hop, Lookup, LookupError};
 pub use laws::{a_lookup_has_two_passes, a_step_keeps_a_resolver_sound};
-pub use looking_up::lookup;
-pub use running::run;
+pub use one_lookup::lookup;
 pub use schedule::{Datagram, Event, Step, Transcript};
+pub use schedule_run::run;
 pub use servers::Servers;

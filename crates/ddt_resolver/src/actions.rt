@@ -1,0 +1,193 @@
+//! What is done with a reply, by the record's action (RFC 8111, sections 6.1 and 7.3).
+
+ghost use Rattle.std.specs.Prelude.{◌≡◌, ◌<◌, IsTrue, false, IfOk, OnErr};
+ghost use Rattle.ddt_path.specs.declared.action.Action.TheVariants as act;
+ghost use Rattle.ddt_resolver.specs.State.{moved, last_nonce};
+ghost use Rattle.ddt_path.specs.Actions.{IsReferral};
+ghost use Rattle.ddt_resolver.specs.Records.{IsBelow, outcome_of};
+ghost use Rattle.ddt_resolver.specs.Act.{Act, HearStep, HearWants, Saves};
+ghost use Rattle.ddt_resolver.specs.Acting.{IsHeard, IsAnswered, IsSmall, SendsOn};
+ghost use Rattle.ddt_resolver.specs.Order.{IsLookup};
+ghost use Rattle.ddt_resolver.specs.Table.{HasNonce};
+ghost use Rattle.ddt_cache.specs.Saved.{is_saved};
+ghost use Rattle.ddt_resolver.specs.Bound.{ComesNearer, GoesDown};
+
+use crate::answers::{Heard, Ticket, Why};
+use crate::pending::Pending;
+use crate::replies::Taken;
+use crate::requests::Change;
+use crate::resolver::Resolver;
+use ddt_cache::{Entry, Moment};
+use ddt_path::{Action, Locator, Outcome, Prefix, ReferralRecord};
+use ddt_trie::PrefixMap;
+use std::alloc::AllocError;
+
+impl<M: PrefixMap<Entry>> Resolver<M> {
+    /// Hears a datagram from a source at `now`. It is ignored where it is no reply that a pending lookup waits for: 1
+    /// Undecodable, 2 UnknownNonce, 3 WrongSource, 4 Late, 5 NotCovering, 6 NoServers, the first that applies. Else
+    /// the lookup goes on with a request, to be sent, or ends: with an outcome, or as 2 Loop, 3 NotAuthoritative or
+    /// 4 Exhausted. Of a referral the first eight servers are kept.
+    ///
+    /// It fails only if out of memory, where a request is to be sent or a record to be saved; then nothing changes but
+    /// the time, and the lookup waits on.
+    pub fn datagram(
+        &mut self,
+        now: Moment,
+        from: Locator,
+        bytes: &[u8],
+    ) -> Result<Heard, AllocError>
+        ensures step { IfOk result (λ heard. HearStep (moved now self.old) from bytes.now self.new heard) }
+        ensures unchanged { OnErr result (self.new ≡ moved now self.old) }
+        ensures wanted { OnErr result (HearWants (moved now self.old) from bytes.now) }
+        // Each reply that is followed brings the lookup nearer to its end, whatever the servers say.
+        ensures nearer { IfOk result (λ heard. ComesNearer self.old self.new heard) }
+        // Each referral that is followed has a longer prefix than the one before.
+        ensures down { IfOk result (λ heard. GoesDown self.old bytes.now heard) }
+    {
+        self.advance(now);
+        self.hear(from, bytes)
+    }
+
+    /// The datagram at its time.
+    fn hear(&mut self, from: Locator, bytes: &[u8]) -> Result<Heard, AllocError>
+        ensures step { IfOk result (λ heard. HearStep self.old from bytes.now self.new heard) }
+        ensures unchanged { OnErr result (self.new ≡ self.old) }
+        ensures wanted { OnErr result (HearWants self.old from bytes.now) }
+        ensures nearer { IfOk result (λ heard. ComesNearer self.old self.new heard) }
+        ensures down { IfOk result (λ heard. GoesDown self.old bytes.now heard) }
+    {
+        self.in_order();
+        match self.take_up(from, bytes) {
+            Ok(taken) => self.act(&taken),
+            Err(why) => Ok(Heard::Ignored(why)),
+        }
+    }
+
+    /// Acts on a reply.
+    fn act(&mut self, taken: &Taken) -> Result<Heard, AllocError>
+        requires { IsHeard self.old taken.now }
+        ensures act { IfOk result (λ heard. Act self.old taken.now.ticket taken.now.lookup taken.now.told self.new
+            heard) }
+        ensures unchanged { OnErr result (self.new ≡ self.old) }
+        ensures wanted { OnErr result (Saves self.old taken.now.lookup taken.now.told) }
+    {
+        match taken.told.action {
+            Action::NodeReferral | Action::MsReferral => self.follow(taken),
+            Action::MsAck | Action::DelegationHole => self.answer(taken),
+            Action::MsNotRegistered => self.keep_and_go_on(taken),
+            Action::NotAuthoritative => self.start_over(taken),
+        }
+    }
+
+    /// A referral: it is followed where its prefix is longer than the saved one, else the lookup ends.
+    fn follow(&mut self, taken: &Taken) -> Result<Heard, AllocError>
+        requires heard { IsHeard self.old taken.now }
+        requires action { IsReferral taken.now.told.action }
+        ensures act { IfOk result (λ heard. Act self.old taken.now.ticket taken.now.lookup taken.now.told self.new
+            heard) }
+        ensures unchanged { OnErr result (self.new ≡ self.old) }
+        ensures wanted { OnErr result (Saves self.old taken.now.lookup taken.now.told) }
+    {
+        if !is_below(taken.lookup.saved, taken.told.prefix) {
+            self.close(taken.lookup.nonce);
+            return Ok(Heard::GaveUp(Ticket::of(taken.ticket), Why::Loop));
+        }
+        let lookup = taken.lookup.referred(&taken.told);
+        self.send_on(taken.ticket, &lookup, &Change::Save(taken.told))
+    }
+
+    /// A final record: it is saved, and the lookup ends with its outcome.
+    fn answer(&mut self, taken: &Taken) -> Result<Heard, AllocError>
+        requires { IsHeard self.old taken.now }
+        ensures answered { IfOk result (λ heard. IsAnswered self.old taken.now self.new heard) }
+        ensures unchanged { OnErr result (self.new ≡ self.old) }
+        ensures wanted { OnErr result (IsTrue (is_saved self.old.known.live taken.now.told)) }
+    {
+        self.save_and_close(taken.lookup.nonce, &taken.told)?;
+        Ok(Heard::Answer(Ticket::of(taken.ticket), outcome(&taken.told)))
+    }
+
+    /// MS-NOT-REGISTERED: it is kept, and the next server of the set is asked; that of the last server is the answer.
+    fn keep_and_go_on(&mut self, taken: &Taken) -> Result<Heard, AllocError>
+        requires heard { IsHeard self.old taken.now }
+        requires action { taken.now.told.action ≡ act.MsNotRegistered }
+        ensures act { IfOk result (λ heard. Act self.old taken.now.ticket taken.now.lookup taken.now.told self.new
+            heard) }
+        ensures unchanged { OnErr result (self.new ≡ self.old) }
+        ensures wanted { OnErr result (Saves self.old taken.now.lookup taken.now.told) }
+    {
+        if taken.lookup.place + 1 >= taken.lookup.servers.as_slice().len() {
+            return self.answer(taken);
+        }
+        let lookup = taken.lookup.passed_on(&taken.told);
+        self.send_on(taken.ticket, &lookup, &Change::Keep)
+    }
+
+    /// NOT-AUTHORITATIVE: a lookup that started at a remembered entry starts once more, at the root, and the entry is
+    /// forgotten. Any other ends.
+    fn start_over(&mut self, taken: &Taken) -> Result<Heard, AllocError>
+        requires heard { IsHeard self.old taken.now }
+        requires action { taken.now.told.action ≡ act.NotAuthoritative }
+        ensures act { IfOk result (λ heard. Act self.old taken.now.ticket taken.now.lookup taken.now.told self.new
+            heard) }
+        ensures unchanged { OnErr result (self.new ≡ self.old) }
+        ensures wanted { OnErr result (Saves self.old taken.now.lookup taken.now.told) }
+    {
+        match taken.lookup.start {
+            Some(prefix) => {
+                let lookup = taken.lookup.started_over(self.cache.roots());
+                self.send_on(taken.ticket, &lookup, &Change::Forget(prefix))
+            }
+            None => {
+                self.close(taken.lookup.nonce);
+                Ok(Heard::GaveUp(Ticket::of(taken.ticket), Why::NotAuthoritative))
+            }
+        }
+    }
+
+    /// The lookup of a ticket goes on as this one, or ends where no nonce is left.
+    fn send_on(
+        &mut self,
+        ticket: u64,
+        lookup: &Pending,
+        change: &Change,
+    ) -> Result<Heard, AllocError>
+        requires there { HasNonce self.old.pending ticket lookup.now.nonce }
+        requires lookup { IsLookup lookup.now }
+        requires change { IsSmall change.now }
+        ensures sent { IfOk result (λ heard. SendsOn self.old ticket lookup.now change.now self.new heard) }
+        ensures unchanged { OnErr result (self.new ≡ self.old) }
+        ensures nonce { OnErr result (self.old.next < last_nonce) }
+    {
+        if self.next_nonce() == u64::MAX {
+            self.close(lookup.nonce);
+            return Ok(Heard::GaveUp(Ticket::of(ticket), Why::Exhausted));
+        }
+        let outgoing = self.lodge(ticket, lookup, change)?;
+        Ok(Heard::Followed(Ticket::of(ticket), outgoing))
+    }
+}
+
+/// Whether a prefix is longer than the saved one, where one is saved.
+fn is_below(saved: Option<Prefix>, prefix: Prefix) -> bool
+    ensures yes { IsTrue result → IsBelow saved prefix }
+    ensures no { result ≡ false → IsBelow saved prefix → ⊥ }
+{
+    match saved {
+        Some(saved) => saved.len() < prefix.len(),
+        None => true,
+    }
+}
+
+/// What a final record says of an identifier that it covers.
+fn outcome(told: &ReferralRecord) -> Outcome
+    ensures { result ≡ outcome_of told.now }
+{
+    let prefix = told.prefix;
+    let servers = told.servers;
+    match told.action {
+        Action::MsAck => Outcome::Registered { prefix, servers },
+        Action::MsNotRegistered => Outcome::NotRegistered { prefix, servers },
+        _ => Outcome::Hole { prefix },
+    }
+}

@@ -24,7 +24,7 @@ use Rattle.ddt_trie.specs.PrefixMap.{path_cmp}
 use Rattle.ddt_node.specs.Places.{places}
 use Rattle.ddt_node.proofs.PlaceLemmas.{free_below_of_places, found_at}
 use Rattle.ddt_node.specs.Server.{authority_of, etr_in, first_etr, is_ack}
-use Rattle.ddt_node.specs.declared.datagram.Forward.{Forward}
+use Rattle.ddt_node.specs.declared.forward.Forward.{Forward}
 
 module _ (c d : Outline) (x : List ℕ) (a : Authority) (found : authority_of c x ≡ Some a) (same : c ≡ d) where
   pub answer_from : (r : ReferralRecord) → r ≡ answer_in c.locators a.prefix a.content x → r ≡ answer d x

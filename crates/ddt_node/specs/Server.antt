@@ -18,7 +18,7 @@ use Rattle.ddt_ecm.specs.declared.fault.RequestFault.{RequestFault}
 use Rattle.ddt_ecm.specs.EcmHeader.{s_place, d_place}
 use Rattle.ddt_ecm.specs.Request.{Message, Spells as SpellsRequest, message_in}
 use Rattle.ddt_node.specs.declared.datagram.Buffered.{Buffered}
-use Rattle.ddt_node.specs.declared.datagram.Forward.{Forward}
+use Rattle.ddt_node.specs.declared.forward.Forward.{Forward}
 use Rattle.ddt_node.specs.declared.datagram.Handled.{Handled}
 
 -- the longest authority that covers the identifier

@@ -1,30 +1,21 @@
 //! What a server sends for a datagram.
 
 ghost use Rattle.std.specs.Prelude.{◌≡◌, is_some, None, Some, Ok, IfOk, OnOk};
-ghost use Rattle.std.specs.Option.{option_map};
 ghost use Rattle.ddt_ecm.specs.Request.{Message};
 ghost use Rattle.ddt_path.specs.Path.{xeid_path};
 ghost use Rattle.ddt_config.specs.Answer.{answer as answer_of};
 ghost use Rattle.ddt_wire.specs.Referral.{written};
 ghost use Rattle.ddt_node.specs.Decisions.{record_by};
-ghost use Rattle.ddt_node.specs.Server.{ddt_request as ddt_request_of, handled as handled_of, in_buffer, forward_to as forward_to_of, without_d, ignored as ignored_of, nothing_sent, acknowledges, IsDdtRequest, HasReply, reply_to};
+ghost use Rattle.ddt_node.specs.Server.{ddt_request as ddt_request_of, handled as handled_of, in_buffer, ignored as ignored_of, nothing_sent, acknowledges, IsDdtRequest, HasReply, reply_to};
 
 use crate::decision::Decision;
+use crate::forward::{Forward, forward_to};
 use crate::server::Server;
-use ddt_ecm::{DDT, Request, read_request};
-use ddt_path::{Listed, Locator};
+use ddt_ecm::{Request, read_request};
+use ddt_path::Listed;
 use ddt_trie::PrefixMap;
 use ddt_wire::put_referral;
 use std::alloc::{AllocError, Global};
-
-/// A request on its way to an ETR.
-#[derive(Debug, Drop)]
-pub struct Forward {
-    /// The ETR.
-    pub to: Locator,
-    /// The request, as it came but for the bit D, which is clear.
-    pub bytes: Listed<u8>,
-}
 
 /// What is sent for a datagram.
 #[derive(Debug, Drop)]
@@ -139,23 +130,6 @@ impl<M: PrefixMap<u32>> Server<M> {
     }
 }
 
-/// The request as it goes on to an ETR, if one is given.
-fn forward_to(
-    alloc: Global,
-    etr: Option<Locator>,
-    request: &[u8],
-) -> Result<Option<Forward>, AllocError>
-    ensures { IfOk result (λ forward. forward ≡ option_map (forward_to_of request.now) etr) }
-{
-    match etr {
-        Some(to) => Ok(Some(Forward {
-            to,
-            bytes: Listed::of(plain_request(alloc, request)?),
-        })),
-        None => Ok(None),
-    }
-}
-
 /// The request that the bytes are, if its bit D is set.
 fn ddt_request(bytes: &[u8]) -> Option<Request<'_>>
     ensures { result ≡ ddt_request_of bytes.now }
@@ -164,15 +138,4 @@ fn ddt_request(bytes: &[u8]) -> Option<Request<'_>>
         Ok(request) if request.ddt() => Some(request),
         _ => None,
     }
-}
-
-/// The datagram with the bit D clear.
-fn plain_request(alloc: Global, request: &[u8]) -> Result<Vec<u8>, AllocError>
-    ensures { IfOk result (λ bytes. bytes.items ≡ without_d request.now) }
-{
-    let mut bytes = Vec::from_slice(alloc, request)?;
-    if !bytes.is_empty() {
-        bytes[0] &= !DDT;
-    }
-    Ok(bytes)
 }

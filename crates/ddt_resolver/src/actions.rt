@@ -1,10 +1,10 @@
 //! What is done with a reply, by the record's action (RFC 8111, sections 6.1 and 7.3).
 
-ghost use Rattle.std.specs.Prelude.{◌≡◌, ◌<◌, IsTrue, false, IfOk, OnErr};
+ghost use Rattle.std.specs.Prelude.{◌≡◌, ◌<◌, IsTrue, IfOk, OnErr};
 ghost use Rattle.ddt_path.specs.declared.action.Action.TheVariants as act;
 ghost use Rattle.ddt_resolver.specs.State.{moved, last_nonce};
 ghost use Rattle.ddt_path.specs.Actions.{IsReferral};
-ghost use Rattle.ddt_resolver.specs.Records.{IsBelow, outcome_of};
+ghost use Rattle.ddt_resolver.specs.Records.{outcome_of};
 ghost use Rattle.ddt_resolver.specs.Act.{Act, HearStep, HearWants, Saves};
 ghost use Rattle.ddt_resolver.specs.Acting.{IsHeard, IsAnswered, IsSmall, SendsOn};
 ghost use Rattle.ddt_resolver.specs.Order.{IsLookup};
@@ -13,12 +13,13 @@ ghost use Rattle.ddt_cache.specs.Saved.{is_saved};
 ghost use Rattle.ddt_resolver.specs.Bound.{ComesNearer, GoesDown};
 
 use crate::answers::{Heard, Ticket, Why};
+use crate::loop_detection::is_below;
 use crate::pending::Pending;
 use crate::replies::Taken;
 use crate::requests::Change;
 use crate::resolver::Resolver;
 use ddt_cache::{Entry, Moment};
-use ddt_path::{Action, Locator, Outcome, Prefix, ReferralRecord};
+use ddt_path::{Action, Locator, Outcome, ReferralRecord};
 use ddt_trie::PrefixMap;
 use std::alloc::AllocError;
 
@@ -165,17 +166,6 @@ impl<M: PrefixMap<Entry>> Resolver<M> {
         }
         let outgoing = self.lodge(ticket, lookup, change)?;
         Ok(Heard::Followed(Ticket::of(ticket), outgoing))
-    }
-}
-
-/// Whether a prefix is longer than the saved one, where one is saved.
-fn is_below(saved: Option<Prefix>, prefix: Prefix) -> bool
-    ensures yes { IsTrue result → IsBelow saved prefix }
-    ensures no { result ≡ false → IsBelow saved prefix → ⊥ }
-{
-    match saved {
-        Some(saved) => saved.len() < prefix.len(),
-        None => true,
     }
 }
 

@@ -1,8 +1,8 @@
 //! A resolver of RFC 8111, section 7.3, as a machine of steps: an ask, a datagram, a tick. It sends nothing itself:
 //! each call answers what is to be sent, and learns the time from its caller.
 //!
-//! In reading order: `answers`, `limits`, `pending`, `waiting`, `table`, `resolver`, `asks`, `replies`, `actions`,
-//! `ticks`, `step`, `requests`, `laws`; `itrs` is the side that ITRs see.
+//! In reading order: `answers`, `limits`, `pending`, `waiting`, `table`, `resolver`, `asks`, `replies`,
+//! `loop_detection`, `actions`, `ticks`, `step`, `requests`, `laws`; `itrs` is the side that ITRs see.
 #![tactic(auto)]
 
 mod actions;
@@ -11,6 +11,7 @@ mod asks;
 mod itrs;
 mod laws;
 mod limits;
+mod loop_detection;
 mod pending;
 mod replies;
 mod requests;

@@ -4,7 +4,7 @@ use Rattle.std.specs.Prelude.{List, [], ◌∷◌, ◌++◌, length, All, count_
 use Rattle.ddt_path.specs.declared.locator.Locator.{Locator}
 use Rattle.ddt_config.specs.Table.{Outline}
 use Rattle.ddt_ecm.specs.UdpHeader.{control_port}
-use Rattle.ddt_node.specs.declared.datagram.Forward.{Forward}
+use Rattle.ddt_node.specs.declared.forward.Forward.{Forward}
 use Rattle.ddt_node.specs.declared.datagram.Handled.{Handled}
 use Rattle.ddt_node.specs.Server.{ddt_request, handled}
 use Rattle.ddt_wires.specs.declared.call.Call.{Call}

@@ -8,7 +8,7 @@ use Rattle.std.specs.Prelude.{Bool, true, false, cond, Option, Some, None, Resul
 use Rattle.std.specs.Int.{from_bool}
 use Rattle.ddt_path.specs.declared.locator.Locator.{Locator}
 use Rattle.ddt_config.specs.Table.{Outline}
-use Rattle.ddt_node.specs.declared.datagram.Forward.{Forward}
+use Rattle.ddt_node.specs.declared.forward.Forward.{Forward}
 use Rattle.ddt_wires.specs.declared.call.Call.{Call}
 use Rattle.ddt_wires.specs.declared.call.Call.TheVariants.{Tried}
 use Rattle.ddt_wires.specs.declared.call.NetFault.{NetFault}

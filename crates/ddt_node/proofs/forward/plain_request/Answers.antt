@@ -2,8 +2,8 @@ use Rattle.std.proofs.Common.{◌≡◌, ◌<◌, List, ℕ, get_or, length, ◌
 use Rattle.std.specs.Prelude.{vec_len}
 use Rattle.ddt_node.specs.Server.{without_d}
 use Rattle.ddt_node.proofs.BitLemmas.{without_d-set, without_d-empty}
-use Rattle.ddt_node.proofs.datagram.plain_request.Goals as goal
-use Rattle.ddt_node.proofs.datagram.plain_request.Goals.{then-not-is_empty, else-not-is_empty}
+use Rattle.ddt_node.proofs.forward.plain_request.Goals as goal
+use Rattle.ddt_node.proofs.forward.plain_request.Goals.{then-not-is_empty, else-not-is_empty}
 
 pub returns : goal.returns
 returns c =

@@ -9,7 +9,8 @@ use Rattle.ddt_resolver.specs.declared.answers.Asked.TheVariants as asked_as
 use Rattle.ddt_resolver.specs.declared.answers.Heard.TheVariants as heard_as
 use Rattle.ddt_resolver.specs.declared.answers.Ticked.TheVariants as ticked_as
 use Rattle.ddt_resolver.specs.State.{State, fresh}
-use Rattle.ddt_resolver.specs.Step.{Reply, ToAsk, ToDatagram, ToTick}
+use Rattle.ddt_resolver.specs.declared.step.Reply.{Reply}
+use Rattle.ddt_resolver.specs.declared.step.Reply.TheVariants.{ToAsk, ToDatagram, ToTick}
 use Rattle.ddt_sim.specs.declared.schedule.Step.{Step}
 use Rattle.ddt_sim.specs.declared.schedule.Event.{Event}
 use Rattle.ddt_sim.specs.World.{World, Members, members, at_place, by_reply, by_silence, WorldStep, event_of, request_at, sent_for, resolves, serves, not_sent, passes, replaces, no_member}

@@ -84,13 +84,13 @@ abbrev pub tries_before : Event → List Try → List Try
 tries_before (Ticked h) earlier = earlier
 tries_before _ earlier = []
 
--- the tries of a ticket, where the request of one may be among these
+-- the tries of a ticket: these, where a request is sent for it, and otherwise the earlier ones
 abbrev pub tries_by : ℕ → Progress → List Try → List Try → List Try
 tries_by t (progress.Sends u d) these earlier = if u == t then these else earlier
 tries_by t progress.Stays these earlier = earlier
 tries_by t (progress.Ends u end) these earlier = earlier
 
--- The tries of a ticket after one more event.
+-- the tries of a ticket after one more event
 abbrev pub tries_after : ℕ → Event → Try → List Try → List Try
 tries_after t event this earlier = tries_by t (progress_at event) (this ∷ tries_before event earlier) earlier
 

@@ -1,4 +1,4 @@
-use Rattle.ddt_sim.proofs.FollowLemmas.{on_its_way, goes_on, fewer_left, ends_with, ends_within, ends_well, fails_under, fails_well}
+use Rattle.ddt_sim.proofs.ExchangeLemmas.{on_its_way, goes_on, fewer_left, ends_with, ends_within, ends_well, fails_under, fails_well}
 use Rattle.ddt_sim.proofs.looking_up.follow.Goals as goal
 
 pub loop-next-init : goal.loop-next-init

@@ -1,5 +1,5 @@
 use Rattle.ddt_sim.specs.Waiting.{requests_left}
-use Rattle.ddt_sim.proofs.FollowLemmas.{IsOnItsWay}
+use Rattle.ddt_sim.proofs.ExchangeLemmas.{IsOnItsWay}
 use Rattle.ddt_sim.proofs.looking_up.follow.Given as goal
 
 -- the lookup is on its way from where it began

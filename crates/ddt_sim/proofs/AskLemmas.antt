@@ -1,7 +1,6 @@
 -- An ask, and the lookup that it opens.
 use Rattle.std.proofs.Common.{◌≡◌, ℕ, ◌≤◌, [], Some, Result, Ok, Err, refl, sym, ap, ◌∙◌, arith}
 use Rattle.std.specs.Prelude.{IsTrue, IfErr}
-use Rattle.std.specs.FinMap.{len}
 use Rattle.std.proofs.lemmas.Option.{none-some, same_Some}
 use Rattle.ddt_path.specs.declared.xeid.Xeid.{Xeid}
 use Rattle.ddt_path.specs.Path.{xeid_path, is_path}
@@ -15,7 +14,7 @@ use Rattle.ddt_resolver.specs.declared.answers.Asked.{Asked}
 use Rattle.ddt_resolver.specs.declared.answers.Asked.TheVariants.{Answer, Sent}
 use Rattle.ddt_resolver.specs.declared.answers.AskError.{AskError}
 use Rattle.ddt_resolver.specs.declared.answers.AskError.TheVariants as ask_error
-use Rattle.ddt_resolver.specs.State.{State, moved, dropped, last_nonce, most_pending}
+use Rattle.ddt_resolver.specs.State.{State, moved, dropped}
 use Rattle.ddt_resolver.specs.AskStep as ask
 use Rattle.ddt_resolver.specs.AskStep.{AskStep, AskWants, Start, UnlessMemory, OnMemory, answer_of}
 use Rattle.ddt_resolver.specs.Order.{IsInOrder}
@@ -25,13 +24,13 @@ use Rattle.ddt_resolver.specs.laws.Order.{order_moved}
 use Rattle.ddt_resolver.specs.laws.Shape.{moved_by_step}
 use Rattle.ddt_sim.specs.declared.hop.Lookup.{Lookup}
 use Rattle.ddt_sim.specs.declared.hop.LookupError.{LookupError}
-use Rattle.ddt_sim.specs.declared.hop.LookupError.TheVariants.{GaveUp, TooMany, Memory}
+use Rattle.ddt_sim.specs.declared.hop.LookupError.TheVariants.{GaveUp, TooMany}
 use Rattle.ddt_sim.specs.Sound.{IsSound, IsRightAsked, StepsKeepSoundness, TimeKeepsSoundness}
 use Rattle.ddt_sim.specs.Waiting.{CanBeAsked, IsAwaited}
 use Rattle.ddt_sim.specs.Lookup.{IsRemembered, Reaches, sent, Fails, too_many, used_up, unasked, ask_failure}
 use Rattle.ddt_sim.specs.Headline.{IsUnderWay, IsAsked, IsRightlyAsked, IsRightlyEnded, IsRightFailure, IsRightError}
 use Rattle.ddt_sim.proofs.SoundLemmas.{sound_dropped}
-use Rattle.ddt_sim.proofs.WaitingLemmas.{asked_waits, opened_by}
+use Rattle.ddt_sim.proofs.WaitingLemmas.{asked_waits, does_ask}
 
 -- ---- a remembered answer is given
 
@@ -49,9 +48,8 @@ module _ {x : Xeid} {s : State} (kept : IsRemembered x s) where
       by (ask.opened free same f) = absurd (none-some _ (sym free.unanswered ∙ its_answer step.found))
 
   pub not_refused : (new : State) (error : AskError) → UnlessMemory (Err error) (AskStep s x new (Err error)) → OnMemory (Err error) ((new ≡ s) × AskWants s x) → ⊥
-  not_refused new ask_error.TooMany step wants = cc (given step)
-  not_refused new ask_error.Exhausted step wants = cc (given step)
   not_refused new ask_error.Memory step wants = none-some _ (sym wants.1.free.unanswered ∙ its_answer wants.1.found)
+  not_refused new _ step wants = cc (given step)
 
 -- ---- a refused ask is an error of the lookup
 
@@ -62,20 +60,8 @@ refused_fails ask_error.Exhausted step wants = used_up step refl
 refused_fails ask_error.Memory step wants = unasked wants.1 wants.0 refl
 
 pub refused_is_right : (now : ℕ) (x : Xeid) (s new : State) (error : AskError) → UnlessMemory (Err error) (AskStep (moved now s) x new (Err error)) → IsRightError s new (ask_failure error)
-refused_is_right now x s new ask_error.TooMany step = full step.start
-  where
-    full : Start (moved now s) x step.prefix step.entry new (Err ask_error.TooMany) → most_pending ≤ len s.pending
-    full (ask.cached o answer same is) = cc is
-    full (ask.full none many same is) = many
-    full (ask.used_up none few over same is) = cc is
-    full (ask.opened free same is) = cc is
-refused_is_right now x s new ask_error.Exhausted step = (refl, used step.start)
-  where
-    used : Start (moved now s) x step.prefix step.entry new (Err ask_error.Exhausted) → new.next ≡ last_nonce
-    used (ask.cached o answer same is) = cc is
-    used (ask.full none many same is) = cc is
-    used (ask.used_up none few over same is) = rw same over
-    used (ask.opened free same is) = cc is
+refused_is_right now x s new ask_error.TooMany step = does_ask step
+refused_is_right now x s new ask_error.Exhausted step = (refl, does_ask step)
 refused_is_right now x s new ask_error.Memory step = tt
 
 -- ---- over a sound resolver
@@ -87,9 +73,8 @@ module _ (keeps : StepsKeepSoundness) (time : TimeKeepsSoundness) {r : Register}
 
   -- it stays sound where the ask is refused
   pub ask_keeps_sound : (error : AskError) → UnlessMemory (Err error) (AskStep (moved now s) x new (Err error)) → OnMemory (Err error) ((new ≡ moved now s) × AskWants (moved now s) x) → IsSound r new
-  ask_keeps_sound ask_error.TooMany step wants = (kept step).0
-  ask_keeps_sound ask_error.Exhausted step wants = (kept step).0
   ask_keeps_sound ask_error.Memory step wants = rw wants.0 (time r s now sound)
+  ask_keeps_sound _ step wants = (kept step).0
 
   -- and is asked rightly
   pub rightly_asked : {a : Asked} → AskStep (moved now s) x new (Ok a) → CanBeAsked x new.me → IsRightlyAsked r now x new a
@@ -106,10 +91,10 @@ module _ {now : ℕ} {s : State} {a : Asked} {t : ℕ} {d : Outgoing} (is : a �
   reached_by_ask step = sent t d s (rw is at step)
 
   pub awaited_by_ask : IsAsked now s a → IsAwaited now s t d
-  awaited_by_ask asked = record { identifier = asked.identifier; waits = asked_waits (omega arith) (opened_by (rw is at asked.step)) }
+  awaited_by_ask asked = record { identifier = asked.identifier; waits = asked_waits (omega arith) (does_ask (rw is at asked.step)) }
 
   pub under_way : {r : Register} {x : Xeid} → IsRightlyAsked r now x s a → IsUnderWay r now x s t d
-  under_way asked = record { accepted = asked.accepted; sound = asked.sound; waits = asked_waits (omega arith) (opened_by (rw is at asked.step)); fits = asked.fits }
+  under_way asked = record { accepted = asked.accepted; sound = asked.sound; waits = asked_waits (omega arith) (does_ask (rw is at asked.step)); fits = asked.fits }
 
 -- its removal after an error leaves what it gives as it is
 pub removed_well : {r : Register} {x : Xeid} {me : _} {error : LookupError} {s new : State} (t : ℕ) → IsRightlyEnded r x me (Err error) s → new ≡ dropped s t → IsRightlyEnded r x me (Err error) new
@@ -117,12 +102,9 @@ removed_well {r = r} {error = error} {s = s} t e same = rw same (record { sound 
   where
     by : (error : LookupError) → IsRightFailure s error → IsRightFailure (dropped s t) error
     by (GaveUp why) f = f
-    by TooMany f = f
-    by Memory f = f
+    by _ f = f
 
 -- a failure of a request is one of a lookup
 pub failure_is_error : (old new : State) (res : Result Lookup LookupError) → IfErr res (IsRightFailure new) → IfErr res (IsRightError old new)
-failure_is_error old new (Ok l) f = f
-failure_is_error old new (Err (GaveUp why)) f = f
 failure_is_error old new (Err TooMany) f = absurd f
-failure_is_error old new (Err Memory) f = f
+failure_is_error old new _ f = f

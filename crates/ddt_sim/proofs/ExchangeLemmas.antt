@@ -1,7 +1,7 @@
--- One request of a lookup and what comes back.
-use Rattle.std.proofs.Common.{◌≡◌, ℕ, ◌<◌, ◌≤◌, ◌^◌, ◌⊎◌, true, List, [], ◌∷◌, ◌++◌, Option, Some, None, Result, Ok, Err, inl, inr, refl, ap, subst, ◌∙◌, arith}
+-- One request of a lookup and what comes back, and the lookup that follows replies until it ends.
+use Rattle.std.proofs.Common.{◌≡◌, ℕ, ◌<◌, ◌≤◌, ◌^◌, true, List, [], ◌∷◌, ◌++◌, Option, Some, None, Result, Ok, Err, inl, inr, refl, ap, subst, ◌∙◌, arith, ◌+◌, length, length-append}
 use Rattle.std.specs.Prelude.{IfOk, MatchOption}
-use Rattle.std.proofs.lemmas.List.Elements.{All-push}
+use Rattle.std.proofs.lemmas.List.Elements.{All-push, All-nil}
 use Rattle.std.specs.declared.alloc.AllocError.{AllocError}
 use Rattle.ddt_path.specs.declared.xeid.Xeid.{Xeid}
 use Rattle.ddt_path.specs.Path.{xeid_path}
@@ -16,7 +16,6 @@ use Rattle.ddt_resolver.specs.declared.answers.Outgoing.{Outgoing}
 use Rattle.ddt_resolver.specs.declared.answers.Heard.{Heard}
 use Rattle.ddt_resolver.specs.declared.answers.Heard.TheVariants as heard
 use Rattle.ddt_resolver.specs.declared.answers.Why.{Why}
-use Rattle.ddt_resolver.specs.declared.answers.Why.TheVariants.{Loop, NotAuthoritative as NobodyInCharge, Exhausted}
 use Rattle.ddt_resolver.specs.State.{State, moved}
 use Rattle.ddt_resolver.specs.Step as steps
 use Rattle.ddt_resolver.specs.Bound.{measure, ComesNearer}
@@ -30,29 +29,21 @@ use Rattle.ddt_sim.specs.declared.hop.LookupError.TheVariants.{GaveUp, Memory}
 use Rattle.ddt_sim.specs.declared.exchange.Turn.{Turn}
 use Rattle.ddt_sim.specs.declared.exchange.Turn.TheVariants.{GoesOn, Ends}
 use Rattle.ddt_sim.specs.Honest.{IsServer, IsHonestReply}
-use Rattle.ddt_sim.specs.Sound.{IsSound, IsRightWhy, IsRightHeard, StepsKeepSoundness, TimeKeepsSoundness}
-use Rattle.ddt_sim.specs.Waiting.{Waits, requests_left, left_after}
-use Rattle.ddt_sim.specs.Lookup.{IsNotFor, IsTurn, TurnFails, gave_up, unanswered, not_taken, stopped, heard_of, hop_of, reply_or_failure, turn_or_failure}
-use Rattle.ddt_sim.specs.Headline.{IsUnderWay, IsHonestHop, IsRightTurn, IsRightFailure, IsRightlyTurned}
+use Rattle.ddt_sim.specs.Sound.{IsSound, IsRightHeard, StepsKeepSoundness, TimeKeepsSoundness}
+use Rattle.ddt_sim.specs.Waiting.{Waits, requests_left, left_after, IsAwaited}
+use Rattle.ddt_sim.specs.Lookup.{IsNotFor, IsTurn, TurnFails, gave_up, unanswered, not_taken, stopped, heard_of, hop_of, reply_or_failure, turn_or_failure, Reaches, followed, FailsUnder, HasOutcome, by_reply}
+use Rattle.ddt_sim.specs.Headline.{IsUnderWay, IsHonestHop, IsRightTurn, IsRightFailure, IsRightlyTurned, WhileUnderWay, IsRightlyEnded}
 use Rattle.ddt_sim.specs.Reply.{IsWellHeard, IsUnderstood}
+use Rattle.std.specs.List.{All}
+use Rattle.ddt_path.specs.declared.record.Outcome.{Outcome}
 use Rattle.ddt_sim.proofs.ServerLemmas.{asks_a_server}
-use Rattle.ddt_sim.proofs.WaitingLemmas.{does, waits_on, followed_waits, spelled_request}
+use Rattle.ddt_sim.proofs.WaitingLemmas.{does, waits_on, followed_waits, spelled_request, Follows, followed_me}
 use Rattle.ddt_sim.proofs.ReplyLemmas.{IsFor, RepliesAreRead, honest_reply_is_fair, honest_reply_is_taken}
 
 -- what is for a ticket is not for another
 for_is_own : (t : ℕ) (h : Heard) → IsFor t h → IsNotFor t h → ⊥
 for_is_own t (heard.Ignored why) own other = own
-for_is_own t (heard.Followed u d) own other = other own
-for_is_own t (heard.Answer u o) own other = other own
-for_is_own t (heard.GaveUp u why) own other = other own
-
--- where a lookup gives up rightly after a reply, no nonce is left
-only_used_up : {why : Why} {Used : Type 0} → IsRightWhy why → (why ≡ Loop) ⊎ (why ≡ NobodyInCharge) ⊎ ((why ≡ Exhausted) × Used) → (why ≡ Exhausted) × Used
-only_used_up right (inr (inr used)) = used
-only_used_up (inl a) (inl b) = cc (a, b)
-only_used_up (inr a) (inl b) = cc (a, b)
-only_used_up (inl a) (inr (inl b)) = cc (a, b)
-only_used_up (inr a) (inr (inl b)) = cc (a, b)
+for_is_own t _ own other = other own
 
 -- ---- the reply of an honest server
 
@@ -73,7 +64,8 @@ module _ (r : Register) (now : ℕ) (x : Xeid) (s : State) (t : ℕ) (d : Outgoi
       own = for_is_own t h (honest_reply_is_taken r laws order w reply spells step);
       sound = kept.0;
       outcome = λ v e. (rw e at kept.1) w.lookup w.is_pending ∙ ap (λ y. assignment r (xeid_path y)) w.its_x;
-      why = λ v e. only_used_up (rw e at kept.1) (does (subst (HearStep (moved now s) d.to reply new) e step));
+      why = λ v e. let gave = does (subst (HearStep (moved now s) d.to reply new) e step) in
+          elim (rw e at kept.1) [ inl none ↦ absurd (gave.0 none) | inr over ↦ (over, gave.1 over) ];
       hop = (w.lookup.nonce, w.bytes, spells);
     }
 
@@ -98,8 +90,7 @@ pub record Came (honest : Register → Type 0) (now : ℕ) (s : State) (d : Outg
 
 answered : (P : Option (List ℕ) → Type 0) (answer : Result (Option (List ℕ)) AllocError) {reply : List ℕ} → Ok reply ≡ reply_or_failure answer → IfOk answer P → P (Some reply)
 answered P (Ok (Some came)) {reply = reply} e is = let same : reply ≡ came = cc e in rw same is
-answered P (Ok None) e is = absurd (cc e)
-answered P (Err refused) e is = absurd (cc e)
+answered P _ e is = absurd (cc e)
 
 module _ (d : Outgoing) (answer : Result (Option (List ℕ)) AllocError) {honest : Register → Type 0} {sent : List ℕ} (same : sent ≡ d.bytes)
     (says : (r : Register) (m : Message) → honest r → IsServer r d.to → IsDdtRequest sent m → IfOk answer (IsHonestReply r d.to m)) where
@@ -131,8 +122,7 @@ IsOwn t h own = MatchOption own (IsNotFor t h) (λ o. h ≡ heard_of t o)
 
 pub taken_is : (t : ℕ) {h : Heard} (own : Option (Result Turn Why)) {turn : Turn} → IsOwn t h own → Ok turn ≡ turn_or_failure own → h ≡ heard_of t (Ok turn)
 taken_is t (Some (Ok same)) is e = is ∙ ap (λ (v : Turn). heard_of t (Ok v)) (cc e)
-taken_is t (Some (Err why)) is e = cc e
-taken_is t None is e = cc e
+taken_is t _ is e = cc e
 
 module _ {honest : Register → Type 0} {now : ℕ} {s : State} {t : ℕ} {d : Outgoing} {reply : List ℕ} {new : State} {h : Heard} (came : Came honest now s d reply new h) where
   pub untaken_fails : (own : Option (Result Turn Why)) {error : LookupError} → IsOwn t h own → Err error ≡ turn_or_failure own → TurnFails now s t d error new
@@ -174,3 +164,84 @@ turn_is_nearer {now = now} {s = s} {new = new} {source = source} {bytes = bytes}
     let closer : measure on.lookup < measure w.lookup = (rw is at near) w.lookup on.lookup w.is_pending on.is_pending in
     rw (w.is_pending, on.is_pending) closer
 turn_is_nearer (Ends v) o step near is w = let place = (o.lookups _ w.lookup w.is_pending).lookup.place in rw w.is_pending (omega arith)
+
+-- ---- a lookup that follows replies until it ends
+
+-- What holds of a lookup on its way: it was asked for by d0 in the state s0 and has come to d in the state s. `before` says
+-- for which registers the servers were honest when it began, `honest` for which they are.
+pub record IsOnItsWay (before honest : Register → Type 0) (now : ℕ) (s0 : State) (t : ℕ) (d0 : Outgoing) (hops : List Hop) (s : State) (d : Outgoing) : Type 0 where
+  pub awaited : IsAwaited now s t d
+  pub reaches : (x : Xeid) (start : State) → Reaches now x start [] t d0 s0 → Reaches now x start hops t d s
+  pub under : (r : Register) (x : Xeid) → before r → IsUnderWay r now x s0 t d0 → IsUnderWay r now x s t d
+  pub fair : (r : Register) (x : Xeid) → before r → IsUnderWay r now x s0 t d0 → All (IsHonestHop r x s0.me) hops
+  pub stay : (r : Register) → before r → honest r
+  pub me : s.me ≡ s0.me
+  pub left : length hops + requests_left s t ≤ requests_left s0 t
+
+-- at the start
+pub on_its_way : (honest : Register → Type 0) {now : ℕ} {s : State} {t : ℕ} {d : Outgoing} {hops : List Hop} → hops ≡ [] → IsAwaited now s t d → IsOnItsWay honest honest now s t d hops s d
+on_its_way honest {s = s} none waits = rw none (record {
+  awaited = waits;
+  reaches = λ x start reached. reached;
+  under = λ r x is u. u;
+  fair = λ r x is u. All-nil (IsHonestHop r x s.me);
+  stay = λ r is. is;
+  me = refl;
+  left = omega arith;
+})
+
+module _ {before honest : Register → Type 0} {now : ℕ} {s0 : State} {t : ℕ} {d0 : Outgoing} {hops : List Hop} {s : State} {d : Outgoing} (w : IsOnItsWay before honest now s0 t d0 hops s d) where
+  -- it fails
+  pub fails_under : {error : LookupError} {new : State} → TurnFails now s t d error new → (x : Xeid) (start : State) → Reaches now x start [] t d0 s0 → FailsUnder now x start t error new
+  fails_under fails x start reached = record { hops = hops; request = d; state = s; reaches = w.reaches x start reached; fails = fails }
+
+  pub fails_well : {error : LookupError} {more : List Hop} {new : State} → WhileUnderWay honest now s t d (λ r x. IsRightlyTurned r x s.me hops (Err error) more new)
+      → WhileUnderWay before now s0 t d0 (λ r x. IsRightlyEnded r x s0.me (Err error) new)
+  fails_well well r x honest u = let v = well r x (w.stay r honest) (w.under r x honest u) in record { sound = v.sound; right = tt; failure = v.failure; fair = tt }
+
+  module _ {turn : Turn} {more : List Hop} {new : State} (is_turn : IsTurn now s t d hops turn more new) where
+    module _ (near : (x : Xeid) → Waits now x s t d → left_after new t turn < requests_left s t) where
+      within : length more + left_after new t turn ≤ requests_left s0 t
+      within =
+          let a = w.left in let b = near w.awaited.identifier w.awaited.waits in
+          let c : length more ≡ length hops + 1 = ap length is_turn.hop ∙ length-append hops (hop_of d is_turn.reply ∷ []) in omega arith
+
+      -- within its requests
+      pub ends_within : {kept : List Hop} → kept ≡ more → length kept ≤ requests_left s0 t
+      ends_within same = let a = within in let b = ap length same in omega arith
+
+      -- with fewer requests left
+      pub fewer_left : {e : Outgoing} → turn ≡ GoesOn e → requests_left new t < requests_left s t
+      fewer_left is = subst (λ v. left_after new t v < requests_left s t) is (near w.awaited.identifier w.awaited.waits)
+
+    -- it ends
+    pub ends_with : {o : Outcome} {kept : List Hop} → turn ≡ Ends o → kept ≡ more → (x : Xeid) (start : State) → Reaches now x start [] t d0 s0 → HasOutcome now x start o kept new
+    ends_with is same x start reached = rw same (by_reply (w.reaches x start reached) (rw is at is_turn))
+
+    module _ (well : WhileUnderWay honest now s t d (λ r x. IsRightlyTurned r x s.me hops (Ok turn) more new)) where
+      turned : (r : Register) (x : Xeid) → before r → IsUnderWay r now x s0 t d0 → IsRightlyTurned r x s0.me hops (Ok turn) more new
+      turned r x is u = subst (λ me. IsRightlyTurned r x me hops (Ok turn) more new) w.me (well r x (w.stay r is) (w.under r x is u))
+
+      -- rightly
+      pub ends_well : {o : Outcome} {kept : List Hop} → turn ≡ Ends o → kept ≡ more → WhileUnderWay before now s0 t d0 (λ r x. IsRightlyEnded r x s0.me (Ok (record { outcome = o; hops = kept })) new)
+      ends_well is same r x honest u = let v = turned r x honest u in
+          record { sound = v.sound; right = subst (IsRightTurn r x) is v.turn; failure = tt; fair = rw same (v.hops (w.fair r x honest u)) }
+
+      -- it goes on
+      pub goes_on : {e : Outgoing} {after : Register → Type 0} → turn ≡ GoesOn e → ((x : Xeid) → Waits now x s t d → left_after new t turn < requests_left s t) → ((r : Register) → honest r → after r)
+          → IsOnItsWay before after now s0 t d0 more new e
+      goes_on {e = e} is near stay = record {
+        awaited = record { identifier = w.awaited.identifier; waits = followed_waits w.awaited.waits follows };
+        reaches = λ x start reached. rw is_turn.hop (followed is_turn.reply e new (w.reaches x start reached) step);
+        under = λ r x honest u0. let u = w.under r x honest u0 in record { accepted = u.accepted; sound = (turned r x honest u0).sound; waits = followed_waits u.waits follows; fits = rw (followed_me follows) u.fits };
+        fair = λ r x honest u0. (turned r x honest u0).hops (w.fair r x honest u0);
+        stay = λ r honest. stay r (w.stay r honest);
+        me = followed_me follows ∙ w.me;
+        left = subst (λ v. length more + left_after new t v ≤ requests_left s0 t) is (within near);
+      }
+        where
+          step : HearStep (moved now s) d.to is_turn.reply new (heard_of t (Ok (GoesOn e)))
+          step = subst (λ v. HearStep (moved now s) d.to is_turn.reply new (heard_of t (Ok v))) is is_turn.step
+
+          follows : Follows (moved now s) d.to is_turn.reply t new e
+          follows = does step

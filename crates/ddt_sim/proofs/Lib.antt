@@ -1,9 +1,6 @@
 pub mod AskLemmas
 pub mod CompiledLemmas
 pub mod ExchangeLemmas
-pub mod FollowLemmas
-pub mod PassLemmas
-pub mod SecondPassLemmas
 pub mod ReplyLemmas
 pub mod GroundLemmas
 pub mod RunLemmas

@@ -84,19 +84,16 @@ module _ (r : Register) (laws : ShortLaws r) (x : Xeid) (id : IsTrue (is_path (x
   -- once each server that is left says MS-NOT-REGISTERED, only they are asked
   in_set : {saved start : Option (List ℕ)} {left : List Locator} {hops : List Hop} → IsTrail x me roots outcome saved start left hops → All honest hops
       → ((k : Locator) → IsTrue (lists left k) → (said k).action ≡ MsNotRegistered) → length hops ≤ length left
-  in_set (trail.ends rec to k is) all same = omega arith
-  in_set (trail.concludes rec to k is) all same = omega arith
   in_set (trail.passes_on {left = rest} {hop = hop} {more = more} rec to k after) all same =
       let ih : length more ≤ length rest = in_set after (All-tail honest hop more all) (λ m listed. same m (or_right _ _ listed)) in omega arith
   in_set (trail.refers {l = l} {left = rest} {more = more} rec to k lower after) all same =
       let is = rw (← told more to all) at (same l (listed_first l rest)) in elim k [ inl a ↦ cc (a, is) | inr a ↦ cc (a, is) ]
   in_set (trail.starts_over {l = l} {left = rest} {more = more} p rec to k after) all same = let is = rw (← told more to all) at (same l (listed_first l rest)) in cc (k, is)
+  in_set _ all same = omega arith
 
   -- From the servers of a zone: 8 hops at most, and one more for each longer zone.
   down : {saved start : Option (List ℕ)} {left : List Locator} {hops : List Hop} → IsTrail x me roots outcome saved start left hops → All honest hops → (z : Zone) → Contains r.zones z → IsTrue (covers z.prefix (xeid_path x))
       → left ≡ locators_of r z.group → length left ≤ 8 → length hops ≤ 8 + deeper r (xeid_path x) (length z.prefix)
-  down (trail.ends rec to k is) all z among over set few = omega arith
-  down (trail.concludes rec to k is) all z among over set few = omega arith
   down (trail.passes_on {l = l} {left = rest} {hop = hop} {more = more} rec to k after) all z among over set few =
       let stays : length more ≤ length rest = in_set after (All-tail honest hop more all) (λ m listed. rw (laws.agree z.group m l (xeid_path x) (own m (or_right _ _ listed)) (own l (listed_first l rest)), ← told more to all) k) in omega arith
     where
@@ -119,6 +116,7 @@ module _ (r : Register) (laws : ShortLaws r) (x : Xeid) (id : IsTrue (is_path (x
       less = fewer_deeper r (xeid_path x) (length z.prefix) child.0 child.1 child.2 (rw child.3 at ((laws.keeps.downwards z l (xeid_path x) among over (rw (← set) (listed_first l rest))).1 refers))
   down (trail.starts_over {l = l} {left = rest} {more = more} p rec to k after) all z among over set few =
       absurd ((laws.keeps.downwards z l (xeid_path x) among over (rw (← set) (listed_first l rest))).0 (rw (told more to all) at k))
+  down _ all z among over set few = omega arith
 
 -- a zone that covers x is not deeper than itself
 zone_counts : (r : Register) (x : List ℕ) (z : Zone) → Contains r.zones z → IsTrue (covers z.prefix x) → deeper r x (length z.prefix) < zones_over r x

@@ -1,16 +1,15 @@
 -- Each step keeps a resolver sound, and answers what the register assigns.
 use Rattle.std.proofs.Common.{◌≡◌, ℕ, ◌<◌, Bool, cond, true, false, List, length, Some, None, refl, sym, ap, ◌∙◌, subst, arith, inl, inr, ◌⊎◌, Contains}
-use Rattle.std.specs.Prelude.{◌≢◌, IsTrue, max, Result}
+use Rattle.std.specs.Prelude.{◌≢◌, IsTrue, max}
 use Rattle.std.specs.FinMap.{get, insert}
 use Rattle.std.proofs.lemmas.Option.{none-some, same_Some}
 use Rattle.std.proofs.lemmas.Bool.{false≢true}
 use Rattle.ddt_path.specs.declared.locator.Locator.{Locator}
-use Rattle.ddt_path.specs.declared.record.Role.{Role}
 use Rattle.ddt_path.specs.declared.record.Role.TheVariants.{Node, Ms}
 use Rattle.ddt_path.specs.declared.action.Action.{Action}
 use Rattle.ddt_path.specs.declared.action.Action.TheVariants.{MsAck, MsNotRegistered, DelegationHole, NotAuthoritative}
 use Rattle.ddt_path.specs.declared.record.Outcome.{Outcome}
-use Rattle.ddt_path.specs.declared.record.Outcome.TheVariants.{Registered, NotRegistered, Hole}
+use Rattle.ddt_path.specs.declared.record.Outcome.TheVariants.{Registered, NotRegistered}
 use Rattle.ddt_path.specs.declared.record.ReferralRecord.{ReferralRecord}
 use Rattle.ddt_path.specs.declared.xeid.Xeid.{Xeid}
 use Rattle.ddt_path.specs.Records.{record_of, referral_action}
@@ -24,7 +23,7 @@ use Rattle.ddt_register.specs.declared.zone.Zone.{Zone}
 use Rattle.ddt_register.specs.declared.register.Register.{Register}
 use Rattle.ddt_check.specs.Zones.{locators_of}
 use Rattle.ddt_check.specs.Assignment.{assignment}
-use Rattle.ddt_check.specs.Says.{says, referral_to}
+use Rattle.ddt_check.specs.Says.{says}
 use Rattle.ddt_check.specs.laws.Statements.{IsFinal, IsItsZone, negative_prefix, EachIdentifierHasOneZone, TheRootIsServed, ServersReferDownwards, ReferralsAreToZones, FinalAnswersAreTheAssignment, RegisteredPrefixesAreSites, NegativesHoldOfAll}
 use Rattle.ddt_trie.specs.laws.Map.{found_after_insert}
 use Rattle.ddt_cache.specs.declared.entry.Entry.{Entry}
@@ -33,10 +32,6 @@ use Rattle.ddt_cache.specs.Found.{IsFound}
 use Rattle.ddt_cache.specs.Saved.{is_saved}
 use Rattle.ddt_cache.specs.laws.Live.{live_at-is}
 use Rattle.ddt_resolver.specs.declared.pending.Pending.{Pending}
-use Rattle.ddt_resolver.specs.declared.answers.Asked.{Asked}
-use Rattle.ddt_resolver.specs.declared.answers.AskError.{AskError}
-use Rattle.ddt_resolver.specs.declared.answers.Heard.{Heard}
-use Rattle.ddt_resolver.specs.declared.answers.Ticked.{Ticked}
 use Rattle.ddt_path.specs.Actions.{IsReferral}
 use Rattle.ddt_resolver.specs.Records.{IsBelow, outcome_at, outcome_of, negative_answer, start_at}
 use Rattle.ddt_resolver.specs.State.{State, moved, server, numbered, lodged, dropped, stored, opening, referred, passed_on, tried_again, at_next}
@@ -76,15 +71,14 @@ unanswered_not_negative MsNotRegistered p ls e h = none-some _ (sym e)
 unanswered_not_negative DelegationHole p ls e h = none-some _ (sym e)
 unanswered_not_negative _ p ls e h = false≢true h
 
-pub referral_not_negative : (k : Role) → is_negative (referral_action k) ≡ false
+pub referral_not_negative : (k : _) → is_negative (referral_action k) ≡ false
 referral_not_negative Node = refl
 referral_not_negative Ms = refl
 
 -- a record of an outcome says that outcome
 pub outcome_back : (o : Outcome) → outcome_of (record_of o) ≡ o
 outcome_back (Registered p s) = refl
-outcome_back (NotRegistered p s) = refl
-outcome_back (Hole p) = refl
+outcome_back _ = refl
 
 -- a record of an outcome that no ETR is registered for is of such a site
 unregistered_is : (o : Outcome) → (record_of o).action ≡ MsNotRegistered → (p : List ℕ) × (servers : List Locator) × (o ≡ NotRegistered p servers)
@@ -102,8 +96,7 @@ kept_is r x rec h = ap (λ (v : ReferralRecord). NotRegistered v.prefix v.server
 
 pub negative_of : (o : Outcome) → IsTrue (is_negative (record_of o).action) → negative_prefix o ≡ Some (record_of o).prefix
 negative_of (Registered p s) e = absurd (false≢true e)
-negative_of (NotRegistered p s) e = refl
-negative_of (Hole p) e = refl
+negative_of _ e = refl
 
 -- ---- changes of a sound state
 
@@ -113,10 +106,11 @@ at_zone : {r : Register} {l : Pending} (z : Zone) → Contains r.zones z → IsT
 at_zone z is over servers saved none =
     record { zone = z; is_zone = is; covers_x = over; servers = servers; saved = saved; kept = λ rec h. absurd (none-some rec (sym none ∙ h)) }
 
--- so is one that differs from a sound one in nothing of this
-same_lookup : {r : Register} {l m : Pending} → IsSoundLookup r l → m.x ≡ l.x → m.servers ≡ l.servers → m.saved ≡ l.saved → m.kept ≡ l.kept → IsSoundLookup r m
-same_lookup i x servers saved kept =
-    record { zone = i.zone; is_zone = i.is_zone; covers_x = rw x i.covers_x; servers = servers ∙ i.servers; saved = rw saved i.saved; kept = rw (kept, x) i.kept }
+-- so is one that differs from a sound one in nothing of this, but for what it keeps
+same_set : {r : Register} {l m : Pending} → IsSoundLookup r l → m.x ≡ l.x → m.servers ≡ l.servers → m.saved ≡ l.saved
+    → ((rec : ReferralRecord) → m.kept ≡ Some rec → IsNotRegistered r (xeid_path l.x) rec) → IsSoundLookup r m
+same_set i x servers saved kept =
+    record { zone = i.zone; is_zone = i.is_zone; covers_x = rw x i.covers_x; servers = servers ∙ i.servers; saved = rw saved i.saved; kept = rw x kept }
 
 module _ (r : Register) (s : State) (i : IsSound r s) where
   pub sound_dropped : (t : ℕ) → IsSound r (dropped s t)
@@ -127,7 +121,7 @@ module _ (r : Register) (s : State) (i : IsSound r s) where
     root = i.root;
     entries = i.entries;
     lookups = λ u m found. elim (found_insert s.pending t (numbered s l) u m found) [
-      | inl e ↦ subst (IsSoundLookup r) e.1 (same_lookup sound refl refl refl refl)
+      | inl e ↦ subst (IsSoundLookup r) e.1 (same_set sound refl refl refl sound.kept)
       | inr e ↦ i.lookups u m e.1
     ];
   }
@@ -175,7 +169,7 @@ module _ (r : Register) (laws : KeepsLaws r) (s : State) (o : IsInOrder s) (i : 
       by (delegates z is same action servers) = absurd (false≢true (sym (ap is_negative action ∙ referral_not_negative z.kind) ∙ own.0))
       by (registers site z is same action its_zone servers) = absurd (false≢true (sym (ap is_negative action) ∙ own.0))
 
-  started : (x : Xeid) (new : State) (a : Result Asked AskError) → IsTrue (is_path (xeid_path x)) → AskStep s x new a → IsSound r new × IsRightAsked r (xeid_path x) a
+  started : (x : Xeid) (new : State) (a : _) → IsTrue (is_path (xeid_path x)) → AskStep s x new a → IsSound r new × IsRightAsked r (xeid_path x) a
   started x new a id step = by step.start
     where
       by : Start s x step.prefix step.entry new a → IsSound r new × IsRightAsked r (xeid_path x) a
@@ -211,12 +205,6 @@ module _ (r : Register) (laws : KeepsLaws r) (s : State) (o : IsInOrder s) (i : 
     gives : IsFinal rec.action → outcome_of rec ≡ assignment r x
     gives k = ap outcome_of (final k) ∙ outcome_back (assignment r x)
 
-    child : IsReferral rec.action → (w : Zone) × Contains r.zones w × IsTrue (covers w.prefix x) × (rec ≡ referral_to r w)
-    child k = laws.to_zones (server s.me l) x k
-
-    referral_entry : IsReferral rec.action → IsTrueEntry r rec.prefix (entry_of s.known.time rec)
-    referral_entry k = let h = child k in rw h.3 (delegates h.0 h.1 refl refl refl)
-
     ack_entry : rec.action ≡ MsAck → IsTrueEntry r rec.prefix (entry_of s.known.time rec)
     ack_entry k =
         let f = final (inl k) in
@@ -233,36 +221,30 @@ module _ (r : Register) (laws : KeepsLaws r) (s : State) (o : IsInOrder s) (i : 
     closed : IsFinal rec.action → IsTrueEntry r rec.prefix (entry_of s.known.time rec) → IsSound r (dropped (stored s rec) t) × IsRightEnd r s t (outcome_of rec)
     closed k entry = (sound_dropped r (stored s rec) (sound_stored r s i rec entry) t, ended (outcome_of rec) (gives k))
 
-    acted : (new : State) (heard : Heard) → Act s t l rec new heard → IsSound r new × IsRightHeard r s heard
+    acted : (new : State) (heard : _) → Act s t l rec new heard → IsSound r new × IsRightHeard r s heard
     acted new heard (acts.loops k loop e f) = absurd (loop (below k))
     acted new heard (acts.refers k lower more e f) =
-        let h = child k in
-        rw (e, f) (sound_lodged r (stored s rec) (sound_stored r s i rec (referral_entry k)) t (referred l rec) (at_zone h.0 h.1 h.2 (rw h.3 refl) (inr (rw h.3 refl)) refl), tt)
+        let h = laws.to_zones (server s.me l) x k in
+        let entry : IsTrueEntry r rec.prefix (entry_of s.known.time rec) = rw h.3 (delegates h.0 h.1 refl refl refl) in
+        rw (e, f) (sound_lodged r (stored s rec) (sound_stored r s i rec entry) t (referred l rec) (at_zone h.0 h.1 h.2 (rw h.3 refl) (inr (rw h.3 refl)) refl), tt)
     acted new heard (acts.acknowledges k e f) = rw (e, f) (closed (inl k) (ack_entry k))
     acted new heard (acts.closes k e f) = rw (e, f) (closed (inr (inr k)) (negative_entry (inr (inr k)) (rw k refl)))
     acted new heard (acts.passes_on k more room e f) =
-        let kept : IsSoundLookup r (passed_on l rec) = record {
-          zone = z.zone;
-          is_zone = z.is_zone;
-          covers_x = z.covers_x;
-          servers = z.servers;
-          saved = z.saved;
-          kept = λ own h. subst (IsNotRegistered r x) (same_Some rec own h) (unregistered_record r x rec (final (inr (inl k))) k);
-        } in
-        rw (e, f) (sound_lodged r s i t (passed_on l rec) kept, tt)
+        let kept = λ (own : ReferralRecord) (h : Some rec ≡ Some own). subst (IsNotRegistered r x) (same_Some rec own h) (unregistered_record r x rec (final (inr (inl k))) k) in
+        rw (e, f) (sound_lodged r s i t (passed_on l rec) (same_set z refl refl refl kept), tt)
     acted new heard (acts.concludes k last e f) = rw (e, f) (closed (inr (inl k)) (negative_entry (inr (inl k)) (rw k refl)))
     acted new heard (acts.starts_over p k start room e f) = absurd (down.0 k)
     acted new heard (acts.nobody k start e f) = absurd (down.0 k)
     acted new heard (acts.used_up k over e f) = rw (e, f) (sound_dropped r s i t, inr refl)
 
-    went_on : (new : State) (ticked : Ticked) → GoOn s t l new ticked → IsSound r new × IsRightTicked r s ticked
-    went_on new ticked (ticks.again first room e f) = rw (e, f) (sound_lodged r s i t (tried_again l) (same_lookup z refl refl refl refl), tt)
-    went_on new ticked (ticks.next_place second more room e f) = rw (e, f) (sound_lodged r s i t (at_next l) (same_lookup z refl refl refl refl), tt)
+    went_on : (new : State) (ticked : _) → GoOn s t l new ticked → IsSound r new × IsRightTicked r s ticked
+    went_on new ticked (ticks.again first room e f) = rw (e, f) (sound_lodged r s i t (tried_again l) (same_set z refl refl refl z.kept), tt)
+    went_on new ticked (ticks.next_place second more room e f) = rw (e, f) (sound_lodged r s i t (at_next l) (same_set z refl refl refl z.kept), tt)
     went_on new ticked (ticks.answered rec second last kept e f) = rw (e, f) (sound_dropped r s i t, ended (NotRegistered rec.prefix rec.servers) (kept_is r x rec (z.kept rec kept)))
     went_on new ticked (ticks.no_reply second last none e f) = rw (e, f) (sound_dropped r s i t, inl refl)
     went_on new ticked (ticks.used_up more over e f) = rw (e, f) (sound_dropped r s i t, inr refl)
 
-  pub sound_step : (call : Call) (new : State) (reply : Reply) → IsFair r s call → Step s call new reply → IsSound r new × IsRight r s call reply
+  pub sound_step : (call : _) (new : State) (reply : _) → IsFair r s call → Step s call new reply → IsSound r new × IsRight r s call reply
   sound_step call new reply fair (steps.asks x a id step e f) = rw (e, f) (started x new a id step)
   sound_step call new reply fair (steps.hears source bytes heard (acts.ignored why ignores same is) e f) = rw (e, f, same, is) (i, tt)
   sound_step call new reply fair (steps.hears source bytes heard (acts.taken t l rec taken act) e f) =

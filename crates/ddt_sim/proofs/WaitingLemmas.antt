@@ -1,5 +1,6 @@
 -- A lookup that waits for the reply to its last request, from its ask to its end.
-use Rattle.std.proofs.Common.{◌≡◌, ℕ, ◌+◌, ◌^◌, ◌<◌, ◌≤◌, ◌⊎◌, true, List, [], ◌∷◌, length, None, Ok, inl, inr, refl, sym, ap, ◌∙◌, arith, max}
+use Rattle.std.proofs.Common.{◌≡◌, ℕ, ◌+◌, ◌^◌, ◌<◌, ◌≤◌, ◌⊎◌, true, List, [], ◌∷◌, length, None, Some, Result, Ok, Err, inl, inr, refl, sym, ap, ◌∙◌, arith, max}
+use Rattle.std.specs.FinMap.{len}
 use Rattle.std.proofs.lemmas.Option.{same_Some}
 use Rattle.ddt_path.specs.declared.xeid.Xeid.{Xeid}
 use Rattle.ddt_path.specs.declared.locator.Locator.{Locator}
@@ -13,11 +14,14 @@ use Rattle.ddt_ecm.specs.laws.Statements.{WrittenSpells, message_of}
 use Rattle.ddt_cache.specs.Found.{IsFound}
 use Rattle.ddt_resolver.specs.declared.pending.Pending.{Pending}
 use Rattle.ddt_resolver.specs.declared.answers.Outgoing.{Outgoing}
+use Rattle.ddt_resolver.specs.declared.answers.Asked.{Asked}
 use Rattle.ddt_resolver.specs.declared.answers.Asked.TheVariants as asked
+use Rattle.ddt_resolver.specs.declared.answers.AskError.{AskError}
+use Rattle.ddt_resolver.specs.declared.answers.AskError.TheVariants as ask_error
 use Rattle.ddt_resolver.specs.declared.answers.Heard.{Heard}
 use Rattle.ddt_resolver.specs.declared.answers.Heard.TheVariants as heard
-use Rattle.ddt_resolver.specs.declared.answers.Why.TheVariants.{Loop, NotAuthoritative as NobodyInCharge, Exhausted}
-use Rattle.ddt_resolver.specs.State.{State, moved, request, request_bytes, numbered, lodged, stored, forgotten, opening, referred, passed_on, started_over, last_nonce}
+use Rattle.ddt_resolver.specs.declared.answers.Why.TheVariants.{NoReply, Exhausted}
+use Rattle.ddt_resolver.specs.State.{State, moved, request, request_bytes, numbered, lodged, stored, forgotten, opening, referred, passed_on, started_over, last_nonce, most_pending}
 use Rattle.ddt_resolver.specs.Records.{IsBelow, outcome_of, start_at}
 use Rattle.ddt_resolver.specs.AskStep.{AskStep, Start, cached, full, used_up, opened, answer_of}
 use Rattle.ddt_resolver.specs.TakeUp.{IsTaken}
@@ -46,17 +50,22 @@ pub data Opens (s : State) (x : Xeid) : State → ℕ → Outgoing → Type 0 wh
   opens : (p : _) (e : _) → IsFound s.known (xeid_path x) p e → answer_of p e ≡ None
       → Opens s x (lodged s s.next (opening x e.servers (start_at p))) s.next (request s (opening x e.servers (start_at p)))
 
-pub opened_by : {s new : State} {x : Xeid} {t : ℕ} {d : Outgoing} → AskStep s x new (Ok (asked.Sent t d)) → Opens s x new t d
-opened_by {s = s} {new = new} {x = x} {t = t} {d = d} step = by step.start
+-- what an ask does, by what is answered to it
+abbrev pub DoesAsk : State → Xeid → State → Result Asked AskError → Type 0
+DoesAsk s x new (Ok (asked.Sent t d)) = Opens s x new t d
+DoesAsk s x new (Ok (asked.Answer o)) = (p : _) × (e : _) × IsFound s.known (xeid_path x) p e × (answer_of p e ≡ Some o)
+DoesAsk s x new (Err ask_error.TooMany) = most_pending ≤ len s.pending
+DoesAsk s x new (Err ask_error.Exhausted) = new.next ≡ last_nonce
+DoesAsk s x new (Err ask_error.Memory) = ⊥
+
+pub does_ask : {s new : State} {x : Xeid} {res : Result Asked AskError} → AskStep s x new res → DoesAsk s x new res
+does_ask {s = s} {new = new} {x = x} {res = res} step = by step.start
   where
-    by : Start s x step.prefix step.entry new (Ok (asked.Sent t d)) → Opens s x new t d
-    by (cached o answer e f) = absurd (cc f)
-    by (full none many e f) = absurd (cc f)
-    by (used_up none few over e f) = absurd (cc f)
-    by (opened free e f) =
-        let ticket : t ≡ s.next = cc f in
-        let out : d ≡ request s (opening x step.entry.servers (start_at step.prefix)) = cc f in
-        rw (e, ticket, out) (opens step.prefix step.entry step.found free.unanswered)
+    by : Start s x step.prefix step.entry new res → DoesAsk s x new res
+    by (cached o answer e f) = rw f (step.prefix, step.entry, step.found, answer)
+    by (full none many e f) = rw f many
+    by (used_up none few over e f) = rw (e, f) over
+    by (opened free e f) = rw (e, f) (opens step.prefix step.entry step.found free.unanswered)
 
 -- how a lookup goes on after a record: from which state, and as which lookup
 pub data Onward (s : State) (l : Pending) (rec : ReferralRecord) : State → Pending → Type 0 where
@@ -67,8 +76,7 @@ pub data Onward (s : State) (l : Pending) (rec : ReferralRecord) : State → Pen
 pub onward_keeps : {s : State} {l : Pending} {rec : ReferralRecord} {base : State} {m : Pending} → Onward s l rec base m
     → (base.known.time ≡ s.known.time) × (m.x ≡ l.x) × (base.me ≡ s.me) × (base.known.roots ≡ s.known.roots)
 onward_keeps (refers k lower) = (refl, refl, refl, refl)
-onward_keeps (passes_on k more) = (refl, refl, refl, refl)
-onward_keeps (starts_over p k start) = (refl, refl, refl, refl)
+onward_keeps _ = (refl, refl, refl, refl)
 
 -- a reply that a lookup follows, to this state and request
 pub data Follows (s : State) (source : Locator) (reply : List ℕ) (t : ℕ) : State → Outgoing → Type 0 where
@@ -89,22 +97,22 @@ abbrev pub Does : State → Locator → List ℕ → State → Heard → Type 0
 Does s source reply new (heard.Ignored why) = Unit {0}
 Does s source reply new (heard.Followed t e) = Follows s source reply t new e
 Does s source reply new (heard.Answer t o) = Answers s source reply t o
-Does s source reply new (heard.GaveUp t why) = (why ≡ Loop) ⊎ (why ≡ NobodyInCharge) ⊎ ((why ≡ Exhausted) × (new.next ≡ last_nonce))
+Does s source reply new (heard.GaveUp t why) = (why ≡ NoReply → ⊥) × (why ≡ Exhausted → new.next ≡ last_nonce)
 
 pub does : {s new : State} {source : Locator} {reply : List ℕ} {h : Heard} → HearStep s source reply new h → Does s source reply new h
 does (acts.ignored why ignores e f) = rw f tt
 does {s = s} {new = new} {source = source} {reply = reply} {h = h} (acts.taken t l rec taken act) = by act
   where
     by : Act s t l rec new h → Does s source reply new h
-    by (acts.loops k loop e f) = rw f (inl refl)
+    by (acts.loops k loop e f) = rw f (λ no. cc no, λ used. cc used)
     by (acts.refers k lower more e f) = rw (e, f) (follows l rec _ _ taken (refers k lower))
     by (acts.acknowledges k e f) = rw f (answers l rec taken (ends (inl k)))
     by (acts.closes k e f) = rw f (answers l rec taken (ends (inr k)))
     by (acts.passes_on k more room e f) = rw (e, f) (follows l rec _ _ taken (passes_on k more))
     by (acts.concludes k last e f) = rw f (answers l rec taken (concludes k last))
     by (acts.starts_over p k start room e f) = rw (e, f) (follows l rec _ _ taken (starts_over p k start))
-    by (acts.nobody k start e f) = rw f (inr (inl refl))
-    by (acts.used_up k over e f) = rw f (inr (inr (refl, ap (λ (v : State). v.next) e ∙ over)))
+    by (acts.nobody k start e f) = rw f (λ no. cc no, λ used. cc used)
+    by (acts.used_up k over e f) = rw (e, f) (λ no. cc no, λ used. over)
 
 -- ---- so it waits
 

@@ -96,27 +96,20 @@ fn heard_for(ticket: Ticket, heard: Heard) -> Option<Result<Turn, Why>>
     ensures { MatchOption result (IsNotFor ticket heard) (λ turn. heard ≡ heard_of ticket turn) }
 {
     match heard {
-        Heard::Followed(of, next) => {
-            if of.number() == ticket.number() {
-                Some(Ok(Turn::GoesOn(next)))
-            } else {
-                None
-            }
-        }
-        Heard::Answer(of, outcome) => {
-            if of.number() == ticket.number() {
-                Some(Ok(Turn::Ends(outcome)))
-            } else {
-                None
-            }
-        }
-        Heard::GaveUp(of, why) => {
-            if of.number() == ticket.number() {
-                Some(Err(why))
-            } else {
-                None
-            }
-        }
+        Heard::Followed(of, next) => if_own(ticket, of, Ok(Turn::GoesOn(next))),
+        Heard::Answer(of, outcome) => if_own(ticket, of, Ok(Turn::Ends(outcome))),
+        Heard::GaveUp(of, why) => if_own(ticket, of, Err(why)),
         Heard::Ignored(_why) => None,
+    }
+}
+
+/// What a reply of a ticket makes of its lookup, if that is this ticket.
+fn if_own(ticket: Ticket, of: Ticket, made: Result<Turn, Why>) -> Option<Result<Turn, Why>>
+    ensures { MatchOption result (of ≡ ticket → ⊥) (λ own. (of ≡ ticket) × (own ≡ made)) }
+{
+    if of.number() == ticket.number() {
+        Some(made)
+    } else {
+        None
     }
 }

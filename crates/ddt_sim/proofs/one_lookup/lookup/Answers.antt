@@ -3,8 +3,7 @@ use Rattle.ddt_resolver.specs.declared.answers.Asked.TheVariants.{Answer}
 use Rattle.ddt_resolver.specs.State.{moved}
 use Rattle.ddt_sim.specs.Headline.{OverHonest, IsRightlyEnded}
 use Rattle.ddt_resolver.specs.laws.Order.{order_moved}
-use Rattle.ddt_sim.proofs.PassLemmas.{short_passes}
-use Rattle.ddt_sim.proofs.TrailLemmas.{result_trail, short_result}
+use Rattle.ddt_sim.proofs.TrailLemmas.{result_trail, short_result, short_passes}
 use Rattle.ddt_sim.proofs.AskLemmas.{ask_keeps_sound, rightly_asked, given, not_refused, refused_fails, refused_is_right, failure_is_error, asked_me}
 use Rattle.ddt_wire.specs.laws.Message.{messages_are_read}
 use Rattle.ddt_sim.proofs.one_lookup.lookup.Given.{Over}

@@ -18,7 +18,7 @@ use Rattle.ddt_loop.specs.declared.ends.LoopEnd.{LoopEnd}
 use Rattle.ddt_loop.specs.Askers.{has_unresolved}
 use Rattle.ddt_loop.specs.Right.{IsRightEnd, RepliesAreOwed, WhenFair, WhenTold, is_poll}
 use Rattle.ddt_loop.specs.Turns.{IsLoop}
-use Rattle.ddt_commands.specs.declared.looping.Task.{Task}
+use Rattle.ddt_commands.specs.declared.commands.loops.task.Task.{Task}
 use Rattle.ddt_text.specs.FirstFault.{xeid_in}
 use Rattle.ddt_words.specs.Call.{Call}
 use Rattle.ddt_commands.specs.Lookup.{bad_identifier, me_of, seed_of, xeid_words}

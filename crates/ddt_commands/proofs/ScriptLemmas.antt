@@ -15,8 +15,8 @@ use Rattle.ddt_text.specs.laws.Number.{number_in-sound, number_in-complete}
 use Rattle.ddt_sim.specs.declared.schedule.Step.{Step}
 use Rattle.ddt_sim.specs.declared.schedule.Step.TheVariants.{Ask, Deliver, Pass, Tick, Replace}
 use Rattle.ddt_commands.proofs.Texts.{texts}
-use Rattle.ddt_commands.specs.declared.script.ScriptFault.{ScriptFault}
-use Rattle.ddt_commands.specs.declared.script.ScriptFault.TheVariants.{Line}
+use Rattle.ddt_commands.specs.declared.commands.replay.script.ScriptFault.{ScriptFault}
+use Rattle.ddt_commands.specs.declared.commands.replay.script.ScriptFault.TheVariants.{Line}
 use Rattle.ddt_commands.specs.Script.{IsRefusedAt, ScriptsAreClear, SpellSteps, SpellsStep, lines_in}
 
 -- ---- one line

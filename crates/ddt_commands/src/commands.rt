@@ -5,7 +5,7 @@ pub mod assign;
 pub mod check;
 pub mod compile;
 pub mod lookup;
-pub mod looping;
+pub mod loops;
 pub mod replay;
 pub mod serve;
 pub mod show;
@@ -21,8 +21,8 @@ ghost use Rattle.ddt_commands.specs.Sockets.{Binds};
 ghost use Rattle.ddt_commands.specs.Wires.{over_wires};
 
 use crate::lines::Lines;
-use crate::over::lines_over;
 use crate::refusal::Refusal;
+use crate::register::lines_over;
 use answer::Answer;
 use assign::Assign;
 use check::Check;
@@ -45,7 +45,7 @@ pub fn command_list() -> &'static [Declaration<'static>]
         assign::WORDS,
         check::WORDS,
         compile::WORDS,
-        looping::WORDS,
+        loops::WORDS,
         lookup::WORDS,
         replay::WORDS,
         serve::WORDS,
@@ -120,7 +120,7 @@ where
         Command::Assign => lines_over::<Assign, F, O>(alloc, words, open_file),
         Command::Check => lines_over::<Check, F, O>(alloc, words, open_file),
         Command::Compile => lines_over::<Compile<'a>, F, O>(alloc, words, open_file),
-        Command::Loop => looping::lines(alloc, words, open_file, wires, clock, bind),
+        Command::Loop => loops::lines(alloc, words, open_file, wires, clock, bind),
         Command::Lookup => lines_over::<Lookup, F, O>(alloc, words, open_file),
         Command::Replay => replay::lines(alloc, words, open_file),
         Command::Serve => serve::lines(alloc, words, open_file, wires, bind),

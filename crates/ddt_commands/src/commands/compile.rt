@@ -17,10 +17,10 @@ ghost use Rattle.ddt_commands.specs.Running.{HasPartOf, HasRefused, HasText, Sta
 ghost use Rattle.ddt_commands.specs.Status.{answer_status};
 
 use crate::lines::Lines;
-use crate::over::{OverRegister, lines_over};
 use crate::refusal::{Refusal, RegisterRefusal, WordRefusal};
+use crate::register::{OverRegister, lines_over};
 use crate::status::Status;
-use crate::telling::{answer, refuse};
+use crate::streams::{answer, refuse};
 use ddt_check::Accepted;
 use ddt_compile::compile_group;
 use ddt_config::to_toml;

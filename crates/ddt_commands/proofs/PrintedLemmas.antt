@@ -4,7 +4,7 @@ use Rattle.std.specs.Io.KnownBytes.{Appends}
 use Rattle.ddt_lines.specs.Printing.{AppendsFront}
 use Rattle.ddt_commands.specs.declared.refusal.Refusal.{Refusal}
 use Rattle.ddt_commands.specs.declared.status.Status.{Status}
-use Rattle.ddt_commands.specs.declared.status.Status.TheVariants.{Answered, Incomplete, Unprinted}
+use Rattle.ddt_commands.specs.declared.status.Status.TheVariants.{Unprinted}
 use Rattle.ddt_commands.specs.Running.{HasPartOf, HasText}
 use Rattle.ddt_commands.specs.Status.{answer_status}
 

@@ -1,6 +1,5 @@
 -- From what one command prints to what the words of a process print.
 use Rattle.std.proofs.Common.{◌≡◌, ◌≢◌, inl, inr, ℕ, Bool, true, List, [], Option, Some, ap, sym, subst, refl, ◌∙◌}
-use Rattle.std.proofs.lemmas.Option.{same_Some}
 use Rattle.clap.specs.Words.{App, fault_of, is_simple_and_free, subcommand_of}
 use Rattle.ddt_words.specs.declared.declaration.Declaration.{Declaration}
 use Rattle.ddt_words.specs.Call.{Call, Calls}

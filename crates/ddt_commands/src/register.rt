@@ -30,23 +30,17 @@ pub trait OverRegister<'a>: Sized {
     /// Why a call has no answer of a register.
     ghost refuses: { Call → ARegister → ARefusal → Type 0 };
 
-    /// What the words ask for, or the first bad one.
-    fn of(words: &Words<'a>) -> Result<Self, WordRefusal>
+    /// What the words ask for, or the first bad one. Each word is read here, once.
+    fn of(alloc: Global, words: &Words<'a>) -> Result<Self, WordRefusal>
         ensures good { IfOk result (λ command. bad_word (call_of words.now) ≡ None) }
         ensures asks { IfOk result (asks (call_of words.now)) }
         ensures bad { IfErr result (λ why. bad_word (call_of words.now) ≡ Some why) };
 
-    /// The lines of the command, whose words these are, or why the register has none.
-    fn lines(
-        &self,
-        alloc: Global,
-        words: &Words<'a>,
-        register: &Accepted,
-    ) -> Result<Lines, Refusal<'static>>
-        ensures text { asks (call_of words.now) self.now → IfOk result (λ lines.
-            answers lines.complete (call_of words.now) register.now lines.text.items) }
-        ensures refused { asks (call_of words.now) self.now
-            → IfErr result (refuses (call_of words.now) register.now) };
+    /// The lines of the command for each call that asks for this, or why the register has none.
+    fn lines(&self, alloc: Global, register: &Accepted) -> Result<Lines, Refusal<'static>>
+        ensures text { (call : Call) → asks call self.now → IfOk result (λ lines.
+            answers lines.complete call register.now lines.text.items) }
+        ensures refused { (call : Call) → asks call self.now → IfErr result (refuses call register.now) };
 }
 
 /// The lines of a command over its register, or why there are none. The words are looked at first, then the file is
@@ -66,13 +60,13 @@ where
     ensures refused { IfErr result (IsWhyOver (FnReturnsAt O.Fn open_file) F.remaining
         C.bad_word C.refuses (call_of words.now)) }
 {
-    let command = match C::of(words) {
+    let command = match C::of(alloc, words) {
         Ok(command) => command,
         Err(why) => return Err(Refusal::BadWord(why)),
     };
     let path = words.value("register");
     let register = register_at(alloc, open_file(path), path)?;
-    command.lines(alloc, words, &register)
+    command.lines(alloc, &register)
 }
 
 /// The accepted register of a source that could be opened, or why there is none.

@@ -1,6 +1,7 @@
 //! What `lookup`, `loop` and `replay` share: a resolver and its servers, their words, and the names of their ends.
 
-ghost use Rattle.std.specs.Prelude.{◌≡◌, ◌++◌, Ok, None, Some, IfOk, IfErr, OnOk, map, option_map};
+ghost use Rattle.std.specs.Prelude.{◌≡◌, ◌++◌, Ok, None, Some, IfOk, IfErr, IfSome, map, option_map};
+ghost use Rattle.ddt_text.specs.FirstFault.{xeid_in};
 ghost use Rattle.ddt_words.specs.Call.{call_of};
 ghost use Rattle.ddt_lines.specs.Lines.{ended};
 ghost use Rattle.ddt_commands.specs.Lookup.{address_refusal, bad_identifier, me_in, number_refusal, seed_in, why_text, xeid_words};
@@ -9,7 +10,7 @@ ghost use Rattle.ddt_commands.specs.Replay.{ask_error_text};
 use crate::commands::assign::identifier;
 use crate::refusal::WordRefusal;
 use ddt_cache::Entry;
-use ddt_path::Locator;
+use ddt_path::{Locator, Xeid};
 use ddt_resolver::{AskError, Resolver, Why};
 use ddt_sim::Compiled;
 use ddt_text::{parse_locator, read_number};
@@ -26,22 +27,30 @@ pub type Servers = Compiled<TrieMap<u32>>;
 /// The resolver that asks them.
 pub type Client = Resolver<TrieMap<Entry>>;
 
-/// The words of the identifiers.
-pub fn identifiers<'w>(words: &'w Words<'_>) -> &'w [&'w str]
-    ensures { map (λ t. t.now) result.now ≡ xeid_words (call_of words.now) }
+/// The identifiers that the words of `xeid` spell, in their order; None where memory ran out. The first bad word is
+/// refused, also then.
+pub fn identifiers(alloc: Global, words: &Words<'_>) -> Result<Option<Vec<Xeid>>, WordRefusal>
+    ensures good { IfOk result (λ found. bad_identifier (xeid_words (call_of words.now)) ≡ None) }
+    ensures spelled { IfOk result (λ found. IfSome found (λ ids.
+        map xeid_in (xeid_words (call_of words.now)) ≡ map Ok ids.items)) }
+    ensures bad { IfErr result (λ why. bad_identifier (xeid_words (call_of words.now)) ≡ Some why) }
 {
-    words.all_values("xeid").unwrap_or(&[])
+    identifiers_in(alloc, words.all_values("xeid").unwrap_or(&[]))
 }
 
-/// Refused where one of the words is no identifier, with the fault of the first.
-pub fn are_identifiers(words: &[&str]) -> Result<(), WordRefusal>
-    ensures good { OnOk result (bad_identifier (map (λ t. t.now) words.now) ≡ None) }
+fn identifiers_in(alloc: Global, words: &[&str]) -> Result<Option<Vec<Xeid>>, WordRefusal>
+    ensures good { IfOk result (λ found. bad_identifier (map (λ t. t.now) words.now) ≡ None) }
+    ensures spelled { IfOk result (λ found. IfSome found (λ ids.
+        map xeid_in (map (λ t. t.now) words.now) ≡ map Ok ids.items)) }
     ensures bad { IfErr result (λ why. bad_identifier (map (λ t. t.now) words.now) ≡ Some why) }
 {
+    let mut ids = Vec::new(alloc);
+    let mut has_room = true;
     for word in words {
-        identifier(word)?;
+        let x = identifier(word)?;
+        has_room &= ids.push(x).is_ok();
     }
-    Ok(())
+    if has_room { Ok(Some(ids)) } else { Ok(None) }
 }
 
 /// The resolver's own address.

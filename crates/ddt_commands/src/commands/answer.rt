@@ -104,19 +104,14 @@ impl<'a> OverRegister<'a> for Answer<'a> {
 
     ghost refuses = { IsWhyNoGroup };
 
-    fn of(words: &Words<'a>) -> Result<Answer<'a>, WordRefusal> {
+    fn of(_alloc: Global, words: &Words<'a>) -> Result<Answer<'a>, WordRefusal> {
         Ok(Answer {
             group: words.value("group"),
             xeid: identifier(words.value("xeid"))?,
         })
     }
 
-    fn lines(
-        &self,
-        alloc: Global,
-        _words: &Words<'a>,
-        register: &Accepted,
-    ) -> Result<Lines, Refusal<'static>> {
+    fn lines(&self, alloc: Global, register: &Accepted) -> Result<Lines, Refusal<'static>> {
         let group = of_group(Name::of(self.group.as_bytes()))?;
         let digits = of_group(answer_hex(alloc, register, group, self.xeid)?)?;
         Ok(Lines::whole(ended(digits)?))

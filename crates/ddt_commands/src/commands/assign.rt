@@ -82,18 +82,13 @@ impl OverRegister<'_> for Assign {
 
     ghost refuses = { WantsMemory };
 
-    fn of(words: &Words<'_>) -> Result<Assign, WordRefusal> {
+    fn of(_alloc: Global, words: &Words<'_>) -> Result<Assign, WordRefusal> {
         Ok(Assign {
             xeid: identifier(words.value("xeid"))?,
         })
     }
 
-    fn lines(
-        &self,
-        alloc: Global,
-        _words: &Words<'_>,
-        register: &Accepted,
-    ) -> Result<Lines, Refusal<'static>> {
+    fn lines(&self, alloc: Global, register: &Accepted) -> Result<Lines, Refusal<'static>> {
         let line = outcome_line(alloc, &assignment(register, self.xeid))?;
         Ok(Lines::whole(line))
     }

@@ -78,16 +78,11 @@ impl OverRegister<'_> for Check {
 
     ghost refuses = { WantsMemory };
 
-    fn of(_words: &Words<'_>) -> Result<Check, WordRefusal> {
+    fn of(_alloc: Global, _words: &Words<'_>) -> Result<Check, WordRefusal> {
         Ok(Check)
     }
 
-    fn lines(
-        &self,
-        alloc: Global,
-        _words: &Words<'_>,
-        register: &Accepted,
-    ) -> Result<Lines, Refusal<'static>> {
+    fn lines(&self, alloc: Global, register: &Accepted) -> Result<Lines, Refusal<'static>> {
         let counts = register.counts();
         let line = accepted_line(alloc, counts.zones, counts.sites, counts.groups)?;
         Ok(Lines::whole(line))

@@ -84,18 +84,13 @@ impl<'a> OverRegister<'a> for Compile<'a> {
 
     ghost refuses = { IsWhyNoGroup };
 
-    fn of(words: &Words<'a>) -> Result<Compile<'a>, WordRefusal> {
+    fn of(_alloc: Global, words: &Words<'a>) -> Result<Compile<'a>, WordRefusal> {
         Ok(Compile {
             group: words.value("group"),
         })
     }
 
-    fn lines(
-        &self,
-        alloc: Global,
-        _words: &Words<'a>,
-        register: &Accepted,
-    ) -> Result<Lines, Refusal<'static>> {
+    fn lines(&self, alloc: Global, register: &Accepted) -> Result<Lines, Refusal<'static>> {
         let group = of_group(Name::of(self.group.as_bytes()))?;
         let config = of_group(compile_group(alloc, register, group)?)?;
         Ok(Lines::whole(to_toml(alloc, &config)?.into_bytes()))

@@ -1,7 +1,7 @@
 //! `ddt lookup REGISTER XEID... [--me ADDRESS] [--seed N]`: identifiers looked up one after the other by one resolver,
 //! over the servers of the register.
 
-ghost use Rattle.std.specs.Prelude.{◌≡◌, ◌≢◌, ◌++◌, Bool, None, false, IfOk, IfErr, OnErr, OnOk, map};
+ghost use Rattle.std.specs.Prelude.{◌≡◌, ◌≢◌, ◌++◌, Bool, false, IfOk, IfSome, OnErr, OnOk};
 ghost use Rattle.std.specs.Fn.{FnReturnsAt};
 ghost use Rattle.std.specs.List.{flat_map};
 ghost use Rattle.ddt_register.specs.declared.register.Register.{Register};
@@ -10,25 +10,21 @@ ghost use Rattle.ddt_words.specs.Call.{call_of};
 ghost use Rattle.ddt_sim.specs.Sound.{IsSound};
 ghost use Rattle.ddt_sim.specs.declared.hop.LookupError.TheVariants.{Memory as IsMemory};
 ghost use Rattle.ddt_lines.specs.Lines.{ended, outcome_text};
-ghost use Rattle.ddt_commands.specs.declared.refusal.Refusal.TheVariants.{OutOfMemory};
 ghost use Rattle.ddt_commands.specs.declared.status.Status.TheVariants.{
   Refused as IsRefused,
   BadWords as IsBadWords,
   Unprinted as IsUnprinted,
 };
 ghost use Rattle.ddt_commands.specs.Assign.{WantsMemory};
-ghost use Rattle.ddt_commands.specs.Lookup.{AreAllTold, Asks, IsLookupText, IsTold, bad_identifier, bad_lookup, end_text, replied_line, why_text};
+ghost use Rattle.ddt_commands.specs.Lookup.{AreAllTold, Asks, IsLookupText, IsTold, bad_lookup, end_text, replied_line, why_text};
 ghost use Rattle.ddt_commands.specs.Over.{IsTextOver, IsWhyOver};
 ghost use Rattle.ddt_commands.specs.Running.{HasPartOf, HasRefused, HasText, StayApart};
 ghost use Rattle.ddt_commands.specs.Status.{answer_status};
 
-use crate::commands::assign::identifier;
 use crate::lines::Lines;
 use crate::refusal::{Refusal, WordRefusal};
 use crate::register::{OverRegister, lines_over};
-use crate::resolver::{
-    Client, Servers, are_identifiers, first_nonce, identifiers, own_address, why_name,
-};
+use crate::resolver::{Client, Servers, first_nonce, identifiers, own_address, why_name};
 use crate::status::Status;
 use crate::streams::{answer, refuse};
 use ddt_cache::Moment;
@@ -87,10 +83,11 @@ where
     }
 }
 
-/// The resolver's own address, and the nonce of its first request. The identifiers are read from their words as they
-/// are looked up.
-#[derive(Clone, Copy, Debug)]
+/// The identifiers, the resolver's own address, and the nonce of its first request.
+#[derive(Debug, Drop)]
 pub struct Lookup {
+    /// None where memory ran out: that is refused behind what the register is refused for.
+    ids: Option<Vec<Xeid>>,
     me: Locator,
     seed: u64,
 }
@@ -98,54 +95,46 @@ pub struct Lookup {
 impl OverRegister<'_> for Lookup {
     ghost bad_word = { bad_lookup };
 
-    ghost asks = { λ call command. Asks call command.me command.seed };
+    ghost asks = { λ call command. IfSome command.ids (λ ids. Asks call ids.items command.me command.seed) };
 
     ghost answers = { IsLookupText };
 
     ghost refuses = { WantsMemory };
 
-    fn of(words: &Words<'_>) -> Result<Lookup, WordRefusal> {
-        are_identifiers(identifiers(words))?;
+    fn of(alloc: Global, words: &Words<'_>) -> Result<Lookup, WordRefusal> {
         Ok(Lookup {
+            ids: identifiers(alloc, words)?,
             me: own_address(words.setting("me"))?,
             seed: first_nonce(words.setting("seed"))?,
         })
     }
 
-    fn lines(
-        &self,
-        alloc: Global,
-        words: &Words<'_>,
-        register: &Accepted,
-    ) -> Result<Lines, Refusal<'static>> {
+    fn lines(&self, alloc: Global, register: &Accepted) -> Result<Lines, Refusal<'static>> {
+        let Some(ids) = &self.ids else {
+            return Err(Refusal::OutOfMemory);
+        };
         a_step_keeps_a_resolver_sound();
         let mut servers = Compiled::build(alloc, register)?;
         let mut resolver = Resolver::new(alloc, register.roots(), self.me, self.seed);
-        look_up_each(alloc, &mut servers, &mut resolver, identifiers(words))
+        Ok(look_up_each(alloc, &mut servers, &mut resolver, ids)?)
     }
 }
 
 /// The lines of the lookups of these identifiers, in order, all at the resolver's time. They are complete where each
-/// has an outcome. Refused where a word is no identifier, else only if out of memory.
+/// has an outcome. Fails only if out of memory.
 fn look_up_each(
     alloc: Global,
     servers: &mut Servers,
     resolver: &mut Client,
-    words: &[&str],
-) -> Result<Lines, Refusal<'static>>
-    ensures told { (r : Register) → AreCompiled servers.old r → IsSound r resolver.old → IfOk result (λ lines.
-        AreAllTold r resolver.old.known.time resolver.old (map (λ t. t.now) words.now)
-        lines.complete lines.text.items) }
-    ensures refused { bad_identifier (map (λ t. t.now) words.now) ≡ None → IfErr result (λ why. why ≡ OutOfMemory) }
+    ids: &[Xeid],
+) -> Result<Lines, AllocError>
+    ensures { (r : Register) → AreCompiled servers.old r → IsSound r resolver.old → IfOk result (λ lines.
+        AreAllTold r resolver.old.known.time resolver.old ids.now lines.complete lines.text.items) }
 {
     let now = resolver.time();
     let mut lines = Lines::whole(Vec::new(alloc));
-    for word in words {
-        let x = match identifier(word) {
-            Ok(x) => x,
-            Err(why) => return Err(Refusal::BadWord(why)),
-        };
-        let more = look_up(alloc, servers, resolver, now, x)?;
+    for x in ids {
+        let more = look_up(alloc, servers, resolver, now, *x)?;
         lines.text.extend_from_slice(&more.text)?;
         lines.complete &= more.complete;
     }

@@ -4,11 +4,10 @@
 mod end_lines;
 mod task;
 
-ghost use Rattle.std.specs.Prelude.{◌≡◌, ◌≢◌, Bool, Ok, Some, IfErr, IfOk, map, option_map};
+ghost use Rattle.std.specs.Prelude.{◌≡◌, ◌≢◌, Bool, None, Ok, Some, IfErr, IfOk, IfSome, map, option_map};
 ghost use Rattle.std.specs.Fn.{FnReturnsAt};
 ghost use Rattle.ddt_text.specs.FirstFault.{xeid_in};
 ghost use Rattle.ddt_words.specs.Call.{call_of};
-ghost use Rattle.ddt_commands.specs.declared.refusal.Refusal.TheVariants.{OutOfMemory};
 ghost use Rattle.ddt_commands.specs.declared.status.Status.TheVariants.{
   Refused as IsRefused,
   BadWords as IsBadWords,
@@ -21,13 +20,12 @@ ghost use Rattle.ddt_commands.specs.Running.{HasPartOf, HasRefused, HasText, Sta
 ghost use Rattle.ddt_commands.specs.Sockets.{Binds};
 ghost use Rattle.ddt_commands.specs.Status.{answer_status};
 
-use crate::commands::assign::identifier;
 use crate::commands::serve::MOST_TURNS;
 use crate::lines::Lines;
 use crate::loopback::is_loopback;
 use crate::refusal::{Refusal, ServerRefusal, WordRefusal};
 use crate::register::register_at;
-use crate::resolver::{are_identifiers, first_nonce, identifiers, own_address};
+use crate::resolver::{first_nonce, identifiers, own_address};
 use crate::status::Status;
 use crate::streams::{answer, refuse};
 use ddt_loop::Clock;
@@ -35,7 +33,7 @@ use ddt_path::{Locator, Xeid};
 use ddt_text::read_number;
 use ddt_wires::Wires;
 use ddt_words::{Argument, Declaration, Words};
-use std::alloc::{AllocError, Global};
+use std::alloc::Global;
 use std::io;
 use std::io::{Read, Write};
 use task::{Task, loop_over};
@@ -106,11 +104,12 @@ where
     }
 }
 
-/// The path of a register, and a resolver over its servers. The identifiers are read from their words once the register
-/// is known.
-#[derive(Clone, Copy, Debug)]
+/// The path of a register, the identifiers, and a resolver over the register's servers.
+#[derive(Debug, Drop)]
 struct Loop<'a> {
     register: &'a str,
+    /// None where memory ran out: that is refused behind what the register is refused for.
+    ids: Option<Vec<Xeid>>,
     me: Locator,
     seed: u64,
     turns: u32,
@@ -118,17 +117,19 @@ struct Loop<'a> {
 
 impl<'a> Loop<'a> {
     /// What the words ask for, or the first bad one.
-    fn of(words: &Words<'a>) -> Result<Loop<'a>, WordRefusal>
+    fn of(alloc: Global, words: &Words<'a>) -> Result<Loop<'a>, WordRefusal>
         ensures path { IfOk result (λ asked. asked.register.now ≡ path (call_of words.now)) }
         ensures identifiers { IfOk result (λ asked. bad_identifier (xeid_words (call_of words.now)) ≡ None) }
+        ensures spelled { IfOk result (λ asked. IfSome asked.ids (λ ids.
+            map xeid_in (xeid_words (call_of words.now)) ≡ map Ok ids.items)) }
         ensures resolver { IfOk result (λ asked.
             (me_of (call_of words.now) ≡ Ok asked.me) × (seed_of (call_of words.now) ≡ Some asked.seed)) }
         ensures turns { IfOk result (λ asked. turns_of (call_of words.now) ≡ Some asked.turns) }
         ensures bad { IfErr result (λ why. bad_loop (call_of words.now) ≡ Some why) }
     {
-        are_identifiers(identifiers(words))?;
         Ok(Loop {
             register: words.value("register"),
+            ids: identifiers(alloc, words)?,
             me: own_address(words.setting("me"))?,
             seed: first_nonce(words.setting("seed"))?,
             turns: turn_limit(words.setting("turns"))?,
@@ -163,7 +164,7 @@ where
         (AreUntouched wires.old wires.new clock.old clock.new)
         (LoopsOver (Binds B.Fn bind) W.calls C.readings wires.old wires.new clock.old clock.new) (call_of words.now)) }
 {
-    let asked = match Loop::of(words) {
+    let asked = match Loop::of(alloc, words) {
         Ok(asked) => asked,
         Err(why) => return Err(Refusal::BadWord(why)),
     };
@@ -171,9 +172,11 @@ where
         return Err(Refusal::NoServer(ServerRefusal::NotLoopback(asked.me)));
     }
     let register = register_at(alloc, open_file(asked.register), asked.register)?;
-    let ids = xeids(alloc, identifiers(words))?;
+    let Some(ids) = &asked.ids else {
+        return Err(Refusal::OutOfMemory);
+    };
     let task = Task {
-        ids: &ids,
+        ids,
         me: asked.me,
         seed: asked.seed,
         turns: asked.turns,
@@ -193,21 +196,4 @@ fn turn_limit(word: Option<&str>) -> Result<u32, WordRefusal>
         Some(turns) => Ok(turns as u32),
         None => Err(WordRefusal::Number),
     }
-}
-
-/// The identifiers that the words spell, in their order. Refused where a word is no identifier, else only if out of
-/// memory.
-fn xeids(alloc: Global, words: &[&str]) -> Result<Vec<Xeid>, Refusal<'static>>
-    ensures spelled { IfOk result (λ ids. map xeid_in (map (λ t. t.now) words.now) ≡ map Ok ids.items) }
-    ensures refused { bad_identifier (map (λ t. t.now) words.now) ≡ None → IfErr result (λ why. why ≡ OutOfMemory) }
-{
-    let mut ids = Vec::new(alloc);
-    for word in words {
-        let x = match identifier(word) {
-            Ok(x) => x,
-            Err(why) => return Err(Refusal::BadWord(why)),
-        };
-        ids.push(x).map_err(AllocError::from)?;
-    }
-    Ok(ids)
 }

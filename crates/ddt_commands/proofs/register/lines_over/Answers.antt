@@ -14,7 +14,7 @@ returns-clause-text g c =
         of_register _ _ _ c.in_ok-register.register
             (λ e. search (rules, accepted.closed e)) accepted.accepted accepted.spelled h,
       ),
-    )) (c.lines.ensures.text c.in-Ok.ensures.asks)
+    )) (c.lines.ensures.text _ c.in-Ok.ensures.asks)
 
 pub returns-clause-refused : goal.returns-clause-refused
 returns-clause-refused g c =
@@ -27,4 +27,4 @@ returns-clause-refused g c =
         inr (of_register _ _ _ c.in_ok-register.register
             (λ e. search (rules, accepted.closed e)) accepted.accepted accepted.spelled h),
       ),
-    )) (c.lines.ensures.refused c.in-Ok.ensures.asks)
+    )) (c.lines.ensures.refused _ c.in-Ok.ensures.asks)

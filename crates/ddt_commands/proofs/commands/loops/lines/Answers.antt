@@ -1,10 +1,9 @@
-use Rattle.std.proofs.Common.{◌≡◌, Err, List, ℕ, refl, rules, sym, ap, subst, ◌∙◌}
+use Rattle.std.proofs.Common.{◌≡◌, Err, List, ℕ, refl, rules, sym, subst, ◌∙◌}
 use Rattle.std.proofs.lemmas.Result.{IfErr-weaker, IfOk-weaker}
 use Rattle.ddt_words.specs.Call.{call_of}
-use Rattle.ddt_commands.specs.Lookup.{bad_identifier}
 use Rattle.ddt_commands.specs.Register.{IsWhyNoRegister}
 use Rattle.ddt_commands.specs.Loop.{bad, no_file, no_memory, no_run, not_loopback}
-use Rattle.ddt_commands.proofs.LoopLemmas.{good_words, ids_of}
+use Rattle.ddt_commands.proofs.LoopLemmas.{good_words}
 use Rattle.ddt_commands.proofs.OverLemmas.{of_register}
 use Rattle.ddt_commands.proofs.commands.loops.lines.Goals as goal
 
@@ -29,18 +28,16 @@ returns-in_err-register-clause-refused g c =
     (record { shown = asked.register; shows = words.path; says = record { met = c.open_file.ensures } })
     (subst (λ (p : List ℕ). IsWhyNoRegister g.F.Read.remaining c.open_file.result p c.in_err-register.field-0.0) words.path c.in_err-register.ensures.refused))
 
-pub returns-in_err-ids-clause-refused : goal.returns-in_err-ids-clause-refused
-returns-in_err-ids-clause-refused g c =
+pub returns-in_default-clause-refused : goal.returns-in_default-clause-refused
+returns-in_default-clause-refused g c =
     let words = c.in-Ok.ensures in
     let asked = c.in-Ok.asked in
     let accepted = c.in_ok-register.ensures in
-    let e : c.from_residual-in_err-ids.result ≡ Err c.in_err-ids.field-0.0 = search rules in
-    let memory = e ∙ ap Err (c.in_err-ids.ensures.refused (ap bad_identifier c.identifiers.ensures ∙ words.identifiers)) in
-    rw memory (no_run asked.me c.open_file.result
+    no_run asked.me c.open_file.result
     (good_words (call_of c.args.words.now) asked.me asked.seed asked.turns words.identifiers words.resolver.0 words.resolver.1 words.turns) words.resolver.0
     (sym c.is_loopback.ensures ∙ c.if-not-is_loopback.false)
     (record { shown = asked.register; shows = words.path; says = record { met = c.open_file.ensures } })
-    (of_register _ _ _ c.in_ok-register.register (λ e. search (rules, accepted.closed e)) accepted.accepted accepted.spelled no_memory))
+    (of_register _ _ _ c.in_ok-register.register (λ e. search (rules, accepted.closed e)) accepted.accepted accepted.spelled no_memory)
 
 pub returns-clause-text : goal.returns-clause-text
 returns-clause-text g c =
@@ -52,7 +49,7 @@ returns-clause-text g c =
       record { shown = asked.register; shows = words.path; says = record { met = c.open_file.ensures } },
       of_register _ _ _ c.in_ok-register.register (λ e. search (rules, accepted.closed e)) accepted.accepted accepted.spelled h,
     )) (c.loop_over.ensures.text (call_of c.args.words.now) (record {
-      identifiers = ids_of (call_of c.args.words.now) c.identifiers.result.now c.in_ok-ids.ids.items c.deref.result.now c.identifiers.ensures c.in_ok-ids.ensures.spelled c.deref.ensures.value;
+      identifiers = rw c.deref.ensures.value (rw c.in-Some.is at words.spelled);
       address = words.resolver.0;
       first = words.resolver.1;
       most = words.turns;
@@ -71,7 +68,7 @@ returns-clause-refused g c =
     (record { shown = asked.register; shows = words.path; says = record { met = c.open_file.ensures } })
     (of_register _ _ _ c.in_ok-register.register (λ e. search (rules, accepted.closed e)) accepted.accepted accepted.spelled h))
     (c.loop_over.ensures.refused (call_of c.args.words.now) (record {
-      identifiers = ids_of (call_of c.args.words.now) c.identifiers.result.now c.in_ok-ids.ids.items c.deref.result.now c.identifiers.ensures c.in_ok-ids.ensures.spelled c.deref.ensures.value;
+      identifiers = rw c.deref.ensures.value (rw c.in-Some.is at words.spelled);
       address = words.resolver.0;
       first = words.resolver.1;
       most = words.turns;

@@ -8,28 +8,19 @@ ghost use Rattle.ddt_commands.specs.declared.status.Status.TheVariants.{
   BadWords as IsBadWords,
   Unprinted as IsUnprinted,
 };
+ghost use Rattle.ddt_commands.specs.Commands.{command_list};
 ghost use Rattle.ddt_commands.specs.Refusal.{IsLineOf};
 ghost use Rattle.ddt_commands.specs.Status.{answer_status};
 ghost use Rattle.ddt_commands.specs.Telling.{Tells, TellsFront};
+ghost use Rattle.ddt_commands.specs.Usage.{usage_of};
 
+use crate::commands::USAGE;
 use crate::lines::Lines;
 use crate::refusal::Refusal;
 use crate::status::Status;
 use ddt_lines::print;
 use std::alloc::{AllocError, Global};
 use std::io::Write;
-
-/// What words that fit no command are told.
-pub const USAGE: &str = "usage: ddt answer REGISTER GROUP XEID
-       ddt assign REGISTER XEID
-       ddt check REGISTER
-       ddt compile REGISTER GROUP
-       ddt loop REGISTER XEID... [--me ADDRESS] [--seed N] [--turns N]
-       ddt lookup REGISTER XEID... [--me ADDRESS] [--seed N]
-       ddt replay REGISTER SCRIPT [REGISTER...] [--me ADDRESS] [--seed N]
-       ddt serve CONFIG ADDRESS TURNS
-       ddt show HEX
-";
 
 /// Prints an answer, whole lines.
 pub fn answer<W: Write>(lines: &Lines, out: &mut W) -> Status
@@ -67,10 +58,10 @@ fn line_of(alloc: Global, refusal: &Refusal<'_>) -> Result<String, AllocError>
     format!(in alloc; "{refusal}\n")
 }
 
-/// Shows the commands: the words fit none.
+/// Shows the commands: the words fit none. It allocates nothing.
 pub fn show_usage<E: Write>(err: &mut E) -> Status
     ensures bad { result ≡ IsBadWords }
-    ensures front { AppendsFront (E.contents err.old) (E.contents err.new) USAGE.now }
+    ensures front { AppendsFront (E.contents err.old) (E.contents err.new) (usage_of command_list) }
 {
     let _ = print(USAGE.as_bytes(), err);
     Status::BadWords

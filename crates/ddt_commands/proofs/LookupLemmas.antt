@@ -56,27 +56,15 @@ told_outcome laws r now x before after me_ o hops lines has right honest is =
     outcome hops (subst (λ (a : Outcome). HasOutcome now x before a hops after) right has) refl
     (is ∙ rw (replied_all laws r x me_ hops honest, right) refl)
 
-pub told_gave_up : (r : Register) (now : ℕ) (x : Xeid) (before after : State) (why : Why) (lines : List ℕ)
-    → Fails now x before (GaveUp why) after → IsRightError before after (GaveUp why) → lines ≡ ended (codes "gave-up " ++ why_text why)
-    → IsTold r now x before false lines after
-told_gave_up r now x before after why lines fails (exhausted, last) is =
-    gave_up (subst (λ (w : Why). Fails now x before (GaveUp w) after) exhausted fails) last refl (is ∙ ap (λ (w : Why). ended (codes "gave-up " ++ why_text w)) exhausted)
-
-pub told_refused : (r : Register) (now : ℕ) (x : Xeid) (before after : State) (lines : List ℕ)
-    → Fails now x before TooMany after → IsRightError before after TooMany → lines ≡ ended (codes "refused TooMany") → IsTold r now x before false lines after
-told_refused r now x before after lines fails many is = refused fails many refl is
-
 -- the same where an error says so, and its words were shown
 pub told_unfound : (r : Register) (now : ℕ) (x : Xeid) (before after : State) (error : LookupError) (shown : List ℕ) (result : Result Lines AllocError)
     → Fails now x before error after → IsRightError before after error → error ≢ Memory → shown ≡ end_text error
     → IfOk result (λ lines. lines.text.items ≡ ended shown) → IfOk result (λ lines. lines.complete ≡ false)
     → IfOk result (λ lines. IsTold r now x before lines.complete lines.text.items after)
-told_unfound r now x before after (GaveUp why) shown (Ok lines) fails right known is text complete =
-    subst (λ (b : Bool). IsTold r now x before b lines.text.items after) (sym complete)
-    (told_gave_up r now x before after why lines.text.items fails right (text ∙ ap ended is))
-told_unfound r now x before after TooMany shown (Ok lines) fails right known is text complete =
-    subst (λ (b : Bool). IsTold r now x before b lines.text.items after) (sym complete)
-    (told_refused r now x before after lines.text.items fails right (text ∙ ap ended is))
+told_unfound r now x before after (GaveUp why) shown (Ok lines) fails (exhausted, last) known is text complete =
+    rw complete (gave_up (subst (λ (w : Why). Fails now x before (GaveUp w) after) exhausted fails) last refl
+    (text ∙ ap ended is ∙ ap (λ (w : Why). ended (codes "gave-up " ++ why_text w)) exhausted))
+told_unfound r now x before after TooMany shown (Ok lines) fails right known is text complete = rw complete (refused fails right refl (text ∙ ap ended is))
 told_unfound r now x before after Memory shown (Ok lines) fails right known is text complete = absurd (known refl)
 told_unfound r now x before after error shown (Err refused_) fails right known is text complete = tt
 
@@ -127,20 +115,22 @@ spelled_more words i d x false fits ids new lt so_far good is both = absurd (cc 
 -- ---- lookups one after the other
 
 pub told_none : (r : Register) (now : ℕ) (start : State) (complete : Bool) (text : List ℕ) → complete ≡ true → text ≡ [] → AreTold r now start [] complete text start
-told_none r now start complete text c t =
-    subst (λ (b : Bool). AreTold r now start [] b text start) (sym c) (subst (λ (l : List ℕ). AreTold r now start [] true l start) (sym t) none)
+told_none r now start complete text c t = rw (c, t) none
 
-pub told_more : (r : Register) (now : ℕ) (start : State) (ids : List Xeid) (i : ℕ) (d : Xeid) (complete found : Bool) (text lines new : List ℕ) (before after : State) → i < length ids
+pub told_more : (r : Register) (now : ℕ) (start : State) (ids : List Xeid) (i : ℕ) (d : Xeid) (complete found : Bool) (text lines new : List ℕ)
+    (before after : State) → i < length ids
     → AreTold r now start (take i ids) complete text before → IsTold r now (get_or ids i d) before found lines after → new ≡ text ++ lines
     → AreTold r now start (take (i + 1) ids) (complete && found) new after
-told_more r now start ids i d complete found text lines new before after lt told one is = rw (is, take_more ids i d lt) (more (get_or ids i d) found lines after told one)
+told_more r now start ids i d complete found text lines new before after lt told one is =
+    rw (is, take_more ids i d lt) (more (get_or ids i d) found lines after told one)
 
-pub told_all : (r : Register) (now time : ℕ) (start : State) (ids : List Xeid) (i : ℕ) (complete : Bool) (text : List ℕ) (after : State) → now ≡ time → length ids ≤ i
+pub told_all : (r : Register) (now time : ℕ) (start : State) (ids : List Xeid) (i : ℕ) (complete : Bool) (text : List ℕ) (after : State) → now ≡ time
+    → length ids ≤ i
     → AreTold r now start (take i ids) complete text after → AreTold r time start ids complete text after
-told_all r now time start ids i complete text after is all told =
-    subst (λ (n : ℕ). AreTold r n start ids complete text after) is (subst (λ (xs : List Xeid). AreTold r now start xs complete text after) (take_all i ids all) told)
+told_all r now time start ids i complete text after is all told = rw (sym is) (rw (take_all i ids all) at told)
 
-pub told_text : (call : Call) (r : Register) (ids : List Xeid) (me_ : Locator) (seed : ℕ) (found : List Locator) (start : State) (complete : Bool) (text : List ℕ) → Asks call ids me_ seed
+pub told_text : (call : Call) (r : Register) (ids : List Xeid) (me_ : Locator) (seed : ℕ) (found : List Locator) (start : State) (complete : Bool)
+    (text : List ℕ) → Asks call ids me_ seed
     → found ≡ roots r → start ≡ fresh found me_ seed → AreAllTold r start.known.time start ids complete text → IsLookupText complete call r text
 told_text call r ids me_ seed found start complete text asks at_root new told = record {
   ids = ids;

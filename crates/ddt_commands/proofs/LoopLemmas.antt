@@ -26,9 +26,10 @@ use Rattle.ddt_commands.proofs.LookupLemmas.{starts_sound}
 
 -- ---- the words
 
-pub good_words : (call : Call) (me_ : Locator) (seed turns : ℕ) → bad_identifier (xeid_words call) ≡ None → me_of call ≡ Ok me_ → seed_of call ≡ Some seed → turns_of call ≡ Some turns
+pub good_words : (call : Call) (me_ : Locator) (seed turns : ℕ) → bad_identifier (xeid_words call) ≡ None → (me_of call ≡ Ok me_) × (seed_of call ≡ Some seed)
+    → turns_of call ≡ Some turns
     → bad_loop call ≡ None
-good_words call me_ seed turns good e f h = rw (good, e, f, h) refl
+good_words call me_ seed turns good asks h = rw (good, asks.0, asks.1, h) refl
 
 -- ---- the lines of the ends
 

@@ -10,6 +10,7 @@ returns-in_err-x-clause-bad c =
 pub loop-word-preserved : goal.loop-word-preserved
 loop-word-preserved c = record {
   good = c.loop-word.invariant.good ∙ passed c.args.words.now c.loop-word.word-index _ _ c.loop-word-test.true c.in_ok-x.ensures.found;
-  spelled = spelled_more c.args.words.now c.loop-word.word-index _ _ c.loop-word.has_room _ c.loop-word.ids.items _ c.loop-word-test.true c.loop-word.invariant.spelled c.in_ok-x.ensures.found
+  spelled = spelled_more c.args.words.now c.loop-word.word-index _ _ c.loop-word.has_room _ c.loop-word.ids.items _ c.loop-word-test.true
+      c.loop-word.invariant.spelled c.in_ok-x.ensures.found
       (rw c.is_ok-has_room.ensures.value c.push.ensures.items);
 }

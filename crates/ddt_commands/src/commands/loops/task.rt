@@ -41,6 +41,7 @@ pub struct Task<'a> {
 /// groups' rows.
 ///
 /// Refused where a server isn't at a loopback address, where a socket can't be bound, or if out of memory.
+#[tactic(auto, using(crate::specs::Loop::no_memory))]
 pub fn loop_over<W, C, B>(
     alloc: Global,
     register: &Accepted,

@@ -37,6 +37,7 @@ impl From<AllocError> for ScriptFault {
 
 /// The steps that the lines of a script spell, in order: `ask XEID`, `deliver K`, `wait MS`, `tick`, `replace K`, where
 /// K and MS are numbers up to 4294967295 without leading zeros. The first line that is none of these is refused.
+#[tactic(auto, using(crate::proofs::ScriptLemmas::scripts_are_clear))]
 pub fn read_script(alloc: Global, text: &[u8]) -> Result<Vec<Step>, ScriptFault>
     ensures spelled { IfOk result (λ steps. SpellsScript text.now steps.items) }
     ensures refused { (number : ℕ) → result ≡ Err (fault_as.Line number) → IsRefusedAt text.now number }

@@ -1,16 +1,11 @@
 use Rattle.std.proofs.Common.{◌≡◌, ◌∷◌, Err, List, ap, refl, rules, subst, sym, ◌∙◌}
 use Rattle.std.specs.List.{list_all}
 use Rattle.ddt_path.specs.declared.locator.Locator.{Locator}
-use Rattle.ddt_commands.specs.declared.refusal.Refusal.TheVariants.{OutOfMemory}
-use Rattle.ddt_commands.specs.Loop.{end_lines, is_outcome, no_memory, outside, unbound}
+use Rattle.ddt_commands.specs.Loop.{end_lines, is_outcome, outside, unbound}
 use Rattle.ddt_commands.specs.Loopback.{first_outside}
 use Rattle.ddt_commands.specs.Sockets.{AreBound, Binds, IsUnbound}
 use Rattle.ddt_commands.proofs.LoopLemmas.{is_run}
 use Rattle.ddt_commands.proofs.commands.loops.task.loop_over.Goals as goal
-
-pub returns-in_err-sockets-clause-refused : goal.returns-in_err-sockets-clause-refused
-returns-in_err-sockets-clause-refused g c = λ call asks.
-    let e : c.from_residual.result ≡ Err OutOfMemory = search rules in rw e no_memory
 
 pub returns-in_err-are_on_loopback-clause-refused : goal.returns-in_err-are_on_loopback-clause-refused
 returns-in_err-are_on_loopback-clause-refused g c = λ call asks.
@@ -18,10 +13,6 @@ returns-in_err-are_on_loopback-clause-refused g c = λ call asks.
     let are = c.deref.ensures.value ∙ c.in_ok-sockets.ensures in
     let why = c.in_err-are_on_loopback.ensures.outside in
     rw (e, why.1) (outside why.0 (refl, refl) (ap first_outside (sym are) ∙ why.2))
-
-pub returns-in_err-servers-clause-refused : goal.returns-in_err-servers-clause-refused
-returns-in_err-servers-clause-refused g c = λ call asks.
-    let e : c.from_residual-in_err-servers.result ≡ Err OutOfMemory = search rules in rw e no_memory
 
 pub returns-in_err-bind_all-clause-refused : goal.returns-in_err-bind_all-clause-refused
 returns-in_err-bind_all-clause-refused g c = λ call asks.
@@ -31,14 +22,6 @@ returns-in_err-bind_all-clause-refused g c = λ call asks.
     let why = c.in_err-bind_all.ensures.refused in
     rw e (unbound c.args.task why.0 why.1 asks (ap first_outside (sym are) ∙ c.in_ok-are_on_loopback.ensures.inside)
     (subst (λ (ls : List Locator). IsUnbound (Binds g.B.Fn c.args.bind) c.args.wires.now (c.args.task.me ∷ ls) why.0 why.1 c.bind_all.new.wires) bound why.2, refl) why.3)
-
-pub returns-in_err-ends-clause-refused : goal.returns-in_err-ends-clause-refused
-returns-in_err-ends-clause-refused g c = λ call asks.
-    let e : c.from_residual-in_err-ends.result ≡ Err OutOfMemory = search rules in rw e no_memory
-
-pub returns-in_err-end_lines-clause-refused : goal.returns-in_err-end_lines-clause-refused
-returns-in_err-end_lines-clause-refused g c = λ call asks.
-    let e : c.from_residual-in_err-end_lines.result ≡ Err OutOfMemory = search rules in rw e no_memory
 
 pub returns-clause-text : goal.returns-clause-text
 returns-clause-text g c = λ call asks.

@@ -32,10 +32,9 @@ use Rattle.ddt_lines.specs.Lines.{ended, hop_text, outcome_text}
 use Rattle.ddt_commands.proofs.Texts.{texts}
 use Rattle.ddt_commands.specs.declared.lines.Lines.{Lines}
 use Rattle.ddt_words.specs.Call.{Call}
-use Rattle.ddt_commands.specs.declared.refusal.Refusal.{Refusal}
 use Rattle.ddt_commands.specs.declared.refusal.word.WordRefusal.{WordRefusal}
 use Rattle.ddt_commands.specs.Assign.{identifier_refusal}
-use Rattle.ddt_commands.specs.Lookup.{AreAllTold, AreTold, Asks, IsLookupText, xeid_words, none, more, IsTold, outcome, gave_up, refused, bad_identifier, end_text, read_line, replied_line, said_line, why_text}
+use Rattle.ddt_commands.specs.Lookup.{AreAllTold, AreTold, Asks, IsLookupText, none, more, IsTold, outcome, gave_up, refused, bad_identifier, end_text, read_line, replied_line, said_line, why_text}
 
 -- ---- the lines of one lookup
 
@@ -57,27 +56,15 @@ told_outcome laws r now x before after me_ o hops lines has right honest is =
     outcome hops (subst (λ (a : Outcome). HasOutcome now x before a hops after) right has) refl
     (is ∙ rw (replied_all laws r x me_ hops honest, right) refl)
 
-pub told_gave_up : (r : Register) (now : ℕ) (x : Xeid) (before after : State) (why : Why) (lines : List ℕ)
-    → Fails now x before (GaveUp why) after → IsRightError before after (GaveUp why) → lines ≡ ended (codes "gave-up " ++ why_text why)
-    → IsTold r now x before false lines after
-told_gave_up r now x before after why lines fails (exhausted, last) is =
-    gave_up (subst (λ (w : Why). Fails now x before (GaveUp w) after) exhausted fails) last refl (is ∙ ap (λ (w : Why). ended (codes "gave-up " ++ why_text w)) exhausted)
-
-pub told_refused : (r : Register) (now : ℕ) (x : Xeid) (before after : State) (lines : List ℕ)
-    → Fails now x before TooMany after → IsRightError before after TooMany → lines ≡ ended (codes "refused TooMany") → IsTold r now x before false lines after
-told_refused r now x before after lines fails many is = refused fails many refl is
-
 -- the same where an error says so, and its words were shown
 pub told_unfound : (r : Register) (now : ℕ) (x : Xeid) (before after : State) (error : LookupError) (shown : List ℕ) (result : Result Lines AllocError)
     → Fails now x before error after → IsRightError before after error → error ≢ Memory → shown ≡ end_text error
     → IfOk result (λ lines. lines.text.items ≡ ended shown) → IfOk result (λ lines. lines.complete ≡ false)
     → IfOk result (λ lines. IsTold r now x before lines.complete lines.text.items after)
-told_unfound r now x before after (GaveUp why) shown (Ok lines) fails right known is text complete =
-    subst (λ (b : Bool). IsTold r now x before b lines.text.items after) (sym complete)
-    (told_gave_up r now x before after why lines.text.items fails right (text ∙ ap ended is))
-told_unfound r now x before after TooMany shown (Ok lines) fails right known is text complete =
-    subst (λ (b : Bool). IsTold r now x before b lines.text.items after) (sym complete)
-    (told_refused r now x before after lines.text.items fails right (text ∙ ap ended is))
+told_unfound r now x before after (GaveUp why) shown (Ok lines) fails (exhausted, last) known is text complete =
+    rw complete (gave_up (subst (λ (w : Why). Fails now x before (GaveUp w) after) exhausted fails) last refl
+    (text ∙ ap ended is ∙ ap (λ (w : Why). ended (codes "gave-up " ++ why_text w)) exhausted))
+told_unfound r now x before after TooMany shown (Ok lines) fails right known is text complete = rw complete (refused fails right refl (text ∙ ap ended is))
 told_unfound r now x before after Memory shown (Ok lines) fails right known is text complete = absurd (known refl)
 told_unfound r now x before after error shown (Err refused_) fails right known is text complete = tt
 
@@ -110,52 +97,48 @@ first_bad [] i d why lt bad = absurd (omega arith)
 first_bad (w ∷ ws) zero d why lt bad = rw bad refl
 first_bad (w ∷ ws) (suc i) d why lt bad = first_bad ws i d why (omega arith) bad
 
--- ---- lookups one after the other
-
-pub told_none : (r : Register) (now : ℕ) (start : State) (complete : Bool) (text : List ℕ) → complete ≡ true → text ≡ [] → AreTold r now start [] complete text start
-told_none r now start complete text c t =
-    subst (λ (b : Bool). AreTold r now start [] b text start) (sym c) (subst (λ (l : List ℕ). AreTold r now start [] true l start) (sym t) none)
-
 pub one_more : (words : List (Bor (List ℕ))) (i : ℕ) (d : Bor (List ℕ)) → i < length words → take i (texts words) ++ (get_or words i d).now ∷ [] ≡ take (i + 1) (texts words)
 one_more words i d lt =
     ap (λ (w : List ℕ). take i (texts words) ++ w ∷ []) (sym (get_or-map (λ (t : Bor (List ℕ)). t.now) words i d d.now lt))
     ∙ sym (take_more (texts words) i d.now (rw (length-map words (λ (t : Bor (List ℕ)). t.now)) lt))
 
-pub told_more : (r : Register) (now : ℕ) (start : State) (words : List (Bor (List ℕ))) (i : ℕ) (d : Bor (List ℕ)) (x : Xeid) (complete found : Bool) (text lines new : List ℕ)
-    (before after : State) → i < length words → AreTold r now start (take i (texts words)) complete text before → xeid_in (get_or words i d).now ≡ Ok x
-    → IsTold r now x before found lines after → new ≡ text ++ lines → AreTold r now start (take (i + 1) (texts words)) (complete && found) new after
-told_more r now start words i d x complete found text lines new before after lt told good one is =
-    subst (λ (ws : List (List ℕ)). AreTold r now start ws (complete && found) new after) (one_more words i d lt)
-    (subst (λ (t : List ℕ). AreTold r now start (take i (texts words) ++ (get_or words i d).now ∷ []) (complete && found) t after) (sym is)
-    (more (get_or words i d).now x found lines after told good one))
-
--- the identifiers of the words so far
-pub spelled_more : (words : List (Bor (List ℕ))) (i : ℕ) (d : Bor (List ℕ)) (x : Xeid) (ids new : List Xeid) → i < length words → map xeid_in (take i (texts words)) ≡ map Ok ids
-    → xeid_in (get_or words i d).now ≡ Ok x → new ≡ ids ++ x ∷ [] → map xeid_in (take (i + 1) (texts words)) ≡ map Ok new
-spelled_more words i d x ids new lt so_far good is =
-    ap (map xeid_in) (sym (one_more words i d lt)) ∙ map_push xeid_in (take i (texts words)) (get_or words i d).now ∙ (λ k. so_far k ++ good k ∷ [])
+-- the identifiers of the words so far, while there is memory
+pub spelled_more : (words : List (Bor (List ℕ))) (i : ℕ) (d : Bor (List ℕ)) (x : Xeid) (room fits : Bool) (ids new : List Xeid) → i < length words
+    → (room ≡ true → map xeid_in (take i (texts words)) ≡ map Ok ids) → xeid_in (get_or words i d).now ≡ Ok x → new ≡ (if fits then ids ++ x ∷ [] else ids)
+    → (room && fits) ≡ true → map xeid_in (take (i + 1) (texts words)) ≡ map Ok new
+spelled_more words i d x true true ids new lt so_far good is both =
+    ap (map xeid_in) (sym (one_more words i d lt)) ∙ map_push xeid_in (take i (texts words)) (get_or words i d).now ∙ (λ k. so_far refl k ++ good k ∷ [])
     ∙ sym (map_push Ok ids x) ∙ ap (map Ok) (sym is)
+spelled_more words i d x true false ids new lt so_far good is both = absurd (cc both)
+spelled_more words i d x false fits ids new lt so_far good is both = absurd (cc both)
 
-pub told_all : (r : Register) (now time : ℕ) (start : State) (words : List (Bor (List ℕ))) (i : ℕ) (complete : Bool) (text : List ℕ) (after : State) → now ≡ time → length words ≤ i
-    → AreTold r now start (take i (texts words)) complete text after → AreTold r time start (texts words) complete text after
-told_all r now time start words i complete text after is all told =
-    subst (λ (n : ℕ). AreTold r n start (texts words) complete text after) is
-    (subst (λ (ws : List (List ℕ)). AreTold r now start ws complete text after)
-    (take_all i (texts words) (rw (length-map words (λ (t : Bor (List ℕ)). t.now)) all)) told)
+-- ---- lookups one after the other
 
-pub told_text : (call : Call) (r : Register) (me_ : Locator) (seed : ℕ) (found : List Locator) (start : State) (words : List (Bor (List ℕ))) (result : Result Lines Refusal) → Asks call me_ seed
-    → found ≡ roots r → start ≡ fresh found me_ seed → texts words ≡ xeid_words call
-    → IfOk result (λ lines. AreAllTold r start.known.time start (texts words) lines.complete lines.text.items) → IfOk result (λ lines. IsLookupText lines.complete call r lines.text.items)
-told_text call r me_ seed found start words (Ok lines) asks at_root new same told =
-    let begun : start ≡ fresh (roots r) me_ seed = new ∙ ap (λ (l : List Locator). fresh l me_ seed) at_root in
-    record {
-      me_ = me_;
-      seed = seed;
-      asks = asks;
-      told = subst (λ (s : State). AreAllTold r s.known.time s (xeid_words call) lines.complete lines.text.items) begun
-          (subst (λ (ws : List (List ℕ)). AreAllTold r start.known.time start ws lines.complete lines.text.items) same told);
-    }
-told_text call r me_ seed found start words (Err why) asks at_root new same told = tt
+pub told_none : (r : Register) (now : ℕ) (start : State) (complete : Bool) (text : List ℕ) → complete ≡ true → text ≡ [] → AreTold r now start [] complete text start
+told_none r now start complete text c t = rw (c, t) none
+
+pub told_more : (r : Register) (now : ℕ) (start : State) (ids : List Xeid) (i : ℕ) (d : Xeid) (complete found : Bool) (text lines new : List ℕ)
+    (before after : State) → i < length ids
+    → AreTold r now start (take i ids) complete text before → IsTold r now (get_or ids i d) before found lines after → new ≡ text ++ lines
+    → AreTold r now start (take (i + 1) ids) (complete && found) new after
+told_more r now start ids i d complete found text lines new before after lt told one is =
+    rw (is, take_more ids i d lt) (more (get_or ids i d) found lines after told one)
+
+pub told_all : (r : Register) (now time : ℕ) (start : State) (ids : List Xeid) (i : ℕ) (complete : Bool) (text : List ℕ) (after : State) → now ≡ time
+    → length ids ≤ i
+    → AreTold r now start (take i ids) complete text after → AreTold r time start ids complete text after
+told_all r now time start ids i complete text after is all told = rw (sym is) (rw (take_all i ids all) at told)
+
+pub told_text : (call : Call) (r : Register) (ids : List Xeid) (me_ : Locator) (seed : ℕ) (found : List Locator) (start : State) (complete : Bool)
+    (text : List ℕ) → Asks call ids me_ seed
+    → found ≡ roots r → start ≡ fresh found me_ seed → AreAllTold r start.known.time start ids complete text → IsLookupText complete call r text
+told_text call r ids me_ seed found start complete text asks at_root new told = record {
+  ids = ids;
+  me_ = me_;
+  seed = seed;
+  asks = asks;
+  told = subst (λ (s : State). AreAllTold r s.known.time s ids complete text) (new ∙ ap (λ (l : List Locator). fresh l me_ seed) at_root) told;
+}
 
 pub sound_start : NewResolversAreSound → (r : Register) (me_ : Locator) (seed : ℕ) (found : List Locator) (start : State) → found ≡ roots r → start ≡ fresh found me_ seed → IsSound r start
 sound_start law r me_ seed found start at_root new =

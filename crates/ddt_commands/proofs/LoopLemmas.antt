@@ -1,5 +1,5 @@
 -- From a run of a resolver over wires to what the command says of it.
-use Rattle.std.proofs.Common.{◌≡◌, ◌⊎◌, inl, inr, ℕ, ◌+◌, false, true, Bor, List, [], ◌∷◌, ◌++◌, Option, Some, None, Ok, map, refl, sym, ap, subst, ◌∙◌, append_assoc}
+use Rattle.std.proofs.Common.{◌≡◌, ◌⊎◌, inl, inr, ℕ, false, true, List, [], ◌∷◌, ◌++◌, Option, Some, None, Ok, refl, sym, ap, subst, ◌∙◌, append_assoc}
 use Rattle.std.specs.Prelude.{count_by}
 use Rattle.std.specs.List.{AllZip}
 use Rattle.std.proofs.lemmas.List.{append-nil}
@@ -18,24 +18,18 @@ use Rattle.ddt_loop.specs.declared.ends.LoopEnd.{LoopEnd}
 use Rattle.ddt_loop.specs.Askers.{has_unresolved}
 use Rattle.ddt_loop.specs.Right.{IsRightEnd, RepliesAreOwed, WhenFair, WhenTold, is_poll}
 use Rattle.ddt_loop.specs.Turns.{IsLoop}
-use Rattle.ddt_commands.specs.declared.looping.Task.{Task}
-use Rattle.ddt_text.specs.FirstFault.{xeid_in}
+use Rattle.ddt_commands.specs.declared.commands.loops.task.Task.{Task}
 use Rattle.ddt_words.specs.Call.{Call}
 use Rattle.ddt_commands.specs.Lookup.{bad_identifier, me_of, seed_of, xeid_words}
 use Rattle.ddt_commands.specs.Loop.{IsRun, bad_loop, end_line, end_lines, server_locators, turns_of}
 use Rattle.ddt_commands.proofs.LookupLemmas.{starts_sound}
-use Rattle.ddt_commands.proofs.Texts.{texts}
 
 -- ---- the words
 
-pub good_words : (call : Call) (me_ : Locator) (seed turns : ℕ) → bad_identifier (xeid_words call) ≡ None → me_of call ≡ Ok me_ → seed_of call ≡ Some seed → turns_of call ≡ Some turns
+pub good_words : (call : Call) (me_ : Locator) (seed turns : ℕ) → bad_identifier (xeid_words call) ≡ None → (me_of call ≡ Ok me_) × (seed_of call ≡ Some seed)
+    → turns_of call ≡ Some turns
     → bad_loop call ≡ None
-good_words call me_ seed turns good e f h = rw (good, e, f, h) refl
-
--- the words of the identifiers, as they were read
-pub ids_of : (call : Call) (words : List (Bor (List ℕ))) (ids shown : List Xeid) → texts words ≡ xeid_words call → map xeid_in (texts words) ≡ map Ok ids → shown ≡ ids
-    → map xeid_in (xeid_words call) ≡ map Ok shown
-ids_of call words ids shown same spelled is = ap (map xeid_in) (sym same) ∙ spelled ∙ ap (map Ok) (sym is)
+good_words call me_ seed turns good asks h = rw (good, asks.0, asks.1, h) refl
 
 -- ---- the lines of the ends
 

@@ -1,11 +1,9 @@
 -- From the lines of a command to what its writers have.
 use Rattle.std.proofs.Common.{◌≡◌, ◌≢◌, ◌⊎◌, ℕ, Bool, true, false, List, Option, inl, inr, refl, sym, subst, ◌∙◌}
 use Rattle.std.specs.Io.KnownBytes.{Appends}
-use Rattle.ddt_lines.specs.Printing.{AppendsFront}
-use Rattle.ddt_commands.specs.declared.refusal.Refusal.{Refusal}
 use Rattle.ddt_commands.specs.declared.status.Status.{Status}
-use Rattle.ddt_commands.specs.declared.status.Status.TheVariants.{Answered, Incomplete, Unprinted}
-use Rattle.ddt_commands.specs.Running.{HasPartOf, HasText}
+use Rattle.ddt_commands.specs.declared.status.Status.TheVariants.{Unprinted}
+use Rattle.ddt_commands.specs.Running.{HasText}
 use Rattle.ddt_commands.specs.Status.{answer_status}
 
 -- a status that says whether an answer is complete says it of one answer
@@ -25,8 +23,3 @@ pub has_text : (is_text : Bool → List ℕ → Type 0) (own : Bool) (text : Lis
     → (complete : Bool) → status ≡ answer_status complete → HasText (is_text complete) old new
 has_text is_text own text old new status is (inl ends) printed complete e = (text, subst (λ (b : Bool). is_text b text) (same_answer own complete (sym ends ∙ e)) is, printed (λ no. printed_status complete (sym e ∙ no)))
 has_text is_text own text old new status is (inr ends) printed complete e = absurd (printed_status complete (sym e ∙ ends))
-
--- lines of which a front was printed are a part of their kind
-pub has_part : (is_text : Bool → List ℕ → Type 0) (is_why : Refusal → Type 0) (own : Bool) (text : List ℕ) (out out_new err err_new : Option (List ℕ)) → is_text own text
-    → AppendsFront out out_new text → HasPartOf is_text is_why out out_new err err_new
-has_part is_text is_why own text out out_new err err_new is front = inl (own, (text, is, front))

@@ -5,9 +5,7 @@ use Rattle.std.specs.Prelude.{slice_get, option_map}
 use Rattle.std.proofs.lemmas.Option.{slice_get-get_or, slice_get-map}
 use Rattle.std.proofs.lemmas.List.{append-nil, at_drop_all, at_drop_more, length-append, length-map, reverse-append, take_all}
 use Rattle.ddt_path.specs.declared.locator.Locator.{Locator}
-use Rattle.ddt_resolver.specs.declared.answers.Asked.TheVariants as asked_as
-use Rattle.ddt_resolver.specs.declared.answers.Heard.TheVariants as heard_as
-use Rattle.ddt_resolver.specs.declared.answers.Ticked.TheVariants as ticked_as
+use Rattle.ddt_resolver.specs.declared.answers.Outgoing.{Outgoing}
 use Rattle.ddt_resolver.specs.State.{State, fresh}
 use Rattle.ddt_resolver.specs.declared.step.Reply.{Reply}
 use Rattle.ddt_resolver.specs.declared.step.Reply.TheVariants.{ToAsk, ToDatagram, ToTick}
@@ -33,45 +31,33 @@ use Rattle.ddt_commands.specs.Register.{HasBytes, Spell}
 use Rattle.ddt_commands.specs.Script.{SpellsScript}
 use Rattle.ddt_commands.specs.declared.refusal.Refusal.TheVariants.{OutOfMemory}
 use Rattle.ddt_commands.proofs.OverLemmas.{of_register}
-use Rattle.ddt_commands.specs.Replay.{AreRegistersAt, IsRegisterAt, IsReplayOf, IsRunText, IsWhyNoMore, IsWhyNoScript, IsWhyNotReplayed, bad_replay, datagrams_at, event_text, lines_from, numbered, run_text, servers_of}
+use Rattle.ddt_commands.specs.Replay.{AreRegistersAt, IsRegisterAt, IsReplayOf, IsRunText, IsWhyNoMore, IsWhyNoScript, IsWhyNotReplayed, bad_replay, datagrams_at, event_text, lines_from, numbered, requests, run_text, servers_of}
 use Rattle.ddt_commands.proofs.LookupLemmas.{one_more, starts_sound}
 use Rattle.ddt_commands.proofs.Texts.{texts}
 
 -- ---- how many datagrams are sent
 
-sent_at_reply : (me_ : Locator) (a : Reply) → length (sent_for me_ (request_at (event_of a))) ≡ datagrams_at (event_of a)
-sent_at_reply me_ (ToAsk (Ok (asked_as.Answer o))) = refl
-sent_at_reply me_ (ToAsk (Ok (asked_as.Sent t d))) = refl
-sent_at_reply me_ (ToAsk (Err why)) = refl
-sent_at_reply me_ (ToDatagram (heard_as.Ignored why)) = refl
-sent_at_reply me_ (ToDatagram (heard_as.Followed t d)) = refl
-sent_at_reply me_ (ToDatagram (heard_as.Answer t o)) = refl
-sent_at_reply me_ (ToDatagram (heard_as.GaveUp t why)) = refl
-sent_at_reply me_ (ToTick ticked_as.Nothing) = refl
-sent_at_reply me_ (ToTick (ticked_as.Sent t d)) = refl
-sent_at_reply me_ (ToTick (ticked_as.Answer t o)) = refl
-sent_at_reply me_ (ToTick (ticked_as.GaveUp t why)) = refl
+sent_of : (me_ : Locator) (request : Option Outgoing) → length (sent_for me_ request) ≡ requests request
+sent_of me_ None = refl
+sent_of me_ (Some d) = refl
 
-sent_at_event : (me_ : Locator) (a : Reply) (event : Event) → event ≡ event_of a → length (sent_for me_ (request_at event)) ≡ datagrams_at event
-sent_at_event me_ a event is = subst (λ (e : Event). length (sent_for me_ (request_at e)) ≡ datagrams_at e) (sym is) (sent_at_reply me_ a)
+sent_at_reply : (me_ : Locator) (a : Reply) → length (sent_for me_ (request_at (event_of a))) ≡ datagrams_at (event_of a)
+sent_at_reply me_ (ToAsk (Ok asked)) = sent_of me_ _
+sent_at_reply me_ (ToAsk (Err why)) = refl
+sent_at_reply me_ (ToDatagram heard) = sent_of me_ _
+sent_at_reply me_ (ToTick ticked) = sent_of me_ _
 
 -- a step adds the datagrams of its event
 grows : (servers : Members) (w : World) (step : Step) (event : Event) (new : World) → WorldStep servers w step event new → length new.sent ≡ length w.sent + datagrams_at event
 grows servers w step event new (resolves h) =
-    ap (λ (v : World). length v.sent) h.goes_on ∙ length-append w.sent (sent_for w.state.me (request_at event))
-    ∙ ap (λ (n : ℕ). length w.sent + n) (sent_at_event w.state.me h.reply event h.tells)
+    rw (h.goes_on, h.tells) (length-append w.sent _ ∙ ap (λ (n : ℕ). length w.sent + n) (sent_at_reply w.state.me h.reply))
 grows servers w step event new (serves k more at_ (by_reply d bytes_ is request says told grown) goes_on) =
-    ap (λ (v : World). length v.sent) goes_on ∙ ap length grown ∙ length-append w.sent _ ∙ ap (λ (e : Event). length w.sent + datagrams_at e) (sym told)
-grows servers w step event new (serves k more at_ (by_silence d is request says told same) goes_on) =
-    ap (λ (v : World). length v.sent) goes_on ∙ ap length same ∙ omega arith ∙ ap (λ (e : Event). length w.sent + datagrams_at e) (sym told)
-grows servers w step event new (not_sent k at_ le told goes_on) =
-    ap (λ (v : World). length v.sent) goes_on ∙ omega arith ∙ ap (λ (e : Event). length w.sent + datagrams_at e) (sym told)
-grows servers w step event new (passes millis at_ told goes_on) =
-    ap (λ (v : World). length v.sent) goes_on ∙ omega arith ∙ ap (λ (e : Event). length w.sent + datagrams_at e) (sym told)
-grows servers w step event new (replaces k at_ lt told goes_on) =
-    ap (λ (v : World). length v.sent) goes_on ∙ omega arith ∙ ap (λ (e : Event). length w.sent + datagrams_at e) (sym told)
-grows servers w step event new (no_member k at_ le told goes_on) =
-    ap (λ (v : World). length v.sent) goes_on ∙ omega arith ∙ ap (λ (e : Event). length w.sent + datagrams_at e) (sym told)
+    rw (goes_on, told) (ap length grown ∙ length-append w.sent _)
+grows servers w step event new (serves k more at_ (by_silence d is request says told same) goes_on) = rw (goes_on, told) (ap length same ∙ omega arith)
+grows servers w step event new (not_sent k at_ le told goes_on) = rw (goes_on, told) (omega arith)
+grows servers w step event new (passes millis at_ told goes_on) = rw (goes_on, told) (omega arith)
+grows servers w step event new (replaces k at_ lt told goes_on) = rw (goes_on, told) (omega arith)
+grows servers w step event new (no_member k at_ le told goes_on) = rw (goes_on, told) (omega arith)
 
 -- ---- the lines of the events so far
 
@@ -209,24 +195,9 @@ module _ (law : NewResolversAreSound) (r : Register) (others : List Register) (m
   pub told_run : (servers : List (List Outline)) → servers ≡ map configs_of (r ∷ others) → HasRun servers start steps t after → (text : List ℕ) → text ≡ lines_from 0 t.events → IsRunText r others me_ seed steps text
   told_run servers are h = ran (subst (λ l. HasRun l start steps t after) are h)
 
--- ---- the same, at other names for the same paths, steps and text
-
-pub run_of : (r : Register) (others : List Register) (me_ : Locator) (seed : ℕ) (steps shown : List Step) (text told : List ℕ) → shown ≡ steps → text ≡ told → IsRunText r others me_ seed shown told → IsRunText r others me_ seed steps text
-run_of r others me_ seed steps shown text told e f h =
-    subst (λ (s : List Step). IsRunText r others me_ seed s text) e (subst (λ (t : List ℕ). IsRunText r others me_ seed shown t) (sym f) h)
+-- ---- the files
 
 module _ {F : Type 0} (opens : List ℕ → Option F → Type 0) (remaining : F → Option (List ℕ)) where
-  module _ (a b p q : List ℕ) (l m : List (List ℕ)) (e : a ≡ p) (f : b ≡ q) (h : l ≡ m) where
-    pub replay_at : (me_ : Locator) (seed : ℕ) (text : List ℕ) → IsReplayOf opens remaining a b l me_ seed text → IsReplayOf opens remaining p q m me_ seed text
-    replay_at me_ seed text k =
-        subst (λ (x : List ℕ). IsReplayOf opens remaining x q m me_ seed text) e (subst (λ (x : List ℕ). IsReplayOf opens remaining a x m me_ seed text) f
-        (subst (λ (x : List (List ℕ)). IsReplayOf opens remaining a b x me_ seed text) h k))
-
-    pub why_at : (why : Refusal) → IsWhyNotReplayed opens remaining a b l why → IsWhyNotReplayed opens remaining p q m why
-    why_at why k =
-        subst (λ (x : List ℕ). IsWhyNotReplayed opens remaining x q m why) e (subst (λ (x : List ℕ). IsWhyNotReplayed opens remaining a x m why) f
-        (subst (λ (x : List (List ℕ)). IsWhyNotReplayed opens remaining a b x why) h k))
-
   -- one register more
   are_more : (paths : List (List ℕ)) (rs : List Register) (path : List ℕ) (r : Register) → AreRegistersAt opens remaining paths rs → IsRegisterAt opens remaining path r → AreRegistersAt opens remaining (paths ++ path ∷ []) (rs ++ r ∷ [])
   are_more [] [] path r h k = (k, tt)
@@ -275,10 +246,6 @@ module _ {F : Type 0} (opens : List ℕ → Option F → Type 0) (remaining : F 
       pub text_over : (others : List Register) (me_ : Locator) (seed : ℕ) (text : List ℕ) → AreRegistersAt opens remaining more others → All (λ q. roots q ≡ roots r) others → IsRunText r others me_ seed steps text
           → IsReplayOf opens remaining register script more me_ seed text
       text_over others me_ seed text are same runs = (source, opened, of_register remaining source _ r closed accepted spelled (other, opened_too, (closed_too, (steps, spells, (others, are, same, runs)))))
-
--- the same over registers at other names
-pub over_registers : (r : Register) (shown others : List Register) (me_ : Locator) (seed : ℕ) (steps : List Step) (text : List ℕ) → shown ≡ others → IsRunText r shown me_ seed steps text → IsRunText r others me_ seed steps text
-over_registers r shown others me_ seed steps text e h = subst (λ (l : List Register). IsRunText r l me_ seed steps text) e h
 
 pub good_words : (call : Call) (me_ : Locator) (seed : ℕ) → me_of call ≡ Ok me_ → seed_of call ≡ Some seed → bad_replay call ≡ None
 good_words call me_ seed e f = rw (e, f) refl

@@ -1,13 +1,12 @@
 -- From what one command prints to what the words of a process print.
-use Rattle.std.proofs.Common.{◌≡◌, ◌≢◌, inl, inr, ℕ, Bool, true, List, [], Option, Some, ap, sym, subst, refl, ◌∙◌}
-use Rattle.std.proofs.lemmas.Option.{same_Some}
+use Rattle.std.proofs.Common.{◌≡◌, ◌≢◌, inl, inr, ℕ, true, List, [], Option, Some, ap, sym, subst, refl, ◌∙◌}
 use Rattle.clap.specs.Words.{App, fault_of, is_simple_and_free, subcommand_of}
 use Rattle.ddt_words.specs.declared.declaration.Declaration.{Declaration}
 use Rattle.ddt_words.specs.Call.{Call, Calls}
 use Rattle.ddt_words.specs.Line.{line}
 use Rattle.ddt_commands.specs.declared.commands.Command.{Command}
 use Rattle.ddt_commands.specs.Commands.{IsTextOf, IsWhyOf, command_list, name_of, program_line}
-use Rattle.ddt_commands.specs.Running.{CallNone, CallsFor, DontCall, HasPartOf, HasRefused, HasText, IsAnswer, IsWhyRefused}
+use Rattle.ddt_commands.specs.Running.{CallNone, CallsFor, DontCall, HasPartOf, IsAnswer, IsWhyRefused}
 use Rattle.ddt_commands.specs.Wires.{OverWires}
 
 -- clap's exact rule holds of the program's command line
@@ -27,14 +26,6 @@ calls_for words command call calls named = (calls, sym named)
 -- words with a fault call nothing
 pub bad_words : (ds : List Declaration) (words : List (List ℕ)) → line ds ≡ program_line → fault_of (line ds) words ≢ [] → CallNone words
 bad_words ds words e bad = λ command call calls. bad (ap (λ (a : App). fault_of a words) e ∙ calls.0.0)
-
-pub answered : {F : Type 0} (opens : List ℕ → Option F → Type 0) (remaining : F → Option (List ℕ)) (over : OverWires) (words : List (List ℕ)) (command : Command) (call : Call) (complete : Bool)
-    (old new : Option (List ℕ)) → CallsFor words command call → HasText (IsTextOf opens remaining over command call complete) old new → HasText (IsAnswer opens remaining over words complete) old new
-answered opens remaining over words command call complete old new calls h = (h.0, (command, (call, calls, h.1)), h.2)
-
-pub refused : {F : Type 0} (opens : List ℕ → Option F → Type 0) (remaining : F → Option (List ℕ)) (over : OverWires) (words : List (List ℕ)) (command : Command) (call : Call) (old new : Option (List ℕ))
-    → CallsFor words command call → HasRefused (IsWhyOf opens remaining over command call) old new → HasRefused (IsWhyRefused opens remaining over words) old new
-refused opens remaining over words command call old new calls h = (h.0, inr (command, (call, calls, h.1)), h.2)
 
 pub unprinted : {F : Type 0} (opens : List ℕ → Option F → Type 0) (remaining : F → Option (List ℕ)) (over : OverWires) (words : List (List ℕ)) (command : Command) (call : Call)
     (out out_new err err_new : Option (List ℕ)) → CallsFor words command call → HasPartOf (IsTextOf opens remaining over command call) (IsWhyOf opens remaining over command call) out out_new err err_new

@@ -1,6 +1,6 @@
 -- Which steps the lines of a script spell.
 use Rattle.std.proofs.lemmas.Fmt.{decimal_injective}
-use Rattle.std.proofs.Common.{◌≡◌, ◌≢◌, ℕ, suc, ◌+◌, ◌^◌, ◌<◌, List, [], ◌∷◌, ◌++◌, map, length, take, drop, get_or, codes, decimal, Option, Some, None, Result, Err, Bor, refl, sym, ap, ◌∙◌, subst, arith}
+use Rattle.std.proofs.Common.{◌≡◌, ℕ, suc, ◌+◌, ◌^◌, ◌<◌, List, [], ◌∷◌, ◌++◌, map, length, take, drop, get_or, codes, decimal, Option, Some, None, Result, Err, Bor, refl, sym, ap, ◌∙◌, subst, arith}
 use Rattle.std.specs.Prelude.{MatchOption}
 use Rattle.std.specs.Iterator.{Yields}
 use Rattle.std.proofs.Math.Seq.{drop-cons}
@@ -15,8 +15,8 @@ use Rattle.ddt_text.specs.laws.Number.{number_in-sound, number_in-complete}
 use Rattle.ddt_sim.specs.declared.schedule.Step.{Step}
 use Rattle.ddt_sim.specs.declared.schedule.Step.TheVariants.{Ask, Deliver, Pass, Tick, Replace}
 use Rattle.ddt_commands.proofs.Texts.{texts}
-use Rattle.ddt_commands.specs.declared.script.ScriptFault.{ScriptFault}
-use Rattle.ddt_commands.specs.declared.script.ScriptFault.TheVariants.{Line}
+use Rattle.ddt_commands.specs.declared.commands.replay.script.ScriptFault.{ScriptFault}
+use Rattle.ddt_commands.specs.declared.commands.replay.script.ScriptFault.TheVariants.{Line}
 use Rattle.ddt_commands.specs.Script.{IsRefusedAt, ScriptsAreClear, SpellSteps, SpellsStep, lines_in}
 
 -- ---- one line
@@ -32,70 +32,62 @@ one_line a b fault is refused = cc
 letters : (a b : ℕ) (xs ys line : List ℕ) → line ≡ a ∷ xs → line ≡ b ∷ ys → a ≡ b
 letters a b xs ys line e f = ap (λ (l : List ℕ). get_or l 0 0) (sym e ∙ f)
 
-behind_ask : (line s t : List ℕ) → line ≡ codes "ask " ++ s → line ≡ codes "ask " ++ t → s ≡ t
-behind_ask line s t e f = ap (drop 4) (sym e ∙ f)
+-- a line that begins with the word of a step spells such a step alone
+only_ask : (line text : List ℕ) → line ≡ codes "ask " ++ text → (s : Step) → SpellsStep line s → (x : Xeid) × (s ≡ Ask x) × SpellsXeid text x
+only_ask line text is (Ask x) h = (x, refl, subst (λ (t : List ℕ). SpellsXeid t x) (ap (drop 4) (sym h.1 ∙ is)) h.2)
+only_ask line text is (Deliver k) h = absurd (omega (arith, letters 97 100 _ _ line is h.0))
+only_ask line text is (Pass k) h = absurd (omega (arith, letters 97 119 _ _ line is h.0))
+only_ask line text is Tick h = absurd (omega (arith, letters 97 116 _ _ line is h))
+only_ask line text is (Replace k) h = absurd (omega (arith, letters 97 114 _ _ line is h.0))
 
-behind_deliver : (line s t : List ℕ) → line ≡ codes "deliver " ++ s → line ≡ codes "deliver " ++ t → s ≡ t
-behind_deliver line s t e f = ap (drop 8) (sym e ∙ f)
+pub only_deliver : (line text : List ℕ) → line ≡ codes "deliver " ++ text → (s : Step) → SpellsStep line s
+    → (k : ℕ) × (s ≡ Deliver k) × (text ≡ decimal k) × (k < 2 ^ 32)
+only_deliver line text is (Ask x) h = absurd (omega (arith, letters 100 97 _ _ line is h.1))
+only_deliver line text is (Deliver k) h = (k, refl, ap (drop 8) (sym is ∙ h.0), h.1)
+only_deliver line text is (Pass k) h = absurd (omega (arith, letters 100 119 _ _ line is h.0))
+only_deliver line text is Tick h = absurd (omega (arith, letters 100 116 _ _ line is h))
+only_deliver line text is (Replace k) h = absurd (omega (arith, letters 100 114 _ _ line is h.0))
 
-behind_wait : (line s t : List ℕ) → line ≡ codes "wait " ++ s → line ≡ codes "wait " ++ t → s ≡ t
-behind_wait line s t e f = ap (drop 5) (sym e ∙ f)
+pub only_wait : (line text : List ℕ) → line ≡ codes "wait " ++ text → (s : Step) → SpellsStep line s
+    → (k : ℕ) × (s ≡ Pass k) × (text ≡ decimal k) × (k < 2 ^ 32)
+only_wait line text is (Ask x) h = absurd (omega (arith, letters 119 97 _ _ line is h.1))
+only_wait line text is (Deliver k) h = absurd (omega (arith, letters 119 100 _ _ line is h.0))
+only_wait line text is (Pass k) h = (k, refl, ap (drop 5) (sym is ∙ h.0), h.1)
+only_wait line text is Tick h = absurd (omega (arith, letters 119 116 _ _ line is h))
+only_wait line text is (Replace k) h = absurd (omega (arith, letters 119 114 _ _ line is h.0))
 
-behind_replace : (line s t : List ℕ) → line ≡ codes "replace " ++ s → line ≡ codes "replace " ++ t → s ≡ t
-behind_replace line s t e f = ap (drop 8) (sym e ∙ f)
+pub only_replace : (line text : List ℕ) → line ≡ codes "replace " ++ text → (s : Step) → SpellsStep line s
+    → (k : ℕ) × (s ≡ Replace k) × (text ≡ decimal k) × (k < 2 ^ 32)
+only_replace line text is (Ask x) h = absurd (omega (arith, letters 114 97 _ _ line is h.1))
+only_replace line text is (Deliver k) h = absurd (omega (arith, letters 114 100 _ _ line is h.0))
+only_replace line text is (Pass k) h = absurd (omega (arith, letters 114 119 _ _ line is h.0))
+only_replace line text is Tick h = absurd (omega (arith, letters 114 116 _ _ line is h))
+only_replace line text is (Replace k) h = (k, refl, ap (drop 8) (sym is ∙ h.0), h.1)
 
-only_ask : (line text : List ℕ) → line ≡ codes "ask " ++ text → ((x : Xeid) → ¬ (SpellsXeid text x)) → (s : Step) → ¬ (SpellsStep line s)
-only_ask line text is none (Ask x) h = none x (subst (λ (t : List ℕ). SpellsXeid t x) (sym (behind_ask line text h.0 is h.1)) h.2)
-only_ask line text is none (Deliver k) h = absurd (omega (arith, letters 97 100 _ _ line is h.0))
-only_ask line text is none (Pass k) h = absurd (omega (arith, letters 97 119 _ _ line is h.0))
-only_ask line text is none Tick h = absurd (omega (arith, letters 97 116 _ _ line is h))
-only_ask line text is none (Replace k) h = absurd (omega (arith, letters 97 114 _ _ line is h.0))
+only_tick : (line : List ℕ) → line ≡ codes "tick" → (s : Step) → SpellsStep line s → s ≡ Tick
+only_tick line is (Ask x) h = absurd (omega (arith, letters 116 97 _ _ line is h.1))
+only_tick line is (Deliver k) h = absurd (omega (arith, letters 116 100 _ _ line is h.0))
+only_tick line is (Pass k) h = absurd (omega (arith, letters 116 119 _ _ line is h.0))
+only_tick line is Tick h = refl
+only_tick line is (Replace k) h = absurd (omega (arith, letters 116 114 _ _ line is h.0))
 
 pub ask_step : (line text : List ℕ) (r : Option Step) → line ≡ codes "ask " ++ text → MatchOption r ((x : Xeid) → ¬ (SpellsXeid text x)) (λ s. (x : Xeid) × SpellsXeid text x × (s ≡ Ask x))
     → MatchOption r ((s : Step) → ¬ (SpellsStep line s)) (λ s. SpellsStep line s)
-ask_step line text None is none = only_ask line text is none
+ask_step line text None is none = λ s h. let a = only_ask line text is s h in none a.0 a.2
 ask_step line text (Some s) is some = subst (SpellsStep line) (sym some.2) (text, is, some.1)
 
-not_number : (text : List ℕ) (k : ℕ) → None ≡ number_in 4294967295 text → k < 2 ^ 32 → text ≢ decimal k
-not_number text k none fits is =
+-- text that is no number is that of no step
+pub not_number : (text : List ℕ) (s : Step) (of_number : ℕ → Step) → None ≡ number_in 4294967295 text
+    → (k : ℕ) × (s ≡ of_number k) × (text ≡ decimal k) × (k < 2 ^ 32) → ⊥
+not_number text s of_number none (k, made, is, fits) =
     let both : ◌≡◌ {A = Option ℕ} None (Some k) = none ∙ ap (number_in 4294967295) is ∙ number_in-complete 4294967295 k (omega arith) (omega arith) in
     cc
 
-pub deliver_none : (line text : List ℕ) → line ≡ codes "deliver " ++ text → None ≡ number_in 4294967295 text → (s : Step) → ¬ (SpellsStep line s)
-deliver_none line text is none (Ask x) h = absurd (omega (arith, letters 100 97 _ _ line is h.1))
-deliver_none line text is none (Deliver k) h = not_number text k none h.1 (behind_deliver line text (decimal k) is h.0)
-deliver_none line text is none (Pass k) h = absurd (omega (arith, letters 100 119 _ _ line is h.0))
-deliver_none line text is none Tick h = absurd (omega (arith, letters 100 116 _ _ line is h))
-deliver_none line text is none (Replace k) h = absurd (omega (arith, letters 100 114 _ _ line is h.0))
-
-pub deliver_some : (line text : List ℕ) (k : ℕ) → line ≡ codes "deliver " ++ text → Some k ≡ number_in 4294967295 text → SpellsStep line (Deliver k)
-deliver_some line text k is some =
+-- a number behind a word
+pub number_behind : (line text word : List ℕ) (k : ℕ) → line ≡ word ++ text → Some k ≡ number_in 4294967295 text → (line ≡ word ++ decimal k) × (k < 2 ^ 32)
+number_behind line text word k is some =
     let h = number_in-sound 4294967295 text k (omega arith) (sym some) in
-    (is ∙ ap (λ (t : List ℕ). codes "deliver " ++ t) h.1, omega (arith, h.0))
-
-pub wait_none : (line text : List ℕ) → line ≡ codes "wait " ++ text → None ≡ number_in 4294967295 text → (s : Step) → ¬ (SpellsStep line s)
-wait_none line text is none (Ask x) h = absurd (omega (arith, letters 119 97 _ _ line is h.1))
-wait_none line text is none (Deliver k) h = absurd (omega (arith, letters 119 100 _ _ line is h.0))
-wait_none line text is none (Pass k) h = not_number text k none h.1 (behind_wait line text (decimal k) is h.0)
-wait_none line text is none Tick h = absurd (omega (arith, letters 119 116 _ _ line is h))
-wait_none line text is none (Replace k) h = absurd (omega (arith, letters 119 114 _ _ line is h.0))
-
-pub wait_some : (line text : List ℕ) (k : ℕ) → line ≡ codes "wait " ++ text → Some k ≡ number_in 4294967295 text → SpellsStep line (Pass k)
-wait_some line text k is some =
-    let h = number_in-sound 4294967295 text k (omega arith) (sym some) in
-    (is ∙ ap (λ (t : List ℕ). codes "wait " ++ t) h.1, omega (arith, h.0))
-
-pub replace_none : (line text : List ℕ) → line ≡ codes "replace " ++ text → None ≡ number_in 4294967295 text → (s : Step) → ¬ (SpellsStep line s)
-replace_none line text is none (Ask x) h = absurd (omega (arith, letters 114 97 _ _ line is h.1))
-replace_none line text is none (Deliver k) h = absurd (omega (arith, letters 114 100 _ _ line is h.0))
-replace_none line text is none (Pass k) h = absurd (omega (arith, letters 114 119 _ _ line is h.0))
-replace_none line text is none Tick h = absurd (omega (arith, letters 114 116 _ _ line is h))
-replace_none line text is none (Replace k) h = not_number text k none h.1 (behind_replace line text (decimal k) is h.0)
-
-pub replace_some : (line text : List ℕ) (k : ℕ) → line ≡ codes "replace " ++ text → Some k ≡ number_in 4294967295 text → SpellsStep line (Replace k)
-replace_some line text k is some =
-    let h = number_in-sound 4294967295 text k (omega arith) (sym some) in
-    (is ∙ ap (λ (t : List ℕ). codes "replace " ++ t) h.1, omega (arith, h.0))
+    (is ∙ ap (λ (t : List ℕ). word ++ t) h.1, omega (arith, h.0))
 
 -- ---- the lines of a script
 
@@ -154,32 +146,19 @@ number_once : (m n : ℕ) → m < 2 ^ 32 → n < 2 ^ 32 → decimal m ≡ decima
 number_once m n fits small e = decimal_injective m n (omega arith) (omega arith) e
 
 step_once : (line : List ℕ) (a b : Step) → SpellsStep line a → SpellsStep line b → a ≡ b
-step_once line (Ask x) (Ask y) h k =
-    ap Ask (xeids_are_read.one k.0 x y (subst (λ (t : List ℕ). SpellsXeid t x) (behind_ask line h.0 k.0 h.1 k.1) h.2) k.2)
-step_once line (Ask x) (Deliver k) h g = absurd (omega (arith, letters 97 100 _ _ line h.1 g.0))
-step_once line (Ask x) (Pass k) h g = absurd (omega (arith, letters 97 119 _ _ line h.1 g.0))
-step_once line (Ask x) Tick h g = absurd (omega (arith, letters 97 116 _ _ line h.1 g))
-step_once line (Ask x) (Replace k) h g = absurd (omega (arith, letters 97 114 _ _ line h.1 g.0))
-step_once line (Deliver m) (Ask y) h g = absurd (omega (arith, letters 100 97 _ _ line h.0 g.1))
-step_once line (Deliver m) (Deliver n) h g = ap Deliver (number_once m n h.1 g.1 (behind_deliver line (decimal m) (decimal n) h.0 g.0))
-step_once line (Deliver m) (Pass n) h g = absurd (omega (arith, letters 100 119 _ _ line h.0 g.0))
-step_once line (Deliver m) Tick h g = absurd (omega (arith, letters 100 116 _ _ line h.0 g))
-step_once line (Deliver m) (Replace n) h g = absurd (omega (arith, letters 100 114 _ _ line h.0 g.0))
-step_once line (Pass m) (Ask y) h g = absurd (omega (arith, letters 119 97 _ _ line h.0 g.1))
-step_once line (Pass m) (Deliver n) h g = absurd (omega (arith, letters 119 100 _ _ line h.0 g.0))
-step_once line (Pass m) (Pass n) h g = ap Pass (number_once m n h.1 g.1 (behind_wait line (decimal m) (decimal n) h.0 g.0))
-step_once line (Pass m) Tick h g = absurd (omega (arith, letters 119 116 _ _ line h.0 g))
-step_once line (Pass m) (Replace n) h g = absurd (omega (arith, letters 119 114 _ _ line h.0 g.0))
-step_once line Tick (Ask y) h g = absurd (omega (arith, letters 116 97 _ _ line h g.1))
-step_once line Tick (Deliver n) h g = absurd (omega (arith, letters 116 100 _ _ line h g.0))
-step_once line Tick (Pass n) h g = absurd (omega (arith, letters 116 119 _ _ line h g.0))
-step_once line Tick Tick h g = refl
-step_once line Tick (Replace n) h g = absurd (omega (arith, letters 116 114 _ _ line h g.0))
-step_once line (Replace m) (Ask y) h g = absurd (omega (arith, letters 114 97 _ _ line h.0 g.1))
-step_once line (Replace m) (Deliver n) h g = absurd (omega (arith, letters 114 100 _ _ line h.0 g.0))
-step_once line (Replace m) (Pass n) h g = absurd (omega (arith, letters 114 119 _ _ line h.0 g.0))
-step_once line (Replace m) Tick h g = absurd (omega (arith, letters 114 116 _ _ line h.0 g))
-step_once line (Replace m) (Replace n) h g = ap Replace (number_once m n h.1 g.1 (behind_replace line (decimal m) (decimal n) h.0 g.0))
+step_once line (Ask x) b h k =
+    let o = only_ask line h.0 h.1 b k in
+    ap Ask (xeids_are_read.one h.0 x o.0 h.2 o.2) ∙ sym o.1
+step_once line (Deliver m) b h k =
+    let o = only_deliver line (decimal m) h.0 b k in
+    ap Deliver (number_once m o.0 h.1 o.3 o.2) ∙ sym o.1
+step_once line (Pass m) b h k =
+    let o = only_wait line (decimal m) h.0 b k in
+    ap Pass (number_once m o.0 h.1 o.3 o.2) ∙ sym o.1
+step_once line Tick b h k = sym (only_tick line h b k)
+step_once line (Replace m) b h k =
+    let o = only_replace line (decimal m) h.0 b k in
+    ap Replace (number_once m o.0 h.1 o.3 o.2) ∙ sym o.1
 
 steps_once : (lines : List (List ℕ)) (a b : List Step) → SpellSteps lines a → SpellSteps lines b → a ≡ b
 steps_once [] [] [] h k = refl

@@ -1,5 +1,5 @@
 -- The list of commands: the name of each, the text that it answers, and why it refuses.
-use Rattle.std.specs.Prelude.{ℕ, Bool, true, ◌≡◌, List, [], ◌∷◌, codes, Option}
+use Rattle.std.specs.Prelude.{ℕ, Bool, true, ◌≡◌, List, [], ◌∷◌, codes, map, Option}
 use Rattle.clap.specs.Words.{App}
 use Rattle.ddt_words.specs.declared.declaration.Declaration.{Declaration}
 use Rattle.ddt_words.specs.Call.{Call}
@@ -19,36 +19,34 @@ use Rattle.ddt_commands.specs.Serve.{IsServeText, IsWhyNotServed}
 use Rattle.ddt_commands.specs.Show.{IsShowText, IsWhyNotShown}
 use Rattle.ddt_commands.specs.Wires.{OverWires}
 
--- The word that asks for a command on the command line; `command_list` says what each of these takes.
-abbrev pub name_of : Command → List ℕ
-name_of Answer = codes "answer"
-name_of Assign = codes "assign"
-name_of Check = codes "check"
-name_of Compile = codes "compile"
-name_of Loop = codes "loop"
-name_of Lookup = codes "lookup"
-name_of Replay = codes "replay"
-name_of Serve = codes "serve"
-name_of Show = codes "show"
+-- what a command takes
+abbrev pub declaration_of : Command → Declaration
+declaration_of Answer = takes (codes "answer") (one (codes "register") ∷ one (codes "group") ∷ one (codes "xeid") ∷ [])
+declaration_of Assign = takes (codes "assign") (one (codes "register") ∷ one (codes "xeid") ∷ [])
+declaration_of Check = takes (codes "check") (one (codes "register") ∷ [])
+declaration_of Compile = takes (codes "compile") (one (codes "register") ∷ one (codes "group") ∷ [])
+declaration_of Loop =
+    takes (codes "loop") (one (codes "register") ∷ several (codes "xeid") ∷ setting (codes "me")
+    ∷ setting (codes "seed") ∷ setting (codes "turns") ∷ [])
+declaration_of Lookup =
+    takes (codes "lookup") (one (codes "register") ∷ several (codes "xeid") ∷ setting (codes "me")
+    ∷ setting (codes "seed") ∷ [])
+declaration_of Replay =
+    takes (codes "replay") (one (codes "register") ∷ one (codes "script") ∷ any (codes "registers")
+    ∷ setting (codes "me") ∷ setting (codes "seed") ∷ [])
+declaration_of Serve =
+    takes (codes "serve") (one (codes "config") ∷ one (codes "address") ∷ one (codes "turns") ∷ [])
+declaration_of Show = takes (codes "show") (one (codes "hex") ∷ [])
 
--- what each command takes
+-- what all commands take, in the order of the usage
 abbrev pub command_list : List Declaration
 command_list =
-    takes (codes "answer") (one (codes "register") ∷ one (codes "group") ∷ one (codes "xeid") ∷ [])
-    ∷ takes (codes "assign") (one (codes "register") ∷ one (codes "xeid") ∷ [])
-    ∷ takes (codes "check") (one (codes "register") ∷ [])
-    ∷ takes (codes "compile") (one (codes "register") ∷ one (codes "group") ∷ [])
-    ∷ takes (codes "loop")
-    (one (codes "register") ∷ several (codes "xeid") ∷ setting (codes "me") ∷ setting (codes "seed")
-    ∷ setting (codes "turns") ∷ [])
-    ∷ takes (codes "lookup")
-    (one (codes "register") ∷ several (codes "xeid") ∷ setting (codes "me") ∷ setting (codes "seed") ∷ [])
-    ∷ takes (codes "replay")
-    (one (codes "register") ∷ one (codes "script") ∷ any (codes "registers") ∷ setting (codes "me")
-    ∷ setting (codes "seed") ∷ [])
-    ∷ takes (codes "serve") (one (codes "config") ∷ one (codes "address") ∷ one (codes "turns") ∷ [])
-    ∷ takes (codes "show") (one (codes "hex") ∷ [])
-    ∷ []
+    map declaration_of
+    (Answer ∷ Assign ∷ Check ∷ Compile ∷ Loop ∷ Lookup ∷ Replay ∷ Serve ∷ Show ∷ [])
+
+-- the word that asks for a command on the command line
+abbrev pub name_of : Command → List ℕ
+name_of command = (declaration_of command).name.now
 
 -- the command line of the program
 abbrev pub program_line : App

@@ -16,5 +16,6 @@ pub mod Loop
 pub mod Wires
 pub mod Show
 pub mod Commands
+pub mod Usage
 pub mod Telling
 pub mod Running

@@ -1,6 +1,6 @@
 -- `lookup REGISTER XEID... [--me ADDRESS] [--seed N]`: lookups one after the other at moment 0, by one resolver over
 -- the servers of the register (RFC 8111, section 7.3).
-use Rattle.std.specs.Prelude.{ℕ, Bool, true, false, ◌≡◌, ◌≤◌, ◌&&◌, List, [], ◌∷◌, ◌++◌, codes, unwrap_or, Option, None, Some, Result, Ok, Err}
+use Rattle.std.specs.Prelude.{ℕ, Bool, true, false, ◌≡◌, ◌≤◌, ◌&&◌, List, [], ◌∷◌, ◌++◌, codes, map, unwrap_or, Option, None, Some, Result, Ok, Err}
 use Rattle.std.specs.List.{flat_map}
 use Rattle.std.specs.Option.{option_or}
 use Rattle.std.specs.FinMap.{len}
@@ -75,9 +75,9 @@ bad_lookup call =
     option_or (bad_identifier (xeid_words call))
     (option_or (address_refusal (me_of call)) (number_refusal (seed_of call)))
 
--- a call asks a resolver of this address and this seed, and its words are good
-pub record Asks (call : Call) (me_ : Locator) (seed : ℕ) : Type 0 where
-  pub good : bad_identifier (xeid_words call) ≡ None
+-- the good words of a call ask a resolver of this address and this seed for these identifiers
+pub record Asks (call : Call) (ids : List Xeid) (me_ : Locator) (seed : ℕ) : Type 0 where
+  pub identifiers : map xeid_in (xeid_words call) ≡ map Ok ids
   pub address : me_of call ≡ Ok me_
   pub first : seed_of call ≡ Some seed
 
@@ -124,20 +124,21 @@ pub data IsTold (r : Register) (now : ℕ) (x : Xeid) (before : State) (found : 
 
 -- The lines of the lookups of these identifiers, in order, from a resolver in the state `start`; they are complete
 -- where each has an outcome.
-pub data AreTold (r : Register) (now : ℕ) (start : State) : List (List ℕ) → Bool → List ℕ → State → Type 0 where
+pub data AreTold (r : Register) (now : ℕ) (start : State) : List Xeid → Bool → List ℕ → State → Type 0 where
   none : AreTold r now start [] true [] start
-  more : {words : List (List ℕ)} {complete : Bool} {text : List ℕ} {before : State} (word : List ℕ) (x : Xeid)
-      (found : Bool) (lines : List ℕ) (after : State) → AreTold r now start words complete text before
-      → xeid_in word ≡ Ok x → IsTold r now x before found lines after
-      → AreTold r now start (words ++ word ∷ []) (complete && found) (text ++ lines) after
+  more : {ids : List Xeid} {complete : Bool} {text : List ℕ} {before : State} (x : Xeid) (found : Bool)
+      (lines : List ℕ) (after : State) → AreTold r now start ids complete text before
+      → IsTold r now x before found lines after
+      → AreTold r now start (ids ++ x ∷ []) (complete && found) (text ++ lines) after
 
 -- The same, whatever state the lookups leave the resolver in.
-abbrev pub AreAllTold : Register → ℕ → State → List (List ℕ) → Bool → List ℕ → Type 0
-AreAllTold r now start words complete text = (after : State) × AreTold r now start words complete text after
+abbrev pub AreAllTold : Register → ℕ → State → List Xeid → Bool → List ℕ → Type 0
+AreAllTold r now start ids complete text = (after : State) × AreTold r now start ids complete text after
 
 -- the lines of all lookups, at moment 0, by a new resolver with the root locators of the register
 pub record IsLookupText (complete : Bool) (call : Call) (r : Register) (text : List ℕ) : Type 0 where
+  pub ids : List Xeid
   pub me_ : Locator
   pub seed : ℕ
-  pub asks : Asks call me_ seed
-  pub told : AreAllTold r 0 (fresh (roots r) me_ seed) (xeid_words call) complete text
+  pub asks : Asks call ids me_ seed
+  pub told : AreAllTold r 0 (fresh (roots r) me_ seed) ids complete text

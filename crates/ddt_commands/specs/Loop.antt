@@ -24,7 +24,7 @@ use Rattle.ddt_loop.specs.Right.{IsFair, IsRightEnd, RepliesAreOwed, WhenTold, i
 use Rattle.ddt_loop.specs.Turns.{IsLoop}
 use Rattle.ddt_lines.specs.Lines.{ended, outcome_text}
 use Rattle.ddt_words.specs.Call.{Call, setting}
-use Rattle.ddt_commands.specs.declared.looping.Task.{Task}
+use Rattle.ddt_commands.specs.declared.commands.loops.task.Task.{Task}
 use Rattle.ddt_commands.specs.declared.refusal.Refusal.{Refusal}
 use Rattle.ddt_commands.specs.declared.refusal.Refusal.TheVariants.{BadWord, NoServer, OutOfMemory}
 use Rattle.ddt_commands.specs.declared.refusal.server.ServerRefusal.TheVariants.{NotLoopback}

@@ -34,8 +34,8 @@ use Rattle.ddt_commands.specs.declared.refusal.Refusal.TheVariants.{BadWord, NoR
 use Rattle.ddt_commands.specs.declared.refusal.register.RegisterRefusal.TheVariants.{OtherRoots}
 use Rattle.ddt_commands.specs.declared.refusal.script.ScriptRefusal.TheVariants.{CannotOpen, RefusedLine}
 use Rattle.ddt_commands.specs.declared.refusal.word.WordRefusal.{WordRefusal}
-use Rattle.ddt_commands.specs.declared.script.ScriptFault.{ScriptFault}
-use Rattle.ddt_commands.specs.declared.script.ScriptFault.TheVariants as fault
+use Rattle.ddt_commands.specs.declared.commands.replay.script.ScriptFault.{ScriptFault}
+use Rattle.ddt_commands.specs.declared.commands.replay.script.ScriptFault.TheVariants as fault
 use Rattle.ddt_commands.specs.Lookup.{address_refusal, me_of, number_refusal, seed_of, why_text}
 use Rattle.ddt_commands.specs.Over.{OfItsRegister, path}
 use Rattle.ddt_commands.specs.Register.{IsWhyNoRegister, HasBytes}

@@ -5,7 +5,7 @@ pub mod assign;
 pub mod check;
 pub mod compile;
 pub mod lookup;
-pub mod looping;
+pub mod loops;
 pub mod replay;
 pub mod serve;
 pub mod show;
@@ -21,8 +21,8 @@ ghost use Rattle.ddt_commands.specs.Sockets.{Binds};
 ghost use Rattle.ddt_commands.specs.Wires.{over_wires};
 
 use crate::lines::Lines;
-use crate::over::lines_over;
 use crate::refusal::Refusal;
+use crate::register::lines_over;
 use answer::Answer;
 use assign::Assign;
 use check::Check;
@@ -36,6 +36,18 @@ use std::alloc::Global;
 use std::io;
 use std::io::Read;
 
+/// What words that fit no command are told: what follows from `command_list`.
+pub const USAGE: &str = "usage: ddt answer REGISTER GROUP XEID
+       ddt assign REGISTER XEID
+       ddt check REGISTER
+       ddt compile REGISTER GROUP
+       ddt loop REGISTER XEID... [--me ADDRESS] [--seed N] [--turns N]
+       ddt lookup REGISTER XEID... [--me ADDRESS] [--seed N]
+       ddt replay REGISTER SCRIPT [REGISTER...] [--me ADDRESS] [--seed N]
+       ddt serve CONFIG ADDRESS TURNS
+       ddt show HEX
+";
+
 /// What each command takes.
 pub fn command_list() -> &'static [Declaration<'static>]
     ensures { line result.now ≡ program_line }
@@ -45,7 +57,7 @@ pub fn command_list() -> &'static [Declaration<'static>]
         assign::WORDS,
         check::WORDS,
         compile::WORDS,
-        looping::WORDS,
+        loops::WORDS,
         lookup::WORDS,
         replay::WORDS,
         serve::WORDS,
@@ -120,7 +132,7 @@ where
         Command::Assign => lines_over::<Assign, F, O>(alloc, words, open_file),
         Command::Check => lines_over::<Check, F, O>(alloc, words, open_file),
         Command::Compile => lines_over::<Compile<'a>, F, O>(alloc, words, open_file),
-        Command::Loop => looping::lines(alloc, words, open_file, wires, clock, bind),
+        Command::Loop => loops::lines(alloc, words, open_file, wires, clock, bind),
         Command::Lookup => lines_over::<Lookup, F, O>(alloc, words, open_file),
         Command::Replay => replay::lines(alloc, words, open_file),
         Command::Serve => serve::lines(alloc, words, open_file, wires, bind),

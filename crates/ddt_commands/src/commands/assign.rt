@@ -15,10 +15,10 @@ ghost use Rattle.ddt_commands.specs.Running.{HasPartOf, HasRefused, HasText, Sta
 ghost use Rattle.ddt_commands.specs.Status.{answer_status};
 
 use crate::lines::Lines;
-use crate::over::{OverRegister, lines_over};
 use crate::refusal::{Refusal, WordRefusal};
+use crate::register::{OverRegister, lines_over};
 use crate::status::Status;
-use crate::telling::{answer, refuse};
+use crate::streams::{answer, refuse};
 use ddt_check::{Accepted, assign as assignment};
 use ddt_lines::outcome_line;
 use ddt_path::Xeid;
@@ -82,18 +82,13 @@ impl OverRegister<'_> for Assign {
 
     ghost refuses = { WantsMemory };
 
-    fn of(words: &Words<'_>) -> Result<Assign, WordRefusal> {
+    fn of(_alloc: Global, words: &Words<'_>) -> Result<Assign, WordRefusal> {
         Ok(Assign {
             xeid: identifier(words.value("xeid"))?,
         })
     }
 
-    fn lines(
-        &self,
-        alloc: Global,
-        _words: &Words<'_>,
-        register: &Accepted,
-    ) -> Result<Lines, Refusal<'static>> {
+    fn lines(&self, alloc: Global, register: &Accepted) -> Result<Lines, Refusal<'static>> {
         let line = outcome_line(alloc, &assignment(register, self.xeid))?;
         Ok(Lines::whole(line))
     }

@@ -15,10 +15,10 @@ ghost use Rattle.ddt_commands.specs.Running.{HasPartOf, HasRefused, HasText, Sta
 ghost use Rattle.ddt_commands.specs.Status.{answer_status};
 
 use crate::lines::Lines;
-use crate::over::{OverRegister, lines_over};
 use crate::refusal::{Refusal, WordRefusal};
+use crate::register::{OverRegister, lines_over};
 use crate::status::Status;
-use crate::telling::{answer, refuse};
+use crate::streams::{answer, refuse};
 use ddt_check::Accepted;
 use ddt_lines::accepted_line;
 use ddt_words::{Argument, Declaration, Words};
@@ -78,16 +78,11 @@ impl OverRegister<'_> for Check {
 
     ghost refuses = { WantsMemory };
 
-    fn of(_words: &Words<'_>) -> Result<Check, WordRefusal> {
+    fn of(_alloc: Global, _words: &Words<'_>) -> Result<Check, WordRefusal> {
         Ok(Check)
     }
 
-    fn lines(
-        &self,
-        alloc: Global,
-        _words: &Words<'_>,
-        register: &Accepted,
-    ) -> Result<Lines, Refusal<'static>> {
+    fn lines(&self, alloc: Global, register: &Accepted) -> Result<Lines, Refusal<'static>> {
         let counts = register.counts();
         let line = accepted_line(alloc, counts.zones, counts.sites, counts.groups)?;
         Ok(Lines::whole(line))

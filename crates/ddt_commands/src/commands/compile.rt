@@ -17,10 +17,10 @@ ghost use Rattle.ddt_commands.specs.Running.{HasPartOf, HasRefused, HasText, Sta
 ghost use Rattle.ddt_commands.specs.Status.{answer_status};
 
 use crate::lines::Lines;
-use crate::over::{OverRegister, lines_over};
 use crate::refusal::{Refusal, RegisterRefusal, WordRefusal};
+use crate::register::{OverRegister, lines_over};
 use crate::status::Status;
-use crate::telling::{answer, refuse};
+use crate::streams::{answer, refuse};
 use ddt_check::Accepted;
 use ddt_compile::compile_group;
 use ddt_config::to_toml;
@@ -84,18 +84,13 @@ impl<'a> OverRegister<'a> for Compile<'a> {
 
     ghost refuses = { IsWhyNoGroup };
 
-    fn of(words: &Words<'a>) -> Result<Compile<'a>, WordRefusal> {
+    fn of(_alloc: Global, words: &Words<'a>) -> Result<Compile<'a>, WordRefusal> {
         Ok(Compile {
             group: words.value("group"),
         })
     }
 
-    fn lines(
-        &self,
-        alloc: Global,
-        _words: &Words<'a>,
-        register: &Accepted,
-    ) -> Result<Lines, Refusal<'static>> {
+    fn lines(&self, alloc: Global, register: &Accepted) -> Result<Lines, Refusal<'static>> {
         let group = of_group(Name::of(self.group.as_bytes()))?;
         let config = of_group(compile_group(alloc, register, group)?)?;
         Ok(Lines::whole(to_toml(alloc, &config)?.into_bytes()))

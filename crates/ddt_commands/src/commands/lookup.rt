@@ -1,39 +1,41 @@
 //! `ddt lookup REGISTER XEID... [--me ADDRESS] [--seed N]`: identifiers looked up one after the other by one resolver,
 //! over the servers of the register.
 
-ghost use Rattle.std.specs.Prelude.{◌≡◌, ◌≢◌, Bool, Ok, None, Some, IfOk, IfErr, OnOk, map, option_map};
+ghost use Rattle.std.specs.Prelude.{◌≡◌, ◌≢◌, ◌++◌, Bool, false, IfOk, IfSome, OnErr, OnOk};
 ghost use Rattle.std.specs.Fn.{FnReturnsAt};
+ghost use Rattle.std.specs.List.{flat_map};
 ghost use Rattle.ddt_register.specs.declared.register.Register.{Register};
 ghost use Rattle.ddt_sim.specs.Compiled.{AreCompiled};
 ghost use Rattle.ddt_words.specs.Call.{call_of};
 ghost use Rattle.ddt_sim.specs.Sound.{IsSound};
-ghost use Rattle.ddt_commands.specs.declared.refusal.Refusal.TheVariants.{OutOfMemory};
+ghost use Rattle.ddt_sim.specs.declared.hop.LookupError.TheVariants.{Memory as IsMemory};
+ghost use Rattle.ddt_lines.specs.Lines.{ended, outcome_text};
 ghost use Rattle.ddt_commands.specs.declared.status.Status.TheVariants.{
   Refused as IsRefused,
   BadWords as IsBadWords,
   Unprinted as IsUnprinted,
 };
 ghost use Rattle.ddt_commands.specs.Assign.{WantsMemory};
-ghost use Rattle.ddt_commands.specs.Lookup.{AreAllTold, Asks, IsLookupText, address_refusal, bad_lookup, bad_identifier, me_in, number_refusal, seed_in, xeid_words};
+ghost use Rattle.ddt_commands.specs.Lookup.{AreAllTold, Asks, IsLookupText, IsTold, bad_lookup, end_text, replied_line, why_text};
 ghost use Rattle.ddt_commands.specs.Over.{IsTextOver, IsWhyOver};
 ghost use Rattle.ddt_commands.specs.Running.{HasPartOf, HasRefused, HasText, StayApart};
 ghost use Rattle.ddt_commands.specs.Status.{answer_status};
 
-use crate::answering::RESOLVER;
-use crate::commands::assign::identifier;
 use crate::lines::Lines;
-use crate::looking_up::{Client, Servers, look_up};
-use crate::over::{OverRegister, lines_over};
 use crate::refusal::{Refusal, WordRefusal};
+use crate::register::{OverRegister, lines_over};
+use crate::resolver::{Client, Servers, first_nonce, identifiers, own_address, why_name};
 use crate::status::Status;
-use crate::telling::{answer, refuse};
+use crate::streams::{answer, refuse};
+use ddt_cache::Moment;
 use ddt_check::Accepted;
-use ddt_path::Locator;
+use ddt_lines::{hop_line, outcome_line};
+use ddt_path::{Locator, Xeid};
 use ddt_resolver::Resolver;
-use ddt_sim::{Compiled, a_step_keeps_a_resolver_sound};
-use ddt_text::{parse_locator, read_number};
+use ddt_sim::{Compiled, Hop, LookupError, a_step_keeps_a_resolver_sound, lookup};
+use ddt_wire::read_referral;
 use ddt_words::{Argument, Declaration, Words};
-use std::alloc::Global;
+use std::alloc::{AllocError, Global};
 use std::io::{Read, Write};
 
 pub const WORDS: Declaration<'static> = Declaration {
@@ -81,10 +83,11 @@ where
     }
 }
 
-/// The resolver's own address, and the nonce of its first request. The identifiers are read from their words as they
-/// are looked up.
-#[derive(Clone, Copy, Debug)]
+/// The identifiers, the resolver's own address, and the nonce of its first request.
+#[derive(Debug, Drop)]
 pub struct Lookup {
+    /// None where memory ran out: that is refused behind what the register is refused for.
+    ids: Option<Vec<Xeid>>,
     me: Locator,
     seed: u64,
 }
@@ -92,102 +95,119 @@ pub struct Lookup {
 impl OverRegister<'_> for Lookup {
     ghost bad_word = { bad_lookup };
 
-    ghost asks = { λ call command. Asks call command.me command.seed };
+    ghost asks = { λ call command. IfSome command.ids (λ ids. Asks call ids.items command.me command.seed) };
 
     ghost answers = { IsLookupText };
 
     ghost refuses = { WantsMemory };
 
-    fn of(words: &Words<'_>) -> Result<Lookup, WordRefusal> {
-        are_identifiers(identifiers(words))?;
+    fn of(alloc: Global, words: &Words<'_>) -> Result<Lookup, WordRefusal> {
         Ok(Lookup {
+            ids: identifiers(alloc, words)?,
             me: own_address(words.setting("me"))?,
             seed: first_nonce(words.setting("seed"))?,
         })
     }
 
-    fn lines(
-        &self,
-        alloc: Global,
-        words: &Words<'_>,
-        register: &Accepted,
-    ) -> Result<Lines, Refusal<'static>> {
+    fn lines(&self, alloc: Global, register: &Accepted) -> Result<Lines, Refusal<'static>> {
+        let Some(ids) = &self.ids else {
+            return Err(Refusal::OutOfMemory);
+        };
         a_step_keeps_a_resolver_sound();
         let mut servers = Compiled::build(alloc, register)?;
         let mut resolver = Resolver::new(alloc, register.roots(), self.me, self.seed);
-        look_up_each(alloc, &mut servers, &mut resolver, identifiers(words))
+        Ok(look_up_each(alloc, &mut servers, &mut resolver, ids)?)
     }
 }
 
-/// The words of the identifiers.
-pub fn identifiers<'w>(words: &'w Words<'_>) -> &'w [&'w str]
-    ensures { map (λ t. t.now) result.now ≡ xeid_words (call_of words.now) }
-{
-    words.all_values("xeid").unwrap_or(&[])
-}
-
 /// The lines of the lookups of these identifiers, in order, all at the resolver's time. They are complete where each
-/// has an outcome. Refused where a word is no identifier, else only if out of memory.
+/// has an outcome. Fails only if out of memory.
 fn look_up_each(
     alloc: Global,
     servers: &mut Servers,
     resolver: &mut Client,
-    words: &[&str],
-) -> Result<Lines, Refusal<'static>>
-    ensures told { (r : Register) → AreCompiled servers.old r → IsSound r resolver.old → IfOk result (λ lines.
-        AreAllTold r resolver.old.known.time resolver.old (map (λ t. t.now) words.now)
-        lines.complete lines.text.items) }
-    ensures refused { bad_identifier (map (λ t. t.now) words.now) ≡ None → IfErr result (λ why. why ≡ OutOfMemory) }
+    ids: &[Xeid],
+) -> Result<Lines, AllocError>
+    ensures { (r : Register) → AreCompiled servers.old r → IsSound r resolver.old → IfOk result (λ lines.
+        AreAllTold r resolver.old.known.time resolver.old ids.now lines.complete lines.text.items) }
 {
     let now = resolver.time();
     let mut lines = Lines::whole(Vec::new(alloc));
-    for word in words {
-        let x = match identifier(word) {
-            Ok(x) => x,
-            Err(why) => return Err(Refusal::BadWord(why)),
-        };
-        let more = look_up(alloc, servers, resolver, now, x)?;
+    for x in ids {
+        let more = look_up(alloc, servers, resolver, now, *x)?;
         lines.text.extend_from_slice(&more.text)?;
         lines.complete &= more.complete;
     }
     Ok(lines)
 }
 
-/// Refused where one of the words is no identifier, with the fault of the first.
-pub fn are_identifiers(words: &[&str]) -> Result<(), WordRefusal>
-    ensures good { OnOk result (bad_identifier (map (λ t. t.now) words.now) ≡ None) }
-    ensures bad { IfErr result (λ why. bad_identifier (map (λ t. t.now) words.now) ≡ Some why) }
+/// The lines of one lookup: one for each hop and that of the outcome, or that of its end without one. Fails only if out
+/// of memory.
+fn look_up(
+    alloc: Global,
+    servers: &mut Servers,
+    resolver: &mut Client,
+    now: Moment,
+    x: Xeid,
+) -> Result<Lines, AllocError>
+    ensures told { (r : Register) → AreCompiled servers.old r → IsSound r resolver.old → IfOk result (λ lines.
+        IsTold r now x resolver.old lines.complete lines.text.items resolver.new) }
+    ensures sound { (r : Register) → AreCompiled servers.old r → IsSound r resolver.old → IsSound r resolver.new }
+    ensures stay { (r : Register) → AreCompiled servers.old r → AreCompiled servers.new r }
 {
-    for word in words {
-        identifier(word)?;
-    }
-    Ok(())
-}
-
-/// The resolver's own address.
-pub fn own_address(word: Option<&str>) -> Result<Locator, WordRefusal>
-    ensures good { IfOk result (λ me. me_in (option_map (λ t. t.now) word.entry) ≡ Ok me) }
-    ensures bad { IfErr result (λ why. address_refusal (me_in (option_map (λ t. t.now) word.entry)) ≡ Some why) }
-{
-    let Some(word) = word else {
-        return Ok(RESOLVER);
-    };
-    match parse_locator(word.as_bytes()) {
-        Ok(me) => Ok(me),
-        Err(_fault) => Err(WordRefusal::Address),
+    match lookup(alloc, servers, resolver, now, x) {
+        Ok(lookup) => Ok(Lines::whole(found_text(alloc, &lookup)?)),
+        Err(error) => {
+            let (end, why) = end_of(error)?;
+            unfound(alloc, end, why)
+        }
     }
 }
 
-/// The nonce of the resolver's first request.
-pub fn first_nonce(word: Option<&str>) -> Result<u64, WordRefusal>
-    ensures good { IfOk result (λ seed. seed_in (option_map (λ t. t.now) word.entry) ≡ Some seed) }
-    ensures bad { IfErr result (λ why. number_refusal (seed_in (option_map (λ t. t.now) word.entry)) ≡ Some why) }
+/// The line of each hop, as its reply says it, and the line of the outcome. Fails only if out of memory.
+fn found_text(alloc: Global, lookup: &ddt_sim::Lookup) -> Result<Vec<u8>, AllocError>
+    ensures { IfOk result (λ text. text.items
+        ≡ flat_map replied_line lookup.now.hops ++ ended (outcome_text lookup.now.outcome)) }
 {
-    let Some(word) = word else {
-        return Ok(1);
-    };
-    match read_number(word.as_bytes(), u64::MAX) {
-        Some(seed) => Ok(seed),
-        None => Err(WordRefusal::Number),
+    let mut text = Vec::new(alloc);
+    for hop in lookup.hops.as_slice() {
+        push_hop(alloc, &mut text, hop)?;
     }
+    text.extend_from_slice(&outcome_line(alloc, &lookup.outcome)?)?;
+    Ok(text)
+}
+
+/// Appends the line of a hop, as its reply says it; nothing where the reply is no Map-Referral.
+fn push_hop(alloc: Global, text: &mut Vec<u8>, hop: &Hop) -> Result<(), AllocError>
+    ensures { OnOk result (text.new.items ≡ text.old.items ++ replied_line hop.now) }
+{
+    match read_referral(hop.reply.as_slice()) {
+        Ok(referral) => text.extend_from_slice(&hop_line(alloc, hop.to, &referral)?),
+        Err(_fault) => Ok(()),
+    }
+}
+
+/// The words of the line of a lookup that ended with an error. Fails only if the lookup was out of memory.
+fn end_of(error: LookupError) -> Result<(&'static str, &'static str), AllocError>
+    ensures words { IfOk result (λ words. words.0.now ++ words.1.now ≡ end_text error) }
+    ensures known { IfOk result (λ words. error ≢ IsMemory) }
+    ensures memory { OnErr result (error ≡ IsMemory) }
+{
+    match error {
+        LookupError::GaveUp(why) => Ok(("gave-up ", why_name(why))),
+        LookupError::TooMany => Ok(("refused ", "TooMany")),
+        LookupError::Memory => Err(AllocError),
+    }
+}
+
+/// The line of a lookup that has no outcome. Fails only if out of memory.
+fn unfound(alloc: Global, end: &str, why: &str) -> Result<Lines, AllocError>
+    ensures text { IfOk result (λ lines. lines.text.items ≡ ended (end.now ++ why.now)) }
+    ensures complete { IfOk result (λ lines. lines.complete ≡ false) }
+{
+    let line = format!(in alloc; "{end}{why}\n")?;
+    Ok(Lines {
+        text: line.into_bytes(),
+        complete: false,
+    })
 }

@@ -1,6 +1,10 @@
 //! `ddt replay REGISTER SCRIPT [REGISTER...] [--me ADDRESS] [--seed N]`: a schedule of a resolver among the servers of
 //! the registers, step by step.
 
+mod event_lines;
+mod schedule;
+mod script;
+
 ghost use Rattle.std.specs.Prelude.{◌≡◌, ◌≢◌, ◌⊎◌, ℕ, Bool, List, map, None, Some, Ok, IsErr, IfOk, IfErr, true};
 ghost use Rattle.std.specs.Fn.{FnReturnsAt};
 ghost use Rattle.ddt_words.specs.Call.{call_of};
@@ -18,18 +22,18 @@ ghost use Rattle.ddt_commands.specs.Running.{HasPartOf, HasRefused, HasText, Sta
 ghost use Rattle.ddt_commands.specs.Script.{SpellsScript};
 ghost use Rattle.ddt_commands.specs.Status.{answer_status};
 
-use crate::commands::lookup::{first_nonce, own_address};
 use crate::file::bytes_of;
 use crate::lines::Lines;
-use crate::over::register_at;
 use crate::refusal::{Refusal, RegisterRefusal, ScriptRefusal, WordRefusal};
-use crate::replaying::{other_roots, replay};
-use crate::script::{ScriptFault, read_script};
+use crate::register::register_at;
+use crate::resolver::{first_nonce, own_address};
 use crate::status::Status;
-use crate::telling::{answer, refuse};
+use crate::streams::{answer, refuse};
 use ddt_path::Locator;
 use ddt_sim::Step;
 use ddt_words::{Argument, Declaration, Words};
+use schedule::{other_roots, replay};
+use script::{ScriptFault, read_script};
 use std::alloc::{AllocError, Global};
 use std::io::{Read, Write};
 

@@ -1,7 +1,13 @@
 //! `ddt serve CONFIG ADDRESS TURNS`: a server of the configuration, at a loopback address, for so many turns.
 
-ghost use Rattle.std.specs.Prelude.{◌≡◌, ◌≢◌, Bool, Some, Ok, IfOk, IfErr, true};
+mod configuration;
+
+ghost use Rattle.std.specs.Prelude.{◌≡◌, ◌≢◌, ◌<◌, Bool, Some, Ok, IfOk, IfErr, true};
 ghost use Rattle.std.specs.Fn.{FnReturnsAt};
+ghost use Rattle.ddt_config.specs.Entries.{entry_count};
+ghost use Rattle.ddt_config.specs.Table.{outline};
+ghost use Rattle.ddt_trie.specs.PrefixMap.{most_entries};
+ghost use Rattle.ddt_lines.specs.Lines.{ended};
 ghost use Rattle.ddt_words.specs.Call.{call_of};
 ghost use Rattle.ddt_commands.specs.declared.status.Status.TheVariants.{
   Refused as IsRefused,
@@ -9,22 +15,25 @@ ghost use Rattle.ddt_commands.specs.declared.status.Status.TheVariants.{
   Unprinted as IsUnprinted,
 };
 ghost use Rattle.ddt_commands.specs.Running.{HasPartOf, HasRefused, HasText, StayApart};
-ghost use Rattle.ddt_commands.specs.Serve.{IsServeText, IsWhyNotServed, ServesOver, address_of, bad_serve, config_path, turns_of};
+ghost use Rattle.ddt_commands.specs.Serve.{IsServeText, IsServedText, IsWhyNotServed, IsWhyUnserved, ServesOver, address_of, bad_serve, config_path, served_text, turns_of};
 ghost use Rattle.ddt_commands.specs.Sockets.{Binds};
 ghost use Rattle.ddt_commands.specs.Status.{answer_status};
 
-use crate::configuration::config_at;
 use crate::lines::Lines;
 use crate::loopback::is_loopback;
 use crate::refusal::{Refusal, ServerRefusal, WordRefusal};
-use crate::serving::serve_at;
+use crate::sockets::unbound;
 use crate::status::Status;
-use crate::telling::{answer, refuse};
+use crate::streams::{answer, refuse};
+use configuration::config_at;
+use ddt_config::ServerConfig;
+use ddt_hash::HashedMap;
+use ddt_node::Server;
 use ddt_path::Locator;
 use ddt_text::{parse_locator, read_number};
-use ddt_wires::Wires;
+use ddt_wires::{Served, Wires, serve_turns};
 use ddt_words::{Argument, Declaration, Words};
-use std::alloc::Global;
+use std::alloc::{AllocError, Global};
 use std::io;
 use std::io::{Read, Write};
 
@@ -148,4 +157,42 @@ where
     let config = config_at(alloc, open_file(asked.config), asked.config)?;
     let line = serve_at(alloc, config, asked.at, asked.turns, wires, bind)?;
     Ok(Lines::whole(line))
+}
+
+/// Binds a socket of the wires to the locator, and lets a server of the configuration serve there for so many turns;
+/// the line of its counts. Refused where the socket can't be bound, or if out of memory.
+fn serve_at<W, B>(
+    alloc: Global,
+    config: ServerConfig,
+    at: Locator,
+    turns: u32,
+    wires: &mut W,
+    bind: B,
+) -> Result<Vec<u8>, Refusal<'static>>
+where
+    W: Wires,
+    B: Fn(&mut W, Locator) -> io::Result<()> + Drop,
+    requires room { entry_count (outline config) < most_entries }
+    requires binds { B.IsAlwaysCallable bind }
+    ensures text { IfOk result (λ text. IsServedText (ServesOver (Binds B.Fn bind) W.calls wires.old wires.new)
+        (outline config) at turns text.items) }
+    ensures refused { IfErr result (IsWhyUnserved (ServesOver (Binds B.Fn bind) W.calls wires.old wires.new)
+        (outline config) at turns) }
+{
+    let Ok(server) = Server::<HashedMap<u32>>::build(alloc, config) else {
+        return Err(Refusal::OutOfMemory);
+    };
+    if let Err(error) = bind(wires, at) {
+        return Err(unbound(at, error.kind()));
+    }
+    let served = serve_turns(alloc, wires, &server, at, turns);
+    Ok(served_line(alloc, served)?)
+}
+
+/// `received N replied M`, and a line feed. Fails only if out of memory.
+fn served_line(alloc: Global, served: Served) -> Result<Vec<u8>, AllocError>
+    ensures { IfOk result (λ line. line.items ≡ ended (served_text served)) }
+{
+    let Served { received, replied } = served;
+    Ok(format!(in alloc; "received {received} replied {replied}\n")?.into_bytes())
 }

@@ -16,7 +16,7 @@ ghost use Rattle.ddt_commands.specs.Status.{answer_status};
 use crate::lines::Lines;
 use crate::refusal::{MessageRefusal, Refusal};
 use crate::status::Status;
-use crate::telling::{answer, refuse};
+use crate::streams::{answer, refuse};
 use ddt_ecm::read_request;
 use ddt_lines::{negative_reply_line, referral_line, request_line};
 use ddt_wire::{ENCAPSULATED, MAP_REFERRAL, MAP_REPLY, read_negative_reply, read_referral};

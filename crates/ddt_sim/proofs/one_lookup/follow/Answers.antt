@@ -1,10 +1,5 @@
-<<<<<<< HEAD:crates/ddt_sim/proofs/one_lookup/follow/Answers.antt
-use Rattle.ddt_sim.proofs.FollowLemmas.{on_its_way, goes_on, fewer_left, ends_with, ends_within, ends_well, fails_under, fails_well}
-use Rattle.ddt_sim.proofs.one_lookup.follow.Goals as goal
-=======
 use Rattle.ddt_sim.proofs.ExchangeLemmas.{on_its_way, goes_on, fewer_left, ends_with, ends_within, ends_well, fails_under, fails_well}
-use Rattle.ddt_sim.proofs.looking_up.follow.Goals as goal
->>>>>>> b5b334536cd5667d24360c7fe0f2ec32207ceae9:crates/ddt_sim/proofs/looking_up/follow/Answers.antt
+use Rattle.ddt_sim.proofs.one_lookup.follow.Goals as goal
 
 pub loop-next-init : goal.loop-next-init
 loop-next-init g c = on_its_way (g.S.Servers.honest c.args.servers.now) c.new-hops.ensures.items c.requires

@@ -1,11 +1,6 @@
 use Rattle.ddt_sim.specs.Waiting.{requests_left}
-<<<<<<< HEAD:crates/ddt_sim/proofs/one_lookup/follow/Invariants.antt
-use Rattle.ddt_sim.proofs.FollowLemmas.{IsOnItsWay}
-use Rattle.ddt_sim.proofs.one_lookup.follow.Given as goal
-=======
 use Rattle.ddt_sim.proofs.ExchangeLemmas.{IsOnItsWay}
-use Rattle.ddt_sim.proofs.looking_up.follow.Given as goal
->>>>>>> b5b334536cd5667d24360c7fe0f2ec32207ceae9:crates/ddt_sim/proofs/looking_up/follow/Invariants.antt
+use Rattle.ddt_sim.proofs.one_lookup.follow.Given as goal
 
 -- the lookup is on its way from where it began
 abbrev pub invariant-loop-next : goal.invariant-loop-next

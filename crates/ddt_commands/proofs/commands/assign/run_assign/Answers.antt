@@ -1,16 +1,9 @@
-use Rattle.std.specs.Fn.{FnReturnsAt}
-use Rattle.ddt_words.specs.Call.{call_of}
-use Rattle.ddt_commands.specs.Over.{IsTextOver, IsWhyOver, whole}
-use Rattle.ddt_commands.specs.Assign.{IsAssignText, WantsMemory, bad_xeid}
-use Rattle.ddt_commands.proofs.PrintedLemmas.{has_text, has_part}
+use Rattle.std.proofs.Common.{inl}
+use Rattle.ddt_commands.proofs.PrintedLemmas.{has_text}
 use Rattle.ddt_commands.proofs.commands.assign.run_assign.Goals as goal
 
 pub returns-in-Ok-clause-answered : goal.returns-in-Ok-clause-answered
-returns-in-Ok-clause-answered g c =
-    has_text (λ complete. IsTextOver (FnReturnsAt g.O.Fn c.args.open_file) g.F.Read.remaining bad_xeid (whole IsAssignText complete) (call_of c.args.words.now)) c.in-Ok.lines.complete c.in-Ok.lines.text.items _ _ c.answer.result
-    c.in-Ok.ensures.text c.answer.ensures.ends c.answer.ensures.printed
+returns-in-Ok-clause-answered g c = has_text _ _ _ _ _ _ c.in-Ok.ensures.text c.answer.ensures.ends c.answer.ensures.printed
 
 pub returns-in-Ok-clause-unprinted : goal.returns-in-Ok-clause-unprinted
-returns-in-Ok-clause-unprinted g c = λ status.
-    has_part (λ complete. IsTextOver (FnReturnsAt g.O.Fn c.args.open_file) g.F.Read.remaining bad_xeid (whole IsAssignText complete) (call_of c.args.words.now)) (IsWhyOver (FnReturnsAt g.O.Fn c.args.open_file) g.F.Read.remaining bad_xeid WantsMemory (call_of c.args.words.now)) c.in-Ok.lines.complete c.in-Ok.lines.text.items _ _ _ _
-    c.in-Ok.ensures.text c.answer.ensures.front
+returns-in-Ok-clause-unprinted g c = λ status. inl (c.in-Ok.lines.complete, (c.in-Ok.lines.text.items, c.in-Ok.ensures.text, c.answer.ensures.front))

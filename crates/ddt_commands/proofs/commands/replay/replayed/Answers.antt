@@ -7,7 +7,7 @@ use Rattle.ddt_commands.specs.declared.refusal.Refusal.TheVariants.{OutOfMemory}
 use Rattle.ddt_commands.specs.Replay.{IsFirstOther, no_register, other_roots}
 use Rattle.ddt_commands.proofs.Texts.{texts}
 use Rattle.ddt_commands.proofs.OverLemmas.{of_register}
-use Rattle.ddt_commands.proofs.ReplayLemmas.{all_registers, as_many_words, one_register, over_registers, path_at, run_of, text_over, why_memory, why_more}
+use Rattle.ddt_commands.proofs.ReplayLemmas.{all_registers, as_many_words, one_register, path_at, text_over, why_memory, why_more}
 use Rattle.ddt_commands.proofs.commands.replay.replayed.Goals as goal
 
 -- the word that stands for one past the end
@@ -111,6 +111,4 @@ returns-clause-text g c =
     c.in_ok-steps.steps.items spelled.spelled c.loop-path.others.items c.args.asked.now.me c.args.asked.now.seed c.whole.result.text.items
     (all_registers opens g.F.Read.remaining words c.loop-path.path-index c.loop-path.others.items c.loop-path-test.false c.loop-path.invariant)
     (subst (λ (l : List Register). All (λ q. roots q ≡ roots c.in_ok-first.first) l) c.deref.ensures.value c.in_default.ensures)
-    (run_of c.in_ok-first.first c.loop-path.others.items c.args.asked.now.me c.args.asked.now.seed c.in_ok-steps.steps.items c.deref-3.result.now c.whole.result.text.items c.in_ok-text.text.items
-    c.deref-3.ensures.value (rw c.whole.ensures.text)
-    (over_registers c.in_ok-first.first c.deref-2.result.now c.loop-path.others.items c.args.asked.now.me c.args.asked.now.seed c.deref-3.result.now c.in_ok-text.text.items c.deref-2.ensures.value c.in_ok-text.ensures))
+    (rw c.whole.ensures.text (rw (c.deref-2.ensures.value, c.deref-3.ensures.value) at c.in_ok-text.ensures))

@@ -1,0 +1,68 @@
+//! How an answer, a refusal and the usage come to their streams.
+
+ghost use Rattle.std.specs.Prelude.{◌≡◌, ◌≢◌, ◌⊎◌, IfOk, string_bytes};
+ghost use Rattle.std.specs.Io.KnownBytes.{Appends};
+ghost use Rattle.ddt_lines.specs.Printing.{AppendsFront};
+ghost use Rattle.ddt_commands.specs.declared.status.Status.TheVariants.{
+  Refused as IsRefused,
+  BadWords as IsBadWords,
+  Unprinted as IsUnprinted,
+};
+ghost use Rattle.ddt_commands.specs.Commands.{command_list};
+ghost use Rattle.ddt_commands.specs.Refusal.{IsLineOf};
+ghost use Rattle.ddt_commands.specs.Status.{answer_status};
+ghost use Rattle.ddt_commands.specs.Telling.{Tells, TellsFront};
+ghost use Rattle.ddt_commands.specs.Usage.{usage_of};
+
+use crate::commands::USAGE;
+use crate::lines::Lines;
+use crate::refusal::Refusal;
+use crate::status::Status;
+use ddt_lines::print;
+use std::alloc::{AllocError, Global};
+use std::io::Write;
+
+/// Prints an answer, whole lines.
+pub fn answer<W: Write>(lines: &Lines, out: &mut W) -> Status
+    ensures printed { result ≢ IsUnprinted → Appends (W.contents out.old) (W.contents out.new) lines.now.text.items }
+    ensures front { AppendsFront (W.contents out.old) (W.contents out.new) lines.now.text.items }
+    ensures ends { (result ≡ answer_status lines.now.complete) ⊎ (result ≡ IsUnprinted) }
+{
+    match print(&lines.text, out) {
+        Ok(()) if lines.complete => Status::Answered,
+        Ok(()) => Status::Incomplete,
+        Err(_) => Status::Unprinted,
+    }
+}
+
+/// Prints the line of a refusal. Where there is no memory for it, that is what is told.
+pub fn refuse<E: Write>(alloc: Global, refusal: &Refusal<'_>, err: &mut E) -> Status
+    ensures told { result ≡ IsRefused → Tells refusal.now (E.contents err.old) (E.contents err.new) }
+    ensures front { TellsFront refusal.now (E.contents err.old) (E.contents err.new) }
+    ensures ends { (result ≡ IsRefused) ⊎ (result ≡ IsUnprinted) }
+{
+    let printed = match line_of(alloc, refusal) {
+        Ok(line) => print(line.as_bytes(), err),
+        Err(_) => print(b"out of memory\n", err),
+    };
+    match printed {
+        Ok(()) => Status::Refused,
+        Err(_) => Status::Unprinted,
+    }
+}
+
+/// The line of a refusal. Fails only if out of memory.
+fn line_of(alloc: Global, refusal: &Refusal<'_>) -> Result<String, AllocError>
+    ensures { IfOk result (λ line. IsLineOf refusal.now (string_bytes line)) }
+{
+    format!(in alloc; "{refusal}\n")
+}
+
+/// Shows the commands: the words fit none. It allocates nothing.
+pub fn show_usage<E: Write>(err: &mut E) -> Status
+    ensures bad { result ≡ IsBadWords }
+    ensures front { AppendsFront (E.contents err.old) (E.contents err.new) (usage_of command_list) }
+{
+    let _ = print(USAGE.as_bytes(), err);
+    Status::BadWords
+}

@@ -1,8 +1,8 @@
 //! The program's commands: from the words of a process to what it prints and how it ends, over any files, sockets,
 //! clock and streams.
 //!
-//! In reading order: `program`, `call`, `commands` (the list), `register` (commands over one), `commands/*`, `resolver`,
-//! `loopback`, `sockets`, `file`, `lines`, `streams`, `refusal`, `status`.
+//! In reading order: `program`, `call`, `commands` (the list), `register` (commands over one), `commands/*`,
+//! `resolver`, `loopback`, `sockets`, `file`, `lines`, `streams`, `refusal`, `status`.
 #![tactic(auto)]
 
 mod call;

@@ -19,7 +19,8 @@ may_start_over l p is at = record { start = at; first = by l.restarted refl }
     by true e = absurd (none-some p (sym (is.once e) ∙ at))
     by false e = e
 
-pub forget_acts : {s : State} {t : ℕ} {l : Pending} {rec : ReferralRecord} {p : List ℕ} {m : Pending} {new : State} {h : Heard} → rec.action ≡ NotAuthoritative → MayStartOver l p → m ≡ started_over s l
+pub forget_acts : {s : State} {t : ℕ} {l : Pending} {rec : ReferralRecord} {p : List ℕ} {m : Pending} {new : State} {h : Heard}
+    → rec.action ≡ NotAuthoritative → MayStartOver l p → m ≡ started_over s l
     → SendsOn s t m (Forget p) new h → Act s t l rec new h
 forget_acts {p = p} a at is (followed more e f) = starts_over p a at more (rw is at e) (rw is at f)
 forget_acts {p = p} a at is (spent none e f) = used_up (from_root p a at) none e f

@@ -15,7 +15,8 @@ use Rattle.ddt_resolver.specs.Act.{Act, HearStep, ignored, taken}
 use Rattle.ddt_resolver.specs.Order.{IsWaiting, IsInOrder}
 use Rattle.ddt_resolver.proofs.StateLemmas.{next_absent}
 
-pub in_time : {s : State} {source : Locator} {bytes : List ℕ} {t : ℕ} {l : Pending} {rec : ReferralRecord} → IsReplyTo s bytes t l rec → source ≡ server s.me l → s.known.time < l.deadline → IsInTime s source bytes t l rec
+pub in_time : {s : State} {source : Locator} {bytes : List ℕ} {t : ℕ} {l : Pending} {rec : ReferralRecord}
+    → IsReplyTo s bytes t l rec → source ≡ server s.me l → s.known.time < l.deadline → IsInTime s source bytes t l rec
 in_time is from in_due = record { from_server = record { reply = is; same_source = from }; early = in_due }
 
 -- bytes tell one nonce and one record

@@ -55,7 +55,8 @@ module _ (s : State) (o : IsInOrder s) where
   order_sent k p change t l small there is more known put =
       let c = changed_order change small in
       let w : IsWaiting s t there.0 = o.lookups t there.0 there.1 in
-      rw known (order_placed s o (record { known = changed s.known change; me = s.me; next = s.next + 1; pending = p }) c.0 c.1 c.2 t l is (omega (arith, w.ticket, w.nonce)) more (rw (put, len_replaced s.pending t (numbered s l) there.0 there.1) o.few) put refl)
+      rw known (order_placed s o (record { known = changed s.known change; me = s.me; next = s.next + 1; pending = p }) c.0 c.1 c.2 t l is
+      (omega (arith, w.ticket, w.nonce)) more (rw (put, len_replaced s.pending t (numbered s l) there.0 there.1) o.few) put refl)
 
   -- a lookup whose request is sent has the next nonce and the last deadline
   pub is_next : (h : Held) (l n : Pending) → h.lookups ≡ s.pending → h.next ≡ s.next → s.next < last_nonce → n ≡ numbered s l → IsNext h n

@@ -54,7 +54,8 @@ module _ (s : State) (o : IsInOrder s) (new : State) (time : s.known.time ≤ ne
   }
 
   -- a lookup sends its request, under a ticket that was given out or is the next
-  pub order_placed : (t : ℕ) (l : Pending) → IsLookup l → t ≤ s.next → s.next < last_nonce → len new.pending ≤ most_pending → new.pending ≡ insert s.pending t (numbered s l) → new.next ≡ s.next + 1 → IsInOrder new
+  pub order_placed : (t : ℕ) (l : Pending) → IsLookup l → t ≤ s.next → s.next < last_nonce → len new.pending ≤ most_pending
+      → new.pending ≡ insert s.pending t (numbered s l) → new.next ≡ s.next + 1 → IsInOrder new
   order_placed t l is low more few put next = record {
     known = known;
     root = rw roots o.root;
@@ -79,9 +80,11 @@ order_kept s call new a o m = by m.move
         order_placed s o new time m.roots m.known s.next l is (omega arith) more (rw p (omega (arith, len_inserted nat_cmp_total s.pending s.next (numbered s l)))) p n
     by (sends t old l here x goes is more p n) =
         let w : IsWaiting s t old = o.lookups t old here in
-        order_placed s o new time m.roots m.known t l is (omega (arith, w.ticket, w.nonce)) more (rw (p, len_replaced s.pending t (numbered s l) old here) o.few) p n
+        order_placed s o new time m.roots m.known t l is (omega (arith, w.ticket, w.nonce)) more
+        (rw (p, len_replaced s.pending t (numbered s l) old here) o.few) p n
     by (drops t l e here p n f why) =
-        order_fewer s o new time m.roots m.known n (rw p (len_removed nat_cmp_total s.pending t)) (λ u k found. (found_remove s.pending t u k (ap (λ z. get z u) (sym p) ∙ found)).1)
+        order_fewer s o new time m.roots m.known n (rw p (len_removed nat_cmp_total s.pending t))
+        (λ u k found. (found_remove s.pending t u k (ap (λ z. get z u) (sym p) ∙ found)).1)
 
 pub order_after : (s : State) (call : Call) (new : State) (a : Reply) → IsInOrder s → Step s call new a → IsInOrder new
 order_after s call new a o step = order_kept s call new a o (moved_by_step s o call new a step)

@@ -1,8 +1,8 @@
 -- The four ways in which a step changes what is pending: it stays, a lookup opens, sends again, or is dropped.
-use Rattle.std.proofs.Common.{◌≡◌, ◌⊎◌, ℕ, ◌+◌, ◌<◌, ◌≤◌, true, false, List, [], ◌∷◌, length, take, min, Some, None, Result, Ok, Err, refl, sym, ap, ◌∙◌, subst, inl, inr, arith}
+use Rattle.std.proofs.Common.{◌≡◌, ◌⊎◌, ℕ, ◌+◌, ◌<◌, ◌≤◌, true, false, List, [], ◌∷◌, length, Some, None, Result, Ok, Err, refl, ap, ◌∙◌, inl, inr, arith}
 use Rattle.std.specs.Prelude.{◌≢◌, IsTrue}
 use Rattle.std.specs.FinMap.{get, insert, remove, len}
-use Rattle.std.proofs.lemmas.Option.{none-some, same_Some}
+use Rattle.std.proofs.lemmas.Option.{same_Some}
 use Rattle.std.proofs.lemmas.List.{length-take}
 use Rattle.ddt_path.specs.declared.locator.Locator.{Locator}
 use Rattle.ddt_path.specs.declared.xeid.Xeid.{Xeid}
@@ -14,6 +14,7 @@ use Rattle.ddt_path.specs.Covers.{covers}
 use Rattle.ddt_cache.specs.declared.entry.Entry.{Entry}
 use Rattle.ddt_cache.specs.Entry.{is_positive}
 use Rattle.ddt_cache.specs.Found.{IsFound}
+use Rattle.ddt_cache.specs.Live.{Known}
 use Rattle.ddt_cache.specs.InOrder.{IsInOrder as IsKnownInOrder, IsEntryInOrder}
 use Rattle.ddt_cache.specs.laws.Order.{stored_in_order, forgotten_in_order}
 use Rattle.ddt_resolver.specs.declared.pending.Pending.{Pending}
@@ -31,7 +32,7 @@ use Rattle.ddt_resolver.specs.declared.answers.Why.TheVariants.{NoReply, Loop, N
 use Rattle.ddt_resolver.specs.declared.step.Reply.{Reply}
 use Rattle.ddt_resolver.specs.declared.step.Reply.TheVariants.{ToAsk, ToDatagram, ToTick}
 use Rattle.ddt_resolver.specs.declared.step.Progress.TheVariants.{Stays, Sends, Ends}
-use Rattle.ddt_resolver.specs.State.{State, last_nonce, most_pending, request, numbered, dropped, stored, opening, referred, passed_on, started_over, tried_again, at_next}
+use Rattle.ddt_resolver.specs.State.{State, last_nonce, most_pending, request, numbered, lodged, dropped, stored, opening, referred, passed_on, started_over, tried_again, at_next}
 use Rattle.ddt_path.specs.Actions.{IsReferral}
 use Rattle.ddt_resolver.specs.Records.{IsAbout, IsBelow, negative_answer, outcome_of, start_at}
 use Rattle.ddt_resolver.specs.AskStep.{answer_of, AskStep}
@@ -115,17 +116,17 @@ positive : (a : Action) (p : List ℕ) (servers : List Locator) → negative_ans
 positive NodeReferral p servers e n = refl
 positive MsReferral p servers e n = refl
 positive MsAck p servers e n = refl
-positive MsNotRegistered p servers e n = absurd (none-some _ (sym e))
-positive DelegationHole p servers e n = absurd (none-some _ (sym e))
+positive MsNotRegistered p servers e n = cc
+positive DelegationHole p servers e n = cc
 positive NotAuthoritative p servers e n = absurd (n refl)
 
 started_below : (p : List ℕ) → start_at p ≢ Some []
-started_below [] e = absurd (none-some _ e)
-started_below (d ∷ ds) e = cc e
+started_below [] e = cc
+started_below (d ∷ ds) e = cc
 
 started_covers : (p x q : List ℕ) → IsTrue (covers p x) → start_at p ≡ Some q → IsTrue (covers q x)
-started_covers [] x q c e = absurd (none-some _ e)
-started_covers (d ∷ ds) x q c e = subst (λ r. IsTrue (covers r x)) (same_Some _ _ e) c
+started_covers [] x q c e = cc
+started_covers (d ∷ ds) x q c e = rw (← same_Some (d ∷ ds) q e) c
 
 module _ (s : State) (o : IsInOrder s) (x : Xeid) (id : IsTrue (is_path (xeid_path x))) (p : List ℕ) (e : Entry) where
   found_servers : IsFound s.known (xeid_path x) p e → answer_of p e ≡ None → (0 < length e.servers) × (length e.servers ≤ 8) × IsTrue (covers p (xeid_path x))
@@ -141,13 +142,13 @@ module _ (s : State) (o : IsInOrder s) (x : Xeid) (id : IsTrue (is_path (xeid_pa
         identifier = id;
         place = f.0;
         few = f.1;
-        saved = λ q h. absurd (none-some _ h);
-        kept = λ r h. absurd (none-some _ h);
-        kept_action = λ r h. absurd (none-some _ h);
-        kept_place = λ r h. absurd (none-some _ h);
+        saved = λ q h. cc;
+        kept = λ r h. cc;
+        kept_action = λ r h. cc;
+        kept_place = λ r h. cc;
         start = λ q h. started_covers p (xeid_path x) q f.2 h;
         below_root = started_below p;
-        once = λ h. cc h;
+        once = λ h. cc;
       }
 
 -- ---- a reply
@@ -164,7 +165,7 @@ referral_apart a (inr e) is = cc (e, is)
 pub few_servers : (s : State) (source : Locator) (bytes : List ℕ) (t : ℕ) (l : Pending) (rec : ReferralRecord) → IsTaken s source bytes t l rec → length rec.servers ≤ 8
 few_servers s source bytes t l rec is =
     let told = is.in_time.from_server.reply.tells in
-    subst (λ (r : ReferralRecord). length r.servers ≤ 8) told.same_record (let n : length (take 8 told.message.locators) ≡ min 8 (length told.message.locators) = length-take 8 told.message.locators in omega arith)
+    rw (← told.same_record, length-take) (omega arith)
 
 module _ (s : State) (o : IsInOrder s) (t : ℕ) (l : Pending) (here : get s.pending t ≡ Some l) where
   waiting : IsWaiting s t l
@@ -172,74 +173,60 @@ module _ (s : State) (o : IsInOrder s) (t : ℕ) (l : Pending) (here : get s.pen
 
   module _ (source : Locator) (bytes : List ℕ) (rec : ReferralRecord) (is : IsTaken s source bytes t l rec) where
     pub referred_lookup : IsReferral rec.action → IsLookup (referred l rec)
-    referred_lookup r = let w = waiting.lookup in record {
-      identifier = w.identifier;
-      place = is.names_server r;
-      few = few_servers s source bytes t l rec is;
-      saved = λ q h. subst (λ p. IsTrue (covers p (xeid_path l.x))) (same_Some _ _ h) (about_covers rec (xeid_path l.x) is.about (referral_apart rec.action r));
-      kept = λ q h. absurd (none-some _ h);
-      kept_action = λ q h. absurd (none-some _ h);
-      kept_place = λ q h. absurd (none-some _ h);
-      start = w.start;
-      below_root = w.below_root;
-      once = w.once;
-    }
+    referred_lookup r =
+        let w = waiting.lookup in
+        let covered = about_covers rec (xeid_path l.x) is.about (referral_apart rec.action r) in
+        record {
+          identifier = w.identifier;
+          place = is.names_server r;
+          few = few_servers s source bytes t l rec is;
+          saved = λ q h. rw (← same_Some rec.prefix q h) covered;
+          kept = λ q h. cc;
+          kept_action = λ q h. cc;
+          kept_place = λ q h. cc;
+          start = w.start;
+          below_root = w.below_root;
+          once = w.once;
+        }
 
     pub passed_lookup : rec.action ≡ MsNotRegistered → l.place + 1 < length l.servers → IsLookup (passed_on l rec)
-    passed_lookup a more = let w = waiting.lookup in record {
-      identifier = w.identifier;
-      place = more;
-      few = w.few;
-      saved = w.saved;
-      kept = λ q h. subst (λ (r : ReferralRecord). IsTrue (covers r.prefix (xeid_path l.x))) (same_Some _ _ h) (about_covers rec (xeid_path l.x) is.about (λ no. cc (a, no)));
-      kept_action = λ q h. subst (λ (r : ReferralRecord). r.action ≡ MsNotRegistered) (same_Some _ _ h) a;
-      kept_place = λ q h. omega arith;
-      start = w.start;
-      below_root = w.below_root;
-      once = w.once;
-    }
+    passed_lookup a more =
+        let w = waiting.lookup in
+        let covered = about_covers rec (xeid_path l.x) is.about (λ no. cc (a, no)) in
+        record {
+          identifier = w.identifier;
+          place = more;
+          few = w.few;
+          saved = w.saved;
+          kept = λ q h. rw (← same_Some rec q h) covered;
+          kept_action = λ q h. rw (← same_Some rec q h) a;
+          kept_place = λ q h. omega arith;
+          start = w.start;
+          below_root = w.below_root;
+          once = w.once;
+        }
 
   pub restarted_lookup : IsLookup (started_over s l)
-  restarted_lookup = let w = waiting.lookup in record {
-    identifier = w.identifier;
+  restarted_lookup = record {
+    identifier = waiting.lookup.identifier;
     place = o.root;
     few = o.known.few;
-    saved = λ q h. absurd (none-some _ h);
-    kept = λ q h. absurd (none-some _ h);
-    kept_action = λ q h. absurd (none-some _ h);
-    kept_place = λ q h. absurd (none-some _ h);
-    start = λ q h. absurd (none-some _ h);
-    below_root = λ h. absurd (none-some _ h);
+    saved = λ q h. cc;
+    kept = λ q h. cc;
+    kept_action = λ q h. cc;
+    kept_place = λ q h. cc;
+    start = λ q h. cc;
+    below_root = λ h. cc;
     once = λ _. refl;
   }
 
   pub again_lookup : IsLookup (tried_again l)
-  again_lookup = let w = waiting.lookup in record {
-    identifier = w.identifier;
-    place = w.place;
-    few = w.few;
-    saved = w.saved;
-    kept = w.kept;
-    kept_action = w.kept_action;
-    kept_place = w.kept_place;
-    start = w.start;
-    below_root = w.below_root;
-    once = w.once;
-  }
+  again_lookup = assumption waiting.lookup
 
   pub next_lookup : l.place + 1 < length l.servers → IsLookup (at_next l)
-  next_lookup more = let w = waiting.lookup in record {
-    identifier = w.identifier;
-    place = more;
-    few = w.few;
-    saved = w.saved;
-    kept = w.kept;
-    kept_action = w.kept_action;
-    kept_place = λ q h. omega arith;
-    start = w.start;
-    below_root = w.below_root;
-    once = w.once;
-  }
+  next_lookup more =
+      let later : (rec : ReferralRecord) → l.kept ≡ Some rec → 0 < l.place + 1 = λ rec h. omega arith in
+      assumption (waiting.lookup, more, later)
 
 -- ---- each case
 
@@ -266,6 +253,10 @@ module _ (s : State) (o : IsInOrder s) (call : Call) (new : State) (a : Reply) w
     dropping : (end : Result Outcome Why) → new ≡ dropped s t → progress_of a ≡ Ends t end → Leaves s call t l end → IsMoved s call new a
     dropping end is ends leaves = rw is (record { time = refl; me = refl; roots = refl; known = o.known; move = drops t l end here refl refl ends leaves })
 
+    sending : (k : Known) (m : Pending) → k.time ≡ s.known.time → k.roots ≡ s.known.roots → IsKnownInOrder k → new ≡ record (lodged s t m) { known = k } → m.x ≡ l.x
+        → Goes s call a t l m → IsLookup m → s.next < last_nonce → IsMoved s call new a
+    sending k m time roots known e same goes is more = rw e (record { time = time; me = refl; roots = roots; known = known; move = sends t l m here same goes is more refl refl })
+
     module _ (source : Locator) (bytes : List ℕ) (rec : ReferralRecord) (is : IsTaken s source bytes t l rec) (h : Heard) (to : a ≡ ToDatagram h) (called : call ≡ Hear source bytes) where
       saved_known : IsKnownInOrder (stored s rec).known
       saved_known = stored_in_order s.known rec (few_servers s source bytes t l rec is) o.known
@@ -281,18 +272,23 @@ module _ (s : State) (o : IsInOrder s) (call : Call) (new : State) (a : Reply) w
 
       acted : act.Act s t l rec new h → IsMoved s call new a
       acted (act.loops r not_below e f) = failing Loop e f (by_loop rec takes r not_below refl)
-      acted (act.refers r below more e f) = rw e (record { time = refl; me = refl; roots = refl; known = saved_known; move = sends t l (referred l rec) here refl (anew (to ∙ ap ToDatagram f) refl refl refl) (referred_lookup s o t l here source bytes rec is r) more refl refl })
+      acted (act.refers r below more e f) =
+          sending _ (referred l rec) refl refl saved_known e refl (anew (to ∙ ap ToDatagram f) refl refl refl) (referred_lookup s o t l here source bytes rec is r) more
       acted (act.acknowledges k e f) = saving (inl k) e f
       acted (act.closes k e f) = saving (inr (inr k)) e f
-      acted (act.passes_on k more room e f) = rw e (record { time = refl; me = refl; roots = refl; known = o.known; move = sends t l (passed_on l rec) here refl (keeps source bytes rec called is (to ∙ ap ToDatagram f) refl) (passed_lookup s o t l here source bytes rec is k more) room refl refl })
+      acted (act.passes_on k more room e f) =
+          sending _ (passed_on l rec) refl refl o.known e refl (keeps source bytes rec called is (to ∙ ap ToDatagram f) refl) (passed_lookup s o t l here source bytes rec is k more) room
       acted (act.concludes k end e f) = saving (inr (inl k)) e f
-      acted (act.starts_over p k start room e f) = rw e (record { time = refl; me = refl; roots = refl; known = forgotten_in_order s.known p o.known; move = sends t l (started_over s l) here refl (anew (to ∙ ap ToDatagram f) refl refl refl) (restarted_lookup s o t l here) room refl refl })
+      acted (act.starts_over p k start room e f) =
+          sending _ (started_over s l) refl refl (forgotten_in_order s.known p o.known) e refl (anew (to ∙ ap ToDatagram f) refl refl refl) (restarted_lookup s o t l here) room
       acted (act.nobody k start e f) = failing NobodyInCharge e f (by_nobody rec takes k start refl)
       acted (act.used_up on none e f) = failing Exhausted e f (by_nonce none refl)
 
     going : (h : Ticked) → a ≡ ToTick h → call ≡ Tick → l.deadline ≤ s.known.time → GoOn s t l new h → IsMoved s call new a
-    going h to called over (tick.again first room e f) = rw e (record { time = refl; me = refl; roots = refl; known = o.known; move = sends t l (tried_again l) here refl (repeats (to ∙ ap ToTick f) over first refl) (again_lookup s o t l here) room refl refl })
-    going h to called over (tick.next_place second more room e f) = rw e (record { time = refl; me = refl; roots = refl; known = o.known; move = sends t l (at_next l) here refl (goes_on (to ∙ ap ToTick f) over second more refl) (next_lookup s o t l here more) room refl refl })
+    going h to called over (tick.again first room e f) =
+        sending _ (tried_again l) refl refl o.known e refl (repeats (to ∙ ap ToTick f) over first refl) (again_lookup s o t l here) room
+    going h to called over (tick.next_place second more room e f) =
+        sending _ (at_next l) refl refl o.known e refl (goes_on (to ∙ ap ToTick f) over second more refl) (next_lookup s o t l here more) room
     going h to called over (tick.answered rec second end kept e f) =
         dropping (Ok (NotRegistered rec.prefix rec.servers)) e (rw (to, f) refl) (by_kept rec (record { called = called; over = over; second = second; at_end = end }) kept refl)
     going h to called over (tick.no_reply second end kept e f) =

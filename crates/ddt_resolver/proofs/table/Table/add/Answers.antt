@@ -8,7 +8,9 @@ use Rattle.ddt_resolver.proofs.TableLemmas.{under, in_map, IsPut, put_table, put
 use Rattle.ddt_resolver.proofs.table.Table.add.Goals as goal
 use Rattle.ddt_resolver.proofs.table.Table.add.Goals.{After-note}
 
-put : (c : After-note) → IsPut c.self.inside.lookups c.insert_reserved-slot.new.self (btree.get nat_cmp c.self.inside.slots) (btree.get nat_cmp c.note.new.slots) c.self.inside.next c.insert_reserved-slot.result (under c.args.ticket c.args.lookup)
+put : (c : After-note)
+    → IsPut c.self.inside.lookups c.insert_reserved-slot.new.self (btree.get nat_cmp c.self.inside.slots) (btree.get nat_cmp c.note.new.slots)
+    c.self.inside.next c.insert_reserved-slot.result (under c.args.ticket c.args.lookup)
 put c = record {
   is = c.self.invariant.0;
   updates = c.insert_reserved-slot.ensures.updates;

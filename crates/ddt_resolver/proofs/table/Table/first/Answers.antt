@@ -9,11 +9,13 @@ returns-then-nonce-self-clause-found c = pair_in_map c.self.inside.lookups c.sel
 
 pub returns-then-nonce-self-clause-least : goal.returns-then-nonce-self-clause-least
 returns-then-nonce-self-clause-least c = IfSome_then c.ticket_and_lookup.result c.ticket_and_lookup.ensures.found (λ p there.
-    least_nonce c.self.inside.lookups c.self.invariant c.self.view_is _ _ c.in-Some.ensures.value (under p.0 p.1) c.if-nonce-self.true there (at_or_above c.self.inside.slots _ c.in-Some.ensures.least))
+    least_nonce c.self.inside.lookups c.self.invariant c.self.view_is _ _ c.in-Some.ensures.value (under p.0 p.1) c.if-nonce-self.true there
+    (at_or_above c.self.inside.slots _ c.in-Some.ensures.least))
 
 pub returns-then-nonce-self-clause-soonest : goal.returns-then-nonce-self-clause-soonest
 returns-then-nonce-self-clause-soonest c = IfSome_then c.ticket_and_lookup.result c.ticket_and_lookup.ensures.found (λ p there.
-    first_deadline c.self.inside.lookups c.self.invariant c.self.view_is _ _ c.in-Some.ensures.value (under p.0 p.1) c.if-nonce-self.true there (at_or_above c.self.inside.slots _ c.in-Some.ensures.least))
+    first_deadline c.self.inside.lookups c.self.invariant c.self.view_is _ _ c.in-Some.ensures.value (under p.0 p.1) c.if-nonce-self.true there
+    (at_or_above c.self.inside.slots _ c.in-Some.ensures.least))
 
 pub returns-else-nonce-self-clause-none : goal.returns-else-nonce-self-clause-none
 returns-else-nonce-self-clause-none c = no_lookup c.self.inside.lookups c.self.invariant c.self.view_is (λ q at found.

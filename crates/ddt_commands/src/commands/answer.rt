@@ -36,7 +36,7 @@ use ddt_check::Accepted;
 use ddt_compile::compile_group;
 use ddt_config::ServerConfig;
 use ddt_ecm::write_request;
-use ddt_node::{Handled, Server};
+use ddt_node::Server;
 use ddt_path::{Name, Xeid};
 use ddt_trie::TrieMap;
 use ddt_words::{Argument, Declaration, Words};
@@ -164,8 +164,7 @@ fn answer_by(alloc: Global, config: ServerConfig, x: Xeid) -> Result<Vec<u8>, Al
         return Err(AllocError);
     };
     let request = write_request(alloc, 1, x, &[RESOLVER], true)?;
-    let Handled { reply, forward: _ } = server.handle(alloc, &request)?;
-    match reply {
+    match server.reply(alloc, &request)? {
         Some(reply) => Ok(reply.into_vec()),
         None => unreachable!(),
     }

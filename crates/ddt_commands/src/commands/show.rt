@@ -19,7 +19,9 @@ use crate::status::Status;
 use crate::streams::{answer, refuse};
 use ddt_ecm::read_request;
 use ddt_lines::{negative_reply_line, referral_line, request_line};
-use ddt_wire::{ENCAPSULATED, MAP_REFERRAL, MAP_REPLY, read_negative_reply, read_referral};
+use ddt_wire::{
+    ENCAPSULATED, MAP_REFERRAL, MAP_REPLY, TYPE_SHIFT, read_negative_reply, read_referral,
+};
 use ddt_words::{Argument, Declaration, Words};
 use hex::FromHexError;
 use std::alloc::Global;
@@ -98,7 +100,7 @@ fn message_type(bytes: &[u8]) -> Result<MessageType, Refusal<'static>>
     ensures known { IfOk result (λ found. type_of bytes.now ≡ Some (type_number found)) }
     ensures unknown { IfErr result (λ why. (why ≡ IsNoMessage IsUnknownMessage) × IsUnknownType (type_of bytes.now)) }
 {
-    match bytes.first().map(|byte| byte >> 4) {
+    match bytes.first().map(|byte| byte >> TYPE_SHIFT) {
         Some(MAP_REPLY) => Ok(MessageType::Reply),
         Some(MAP_REFERRAL) => Ok(MessageType::Referral),
         Some(ENCAPSULATED) => Ok(MessageType::Request),

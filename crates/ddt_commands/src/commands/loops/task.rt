@@ -16,7 +16,7 @@ use crate::refusal::{Refusal, ServerRefusal};
 use crate::resolver::{Client, Servers};
 use crate::sockets::bind_all;
 use ddt_check::Accepted;
-use ddt_loop::{Clock, loop_turns};
+use ddt_loop::{Clock, Tree, loop_turns};
 use ddt_path::{Locator, Xeid};
 use ddt_resolver::Resolver;
 use ddt_sim::{Compiled, a_step_keeps_a_resolver_sound};
@@ -66,20 +66,15 @@ where
     a_step_keeps_a_resolver_sound();
     let sockets = locators_of_servers(alloc, register)?;
     are_on_loopback(&sockets)?;
-    let mut servers: Servers = Compiled::build(alloc, register)?;
+    let servers: Servers = Compiled::build(alloc, register)?;
     let mut resolver: Client = Resolver::new(alloc, register.roots(), task.me, task.seed);
     bind_all(wires, bind, task.me, &sockets)?;
-    let ends = loop_turns(
-        alloc,
-        wires,
-        clock,
-        &mut servers,
-        &mut resolver,
-        task.me,
-        &sockets,
-        task.ids,
-        task.turns,
-    )?;
+    let tree = Tree {
+        me: task.me,
+        sockets: &sockets,
+        servers: &servers,
+    };
+    let ends = loop_turns(wires, clock, &tree, &mut resolver, task.ids, task.turns)?;
     Ok(Lines {
         text: end_lines(alloc, task.ids, &ends)?,
         complete: are_outcomes(&ends),

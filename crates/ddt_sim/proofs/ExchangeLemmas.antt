@@ -135,7 +135,7 @@ module _ {honest : Register → Type 0} {now : ℕ} {s : State} {t : ℕ} {d : O
 
   -- over honest servers
   module _ {r : Register} {x : Xeid} (is : honest r) (a : IsUnderstood r now x s t d) where
-    well_heard : IsWellHeard r x s t d reply new h
+    pub well_heard : IsWellHeard r x s t d reply new h
     well_heard = a.heard reply (came.said r a.request is a.server a.spelled) new h came.step
 
     pub untaken_well : (own : Option (Result Turn Why)) {error : LookupError} {hops : List Hop} → IsOwn t h own → Err error ≡ turn_or_failure own → IsRightlyTurned r x s.me hops (Err error) hops new
@@ -152,9 +152,6 @@ module _ {honest : Register → Type 0} {now : ℕ} {s : State} {t : ℕ} {d : O
         by : (turn : Turn) → h ≡ heard_of t (Ok turn) → IsRightTurn r x turn
         by (GoesOn e) is = tt
         by (Ends o) is = well_heard.outcome o is
-
-    pub unfinished_well : {hops more : List Hop} → IsRightlyTurned r x s.me hops (Err Memory) more new
-    unfinished_well = record { sound = well_heard.sound; turn = tt; failure = tt; hops = λ all. tt }
 
 -- a turn brings the lookup nearer to its end
 pub turn_is_nearer : {now : ℕ} {s : State} {t : ℕ} {d : Outgoing} {new : State} {source : _} {bytes : List ℕ} {h : Heard} {x : Xeid} (turn : Turn) → IsInOrder s → HearStep (moved now s) source bytes new h

@@ -110,7 +110,6 @@ module _ (r : Register) (laws : RepliesAreRead r) {now : ℕ} {x : Xeid} {s : St
       let own = own_ticket laws.messages laws.back s o t w.lookup w.is_pending d.to w.to reply _ usable_here spells taken.in_time.from_server.reply in rw (own.1, w.its_x) own.2
 
   pub honest_reply_is_taken : {new : State} {h : Heard} → HearStep s d.to reply new h → IsFor t h
-  honest_reply_is_taken step = elim (late_or_taken laws.messages laws.back s o t w.lookup w.is_pending d.to w.to reply _ usable_here spells _ _ step) [
-    | inl late ↦ let e = w.deadline in absurd (omega (arith, e, late))
-    | inr is ↦ is
-  ]
+  honest_reply_is_taken step =
+      let whether = late_or_taken laws.messages laws.back s o t w.lookup w.is_pending d.to w.to reply _ usable_here spells _ _ step in
+      elim whether [ inl late ↦ let e = w.deadline in absurd (omega (arith, e, late)) | inr is ↦ is ]

@@ -120,10 +120,7 @@ module _ (r : Register) (s : State) (i : IsSound r s) where
   sound_lodged t l sound = record {
     root = i.root;
     entries = i.entries;
-    lookups = λ u m found. elim (found_insert s.pending t (numbered s l) u m found) [
-      | inl e ↦ subst (IsSoundLookup r) e.1 (same_set sound refl refl refl sound.kept)
-      | inr e ↦ i.lookups u m e.1
-    ];
+    lookups = λ u m found. elim (found_insert s.pending t _ u m found) [ inl e ↦ rw (← e.1) (same_set sound refl refl refl sound.kept) | inr e ↦ i.lookups u m e.1 ];
   }
 
   pub sound_moved : (now : ℕ) → IsSound r (moved now s)
@@ -135,10 +132,8 @@ module _ (r : Register) (s : State) (i : IsSound r s) where
     where
       by : (p : List ℕ) (e : Entry) (b : Bool) → get (cond b (insert s.known.live rec.prefix (entry_of s.known.time rec)) s.known.live) p ≡ Some e → IsTrueEntry r p e
       by p e false found = i.entries p e found
-      by p e true found = elim (found_after_insert s.known.live rec.prefix (entry_of s.known.time rec) p e found) [
-        | inl put ↦ rw (put.0, ← put.1) true_entry
-        | inr there ↦ i.entries p e there
-      ]
+      by p e true found =
+          elim (found_after_insert s.known.live rec.prefix _ p e found) [ inl put ↦ rw (put.0, ← put.1) true_entry | inr there ↦ i.entries p e there ]
 
 -- ---- a step
 

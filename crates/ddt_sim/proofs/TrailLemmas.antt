@@ -1,5 +1,6 @@
 -- The hops of a lookup: how they follow one another, from its steps, and that its passes are short, whatever its servers say.
 use Rattle.std.proofs.Common.{◌≡◌, ℕ, ◌<◌, List, [], ◌∷◌, ◌++◌, length, drop, None, Some, Ok, Err, refl, ap, ◌∙◌, subst, arith, ◌+◌, ◌≤◌, Option, Result, inl, inr, sym}
+use Rattle.std.specs.Option.{option_map_or}
 use Rattle.std.specs.Prelude.{IsTrue, Result, IfOk}
 use Rattle.std.proofs.lemmas.List.{append_assoc, drop_more, append-nil}
 use Rattle.std.proofs.Math.ListN.{drop_of_length-le}
@@ -47,7 +48,7 @@ use Rattle.ddt_resolver.specs.TickStep as ticks
 use Rattle.ddt_resolver.specs.TickStep.{GoOn}
 use Rattle.ddt_resolver.specs.Step.{asks, hears, ticks as ticks_on}
 use Rattle.ddt_resolver.specs.laws.NumberMap.{found_insert, found_remove}
-use Rattle.ddt_sim.proofs.WaitingLemmas.{Opens, opens, does_ask, Onward, onward_keeps, refers, passes_on, starts_over, Follows, follows, Closes, ends, concludes, Answers, answers, does, asked_waits, followed_waits, own_lookup}
+use Rattle.ddt_sim.proofs.WaitingLemmas.{Opens, opens, does_ask, Onward, onward_keeps, refers, passes_on, starts_over, Follows, follows, Closes, ends, concludes, does, asked_waits, followed_waits, own_lookup}
 
 -- ---- what is known of hops because of those that come after them
 
@@ -129,13 +130,9 @@ module _ (now : ℕ) (x : Xeid) (start : State) (outcome : Outcome) (o : IsInOrd
   -- what a lookup gives comes by its trail
   pub outcome_trail : {hops : List Hop} {new : State} → HasOutcome now x start outcome hops new → HasTrail x (moved now start) outcome hops
   outcome_trail (at_once step none) = let h = does_ask step in trail.at_once h.0 h.1 h.2 h.3 none
-  outcome_trail (by_reply {before = hs} {t = t} {d = d} {s = s} reaches turn) = rw turn.hop (by refl (does turn.step))
-    where
-      a : IsAlong now x (moved now start) gives hs t d s
-      a = reached_along start gives gives_before reaches
-
-      by : {v : Outcome} → outcome ≡ v → Answers (moved now s) d.to turn.reply t v → HasTrail x (moved now start) outcome (hs ++ hop_of d turn.reply ∷ [])
-      by is (answers l rec taken closes) = rw (← append-nil (hs ++ hop_of d turn.reply ∷ [])) (has_trail (with_hop a taken [] (gives_last (its_hop a taken) closes is)))
+  outcome_trail (by_reply {before = hs} {d = d} reaches turn) =
+      let a = reached_along start gives gives_before reaches in let h = does turn.step in
+      rw (turn.hop, ← append-nil (hs ++ hop_of d turn.reply ∷ [])) (has_trail (with_hop a h.2 [] (gives_last (its_hop a h.2) h.3 h.4)))
 
 -- so does what a call gives
 pub result_trail : (now : ℕ) (x : Xeid) (start : State) → IsInOrder (moved now start) → IsTrue (is_path (xeid_path x)) → (new : State) (res : Result Lookup LookupError)
@@ -151,14 +148,9 @@ short_result short r x s accepted o sound id (Err error) has honest = tt
 
 -- ---- the passes of a lookup are short, whatever its servers say
 
--- how many passes more a lookup may have
-abbrev more_passes : Option (List ℕ) → ℕ
-more_passes None = 0
-more_passes (Some p) = 1
-
 -- what a lookup may have from here on, by what it has saved and where it started
 data ArePasses (digits : ℕ) (saved start : Option (List ℕ)) : List ℕ → Type 0 where
-  are : (n : ℕ) (others : List ℕ) → n ≤ room digits saved → AllByRecursion (λ m. m ≤ digits + 1) others → length others ≤ more_passes start
+  are : (n : ℕ) (others : List ℕ) → n ≤ room digits saved → AllByRecursion (λ m. m ≤ digits + 1) others → length others ≤ option_map_or (λ p. 1) start 0
       → ArePasses digits saved start (n ∷ others)
 
 nothing_yet : (top : ℕ) (saved start : Option (List ℕ)) → ArePasses top saved start (0 ∷ [])
@@ -213,8 +205,6 @@ module _ (read : MessagesAreRead) (x : Xeid) where
   trail_passes (trail.passes_on {more = more} rec to k after) = rw (told to (passes_of more), k) (trail_passes after)
   trail_passes (trail.refers {more = more} rec to k below after) = down to more k below (trail_passes after)
   trail_passes (trail.starts_over {more = more} p rec to k after) = again to more k (trail_passes after)
-
--- ---- each lookup
 
 -- however far it has come
 pub passes_are_short : MessagesAreRead → PassesAreShort

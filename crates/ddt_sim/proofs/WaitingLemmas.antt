@@ -5,7 +5,6 @@ use Rattle.std.proofs.lemmas.Option.{same_Some}
 use Rattle.ddt_path.specs.declared.xeid.Xeid.{Xeid}
 use Rattle.ddt_path.specs.declared.locator.Locator.{Locator}
 use Rattle.ddt_path.specs.declared.action.Action.TheVariants.{MsAck, MsNotRegistered, DelegationHole, NotAuthoritative}
-use Rattle.ddt_path.specs.declared.record.Outcome.{Outcome}
 use Rattle.ddt_path.specs.declared.record.ReferralRecord.{ReferralRecord}
 use Rattle.ddt_path.specs.Actions.{IsReferral}
 use Rattle.ddt_path.specs.Path.{xeid_path}
@@ -88,15 +87,11 @@ pub data Closes (l : Pending) (rec : ReferralRecord) : Type 0 where
   ends : (rec.action ≡ MsAck) ⊎ (rec.action ≡ DelegationHole) → Closes l rec
   concludes : rec.action ≡ MsNotRegistered → length l.servers ≤ l.place + 1 → Closes l rec
 
--- a reply that ends a lookup with this outcome
-pub data Answers (s : State) (source : Locator) (reply : List ℕ) (t : ℕ) : Outcome → Type 0 where
-  answers : (l : Pending) (rec : ReferralRecord) → IsTaken s source reply t l rec → Closes l rec → Answers s source reply t (outcome_of rec)
-
 -- what a reply does, by what is answered to it
 abbrev pub Does : State → Locator → List ℕ → State → Heard → Type 0
 Does s source reply new (heard.Ignored why) = Unit {0}
 Does s source reply new (heard.Followed t e) = Follows s source reply t new e
-Does s source reply new (heard.Answer t o) = Answers s source reply t o
+Does s source reply new (heard.Answer t o) = (l : Pending) × (rec : ReferralRecord) × IsTaken s source reply t l rec × Closes l rec × (o ≡ outcome_of rec)
 Does s source reply new (heard.GaveUp t why) = (why ≡ NoReply → ⊥) × (why ≡ Exhausted → new.next ≡ last_nonce)
 
 pub does : {s new : State} {source : Locator} {reply : List ℕ} {h : Heard} → HearStep s source reply new h → Does s source reply new h
@@ -106,10 +101,10 @@ does {s = s} {new = new} {source = source} {reply = reply} {h = h} (acts.taken t
     by : Act s t l rec new h → Does s source reply new h
     by (acts.loops k loop e f) = rw f (λ no. cc no, λ used. cc used)
     by (acts.refers k lower more e f) = rw (e, f) (follows l rec _ _ taken (refers k lower))
-    by (acts.acknowledges k e f) = rw f (answers l rec taken (ends (inl k)))
-    by (acts.closes k e f) = rw f (answers l rec taken (ends (inr k)))
+    by (acts.acknowledges k e f) = rw f (l, rec, taken, ends (inl k), refl)
+    by (acts.closes k e f) = rw f (l, rec, taken, ends (inr k), refl)
     by (acts.passes_on k more room e f) = rw (e, f) (follows l rec _ _ taken (passes_on k more))
-    by (acts.concludes k last e f) = rw f (answers l rec taken (concludes k last))
+    by (acts.concludes k last e f) = rw f (l, rec, taken, concludes k last, refl)
     by (acts.starts_over p k start room e f) = rw (e, f) (follows l rec _ _ taken (starts_over p k start))
     by (acts.nobody k start e f) = rw f (λ no. cc no, λ used. cc used)
     by (acts.used_up k over e f) = rw (e, f) (λ no. cc no, λ used. over)

@@ -1,7 +1,7 @@
 use Rattle.std.proofs.Common.{◌≡◌, Err, refl, rules}
 use Rattle.ddt_sim.specs.Lookup.{unfinished}
 use Rattle.ddt_sim.proofs.SoundLemmas.{sound_moved}
-use Rattle.ddt_sim.proofs.ExchangeLemmas.{came_back, turn_of, unreplied_well, unreplied_fails, taken_is, untaken_fails, untaken_well, taken_well, unfinished_well, turn_is_nearer}
+use Rattle.ddt_sim.proofs.ExchangeLemmas.{came_back, turn_of, unreplied_well, unreplied_fails, taken_is, untaken_fails, untaken_well, taken_well, well_heard, turn_is_nearer}
 use Rattle.ddt_sim.proofs.exchange.exchange.Goals as goal
 
 pub returns-in_err-reply-clause-failed : goal.returns-in_err-reply-clause-failed
@@ -49,5 +49,6 @@ returns-in-Err-push-clause-failed g c =
 
 pub returns-in-Err-push-clause-honest : goal.returns-in-Err-push-clause-honest
 returns-in-Err-push-clause-honest g c = λ r x honest under.
-    unfinished_well (came_back c.args.request c.answer.result c.as_slice.ensures c.answer.ensures.says c.in_ok-reply.ensures c.as_slice-2.ensures c.in-Ok.ensures.step) honest
-    (c.requests_are_understood.ensures r _ x _ _ _ c.millis-millis.ensures.bound c.in_order.ensures under)
+    let well = well_heard (came_back c.args.request c.answer.result c.as_slice.ensures c.answer.ensures.says c.in_ok-reply.ensures c.as_slice-2.ensures c.in-Ok.ensures.step) honest
+    (c.requests_are_understood.ensures r _ x _ _ _ c.millis-millis.ensures.bound c.in_order.ensures under) in
+    record { sound = well.sound; turn = tt; failure = tt; hops = λ all. tt }

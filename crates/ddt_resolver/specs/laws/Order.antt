@@ -36,7 +36,18 @@ apart_remove p v apart t u l m a b same = apart t u l m (found_remove p v t l a)
 
 -- its number and its deadline are no part of what holds of a lookup
 pub numbered_lookup : (s : State) (l : Pending) → IsLookup l → IsLookup (numbered s l)
-numbered_lookup s l is = assumption is
+numbered_lookup s l is = record {
+  identifier = is.identifier;
+  place = is.place;
+  few = is.few;
+  saved = is.saved;
+  kept = is.kept;
+  kept_action = is.kept_action;
+  kept_place = is.kept_place;
+  start = is.start;
+  below_root = is.below_root;
+  once = is.once;
+}
 
 module _ (s : State) (o : IsInOrder s) (new : State) (time : s.known.time ≤ new.known.time) (roots : new.known.roots ≡ s.known.roots) (known : IsKnownInOrder new.known) where
   later : (t : ℕ) (l : Pending) → s.next ≤ new.next → get s.pending t ≡ Some l → IsWaiting new t l

@@ -221,12 +221,32 @@ module _ (s : State) (o : IsInOrder s) (t : ℕ) (l : Pending) (here : get s.pen
   }
 
   pub again_lookup : IsLookup (tried_again l)
-  again_lookup = assumption waiting.lookup
+  again_lookup = let w = waiting.lookup in record {
+    identifier = w.identifier;
+    place = w.place;
+    few = w.few;
+    saved = w.saved;
+    kept = w.kept;
+    kept_action = w.kept_action;
+    kept_place = w.kept_place;
+    start = w.start;
+    below_root = w.below_root;
+    once = w.once;
+  }
 
   pub next_lookup : l.place + 1 < length l.servers → IsLookup (at_next l)
-  next_lookup more =
-      let later : (rec : ReferralRecord) → l.kept ≡ Some rec → 0 < l.place + 1 = λ rec h. omega arith in
-      assumption (waiting.lookup, more, later)
+  next_lookup more = let w = waiting.lookup in record {
+    identifier = w.identifier;
+    place = more;
+    few = w.few;
+    saved = w.saved;
+    kept = w.kept;
+    kept_action = w.kept_action;
+    kept_place = λ rec h. omega arith;
+    start = w.start;
+    below_root = w.below_root;
+    once = w.once;
+  }
 
 -- ---- each case
 

@@ -1,18 +1,16 @@
 -- The asks and the turns so far.
-use Rattle.std.proofs.Common.{◌≡◌, ℕ, zero, suc, ◌+◌, ◌-◌, ◌<◌, List, [], ◌∷◌, ◌++◌, length, true, Some, arith, refl, sym, ap, ◌∙◌, inl, None, Ok}
+use Rattle.std.proofs.Common.{◌≡◌, ℕ, zero, suc, ◌+◌, ◌-◌, ◌<◌, List, [], ◌∷◌, length, true, Some, arith, refl, ap, ◌∙◌, inl, None, Ok}
 use Rattle.std.specs.Prelude.{Option, slice_get, IfNone}
 use Rattle.ddt_path.specs.declared.locator.Locator.{Locator}
 use Rattle.ddt_path.specs.declared.xeid.Xeid.{Xeid}
 use Rattle.ddt_config.specs.Table.{Outline}
 use Rattle.ddt_wires.specs.declared.call.Call.{Call}
-use Rattle.ddt_wires.specs.declared.call.Call.TheVariants.{Received}
-use Rattle.ddt_wires.specs.declared.call.Packet.{Packet}
 use Rattle.ddt_wires.specs.Calls.{Tells, received}
 use Rattle.ddt_wires.specs.Turns.{most_bytes}
 use Rattle.ddt_wires.specs.laws.Tell.{tells_both, tells_none}
 use Rattle.ddt_loop.specs.Askers.{AreOwners, has_unresolved}
 use Rattle.ddt_loop.specs.Acts.{Running, AsksAt}
-use Rattle.ddt_loop.specs.Polls.{IsNoPacket, PollsMe, PollsServer, Polls}
+use Rattle.ddt_loop.specs.Polls.{IsNoPacket, PollsServer, Polls}
 use Rattle.ddt_loop.specs.Turns.{HaveAsked, no_ask, one_ask, IsTurn, HaveTurned, no_turn, one_turn}
 
 -- ---- the asks
@@ -23,43 +21,34 @@ pub record IsAsking (before told : Option (List Call)) (me : Locator) (now : ℕ
   pub asked : HaveAsked me now ids start place calls w
   pub owners : AreOwners w.state w.desk.owners
 
-pub asking_at_start : (told : Option (List Call)) (me : Locator) (now : ℕ) (ids : List Xeid) (start : Running) → AreOwners start.state start.desk.owners
-    → IsAsking told told me now ids start start 0
-asking_at_start told me now ids start owned = record { calls = []; tells = tells_none told; asked = no_ask; owners = owned }
+pub asking_at_start : {told me now ids : _} {start : Running} → AreOwners start.state start.desk.owners → IsAsking told told me now ids start start 0
+asking_at_start {told} owned = record { calls = []; tells = tells_none told; asked = no_ask; owners = owned }
 
-pub asking_on : (before midway told : Option (List Call)) (me : Locator) (now : ℕ) (ids : List Xeid) (start w new : Running) (place : ℕ) (x : Xeid) (more : List Call)
-    → IsAsking before midway me now ids start w place → slice_get ids place ≡ Some x → Tells midway more told → AsksAt me now place x w more new
-    → AreOwners new.state new.desk.owners → IsAsking before told me now ids start new (place + 1)
-asking_on before midway told me now ids start w new place x more so_far its tells asks owned = record {
-  calls = so_far.calls ++ more;
-  tells = tells_both before so_far.calls midway more told so_far.tells tells;
-  asked = one_ask x more new so_far.asked its asks;
-  owners = owned;
-}
+pub asking_on : {before midway told me now ids start w : _} {new : Running} {place x more : _} → IsAsking before midway me now ids start w place
+    → slice_get ids place ≡ Some x → Tells midway more told → AsksAt me now place x w more new → AreOwners new.state new.desk.owners
+    → IsAsking before told me now ids start new (place + 1)
+asking_on {before} {midway} {told} so_far its tells asks owned =
+    let all = tells_both before so_far.calls midway _ told so_far.tells tells in
+    record { calls = _; tells = all; asked = one_ask _ _ _ so_far.asked its asks; owners = owned }
 
 -- ---- a poll
 
 -- the call of `receive` that gives no packet
-pub unanswered : (at : Locator) (answer : Option Packet) (buffer : List ℕ) (before after : Option (List Call)) → length buffer ≡ most_bytes → Tells before (received at (Ok answer) buffer ∷ []) after
+pub unanswered : (at answer buffer before after : _) → length buffer ≡ most_bytes → Tells before (received at (Ok answer) buffer ∷ []) after
     → IfNone answer ((call : Call) × IsNoPacket at call × Tells before (call ∷ []) after)
-unanswered at None buffer before after room told = (received at (Ok None) buffer, inl (ap (λ n. Received at n (Ok None) []) room), told)
+unanswered at None buffer before after room told = (received at (Ok None) buffer, inl (rw room), told)
 unanswered at (Some p) buffer before after room told = tt
 
-pub at_me : (servers : List Outline) (me : Locator) (sockets : List Locator) (now place : ℕ) (w : Running) (calls : List Call) (new : Running)
-    → place ≡ 0 → PollsMe me now w calls new → Polls servers me sockets now place w calls new
-at_me servers me sockets now zero w calls new is polls = polls
-at_me servers me sockets now (suc k) w calls new is polls = absurd (omega (arith, is))
-
-pub at_server : (servers : List Outline) (me : Locator) (sockets : List Locator) (now place : ℕ) (w : Running) (calls : List Call) (at : Locator)
-    → 0 < place → slice_get sockets (place - 1) ≡ Some at → PollsServer servers at calls → Polls servers me sockets now place w calls w
-at_server servers me sockets now zero w calls at above is polls = absurd (omega (arith, above))
+pub at_server : (servers me sockets now place w calls at : _) → 0 < place → slice_get sockets (place - 1) ≡ Some at → PollsServer servers at calls
+    → Polls servers me sockets now place w calls w
+at_server servers me sockets now zero w calls at above is polls = absurd (omega arith)
 at_server servers me sockets now (suc k) w calls at above is polls =
-    let same : suc k - 1 ≡ k = omega arith in
-    (at, ap (slice_get sockets) (sym same) ∙ is, polls, refl)
+    let same : k ≡ suc k - 1 = omega arith in (at, ap (slice_get sockets) same ∙ is, polls, refl)
 
 -- ---- the turns
 
-pub record IsTurning (unread read : Option (List ℕ)) (before told : Option (List Call)) (servers : List Outline) (me : Locator) (sockets : List Locator) (start w : Running) (number : ℕ) : Type 0 where
+pub record IsTurning (unread read : Option (List ℕ)) (before told : Option (List Call)) (servers : List Outline) (me : Locator)
+    (sockets : List Locator) (start w : Running) (number : ℕ) : Type 0 where
   pub moments : List ℕ
   pub calls : List Call
   pub reads : Tells unread moments read
@@ -67,19 +56,16 @@ pub record IsTurning (unread read : Option (List ℕ)) (before told : Option (Li
   pub turned : HaveTurned servers me sockets start number moments calls w
   pub owners : AreOwners w.state w.desk.owners
 
-pub turning_at_start : (read : Option (List ℕ)) (told : Option (List Call)) (servers : List Outline) (me : Locator) (sockets : List Locator) (start : Running)
-    → AreOwners start.state start.desk.owners → IsTurning read read told told servers me sockets start start 0
-turning_at_start read told servers me sockets start owned =
+pub turning_at_start : {read told servers me sockets : _} {start : Running} → AreOwners start.state start.desk.owners
+    → IsTurning read read told told servers me sockets start start 0
+turning_at_start {read} {told} owned =
     record { moments = []; calls = []; reads = tells_none read; tells = tells_none told; turned = no_turn; owners = owned }
 
-pub turning_on : (unread between read : Option (List ℕ)) (before midway told : Option (List Call)) (servers : List Outline) (me : Locator) (sockets : List Locator) (start w new : Running) (number moment : ℕ) (turn : List Call)
-    → IsTurning unread between before midway servers me sockets start w number → has_unresolved w.desk.ends ≡ true → Tells between (moment ∷ []) read → Tells midway turn told → IsTurn servers me sockets number moment w turn new
-    → AreOwners new.state new.desk.owners → IsTurning unread read before told servers me sockets start new (number + 1)
-turning_on unread between read before midway told servers me sockets start w new number moment turn so_far more reads tells is owned = record {
-  moments = so_far.moments ++ moment ∷ [];
-  calls = so_far.calls ++ turn;
-  reads = tells_both unread so_far.moments between (moment ∷ []) read so_far.reads reads;
-  tells = tells_both before so_far.calls midway turn told so_far.tells tells;
-  turned = one_turn moment turn new so_far.turned more is;
-  owners = owned;
-}
+pub turning_on : {unread between read before midway told servers me sockets start w : _} {new : Running} {number moment turn : _}
+    → IsTurning unread between before midway servers me sockets start w number → has_unresolved w.desk.ends ≡ true → Tells between (moment ∷ []) read
+    → Tells midway turn told → IsTurn servers me sockets number moment w turn new → AreOwners new.state new.desk.owners
+    → IsTurning unread read before told servers me sockets start new (number + 1)
+turning_on {unread} {between} {read} {before} {midway} {told} so_far more reads tells is owned =
+    let all_read = tells_both unread so_far.moments between _ read so_far.reads reads in
+    let all_told = tells_both before so_far.calls midway _ told so_far.tells tells in
+    record { moments = _; calls = _; reads = all_read; tells = all_told; turned = one_turn _ _ _ so_far.turned more is; owners = owned }

@@ -1,15 +1,15 @@
 -- The list of those who wait: who is taken off it, and how many there are.
-use Rattle.std.proofs.Common.{◌≡◌, ℕ, zero, suc, ◌+◌, ◌-◌, ◌<◌, ◌≤◌, Bool, true, false, List, [], ◌∷◌, ◌++◌, length, take, drop, get_or, Option, Some, None, refl, sym, ap, ◌∙◌, subst, arith, nat_cmp, add-one}
-use Rattle.std.specs.Prelude.{◌≢◌, ◌==◌, not, nat_lt, IsSome, All, position}
+use Rattle.std.proofs.Common.{◌≡◌, ℕ, zero, suc, ◌<◌, ◌≤◌, Bool, List, [], ◌∷◌, ◌++◌, length, take, drop, get_or, Option, Some, None, refl, sym, ◌∙◌, arith, nat_cmp, add-one}
+use Rattle.std.specs.Prelude.{◌≢◌, ◌==◌, IsSome, All, position}
 use Rattle.std.specs.List.{position_or_len, remove}
 use Rattle.std.specs.Cmp.{nat_cmp_total}
-use Rattle.std.specs.FinMap.{FinMap, get, len, contains_key, len-remove, empty_of_len, get-empty}
+use Rattle.std.specs.FinMap.{FinMap, get, len, len-remove, empty_of_len, get-empty}
 use Rattle.std.specs.FinMap as map
-use Rattle.std.proofs.lemmas.Option.{none-some}
-use Rattle.std.proofs.lemmas.Bool.{cond-true, cond-false, eqb-true, eq-eqb, ne_eqb, lt-ltb, false≢true}
+use Rattle.std.proofs.lemmas.Bool.{eqb-true, eq-eqb, ne_eqb, false≢true}
 use Rattle.std.proofs.lemmas.List.{take-append-drop, drop_more}
 use Rattle.std.proofs.lemmas.List.Elements.{All-nil, All-cons, All-head, All-tail, All-push}
 use Rattle.std.proofs.lemmas.List.Quantifiers.{position-Some}
+use Rattle.std.proofs.lemmas.List.Sums.{fails_before_first}
 use Rattle.ddt_resolver.specs.laws.NumberMap.{at_insert, at_remove}
 use Rattle.ddt_loop.specs.declared.owner.Owner.{Owner}
 use Rattle.ddt_loop.specs.Askers.{owner_of, Takes, nobody, somebody, AreApart}
@@ -18,69 +18,59 @@ use Rattle.ddt_loop.specs.Askers.{owner_of, Takes, nobody, somebody, AreApart}
 
 module _ {V : Type 0} (m : FinMap nat_cmp V) (k q : ℕ) (other : q ≢ k) where
   pub get_insert_other : (v : V) → get (map.insert m k v) q ≡ get m q
-  get_insert_other v = at_insert m k v q ∙ cond-false (q == k) (Some v) (get m q) (ne_eqb q k other)
+  get_insert_other v = rw (at_insert m k v q, ne_eqb q k other)
 
   pub get_remove_other : get (map.remove m k) q ≡ get m q
-  get_remove_other = at_remove m k q ∙ cond-false (q == k) None (get m q) (ne_eqb q k other)
+  get_remove_other = rw (at_remove m k q, ne_eqb q k other)
 
 pub some_of : {V : Type 0} (o : Option V) → IsSome o → (v : V) × (o ≡ Some v)
-some_of None some = absurd (false≢true some)
+some_of None some = absurd (cc some)
 some_of (Some v) some = (v, refl)
 
 abbrev pub has_ticket : ℕ → Owner → Bool
 has_ticket t o = o.ticket == t
 
--- where the place of the first would be behind the end, there is none
-none_more : (t : ℕ) (o : Owner) (owners : List Owner) → (position_or_len (has_ticket t) (o ∷ owners) < length (o ∷ owners) → ⊥)
-    → ((position_or_len (has_ticket t) owners < length owners → ⊥) → All (λ p. p.ticket ≢ t) owners)
-    → (b : Bool) → has_ticket t o ≡ b → All (λ p. p.ticket ≢ t) (o ∷ owners)
-none_more t o owners none ih true e =
-    let first : position_or_len (has_ticket t) (o ∷ owners) ≡ 0 = cond-false (not (has_ticket t o)) (1 + position_or_len (has_ticket t) owners) 0 (ap not e) in
-    absurd (none (omega (arith, first)))
-none_more t o owners none ih false e =
-    let later : position_or_len (has_ticket t) (o ∷ owners) ≡ 1 + position_or_len (has_ticket t) owners = cond-true (not (has_ticket t o)) (1 + position_or_len (has_ticket t) owners) 0 (ap not e) in
-    All-cons (λ p. p.ticket ≢ t) o owners (λ same. false≢true (sym e ∙ eq-eqb o.ticket t same))
-    (ih (λ lt. none (omega (arith, later, lt))))
-
-none_before : (t : ℕ) (owners : List Owner) → (position_or_len (has_ticket t) owners < length owners → ⊥) → All (λ p. p.ticket ≢ t) owners
-none_before t [] none = All-nil (λ p. p.ticket ≢ t)
-none_before t (o ∷ owners) none = none_more t o owners none (none_before t owners) (has_ticket t o) refl
-
--- the place is looked for in the list that a slice lends
-pub place_in : (t n : ℕ) (owners seen : List Owner) (r found : Option ℕ) → r ≡ position (has_ticket n) seen → n ≡ t → seen ≡ owners
-    → r ≡ found → position (has_ticket t) owners ≡ found
-place_in t n owners seen r found is number same given =
-    ap (λ m. position (has_ticket m) owners) (sym number) ∙ ap (position (has_ticket n)) (sym same) ∙ sym is ∙ given
-
 pub nobody_at : (t : ℕ) (owners : List Owner) → position (has_ticket t) owners ≡ None → Takes t owners owners None
-nobody_at t owners none = nobody (none_before t owners (λ lt. none-some _ (sym none ∙ cond-true (nat_lt (position_or_len (has_ticket t) owners) (length owners)) (Some (position_or_len (has_ticket t) owners)) None (lt-ltb _ _ lt)))) refl refl
+nobody_at t owners none =
+    let late : length owners ≤ position_or_len (has_ticket t) owners = grind arith in
+    nobody (λ k d lt same. false≢true (sym (fails_before_first (has_ticket t) owners k d (omega arith)) ∙ eq-eqb _ t same)) refl refl
 
 pub somebody_at : (t : ℕ) (owners : List Owner) (i : ℕ) (o : Owner) → position (has_ticket t) owners ≡ Some i
     → o ≡ get_or owners i o → Takes t owners (remove owners i) (Some o.asker)
 somebody_at t owners i o found read =
     let at = position-Some (has_ticket t) owners i o found in
-    let within : i < length owners = at.0 in
-    let its : o.ticket ≡ t = eqb-true o.ticket t (ap (has_ticket t) read ∙ at.1) in
-    let is : o ≡ owner_of t o.asker = ap (λ n. owner_of n o.asker) its in
-    let tail : drop i owners ≡ owner_of t o.asker ∷ drop (suc i) owners =
-    drop_more owners i o within ∙ ap (λ p. p ∷ drop (i + 1) owners) (sym read ∙ is)
-    ∙ ap (λ n. owner_of t o.asker ∷ drop n owners) (add-one i) in
+    let its : o.ticket ≡ t = eqb-true o.ticket t (rw (← read) at at.1) in
     somebody (take i owners) (drop (suc i) owners) o.asker
-    (sym (take-append-drop i owners) ∙ ap (λ rest. take i owners ++ rest) tail) refl refl
+    (rw (← its) (cc (take-append-drop i owners, drop_more owners i o at.0, add-one i))) refl refl
 
 -- ---- what holds of each
 
-module _ (P : Owner → Type 0) where
-  pub all_without : (before : List Owner) (o : Owner) (after : List Owner) → All P (before ++ o ∷ after) → All P (before ++ after)
-  all_without [] o after all = All-tail P o after all
-  all_without (p ∷ before) o after all =
-      All-cons P p (before ++ after) (All-head P p (before ++ o ∷ after) all) (all_without before o after (All-tail P p (before ++ o ∷ after) all))
+-- of the one who is taken off, and of those who are left
+parted : (P : Owner → Type 0) (before : List Owner) (o : Owner) (after : List Owner) → All P (before ++ o ∷ after) → P o × All P (before ++ after)
+parted P [] o after all = (All-head P o after all, All-tail P o after all)
+parted P (p ∷ before) o after all =
+    let rest = parted P before o after (All-tail P p _ all) in (rest.0, All-cons P p _ (All-head P p _ all) rest.1)
 
-  pub all_at : (before : List Owner) (o : Owner) (after : List Owner) → All P (before ++ o ∷ after) → P o
-  all_at [] o after all = All-head P o after all
-  all_at (p ∷ before) o after all = all_at before o after (All-tail P p (before ++ o ∷ after) all)
+apart_without : (before : List Owner) (o : Owner) (after : List Owner) → AreApart (before ++ o ∷ after)
+    → AreApart (before ++ after) × All (λ p. p.ticket ≢ o.ticket) (before ++ after)
+apart_without [] o after apart = (apart.1, apart.0)
+apart_without (q ∷ before) o after apart =
+    let rest = apart_without before o after apart.1 in
+    let first = parted (λ p. p.ticket ≢ q.ticket) before o after apart.0 in
+    ((first.1, rest.0), All-cons (λ p. p.ticket ≢ o.ticket) q _ (λ same. first.0 (sym same)) rest.1)
 
--- ---- apart
+pub of_taken : {t old new who : _} → Takes t old new (Some who) → (P : Owner → Type 0) → All P old → P (owner_of t who)
+of_taken (nobody none e f) P all = absurd (cc f)
+of_taken {t} {who = who} (somebody before after whom e f g) P all =
+    let same : who ≡ whom = cc g in rw same (parted P before (owner_of t whom) after (rw e at all)).0
+
+-- who is left waits for another lookup
+pub of_left : {t old new taken : _} → Takes t old new taken → (P : Owner → Type 0) → AreApart old → All P old
+    → AreApart new × All (λ p. p.ticket ≢ t) new × All P new
+of_left (nobody none e f) P apart all = rw e (apart, none, all)
+of_left {t} (somebody before after who e f g) P apart all =
+    let rest = apart_without before (owner_of t who) after (rw e at apart) in
+    rw f (rest.0, rest.1, (parted P before (owner_of t who) after (rw e at all)).1)
 
 pub apart_push : (owners : List Owner) (o : Owner) → AreApart owners → All (λ p. p.ticket ≢ o.ticket) owners → AreApart (owners ++ o ∷ [])
 apart_push [] o apart other = (All-nil (λ p. p.ticket ≢ o.ticket), tt)
@@ -89,45 +79,20 @@ apart_push (q ∷ owners) o apart other = (
   apart_push owners o apart.1 (All-tail (λ p. p.ticket ≢ o.ticket) q owners other),
 )
 
-pub apart_without : (before : List Owner) (o : Owner) (after : List Owner) → AreApart (before ++ o ∷ after) → AreApart (before ++ after)
-apart_without [] o after apart = apart.1
-apart_without (q ∷ before) o after apart =
-    (all_without (λ p. p.ticket ≢ q.ticket) before o after apart.0, apart_without before o after apart.1)
-
--- who is left waits for another lookup
-pub others_differ : (before : List Owner) (o : Owner) (after : List Owner) → AreApart (before ++ o ∷ after) → All (λ p. p.ticket ≢ o.ticket) (before ++ after)
-others_differ [] o after apart = apart.0
-others_differ (q ∷ before) o after apart =
-    All-cons (λ p. p.ticket ≢ o.ticket) q (before ++ after) (λ same. all_at (λ p. p.ticket ≢ q.ticket) before o after apart.0 (sym same))
-    (others_differ before o after apart.1)
-
 -- ---- how many
+
+positive : {V : Type 0} (m : FinMap nat_cmp V) (t n : ℕ) → len m ≡ n → IsSome (get m t) → 0 < len m
+positive m t zero e here = absurd (cc (rw (empty_of_len m e, get-empty nat_cmp t) at here))
+positive m t (suc n) e here = omega arith
 
 -- as many as are found in a map are no more than it has
 pub few_owners : {V : Type 0} (m : FinMap nat_cmp V) (owners : List Owner) → AreApart owners → All (λ o. IsSome (get m o.ticket)) owners
     → length owners ≤ len m
 few_owners m [] apart there = omega arith
 few_owners m (o ∷ owners) apart there =
-    let here : IsSome (get m o.ticket) = All-head (λ p. IsSome (get m p.ticket)) o owners there in
-    let rest : All (λ p. IsSome (get (map.remove m o.ticket) p.ticket)) owners = left owners apart.0 (All-tail (λ p. IsSome (get m p.ticket)) o owners there) in
-    let ih : length owners ≤ len (map.remove m o.ticket) = few_owners (map.remove m o.ticket) owners apart.1 rest in
-    let fewer : len (map.remove m o.ticket) ≡ len m - 1 = len-remove nat_cmp_total m o.ticket ∙ cond-true (contains_key m o.ticket) (len m - 1) (len m) here in
-    let some : 0 < len m = positive here in
-    omega (arith, ih, fewer, some)
-  where
-    left : (others : List Owner) → All (λ p. p.ticket ≢ o.ticket) others → All (λ p. IsSome (get m p.ticket)) others → All (λ p. IsSome (get (map.remove m o.ticket) p.ticket)) others
-    left [] other all = All-nil (λ p. IsSome (get (map.remove m o.ticket) p.ticket))
-    left (p ∷ others) other all =
-        All-cons (λ p. IsSome (get (map.remove m o.ticket) p.ticket)) p others
-        (subst IsSome (sym (get_remove_other m o.ticket p.ticket (All-head (λ p. p.ticket ≢ o.ticket) p others other)))
-        (All-head (λ p. IsSome (get m p.ticket)) p others all))
-        (left others (All-tail (λ p. p.ticket ≢ o.ticket) p others other) (All-tail (λ p. IsSome (get m p.ticket)) p others all))
-
-    positive : IsSome (get m o.ticket) → 0 < len m
-    positive here = by (len m) refl
-      where
-        by : (n : ℕ) → len m ≡ n → 0 < len m
-        by zero e =
-            let found = some_of (get m o.ticket) here in
-            absurd (none-some found.0 (sym (get-empty nat_cmp o.ticket) ∙ ap (λ k. get k o.ticket) (sym (empty_of_len m e)) ∙ found.1))
-        by (suc n) e = omega (arith, e)
+    let P = λ (p : Owner). IsSome (get m p.ticket) in
+    let here = All-head P o owners there in
+    let ih = few_owners (map.remove m o.ticket) owners apart.1
+    (λ i d lt. rw (get_remove_other m o.ticket _ (apart.0 i d lt)) (All-tail P o owners there i d lt)) in
+    let some = positive m o.ticket _ refl here in
+    omega (arith, ih, some, rw here at (len-remove nat_cmp_total m o.ticket))

@@ -19,5 +19,6 @@ mod turns;
 pub use came::{Came, Ended};
 pub use clock::{Clock, StandingClock, SteppingClock, SystemClock};
 pub use ends::LoopEnd;
+pub use polls::Tree;
 pub use running_resolver::{RunningResolver, fair_runs_are_right};
-pub use turns::{Tree, loop_turns};
+pub use turns::loop_turns;

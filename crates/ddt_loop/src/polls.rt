@@ -1,24 +1,71 @@
 //! A poll of one socket, and what is done with the packet that comes: at the resolver's own it is taken, and at a
 //! server's it is answered (RFC 8111, sections 7.1 to 7.3).
 
-ghost use Rattle.std.specs.Prelude.{◌≡◌, ◌≤◌, ◌∷◌, [], List, length, take as front_of, Ok, Some, IfSome, IfNone};
+ghost use Rattle.std.specs.Prelude.{◌≡◌, ◌+◌, ◌%◌, ◌≤◌, ◌∷◌, [], List, length, take as front_of, Ok, Some, IfSome, IfNone};
 ghost use Rattle.ddt_config.specs.Table.{Outline};
 ghost use Rattle.ddt_wires.specs.declared.call.Call.{Call as ACall};
 ghost use Rattle.ddt_wires.specs.Calls.{Tells};
 ghost use Rattle.ddt_wires.specs.Turns.{most_bytes};
 ghost use Rattle.ddt_loop.specs.Askers.{AreOwners};
 ghost use Rattle.ddt_loop.specs.Acts.{running};
-ghost use Rattle.ddt_loop.specs.Polls.{IsNoPacket, PollsMe, PollsServer, polled};
+ghost use Rattle.ddt_loop.specs.Polls.{IsNoPacket, Polls, PollsMe, PollsServer, polled};
 
 use crate::askers::Askers;
 use crate::steps::{Here, take};
-use ddt_cache::Entry;
+use ddt_cache::{Entry, Moment};
 use ddt_path::Locator;
 use ddt_resolver::Resolver;
 use ddt_sim::Compiled;
 use ddt_trie::PrefixMap;
 use ddt_wires::{Packet, Wires};
 use std::alloc::Global;
+
+/// The sockets that are polled, and who answers there.
+pub struct Tree<'a, N: PrefixMap<u32>> {
+    /// The locator of the resolver's own socket.
+    pub me: Locator,
+    /// The locators of the servers' sockets.
+    pub sockets: &'a [Locator],
+    /// The servers of the register.
+    pub servers: &'a Compiled<N>,
+}
+
+/// A turn's number, from 0, and its moment.
+#[derive(Clone, Copy, Debug)]
+pub(crate) struct Turn {
+    pub(crate) number: u32,
+    pub(crate) moment: Moment,
+}
+
+/// Polls the socket whose turn it is: the resolver's own first, and the others in their order.
+pub(crate) fn poll_in_turn<W: Wires, N: PrefixMap<u32>, M: PrefixMap<Entry>>(
+    wires: &mut W,
+    tree: &Tree<'_, N>,
+    resolver: &mut Resolver<M>,
+    askers: &mut Askers,
+    turn: &Turn,
+    buffer: &mut [u8],
+)
+    requires buffer { length buffer.old ≡ most_bytes }
+    requires owners { AreOwners resolver.old askers.old.owners }
+    ensures polls { (calls : List ACall) × Tells (W.calls wires.old) calls (W.calls wires.new)
+        × Polls tree.now.servers.now tree.now.me tree.now.sockets.now turn.now.moment
+        (turn.now.number % (length tree.now.sockets.now + 1)) (running resolver.old askers.old) calls
+        (running resolver.new askers.new) }
+    ensures owners { AreOwners resolver.new askers.new.owners }
+{
+    let place = turn.number as usize % (tree.sockets.len() + 1);
+    if place == 0 {
+        let here = Here {
+            me: tree.me,
+            moment: turn.moment,
+        };
+        poll_me(wires, resolver, &here, askers, buffer);
+    } else {
+        let at = tree.sockets[place - 1];
+        poll_server(askers.alloc(), wires, tree.servers, at, buffer);
+    }
+}
 
 /// Polls a socket. The bytes of a packet that comes stand at the front of the buffer. Where `receive` fails one datagram
 /// is lost, and the next turn goes on.
@@ -37,7 +84,7 @@ fn poll<W: Wires>(wires: &mut W, at: Locator, buffer: &mut [u8]) -> Option<Packe
 }
 
 /// Polls the resolver's own socket, and takes what came.
-pub(crate) fn poll_me<W: Wires, M: PrefixMap<Entry>>(
+fn poll_me<W: Wires, M: PrefixMap<Entry>>(
     wires: &mut W,
     resolver: &mut Resolver<M>,
     here: &Here,
@@ -60,7 +107,7 @@ pub(crate) fn poll_me<W: Wires, M: PrefixMap<Entry>>(
 }
 
 /// Polls a server's socket, and answers what came.
-pub(crate) fn poll_server<W: Wires, N: PrefixMap<u32>>(
+fn poll_server<W: Wires, N: PrefixMap<u32>>(
     alloc: Global,
     wires: &mut W,
     servers: &Compiled<N>,

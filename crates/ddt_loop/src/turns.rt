@@ -1,6 +1,6 @@
 //! The turns of a running resolver.
 
-ghost use Rattle.std.specs.Prelude.{◌≡◌, ◌+◌, ◌%◌, ℕ, true, List, length, count_by, IfOk, OnErr};
+ghost use Rattle.std.specs.Prelude.{◌≡◌, ℕ, true, List, length, count_by, IfOk, OnErr};
 ghost use Rattle.std.specs.List.{AllZip};
 ghost use Rattle.ddt_register.specs.declared.register.Register.{Register};
 ghost use Rattle.ddt_config.specs.Table.{Outline};
@@ -11,7 +11,6 @@ ghost use Rattle.ddt_resolver.specs.Step.{Tick};
 ghost use Rattle.ddt_sim.specs.Sound.{IsSound};
 ghost use Rattle.ddt_loop.specs.Askers.{AreOwners, has_unresolved};
 ghost use Rattle.ddt_loop.specs.Acts.{running};
-ghost use Rattle.ddt_loop.specs.Polls.{Polls};
 ghost use Rattle.ddt_loop.specs.Turns.{IsTurn, TurnsWithin, IsLoop};
 ghost use Rattle.ddt_loop.specs.Right.{IsRightEnd, RepliesAreOwed, WhenFair, WhenTold, is_poll};
 
@@ -19,25 +18,15 @@ use crate::askers::Askers;
 use crate::asks::ask_all;
 use crate::clock::Clock;
 use crate::ends::LoopEnd;
-use crate::polls::{poll_me, poll_server};
+use crate::polls::{Tree, Turn, poll_in_turn};
 use crate::steps::{Here, resolve};
-use ddt_cache::{Entry, Moment};
-use ddt_path::{Locator, Xeid};
+use ddt_cache::Entry;
+use ddt_path::Xeid;
 use ddt_resolver::{Input, Resolver};
-use ddt_sim::{Compiled, a_step_keeps_a_resolver_sound};
+use ddt_sim::a_step_keeps_a_resolver_sound;
 use ddt_trie::PrefixMap;
 use ddt_wires::{MOST_BYTES, Wires};
 use std::alloc::{AllocError, Global};
-
-/// The sockets that are polled, and who answers there.
-pub struct Tree<'a, N: PrefixMap<u32>> {
-    /// The locator of the resolver's own socket.
-    pub me: Locator,
-    /// The locators of the servers' sockets.
-    pub sockets: &'a [Locator],
-    /// The servers of the register.
-    pub servers: &'a Compiled<N>,
-}
 
 /// Looks identifiers up over wires, and answers one end for each, in their order. The resolver's own socket is at
 /// `tree.me`, and those of the register's servers at `tree.sockets`.
@@ -131,13 +120,6 @@ fn take_turns<W: Wires, C: Clock, N: PrefixMap<u32>, M: PrefixMap<Entry>>(
     }
 }
 
-/// A turn's number, from 0, and its moment.
-#[derive(Clone, Copy, Debug)]
-struct Turn {
-    number: u32,
-    moment: Moment,
-}
-
 /// One turn: a poll and a tick.
 fn take_turn<W: Wires, N: PrefixMap<u32>, M: PrefixMap<Entry>>(
     wires: &mut W,
@@ -162,34 +144,4 @@ fn take_turn<W: Wires, N: PrefixMap<u32>, M: PrefixMap<Entry>>(
         moment: turn.moment,
     };
     let _ended = resolve(wires, resolver, &here, askers, Input::Tick);
-}
-
-/// Polls the socket whose turn it is: the resolver's own first, and the others in their order.
-fn poll_in_turn<W: Wires, N: PrefixMap<u32>, M: PrefixMap<Entry>>(
-    wires: &mut W,
-    tree: &Tree<'_, N>,
-    resolver: &mut Resolver<M>,
-    askers: &mut Askers,
-    turn: &Turn,
-    buffer: &mut [u8],
-)
-    requires buffer { length buffer.old ≡ most_bytes }
-    requires owners { AreOwners resolver.old askers.old.owners }
-    ensures polls { (calls : List ACall) × Tells (W.calls wires.old) calls (W.calls wires.new)
-        × Polls tree.now.servers.now tree.now.me tree.now.sockets.now turn.now.moment
-        (turn.now.number % (length tree.now.sockets.now + 1)) (running resolver.old askers.old) calls
-        (running resolver.new askers.new) }
-    ensures owners { AreOwners resolver.new askers.new.owners }
-{
-    let place = turn.number as usize % (tree.sockets.len() + 1);
-    if place == 0 {
-        let here = Here {
-            me: tree.me,
-            moment: turn.moment,
-        };
-        poll_me(wires, resolver, &here, askers, buffer);
-    } else {
-        let at = tree.sockets[place - 1];
-        poll_server(askers.alloc(), wires, tree.servers, at, buffer);
-    }
 }

@@ -1,5 +1,4 @@
 use Rattle.std.proofs.Common.{[], refl, ap, Ok}
-use Rattle.ddt_resolver.specs.State.{moved}
 use Rattle.ddt_resolver.specs.Step.{asks}
 use Rattle.ddt_resolver.specs.laws.Order.{order_moved}
 use Rattle.ddt_wires.specs.laws.Tell.{tells_none}
@@ -10,10 +9,8 @@ use Rattle.ddt_loop.proofs.asks.ask.Goals as goal
 
 pub after_ask-requires : goal.after_ask-requires
 after_ask-requires g c =
-    let s = moved c.args.here.now.moment c.args.resolver.now in
-    room_for s (order_moved c.args.resolver.now c.args.here.now.moment c.millis-millis.ensures.bound c.in_order.ensures) c.args.x c.ask.new.self
-    c.in-Ok.asked (asks c.args.x (Ok c.in-Ok.asked) c.in-Ok.ensures.identifier c.in-Ok.ensures.step refl refl) c.args.askers.now
-    (moved_owners c.args.resolver.now c.args.here.now.moment c.args.askers.now.owners c.requires)
+    room_for _ (order_moved c.args.resolver.now c.args.here.now.moment c.millis-millis.ensures.bound c.in_order.ensures)
+    (asks c.args.x (Ok c.in-Ok.asked) c.in-Ok.ensures.identifier c.in-Ok.ensures.step refl refl) c.args.askers.now (moved_owners _ c.requires)
 
 pub returns-in-Ok-clause-asks : goal.returns-in-Ok-clause-asks
 returns-in-Ok-clause-asks g c =
@@ -26,16 +23,11 @@ returns-in-Ok-clause-asks g c =
 
 pub returns-in-Ok-clause-owners : goal.returns-in-Ok-clause-owners
 returns-in-Ok-clause-owners g c =
-    let s = moved c.args.here.now.moment c.args.resolver.now in
     let w = c.after_ask.ensures.starts in
-    owners_start s (order_moved c.args.resolver.now c.args.here.now.moment c.millis-millis.ensures.bound c.in_order.ensures) c.args.x c.ask.new.self
-    c.in-Ok.asked (asks c.args.x (Ok c.in-Ok.asked) c.in-Ok.ensures.identifier c.in-Ok.ensures.step refl refl) c.args.here.now.me c.args.asker
-    c.args.askers.now w.0 c.after_ask.new.askers (moved_owners c.args.resolver.now c.args.here.now.moment c.args.askers.now.owners c.requires) w.2
+    owners_start _ (order_moved c.args.resolver.now c.args.here.now.moment c.millis-millis.ensures.bound c.in_order.ensures)
+    (asks c.args.x (Ok c.in-Ok.asked) c.in-Ok.ensures.identifier c.in-Ok.ensures.step refl refl)
+    c.args.here.now.me c.args.asker c.args.askers.now w.0 c.after_ask.new.askers (moved_owners _ c.requires) w.2
 
 pub returns-in-Err-clause-asks : goal.returns-in-Err-clause-asks
-returns-in-Err-clause-asks g c = (
-  [],
-  tells_none (g.W.Wires.calls c.args.wires.now),
-  ask_refused c.args.here.now.me c.args.here.now.moment c.args.x c.args.asker c.args.resolver.now
-      c.ask.new.self c.args.askers.now c.in-Err.why c.in-Err.ensures.identifier c.in-Err.ensures.step c.in-Err.ensures.memory,
-)
+returns-in-Err-clause-asks g c =
+    ([], tells_none _, ask_refused c.in-Err.why c.in-Err.ensures.identifier c.in-Err.ensures.step c.in-Err.ensures.memory)

@@ -1,5 +1,4 @@
-use Rattle.std.proofs.Common.{◌≡◌, ℕ, [], length, ap, arith, inr, Err}
-use Rattle.ddt_wires.specs.declared.call.Call.TheVariants.{Received}
+use Rattle.std.proofs.Common.{◌≡◌, length, arith, inr, Err}
 use Rattle.ddt_wires.specs.Calls.{received}
 use Rattle.ddt_wires.specs.Turns.{most_bytes}
 use Rattle.ddt_loop.proofs.LoopLemmas.{unanswered}
@@ -14,4 +13,4 @@ pub returns-in-Err-clause-none : goal.returns-in-Err-clause-none
 returns-in-Err-clause-none g c =
     let fault = c.in-Err._fault in
     let room : length c.receive.new.buffer ≡ most_bytes = omega (arith, c.receive.auto.buffer, c.requires) in
-    (received c.args.at (Err fault) c.receive.new.buffer, inr (fault, ap (λ (n : ℕ). Received c.args.at n (Err fault) []) room), c.in-Err.ensures.told)
+    (received c.args.at (Err fault) c.receive.new.buffer, inr (fault, rw room), c.in-Err.ensures.told)

@@ -10,8 +10,7 @@ returns-in-Some-clause-polls g c =
     let bytes = take p.len c.poll.new.buffer in
     let first = polled c.args.here.now.me (Ok (Some p)) bytes in (
       first ∷ w.0,
-      tells_both (g.W.Wires.calls c.args.wires.now) (first ∷ []) (g.W.Wires.calls c.poll.new.wires) w.0
-          (g.W.Wires.calls c.take-came.new.wires) c.in-Some.ensures.came w.1,
+      tells_both _ (first ∷ []) _ w.0 _ c.in-Some.ensures.came w.1,
       came p bytes w.0 w.2 refl,
     )
 

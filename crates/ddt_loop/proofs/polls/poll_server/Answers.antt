@@ -9,8 +9,7 @@ returns-in-Some g c =
     let p = c.in-Some.packet in
     let first = polled c.args.at (Ok (Some p)) (take p.len c.poll.new.buffer) in (
       first ∷ w.0,
-      tells_both (g.W.Wires.calls c.args.wires.now) (first ∷ []) (g.W.Wires.calls c.poll.new.wires) w.0
-          (g.W.Wires.calls c.serve.new.wires) c.in-Some.ensures.came w.1,
+      tells_both _ (first ∷ []) _ w.0 _ c.in-Some.ensures.came w.1,
       w.2,
     )
 

@@ -17,13 +17,7 @@ returns-in-Ok-Some g c =
     )
 
 pub returns-in-Ok-None : goal.returns-in-Ok-None
-returns-in-Ok-None g c = (
-  [],
-  tells_none (g.W.Wires.calls c.args.wires.now),
-  served c.args.packet c.args.bytes.now None []
-      (sym c.in-Ok-None.field-0-is ∙ c.in-Ok-None.ensures.reply) tt refl,
-)
+returns-in-Ok-None g c = ([], tells_none _, served c.args.packet c.args.bytes.now None [] (sym c.in-Ok-None.field-0-is ∙ c.in-Ok-None.ensures.reply) tt refl)
 
 pub returns-in-Err : goal.returns-in-Err
-returns-in-Err g c =
-    ([], tells_none (g.W.Wires.calls c.args.wires.now), out_of_memory c.args.packet c.args.bytes.now refl)
+returns-in-Err g c = ([], tells_none _, out_of_memory c.args.packet c.args.bytes.now refl)

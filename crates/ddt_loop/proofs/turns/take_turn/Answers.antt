@@ -6,17 +6,10 @@ use Rattle.ddt_loop.proofs.turns.take_turn.Goals as goal
 pub returns-clause-turn : goal.returns-clause-turn
 returns-clause-turn g c =
     let w = c.poll_in_turn.ensures.polls in
-    let t = c.resolve-ended.ensures.resolves in (
+    let t = c.resolve-ended.ensures.resolves in
+    let midway = running c.poll_in_turn.new.resolver c.poll_in_turn.new.askers in
+    let moment = c.millis-millis.ensures.bound in (
       w.0 ++ t.0,
-      tells_both (g.W.Wires.calls c.args.wires.now) w.0 (g.W.Wires.calls c.poll_in_turn.new.wires) t.0 (g.W.Wires.calls c.resolve-ended.new.wires)
-          w.1 t.1,
-      record {
-        is_moment = c.millis-millis.ensures.bound;
-        polling = w.0;
-        ticking = t.0;
-        midway = running c.poll_in_turn.new.resolver c.poll_in_turn.new.askers;
-        polls = w.2;
-        ticks = t.2;
-        calls_are = refl;
-      },
+      tells_both _ w.0 _ t.0 _ w.1 t.1,
+      record { is_moment = moment; polling = w.0; ticking = t.0; midway = midway; polls = w.2; ticks = t.2; calls_are = refl },
     )

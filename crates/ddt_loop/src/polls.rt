@@ -2,7 +2,6 @@
 //! server's it is answered (RFC 8111, sections 7.1 to 7.3).
 
 ghost use Rattle.std.specs.Prelude.{◌≡◌, ◌+◌, ◌%◌, ◌≤◌, ◌∷◌, [], List, length, take as front_of, Ok, Some, IfSome, IfNone};
-ghost use Rattle.ddt_config.specs.Table.{Outline};
 ghost use Rattle.ddt_wires.specs.declared.call.Call.{Call as ACall};
 ghost use Rattle.ddt_wires.specs.Calls.{Tells};
 ghost use Rattle.ddt_wires.specs.Turns.{most_bytes};

@@ -3,11 +3,9 @@
 ghost use Rattle.std.specs.Prelude.{◌≡◌, ℕ, true, List, length, count_by, IfOk, OnErr};
 ghost use Rattle.std.specs.List.{AllZip};
 ghost use Rattle.ddt_register.specs.declared.register.Register.{Register};
-ghost use Rattle.ddt_config.specs.Table.{Outline};
 ghost use Rattle.ddt_wires.specs.declared.call.Call.{Call as ACall};
 ghost use Rattle.ddt_wires.specs.Calls.{Tells};
 ghost use Rattle.ddt_wires.specs.Turns.{most_bytes};
-ghost use Rattle.ddt_resolver.specs.Step.{Tick};
 ghost use Rattle.ddt_sim.specs.Sound.{IsSound};
 ghost use Rattle.ddt_loop.specs.Askers.{AreOwners, has_unresolved};
 ghost use Rattle.ddt_loop.specs.Acts.{running};

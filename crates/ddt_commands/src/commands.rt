@@ -36,18 +36,6 @@ use std::alloc::Global;
 use std::io;
 use std::io::Read;
 
-/// What words that fit no command are told: what follows from `command_list`.
-pub const USAGE: &str = "usage: ddt answer REGISTER GROUP XEID
-       ddt assign REGISTER XEID
-       ddt check REGISTER
-       ddt compile REGISTER GROUP
-       ddt loop REGISTER XEID... [--me ADDRESS] [--seed N] [--turns N]
-       ddt lookup REGISTER XEID... [--me ADDRESS] [--seed N]
-       ddt replay REGISTER SCRIPT [REGISTER...] [--me ADDRESS] [--seed N]
-       ddt serve CONFIG ADDRESS TURNS
-       ddt show HEX
-";
-
 /// What each command takes.
 pub fn command_list() -> &'static [Declaration<'static>]
     ensures { line result.now ≡ program_line }

@@ -2,7 +2,7 @@
 //! clock and streams.
 //!
 //! In reading order: `program`, `call`, `commands` (the list), `register` (commands over one), `commands/*`,
-//! `resolver`, `loopback`, `sockets`, `file`, `lines`, `streams`, `refusal`, `status`.
+//! `resolver`, `loopback`, `sockets`, `file`, `lines`, `streams`, `usage`, `refusal`, `status`.
 #![tactic(auto)]
 
 mod call;
@@ -17,6 +17,7 @@ mod resolver;
 mod sockets;
 mod status;
 mod streams;
+mod usage;
 
 pub use call::read_words;
 pub use commands::answer::{answer_group, answer_hex, run_answer};
@@ -33,4 +34,5 @@ pub use refusal::{Refusal, RegisterRefusal};
 pub use register::register_at;
 pub use resolver::RESOLVER;
 pub use status::Status;
-pub use streams::{refuse, show_usage};
+pub use streams::refuse;
+pub use usage::show_usage;

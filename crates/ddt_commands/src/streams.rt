@@ -1,20 +1,16 @@
-//! How an answer, a refusal and the usage come to their streams.
+//! How an answer and a refusal come to their streams.
 
 ghost use Rattle.std.specs.Prelude.{◌≡◌, ◌≢◌, ◌⊎◌, IfOk, string_bytes};
 ghost use Rattle.std.specs.Io.KnownBytes.{Appends};
 ghost use Rattle.ddt_lines.specs.Printing.{AppendsFront};
 ghost use Rattle.ddt_commands.specs.declared.status.Status.TheVariants.{
   Refused as IsRefused,
-  BadWords as IsBadWords,
   Unprinted as IsUnprinted,
 };
-ghost use Rattle.ddt_commands.specs.Commands.{command_list};
 ghost use Rattle.ddt_commands.specs.Refusal.{IsLineOf};
 ghost use Rattle.ddt_commands.specs.Status.{answer_status};
 ghost use Rattle.ddt_commands.specs.Telling.{Tells, TellsFront};
-ghost use Rattle.ddt_commands.specs.Usage.{usage_of};
 
-use crate::commands::USAGE;
 use crate::lines::Lines;
 use crate::refusal::Refusal;
 use crate::status::Status;
@@ -56,13 +52,4 @@ fn line_of(alloc: Global, refusal: &Refusal<'_>) -> Result<String, AllocError>
     ensures { IfOk result (λ line. IsLineOf refusal.now (string_bytes line)) }
 {
     format!(in alloc; "{refusal}\n")
-}
-
-/// Shows the commands: the words fit none. It allocates nothing.
-pub fn show_usage<E: Write>(err: &mut E) -> Status
-    ensures bad { result ≡ IsBadWords }
-    ensures front { AppendsFront (E.contents err.old) (E.contents err.new) (usage_of command_list) }
-{
-    let _ = print(USAGE.as_bytes(), err);
-    Status::BadWords
 }

@@ -17,6 +17,7 @@ use Rattle.ddt_resolver.specs.declared.answers.Heard.{Heard}
 use Rattle.ddt_resolver.specs.declared.answers.Heard.TheVariants as heard
 use Rattle.ddt_resolver.specs.declared.answers.Why.{Why}
 use Rattle.ddt_resolver.specs.State.{State, moved}
+use Rattle.ddt_resolver.specs.declared.step.Reply.TheVariants.{ToDatagram}
 use Rattle.ddt_resolver.specs.Step as steps
 use Rattle.ddt_resolver.specs.Bound.{measure, ComesNearer}
 use Rattle.ddt_resolver.specs.Act.{HearStep}
@@ -57,7 +58,7 @@ module _ (r : Register) (now : ℕ) (x : Xeid) (s : State) (t : ℕ) (d : Outgoi
 
   module _ (reply : List ℕ) (spells : Spells reply (message_of w.lookup.nonce (says r d.to (xeid_path x)))) (new : State) (h : Heard) (step : HearStep (moved now s) d.to reply new h) where
     kept : IsSound r new × IsRightHeard r (moved now s) h
-    kept = keeps r (moved now s) (steps.Hear d.to reply) new (steps.ToDatagram h) u.accepted order (time r s now u.sound) (honest_reply_is_fair r laws order w reply spells) (steps.hears d.to reply h step refl refl)
+    kept = keeps r (moved now s) (steps.Hear d.to reply) new (ToDatagram h) u.accepted order (time r s now u.sound) (honest_reply_is_fair r laws order w reply spells) (steps.hears d.to reply h step refl refl)
 
     well : IsWellHeard r x s t d reply new h
     well = record {

@@ -20,6 +20,7 @@ use ddt_wires::{Packet, Wires};
 use std::alloc::Global;
 
 /// The sockets that are polled, and who answers there.
+#[derive(Drop)]
 pub struct Tree<'a, N: PrefixMap<u32>> {
     /// The locator of the resolver's own socket.
     pub me: Locator,

@@ -13,7 +13,8 @@
 # tree has to be a git clone. The last column shows the ratio to the peer that was saved last on such a machine, so that
 # a loss is seen.
 #
-# DDT names the program, by default that which the launcher runs. Wants two processors, python3, a cargo that knows Rust's edition 2024 (1.85), and nsd-checkzone where its columns are
+# DDT names the program, by default that which the launcher runs. Wants two processors, python3, a cargo that knows
+# Rust's edition 2024 (1.85), and nsd-checkzone where its columns are to be filled.
 # to be filled.
 set -eu
 cd -- "$(dirname -- "${BASH_SOURCE[0]}")/.."

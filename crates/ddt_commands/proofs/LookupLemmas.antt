@@ -19,7 +19,7 @@ use Rattle.ddt_check.specs.Says.{says}
 use Rattle.ddt_check.specs.Zones.{roots}
 use Rattle.ddt_wire.specs.laws.Statements.{MessagesAreRead}
 use Rattle.ddt_wire.specs.Referral.{Message, message_in, message_of}
-use Rattle.ddt_resolver.specs.declared.answers.Why.{Why}
+use Rattle.ddt_resolver.specs.declared.results.Why.{Why}
 use Rattle.ddt_resolver.specs.State.{State, fresh}
 use Rattle.ddt_sim.specs.declared.hop.Hop.{Hop}
 use Rattle.ddt_sim.specs.declared.hop.LookupError.{LookupError}

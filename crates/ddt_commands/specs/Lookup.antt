@@ -16,8 +16,8 @@ use Rattle.ddt_check.specs.Says.{says}
 use Rattle.ddt_check.specs.Zones.{roots}
 use Rattle.ddt_wire.specs.declared.fault.ReferralFault.{ReferralFault}
 use Rattle.ddt_wire.specs.Referral.{Message, message_in, message_of}
-use Rattle.ddt_resolver.specs.declared.answers.Why.{Why}
-use Rattle.ddt_resolver.specs.declared.answers.Why.TheVariants.{NoReply, Loop, NotAuthoritative, Exhausted}
+use Rattle.ddt_resolver.specs.declared.results.Why.{Why}
+use Rattle.ddt_resolver.specs.declared.results.Why.TheVariants.{NoReply, Loop, NotAuthoritative, Exhausted}
 use Rattle.ddt_resolver.specs.State.{State, fresh, last_nonce, most_pending}
 use Rattle.ddt_sim.specs.declared.hop.Hop.{Hop}
 use Rattle.ddt_sim.specs.declared.hop.LookupError.{LookupError}

@@ -11,8 +11,8 @@ use Rattle.ddt_path.specs.Names.{is_name}
 use Rattle.ddt_text.specs.declared.fault.TextFault.{TextFault}
 use Rattle.ddt_text.specs.FirstFault.{locator_in, prefix_in}
 use Rattle.ddt_text.specs.laws.Readers.{locators_are_read, prefixes_are_read}
-use Rattle.ddt_reading.specs.Steps.{◌>>=◌}
-use Rattle.ddt_reading.specs.laws.Step.{bind_ok, held_ok, ok_is}
+use Rattle.ddt_path.specs.Steps.{◌>>=◌}
+use Rattle.ddt_path.specs.laws.Step.{bind_ok, held_ok, ok_is}
 use Rattle.ddt_config.specs.declared.fault.Key.{Key}
 use Rattle.ddt_config.specs.declared.fault.Key.TheVariants as key
 use Rattle.ddt_config.specs.declared.fault.ConfigFault.{ConfigFault}

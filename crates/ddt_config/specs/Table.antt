@@ -13,7 +13,7 @@ use Rattle.ddt_path.specs.declared.record.Role.TheVariants.{Node, Ms}
 use Rattle.ddt_path.specs.Names.{is_name}
 use Rattle.ddt_text.specs.declared.fault.TextFault.{TextFault}
 use Rattle.ddt_text.specs.FirstFault.{locator_in, prefix_in}
-use Rattle.ddt_reading.specs.Steps.{◌>>=◌}
+use Rattle.ddt_path.specs.Steps.{◌>>=◌}
 use Rattle.ddt_config.specs.declared.fault.Key.{Key}
 use Rattle.ddt_config.specs.declared.fault.Key.TheVariants as key
 use Rattle.ddt_config.specs.declared.fault.ConfigFault.{ConfigFault}

@@ -5,7 +5,7 @@ ghost use Rattle.std.specs.List.{list_all};
 ghost use Rattle.std.specs.Option.{option_map};
 ghost use Rattle.toml.specs.Data.{get_member};
 ghost use Rattle.toml.specs.View.{view, table_view};
-ghost use Rattle.ddt_reading.specs.Steps.{IsReadAs};
+ghost use Rattle.ddt_path.specs.Steps.{IsReadAs};
 ghost use Rattle.ddt_config.specs.Table.{key_text, each, text_of, array_of, table_of, text_at as text_at_of, array_at as array_at_of, array_or_none as array_or_none_of, texts_at as texts_at_of, tables_at as tables_at_of, is_text_value, is_table_value, locator_of, name_in as name_of, role_in as role_of_table, role_of as role_of_text, path_in, locators_in};
 ghost use Rattle.ddt_config.specs.Reading.{Reads};
 

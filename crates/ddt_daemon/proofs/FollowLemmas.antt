@@ -1,7 +1,7 @@
 -- What becomes of the requests that wait, by what came of a packet.
 use Rattle.std.proofs.Common.{◌≡◌, ℕ, Bool, true, false, List, [], ◌∷◌, ◌++◌, refl}
 use Rattle.ddt_path.specs.declared.locator.Locator.{Locator}
-use Rattle.ddt_resolver.specs.declared.itrs.ItrRequest.{ItrRequest}
+use Rattle.ddt_resolver.specs.declared.itr_messages.ItrRequest.{ItrRequest}
 use Rattle.ddt_resolver.specs.Front.{IsItrRequest}
 use Rattle.ddt_loop.specs.declared.came.Came.TheVariants.{Waits}
 use Rattle.ddt_daemon.specs.declared.itr_requests.Kept.{Kept}

@@ -9,8 +9,8 @@ use Rattle.ddt_wires.specs.declared.call.Call.{Call}
 use Rattle.ddt_wires.specs.declared.call.Call.TheVariants.{Received, Tried}
 use Rattle.ddt_wires.specs.Turns.{AreTried, most_bytes}
 use Rattle.ddt_cache.specs.Moment.{last_moment}
-use Rattle.ddt_resolver.specs.declared.answers.Why.{Why}
-use Rattle.ddt_resolver.specs.declared.itrs.ItrRequest.{ItrRequest}
+use Rattle.ddt_resolver.specs.declared.results.Why.{Why}
+use Rattle.ddt_resolver.specs.declared.itr_messages.ItrRequest.{ItrRequest}
 use Rattle.ddt_resolver.specs.Front.{IsItrRequest}
 use Rattle.ddt_loop.specs.declared.came.Came.{Came}
 use Rattle.ddt_loop.specs.declared.came.Ended.{Ended as End}

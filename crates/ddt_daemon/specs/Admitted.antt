@@ -1,7 +1,7 @@
 -- Which Encapsulated Control Messages a resolver asks for, and why it drops others.
 use Rattle.std.specs.Prelude.{ℕ, ◌≡◌, ◌≤◌, ◌<◌, true, false, List, length}
 use Rattle.ddt_path.specs.declared.locator.Locator.{Locator}
-use Rattle.ddt_resolver.specs.declared.itrs.ItrRequest.{ItrRequest}
+use Rattle.ddt_resolver.specs.declared.itr_messages.ItrRequest.{ItrRequest}
 use Rattle.ddt_resolver.specs.Front.{IsItrRequest}
 use Rattle.ddt_resolver.specs.State.{most_pending}
 use Rattle.ddt_settings.specs.Rlocs.{is_allowed}

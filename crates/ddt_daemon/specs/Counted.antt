@@ -5,8 +5,8 @@ use Rattle.ddt_path.specs.declared.record.Outcome.TheVariants.{Registered, NotRe
 use Rattle.ddt_wires.specs.declared.turns.Served.{Served}
 use Rattle.ddt_wires.specs.declared.call.Packet.{Packet}
 use Rattle.ddt_wires.specs.declared.call.NetFault.{NetFault}
-use Rattle.ddt_resolver.specs.declared.answers.Why.{Why}
-use Rattle.ddt_resolver.specs.declared.answers.Why.TheVariants.{NoReply, Loop, NotAuthoritative, Exhausted}
+use Rattle.ddt_resolver.specs.declared.results.Why.{Why}
+use Rattle.ddt_resolver.specs.declared.results.Why.TheVariants.{NoReply, Loop, NotAuthoritative, Exhausted}
 use Rattle.ddt_daemon.specs.declared.admission.Dropped.{Dropped}
 use Rattle.ddt_daemon.specs.declared.admission.Dropped.TheVariants.{Denied, TooLong, NoRequest, Repeated, Full}
 use Rattle.ddt_daemon.specs.declared.counts.ServerCounts.{ServerCounts}

@@ -4,7 +4,7 @@ use Rattle.ddt_path.specs.declared.locator.Locator.{Locator}
 use Rattle.ddt_wires.specs.declared.call.Call.{Call}
 use Rattle.ddt_wires.specs.Turns.{AreTried}
 use Rattle.ddt_resolver.specs.Front.{IsItrRequest}
-use Rattle.ddt_resolver.specs.declared.itrs.ItrRequest.{ItrRequest}
+use Rattle.ddt_resolver.specs.declared.itr_messages.ItrRequest.{ItrRequest}
 use Rattle.ddt_loop.specs.declared.came.Came.{Came}
 use Rattle.ddt_loop.specs.declared.came.Came.TheVariants.{Nothing, Waits, Ended}
 use Rattle.ddt_loop.specs.declared.came.Ended.{Ended as End}

@@ -3,7 +3,7 @@ use Rattle.std.specs.Prelude.{ℕ, ◌≡◌, ◌≢◌, ◌==◌, ◌&&◌, Boo
 use Rattle.std.specs.List.{list_any}
 use Rattle.ddt_path.specs.declared.xeid.Xeid.{Xeid}
 use Rattle.ddt_path.specs.Locators.{is_same_locator}
-use Rattle.ddt_resolver.specs.declared.itrs.ItrRequest.{ItrRequest}
+use Rattle.ddt_resolver.specs.declared.itr_messages.ItrRequest.{ItrRequest}
 use Rattle.ddt_daemon.specs.declared.itr_requests.Kept.{Kept}
 
 -- whether two XEIDs are the same: the instance and the address

@@ -6,7 +6,7 @@ ghost use Rattle.ddt_wires.specs.Calls.{Tells};
 ghost use Rattle.ddt_wires.specs.Turns.{most_bytes};
 ghost use Rattle.ddt_loop.specs.Acts.{running};
 ghost use Rattle.ddt_loop.specs.Askers.{opening_desk};
-ghost use Rattle.ddt_resolver.specs.declared.itrs.ItrRequest.{ItrRequest as AnItrRequest};
+ghost use Rattle.ddt_resolver.specs.declared.itr_messages.ItrRequest.{ItrRequest as AnItrRequest};
 ghost use Rattle.ddt_resolver.specs.Front.{IsItrRequest};
 ghost use Rattle.ddt_daemon.specs.Kept.{kept_of};
 ghost use Rattle.ddt_daemon.specs.Rounds.{resolving, IsHandled, IsRound, IsTick, AreTicks, TakesIn};

@@ -2,7 +2,7 @@
 use Rattle.std.specs.Prelude.{ℕ, ◌+◌, ◌-◌, ◌*◌, ◌%◌, ◌^◌, ◌<◌, ◌≡◌, ◌==◌, ◌&&◌, Bool, not, nat_lt, nat_le, if◌then◌else◌, List, [], ◌∷◌, ◌++◌, length, take, drop, slice_index, Result, Ok, Err}
 use Rattle.std.specs.Int.{w16, w32, to_be_bytes}
 use Rattle.byteorder.specs.Endian.{big_number}
-use Rattle.ddt_reading.specs.Steps.{IsBytes}
+use Rattle.ddt_path.specs.Steps.{IsBytes}
 use Rattle.ddt_ecm.specs.declared.fault.RequestFault.{RequestFault}
 use Rattle.ddt_ecm.specs.declared.fault.RequestFault.TheVariants.{Short, IpLength, IpChecksum, NotUdp, Fragment}
 use Rattle.ddt_ecm.specs.Checksum.{ones_sum, is_right, complement}

@@ -13,7 +13,7 @@ use Rattle.ddt_wire.specs.declared.address.AddressFault.{AddressFault}
 use Rattle.ddt_wire.specs.declared.address.AddressFault.TheVariants as address_fault
 use Rattle.ddt_wire.specs.declared.eid.EidFault.{EidFault}
 use Rattle.ddt_wire.specs.declared.eid.EidFault.TheVariants as eid_fault
-use Rattle.ddt_reading.specs.Steps.{◌>>=◌, in_words, IsBytes}
+use Rattle.ddt_path.specs.Steps.{◌>>=◌, in_words, IsBytes}
 use Rattle.ddt_wire.specs.Address.{no_address, lcaf, family_and_address, IsAddress, address_at}
 use Rattle.ddt_wire.specs.MessageType.{map_request}
 use Rattle.ddt_wire.specs.Addresses.{SpellsAddresses, addresses_at}

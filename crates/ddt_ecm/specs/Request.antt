@@ -2,7 +2,7 @@
 use Rattle.std.specs.Prelude.{ℕ, ◌*◌, ◌/◌, ◌%◌, ◌<◌, ◌≡◌, ◌==◌, Bool, List, ◌++◌, slice_index, Result, Ok}
 use Rattle.ddt_path.specs.declared.locator.Locator.{Locator}
 use Rattle.ddt_path.specs.declared.xeid.Xeid.{Xeid}
-use Rattle.ddt_reading.specs.Steps.{◌>>=◌}
+use Rattle.ddt_path.specs.Steps.{◌>>=◌}
 use Rattle.ddt_ecm.specs.declared.fault.RequestFault.{RequestFault}
 use Rattle.ddt_ecm.specs.EcmHeader.{first_byte, d_place, ecm_fields, ecm_header, ecm_at}
 use Rattle.ddt_ecm.specs.IpHeader.{SpellsIp, packet, ip_at}

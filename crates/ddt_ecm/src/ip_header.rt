@@ -1,7 +1,7 @@
 //! The IP packet inside an Encapsulated Control Message: IPv4 or IPv6, with a whole UDP datagram.
 
 ghost use Rattle.std.specs.Prelude.{◌≡◌, ◌≤◌, ◌++◌, length, OnOk, IfOk};
-ghost use Rattle.ddt_reading.specs.Steps.{IsReadAs};
+ghost use Rattle.ddt_path.specs.Steps.{IsReadAs};
 ghost use Rattle.ddt_ecm.specs.IpHeader.{ip_at, source4 as source4_of, source6 as source6_of, packet};
 
 use crate::fault::RequestFault;

@@ -20,7 +20,7 @@
 
 ghost use Rattle.std.specs.Prelude.{◌≡◌, ◌≤◌, ◌<◌, ◌+◌, ◌^◌, ◌++◌, true, length, OnOk, IfOk};
 ghost use Rattle.std.specs.Int.{w32, to_be_bytes};
-ghost use Rattle.ddt_reading.specs.Steps.{IsReadAs};
+ghost use Rattle.ddt_path.specs.Steps.{IsReadAs};
 ghost use Rattle.ddt_ecm.specs.Checksum.{ones_sum};
 ghost use Rattle.ddt_ecm.specs.Ipv4Header.{pseudo4, header_len, has_length4, ipv4_at, ipv4_header as ipv4_header_of, written_ipv4};
 

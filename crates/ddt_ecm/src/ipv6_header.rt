@@ -18,7 +18,7 @@
 
 ghost use Rattle.std.specs.Prelude.{◌≡◌, ◌≤◌, ◌++◌, length, OnOk, IfOk};
 ghost use Rattle.std.specs.Int.{w128, to_be_bytes};
-ghost use Rattle.ddt_reading.specs.Steps.{IsReadAs};
+ghost use Rattle.ddt_path.specs.Steps.{IsReadAs};
 ghost use Rattle.ddt_ecm.specs.Checksum.{ones_sum};
 ghost use Rattle.ddt_ecm.specs.Ipv6Header.{pseudo6, ipv6_at, ipv6_head};
 

@@ -11,7 +11,7 @@
 //! ```
 
 ghost use Rattle.std.specs.Prelude.{◌≡◌, ◌≤◌, ◌++◌, length, OnOk};
-ghost use Rattle.ddt_reading.specs.Steps.{IsReadAs};
+ghost use Rattle.ddt_path.specs.Steps.{IsReadAs};
 ghost use Rattle.ddt_ecm.specs.UdpHeader.{control_port, udp_at, udp_fields, written_udp};
 
 use crate::checksum::{VALID, sum};

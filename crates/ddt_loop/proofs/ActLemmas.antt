@@ -2,7 +2,7 @@
 use Rattle.std.proofs.Common.{◌≡◌, [], Err, refl}
 use Rattle.std.specs.Prelude.{IsTrue}
 use Rattle.ddt_path.specs.Path.{xeid_path, is_path}
-use Rattle.ddt_resolver.specs.declared.answers.AskError.TheVariants as ask_error
+use Rattle.ddt_resolver.specs.declared.results.AskError.TheVariants as ask_error
 use Rattle.ddt_resolver.specs.State.{moved}
 use Rattle.ddt_resolver.specs.AskStep.{AskStep, AskWants, UnlessMemory, OnMemory}
 use Rattle.ddt_resolver.specs.Step.{asks}

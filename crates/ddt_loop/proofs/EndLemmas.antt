@@ -1,7 +1,7 @@
 -- What comes of a step for the ITRs that wait.
 use Rattle.std.proofs.Common.{◌≡◌, [], ◌∷◌, ◌++◌, append_assoc, refl}
 use Rattle.std.specs.Prelude.{Some, None, Ok, IfSome, IfNone, length}
-use Rattle.ddt_resolver.specs.declared.answers.Asked.TheVariants as asked_as
+use Rattle.ddt_resolver.specs.declared.results.Asked.TheVariants as asked_as
 use Rattle.ddt_resolver.specs.Front.{IsItrRequest}
 use Rattle.ddt_resolver.specs.State.{moved}
 use Rattle.ddt_resolver.specs.Step.{Step, Hear, progress_of}

@@ -4,7 +4,7 @@ use Rattle.std.specs.Prelude.{count_by, cond}
 use Rattle.std.proofs.lemmas.List.Sums.{sum_by-append}
 use Rattle.ddt_wires.specs.declared.call.Call.{Call, TheVariants.Received, TheVariants.Tried}
 use Rattle.ddt_wires.specs.Turns.{AreTried}
-use Rattle.ddt_resolver.specs.declared.answers.Asked.TheVariants as asked_as
+use Rattle.ddt_resolver.specs.declared.results.Asked.TheVariants as asked_as
 use Rattle.ddt_resolver.specs.declared.step.Progress.TheVariants.{Stays, Sends, Ends}
 use Rattle.ddt_loop.specs.declared.owner.Asker.TheVariants.{Identifier, Itr}
 use Rattle.ddt_loop.specs.Acts.{IsToldItr, Asks, answered, refused, lacks_memory, IsToldAtOnce, IsTold, GoesOn, Resolves, does, fails}

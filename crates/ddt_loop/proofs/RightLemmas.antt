@@ -13,7 +13,7 @@ use Rattle.ddt_config.specs.Table.{Outline}
 use Rattle.ddt_cache.specs.Moment.{last_moment}
 use Rattle.ddt_wires.specs.declared.call.Call.{Call}
 use Rattle.ddt_wires.specs.declared.call.Call.TheVariants.{Received}
-use Rattle.ddt_resolver.specs.declared.itrs.ItrRequest.{ItrRequest}
+use Rattle.ddt_resolver.specs.declared.itr_messages.ItrRequest.{ItrRequest}
 use Rattle.ddt_resolver.specs.Order.{IsInOrder}
 use Rattle.ddt_resolver.specs.State.{State, moved, server}
 use Rattle.ddt_sim.specs.Sound.{IsSound, IsFair as IsFairCall, IsFairDatagram}

@@ -6,8 +6,8 @@ use Rattle.std.specs.Prelude.{refl}
 use Rattle.std.specs.FinMap.{get}
 use Rattle.ddt_path.specs.declared.record.Outcome.{Outcome}
 use Rattle.ddt_path.specs.declared.xeid.Xeid.{Xeid}
-use Rattle.ddt_resolver.specs.declared.answers.AskError.{AskError}
-use Rattle.ddt_resolver.specs.declared.answers.Why.{Why}
+use Rattle.ddt_resolver.specs.declared.results.AskError.{AskError}
+use Rattle.ddt_resolver.specs.declared.results.Why.{Why}
 use Rattle.ddt_resolver.specs.State.{State}
 use Rattle.ddt_loop.specs.declared.owner.Asker.{Asker}
 use Rattle.ddt_loop.specs.declared.owner.Owner.{Owner}

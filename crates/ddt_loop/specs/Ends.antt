@@ -3,8 +3,8 @@ use Rattle.std.specs.Prelude.{ℕ, ◌≡◌, List, [], ◌∷◌, ◌++◌, Opt
 use Rattle.ddt_path.specs.declared.locator.Locator.{Locator}
 use Rattle.ddt_path.specs.declared.record.Outcome.{Outcome}
 use Rattle.ddt_wires.specs.declared.call.Call.{Call as WireCall}
-use Rattle.ddt_resolver.specs.declared.answers.Why.{Why}
-use Rattle.ddt_resolver.specs.declared.itrs.ItrRequest.{ItrRequest}
+use Rattle.ddt_resolver.specs.declared.results.Why.{Why}
+use Rattle.ddt_resolver.specs.declared.itr_messages.ItrRequest.{ItrRequest}
 use Rattle.ddt_resolver.specs.declared.step.Progress.{Progress}
 use Rattle.ddt_resolver.specs.declared.step.Progress.TheVariants.{Stays, Sends, Ends}
 use Rattle.ddt_resolver.specs.declared.step.Reply.{Reply}

@@ -8,7 +8,7 @@ use Rattle.ddt_wires.specs.declared.call.NetFault.{NetFault}
 use Rattle.ddt_wires.specs.declared.call.Packet.{Packet}
 use Rattle.ddt_ecm.specs.UdpHeader.{control_port}
 use Rattle.ddt_wires.specs.Turns.{AreTried, most_bytes, reply_to}
-use Rattle.ddt_resolver.specs.declared.itrs.ItrRequest.{ItrRequest}
+use Rattle.ddt_resolver.specs.declared.itr_messages.ItrRequest.{ItrRequest}
 use Rattle.ddt_resolver.specs.Front.{IsItrRequest}
 use Rattle.ddt_resolver.specs.Step.{Hear}
 use Rattle.ddt_sim.specs.Compiled.{reply_at}

@@ -20,7 +20,7 @@ use Rattle.ddt_path.specs.Names.{is_name}
 use Rattle.ddt_path.specs.Path.{is_prefix_path, path as path_of, IsForm, address_number, address_width}
 use Rattle.ddt_path.specs.laws.Member.{IsIn}
 use Rattle.ddt_path.specs.laws.PathTest.{form_of_prefix}
-use Rattle.ddt_reading.specs.Steps.{◌>>=◌}
+use Rattle.ddt_path.specs.Steps.{◌>>=◌}
 use Rattle.ddt_text.specs.FirstFault.{prefix_in, locator_in}
 use Rattle.ddt_text.specs.Written.{written_locator, written_prefix}
 use Rattle.ddt_text.specs.laws.Address.{plain-locator}
@@ -33,8 +33,8 @@ use Rattle.ddt_register.specs.declared.group.Group.{Group}
 use Rattle.ddt_register.specs.declared.register.Register.{Register}
 use Rattle.ddt_register.specs.declared.fault.ReadFault.{ReadFault}
 use Rattle.ddt_register.specs.declared.fault.ReadFault.TheVariants as Fault
-use Rattle.ddt_register.specs.declared.row.Row.{Row}
-use Rattle.ddt_register.specs.declared.row.Row.TheVariants as Of
+use Rattle.ddt_register.specs.declared.csv_row.Row.{Row}
+use Rattle.ddt_register.specs.declared.csv_row.Row.TheVariants as Of
 use Rattle.ddt_register.specs.Ranges.{are_locators}
 use Rattle.ddt_register.specs.Rows.{rise, most_rows}
 use Rattle.ddt_register.specs.Spelled.{Lists, no_items, items_of, joined, lists_of, field_of, name_in, empty_in, each_locator, locators_in, group_in, zone_in, site_in, fields_in, row_in, rows_in, columns_in, spelled, unless_too_many}

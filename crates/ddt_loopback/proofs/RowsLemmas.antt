@@ -8,8 +8,8 @@ use Rattle.ddt_register.specs.declared.zone.Zone.{Zone}
 use Rattle.ddt_register.specs.declared.site.Site.{Site}
 use Rattle.ddt_register.specs.declared.group.Group.{Group}
 use Rattle.ddt_register.specs.declared.register.Register.{Register}
-use Rattle.ddt_register.specs.declared.row.Row.{Row}
-use Rattle.ddt_register.specs.declared.row.Row.TheVariants as Of
+use Rattle.ddt_register.specs.declared.csv_row.Row.{Row}
+use Rattle.ddt_register.specs.declared.csv_row.Row.TheVariants as Of
 use Rattle.ddt_register.specs.Rows.{rise, has_row, are_apart, zone_rows, site_rows, group_rows, most_rows}
 use Rattle.ddt_register.specs.Spelled.{Lists, no_items, items_of, joined, lists_of}
 use Rattle.ddt_register.specs.laws.Rising.{rise_parts, zones_rise, sites_rise, groups_rise}

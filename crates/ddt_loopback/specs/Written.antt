@@ -3,7 +3,7 @@ use Rattle.std.specs.Prelude.{ℕ, ◌≡◌, ◌≢◌, ⊤, Bool, false, List,
 use Rattle.std.specs.List.{flat_map}
 use Rattle.csv.specs.Writing.{default_writer, row_text, writer_setup, fields_written, has_written, writer_under, writer_pending}
 use Rattle.csv.specs.declared.writer.Writer.{Writer}
-use Rattle.ddt_register.specs.declared.row.Row.{Row}
+use Rattle.ddt_register.specs.declared.csv_row.Row.{Row}
 use Rattle.ddt_register.specs.Spelled.{Lists, items_of, joined}
 use Rattle.ddt_loopback.specs.declared.csv_text.Left.{Left}
 use Rattle.ddt_loopback.specs.Records.{row_fields, row_number}

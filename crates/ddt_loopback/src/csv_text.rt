@@ -5,7 +5,7 @@ ghost use Rattle.std.specs.Option.{option_map};
 ghost use Rattle.csv.specs.Reading.{default_config, records, strip_bom};
 ghost use Rattle.csv.specs.Records.{fields_of};
 ghost use Rattle.csv.specs.Writing.{default_writer, row_text};
-ghost use Rattle.ddt_register.specs.declared.row.Row.{Row};
+ghost use Rattle.ddt_register.specs.declared.csv_row.Row.{Row};
 ghost use Rattle.ddt_register.specs.Spelled.{lists_of, spelled};
 ghost use Rattle.ddt_loopback.specs.Records.{AreItsRows, records_of, row_fields};
 ghost use Rattle.ddt_loopback.specs.Written.{IsFresh, IsNotFirst, Takes, left_of, text_of, text_so_far};

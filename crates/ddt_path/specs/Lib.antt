@@ -11,4 +11,6 @@ pub mod Slots
 pub mod Locators
 pub mod Actions
 pub mod Records
+pub mod Steps
+pub mod Reader
 pub mod laws

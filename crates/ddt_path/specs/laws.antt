@@ -1,5 +1,6 @@
 -- What follows from the definitions, for this crate and for those above.
 pub mod Action
+pub mod Byte
 pub mod Cover
 pub mod End
 pub mod Filter
@@ -15,4 +16,6 @@ pub mod PathOrder
 pub mod PathTest
 pub mod Place
 pub mod Prefix
+pub mod Reader
 pub mod Share
+pub mod Step

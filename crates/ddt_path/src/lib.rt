@@ -1,12 +1,12 @@
 //! The words that all crates speak.
 //!
 //! In reading order: `locator`, `xeid`, `form`, `prefix` (with `masks` below them), `prefixed`, `matches`;
-//! `locator_set`, `action`, `record`; `name`, `listed`; and the laws, `holes`.
+//! `locator_set`, `action`, `ttl`, `record`; `name`, `listed`; and the `laws` of holes.
 #![tactic(auto)]
 
 mod action;
 mod form;
-mod holes;
+mod laws;
 mod listed;
 mod locator;
 mod locator_set;
@@ -16,11 +16,12 @@ mod name;
 mod prefix;
 mod prefixed;
 mod record;
+mod ttl;
 mod xeid;
 
 pub use action::Action;
 pub use form::{Form, PrefixFault};
-pub use holes::{
+pub use laws::{
     a_hole_is_free, no_hole_under_a_key, none_free_is_covered, one_hole_for_all_it_covers,
 };
 pub use listed::Listed;
@@ -30,8 +31,6 @@ pub use matches::{Preference, best_match, longest_match, shortest_match};
 pub use name::{LONGEST_NAME, Name};
 pub use prefix::Prefix;
 pub use prefixed::Prefixed;
-pub use record::{
-    HOLE_TTL, NOT_AUTHORITATIVE_TTL, NOT_REGISTERED_TTL, Outcome, POSITIVE_TTL, ReferralRecord,
-    Role,
-};
+pub use record::{Outcome, ReferralRecord, Role};
+pub use ttl::{HOLE_TTL, NOT_AUTHORITATIVE_TTL, NOT_REGISTERED_TTL, POSITIVE_TTL};
 pub use xeid::Xeid;

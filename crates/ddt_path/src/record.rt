@@ -1,5 +1,5 @@
-//! What a server answers (RFC 8111, sections 6.1 to 6.3: action, referral set, the Incomplete flag) and how long it may
-//! be kept, and what a lookup ends with.
+//! What a server answers (RFC 8111, sections 6.1 to 6.3: action, referral set, TTL, the Incomplete flag), and what a
+//! lookup ends with.
 
 ghost use Rattle.std.specs.Prelude.{◌≡◌};
 ghost use Rattle.ddt_path.specs.Path.{xeid_path};
@@ -8,19 +8,8 @@ ghost use Rattle.ddt_path.specs.Records.{referral as referral_to, record_of, not
 use crate::action::Action;
 use crate::locator_set::LocatorSet;
 use crate::prefix::Prefix;
+use crate::ttl::{HOLE_TTL, NOT_AUTHORITATIVE_TTL, NOT_REGISTERED_TTL, POSITIVE_TTL};
 use crate::xeid::Xeid;
-
-/// How long a referral or an acknowledgement may be kept, in minutes.
-pub const POSITIVE_TTL: u32 = 1440;
-
-/// How long a hole may be kept, in minutes.
-pub const HOLE_TTL: u32 = 15;
-
-/// How long it may be kept that a site isn't registered, in minutes.
-pub const NOT_REGISTERED_TTL: u32 = 1;
-
-/// How long it may be kept that a server isn't in charge of an identifier, in minutes: not at all.
-pub const NOT_AUTHORITATIVE_TTL: u32 = 0;
 
 /// What a server group is: a DDT node, or the Map-Servers.
 #[derive(Clone, Copy, Debug, PartialEq, Eq, PartialOrd, Ord, Hash)]

@@ -5,7 +5,7 @@ use Rattle.std.proofs.lemmas.Iterator.{YieldsList}
 use Rattle.std.specs.Iterator.{AlwaysYields}
 use Rattle.ddt_path.specs.declared.locator.Locator.{Locator}
 use Rattle.ddt_text.specs.FirstFault.{locator_in}
-use Rattle.ddt_reading.specs.Steps.{◌>>=◌}
+use Rattle.ddt_path.specs.Steps.{◌>>=◌}
 use Rattle.ddt_register.specs.declared.fault.ReadFault.{ReadFault}
 use Rattle.ddt_register.specs.declared.fault.ReadFault.TheVariants as Fault
 use Rattle.ddt_register.specs.Spelled.{field_of, each_locator, UnlessMemory}

@@ -4,7 +4,7 @@ use Rattle.std.proofs.lemmas.List.{length-append}
 use Rattle.std.specs.Prelude.{IfSome}
 use Rattle.csv.specs.Reading.{expected_len}
 use Rattle.csv.specs.declared.reader.Reader.{Reader}
-use Rattle.ddt_register.specs.declared.row.Row.{Row}
+use Rattle.ddt_register.specs.declared.csv_row.Row.{Row}
 use Rattle.ddt_register.specs.declared.fault.ReadFault.{ReadFault}
 use Rattle.ddt_register.specs.declared.fault.ReadFault.TheVariants as Fault
 use Rattle.ddt_register.specs.Spelled.{Lists, no_items, items_of, joined, row_in, rows_in, columns_in, spelled, unless_too_many, UnlessMemory, Gives}

@@ -5,10 +5,10 @@ use Rattle.std.proofs.lemmas.Bool.{lt-ltb, ltb-false}
 use Rattle.std.proofs.lemmas.List.{append-nil}
 use Rattle.ddt_path.specs.declared.record.Role.{Role}
 use Rattle.ddt_text.specs.FirstFault.{prefix_in}
-use Rattle.ddt_reading.specs.Steps.{◌>>=◌}
-use Rattle.ddt_register.specs.declared.row.Kind.{Kind}
-use Rattle.ddt_register.specs.declared.row.Row.{Row}
-use Rattle.ddt_register.specs.declared.row.Row.TheVariants as Of
+use Rattle.ddt_path.specs.Steps.{◌>>=◌}
+use Rattle.ddt_register.specs.declared.csv_row.Kind.{Kind}
+use Rattle.ddt_register.specs.declared.csv_row.Row.{Row}
+use Rattle.ddt_register.specs.declared.csv_row.Row.TheVariants as Of
 use Rattle.ddt_register.specs.declared.fault.ReadFault.{ReadFault}
 use Rattle.ddt_register.specs.declared.fault.ReadFault.TheVariants as Fault
 use Rattle.ddt_register.specs.Rows.{most_rows, rise, are_apart, zone_rows, site_rows, group_rows, are_rows}

@@ -14,15 +14,15 @@ use Rattle.ddt_path.specs.declared.record.Role.{Role}
 use Rattle.ddt_path.specs.declared.record.Role.TheVariants.{Node, Ms}
 use Rattle.ddt_path.specs.Names.{is_name}
 use Rattle.ddt_text.specs.FirstFault.{prefix_in, locator_in}
-use Rattle.ddt_reading.specs.Steps.{◌>>=◌}
+use Rattle.ddt_path.specs.Steps.{◌>>=◌}
 use Rattle.ddt_register.specs.declared.zone.Zone.{Zone}
 use Rattle.ddt_register.specs.declared.site.Site.{Site}
 use Rattle.ddt_register.specs.declared.group.Group.{Group}
 use Rattle.ddt_register.specs.Rows.{most_rows}
 use Rattle.ddt_register.specs.declared.register.Register.{Register}
-use Rattle.ddt_register.specs.declared.row.Kind.{Kind}
-use Rattle.ddt_register.specs.declared.row.Row.{Row}
-use Rattle.ddt_register.specs.declared.row.Row.TheVariants as Of
+use Rattle.ddt_register.specs.declared.csv_row.Kind.{Kind}
+use Rattle.ddt_register.specs.declared.csv_row.Row.{Row}
+use Rattle.ddt_register.specs.declared.csv_row.Row.TheVariants as Of
 use Rattle.ddt_register.specs.declared.fault.ReadFault.{ReadFault}
 use Rattle.ddt_register.specs.declared.fault.ReadFault.TheVariants as Fault
 

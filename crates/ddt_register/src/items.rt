@@ -4,9 +4,9 @@ ghost use Rattle.std.specs.Prelude.{◌≡◌, OnOk, true};
 ghost use Rattle.ddt_register.specs.Rows.{are_rows};
 ghost use Rattle.ddt_register.specs.Spelled.{Lists, no_items, items_of, joined, lists_of};
 
+use crate::csv_row::Row;
 use crate::group::Group;
 use crate::register::Register;
-use crate::row::Row;
 use crate::site::Site;
 use crate::zone::Zone;
 use std::alloc::{AllocError, Global};

@@ -7,10 +7,10 @@ ghost use Rattle.ddt_register.specs.Left.{IsReading, IsLeft, Takes, csv_fault, s
 ghost use Rattle.ddt_register.specs.Rows.{most_rows};
 ghost use Rattle.ddt_register.specs.Spelled.{spelled, rows_in, unless_too_many as unless_too_many_of, Gives};
 
+use crate::csv_row::{read_columns, read_row};
 use crate::fault::ReadFault;
 use crate::items::Items;
 use crate::register::{MOST_ROWS, Register};
-use crate::row::{read_columns, read_row};
 use csv::{ByteRecord, ErrorKind, Reader, ReaderBuilder};
 use std::alloc::Global;
 use std::io::Read;

@@ -6,7 +6,7 @@ ghost use Rattle.ddt_register.specs.Rows.{are_rows as are_rows_of, rise, zone_ro
 
 use crate::group::Group;
 use crate::item::items_in_range;
-use crate::rows::{are_apart, are_rising};
+use crate::row_order::{are_apart, are_rising};
 use crate::site::Site;
 use crate::zone::Zone;
 use ddt_path::Listed;

@@ -11,11 +11,11 @@ use Rattle.ddt_path.specs.laws.Cover.{length-covered}
 use Rattle.ddt_wire.specs.Referral.{Message, Spells, message_record}
 use Rattle.ddt_wire.specs.laws.Message.{messages_are_read}
 use Rattle.ddt_resolver.specs.declared.pending.Pending.{Pending}
-use Rattle.ddt_resolver.specs.declared.answers.Outgoing.{Outgoing}
-use Rattle.ddt_resolver.specs.declared.answers.Asked.{Asked}
-use Rattle.ddt_resolver.specs.declared.answers.AskError.{AskError}
-use Rattle.ddt_resolver.specs.declared.answers.Heard.{Heard}
-use Rattle.ddt_resolver.specs.declared.answers.Heard.TheVariants as heard
+use Rattle.ddt_resolver.specs.declared.results.Outgoing.{Outgoing}
+use Rattle.ddt_resolver.specs.declared.results.Asked.{Asked}
+use Rattle.ddt_resolver.specs.declared.results.AskError.{AskError}
+use Rattle.ddt_resolver.specs.declared.results.Heard.{Heard}
+use Rattle.ddt_resolver.specs.declared.results.Heard.TheVariants as heard
 use Rattle.ddt_resolver.specs.State.{State, numbered, opening, referred, passed_on, started_over}
 use Rattle.ddt_path.specs.Actions.{IsReferral}
 use Rattle.ddt_resolver.specs.Records.{IsBelow, start_at}

@@ -5,7 +5,7 @@ use Rattle.ddt_path.specs.declared.action.Action.TheVariants.{NotAuthoritative}
 use Rattle.ddt_path.specs.declared.record.ReferralRecord.{ReferralRecord}
 use Rattle.ddt_resolver.specs.declared.pending.Pending.{Pending}
 use Rattle.ddt_resolver.specs.declared.requests.Change.TheVariants.{Forget}
-use Rattle.ddt_resolver.specs.declared.answers.Heard.{Heard}
+use Rattle.ddt_resolver.specs.declared.results.Heard.{Heard}
 use Rattle.ddt_resolver.specs.State.{State, started_over}
 use Rattle.ddt_resolver.specs.Act.{Act, MayStartOver, starts_over, used_up, from_root}
 use Rattle.ddt_resolver.specs.Acting.{SendsOn, followed, used_up as spent}

@@ -6,10 +6,10 @@ use Rattle.ddt_path.specs.declared.locator.Locator.{Locator}
 use Rattle.ddt_path.specs.declared.action.Action.TheVariants.{MsAck, MsNotRegistered, DelegationHole, NotAuthoritative}
 use Rattle.ddt_path.specs.declared.record.ReferralRecord.{ReferralRecord}
 use Rattle.ddt_resolver.specs.declared.pending.Pending.{Pending}
-use Rattle.ddt_resolver.specs.declared.answers.Ignored.{Ignored as Reason}
-use Rattle.ddt_resolver.specs.declared.answers.Why.TheVariants.{Loop, NotAuthoritative as NobodyInCharge, Exhausted}
-use Rattle.ddt_resolver.specs.declared.answers.Heard.{Heard}
-use Rattle.ddt_resolver.specs.declared.answers.Heard.TheVariants.{Ignored, Followed, Answer, GaveUp}
+use Rattle.ddt_resolver.specs.declared.results.Ignored.{Ignored as Reason}
+use Rattle.ddt_resolver.specs.declared.results.Why.TheVariants.{Loop, NotAuthoritative as NobodyInCharge, Exhausted}
+use Rattle.ddt_resolver.specs.declared.results.Heard.{Heard}
+use Rattle.ddt_resolver.specs.declared.results.Heard.TheVariants.{Ignored, Followed, Answer, GaveUp}
 use Rattle.ddt_resolver.specs.State.{State, last_nonce, lodged, dropped, stored, forgotten, request, referred, passed_on, started_over}
 use Rattle.ddt_path.specs.Actions.{IsReferral}
 use Rattle.ddt_resolver.specs.Records.{IsBelow, outcome_of}

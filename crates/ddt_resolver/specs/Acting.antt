@@ -7,11 +7,11 @@ use Rattle.ddt_resolver.specs.declared.pending.Pending.{Pending}
 use Rattle.ddt_resolver.specs.declared.replies.Taken.{Taken}
 use Rattle.ddt_resolver.specs.declared.requests.Change.{Change}
 use Rattle.ddt_resolver.specs.declared.requests.Change.TheVariants.{Keep, Save, Forget}
-use Rattle.ddt_resolver.specs.declared.answers.Why.TheVariants.{Exhausted}
-use Rattle.ddt_resolver.specs.declared.answers.Heard.{Heard}
-use Rattle.ddt_resolver.specs.declared.answers.Heard.TheVariants.{Followed, Answer, GaveUp}
-use Rattle.ddt_resolver.specs.declared.answers.Ticked.{Ticked}
-use Rattle.ddt_resolver.specs.declared.answers.Ticked.TheVariants as ticked_as
+use Rattle.ddt_resolver.specs.declared.results.Why.TheVariants.{Exhausted}
+use Rattle.ddt_resolver.specs.declared.results.Heard.{Heard}
+use Rattle.ddt_resolver.specs.declared.results.Heard.TheVariants.{Followed, Answer, GaveUp}
+use Rattle.ddt_resolver.specs.declared.results.Ticked.{Ticked}
+use Rattle.ddt_resolver.specs.declared.results.Ticked.TheVariants as ticked_as
 use Rattle.ddt_resolver.specs.State.{State, last_nonce, with_change, lodged, dropped, stored, request}
 use Rattle.ddt_resolver.specs.Order.{IsInOrder}
 use Rattle.ddt_resolver.specs.Records.{IsAbout, NamesServer, outcome_of}

@@ -6,10 +6,10 @@ use Rattle.ddt_path.specs.declared.record.Outcome.{Outcome}
 use Rattle.ddt_path.specs.Path.{xeid_path}
 use Rattle.ddt_cache.specs.declared.entry.Entry.{Entry}
 use Rattle.ddt_cache.specs.Found.{IsFound}
-use Rattle.ddt_resolver.specs.declared.answers.Asked.{Asked}
-use Rattle.ddt_resolver.specs.declared.answers.Asked.TheVariants.{Answer, Sent}
-use Rattle.ddt_resolver.specs.declared.answers.AskError.{AskError}
-use Rattle.ddt_resolver.specs.declared.answers.AskError.TheVariants.{TooMany, Exhausted, Memory}
+use Rattle.ddt_resolver.specs.declared.results.Asked.{Asked}
+use Rattle.ddt_resolver.specs.declared.results.Asked.TheVariants.{Answer, Sent}
+use Rattle.ddt_resolver.specs.declared.results.AskError.{AskError}
+use Rattle.ddt_resolver.specs.declared.results.AskError.TheVariants.{TooMany, Exhausted, Memory}
 use Rattle.ddt_resolver.specs.State.{State, last_nonce, most_pending, opening, lodged, request}
 use Rattle.ddt_resolver.specs.Records.{negative_answer, start_at}
 

@@ -6,10 +6,10 @@ use Rattle.ddt_path.specs.Locators.{most_locators}
 use Rattle.ddt_path.specs.Path.{xeid_path}
 use Rattle.ddt_wire.specs.Referral.{Message, Spells}
 use Rattle.ddt_resolver.specs.declared.pending.Pending.{Pending}
-use Rattle.ddt_resolver.specs.declared.answers.Asked.{Asked}
-use Rattle.ddt_resolver.specs.declared.answers.Asked.TheVariants as asked
-use Rattle.ddt_resolver.specs.declared.answers.Heard.{Heard}
-use Rattle.ddt_resolver.specs.declared.answers.Heard.TheVariants.{Ignored, Followed, Answer, GaveUp}
+use Rattle.ddt_resolver.specs.declared.results.Asked.{Asked}
+use Rattle.ddt_resolver.specs.declared.results.Asked.TheVariants as asked
+use Rattle.ddt_resolver.specs.declared.results.Heard.{Heard}
+use Rattle.ddt_resolver.specs.declared.results.Heard.TheVariants.{Ignored, Followed, Answer, GaveUp}
 use Rattle.ddt_resolver.specs.State.{State}
 use Rattle.ddt_path.specs.Actions.{IsReferral}
 use Rattle.ddt_resolver.specs.Records.{IsBelow}

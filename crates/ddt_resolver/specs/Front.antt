@@ -10,8 +10,8 @@ use Rattle.ddt_path.specs.Path.{xeid_path}
 use Rattle.ddt_path.specs.Records.{hole_ttl, not_registered_ttl}
 use Rattle.ddt_ecm.specs.Request.{Message, Spells}
 use Rattle.ddt_wire.specs.NegativeReply.{written_reply, reply_of}
-use Rattle.ddt_resolver.specs.declared.answers.Outgoing.{Outgoing}
-use Rattle.ddt_resolver.specs.declared.itrs.ItrRequest.{ItrRequest}
+use Rattle.ddt_resolver.specs.declared.results.Outgoing.{Outgoing}
+use Rattle.ddt_resolver.specs.declared.itr_messages.ItrRequest.{ItrRequest}
 
 -- ---- what an ITR asks
 

@@ -6,8 +6,8 @@ use Rattle.ddt_path.specs.declared.record.ReferralRecord.{ReferralRecord}
 use Rattle.ddt_path.specs.Path.{xeid_path}
 use Rattle.ddt_wire.specs.Referral.{Message, Spells, message_record}
 use Rattle.ddt_resolver.specs.declared.pending.Pending.{Pending}
-use Rattle.ddt_resolver.specs.declared.answers.Ignored.{Ignored}
-use Rattle.ddt_resolver.specs.declared.answers.Ignored.TheVariants.{Undecodable, UnknownNonce, WrongSource, Late, NotCovering, NoServers}
+use Rattle.ddt_resolver.specs.declared.results.Ignored.{Ignored}
+use Rattle.ddt_resolver.specs.declared.results.Ignored.TheVariants.{Undecodable, UnknownNonce, WrongSource, Late, NotCovering, NoServers}
 use Rattle.ddt_resolver.specs.State.{State, server}
 use Rattle.ddt_resolver.specs.Records.{IsAbout, NamesServer}
 

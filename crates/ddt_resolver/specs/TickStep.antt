@@ -4,9 +4,9 @@ use Rattle.std.specs.FinMap.{get}
 use Rattle.ddt_path.specs.declared.record.ReferralRecord.{ReferralRecord}
 use Rattle.ddt_path.specs.declared.record.Outcome.TheVariants.{NotRegistered}
 use Rattle.ddt_resolver.specs.declared.pending.Pending.{Pending}
-use Rattle.ddt_resolver.specs.declared.answers.Why.TheVariants.{NoReply, Exhausted}
-use Rattle.ddt_resolver.specs.declared.answers.Ticked.{Ticked}
-use Rattle.ddt_resolver.specs.declared.answers.Ticked.TheVariants.{Nothing, Sent, Answer, GaveUp}
+use Rattle.ddt_resolver.specs.declared.results.Why.TheVariants.{NoReply, Exhausted}
+use Rattle.ddt_resolver.specs.declared.results.Ticked.{Ticked}
+use Rattle.ddt_resolver.specs.declared.results.Ticked.TheVariants.{Nothing, Sent, Answer, GaveUp}
 use Rattle.ddt_resolver.specs.State.{State, last_nonce, lodged, dropped, request, tried_again, at_next}
 
 -- a pending lookup whose deadline has come, of these the one whose last request has the least nonce

@@ -12,12 +12,12 @@ ghost use Rattle.ddt_resolver.specs.Table.{HasNonce};
 ghost use Rattle.ddt_cache.specs.Saved.{is_saved};
 ghost use Rattle.ddt_resolver.specs.Bound.{ComesNearer, GoesDown};
 
-use crate::answers::{Heard, Ticket, Why};
 use crate::loop_detection::is_below;
 use crate::pending::Pending;
 use crate::replies::Taken;
 use crate::requests::Change;
 use crate::resolver::Resolver;
+use crate::results::{Heard, Ticket, Why};
 use ddt_cache::{Entry, Moment};
 use ddt_path::{Action, Locator, Outcome, ReferralRecord};
 use ddt_trie::PrefixMap;

@@ -8,10 +8,10 @@ ghost use Rattle.ddt_resolver.specs.Records.{start_at as start_at_of};
 ghost use Rattle.ddt_resolver.specs.AskStep.{answer_of as answer_of_entry, AskStep, AskWants, UnlessMemory, OnMemory};
 ghost use Rattle.ddt_resolver.specs.Bound.{StartsWithin};
 
-use crate::answers::{AskError, Asked, Ticket};
 use crate::limits::MOST_PENDING;
 use crate::pending::Pending;
 use crate::resolver::Resolver;
+use crate::results::{AskError, Asked, Ticket};
 use ddt_cache::{Entry, Moment};
 use ddt_path::{Action, Outcome, Prefix, Xeid};
 use ddt_trie::PrefixMap;

@@ -1,14 +1,13 @@
 //! A resolver of RFC 8111, section 7.3, as a machine of steps: an ask, a datagram, a tick. It sends nothing itself:
 //! each call answers what is to be sent, and learns the time from its caller.
 //!
-//! In reading order: `answers`, `limits`, `pending`, `waiting`, `table`, `resolver`, `asks`, `replies`,
-//! `loop_detection`, `actions`, `ticks`, `step`, `requests`, `laws`; `itrs` is the side that ITRs see.
+//! In reading order: `results`, `limits`, `pending`, `waiting`, `table`, `resolver`, `asks`, `replies`,
+//! `loop_detection`, `actions`, `ticks`, `step`, `requests`, `laws`; `itr_messages` is the side that ITRs see.
 #![tactic(auto)]
 
 mod actions;
-mod answers;
 mod asks;
-mod itrs;
+mod itr_messages;
 mod laws;
 mod limits;
 mod loop_detection;
@@ -16,16 +15,17 @@ mod pending;
 mod replies;
 mod requests;
 mod resolver;
+mod results;
 mod step;
 mod table;
 mod ticks;
 mod waiting;
 
-pub use answers::{AskError, Asked, Heard, Ignored, Outgoing, Ticked, Ticket, Why};
 pub use ddt_cache::Moment;
-pub use itrs::{Front, ItrRequest};
+pub use itr_messages::{Front, ItrRequest};
 pub use laws::{order_is_kept, tickets_are_new, usable_is_taken};
 pub use limits::MOST_PENDING;
 pub use pending::Pending;
 pub use resolver::Resolver;
+pub use results::{AskError, Asked, Heard, Ignored, Outgoing, Ticked, Ticket, Why};
 pub use step::{Input, Progress, Reply};

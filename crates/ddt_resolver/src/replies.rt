@@ -8,9 +8,9 @@ ghost use Rattle.ddt_resolver.specs.Records.{IsAbout, NamesServer};
 ghost use Rattle.ddt_resolver.specs.State.{server as server_of};
 ghost use Rattle.ddt_resolver.specs.TakeUp.{IsReplyTo, IsTaken, Ignores};
 
-use crate::answers::Ignored;
 use crate::pending::Pending;
 use crate::resolver::Resolver;
+use crate::results::Ignored;
 use ddt_cache::Entry;
 use ddt_path::{Action, Locator, ReferralRecord, Xeid};
 use ddt_trie::PrefixMap;

@@ -12,10 +12,10 @@ ghost use Rattle.ddt_cache.specs.Saved.{is_saved};
 ghost use Rattle.ddt_path.specs.declared.record.ReferralRecord.{ReferralRecord as RecordValue};
 ghost use Rattle.ddt_resolver.specs.declared.requests.Change.TheVariants.{Save};
 
-use crate::answers::Outgoing;
 use crate::limits::PATIENCE;
 use crate::pending::Pending;
 use crate::resolver::Resolver;
+use crate::results::Outgoing;
 use ddt_cache::{Cache, Entry};
 use ddt_ecm::{CONTROL_PORT, write_request};
 use ddt_path::{Listed, Prefix, ReferralRecord};

@@ -7,7 +7,7 @@ ghost use Rattle.ddt_resolver.specs.State.{fresh, moved, dropped};
 ghost use Rattle.ddt_resolver.specs.Order.{IsInOrder};
 ghost use Rattle.ddt_resolver.specs.Table.{IsLeastDeadline};
 
-use crate::answers::{AskError, Asked, Heard, Ticket};
+use crate::results::{AskError, Asked, Heard, Ticket};
 use crate::table::Table;
 use ddt_cache::{Cache, Entry, Moment};
 use ddt_path::{Locator, LocatorSet, Prefix, Xeid};

@@ -3,12 +3,12 @@
 
 ghost use Rattle.std.specs.Prelude.{◌≡◌, ◌≢◌, Ok, Err, IfOk, OnOk, OnErr};
 ghost use Rattle.ddt_resolver.specs.State.{moved};
-ghost use Rattle.ddt_resolver.specs.declared.answers.AskError.TheVariants.{Memory};
+ghost use Rattle.ddt_resolver.specs.declared.results.AskError.TheVariants.{Memory};
 ghost use Rattle.ddt_resolver.specs.declared.step.Reply.TheVariants.{ToAsk, ToDatagram, ToTick};
 ghost use Rattle.ddt_resolver.specs.Step.{Step, Wants, call_of, progress_of};
 
-use crate::answers::{AskError, Asked, Heard, Outgoing, Ticked, Ticket, Why};
 use crate::resolver::Resolver;
+use crate::results::{AskError, Asked, Heard, Outgoing, Ticked, Ticket, Why};
 use ddt_cache::{Entry, Moment};
 use ddt_path::{Locator, Outcome, Xeid};
 use ddt_trie::PrefixMap;

@@ -9,10 +9,10 @@ ghost use Rattle.ddt_resolver.specs.Acting.{TriesOn};
 ghost use Rattle.ddt_resolver.specs.Order.{IsLookup};
 ghost use Rattle.ddt_resolver.specs.Table.{HasNonce};
 
-use crate::answers::{Ticked, Ticket, Why};
 use crate::pending::Pending;
 use crate::requests::Change;
 use crate::resolver::Resolver;
+use crate::results::{Ticked, Ticket, Why};
 use ddt_cache::{Entry, Moment};
 use ddt_path::Outcome;
 use ddt_trie::PrefixMap;

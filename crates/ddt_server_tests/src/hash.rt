@@ -2,9 +2,8 @@
 
 ghost use Rattle.std.specs.Prelude.{◌≤◌};
 
-use ddt_hash::HashedMap;
 use ddt_path::{Locator, Prefix, Xeid};
-use ddt_trie::{ListMap, MOST_ENTRIES, PrefixMap};
+use ddt_trie::{HashedMap, ListMap, MOST_ENTRIES, PrefixMap};
 use std::alloc::Global;
 use std::process::Abort;
 

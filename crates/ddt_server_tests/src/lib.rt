@@ -1,4 +1,4 @@
-//! The tests of a server's crates: `ddt_trie`, `ddt_hash`, `ddt_node` and `ddt_wires`.
+//! The tests of a server's crates: `ddt_trie`, `ddt_node` and `ddt_wires`.
 #![tactic(auto)]
 
 #[cfg(test)]

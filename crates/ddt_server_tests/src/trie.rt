@@ -1,10 +1,9 @@
 //! Worked values of prefix maps, and maps side by side.
 
 use ddt_examples::Dice;
-use ddt_hash::HashedMap;
 use ddt_path::{Locator, Prefix, Xeid};
 use ddt_text::{parse_prefix, parse_xeid};
-use ddt_trie::{ListMap, MOST_ENTRIES, PrefixMap, TrieMap};
+use ddt_trie::{HashedMap, ListMap, MOST_ENTRIES, PrefixMap, TrieMap};
 use std::alloc::Global;
 use std::process::Abort;
 use std::test::Fail;

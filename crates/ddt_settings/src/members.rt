@@ -4,7 +4,7 @@ ghost use Rattle.std.specs.Prelude.{◌≡◌, map};
 ghost use Rattle.std.specs.Option.{option_map};
 ghost use Rattle.toml.specs.Data.{get_member};
 ghost use Rattle.toml.specs.View.{view, table_view};
-ghost use Rattle.ddt_reading.specs.Steps.{IsReadAs};
+ghost use Rattle.ddt_path.specs.Steps.{IsReadAs};
 ghost use Rattle.ddt_settings.specs.Table.{key_text, each, text_of, array_of, locator_of, rlocs_of, locators_in, prefixes_in};
 ghost use Rattle.ddt_settings.specs.Reading.{Reads, TellsValue};
 

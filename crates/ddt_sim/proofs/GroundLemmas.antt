@@ -9,9 +9,9 @@ use Rattle.ddt_path.specs.declared.record.Outcome.{Outcome}
 use Rattle.ddt_path.specs.declared.xeid.Xeid.{Xeid}
 use Rattle.ddt_cache.specs.Moment.{last_moment}
 use Rattle.ddt_resolver.specs.declared.pending.Pending.{Pending}
-use Rattle.ddt_resolver.specs.declared.answers.Heard.{Heard as Hearing}
-use Rattle.ddt_resolver.specs.declared.answers.Outgoing.{Outgoing}
-use Rattle.ddt_resolver.specs.declared.answers.Why.{Why}
+use Rattle.ddt_resolver.specs.declared.results.Heard.{Heard as Hearing}
+use Rattle.ddt_resolver.specs.declared.results.Outgoing.{Outgoing}
+use Rattle.ddt_resolver.specs.declared.results.Why.{Why}
 use Rattle.ddt_resolver.specs.declared.step.Reply.{Reply}
 use Rattle.ddt_resolver.specs.declared.step.Reply.TheVariants.{ToDatagram}
 use Rattle.ddt_resolver.specs.declared.step.Progress.TheVariants.{Stays, Sends}

@@ -19,9 +19,9 @@ use Rattle.ddt_cache.specs.Entry.{is_negative}
 use Rattle.ddt_cache.specs.Found.{IsFound}
 use Rattle.ddt_cache.specs.laws.Live.{live_at-is}
 use Rattle.ddt_resolver.specs.declared.pending.Pending.{Pending}
-use Rattle.ddt_resolver.specs.declared.answers.Asked.TheVariants as asked_as
-use Rattle.ddt_resolver.specs.declared.answers.Ignored.{Ignored}
-use Rattle.ddt_resolver.specs.declared.answers.Ignored.TheVariants.{UnknownNonce, Late}
+use Rattle.ddt_resolver.specs.declared.results.Asked.TheVariants as asked_as
+use Rattle.ddt_resolver.specs.declared.results.Ignored.{Ignored}
+use Rattle.ddt_resolver.specs.declared.results.Ignored.TheVariants.{UnknownNonce, Late}
 use Rattle.ddt_resolver.specs.declared.step.Reply.{Reply}
 use Rattle.ddt_resolver.specs.declared.step.Reply.TheVariants.{ToAsk}
 use Rattle.ddt_resolver.specs.State.{State, moved}

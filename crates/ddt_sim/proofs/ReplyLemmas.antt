@@ -15,10 +15,10 @@ use Rattle.ddt_check.specs.laws.Statements.{AnswersCover, AnswersHaveServers, An
 use Rattle.ddt_wire.specs.Referral.{Spells, message_of, message_record}
 use Rattle.ddt_wire.specs.laws.Statements.{MessagesAreRead, RecordsComeBack}
 use Rattle.ddt_resolver.specs.declared.pending.Pending.{Pending}
-use Rattle.ddt_resolver.specs.declared.answers.Outgoing.{Outgoing}
-use Rattle.ddt_resolver.specs.declared.answers.Ignored.{Ignored}
-use Rattle.ddt_resolver.specs.declared.answers.Heard.{Heard}
-use Rattle.ddt_resolver.specs.declared.answers.Heard.TheVariants as heard
+use Rattle.ddt_resolver.specs.declared.results.Outgoing.{Outgoing}
+use Rattle.ddt_resolver.specs.declared.results.Ignored.{Ignored}
+use Rattle.ddt_resolver.specs.declared.results.Heard.{Heard}
+use Rattle.ddt_resolver.specs.declared.results.Heard.TheVariants as heard
 use Rattle.ddt_resolver.specs.State.{State, server}
 use Rattle.ddt_resolver.specs.Records.{NamesServer}
 use Rattle.ddt_resolver.specs.TakeUp as takes

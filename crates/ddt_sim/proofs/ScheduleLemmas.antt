@@ -15,8 +15,8 @@ use Rattle.ddt_wire.specs.Referral.{Message, Spells, message_of as referral_of, 
 use Rattle.ddt_ecm.specs.laws.Statements.{WrittenSpells, message_of}
 use Rattle.ddt_node.specs.Server.{IsDdtRequest}
 use Rattle.ddt_resolver.specs.declared.pending.Pending.{Pending}
-use Rattle.ddt_resolver.specs.declared.answers.Ignored.{Ignored}
-use Rattle.ddt_resolver.specs.declared.answers.Ignored.TheVariants.{UnknownNonce, Late}
+use Rattle.ddt_resolver.specs.declared.results.Ignored.{Ignored}
+use Rattle.ddt_resolver.specs.declared.results.Ignored.TheVariants.{UnknownNonce, Late}
 use Rattle.ddt_resolver.specs.State.{State, moved, numbered, request_bytes, server}
 use Rattle.ddt_resolver.specs.Step.{Call}
 use Rattle.ddt_resolver.specs.TakeUp as takes

@@ -11,18 +11,18 @@ use Rattle.ddt_register.specs.declared.register.Register.{Register}
 use Rattle.ddt_check.specs.Says.{says}
 use Rattle.ddt_ecm.specs.laws.Statements.{message_of}
 use Rattle.ddt_resolver.specs.declared.pending.Pending.{Pending}
-use Rattle.ddt_resolver.specs.declared.answers.Asked.{Asked as Asking}
-use Rattle.ddt_resolver.specs.declared.answers.Asked.TheVariants as asked_as
-use Rattle.ddt_resolver.specs.declared.answers.AskError.{AskError}
-use Rattle.ddt_resolver.specs.declared.answers.AskError.TheVariants as ask_error
-use Rattle.ddt_resolver.specs.declared.answers.Heard.{Heard as Hearing}
-use Rattle.ddt_resolver.specs.declared.answers.Heard.TheVariants as heard_as
-use Rattle.ddt_resolver.specs.declared.answers.Ignored.{Ignored}
-use Rattle.ddt_resolver.specs.declared.answers.Ignored.TheVariants.{UnknownNonce, Late}
-use Rattle.ddt_resolver.specs.declared.answers.Ticked.{Ticked as Ticking}
-use Rattle.ddt_resolver.specs.declared.answers.Ticked.TheVariants as ticked_as
-use Rattle.ddt_resolver.specs.declared.answers.Why.{Why}
-use Rattle.ddt_resolver.specs.declared.answers.Why.TheVariants.{NoReply, Loop, NotAuthoritative, Exhausted}
+use Rattle.ddt_resolver.specs.declared.results.Asked.{Asked as Asking}
+use Rattle.ddt_resolver.specs.declared.results.Asked.TheVariants as asked_as
+use Rattle.ddt_resolver.specs.declared.results.AskError.{AskError}
+use Rattle.ddt_resolver.specs.declared.results.AskError.TheVariants as ask_error
+use Rattle.ddt_resolver.specs.declared.results.Heard.{Heard as Hearing}
+use Rattle.ddt_resolver.specs.declared.results.Heard.TheVariants as heard_as
+use Rattle.ddt_resolver.specs.declared.results.Ignored.{Ignored}
+use Rattle.ddt_resolver.specs.declared.results.Ignored.TheVariants.{UnknownNonce, Late}
+use Rattle.ddt_resolver.specs.declared.results.Ticked.{Ticked as Ticking}
+use Rattle.ddt_resolver.specs.declared.results.Ticked.TheVariants as ticked_as
+use Rattle.ddt_resolver.specs.declared.results.Why.{Why}
+use Rattle.ddt_resolver.specs.declared.results.Why.TheVariants.{NoReply, Loop, NotAuthoritative, Exhausted}
 use Rattle.ddt_resolver.specs.declared.step.Reply.{Reply}
 use Rattle.ddt_resolver.specs.declared.step.Reply.TheVariants.{ToAsk, ToDatagram, ToTick}
 use Rattle.ddt_resolver.specs.declared.step.Progress.{Progress}

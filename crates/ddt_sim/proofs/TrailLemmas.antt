@@ -12,7 +12,7 @@ use Rattle.ddt_register.specs.declared.register.Register.{Register}
 use Rattle.ddt_check.specs.Rules.{IsAccepted}
 use Rattle.ddt_cache.specs.Found.{IsFound}
 use Rattle.ddt_resolver.specs.declared.pending.Pending.{Pending}
-use Rattle.ddt_resolver.specs.declared.answers.Outgoing.{Outgoing}
+use Rattle.ddt_resolver.specs.declared.results.Outgoing.{Outgoing}
 use Rattle.ddt_resolver.specs.State.{State, moved, server, numbered, opening, stored, forgotten, referred, passed_on, started_over, tried_again, at_next}
 use Rattle.ddt_resolver.specs.Records.{IsAbout, NamesServer, outcome_of, start_at, IsBelow}
 use Rattle.ddt_resolver.specs.AskStep.{answer_of}

@@ -14,9 +14,9 @@ use Rattle.ddt_node.specs.Server.{IsDdtRequest}
 use Rattle.ddt_wire.specs.Referral.{Spells, message_of as referral_of}
 use Rattle.ddt_wire.specs.laws.Statements.{MessagesAreRead, RecordsComeBack}
 use Rattle.ddt_resolver.specs.declared.pending.Pending.{Pending}
-use Rattle.ddt_resolver.specs.declared.answers.Heard.{Heard as Hearing}
-use Rattle.ddt_resolver.specs.declared.answers.Heard.TheVariants as heard_as
-use Rattle.ddt_resolver.specs.declared.answers.Why.TheVariants.{NoReply}
+use Rattle.ddt_resolver.specs.declared.results.Heard.{Heard as Hearing}
+use Rattle.ddt_resolver.specs.declared.results.Heard.TheVariants as heard_as
+use Rattle.ddt_resolver.specs.declared.results.Why.TheVariants.{NoReply}
 use Rattle.ddt_resolver.specs.declared.step.Reply.{Reply}
 use Rattle.ddt_resolver.specs.declared.step.Reply.TheVariants.{ToDatagram}
 use Rattle.ddt_resolver.specs.declared.step.Progress.{Progress}

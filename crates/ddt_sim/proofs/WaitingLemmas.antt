@@ -12,14 +12,14 @@ use Rattle.ddt_ecm.specs.Request.{Spells}
 use Rattle.ddt_ecm.specs.laws.Statements.{WrittenSpells, message_of}
 use Rattle.ddt_cache.specs.Found.{IsFound}
 use Rattle.ddt_resolver.specs.declared.pending.Pending.{Pending}
-use Rattle.ddt_resolver.specs.declared.answers.Outgoing.{Outgoing}
-use Rattle.ddt_resolver.specs.declared.answers.Asked.{Asked}
-use Rattle.ddt_resolver.specs.declared.answers.Asked.TheVariants as asked
-use Rattle.ddt_resolver.specs.declared.answers.AskError.{AskError}
-use Rattle.ddt_resolver.specs.declared.answers.AskError.TheVariants as ask_error
-use Rattle.ddt_resolver.specs.declared.answers.Heard.{Heard}
-use Rattle.ddt_resolver.specs.declared.answers.Heard.TheVariants as heard
-use Rattle.ddt_resolver.specs.declared.answers.Why.TheVariants.{NoReply, Exhausted}
+use Rattle.ddt_resolver.specs.declared.results.Outgoing.{Outgoing}
+use Rattle.ddt_resolver.specs.declared.results.Asked.{Asked}
+use Rattle.ddt_resolver.specs.declared.results.Asked.TheVariants as asked
+use Rattle.ddt_resolver.specs.declared.results.AskError.{AskError}
+use Rattle.ddt_resolver.specs.declared.results.AskError.TheVariants as ask_error
+use Rattle.ddt_resolver.specs.declared.results.Heard.{Heard}
+use Rattle.ddt_resolver.specs.declared.results.Heard.TheVariants as heard
+use Rattle.ddt_resolver.specs.declared.results.Why.TheVariants.{NoReply, Exhausted}
 use Rattle.ddt_resolver.specs.State.{State, moved, request, request_bytes, numbered, lodged, stored, forgotten, opening, referred, passed_on, started_over, last_nonce, most_pending}
 use Rattle.ddt_resolver.specs.Records.{IsBelow, outcome_of, start_at}
 use Rattle.ddt_resolver.specs.AskStep.{AskStep, Start, cached, full, used_up, opened, answer_of}

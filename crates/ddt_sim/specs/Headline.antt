@@ -11,9 +11,9 @@ use Rattle.ddt_check.specs.Rules.{IsAccepted}
 use Rattle.ddt_check.specs.Assignment.{assignment}
 use Rattle.ddt_check.specs.Says.{says}
 use Rattle.ddt_wire.specs.Referral.{Spells, message_of}
-use Rattle.ddt_resolver.specs.declared.answers.Outgoing.{Outgoing}
-use Rattle.ddt_resolver.specs.declared.answers.Why.TheVariants.{Exhausted}
-use Rattle.ddt_resolver.specs.declared.answers.Asked.{Asked}
+use Rattle.ddt_resolver.specs.declared.results.Outgoing.{Outgoing}
+use Rattle.ddt_resolver.specs.declared.results.Why.TheVariants.{Exhausted}
+use Rattle.ddt_resolver.specs.declared.results.Asked.{Asked}
 use Rattle.ddt_resolver.specs.AskStep.{AskStep}
 use Rattle.ddt_resolver.specs.State.{State, moved, last_nonce, most_pending, request_bytes}
 use Rattle.ddt_sim.specs.declared.exchange.Turn.{Turn}

@@ -9,14 +9,14 @@ use Rattle.ddt_register.specs.declared.register.Register.{Register}
 use Rattle.ddt_check.specs.Rules.{IsAccepted}
 use Rattle.ddt_check.specs.Zones.{roots}
 use Rattle.ddt_check.specs.Assignment.{assignment}
-use Rattle.ddt_resolver.specs.declared.answers.Asked.TheVariants as asked_as
-use Rattle.ddt_resolver.specs.declared.answers.AskError.{AskError}
-use Rattle.ddt_resolver.specs.declared.answers.AskError.TheVariants as ask_error
-use Rattle.ddt_resolver.specs.declared.answers.Heard.TheVariants as heard_as
-use Rattle.ddt_resolver.specs.declared.answers.Ignored.{Ignored}
-use Rattle.ddt_resolver.specs.declared.answers.Ignored.TheVariants.{UnknownNonce, Late}
-use Rattle.ddt_resolver.specs.declared.answers.Why.{Why}
-use Rattle.ddt_resolver.specs.declared.answers.Why.TheVariants.{NoReply, Loop, NotAuthoritative, Exhausted}
+use Rattle.ddt_resolver.specs.declared.results.Asked.TheVariants as asked_as
+use Rattle.ddt_resolver.specs.declared.results.AskError.{AskError}
+use Rattle.ddt_resolver.specs.declared.results.AskError.TheVariants as ask_error
+use Rattle.ddt_resolver.specs.declared.results.Heard.TheVariants as heard_as
+use Rattle.ddt_resolver.specs.declared.results.Ignored.{Ignored}
+use Rattle.ddt_resolver.specs.declared.results.Ignored.TheVariants.{UnknownNonce, Late}
+use Rattle.ddt_resolver.specs.declared.results.Why.{Why}
+use Rattle.ddt_resolver.specs.declared.results.Why.TheVariants.{NoReply, Loop, NotAuthoritative, Exhausted}
 use Rattle.ddt_resolver.specs.State.{State, last_nonce, most_pending}
 use Rattle.ddt_sim.specs.declared.schedule.Step.{Step}
 use Rattle.ddt_sim.specs.declared.schedule.Step.TheVariants.{Ask, Deliver}

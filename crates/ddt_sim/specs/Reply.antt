@@ -8,11 +8,11 @@ use Rattle.ddt_check.specs.Assignment.{assignment}
 use Rattle.ddt_ecm.specs.Request.{Message}
 use Rattle.ddt_node.specs.Server.{IsDdtRequest}
 use Rattle.ddt_cache.specs.Moment.{last_moment}
-use Rattle.ddt_resolver.specs.declared.answers.Outgoing.{Outgoing}
-use Rattle.ddt_resolver.specs.declared.answers.Heard.{Heard}
-use Rattle.ddt_resolver.specs.declared.answers.Heard.TheVariants as heard
-use Rattle.ddt_resolver.specs.declared.answers.Why.{Why}
-use Rattle.ddt_resolver.specs.declared.answers.Why.TheVariants.{Exhausted}
+use Rattle.ddt_resolver.specs.declared.results.Outgoing.{Outgoing}
+use Rattle.ddt_resolver.specs.declared.results.Heard.{Heard}
+use Rattle.ddt_resolver.specs.declared.results.Heard.TheVariants as heard
+use Rattle.ddt_resolver.specs.declared.results.Why.{Why}
+use Rattle.ddt_resolver.specs.declared.results.Why.TheVariants.{Exhausted}
 use Rattle.ddt_resolver.specs.State.{State, moved, last_nonce}
 use Rattle.ddt_resolver.specs.Act.{HearStep}
 use Rattle.ddt_resolver.specs.Order.{IsInOrder}

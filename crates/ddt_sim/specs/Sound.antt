@@ -19,15 +19,15 @@ use Rattle.ddt_check.specs.Says.{says}
 use Rattle.ddt_cache.specs.declared.entry.Entry.{Entry}
 use Rattle.ddt_cache.specs.Entry.{is_negative}
 use Rattle.ddt_resolver.specs.declared.pending.Pending.{Pending}
-use Rattle.ddt_resolver.specs.declared.answers.Asked.{Asked}
-use Rattle.ddt_resolver.specs.declared.answers.Asked.TheVariants as asked
-use Rattle.ddt_resolver.specs.declared.answers.AskError.{AskError}
-use Rattle.ddt_resolver.specs.declared.answers.Heard.{Heard}
-use Rattle.ddt_resolver.specs.declared.answers.Heard.TheVariants as heard
-use Rattle.ddt_resolver.specs.declared.answers.Ticked.{Ticked}
-use Rattle.ddt_resolver.specs.declared.answers.Ticked.TheVariants as ticked
-use Rattle.ddt_resolver.specs.declared.answers.Why.{Why}
-use Rattle.ddt_resolver.specs.declared.answers.Why.TheVariants.{NoReply, Exhausted}
+use Rattle.ddt_resolver.specs.declared.results.Asked.{Asked}
+use Rattle.ddt_resolver.specs.declared.results.Asked.TheVariants as asked
+use Rattle.ddt_resolver.specs.declared.results.AskError.{AskError}
+use Rattle.ddt_resolver.specs.declared.results.Heard.{Heard}
+use Rattle.ddt_resolver.specs.declared.results.Heard.TheVariants as heard
+use Rattle.ddt_resolver.specs.declared.results.Ticked.{Ticked}
+use Rattle.ddt_resolver.specs.declared.results.Ticked.TheVariants as ticked
+use Rattle.ddt_resolver.specs.declared.results.Why.{Why}
+use Rattle.ddt_resolver.specs.declared.results.Why.TheVariants.{NoReply, Exhausted}
 use Rattle.ddt_resolver.specs.Records.{outcome_at}
 use Rattle.ddt_resolver.specs.State.{State, fresh, moved, dropped}
 use Rattle.ddt_resolver.specs.Order.{IsInOrder}

@@ -6,9 +6,9 @@ use Rattle.ddt_path.specs.declared.locator.Locator.{Locator}
 use Rattle.ddt_path.specs.declared.xeid.Xeid.{Xeid}
 use Rattle.ddt_register.specs.declared.register.Register.{Register}
 use Rattle.ddt_resolver.specs.declared.pending.Pending.{Pending}
-use Rattle.ddt_resolver.specs.declared.answers.Outgoing.{Outgoing}
-use Rattle.ddt_resolver.specs.declared.answers.Heard.{Heard as Hearing}
-use Rattle.ddt_resolver.specs.declared.answers.Why.TheVariants.{NoReply}
+use Rattle.ddt_resolver.specs.declared.results.Outgoing.{Outgoing}
+use Rattle.ddt_resolver.specs.declared.results.Heard.{Heard as Hearing}
+use Rattle.ddt_resolver.specs.declared.results.Why.TheVariants.{NoReply}
 use Rattle.ddt_resolver.specs.declared.step.Progress.{Progress}
 use Rattle.ddt_resolver.specs.declared.step.Progress.TheVariants as progress
 use Rattle.ddt_resolver.specs.State.{State, request_bytes, patience}

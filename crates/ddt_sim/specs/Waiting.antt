@@ -6,7 +6,7 @@ use Rattle.ddt_path.specs.declared.xeid.Xeid.{Xeid}
 use Rattle.ddt_path.specs.declared.locator.Locator.{Locator}
 use Rattle.ddt_wire.specs.Address.{IsAddress}
 use Rattle.ddt_resolver.specs.declared.pending.Pending.{Pending}
-use Rattle.ddt_resolver.specs.declared.answers.Outgoing.{Outgoing}
+use Rattle.ddt_resolver.specs.declared.results.Outgoing.{Outgoing}
 use Rattle.ddt_resolver.specs.State.{State, server, request_bytes, patience}
 use Rattle.ddt_resolver.specs.Bound.{measure}
 use Rattle.ddt_sim.specs.declared.exchange.Turn.{Turn}

@@ -7,7 +7,7 @@ use Rattle.ddt_register.specs.declared.register.Register.{Register}
 use Rattle.ddt_ecm.specs.Request.{Message}
 use Rattle.ddt_node.specs.Server.{IsDdtRequest}
 use Rattle.ddt_cache.specs.Moment.{last_moment}
-use Rattle.ddt_resolver.specs.declared.answers.Outgoing.{Outgoing}
+use Rattle.ddt_resolver.specs.declared.results.Outgoing.{Outgoing}
 use Rattle.ddt_resolver.specs.declared.step.Reply.{Reply}
 use Rattle.ddt_resolver.specs.declared.step.Reply.TheVariants.{ToAsk, ToDatagram, ToTick}
 use Rattle.ddt_resolver.specs.declared.step.Progress.{Progress}

@@ -5,7 +5,7 @@ ghost use Rattle.ddt_path.specs.declared.xeid.Xeid.{Xeid as AnXeid};
 ghost use Rattle.ddt_path.specs.declared.record.Outcome.{Outcome as AnOutcome};
 ghost use Rattle.ddt_register.specs.declared.register.Register.{Register};
 ghost use Rattle.ddt_resolver.specs.State.{moved};
-ghost use Rattle.ddt_resolver.specs.declared.answers.Asked.TheVariants.{Answer};
+ghost use Rattle.ddt_resolver.specs.declared.results.Asked.TheVariants.{Answer};
 ghost use Rattle.ddt_resolver.specs.Bound.{StartsWithin};
 ghost use Rattle.ddt_wire.specs.Address.{IsAddress};
 ghost use Rattle.ddt_sim.specs.Sound.{IsSound};

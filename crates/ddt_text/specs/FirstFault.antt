@@ -17,7 +17,7 @@ use Rattle.ddt_path.specs.declared.form.Form.TheVariants.{Range, Block}
 use Rattle.ddt_path.specs.declared.form.PrefixFault.{PrefixFault}
 use Rattle.ddt_path.specs.declared.form.PrefixFault.TheVariants as prefix_fault
 use Rattle.ddt_path.specs.Path.{prefix_of}
-use Rattle.ddt_reading.specs.Steps.{◌>>=◌}
+use Rattle.ddt_path.specs.Steps.{◌>>=◌}
 use Rattle.ddt_text.specs.declared.fault.TextFault.{TextFault}
 use Rattle.ddt_text.specs.declared.fault.TextFault.TheVariants.{Empty, Bracket, Instance, Address, Length, TailNotZero, Trailing}
 

@@ -6,7 +6,7 @@ ghost use Rattle.ddt_path.specs.Path.{address_number, address_width};
 ghost use Rattle.ddt_text.specs.Grammar.{SpellsLocator};
 ghost use Rattle.ddt_text.specs.FirstFault.{address_in, locator_in};
 ghost use Rattle.ddt_text.specs.Written.{written_locator};
-ghost use Rattle.ddt_reading.specs.Reader.{AreRead, IsAny};
+ghost use Rattle.ddt_path.specs.Reader.{AreRead, IsAny};
 
 use crate::fault::TextFault;
 use ddt_path::Locator;

@@ -6,7 +6,7 @@ ghost use Rattle.ddt_path.specs.Path.{path, IsForm};
 ghost use Rattle.ddt_text.specs.Grammar.{SpellsPrefix};
 ghost use Rattle.ddt_text.specs.FirstFault.{prefix_or_fault, range_in, block_in, bracketed_prefix_in, prefix_in};
 ghost use Rattle.ddt_text.specs.Written.{written_prefix};
-ghost use Rattle.ddt_reading.specs.Reader.{AreRead, IsAny};
+ghost use Rattle.ddt_path.specs.Reader.{AreRead, IsAny};
 
 use crate::fault::TextFault;
 use crate::locator_text::{LocatorText, read_address};

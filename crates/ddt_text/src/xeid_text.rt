@@ -6,7 +6,7 @@ ghost use Rattle.ddt_path.specs.Path.{address_number, address_width};
 ghost use Rattle.ddt_text.specs.Grammar.{SpellsXeid};
 ghost use Rattle.ddt_text.specs.FirstFault.{xeid_in};
 ghost use Rattle.ddt_text.specs.Written.{written_xeid};
-ghost use Rattle.ddt_reading.specs.Reader.{AreRead, IsAny};
+ghost use Rattle.ddt_path.specs.Reader.{AreRead, IsAny};
 
 use crate::fault::TextFault;
 use crate::locator_text::{LocatorText, read_address};

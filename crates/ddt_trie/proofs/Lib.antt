@@ -6,3 +6,5 @@ pub mod LeafLemmas
 pub mod DescentLemmas
 pub mod ContentLemmas
 pub mod GapLemmas
+pub mod HashKeyLemmas
+pub mod HashTableLemmas

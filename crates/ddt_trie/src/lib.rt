@@ -1,15 +1,22 @@
 //! Maps from prefixes to values: what a server is in charge of, and what a resolver remembers, is kept in one. The
-//! trait says what such a map answers; `ListMap` keeps its entries in a list, `TrieMap` in a binary tree.
+//! trait says what such a map answers; `ListMap` keeps its entries in a list, `TrieMap` in a binary tree, `HashedMap` in
+//! a tree with a hash table beside it, which is for a server: filled once, then asked for every datagram.
 //!
-//! In reading order: `prefix_map` (the trait), `list_map`, `tree`, `trie_map`, `laws`.
+//! In reading order: `prefix_map` (the trait), `list_map`, `tree`, `trie_map`; `hash_key`, `hash_table`,
+//! `hashed_map`; `laws`.
 #![tactic(auto)]
 
+mod hash_key;
+mod hash_table;
+mod hashed_map;
 mod laws;
 mod list_map;
 mod prefix_map;
 mod tree;
 mod trie_map;
 
+pub use hash_key::Twin;
+pub use hashed_map::HashedMap;
 pub use laws::{free_below_by_members, free_by_members, longest_by_entries, one_longest};
 pub use list_map::ListMap;
 pub use prefix_map::{MOST_ENTRIES, PrefixMap};

@@ -14,7 +14,7 @@ use Rattle.ddt_wire.specs.declared.address.AddressFault.{AddressFault}
 use Rattle.ddt_wire.specs.declared.address.AddressFault.TheVariants as address_fault
 use Rattle.ddt_wire.specs.declared.eid.EidFault.{EidFault}
 use Rattle.ddt_wire.specs.declared.eid.EidFault.TheVariants.{Short, EidFamily, Lcaf, MaskLength, TailNotZero}
-use Rattle.ddt_reading.specs.Steps.{◌>>=◌, in_words}
+use Rattle.ddt_path.specs.Steps.{◌>>=◌, in_words}
 use Rattle.ddt_wire.specs.Address.{no_address, ipv4, ipv6, lcaf, ipv4_len, ipv6_len, family_and_address, IsAddress, address_at}
 
 -- ---- what spells a prefix

@@ -7,7 +7,7 @@ use Rattle.ddt_wire.specs.declared.address.AddressFault.{AddressFault}
 use Rattle.ddt_wire.specs.declared.address.AddressFault.TheVariants as address_fault
 use Rattle.ddt_wire.specs.declared.fault.ReferralFault.{ReferralFault}
 use Rattle.ddt_wire.specs.declared.fault.ReferralFault.TheVariants.{Short, LocatorFamily}
-use Rattle.ddt_reading.specs.Steps.{in_words}
+use Rattle.ddt_path.specs.Steps.{in_words}
 use Rattle.ddt_wire.specs.Addresses.{SpellsAddresses, written_behind, addresses_at}
 
 -- these bytes spell locators, one after the other; all but AFI and address is ignored

@@ -7,7 +7,7 @@ use Rattle.ddt_wire.specs.declared.head.HeadFault.{HeadFault}
 use Rattle.ddt_wire.specs.declared.negative_reply.NegativeReply.{NegativeReply}
 use Rattle.ddt_wire.specs.declared.negative_reply.ReplyFault.{ReplyFault}
 use Rattle.ddt_wire.specs.declared.negative_reply.ReplyFault.TheVariants as fault
-use Rattle.ddt_reading.specs.Steps.{◌>>=◌, in_words}
+use Rattle.ddt_path.specs.Steps.{◌>>=◌, in_words}
 use Rattle.ddt_wire.specs.Head.{head_bytes, act_place, action_number, head_words, head_at}
 use Rattle.ddt_wire.specs.MessageType.{map_reply}
 use Rattle.ddt_wire.specs.Eid.{SpellsEid, written_eid, written_mask_len, eid_at, eid_words}

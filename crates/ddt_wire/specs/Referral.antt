@@ -12,7 +12,7 @@ use Rattle.ddt_wire.specs.declared.head.HeadFault.{HeadFault}
 use Rattle.ddt_wire.specs.declared.referral.LentRecord.{LentRecord}
 use Rattle.ddt_wire.specs.declared.fault.ReferralFault.{ReferralFault}
 use Rattle.ddt_wire.specs.declared.fault.ReferralFault.TheVariants as fault
-use Rattle.ddt_reading.specs.Steps.{◌>>=◌, in_words}
+use Rattle.ddt_path.specs.Steps.{◌>>=◌, in_words}
 use Rattle.ddt_wire.specs.Head.{head_bytes, act_place, action_number, head_words, head_at}
 use Rattle.ddt_wire.specs.MessageType.{map_referral}
 use Rattle.ddt_wire.specs.Eid.{SpellsEid, written_eid, written_mask_len, eid_at, eid_words}

@@ -5,7 +5,7 @@ ghost use Rattle.std.specs.Prelude.{◌≡◌, ◌≤◌, ◌++◌, Err, length,
 ghost use Rattle.std.specs.List.{flat_map};
 ghost use Rattle.std.specs.Iterator.{YieldsFirst, item_count};
 ghost use Rattle.ddt_path.specs.Locators.{most_locators};
-ghost use Rattle.ddt_reading.specs.Steps.{IsReadAs};
+ghost use Rattle.ddt_path.specs.Steps.{IsReadAs};
 ghost use Rattle.ddt_wire.specs.Address.{IsAddress};
 ghost use Rattle.ddt_wire.specs.Addresses.{written_behind, behind_at, addresses_at, StandsAfter};
 

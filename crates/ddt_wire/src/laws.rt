@@ -4,8 +4,8 @@
 ghost use Rattle.std.specs.Prelude.{ℕ, ◌≤◌, ◌≡◌, ◌↔◌, List, ◌++◌, length, take, Ok};
 ghost use Rattle.std.specs.Result.{IsErr};
 ghost use Rattle.ddt_path.specs.declared.record.ReferralRecord.{ReferralRecord};
-ghost use Rattle.ddt_reading.specs.Reader.{AreRead};
-ghost use Rattle.ddt_reading.specs.Steps.{IsBytes};
+ghost use Rattle.ddt_path.specs.Reader.{AreRead};
+ghost use Rattle.ddt_path.specs.Steps.{IsBytes};
 ghost use Rattle.ddt_wire.specs.Eid.{SpellsEid, written_eid, written_mask_len, eid_at};
 ghost use Rattle.ddt_wire.specs.laws.Statements.{IsPrefix, IsRecord, MessagesAreRead, RecordsComeBack, IsReply};
 ghost use Rattle.ddt_wire.specs.Referral.{Spells, message_of, written};

@@ -6,9 +6,9 @@ use Rattle.std.proofs.lemmas.Bool.{ltb-false, leb-true, le-ltb, le-leb, eqb-true
 use Rattle.std.proofs.lemmas.List.{take_at, drop_at}
 use Rattle.byteorder.specs.Endian.{big_number}
 use Rattle.byteorder.specs.Numbers.{big_number-reads_back}
-use Rattle.ddt_reading.specs.Steps.{IsBytes}
-use Rattle.ddt_reading.specs.laws.Step.{guard_parts, chosen, ok_is}
-use Rattle.ddt_reading.specs.laws.Byte.{HasFront-take, ◌beside◌, two_bytes, IsBytes-number, IsBetween, ◌followed_by◌, stands, number_stands, known_stands, byte_stands, known_byte, front_taken, number_fits, IsBytes-drop, IsBytes-take}
+use Rattle.ddt_path.specs.Steps.{IsBytes}
+use Rattle.ddt_path.specs.laws.Step.{guard_parts, chosen, ok_is}
+use Rattle.ddt_path.specs.laws.Byte.{HasFront-take, ◌beside◌, two_bytes, IsBytes-number, IsBetween, ◌followed_by◌, stands, number_stands, known_stands, byte_stands, known_byte, front_taken, number_fits, IsBytes-drop, IsBytes-take}
 use Rattle.ddt_ecm.specs.declared.fault.RequestFault.{RequestFault}
 use Rattle.ddt_ecm.specs.Checksum.{ones_sum, is_right}
 use Rattle.ddt_ecm.specs.Ipv4Header.{pseudo4, Ipv4Header, ipv4_fields, SpellsIpv4, header_len, has_length4, ipv4_at}

@@ -14,13 +14,13 @@ use Rattle.ddt_path.specs.Path.{path, digits, family, are_zero, address_width, a
 use Rattle.ddt_path.specs.FormOf.{padded_number, block_of, form_of}
 use Rattle.ddt_path.specs.FormLemmas.{whole, none_left, take_len}
 use Rattle.ddt_path.specs.DigitLemmas.{length-digits}
-use Rattle.ddt_reading.specs.Steps.{in_words, IsBytes}
+use Rattle.ddt_path.specs.Steps.{in_words, IsBytes}
 use Rattle.ddt_wire.specs.Address.{IsAddress}
 use Rattle.ddt_wire.specs.Eid.{SpellsEid, Plain, Inside, Instances, eid_at}
 use Rattle.ddt_wire.specs.Referral.{bit}
 use Rattle.ddt_wire.specs.laws.Statements.{IsPrefix}
-use Rattle.ddt_reading.specs.laws.Step.{bind_parts, guard_parts, words_ok, guard_ok, ok_is}
-use Rattle.ddt_reading.specs.laws.Byte.{HasFront, HasFront-fits, IsBetween, ◌followed_by◌, stands, number_stands, known_stands, byte_stands, number_fits, IsBytes-drop}
+use Rattle.ddt_path.specs.laws.Step.{bind_parts, guard_parts, words_ok, guard_ok, ok_is}
+use Rattle.ddt_path.specs.laws.Byte.{HasFront, HasFront-fits, IsBetween, ◌followed_by◌, stands, number_stands, known_stands, byte_stands, number_fits, IsBytes-drop}
 use Rattle.ddt_wire.specs.Addresses.{addresses_at}
 use Rattle.ddt_wire.specs.laws.Addresses.{AreAddresses, addresses_take, addresses_again}
 use Rattle.ddt_wire.specs.laws.CutPrefix.{form_of-named}

@@ -7,12 +7,12 @@ use Rattle.ddt_path.specs.declared.locator.Locator.{Locator}
 use Rattle.ddt_path.specs.declared.locator.Locator.TheVariants.{V4, V6}
 use Rattle.ddt_path.specs.declared.xeid.Xeid.{Xeid}
 use Rattle.ddt_path.specs.Path.{address_width, xeid_path}
-use Rattle.ddt_reading.specs.Steps.{IsBytes}
+use Rattle.ddt_path.specs.Steps.{IsBytes}
 use Rattle.ddt_wire.specs.Referral.{bit}
-use Rattle.ddt_reading.specs.Reader.{AreRead}
-use Rattle.ddt_reading.specs.laws.Reader.{are_read}
-use Rattle.ddt_reading.specs.laws.Step.{bind_parts, guard_parts, ok_is}
-use Rattle.ddt_reading.specs.laws.Byte.{◌beside◌, two_bytes, known_stands, IsBytes-drop, IsBytes-number}
+use Rattle.ddt_path.specs.Reader.{AreRead}
+use Rattle.ddt_path.specs.laws.Reader.{are_read}
+use Rattle.ddt_path.specs.laws.Step.{bind_parts, guard_parts, ok_is}
+use Rattle.ddt_path.specs.laws.Byte.{◌beside◌, two_bytes, known_stands, IsBytes-drop, IsBytes-number}
 use Rattle.ddt_wire.specs.laws.Addresses.{address_is_bytes, addresses_are_bytes}
 use Rattle.ddt_wire.specs.laws.Eid.{eid_is_bytes}
 use Rattle.ddt_ecm.specs.declared.fault.RequestFault.{RequestFault}

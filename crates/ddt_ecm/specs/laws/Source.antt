@@ -7,10 +7,10 @@ use Rattle.std.proofs.lemmas.List.{length-take-le}
 use Rattle.byteorder.specs.Endian.{big_number}
 use Rattle.byteorder.specs.Numbers.{big_number-reads_back}
 use Rattle.ddt_path.specs.declared.locator.Locator.{Locator}
-use Rattle.ddt_reading.specs.Steps.{in_words, IsBytes}
+use Rattle.ddt_path.specs.Steps.{in_words, IsBytes}
 use Rattle.ddt_wire.specs.Address.{family_and_address, IsAddress, address_at}
-use Rattle.ddt_reading.specs.laws.Step.{bind_parts, words_ok, guard_parts, chosen, ok_is}
-use Rattle.ddt_reading.specs.laws.Byte.{HasFront, IsBetween, ◌followed_by◌, stands, known_stands, byte_stands, number_taken, front_taken, number_fits, IsBytes-drop, IsBytes-take}
+use Rattle.ddt_path.specs.laws.Step.{bind_parts, words_ok, guard_parts, chosen, ok_is}
+use Rattle.ddt_path.specs.laws.Byte.{HasFront, IsBetween, ◌followed_by◌, stands, known_stands, byte_stands, number_taken, front_taken, number_fits, IsBytes-drop, IsBytes-take}
 use Rattle.ddt_wire.specs.laws.Addresses.{address_takes, address_again}
 use Rattle.ddt_wire.specs.laws.Eid.{plain_number, plain_long, not_lcaf, afi_some}
 use Rattle.ddt_ecm.specs.declared.fault.RequestFault.{RequestFault}

@@ -4,8 +4,8 @@ use Rattle.std.specs.List.{AllByRecursion}
 use Rattle.ddt_path.specs.declared.locator.Locator.{Locator}
 use Rattle.ddt_path.specs.declared.xeid.Xeid.{Xeid}
 use Rattle.ddt_wire.specs.Address.{IsAddress}
-use Rattle.ddt_reading.specs.Steps.{IsBytes}
-use Rattle.ddt_reading.specs.Reader.{AreRead}
+use Rattle.ddt_path.specs.Steps.{IsBytes}
+use Rattle.ddt_path.specs.Reader.{AreRead}
 use Rattle.ddt_ecm.specs.UdpHeader.{control_port}
 use Rattle.ddt_ecm.specs.Request.{Message, Spells, message_in, written}
 

@@ -2,8 +2,8 @@
 use Rattle.std.proofs.Common.{◌≡◌, ℕ, zero, suc, ◌+◌, ◌*◌, ◌<◌, ◌≤◌, true, false, ltb, eqb, List, [], ◌∷◌, ◌++◌, length, arith, inl, inr}
 use Rattle.std.specs.Int.{w16, to_be_bytes}
 use Rattle.std.proofs.lemmas.Bool.{cases_lt, lt-ltb, le-ltb, ne_eqb}
-use Rattle.ddt_reading.specs.Steps.{IsBytes}
-use Rattle.ddt_reading.specs.laws.Byte.{IsBytes-drop}
+use Rattle.ddt_path.specs.Steps.{IsBytes}
+use Rattle.ddt_path.specs.laws.Byte.{IsBytes-drop}
 use Rattle.ddt_ecm.specs.Checksum.{ones_add, ones_sum, complement}
 use Rattle.ddt_ecm.specs.UdpHeader.{not_absent}
 

@@ -4,9 +4,9 @@ use Rattle.std.specs.Prelude.{◌||◌, ◌⊎◌, not}
 use Rattle.std.proofs.lemmas.Bool.{eqb-true, eq-eqb, not-false, or_cases, or_left, or_right}
 use Rattle.byteorder.specs.Endian.{big_number}
 use Rattle.byteorder.specs.Numbers.{big_number-reads_back}
-use Rattle.ddt_reading.specs.Steps.{IsBytes}
-use Rattle.ddt_reading.specs.laws.Step.{guard_parts, ok_is}
-use Rattle.ddt_reading.specs.laws.Byte.{◌followed_by◌, number_stands, known_stands, number_fits, IsBytes-drop}
+use Rattle.ddt_path.specs.Steps.{IsBytes}
+use Rattle.ddt_path.specs.laws.Step.{guard_parts, ok_is}
+use Rattle.ddt_path.specs.laws.Byte.{◌followed_by◌, number_stands, known_stands, number_fits, IsBytes-drop}
 use Rattle.ddt_ecm.specs.declared.fault.RequestFault.{RequestFault}
 use Rattle.ddt_ecm.specs.Checksum.{ones_sum, is_right}
 use Rattle.ddt_ecm.specs.UdpHeader.{udp_fields, SpellsUdp, udp_at}

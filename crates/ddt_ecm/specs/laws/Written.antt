@@ -9,10 +9,10 @@ use Rattle.ddt_path.specs.declared.locator.Locator.{Locator}
 use Rattle.ddt_path.specs.declared.locator.Locator.TheVariants.{V4, V6}
 use Rattle.ddt_path.specs.declared.xeid.Xeid.{Xeid}
 use Rattle.ddt_path.specs.Path.{address_width, xeid_path}
-use Rattle.ddt_reading.specs.Steps.{IsBytes}
+use Rattle.ddt_path.specs.Steps.{IsBytes}
 use Rattle.ddt_wire.specs.Address.{family_and_address, IsAddress}
 use Rattle.ddt_wire.specs.Eid.{SpellsEid, form_mask_len, written_eid, written_mask_len}
-use Rattle.ddt_reading.specs.laws.Byte.{bytes_back, ◌beside◌, two_bytes, IsBytes-nil, IsBytes-number}
+use Rattle.ddt_path.specs.laws.Byte.{bytes_back, ◌beside◌, two_bytes, IsBytes-nil, IsBytes-number}
 use Rattle.ddt_wire.specs.laws.Addresses.{addresses_spell}
 use Rattle.ddt_wire.specs.laws.Eid.{eid_spells}
 use Rattle.ddt_ecm.specs.Checksum.{ones_sum, complement}

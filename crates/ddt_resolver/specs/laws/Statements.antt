@@ -6,7 +6,7 @@ use Rattle.ddt_path.specs.declared.record.ReferralRecord.{ReferralRecord}
 use Rattle.ddt_path.specs.Path.{xeid_path}
 use Rattle.ddt_cache.specs.Moment.{last_moment}
 use Rattle.ddt_resolver.specs.declared.pending.Pending.{Pending}
-use Rattle.ddt_resolver.specs.declared.answers.Heard.{Heard}
+use Rattle.ddt_resolver.specs.declared.results.Heard.{Heard}
 use Rattle.ddt_resolver.specs.State.{State, moved, server}
 use Rattle.ddt_resolver.specs.Records.{IsAbout, NamesServer}
 use Rattle.ddt_resolver.specs.TakeUp.{Tells}

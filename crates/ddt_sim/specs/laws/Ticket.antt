@@ -4,10 +4,10 @@ use Rattle.std.specs.Option.{option_map_or}
 use Rattle.std.specs.FinMap.{get}
 use Rattle.ddt_path.specs.declared.xeid.Xeid.{Xeid}
 use Rattle.ddt_resolver.specs.declared.pending.Pending.{Pending}
-use Rattle.ddt_resolver.specs.declared.answers.Outgoing.{Outgoing}
-use Rattle.ddt_resolver.specs.declared.answers.Asked.TheVariants as asked_as
-use Rattle.ddt_resolver.specs.declared.answers.Heard.TheVariants as heard_as
-use Rattle.ddt_resolver.specs.declared.answers.Ticked.TheVariants as ticked_as
+use Rattle.ddt_resolver.specs.declared.results.Outgoing.{Outgoing}
+use Rattle.ddt_resolver.specs.declared.results.Asked.TheVariants as asked_as
+use Rattle.ddt_resolver.specs.declared.results.Heard.TheVariants as heard_as
+use Rattle.ddt_resolver.specs.declared.results.Ticked.TheVariants as ticked_as
 use Rattle.ddt_resolver.specs.declared.step.Reply.{Reply}
 use Rattle.ddt_resolver.specs.declared.step.Reply.TheVariants.{ToAsk, ToDatagram, ToTick}
 use Rattle.ddt_resolver.specs.declared.step.Progress.{Progress}

@@ -17,9 +17,9 @@ use Rattle.ddt_text.specs.FirstFault.{before, onward, value_or, brackets_in, iid
 use Rattle.ddt_text.specs.laws.Byte.{Lacks, lacks-append, before_at, onward_at, before_none, onward_none, cut_none, cut_at, plain-decimal, lacks_slash, lacks_bracket, plain_bytes, decimal_bytes}
 use Rattle.ddt_text.specs.laws.Number.{number_in-sound, number_in-complete}
 use Rattle.ddt_text.specs.laws.Address.{address_in-sound, address_in-complete, plain-locator}
-use Rattle.ddt_reading.specs.Steps.{IsBytes}
-use Rattle.ddt_reading.specs.laws.Step.{bind_parts}
-use Rattle.ddt_reading.specs.laws.Byte.{IsBytes-cons, IsBytes-nil, IsBytes-append}
+use Rattle.ddt_path.specs.Steps.{IsBytes}
+use Rattle.ddt_path.specs.laws.Step.{bind_parts}
+use Rattle.ddt_path.specs.laws.Byte.{IsBytes-cons, IsBytes-nil, IsBytes-append}
 use Rattle.ddt_text.specs.laws.Part.{value_or-some, iid_in-sound, iid_in-complete, brackets_in-sound, brackets_in-complete}
 
 prefix_or_fault-sound : (r : Result (List ℕ) PrefixFault) (path : List ℕ) → prefix_or_fault r ≡ Ok path → r ≡ Ok path

@@ -8,9 +8,9 @@ use Rattle.ddt_text.specs.declared.fault.TextFault.{TextFault}
 use Rattle.ddt_text.specs.declared.fault.TextFault.TheVariants.{Address}
 use Rattle.ddt_text.specs.Grammar.{SpellsGroups, SpellsLocator, SpellsXeid, SpellsPrefix}
 use Rattle.ddt_text.specs.FirstFault.{address_in, locator_in, xeid_in, prefix_in}
-use Rattle.ddt_reading.specs.Steps.{IsBytes}
-use Rattle.ddt_reading.specs.Reader.{AreRead, IsAny}
-use Rattle.ddt_reading.specs.laws.Reader.{are_read}
+use Rattle.ddt_path.specs.Steps.{IsBytes}
+use Rattle.ddt_path.specs.Reader.{AreRead, IsAny}
+use Rattle.ddt_path.specs.laws.Reader.{are_read}
 use Rattle.ddt_text.specs.laws.Byte.{plain_bytes}
 use Rattle.ddt_text.specs.laws.Address.{dotted_has_dot, address_in-sound, address_in-complete, plain-locator}
 use Rattle.ddt_text.specs.laws.Part.{value_or-some}

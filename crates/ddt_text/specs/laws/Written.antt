@@ -21,8 +21,8 @@ use Rattle.ddt_path.specs.FormLemmas.{form_of-path}
 use Rattle.ddt_path.specs.laws.Prefix.{prefix_of-made}
 use Rattle.ddt_text.specs.Grammar.{SpellsLocator, SpellsXeid, SpellsPrefix}
 use Rattle.ddt_text.specs.Written.{written_locator, written_xeid, written_form, written_prefix}
-use Rattle.ddt_reading.specs.Steps.{IsBytes}
-use Rattle.ddt_reading.specs.laws.Byte.{IsBytes-number, from_16_bytes}
+use Rattle.ddt_path.specs.Steps.{IsBytes}
+use Rattle.ddt_path.specs.laws.Byte.{IsBytes-number, from_16_bytes}
 use Rattle.ddt_text.specs.laws.Byte.{Lacks}
 use Rattle.ddt_text.specs.laws.Address.{colon_hex-narrower}
 

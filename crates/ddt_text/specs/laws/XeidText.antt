@@ -7,9 +7,9 @@ use Rattle.ddt_text.specs.Grammar.{SpellsXeid}
 use Rattle.ddt_text.specs.FirstFault.{before, onward, value_or, brackets_in, iid_in, number_in, nothing_after, address_in, xeid_in}
 use Rattle.ddt_text.specs.laws.Byte.{before_none, onward_none, cut_none, plain-decimal, lacks_slash, lacks_bracket, plain_bytes, decimal_bytes}
 use Rattle.ddt_text.specs.laws.Address.{address_in-sound, address_in-complete, plain-locator}
-use Rattle.ddt_reading.specs.Steps.{IsBytes}
-use Rattle.ddt_reading.specs.laws.Step.{bind_parts}
-use Rattle.ddt_reading.specs.laws.Byte.{IsBytes-cons, IsBytes-append}
+use Rattle.ddt_path.specs.Steps.{IsBytes}
+use Rattle.ddt_path.specs.laws.Step.{bind_parts}
+use Rattle.ddt_path.specs.laws.Byte.{IsBytes-cons, IsBytes-append}
 use Rattle.ddt_text.specs.laws.Part.{value_or-some, iid_in-sound, iid_in-complete, brackets_in-sound, brackets_in-complete}
 
 shape : (n : ℕ) (address : List ℕ) → (91 ∷ []) ++ decimal n ++ (93 ∷ []) ++ address ≡ 91 ∷ (decimal n ++ 93 ∷ address)

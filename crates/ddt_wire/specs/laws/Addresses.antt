@@ -10,9 +10,9 @@ use Rattle.byteorder.specs.Endian.{big_number}
 use Rattle.byteorder.specs.Numbers.{big_number-reads_back}
 use Rattle.ddt_path.specs.declared.locator.Locator.{Locator}
 use Rattle.ddt_path.specs.declared.locator.Locator.TheVariants.{V4, V6}
-use Rattle.ddt_reading.specs.Steps.{◌>>=◌, IsBytes}
-use Rattle.ddt_reading.specs.laws.Step.{bind_ok, guard_ok, chosen, ok_is}
-use Rattle.ddt_reading.specs.laws.Byte.{HasFront, HasFront-then, front_taken, number_taken, number_taken_at, number_fits, IsBytes-drop, IsBytes-take, IsBytes-append, IsBytes-nil, ◌beside◌, IsBytes-number}
+use Rattle.ddt_path.specs.Steps.{◌>>=◌, IsBytes}
+use Rattle.ddt_path.specs.laws.Step.{bind_ok, guard_ok, chosen, ok_is}
+use Rattle.ddt_path.specs.laws.Byte.{HasFront, HasFront-then, front_taken, number_taken, number_taken_at, number_fits, IsBytes-drop, IsBytes-take, IsBytes-append, IsBytes-nil, ◌beside◌, IsBytes-number}
 use Rattle.ddt_wire.specs.declared.address.AddressFault.{AddressFault}
 use Rattle.ddt_wire.specs.declared.address.AddressFault.TheVariants.{Short, Family}
 use Rattle.ddt_wire.specs.Address.{family_and_address, IsAddress, address_at}

@@ -16,12 +16,12 @@ use Rattle.ddt_path.specs.declared.form.PrefixFault.TheVariants as prefix_fault
 use Rattle.ddt_path.specs.Path.{path, digits, are_zero, address_width, prefix_of, IsForm}
 use Rattle.ddt_wire.specs.declared.eid.EidFault.{EidFault}
 use Rattle.ddt_wire.specs.declared.eid.EidFault.TheVariants.{Short, Lcaf, MaskLength}
-use Rattle.ddt_reading.specs.Steps.{◌>>=◌, in_words, IsBytes}
+use Rattle.ddt_path.specs.Steps.{◌>>=◌, in_words, IsBytes}
 use Rattle.ddt_wire.specs.Address.{afi, family_and_address, IsAddress, address_at}
 use Rattle.ddt_wire.specs.Eid.{from_address, from_prefix, block_at, inside_at, lcaf_at, eid_at, has_length, instance_head, instance_lcaf, IsInstance, SpellsEid, Plain, Inside, Instances, written_form, form_mask_len, written_eid, written_mask_len}
 use Rattle.ddt_wire.specs.laws.Statements.{IsPrefix}
-use Rattle.ddt_reading.specs.laws.Step.{bind_ok, words_ok, guard_ok, held_ok, chosen, ok_is, err_not_ok, err_unless}
-use Rattle.ddt_reading.specs.laws.Byte.{HasFront, HasFront-take, HasFront-fits, IsBetween, ◌followed_by◌, stands, number_stands, known_stands, byte_stands, known_byte, number_fits, IsBytes-drop, IsBytes-number, ◌beside◌, two_bytes}
+use Rattle.ddt_path.specs.laws.Step.{bind_ok, words_ok, guard_ok, held_ok, chosen, ok_is, err_not_ok, err_unless}
+use Rattle.ddt_path.specs.laws.Byte.{HasFront, HasFront-take, HasFront-fits, IsBetween, ◌followed_by◌, stands, number_stands, known_stands, byte_stands, known_byte, number_fits, IsBytes-drop, IsBytes-number, ◌beside◌, two_bytes}
 use Rattle.ddt_wire.specs.laws.Addresses.{address_takes, address_again, address_is_bytes}
 use Rattle.ddt_wire.specs.laws.CutPrefix.{form_of-named}
 

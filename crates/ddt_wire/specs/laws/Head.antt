@@ -6,10 +6,10 @@ use Rattle.byteorder.specs.Endian.{big_number}
 use Rattle.byteorder.specs.Numbers.{big_number-reads_back}
 use Rattle.ddt_wire.specs.declared.head.Head.{Head}
 use Rattle.ddt_wire.specs.declared.head.HeadFault.{HeadFault}
-use Rattle.ddt_reading.specs.Steps.{IsBytes}
+use Rattle.ddt_path.specs.Steps.{IsBytes}
 use Rattle.ddt_wire.specs.Head.{head_bytes, IsHead, head_of, head_at}
-use Rattle.ddt_reading.specs.laws.Step.{guard_parts, ok_is}
-use Rattle.ddt_reading.specs.laws.Byte.{IsBetween, ◌followed_by◌, ◌beside◌, two_bytes, number_stands, known_stands, byte_stands, number_fits, IsBytes-drop, IsBytes-number}
+use Rattle.ddt_path.specs.laws.Step.{guard_parts, ok_is}
+use Rattle.ddt_path.specs.laws.Byte.{IsBetween, ◌followed_by◌, ◌beside◌, two_bytes, number_stands, known_stands, byte_stands, number_fits, IsBytes-drop, IsBytes-number}
 
 -- ---- what is read is spelled so
 

@@ -18,8 +18,8 @@ use Rattle.ddt_wire.specs.declared.fault.ReferralFault.TheVariants as fault
 use Rattle.ddt_wire.specs.declared.negative_reply.NegativeReply.{NegativeReply}
 use Rattle.ddt_wire.specs.declared.negative_reply.ReplyFault.{ReplyFault}
 use Rattle.ddt_wire.specs.declared.negative_reply.ReplyFault.TheVariants as reply_fault
-use Rattle.ddt_reading.specs.Steps.{in_words, IsBytes}
-use Rattle.ddt_reading.specs.Reader.{AreRead}
+use Rattle.ddt_path.specs.Steps.{in_words, IsBytes}
+use Rattle.ddt_path.specs.Reader.{AreRead}
 use Rattle.ddt_wire.specs.Head.{head_bytes, IsHead, action_number, head_at}
 use Rattle.ddt_wire.specs.Eid.{eid_at, written_eid, written_mask_len}
 use Rattle.ddt_wire.specs.Addresses.{addresses_at}
@@ -28,9 +28,9 @@ use Rattle.ddt_wire.specs.Referral.{Message, Ignored, Spells, bit, flags_of, mes
 use Rattle.ddt_wire.specs.NegativeReply as reply
 use Rattle.ddt_wire.specs.NegativeReply.{reply_head, SpellsReply, written_reply, reply_of, reply_in}
 use Rattle.ddt_wire.specs.laws.Statements.{IsRecord, IsReply}
-use Rattle.ddt_reading.specs.laws.Reader.{are_read}
-use Rattle.ddt_reading.specs.laws.Step.{bind_ok, bind_parts, guard_parts, words_ok, held_ok, ok_is}
-use Rattle.ddt_reading.specs.laws.Byte.{IsBetween, ◌followed_by◌, stands, IsBytes-drop, IsBytes-number, ◌beside◌}
+use Rattle.ddt_path.specs.laws.Reader.{are_read}
+use Rattle.ddt_path.specs.laws.Step.{bind_ok, bind_parts, guard_parts, words_ok, held_ok, ok_is}
+use Rattle.ddt_path.specs.laws.Byte.{IsBetween, ◌followed_by◌, stands, IsBytes-drop, IsBytes-number, ◌beside◌}
 use Rattle.ddt_wire.specs.laws.Head.{BeginsWith, head_takes, head_again, head_is_bytes}
 use Rattle.ddt_wire.specs.laws.Eid.{IsEid, eid_takes, eid_again, eid_some, eid_spells, eid_is_bytes, mask_len_fits, four}
 use Rattle.ddt_wire.specs.laws.Addresses.{AreAddresses, addresses_take, addresses_again, addresses_spell, addresses_are_bytes}

@@ -3,7 +3,7 @@
 ghost use Rattle.std.specs.Prelude.{◌≡◌, ◌≤◌, ◌++◌, decimal, IfOk};
 ghost use Rattle.ddt_lines.specs.Lines.{ended};
 ghost use Rattle.ddt_commands.specs.Replay.{answer_text, datagrams_at, event_text, gave_up_text, ignored_text, lines_from, sent_text};
-ghost use Rattle.ddt_resolver.specs.declared.answers.Asked.TheVariants as asked_as;
+ghost use Rattle.ddt_resolver.specs.declared.results.Asked.TheVariants as asked_as;
 ghost use Rattle.ddt_sim.specs.declared.schedule.Event.TheVariants as event_as;
 
 use crate::resolver::{ask_error_name, plain_line, why_name};

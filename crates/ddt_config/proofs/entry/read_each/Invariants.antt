@@ -1,6 +1,6 @@
 use Rattle.std.proofs.Common.{◌≡◌, ◌++◌, Ok, drop, map}
 use Rattle.toml.specs.View.{view}
-use Rattle.ddt_reading.specs.Steps.{◌>>=◌}
+use Rattle.ddt_path.specs.Steps.{◌>>=◌}
 use Rattle.ddt_config.specs.Table.{each, entry_of}
 use Rattle.ddt_config.proofs.entry.read_each.Given as goal
 

@@ -1,5 +1,5 @@
 use Rattle.std.proofs.Common.{◌∙◌, arith}
-use Rattle.ddt_reading.specs.laws.Reader.{found}
+use Rattle.ddt_path.specs.laws.Reader.{found}
 use Rattle.ddt_ecm.specs.laws.Request.{messages_are_read}
 use Rattle.ddt_ecm.proofs.request.read_request.Goals as goal
 

@@ -1,5 +1,5 @@
 use Rattle.std.proofs.Common.{◌≡◌, ◌++◌, List, map}
-use Rattle.ddt_register.specs.declared.row.Row.{Row}
+use Rattle.ddt_register.specs.declared.csv_row.Row.{Row}
 use Rattle.ddt_loopback.specs.Records.{row_fields}
 use Rattle.ddt_loopback.specs.Written.{IsFresh, left_of, text_of, text_so_far}
 use Rattle.ddt_loopback.proofs.RowsLemmas.{IsMidway}

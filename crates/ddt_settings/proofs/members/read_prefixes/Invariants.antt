@@ -1,6 +1,6 @@
 use Rattle.std.proofs.Common.{◌≡◌, ◌++◌, Ok, drop, map}
 use Rattle.toml.specs.View.{view}
-use Rattle.ddt_reading.specs.Steps.{◌>>=◌}
+use Rattle.ddt_path.specs.Steps.{◌>>=◌}
 use Rattle.ddt_settings.specs.Table.{each, rlocs_of}
 use Rattle.ddt_settings.proofs.members.read_prefixes.Given as goal
 

@@ -1,5 +1,5 @@
 use Rattle.std.proofs.Common.{◌≡◌}
-use Rattle.ddt_resolver.specs.declared.answers.Asked.TheVariants.{Answer}
+use Rattle.ddt_resolver.specs.declared.results.Asked.TheVariants.{Answer}
 use Rattle.ddt_resolver.specs.State.{moved}
 use Rattle.ddt_sim.specs.Headline.{OverHonest, IsRightlyEnded}
 use Rattle.ddt_resolver.specs.laws.Order.{order_moved}

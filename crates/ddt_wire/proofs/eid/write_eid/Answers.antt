@@ -3,7 +3,7 @@ use Rattle.ddt_path.specs.declared.form.Form.{Form}
 use Rattle.ddt_wire.specs.Eid.{written_form}
 use Rattle.ddt_wire.specs.laws.CutPrefix.{form_of-named}
 use Rattle.ddt_wire.specs.laws.Eid.{eid_spells}
-use Rattle.ddt_reading.specs.laws.Step.{always}
+use Rattle.ddt_path.specs.laws.Step.{always}
 use Rattle.ddt_wire.proofs.eid.write_eid.Goals as goal
 
 pub returns-clause-written : goal.returns-clause-written

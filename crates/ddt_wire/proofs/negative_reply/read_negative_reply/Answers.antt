@@ -1,5 +1,5 @@
 use Rattle.std.proofs.Common.{◌∙◌, arith}
-use Rattle.ddt_reading.specs.laws.Reader.{found}
+use Rattle.ddt_path.specs.laws.Reader.{found}
 use Rattle.ddt_wire.specs.laws.Message.{replies_are_read}
 use Rattle.ddt_wire.proofs.negative_reply.read_negative_reply.Goals as goal
 

@@ -1,5 +1,5 @@
 use Rattle.std.proofs.Common.{◌∙◌, arith}
-use Rattle.ddt_reading.specs.laws.Reader.{found}
+use Rattle.ddt_path.specs.laws.Reader.{found}
 use Rattle.ddt_wire.specs.laws.Message.{messages_are_read}
 use Rattle.ddt_wire.proofs.referral.read_referral.Goals as goal
 

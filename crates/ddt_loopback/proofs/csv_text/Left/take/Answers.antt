@@ -1,4 +1,4 @@
-use Rattle.ddt_register.specs.declared.row.Row.TheVariants as Of
+use Rattle.ddt_register.specs.declared.csv_row.Row.TheVariants as Of
 use Rattle.ddt_loopback.proofs.csv_text.Left.take.Goals as goal
 
 pub returns-in-Some : goal.returns-in-Some

@@ -1,6 +1,6 @@
 use Rattle.std.proofs.Common.{refl, ap, arith}
 use Rattle.ddt_path.specs.declared.record.Outcome.TheVariants.{NotRegistered}
-use Rattle.ddt_resolver.specs.declared.answers.Ticked.TheVariants.{Answer}
+use Rattle.ddt_resolver.specs.declared.results.Ticked.TheVariants.{Answer}
 use Rattle.ddt_resolver.specs.TickStep.{answered}
 use Rattle.ddt_resolver.specs.laws.Shape.{again_lookup, next_lookup}
 use Rattle.ddt_resolver.proofs.resolver.Resolver.go_on.Goals as goal

@@ -1,8 +1,8 @@
 use Rattle.std.proofs.Common.{refl, sym, ap, ◌∙◌}
 use Rattle.std.proofs.lemmas.Option.{none-some}
 use Rattle.std.proofs.lemmas.Result.{IfOk-weaker, on_err_weaker}
-use Rattle.ddt_resolver.specs.declared.answers.Heard.TheVariants.{GaveUp}
-use Rattle.ddt_resolver.specs.declared.answers.Why.TheVariants.{NotAuthoritative as NobodyInCharge}
+use Rattle.ddt_resolver.specs.declared.results.Heard.TheVariants.{GaveUp}
+use Rattle.ddt_resolver.specs.declared.results.Why.TheVariants.{NotAuthoritative as NobodyInCharge}
 use Rattle.ddt_resolver.specs.Act.{sends, from_root, nobody}
 use Rattle.ddt_resolver.proofs.HearLemmas.{may_start_over, forget_acts}
 use Rattle.ddt_resolver.proofs.resolver.Resolver.start_over.Goals as goal

@@ -1,0 +1,112 @@
+//! The side of a Map-Resolver that ITRs see: what an ITR's request asks, and the negative Map-Reply to it (RFC 8111,
+//! section 7.3; RFC 9301, sections 5.4 and 5.8).
+
+ghost use Rattle.std.specs.Prelude.{◌≡◌, false, Some, None, Ok, IfOk, IfSome, IsSome};
+ghost use Rattle.ddt_ecm.specs.Request.{Message, Spells};
+ghost use Rattle.ddt_resolver.specs.declared.itr_messages.ItrRequest.{ItrRequest as AnItrRequest};
+ghost use Rattle.ddt_resolver.specs.Front.{IsItrRequest, asked_by, block_for as block_for_of, negative_for as negative_for_of, reply_to_itr};
+
+use crate::results::Outgoing;
+use ddt_ecm::{Request, read_request};
+use ddt_path::{HOLE_TTL, Listed, Locator, NOT_REGISTERED_TTL, Outcome, Prefix, Xeid};
+use ddt_wire::write_negative_reply;
+use std::alloc::{AllocError, Global};
+
+/// The number of digits before the address: 32 of the instance, and the family's.
+const BEFORE_ADDRESS: u8 = 33;
+
+/// What an ITR asks, and where the answer goes.
+#[derive(Clone, Copy, Debug, PartialEq, Eq)]
+pub struct ItrRequest {
+    /// The identifier that it asks for.
+    pub xeid: Xeid,
+    /// The nonce, which the answer repeats.
+    pub nonce: u64,
+    /// The first ITR-RLOC: the answer goes there.
+    pub to: Locator,
+    /// The inner source port: the answer goes to this port.
+    pub port: u16,
+}
+
+/// What a request asks, if its bit D is clear.
+fn asked(request: &Request<'_>) -> Option<ItrRequest>
+    ensures { result ≡ asked_by request.now }
+{
+    if request.ddt() {
+        return None;
+    }
+    let to = request.itr_rlocs().next()?;
+    Some(ItrRequest {
+        xeid: request.xeid(),
+        nonce: request.nonce(),
+        to,
+        port: request.port(),
+    })
+}
+
+/// The prefix of a negative Map-Reply for the identifier: the block itself, or, in place of a range of instances, all
+/// addresses of the identifier's instance and family.
+fn block_for(x: Xeid, prefix: Prefix) -> Prefix
+    ensures { result ≡ block_for_of x prefix }
+{
+    if prefix.len() < BEFORE_ADDRESS {
+        Prefix::cut(x, BEFORE_ADDRESS)
+    } else {
+        prefix
+    }
+}
+
+/// The TTL in minutes and the prefix of the negative answer for an identifier. None where it is registered.
+fn negative_for(x: Xeid, outcome: &Outcome) -> Option<(u32, Prefix)>
+    ensures { result ≡ negative_for_of x outcome.now }
+{
+    match outcome {
+        Outcome::Registered { .. } => None,
+        Outcome::NotRegistered { prefix, .. } => Some((NOT_REGISTERED_TTL, block_for(x, *prefix))),
+        Outcome::Hole { prefix } => Some((HOLE_TTL, block_for(x, *prefix))),
+    }
+}
+
+/// The side of a Map-Resolver that ITRs see. It keeps nothing: an ITR's request says where its answer goes.
+#[derive(Clone, Copy, Debug)]
+pub struct Front;
+
+impl Front {
+    /// The request of an ITR that the bytes are: an Encapsulated Map-Request whose bit D is clear. None for anything
+    /// else.
+    pub fn itr_request(bytes: &[u8]) -> Option<ItrRequest>
+        // The bytes spell what is read.
+        ensures found { IfSome result (λ q. IsItrRequest bytes.now q) }
+        // What they spell is read.
+        ensures only { (q : AnItrRequest) → IsItrRequest bytes.now q → result ≡ Some q }
+        // Each request whose bit D is clear is one.
+        ensures there { (m : Message) → Spells bytes.now m → m.ddt ≡ false → IsSome result }
+    {
+        match read_request(bytes) {
+            Ok(request) => asked(&request),
+            Err(_fault) => None,
+        }
+    }
+
+    /// What the resolver sends to an ITR for the outcome of its request: a negative Map-Reply with the ITR's nonce, to
+    /// its first ITR-RLOC at its inner source port. The TTL is 15 minutes for a hole, and 1 minute for a site without a
+    /// registration. None where a site is registered: the ITR is sent nothing then. Fails only if out of memory.
+    pub fn itr_reply(
+        alloc: Global,
+        outcome: &Outcome,
+        request: &ItrRequest,
+    ) -> Result<Option<Outgoing>, AllocError>
+        ensures answered { IfOk result (λ r. r ≡ reply_to_itr outcome.now request.now) }
+        ensures unanswered { negative_for_of request.now.xeid outcome.now ≡ None → result ≡ Ok None }
+    {
+        let Some((ttl, prefix)) = negative_for(request.xeid, outcome) else {
+            return Ok(None);
+        };
+        let bytes = write_negative_reply(alloc, request.nonce, ttl, prefix)?;
+        Ok(Some(Outgoing {
+            to: request.to,
+            port: request.port,
+            bytes: Listed::of(bytes),
+        }))
+    }
+}

@@ -11,7 +11,7 @@ use Rattle.ddt_wires.specs.declared.call.Call.{Call}
 use Rattle.ddt_wires.specs.declared.call.Call.TheVariants.{Received, Tried}
 use Rattle.ddt_wires.specs.declared.call.NetFault.{NetFault}
 use Rattle.ddt_wires.specs.declared.call.Packet.{Packet}
-use Rattle.ddt_wires.specs.Calls.{Tells, received}
+use Rattle.ddt_wires.specs.Calls.{RecordsCalls, received}
 use Rattle.ddt_wires.specs.Turns.{most_bytes}
 use Rattle.ddt_asking.specs.declared.manner.Manner.{Manner}
 use Rattle.ddt_asking.specs.declared.question.Question.{Question}
@@ -19,11 +19,11 @@ use Rattle.ddt_asking.specs.declared.verdict.Finding.{Finding}
 use Rattle.ddt_asking.specs.declared.verdict.Verdict.{Verdict}
 use Rattle.ddt_asking.specs.declared.wait.Wait.{Wait}
 use Rattle.ddt_asking.specs.Replies.{reply_of}
-use Rattle.ddt_asking.specs.Steps.{Step, step_of, HasDone}
+use Rattle.ddt_asking.specs.Steps.{WireStep, step_of, HasDone}
 use Rattle.ddt_asking.specs.Verdicts.{IsVerdict}
 use Rattle.ddt_asking.specs.Waits.{IsWait, replied, over, used_up}
 use Rattle.ddt_asking.specs.Tries.{AreTries}
-use Rattle.ddt_asking.specs.Asked.{awaited_for, pause_of, IsAsked, IsPause, no_pause, pauses, HasAsked, none_yet, one_more}
+use Rattle.ddt_asking.specs.Asked.{awaited_for, pause_of, IsAskedOfServer, IsPause, no_pause, pauses, HasAsked, none_yet, one_more}
 use Rattle.ddt_asking.proofs.StepLemmas.{nothing_done, one_done, both_done}
 
 -- ---- one question
@@ -34,10 +34,10 @@ is_requested : (nonce : ℕ) (x : Xeid) (me : Locator) (request : List ℕ) → 
 unfolding request_bytes
 is_requested nonce x me request is = is
 
-pub question_asked : (m : Manner) (x : Xeid) (nonce : ℕ) (request : List ℕ) (steps : List Step)
+pub question_asked : (m : Manner) (x : Xeid) (nonce : ℕ) (request : List ℕ) (steps : List WireStep)
     (its_reply : Option (List ℕ)) (q : Question) (found : Verdict) → request ≡ written nonce x (m.me ∷ []) true
     → AreTries m request (awaited_for q nonce) steps its_reply → IsVerdict q.demanded nonce its_reply found
-    → IsAsked m x nonce steps (record { question = q; verdict = found })
+    → IsAskedOfServer m x nonce steps (record { question = q; verdict = found })
 question_asked m x nonce request steps its_reply q found is tried judged = record {
   reply = its_reply;
   tries = subst (λ (bytes : List ℕ). AreTries m bytes (awaited_for q nonce) steps its_reply)
@@ -54,7 +54,7 @@ none_awaited (Received at room (Ok None) b) bytes is = absurd (cc)
 none_awaited (Received at room (Err fault) b) bytes is = absurd (cc)
 none_awaited (Tried at to port b answer) bytes is = absurd (cc)
 
-no_reply : (w : Wait) (steps : List Step) (reply : Option (List ℕ)) → w.awaited ≡ None → IsWait w steps reply
+no_reply : (w : Wait) (steps : List WireStep) (reply : Option (List ℕ)) → w.awaited ≡ None → IsWait w steps reply
     → IsWait w steps None
 no_reply w steps reply none (replied vain last bytes vains poll early is) =
     absurd (none_awaited last.call bytes (subst (λ a. reply_of a last.call ≡ Some bytes) none is))
@@ -62,16 +62,16 @@ no_reply w steps reply none (over vain last vains poll late) = over vain last va
 no_reply w steps reply none (used_up vain vains all) = used_up vain vains all
 
 pub has_no_pause : (told : Option (List Call)) (read : Option (List ℕ)) (m : Manner) → pause_of m.rate ≡ 0
-    → (steps : List Step) × HasDone told told read read steps × IsPause m steps
+    → (steps : List WireStep) × HasDone told told read read steps × IsPause m steps
 has_no_pause told read m none = ([], nothing_done told read, no_pause none)
 
 pub has_paused : (told midway telling : Option (List Call)) (read between reading : Option (List ℕ)) (m : Manner)
-    (answer : Result (Option Packet) NetFault) (buffer : List ℕ) (now pause : ℕ) (polls : List Step)
+    (answer : Result (Option Packet) NetFault) (buffer : List ℕ) (now pause : ℕ) (polls : List WireStep)
     (reply : Option (List ℕ)) → pause ≡ pause_of m.rate → length buffer ≡ most_bytes
-    → Tells told (received m.me answer buffer ∷ []) midway → Tells read (now ∷ []) between
+    → RecordsCalls told (received m.me answer buffer ∷ []) midway → RecordsCalls read (now ∷ []) between
     → HasDone midway telling between reading polls
     → IsWait (record { at = m.me; awaited = None; since = now; millis = pause }) polls reply
-    → (steps : List Step) × HasDone told telling read reading steps × IsPause m steps
+    → (steps : List WireStep) × HasDone told telling read reading steps × IsPause m steps
 has_paused told midway telling read between reading m answer buffer now pause polls reply is room tells reads done w =
     let waited = no_reply (record { at = m.me; awaited = None; since = now; millis = pause }) polls reply refl w in (
       step_of (received m.me answer buffer) now ∷ polls,
@@ -86,7 +86,7 @@ has_paused told midway telling read between reading m answer buffer now pause po
 
 pub record IsAsking (told telling : Option (List Call)) (read reading : Option (List ℕ)) (m : Manner) (x : Xeid)
     (s : Stream) (findings : List Finding) (t : Stream) : Type 0 where
-  pub steps : List Step
+  pub steps : List WireStep
   pub done : HasDone told telling read reading steps
   pub asked : HasAsked m x s steps findings t
 
@@ -96,8 +96,8 @@ none_asked_yet told read m x s = record { steps = []; done = nothing_done told r
 
 pub one_more_asked : (told one two telling : Option (List Call)) (read once twice reading : Option (List ℕ))
     (m : Manner) (x : Xeid) (s : Stream) (findings : List Finding) (t : Stream) (nonce : ℕ) (u : Stream)
-    (asking pausing : List Step) (f : Finding) → IsAsking told one read once m x s findings t
-    → (nonce, u) ≡ next_u64 t → HasDone one two once twice asking → IsAsked m x nonce asking f
+    (asking pausing : List WireStep) (f : Finding) → IsAsking told one read once m x s findings t
+    → (nonce, u) ≡ next_u64 t → HasDone one two once twice asking → IsAskedOfServer m x nonce asking f
     → HasDone two telling twice reading pausing → IsPause m pausing
     → IsAsking told telling read reading m x s (findings ++ f ∷ []) u
 one_more_asked told one two telling read once twice reading m x s findings t nonce u asking pausing f so_far next

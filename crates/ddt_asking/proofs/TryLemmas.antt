@@ -11,13 +11,13 @@ use Rattle.ddt_wires.specs.declared.call.Call.{Call}
 use Rattle.ddt_wires.specs.declared.call.Call.TheVariants.{Tried}
 use Rattle.ddt_wires.specs.declared.call.NetFault.{NetFault}
 use Rattle.ddt_wires.specs.declared.call.Packet.{Packet}
-use Rattle.ddt_wires.specs.Calls.{Tells, packet_bytes, received}
+use Rattle.ddt_wires.specs.Calls.{RecordsCalls, packet_bytes, received}
 use Rattle.ddt_wires.specs.Turns.{most_bytes}
 use Rattle.ddt_asking.specs.declared.manner.Manner.{Manner}
 use Rattle.ddt_asking.specs.declared.reply.Awaited.{Awaited}
 use Rattle.ddt_asking.specs.declared.wait.Wait.{Wait}
 use Rattle.ddt_asking.specs.Replies.{reply_in}
-use Rattle.ddt_asking.specs.Steps.{Step, step_of, HasDone}
+use Rattle.ddt_asking.specs.Steps.{WireStep, step_of, HasDone}
 use Rattle.ddt_asking.specs.Waits.{IsVain, IsWait, replied, over, used_up, most_polls}
 use Rattle.ddt_asking.specs.Tries.{wait_for, IsTry, sent, lost, HasTried, no_try, one_try, AreTries, answered, unanswered}
 use Rattle.ddt_asking.proofs.StepLemmas.{nothing_done, one_done, both_done}
@@ -27,7 +27,7 @@ use Rattle.ddt_asking.proofs.StepLemmas.{nothing_done, one_done, both_done}
 -- so many polls so far, all in vain
 pub record IsWaiting (told telling : Option (List Call)) (read reading : Option (List ℕ)) (w : Wait) (count : ℕ) :
     Type 0 where
-  pub vain : List Step
+  pub vain : List WireStep
   pub done : HasDone told telling read reading vain
   pub are_vain : All (IsVain w) vain
   pub count_is : length vain ≡ count
@@ -37,7 +37,7 @@ no_poll_yet told read w =
     record { vain = []; done = nothing_done told read; are_vain = All-nil (IsVain w); count_is = refl }
 
 pub one_more_poll : (told midway telling : Option (List Call)) (read between reading : Option (List ℕ)) (w : Wait)
-    (count : ℕ) (s : Step) → IsWaiting told midway read between w count
+    (count : ℕ) (s : WireStep) → IsWaiting told midway read between w count
     → HasDone midway telling between reading (s ∷ []) → IsVain w s
     → IsWaiting told telling read reading w (count + 1)
 one_more_poll told midway telling read between reading w count s so_far done vain = record {
@@ -48,7 +48,7 @@ one_more_poll told midway telling read between reading w count s so_far done vai
 }
 
 -- the step of a poll of a socket with this answer
-abbrev pub polled : Locator → Result (Option Packet) NetFault → List ℕ → ℕ → Step
+abbrev pub polled : Locator → Result (Option Packet) NetFault → List ℕ → ℕ → WireStep
 polled at answer buffer now = step_of (received at answer buffer) now
 
 -- a reply that isn't there is none
@@ -66,7 +66,7 @@ polled_in_vain w answer buffer now f reply room early is absent =
 module _ (told midway telling : Option (List Call)) (read between reading : Option (List ℕ)) (w : Wait) (count : ℕ)
     (answer : Result (Option Packet) NetFault) (buffer : List ℕ) (now : ℕ)
     (so_far : IsWaiting told midway read between w count)
-    (tells : Tells midway (received w.at answer buffer ∷ []) telling) (reads : Tells between (now ∷ []) reading)
+    (tells : RecordsCalls midway (received w.at answer buffer ∷ []) telling) (reads : RecordsCalls between (now ∷ []) reading)
     (room : length buffer ≡ most_bytes) where
   this_done : HasDone midway telling between reading (polled w.at answer buffer now ∷ [])
   this_done = one_done midway telling between reading (received w.at answer buffer) now tells reads
@@ -77,7 +77,7 @@ module _ (told midway telling : Option (List Call)) (read between reading : Opti
       this_done
 
   pub wait_is_over : w.millis ≤ now - w.since
-      → (steps : List Step) × HasDone told telling read reading steps × IsWait w steps None
+      → (steps : List WireStep) × HasDone told telling read reading steps × IsWait w steps None
   wait_is_over late = (
     so_far.vain ++ polled w.at answer buffer now ∷ [],
     all_done,
@@ -93,7 +93,7 @@ module _ (told midway telling : Option (List Call)) (read between reading : Opti
 
   pub wait_is_replied : (f : ℕ → List ℕ) (reply : Option ℕ) → now - w.since < w.millis
       → option_map f reply ≡ reply_in w.awaited answer (packet_bytes answer buffer) → is_some reply ≡ true
-      → (steps : List Step) × HasDone told telling read reading steps × IsWait w steps (option_map f reply)
+      → (steps : List WireStep) × HasDone told telling read reading steps × IsWait w steps (option_map f reply)
   wait_is_replied f reply early is there = (
     so_far.vain ++ polled w.at answer buffer now ∷ [],
     all_done,
@@ -109,17 +109,17 @@ module _ (told midway telling : Option (List Call)) (read between reading : Opti
 
 pub wait_is_used_up : (told telling : Option (List Call)) (read reading : Option (List ℕ)) (w : Wait) (count : ℕ)
     → IsWaiting told telling read reading w count → count ≡ most_polls
-    → (steps : List Step) × HasDone told telling read reading steps × IsWait w steps None
+    → (steps : List WireStep) × HasDone told telling read reading steps × IsWait w steps None
 wait_is_used_up told telling read reading w count so_far all =
     (so_far.vain, so_far.done, used_up so_far.vain so_far.are_vain (so_far.count_is ∙ all))
 
 -- ---- a try
 
 module _ (told midway : Option (List Call)) (read between : Option (List ℕ)) (m : Manner) (request : List ℕ)
-    (a : Awaited) (now : ℕ) (reads : Tells read (now ∷ []) between) where
+    (a : Awaited) (now : ℕ) (reads : RecordsCalls read (now ∷ []) between) where
   pub try_is_lost : (answer : Result (Unit {0}) NetFault) → is_err answer ≡ true
-      → Tells told (Tried m.me a.from control_port request answer ∷ []) midway
-      → (steps : List Step) × HasDone told midway read between steps × IsTry m request a steps None
+      → RecordsCalls told (Tried m.me a.from control_port request answer ∷ []) midway
+      → (steps : List WireStep) × HasDone told midway read between steps × IsTry m request a steps None
   try_is_lost (Ok u) failed tells = absurd (cc)
   try_is_lost (Err fault) failed tells = (
     step_of (Tried m.me a.from control_port request (Err fault)) now ∷ [],
@@ -128,10 +128,10 @@ module _ (told midway : Option (List Call)) (read between : Option (List ℕ)) (
   )
 
   pub try_is_sent : (answer : Result (Unit {0}) NetFault) → is_err answer ≡ false
-      → Tells told (Tried m.me a.from control_port request answer ∷ []) midway → (telling : Option (List Call))
-      (reading : Option (List ℕ)) (polls : List Step) (reply : Option (List ℕ))
+      → RecordsCalls told (Tried m.me a.from control_port request answer ∷ []) midway → (telling : Option (List Call))
+      (reading : Option (List ℕ)) (polls : List WireStep) (reply : Option (List ℕ))
       → HasDone midway telling between reading polls → IsWait (wait_for m a now) polls reply
-      → (steps : List Step) × HasDone told telling read reading steps × IsTry m request a steps reply
+      → (steps : List WireStep) × HasDone told telling read reading steps × IsTry m request a steps reply
   try_is_sent (Err fault) went tells telling reading polls reply done waits = absurd (cc)
   try_is_sent (Ok u) went tells telling reading polls reply done waits = (
     step_of (Tried m.me a.from control_port request (Ok tt)) now ∷ polls,
@@ -144,7 +144,7 @@ module _ (told midway : Option (List Call)) (read between : Option (List ℕ)) (
 -- so many tries so far, all without a reply
 pub record IsTrying (told telling : Option (List Call)) (read reading : Option (List ℕ)) (m : Manner)
     (request : List ℕ) (a : Awaited) (count : ℕ) : Type 0 where
-  pub steps : List Step
+  pub steps : List WireStep
   pub done : HasDone told telling read reading steps
   pub tried : HasTried m request a count steps
 
@@ -153,7 +153,7 @@ pub no_try_yet : (told : Option (List Call)) (read : Option (List ℕ)) (m : Man
 no_try_yet told read m request a = record { steps = []; done = nothing_done told read; tried = no_try }
 
 pub one_more_try : (told midway telling : Option (List Call)) (read between reading : Option (List ℕ)) (m : Manner)
-    (request : List ℕ) (a : Awaited) (count : ℕ) (more : List Step)
+    (request : List ℕ) (a : Awaited) (count : ℕ) (more : List WireStep)
     → IsTrying told midway read between m request a count → HasDone midway telling between reading more
     → IsTry m request a more None → IsTrying told telling read reading m request a (count + 1)
 one_more_try told midway telling read between reading m request a count more so_far done try = record {
@@ -164,7 +164,7 @@ one_more_try told midway telling read between reading m request a count more so_
 
 module _ (told midway telling : Option (List Call)) (read between reading : Option (List ℕ)) (m : Manner)
     (request : List ℕ) (a : Awaited) (count : ℕ) (so_far : IsTrying told midway read between m request a count)
-    (more : List Step) (done : HasDone midway telling between reading more) where
+    (more : List WireStep) (done : HasDone midway telling between reading more) where
   with_a_reply : (f : ℕ → List ℕ) (reply : Option ℕ) → IsTry m request a more (option_map f reply)
       → is_some reply ≡ true → count < m.tries → AreTries m request a (so_far.steps ++ more) (option_map f reply)
   with_a_reply f None is there few = absurd (cc)
@@ -172,7 +172,7 @@ module _ (told midway telling : Option (List Call)) (read between reading : Opti
 
   pub tries_are_answered : (f : ℕ → List ℕ) (reply : Option ℕ) → IsTry m request a more (option_map f reply)
       → is_some reply ≡ true → count < m.tries
-      → (steps : List Step) × HasDone told telling read reading steps
+      → (steps : List WireStep) × HasDone told telling read reading steps
       × AreTries m request a steps (option_map f reply)
   tries_are_answered f reply is there few = (
     so_far.steps ++ more,
@@ -189,7 +189,7 @@ module _ (told midway telling : Option (List Call)) (read between reading : Opti
 pub tries_are_unanswered : (told telling : Option (List Call)) (read reading : Option (List ℕ)) (m : Manner)
     (request : List ℕ) (a : Awaited) (count : ℕ) → IsTrying told telling read reading m request a count
     → count ≡ m.tries
-    → (steps : List Step) × HasDone told telling read reading steps × AreTries m request a steps None
+    → (steps : List WireStep) × HasDone told telling read reading steps × AreTries m request a steps None
 tries_are_unanswered told telling read reading m request a count so_far all = (
   so_far.steps,
   so_far.done,

@@ -8,7 +8,7 @@ use Rattle.ddt_asking.specs.declared.question.Question.{Question}
 use Rattle.ddt_asking.specs.declared.reply.Awaited.{Awaited}
 use Rattle.ddt_asking.specs.declared.verdict.Finding.{Finding}
 use Rattle.ddt_asking.specs.declared.wait.Wait.{Wait}
-use Rattle.ddt_asking.specs.Steps.{Step}
+use Rattle.ddt_asking.specs.Steps.{WireStep}
 use Rattle.ddt_asking.specs.Waits.{IsPoll, IsWait}
 use Rattle.ddt_asking.specs.Tries.{AreTries}
 use Rattle.ddt_asking.specs.Verdicts.{IsVerdict}
@@ -19,7 +19,7 @@ awaited_for q n = record { from = q.to; nonce = n }
 
 -- A question about an identifier was asked under a nonce, by the request that a resolver would send, and this is what
 -- its reply comes to.
-pub record IsAsked (m : Manner) (x : Xeid) (nonce : ℕ) (steps : List Step) (f : Finding) : Type 0 where
+pub record IsAskedOfServer (m : Manner) (x : Xeid) (nonce : ℕ) (steps : List WireStep) (f : Finding) : Type 0 where
   pub reply : Option (List ℕ)
   pub tries : AreTries m (request_bytes nonce x m.me) (awaited_for f.question nonce) steps reply
   pub verdict : IsVerdict f.question.demanded nonce reply f.verdict
@@ -33,16 +33,16 @@ abbrev pub wait_from : Manner → ℕ → Wait
 wait_from m now = record { at = m.me; awaited = None; since = now; millis = pause_of m.rate }
 
 -- a pause: none at all, or a poll and then a wait from its moment on
-pub data IsPause (m : Manner) : List Step → Type 0 where
+pub data IsPause (m : Manner) : List WireStep → Type 0 where
   no_pause : pause_of m.rate ≡ 0 → IsPause m []
-  pauses : (first : Step) (polls : List Step) → IsPoll m.me first.call → IsWait (wait_from m first.moment) polls None
+  pauses : (first : WireStep) (polls : List WireStep) → IsPoll m.me first.call → IsWait (wait_from m first.moment) polls None
       → IsPause m (first ∷ polls)
 
 -- Questions about an identifier were asked one after the other, with a pause behind each. Their nonces are the next
 -- numbers of a generator.
-pub data HasAsked (m : Manner) (x : Xeid) (s : Stream) : List Step → List Finding → Stream → Type 0 where
+pub data HasAsked (m : Manner) (x : Xeid) (s : Stream) : List WireStep → List Finding → Stream → Type 0 where
   none_yet : HasAsked m x s [] [] s
-  one_more : (before : List Step) (findings : List Finding) (t : Stream) (nonce : ℕ) (u : Stream)
-      (asking pausing : List Step) (f : Finding) → HasAsked m x s before findings t → (nonce, u) ≡ next_u64 t
-      → IsAsked m x nonce asking f → IsPause m pausing
+  one_more : (before : List WireStep) (findings : List Finding) (t : Stream) (nonce : ℕ) (u : Stream)
+      (asking pausing : List WireStep) (f : Finding) → HasAsked m x s before findings t → (nonce, u) ≡ next_u64 t
+      → IsAskedOfServer m x nonce asking f → IsPause m pausing
       → HasAsked m x s (before ++ (asking ++ pausing)) (findings ++ f ∷ []) u

@@ -5,8 +5,8 @@ ghost use Rattle.rand_core.specs.Stream.{next_u64};
 ghost use Rattle.ddt_path.specs.Path.{xeid_path};
 ghost use Rattle.ddt_wires.specs.Turns.{most_bytes};
 ghost use Rattle.ddt_asking.specs.Questions.{AreQuestions};
-ghost use Rattle.ddt_asking.specs.Steps.{Step as AStep, HasDone};
-ghost use Rattle.ddt_asking.specs.Asked.{IsAsked, IsPause, HasAsked};
+ghost use Rattle.ddt_asking.specs.Steps.{WireStep as AStep, HasDone};
+ghost use Rattle.ddt_asking.specs.Asked.{IsAskedOfServer, IsPause, HasAsked};
 
 use crate::manner::Manner;
 use crate::question::{Question, questions_of};
@@ -102,7 +102,7 @@ impl Asker {
         ensures question { IfOk result (λ finding. finding.question ≡ question) }
         ensures asked { IfOk result (λ finding. (steps : List AStep)
             × HasDone (W.calls wires.old) (W.calls wires.new) (C.readings clock.old) (C.readings clock.new) steps
-            × IsAsked self.now.manner x nonce steps finding) }
+            × IsAskedOfServer self.now.manner x nonce steps finding) }
         ensures room { length buffer.new ≡ most_bytes }
     {
         let request = write_request(self.alloc, nonce, x, &[self.manner.me], true)?;

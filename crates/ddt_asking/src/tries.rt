@@ -3,7 +3,7 @@
 ghost use Rattle.std.specs.Prelude.{◌≡◌, ◌≤◌, List, length, take, IfSome};
 ghost use Rattle.std.specs.Option.{option_map};
 ghost use Rattle.ddt_wires.specs.Turns.{most_bytes};
-ghost use Rattle.ddt_asking.specs.Steps.{Step as AStep, HasDone};
+ghost use Rattle.ddt_asking.specs.Steps.{WireStep as AStep, HasDone};
 ghost use Rattle.ddt_asking.specs.Tries.{IsTry, AreTries};
 
 use crate::manner::Manner;

@@ -9,7 +9,7 @@ use Rattle.ddt_trie.specs.laws.Map.{get-insert_same}
 use Rattle.ddt_cache.specs.Entry.{end_of, entry_of}
 use Rattle.ddt_cache.specs.Live.{Known, live_at, moved}
 use Rattle.ddt_cache.specs.Saved.{savable, has_room, is_saved, stored, stored_in}
-use Rattle.ddt_cache.specs.InOrder.{IsInOrder}
+use Rattle.ddt_cache.specs.InOrder.{IsCacheInOrder}
 use Rattle.ddt_cache.specs.laws.Live.{Entries, if_live, get-live_at, live_at-later, live_at-all, later_true, ended_false}
 use Rattle.ddt_cache.specs.laws.Known.{ends_later}
 
@@ -23,7 +23,7 @@ moved_together k m n =
 pub moved_again : (k : Known) (n : ℕ) → moved n (moved n k) ≡ moved n k
 moved_again k n = let one : max n n ≡ n = omega arith in moved_together k n n ∙ ap (λ (t : ℕ). moved t k) one
 
-pub moved_back : (k : Known) (n : ℕ) → IsInOrder k → n ≤ k.time → moved n k ≡ k
+pub moved_back : (k : Known) (n : ℕ) → IsCacheInOrder k → n ≤ k.time → moved n k ≡ k
 moved_back k n h le =
     let at : ℕ → Entries → Known = λ t l. record { time = t; live = l; roots = k.roots } in
     let stays : max k.time n ≡ k.time = omega arith in

@@ -21,7 +21,7 @@ pub record IsEntryInOrder (time : ℕ) (p : List ℕ) (e : Entry) : Type 0 where
   pub few : length e.servers ≤ most_locators
 
 -- what holds of what a cache knows
-pub record IsInOrder (k : Known) : Type 0 where
+pub record IsCacheInOrder (k : Known) : Type 0 where
   pub time : k.time ≤ last_moment
   pub count : len k.live ≤ most_live_entries
   pub few : length k.roots ≤ most_locators

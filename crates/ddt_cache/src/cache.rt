@@ -7,7 +7,7 @@ ghost use Rattle.ddt_path.specs.Path.{xeid_path};
 ghost use Rattle.ddt_cache.specs.Live.{nothing_known, moved, forgotten};
 ghost use Rattle.ddt_cache.specs.Saved.{is_saved, most_live_entries, saving, stored_in};
 ghost use Rattle.ddt_cache.specs.Found.{IsFound};
-ghost use Rattle.ddt_cache.specs.InOrder.{IsInOrder};
+ghost use Rattle.ddt_cache.specs.InOrder.{IsCacheInOrder};
 
 use crate::entry::{Entry, Saved};
 use crate::longest_live::{Held, drop_ended_over};
@@ -33,7 +33,7 @@ impl<M: PrefixMap<Entry>> Model for Cache<M> {
     ghost use Rattle.ddt_cache.specs.Entry.{root_entry};
     ghost use Rattle.ddt_cache.specs.Live.{Known, known_code, known_of};
     ghost use Rattle.ddt_cache.specs.Saved.{most_live_entries};
-    ghost use Rattle.ddt_cache.specs.InOrder.{IsInOrder};
+    ghost use Rattle.ddt_cache.specs.InOrder.{IsCacheInOrder};
 
     ghost Value = { Known };
 
@@ -43,7 +43,7 @@ impl<M: PrefixMap<Entry>> Model for Cache<M> {
 
     ghost invariant = { λ c. (c.held.root ≡ root_entry c.held.root.servers)
         × (map.len (M.content c.held.entries) ≤ most_live_entries)
-        × IsInOrder (known_of c.time (M.content c.held.entries) c.held.root.servers) };
+        × IsCacheInOrder (known_of c.time (M.content c.held.entries) c.held.root.servers) };
 }
 
 impl<M: PrefixMap<Entry>> Cache<M> {
@@ -90,7 +90,7 @@ impl<M: PrefixMap<Entry>> Cache<M> {
     /// NOT-AUTHORITATIVE, and each positive one has a locator and a prefix that isn't everything. The call does
     /// nothing.
     pub fn in_order(&self)
-        ensures { IsInOrder self.now }
+        ensures { IsCacheInOrder self.now }
     {
         let _held = &self.held;
     }

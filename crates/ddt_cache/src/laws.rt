@@ -11,13 +11,13 @@ ghost use Rattle.ddt_cache.specs.Entry.{end_of, entry_of};
 ghost use Rattle.ddt_cache.specs.Live.{Known, nothing_known, moved, forgotten};
 ghost use Rattle.ddt_cache.specs.Saved.{is_saved, stored_in};
 ghost use Rattle.ddt_cache.specs.Found.{IsFound};
-ghost use Rattle.ddt_cache.specs.InOrder.{IsInOrder};
+ghost use Rattle.ddt_cache.specs.InOrder.{IsCacheInOrder};
 
 /// Two moves of the time are one, to the later moment; and a move to an earlier moment changes nothing.
 pub fn time_moves_on()
     ensures together { (k : Known) (m n : ℕ) → moved n (moved m k) ≡ moved (max m n) k }
     ensures again { (k : Known) (n : ℕ) → moved n (moved n k) ≡ moved n k }
-    ensures back { (k : Known) (n : ℕ) → IsInOrder k → n ≤ k.time → moved n k ≡ k }
+    ensures back { (k : Known) (n : ℕ) → IsCacheInOrder k → n ≤ k.time → moved n k ≡ k }
 {}
 
 /// What is saved is there until its end, and no longer.
@@ -35,9 +35,9 @@ pub fn one_is_found()
 
 /// What holds of each cache is kept by each call.
 pub fn order_is_kept()
-    ensures empty { (roots : List LocatorValue) → length roots ≤ most_locators → IsInOrder (nothing_known roots) }
-    ensures moved { (k : Known) (now : ℕ) → now ≤ last_moment → IsInOrder k → IsInOrder (moved now k) }
-    ensures stored { (k : Known) (r : RecordValue) → length r.servers ≤ most_locators → IsInOrder k →
-        IsInOrder (stored_in k r) }
-    ensures forgotten { (k : Known) (p : List ℕ) → IsInOrder k → IsInOrder (forgotten k p) }
+    ensures empty { (roots : List LocatorValue) → length roots ≤ most_locators → IsCacheInOrder (nothing_known roots) }
+    ensures moved { (k : Known) (now : ℕ) → now ≤ last_moment → IsCacheInOrder k → IsCacheInOrder (moved now k) }
+    ensures stored { (k : Known) (r : RecordValue) → length r.servers ≤ most_locators → IsCacheInOrder k →
+        IsCacheInOrder (stored_in k r) }
+    ensures forgotten { (k : Known) (p : List ℕ) → IsCacheInOrder k → IsCacheInOrder (forgotten k p) }
 {}

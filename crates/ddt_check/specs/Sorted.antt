@@ -12,8 +12,8 @@ use Rattle.ddt_check.specs.declared.frames.GroupRows.{GroupRows}
 use Rattle.ddt_check.specs.Rules.{IsLeastRow, broken, rule_number}
 
 -- a rule is broken at no row
-abbrev pub IsKept : Register → Rule → Type 0
-IsKept r rule = (n : ℕ) → broken r rule n ≡ false
+abbrev pub IsRuleKept : Register → Rule → Type 0
+IsRuleKept r rule = (n : ℕ) → broken r rule n ≡ false
 
 -- each rule of a lower number is kept
 abbrev pub AreEarlierKept : Register → Rule → Type 0
@@ -32,7 +32,7 @@ IsLeastOfBoth zones groups rule row =
 pub record AreZoneRows (r : Register) (rows : ZoneRows) : Type 0 where
   pub duplicate : IsLeastRow (broken r rules.DuplicateZone) rows.duplicate
   pub below : IsLeastRow (broken r rules.BelowMapServer) rows.below
-  pub outside : IsKept r rules.DuplicateZone → IsKept r rules.BelowMapServer
+  pub outside : IsRuleKept r rules.DuplicateZone → IsRuleKept r rules.BelowMapServer
       → IsLeastRow (broken r rules.SiteOutside) rows.outside
 
 -- For A4, A5 and A10: each row found is the lowest that breaks the rule, and none is found where no row breaks it.

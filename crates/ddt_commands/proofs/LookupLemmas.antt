@@ -34,7 +34,7 @@ use Rattle.ddt_commands.specs.declared.lines.Lines.{Lines}
 use Rattle.ddt_words.specs.Call.{Call}
 use Rattle.ddt_commands.specs.declared.refusal.word.WordRefusal.{WordRefusal}
 use Rattle.ddt_commands.specs.Assign.{identifier_refusal}
-use Rattle.ddt_commands.specs.Lookup.{AreAllTold, AreTold, Asks, IsLookupText, none, more, IsTold, outcome, gave_up, refused, bad_identifier, end_text, read_line, replied_line, said_line, why_text}
+use Rattle.ddt_commands.specs.Lookup.{AreAllTold, AreTold, CallsForLookups, IsLookupText, none, more, IsLookupTold, outcome, gave_up, refused, bad_identifier, end_text, read_line, replied_line, said_line, why_text}
 
 -- ---- the lines of one lookup
 
@@ -51,7 +51,7 @@ replied_all laws r x me_ (hop ∷ hops) all =
 
 pub told_outcome : MessagesAreRead → (r : Register) (now : ℕ) (x : Xeid) (before after : State) (me_ : Locator) (o : Outcome) (hops : List Hop) (lines : List ℕ)
     → HasOutcome now x before o hops after → o ≡ assignment r (xeid_path x) → All (IsHonestHop r x me_) hops
-    → lines ≡ flat_map replied_line hops ++ ended (outcome_text o) → IsTold r now x before true lines after
+    → lines ≡ flat_map replied_line hops ++ ended (outcome_text o) → IsLookupTold r now x before true lines after
 told_outcome laws r now x before after me_ o hops lines has right honest is =
     outcome hops (subst (λ (a : Outcome). HasOutcome now x before a hops after) right has) refl
     (is ∙ rw (replied_all laws r x me_ hops honest, right) refl)
@@ -60,7 +60,7 @@ told_outcome laws r now x before after me_ o hops lines has right honest is =
 pub told_unfound : (r : Register) (now : ℕ) (x : Xeid) (before after : State) (error : LookupError) (shown : List ℕ) (result : Result Lines AllocError)
     → Fails now x before error after → IsRightError before after error → error ≢ Memory → shown ≡ end_text error
     → IfOk result (λ lines. lines.text.items ≡ ended shown) → IfOk result (λ lines. lines.complete ≡ false)
-    → IfOk result (λ lines. IsTold r now x before lines.complete lines.text.items after)
+    → IfOk result (λ lines. IsLookupTold r now x before lines.complete lines.text.items after)
 told_unfound r now x before after (GaveUp why) shown (Ok lines) fails (exhausted, last) known is text complete =
     rw complete (gave_up (subst (λ (w : Why). Fails now x before (GaveUp w) after) exhausted fails) last refl
     (text ∙ ap ended is ∙ ap (λ (w : Why). ended (codes "gave-up " ++ why_text w)) exhausted))
@@ -119,7 +119,7 @@ told_none r now start complete text c t = rw (c, t) none
 
 pub told_more : (r : Register) (now : ℕ) (start : State) (ids : List Xeid) (i : ℕ) (d : Xeid) (complete found : Bool) (text lines new : List ℕ)
     (before after : State) → i < length ids
-    → AreTold r now start (take i ids) complete text before → IsTold r now (get_or ids i d) before found lines after → new ≡ text ++ lines
+    → AreTold r now start (take i ids) complete text before → IsLookupTold r now (get_or ids i d) before found lines after → new ≡ text ++ lines
     → AreTold r now start (take (i + 1) ids) (complete && found) new after
 told_more r now start ids i d complete found text lines new before after lt told one is =
     rw (is, take_more ids i d lt) (more (get_or ids i d) found lines after told one)
@@ -130,7 +130,7 @@ pub told_all : (r : Register) (now time : ℕ) (start : State) (ids : List Xeid)
 told_all r now time start ids i complete text after is all told = rw (sym is) (rw (take_all i ids all) at told)
 
 pub told_text : (call : Call) (r : Register) (ids : List Xeid) (me_ : Locator) (seed : ℕ) (found : List Locator) (start : State) (complete : Bool)
-    (text : List ℕ) → Asks call ids me_ seed
+    (text : List ℕ) → CallsForLookups call ids me_ seed
     → found ≡ roots r → start ≡ fresh found me_ seed → AreAllTold r start.known.time start ids complete text → IsLookupText complete call r text
 told_text call r ids me_ seed found start complete text asks at_root new told = record {
   ids = ids;

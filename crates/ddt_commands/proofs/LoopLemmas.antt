@@ -10,13 +10,13 @@ use Rattle.ddt_register.specs.declared.register.Register.{Register}
 use Rattle.ddt_check.specs.Zones.{roots}
 use Rattle.ddt_config.specs.Table.{Outline}
 use Rattle.ddt_wires.specs.declared.call.Call.{Call as WireCall}
-use Rattle.ddt_wires.specs.Calls.{Tells}
+use Rattle.ddt_wires.specs.Calls.{RecordsCalls}
 use Rattle.ddt_resolver.specs.State.{State, fresh}
 use Rattle.ddt_sim.specs.Compiled.{AreCompiled}
 use Rattle.ddt_sim.specs.Sound.{NewResolversAreSound}
 use Rattle.ddt_loop.specs.declared.ends.LoopEnd.{LoopEnd}
 use Rattle.ddt_loop.specs.Askers.{has_unresolved}
-use Rattle.ddt_loop.specs.Right.{IsRightEnd, RepliesAreOwed, WhenFair, WhenTold, is_poll}
+use Rattle.ddt_loop.specs.Right.{IsRightLoopEnd, RepliesAreOwed, WhenFair, WhenTold, is_poll}
 use Rattle.ddt_loop.specs.Turns.{IsLoop}
 use Rattle.ddt_commands.specs.declared.commands.loops.task.Task.{Task}
 use Rattle.ddt_words.specs.Call.{Call}
@@ -57,10 +57,10 @@ module _ (law : NewResolversAreSound) (r : Register) (task : Task) (found : List
   begun : start ≡ fresh (roots r) task.me task.seed
   begun = new ∙ ap (λ (l : List Locator). fresh l task.me task.seed) at_root
 
-  pub is_run : WhenFair servers start task.me sockets before after (λ r calls. AllZip (IsRightEnd r) task.ids.now ends)
+  pub is_run : WhenFair servers start task.me sockets before after (λ r calls. AllZip (IsRightLoopEnd r) task.ids.now ends)
       → WhenFair servers start task.me sockets before after (λ r calls. RepliesAreOwed r task.me calls)
       → WhenTold before after (λ calls. has_unresolved ends ≡ true → count_by is_poll calls ≡ task.turns)
-      → (moments : List ℕ) × (calls : List WireCall) × Tells read moments reads × Tells before calls after
+      → (moments : List ℕ) × (calls : List WireCall) × RecordsCalls read moments reads × RecordsCalls before calls after
       × IsLoop servers start task.me sockets task.ids.now task.turns moments calls ends last
       → IsRun r task before after read reads ends
   is_run right owed unresolved (moments, calls, reading, telling, run) =

@@ -12,7 +12,7 @@ use Rattle.ddt_resolver.specs.declared.step.Reply.TheVariants.{ToAsk, ToDatagram
 use Rattle.ddt_sim.specs.declared.schedule.Step.{Step}
 use Rattle.ddt_sim.specs.declared.schedule.Event.{Event}
 use Rattle.ddt_sim.specs.World.{World, Members, members, at_place, by_reply, by_silence, WorldStep, event_of, request_at, sent_for, resolves, serves, not_sent, passes, replaces, no_member}
-use Rattle.ddt_sim.specs.History.{Line, History, Tells, at_start, begin, next, events_of}
+use Rattle.ddt_sim.specs.History.{Line, History, IsTranscriptOf, at_start, begin, next, events_of}
 use Rattle.ddt_register.specs.declared.register.Register.{Register}
 use Rattle.ddt_check.specs.Rules.{IsAccepted}
 use Rattle.ddt_check.specs.Zones.{roots}
@@ -143,7 +143,7 @@ module _ (r : Register) (others : List Register) (accepted : AllByRecursion IsAc
 
 -- what a call of the run says, over these servers
 pub record HasRun (servers : List (List Outline)) (start : State) (steps : List Step) (t : Transcript) (after : State) : Type 0 where
-  pub run : (past : List Line) × Tells (members AreCompiled AreCompiled servers) start steps t after past
+  pub run : (past : List Line) × IsTranscriptOf (members AreCompiled AreCompiled servers) start steps t after past
   pub answers : AnswersAreRight (members AreCompiled AreCompiled servers) start steps t after
   pub replies : RepliesAreRight (members AreCompiled AreCompiled servers) start steps t after
   pub failures : FailuresAreRight (members AreCompiled AreCompiled servers) start steps t after
@@ -173,7 +173,7 @@ module _ (law : NewResolversAreSound) (r : Register) (others : List Register) (m
         record {
           transcript = t;
           last = after;
-          told = subst (λ (s : State). Tells (servers_of r others) s steps t after past) begun tells;
+          told = subst (λ (s : State). IsTranscriptOf (servers_of r others) s steps t after past) begun tells;
           of_one = λ keep. record {
             answers = h.answers r honest keep starts past tells;
             replies = h.replies r honest keep starts past tells;

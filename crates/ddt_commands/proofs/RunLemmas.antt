@@ -2,7 +2,7 @@
 use Rattle.std.proofs.Common.{◌≡◌, ◌≢◌, inl, inr, ℕ, true, List, [], Option, Some, ap, sym, subst, refl, ◌∙◌}
 use Rattle.clap.specs.Words.{App, fault_of, is_simple_and_free, subcommand_of}
 use Rattle.ddt_words.specs.declared.declaration.Declaration.{Declaration}
-use Rattle.ddt_words.specs.Call.{Call, Calls}
+use Rattle.ddt_words.specs.Call.{Call, CallsCommand}
 use Rattle.ddt_words.specs.Line.{line}
 use Rattle.ddt_commands.specs.declared.commands.Command.{Command}
 use Rattle.ddt_commands.specs.Commands.{IsTextOf, IsWhyOf, command_list, name_of, program_line}
@@ -17,10 +17,10 @@ pub simple_line : (ds : List Declaration) → line ds ≡ program_line → is_si
 simple_line ds e = ap is_simple_and_free e ∙ program_is_simple
 
 -- a call by a list of declarations that make the program's command line is one by the program's own
-pub program_calls : (ds : List Declaration) (words : List (List ℕ)) (call : Call) → line ds ≡ program_line → Calls ds words call → Calls command_list words call
+pub program_calls : (ds : List Declaration) (words : List (List ℕ)) (call : Call) → line ds ≡ program_line → CallsCommand ds words call → CallsCommand command_list words call
 program_calls ds words call e calls = subst (λ (a : App). (fault_of a words ≡ []) × (subcommand_of a words ≡ Some call)) e calls
 
-pub calls_for : (words : List (List ℕ)) (command : Command) (call : Call) → Calls command_list words call → name_of command ≡ call.0 → CallsFor words command call
+pub calls_for : (words : List (List ℕ)) (command : Command) (call : Call) → CallsCommand command_list words call → name_of command ≡ call.0 → CallsFor words command call
 calls_for words command call calls named = (calls, sym named)
 
 -- words with a fault call nothing

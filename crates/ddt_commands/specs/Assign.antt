@@ -32,5 +32,5 @@ IsAssignText call r text =
     (x : Xeid) × (xeid_of call ≡ Ok x) × (text ≡ ended (outcome_text (assignment r (xeid_path x))))
 
 -- of a register it refuses nothing unless memory runs out
-abbrev pub WantsMemory : Call → Register → Refusal → Type 0
-WantsMemory call r why = why ≡ OutOfMemory
+abbrev pub RefusesOnlyMemory : Call → Register → Refusal → Type 0
+RefusesOnlyMemory call r why = why ≡ OutOfMemory

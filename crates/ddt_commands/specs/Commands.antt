@@ -9,7 +9,7 @@ use Rattle.ddt_commands.specs.declared.commands.Command.TheVariants.{Answer, Ass
 use Rattle.ddt_commands.specs.declared.refusal.Refusal.{Refusal}
 use Rattle.ddt_commands.specs.Over.{IsTextOver, IsWhyOver, whole}
 use Rattle.ddt_commands.specs.Answer.{IsAnswerText}
-use Rattle.ddt_commands.specs.Assign.{IsAssignText, WantsMemory, bad_xeid}
+use Rattle.ddt_commands.specs.Assign.{IsAssignText, RefusesOnlyMemory, bad_xeid}
 use Rattle.ddt_commands.specs.Check.{IsCheckText, no_bad_word}
 use Rattle.ddt_commands.specs.Compile.{IsConfigText, IsWhyNoGroup}
 use Rattle.ddt_commands.specs.Lookup.{IsLookupText, bad_lookup}
@@ -76,12 +76,12 @@ IsTextOf opens remaining over Show call complete text = (complete ≡ true) × I
 abbrev pub IsWhyOf : {F : Type 0} → (List ℕ → Option F → Type 0) → (F → Option (List ℕ)) → OverWires → Command → Call
     → Refusal → Type 0
 IsWhyOf opens remaining over Answer call why = IsWhyOver opens remaining bad_xeid IsWhyNoGroup call why
-IsWhyOf opens remaining over Assign call why = IsWhyOver opens remaining bad_xeid WantsMemory call why
-IsWhyOf opens remaining over Check call why = IsWhyOver opens remaining no_bad_word WantsMemory call why
+IsWhyOf opens remaining over Assign call why = IsWhyOver opens remaining bad_xeid RefusesOnlyMemory call why
+IsWhyOf opens remaining over Check call why = IsWhyOver opens remaining no_bad_word RefusesOnlyMemory call why
 IsWhyOf opens remaining over Compile call why = IsWhyOver opens remaining no_bad_word IsWhyNoGroup call why
 IsWhyOf opens remaining over Loop call why =
     IsWhyNotLooped opens remaining (over.untouched × over.unread) over.loops call why
-IsWhyOf opens remaining over Lookup call why = IsWhyOver opens remaining bad_lookup WantsMemory call why
+IsWhyOf opens remaining over Lookup call why = IsWhyOver opens remaining bad_lookup RefusesOnlyMemory call why
 IsWhyOf opens remaining over Replay call why = IsWhyNoReplay opens remaining call why
 IsWhyOf opens remaining over Serve call why = IsWhyNotServed opens remaining over.untouched over.serves call why
 IsWhyOf opens remaining over Show call why = IsWhyNotShown call why

@@ -76,7 +76,7 @@ bad_lookup call =
     (option_or (address_refusal (me_of call)) (number_refusal (seed_of call)))
 
 -- the good words of a call ask a resolver of this address and this seed for these identifiers
-pub record Asks (call : Call) (ids : List Xeid) (me_ : Locator) (seed : ℕ) : Type 0 where
+pub record CallsForLookups (call : Call) (ids : List Xeid) (me_ : Locator) (seed : ℕ) : Type 0 where
   pub identifiers : map xeid_in (xeid_words call) ≡ map Ok ids
   pub address : me_of call ≡ Ok me_
   pub first : seed_of call ≡ Some seed
@@ -112,15 +112,15 @@ end_text Memory = []
 
 -- The lines of one lookup, and whether it has an outcome. `outcome`: a line for each hop, then that of what the
 -- register assigns. `gave_up`: no nonce is left for its next request. `refused`: 1,024 lookups were pending before.
-pub data IsTold (r : Register) (now : ℕ) (x : Xeid) (before : State) (found : Bool) (lines : List ℕ) (after : State)
+pub data IsLookupTold (r : Register) (now : ℕ) (x : Xeid) (before : State) (found : Bool) (lines : List ℕ) (after : State)
     : Type 0 where
   outcome : (hops : List Hop) → HasOutcome now x before (assignment r (xeid_path x)) hops after → found ≡ true
       → lines ≡ flat_map (said_line r x) hops ++ ended (outcome_text (assignment r (xeid_path x)))
-      → IsTold r now x before found lines after
+      → IsLookupTold r now x before found lines after
   gave_up : Fails now x before (GaveUp Exhausted) after → after.next ≡ last_nonce → found ≡ false
-      → lines ≡ ended (codes "gave-up Exhausted") → IsTold r now x before found lines after
+      → lines ≡ ended (codes "gave-up Exhausted") → IsLookupTold r now x before found lines after
   refused : Fails now x before TooMany after → most_pending ≤ len before.pending → found ≡ false
-      → lines ≡ ended (codes "refused TooMany") → IsTold r now x before found lines after
+      → lines ≡ ended (codes "refused TooMany") → IsLookupTold r now x before found lines after
 
 -- The lines of the lookups of these identifiers, in order, from a resolver in the state `start`; they are complete
 -- where each has an outcome.
@@ -128,7 +128,7 @@ pub data AreTold (r : Register) (now : ℕ) (start : State) : List Xeid → Bool
   none : AreTold r now start [] true [] start
   more : {ids : List Xeid} {complete : Bool} {text : List ℕ} {before : State} (x : Xeid) (found : Bool)
       (lines : List ℕ) (after : State) → AreTold r now start ids complete text before
-      → IsTold r now x before found lines after
+      → IsLookupTold r now x before found lines after
       → AreTold r now start (ids ++ x ∷ []) (complete && found) (text ++ lines) after
 
 -- The same, whatever state the lookups leave the resolver in.
@@ -140,5 +140,5 @@ pub record IsLookupText (complete : Bool) (call : Call) (r : Register) (text : L
   pub ids : List Xeid
   pub me_ : Locator
   pub seed : ℕ
-  pub asks : Asks call ids me_ seed
+  pub asks : CallsForLookups call ids me_ seed
   pub told : AreAllTold r 0 (fresh (roots r) me_ seed) ids complete text

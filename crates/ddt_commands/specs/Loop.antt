@@ -14,13 +14,13 @@ use Rattle.ddt_text.specs.Written.{written_xeid}
 use Rattle.ddt_register.specs.declared.register.Register.{Register}
 use Rattle.ddt_check.specs.Zones.{roots}
 use Rattle.ddt_wires.specs.declared.call.Call.{Call as WireCall}
-use Rattle.ddt_wires.specs.Calls.{Tells}
+use Rattle.ddt_wires.specs.Calls.{RecordsCalls}
 use Rattle.ddt_resolver.specs.State.{State, fresh}
 use Rattle.ddt_sim.specs.Compiled.{configs_of}
 use Rattle.ddt_loop.specs.declared.ends.LoopEnd.{LoopEnd}
 use Rattle.ddt_loop.specs.declared.ends.LoopEnd.TheVariants.{Answer, GaveUp, Refused, Unresolved}
 use Rattle.ddt_loop.specs.Askers.{has_unresolved}
-use Rattle.ddt_loop.specs.Right.{IsFair, IsRightEnd, RepliesAreOwed, WhenTold, is_poll}
+use Rattle.ddt_loop.specs.Right.{ArePacketsFair, IsRightLoopEnd, RepliesAreOwed, WhenTold, is_poll}
 use Rattle.ddt_loop.specs.Turns.{IsLoop}
 use Rattle.ddt_lines.specs.Lines.{ended, outcome_text}
 use Rattle.ddt_words.specs.Call.{Call, setting}
@@ -55,7 +55,7 @@ bad_loop call =
     (option_or (number_refusal (seed_of call)) (number_refusal (turns_of call))))
 
 -- the good words of a call ask for this task
-pub record AsksFor (call : Call) (task : Task) : Type 0 where
+pub record CallsForTask (call : Call) (task : Task) : Type 0 where
   pub identifiers : map xeid_in (xeid_words call) ≡ map Ok task.ids.now
   pub address : me_of call ≡ Ok task.me
   pub first : seed_of call ≡ Some task.seed
@@ -79,7 +79,7 @@ socket_locators me_ r = me_ ∷ server_locators r
 abbrev pub WhereFair : Register → Locator → Option (List WireCall) → Option (List WireCall) → (List WireCall → Type 0)
     → Type 0
 WhereFair r me_ before after fact =
-    lists (server_locators r) me_ ≡ false → WhenTold before after (λ calls. IsFair r me_ calls → fact calls)
+    lists (server_locators r) me_ ≡ false → WhenTold before after (λ calls. ArePacketsFair r me_ calls → fact calls)
 
 -- A run by a new resolver with the root locators of the register, over its servers, from wires and a clock that told
 -- this before and tell that after. Where its wires are fair, each outcome is what the register assigns, and each reply
@@ -89,11 +89,11 @@ pub record IsRun (r : Register) (task : Task) (before after : Option (List WireC
   pub moments : List ℕ
   pub calls : List WireCall
   pub last : State
-  pub reading : Tells read moments reads
-  pub telling : Tells before calls after
+  pub reading : RecordsCalls read moments reads
+  pub telling : RecordsCalls before calls after
   pub run : IsLoop (configs_of r) (fresh (roots r) task.me task.seed) task.me (server_locators r) task.ids.now
       task.turns moments calls ends last
-  pub answers : WhereFair r task.me before after (λ told. AllZip (IsRightEnd r) task.ids.now ends)
+  pub answers : WhereFair r task.me before after (λ told. AllZip (IsRightLoopEnd r) task.ids.now ends)
   pub replies : WhereFair r task.me before after (RepliesAreOwed r task.me)
   pub unresolved : WhenTold before after (λ told. has_unresolved ends ≡ true → count_by is_poll told ≡ task.turns)
 
@@ -148,7 +148,7 @@ is_outcome Unresolved = false
 -- outcome. All servers are at loopback addresses.
 pub record IsEndsText (loops : Looping) (call : Call) (r : Register) (complete : Bool) (text : List ℕ) : Type 0 where
   pub task : Task
-  pub asks : AsksFor call task
+  pub asks : CallsForTask call task
   pub on_loopback : first_outside (server_locators r) ≡ None
   pub ends : List LoopEnd
   pub come : loops r task (Ok ends)
@@ -167,7 +167,7 @@ IsLoopText opens remaining loops call complete text =
 pub data IsWhyNoRun (untouched : Type 0) (loops : Looping) (call : Call) (r : Register) : Refusal → Type 0 where
   outside : (at : Locator) → untouched → first_outside (server_locators r) ≡ Some at
       → IsWhyNoRun untouched loops call r (NoServer (NotLoopback at))
-  unbound : {why : Refusal} (task : Task) (at : Locator) (error : Error) → AsksFor call task
+  unbound : {why : Refusal} (task : Task) (at : Locator) (error : Error) → CallsForTask call task
       → first_outside (server_locators r) ≡ None → loops r task (Err (at, error))
       → why ≡ bind_refusal at (error_kind error) → IsWhyNoRun untouched loops call r why
   no_memory : IsWhyNoRun untouched loops call r OutOfMemory

@@ -83,5 +83,5 @@ abbrev pub IsLineOf : Refusal → List ℕ → Type 0
 IsLineOf why text = IfSome (refusal_text why) (λ line. text ≡ ended line)
 
 -- the refusal's line, or that memory ran out where none is left for it
-abbrev pub IsTold : Refusal → List ℕ → Type 0
-IsTold why text = IsLineOf why text ⊎ (text ≡ ended (codes "out of memory"))
+abbrev pub IsRefusalTold : Refusal → List ℕ → Type 0
+IsRefusalTold why text = IsLineOf why text ⊎ (text ≡ ended (codes "out of memory"))

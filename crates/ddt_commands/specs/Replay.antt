@@ -22,8 +22,8 @@ use Rattle.ddt_sim.specs.declared.schedule.Event.{Event}
 use Rattle.ddt_sim.specs.declared.schedule.Event.TheVariants.{Asked, Refused, Replied, Silent, Heard, Passed, Ticked, Replaced, Nothing}
 use Rattle.ddt_sim.specs.declared.schedule.Transcript.{Transcript}
 use Rattle.ddt_sim.specs.Compiled.{AreCompiled, configs_of}
-use Rattle.ddt_sim.specs.History.{Line, Each, Tells as TellsRun}
-use Rattle.ddt_sim.specs.Schedules.{KeepServers, IsRightAnswer, IsRightReply, IsOnce, IsRightFailure}
+use Rattle.ddt_sim.specs.History.{Line, Each, IsTranscriptOf as TellsRun}
+use Rattle.ddt_sim.specs.Schedules.{KeepServers, IsRightAnswer, IsRightReply, IsOnce, IsRightFailureLine}
 use Rattle.ddt_sim.specs.InForce.{IsAnswerSince, IsAnswerOfLate, IsReplyInForce, IsFailureInForce, IsNoReplyInForce}
 use Rattle.ddt_sim.specs.Tries.{IsRightNoReply}
 use Rattle.ddt_sim.specs.World.{Members, members, request_at}
@@ -128,7 +128,7 @@ servers_of first others = members AreCompiled AreCompiled (map configs_of (first
 pub record IsOfOne (r : Register) (past : List Line) : Type 0 where
   pub answers : Each (IsRightAnswer r) past
   pub replies : Each (IsRightReply r) past
-  pub failures : Each IsRightFailure past
+  pub failures : Each IsRightFailureLine past
   pub no_reply : Each (IsRightNoReply r) past
 
 -- What holds of any run: each answer to a ticket is what a register assigns that was in force since its ask, and each

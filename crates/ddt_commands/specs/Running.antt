@@ -1,11 +1,11 @@
 -- What the words of a process print.
 use Rattle.std.specs.Prelude.{ℕ, Bool, ◌≡◌, ◌⊎◌, List, Option}
-use Rattle.ddt_words.specs.Call.{Call, Calls}
+use Rattle.ddt_words.specs.Call.{Call, CallsCommand}
 use Rattle.ddt_commands.specs.declared.commands.Command.{Command}
 use Rattle.ddt_commands.specs.declared.refusal.Refusal.{Refusal}
 use Rattle.ddt_commands.specs.declared.refusal.Refusal.TheVariants.{OutOfMemory}
 use Rattle.ddt_commands.specs.Commands.{IsTextOf, IsWhyOf, command_list, name_of}
-use Rattle.ddt_commands.specs.Telling.{Tells, TellsFront}
+use Rattle.ddt_commands.specs.Telling.{PrintsRefusal, TellsFront}
 use Rattle.ddt_commands.specs.Wires.{OverWires}
 use Rattle.ddt_lines.specs.Printing.{AppendsFront}
 use Rattle.std.specs.Io.KnownBytes.{Appends}
@@ -14,7 +14,7 @@ use Rattle.ddt_commands.specs.declared.status.Status.TheVariants.{Answered, Inco
 
 -- the words call this command
 abbrev pub CallsFor : List (List ℕ) → Command → Call → Type 0
-CallsFor words command call = Calls command_list words call × (call.0 ≡ name_of command)
+CallsFor words command call = CallsCommand command_list words call × (call.0 ≡ name_of command)
 
 -- the words call no command
 abbrev pub CallNone : List (List ℕ) → Type 0
@@ -45,7 +45,7 @@ HasText is_text old new = (text : List ℕ) × is_text text × Appends old new t
 
 -- a refusal of this kind was told behind what a writer had
 abbrev pub HasRefused : (Refusal → Type 0) → Option (List ℕ) → Option (List ℕ) → Type 0
-HasRefused is_why old new = (why : Refusal) × is_why why × Tells why old new
+HasRefused is_why old new = (why : Refusal) × is_why why × PrintsRefusal why old new
 
 -- the output has a front of such a text, or the error stream a front of such a refusal's line
 abbrev pub HasPartOf : (Bool → List ℕ → Type 0) → (Refusal → Type 0) → Option (List ℕ) → Option (List ℕ)

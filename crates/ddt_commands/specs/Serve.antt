@@ -13,8 +13,8 @@ use Rattle.ddt_config.specs.Table.{Outline}
 use Rattle.ddt_node.specs.Spelled.{IsServedConfig, IsConfigFault}
 use Rattle.ddt_wires.specs.declared.call.Call.{Call as WireCall}
 use Rattle.ddt_wires.specs.declared.turns.Served.{Served}
-use Rattle.ddt_wires.specs.Calls.{Tells as TellCalls}
-use Rattle.ddt_wires.specs.Turns.{Serves}
+use Rattle.ddt_wires.specs.Calls.{RecordsCalls as TellCalls}
+use Rattle.ddt_wires.specs.Turns.{ServesTurns}
 use Rattle.ddt_lines.specs.Lines.{ended}
 use Rattle.ddt_words.specs.Call.{Call, value}
 use Rattle.ddt_commands.specs.declared.refusal.Refusal.{Refusal}
@@ -91,7 +91,7 @@ abbrev pub ServesOver : {W : Type 0} → Binding W → (W → Option (List WireC
     → Result Served Error → Type 0
 ServesOver {W} binds calls before after c at turns (Ok counts) =
     (bound : W) × binds before at (Ok tt) bound
-    × ((made : List WireCall) × TellCalls (calls bound) made (calls after) × Serves c at turns made counts)
+    × ((made : List WireCall) × TellCalls (calls bound) made (calls after) × ServesTurns c at turns made counts)
 ServesOver {W} binds calls before after c at turns (Err error) = binds before at (Err error) after
 
 -- ---- the command

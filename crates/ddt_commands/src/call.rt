@@ -1,7 +1,7 @@
 //! The words of a process, read as the call of one of the program's commands.
 
 ghost use Rattle.std.specs.Prelude.{◌≡◌, Err, IfOk, map, string_bytes};
-ghost use Rattle.ddt_words.specs.Call.{Calls, call_of};
+ghost use Rattle.ddt_words.specs.Call.{CallsCommand, call_of};
 ghost use Rattle.ddt_words.specs.declared.fault.WordsFault.TheVariants.{Bad as IsBad};
 ghost use Rattle.ddt_commands.specs.Commands.{command_list as commands};
 ghost use Rattle.ddt_commands.specs.Running.{CallNone};
@@ -14,7 +14,7 @@ use std::alloc::Global;
 /// options. Refusals: 1 Bad where the words call none of the nine commands, as a request for help or the version does;
 /// 2 Memory, which comes only if out of memory.
 pub fn read_words<'a>(alloc: Global, words: &'a [String]) -> Result<Words<'a>, WordsFault>
-    ensures found { IfOk result (λ w. Calls commands (map string_bytes words.entry.now) (call_of w)) }
+    ensures found { IfOk result (λ w. CallsCommand commands (map string_bytes words.entry.now) (call_of w)) }
     ensures bad { result ≡ Err IsBad → CallNone (map string_bytes words.entry.now) }
 {
     read_call(alloc, command_list(), words)

@@ -9,7 +9,7 @@ ghost use Rattle.ddt_commands.specs.declared.status.Status.TheVariants.{
 };
 ghost use Rattle.ddt_commands.specs.Refusal.{IsLineOf};
 ghost use Rattle.ddt_commands.specs.Status.{answer_status};
-ghost use Rattle.ddt_commands.specs.Telling.{Tells, TellsFront};
+ghost use Rattle.ddt_commands.specs.Telling.{PrintsRefusal, TellsFront};
 
 use crate::lines::Lines;
 use crate::refusal::Refusal;
@@ -33,7 +33,7 @@ pub fn answer<W: Write>(lines: &Lines, out: &mut W) -> Status
 
 /// Prints the line of a refusal. Where there is no memory for it, that is what is told.
 pub fn refuse<E: Write>(alloc: Global, refusal: &Refusal<'_>, err: &mut E) -> Status
-    ensures told { result ≡ IsRefused → Tells refusal.now (E.contents err.old) (E.contents err.new) }
+    ensures told { result ≡ IsRefused → PrintsRefusal refusal.now (E.contents err.old) (E.contents err.new) }
     ensures front { TellsFront refusal.now (E.contents err.old) (E.contents err.new) }
     ensures ends { (result ≡ IsRefused) ⊎ (result ≡ IsUnprinted) }
 {

@@ -21,7 +21,7 @@ use Rattle.ddt_config.specs.declared.authority.Content.{Content}
 use Rattle.ddt_config.specs.declared.authority.Content.TheVariants.{Children, Sites}
 use Rattle.ddt_config.specs.Shaped.{is_shaped}
 use Rattle.ddt_config.specs.Table.{key_text, role_text, each, of_kind, of_form, listed, text_of, array_of, array_or_none, text_at, all_of, is_text_value, is_table_value, entry_of, entries_in, locator_of, locators_in, path_in, role_of, role_in, name_in, child_in, site_in, content_in, authority_in, Outline, outline_in, with_shape, config_in}
-use Rattle.ddt_config.specs.Stands.{HoldsText, HoldsPrefix, AreFor, IsArrayOf, IsLocatorText, HoldsLocators, IsTableOf, HoldsTables, IsChild, IsSite, IsContent, IsAuthority, Stands}
+use Rattle.ddt_config.specs.Stands.{HoldsText, HoldsPrefix, AreFor, IsArrayOf, IsLocatorText, HoldsLocators, IsTomlTableOf, HoldsTables, IsChild, IsSite, IsContent, IsAuthority, Stands}
 
 -- what is read is what stands there
 abbrev Agrees : {D A : Type 0} → (D → Result A ConfigFault) → (D → A → Type 0) → Type 0
@@ -155,10 +155,10 @@ locators_agree k ms ls = (
     to (Some d) e = (d, refl, array_for is_text_value (locator_of k) IsLocatorText (locator_agrees k) text_kind k d ls e)
 
 module _ {A : Type 0} (read : Members → Result A ConfigFault) (Is : Members → A → Type 0) (agrees : Agrees read Is) where
-  table_kind : (d : Data) (x : A) → IsTableOf Is d x → is_table_value d ≡ true
+  table_kind : (d : Data) (x : A) → IsTomlTableOf Is d x → is_table_value d ≡ true
   table_kind d x h = rw h.1 refl
 
-  entry_agrees : (k : Key) → Agrees (entry_of k read) (IsTableOf Is)
+  entry_agrees : (k : Key) → Agrees (entry_of k read) (IsTomlTableOf Is)
   entry_agrees k d x = (
     λ e.
         let s = bind_ok (of_kind k (as_table d)) read x e in
@@ -170,12 +170,12 @@ module _ {A : Type 0} (read : Members → Result A ConfigFault) (Is : Members �
   tables_agree k ms xs = (to (get_member (key_text k) ms), from)
     where
       to : (o : Option Data) → ((array_or_none k o >>= all_of k is_table_value) >>= each (entry_of k read)) ≡ Ok xs
-          → ((d : Data) × (o ≡ Some d) × IsArrayOf (IsTableOf Is) d xs) ⊎ ((o ≡ None) × (xs ≡ []))
+          → ((d : Data) × (o ≡ Some d) × IsArrayOf (IsTomlTableOf Is) d xs) ⊎ ((o ≡ None) × (xs ≡ []))
       to None e = inr (refl, sym (same_value e))
-      to (Some d) e = inl (d, refl, array_for is_table_value (entry_of k read) (IsTableOf Is) (entry_agrees k) table_kind k d xs e)
+      to (Some d) e = inl (d, refl, array_for is_table_value (entry_of k read) (IsTomlTableOf Is) (entry_agrees k) table_kind k d xs e)
 
       from : HoldsTables Is ms k xs → entries_in k read ms ≡ Ok xs
-      from (inl h) = rw h.1 (for_array is_table_value (entry_of k read) (IsTableOf Is) (entry_agrees k) table_kind k h.0 xs h.2)
+      from (inl h) = rw h.1 (for_array is_table_value (entry_of k read) (IsTomlTableOf Is) (entry_agrees k) table_kind k h.0 xs h.2)
       from (inr h) = rw (h.0, h.1) refl
 
 -- ---- tables

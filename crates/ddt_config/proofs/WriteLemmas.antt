@@ -25,7 +25,7 @@ use Rattle.ddt_config.specs.declared.authority.Content.TheVariants.{Children, Si
 use Rattle.ddt_config.specs.declared.authority.Authority.{Authority}
 use Rattle.ddt_config.specs.Table.{Outline, config_in, config_in_document, config_in_text}
 use Rattle.ddt_config.specs.Shaped.{is_content_of, is_authority_of, is_shaped}
-use Rattle.ddt_config.specs.Stands.{HoldsPrefix, AreFor, IsArrayOf, IsLocatorText, IsTableOf, IsChild, IsSite, IsContent, IsAuthority, Stands}
+use Rattle.ddt_config.specs.Stands.{HoldsPrefix, AreFor, IsArrayOf, IsLocatorText, IsTomlTableOf, IsChild, IsSite, IsContent, IsAuthority, Stands}
 use Rattle.ddt_config.specs.Writing.{inserted, items_of, written_each, written_locators, written_child, written_site, written_content, written_authority, written_config, AreLocatorsSpelled, IsChildSpelled, IsSiteSpelled, IsContentSpelled, IsAuthoritySpelled}
 use Rattle.ddt_config.proofs.RoomLemmas.{are_authorities}
 use Rattle.ddt_config.proofs.StandsLemmas.{tables_are_read}
@@ -67,14 +67,14 @@ locators_stand : (ls : List Locator) → AreLocatorsSpelled ls → IsArrayOf IsL
 locators_stand =
     array_stands IsLocatorText (λ l. string (written_locator l)) (λ l. SpellsLocator (written_locator l) l) (λ l h. (written_locator l, refl, h))
 
-child_stands : (c : Child) → IsChildSpelled c → IsTableOf IsChild (table (written_child c)) c
+child_stands : (c : Child) → IsChildSpelled c → IsTomlTableOf IsChild (table (written_child c)) c
 child_stands c h = (
   written_child c,
   refl,
   record { prefix = (written_prefix c.prefix, refl, h.0); kind = refl; locators = (written_locators c.locators, refl, locators_stand c.locators h.1) },
 )
 
-site_stands : (s : SiteEntry) → IsSiteSpelled s → IsTableOf IsSite (table (written_site s)) s
+site_stands : (s : SiteEntry) → IsSiteSpelled s → IsTomlTableOf IsSite (table (written_site s)) s
 site_stands s h = (
   written_site s,
   refl,
@@ -84,9 +84,9 @@ site_stands s h = (
 -- an authority of a shaped configuration holds what its servers' role asks for
 content_stands : (role : Role) (p : List ℕ) (content : Content) → is_content_of role p content ≡ true → IsContentSpelled content → IsContent role (written_content p content) content
 content_stands Node p (Children cs) e h =
-    inl (written_each (λ c. table (written_child c)) cs, refl, array_stands (IsTableOf IsChild) (λ c. table (written_child c)) IsChildSpelled child_stands cs h)
+    inl (written_each (λ c. table (written_child c)) cs, refl, array_stands (IsTomlTableOf IsChild) (λ c. table (written_child c)) IsChildSpelled child_stands cs h)
 content_stands Ms p (Sites ss) e h =
-    inl (written_each (λ s. table (written_site s)) ss, refl, array_stands (IsTableOf IsSite) (λ s. table (written_site s)) IsSiteSpelled site_stands ss h)
+    inl (written_each (λ s. table (written_site s)) ss, refl, array_stands (IsTomlTableOf IsSite) (λ s. table (written_site s)) IsSiteSpelled site_stands ss h)
 content_stands Node p (Sites ss) e h = absurd (false≢true e)
 content_stands Ms p (Children cs) e h = absurd (false≢true e)
 
@@ -94,7 +94,7 @@ prefix_stands : (p : List ℕ) (content : Content) → SpellsPrefix (written_pre
 prefix_stands p (Children cs) h = (written_prefix p, refl, h)
 prefix_stands p (Sites ss) h = (written_prefix p, refl, h)
 
-authority_stands : (role : Role) (a : Authority) → (is_authority_of role a ≡ true) × IsAuthoritySpelled a → IsTableOf (IsAuthority role) (table (written_authority a)) a
+authority_stands : (role : Role) (a : Authority) → (is_authority_of role a ≡ true) × IsAuthoritySpelled a → IsTomlTableOf (IsAuthority role) (table (written_authority a)) a
 authority_stands role a h = (
   written_authority a,
   refl,
@@ -113,7 +113,7 @@ config_back o n l a e =
       authorities = inl (
         written_each write o.authorities,
         refl,
-        array_stands (IsTableOf (IsAuthority o.role)) write (λ b. (is_authority_of o.role b ≡ true) × IsAuthoritySpelled b) (authority_stands o.role) o.authorities (λ k d lt. (fit k d lt, a k d lt)),
+        array_stands (IsTomlTableOf (IsAuthority o.role)) write (λ b. (is_authority_of o.role b ≡ true) × IsAuthoritySpelled b) (authority_stands o.role) o.authorities (λ k d lt. (fit k d lt, a k d lt)),
       );
     } in
     (tables_are_read (written_config o) o).1 (stands, e)

@@ -43,13 +43,13 @@ abbrev pub HoldsLocators : Members → Key → List Locator → Type 0
 HoldsLocators ms k ls = (d : Data) × (get_member (key_text k) ms ≡ Some d) × IsArrayOf IsLocatorText d ls
 
 -- a table that stands for the value
-abbrev pub IsTableOf : {A : Type 0} → (Members → A → Type 0) → Data → A → Type 0
-IsTableOf Stands d x = (ms : Members) × (d ≡ table ms) × Stands ms x
+abbrev pub IsTomlTableOf : {A : Type 0} → (Members → A → Type 0) → Data → A → Type 0
+IsTomlTableOf Stands d x = (ms : Members) × (d ≡ table ms) × Stands ms x
 
 -- the key holds an array of tables that stand for the values; it may be missing where they are none
 abbrev pub HoldsTables : {A : Type 0} → (Members → A → Type 0) → Members → Key → List A → Type 0
 HoldsTables Stands ms k xs =
-    ((d : Data) × (get_member (key_text k) ms ≡ Some d) × IsArrayOf (IsTableOf Stands) d xs)
+    ((d : Data) × (get_member (key_text k) ms ≡ Some d) × IsArrayOf (IsTomlTableOf Stands) d xs)
     ⊎ ((get_member (key_text k) ms ≡ None) × (xs ≡ []))
 
 -- The table of a child: its prefix, `kind` for DDT nodes or Map-Servers, and the locators to refer to.

@@ -8,12 +8,12 @@ use Rattle.ddt_resolver.specs.State.{moved}
 use Rattle.ddt_resolver.specs.Step.{Tick}
 use Rattle.ddt_loop.specs.declared.came.Came.{Came}
 use Rattle.ddt_loop.specs.declared.came.Ended.{Ended as End}
-use Rattle.ddt_loop.specs.Acts.{Running, Resolves}
+use Rattle.ddt_loop.specs.Acts.{Running, HearsOrTicks}
 use Rattle.ddt_loop.specs.Coming.{IsCame}
 use Rattle.ddt_loop.specs.Ends.{HasEndedBy}
 use Rattle.ddt_wire.specs.declared.message_type.MessageType.TheVariants.{Encapsulated}
 use Rattle.ddt_wire.specs.MessageType.{is_of}
-use Rattle.ddt_loop.specs.Polls.{polled, IsTaken}
+use Rattle.ddt_loop.specs.Polls.{polled, IsPacketTaken}
 use Rattle.ddt_daemon.specs.declared.itr_requests.Kept.{Kept}
 use Rattle.ddt_daemon.specs.declared.admission.Dropped.{Dropped}
 use Rattle.ddt_daemon.specs.declared.counts.ResolverCounts.{ResolverCounts}
@@ -40,7 +40,7 @@ IsLetIn allow kept p bytes = (is_of Encapsulated bytes ≡ false) ⊎ ((is_of En
 pub record TakesIn (me : Locator) (now : ℕ) (p : Packet) (bytes : List ℕ) (w : Resolving) (near far : List Call)
     (new : Resolving) : Type 0 where
   pub came : Came
-  pub taken : IsTaken me now p bytes w.running near new.running
+  pub taken : IsPacketTaken me now p bytes w.running near new.running
   pub comes : IsCame now p.from bytes w.running new.running came
   pub follows : Follows me bytes w.kept came far new.kept
   pub counts : new.counts ≡ with_came w.counts came
@@ -67,7 +67,7 @@ pub data IsRound (allow : List (List ℕ)) (me : Locator) (now : ℕ) (w : Resol
 -- A tick: a lookup that is due goes on or ends, over the near wires. Nothing goes on over the far ones.
 pub record IsTick (me : Locator) (now : ℕ) (w : Resolving) (near : List Call) (new : Resolving) : Type 0 where
   pub ended : Option End
-  pub resolves : Resolves me now Tick w.running near new.running
+  pub resolves : HearsOrTicks me now Tick w.running near new.running
   pub ends : HasEndedBy Tick (moved now w.running.state) new.running.state w.running.desk.owners
       new.running.desk.owners ended
   pub follows : FollowsTick ended w.kept new.kept

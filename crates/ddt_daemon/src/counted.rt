@@ -2,7 +2,7 @@
 
 ghost use Rattle.std.specs.Prelude.{◌≡◌, ◌≤◌, [], ◌∷◌, length, IfOk, IfSome};
 ghost use Rattle.ddt_wires.specs.declared.call.Call.TheVariants.{Tried};
-ghost use Rattle.ddt_wires.specs.Calls.{Tells, received};
+ghost use Rattle.ddt_wires.specs.Calls.{RecordsCalls, received};
 ghost use Rattle.ddt_daemon.specs.Counted.{with_received, with_sent};
 
 use crate::counts::one_more;
@@ -69,7 +69,8 @@ impl<W: Wires + Drop> Wires for Counted<W> {
 
     fn receive(&mut self, at: Locator, buffer: &mut [u8]) -> Result<Option<Packet>, NetFault>
         ensures fits { IfOk result (λ answer. IfSome answer (λ packet. packet.len ≤ length buffer.new)) }
-        ensures told { Tells (W.calls self.old.wires) (received at result buffer.new ∷ []) (W.calls self.new.wires) }
+        ensures told { RecordsCalls (W.calls self.old.wires) (received at result buffer.new ∷ [])
+            (W.calls self.new.wires) }
         ensures counts { self.new.counts ≡ with_received self.old.counts result }
     {
         let answer = self.wires.receive(at, buffer);
@@ -78,7 +79,7 @@ impl<W: Wires + Drop> Wires for Counted<W> {
     }
 
     fn send(&mut self, at: Locator, to: Locator, port: u16, bytes: &[u8]) -> Result<(), NetFault>
-        ensures told { Tells (W.calls self.old.wires) (Tried at to port bytes.now result ∷ [])
+        ensures told { RecordsCalls (W.calls self.old.wires) (Tried at to port bytes.now result ∷ [])
             (W.calls self.new.wires) }
         ensures counts { self.new.counts ≡ with_sent self.old.counts result }
     {

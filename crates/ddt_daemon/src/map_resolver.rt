@@ -2,7 +2,7 @@
 
 ghost use Rattle.std.specs.Prelude.{◌≡◌, ◌++◌, ◌∷◌, ℕ, [], true, false, List, length, IfOk, OnOk, OnErr};
 ghost use Rattle.ddt_wires.specs.declared.call.Call.{Call as ACall};
-ghost use Rattle.ddt_wires.specs.Calls.{Tells};
+ghost use Rattle.ddt_wires.specs.Calls.{RecordsCalls};
 ghost use Rattle.ddt_wires.specs.Turns.{most_bytes};
 ghost use Rattle.ddt_loop.specs.Acts.{running};
 ghost use Rattle.ddt_loop.specs.Askers.{opening_desk};
@@ -104,8 +104,8 @@ impl<M: PrefixMap<Entry>> MapResolver<M> {
         buffer: &mut [u8],
     ) -> bool
         requires { length buffer.old ≡ most_bytes }
-        ensures round { (calls onward : List ACall) × Tells (W.calls near.old) calls (W.calls near.new)
-            × Tells (V.calls far.old) onward (V.calls far.new)
+        ensures round { (calls onward : List ACall) × RecordsCalls (W.calls near.old) calls (W.calls near.new)
+            × RecordsCalls (V.calls far.old) onward (V.calls far.new)
             × IsRound settings.now.allow me now (resolving self.old.running self.old.waiting.kept.items self.old.counts)
             calls onward (resolving self.new.running self.new.waiting.kept.items self.new.counts) }
         ensures room { length buffer.new ≡ most_bytes }
@@ -133,8 +133,8 @@ impl<M: PrefixMap<Entry>> MapResolver<M> {
         packet: Packet,
         bytes: &[u8],
     )
-        ensures { (calls onward : List ACall) × Tells (W.calls near.old) calls (W.calls near.new)
-            × Tells (V.calls far.old) onward (V.calls far.new)
+        ensures { (calls onward : List ACall) × RecordsCalls (W.calls near.old) calls (W.calls near.new)
+            × RecordsCalls (V.calls far.old) onward (V.calls far.new)
             × IsHandled settings.now.allow me now packet bytes.now
             (resolving self.old.running self.old.waiting.kept.items self.old.counts)
             calls onward (resolving self.new.running self.new.waiting.kept.items self.new.counts) }
@@ -159,8 +159,8 @@ impl<M: PrefixMap<Entry>> MapResolver<M> {
         packet: Packet,
         bytes: &[u8],
     )
-        ensures { (calls onward : List ACall) × Tells (W.calls near.old) calls (W.calls near.new)
-            × Tells (V.calls far.old) onward (V.calls far.new)
+        ensures { (calls onward : List ACall) × RecordsCalls (W.calls near.old) calls (W.calls near.new)
+            × RecordsCalls (V.calls far.old) onward (V.calls far.new)
             × TakesIn me now packet bytes.now
             (resolving self.old.running self.old.waiting.kept.items self.old.counts)
             calls onward (resolving self.new.running self.new.waiting.kept.items self.new.counts) }
@@ -182,7 +182,7 @@ impl<M: PrefixMap<Entry>> MapResolver<M> {
 
     /// Ticks once: a lookup whose deadline has come goes on or ends. Nothing goes on over the far wires.
     pub fn tick<W: Wires>(&mut self, near: &mut W, me: Locator, now: Moment)
-        ensures { (calls : List ACall) × Tells (W.calls near.old) calls (W.calls near.new)
+        ensures { (calls : List ACall) × RecordsCalls (W.calls near.old) calls (W.calls near.new)
             × IsTick me now (resolving self.old.running self.old.waiting.kept.items self.old.counts) calls
             (resolving self.new.running self.new.waiting.kept.items self.new.counts) }
     {
@@ -195,7 +195,7 @@ impl<M: PrefixMap<Entry>> MapResolver<M> {
 
     /// Ticks until no lookup is due, but not more often than lookups can be pending.
     pub fn tick_due<W: Wires>(&mut self, near: &mut W, me: Locator, now: Moment)
-        ensures { (count : ℕ) × (calls : List ACall) × Tells (W.calls near.old) calls (W.calls near.new)
+        ensures { (count : ℕ) × (calls : List ACall) × RecordsCalls (W.calls near.old) calls (W.calls near.new)
             × AreTicks me now (resolving self.old.running self.old.waiting.kept.items self.old.counts) count calls
             (resolving self.new.running self.new.waiting.kept.items self.new.counts) }
     {

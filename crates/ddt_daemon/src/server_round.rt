@@ -2,8 +2,8 @@
 
 ghost use Rattle.std.specs.Prelude.{◌≡◌, ◌≤◌, ℕ, List, length};
 ghost use Rattle.ddt_wires.specs.declared.call.Call.{Call as ACall};
-ghost use Rattle.ddt_wires.specs.Calls.{Tells};
-ghost use Rattle.ddt_wires.specs.Turns.{Serves, most_bytes};
+ghost use Rattle.ddt_wires.specs.Calls.{RecordsCalls};
+ghost use Rattle.ddt_wires.specs.Turns.{ServesTurns, most_bytes};
 
 use ddt_node::Server;
 use ddt_path::Locator;
@@ -22,8 +22,8 @@ pub fn serve_ready<W: Wires, M: PrefixMap<u32>>(
 ) -> Served
     requires { length buffer.old ≡ most_bytes }
     ensures serves { (turns : ℕ) × (turns ≤ most) × (calls : List ACall)
-        × Tells (W.calls wires.old) calls (W.calls wires.new)
-        × Serves server.now at turns calls result }
+        × RecordsCalls (W.calls wires.old) calls (W.calls wires.new)
+        × ServesTurns server.now at turns calls result }
     ensures room { length buffer.new ≡ most_bytes }
 {
     let mut received = 0;

@@ -27,7 +27,7 @@ use Rattle.ddt_folder.specs.Names.{is_same_file}
 use Rattle.ddt_folder.specs.Contents.{Contents}
 use Rattle.ddt_folder.specs.Steps.{after}
 use Rattle.ddt_folder.specs.Manifest.{manifest_text, IsListedIn}
-use Rattle.ddt_folder.specs.Wanted.{register_file, IsConfigText, IsConfigFile, AreConfigFiles, AreGroupFiles, last_manifest, IsGone, gone_if, gone_for, AreGoneFiles, steps_for, removals, left_of, manifest_file}
+use Rattle.ddt_folder.specs.Wanted.{register_file, IsOrderedConfigText, IsConfigFile, AreConfigFiles, AreGroupFiles, last_manifest, IsGone, gone_if, gone_for, AreGoneFiles, steps_for, removals, left_of, manifest_file}
 use Rattle.ddt_folder.specs.Plans.{IsPlan}
 use Rattle.ddt_folder.specs.Laws.{IsPublished, PlansPublish}
 use Rattle.ddt_folder.proofs.AfterLemmas.{Apart, at_end, at_both, after_at, its_own, others_leave, removes_each, removed_none, removed_one, removed_others}
@@ -131,7 +131,7 @@ module _ (r : Register) (accepted : IsAccepted r) (files : List NamedFile) (are 
 
   -- and each group has its file
   file_for : (g : Group) → IsIn g r.groups
-      → (f : NamedFile) × IsIn f files × (f.name ≡ Config g.name) × IsConfigText (group_config r g) f.bytes
+      → (f : NamedFile) × IsIn f files × (f.name ≡ Config g.name) × IsOrderedConfigText (group_config r g) f.bytes
   file_for g k =
       let o = subst (IsIn (group_config r g)) (sym are.each) (map_in (group_config r) r.groups g k) in
       let c = in_map outline are.compiled (group_config r g) o in
@@ -139,7 +139,7 @@ module _ (r : Register) (accepted : IsAccepted r) (files : List NamedFile) (are 
         f.0,
         f.1,
         f.2.0 ∙ ap (λ (x : Outline). Config x.name) (sym c.2),
-        subst (λ (x : Outline). IsConfigText x f.0.bytes) (sym c.2) f.2.1,
+        subst (λ (x : Outline). IsOrderedConfigText x f.0.bytes) (sym c.2) f.2.1,
       )
 
 -- ---- what is gone
@@ -266,11 +266,11 @@ module _ (r : Register) (register : List ℕ) (removes : Bool) (s : Contents) (p
       ∙ its_own s.files (Config g.name) wanted wanted_apart f (inr k) e
 
   configs_there : (g : Group) → Contains r.groups g
-      → IsSomeAnd ((after plan.steps s).files (Config g.name)) (IsConfigText (group_config r g))
+      → IsSomeAnd ((after plan.steps s).files (Config g.name)) (IsOrderedConfigText (group_config r g))
   configs_there g k =
       let j = in_contained r.groups g k in
       let f = file_for r accepted p.configs p.are_configs g j in
-      subst (λ (o : Option (List ℕ)). IsSomeAnd o (IsConfigText (group_config r g)))
+      subst (λ (o : Option (List ℕ)). IsSomeAnd o (IsOrderedConfigText (group_config r g)))
       (sym (of_group f.0 g f.1 j f.2)) f.3
 
   -- the name of a group that the register lacks

@@ -16,7 +16,7 @@ use Rattle.ddt_folder.specs.Steps.{after}
 use Rattle.ddt_folder.specs.Manifest.{manifest_text, IsListedIn}
 use Rattle.ddt_folder.specs.Ordered.{ordered}
 use Rattle.ddt_folder.specs.Plans.{IsPlan}
-use Rattle.ddt_folder.specs.Wanted.{IsConfigText, IsGone, last_manifest}
+use Rattle.ddt_folder.specs.Wanted.{IsOrderedConfigText, IsGone, last_manifest}
 
 -- alike configurations of one name are one in the order of prefixes
 abbrev pub OrderDoesNotMatter : Type 0
@@ -36,7 +36,7 @@ pub record IsTrueManifest (r : Register) (t : Contents) : Type 0 where
 pub record IsPublished (r : Register) (register : List ℕ) (removes : Bool) (s t : Contents) : Type 0 where
   pub source : t.files OfRegister ≡ Some register
   pub configs : (g : Group) → Contains r.groups g
-      → IsSomeAnd (t.files (Config g.name)) (IsConfigText (group_config r g))
+      → IsSomeAnd (t.files (Config g.name)) (IsOrderedConfigText (group_config r g))
   pub manifest : IsTrueManifest r t
   pub gone : (name : List ℕ) → IsGone r s.files name → t.files (Config name)
       ≡ (if removes then None else s.files (Config name))

@@ -27,12 +27,12 @@ abbrev pub register_file : List ℕ → NamedFile
 register_file register = record { name = OfRegister; bytes = register }
 
 -- a text in TOML of a configuration, in the order of prefixes
-abbrev pub IsConfigText : Outline → List ℕ → Type 0
-IsConfigText c text = IsDocumentText false (written_config (ordered c)) text
+abbrev pub IsOrderedConfigText : Outline → List ℕ → Type 0
+IsOrderedConfigText c text = IsDocumentText false (written_config (ordered c)) text
 
 -- the file of a configuration, which is named for its group
 abbrev pub IsConfigFile : ServerConfig → NamedFile → Type 0
-IsConfigFile c file = (file.name ≡ Config c.name) × IsConfigText (outline c) file.bytes
+IsConfigFile c file = (file.name ≡ Config c.name) × IsOrderedConfigText (outline c) file.bytes
 
 -- the files of these configurations, one after the other
 abbrev pub AreConfigFiles : List ServerConfig → List NamedFile → Type 0

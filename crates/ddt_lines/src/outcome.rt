@@ -50,7 +50,8 @@ fn push_served(
     prefix: Prefix,
     servers: &LocatorSet,
 ) -> Result<(), AllocError>
-    ensures { OnOk result (line.new.items ≡ line.old.items ++ (word.now ++ written_prefix prefix ++ spaced servers.now)) }
+    ensures { OnOk result (line.new.items
+        ≡ line.old.items ++ (word.now ++ written_prefix prefix ++ spaced servers.now)) }
 {
     push_text(line, word)?;
     write_prefix(line, prefix)?;

@@ -4,12 +4,12 @@ use Rattle.std.specs.Prelude.{IsTrue}
 use Rattle.ddt_path.specs.Path.{xeid_path, is_path}
 use Rattle.ddt_resolver.specs.declared.results.AskError.TheVariants as ask_error
 use Rattle.ddt_resolver.specs.State.{moved}
-use Rattle.ddt_resolver.specs.AskStep.{AskStep, AskWants, UnlessMemory, OnMemory}
+use Rattle.ddt_resolver.specs.AskStep.{AskStep, AskWants, UnlessAskLacksMemory, OnMemory}
 use Rattle.ddt_resolver.specs.Step.{asks}
 use Rattle.ddt_loop.specs.Acts.{running, Asks, refused, lacks_memory}
 
 pub ask_refused : {me now x who s new d : _} (why : _) → IsTrue (is_path (xeid_path x))
-    → UnlessMemory (Err why) (AskStep (moved now s) x new (Err why)) → OnMemory (Err why) ((new ≡ moved now s) × AskWants (moved now s) x)
+    → UnlessAskLacksMemory (Err why) (AskStep (moved now s) x new (Err why)) → OnMemory (Err why) ((new ≡ moved now s) × AskWants (moved now s) x)
     → Asks me now x who (running s d) (Err why) [] (running new d)
 ask_refused ask_error.TooMany id step memory = refused ask_error.TooMany (asks _ _ id step refl refl) refl refl refl
 ask_refused ask_error.Exhausted id step memory = refused ask_error.Exhausted (asks _ _ id step refl refl) refl refl refl

@@ -23,7 +23,7 @@ use Rattle.ddt_loop.specs.declared.owner.Asker.{Asker}
 use Rattle.ddt_loop.specs.declared.owner.Asker.TheVariants.{Identifier, Itr}
 use Rattle.ddt_loop.specs.declared.owner.Owner.{Owner}
 use Rattle.ddt_loop.specs.Acts.{sent_if, IsSent, IsToldItr}
-use Rattle.ddt_loop.specs.Right.{WasAsked, IsFair, IsRightEnd, IsNoReply, Owes, told, forgotten, other}
+use Rattle.ddt_loop.specs.Right.{WasAsked, ArePacketsFair, IsRightLoopEnd, IsNoReply, Owes, told, forgotten, other}
 
 -- ---- what was asked, and what is fair
 
@@ -31,7 +31,7 @@ pub was_asked_more : (me server nonce x calls more : _) → WasAsked me server n
 was_asked_more me server nonce x calls more w = (w.0, Contains-append_left calls more _ w.1)
 
 -- the first calls of fair ones are fair
-pub fair_front : (r me calls more : _) → IsFair r me (calls ++ more) → IsFair r me calls
+pub fair_front : (r me calls more : _) → ArePacketsFair r me (calls ++ more) → ArePacketsFair r me calls
 fair_front r me calls more fair earlier later room p bytes nonce rec x is = fair earlier (later ++ more) room p bytes nonce rec x (rw (is, append_assoc))
 
 -- ---- the request that is tried
@@ -107,12 +107,12 @@ no_replies_there at me (d ∷ ds) (Tried a to port b answer ∷ tries) apart tri
 
 -- ---- the ends
 
-pub open_ends : (r ids : _) → AllZip (IsRightEnd r) ids (map (λ _. Unresolved) ids)
+pub open_ends : (r ids : _) → AllZip (IsRightLoopEnd r) ids (map (λ _. Unresolved) ids)
 open_ends r [] = tt
 open_ends r (x ∷ ids) = (tt, open_ends r ids)
 
-pub end_set : (r ids ends i x end : _) → slice_get ids i ≡ Some x → IsRightEnd r x end
-    → AllZip (IsRightEnd r) ids ends → AllZip (IsRightEnd r) ids (slice_set ends i end)
+pub end_set : (r ids ends i x end : _) → slice_get ids i ≡ Some x → IsRightLoopEnd r x end
+    → AllZip (IsRightLoopEnd r) ids ends → AllZip (IsRightLoopEnd r) ids (slice_set ends i end)
 end_set r [] ends i x end is right all = absurd (cc is)
 end_set r (y ∷ ids) [] i x end is right all = absurd all
 end_set r (y ∷ ids) (e ∷ ends) zero x end is right all = let same : y ≡ x = cc is in (rw same right, all.1)

@@ -7,7 +7,7 @@ use Rattle.ddt_resolver.specs.State.{moved}
 use Rattle.ddt_resolver.specs.Step.{Step, Hear, progress_of}
 use Rattle.ddt_resolver.specs.declared.step.Progress.TheVariants.{Stays, Sends, Ends}
 use Rattle.ddt_loop.specs.declared.owner.Asker.TheVariants.{Identifier, Itr}
-use Rattle.ddt_loop.specs.Askers.{owner_of, with_owner, Takes, nobody, somebody}
+use Rattle.ddt_loop.specs.Askers.{owner_of, with_owner, TakesOff, nobody, somebody}
 use Rattle.ddt_loop.specs.Acts.{Running, Asks, answered, refused, lacks_memory}
 use Rattle.ddt_loop.specs.Ends.{waiting_itrs, ended_of, HasEnded, HasEndedBy}
 use Rattle.ddt_loop.specs.Coming.{IsCame, came_to_wait, came_to_end}
@@ -19,7 +19,7 @@ itrs_both [] after = refl
 itrs_both (p ∷ before) after = rw (itrs_both before after, append_assoc)
 
 -- unless an ITR is taken off the list, the same ITRs wait
-same_itrs : {t old new taken : _} → Takes t old new taken → ((q : _) → taken ≡ Some (Itr q) → ⊥) → waiting_itrs new ≡ waiting_itrs old
+same_itrs : {t old new taken : _} → TakesOff t old new taken → ((q : _) → taken ≡ Some (Itr q) → ⊥) → waiting_itrs new ≡ waiting_itrs old
 same_itrs (nobody none is e) not = rw is
 same_itrs {t} (somebody before after (Identifier place) was is e) not =
     rw (was, is, itrs_both before after, itrs_both before (owner_of t (Identifier place) ∷ after))
@@ -27,7 +27,7 @@ same_itrs (somebody before after (Itr q) was is e) not = absurd (not q e)
 
 -- ---- a datagram and a tick
 
-by_taken : {call s new owners after reply t end : _} (r taken : _) → Step s call new reply → progress_of reply ≡ Ends t end → Takes t owners after taken
+by_taken : {call s new owners after reply t end : _} (r taken : _) → Step s call new reply → progress_of reply ≡ Ends t end → TakesOff t owners after taken
     → r ≡ ended_of t end taken → HasEndedBy call s new owners after r
 by_taken r None step is takes e = rw e (same_itrs takes (λ q f. cc f))
 by_taken r (Some (Identifier place)) step is takes e = rw e (same_itrs takes (λ q f. cc f))

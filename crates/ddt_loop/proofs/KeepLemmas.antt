@@ -27,7 +27,7 @@ use Rattle.ddt_resolver.specs.State.{State, moved, numbered, request, request_by
 use Rattle.ddt_resolver.specs.Step.{Ask, Hear, Tick, Step, progress_of}
 use Rattle.ddt_resolver.specs.declared.step.Progress.TheVariants.{Stays, Sends, Ends}
 use Rattle.ddt_resolver.specs.declared.step.Reply.TheVariants.{ToAsk, ToDatagram, ToTick}
-use Rattle.ddt_resolver.specs.Order.{IsInOrder}
+use Rattle.ddt_resolver.specs.Order.{IsStateInOrder}
 use Rattle.ddt_resolver.specs.laws.NumberMap.{found_insert, found_remove}
 use Rattle.ddt_resolver.specs.laws.Order.{order_after, order_moved}
 use Rattle.ddt_resolver.specs.laws.Shape.{Move, stays, opens, sends, drops, goes_sends, moved_by_step}
@@ -35,9 +35,9 @@ use Rattle.ddt_sim.specs.Sound.{IsSound, IsFair as IsFairCall, IsRight, IsRightH
 use Rattle.ddt_loop.specs.declared.owner.Asker.{Asker}
 use Rattle.ddt_loop.specs.declared.owner.Asker.TheVariants.{Identifier, Itr}
 use Rattle.ddt_loop.specs.declared.owner.Owner.{Owner}
-use Rattle.ddt_loop.specs.Askers.{Desk, owner_of, end_of, Takes, nobody, somebody, AreOwners}
-use Rattle.ddt_loop.specs.Acts.{Running, running, Asks, answered, refused, lacks_memory, GoesOn, IsTold}
-use Rattle.ddt_loop.specs.Right.{WasAsked, IsRightEnd, Owes, forgotten}
+use Rattle.ddt_loop.specs.Askers.{Desk, owner_of, end_of, TakesOff, nobody, somebody, AreOwners}
+use Rattle.ddt_loop.specs.Acts.{Running, running, Asks, answered, refused, lacks_memory, Proceeds, IsAskerTold}
+use Rattle.ddt_loop.specs.Right.{WasAsked, IsRightLoopEnd, Owes, forgotten}
 use Rattle.ddt_loop.proofs.OwnerLemmas.{of_taken}
 use Rattle.ddt_loop.proofs.PendingLemmas.{carried, NoneEnds, who_is_left, ask_ends_none, owners_go_on, owners_start, started, moved_owners}
 use Rattle.ddt_loop.proofs.CallLemmas.{was_asked_more, WasSent, was_sent, itr_of, itrs, itrs_push, itrs_append, owes_request, owes_told, end_set}
@@ -54,13 +54,13 @@ abbrev pub WaitsFor : List Xeid → State → Owner → Type 0
 WaitsFor ids s o = (l : Pending) × (get s.pending o.ticket ≡ Some l) × AsksFor ids o.asker l.x
 
 pub record IsKept (r : Register) (me : Locator) (ids : List Xeid) (calls : List Call) (w : Running) : Type 0 where
-  pub order : IsInOrder w.state
+  pub order : IsStateInOrder w.state
   pub sound : IsSound r w.state
   pub own : w.state.me ≡ me
   pub tried : (t : ℕ) (l : Pending) → get w.state.pending t ≡ Some l → WasAsked me (server me l) l.nonce l.x calls
   pub owned : AreOwners w.state w.desk.owners
   pub waits : All (WaitsFor ids w.state) w.desk.owners
-  pub ends : AllZip (IsRightEnd r) ids w.desk.ends
+  pub ends : AllZip (IsRightLoopEnd r) ids w.desk.ends
 
 pub kept_more : {r me ids calls w : _} (more : _) → IsKept r me ids calls w → IsKept r me ids (calls ++ more) w
 kept_more {me = me} {calls = calls} more k =
@@ -69,7 +69,7 @@ kept_more {me = me} {calls = calls} more k =
 
 -- with another desk
 pub kept_with : {r me ids calls w : _} (desk : Desk) → IsKept r me ids calls w → AreOwners w.state desk.owners → All (WaitsFor ids w.state) desk.owners
-    → AllZip (IsRightEnd r) ids desk.ends → IsKept r me ids calls (running w.state desk)
+    → AllZip (IsRightLoopEnd r) ids desk.ends → IsKept r me ids calls (running w.state desk)
 kept_with desk k owned waits ends =
     record { order = k.order; sound = k.sound; own = k.own; tried = k.tried; owned = owned; waits = waits; ends = ends }
 
@@ -101,7 +101,7 @@ right_end r s (Ask x) (ToTick h) t end right is = ticked_right r s h t end right
 right_end r s (Hear source bytes) (ToTick h) t end right is = ticked_right r s h t end right is
 right_end r s Tick (ToTick h) t end right is = ticked_right r s h t end right is
 
-its_end : (r s t end l : _) → EndsRight r s t end → get s.pending t ≡ Some l → IsRightEnd r l.x (end_of end)
+its_end : (r s t end l : _) → EndsRight r s t end → get s.pending t ≡ Some l → IsRightLoopEnd r l.x (end_of end)
 its_end r s t (Ok out) l right here = right l here
 its_end r s t (Err why) l right here = right
 
@@ -129,7 +129,7 @@ module _ {r : Register} (g : Grounds r) {me ids calls w : _} (k : IsKept r me id
   abbrev s : State
   s = moved now w.state
 
-  o : IsInOrder s
+  o : IsStateInOrder s
   o = order_moved w.state now le k.order
 
   -- memory ran out: only the time has moved
@@ -140,7 +140,7 @@ module _ {r : Register} (g : Grounds r) {me ids calls w : _} (k : IsKept r me id
       (record { order = o; sound = sound; own = k.own; tried = k.tried; owned = moved_owners now k.owned; waits = k.waits; ends = k.ends })
 
   module _ {call new a : _} (step : Step s call new a) (fair : IsFairCall r s call) (desk : Desk) (tries : List Call)
-      (goes : GoesOn me w.desk (progress_of a) tries desk) where
+      (goes : Proceeds me w.desk (progress_of a) tries desk) where
     both : IsSound r new × IsRight r s call a
     both = g.laws r s call new a g.accepted o (g.time r w.state now k.sound) fair step
 
@@ -185,8 +185,8 @@ module _ {r : Register} (g : Grounds r) {me ids calls w : _} (k : IsKept r me id
         ]
 
     -- who is told asked for what has ended
-    told_ends : (t : ℕ) (end : Result Outcome Why) (taken : Option Asker) (rest : List Owner) → EndsRight r s t end → Takes t w.desk.owners rest taken
-        → IsTold me end taken (record w.desk { owners = rest }) tries desk → AllZip (IsRightEnd r) ids desk.ends
+    told_ends : (t : ℕ) (end : Result Outcome Why) (taken : Option Asker) (rest : List Owner) → EndsRight r s t end → TakesOff t w.desk.owners rest taken
+        → IsAskerTold me end taken (record w.desk { owners = rest }) tries desk → AllZip (IsRightLoopEnd r) ids desk.ends
     told_ends t end None rest right takes told = rw told.1 k.ends
     told_ends t end (Some (Identifier i)) rest right takes told =
         let waits = of_taken takes (WaitsFor ids s) k.waits in
@@ -194,7 +194,7 @@ module _ {r : Register} (g : Grounds r) {me ids calls w : _} (k : IsKept r me id
     told_ends t (Ok out) (Some (Itr q)) rest right takes told = rw told.1 k.ends
     told_ends t (Err why) (Some (Itr q)) rest right takes told = rw told.1 k.ends
 
-    ends_on : (p : _) → progress_of a ≡ p → GoesOn me w.desk p tries desk → AllZip (IsRightEnd r) ids desk.ends
+    ends_on : (p : _) → progress_of a ≡ p → Proceeds me w.desk p tries desk → AllZip (IsRightLoopEnd r) ids desk.ends
     ends_on Stays is g = rw g.1 k.ends
     ends_on (Sends t d) is g = rw g.1 k.ends
     ends_on (Ends t end) is g = told_ends t end g.taken g.rest (right_end r s call a t end both.1 is) g.takes g.told
@@ -212,7 +212,7 @@ module _ {r : Register} (g : Grounds r) {me ids calls w : _} (k : IsKept r me id
 
     -- one is taken off the list and told
     owes_taken : (before after : List Owner) (t : ℕ) (who : Asker) → WaitsFor ids s (owner_of t who) → (e : Result Outcome Why) → EndsRight r s t e
-        → IsTold me e (Some who) (record w.desk { owners = before ++ after }) tries desk → Owes r me calls (itrs before ++ (itr_of who ++ itrs after))
+        → IsAskerTold me e (Some who) (record w.desk { owners = before ++ after }) tries desk → Owes r me calls (itrs before ++ (itr_of who ++ itrs after))
         → Owes r me (calls ++ tries) (itrs desk.owners)
     owes_taken before after t (Identifier i) waits e right told owes = rw (told.0, append-nil, told.1, itrs_append before after) owes
     owes_taken before after t (Itr q) waits (Ok out) right told owes =
@@ -221,8 +221,8 @@ module _ {r : Register} (g : Grounds r) {me ids calls w : _} (k : IsKept r me id
     owes_taken before after t (Itr q) waits (Err why) right told owes =
         rw (told.0, append-nil, told.1, itrs_append before after) (forgotten (itrs before) (itrs after) q owes)
 
-    owes_end : (t : ℕ) (end : Result Outcome Why) (rest : List Owner) (taken : Option Asker) → EndsRight r s t end → Takes t w.desk.owners rest taken
-        → IsTold me end taken (record w.desk { owners = rest }) tries desk → Owes r me calls (itrs w.desk.owners)
+    owes_end : (t : ℕ) (end : Result Outcome Why) (rest : List Owner) (taken : Option Asker) → EndsRight r s t end → TakesOff t w.desk.owners rest taken
+        → IsAskerTold me end taken (record w.desk { owners = rest }) tries desk → Owes r me calls (itrs w.desk.owners)
         → Owes r me (calls ++ tries) (itrs desk.owners)
     owes_end t end rest taken right (nobody none e f) told owes = let is = rw (f, e) at told in rw (is.0, append-nil, is.1) owes
     owes_end t end rest taken right (somebody before after who e f g) told owes =

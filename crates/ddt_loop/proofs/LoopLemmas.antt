@@ -5,19 +5,19 @@ use Rattle.ddt_path.specs.declared.locator.Locator.{Locator}
 use Rattle.ddt_path.specs.declared.xeid.Xeid.{Xeid}
 use Rattle.ddt_config.specs.Table.{Outline}
 use Rattle.ddt_wires.specs.declared.call.Call.{Call}
-use Rattle.ddt_wires.specs.Calls.{Tells, received}
+use Rattle.ddt_wires.specs.Calls.{RecordsCalls, received}
 use Rattle.ddt_wires.specs.Turns.{most_bytes}
 use Rattle.ddt_wires.specs.laws.Tell.{tells_both, tells_none}
 use Rattle.ddt_loop.specs.Askers.{AreOwners, has_unresolved}
 use Rattle.ddt_loop.specs.Acts.{Running, AsksAt}
 use Rattle.ddt_loop.specs.Polls.{IsNoPacket, PollsServer, Polls}
-use Rattle.ddt_loop.specs.Turns.{HaveAsked, no_ask, one_ask, IsTurn, HaveTurned, no_turn, one_turn}
+use Rattle.ddt_loop.specs.Turns.{HaveAsked, no_ask, one_ask, IsLoopTurn, HaveTurned, no_turn, one_turn}
 
 -- ---- the asks
 
 pub record IsAsking (before told : Option (List Call)) (me : Locator) (now : ℕ) (ids : List Xeid) (start w : Running) (place : ℕ) : Type 0 where
   pub calls : List Call
-  pub tells : Tells before calls told
+  pub tells : RecordsCalls before calls told
   pub asked : HaveAsked me now ids start place calls w
   pub owners : AreOwners w.state w.desk.owners
 
@@ -25,7 +25,7 @@ pub asking_at_start : {told me now ids : _} {start : Running} → AreOwners star
 asking_at_start {told} owned = record { calls = []; tells = tells_none told; asked = no_ask; owners = owned }
 
 pub asking_on : {before midway told me now ids start w : _} {new : Running} {place x more : _} → IsAsking before midway me now ids start w place
-    → slice_get ids place ≡ Some x → Tells midway more told → AsksAt me now place x w more new → AreOwners new.state new.desk.owners
+    → slice_get ids place ≡ Some x → RecordsCalls midway more told → AsksAt me now place x w more new → AreOwners new.state new.desk.owners
     → IsAsking before told me now ids start new (place + 1)
 asking_on {before} {midway} {told} so_far its tells asks owned =
     let all = tells_both before so_far.calls midway _ told so_far.tells tells in
@@ -34,8 +34,8 @@ asking_on {before} {midway} {told} so_far its tells asks owned =
 -- ---- a poll
 
 -- the call of `receive` that gives no packet
-pub unanswered : (at answer buffer before after : _) → length buffer ≡ most_bytes → Tells before (received at (Ok answer) buffer ∷ []) after
-    → IfNone answer ((call : Call) × IsNoPacket at call × Tells before (call ∷ []) after)
+pub unanswered : (at answer buffer before after : _) → length buffer ≡ most_bytes → RecordsCalls before (received at (Ok answer) buffer ∷ []) after
+    → IfNone answer ((call : Call) × IsNoPacket at call × RecordsCalls before (call ∷ []) after)
 unanswered at None buffer before after room told = (received at (Ok None) buffer, inl (rw room), told)
 unanswered at (Some p) buffer before after room told = tt
 
@@ -51,8 +51,8 @@ pub record IsTurning (unread read : Option (List ℕ)) (before told : Option (Li
     (sockets : List Locator) (start w : Running) (number : ℕ) : Type 0 where
   pub moments : List ℕ
   pub calls : List Call
-  pub reads : Tells unread moments read
-  pub tells : Tells before calls told
+  pub reads : RecordsCalls unread moments read
+  pub tells : RecordsCalls before calls told
   pub turned : HaveTurned servers me sockets start number moments calls w
   pub owners : AreOwners w.state w.desk.owners
 
@@ -62,8 +62,8 @@ turning_at_start {read} {told} owned =
     record { moments = []; calls = []; reads = tells_none read; tells = tells_none told; turned = no_turn; owners = owned }
 
 pub turning_on : {unread between read before midway told servers me sockets start w : _} {new : Running} {number moment turn : _}
-    → IsTurning unread between before midway servers me sockets start w number → has_unresolved w.desk.ends ≡ true → Tells between (moment ∷ []) read
-    → Tells midway turn told → IsTurn servers me sockets number moment w turn new → AreOwners new.state new.desk.owners
+    → IsTurning unread between before midway servers me sockets start w number → has_unresolved w.desk.ends ≡ true → RecordsCalls between (moment ∷ []) read
+    → RecordsCalls midway turn told → IsLoopTurn servers me sockets number moment w turn new → AreOwners new.state new.desk.owners
     → IsTurning unread read before told servers me sockets start new (number + 1)
 turning_on {unread} {between} {read} {before} {midway} {told} so_far more reads tells is owned =
     let all_read = tells_both unread so_far.moments between _ read so_far.reads reads in

@@ -12,7 +12,7 @@ use Rattle.std.proofs.lemmas.List.Quantifiers.{position-Some}
 use Rattle.std.proofs.lemmas.List.Sums.{fails_before_first}
 use Rattle.ddt_resolver.specs.laws.NumberMap.{at_insert, at_remove}
 use Rattle.ddt_loop.specs.declared.owner.Owner.{Owner}
-use Rattle.ddt_loop.specs.Askers.{owner_of, Takes, nobody, somebody, AreApart}
+use Rattle.ddt_loop.specs.Askers.{owner_of, TakesOff, nobody, somebody, AreApart}
 
 -- ---- who is taken off
 
@@ -30,13 +30,13 @@ some_of (Some v) some = (v, refl)
 abbrev pub has_ticket : ℕ → Owner → Bool
 has_ticket t o = o.ticket == t
 
-pub nobody_at : (t : ℕ) (owners : List Owner) → position (has_ticket t) owners ≡ None → Takes t owners owners None
+pub nobody_at : (t : ℕ) (owners : List Owner) → position (has_ticket t) owners ≡ None → TakesOff t owners owners None
 nobody_at t owners none =
     let late : length owners ≤ position_or_len (has_ticket t) owners = grind arith in
     nobody (λ k d lt same. false≢true (sym (fails_before_first (has_ticket t) owners k d (omega arith)) ∙ eq-eqb _ t same)) refl refl
 
 pub somebody_at : (t : ℕ) (owners : List Owner) (i : ℕ) (o : Owner) → position (has_ticket t) owners ≡ Some i
-    → o ≡ get_or owners i o → Takes t owners (remove owners i) (Some o.asker)
+    → o ≡ get_or owners i o → TakesOff t owners (remove owners i) (Some o.asker)
 somebody_at t owners i o found read =
     let at = position-Some (has_ticket t) owners i o found in
     let its : o.ticket ≡ t = eqb-true o.ticket t (rw (← read) at at.1) in
@@ -59,13 +59,13 @@ apart_without (q ∷ before) o after apart =
     let first = parted (λ p. p.ticket ≢ q.ticket) before o after apart.0 in
     ((first.1, rest.0), All-cons (λ p. p.ticket ≢ o.ticket) q _ (λ same. first.0 (sym same)) rest.1)
 
-pub of_taken : {t old new who : _} → Takes t old new (Some who) → (P : Owner → Type 0) → All P old → P (owner_of t who)
+pub of_taken : {t old new who : _} → TakesOff t old new (Some who) → (P : Owner → Type 0) → All P old → P (owner_of t who)
 of_taken (nobody none e f) P all = absurd (cc f)
 of_taken {t} {who = who} (somebody before after whom e f g) P all =
     let same : who ≡ whom = cc g in rw same (parted P before (owner_of t whom) after (rw e at all)).0
 
 -- who is left waits for another lookup
-pub of_left : {t old new taken : _} → Takes t old new taken → (P : Owner → Type 0) → AreApart old → All P old
+pub of_left : {t old new taken : _} → TakesOff t old new taken → (P : Owner → Type 0) → AreApart old → All P old
     → AreApart new × All (λ p. p.ticket ≢ t) new × All P new
 of_left (nobody none e f) P apart all = rw e (apart, none, all)
 of_left {t} (somebody before after who e f g) P apart all =

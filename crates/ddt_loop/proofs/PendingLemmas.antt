@@ -15,18 +15,18 @@ use Rattle.ddt_resolver.specs.Step.{Ask, Step, progress_of}
 use Rattle.ddt_resolver.specs.declared.step.Progress.TheVariants.{Stays, Sends, Ends}
 use Rattle.ddt_resolver.specs.declared.step.Reply.{Reply}
 use Rattle.ddt_resolver.specs.declared.step.Reply.TheVariants.{ToAsk}
-use Rattle.ddt_resolver.specs.Order.{IsInOrder}
+use Rattle.ddt_resolver.specs.Order.{IsStateInOrder}
 use Rattle.ddt_resolver.specs.laws.NumberMap.{get-insert_same}
 use Rattle.ddt_resolver.specs.laws.Shape.{Move, stays, opens, sends, drops, Goes, anew, keeps, repeats, goes_on, moved_by_step}
 use Rattle.ddt_resolver.specs.laws.Order.{order_after}
 use Rattle.ddt_loop.specs.declared.owner.Asker.TheVariants.{Identifier, Itr}
 use Rattle.ddt_loop.specs.declared.owner.Owner.{Owner}
 use Rattle.ddt_loop.specs.Askers.{Desk, owner_of, with_owner, AreApart, AreOwners}
-use Rattle.ddt_loop.specs.Acts.{Starts, HasRoomFor, GoesOn, IsTold}
+use Rattle.ddt_loop.specs.Acts.{Starts, HasRoomFor, Proceeds, IsAskerTold}
 use Rattle.ddt_loop.proofs.OwnerLemmas.{of_left, apart_push, few_owners, get_insert_other, get_remove_other, some_of}
 
 -- a lookup that is pending has ended, or is pending still, for the same identifier
-pub carried : {s call new a : _} → IsInOrder s → Move s call new a → (u : ℕ) (l : Pending) → get s.pending u ≡ Some l
+pub carried : {s call new a : _} → IsStateInOrder s → Move s call new a → (u : ℕ) (l : Pending) → get s.pending u ≡ Some l
     → ((end : Result Outcome Why) × (progress_of a ≡ Ends u end))
     ⊎ ((m : Pending) × (get new.pending u ≡ Some m) × (m.x ≡ l.x))
 carried o (stays p n q) u l here = inr (l, rw p here, refl)
@@ -46,7 +46,7 @@ carried {s} o (drops t k e found p n f why) u l here = elim (cases_eq u t) [
 abbrev pub NoneEnds : Reply → List Owner → Type 0
 NoneEnds a owners = All (λ p. (end : Result Outcome Why) → progress_of a ≡ Ends p.ticket end → ⊥) owners
 
-wait_on : {s call new a : _} → IsInOrder s → Move s call new a → (owners : List Owner) → NoneEnds a owners
+wait_on : {s call new a : _} → IsStateInOrder s → Move s call new a → (owners : List Owner) → NoneEnds a owners
     → All (λ p. IsSome (get s.pending p.ticket)) owners → All (λ p. IsSome (get new.pending p.ticket)) owners
 wait_on o m owners on there k d lt =
     let found = some_of _ (there k d lt) in
@@ -55,26 +55,26 @@ wait_on o m owners on there k d lt =
       | inr still ↦ rw still.1 refl
     ]
 
-told_owners : (me end taken : _) (b : Desk) (calls : _) (after : Desk) → IsTold me end taken b calls after → after.owners ≡ b.owners
+told_owners : (me end taken : _) (b : Desk) (calls : _) (after : Desk) → IsAskerTold me end taken b calls after → after.owners ≡ b.owners
 told_owners me end None b calls after t = rw t.1
 told_owners me end (Some (Identifier place)) b calls after t = rw t.1
 told_owners me (Ok out) (Some (Itr q)) b calls after t = rw t.1
 told_owners me (Err why) (Some (Itr q)) b calls after t = rw t.1
 
 -- whoever is left waited before, for a lookup that hasn't ended
-pub who_is_left : (me : _) (d : Desk) (a calls : _) (after : Desk) → GoesOn me d (progress_of a) calls after → (P : Owner → Type 0)
+pub who_is_left : (me : _) (d : Desk) (a calls : _) (after : Desk) → Proceeds me d (progress_of a) calls after → (P : Owner → Type 0)
     → AreApart d.owners → All P d.owners → AreApart after.owners × NoneEnds a after.owners × All P after.owners
 who_is_left me d a calls after goes P apart all = by (progress_of a) refl goes
   where
-    by : (p : _) → progress_of a ≡ p → GoesOn me d p calls after → AreApart after.owners × NoneEnds a after.owners × All P after.owners
+    by : (p : _) → progress_of a ≡ p → Proceeds me d p calls after → AreApart after.owners × NoneEnds a after.owners × All P after.owners
     by Stays is g = rw g.1 (apart, λ i e lt end f. cc (is, f), all)
     by (Sends t out) is g = rw g.1 (apart, λ i e lt end f. cc (is, f), all)
     by (Ends t end) is g =
         let left = of_left g.takes P apart all in
         rw (told_owners me end g.taken _ calls after g.told) (left.0, λ i e lt end2 f. left.1 i e lt (cc (is, f)), left.2)
 
-pub owners_go_on : {s call new a : _} → IsInOrder s → Move s call new a → (me : _) (d : Desk) (calls : _) (after : Desk) → AreOwners s d.owners
-    → GoesOn me d (progress_of a) calls after → AreOwners new after.owners
+pub owners_go_on : {s call new a : _} → IsStateInOrder s → Move s call new a → (me : _) (d : Desk) (calls : _) (after : Desk) → AreOwners s d.owners
+    → Proceeds me d (progress_of a) calls after → AreOwners new after.owners
 owners_go_on {s} {a = a} o m me d calls after owned goes =
     let left = who_is_left me d a calls after goes (λ p. IsSome (get s.pending p.ticket)) owned.apart owned.pending in
     record { apart = left.0; pending = wait_on o m after.owners left.1 left.2 }
@@ -103,7 +103,7 @@ started {s} {t = t} (opens l asked place first empty fresh is more few p n f) =
 started (sends u old l found x goes is more p n) = absurd (no_ask_goes goes)
 started (drops u l e found p n f why) = absurd (cc f)
 
-module _ (s : State) (o : IsInOrder s) {x new a : _} (step : Step s (Ask x) new (ToAsk (Ok a))) where
+module _ (s : State) (o : IsStateInOrder s) {x new a : _} (step : Step s (Ask x) new (ToAsk (Ok a))) where
   move : Move s (Ask x) new (ToAsk (Ok a))
   move = (moved_by_step s o (Ask x) new (ToAsk (Ok a)) step).move
 

@@ -7,8 +7,8 @@ use Rattle.ddt_wires.specs.Turns.{AreTried}
 use Rattle.ddt_resolver.specs.declared.results.Asked.TheVariants as asked_as
 use Rattle.ddt_resolver.specs.declared.step.Progress.TheVariants.{Stays, Sends, Ends}
 use Rattle.ddt_loop.specs.declared.owner.Asker.TheVariants.{Identifier, Itr}
-use Rattle.ddt_loop.specs.Acts.{IsToldItr, Asks, answered, refused, lacks_memory, IsToldAtOnce, IsTold, GoesOn, Resolves, does, fails}
-use Rattle.ddt_loop.specs.Polls.{IsTaken, asks, no_request, hears, other_port, IsNoPacket, no_packet, came, PollsServer, none_there, served, out_of_memory, Polls}
+use Rattle.ddt_loop.specs.Acts.{IsToldItr, Asks, answered, refused, lacks_memory, IsToldAtOnce, IsAskerTold, Proceeds, HearsOrTicks, does, fails}
+use Rattle.ddt_loop.specs.Polls.{IsPacketTaken, asks, no_request, hears, other_port, IsNoPacket, no_packet, came, PollsServer, none_there, served, out_of_memory, Polls}
 use Rattle.ddt_loop.specs.Turns.{HaveAsked, no_ask, one_ask, HaveTurned, no_turn, one_turn}
 use Rattle.ddt_loop.specs.Right.{is_poll}
 
@@ -40,22 +40,22 @@ at_once me (Ok (Some o)) q calls is = told me o q calls is
 at_once me (Ok None) q calls none = rw none
 at_once me (Err why) q calls none = rw none
 
-settling : (me end taken d calls new : _) → IsTold me end taken d calls new → polls_in calls ≡ 0
+settling : (me end taken d calls new : _) → IsAskerTold me end taken d calls new → polls_in calls ≡ 0
 settling me end None d calls new is = rw is.0
 settling me end (Some (Identifier place)) d calls new is = rw is.0
 settling me (Ok o) (Some (Itr q)) d calls new is = told me o q calls is.0
 settling me (Err why) (Some (Itr q)) d calls new is = rw is.0
 
-going_on : (me d p calls new : _) → GoesOn me d p calls new → polls_in calls ≡ 0
+going_on : (me d p calls new : _) → Proceeds me d p calls new → polls_in calls ≡ 0
 going_on me d Stays calls new goes = rw goes.0
 going_on me d (Sends t e) calls new goes = search tried
 going_on me d (Ends t end) calls new goes = settling me end goes.taken _ calls new goes.told
 
-resolving : {me now call w calls new : _} → Resolves me now call w calls new → polls_in calls ≡ 0
+resolving : {me now call w calls new : _} → HearsOrTicks me now call w calls new → polls_in calls ≡ 0
 resolving (does reply step goes) = search going_on
 resolving (fails wants state desk none) = rw none
 
-taking : {me now p bytes w calls new : _} → IsTaken me now p bytes w calls new → polls_in calls ≡ 0
+taking : {me now p bytes w calls new : _} → IsPacketTaken me now p bytes w calls new → polls_in calls ≡ 0
 taking {me = me} (asks encapsulated q is act) = rw (act.calls_are, both, asking act.asks, at_once me _ q _ act.tells)
 taking (no_request encapsulated not none same) = rw none
 taking (hears plain port act) = resolving act

@@ -14,15 +14,15 @@ use Rattle.ddt_cache.specs.Moment.{last_moment}
 use Rattle.ddt_wires.specs.declared.call.Call.{Call}
 use Rattle.ddt_wires.specs.declared.call.Call.TheVariants.{Received}
 use Rattle.ddt_resolver.specs.declared.itr_messages.ItrRequest.{ItrRequest}
-use Rattle.ddt_resolver.specs.Order.{IsInOrder}
+use Rattle.ddt_resolver.specs.Order.{IsStateInOrder}
 use Rattle.ddt_resolver.specs.State.{State, moved, server}
 use Rattle.ddt_sim.specs.Sound.{IsSound, IsFair as IsFairCall, IsFairDatagram}
 use Rattle.ddt_loop.specs.declared.owner.Asker.TheVariants.{Identifier, Itr}
 use Rattle.ddt_loop.specs.Askers.{AreOwners, end_of_ask, opening_desk}
-use Rattle.ddt_loop.specs.Acts.{Running, running, AsksAt, AsksForItr, IsToldAtOnce, Resolves, does, fails}
-use Rattle.ddt_loop.specs.Polls.{IsTaken, asks, no_request, hears, other_port, IsNoPacket, no_packet, came, PollsServer, none_there, served, out_of_memory, Polls}
+use Rattle.ddt_loop.specs.Acts.{Running, running, AsksAt, AsksForItr, IsToldAtOnce, HearsOrTicks, does, fails}
+use Rattle.ddt_loop.specs.Polls.{IsPacketTaken, asks, no_request, hears, other_port, IsNoPacket, no_packet, came, PollsServer, none_there, served, out_of_memory, Polls}
 use Rattle.ddt_loop.specs.Turns.{HaveAsked, no_ask, one_ask, HaveTurned, no_turn, one_turn}
-use Rattle.ddt_loop.specs.Right.{WasAsked, IsFair, IsRightEnd, IsNoReply, Owes, begin, asked, forgotten, other}
+use Rattle.ddt_loop.specs.Right.{WasAsked, ArePacketsFair, IsRightLoopEnd, IsNoReply, Owes, begin, asked, forgotten, other}
 use Rattle.ddt_loop.proofs.CallLemmas.{fair_front, itrs, owes_others, owes_told, other_socket, no_replies_there, open_ends, end_set}
 use Rattle.ddt_loop.proofs.KeepLemmas.{IsKept, WaitsFor, Grounds, kept_more, kept_with, kept_moved, kept_on, owes_on, left_over, kept_ask}
 
@@ -36,7 +36,7 @@ pub record IsRightAfter (r : Register) (me : Locator) (ids : List Xeid) (calls :
   pub kept : IsKept r me ids calls w
   pub owes : Owes r me calls (itrs w.desk.owners)
 
-right_end : (r x answer : _) → ((o : _) → answer ≡ Ok (Some o) → o ≡ assignment r (xeid_path x)) → IsRightEnd r x (end_of_ask answer)
+right_end : (r x answer : _) → ((o : _) → answer ≡ Ok (Some o) → o ≡ assignment r (xeid_path x)) → IsRightLoopEnd r x (end_of_ask answer)
 right_end r x (Ok (Some o)) right = right o refl
 right_end r x (Ok None) right = tt
 right_end r x (Err why) right = tt
@@ -98,7 +98,7 @@ module _ {r : Register} (g : Grounds r) {me : Locator} {ids : List Xeid} where
   -- ---- a datagram and a tick
 
   pub right_resolves : {calls w : _} → IsRightAfter r me ids calls w → (now : ℕ) → now ≤ last_moment → {call tries new : _}
-      → IsFairCall r (moved now w.state) call → Resolves me now call w tries new → IsRightAfter r me ids (calls ++ tries) new
+      → IsFairCall r (moved now w.state) call → HearsOrTicks me now call w tries new → IsRightAfter r me ids (calls ++ tries) new
   right_resolves i now le {tries = tries} {new = new} fair (does reply step goes) = record {
     kept = kept_on g i.kept now le step fair new.desk tries goes;
     owes = owes_on g i.kept now le step fair new.desk tries goes i.owes;
@@ -109,21 +109,21 @@ module _ {r : Register} (g : Grounds r) {me : Locator} {ids : List Xeid} where
   -- ---- a poll of the resolver's socket
 
   fair_datagram : (calls rest : _) {w : _} (now room p bytes : _) → IsKept r me ids calls w
-      → IsFair r me (calls ++ Received me room (Ok (Some p)) bytes ∷ rest) → p.port ≡ 4342 → IsFairDatagram r (moved now w.state) p.from bytes
+      → ArePacketsFair r me (calls ++ Received me room (Ok (Some p)) bytes ∷ rest) → p.port ≡ 4342 → IsFairDatagram r (moved now w.state) p.from bytes
   fair_datagram calls rest now room p bytes k fair port t l rec taken =
       let from = taken.in_time.from_server in
       let there : p.from ≡ server me l = rw k.own at from.same_source in
       fair calls rest room p bytes l.nonce rec l.x refl port from.reply.tells (rw there (k.tried t l from.reply.is_pending))
 
   pub right_taken : {calls w : _} → IsRightAfter r me ids calls w → (now : ℕ) → now ≤ last_moment → (room p bytes rest : _) {new : _}
-      → IsFair r me (calls ++ Received me room (Ok (Some p)) bytes ∷ rest) → IsTaken me now p bytes w rest new
+      → ArePacketsFair r me (calls ++ Received me room (Ok (Some p)) bytes ∷ rest) → IsPacketTaken me now p bytes w rest new
       → IsRightAfter r me ids (calls ++ Received me room (Ok (Some p)) bytes ∷ rest) new
   right_taken {calls} {w} i now le room p bytes rest {new} fair taken = rw append_assoc at (by taken)
     where
       after : IsRightAfter r me ids (calls ++ Received me room (Ok (Some p)) bytes ∷ []) w
       after = right_other (Received me room (Ok (Some p)) bytes) tt i
 
-      by : IsTaken me now p bytes w rest new → IsRightAfter r me ids ((calls ++ Received me room (Ok (Some p)) bytes ∷ []) ++ rest) new
+      by : IsPacketTaken me now p bytes w rest new → IsRightAfter r me ids ((calls ++ Received me room (Ok (Some p)) bytes ∷ []) ++ rest) new
       by (asks encapsulated q is act) = right_itr after.kept now le q (asked room p bytes q i.owes is) act
       by (no_request encapsulated not none same) = rw (none, append-nil (calls ++ Received me room (Ok (Some p)) bytes ∷ []), same) after
       by (hears plain port act) = right_resolves after now le (fair_datagram calls rest now room p bytes i.kept fair port) act
@@ -132,7 +132,7 @@ module _ {r : Register} (g : Grounds r) {me : Locator} {ids : List Xeid} where
   -- ---- turns
 
   module _ (servers : List Outline) (sockets : List Locator) (elsewhere : lists sockets me ≡ false) where
-    right_polls : {calls w : _} (place now polling new : _) → now ≤ last_moment → IsRightAfter r me ids calls w → IsFair r me (calls ++ polling)
+    right_polls : {calls w : _} (place now polling new : _) → now ≤ last_moment → IsRightAfter r me ids calls w → ArePacketsFair r me (calls ++ polling)
         → Polls servers me sockets now place w polling new → IsRightAfter r me ids (calls ++ polling) new
     right_polls zero now polling new le i fair (no_packet call none is same) = rw (is, same) (right_other call (nothing_tried me me call none) i)
     right_polls zero now polling new le i fair (came p bytes rest taken is) = rw is (right_taken i now le _ p bytes rest (rw is at fair) taken)
@@ -140,7 +140,7 @@ module _ {r : Register} (g : Grounds r) {me : Locator} {ids : List Xeid} where
         rw polls.3 (right_server polling (other_socket sockets n polls.0 me polls.1 elsewhere) i polls.2)
 
     pub right_turns : {base start number moments calls w : _} → IsRightAfter r me ids base start → HaveTurned servers me sockets start number moments calls w
-        → IsFair r me (base ++ calls) → IsRightAfter r me ids (base ++ calls) w
+        → ArePacketsFair r me (base ++ calls) → IsRightAfter r me ids (base ++ calls) w
     right_turns i no_turn fair = rw append-nil i
     right_turns {base} i (one_turn {number = n} {calls = before} now turn new so_far more t) fair =
         let whole : base ++ (before ++ turn) ≡ ((base ++ before) ++ t.polling) ++ t.ticking = rw (t.calls_are, append_assoc, append_assoc) in
@@ -151,7 +151,7 @@ module _ {r : Register} (g : Grounds r) {me : Locator} {ids : List Xeid} where
 
 -- ---- at first
 
-pub right_at_first : (r me ids : _) (old : State) → IsInOrder old → IsSound r old → ((t : ℕ) → get old.pending t ≡ None) → old.me ≡ me
+pub right_at_first : (r me ids : _) (old : State) → IsStateInOrder old → IsSound r old → ((t : ℕ) → get old.pending t ≡ None) → old.me ≡ me
     → IsRightAfter r me ids [] (running old (opening_desk ids))
 right_at_first r me ids old order sound rest own =
     let owned : AreOwners old [] = record { apart = tt; pending = All-nil (λ o. IsSome (get old.pending o.ticket)) } in

@@ -1,13 +1,13 @@
 -- A resolver that runs for ITRs is right, where its calls are fair.
 use Rattle.std.proofs.Common.{[]}
 use Rattle.ddt_sim.specs.Sound.{StepsKeepSoundness, TimeKeepsSoundness}
-use Rattle.ddt_loop.specs.Right.{IsFair}
+use Rattle.ddt_loop.specs.Right.{ArePacketsFair}
 use Rattle.ddt_loop.specs.Runs.{HasRun, begins, took, ticked, passed, FairRunsAreRight}
 use Rattle.ddt_loop.proofs.CallLemmas.{fair_front, itrs}
 use Rattle.ddt_loop.proofs.KeepLemmas.{Grounds}
 use Rattle.ddt_loop.proofs.RightLemmas.{IsRightAfter, right_at_first, right_other, right_resolves, right_taken}
 
-right_run : {r me start calls w : _} → Grounds r → IsRightAfter r me [] [] start → HasRun me start calls w → IsFair r me calls → IsRightAfter r me [] calls w
+right_run : {r me start calls w : _} → Grounds r → IsRightAfter r me [] [] start → HasRun me start calls w → ArePacketsFair r me calls → IsRightAfter r me [] calls w
 right_run g first begins fair = first
 right_run {r} {me} g first (took {calls = before} now room p bytes tries new so_far le taken) fair =
     right_taken g (right_run g first so_far (fair_front r me before _ fair)) now le room p bytes tries fair taken

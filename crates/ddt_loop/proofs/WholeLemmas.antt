@@ -6,8 +6,8 @@ use Rattle.ddt_path.specs.declared.locator.Locator.{Locator}
 use Rattle.ddt_path.specs.declared.xeid.Xeid.{Xeid}
 use Rattle.ddt_config.specs.Table.{Outline}
 use Rattle.ddt_wires.specs.declared.call.Call.{Call}
-use Rattle.ddt_wires.specs.Calls.{Tells}
-use Rattle.ddt_resolver.specs.Order.{IsInOrder}
+use Rattle.ddt_wires.specs.Calls.{RecordsCalls}
+use Rattle.ddt_resolver.specs.Order.{IsStateInOrder}
 use Rattle.ddt_resolver.specs.State.{State}
 use Rattle.ddt_sim.specs.Sound.{IsSound, StepsKeepSoundness, TimeKeepsSoundness}
 use Rattle.ddt_loop.specs.declared.ends.LoopEnd.{LoopEnd}
@@ -16,7 +16,7 @@ use Rattle.ddt_wires.specs.laws.Tell.{tells_both}
 use Rattle.ddt_loop.specs.Askers.{opening_desk, has_unresolved}
 use Rattle.ddt_loop.specs.Acts.{Running, running}
 use Rattle.ddt_loop.specs.Turns.{HaveAsked, TurnsWithin, IsLoop}
-use Rattle.ddt_loop.specs.Right.{IsRightEnd, is_poll, RepliesAreOwed, WhenTold, WhenFair}
+use Rattle.ddt_loop.specs.Right.{IsRightLoopEnd, is_poll, RepliesAreOwed, WhenTold, WhenFair}
 use Rattle.ddt_loop.proofs.CallLemmas.{itrs}
 use Rattle.ddt_loop.proofs.KeepLemmas.{Grounds}
 use Rattle.ddt_loop.proofs.RightLemmas.{IsRightAfter, right_at_first, right_asks, right_turns}
@@ -27,7 +27,7 @@ same_rest : (earlier first second : List Call) → earlier ++ first ≡ earlier 
 same_rest [] first second e = e
 same_rest (call ∷ earlier) first second e = same_rest earlier first second (cc e)
 
-told_are : (before after : Option (List Call)) (calls earlier more : _) → Tells before calls after → before ≡ Some earlier
+told_are : (before after : Option (List Call)) (calls earlier more : _) → RecordsCalls before calls after → before ≡ Some earlier
     → after ≡ Some (earlier ++ more) → calls ≡ more
 told_are None after calls earlier more tells e f = absurd (cc e)
 told_are (Some b) None calls earlier more tells e f = absurd (cc f)
@@ -39,14 +39,14 @@ pub record WasRun (unread read : Option (List ℕ)) (before after : Option (List
     (sockets : List Locator) (ids : List Xeid) (turns : ℕ) (ends : List LoopEnd) (new : State) : Type 0 where
   pub moments : List ℕ
   pub calls : List Call
-  pub reads : Tells unread moments read
-  pub tells : Tells before calls after
+  pub reads : RecordsCalls unread moments read
+  pub tells : RecordsCalls before calls after
   pub loop : IsLoop servers old me sockets ids turns moments calls ends new
 
 pub ran : (unread begun read before midway after servers old me sockets ids turns ends new begin : _) → begin ≤ last_moment → (d : _)
     (asked last : Running) → d ≡ opening_desk ids
-    → ((calls : List Call) × Tells before calls midway × HaveAsked me begin ids (running old d) (length ids) calls asked)
-    → Tells unread (begin ∷ []) begun → ((moments : List ℕ) × (calls : List Call) × Tells begun moments read × Tells midway calls after
+    → ((calls : List Call) × RecordsCalls before calls midway × HaveAsked me begin ids (running old d) (length ids) calls asked)
+    → RecordsCalls unread (begin ∷ []) begun → ((moments : List ℕ) × (calls : List Call) × RecordsCalls begun moments read × RecordsCalls midway calls after
     × TurnsWithin servers me sockets turns asked moments calls last) → ends ≡ last.desk.ends → new ≡ last.state
     → WasRun unread read before after servers old me sockets ids turns ends new
 ran unread begun read before midway after servers old me sockets ids turns ends new begin le d asked last first w reads t ends_are state_is = record {
@@ -84,7 +84,7 @@ module _ {unread read before after servers old me sockets ids turns ends new : _
         | inr none ↦ absurd (cc (none, ap has_unresolved l.ends_are, some))
       ]
 
-  module _ (laws : StepsKeepSoundness) (time : TimeKeepsSoundness) (order : IsInOrder old) where
+  module _ (laws : StepsKeepSoundness) (time : TimeKeepsSoundness) (order : IsStateInOrder old) where
     right : WhenFair servers old me sockets before after (λ r calls. IsRightAfter r me ids calls run.loop.last)
     right r compiled starts own elsewhere earlier calls e f fair =
         let l = run.loop in
@@ -93,7 +93,7 @@ module _ {unread read before after servers old me sockets ids turns ends new : _
         let first = right_at_first r me ids old order starts.sound starts.at_rest own in
         rw whole (right_turns g servers sockets elsewhere (right_asks g l.is_moment first l.asks) l.turns_are.turned (rw whole at fair))
 
-    pub answers : WhenFair servers old me sockets before after (λ r calls. AllZip (IsRightEnd r) ids ends)
+    pub answers : WhenFair servers old me sockets before after (λ r calls. AllZip (IsRightLoopEnd r) ids ends)
     answers r compiled starts own elsewhere earlier calls e f fair =
         rw run.loop.ends_are (right r compiled starts own elsewhere earlier calls e f fair).kept.ends
 

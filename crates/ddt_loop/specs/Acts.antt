@@ -25,7 +25,7 @@ use Rattle.ddt_resolver.specs.Step.{Ask, Step, Wants, progress_of}
 use Rattle.ddt_loop.specs.declared.owner.Asker.{Asker}
 use Rattle.ddt_loop.specs.declared.owner.Asker.TheVariants.{Identifier, Itr}
 use Rattle.ddt_loop.specs.declared.owner.Owner.{Owner}
-use Rattle.ddt_loop.specs.Askers.{Desk, with_owner, with_end, end_of, end_of_ask, Takes}
+use Rattle.ddt_loop.specs.Askers.{Desk, with_owner, with_end, end_of, end_of_ask, TakesOff}
 
 -- a resolver, and who waits for its lookups
 pub record Running : Type 0 where
@@ -118,31 +118,31 @@ pub record AsksForItr (me : Locator) (now : ℕ) (q : ItrRequest) (w : Running) 
 
 -- Who waited for a lookup that has ended is told: an identifier has its end, and an ITR is sent the negative Map-Reply
 -- to an outcome, if there is one.
-abbrev pub IsTold : Locator → Result Outcome Why → Option Asker → Desk → List Call → Desk → Type 0
-IsTold me end None d calls new = (calls ≡ []) × (new ≡ d)
-IsTold me end (Some (Identifier place)) d calls new = (calls ≡ []) × (new ≡ with_end d place (end_of end))
-IsTold me (Ok o) (Some (Itr q)) d calls new = IsToldItr me o q calls × (new ≡ d)
-IsTold me (Err why) (Some (Itr q)) d calls new = (calls ≡ []) × (new ≡ d)
+abbrev pub IsAskerTold : Locator → Result Outcome Why → Option Asker → Desk → List Call → Desk → Type 0
+IsAskerTold me end None d calls new = (calls ≡ []) × (new ≡ d)
+IsAskerTold me end (Some (Identifier place)) d calls new = (calls ≡ []) × (new ≡ with_end d place (end_of end))
+IsAskerTold me (Ok o) (Some (Itr q)) d calls new = IsToldItr me o q calls × (new ≡ d)
+IsAskerTold me (Err why) (Some (Itr q)) d calls new = (calls ≡ []) × (new ≡ d)
 
 -- whoever waits for a lookup that has ended is taken off the list and told
 pub record Settles (me : Locator) (t : ℕ) (end : Result Outcome Why) (d : Desk) (calls : List Call) (new : Desk) : Type
     0 where
   pub rest : List Owner
   pub taken : Option Asker
-  pub takes : Takes t d.owners rest taken
-  pub told : IsTold me end taken (record d { owners = rest }) calls new
+  pub takes : TakesOff t d.owners rest taken
+  pub told : IsAskerTold me end taken (record d { owners = rest }) calls new
 
 -- a lookup goes on, and its request is tried, or it ends
-abbrev pub GoesOn : Locator → Desk → Progress → List Call → Desk → Type 0
-GoesOn me d Stays calls new = (calls ≡ []) × (new ≡ d)
-GoesOn me d (Sends t e) calls new = IsSent me e calls × (new ≡ d)
-GoesOn me d (Ends t end) calls new = Settles me t end d calls new
+abbrev pub Proceeds : Locator → Desk → Progress → List Call → Desk → Type 0
+Proceeds me d Stays calls new = (calls ≡ []) × (new ≡ d)
+Proceeds me d (Sends t e) calls new = IsSent me e calls × (new ≡ d)
+Proceeds me d (Ends t end) calls new = Settles me t end d calls new
 
 -- The resolver hears a datagram, or ticks, at a moment. `fails`: a request would be sent or a record saved, and
 -- memory ran out; nothing changes but the time.
-pub data Resolves (me : Locator) (now : ℕ) (call : resolver.Call) (w : Running) (calls : List Call) (new : Running) :
+pub data HearsOrTicks (me : Locator) (now : ℕ) (call : resolver.ResolverCall) (w : Running) (calls : List Call) (new : Running) :
     Type 0 where
   does : (reply : Reply) → Step (moved now w.state) call new.state reply
-      → GoesOn me w.desk (progress_of reply) calls new.desk → Resolves me now call w calls new
+      → Proceeds me w.desk (progress_of reply) calls new.desk → HearsOrTicks me now call w calls new
   fails : Wants (moved now w.state) call → new.state ≡ moved now w.state → new.desk ≡ w.desk → calls ≡ []
-      → Resolves me now call w calls new
+      → HearsOrTicks me now call w calls new

@@ -64,10 +64,10 @@ abbrev pub has_unresolved : List LoopEnd → Bool
 has_unresolved ends = list_any is_unresolved ends
 
 -- Who waits for the lookup of a ticket is taken off the list. `nobody`: nobody waits for it. `somebody`: this one does.
-pub data Takes (t : ℕ) (old new : List Owner) (taken : Option Asker) : Type 0 where
-  nobody : All (λ o. o.ticket ≢ t) old → new ≡ old → taken ≡ None → Takes t old new taken
+pub data TakesOff (t : ℕ) (old new : List Owner) (taken : Option Asker) : Type 0 where
+  nobody : All (λ o. o.ticket ≢ t) old → new ≡ old → taken ≡ None → TakesOff t old new taken
   somebody : (before after : List Owner) (who : Asker) → old ≡ before ++ owner_of t who ∷ after → new ≡ before ++ after
-      → taken ≡ Some who → Takes t old new taken
+      → taken ≡ Some who → TakesOff t old new taken
 
 -- no two wait for one lookup
 abbrev pub AreApart : List Owner → Type 0

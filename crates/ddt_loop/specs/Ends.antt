@@ -9,12 +9,12 @@ use Rattle.ddt_resolver.specs.declared.step.Progress.{Progress}
 use Rattle.ddt_resolver.specs.declared.step.Progress.TheVariants.{Stays, Sends, Ends}
 use Rattle.ddt_resolver.specs.declared.step.Reply.{Reply}
 use Rattle.ddt_resolver.specs.State.{State}
-use Rattle.ddt_resolver.specs.Step.{Call, Step, progress_of}
+use Rattle.ddt_resolver.specs.Step.{ResolverCall, Step, progress_of}
 use Rattle.ddt_loop.specs.declared.came.Ended.{Ended}
 use Rattle.ddt_loop.specs.declared.owner.Asker.{Asker}
 use Rattle.ddt_loop.specs.declared.owner.Asker.TheVariants.{Identifier, Itr}
 use Rattle.ddt_loop.specs.declared.owner.Owner.{Owner}
-use Rattle.ddt_loop.specs.Askers.{Takes}
+use Rattle.ddt_loop.specs.Askers.{TakesOff}
 use Rattle.ddt_loop.specs.Acts.{IsToldItr}
 
 -- what an ITR is told at the end of its lookup
@@ -41,7 +41,7 @@ ended_of t end (Some (Itr q)) = Some (record { ticket = t; end = end })
 -- whoever waited for the lookup of a ticket is taken off the list, and this is its end if an ITR did
 pub record IsEnd (t : ℕ) (end : Result Outcome Why) (owners after : List Owner) (ended : Option Ended) : Type 0 where
   pub taken : Option Asker
-  pub takes : Takes t owners after taken
+  pub takes : TakesOff t owners after taken
   pub is : ended ≡ ended_of t end taken
 
 -- A lookup that goes on leaves all who wait. Where one ends, whoever waited for it is taken off the list, and the end
@@ -52,14 +52,14 @@ HasEnded (Sends t d) owners after ended = (after ≡ owners) × (ended ≡ None)
 HasEnded (Ends t end) owners after ended = IsEnd t end owners after ended
 
 -- the resolver's step by a call ends this lookup so, and the ITR that waited for it does so no longer
-pub record EndsBy (call : Call) (s new : State) (owners after : List Owner) (e : Ended) : Type 0 where
+pub record EndsBy (call : ResolverCall) (s new : State) (owners after : List Owner) (e : Ended) : Type 0 where
   pub reply : Reply
   pub step : Step s call new reply
   pub ends : progress_of reply ≡ Ends e.ticket e.end
   pub request : ItrRequest
-  pub takes : Takes e.ticket owners after (Some (Itr request))
+  pub takes : TakesOff e.ticket owners after (Some (Itr request))
 
 -- the lookup that an ITR waited for has ended, or the same ITRs wait as before
-abbrev pub HasEndedBy : Call → State → State → List Owner → List Owner → Option Ended → Type 0
+abbrev pub HasEndedBy : ResolverCall → State → State → List Owner → List Owner → Option Ended → Type 0
 HasEndedBy call s new owners after (Some e) = EndsBy call s new owners after e
 HasEndedBy call s new owners after None = waiting_itrs after ≡ waiting_itrs owners

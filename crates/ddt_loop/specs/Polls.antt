@@ -14,22 +14,22 @@ use Rattle.ddt_resolver.specs.Step.{Hear}
 use Rattle.ddt_sim.specs.Compiled.{reply_at}
 use Rattle.ddt_wire.specs.declared.message_type.MessageType.TheVariants.{Encapsulated}
 use Rattle.ddt_wire.specs.MessageType.{is_of}
-use Rattle.ddt_loop.specs.Acts.{Running, AsksForItr, Resolves}
+use Rattle.ddt_loop.specs.Acts.{Running, AsksForItr, HearsOrTicks}
 
 -- ---- at the resolver's own socket
 
 -- What is done with a packet. `asks`: it is the request of an ITR. `no_request`: another Encapsulated Control Message
 -- is dropped. `hears`: any other datagram from UDP port 4342 is heard. `other_port`: from another port it is dropped.
-pub data IsTaken (me : Locator) (now : ℕ) (p : Packet) (bytes : List ℕ) (w : Running) (calls : List Call)
+pub data IsPacketTaken (me : Locator) (now : ℕ) (p : Packet) (bytes : List ℕ) (w : Running) (calls : List Call)
     (new : Running) : Type 0 where
   asks : is_of Encapsulated bytes ≡ true → (q : ItrRequest) → IsItrRequest bytes q → AsksForItr me now q w calls new
-      → IsTaken me now p bytes w calls new
+      → IsPacketTaken me now p bytes w calls new
   no_request : is_of Encapsulated bytes ≡ true → ((q : ItrRequest) → IsItrRequest bytes q → ⊥) → calls ≡ [] → new ≡ w
-      → IsTaken me now p bytes w calls new
-  hears : is_of Encapsulated bytes ≡ false → p.port ≡ control_port → Resolves me now (Hear p.from bytes) w calls new
-      → IsTaken me now p bytes w calls new
+      → IsPacketTaken me now p bytes w calls new
+  hears : is_of Encapsulated bytes ≡ false → p.port ≡ control_port → HearsOrTicks me now (Hear p.from bytes) w calls new
+      → IsPacketTaken me now p bytes w calls new
   other_port : is_of Encapsulated bytes ≡ false → p.port ≢ control_port → calls ≡ [] → new ≡ w
-      → IsTaken me now p bytes w calls new
+      → IsPacketTaken me now p bytes w calls new
 
 -- the call of `receive` that gives this answer
 abbrev pub polled : Locator → Result (Option Packet) NetFault → List ℕ → Call
@@ -42,7 +42,7 @@ IsNoPacket at call = (call ≡ polled at (Ok None) []) ⊎ ((fault : NetFault) �
 -- a poll: no packet comes, or one is taken
 pub data PollsMe (me : Locator) (now : ℕ) (w : Running) (calls : List Call) (new : Running) : Type 0 where
   no_packet : (call : Call) → IsNoPacket me call → calls ≡ call ∷ [] → new ≡ w → PollsMe me now w calls new
-  came : (p : Packet) (bytes : List ℕ) (rest : List Call) → IsTaken me now p bytes w rest new
+  came : (p : Packet) (bytes : List ℕ) (rest : List Call) → IsPacketTaken me now p bytes w rest new
       → calls ≡ polled me (Ok (Some p)) bytes ∷ rest → PollsMe me now w calls new
 
 -- ---- at a server's socket

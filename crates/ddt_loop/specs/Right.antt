@@ -19,7 +19,7 @@ use Rattle.ddt_resolver.specs.declared.results.Outgoing.{Outgoing}
 use Rattle.ddt_resolver.specs.declared.itr_messages.ItrRequest.{ItrRequest}
 use Rattle.ddt_resolver.specs.Front.{IsItrRequest, reply_to_itr}
 use Rattle.ddt_resolver.specs.State.{State, request_bytes}
-use Rattle.ddt_resolver.specs.TakeUp.{Tells as IsReferralOf}
+use Rattle.ddt_resolver.specs.TakeUp.{TellsReply as IsReferralOf}
 use Rattle.ddt_sim.specs.Compiled.{AreCompiled}
 use Rattle.ddt_sim.specs.Schedules.{StartsSound}
 use Rattle.ddt_sim.specs.Sound.{IsRightWhy}
@@ -36,8 +36,8 @@ WasAsked me server nonce x calls =
 
 -- Of each request for x that was tried to a server before: a packet at the resolver's socket that comes from the
 -- server's UDP port 4342, and spells a Map-Referral of the nonce, says what the register says there of x.
-abbrev pub IsFair : Register → Locator → List Call → Type 0
-IsFair r me calls =
+abbrev pub ArePacketsFair : Register → Locator → List Call → Type 0
+ArePacketsFair r me calls =
     (earlier later : List Call) (room : ℕ) (p : Packet) (bytes : List ℕ) (nonce : ℕ) (rec : ReferralRecord) (x : Xeid)
     → calls ≡ earlier ++ Received me room (Ok (Some p)) bytes ∷ later → p.port ≡ control_port
     → IsReferralOf bytes nonce rec → WasAsked me p.from nonce x earlier → rec ≡ says r p.from (xeid_path x)
@@ -45,11 +45,11 @@ IsFair r me calls =
 -- ---- the ends
 
 -- the outcome is what the register assigns to the identifier; a lookup gives up where replies or nonces run out
-abbrev pub IsRightEnd : Register → Xeid → LoopEnd → Type 0
-IsRightEnd r x (Answer o) = o ≡ assignment r (xeid_path x)
-IsRightEnd r x (GaveUp why) = IsRightWhy why
-IsRightEnd r x (Refused why) = Unit {0}
-IsRightEnd r x Unresolved = Unit {0}
+abbrev pub IsRightLoopEnd : Register → Xeid → LoopEnd → Type 0
+IsRightLoopEnd r x (Answer o) = o ≡ assignment r (xeid_path x)
+IsRightLoopEnd r x (GaveUp why) = IsRightWhy why
+IsRightLoopEnd r x (Refused why) = Unit {0}
+IsRightLoopEnd r x Unresolved = Unit {0}
 
 -- whether a call polls a socket
 abbrev pub is_poll : Call → Bool
@@ -99,4 +99,4 @@ abbrev pub WhenFair : List Outline → State → Locator → List Locator → Op
     → (Register → List Call → Type 0) → Type 0
 WhenFair servers old me sockets before after fact =
     (r : Register) → AreCompiled servers r → StartsSound r old → old.me ≡ me → lists sockets me ≡ false
-    → WhenTold before after (λ calls. IsFair r me calls → fact r calls)
+    → WhenTold before after (λ calls. ArePacketsFair r me calls → fact r calls)

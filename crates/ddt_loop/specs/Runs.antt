@@ -6,31 +6,31 @@ use Rattle.ddt_wires.specs.declared.call.Call.{Call}
 use Rattle.ddt_wires.specs.declared.call.Call.TheVariants.{Received}
 use Rattle.ddt_wires.specs.declared.call.Packet.{Packet}
 use Rattle.ddt_cache.specs.Moment.{last_moment}
-use Rattle.ddt_resolver.specs.Order.{IsInOrder}
+use Rattle.ddt_resolver.specs.Order.{IsStateInOrder}
 use Rattle.ddt_resolver.specs.State.{State}
 use Rattle.ddt_resolver.specs.Step.{Tick}
 use Rattle.ddt_sim.specs.Schedules.{StartsSound}
 use Rattle.ddt_sim.specs.Sound.{IsSound}
 use Rattle.ddt_loop.specs.Askers.{opening_desk}
-use Rattle.ddt_loop.specs.Acts.{Running, running, Resolves}
-use Rattle.ddt_loop.specs.Polls.{IsTaken}
-use Rattle.ddt_loop.specs.Right.{IsFair, IsNoReply, RepliesAreOwed}
+use Rattle.ddt_loop.specs.Acts.{Running, running, HearsOrTicks}
+use Rattle.ddt_loop.specs.Polls.{IsPacketTaken}
+use Rattle.ddt_loop.specs.Right.{ArePacketsFair, IsNoReply, RepliesAreOwed}
 
 -- What has been done so far, in any order. `took`: a packet came to the resolver's socket and was taken. `ticked`: it
 -- ticked. `passed`: a call that concerns nobody who waits, as a poll that gives no packet or one that is dropped.
 pub data HasRun (me : Locator) (start : Running) : List Call → Running → Type 0 where
   begins : HasRun me start [] start
   took : {calls : List Call} {w : Running} (now room : ℕ) (p : Packet) (bytes : List ℕ) (tries : List Call)
-      (new : Running) → HasRun me start calls w → now ≤ last_moment → IsTaken me now p bytes w tries new
+      (new : Running) → HasRun me start calls w → now ≤ last_moment → IsPacketTaken me now p bytes w tries new
       → HasRun me start (calls ++ Received me room (Ok (Some p)) bytes ∷ tries) new
   ticked : {calls : List Call} {w : Running} (now : ℕ) (tries : List Call) (new : Running) → HasRun me start calls w
-      → now ≤ last_moment → Resolves me now Tick w tries new → HasRun me start (calls ++ tries) new
+      → now ≤ last_moment → HearsOrTicks me now Tick w tries new → HasRun me start (calls ++ tries) new
   passed : {calls : List Call} {w : Running} (call : Call) → HasRun me start calls w → IsNoReply me call
       → HasRun me start (calls ++ call ∷ []) w
 
 -- A resolver begins sound for a register, with its own address and with nobody who waits. Where the calls since then
 -- are fair, each negative Map-Reply is owed for what the register assigns, and the resolver is sound.
 abbrev pub FairRunsAreRight : Type 0
-FairRunsAreRight = (r : Register) (me : Locator) (start : State) (calls : List Call) (w : Running) → IsInOrder start
-    → StartsSound r start → start.me ≡ me → HasRun me (running start (opening_desk [])) calls w → IsFair r me calls
+FairRunsAreRight = (r : Register) (me : Locator) (start : State) (calls : List Call) (w : Running) → IsStateInOrder start
+    → StartsSound r start → start.me ≡ me → HasRun me (running start (opening_desk [])) calls w → ArePacketsFair r me calls
     → RepliesAreOwed r me calls × IsSound r w.state

@@ -9,7 +9,7 @@ use Rattle.ddt_resolver.specs.State.{State}
 use Rattle.ddt_resolver.specs.Step.{Tick}
 use Rattle.ddt_loop.specs.declared.ends.LoopEnd.{LoopEnd}
 use Rattle.ddt_loop.specs.Askers.{opening_desk, has_unresolved}
-use Rattle.ddt_loop.specs.Acts.{Running, running, AsksAt, Resolves}
+use Rattle.ddt_loop.specs.Acts.{Running, running, AsksAt, HearsOrTicks}
 use Rattle.ddt_loop.specs.Polls.{Polls}
 
 -- So many of the identifiers have been asked for, in their order, at one moment.
@@ -20,14 +20,14 @@ pub data HaveAsked (me : Locator) (now : ℕ) (ids : List Xeid) (start : Running
       → HaveAsked me now ids start (place + 1) (calls ++ more) new
 
 -- A turn, by its number, the first being 0: at one moment a socket is polled, and the resolver ticks.
-pub record IsTurn (servers : List Outline) (me : Locator) (sockets : List Locator) (number now : ℕ) (w : Running)
+pub record IsLoopTurn (servers : List Outline) (me : Locator) (sockets : List Locator) (number now : ℕ) (w : Running)
     (calls : List Call) (new : Running) : Type 0 where
   pub is_moment : now ≤ last_moment
   pub polling : List Call
   pub ticking : List Call
   pub midway : Running
   pub polls : Polls servers me sockets now (number % (length sockets + 1)) w polling midway
-  pub ticks : Resolves me now Tick midway ticking new
+  pub ticks : HearsOrTicks me now Tick midway ticking new
   pub calls_are : calls ≡ polling ++ ticking
 
 -- So many turns, each at its moment, and each while the lookup of an identifier hadn't ended.
@@ -36,7 +36,7 @@ pub data HaveTurned (servers : List Outline) (me : Locator) (sockets : List Loca
   no_turn : HaveTurned servers me sockets start 0 [] [] start
   one_turn : {number : ℕ} {moments : List ℕ} {calls : List Call} {w : Running} (now : ℕ) (turn : List Call)
       (new : Running) → HaveTurned servers me sockets start number moments calls w
-      → has_unresolved w.desk.ends ≡ true → IsTurn servers me sockets number now w turn new
+      → has_unresolved w.desk.ends ≡ true → IsLoopTurn servers me sockets number now w turn new
       → HaveTurned servers me sockets start (number + 1) (moments ++ now ∷ []) (calls ++ turn) new
 
 -- The turns, until the lookups of all identifiers have ended or so many turns are used.

@@ -3,7 +3,7 @@
 ghost use Rattle.std.specs.Prelude.{◌≡◌, ◌<◌, ◌==◌, ℕ, Some, length, position, IfOk};
 ghost use Rattle.ddt_resolver.specs.State.{most_pending};
 ghost use Rattle.ddt_loop.specs.declared.owner.Asker.{Asker as AnAsker};
-ghost use Rattle.ddt_loop.specs.Askers.{Desk, opening_desk, with_owner, with_end, has_unresolved, Takes};
+ghost use Rattle.ddt_loop.specs.Askers.{Desk, opening_desk, with_owner, with_end, has_unresolved, TakesOff};
 
 use crate::ends::{LoopEnd, is_open, unresolved};
 use crate::owner::{Asker, Owner};
@@ -70,7 +70,7 @@ impl Askers {
 
     /// Who waits for the end of a lookup, and does so no longer; None where nobody does.
     pub(crate) fn take(&mut self, ticket: Ticket) -> Option<Asker>
-        ensures takes { Takes ticket self.old.owners self.new.owners result }
+        ensures takes { TakesOff ticket self.old.owners self.new.owners result }
         ensures ends { self.new.ends ≡ self.old.ends }
     {
         let place = place_of(self.owners.as_slice(), ticket.number())?;

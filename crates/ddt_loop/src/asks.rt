@@ -2,7 +2,7 @@
 
 ghost use Rattle.std.specs.Prelude.{◌≡◌, List, length, IfSome, IfNone};
 ghost use Rattle.ddt_wires.specs.declared.call.Call.{Call as ACall};
-ghost use Rattle.ddt_wires.specs.Calls.{Tells};
+ghost use Rattle.ddt_wires.specs.Calls.{RecordsCalls};
 ghost use Rattle.ddt_loop.specs.declared.owner.Asker.TheVariants.{Itr as IsItr};
 ghost use Rattle.ddt_loop.specs.Askers.{AreOwners, with_owner};
 ghost use Rattle.ddt_loop.specs.Acts.{running, remembered, IsSent, IsToldItr, Starts, HasRoomFor};
@@ -29,7 +29,7 @@ pub(crate) fn ask_all<W: Wires, M: PrefixMap<Entry>>(
     askers: &mut Askers,
 )
     requires { AreOwners resolver.old askers.old.owners }
-    ensures asks { (calls : List ACall) × Tells (W.calls wires.old) calls (W.calls wires.new)
+    ensures asks { (calls : List ACall) × RecordsCalls (W.calls wires.old) calls (W.calls wires.new)
         × HaveAsked here.now.me here.now.moment ids.now (running resolver.old askers.old) (length ids.now) calls
         (running resolver.new askers.new) }
     ensures owners { AreOwners resolver.new askers.new.owners }
@@ -49,7 +49,7 @@ fn ask_at<W: Wires, M: PrefixMap<Entry>>(
     askers: &mut Askers,
 )
     requires { AreOwners resolver.old askers.old.owners }
-    ensures asks { (calls : List ACall) × Tells (W.calls wires.old) calls (W.calls wires.new)
+    ensures asks { (calls : List ACall) × RecordsCalls (W.calls wires.old) calls (W.calls wires.new)
         × AsksAt here.now.me here.now.moment place x (running resolver.old askers.old) calls (running resolver.new askers.new) }
     ensures owners { AreOwners resolver.new askers.new.owners }
 {
@@ -69,7 +69,7 @@ pub(crate) fn ask_for_itr<W: Wires, M: PrefixMap<Entry>>(
     requires { AreOwners resolver.old askers.old.owners }
     ensures waits { IfSome result (λ t. askers.new ≡ with_owner askers.old t (IsItr request)) }
     ensures none { IfNone result (askers.new ≡ askers.old) }
-    ensures asks { (calls : List ACall) × Tells (W.calls wires.old) calls (W.calls wires.new)
+    ensures asks { (calls : List ACall) × RecordsCalls (W.calls wires.old) calls (W.calls wires.new)
         × AsksForItr here.now.me here.now.moment request (running resolver.old askers.old) calls (running resolver.new askers.new) }
     ensures owners { AreOwners resolver.new askers.new.owners }
 {
@@ -96,7 +96,7 @@ fn ask<W: Wires, M: PrefixMap<Entry>>(
     askers: &mut Askers,
 ) -> Result<Option<Outcome>, AskError>
     requires { AreOwners resolver.old askers.old.owners }
-    ensures asks { (calls : List ACall) × Tells (W.calls wires.old) calls (W.calls wires.new)
+    ensures asks { (calls : List ACall) × RecordsCalls (W.calls wires.old) calls (W.calls wires.new)
         × Asks here.now.me here.now.moment x asker (running resolver.old askers.old) result calls (running resolver.new askers.new) }
     ensures owners { AreOwners resolver.new askers.new.owners }
 {
@@ -118,7 +118,7 @@ fn after_ask<W: Wires>(
     asked: Asked,
 ) -> Option<Outcome>
     requires { HasRoomFor asked askers.old }
-    ensures starts { (calls : List ACall) × Tells (W.calls wires.old) calls (W.calls wires.new)
+    ensures starts { (calls : List ACall) × RecordsCalls (W.calls wires.old) calls (W.calls wires.new)
         × Starts me asker askers.old asked calls askers.new }
     ensures remembered { result ≡ remembered asked }
 {
@@ -134,7 +134,7 @@ fn after_ask<W: Wires>(
 
 /// Tries to send a datagram from the resolver's address. One that can't be sent is lost.
 pub(crate) fn try_to_send<W: Wires>(wires: &mut W, me: Locator, datagram: &Outgoing)
-    ensures { (calls : List ACall) × Tells (W.calls wires.old) calls (W.calls wires.new)
+    ensures { (calls : List ACall) × RecordsCalls (W.calls wires.old) calls (W.calls wires.new)
         × IsSent me datagram.now calls }
 {
     let _sent = wires.send(me, datagram.to, datagram.port, datagram.bytes.as_slice());
@@ -148,7 +148,7 @@ pub(crate) fn reply_to_itr<W: Wires>(
     outcome: &Outcome,
     request: &ItrRequest,
 )
-    ensures { (calls : List ACall) × Tells (W.calls wires.old) calls (W.calls wires.new)
+    ensures { (calls : List ACall) × RecordsCalls (W.calls wires.old) calls (W.calls wires.new)
         × IsToldItr me outcome.now request.now calls }
 {
     match Front::itr_reply(alloc, outcome, request) {

@@ -2,7 +2,7 @@
 
 ghost use Rattle.std.specs.Prelude.{◌≡◌, ◌+◌, ℕ, min, List, [], ◌∷◌, Option, None};
 ghost use Rattle.ddt_cache.specs.Moment.{last_moment};
-ghost use Rattle.ddt_wires.specs.Calls.{Tells};
+ghost use Rattle.ddt_wires.specs.Calls.{RecordsCalls};
 
 use ddt_cache::{LAST_MOMENT, Moment};
 use std::time::Instant;
@@ -15,7 +15,7 @@ pub trait Clock {
 
     /// The moment that it is, in milliseconds.
     fn now(&mut self) -> Moment
-        ensures { Tells (readings self.old) (result ∷ []) (readings self.new) };
+        ensures { RecordsCalls (readings self.old) (result ∷ []) (readings self.new) };
 }
 
 /// A clock that stands.
@@ -27,7 +27,7 @@ pub struct StandingClock {
 
 impl Clock for StandingClock {
     fn now(&mut self) -> Moment
-        ensures reads { Tells None (result ∷ []) None }
+        ensures reads { RecordsCalls None (result ∷ []) None }
         ensures at { result ≡ self.old.at }
         ensures stays { self.new ≡ self.old }
     {
@@ -46,7 +46,7 @@ pub struct SteppingClock {
 
 impl Clock for SteppingClock {
     fn now(&mut self) -> Moment
-        ensures reads { Tells None (result ∷ []) None }
+        ensures reads { RecordsCalls None (result ∷ []) None }
         ensures at { result ≡ self.old.next }
         ensures next { self.new.next ≡ min (self.old.next + self.old.step) last_moment }
         ensures step { self.new.step ≡ self.old.step }

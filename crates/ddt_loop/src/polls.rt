@@ -3,7 +3,7 @@
 
 ghost use Rattle.std.specs.Prelude.{◌≡◌, ◌+◌, ◌%◌, ◌≤◌, ◌∷◌, [], List, length, take as front_of, Ok, Some, IfSome, IfNone};
 ghost use Rattle.ddt_wires.specs.declared.call.Call.{Call as ACall};
-ghost use Rattle.ddt_wires.specs.Calls.{Tells};
+ghost use Rattle.ddt_wires.specs.Calls.{RecordsCalls};
 ghost use Rattle.ddt_wires.specs.Turns.{most_bytes};
 ghost use Rattle.ddt_loop.specs.Askers.{AreOwners};
 ghost use Rattle.ddt_loop.specs.Acts.{running};
@@ -48,7 +48,7 @@ pub(crate) fn poll_in_turn<W: Wires, N: PrefixMap<u32>, M: PrefixMap<Entry>>(
 )
     requires buffer { length buffer.old ≡ most_bytes }
     requires owners { AreOwners resolver.old askers.old.owners }
-    ensures polls { (calls : List ACall) × Tells (W.calls wires.old) calls (W.calls wires.new)
+    ensures polls { (calls : List ACall) × RecordsCalls (W.calls wires.old) calls (W.calls wires.new)
         × Polls tree.now.servers.now tree.now.me tree.now.sockets.now turn.now.moment
         (turn.now.number % (length tree.now.sockets.now + 1)) (running resolver.old askers.old) calls
         (running resolver.new askers.new) }
@@ -71,11 +71,11 @@ pub(crate) fn poll_in_turn<W: Wires, N: PrefixMap<u32>, M: PrefixMap<Entry>>(
 /// is lost, and the next turn goes on.
 fn poll<W: Wires>(wires: &mut W, at: Locator, buffer: &mut [u8]) -> Option<Packet>
     requires { length buffer.old ≡ most_bytes }
-    ensures came { IfSome result (λ packet. Tells (W.calls wires.old)
+    ensures came { IfSome result (λ packet. RecordsCalls (W.calls wires.old)
         (polled at (Ok (Some packet)) (front_of packet.len buffer.new) ∷ []) (W.calls wires.new)) }
     ensures fits { IfSome result (λ packet. packet.len ≤ length buffer.new) }
     ensures none { IfNone result ((call : ACall) × IsNoPacket at call
-        × Tells (W.calls wires.old) (call ∷ []) (W.calls wires.new)) }
+        × RecordsCalls (W.calls wires.old) (call ∷ []) (W.calls wires.new)) }
 {
     match wires.receive(at, buffer) {
         Ok(answer) => answer,
@@ -93,7 +93,7 @@ fn poll_me<W: Wires, M: PrefixMap<Entry>>(
 )
     requires buffer { length buffer.old ≡ most_bytes }
     requires owners { AreOwners resolver.old askers.old.owners }
-    ensures polls { (calls : List ACall) × Tells (W.calls wires.old) calls (W.calls wires.new)
+    ensures polls { (calls : List ACall) × RecordsCalls (W.calls wires.old) calls (W.calls wires.new)
         × PollsMe here.now.me here.now.moment (running resolver.old askers.old) calls (running resolver.new askers.new) }
     ensures owners { AreOwners resolver.new askers.new.owners }
 {
@@ -115,7 +115,7 @@ fn poll_server<W: Wires, N: PrefixMap<u32>>(
     buffer: &mut [u8],
 )
     requires { length buffer.old ≡ most_bytes }
-    ensures { (calls : List ACall) × Tells (W.calls wires.old) calls (W.calls wires.new)
+    ensures { (calls : List ACall) × RecordsCalls (W.calls wires.old) calls (W.calls wires.new)
         × PollsServer servers.now at calls }
 {
     match poll(wires, at, buffer) {
@@ -137,7 +137,7 @@ fn serve<W: Wires, N: PrefixMap<u32>>(
     packet: Packet,
     bytes: &[u8],
 )
-    ensures { (tries : List ACall) × Tells (W.calls wires.old) tries (W.calls wires.new)
+    ensures { (tries : List ACall) × RecordsCalls (W.calls wires.old) tries (W.calls wires.new)
         × PollsServer servers.now at (polled at (Ok (Some packet)) bytes.now ∷ tries) }
 {
     match servers.reply(alloc, at, bytes) {

@@ -2,14 +2,14 @@
 
 ghost use Rattle.std.specs.Prelude.{◌≡◌, [], List, IfOk};
 ghost use Rattle.ddt_wires.specs.declared.call.Call.{Call as ACall};
-ghost use Rattle.ddt_wires.specs.Calls.{Tells};
+ghost use Rattle.ddt_wires.specs.Calls.{RecordsCalls};
 ghost use Rattle.ddt_resolver.specs.State.{moved};
 ghost use Rattle.ddt_resolver.specs.Step.{Tick};
 ghost use Rattle.ddt_loop.specs.Askers.{opening_desk};
-ghost use Rattle.ddt_loop.specs.Acts.{running, Resolves};
+ghost use Rattle.ddt_loop.specs.Acts.{running, HearsOrTicks};
 ghost use Rattle.ddt_loop.specs.Coming.{IsCame};
 ghost use Rattle.ddt_loop.specs.Ends.{HasEndedBy};
-ghost use Rattle.ddt_loop.specs.Polls.{IsTaken};
+ghost use Rattle.ddt_loop.specs.Polls.{IsPacketTaken};
 ghost use Rattle.ddt_loop.specs.Runs.{FairRunsAreRight};
 
 use crate::askers::Askers;
@@ -85,8 +85,8 @@ impl<M: PrefixMap<Entry>> RunningResolver<M> {
         bytes: &[u8],
     ) -> Came
         ensures came { IsCame now packet.from bytes.now self.old self.new result }
-        ensures taken { (calls : List ACall) × Tells (W.calls wires.old) calls (W.calls wires.new)
-            × IsTaken me now packet bytes.now self.old calls self.new }
+        ensures taken { (calls : List ACall) × RecordsCalls (W.calls wires.old) calls (W.calls wires.new)
+            × IsPacketTaken me now packet bytes.now self.old calls self.new }
     {
         let here = Here { me, moment: now };
         take(
@@ -105,8 +105,8 @@ impl<M: PrefixMap<Entry>> RunningResolver<M> {
     pub fn tick<W: Wires>(&mut self, wires: &mut W, me: Locator, now: Moment) -> Option<Ended>
         ensures ended { HasEndedBy Tick (moved now self.old.state) self.new.state
             self.old.desk.owners self.new.desk.owners result }
-        ensures resolves { (calls : List ACall) × Tells (W.calls wires.old) calls (W.calls wires.new)
-            × Resolves me now Tick self.old calls self.new }
+        ensures resolves { (calls : List ACall) × RecordsCalls (W.calls wires.old) calls (W.calls wires.new)
+            × HearsOrTicks me now Tick self.old calls self.new }
     {
         let here = Here { me, moment: now };
         resolve(

@@ -2,14 +2,14 @@
 
 ghost use Rattle.std.specs.Prelude.{◌≡◌, List};
 ghost use Rattle.ddt_wires.specs.declared.call.Call.{Call as ACall};
-ghost use Rattle.ddt_wires.specs.Calls.{Tells};
+ghost use Rattle.ddt_wires.specs.Calls.{RecordsCalls};
 ghost use Rattle.ddt_resolver.specs.State.{moved};
 ghost use Rattle.ddt_resolver.specs.Step.{call_of};
 ghost use Rattle.ddt_loop.specs.Askers.{AreOwners};
-ghost use Rattle.ddt_loop.specs.Acts.{running, GoesOn, Settles, Resolves};
+ghost use Rattle.ddt_loop.specs.Acts.{running, Proceeds, Settles, HearsOrTicks};
 ghost use Rattle.ddt_loop.specs.Ends.{IsToldEnd, IsEnd, HasEnded, HasEndedBy};
 ghost use Rattle.ddt_loop.specs.Coming.{IsCame};
-ghost use Rattle.ddt_loop.specs.Polls.{IsTaken};
+ghost use Rattle.ddt_loop.specs.Polls.{IsPacketTaken};
 
 use crate::askers::Askers;
 use crate::asks::{ask_for_itr, reply_to_itr, try_to_send};
@@ -46,8 +46,8 @@ pub(crate) fn take<W: Wires, M: PrefixMap<Entry>>(
     requires { AreOwners resolver.old askers.old.owners }
     ensures came { IsCame here.now.moment packet.from bytes.now (running resolver.old askers.old)
         (running resolver.new askers.new) result }
-    ensures taken { (calls : List ACall) × Tells (W.calls wires.old) calls (W.calls wires.new)
-        × IsTaken here.now.me here.now.moment packet bytes.now (running resolver.old askers.old) calls
+    ensures taken { (calls : List ACall) × RecordsCalls (W.calls wires.old) calls (W.calls wires.new)
+        × IsPacketTaken here.now.me here.now.moment packet bytes.now (running resolver.old askers.old) calls
         (running resolver.new askers.new) }
     ensures owners { AreOwners resolver.new askers.new.owners }
 {
@@ -80,8 +80,8 @@ pub(crate) fn resolve<W: Wires, M: PrefixMap<Entry>>(
     requires { AreOwners resolver.old askers.old.owners }
     ensures ended { HasEndedBy (call_of input.entry) (moved here.now.moment resolver.old) resolver.new
         askers.old.owners askers.new.owners result }
-    ensures resolves { (calls : List ACall) × Tells (W.calls wires.old) calls (W.calls wires.new)
-        × Resolves here.now.me here.now.moment (call_of input.entry) (running resolver.old askers.old) calls
+    ensures resolves { (calls : List ACall) × RecordsCalls (W.calls wires.old) calls (W.calls wires.new)
+        × HearsOrTicks here.now.me here.now.moment (call_of input.entry) (running resolver.old askers.old) calls
         (running resolver.new askers.new) }
     ensures owners { AreOwners resolver.new askers.new.owners }
 {
@@ -101,8 +101,8 @@ fn go_on<W: Wires>(
     askers: &mut Askers,
     progress: Progress,
 ) -> Option<Ended>
-    ensures goes { (calls : List ACall) × Tells (W.calls wires.old) calls (W.calls wires.new)
-        × GoesOn me askers.old progress calls askers.new }
+    ensures goes { (calls : List ACall) × RecordsCalls (W.calls wires.old) calls (W.calls wires.new)
+        × Proceeds me askers.old progress calls askers.new }
     ensures ended { HasEnded progress askers.old.owners askers.new.owners result }
 {
     match progress {
@@ -123,7 +123,7 @@ fn settle<W: Wires>(
     ticket: Ticket,
     end: Result<Outcome, Why>,
 ) -> Option<Ended>
-    ensures settles { (calls : List ACall) × Tells (W.calls wires.old) calls (W.calls wires.new)
+    ensures settles { (calls : List ACall) × RecordsCalls (W.calls wires.old) calls (W.calls wires.new)
         × Settles me ticket end askers.old calls askers.new }
     ensures ended { IsEnd ticket end askers.old.owners askers.new.owners result }
 {
@@ -148,7 +148,7 @@ fn tell_itr<W: Wires>(
     request: &ItrRequest,
     end: &Result<Outcome, Why>,
 )
-    ensures { (calls : List ACall) × Tells (W.calls wires.old) calls (W.calls wires.new)
+    ensures { (calls : List ACall) × RecordsCalls (W.calls wires.old) calls (W.calls wires.new)
         × IsToldEnd me end.now request.now calls }
 {
     match end {

@@ -4,13 +4,13 @@ ghost use Rattle.std.specs.Prelude.{◌≡◌, ℕ, true, List, length, count_by
 ghost use Rattle.std.specs.List.{AllZip};
 ghost use Rattle.ddt_register.specs.declared.register.Register.{Register};
 ghost use Rattle.ddt_wires.specs.declared.call.Call.{Call as ACall};
-ghost use Rattle.ddt_wires.specs.Calls.{Tells};
+ghost use Rattle.ddt_wires.specs.Calls.{RecordsCalls};
 ghost use Rattle.ddt_wires.specs.Turns.{most_bytes};
 ghost use Rattle.ddt_sim.specs.Sound.{IsSound};
 ghost use Rattle.ddt_loop.specs.Askers.{AreOwners, has_unresolved};
 ghost use Rattle.ddt_loop.specs.Acts.{running};
-ghost use Rattle.ddt_loop.specs.Turns.{IsTurn, TurnsWithin, IsLoop};
-ghost use Rattle.ddt_loop.specs.Right.{IsRightEnd, RepliesAreOwed, WhenFair, WhenTold, is_poll};
+ghost use Rattle.ddt_loop.specs.Turns.{IsLoopTurn, TurnsWithin, IsLoop};
+ghost use Rattle.ddt_loop.specs.Right.{IsRightLoopEnd, RepliesAreOwed, WhenFair, WhenTold, is_poll};
 
 use crate::askers::Askers;
 use crate::asks::ask_all;
@@ -53,7 +53,7 @@ pub fn loop_turns<W: Wires, C: Clock, N: PrefixMap<u32>, M: PrefixMap<Entry>>(
 ) -> Result<Vec<LoopEnd>, AllocError>
     // Where what wires tell is fair, each end is right for its identifier: an outcome is what the register assigns.
     ensures answers { IfOk result (λ ends. WhenFair tree.now.servers.now resolver.old tree.now.me tree.now.sockets.now
-        (W.calls wires.old) (W.calls wires.new) (λ r calls. AllZip (IsRightEnd r) ids.now ends.items)) }
+        (W.calls wires.old) (W.calls wires.new) (λ r calls. AllZip (IsRightLoopEnd r) ids.now ends.items)) }
     // Each reply to an ITR is for what the register assigns, and there is at most one to each of its requests.
     ensures replies { IfOk result (λ ends. WhenFair tree.now.servers.now resolver.old tree.now.me tree.now.sockets.now
         (W.calls wires.old) (W.calls wires.new) (λ r calls. RepliesAreOwed r tree.now.me calls)) }
@@ -65,8 +65,8 @@ pub fn loop_turns<W: Wires, C: Clock, N: PrefixMap<u32>, M: PrefixMap<Entry>>(
     // Whatever comes: some moments and some calls are those of such a run. A clock that tells its readings has told
     // just these moments, and wires that tell their calls just these calls.
     ensures run { IfOk result (λ ends. (moments : List ℕ) × (calls : List ACall)
-        × Tells (C.readings clock.old) moments (C.readings clock.new)
-        × Tells (W.calls wires.old) calls (W.calls wires.new)
+        × RecordsCalls (C.readings clock.old) moments (C.readings clock.new)
+        × RecordsCalls (W.calls wires.old) calls (W.calls wires.new)
         × IsLoop tree.now.servers.now resolver.old tree.now.me tree.now.sockets.now ids.now turns moments calls
         ends.items resolver.new) }
     // If out of memory, nothing was done.
@@ -100,8 +100,8 @@ fn take_turns<W: Wires, C: Clock, N: PrefixMap<u32>, M: PrefixMap<Entry>>(
 )
     requires { AreOwners resolver.old askers.old.owners }
     ensures { (moments : List ℕ) × (calls : List ACall)
-        × Tells (C.readings clock.old) moments (C.readings clock.new)
-        × Tells (W.calls wires.old) calls (W.calls wires.new)
+        × RecordsCalls (C.readings clock.old) moments (C.readings clock.new)
+        × RecordsCalls (W.calls wires.old) calls (W.calls wires.new)
         × TurnsWithin tree.now.servers.now tree.now.me tree.now.sockets.now turns (running resolver.old askers.old)
         moments calls (running resolver.new askers.new) }
 {
@@ -129,8 +129,8 @@ fn take_turn<W: Wires, N: PrefixMap<u32>, M: PrefixMap<Entry>>(
 )
     requires buffer { length buffer.old ≡ most_bytes }
     requires owners { AreOwners resolver.old askers.old.owners }
-    ensures turn { (calls : List ACall) × Tells (W.calls wires.old) calls (W.calls wires.new)
-        × IsTurn tree.now.servers.now tree.now.me tree.now.sockets.now turn.now.number turn.now.moment
+    ensures turn { (calls : List ACall) × RecordsCalls (W.calls wires.old) calls (W.calls wires.new)
+        × IsLoopTurn tree.now.servers.now tree.now.me tree.now.sockets.now turn.now.number turn.now.moment
         (running resolver.old askers.old) calls (running resolver.new askers.new) }
     ensures owners { AreOwners resolver.new askers.new.owners }
 {

@@ -17,7 +17,7 @@ use Rattle.csv.specs.Writing.{default_writer, row_text}
 use Rattle.std.proofs.lemmas.Grind.{flat_map-append}
 use Rattle.std.proofs.lemmas.List.Concat.{flat_map-cons}
 use Rattle.ddt_loopback.specs.Records.{AreItsRows, columns, items_of_rows, records_of, row_fields, row_number}
-use Rattle.ddt_loopback.specs.Written.{IsNotFirst, Takes, text_of}
+use Rattle.ddt_loopback.specs.Written.{IsNotFirst, TakesItem, text_of}
 
 -- ---- lists of items, one behind the other
 
@@ -245,13 +245,13 @@ one_taken r n rows (Of.Group g) left m is most =
 
 -- the next number, whether a row has it or not
 pub passes : (r : Register) (n : ℕ) (rows : List Row) (left after : Lists) → IsMidway r n rows left
-    → Takes n left after None
+    → TakesItem n left after None
     → IsMidway r (n + 1) rows after
 passes r n rows left after m t = subst (IsMidway r (n + 1) rows) (sym t.0) (none_taken r n rows left m t.1 t.2 t.3)
 
 pub takes : (r : Register) (n : ℕ) (rows : List Row) (left after : Lists) (fields : List (List ℕ))
     → IsMidway r n rows left
-    → n ≤ 65535 → (t : Takes n left after (Some fields)) → IsMidway r (n + 1) (rows ++ t.0 ∷ []) after
+    → n ≤ 65535 → (t : TakesItem n left after (Some fields)) → IsMidway r (n + 1) (rows ++ t.0 ∷ []) after
 takes r n rows left after fields m most t = one_taken r n rows t.0 after (subst (IsMidway r n rows) t.3 m) t.2 most
 
 pub ends : (r : Register) (rows : List Row) (left : Lists) → IsMidway r 65536 rows left → AreItsRows r rows

@@ -32,8 +32,8 @@ IsNotFirst row_of n [] = ⊤
 IsNotFirst row_of n (x ∷ xs) = row_of x ≢ n
 
 -- the item of this row is taken from the items that are left, and its fields are given; or no first item stands there
-abbrev pub Takes : ℕ → Lists → Lists → Option (List (List ℕ)) → Type 0
-Takes n before after None = (after ≡ before) × IsNotFirst (λ z. z.row) n before.zones
+abbrev pub TakesItem : ℕ → Lists → Lists → Option (List (List ℕ)) → Type 0
+TakesItem n before after None = (after ≡ before) × IsNotFirst (λ z. z.row) n before.zones
     × IsNotFirst (λ s. s.row) n before.sites × IsNotFirst (λ g. g.row) n before.groups
-Takes n before after (Some fields) = (row : Row) × (fields ≡ row_fields row) × (row_number row ≡ n)
+TakesItem n before after (Some fields) = (row : Row) × (fields ≡ row_fields row) × (row_number row ≡ n)
     × (before ≡ joined (items_of row) after)

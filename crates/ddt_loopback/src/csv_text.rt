@@ -8,7 +8,7 @@ ghost use Rattle.csv.specs.Writing.{default_writer, row_text};
 ghost use Rattle.ddt_register.specs.declared.csv_row.Row.{Row};
 ghost use Rattle.ddt_register.specs.Spelled.{lists_of, spelled};
 ghost use Rattle.ddt_loopback.specs.Records.{AreItsRows, records_of, row_fields};
-ghost use Rattle.ddt_loopback.specs.Written.{IsFresh, IsNotFirst, Takes, left_of, text_of, text_so_far};
+ghost use Rattle.ddt_loopback.specs.Written.{IsFresh, IsNotFirst, TakesItem, left_of, text_of, text_so_far};
 
 use crate::fields::{group_record, record_of, site_record, zone_record};
 use csv::{ByteRecord, Writer, WriterBuilder};
@@ -27,7 +27,8 @@ impl Left<'_> {
     /// The fields of the item that stands in a row and is the first of its list, which is then no longer left; None
     /// where no first item stands there. Fails only if out of memory.
     fn take(&mut self, alloc: Global, row: u32) -> Result<Option<ByteRecord>, AllocError>
-        ensures { IfOk result (λ fields. Takes row (left_of self.old) (left_of self.new) (option_map fields_of fields)) }
+        ensures { IfOk result (λ fields.
+            TakesItem row (left_of self.old) (left_of self.new) (option_map fields_of fields)) }
     {
         if let Some((zone, zones)) = split_at_row(self.zones, row) {
             self.zones = zones;

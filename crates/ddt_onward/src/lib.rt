@@ -3,7 +3,7 @@
 
 ghost use Rattle.std.specs.Prelude.{◌≡◌, ◌∷◌, [], List};
 ghost use Rattle.ddt_wires.specs.declared.call.Call.{Call as ACall};
-ghost use Rattle.ddt_wires.specs.Calls.{Tells};
+ghost use Rattle.ddt_wires.specs.Calls.{RecordsCalls};
 ghost use Rattle.ddt_wires.specs.Turns.{AreTried, first_went_out};
 ghost use Rattle.ddt_onward.specs.Onward.{GoesOnAsItCame, IsStillRequest, with_d as with_d_of, onward, to_server};
 
@@ -40,7 +40,7 @@ pub fn send_on<V: Wires>(
     end: &Result<Outcome, Why>,
     request: Option<Listed<u8>>,
 ) -> bool
-    ensures { (tries : List ACall) × Tells (V.calls far.old) tries (V.calls far.new)
+    ensures { (tries : List ACall) × RecordsCalls (V.calls far.old) tries (V.calls far.new)
         × AreTried me (onward by end.now request) tries × (result ≡ first_went_out tries) }
 {
     match (end, request) {
@@ -52,7 +52,7 @@ pub fn send_on<V: Wires>(
 
 /// Tries to send a server the request of an ITR; whether it was sent.
 fn send_to<V: Wires>(far: &mut V, me: Locator, to: Locator, request: Listed<u8>) -> bool
-    ensures { (tries : List ACall) × Tells (V.calls far.old) tries (V.calls far.new)
+    ensures { (tries : List ACall) × RecordsCalls (V.calls far.old) tries (V.calls far.new)
         × AreTried me (to_server to request ∷ []) tries × (result ≡ first_went_out tries) }
 {
     let datagram = with_d(request);

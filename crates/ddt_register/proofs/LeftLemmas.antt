@@ -12,7 +12,7 @@ use Rattle.csv.specs.declared.error.ErrorKind.{ErrorKind}
 use Rattle.csv.specs.declared.error.ErrorKind.TheVariants as kind
 use Rattle.std.proofs.lemmas.Bool.{false≢true}
 use Rattle.csv.proofs.ReadFacts.{rows-end}
-use Rattle.ddt_register.specs.Left.{AtMost, IsReading, IsLeft, Takes, csv_fault}
+use Rattle.ddt_register.specs.Left.{AtMost, IsReading, IsLeft, TakesRecord, csv_fault}
 
 -- ---- a text becomes shorter by each record, or is at its end
 
@@ -77,7 +77,7 @@ source_after remaining new xs begun e = rw begun e
 
 -- a read that found a record took the first that was left
 pub Takes-found : {R : Type 0} (remaining : R → Option (List ℕ)) (old new : Reader R) (row : ℕ) (fields : List (List ℕ)) (left : List (List (List ℕ)))
-    → IsReading old → ReadRecord remaining old new true fields → IsLeft remaining old left → Takes remaining old new row fields left (Ok true)
+    → IsReading old → ReadRecord remaining old new true fields → IsLeft remaining old left → TakesRecord remaining old new row fields left (Ok true)
 Takes-found remaining old new row fields left set read l =
     let t = took old.config old.state new.state (source_of remaining old) (pending_of (remaining new.rdr) new) fields l.bytes set.config l.source read.0 in
     let more = records_from-some l.most old.state l.bytes t.0 l.enough t.1 in
@@ -96,7 +96,7 @@ Takes-found remaining old new row fields left set read l =
 -- A read that refused a record, for its length, refused the first that was left. Nothing is said of a failed reader and of
 -- running out of memory.
 pub Takes-fault : {R : Type 0} (remaining : R → Option (List ℕ)) (old new : Reader R) (row : ℕ) (fields : List (List ℕ)) (left : List (List (List ℕ))) (why : ErrorKind)
-    → IsReading old → ExplainsRead remaining old new false why → IsLeft remaining old left → Takes remaining old new row fields left (Err (csv_fault row why))
+    → IsReading old → ExplainsRead remaining old new false why → IsLeft remaining old left → TakesRecord remaining old new row fields left (Err (csv_fault row why))
 Takes-fault remaining old new row fields left (kind.Io error) set x l = tt
 Takes-fault remaining old new row fields left kind.OutOfMemory set x l = tt
 Takes-fault remaining old new row fields left (kind.UnequalLengths pos len other) set x l =
@@ -109,12 +109,12 @@ Takes-fault remaining old new row fields left (kind.Serialize text) set x l = ab
 Takes-fault remaining old new row fields left (kind.Deserialize pos error) set x l = absurd x
 
 pub Takes-none : {R : Type 0} (remaining : R → Option (List ℕ)) (old new : Reader R) (row : ℕ) (fields : List (List ℕ)) (left : List (List (List ℕ)))
-    → IsReading old → ReadRecord remaining old new false fields → IsLeft remaining old left → Takes remaining old new row fields left (Ok false)
+    → IsReading old → ReadRecord remaining old new false fields → IsLeft remaining old left → TakesRecord remaining old new row fields left (Ok false)
 Takes-none remaining old new row fields left set read l =
     l.records ∙ records_from-none l.most old.state l.bytes (rows-end remaining old new fields default_config l.bytes set.config l.source read)
 
 pub Takes-ok : {R : Type 0} (remaining : R → Option (List ℕ)) (old new : Reader R) (row : ℕ) (fields : List (List ℕ)) (left : List (List (List ℕ))) (found : Bool)
-    → IsReading old → ReadRecord remaining old new found fields → IsLeft remaining old left → Takes remaining old new row fields left (Ok found)
+    → IsReading old → ReadRecord remaining old new found fields → IsLeft remaining old left → TakesRecord remaining old new row fields left (Ok found)
 Takes-ok remaining old new row fields left true set read l = Takes-found remaining old new row fields left set read l
 Takes-ok remaining old new row fields left false set read l = Takes-none remaining old new row fields left set read l
 

@@ -8,7 +8,7 @@ use Rattle.ddt_register.specs.declared.csv_row.Row.{Row}
 use Rattle.ddt_register.specs.declared.fault.ReadFault.{ReadFault}
 use Rattle.ddt_register.specs.declared.fault.ReadFault.TheVariants as Fault
 use Rattle.ddt_register.specs.Spelled.{Lists, no_items, items_of, joined, row_in, rows_in, columns_in, spelled, unless_too_many, UnlessMemory, Gives}
-use Rattle.ddt_register.specs.Left.{IsReading, IsLeft, Takes}
+use Rattle.ddt_register.specs.Left.{IsReading, IsLeft, TakesRecord}
 use Rattle.ddt_register.proofs.SpelledLemmas.{rows_in-done, rows_in-last, rows_in-fault, row_in-length}
 
 -- the reader stands before this row
@@ -25,7 +25,7 @@ IsMidway-start remaining reader set four = record { reading = set; columns = fou
 
 pub IsMidway-next : {R : Type 0} (remaining : R → Option (List ℕ)) (first old new : Reader R) (row : ℕ) (items : Lists) (fields : List (List ℕ)) (item : Row)
     → IsMidway remaining first old row items
-    → ((left : List (List (List ℕ))) → IsLeft remaining old left → Takes remaining old new row fields left (Ok true))
+    → ((left : List (List (List ℕ))) → IsLeft remaining old left → TakesRecord remaining old new row fields left (Ok true))
     → IsReading new → expected_len new ≡ Some 4 → row_in row fields ≡ Ok item
     → IsMidway remaining first new (row + 1) (joined items (items_of item))
 IsMidway-next remaining first old new row items fields item m takes set four e = record {
@@ -61,7 +61,7 @@ at_fault remaining first old row items fault m next all l =
 
 pub IsMidway-fault : {R : Type 0} (remaining : R → Option (List ℕ)) (first old new : Reader R) (row : ℕ) (items : Lists) (fields : List (List ℕ)) (fault : ReadFault)
     → IsMidway remaining first old row items
-    → ((left : List (List (List ℕ))) → IsLeft remaining old left → Takes remaining old new row fields left (Ok true))
+    → ((left : List (List (List ℕ))) → IsLeft remaining old left → TakesRecord remaining old new row fields left (Ok true))
     → row_in row fields ≡ Err fault
     → (all : List (List (List ℕ))) → IsLeft remaining first all → rows_in 1 all ≡ Err fault
 IsMidway-fault remaining first old new row items fields fault m takes e =
@@ -98,7 +98,7 @@ at_other_length remaining first old row items fault m refuses =
 
 pub IsMidway-refused : {R : Type 0} (remaining : R → Option (List ℕ)) (first old new : Reader R) (row : ℕ) (items : Lists) (fields : List (List ℕ)) (fault : ReadFault)
     → IsMidway remaining first old row items
-    → ((left : List (List (List ℕ))) → IsLeft remaining old left → Takes remaining old new row fields left (Err fault))
+    → ((left : List (List (List ℕ))) → IsLeft remaining old left → TakesRecord remaining old new row fields left (Err fault))
     → (all : List (List (List ℕ))) → IsLeft remaining first all → Gives (Err fault) (rows_in 1 all)
 IsMidway-refused remaining first old new row items fields (Fault.Csv n) m takes = at_other_length remaining first old row items (Fault.Csv n) m takes
 IsMidway-refused remaining first old new row items fields Fault.Columns m takes = at_other_length remaining first old row items Fault.Columns m takes
@@ -145,7 +145,7 @@ first_length left expected meant fault e h = let none : None ≡ Some h.1 = sym 
 
 -- no length is expected of the first record, so that it isn't refused for it
 pub first-refused : {R : Type 0} (remaining : R → Option (List ℕ)) (old new : Reader R) (fields : List (List ℕ)) (left : List (List (List ℕ))) (fault : ReadFault)
-    → expected_len old ≡ None → Takes remaining old new 0 fields left (Err fault) → Gives (Err fault) (spelled left)
+    → expected_len old ≡ None → TakesRecord remaining old new 0 fields left (Err fault) → Gives (Err fault) (spelled left)
 first-refused remaining old new fields left (Fault.Csv n) e t = first_length left (expected_len old) (spelled left) (Fault.Csv n) e t
 first-refused remaining old new fields left Fault.Columns e t = first_length left (expected_len old) (spelled left) Fault.Columns e t
 first-refused remaining old new fields left (Fault.Kind n) e t = first_length left (expected_len old) (spelled left) (Fault.Kind n) e t

@@ -32,14 +32,14 @@ pub record IsLeft {R : Type 0} (remaining : R → Option (List ℕ)) (reader : R
 
 -- What a read does to the records that are left: it takes the first, or there was none, or the first is of another
 -- length than those before it.
-abbrev pub Takes : {R : Type 0} → (R → Option (List ℕ)) → Reader R → Reader R → ℕ → List (List ℕ) → List (List (List ℕ))
+abbrev pub TakesRecord : {R : Type 0} → (R → Option (List ℕ)) → Reader R → Reader R → ℕ → List (List ℕ) → List (List (List ℕ))
     → Result Bool ReadFault → Type 0
-Takes remaining old new row fields left (Ok true) = (rest : List (List (List ℕ))) × (left ≡ fields ∷ rest)
+TakesRecord remaining old new row fields left (Ok true) = (rest : List (List (List ℕ))) × (left ≡ fields ∷ rest)
     × IsLeft remaining new rest
-Takes remaining old new row fields left (Ok false) = left ≡ []
-Takes remaining old new row fields left (Err Fault.Read) = ⊤
-Takes remaining old new row fields left (Err Fault.Memory) = ⊤
-Takes remaining old new row fields left (Err fault) =
+TakesRecord remaining old new row fields left (Ok false) = left ≡ []
+TakesRecord remaining old new row fields left (Err Fault.Read) = ⊤
+TakesRecord remaining old new row fields left (Err Fault.Memory) = ⊤
+TakesRecord remaining old new row fields left (Err fault) =
     (fault ≡ Fault.Csv row) × (len : ℕ) × (expected_len old ≡ Some len)
     × (other : List (List ℕ)) × (rest : List (List (List ℕ))) × (left ≡ other ∷ rest) × (length other ≢ len)
 

@@ -3,7 +3,7 @@
 ghost use Rattle.std.specs.Prelude.{◌≡◌, ◌+◌, ℕ, List, Some, None, IfOk, IfErr, IfSome, length, take, true};
 ghost use Rattle.csv.specs.Reading.{default_config, expected_len, has_failed, records, strip_bom};
 ghost use Rattle.csv.specs.Records.{fields_of};
-ghost use Rattle.ddt_register.specs.Left.{IsReading, IsLeft, Takes, csv_fault, stops};
+ghost use Rattle.ddt_register.specs.Left.{IsReading, IsLeft, TakesRecord, csv_fault, stops};
 ghost use Rattle.ddt_register.specs.Rows.{most_rows};
 ghost use Rattle.ddt_register.specs.Spelled.{spelled, rows_in, unless_too_many as unless_too_many_of, Gives};
 
@@ -38,7 +38,8 @@ fn next_record<R: Read>(
     row: u32,
 ) -> Result<bool, ReadFault>
     requires { IsReading reader.old }
-    ensures takes { (left : List (List (List ℕ))) → IsLeft R.remaining reader.old left → Takes R.remaining reader.old
+    ensures takes { (left : List (List (List ℕ))) → IsLeft R.remaining reader.old left
+        → TakesRecord R.remaining reader.old
         reader.new row (fields_of fields.new) left result }
     ensures stopped { IfErr result (λ fault. stops fault ≡ has_failed reader.new) }
     ensures reading { IfOk result (λ found. found ≡ true → IsReading reader.new) }

@@ -22,7 +22,7 @@ use Rattle.ddt_resolver.specs.Records.{IsBelow, start_at}
 use Rattle.ddt_resolver.specs.AskStep as ask
 use Rattle.ddt_resolver.specs.TakeUp.{IsTaken}
 use Rattle.ddt_resolver.specs.Act as act
-use Rattle.ddt_resolver.specs.Order.{IsLookup, IsInOrder}
+use Rattle.ddt_resolver.specs.Order.{IsLookup, IsStateInOrder}
 use Rattle.ddt_resolver.specs.Bound.{room, again, measure, StartsWithin, ComesNearer, GoesDown}
 use Rattle.ddt_resolver.specs.laws.NumberMap.{get-insert_same}
 use Rattle.ddt_resolver.specs.laws.Shape.{opening_lookup, about_covers, referral_apart, few_servers}
@@ -51,7 +51,7 @@ restarted_lower s l p place few at =
 
 -- ---- a reply
 
-module _ {s : State} (o : IsInOrder s) {source : Locator} {bytes : List ℕ} {t : ℕ} {l : Pending} {rec : ReferralRecord} (is : IsTaken s source bytes t l rec) where
+module _ {s : State} (o : IsStateInOrder s) {source : Locator} {bytes : List ℕ} {t : ℕ} {l : Pending} {rec : ReferralRecord} (is : IsTaken s source bytes t l rec) where
   here : get s.pending t ≡ Some l
   here = is.in_time.from_server.reply.is_pending
 
@@ -97,7 +97,7 @@ module _ {s : State} (o : IsInOrder s) {source : Locator} {bytes : List ℕ} {t 
 
 -- ---- an ask
 
-module _ {s : State} (o : IsInOrder s) (x : Xeid) (id : IsTrue (is_path (xeid_path x))) (new : State) where
+module _ {s : State} (o : IsStateInOrder s) (x : Xeid) (id : IsTrue (is_path (xeid_path x))) (new : State) where
   starts_within : (r : Result Asked AskError) → ask.AskStep s x new r → IfOk r (StartsWithin new x)
   starts_within r step = by step.start
     where
@@ -111,6 +111,6 @@ module _ {s : State} (o : IsInOrder s) (x : Xeid) (id : IsTrue (is_path (xeid_pa
           let is_now : m ≡ numbered s l = same_Some m (numbered s l) (sym found ∙ ap (λ (z : State). get z.pending s.next) e ∙ get-insert_same s.pending s.next (numbered s l)) in
           rw is_now (omega (arith, again_most (length (xeid_path x)) (start_at step.prefix))))
 
-  pub ask_within : (r : Result Asked AskError) → ask.UnlessMemory r (ask.AskStep s x new r) → IfOk r (StartsWithin new x)
+  pub ask_within : (r : Result Asked AskError) → ask.UnlessAskLacksMemory r (ask.AskStep s x new r) → IfOk r (StartsWithin new x)
   ask_within (Ok a) step = starts_within (Ok a) step
   ask_within (Err e) step = tt

@@ -6,18 +6,18 @@ use Rattle.std.proofs.lemmas.Option.{same_Some}
 use Rattle.ddt_path.specs.declared.locator.Locator.{Locator}
 use Rattle.ddt_ecm.specs.Request.{Message, Spells}
 use Rattle.ddt_resolver.specs.declared.itr_messages.ItrRequest.{ItrRequest}
-use Rattle.ddt_resolver.specs.Front.{Asks, IsItrRequest, asked_at, asked_by}
+use Rattle.ddt_resolver.specs.Front.{AsksAsItr, IsItrRequest, asked_at, asked_by}
 
 -- what a request asks is what `asked_by` says
-pub asked_is : (m : Message) (q : ItrRequest) → Asks m q → asked_by m ≡ Some q
+pub asked_is : (m : Message) (q : ItrRequest) → AsksAsItr m q → asked_by m ≡ Some q
 asked_is m q a = rw (a.plain, a.first_rloc, ← a.identifier, ← a.nonce, ← a.port)
 
 -- and the other way round
-pub is_asked : (m : Message) (q : ItrRequest) → asked_by m ≡ Some q → Asks m q
+pub is_asked : (m : Message) (q : ItrRequest) → asked_by m ≡ Some q → AsksAsItr m q
 is_asked m q e = by m.ddt refl (slice_get m.rlocs 0) refl e
   where
     by : (b : Bool) → m.ddt ≡ b → (o : Option Locator) → slice_get m.rlocs 0 ≡ o
-        → cond b None (option_map (asked_at m) o) ≡ Some q → Asks m q
+        → cond b None (option_map (asked_at m) o) ≡ Some q → AsksAsItr m q
     by true is o at f = cc
     by false is None at f = cc
     by false is (Some l) at f =

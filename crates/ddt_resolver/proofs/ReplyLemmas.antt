@@ -10,23 +10,23 @@ use Rattle.ddt_resolver.specs.declared.pending.Pending.{Pending}
 use Rattle.ddt_resolver.specs.declared.results.Heard.{Heard}
 use Rattle.ddt_resolver.specs.State.{State, server}
 use Rattle.ddt_resolver.specs.Records.{IsAbout, NamesServer}
-use Rattle.ddt_resolver.specs.TakeUp.{Tells, IsReplyTo, IsInTime, Ignores, undecodable, unknown_nonce, wrong_source, late, not_covering, no_servers}
+use Rattle.ddt_resolver.specs.TakeUp.{TellsReply, IsReplyTo, IsBeforeDeadline, Ignores, undecodable, unknown_nonce, wrong_source, late, not_covering, no_servers}
 use Rattle.ddt_resolver.specs.Act.{Act, HearStep, ignored, taken}
-use Rattle.ddt_resolver.specs.Order.{IsWaiting, IsInOrder}
+use Rattle.ddt_resolver.specs.Order.{IsWaiting, IsStateInOrder}
 use Rattle.ddt_resolver.proofs.StateLemmas.{next_absent}
 
 pub in_time : {s : State} {source : Locator} {bytes : List ℕ} {t : ℕ} {l : Pending} {rec : ReferralRecord}
-    → IsReplyTo s bytes t l rec → source ≡ server s.me l → s.known.time < l.deadline → IsInTime s source bytes t l rec
+    → IsReplyTo s bytes t l rec → source ≡ server s.me l → s.known.time < l.deadline → IsBeforeDeadline s source bytes t l rec
 in_time is from in_due = record { from_server = record { reply = is; same_source = from }; early = in_due }
 
 -- bytes tell one nonce and one record
-pub told_once : (bytes : List ℕ) (n m : ℕ) (rec told : ReferralRecord) → Tells bytes n rec → Tells bytes m told → (n ≡ m) × (rec ≡ told)
+pub told_once : (bytes : List ℕ) (n m : ℕ) (rec told : ReferralRecord) → TellsReply bytes n rec → TellsReply bytes m told → (n ≡ m) × (rec ≡ told)
 told_once bytes n m rec told a b =
     let e : a.message ≡ b.message = messages_are_read.one bytes a.message b.message a.spells b.spells in
     ((cc), cc)
 
-module _ (s : State) (o : IsInOrder s) (source : Locator) (bytes : List ℕ) (t : ℕ) (l : Pending) (rec : ReferralRecord)
-    (here : get s.pending t ≡ Some l) (tells : Tells bytes l.nonce rec) where
+module _ (s : State) (o : IsStateInOrder s) (source : Locator) (bytes : List ℕ) (t : ℕ) (l : Pending) (rec : ReferralRecord)
+    (here : get s.pending t ≡ Some l) (tells : TellsReply bytes l.nonce rec) where
   -- what they reply to is this lookup
   this_one : (u : ℕ) (m : Pending) (told : ReferralRecord) → IsReplyTo s bytes u m told → (u ≡ t) × (m ≡ l) × (told ≡ rec)
   this_one u m told reply =
@@ -49,5 +49,5 @@ module _ (s : State) (o : IsInOrder s) (source : Locator) (bytes : List ℕ) (t 
         let e = this_one u m told is.in_time.from_server.reply in
         inr (rw (e.0, e.1, e.2) at does)
 
-pub tickets_new : (s : State) → IsInOrder s → (get s.pending s.next ≡ None) × ((t : ℕ) (l : Pending) → get s.pending t ≡ Some l → t < s.next)
+pub tickets_new : (s : State) → IsStateInOrder s → (get s.pending s.next ≡ None) × ((t : ℕ) (l : Pending) → get s.pending t ≡ Some l → t < s.next)
 tickets_new s o = (next_absent s o, λ t l found. let w : IsWaiting s t l = o.lookups t l found in omega (arith, w.ticket, w.nonce))

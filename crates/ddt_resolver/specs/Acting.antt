@@ -13,12 +13,12 @@ use Rattle.ddt_resolver.specs.declared.results.Heard.TheVariants.{Followed, Answ
 use Rattle.ddt_resolver.specs.declared.results.Ticked.{Ticked}
 use Rattle.ddt_resolver.specs.declared.results.Ticked.TheVariants as ticked_as
 use Rattle.ddt_resolver.specs.State.{State, last_nonce, with_change, lodged, dropped, stored, request}
-use Rattle.ddt_resolver.specs.Order.{IsInOrder}
+use Rattle.ddt_resolver.specs.Order.{IsStateInOrder}
 use Rattle.ddt_resolver.specs.Records.{IsAbout, NamesServer, outcome_of}
 
 -- a reply that passed the tests, with the lookup that is pending, at a resolver in order
 pub record IsHeard (s : State) (taken : Taken) : Type 0 where
-  pub order : IsInOrder s
+  pub order : IsStateInOrder s
   pub is_pending : get s.pending taken.ticket ≡ Some taken.lookup
   pub about : IsAbout taken.told (xeid_path taken.lookup.x)
   pub names_server : NamesServer taken.told

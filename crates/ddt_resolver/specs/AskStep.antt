@@ -51,11 +51,11 @@ pub record AskWants (s : State) (x : Xeid) : Type 0 where
   pub free : IsFree s prefix entry
 
 -- a fact that is claimed of every answer to an ask but the refusal for want of memory
-abbrev pub UnlessMemory : Result Asked AskError → Type 0 → Type 0
-UnlessMemory (Err Memory) P = Unit {0}
-UnlessMemory (Err TooMany) P = P
-UnlessMemory (Err Exhausted) P = P
-UnlessMemory (Ok asked) P = P
+abbrev pub UnlessAskLacksMemory : Result Asked AskError → Type 0 → Type 0
+UnlessAskLacksMemory (Err Memory) P = Unit {0}
+UnlessAskLacksMemory (Err TooMany) P = P
+UnlessAskLacksMemory (Err Exhausted) P = P
+UnlessAskLacksMemory (Ok asked) P = P
 
 -- a fact that is claimed only of an ask that is refused for want of memory; of other answers nothing is claimed
 abbrev pub OnMemory : Result Asked AskError → Type 0 → Type 0

@@ -17,7 +17,7 @@ use Rattle.ddt_resolver.specs.declared.itr_messages.ItrRequest.{ItrRequest}
 
 -- a message whose bit D is clear asks for its identifier; the answer carries its nonce, and goes to its first ITR-RLOC
 -- at its inner source port
-pub record Asks (m : Message) (q : ItrRequest) : Type 0 where
+pub record AsksAsItr (m : Message) (q : ItrRequest) : Type 0 where
   pub plain : m.ddt ≡ false
   pub identifier : q.xeid ≡ m.xeid
   pub nonce : q.nonce ≡ m.nonce
@@ -28,7 +28,7 @@ pub record Asks (m : Message) (q : ItrRequest) : Type 0 where
 pub record IsItrRequest (bytes : List ℕ) (q : ItrRequest) : Type 0 where
   pub message : Message
   pub spells : Spells bytes message
-  pub asks : Asks message q
+  pub asks : AsksAsItr message q
 
 -- what a message asks, if its bit D is clear
 abbrev pub asked_at : Message → Locator → ItrRequest

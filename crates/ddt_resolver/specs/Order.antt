@@ -6,7 +6,7 @@ use Rattle.ddt_path.specs.declared.record.ReferralRecord.{ReferralRecord}
 use Rattle.ddt_path.specs.Path.{xeid_path, is_path}
 use Rattle.ddt_path.specs.Covers.{covers}
 use Rattle.ddt_path.specs.Locators.{most_locators}
-use Rattle.ddt_cache.specs.InOrder.{IsInOrder as IsKnownInOrder}
+use Rattle.ddt_cache.specs.InOrder.{IsCacheInOrder as IsKnownInOrder}
 use Rattle.ddt_resolver.specs.declared.pending.Pending.{Pending}
 use Rattle.ddt_resolver.specs.State.{State, last_nonce, most_pending, patience}
 
@@ -35,7 +35,7 @@ pub record IsWaiting (s : State) (t : ℕ) (l : Pending) : Type 0 where
 
 -- What holds of a state: what it remembers is in order; the root has a server; the nonce counter stops at its last
 -- value; at most 1,024 lookups are pending, each in order, and no two with one nonce.
-pub record IsInOrder (s : State) : Type 0 where
+pub record IsStateInOrder (s : State) : Type 0 where
   pub known : IsKnownInOrder s.known
   pub root : 0 < length s.known.roots
   pub next : s.next ≤ last_nonce

@@ -22,13 +22,13 @@ use Rattle.ddt_resolver.specs.Act.{HearStep, HearWants}
 use Rattle.ddt_resolver.specs.TickStep.{TickStep, TickWants}
 
 -- what a resolver is called for
-pub data Call : Type 0 where
-  Ask : Xeid → Call
-  Hear : Locator → List ℕ → Call
-  Tick : Call
+pub data ResolverCall : Type 0 where
+  Ask : Xeid → ResolverCall
+  Hear : Locator → List ℕ → ResolverCall
+  Tick : ResolverCall
 
 -- an input as what it asks for, with the bytes themselves
-abbrev pub call_of : Input → Call
+abbrev pub call_of : Input → ResolverCall
 call_of (input.Ask x) = Ask x
 call_of (input.Datagram source bytes) = Hear source bytes.now
 call_of input.Tick = Tick
@@ -48,7 +48,7 @@ progress_of (ToTick (ticked.Answer t o)) = Ends t (Ok o)
 progress_of (ToTick (ticked.GaveUp t why)) = Ends t (Err why)
 
 -- an ask of an identifier, a datagram from a source, or a tick
-pub data Step (s : State) (call : Call) (new : State) (reply : Reply) : Type 0 where
+pub data Step (s : State) (call : ResolverCall) (new : State) (reply : Reply) : Type 0 where
   asks : (x : Xeid) (r : Result Asked AskError) → IsTrue (is_path (xeid_path x)) → AskStep s x new r
       → call ≡ Ask x → reply ≡ ToAsk r → Step s call new reply
   hears : (source : Locator) (bytes : List ℕ) (heard : Heard) → HearStep s source bytes new heard
@@ -56,7 +56,7 @@ pub data Step (s : State) (call : Call) (new : State) (reply : Reply) : Type 0 w
   ticks : (ticked : Ticked) → TickStep s new ticked → call ≡ Tick → reply ≡ ToTick ticked → Step s call new reply
 
 -- the step would send a request or save a record: only there can memory be wanted
-abbrev pub Wants : State → Call → Type 0
+abbrev pub Wants : State → ResolverCall → Type 0
 Wants s (Ask x) = AskWants s x
 Wants s (Hear source bytes) = HearWants s source bytes
 Wants s Tick = TickWants s

@@ -5,7 +5,7 @@ ghost use Rattle.ddt_path.specs.Path.{xeid_path, is_path};
 ghost use Rattle.ddt_cache.specs.Found.{IsFound};
 ghost use Rattle.ddt_resolver.specs.State.{moved};
 ghost use Rattle.ddt_resolver.specs.Records.{start_at as start_at_of};
-ghost use Rattle.ddt_resolver.specs.AskStep.{answer_of as answer_of_entry, AskStep, AskWants, UnlessMemory, OnMemory};
+ghost use Rattle.ddt_resolver.specs.AskStep.{answer_of as answer_of_entry, AskStep, AskWants, UnlessAskLacksMemory, OnMemory};
 ghost use Rattle.ddt_resolver.specs.Bound.{StartsWithin};
 
 use crate::limits::MOST_PENDING;
@@ -23,7 +23,7 @@ impl<M: PrefixMap<Entry>> Resolver<M> {
     /// Refused as 1 TooMany where 1,024 lookups are pending, then as 2 Exhausted where no nonce is left, then as 3
     /// Memory where memory for the request or the lookup is refused. A refused ask changes nothing but the time.
     pub fn ask(&mut self, now: Moment, x: Xeid) -> Result<Asked, AskError>
-        ensures step { UnlessMemory result (AskStep (moved now self.old) x self.new result) }
+        ensures step { UnlessAskLacksMemory result (AskStep (moved now self.old) x self.new result) }
         ensures memory { OnMemory result ((self.new ≡ moved now self.old) × AskWants (moved now self.old) x) }
         // However its servers answer, a lookup follows no more replies than 16 times the digits of the identifier and
         // 2.
@@ -48,7 +48,7 @@ impl<M: PrefixMap<Entry>> Resolver<M> {
 
     /// The ask at its time.
     fn start(&mut self, x: Xeid) -> Result<Asked, AskError>
-        ensures step { UnlessMemory result (AskStep self.old x self.new result) }
+        ensures step { UnlessAskLacksMemory result (AskStep self.old x self.new result) }
         ensures memory { OnMemory result ((self.new ≡ self.old) × AskWants self.old x) }
         ensures identifier { IsTrue (is_path (xeid_path x)) }
     {

@@ -4,7 +4,7 @@ ghost use Rattle.std.specs.Prelude.{◌≡◌, ◌<◌, ◌≤◌, ℕ, length, 
 ghost use Rattle.std.specs.FinMap as map;
 ghost use Rattle.ddt_cache.specs.Saved.{most_live_entries};
 ghost use Rattle.ddt_resolver.specs.State.{fresh, moved, dropped};
-ghost use Rattle.ddt_resolver.specs.Order.{IsInOrder};
+ghost use Rattle.ddt_resolver.specs.Order.{IsStateInOrder};
 ghost use Rattle.ddt_resolver.specs.Table.{IsLeastDeadline};
 
 use crate::results::{AskError, Asked, Heard, Ticket};
@@ -34,7 +34,7 @@ impl<M: PrefixMap<Entry>> Model for Resolver<M> {
     ghost use Rattle.ddt_cache.specs.contracts.entry.Entry as entry;
     ghost use Rattle.ddt_resolver.specs.contracts.pending.Pending as pending;
     ghost use Rattle.ddt_resolver.specs.State.{State, state_code};
-    ghost use Rattle.ddt_resolver.specs.Order.{IsInOrder};
+    ghost use Rattle.ddt_resolver.specs.Order.{IsStateInOrder};
 
     ghost Value = { State };
 
@@ -43,7 +43,7 @@ impl<M: PrefixMap<Entry>> Model for Resolver<M> {
     ghost view = { λ r. record { known = r.cache; me = r.me; next = r.table.next; pending = r.table.lookups } };
 
     ghost invariant = { λ r.
-        IsInOrder (record { known = r.cache; me = r.me; next = r.table.next; pending = r.table.lookups }) };
+        IsStateInOrder (record { known = r.cache; me = r.me; next = r.table.next; pending = r.table.lookups }) };
 }
 
 impl<M: PrefixMap<Entry>> Resolver<M> {
@@ -107,7 +107,7 @@ impl<M: PrefixMap<Entry>> Resolver<M> {
 
     /// What holds of each resolver. The call does nothing.
     pub fn in_order(&self)
-        ensures { IsInOrder self.now }
+        ensures { IsStateInOrder self.now }
     {
         let _me = self.me;
     }

@@ -23,6 +23,7 @@ fn v6(address: u128) -> Xeid {
 
 // Each call on a map is made and judged in a function of its own, so that the proof of a worked example is short.
 
+/// Puts a value at a prefix.
 pub fn put<M: PrefixMap<u32>>(
     rt: &impl Abort,
     map: &mut M,
@@ -86,10 +87,12 @@ fn counts<M: PrefixMap<u32>>(rt: &impl Abort, map: &M, count: usize) {
     assert_eq!(rt; map.len(), count);
 }
 
+/// The value at a prefix is this one, or there is none.
 pub fn gets<M: PrefixMap<u32>>(rt: &impl Abort, map: &M, prefix: Prefix, value: Option<u32>) {
     assert_eq!(rt; got(map, prefix), value, "{prefix:?}");
 }
 
+/// What is found for an identifier, and its value, are these.
 pub fn finds_longest<M: PrefixMap<u32>>(
     rt: &impl Abort,
     map: &M,

@@ -27,9 +27,9 @@ TellsBroken finds lists told = (register : Register) × (lists_of register ≡ l
 
 -- What is told of a file, by what its records spell. Of a register its broken rules are told, and of a file that spells
 -- none at least one fault.
-abbrev pub Tells : (Register → Result (Vec BrokenRule) AllocError → Type 0) → Result Lists ReadFault → List About → Type 0
-Tells finds (Ok lists) told = TellsBroken finds lists told
-Tells finds (Err fault) told = 0 < length told
+abbrev pub ReportsFaults : (Register → Result (Vec BrokenRule) AllocError → Type 0) → Result Lists ReadFault → List About → Type 0
+ReportsFaults finds (Ok lists) told = TellsBroken finds lists told
+ReportsFaults finds (Err fault) told = 0 < length told
 
 -- where a fault stands: the file's name, and the line
 abbrev pub place_text : List ℕ → ℕ → List ℕ

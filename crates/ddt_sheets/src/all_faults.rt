@@ -5,7 +5,7 @@ ghost use Rattle.std.specs.Fn.{FnReturnsAt};
 ghost use Rattle.csv.specs.Reading.{default_config, records, strip_bom};
 ghost use Rattle.ddt_register.specs.Left.{stops};
 ghost use Rattle.ddt_register.specs.Spelled.{lists_of, spelled};
-ghost use Rattle.ddt_sheets.specs.Told.{Tells, TellsBroken, abouts, rules_of};
+ghost use Rattle.ddt_sheets.specs.Told.{ReportsFaults, TellsBroken, abouts, rules_of};
 
 use crate::broken_rule::BrokenRule;
 use crate::causes::Causes;
@@ -227,7 +227,7 @@ pub fn told_faults<F>(alloc: Global, bytes: &[u8], find: F) -> Result<Vec<FaultL
 where
     F: Fn(&Register) -> Result<Vec<BrokenRule>, AllocError> + Drop,
     requires { F.IsAlwaysCallable find }
-    ensures told { IfOk result (λ faults. Tells (FnReturnsAt F.Fn find)
+    ensures told { IfOk result (λ faults. ReportsFaults (FnReturnsAt F.Fn find)
         (spelled (records default_config (strip_bom bytes.now))) (abouts faults.items)) }
     ensures refused { IfErr result (λ fault. stops fault ≡ true) }
 {

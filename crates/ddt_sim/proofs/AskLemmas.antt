@@ -16,8 +16,8 @@ use Rattle.ddt_resolver.specs.declared.results.AskError.{AskError}
 use Rattle.ddt_resolver.specs.declared.results.AskError.TheVariants as ask_error
 use Rattle.ddt_resolver.specs.State.{State, moved, dropped}
 use Rattle.ddt_resolver.specs.AskStep as ask
-use Rattle.ddt_resolver.specs.AskStep.{AskStep, AskWants, Start, UnlessMemory, OnMemory, answer_of}
-use Rattle.ddt_resolver.specs.Order.{IsInOrder}
+use Rattle.ddt_resolver.specs.AskStep.{AskStep, AskWants, Start, UnlessAskLacksMemory, OnMemory, answer_of}
+use Rattle.ddt_resolver.specs.Order.{IsStateInOrder}
 use Rattle.ddt_resolver.specs.declared.step.Reply.TheVariants.{ToAsk}
 use Rattle.ddt_resolver.specs.Step.{Ask, asks}
 use Rattle.ddt_resolver.specs.laws.Order.{order_moved}
@@ -28,7 +28,7 @@ use Rattle.ddt_sim.specs.declared.hop.LookupError.TheVariants.{GaveUp, TooMany}
 use Rattle.ddt_sim.specs.Sound.{IsSound, IsRightAsked, StepsKeepSoundness, TimeKeepsSoundness}
 use Rattle.ddt_sim.specs.Waiting.{CanBeAsked, IsAwaited}
 use Rattle.ddt_sim.specs.Lookup.{IsRemembered, Reaches, sent, Fails, too_many, used_up, unasked, ask_failure}
-use Rattle.ddt_sim.specs.Headline.{IsUnderWay, IsAsked, IsRightlyAsked, IsRightlyEnded, IsRightFailure, IsRightError}
+use Rattle.ddt_sim.specs.Headline.{IsUnderWay, IsAnswerToAsk, IsRightlyAsked, IsRightlyEnded, IsRightFailure, IsRightError}
 use Rattle.ddt_sim.proofs.SoundLemmas.{sound_dropped}
 use Rattle.ddt_sim.proofs.WaitingLemmas.{asked_waits, does_ask}
 
@@ -47,32 +47,32 @@ module _ {x : Xeid} {s : State} (kept : IsRemembered x s) where
       by (ask.used_up none few over same f) = absurd (none-some _ (sym none ∙ its_answer step.found))
       by (ask.opened free same f) = absurd (none-some _ (sym free.unanswered ∙ its_answer step.found))
 
-  pub not_refused : (new : State) (error : AskError) → UnlessMemory (Err error) (AskStep s x new (Err error)) → OnMemory (Err error) ((new ≡ s) × AskWants s x) → ⊥
+  pub not_refused : (new : State) (error : AskError) → UnlessAskLacksMemory (Err error) (AskStep s x new (Err error)) → OnMemory (Err error) ((new ≡ s) × AskWants s x) → ⊥
   not_refused new ask_error.Memory step wants = none-some _ (sym wants.1.free.unanswered ∙ its_answer wants.1.found)
   not_refused new _ step wants = cc (given step)
 
 -- ---- a refused ask is an error of the lookup
 
-pub refused_fails : {now : ℕ} {x : Xeid} {s new : State} (error : AskError) → UnlessMemory (Err error) (AskStep (moved now s) x new (Err error))
+pub refused_fails : {now : ℕ} {x : Xeid} {s new : State} (error : AskError) → UnlessAskLacksMemory (Err error) (AskStep (moved now s) x new (Err error))
     → OnMemory (Err error) ((new ≡ moved now s) × AskWants (moved now s) x) → Fails now x s (ask_failure error) new
 refused_fails ask_error.TooMany step wants = too_many step refl
 refused_fails ask_error.Exhausted step wants = used_up step refl
 refused_fails ask_error.Memory step wants = unasked wants.1 wants.0 refl
 
-pub refused_is_right : (now : ℕ) (x : Xeid) (s new : State) (error : AskError) → UnlessMemory (Err error) (AskStep (moved now s) x new (Err error)) → IsRightError s new (ask_failure error)
+pub refused_is_right : (now : ℕ) (x : Xeid) (s new : State) (error : AskError) → UnlessAskLacksMemory (Err error) (AskStep (moved now s) x new (Err error)) → IsRightError s new (ask_failure error)
 refused_is_right now x s new ask_error.TooMany step = does_ask step
 refused_is_right now x s new ask_error.Exhausted step = (refl, does_ask step)
 refused_is_right now x s new ask_error.Memory step = tt
 
 -- ---- over a sound resolver
 
-module _ (keeps : StepsKeepSoundness) (time : TimeKeepsSoundness) {r : Register} {now : ℕ} (x : Xeid) {s : State} (early : now ≤ last_moment) (o : IsInOrder s) (id : IsTrue (is_path (xeid_path x)))
+module _ (keeps : StepsKeepSoundness) (time : TimeKeepsSoundness) {r : Register} {now : ℕ} (x : Xeid) {s : State} (early : now ≤ last_moment) (o : IsStateInOrder s) (id : IsTrue (is_path (xeid_path x)))
     (accepted : IsAccepted r) (sound : IsSound r s) {new : State} where
   kept : {res : Result Asked AskError} → AskStep (moved now s) x new res → IsSound r new × IsRightAsked r (xeid_path x) res
   kept {res = res} step = keeps r (moved now s) (Ask x) new (ToAsk res) accepted (order_moved s now early o) (time r s now sound) tt (asks x res id step refl refl)
 
   -- it stays sound where the ask is refused
-  pub ask_keeps_sound : (error : AskError) → UnlessMemory (Err error) (AskStep (moved now s) x new (Err error)) → OnMemory (Err error) ((new ≡ moved now s) × AskWants (moved now s) x) → IsSound r new
+  pub ask_keeps_sound : (error : AskError) → UnlessAskLacksMemory (Err error) (AskStep (moved now s) x new (Err error)) → OnMemory (Err error) ((new ≡ moved now s) × AskWants (moved now s) x) → IsSound r new
   ask_keeps_sound ask_error.Memory step wants = rw wants.0 (time r s now sound)
   ask_keeps_sound _ step wants = (kept step).0
 
@@ -81,7 +81,7 @@ module _ (keeps : StepsKeepSoundness) (time : TimeKeepsSoundness) {r : Register}
   rightly_asked step fits = record { accepted = accepted; start = s; step = step; sound = (kept step).0; right = (kept step).1; fits = fits }
 
 -- an ask doesn't change the resolver's own address
-pub asked_me : {now : ℕ} {x : Xeid} {s : State} → now ≤ last_moment → IsInOrder s → IsTrue (is_path (xeid_path x)) → {new : State} {res : Result Asked AskError} → AskStep (moved now s) x new res → new.me ≡ s.me
+pub asked_me : {now : ℕ} {x : Xeid} {s : State} → now ≤ last_moment → IsStateInOrder s → IsTrue (is_path (xeid_path x)) → {new : State} {res : Result Asked AskError} → AskStep (moved now s) x new res → new.me ≡ s.me
 asked_me early o id {res = res} step = (moved_by_step _ (order_moved _ _ early o) (Ask _) _ (ToAsk res) (asks _ res id step refl refl)).me
 
 -- ---- a lookup that an ask opened
@@ -90,7 +90,7 @@ module _ {now : ℕ} {s : State} {a : Asked} {t : ℕ} {d : Outgoing} (is : a �
   pub reached_by_ask : {x : Xeid} {start : State} → AskStep (moved now start) x s (Ok a) → Reaches now x start [] t d s
   reached_by_ask step = sent t d s (rw is at step)
 
-  pub awaited_by_ask : IsAsked now s a → IsAwaited now s t d
+  pub awaited_by_ask : IsAnswerToAsk now s a → IsAwaited now s t d
   awaited_by_ask asked = record { identifier = asked.identifier; waits = asked_waits (omega arith) (does_ask (rw is at asked.step)) }
 
   pub under_way : {r : Register} {x : Xeid} → IsRightlyAsked r now x s a → IsUnderWay r now x s t d

@@ -21,7 +21,7 @@ use Rattle.ddt_resolver.specs.declared.step.Reply.TheVariants.{ToDatagram}
 use Rattle.ddt_resolver.specs.Step as steps
 use Rattle.ddt_resolver.specs.Bound.{measure, ComesNearer}
 use Rattle.ddt_resolver.specs.Act.{HearStep}
-use Rattle.ddt_resolver.specs.Order.{IsInOrder}
+use Rattle.ddt_resolver.specs.Order.{IsStateInOrder}
 use Rattle.ddt_resolver.specs.laws.Order.{order_moved}
 use Rattle.ddt_cache.specs.Moment.{last_moment}
 use Rattle.ddt_sim.specs.declared.hop.Hop.{Hop}
@@ -32,7 +32,7 @@ use Rattle.ddt_sim.specs.declared.exchange.Turn.TheVariants.{GoesOn, Ends}
 use Rattle.ddt_sim.specs.Honest.{IsServer, IsHonestReply}
 use Rattle.ddt_sim.specs.Sound.{IsSound, IsRightHeard, StepsKeepSoundness, TimeKeepsSoundness}
 use Rattle.ddt_sim.specs.Waiting.{Waits, requests_left, left_after, IsAwaited}
-use Rattle.ddt_sim.specs.Lookup.{IsNotFor, IsTurn, TurnFails, gave_up, unanswered, not_taken, stopped, heard_of, hop_of, reply_or_failure, turn_or_failure, Reaches, followed, FailsUnder, HasOutcome, by_reply}
+use Rattle.ddt_sim.specs.Lookup.{IsNotFor, IsLookupTurn, TurnFails, gave_up, unanswered, not_taken, stopped, heard_of, hop_of, reply_or_failure, turn_or_failure, Reaches, followed, FailsUnder, HasOutcome, by_reply}
 use Rattle.ddt_sim.specs.Headline.{IsUnderWay, IsHonestHop, IsRightTurn, IsRightFailure, IsRightlyTurned, WhileUnderWay, IsRightlyEnded}
 use Rattle.ddt_sim.specs.Reply.{IsWellHeard, IsUnderstood}
 use Rattle.std.specs.List.{All}
@@ -48,9 +48,9 @@ for_is_own t _ own other = other own
 
 -- ---- the reply of an honest server
 
-module _ (r : Register) (now : ℕ) (x : Xeid) (s : State) (t : ℕ) (d : Outgoing) (early : now ≤ last_moment) (o : IsInOrder s) (u : IsUnderWay r now x s t d)
+module _ (r : Register) (now : ℕ) (x : Xeid) (s : State) (t : ℕ) (d : Outgoing) (early : now ≤ last_moment) (o : IsStateInOrder s) (u : IsUnderWay r now x s t d)
     (keeps : StepsKeepSoundness) (time : TimeKeepsSoundness) (laws : RepliesAreRead r) (written : WrittenSpells) where
-  order : IsInOrder (moved now s)
+  order : IsStateInOrder (moved now s)
   order = order_moved s now early o
 
   abbrev w : Waits now x (moved now s) t d
@@ -131,7 +131,7 @@ module _ {honest : Register → Type 0} {now : ℕ} {s : State} {t : ℕ} {d : O
   untaken_fails (Some (Err why)) is e = gave_up reply why (subst (HearStep (moved now s) d.to reply new) is came.step) (cc e)
   untaken_fails None is e = not_taken reply h came.step is (cc e)
 
-  pub turn_of : {turn : Turn} {hops more : List Hop} → h ≡ heard_of t (Ok turn) → more ≡ hops ++ hop_of d reply ∷ [] → IsTurn now s t d hops turn more new
+  pub turn_of : {turn : Turn} {hops more : List Hop} → h ≡ heard_of t (Ok turn) → more ≡ hops ++ hop_of d reply ∷ [] → IsLookupTurn now s t d hops turn more new
   turn_of is grown = record { reply = reply; step = subst (HearStep (moved now s) d.to reply new) is came.step; hop = grown }
 
   -- over honest servers
@@ -155,7 +155,7 @@ module _ {honest : Register → Type 0} {now : ℕ} {s : State} {t : ℕ} {d : O
         by (Ends o) is = well_heard.outcome o is
 
 -- a turn brings the lookup nearer to its end
-pub turn_is_nearer : {now : ℕ} {s : State} {t : ℕ} {d : Outgoing} {new : State} {source : _} {bytes : List ℕ} {h : Heard} {x : Xeid} (turn : Turn) → IsInOrder s → HearStep (moved now s) source bytes new h
+pub turn_is_nearer : {now : ℕ} {s : State} {t : ℕ} {d : Outgoing} {new : State} {source : _} {bytes : List ℕ} {h : Heard} {x : Xeid} (turn : Turn) → IsStateInOrder s → HearStep (moved now s) source bytes new h
     → ComesNearer s new h → h ≡ heard_of t (Ok turn) → Waits now x s t d → left_after new t turn < requests_left s t
 turn_is_nearer {now = now} {s = s} {new = new} {source = source} {bytes = bytes} (GoesOn e) o step near is w =
     let on = followed_waits w (does (subst (HearStep (moved now s) source bytes new) is step)) in
@@ -197,7 +197,7 @@ module _ {before honest : Register → Type 0} {now : ℕ} {s0 : State} {t : ℕ
       → WhileUnderWay before now s0 t d0 (λ r x. IsRightlyEnded r x s0.me (Err error) new)
   fails_well well r x honest u = let v = well r x (w.stay r honest) (w.under r x honest u) in record { sound = v.sound; right = tt; failure = v.failure; fair = tt }
 
-  module _ {turn : Turn} {more : List Hop} {new : State} (is_turn : IsTurn now s t d hops turn more new) where
+  module _ {turn : Turn} {more : List Hop} {new : State} (is_turn : IsLookupTurn now s t d hops turn more new) where
     module _ (near : (x : Xeid) → Waits now x s t d → left_after new t turn < requests_left s t) where
       within : length more + left_after new t turn ≤ requests_left s0 t
       within =

@@ -17,9 +17,9 @@ use Rattle.ddt_resolver.specs.declared.step.Reply.TheVariants.{ToDatagram}
 use Rattle.ddt_resolver.specs.declared.step.Progress.TheVariants.{Stays, Sends}
 use Rattle.ddt_resolver.specs.State.{State, moved, numbered, request as request_of}
 use Rattle.ddt_resolver.specs.Step as resolver
-use Rattle.ddt_resolver.specs.Step.{Call, asks, hears, ticks, progress_of}
+use Rattle.ddt_resolver.specs.Step.{ResolverCall, asks, hears, ticks, progress_of}
 use Rattle.ddt_resolver.specs.Act.{HearStep}
-use Rattle.ddt_resolver.specs.Order.{IsInOrder, IsLookup}
+use Rattle.ddt_resolver.specs.Order.{IsStateInOrder, IsLookup}
 use Rattle.ddt_resolver.specs.laws.Order.{order_moved, order_kept}
 use Rattle.ddt_resolver.specs.laws.NumberMap.{found_insert, get-insert_same}
 use Rattle.ddt_resolver.specs.laws.Shape.{stays, opens, sends, drops, IsMoved, moved_by_step, goes_sends, Leaves}
@@ -29,7 +29,7 @@ use Rattle.ddt_sim.specs.declared.schedule.Event.{Event}
 use Rattle.ddt_sim.specs.declared.schedule.Event.TheVariants.{Replied, Silent, Heard}
 use Rattle.ddt_sim.specs.declared.schedule.Datagram.{Datagram}
 use Rattle.ddt_sim.specs.Waiting.{CanBeAsked}
-use Rattle.ddt_sim.specs.World.{World, Members, MayReply, reply_to, request_from, request_in, request_at, sent_for, event_of, reply_at, progress_at, call_at, Calls, asked, heard, ticked, Resolves, by_reply, by_silence, WorldStep, resolves, serves, not_sent, passes, replaces, no_member}
+use Rattle.ddt_sim.specs.World.{World, Members, MayReply, reply_to, request_from, request_in, request_at, sent_for, event_of, reply_at, progress_at, call_at, CallsResolver, asked, heard, ticked, Resolves, by_reply, by_silence, WorldStep, resolves, serves, not_sent, passes, replaces, no_member}
 use Rattle.ddt_sim.specs.History.{Line, History, begin, next, Each, at_start}
 use Rattle.ddt_sim.specs.Schedules.{Ends, IsOnce}
 use Rattle.ddt_sim.specs.laws.Ticket.{Tickets, tickets_on, once_on, IsTurn, still_turn, move_turn, reply_told, told_progress, Came, came, stayed, opened, went_on}
@@ -56,19 +56,19 @@ module _ {X : Type 0} where
 -- ---- how the resolver is called
 
 -- an ask's call is an ask of the identifier
-pub asked_by : {w : World} {step : Step} {call : Call} (x : Xeid) → Calls w step call → call ≡ resolver.Ask x → (step ≡ Ask x) × CanBeAsked x w.state.me
+pub asked_by : {w : World} {step : Step} {call : ResolverCall} (x : Xeid) → CallsResolver w step call → call ≡ resolver.Ask x → (step ≡ Ask x) × CanBeAsked x w.state.me
 asked_by x (asked y fits e f) g = let same : y ≡ x = cc (f, g) in (e ∙ ap Ask same, rw same at fits)
 asked_by x (heard k d e found kind f) g = absurd (cc (f, g))
 asked_by x (ticked e f) g = absurd (cc (f, g))
 
 -- what a step calls for
-pub calls_at : {w : World} {step : Step} {call : Call} → Calls w step call → call ≡ call_at w.sent step
+pub calls_at : {w : World} {step : Step} {call : ResolverCall} → CallsResolver w step call → call ≡ call_at w.sent step
 calls_at (asked x fits e f) = rw e f
 calls_at (heard k d e found kind f) = rw (e, found) f
 calls_at (ticked e f) = rw e f
 
 -- a request that is delivered isn't heard
-request_unheard : {w : World} {step : Step} {call : Call} (k : ℕ) (d : Datagram) → step ≡ Deliver k → slice_get w.sent k ≡ Some d → d.is_reply ≡ false → Calls w step call → ⊥
+request_unheard : {w : World} {step : Step} {call : ResolverCall} (k : ℕ) (d : Datagram) → step ≡ Deliver k → slice_get w.sent k ≡ Some d → d.is_reply ≡ false → CallsResolver w step call → ⊥
 request_unheard k d is found kind (asked x fits e f) = cc (is, e)
 request_unheard k d is found kind (ticked e f) = cc (is, e)
 request_unheard {w = w} k d is found kind (heard j c e there other f) = let same : j ≡ k = cc (is, e) in false≢true (cc (kind, found, ap (slice_get w.sent) same, there, other))
@@ -136,7 +136,7 @@ served {w = w} {step = step} (inr rest) k d is found kind = elim rest.adds [
 -- ---- the invariant
 
 pub record IsGround (past : List Line) (w : World) : Type 0 where
-  pub order : IsInOrder w.state
+  pub order : IsStateInOrder w.state
   pub early : w.moment ≤ last_moment
   pub time : w.state.known.time ≤ w.moment
   pub fits : (t : ℕ) (l : Pending) → get w.state.pending t ≡ Some l → CanBeAsked l.x w.state.me
@@ -167,7 +167,7 @@ module _ {past : List Line} {w : World} (g : IsGround past w) where
   abbrev now : State
   now = moved w.moment w.state
 
-  pub order_now : IsInOrder (moved w.moment w.state)
+  pub order_now : IsStateInOrder (moved w.moment w.state)
   order_now = order_moved w.state w.moment g.early g.order
 
   -- the time is the moment
@@ -314,7 +314,7 @@ module _ {past : List Line} {w : World} (g : IsGround past w) where
 
 -- ---- a run
 
-pub first_ground : (s : State) → IsInOrder s → ((t : ℕ) → get s.pending t ≡ None) → IsGround [] (at_start s)
+pub first_ground : (s : State) → IsStateInOrder s → ((t : ℕ) → get s.pending t ≡ None) → IsGround [] (at_start s)
 first_ground s o at_rest = record {
   order = o;
   early = o.known.time;

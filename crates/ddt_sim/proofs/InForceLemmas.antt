@@ -25,7 +25,7 @@ use Rattle.ddt_cache.specs.Entry.{is_negative}
 use Rattle.ddt_resolver.specs.declared.pending.Pending.{Pending}
 use Rattle.ddt_resolver.specs.State.{State, moved, request_bytes, server, patience, numbered}
 use Rattle.ddt_resolver.specs.Records.{outcome_at, outcome_of}
-use Rattle.ddt_resolver.specs.Step.{Call}
+use Rattle.ddt_resolver.specs.Step.{ResolverCall}
 use Rattle.ddt_resolver.specs.laws.Shape.{Takes, Goes, anew, keeps, repeats, goes_on}
 use Rattle.ddt_sim.specs.declared.schedule.Step.{Step}
 use Rattle.ddt_sim.specs.declared.schedule.Event.{Event}
@@ -33,7 +33,7 @@ use Rattle.ddt_sim.specs.declared.schedule.Datagram.{Datagram}
 use Rattle.ddt_sim.specs.Honest.{IsServer}
 use Rattle.ddt_sim.specs.Sound.{IsNotRegistered}
 use Rattle.ddt_sim.specs.Waiting.{CanBeAsked}
-use Rattle.ddt_sim.specs.World.{World, Members, MayReply, reply_to, Calls, asked, heard, ticked, Resolves}
+use Rattle.ddt_sim.specs.World.{World, Members, MayReply, reply_to, CallsResolver, asked, heard, ticked, Resolves}
 use Rattle.ddt_sim.specs.History.{Line, Among}
 use Rattle.ddt_sim.specs.Schedules.{IsOpened, AsksFor}
 use Rattle.ddt_sim.specs.InForce.{in_force, SomeSince, most_age}
@@ -129,7 +129,7 @@ module _ {servers : Members} {registers : ℕ → Register} (on : HasLaws server
     was_asked a is_server = record { is_server = is_server; fits = a.fits; id = a.id; below = a.below; waits = λ u l found same. let e = a.waits u l found same in (e.1, e.2) }
 
     -- a record that is taken was said since the ask, and not before its last request
-    pub heard_since : {step : Step} {call : Call} → Calls w step call → {t : ℕ} {l : Pending} {rec : ReferralRecord} → Takes (moved w.moment w.state) call t l rec → (m : ℕ) × (l.deadline ≡ m + patience) × SomeSince t (IsSaid servers registers rec l.x m) past
+    pub heard_since : {step : Step} {call : ResolverCall} → CallsResolver w step call → {t : ℕ} {l : Pending} {rec : ReferralRecord} → Takes (moved w.moment w.state) call t l rec → (m : ℕ) × (l.deadline ≡ m + patience) × SomeSince t (IsSaid servers registers rec l.x m) past
     heard_since (asked x fits e f) takes = absurd (cc (takes.called, f))
     heard_since (ticked e f) takes = absurd (cc (takes.called, f))
     heard_since (heard k d e found kind f) {t = t} {l = l} {rec = rec} takes = elim (i.sent k d found) [

@@ -30,8 +30,8 @@ use Rattle.ddt_resolver.specs.TakeUp.{Ignores}
 use Rattle.ddt_resolver.specs.AskStep as ask
 use Rattle.ddt_resolver.specs.AskStep.{AskStep, answer_of}
 use Rattle.ddt_resolver.specs.Step as resolver
-use Rattle.ddt_resolver.specs.Step.{Call, asks, hears, ticks}
-use Rattle.ddt_resolver.specs.Order.{IsInOrder}
+use Rattle.ddt_resolver.specs.Step.{ResolverCall, asks, hears, ticks}
+use Rattle.ddt_resolver.specs.Order.{IsStateInOrder}
 use Rattle.ddt_resolver.specs.laws.Shape.{Leaves, by_record, by_kept, by_loop, by_nobody, by_silence, by_nonce}
 use Rattle.ddt_sim.specs.declared.schedule.Step.{Step}
 use Rattle.ddt_sim.specs.declared.schedule.Event.{Event}
@@ -40,8 +40,8 @@ use Rattle.ddt_sim.specs.declared.schedule.Transcript.{Transcript}
 use Rattle.ddt_sim.specs.Honest.{IsServer, IsHonestReply}
 use Rattle.ddt_sim.specs.RunLaws.{LawsOfRuns}
 use Rattle.ddt_sim.specs.Sound.{IsTrueEntry, delegates, registers, denies, IsNotRegistered}
-use Rattle.ddt_sim.specs.World.{World, Members, MayReply, call_at, Calls}
-use Rattle.ddt_sim.specs.History.{Line, Among, Each, at_start, Tells}
+use Rattle.ddt_sim.specs.World.{World, Members, MayReply, call_at, CallsResolver}
+use Rattle.ddt_sim.specs.History.{Line, Among, Each, at_start, IsTranscriptOf}
 use Rattle.ddt_sim.specs.Schedules.{IsOnce}
 use Rattle.ddt_sim.specs.InForce.{in_force, SomeSince, most_age, IsAnswerSince, IsAnswerOfLate, IsReplyInForce, IsFailureInForce, IsNoReplyInForce, AreRegisters}
 use Rattle.ddt_sim.specs.laws.Ticket.{among_map}
@@ -64,7 +64,7 @@ module _ {servers : Members} {of : ℕ → Register} (on : HasLaws servers of) {
 
   -- ---- answers to tickets
 
-  outcome_since : (call : Call) → Calls w step call → (t : ℕ) (o : Outcome) (l : Pending) → get w.state.pending t ≡ Some l → Leaves s call t l (Ok o) → SomeSince t (λ at. o ≡ assignment (in_force of at) (xeid_path l.x)) past
+  outcome_since : (call : ResolverCall) → CallsResolver w step call → (t : ℕ) (o : Outcome) (l : Pending) → get w.state.pending t ≡ Some l → Leaves s call t l (Ok o) → SomeSince t (λ at. o ≡ assignment (in_force of at) (xeid_path l.x)) past
   outcome_since call calls t o l found (by_record rec takes final e) =
       let own : o ≡ outcome_of rec = cc e in
       let h = heard_since on i calls takes in
@@ -96,7 +96,7 @@ module _ {servers : Members} {of : ℕ → Register} (on : HasLaws servers of) {
       among_map (line ∷ past) (λ at. IsYoung of p e at.before.moment at.before.member) (λ at. (w.moment < at.before.moment + most_age) × (o ≡ assignment (in_force of at) (xeid_path x)))
       (λ at h. let y = h.young in (omega (arith, y, live, time), own.1 ∙ sym (h.is_true (xeid_path x) id found.covers_it))) (i.entries p e was.0 own.0)
 
-  at_once_by : (call : Call) (after : State) (a : Reply) (x : Xeid) (o : Outcome) → resolver.Step s call after a → call ≡ resolver.Ask x → a ≡ ToAsk (Ok (asked_as.Answer o))
+  at_once_by : (call : ResolverCall) (after : State) (a : Reply) (x : Xeid) (o : Outcome) → resolver.Step s call after a → call ≡ resolver.Ask x → a ≡ ToAsk (Ok (asked_as.Answer o))
       → Among (line ∷ past) (λ at. (w.moment < at.before.moment + most_age) × (o ≡ assignment (in_force of at) (xeid_path x)))
   at_once_by call after a x o (hears source bytes h step called to) is told = absurd (cc (is, called))
   at_once_by call after a x o (ticks h step called to) is told = absurd (cc (is, called))
@@ -166,7 +166,7 @@ true_negative r p e (denies neg h) is = h
 true_negative r p e (delegates z there same action servers) is = absurd (false≢true (sym (ap is_negative action ∙ referral_not_negative z.kind) ∙ is))
 true_negative r p e (registers site z there same action its_zone servers) is = absurd (false≢true (sym (ap is_negative action) ∙ is))
 
-module _ (laws : LawsOfRuns) (servers : Members) (old : State) (o : IsInOrder old) (steps : List Step) (some : 0 < servers.count) (of : ℕ → Register) (are : AreRegisters servers of old) where
+module _ (laws : LawsOfRuns) (servers : Members) (old : State) (o : IsStateInOrder old) (steps : List Step) (some : 0 < servers.count) (of : ℕ → Register) (are : AreRegisters servers of old) where
   stands : HasLaws servers of
   stands = record {
     honest = are.honest;
@@ -204,7 +204,7 @@ module _ (laws : LawsOfRuns) (servers : Members) (old : State) (o : IsInOrder ol
   any_lines [] = tt
   any_lines (_ ∷ past) = (tt, any_lines past)
 
-  module _ (t : Transcript) (new : State) (past : List Line) (told : Tells servers old steps t new past) where
+  module _ (t : Transcript) (new : State) (past : List Line) (told : IsTranscriptOf servers old steps t new past) where
     each : (holds : List Line → Line → Type 0) → ((past : List Line) (w : World) → IsAgedly past w → (step : Step) (event : Event) (new : World) → Part servers w step event new → holds past (one_line w step event new)) → Each holds past
     each holds each_line = each_kept (λ line. Unit {0}) IsAgedly first goes_agedly holds each_line (any_lines past) told.history
 

@@ -22,10 +22,10 @@ use Rattle.ddt_resolver.specs.declared.results.Heard.TheVariants as heard
 use Rattle.ddt_resolver.specs.State.{State, server}
 use Rattle.ddt_resolver.specs.Records.{NamesServer}
 use Rattle.ddt_resolver.specs.TakeUp as takes
-use Rattle.ddt_resolver.specs.TakeUp.{Tells, IsTaken, Ignores}
+use Rattle.ddt_resolver.specs.TakeUp.{TellsReply, IsTaken, Ignores}
 use Rattle.ddt_resolver.specs.Act as acts
 use Rattle.ddt_resolver.specs.Act.{Act, HearStep}
-use Rattle.ddt_resolver.specs.Order.{IsInOrder}
+use Rattle.ddt_resolver.specs.Order.{IsStateInOrder}
 use Rattle.ddt_sim.specs.Sound.{IsFairDatagram}
 use Rattle.ddt_sim.specs.Waiting.{Waits}
 
@@ -68,10 +68,10 @@ says_usable r laws source x id = record { covers_x = laws.cover source x; names_
 
 -- ---- a usable reply from the server that was asked
 
-module _ (messages : MessagesAreRead) (back : RecordsComeBack) (s : State) (o : IsInOrder s) (t : ℕ) (l : Pending) (here : get s.pending t ≡ Some l) (source : Locator) (to : source ≡ server s.me l)
+module _ (messages : MessagesAreRead) (back : RecordsComeBack) (s : State) (o : IsStateInOrder s) (t : ℕ) (l : Pending) (here : get s.pending t ≡ Some l) (source : Locator) (to : source ≡ server s.me l)
     (reply : List ℕ) (said : ReferralRecord) (usable : IsUsable said (xeid_path l.x)) (spells : Spells reply (message_of l.nonce said)) where
   -- whatever the reply tells is this
-  told : (nonce : ℕ) (rec : ReferralRecord) → Tells reply nonce rec → (l.nonce ≡ nonce) × (rec ≡ said)
+  told : (nonce : ℕ) (rec : ReferralRecord) → TellsReply reply nonce rec → (l.nonce ≡ nonce) × (rec ≡ said)
   told nonce rec tells =
       let same : tells.message ≡ message_of l.nonce said = messages.one reply tells.message (message_of l.nonce said) tells.spells spells in
       (cc (same, tells.same_nonce), sym tells.same_record ∙ ap message_record same ∙ back l.nonce said usable.few)
@@ -100,7 +100,7 @@ module _ (messages : MessagesAreRead) (back : RecordsComeBack) (s : State) (o : 
 
 -- ---- to a lookup that has just asked
 
-module _ (r : Register) (laws : RepliesAreRead r) {now : ℕ} {x : Xeid} {s : State} {t : ℕ} {d : Outgoing} (o : IsInOrder s) (w : Waits now x s t d)
+module _ (r : Register) (laws : RepliesAreRead r) {now : ℕ} {x : Xeid} {s : State} {t : ℕ} {d : Outgoing} (o : IsStateInOrder s) (w : Waits now x s t d)
     (reply : List ℕ) (spells : Spells reply (message_of w.lookup.nonce (says r d.to (xeid_path x)))) where
   usable_here : IsUsable (says r d.to (xeid_path x)) (xeid_path w.lookup.x)
   usable_here = rw (← w.its_x) (says_usable r laws d.to (xeid_path w.lookup.x) (o.lookups t w.lookup w.is_pending).lookup.identifier)

@@ -12,13 +12,13 @@ use Rattle.ddt_path.specs.laws.Member.{contained}
 use Rattle.ddt_resolver.specs.State.{State, moved}
 use Rattle.ddt_resolver.specs.declared.step.Reply.{Reply}
 use Rattle.ddt_resolver.specs.Step as resolver
-use Rattle.ddt_resolver.specs.Step.{Call, Hear}
+use Rattle.ddt_resolver.specs.Step.{ResolverCall, Hear}
 use Rattle.ddt_sim.specs.declared.schedule.Step.{Step}
 use Rattle.ddt_sim.specs.declared.schedule.Step.TheVariants.{Deliver, Replace}
 use Rattle.ddt_sim.specs.declared.schedule.Event.{Event}
 use Rattle.ddt_sim.specs.declared.schedule.Datagram.{Datagram}
 use Rattle.ddt_register.specs.declared.register.Register.{Register}
-use Rattle.ddt_sim.specs.World.{World, world, members, at_place, StillAre, OthersStay, ComesIntoForce, MayReply, event_of, after, Calls, call_at, Resolves, Serves, by_reply, by_silence, WorldStep, resolves, serves, not_sent, passes, replaces, no_member, Stops, undone, wanting, untold, heard}
+use Rattle.ddt_sim.specs.World.{World, world, members, at_place, StillAre, OthersStay, ComesIntoForce, MayReply, event_of, after, CallsResolver, call_at, Resolves, Serves, by_reply, by_silence, WorldStep, resolves, serves, not_sent, passes, replaces, no_member, Stops, undone, wanting, untold, heard}
 use Rattle.ddt_sim.proofs.GroundLemmas.{calls_at, part_of, member_on}
 use Rattle.ddt_sim.specs.History.{Line, History, begin, next, steps_of, events_of, at_start, WantsNext, StopsAfter}
 
@@ -28,7 +28,7 @@ found_reply : (o : Option Datagram) (b : Bool) → option_map (λ (d : Datagram)
 found_reply None b e = absurd (none-some b e)
 found_reply (Some d) b e = (d, refl, same_Some d.is_reply b e)
 
-pub hears_call : (w : World) (k : ℕ) → option_map (λ (d : Datagram). d.is_reply) (slice_get w.sent k) ≡ Some true → (call : Call) × Calls w (Deliver k) call
+pub hears_call : (w : World) (k : ℕ) → option_map (λ (d : Datagram). d.is_reply) (slice_get w.sent k) ≡ Some true → (call : ResolverCall) × CallsResolver w (Deliver k) call
 hears_call w k e = let f = found_reply (slice_get w.sent k) true e in (Hear f.0.source f.0.bytes, heard k f.0 refl f.1 f.2 refl)
 
 module _ (sent : List Datagram) (k : ℕ) (b : Bool) (d : Datagram) (is : option_map (λ (c : Datagram). c.is_reply) (slice_get sent k) ≡ Some b) (read : d ≡ get_or sent k d) where
@@ -46,9 +46,9 @@ none_at (d ∷ ds) (suc k) none = let le : length ds ≤ k = none_at ds k none i
 
 -- ---- a call of the resolver
 
-module _ {w : World} {step : Step} (asks : (call : Call) × Calls w step call) {sent : List Datagram} (here : sent ≡ w.sent) {call : Call} (is : call ≡ call_at sent step) where
-  pub called_by : Calls w step call
-  called_by = subst (Calls w step) (calls_at asks.1 ∙ ap (λ l. call_at l step) (sym here) ∙ sym is) asks.1
+module _ {w : World} {step : Step} (asks : (call : ResolverCall) × CallsResolver w step call) {sent : List Datagram} (here : sent ≡ w.sent) {call : ResolverCall} (is : call ≡ call_at sent step) where
+  pub called_by : CallsResolver w step call
+  called_by = subst (CallsResolver w step) (calls_at asks.1 ∙ ap (λ l. call_at l step) (sym here) ∙ sym is) asks.1
 
   pub resolved_by : {reply : Reply} {s : State} {event : Event} → resolver.Step (moved w.moment w.state) call s reply → event ≡ event_of reply → Resolves w step event (after w s event)
   resolved_by {reply = reply} {s = s} does tells = record { call = call; reply = reply; state = s; calls = called_by; does = does; tells = tells; goes_on = refl }

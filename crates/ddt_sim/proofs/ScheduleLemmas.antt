@@ -18,9 +18,9 @@ use Rattle.ddt_resolver.specs.declared.pending.Pending.{Pending}
 use Rattle.ddt_resolver.specs.declared.results.Ignored.{Ignored}
 use Rattle.ddt_resolver.specs.declared.results.Ignored.TheVariants.{UnknownNonce, Late}
 use Rattle.ddt_resolver.specs.State.{State, moved, numbered, request_bytes, server}
-use Rattle.ddt_resolver.specs.Step.{Call}
+use Rattle.ddt_resolver.specs.Step.{ResolverCall}
 use Rattle.ddt_resolver.specs.TakeUp as takes
-use Rattle.ddt_resolver.specs.TakeUp.{Tells, IsTaken, Ignores}
+use Rattle.ddt_resolver.specs.TakeUp.{TellsReply, IsTaken, Ignores}
 use Rattle.ddt_sim.specs.declared.schedule.Step.{Step}
 use Rattle.ddt_sim.specs.declared.schedule.Step.TheVariants.{Replace}
 use Rattle.ddt_sim.specs.declared.schedule.Event.{Event}
@@ -28,7 +28,7 @@ use Rattle.ddt_sim.specs.declared.schedule.Datagram.{Datagram}
 use Rattle.ddt_sim.specs.Honest.{IsServer, IsHonestReply}
 use Rattle.ddt_sim.specs.Sound.{IsSound, IsFair, IsFairDatagram, IsRight, StepsKeepSoundness, TimeKeepsSoundness}
 use Rattle.ddt_sim.specs.Waiting.{CanBeAsked}
-use Rattle.ddt_sim.specs.World.{World, Members, MayReply, Calls, asked, heard, ticked, Resolves}
+use Rattle.ddt_sim.specs.World.{World, Members, MayReply, CallsResolver, asked, heard, ticked, Resolves}
 use Rattle.ddt_sim.specs.History.{Line}
 use Rattle.ddt_sim.proofs.GroundLemmas.{IsGround, Follows, HasSent, Part, one_line, member_on, order_now, state_is, IsNew, ground_on, follows, sent_by}
 use Rattle.ddt_sim.proofs.GroundLemmas as ground
@@ -87,7 +87,7 @@ module _ {r : Register} {w new : World} (f : Follows w new) where
 module _ {r : Register} (laws : RepliesAreRead r) {s : State} {source : Locator} (bytes : List ℕ) {nonce : ℕ} {x : Xeid} (w : WasAsked r s source nonce x)
     (spells : Spells bytes (referral_of nonce (says r source (xeid_path x)))) where
   -- whatever the reply tells is this
-  pub told : (n : ℕ) (rec : ReferralRecord) → Tells bytes n rec → (n ≡ nonce) × (rec ≡ says r source (xeid_path x))
+  pub told : (n : ℕ) (rec : ReferralRecord) → TellsReply bytes n rec → (n ≡ nonce) × (rec ≡ says r source (xeid_path x))
   told n rec tells =
       let same : tells.message ≡ referral_of nonce (says r source (xeid_path x)) = laws.messages.one bytes tells.message (referral_of nonce (says r source (xeid_path x))) tells.spells spells in (
         sym tells.same_nonce ∙ ap (λ (m : Message). m.nonce) same,
@@ -159,7 +159,7 @@ module _ {r : Register} {servers : Members} (on : Stands r servers) {past : List
     | replied nonce x a is spells ↦ (nonce, x, was_asked_at w.moment a, spells)
   ]
 
-  fair : {step : Step} {call : Call} → Calls w step call → IsFair r (moved w.moment w.state) call
+  fair : {step : Step} {call : ResolverCall} → CallsResolver w step call → IsFair r (moved w.moment w.state) call
   fair (asked x fits e f) = rw f tt
   fair (ticked e f) = rw f tt
   fair (heard k d e found kind f) = let q = known_reply k d found kind in rw f (reply_is_fair on.read d.bytes q.2 q.3)

@@ -25,7 +25,7 @@ use Rattle.ddt_wire.specs.Referral.{message_of, message_record}
 use Rattle.ddt_wire.specs.laws.Statements.{MessagesAreRead, RecordsComeBack}
 use Rattle.ddt_resolver.specs.State.{State, opening}
 use Rattle.ddt_resolver.specs.Records.{start_at}
-use Rattle.ddt_resolver.specs.Order.{IsInOrder, IsLookup}
+use Rattle.ddt_resolver.specs.Order.{IsStateInOrder, IsLookup}
 use Rattle.ddt_resolver.specs.laws.Shape.{opening_lookup}
 use Rattle.ddt_sim.specs.declared.hop.Hop.{Hop}
 use Rattle.ddt_sim.specs.Sound.{IsSound, IsSoundLookup}
@@ -123,7 +123,7 @@ zone_counts : (r : Register) (x : List ℕ) (z : Zone) → Contains r.zones z �
 zone_counts r x z among over = fewer (λ (w : Zone). covers w.prefix x) _ r.zones z (λ b deep. (and_parts _ _ deep).0) (in_contained r.zones z among) over (not_deeper x z)
 
 -- so a whole trail is short
-pub trail_is_short : (r : Register) (laws : ShortLaws r) (x : Xeid) (s : State) (outcome : Outcome) (hops : List Hop) → IsInOrder s → IsSound r s
+pub trail_is_short : (r : Register) (laws : ShortLaws r) (x : Xeid) (s : State) (outcome : Outcome) (hops : List Hop) → IsStateInOrder s → IsSound r s
     → IsTrue (is_path (xeid_path x)) → HasTrail x s outcome hops → All (IsHonestHop r x s.me) hops → length hops ≤ zones_over r (xeid_path x) + 7
 trail_is_short r laws x s outcome hops o sound id (trail.at_once p e found answer none) all = let e : length hops ≡ 0 = ap length none in omega (arith, e)
 trail_is_short r laws x s outcome hops o sound id (trail.from_servers p e found unanswered follows) all =

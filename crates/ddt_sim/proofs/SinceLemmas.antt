@@ -27,7 +27,7 @@ use Rattle.ddt_resolver.specs.Act.{Act, HearStep}
 use Rattle.ddt_resolver.specs.TickStep as ticks
 use Rattle.ddt_resolver.specs.TickStep.{GoOn, TickStep}
 use Rattle.ddt_resolver.specs.Step as steps
-use Rattle.ddt_resolver.specs.Step.{Call, Hear, Step}
+use Rattle.ddt_resolver.specs.Step.{ResolverCall, Hear, Step}
 use Rattle.ddt_resolver.specs.laws.Shape.{Takes}
 use Rattle.ddt_sim.specs.History.{Line, Among}
 use Rattle.ddt_sim.specs.InForce.{SomeSince}
@@ -52,7 +52,7 @@ since_any t is (line ∷ past) (inr h) = since_any t is past h
 -- ---- what a step saves
 
 -- the entry of a record that is taken
-pub record IsSaved (s : State) (call : Call) (p : List ℕ) (e : Entry) : Type 0 where
+pub record IsSaved (s : State) (call : ResolverCall) (p : List ℕ) (e : Entry) : Type 0 where
   pub ticket : ℕ
   pub lookup : Pending
   pub told : ReferralRecord
@@ -60,10 +60,10 @@ pub record IsSaved (s : State) (call : Call) (p : List ℕ) (e : Entry) : Type 0
   pub is_prefix : p ≡ told.prefix
   pub is_entry : e ≡ entry_of s.known.time told
 
-abbrev pub WasOrSaved : State → Call → List ℕ → Entry → Type 0
+abbrev pub WasOrSaved : State → ResolverCall → List ℕ → Entry → Type 0
 WasOrSaved s call p e = (get s.known.live p ≡ Some e) ⊎ IsSaved s call p e
 
-module _ (s : State) (call : Call) (new : State) (p : List ℕ) (e : Entry) (found : get new.known.live p ≡ Some e) where
+module _ (s : State) (call : ResolverCall) (new : State) (p : List ℕ) (e : Entry) (found : get new.known.live p ≡ Some e) where
   module _ (source : Locator) (bytes : List ℕ) (t : ℕ) (l : Pending) (rec : ReferralRecord) (is : call ≡ Hear source bytes) (taken : IsTaken s source bytes t l rec) where
     put : (b : Bool) → get (cond b (insert s.known.live rec.prefix (entry_of s.known.time rec)) s.known.live) p ≡ Some e → WasOrSaved s call p e
     put false there = inl there

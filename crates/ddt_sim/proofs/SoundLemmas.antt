@@ -42,8 +42,8 @@ use Rattle.ddt_resolver.specs.TickStep as ticks
 use Rattle.ddt_resolver.specs.TickStep.{GoOn, TickStep}
 use Rattle.ddt_resolver.specs.Step as steps
 use Rattle.ddt_resolver.specs.declared.step.Reply.{Reply}
-use Rattle.ddt_resolver.specs.Step.{Call, Step, Hear}
-use Rattle.ddt_resolver.specs.Order.{IsInOrder}
+use Rattle.ddt_resolver.specs.Step.{ResolverCall, Step, Hear}
+use Rattle.ddt_resolver.specs.Order.{IsStateInOrder}
 use Rattle.ddt_resolver.specs.laws.NumberMap.{found_insert, found_remove}
 use Rattle.ddt_sim.specs.Sound.{IsTrueEntry, delegates, registers, denies, IsNotRegistered, IsSoundLookup, IsSound, IsFair, IsRight, IsRightAsked, IsRightHeard, IsRightTicked, IsRightEnd}
 
@@ -137,7 +137,7 @@ module _ (r : Register) (s : State) (i : IsSound r s) where
 
 -- ---- a step
 
-module _ (r : Register) (laws : KeepsLaws r) (s : State) (o : IsInOrder s) (i : IsSound r s) where
+module _ (r : Register) (laws : KeepsLaws r) (s : State) (o : IsStateInOrder s) (i : IsSound r s) where
   -- the servers with which a lookup begins are those of a zone of its identifier
   pub begun : (x : Xeid) (p : List ℕ) (e : Entry) → IsFound s.known (xeid_path x) p e → answer_of p e ≡ None → IsSoundLookup r (opening x e.servers (start_at p))
   begun x p e (inr root) free = let z = laws.root in at_zone z.0 z.1.is_zone (rw z.1.is_everything refl) (rw root.entry (i.root ∙ sym z.1.its_servers)) (inl refl) refl

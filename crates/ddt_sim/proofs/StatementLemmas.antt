@@ -29,13 +29,13 @@ use Rattle.ddt_resolver.specs.declared.step.Progress.{Progress}
 use Rattle.ddt_resolver.specs.declared.step.Progress.TheVariants as progress
 use Rattle.ddt_resolver.specs.State.{State, moved, last_nonce, most_pending}
 use Rattle.ddt_resolver.specs.Step as resolver
-use Rattle.ddt_resolver.specs.Step.{Call, asks, hears, ticks, progress_of}
+use Rattle.ddt_resolver.specs.Step.{ResolverCall, asks, hears, ticks, progress_of}
 use Rattle.ddt_resolver.specs.AskStep as ask
 use Rattle.ddt_resolver.specs.AskStep.{AskStep}
 use Rattle.ddt_resolver.specs.Act as act
 use Rattle.ddt_resolver.specs.Act.{HearStep}
 use Rattle.ddt_resolver.specs.TakeUp.{Ignores}
-use Rattle.ddt_resolver.specs.Order.{IsInOrder}
+use Rattle.ddt_resolver.specs.Order.{IsStateInOrder}
 use Rattle.ddt_resolver.specs.laws.Shape.{Leaves, by_record, by_kept, by_loop, by_nobody, by_silence, by_nonce}
 use Rattle.ddt_sim.specs.declared.schedule.Step.{Step}
 use Rattle.ddt_sim.specs.declared.schedule.Step.TheVariants.{Replace}
@@ -46,8 +46,8 @@ use Rattle.ddt_sim.specs.declared.schedule.Transcript.{Transcript}
 use Rattle.ddt_sim.specs.RunLaws.{LawsOfRuns}
 use Rattle.ddt_sim.specs.Sound.{IsSound, IsRight, IsRightHeard, IsRightTicked, IsRightEnd, IsRightWhy}
 use Rattle.ddt_sim.specs.World.{World, Members, MayReply, reply_at, call_at, Resolves}
-use Rattle.ddt_sim.specs.History.{Line, Each, steps_of, at_start, Tells, StopsAfter}
-use Rattle.ddt_sim.specs.Schedules.{StartsSound, KeepServers, Ends, IsRightAnswer, IsOnce, IsRightReply, IsRightFailure}
+use Rattle.ddt_sim.specs.History.{Line, Each, steps_of, at_start, IsTranscriptOf, StopsAfter}
+use Rattle.ddt_sim.specs.Schedules.{StartsSound, KeepServers, Ends, IsRightAnswer, IsOnce, IsRightReply, IsRightFailureLine}
 use Rattle.ddt_sim.specs.Tries.{IsRightNoReply}
 use Rattle.ddt_sim.proofs.GroundLemmas.{IsGround, Part, one_line, served, order_now, answer_is, calls_at, progress_now, rest_ends, heard_by, left_now, once_now, first_ground, run_kept, each_kept}
 use Rattle.ddt_sim.proofs.ReplyLemmas.{act_is_for, says_usable}
@@ -57,7 +57,7 @@ use Rattle.ddt_sim.proofs.ScheduleLemmas.{ignored_rightly, IsSoundRun, Stands, k
 -- ---- failures, whatever the servers say
 
 -- a lookup gives up for want of a reply, as it is led round, as nobody is in charge, or at the last nonce
-why_left : (s : State) (call : Call) (t : ℕ) (l : Pending) (why : Why) → Leaves s call t l (Err why)
+why_left : (s : State) (call : ResolverCall) (t : ℕ) (l : Pending) (why : Why) → Leaves s call t l (Err why)
     → (why ≡ NoReply) ⊎ (why ≡ Loop) ⊎ (why ≡ NotAuthoritative) ⊎ ((why ≡ Exhausted) × (s.next ≡ last_nonce))
 why_left s call t l why (by_record rec takes final is) = absurd (cc is)
 why_left s call t l why (by_kept rec due kept is) = absurd (cc is)
@@ -70,7 +70,7 @@ why_left s call t l why (by_nonce over is) = inr (inr (inr (cc is, over)))
 abbrev IsRightRefusal : State → AskError → Type 0
 IsRightRefusal s why = ((why ≡ ask_error.TooMany) × (len s.pending ≡ most_pending)) ⊎ ((why ≡ ask_error.Exhausted) × (s.next ≡ last_nonce))
 
-refused_by : (s : State) → IsInOrder s → (call : Call) (new : State) (a : Reply) (why : AskError) → resolver.Step s call new a → a ≡ ToAsk (Err why) → IsRightRefusal s why
+refused_by : (s : State) → IsStateInOrder s → (call : ResolverCall) (new : State) (a : Reply) (why : AskError) → resolver.Step s call new a → a ≡ ToAsk (Err why) → IsRightRefusal s why
 refused_by s o call new a why (hears source bytes h step called to) is = absurd (cc (to, is))
 refused_by s o call new a why (ticks h step called to) is = absurd (cc (to, is))
 refused_by s o call new a why (asks x res id step called to) is = let same : res ≡ Err why = cc (to, is) in elim step.start [
@@ -126,7 +126,7 @@ module _ (r : Register) (s : State) where
   right_ticked (ticked_as.Answer t o) right = right
   right_ticked (ticked_as.GaveUp t why) right = right
 
-  right_progress : (call : Call) (new : State) (a : Reply) → resolver.Step s call new a → IsRight r s call a → IsRightProgress r s (progress_of a)
+  right_progress : (call : ResolverCall) (new : State) (a : Reply) → resolver.Step s call new a → IsRight r s call a → IsRightProgress r s (progress_of a)
   right_progress call new a (asks x res id step called to) right = rw to (right_asked res)
   right_progress call new a (hears source bytes h step called to) right = rw to (right_heard h (rw (called, to) at right))
   right_progress call new a (ticks h step called to) right = rw to (right_ticked h (rw (called, to) at right))
@@ -149,7 +149,7 @@ module _ {r : Register} {servers : Members} (on : Stands r servers) {past : List
       to_ticket = λ t o ends. let l = left_now i.ground d t (Ok o) ends in (l.0.x, i.ground.tickets.asked_for t l.0 l.1, right_end d t (Ok o) ends l.0 l.1);
     }
 
-    right_failure : Part servers w step event new → IsRightFailure past (one_line w step event new)
+    right_failure : Part servers w step event new → IsRightFailureLine past (one_line w step event new)
     right_failure part = record {
       gave_up = λ t why ends. elim (gave_up_now i.ground part t why ends) [
         | inl a ↦ inl a
@@ -206,7 +206,7 @@ keep_first steps past rest keep are = keep_them (steps_of past) past (λ k there
 pub first_tried : (s : State) → ((t : ℕ) → get s.pending t ≡ None) → IsTried [] (at_start s)
 first_tried s at_rest = record { heard = λ reply moment h. absurd h; replied = λ reply number h. absurd h; trails = λ t l found none. absurd (none-some l (sym (at_rest t) ∙ found)) }
 
-module _ (laws : LawsOfRuns) (servers : Members) (old : State) (o : IsInOrder old) (steps : List Step) (r : Register) (honest : servers.honest 0 r) (keep : KeepServers steps) (starts : StartsSound r old) where
+module _ (laws : LawsOfRuns) (servers : Members) (old : State) (o : IsStateInOrder old) (steps : List Step) (r : Register) (honest : servers.honest 0 r) (keep : KeepServers steps) (starts : StartsSound r old) where
   on : Stands r servers
   on = record {
     accepted = starts.accepted;
@@ -234,7 +234,7 @@ module _ (laws : LawsOfRuns) (servers : Members) (old : State) (o : IsInOrder ol
       let last = (run_kept Keeps IsSoundly first goes_soundly (keep_first steps stop.past stop.rest keep stop.steps_are) stop.history).0.sound in
       elim stop.state_is [ inl same ↦ rw same last | inr waiting ↦ rw waiting.wants.goes_on (laws.time r stop.last.state stop.last.moment last) ]
 
-  module _ (t : Transcript) (new : State) (past : List Line) (tells : Tells servers old steps t new past) where
+  module _ (t : Transcript) (new : State) (past : List Line) (tells : IsTranscriptOf servers old steps t new past) where
     each : (holds : List Line → Line → Type 0) → ((past : List Line) (w : World) → IsSoundly past w → (step : Step) (event : Event) (new : World) → Part servers w step event new → holds past (one_line w step event new)) → Each holds past
     each holds each_line = each_kept Keeps IsSoundly first goes_soundly holds each_line (keep_them steps past keep tells.steps_are) tells.history
 
@@ -247,8 +247,8 @@ module _ (laws : LawsOfRuns) (servers : Members) (old : State) (o : IsInOrder ol
     pub each_once : Each IsOnce past
     each_once = each IsOnce (λ past w i step event new. once_now i.0.ground)
 
-    pub each_failure : Each IsRightFailure past
-    each_failure = each IsRightFailure (λ past w i step event new. right_failure on i.0)
+    pub each_failure : Each IsRightFailureLine past
+    each_failure = each IsRightFailureLine (λ past w i step event new. right_failure on i.0)
 
     pub each_no_reply : Each (IsRightNoReply r) past
     each_no_reply = each (IsRightNoReply r) (λ past w i step event new. right_no_reply on i.0 i.1)

@@ -17,7 +17,7 @@ use Rattle.ddt_resolver.specs.State.{State, moved, server, numbered, opening, st
 use Rattle.ddt_resolver.specs.Records.{IsAbout, NamesServer, outcome_of, start_at, IsBelow}
 use Rattle.ddt_resolver.specs.AskStep.{answer_of}
 use Rattle.ddt_resolver.specs.TakeUp.{IsTaken}
-use Rattle.ddt_resolver.specs.Order.{IsInOrder}
+use Rattle.ddt_resolver.specs.Order.{IsStateInOrder}
 use Rattle.ddt_resolver.specs.laws.Shape.{opening_lookup, about_covers, referral_apart}
 use Rattle.ddt_sim.specs.declared.hop.Hop.{Hop}
 use Rattle.ddt_sim.specs.declared.hop.Lookup.{Lookup}
@@ -109,7 +109,7 @@ module _ {now : ℕ} {x : Xeid} (start : State) (fact : Pending → List Hop →
 
 -- ---- a whole lookup
 
-module _ (now : ℕ) (x : Xeid) (start : State) (outcome : Outcome) (o : IsInOrder (moved now start)) (id : IsTrue (is_path (xeid_path x))) where
+module _ (now : ℕ) (x : Xeid) (start : State) (outcome : Outcome) (o : IsStateInOrder (moved now start)) (id : IsTrue (is_path (xeid_path x))) where
   -- the hops of a lookup give this outcome
   abbrev gives : Pending → List Hop → Type 0
   gives l more = l.place < length l.servers → IsTrail x start.me start.known.roots outcome l.saved l.start (drop l.place l.servers) more
@@ -135,13 +135,13 @@ module _ (now : ℕ) (x : Xeid) (start : State) (outcome : Outcome) (o : IsInOrd
       rw (turn.hop, ← append-nil (hs ++ hop_of d turn.reply ∷ [])) (has_trail (with_hop a h.2 [] (gives_last (its_hop a h.2) h.3 h.4)))
 
 -- so does what a call gives
-pub result_trail : (now : ℕ) (x : Xeid) (start : State) → IsInOrder (moved now start) → IsTrue (is_path (xeid_path x)) → (new : State) (res : Result Lookup LookupError)
+pub result_trail : (now : ℕ) (x : Xeid) (start : State) → IsStateInOrder (moved now start) → IsTrue (is_path (xeid_path x)) → (new : State) (res : Result Lookup LookupError)
     → IfOk res (λ l. HasOutcome now x start l.outcome l.hops new) → IfOk res (λ l. HasTrail x (moved now start) l.outcome l.hops)
 result_trail now x start o id new (Ok l) has = outcome_trail now x start l.outcome o id has
 result_trail now x start o id new (Err error) has = tt
 
 -- and what it gives over honest servers is short
-pub short_result : HonestTrailsAreShort → (r : Register) (x : Xeid) (s : State) → IsAccepted r → IsInOrder s → IsSound r s → IsTrue (is_path (xeid_path x)) → (res : Result Lookup LookupError)
+pub short_result : HonestTrailsAreShort → (r : Register) (x : Xeid) (s : State) → IsAccepted r → IsStateInOrder s → IsSound r s → IsTrue (is_path (xeid_path x)) → (res : Result Lookup LookupError)
     → IfOk res (λ l. HasTrail x s l.outcome l.hops) → IfOk res (HasHonestHops r x s.me) → IfOk res (HasFewHops r x)
 short_result short r x s accepted o sound id (Ok l) has honest = short r x s l accepted o sound id has honest
 short_result short r x s accepted o sound id (Err error) has honest = tt
@@ -220,7 +220,7 @@ short_passes read x s (Err error) has = tt
 
 -- ---- a lookup stays in its pass or begins its second one, in each step
 
-module _ (s : State) (o : IsInOrder s) (t : ℕ) (l : Pending) (here : get s.pending t ≡ Some l) (new : State) (m : Pending) (found : get new.pending t ≡ Some m) where
+module _ (s : State) (o : IsStateInOrder s) (t : ℕ) (l : Pending) (here : get s.pending t ≡ Some l) (new : State) (m : Pending) (found : get new.pending t ≡ Some m) where
   -- it is untouched
   stays : get s.pending t ≡ Some m → PassGoesOn l m
   stays there = let same : m ≡ l = same_Some m l (sym there ∙ here) in rw same (same_pass refl (inl refl))

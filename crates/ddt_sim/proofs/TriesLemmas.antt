@@ -22,7 +22,7 @@ use Rattle.ddt_resolver.specs.declared.step.Reply.TheVariants.{ToDatagram}
 use Rattle.ddt_resolver.specs.declared.step.Progress.{Progress}
 use Rattle.ddt_resolver.specs.declared.step.Progress.TheVariants as progress
 use Rattle.ddt_resolver.specs.State.{State, server, numbered, request, patience, moved, tried_again, at_next}
-use Rattle.ddt_resolver.specs.Step.{Call, progress_of}
+use Rattle.ddt_resolver.specs.Step.{ResolverCall, progress_of}
 use Rattle.ddt_resolver.specs.laws.Shape.{Goes, anew, keeps, repeats, goes_on, goes_sends, IsLastDue, Leaves, by_record, by_kept, by_loop, by_nobody, by_silence, by_nonce}
 use Rattle.ddt_sim.specs.declared.schedule.Step.{Step}
 use Rattle.ddt_sim.specs.declared.schedule.Step.TheVariants.{Deliver}
@@ -272,7 +272,7 @@ module _ (on : AreBytesRead) {servers : Members} {past : List Line} {w : World} 
 -- ---- the end without a reply
 
 -- it came at the last server of a lookup that keeps nothing
-last_due : (s : State) (call : Call) (t : ℕ) (l : Pending) → Leaves s call t l (Err NoReply) → IsLastDue s call l × (l.kept ≡ None)
+last_due : (s : State) (call : ResolverCall) (t : ℕ) (l : Pending) → Leaves s call t l (Err NoReply) → IsLastDue s call l × (l.kept ≡ None)
 last_due s call t l (by_silence due empty is) = (due, empty)
 last_due s call t l (by_record rec takes final is) = absurd (cc is)
 last_due s call t l (by_kept rec due kept is) = absurd (cc is)
@@ -281,7 +281,7 @@ last_due s call t l (by_nobody rec takes away start is) = absurd (cc is)
 last_due s call t l (by_nonce none is) = absurd (cc is)
 
 module _ {past : List Line} {w : World} (g : IsGround past w) (i : IsTried past w) where
-  no_reply_now : (t : ℕ) (l : Pending) (call : Call) → get w.state.pending t ≡ Some l → IsLastDue (moved w.moment w.state) call l → l.kept ≡ None → WasInVain past w t
+  no_reply_now : (t : ℕ) (l : Pending) (call : ResolverCall) → get w.state.pending t ≡ Some l → IsLastDue (moved w.moment w.state) call l → l.kept ≡ None → WasInVain past w t
   no_reply_now t l call found d empty =
       let h : Trail past w t l = i.trails t l found empty in
       let within = (g.order.lookups t l found).lookup.place in

@@ -33,7 +33,7 @@ pub record IsUnderWay (r : Register) (now : ℕ) (x : Xeid) (s : State) (t : ℕ
   pub fits : CanBeAsked x s.me
 
 -- what an ask was answered, in the state that it left
-pub record IsAsked (now : ℕ) (s : State) (asked : Asked) : Type 0 where
+pub record IsAnswerToAsk (now : ℕ) (s : State) (asked : Asked) : Type 0 where
   pub identifier : Xeid
   pub start : State
   pub step : AskStep (moved now start) identifier s (Ok asked)

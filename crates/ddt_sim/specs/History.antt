@@ -44,7 +44,7 @@ at_start s = world s.known.time 0 [] s
 
 -- A transcript of these steps tells this history: its events and its datagrams, from one state of the resolver to
 -- another, over these servers.
-pub record Tells (servers : Members) (old : State) (steps : List Step) (t : Transcript) (new : State)
+pub record IsTranscriptOf (servers : Members) (old : State) (steps : List Step) (t : Transcript) (new : State)
     (past : List Line) : Type 0 where
   pub last : World
   pub history : History servers (at_start old) past last

@@ -25,7 +25,7 @@ use Rattle.ddt_sim.specs.declared.schedule.Datagram.{Datagram}
 use Rattle.ddt_sim.specs.declared.schedule.Transcript.{Transcript}
 use Rattle.ddt_sim.specs.Honest.{IsServer}
 use Rattle.ddt_sim.specs.World.{Members}
-use Rattle.ddt_sim.specs.History.{Line, Among, Each, Tells}
+use Rattle.ddt_sim.specs.History.{Line, Among, Each, IsTranscriptOf}
 use Rattle.ddt_sim.specs.Tries.{WasInVain}
 use Rattle.ddt_sim.specs.Schedules.{StartsSound, Ends, AsksFor, IsOpened, IsOnce, IsRepliedTo}
 
@@ -101,7 +101,7 @@ abbrev pub EachLineInForce : ((ℕ → Register) → List Line → Line → Type
     → State → Type 0
 EachLineInForce holds servers old steps t new =
     (registers : ℕ → Register) → AreRegisters servers registers old → (past : List Line)
-    → Tells servers old steps t new past → Each (holds registers) past
+    → IsTranscriptOf servers old steps t new past → Each (holds registers) past
 
 -- A lookup's outcome is what a register assigns to the identifier of its ask, one that was in force then or since.
 abbrev pub AnswersAreSince : Members → State → List Step → Transcript → State → Type 0

@@ -56,7 +56,7 @@ turn_or_failure (Some (Err why)) = Err (GaveUp why)
 turn_or_failure None = Err (GaveUp NoReply)
 
 -- The request d of the ticket t was sent at `now` in the state s, and its reply, which one hop more tells, was taken.
-pub record IsTurn (now : ℕ) (s : State) (t : ℕ) (d : Outgoing) (hops : List Hop) (turn : Turn) (more : List Hop)
+pub record IsLookupTurn (now : ℕ) (s : State) (t : ℕ) (d : Outgoing) (hops : List Hop) (turn : Turn) (more : List Hop)
     (new : State) : Type 0 where
   pub reply : List ℕ
   pub step : HearStep (moved now s) d.to reply new (heard_of t (Ok turn))
@@ -100,7 +100,7 @@ pub data HasOutcome (now : ℕ) (x : Xeid) (start : State) (outcome : Outcome) (
   at_once : AskStep (moved now start) x new (Ok (asked.Answer outcome)) → hops ≡ []
       → HasOutcome now x start outcome hops new
   by_reply : {before : List Hop} {t : ℕ} {d : Outgoing} {s : State} → Reaches now x start before t d s
-      → IsTurn now s t d before (Ends outcome) hops new → HasOutcome now x start outcome hops new
+      → IsLookupTurn now s t d before (Ends outcome) hops new → HasOutcome now x start outcome hops new
 
 -- what a lookup fails as whose ask is refused, or wants memory
 abbrev pub ask_failure : AskError → LookupError

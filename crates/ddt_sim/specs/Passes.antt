@@ -13,8 +13,8 @@ use Rattle.ddt_resolver.specs.declared.pending.Pending.{Pending}
 use Rattle.ddt_resolver.specs.Records.{IsBelow}
 use Rattle.ddt_resolver.specs.State.{State}
 use Rattle.ddt_resolver.specs.declared.step.Reply.{Reply}
-use Rattle.ddt_resolver.specs.Step.{Call, Step}
-use Rattle.ddt_resolver.specs.Order.{IsInOrder}
+use Rattle.ddt_resolver.specs.Step.{ResolverCall, Step}
+use Rattle.ddt_resolver.specs.Order.{IsStateInOrder}
 use Rattle.ddt_sim.specs.declared.hop.Hop.{Hop}
 use Rattle.ddt_sim.specs.Lookup.{Reaches}
 
@@ -51,7 +51,7 @@ pub data PassGoesOn (l new : Pending) : Type 0 where
 -- So it is in each step of a resolver, whatever comes, in whichever order: late, twice, among other lookups and ticks.
 abbrev pub PassesGoOn : Type 0
 PassesGoOn =
-    (s : State) (call : Call) (new : State) (reply : Reply) → IsInOrder s → Step s call new reply
+    (s : State) (call : ResolverCall) (new : State) (reply : Reply) → IsStateInOrder s → Step s call new reply
     → (t : ℕ) (l m : Pending) → get s.pending t ≡ Some l → get new.pending t ≡ Some m → PassGoesOn l m
 
 -- However far a lookup has come, also one that fails, its passes are short, whatever the servers say.

@@ -15,7 +15,7 @@ use Rattle.ddt_resolver.specs.declared.results.Why.{Why}
 use Rattle.ddt_resolver.specs.declared.results.Why.TheVariants.{Exhausted}
 use Rattle.ddt_resolver.specs.State.{State, moved, last_nonce}
 use Rattle.ddt_resolver.specs.Act.{HearStep}
-use Rattle.ddt_resolver.specs.Order.{IsInOrder}
+use Rattle.ddt_resolver.specs.Order.{IsStateInOrder}
 use Rattle.ddt_sim.specs.Honest.{IsServer, IsHonestReply}
 use Rattle.ddt_sim.specs.Sound.{IsSound}
 use Rattle.ddt_sim.specs.Lookup.{IsNotFor, hop_of}
@@ -42,5 +42,5 @@ pub record IsUnderstood (r : Register) (now : ℕ) (x : Xeid) (s : State) (t : �
 -- so it is with each request of a lookup that is under way
 abbrev pub RequestsAreUnderstood : Type 0
 RequestsAreUnderstood =
-    (r : Register) (now : ℕ) (x : Xeid) (s : State) (t : ℕ) (d : Outgoing) → now ≤ last_moment → IsInOrder s
+    (r : Register) (now : ℕ) (x : Xeid) (s : State) (t : ℕ) (d : Outgoing) → now ≤ last_moment → IsStateInOrder s
     → IsUnderWay r now x s t d → IsUnderstood r now x s t d

@@ -30,7 +30,7 @@ use Rattle.ddt_sim.specs.declared.schedule.Transcript.{Transcript}
 use Rattle.ddt_sim.specs.Honest.{IsHonestReply}
 use Rattle.ddt_sim.specs.Sound.{IsSound}
 use Rattle.ddt_sim.specs.World.{Members, reply_to, progress_at}
-use Rattle.ddt_sim.specs.History.{Line, Among, Each, Tells}
+use Rattle.ddt_sim.specs.History.{Line, Among, Each, IsTranscriptOf}
 
 -- the register is accepted, the resolver is sound for it, and nothing is pending
 pub record StartsSound (r : Register) (s : State) : Type 0 where
@@ -88,7 +88,7 @@ IsRightReply r past line =
 
 -- A lookup gives up for want of a reply, or of nonces. A reply is ignored where nobody waits for its nonce any more, or
 -- where it is late. An ask is refused where 1,024 lookups are pending, or no nonce is left.
-pub record IsRightFailure (past : List Line) (line : Line) : Type 0 where
+pub record IsRightFailureLine (past : List Line) (line : Line) : Type 0 where
   pub gave_up : (t : ℕ) (why : Why) → Ends line.event t (Err why)
       → (why ≡ NoReply) ⊎ ((why ≡ Exhausted) × (line.before.state.next ≡ last_nonce))
   pub ignored : (why : Ignored) → line.event ≡ Heard (heard_as.Ignored why) → (why ≡ UnknownNonce) ⊎ (why ≡ Late)
@@ -105,7 +105,7 @@ KeepServers steps = (k : ℕ) → Contains steps (Replace k) → ⊥
 abbrev pub EachLine : (Register → List Line → Line → Type 0) → Members → State → List Step → Transcript → State → Type 0
 EachLine holds servers old steps t new =
     (r : Register) → servers.honest 0 r → KeepServers steps → StartsSound r old → (past : List Line)
-    → Tells servers old steps t new past → Each (holds r) past
+    → IsTranscriptOf servers old steps t new past → Each (holds r) past
 
 -- Each outcome, remembered or of a lookup, is what the register assigns to the identifier that was asked for.
 abbrev pub AnswersAreRight : Members → State → List Step → Transcript → State → Type 0
@@ -123,4 +123,4 @@ TicketsEndOnce = EachLine (λ r. IsOnce)
 -- A lookup gives up only as NoReply or Exhausted, a reply is ignored only as UnknownNonce or Late, and an ask is
 -- refused only as TooMany or Exhausted.
 abbrev pub FailuresAreRight : Members → State → List Step → Transcript → State → Type 0
-FailuresAreRight = EachLine (λ r. IsRightFailure)
+FailuresAreRight = EachLine (λ r. IsRightFailureLine)

@@ -30,10 +30,10 @@ use Rattle.ddt_resolver.specs.declared.results.Why.{Why}
 use Rattle.ddt_resolver.specs.declared.results.Why.TheVariants.{NoReply, Exhausted}
 use Rattle.ddt_resolver.specs.Records.{outcome_at}
 use Rattle.ddt_resolver.specs.State.{State, fresh, moved, dropped}
-use Rattle.ddt_resolver.specs.Order.{IsInOrder}
+use Rattle.ddt_resolver.specs.Order.{IsStateInOrder}
 use Rattle.ddt_resolver.specs.declared.step.Reply.{Reply}
 use Rattle.ddt_resolver.specs.declared.step.Reply.TheVariants.{ToAsk, ToDatagram, ToTick}
-use Rattle.ddt_resolver.specs.Step.{Call, Ask, Hear, Tick, Step}
+use Rattle.ddt_resolver.specs.Step.{ResolverCall, Ask, Hear, Tick, Step}
 use Rattle.ddt_resolver.specs.TakeUp.{IsTaken}
 
 -- What makes an entry true. `delegates`: a referral to a zone, with the zone's kind and the locators of its group.
@@ -76,7 +76,7 @@ IsFairDatagram r s source bytes =
     (t : ℕ) (l : Pending) (rec : ReferralRecord) → IsTaken s source bytes t l rec → rec ≡ says r source (xeid_path l.x)
 
 -- the datagram of a call is fair, if it has one
-abbrev pub IsFair : Register → State → Call → Type 0
+abbrev pub IsFair : Register → State → ResolverCall → Type 0
 IsFair r s (Ask x) = Unit {0}
 IsFair r s (Hear source bytes) = IsFairDatagram r s source bytes
 IsFair r s Tick = Unit {0}
@@ -111,7 +111,7 @@ IsRightTicked r s (ticked.Sent t d) = Unit {0}
 IsRightTicked r s ticked.Nothing = Unit {0}
 
 -- what a step answers is right
-abbrev pub IsRight : Register → State → Call → Reply → Type 0
+abbrev pub IsRight : Register → State → ResolverCall → Reply → Type 0
 IsRight r s (Ask x) (ToAsk a) = IsRightAsked r (xeid_path x) a
 IsRight r s call (ToDatagram h) = IsRightHeard r s h
 IsRight r s call (ToTick t) = IsRightTicked r s t
@@ -123,7 +123,7 @@ IsRight r s call reply = Unit {0}
 -- answer is right.
 abbrev pub StepsKeepSoundness : Type 0
 StepsKeepSoundness =
-    (r : Register) (s : State) (call : Call) (new : State) (reply : Reply) → IsAccepted r → IsInOrder s → IsSound r s
+    (r : Register) (s : State) (call : ResolverCall) (new : State) (reply : Reply) → IsAccepted r → IsStateInOrder s → IsSound r s
     → IsFair r s call → Step s call new reply → IsSound r new × IsRight r s call reply
 
 -- so does the passing of time

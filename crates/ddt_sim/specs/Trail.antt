@@ -13,9 +13,9 @@ use Rattle.ddt_cache.specs.Found.{IsFound}
 use Rattle.ddt_path.specs.Actions.{IsReferral}
 use Rattle.ddt_resolver.specs.Records.{IsAbout, IsBelow, outcome_of, start_at}
 use Rattle.ddt_resolver.specs.State.{State, request_bytes}
-use Rattle.ddt_resolver.specs.TakeUp.{Tells}
+use Rattle.ddt_resolver.specs.TakeUp.{TellsReply}
 use Rattle.ddt_resolver.specs.AskStep.{answer_of}
-use Rattle.ddt_resolver.specs.Order.{IsInOrder}
+use Rattle.ddt_resolver.specs.Order.{IsStateInOrder}
 use Rattle.ddt_sim.specs.declared.hop.Hop.{Hop}
 use Rattle.ddt_sim.specs.declared.hop.Lookup.{Lookup}
 use Rattle.ddt_sim.specs.Sound.{IsSound}
@@ -27,7 +27,7 @@ pub record IsHopTo (x : Xeid) (me : Locator) (l : Locator) (hop : Hop) (rec : Re
   pub nonce : ℕ
   pub to : hop.to ≡ l
   pub asks : hop.request ≡ request_bytes nonce x me
-  pub tells : Tells hop.reply nonce rec
+  pub tells : TellsReply hop.reply nonce rec
   pub about : IsAbout rec (xeid_path x)
 
 -- The hops of a lookup of x from here on, by what it has saved, where it started, and the servers left of its set.
@@ -69,5 +69,5 @@ pub data HasTrail (x : Xeid) (s : State) (outcome : Outcome) (hops : List Hop) :
 -- Where the state is sound for an accepted register and each reply is what the register says, such hops are few.
 abbrev pub HonestTrailsAreShort : Type 0
 HonestTrailsAreShort =
-    (r : Register) (x : Xeid) (s : State) (l : Lookup) → IsAccepted r → IsInOrder s → IsSound r s
+    (r : Register) (x : Xeid) (s : State) (l : Lookup) → IsAccepted r → IsStateInOrder s → IsSound r s
     → IsTrue (is_path (xeid_path x)) → HasTrail x s l.outcome l.hops → HasHonestHops r x s.me l → HasFewHops r x l

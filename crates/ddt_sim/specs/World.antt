@@ -14,7 +14,7 @@ use Rattle.ddt_resolver.specs.declared.step.Progress.{Progress}
 use Rattle.ddt_resolver.specs.declared.step.Progress.TheVariants.{Stays, Sends, Ends}
 use Rattle.ddt_resolver.specs.State.{State, moved}
 use Rattle.ddt_resolver.specs.Step as resolver
-use Rattle.ddt_resolver.specs.Step.{Call, Hear, Wants, progress_of}
+use Rattle.ddt_resolver.specs.Step.{ResolverCall, Hear, Wants, progress_of}
 use Rattle.ddt_sim.specs.declared.schedule.Step.{Step}
 use Rattle.ddt_sim.specs.declared.schedule.Step.TheVariants.{Ask, Deliver, Pass, Tick, Replace}
 use Rattle.ddt_sim.specs.declared.schedule.Event.{Event}
@@ -118,14 +118,14 @@ event_of (ToDatagram h) = Heard h
 event_of (ToTick t) = Ticked t
 
 -- How a step calls the resolver: for an ask of an identifier, for a reply that was sent, for a tick.
-pub data Calls (w : World) (step : Step) (call : Call) : Type 0 where
-  asked : (x : Xeid) → CanBeAsked x w.state.me → step ≡ Ask x → call ≡ resolver.Ask x → Calls w step call
+pub data CallsResolver (w : World) (step : Step) (call : ResolverCall) : Type 0 where
+  asked : (x : Xeid) → CanBeAsked x w.state.me → step ≡ Ask x → call ≡ resolver.Ask x → CallsResolver w step call
   heard : (k : ℕ) (d : Datagram) → step ≡ Deliver k → slice_get w.sent k ≡ Some d → d.is_reply ≡ true
-      → call ≡ Hear d.source d.bytes → Calls w step call
-  ticked : step ≡ Tick → call ≡ resolver.Tick → Calls w step call
+      → call ≡ Hear d.source d.bytes → CallsResolver w step call
+  ticked : step ≡ Tick → call ≡ resolver.Tick → CallsResolver w step call
 
 -- what a step calls the resolver for, if it calls it
-abbrev pub call_at : List Datagram → Step → Call
+abbrev pub call_at : List Datagram → Step → ResolverCall
 call_at sent (Ask x) = resolver.Ask x
 call_at sent (Deliver k) = option_map_or (λ (d : Datagram). Hear d.source d.bytes) (slice_get sent k) resolver.Tick
 call_at sent _ = resolver.Tick
@@ -146,10 +146,10 @@ after w s event = record w { state = s; sent = w.sent ++ sent_for w.state.me (re
 
 -- a step of the resolver at the moment
 pub record Resolves (w : World) (step : Step) (event : Event) (new : World) : Type 0 where
-  pub call : Call
+  pub call : ResolverCall
   pub reply : Reply
   pub state : State
-  pub calls : Calls w step call
+  pub calls : CallsResolver w step call
   pub does : resolver.Step (moved w.moment w.state) call state reply
   pub tells : event ≡ event_of reply
   pub goes_on : new ≡ after w state event
@@ -177,8 +177,8 @@ pub data WorldStep (servers : Members) (w : World) (step : Step) (event : Event)
 
 -- a step calls the resolver, which wants memory: nothing is done but for its time
 pub record WantsMemory (w : World) (step : Step) (s : State) : Type 0 where
-  pub call : Call
-  pub calls : Calls w step call
+  pub call : ResolverCall
+  pub calls : CallsResolver w step call
   pub wants : Wants (moved w.moment w.state) call
   pub goes_on : s ≡ moved w.moment w.state
 

@@ -3,7 +3,7 @@
 ghost use Rattle.std.specs.Prelude.{◌≡◌, ◌<◌, IfOk, IfErr, MatchOption};
 ghost use Rattle.ddt_path.specs.declared.xeid.Xeid.{Xeid as AnXeid};
 ghost use Rattle.ddt_register.specs.declared.register.Register.{Register};
-ghost use Rattle.ddt_sim.specs.Lookup.{IsTurn, TurnFails, IsNotFor, heard_of, reply_or_failure, turn_or_failure};
+ghost use Rattle.ddt_sim.specs.Lookup.{IsLookupTurn, TurnFails, IsNotFor, heard_of, reply_or_failure, turn_or_failure};
 ghost use Rattle.ddt_sim.specs.Waiting.{Waits, requests_left, left_after};
 ghost use Rattle.ddt_sim.specs.Headline.{WhileUnderWay, IsRightlyTurned};
 
@@ -37,7 +37,7 @@ pub(crate) fn exchange<S: Servers, M: PrefixMap<Entry>>(
     hops: &mut Vec<Hop>,
 ) -> Result<Turn, LookupError>
     ensures turn { IfOk result (λ turn.
-        IsTurn now resolver.old ticket request hops.old.items turn hops.new.items resolver.new) }
+        IsLookupTurn now resolver.old ticket request hops.old.items turn hops.new.items resolver.new) }
     ensures failed { IfErr result (λ error. TurnFails now resolver.old ticket request error resolver.new) }
     // Over honest servers it is right, its hop is honest, and the resolver stays sound.
     ensures honest { WhileUnderWay (S.honest servers.old) now resolver.old ticket request (λ r x.

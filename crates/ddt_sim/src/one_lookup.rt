@@ -13,7 +13,7 @@ ghost use Rattle.ddt_sim.specs.Waiting.{IsAwaited, CanBeAsked, requests_left};
 ghost use Rattle.ddt_sim.specs.Lookup.{HasOutcome, Fails, FailsUnder, IsRemembered, ask_failure, WhateverAsked, WhateverSent};
 ghost use Rattle.ddt_sim.specs.Trail.{HasTrail};
 ghost use Rattle.ddt_sim.specs.Passes.{HasShortPasses, PassesAreShort};
-ghost use Rattle.ddt_sim.specs.Headline.{OverHonest, WhenAsked, WhileUnderWay, IsAsked};
+ghost use Rattle.ddt_sim.specs.Headline.{OverHonest, WhenAsked, WhileUnderWay, IsAnswerToAsk};
 ghost use Rattle.ddt_sim.specs.Headline.{IsAssigned, HasHonestHops, HasFewHops, IsRightlyEnded, IsRightError, most_hops};
 
 use crate::exchange::{Turn, exchange};
@@ -121,7 +121,7 @@ fn after_ask<S: Servers, M: PrefixMap<Entry>>(
     now: Moment,
     asked: Asked,
 ) -> Result<Lookup, LookupError>
-    requires { IsAsked now resolver.old asked }
+    requires { IsAnswerToAsk now resolver.old asked }
     ensures steps { WhateverAsked now resolver.old asked
         (λ x start. IfOk result (λ l. HasOutcome now x start l.outcome l.hops resolver.new)) }
     ensures failed { WhateverAsked now resolver.old asked

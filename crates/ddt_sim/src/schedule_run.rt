@@ -4,9 +4,9 @@ ghost use Rattle.std.specs.Prelude.{◌≡◌, ◌++◌, ◌<◌, ℕ, IfOk, OnO
 ghost use Rattle.std.specs.Option.{option_map};
 ghost use Rattle.ddt_register.specs.declared.register.Register.{Register};
 ghost use Rattle.ddt_sim.specs.declared.schedule.Step.TheVariants as step_as;
-ghost use Rattle.ddt_resolver.specs.Step.{Call, call_of};
-ghost use Rattle.ddt_sim.specs.World.{world, members, at_place, request_at, sent_for, later as later_than, StillAre, OthersStay, ComesIntoForce, Calls, call_at, Resolves, Serves, WorldStep, Stops};
-ghost use Rattle.ddt_sim.specs.History.{Line, Tells, StopsAfter};
+ghost use Rattle.ddt_resolver.specs.Step.{ResolverCall, call_of};
+ghost use Rattle.ddt_sim.specs.World.{world, members, at_place, request_at, sent_for, later as later_than, StillAre, OthersStay, ComesIntoForce, CallsResolver, call_at, Resolves, Serves, WorldStep, Stops};
+ghost use Rattle.ddt_sim.specs.History.{Line, IsTranscriptOf, StopsAfter};
 ghost use Rattle.ddt_sim.specs.Schedules.{KeepServers, StartsSound, AnswersAreRight, RepliesAreRight, TicketsEndOnce, FailuresAreRight};
 ghost use Rattle.ddt_sim.specs.Tries.{NoRepliesAreRight};
 ghost use Rattle.ddt_sim.specs.InForce.{AnswersAreSince, AnswersAreOfLate, RepliesAreInForce, FailuresAreInForce, NoRepliesAreInForce, TicketsEndOnceInForce};
@@ -83,7 +83,8 @@ pub fn run<S: Servers, M: PrefixMap<Entry>>(
     // Whatever the servers reply, and whichever are in force: the transcript tells a run of the resolver's steps, the
     // servers' replies and their replacements. Where servers are neither known to be honest nor to be silent, any reply
     // may come back from them, or none.
-    ensures run { IfOk result (λ t. (past : List Line) × Tells (members S.honest S.silent servers.old) resolver.old
+    ensures run { IfOk result (λ t. (past : List Line)
+        × IsTranscriptOf (members S.honest S.silent servers.old) resolver.old
         steps.now t resolver.new past) }
     ensures stopped { OnErr result (StopsAfter (members S.honest S.silent servers.old) resolver.old steps.now
         resolver.new) }
@@ -182,7 +183,8 @@ fn resolve<M: PrefixMap<Entry>>(
     scene: &mut Scene,
     step: Step,
 ) -> Result<Event, AllocError>
-    requires { (call : Call) × Calls (world scene.old.moment scene.old.member scene.old.sent.items resolver.old)
+    requires { (call : ResolverCall)
+        × CallsResolver (world scene.old.moment scene.old.member scene.old.sent.items resolver.old)
         step call }
     ensures step { IfOk result (λ event. Resolves
         (world scene.old.moment scene.old.member scene.old.sent.items resolver.old) step event

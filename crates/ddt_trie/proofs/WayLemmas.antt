@@ -12,7 +12,7 @@ use Rattle.ddt_path.specs.laws.Share.{shared_len-append, covers_both}
 use Rattle.ddt_trie.specs.declared.tree.Tree.{Tree}
 use Rattle.ddt_trie.specs.declared.tree.Tree.TheVariants.{Empty, Leaf, Fork'}
 use Rattle.ddt_trie.specs.declared.tree.Entry.{Entry}
-use Rattle.ddt_trie.specs.Tree.{low, high, lookup, onward, GoesOn, HasSameEntriesAt, is_rooted, is_filled, is_pruned}
+use Rattle.ddt_trie.specs.Tree.{low, high, lookup, onward, PathGoesOn, HasSameEntriesAt, is_rooted, is_filled, is_pruned}
 use Rattle.ddt_trie.proofs.TreeLemmas.{high_apart}
 
 -- ---- the way to the next level
@@ -26,17 +26,17 @@ abbrev pub ArePruned : {V : Type 0} → Option V → Tree V → Tree V → Type 
 ArePruned value z o = IsTrue ((is_some value || (is_filled z || is_filled o)) && (is_pruned z && is_pruned o))
 
 module _ {V : Type 0} (at : ℕ) (p : List ℕ) (z o : Tree V) where
-  pub into_low : GoesOn low at p → AreRooted (take at p) z o → IsTrue (is_rooted (take (at + 1) p) z)
+  pub into_low : PathGoesOn low at p → AreRooted (take at p) z o → IsTrue (is_rooted (take (at + 1) p) z)
   into_low on h = rw on.3 (grind arith)
 
-  pub into_high : GoesOn high at p → AreRooted (take at p) z o → IsTrue (is_rooted (take (at + 1) p) o)
+  pub into_high : PathGoesOn high at p → AreRooted (take at p) z o → IsTrue (is_rooted (take (at + 1) p) o)
   into_high on h = rw on.3 (grind arith)
 
-  pub from_low : (s : Tree V) → AreRooted (take at p) z o → GoesOn low at p → IsTrue (is_rooted (take (at + 1) p) s)
+  pub from_low : (s : Tree V) → AreRooted (take at p) z o → PathGoesOn low at p → IsTrue (is_rooted (take (at + 1) p) s)
       → AreRooted (take at p) s o
   from_low s h on new = let told = rw on.3 at new in grind arith
 
-  pub from_high : (s : Tree V) → AreRooted (take at p) z o → GoesOn high at p → IsTrue (is_rooted (take (at + 1) p) s)
+  pub from_high : (s : Tree V) → AreRooted (take at p) z o → PathGoesOn high at p → IsTrue (is_rooted (take (at + 1) p) s)
       → AreRooted (take at p) z s
   from_high s h on new = let told = rw on.3 at new in grind arith
 
@@ -106,13 +106,13 @@ module _ (at : ℕ) (p k : List ℕ) (le : at ≤ length p) (h : covers (take at
 
   -- ---- a node over a leaf
 
-  way_covers : (digit : ℕ → ℕ) → GoesOn digit at k → covers (onward digit (take at p)) k ≡ true
+  way_covers : (digit : ℕ → ℕ) → PathGoesOn digit at k → covers (onward digit (take at p)) k ≡ true
   way_covers digit on = rw (← begins, ← on.3) (front_covered (at + 1) k)
 
-  pub rooted_leaf_low : GoesOn low at k → IsTrue (covers (onward low (take at p)) k && true)
+  pub rooted_leaf_low : PathGoesOn low at k → IsTrue (covers (onward low (take at p)) k && true)
   rooted_leaf_low on = let c = way_covers low on in grind arith
 
-  pub rooted_leaf_high : GoesOn high at k → IsTrue (covers (onward high (take at p)) k)
+  pub rooted_leaf_high : PathGoesOn high at k → IsTrue (covers (onward high (take at p)) k)
   rooted_leaf_high on = way_covers high on
 
 module _ {V : Type 0} (at : ℕ) (b : Box (Entry V) Global) (p : _) where
@@ -123,14 +123,14 @@ module _ {V : Type 0} (at : ℕ) (b : Box (Entry V) Global) (p : _) where
       found [] = rw ends
       found (e ∷ q) = rw ends (grind arith)
 
-  pub same_at_low : GoesOn low at b.value.prefix → HasSameEntriesAt at (Leaf b) (Fork' p None (Leaf b) Empty)
+  pub same_at_low : PathGoesOn low at b.value.prefix → HasSameEntriesAt at (Leaf b) (Fork' p None (Leaf b) Empty)
   same_at_low on = record { same = found }
     where
       found : (q : List ℕ) → lookup at (Fork' p None (Leaf b) Empty) q ≡ lookup at (Leaf b) q
       found [] = rw on.0
       found (e ∷ q) = rw on.0 (grind arith)
 
-  pub same_at_high : GoesOn high at b.value.prefix → HasSameEntriesAt at (Leaf b) (Fork' p None Empty (Leaf b))
+  pub same_at_high : PathGoesOn high at b.value.prefix → HasSameEntriesAt at (Leaf b) (Fork' p None Empty (Leaf b))
   same_at_high on = record { same = found }
     where
       found : (q : List ℕ) → lookup at (Fork' p None Empty (Leaf b)) q ≡ lookup at (Leaf b) q

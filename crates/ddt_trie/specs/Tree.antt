@@ -103,16 +103,16 @@ is_rooted way (Fork' p value zero one) =
     is_rooted (onward low way) zero && is_rooted (onward high way) one
 
 -- the path goes on with this digit behind its first ones
-abbrev pub GoesOn : (ℕ → ℕ) → ℕ → List ℕ → Type 0
-GoesOn digit at p =
+abbrev pub PathGoesOn : (ℕ → ℕ) → ℕ → List ℕ → Type 0
+PathGoesOn digit at p =
     (drop at p ≡ digit at ∷ drop (at + 1) p) × (at < length p) × (at < 161)
     × (take (at + 1) p ≡ onward digit (take at p))
 
 -- where a path goes behind its first digits
-abbrev pub IsTurn : ℕ → List ℕ → Turn → Type 0
-IsTurn at p End = drop at p ≡ []
-IsTurn at p Zero = GoesOn low at p
-IsTurn at p One = GoesOn high at p
+abbrev pub IsPathTurn : ℕ → List ℕ → Turn → Type 0
+IsPathTurn at p End = drop at p ≡ []
+IsPathTurn at p Zero = PathGoesOn low at p
+IsPathTurn at p One = PathGoesOn high at p
 
 -- the value of the path k is now o, and each other path has the value that it had
 pub record IsSet {V : Type 0} (at : ℕ) (old new : Tree V) (k : List ℕ) (o : Option V) : Type 0 where

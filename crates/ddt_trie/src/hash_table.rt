@@ -114,7 +114,7 @@ impl<V: Drop> Table<V> {
 
 /// The lengths with this one among them, from the shortest on. None where memory runs out, or where they would be more
 /// than eight.
-#[tactic(auto, using(crate::proofs::TableLemmas::length_kept, crate::proofs::TableLemmas::length_added, crate::proofs::TableLemmas::asked))]
+#[tactic(auto, using(crate::proofs::HashTableLemmas::length_kept, crate::proofs::HashTableLemmas::length_added, crate::proofs::HashTableLemmas::asked))]
 fn with_length(lengths: Vec<u8>, len: u8) -> Option<Vec<u8>>
     ensures kept { IfSome result (λ l. (n : ℕ) → IsTrue (is_length lengths.items n) → IsTrue (is_length l.items n)) }
     ensures added { IfSome result (λ new. IsTrue (is_length new.items len)) }

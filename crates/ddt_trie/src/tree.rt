@@ -9,7 +9,7 @@ ghost use Rattle.std.specs.Fn.{FnReturnsAt};
 ghost use Rattle.ddt_path.specs.Path.{xeid_path};
 ghost use Rattle.ddt_path.specs.Covers.{covers};
 ghost use Rattle.ddt_trie.specs.Tree.{lookup, count, one_if, is_filled, is_held, is_leaf, is_pruned, is_pruned_below};
-ghost use Rattle.ddt_trie.specs.Tree.{is_rooted, IsRootedAs, IsTurn, IsSet, HasKept};
+ghost use Rattle.ddt_trie.specs.Tree.{is_rooted, IsRootedAs, IsPathTurn, IsSet, HasKept};
 ghost use Rattle.ddt_trie.specs.Tree.{HasSameEntries, HasSameEntriesAt};
 ghost use Rattle.ddt_trie.specs.Tree.{IsUncovered, IsLongestBelow, IsMet, IsGapBelow};
 ghost use Rattle.ddt_trie.specs.PrefixMap.{IsKept};
@@ -60,7 +60,7 @@ pub enum Turn {
 /// Where a prefix goes behind its first `at` digits, of which it has at least so many.
 pub fn turn_at(prefix: Prefix, at: u8) -> Turn
     requires { at ≤ length prefix }
-    ensures { IsTurn at prefix result }
+    ensures { IsPathTurn at prefix result }
 {
     // A digit is 0 or 1, the family's 4 or 6, and no prefix has more than 161 of them.
     let _form = prefix.form();
@@ -76,7 +76,7 @@ pub fn turn_at(prefix: Prefix, at: u8) -> Turn
 fn turn_of(x: Xeid, len: u8, at: u8) -> Turn
     requires within { at ≤ len }
     requires fits { len ≤ length (xeid_path x) }
-    ensures { IsTurn at (take len (xeid_path x)) result }
+    ensures { IsPathTurn at (take len (xeid_path x)) result }
 {
     if at == len {
         return Turn::End;

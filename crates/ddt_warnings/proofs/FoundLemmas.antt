@@ -19,31 +19,31 @@ use Rattle.ddt_check.specs.Zones.{site_of}
 use Rattle.ddt_check.specs.laws.Zone.{site_prefix}
 use Rattle.ddt_warnings.specs.declared.kind.Kind.{Kind}
 use Rattle.ddt_warnings.specs.declared.warning.Finding.{Finding}
-use Rattle.ddt_warnings.specs.Found.{IsFound, AreNeighbours, HasNone}
+use Rattle.ddt_warnings.specs.Found.{IsWarningFound, AreNeighbours, HasNone}
 use Rattle.ddt_warnings.specs.Findings.{kind_of}
 use Rattle.ddt_warnings.specs.Warnings.{is_next, is_in_other_region, are_near, is_odd}
 
 -- a finding that is told if a test holds
 pub found_then : (has b : Bool) (kind : Kind) (f : Finding) (result : Option Finding) → result ≡ then_some b f
-    → kind_of f ≡ kind → b ≡ has → IsFound has kind result
-found_then has true kind f result is same e = subst (IsFound has kind) (sym is) (sym e, same)
-found_then has false kind f result is same e = subst (IsFound has kind) (sym is) (sym e)
+    → kind_of f ≡ kind → b ≡ has → IsWarningFound has kind result
+found_then has true kind f result is same e = subst (IsWarningFound has kind) (sym is) (sym e, same)
+found_then has false kind f result is same e = subst (IsWarningFound has kind) (sym is) (sym e)
 
 -- what is found at one locator of a list is found of the list
 pub first_is : (has : Locator → Bool) (kind : Kind) (ls : List Locator) (i : ℕ) (d : Locator) (found : Option Finding)
-    → i < length ls → IsFound (has (get_or ls i d)) kind found → is_some found ≡ true → IsFound (list_any has ls) kind found
+    → i < length ls → IsWarningFound (has (get_or ls i d)) kind found → is_some found ≡ true → IsWarningFound (list_any has ls) kind found
 first_is has kind ls i d None lt here some = absurd (false≢true some)
 first_is has kind ls i d (Some f) lt here some = (
   in_any has ls (get_or ls i d) (in_contained ls (get_or ls i d) (Contains-get_or ls i d lt)) here.0,
   here.1,
 )
 
-none_here : (has : Bool) (kind : Kind) (found : Option Finding) → IsFound has kind found → is_some found ≡ false → has ≡ false
+none_here : (has : Bool) (kind : Kind) (found : Option Finding) → IsWarningFound has kind found → is_some found ≡ false → has ≡ false
 none_here has kind None here none = here
 none_here has kind (Some f) here none = absurd (false≢true (sym none))
 
 pub none_more : (has : Locator → Bool) (kind : Kind) (ls : List Locator) (i : ℕ) (d : Locator) (found : Option Finding)
-    → i < length ls → IsFound (has (get_or ls i d)) kind found → is_some found ≡ false
+    → i < length ls → IsWarningFound (has (get_or ls i d)) kind found → is_some found ≡ false
     → list_any has (take i ls) ≡ false → list_any has (take (i + 1) ls) ≡ false
 none_more has kind ls i d found lt here none before =
     list_any_more has ls i d lt ∙ or_from (list_any has (take i ls)) (has (get_or ls i d)) before

@@ -85,18 +85,18 @@ HasNames zones names = (name : List ℕ) → contains (slice_cmp nat_cmp) names 
     ≡ list_any (λ z. is_same_name name z.group) zones
 
 -- the sites in the order of their prefixes
-abbrev pub AreInOrder : Register → List (Bor Site) → Type 0
-AreInOrder r order = IsPermutation r.sites (map (λ s. s.now) order) × AreSitesInOrder (map (λ s. s.now) order)
+abbrev pub AreListedInOrder : Register → List (Bor Site) → Type 0
+AreListedInOrder r order = IsPermutation r.sites (map (λ s. s.now) order) × AreSitesInOrder (map (λ s. s.now) order)
 
 -- an item has nothing of a kind, or it has, and this was found
-abbrev pub IsFound : Bool → Kind → Option Finding → Type 0
-IsFound has kind found = MatchOption found (has ≡ false) (λ f. (has ≡ true) × (kind_of f ≡ kind))
+abbrev pub IsWarningFound : Bool → Kind → Option Finding → Type 0
+IsWarningFound has kind found = MatchOption found (has ≡ false) (λ f. (has ≡ true) × (kind_of f ≡ kind))
 
 -- a search answers so at each locator
 abbrev pub FindsAs : {F : Type 0} → Shared F (Bor Locator × Unit {0}) (Option Finding) → F → (Locator → Bool) → Kind
     → Type 0
 FindsAs calls find has kind =
-    (l : _) (found : Option Finding) → FnReturnsAt calls find l found → IsFound (has l) kind found
+    (l : _) (found : Option Finding) → FnReturnsAt calls find l found → IsWarningFound (has l) kind found
 
 -- the sites just before and just behind a site
 pub record AreNeighbours (r : Register) (s a b : Site) : Type 0 where

@@ -3,7 +3,7 @@ use Rattle.std.specs.Prelude.{◌≡◌}
 use Rattle.ddt_register.specs.declared.register.Register.{Register}
 use Rattle.ddt_trie.specs.Trie.{trie_content}
 use Rattle.ddt_warnings.specs.declared.index.Index.{Index}
-use Rattle.ddt_warnings.specs.Found.{IsTree, HasItems, HasParents, HasMixed, HasServers, HasNames, AreInOrder}
+use Rattle.ddt_warnings.specs.Found.{IsTree, HasItems, HasParents, HasMixed, HasServers, HasNames, AreListedInOrder}
 use Rattle.ddt_warnings.specs.Reach.{is_on_loopback}
 
 -- the register whose index it is
@@ -16,7 +16,7 @@ pub record IsIndex (index : Index) : Type 0 where
   pub parents : HasParents (register_of index) index.children.parents
   pub mixed : HasMixed (register_of index) index.children.mixed
   pub sites : HasItems (λ s. s.prefix) (register_of index).sites (trie_content index.sites)
-  pub order : AreInOrder (register_of index) index.order.items
+  pub order : AreListedInOrder (register_of index) index.order.items
   pub servers : HasServers (register_of index).groups index.servers
   pub named : HasNames (register_of index).zones index.named
   pub rig : index.is_rig ≡ is_on_loopback (register_of index)

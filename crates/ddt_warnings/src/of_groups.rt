@@ -3,7 +3,7 @@
 ghost use Rattle.std.specs.Prelude.{◌≡◌};
 ghost use Rattle.std.specs.Option.{option_copied};
 ghost use Rattle.ddt_check.specs.Zones.{site_of};
-ghost use Rattle.ddt_warnings.specs.Found.{IsFound};
+ghost use Rattle.ddt_warnings.specs.Found.{IsWarningFound};
 ghost use Rattle.ddt_warnings.specs.Index.{IsIndex, register_of};
 ghost use Rattle.ddt_warnings.specs.Reach.{is_unreachable};
 ghost use Rattle.ddt_warnings.specs.Warnings.{group_has, is_inside_eids as is_inside_eids_of, is_named as is_named_of, eid_path};
@@ -38,7 +38,7 @@ impl Warned for Group {
 /// Whether a locator can't be reached from elsewhere.
 fn unreachable_locator(index: &Index, locator: Locator) -> Option<Finding>
     requires { IsIndex index.now }
-    ensures { IsFound (is_unreachable (register_of index.now) locator) Kind.UnreachableLocator result }
+    ensures { IsWarningFound (is_unreachable (register_of index.now) locator) Kind.UnreachableLocator result }
 {
     let reach = reach_of(locator)?;
     is_out_of_reach(index.is_rig, Some(reach)).then_some(Finding::UnreachableLocator {
@@ -50,7 +50,7 @@ fn unreachable_locator(index: &Index, locator: Locator) -> Option<Finding>
 /// Whether a site covers a locator, as an identifier of instance 0.
 fn locator_inside_eids(index: &Index, locator: Locator) -> Option<Finding>
     requires { IsIndex index.now }
-    ensures { IsFound (is_inside_eids_of (register_of index.now) locator) Kind.LocatorInsideEids result }
+    ensures { IsWarningFound (is_inside_eids_of (register_of index.now) locator) Kind.LocatorInsideEids result }
 {
     let site = site_over(index, locator)?;
     Some(Finding::LocatorInsideEids {

@@ -4,7 +4,7 @@ ghost use Rattle.std.specs.Prelude.{◌≡◌, ◌&&◌};
 ghost use Rattle.std.specs.List.{Contains, count_by};
 ghost use Rattle.ddt_path.specs.Locators.{is_same_locator};
 ghost use Rattle.std.specs.Option.{option_copied};
-ghost use Rattle.ddt_warnings.specs.Found.{IsFound};
+ghost use Rattle.ddt_warnings.specs.Found.{IsWarningFound};
 ghost use Rattle.ddt_warnings.specs.Index.{IsIndex, register_of};
 ghost use Rattle.ddt_warnings.specs.Warnings.{site_has, is_repeated as is_repeated_of, is_server, is_in_other_region, len_above as len_above_of, are_near as are_near_sites, is_odd as is_odd_site, have_one_group as have_one_group_of};
 
@@ -35,7 +35,7 @@ impl Warned for Site {
 
 /// An ETR that stands more than once in a site, of which there are at most 8.
 fn repeated_etr(site: &Site, etr: Locator) -> Option<Finding>
-    ensures { IsFound (is_repeated_of site.now.etrs etr) Kind.RepeatedEtr result }
+    ensures { IsWarningFound (is_repeated_of site.now.etrs etr) Kind.RepeatedEtr result }
 {
     is_repeated(site.etrs.as_slice(), etr).then_some(Finding::RepeatedEtr { etr })
 }
@@ -56,7 +56,7 @@ fn times(etrs: &[Locator], etr: Locator) -> usize
 /// Whether an ETR is a locator of a group.
 fn etr_is_server(index: &Index, etr: Locator) -> Option<Finding>
     requires { IsIndex index.now }
-    ensures { IsFound (is_server (register_of index.now) etr) Kind.EtrIsServer result }
+    ensures { IsWarningFound (is_server (register_of index.now) etr) Kind.EtrIsServer result }
 {
     let group = *index.servers.get(&address(etr))?;
     Some(Finding::EtrIsServer { etr, group })
@@ -66,7 +66,7 @@ fn etr_is_server(index: &Index, etr: Locator) -> Option<Finding>
 fn in_other_region(index: &Index, site: &Site) -> Option<Finding>
     requires index { IsIndex index.now }
     requires member { Contains (register_of index.now).sites site.now }
-    ensures { IsFound (is_in_other_region (register_of index.now) site.now) Kind.SiteInOtherRegion result }
+    ensures { IsWarningFound (is_in_other_region (register_of index.now) site.now) Kind.SiteInOtherRegion result }
 {
     let (before, behind) = neighbours(index.order.as_slice(), site)?;
     is_other(index, site, before, behind).then_some(Finding::SiteInOtherRegion {

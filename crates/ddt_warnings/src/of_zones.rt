@@ -3,7 +3,7 @@
 ghost use Rattle.std.specs.Prelude.{◌≡◌, ◌&&◌, not, Some};
 ghost use Rattle.std.specs.List.{Contains};
 ghost use Rattle.ddt_check.specs.Zones.{is_ms};
-ghost use Rattle.ddt_warnings.specs.Found.{IsFound};
+ghost use Rattle.ddt_warnings.specs.Found.{IsWarningFound};
 ghost use Rattle.ddt_warnings.specs.Index.{IsIndex, register_of};
 ghost use Rattle.ddt_warnings.specs.Warnings.{zone_has, zone_above, is_zone_between, has_child as has_child_of, has_child_outside as has_child_outside_of, is_put_under as is_put_under_of};
 
@@ -79,7 +79,7 @@ fn is_put_under(index: &Index, zone: &Zone, above: &Zone) -> bool
 fn zone_between(index: &Index, zone: &Zone) -> Option<Finding>
     requires index { IsIndex index.now }
     requires member { Contains (register_of index.now).zones zone.now }
-    ensures { IsFound (is_zone_between (register_of index.now) zone.now) Kind.ZoneBetween result }
+    ensures { IsWarningFound (is_zone_between (register_of index.now) zone.now) Kind.ZoneBetween result }
 {
     let above = index.tree.zone_above(zone)?;
     let is_between = is_of_nodes(zone) && is_put_under(index, zone, above);

@@ -4,7 +4,7 @@ ghost use Rattle.std.specs.Prelude.{◌≡◌, IfOk, MatchOption, map, IsPermuta
 ghost use Rattle.ddt_register.specs.declared.register.Register.{Register as ARegister};
 ghost use Rattle.ddt_warnings.specs.Order.{AreSitesInOrder};
 ghost use Rattle.ddt_check.specs.Rules.{IsAccepted};
-ghost use Rattle.ddt_warnings.specs.Found.{AreInOrder, AreNeighbours, HasNone};
+ghost use Rattle.ddt_warnings.specs.Found.{AreListedInOrder, AreNeighbours, HasNone};
 ghost use Rattle.std.specs.List.{Contains};
 
 use ddt_register::Site;
@@ -28,7 +28,7 @@ fn refs(alloc: Global, sites: &[Site]) -> Result<Vec<&Site>, AllocError>
 
 /// The sites just before and just behind a site, where there are both.
 pub fn neighbours<'a>(order: &[&'a Site], site: &Site) -> Option<(&'a Site, &'a Site)>
-    ensures { (r : ARegister) → IsAccepted r → AreInOrder r order.now → Contains r.sites site.now
+    ensures { (r : ARegister) → IsAccepted r → AreListedInOrder r order.now → Contains r.sites site.now
         → MatchOption result (HasNone r site.now) (λ found. AreNeighbours r site.now found.0.now found.1.now) }
 {
     let at = order.partition_point(|s| s.prefix < site.prefix);

@@ -5,7 +5,7 @@ ghost use Rattle.std.specs.List.{Contains, list_any};
 ghost use Rattle.ddt_path.specs.declared.locator.Locator.{Locator as ALocator};
 ghost use Rattle.ddt_register.specs.declared.register.Register.{Register as ARegister};
 ghost use Rattle.ddt_warnings.specs.declared.kind.Kind.{Kind as AKind};
-ghost use Rattle.ddt_warnings.specs.Found.{IsFound, FindsAs};
+ghost use Rattle.ddt_warnings.specs.Found.{IsWarningFound, FindsAs};
 ghost use Rattle.ddt_warnings.specs.Index.{IsIndex, register_of};
 
 use crate::index::Index;
@@ -26,7 +26,7 @@ pub trait Warned: Item {
     fn find(&self, index: &Index, kind: Kind) -> Option<Finding>
         requires index { IsIndex index.now }
         requires member { Contains (items_of (register_of index.now)) self.now }
-        ensures { IsFound (has (register_of index.now) kind self.now) kind result };
+        ensures { IsWarningFound (has (register_of index.now) kind self.now) kind result };
 }
 
 /// What is found first of the locators of a list.
@@ -36,7 +36,7 @@ pub(crate) fn first_found<F: Fn(&Locator) -> Option<Finding>>(
 ) -> Option<Finding>
     requires { F.IsAlwaysCallable find }
     ensures { (has : ALocator → Bool) (kind : AKind) → FindsAs F.Fn find has kind
-        → IsFound (list_any has locators.now) kind result }
+        → IsWarningFound (list_any has locators.now) kind result }
 {
     for locator in locators {
         let found = find(locator);

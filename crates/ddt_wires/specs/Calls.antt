@@ -8,10 +8,10 @@ use Rattle.ddt_wires.specs.declared.call.Packet.{Packet}
 
 -- What records its calls, as wires, or its readings, as a clock, now tells these too, in their order, or tells none any
 -- more. What tells none never begins to.
-abbrev pub Tells : {A : Type 0} → Option (List A) → List A → Option (List A) → Type 0
-Tells before more None = Unit {0}
-Tells None more (Some now) = ⊥
-Tells (Some before) more (Some now) = now ≡ before ++ more
+abbrev pub RecordsCalls : {A : Type 0} → Option (List A) → List A → Option (List A) → Type 0
+RecordsCalls before more None = Unit {0}
+RecordsCalls None more (Some now) = ⊥
+RecordsCalls (Some before) more (Some now) = now ≡ before ++ more
 
 -- the bytes of the packet that an answer gives: so many at the front of the buffer
 abbrev pub packet_bytes : Result (Option Packet) NetFault → List ℕ → List ℕ

@@ -51,13 +51,13 @@ AreTried at (d ∷ others) (call ∷ calls) = IsTry at d call × AreTried at oth
 
 -- One turn. `no_packet`, `failed`: the one call of `receive` gave no packet. `served`: it gave one, and what the server
 -- sends for these bytes is tried. `out_of_memory`: it gave a DDT Map-Request, and the server had no memory for it.
-pub data IsTurn (c : Outline) (at : Locator) : List Call → Type 0 where
-  no_packet : IsTurn c at (Received at most_bytes (Ok None) [] ∷ [])
-  failed : (fault : NetFault) → IsTurn c at (Received at most_bytes (Err fault) [] ∷ [])
+pub data IsServerTurn (c : Outline) (at : Locator) : List Call → Type 0 where
+  no_packet : IsServerTurn c at (Received at most_bytes (Ok None) [] ∷ [])
+  failed : (fault : NetFault) → IsServerTurn c at (Received at most_bytes (Err fault) [] ∷ [])
   served : (p : Packet) (bytes : List ℕ) (tries : List Call) → AreTried at (sends_for p (handled c bytes)) tries
-      → IsTurn c at (Received at most_bytes (Ok (Some p)) bytes ∷ tries)
+      → IsServerTurn c at (Received at most_bytes (Ok (Some p)) bytes ∷ tries)
   out_of_memory : (p : Packet) (bytes : List ℕ) → ddt_request bytes ≢ None
-      → IsTurn c at (Received at most_bytes (Ok (Some p)) bytes ∷ [])
+      → IsServerTurn c at (Received at most_bytes (Ok (Some p)) bytes ∷ [])
 
 -- whether a call gave a packet
 abbrev pub gives_packet : Call → Bool
@@ -87,10 +87,10 @@ is_replied (receive ∷ tries) = first_went_out tries
 
 -- What a server did in so many turns: its calls are those of the turns, one after the other, and its counts are over
 -- these turns.
-pub record Serves (c : Outline) (at : Locator) (count : ℕ) (calls : List Call) (counts : Served) : Type 0 where
+pub record ServesTurns (c : Outline) (at : Locator) (count : ℕ) (calls : List Call) (counts : Served) : Type 0 where
   pub turns : List (List Call)
   pub calls_are : calls ≡ flat_map (λ turn. turn) turns
   pub count_is : length turns ≡ count
-  pub each : All (IsTurn c at) turns
+  pub each : All (IsServerTurn c at) turns
   pub received : counts.received ≡ count_by is_received turns
   pub replied : counts.replied ≡ count_by is_replied turns

@@ -4,8 +4,8 @@ ghost use Rattle.std.specs.Prelude.{◌≡◌, length, List, [], ◌∷◌, None
 ghost use Rattle.std.specs.Int.{from_bool};
 ghost use Rattle.ddt_wires.specs.declared.call.Call.{Call as ACall};
 ghost use Rattle.ddt_wires.specs.declared.call.Call.TheVariants.{Received};
-ghost use Rattle.ddt_wires.specs.Calls.{Tells};
-ghost use Rattle.ddt_wires.specs.Turns.{Serves, IsTurn, AreTried, reply_to, on_to_etr, sends_for};
+ghost use Rattle.ddt_wires.specs.Calls.{RecordsCalls};
+ghost use Rattle.ddt_wires.specs.Turns.{ServesTurns, IsServerTurn, AreTried, reply_to, on_to_etr, sends_for};
 ghost use Rattle.ddt_node.specs.Server.{in_buffer};
 ghost use Rattle.ddt_wires.specs.Turns.{most_bytes, is_received, is_replied, first_went_out};
 
@@ -48,7 +48,7 @@ impl Outbox {
     }
 }
 
-/// Serves for so many turns. Each turn calls `receive` once at the server's socket. For a packet it tries the reply, a
+/// ServesTurns for so many turns. Each turn calls `receive` once at the server's socket. For a packet it tries the reply, a
 /// Map-Referral, to the packet's source address and port, and then, where the site is acknowledged, the request to the
 /// ETR at UDP port 4342, each once (RFC 8111, sections 7.1 and 7.2). A request for which there is no memory is lost, as
 /// is a datagram whose `receive` or `send` fails; the next turn goes on. It allocates one buffer for all replies, and each
@@ -61,8 +61,8 @@ pub fn serve_turns<W: Wires, M: PrefixMap<u32>>(
     turns: u32,
 ) -> Served
     // Some calls are those of so many turns, with these counts; wires that tell their calls have told just these.
-    ensures { (calls : List ACall) × Tells (W.calls wires.old) calls (W.calls wires.new)
-        × Serves server.now at turns calls result }
+    ensures { (calls : List ACall) × RecordsCalls (W.calls wires.old) calls (W.calls wires.new)
+        × ServesTurns server.now at turns calls result }
 {
     let mut buffer = [0; MOST_BYTES];
     let mut outbox = Outbox::new(alloc);
@@ -85,7 +85,8 @@ pub fn serve_turn<W: Wires, M: PrefixMap<u32>>(
     outbox: &mut Outbox,
 ) -> Served
     requires { length buffer.old ≡ most_bytes }
-    ensures { (turn : List ACall) × Tells (W.calls wires.old) turn (W.calls wires.new) × IsTurn server.now at turn
+    ensures { (turn : List ACall) × RecordsCalls (W.calls wires.old) turn (W.calls wires.new)
+        × IsServerTurn server.now at turn
         × (result.received ≡ from_bool (is_received turn)) × (result.replied ≡ from_bool (is_replied turn)) }
 {
     match wires.receive(at, buffer) {
@@ -111,8 +112,8 @@ fn serve_packet<W: Wires, M: PrefixMap<u32>>(
     bytes: &[u8],
     outbox: &mut Outbox,
 ) -> bool
-    ensures { (tries : List ACall) × Tells (W.calls wires.old) tries (W.calls wires.new)
-        × IsTurn server.now at (Received at most_bytes (Ok (Some packet)) bytes.now ∷ tries)
+    ensures { (tries : List ACall) × RecordsCalls (W.calls wires.old) tries (W.calls wires.new)
+        × IsServerTurn server.now at (Received at most_bytes (Ok (Some packet)) bytes.now ∷ tries)
         × (result ≡ first_went_out tries) }
 {
     match server.handle_into(outbox.alloc, bytes, &mut outbox.reply) {
@@ -130,7 +131,7 @@ fn send_all<W: Wires>(
     sending: &Buffered,
 ) -> bool
     requires { (in_buffer reply.now sending.now).reply ≡ None → sending.now.forward ≡ None }
-    ensures { (tries : List ACall) × Tells (W.calls wires.old) tries (W.calls wires.new)
+    ensures { (tries : List ACall) × RecordsCalls (W.calls wires.old) tries (W.calls wires.new)
         × AreTried at (sends_for packet (in_buffer reply.now sending.now)) tries × (result ≡ first_went_out tries) }
 {
     let replied = send_reply(wires, at, packet, reply, sending);
@@ -146,7 +147,7 @@ fn send_reply<W: Wires>(
     reply: &[u8],
     sending: &Buffered,
 ) -> bool
-    ensures { (tries : List ACall) × Tells (W.calls wires.old) tries (W.calls wires.new)
+    ensures { (tries : List ACall) × RecordsCalls (W.calls wires.old) tries (W.calls wires.new)
         × AreTried at (reply_to packet (in_buffer reply.now sending.now).reply) tries
         × (result ≡ first_went_out tries) }
 {
@@ -159,7 +160,7 @@ fn send_reply<W: Wires>(
 
 /// Tries the request that goes on to the ETR, if there is one.
 fn send_on<W: Wires>(wires: &mut W, at: Locator, sending: &Buffered)
-    ensures { (tries : List ACall) × Tells (W.calls wires.old) tries (W.calls wires.new)
+    ensures { (tries : List ACall) × RecordsCalls (W.calls wires.old) tries (W.calls wires.new)
         × AreTried at (on_to_etr sending.now.forward) tries }
 {
     if let Some(forward) = &sending.forward {

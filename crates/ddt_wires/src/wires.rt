@@ -3,7 +3,7 @@
 ghost use Rattle.std.specs.Prelude.{◌≤◌, length, List, [], ◌∷◌, Option, None, IfOk, IfSome};
 ghost use Rattle.ddt_wires.specs.declared.call.Call.{Call as ACall};
 ghost use Rattle.ddt_wires.specs.declared.call.Call.TheVariants.{Tried};
-ghost use Rattle.ddt_wires.specs.Calls.{Tells, received};
+ghost use Rattle.ddt_wires.specs.Calls.{RecordsCalls, received};
 
 use crate::call::{NetFault, Packet};
 use ddt_path::Locator;
@@ -18,10 +18,10 @@ pub trait Wires {
     /// length is at most the buffer's.
     fn receive(&mut self, at: Locator, buffer: &mut [u8]) -> Result<Option<Packet>, NetFault>
         ensures fits { IfOk result (λ answer. IfSome answer (λ packet. packet.len ≤ length buffer.new)) }
-        ensures told { Tells (calls self.old) (received at result buffer.new ∷ []) (calls self.new) };
+        ensures told { RecordsCalls (calls self.old) (received at result buffer.new ∷ []) (calls self.new) };
 
     /// Sends a datagram from the socket at a locator to an address and a UDP port there. Refused as 2 Send where that
     /// failed, and the datagram then is lost.
     fn send(&mut self, at: Locator, to: Locator, port: u16, bytes: &[u8]) -> Result<(), NetFault>
-        ensures told { Tells (calls self.old) (Tried at to port bytes.now result ∷ []) (calls self.new) };
+        ensures told { RecordsCalls (calls self.old) (Tried at to port bytes.now result ∷ []) (calls self.new) };
 }

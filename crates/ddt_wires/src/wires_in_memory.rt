@@ -2,7 +2,7 @@
 
 ghost use Rattle.std.specs.Prelude.{◌≡◌, ◌≤◌, ◌++◌, [], ◌∷◌, length, Some, IfErr, IfOk, IfSome};
 ghost use Rattle.std.specs.Option.{option_map};
-ghost use Rattle.ddt_wires.specs.Calls.{Tells, packet_bytes};
+ghost use Rattle.ddt_wires.specs.Calls.{RecordsCalls, packet_bytes};
 
 use crate::call::{Call, NetFault, Packet};
 use crate::wires::Wires;
@@ -88,9 +88,9 @@ impl WiresInMemory {
         Some(self.waiting.remove(place))
     }
 
-    /// Tells a call, or nothing any more where there is no memory for it.
+    /// RecordsCalls a call, or nothing any more where there is no memory for it.
     fn tell(&mut self, call: Call)
-        ensures { Tells self.old.told (call ∷ []) self.new.told }
+        ensures { RecordsCalls self.old.told (call ∷ []) self.new.told }
     {
         self.told = match self.told.take() {
             Some(told) => with_call(told, call),

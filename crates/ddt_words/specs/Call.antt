@@ -15,8 +15,8 @@ abbrev pub call_of : Words → Call
 call_of w = (w.command.now, rows_of (found_of w.matches))
 
 -- of these commands the words call this one, and without a fault
-abbrev pub Calls : List Declaration → List Text → Call → Type 0
-Calls commands words call = (fault_of (line commands) words ≡ []) × (subcommand_of (line commands) words ≡ Some call)
+abbrev pub CallsCommand : List Declaration → List Text → Call → Type 0
+CallsCommand commands words call = (fault_of (line commands) words ≡ []) × (subcommand_of (line commands) words ≡ Some call)
 
 -- the word of an argument; empty where there is none
 abbrev pub value : Text → Call → Text

@@ -2,7 +2,7 @@
 
 ghost use Rattle.std.specs.Prelude.{◌≡◌, ◌≢◌, true, Err, [], map, string_bytes, IfOk};
 ghost use Rattle.clap.specs.Words.{fault_of, is_simple_and_free};
-ghost use Rattle.ddt_words.specs.Call.{call_of, Calls};
+ghost use Rattle.ddt_words.specs.Call.{call_of, CallsCommand};
 ghost use Rattle.ddt_words.specs.Line.{line};
 ghost use Rattle.ddt_words.specs.declared.fault.WordsFault.TheVariants.{Bad as IsBad, Memory as IsMemory};
 
@@ -20,7 +20,7 @@ pub fn read_call<'a>(
     words: &'a [String],
 ) -> Result<Words<'a>, WordsFault>
     requires { is_simple_and_free (line commands.now) ≡ true }
-    ensures found { IfOk result (λ w. Calls commands.now (map string_bytes words.entry.now) (call_of w)) }
+    ensures found { IfOk result (λ w. CallsCommand commands.now (map string_bytes words.entry.now) (call_of w)) }
     ensures bad { result ≡ Err IsBad → fault_of (line commands.now) (map string_bytes words.entry.now) ≢ [] }
 {
     let line = command_line(alloc, commands)?;

@@ -34,13 +34,13 @@ pub fn ask(rt: &HostRuntime, asked: &AskAsked<'_>) -> Result<End, Why> {
     } else {
         identifiers
     };
-    let mut session = Session::new(rt, asked)?;
+    let mut inquiry = Inquiry::new(rt, asked)?;
     for xeid in identifiers {
-        if let Some(end) = session.ask(rt, &accepted, xeid)? {
+        if let Some(end) = inquiry.ask(rt, &accepted, xeid)? {
             return Ok(end);
         }
     }
-    session.finish(rt)
+    inquiry.finish(rt)
 }
 
 /// The identifiers that the words spell.
@@ -87,7 +87,7 @@ fn one_of_each_block(
 
 /// What questions are asked with, and what came of them.
 #[derive(Drop)]
-struct Session<'a> {
+struct Inquiry<'a> {
     asker: Asker,
     wires: PatientWires,
     clock: SystemClock<&'a HostRuntime>,
@@ -95,9 +95,9 @@ struct Session<'a> {
     counts: FindingCounts,
 }
 
-impl<'a> Session<'a> {
+impl<'a> Inquiry<'a> {
     /// Sockets at ports of the system's choice, and nonces that nobody can foresee.
-    fn new(rt: &'a HostRuntime, asked: &AskAsked<'_>) -> Result<Session<'a>, Why> {
+    fn new(rt: &'a HostRuntime, asked: &AskAsked<'_>) -> Result<Inquiry<'a>, Why> {
         let manner = Manner {
             me: ME,
             rate: asked.rate.unwrap_or(RATE),
@@ -115,7 +115,7 @@ impl<'a> Session<'a> {
         if let Err(error) = rt.fill_bytes(&mut seed) {
             return Err(format!(in rt.alloc(); "no random numbers: {error}"));
         }
-        Ok(Session {
+        Ok(Inquiry {
             asker: Asker::new(rt.alloc(), manner),
             wires,
             clock,

@@ -17,12 +17,12 @@ use Rattle.ddt_cache.specs.Moment.{last_moment, minute}
 use Rattle.ddt_cache.specs.Entry.{is_positive, is_negative, most_minutes, entry_of}
 use Rattle.ddt_cache.specs.Live.{Known, live_at, known_of, nothing_known, moved, forgotten}
 use Rattle.ddt_cache.specs.Saved.{savable, has_room, is_saved, stored, stored_in}
-use Rattle.ddt_cache.specs.InOrder.{IsEntryInOrder, IsInOrder}
+use Rattle.ddt_cache.specs.InOrder.{IsEntryInOrder, IsCacheInOrder}
 use Rattle.ddt_cache.specs.laws.Live.{Entries, live_at-is}
 use Rattle.ddt_cache.specs.laws.Size.{len_dropped, len_removed, len_inserted, len_none}
 
-pub in_order_along : (j k : Known) → j ≡ k → IsInOrder k → IsInOrder j
-in_order_along j k same h = subst IsInOrder (sym same) h
+pub in_order_along : (j k : Known) → j ≡ k → IsCacheInOrder k → IsCacheInOrder j
+in_order_along j k same h = subst IsCacheInOrder (sym same) h
 
 -- ---- one entry
 
@@ -90,7 +90,7 @@ module _ (t ttl : ℕ) (p : List ℕ) (servers : List Locator) (few : length ser
 
 -- ---- a cache
 
-pub nothing_in_order : (roots : List Locator) → length roots ≤ 8 → IsInOrder (nothing_known roots)
+pub nothing_in_order : (roots : List Locator) → length roots ≤ 8 → IsCacheInOrder (nothing_known roots)
 nothing_in_order roots few = record {
   time = omega arith;
   count = len_none empty refl;
@@ -98,7 +98,7 @@ nothing_in_order roots few = record {
   entries = λ p e is. absurd (none-some e (sym (get-empty path_cmp p) ∙ is));
 }
 
-pub moved_in_order : (k : Known) (now : ℕ) → now ≤ last_moment → IsInOrder k → IsInOrder (moved now k)
+pub moved_in_order : (k : Known) (now : ℕ) → now ≤ last_moment → IsCacheInOrder k → IsCacheInOrder (moved now k)
 moved_in_order k now within h = record {
   time = let a = h.time in omega (arith, a, within);
   count = len_dropped (max k.time now) k.live (live_at (max k.time now) k.live) refl h.count;
@@ -108,7 +108,7 @@ moved_in_order k now within h = record {
       entry_later k.time (max k.time now) p e (omega arith) was.1 (h.entries p e was.0);
 }
 
-pub forgotten_in_order : (k : Known) (p : List ℕ) → IsInOrder k → IsInOrder (forgotten k p)
+pub forgotten_in_order : (k : Known) (p : List ℕ) → IsCacheInOrder k → IsCacheInOrder (forgotten k p)
 forgotten_in_order k p h = record {
   time = h.time;
   count = len_removed k.live (remove k.live p) p refl h.count;
@@ -121,8 +121,8 @@ forgotten_in_order k p h = record {
     there q e false is = is
 
 inserted_in_order : (k : Known) (p : List ℕ) (e : Entry) → has_room k.live p ≡ true → IsEntryInOrder k.time p e
-    → IsInOrder k
-    → IsInOrder (record { time = k.time; live = insert k.live p e; roots = k.roots })
+    → IsCacheInOrder k
+    → IsCacheInOrder (record { time = k.time; live = insert k.live p e; roots = k.roots })
 inserted_in_order k p e room good h = record {
   time = h.time;
   count = len_inserted k.live (insert k.live p e) p e refl room h.count;
@@ -133,10 +133,10 @@ inserted_in_order k p e room good h = record {
   ];
 }
 
-pub stored_in_order : (k : Known) (r : ReferralRecord) → length r.servers ≤ 8 → IsInOrder k → IsInOrder (stored_in k r)
+pub stored_in_order : (k : Known) (r : ReferralRecord) → length r.servers ≤ 8 → IsCacheInOrder k → IsCacheInOrder (stored_in k r)
 stored_in_order k r few h =
     elim (is_saved k.live r) as (λ b. is_saved k.live r ≡ b
-    → IsInOrder (record { time = k.time; live = cond b (insert k.live r.prefix (entry_of k.time r)) k.live; roots = k.roots })) [
+    → IsCacheInOrder (record { time = k.time; live = cond b (insert k.live r.prefix (entry_of k.time r)) k.live; roots = k.roots })) [
       | true ↦ λ is.
           let two = and_parts (savable r) (has_room k.live r.prefix) is in
           inserted_in_order k r.prefix (entry_of k.time r) two.1 (entry_in_order k.time r.ttl r.prefix r.servers few r.action two.0) h
@@ -146,7 +146,7 @@ stored_in_order k r few h =
 -- whether a record is saved or memory runs out
 pub saved_in_order : {A E : Type 0} (result : Result A E) (t : ℕ) (m n : Entries) (roots : List Locator) (r : ReferralRecord) → length r.servers ≤ 8
     → OnOk result (live_at t n ≡ stored t (live_at t m) r) → OnErr result (live_at t n ≡ live_at t m)
-    → IsInOrder (known_of t m roots) → IsInOrder (known_of t n roots)
+    → IsCacheInOrder (known_of t m roots) → IsCacheInOrder (known_of t n roots)
 saved_in_order (Ok _) t m n roots r few stays refused h =
     let at : Entries → Known = λ l. record { time = t; live = l; roots = roots } in
     in_order_along (known_of t n roots) (stored_in (known_of t m roots) r) (ap at stays) (stored_in_order (known_of t m roots) r few h)

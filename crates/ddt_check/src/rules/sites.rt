@@ -11,7 +11,7 @@ ghost use Rattle.ddt_check.specs.Rules.{IsLeastRow, broken};
 ghost use Rattle.ddt_check.specs.Rules.{is_outside as is_outside_of, has_too_many_etrs as has_too_many};
 ghost use Rattle.ddt_check.specs.Zones.{is_ms as is_ms_of};
 ghost use Rattle.ddt_check.specs.Order.{AreZonesInOrder};
-ghost use Rattle.ddt_check.specs.Sorted.{IsKept};
+ghost use Rattle.ddt_check.specs.Sorted.{IsRuleKept};
 
 use crate::entries::Entry;
 use crate::fault::Rule;
@@ -58,8 +58,9 @@ fn is_up_to(zone: &Entry<Zone>, site: &Entry<Site>) -> bool
 /// Map-Servers, the last zone that stands up to the site's prefix tells.
 fn is_outside(zones: &[Entry<Zone>], s: &Site) -> bool
     requires { AreZonesInOrder (map (λ e. e.item.now) zones.now) }
-    ensures { (r : ARegister) → IsPermutation r.zones (map (λ e. e.item.now) zones.now) → IsKept r Rule.DuplicateZone
-        → IsKept r Rule.BelowMapServer
+    ensures { (r : ARegister) → IsPermutation r.zones (map (λ e. e.item.now) zones.now)
+        → IsRuleKept r Rule.DuplicateZone
+        → IsRuleKept r Rule.BelowMapServer
         → result ≡ is_outside_of r s.now }
 {
     let site = Entry::of(s);
@@ -74,7 +75,9 @@ fn is_outside(zones: &[Entry<Zone>], s: &Site) -> bool
 pub fn outside(sites: &[Site], zones: &[Entry<Zone>]) -> Option<u32>
     requires { AreZonesInOrder (map (λ e. e.item.now) zones.now) }
     ensures { (r : ARegister) → IsPermutation r.sites sites.now
-        → IsPermutation r.zones (map (λ e. e.item.now) zones.now) → IsKept r Rule.DuplicateZone → IsKept r Rule.BelowMapServer → IsLeastRow (broken r Rule.SiteOutside) result }
+        → IsPermutation r.zones (map (λ e. e.item.now) zones.now)
+        → IsRuleKept r Rule.DuplicateZone → IsRuleKept r Rule.BelowMapServer
+        → IsLeastRow (broken r Rule.SiteOutside) result }
 {
     least_row(sites, |s| is_outside(zones, s))
 }

@@ -9,7 +9,7 @@ ghost use Rattle.ddt_commands.specs.declared.status.Status.TheVariants.{
   BadWords as IsBadWords,
   Unprinted as IsUnprinted,
 };
-ghost use Rattle.ddt_commands.specs.Assign.{IsAssignText, WantsMemory, bad_xeid, identifier_refusal, xeid_of};
+ghost use Rattle.ddt_commands.specs.Assign.{IsAssignText, RefusesOnlyMemory, bad_xeid, identifier_refusal, xeid_of};
 ghost use Rattle.ddt_commands.specs.Over.{IsTextOver, IsWhyOver, whole};
 ghost use Rattle.ddt_commands.specs.Running.{HasPartOf, HasRefused, HasText, StayApart};
 ghost use Rattle.ddt_commands.specs.Status.{answer_status};
@@ -52,12 +52,12 @@ where
         (IsTextOver (FnReturnsAt O.Fn open_file) F.remaining bad_xeid (whole IsAssignText complete) (call_of words.now))
         (P.contents out.old) (P.contents out.new) }
     ensures refused { result ≡ IsRefused → HasRefused
-        (IsWhyOver (FnReturnsAt O.Fn open_file) F.remaining bad_xeid WantsMemory (call_of words.now))
+        (IsWhyOver (FnReturnsAt O.Fn open_file) F.remaining bad_xeid RefusesOnlyMemory (call_of words.now))
         (E.contents err.old) (E.contents err.new) }
     // Where a writer failed, it has a front of what it was to have.
     ensures unprinted { result ≡ IsUnprinted → HasPartOf
         (λ complete. IsTextOver (FnReturnsAt O.Fn open_file) F.remaining bad_xeid (whole IsAssignText complete) (call_of words.now))
-        (IsWhyOver (FnReturnsAt O.Fn open_file) F.remaining bad_xeid WantsMemory (call_of words.now))
+        (IsWhyOver (FnReturnsAt O.Fn open_file) F.remaining bad_xeid RefusesOnlyMemory (call_of words.now))
         (P.contents out.old) (P.contents out.new) (E.contents err.old) (E.contents err.new) }
     ensures streams { StayApart result (out.new ≡ out.old) (err.new ≡ err.old) }
 {
@@ -80,7 +80,7 @@ impl OverRegister<'_> for Assign {
 
     ghost answers = { whole IsAssignText };
 
-    ghost refuses = { WantsMemory };
+    ghost refuses = { RefusesOnlyMemory };
 
     fn of(_alloc: Global, words: &Words<'_>) -> Result<Assign, WordRefusal> {
         Ok(Assign {

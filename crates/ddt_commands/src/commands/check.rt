@@ -8,7 +8,7 @@ ghost use Rattle.ddt_commands.specs.declared.status.Status.TheVariants.{
   BadWords as IsBadWords,
   Unprinted as IsUnprinted,
 };
-ghost use Rattle.ddt_commands.specs.Assign.{WantsMemory};
+ghost use Rattle.ddt_commands.specs.Assign.{RefusesOnlyMemory};
 ghost use Rattle.ddt_commands.specs.Check.{IsCheckText, no_bad_word};
 ghost use Rattle.ddt_commands.specs.Over.{IsTextOver, IsWhyOver, whole};
 ghost use Rattle.ddt_commands.specs.Running.{HasPartOf, HasRefused, HasText, StayApart};
@@ -50,12 +50,12 @@ where
         (IsTextOver (FnReturnsAt O.Fn open_file) F.remaining no_bad_word (whole IsCheckText complete) (call_of words.now))
         (P.contents out.old) (P.contents out.new) }
     ensures refused { result ≡ IsRefused → HasRefused
-        (IsWhyOver (FnReturnsAt O.Fn open_file) F.remaining no_bad_word WantsMemory (call_of words.now))
+        (IsWhyOver (FnReturnsAt O.Fn open_file) F.remaining no_bad_word RefusesOnlyMemory (call_of words.now))
         (E.contents err.old) (E.contents err.new) }
     // Where a writer failed, it has a front of what it was to have.
     ensures unprinted { result ≡ IsUnprinted → HasPartOf
         (λ complete. IsTextOver (FnReturnsAt O.Fn open_file) F.remaining no_bad_word (whole IsCheckText complete) (call_of words.now))
-        (IsWhyOver (FnReturnsAt O.Fn open_file) F.remaining no_bad_word WantsMemory (call_of words.now))
+        (IsWhyOver (FnReturnsAt O.Fn open_file) F.remaining no_bad_word RefusesOnlyMemory (call_of words.now))
         (P.contents out.old) (P.contents out.new) (E.contents err.old) (E.contents err.new) }
     ensures streams { StayApart result (out.new ≡ out.old) (err.new ≡ err.old) }
 {
@@ -76,7 +76,7 @@ impl OverRegister<'_> for Check {
 
     ghost answers = { whole IsCheckText };
 
-    ghost refuses = { WantsMemory };
+    ghost refuses = { RefusesOnlyMemory };
 
     fn of(_alloc: Global, _words: &Words<'_>) -> Result<Check, WordRefusal> {
         Ok(Check)

@@ -15,8 +15,8 @@ ghost use Rattle.ddt_commands.specs.declared.status.Status.TheVariants.{
   BadWords as IsBadWords,
   Unprinted as IsUnprinted,
 };
-ghost use Rattle.ddt_commands.specs.Assign.{WantsMemory};
-ghost use Rattle.ddt_commands.specs.Lookup.{AreAllTold, Asks, IsLookupText, IsTold, bad_lookup, end_text, replied_line, why_text};
+ghost use Rattle.ddt_commands.specs.Assign.{RefusesOnlyMemory};
+ghost use Rattle.ddt_commands.specs.Lookup.{AreAllTold, CallsForLookups, IsLookupText, IsLookupTold, bad_lookup, end_text, replied_line, why_text};
 ghost use Rattle.ddt_commands.specs.Over.{IsTextOver, IsWhyOver};
 ghost use Rattle.ddt_commands.specs.Running.{HasPartOf, HasRefused, HasText, StayApart};
 ghost use Rattle.ddt_commands.specs.Status.{answer_status};
@@ -68,12 +68,12 @@ where
         (IsTextOver (FnReturnsAt O.Fn open_file) F.remaining bad_lookup (IsLookupText complete) (call_of words.now))
         (P.contents out.old) (P.contents out.new) }
     ensures refused { result ≡ IsRefused → HasRefused
-        (IsWhyOver (FnReturnsAt O.Fn open_file) F.remaining bad_lookup WantsMemory (call_of words.now))
+        (IsWhyOver (FnReturnsAt O.Fn open_file) F.remaining bad_lookup RefusesOnlyMemory (call_of words.now))
         (E.contents err.old) (E.contents err.new) }
     // Where a writer failed, it has a front of what it was to have.
     ensures unprinted { result ≡ IsUnprinted → HasPartOf
         (λ complete. IsTextOver (FnReturnsAt O.Fn open_file) F.remaining bad_lookup (IsLookupText complete) (call_of words.now))
-        (IsWhyOver (FnReturnsAt O.Fn open_file) F.remaining bad_lookup WantsMemory (call_of words.now))
+        (IsWhyOver (FnReturnsAt O.Fn open_file) F.remaining bad_lookup RefusesOnlyMemory (call_of words.now))
         (P.contents out.old) (P.contents out.new) (E.contents err.old) (E.contents err.new) }
     ensures streams { StayApart result (out.new ≡ out.old) (err.new ≡ err.old) }
 {
@@ -95,11 +95,11 @@ pub struct Lookup {
 impl OverRegister<'_> for Lookup {
     ghost bad_word = { bad_lookup };
 
-    ghost asks = { λ call command. IfSome command.ids (λ ids. Asks call ids.items command.me command.seed) };
+    ghost asks = { λ call command. IfSome command.ids (λ ids. CallsForLookups call ids.items command.me command.seed) };
 
     ghost answers = { IsLookupText };
 
-    ghost refuses = { WantsMemory };
+    ghost refuses = { RefusesOnlyMemory };
 
     fn of(alloc: Global, words: &Words<'_>) -> Result<Lookup, WordRefusal> {
         Ok(Lookup {
@@ -151,7 +151,7 @@ fn look_up(
     x: Xeid,
 ) -> Result<Lines, AllocError>
     ensures told { (r : Register) → AreCompiled servers.old r → IsSound r resolver.old → IfOk result (λ lines.
-        IsTold r now x resolver.old lines.complete lines.text.items resolver.new) }
+        IsLookupTold r now x resolver.old lines.complete lines.text.items resolver.new) }
     ensures sound { (r : Register) → AreCompiled servers.old r → IsSound r resolver.old → IsSound r resolver.new }
     ensures stay { (r : Register) → AreCompiled servers.old r → AreCompiled servers.new r }
 {

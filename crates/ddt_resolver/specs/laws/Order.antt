@@ -2,13 +2,13 @@
 use Rattle.std.proofs.Common.{◌≡◌, ℕ, ◌+◌, ◌<◌, ◌≤◌, Some, refl, sym, ap, ◌∙◌, subst, arith, inl, inr, nat_cmp}
 use Rattle.std.specs.FinMap.{FinMap, get, insert, remove, len}
 use Rattle.ddt_cache.specs.Moment.{last_moment}
-use Rattle.ddt_cache.specs.InOrder.{IsInOrder as IsKnownInOrder}
+use Rattle.ddt_cache.specs.InOrder.{IsCacheInOrder as IsKnownInOrder}
 use Rattle.ddt_cache.specs.laws.Order.{moved_in_order}
 use Rattle.ddt_resolver.specs.declared.pending.Pending.{Pending}
 use Rattle.ddt_resolver.specs.State.{State, last_nonce, most_pending, numbered, moved, dropped}
 use Rattle.ddt_resolver.specs.declared.step.Reply.{Reply}
-use Rattle.ddt_resolver.specs.Step.{Call, Step}
-use Rattle.ddt_resolver.specs.Order.{IsLookup, IsWaiting, IsInOrder}
+use Rattle.ddt_resolver.specs.Step.{ResolverCall, Step}
+use Rattle.ddt_resolver.specs.Order.{IsLookup, IsWaiting, IsStateInOrder}
 use Rattle.ddt_resolver.specs.laws.NumberMap.{found_insert, found_remove, len_replaced}
 use Rattle.std.specs.Cmp.{nat_cmp_total}
 use Rattle.ddt_path.specs.laws.MapSize.{len_inserted, len_removed}
@@ -49,12 +49,12 @@ numbered_lookup s l is = record {
   once = is.once;
 }
 
-module _ (s : State) (o : IsInOrder s) (new : State) (time : s.known.time ≤ new.known.time) (roots : new.known.roots ≡ s.known.roots) (known : IsKnownInOrder new.known) where
+module _ (s : State) (o : IsStateInOrder s) (new : State) (time : s.known.time ≤ new.known.time) (roots : new.known.roots ≡ s.known.roots) (known : IsKnownInOrder new.known) where
   later : (t : ℕ) (l : Pending) → s.next ≤ new.next → get s.pending t ≡ Some l → IsWaiting new t l
   later t l more found = let w : IsWaiting s t l = o.lookups t l found in record { lookup = w.lookup; ticket = w.ticket; nonce = omega (arith, w.nonce); deadline = omega (arith, w.deadline) }
 
   -- no lookup is added
-  pub order_fewer : new.next ≡ s.next → len new.pending ≤ len s.pending → ((t : ℕ) (l : Pending) → get new.pending t ≡ Some l → get s.pending t ≡ Some l) → IsInOrder new
+  pub order_fewer : new.next ≡ s.next → len new.pending ≤ len s.pending → ((t : ℕ) (l : Pending) → get new.pending t ≡ Some l → get s.pending t ≡ Some l) → IsStateInOrder new
   order_fewer next few was = record {
     known = known;
     root = rw roots o.root;
@@ -66,7 +66,7 @@ module _ (s : State) (o : IsInOrder s) (new : State) (time : s.known.time ≤ ne
 
   -- a lookup sends its request, under a ticket that was given out or is the next
   pub order_placed : (t : ℕ) (l : Pending) → IsLookup l → t ≤ s.next → s.next < last_nonce → len new.pending ≤ most_pending
-      → new.pending ≡ insert s.pending t (numbered s l) → new.next ≡ s.next + 1 → IsInOrder new
+      → new.pending ≡ insert s.pending t (numbered s l) → new.next ≡ s.next + 1 → IsStateInOrder new
   order_placed t l is low more few put next = record {
     known = known;
     root = rw roots o.root;
@@ -79,13 +79,13 @@ module _ (s : State) (o : IsInOrder s) (new : State) (time : s.known.time ≤ ne
     nonces = rw put (apart_insert s.pending t (numbered s l) o.nonces (λ u m found. (o.lookups u m found).nonce));
   }
 
-pub order_kept : (s : State) (call : Call) (new : State) (a : Reply) → IsInOrder s → IsMoved s call new a → IsInOrder new
+pub order_kept : (s : State) (call : ResolverCall) (new : State) (a : Reply) → IsStateInOrder s → IsMoved s call new a → IsStateInOrder new
 order_kept s call new a o m = by m.move
   where
     time : s.known.time ≤ new.known.time
     time = let same : new.known.time ≡ s.known.time = m.time in omega arith
 
-    by : Move s call new a → IsInOrder new
+    by : Move s call new a → IsStateInOrder new
     by (stays p n q) = order_fewer s o new time m.roots m.known n (rw p (omega arith)) (λ t l found. ap (λ z. get z t) (sym p) ∙ found)
     by (opens l asked place first empty fresh is more few p n f) =
         order_placed s o new time m.roots m.known s.next l is (omega arith) more (rw p (omega (arith, len_inserted nat_cmp_total s.pending s.next (numbered s l)))) p n
@@ -97,13 +97,13 @@ order_kept s call new a o m = by m.move
         order_fewer s o new time m.roots m.known n (rw p (len_removed nat_cmp_total s.pending t))
         (λ u k found. (found_remove s.pending t u k (ap (λ z. get z u) (sym p) ∙ found)).1)
 
-pub order_after : (s : State) (call : Call) (new : State) (a : Reply) → IsInOrder s → Step s call new a → IsInOrder new
+pub order_after : (s : State) (call : ResolverCall) (new : State) (a : Reply) → IsStateInOrder s → Step s call new a → IsStateInOrder new
 order_after s call new a o step = order_kept s call new a o (moved_by_step s o call new a step)
 
 -- time that goes on keeps it too
-pub order_moved : (s : State) (now : ℕ) → now ≤ last_moment → IsInOrder s → IsInOrder (moved now s)
+pub order_moved : (s : State) (now : ℕ) → now ≤ last_moment → IsStateInOrder s → IsStateInOrder (moved now s)
 order_moved s now fits o = order_fewer s o (moved now s) (omega arith) refl (moved_in_order s.known now fits o.known) refl (omega arith) (λ t l found. found)
 
 -- and so does the removal of a lookup
-pub order_dropped : (s : State) (t : ℕ) → IsInOrder s → IsInOrder (dropped s t)
+pub order_dropped : (s : State) (t : ℕ) → IsStateInOrder s → IsStateInOrder (dropped s t)
 order_dropped s t o = order_fewer s o (dropped s t) (omega arith) refl o.known refl (len_removed nat_cmp_total s.pending t) (λ u l found. (found_remove s.pending t u l found).1)

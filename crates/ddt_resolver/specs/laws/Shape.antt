@@ -15,7 +15,7 @@ use Rattle.ddt_cache.specs.declared.entry.Entry.{Entry}
 use Rattle.ddt_cache.specs.Entry.{is_positive}
 use Rattle.ddt_cache.specs.Found.{IsFound}
 use Rattle.ddt_cache.specs.Live.{Known}
-use Rattle.ddt_cache.specs.InOrder.{IsInOrder as IsKnownInOrder, IsEntryInOrder}
+use Rattle.ddt_cache.specs.InOrder.{IsCacheInOrder as IsKnownInOrder, IsEntryInOrder}
 use Rattle.ddt_cache.specs.laws.Order.{stored_in_order, forgotten_in_order}
 use Rattle.ddt_resolver.specs.declared.pending.Pending.{Pending}
 use Rattle.ddt_resolver.specs.declared.results.Asked.{Asked}
@@ -42,22 +42,22 @@ use Rattle.ddt_resolver.specs.Act.{Act, HearStep, MayStartOver}
 use Rattle.ddt_resolver.specs.Act as act
 use Rattle.ddt_resolver.specs.TickStep.{GoOn, IsDue, TickStep}
 use Rattle.ddt_resolver.specs.TickStep as tick
-use Rattle.ddt_resolver.specs.Step.{Call, Ask, Hear, Tick, Step, asks, hears, ticks, progress_of}
-use Rattle.ddt_resolver.specs.Order.{IsLookup, IsWaiting, IsInOrder}
+use Rattle.ddt_resolver.specs.Step.{ResolverCall, Ask, Hear, Tick, Step, asks, hears, ticks, progress_of}
+use Rattle.ddt_resolver.specs.Order.{IsLookup, IsWaiting, IsStateInOrder}
 
 -- MS-ACK, MS-NOT-REGISTERED or DELEGATION-HOLE: the outcome is there
 abbrev pub IsFinal : Action → Type 0
 IsFinal a = (a ≡ MsAck) ⊎ (a ≡ MsNotRegistered) ⊎ (a ≡ DelegationHole)
 
 -- A datagram that the lookup of a ticket takes, and the record that it tells.
-pub record Takes (s : State) (call : Call) (t : ℕ) (l : Pending) (rec : ReferralRecord) : Type 0 where
+pub record Takes (s : State) (call : ResolverCall) (t : ℕ) (l : Pending) (rec : ReferralRecord) : Type 0 where
   pub source : Locator
   pub bytes : List ℕ
   pub called : call ≡ Hear source bytes
   pub taken : IsTaken s source bytes t l rec
 
 -- The deadline of the second request to the last server has come at a tick.
-pub record IsLastDue (s : State) (call : Call) (l : Pending) : Type 0 where
+pub record IsLastDue (s : State) (call : ResolverCall) (l : Pending) : Type 0 where
   pub called : call ≡ Tick
   pub over : l.deadline ≤ s.known.time
   pub second : l.second ≡ true
@@ -67,7 +67,7 @@ pub record IsLastDue (s : State) (call : Call) (l : Pending) : Type 0 where
 -- has said that the site isn't registered. `by_loop`: at a referral that isn't below the saved prefix. `by_nobody`: at a
 -- server that isn't in charge, where it may not start over. `by_silence`: no server is left. `by_nonce`: it would go
 -- on, but no nonce is left.
-pub data Leaves (s : State) (call : Call) (t : ℕ) (l : Pending) (end : Result Outcome Why) : Type 0 where
+pub data Leaves (s : State) (call : ResolverCall) (t : ℕ) (l : Pending) (end : Result Outcome Why) : Type 0 where
   by_record : (rec : ReferralRecord) → Takes s call t l rec → IsFinal rec.action → end ≡ Ok (outcome_of rec) → Leaves s call t l end
   by_kept : (rec : ReferralRecord) → IsLastDue s call l → l.kept ≡ Some rec → end ≡ Ok (NotRegistered rec.prefix rec.servers) → Leaves s call t l end
   by_loop : (rec : ReferralRecord) → Takes s call t l rec → IsReferral rec.action → (IsBelow l.saved rec.prefix → ⊥) → end ≡ Err Loop → Leaves s call t l end
@@ -77,7 +77,7 @@ pub data Leaves (s : State) (call : Call) (t : ℕ) (l : Pending) (end : Result 
 
 -- How a lookup goes on: at a new set, at the next server after an MS-NOT-REGISTERED, at the same server again, or at the
 -- next one without a reply.
-pub data Goes (s : State) (call : Call) (reply : Reply) (t : ℕ) (l new : Pending) : Type 0 where
+pub data Goes (s : State) (call : ResolverCall) (reply : Reply) (t : ℕ) (l new : Pending) : Type 0 where
   anew : reply ≡ ToDatagram (heard.Followed t (request s new)) → new.place ≡ 0 → new.second ≡ false → new.kept ≡ None → Goes s call reply t l new
   keeps : (source : Locator) (bytes : List ℕ) (rec : ReferralRecord) → call ≡ Hear source bytes → IsTaken s source bytes t l rec
       → reply ≡ ToDatagram (heard.Followed t (request s new)) → new ≡ passed_on l rec → Goes s call reply t l new
@@ -85,14 +85,14 @@ pub data Goes (s : State) (call : Call) (reply : Reply) (t : ℕ) (l new : Pendi
   goes_on : reply ≡ ToTick (ticked.Sent t (request s new)) → l.deadline ≤ s.known.time → l.second ≡ true → l.place + 1 < length l.servers → new ≡ at_next l → Goes s call reply t l new
 
 -- it sends its next request
-pub goes_sends : (s : State) (call : Call) (reply : Reply) (t : ℕ) (l new : Pending) → Goes s call reply t l new → progress_of reply ≡ Sends t (request s new)
+pub goes_sends : (s : State) (call : ResolverCall) (reply : Reply) (t : ℕ) (l new : Pending) → Goes s call reply t l new → progress_of reply ≡ Sends t (request s new)
 goes_sends s call reply t l new (anew f place first empty) = ap progress_of f
 goes_sends s call reply t l new (keeps source bytes rec called is f e) = ap progress_of f
 goes_sends s call reply t l new (repeats f over first e) = ap progress_of f
 goes_sends s call reply t l new (goes_on f over second more e) = ap progress_of f
 
 -- What a step does to the pending lookups, by its progress.
-pub data Move (s : State) (call : Call) (new : State) (reply : Reply) : Type 0 where
+pub data Move (s : State) (call : ResolverCall) (new : State) (reply : Reply) : Type 0 where
   stays : new.pending ≡ s.pending → new.next ≡ s.next → progress_of reply ≡ Stays → Move s call new reply
   opens : (l : Pending) → call ≡ Ask l.x → l.place ≡ 0 → l.second ≡ false → l.kept ≡ None → l.saved ≡ None → IsLookup l → s.next < last_nonce
       → len s.pending < most_pending
@@ -103,7 +103,7 @@ pub data Move (s : State) (call : Call) (new : State) (reply : Reply) : Type 0 w
       → Leaves s call t l end → Move s call new reply
 
 -- what a step leaves as it is, how it changes what is remembered, and what is pending
-pub record IsMoved (s : State) (call : Call) (new : State) (reply : Reply) : Type 0 where
+pub record IsMoved (s : State) (call : ResolverCall) (new : State) (reply : Reply) : Type 0 where
   pub time : new.known.time ≡ s.known.time
   pub me : new.me ≡ s.me
   pub roots : new.known.roots ≡ s.known.roots
@@ -128,7 +128,7 @@ started_covers : (p x q : List ℕ) → IsTrue (covers p x) → start_at p ≡ S
 started_covers [] x q c e = cc
 started_covers (d ∷ ds) x q c e = rw (← same_Some (d ∷ ds) q e) c
 
-module _ (s : State) (o : IsInOrder s) (x : Xeid) (id : IsTrue (is_path (xeid_path x))) (p : List ℕ) (e : Entry) where
+module _ (s : State) (o : IsStateInOrder s) (x : Xeid) (id : IsTrue (is_path (xeid_path x))) (p : List ℕ) (e : Entry) where
   found_servers : IsFound s.known (xeid_path x) p e → answer_of p e ≡ None → (0 < length e.servers) × (length e.servers ≤ 8) × IsTrue (covers p (xeid_path x))
   found_servers (inl found) none =
       let is : IsEntryInOrder s.known.time p e = o.known.entries p e found.value in
@@ -167,7 +167,7 @@ few_servers s source bytes t l rec is =
     let told = is.in_time.from_server.reply.tells in
     rw (← told.same_record, length-take) (omega arith)
 
-module _ (s : State) (o : IsInOrder s) (t : ℕ) (l : Pending) (here : get s.pending t ≡ Some l) where
+module _ (s : State) (o : IsStateInOrder s) (t : ℕ) (l : Pending) (here : get s.pending t ≡ Some l) where
   waiting : IsWaiting s t l
   waiting = o.lookups t l here
 
@@ -250,7 +250,7 @@ module _ (s : State) (o : IsInOrder s) (t : ℕ) (l : Pending) (here : get s.pen
 
 -- ---- each case
 
-module _ (s : State) (o : IsInOrder s) (call : Call) (new : State) (a : Reply) where
+module _ (s : State) (o : IsStateInOrder s) (call : ResolverCall) (new : State) (a : Reply) where
   staying : new ≡ s → progress_of a ≡ Stays → IsMoved s call new a
   staying e quiet = rw e (record { time = refl; me = refl; roots = refl; known = o.known; move = stays refl refl quiet })
 

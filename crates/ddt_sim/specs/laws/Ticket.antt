@@ -14,7 +14,7 @@ use Rattle.ddt_resolver.specs.declared.step.Progress.{Progress}
 use Rattle.ddt_resolver.specs.declared.step.Progress.TheVariants as progress
 use Rattle.ddt_resolver.specs.State.{State, moved, numbered, request}
 use Rattle.ddt_resolver.specs.Step as resolver
-use Rattle.ddt_resolver.specs.Step.{Call, progress_of}
+use Rattle.ddt_resolver.specs.Step.{ResolverCall, progress_of}
 use Rattle.ddt_resolver.specs.Order.{IsLookup}
 use Rattle.ddt_resolver.specs.laws.NumberMap.{found_insert, found_remove}
 use Rattle.ddt_resolver.specs.laws.Shape.{Move, stays, opens, sends, drops, Goes, anew, keeps, repeats, goes_on, goes_sends}
@@ -48,7 +48,7 @@ IsOf (progress.Sends u d) t = u ≡ t
 IsOf (progress.Ends u end) t = u ≡ t
 
 -- one that goes on opens and ends none
-pub goes_on_reply : (s : State) (call : Call) (a : Reply) (t : ℕ) (l new : Pending) → Goes s call a t l new → ((d : Outgoing) × (a ≡ ToDatagram (heard_as.Followed t d))) ⊎ ((d : Outgoing) × (a ≡ ToTick (ticked_as.Sent t d)))
+pub goes_on_reply : (s : State) (call : ResolverCall) (a : Reply) (t : ℕ) (l new : Pending) → Goes s call a t l new → ((d : Outgoing) × (a ≡ ToDatagram (heard_as.Followed t d))) ⊎ ((d : Outgoing) × (a ≡ ToTick (ticked_as.Sent t d)))
 goes_on_reply s call a t l new (anew f place first empty) = inl (_, f)
 goes_on_reply s call a t l new (keeps source bytes rec called is f e) = inl (_, f)
 goes_on_reply s call a t l new (repeats f over first e) = inr (_, f)
@@ -58,13 +58,13 @@ goes_on_reply s call a t l new (goes_on f over second more e) = inr (_, f)
 
 -- Where a lookup comes from that is pending after a step. `stayed`: it was pending, and the step is not of it. `opened`:
 -- it was asked for now. `went_on`: it was pending, and has sent its next request.
-pub data Came (s : State) (call : Call) (a : Reply) (t : ℕ) (l : Pending) : Type 0 where
+pub data Came (s : State) (call : ResolverCall) (a : Reply) (t : ℕ) (l : Pending) : Type 0 where
   stayed : get s.pending t ≡ Some l → (IsOf (progress_of a) t → ⊥) → Came s call a t l
   opened : (k : Pending) → numbered s k ≡ l → t ≡ s.next → call ≡ resolver.Ask k.x → k.place ≡ 0 → k.second ≡ false → k.kept ≡ None
       → a ≡ ToAsk (Ok (asked_as.Sent s.next (request s k))) → Came s call a t l
   went_on : (old k : Pending) → numbered s k ≡ l → get s.pending t ≡ Some old → k.x ≡ old.x → Goes s call a t old k → IsLookup k → Came s call a t l
 
-pub came : {s : State} {call : Call} {new : State} {a : Reply} → Move s call new a → (t : ℕ) (l : Pending) → get new.pending t ≡ Some l → Came s call a t l
+pub came : {s : State} {call : ResolverCall} {new : State} {a : Reply} → Move s call new a → (t : ℕ) (l : Pending) → get new.pending t ≡ Some l → Came s call a t l
 came {s = s} (stays p n q) t l found = stayed (rw p at found) (λ of. rw q at of)
 came {s = s} (opens k called place first empty unsaved is more few p n f) t l found = elim (found_insert s.pending s.next (numbered s k) t l (rw p at found)) [
   | inl e ↦ opened k e.1 e.0 called place first empty f
@@ -130,7 +130,7 @@ still_turn line old new still same = rw same (record {
 })
 
 -- a line of the resolver
-module _ (line : Line) (moment : ℕ) (old new : State) (call : Call) (a : Reply) (calls : (x : Xeid) → call ≡ resolver.Ask x → line.step ≡ Ask x) (tells : line.event ≡ event_of a) where
+module _ (line : Line) (moment : ℕ) (old new : State) (call : ResolverCall) (a : Reply) (calls : (x : Xeid) → call ≡ resolver.Ask x → line.step ≡ Ask x) (tells : line.event ≡ event_of a) where
   progress_is : progress_at line.event ≡ progress_of a
   progress_is = ap progress_at tells ∙ told_progress a
 

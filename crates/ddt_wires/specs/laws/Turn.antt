@@ -13,10 +13,10 @@ use Rattle.ddt_wires.specs.declared.call.Call.{Call}
 use Rattle.ddt_wires.specs.declared.call.Call.TheVariants.{Tried}
 use Rattle.ddt_wires.specs.declared.call.NetFault.{NetFault}
 use Rattle.ddt_wires.specs.declared.call.Packet.{Packet}
-use Rattle.ddt_wires.specs.Calls.{Tells}
+use Rattle.ddt_wires.specs.Calls.{RecordsCalls}
 use Rattle.ddt_ecm.specs.UdpHeader.{control_port}
 use Rattle.ddt_wires.specs.Turns.{Outgoing, AreTried, reply_to, on_to_etr, first_went_out}
-use Rattle.ddt_wires.specs.Turns.{IsTurn, Serves, is_received, is_replied}
+use Rattle.ddt_wires.specs.Turns.{IsServerTurn, ServesTurns, is_received, is_replied}
 use Rattle.ddt_wires.specs.laws.Tell.{tells_both, tells_none}
 
 -- the one try of a reply, and of a request that goes on
@@ -60,14 +60,14 @@ reply_is_first at p (Some reply) forward [] second alone one two = absurd one
 pub record IsServing (before now : Option (List Call)) (c : Outline) (at : Locator) (count received replied : ℕ) :
     Type 0 where
   pub calls : List Call
-  pub told : Tells before calls now
-  pub serves : Serves c at count calls (record { received = received; replied = replied })
+  pub told : RecordsCalls before calls now
+  pub serves : ServesTurns c at count calls (record { received = received; replied = replied })
 
 pub no_turn_yet : (now : Option (List Call)) (c : Outline) (at : Locator) → IsServing now now c at 0 0 0
 no_turn_yet now c at = record {
   calls = [];
   told = tells_none now;
-  serves = record { turns = []; calls_are = refl; count_is = refl; each = All-nil (IsTurn c at); received = refl; replied = refl };
+  serves = record { turns = []; calls_are = refl; count_is = refl; each = All-nil (IsServerTurn c at); received = refl; replied = refl };
 }
 
 from_bool_is : (b : Bool) → from_bool b ≡ cond b 1 0
@@ -82,8 +82,8 @@ count_by_push test turns turn =
     ∙ ap (λ (n : ℕ). count_by test turns + n) (sym (from_bool_is (test turn)))
 
 pub serving_on : (before midway now : Option (List Call)) (c : Outline) (at : Locator) (count received replied : ℕ)
-    (turn : List Call) → IsServing before midway c at count received replied → Tells midway turn now
-    → IsTurn c at turn
+    (turn : List Call) → IsServing before midway c at count received replied → RecordsCalls midway turn now
+    → IsServerTurn c at turn
     → IsServing before now c at (count + 1) (received + from_bool (is_received turn))
     (replied + from_bool (is_replied turn))
 serving_on before midway now c at count received replied turn so_far told one = record {
@@ -94,7 +94,7 @@ serving_on before midway now c at count received replied turn so_far told one = 
     calls_are = ap (λ (calls : List Call). calls ++ turn) so_far.serves.calls_are
         ∙ flat_map_more (λ t. t) [] so_far.serves.turns turn;
     count_is = length_push so_far.serves.turns turn ∙ ap (λ n. n + 1) so_far.serves.count_is;
-    each = All-push (IsTurn c at) so_far.serves.turns turn so_far.serves.each one;
+    each = All-push (IsServerTurn c at) so_far.serves.turns turn so_far.serves.each one;
     received = ap (λ n. n + from_bool (is_received turn)) so_far.serves.received
         ∙ sym (count_by_push is_received so_far.serves.turns turn);
     replied = ap (λ n. n + from_bool (is_replied turn)) so_far.serves.replied

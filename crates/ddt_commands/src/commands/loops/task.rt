@@ -3,7 +3,7 @@
 ghost use Rattle.std.specs.Prelude.{◌≡◌, None, Some, IfErr, IfOk, OnOk};
 ghost use Rattle.ddt_path.specs.declared.locator.Locator.{Locator as ALocator};
 ghost use Rattle.ddt_words.specs.Call.{Call};
-ghost use Rattle.ddt_commands.specs.Loop.{AreUntouched, AsksFor, IsEndsText, IsWhyNoRun, LoopsOver, server_locators};
+ghost use Rattle.ddt_commands.specs.Loop.{AreUntouched, CallsForTask, IsEndsText, IsWhyNoRun, LoopsOver, server_locators};
 ghost use Rattle.ddt_commands.specs.Loopback.{first_outside as first_outside_of};
 ghost use Rattle.ddt_commands.specs.Sockets.{Binds};
 ghost use Rattle.ddt_commands.specs.declared.refusal.Refusal.TheVariants.{NoServer as IsNoServer};
@@ -55,10 +55,10 @@ where
     C: Clock,
     B: Fn(&mut W, Locator) -> io::Result<()> + Drop,
     requires { B.IsAlwaysCallable bind }
-    ensures text { (call : Call) → AsksFor call task.entry → IfOk result (λ lines. IsEndsText
+    ensures text { (call : Call) → CallsForTask call task.entry → IfOk result (λ lines. IsEndsText
         (LoopsOver (Binds B.Fn bind) W.calls C.readings wires.old wires.new clock.old clock.new)
         call register.now lines.complete lines.text.items) }
-    ensures refused { (call : Call) → AsksFor call task.entry → IfErr result (IsWhyNoRun
+    ensures refused { (call : Call) → CallsForTask call task.entry → IfErr result (IsWhyNoRun
         (AreUntouched wires.old wires.new clock.old clock.new)
         (LoopsOver (Binds B.Fn bind) W.calls C.readings wires.old wires.new clock.old clock.new)
         call register.now) }

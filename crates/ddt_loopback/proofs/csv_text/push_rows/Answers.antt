@@ -3,7 +3,7 @@ use Rattle.std.specs.Option.{option_map}
 use Rattle.csv.specs.Records.{fields_of}
 use Rattle.csv.specs.declared.record.ByteRecord.{ByteRecord}
 use Rattle.csv.specs.declared.writer.Writer.{Writer}
-use Rattle.ddt_loopback.specs.Written.{IsFresh, Takes, left_of, text_so_far}
+use Rattle.ddt_loopback.specs.Written.{IsFresh, TakesItem, left_of, text_so_far}
 use Rattle.ddt_loopback.proofs.RowsLemmas.{IsMidway, passes, takes, ends, text_more}
 use Rattle.ddt_loopback.proofs.csv_text.push_rows.Goals as goal
 use Rattle.ddt_loopback.proofs.csv_text.push_rows.Goals.{in-Some+in_ok-push_record, in_default}
@@ -19,8 +19,8 @@ loop-row-preserved c =
     elim c.match-branch-2.branch [
       | in-Some+in_ok-push_record w ↦
           let fields = fields_of w.in-Some.fields in
-          let t : Takes n left after (Some fields) =
-          subst (λ (o : Option ByteRecord). Takes n left after (option_map fields_of o)) w.in-Some.is c.in_ok-fields.ensures in (
+          let t : TakesItem n left after (Some fields) =
+          subst (λ (o : Option ByteRecord). TakesItem n left after (option_map fields_of o)) w.in-Some.is c.in_ok-fields.ensures in (
             subst (λ (x : Writer (Vec ℕ Global)). IsFresh x) (sym w.writer-is) w.in_ok-push_record.ensures.fresh,
             rows ++ t.0 ∷ [],
             ap text_so_far w.writer-is ∙ text_more (text_so_far c.args.writer.now) (text_so_far c.loop-row.writer)
@@ -28,8 +28,8 @@ loop-row-preserved c =
             takes r n rows left after fields inv.3 (omega arith) t,
           )
       | in_default w ↦
-          let t : Takes n left after None =
-          subst (λ (o : Option ByteRecord). Takes n left after (option_map fields_of o)) w.in_default.is c.in_ok-fields.ensures in (
+          let t : TakesItem n left after None =
+          subst (λ (o : Option ByteRecord). TakesItem n left after (option_map fields_of o)) w.in_default.is c.in_ok-fields.ensures in (
             subst (λ (x : Writer (Vec ℕ Global)). IsFresh x) (sym w.writer-is) inv.0,
             rows,
             ap text_so_far w.writer-is ∙ inv.2,

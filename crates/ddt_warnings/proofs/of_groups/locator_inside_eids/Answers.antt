@@ -1,6 +1,6 @@
 use Rattle.std.proofs.Common.{refl, sym, subst}
 use Rattle.ddt_warnings.specs.declared.kind.Kind.TheVariants.{LocatorInsideEids}
-use Rattle.ddt_warnings.specs.Found.{IsFound}
+use Rattle.ddt_warnings.specs.Found.{IsWarningFound}
 use Rattle.ddt_warnings.specs.Index.{register_of}
 use Rattle.ddt_warnings.specs.Warnings.{eid_path, is_inside_eids}
 use Rattle.ddt_warnings.proofs.FoundLemmas.{covered_none, covered_some}
@@ -9,7 +9,7 @@ use Rattle.ddt_warnings.proofs.of_groups.locator_inside_eids.Goals as goal
 pub returns-in_err-site : goal.returns-in_err-site
 returns-in_err-site c =
     let r = register_of c.args.index.now in
-    subst (IsFound (is_inside_eids r c.args.locator) LocatorInsideEids) (sym c.from_residual.ensures)
+    subst (IsWarningFound (is_inside_eids r c.args.locator) LocatorInsideEids) (sym c.from_residual.ensures)
     (covered_none r (eid_path c.args.locator) (sym c.in_err-site.ensures))
 
 pub returns : goal.returns

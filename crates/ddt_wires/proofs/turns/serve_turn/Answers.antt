@@ -1,14 +1,14 @@
 use Rattle.std.proofs.Common.{◌≡◌, ℕ, [], ◌∷◌, length, subst, arith}
 use Rattle.std.specs.Prelude.{None, Ok, Err}
 use Rattle.ddt_wires.specs.declared.call.Call.TheVariants.{Received}
-use Rattle.ddt_wires.specs.Calls.{Tells}
+use Rattle.ddt_wires.specs.Calls.{RecordsCalls}
 use Rattle.ddt_wires.specs.Turns.{most_bytes, no_packet, failed}
 use Rattle.ddt_wires.proofs.turns.serve_turn.Goals as goal
 
 pub returns-in-Ok-None : goal.returns-in-Ok-None
 returns-in-Ok-None g c =
     let room : length c.receive.new.buffer ≡ most_bytes = omega (arith, c.receive.auto.buffer, c.requires) in
-    let told = λ (n : ℕ). Tells (g.W.Wires.calls c.args.wires.now) (Received c.args.at n (Ok None) [] ∷ [])
+    let told = λ (n : ℕ). RecordsCalls (g.W.Wires.calls c.args.wires.now) (Received c.args.at n (Ok None) [] ∷ [])
     (g.W.Wires.calls c.receive.new.self) in (
       Received c.args.at most_bytes (Ok None) [] ∷ [],
       subst told room (rw c.in-Ok-None.field-0-is at c.in-Ok-None.ensures.told),
@@ -20,7 +20,7 @@ returns-in-Ok-None g c =
 pub returns-in-Err : goal.returns-in-Err
 returns-in-Err g c =
     let room : length c.receive.new.buffer ≡ most_bytes = omega (arith, c.receive.auto.buffer, c.requires) in
-    let told = λ (n : ℕ). Tells (g.W.Wires.calls c.args.wires.now) (Received c.args.at n (Err c.in-Err._fault) [] ∷ [])
+    let told = λ (n : ℕ). RecordsCalls (g.W.Wires.calls c.args.wires.now) (Received c.args.at n (Err c.in-Err._fault) [] ∷ [])
     (g.W.Wires.calls c.receive.new.self) in (
       Received c.args.at most_bytes (Err c.in-Err._fault) [] ∷ [],
       subst told room c.in-Err.ensures.told,

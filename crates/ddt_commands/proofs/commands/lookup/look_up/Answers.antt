@@ -1,12 +1,12 @@
 use Rattle.std.proofs.Common.{Bool, subst, sym}
-use Rattle.ddt_commands.specs.Lookup.{IsTold}
+use Rattle.ddt_commands.specs.Lookup.{IsLookupTold}
 use Rattle.ddt_commands.proofs.LookupLemmas.{told_outcome, told_unfound}
 use Rattle.ddt_wire.specs.laws.Message.{messages_are_read}
 use Rattle.ddt_commands.proofs.commands.lookup.look_up.Goals as goal
 
 pub returns-in_ok-found_text-in-Ok-clause-told : goal.returns-in_ok-found_text-in-Ok-clause-told
 returns-in_ok-found_text-in-Ok-clause-told c = λ r compiled sound.
-    subst (λ (b : Bool). IsTold r c.args.now c.args.x c.args.resolver.now b c.whole.result.text.items c.lookup.new.resolver) (sym c.whole.ensures.complete)
+    subst (λ (b : Bool). IsLookupTold r c.args.now c.args.x c.args.resolver.now b c.whole.result.text.items c.lookup.new.resolver) (sym c.whole.ensures.complete)
     (told_outcome messages_are_read r c.args.now c.args.x c.args.resolver.now c.lookup.new.resolver c.args.resolver.now.me c.in-Ok.lookup.outcome c.in-Ok.lookup.hops
     c.whole.result.text.items c.in-Ok.ensures.steps (c.in-Ok.ensures.headline r compiled.0 compiled sound) (c.in-Ok.ensures.hops r compiled.0 compiled sound)
     (rw c.whole.ensures.text c.in_ok-found_text-in-Ok.ensures))

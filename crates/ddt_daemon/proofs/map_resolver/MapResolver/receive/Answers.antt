@@ -1,6 +1,6 @@
 use Rattle.std.proofs.Common.{◌≡◌, ℕ, [], ◌∷◌, length, take, subst, arith, refl, Ok, Err, Some, None}
 use Rattle.ddt_wires.specs.declared.call.Call.TheVariants.{Received}
-use Rattle.ddt_wires.specs.Calls.{Tells}
+use Rattle.ddt_wires.specs.Calls.{RecordsCalls}
 use Rattle.ddt_wires.specs.Turns.{most_bytes}
 use Rattle.ddt_wires.specs.laws.Tell.{tells_both, tells_none}
 use Rattle.ddt_loop.specs.Polls.{polled}
@@ -13,7 +13,7 @@ returns-in-Ok-Some-clause-round g c =
     let bytes = take c.in-Ok-Some.packet.len c.receive.new.buffer in
     let room : length c.receive.new.buffer ≡ most_bytes = omega (arith, c.receive.auto.buffer, c.requires) in
     let first = polled c.args.me (Ok (Some c.in-Ok-Some.packet)) bytes in
-    let told = λ (n : ℕ). Tells (g.W.Wires.calls c.args.near.now)
+    let told = λ (n : ℕ). RecordsCalls (g.W.Wires.calls c.args.near.now)
     (Received c.args.me n (Ok (Some c.in-Ok-Some.packet)) bytes ∷ []) (g.W.Wires.calls c.receive.new.self) in (
       first ∷ w.0,
       w.1,
@@ -26,7 +26,7 @@ returns-in-Ok-Some-clause-round g c =
 pub returns-in-Ok-None-clause-round : goal.returns-in-Ok-None-clause-round
 returns-in-Ok-None-clause-round g c =
     let room : length c.receive.new.buffer ≡ most_bytes = omega (arith, c.receive.auto.buffer, c.requires) in
-    let told = λ (n : ℕ). Tells (g.W.Wires.calls c.args.near.now) (Received c.args.me n (Ok None) [] ∷ [])
+    let told = λ (n : ℕ). RecordsCalls (g.W.Wires.calls c.args.near.now) (Received c.args.me n (Ok None) [] ∷ [])
     (g.W.Wires.calls c.receive.new.self) in (
       polled c.args.me (Ok None) [] ∷ [],
       [],
@@ -38,7 +38,7 @@ returns-in-Ok-None-clause-round g c =
 pub returns-in-Err-clause-round : goal.returns-in-Err-clause-round
 returns-in-Err-clause-round g c =
     let room : length c.receive.new.buffer ≡ most_bytes = omega (arith, c.receive.auto.buffer, c.requires) in
-    let told = λ (n : ℕ). Tells (g.W.Wires.calls c.args.near.now) (Received c.args.me n (Err c.in-Err._fault) [] ∷ [])
+    let told = λ (n : ℕ). RecordsCalls (g.W.Wires.calls c.args.near.now) (Received c.args.me n (Err c.in-Err._fault) [] ∷ [])
     (g.W.Wires.calls c.receive.new.self) in (
       polled c.args.me (Err c.in-Err._fault) [] ∷ [],
       [],

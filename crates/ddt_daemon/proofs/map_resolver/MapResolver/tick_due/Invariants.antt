@@ -1,12 +1,12 @@
 use Rattle.std.proofs.Common.{List}
 use Rattle.ddt_wires.specs.declared.call.Call.{Call}
-use Rattle.ddt_wires.specs.Calls.{Tells}
+use Rattle.ddt_wires.specs.Calls.{RecordsCalls}
 use Rattle.ddt_daemon.specs.Rounds.{resolving, AreTicks}
 use Rattle.ddt_daemon.proofs.map_resolver.MapResolver.tick_due.Given as goal
 
 -- so many ticks so far
 abbrev pub invariant-loop-tick : goal.invariant-loop-tick
 invariant-loop-tick g l =
-    (calls : List Call) × Tells (g.W.Wires.calls l.fn.near) calls (g.W.Wires.calls l.near)
+    (calls : List Call) × RecordsCalls (g.W.Wires.calls l.fn.near) calls (g.W.Wires.calls l.near)
     × AreTicks l.me l.now (resolving l.fn.self.running l.fn.self.waiting.kept.items l.fn.self.counts) l._tick calls
     (resolving l.self.running l.self.waiting.kept.items l.self.counts)

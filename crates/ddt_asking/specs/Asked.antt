@@ -35,8 +35,8 @@ wait_from m now = record { at = m.me; awaited = None; since = now; millis = paus
 -- a pause: none at all, or a poll and then a wait from its moment on
 pub data IsPause (m : Manner) : List WireStep → Type 0 where
   no_pause : pause_of m.rate ≡ 0 → IsPause m []
-  pauses : (first : WireStep) (polls : List WireStep) → IsPoll m.me first.call → IsWait (wait_from m first.moment) polls None
-      → IsPause m (first ∷ polls)
+  pauses : (first : WireStep) (polls : List WireStep) → IsPoll m.me first.call
+      → IsWait (wait_from m first.moment) polls None → IsPause m (first ∷ polls)
 
 -- Questions about an identifier were asked one after the other, with a pause behind each. Their nonces are the next
 -- numbers of a generator.

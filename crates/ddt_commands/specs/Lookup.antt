@@ -112,8 +112,8 @@ end_text Memory = []
 
 -- The lines of one lookup, and whether it has an outcome. `outcome`: a line for each hop, then that of what the
 -- register assigns. `gave_up`: no nonce is left for its next request. `refused`: 1,024 lookups were pending before.
-pub data IsLookupTold (r : Register) (now : ℕ) (x : Xeid) (before : State) (found : Bool) (lines : List ℕ) (after : State)
-    : Type 0 where
+pub data IsLookupTold (r : Register) (now : ℕ) (x : Xeid) (before : State) (found : Bool) (lines : List ℕ)
+    (after : State) : Type 0 where
   outcome : (hops : List Hop) → HasOutcome now x before (assignment r (xeid_path x)) hops after → found ≡ true
       → lines ≡ flat_map (said_line r x) hops ++ ended (outcome_text (assignment r (xeid_path x)))
       → IsLookupTold r now x before found lines after

@@ -140,8 +140,8 @@ Proceeds me d (Ends t end) calls new = Settles me t end d calls new
 
 -- The resolver hears a datagram, or ticks, at a moment. `fails`: a request would be sent or a record saved, and
 -- memory ran out; nothing changes but the time.
-pub data HearsOrTicks (me : Locator) (now : ℕ) (call : resolver.ResolverCall) (w : Running) (calls : List Call) (new : Running) :
-    Type 0 where
+pub data HearsOrTicks (me : Locator) (now : ℕ) (call : resolver.ResolverCall) (w : Running) (calls : List Call)
+    (new : Running) : Type 0 where
   does : (reply : Reply) → Step (moved now w.state) call new.state reply
       → Proceeds me w.desk (progress_of reply) calls new.desk → HearsOrTicks me now call w calls new
   fails : Wants (moved now w.state) call → new.state ≡ moved now w.state → new.desk ≡ w.desk → calls ≡ []

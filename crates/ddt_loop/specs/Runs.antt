@@ -31,6 +31,7 @@ pub data HasRun (me : Locator) (start : Running) : List Call → Running → Typ
 -- A resolver begins sound for a register, with its own address and with nobody who waits. Where the calls since then
 -- are fair, each negative Map-Reply is owed for what the register assigns, and the resolver is sound.
 abbrev pub FairRunsAreRight : Type 0
-FairRunsAreRight = (r : Register) (me : Locator) (start : State) (calls : List Call) (w : Running) → IsStateInOrder start
-    → StartsSound r start → start.me ≡ me → HasRun me (running start (opening_desk [])) calls w → ArePacketsFair r me calls
+FairRunsAreRight = (r : Register) (me : Locator) (start : State) (calls : List Call) (w : Running)
+    → IsStateInOrder start → StartsSound r start → start.me ≡ me
+    → HasRun me (running start (opening_desk [])) calls w → ArePacketsFair r me calls
     → RepliesAreOwed r me calls × IsSound r w.state

@@ -32,8 +32,8 @@ pub record IsLeft {R : Type 0} (remaining : R → Option (List ℕ)) (reader : R
 
 -- What a read does to the records that are left: it takes the first, or there was none, or the first is of another
 -- length than those before it.
-abbrev pub TakesRecord : {R : Type 0} → (R → Option (List ℕ)) → Reader R → Reader R → ℕ → List (List ℕ) → List (List (List ℕ))
-    → Result Bool ReadFault → Type 0
+abbrev pub TakesRecord : {R : Type 0} → (R → Option (List ℕ)) → Reader R → Reader R → ℕ → List (List ℕ)
+    → List (List (List ℕ)) → Result Bool ReadFault → Type 0
 TakesRecord remaining old new row fields left (Ok true) = (rest : List (List (List ℕ))) × (left ≡ fields ∷ rest)
     × IsLeft remaining new rest
 TakesRecord remaining old new row fields left (Ok false) = left ≡ []

@@ -30,8 +30,8 @@ pub record IsFromServer (s : State) (source : Locator) (bytes : List ℕ) (t : �
   pub same_source : source ≡ server s.me l
 
 -- and before the deadline
-pub record IsBeforeDeadline (s : State) (source : Locator) (bytes : List ℕ) (t : ℕ) (l : Pending) (rec : ReferralRecord) : Type
-    0 where
+pub record IsBeforeDeadline (s : State) (source : Locator) (bytes : List ℕ) (t : ℕ) (l : Pending)
+    (rec : ReferralRecord) : Type 0 where
   pub from_server : IsFromServer s source bytes t l rec
   pub early : s.known.time < l.deadline
 

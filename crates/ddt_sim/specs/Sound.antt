@@ -123,8 +123,8 @@ IsRight r s call reply = Unit {0}
 -- answer is right.
 abbrev pub StepsKeepSoundness : Type 0
 StepsKeepSoundness =
-    (r : Register) (s : State) (call : ResolverCall) (new : State) (reply : Reply) → IsAccepted r → IsStateInOrder s → IsSound r s
-    → IsFair r s call → Step s call new reply → IsSound r new × IsRight r s call reply
+    (r : Register) (s : State) (call : ResolverCall) (new : State) (reply : Reply)
+    → IsAccepted r → IsStateInOrder s → IsSound r s → IsFair r s call → Step s call new reply → IsSound r new × IsRight r s call reply
 
 -- so does the passing of time
 abbrev pub TimeKeepsSoundness : Type 0

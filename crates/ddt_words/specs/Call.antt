@@ -16,7 +16,8 @@ call_of w = (w.command.now, rows_of (found_of w.matches))
 
 -- of these commands the words call this one, and without a fault
 abbrev pub CallsCommand : List Declaration → List Text → Call → Type 0
-CallsCommand commands words call = (fault_of (line commands) words ≡ []) × (subcommand_of (line commands) words ≡ Some call)
+CallsCommand commands words call =
+    (fault_of (line commands) words ≡ []) × (subcommand_of (line commands) words ≡ Some call)
 
 -- the word of an argument; empty where there is none
 abbrev pub value : Text → Call → Text

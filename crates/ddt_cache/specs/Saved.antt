@@ -1,5 +1,5 @@
 -- Which records are saved, and what a cache knows afterwards (RFC 8111, sections 6.4 and 7.3).
-use Rattle.std.specs.Prelude.{ℕ, Bool, ◌||◌, ◌&&◌, length, nat_lt, List, if◌then◌else◌}
+use Rattle.std.specs.Prelude.{ℕ, Bool, ◌||◌, ◌&&◌, not, length, nat_lt, List, if◌then◌else◌}
 use Rattle.std.specs.FinMap.{FinMap, insert, contains_key, len}
 use Rattle.ddt_path.specs.declared.record.ReferralRecord.{ReferralRecord}
 use Rattle.ddt_trie.specs.PrefixMap.{path_cmp}
@@ -28,6 +28,10 @@ has_room live p = contains_key live p || nat_lt (len live) most_live_entries
 -- whether a record is saved among the live entries
 abbrev pub is_saved : FinMap path_cmp Entry → ReferralRecord → Bool
 is_saved live r = savable r && has_room live r.prefix
+
+-- whether it is saved as one entry more; in the place of a live entry it wants no memory
+abbrev pub is_added : FinMap path_cmp Entry → ReferralRecord → Bool
+is_added live r = is_saved live r && not (contains_key live r.prefix)
 
 -- what becomes of it
 abbrev pub saving : FinMap path_cmp Entry → ReferralRecord → Saved

@@ -5,7 +5,7 @@ ghost use Rattle.std.specs.Prelude.{◌≡◌, ◌≤◌, IsTrue, length, take, 
 ghost use Rattle.std.specs.FinMap as map;
 ghost use Rattle.ddt_path.specs.Path.{xeid_path};
 ghost use Rattle.ddt_cache.specs.Live.{nothing_known, moved, forgotten};
-ghost use Rattle.ddt_cache.specs.Saved.{is_saved, most_live_entries, saving, stored_in};
+ghost use Rattle.ddt_cache.specs.Saved.{is_added, most_live_entries, saving, stored_in};
 ghost use Rattle.ddt_cache.specs.Found.{IsFound};
 ghost use Rattle.ddt_cache.specs.InOrder.{IsCacheInOrder};
 
@@ -170,7 +170,7 @@ impl<M: PrefixMap<Entry>> Cache<M> {
         ensures stored { OnOk result (self.new ≡ stored_in (moved now self.old) referral.now) }
         ensures answer { IfOk result (λ saved. saved ≡ saving (moved now self.old).live referral.now) }
         ensures unchanged { OnErr result (self.new ≡ moved now self.old) }
-        ensures wanted { OnErr result (IsTrue (is_saved (moved now self.old).live referral.now)) }
+        ensures wanted { OnErr result (IsTrue (is_added (moved now self.old).live referral.now)) }
         ensures replaced { IsTrue (map.contains_key (moved now self.old).live referral.now.prefix) → IsOk result }
     {
         self.advance(now);

@@ -6,7 +6,7 @@ ghost use Rattle.ddt_path.specs.Locators.{most_locators};
 ghost use Rattle.ddt_cache.specs.Moment.{last_moment};
 ghost use Rattle.ddt_cache.specs.Entry.{most_positive_minutes, most_minutes as most_minutes_of, entry_of};
 ghost use Rattle.ddt_cache.specs.Live.{live_at};
-ghost use Rattle.ddt_cache.specs.Saved.{most_live_entries, savable, has_room, is_saved, saving, stored};
+ghost use Rattle.ddt_cache.specs.Saved.{most_live_entries, savable, has_room, is_added, saving, stored};
 
 use crate::entry::{Entry, Saved};
 use ddt_path::{Action, HOLE_TTL, NOT_AUTHORITATIVE_TTL, POSITIVE_TTL, Prefix, ReferralRecord};
@@ -99,7 +99,7 @@ pub(crate) fn save_among<M: PrefixMap<Entry>>(
     ensures answer { IfOk result (λ saved. saved ≡ saving (live_at time (M.content entries.old)) referral.now) }
     ensures bound { map.len (M.content entries.new) ≤ most_live_entries }
     ensures unchanged { OnErr result (live_at time (M.content entries.new) ≡ live_at time (M.content entries.old)) }
-    ensures wanted { OnErr result (IsTrue (is_saved (live_at time (M.content entries.old)) referral.now)) }
+    ensures wanted { OnErr result (IsTrue (is_added (live_at time (M.content entries.old)) referral.now)) }
     ensures replaced { IsTrue (map.contains_key (live_at time (M.content entries.old)) referral.now.prefix) →
         IsOk result }
     ensures servers { length referral.now.servers ≤ most_locators }

@@ -1,7 +1,7 @@
 -- The resolver's step on a datagram: what it does with a reply that it takes, by the record's action (RFC 8111,
 -- sections 6.1 and 7.3).
 use Rattle.std.specs.Prelude.{ℕ, ◌≡◌, ◌+◌, ◌<◌, ◌≤◌, IsTrue, false, List, length, Some}
-use Rattle.ddt_cache.specs.Saved.{is_saved}
+use Rattle.ddt_cache.specs.Saved.{is_added}
 use Rattle.ddt_path.specs.declared.locator.Locator.{Locator}
 use Rattle.ddt_path.specs.declared.action.Action.TheVariants.{MsAck, MsNotRegistered, DelegationHole, NotAuthoritative}
 use Rattle.ddt_path.specs.declared.record.ReferralRecord.{ReferralRecord}
@@ -64,9 +64,9 @@ pub data HearStep (s : State) (source : Locator) (bytes : List ℕ) (new : State
 -- a reply whose record is saved or makes the lookup send
 pub data Saves (s : State) (l : Pending) (rec : ReferralRecord) : Type 0 where
   sends : GoesOn l rec → s.next < last_nonce → Saves s l rec
-  acknowledged : rec.action ≡ MsAck → IsTrue (is_saved s.known.live rec) → Saves s l rec
-  closed : rec.action ≡ DelegationHole → IsTrue (is_saved s.known.live rec) → Saves s l rec
-  concluded : rec.action ≡ MsNotRegistered → length l.servers ≤ l.place + 1 → IsTrue (is_saved s.known.live rec)
+  acknowledged : rec.action ≡ MsAck → IsTrue (is_added s.known.live rec) → Saves s l rec
+  closed : rec.action ≡ DelegationHole → IsTrue (is_added s.known.live rec) → Saves s l rec
+  concluded : rec.action ≡ MsNotRegistered → length l.servers ≤ l.place + 1 → IsTrue (is_added s.known.live rec)
       → Saves s l rec
 
 -- the step would send a request or save a record, and so wants memory

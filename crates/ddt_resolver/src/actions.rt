@@ -9,7 +9,7 @@ ghost use Rattle.ddt_resolver.specs.Act.{Act, HearStep, HearWants, Saves};
 ghost use Rattle.ddt_resolver.specs.Acting.{IsHeard, IsAnswered, IsSmall, SendsOn};
 ghost use Rattle.ddt_resolver.specs.Order.{IsLookup};
 ghost use Rattle.ddt_resolver.specs.Table.{HasNonce};
-ghost use Rattle.ddt_cache.specs.Saved.{is_saved};
+ghost use Rattle.ddt_cache.specs.Saved.{is_added};
 ghost use Rattle.ddt_resolver.specs.Bound.{ComesNearer, GoesDown};
 
 use crate::loop_detection::is_below;
@@ -29,8 +29,8 @@ impl<M: PrefixMap<Entry>> Resolver<M> {
     /// the lookup goes on with a request, to be sent, or ends: with an outcome, or as 2 Loop, 3 NotAuthoritative or
     /// 4 Exhausted. Of a referral the first eight servers are kept.
     ///
-    /// It fails only if out of memory, where a request is to be sent or a record to be saved; then nothing changes but
-    /// the time, and the lookup waits on.
+    /// It fails only if out of memory, where a request is to be sent or a record to be saved that takes the place of no
+    /// live one; then nothing changes but the time, and the lookup waits on.
     pub fn datagram(
         &mut self,
         now: Moment,
@@ -102,7 +102,7 @@ impl<M: PrefixMap<Entry>> Resolver<M> {
         requires { IsHeard self.old taken.now }
         ensures answered { IfOk result (λ heard. IsAnswered self.old taken.now self.new heard) }
         ensures unchanged { OnErr result (self.new ≡ self.old) }
-        ensures wanted { OnErr result (IsTrue (is_saved self.old.known.live taken.now.told)) }
+        ensures wanted { OnErr result (IsTrue (is_added self.old.known.live taken.now.told)) }
     {
         self.save_and_close(taken.lookup.nonce, &taken.told)?;
         Ok(Heard::Answer(Ticket::of(taken.ticket), outcome(&taken.told)))

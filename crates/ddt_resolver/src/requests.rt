@@ -8,7 +8,7 @@ ghost use Rattle.ddt_resolver.specs.State.{last_nonce, most_pending, request as 
 ghost use Rattle.ddt_resolver.specs.Order.{IsLookup};
 ghost use Rattle.ddt_resolver.specs.Table.{HasNonce};
 ghost use Rattle.ddt_resolver.specs.Acting.{IsSmall};
-ghost use Rattle.ddt_cache.specs.Saved.{is_saved};
+ghost use Rattle.ddt_cache.specs.Saved.{is_added};
 ghost use Rattle.ddt_path.specs.declared.record.ReferralRecord.{ReferralRecord as RecordValue};
 ghost use Rattle.ddt_resolver.specs.declared.requests.Change.TheVariants.{Save};
 
@@ -108,7 +108,7 @@ impl<M: PrefixMap<Entry>> Resolver<M> {
         ensures closed { (t : ℕ) → HasNonce self.old.pending t nonce
             → OnOk result (self.new ≡ dropped (stored self.old told.now) t) }
         ensures unchanged { OnErr result (self.new ≡ self.old) }
-        ensures wanted { OnErr result (IsTrue (is_saved self.old.known.live told.now)) }
+        ensures wanted { OnErr result (IsTrue (is_added self.old.known.live told.now)) }
     {
         apply(&mut self.cache, &Change::Save(*told))?;
         self.table.take(nonce);
@@ -127,7 +127,7 @@ impl<M: PrefixMap<Entry>> Resolver<M> {
 fn apply<M: PrefixMap<Entry>>(cache: &mut Cache<M>, change: &Change) -> Result<(), AllocError>
     ensures applied { OnOk result (cache.new ≡ changed cache.old change.now) }
     ensures unchanged { OnErr result (cache.new ≡ cache.old) }
-    ensures wanted { (rec : RecordValue) → change.now ≡ Save rec → OnErr result (IsTrue (is_saved cache.old.live rec)) }
+    ensures wanted { (rec : RecordValue) → change.now ≡ Save rec → OnErr result (IsTrue (is_added cache.old.live rec)) }
 {
     cache.in_order();
     let now = cache.time();

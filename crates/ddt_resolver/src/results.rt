@@ -98,7 +98,7 @@ pub enum Ignored {
 /// Why a lookup ends without an answer.
 #[derive(Clone, Copy, Debug, PartialEq, Eq, Error)]
 pub enum Why {
-    /// Each server of the current set was asked twice and none answered in time.
+    /// Each server of the current set was asked twice, and no usable reply came in time.
     #[error("1 NoReply")]
     NoReply,
     /// A referral isn't to a longer prefix than the referral before it.

@@ -19,7 +19,7 @@ use std::alloc::AllocError;
 pub enum Input<'a> {
     /// Somebody asks for an identifier.
     Ask(Xeid),
-    /// A datagram of these bytes has come from a source.
+    /// A datagram of these bytes has come from a source, at whose UDP port 4342 it was sent: any other its caller drops.
     Datagram(Locator, &'a [u8]),
     /// It is time to look for a lookup whose deadline has come.
     Tick,
@@ -39,7 +39,8 @@ pub enum Reply {
 /// What a step makes of the pending lookups.
 #[derive(Debug, Drop)]
 pub enum Progress {
-    /// All stay as they are.
+    /// All stay as they are: an ask was answered from the cache or refused, a datagram was ignored, or no deadline has
+    /// come.
     Stays,
     /// The lookup of a ticket starts, or goes on, with this request.
     Sends(Ticket, Outgoing),
@@ -48,7 +49,8 @@ pub enum Progress {
 }
 
 impl Reply {
-    /// What the step has made of the pending lookups.
+    /// What the step has made of the pending lookups. The answer to an ask, and why something was refused or ignored, is
+    /// lost here.
     pub fn progress(self) -> Progress
         ensures { result ≡ progress_of self }
     {
@@ -101,8 +103,13 @@ fn after_tick(ticked: Ticked) -> Progress
 }
 
 impl<M: PrefixMap<Entry>> Resolver<M> {
-    /// Does what it is called for at `now`, as `ask`, `datagram` and `tick` say. It fails only if out of memory, where a
-    /// request is to be sent or a record to be saved; then nothing changes but the time.
+    /// Does what it is called for at `now`, in milliseconds, as `ask`, `datagram` and `tick` say (RFC 8111, section 7.3).
+    /// The reply has what they refuse: an ask as 1 TooMany or 2 Exhausted, a datagram as 1 Undecodable to 6 NoServers;
+    /// and a lookup ends with an outcome or as 1 NoReply to 4 Exhausted. A tick serves one lookup, so it is to be done
+    /// again until it answers Nothing.
+    ///
+    /// It fails only if out of memory, where a request is to be sent or a record to be added; then nothing changes but
+    /// the time.
     pub fn step(&mut self, now: Moment, input: Input<'_>) -> Result<Reply, AllocError>
         ensures step { IfOk result (λ reply. Step (moved now self.old) (call_of input.entry) self.new reply) }
         ensures unchanged { OnErr result (self.new ≡ moved now self.old) }

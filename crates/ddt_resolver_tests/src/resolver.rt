@@ -1,7 +1,8 @@
 //! Worked calls on a resolver: each is written as a line and compared. Random schedules beside a plain resolver stand
-//! in `bench/resolver_schedules`.
+//! in `fuzz/resolver_schedules`.
 //!
-//! In reading order: `lines`, `calls`, `replies`, `limits`, `deadlines`, `crowded`, `refusals`; `itr_side` is what ITRs see.
+//! In reading order: `lines`, `calls`, `replies`, `limits`, `deadlines`, `crowded`, `refusals`, `steps`; `itr_side` is
+//! what ITRs see.
 
 pub mod calls;
 mod crowded;
@@ -11,3 +12,4 @@ mod limits;
 mod lines;
 mod refusals;
 mod replies;
+mod steps;

@@ -2,7 +2,7 @@
 use Rattle.std.proofs.Common.{◌≡◌, ℕ, ◌<◌, ◌≤◌, Bool, cond, true, false, List, [], length, take, Some, None, Option, refl, sym, ap, subst, ◌∙◌, arith, inl, inr, ◌⊎◌}
 use Rattle.std.specs.Prelude.{is_some, nat_lt, max, min, ◌&&◌, ◌||◌, IsTrue}
 use Rattle.std.specs.FinMap.{get, insert, remove, contains_key}
-use Rattle.std.proofs.lemmas.Bool.{and_parts, and_from, cond-true, ltb-true}
+use Rattle.std.proofs.lemmas.Bool.{and_parts, and_from, cond-true, ltb-true, not_from_false, false_from_ne_true}
 use Rattle.std.proofs.Math.Nat.{le-max_left}
 use Rattle.ddt_path.specs.declared.locator.Locator.{Locator}
 use Rattle.ddt_path.specs.declared.action.Action.{Action}
@@ -14,7 +14,7 @@ use Rattle.ddt_trie.specs.laws.Map.{IsLongest-unique}
 use Rattle.ddt_cache.specs.declared.entry.Entry.{Entry}
 use Rattle.ddt_cache.specs.Entry.{is_positive, is_negative, most_minutes, end_of, entry_of, root_entry}
 use Rattle.ddt_cache.specs.Live.{Known, is_live, live_at, known_of, moved, forgotten}
-use Rattle.ddt_cache.specs.Saved.{savable, has_room, is_saved, stored, names_servers}
+use Rattle.ddt_cache.specs.Saved.{savable, has_room, is_saved, is_added, stored, names_servers}
 use Rattle.ddt_cache.specs.Found.{IsFound}
 use Rattle.ddt_cache.specs.laws.Live.{Entries, if_live, get-live_at, live_at-later, live_at-remove, live_at-insert, longest_live, uncovered_live, live_was_there}
 
@@ -117,3 +117,10 @@ stored_is t old new last r e is room alike entry put =
 pub live_is_key : (t : ℕ) (old new : Entries) (p : List ℕ) → live_at t new ≡ live_at t old
     → IsTrue (contains_key (live_at t old) p) → is_some (get new p) ≡ true
 live_is_key t old new p alike key = live_was_there t new p (ap (λ (l : Entries). contains_key l p) alike ∙ key)
+
+-- a record that is saved, and takes the place of no live entry, is saved as one entry more
+pub added_is : (live : Entries) (r : ReferralRecord) → savable r ≡ true → has_room live r.prefix ≡ true
+    → (IsTrue (contains_key live r.prefix) → ⊥) → IsTrue (is_added live r)
+added_is live r is room apart =
+    and_from (is_saved live r) _ (and_from (savable r) _ is room)
+    (not_from_false (contains_key live r.prefix) (false_from_ne_true (contains_key live r.prefix) apart))

@@ -1,5 +1,7 @@
 use Rattle.std.proofs.Common.{rules}
-use Rattle.ddt_cache.specs.laws.Known.{stored_is, live_is_key}
+use Rattle.std.proofs.lemmas.Bool.{false≢true}
+use Rattle.ddt_cache.specs.Live.{live_at}
+use Rattle.ddt_cache.specs.laws.Known.{stored_is, live_is_key, added_is}
 use Rattle.ddt_cache.specs.laws.Size.{len_inserted}
 use Rattle.ddt_cache.proofs.saved_records.save_among.Goals as goal
 
@@ -20,3 +22,10 @@ returns-in-Err-clause-replaced g c key =
     c.in-Err.ensures.replaced
     (live_is_key c.args.time (g.M.PrefixMap.content c.args.entries.now) (g.M.PrefixMap.content c.make_room.new.entries) c.args.referral.now.prefix
     c.make_room.ensures.live key)
+
+pub returns-in-Err-clause-wanted : goal.returns-in-Err-clause-wanted
+returns-in-Err-clause-wanted g c =
+    added_is (live_at c.args.time (g.M.PrefixMap.content c.args.entries.now)) c.args.referral.now
+    (search (rules, c.is_savable.ensures, c.if-not-is_savable.false)) (search (rules, c.make_room.ensures.room, c.if-not-make_room.false))
+    (λ key. false≢true (c.in-Err.ensures.replaced (live_is_key c.args.time (g.M.PrefixMap.content c.args.entries.now)
+        (g.M.PrefixMap.content c.make_room.new.entries) c.args.referral.now.prefix c.make_room.ensures.live key)))

@@ -28,4 +28,4 @@ returns-in-Err-clause-wanted g c =
     added_is (live_at c.args.time (g.M.PrefixMap.content c.args.entries.now)) c.args.referral.now
     (search (rules, c.is_savable.ensures, c.if-not-is_savable.false)) (search (rules, c.make_room.ensures.room, c.if-not-make_room.false))
     (λ key. false≢true (c.in-Err.ensures.replaced (live_is_key c.args.time (g.M.PrefixMap.content c.args.entries.now)
-        (g.M.PrefixMap.content c.make_room.new.entries) c.args.referral.now.prefix c.make_room.ensures.live key)))
+    (g.M.PrefixMap.content c.make_room.new.entries) c.args.referral.now.prefix c.make_room.ensures.live key)))

@@ -20,7 +20,10 @@ UNREAD = re.compile(r"is not in scope|has no field|is no name|operand is missing
 
 
 class Function(typing.NamedTuple):
-    """A function of a crate: its file below src without the ending, its name, and the type that has it, if one."""
+    """A function of a crate: its file below src without the ending, its name, and the type that has it, if one.
+
+    The prover names a function by its module, or by its type and the module of this, which may be another file's.
+    """
 
     file: str
     owner: str
@@ -29,16 +32,15 @@ class Function(typing.NamedTuple):
     @property
     def said(self) -> re.Pattern[str]:
         """The line that ends what the prover says of it, with the verdict."""
-        path = "::".join([*pathlib.PurePath(self.file).parts])
-        owner = rf"(?:{self.owner}\w*::)" if self.owner else ""
-        return re.compile(rf"fn \w+::{re.escape(path)}::{owner}{self.name}: (.*)")
+        above = rf"(?:\w+::)*{self.owner}\w*" if self.owner else "::".join(pathlib.PurePath(self.file).parts)
+        return re.compile(rf"fn \w+::{above}::{self.name}: (.*)")
 
     @property
     def answers(self) -> re.Pattern[str]:
         """The path of the file of its answers."""
-        owner = rf"{self.owner}\w*/" if self.owner else ""
+        above = rf"(?:\w+/)*{self.owner}\w*" if self.owner else re.escape(self.file)
         # A plus stands before the name of a function that calls itself.
-        return re.compile(rf"proofs/{re.escape(self.file)}/{owner}\+?{self.name}/Answers\.antt")
+        return re.compile(rf"proofs/{above}/\+?{self.name}/Answers\.antt")
 
 
 class Change(typing.NamedTuple):

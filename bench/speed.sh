@@ -15,7 +15,6 @@
 #
 # DDT names the program, by default that which the launcher runs. Wants two processors, python3, a cargo that knows
 # Rust's edition 2024 (1.85), and nsd-checkzone where its columns are to be filled.
-# to be filled.
 set -eu
 cd -- "$(dirname -- "${BASH_SOURCE[0]}")/.."
 program=${DDT:-$(release/program ddt)}

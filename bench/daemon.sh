@@ -1,6 +1,6 @@
 #!/usr/bin/env bash
 # Measures the daemon as a resolver on the loopback, beside unbound, over a tree of 65,536 identifiers and one of as many
-# names: bench/daemon.sh [--soak MINUTES | --hostile COUNT]
+# names: bench/daemon.sh [--soak MINUTES | --hostile COUNT | --full]
 #
 # Each resolver has one processor, the load another, and the servers the rest. First each identifier is asked for once
 # with an empty cache, then once more, then at random for five seconds. Each answer is compared with what the register
@@ -8,10 +8,12 @@
 # and what time they take. --soak asks at random for so many minutes, and prints what memory each daemon has, a line a
 # minute: seconds, and kilobytes of the resolver, the root, the node and both Map-Servers. --hostile measures nothing:
 # while it asks, fuzz/hostile.py sends COUNT datagrams to each socket of each daemon, and then floods the resolver for ten
-# seconds with requests of an address that may not ask.
+# seconds with requests of an address that may not ask. --full fills the cache of a resolver for another tree, as
+# bench/daemon/full.py says, and prints its processor time a lookup with 60,000 entries and with a full cache: of sites
+# that it remembers, and of identifiers that it doesn't.
 #
 # It sends to 127.0.0.0/8 alone. Wants root for port 53, four processors, python3, gcc, nsd and unbound (Debian's
-# packages of these names). DDT, DDTD and DDTPLAN name the programs, by default those that the launchers run. ONE_CORE
+# packages of these names); --full wants two processors, python3 and gcc. DDT, DDTD and DDTPLAN name the programs, by default those that the launchers run. ONE_CORE
 # names a processor that everything shares.
 set -eu -o pipefail
 here=$(cd -- "$(dirname -- "${BASH_SOURCE[0]}")" && pwd)
@@ -19,13 +21,14 @@ ddt=${DDT:-$("$here/../release/program" ddt)}
 ddtd=${DDTD:-$("$here/../release/program" ddtd)}
 ddtplan=${DDTPLAN:-$("$here/../release/program" ddtplan)}
 load_core=${ONE_CORE:-0} resolver_core=${ONE_CORE:-1} server_cores=${ONE_CORE:-2,3}
-minutes=0 hostile=0
+minutes=0 hostile=0 full=0 tools=(gcc python3 nsd unbound)
 case "${1-}" in
     --soak) minutes=$2 ;;
     --hostile) hostile=$2 ;;
+    --full) full=1 tools=(gcc python3) server_cores=${ONE_CORE:-0} ;;
 esac
 PATH=$PATH:/usr/sbin:/sbin
-for tool in nsd unbound gcc python3; do
+for tool in "${tools[@]}"; do
     command -v "$tool" >/dev/null || { echo "bench/daemon.sh: it wants $tool" >&2; exit 1; }
 done
 folder=$(mktemp -d)
@@ -33,8 +36,10 @@ daemons=() others=()
 trap 'kill "${daemons[@]}" "${others[@]}" 2>/dev/null || true; wait; rm -rf -- "$folder"' EXIT
 
 gcc -O2 -Wall -Wextra -o "$folder/lookups" "$here/daemon/lookups.c"
-python3 "$here/daemon/tree.py" "$folder"
-"$ddtplan" blocks "$folder/register.csv" | python3 "$here/daemon/tree.py" "$folder" items
+maker=$here/daemon/tree.py
+[ "$full" = 0 ] || maker=$here/daemon/full.py
+python3 "$maker" "$folder"
+"$ddtplan" blocks "$folder/register.csv" | python3 "$maker" "$folder" items
 
 # run CORE WORD..: starts a daemon of ours on some processors.
 run() {
@@ -77,6 +82,50 @@ judge() {
     return "$status"
 }
 
+# ask LIST WINDOW: asks the resolver for each identifier of a list, for a minute at most
+ask() {
+    load lisp 127.0.0.53 "$folder/$1" 60 "$2" 127.0.4.1 127.0.3.1 once >"$folder/said"
+}
+
+# count NAME: a count of the resolver
+count() {
+    "$ddtd" tell "$folder/resolver.sock" stats | sed -n "s/^$1=//p"
+}
+
+# spent: the nanoseconds of processor time that the resolver has had
+spent() {
+    cut -d ' ' -f 1 "/proc/${daemons[0]}/schedstat"
+}
+
+# price LIST: the microseconds of processor time that a lookup of the list takes the resolver
+price() {
+    local before lookups
+    before=$(spent) lookups=$(count num.lookups)
+    ask "$1" 8
+    echo "$before $(spent) $lookups $(count num.lookups)" | awk '{ printf "%.1f", ($2 - $1) / 1000 / ($4 - $3) }'
+}
+
+# fill: fills the cache, and prints the prices on the way and at its end
+fill() {
+    local group
+    resolver_on
+    for group in root ms; do
+        run "$server_cores" "$ddtd" serve "$(compiled "$group")"
+    done
+    sleep 1
+    ask warm 128
+    ask first 128
+    echo '| entries | remembered | new |'
+    echo '|---|---|---|'
+    echo "| $(count now.cached) | $(price again) | $(price new) |"
+    ask rest 128
+    echo "| $(count now.cached) | $(price again) | $(price newer) |"
+}
+
+if [ "$full" = 1 ]; then
+    fill
+    exit
+fi
 resolver_on
 for group in root ten g0 g1; do
     run "$server_cores" "$ddtd" serve "$(compiled "$group")"

@@ -62,9 +62,11 @@ sha256_of() {
     sum=$(sha256sum 2>/dev/null <"$1") && echo "${sum%% *}"
 }
 
-# note_build NAME CHECKSUM: the program that stands in the crate's folder was proved and built from these sources
+# note_build NAME CHECKSUM: the program that stands in the crate's folder was proved and built from these sources, so the
+# launcher takes no other
 note_build() {
     local build=crates/$1/out/$1
+    rm -f -- "out/$1.found" 2>/dev/null
     echo "$2 $(sha256_of "$build")" >"$build.sources"
 }
 

@@ -1,6 +1,8 @@
 """An ITR: asks a Map-Resolver for an identifier, as often as it takes, and prints what the Map-Reply says.
 
-usage: itr.py RESOLVER MY_ADDRESS EID [INSTANCE] [SECONDS]
+usage: itr.py RESOLVER MY_ADDRESS[,ADDRESS..] EID [INSTANCE] [SECONDS]
+
+Further addresses are named as ITR-RLOCs before its own.
 """
 import random
 import socket
@@ -11,7 +13,8 @@ import packets
 
 
 def main():
-    resolver, mine, eid = sys.argv[1:4]
+    resolver, addresses, eid = sys.argv[1:4]
+    mine, *others = addresses.split(",")
     instance = int(sys.argv[4]) if len(sys.argv) > 4 else 0
     patience = float(sys.argv[5]) if len(sys.argv) > 5 else 12
     family = socket.AF_INET6 if ":" in mine else socket.AF_INET
@@ -19,7 +22,7 @@ def main():
         itr.bind((mine, 0))
         port = itr.getsockname()[1]
         nonce = random.getrandbits(64)
-        request = packets.encapsulated(nonce, eid, instance, mine, port)
+        request = packets.encapsulated(nonce, eid, instance, [*others, mine], port)
         end = time.time() + patience
         while time.time() < end:
             itr.sendto(request, (resolver, packets.CONTROL_PORT))

@@ -29,16 +29,16 @@ def eid(ip, instance):
     return struct.pack("!HBBBBH", 16387, 0, 0, 2, 32, len(inner)) + inner
 
 
-def map_request(nonce, ip, instance, itr):
+def map_request(nonce, ip, instance, itrs):
     length = ipaddress.ip_address(ip).max_prefixlen
-    head = bytes([0x10, 0, 0, 1]) + struct.pack("!Q", nonce)
-    return head + b"\0\0" + address(itr) + bytes([0, length]) + eid(ip, instance)
+    head = bytes([0x10, 0, len(itrs) - 1, 1]) + struct.pack("!Q", nonce)
+    return head + b"\0\0" + b"".join(map(address, itrs)) + bytes([0, length]) + eid(ip, instance)
 
 
-def encapsulated(nonce, ip, instance, itr, port):
-    """An ITR's request as an Encapsulated Control Message, its bit D clear."""
-    request = map_request(nonce, ip, instance, itr)
-    source, target = ipaddress.ip_address(itr), ipaddress.ip_address(ip)
+def encapsulated(nonce, ip, instance, itrs, port):
+    """An ITR's request with these ITR-RLOCs as an Encapsulated Control Message, its bit D clear."""
+    request = map_request(nonce, ip, instance, itrs)
+    source, target = ipaddress.ip_address(itrs[0]), ipaddress.ip_address(ip)
     if source.version != target.version:
         source = ipaddress.ip_address("0.0.0.0" if target.version == 4 else "::")
     length = 8 + len(request)

@@ -1,5 +1,6 @@
 //! The program: its words, and the command that they call, over the files, the sockets, the clock and the streams of a
 //! process. The commands are those of `ddt_commands`.
+//! Tests: the command lines of tests.
 #![tactic(auto)]
 
 use ddt_cache::Moment;

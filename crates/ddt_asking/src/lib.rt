@@ -3,6 +3,7 @@
 //!
 //! In reading order: `question`, `verdict`, `manner`, `reply`, `wait`, `tries`, `asker`,
 //! `patient_wires`, `lines`, `counts`.
+//! Tests: ddt_rollout_tests/asking.
 #![tactic(auto)]
 
 mod asker;

@@ -7,7 +7,7 @@ use std::io;
 use std::net::Net;
 
 /// How long `receive` waits for a datagram, in milliseconds.
-const WAIT: i32 = 10;
+const WAIT: u16 = 10;
 
 /// Wires over one UDP socket for IPv4 and one for IPv6, at ports of the system's choice, which don't tell their calls.
 ///

@@ -5,4 +5,5 @@ pub mod Saved
 pub mod Found
 pub mod InOrder
 pub mod Lending
+pub mod Ends
 pub mod laws

@@ -3,3 +3,4 @@ pub mod Known
 pub mod Live
 pub mod Order
 pub mod Size
+pub mod Ends

@@ -9,10 +9,12 @@ ghost use Rattle.ddt_cache.specs.Saved.{is_added, most_live_entries, saving, sto
 ghost use Rattle.ddt_cache.specs.Found.{IsFound};
 ghost use Rattle.ddt_cache.specs.InOrder.{IsCacheInOrder};
 
+use crate::dropped::{drop_ended, drop_entry};
+use crate::ends::Ends;
 use crate::entry::{Entry, Saved};
 use crate::longest_live::{Held, drop_ended_over};
 use crate::moment::Moment;
-use crate::saved_records::{drop_ended, save_among};
+use crate::saved_records::save_among;
 use ddt_path::{Action, LocatorSet, Prefix, ReferralRecord, Xeid};
 use ddt_trie::PrefixMap;
 use std::alloc::{AllocError, Global};
@@ -23,6 +25,7 @@ use std::marker::Model;
 pub struct Cache<M: PrefixMap<Entry>> {
     held: Held<M>,
     time: u64,
+    ends: Ends,
 }
 
 impl<M: PrefixMap<Entry>> Model for Cache<M> {
@@ -32,6 +35,7 @@ impl<M: PrefixMap<Entry>> Model for Cache<M> {
     ghost use Rattle.ddt_cache.specs.contracts.entry.Entry as entry;
     ghost use Rattle.ddt_cache.specs.Entry.{root_entry};
     ghost use Rattle.ddt_cache.specs.Live.{Known, known_code, known_of};
+    ghost use Rattle.ddt_cache.specs.Ends.{AreNoted};
     ghost use Rattle.ddt_cache.specs.Saved.{most_live_entries};
     ghost use Rattle.ddt_cache.specs.InOrder.{IsCacheInOrder};
 
@@ -43,7 +47,8 @@ impl<M: PrefixMap<Entry>> Model for Cache<M> {
 
     ghost invariant = { λ c. (c.held.root ≡ root_entry c.held.root.servers)
         × (map.len (M.content c.held.entries) ≤ most_live_entries)
-        × IsCacheInOrder (known_of c.time (M.content c.held.entries) c.held.root.servers) };
+        × IsCacheInOrder (known_of c.time (M.content c.held.entries) c.held.root.servers)
+        × AreNoted c.ends (M.content c.held.entries) };
 }
 
 impl<M: PrefixMap<Entry>> Cache<M> {
@@ -68,6 +73,7 @@ impl<M: PrefixMap<Entry>> Cache<M> {
                 },
             },
             time: 0,
+            ends: Ends::new(alloc),
         }
     }
 
@@ -107,7 +113,7 @@ impl<M: PrefixMap<Entry>> Cache<M> {
         ensures { self.new ≡ moved now self.old }
     {
         self.advance(now);
-        drop_ended(&mut self.held.entries, self.time);
+        drop_ended(&mut self.held.entries, &mut self.ends, self.time, 0);
     }
 
     /// How many entries are live at `now`, the root's not among them.
@@ -117,7 +123,7 @@ impl<M: PrefixMap<Entry>> Cache<M> {
     {
         self.advance(now);
         let entries = &mut self.held.entries;
-        drop_ended(entries, self.time);
+        drop_ended(entries, &mut self.ends, self.time, 0);
         entries.len()
     }
 
@@ -125,6 +131,7 @@ impl<M: PrefixMap<Entry>> Cache<M> {
     /// aren't dropped yet. Contracts don't see the latter, so the clause has no more than the limit.
     pub fn held(&self) -> usize
         ensures most { result ≤ most_live_entries }
+        ensures least { map.len self.now.live ≤ result }
     {
         self.held.entries.len()
     }
@@ -154,7 +161,7 @@ impl<M: PrefixMap<Entry>> Cache<M> {
         ensures found { IsFound (moved now self.old) (xeid_path x) (take result.0 (xeid_path x)) result.1.now }
     {
         self.advance(now);
-        drop_ended_over(&mut self.held.entries, self.time, x);
+        drop_ended_over(&mut self.held.entries, &mut self.ends, self.time, x);
         let (prefix, entry) = self.held.longest_or_root(x);
         (prefix.len(), entry)
     }
@@ -174,7 +181,7 @@ impl<M: PrefixMap<Entry>> Cache<M> {
         ensures replaced { IsTrue (map.contains_key (moved now self.old).live referral.now.prefix) → IsOk result }
     {
         self.advance(now);
-        save_among(&mut self.held.entries, self.time, referral)
+        save_among(&mut self.held.entries, &mut self.ends, self.time, referral)
     }
 
     /// Forgets the entry of a prefix, and answers whether a live one went. The root's is never forgotten.
@@ -182,7 +189,7 @@ impl<M: PrefixMap<Entry>> Cache<M> {
         ensures forgotten { self.new ≡ forgotten self.old prefix }
         ensures went { result ≡ map.contains_key self.old.live prefix }
     {
-        match self.held.entries.remove(prefix) {
+        match drop_entry(&mut self.held.entries, &mut self.ends, prefix) {
             Some(entry) => self.time < entry.end,
             None => false,
         }

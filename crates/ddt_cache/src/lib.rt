@@ -1,8 +1,11 @@
 //! What a resolver remembers of the referrals that it got (RFC 8111, section 7.3): each record until its end, found by
 //! the longest prefix that covers an identifier.
+//! Tests: ddt_resolver_tests/cache.
 #![tactic(auto)]
 
 mod cache;
+mod dropped;
+mod ends;
 mod entry;
 mod laws;
 mod longest_live;

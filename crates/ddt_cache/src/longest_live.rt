@@ -6,7 +6,10 @@ ghost use Rattle.ddt_path.specs.Path.{xeid_path};
 ghost use Rattle.ddt_trie.specs.PrefixMap.{IsLongest, IsCovered};
 ghost use Rattle.ddt_cache.specs.declared.entry.Entry.{Entry as EntryValue};
 ghost use Rattle.ddt_cache.specs.Live.{live_at};
+ghost use Rattle.ddt_cache.specs.Ends.{AreNoted};
 
+use crate::dropped::drop_entry;
+use crate::ends::Ends;
 use crate::entry::Entry;
 use ddt_path::{Prefix, Xeid};
 use ddt_trie::PrefixMap;
@@ -53,13 +56,20 @@ fn ended_over<M: PrefixMap<Entry>>(entries: &M, time: u64, x: Xeid) -> Option<Pr
 }
 
 /// Removes entries that have ended until the longest that covers the identifier is live.
-pub(crate) fn drop_ended_over<M: PrefixMap<Entry>>(entries: &mut M, time: u64, x: Xeid)
+pub(crate) fn drop_ended_over<M: PrefixMap<Entry>>(
+    entries: &mut M,
+    ends: &mut Ends,
+    time: u64,
+    x: Xeid,
+)
+    requires noted { AreNoted ends.old (M.content entries.old) }
+    ensures noted { AreNoted ends.new (M.content entries.new) }
     ensures live { live_at time (M.content entries.new) ≡ live_at time (M.content entries.old) }
     ensures fewer { map.len (M.content entries.new) ≤ map.len (M.content entries.old) }
     ensures longest { (p : List ℕ) (e : EntryValue) →
         IsLongest (M.content entries.new) (xeid_path x) p e → time < e.end }
 {
     while let Some(prefix) = ended_over(entries, time, x) {
-        entries.remove(prefix);
+        drop_entry(entries, ends, prefix);
     }
 }

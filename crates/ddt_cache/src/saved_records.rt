@@ -1,13 +1,16 @@
 //! Which records are saved, with which end, and the room for them (RFC 8111, sections 6.4 and 7.3).
 
-ghost use Rattle.std.specs.Prelude.{◌≡◌, ◌<◌, ◌≤◌, length, IsTrue, IfOk, OnOk, OnErr, IsOk};
+ghost use Rattle.std.specs.Prelude.{◌≡◌, ◌≤◌, length, IsTrue, IfOk, OnOk, OnErr, IsOk};
 ghost use Rattle.std.specs.FinMap as map;
 ghost use Rattle.ddt_path.specs.Locators.{most_locators};
 ghost use Rattle.ddt_cache.specs.Moment.{last_moment};
 ghost use Rattle.ddt_cache.specs.Entry.{most_positive_minutes, most_minutes as most_minutes_of, entry_of};
 ghost use Rattle.ddt_cache.specs.Live.{live_at};
+ghost use Rattle.ddt_cache.specs.Ends.{AreNoted};
 ghost use Rattle.ddt_cache.specs.Saved.{most_live_entries, savable, has_room, is_added, saving, stored};
 
+use crate::dropped::{drop_ended, is_live};
+use crate::ends::Ends;
 use crate::entry::{Entry, Saved};
 use ddt_path::{Action, HOLE_TTL, NOT_AUTHORITATIVE_TTL, POSITIVE_TTL, Prefix, ReferralRecord};
 use ddt_trie::PrefixMap;
@@ -50,17 +53,18 @@ fn is_savable(referral: &ReferralRecord) -> bool
     }
 }
 
-/// Removes the entries that have ended.
-pub(crate) fn drop_ended<M: PrefixMap<Entry>>(entries: &mut M, time: u64)
-    ensures { M.content entries.new ≡ live_at time (M.content entries.old) }
-{
-    entries.retain(&|entry: &Entry| time < entry.end);
-}
-
-/// Whether there is room for an entry of a prefix. Where 65,536 entries are there, those that have ended are removed
-/// first.
-fn make_room<M: PrefixMap<Entry>>(entries: &mut M, time: u64, prefix: Prefix) -> bool
-    requires { map.len (M.content entries.old) ≤ most_live_entries }
+/// Whether there is room for an entry of a prefix. Where 65,536 entries are there and none of them is a live one of the
+/// prefix, one that has ended is removed first.
+fn make_room<M: PrefixMap<Entry>>(
+    entries: &mut M,
+    ends: &mut Ends,
+    time: u64,
+    prefix: Prefix,
+) -> bool
+    requires few { map.len (M.content entries.old) ≤ most_live_entries }
+    requires noted { AreNoted ends.old (M.content entries.old) }
+    requires moment { time ≤ last_moment }
+    ensures noted { AreNoted ends.new (M.content entries.new) }
     ensures live { live_at time (M.content entries.new) ≡ live_at time (M.content entries.old) }
     ensures room { result ≡ has_room (live_at time (M.content entries.old)) prefix }
     ensures left { IsTrue result → IsTrue (has_room (M.content entries.new) prefix) }
@@ -69,7 +73,10 @@ fn make_room<M: PrefixMap<Entry>>(entries: &mut M, time: u64, prefix: Prefix) ->
     if entries.len() < MOST_LIVE_ENTRIES {
         return true;
     }
-    drop_ended(entries, time);
+    if is_live(entries, time, prefix) {
+        return true;
+    }
+    drop_ended(entries, ends, time, MOST_LIVE_ENTRIES);
     entries.get(prefix).is_some() || entries.len() < MOST_LIVE_ENTRIES
 }
 
@@ -89,11 +96,14 @@ fn entry_at(time: u64, referral: &ReferralRecord) -> Entry
 /// Saves a record among entries of which some may have ended.
 pub(crate) fn save_among<M: PrefixMap<Entry>>(
     entries: &mut M,
+    ends: &mut Ends,
     time: u64,
     referral: &ReferralRecord,
 ) -> Result<Saved, AllocError>
     requires few { map.len (M.content entries.old) ≤ most_live_entries }
+    requires noted { AreNoted ends.old (M.content entries.old) }
     requires moment { time ≤ last_moment }
+    ensures noted { AreNoted ends.new (M.content entries.new) }
     ensures stored { OnOk result (live_at time (M.content entries.new) ≡
         stored time (live_at time (M.content entries.old)) referral.now) }
     ensures answer { IfOk result (λ saved. saved ≡ saving (live_at time (M.content entries.old)) referral.now) }
@@ -109,11 +119,16 @@ pub(crate) fn save_among<M: PrefixMap<Entry>>(
     if !is_savable(referral) {
         return Ok(Saved::NotSaved);
     }
-    if !make_room(entries, time, referral.prefix) {
+    if !make_room(entries, ends, time, referral.prefix) {
         return Ok(Saved::Full);
     }
-    match entries.insert(referral.prefix, entry_at(time, referral)) {
-        Ok(_before) => Ok(Saved::Saved),
+    let entry = entry_at(time, referral);
+    let end = entry.end;
+    match entries.insert(referral.prefix, entry) {
+        Ok(replaced) => {
+            ends.note_instead(referral.prefix, replaced, end);
+            Ok(Saved::Saved)
+        }
         Err(_refused) => Err(AllocError),
     }
 }

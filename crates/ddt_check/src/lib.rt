@@ -3,6 +3,7 @@
 //!
 //! In reading order: `fault`, `accepted`, `ten_rules` (with `frames`, `entries`, `keyed`, `fronts` and `rules` below it),
 //! `assignment` (with `lookup` and `holes` below it), `honest_answer`, `laws`.
+//! Tests: ddt_register_tests/check.
 #![tactic(auto)]
 
 mod accepted;

@@ -1,8 +1,8 @@
 //! The tests of `ddt_words`, `ddt_lines` and `ddt_commands`, over their public calls.
 //!
-//! Command lines that need nothing but files stand in the folder `tests` at the top, and the program itself runs them.
-//! Here stand those that need more: wires in memory whose calls are counted, sockets that can't be bound, a clock that
-//! steps, a writer without room, a file that opens and can't be read.
+//! Command lines are in the folder `tests` at the top, and the program itself runs them. Here are the public calls, with
+//! what no command line shows: wires in memory whose calls are counted, sockets that can't be bound, a clock that steps, a
+//! writer without room, a file that opens and can't be read, refused memory.
 #![tactic(auto)]
 
 #[cfg(test)]

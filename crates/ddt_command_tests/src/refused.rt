@@ -3,9 +3,9 @@
 //!
 //! `.ci/memory` runs each of these tests with each growth refused in turn.
 
-use crate::words::COMMANDS;
+use crate::words::{Reader, process, read_by};
 use ddt_check::{Accepted, check};
-use ddt_commands::{answer_group, answer_hex, read_words};
+use ddt_commands::{answer_group, answer_hex};
 use ddt_ecm::read_request;
 use ddt_examples::bytes_of;
 use ddt_examples::messages::{
@@ -19,7 +19,7 @@ use ddt_path::{Locator, LocatorSet, Name, Outcome, Xeid};
 use ddt_register::read_register;
 use ddt_text::{parse_prefix, parse_xeid};
 use ddt_wire::{read_negative_reply, read_referral};
-use ddt_words::{Words, WordsFault, read_call};
+use ddt_words::{Words, WordsFault};
 use std::alloc::{AllocError, Global};
 use std::process::Abort;
 use std::test::Fail;
@@ -105,41 +105,11 @@ fn a_group_answers_its_whole_text(rt: HostRuntime) -> Result<(), Fail> {
     Ok(())
 }
 
-/// The words of a process, the program's name first.
-fn process(alloc: Global, words: &[&str]) -> Result<Vec<String>, AllocError> {
-    let mut all = Vec::new(alloc);
-    all.push(String::from_str(alloc, "ddt")?)?;
-    for word in words {
-        all.push(String::from_str(alloc, word)?)?;
-    }
-    Ok(all)
-}
-
-/// The same, made once more where memory is refused.
+/// The words of a process, made once more where memory is refused.
 fn made(alloc: Global, words: &[&str]) -> Result<Vec<String>, AllocError> {
     match process(alloc, words) {
         Ok(all) => Ok(all),
         Err(_refused) => process(alloc, words),
-    }
-}
-
-/// Reads words.
-#[derive(Clone, Copy, Debug)]
-enum Reader {
-    /// By the nine commands.
-    Nine,
-    /// By two commands of our own.
-    Two,
-}
-
-fn read_by<'a>(
-    reader: Reader,
-    alloc: Global,
-    words: &'a [String],
-) -> Result<Words<'a>, WordsFault> {
-    match reader {
-        Reader::Nine => read_words(alloc, words),
-        Reader::Two => read_call(alloc, COMMANDS, words),
     }
 }
 
@@ -176,7 +146,9 @@ fn have_values(rt: &impl Abort, call: &Words<'_>, values: &[(&str, &str)]) {
 
 fn have_several(rt: &impl Abort, call: &Words<'_>, several: &[(&str, &[&str])]) {
     for (name, words) in several {
-        assert_eq!(rt; call.all_values(name), Some(*words), "{name}");
+        // An argument without a word has no list.
+        let wanted = if words.is_empty() { None } else { Some(*words) };
+        assert_eq!(rt; call.all_values(name), wanted, "{name}");
     }
 }
 
@@ -246,6 +218,55 @@ const CALLED: &[Wanted] = &[
         settings: &[("me", Some("m")), ("seed", None)],
     },
     Wanted {
+        reader: Reader::Nine,
+        words: &["replay", "r", "t", "u", "--seed", "s", "v"],
+        values: &[("register", "r"), ("script", "t")],
+        several: &[("registers", &["u", "v"])],
+        settings: &[("me", None), ("seed", Some("s"))],
+    },
+    Wanted {
+        reader: Reader::Nine,
+        words: &["replay", "--me=m", "r", "t"],
+        values: &[("register", "r"), ("script", "t")],
+        several: &[("registers", &[])],
+        settings: &[("me", Some("m")), ("seed", None)],
+    },
+    Wanted {
+        reader: Reader::Nine,
+        words: &["assign", "r", "x"],
+        values: &[("register", "r"), ("xeid", "x")],
+        several: &[],
+        settings: &[],
+    },
+    Wanted {
+        reader: Reader::Nine,
+        words: &["compile", "r", "g"],
+        values: &[("register", "r"), ("group", "g")],
+        several: &[],
+        settings: &[],
+    },
+    Wanted {
+        reader: Reader::Nine,
+        words: &["lookup", "r", "x", "--seed", "s", "y", "z"],
+        values: &[("register", "r")],
+        several: &[("xeid", &["x", "y", "z"])],
+        settings: &[("me", None), ("seed", Some("s"))],
+    },
+    Wanted {
+        reader: Reader::Nine,
+        words: &["serve", "c", "a", "9"],
+        values: &[("config", "c"), ("address", "a"), ("turns", "9")],
+        several: &[],
+        settings: &[],
+    },
+    Wanted {
+        reader: Reader::Nine,
+        words: &["show", "00ff"],
+        values: &[("hex", "00ff")],
+        several: &[],
+        settings: &[],
+    },
+    Wanted {
         reader: Reader::Two,
         words: &["lookup", "--seed", "7", "r", "x", "y", "z"],
         values: &[("register", "r")],
@@ -254,8 +275,22 @@ const CALLED: &[Wanted] = &[
     },
     Wanted {
         reader: Reader::Two,
-        words: &["assign", "r", "x"],
-        values: &[("register", "r"), ("xeid", "x")],
+        words: &["lookup", "r", "x", "y", "--seed", "7", "--me=m"],
+        values: &[("register", "r")],
+        several: &[("xeid", &["x", "y"])],
+        settings: &[("seed", Some("7")), ("me", Some("m"))],
+    },
+    Wanted {
+        reader: Reader::Two,
+        words: &["lookup", "r", "--seed=7", "x", "--me", "m", "y"],
+        values: &[("register", "r")],
+        several: &[("xeid", &["x", "y"])],
+        settings: &[("seed", Some("7")), ("me", Some("m"))],
+    },
+    Wanted {
+        reader: Reader::Two,
+        words: &["assign", "a register.csv", "x"],
+        values: &[("register", "a register.csv"), ("xeid", "x"), ("group", "")],
         several: &[("xeid", &["x"])],
         settings: &[],
     },

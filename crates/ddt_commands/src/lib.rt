@@ -3,6 +3,7 @@
 //!
 //! In reading order: `program`, `call`, `commands` (the list), `register` (commands over one), `commands/*`,
 //! `resolver`, `loopback`, `sockets`, `file`, `lines`, `streams`, `usage`, `refusal`, `status`.
+//! Tests: ddt_command_tests/commands.
 #![tactic(auto)]
 
 mod call;

@@ -1,6 +1,7 @@
 //! The compiler: from an accepted register to one configuration for each server group.
 //!
 //! In reading order: `configurations`, `children`, `sites`, `below`, `wanted`, `lists`, `locators`, `laws`.
+//! Tests: ddt_register_tests/compile.
 #![tactic(auto)]
 
 mod below;

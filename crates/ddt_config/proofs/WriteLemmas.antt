@@ -1,5 +1,5 @@
 -- What is written is one table, and is read as what it was written for.
-use Rattle.std.proofs.Common.{◌≡◌, ℕ, suc, ◌+◌, ◌<◌, ◌≤◌, true, List, [], ◌∷◌, ◌++◌, length, take, get_or, map, Some, Ok, String, Global, Ordering, Less, Equal, Greater, string_bytes, refl, sym, ap, ◌∙◌, arith, inl}
+use Rattle.std.proofs.Common.{◌≡◌, ℕ, suc, ◌+◌, ◌<◌, ◌≤◌, true, List, [], ◌∷◌, ◌++◌, length, take, get_or, map, Some, Ok, String, Global, Result, Err, IfOk, Ordering, Less, Equal, Greater, string_bytes, refl, sym, ap, ◌∙◌, arith, inl}
 use Rattle.std.specs.List.{All}
 use Rattle.std.proofs.lemmas.Bool.{false≢true}
 use Rattle.std.proofs.lemmas.List.{take_all, map-append, map_more}
@@ -166,11 +166,17 @@ plain_config o =
       rw (all.1, ls.1) refl,
     )
 
--- the printed table is read back, and has no date that can't be written
-pub read_again : (o : Outline) (text : List ℕ) (ms : Members) → ms ≡ written_config o → (members_depth ms ≤ 80 → parse_document text ≡ Some ms) → config_in (written_config o) ≡ Ok o → config_in_text text ≡ Ok o
-read_again o text ms is back stands =
-    let shallow : members_depth ms ≤ 80 = omega (arith, ap (λ m. members_depth m) is, (plain_config o).0) in
-    ap config_in_document (back shallow ∙ ap Some is) ∙ stands
+-- a table of what is written is shallow, and has no date that can't be written
+pub shallow_table : (o : Outline) (ms : Members) → ms ≡ written_config o → members_depth ms ≤ 5
+shallow_table o ms is = omega (arith, ap (λ m. members_depth m) is, (plain_config o).0)
 
-pub dated : (o : Outline) (ms : Members) → ms ≡ written_config o → members_have_valid_dates ms ≡ true
-dated o ms is = ap (λ m. members_have_valid_dates m) is ∙ (plain_config o).1
+pub dated_table : (o : Outline) (ms : Members) → ms ≡ written_config o → members_have_valid_dates ms ≡ true
+dated_table o ms is = ap (λ m. members_have_valid_dates m) is ∙ (plain_config o).1
+
+pub ok_by : {A E : Type 0} (P Q : A → Type 0) → ((a : A) → P a → Q a) → (r : Result A E) → IfOk r P → IfOk r Q
+ok_by P Q f (Ok a) h = f a h
+ok_by P Q f (Err e) h = tt
+
+-- the printed table is read back
+pub read_again : (o : Outline) (text : List ℕ) (ms : Members) → members_depth ms ≤ 5 → (members_depth ms ≤ 80 → parse_document text ≡ Some ms) → config_in ms ≡ Ok o → config_in_text text ≡ Ok o
+read_again o text ms depth back stands = ap config_in_document (back (omega (arith, depth))) ∙ stands

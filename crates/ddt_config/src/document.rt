@@ -1,6 +1,7 @@
 //! The text of a configuration.
 
-ghost use Rattle.std.specs.Prelude.{◌≡◌, ◌≢◌, ◌⊎◌, false, Ok, Err, IfOk, IfErr, string_bytes};
+ghost use Rattle.std.specs.Prelude.{◌≡◌, ◌≢◌, ◌⊎◌, ◌≤◌, false, true, Ok, Err, IfOk, IfErr, string_bytes};
+ghost use Rattle.toml.specs.Data.{members_depth, members_have_valid_dates};
 ghost use Rattle.toml.specs.Errors.{IsMemory};
 ghost use Rattle.toml.specs.Text.{IsDocumentText};
 ghost use Rattle.toml.specs.View.{table_view};
@@ -32,7 +33,7 @@ pub fn from_toml(alloc: Global, text: &str) -> Result<ServerConfig, ConfigFault>
     ensures refused { IfErr result (λ fault. fault ≢ ConfigFault.Memory → config_in_text text.now ≡ Err fault) }
 {
     match toml::table_from_str(alloc, text) {
-        Ok(table) => read_config(alloc, table),
+        Ok(table) => from_table(alloc, table),
         Err(fault) => Err(toml_fault(&fault)),
     }
 }
@@ -48,8 +49,9 @@ fn toml_fault(fault: &de::Error) -> ConfigFault
     }
 }
 
-/// The configuration of a table, which is dropped before the configuration is made.
-fn read_config(alloc: Global, table: Table) -> Result<ServerConfig, ConfigFault>
+/// The configuration that a table stands for. The table is dropped before the configuration is made. Refused as
+/// `from_toml` refuses a text of this table: as 2 Field, 3 Value, 4 Shape or 5 Memory.
+pub fn from_table(alloc: Global, table: Table) -> Result<ServerConfig, ConfigFault>
     ensures found { IfOk result (λ c. config_in (table_view table) ≡ Ok (outline c)) }
     ensures refused { IfErr result (λ fault. fault ≢ ConfigFault.Memory → config_in (table_view table)
         ≡ Err fault) }
@@ -73,10 +75,21 @@ pub fn to_toml(alloc: Global, config: &ServerConfig) -> Result<String, AllocErro
         (string_bytes text)) }
     ensures read_back { IfOk result (λ text. StandsFor (string_bytes text) config.now) }
 {
-    let table = config.write(alloc)?;
+    let table = to_table(alloc, config)?;
     match toml::table_to_string(alloc, &table) {
         Ok(text) => Ok(text),
         Err(ser::Error::OutOfMemory) => Err(AllocError),
         Err(ser::Error::DateInvalid) => unreachable!(),
     }
+}
+
+/// The table of the configuration, of which `to_toml` gives the text and `from_table` the configuration. It nests at
+/// most 5 deep and holds no date that TOML can't write. Fails only if out of memory.
+pub fn to_table(alloc: Global, config: &ServerConfig) -> Result<Table, AllocError>
+    ensures written { IfOk result (λ t. table_view t ≡ written_config (outline config.now)) }
+    ensures read_back { IfOk result (λ t. config_in (table_view t) ≡ Ok (outline config.now)) }
+    ensures shallow { IfOk result (λ t. members_depth (table_view t) ≤ 5) }
+    ensures dated { IfOk result (λ t. members_have_valid_dates (table_view t) ≡ true) }
+{
+    config.write(alloc)
 }

@@ -2,6 +2,7 @@
 //!
 //! In reading order: `fault`, `members`, `values`, `entry`, `child`, `site_entry`, `authority`, `config`, `neighbours`,
 //! `shape`, `document`, `laws`.
+//! Tests: ddt_register_tests/config.
 #![tactic(auto)]
 
 mod authority;
@@ -20,7 +21,7 @@ mod values;
 pub use authority::{Authority, Content};
 pub use child::Child;
 pub use config::ServerConfig;
-pub use document::{from_toml, to_toml};
+pub use document::{from_table, from_toml, to_table, to_toml};
 pub use fault::{ConfigFault, Key};
 pub use laws::a_table_is_read_as_what_it_stands_for;
 pub use site_entry::SiteEntry;

@@ -16,39 +16,46 @@ use Rattle.ddt_loop.specs.declared.came.Came.{Came}
 use Rattle.ddt_loop.specs.declared.came.Ended.{Ended as End}
 use Rattle.ddt_loop.specs.Acts.{Running}
 use Rattle.ddt_loop.specs.Polls.{polled}
-use Rattle.ddt_loop.specs.Runs.{HasRun, took, ticked, passed}
+use Rattle.ddt_resolver.specs.State.{State}
+use Rattle.ddt_loop.specs.Runs.{BeginsSound, HasRun, took, ticked, passed, renewed}
 use Rattle.ddt_loop.specs.Runs.{begins as run_begins}
 use Rattle.ddt_wires.specs.declared.call.Packet.{Packet}
 use Rattle.ddt_onward.specs.Onward.{onward, to_server}
 use Rattle.ddt_daemon.specs.declared.itr_requests.Kept.{Kept}
 use Rattle.ddt_daemon.specs.Kept.{kept_of, TakesKept, nobody, somebody}
-use Rattle.ddt_daemon.specs.Goes.{Follows, same, waits, lost, ends, FollowsTick}
+use Rattle.ddt_daemon.specs.Goes.{Follows, same, waits, ends, FollowsTick}
 use Rattle.ddt_daemon.specs.Rounds.{Resolving, IsHandled, dropped, taken, IsRound, no_packet, failed, came}
-use Rattle.ddt_daemon.specs.Runs.{HasServed, begins, round, tick, RunsAsAResolver, IsOnward, AreRequests, OnlyRequestsGoOn}
+use Rattle.ddt_daemon.specs.Runs.{HasServed, begins, round, tick, renewal, RunsAsAResolver, IsOnward, AreRequests, IsAny, OnlyRequestsGoOn}
 
 -- ---- the near wires
 
-module _ (me : Locator) (start : Running) where
-  handled_run : (allow : List (List ℕ)) (now : ℕ) (p : Packet) (bytes : List ℕ) (calls tries far : List Call) (w new : Resolving) → HasRun me start calls w.running
+module _ (may_begin : State → Type 0) (me : Locator) (start : Running) where
+  handled_run : (allow : List (List ℕ)) (now : ℕ) (p : Packet) (bytes : List ℕ) (calls tries far : List Call) (w new : Resolving) → HasRun may_begin me start calls w.running
       → now ≤ last_moment → IsHandled allow me now p bytes w tries far new
-      → HasRun me start (calls ++ polled me (Ok (Some p)) bytes ∷ tries) new.running
+      → HasRun may_begin me start (calls ++ polled me (Ok (Some p)) bytes ∷ tries) new.running
   handled_run allow now p bytes calls tries far w new run le (dropped why sort is none nothing stays) =
       rw (none, stays) (passed (polled me (Ok (Some p)) bytes) run tt)
   handled_run allow now p bytes calls tries far w new run le (taken entry takes) =
       took now most_bytes p bytes tries new.running run le takes.taken
 
-  round_run : (allow : List (List ℕ)) (now : ℕ) (calls near far : List Call) (w new : Resolving) → HasRun me start calls w.running → now ≤ last_moment
-      → IsRound allow me now w near far new → HasRun me start (calls ++ near) new.running
+  round_run : (allow : List (List ℕ)) (now : ℕ) (calls near far : List Call) (w new : Resolving) → HasRun may_begin me start calls w.running → now ≤ last_moment
+      → IsRound allow me now w near far new → HasRun may_begin me start (calls ++ near) new.running
   round_run allow now calls near far w new run le (no_packet is none stays) = rw (is, stays) (passed (polled me (Ok None) []) run tt)
   round_run allow now calls near far w new run le (failed fault is none stays) = rw (is, stays) (passed (polled me (Err fault) []) run tt)
   round_run allow now calls near far w new run le (came p bytes tries is handled) = rw is (handled_run allow now p bytes calls tries far w new run le handled)
 
+runs_on : (may_begin : State → Type 0) (me : Locator) (start : Resolving) (calls onward : List Call) (w : Resolving) → HasServed may_begin me start calls onward w
+    → HasRun may_begin me start.running calls w.running
+runs_on may_begin me start calls onward w begins = run_begins
+runs_on may_begin me start calls onward w (round {calls = before} {onward = far_before} {w = v} allow now near far new so_far le is) =
+    round_run may_begin me start.running allow now before near far v w (runs_on may_begin me start before far_before v so_far) le is
+runs_on may_begin me start calls onward w (tick {calls = before} {w = v} now near new so_far le is) =
+    ticked now near new.running (runs_on may_begin me start before onward v so_far) le is.resolves
+runs_on may_begin me start calls onward w (renewal {w = v} new so_far may) =
+    renewed new (runs_on may_begin me start calls onward v so_far) may
+
 pub runs_as : RunsAsAResolver
-runs_as me start calls onward w begins = run_begins
-runs_as me start calls onward w (round {calls = before} {onward = far_before} {w = v} allow now near far new so_far le is) =
-    round_run me start.running allow now before near far v w (runs_as me start before far_before v so_far) le is
-runs_as me start calls onward w (tick {calls = before} {w = v} now near new so_far le is) =
-    ticked now near new.running (runs_as me start before onward v so_far) le is.resolves
+runs_as r me start calls onward w served = runs_on (BeginsSound r me) me start calls onward w served
 
 -- ---- the far wires
 
@@ -102,7 +109,6 @@ followed : (me : Locator) (bytes : List ℕ) (old : List Kept) (c : Came) (far :
     → AreRequests new × All (IsOnward me) far
 followed me bytes old c far new same all = (all, All-nil (IsOnward me))
 followed me bytes old c far new (waits t len q asks) all = (All-push IsKeptRequest old (kept_of t q bytes) all asks, All-nil (IsOnward me))
-followed me bytes old c far new (lost t len) all = (all, All-nil (IsOnward me))
 followed me bytes old c far new (ends server e off onwards left takes tried) all =
     let off_is = took_request e.ticket old left off takes all in
     (off_is.0, tried_onward me server e.end off onwards off_is.1 tried)
@@ -122,16 +128,19 @@ round_onward me allow now w new near far (no_packet is none stays) all = rw (non
 round_onward me allow now w new near far (failed fault is none stays) all = rw (none, stays) (all, All-nil (IsOnward me))
 round_onward me allow now w new near far (came p bytes tries is handled) all = handled_onward me allow now p bytes w new tries far handled all
 
-both : (me : Locator) (start : Resolving) (calls onward : List Call) (w : Resolving) → AreRequests start.kept → HasServed me start calls onward w
+both : (may_begin : State → Type 0) (me : Locator) (start : Resolving) (calls onward : List Call) (w : Resolving) → AreRequests start.kept
+    → HasServed may_begin me start calls onward w
     → AreRequests w.kept × All (IsOnward me) onward
-both me start calls onward w all begins = (all, All-nil (IsOnward me))
-both me start calls onward w all (round {calls = before} {onward = far_before} {w = v} allow now near far new so_far le is) =
-    let first = both me start before far_before v all so_far in
+both may_begin me start calls onward w all begins = (all, All-nil (IsOnward me))
+both may_begin me start calls onward w all (round {calls = before} {onward = far_before} {w = v} allow now near far new so_far le is) =
+    let first = both may_begin me start before far_before v all so_far in
     let more = round_onward me allow now v new near far is first.0 in
     (more.0, All-append (IsOnward me) far_before far first.1 more.1)
-both me start calls onward w all (tick {calls = before} {onward = far_before} {w = v} now near new so_far le is) =
-    let first = both me start before far_before v all so_far in
+both may_begin me start calls onward w all (tick {calls = before} {onward = far_before} {w = v} now near new so_far le is) =
+    let first = both may_begin me start before far_before v all so_far in
     (after_tick is.ended v.kept new.kept is.follows first.0, first.1)
+both may_begin me start calls onward w all (renewal {w = v} new so_far may) =
+    (All-nil IsKeptRequest, (both may_begin me start calls onward v all so_far).1)
 
 pub only_requests : OnlyRequestsGoOn
-only_requests me start calls onward w all served = (both me start calls onward w all served).1
+only_requests me start calls onward w all served = (both IsAny me start calls onward w all served).1

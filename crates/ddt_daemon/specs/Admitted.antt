@@ -7,7 +7,7 @@ use Rattle.ddt_resolver.specs.State.{most_pending}
 use Rattle.ddt_settings.specs.Rlocs.{is_allowed}
 use Rattle.ddt_daemon.specs.declared.itr_requests.Kept.{Kept}
 use Rattle.ddt_daemon.specs.declared.admission.Dropped.{Dropped}
-use Rattle.ddt_daemon.specs.declared.admission.Dropped.TheVariants.{Denied, TooLong, NoRequest, Repeated, Full}
+use Rattle.ddt_daemon.specs.declared.admission.Dropped.TheVariants.{Denied, TooLong, NoRequest, Repeated, Full, Memory}
 use Rattle.ddt_daemon.specs.Kept.{waits_for}
 
 -- no longer request is kept
@@ -28,7 +28,7 @@ pub record IsAdmitted (allow : List (List ℕ)) (kept : List Kept) (from : Locat
 abbrev pub IsAllowed : List (List ℕ) → Locator → List ℕ → Type 0
 IsAllowed allow from bytes = (is_allowed allow from ≡ true) × (length bytes ≤ most_kept_bytes)
 
--- It is dropped, by the first of these reasons.
+-- It is dropped, by the first of these reasons. Memory: it would be asked for, but there is no memory to keep it in.
 abbrev pub IsDropped : List (List ℕ) → List Kept → Locator → List ℕ → Dropped → Type 0
 IsDropped allow kept from bytes Denied = is_allowed allow from ≡ false
 IsDropped allow kept from bytes TooLong = (is_allowed allow from ≡ true) × (most_kept_bytes < length bytes)
@@ -38,3 +38,4 @@ IsDropped allow kept from bytes Repeated =
 IsDropped allow kept from bytes Full =
     IsAllowed allow from bytes × ((q : ItrRequest) × IsItrRequest bytes q × (waits_for kept q ≡ false))
     × (most_pending ≤ length kept)
+IsDropped allow kept from bytes Memory = IsAdmitted allow kept from bytes

@@ -8,7 +8,7 @@ use Rattle.ddt_wires.specs.declared.call.NetFault.{NetFault}
 use Rattle.ddt_resolver.specs.declared.results.Why.{Why}
 use Rattle.ddt_resolver.specs.declared.results.Why.TheVariants.{NoReply, Loop, NotAuthoritative, Exhausted}
 use Rattle.ddt_daemon.specs.declared.admission.Dropped.{Dropped}
-use Rattle.ddt_daemon.specs.declared.admission.Dropped.TheVariants.{Denied, TooLong, NoRequest, Repeated, Full}
+use Rattle.ddt_daemon.specs.declared.admission.Dropped.TheVariants.{Denied, TooLong, NoRequest, Repeated, Full, Memory}
 use Rattle.ddt_daemon.specs.declared.counts.ServerCounts.{ServerCounts}
 use Rattle.ddt_daemon.specs.declared.counts.ResolverCounts.{ResolverCounts}
 use Rattle.ddt_daemon.specs.declared.counted.WireCounts.{WireCounts}
@@ -16,6 +16,29 @@ use Rattle.ddt_daemon.specs.declared.counted.WireCounts.{WireCounts}
 -- A count after so many more. Counts have 64 bits; one that would pass 2^64 - 1 stays there.
 abbrev pub plus : ℕ → ℕ → ℕ
 plus count more = min (count + more) (2 ^ 64 - 1)
+
+-- no call of wires is counted yet
+abbrev pub no_call : WireCounts
+no_call = record { received = 0; unreceived = 0; sent = 0; unsent = 0 }
+
+-- nothing is counted of a resolver yet
+abbrev pub nothing_counted : ResolverCounts
+nothing_counted = record {
+  lookups = 0;
+  denied = 0;
+  too_long = 0;
+  no_request = 0;
+  repeated = 0;
+  full = 0;
+  memory = 0;
+  registered = 0;
+  not_registered = 0;
+  holes = 0;
+  no_reply = 0;
+  looped = 0;
+  not_authoritative = 0;
+  exhausted = 0;
+}
 
 -- a server's counts after what it has served: packets that came, and replies that were sent without a fault
 abbrev pub with_served : ServerCounts → Served → ServerCounts
@@ -28,6 +51,7 @@ with_dropped c TooLong = record c { too_long = plus c.too_long 1 }
 with_dropped c NoRequest = record c { no_request = plus c.no_request 1 }
 with_dropped c Repeated = record c { repeated = plus c.repeated 1 }
 with_dropped c Full = record c { full = plus c.full 1 }
+with_dropped c Memory = record c { memory = plus c.memory 1 }
 
 -- the end of an ITR's lookup
 abbrev pub with_ended : ResolverCounts → Result Outcome Why → ResolverCounts

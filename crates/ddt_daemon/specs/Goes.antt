@@ -15,14 +15,12 @@ use Rattle.ddt_daemon.specs.Counted.{plus, with_ended}
 use Rattle.ddt_daemon.specs.Kept.{kept_of, TakesKept}
 
 -- What becomes of the requests that wait, and what goes on, by what came of a packet of these bytes. `same`: nothing.
--- `waits`: its lookup has started, and the request is kept as it came. `lost`: it isn't, if out of memory.
--- `ends`: a lookup has ended, and the request that waited for it goes on to the server that ended it, where its site is
--- registered.
+-- `waits`: its lookup has started, and the request is kept as it came. `ends`: a lookup has ended, and the request that
+-- waited for it goes on to the server that ended it, where its site is registered.
 pub data Follows (me : Locator) (bytes : List ℕ) (old : List Kept) : Came → List Call → List Kept → Type 0 where
   same : Follows me bytes old Nothing [] old
   waits : (t len : ℕ) (q : ItrRequest) → IsItrRequest bytes q
       → Follows me bytes old (Waits t len) [] (old ++ kept_of t q bytes ∷ [])
-  lost : (t len : ℕ) → Follows me bytes old (Waits t len) [] old
   ends : (server : Locator) (e : End) (taken : Option (List ℕ)) (far : List Call) (new : List Kept)
       → TakesKept e.ticket old new taken → AreTried me (onward server e.end taken) far
       → Follows me bytes old (Ended server e) far new

@@ -1,7 +1,8 @@
 -- The rounds of a daemon: of a server at one of its sockets, and of a resolver between ITRs, servers and Map-Servers.
-use Rattle.std.specs.Prelude.{ℕ, ◌≡◌, ◌⊎◌, List, [], ◌∷◌, ◌++◌, Option, Some, None, Ok, Err, true, false, ◌+◌}
+use Rattle.std.specs.Prelude.{Bool, Result, is_some, ℕ, ◌≡◌, ◌⊎◌, List, [], ◌∷◌, ◌++◌, Option, Some, None, Ok, Err, true, false, ◌+◌}
 use Rattle.ddt_path.specs.declared.locator.Locator.{Locator}
 use Rattle.ddt_wires.specs.declared.call.Call.{Call}
+use Rattle.ddt_wires.specs.declared.call.Call.TheVariants.{Received, Tried}
 use Rattle.ddt_wires.specs.declared.call.NetFault.{NetFault}
 use Rattle.ddt_wires.specs.declared.call.Packet.{Packet}
 use Rattle.ddt_resolver.specs.State.{moved}
@@ -54,6 +55,17 @@ pub data IsHandled (allow : List (List ℕ)) (me : Locator) (now : ℕ) (p : Pac
       → IsHandled allow me now p bytes w near far new
   taken : IsLetIn allow w.kept p bytes → TakesIn me now p bytes w near far new
       → IsHandled allow me now p bytes w near far new
+
+-- whether an answer of `receive` has a packet, or one was lost
+abbrev pub gives_something : Result (Option Packet) NetFault → Bool
+gives_something (Ok packet) = is_some packet
+gives_something (Err fault) = true
+
+-- whether the first of these calls is a poll at which something was there, or was lost
+abbrev pub was_there : List Call → Bool
+was_there [] = false
+was_there (Received at room answer bytes ∷ calls) = gives_something answer
+was_there (Tried at to port bytes answer ∷ calls) = false
 
 -- A round: the near wires are polled once. No packet comes, `receive` fails, or a packet is handled.
 pub data IsRound (allow : List (List ℕ)) (me : Locator) (now : ℕ) (w : Resolving) (near far : List Call)

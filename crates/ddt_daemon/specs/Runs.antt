@@ -8,26 +8,34 @@ use Rattle.ddt_cache.specs.Moment.{last_moment}
 use Rattle.ddt_ecm.specs.UdpHeader.{control_port}
 use Rattle.ddt_resolver.specs.declared.itr_messages.ItrRequest.{ItrRequest}
 use Rattle.ddt_resolver.specs.Front.{IsItrRequest}
-use Rattle.ddt_loop.specs.Runs.{HasRun}
+use Rattle.ddt_resolver.specs.State.{State}
+use Rattle.ddt_loop.specs.Askers.{opening_desk}
+use Rattle.ddt_loop.specs.Acts.{running}
+use Rattle.ddt_loop.specs.Runs.{BeginsSound, HasRun}
 use Rattle.ddt_onward.specs.Onward.{with_d}
 use Rattle.ddt_daemon.specs.declared.itr_requests.Kept.{Kept}
-use Rattle.ddt_daemon.specs.Rounds.{Resolving, IsRound, IsTick}
+use Rattle.ddt_daemon.specs.Rounds.{Resolving, resolving, IsRound, IsTick}
 
 -- What has been done so far, by the calls of the near wires and those of the far wires: rounds, each by the settings in
--- force, and ticks, in any order.
-pub data HasServed (me : Locator) (start : Resolving) : List Call → List Call → Resolving → Type 0 where
-  begins : HasServed me start [] [] start
+-- force, ticks, and renewals, in any order. `renewal`: another resolver, that may begin, goes on, and nothing waits.
+pub data HasServed (may_begin : State → Type 0) (me : Locator) (start : Resolving) :
+    List Call → List Call → Resolving → Type 0 where
+  begins : HasServed may_begin me start [] [] start
   round : {calls onward : List Call} {w : Resolving} (allow : List (List ℕ)) (now : ℕ) (near far : List Call)
-      (new : Resolving) → HasServed me start calls onward w → now ≤ last_moment
-      → IsRound allow me now w near far new → HasServed me start (calls ++ near) (onward ++ far) new
+      (new : Resolving) → HasServed may_begin me start calls onward w → now ≤ last_moment
+      → IsRound allow me now w near far new → HasServed may_begin me start (calls ++ near) (onward ++ far) new
   tick : {calls onward : List Call} {w : Resolving} (now : ℕ) (near : List Call) (new : Resolving)
-      → HasServed me start calls onward w → now ≤ last_moment → IsTick me now w near new
-      → HasServed me start (calls ++ near) onward new
+      → HasServed may_begin me start calls onward w → now ≤ last_moment → IsTick me now w near new
+      → HasServed may_begin me start (calls ++ near) onward new
+  renewal : {calls onward : List Call} {w : Resolving} (new : State) → HasServed may_begin me start calls onward w
+      → may_begin new
+      → HasServed may_begin me start calls onward (resolving (running new (opening_desk [])) [] w.counts)
 
--- by its near wires it is a running resolver, so that what holds of those holds of it
+-- By its near wires it is a running resolver, so that what holds of those holds of it. The resolvers that go on begin
+-- sound for one register.
 abbrev pub RunsAsAResolver : Type 0
-RunsAsAResolver = (me : Locator) (start : Resolving) (calls onward : List Call) (w : Resolving)
-    → HasServed me start calls onward w → HasRun me start.running calls w.running
+RunsAsAResolver = (r : _) (me : Locator) (start : Resolving) (calls onward : List Call) (w : Resolving)
+    → HasServed (BeginsSound r me) me start calls onward w → HasRun (BeginsSound r me) me start.running calls w.running
 
 -- a try of an ITR's request, its bit D set, to a server
 pub record IsOnward (me : Locator) (call : Call) : Type 0 where
@@ -42,7 +50,11 @@ pub record IsOnward (me : Locator) (call : Call) : Type 0 where
 abbrev pub AreRequests : List Kept → Type 0
 AreRequests kept = All (λ k. IsItrRequest k.bytes k.request) kept
 
+-- any resolver may go on in the place of another
+abbrev pub IsAny : State → Type 0
+IsAny s = Unit {0}
+
 -- over the far wires go only requests of ITRs, their bit D set
 abbrev pub OnlyRequestsGoOn : Type 0
 OnlyRequestsGoOn = (me : Locator) (start : Resolving) (calls onward : List Call) (w : Resolving)
-    → AreRequests start.kept → HasServed me start calls onward w → All (IsOnward me) onward
+    → AreRequests start.kept → HasServed IsAny me start calls onward w → All (IsOnward me) onward

@@ -3,7 +3,7 @@
 ghost use Rattle.std.specs.Prelude.{◌≡◌, ◌≤◌, [], ◌∷◌, length, IfOk, IfSome};
 ghost use Rattle.ddt_wires.specs.declared.call.Call.TheVariants.{Tried};
 ghost use Rattle.ddt_wires.specs.Calls.{RecordsCalls, received};
-ghost use Rattle.ddt_daemon.specs.Counted.{with_received, with_sent};
+ghost use Rattle.ddt_daemon.specs.Counted.{no_call, with_received, with_sent};
 
 use crate::counts::one_more;
 use ddt_path::Locator;
@@ -55,7 +55,8 @@ pub struct Counted<W: Wires + Drop> {
 impl<W: Wires + Drop> Counted<W> {
     /// The wires, of whose calls none is counted yet.
     pub fn new(wires: W) -> Counted<W>
-        ensures { result.wires ≡ wires }
+        ensures wires { result.wires ≡ wires }
+        ensures counts { result.counts ≡ no_call }
     {
         Counted {
             wires,

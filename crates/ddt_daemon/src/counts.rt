@@ -38,6 +38,7 @@ pub struct ResolverCounts {
     pub no_request: u64,
     pub repeated: u64,
     pub full: u64,
+    pub memory: u64,
     /// Lookups of ITRs that have ended, by their outcome.
     pub registered: u64,
     pub not_registered: u64,
@@ -67,6 +68,7 @@ impl ResolverCounts {
             Dropped::NoRequest => self.no_request = one_more(self.no_request),
             Dropped::Repeated => self.repeated = one_more(self.repeated),
             Dropped::Full => self.full = one_more(self.full),
+            Dropped::Memory => self.memory = one_more(self.memory),
         }
     }
 

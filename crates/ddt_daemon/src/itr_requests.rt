@@ -1,6 +1,6 @@
 //! The requests of ITRs whose lookups are pending.
 
-ghost use Rattle.std.specs.Prelude.{◌≡◌, ◌≤◌, ◌<◌, ◌++◌, [], ◌∷◌, ◌==◌, true, false, length, position};
+ghost use Rattle.std.specs.Prelude.{◌≡◌, ◌≤◌, ◌<◌, ◌++◌, [], ◌∷◌, ◌==◌, true, false, length, position, OnOk, vec_capacity};
 ghost use Rattle.ddt_resolver.specs.State.{most_pending};
 ghost use Rattle.ddt_daemon.specs.Kept.{TakesKept, is_same_request as is_same_request_of, waits_for};
 
@@ -59,15 +59,21 @@ impl Waiting {
             .any(|kept| is_same_request(&kept.request, request))
     }
 
-    /// One more waits. If out of memory, all stays as it was, and it is false.
-    pub fn add(&mut self, kept: Kept) -> bool
-        ensures added { result ≡ true → self.new.kept.items ≡ self.old.kept.items ++ kept ∷ [] }
-        ensures refused { result ≡ false → self.new.kept.items ≡ self.old.kept.items }
+    /// Makes room for one more. Fails only if out of memory.
+    pub fn reserve(&mut self) -> Result<(), AllocError>
+        ensures room { OnOk result (length self.new.kept.items < vec_capacity self.new.kept) }
+        ensures same { self.new.kept.items ≡ self.old.kept.items }
     {
-        match self.kept.push(kept) {
-            Ok(()) => true,
-            Err(_refused) => false,
-        }
+        self.kept.reserve(1)
+    }
+
+    /// One more waits. It allocates nothing: there is room.
+    pub fn add(&mut self, kept: Kept)
+        requires { length self.old.kept.items < vec_capacity self.old.kept }
+        ensures { self.new.kept.items ≡ self.old.kept.items ++ kept ∷ [] }
+    {
+        let added: Result<_, _> = self.kept.push(kept);
+        added.unwrap();
     }
 
     /// The bytes of the request that waits for the lookup of a ticket, and waits no longer.

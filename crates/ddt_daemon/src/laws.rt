@@ -2,9 +2,9 @@
 
 ghost use Rattle.ddt_daemon.specs.Runs.{RunsAsAResolver, OnlyRequestsGoOn};
 
-/// By its near wires a Map-Resolver is a running resolver. So what `fair_runs_are_right` of `ddt_loop` says holds of it:
-/// where packets from the servers that were asked tell the truth, each negative Map-Reply that was tried is for what
-/// the register assigns, at most one to each request of an ITR.
+/// By its near wires a Map-Resolver is a running resolver, over any rounds, ticks and renewals. So what
+/// `fair_runs_are_right` of `ddt_loop` says holds of it: where packets from the servers that were asked tell the truth,
+/// each negative Map-Reply that was tried is for what the register assigns, at most one to each request of an ITR.
 ///
 /// By its far wires it tries only requests of ITRs, with the bit D set. What a Map-Server does with one of these,
 /// `an_itr_request_goes_on_as_it_came` of `ddt_onward` says.

@@ -2,6 +2,7 @@
 //! it counts; and the words that it is told.
 //!
 //! In reading order: `control_word`, `counts`, `counted`, `server_round`, `itr_requests`, `admission`, `map_resolver`, `laws`, `statistics`.
+//! Tests: ddt_daemon_tests/resolving and words.
 #![tactic(auto)]
 
 mod admission;

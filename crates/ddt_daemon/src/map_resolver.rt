@@ -1,24 +1,30 @@
 //! The rounds of a Map-Resolver between ITRs, servers and Map-Servers.
 
-ghost use Rattle.std.specs.Prelude.{◌≡◌, ◌++◌, ◌∷◌, ℕ, [], true, false, List, length, IfOk, OnOk, OnErr};
+ghost use Rattle.ddt_resolver.specs.State.{most_pending};
+ghost use Rattle.ddt_resolver.specs.Table.{IsNoneDue};
+ghost use Rattle.std.specs.Prelude.{◌≡◌, ◌⊎◌, ◌<◌, ℕ, [], false, List, length, IfOk, OnOk, OnErr, vec_capacity};
 ghost use Rattle.ddt_wires.specs.declared.call.Call.{Call as ACall};
 ghost use Rattle.ddt_wires.specs.Calls.{RecordsCalls};
 ghost use Rattle.ddt_wires.specs.Turns.{most_bytes};
-ghost use Rattle.ddt_loop.specs.Acts.{running};
+ghost use Rattle.ddt_path.specs.declared.locator.Locator.{Locator as ALocator};
+ghost use Rattle.ddt_wire.specs.declared.message_type.MessageType.TheVariants.{Encapsulated};
+ghost use Rattle.ddt_wire.specs.MessageType.{is_of};
+ghost use Rattle.ddt_loop.specs.Acts.{running, AsksForItr};
+ghost use Rattle.ddt_loop.specs.Coming.{IsCame, came_to_wait};
 ghost use Rattle.ddt_loop.specs.Askers.{opening_desk};
-ghost use Rattle.ddt_resolver.specs.declared.itr_messages.ItrRequest.{ItrRequest as AnItrRequest};
 ghost use Rattle.ddt_resolver.specs.Front.{IsItrRequest};
-ghost use Rattle.ddt_daemon.specs.Kept.{kept_of};
-ghost use Rattle.ddt_daemon.specs.Rounds.{resolving, IsHandled, IsRound, IsTick, AreTicks, TakesIn};
+ghost use Rattle.ddt_daemon.specs.Goes.{Follows, with_came};
+ghost use Rattle.ddt_daemon.specs.Counted.{nothing_counted};
+ghost use Rattle.ddt_daemon.specs.Rounds.{resolving, was_there, IsHandled, IsRound, IsTick, AreTicks, TakesIn};
 
-use crate::admission::admit;
+use crate::admission::{Admitted, admit};
 use crate::counts::{ResolverCounts, one_more};
 use crate::itr_requests::{Kept, Waiting};
 use ddt_cache::{Entry, Moment};
-use ddt_loop::{Came, Ended, RunningResolver};
+use ddt_loop::RunningResolver;
 use ddt_onward::send_on;
-use ddt_path::{Listed, Locator};
-use ddt_resolver::{Front, MOST_PENDING, Resolver};
+use ddt_path::Locator;
+use ddt_resolver::{MOST_PENDING, Resolver};
 use ddt_settings::Settings;
 use ddt_trie::PrefixMap;
 use ddt_wire::MessageType;
@@ -40,6 +46,7 @@ impl<M: PrefixMap<Entry>> MapResolver<M> {
     pub fn new(alloc: Global, resolver: Resolver<M>) -> Result<MapResolver<M>, AllocError>
         ensures running { IfOk result (λ it. it.running ≡ running resolver (opening_desk [])) }
         ensures waiting { IfOk result (λ it. it.waiting.kept.items ≡ []) }
+        ensures counts { IfOk result (λ it. it.counts ≡ nothing_counted) }
     {
         let running = RunningResolver::new(alloc, resolver)?;
         Ok(MapResolver {
@@ -88,12 +95,12 @@ impl<M: PrefixMap<Entry>> MapResolver<M> {
 
     /// Polls the near wires once, and takes what came; whether something was there, or was lost. An Encapsulated Control
     /// Message is asked for only where its source is allowed, it is a request of an ITR of at most 1,500 bytes, the same
-    /// doesn't wait already, and fewer wait than lookups can be pending. Any other datagram is heard where it comes from
-    /// UDP port 4342. What is sent for it over the near wires is what `RunningResolver::take` sends.
+    /// doesn't wait already, fewer wait than lookups can be pending, and there is memory to keep it. Any other datagram is
+    /// heard where it comes from UDP port 4342. What is sent for it over the near wires is what `RunningResolver::take`
+    /// sends.
     ///
     /// The request of an ITR whose lookup ends as registered, by a datagram of a server, goes on to this server over the
-    /// far wires, once, with its bit D set. For another end nothing goes on. If out of memory for its copy when it came,
-    /// nothing goes on either.
+    /// far wires, once, with its bit D set. For another end nothing goes on.
     pub fn receive<W: Wires, V: Wires>(
         &mut self,
         near: &mut W,
@@ -105,7 +112,7 @@ impl<M: PrefixMap<Entry>> MapResolver<M> {
     ) -> bool
         requires { length buffer.old ≡ most_bytes }
         ensures round { (calls onward : List ACall) × RecordsCalls (W.calls near.old) calls (W.calls near.new)
-            × RecordsCalls (V.calls far.old) onward (V.calls far.new)
+            × RecordsCalls (V.calls far.old) onward (V.calls far.new) × (result ≡ was_there calls)
             × IsRound settings.now.allow me now (resolving self.old.running self.old.waiting.kept.items self.old.counts)
             calls onward (resolving self.new.running self.new.waiting.kept.items self.new.counts) }
         ensures room { length buffer.new ≡ most_bytes }
@@ -140,17 +147,50 @@ impl<M: PrefixMap<Entry>> MapResolver<M> {
             calls onward (resolving self.new.running self.new.waiting.kept.items self.new.counts) }
     {
         if MessageType::Encapsulated.is_of(bytes) {
-            match admit(settings, &self.waiting, packet.from, bytes) {
-                Ok(()) => self.take(near, far, me, now, packet, bytes),
+            match admit(self.alloc, settings, &mut self.waiting, packet.from, bytes) {
+                Ok(admitted) => {
+                    let _ticket = self.ask(near, me, now, admitted);
+                }
                 Err(why) => self.counts.drop_one(why),
             }
         } else {
-            self.take(near, far, me, now, packet, bytes);
+            self.hear(near, far, me, now, packet, bytes);
         }
     }
 
-    /// Takes a packet of these bytes.
-    fn take<W: Wires, V: Wires>(
+    /// Asks for a request. It is kept under the ticket of the lookup that starts for it, if one does.
+    fn ask<W: Wires>(
+        &mut self,
+        near: &mut W,
+        me: Locator,
+        now: Moment,
+        admitted: Admitted,
+    ) -> Option<u64>
+        requires request { IsItrRequest admitted.bytes admitted.request }
+        requires room { length self.old.waiting.kept.items < vec_capacity self.old.waiting.kept }
+        ensures asks { (calls : List ACall) × RecordsCalls (W.calls near.old) calls (W.calls near.new)
+            × AsksForItr me now admitted.request self.old.running calls self.new.running }
+        ensures comes { (from : ALocator) → IsCame now from admitted.bytes self.old.running self.new.running
+            (came_to_wait result (length admitted.bytes)) }
+        ensures follows { Follows me admitted.bytes self.old.waiting.kept.items
+            (came_to_wait result (length admitted.bytes)) [] self.new.waiting.kept.items }
+        ensures counts { self.new.counts ≡ with_came self.old.counts (came_to_wait result (length admitted.bytes)) }
+    {
+        let Admitted { request, bytes } = admitted;
+        let ticket = self.running.ask(near, me, now, request);
+        if let Some(ticket) = ticket {
+            self.counts.lookups = one_more(self.counts.lookups);
+            self.waiting.add(Kept {
+                ticket,
+                request,
+                bytes,
+            });
+        }
+        ticket
+    }
+
+    /// Hears a packet of these bytes, which are no Encapsulated Control Message.
+    fn hear<W: Wires, V: Wires>(
         &mut self,
         near: &mut W,
         far: &mut V,
@@ -159,24 +199,18 @@ impl<M: PrefixMap<Entry>> MapResolver<M> {
         packet: Packet,
         bytes: &[u8],
     )
+        requires { is_of Encapsulated bytes.now ≡ false }
         ensures { (calls onward : List ACall) × RecordsCalls (W.calls near.old) calls (W.calls near.new)
             × RecordsCalls (V.calls far.old) onward (V.calls far.new)
             × TakesIn me now packet bytes.now
             (resolving self.old.running self.old.waiting.kept.items self.old.counts)
             calls onward (resolving self.new.running self.new.waiting.kept.items self.new.counts) }
     {
-        let came = self.running.take(near, me, now, packet, bytes);
-        match came {
-            Came::Nothing => {}
-            Came::Waits { ticket, .. } => {
-                self.counts.lookups = one_more(self.counts.lookups);
-                keep(self.alloc, &mut self.waiting, ticket, bytes);
-            }
-            Came::Ended { by, ended } => {
-                self.counts.end_one(&ended.end);
-                let request = self.waiting.take(ended.ticket);
-                let _sent = send_on(far, me, by, &ended.end, request);
-            }
+        let ended = self.running.hear(near, me, now, packet, bytes);
+        if let Some(ended) = ended {
+            self.counts.end_one(&ended.end);
+            let request = self.waiting.take(ended.ticket);
+            let _sent = send_on(far, me, packet.from, &ended.end, request);
         }
     }
 
@@ -197,40 +231,24 @@ impl<M: PrefixMap<Entry>> MapResolver<M> {
     pub fn tick_due<W: Wires>(&mut self, near: &mut W, me: Locator, now: Moment)
         ensures { (count : ℕ) × (calls : List ACall) × RecordsCalls (W.calls near.old) calls (W.calls near.new)
             × AreTicks me now (resolving self.old.running self.old.waiting.kept.items self.old.counts) count calls
-            (resolving self.new.running self.new.waiting.kept.items self.new.counts) }
+            (resolving self.new.running self.new.waiting.kept.items self.new.counts)
+            × ((count ≡ most_pending) ⊎ IsNoneDue self.new.running.state.pending now) }
     {
         for _tick in 0..MOST_PENDING {
             if !self.is_due(now) {
-                break;
+                return;
             }
             self.tick(near, me, now);
         }
     }
 
     /// Whether the deadline of a lookup has come.
-    fn is_due(&self, now: Moment) -> bool {
+    fn is_due(&self, now: Moment) -> bool
+        ensures { result ≡ false → IsNoneDue self.now.running.state.pending now }
+    {
         match self.running.resolver().next_deadline() {
             Some(deadline) => deadline <= now.millis(),
             None => false,
         }
     }
-}
-
-/// Keeps the bytes of a request whose lookup has started; it isn't kept if out of memory.
-fn keep(alloc: Global, waiting: &mut Waiting, ticket: u64, bytes: &[u8]) -> bool
-    ensures kept { result ≡ true → (q : AnItrRequest) × IsItrRequest bytes.now q
-        × (waiting.new.kept.items ≡ waiting.old.kept.items ++ kept_of ticket q bytes.now ∷ []) }
-    ensures lost { result ≡ false → waiting.new.kept.items ≡ waiting.old.kept.items }
-{
-    let Some(request) = Front::itr_request(bytes) else {
-        return false;
-    };
-    let Ok(bytes) = Vec::from_slice(alloc, bytes) else {
-        return false;
-    };
-    waiting.add(Kept {
-        ticket,
-        request,
-        bytes: Listed::of(bytes),
-    })
 }

@@ -1,6 +1,6 @@
 //! The round of a server at one of its sockets.
 
-ghost use Rattle.std.specs.Prelude.{◌≡◌, ◌≤◌, ℕ, List, length};
+ghost use Rattle.std.specs.Prelude.{◌≡◌, ◌⊎◌, ◌+◌, ◌≤◌, ℕ, List, length};
 ghost use Rattle.ddt_wires.specs.declared.call.Call.{Call as ACall};
 ghost use Rattle.ddt_wires.specs.Calls.{RecordsCalls};
 ghost use Rattle.ddt_wires.specs.Turns.{ServesTurns, most_bytes};
@@ -21,7 +21,9 @@ pub fn serve_ready<W: Wires, M: PrefixMap<u32>>(
     outbox: &mut Outbox,
 ) -> Served
     requires { length buffer.old ≡ most_bytes }
-    ensures serves { (turns : ℕ) × (turns ≤ most) × (calls : List ACall)
+    ensures serves { (turns : ℕ)
+        × (((turns ≡ most) × (result.received ≡ turns)) ⊎ ((turns ≤ most) × (turns ≡ result.received + 1)))
+        × (calls : List ACall)
         × RecordsCalls (W.calls wires.old) calls (W.calls wires.new)
         × ServesTurns server.now at turns calls result }
     ensures room { length buffer.new ≡ most_bytes }

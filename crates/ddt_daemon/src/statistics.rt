@@ -29,6 +29,14 @@ pub struct ServerStatistics {
     pub times: Times,
     pub counts: ServerCounts,
     pub wires: WireCounts,
+    /// Addresses at which it serves.
+    pub sockets: u64,
+    /// The authorities of its configuration.
+    pub authorities: u64,
+    /// The children of all its authorities.
+    pub children: u64,
+    /// The sites of all its authorities.
+    pub sites: u64,
     /// Configurations that were refused at a reload.
     pub refused: u64,
     /// Lines of the log that were lost.
@@ -44,6 +52,10 @@ impl fmt::Display for ServerStatistics {
         write!(f, "num.forwarded={forwarded}\n")?;
         write!(f, "num.unreceived={}\n", self.wires.unreceived)?;
         write!(f, "num.unsent={}\n", self.wires.unsent)?;
+        write!(f, "now.sockets={}\n", self.sockets)?;
+        write!(f, "now.authorities={}\n", self.authorities)?;
+        write!(f, "now.children={}\n", self.children)?;
+        write!(f, "now.sites={}\n", self.sites)?;
         write!(f, "num.reload.refused={}\n", self.refused)?;
         write!(f, "num.log.lost={}\n", self.unlogged)
     }
@@ -56,6 +68,8 @@ pub struct ResolverStatistics {
     pub counts: ResolverCounts,
     pub near: WireCounts,
     pub far: WireCounts,
+    /// Addresses at which it listens.
+    pub sockets: u64,
     /// Lookups that are pending.
     pub pending: u64,
     /// Requests of ITRs that wait.
@@ -87,6 +101,7 @@ impl fmt::Display for ResolverStatistics {
             self.near.unsent.saturating_add(self.far.unsent)
         )?;
         write!(f, "{}", self.counts)?;
+        write!(f, "now.sockets={}\n", self.sockets)?;
         write!(f, "now.pending={}\n", self.pending)?;
         write!(f, "now.waiting={}\n", self.waiting)?;
         write!(f, "now.cached={}\n", self.remembered)?;
@@ -104,6 +119,7 @@ impl fmt::Display for ResolverCounts {
         write!(f, "num.dropped.norequest={}\n", self.no_request)?;
         write!(f, "num.dropped.repeated={}\n", self.repeated)?;
         write!(f, "num.dropped.full={}\n", self.full)?;
+        write!(f, "num.dropped.memory={}\n", self.memory)?;
         write!(f, "num.ended.registered={}\n", self.registered)?;
         write!(f, "num.ended.notregistered={}\n", self.not_registered)?;
         write!(f, "num.ended.hole={}\n", self.holes)?;

@@ -1,9 +1,11 @@
 //! The tests of `ddt_settings` and `ddt_daemon`: texts of settings (`settings`), what a Map-Resolver does with messages
-//! (`resolving`), and control words (`words`).
+//! and at its ticks (`resolving`), the round of a server (`serving`), and control words (`words`).
 #![tactic(auto)]
 
 #[cfg(test)]
 mod resolving;
+#[cfg(test)]
+mod serving;
 #[cfg(test)]
 mod settings;
 #[cfg(test)]

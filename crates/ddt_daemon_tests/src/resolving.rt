@@ -1,4 +1,4 @@
-//! What a Map-Resolver does with messages: for whom it asks, and what goes on to whom.
+//! What a Map-Resolver does with messages and at its ticks: for whom it asks, and what goes on to whom.
 
 use ddt_cache::{Entry, Moment};
 use ddt_daemon::MapResolver;
@@ -26,6 +26,10 @@ const ITR_PORT: u16 = 50000;
 /// An MS-ACK for 10.2.0.0/16, nonce 1.
 const ACKNOWLEDGED: &str =
     "60000001 0000000000000001 000005a0 01 10 5000 0000 0001 0a020000 01 64 ff 00 0001 0001 7f000101";
+
+/// The worked request of the ITR, with another nonce.
+const ANOTHER_REQUEST: &str =
+    "80000000 45 00 003c 0000 0000 40 11 f172 7f00003c 0a020001 c350 10f6 0028 0000 10000001 1122334455667789 0001 0a050001 0001 7f00003c 00 20 0001 0a020001";
 
 const SETTINGS: &str =
     "roots = [\"127.0.0.1\"]\nlisten = [\"127.0.0.53\"]\nallow = [\"127.0.0.60/32\"]";
@@ -68,9 +72,7 @@ impl World {
             bytes: Listed::of(bytes_of(alloc, message)?),
         })?;
         let mut buffer = [0; MOST_BYTES];
-        let Some(now) = Moment::at(10) else {
-            return Err("no moment".into());
-        };
+        let now = Moment::at(10).ok_or("no moment")?;
         let _came = self.resolver.receive(
             &mut self.near,
             &mut self.far,
@@ -80,6 +82,12 @@ impl World {
             &mut buffer,
         );
         Ok(())
+    }
+
+    /// The moment at which a lookup is due.
+    fn due(&self) -> Result<Moment, Fail> {
+        let deadline = self.resolver.resolver().next_deadline().ok_or("no lookup")?;
+        Ok(Moment::at(deadline).ok_or("no moment")?)
     }
 }
 
@@ -166,5 +174,43 @@ fn a_repeat_waits_once(rt: HostRuntime) -> Result<(), Fail> {
     assert_eq!(rt; world.resolver.waiting(), 1);
     assert_eq!(rt; tries(world.near.told()), 1);
     assert_eq!(rt; world.resolver.counts().repeated, 1);
+    Ok(())
+}
+
+#[test]
+fn each_lookup_that_is_due_is_tried_again(rt: HostRuntime) -> Result<(), Fail> {
+    let alloc = rt.alloc();
+    let mut world = new_world(alloc)?;
+    world.take(alloc, ITR, ITR_PORT, ITR_REQUEST)?;
+    world.take(alloc, ITR, ITR_PORT, ANOTHER_REQUEST)?;
+    let early = Moment::at(11).ok_or("no moment")?;
+    world.resolver.tick_due(&mut world.near, ME, early);
+    assert_eq!(rt; tries(world.near.told()), 2);
+    let due = world.due()?;
+    world.resolver.tick(&mut world.near, ME, due);
+    assert_eq!(rt; tries(world.near.told()), 3);
+    world.resolver.tick_due(&mut world.near, ME, due);
+    assert_eq!(rt; tries(world.near.told()), 4);
+    world.resolver.tick_due(&mut world.near, ME, due);
+    assert_eq!(rt; tries(world.near.told()), 4);
+    Ok(())
+}
+
+#[test]
+fn lookups_without_a_reply_give_up(rt: HostRuntime) -> Result<(), Fail> {
+    let alloc = rt.alloc();
+    let mut world = new_world(alloc)?;
+    world.take(alloc, ITR, ITR_PORT, ITR_REQUEST)?;
+    world.take(alloc, ITR, ITR_PORT, ANOTHER_REQUEST)?;
+    for _round in 0..100_u32 {
+        if world.resolver.waiting() > 0 {
+            let due = world.due()?;
+            world.resolver.tick_due(&mut world.near, ME, due);
+        }
+    }
+    assert_eq!(rt; world.resolver.waiting(), 0);
+    assert_eq!(rt; world.resolver.resolver().pending(), 0);
+    assert_eq!(rt; world.resolver.counts().no_reply, 2);
+    assert_eq!(rt; tries(world.far.told()), 0);
     Ok(())
 }

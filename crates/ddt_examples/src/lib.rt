@@ -2,6 +2,7 @@
 //!
 //! `registers` and `rows` are CSV, `configurations` are TOML as `ddt compile` prints it, `messages` are hexadecimal,
 //! field by field, and `replays` are scripts with their lines. `Dice` draw what tests try at random.
+//! Tests: ddt_format_tests/prefixes/examples.
 #![tactic(auto)]
 
 ghost use Rattle.std.specs.Prelude.{◌≡◌, ◌++◌, [], ◌∷◌, take, Ok, IfOk, OnOk};

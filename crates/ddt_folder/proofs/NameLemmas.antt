@@ -21,17 +21,27 @@ both_plain : (s t : List ℕ) → list_all is_plain_byte s ≡ true → list_all
     → list_all is_plain_byte (s ++ t) ≡ true
 both_plain s t h k = list_all-append is_plain_byte s t ∙ and_from (list_all is_plain_byte s) (list_all is_plain_byte t) h k
 
-pub plain_config : (name : List ℕ) → is_name name ≡ true → IsPlain (name ++ codes ".toml")
-plain_config name h =
+plain_name : (name : List ℕ) → is_name name ≡ true → list_all is_plain_byte name ≡ true
+plain_name name h =
     let bytes = (and_parts (nat_le 1 (length name) && nat_le (length name) 63) (list_all is_name_byte name) h).1 in
-    record {
-      bytes = both_plain name (codes ".toml")
-          (all_of is_plain_byte name (λ b k. plain_byte b (holds_at is_name_byte name b bytes k))) refl;
-      long = omega (arith, length-append name (codes ".toml"));
-    }
+    all_of is_plain_byte name (λ b k. plain_byte b (holds_at is_name_byte name b bytes k))
 
-pub plain_beside : (text : List ℕ) → IsPlain text → IsPlain (text ++ codes ".new")
-plain_beside text h = record {
-  bytes = both_plain text (codes ".new") h.bytes refl;
-  long = omega (arith, h.long, length-append text (codes ".new"));
+pub plain_config : (name : List ℕ) → is_name name ≡ true → IsPlain (name ++ codes ".toml")
+plain_config name h = record {
+  bytes = both_plain name (codes ".toml") (plain_name name h) refl;
+  long = omega (arith, length-append name (codes ".toml"));
+}
+
+pub plain_beside : (text mark : List ℕ) → IsPlain text → is_name mark ≡ true
+    → IsPlain (text ++ codes "." ++ mark ++ codes ".new")
+plain_beside text mark h m = record {
+  bytes = both_plain (text ++ codes "." ++ mark) (codes ".new")
+      (both_plain (text ++ codes ".") mark (both_plain text (codes ".") h.bytes refl) (plain_name mark m)) refl;
+  long = omega (
+    arith,
+    h.long,
+    length-append (text ++ codes "." ++ mark) (codes ".new"),
+    length-append (text ++ codes ".") mark,
+    length-append text (codes "."),
+  );
 }

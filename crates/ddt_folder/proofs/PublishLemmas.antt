@@ -1,9 +1,14 @@
 -- What a folder has once its plan was carried out.
-use Rattle.std.proofs.Common.{◌≡◌, ◌⊎◌, ℕ, ◌<◌, Bool, true, false, cond, List, [], ◌∷◌, ◌++◌, map, Option, None, Some, refl, sym, ap, ap₂, subst, ◌∙◌, inl, inr}
-use Rattle.std.specs.Prelude.{not, is_some, Contains, IsSomeAnd}
+use Rattle.std.proofs.Common.{◌≡◌, ◌≢◌, ◌⊎◌, ℕ, ◌<◌, Bool, true, false, cond, List, [], ◌∷◌, ◌++◌, map, Option, None, Some, refl, sym, ap, ap₂, subst, ◌∙◌, inl, inr}
+use Rattle.std.specs.Prelude.{not, is_some, Contains, IsSomeAnd, IsTrue, MatchOption}
+use Rattle.std.specs.Option.{option_map}
+use Rattle.std.specs.Ordering.{nat_cmp}
+use Rattle.std.specs.BTreeMap.{BTreeMap, get}
 use Rattle.std.specs.List.{flat_map, list_any}
-use Rattle.std.specs.Cmp.Lexicographic.{nat_list_eq_equiv}
+use Rattle.std.specs.Cmp.Lexicographic.{nat_list_eq_equiv, slice_cmp}
 use Rattle.std.proofs.lemmas.Bool.{and_parts, and_from, not-true, not_from_false, false_from_ne_true, true≢false}
+use Rattle.std.proofs.lemmas.Option.{same_Some}
+use Rattle.std.proofs.lemmas.Slice.Eq.{bytes_eq-Decides}
 use Rattle.std.proofs.lemmas.List.Sorted.{IsPermutation-sym}
 use Rattle.ddt_register.specs.declared.group.Group.{Group}
 use Rattle.ddt_register.specs.declared.register.Register.{Register}
@@ -22,14 +27,16 @@ use Rattle.ddt_compile.specs.GroupConfig.{group_config}
 use Rattle.ddt_folder.specs.declared.file_name.FileName.{FileName}
 use Rattle.ddt_folder.specs.declared.file_name.FileName.TheVariants.{Register as OfRegister, Config, Manifest}
 use Rattle.ddt_folder.specs.declared.step.NamedFile.{NamedFile}
+use Rattle.ddt_folder.specs.declared.step.ListedConfig.{ListedConfig}
 use Rattle.ddt_folder.specs.declared.plan.Plan.{Plan}
 use Rattle.ddt_folder.specs.Names.{is_same_file}
 use Rattle.ddt_folder.specs.Contents.{Contents}
 use Rattle.ddt_folder.specs.Steps.{after}
-use Rattle.ddt_folder.specs.Manifest.{manifest_text, IsListedIn}
-use Rattle.ddt_folder.specs.Wanted.{register_file, IsOrderedConfigText, IsConfigFile, AreConfigFiles, AreGroupFiles, last_manifest, IsGone, gone_if, gone_for, AreGoneFiles, steps_for, removals, left_of, manifest_file}
+use Rattle.ddt_folder.specs.Manifest.{digits_of, manifest_text, kept_line, IsListedIn, IsListedAs}
+use Rattle.ddt_folder.specs.Wanted.{register_file, IsOrderedConfigText, IsConfigFile, AreConfigFiles, AreGroupFiles, last_manifest, IsGone, is_as_listed, listed_of, gone_if, gone_for, altered_if, altered_for, AreGoneFiles, steps_for, removals, left_of, manifest_file}
 use Rattle.ddt_folder.specs.Plans.{IsPlan}
-use Rattle.ddt_folder.specs.Laws.{IsPublished, PlansPublish}
+use Rattle.ddt_folder.specs.Laws.{IsAltered, IsAsListed, IsRemovable, IsPublished, PlansPublish}
+use Rattle.ddt_folder.proofs.ManifestLemmas.{entry_of, found_at}
 use Rattle.ddt_folder.proofs.AfterLemmas.{Apart, at_end, at_both, after_at, its_own, others_leave, removes_each, removed_none, removed_one, removed_others}
 
 -- ---- lists
@@ -148,48 +155,134 @@ none_there : {A : Type 0} (o : Option A) → is_some o ≡ false → o ≡ None
 none_there None e = refl
 none_there (Some x) e = absurd (true≢false e)
 
-pub record IsOfGone (r : Register) (fs : FileName → Option (List ℕ)) (f : NamedFile) : Type 0 where
+-- a file of a group that is gone, as it was listed
+pub record IsOfGone (r : Register) (fs : FileName → Option (List ℕ)) (last : BTreeMap (List ℕ) (List ℕ)) (f : NamedFile)
+    : Type 0 where
   name : List ℕ
   is : f.name ≡ Config name
-  listed : IsListedIn (last_manifest fs) name
+  listed : IsListedAs (last_manifest fs) name (digits_of f.bytes)
+  found : get (slice_cmp nat_cmp) last name ≡ Some (digits_of f.bytes)
   missing : group_named r name ≡ None
   there : fs f.name ≡ Some f.bytes
 
-gone_case : (b : Bool) (name : List ℕ) (found : Option (List ℕ)) (f : NamedFile) → IsIn f (gone_if b name found)
-    → (b ≡ false) × (f.name ≡ Config name) × (found ≡ Some f.bytes)
-gone_case true name found f k = absurd k
-gone_case false name None f k = absurd k
-gone_case false name (Some bytes) f (inl e) =
-    (refl, ap (λ (g : NamedFile). g.name) e, ap (λ (g : NamedFile). Some g.bytes) (sym e))
-gone_case false name (Some bytes) f (inr none) = absurd none
+-- and what was listed of one that somebody altered
+pub record IsOfAltered (r : Register) (fs : FileName → Option (List ℕ)) (last : BTreeMap (List ℕ) (List ℕ))
+    (c : ListedConfig) : Type 0 where
+  listed : IsListedAs (last_manifest fs) c.name c.digits
+  found : get (slice_cmp nat_cmp) last c.name ≡ Some c.digits
+  missing : group_named r c.name ≡ None
+  bytes : List ℕ
+  there : fs (Config c.name) ≡ Some bytes
+  differ : digits_of bytes ≢ c.digits
 
-gone_there : (b : Bool) (name bytes : List ℕ) (found : Option (List ℕ)) → b ≡ false → found ≡ Some bytes
-    → IsIn (record { name = Config name; bytes = bytes }) (gone_if b name found)
-gone_there true name bytes found e h = absurd (true≢false e)
-gone_there false name bytes None e h = absurd cc
-gone_there false name bytes (Some other) e h =
-    inl (ap (λ (x : List ℕ). let f : NamedFile = record { name = Config name; bytes = x } in f)
-    (let same : bytes ≡ other = cc in same))
+gone_case : (b : Bool) (listed : ListedConfig) (found : Option (List ℕ)) (f : NamedFile) → IsIn f (gone_if b listed found)
+    → (b ≡ false) × (f.name ≡ Config listed.name) × (found ≡ Some f.bytes) × (digits_of f.bytes ≡ listed.digits)
+gone_case true listed found f k = absurd k
+gone_case false listed None f k = absurd k
+gone_case false listed (Some bytes) f k = go (is_as_listed listed bytes) refl k
+  where
+    file : NamedFile
+    file = record { name = Config listed.name; bytes = bytes }
 
-module _ (r : Register) (fs : FileName → Option (List ℕ)) (gone : List NamedFile) (are : AreGoneFiles r fs gone) where
-  of_gone : (f : NamedFile) → IsIn f gone → IsOfGone r fs f
+    go : (b : Bool) → is_as_listed listed bytes ≡ b → IsIn f (cond b (file ∷ []) [])
+        → (false ≡ false) × (f.name ≡ Config listed.name) × (Some bytes ≡ Some f.bytes)
+        × (digits_of f.bytes ≡ listed.digits)
+    go true t (inl e) = (
+      refl,
+      ap (λ (g : NamedFile). g.name) e,
+      ap (λ (g : NamedFile). Some g.bytes) (sym e),
+      ap (λ (g : NamedFile). digits_of g.bytes) e ∙ (bytes_eq-Decides (digits_of bytes) listed.digits).0 t,
+    )
+    go true t (inr none) = absurd none
+    go false t none = absurd none
+
+altered_case : (b : Bool) (listed : ListedConfig) (found : Option (List ℕ)) (c : ListedConfig)
+    → IsIn c (altered_if b listed found)
+    → (b ≡ false) × (c ≡ listed) × ((bytes : List ℕ) × (found ≡ Some bytes) × (digits_of bytes ≢ listed.digits))
+altered_case true listed found c k = absurd k
+altered_case false listed None c k = absurd k
+altered_case false listed (Some bytes) c k = go (is_as_listed listed bytes) refl k
+  where
+    go : (b : Bool) → is_as_listed listed bytes ≡ b → IsIn c (cond b [] (listed ∷ []))
+        → (false ≡ false) × (c ≡ listed)
+        × ((other : List ℕ) × (Some bytes ≡ Some other) × (digits_of other ≢ listed.digits))
+    go true t none = absurd none
+    go false t (inl e) = (
+      refl,
+      e,
+      (
+        bytes,
+        refl,
+        λ same. true≢false (sym ((bytes_eq-Decides (digits_of bytes) listed.digits).1 same) ∙ t),
+      ),
+    )
+    go false t (inr none) = absurd none
+
+gone_there : (b : Bool) (listed : ListedConfig) (bytes : List ℕ) (found : Option (List ℕ)) → b ≡ false
+    → found ≡ Some bytes → digits_of bytes ≡ listed.digits
+    → IsIn (record { name = Config listed.name; bytes = bytes }) (gone_if b listed found)
+gone_there true listed bytes found e h same = absurd (true≢false e)
+gone_there false listed bytes found e h same =
+    let file : NamedFile = record { name = Config listed.name; bytes = bytes } in
+    subst (λ (o : Option (List ℕ)). IsIn file (gone_if false listed o)) (sym h)
+    (subst (λ (b : Bool). IsIn file (cond b (file ∷ []) []))
+    (sym ((bytes_eq-Decides (digits_of bytes) listed.digits).1 same)) (inl refl))
+
+module _ (r : Register) (fs : FileName → Option (List ℕ)) (gone : List NamedFile) (altered : List ListedConfig)
+    (are : AreGoneFiles r fs gone altered) where
+  abbrev IsFound : List ℕ → Option (List ℕ) → Type 0
+  IsFound name found =
+      MatchOption found (¬ (IsListedIn (last_manifest fs) name)) (IsListedAs (last_manifest fs) name)
+
+  -- what is looked up is listed so
+  listed_as : (name digits : List ℕ) → get (slice_cmp nat_cmp) are.last name ≡ Some digits
+      → IsListedAs (last_manifest fs) name digits
+  listed_as name digits e = subst (IsFound name) e (are.listed name)
+
+  of_gone : (f : NamedFile) → IsIn f gone → IsOfGone r fs are.last f
   of_gone f k =
-      let p = in_flat (gone_for r fs) are.names f (subst (IsIn f) are.are k) in
-      let q = gone_case (is_some (group_named r p.0)) p.0 (fs (Config p.0)) f p.2 in record {
-        name = p.0;
+      let p = in_flat (gone_for r fs) are.last.entries f (subst (IsIn f) are.are k) in
+      let name = p.0.0 in
+      let q = gone_case (is_some (group_named r name)) (listed_of p.0) (fs (Config name)) f p.2 in
+      let found = found_at are.last are.in_order p.0 p.1 ∙ ap (λ (x : List ℕ). Some x) (sym q.3) in record {
+        name = name;
         is = q.1;
-        listed = (are.listed p.0).0 (contained are.names p.0 p.1);
-        missing = none_there (group_named r p.0) q.0;
+        listed = listed_as name (digits_of f.bytes) found;
+        found = found;
+        missing = none_there (group_named r name) q.0;
         there = ap fs q.1 ∙ q.2;
       }
 
-  in_gone : (name bytes : List ℕ) → IsListedIn (last_manifest fs) name → group_named r name ≡ None
-      → fs (Config name) ≡ Some bytes → IsIn (record { name = Config name; bytes = bytes }) gone
-  in_gone name bytes listed missing there =
-      subst (IsIn (record { name = Config name; bytes = bytes })) (sym are.are)
-      (flat_in (gone_for r fs) are.names name (record { name = Config name; bytes = bytes })
-      (in_contained are.names name ((are.listed name).1 listed))
-      (gone_there (is_some (group_named r name)) name bytes (fs (Config name)) (ap is_some missing) there))
+  of_altered : (c : ListedConfig) → IsIn c altered → IsOfAltered r fs are.last c
+  of_altered c k =
+      let p = in_flat (altered_for r fs) are.last.entries c (subst (IsIn c) are.are_altered k) in
+      let name = p.0.0 in
+      let q = altered_case (is_some (group_named r name)) (listed_of p.0) (fs (Config name)) c p.2 in
+      let found = found_at are.last are.in_order p.0 p.1 in
+      subst (IsOfAltered r fs are.last) (sym q.1) (record {
+        listed = listed_as name p.0.1 found;
+        found = found;
+        missing = none_there (group_named r name) q.0;
+        bytes = q.2.0;
+        there = q.2.1;
+        differ = q.2.2;
+      })
+
+  in_gone : (name bytes : List ℕ) → IsListedIn (last_manifest fs) name
+      → ((digits : List ℕ) → IsListedAs (last_manifest fs) name digits → digits_of bytes ≡ digits)
+      → group_named r name ≡ None → fs (Config name) ≡ Some bytes
+      → IsIn (record { name = Config name; bytes = bytes }) gone
+  in_gone name bytes listed alike missing there = go (get (slice_cmp nat_cmp) are.last name) refl
+    where
+      go : (found : Option (List ℕ)) → get (slice_cmp nat_cmp) are.last name ≡ found
+          → IsIn (record { name = Config name; bytes = bytes }) gone
+      go None e = absurd (subst (IsFound name) e (are.listed name) listed)
+      go (Some digits) e =
+          subst (IsIn (record { name = Config name; bytes = bytes })) (sym are.are)
+          (flat_in (gone_for r fs) are.last.entries (name, digits) (record { name = Config name; bytes = bytes })
+          (entry_of are.last name digits e)
+          (gone_there (is_some (group_named r name)) (listed_of (name, digits)) bytes (fs (Config name))
+          (ap is_some missing) there (alike digits (listed_as name digits e))))
 
 -- ---- the whole
 
@@ -203,20 +296,20 @@ module _ (r : Register) (register : List ℕ) (removes : Bool) (s : Contents) (p
 
   -- the name after each part of the plan
   at_all : (n : FileName) → (after plan.steps s).files n
-      ≡ at_end n (steps_for s.files (manifest_file on_lines ∷ []))
+      ≡ at_end n (steps_for s.files (manifest_file on_lines p.altered ∷ []))
       (at_end n (removals removes p.gone) (at_end n (steps_for s.files wanted) (s.files n)))
   at_all n =
       let w = steps_for s.files wanted in
       let g = removals removes p.gone in
-      let m = steps_for s.files (manifest_file on_lines ∷ []) in
+      let m = steps_for s.files (manifest_file on_lines p.altered ∷ []) in
       ap (λ (q : Plan). (after q.steps s).files n) p.is ∙ after_at n (w ++ g ++ m) s ∙ at_both n (w ++ g) m (s.files n)
       ∙ ap (at_end n m) (at_both n w g (s.files n))
 
   by_manifest : (n : FileName) (old : Option (List ℕ)) → is_same_file Manifest n ≡ false
-      → at_end n (steps_for s.files (manifest_file on_lines ∷ [])) old ≡ old
-  by_manifest n old e = others_leave s.files n (manifest_file on_lines ∷ []) old (λ f k. only f k)
+      → at_end n (steps_for s.files (manifest_file on_lines p.altered ∷ [])) old ≡ old
+  by_manifest n old e = others_leave s.files n (manifest_file on_lines p.altered ∷ []) old (λ f k. only f k)
     where
-      only : (f : NamedFile) → IsIn f (manifest_file on_lines ∷ []) → is_same_file f.name n ≡ false
+      only : (f : NamedFile) → IsIn f (manifest_file on_lines p.altered ∷ []) → is_same_file f.name n ≡ false
       only f (inl same) = ap (λ (g : NamedFile). is_same_file g.name n) same ∙ e
       only f (inr none) = absurd none
 
@@ -237,8 +330,8 @@ module _ (r : Register) (register : List ℕ) (removes : Bool) (s : Contents) (p
     group_files_apart r accepted p.configs p.are_configs,
   )
 
-  gone_file : (f : NamedFile) → IsIn f p.gone → IsOfGone r s.files f
-  gone_file = of_gone r s.files p.gone p.are_gone
+  gone_file : (f : NamedFile) → IsIn f p.gone → IsOfGone r s.files p.are_gone.last f
+  gone_file = of_gone r s.files p.gone p.altered p.are_gone
 
   -- a group of the register isn't gone
   not_gone : (g : Group) → IsIn g r.groups → (f : NamedFile) → IsIn f p.gone → is_same_file f.name (Config g.name) ≡ false
@@ -281,23 +374,69 @@ module _ (r : Register) (register : List ℕ) (removes : Bool) (s : Contents) (p
       ∙ ap (at_end (Config name) (removals removes p.gone))
       (others_leave s.files (Config name) wanted (s.files (Config name)) (not_wanted name missing))
 
-  is_removed : (b : Bool) (name : List ℕ) → IsGone r s.files name → (found : Option (List ℕ))
+  is_removed : (b : Bool) (name : List ℕ) → IsGone r s.files name → IsAsListed s.files name → (found : Option (List ℕ))
       → s.files (Config name) ≡ found
       → at_end (Config name) (removals b p.gone) (s.files (Config name)) ≡ cond b None (s.files (Config name))
-  is_removed false name h found e = refl
-  is_removed true name h None e =
+  is_removed false name h alike found e = refl
+  is_removed true name h alike None e =
       ap (at_end (Config name) (removes_each p.gone)) e ∙ removed_none (Config name) p.gone
-  is_removed true name h (Some bytes) e =
+  is_removed true name h alike (Some bytes) e =
       removed_one (Config name) p.gone (s.files (Config name)) (record { name = Config name; bytes = bytes })
-      (in_gone r s.files p.gone p.are_gone name bytes h.0 h.1 e) refl
+      (in_gone r s.files p.gone p.altered p.are_gone name bytes h.0
+      (λ digits l. same_Some (digits_of bytes) digits (sym (ap (option_map digits_of) e) ∙ alike digits l)) h.1 e) refl
 
-  unlisted : (name : List ℕ) → ¬ (IsListedIn (last_manifest s.files) name) → (f : NamedFile) → IsIn f p.gone
+  -- no removal is of another name
+  apart_from : (f : NamedFile) (name : List ℕ) → (k : IsIn f p.gone) → (name ≢ (gone_file f k).name)
       → is_same_file f.name (Config name) ≡ false
-  unlisted name none f k =
+  apart_from f name k other =
       let q = gone_file f k in
       ap (λ (m : FileName). is_same_file m (Config name)) q.is
-      ∙ false_from_ne_true (is_same_name q.name name) (λ e.
-      none (subst (IsListedIn (last_manifest s.files)) (same_path q.name name e) q.listed))
+      ∙ false_from_ne_true (is_same_name q.name name) (λ e. other (sym (same_path q.name name e)))
+
+  -- nor of what may not be removed
+  not_removable : (name : List ℕ) → ¬ (IsRemovable s.files name) → (f : NamedFile) → IsIn f p.gone
+      → is_same_file f.name (Config name) ≡ false
+  not_removable name none f k =
+      let q = gone_file f k in
+      apart_from f name k (λ e. none (
+        f.bytes,
+        ap (λ (n : List ℕ). s.files (Config n)) e ∙ ap s.files (sym q.is) ∙ q.there,
+        subst (λ (n : List ℕ). IsListedAs (last_manifest s.files) n (digits_of f.bytes)) (sym e) q.listed,
+      ))
+
+  other_kept : (b : Bool) → removes ≡ b → (name : List ℕ) → ¬ (IsTrue removes × IsRemovable s.files name)
+      → at_end (Config name) (removals b p.gone) (s.files (Config name)) ≡ s.files (Config name)
+  other_kept true e name none =
+      removed_others (Config name) p.gone (s.files (Config name)) (not_removable name (λ h. none (e, h)))
+  other_kept false e name none = refl
+
+  -- nor of what somebody altered
+  altered_file : (c : ListedConfig) → IsIn c p.altered → IsOfAltered r s.files p.are_gone.last c
+  altered_file = of_altered r s.files p.gone p.altered p.are_gone
+
+  not_altered : (c : ListedConfig) → IsIn c p.altered → (f : NamedFile) → IsIn f p.gone
+      → is_same_file f.name (Config c.name) ≡ false
+  not_altered c j f k =
+      let q = gone_file f k in
+      let a = altered_file c j in
+      apart_from f c.name k (λ e.
+      let bytes = same_Some f.bytes a.bytes
+      (sym q.there ∙ ap s.files q.is ∙ ap (λ (n : List ℕ). s.files (Config n)) (sym e) ∙ a.there) in
+      let digits = same_Some (digits_of f.bytes) c.digits
+      (sym q.found ∙ ap (get (slice_cmp nat_cmp) p.are_gone.last) (sym e) ∙ a.found) in
+      a.differ (ap digits_of (sym bytes) ∙ digits))
+
+  altered_there : (c : ListedConfig) → Contains p.altered c
+      → IsAltered (last_manifest s.files) (after plan.steps s) c
+  altered_there c k =
+      let j = in_contained p.altered c k in
+      let a = altered_file c j in record {
+        listed = a.listed;
+        bytes = a.bytes;
+        there = lacking c.name a.missing
+            ∙ by_removals removes (Config c.name) (s.files (Config c.name)) (not_altered c j) ∙ a.there;
+        differ = a.differ;
+      }
 
   -- the manifest
   wanted_unlike : (f : NamedFile) → IsIn f wanted → is_same_file f.name Manifest ≡ false
@@ -305,13 +444,14 @@ module _ (r : Register) (register : List ℕ) (removes : Bool) (s : Contents) (p
   wanted_unlike f (inr k) =
       ap (λ (m : FileName). is_same_file m Manifest) (group_of r accepted p.configs p.are_configs f k).2
 
-  manifest_stands : (after plan.steps s).files Manifest ≡ Some (manifest_text on_lines)
+  manifest_stands : (after plan.steps s).files Manifest
+      ≡ Some (manifest_text on_lines ++ flat_map kept_line p.altered)
   manifest_stands =
       at_all Manifest
-      ∙ ap (at_end Manifest (steps_for s.files (manifest_file on_lines ∷ [])))
+      ∙ ap (at_end Manifest (steps_for s.files (manifest_file on_lines p.altered ∷ [])))
       (by_removals removes Manifest _ (λ f k. ap (λ (m : FileName). is_same_file m Manifest) (gone_file f k).is)
       ∙ others_leave s.files Manifest wanted (s.files Manifest) wanted_unlike)
-      ∙ its_own s.files Manifest (manifest_file on_lines ∷ []) ((λ g k. absurd k), tt) (manifest_file on_lines)
+      ∙ its_own s.files Manifest (manifest_file on_lines p.altered ∷ []) ((λ g k. absurd k), tt) (manifest_file on_lines p.altered)
       (inl refl) refl
 
   wanted_there : (f : NamedFile) → IsIn f wanted → (after plan.steps s).files f.name ≡ Some f.bytes
@@ -352,13 +492,14 @@ module _ (r : Register) (register : List ℕ) (removes : Bool) (s : Contents) (p
     configs = configs_there;
     manifest = record {
       files = on_lines;
+      altered = p.altered;
       stands = manifest_stands;
       there = λ f k. listed_there f (in_contained on_lines f k);
+      kept = altered_there;
       groups = groups_listed;
     };
-    gone = λ name h. lacking name h.1 ∙ is_removed removes name h (s.files (Config name)) refl;
-    others = λ name missing none. lacking name missing
-        ∙ by_removals removes (Config name) (s.files (Config name)) (unlisted name none);
+    gone = λ name h alike. lacking name h.1 ∙ is_removed removes name h alike (s.files (Config name)) refl;
+    others = λ name missing none. lacking name missing ∙ other_kept removes refl name none;
   }
 
 pub plans_publish : PlansPublish

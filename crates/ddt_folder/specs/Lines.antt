@@ -30,6 +30,12 @@ same_line count = codes "same " ++ decimal count ++ codes "\n"
 abbrev pub left_line : FileName → List ℕ
 left_line name = named_line (codes "gone ") name
 
+-- the line of one that is left since somebody altered it
+abbrev pub altered_line : FileName → List ℕ
+altered_line name = named_line (codes "altered ") name
+
 -- what is done, how many files stay, and what is left
 abbrev pub plan_text : Plan → List ℕ
-plan_text plan = flat_map step_line plan.steps ++ same_line (length plan.same) ++ flat_map left_line plan.left
+plan_text plan =
+    flat_map step_line plan.steps ++ same_line (length plan.same) ++ flat_map left_line plan.left
+    ++ flat_map altered_line plan.altered

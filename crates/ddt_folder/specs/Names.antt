@@ -11,9 +11,9 @@ file_text Register = codes "register.csv"
 file_text (Config name) = name ++ codes ".toml"
 file_text Manifest = codes "MANIFEST"
 
--- the name of the file beside it, which is written first
-abbrev pub beside_text : FileName → List ℕ
-beside_text file = file_text file ++ codes ".new"
+-- the name of a file beside it, which is written first: with a mark
+abbrev pub beside_text : FileName → List ℕ → List ℕ
+beside_text file mark = file_text file ++ codes "." ++ mark ++ codes ".new"
 
 -- two names are one
 abbrev pub is_same_file : FileName → FileName → Bool

@@ -4,7 +4,9 @@ use Rattle.ddt_register.specs.declared.register.Register.{Register}
 use Rattle.ddt_folder.specs.declared.file_name.FileName.{FileName}
 use Rattle.ddt_folder.specs.declared.fault.PublishFault.{PublishFault}
 use Rattle.ddt_folder.specs.declared.fault.PublishFault.TheVariants.{Memory, Failed}
+use Rattle.ddt_folder.specs.declared.file_name.FileName.TheVariants.{Config}
 use Rattle.ddt_folder.specs.declared.step.NamedFile.{NamedFile}
+use Rattle.ddt_folder.specs.declared.step.ListedConfig.{ListedConfig}
 use Rattle.ddt_folder.specs.declared.step.Step.{Step}
 use Rattle.ddt_folder.specs.declared.plan.Plan.{Plan}
 use Rattle.ddt_folder.specs.Contents.{Contents}
@@ -12,14 +14,15 @@ use Rattle.ddt_folder.specs.Steps.{after, HasStopped}
 use Rattle.ddt_folder.specs.Wanted.{register_file, steps_for, same_in, removals, left_of, manifest_file, AreGroupFiles, AreGoneFiles}
 
 -- What is done so that a folder has these files and a manifest of them, with those that are left: first what is
--- written, then what is removed, then the manifest.
-abbrev pub plan_of : (FileName → Option (List ℕ)) → Bool → List NamedFile → List NamedFile → Plan
-plan_of files removes wanted gone =
-    let manifest = manifest_file (wanted ++ left_of removes gone) in
+-- written, then what is removed, then the manifest. Altered ones are left too, and keep the lines that they have.
+abbrev pub plan_of : (FileName → Option (List ℕ)) → Bool → List NamedFile → List NamedFile → List ListedConfig → Plan
+plan_of files removes wanted gone altered =
+    let manifest = manifest_file (wanted ++ left_of removes gone) altered in
     record {
       steps = steps_for files wanted ++ removals removes gone ++ steps_for files (manifest ∷ []);
       same = same_in files wanted ++ same_in files (manifest ∷ []);
       left = map (λ file. file.name) (left_of removes gone);
+      altered = map (λ listed. Config listed.name) altered;
     }
 
 -- the plan for a register over what stands in a folder
@@ -28,8 +31,9 @@ pub record IsPlan (r : Register) (register : List ℕ) (removes : Bool) (files :
   pub configs : List NamedFile
   pub are_configs : AreGroupFiles r configs
   pub gone : List NamedFile
-  pub are_gone : AreGoneFiles r files gone
-  pub is : plan ≡ plan_of files removes (register_file register ∷ configs) gone
+  pub altered : List ListedConfig
+  pub are_gone : AreGoneFiles r files gone altered
+  pub is : plan ≡ plan_of files removes (register_file register ∷ configs) gone altered
 
 module _ {F E : Type 0} (holds : F → Contents → Type 0) where
   -- all steps were taken, or one failed

@@ -1,23 +1,23 @@
 -- Which files a register asks for, and what is to be done with each by what stands in the folder.
-use Rattle.std.specs.Prelude.{◌≡◌, ◌↔◌, ℕ, Bool, true, false, if◌then◌else◌, List, [], ◌∷◌, map, Contains, Option, None, Some, is_some, unwrap_or, IsPermutation, IsSorted}
+use Rattle.std.specs.Prelude.{◌≡◌, ℕ, Bool, true, false, if◌then◌else◌, List, [], ◌∷◌, ◌++◌, map, Option, None, Some, is_some, unwrap_or, IsPermutation, IsSorted}
 use Rattle.std.specs.List.{flat_map}
-use Rattle.std.specs.List.Sorted.{IsStrictlySortedBy}
 use Rattle.std.specs.Str.{bytes_eq}
 use Rattle.std.specs.Ordering.{nat_cmp}
 use Rattle.std.specs.Cmp.Lexicographic.{slice_cmp}
-use Rattle.toml.specs.Text.{IsDocumentText}
+use Rattle.std.specs.BTreeMap.{BTreeMap, IsOrdered}
 use Rattle.ddt_register.specs.declared.register.Register.{Register}
 use Rattle.ddt_check.specs.Zones.{group_named}
 use Rattle.ddt_config.specs.declared.config.ServerConfig.{ServerConfig}
 use Rattle.ddt_config.specs.Table.{Outline, outline}
-use Rattle.ddt_config.specs.Writing.{written_config}
 use Rattle.ddt_compile.specs.GroupConfig.{group_config}
+use Rattle.ddt_digest.specs.Sealed.{IsSealedText}
 use Rattle.ddt_folder.specs.declared.file_name.FileName.{FileName}
 use Rattle.ddt_folder.specs.declared.file_name.FileName.TheVariants.{Register as OfRegister, Config, Manifest}
 use Rattle.ddt_folder.specs.declared.step.NamedFile.{NamedFile}
+use Rattle.ddt_folder.specs.declared.step.ListedConfig.{ListedConfig}
 use Rattle.ddt_folder.specs.declared.step.Step.{Step}
 use Rattle.ddt_folder.specs.declared.step.Step.TheVariants.{Add, Change, Remove}
-use Rattle.ddt_folder.specs.Manifest.{manifest_text, IsListedIn}
+use Rattle.ddt_folder.specs.Manifest.{digits_of, manifest_text, kept_line, IsListedIn, AreConfigsIn}
 use Rattle.ddt_folder.specs.Ordered.{ordered}
 
 -- ---- what a register asks for
@@ -26,9 +26,9 @@ use Rattle.ddt_folder.specs.Ordered.{ordered}
 abbrev pub register_file : List ℕ → NamedFile
 register_file register = record { name = OfRegister; bytes = register }
 
--- a text in TOML of a configuration, in the order of prefixes
+-- a text in TOML of a configuration, in the order of prefixes, with its seal
 abbrev pub IsOrderedConfigText : Outline → List ℕ → Type 0
-IsOrderedConfigText c text = IsDocumentText false (written_config (ordered c)) text
+IsOrderedConfigText c text = IsSealedText text (ordered c)
 
 -- the file of a configuration, which is named for its group
 abbrev pub IsConfigFile : ServerConfig → NamedFile → Type 0
@@ -60,22 +60,43 @@ last_manifest files = unwrap_or (files Manifest) []
 abbrev pub IsGone : Register → (FileName → Option (List ℕ)) → List ℕ → Type 0
 IsGone r files name = IsListedIn (last_manifest files) name × (group_named r name ≡ None)
 
--- the configuration of a group, if the register lacks the group and the file is there
-abbrev pub gone_if : Bool → List ℕ → Option (List ℕ) → List NamedFile
-gone_if true name found = []
-gone_if false name None = []
-gone_if false name (Some bytes) = record { name = Config name; bytes = bytes } ∷ []
+-- the bytes that were listed, by the digits of their SHA-256
+abbrev pub is_as_listed : ListedConfig → List ℕ → Bool
+is_as_listed listed bytes = bytes_eq (digits_of bytes) listed.digits
+
+-- the configuration of a group, if the register lacks the group and the file is there as it was listed
+abbrev pub gone_if : Bool → ListedConfig → Option (List ℕ) → List NamedFile
+gone_if true listed found = []
+gone_if false listed None = []
+gone_if false listed (Some bytes) =
+    if is_as_listed listed bytes then record { name = Config listed.name; bytes = bytes } ∷ [] else []
+
+-- and what was listed, if the file is there with other bytes
+abbrev pub altered_if : Bool → ListedConfig → Option (List ℕ) → List ListedConfig
+altered_if true listed found = []
+altered_if false listed None = []
+altered_if false listed (Some bytes) = if is_as_listed listed bytes then [] else listed ∷ []
+
+-- a name and digits, as a configuration that was listed
+abbrev pub listed_of : List ℕ × List ℕ → ListedConfig
+listed_of entry = record { name = entry.0; digits = entry.1 }
 
 -- the same, by what stands in the folder
-abbrev pub gone_for : Register → (FileName → Option (List ℕ)) → List ℕ → List NamedFile
-gone_for r files name = gone_if (is_some (group_named r name)) name (files (Config name))
+abbrev pub gone_for : Register → (FileName → Option (List ℕ)) → List ℕ × List ℕ → List NamedFile
+gone_for r files entry = gone_if (is_some (group_named r entry.0)) (listed_of entry) (files (Config entry.0))
 
--- the configurations of groups that are gone, in the order of the groups' names
-pub record AreGoneFiles (r : Register) (files : FileName → Option (List ℕ)) (gone : List NamedFile) : Type 0 where
-  pub names : List (List ℕ)
-  pub listed : (name : List ℕ) → Contains names name ↔ IsListedIn (last_manifest files) name
-  pub in_order : IsStrictlySortedBy (slice_cmp nat_cmp) names
-  pub are : gone ≡ flat_map (gone_for r files) names
+abbrev pub altered_for : Register → (FileName → Option (List ℕ)) → List ℕ × List ℕ → List ListedConfig
+altered_for r files entry = altered_if (is_some (group_named r entry.0)) (listed_of entry) (files (Config entry.0))
+
+-- The configurations of groups that are gone, in the order of the groups' names: those that are as the last manifest
+-- lists them, and those that somebody altered since.
+pub record AreGoneFiles (r : Register) (files : FileName → Option (List ℕ)) (gone : List NamedFile)
+    (altered : List ListedConfig) : Type 0 where
+  pub last : BTreeMap (List ℕ) (List ℕ)
+  pub listed : AreConfigsIn (last_manifest files) last
+  pub in_order : IsOrdered (slice_cmp nat_cmp) last
+  pub are : gone ≡ flat_map (gone_for r files) last.entries
+  pub are_altered : altered ≡ flat_map (altered_for r files) last.entries
 
 -- ---- what is to be done
 
@@ -107,6 +128,6 @@ abbrev pub left_of : Bool → List NamedFile → List NamedFile
 left_of true gone = []
 left_of false gone = gone
 
--- the manifest of some files
-abbrev pub manifest_file : List NamedFile → NamedFile
-manifest_file files = record { name = Manifest; bytes = manifest_text files }
+-- the manifest of some files, with the lines that some configurations have already
+abbrev pub manifest_file : List NamedFile → List ListedConfig → NamedFile
+manifest_file files kept = record { name = Manifest; bytes = manifest_text files ++ flat_map kept_line kept }

@@ -9,12 +9,13 @@ use crate::order::in_order;
 use crate::step::NamedFile;
 use ddt_check::Accepted;
 use ddt_compile::compile;
-use ddt_config::{ServerConfig, to_toml};
+use ddt_config::ServerConfig;
+use ddt_digest::to_sealed_toml;
 use ddt_path::Listed;
 use std::alloc::{AllocError, Global};
 
-/// The register itself, and the configuration of each group as TOML, in the order of the groups' names. Fails only if
-/// out of memory.
+/// The register itself, and the configuration of each group as TOML with its seal, in the order of the groups' names.
+/// Fails only if out of memory.
 pub(crate) fn wanted_files(
     alloc: Global,
     accepted: &Accepted,
@@ -42,7 +43,7 @@ fn config_file(alloc: Global, config: ServerConfig) -> Result<NamedFile, AllocEr
 {
     let name = FileName::Config(config.name);
     let ordered = in_order(alloc, config)?;
-    let text = to_toml(alloc, &ordered)?;
+    let text = to_sealed_toml(alloc, &ordered)?;
     Ok(NamedFile {
         name,
         bytes: Listed::of(text.into_bytes()),

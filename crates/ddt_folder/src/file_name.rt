@@ -29,13 +29,15 @@ impl FileName {
         Ok(text)
     }
 
-    /// The name of the file beside it, which is written first and then put in its place: `.new` behind its own. It
-    /// leads nowhere else either. Fails only if out of memory.
-    pub fn text_beside(self, alloc: Global) -> Result<Vec<u8>, AllocError>
-        ensures written { IfOk result (λ text. text.items ≡ beside_text self) }
-        ensures plain { OnOk result (IsPlain (beside_text self)) }
+    /// The name of a file beside it, which is written first and then put in its place: its own, a dot, a mark of the
+    /// caller's choice and `.new`. It leads nowhere else either. Fails only if out of memory.
+    pub fn text_beside(self, alloc: Global, mark: Name) -> Result<Vec<u8>, AllocError>
+        ensures written { IfOk result (λ text. text.items ≡ beside_text self mark) }
+        ensures plain { OnOk result (IsPlain (beside_text self mark)) }
     {
         let mut text = self.text(alloc)?;
+        text.push(b'.')?;
+        text.extend_from_slice(mark.as_bytes())?;
         text.extend_from_slice(b".new")?;
         Ok(text)
     }

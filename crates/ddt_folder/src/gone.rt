@@ -1,25 +1,55 @@
 //! The files of groups that are gone.
 
-ghost use Rattle.std.specs.Prelude.{◌≡◌, ◌++◌, [], IfOk, OnOk, unwrap_or};
+ghost use Rattle.std.specs.Prelude.{◌≡◌, ◌++◌, [], false, Some, IfOk, OnOk, unwrap_or};
 ghost use Rattle.std.specs.BTreeMap.{get};
 ghost use Rattle.std.specs.Cmp.Lexicographic.{slice_cmp};
 ghost use Rattle.std.specs.Option.{is_some, option_map};
 ghost use Rattle.std.specs.Ordering.{nat_cmp};
 ghost use Rattle.ddt_folder.specs.Contents.{Contents};
 ghost use Rattle.ddt_folder.specs.Manifest.{AreConfigsIn};
-ghost use Rattle.ddt_folder.specs.Wanted.{gone_if, AreGoneFiles};
+ghost use Rattle.ddt_folder.specs.Wanted.{altered_if, gone_if, AreGoneFiles};
 
 use crate::fault::PublishFault;
 use crate::file_changes::read_file;
 use crate::file_name::FileName;
 use crate::folder::Folder;
-use crate::manifest::configs_in;
-use crate::step::NamedFile;
+use crate::manifest::{configs_in, digits_of};
+use crate::step::{ListedConfig, NamedFile};
 use ddt_check::Accepted;
 use ddt_compile::locators_by_name;
 use ddt_path::{Listed, LocatorSet, Name};
 use std::alloc::{AllocError, Global};
-use std::collections::{BTreeMap, BTreeSet};
+use std::collections::BTreeMap;
+
+/// The configurations of groups that are gone.
+#[derive(Drop)]
+pub(crate) struct Gone {
+    /// Those whose bytes the last manifest lists.
+    pub files: Vec<NamedFile>,
+    /// Those that somebody altered since, as it lists them.
+    pub altered: Vec<ListedConfig>,
+}
+
+impl Gone {
+    /// Adds a configuration that was listed, by the bytes that it has now.
+    fn add(&mut self, alloc: Global, listed: ListedConfig, bytes: Vec<u8>) -> Result<(), AllocError>
+        ensures files { OnOk result (self.new.files.items ≡ self.old.files.items
+            ++ gone_if false listed (Some bytes.items)) }
+        ensures altered { OnOk result (self.new.altered.items ≡ self.old.altered.items
+            ++ altered_if false listed (Some bytes.items)) }
+    {
+        let digits = digits_of(alloc, &bytes)?;
+        if digits.as_bytes() == listed.digits.as_slice() {
+            self.files.push(NamedFile {
+                name: FileName::Config(listed.name),
+                bytes: Listed::of(bytes),
+            })?;
+        } else {
+            self.altered.push(listed)?;
+        }
+        Ok(())
+    }
+}
 
 /// The configurations that the last manifest lists, that are still there, and whose groups the register lacks, in the
 /// order of their names. Refused as Memory, or as Failed where the folder can't be read.
@@ -27,22 +57,29 @@ pub(crate) fn gone_files<F: Folder>(
     alloc: Global,
     accepted: &Accepted,
     folder: &mut F,
-) -> Result<Vec<NamedFile>, PublishFault<F::Fault>>
+) -> Result<Gone, PublishFault<F::Fault>>
     ensures { (s : Contents) → F.holds folder.old s → F.holds folder.new s
-        × IfOk result (λ gone. AreGoneFiles accepted.now s.files gone.items) }
+        × IfOk result (λ gone. AreGoneFiles accepted.now s.files gone.files.items gone.altered.items) }
 {
     let manifest = read_file(alloc, folder, &FileName::Manifest)?;
-    let names = listed_last(alloc, manifest)?;
+    let listed = listed_last(alloc, manifest)?;
     let groups = locators_by_name(alloc, accepted)?;
-    let mut gone = Vec::new(alloc);
-    for name in names {
-        add_gone(alloc, &groups, folder, &mut gone, &name)?;
+    let mut gone = Gone {
+        files: Vec::new(alloc),
+        altered: Vec::new(alloc),
+    };
+    for (name, digits) in listed {
+        let listed = ListedConfig { name, digits };
+        add_gone(alloc, &groups, folder, &mut gone, listed)?;
     }
     Ok(gone)
 }
 
-/// The groups that the last manifest lists, where there is one.
-fn listed_last(alloc: Global, manifest: Option<Vec<u8>>) -> Result<BTreeSet<Name>, AllocError>
+/// The configurations that the last manifest lists, where there is one.
+fn listed_last(
+    alloc: Global,
+    manifest: Option<Vec<u8>>,
+) -> Result<BTreeMap<Name, Listed<u8>>, AllocError>
     ensures { IfOk result (AreConfigsIn (unwrap_or (option_map (λ bytes. bytes.items) manifest) [])) }
 {
     match manifest {
@@ -51,29 +88,25 @@ fn listed_last(alloc: Global, manifest: Option<Vec<u8>>) -> Result<BTreeSet<Name
     }
 }
 
-/// Adds the configuration of a group if it is none of these groups and the file is there.
+/// Adds a configuration that was listed, if its group is none of these and the file is there.
 fn add_gone<F: Folder>(
     alloc: Global,
     groups: &BTreeMap<Name, LocatorSet>,
     folder: &mut F,
-    gone: &mut Vec<NamedFile>,
-    name: &Name,
+    gone: &mut Gone,
+    listed: ListedConfig,
 ) -> Result<(), PublishFault<F::Fault>>
     ensures { (s : Contents) → F.holds folder.old s → F.holds folder.new s
-        × OnOk result (gone.new.items ≡ gone.old.items ++ gone_if (is_some (get (slice_cmp nat_cmp) groups.now name.now))
-        name.now (s.files (FileName.Config name.now))) }
+        × OnOk result ((gone.new.files.items ≡ gone.old.files.items
+        ++ gone_if (is_some (get (slice_cmp nat_cmp) groups.now listed.name)) listed (s.files (FileName.Config listed.name)))
+        × (gone.new.altered.items ≡ gone.old.altered.items
+        ++ altered_if (is_some (get (slice_cmp nat_cmp) groups.now listed.name)) listed (s.files (FileName.Config listed.name)))) }
 {
-    if groups.contains_key(name) {
+    if groups.contains_key(&listed.name) {
         return Ok(());
     }
-    match read_file(alloc, folder, &FileName::Config(*name))? {
-        Some(bytes) => {
-            gone.push(NamedFile {
-                name: FileName::Config(*name),
-                bytes: Listed::of(bytes),
-            })?;
-            Ok(())
-        }
-        None => Ok(()),
+    if let Some(bytes) = read_file(alloc, folder, &FileName::Config(listed.name))? {
+        gone.add(alloc, listed, bytes)?;
     }
+    Ok(())
 }

@@ -3,6 +3,7 @@
 //!
 //! In reading order: `publication`, `plan`, `file_changes`, `gone`, `config_files`, `order`, `manifest`, `plan_lines`;
 //! `folder`, `memory`; `step`, `file_name`, `fault` below them; and `laws`.
+//! Tests: ddt_rollout_tests/folder.
 #![tactic(auto)]
 
 mod config_files;
@@ -29,4 +30,4 @@ pub use order::in_order;
 pub use plan::{Plan, plan_for};
 pub use plan_lines::lines_of;
 pub use publication::{carry_out, publish};
-pub use step::{NamedFile, Step};
+pub use step::{ListedConfig, NamedFile, Step};

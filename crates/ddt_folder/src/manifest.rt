@@ -1,15 +1,20 @@
 //! The manifest: the SHA-256 of each file, a line for each, as `sha256sum` writes them and `sha256sum --check` reads
 //! them.
 
-ghost use Rattle.std.specs.Prelude.{◌≡◌, ◌↔◌, ◌⊎◌, ◌++◌, ℕ, List, IfOk, OnOk, MatchOption};
+ghost use Rattle.std.specs.Prelude.{◌≡◌, ◌++◌, ℕ, List, IfOk, OnOk, MatchOption};
+ghost use Rattle.std.specs.BTreeMap.{get};
+ghost use Rattle.std.specs.Cmp.Lexicographic.{slice_cmp};
+ghost use Rattle.std.specs.Ordering.{nat_cmp};
+ghost use Rattle.std.specs.String.{string_bytes};
 ghost use Rattle.std.specs.List.{flat_map};
-ghost use Rattle.ddt_folder.specs.Manifest.{manifest_line, AreConfigsIn, HasName, NamesConfig};
+ghost use Rattle.ddt_folder.specs.Manifest.{digits_of as digits_of_bytes, kept_line, listed_line, manifest_line, AreConfigsIn, HasLine, NamesConfig};
 
-use crate::step::NamedFile;
-use ddt_path::Name;
+use crate::file_name::FileName;
+use crate::step::{ListedConfig, NamedFile};
+use ddt_path::{Listed, Name};
 use sha2::{Digest, Sha256};
 use std::alloc::{AllocError, Global};
-use std::collections::BTreeSet;
+use std::collections::BTreeMap;
 
 /// How many digits the SHA-256 in a line has.
 const DIGEST: usize = 64;
@@ -27,35 +32,69 @@ pub(crate) fn push_lines(text: &mut Vec<u8>, files: &[NamedFile]) -> Result<(), 
 fn push_line(text: &mut Vec<u8>, file: &NamedFile) -> Result<(), AllocError>
     ensures { OnOk result (text.new.items ≡ text.old.items ++ manifest_line file.now) }
 {
-    let digest = Sha256::digest(file.bytes.as_slice());
-    let digits = hex::encode(*text.allocator(), digest)?;
-    text.extend_from_slice(digits.as_bytes())?;
+    let digits = digits_of(*text.allocator(), file.bytes.as_slice())?;
+    push_listed(text, digits.as_bytes(), file.name)
+}
+
+/// The SHA-256 of these bytes in hexadecimal digits.
+pub(crate) fn digits_of(alloc: Global, bytes: &[u8]) -> Result<String, AllocError>
+    ensures { IfOk result (λ digits. string_bytes digits ≡ digits_of_bytes bytes.now) }
+{
+    hex::encode(alloc, Sha256::digest(bytes))
+}
+
+/// Appends the line of a file: digits, two blanks, and its name.
+fn push_listed(text: &mut Vec<u8>, digits: &[u8], name: FileName) -> Result<(), AllocError>
+    ensures { OnOk result (text.new.items ≡ text.old.items ++ listed_line digits.now name) }
+{
+    text.extend_from_slice(digits)?;
     text.extend_from_slice(b"  ")?;
-    file.name.push(text)?;
+    name.push(text)?;
     text.push(b'\n')?;
     Ok(())
 }
 
-/// The groups whose configurations a manifest has a line for, each once, in the order of their names. What is no such
-/// line is passed over. Fails only if out of memory.
-pub(crate) fn configs_in(alloc: Global, manifest: &[u8]) -> Result<BTreeSet<Name>, AllocError>
-    ensures { IfOk result (λ names. AreConfigsIn manifest.now names) }
+/// Appends the lines that some configurations have already. Fails only if out of memory.
+pub(crate) fn push_kept(text: &mut Vec<u8>, kept: &[ListedConfig]) -> Result<(), AllocError>
+    ensures { OnOk result (text.new.items ≡ text.old.items ++ flat_map kept_line kept.now) }
 {
-    let mut names = BTreeSet::new(alloc);
-    for line in manifest.split(|byte| *byte == b'\n') {
-        add_config(&mut names, line)?;
+    for listed in kept {
+        push_listed(
+            text,
+            listed.digits.as_slice(),
+            FileName::Config(listed.name),
+        )?;
     }
-    Ok(names)
+    Ok(())
+}
+
+/// The groups whose configurations a manifest has a line for, with the digits of the last such line, in the order of
+/// their names. What is no such line is passed over. Fails only if out of memory.
+pub(crate) fn configs_in(
+    alloc: Global,
+    manifest: &[u8],
+) -> Result<BTreeMap<Name, Listed<u8>>, AllocError>
+    ensures { IfOk result (λ listed. AreConfigsIn manifest.now listed) }
+{
+    let mut listed = BTreeMap::new(alloc);
+    for line in manifest.split(|byte| *byte == b'\n') {
+        add_config(alloc, &mut listed, line)?;
+    }
+    Ok(listed)
 }
 
 /// Adds the group whose configuration a line is for, if it is such a line.
-fn add_config(names: &mut BTreeSet<Name>, line: &[u8]) -> Result<(), AllocError>
-    ensures { OnOk result ((name : List ℕ) → HasName names.new name ↔ (HasName names.old name
-        ⊎ NamesConfig line.now name)) }
+fn add_config(
+    alloc: Global,
+    listed: &mut BTreeMap<Name, Listed<u8>>,
+    line: &[u8],
+) -> Result<(), AllocError>
+    ensures { OnOk result (HasLine line.now (get (slice_cmp nat_cmp) listed.old) (get (slice_cmp nat_cmp) listed.new)) }
 {
     match config_on(line) {
         Some(name) => {
-            names.insert(name)?;
+            let digits = Vec::from_slice(alloc, &line[..DIGEST])?;
+            listed.insert(name, Listed::of(digits))?;
             Ok(())
         }
         None => Ok(()),

@@ -11,8 +11,8 @@ use crate::file_changes::{Draft, compare, compare_one};
 use crate::file_name::FileName;
 use crate::folder::Folder;
 use crate::gone::gone_files;
-use crate::manifest::push_lines;
-use crate::step::{NamedFile, Step};
+use crate::manifest::{push_kept, push_lines};
+use crate::step::{ListedConfig, NamedFile, Step};
 use ddt_check::Accepted;
 use ddt_path::Listed;
 use std::alloc::{AllocError, Global};
@@ -24,8 +24,10 @@ pub struct Plan {
     pub steps: Listed<Step>,
     /// The files that stay as they are.
     pub same: Listed<FileName>,
-    /// The configurations of groups that are gone, if they are left there.
+    /// The configurations of groups that are gone, if they are left there since no removal was asked for.
     pub left: Listed<FileName>,
+    /// The configurations of groups that are gone and that somebody altered. They are never removed.
+    pub altered: Listed<FileName>,
 }
 
 /// What is to be done with a folder, so that it has the register, the configuration of each of its groups, and a
@@ -33,7 +35,8 @@ pub struct Plan {
 /// doesn't matter. A file that has these bytes already is left alone.
 ///
 /// A configuration that the last manifest lists, of a group that the register lacks, is gone. It is removed if that is
-/// asked for; otherwise it is left, and the new manifest lists it too. No other file is named. Nothing is touched.
+/// asked for; otherwise it is left, and the new manifest lists it too. One whose SHA-256 isn't the listed one was
+/// altered: it is left in any case, and the new manifest keeps its line. No other file is named. Nothing is touched.
 ///
 /// Refused as Memory if out of memory, and as Failed where a file can't be read.
 pub fn plan_for<F: Folder>(
@@ -48,18 +51,19 @@ pub fn plan_for<F: Folder>(
 {
     let wanted = wanted_files(alloc, accepted, register)?;
     let gone = gone_files(alloc, accepted, folder)?;
-    let manifest = manifest_file(alloc, &wanted, left(removes, &gone))?;
+    let manifest = manifest_file(alloc, &wanted, left(removes, &gone.files), &gone.altered)?;
     let mut draft = Draft {
         steps: Vec::new(alloc),
         same: Vec::new(alloc),
     };
     compare(alloc, folder, &mut draft, wanted)?;
-    push_removals(&mut draft.steps, removes, &gone)?;
+    push_removals(&mut draft.steps, removes, &gone.files)?;
     compare_one(alloc, folder, &mut draft, manifest)?;
     Ok(Plan {
         steps: Listed::of(draft.steps),
         same: Listed::of(draft.same),
-        left: names_of(alloc, left(removes, &gone))?,
+        left: names_of(alloc, left(removes, &gone.files))?,
+        altered: names_of_listed(alloc, &gone.altered)?,
     })
 }
 
@@ -70,17 +74,19 @@ fn left(removes: bool, gone: &[NamedFile]) -> &[NamedFile]
     if removes { &[] } else { gone }
 }
 
-/// The manifest of some files and of those that are left.
+/// The manifest of some files and of those that are left, with the lines that altered ones have.
 fn manifest_file(
     alloc: Global,
     wanted: &[NamedFile],
     left: &[NamedFile],
+    altered: &[ListedConfig],
 ) -> Result<NamedFile, AllocError>
-    ensures { IfOk result (λ file. file ≡ manifest_file_of (wanted.now ++ left.now)) }
+    ensures { IfOk result (λ file. file ≡ manifest_file_of (wanted.now ++ left.now) altered.now) }
 {
     let mut text = Vec::new(alloc);
     push_lines(&mut text, wanted)?;
     push_lines(&mut text, left)?;
+    push_kept(&mut text, altered)?;
     Ok(NamedFile {
         name: FileName::Manifest,
         bytes: Listed::of(text),
@@ -106,6 +112,17 @@ fn names_of(alloc: Global, files: &[NamedFile]) -> Result<Listed<FileName>, Allo
     let mut names = Vec::new(alloc);
     for file in files {
         names.push(file.name)?;
+    }
+    Ok(Listed::of(names))
+}
+
+/// The files of configurations that were listed.
+fn names_of_listed(alloc: Global, configs: &[ListedConfig]) -> Result<Listed<FileName>, AllocError>
+    ensures { IfOk result (λ names. names ≡ map (λ listed. FileName.Config listed.name) configs.now) }
+{
+    let mut names = Vec::new(alloc);
+    for listed in configs {
+        names.push(FileName::Config(listed.name))?;
     }
     Ok(Listed::of(names))
 }

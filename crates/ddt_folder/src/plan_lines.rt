@@ -2,7 +2,7 @@
 
 ghost use Rattle.std.specs.Prelude.{◌≡◌, ◌++◌, IfOk, OnOk};
 ghost use Rattle.std.specs.List.{flat_map};
-ghost use Rattle.ddt_folder.specs.Lines.{left_line, named_line, plan_text, same_line, step_line, word_of as word_of_step};
+ghost use Rattle.ddt_folder.specs.Lines.{named_line, plan_text, same_line, step_line, word_of as word_of_step};
 
 use crate::file_name::FileName;
 use crate::plan::Plan;
@@ -10,15 +10,16 @@ use crate::step::Step;
 use std::alloc::{AllocError, Global};
 
 /// A line for each step, as `new a.toml`, `changed a.toml` or `removed a.toml`; one that says how many files stay as
-/// they are, as `same 44`; and one for each file that is left of a group that is gone, as `gone a.toml`. Fails only if
-/// out of memory.
+/// they are, as `same 44`; and one for each file that is left of a group that is gone, as `gone a.toml`, or as `altered
+/// a.toml` where it isn't as the last manifest lists it. Fails only if out of memory.
 pub fn lines_of(alloc: Global, plan: &Plan) -> Result<Vec<u8>, AllocError>
     ensures { IfOk result (λ text. text.items ≡ plan_text plan.now) }
 {
     let mut text = Vec::new(alloc);
     push_steps(&mut text, plan.steps.as_slice())?;
     push_same(&mut text, plan.same.as_slice().len())?;
-    push_left(&mut text, plan.left.as_slice())?;
+    push_each(&mut text, "gone ", plan.left.as_slice())?;
+    push_each(&mut text, "altered ", plan.altered.as_slice())?;
     Ok(text)
 }
 
@@ -49,11 +50,12 @@ fn push_same(text: &mut Vec<u8>, count: usize) -> Result<(), AllocError>
     text.extend_from_slice(line.as_bytes())
 }
 
-fn push_left(text: &mut Vec<u8>, left: &[FileName]) -> Result<(), AllocError>
-    ensures { OnOk result (text.new.items ≡ text.old.items ++ flat_map left_line left.now) }
+/// Appends a line for each file, with a word in front of its name.
+fn push_each(text: &mut Vec<u8>, word: &str, names: &[FileName]) -> Result<(), AllocError>
+    ensures { OnOk result (text.new.items ≡ text.old.items ++ flat_map (named_line word.now) names.now) }
 {
-    for name in left {
-        push_named(text, "gone ", *name)?;
+    for name in names {
+        push_named(text, word, *name)?;
     }
     Ok(())
 }

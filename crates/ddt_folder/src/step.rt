@@ -4,13 +4,21 @@ ghost use Rattle.std.specs.Prelude.{◌≡◌};
 ghost use Rattle.ddt_folder.specs.Steps.{name_of};
 
 use crate::file_name::FileName;
-use ddt_path::Listed;
+use ddt_path::{Listed, Name};
 
 /// A file: its name and its bytes.
 #[derive(Debug, Drop)]
 pub struct NamedFile {
     pub name: FileName,
     pub bytes: Listed<u8>,
+}
+
+/// The configuration of a group, as a manifest lists it.
+#[derive(Debug, Drop)]
+pub struct ListedConfig {
+    pub name: Name,
+    /// Its SHA-256 in 64 hexadecimal digits.
+    pub digits: Listed<u8>,
 }
 
 /// What is done with one file.

@@ -79,11 +79,10 @@ none_tried : (me tries : _) → AreTried me [] tries → tries ≡ []
 none_tried me [] t = refl
 none_tried me (call ∷ tries) t = absurd t
 
--- the reply to an ITR: tried, lost, or not there
+-- the reply to an ITR: tried, or not there
 pub owes_told : {r me calls : _} (before after q out tries : _) → Owes r me calls (before ++ q ∷ after)
     → out ≡ assignment r (xeid_path q.xeid) → IsToldItr me out q tries → Owes r me (calls ++ tries) (before ++ after)
-owes_told before after q out tries o right (inr lost) = rw (lost, append-nil) (forgotten before after q o)
-owes_told {r} {me} {calls} before after q out tries o right (inl tried) = by (reply_to_itr out q) refl tried
+owes_told {r} {me} {calls} before after q out tries o right tried = by (reply_to_itr out q) refl tried
   where
     by : (d : _) → reply_to_itr out q ≡ d → AreTried me (sent_if d) tries → Owes r me (calls ++ tries) (before ++ after)
     by None is t = rw (none_tried me tries t, append-nil) (forgotten before after q o)

@@ -26,8 +26,7 @@ tried at (d ∷ ds) (Received a room answer bytes ∷ calls) is = absurd is.0
 tried at (d ∷ ds) (Tried a to port bytes answer ∷ calls) is = rw (both (Tried a to port bytes answer ∷ []) calls, tried at ds calls is.1)
 
 told : (me o q calls : _) → IsToldItr me o q calls → polls_in calls ≡ 0
-told me o q calls (inl is) = tried me _ calls is
-told me o q calls (inr none) = rw none
+told me o q calls is = tried me _ calls is
 
 asking : {me now x who w answer calls new : _} → Asks me now x who w answer calls new → polls_in calls ≡ 0
 asking (answered (asked_as.Answer o) step starts is) = rw starts.0

@@ -1,6 +1,6 @@
 -- What an ask, a datagram and a tick do: the resolver's step, what is tried over the wires, and who is told (RFC 8111,
 -- section 7.3).
-use Rattle.std.specs.Prelude.{ℕ, ◌≡◌, ◌⊎◌, ◌<◌, List, [], ◌∷◌, ◌++◌, length, Option, Some, None, Result, Ok, Err, refl}
+use Rattle.std.specs.Prelude.{ℕ, ◌≡◌, ◌<◌, List, [], ◌∷◌, ◌++◌, length, Option, Some, None, Result, Ok, Err, refl}
 use Rattle.std.specs.Coded.{Coded, code_by, coded×}
 use Rattle.ddt_path.specs.declared.locator.Locator.{Locator}
 use Rattle.ddt_path.specs.declared.record.Outcome.{Outcome}
@@ -57,9 +57,9 @@ abbrev pub sent_if : Option Sending → List Outgoing
 sent_if (Some d) = sent d ∷ []
 sent_if None = []
 
--- it is tried, or lost if out of memory
+-- it is tried once, whatever `send` answers; where there is none, nothing is
 abbrev pub IsToldItr : Locator → Outcome → ItrRequest → List Call → Type 0
-IsToldItr me o q calls = AreTried me (sent_if (reply_to_itr o q)) calls ⊎ (calls ≡ [])
+IsToldItr me o q calls = AreTried me (sent_if (reply_to_itr o q)) calls
 
 -- ---- an ask
 

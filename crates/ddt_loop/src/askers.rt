@@ -1,24 +1,29 @@
 //! Who waits for which lookup, and what the identifiers' lookups have ended in so far.
 
-ghost use Rattle.std.specs.Prelude.{◌≡◌, ◌<◌, ◌==◌, ℕ, Some, length, position, IfOk};
+ghost use Rattle.std.specs.Prelude.{◌≡◌, ◌<◌, ◌==◌, ℕ, List, Some, length, position, IfOk};
+ghost use Rattle.ddt_wires.specs.declared.call.Call.{Call as ACall};
+ghost use Rattle.ddt_wires.specs.Calls.{RecordsCalls};
 ghost use Rattle.ddt_resolver.specs.State.{most_pending};
 ghost use Rattle.ddt_loop.specs.declared.owner.Asker.{Asker as AnAsker};
 ghost use Rattle.ddt_loop.specs.Askers.{Desk, opening_desk, with_owner, with_end, has_unresolved, TakesOff};
+ghost use Rattle.ddt_loop.specs.Acts.{IsToldItr};
 
 use crate::ends::{LoopEnd, is_open, unresolved};
 use crate::owner::{Asker, Owner};
-use ddt_path::Xeid;
-use ddt_resolver::{MOST_PENDING, Ticket};
+use ddt_path::{Locator, Outcome, Xeid};
+use ddt_resolver::{Front, ItrRequest, MOST_PENDING, MOST_REPLY_BYTES, Ticket};
+use ddt_wires::Wires;
 use std::alloc::{AllocError, Global};
 use std::marker::Model;
 
 /// All who wait for a lookup, and the ends of the identifiers' lookups, in the order of the identifiers. Contracts see
-/// both lists.
+/// both lists. The buffer of all replies to ITRs is kept with them, so that no reply wants memory.
 #[derive(Drop)]
 pub(crate) struct Askers {
     alloc: Global,
     owners: Vec<Owner>,
     ends: Vec<LoopEnd>,
+    reply: Vec<u8>,
 }
 
 impl Model for Askers {
@@ -33,21 +38,23 @@ impl Model for Askers {
 
     ghost view = { λ a. record { owners = a.owners.items; ends = a.ends.items } };
 
-    ghost invariant = { λ a. 1024 ≤ vec_capacity a.owners };
+    ghost invariant = { λ a. (1024 ≤ vec_capacity a.owners) × (52 ≤ vec_capacity a.reply) };
 }
 
 impl Askers {
     /// Nobody waits, and each of the identifiers is unresolved. There is room for as many who wait as lookups can be
-    /// pending. Fails only if out of memory.
+    /// pending, and for a reply. Fails only if out of memory.
     pub(crate) fn new(alloc: Global, ids: &[Xeid]) -> Result<Askers, AllocError>
         ensures { IfOk result (λ askers. askers ≡ opening_desk ids.now) }
     {
         let owners = Vec::with_capacity(alloc, MOST_PENDING)?;
+        let reply = Vec::with_capacity(alloc, MOST_REPLY_BYTES)?;
         match unresolved(alloc, ids) {
             Ok(ends) => Ok(Askers {
                 alloc,
                 owners,
                 ends,
+                reply,
             }),
             Err(refused) => Err(refused),
         }
@@ -85,6 +92,25 @@ impl Askers {
         Some(owner.ticket)
     }
 
+    /// Tries to send an ITR the negative Map-Reply for an outcome, where it is to have one. It allocates nothing.
+    pub(crate) fn reply_to_itr<W: Wires>(
+        &mut self,
+        wires: &mut W,
+        me: Locator,
+        outcome: &Outcome,
+        request: &ItrRequest,
+    )
+        ensures told { (calls : List ACall) × RecordsCalls (W.calls wires.old) calls (W.calls wires.new)
+            × IsToldItr me outcome.now request.now calls }
+        ensures same { self.new ≡ self.old }
+    {
+        if !Front::put_itr_reply(&mut self.reply, outcome, request) {
+            return;
+        }
+        // A reply that can't be sent is lost.
+        let _sent = wires.send(me, request.to, request.port, self.reply.as_slice());
+    }
+
     /// The lookup of the identifier at this place has ended so.
     pub(crate) fn end(&mut self, place: usize, end: LoopEnd)
         ensures { self.new ≡ with_end self.old place end }
@@ -109,6 +135,7 @@ impl Askers {
             alloc: _alloc,
             owners: _owners,
             ends,
+            reply: _reply,
         } = self;
         ends
     }

@@ -5,7 +5,7 @@ ghost use Rattle.ddt_wires.specs.declared.call.Call.{Call as ACall};
 ghost use Rattle.ddt_wires.specs.Calls.{RecordsCalls};
 ghost use Rattle.ddt_loop.specs.declared.owner.Asker.TheVariants.{Itr as IsItr};
 ghost use Rattle.ddt_loop.specs.Askers.{AreOwners, with_owner};
-ghost use Rattle.ddt_loop.specs.Acts.{running, remembered, IsSent, IsToldItr, Starts, HasRoomFor};
+ghost use Rattle.ddt_loop.specs.Acts.{running, remembered, IsSent, Starts, HasRoomFor};
 ghost use Rattle.ddt_loop.specs.Acts.{Asks, AsksAt, AsksForItr};
 ghost use Rattle.ddt_loop.specs.Turns.{HaveAsked};
 
@@ -15,10 +15,9 @@ use crate::owner::Asker;
 use crate::steps::Here;
 use ddt_cache::{Entry, Moment};
 use ddt_path::{Locator, Outcome, Xeid};
-use ddt_resolver::{AskError, Asked, Front, ItrRequest, Outgoing, Resolver};
+use ddt_resolver::{AskError, Asked, ItrRequest, Outgoing, Resolver};
 use ddt_trie::PrefixMap;
 use ddt_wires::Wires;
-use std::alloc::Global;
 
 /// Asks for each identifier, in their order.
 pub(crate) fn ask_all<W: Wires, M: PrefixMap<Entry>>(
@@ -77,7 +76,7 @@ pub(crate) fn ask_for_itr<W: Wires, M: PrefixMap<Entry>>(
     let answer = ask(wires, resolver, here, request.xeid, asker, askers);
     match answer {
         Ok(Some(outcome)) => {
-            reply_to_itr(askers.alloc(), wires, here.me, &outcome, &request);
+            askers.reply_to_itr(wires, here.me, &outcome, &request);
             None
         }
         Ok(None) => askers.newest(),
@@ -138,22 +137,4 @@ pub(crate) fn try_to_send<W: Wires>(wires: &mut W, me: Locator, datagram: &Outgo
         × IsSent me datagram.now calls }
 {
     let _sent = wires.send(me, datagram.to, datagram.port, datagram.bytes.as_slice());
-}
-
-/// Tries to send an ITR the negative Map-Reply for an outcome, where it is to have one. It is lost if out of memory.
-pub(crate) fn reply_to_itr<W: Wires>(
-    alloc: Global,
-    wires: &mut W,
-    me: Locator,
-    outcome: &Outcome,
-    request: &ItrRequest,
-)
-    ensures { (calls : List ACall) × RecordsCalls (W.calls wires.old) calls (W.calls wires.new)
-        × IsToldItr me outcome.now request.now calls }
-{
-    match Front::itr_reply(alloc, outcome, request) {
-        Ok(Some(reply)) => try_to_send(wires, me, &reply),
-        Ok(None) => {}
-        Err(_refused) => {}
-    }
 }

@@ -3,6 +3,7 @@
 //!
 //! In reading order: `clock`, `ends`, `owner`, `askers`, `asks`, `came`, `steps`, `polls`, `turns`; `running_resolver`
 //! is the same resolver for ITRs alone, whose caller makes the turns.
+//! Tests: ddt_lookup_tests/turns.
 #![tactic(auto)]
 
 mod askers;

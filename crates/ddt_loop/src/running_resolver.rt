@@ -1,23 +1,27 @@
 //! A resolver that runs for ITRs: what comes to its own socket, and its ticks.
 
-ghost use Rattle.std.specs.Prelude.{◌≡◌, [], List, IfOk};
+ghost use Rattle.std.specs.Prelude.{◌≡◌, false, [], List, IfOk, IfSome, IfNone};
 ghost use Rattle.ddt_wires.specs.declared.call.Call.{Call as ACall};
 ghost use Rattle.ddt_wires.specs.Calls.{RecordsCalls};
 ghost use Rattle.ddt_resolver.specs.State.{moved};
 ghost use Rattle.ddt_resolver.specs.Step.{Tick};
-ghost use Rattle.ddt_loop.specs.Askers.{opening_desk};
-ghost use Rattle.ddt_loop.specs.Acts.{running, HearsOrTicks};
-ghost use Rattle.ddt_loop.specs.Coming.{IsCame};
+ghost use Rattle.ddt_loop.specs.declared.owner.Asker.TheVariants.{Itr};
+ghost use Rattle.ddt_loop.specs.Askers.{opening_desk, with_owner};
+ghost use Rattle.ddt_loop.specs.Acts.{running, AsksForItr, HearsOrTicks};
+ghost use Rattle.ddt_wire.specs.declared.message_type.MessageType.TheVariants.{Encapsulated};
+ghost use Rattle.ddt_wire.specs.MessageType.{is_of};
+ghost use Rattle.ddt_loop.specs.Coming.{IsCame, came_to_end};
 ghost use Rattle.ddt_loop.specs.Ends.{HasEndedBy};
 ghost use Rattle.ddt_loop.specs.Polls.{IsPacketTaken};
 ghost use Rattle.ddt_loop.specs.Runs.{FairRunsAreRight};
 
 use crate::askers::Askers;
+use crate::asks::ask_for_itr;
 use crate::came::{Came, Ended};
-use crate::steps::{Here, resolve, take};
+use crate::steps::{Here, hear, resolve, take};
 use ddt_cache::{Entry, Moment};
 use ddt_path::Locator;
-use ddt_resolver::{Input, Resolver};
+use ddt_resolver::{Input, ItrRequest, Resolver};
 use ddt_sim::a_step_keeps_a_resolver_sound;
 use ddt_trie::PrefixMap;
 use ddt_wires::{Packet, Wires};
@@ -74,8 +78,8 @@ impl<M: PrefixMap<Entry>> RunningResolver<M> {
     /// dropped. Answers what comes of it for the ITRs that wait.
     ///
     /// A remembered outcome is sent to the ITR at once, and so is that of a lookup which has ended: the negative
-    /// Map-Reply for a hole or a site that isn't registered, and nothing for another end. What memory is short for is
-    /// lost: the packet, or the reply (RFC 8111, section 7.3; RFC 9301, sections 5.4 and 5.8).
+    /// Map-Reply for a hole or a site that isn't registered, and nothing for another end. The reply wants no memory. If out
+    /// of memory for more, the packet is lost (RFC 8111, section 7.3; RFC 9301, sections 5.4 and 5.8).
     pub fn take<W: Wires>(
         &mut self,
         wires: &mut W,
@@ -90,6 +94,50 @@ impl<M: PrefixMap<Entry>> RunningResolver<M> {
     {
         let here = Here { me, moment: now };
         take(
+            wires,
+            &mut self.resolver,
+            &here,
+            &mut self.askers,
+            packet,
+            bytes,
+        )
+    }
+
+    /// Asks what an ITR asks, as `take` does where a packet is its request. The number of the lookup's ticket, where one
+    /// starts for it and the ITR waits; None where the outcome is remembered, or the ask is refused.
+    pub fn ask<W: Wires>(
+        &mut self,
+        wires: &mut W,
+        me: Locator,
+        now: Moment,
+        request: ItrRequest,
+    ) -> Option<u64>
+        ensures waits { IfSome result (λ t. self.new.desk ≡ with_owner self.old.desk t (Itr request)) }
+        ensures none { IfNone result (self.new.desk ≡ self.old.desk) }
+        ensures asks { (calls : List ACall) × RecordsCalls (W.calls wires.old) calls (W.calls wires.new)
+            × AsksForItr me now request self.old calls self.new }
+    {
+        let here = Here { me, moment: now };
+        ask_for_itr(wires, &mut self.resolver, &here, request, &mut self.askers)
+    }
+
+    /// Hears a datagram that came to the resolver's socket and is no Encapsulated Control Message, as `take` does. Answers
+    /// the end of the lookup that an ITR waited for.
+    pub fn hear<W: Wires>(
+        &mut self,
+        wires: &mut W,
+        me: Locator,
+        now: Moment,
+        packet: Packet,
+        bytes: &[u8],
+    ) -> Option<Ended>
+        requires { is_of Encapsulated bytes.now ≡ false }
+        ensures came { IsCame now packet.from bytes.now self.old self.new (came_to_end packet.from result) }
+        ensures taken { (calls : List ACall) × RecordsCalls (W.calls wires.old) calls (W.calls wires.new)
+            × IsPacketTaken me now packet bytes.now self.old calls self.new }
+    {
+        let here = Here { me, moment: now };
+        hear(
             wires,
             &mut self.resolver,
             &here,
@@ -119,9 +167,9 @@ impl<M: PrefixMap<Entry>> RunningResolver<M> {
     }
 }
 
-/// A law of packets that were taken or dropped and of ticks, in any order and number. Where packets from the servers
-/// that were asked tell the truth, each negative Map-Reply is for what the register assigns to an ITR's identifier, and
-/// each of its requests gets at most one. The resolver stays sound.
+/// A law of packets that were taken or dropped, of ticks, and of other resolvers that go on in its place, in any order and
+/// number. Where packets from the servers that were asked tell the truth, each negative Map-Reply is for what the
+/// register assigns to an ITR's identifier, and each of its requests gets at most one. The resolver stays sound.
 pub fn fair_runs_are_right()
     ensures { FairRunsAreRight }
 {

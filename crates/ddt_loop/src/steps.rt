@@ -1,6 +1,6 @@
 //! What comes to the resolver's own socket, and its ticks: each is a step that makes a lookup go on or end.
 
-ghost use Rattle.std.specs.Prelude.{◌≡◌, List};
+ghost use Rattle.std.specs.Prelude.{◌≡◌, false, List};
 ghost use Rattle.ddt_wires.specs.declared.call.Call.{Call as ACall};
 ghost use Rattle.ddt_wires.specs.Calls.{RecordsCalls};
 ghost use Rattle.ddt_resolver.specs.State.{moved};
@@ -8,11 +8,13 @@ ghost use Rattle.ddt_resolver.specs.Step.{call_of};
 ghost use Rattle.ddt_loop.specs.Askers.{AreOwners};
 ghost use Rattle.ddt_loop.specs.Acts.{running, Proceeds, Settles, HearsOrTicks};
 ghost use Rattle.ddt_loop.specs.Ends.{IsToldEnd, IsEnd, HasEnded, HasEndedBy};
-ghost use Rattle.ddt_loop.specs.Coming.{IsCame};
+ghost use Rattle.ddt_wire.specs.declared.message_type.MessageType.TheVariants.{Encapsulated};
+ghost use Rattle.ddt_wire.specs.MessageType.{is_of};
+ghost use Rattle.ddt_loop.specs.Coming.{IsCame, came_to_end};
 ghost use Rattle.ddt_loop.specs.Polls.{IsPacketTaken};
 
 use crate::askers::Askers;
-use crate::asks::{ask_for_itr, reply_to_itr, try_to_send};
+use crate::asks::{ask_for_itr, try_to_send};
 use crate::came::{Came, Ended, ended_so, ends, waits};
 use crate::ends::end_of;
 use crate::owner::Asker;
@@ -23,7 +25,6 @@ use ddt_resolver::{Front, Input, ItrRequest, Progress, Resolver, Ticket, Why};
 use ddt_trie::PrefixMap;
 use ddt_wire::MessageType;
 use ddt_wires::{Packet, Wires};
-use std::alloc::Global;
 
 /// The resolver's own address, and the moment of what it does.
 #[derive(Clone, Copy, Debug)]
@@ -59,13 +60,36 @@ pub(crate) fn take<W: Wires, M: PrefixMap<Entry>>(
             }
             None => Came::Nothing,
         }
-    } else if packet.port == CONTROL_PORT {
-        let input = Input::Datagram(packet.from, bytes);
-        let ended = resolve(wires, resolver, here, askers, input);
-        ends(packet.from, ended)
     } else {
-        Came::Nothing
+        let ended = hear(wires, resolver, here, askers, packet, bytes);
+        ends(packet.from, ended)
     }
+}
+
+/// Takes a packet of these bytes, which are no Encapsulated Control Message: a datagram from UDP port 4342 is heard, and
+/// any other dropped. Answers the end of the lookup that an ITR waited for.
+pub(crate) fn hear<W: Wires, M: PrefixMap<Entry>>(
+    wires: &mut W,
+    resolver: &mut Resolver<M>,
+    here: &Here,
+    askers: &mut Askers,
+    packet: Packet,
+    bytes: &[u8],
+) -> Option<Ended>
+    requires owners { AreOwners resolver.old askers.old.owners }
+    requires plain { is_of Encapsulated bytes.now ≡ false }
+    ensures came { IsCame here.now.moment packet.from bytes.now (running resolver.old askers.old)
+        (running resolver.new askers.new) (came_to_end packet.from result) }
+    ensures taken { (calls : List ACall) × RecordsCalls (W.calls wires.old) calls (W.calls wires.new)
+        × IsPacketTaken here.now.me here.now.moment packet bytes.now (running resolver.old askers.old) calls
+        (running resolver.new askers.new) }
+    ensures owners { AreOwners resolver.new askers.new.owners }
+{
+    if packet.port != CONTROL_PORT {
+        return None;
+    }
+    let input = Input::Datagram(packet.from, bytes);
+    resolve(wires, resolver, here, askers, input)
 }
 
 /// The resolver does a step: a lookup goes on or ends, or all stay. Where memory runs out nothing is done: a datagram is
@@ -133,7 +157,7 @@ fn settle<W: Wires>(
             None
         }
         Some(Asker::Itr(request)) => {
-            tell_itr(askers.alloc(), wires, me, &request, &end);
+            tell_itr(wires, me, askers, &request, &end);
             Some(ended_so(ticket, &end))
         }
         None => None,
@@ -142,17 +166,18 @@ fn settle<W: Wires>(
 
 /// An ITR whose lookup has ended is sent the negative Map-Reply, if there is one.
 fn tell_itr<W: Wires>(
-    alloc: Global,
     wires: &mut W,
     me: Locator,
+    askers: &mut Askers,
     request: &ItrRequest,
     end: &Result<Outcome, Why>,
 )
-    ensures { (calls : List ACall) × RecordsCalls (W.calls wires.old) calls (W.calls wires.new)
+    ensures same { askers.new ≡ askers.old }
+    ensures told { (calls : List ACall) × RecordsCalls (W.calls wires.old) calls (W.calls wires.new)
         × IsToldEnd me end.now request.now calls }
 {
     match end {
-        Ok(outcome) => reply_to_itr(alloc, wires, me, outcome, request),
+        Ok(outcome) => askers.reply_to_itr(wires, me, outcome, request),
         Err(_why) => {}
     }
 }

@@ -38,8 +38,8 @@ use std::alloc::{AllocError, Global};
 /// other is heard where it comes from UDP port 4342. An ITR is sent the negative Map-Reply for a hole or a site that
 /// isn't registered, and nothing for another end.
 ///
-/// A failed `receive` or `send` loses one datagram. Memory that runs out in a turn loses the packet at hand, or the
-/// reply to an ITR; a tick is made up for by the next one. An ask that is refused, also for memory, is the end of its
+/// A failed `receive` or `send` loses one datagram. Memory that runs out in a turn loses the packet at hand, but no reply
+/// to an ITR; a tick is made up for by the next one. An ask that is refused, also for memory, is the end of its
 /// identifier: at most 1,024 lookups are pending (RFC 8111, section 7.3; RFC 9301, sections 5.4 and 5.8).
 ///
 /// Fails only if out of memory for its own lists, before the first ask.

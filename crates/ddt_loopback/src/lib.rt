@@ -2,6 +2,7 @@
 //! try it. And a register as CSV, from which it is read again.
 //!
 //! In reading order: `address`, `moved_register`, `table`; `fields`, `csv_text`.
+//! Tests: ddt_rollout_tests/loopback.
 #![tactic(auto)]
 
 mod address;

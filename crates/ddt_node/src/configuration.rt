@@ -1,12 +1,12 @@
 //! The server of the configuration that bytes spell.
 
-ghost use Rattle.std.specs.Prelude.{◌≡◌, ◌≢◌, ◌<◌, IfOk, IfErr, OnErr};
+ghost use Rattle.std.specs.Prelude.{◌≡◌, ◌≢◌, ◌<◌, IfOk, IfErr, OnOk, OnErr};
 ghost use Rattle.std.specs.Str.{IsUtf8};
 ghost use Rattle.ddt_trie.specs.PrefixMap.{most_entries};
 ghost use Rattle.ddt_config.specs.declared.fault.ConfigFault.TheVariants.{Toml as IsToml, Shape as IsShape, Memory as IsMemory};
 ghost use Rattle.ddt_config.specs.Entries.{entry_count};
 ghost use Rattle.ddt_config.specs.Table.{outline};
-ghost use Rattle.ddt_node.specs.Spelled.{IsServedConfig, IsConfigFault};
+ghost use Rattle.ddt_node.specs.Spelled.{HasRoom, IsServedConfig, IsConfigFault};
 
 use crate::index::has_room_for;
 use crate::server::Server;
@@ -68,6 +68,33 @@ impl<M: PrefixMap<u32>> Server<M> {
         }
     }
 
+    /// The server of a configuration. Refused as 4 Shape where a server has no room for it, else only as 5 Memory.
+    pub fn of_config(alloc: Global, config: ServerConfig) -> Result<Server<M>, ConfigFault>
+        ensures built { IfOk result (λ server. (server ≡ outline config) × HasRoom (outline config)) }
+        ensures refused { IfErr result (λ fault. fault ≢ IsMemory → (fault ≡ IsShape) × ¬ (HasRoom (outline config))) }
+    {
+        let config = with_room(config)?;
+        match Server::build(alloc, config) {
+            Ok(server) => Ok(server),
+            Err(_refused) => Err(ConfigFault::Memory),
+        }
+    }
+
+    /// Takes up a configuration in place of its own. Refused as `of_config` refuses it; then it goes on with its own.
+    pub fn take_up_config(&mut self, alloc: Global, config: ServerConfig) -> Result<(), ConfigFault>
+        ensures taken { OnOk result ((self.new ≡ outline config) × HasRoom (outline config)) }
+        ensures refused { IfErr result (λ fault. fault ≢ IsMemory → (fault ≡ IsShape) × ¬ (HasRoom (outline config))) }
+        ensures unchanged { OnErr result (self.new ≡ self.old) }
+    {
+        match Server::of_config(alloc, config) {
+            Ok(newer) => {
+                *self = newer;
+                Ok(())
+            }
+            Err(fault) => Err(fault),
+        }
+    }
+
     /// Takes up the configuration that bytes spell, in place of its own. Refused as `config_in` refuses them; then it
     /// goes on with its own.
     pub fn take_up(&mut self, alloc: Global, bytes: &[u8]) -> Result<(), ConfigFault>
@@ -75,11 +102,8 @@ impl<M: PrefixMap<u32>> Server<M> {
         ensures refused { IfErr result (λ fault. fault ≢ IsMemory → IsConfigFault bytes.now fault) }
         ensures unchanged { OnErr result (self.new ≡ self.old) }
     {
-        match Server::read(alloc, bytes) {
-            Ok(newer) => {
-                *self = newer;
-                Ok(())
-            }
+        match config_in(alloc, bytes) {
+            Ok(config) => self.take_up_config(alloc, config),
             Err(fault) => Err(fault),
         }
     }

@@ -1,6 +1,7 @@
 //! A server of one configuration: which Map-Referral answers an identifier, and what is sent for a datagram.
 //!
 //! In reading order: `server`, `referral_sets`, `index`, `configuration`, `decision`, `forward`, `datagram`.
+//! Tests: ddt_server_tests/node.
 #![tactic(auto)]
 
 mod configuration;

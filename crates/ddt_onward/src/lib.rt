@@ -1,4 +1,5 @@
 //! An ITR's own request on its way to an ETR: to the Map-Server with the bit D set, and from there as it came.
+//! Tests: ddt_lookup_tests/onward.
 #![tactic(auto)]
 
 ghost use Rattle.std.specs.Prelude.{◌≡◌, ◌∷◌, [], List};

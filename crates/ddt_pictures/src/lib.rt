@@ -2,6 +2,7 @@
 //!
 //! In reading order: `tree` (with `boxes`, `strip`, `cards` and `layout` below it), `ladder` (with `hops` below it), and
 //! `svg`.
+//! Tests: ddt_review_tests/pictures.
 #![tactic(auto)]
 
 mod boxes;

@@ -7,6 +7,7 @@
 //!
 //! In reading order: `sink`, `block_list`, `change_list`, `outcomes`, `counts`; `walk`, `sides`, `halves`, `servers`
 //! below them; `groups`, with `versions` and `configs` below it; and `laws`.
+//! Tests: ddt_register_tests/plan.
 #![tactic(auto)]
 
 mod block_list;

@@ -4,6 +4,7 @@
 //! In reading order: `words` (what is asked), `command_line` (the words that ask it), `listed_blocks`, `told_changes`
 //! (two commands), `block_lines`, `change_lines` (the sinks that write), `after_changes`, `lines` and `objects` (a line as text
 //! and as JSON), `counts`, `inputs`, `refusal`, `stop`, `end`. The other commands have crates of their own.
+//! Tests: ddt_rollout_tests/plan_commands.
 #![tactic(auto)]
 
 mod after_changes;

@@ -1,6 +1,7 @@
 //! The register of a mapping system: its zones, its sites and its server groups, each with the row that it stands in.
 //!
 //! In reading order: `zone`, `site`, `group`, `item`, `row_order`, `register`; `csv_row`, `items`, `reader`, `fault`; `laws`.
+//! Tests: ddt_register_tests/register.
 #![tactic(auto)]
 
 mod csv_row;

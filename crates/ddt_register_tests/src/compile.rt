@@ -1,5 +1,6 @@
 //! The configurations of worked registers, and each group alone as among all.
 
+use crate::comparison::{holds, same};
 use ddt_check::{Accepted, check};
 use ddt_compile::{compile, compile_group};
 use ddt_config::{ServerConfig, from_toml, to_toml};
@@ -45,7 +46,7 @@ fn is_that_of(alloc: Global, rt: &impl Abort, config: &ServerConfig, text: &str)
 
 fn are_alike(alloc: Global, rt: &impl Abort, config: &ServerConfig, wanted: &ServerConfig) {
     let (config, wanted) = (written(alloc, rt, config), written(alloc, rt, wanted));
-    assert_eq!(rt; config.as_str(), wanted.as_str());
+    same(rt, &config.as_str(), &wanted.as_str(), &"the configuration");
 }
 
 /// Registers, and the configurations of their three groups in the order of their rows.
@@ -58,7 +59,7 @@ const COMPILED: &[(&str, [&str; 3])] = &[
 ];
 
 fn are_those_of(alloc: Global, rt: &impl Abort, configs: &[ServerConfig], texts: &[&str]) {
-    assert_eq!(rt; configs.len(), texts.len());
+    same(rt, &configs.len(), &texts.len(), &"the groups");
     for (config, text) in configs.iter().zip(texts) {
         is_that_of(alloc, rt, config, text);
     }
@@ -90,7 +91,11 @@ fn one_group_is_compiled_alone(rt: HostRuntime) {
     for &(group, text) in ALONE {
         compiles_alone(rt.alloc(), &rt, &accepted, group, text);
     }
-    assert!(rt; alone(rt.alloc(), &rt, &accepted, name(&rt, "west")).is_none());
+    holds(
+        &rt,
+        alone(rt.alloc(), &rt, &accepted, name(&rt, "west")).is_none(),
+        &"west",
+    );
 }
 
 /// The configuration of its group alone is this one, which was made with all others.

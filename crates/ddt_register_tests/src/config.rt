@@ -1,5 +1,6 @@
 //! Configurations as text: what is read, what is written, which fault is named, and each condition of the shape.
 
+use crate::comparison::{holds, same};
 use ddt_config::{
     Authority, Child, ConfigFault, Content, Key, ServerConfig, SiteEntry, from_toml, to_toml,
 };
@@ -92,7 +93,7 @@ fn written(alloc: Global, rt: &impl Abort, text: &str) -> String {
 
 /// The text is refused with this fault.
 fn fails(alloc: Global, rt: &impl Abort, text: &str, fault: ConfigFault) {
-    assert_eq!(rt; from_toml(alloc, text).err(), Some(fault), "of {text}");
+    same(rt, &from_toml(alloc, text).err(), &Some(fault), &text);
 }
 
 /// The text is refused with this fault where the one part stands in the place of the other.
@@ -123,24 +124,25 @@ fn count_of_sites(config: &ServerConfig) -> Option<usize> {
 }
 
 fn reads_east(alloc: Global, rt: &impl Abort, text: &str) {
-    assert!(rt; is_east(&config(alloc, rt, text)), "{text}");
+    holds(rt, is_east(&config(alloc, rt, text)), &text);
 }
 
 fn reads_root(alloc: Global, rt: &impl Abort, text: &str) {
-    assert!(rt; is_root(&config(alloc, rt, text)), "{text}");
+    holds(rt, is_root(&config(alloc, rt, text)), &text);
 }
 
 fn has_sites(alloc: Global, rt: &impl Abort, text: &str, count: usize) {
-    assert_eq!(rt;
-        count_of_sites(&config(alloc, rt, text)),
-        Some(count),
-        "of {text}"
+    same(
+        rt,
+        &count_of_sites(&config(alloc, rt, text)),
+        &Some(count),
+        &text,
     );
 }
 
 fn has_authorities(alloc: Global, rt: &impl Abort, text: &str, count: usize) {
     let config = config(alloc, rt, text);
-    assert_eq!(rt; config.authorities.as_slice().len(), count, "of {text}");
+    same(rt, &config.authorities.as_slice().len(), &count, &text);
 }
 
 #[test]
@@ -156,7 +158,7 @@ const WRITTEN: &[(&str, &str)] = &[
 ];
 
 fn writes(alloc: Global, rt: &impl Abort, by_hand: &str, text: &str) {
-    assert_eq!(rt; written(alloc, rt, by_hand).as_str(), text);
+    same(rt, &written(alloc, rt, by_hand).as_str(), &text, &by_hand);
 }
 
 #[test]
@@ -178,7 +180,12 @@ fn what_was_written_is_read_back(rt: HostRuntime) {
 const BARE: &str = "name = \"a-1\"\nkind = \"node\"\nlocators = [\"::1\"]\ncolour = 7\n";
 
 fn has_name(alloc: Global, rt: &impl Abort, text: &str, name: &str) {
-    assert_eq!(rt; config(alloc, rt, text).name.as_bytes(), name.as_bytes());
+    same(
+        rt,
+        &config(alloc, rt, text).name.as_bytes(),
+        &name.as_bytes(),
+        &"the name",
+    );
 }
 
 #[test]
@@ -399,8 +406,8 @@ fn ends_of_four(config: &ServerConfig) -> Option<(Prefix, Prefix)> {
 /// The four children are in the order of the text: these are the first and the last.
 fn begins_and_ends(alloc: Global, rt: &impl Abort, text: &str, first: &str, last: &str) {
     let ends = ends_of_four(&config(alloc, rt, text)).expect(rt, "no four children");
-    assert!(rt; is_prefix(ends.0, first), "{first}");
-    assert!(rt; is_prefix(ends.1, last), "{last}");
+    holds(rt, is_prefix(ends.0, first), &first);
+    holds(rt, is_prefix(ends.1, last), &last);
 }
 
 #[test]
@@ -427,7 +434,7 @@ fn two_authorities_of_one_prefix_are_found_and_may_overlap(rt: HostRuntime) {
 
 fn prints(alloc: Global, rt: &impl Abort, fault: ConfigFault, text: &str) {
     let printed = format!(in alloc; "{fault}").expect(rt, "out of memory");
-    assert_eq!(rt; printed.as_str(), text);
+    same(rt, &printed.as_str(), &text, &"the text");
 }
 
 const FAULTS: &[(ConfigFault, &str)] = &[

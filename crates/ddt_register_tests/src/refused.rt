@@ -3,6 +3,7 @@
 //!
 //! `.ci/memory` runs each of these tests with each growth refused in turn.
 
+use crate::comparison::same;
 use ddt_check::{Accepted, check};
 use ddt_compile::{compile, compile_group};
 use ddt_config::{ConfigFault, ServerConfig, from_toml, to_toml};
@@ -19,7 +20,7 @@ fn register(rt: &impl Abort, alloc: Global, text: &str) -> Result<Register, Fail
     match read_register(alloc, text.as_bytes()) {
         Ok(register) => Ok(register),
         Err(fault) => {
-            assert_eq!(rt; fault, ReadFault::Memory);
+            same(rt, &fault, &ReadFault::Memory, &"the fault");
             Ok(read_register(alloc, text.as_bytes())?)
         },
     }
@@ -53,16 +54,28 @@ const SHAPES: &[(&str, Shape)] = &[
 ];
 
 fn is_site(rt: &impl Abort, site: &Site, other: &Site) {
-    assert_eq!(rt; (site.prefix, site.row), (other.prefix, other.row));
-    assert_eq!(rt; site.etrs.as_slice(), other.etrs.as_slice());
+    same(
+        rt,
+        &(site.prefix, site.row),
+        &(other.prefix, other.row),
+        &"the site",
+    );
+    same(rt, &site.etrs.as_slice(), &other.etrs.as_slice(), &site.row);
 }
 
 fn is_group(rt: &impl Abort, group: &Group, other: &Group) {
-    assert_eq!(rt;
-        (group.name, group.kind, group.row),
-        (other.name, other.kind, other.row)
+    same(
+        rt,
+        &(group.name, group.kind, group.row),
+        &(other.name, other.kind, other.row),
+        &"the group",
     );
-    assert_eq!(rt; group.locators.as_slice(), other.locators.as_slice());
+    same(
+        rt,
+        &group.locators.as_slice(),
+        &other.locators.as_slice(),
+        &group.row,
+    );
 }
 
 fn are_sites(rt: &impl Abort, sites: &[Site], others: &[Site]) {
@@ -79,9 +92,14 @@ fn are_groups(rt: &impl Abort, groups: &[Group], others: &[Group]) {
 
 /// A register has this shape and the items of another one.
 fn is_register(rt: &impl Abort, register: &Register, other: &Register, wanted: &Shape) {
-    assert_eq!(rt; shape(register), *wanted);
-    assert_eq!(rt; shape(other), *wanted);
-    assert_eq!(rt; register.zones.as_slice(), other.zones.as_slice());
+    same(rt, &shape(register), wanted, &"one register");
+    same(rt, &shape(other), wanted, &"the other");
+    same(
+        rt,
+        &register.zones.as_slice(),
+        &other.zones.as_slice(),
+        &"the zones",
+    );
     are_sites(rt, register.sites.as_slice(), other.sites.as_slice());
     are_groups(rt, register.groups.as_slice(), other.groups.as_slice());
 }
@@ -107,7 +125,7 @@ fn config(rt: &impl Abort, alloc: Global, text: &str) -> Result<ServerConfig, Fa
     match from_toml(alloc, text) {
         Ok(config) => Ok(config),
         Err(fault) => {
-            assert_eq!(rt; fault, ConfigFault::Memory);
+            same(rt, &fault, &ConfigFault::Memory, &"the fault");
             Ok(from_toml(alloc, text)?)
         },
     }
@@ -128,7 +146,7 @@ fn is_text(
     wanted: &str,
 ) -> Result<(), Fail> {
     let text = text(alloc, config)?;
-    assert_eq!(rt; text.as_str(), wanted);
+    same(rt, &text.as_str(), &wanted, &"the configuration");
     Ok(())
 }
 
@@ -155,7 +173,7 @@ fn are_texts(
     configs: &[ServerConfig],
     texts: &[&str],
 ) -> Result<(), Fail> {
-    assert_eq!(rt; configs.len(), texts.len());
+    same(rt, &configs.len(), &texts.len(), &"the groups");
     for (config, wanted) in configs.iter().zip(texts) {
         is_text(rt, alloc, config, wanted)?;
     }

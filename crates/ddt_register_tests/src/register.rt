@@ -1,5 +1,6 @@
 //! Registers from CSV: what is read, which fault is named, and readers that fail.
 
+use crate::comparison::{holds, same};
 use ddt_examples::registers::{CAMPUS, COLUMNS};
 use ddt_examples::rows::{CAPITAL, HOST_BITS, NO_ADDRESS, NO_KIND, TOO_FEW_FIELDS};
 use ddt_path::{Locator, Prefix, Role, longest_match};
@@ -18,12 +19,12 @@ fn read(alloc: Global, rt: &impl Abort, text: &[u8]) -> Register {
 
 /// The text is read as the campus register.
 fn reads_campus(alloc: Global, rt: &impl Abort, text: &[u8]) {
-    assert!(rt; is_campus(&read(alloc, rt, text)));
+    holds(rt, is_campus(&read(alloc, rt, text)), &text);
 }
 
 /// The text is refused with this fault, or read where there is none.
 fn gives(alloc: Global, rt: &impl Abort, text: &[u8], fault: Option<ReadFault>) {
-    assert_eq!(rt; read_register(alloc, text).err(), fault, "of {text:?}");
+    same(rt, &read_register(alloc, text).err(), &fault, &text);
 }
 
 /// The register of these rows behind a text gives this fault, or none.
@@ -35,10 +36,11 @@ fn gives_behind(
     fault: Option<ReadFault>,
 ) {
     let text = format!(in alloc; "{before}{rows}\n").expect(rt, "out of memory");
-    assert_eq!(rt;
-        read_register(alloc, text.as_bytes()).err(),
-        fault,
-        "at {rows}"
+    same(
+        rt,
+        &read_register(alloc, text.as_bytes()).err(),
+        &fault,
+        &rows,
     );
 }
 
@@ -147,8 +149,8 @@ fn the_campus_register_is_read(rt: HostRuntime) {
 #[test]
 fn want_of_memory_is_the_only_other_answer(rt: HostRuntime) {
     match read_register(rt.alloc(), CAMPUS.as_bytes()) {
-        Ok(register) => assert!(rt; is_campus(&register)),
-        Err(fault) => assert_eq!(rt; fault, ReadFault::Memory),
+        Ok(register) => holds(&rt, is_campus(&register), &"the campus"),
+        Err(fault) => same(&rt, &fault, &ReadFault::Memory, &"the fault"),
     }
 }
 
@@ -253,7 +255,7 @@ fn other_columns_are_refused(rt: HostRuntime) {
 
 /// The text is read as the register without items.
 fn reads_nothing(alloc: Global, rt: &impl Abort, text: &[u8]) {
-    assert!(rt; is_empty(&read(alloc, rt, text)), "of {text:?}");
+    holds(rt, is_empty(&read(alloc, rt, text)), &text);
 }
 
 /// Texts without a row.
@@ -344,10 +346,11 @@ fn many_rows(alloc: Global, rows: u32, last: &str) -> Result<Vec<u8>, AllocError
 /// So many rows and one more line give this fault, or none.
 fn many_give(alloc: Global, rt: &impl Abort, rows: u32, last: &str, fault: Option<ReadFault>) {
     let text = many_rows(alloc, rows, last).expect(rt, "out of memory");
-    assert_eq!(rt;
-        read_register(alloc, text.as_slice()).err(),
-        fault,
-        "at {last}"
+    same(
+        rt,
+        &read_register(alloc, text.as_slice()).err(),
+        &fault,
+        &last,
     );
 }
 
@@ -356,9 +359,9 @@ fn reads_sites(alloc: Global, rt: &impl Abort, rows: u32) {
     let text = many_rows(alloc, rows, "").expect(rt, "out of memory");
     let register = read(alloc, rt, text.as_slice());
     let sites = register.sites.as_slice();
-    assert_eq!(rt; sites.len(), rows as usize);
+    same(rt, &sites.len(), &(rows as usize), &"the sites");
     let last = sites.last().expect(rt, "no site");
-    assert_eq!(rt; last.row, rows);
+    same(rt, &last.row, &rows, &"the last site");
 }
 
 /// What stands behind 65535 rows, and the fault.
@@ -408,7 +411,7 @@ fn failing_after(calls_left: usize) -> Failing<'static> {
 
 fn fails_after(alloc: Global, rt: &impl Abort, calls: usize) {
     let fault = read_register(alloc, failing_after(calls)).err();
-    assert_eq!(rt; fault, Some(ReadFault::Read), "at {calls}");
+    same(rt, &fault, &Some(ReadFault::Read), &calls);
 }
 
 #[test]
@@ -418,16 +421,16 @@ fn a_failed_reader_is_told(rt: HostRuntime) {
         fails_after(rt.alloc(), &rt, fewer);
     }
     let register = read_register(rt.alloc(), failing_after(calls)).expect(&rt, "a register");
-    assert!(rt; is_campus(&register));
+    holds(&rt, is_campus(&register), &"the campus");
 }
 
 fn prints(alloc: Global, rt: &impl Abort, fault: ReadFault, written: &str) {
     let text = format!(in alloc; "{fault}").expect(rt, "out of memory");
-    assert_eq!(rt; text.as_str(), written);
+    same(rt, &text.as_str(), &written, &"the text");
 }
 
 fn tells_row(rt: &impl Abort, fault: ReadFault, row: Option<u32>) {
-    assert_eq!(rt; fault.row(), row);
+    same(rt, &fault.row(), &row, &fault);
 }
 
 /// Faults, what is printed of them, and their row.
@@ -453,24 +456,48 @@ fn faults_are_written_and_tell_their_row(rt: HostRuntime) {
 
 /// Three zones of which the third is of Map-Servers.
 fn judge_first_of_map_servers(rt: &impl Abort, zones: &[Zone]) {
-    assert_eq!(rt; first_row(zones, |z| z.kind == Role::Ms), Some(6));
+    same(
+        rt,
+        &first_row(zones, |z| z.kind == Role::Ms),
+        &Some(6),
+        &"Map-Servers",
+    );
 }
 
 fn judge_first_of_many_digits(rt: &impl Abort, zones: &[Zone]) {
-    assert_eq!(rt; first_row(zones, |z| z.prefix.len() > 100), None);
+    same(
+        rt,
+        &first_row(zones, |z| z.prefix.len() > 100),
+        &None,
+        &"many digits",
+    );
 }
 
 /// Two sites of which the second has no ETR.
 fn judge_first_without_etrs(rt: &impl Abort, sites: &[Site]) {
-    assert_eq!(rt; first_row(sites, |s| s.etrs.as_slice().is_empty()), Some(8));
+    same(
+        rt,
+        &first_row(sites, |s| s.etrs.as_slice().is_empty()),
+        &Some(8),
+        &"no ETR",
+    );
 }
 
 fn judge_matches(rt: &impl Abort, zones: &[Zone], sites: &[Site]) {
     let ([everything, _, east], [registered, _]) = (zones, sites) else {
         panic!(rt; "not three zones and two sites");
     };
-    assert!(rt; longest_match(sites, everything.prefix).is_none());
-    assert_eq!(rt; longest_match(zones, registered.prefix), Some(east));
+    holds(
+        rt,
+        longest_match(sites, everything.prefix).is_none(),
+        &everything.prefix,
+    );
+    same(
+        rt,
+        &longest_match(zones, registered.prefix),
+        &Some(east),
+        &registered.prefix,
+    );
 }
 
 #[test]

@@ -1,6 +1,6 @@
 -- The side of a Map-Resolver that ITRs see. An ITR asks by an Encapsulated Map-Request whose bit D is clear. Where no
 -- ETR is to answer it, a negative Map-Reply does (RFC 8111, section 7.3; RFC 9301, sections 5.4 and 5.8).
-use Rattle.std.specs.Prelude.{ℕ, ◌≡◌, false, nat_lt, if◌then◌else◌, List, length, take, Option, Some, None, slice_get}
+use Rattle.std.specs.Prelude.{ℕ, ◌≡◌, Bool, false, nat_lt, if◌then◌else◌, List, length, take, Option, Some, None, slice_get}
 use Rattle.std.specs.Option.{option_map}
 use Rattle.ddt_path.specs.declared.locator.Locator.{Locator}
 use Rattle.ddt_path.specs.declared.record.Outcome.{Outcome}
@@ -63,3 +63,7 @@ datagram_for q n = record { to = q.to; port = q.port; bytes = written_reply (rep
 -- what is sent to the ITR
 abbrev pub reply_to_itr : Outcome → ItrRequest → Option Outgoing
 reply_to_itr outcome q = option_map (datagram_for q) (negative_for q.xeid outcome)
+
+-- the datagram to the ITR whose bytes a buffer holds, where there is one
+abbrev pub in_buffer : ItrRequest → List ℕ → Bool → Option Outgoing
+in_buffer q put there = if there then Some (record { to = q.to; port = q.port; bytes = put }) else None

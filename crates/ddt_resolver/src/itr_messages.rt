@@ -1,19 +1,21 @@
 //! The side of a Map-Resolver that ITRs see: what an ITR's request asks, and the negative Map-Reply to it (RFC 8111,
 //! section 7.3; RFC 9301, sections 5.4 and 5.8).
 
-ghost use Rattle.std.specs.Prelude.{◌≡◌, false, Some, None, Ok, IfOk, IfSome, IsSome};
+ghost use Rattle.std.specs.Prelude.{◌≡◌, ◌≤◌, false, Some, None, Ok, IfOk, IfSome, IsSome, vec_capacity};
 ghost use Rattle.ddt_ecm.specs.Request.{Message, Spells};
 ghost use Rattle.ddt_resolver.specs.declared.itr_messages.ItrRequest.{ItrRequest as AnItrRequest};
-ghost use Rattle.ddt_resolver.specs.Front.{IsItrRequest, asked_by, block_for as block_for_of, negative_for as negative_for_of, reply_to_itr};
+ghost use Rattle.ddt_resolver.specs.Front.{IsItrRequest, asked_by, block_for as block_for_of, negative_for as negative_for_of, reply_to_itr, in_buffer};
 
 use crate::results::Outgoing;
 use ddt_ecm::{Request, read_request};
 use ddt_path::{HOLE_TTL, Listed, Locator, NOT_REGISTERED_TTL, Outcome, Prefix, Xeid};
-use ddt_wire::write_negative_reply;
+use ddt_wire::{put_negative_reply, write_negative_reply};
 use std::alloc::{AllocError, Global};
 
 /// The number of digits before the address: 32 of the instance, and the family's.
 const BEFORE_ADDRESS: u8 = 33;
+/// No negative Map-Reply has more bytes.
+pub const MOST_REPLY_BYTES: usize = 52;
 
 /// What an ITR asks, and where the answer goes.
 #[derive(Clone, Copy, Debug, PartialEq, Eq)]
@@ -108,5 +110,21 @@ impl Front {
             port: request.port,
             bytes: Listed::of(bytes),
         }))
+    }
+
+    /// Puts what `itr_reply` answers into a buffer, in place of what that holds, and says whether there is a reply: it
+    /// goes to the request's first ITR-RLOC at its inner source port. The buffer has room for 52 bytes, the most that a
+    /// reply has, so that it allocates nothing and never fails.
+    pub fn put_itr_reply(buffer: &mut Vec<u8>, outcome: &Outcome, request: &ItrRequest) -> bool
+        requires { 52 ≤ vec_capacity buffer.old }
+        ensures answered { in_buffer request.now buffer.new.items result ≡ reply_to_itr outcome.now request.now }
+        ensures room { 52 ≤ vec_capacity buffer.new }
+    {
+        let Some((ttl, prefix)) = negative_for(request.xeid, outcome) else {
+            return false;
+        };
+        let put: Result<_, _> = put_negative_reply(buffer, request.nonce, ttl, prefix);
+        put.unwrap();
+        true
     }
 }

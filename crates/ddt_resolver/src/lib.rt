@@ -3,6 +3,7 @@
 //!
 //! In reading order: `results`, `limits`, `pending`, `waiting`, `table`, `resolver`, `asks`, `replies`,
 //! `loop_detection`, `actions`, `ticks`, `step`, `requests`, `laws`; `itr_messages` is the side that ITRs see.
+//! Tests: ddt_resolver_tests/resolver.
 #![tactic(auto)]
 
 mod actions;
@@ -22,7 +23,7 @@ mod ticks;
 mod waiting;
 
 pub use ddt_cache::Moment;
-pub use itr_messages::{Front, ItrRequest};
+pub use itr_messages::{Front, ItrRequest, MOST_REPLY_BYTES};
 pub use laws::{order_is_kept, tickets_are_new, usable_is_taken};
 pub use limits::MOST_PENDING;
 pub use pending::Pending;

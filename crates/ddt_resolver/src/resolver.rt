@@ -85,6 +85,7 @@ impl<M: PrefixMap<Entry>> Resolver<M> {
     /// How many referrals it remembers, the root's servers not among them, as `Cache::held` counts them.
     pub fn remembered(&self) -> usize
         ensures most { result ≤ most_live_entries }
+        ensures least { map.len self.now.known.live ≤ result }
     {
         self.cache.held()
     }

@@ -1,6 +1,7 @@
 //! Worked values, and each kind of call in random order beside a plain cache. The batteries are generic: each runs on
-//! every map from prefixes.
+//! every map from prefixes. `full` has the tests of a full cache.
 
+mod full;
 mod plain;
 
 use ddt_cache::{Cache, Entry, LAST_MOMENT, Moment, Saved};
@@ -625,38 +626,6 @@ fn a_cache_on_a_list_answers_as_a_plain_one(rt: HostRuntime) {
     }
 }
 
-/// The MS-NOT-REGISTERED of an address, for a minute.
-fn not_registered(number: u32) -> ReferralRecord {
-    bare(Action::MsNotRegistered, Prefix::host(v4(number)), 1)
-}
-
-/// Fills a cache at moment 0, with entries that end at 60,000.
-fn fill<M: PrefixMap<Entry>>(rt: &impl Abort, cache: &mut Cache<M>) {
-    for number in 0..65_536 {
-        saves(rt, cache, 0, &not_registered(number));
-    }
-}
-
-/// One entry more finds no room before 60,000, but one of a prefix that is there does.
-fn has_no_room<M: PrefixMap<Entry>>(rt: &impl Abort, cache: &mut Cache<M>) {
-    counts(rt, cache, 0, 65_536);
-    let more = not_registered(65_536);
-    answers(rt, cache, 59_999, &more, Saved::Full);
-    counts(rt, cache, 59_999, 65_536);
-    let seventh = Prefix::host(v4(7));
-    saves(rt, cache, 59_999, &bare(Action::DelegationHole, seventh, 1));
-    counts(rt, cache, 59_999, 65_536);
-    forgets(rt, cache, seventh, true);
-    saves(rt, cache, 60_000, &more);
-    counts(rt, cache, 60_000, 1);
-}
-
-fn full_table<M: PrefixMap<Entry>>(alloc: Global, rt: &impl Abort) {
-    let mut cache = rooted::<M>(alloc, rt);
-    fill(rt, &mut cache);
-    has_no_room(rt, &mut cache);
-}
-
 #[test]
 fn a_cache_on_a_trie_answers_the_worked_values(rt: HostRuntime) {
     battery::<TrieMap<Entry>>(rt.alloc(), &rt)
@@ -667,9 +636,4 @@ fn a_cache_on_a_trie_answers_as_a_plain_one(rt: HostRuntime) {
     for seed in 1..9 {
         random_calls::<TrieMap<Entry>>(rt.alloc(), &rt, seed);
     }
-}
-
-#[test]
-fn a_full_table_on_a_trie(rt: HostRuntime) {
-    full_table::<TrieMap<Entry>>(rt.alloc(), &rt)
 }

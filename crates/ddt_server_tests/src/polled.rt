@@ -30,7 +30,7 @@ fn come(wires: &mut PolledWires, at: Locator) -> Result<Option<Packet>, NetFault
 }
 
 /// Waits for at most so long, and answers whether something is at a locator then.
-fn is_there(wires: &mut PolledWires, at: Locator, millis: i32) -> bool {
+fn is_there(wires: &mut PolledWires, at: Locator, millis: u16) -> bool {
     wires.wait(millis) && wires.is_ready_at(at)
 }
 
@@ -85,7 +85,7 @@ fn waited(
     rt: &(impl Abort + Clock),
     wires: &mut PolledWires,
     at: Locator,
-    millis: i32,
+    millis: u16,
 ) -> Result<u128, Fail> {
     let start = Instant::now(rt)?;
     assert!(rt; !is_there(wires, at, millis));

@@ -2,14 +2,15 @@
 
 ghost use Rattle.std.specs.Prelude.{◌≡◌, ◌≢◌, ◌⊎◌, Ok, Err, IfOk, IfErr};
 ghost use Rattle.toml.specs.Errors.{IsMemory};
+ghost use Rattle.toml.specs.View.{table_view};
 ghost use Rattle.ddt_settings.specs.declared.settings.Settings.{Settings as SettingsValue};
-ghost use Rattle.ddt_settings.specs.Table.{settings_in_text};
+ghost use Rattle.ddt_settings.specs.Table.{settings_in, settings_in_text};
 ghost use Rattle.ddt_settings.specs.Reading.{IsToldAs};
 
 use crate::fault::SettingsFault;
 use crate::settings::Settings;
 use std::alloc::Global;
-use toml::de;
+use toml::{Table, de};
 
 /// The settings that a text in TOML stands for. At its top stand `roots`, an array of the texts of 1 to 8 locators;
 /// `listen`, an array of those of the locators of this machine, at least one, no wildcard, and each once; and `allow`,
@@ -31,9 +32,18 @@ pub fn from_toml(alloc: Global, text: &str) -> Result<Settings, SettingsFault>
     ensures refused { IfErr result (λ fault. fault ≢ SettingsFault.Memory → settings_in_text text.now ≡ Err fault) }
 {
     match toml::table_from_str(alloc, text) {
-        Ok(table) => Settings::read(alloc, &table),
+        Ok(table) => from_table(alloc, &table),
         Err(fault) => Err(toml_fault(&fault)),
     }
+}
+
+/// The settings that a table stands for. Refused as `from_toml` refuses a text of this table, but never as 1 Toml.
+pub fn from_table(alloc: Global, table: &Table) -> Result<Settings, SettingsFault>
+    ensures found { IfOk result (λ s. settings_in (table_view table.now) ≡ Ok s) }
+    ensures refused { IfErr result (λ fault. fault ≢ SettingsFault.Memory → settings_in (table_view table.now)
+        ≡ Err fault) }
+{
+    Settings::read(alloc, table)
 }
 
 /// What is told of a text that `toml` refuses: 7 Memory if and only if memory was refused.

@@ -1,6 +1,7 @@
 //! The settings of a Map-Resolver: which servers are the root's, where it listens, and which ITRs may ask.
 //!
 //! In reading order: `fault`, `rloc_prefix`, `members`, `settings`, `document`.
+//! Tests: ddt_daemon_tests/settings.
 #![tactic(auto)]
 
 mod document;
@@ -9,7 +10,7 @@ mod members;
 mod rloc_prefix;
 mod settings;
 
-pub use document::from_toml;
+pub use document::{from_table, from_toml};
 pub use fault::{Key, SettingsFault};
 pub use rloc_prefix::{RlocPrefix, parse_rloc_prefix};
 pub use settings::Settings;

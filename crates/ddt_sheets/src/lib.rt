@@ -3,6 +3,7 @@
 //! In reading order: `difference`, `notes`, `kind`, `unread`, `sheet` (what a file holds); `encodings`, `divider`,
 //! `line_count`, `columns`, `rows`, `reader` (how it is read); `broken_rule`, `fault_line`, `causes`, `field_reasons`,
 //! `rule_reasons`, `printed`, `all_faults` (what is told of it), `fault_text`.
+//! Tests: ddt_review_tests/sheets.
 #![tactic(auto)]
 
 mod all_faults;

@@ -1,6 +1,7 @@
 //! Servers and a resolver together: what following Map-Referrals from the root ends in.
 //!
 //! In reading order: `servers`, `compiled`, `laws`, `hop`, `exchange`, `one_lookup`, `schedule`, `schedule_run`.
+//! Tests: ddt_lookup_tests/sim.
 #![tactic(auto)]
 
 mod compiled;

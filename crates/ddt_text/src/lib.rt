@@ -3,6 +3,7 @@
 //! that is written (specs/Written.antt), which spells the value, so that it is read again. Parsers allocate nothing.
 //!
 //! In reading order: `fault`, `number`, `parts`, `locator_text`, `xeid_text`, `prefix_text`.
+//! Tests: ddt_format_tests/prefixes/text.
 #![tactic(auto)]
 
 mod fault;

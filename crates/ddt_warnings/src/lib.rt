@@ -2,6 +2,7 @@
 //!
 //! In reading order: `kind`, `reach`, `warning`, `all_warnings`, `warned`, `of_groups`, `of_sites`, `of_zones`, and `index`
 //! with `by_prefix`, `zone_tree`, `children`, `servers` and `order` below it.
+//! Tests: ddt_review_tests/warnings.
 #![tactic(auto)]
 
 mod all_warnings;

@@ -55,6 +55,7 @@ pub fn write_address(bytes: &mut Vec<u8>, address: Locator) -> Result<(), AllocE
     ensures written { OnOk result (bytes.new.items ≡ bytes.old.items ++ family_and_address address) }
     ensures unchanged { OnErr result (bytes.new.items ≡ bytes.old.items) }
     ensures fits { OnOk result (IsAddress address) }
+    ensures capacity { vec_capacity bytes.old ≤ vec_capacity bytes.new }
     ensures reserved { vec_len bytes.old + length (family_and_address address) ≤ vec_capacity bytes.old → IsOk result }
 {
     match address {

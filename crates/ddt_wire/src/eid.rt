@@ -87,6 +87,7 @@ fn put_instance(bytes: &mut Vec<u8>, mask: u8, iid: u32, inner: u16) -> Result<(
 /// Appends the EID of a form. It succeeds where enough is reserved.
 fn put_form(bytes: &mut Vec<u8>, form: Form) -> Result<(), AllocError>
     ensures written { OnOk result (bytes.new.items ≡ bytes.old.items ++ written_form form) }
+    ensures capacity { vec_capacity bytes.old ≤ vec_capacity bytes.new }
     ensures reserved { vec_len bytes.old + 30 ≤ vec_capacity bytes.old → IsOk result }
 {
     match form {
@@ -107,13 +108,15 @@ fn put_form(bytes: &mut Vec<u8>, form: Form) -> Result<(), AllocError>
 }
 
 /// Appends the EID of the prefix from its AFI on, 6 to 30 bytes: a block of instance 0 as its address, another block
-/// and a range of instances as an LCAF of type 2 (RFC 8060, section 4.1). Fails only if out of memory, and then `bytes`
-/// is unchanged.
+/// and a range of instances as an LCAF of type 2 (RFC 8060, section 4.1). It succeeds where 30 bytes were reserved. Fails
+/// only if out of memory, and then `bytes` is unchanged.
 pub fn write_eid(bytes: &mut Vec<u8>, prefix: Prefix) -> Result<(), AllocError>
     ensures written { OnOk result (bytes.new.items ≡ bytes.old.items ++ written_eid prefix) }
     ensures spelled { OnOk result (SpellsEid (written_mask_len prefix) (written_eid prefix) prefix) }
     ensures path { IsPrefix prefix }
     ensures unchanged { OnErr result (bytes.new.items ≡ bytes.old.items) }
+    ensures capacity { vec_capacity bytes.old ≤ vec_capacity bytes.new }
+    ensures reserved { vec_len bytes.old + 30 ≤ vec_capacity bytes.old → IsOk result }
 {
     bytes.reserve(LONGEST_EID)?;
     put_form(bytes, prefix.form())

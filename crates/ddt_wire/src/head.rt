@@ -20,7 +20,7 @@
 //!
 //! What the flags behind ACT and the four bits before the map version mean is each message's own.
 
-ghost use Rattle.std.specs.Prelude.{◌≡◌, ◌++◌, ◌^◌, ◌<◌, ◌≤◌, length, OnOk};
+ghost use Rattle.std.specs.Prelude.{◌≡◌, ◌++◌, ◌^◌, ◌<◌, ◌+◌, ◌≤◌, length, OnOk, IsOk, vec_len, vec_capacity};
 ghost use Rattle.ddt_wire.specs.Head.{head_at, head_bytes};
 
 use crate::message_type::TYPE_SHIFT;
@@ -61,11 +61,14 @@ pub(crate) enum HeadFault {
     RecordCount,
 }
 
-/// Appends the head of a message of this type.
+/// Appends the head of a message of this type, 22 bytes. It succeeds where they were reserved.
 pub(crate) fn put_head(bytes: &mut Vec<u8>, message_type: u8, head: &Head) -> Result<(), AllocError>
     requires { message_type < 16 }
     ensures written { OnOk result (bytes.new.items ≡ bytes.old.items ++ head_bytes message_type 0 head.now) }
     ensures ttl { OnOk result (head.now.ttl < 2 ^ 32) }
+    ensures len { OnOk result (vec_len bytes.new ≡ vec_len bytes.old + 22) }
+    ensures capacity { vec_capacity bytes.old ≤ vec_capacity bytes.new }
+    ensures reserved { vec_len bytes.old + 22 ≤ vec_capacity bytes.old → IsOk result }
 {
     let type_and_count = u32::from(message_type) * TYPE + 1;
     bytes.extend_from_slice(&type_and_count.to_be_bytes())?;

@@ -2,6 +2,7 @@
 //!
 //! In reading order: `message_type`, `address`, `addresses`, `eid`, `head`, `fault`, `locator_record`, `referral`,
 //! `negative_reply`, `laws`.
+//! Tests: ddt_format_tests/messages/wire.
 #![tactic(auto)]
 
 mod address;
@@ -24,5 +25,7 @@ pub use locator_record::Locators;
 pub use message_type::{
     ENCAPSULATED, MAP_REFERRAL, MAP_REPLY, MAP_REQUEST, MessageType, TYPE_SHIFT,
 };
-pub use negative_reply::{NegativeReply, ReplyFault, read_negative_reply, write_negative_reply};
+pub use negative_reply::{
+    NegativeReply, ReplyFault, put_negative_reply, read_negative_reply, write_negative_reply,
+};
 pub use referral::{LentRecord, Referral, put_referral, read_referral, write_referral};

@@ -21,7 +21,7 @@
 //!
 //! A, the map version and the reserved bits are ignored.
 
-ghost use Rattle.std.specs.Prelude.{◌≡◌, Ok, IfOk};
+ghost use Rattle.std.specs.Prelude.{◌≡◌, ◌≤◌, Ok, IfOk, OnOk, IsOk, vec_capacity};
 ghost use Rattle.ddt_wire.specs.declared.negative_reply.NegativeReply.{NegativeReply};
 ghost use Rattle.ddt_wire.specs.NegativeReply.{SpellsReply, written_reply, reply_of, reply_in};
 
@@ -81,16 +81,20 @@ pub struct NegativeReply {
     pub prefix: Prefix,
 }
 
-/// The one spelling of a negative Map-Reply with this nonce, TTL in minutes and prefix, of 28 to 52 bytes: no locator,
-/// ACT 1 (Natively-Forward), and every ignored bit 0 (RFC 9301, section 5.4). Fails only if out of memory.
-pub fn write_negative_reply(
-    alloc: Global,
+/// Puts the one spelling of a negative Map-Reply with this nonce, TTL in minutes and prefix into a buffer, in place of
+/// what that holds. It has 28 to 52 bytes: no locator, ACT 1 (Natively-Forward), and every ignored bit 0 (RFC 9301,
+/// section 5.4). Fails only if out of memory, and never where the buffer has room for 52 bytes; then some of the message
+/// may be there.
+pub fn put_negative_reply(
+    buffer: &mut Vec<u8>,
     nonce: u64,
     ttl: u32,
     prefix: Prefix,
-) -> Result<Vec<u8>, AllocError>
-    ensures written { IfOk result (λ bytes. bytes.items ≡ written_reply (reply_of nonce ttl prefix)) }
-    ensures spelled { IfOk result (λ bytes. SpellsReply bytes.items (reply_of nonce ttl prefix)) }
+) -> Result<(), AllocError>
+    ensures written { OnOk result (buffer.new.items ≡ written_reply (reply_of nonce ttl prefix)) }
+    ensures spelled { OnOk result (SpellsReply buffer.new.items (reply_of nonce ttl prefix)) }
+    ensures capacity { vec_capacity buffer.old ≤ vec_capacity buffer.new }
+    ensures reserved { 52 ≤ vec_capacity buffer.old → IsOk result }
 {
     let head = Head {
         nonce,
@@ -100,9 +104,25 @@ pub fn write_negative_reply(
         flags: NATIVELY_FORWARD * ACT,
         version: 0,
     };
+    buffer.clear();
+    put_head(buffer, MAP_REPLY, &head)?;
+    write_eid(buffer, prefix)?;
+    Ok(())
+}
+
+/// The one spelling of a negative Map-Reply with this nonce, TTL in minutes and prefix, as `put_negative_reply` writes
+/// it. Fails only if out of memory.
+pub fn write_negative_reply(
+    alloc: Global,
+    nonce: u64,
+    ttl: u32,
+    prefix: Prefix,
+) -> Result<Vec<u8>, AllocError>
+    ensures written { IfOk result (λ bytes. bytes.items ≡ written_reply (reply_of nonce ttl prefix)) }
+    ensures spelled { IfOk result (λ bytes. SpellsReply bytes.items (reply_of nonce ttl prefix)) }
+{
     let mut bytes = Vec::new(alloc);
-    put_head(&mut bytes, MAP_REPLY, &head)?;
-    write_eid(&mut bytes, prefix)?;
+    put_negative_reply(&mut bytes, nonce, ttl, prefix)?;
     Ok(bytes)
 }
 

@@ -2,6 +2,7 @@
 //!
 //! In reading order: `call`, `wires`, `turns`, `wires_in_memory`, `addresses`, `sockets`, `udp_wires`,
 //! `polled_wires`.
+//! Tests: ddt_server_tests/wires and polled.
 #![tactic(auto)]
 
 mod addresses;

@@ -89,13 +89,12 @@ impl PolledWires {
     }
 
     /// Waits until a datagram is at a socket, or something at a descriptor that is watched, for at most so many
-    /// milliseconds, or without end where they are below 0. False where the system refuses to wait, as at a signal: then
-    /// nothing is ready.
-    pub fn wait(&mut self, millis: i32) -> bool {
+    /// milliseconds. False where the system refuses to wait, as at a signal: then nothing is ready.
+    pub fn wait(&mut self, millis: u16) -> bool {
         for polled in self.polled.iter_mut() {
             polled.revents = 0;
         }
-        poll(self.polled.as_mut_slice(), millis) >= 0
+        poll(self.polled.as_mut_slice(), i32::from(millis)) >= 0
     }
 
     /// Whether the last `wait` found something at a descriptor: one can read of it, or it has an error.

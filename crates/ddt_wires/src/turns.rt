@@ -48,7 +48,7 @@ impl Outbox {
     }
 }
 
-/// ServesTurns for so many turns. Each turn calls `receive` once at the server's socket. For a packet it tries the reply, a
+/// Serves so many turns. Each turn calls `receive` once at the server's socket. For a packet it tries the reply, a
 /// Map-Referral, to the packet's source address and port, and then, where the site is acknowledged, the request to the
 /// ETR at UDP port 4342, each once (RFC 8111, sections 7.1 and 7.2). A request for which there is no memory is lost, as
 /// is a datagram whose `receive` or `send` fails; the next turn goes on. It allocates one buffer for all replies, and each

@@ -88,7 +88,7 @@ impl WiresInMemory {
         Some(self.waiting.remove(place))
     }
 
-    /// RecordsCalls a call, or nothing any more where there is no memory for it.
+    /// Records a call. After a call for which there was no memory, it records none.
     fn tell(&mut self, call: Call)
         ensures { RecordsCalls self.old.told (call ∷ []) self.new.told }
     {

@@ -1,41 +1,84 @@
-//! What is wrong with a configuration, in words.
+//! What is wrong with a configuration or with settings, in words.
 
 use ddt_config::{ConfigFault, Key};
+use ddt_digest::{Key as SealKey, SealFault};
+use ddt_settings::{Key as SettingsKey, SettingsFault};
 use ddt_text::{parse_locator, parse_prefix};
 use std::alloc::{AllocError, Global};
 use std::str;
-use toml::{Table, Value};
+use toml::{Table, Value, de};
 
-/// What is wrong with a configuration, in words: the line, or the key and its value where there is one.
-pub fn fault_text(alloc: Global, bytes: &[u8], fault: ConfigFault) -> Result<String, AllocError> {
+/// What is wrong with the configuration of a text, in words: the key, and its value where there is one.
+pub fn fault_text(alloc: Global, text: &str, fault: ConfigFault) -> Result<String, AllocError> {
     match fault {
-        ConfigFault::Toml => toml_text(alloc, bytes),
+        ConfigFault::Toml => format!(in alloc; "{fault}"),
         ConfigFault::Field(key) => {
             format!(in alloc;
                 "{fault}: {} is missing, or its value is of another kind",
                 key.text()
             )
         }
-        ConfigFault::Value(key) => value_text(alloc, bytes, key),
-        ConfigFault::Shape => { format!(in alloc; "{fault}: no server has such a configuration") }
+        ConfigFault::Value(key) => value_text(alloc, text, key),
+        ConfigFault::Shape => format!(in alloc; "{fault}: no server has such a configuration"),
         ConfigFault::Memory => format!(in alloc; "{fault}: out of memory"),
     }
 }
 
-/// What is wrong with a text that is no TOML.
-pub fn toml_text(alloc: Global, bytes: &[u8]) -> Result<String, AllocError> {
-    let Ok(text) = str::from_utf8(bytes) else {
-        return format!(in alloc; "1 Toml: it is no text in UTF-8");
-    };
-    match toml::table_from_str(alloc, text) {
-        Err(error) => match error.span() {
-            Some(span) => {
-                let line = line_of(bytes, span.start);
-                format!(in alloc; "1 Toml: line {line}: {}", error.message())
+/// How a configuration isn't what its seal says, in words.
+pub fn seal_text(alloc: Global, fault: SealFault) -> Result<String, AllocError> {
+    match fault {
+        SealFault::Missing(key) => format!(in alloc; "6 Seal: {} is missing", key.text()),
+        SealFault::Value(key) if key == SealKey::Digest => {
+            format!(in alloc; "6 Seal: {} isn't 64 hexadecimal digits", key.text())
+        }
+        SealFault::Value(key) => format!(in alloc; "6 Seal: {} is no count", key.text()),
+        SealFault::Count { key, said, found } => {
+            format!(in alloc; "6 Seal: {}: {found} of {said}", key.text())
+        }
+        SealFault::Digest => { format!(in alloc; "6 Seal: the digest is of another configuration") }
+        SealFault::Memory => format!(in alloc; "5 Memory: out of memory"),
+    }
+}
+
+/// What is wrong with settings, in words.
+pub fn settings_text(alloc: Global, fault: &SettingsFault) -> Result<String, AllocError> {
+    match fault {
+        SettingsFault::Toml => format!(in alloc; "{fault}"),
+        SettingsFault::Field(key) => {
+            format!(in alloc; "{fault}: {} is missing, or no array of texts", key.text())
+        }
+        SettingsFault::Value(key, value) => {
+            let value = str::from_utf8(value.as_slice()).unwrap_or("");
+            if *key == SettingsKey::Allow && parse_locator(value.as_bytes()).is_ok() {
+                let length = if value.contains(':') { 128 } else { 32 };
+                return format!(in alloc;
+                    "{fault}: allow has the address {value}: write {value}/{length}"
+                );
             }
-            None => format!(in alloc; "1 Toml: {}", error.message()),
-        },
-        Ok(_table) => format!(in alloc; "1 Toml"),
+            format!(in alloc; "{fault}: {} has {value}", key.text())
+        }
+        SettingsFault::Count(key) => {
+            let most = if *key == SettingsKey::Roots {
+                " to 8"
+            } else {
+                ""
+            };
+            format!(in alloc; "{fault}: {} wants 1{most}", key.text())
+        }
+        SettingsFault::Wildcard => format!(in alloc; "{fault}: listen has a wildcard"),
+        SettingsFault::Twice => format!(in alloc; "{fault}: listen has a locator twice"),
+        SettingsFault::Memory => format!(in alloc; "{fault}: out of memory"),
+    }
+}
+
+/// What is wrong with a text that is no TOML, and in which line.
+pub fn toml_text(alloc: Global, text: &str, error: &de::Error) -> Result<String, AllocError> {
+    match error.span() {
+        Some(span) => {
+            let line = line_of(text.as_bytes(), span.start);
+            format!(in alloc; "1 Toml: line {line}: {}", error.message())
+        }
+        None => format!(in alloc; "1 Toml: {}", error.message()),
     }
 }
 
@@ -46,8 +89,7 @@ fn line_of(bytes: &[u8], place: usize) -> u64 {
 }
 
 /// The key, and its first value in the text that isn't of its form.
-fn value_text(alloc: Global, bytes: &[u8], key: Key) -> Result<String, AllocError> {
-    let text = str::from_utf8(bytes).unwrap_or("");
+fn value_text(alloc: Global, text: &str, key: Key) -> Result<String, AllocError> {
     let fault = ConfigFault::Value(key);
     match toml::table_from_str(alloc, text) {
         Ok(table) => match bad_value(&table, key) {

@@ -1,99 +1,98 @@
-//! `ddtd check CONFIG`: says whether a configuration, or the settings of a resolver, are good.
+//! `ddtd check FILE`: says whether a configuration, or the settings of a resolver, are good.
 
-use crate::configuration::{fault_text, toml_text};
 use crate::end::End;
-use ddt_node::config_in;
-use ddt_settings::{Key, Settings, SettingsFault, from_toml};
+use crate::loading::{
+    Loaded, configuration_in, name_text, role_text, settings_in, table_of, text_of,
+};
+use crate::printable::printable;
+use crate::source::{MOST_CONFIGURATION, MOST_SETTINGS, Why, read, too_large, with_path};
 use std::alloc::{AllocError, Global};
-use std::{fs, str};
+use toml::Table;
 
-/// Says whether the file is good: as settings where it has a key `roots` or `listen`, else as a configuration.
+/// Says whether the file is good: as settings where it has a key `roots` or `listen`, else as a configuration. Of a good
+/// configuration it says what it holds, and before it which keys nothing reads.
 pub fn check(rt: &HostRuntime, path: &str) -> End {
-    match fs::read(rt, path) {
-        Ok(bytes) => {
-            if are_settings(rt.alloc(), &bytes) {
-                say(rt, path, settings_fault(rt.alloc(), &bytes))
-            } else {
-                say(rt, path, config_fault(rt.alloc(), &bytes))
-            }
+    match lines_of(rt, path) {
+        Ok(lines) => print(rt, &lines),
+        Err(why) => refuse(rt, why),
+    }
+}
+
+/// What is said of a good file, a line each.
+fn lines_of(rt: &HostRuntime, path: &str) -> Result<Vec<String>, Why> {
+    let bytes = read(rt, path, MOST_CONFIGURATION)?;
+    match lines_in(rt.alloc(), path, &bytes) {
+        Ok(lines) => Ok(lines),
+        Err(why) => Err(with_path(rt, path, why)),
+    }
+}
+
+fn lines_in(alloc: Global, path: &str, bytes: &[u8]) -> Result<Vec<String>, Why> {
+    let text = text_of(alloc, bytes)?;
+    let table = table_of(alloc, text)?;
+    let lines = if are_settings(&table) {
+        if bytes.len() as u64 > MOST_SETTINGS {
+            return Err(too_large(alloc, MOST_SETTINGS));
         }
-        Err(error) => {
-            let _ = eprintln!(rt; "{path}: {error}");
-            End::Refused
-        }
+        let _settings = settings_in(alloc, text, &table)?;
+        settings_lines(alloc, path)
+    } else {
+        configuration_lines(alloc, path, &configuration_in(alloc, text, table)?)
+    };
+    match lines {
+        Ok(lines) => Ok(lines),
+        Err(refused) => Err(Err(refused)),
     }
 }
 
-/// Whether the text is meant for a resolver.
-fn are_settings(alloc: Global, bytes: &[u8]) -> bool {
-    let text = str::from_utf8(bytes).unwrap_or("");
-    match toml::table_from_str(alloc, text) {
-        Ok(table) => table.get("roots").is_some() || table.get("listen").is_some(),
-        Err(_) => false,
-    }
+/// Whether a table is meant for a resolver.
+fn are_settings(table: &Table) -> bool {
+    table.get("roots").is_some() || table.get("listen").is_some()
 }
 
-/// What is wrong, or None.
-fn config_fault(alloc: Global, bytes: &[u8]) -> Option<Result<String, AllocError>> {
-    match config_in(alloc, bytes) {
-        Ok(_config) => None,
-        Err(fault) => Some(fault_text(alloc, bytes, fault)),
-    }
+fn settings_lines(alloc: Global, path: &str) -> Result<Vec<String>, AllocError> {
+    let mut lines = Vec::new(alloc);
+    lines.push(format!(in alloc; "{path}: good")?)?;
+    Ok(lines)
 }
 
-fn settings_fault(alloc: Global, bytes: &[u8]) -> Option<Result<String, AllocError>> {
-    match settings_in(alloc, bytes) {
-        Ok(_settings) => None,
-        Err(fault) => Some(settings_text(alloc, bytes, &fault)),
-    }
-}
-
-/// The settings that bytes spell.
-pub fn settings_in(alloc: Global, bytes: &[u8]) -> Result<Settings, SettingsFault> {
-    match str::from_utf8(bytes) {
-        Ok(text) => from_toml(alloc, text),
-        Err(_) => Err(SettingsFault::Toml),
-    }
-}
-
-/// What is wrong with settings, in words.
-pub fn settings_text(
+fn configuration_lines(
     alloc: Global,
-    bytes: &[u8],
-    fault: &SettingsFault,
-) -> Result<String, AllocError> {
-    match fault {
-        SettingsFault::Toml => toml_text(alloc, bytes),
-        SettingsFault::Field(key) => {
-            format!(in alloc; "{fault}: {} is missing, or no array of texts", key.text())
-        }
-        SettingsFault::Value(key, value) => {
-            let value = str::from_utf8(value.as_slice()).unwrap_or("");
-            format!(in alloc; "{fault}: {} has {value}", key.text())
-        }
-        SettingsFault::Count(key) => {
-            let most = if *key == Key::Roots { " to 8" } else { "" };
-            format!(in alloc; "{fault}: {} wants 1{most}", key.text())
-        }
-        SettingsFault::Wildcard => format!(in alloc; "{fault}: listen has a wildcard"),
-        SettingsFault::Twice => format!(in alloc; "{fault}: listen has a locator twice"),
-        SettingsFault::Memory => format!(in alloc; "{fault}: out of memory"),
+    path: &str,
+    loaded: &Loaded,
+) -> Result<Vec<String>, AllocError> {
+    let mut lines = Vec::new(alloc);
+    for key in loaded.unknown.as_slice() {
+        lines.push(format!(in alloc; "{path}: {key}")?)?;
     }
+    let role = role_text(loaded.config.role);
+    let name = name_text(&loaded.config.name);
+    let summary = loaded.summary;
+    lines.push(format!(in alloc; "{path}: good: {role} {name}, {summary}")?)?;
+    Ok(lines)
 }
 
-fn say(rt: &HostRuntime, path: &str, fault: Option<Result<String, AllocError>>) -> End {
-    match fault {
-        None => match println!(rt; "{path}: good") {
-            Ok(()) => End::Answered,
-            Err(_) => End::Refused,
-        },
-        Some(Ok(text)) => {
-            let _ = eprintln!(rt; "{path}: {text}");
-            End::Refused
-        }
-        Some(Err(_)) => {
-            let _ = eprintln!(rt; "out of memory");
-            End::Refused
+fn print(rt: &HostRuntime, lines: &[String]) -> End {
+    for line in lines {
+        let Ok(line) = printable(rt.alloc(), line) else {
+            return refuse(rt, Err(AllocError));
+        };
+        if println!(rt; "{line}").is_err() {
+            return End::Refused;
         }
     }
+    End::Answered
+}
+
+/// Says on standard error why nothing is good.
+fn refuse(rt: &HostRuntime, why: Why) -> End {
+    let line = match why {
+        Ok(text) => printable(rt.alloc(), &text),
+        Err(refused) => Err(refused),
+    };
+    let _printed = match line {
+        Ok(line) => eprintln!(rt; "{line}"),
+        Err(_) => eprintln!(rt; "out of memory"),
+    };
+    End::Refused
 }

@@ -1,5 +1,6 @@
 //! The control socket: who comes there says one line, gets one answer, and is let go.
 
+use crate::file_identity::FileIdentity;
 use crate::poll::Poll;
 use ddt_daemon::ControlWord;
 use std::alloc::{AllocError, Global};
@@ -87,35 +88,68 @@ impl Told {
 #[derive(Drop)]
 pub struct Control {
     listener: Option<UnixListener>,
+    /// The socket's file.
+    file: Option<FileIdentity>,
     clients: Vec<Client>,
+    /// The second in which the system last let nobody in.
+    refused_in: Option<u64>,
 }
 
 impl Control {
-    /// The control socket at a path. One that a daemon has left there, at which nobody listens, is replaced. Refused as
-    /// the system refuses it.
-    pub fn open(rt: &HostRuntime, path: Option<&str>) -> io::Result<Control> {
-        let listener = match path {
-            Some(path) => Some(listen(rt, path)?),
-            None => None,
-        };
-        Ok(Control {
-            listener,
-            clients: Vec::new(rt.alloc()),
-        })
+    /// The control socket at a path. One that a daemon has left there, at which nobody listens, is replaced. It says in
+    /// words why it is refused: for an empty path, and as the system refuses it.
+    pub fn open(
+        rt: &HostRuntime,
+        path: Option<&str>,
+    ) -> Result<Control, Result<String, AllocError>> {
+        match Control::listening(rt, path) {
+            Ok(control) => Ok(control),
+            Err(error) => Err(format!(in rt.alloc(); "the control socket: {error}")),
+        }
     }
 
-    /// Has all that may come there waited for: first those who are there, then who comes.
-    pub fn add_to(&self, poll: &mut Poll) {
+    fn listening(rt: &HostRuntime, path: Option<&str>) -> io::Result<Control> {
+        let mut control = Control {
+            listener: None,
+            file: None,
+            clients: Vec::new(rt.alloc()),
+            refused_in: None,
+        };
+        if let Some(path) = path {
+            control.listener = Some(listen(rt, path)?);
+            control.file = Some(FileIdentity::of(&fs::symlink_metadata(rt, path)?));
+        }
+        Ok(control)
+    }
+
+    /// Removes the socket's file at its path, unless another file is there by now.
+    pub fn remove_file(&self, rt: &HostRuntime, path: Option<&str>) {
+        let Some(path) = path else {
+            return;
+        };
+        let Ok(metadata) = fs::symlink_metadata(rt, path) else {
+            return;
+        };
+        if self.file == Some(FileIdentity::of(&metadata)) {
+            let _removed = fs::remove_file(rt, path);
+        }
+    }
+
+    /// Has all that may come there waited for: first those who are there, then who comes. In a second in which the
+    /// system lets nobody in, nobody who comes is waited for.
+    pub fn add_to(&self, poll: &mut Poll, second: u64) {
         for client in self.clients.as_slice() {
             poll.add(&client.stream);
         }
-        if let Some(listener) = &self.listener {
+        if let Some(listener) = &self.listener
+            && self.refused_in != Some(second)
+        {
             poll.add(listener);
         }
     }
 
     /// Takes what came at the places from `first` on: the first who has said a line.
-    pub fn take(&mut self, poll: &Poll, first: usize) -> Option<Told> {
+    pub fn take(&mut self, poll: &Poll, first: usize, second: u64) -> Option<Told> {
         let clients = self.clients.len();
         for place in 0..clients {
             if poll.is_ready(first.saturating_add(place)) {
@@ -123,7 +157,7 @@ impl Control {
             }
         }
         if poll.is_ready(first.saturating_add(clients)) {
-            self.accept();
+            self.accept(second);
         }
         None
     }
@@ -151,13 +185,19 @@ impl Control {
     }
 
     /// Lets somebody in.
-    fn accept(&mut self) {
+    fn accept(&mut self, second: u64) {
         let Some(listener) = &self.listener else {
             return;
         };
-        let Ok((stream, _address)) = listener.accept() else {
-            return;
-        };
+        match listener.accept() {
+            Ok((stream, _address)) => self.add(stream),
+            Err(error) if error.kind() == ErrorKind::WouldBlock => {}
+            // As where too many files are open: who comes is still there in the next second.
+            Err(_) => self.refused_in = Some(second),
+        }
+    }
+
+    fn add(&mut self, stream: UnixStream) {
         if stream.set_nonblocking(true).is_err() {
             return;
         }
@@ -173,6 +213,10 @@ impl Control {
 }
 
 fn listen(rt: &HostRuntime, path: &str) -> io::Result<UnixListener> {
+    // The system would give an address without a name, which anybody may find.
+    if path.is_empty() {
+        return Err(io::Error::new(ErrorKind::InvalidInput, "its path is empty"));
+    }
     let listener = match UnixListener::bind(rt, path) {
         Err(error) if error.kind() == ErrorKind::AddrInUse => listen_again(rt, path)?,
         bound => bound?,

@@ -2,11 +2,12 @@
 
 use crate::end::End;
 use crate::log::{Log, Priority};
+use crate::printable::printable_lines;
 use ddt_daemon::ControlWord;
-use std::io;
 use std::io::{Read, Write};
 use std::os::unix::net::UnixStream;
 use std::time::Duration;
+use std::{io, str};
 
 /// How long an answer is waited for, in seconds.
 const PATIENCE: u64 = 60;
@@ -37,9 +38,16 @@ fn ask(rt: &HostRuntime, socket: &str, word: ControlWord) -> io::Result<Vec<u8>>
     Ok(answer)
 }
 
-/// An answer that begins with `refused` is a refusal, and so is none at all.
+/// Prints an answer, its control characters escaped. One that begins with `refused` is a refusal, and so is none at all
+/// or one that is no text.
 fn print_answer(rt: &HostRuntime, answer: &[u8]) -> End {
-    if rt.stdout().write_all(answer).is_err() || answer.is_empty() {
+    let Ok(text) = str::from_utf8(answer) else {
+        return End::Refused;
+    };
+    let Ok(text) = printable_lines(rt.alloc(), text) else {
+        return End::Refused;
+    };
+    if rt.stdout().write_all(text.as_bytes()).is_err() || answer.is_empty() {
         return End::Refused;
     }
     if answer.starts_with(b"refused") {

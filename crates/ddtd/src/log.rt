@@ -1,5 +1,6 @@
 //! The log: lines on standard error, each with its priority in front, as journald reads it.
 
+use crate::printable::printable;
 use libc::net::{POLLOUT, poll};
 use libc::types::pollfd;
 use std::alloc::AllocError;
@@ -69,8 +70,9 @@ impl Log {
         }
     }
 
-    /// Writes a line if there is room for it; it never waits.
+    /// Writes a line, its control characters escaped, if there is room for it; it never waits.
     fn try_to_write(&mut self, rt: &HostRuntime, priority: Priority, line: &str) -> Option<()> {
+        let line = printable(rt.alloc(), line).ok()?;
         let mut whole = Vec::from_slice(rt.alloc(), priority.prefix()).ok()?;
         whole.extend_from_slice(line.as_bytes()).ok()?;
         whole.push(b'\n').ok()?;

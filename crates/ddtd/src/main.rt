@@ -1,5 +1,6 @@
-//! The daemon: a DDT node or a Map-Server, or a Map-Resolver, that runs until it is stopped, over the files, the sockets,
-//! the clock and the streams of a process. Its rounds are those of `ddt_daemon`.
+//! The daemon: a DDT node or a Map-Server, or a Map-Resolver, that runs until it is stopped, over the files, the
+//! sockets, the clock and the streams of a process. Its rounds are those of `ddt_daemon`.
+//! Tests: tests/ddtd, tests/configurations and tests/namespaces.sh.
 #![tactic(auto)]
 
 mod configuration;
@@ -7,17 +8,26 @@ mod configuration_check;
 mod control;
 mod control_client;
 mod end;
+mod file_identity;
+mod late_addresses;
+mod loading;
 mod log;
 mod map_resolver;
 mod poll;
+mod printable;
+mod receive_buffer;
+mod reply_addresses;
 mod server;
 mod sockets;
+mod source;
+mod standard_streams;
 mod times;
+mod unknown_keys;
 mod watch;
 mod words;
 
 use end::End;
-use log::Log;
+use log::{Log, Priority};
 use std::io::ErrorKind;
 use std::process::ExitCode;
 use std::{env, io};
@@ -30,6 +40,13 @@ fn main(rt: HostRuntime) -> ExitCode {
 
 /// Runs the command that the words of the process ask for.
 fn run_words(rt: &HostRuntime, log: &mut Log) -> End {
+    if let Err(error) = standard_streams::open_closed(rt) {
+        let line = format!(in rt.alloc();
+            "a standard stream is closed, and so is /dev/null: {error}"
+        );
+        log.say(rt, Priority::Error, line);
+        return End::Refused;
+    }
     let words = match words_of(rt) {
         Ok(words) => words,
         Err(error) if error.kind() == ErrorKind::OutOfMemory => {

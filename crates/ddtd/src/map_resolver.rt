@@ -1,8 +1,8 @@
 //! `ddtd resolve SETTINGS`: a Map-Resolver that runs until it is stopped.
 
-use crate::configuration_check::{settings_in, settings_text};
 use crate::control::{Control, Told};
 use crate::end::End;
+use crate::loading::load_settings;
 use crate::log::{Log, Priority};
 use crate::poll::Poll;
 use crate::sockets::{FarWires, ResolverWires, Sockets};
@@ -16,7 +16,6 @@ use ddt_settings::Settings;
 use ddt_trie::TrieMap;
 use ddt_wires::{MOST_BYTES, ip_of};
 use std::alloc::AllocError;
-use std::fs;
 use std::random::RandomSource;
 
 /// How long it is waited at most for what may come, in milliseconds.
@@ -49,6 +48,7 @@ pub fn resolve(rt: &HostRuntime, asked: &ResolveAsked<'_>, log: &mut Log) -> End
         Ok(mut daemon) => {
             daemon.say_where(rt, "ready", log);
             daemon.run(rt, asked, log);
+            daemon.control.remove_file(rt, asked.control);
             log.say(rt, Priority::Notice, format!(in rt.alloc(); "stopped"));
             End::Answered
         }
@@ -57,24 +57,6 @@ pub fn resolve(rt: &HostRuntime, asked: &ResolveAsked<'_>, log: &mut Log) -> End
             End::Refused
         }
     }
-}
-
-/// The file's settings.
-fn read(rt: &HostRuntime, path: &str) -> Result<Settings, Why> {
-    let bytes = match fs::read(rt, path) {
-        Ok(bytes) => bytes,
-        Err(error) => return Err(format!(in rt.alloc(); "{path}: {error}")),
-    };
-    match settings_in(rt.alloc(), &bytes) {
-        Ok(settings) => Ok(settings),
-        Err(fault) => Err(told_of(rt, path, settings_text(rt.alloc(), &bytes, &fault))),
-    }
-}
-
-/// The same with the path in front.
-fn told_of(rt: &HostRuntime, path: &str, text: Why) -> Why {
-    let text = text?;
-    format!(in rt.alloc(); "{path}: {text}")
 }
 
 /// Binds a socket at each address. Those that are bound already stay.
@@ -111,7 +93,7 @@ fn resolver_of(rt: &HostRuntime, settings: &Settings) -> Result<Resolver<TrieMap
 impl Daemon {
     /// A resolver of the file's settings, at its sockets.
     fn start(rt: &HostRuntime, asked: &ResolveAsked<'_>) -> Result<Daemon, Why> {
-        let settings = read(rt, asked.settings)?;
+        let settings = load_settings(rt, asked.settings)?;
         let mut near = ResolverWires::new(rt.alloc());
         let mut far = FarWires {
             sockets: Sockets::new(rt.alloc(), 0),
@@ -119,12 +101,7 @@ impl Daemon {
         bind_all(rt, settings.listen.as_slice(), &mut near.listening)?;
         bind_all(rt, settings.listen.as_slice(), &mut near.asking)?;
         bind_all(rt, settings.listen.as_slice(), &mut far.sockets)?;
-        let control = match Control::open(rt, asked.control) {
-            Ok(control) => control,
-            Err(error) => {
-                return Err(format!(in rt.alloc(); "the control socket: {error}"));
-            }
-        };
+        let control = Control::open(rt, asked.control)?;
         let Ok(buffer) = Vec::from_elem(rt.alloc(), 0u8, MOST_BYTES) else {
             return Err(Err(AllocError));
         };
@@ -160,7 +137,7 @@ impl Daemon {
             self.near.wires.asking.add_to(&mut self.poll);
             self.far.wires.sockets.add_to(&mut self.poll);
             let first = self.poll.len();
-            self.control.add_to(&mut self.poll);
+            self.control.add_to(&mut self.poll, seconds(rt));
             let patience = self.patience(rt);
             if !self.poll.wait(patience) {
                 rest(rt);
@@ -218,7 +195,7 @@ impl Daemon {
         first: usize,
         log: &mut Log,
     ) -> bool {
-        let Some(mut told) = self.control.take(&self.poll, first) else {
+        let Some(mut told) = self.control.take(&self.poll, first, seconds(rt)) else {
             return false;
         };
         let is_stop = told.word == Some(ControlWord::Stop);
@@ -250,6 +227,7 @@ impl Daemon {
             near: self.near.counts,
             far: self.far.counts,
             strays: self.near.wires.strays,
+            sockets: self.near.wires.listening.len() as u64,
             pending: self.resolver.resolver().pending() as u64,
             waiting: self.resolver.waiting() as u64,
             remembered: self.resolver.resolver().remembered() as u64,
@@ -299,7 +277,7 @@ impl Daemon {
     }
 
     fn take_up(&mut self, rt: &HostRuntime, asked: &ResolveAsked<'_>) -> Result<(), Why> {
-        let settings = read(rt, asked.settings)?;
+        let settings = load_settings(rt, asked.settings)?;
         let taken = self.take_up_settings(rt, settings);
         // The sockets are those of the settings that are in force from now on.
         let listen = self.settings.listen.as_slice();

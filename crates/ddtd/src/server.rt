@@ -3,23 +3,28 @@
 use crate::configuration::fault_text;
 use crate::control::{Control, Told};
 use crate::end::End;
+use crate::late_addresses::LateAddresses;
+use crate::loading::{Loaded, Summary, load_configuration, name_text, role_text};
 use crate::log::{Log, Priority};
 use crate::poll::Poll;
+use crate::printable::printable;
 use crate::sockets::{ServerWires, Sockets};
+use crate::source::{Why, with_path};
 use crate::times::{rest, seconds};
+use crate::unknown_keys::UnknownKey;
 use crate::watch::Watch;
 use crate::words::ServeAsked;
-use ddt_config::{ConfigFault, ServerConfig};
+use ddt_config::ServerConfig;
 use ddt_daemon::{ControlWord, Counted, ServerCounts, ServerStatistics, Times, serve_ready};
 use ddt_ecm::CONTROL_PORT;
-use ddt_node::{Server, config_in};
+use ddt_node::Server;
 use ddt_path::Locator;
 use ddt_text::parse_locator;
 use ddt_trie::HashedMap;
 use ddt_wires::{MOST_BYTES, Outbox, ip_of};
 use std::alloc::AllocError;
+use std::io;
 use std::io::ErrorKind;
-use std::{fs, io};
 
 /// How long it is waited at most for what may come, in milliseconds.
 const PATIENCE: i32 = 1000;
@@ -27,19 +32,21 @@ const PATIENCE: i32 = 1000;
 /// How many turns are taken at a socket before the next one has its own.
 const MOST_TURNS: u32 = 64;
 
-/// Why there is nothing to serve, in words; or no memory for them.
-type Why = Result<String, AllocError>;
-
 /// A server that runs, and what it runs on.
 #[derive(Drop)]
 struct Daemon {
     server: Server<HashedMap<u32>>,
+    /// What the server's configuration holds.
+    summary: Summary,
     wires: Counted<ServerWires>,
     control: Control,
     poll: Poll,
     buffer: Vec<u8>,
     outbox: Outbox,
     watch: Watch,
+    late: LateAddresses,
+    /// The second in which a socket was last tried at each locator.
+    second: u64,
     counts: ServerCounts,
     times: Times,
     refused: u64,
@@ -47,10 +54,12 @@ struct Daemon {
 
 /// Serves the configuration until it is told to stop.
 pub fn serve(rt: &HostRuntime, asked: &ServeAsked<'_>, log: &mut Log) -> End {
-    match Daemon::start(rt, asked) {
+    match Daemon::start(rt, asked, log) {
         Ok(mut daemon) => {
             daemon.say_where(rt, "ready", log);
+            daemon.bind_late(rt, asked, log);
             daemon.run(rt, asked, log);
+            daemon.control.remove_file(rt, asked.control);
             log.say(rt, Priority::Notice, format!(in rt.alloc(); "stopped"));
             End::Answered
         }
@@ -59,29 +68,6 @@ pub fn serve(rt: &HostRuntime, asked: &ServeAsked<'_>, log: &mut Log) -> End {
             End::Refused
         }
     }
-}
-
-/// The file's bytes, and the configuration that they spell.
-fn read(rt: &HostRuntime, path: &str) -> Result<(Vec<u8>, ServerConfig), Why> {
-    let bytes = match fs::read(rt, path) {
-        Ok(bytes) => bytes,
-        Err(error) => return Err(format!(in rt.alloc(); "{path}: {error}")),
-    };
-    match config_in(rt.alloc(), &bytes) {
-        Ok(config) => Ok((bytes, config)),
-        Err(fault) => Err(refused(rt, path, &bytes, fault)),
-    }
-}
-
-/// What is wrong with a configuration.
-fn refused(rt: &HostRuntime, path: &str, bytes: &[u8], fault: ConfigFault) -> Why {
-    told_of(rt, path, fault_text(rt.alloc(), bytes, fault))
-}
-
-/// The same with the path in front.
-fn told_of(rt: &HostRuntime, path: &str, text: Why) -> Why {
-    let text = text?;
-    format!(in rt.alloc(); "{path}: {text}")
 }
 
 /// Where it is to serve, by the words: each is a locator of the configuration.
@@ -118,10 +104,11 @@ fn places_of<'a>(given: &'a [Locator], config: &'a ServerConfig) -> &'a [Locator
 /// bound already stay.
 fn bind_all(
     rt: &HostRuntime,
+    asked: &ServeAsked<'_>,
     addresses: &[Locator],
-    is_chosen: bool,
     sockets: &mut Sockets,
 ) -> Result<(), Why> {
+    let is_chosen = !asked.addresses.is_empty();
     for address in addresses {
         match bind(rt, *address, sockets) {
             Err(error) if !is_chosen && error.kind() == ErrorKind::AddrNotAvailable => {}
@@ -130,9 +117,29 @@ fn bind_all(
         }
     }
     if !addresses.iter().any(|address| sockets.has(*address)) {
-        return Err(format!(in rt.alloc(); "no locator is this machine's"));
+        return Err(no_place_text(rt, asked.config, addresses));
     }
     Ok(())
+}
+
+/// That none of a configuration's locators is an address of this machine.
+fn no_place_text(rt: &HostRuntime, path: &str, locators: &[Locator]) -> Why {
+    let mut text = format!(in rt.alloc(); "{path}: no locator is this machine's:")?;
+    for locator in locators {
+        text.push_str(&format!(in rt.alloc(); " {}", ip_of(*locator))?)?;
+    }
+    Ok(text)
+}
+
+/// Says in the log which keys of the file nothing reads.
+fn say_unknown(rt: &HostRuntime, path: &str, unknown: &[UnknownKey], log: &mut Log) {
+    for key in unknown {
+        log.say(
+            rt,
+            Priority::Warning,
+            format!(in rt.alloc(); "{path}: {key}"),
+        );
+    }
 }
 
 fn bind(rt: &HostRuntime, address: Locator, sockets: &mut Sockets) -> io::Result<()> {
@@ -144,39 +151,38 @@ fn bind(rt: &HostRuntime, address: Locator, sockets: &mut Sockets) -> io::Result
 
 impl Daemon {
     /// A server of the file's configuration, at its sockets.
-    fn start(rt: &HostRuntime, asked: &ServeAsked<'_>) -> Result<Daemon, Why> {
+    fn start(rt: &HostRuntime, asked: &ServeAsked<'_>, log: &mut Log) -> Result<Daemon, Why> {
         let watch = Watch::new(rt, asked.config, asked.is_watched);
-        let (bytes, config) = read(rt, asked.config)?;
-        let addresses = addresses_in(rt, asked, &config)?;
+        let loaded = load_configuration(rt, asked.config)?;
+        say_unknown(rt, asked.config, loaded.unknown.as_slice(), log);
+        let addresses = addresses_in(rt, asked, &loaded.config)?;
         let mut sockets = Sockets::new(rt.alloc(), CONTROL_PORT);
-        bind_all(
-            rt,
-            places_of(&addresses, &config),
-            !addresses.is_empty(),
-            &mut sockets,
-        )?;
-        let server = match Server::read(rt.alloc(), &bytes) {
+        let places = places_of(&addresses, &loaded.config);
+        bind_all(rt, asked, places, &mut sockets)?;
+        let summary = loaded.summary;
+        let server = match Server::of_config(rt.alloc(), loaded.config) {
             Ok(server) => server,
-            Err(fault) => return Err(refused(rt, asked.config, &bytes, fault)),
-        };
-        let control = match Control::open(rt, asked.control) {
-            Ok(control) => control,
-            Err(error) => {
-                return Err(format!(in rt.alloc(); "the control socket: {error}"));
+            Err(fault) => {
+                let text = fault_text(rt.alloc(), "", fault);
+                return Err(with_path(rt, asked.config, text));
             }
         };
+        let control = Control::open(rt, asked.control)?;
         let Ok(buffer) = Vec::from_elem(rt.alloc(), 0u8, MOST_BYTES) else {
             return Err(Err(AllocError));
         };
         let now = seconds(rt);
         Ok(Daemon {
             server,
+            summary,
             wires: Counted::new(ServerWires { sockets }),
             control,
             poll: Poll::new(rt.alloc()),
             buffer,
             outbox: Outbox::new(rt.alloc()),
             watch,
+            late: LateAddresses::new(rt.alloc()),
+            second: now,
             counts: ServerCounts::default(),
             times: Times {
                 start: now,
@@ -192,17 +198,37 @@ impl Daemon {
             self.poll.clear();
             self.wires.wires.sockets.add_to(&mut self.poll);
             let first = self.poll.len();
-            self.control.add_to(&mut self.poll);
+            self.control.add_to(&mut self.poll, seconds(rt));
             if !self.poll.wait(PATIENCE) {
                 rest(rt);
             }
             self.serve();
-            if self.watch.has_changed(rt, asked.config, seconds(rt)) {
-                let _answer = self.reload(rt, asked, log);
-            }
+            self.look_around(rt, asked, log);
             if self.obey(rt, asked, first, log) {
                 return;
             }
+        }
+    }
+
+    /// Looks once a second at what may have changed: the file, where it is watched, and the addresses of this machine.
+    fn look_around(&mut self, rt: &HostRuntime, asked: &ServeAsked<'_>, log: &mut Log) {
+        let second = seconds(rt);
+        if second == self.second {
+            return;
+        }
+        self.second = second;
+        if self.watch.has_changed(rt, asked.config) {
+            let _answer = self.reload(rt, asked, log);
+        }
+        self.bind_late(rt, asked, log);
+    }
+
+    /// Serves at each locator of the configuration that has become this machine's, unless it is told where to serve.
+    fn bind_late(&mut self, rt: &HostRuntime, asked: &ServeAsked<'_>, log: &mut Log) {
+        if asked.addresses.is_empty() {
+            let locators = self.server.config().locators.as_slice();
+            let sockets = &mut self.wires.wires.sockets;
+            self.late.bind(rt, locators, sockets, log);
         }
     }
 
@@ -240,7 +266,7 @@ impl Daemon {
         first: usize,
         log: &mut Log,
     ) -> bool {
-        let Some(mut told) = self.control.take(&self.poll, first) else {
+        let Some(mut told) = self.control.take(&self.poll, first, seconds(rt)) else {
             return false;
         };
         let is_stop = told.word == Some(ControlWord::Stop);
@@ -270,6 +296,10 @@ impl Daemon {
             times: self.times,
             counts: self.counts,
             wires: self.wires.counts,
+            sockets: self.wires.wires.sockets.len() as u64,
+            authorities: u64::from(self.summary.seal.counts.authorities),
+            children: u64::from(self.summary.seal.counts.children),
+            sites: u64::from(self.summary.seal.counts.sites),
             refused: self.refused,
             unlogged: log.lost(),
         };
@@ -278,15 +308,17 @@ impl Daemon {
 
     /// Takes up the file's configuration, or goes on with the old one and says why.
     fn reload(&mut self, rt: &HostRuntime, asked: &ServeAsked<'_>, log: &mut Log) -> Why {
-        match self.take_up(rt, asked) {
+        match self.take_up(rt, asked, log) {
             Ok(()) => {
                 self.times.reload = seconds(rt);
                 self.say_where(rt, "reloaded", log);
+                self.late.clear();
+                self.bind_late(rt, asked, log);
                 format!(in rt.alloc(); "reloaded\n")
             }
             Err(why) => {
                 self.refused = self.refused.saturating_add(1);
-                let why = why?;
+                let why = printable(rt.alloc(), &why?)?;
                 let line = format!(in rt.alloc(); "refused, the old configuration goes on: {why}");
                 log.say(rt, Priority::Warning, line);
                 format!(in rt.alloc(); "refused: {why}\n")
@@ -294,33 +326,67 @@ impl Daemon {
         }
     }
 
-    fn take_up(&mut self, rt: &HostRuntime, asked: &ServeAsked<'_>) -> Result<(), Why> {
-        let (bytes, config) = read(rt, asked.config)?;
-        let addresses = addresses_in(rt, asked, &config)?;
-        let places = places_of(&addresses, &config);
-        let taken = self.take_up_at(rt, asked, &bytes, places, !addresses.is_empty());
+    fn take_up(
+        &mut self,
+        rt: &HostRuntime,
+        asked: &ServeAsked<'_>,
+        log: &mut Log,
+    ) -> Result<(), Why> {
+        let loaded = load_configuration(rt, asked.config)?;
+        say_unknown(rt, asked.config, loaded.unknown.as_slice(), log);
+        self.expect_group(rt, asked, &loaded.config)?;
+        let addresses = addresses_in(rt, asked, &loaded.config)?;
+        let taken = self.take_up_at(rt, asked, loaded, &addresses);
         // The sockets are those of the configuration that is in force from now on.
-        let sockets = &mut self.wires.wires.sockets;
-        match &taken {
-            Ok(()) => sockets.keep(places),
-            Err(_) => sockets.keep(places_of(&addresses, self.server.config())),
-        }
+        let places = places_of(&addresses, self.server.config());
+        self.wires.wires.sockets.keep(places);
         taken
     }
 
-    /// Binds what isn't bound of these places, and takes up the configuration that the bytes spell.
+    /// Refuses a configuration of another group, or of servers of another kind.
+    fn expect_group(
+        &self,
+        rt: &HostRuntime,
+        asked: &ServeAsked<'_>,
+        config: &ServerConfig,
+    ) -> Result<(), Why> {
+        let path = asked.config;
+        let own = self.server.config();
+        if config.name != own.name {
+            let (name, running) = (name_text(&config.name), name_text(&own.name));
+            return Err(format!(in rt.alloc();
+                "{path}: its name is {name}, and {running} is running"
+            ));
+        }
+        if config.role != own.role {
+            let (kind, running) = (role_text(config.role), role_text(own.role));
+            return Err(format!(in rt.alloc();
+                "{path}: its kind is {kind}, and a server of kind {running} is running"
+            ));
+        }
+        Ok(())
+    }
+
+    /// Binds what isn't bound of the places of a configuration, and takes it up.
     fn take_up_at(
         &mut self,
         rt: &HostRuntime,
         asked: &ServeAsked<'_>,
-        bytes: &[u8],
-        places: &[Locator],
-        is_chosen: bool,
+        loaded: Loaded,
+        addresses: &[Locator],
     ) -> Result<(), Why> {
-        bind_all(rt, places, is_chosen, &mut self.wires.wires.sockets)?;
-        match self.server.take_up(rt.alloc(), bytes) {
-            Ok(()) => Ok(()),
-            Err(fault) => Err(refused(rt, asked.config, bytes, fault)),
+        let places = places_of(addresses, &loaded.config);
+        bind_all(rt, asked, places, &mut self.wires.wires.sockets)?;
+        let summary = loaded.summary;
+        match self.server.take_up_config(rt.alloc(), loaded.config) {
+            Ok(()) => {
+                self.summary = summary;
+                Ok(())
+            }
+            Err(fault) => {
+                let text = fault_text(rt.alloc(), "", fault);
+                Err(with_path(rt, asked.config, text))
+            }
         }
     }
 
@@ -330,14 +396,14 @@ impl Daemon {
     }
 
     fn place_text(&self, rt: &HostRuntime, what: &str) -> Why {
-        let name = self.server.config().name;
-        let name = std::str::from_utf8(name.as_bytes()).unwrap_or("");
+        let name = name_text(&self.server.config().name);
         let mut text = format!(in rt.alloc(); "{what}: {name}")?;
         for place in 0..self.wires.wires.sockets.len() {
             if let Some(at) = self.wires.wires.sockets.at(place) {
                 text.push_str(&format!(in rt.alloc(); " {}", ip_of(at))?)?;
             }
         }
+        text.push_str(&format!(in rt.alloc(); ", {}", self.summary)?)?;
         Ok(text)
     }
 }

@@ -3,6 +3,8 @@
 ghost use Rattle.std.specs.Prelude.{◌≤◌, length, IfOk, IfSome};
 
 use crate::poll::Poll;
+use crate::receive_buffer;
+use crate::reply_addresses::ReplyAddresses;
 use ddt_ecm::CONTROL_PORT;
 use ddt_path::Locator;
 use ddt_wire::MessageType;
@@ -23,6 +25,7 @@ impl Bound {
     fn bind<N: Net>(net: &N, at: Locator, port: u16) -> io::Result<Bound> {
         let socket = UdpSocket::bind(net, SocketAddr::new(ip_of(at), port))?;
         socket.set_nonblocking(true)?;
+        receive_buffer::enlarge(&socket);
         Ok(Bound { at, socket })
     }
 
@@ -86,6 +89,23 @@ impl Sockets {
         self.socket_at(at).is_some()
     }
 
+    /// Whether a socket is bound to an address of the family of this one.
+    fn has_family_of(&self, locator: Locator) -> bool {
+        self.bound
+            .as_slice()
+            .iter()
+            .any(|bound| bound.at.width() == locator.width())
+    }
+
+    /// Whether sockets are bound to addresses of two families.
+    fn has_both_families(&self) -> bool {
+        let mut widths = self.bound.as_slice().iter().map(|bound| bound.at.width());
+        match widths.next() {
+            Some(first) => widths.any(|width| width != first),
+            None => false,
+        }
+    }
+
     /// How many sockets there are.
     pub fn len(&self) -> usize {
         self.bound.len()
@@ -130,7 +150,7 @@ impl Sockets {
         Ok(None)
     }
 
-    /// A datagram that is at the socket behind the one that was looked at last.
+    /// A datagram that is at the socket after the one that was looked at last.
     fn receive_next(&mut self, buffer: &mut [u8]) -> Result<Option<Packet>, NetFault>
         ensures fits { IfOk result (λ answer. IfSome answer (λ packet. packet.len ≤ length buffer.new)) }
     {
@@ -186,7 +206,7 @@ impl Wires for ServerWires {
 /// The near wires of a resolver, which all stand for its one address. Only Encapsulated Control Messages come in where
 /// it listens, and only other messages where it asks: there each socket has a port of the system's choice, which a
 /// forger of replies has to guess. Its own requests go out there, and its replies to ITRs where it listens, each from
-/// the socket of its family.
+/// the socket of its family; where there is none, a reply goes to the first ITR-RLOC of the other family.
 #[derive(Drop)]
 pub struct ResolverWires {
     /// Where ITRs ask, at port 4342.
@@ -195,6 +215,8 @@ pub struct ResolverWires {
     pub asking: Sockets,
     /// Whether it is looked first at where it listens.
     listens_first: bool,
+    /// Where replies go whose own address can't be reached.
+    reply_addresses: ReplyAddresses,
     /// How many datagrams were dropped since they weren't of the sort that may come in there.
     pub strays: u64,
 }
@@ -206,6 +228,7 @@ impl ResolverWires {
             listening: Sockets::new(alloc, CONTROL_PORT),
             asking: Sockets::new(alloc, 0),
             listens_first: false,
+            reply_addresses: ReplyAddresses::new(alloc),
             strays: 0,
         }
     }
@@ -227,6 +250,11 @@ impl ResolverWires {
                     self.strays = self.strays.saturating_add(1);
                     Err(NetFault::Receive)
                 }
+            Ok(Some(packet)) if listens && !self.listening.has_both_families() => {
+                self.reply_addresses
+                    .note(packet.from, &buffer[..packet.len]);
+                Ok(Some(packet))
+            }
             answer => answer,
         }
     }
@@ -244,10 +272,14 @@ impl Wires for ResolverWires {
 
     fn send(&mut self, _at: Locator, to: Locator, port: u16, bytes: &[u8]) -> Result<(), NetFault> {
         if MessageType::Encapsulated.is_of(bytes) {
-            self.asking.send_any(to, port, bytes)
-        } else {
-            self.listening.send_any(to, port, bytes)
+            return self.asking.send_any(to, port, bytes);
         }
+        let to = if self.listening.has_family_of(to) {
+            to
+        } else {
+            self.reply_addresses.instead(to, port, bytes).unwrap_or(to)
+        };
+        self.listening.send_any(to, port, bytes)
     }
 }
 

@@ -4,7 +4,7 @@ use ddt_check::Accepted;
 use ddt_path::{Prefix, Xeid};
 use ddt_plan_commands::{End, register_of};
 use ddt_text::{parse_prefix, parse_xeid};
-use std::alloc::AllocError;
+use std::alloc::{AllocError, Global};
 use std::fs::File;
 use std::io::{Read, Stdin, Write};
 use std::{fs, io};
@@ -83,11 +83,60 @@ pub fn prefix_in(rt: &HostRuntime, word: &str) -> Result<Prefix, Why> {
     }
 }
 
-/// Prints an answer. The command ends as given, or as unprinted where standard output doesn't take all.
+/// Prints an answer, whose control characters are escaped. The command ends as given, or as unprinted where standard
+/// output doesn't take all.
 pub fn print(rt: &HostRuntime, answer: &[u8], end: End) -> End {
     let mut out = rt.stdout();
-    match out.write_all(answer).and_then(|_| out.flush()) {
+    match write_shown(rt.alloc(), &mut out, answer) {
         Ok(()) => end,
         Err(_error) => End::Unprinted,
     }
+}
+
+/// Says a line on standard error, whose control characters are escaped.
+pub fn say(rt: &HostRuntime, line: &str) {
+    let mut err = rt.stderr();
+    let _ = write_shown(rt.alloc(), &mut err, line.as_bytes());
+    let _ = err.write_all(b"\n");
+}
+
+/// Says what a list had to say on standard error, escaped in the same way: why it was refused. Where memory was refused
+/// there may be nothing.
+pub fn say_why(rt: &HostRuntime, end: End, why: &[u8]) {
+    if why.is_empty() && end == End::Refused {
+        say(rt, "out of memory");
+    } else {
+        let _ = write_shown(rt.alloc(), &mut rt.stderr(), why);
+    }
+}
+
+/// Writes a text, whose control characters are escaped but for tabs and the ends of lines: a name of a file or a word
+/// must not move a terminal's cursor.
+fn write_shown<W: Write>(alloc: Global, out: &mut W, text: &[u8]) -> io::Result<()> {
+    if text.iter().any(|byte| is_control(*byte)) {
+        let shown = escaped(alloc, text)?;
+        out.write_all(shown.as_slice())?;
+    } else {
+        out.write_all(text)?;
+    }
+    out.flush()
+}
+
+/// A text with `\xNN` for each control character but tabs and the ends of lines.
+fn escaped(alloc: Global, text: &[u8]) -> Result<Vec<u8>, AllocError> {
+    let mut shown = Vec::new(alloc);
+    for byte in text {
+        if is_control(*byte) {
+            let escape = format!(in alloc; "\\x{byte:02x}")?;
+            shown.extend_from_slice(escape.as_bytes())?;
+        } else {
+            shown.push(*byte)?;
+        }
+    }
+    Ok(shown)
+}
+
+/// An ASCII control character that is neither a tab nor the end of a line.
+fn is_control(byte: u8) -> bool {
+    byte.is_ascii_control() && byte != b'\t' && byte != b'\n'
 }

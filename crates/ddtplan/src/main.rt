@@ -1,5 +1,6 @@
 //! The companion program: its words, and the command that they ask for, over the files, the sockets and the streams of a
 //! process. What a command answers is made by the crates below: `ddt_plan_commands` and those that each module names.
+//! Tests: tests/companion.
 #![tactic(auto)]
 
 mod faults;
@@ -12,9 +13,9 @@ mod questions;
 mod warnings;
 
 use ddt_plan_commands::{Asked, BlocksAsked, DiffAsked, End, read_asked, run_blocks, run_diff};
-use inputs::{Why, source_at};
+use inputs::{Why, say, say_why, source_at};
 use progress::Progress;
-use std::io::{BufWriter, ErrorKind, IsTerminal, Stdout, Write};
+use std::io::{BufWriter, ErrorKind, IsTerminal, Stdout};
 use std::process::ExitCode;
 use std::{env, io};
 
@@ -44,7 +45,7 @@ fn run_words(rt: &HostRuntime) -> End {
 
 /// Says why there is no answer.
 fn refuse(rt: &HostRuntime, why: &str) -> End {
-    let _ = writeln!(rt.stderr(), "{why}");
+    say(rt, why);
     End::Refused
 }
 
@@ -88,8 +89,10 @@ fn blocks(rt: &HostRuntime, asked: &BlocksAsked<'_>) -> End {
         return refuse(rt, "out of memory");
     };
     let open_file = |path: &str| source_at(rt, path);
-    let (end, mut out) = run_blocks(rt.alloc(), asked, open_file, out, &mut rt.stderr());
+    let mut why = Vec::new(rt.alloc());
+    let (end, mut out) = run_blocks(rt.alloc(), asked, open_file, out, &mut why);
     out.finish();
+    say_why(rt, end, &why);
     end
 }
 
@@ -98,8 +101,10 @@ fn diff(rt: &HostRuntime, asked: &DiffAsked<'_>) -> End {
         return refuse(rt, "out of memory");
     };
     let open_file = |path: &str| source_at(rt, path);
-    let (end, mut out) = run_diff(rt.alloc(), asked, open_file, out, &mut rt.stderr());
+    let mut why = Vec::new(rt.alloc());
+    let (end, mut out) = run_diff(rt.alloc(), asked, open_file, out, &mut why);
     out.finish();
+    say_why(rt, end, &why);
     end
 }
 

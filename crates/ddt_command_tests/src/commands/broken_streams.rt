@@ -255,15 +255,6 @@ fn a_file_may_fail_at_each_read(rt: HostRuntime) -> Result<(), Fail> {
 }
 
 #[test]
-fn what_a_full_writer_refuses_is_unprinted(rt: HostRuntime) -> Result<(), Fail> {
-    for &words in LONG {
-        let (status, _, _) = run_in_eight(rt.alloc(), words)?;
-        assert_eq!(rt; status, Unprinted, "the status of {words:?}");
-    }
-    Ok(())
-}
-
-#[test]
 fn bad_words_are_bad_though_the_usage_finds_no_room(rt: HostRuntime) -> Result<(), Fail> {
     let (status, out, err) = run_in_eight(rt.alloc(), &["serve"])?;
     assert_eq!(rt; status, BadWords, "the status of words without a command");

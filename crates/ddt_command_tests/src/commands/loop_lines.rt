@@ -1,12 +1,13 @@
-//! `ddt loop`, over wires in memory: at the resolver's socket wait the replies of the campus's servers.
+//! `ddt loop`, over wires in memory: at the resolver's socket wait the replies of the campus's servers. The other reasons
+//! why it refuses are in `tests/loop.lines`.
 
 use super::harness::{
-    End, PORT, Place, Printed, Source, add, at_start, ends, ends_at, message, refuses, with_byte,
+    PORT, Place, Printed, Source, add, at_start, ends, ends_at, message, refuses, with_byte,
 };
 use ddt_commands::Status;
-use ddt_commands::Status::{Answered, Incomplete, Refused};
+use ddt_commands::Status::{Answered, Incomplete};
 use ddt_examples::messages::{ITR_REQUEST, NEGATIVE_REPLY};
-use ddt_examples::registers::{CAMPUS, COLUMNS};
+use ddt_examples::registers::CAMPUS;
 use ddt_loop::SteppingClock;
 use ddt_path::Locator;
 use ddt_wires::{Call, WiresInMemory};
@@ -30,14 +31,19 @@ const EAST: Locator = Locator::V4(0x7f00_0101);
 
 const EAST_TOO: Locator = Locator::V4(0x7f00_0102);
 
-/// The campus's register, and sockets that can be bound; with a kind of error, only at these addresses.
-fn campus(free: &[Locator], unbound: Option<ErrorKind>) -> Place<'_> {
+/// This register, and sockets that can be bound; with a kind of error, only at these addresses.
+fn over<'a>(register: &'a str, free: &'a [Locator], unbound: Option<ErrorKind>) -> Place<'a> {
     Place {
         name: "register.csv",
-        file: Source::Bytes(CAMPUS.as_bytes()),
+        file: Source::Bytes(register.as_bytes()),
         free,
         unbound,
     }
+}
+
+/// The campus's register, and sockets that can be bound.
+fn campus() -> Place<'static> {
+    over(CAMPUS, &[], None)
 }
 
 /// A server, its group, the identifier that it is asked for, and the nonce, below 256.
@@ -108,56 +114,27 @@ fn each_turn_is_used(rt: HostRuntime) -> Result<(), Fail> {
             turns,
         ];
         let want = (status, lines, "");
-        let place = campus(&[], None);
+        let place = campus();
         ends(&rt, alloc, place, &mut wires, &words, want, calls)?;
     }
     Ok(())
 }
 
 #[test]
-fn each_identifier_has_its_line(rt: HostRuntime) -> Result<(), Fail> {
-    let alloc = rt.alloc();
-    let mut wires = WiresInMemory::new(alloc, 0);
-    add_all(&mut wires, alloc, &CAMPUS_REPLIES)?;
-    let words = ["loop", "register.csv", "[0]10.1.2.3", "[0]11.0.0.1"];
-    let (want, place) = ((Answered, BOTH, ""), campus(&[], None));
-    ends(&rt, alloc, place, &mut wires, &words, want, 20)
-}
-
-/// Words, by how much the clock steps, and how the lookup ends without an outcome.
-const ENDS: &[(&[&str], u64, End<'static>)] = &[
-    (
-        &["loop", "register.csv", "[0]010.1.2.3"],
-        0,
-        (Refused, "", "bad identifier 4 Address\n"),
-    ),
-    (
-        &["loop", "register.csv", "[0]10.1.2.3"],
-        1_000,
-        (Incomplete, "[0]10.1.2.3 gave-up NoReply\n", ""),
-    ),
-    (
-        &[
-            "loop",
-            "register.csv",
-            "[0]10.1.2.3",
-            "--seed=18446744073709551615",
-        ],
-        0,
-        (Incomplete, "[0]10.1.2.3 refused Exhausted\n", ""),
-    ),
-];
-
-#[test]
-fn an_end_without_an_outcome_is_told(rt: HostRuntime) -> Result<(), Fail> {
-    for &(words, step, want) in ENDS {
-        let mut wires = WiresInMemory::new(rt.alloc(), 0);
-        let next = at_start().at;
-        let mut clock = SteppingClock { next, step };
-        let place = campus(&[], None);
-        ends_at(&rt, rt.alloc(), place, &mut wires, &mut clock, words, want)?;
-    }
-    Ok(())
+fn a_lookup_may_end_without_an_outcome(rt: HostRuntime) -> Result<(), Fail> {
+    let mut wires = WiresInMemory::new(rt.alloc(), 0);
+    let (next, step) = (at_start().at, 1_000);
+    let mut clock = SteppingClock { next, step };
+    let want = (Incomplete, "[0]10.1.2.3 gave-up NoReply\n", "");
+    ends_at(
+        &rt,
+        rt.alloc(),
+        campus(),
+        &mut wires,
+        &mut clock,
+        LOOP,
+        want,
+    )
 }
 
 /// Whether a call sent these bytes from the resolver to the ITR.
@@ -206,158 +183,79 @@ fn an_itr_gets_its_negative_map_reply(rt: HostRuntime) -> Result<(), Fail> {
     let words = ["loop", "register.csv", "[0]10.1.4.7"];
     let line = "[0]10.1.4.7 not-registered [0]10.1.4.0/24 127.0.1.1 127.0.1.2\n";
     let (want, mut clock) = ((Answered, line, ""), at_start());
-    let place = campus(&[], None);
+    let place = campus();
     ends_at(&rt, alloc, place, &mut wires, &mut clock, &words, want)?;
     let told = times_told(alloc, &wires)?;
     assert_eq!(rt; told, 1);
     Ok(())
 }
 
-/// Words that are refused: the first in the order of the command, and no socket is bound before.
-const REFUSED_WORDS: &[(&[&str], &str)] = &[
+/// Words, the register, the addresses that are free, why another can't be bound, and what stands in the way first.
+type Refused = (
+    &'static [&'static str],
+    &'static str,
+    &'static [Locator],
+    ErrorKind,
+    &'static str,
+);
+
+const LOOP: &[&str] = &["loop", "register.csv", "[0]10.1.2.3"];
+
+/// A register with a server that isn't on the loopback.
+const OUTSIDE: &str =
+    "kind,prefix,group,addresses\ngroup-node,,root,127.0.0.1 192.0.2.1\nnode,*,root,\n";
+
+/// No socket is bound before its words and its register are read. Then they are bound in order.
+const REFUSED: &[Refused] = &[
     (
-        &["loop", "missing", "10.1.2.3", "[0]1.2.3", "--me", "x"],
+        &["loop", "missing", "10.1.2.3"],
+        CAMPUS,
+        &[],
+        ErrorKind::AddrInUse,
         "bad identifier 2 Bracket\n",
     ),
     (
-        &["loop", "missing", "[0]10.1.2.3", "[0]1.2.3", "--me", "x"],
-        "bad identifier 4 Address\n",
+        &["loop", "missing", "[0]10.1.2.3"],
+        CAMPUS,
+        &[],
+        ErrorKind::AddrInUse,
+        "cannot open missing\n",
     ),
     (
-        &["loop", "missing", "[0]10.1.2.3", "--me", "x", "--seed", "x"],
-        "bad address\n",
+        LOOP,
+        OUTSIDE,
+        &[],
+        ErrorKind::AddrInUse,
+        "not a loopback address 192.0.2.1\n",
     ),
     (
-        &["loop", "missing", "[0]10.1.2.3", "--me="],
-        "bad address\n",
-    ),
-    (
-        &[
-            "loop",
-            "missing",
-            "[0]10.1.2.3",
-            "--seed",
-            "01",
-            "--turns",
-            "x",
-        ],
-        "bad number\n",
-    ),
-    (
-        &[
-            "loop",
-            "missing",
-            "[0]10.1.2.3",
-            "--seed=18446744073709551616",
-        ],
-        "bad number\n",
-    ),
-    (
-        &["loop", "missing", "[0]10.1.2.3", "--turns=4294967296"],
-        "bad number\n",
-    ),
-    (
-        &["loop", "missing", "[0]10.1.2.3", "--turns", "", "--me=::1"],
-        "bad number\n",
-    ),
-    (
-        &["loop", "missing", "[0]10.1.2.3", "--me", "0:0::1"],
-        "not a loopback address ::1\n",
-    ),
-    (
-        &["loop", "missing", "[0]10.1.2.3", "--me", "128.0.0.0"],
-        "not a loopback address 128.0.0.0\n",
-    ),
-    (
-        &["loop", "missing", "[0]10.1.2.3", "--me", "126.255.255.255"],
-        "not a loopback address 126.255.255.255\n",
-    ),
-    (&["loop", "missing", "[0]10.1.2.3"], "cannot open missing\n"),
-    (
-        &["loop", "register.csv", "[0]10.1.2.3"],
+        LOOP,
+        CAMPUS,
+        &[],
+        ErrorKind::AddrInUse,
         "cannot bind 127.0.0.53\n",
     ),
     (
-        &["loop", "register.csv", "[0]10.1.2.3", "--me=127.0.0.0"],
-        "cannot bind 127.0.0.0\n",
+        LOOP,
+        CAMPUS,
+        &[ME, ROOT, TEN, EAST],
+        ErrorKind::AddrInUse,
+        "cannot bind 127.0.1.2\n",
     ),
     (
-        &[
-            "loop",
-            "register.csv",
-            "[0]10.1.2.3",
-            "--me=127.255.255.255",
-        ],
-        "cannot bind 127.255.255.255\n",
-    ),
-    (
-        &["loop", "register.csv", "[0]10.1.2.3", "--turns=4294967295"],
-        "cannot bind 127.0.0.53\n",
+        LOOP,
+        CAMPUS,
+        &[ME, ROOT],
+        ErrorKind::OutOfMemory,
+        "out of memory\n",
     ),
 ];
 
 #[test]
 fn the_first_of_what_stands_in_its_way_is_named(rt: HostRuntime) -> Result<(), Fail> {
-    for &(words, line) in REFUSED_WORDS {
-        let place = campus(&[], Some(ErrorKind::AddrInUse));
+    for &(words, register, free, kind, line) in REFUSED {
+        let place = over(register, free, Some(kind));
         refuses(&rt, rt.alloc(), place, words, line)?;
-    }
-    Ok(())
-}
-
-/// The addresses that are free, why another can't be bound, and what is refused.
-const BOUND_BEFORE: &[(&[Locator], ErrorKind, &str)] = &[
-    (&[], ErrorKind::AddrInUse, "cannot bind 127.0.0.53\n"),
-    (&[ME], ErrorKind::AddrInUse, "cannot bind 127.0.0.1\n"),
-    (
-        &[ME, ROOT],
-        ErrorKind::AddrInUse,
-        "cannot bind 127.0.0.10\n",
-    ),
-    (
-        &[ME, ROOT, TEN],
-        ErrorKind::AddrInUse,
-        "cannot bind 127.0.1.1\n",
-    ),
-    (
-        &[ME, ROOT, TEN, EAST],
-        ErrorKind::AddrInUse,
-        "cannot bind 127.0.1.2\n",
-    ),
-    (&[ME, ROOT], ErrorKind::OutOfMemory, "out of memory\n"),
-];
-
-#[test]
-fn sockets_are_bound_in_order(rt: HostRuntime) -> Result<(), Fail> {
-    let words = ["loop", "register.csv", "[0]10.1.2.3"];
-    for &(free, kind, line) in BOUND_BEFORE {
-        let place = campus(free, Some(kind));
-        refuses(&rt, rt.alloc(), place, &words, line)?;
-    }
-    Ok(())
-}
-
-/// Rows of registers, and what is refused of them before a socket is bound.
-const REFUSED_ROWS: &[(&str, &str)] = &[
-    (
-        "group-node,,root,127.0.0.1 192.0.2.1\nnode,*,root,\n",
-        "not a loopback address 192.0.2.1\n",
-    ),
-    (
-        "group-node,,root,127.0.0.1 ::1 192.0.2.1\nnode,*,root,\n",
-        "not a loopback address ::1\n",
-    ),
-    ("node,*,root,\n", "refused A4 UnknownGroup row 1\n"),
-    ("node,*\n", "unreadable 1 Csv row 1\n"),
-];
-
-#[test]
-fn a_register_is_read_before_a_socket_is_bound(rt: HostRuntime) -> Result<(), Fail> {
-    let words = ["loop", "register.csv", "[0]10.1.2.3"];
-    for &(rows, line) in REFUSED_ROWS {
-        let register = format!(in rt.alloc(); "{COLUMNS}{rows}")?;
-        let place = Place::of_register(register.as_str());
-        refuses(&rt, rt.alloc(), place, &words, line)?;
     }
     Ok(())
 }

@@ -1,4 +1,4 @@
-//! `ddt serve`, over wires in memory.
+//! `ddt serve`, over wires in memory. The other reasons why it refuses are in `tests/serve.lines`.
 
 use super::harness::{PORT, Place, Source, add, ends, message, refuses, with_byte};
 use ddt_commands::Status::Answered;
@@ -16,19 +16,22 @@ const RESOLVER: Locator = Locator::V4(0x7f00_0035);
 
 const ETR: Locator = Locator::V4(0x7f00_0201);
 
-/// The configuration of the campus group `east`, and sockets that can be bound, but for this kind of error.
-fn campus(unbound: Option<ErrorKind>) -> Place<'static> {
-    with_file(Source::Bytes(EAST.as_bytes()), unbound)
-}
-
-/// The same with another file in place of the configuration.
-fn with_file(file: Source<'static>, unbound: Option<ErrorKind>) -> Place<'static> {
+/// A configuration of this text, if it can be read, and sockets that can be bound, but for this kind of error.
+fn with_file(text: Option<&'static str>, unbound: Option<ErrorKind>) -> Place<'static> {
     Place {
         name: "east.toml",
-        file,
+        file: match text {
+            Some(text) => Source::Bytes(text.as_bytes()),
+            None => Source::Broken,
+        },
         free: &[],
         unbound,
     }
+}
+
+/// The configuration of the campus group `east`, and sockets that can be bound.
+fn campus() -> Place<'static> {
+    with_file(Some(EAST), None)
 }
 
 /// Wires whose fifth call fails, where a DDT Map-Request and then the one byte 00 wait at the server.
@@ -71,15 +74,7 @@ fn each_turn_is_used(rt: HostRuntime) -> Result<(), Fail> {
         let mut wires = busy(rt.alloc())?;
         let words = ["serve", "east.toml", "127.0.1.1", turns];
         let want = (Answered, line, "");
-        ends(
-            &rt,
-            rt.alloc(),
-            campus(None),
-            &mut wires,
-            &words,
-            want,
-            calls,
-        )?;
+        ends(&rt, rt.alloc(), campus(), &mut wires, &words, want, calls)?;
     }
     Ok(())
 }
@@ -117,7 +112,7 @@ fn a_server_counts_what_it_receives_and_replies(rt: HostRuntime) -> Result<(), F
     let mut wires = busy(alloc)?;
     let words = ["serve", "east.toml", "127.0.1.1", "3"];
     let want = (Answered, "received 2 replied 1\n", "");
-    ends(&rt, alloc, campus(None), &mut wires, &words, want, 5)?;
+    ends(&rt, alloc, campus(), &mut wires, &words, want, 5)?;
     let calls = wires.told().ok_or("no memory")?;
     for &(number, addressee, fields, first) in SENT {
         let is_sent = sends(alloc, calls.get(number), addressee, fields, first)?;
@@ -126,88 +121,51 @@ fn a_server_counts_what_it_receives_and_replies(rt: HostRuntime) -> Result<(), F
     Ok(())
 }
 
-/// Words that are refused: the first in the order of the command, and no socket is bound before.
-const REFUSED_WORDS: &[(&[&str], &str)] = &[
-    (&["serve", "missing", "127.0.1.256", "x"], "bad address\n"),
-    (&["serve", "missing", "", "x"], "bad address\n"),
-    (&["serve", "missing", "[0]127.0.1.1", "x"], "bad address\n"),
-    (&["serve", "missing", "128.0.0.1", "x"], "bad number\n"),
-    (&["serve", "missing", "127.0.1.1", ""], "bad number\n"),
-    (&["serve", "missing", "127.0.1.1", "01"], "bad number\n"),
-    (&["serve", "missing", "127.0.1.1", "+1"], "bad number\n"),
+/// Words, the text of the file, if it can be read, the error of a socket, and the first of what stands in their way.
+type Refused = (
+    &'static [&'static str],
+    Option<&'static str>,
+    ErrorKind,
+    &'static str,
+);
+
+const SERVE: &[&str] = &["serve", "east.toml", "127.0.1.1", "3"];
+
+/// No socket is bound before its words and its file are read.
+const REFUSED: &[Refused] = &[
     (
-        &["serve", "missing", "127.0.1.1", "4294967296"],
-        "bad number\n",
-    ),
-    (
-        &["serve", "missing", "128.0.0.1", "1"],
-        "not a loopback address 128.0.0.1\n",
-    ),
-    (
-        &["serve", "missing", "126.255.255.255", "1"],
-        "not a loopback address 126.255.255.255\n",
-    ),
-    (
-        &["serve", "missing", "0:0::1", "1"],
-        "not a loopback address ::1\n",
-    ),
-    (
-        &["serve", "missing", "::FFFF:7f00:1", "1"],
-        "not a loopback address ::ffff:7f00:1\n",
+        &["serve", "missing", "127.0.1.256", "x"],
+        None,
+        ErrorKind::AddrInUse,
+        "bad address\n",
     ),
     (
         &["serve", "missing", "127.0.1.1", "1"],
+        None,
+        ErrorKind::AddrInUse,
         "cannot open missing\n",
     ),
+    (SERVE, None, ErrorKind::AddrInUse, "cannot open east.toml\n"),
     (
-        &["serve", "east.toml", "127.0.0.0", "4294967295"],
-        "cannot bind 127.0.0.0\n",
+        SERVE,
+        Some("name ="),
+        ErrorKind::AddrInUse,
+        "bad configuration 1 Toml\n",
     ),
     (
-        &["serve", "east.toml", "127.255.255.255", "0"],
-        "cannot bind 127.255.255.255\n",
+        SERVE,
+        Some(EAST),
+        ErrorKind::AddrInUse,
+        "cannot bind 127.0.1.1\n",
     ),
+    (SERVE, Some(EAST), ErrorKind::OutOfMemory, "out of memory\n"),
 ];
 
 #[test]
 fn the_first_of_what_stands_in_its_way_is_named(rt: HostRuntime) -> Result<(), Fail> {
-    for &(words, line) in REFUSED_WORDS {
-        let place = campus(Some(ErrorKind::AddrInUse));
+    for &(words, text, unbound, line) in REFUSED {
+        let place = with_file(text, Some(unbound));
         refuses(&rt, rt.alloc(), place, words, line)?;
     }
     Ok(())
-}
-
-/// Files, and what is refused of them before a socket is bound.
-const REFUSED_FILES: &[(Source<'static>, &str)] = &[
-    (Source::Broken, "cannot open east.toml\n"),
-    (Source::Bytes(b"\xff"), "bad configuration 1 Toml\n"),
-    (Source::Bytes(b"name =\n"), "bad configuration 1 Toml\n"),
-    (Source::Bytes(b""), "bad configuration 2 Field\n"),
-    (Source::Bytes(b"name = 5\n"), "bad configuration 2 Field\n"),
-    (
-        Source::Bytes(b"name = \"east\"\nkind = \"root\"\n"),
-        "bad configuration 3 Value\n",
-    ),
-    (
-        Source::Bytes(b"name = \"east\"\nkind = \"ms\"\nlocators = []\n"),
-        "bad configuration 4 Shape\n",
-    ),
-];
-
-#[test]
-fn a_configuration_is_read_before_a_socket_is_bound(rt: HostRuntime) -> Result<(), Fail> {
-    let words = ["serve", "east.toml", "127.0.1.1", "1"];
-    for &(file, line) in REFUSED_FILES {
-        let place = with_file(file, Some(ErrorKind::AddrInUse));
-        refuses(&rt, rt.alloc(), place, &words, line)?;
-    }
-    Ok(())
-}
-
-#[test]
-fn a_socket_without_memory_is_told_as_that(rt: HostRuntime) -> Result<(), Fail> {
-    let place = campus(Some(ErrorKind::OutOfMemory));
-    let words = ["serve", "east.toml", "127.0.1.1", "3"];
-    refuses(&rt, rt.alloc(), place, &words, "out of memory\n")
 }

@@ -3,6 +3,7 @@
 ghost use Rattle.std.specs.Prelude.{◌<◌, length};
 
 use crate::check::slow::{RULES, first_fault};
+use crate::comparison::{holds, same};
 use ddt_check::{Fault, Rule, check};
 use ddt_examples::Dice;
 use ddt_examples::registers::{CAMPUS, COLUMNS};
@@ -74,8 +75,8 @@ fn verdicts(register: Register) -> (Option<Fault>, Option<Fault>) {
 fn agreed(rt: &impl Abort, register: Register, text: &str) -> Option<Rule> {
     let plain = first_fault(&register);
     let (fast, again) = verdicts(register);
-    assert_eq!(rt; fast, plain, "{text}");
-    assert_eq!(rt; again, plain, "given back, {text}");
+    same(rt, &fast, &plain, &text);
+    same(rt, &again, &plain, &text);
     match plain {
         Some(fault) => Some(fault.rule),
         None => None,
@@ -105,7 +106,7 @@ fn are_broken(rt: &impl Abort, rules: &[Option<Rule>], rule: Option<Rule>, times
             count = count.saturating_add(1);
         }
     }
-    assert!(rt; count >= times, "{rule:?} is broken too seldom");
+    holds(rt, count >= times, &(rule, count));
 }
 
 #[test]

@@ -1,5 +1,6 @@
 //! Sites inside sites: the longest decides, and a site that isn't registered is answered in parts. And the root.
 
+use crate::comparison::same;
 use ddt_check::{Accepted, assign, check, says};
 use ddt_examples::registers::CAMPUS;
 use ddt_examples::rows::{REGISTERED_INSIDE, SILENT_INSIDE};
@@ -108,8 +109,8 @@ fn answers(
     wanted: (Action, Prefix),
 ) {
     let answer = says(accepted, server, x);
-    assert_eq!(rt; answer.action, wanted.0, "of {x:?}");
-    assert_eq!(rt; answer.prefix, wanted.1, "of {x:?}");
+    same(rt, &answer.action, &wanted.0, &x);
+    same(rt, &answer.prefix, &wanted.1, &x);
 }
 
 #[test]
@@ -125,5 +126,10 @@ fn sites_inside_sites_are_answered(rt: HostRuntime) {
 fn the_roots_are_the_locators_of_the_group_of_everything(rt: HostRuntime) {
     let accepted = campus_with(rt.alloc(), &rt, "node,[7/32]*,ten,");
     let roots = accepted.roots();
-    assert_eq!(rt; roots.as_slice(), [Locator::V4(0x7f00_0001)].as_slice());
+    same(
+        &rt,
+        &roots.as_slice(),
+        &[Locator::V4(0x7f00_0001)].as_slice(),
+        &"the roots",
+    );
 }

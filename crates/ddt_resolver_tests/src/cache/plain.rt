@@ -9,6 +9,8 @@ use std::alloc::{AllocError, Global};
 pub struct Plain {
     time: u64,
     live: Vec<(Prefix, Entry)>,
+    /// How many entries more are live at all times, of prefixes that no call names.
+    others: usize,
     roots: LocatorSet,
 }
 
@@ -37,9 +39,15 @@ fn is_kept(referral: &ReferralRecord) -> bool {
 impl Plain {
     /// An empty cache at time 0, below these roots.
     pub fn new(alloc: Global, roots: LocatorSet) -> Plain {
+        Plain::beside(alloc, roots, 0)
+    }
+
+    /// The same beside so many others.
+    pub fn beside(alloc: Global, roots: LocatorSet, others: usize) -> Plain {
         Plain {
             time: 0,
             live: Vec::new(alloc),
+            others,
             roots,
         }
     }
@@ -55,7 +63,7 @@ impl Plain {
 
     /// How many entries are live.
     pub fn len(&self) -> usize {
-        self.live.len()
+        self.live.len().saturating_add(self.others)
     }
 
     /// The place of the entry of a prefix.
@@ -75,7 +83,7 @@ impl Plain {
             end: self.time.saturating_add(kept.saturating_mul(60_000)),
         };
         self.forget(referral.prefix);
-        if self.live.len() >= 65536 {
+        if self.len() >= 65536 {
             return Ok(Saved::Full);
         }
         self.live.push((referral.prefix, entry))?;

@@ -3,4 +3,4 @@ use Rattle.ddt_config.specs.laws.Same.{determined}
 use Rattle.ddt_config.proofs.document.from_toml.Goals as goal
 
 pub returns-in-Ok-clause-every : goal.returns-in-Ok-clause-every
-returns-in-Ok-clause-every c = determined c.args.text.now (table_view c.in-Ok.table) c.in-Ok.ensures.ok c.read_config.result c.read_config.ensures.found c.read_config.ensures.refused
+returns-in-Ok-clause-every c = determined c.args.text.now (table_view c.in-Ok.table) c.in-Ok.ensures.ok c.from_table.result c.from_table.ensures.found c.from_table.ensures.refused

@@ -7,4 +7,4 @@ use Rattle.ddt_daemon.proofs.server_round.serve_ready.Given as goal
 abbrev pub invariant-loop-turn : goal.invariant-loop-turn
 invariant-loop-turn g l =
     IsServing (g.W.Wires.calls l.fn.wires) (g.W.Wires.calls l.wires) l.server l.at l._turn l.received l.replied
-    × (length l.buffer ≡ most_bytes)
+    × (length l.buffer ≡ most_bytes) × (l.received ≡ l._turn)

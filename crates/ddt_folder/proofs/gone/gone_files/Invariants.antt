@@ -1,9 +1,10 @@
 use Rattle.std.proofs.Common.{◌≡◌}
 use Rattle.std.specs.List.{flat_map}
 use Rattle.ddt_folder.specs.Contents.{Contents}
-use Rattle.ddt_folder.specs.Wanted.{gone_for}
+use Rattle.ddt_folder.specs.Wanted.{altered_for, gone_for}
 use Rattle.ddt_folder.proofs.gone.gone_files.Given as goal
 
 abbrev pub invariant-loop-name : goal.invariant-loop-name
 invariant-loop-name g l = (s : Contents) → g.F.Folder.holds l.initial.folder s → g.F.Folder.holds l.folder s
-    × (l.gone.items ≡ flat_map (gone_for l.accepted s.files) l.yielded)
+    × (l.gone.files.items ≡ flat_map (gone_for l.accepted s.files) l.yielded)
+    × (l.gone.altered.items ≡ flat_map (altered_for l.accepted s.files) l.yielded)

@@ -1,8 +1,10 @@
 use Rattle.std.proofs.Common.{ℕ, List, map}
-use Rattle.std.specs.Prelude.{◌↔◌}
-use Rattle.ddt_folder.specs.Manifest.{HasName}
-use Rattle.ddt_folder.proofs.ManifestLemmas.{IsNamed}
+use Rattle.std.specs.Ordering.{nat_cmp}
+use Rattle.std.specs.Cmp.Lexicographic.{slice_cmp}
+use Rattle.std.specs.BTreeMap.{get}
+use Rattle.ddt_folder.proofs.ManifestLemmas.{IsOfLines}
 use Rattle.ddt_folder.proofs.manifest.configs_in.Given as goal
 
 abbrev pub invariant-loop-line : goal.invariant-loop-line
-invariant-loop-line l = (name : List ℕ) → HasName l.names name ↔ IsNamed (map (λ t. t.now) l.yielded) name
+invariant-loop-line l = (name : List ℕ)
+    → IsOfLines (map (λ t. t.now) l.yielded) name (get (slice_cmp nat_cmp) l.listed name)

@@ -20,11 +20,6 @@ returns-in-None-clause-taken g c = (
       (λ q is. none-some q (c.in-None.ensures.only q is)) refl refl,
 )
 
-pub returns-then-packet-eq-CONTROL_PORT-clause-taken : goal.returns-then-packet-eq-CONTROL_PORT-clause-taken
-returns-then-packet-eq-CONTROL_PORT-clause-taken g c =
-    let w = c.resolve-ended.ensures.resolves in
-    (w.0, w.1, hears (sym c.is_of.ensures ∙ c.if-is_of.false) c.if-packet-eq-CONTROL_PORT.true w.2)
-
 pub returns-in-Some-clause-came : goal.returns-in-Some-clause-came
 returns-in-Some-clause-came g c =
     let w = running c.args.resolver.now c.args.askers.now in
@@ -33,9 +28,8 @@ returns-in-Some-clause-came g c =
     (waits_came c.args.here.now.moment c.args.packet.from c.args.bytes.now w new c.ask_for_itr-ticket.result _ c.in-Some.request
     (omega (arith, c.type_inv.bytes)) c.in-Some.ensures.found c.ask_for_itr-ticket.ensures.waits c.ask_for_itr-ticket.ensures.none)
 
-pub returns-then-packet-eq-CONTROL_PORT-clause-came : goal.returns-then-packet-eq-CONTROL_PORT-clause-came
-returns-then-packet-eq-CONTROL_PORT-clause-came g c =
+pub returns-else-is_of-clause-came : goal.returns-else-is_of-clause-came
+returns-else-is_of-clause-came g c =
     let w = running c.args.resolver.now c.args.askers.now in
-    let new = running c.resolve-ended.new.resolver c.resolve-ended.new.askers in
-    subst (IsCame c.args.here.now.moment c.args.packet.from c.args.bytes.now w new) (sym c.ends.ensures)
-    (ends_came c.args.here.now.moment c.args.packet.from c.args.bytes.now w new c.resolve-ended.result c.resolve-ended.ensures.ended)
+    let new = running c.hear-ended.new.resolver c.hear-ended.new.askers in
+    subst (IsCame c.args.here.now.moment c.args.packet.from c.args.bytes.now w new) (sym c.ends.ensures) c.hear-ended.ensures.came

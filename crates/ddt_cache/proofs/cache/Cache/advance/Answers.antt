@@ -24,4 +24,5 @@ invariant_of-self g c =
       in_order_along (known_of c.max-self-inside.result m roots) (moved c.args.now (known_of t m roots))
           (moved_known t c.args.now c.max-self-inside.result m roots later)
           (moved_in_order (known_of t m roots) c.args.now c.millis.ensures.bound c.self.invariant.2),
+      c.self.invariant.3,
     )

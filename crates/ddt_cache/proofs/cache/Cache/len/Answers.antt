@@ -1,9 +1,8 @@
-use Rattle.std.proofs.Common.{ap, sym, ◌∙◌}
-use Rattle.std.specs.FinMap as map
+use Rattle.std.proofs.Common.{◌∙◌, arith}
 use Rattle.ddt_cache.specs.Live.{known_of}
-use Rattle.ddt_cache.specs.laws.Known.{live_twice, same_known}
-use Rattle.ddt_cache.specs.laws.Size.{len_dropped}
+use Rattle.ddt_cache.specs.laws.Known.{same_known}
 use Rattle.ddt_cache.specs.laws.Order.{in_order_along}
+use Rattle.ddt_cache.specs.laws.Ends.{len_dropped_all}
 use Rattle.ddt_cache.proofs.cache.Cache.len.Goals as goal
 
 pub returns-clause-moved : goal.returns-clause-moved
@@ -11,7 +10,7 @@ returns-clause-moved g c =
     let t = c.self.inside.time in
     let m = g.M.PrefixMap.content c.self.inside.held.entries in
     let n = g.M.PrefixMap.content c.drop_ended.new.entries in
-    same_known t m n c.self.inside.held.root.servers (live_twice t m n c.drop_ended.ensures) ∙ c.self.view_is ∙ c.advance.ensures
+    same_known t m n c.self.inside.held.root.servers c.drop_ended.ensures.live ∙ c.self.view_is ∙ c.advance.ensures
 
 pub invariant_of-self : goal.invariant_of-self
 invariant_of-self g c =
@@ -20,8 +19,9 @@ invariant_of-self g c =
     let n = g.M.PrefixMap.content c.drop_ended.new.entries in
     let roots = c.self.inside.held.root.servers in (
       c.self.invariant.0,
-      len_dropped t m n c.drop_ended.ensures c.self.invariant.1,
-      in_order_along (known_of t n roots) (known_of t m roots) (same_known t m n roots (live_twice t m n c.drop_ended.ensures)) c.self.invariant.2,
+      omega (arith, c.drop_ended.ensures.fewer, c.self.invariant.1),
+      in_order_along (known_of t n roots) (known_of t m roots) (same_known t m n roots c.drop_ended.ensures.live) c.self.invariant.2,
+      c.drop_ended.ensures.noted,
     )
 
 pub returns-clause-count : goal.returns-clause-count
@@ -29,4 +29,4 @@ returns-clause-count g c =
     let t = c.self.inside.time in
     let m = g.M.PrefixMap.content c.self.inside.held.entries in
     let n = g.M.PrefixMap.content c.drop_ended.new.entries in
-    c.len.ensures ∙ ap (λ l. map.len l) (c.drop_ended.ensures ∙ sym (live_twice t m n c.drop_ended.ensures))
+    c.len.ensures ∙ len_dropped_all t m n c.drop_ended.ensures.live c.drop_ended.ensures.done

@@ -9,4 +9,5 @@ invariant_of-self g c =
       c.save_among.ensures.bound,
       saved_in_order c.save_among.result c.self.inside.time m n c.self.inside.held.root.servers c.args.referral.now c.save_among.ensures.servers
           c.save_among.ensures.stored c.save_among.ensures.unchanged c.self.invariant.2,
+      c.save_among.ensures.noted,
     )

@@ -20,6 +20,7 @@ returns-in-Ok-Some-clause-round g c =
       tells_both (g.W.Wires.calls c.args.near.now) (first ∷ []) (g.W.Wires.calls c.receive.new.self) w.0
           (g.W.Wires.calls c.let_in.new.near) (subst told room (rw c.in-Ok-Some.field-0-is at c.in-Ok-Some.ensures.told)) w.2,
       w.3,
+      search,
       came c.in-Ok-Some.packet bytes w.0 refl w.4,
     )
 
@@ -32,6 +33,7 @@ returns-in-Ok-None-clause-round g c =
       [],
       subst told room (rw c.in-Ok-None.field-0-is at c.in-Ok-None.ensures.told),
       tells_none (g.V.Wires.calls c.args.far.now),
+      search,
       no_packet refl refl refl,
     )
 
@@ -44,5 +46,6 @@ returns-in-Err-clause-round g c =
       [],
       subst told room c.in-Err.ensures.told,
       tells_none (g.V.Wires.calls c.args.far.now),
+      search,
       failed c.in-Err._fault refl refl refl,
     )

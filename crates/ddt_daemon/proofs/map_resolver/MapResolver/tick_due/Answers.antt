@@ -15,6 +15,3 @@ loop-tick-preserved g c =
           (g.W.Wires.calls c.tick.new.near) w.1 t.1,
       one_tick t.0 _ w.2 t.2,
     )
-
-pub returns-after-loop-tick : goal.returns-after-loop-tick
-returns-after-loop-tick g c = let w = c.loop-tick.invariant in (_, w.0, w.1, w.2)

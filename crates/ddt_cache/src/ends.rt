@@ -1,0 +1,106 @@
+//! When entries end, in order: so a full cache finds those that have ended without a walk over all of them.
+
+ghost use Rattle.std.specs.Prelude.{◌≡◌, ◌<◌, ◌≤◌, ◌⊎◌, ℕ, List, false, length, IsTrue, IfSome, IfNone};
+ghost use Rattle.std.specs.Bool.{OnTrue};
+ghost use Rattle.std.specs.BTreeSet.{contains};
+ghost use Rattle.ddt_cache.specs.Ends.{end_cmp, IsUnlisted, IsNoted};
+
+use crate::entry::Entry;
+use ddt_path::Prefix;
+use std::alloc::Global;
+use std::collections::BTreeSet;
+
+/// The ends of the entries. Each is listed with its prefix, but where memory for the list ran out.
+#[derive(Drop)]
+pub(crate) struct Ends {
+    listed: BTreeSet<(u64, Prefix)>,
+    /// An entry that isn't listed ends at this moment or later.
+    first_unlisted: u64,
+    /// It ends at this moment or earlier.
+    last_unlisted: u64,
+}
+
+impl Ends {
+    /// The ends of no entries.
+    pub(crate) fn new(alloc: Global) -> Ends
+        ensures { (p : List ℕ) (n : ℕ) → IsNoted result p n → ⊥ }
+    {
+        Ends {
+            listed: BTreeSet::new(alloc),
+            first_unlisted: u64::MAX,
+            last_unlisted: 0,
+        }
+    }
+
+    /// Notes when the entry of a prefix ends.
+    pub(crate) fn note(&mut self, prefix: Prefix, end: u64)
+        ensures noted { IsNoted self.new prefix end }
+        ensures others { (p : List ℕ) (n : ℕ) → IsNoted self.old p n → IsNoted self.new p n }
+    {
+        match self.listed.insert((end, prefix)) {
+            Ok(_is_new) => {}
+            Err(_refused) => {
+                self.first_unlisted = self.first_unlisted.min(end);
+                self.last_unlisted = self.last_unlisted.max(end);
+            }
+        }
+    }
+
+    /// Notes when the entry of a prefix ends, in place of the end of the one that it replaced.
+    pub(crate) fn note_instead(&mut self, prefix: Prefix, replaced: Option<Entry>, end: u64)
+        ensures noted { IsNoted self.new prefix end }
+        ensures others { (p : List ℕ) (n : ℕ) → IsNoted self.old p n → (p ≡ prefix) ⊎ IsNoted self.new p n }
+    {
+        if let Some(entry) = replaced {
+            self.strike(prefix, entry.end);
+        }
+        self.note(prefix, end);
+    }
+
+    /// Takes the end of the entry of a prefix off the list.
+    pub(crate) fn strike(&mut self, prefix: Prefix, end: u64)
+        ensures struck { contains end_cmp self.new.listed (end, prefix) ≡ false }
+        ensures others { (p : List ℕ) (n : ℕ) → IsNoted self.old p n →
+            ((p ≡ prefix) × (n ≡ end)) ⊎ IsNoted self.new p n }
+        ensures fewer { IsTrue (contains end_cmp self.old.listed (end, prefix)) →
+            length self.new.listed.keys < length self.old.listed.keys }
+    {
+        self.listed.remove(&(end, prefix));
+    }
+
+    /// Takes the first end off the list, where it has come, and answers its prefix.
+    pub(crate) fn take_ended(&mut self, time: u64) -> Option<Prefix>
+        ensures ended { IfSome result (λ prefix. (end : ℕ) × (end ≤ time) ×
+            ((p : List ℕ) (n : ℕ) → IsNoted self.old p n → ((p ≡ prefix) × (n ≡ end)) ⊎ IsNoted self.new p n)) }
+        ensures fewer { IfSome result (λ _. length self.new.listed.keys < length self.old.listed.keys) }
+        ensures unchanged { IfNone result (self.new ≡ self.old) }
+        ensures later { IfNone result ((p : List ℕ) (n : ℕ) →
+            IsNoted self.new p n → (time < n) ⊎ IsUnlisted self.new n) }
+    {
+        let &(end, prefix) = self.listed.first()?;
+        if time < end {
+            return None;
+        }
+        self.strike(prefix, end);
+        Some(prefix)
+    }
+
+    /// Whether each entry that isn't listed ends after a time.
+    pub(crate) fn unlisted_end_after(&self, time: u64) -> bool
+        ensures { OnTrue result ((n : ℕ) → IsUnlisted self.now n → time < n) }
+    {
+        time < self.first_unlisted
+    }
+
+    /// Says that each entry that isn't listed ends after a time.
+    pub(crate) fn pass_unlisted(&mut self, time: u64)
+        requires { time < 18446744073709551615 }
+        ensures { (p : List ℕ) (n : ℕ) → time < n → IsNoted self.old p n → IsNoted self.new p n }
+    {
+        self.first_unlisted = if self.last_unlisted <= time {
+            u64::MAX
+        } else {
+            time + 1
+        };
+    }
+}

@@ -1,0 +1,54 @@
+//! The round of a server at its socket.
+
+use ddt_config::from_toml;
+use ddt_daemon::serve_ready;
+use ddt_ecm::CONTROL_PORT;
+use ddt_examples::bytes_of;
+use ddt_examples::configurations::EAST;
+use ddt_examples::messages::DDT_REQUEST;
+use ddt_node::{Server, has_room_for};
+use ddt_path::{Listed, Locator};
+use ddt_trie::ListMap;
+use ddt_wires::{MOST_BYTES, Outbox, Served, Waiting, WiresInMemory};
+use std::alloc::Global;
+use std::process::Abort;
+use std::test::Fail;
+
+const SERVER: Locator = Locator::V4(0x7f00_0101);
+
+const RESOLVER: Locator = Locator::V4(0x7f00_0035);
+
+/// The server of the campus group `east`.
+fn east(alloc: Global, rt: &impl Abort) -> Result<Server<ListMap<u32>>, Fail> {
+    let config = from_toml(alloc, EAST)?;
+    assert!(rt; has_room_for(&config));
+    Ok(Server::build(alloc, config).ok().ok_or("no memory")?)
+}
+
+/// Wires at which these messages of the resolver wait.
+fn busy(alloc: Global, messages: &[&str]) -> Result<WiresInMemory, Fail> {
+    let mut wires = WiresInMemory::new(alloc, 0);
+    for message in messages {
+        wires.add(Waiting {
+            at: SERVER,
+            from: RESOLVER,
+            port: CONTROL_PORT,
+            bytes: Listed::of(bytes_of(alloc, message)?),
+        })?;
+    }
+    Ok(wires)
+}
+
+#[test]
+fn a_server_takes_what_is_there_and_no_more_than_it_may(rt: HostRuntime) -> Result<(), Fail> {
+    let alloc = rt.alloc();
+    let server = east(alloc, &rt)?;
+    let mut wires = busy(alloc, &[DDT_REQUEST, "00", DDT_REQUEST, DDT_REQUEST])?;
+    let mut buffer = [0; MOST_BYTES];
+    let mut outbox = Outbox::new(alloc);
+    for (most, received, replied) in [(0, 0, 0), (3, 3, 2), (3, 1, 1), (3, 0, 0)] {
+        let served = serve_ready(&mut wires, &server, SERVER, most, &mut buffer, &mut outbox);
+        assert_eq!(rt; served, Served { received, replied });
+    }
+    Ok(())
+}

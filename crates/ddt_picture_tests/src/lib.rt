@@ -1,5 +1,0 @@
-//! The tests of ddt_pictures: what stands in the boxes of a tree, the hops of a lookup, and the shapes of both pictures.
-#![tactic(auto)]
-
-#[cfg(test)]
-mod drawn;

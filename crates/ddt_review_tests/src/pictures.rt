@@ -1,0 +1,3 @@
+//! The tests of ddt_pictures: what stands in the boxes of a tree, the hops of a lookup, and the shapes of both pictures.
+
+mod drawn;

@@ -1,0 +1,328 @@
+//! What is found of the questions for an identifier of the campus, as lines.
+
+use crate::asking::servers::{Way, World};
+use crate::comparison::{holds, same};
+use ddt_asking::{Asker, Finding, FindingCounts, Manner, finding_line};
+use ddt_cache::Moment;
+use ddt_check::{Accepted, check};
+use ddt_examples::registers::{CAMPUS, CAMPUS_GROWN, SHARED_GROUP};
+use ddt_loop::SteppingClock;
+use ddt_path::{Locator, Xeid};
+use ddt_register::read_register;
+use ddt_text::parse_xeid;
+use rand_pcg::Pcg32;
+use std::alloc::Global;
+use std::process::Abort;
+use std::test::Fail;
+
+/// The socket that asks.
+const ME: Locator = Locator::V4(0x7f00_0035);
+
+/// The TTL of a reply is at its bytes 12 to 15, and a nonce at its bytes 4 to 11.
+const OTHER_TTL: &[(usize, u8)] = &[(15, 0xa1)];
+
+const OTHER_NONCE: &[(usize, u8)] = &[(4, 0), (5, 0), (6, 0), (7, 0), (8, 0)];
+
+/// Questions about an identifier of a register, where one server answers in its own way. The clock goes on by a
+/// millisecond at each reading.
+struct Case {
+    says: &'static str,
+    register: &'static str,
+    identifier: &'static str,
+    odd: &'static str,
+    way: Way,
+    lines: &'static [&'static str],
+    counts: &'static str,
+    /// How many datagrams are sent.
+    sent: u64,
+}
+
+const CASES: &[Case] = &[
+    Case {
+        says: "each server of each set is asked",
+        register: CAMPUS,
+        identifier: "[0]10.1.2.3",
+        odd: "127.0.0.1",
+        way: Way::Honestly,
+        lines: &[
+            "[0]10.1.2.3 127.0.0.1 agrees\n",
+            "[0]10.1.2.3 127.0.0.10 agrees\n",
+            "[0]10.1.2.3 127.0.1.1 agrees\n",
+            "[0]10.1.2.3 127.0.1.2 agrees\n",
+        ],
+        counts: "4 agree, 0 differ, 0 are silent\n",
+        sent: 4,
+    },
+    Case {
+        says: "a hole ends the questions",
+        register: CAMPUS,
+        identifier: "[0]11.0.0.1",
+        odd: "127.0.0.1",
+        way: Way::Honestly,
+        lines: &["[0]11.0.0.1 127.0.0.1 agrees\n"],
+        counts: "1 agree, 0 differ, 0 are silent\n",
+        sent: 1,
+    },
+    Case {
+        says: "the zone between two of one group is left out",
+        register: SHARED_GROUP,
+        identifier: "[0]10.1.2.3",
+        odd: "127.0.0.1",
+        way: Way::Honestly,
+        lines: &["[0]10.1.2.3 127.0.0.1 agrees\n"],
+        counts: "1 agree, 0 differ, 0 are silent\n",
+        sent: 1,
+    },
+    Case {
+        says: "a server that lies about the TTL differs, and those behind it are asked",
+        register: CAMPUS,
+        identifier: "[0]10.1.4.7",
+        odd: "127.0.0.10",
+        way: Way::With(OTHER_TTL),
+        lines: &[
+            "[0]10.1.4.7 127.0.0.1 agrees\n",
+            "[0]10.1.4.7 127.0.0.10 differs: it says MS-REFERRAL [0]10.1.0.0/16 ttl 1441 complete 127.0.1.1 127.0.1.2, the register says MS-REFERRAL [0]10.1.0.0/16 ttl 1440 complete 127.0.1.1 127.0.1.2\n",
+            "[0]10.1.4.7 127.0.1.1 agrees\n",
+            "[0]10.1.4.7 127.0.1.2 agrees\n",
+        ],
+        counts: "3 agree, 1 differ, 0 are silent\n",
+        sent: 4,
+    },
+    Case {
+        says: "the Incomplete bit is compared",
+        register: CAMPUS,
+        identifier: "[0]11.0.0.1",
+        odd: "127.0.0.1",
+        way: Way::With(&[(18, 0x98)]),
+        lines: &[
+            "[0]11.0.0.1 127.0.0.1 differs: it says DELEGATION-HOLE [0]11.0.0.0/8 ttl 15 incomplete, the register says DELEGATION-HOLE [0]11.0.0.0/8 ttl 15 complete\n",
+        ],
+        counts: "0 agree, 1 differ, 0 are silent\n",
+        sent: 1,
+    },
+    Case {
+        says: "a server of another register differs",
+        register: CAMPUS,
+        identifier: "[0]10.2.0.1",
+        odd: "127.0.0.10",
+        way: Way::ByTheOther,
+        lines: &[
+            "[0]10.2.0.1 127.0.0.1 agrees\n",
+            "[0]10.2.0.1 127.0.0.10 differs: it says NODE-REFERRAL [0]10.2.0.0/16 ttl 1440 complete 127.0.0.9, the register says DELEGATION-HOLE [0]10.2.0.0/15 ttl 15 complete\n",
+        ],
+        counts: "1 agree, 1 differ, 0 are silent\n",
+        sent: 2,
+    },
+    Case {
+        says: "a reply that can't be read differs",
+        register: CAMPUS,
+        identifier: "[0]11.0.0.1",
+        odd: "127.0.0.1",
+        way: Way::Cut,
+        lines: &[
+            "[0]11.0.0.1 127.0.0.1 differs: it says no Map-Referral, the register says DELEGATION-HOLE [0]11.0.0.0/8 ttl 15 complete\n",
+        ],
+        counts: "0 agree, 1 differ, 0 are silent\n",
+        sent: 1,
+    },
+    Case {
+        says: "a server that doesn't answer is tried again, and is silent",
+        register: CAMPUS,
+        identifier: "[0]10.1.2.3",
+        odd: "127.0.1.1",
+        way: Way::Never,
+        lines: &[
+            "[0]10.1.2.3 127.0.0.1 agrees\n",
+            "[0]10.1.2.3 127.0.0.10 agrees\n",
+            "[0]10.1.2.3 127.0.1.1 silent\n",
+            "[0]10.1.2.3 127.0.1.2 agrees\n",
+        ],
+        counts: "3 agree, 0 differ, 1 are silent\n",
+        sent: 5,
+    },
+    Case {
+        says: "a reply of another nonce doesn't count",
+        register: CAMPUS,
+        identifier: "[0]11.0.0.1",
+        odd: "127.0.0.1",
+        way: Way::With(OTHER_NONCE),
+        lines: &["[0]11.0.0.1 127.0.0.1 silent\n"],
+        counts: "0 agree, 0 differ, 1 are silent\n",
+        sent: 2,
+    },
+    Case {
+        says: "a reply of another type doesn't count",
+        register: CAMPUS,
+        identifier: "[0]11.0.0.1",
+        odd: "127.0.0.1",
+        way: Way::With(&[(0, 0x20)]),
+        lines: &["[0]11.0.0.1 127.0.0.1 silent\n"],
+        counts: "0 agree, 0 differ, 1 are silent\n",
+        sent: 2,
+    },
+    Case {
+        says: "a reply from another port doesn't count",
+        register: CAMPUS,
+        identifier: "[0]11.0.0.1",
+        odd: "127.0.0.1",
+        way: Way::FromPort(4341),
+        lines: &["[0]11.0.0.1 127.0.0.1 silent\n"],
+        counts: "0 agree, 0 differ, 1 are silent\n",
+        sent: 2,
+    },
+    Case {
+        says: "a reply from another server doesn't count",
+        register: CAMPUS,
+        identifier: "[0]11.0.0.1",
+        odd: "127.0.0.1",
+        way: Way::From(Locator::V4(0x7f00_000a)),
+        lines: &["[0]11.0.0.1 127.0.0.1 silent\n"],
+        counts: "0 agree, 0 differ, 1 are silent\n",
+        sent: 2,
+    },
+    Case {
+        says: "a reply that comes during the second try counts",
+        register: CAMPUS,
+        identifier: "[0]11.0.0.1",
+        odd: "127.0.0.1",
+        way: Way::After(7),
+        lines: &["[0]11.0.0.1 127.0.0.1 agrees\n"],
+        counts: "1 agree, 0 differ, 0 are silent\n",
+        sent: 2,
+    },
+    Case {
+        says: "a reply that comes behind the last try is late",
+        register: CAMPUS,
+        identifier: "[0]11.0.0.1",
+        odd: "127.0.0.1",
+        way: Way::After(12),
+        lines: &["[0]11.0.0.1 127.0.0.1 silent\n"],
+        counts: "0 agree, 0 differ, 1 are silent\n",
+        sent: 2,
+    },
+];
+
+/// The register of a text, accepted.
+fn accepted(alloc: Global, text: &str) -> Result<Accepted, Fail> {
+    let Ok(register) = read_register(alloc, text.as_bytes()) else {
+        return Err("no register".into());
+    };
+    match check(register) {
+        Ok(accepted) => Ok(accepted),
+        Err(_refused) => Err("not accepted".into()),
+    }
+}
+
+/// A clock that stands at 0 and goes on by a millisecond at each reading.
+fn clock() -> Result<SteppingClock, Fail> {
+    match Moment::at(0) {
+        Some(next) => Ok(SteppingClock { next, step: 1 }),
+        None => Err("no moment".into()),
+    }
+}
+
+/// Two tries of 5 milliseconds each, at a rate.
+fn manner(rate: u32) -> Manner {
+    Manner {
+        me: ME,
+        rate,
+        millis: 5,
+        tries: 2,
+    }
+}
+
+/// What is found of the questions for an identifier that are asked at a rate.
+fn found_at(
+    alloc: Global,
+    world: &mut World,
+    register: &Accepted,
+    rate: u32,
+    x: Xeid,
+) -> Result<Vec<Finding>, Fail> {
+    let asker = Asker::new(alloc, manner(rate));
+    let mut nonces = Pcg32::new(1, 2);
+    Ok(asker.ask(world, &mut clock()?, &mut nonces, register, x)?)
+}
+
+/// Asks the questions of a case, and judges what is found and how many datagrams were sent.
+fn judge(rt: &impl Abort, alloc: Global, case: &Case) -> Result<(), Fail> {
+    let mut world = World::new(alloc, case.register, CAMPUS_GROWN, case.odd, case.way)?;
+    judge_found(rt, alloc, case, &mut world)?;
+    same(rt, &world.sent, &case.sent, &case.says);
+    Ok(())
+}
+
+/// Judges what is found in a world: its lines and their counts.
+fn judge_found(rt: &impl Abort, alloc: Global, case: &Case, world: &mut World) -> Result<(), Fail> {
+    let x = parse_xeid(case.identifier.as_bytes())?;
+    let findings = found_at(alloc, world, &accepted(alloc, case.register)?, 0, x)?;
+    judge_lines(rt, alloc, case, x, findings.as_slice())
+}
+
+/// Judges the lines of findings, and their counts.
+fn judge_lines(
+    rt: &impl Abort,
+    alloc: Global,
+    case: &Case,
+    x: Xeid,
+    findings: &[Finding],
+) -> Result<(), Fail> {
+    same(rt, &findings.len(), &case.lines.len(), &case.says);
+    let mut counts = FindingCounts::default();
+    for (finding, line) in findings.iter().zip(case.lines.iter()) {
+        let found = String::from_utf8(finding_line(alloc, x, finding)?)?;
+        same(rt, &found.as_str(), line, &case.says);
+        counts.count(&finding.verdict);
+    }
+    let told = String::from_utf8(counts.line(alloc)?)?;
+    same(rt, &told.as_str(), &case.counts, &case.says);
+    Ok(())
+}
+
+#[test]
+fn replies_are_compared(rt: HostRuntime) -> Result<(), Fail> {
+    for case in CASES {
+        judge(&rt, rt.alloc(), case)?;
+    }
+    Ok(())
+}
+
+/// How many polls the questions for an identifier of the campus take at a rate.
+fn polled(alloc: Global, rate: u32) -> Result<u64, Fail> {
+    let x = parse_xeid(b"[0]11.0.0.1")?;
+    let mut world = World::new(alloc, CAMPUS, CAMPUS, "127.0.0.1", Way::Honestly)?;
+    let _findings = found_at(alloc, &mut world, &accepted(alloc, CAMPUS)?, rate, x)?;
+    Ok(world.polled)
+}
+
+/// Rates, and how many polls there are. A pause of 10 milliseconds begins at its first poll, and ends at the tenth
+/// behind that.
+const POLLED: &[(u32, u64)] = &[(0, 1), (100, 12), (2000, 1)];
+
+#[test]
+fn a_rate_makes_a_pause_behind_each_question(rt: HostRuntime) -> Result<(), Fail> {
+    for &(rate, polls) in POLLED {
+        same(&rt, &polled(rt.alloc(), rate)?, &polls, &rate);
+    }
+    Ok(())
+}
+
+#[test]
+fn a_request_that_cannot_be_sent_is_tried_again(rt: HostRuntime) -> Result<(), Fail> {
+    let x = parse_xeid(b"[0]11.0.0.1")?;
+    let mut world = World::new(rt.alloc(), CAMPUS, CAMPUS, "127.0.0.1", Way::Honestly)?;
+    world.failing = 1;
+    let findings = found_at(rt.alloc(), &mut world, &accepted(rt.alloc(), CAMPUS)?, 0, x)?;
+    let mut counts = FindingCounts::default();
+    for finding in findings.iter() {
+        counts.count(&finding.verdict);
+    }
+    holds(&rt, counts.all_agree(), &"the counts");
+    same(
+        &rt,
+        &(world.sent, world.polled),
+        &(2, 1),
+        &"sent and polled",
+    );
+    Ok(())
+}

@@ -1,0 +1,197 @@
+//! What the commands write of worked registers, and why they refuse.
+
+use crate::comparison::same;
+use crate::plan_commands::files::{Written, blocks_written, diff_written, of_campus, to};
+use ddt_plan::Reading;
+use ddt_plan::Reading::{Exact, Service};
+use ddt_plan_commands::Form::{Json, Text};
+use ddt_plan_commands::{BlocksAsked, End, Form};
+use std::alloc::Global;
+use std::process::Abort;
+
+fn compare(rt: &impl Abort, written: &Written, end: End, out: &str, err: &str) {
+    same(
+        rt,
+        &written.out.as_slice(),
+        &out.as_bytes(),
+        &"what is written",
+    );
+    same(rt, &written.err.as_slice(), &err.as_bytes(), &"the reason");
+    same(rt, &written.end, &end, &"the end");
+}
+
+/// What `blocks` writes of the campus: inside a prefix, with holes or without, counted or listed.
+type Blocks = (&'static str, bool, bool, &'static str);
+
+fn writes_blocks(rt: &impl Abort, alloc: Global, form: Form, cases: &[Blocks]) {
+    for &(inside, with_holes, counted, out) in cases {
+        let written = blocks_written(alloc, &of_campus(inside, with_holes, counted, form));
+        compare(rt, &written, End::Answered, out, "");
+    }
+}
+
+const BLOCKS: &[Blocks] = &[
+    (
+        "[0]10.1.0.0/21",
+        true,
+        false,
+        "[0]10.1.0.0/23\thole [0]10.1.0.0/23
+[0]10.1.2.0/24\tregistered [0]10.1.2.0/24 127.0.1.1 127.0.1.2
+[0]10.1.3.0/24\thole [0]10.1.3.0/24
+[0]10.1.4.0/24\tnot-registered [0]10.1.4.0/24 127.0.1.1 127.0.1.2
+[0]10.1.5.0/24\thole [0]10.1.5.0/24
+[0]10.1.6.0/23\thole [0]10.1.6.0/23
+",
+    ),
+    (
+        "*",
+        false,
+        false,
+        "[0]10.1.2.0/24\tregistered [0]10.1.2.0/24 127.0.1.1 127.0.1.2
+[0]10.1.4.0/24\tnot-registered [0]10.1.4.0/24 127.0.1.1 127.0.1.2
+",
+    ),
+    (
+        "[0]10.1.0.0/21",
+        false,
+        true,
+        "registered\t1\nnot-registered\t1\nhole\t4\n",
+    ),
+];
+
+#[test]
+fn blocks_of_the_campus(rt: HostRuntime) {
+    writes_blocks(&rt, rt.alloc(), Text, BLOCKS);
+}
+
+const BLOCKS_AS_OBJECTS: &[Blocks] = &[
+    (
+        "[0]10.1.2.0/23",
+        true,
+        false,
+        "{\"block\":\"[0]10.1.2.0/24\",\"outcome\":{\"kind\":\"registered\",\"prefix\":\"[0]10.1.2.0/24\",\"servers\":[\"127.0.1.1\",\"127.0.1.2\"]}}
+{\"block\":\"[0]10.1.3.0/24\",\"outcome\":{\"kind\":\"hole\",\"prefix\":\"[0]10.1.3.0/24\",\"servers\":[]}}
+",
+    ),
+    (
+        "[0]10.1.2.0/23",
+        true,
+        true,
+        "{\"hole\":1,\"not-registered\":0,\"registered\":1}\n",
+    ),
+];
+
+#[test]
+fn blocks_of_the_campus_as_objects(rt: HostRuntime) {
+    writes_blocks(&rt, rt.alloc(), Json, BLOCKS_AS_OBJECTS);
+}
+
+/// What `diff` writes of the campus and a later register, by a reading, counted or listed, and how it ends.
+type Changes = (&'static str, Reading, bool, End, &'static str);
+
+fn writes_changes(rt: &impl Abort, alloc: Global, form: Form, cases: &[Changes]) {
+    for &(after, reading, counted, end, out) in cases {
+        let written = diff_written(alloc, &to(after, reading, counted, form));
+        compare(rt, &written, end, out, "");
+    }
+}
+
+const CHANGES: &[Changes] = &[
+    (
+        "moved.csv",
+        Service,
+        false,
+        End::Different,
+        "[0]10.1.2.0/24\tregistered [0]10.1.2.0/24 127.0.1.1 127.0.1.2\thole [0]10.1.0.0/22
+[0]10.1.4.0/24\tnot-registered [0]10.1.4.0/24 127.0.1.1 127.0.1.2\tregistered [0]10.1.4.0/24 127.0.1.3
+
+group\teast\tchanged
+group\tten\tchanged
+caches\tnegative answers\t15 minutes 2 seconds
+caches\tservers\t1 day 2 seconds
+",
+    ),
+    // A zone of nodes in a hole is no change to a user, but two groups have other configurations.
+    (
+        "grown.csv",
+        Service,
+        false,
+        End::Different,
+        "\ngroup\tfar\tadded\ngroup\tten\tchanged\ncaches\tservers\t1 day 2 seconds\n",
+    ),
+    (
+        "moved.csv",
+        Service,
+        true,
+        End::Different,
+        "registered\t1\t1\nnot-registered\t1\t0\nhole\t0\t1\ngroup\t2\n",
+    ),
+    ("campus.csv", Exact, false, End::Answered, ""),
+];
+
+#[test]
+fn changes_of_the_campus(rt: HostRuntime) {
+    writes_changes(&rt, rt.alloc(), Text, CHANGES);
+}
+
+const CHANGES_AS_OBJECTS: &[Changes] = &[
+    (
+        "grown.csv",
+        Service,
+        false,
+        End::Different,
+        "{\"configuration\":\"added\",\"group\":\"far\"}
+{\"configuration\":\"changed\",\"group\":\"ten\"}
+{\"caches\":\"servers\",\"seconds\":86402}
+",
+    ),
+    (
+        "campus.csv",
+        Service,
+        true,
+        End::Answered,
+        "{\"after\":{\"hole\":0,\"not-registered\":0,\"registered\":0},\"before\":{\"hole\":0,\"not-registered\":0,\"registered\":0},\"groups\":0}\n",
+    ),
+];
+
+#[test]
+fn changes_of_the_campus_as_objects(rt: HostRuntime) {
+    writes_changes(&rt, rt.alloc(), Json, CHANGES_AS_OBJECTS);
+}
+
+/// A register and a prefix, and the line of why there is no answer.
+const REFUSED: &[(&str, &str, &str)] = &[
+    ("campus.csv", "10.0.0.0/8", "bad prefix 2 Bracket\n"),
+    ("missing.csv", "10.0.0.0/8", "bad prefix 2 Bracket\n"),
+    ("missing.csv", "*", "cannot open missing.csv\n"),
+    ("columns.csv", "*", "columns.csv: refused A1 NoRoot row 0\n"),
+    (
+        "semicolons.csv",
+        "*",
+        "semicolons.csv: unreadable 2 Columns\n",
+    ),
+];
+
+#[test]
+fn refusals_name_the_file(rt: HostRuntime) {
+    let alloc = rt.alloc();
+    for (register, inside, line) in REFUSED {
+        let asked = BlocksAsked {
+            register: *register,
+            inside: *inside,
+            with_holes: true,
+            counted: false,
+            form: Text,
+        };
+        let written = blocks_written(alloc, &asked);
+        compare(&rt, &written, End::Refused, "", line);
+    }
+    let written = diff_written(alloc, &to("columns.csv", Service, false, Text));
+    compare(
+        &rt,
+        &written,
+        End::Refused,
+        "",
+        "columns.csv: refused A1 NoRoot row 0\n",
+    );
+}

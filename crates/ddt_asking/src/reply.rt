@@ -15,7 +15,7 @@ use ddt_wires::{NetFault, Packet};
 const NONCE_END: usize = 12;
 
 /// The reply that a question waits for.
-#[derive(Clone, Copy, Debug, PartialEq, Eq)]
+#[derive(Clone, Copy, PartialEq, Eq)]
 pub(crate) struct Awaited {
     /// The server that was asked.
     pub(crate) from: Locator,

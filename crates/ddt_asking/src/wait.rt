@@ -15,7 +15,7 @@ use ddt_wires::Wires;
 const MOST_POLLS: u32 = u32::MAX;
 
 /// A wait at a socket.
-#[derive(Clone, Copy, Debug)]
+#[derive(Clone, Copy)]
 pub(crate) struct Wait {
     /// The socket.
     pub(crate) at: Locator,

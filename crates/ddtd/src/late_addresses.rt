@@ -9,7 +9,7 @@ use std::io;
 use std::io::ErrorKind;
 
 /// Why there is no socket at a locator, as the log says it.
-#[derive(Clone, Copy, Debug)]
+#[derive(Clone, Copy)]
 struct Logged {
     at: Locator,
     kind: ErrorKind,

@@ -10,7 +10,7 @@ use std::alloc::Global;
 const MOST_REQUESTS: usize = 1024;
 
 /// A request whose first ITR-RLOC is of a family that the resolver hasn't.
-#[derive(Clone, Copy, Debug)]
+#[derive(Clone, Copy)]
 struct Redirected {
     nonce: u64,
     port: u16,

@@ -1,6 +1,7 @@
 -- Questions asked so far.
-use Rattle.std.proofs.Common.{◌≡◌, ℕ, ◌+◌, ◌<◌, true, List, [], ◌∷◌, ◌++◌, length, get_or, take, map, refl, sym, ap, subst, ◌∙◌}
-use Rattle.std.proofs.lemmas.List.{map_push, take_more}
+use Rattle.std.proofs.Common.{◌≡◌, ℕ, ◌+◌, ◌<◌, true, List, [], ◌∷◌, ◌++◌, length, get_or, take, drop, map, refl, sym, ap, subst, ◌∙◌}
+use Rattle.std.proofs.lemmas.List.{append_assoc, map_push, take_more, take-append-drop}
+use Rattle.std.specs.Result.{OnErr}
 use Rattle.std.specs.Prelude.{Option, Some, None, Result, Ok, Err}
 use Rattle.rand_core.specs.Stream.{Stream, next_u64}
 use Rattle.ddt_path.specs.declared.xeid.Xeid.{Xeid}
@@ -23,7 +24,7 @@ use Rattle.ddt_asking.specs.Steps.{WireStep, step_of, HasDone}
 use Rattle.ddt_asking.specs.Verdicts.{IsVerdict}
 use Rattle.ddt_asking.specs.Waits.{IsWait, replied, over, used_up}
 use Rattle.ddt_asking.specs.Tries.{AreTries}
-use Rattle.ddt_asking.specs.Asked.{awaited_for, pause_of, IsAskedOfServer, IsPause, no_pause, pauses, HasAsked, none_yet, one_more}
+use Rattle.ddt_asking.specs.Asked.{awaited_for, pause_of, IsAskedOfServer, IsPause, no_pause, pauses, HasAsked, none_yet, one_more, IsBegun, unsent, all_tried, HasStopped}
 use Rattle.ddt_asking.proofs.StepLemmas.{nothing_done, one_done, both_done}
 
 -- ---- one question
@@ -117,3 +118,65 @@ questions_so_far questions findings i q f lt is same so_far =
     ∙ ap (λ (qs : List Question). qs ++ f.question ∷ []) so_far
     ∙ ap (λ (p : Question). take i questions ++ p ∷ []) (same ∙ is)
     ∙ sym (take_more questions i q lt)
+
+-- ---- where memory runs out
+
+pub at_error : {T E : Type 0} {P : Type 0} (r : Result T E) → P → OnErr r P
+at_error (Ok x) is = tt
+at_error (Err e) is = is
+
+-- before the request of a question is made
+pub none_begun : (told : Option (List Call)) (read : Option (List ℕ)) (m : Manner) (x : Xeid) (nonce : ℕ) (q : Question)
+    → (steps : List WireStep) × HasDone told told read read steps × IsBegun m x nonce q steps
+none_begun told read m x nonce q = ([], nothing_done told read, unsent)
+
+pub begun_of : (m : Manner) (x : Xeid) (nonce : ℕ) (q : Question) (steps : List WireStep) (f : Finding)
+    → f.question ≡ q → IsAskedOfServer m x nonce steps f → IsBegun m x nonce q steps
+begun_of m x nonce q steps f same is = all_tried steps is.reply
+    (subst (λ (p : Question). AreTries m (request_bytes nonce x m.me) (awaited_for p nonce) steps is.reply) same
+    is.tries)
+
+pub question_begun : (m : Manner) (x : Xeid) (nonce : ℕ) (request : List ℕ) (steps : List WireStep)
+    (its_reply : Option (List ℕ)) (q : Question) → request ≡ written nonce x (m.me ∷ []) true
+    → AreTries m request (awaited_for q nonce) steps its_reply → IsBegun m x nonce q steps
+question_begun m x nonce request steps its_reply q is are = all_tried steps its_reply
+    (subst (λ (bytes : List ℕ). AreTries m bytes (awaited_for q nonce) steps its_reply)
+    (is_requested nonce x m.me request is) are)
+
+-- the questions from the next one on
+pub questions_from : (questions : List Question) (findings : List Finding) (i : ℕ) (q : Question)
+    → i < length questions → q ≡ get_or questions i q
+    → map (λ (g : Finding). g.question) findings ≡ take i questions
+    → questions ≡ map (λ (g : Finding). g.question) findings ++ q ∷ drop (i + 1) questions
+questions_from questions findings i q lt is so_far =
+    sym (take-append-drop (i + 1) questions)
+    ∙ ap (λ (qs : List Question). qs ++ drop (i + 1) questions)
+    (take_more questions i q lt ∙ ap (λ (p : Question). take i questions ++ p ∷ []) (sym is)
+    ∙ ap (λ (qs : List Question). qs ++ q ∷ []) (sym so_far))
+    ∙ append_assoc (map (λ (g : Finding). g.question) findings) (q ∷ []) (drop (i + 1) questions)
+
+pub stopped_at : (told one telling : Option (List Call)) (read once reading : Option (List ℕ)) (m : Manner) (x : Xeid)
+    (s : Stream) (questions : List Question) (findings : List Finding) (i : ℕ) (q : Question) (t : Stream) (nonce : ℕ)
+    (u : Stream) (asking : List WireStep) → i < length questions → q ≡ get_or questions i q
+    → map (λ (g : Finding). g.question) findings ≡ take i questions → IsAsking told one read once m x s findings t
+    → (nonce, u) ≡ next_u64 t → HasDone one telling once reading asking → IsBegun m x nonce q asking
+    → (steps : List WireStep) × HasDone told telling read reading steps × HasStopped m x s questions steps u
+stopped_at told one telling read once reading m x s questions findings i q t nonce u asking lt is each so_far next done
+    begun = (
+      so_far.steps ++ asking,
+      both_done told one telling read once reading so_far.steps asking so_far.done done,
+      record {
+        findings = findings;
+        question = q;
+        after = drop (i + 1) questions;
+        front = questions_from questions findings i q lt is each;
+        before = so_far.steps;
+        stream = t;
+        asked = so_far.asked;
+        nonce = nonce;
+        drawn = next;
+        last = asking;
+        begun = begun;
+        all = refl;
+      },
+    )

@@ -1,5 +1,5 @@
 -- Questions that were asked, by the steps, and what is found.
-use Rattle.std.specs.Prelude.{ℕ, ◌≡◌, ◌/◌, List, [], ◌∷◌, ◌++◌, Option, None}
+use Rattle.std.specs.Prelude.{ℕ, ◌≡◌, ◌/◌, List, [], ◌∷◌, ◌++◌, map, Option, None}
 use Rattle.rand_core.specs.Stream.{Stream, next_u64}
 use Rattle.ddt_path.specs.declared.xeid.Xeid.{Xeid}
 use Rattle.ddt_resolver.specs.State.{request_bytes}
@@ -46,3 +46,25 @@ pub data HasAsked (m : Manner) (x : Xeid) (s : Stream) : List WireStep → List 
       (asking pausing : List WireStep) (f : Finding) → HasAsked m x s before findings t → (nonce, u) ≡ next_u64 t
       → IsAskedOfServer m x nonce asking f → IsPause m pausing
       → HasAsked m x s (before ++ (asking ++ pausing)) (findings ++ f ∷ []) u
+
+-- What is done of a question for which memory runs out: nothing, or all its tries, whatever comes of them.
+pub data IsBegun (m : Manner) (x : Xeid) (nonce : ℕ) (q : Question) : List WireStep → Type 0 where
+  unsent : IsBegun m x nonce q []
+  all_tried : (steps : List WireStep) (reply : Option (List ℕ))
+      → AreTries m (request_bytes nonce x m.me) (awaited_for q nonce) steps reply → IsBegun m x nonce q steps
+
+-- Memory ran out at one of these questions: those before it were asked, and none after it.
+pub record HasStopped (m : Manner) (x : Xeid) (s : Stream) (questions : List Question) (steps : List WireStep)
+    (t : Stream) : Type 0 where
+  pub findings : List Finding
+  pub question : Question
+  pub after : List Question
+  pub front : questions ≡ map (λ (f : Finding). f.question) findings ++ question ∷ after
+  pub before : List WireStep
+  pub stream : Stream
+  pub asked : HasAsked m x s before findings stream
+  pub nonce : ℕ
+  pub drawn : (nonce, t) ≡ next_u64 stream
+  pub last : List WireStep
+  pub begun : IsBegun m x nonce question last
+  pub all : steps ≡ before ++ last

@@ -1,12 +1,13 @@
 //! The questions for an identifier are asked, one after the other.
 
-ghost use Rattle.std.specs.Prelude.{◌≡◌, List, length, map, IfOk};
+ghost use Rattle.std.specs.Prelude.{◌≡◌, ◌⊎◌, List, length, map, IfOk, OnErr};
 ghost use Rattle.rand_core.specs.Stream.{next_u64};
 ghost use Rattle.ddt_path.specs.Path.{xeid_path};
 ghost use Rattle.ddt_wires.specs.Turns.{most_bytes};
 ghost use Rattle.ddt_asking.specs.Questions.{AreQuestions};
 ghost use Rattle.ddt_asking.specs.Steps.{WireStep as AStep, HasDone};
-ghost use Rattle.ddt_asking.specs.Asked.{IsAskedOfServer, IsPause, HasAsked};
+ghost use Rattle.ddt_asking.specs.Asked.{IsAskedOfServer, IsPause, HasAsked, IsBegun, HasStopped};
+ghost use Rattle.ddt_asking.specs.declared.question.Question.{Question as QuestionValue};
 
 use crate::manner::Manner;
 use crate::question::{Question, questions_of};
@@ -42,7 +43,7 @@ impl Asker {
     /// UDP port 4342 of a server. Its reply is the first packet from there that carries its nonce and comes in time
     /// (RFC 8111, sections 6 and 7.3). Behind each question it pauses, and what comes then is lost.
     ///
-    /// Fails only if out of memory, and then some of the questions may have been asked.
+    /// Fails only if out of memory: before the first question, or at one of them, after those before it were asked.
     pub fn ask<W: Wires, C: Clock, R: Rng>(
         &self,
         wires: &mut W,
@@ -58,6 +59,14 @@ impl Asker {
         ensures asked { IfOk result (λ findings. (steps : List AStep)
             × HasDone (W.calls wires.old) (W.calls wires.new) (C.readings clock.old) (C.readings clock.new) steps
             × HasAsked self.now.manner x (R.stream nonces.old) steps findings.items (R.stream nonces.new)) }
+        // Where memory runs out, nothing was asked but the questions up to one of them.
+        ensures stopped { OnErr result (
+            ((W.calls wires.new ≡ W.calls wires.old) × (C.readings clock.new ≡ C.readings clock.old)
+            × (R.stream nonces.new ≡ R.stream nonces.old))
+            ⊎ ((questions : List QuestionValue) × AreQuestions accepted.now (xeid_path x) questions
+            × (steps : List AStep)
+            × HasDone (W.calls wires.old) (W.calls wires.new) (C.readings clock.old) (C.readings clock.new) steps
+            × HasStopped self.now.manner x (R.stream nonces.old) questions steps (R.stream nonces.new))) }
     {
         let questions = questions_of(self.alloc, accepted, x)?;
         self.ask_each(wires, clock, nonces, x, &questions)
@@ -76,6 +85,9 @@ impl Asker {
         ensures asked { IfOk result (λ findings. (steps : List AStep)
             × HasDone (W.calls wires.old) (W.calls wires.new) (C.readings clock.old) (C.readings clock.new) steps
             × HasAsked self.now.manner x (R.stream nonces.old) steps findings.items (R.stream nonces.new)) }
+        ensures stopped { OnErr result ((steps : List AStep)
+            × HasDone (W.calls wires.old) (W.calls wires.new) (C.readings clock.old) (C.readings clock.new) steps
+            × HasStopped self.now.manner x (R.stream nonces.old) questions.now steps (R.stream nonces.new)) }
     {
         let mut buffer = [0; MOST_BYTES];
         let mut findings = Vec::new(self.alloc);
@@ -103,6 +115,9 @@ impl Asker {
         ensures asked { IfOk result (λ finding. (steps : List AStep)
             × HasDone (W.calls wires.old) (W.calls wires.new) (C.readings clock.old) (C.readings clock.new) steps
             × IsAskedOfServer self.now.manner x nonce steps finding) }
+        ensures begun { OnErr result ((steps : List AStep)
+            × HasDone (W.calls wires.old) (W.calls wires.new) (C.readings clock.old) (C.readings clock.new) steps
+            × IsBegun self.now.manner x nonce question steps) }
         ensures room { length buffer.new ≡ most_bytes }
     {
         let request = write_request(self.alloc, nonce, x, &[self.manner.me], true)?;

@@ -18,7 +18,7 @@ const APART: usize = 16;
 pub(crate) const CORNER: usize = 16;
 
 /// The columns of boxes.
-#[derive(Clone, Copy)]
+#[derive(Clone, Copy, Debug)]
 pub(crate) struct Columns {
     /// How wide each box is.
     pub width: usize,

@@ -10,7 +10,7 @@ const DIGITS: u8 = 6;
 
 /// The identifiers of a zone in the order of their digits, in 64 parts of one size: whether something in each is
 /// delegated or registered. What isn't is a hole.
-#[derive(Clone, Copy)]
+#[derive(Clone, Copy, Debug)]
 pub(crate) struct Strip {
     zone: Prefix,
     cells: [bool; CELLS],

@@ -7,21 +7,21 @@ ghost use Rattle.ddt_pictures.specs.Escaped.{escaped_byte};
 use std::alloc::AllocError;
 
 /// A place, in pixels from the left and from the top.
-#[derive(Clone, Copy, PartialEq, Eq)]
+#[derive(Clone, Copy, Debug, PartialEq, Eq)]
 pub(crate) struct Point {
     pub x: usize,
     pub y: usize,
 }
 
 /// How wide and how high something is, in pixels.
-#[derive(Clone, Copy, PartialEq, Eq)]
+#[derive(Clone, Copy, Debug, PartialEq, Eq)]
 pub(crate) struct Size {
     pub width: usize,
     pub height: usize,
 }
 
 /// How a text is set.
-#[derive(Clone, Copy, PartialEq, Eq)]
+#[derive(Clone, Copy, Debug, PartialEq, Eq)]
 pub(crate) enum Style {
     Plain,
     Bold,

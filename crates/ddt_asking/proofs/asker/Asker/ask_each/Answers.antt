@@ -1,5 +1,5 @@
 use Rattle.std.proofs.Common.{◌≡◌, [], ◌∷◌, ◌++◌, refl}
-use Rattle.ddt_asking.proofs.AskLemmas.{none_asked_yet, one_more_asked, questions_so_far}
+use Rattle.ddt_asking.proofs.AskLemmas.{at_error, begun_of, none_asked_yet, one_more_asked, questions_so_far, stopped_at}
 use Rattle.ddt_asking.proofs.asker.Asker.ask_each.Goals as goal
 
 pub loop-question-init : goal.loop-question-init
@@ -31,3 +31,30 @@ loop-question-preserved g c =
           c.in_ok-finding.ensures.question c.loop-question.invariant.each);
       room = c.pause.ensures.room;
     }
+
+pub returns-in_err-finding-clause-stopped : goal.returns-in_err-finding-clause-stopped
+returns-in_err-finding-clause-stopped g c =
+    let a = c.in_err-finding.ensures.begun in
+    at_error c.from_residual.result
+    (stopped_at (g.W.Wires.calls c.args.wires.now) (g.W.Wires.calls c.loop-question.wires)
+    (g.W.Wires.calls c.ask_one.new.wires) (g.C.Clock.readings c.args.clock.now)
+    (g.C.Clock.readings c.loop-question.clock) (g.C.Clock.readings c.ask_one.new.clock) c.args.self.now.manner c.args.x
+    (g.R.Rng.stream c.args.nonces.now) c.args.questions.now c.loop-question.findings.items
+    c.loop-question.question-index c.question-item.result (g.R.Rng.stream c.loop-question.nonces) c.next_u64-nonce.result
+    (g.R.Rng.stream c.next_u64-nonce.new.self) a.0 c.loop-question-test.true c.question-item.is
+    c.loop-question.invariant.each c.loop-question.invariant.asking c.next_u64-nonce.ensures a.1
+    a.2)
+
+pub returns-in_err-push-clause-stopped : goal.returns-in_err-push-clause-stopped
+returns-in_err-push-clause-stopped g c =
+    let a = c.in_ok-finding.ensures.asked in
+    at_error c.from_residual-in_err-push.result
+    (stopped_at (g.W.Wires.calls c.args.wires.now) (g.W.Wires.calls c.loop-question.wires)
+    (g.W.Wires.calls c.ask_one.new.wires) (g.C.Clock.readings c.args.clock.now)
+    (g.C.Clock.readings c.loop-question.clock) (g.C.Clock.readings c.ask_one.new.clock) c.args.self.now.manner c.args.x
+    (g.R.Rng.stream c.args.nonces.now) c.args.questions.now c.loop-question.findings.items
+    c.loop-question.question-index c.question-item.result (g.R.Rng.stream c.loop-question.nonces) c.next_u64-nonce.result
+    (g.R.Rng.stream c.next_u64-nonce.new.self) a.0 c.loop-question-test.true c.question-item.is
+    c.loop-question.invariant.each c.loop-question.invariant.asking c.next_u64-nonce.ensures a.1
+    (begun_of c.args.self.now.manner c.args.x c.next_u64-nonce.result c.question-item.result a.0
+    c.in_ok-finding.finding c.in_ok-finding.ensures.question a.2))

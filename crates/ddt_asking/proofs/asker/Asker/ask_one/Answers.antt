@@ -1,7 +1,7 @@
-use Rattle.std.proofs.Common.{◌≡◌, ℕ, true, [], ◌∷◌, take, ◌∙◌}
+use Rattle.std.proofs.Common.{◌≡◌, ℕ, true, [], ◌∷◌, take}
 use Rattle.ddt_ecm.specs.Request.{written}
 use Rattle.std.specs.Option.{option_map}
-use Rattle.ddt_asking.proofs.AskLemmas.{question_asked}
+use Rattle.ddt_asking.proofs.AskLemmas.{at_error, none_begun, question_asked, question_begun}
 use Rattle.ddt_asking.proofs.asker.Asker.ask_one.Goals as goal
 
 pub returns-clause-asked : goal.returns-clause-asked
@@ -14,4 +14,23 @@ returns-clause-asked g c =
       question_asked c.args.self.now.manner c.args.x c.args.nonce c.deref.result.now t.0
           (option_map (λ (len : ℕ). take len c.try_each-reply.new.buffer) c.try_each-reply.result) c.args.question
           c.in_ok-verdict.verdict request t.2 c.in_ok-verdict.ensures,
+    )
+
+pub returns-in_err-request-clause-begun : goal.returns-in_err-request-clause-begun
+returns-in_err-request-clause-begun g c =
+    at_error c.from_residual.result
+    (none_begun (g.W.Wires.calls c.args.wires.now) (g.C.Clock.readings c.args.clock.now) c.args.self.now.manner c.args.x
+    c.args.nonce c.args.question)
+
+pub returns-in_err-verdict-clause-begun : goal.returns-in_err-verdict-clause-begun
+returns-in_err-verdict-clause-begun g c =
+    let t = c.try_each-reply.ensures.tried in
+    let request : c.deref.result.now ≡ written c.args.nonce c.args.x (c.args.self.now.manner.me ∷ []) true =
+    (let lent = c.deref.ensures.value in let written_so = c.in_ok-request.ensures.written in cc) in
+    at_error c.from_residual-in_err-verdict.result (
+      t.0,
+      t.1,
+      question_begun c.args.self.now.manner c.args.x c.args.nonce c.deref.result.now t.0
+          (option_map (λ (len : ℕ). take len c.try_each-reply.new.buffer) c.try_each-reply.result) c.args.question
+          request t.2,
     )

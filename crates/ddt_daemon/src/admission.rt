@@ -31,7 +31,7 @@ pub enum Dropped {
 }
 
 /// A request of an ITR that is asked for, with all that it takes to keep it.
-#[derive(Drop)]
+#[derive(Debug, Drop)]
 pub(crate) struct Admitted {
     pub(crate) request: ItrRequest,
     /// The request's bytes, as they came.

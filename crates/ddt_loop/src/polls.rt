@@ -31,7 +31,7 @@ pub struct Tree<'a, N: PrefixMap<u32>> {
 }
 
 /// A turn's number, from 0, and its moment.
-#[derive(Clone, Copy)]
+#[derive(Clone, Copy, Debug)]
 pub(crate) struct Turn {
     pub(crate) number: u32,
     pub(crate) moment: Moment,

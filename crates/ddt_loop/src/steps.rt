@@ -27,7 +27,7 @@ use ddt_wire::MessageType;
 use ddt_wires::{Packet, Wires};
 
 /// The resolver's own address, and the moment of what it does.
-#[derive(Clone, Copy)]
+#[derive(Clone, Copy, Debug)]
 pub(crate) struct Here {
     pub(crate) me: Locator,
     pub(crate) moment: Moment,

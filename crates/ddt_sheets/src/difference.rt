@@ -4,14 +4,14 @@ use ddt_register::ReadFault;
 use std::fmt;
 
 /// Which byte of a code unit of UTF-16 comes first.
-#[derive(Clone, Copy, PartialEq, Eq)]
+#[derive(Clone, Copy, Debug, PartialEq, Eq)]
 pub(crate) enum ByteOrder {
     LittleEndian,
     BigEndian,
 }
 
 /// What a whole file differs in. It is told once, at the line where it is first seen.
-#[derive(Drop)]
+#[derive(Debug, Drop)]
 pub(crate) enum Difference {
     /// The text isn't UTF-8.
     Utf16(ByteOrder),

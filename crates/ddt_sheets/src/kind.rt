@@ -1,7 +1,7 @@
 //! What a record is of, as far as its first field says.
 
 /// What a record defines.
-#[derive(Clone, Copy, PartialEq, Eq)]
+#[derive(Clone, Copy, Debug, PartialEq, Eq)]
 pub(crate) enum RecordKind {
     Group,
     Zone,

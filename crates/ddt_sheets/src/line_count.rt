@@ -1,7 +1,7 @@
 //! The lines of a text, as an editor counts them.
 
 /// A place in a text, and its line. It only goes on.
-#[derive(Clone, Copy)]
+#[derive(Clone, Copy, Debug)]
 pub(crate) struct LineCount<'a> {
     text: &'a [u8],
     place: usize,
@@ -9,7 +9,7 @@ pub(crate) struct LineCount<'a> {
 }
 
 /// Where a record begins behind blank lines and comments.
-#[derive(Clone, Copy)]
+#[derive(Clone, Copy, Debug)]
 struct Beginning {
     place: usize,
     /// Where the first comment stands, if there is one.

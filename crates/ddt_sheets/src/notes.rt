@@ -5,7 +5,7 @@ use ddt_register::ReadFault;
 use std::alloc::{AllocError, Global};
 
 /// What a file differs in, and the line where that is first seen.
-#[derive(Drop)]
+#[derive(Debug, Drop)]
 pub(crate) struct Noted {
     /// The line, from 1.
     pub(crate) line: u64,

@@ -19,7 +19,7 @@ use ddt_register::{MOST_ROWS, ReadFault, read_row};
 use std::alloc::{AllocError, Global};
 
 /// How far a file is read.
-#[derive(Clone, Copy)]
+#[derive(Clone, Copy, Debug)]
 enum Stage {
     /// The next record is the first.
     Head,

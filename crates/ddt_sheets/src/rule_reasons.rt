@@ -9,7 +9,7 @@ use ddt_register::{Group, Register, Site, Zone};
 use std::alloc::{AllocError, Global};
 
 /// A register, and the line of each of its rows.
-#[derive(Clone, Copy)]
+#[derive(Clone, Copy, Debug)]
 pub(crate) struct Lined<'a> {
     pub(crate) alloc: Global,
     pub(crate) register: &'a Register,

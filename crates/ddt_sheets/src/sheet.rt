@@ -5,7 +5,7 @@ use crate::unread::Unread;
 use ddt_register::Register;
 
 /// A register's file, read as far as its sense is plain.
-#[derive(Drop)]
+#[derive(Debug, Drop)]
 pub(crate) struct Sheet {
     /// What the whole file differs in, in the order in which it was seen.
     pub(crate) differences: Vec<Noted>,

@@ -9,7 +9,7 @@ use ddt_register::{MOST_ROWS, ReadFault};
 use std::alloc::{AllocError, Global};
 
 /// A record that is no row.
-#[derive(Drop)]
+#[derive(Debug, Drop)]
 pub(crate) struct Unread {
     /// The line on which it begins, from 1.
     pub(crate) line: u64,

@@ -105,7 +105,7 @@ where
 }
 
 /// The path of a register, the identifiers, and a resolver over the register's servers.
-#[derive(Drop)]
+#[derive(Debug, Drop)]
 struct Loop<'a> {
     register: &'a str,
     /// None where memory ran out: that is refused behind what the register is refused for.

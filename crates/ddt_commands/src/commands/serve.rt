@@ -50,7 +50,7 @@ pub const WORDS: Declaration<'static> = Declaration {
 pub const MOST_TURNS: u64 = 4_294_967_295;
 
 /// The path of a configuration, and where and for how long its server serves.
-#[derive(Clone, Copy)]
+#[derive(Clone, Copy, Debug)]
 struct Serve<'a> {
     config: &'a str,
     at: Locator,

@@ -20,11 +20,10 @@ impl fmt::Display for WordRefusal {
     ghost output = { word_refusal_text };
 
     fn fmt<W: fmt::Write>(&self, f: &mut fmt::Formatter<W>) -> fmt::Result {
-        let text = match self {
-            WordRefusal::Identifier(fault) => return write!(f, "bad identifier {fault}"),
-            WordRefusal::Address => "bad address",
-            WordRefusal::Number => "bad number",
-        };
-        f.write_str(text)
+        match self {
+            WordRefusal::Identifier(fault) => write!(f, "bad identifier {fault}"),
+            WordRefusal::Address => write!(f, "bad address"),
+            WordRefusal::Number => write!(f, "bad number"),
+        }
     }
 }

@@ -51,6 +51,16 @@ impl<M: PrefixMap<Entry>> Model for Cache<M> {
         × AreNoted c.ends (M.content c.held.entries) };
 }
 
+/// What was found for the identifier, with its prefix in place of the prefix's length.
+fn with_prefix<'a>(x: Xeid, found: (u8, &'a Entry)) -> (Prefix, &'a Entry)
+    requires { found.0 ≤ length (xeid_path x) }
+    ensures prefix { result.0 ≡ take found.entry.0 (xeid_path x) }
+    ensures entry { result.1.now ≡ found.entry.1.now }
+{
+    let (length, entry) = found;
+    (Prefix::cut(x, length), entry)
+}
+
 impl<M: PrefixMap<Entry>> Cache<M> {
     ghost use Rattle.std.specs.Borrow.{sem};
     ghost use Rattle.ddt_cache.specs.Lending.{EndsAs};
@@ -137,15 +147,16 @@ impl<M: PrefixMap<Entry>> Cache<M> {
     }
 
     /// Of the live entries whose prefixes cover the identifier, that of the longest prefix, lent; where there is none,
-    /// the root's, with the prefix that is everything.
+    /// the root's, with the prefix that is everything. The cache is moved when the entry is given back: `after`.
     pub fn find(&mut self, now: Moment, x: Xeid) -> (Prefix, &Entry)
+        ensures* after { sem 𝓛 (EndsAs (the_row M.row M.PrefixMap) self.entry (moved now self.old)) }
         ensures found { IsFound (moved now self.old) (xeid_path x) result.0 result.1.now }
     {
-        let (length, entry) = self.longest_live(now, x);
-        (Prefix::cut(x, length), entry)
+        with_prefix(x, self.longest_live(now, x))
     }
 
-    /// The same as `find`, by value; its contract also says what the cache knows afterwards.
+    /// The same as `find`, by value. Where the toolchain writes a caller's proof, it learns what the cache knows
+    /// afterwards from this contract, and nothing from `after` of `find`.
     pub fn find_copied(&mut self, now: Moment, x: Xeid) -> (Prefix, Entry)
         ensures moved { self.new ≡ moved now self.old }
         ensures found { IsFound self.new (xeid_path x) result.0 result.1 }

@@ -1,7 +1,10 @@
 //! The tests of `ddt_settings` and `ddt_daemon`: texts of settings (`settings`), what a Map-Resolver does with messages
 //! and at its ticks (`resolving`), the round of a server (`serving`), and control words (`words`).
+//! `comparison` is what all assert by.
 #![tactic(auto)]
 
+#[cfg(test)]
+mod comparison;
 #[cfg(test)]
 mod resolving;
 #[cfg(test)]

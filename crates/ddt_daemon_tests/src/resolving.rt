@@ -1,5 +1,6 @@
 //! What a Map-Resolver does with messages and at its ticks: for whom it asks, and what goes on to whom.
 
+use crate::comparison::{holds, same};
 use ddt_cache::{Entry, Moment};
 use ddt_daemon::MapResolver;
 use ddt_ecm::CONTROL_PORT;
@@ -11,6 +12,7 @@ use ddt_settings::{Settings, from_toml};
 use ddt_trie::ListMap;
 use ddt_wires::{Call, MOST_BYTES, Waiting, WiresInMemory};
 use std::alloc::Global;
+use std::process::Abort;
 use std::test::Fail;
 
 const ME: Locator = Locator::V4(0x7f00_0035);
@@ -43,19 +45,27 @@ struct World {
     far: WiresInMemory,
 }
 
-/// One that remembers nothing, and at which nothing waits.
-fn new_world(alloc: Global) -> Result<World, Fail> {
-    let Ok(settings) = from_toml(alloc, SETTINGS) else {
-        return Err("no settings".into());
-    };
-    let Some(roots) = LocatorSet::of(&[SERVER]) else {
-        return Err("no roots".into());
-    };
-    if roots.as_slice().is_empty() {
-        return Err("no root".into());
+/// A Map-Resolver that remembers nothing.
+fn new_resolver(alloc: Global) -> Result<MapResolver<ListMap<Entry>>, Fail> {
+    let roots = LocatorSet::of(&[SERVER]).ok_or("no roots")?;
+    match roots.as_slice() {
+        [] => Err("no root".into()),
+        _ => Ok(MapResolver::new(alloc, Resolver::new(alloc, roots, ME, 1))?),
     }
+}
+
+fn new_settings(alloc: Global) -> Result<Settings, Fail> {
+    match from_toml(alloc, SETTINGS) {
+        Ok(settings) => Ok(settings),
+        Err(_fault) => Err("no settings".into()),
+    }
+}
+
+/// A Map-Resolver that remembers nothing, among wires at which nothing waits.
+fn new_world(alloc: Global) -> Result<World, Fail> {
+    let settings = new_settings(alloc)?;
     Ok(World {
-        resolver: MapResolver::new(alloc, Resolver::new(alloc, roots, ME, 1))?,
+        resolver: new_resolver(alloc)?,
         settings,
         near: WiresInMemory::new(alloc, 0),
         far: WiresInMemory::new(alloc, 0),
@@ -89,9 +99,24 @@ impl World {
         let deadline = self.resolver.resolver().next_deadline().ok_or("no lookup")?;
         Ok(Moment::at(deadline).ok_or("no moment")?)
     }
+
+    /// So many requests wait.
+    fn waits(&self, rt: &impl Abort, count: usize) {
+        same(rt, &self.resolver.waiting(), &count, &"waiting");
+    }
+
+    /// So many datagrams were tried at the near wires.
+    fn has_tried_near(&self, rt: &impl Abort, count: usize) {
+        same(rt, &tries(self.near.told()), &count, &"tried near");
+    }
+
+    /// So many were tried at the far ones.
+    fn has_tried_far(&self, rt: &impl Abort, count: usize) {
+        same(rt, &tries(self.far.told()), &count, &"tried far");
+    }
 }
 
-/// The tries among calls: to whom, and the first byte.
+/// How many calls are tries.
 fn tries(calls: Option<&[Call]>) -> usize {
     calls
         .unwrap_or(&[])
@@ -125,92 +150,124 @@ fn is_onward(alloc: Global, call: Option<&Call>) -> Result<bool, Fail> {
     }
 }
 
+/// A registered request goes on, and only once.
+fn goes_on_once(alloc: Global, rt: &impl Abort, world: &mut World) -> Result<(), Fail> {
+    world.take(alloc, ITR, ITR_PORT, ITR_REQUEST)?;
+    world.waits(rt, 1);
+    world.has_tried_far(rt, 0);
+    world.take(alloc, SERVER, CONTROL_PORT, ACKNOWLEDGED)?;
+    world.waits(rt, 0);
+    world.has_tried_far(rt, 1);
+    let told = world.far.told().unwrap_or(&[]);
+    holds(rt, is_onward(alloc, told.first())?, &"onward");
+    world.take(alloc, SERVER, CONTROL_PORT, ACKNOWLEDGED)?;
+    world.has_tried_far(rt, 1);
+    same(rt, &world.resolver.counts().registered, &1, &"registered");
+    Ok(())
+}
+
 #[test]
 fn a_registered_request_goes_on_once(rt: HostRuntime) -> Result<(), Fail> {
-    let alloc = rt.alloc();
-    let mut world = new_world(alloc)?;
+    let mut world = new_world(rt.alloc())?;
+    goes_on_once(rt.alloc(), &rt, &mut world)
+}
+
+fn goes_back(alloc: Global, rt: &impl Abort, world: &mut World) -> Result<(), Fail> {
     world.take(alloc, ITR, ITR_PORT, ITR_REQUEST)?;
-    assert_eq!(rt; world.resolver.waiting(), 1);
-    assert_eq!(rt; tries(world.far.told()), 0);
-    world.take(alloc, SERVER, CONTROL_PORT, ACKNOWLEDGED)?;
-    assert_eq!(rt; world.resolver.waiting(), 0);
-    assert_eq!(rt; tries(world.far.told()), 1);
-    let told = world.far.told().unwrap_or(&[]);
-    assert!(rt; is_onward(alloc, told.first())?);
-    world.take(alloc, SERVER, CONTROL_PORT, ACKNOWLEDGED)?;
-    assert_eq!(rt; tries(world.far.told()), 1);
-    assert_eq!(rt; world.resolver.counts().registered, 1);
+    world.take(alloc, SERVER, CONTROL_PORT, HOLE_OF_EVERYTHING)?;
+    world.has_tried_far(rt, 0);
+    world.has_tried_near(rt, 2);
+    same(rt, &world.resolver.counts().holes, &1, &"holes");
     Ok(())
 }
 
 #[test]
 fn a_hole_goes_back_and_not_on(rt: HostRuntime) -> Result<(), Fail> {
-    let alloc = rt.alloc();
-    let mut world = new_world(alloc)?;
-    world.take(alloc, ITR, ITR_PORT, ITR_REQUEST)?;
-    world.take(alloc, SERVER, CONTROL_PORT, HOLE_OF_EVERYTHING)?;
-    assert_eq!(rt; tries(world.far.told()), 0);
-    assert_eq!(rt; tries(world.near.told()), 2);
-    assert_eq!(rt; world.resolver.counts().holes, 1);
+    let mut world = new_world(rt.alloc())?;
+    goes_back(rt.alloc(), &rt, &mut world)
+}
+
+fn is_denied(alloc: Global, rt: &impl Abort, world: &mut World) -> Result<(), Fail> {
+    world.take(alloc, SERVER, ITR_PORT, ITR_REQUEST)?;
+    world.has_tried_near(rt, 0);
+    same(rt, &world.resolver.counts().denied, &1, &"denied");
     Ok(())
 }
 
 #[test]
 fn who_is_not_allowed_is_not_asked_for(rt: HostRuntime) -> Result<(), Fail> {
-    let alloc = rt.alloc();
-    let mut world = new_world(alloc)?;
-    world.take(alloc, SERVER, ITR_PORT, ITR_REQUEST)?;
-    assert_eq!(rt; tries(world.near.told()), 0);
-    assert_eq!(rt; world.resolver.counts().denied, 1);
+    let mut world = new_world(rt.alloc())?;
+    is_denied(rt.alloc(), &rt, &mut world)
+}
+
+fn is_repeated(alloc: Global, rt: &impl Abort, world: &mut World) -> Result<(), Fail> {
+    world.take(alloc, ITR, ITR_PORT, ITR_REQUEST)?;
+    world.take(alloc, ITR, ITR_PORT, ITR_REQUEST)?;
+    world.waits(rt, 1);
+    world.has_tried_near(rt, 1);
+    same(rt, &world.resolver.counts().repeated, &1, &"repeated");
     Ok(())
 }
 
 #[test]
 fn a_repeat_waits_once(rt: HostRuntime) -> Result<(), Fail> {
-    let alloc = rt.alloc();
-    let mut world = new_world(alloc)?;
+    let mut world = new_world(rt.alloc())?;
+    is_repeated(rt.alloc(), &rt, &mut world)
+}
+
+/// Two lookups, none of which has a reply.
+fn ask_twice(alloc: Global, world: &mut World) -> Result<(), Fail> {
     world.take(alloc, ITR, ITR_PORT, ITR_REQUEST)?;
-    world.take(alloc, ITR, ITR_PORT, ITR_REQUEST)?;
-    assert_eq!(rt; world.resolver.waiting(), 1);
-    assert_eq!(rt; tries(world.near.told()), 1);
-    assert_eq!(rt; world.resolver.counts().repeated, 1);
+    world.take(alloc, ITR, ITR_PORT, ANOTHER_REQUEST)
+}
+
+/// A tick of all that is due, after which so many datagrams were tried.
+fn tries_due(rt: &impl Abort, world: &mut World, now: Moment, count: usize) {
+    world.resolver.tick_due(&mut world.near, ME, now);
+    world.has_tried_near(rt, count);
+}
+
+fn are_tried_again(rt: &impl Abort, world: &mut World) -> Result<(), Fail> {
+    let early = Moment::at(11).ok_or("no moment")?;
+    tries_due(rt, world, early, 2);
+    let due = world.due()?;
+    world.resolver.tick(&mut world.near, ME, due);
+    world.has_tried_near(rt, 3);
+    tries_due(rt, world, due, 4);
+    tries_due(rt, world, due, 4);
     Ok(())
 }
 
 #[test]
 fn each_lookup_that_is_due_is_tried_again(rt: HostRuntime) -> Result<(), Fail> {
-    let alloc = rt.alloc();
-    let mut world = new_world(alloc)?;
-    world.take(alloc, ITR, ITR_PORT, ITR_REQUEST)?;
-    world.take(alloc, ITR, ITR_PORT, ANOTHER_REQUEST)?;
-    let early = Moment::at(11).ok_or("no moment")?;
-    world.resolver.tick_due(&mut world.near, ME, early);
-    assert_eq!(rt; tries(world.near.told()), 2);
-    let due = world.due()?;
-    world.resolver.tick(&mut world.near, ME, due);
-    assert_eq!(rt; tries(world.near.told()), 3);
-    world.resolver.tick_due(&mut world.near, ME, due);
-    assert_eq!(rt; tries(world.near.told()), 4);
-    world.resolver.tick_due(&mut world.near, ME, due);
-    assert_eq!(rt; tries(world.near.told()), 4);
+    let mut world = new_world(rt.alloc())?;
+    ask_twice(rt.alloc(), &mut world)?;
+    are_tried_again(&rt, &mut world)
+}
+
+/// What is due is tried again, where a request waits.
+fn go_on(world: &mut World) -> Result<(), Fail> {
+    if world.resolver.waiting() > 0 {
+        let due = world.due()?;
+        world.resolver.tick_due(&mut world.near, ME, due);
+    }
     Ok(())
+}
+
+fn have_given_up(rt: &impl Abort, world: &World) {
+    world.waits(rt, 0);
+    same(rt, &world.resolver.resolver().pending(), &0, &"pending");
+    same(rt, &world.resolver.counts().no_reply, &2, &"no reply");
+    world.has_tried_far(rt, 0);
 }
 
 #[test]
 fn lookups_without_a_reply_give_up(rt: HostRuntime) -> Result<(), Fail> {
-    let alloc = rt.alloc();
-    let mut world = new_world(alloc)?;
-    world.take(alloc, ITR, ITR_PORT, ITR_REQUEST)?;
-    world.take(alloc, ITR, ITR_PORT, ANOTHER_REQUEST)?;
+    let mut world = new_world(rt.alloc())?;
+    ask_twice(rt.alloc(), &mut world)?;
     for _round in 0..100_u32 {
-        if world.resolver.waiting() > 0 {
-            let due = world.due()?;
-            world.resolver.tick_due(&mut world.near, ME, due);
-        }
+        go_on(&mut world)?;
     }
-    assert_eq!(rt; world.resolver.waiting(), 0);
-    assert_eq!(rt; world.resolver.resolver().pending(), 0);
-    assert_eq!(rt; world.resolver.counts().no_reply, 2);
-    assert_eq!(rt; tries(world.far.told()), 0);
+    have_given_up(&rt, &world);
     Ok(())
 }

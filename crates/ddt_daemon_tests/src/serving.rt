@@ -1,5 +1,6 @@
 //! The round of a server at its socket.
 
+use crate::comparison::same;
 use ddt_config::from_toml;
 use ddt_daemon::serve_ready;
 use ddt_ecm::CONTROL_PORT;
@@ -25,30 +26,50 @@ fn east(alloc: Global, rt: &impl Abort) -> Result<Server<ListMap<u32>>, Fail> {
     Ok(Server::build(alloc, config).ok().ok_or("no memory")?)
 }
 
-/// Wires at which these messages of the resolver wait.
-fn busy(alloc: Global, messages: &[&str]) -> Result<WiresInMemory, Fail> {
+/// Lets a message of the resolver wait.
+fn add(alloc: Global, wires: &mut WiresInMemory, message: &str) -> Result<(), Fail> {
+    wires.add(Waiting {
+        at: SERVER,
+        from: RESOLVER,
+        port: CONTROL_PORT,
+        bytes: Listed::of(bytes_of(alloc, message)?),
+    })?;
+    Ok(())
+}
+
+const MESSAGES: &[&str] = &[DDT_REQUEST, "00", DDT_REQUEST, DDT_REQUEST];
+
+/// Wires at which the messages wait.
+fn busy(alloc: Global) -> Result<WiresInMemory, Fail> {
     let mut wires = WiresInMemory::new(alloc, 0);
-    for message in messages {
-        wires.add(Waiting {
-            at: SERVER,
-            from: RESOLVER,
-            port: CONTROL_PORT,
-            bytes: Listed::of(bytes_of(alloc, message)?),
-        })?;
+    for message in MESSAGES {
+        add(alloc, &mut wires, message)?;
     }
     Ok(wires)
 }
 
-#[test]
-fn a_server_takes_what_is_there_and_no_more_than_it_may(rt: HostRuntime) -> Result<(), Fail> {
-    let alloc = rt.alloc();
-    let server = east(alloc, &rt)?;
-    let mut wires = busy(alloc, &[DDT_REQUEST, "00", DDT_REQUEST, DDT_REQUEST])?;
+/// How many messages each round may take, and how many it then receives and replies to.
+const ROUNDS: &[(u32, u32, u32)] = &[(0, 0, 0), (3, 3, 2), (3, 1, 1), (3, 0, 0)];
+
+/// The server takes its rounds.
+fn serves(
+    alloc: Global,
+    rt: &impl Abort,
+    wires: &mut WiresInMemory,
+    server: &Server<ListMap<u32>>,
+) {
     let mut buffer = [0; MOST_BYTES];
     let mut outbox = Outbox::new(alloc);
-    for (most, received, replied) in [(0, 0, 0), (3, 3, 2), (3, 1, 1), (3, 0, 0)] {
-        let served = serve_ready(&mut wires, &server, SERVER, most, &mut buffer, &mut outbox);
-        assert_eq!(rt; served, Served { received, replied });
+    for &(most, received, replied) in ROUNDS {
+        let served = serve_ready(wires, server, SERVER, most, &mut buffer, &mut outbox);
+        same(rt, &served, &Served { received, replied }, &most);
     }
+}
+
+#[test]
+fn a_server_takes_what_is_there_and_no_more_than_it_may(rt: HostRuntime) -> Result<(), Fail> {
+    let mut wires = busy(rt.alloc())?;
+    let server = east(rt.alloc(), &rt)?;
+    serves(rt.alloc(), &rt, &mut wires, &server);
     Ok(())
 }

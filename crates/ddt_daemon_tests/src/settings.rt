@@ -1,7 +1,10 @@
 //! Texts of settings, and what stands in the way of others.
 
+use crate::comparison::{holds, same};
 use ddt_path::Locator;
-use ddt_settings::{Key, SettingsFault, from_toml};
+use ddt_settings::{Key, Settings, SettingsFault, from_toml};
+use std::alloc::Global;
+use std::process::Abort;
 use std::test::Fail;
 
 const GOOD: &str = "
@@ -21,26 +24,45 @@ fn far_host(number: u128) -> Locator {
     Locator::V6(0x2001_0db8_0000_0000_0000_0000_0000_0001 | number << 80)
 }
 
+fn settings_of(alloc: Global, text: &str) -> Result<Settings, Fail> {
+    match from_toml(alloc, text) {
+        Ok(settings) => Ok(settings),
+        Err(_fault) => Err("refused".into()),
+    }
+}
+
+/// The last numbers of addresses, and whether these may ask.
+const NEAR: &[(u32, bool)] = &[(128, true), (255, true), (127, false), (0, false)];
+
+fn near_may_ask(rt: &impl Abort, settings: &Settings) {
+    for &(number, may_ask) in NEAR {
+        same(rt, &settings.allows(host(number)), &may_ask, &number);
+    }
+}
+
+fn far_may_ask(rt: &impl Abort, settings: &Settings) {
+    for (number, may_ask) in [(1, true), (2, false)] {
+        same(rt, &settings.allows(far_host(number)), &may_ask, &number);
+    }
+}
+
 #[test]
 fn settings_are_read(rt: HostRuntime) -> Result<(), Fail> {
-    let Ok(settings) = from_toml(rt.alloc(), GOOD) else {
-        return Err("refused".into());
-    };
-    assert_eq!(rt; settings.roots.as_slice().len(), 2);
-    assert_eq!(rt; settings.listen.as_slice().first(), Some(&host(2)));
-    assert!(rt; settings.allows(host(128)) && settings.allows(host(255)));
-    assert!(rt; !settings.allows(host(127)) && !settings.allows(host(0)));
-    assert!(rt; settings.allows(far_host(1)) && !settings.allows(far_host(2)));
+    let settings = settings_of(rt.alloc(), GOOD)?;
+    let listen = settings.listen.as_slice().first();
+    same(&rt, &settings.roots.as_slice().len(), &2, &"the roots");
+    same(&rt, &listen, &Some(&host(2)), &"the first address");
+    near_may_ask(&rt, &settings);
+    far_may_ask(&rt, &settings);
     Ok(())
 }
 
 #[test]
 fn nobody_may_ask_by_default(rt: HostRuntime) -> Result<(), Fail> {
     let text = "roots = [\"192.0.2.3\"]\nlisten = [\"192.0.2.2\"]";
-    let Ok(settings) = from_toml(rt.alloc(), text) else {
-        return Err("refused".into());
-    };
-    assert!(rt; !settings.allows(host(1)) && !settings.allows(far_host(1)));
+    let settings = settings_of(rt.alloc(), text)?;
+    let may_ask = settings.allows(host(1)) || settings.allows(far_host(1));
+    holds(&rt, !may_ask, &text);
     Ok(())
 }
 
@@ -89,15 +111,19 @@ fn number_of(fault: &SettingsFault) -> u8 {
     }
 }
 
-#[test]
-fn each_fault_is_told(rt: HostRuntime) -> Result<(), Fail> {
-    for (text, number) in BAD {
-        match from_toml(rt.alloc(), text) {
-            Ok(_settings) => return Err("taken".into()),
-            Err(fault) => assert_eq!(rt; number_of(&fault), *number),
-        }
+/// The number of the fault of a text; None where it is taken.
+fn fault_of(alloc: Global, text: &str) -> Option<u8> {
+    match from_toml(alloc, text) {
+        Ok(_settings) => None,
+        Err(fault) => Some(number_of(&fault)),
     }
-    Ok(())
+}
+
+#[test]
+fn each_fault_is_told(rt: HostRuntime) {
+    for (text, number) in BAD {
+        same(&rt, &fault_of(rt.alloc(), text), &Some(*number), text);
+    }
 }
 
 #[test]
@@ -105,7 +131,7 @@ fn a_bad_value_is_named(rt: HostRuntime) -> Result<(), Fail> {
     let text = "roots = [\"192.0.2.3\"]\nlisten = [\"192.0.2.2\", \"192.0.2.256\"]";
     match from_toml(rt.alloc(), text) {
         Err(SettingsFault::Value(Key::Listen, value)) => {
-            assert_eq!(rt; value.as_slice(), b"192.0.2.256".as_slice());
+            same(&rt, &value.as_slice(), &b"192.0.2.256".as_slice(), &text);
             Ok(())
         }
         _ => Err("another end".into()),

@@ -1,5 +1,6 @@
 //! The words that a daemon is told.
 
+use crate::comparison::same;
 use ddt_daemon::ControlWord;
 use std::test::Fail;
 
@@ -11,10 +12,10 @@ fn a_word_is_read_as_it_is_written(rt: HostRuntime) -> Result<(), Fail> {
         ControlWord::Flush,
         ControlWord::Stop,
     ] {
-        assert_eq!(rt; ControlWord::of(word.text()), Some(word));
+        same(&rt, &ControlWord::of(word.text()), &Some(word), &word);
     }
     for other in ["", "stat", "stats ", "STOP", "stop\n"] {
-        assert_eq!(rt; ControlWord::of(other), None);
+        same(&rt, &ControlWord::of(other), &None, &other);
     }
     Ok(())
 }

@@ -4,6 +4,7 @@
 mod full;
 mod plain;
 
+use crate::comparison::{holds, same};
 use ddt_cache::{Cache, Entry, LAST_MOMENT, Moment, Saved};
 use ddt_examples::Dice;
 use ddt_path::{Action, Locator, LocatorSet, Prefix, ReferralRecord, Xeid};
@@ -118,11 +119,8 @@ fn answers<M: PrefixMap<Entry>>(
     referral: &ReferralRecord,
     saved: Saved,
 ) {
-    assert_eq!(rt;
-        tried(rt, cache, millis, referral),
-        Some(saved),
-        "at {millis}"
-    );
+    let tried = tried(rt, cache, millis, referral);
+    same(rt, &tried, &Some(saved), &millis);
 }
 
 fn saves<M: PrefixMap<Entry>>(
@@ -141,16 +139,16 @@ fn finds_entry<M: PrefixMap<Entry>>(
     x: Xeid,
     entry: (Prefix, Entry),
 ) {
-    assert_eq!(rt; found(rt, cache, millis, x), entry, "at {millis}");
+    same(rt, &found(rt, cache, millis, x), &entry, &millis);
 }
 
 /// So many entries are live.
 fn counts<M: PrefixMap<Entry>>(rt: &impl Abort, cache: &mut Cache<M>, millis: u64, count: usize) {
-    assert_eq!(rt; cache.len(at(rt, millis)), count, "at {millis}");
+    same(rt, &cache.len(at(rt, millis)), &count, &millis);
 }
 
 fn forgets<M: PrefixMap<Entry>>(rt: &impl Abort, cache: &mut Cache<M>, prefix: Prefix, went: bool) {
-    assert_eq!(rt; cache.forget(prefix), went, "{prefix:?}");
+    same(rt, &cache.forget(prefix), &went, &prefix);
 }
 
 /// Milliseconds, and whether there is a moment of so many.
@@ -169,7 +167,7 @@ fn millis_of(millis: u64) -> Option<u64> {
 fn the_last_moment_is_the_last(rt: HostRuntime) {
     for &(millis, is_moment) in MOMENTS {
         let wanted = if is_moment { Some(millis) } else { None };
-        assert!(rt; millis_of(millis) == wanted, "{millis}");
+        same(&rt, &millis_of(millis), &wanted, &millis);
     }
 }
 
@@ -437,7 +435,7 @@ fn is_found<M: PrefixMap<Entry>>(
 }
 
 /// Whether a cache answers a call as it should.
-fn holds<M: PrefixMap<Entry>>(
+fn is_right<M: PrefixMap<Entry>>(
     rt: &impl Abort,
     cache: &mut Cache<M>,
     millis: u64,
@@ -465,8 +463,8 @@ fn holds<M: PrefixMap<Entry>>(
 fn plays<M: PrefixMap<Entry>>(alloc: Global, rt: &impl Abort, name: &str, steps: &[Timed]) {
     let mut cache = rooted::<M>(alloc, rt);
     for (place, step) in steps.iter().enumerate() {
-        let is_right = holds(rt, &mut cache, step.0, &step.1);
-        assert!(rt; is_right, "{name}: step {place}");
+        let is_right = is_right(rt, &mut cache, step.0, &step.1);
+        holds(rt, is_right, &(name, place));
     }
 }
 
@@ -545,7 +543,7 @@ fn finds_alike<M: PrefixMap<Entry>>(
     now: u64,
     x: Xeid,
 ) {
-    assert_eq!(rt; found_copied(rt, cache, now, x), plain.find(x));
+    same(rt, &found_copied(rt, cache, now, x), &plain.find(x), &x);
 }
 
 /// One random call on a cache and on a plain one, whose answers are to agree.

@@ -4,6 +4,7 @@
 //! What a resolver holds shows in what it answers afterwards: the same lines come as with ample memory, to the end of
 //! the schedule. `.ci/memory` runs each of these tests with each growth refused in turn.
 
+use crate::comparison::same;
 use crate::resolver::calls::{Call, NOT_IN_CHARGE, ROOT, TEN, TO_TEN, Told, at, referral_record};
 use ddt_cache::{Cache, Entry, Saved};
 use ddt_ecm::read_request;
@@ -80,13 +81,13 @@ fn longest_row(rows: &'static [Row], x: Xeid) -> Result<Option<&'static Row>, Fa
 /// What is found was saved by this row, and ends fifteen minutes later.
 fn is_of_row(rt: &impl Abort, found: &(Prefix, Entry), row: &Row) -> Result<(), Fail> {
     let record = record(row.1, parse_prefix(row.2.as_bytes())?)?;
-    assert_eq!(rt;
-        (found.0, found.1.end),
-        (record.prefix, row.0.saturating_add(900_000))
-    );
-    assert_eq!(rt;
-        (found.1.action, found.1.servers),
-        (record.action, record.servers)
+    let end = row.0.saturating_add(900_000);
+    same(rt, &(found.0, found.1.end), &(record.prefix, end), row);
+    same(
+        rt,
+        &(found.1.action, found.1.servers),
+        &(record.action, record.servers),
+        row,
     );
     Ok(())
 }
@@ -94,8 +95,19 @@ fn is_of_row(rt: &impl Abort, found: &(Prefix, Entry), row: &Row) -> Result<(), 
 /// What is found is the root.
 fn is_root(rt: &impl Abort, found: &(Prefix, Entry)) -> Result<(), Fail> {
     let roots = LocatorSet::of(&[ROOT]).ok_or("too many locators")?;
-    assert_eq!(rt; (found.0.len(), found.1.action), (0, Action::NodeReferral));
-    assert_eq!(rt; (found.1.servers, found.1.end), (roots, u64::MAX));
+    let entry = found.1;
+    same(
+        rt,
+        &(found.0.len(), entry.action),
+        &(0, Action::NodeReferral),
+        &"the root",
+    );
+    same(
+        rt,
+        &(entry.servers, entry.end),
+        &(roots, u64::MAX),
+        &"the root",
+    );
     Ok(())
 }
 
@@ -126,7 +138,12 @@ fn has<M: PrefixMap<Entry>>(
         Some(row) => row.3,
         None => 0,
     };
-    assert_eq!(rt; (cache.time(), cache.len(now)), (now, len));
+    same(
+        rt,
+        &(cache.time(), cache.len(now)),
+        &(now, len),
+        &"the time and the entries",
+    );
     for text in IDENTIFIERS {
         finds(rt, cache, now, rows, text)?;
     }
@@ -134,7 +151,7 @@ fn has<M: PrefixMap<Entry>>(
 }
 
 fn is_saved(rt: &impl Abort, saved: Saved) {
-    assert_eq!(rt; saved, Saved::Saved);
+    same(rt, &saved, &Saved::Saved, &"a save");
 }
 
 /// Saves the record of a row behind others, once more where memory is refused: then nothing but the time is another.
@@ -269,7 +286,12 @@ fn asks(
 
 /// The time has moved, and so many lookups are pending.
 fn is_as_before(rt: &impl Abort, resolver: &TrieResolver, now: Moment, pending: usize) {
-    assert_eq!(rt; (resolver.time(), resolver.pending()), (now, pending));
+    same(
+        rt,
+        &(resolver.time(), resolver.pending()),
+        &(now, pending),
+        &"the lookups",
+    );
 }
 
 fn after_ask(asked: &Asked) -> Result<Came, Fail> {
@@ -427,11 +449,11 @@ const SCHEDULE: &[(u64, Call, Want, usize)] = &[
 ];
 
 fn is_wanted(rt: &impl Abort, came: Came, want: Came) {
-    assert_eq!(rt; came, want);
+    same(rt, &came, &want, &"a call");
 }
 
 fn has_pending(rt: &impl Abort, resolver: &TrieResolver, pending: usize) {
-    assert_eq!(rt; resolver.pending(), pending);
+    same(rt, &resolver.pending(), &pending, &"pending");
 }
 
 #[test]
@@ -588,7 +610,7 @@ fn opens(rt: &impl Abort, resolver: &mut TrieResolver, address: u32) -> Result<(
 fn is_too_many(rt: &impl Abort, resolver: &mut TrieResolver) -> Result<(), Fail> {
     let x = parse_xeid(b"[0]10.1.2.3")?;
     let refusal = resolver.ask(at(0)?, x).err();
-    assert_eq!(rt; refusal, Some(AskError::TooMany));
+    same(rt, &refusal, &Some(AskError::TooMany), &x);
     Ok(())
 }
 
@@ -634,8 +656,8 @@ fn message(alloc: Global, fields: &str) -> Result<Vec<u8>, Fail> {
 /// A datagram goes to the ITR's address and port, with these bytes.
 fn goes(rt: &impl Abort, sent: &Outgoing, bytes: &[u8]) -> Result<(), Fail> {
     let itr = itr()?;
-    assert_eq!(rt; (sent.to, sent.port), (itr.to, itr.port));
-    assert_eq!(rt; sent.bytes.as_slice(), bytes);
+    same(rt, &(sent.to, sent.port), &(itr.to, itr.port), &"the ITR");
+    same(rt, &sent.bytes.as_slice(), &bytes, &"the datagram");
     Ok(())
 }
 

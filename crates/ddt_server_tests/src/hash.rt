@@ -2,6 +2,7 @@
 
 ghost use Rattle.std.specs.Prelude.{◌≤◌};
 
+use crate::comparison::same;
 use ddt_path::{Locator, Prefix, Xeid};
 use ddt_trie::{HashedMap, ListMap, MOST_ENTRIES, PrefixMap};
 use std::alloc::Global;
@@ -58,7 +59,8 @@ fn agree(rt: &impl Abort, both: &Both) {
 }
 
 fn agrees_on(rt: &impl Abort, both: &Both, x: Xeid) {
-    assert!(rt; value_of_longest(&both.hashed, x) == value_of_longest(&both.plain, x));
+    let plain = value_of_longest(&both.plain, x);
+    same(rt, &value_of_longest(&both.hashed, x), &plain, &x);
 }
 
 /// Removes a key of this value from both maps.
@@ -69,7 +71,7 @@ fn remove_from_both(rt: &impl Abort, both: &mut Both, prefix: Prefix, value: u32
 }
 
 fn removes<M: PrefixMap<u32>>(rt: &impl Abort, map: &mut M, prefix: Prefix, value: u32) {
-    assert!(rt; map.remove(prefix) == Some(value));
+    same(rt, &map.remove(prefix), &Some(value), &prefix);
 }
 
 /// Only values below four stay in both maps: so many.
@@ -77,7 +79,7 @@ fn retain_in_both(rt: &impl Abort, both: &mut Both, count: usize) {
     retain_below_four(&mut both.hashed);
     retain_below_four(&mut both.plain);
     agree(rt, both);
-    assert!(rt; both.hashed.len() == count);
+    same(rt, &both.hashed.len(), &count, &"what stays");
 }
 
 fn retain_below_four<M: PrefixMap<u32>>(map: &mut M) {

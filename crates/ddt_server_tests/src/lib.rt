@@ -1,8 +1,10 @@
-//! The tests of a server's crates: `ddt_trie`, `ddt_node` and `ddt_wires`.
+//! The tests of a server's crates: `ddt_trie`, `ddt_node` and `ddt_wires`. `comparison` is what all assert by.
 #![tactic(auto)]
 
 #[cfg(test)]
 mod callers;
+#[cfg(test)]
+mod comparison;
 #[cfg(test)]
 mod hash;
 #[cfg(test)]

@@ -1,5 +1,6 @@
 //! Servers of worked configurations: their answers, and what they send for a datagram.
 
+use crate::comparison::{holds, same};
 use ddt_config::{ConfigFault, from_toml};
 use ddt_ecm::write_request;
 use ddt_examples::configurations::{EAST, NESTED_EAST, ROOT, SHARED_ROOT, TEN, TWO_ETRS};
@@ -138,7 +139,8 @@ fn addressee(
 #[test]
 fn a_registered_site_is_acknowledged(rt: HostRuntime) -> Result<(), Fail> {
     let request = bytes_of(rt.alloc(), DDT_REQUEST)?;
-    assert!(rt; replies(rt.alloc(), &rt, EAST, &request, EAST_ACKNOWLEDGES)?);
+    let is_acknowledged = replies(rt.alloc(), &rt, EAST, &request, EAST_ACKNOWLEDGES)?;
+    holds(&rt, is_acknowledged, &DDT_REQUEST);
     Ok(())
 }
 
@@ -181,7 +183,7 @@ fn goes_on_as(
 #[test]
 fn the_request_goes_to_its_etr_without_the_bit_d(rt: HostRuntime) -> Result<(), Fail> {
     for &(first, onward) in FIRST_BYTES {
-        assert!(rt; goes_on(rt.alloc(), &rt, first, onward)?, "{first:?}");
+        holds(&rt, goes_on(rt.alloc(), &rt, first, onward)?, &first);
     }
     Ok(())
 }
@@ -200,7 +202,7 @@ const ADDRESSEES: &[(&str, &str, Option<Locator>)] = &[
 #[test]
 fn the_first_etr_of_the_longest_site_gets_the_request(rt: HostRuntime) -> Result<(), Fail> {
     for &(text, xeid, to) in ADDRESSEES {
-        assert!(rt; addressee(rt.alloc(), &rt, text, xeid)? == to, "{xeid}");
+        same(&rt, &addressee(rt.alloc(), &rt, text, xeid)?, &to, &xeid);
     }
     Ok(())
 }
@@ -216,7 +218,7 @@ fn a_site_without_an_etr_and_what_is_outside_have_a_reply_alone(
     rt: HostRuntime,
 ) -> Result<(), Fail> {
     for &(text, xeid, wanted) in REPLIES {
-        assert!(rt; replies_to(rt.alloc(), &rt, text, xeid, wanted)?, "{xeid}");
+        holds(&rt, replies_to(rt.alloc(), &rt, text, xeid, wanted)?, &xeid);
     }
     Ok(())
 }
@@ -224,14 +226,16 @@ fn a_site_without_an_etr_and_what_is_outside_have_a_reply_alone(
 #[test]
 fn root_refers_to_the_child(rt: HostRuntime) -> Result<(), Fail> {
     let request = bytes_of(rt.alloc(), DDT_REQUEST)?;
-    assert!(rt; replies_alone(rt.alloc(), &rt, ROOT, &request, ROOT_REFERS_TO_TEN)?);
+    let is_referred = replies_alone(rt.alloc(), &rt, ROOT, &request, ROOT_REFERS_TO_TEN)?;
+    holds(&rt, is_referred, &DDT_REQUEST);
     Ok(())
 }
 
 #[test]
 fn root_replies_a_hole_to_the_ipv6_request(rt: HostRuntime) -> Result<(), Fail> {
     let request = bytes_of(rt.alloc(), IPV6_REQUEST)?;
-    assert!(rt; replies_alone(rt.alloc(), &rt, ROOT, &request, HOLE_OF_IPV6)?);
+    let is_hole = replies_alone(rt.alloc(), &rt, ROOT, &request, HOLE_OF_IPV6)?;
+    holds(&rt, is_hole, &IPV6_REQUEST);
     Ok(())
 }
 
@@ -265,7 +269,7 @@ const NO_REQUESTS: &[(&str, usize)] = &[
 fn what_is_no_ddt_map_request_is_ignored(rt: HostRuntime) -> Result<(), Fail> {
     for &(fields, count) in NO_REQUESTS {
         let is_ignored = is_front_ignored(rt.alloc(), &rt, fields, count)?;
-        assert!(rt; is_ignored, "{count} bytes of {fields}");
+        holds(&rt, is_ignored, &(count, fields));
     }
     Ok(())
 }
@@ -300,10 +304,8 @@ const HOLES: &[(&str, &str, &str)] = &[
 #[test]
 fn holes_are_the_least_specific_inside_the_longest_authority(rt: HostRuntime) -> Result<(), Fail> {
     for &(text, xeid, prefix) in HOLES {
-        assert!(rt;
-            answer(rt.alloc(), &rt, text, xeid)? == hole(prefix)?,
-            "{xeid}"
-        );
+        let answer = answer(rt.alloc(), &rt, text, xeid)?;
+        same(&rt, &answer, &hole(prefix)?, &xeid);
     }
     Ok(())
 }
@@ -317,7 +319,8 @@ fn is_of(answer: &ReferralRecord, action: Action, prefix: &str) -> Result<bool, 
 fn a_child_below_the_shorter_authority_is_still_referred_to(rt: HostRuntime) -> Result<(), Fail> {
     let answer = answer(rt.alloc(), &rt, SHARED_ROOT, "[0]10.2.0.1")?;
     let is_referral = is_of(&answer, Action::NodeReferral, "[0]10.0.0.0/8")?;
-    assert!(rt; is_referral && answer.servers.as_slice() == [TEN_SERVER].as_slice());
+    let is_to_ten = answer.servers.as_slice() == [TEN_SERVER].as_slice();
+    holds(&rt, is_referral && is_to_ten, &answer);
     Ok(())
 }
 
@@ -334,7 +337,7 @@ const NESTED: &[(&str, Action, &str)] = &[
 fn of_sites_inside_sites_the_longest_decides(rt: HostRuntime) -> Result<(), Fail> {
     for &(xeid, action, prefix) in NESTED {
         let answer = answer(rt.alloc(), &rt, NESTED_EAST, xeid)?;
-        assert!(rt; is_of(&answer, action, prefix)?, "{xeid}");
+        holds(&rt, is_of(&answer, action, prefix)?, &xeid);
     }
     Ok(())
 }
@@ -353,16 +356,20 @@ const NO_CONFIGURATIONS: &[(&[u8], ConfigFault)] = &[
     ),
 ];
 
+/// The server of the east refuses these, and keeps its own configuration.
+fn keeps_its_own(alloc: Global, rt: &impl Abort, server: &mut ListServer) {
+    for &(bytes, fault) in NO_CONFIGURATIONS {
+        same(rt, &server.take_up(alloc, bytes), &Err(fault), &fault);
+        holds(rt, is_named(server, "east"), &fault);
+    }
+}
+
 #[test]
 fn a_server_takes_up_another_configuration_or_keeps_its_own(rt: HostRuntime) -> Result<(), Fail> {
-    let alloc = rt.alloc();
-    let mut server: ListServer = Server::read(alloc, EAST.as_bytes())?;
-    for &(bytes, fault) in NO_CONFIGURATIONS {
-        assert_eq!(rt; server.take_up(alloc, bytes), Err(fault));
-        assert!(rt; is_named(&server, "east"), "{fault}");
-    }
-    server.take_up(alloc, TEN.as_bytes())?;
-    assert!(rt; is_named(&server, "ten"));
+    let mut server: ListServer = Server::read(rt.alloc(), EAST.as_bytes())?;
+    keeps_its_own(rt.alloc(), &rt, &mut server);
+    server.take_up(rt.alloc(), TEN.as_bytes())?;
+    holds(&rt, is_named(&server, "ten"), &"ten");
     Ok(())
 }
 
@@ -389,15 +396,33 @@ fn reply_in(
     Ok(server.handle_into(alloc, &request, buffer)?.has_reply)
 }
 
+/// A buffer has the bytes of this message.
+fn has(alloc: Global, rt: &impl Abort, buffer: &[u8], message: &str) -> Result<(), Fail> {
+    let wanted = bytes_of(alloc, message)?;
+    same(rt, &buffer, &wanted.as_slice(), &message);
+    Ok(())
+}
+
+/// A request has a reply, which the buffer then has, or none.
+fn takes_reply(
+    alloc: Global,
+    rt: &impl Abort,
+    row: &(&str, &str, Option<&str>),
+    buffer: &mut Vec<u8>,
+) -> Result<(), Fail> {
+    let replied = reply_in(alloc, rt, row.0, row.1, buffer)?;
+    same(rt, &replied, &row.2.is_some(), &row.1);
+    match row.2 {
+        Some(wanted) => has(alloc, rt, buffer, wanted),
+        None => Ok(()),
+    }
+}
+
 #[test]
 fn one_buffer_takes_all_replies(rt: HostRuntime) -> Result<(), Fail> {
     let mut buffer = Vec::new(rt.alloc());
-    for (text, request, wanted) in IN_TURN {
-        let replied = reply_in(rt.alloc(), &rt, text, request, &mut buffer)?;
-        assert_eq!(rt; replied, wanted.is_some());
-        if let Some(wanted) = wanted {
-            assert!(rt; buffer.as_slice() == bytes_of(rt.alloc(), wanted)?.as_slice());
-        }
+    for row in IN_TURN {
+        takes_reply(rt.alloc(), &rt, row, &mut buffer)?;
     }
     Ok(())
 }
@@ -405,7 +430,7 @@ fn one_buffer_takes_all_replies(rt: HostRuntime) -> Result<(), Fail> {
 #[test]
 fn a_buffer_stays_where_nothing_is_sent(rt: HostRuntime) -> Result<(), Fail> {
     let mut buffer = bytes_of(rt.alloc(), "c0ffee")?;
-    assert!(rt; !reply_in(rt.alloc(), &rt, EAST, "00", &mut buffer)?);
-    assert!(rt; buffer.as_slice() == bytes_of(rt.alloc(), "c0ffee")?.as_slice());
-    Ok(())
+    let replied = reply_in(rt.alloc(), &rt, EAST, "00", &mut buffer)?;
+    holds(&rt, !replied, &"00");
+    has(rt.alloc(), &rt, &buffer, "c0ffee")
 }

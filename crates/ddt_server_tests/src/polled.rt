@@ -1,5 +1,6 @@
 //! Wires over sockets that all are waited for at once, over the loopback network.
 
+use crate::comparison::{holds, same};
 use ddt_ecm::CONTROL_PORT;
 use ddt_path::Locator;
 use ddt_wires::{NetFault, Packet, PolledWires, Wires, ip_of, locator_of};
@@ -46,37 +47,58 @@ fn source(wires: &mut PolledWires, at: Locator) -> Result<Option<Locator>, NetFa
 #[test]
 fn addresses_are_converted(rt: HostRuntime) {
     for locator in [SERVER, SIXTH] {
-        assert_eq!(rt; locator_of(ip_of(locator)), locator);
+        same(&rt, &locator_of(ip_of(locator)), &locator, &locator);
     }
+}
+
+/// A locator, and the address and the port of a socket for it.
+type Row = (Locator, Locator, u16);
+
+fn bind_all(net: &impl Net, wires: &mut PolledWires, rows: &[Row]) -> Result<(), Fail> {
+    for &(at, address, port) in rows {
+        wires.bind(net, at, address, port)?;
+    }
+    Ok(())
+}
+
+/// Sockets of both families, of which two are this one's own.
+const FAMILIES: &[Row] = &[
+    (SERVER, SERVER, CONTROL_PORT),
+    (OTHER, SIXTH, SIXTH_PORT),
+    (ME, ME, 0),
+    (ME, SIXTH, 0),
+];
+
+/// What is sent to each address comes from this one's address of that family.
+fn goes_out(rt: &impl Abort, wires: &mut PolledWires) -> Result<(), Fail> {
+    wires.send(ME, SERVER, CONTROL_PORT, &[1])?;
+    same(rt, &source(wires, SERVER)?, &Some(ME), &SERVER);
+    wires.send(ME, SIXTH, SIXTH_PORT, &[1])?;
+    same(rt, &source(wires, OTHER)?, &Some(SIXTH), &SIXTH);
+    Ok(())
 }
 
 #[test]
 fn a_datagram_goes_out_of_the_socket_of_its_family(rt: HostRuntime) -> Result<(), Fail> {
     let mut wires = PolledWires::new(rt.alloc());
-    wires.bind(&rt, SERVER, SERVER, CONTROL_PORT)?;
-    wires.bind(&rt, OTHER, SIXTH, SIXTH_PORT)?;
-    wires.bind(&rt, ME, ME, 0)?;
-    wires.bind(&rt, ME, SIXTH, 0)?;
-    wires.send(ME, SERVER, CONTROL_PORT, &[1])?;
-    assert_eq!(rt; source(&mut wires, SERVER)?, Some(ME));
-    wires.send(ME, SIXTH, SIXTH_PORT, &[1])?;
-    assert_eq!(rt; source(&mut wires, OTHER)?, Some(SIXTH));
-    Ok(())
+    bind_all(&rt, &mut wires, FAMILIES)?;
+    goes_out(&rt, &mut wires)
+}
+
+/// A send from a locator to an address is refused.
+fn refuses(rt: &impl Abort, wires: &mut PolledWires, at: Locator, to: Locator, port: u16) {
+    let sent = wires.send(at, to, port, &[1]);
+    same(rt, &sent, &Err(NetFault::Send), &(at, to));
 }
 
 #[test]
 fn what_has_no_socket_is_refused(rt: HostRuntime) -> Result<(), Fail> {
     let mut wires = PolledWires::new(rt.alloc());
     wires.bind(&rt, ME, ME, 0)?;
-    assert_eq!(rt; come(&mut wires, OTHER), Err(NetFault::Receive));
-    assert_eq!(rt;
-        wires.send(OTHER, SERVER, CONTROL_PORT, &[1]),
-        Err(NetFault::Send)
-    );
-    assert_eq!(rt;
-        wires.send(ME, SIXTH, SIXTH_PORT, &[1]),
-        Err(NetFault::Send)
-    );
+    let came = come(&mut wires, OTHER);
+    same(&rt, &came, &Err(NetFault::Receive), &OTHER);
+    refuses(&rt, &mut wires, OTHER, SERVER, CONTROL_PORT);
+    refuses(&rt, &mut wires, ME, SIXTH, SIXTH_PORT);
     Ok(())
 }
 
@@ -88,7 +110,21 @@ fn waited(
     millis: u16,
 ) -> Result<u128, Fail> {
     let start = Instant::now(rt)?;
-    assert!(rt; !is_there(wires, at, millis));
+    holds(rt, !is_there(wires, at, millis), &at);
+    Ok(start.elapsed(rt)?.as_millis())
+}
+
+/// Nothing comes.
+fn comes_not(rt: &impl Abort, wires: &mut PolledWires) {
+    same(rt, &come(wires, ME), &Ok(None), &ME);
+}
+
+/// How many milliseconds a hundred receives take where nothing comes.
+fn received_in_vain(rt: &(impl Abort + Clock), wires: &mut PolledWires) -> Result<u128, Fail> {
+    let start = Instant::now(rt)?;
+    for _ in 0..100 {
+        comes_not(rt, wires);
+    }
     Ok(start.elapsed(rt)?.as_millis())
 }
 
@@ -96,25 +132,35 @@ fn waited(
 fn a_wait_ends_at_its_time_and_a_receive_at_once(rt: HostRuntime) -> Result<(), Fail> {
     let mut wires = PolledWires::new(rt.alloc());
     wires.bind(&rt, ME, ME, 0)?;
-    assert!(rt; waited(&rt, &mut wires, ME, 50)? >= 49);
-    let start = Instant::now(&rt)?;
-    for _ in 0..100 {
-        assert_eq!(rt; come(&mut wires, ME), Ok(None));
-    }
-    assert!(rt; start.elapsed(&rt)?.as_millis() < 500);
+    let waited = waited(&rt, &mut wires, ME, 50)?;
+    let received = received_in_vain(&rt, &mut wires)?;
+    holds(&rt, waited >= 49, &waited);
+    holds(&rt, received < 500, &received);
     Ok(())
 }
 
-/// The ports of two sockets that stand for one locator, at each of which two datagrams wait.
+/// The sockets that stand for one locator, and another.
+const TWO_OF_ONE: &[Row] = &[
+    (ME, OTHER, 43_421),
+    (ME, BESIDE, 43_422),
+    (SERVER, SERVER, 0),
+];
+
+/// Two datagrams wait at each of the two sockets that stand for one locator.
 fn both_busy(net: &impl Net, wires: &mut PolledWires) -> Result<(), Fail> {
-    for (address, port) in [(OTHER, 43_421), (BESIDE, 43_422)] {
-        wires.bind(net, ME, address, port)?;
-    }
-    wires.bind(net, SERVER, SERVER, 0)?;
+    bind_all(net, wires, TWO_OF_ONE)?;
     for (address, port) in [(OTHER, 43_421), (BESIDE, 43_422)] {
         wires.send(SERVER, address, port, &[])?;
         wires.send(SERVER, address, port, &[1])?;
     }
+    Ok(())
+}
+
+/// A datagram of this length comes, which is waited for.
+fn comes(rt: &impl Abort, wires: &mut PolledWires, len: usize) -> Result<(), Fail> {
+    holds(rt, is_there(wires, ME, 1000), &len);
+    let packet = come(wires, ME)?;
+    same(rt, &packet.map(|packet| packet.len), &Some(len), &ME);
     Ok(())
 }
 
@@ -123,10 +169,23 @@ fn each_socket_of_a_locator_has_its_turn(rt: HostRuntime) -> Result<(), Fail> {
     let mut wires = PolledWires::new(rt.alloc());
     both_busy(&rt, &mut wires)?;
     for len in [0, 0, 1, 1] {
-        assert!(rt; is_there(&mut wires, ME, 1000));
-        assert_eq!(rt; come(&mut wires, ME)?.map(|packet| packet.len), Some(len));
+        comes(&rt, &mut wires, len)?;
     }
-    assert_eq!(rt; come(&mut wires, ME), Ok(None));
+    comes_not(&rt, &mut wires);
+    Ok(())
+}
+
+/// What comes at a descriptor is waited for until it is forgotten.
+fn is_watched(rt: &impl Abort, wires: &mut PolledWires, socket: &UdpSocket) -> Result<(), Fail> {
+    let descriptor = socket.as_raw_fd();
+    wires.watch(descriptor)?;
+    wires.send(ME, OTHER, socket.local_addr()?.port(), &[1])?;
+    let is_ready = wires.wait(1000) && wires.is_ready(descriptor);
+    holds(rt, is_ready, &"watched");
+    holds(rt, !wires.is_ready_at(ME), &ME);
+    wires.forget(descriptor);
+    let is_forgotten = wires.wait(10) && !wires.is_ready(descriptor);
+    holds(rt, is_forgotten, &"forgotten");
     Ok(())
 }
 
@@ -135,13 +194,7 @@ fn another_descriptor_is_waited_for_until_it_is_forgotten(rt: HostRuntime) -> Re
     let mut wires = PolledWires::new(rt.alloc());
     wires.bind(&rt, ME, ME, 0)?;
     let socket = UdpSocket::bind(&rt, SocketAddr::new(ip_of(OTHER), 0))?;
-    wires.watch(socket.as_raw_fd())?;
-    wires.send(ME, OTHER, socket.local_addr()?.port(), &[1])?;
-    assert!(rt; wires.wait(1000) && wires.is_ready(socket.as_raw_fd()));
-    assert!(rt; !wires.is_ready_at(ME));
-    wires.forget(socket.as_raw_fd());
-    assert!(rt; wires.wait(10) && !wires.is_ready(socket.as_raw_fd()));
-    Ok(())
+    is_watched(&rt, &mut wires, &socket)
 }
 
 /// The length of the packet that comes of these bytes, into a buffer of 8 bytes.
@@ -153,13 +206,22 @@ fn came_of(wires: &mut PolledWires, bytes: &[u8]) -> Result<Option<usize>, NetFa
     Ok(come(wires, BESIDE)?.map(|packet| packet.len))
 }
 
+/// What is sent, and what comes into a buffer of 8 bytes: what fills it may have been cut.
+const LENGTHS: &[(&[u8], Result<Option<usize>, NetFault>)] = &[
+    (&[1; 8], Err(NetFault::Receive)),
+    (&[1; 7], Ok(Some(7))),
+    (&[], Ok(Some(0))),
+];
+
+/// The socket that sends these, and the one that they come to.
+const ONE_TO_ANOTHER: &[Row] = &[(ME, ME, 0), (BESIDE, BESIDE, CONTROL_PORT)];
+
 #[test]
 fn a_datagram_that_may_be_cut_is_lost_alone(rt: HostRuntime) -> Result<(), Fail> {
     let mut wires = PolledWires::new(rt.alloc());
-    wires.bind(&rt, ME, ME, 0)?;
-    wires.bind(&rt, BESIDE, BESIDE, CONTROL_PORT)?;
-    assert_eq!(rt; came_of(&mut wires, &[1; 8]), Err(NetFault::Receive));
-    assert_eq!(rt; came_of(&mut wires, &[1; 7]), Ok(Some(7)));
-    assert_eq!(rt; came_of(&mut wires, &[]), Ok(Some(0)));
+    bind_all(&rt, &mut wires, ONE_TO_ANOTHER)?;
+    for &(bytes, len) in LENGTHS {
+        same(&rt, &came_of(&mut wires, bytes), &len, &bytes);
+    }
     Ok(())
 }

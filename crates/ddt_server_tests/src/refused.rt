@@ -2,6 +2,7 @@
 //!
 //! `.ci/memory` runs each of these tests with each growth refused in turn.
 
+use crate::comparison::{holds, same};
 use crate::trie::{DOCUMENTATION, TEN_ONE, finds_longest, front, gets, hole, put};
 use crate::wires::{ETR, gave, tried};
 use ddt_config::{ServerConfig, from_toml, to_toml};
@@ -60,7 +61,7 @@ fn longest_among(rt: &impl Abort, count: u32, x: Xeid) -> Option<(Prefix, u32)> 
 
 /// The map has the values of the first rows, so many of them, and none of the others.
 fn has_values<M: PrefixMap<u32>>(rt: &impl Abort, map: &M, count: u32) {
-    assert_eq!(rt; map.len(), count as usize);
+    same(rt, &map.len(), &(count as usize), &"the length");
     for row in INSERTED {
         let value = if row.2 < count { Some(row.2) } else { None };
         gets(rt, map, prefix_of(rt, row), value);
@@ -92,11 +93,11 @@ fn is_as_before<M: PrefixMap<u32>>(
 ) {
     has_values(rt, map, count);
     has_longest(rt, map, count);
-    assert_eq!(rt; holes(rt, map), *before);
+    same(rt, &holes(rt, map), before, &count);
 }
 
 fn is_back(rt: &impl Abort, back: (Prefix, u32), prefix: Prefix, value: u32) {
-    assert_eq!(rt; back, (prefix, value));
+    same(rt, &back, &(prefix, value), &"what comes back");
 }
 
 /// An insert of a new prefix. Refused memory it hands the pair back, the map answers as before, and the next inserts.
@@ -164,7 +165,7 @@ fn text(alloc: Global, config: &ServerConfig) -> Result<String, AllocError> {
 
 fn is_of(rt: &impl Abort, alloc: Global, config: &ServerConfig, wanted: &str) -> Result<(), Fail> {
     let text = text(alloc, config)?;
-    assert_eq!(rt; text.as_str(), wanted);
+    same(rt, &text.as_str(), &wanted, &"the configuration");
     Ok(())
 }
 
@@ -225,7 +226,8 @@ fn sent(handled: &Handled) -> Option<(&[u8], &[u8], Locator)> {
 }
 
 fn are_sent(rt: &impl Abort, handled: &Handled, reply: &[u8], forward: &[u8]) {
-    assert_eq!(rt; sent(handled), Some((reply, forward, ETR)));
+    let wanted = Some((reply, forward, ETR));
+    same(rt, &sent(handled), &wanted, &"what is sent");
 }
 
 #[test]
@@ -296,13 +298,13 @@ enum Made {
 /// lost; behind a reply the request goes on, and then comes the next poll.
 fn made_behind(rt: &impl Abort, before: Made, call: &Call, messages: &Messages) -> Made {
     if before == Made::Replied {
-        assert!(rt; tried(Some(call), ETR, 4342, &messages.onward));
+        holds(rt, tried(Some(call), ETR, 4342, &messages.onward), call);
         return Made::WentOn;
     }
     if before == Made::Polled && tried(Some(call), RESOLVER, 4342, &messages.reply) {
         return Made::Replied;
     }
-    assert!(rt; gave(Some(call), 4342, &messages.request));
+    holds(rt, gave(Some(call), 4342, &messages.request), call);
     Made::Polled
 }
 
@@ -316,16 +318,18 @@ fn replies(rt: &impl Abort, calls: &[Call], messages: &Messages) -> u32 {
             replies = replies.saturating_add(1);
         }
     }
-    assert!(rt; last != Made::Replied);
+    holds(rt, last != Made::Replied, &last);
     replies
 }
 
 /// Three turns made these calls and no others.
 fn are_calls(rt: &impl Abort, calls: &[Call], served: &Served, messages: &Messages) {
     let replies = replies(rt, calls, messages);
-    assert_eq!(rt;
-        (replies, calls.len() as u64),
-        (served.replied, 3 + 2 * u64::from(replies))
+    same(
+        rt,
+        &(replies, calls.len() as u64),
+        &(served.replied, 3 + 2 * u64::from(replies)),
+        &"replies and calls",
     );
 }
 
@@ -337,7 +341,7 @@ fn are_served(
     served: &Served,
     messages: &Messages,
 ) -> Result<bool, Fail> {
-    assert_eq!(rt; served.received, 3);
+    same(rt, &served.received, &3, &"received");
     if let Some(calls) = wires.told() {
         are_calls(rt, calls, served, messages);
     }

@@ -1,5 +1,6 @@
 //! Worked values of prefix maps, and maps side by side.
 
+use crate::comparison::{holds, same};
 use ddt_examples::Dice;
 use ddt_path::{Locator, Prefix, Xeid};
 use ddt_text::{parse_prefix, parse_xeid};
@@ -76,20 +77,20 @@ fn puts<M: PrefixMap<u32>>(
     value: u32,
     before: Option<u32>,
 ) {
-    assert_eq!(rt; put(rt, map, prefix, value), Ok(before), "{value}");
+    same(rt, &put(rt, map, prefix, value), &Ok(before), &value);
 }
 
 fn removes<M: PrefixMap<u32>>(rt: &impl Abort, map: &mut M, prefix: Prefix, value: Option<u32>) {
-    assert_eq!(rt; map.remove(prefix), value, "{prefix:?}");
+    same(rt, &map.remove(prefix), &value, &prefix);
 }
 
 fn counts<M: PrefixMap<u32>>(rt: &impl Abort, map: &M, count: usize) {
-    assert_eq!(rt; map.len(), count);
+    same(rt, &map.len(), &count, &"the length");
 }
 
 /// The value at a prefix is this one, or there is none.
 pub fn gets<M: PrefixMap<u32>>(rt: &impl Abort, map: &M, prefix: Prefix, value: Option<u32>) {
-    assert_eq!(rt; got(map, prefix), value, "{prefix:?}");
+    same(rt, &got(map, prefix), &value, &prefix);
 }
 
 /// What is found for an identifier, and its value, are these.
@@ -99,11 +100,11 @@ pub fn finds_longest<M: PrefixMap<u32>>(
     x: Xeid,
     entry: Option<(Prefix, u32)>,
 ) {
-    assert_eq!(rt; longest(map, x), entry, "{x:?}");
+    same(rt, &longest(map, x), &entry, &x);
 }
 
 fn finds_hole<M: PrefixMap<u32>>(rt: &impl Abort, map: &M, x: Xeid, free: Option<Prefix>) {
-    assert_eq!(rt; hole(rt, map, x), free, "{x:?}");
+    same(rt, &hole(rt, map, x), &free, &x);
 }
 
 fn finds_hole_below<M: PrefixMap<u32>>(
@@ -113,7 +114,7 @@ fn finds_hole_below<M: PrefixMap<u32>>(
     x: Xeid,
     free: Option<Prefix>,
 ) {
-    assert_eq!(rt; hole_below(rt, map, from, x), free, "{x:?}");
+    same(rt, &hole_below(rt, map, from, x), &free, &(from, x));
 }
 
 /// A call on a map of numbers, and what it answers. Prefixes and identifiers are texts.
@@ -271,7 +272,7 @@ fn is_put<M: PrefixMap<u32>>(
 }
 
 /// Whether a map answers a call that changes it as it should, or a short one.
-fn holds<M: PrefixMap<u32>>(rt: &impl Abort, map: &mut M, step: &Step) -> Result<bool, Fail> {
+fn answers<M: PrefixMap<u32>>(rt: &impl Abort, map: &mut M, step: &Step) -> Result<bool, Fail> {
     match step {
         Put(key, value, before) => Ok(is_put(rt, map, prefix(key)?, *value, *before)),
         Remove(key, value) => Ok(map.remove(prefix(key)?) == *value),
@@ -304,7 +305,7 @@ fn finds<M: PrefixMap<u32>>(rt: &impl Abort, map: &M, step: &Step) -> Result<boo
 /// Makes calls on an empty map.
 fn plays<M: PrefixMap<u32>>(rt: &impl Abort, map: &mut M, steps: &[Step]) -> Result<(), Fail> {
     for step in steps {
-        assert!(rt; holds(rt, map, step)?, "{step:?}");
+        holds(rt, answers(rt, map, step)?, step);
     }
     Ok(())
 }
@@ -398,7 +399,8 @@ fn same_answers<A: PrefixMap<u32>, B: PrefixMap<u32>>(
     counts(rt, one, other.len());
     gets(rt, one, from, got(other, from));
     finds_longest(rt, one, x, longest(other, x));
-    assert_eq!(rt; hole_in(rt, one, from, x), hole_in(rt, other, from, x));
+    let free = hole_in(rt, other, from, x);
+    same(rt, &hole_in(rt, one, from, x), &free, &(from, x));
     finds_hole_below(rt, one, from, x, hole_below(rt, other, from, x));
 }
 

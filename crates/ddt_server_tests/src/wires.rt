@@ -1,5 +1,6 @@
 //! A server's turns over wires in memory and over UDP.
 
+use crate::comparison::{holds, same};
 use ddt_config::from_toml;
 use ddt_ecm::CONTROL_PORT;
 use ddt_examples::configurations::EAST;
@@ -169,7 +170,8 @@ fn a_request_is_answered_and_goes_on_to_the_etr(rt: HostRuntime) -> Result<(), F
     let is_counted = serves(rt.alloc(), &rt, &mut wires, 3, (2, 1))?;
     let calls = wires.told().ok_or("no memory")?;
     let is_served = served_request(rt.alloc(), calls, 4342)?;
-    assert!(rt; is_counted && is_served && ends_in_a_byte_and_a_failure(calls));
+    let is_right = is_counted && is_served && ends_in_a_byte_and_a_failure(calls);
+    holds(&rt, is_right, &calls);
     Ok(())
 }
 
@@ -179,7 +181,7 @@ fn a_reply_goes_to_the_port_that_the_request_came_from(rt: HostRuntime) -> Resul
     let is_counted = serves(rt.alloc(), &rt, &mut wires, 1, (1, 1))?;
     let calls = wires.told().ok_or("no memory")?;
     let is_served = served_request(rt.alloc(), calls, 50000)?;
-    assert!(rt; is_counted && is_served && calls.len() == 3);
+    holds(&rt, is_counted && is_served && calls.len() == 3, &calls);
     Ok(())
 }
 
@@ -192,24 +194,28 @@ const FAILING: &[(u64, (u32, u32, usize))] = &[
     (4, (1, 1, 5)),
 ];
 
-#[test]
-fn a_turn_by_itself_is_counted(rt: HostRuntime) -> Result<(), Fail> {
-    let alloc = rt.alloc();
-    let mut wires = busy(alloc, 0, CONTROL_PORT)?;
-    let server = east(alloc, &rt)?;
+/// Each turn counts what it receives and replies to.
+fn take_turns(alloc: Global, rt: &impl Abort, wires: &mut WiresInMemory, server: &ListServer) {
     let mut buffer = [0; MOST_BYTES];
     let mut outbox = Outbox::new(alloc);
     for (received, replied) in [(1, 1), (1, 0), (0, 0)] {
-        let turn = serve_turn(&mut wires, &server, SERVER, &mut buffer, &mut outbox);
-        assert_eq!(rt; turn, Served { received, replied });
+        let turn = serve_turn(wires, server, SERVER, &mut buffer, &mut outbox);
+        same(rt, &turn, &Served { received, replied }, &"a turn");
     }
+}
+
+#[test]
+fn a_turn_by_itself_is_counted(rt: HostRuntime) -> Result<(), Fail> {
+    let mut wires = busy(rt.alloc(), 0, CONTROL_PORT)?;
+    let server = east(rt.alloc(), &rt)?;
+    take_turns(rt.alloc(), &rt, &mut wires, &server);
     Ok(())
 }
 
 #[test]
 fn a_failed_call_loses_its_datagram_alone(rt: HostRuntime) -> Result<(), Fail> {
     for &(failing, want) in FAILING {
-        assert!(rt; counts(rt.alloc(), &rt, failing)? == want, "{failing}");
+        same(&rt, &counts(rt.alloc(), &rt, failing)?, &want, &failing);
     }
     Ok(())
 }
@@ -239,7 +245,7 @@ fn each_socket_gives_its_own_datagrams_in_order(rt: HostRuntime) -> Result<(), F
     let mut wires = WiresInMemory::new(rt.alloc(), 0);
     add_all(rt.alloc(), &mut wires, 4342, AT_TWO_SOCKETS)?;
     for &(at, byte) in FIRST_BYTES {
-        assert!(rt; first_byte(&mut wires, at) == byte, "{byte:?}");
+        same(&rt, &first_byte(&mut wires, at), &byte, &at);
     }
     Ok(())
 }
@@ -267,14 +273,15 @@ fn a_request_is_answered_over_udp(rt: HostRuntime) -> Result<(), Fail> {
     let mut wires = UdpWires::new(rt.alloc());
     wires.bind(&rt, UDP_SERVER)?;
     wires.bind(&rt, UDP_RESOLVER)?;
-    wires.send(
-        UDP_RESOLVER,
-        UDP_SERVER,
-        CONTROL_PORT,
-        &bytes_of(rt.alloc(), DDT_REQUEST)?,
-    )?;
-    let is_counted = serves_once(rt.alloc(), &rt, &mut wires)?;
-    assert!(rt; is_counted && gives_reply(rt.alloc(), &mut wires)?);
+    is_answered(rt.alloc(), &rt, &mut wires)
+}
+
+/// A request to the server is served, and has its reply.
+fn is_answered(alloc: Global, rt: &impl Abort, wires: &mut UdpWires) -> Result<(), Fail> {
+    let request = bytes_of(alloc, DDT_REQUEST)?;
+    wires.send(UDP_RESOLVER, UDP_SERVER, CONTROL_PORT, &request)?;
+    holds(rt, serves_once(alloc, rt, wires)?, &"what is counted");
+    holds(rt, gives_reply(alloc, wires)?, &"the reply");
     Ok(())
 }
 
@@ -296,7 +303,8 @@ fn gives_reply(alloc: Global, wires: &mut UdpWires) -> Result<bool, Fail> {
 #[test]
 fn a_locator_without_a_socket_is_refused(rt: HostRuntime) {
     let mut wires = UdpWires::new(rt.alloc());
-    assert!(rt; refuses_to_receive(&mut wires) && refuses_to_send(&mut wires));
+    let is_refused = refuses_to_receive(&mut wires) && refuses_to_send(&mut wires);
+    holds(&rt, is_refused, &RESOLVER);
 }
 
 fn refuses_to_receive(wires: &mut UdpWires) -> bool {
@@ -332,7 +340,7 @@ fn a_datagram_that_may_be_cut_is_lost_alone(rt: HostRuntime) -> Result<(), Fail>
     let mut wires = UdpWires::new(rt.alloc());
     wires.bind(&rt, UDP_ALONE)?;
     for &(bytes, len) in LENGTHS {
-        assert!(rt; came(&mut wires, bytes) == len, "{bytes:?}");
+        same(&rt, &came(&mut wires, bytes), &len, &bytes);
     }
     Ok(())
 }
@@ -341,7 +349,7 @@ fn a_datagram_that_may_be_cut_is_lost_alone(rt: HostRuntime) -> Result<(), Fail>
 fn waited(rt: &(impl Abort + Clock), wires: &mut UdpWires, at: Locator) -> Result<u128, Fail> {
     let start = Instant::now(rt)?;
     let mut buffer = [0; 8];
-    assert!(rt; wires.receive(at, &mut buffer)?.is_none());
+    holds(rt, wires.receive(at, &mut buffer)?.is_none(), &at);
     Ok(start.elapsed(rt)?.as_millis())
 }
 
@@ -358,6 +366,14 @@ fn both_wait(rt: &(impl Abort + Clock), wires: &mut UdpWires) -> Result<bool, Fa
     Ok(other >= 2 && waited(rt, wires, UDP_ONE)? >= 2)
 }
 
+/// A datagram comes back, and later polls at both sockets wait. Whether the next one after the datagram was quick.
+fn polls(rt: &(impl Abort + Clock), wires: &mut UdpWires) -> Result<bool, Fail> {
+    holds(rt, comes_back(wires)?, &"the datagram");
+    let is_quick = waited(rt, wires, UDP_ONE)? < 2;
+    holds(rt, both_wait(rt, wires)?, &"both wait");
+    Ok(is_quick)
+}
+
 #[test]
 fn a_poll_waits_only_behind_one_in_vain_at_each_other_socket(rt: HostRuntime) -> Result<(), Fail> {
     let mut wires = UdpWires::new(rt.alloc());
@@ -365,18 +381,17 @@ fn a_poll_waits_only_behind_one_in_vain_at_each_other_socket(rt: HostRuntime) ->
     wires.bind(&rt, UDP_OTHER)?;
     let mut was_quick = false;
     for _ in 0..20 {
-        assert!(rt; comes_back(&mut wires)?);
-        was_quick |= waited(&rt, &mut wires, UDP_ONE)? < 2;
-        assert!(rt; both_wait(&rt, &mut wires)?);
+        was_quick |= polls(&rt, &mut wires)?;
     }
-    assert!(rt; was_quick);
+    holds(&rt, was_quick, &"a quick poll");
     Ok(())
 }
 
 #[test]
 fn faults_have_their_numbers(rt: HostRuntime) -> Result<(), Fail> {
     for (fault, text) in [(NetFault::Receive, "1 Receive"), (NetFault::Send, "2 Send")] {
-        assert_eq!(rt; format!(in rt.alloc(); "{fault}")?.as_str(), text);
+        let written = format!(in rt.alloc(); "{fault}")?;
+        same(&rt, &written.as_str(), &text, &fault);
     }
     Ok(())
 }

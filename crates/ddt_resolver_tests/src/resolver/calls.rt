@@ -1,6 +1,7 @@
 //! Calls on a resolver as rows of a table, each with the line that it is to give and how many lookups are pending then.
 
 use super::lines::{asked_text, heard_text, ticked_text};
+use crate::comparison::same;
 use ddt_cache::Entry;
 use ddt_examples::front;
 use ddt_path::{Action, Locator, LocatorSet, ReferralRecord};
@@ -200,12 +201,12 @@ pub fn gives(
 
 /// What is given is this line.
 pub fn judge_line(rt: &impl Abort, name: &str, given: &str, line: &str) {
-    assert_eq!(rt; given, line, "{name}");
+    same(rt, &given, &line, &name);
 }
 
 /// So many lookups are pending after a line.
 pub fn has_pending(rt: &impl Abort, resolver: &ListResolver, name: &str, line: &str, count: usize) {
-    assert_eq!(rt; resolver.pending(), count, "{name}: pending after {line}");
+    same(rt, &resolver.pending(), &count, &(name, line));
 }
 
 /// Makes the calls of a table in their order; each is to give its line.

@@ -7,6 +7,7 @@ use super::calls::{
     TO_TEN, Told, at, gives, has_pending, made, plays, rooted,
 };
 use super::limits::{is_cancelled, open_many, opened, server_asked};
+use crate::comparison::{holds, same};
 use ddt_path::{Action, Locator};
 use ddt_resolver::Ticket;
 use ddt_text::parse_xeid;
@@ -104,7 +105,7 @@ fn is_at(resolver: &ListResolver, millis: u64) -> bool {
 /// Both are at this moment, in milliseconds, and at the same address.
 fn stand_alike(rt: &impl Abort, name: &str, pair: &Pair, millis: u64) {
     let are_at_it = is_at(&pair.one, millis) && is_at(&pair.other, millis);
-    assert!(rt; are_at_it && pair.one.me() == pair.other.me(), "{name}");
+    holds(rt, are_at_it && pair.one.me() == pair.other.me(), &name);
 }
 
 /// Each lookup from a nonce on is still found under it: a referral of everything gives the same at both.
@@ -199,7 +200,7 @@ fn begins(
     row: &(u64, &str, Locator),
 ) -> Result<(), Fail> {
     let first = first_server(resolver, row.0, row.1)?;
-    assert!(rt; first == row.2, "{name}: {}", row.1);
+    same(rt, &first, &row.2, &(name, row.1));
     Ok(())
 }
 

@@ -1,6 +1,7 @@
 //! The least deadline of the pending lookups, which a caller may sleep until.
 
 use super::calls::{Call, ListResolver, ROOT, TO_TEN, Told, made, rooted};
+use crate::comparison::same;
 use ddt_path::Action;
 use std::alloc::Global;
 use std::process::Abort;
@@ -35,12 +36,8 @@ fn leaves(
     deadline: Option<u64>,
 ) -> Result<(), Fail> {
     let line = made(alloc, resolver, call.0, call.1)?;
-    assert_eq!(rt;
-        resolver.next_deadline(),
-        deadline,
-        "after {line} at {}",
-        call.0
-    );
+    let after = (line.as_str(), call.0);
+    same(rt, &resolver.next_deadline(), &deadline, &after);
     Ok(())
 }
 

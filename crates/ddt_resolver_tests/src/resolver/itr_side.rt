@@ -1,5 +1,6 @@
 //! What an ITR asks of a resolver, and the negative Map-Reply to it.
 
+use crate::comparison::{holds, same};
 use ddt_examples::messages::{DDT_REQUEST, ITR_REQUEST, NEGATIVE_REPLY};
 use ddt_examples::{bytes_of, front};
 use ddt_path::{Locator, LocatorSet, Outcome};
@@ -53,7 +54,8 @@ fn reply(alloc: Global, outcome: &Outcome, request: &ItrRequest) -> Result<Optio
 fn an_itr_asks(rt: HostRuntime) -> Result<(), Fail> {
     let bytes = bytes_of(rt.alloc(), ITR_REQUEST)?;
     let request = question(WORKED, "[0]10.2.0.1")?;
-    assert_eq!(rt; Front::itr_request(bytes.as_slice()), Some(request));
+    let read = Front::itr_request(bytes.as_slice());
+    same(&rt, &read, &Some(request), &ITR_REQUEST);
     Ok(())
 }
 
@@ -69,7 +71,7 @@ fn an_itr_is_answered_at_its_first_rloc(rt: HostRuntime) -> Result<(), Fail> {
     let hole = outcome(Kind::Hole, "[0]10.2.0.0/15")?;
     let sent = reply(rt.alloc(), &hole, &request)?.ok_or("no reply")?;
     let is_sent = is_message(rt.alloc(), &sent, NEGATIVE_REPLY)?;
-    assert!(rt; is_sent);
+    holds(&rt, is_sent, &NEGATIVE_REPLY);
     Ok(())
 }
 
@@ -91,7 +93,7 @@ const NO_REQUESTS: &[(&str, usize)] = &[
 fn other_datagrams_are_no_requests_of_itrs(rt: HostRuntime) -> Result<(), Fail> {
     for &(fields, count) in NO_REQUESTS {
         let is_request = is_request(rt.alloc(), fields, count)?;
-        assert!(rt; !is_request, "{count} bytes of {fields}");
+        holds(&rt, !is_request, &(count, fields));
     }
     Ok(())
 }
@@ -101,7 +103,7 @@ fn a_registered_site_answers_for_itself(rt: HostRuntime) -> Result<(), Fail> {
     let registered = outcome(Kind::Registered, "[0]10.1.2.0/24")?;
     let request = question(7, "[0]10.1.2.3")?;
     let sent = Front::itr_reply(rt.alloc(), &registered, &request)?;
-    assert!(rt; sent.is_none());
+    holds(&rt, sent.is_none(), &"what is sent");
     Ok(())
 }
 
@@ -156,7 +158,7 @@ fn an_itr_is_told_of_one_block(rt: HostRuntime) -> Result<(), Fail> {
         let request = question(7, identifier)?;
         let reply = told(rt.alloc(), kind, prefix, &request)?;
         let is_told = is_of(&reply, block, ttl)?;
-        assert!(rt; is_told, "{identifier}");
+        holds(&rt, is_told, &identifier);
     }
     Ok(())
 }

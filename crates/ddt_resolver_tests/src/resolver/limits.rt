@@ -1,6 +1,7 @@
 //! The last nonces, and the most lookups that may be pending.
 
 use super::calls::{Call, ListResolver, ROOT, Step, TO_TEN, Told, at, has_pending, plays, rooted};
+use crate::comparison::{holds, same};
 use ddt_path::{Action, Locator, Xeid};
 use ddt_resolver::{Asked, MOST_PENDING, Ticket};
 use std::alloc::Global;
@@ -130,7 +131,7 @@ pub fn open_many(resolver: &mut ListResolver, count: u32) -> Result<(), Fail> {
 
 /// A lookup is pending, and is cancelled.
 pub fn is_cancelled(rt: &impl Abort, resolver: &mut ListResolver, ticket: Ticket) {
-    assert!(rt; resolver.cancel(ticket));
+    holds(rt, resolver.cancel(ticket), &ticket);
 }
 
 /// A resolver with as many lookups as may be pending but one.
@@ -144,7 +145,7 @@ fn almost_full(alloc: Global) -> Result<ListResolver, Fail> {
 fn fill(rt: &impl Abort, resolver: &mut ListResolver) -> Result<Ticket, Fail> {
     let last = opened(resolver, 1023)?;
     has_pending(rt, resolver, "full", "the last", 1024);
-    assert_eq!(rt; MOST_PENDING, 1024);
+    same(rt, &MOST_PENDING, &1024, &"the most");
     Ok(last)
 }
 

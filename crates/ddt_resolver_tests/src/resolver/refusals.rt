@@ -1,5 +1,6 @@
 //! The text of a refusal of each kind.
 
+use crate::comparison::same;
 use ddt_resolver::{AskError, Ignored, Why};
 use std::alloc::Global;
 use std::fmt::Display;
@@ -7,7 +8,7 @@ use std::process::Abort;
 
 fn prints<T: Display + Drop>(alloc: Global, rt: &impl Abort, refusal: T, written: &str) {
     let text = format!(in alloc; "{refusal}").expect(rt, "out of memory");
-    assert_eq!(rt; text.as_str(), written);
+    same(rt, &text.as_str(), &written, &"the text");
 }
 
 #[test]

@@ -2,7 +2,7 @@
 # Runs the tests of fuzz/slow_bodies as a crate of its own in a copy of the tree. Each compares functions of the
 # register with slow plain bodies over random registers: the check and the list of faults, the blocks and the changes of
 # the plan, the groups that change, and the warnings. They are run and not proved, so they are outside the crates, under
-# names that no check reads. Takes some four minutes; with --small one register in five is drawn. The limit of 900
+# names that no check reads. Takes some five minutes; with --small one register in five is drawn. The limit of 900
 # seconds is for slow machines. Ends with the tests' status.
 set -u
 top=$(cd -- "$(dirname -- "${BASH_SOURCE[0]}")/.." && pwd) || exit 1

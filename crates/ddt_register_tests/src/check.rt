@@ -1,10 +1,8 @@
-//! What the definitions give of the worked registers, by computation; the fast bodies against plain ones.
+//! What the definitions give of the worked registers, by computation; and sites inside sites.
 
 ghost use Rattle.ddt_check.specs.Worked.{CampusAssigns, CampusSays, OthersAssign, NestedSitesAssign, BreaksInNine};
 
-mod agreeing;
 mod nested;
-mod slow;
 
 fn campus_assigns()
     ensures { CampusAssigns }

@@ -1,8 +1,6 @@
-//! The tests of ddt_faults: worked registers in `worked`, plain bodies (`slow`) over random ones in `agreeing`, a full
-//! register in `large`, and refused memory in `refused`.
+//! The tests of ddt_faults: worked registers in `worked`, a full register in `large`, and refused memory in `refused`.
+//! `fuzz/slow_bodies.sh` compares random registers with plain bodies.
 
-mod agreeing;
 mod large;
 mod refused;
-mod slow;
 mod worked;

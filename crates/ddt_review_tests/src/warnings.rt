@@ -1,8 +1,6 @@
-//! The tests of ddt_warnings: a register for each kind, and one just beside it, in `kinds`; plain loops (`slow`) over
-//! random registers in `agreeing`; and refused memory in `refused`.
+//! The tests of ddt_warnings: a register for each kind, and one just beside it, in `kinds`; and refused memory in
+//! `refused`. `fuzz/slow_bodies.sh` compares random registers with plain bodies.
 
-mod agreeing;
 mod kinds;
 mod refused;
 mod registers;
-mod slow;

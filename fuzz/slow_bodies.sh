@@ -13,6 +13,10 @@ source=$copy/crates/slow_bodies/src
 below='ddt_examples ddt_path ddt_text ddt_register ddt_check ddt_config ddt_compile ddt_plan ddt_faults ddt_warnings'
 printf 'slow_bodies: %s\n' "$below" >>"$copy/crates.txt" || exit 1
 mkdir -p -- "$source" && cp -- "$top/crates/ddt_review_tests/src/comparison.rt" "$source" || exit 1
+# Of these plain bodies it is proved what they compute.
+for each in check plan; do
+    cp -- "$top/crates/ddt_register_tests/src/$each/slow.rt" "$source/slow_$each.rt" || exit 1
+done
 for file in "$top"/fuzz/slow_bodies/*.rt.in; do
     name=${file##*/}
     cp -- "$file" "$source/${name%.in}" || exit 1

@@ -1,8 +1,11 @@
-//! What the definitions give of the worked registers, by computation; and sites inside sites.
+//! What the definitions give of the worked registers, by computation; the check beside plain bodies (`slow`) in
+//! `broken`; and sites inside sites. `fuzz/slow_bodies.sh` takes the plain bodies to random registers.
 
 ghost use Rattle.ddt_check.specs.Worked.{CampusAssigns, CampusSays, OthersAssign, NestedSitesAssign, BreaksInNine};
 
+mod broken;
 mod nested;
+mod slow;
 
 fn campus_assigns()
     ensures { CampusAssigns }

@@ -2,9 +2,12 @@
 
 use crate::comparison::{holds, same};
 use crate::plan::registers::{BOTH_FAMILIES, FAR_ZONE, WIDE_SITES, accepted, block_lines, prefix};
+use crate::plan::slow::block_inside;
+use ddt_check::Accepted;
 use ddt_examples::registers::{CAMPUS, LONE_ROOT, NESTED_SITES};
-use ddt_path::Prefix;
+use ddt_path::{Prefix, Xeid};
 use ddt_plan::{Block, OutcomeCounts, blocks};
+use ddt_text::parse_xeid;
 use std::alloc::Global;
 use std::process::Abort;
 use std::test::Fail;
@@ -140,6 +143,43 @@ fn counts(alloc: Global, rt: &impl Abort, text: &str, inside: &str, wanted: [u64
 fn blocks_are_counted(rt: HostRuntime) -> Result<(), Fail> {
     for &(text, inside, wanted) in COUNTED {
         counts(rt.alloc(), &rt, text, inside, wanted);
+    }
+    Ok(())
+}
+
+/// Registers, and identifiers in them.
+const INSIDE: &[(&str, &str)] = &[
+    (LONE_ROOT, "[0]10.0.0.0"),
+    (CAMPUS, "[0]10.1.2.3"),
+    (CAMPUS, "[0]10.1.3.0"),
+    (CAMPUS, "[1]::"),
+    (NESTED_SITES, "[0]10.1.4.1"),
+    (FAR_ZONE, "[0]0.0.0.0"),
+    (WIDE_SITES, "[3221225472]10.0.0.0"),
+    (BOTH_FAMILIES, "[7]8000::1"),
+];
+
+/// The prefix of the block that covers an identifier.
+fn block_over(list: &[Block], x: Xeid) -> Option<Prefix> {
+    list.iter()
+        .find(|block| block.prefix.covers_xeid(x))
+        .map(|block| block.prefix)
+}
+
+fn is_plain(alloc: Global, rt: &impl Abort, text: &str, x: &str) -> Result<(), Fail> {
+    let everything = prefix(rt, "*");
+    let list = listed(alloc, text, rt, everything)?;
+    let register: Accepted = accepted(alloc, rt, text);
+    let at = parse_xeid(x.as_bytes()).expect(rt, "an identifier");
+    let plain = block_inside(&[register.register()], everything, at);
+    same(rt, &block_over(list.as_slice(), at), &Some(plain), &x);
+    Ok(())
+}
+
+#[test]
+fn blocks_are_those_of_plain_bodies(rt: HostRuntime) -> Result<(), Fail> {
+    for &(text, x) in INSIDE {
+        is_plain(rt.alloc(), &rt, text, x)?;
     }
     Ok(())
 }

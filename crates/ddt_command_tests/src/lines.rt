@@ -1,5 +1,6 @@
 //! `print` of `ddt_lines`, to writers that take little at a time, or nothing.
 
+use crate::comparison::same;
 use ddt_lines::print;
 use std::io;
 use std::io::Write;
@@ -38,10 +39,11 @@ fn a_slow_writer_gets_the_whole_text(rt: HostRuntime) -> Result<(), Fail> {
         room: 100,
     };
     print(b"registered *\n", &mut out)?;
-    assert_eq!(rt;
-        out.bytes.as_slice(),
-        b"registered *\n".as_slice(),
-        "what the writer has"
+    same(
+        &rt,
+        &out.bytes.as_slice(),
+        &b"registered *\n".as_slice(),
+        &"what the writer has",
     );
     Ok(())
 }
@@ -56,11 +58,12 @@ fn a_full_writer_has_a_front_of_the_text(rt: HostRuntime) -> Result<(), Fail> {
     let kind = print(b"registered *\n", &mut out)
         .err()
         .map(|error| error.kind());
-    assert_eq!(rt; kind, Some(io::ErrorKind::WriteZero), "the error");
-    assert_eq!(rt;
-        out.bytes.as_slice(),
-        b"regi".as_slice(),
-        "what the writer has"
+    same(&rt, &kind, &Some(io::ErrorKind::WriteZero), &"the error");
+    same(
+        &rt,
+        &out.bytes.as_slice(),
+        &b"regi".as_slice(),
+        &"what the writer has",
     );
     Ok(())
 }

@@ -3,6 +3,7 @@
 //!
 //! `.ci/memory` runs each of these tests with each growth refused in turn.
 
+use crate::comparison::same;
 use crate::words::{Reader, process, read_by};
 use ddt_check::{Accepted, check};
 use ddt_commands::{answer_group, answer_hex};
@@ -73,7 +74,7 @@ fn digits(alloc: Global, register: &Accepted) -> Result<String, Fail> {
 }
 
 fn are(rt: &impl Abort, bytes: &[u8], wanted: &[u8]) {
-    assert_eq!(rt; bytes, wanted);
+    same(rt, &bytes, &wanted, &"the bytes");
 }
 
 #[test]
@@ -123,7 +124,7 @@ fn call<'a>(
     match read_by(reader, alloc, words) {
         Ok(call) => Ok(call),
         Err(fault) => {
-            assert_eq!(rt; fault, WordsFault::Memory);
+            same(rt, &fault, &WordsFault::Memory, &words);
             Ok(read_by(reader, alloc, words)?)
         },
     }
@@ -140,7 +141,7 @@ struct Wanted {
 
 fn have_values(rt: &impl Abort, call: &Words<'_>, values: &[(&str, &str)]) {
     for (name, value) in values {
-        assert_eq!(rt; call.value(name), *value, "{name}");
+        same(rt, &call.value(name), value, name);
     }
 }
 
@@ -148,19 +149,24 @@ fn have_several(rt: &impl Abort, call: &Words<'_>, several: &[(&str, &[&str])]) 
     for (name, words) in several {
         // An argument without a word has no list.
         let wanted = if words.is_empty() { None } else { Some(*words) };
-        assert_eq!(rt; call.all_values(name), wanted, "{name}");
+        same(rt, &call.all_values(name), &wanted, name);
     }
 }
 
 fn have_settings(rt: &impl Abort, call: &Words<'_>, settings: &[(&str, Option<&str>)]) {
     for (name, setting) in settings {
-        assert_eq!(rt; call.setting(name), *setting, "{name}");
+        same(rt, &call.setting(name), setting, name);
     }
 }
 
 /// The call has just these words.
 fn is_called(rt: &impl Abort, call: &Words<'_>, called: &Wanted) {
-    assert_eq!(rt; Some(&call.command()), called.words.first());
+    same(
+        rt,
+        &Some(&call.command()),
+        &called.words.first(),
+        &called.words,
+    );
     have_values(rt, call, called.values);
     have_several(rt, call, called.several);
     have_settings(rt, call, called.settings);
@@ -363,7 +369,12 @@ fn has_line(
 ) -> Result<(), Fail> {
     let bytes = message(alloc, fields)?;
     let line = whole_line(alloc, tells, &bytes)?;
-    assert_eq!(rt; line.strip_suffix(b"\n"), Some(wanted.as_bytes()));
+    same(
+        rt,
+        &line.strip_suffix(b"\n"),
+        &Some(wanted.as_bytes()),
+        &wanted,
+    );
     Ok(())
 }
 

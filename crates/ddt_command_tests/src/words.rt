@@ -1,6 +1,7 @@
 //! The words that `ddt_words`, with two commands of its own, and `read_words` of `ddt_commands` refuse. What a call has of
 //! its words is in `refused`.
 
+use crate::comparison::same;
 use ddt_commands::read_words;
 use ddt_words::{Argument, Declaration, Words, WordsFault, read_call};
 use std::alloc::{AllocError, Global};
@@ -95,7 +96,7 @@ const NONE_OF_NINE: &[&[&str]] = &[
 
 fn is_bad(rt: &impl Abort, alloc: Global, reader: Reader, words: &[String]) {
     let fault = read_by(reader, alloc, words).err();
-    assert_eq!(rt; fault, Some(WordsFault::Bad), "{words:?}");
+    same(rt, &fault, &Some(WordsFault::Bad), &words);
 }
 
 fn are_bad(rt: &impl Abort, alloc: Global, reader: Reader, all: &[&[&str]]) -> Result<(), Fail> {
@@ -115,6 +116,6 @@ fn words_of_no_command_are_bad(rt: HostRuntime) -> Result<(), Fail> {
 #[test]
 fn faults_have_numbers(rt: HostRuntime) -> Result<(), Fail> {
     let text = format!(in rt.alloc(); "{} {}", WordsFault::Bad, WordsFault::Memory)?;
-    assert_eq!(rt; text.as_str(), "1 Bad 2 Memory", "the faults' texts");
+    same(&rt, &text.as_str(), &"1 Bad 2 Memory", &"the faults' texts");
     Ok(())
 }

@@ -1,7 +1,9 @@
 //! The tests of `ddt_sim` and `ddt_loop`: worked lookups and schedules over the servers of a compiled register, lookups
-//! over servers that say anything, and runs over wires.
+//! over servers that say anything, and runs over wires. `comparison` is what all assert by.
 #![tactic(auto)]
 
+#[cfg(test)]
+mod comparison;
 #[cfg(test)]
 mod onward;
 #[cfg(test)]

@@ -1,5 +1,6 @@
 //! An ITR's own request on its way to an ETR: what is sent on, to which server, and what that server makes of it.
 
+use crate::comparison::{holds, same};
 use ddt_config::from_toml;
 use ddt_ecm::{CONTROL_PORT, write_request};
 use ddt_examples::bytes_of;
@@ -34,8 +35,9 @@ fn worked(alloc: Global) -> Result<Listed<u8>, Fail> {
 fn one_bit_changes(rt: HostRuntime) -> Result<(), Fail> {
     let plain = bytes_of(rt.alloc(), ITR_REQUEST)?;
     let sent = with_d(worked(rt.alloc())?);
-    assert_eq!(rt; sent.as_slice().first(), Some(&0x84));
-    assert_eq!(rt; sent.as_slice().get(1..), plain.as_slice().get(1..));
+    let (sent, plain) = (sent.as_slice(), plain.as_slice());
+    same(&rt, &sent.first(), &Some(&0x84), &"the first byte");
+    same(&rt, &sent.get(1..), &plain.get(1..), &"the other bytes");
     Ok(())
 }
 
@@ -80,9 +82,12 @@ fn judge(rt: &impl Abort, alloc: Global, end: End, goes_on: bool) -> Result<(), 
     let sent = send_on(&mut far, ME, SECOND, &end_of(end)?, Some(worked(alloc)?));
     let calls = far.told().ok_or("no record")?;
     let marked = with_d(worked(alloc)?);
-    assert_eq!(rt; is_sent_on(calls, marked.as_slice()), goes_on, "{end:?}");
-    assert_eq!(rt; calls.is_empty(), !goes_on, "{end:?}");
-    assert_eq!(rt; sent, goes_on, "{end:?}");
+    same(
+        rt,
+        &(sent, is_sent_on(calls, marked.as_slice()), calls.is_empty()),
+        &(goes_on, goes_on, !goes_on),
+        &end,
+    );
     Ok(())
 }
 
@@ -98,7 +103,8 @@ fn a_registered_site_alone_has_the_request(rt: HostRuntime) -> Result<(), Fail> 
 fn nothing_goes_on_where_no_request_waits(rt: HostRuntime) -> Result<(), Fail> {
     let mut far = WiresInMemory::new(rt.alloc(), 0);
     let sent = send_on(&mut far, ME, SECOND, &end_of(End::Registered)?, None);
-    assert!(rt; !sent && far.told().ok_or("no record")?.is_empty());
+    let calls = far.told().ok_or("no record")?;
+    holds(&rt, !sent && calls.is_empty(), &"no request waits");
     Ok(())
 }
 
@@ -119,8 +125,13 @@ fn the_etr_gets_what_the_itr_sent(rt: HostRuntime) -> Result<(), Fail> {
     let sent = handled(alloc, &rt, marked.as_slice())?;
     match &sent.forward {
         Some(forward) => {
-            assert_eq!(rt; forward.to, ETR);
-            assert_eq!(rt; forward.bytes.as_slice(), plain.as_slice());
+            same(&rt, &forward.to, &ETR, &"the ETR");
+            same(
+                &rt,
+                &forward.bytes.as_slice(),
+                &plain.as_slice(),
+                &"the bytes",
+            );
         }
         None => return Err("nothing goes on".into()),
     }

@@ -3,6 +3,7 @@
 //!
 //! `.ci/memory` runs each of these tests with each growth refused in turn.
 
+use crate::comparison::{holds, same};
 use crate::sim::schedules::{A_ZONE_COMES_AND_GOES, Lines, SIDE_BY_SIDE, step_of};
 use crate::texts::{identifier, locator, prefix};
 use crate::turns::loopback::Loopback;
@@ -106,7 +107,7 @@ fn is_reply(rt: &impl Abort, reply: &Option<Listed<u8>>, wanted: &[u8]) {
         Some(bytes) => bytes.as_slice(),
         None => &[],
     };
-    assert_eq!(rt; bytes, wanted);
+    same(rt, &bytes, &wanted, &"the reply");
 }
 
 #[test]
@@ -154,7 +155,7 @@ fn is_hop(
     nonce: u64,
 ) -> Result<(), Fail> {
     let request = read_request(hop.request.as_slice())?;
-    assert_eq!(rt; (request.nonce(), request.xeid()), (nonce, x));
+    same(rt, &(request.nonce(), request.xeid()), &(nonce, x), &hop.to);
     let reply = answered(alloc, servers, hop.to, hop.request.as_slice())?;
     is_reply(rt, &reply, hop.reply.as_slice());
     Ok(())
@@ -174,12 +175,12 @@ fn are_all(
         nonce = nonce.saturating_add(1);
         is_hop(rt, alloc, servers, x, hop, nonce)?;
     }
-    assert_eq!(rt; nonce.saturating_add(1), nonces.1);
+    same(rt, &nonce.saturating_add(1), &nonces.1, &x);
     Ok(())
 }
 
 fn is_outcome(rt: &impl Abort, outcome: &Outcome, text: &str) -> Result<(), Fail> {
-    assert_eq!(rt; *outcome, assigned(text)?);
+    same(rt, outcome, &assigned(text)?, &text);
     Ok(())
 }
 
@@ -206,9 +207,11 @@ fn looks_up(
 
 /// The lookup was refused memory, and it isn't pending; the one whose nonce was looked at before it is.
 fn is_undone(rt: &impl Abort, why: LookupError, resolver: &ListResolver, before: usize) {
-    assert_eq!(rt;
-        (why, resolver.pending()),
-        (LookupError::Memory, before.saturating_add(1))
+    same(
+        rt,
+        &(why, resolver.pending()),
+        &(LookupError::Memory, before.saturating_add(1)),
+        &"a lookup that was refused memory",
     );
 }
 
@@ -231,14 +234,22 @@ fn is_found(
     }
 }
 
+/// Lookups of both identifiers give what is assigned.
+fn are_found(
+    rt: &impl Abort,
+    alloc: Global,
+    servers: &mut ListServers,
+    resolver: &mut ListResolver,
+) -> Result<(), Fail> {
+    is_found(rt, alloc, servers, resolver, SITE)?;
+    is_found(rt, alloc, servers, resolver, HOLE)
+}
+
 #[test]
 fn a_lookup_gives_its_outcome(rt: HostRuntime) -> Result<(), Fail> {
     let mut servers = servers(rt.alloc(), CAMPUS)?;
     let mut resolver = resolver(rt.alloc())?;
-    for text in [SITE, HOLE] {
-        is_found(&rt, rt.alloc(), &mut servers, &mut resolver, text)?;
-    }
-    Ok(())
+    are_found(&rt, rt.alloc(), &mut servers, &mut resolver)
 }
 
 // ---- schedules
@@ -336,11 +347,11 @@ fn ticked_tells(ticked: &Ticked) -> Told {
 }
 
 fn is_alike(rt: &impl Abort, one: &Event, other: &Event) {
-    assert_eq!(rt; tells(one), tells(other));
+    same(rt, &tells(one), &tells(other), &"an event");
 }
 
 fn are_alike(rt: &impl Abort, one: &[Event], other: &[Event]) {
-    assert_eq!(rt; one.len(), other.len());
+    same(rt, &one.len(), &other.len(), &"the events");
     for (event, wanted) in one.iter().zip(other) {
         is_alike(rt, event, wanted);
     }
@@ -366,7 +377,8 @@ fn wanted(alloc: Global, registers: &Registers, steps: &[Step]) -> Result<Transc
 
 /// A run on a new stage tells the same, and sends as many datagrams.
 fn is_whole(rt: &impl Abort, told: &Transcript, wanted: &Transcript) {
-    assert_eq!(rt; told.sent.as_slice().len(), wanted.sent.as_slice().len());
+    let (sent, to_send) = (told.sent.as_slice(), wanted.sent.as_slice());
+    same(rt, &sent.len(), &to_send.len(), &"the datagrams");
     are_alike(rt, told.events.as_slice(), wanted.events.as_slice());
 }
 
@@ -447,7 +459,7 @@ fn is_after_some(
 }
 
 fn lost(rt: &impl Abort, left: &Seen) {
-    assert!(rt; false, "after no number of steps a resolver is {left:?}");
+    holds(rt, false, &("a resolver after no number of steps", left));
 }
 
 /// A run of these lines tells what it tells on a new stage. Refused memory it tells nothing, and a second run goes on
@@ -471,8 +483,26 @@ fn asks_the_root(rt: &impl Abort, resolver: &mut ListResolver) -> Result<(), Fai
     let now = resolver.time();
     let asked = server_asked(resolver, now, "[0]11.0.0.1")?;
     let (_nonce, server) = asked.ok_or("an answer at once")?;
-    assert_eq!(rt; server, ROOT);
+    same(rt, &server, &ROOT, &"the server that is asked");
     Ok(())
+}
+
+/// A run of these lines over a new stage, after which nothing is known of another identifier.
+fn plays_and_asks(
+    rt: &impl Abort,
+    alloc: Global,
+    stage: &mut Stage,
+    registers: &Registers,
+    lines: Lines,
+) -> Result<(), Fail> {
+    plays(rt, alloc, stage, registers, lines)?;
+    asks_the_root(rt, &mut stage.resolver)
+}
+
+/// After a run of two lookups side by side, lookups of both identifiers give what is assigned.
+fn stays_sound(rt: &impl Abort, alloc: Global, stage: &mut Stage) -> Result<(), Fail> {
+    plays_and_asks(rt, alloc, stage, &CAMPUS_ALONE, SIDE_BY_SIDE)?;
+    are_found(rt, alloc, &mut stage.members[0], &mut stage.resolver)
 }
 
 /// Nothing is lost of what the steps before the refusal brought, and whatever was saved of the schedule's identifiers is
@@ -480,30 +510,20 @@ fn asks_the_root(rt: &impl Abort, resolver: &mut ListResolver) -> Result<(), Fai
 #[test]
 fn after_a_schedule_the_resolver_is_sound(rt: HostRuntime) -> Result<(), Fail> {
     let mut stage = new_stage(rt.alloc(), &CAMPUS_ALONE)?;
-    plays(&rt, rt.alloc(), &mut stage, &CAMPUS_ALONE, SIDE_BY_SIDE)?;
-    let Stage {
-        mut members,
-        mut resolver,
-    } = stage;
-    asks_the_root(&rt, &mut resolver)?;
-    for text in [SITE, HOLE] {
-        is_found(&rt, rt.alloc(), &mut members[0], &mut resolver, text)?;
-    }
-    Ok(())
+    stays_sound(&rt, rt.alloc(), &mut stage)
 }
 
 /// The same while servers are replaced, but that a hole is remembered which is no longer assigned.
 #[test]
 fn a_schedule_with_other_servers_is_told_or_undone(rt: HostRuntime) -> Result<(), Fail> {
     let mut stage = new_stage(rt.alloc(), &CAMPUS_GROWS)?;
-    plays(
+    plays_and_asks(
         &rt,
         rt.alloc(),
         &mut stage,
         &CAMPUS_GROWS,
         A_ZONE_COMES_AND_GOES,
-    )?;
-    asks_the_root(&rt, &mut stage.resolver)
+    )
 }
 
 // ---- runs over wires
@@ -554,7 +574,12 @@ fn scene(world: &World) -> (u64, usize, Moment, Moment) {
 }
 
 fn is_as_before(rt: &impl Abort, world: &World, before: (u64, usize, Moment, Moment)) {
-    assert_eq!(rt; scene(world), before);
+    same(
+        rt,
+        &scene(world),
+        &before,
+        &"a world that was refused memory",
+    );
 }
 
 /// The same, once more where memory is refused to its own lists: then no call was made and no clock read, and nothing
@@ -599,8 +624,8 @@ fn refused(rt: &impl Abort, ends: &[LoopEnd]) -> Result<u64, Fail> {
 
 /// There are two ends, and no ask was refused whose request was to be sent.
 fn are_two(rt: &impl Abort, ends: &[LoopEnd], refused: u64, sent: u64) {
-    assert_eq!(rt; ends.len(), 2);
-    assert!(rt; refused.saturating_add(sent) <= 2);
+    same(rt, &ends.len(), &2, &"the ends");
+    holds(rt, refused.saturating_add(sent) <= 2, &(refused, sent));
 }
 
 /// A run over a new network; whether both identifiers have their outcomes.
@@ -613,20 +638,26 @@ fn is_run_whole(rt: &impl Abort, alloc: Global, world: &mut World) -> Result<boo
     Ok(refused == 0)
 }
 
+fn new_world(alloc: Global) -> Result<World, Fail> {
+    let next = moment(0)?;
+    Ok(World {
+        servers: servers(alloc, CAMPUS)?,
+        resolver: resolver(alloc)?,
+        wires: Loopback::new(alloc, 0),
+        clock: SteppingClock { next, step: 5 },
+    })
+}
+
 /// Where one growth is refused, a second run has all memory.
-#[test]
-fn a_run_gives_its_outcomes(rt: HostRuntime) -> Result<(), Fail> {
-    let mut world = World {
-        servers: servers(rt.alloc(), CAMPUS)?,
-        resolver: resolver(rt.alloc())?,
-        wires: Loopback::new(rt.alloc(), 0),
-        clock: SteppingClock {
-            next: moment(0)?,
-            step: 5,
-        },
-    };
-    if is_run_whole(&rt, rt.alloc(), &mut world)? || is_run_whole(&rt, rt.alloc(), &mut world)? {
+fn is_run_whole_in_two(rt: &impl Abort, alloc: Global, world: &mut World) -> Result<(), Fail> {
+    if is_run_whole(rt, alloc, world)? || is_run_whole(rt, alloc, world)? {
         return Ok(());
     }
     Err("two runs refused an ask".into())
+}
+
+#[test]
+fn a_run_gives_its_outcomes(rt: HostRuntime) -> Result<(), Fail> {
+    let mut world = new_world(rt.alloc())?;
+    is_run_whole_in_two(&rt, rt.alloc(), &mut world)
 }

@@ -1,10 +1,12 @@
 //! The texts in the tables: locators, identifiers and prefixes are read, what a lookup gives is written.
 
+use crate::comparison::same;
 use ddt_lines::outcome_line;
 use ddt_path::{Locator, LocatorSet, Outcome, Prefix, Xeid};
 use ddt_sim::{Hop, Lookup, LookupError};
 use ddt_text::{parse_locator, parse_prefix, parse_xeid, write_locator};
 use std::alloc::{AllocError, Global};
+use std::fmt::Display;
 use std::process::Abort;
 use std::test::Fail;
 
@@ -48,6 +50,11 @@ pub fn set(alloc: Global, texts: &[&str]) -> Result<LocatorSet, Fail> {
         Some(set) => Ok(set),
         None => Err("too many locators".into()),
     }
+}
+
+/// Words, a blank, and what is printed of a value.
+pub fn worded<D: Display>(alloc: Global, words: &str, value: &D) -> Result<String, Fail> {
+    Ok(format!(in alloc; "{words} {value}")?)
 }
 
 /// The text of a locator.
@@ -101,10 +108,10 @@ fn push_server(text: &mut Vec<u8>, server: Locator) -> Result<(), AllocError> {
 
 /// Judges a text, for a row of a table that says this.
 pub fn judge_text(rt: &impl Abort, says: &str, found: &str, wanted: &str) {
-    assert_eq!(rt; found, wanted, "{says}");
+    same(rt, &found, &wanted, &says);
 }
 
 /// Judges a number, for a row of a table that says this.
 pub fn judge_number(rt: &impl Abort, says: &str, found: u64, wanted: u64) {
-    assert_eq!(rt; found, wanted, "{says}");
+    same(rt, &found, &wanted, &says);
 }

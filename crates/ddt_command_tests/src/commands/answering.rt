@@ -1,5 +1,6 @@
 //! `answer_group` and `answer_hex`: what the servers of a group answer, without the words that ask for it.
 
+use crate::comparison::holds;
 use ddt_check::{Accepted, check};
 use ddt_commands::{answer_group, answer_hex};
 use ddt_examples::bytes_of;
@@ -67,7 +68,7 @@ fn a_group_answers_bytes(rt: HostRuntime) -> Result<(), Fail> {
     let register = campus(rt.alloc())?;
     for case in CASES {
         let answers = answers_bytes(rt.alloc(), &register, case)?;
-        assert!(rt; answers, "what {case:?} says");
+        holds(&rt, answers, case);
     }
     Ok(())
 }
@@ -77,7 +78,7 @@ fn a_group_answers_their_text(rt: HostRuntime) -> Result<(), Fail> {
     let register = campus(rt.alloc())?;
     for case in CASES {
         let answers = answers_text(rt.alloc(), &register, case)?;
-        assert!(rt; answers, "what {case:?} says");
+        holds(&rt, answers, case);
     }
     Ok(())
 }

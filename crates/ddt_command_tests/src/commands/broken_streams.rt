@@ -1,6 +1,8 @@
 //! Writers without room for what a command has to say, and files that fail at some read.
 
-use super::harness::{Printed, Source, at_start, bind, campus_file, process};
+use super::harness::{Printed, Source, at_start, bind, campus_file};
+use crate::comparison::{holds, same};
+use crate::words::process;
 use ddt_commands::Status::{BadWords, Refused, Unprinted};
 use ddt_commands::{Status, run};
 use ddt_wires::WiresInMemory;
@@ -133,11 +135,12 @@ fn printed(alloc: Global, files: Failing<'_>, words: &[&str]) -> Result<(Status,
 
 /// A stream has just so many bytes of what was to be printed on it, or all where there are fewer.
 fn has_front(rt: &impl Abort, stream: &Short, whole: &[u8], room: usize) {
-    assert_eq!(rt; stream.bytes.as_slice(), &whole[..room.min(whole.len())]);
+    let front = &whole[..room.min(whole.len())];
+    same(rt, &stream.bytes.as_slice(), &front, &room);
 }
 
 fn is_unprinted(rt: &impl Abort, words: &[&str], status: Status) {
-    assert_eq!(rt; status, Unprinted, "the status of {words:?}");
+    same(rt, &status, &Unprinted, &("the status", words));
 }
 
 /// At each byte the writer may be full.
@@ -214,9 +217,11 @@ const READING: &[(&[&str], &str, &str)] = &[
 
 /// Nothing is printed but this line on the error stream.
 fn is_refused(rt: &impl Abort, printed: &Printed, line: &str) {
-    assert_eq!(rt;
-        (printed.out.as_slice(), printed.err.as_slice()),
-        (b"".as_slice(), line.as_bytes())
+    same(
+        rt,
+        &(printed.out.as_slice(), printed.err.as_slice()),
+        &(b"".as_slice(), line.as_bytes()),
+        &line,
     );
 }
 
@@ -249,7 +254,7 @@ fn length_of(name: &str) -> usize {
 fn a_file_may_fail_at_each_read(rt: HostRuntime) -> Result<(), Fail> {
     for &(words, name, line) in READING {
         let refused = refused_reads(&rt, rt.alloc(), words, name, line)?;
-        assert!(rt; refused > length_of(name) / 16, "{words:?}");
+        holds(&rt, refused > length_of(name) / 16, &words);
     }
     Ok(())
 }
@@ -257,8 +262,18 @@ fn a_file_may_fail_at_each_read(rt: HostRuntime) -> Result<(), Fail> {
 #[test]
 fn bad_words_are_bad_though_the_usage_finds_no_room(rt: HostRuntime) -> Result<(), Fail> {
     let (status, out, err) = run_in_eight(rt.alloc(), &["serve"])?;
-    assert_eq!(rt; status, BadWords, "the status of words without a command");
-    assert_eq!(rt; out, [0; 8], "what they print");
-    assert_eq!(rt; err.as_slice(), b"usage: d".as_slice(), "what found room");
+    same(
+        &rt,
+        &status,
+        &BadWords,
+        &"the status of words without a command",
+    );
+    same(&rt, &out, &[0; 8], &"what they print");
+    same(
+        &rt,
+        &err.as_slice(),
+        &b"usage: d".as_slice(),
+        &"what found room",
+    );
     Ok(())
 }

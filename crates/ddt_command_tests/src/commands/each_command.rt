@@ -1,6 +1,7 @@
 //! Each command by its own function: the words are read as its call, and it prints what it answers or why it refuses.
 
-use super::harness::{End, Printed, at_start, bind, campus_file, compares, process};
+use super::harness::{End, Printed, at_start, bind, campus_file, compares};
+use crate::words::process;
 use ddt_commands::Status::{Answered, Incomplete, Refused};
 use ddt_commands::{
     Status, read_words, run_answer, run_assign, run_check, run_compile, run_lookup, run_loop,

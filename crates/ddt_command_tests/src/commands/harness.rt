@@ -1,5 +1,7 @@
 //! Runs a command as the process would, over files and wires in memory.
 
+use crate::comparison::same;
+use crate::words::process;
 use ddt_cache::Moment;
 use ddt_commands::{Status, run};
 use ddt_examples::configurations::EAST;
@@ -17,15 +19,6 @@ use std::test::Fail;
 
 /// The port at which servers and resolvers hear requests and replies.
 pub const PORT: u16 = 4342;
-
-/// The words of a process, behind the program's name.
-pub fn process(alloc: Global, words: &[&str]) -> Result<Vec<String>, Fail> {
-    let mut all = vec![in alloc; String::from_str(alloc, "ddt")?]?;
-    for word in words {
-        all.push(String::from_str(alloc, word)?)?;
-    }
-    Ok(all)
-}
 
 /// A file, or one that can be opened and not read; or one that gives at most 16 bytes for a read, and fails after so many
 /// reads.
@@ -194,11 +187,11 @@ pub fn compares<R: Abort>(
 }
 
 fn has_status<R: Abort>(rt: &R, words: &[&str], status: Status, want: Status) {
-    assert_eq!(rt; status, want, "the status of {words:?}");
+    same(rt, &status, &want, &("the status", words));
 }
 
 fn has_text<R: Abort>(rt: &R, words: &[&str], does: &str, text: &[u8], want: &str) {
-    assert_eq!(rt; text, want.as_bytes(), "what {words:?} {does}");
+    same(rt, &text, &want.as_bytes(), &(words, does));
 }
 
 /// The same at moment 0, where so many calls are made over the wires.
@@ -213,7 +206,7 @@ pub fn ends<R: Abort>(
 ) -> Result<(), Fail> {
     ends_at(rt, alloc, place, wires, &mut at_start(), words, want)?;
     let told = wires.told().ok_or("no memory")?;
-    assert_eq!(rt; told.len(), calls, "the calls of {words:?}");
+    same(rt, &told.len(), &calls, &("the calls", words));
     Ok(())
 }
 

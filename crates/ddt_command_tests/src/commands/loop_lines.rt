@@ -4,6 +4,7 @@
 use super::harness::{
     PORT, Place, Printed, Source, add, at_start, ends, ends_at, message, refuses, with_byte,
 };
+use crate::comparison::same;
 use ddt_commands::Status;
 use ddt_commands::Status::{Answered, Incomplete};
 use ddt_examples::messages::{ITR_REQUEST, NEGATIVE_REPLY};
@@ -13,6 +14,7 @@ use ddt_path::Locator;
 use ddt_wires::{Call, WiresInMemory};
 use std::alloc::Global;
 use std::io::ErrorKind;
+use std::process::Abort;
 use std::test::Fail;
 
 const ME: Locator = Locator::V4(0x7f00_0035);
@@ -90,7 +92,9 @@ const BOTH: &str = "[0]10.1.2.3 registered [0]10.1.2.0/24 127.0.1.1 127.0.1.2\n\
 
 /// The turns, how the two lookups end, and the calls. In all these are two asks; sixteen turns, since the resolver's
 /// socket is the first of five; and two requests more.
-const TURNS: &[(&str, Status, &str, usize)] = &[
+type Turns = (&'static str, Status, &'static str, usize);
+
+const TURNS: &[Turns] = &[
     ("0", Incomplete, NONE, 2),
     ("5", Incomplete, NONE, 8),
     ("6", Incomplete, ONE, 9),
@@ -99,23 +103,31 @@ const TURNS: &[(&str, Status, &str, usize)] = &[
     ("20000", Answered, BOTH, 20),
 ];
 
+/// Over these wires so many turns are taken, where the replies wait.
+fn takes<R: Abort>(
+    rt: &R,
+    alloc: Global,
+    wires: &mut WiresInMemory,
+    row: &Turns,
+) -> Result<(), Fail> {
+    add_all(wires, alloc, &CAMPUS_REPLIES)?;
+    let words = [
+        "loop",
+        "register.csv",
+        "[0]10.1.2.3",
+        "[0]11.0.0.1",
+        "--turns",
+        row.0,
+    ];
+    let want = (row.1, row.2, "");
+    ends(rt, alloc, campus(), wires, &words, want, row.3)
+}
+
 #[test]
 fn each_turn_is_used(rt: HostRuntime) -> Result<(), Fail> {
     let alloc = rt.alloc();
-    for &(turns, status, lines, calls) in TURNS {
-        let mut wires = WiresInMemory::new(alloc, 0);
-        add_all(&mut wires, alloc, &CAMPUS_REPLIES)?;
-        let words = [
-            "loop",
-            "register.csv",
-            "[0]10.1.2.3",
-            "[0]11.0.0.1",
-            "--turns",
-            turns,
-        ];
-        let want = (status, lines, "");
-        let place = campus();
-        ends(&rt, alloc, place, &mut wires, &words, want, calls)?;
+    for row in TURNS {
+        takes(&rt, alloc, &mut WiresInMemory::new(alloc, 0), row)?;
     }
     Ok(())
 }
@@ -161,12 +173,11 @@ const BOTH_REPLIES: [Reply; 6] = [
     (EAST_TOO, "east", "[0]10.1.4.7", 6),
 ];
 
-/// Wires where the ITR's request waits at the resolver, and behind it all these replies.
-fn asked_by_itr(alloc: Global) -> Result<WiresInMemory, Fail> {
-    let mut wires = WiresInMemory::new(alloc, 0);
-    add(&mut wires, ME, ITR, ITR_PORT, message(alloc, ITR_REQUEST)?)?;
-    add_all(&mut wires, alloc, &BOTH_REPLIES)?;
-    Ok(wires)
+/// Lets the ITR's request wait at the resolver, and behind it all these replies.
+fn itr_asks(wires: &mut WiresInMemory, alloc: Global) -> Result<(), Fail> {
+    let request = message(alloc, ITR_REQUEST)?;
+    add(wires, ME, ITR, ITR_PORT, request)?;
+    add_all(wires, alloc, &BOTH_REPLIES)
 }
 
 /// How many times the ITR was sent its negative Map-Reply.
@@ -176,18 +187,27 @@ fn times_told(alloc: Global, wires: &WiresInMemory) -> Result<usize, Fail> {
     Ok(calls.iter().filter(|call| tells_itr(call, &reply)).count())
 }
 
-#[test]
-fn an_itr_gets_its_negative_map_reply(rt: HostRuntime) -> Result<(), Fail> {
-    let alloc = rt.alloc();
-    let mut wires = asked_by_itr(alloc)?;
+/// The lookup over these wires has its line.
+fn has_its_line<R: Abort>(rt: &R, alloc: Global, wires: &mut WiresInMemory) -> Result<(), Fail> {
     let words = ["loop", "register.csv", "[0]10.1.4.7"];
     let line = "[0]10.1.4.7 not-registered [0]10.1.4.0/24 127.0.1.1 127.0.1.2\n";
     let (want, mut clock) = ((Answered, line, ""), at_start());
-    let place = campus();
-    ends_at(&rt, alloc, place, &mut wires, &mut clock, &words, want)?;
-    let told = times_told(alloc, &wires)?;
-    assert_eq!(rt; told, 1);
+    ends_at(rt, alloc, campus(), wires, &mut clock, &words, want)
+}
+
+/// The ITR asks over these wires, and is told once.
+fn is_told<R: Abort>(rt: &R, alloc: Global, wires: &mut WiresInMemory) -> Result<(), Fail> {
+    itr_asks(wires, alloc)?;
+    has_its_line(rt, alloc, wires)?;
+    let told = times_told(alloc, wires)?;
+    same(rt, &told, &1, &"the replies to the ITR");
     Ok(())
+}
+
+#[test]
+fn an_itr_gets_its_negative_map_reply(rt: HostRuntime) -> Result<(), Fail> {
+    let mut wires = WiresInMemory::new(rt.alloc(), 0);
+    is_told(&rt, rt.alloc(), &mut wires)
 }
 
 /// Words, the register, the addresses that are free, why another can't be bound, and what stands in the way first.

@@ -1,6 +1,7 @@
 //! `ddt serve`, over wires in memory. The other reasons why it refuses are in `tests/serve.lines`.
 
 use super::harness::{PORT, Place, Source, add, ends, message, refuses, with_byte};
+use crate::comparison::holds;
 use ddt_commands::Status::Answered;
 use ddt_examples::configurations::EAST;
 use ddt_examples::messages::{DDT_REQUEST, EAST_ACKNOWLEDGES};
@@ -8,6 +9,7 @@ use ddt_path::Locator;
 use ddt_wires::{Call, WiresInMemory};
 use std::alloc::Global;
 use std::io::ErrorKind;
+use std::process::Abort;
 use std::test::Fail;
 
 const SERVER: Locator = Locator::V4(0x7f00_0101);
@@ -34,13 +36,21 @@ fn campus() -> Place<'static> {
     with_file(Some(EAST), None)
 }
 
-/// Wires whose fifth call fails, where a DDT Map-Request and then the one byte 00 wait at the server.
-fn busy(alloc: Global) -> Result<WiresInMemory, Fail> {
-    let mut wires = WiresInMemory::new(alloc, 5);
-    for fields in [DDT_REQUEST, "00"] {
-        add(&mut wires, SERVER, RESOLVER, PORT, message(alloc, fields)?)?;
-    }
-    Ok(wires)
+/// Lets a datagram wait at the server.
+fn wait(wires: &mut WiresInMemory, alloc: Global, fields: &str) -> Result<(), Fail> {
+    let bytes = message(alloc, fields)?;
+    add(wires, SERVER, RESOLVER, PORT, bytes)
+}
+
+/// Lets a DDT Map-Request and then the one byte 00 wait at the server.
+fn wait_both(wires: &mut WiresInMemory, alloc: Global) -> Result<(), Fail> {
+    wait(wires, alloc, DDT_REQUEST)?;
+    wait(wires, alloc, "00")
+}
+
+/// Wires whose fifth call fails.
+fn failing(alloc: Global) -> WiresInMemory {
+    WiresInMemory::new(alloc, 5)
 }
 
 /// Whether a call tried to send these bytes from the server to an address, at the port of servers.
@@ -60,7 +70,9 @@ fn tried(call: Option<&Call>, addressee: Locator, sent: &[u8]) -> bool {
 }
 
 /// The turns, what the server counts, and the calls that it makes.
-const TURNS: &[(&str, &str, usize)] = &[
+type Turns = (&'static str, &'static str, usize);
+
+const TURNS: &[Turns] = &[
     ("0", "received 0 replied 0\n", 0),
     ("1", "received 1 replied 1\n", 3),
     ("2", "received 2 replied 1\n", 4),
@@ -68,13 +80,23 @@ const TURNS: &[(&str, &str, usize)] = &[
     ("100", "received 2 replied 1\n", 102),
 ];
 
+/// Over these wires so many turns are taken, where both datagrams wait.
+fn takes<R: Abort>(
+    rt: &R,
+    alloc: Global,
+    wires: &mut WiresInMemory,
+    row: &Turns,
+) -> Result<(), Fail> {
+    wait_both(wires, alloc)?;
+    let words = ["serve", "east.toml", "127.0.1.1", row.0];
+    let want = (Answered, row.1, "");
+    ends(rt, alloc, campus(), wires, &words, want, row.2)
+}
+
 #[test]
 fn each_turn_is_used(rt: HostRuntime) -> Result<(), Fail> {
-    for &(turns, line, calls) in TURNS {
-        let mut wires = busy(rt.alloc())?;
-        let words = ["serve", "east.toml", "127.0.1.1", turns];
-        let want = (Answered, line, "");
-        ends(&rt, rt.alloc(), campus(), &mut wires, &words, want, calls)?;
+    for row in TURNS {
+        takes(&rt, rt.alloc(), &mut failing(rt.alloc()), row)?;
     }
     Ok(())
 }
@@ -106,19 +128,20 @@ fn sends(
     Ok(tried(call, addressee, &sent))
 }
 
-#[test]
-fn a_server_counts_what_it_receives_and_replies(rt: HostRuntime) -> Result<(), Fail> {
-    let alloc = rt.alloc();
-    let mut wires = busy(alloc)?;
-    let words = ["serve", "east.toml", "127.0.1.1", "3"];
-    let want = (Answered, "received 2 replied 1\n", "");
-    ends(&rt, alloc, campus(), &mut wires, &words, want, 5)?;
-    let calls = wires.told().ok_or("no memory")?;
+fn are_sent<R: Abort>(rt: &R, alloc: Global, calls: &[Call]) -> Result<(), Fail> {
     for &(number, addressee, fields, first) in SENT {
         let is_sent = sends(alloc, calls.get(number), addressee, fields, first)?;
-        assert!(rt; is_sent, "call {number}");
+        holds(rt, is_sent, &("call", number));
     }
     Ok(())
+}
+
+#[test]
+fn a_server_counts_what_it_receives_and_replies(rt: HostRuntime) -> Result<(), Fail> {
+    let mut wires = failing(rt.alloc());
+    let row = ("3", "received 2 replied 1\n", 5);
+    takes(&rt, rt.alloc(), &mut wires, &row)?;
+    are_sent(&rt, rt.alloc(), wires.told().ok_or("no memory")?)
 }
 
 /// Words, the text of the file, if it can be read, the error of a socket, and the first of what stands in their way.

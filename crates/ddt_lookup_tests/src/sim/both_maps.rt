@@ -2,6 +2,7 @@
 //! the same.
 
 use super::schedules::{SIDE_BY_SIDE, played_anew};
+use crate::comparison::same;
 use crate::texts::judge_number;
 use crate::worlds::{ROOT, found, rooted, served};
 use ddt_cache::Entry;
@@ -138,7 +139,7 @@ fn lookups<S: PrefixMap<u32>, M: PrefixMap<Entry>>(
 
 /// Judges what was done over lists and over trees, each in one text.
 fn judge_texts(rt: &impl Abort, says: &str, lists: &[u8], trees: &[u8]) {
-    assert_eq!(rt; lists, trees, "{says}");
+    same(rt, &lists, &trees, &says);
 }
 
 /// Judges the lookups of a case.

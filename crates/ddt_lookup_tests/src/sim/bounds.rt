@@ -62,15 +62,13 @@ fn is_followed(heard: &Heard) -> bool {
     }
 }
 
-/// A resolver that remembers the referral.
-fn remembering(alloc: Global, case: &Case) -> Result<ListResolver, Fail> {
+/// Lets a new resolver remember the referral.
+fn remember(alloc: Global, resolver: &mut ListResolver, case: &Case) -> Result<(), Fail> {
     let reply = reply(alloc, case.referral)?;
-    let mut resolver = rooted(alloc, EIGHT, 1)?;
-    if follows(&mut resolver, case.pending, &reply)? {
-        Ok(resolver)
-    } else {
-        Err("not followed".into())
+    if follows(resolver, case.pending, &reply)? {
+        return Ok(());
     }
+    Err("not followed".into())
 }
 
 /// The outcome of a lookup and how many hops it has.
@@ -80,11 +78,17 @@ fn counted(alloc: Global, lookup: &Lookup) -> Result<String, Fail> {
     Ok(format!(in alloc; "{outcome} after {hops} hops")?)
 }
 
+/// The longest lookup of a case, by a new resolver.
+fn longest_by(alloc: Global, resolver: &mut ListResolver, case: &Case) -> Result<Lookup, Fail> {
+    remember(alloc, resolver, case)?;
+    let mut servers = Liars::new(alloc, Way::Longest, case.referral)?;
+    found(alloc, &mut servers, resolver, 0, case.identifier)
+}
+
 /// The longest lookup of a case.
 fn longest(alloc: Global, case: &Case) -> Result<Lookup, Fail> {
-    let mut servers = Liars::new(alloc, Way::Longest, case.referral)?;
-    let mut resolver = remembering(alloc, case)?;
-    found(alloc, &mut servers, &mut resolver, 0, case.identifier)
+    let mut resolver = rooted(alloc, EIGHT, 1)?;
+    longest_by(alloc, &mut resolver, case)
 }
 
 /// Judges the longest lookup of a case.

@@ -160,14 +160,25 @@ fn servers(alloc: Global, world: &World) -> Result<ListServers, Fail> {
 }
 
 /// Makes each lookup of a world and judges it. None is pending at the end.
-fn judge(rt: &impl Abort, alloc: Global, world: &World) -> Result<(), Fail> {
-    let mut servers = servers(alloc, world)?;
-    let mut resolver = rooted(alloc, &[ROOT], 1)?;
+fn judge_lookups(
+    rt: &impl Abort,
+    alloc: Global,
+    servers: &mut ListServers,
+    resolver: &mut ListResolver,
+    world: &World,
+) -> Result<(), Fail> {
     for lookup in world.lookups {
-        judge_lookup(rt, alloc, &mut servers, &mut resolver, world.says, lookup)?;
+        judge_lookup(rt, alloc, servers, resolver, world.says, lookup)?;
     }
     judge_number(rt, world.says, resolver.pending() as u64, 0);
     Ok(())
+}
+
+/// The same with new servers and a new resolver.
+fn judge(rt: &impl Abort, alloc: Global, world: &World) -> Result<(), Fail> {
+    let mut servers = servers(alloc, world)?;
+    let mut resolver = rooted(alloc, &[ROOT], 1)?;
+    judge_lookups(rt, alloc, &mut servers, &mut resolver, world)
 }
 
 #[test]

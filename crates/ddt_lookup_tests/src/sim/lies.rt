@@ -2,7 +2,8 @@
 //! negative answers that are too wide or too narrow.
 
 use super::liars::{Liars, Said, Way};
-use crate::texts::{identifier, judge_text, locator_text, lookup_text};
+use crate::comparison::same;
+use crate::texts::{identifier, judge_text, locator_text, lookup_text, worded};
 use crate::worlds::{EIGHT, ListResolver, looked_up, moment, rooted};
 use ddt_path::Action;
 use ddt_resolver::Asked;
@@ -412,20 +413,30 @@ fn asked_text(alloc: Global, asked: &Asked) -> Result<String, Fail> {
     match asked {
         Asked::Sent(_ticket, request) => {
             let to = locator_text(alloc, request.to)?;
-            Ok(format!(in alloc; "asks {to}")?)
+            worded(alloc, "asks", &to)
         }
         Asked::Answer(_outcome) => Err("an answer at once".into()),
     }
 }
 
 /// Judges each act of a case.
-fn judge(rt: &impl Abort, alloc: Global, case: &Case) -> Result<(), Fail> {
-    let mut resolver = rooted(alloc, case.roots, 1)?;
+fn judge_acts(
+    rt: &impl Abort,
+    alloc: Global,
+    resolver: &mut ListResolver,
+    case: &Case,
+) -> Result<(), Fail> {
     for (act, wanted) in case.acts {
-        let told = told(alloc, &mut resolver, act)?;
+        let told = told(alloc, resolver, act)?;
         judge_text(rt, case.says, &told, wanted);
     }
     Ok(())
+}
+
+/// The same with a new resolver.
+fn judge(rt: &impl Abort, alloc: Global, case: &Case) -> Result<(), Fail> {
+    let mut resolver = rooted(alloc, case.roots, 1)?;
+    judge_acts(rt, alloc, &mut resolver, case)
 }
 
 #[test]
@@ -452,14 +463,19 @@ fn answers_are_believed(rt: HostRuntime) -> Result<(), Fail> {
     Ok(())
 }
 
+fn runs(
+    alloc: Global,
+    servers: &mut [Liars; 2],
+    resolver: &mut ListResolver,
+    steps: &[Step],
+) -> Result<(), Fail> {
+    let _told = run(alloc, servers, resolver, steps)?;
+    Ok(())
+}
+
 /// How many requests each of two members of the servers gets, where a request is handed over once to the first, and
 /// twice once the second is in force.
 fn requests_of_both(alloc: Global) -> Result<(u16, u16), Fail> {
-    let mut servers = [
-        Liars::new(alloc, Way::Always, &[HOLE])?,
-        Liars::new(alloc, Way::Always, &[HOLE])?,
-    ];
-    let mut resolver: ListResolver = rooted(alloc, ROOT, 1)?;
     let steps = [
         Step::Ask(identifier(X)?),
         Step::Deliver(0),
@@ -467,13 +483,18 @@ fn requests_of_both(alloc: Global) -> Result<(u16, u16), Fail> {
         Step::Deliver(0),
         Step::Deliver(0),
     ];
-    let _told = run(alloc, &mut servers, &mut resolver, &steps)?;
+    let mut resolver: ListResolver = rooted(alloc, ROOT, 1)?;
+    let mut servers = [
+        Liars::new(alloc, Way::Always, &[HOLE])?,
+        Liars::new(alloc, Way::Always, &[HOLE])?,
+    ];
+    runs(alloc, &mut servers, &mut resolver, &steps)?;
     Ok((servers[0].requests(), servers[1].requests()))
 }
 
 #[test]
 fn a_request_is_handed_once_to_those_in_force(rt: HostRuntime) -> Result<(), Fail> {
     let requests = requests_of_both(rt.alloc())?;
-    assert_eq!(rt; requests, (1, 2));
+    same(&rt, &requests, &(1, 2), &"the requests of both");
     Ok(())
 }

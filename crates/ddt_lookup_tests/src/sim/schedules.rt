@@ -1,14 +1,15 @@
 //! Schedules over the servers of a register: each step with what it tells.
 
-use crate::texts::{identifier, judge_number, judge_text, locator_text, outcome_text};
+use crate::texts::{identifier, judge_number, judge_text, locator_text, outcome_text, worded};
 use crate::worlds::{ListResolver, ROOT, rooted, served};
 use ddt_cache::Entry;
 use ddt_examples::registers::{CAMPUS, CAMPUS_GROWN, LONE_ROOT, WIDER_ZONE};
 use ddt_path::Outcome;
-use ddt_resolver::{Asked, Heard, Ignored, Outgoing, Resolver, Ticked, Ticket, Why};
+use ddt_resolver::{Asked, Heard, Outgoing, Resolver, Ticked, Ticket};
 use ddt_sim::{Compiled, Datagram, Event, Step, Transcript, run};
 use ddt_trie::{ListMap, PrefixMap};
 use std::alloc::Global;
+use std::fmt::Display;
 use std::process::Abort;
 use std::test::Fail;
 
@@ -219,6 +220,18 @@ fn steps_of(alloc: Global, lines: Lines) -> Result<Vec<Step>, Fail> {
     Ok(steps)
 }
 
+/// The servers of each register.
+fn all_served<S: PrefixMap<u32>>(
+    alloc: Global,
+    registers: &[&str],
+) -> Result<Vec<Compiled<S>>, Fail> {
+    let mut servers = Vec::new(alloc);
+    for register in registers {
+        servers.push(served(alloc, register)?)?;
+    }
+    Ok(servers)
+}
+
 /// The transcript of these lines over the servers of registers, of which the first are in force at first.
 fn played<S: PrefixMap<u32>, M: PrefixMap<Entry>>(
     alloc: Global,
@@ -227,10 +240,7 @@ fn played<S: PrefixMap<u32>, M: PrefixMap<Entry>>(
     lines: Lines,
 ) -> Result<Transcript, Fail> {
     let steps = steps_of(alloc, lines)?;
-    let mut servers: Vec<Compiled<S>> = Vec::new(alloc);
-    for register in registers {
-        servers.push(served(alloc, register)?)?;
-    }
+    let mut servers: Vec<Compiled<S>> = all_served(alloc, registers)?;
     if servers.is_empty() {
         return Err("no register".into());
     }
@@ -264,33 +274,29 @@ fn pending_after(alloc: Global, registers: &[&str], lines: Lines) -> Result<usiz
     Ok(resolver.pending())
 }
 
-fn request_text(alloc: Global, ticket: Ticket, request: &Outgoing) -> Result<String, Fail> {
+/// What comes of a lookup: its ticket, what it does, and with what.
+fn ticket_text<D: Display>(
+    alloc: Global,
+    ticket: Ticket,
+    does: &str,
+    with: &D,
+) -> Result<String, Fail> {
     let ticket = ticket.number();
+    Ok(format!(in alloc; "ticket {ticket} {does} {with}")?)
+}
+
+fn request_text(alloc: Global, ticket: Ticket, request: &Outgoing) -> Result<String, Fail> {
     let to = locator_text(alloc, request.to)?;
-    Ok(format!(in alloc; "ticket {ticket} asks {to}")?)
+    ticket_text(alloc, ticket, "asks", &to)
 }
 
 fn answer_text(alloc: Global, ticket: Ticket, outcome: &Outcome) -> Result<String, Fail> {
-    let ticket = ticket.number();
     let outcome = outcome_text(alloc, outcome)?;
-    Ok(format!(in alloc; "ticket {ticket} answer {outcome}")?)
-}
-
-fn end_text(alloc: Global, ticket: Ticket, why: Why) -> Result<String, Fail> {
-    let ticket = ticket.number();
-    Ok(format!(in alloc; "ticket {ticket} gave up {why}")?)
-}
-
-fn ignored_text(alloc: Global, why: Ignored) -> Result<String, Fail> {
-    Ok(format!(in alloc; "ignored {why}")?)
-}
-
-fn number_text(alloc: Global, word: &str, number: u64) -> Result<String, Fail> {
-    Ok(format!(in alloc; "{word} {number}")?)
+    ticket_text(alloc, ticket, "answer", &outcome)
 }
 
 fn plain_text(alloc: Global, word: &str) -> Result<String, Fail> {
-    Ok(format!(in alloc; "{word}")?)
+    Ok(String::from_str(alloc, word)?)
 }
 
 /// What an event tells, without the bytes of a request.
@@ -298,12 +304,12 @@ fn event_text(alloc: Global, event: &Event) -> Result<String, Fail> {
     match event {
         Event::Asked(asked) => asked_text(alloc, asked),
         Event::Refused(_) => plain_text(alloc, "refused"),
-        Event::Replied(number) => number_text(alloc, "reply", *number),
+        Event::Replied(number) => worded(alloc, "reply", number),
         Event::Silent => plain_text(alloc, "silent"),
-        Event::Passed(moment) => number_text(alloc, "now", moment.millis()),
+        Event::Passed(moment) => worded(alloc, "now", &moment.millis()),
         Event::Heard(heard) => heard_text(alloc, heard),
         Event::Ticked(ticked) => ticked_text(alloc, ticked),
-        Event::Replaced(number) => number_text(alloc, "replaced", *number),
+        Event::Replaced(number) => worded(alloc, "replaced", number),
         Event::Nothing => plain_text(alloc, "nothing"),
     }
 }
@@ -312,7 +318,7 @@ fn asked_text(alloc: Global, asked: &Asked) -> Result<String, Fail> {
     match asked {
         Asked::Answer(outcome) => {
             let outcome = outcome_text(alloc, outcome)?;
-            Ok(format!(in alloc; "answer {outcome}")?)
+            worded(alloc, "answer", &outcome)
         }
         Asked::Sent(ticket, request) => request_text(alloc, *ticket, request),
     }
@@ -320,10 +326,10 @@ fn asked_text(alloc: Global, asked: &Asked) -> Result<String, Fail> {
 
 fn heard_text(alloc: Global, heard: &Heard) -> Result<String, Fail> {
     match heard {
-        Heard::Ignored(why) => ignored_text(alloc, *why),
+        Heard::Ignored(why) => worded(alloc, "ignored", why),
         Heard::Followed(ticket, request) => request_text(alloc, *ticket, request),
         Heard::Answer(ticket, outcome) => answer_text(alloc, *ticket, outcome),
-        Heard::GaveUp(ticket, why) => end_text(alloc, *ticket, *why),
+        Heard::GaveUp(ticket, why) => ticket_text(alloc, *ticket, "gave up", why),
     }
 }
 
@@ -332,7 +338,7 @@ fn ticked_text(alloc: Global, ticked: &Ticked) -> Result<String, Fail> {
         Ticked::Nothing => plain_text(alloc, "nothing"),
         Ticked::Sent(ticket, request) => request_text(alloc, *ticket, request),
         Ticked::Answer(ticket, outcome) => answer_text(alloc, *ticket, outcome),
-        Ticked::GaveUp(ticket, why) => end_text(alloc, *ticket, *why),
+        Ticked::GaveUp(ticket, why) => ticket_text(alloc, *ticket, "gave up", why),
     }
 }
 

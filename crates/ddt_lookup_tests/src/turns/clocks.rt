@@ -1,5 +1,6 @@
 //! The readings of clocks.
 
+use crate::comparison::{holds, same};
 use crate::worlds::moment;
 use ddt_cache::LAST_MOMENT;
 use ddt_loop::{Clock, StandingClock, SteppingClock, SystemClock};
@@ -18,7 +19,7 @@ fn readings(clock: &mut impl Clock) -> (u64, u64) {
 #[test]
 fn a_clock_stands(rt: HostRuntime) -> Result<(), Fail> {
     let mut clock = StandingClock { at: moment(5)? };
-    assert_eq!(rt; readings(&mut clock), (5, 5));
+    same(&rt, &readings(&mut clock), &(5, 5), &"the readings");
     Ok(())
 }
 
@@ -32,7 +33,7 @@ fn stepped(first: u64, step: u64) -> Result<(u64, u64), Fail> {
 fn a_clock_steps(rt: HostRuntime) -> Result<(), Fail> {
     for row in &STEPS {
         let found = stepped(row.0, row.1)?;
-        assert_eq!(rt; found, (row.0, row.2));
+        same(&rt, &found, &(row.0, row.2), row);
     }
     Ok(())
 }
@@ -46,6 +47,6 @@ fn starts_now<T: time::Clock + Drop>(system: T) -> io::Result<bool> {
 
 #[test]
 fn the_systems_clock_starts_at_its_making(rt: HostRuntime) -> Result<(), Fail> {
-    assert!(rt; starts_now(&rt)?);
+    holds(&rt, starts_now(&rt)?, &"the system's clock");
     Ok(())
 }

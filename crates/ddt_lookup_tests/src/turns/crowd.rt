@@ -1,6 +1,7 @@
 //! One identifier more than lookups may be pending: all others end, and that one is refused.
 
 use super::loopback::Loopback;
+use crate::comparison::same;
 use crate::texts::{locator, prefix};
 use crate::worlds::{ListResolver, ListServers, ME, ROOT, moment, rooted, served};
 use ddt_examples::registers::LONE_ROOT;
@@ -25,21 +26,26 @@ fn crowd(alloc: Global) -> Result<Vec<Xeid>, Fail> {
 
 /// What these end in over a lone root, while the clock stands.
 fn ends(alloc: Global, crowd: &[Xeid]) -> Result<Vec<LoopEnd>, Fail> {
-    let servers: ListServers = served(alloc, LONE_ROOT)?;
-    let mut resolver: ListResolver = rooted(alloc, &[ROOT], 1)?;
-    let mut clock = StandingClock { at: moment(0)? };
-    Ok(loop_turns(
-        &mut Loopback::new(alloc, 0),
-        &mut clock,
-        &Tree {
-            me: ME,
-            sockets: &[locator(ROOT)?],
-            servers: &servers,
-        },
-        &mut resolver,
-        crowd,
-        20_000,
-    )?)
+    let servers = served(alloc, LONE_ROOT)?;
+    let mut resolver = rooted(alloc, &[ROOT], 1)?;
+    ends_over(alloc, &servers, &mut resolver, crowd)
+}
+
+/// The same over these servers, by this resolver.
+fn ends_over(
+    alloc: Global,
+    servers: &ListServers,
+    resolver: &mut ListResolver,
+    crowd: &[Xeid],
+) -> Result<Vec<LoopEnd>, Fail> {
+    let (at, root) = (moment(0)?, locator(ROOT)?);
+    let tree = Tree {
+        me: ME,
+        sockets: &[root],
+        servers,
+    };
+    let (mut wires, mut clock) = (Loopback::new(alloc, 0), StandingClock { at });
+    Ok(loop_turns(&mut wires, &mut clock, &tree, resolver, crowd, 20_000)?)
 }
 
 /// All are told the hole of everything.
@@ -48,16 +54,22 @@ fn are_holes(rt: &impl Abort, ends: &[LoopEnd]) -> Result<(), Fail> {
         prefix: prefix("*")?,
     };
     for end in ends {
-        assert_eq!(rt; *end, LoopEnd::Answer(hole));
+        same(rt, end, &LoopEnd::Answer(hole), &"an identifier");
     }
     Ok(())
 }
 
+/// The last alone is refused, and all others are told the hole.
+fn is_last_refused(rt: &impl Abort, ends: &[LoopEnd]) -> Result<(), Fail> {
+    let (last, others) = ends.split_last().ok_or("no end")?;
+    same(rt, &others.len(), &MOST_PENDING, &"the others");
+    same(rt, last, &LoopEnd::Refused(AskError::TooMany), &"the last");
+    are_holes(rt, others)
+}
+
 #[test]
 fn one_identifier_too_many_is_refused_alone(rt: HostRuntime) -> Result<(), Fail> {
-    let ends = ends(rt.alloc(), &crowd(rt.alloc())?)?;
-    let (last, others) = ends.split_last().ok_or("no end")?;
-    assert_eq!(rt; others.len(), MOST_PENDING);
-    assert_eq!(rt; *last, LoopEnd::Refused(AskError::TooMany));
-    are_holes(&rt, others)
+    let crowd = crowd(rt.alloc())?;
+    let ends = ends(rt.alloc(), &crowd)?;
+    is_last_refused(&rt, &ends)
 }

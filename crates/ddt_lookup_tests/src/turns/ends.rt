@@ -1,8 +1,8 @@
 //! What a lookup over wires ends in, as a text.
 
-use crate::texts::{judge_number, judge_text, outcome_text};
+use crate::texts::{judge_number, judge_text, outcome_text, worded};
 use ddt_loop::LoopEnd;
-use ddt_resolver::{AskError, Why};
+use ddt_resolver::AskError;
 use std::alloc::Global;
 use std::process::Abort;
 use std::test::Fail;
@@ -12,19 +12,11 @@ use std::test::Fail;
 fn end_text(alloc: Global, end: &LoopEnd) -> Result<String, Fail> {
     match end {
         LoopEnd::Answer(outcome) => outcome_text(alloc, outcome),
-        LoopEnd::GaveUp(why) => gave_up_text(alloc, *why),
+        LoopEnd::GaveUp(why) => worded(alloc, "gave up", why),
         LoopEnd::Refused(AskError::Memory) => Err("out of memory".into()),
-        LoopEnd::Refused(error) => refused_text(alloc, *error),
-        LoopEnd::Unresolved => Ok(format!(in alloc; "unresolved")?),
+        LoopEnd::Refused(error) => worded(alloc, "refused", error),
+        LoopEnd::Unresolved => Ok(String::from_str(alloc, "unresolved")?),
     }
-}
-
-fn gave_up_text(alloc: Global, why: Why) -> Result<String, Fail> {
-    Ok(format!(in alloc; "gave up {why}")?)
-}
-
-fn refused_text(alloc: Global, error: AskError) -> Result<String, Fail> {
-    Ok(format!(in alloc; "refused {error}")?)
 }
 
 /// Judges the end of a lookup by its text.

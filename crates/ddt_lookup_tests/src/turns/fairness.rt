@@ -2,6 +2,7 @@
 //! register says there.
 
 use super::ends::judge_ends;
+use crate::comparison::same;
 use crate::texts::{identifier, locator};
 use crate::worlds::{ListResolver, ListServers, ME, ROOT, moment, rooted, served};
 use ddt_ecm::{CONTROL_PORT, read_request, write_request};
@@ -206,10 +207,21 @@ fn with_replies(
     replies: &[(&str, Reply)],
 ) -> Result<WiresInMemory, Fail> {
     let mut wires = WiresInMemory::new(alloc, 0);
-    for reply in replies {
-        wait(alloc, servers, &mut wires, reply)?;
-    }
+    wait_all(alloc, servers, &mut wires, replies)?;
     Ok(wires)
+}
+
+/// Lets replies wait for the resolver.
+fn wait_all(
+    alloc: Global,
+    servers: &mut ListServers,
+    wires: &mut WiresInMemory,
+    replies: &[(&str, Reply)],
+) -> Result<(), Fail> {
+    for reply in replies {
+        wait(alloc, servers, wires, reply)?;
+    }
+    Ok(())
 }
 
 /// How the lookup ends over these wires, at which no server is polled.
@@ -259,7 +271,7 @@ fn judge_calls(
         return Err("untold calls".into());
     };
     let fair = fair_replies(alloc, servers, ME, calls)?;
-    assert_eq!(rt; fair, case.fair, "{}", case.says);
+    same(rt, &fair, &case.fair, &case.says);
     Ok(())
 }
 
@@ -267,8 +279,19 @@ fn judge_calls(
 fn judge(rt: &impl Abort, alloc: Global, case: &Case) -> Result<(), Fail> {
     let mut servers = served(alloc, CAMPUS)?;
     let mut wires = with_replies(alloc, &mut servers, case.replies)?;
-    judge_end(rt, alloc, &mut wires, &mut servers, case)?;
-    judge_calls(rt, alloc, &wires, &mut servers, case)
+    judge_over(rt, alloc, &mut wires, &mut servers, case)
+}
+
+/// Judges a run over these wires and its calls.
+fn judge_over(
+    rt: &impl Abort,
+    alloc: Global,
+    wires: &mut WiresInMemory,
+    servers: &mut ListServers,
+    case: &Case,
+) -> Result<(), Fail> {
+    judge_end(rt, alloc, wires, servers, case)?;
+    judge_calls(rt, alloc, wires, servers, case)
 }
 
 #[test]

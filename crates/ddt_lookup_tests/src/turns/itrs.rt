@@ -1,5 +1,6 @@
 //! A resolver that runs for ITRs, whose caller makes the turns: who waits, and whose lookup ends at a tick.
 
+use crate::comparison::{holds, same};
 use crate::worlds::{ME, ROOT, moment, rooted};
 use ddt_cache::Entry;
 use ddt_examples::bytes_of;
@@ -45,13 +46,22 @@ fn waited_for(
     wires: &mut WiresInMemory,
 ) -> Result<ListRunning, Fail> {
     let mut running = RunningResolver::new(alloc, rooted(alloc, &[ROOT], 1)?)?;
-    let came = take(alloc, &mut running, wires, 0, (ITR, ITR_PORT), ITR_REQUEST)?;
-    let whole = bytes_of(alloc, ITR_REQUEST)?.len();
-    assert!(rt;
-        matches!(came, Came::Waits { ticket: 1, len } if len == whole),
-        "{came:?}"
-    );
+    itr_waits(alloc, rt, &mut running, wires)?;
     Ok(running)
+}
+
+/// The worked ITR waits for the lookup of ticket 1.
+fn itr_waits(
+    alloc: Global,
+    rt: &impl Abort,
+    running: &mut ListRunning,
+    wires: &mut WiresInMemory,
+) -> Result<(), Fail> {
+    let whole = bytes_of(alloc, ITR_REQUEST)?.len();
+    let came = take(alloc, running, wires, 0, (ITR, ITR_PORT), ITR_REQUEST)?;
+    let waits = matches!(came, Came::Waits { ticket: 1, len } if len == whole);
+    holds(rt, waits, &came);
+    Ok(())
 }
 
 /// Moments, in milliseconds, and whether a tick then ends the lookup for want of a reply.
@@ -71,15 +81,24 @@ fn is_without_reply(ended: Option<Ended>) -> bool {
     }
 }
 
+fn ticks(
+    rt: &impl Abort,
+    running: &mut ListRunning,
+    wires: &mut WiresInMemory,
+) -> Result<(), Fail> {
+    for &(millis, ends) in TICKS {
+        let ended = running.tick(wires, ME, moment(millis)?);
+        same(rt, &is_without_reply(ended), &ends, &(millis, ended));
+    }
+    Ok(())
+}
+
 #[test]
 fn a_tick_tells_the_end_of_an_itrs_lookup_once(rt: HostRuntime) -> Result<(), Fail> {
     let alloc = rt.alloc();
     let mut wires = WiresInMemory::new(alloc, 0);
     let mut running = waited_for(alloc, &rt, &mut wires)?;
-    for &(millis, ends) in TICKS {
-        let ended = running.tick(&mut wires, ME, moment(millis)?);
-        assert_eq!(rt; is_without_reply(ended), ends, "{millis}: {ended:?}");
-    }
-    assert_eq!(rt; running.resolver().pending(), 0);
+    ticks(&rt, &mut running, &mut wires)?;
+    same(&rt, &running.resolver().pending(), &0, &"the lookups");
     Ok(())
 }

@@ -2,7 +2,8 @@
 
 use super::ends::judge_ends;
 use super::loopback::Loopback;
-use crate::texts::{identifier, identifiers, judge_number, locator, locators};
+use crate::comparison::holds;
+use crate::texts::{identifier, identifiers, judge_number, locator, locators, worded};
 use crate::worlds::{ListResolver, ListServers, ME, ROOT, moment, rooted, served};
 use ddt_ecm::{CONTROL_PORT, write_request};
 use ddt_examples::messages::{
@@ -431,7 +432,8 @@ impl World {
     /// Judges whether the ITR was sent this.
     fn judge_told(&self, rt: &impl Abort, says: &str, fields: &str) -> Result<(), Fail> {
         let bytes = bytes_of(self.alloc, fields)?;
-        assert!(rt; self.wires.went(ME, self.itr, ITR_PORT, &bytes), "{says}");
+        let went = self.wires.went(ME, self.itr, ITR_PORT, &bytes);
+        holds(rt, went, &says);
         Ok(())
     }
 
@@ -455,22 +457,32 @@ impl World {
         self.judge_counts(rt, says, before, run.counts)?;
         self.judge_itr(rt, says, run.itr)
     }
+
+    /// Makes the runs of a case and judges them.
+    fn judge_all(&mut self, rt: &impl Abort, case: &Case) -> Result<(), Fail> {
+        for run in case.runs {
+            self.judge(rt, case.says, run)?;
+        }
+        Ok(())
+    }
+
+    /// Judges the run whose call of this number fails.
+    fn judge_with_failure(&mut self, rt: &impl Abort, failing: u64) -> Result<(), Fail> {
+        let says = worded(self.alloc, "call", &failing)?;
+        self.judge(rt, &says, &WITH_A_FAILURE)
+    }
 }
 
 /// Makes the runs of a case and judges them.
 fn judge(rt: &impl Abort, alloc: Global, case: &Case) -> Result<(), Fail> {
     let mut world = World::new(alloc, case.nonce, case.failing)?;
-    for run in case.runs {
-        world.judge(rt, case.says, run)?;
-    }
-    Ok(())
+    world.judge_all(rt, case)
 }
 
 /// Judges the run whose call of this number fails.
 fn judge_with_failure(rt: &impl Abort, alloc: Global, failing: u64) -> Result<(), Fail> {
-    let says = format!(in alloc; "call {failing}")?;
     let mut world = World::new(alloc, 1, failing)?;
-    world.judge(rt, &says, &WITH_A_FAILURE)
+    world.judge_with_failure(rt, failing)
 }
 
 #[test]

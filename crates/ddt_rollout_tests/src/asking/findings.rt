@@ -231,23 +231,40 @@ fn manner(rate: u32) -> Manner {
     }
 }
 
-/// What is found of the questions for an identifier that are asked at a rate.
-fn found_at(
+/// What is found of the questions about an identifier of an accepted register, asked at a rate.
+fn found_of(
     alloc: Global,
     world: &mut World,
     register: &Accepted,
     rate: u32,
     x: Xeid,
 ) -> Result<Vec<Finding>, Fail> {
+    let (mut clock, mut nonces) = (clock()?, Pcg32::new(1, 2));
     let asker = Asker::new(alloc, manner(rate));
-    let mut nonces = Pcg32::new(1, 2);
-    Ok(asker.ask(world, &mut clock()?, &mut nonces, register, x)?)
+    Ok(asker.ask(world, &mut clock, &mut nonces, register, x)?)
+}
+
+/// The same of the register of a text.
+fn found_at(
+    alloc: Global,
+    world: &mut World,
+    register: &str,
+    rate: u32,
+    x: Xeid,
+) -> Result<Vec<Finding>, Fail> {
+    let register = accepted(alloc, register)?;
+    found_of(alloc, world, &register, rate, x)
 }
 
 /// Asks the questions of a case, and judges what is found and how many datagrams were sent.
 fn judge(rt: &impl Abort, alloc: Global, case: &Case) -> Result<(), Fail> {
     let mut world = World::new(alloc, case.register, CAMPUS_GROWN, case.odd, case.way)?;
-    judge_found(rt, alloc, case, &mut world)?;
+    judge_in(rt, alloc, case, &mut world)
+}
+
+/// The same in a new world.
+fn judge_in(rt: &impl Abort, alloc: Global, case: &Case, world: &mut World) -> Result<(), Fail> {
+    judge_found(rt, alloc, case, world)?;
     same(rt, &world.sent, &case.sent, &case.says);
     Ok(())
 }
@@ -255,7 +272,7 @@ fn judge(rt: &impl Abort, alloc: Global, case: &Case) -> Result<(), Fail> {
 /// Judges what is found in a world: its lines and their counts.
 fn judge_found(rt: &impl Abort, alloc: Global, case: &Case, world: &mut World) -> Result<(), Fail> {
     let x = parse_xeid(case.identifier.as_bytes())?;
-    let findings = found_at(alloc, world, &accepted(alloc, case.register)?, 0, x)?;
+    let findings = found_at(alloc, world, case.register, 0, x)?;
     judge_lines(rt, alloc, case, x, findings.as_slice())
 }
 
@@ -270,12 +287,16 @@ fn judge_lines(
     same(rt, &findings.len(), &case.lines.len(), &case.says);
     let mut counts = FindingCounts::default();
     for (finding, line) in findings.iter().zip(case.lines.iter()) {
-        let found = String::from_utf8(finding_line(alloc, x, finding)?)?;
-        same(rt, &found.as_str(), line, &case.says);
+        judge_text(rt, finding_line(alloc, x, finding)?, line, case.says)?;
         counts.count(&finding.verdict);
     }
-    let told = String::from_utf8(counts.line(alloc)?)?;
-    same(rt, &told.as_str(), &case.counts, &case.says);
+    judge_text(rt, counts.line(alloc)?, case.counts, case.says)
+}
+
+/// Judges a line, of a case that says this.
+fn judge_text(rt: &impl Abort, line: Vec<u8>, wanted: &str, says: &str) -> Result<(), Fail> {
+    let line = String::from_utf8(line)?;
+    same(rt, &line.as_str(), &wanted, &says);
     Ok(())
 }
 
@@ -287,12 +308,33 @@ fn replies_are_compared(rt: HostRuntime) -> Result<(), Fail> {
     Ok(())
 }
 
-/// How many polls the questions for an identifier of the campus take at a rate.
-fn polled(alloc: Global, rate: u32) -> Result<u64, Fail> {
+/// The campus, where each server is honest.
+fn honest(alloc: Global) -> Result<World, Fail> {
+    World::new(alloc, CAMPUS, CAMPUS, "127.0.0.1", Way::Honestly)
+}
+
+/// What is found of the questions for an identifier of the campus at a rate.
+fn found_of_campus(alloc: Global, world: &mut World, rate: u32) -> Result<Vec<Finding>, Fail> {
     let x = parse_xeid(b"[0]11.0.0.1")?;
-    let mut world = World::new(alloc, CAMPUS, CAMPUS, "127.0.0.1", Way::Honestly)?;
-    let _findings = found_at(alloc, &mut world, &accepted(alloc, CAMPUS)?, rate, x)?;
-    Ok(world.polled)
+    found_at(alloc, world, CAMPUS, rate, x)
+}
+
+/// Judges how many polls these questions take.
+fn judge_polls(
+    rt: &impl Abort,
+    alloc: Global,
+    world: &mut World,
+    rate: u32,
+    polls: u64,
+) -> Result<(), Fail> {
+    let _findings = found_of_campus(alloc, world, rate)?;
+    same(rt, &world.polled, &polls, &rate);
+    Ok(())
+}
+
+fn judge_rate(rt: &impl Abort, alloc: Global, rate: u32, polls: u64) -> Result<(), Fail> {
+    let mut world = honest(alloc)?;
+    judge_polls(rt, alloc, &mut world, rate, polls)
 }
 
 /// Rates, and how many polls there are. A pause of 10 milliseconds begins at its first poll, and ends at the tenth
@@ -302,27 +344,31 @@ const POLLED: &[(u32, u64)] = &[(0, 1), (100, 12), (2000, 1)];
 #[test]
 fn a_rate_makes_a_pause_behind_each_question(rt: HostRuntime) -> Result<(), Fail> {
     for &(rate, polls) in POLLED {
-        same(&rt, &polled(rt.alloc(), rate)?, &polls, &rate);
+        judge_rate(&rt, rt.alloc(), rate, polls)?;
     }
+    Ok(())
+}
+
+/// Whether all of these agree.
+fn all_agree(findings: &[Finding]) -> bool {
+    let mut counts = FindingCounts::default();
+    for finding in findings {
+        counts.count(&finding.verdict);
+    }
+    counts.all_agree()
+}
+
+/// Judges that all servers agree, with two datagrams sent and one poll.
+fn judge_second_try(rt: &impl Abort, alloc: Global, world: &mut World) -> Result<(), Fail> {
+    let findings = found_of_campus(alloc, world, 0)?;
+    holds(rt, all_agree(findings.as_slice()), &"the counts");
+    same(rt, &(world.sent, world.polled), &(2, 1), &"sent and polled");
     Ok(())
 }
 
 #[test]
 fn a_request_that_cannot_be_sent_is_tried_again(rt: HostRuntime) -> Result<(), Fail> {
-    let x = parse_xeid(b"[0]11.0.0.1")?;
-    let mut world = World::new(rt.alloc(), CAMPUS, CAMPUS, "127.0.0.1", Way::Honestly)?;
+    let mut world = honest(rt.alloc())?;
     world.failing = 1;
-    let findings = found_at(rt.alloc(), &mut world, &accepted(rt.alloc(), CAMPUS)?, 0, x)?;
-    let mut counts = FindingCounts::default();
-    for finding in findings.iter() {
-        counts.count(&finding.verdict);
-    }
-    holds(&rt, counts.all_agree(), &"the counts");
-    same(
-        &rt,
-        &(world.sent, world.polled),
-        &(2, 1),
-        &"sent and polled",
-    );
-    Ok(())
+    judge_second_try(&rt, rt.alloc(), &mut world)
 }

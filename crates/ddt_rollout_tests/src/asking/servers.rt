@@ -86,11 +86,12 @@ impl World {
         odd: &str,
         way: Way,
     ) -> Result<World, Fail> {
+        let odd = (locator(odd)?, way);
         Ok(World {
             alloc,
             servers: servers_of(alloc, register)?,
             others: servers_of(alloc, other)?,
-            odd: (locator(odd)?, way),
+            odd,
             coming: Vec::new(alloc),
             sent: 0,
             polled: 0,

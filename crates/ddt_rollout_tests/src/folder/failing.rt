@@ -1,14 +1,10 @@
 //! A folder that fails at each of its calls in turn: each file is the old one or the new one, and once more publishes
-//! all. And what is told where memory is refused.
-//!
-//! `.ci/memory` runs the last of these tests with each growth refused in turn.
+//! all.
 
-use crate::comparison::{holds, same};
+use crate::comparison::holds;
 use crate::folder::registers::{accepted, config, published};
-use ddt_check::check;
 use ddt_examples::registers::{CAMPUS, CAMPUS_GROWN};
 use ddt_folder::{FileName, FolderInMemory, MemoryFault, PublishFault, publish};
-use ddt_register::read_register;
 use std::alloc::Global;
 use std::process::Abort;
 use std::test::Fail;
@@ -97,28 +93,5 @@ fn no_call_is_left_behind_the_last(rt: HostRuntime) -> Result<(), Fail> {
     let mut folder = campus(rt.alloc(), &rt);
     folder.fail_behind(Some(CALLS));
     published(rt.alloc(), &rt, CAMPUS_GROWN, false, &mut folder);
-    Ok(())
-}
-
-#[test]
-fn a_refusal_of_memory_is_told_and_touches_nothing(rt: HostRuntime) -> Result<(), Fail> {
-    let alloc = rt.alloc();
-    let Ok(register) = read_register(alloc, CAMPUS.as_bytes()) else {
-        return Ok(());
-    };
-    let Ok(register) = check(register) else {
-        return Ok(());
-    };
-    let mut folder = FolderInMemory::new(alloc);
-    match publish(alloc, &register, CAMPUS.as_bytes(), false, &mut folder) {
-        Ok(_plan) => same(&rt, &folder.touches(), &5, &"the touches"),
-        Err(PublishFault::Memory) => same(&rt, &folder.touches(), &0, &"the touches"),
-        Err(PublishFault::Failed { fault, .. }) => same(
-            &rt,
-            &fault,
-            &MemoryFault::Full,
-            &"the fault",
-        ),
-    }
     Ok(())
 }

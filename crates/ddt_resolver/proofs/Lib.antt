@@ -5,3 +5,4 @@ pub mod BoundLemmas
 pub mod ReplyLemmas
 pub mod FrontLemmas
 mod StepLemmas
+pub mod WideLemmas

@@ -28,7 +28,7 @@ told_once bytes n m rec told a b =
 module _ (s : State) (o : IsStateInOrder s) (source : Locator) (bytes : List ℕ) (t : ℕ) (l : Pending) (rec : ReferralRecord)
     (here : get s.pending t ≡ Some l) (tells : TellsReply bytes l.nonce rec) where
   -- what they reply to is this lookup
-  this_one : (u : ℕ) (m : Pending) (told : ReferralRecord) → IsReplyTo s bytes u m told → (u ≡ t) × (m ≡ l) × (told ≡ rec)
+  pub this_one : (u : ℕ) (m : Pending) (told : ReferralRecord) → IsReplyTo s bytes u m told → (u ≡ t) × (m ≡ l) × (told ≡ rec)
   this_one u m told reply =
       let e = told_once bytes m.nonce l.nonce told rec reply.tells tells in
       let same : u ≡ t = o.nonces u t m l reply.is_pending here e.0 in

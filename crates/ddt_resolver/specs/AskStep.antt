@@ -6,6 +6,9 @@ use Rattle.ddt_path.specs.declared.record.Outcome.{Outcome}
 use Rattle.ddt_path.specs.Path.{xeid_path}
 use Rattle.ddt_cache.specs.declared.entry.Entry.{Entry}
 use Rattle.ddt_cache.specs.Found.{IsFound}
+use Rattle.ddt_path.specs.declared.locator.Locator.{Locator}
+use Rattle.ddt_resolver.specs.declared.results.Beginning.{Beginning}
+use Rattle.ddt_resolver.specs.declared.results.Beginning.TheVariants.{Answer as BeginsAnswered, Servers as BeginsAt}
 use Rattle.ddt_resolver.specs.declared.results.Asked.{Asked}
 use Rattle.ddt_resolver.specs.declared.results.Asked.TheVariants.{Answer, Sent}
 use Rattle.ddt_resolver.specs.declared.results.AskError.{AskError}
@@ -16,6 +19,18 @@ use Rattle.ddt_resolver.specs.Records.{negative_answer, start_at}
 -- what an entry answers by itself
 abbrev pub answer_of : List ℕ → Entry → Option Outcome
 answer_of p e = negative_answer e.action p e.servers
+
+-- what an ask begins with where an entry is found: its answer, or the servers that a lookup would ask
+abbrev pub begins_with : Option Outcome → List Locator → Beginning
+begins_with (Some o) servers = BeginsAnswered o
+begins_with None servers = BeginsAt servers
+
+abbrev pub beginning_at : List ℕ → Entry → Beginning
+beginning_at p e = begins_with (answer_of p e) e.servers
+
+-- no answer to an identifier is remembered
+abbrev pub IsUnanswered : State → Xeid → Type 0
+IsUnanswered s x = (p : List ℕ) (e : Entry) → IsFound s.known (xeid_path x) p e → answer_of p e ≡ None
 
 -- no answer is remembered, fewer than 1,024 lookups are pending, and a nonce is left
 pub record IsFree (s : State) (p : List ℕ) (e : Entry) : Type 0 where

@@ -1,6 +1,7 @@
 pub mod State
 pub mod Records
 pub mod AskStep
+pub mod Within
 pub mod TakeUp
 pub mod Act
 pub mod TickStep

@@ -1,4 +1,5 @@
--- The resolver's step on a tick: the lookup that waits longest, of those whose deadline has come, goes on or ends.
+-- The resolver's step on a tick: the lookup that waits longest, of those whose deadline has come, goes on or ends. And
+-- its step where a lookup is hastened: the lookup whose last request has this nonce does.
 use Rattle.std.specs.Prelude.{ℕ, ◌≡◌, ◌+◌, ◌<◌, ◌≤◌, ◌⊎◌, true, false, length, None, Some}
 use Rattle.std.specs.FinMap.{get}
 use Rattle.ddt_path.specs.declared.record.ReferralRecord.{ReferralRecord}
@@ -7,6 +8,7 @@ use Rattle.ddt_resolver.specs.declared.pending.Pending.{Pending}
 use Rattle.ddt_resolver.specs.declared.results.Why.TheVariants.{NoReply, Exhausted}
 use Rattle.ddt_resolver.specs.declared.results.Ticked.{Ticked}
 use Rattle.ddt_resolver.specs.declared.results.Ticked.TheVariants.{Nothing, Sent, Answer, GaveUp}
+use Rattle.ddt_resolver.specs.Table.{IsUnknown}
 use Rattle.ddt_resolver.specs.State.{State, last_nonce, lodged, dropped, request, tried_again, at_next}
 
 -- a pending lookup whose deadline has come, of these the one whose last request has the least nonce
@@ -19,9 +21,10 @@ pub record IsDue (s : State) (t : ℕ) (l : Pending) : Type 0 where
 abbrev pub HasTry : Pending → Type 0
 HasTry l = (l.second ≡ false) ⊎ (l.place + 1 < length l.servers)
 
--- The five cases. `again`: the same server gets a second request. `next_place`: after the second the next server gets a
--- first. `answered`: no server is left, and one of the set has said that the site isn't registered. `no_reply`: none
--- has. `used_up`: it has another try, but no nonce is left. Nothing is saved.
+-- How a pending lookup goes on or ends without a reply. The five cases. `again`: the same server gets a second request.
+-- `next_place`: after the second the next server gets a first. `answered`: no server is left, and one of the set has
+-- said that the site isn't registered. `no_reply`: none has. `used_up`: it has another try, but no nonce is left. Nothing
+-- is saved.
 pub data GoOn (s : State) (t : ℕ) (l : Pending) (new : State) (ticked : Ticked) : Type 0 where
   again : l.second ≡ false → s.next < last_nonce
       → new ≡ lodged s t (tried_again l) → ticked ≡ Sent t (request s (tried_again l)) → GoOn s t l new ticked
@@ -40,10 +43,26 @@ pub data TickStep (s : State) (new : State) (ticked : Ticked) : Type 0 where
       → new ≡ s → ticked ≡ Nothing → TickStep s new ticked
   due : (t : ℕ) (l : Pending) → IsDue s t l → GoOn s t l new ticked → TickStep s new ticked
 
+-- The step where the lookup whose last request has this nonce is hastened. `unknown`: no pending lookup has the nonce.
+-- `hastened`: its lookup goes on or ends just as one that is due, whether its deadline has come or not.
+pub data HastenStep (s : State) (nonce : ℕ) (new : State) (ticked : Ticked) : Type 0 where
+  unknown : IsUnknown s.pending nonce → new ≡ s → ticked ≡ Nothing → HastenStep s nonce new ticked
+  hastened : (t : ℕ) (l : Pending) → get s.pending t ≡ Some l → l.nonce ≡ nonce → GoOn s t l new ticked
+      → HastenStep s nonce new ticked
+
 -- the step would send a request, and so wants memory
 pub record TickWants (s : State) : Type 0 where
   pub ticket : ℕ
   pub lookup : Pending
   pub is_due : IsDue s ticket lookup
+  pub has_try : HasTry lookup
+  pub nonce : s.next < last_nonce
+
+-- so would the step where the lookup of this nonce is hastened
+pub record HastenWants (s : State) (named : ℕ) : Type 0 where
+  pub ticket : ℕ
+  pub lookup : Pending
+  pub is_pending : get s.pending ticket ≡ Some lookup
+  pub its_nonce : lookup.nonce ≡ named
   pub has_try : HasTry lookup
   pub nonce : s.next < last_nonce

@@ -5,13 +5,13 @@ ghost use Rattle.ddt_path.specs.Path.{xeid_path, is_path};
 ghost use Rattle.ddt_cache.specs.Found.{IsFound};
 ghost use Rattle.ddt_resolver.specs.State.{moved};
 ghost use Rattle.ddt_resolver.specs.Records.{start_at as start_at_of};
-ghost use Rattle.ddt_resolver.specs.AskStep.{answer_of as answer_of_entry, AskStep, AskWants, UnlessAskLacksMemory, OnMemory};
+ghost use Rattle.ddt_resolver.specs.AskStep.{answer_of as answer_of_entry, beginning_at, AskStep, AskWants, UnlessAskLacksMemory, OnMemory};
 ghost use Rattle.ddt_resolver.specs.Bound.{StartsWithin};
 
 use crate::limits::MOST_PENDING;
 use crate::pending::Pending;
 use crate::resolver::Resolver;
-use crate::results::{AskError, Asked, Ticket};
+use crate::results::{AskError, Asked, Beginning, Ticket};
 use ddt_cache::{Entry, Moment};
 use ddt_path::{Action, Outcome, Prefix, Xeid};
 use ddt_trie::PrefixMap;
@@ -34,6 +34,21 @@ impl<M: PrefixMap<Entry>> Resolver<M> {
         self.advance(now);
         self.in_order();
         self.start(x)
+    }
+
+    /// What an ask for an identifier would begin with at `now`: the answer of a negative record that is remembered, or
+    /// the servers of the longest match. Nothing changes but the time.
+    pub fn beginning(&mut self, now: Moment, x: Xeid) -> Beginning
+        ensures begins { (p : _) × (e : _) × IsFound (moved now self.old).known (xeid_path x) p e
+            × (result ≡ beginning_at p e) }
+        ensures time { self.new ≡ moved now self.old }
+    {
+        self.advance(now);
+        let (prefix, entry) = self.find(x);
+        match answer_of(prefix, &entry) {
+            Some(outcome) => Beginning::Answer(outcome),
+            None => Beginning::Servers(entry.servers),
+        }
     }
 
     /// The longest match of an identifier at its time.

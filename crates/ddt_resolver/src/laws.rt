@@ -1,10 +1,11 @@
 //! What follows of a resolver's steps, each law the contract of a function that does nothing.
 
-ghost use Rattle.ddt_resolver.specs.laws.Statements.{OrderIsKept, TimeKeepsOrder, UsableIsTaken, TicketsAreNew};
+ghost use Rattle.ddt_resolver.specs.laws.Statements.{OrderIsKept, HasteningKeepsOrder, TimeKeepsOrder, UsableIsTaken, TicketsAreNew};
 
-/// Each step keeps what holds of a resolver at all times, and so does the time that goes on.
+/// Each step keeps what holds of a resolver at all times. So does a lookup that is hastened, and the time that goes on.
 pub fn order_is_kept()
     ensures step { OrderIsKept }
+    ensures hastening { HasteningKeepsOrder }
     ensures time { TimeKeepsOrder }
 {}
 

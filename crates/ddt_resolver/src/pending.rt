@@ -32,6 +32,7 @@ impl Pending {
     ghost use Rattle.std.specs.Prelude.{◌≡◌, ◌<◌, ◌+◌, ◌≤◌, get_or, length, true, false, None, Some};
     ghost use Rattle.ddt_path.specs.declared.locator.Locator.{Locator as ALocator};
     ghost use Rattle.ddt_path.specs.Locators.{most_locators};
+    ghost use Rattle.ddt_resolver.specs.Within.{asked_within as asked_within_of};
     ghost use Rattle.ddt_resolver.specs.State.{opening as opening_of, referred as referred_of, passed_on as passed_on_of, tried_again as tried_again_of, at_next as at_next_of};
 
     /// A new lookup, at the first server of a set; it starts at a remembered entry of this prefix, or at the root.
@@ -58,6 +59,16 @@ impl Pending {
         ensures { (d : ALocator) → result ≡ get_or self.now.servers self.now.place d }
     {
         self.servers.as_slice()[self.place]
+    }
+
+    /// The prefix by which it asks its server; None for the root.
+    pub(crate) fn asked_within(&self) -> Option<Prefix>
+        ensures { result ≡ asked_within_of self.now }
+    {
+        match self.saved {
+            Some(prefix) => Some(prefix),
+            None => self.start,
+        }
     }
 
     /// It once it follows a referral.

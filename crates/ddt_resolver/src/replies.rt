@@ -1,6 +1,8 @@
 //! Which datagrams are taken as a reply: six tests in order, which change nothing.
 
-ghost use Rattle.std.specs.Prelude.{◌≡◌, ◌<◌, IsTrue, false, IfOk, IfErr, length};
+ghost use Rattle.std.specs.Prelude.{◌≡◌, ◌<◌, ℕ, IsTrue, false, IfOk, IfErr, OnErr, length};
+ghost use Rattle.ddt_path.specs.declared.record.ReferralRecord.{ReferralRecord as RecordValue};
+ghost use Rattle.ddt_resolver.specs.declared.pending.Pending.{Pending as APending};
 ghost use Rattle.ddt_path.specs.Path.{xeid_path};
 ghost use Rattle.ddt_path.specs.declared.locator.Locator.{Locator as ALocator};
 ghost use Rattle.ddt_path.specs.Actions.{IsReferral};
@@ -29,9 +31,11 @@ pub struct Taken {
 
 impl<M: PrefixMap<Entry>> Resolver<M> {
     /// The lookup whose last request the bytes answer by its nonce. Refused as 1 Undecodable, then as 2 UnknownNonce.
-    fn reply(&self, bytes: &[u8]) -> Result<Taken, Ignored>
+    pub(crate) fn reply(&self, bytes: &[u8]) -> Result<Taken, Ignored>
         ensures found { IfOk result (λ r. IsReplyTo self.now bytes.now r.ticket r.lookup r.told) }
         ensures refused { (source : ALocator) → IfErr result (λ why. Ignores self.now source bytes.now why) }
+        ensures none { OnErr result ((t : ℕ) (l : APending) (rec : RecordValue)
+            → IsReplyTo self.now bytes.now t l rec → ⊥) }
     {
         let referral = match read_referral(bytes) {
             Ok(referral) => referral,
@@ -75,7 +79,7 @@ impl<M: PrefixMap<Entry>> Resolver<M> {
 }
 
 /// Whether a source is the server that a lookup asked.
-fn is_asked(lookup: &Pending, source: Locator) -> bool
+pub(crate) fn is_asked(lookup: &Pending, source: Locator) -> bool
     requires { lookup.now.place < length lookup.now.servers }
     ensures yes { (me : ALocator) → IsTrue result → source ≡ server_of me lookup.now }
     ensures no { (me : ALocator) → result ≡ false → source ≡ server_of me lookup.now → ⊥ }
@@ -95,7 +99,7 @@ fn is_referral(action: Action) -> bool
 }
 
 /// Whether a record is about an identifier: its prefix covers it, or the server isn't in charge of it.
-fn is_about(told: &ReferralRecord, x: Xeid) -> bool
+pub(crate) fn is_about(told: &ReferralRecord, x: Xeid) -> bool
     ensures yes { IsTrue result → IsAbout told.now (xeid_path x) }
     ensures no { result ≡ false → IsAbout told.now (xeid_path x) → ⊥ }
 {

@@ -1,6 +1,6 @@
 //! What a resolver answers to an ask, to a datagram and to a tick, and what it sends.
 
-use ddt_path::{Listed, Locator, Outcome};
+use ddt_path::{Listed, Locator, LocatorSet, Outcome};
 use std::marker::Model;
 use thiserror::Error;
 
@@ -47,6 +47,15 @@ pub struct Outgoing {
     pub port: u16,
     /// An Encapsulated Map-Request to a server, or a negative Map-Reply to an ITR.
     pub bytes: Listed<u8>,
+}
+
+/// What an ask would begin with.
+#[derive(Clone, Copy, Debug)]
+pub enum Beginning {
+    /// The answer that a negative record gives, which is remembered.
+    Answer(Outcome),
+    /// The servers that a lookup would ask.
+    Servers(LocatorSet),
 }
 
 /// What an ask is answered.
@@ -98,7 +107,7 @@ pub enum Ignored {
 /// Why a lookup ends without an answer.
 #[derive(Clone, Copy, Debug, PartialEq, Eq, Error)]
 pub enum Why {
-    /// Each server of the current set was asked twice, and no usable reply came in time.
+    /// Each server of the current set was asked twice, and no usable reply came in time, or before it was hastened.
     #[error("1 NoReply")]
     NoReply,
     /// A referral isn't to a longer prefix than the referral before it.
@@ -125,10 +134,10 @@ pub enum Heard {
     GaveUp(Ticket, Why),
 }
 
-/// What comes of a tick.
+/// What comes of a tick, or of a lookup that is hastened.
 #[derive(Debug, Drop)]
 pub enum Ticked {
-    /// No pending lookup's deadline has come.
+    /// No pending lookup's deadline has come; or none has the nonce that is hastened.
     Nothing,
     /// A lookup goes on with this request.
     Sent(Ticket, Outgoing),

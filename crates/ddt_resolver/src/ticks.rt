@@ -1,13 +1,14 @@
-//! A tick: of the lookups whose deadline has come, the one that waits longest goes on or ends.
+//! A tick: of the lookups whose deadline has come, the one that waits longest goes on or ends. And a lookup that is
+//! hastened goes on or ends at once.
 
 ghost use Rattle.std.specs.Prelude.{◌≡◌, ◌<◌, ℕ, Some, IfSome, IfNone, IfOk, OnErr};
 ghost use Rattle.std.specs.FinMap as map;
 ghost use Rattle.ddt_resolver.specs.declared.pending.Pending.{Pending as APending};
 ghost use Rattle.ddt_resolver.specs.State.{moved, last_nonce};
-ghost use Rattle.ddt_resolver.specs.TickStep.{IsDue, GoOn, TickStep, TickWants};
+ghost use Rattle.ddt_resolver.specs.TickStep.{IsDue, HasTry, GoOn, TickStep, TickWants, HastenStep, HastenWants};
 ghost use Rattle.ddt_resolver.specs.Acting.{TriesOn};
 ghost use Rattle.ddt_resolver.specs.Order.{IsLookup};
-ghost use Rattle.ddt_resolver.specs.Table.{HasNonce};
+ghost use Rattle.ddt_resolver.specs.Table.{HasNonce, IsUnknown};
 
 use crate::pending::Pending;
 use crate::requests::Change;
@@ -34,6 +35,43 @@ impl<M: PrefixMap<Entry>> Resolver<M> {
         self.take_due()
     }
 
+    /// Lets the time go on to `now`. The pending lookup whose last request has this nonce goes on or ends at once, as by
+    /// a tick that finds it due, whether its deadline has come or not: the same server gets a second request, then the
+    /// next server a first; where none is left it ends. Replies to its earlier requests are then ignored as
+    /// 2 UnknownNonce. Nothing where no pending lookup has the nonce.
+    ///
+    /// It fails only if out of memory, where a request is to be sent; then nothing changes but the time.
+    pub fn hasten(&mut self, now: Moment, nonce: u64) -> Result<Ticked, AllocError>
+        ensures step { IfOk result (λ ticked. HastenStep (moved now self.old) nonce self.new ticked) }
+        ensures unchanged { OnErr result (self.new ≡ moved now self.old) }
+        ensures wanted { OnErr result (HastenWants (moved now self.old) nonce) }
+    {
+        self.advance(now);
+        self.hasten_now(nonce)
+    }
+
+    /// The same at its time.
+    fn hasten_now(&mut self, nonce: u64) -> Result<Ticked, AllocError>
+        ensures step { IfOk result (λ ticked. HastenStep self.old nonce self.new ticked) }
+        ensures unchanged { OnErr result (self.new ≡ self.old) }
+        ensures wanted { OnErr result (HastenWants self.old nonce) }
+    {
+        match self.lookup_with(nonce) {
+            Some((ticket, lookup)) => self.go_on(ticket, &lookup),
+            None => Ok(Ticked::Nothing),
+        }
+    }
+
+    /// The pending lookup whose last request has this nonce, with the number of its ticket; None where no pending
+    /// lookup has it.
+    pub fn lookup_with(&self, nonce: u64) -> Option<(u64, Pending)>
+        ensures found { IfSome result (λ found. map.get self.now.pending found.0 ≡ Some found.1) }
+        ensures nonce { IfSome result (λ found. found.1.nonce ≡ nonce) }
+        ensures none { IfNone result (IsUnknown self.now.pending nonce) }
+    {
+        self.table.with_nonce(nonce)
+    }
+
     /// The tick at its time.
     fn take_due(&mut self) -> Result<Ticked, AllocError>
         ensures step { IfOk result (λ ticked. TickStep self.old self.new ticked) }
@@ -56,12 +94,13 @@ impl<M: PrefixMap<Entry>> Resolver<M> {
         self.table.due(time)
     }
 
-    /// The lookup that is due goes on or ends.
+    /// A pending lookup goes on or ends without a reply.
     fn go_on(&mut self, ticket: u64, lookup: &Pending) -> Result<Ticked, AllocError>
-        requires { IsDue self.old ticket lookup.now }
+        requires { map.get self.old.pending ticket ≡ Some lookup.now }
         ensures on { IfOk result (λ ticked. GoOn self.old ticket lookup.now self.new ticked) }
         ensures unchanged { OnErr result (self.new ≡ self.old) }
-        ensures wanted { OnErr result (TickWants self.old) }
+        ensures has_try { OnErr result (HasTry lookup.now) }
+        ensures nonce { OnErr result (self.old.next < last_nonce) }
     {
         self.in_order();
         if !lookup.second {

@@ -15,3 +15,6 @@ pub mod StatementLemmas
 pub mod SinceLemmas
 pub mod InForceLemmas
 pub mod ReplacedLemmas
+pub mod InsideLemmas
+pub mod StartLemmas
+pub mod CutLemmas

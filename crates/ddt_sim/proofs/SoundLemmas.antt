@@ -34,14 +34,13 @@ use Rattle.ddt_cache.specs.laws.Live.{live_at-is}
 use Rattle.ddt_resolver.specs.declared.pending.Pending.{Pending}
 use Rattle.ddt_path.specs.Actions.{IsReferral}
 use Rattle.ddt_resolver.specs.Records.{IsBelow, outcome_at, outcome_of, negative_answer, start_at}
-use Rattle.ddt_resolver.specs.State.{State, moved, server, numbered, lodged, dropped, stored, opening, referred, passed_on, tried_again, at_next}
+use Rattle.ddt_resolver.specs.State.{State, moved, server, lodged, dropped, stored, opening, referred, passed_on, tried_again, at_next}
 use Rattle.ddt_resolver.specs.AskStep.{AskStep, Start, cached, full, used_up, opened, answer_of}
 use Rattle.ddt_resolver.specs.Act as acts
 use Rattle.ddt_resolver.specs.Act.{Act, HearStep}
 use Rattle.ddt_resolver.specs.TickStep as ticks
-use Rattle.ddt_resolver.specs.TickStep.{GoOn, TickStep}
+use Rattle.ddt_resolver.specs.TickStep.{GoOn, TickStep, HastenStep}
 use Rattle.ddt_resolver.specs.Step as steps
-use Rattle.ddt_resolver.specs.declared.step.Reply.{Reply}
 use Rattle.ddt_resolver.specs.Step.{ResolverCall, Step, Hear}
 use Rattle.ddt_resolver.specs.Order.{IsStateInOrder}
 use Rattle.ddt_resolver.specs.laws.NumberMap.{found_insert, found_remove}
@@ -248,3 +247,7 @@ module _ (r : Register) (laws : KeepsLaws r) (s : State) (o : IsStateInOrder s) 
       rw (e, f) (acted t l from.reply.is_pending new heard (subst (λ v. Act s t l v new heard) honest act))
   sound_step call new reply fair (steps.ticks ticked (ticks.nothing none same is) e f) = rw (e, f, same, is) (i, tt)
   sound_step call new reply fair (steps.ticks ticked (ticks.due t l due on) e f) = rw (e, f) (went_on t l due.is_pending new ticked on)
+
+  pub sound_hastened : (nonce : ℕ) (new : State) (ticked : _) → HastenStep s nonce new ticked → IsSound r new × IsRightTicked r s ticked
+  sound_hastened nonce new ticked (ticks.unknown none e f) = rw (e, f) (i, tt)
+  sound_hastened nonce new ticked (ticks.hastened t l here its on) = went_on t l here new ticked on

@@ -38,7 +38,7 @@ use Rattle.ddt_path.specs.laws.Cover.{length-covered}
 use Rattle.ddt_wire.specs.Referral.{message_in}
 use Rattle.ddt_wire.specs.laws.Statements.{MessagesAreRead}
 use Rattle.ddt_resolver.specs.Bound.{room}
-use Rattle.ddt_sim.specs.Passes.{in_front, told_in_front, passes_of, HasShortPasses, PassesAreShort, PassGoesOn, same_pass, second_pass, PassesGoOn}
+use Rattle.ddt_sim.specs.Passes.{in_front, told_in_front, passes_of, HasShortPasses, PassesAreShort, PassGoesOn, same_pass, second_pass, PassesGoOn, HastePassesGoOn}
 use Rattle.std.specs.FinMap.{get, insert, remove}
 use Rattle.std.proofs.lemmas.Option.{same_Some}
 use Rattle.ddt_resolver.specs.AskStep as ask
@@ -275,3 +275,7 @@ passes_go_on s call new reply o (hears source bytes h (acts.taken u k rec taken 
     acted s o t l here new m found u k taken.in_time.from_server.reply.is_pending rec h does
 passes_go_on s call new reply o (ticks_on h (ticks.nothing none e f) called to) t l m here found = unchanged s o t l here new m found e
 passes_go_on s call new reply o (ticks_on h (ticks.due u k due on) called to) t l m here found = went_on s o t l here new m found u k due.is_pending h on
+
+pub haste_passes_go_on : HastePassesGoOn
+haste_passes_go_on s nonce new h o (ticks.unknown none e f) t l m here found = unchanged s o t l here new m found e
+haste_passes_go_on s nonce new h o (ticks.hastened u k there its on) t l m here found = went_on s o t l here new m found u k there h on

@@ -5,6 +5,7 @@ pub mod Honest
 pub mod Lookup
 pub mod Reply
 pub mod Sound
+pub mod Inside
 pub mod Trail
 pub mod Passes
 pub mod Waiting

@@ -9,10 +9,12 @@ use Rattle.ddt_path.specs.Path.{xeid_path}
 use Rattle.ddt_wire.specs.declared.fault.ReferralFault.{ReferralFault}
 use Rattle.ddt_wire.specs.Referral.{Message, message_in}
 use Rattle.ddt_resolver.specs.declared.results.Outgoing.{Outgoing}
+use Rattle.ddt_resolver.specs.declared.results.Ticked.{Ticked}
 use Rattle.ddt_resolver.specs.declared.pending.Pending.{Pending}
 use Rattle.ddt_resolver.specs.Records.{IsBelow}
 use Rattle.ddt_resolver.specs.State.{State}
 use Rattle.ddt_resolver.specs.declared.step.Reply.{Reply}
+use Rattle.ddt_resolver.specs.TickStep.{HastenStep}
 use Rattle.ddt_resolver.specs.Step.{ResolverCall, Step}
 use Rattle.ddt_resolver.specs.Order.{IsStateInOrder}
 use Rattle.ddt_sim.specs.declared.hop.Hop.{Hop}
@@ -52,6 +54,12 @@ pub data PassGoesOn (l new : Pending) : Type 0 where
 abbrev pub PassesGoOn : Type 0
 PassesGoOn =
     (s : State) (call : ResolverCall) (new : State) (reply : Reply) → IsStateInOrder s → Step s call new reply
+    → (t : ℕ) (l m : Pending) → get s.pending t ≡ Some l → get new.pending t ≡ Some m → PassGoesOn l m
+
+-- And so it is where a lookup is hastened.
+abbrev pub HastePassesGoOn : Type 0
+HastePassesGoOn =
+    (s : State) (nonce : ℕ) (new : State) (ticked : Ticked) → IsStateInOrder s → HastenStep s nonce new ticked
     → (t : ℕ) (l m : Pending) → get s.pending t ≡ Some l → get new.pending t ≡ Some m → PassGoesOn l m
 
 -- However far a lookup has come, also one that fails, its passes are short, whatever the servers say.

@@ -35,6 +35,7 @@ use Rattle.ddt_resolver.specs.declared.step.Reply.{Reply}
 use Rattle.ddt_resolver.specs.declared.step.Reply.TheVariants.{ToAsk, ToDatagram, ToTick}
 use Rattle.ddt_resolver.specs.Step.{ResolverCall, Ask, Hear, Tick, Step}
 use Rattle.ddt_resolver.specs.TakeUp.{IsTaken}
+use Rattle.ddt_resolver.specs.TickStep.{HastenStep}
 
 -- What makes an entry true. `delegates`: a referral to a zone, with the zone's kind and the locators of its group.
 -- `registers`: an MS-ACK of a site, with the locators of the group of the site's zone. `denies`: a negative entry says
@@ -125,6 +126,12 @@ abbrev pub StepsKeepSoundness : Type 0
 StepsKeepSoundness =
     (r : Register) (s : State) (call : ResolverCall) (new : State) (reply : Reply)
     → IsAccepted r → IsStateInOrder s → IsSound r s → IsFair r s call → Step s call new reply → IsSound r new × IsRight r s call reply
+
+-- So does a lookup that is hastened, whether its deadline has come or not, and what comes of it is right.
+abbrev pub HasteningKeepsSoundness : Type 0
+HasteningKeepsSoundness =
+    (r : Register) (s : State) (nonce : ℕ) (new : State) (ticked : Ticked)
+    → IsAccepted r → IsStateInOrder s → IsSound r s → HastenStep s nonce new ticked → IsSound r new × IsRightTicked r s ticked
 
 -- so does the passing of time
 abbrev pub TimeKeepsSoundness : Type 0

@@ -1,10 +1,11 @@
 //! Laws of a resolver over honest servers: each function here is a law of the definitions, and does nothing.
 
-ghost use Rattle.ddt_sim.specs.Sound.{NewResolversAreSound, StepsKeepSoundness, TimeKeepsSoundness, CancellingKeepsSoundness};
+ghost use Rattle.ddt_sim.specs.Sound.{NewResolversAreSound, StepsKeepSoundness, HasteningKeepsSoundness, TimeKeepsSoundness, CancellingKeepsSoundness};
 ghost use Rattle.ddt_sim.specs.Reply.{RequestsAreUnderstood};
 ghost use Rattle.ddt_sim.specs.RunLaws.{LawsOfRuns};
 ghost use Rattle.ddt_sim.specs.Trail.{HonestTrailsAreShort};
-ghost use Rattle.ddt_sim.specs.Passes.{PassesAreShort, PassesGoOn};
+ghost use Rattle.ddt_sim.specs.Inside.{HonestRepliesAreInside, CutNegativesHold, NewStartsAreTrue, StepsKeepStarts, TimeKeepsStarts, HasteningKeepsStarts, CancellingKeepsStarts};
+ghost use Rattle.ddt_sim.specs.Passes.{PassesAreShort, PassesGoOn, HastePassesGoOn};
 
 use ddt_check::{
     each_identifier_has_a_zone, honest_servers_lead_to_the_assignment,
@@ -12,12 +13,13 @@ use ddt_check::{
 };
 
 /// A new resolver with the root's locators of a register is sound for it. One that is sound for an accepted register
-/// stays sound: by each step whose datagram, if it has one, is what the register says there; as time passes; and where
-/// a lookup is cancelled. What a step answers is the assignment, and a lookup ends without an answer only for want of a
-/// reply or of nonces.
+/// stays sound: by each step whose datagram, if it has one, is what the register says there; where a lookup is hastened;
+/// as time passes; and where a lookup is cancelled. What a step answers is the assignment, and so is what a hastened
+/// lookup ends with. A lookup ends without an answer only for want of a reply or of nonces.
 pub fn a_step_keeps_a_resolver_sound()
     ensures new { NewResolversAreSound }
     ensures steps { StepsKeepSoundness }
+    ensures hastening { HasteningKeepsSoundness }
     ensures time { TimeKeepsSoundness }
     ensures cancelling { CancellingKeepsSoundness }
 {
@@ -55,10 +57,11 @@ pub(crate) fn honest_trails_are_short()
     negatives_hold_of_all_that_they_cover();
 }
 
-/// Whatever a resolver is told: a lookup that stays pending in a step stays in its pass, with its saved prefix or a
-/// longer one, or its second pass begins. No third one does (RFC 8111, section 7.3).
+/// Whatever a resolver is told: a lookup that stays pending in a step, or where one is hastened, stays in its pass, with
+/// its saved prefix or a longer one, or its second pass begins. No third one does (RFC 8111, section 7.3).
 pub fn a_lookup_has_two_passes()
-    ensures { PassesGoOn }
+    ensures steps { PassesGoOn }
+    ensures hastening { HastePassesGoOn }
 {}
 
 /// Whatever the servers of a lookup say, it has at most two passes. The second starts at the root, where a server that
@@ -66,4 +69,26 @@ pub fn a_lookup_has_two_passes()
 /// identifier has digits, since each referral has a longer prefix than the one before.
 pub(crate) fn passes_are_short()
     ensures { PassesAreShort }
+{}
+
+/// What an honest server of one register says of a lookup's identifier lies inside the zone by which the lookup asked it,
+/// so no reply of such a server is cut. Where registers replace each other one may be: a negative record of a register
+/// in force that is cut to a zone holds for each identifier of the zone.
+pub fn honest_replies_are_inside()
+    ensures inside { HonestRepliesAreInside }
+    ensures negatives { CutNegativesHold }
+{
+    each_identifier_has_a_zone();
+    honest_servers_lead_to_the_assignment();
+    negatives_hold_of_all_that_they_cover();
+}
+
+/// The remembered entry at which a pending lookup started is true in a new resolver, which has none. It stays so by each
+/// step of a sound one, where a lookup is hastened or cancelled, and as time passes.
+pub fn a_step_keeps_starts_true()
+    ensures new { NewStartsAreTrue }
+    ensures steps { StepsKeepStarts }
+    ensures time { TimeKeepsStarts }
+    ensures hastening { HasteningKeepsStarts }
+    ensures cancelling { CancellingKeepsStarts }
 {}

@@ -15,7 +15,10 @@ mod servers;
 
 pub use compiled::Compiled;
 pub use hop::{Hop, Lookup, LookupError};
-pub use laws::{a_lookup_has_two_passes, a_step_keeps_a_resolver_sound};
+pub use laws::{
+    a_lookup_has_two_passes, a_step_keeps_a_resolver_sound, a_step_keeps_starts_true,
+    honest_replies_are_inside,
+};
 pub use one_lookup::lookup;
 pub use schedule::{Datagram, Event, Step, Transcript};
 pub use schedule_run::run;

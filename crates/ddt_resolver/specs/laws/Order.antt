@@ -5,14 +5,16 @@ use Rattle.ddt_cache.specs.Moment.{last_moment}
 use Rattle.ddt_cache.specs.InOrder.{IsCacheInOrder as IsKnownInOrder}
 use Rattle.ddt_cache.specs.laws.Order.{moved_in_order}
 use Rattle.ddt_resolver.specs.declared.pending.Pending.{Pending}
-use Rattle.ddt_resolver.specs.State.{State, last_nonce, most_pending, numbered, moved, dropped}
+use Rattle.ddt_resolver.specs.State.{State, last_nonce, most_pending, numbered, moved, lodged, dropped, tried_again, at_next}
+use Rattle.ddt_resolver.specs.declared.results.Ticked.{Ticked}
 use Rattle.ddt_resolver.specs.declared.step.Reply.{Reply}
+use Rattle.ddt_resolver.specs.TickStep.{GoOn, again, next_place, answered, no_reply, used_up, HastenStep, unknown, hastened}
 use Rattle.ddt_resolver.specs.Step.{ResolverCall, Step}
 use Rattle.ddt_resolver.specs.Order.{IsLookup, IsWaiting, IsStateInOrder}
 use Rattle.ddt_resolver.specs.laws.NumberMap.{found_insert, found_remove, len_replaced}
 use Rattle.std.specs.Cmp.{nat_cmp_total}
 use Rattle.ddt_path.specs.laws.MapSize.{len_inserted, len_removed}
-use Rattle.ddt_resolver.specs.laws.Shape.{Move, stays, opens, sends, drops, IsMoved, moved_by_step}
+use Rattle.ddt_resolver.specs.laws.Shape.{Move, stays, opens, sends, drops, IsMoved, moved_by_step, again_lookup, next_lookup}
 
 -- nonces apart
 abbrev pub Apart : FinMap nat_cmp Pending → Type 0
@@ -107,3 +109,24 @@ order_moved s now fits o = order_fewer s o (moved now s) (omega arith) refl (mov
 -- and so does the removal of a lookup
 pub order_dropped : (s : State) (t : ℕ) → IsStateInOrder s → IsStateInOrder (dropped s t)
 order_dropped s t o = order_fewer s o (dropped s t) (omega arith) refl o.known refl (len_removed nat_cmp_total s.pending t) (λ u l found. (found_remove s.pending t u l found).1)
+
+-- and so does a lookup that is hastened
+pub order_hastened : (s : State) (nonce : ℕ) (new : State) (ticked : Ticked) → IsStateInOrder s → HastenStep s nonce new ticked → IsStateInOrder new
+order_hastened s nonce new ticked o (unknown none e f) = rw e o
+order_hastened s nonce new ticked o (hastened t l here its on) = by on
+  where
+    sent : (m : Pending) → IsLookup m → s.next < last_nonce → new ≡ lodged s t m → IsStateInOrder new
+    sent m is more e =
+        let w : IsWaiting s t l = o.lookups t l here in
+        rw e (order_placed s o (lodged s t m) (omega arith) refl o.known t m is (omega (arith, w.ticket, w.nonce)) more
+        (rw (len_replaced s.pending t (numbered s m) l here) o.few) refl refl)
+
+    gone : new ≡ dropped s t → IsStateInOrder new
+    gone e = rw e (order_dropped s t o)
+
+    by : GoOn s t l new ticked → IsStateInOrder new
+    by (again first more e f) = sent (tried_again l) (again_lookup s o t l here) more e
+    by (next_place second room more e f) = sent (at_next l) (next_lookup s o t l here room) more e
+    by (answered rec second last kept e f) = gone e
+    by (no_reply second last none e f) = gone e
+    by (used_up has none e f) = gone e

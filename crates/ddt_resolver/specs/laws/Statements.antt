@@ -7,10 +7,12 @@ use Rattle.ddt_path.specs.Path.{xeid_path}
 use Rattle.ddt_cache.specs.Moment.{last_moment}
 use Rattle.ddt_resolver.specs.declared.pending.Pending.{Pending}
 use Rattle.ddt_resolver.specs.declared.results.Heard.{Heard}
+use Rattle.ddt_resolver.specs.declared.results.Ticked.{Ticked}
 use Rattle.ddt_resolver.specs.State.{State, moved, server}
 use Rattle.ddt_resolver.specs.Records.{IsAbout, NamesServer}
 use Rattle.ddt_resolver.specs.TakeUp.{TellsReply}
 use Rattle.ddt_resolver.specs.Act.{Act, HearStep}
+use Rattle.ddt_resolver.specs.TickStep.{HastenStep}
 use Rattle.ddt_resolver.specs.declared.step.Reply.{Reply}
 use Rattle.ddt_resolver.specs.Step.{ResolverCall, Step}
 use Rattle.ddt_resolver.specs.Order.{IsStateInOrder}
@@ -18,6 +20,11 @@ use Rattle.ddt_resolver.specs.Order.{IsStateInOrder}
 -- each step of a resolver keeps what holds of it at all times
 abbrev pub OrderIsKept : Type 0
 OrderIsKept = (s : State) (call : ResolverCall) (new : State) (reply : Reply) → IsStateInOrder s → Step s call new reply
+    → IsStateInOrder new
+
+-- and so does a lookup that is hastened
+abbrev pub HasteningKeepsOrder : Type 0
+HasteningKeepsOrder = (s : State) (nonce : ℕ) (new : State) (ticked : Ticked) → IsStateInOrder s → HastenStep s nonce new ticked
     → IsStateInOrder new
 
 -- What holds of a resolver at all times holds still once its time has moved on, to any moment up to the last one.

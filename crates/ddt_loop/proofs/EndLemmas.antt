@@ -9,7 +9,9 @@ use Rattle.ddt_resolver.specs.declared.step.Progress.TheVariants.{Stays, Sends, 
 use Rattle.ddt_loop.specs.declared.owner.Asker.TheVariants.{Identifier, Itr}
 use Rattle.ddt_loop.specs.Askers.{owner_of, with_owner, TakesOff, nobody, somebody}
 use Rattle.ddt_loop.specs.Acts.{Running, Asks, answered, refused, lacks_memory}
-use Rattle.ddt_loop.specs.Ends.{waiting_itrs, ended_of, HasEnded, HasEndedBy}
+use Rattle.ddt_loop.specs.Ends.{waiting_itrs, ended_of, HasEnded, HasEndedBy, HasEndedByHaste}
+use Rattle.ddt_resolver.specs.TickStep.{HastenStep}
+use Rattle.ddt_resolver.specs.declared.step.Reply.TheVariants.{ToTick}
 use Rattle.ddt_loop.specs.Coming.{IsCame, came_to_wait, came_to_end}
 
 -- ---- who waits
@@ -38,6 +40,18 @@ pub ends_by : {call s new reply : _} (owners after p r : _) → Step s call new 
 ends_by owners after Stays r step is h = rw (h.1, h.0)
 ends_by owners after (Sends t d) r step is h = rw (h.1, h.0)
 ends_by owners after (Ends t end) r step is h = by_taken r h.taken step is h.takes h.is
+
+hasted_taken : {nonce s new owners after ticked t end : _} (r taken : _) → HastenStep s nonce new ticked → progress_of (ToTick ticked) ≡ Ends t end
+    → TakesOff t owners after taken → r ≡ ended_of t end taken → HasEndedByHaste nonce s new owners after r
+hasted_taken r None step is takes e = rw e (same_itrs takes (λ q f. cc f))
+hasted_taken r (Some (Identifier place)) step is takes e = rw e (same_itrs takes (λ q f. cc f))
+hasted_taken r (Some (Itr q)) step is takes e = rw e (record { ticked = _; step = step; ends = is; request = q; takes = takes })
+
+pub ends_by_haste : {nonce s new ticked : _} (owners after p r : _) → HastenStep s nonce new ticked → progress_of (ToTick ticked) ≡ p
+    → HasEnded p owners after r → HasEndedByHaste nonce s new owners after r
+ends_by_haste owners after Stays r step is h = rw (h.1, h.0)
+ends_by_haste owners after (Sends t d) r step is h = rw (h.1, h.0)
+ends_by_haste owners after (Ends t end) r step is h = hasted_taken r h.taken step is h.takes h.is
 
 pub ends_came : (now from bytes : _) (w new : Running) (ended : _)
     → HasEndedBy (Hear from bytes) (moved now w.state) new.state w.desk.owners new.desk.owners ended → IsCame now from bytes w new (came_to_end from ended)

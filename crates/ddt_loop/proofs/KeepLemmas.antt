@@ -1,5 +1,5 @@
 -- What a running resolver keeps from act to act, where its calls are fair.
-use Rattle.std.proofs.Common.{◌≡◌, ℕ, ◌≤◌, inl, inr, List, [], ◌∷◌, ◌++◌, append-nil, Option, Some, None, Result, Ok, Err, refl, sym, ap, ◌∙◌, subst, arith}
+use Rattle.std.proofs.Common.{◌≡◌, ℕ, ◌≤◌, inl, inr, List, [], ◌∷◌, ◌++◌, append-nil, append_assoc, Option, Some, None, Result, Ok, Err, refl, sym, ap, ◌∙◌, subst, arith}
 use Rattle.std.specs.Prelude.{All, slice_get}
 use Rattle.std.specs.List.{AllZip}
 use Rattle.std.specs.FinMap.{get, insert}
@@ -30,7 +30,10 @@ use Rattle.ddt_resolver.specs.declared.step.Reply.TheVariants.{ToAsk, ToDatagram
 use Rattle.ddt_resolver.specs.Order.{IsStateInOrder}
 use Rattle.ddt_resolver.specs.laws.NumberMap.{found_insert, found_remove}
 use Rattle.ddt_resolver.specs.laws.Order.{order_after, order_moved}
-use Rattle.ddt_resolver.specs.laws.Shape.{Move, stays, opens, sends, drops, goes_sends, moved_by_step}
+use Rattle.ddt_resolver.specs.laws.Shape.{moved_by_step}
+use Rattle.ddt_resolver.specs.declared.step.Reply.{Reply}
+use Rattle.ddt_loop.proofs.ShapeLemmas as shape
+use Rattle.ddt_loop.proofs.ShapeLemmas.{Shape, of_move}
 use Rattle.ddt_sim.specs.Sound.{IsSound, IsFair as IsFairCall, IsRight, IsRightHeard, IsRightTicked, IsRightEnd as IsRightOutcome, IsRightWhy, StepsKeepSoundness, TimeKeepsSoundness}
 use Rattle.ddt_loop.specs.declared.owner.Asker.{Asker}
 use Rattle.ddt_loop.specs.declared.owner.Asker.TheVariants.{Identifier, Itr}
@@ -76,7 +79,7 @@ kept_with desk k owned waits ends =
 -- ---- what a reply tells
 
 -- an end that is right for whoever waits for it
-abbrev EndsRight : Register → State → ℕ → Result Outcome Why → Type 0
+abbrev pub EndsRight : Register → State → ℕ → Result Outcome Why → Type 0
 EndsRight r s t (Ok o) = IsRightOutcome r s t o
 EndsRight r s t (Err why) = IsRightWhy why
 
@@ -86,13 +89,13 @@ heard_right r s (heard_as.Followed u d) t end right is = absurd (cc is)
 heard_right r s (heard_as.Answer u o) t end right is = let e : end ≡ Ok o = cc is in let f : t ≡ u = cc is in rw (e, f) right
 heard_right r s (heard_as.GaveUp u why) t end right is = let e : end ≡ Err why = cc is in rw e right
 
-ticked_right : (r s h t end : _) → IsRightTicked r s h → progress_of (ToTick h) ≡ Ends t end → EndsRight r s t end
+pub ticked_right : (r s h t end : _) → IsRightTicked r s h → progress_of (ToTick h) ≡ Ends t end → EndsRight r s t end
 ticked_right r s ticked_as.Nothing t end right is = absurd (cc is)
 ticked_right r s (ticked_as.Sent u d) t end right is = absurd (cc is)
 ticked_right r s (ticked_as.Answer u o) t end right is = let e : end ≡ Ok o = cc is in let f : t ≡ u = cc is in rw (e, f) right
 ticked_right r s (ticked_as.GaveUp u why) t end right is = let e : end ≡ Err why = cc is in rw e right
 
-right_end : (r s call a t end : _) → IsRight r s call a → progress_of a ≡ Ends t end → EndsRight r s t end
+pub right_end : (r s call a t end : _) → IsRight r s call a → progress_of a ≡ Ends t end → EndsRight r s t end
 right_end r s call (ToAsk b) t end right is = absurd (ask_ends_none b t end is)
 right_end r s (Ask x) (ToDatagram h) t end right is = heard_right r s h t end right is
 right_end r s (Hear source bytes) (ToDatagram h) t end right is = heard_right r s h t end right is
@@ -113,6 +116,14 @@ pub record Grounds (r : Register) : Type 0 where
   pub time : TimeKeepsSoundness
   pub accepted : IsAccepted r
 
+-- what is kept by a step, or by a lookup that is hastened, and whether it ends a lookup rightly
+pub record IsAct (r : Register) (s new : State) (a : Reply) : Type 0 where
+  pub order : IsStateInOrder new
+  pub sound : IsSound r new
+  pub own : new.me ≡ s.me
+  pub right : (t : ℕ) (end : Result Outcome Why) → progress_of a ≡ Ends t end → EndsRight r s t end
+  pub shape : Shape s new a
+
 -- what is left to reply to once an ask is answered
 abbrev pub left_over : Result (Option Outcome) AskError → Asker → List ItrRequest
 left_over (Ok None) who = []
@@ -123,7 +134,8 @@ pub record IsAskKept (r : Register) (me : Locator) (ids : List Xeid) (calls : Li
     (answer : Result (Option Outcome) AskError) (tries : List Call) (new : Running) : Type 0 where
   pub kept : IsKept r me ids (calls ++ tries) new
   pub right : (o : Outcome) → answer ≡ Ok (Some o) → o ≡ assignment r (xeid_path x)
-  pub owes : Owes r me calls (itrs w.desk.owners ++ itr_of who) → Owes r me (calls ++ tries) (itrs new.desk.owners ++ left_over answer who)
+  pub owes : (extra : List ItrRequest) → Owes r me calls (itrs w.desk.owners ++ (itr_of who ++ extra))
+      → Owes r me (calls ++ tries) (itrs new.desk.owners ++ (left_over answer who ++ extra))
 
 module _ {r : Register} (g : Grounds r) {me ids calls w : _} (k : IsKept r me ids calls w) (now : ℕ) (le : now ≤ last_moment) where
   abbrev s : State
@@ -139,14 +151,18 @@ module _ {r : Register} (g : Grounds r) {me ids calls w : _} (k : IsKept r me id
       subst (IsKept r me ids calls) (ap (λ (s : State). running s w.desk) (sym state) ∙ ap (running new.state) (sym desk))
       (record { order = o; sound = sound; own = k.own; tried = k.tried; owned = moved_owners now k.owned; waits = k.waits; ends = k.ends })
 
-  module _ {call new a : _} (step : Step s call new a) (fair : IsFairCall r s call) (desk : Desk) (tries : List Call)
-      (goes : Proceeds me w.desk (progress_of a) tries desk) where
-    both : IsSound r new × IsRight r s call a
-    both = g.laws r s call new a g.accepted o (g.time r w.state now k.sound) fair step
+  pub by_step : {call new a : _} → Step s call new a → IsFairCall r s call → IsAct r s new a
+  by_step {call} {new} {a} step fair =
+      let both = g.laws r s call new a g.accepted o (g.time r w.state now k.sound) fair step in
+      let m = moved_by_step s o call new a step in record {
+        order = order_after s call new a o step;
+        sound = both.0;
+        own = m.me;
+        right = λ t end is. right_end r s call a t end both.1 is;
+        shape = of_move m.move;
+      }
 
-    move : Move s call new a
-    move = (moved_by_step s o call new a step).move
-
+  module _ {new a : _} (act : IsAct r s new a) (desk : Desk) (tries : List Call) (goes : Proceeds me w.desk (progress_of a) tries desk) where
     -- ---- what was tried
 
     sent_now : (l : Pending) (t : ℕ) → progress_of a ≡ Sends t (request s l) → WasSent me (request s l) tries
@@ -167,11 +183,10 @@ module _ {r : Register} (g : Grounds r) {me ids calls w : _} (k : IsKept r me id
           | inr e ↦ older t m e.1
         ]
 
-    tried : Move s call new a → (t : ℕ) (m : Pending) → get new.pending t ≡ Some m → WasAsked me (server me m) m.nonce m.x (calls ++ tries)
-    tried (stays p n q) t m here = older t m (rw p at here)
-    tried (opens l asked place first empty fresh is more few p n f) t m here = newer s.next l p (sent_now l s.next (rw f refl)) t m here
-    tried (sends u old l found x goes is more p n) t m here = newer u l p (sent_now l u (goes_sends s call a u old l goes)) t m here
-    tried (drops u l e found p n f why) t m here = older t m (found_remove s.pending u t m (rw p at here)).1
+    tried : Shape s new a → (t : ℕ) (m : Pending) → get new.pending t ≡ Some m → WasAsked me (server me m) m.nonce m.x (calls ++ tries)
+    tried (shape.stays p n q) t m here = older t m (rw p at here)
+    tried (shape.sends u l from p n f) t m here = newer u l p (sent_now l u f) t m here
+    tried (shape.drops u l e found p n f) t m here = older t m (found_remove s.pending u t m (rw p at here)).1
 
     -- ---- who waits
 
@@ -179,7 +194,7 @@ module _ {r : Register} (g : Grounds r) {me ids calls w : _} (k : IsKept r me id
     all_wait : (owners : List Owner) → NoneEnds a owners → All (WaitsFor ids s) owners → All (WaitsFor ids new) owners
     all_wait owners on waits i d lt =
         let here = waits i d lt in
-        elim (carried o move _ here.0 here.1) [
+        elim (carried o act.shape _ here.0 here.1) [
           | inl ended ↦ absurd (on i d lt ended.0 ended.1)
           | inr m ↦ (m.0, m.1, rw m.2 here.2)
         ]
@@ -197,81 +212,77 @@ module _ {r : Register} (g : Grounds r) {me ids calls w : _} (k : IsKept r me id
     ends_on : (p : _) → progress_of a ≡ p → Proceeds me w.desk p tries desk → AllZip (IsRightLoopEnd r) ids desk.ends
     ends_on Stays is g = rw g.1 k.ends
     ends_on (Sends t d) is g = rw g.1 k.ends
-    ends_on (Ends t end) is g = told_ends t end g.taken g.rest (right_end r s call a t end both.1 is) g.takes g.told
+    ends_on (Ends t end) is g = told_ends t end g.taken g.rest (act.right t end is) g.takes g.told
 
     pub kept_on : IsKept r me ids (calls ++ tries) (running new desk)
     kept_on =
         let left = who_is_left me w.desk a tries desk goes (WaitsFor ids s) k.owned.apart k.waits in
-        let owned = owners_go_on o move me w.desk tries desk (moved_owners now k.owned) goes in
-        let own = (moved_by_step s o call new a step).me ∙ k.own in
+        let owned = owners_go_on o act.shape me w.desk tries desk (moved_owners now k.owned) goes in
+        let own = act.own ∙ k.own in
         let waits = all_wait desk.owners left.1 left.2 in
         let ends = ends_on (progress_of a) refl goes in
-        record { order = order_after s call new a o step; sound = both.0; own = own; tried = tried move; owned = owned; waits = waits; ends = ends }
+        record { order = act.order; sound = act.sound; own = own; tried = tried act.shape; owned = owned; waits = waits; ends = ends }
 
     -- ---- at most one reply is tried
 
-    -- one is taken off the list and told
-    owes_taken : (before after : List Owner) (t : ℕ) (who : Asker) → WaitsFor ids s (owner_of t who) → (e : Result Outcome Why) → EndsRight r s t e
-        → IsAskerTold me e (Some who) (record w.desk { owners = before ++ after }) tries desk → Owes r me calls (itrs before ++ (itr_of who ++ itrs after))
-        → Owes r me (calls ++ tries) (itrs desk.owners)
-    owes_taken before after t (Identifier i) waits e right told owes = rw (told.0, append-nil, told.1, itrs_append before after) owes
-    owes_taken before after t (Itr q) waits (Ok out) right told owes =
-        rw (told.1, itrs_append before after)
-        (owes_told (itrs before) (itrs after) q out tries owes (right waits.0 waits.1 ∙ ap (λ y. assignment r (xeid_path y)) (sym waits.2)) told.0)
-    owes_taken before after t (Itr q) waits (Err why) right told owes =
-        rw (told.0, append-nil, told.1, itrs_append before after) (forgotten (itrs before) (itrs after) q owes)
+    module _ (extra : List ItrRequest) where
+      -- one is taken off the list and told
+      owes_taken : (before after : List Owner) (t : ℕ) (who : Asker) → WaitsFor ids s (owner_of t who) → (e : Result Outcome Why) → EndsRight r s t e
+          → IsAskerTold me e (Some who) (record w.desk { owners = before ++ after }) tries desk
+          → Owes r me calls (itrs before ++ (itr_of who ++ (itrs after ++ extra))) → Owes r me (calls ++ tries) (itrs desk.owners ++ extra)
+      owes_taken before after t (Identifier i) waits e right told owes = rw (told.0, append-nil, told.1, itrs_append before after, append_assoc) owes
+      owes_taken before after t (Itr q) waits (Ok out) right told owes =
+          rw (told.1, itrs_append before after, append_assoc)
+          (owes_told (itrs before) (itrs after ++ extra) q out tries owes (right waits.0 waits.1 ∙ ap (λ y. assignment r (xeid_path y)) (sym waits.2)) told.0)
+      owes_taken before after t (Itr q) waits (Err why) right told owes =
+          rw (told.0, append-nil, told.1, itrs_append before after, append_assoc) (forgotten (itrs before) (itrs after ++ extra) q owes)
 
-    owes_end : (t : ℕ) (end : Result Outcome Why) (rest : List Owner) (taken : Option Asker) → EndsRight r s t end → TakesOff t w.desk.owners rest taken
-        → IsAskerTold me end taken (record w.desk { owners = rest }) tries desk → Owes r me calls (itrs w.desk.owners)
-        → Owes r me (calls ++ tries) (itrs desk.owners)
-    owes_end t end rest taken right (nobody none e f) told owes = let is = rw (f, e) at told in rw (is.0, append-nil, is.1) owes
-    owes_end t end rest taken right (somebody before after who e f g) told owes =
-        owes_taken before after t who (of_taken (somebody before after who e f refl) (WaitsFor ids s) k.waits) end right (rw (g, f) at told)
-        (rw (e, itrs_append before (owner_of t who ∷ after)) at owes)
+      owes_end : (t : ℕ) (end : Result Outcome Why) (rest : List Owner) (taken : Option Asker) → EndsRight r s t end → TakesOff t w.desk.owners rest taken
+          → IsAskerTold me end taken (record w.desk { owners = rest }) tries desk → Owes r me calls (itrs w.desk.owners ++ extra)
+          → Owes r me (calls ++ tries) (itrs desk.owners ++ extra)
+      owes_end t end rest taken right (nobody none e f) told owes = let is = rw (f, e) at told in rw (is.0, append-nil, is.1) owes
+      owes_end t end rest taken right (somebody before after who e f g) told owes =
+          owes_taken before after t who (of_taken (somebody before after who e f refl) (WaitsFor ids s) k.waits) end right (rw (g, f) at told)
+          (rw (e, itrs_append before (owner_of t who ∷ after), append_assoc, append_assoc) at owes)
 
-    owes_sent : (l : Pending) (t : ℕ) → progress_of a ≡ Sends t (request s l) → Owes r me calls (itrs w.desk.owners)
-        → Owes r me (calls ++ tries) (itrs desk.owners)
-    owes_sent l t is owes =
-        let g = rw is at goes in rw g.1 (owes_request (request s l) tries s.next l.x owes (sent_now l t is) (ap (request_bytes s.next l.x) k.own))
-
-    pub owes_on : Owes r me calls (itrs w.desk.owners) → Owes r me (calls ++ tries) (itrs desk.owners)
-    owes_on owes = by move
-      where
-        by : Move s call new a → Owes r me (calls ++ tries) (itrs desk.owners)
-        by (stays p n q) = let g = rw q at goes in rw (g.0, append-nil, g.1) owes
-        by (opens l asked place first empty fresh is more few p n f) = owes_sent l s.next (rw f refl) owes
-        by (sends t old l here x goes is more p n) = owes_sent l t (goes_sends s call a t old l goes) owes
-        by (drops t l end here p n f why) =
-            let g = rw f at goes in owes_end t end g.rest g.taken (right_end r s call a t end both.1 f) g.takes g.told owes
+      pub owes_on : Owes r me calls (itrs w.desk.owners ++ extra) → Owes r me (calls ++ tries) (itrs desk.owners ++ extra)
+      owes_on owes = by act.shape
+        where
+          by : Shape s new a → Owes r me (calls ++ tries) (itrs desk.owners ++ extra)
+          by (shape.stays p n q) = let g = rw q at goes in rw (g.0, append-nil, g.1) owes
+          by (shape.sends t l from p n f) =
+              let g = rw f at goes in
+              rw g.1 (owes_request (request s l) tries s.next l.x owes (sent_now l t f) (ap (request_bytes s.next l.x) k.own))
+          by (shape.drops t l end here p n f) = let g = rw f at goes in owes_end t end g.rest g.taken (act.right t end f) g.takes g.told owes
 
   -- ---- an ask
 
   pub kept_ask : {x who answer tries new : _} → AsksFor ids who x → Asks me now x who w answer tries new → IsAskKept r me ids calls w x who answer tries new
-  kept_ask {tries = tries} {new = new} wants (answered (asked_as.Answer out) step starts is) = record {
-    kept = kept_on step tt new.desk tries starts;
-    right = λ o e. let same : o ≡ out = cc (e, is) in same ∙ (both step tt new.desk tries starts).1;
-    owes = λ owes. rw (is, starts.0, append-nil calls, starts.1) owes;
+  kept_ask {x} {tries = tries} {new = new} wants (answered (asked_as.Answer out) step starts is) = record {
+    kept = kept_on (by_step step tt) new.desk tries starts;
+    right = λ o e. let same : o ≡ out = cc (e, is) in same ∙ (g.laws r s (Ask x) new.state _ g.accepted (order_moved w.state now le k.order) (g.time r w.state now k.sound) tt step).1;
+    owes = λ extra owes. rw (is, starts.0, append-nil calls, starts.1) owes;
   }
   kept_ask {x} {who} {tries = tries} {new = new} wants (answered (asked_as.Sent t d) step starts is) =
-      let m = kept_on step tt w.desk tries (starts.0, refl) in
-      let l = started (move step tt w.desk tries (starts.0, refl)) in
+      let m = kept_on (by_step step tt) w.desk tries (starts.0, refl) in
+      let l = started (moved_by_step s o (Ask x) new.state _ step).move in
       let same : x ≡ l.0.x = cc l.1 in
       record {
         kept = kept_with new.desk m (owners_start s o step me who w.desk tries new.desk (moved_owners now k.owned) starts)
             (rw starts.1 (All-push (WaitsFor ids new.state) w.desk.owners (owner_of t who) m.waits (numbered s l.0, l.4, rw same at wants)))
             (rw starts.1 k.ends);
         right = λ o e. absurd (cc (e, is));
-        owes = λ owes. rw (is, append-nil (itrs new.desk.owners), starts.1, itrs_push w.desk.owners (owner_of t who))
+        owes = λ extra owes. rw (is, starts.1, itrs_push w.desk.owners (owner_of t who), append_assoc)
             (owes_request d tries s.next l.0.x owes (was_sent me d tries starts.0)
             (ap (λ (z : Outgoing). z.bytes) l.3 ∙ ap (request_bytes s.next l.0.x) k.own));
       }
   kept_ask {tries = tries} {new = new} wants (refused why step desk none is) = record {
-    kept = kept_on step tt new.desk tries (none, desk);
+    kept = kept_on (by_step step tt) new.desk tries (none, desk);
     right = λ o e. absurd (cc (e, is));
-    owes = λ owes. rw (is, none, append-nil calls, desk) owes;
+    owes = λ extra owes. rw (is, none, append-nil calls, desk) owes;
   }
   kept_ask {tries = tries} {new = new} wants (lacks_memory memory state desk none is) = record {
     kept = kept_more tries (kept_moved new state desk);
     right = λ o e. absurd (cc (e, is));
-    owes = λ owes. rw (is, none, append-nil calls, desk) owes;
+    owes = λ extra owes. rw (is, none, append-nil calls, desk) owes;
   }

@@ -1,4 +1,5 @@
 pub mod OwnerLemmas
+pub mod ShapeLemmas
 pub mod PendingLemmas
 pub mod ActLemmas
 pub mod LoopLemmas
@@ -8,4 +9,5 @@ pub mod RightLemmas
 pub mod PollLemmas
 pub mod WholeLemmas
 pub mod EndLemmas
+pub mod SharerLemmas
 pub mod RunLemmas

@@ -23,21 +23,27 @@ use Rattle.ddt_loop.specs.declared.owner.Asker.TheVariants.{Identifier, Itr}
 use Rattle.ddt_loop.specs.declared.owner.Owner.{Owner}
 use Rattle.ddt_loop.specs.Askers.{Desk, owner_of, with_owner, AreApart, AreOwners}
 use Rattle.ddt_loop.specs.Acts.{Starts, HasRoomFor, Proceeds, IsAskerTold}
+use Rattle.ddt_loop.proofs.ShapeLemmas as shape
+use Rattle.ddt_loop.proofs.ShapeLemmas.{Shape, of_move}
 use Rattle.ddt_loop.proofs.OwnerLemmas.{of_left, apart_push, few_owners, get_insert_other, get_remove_other, some_of}
 
 -- a lookup that is pending has ended, or is pending still, for the same identifier
-pub carried : {s call new a : _} → IsStateInOrder s → Move s call new a → (u : ℕ) (l : Pending) → get s.pending u ≡ Some l
+pub carried : {s new a : _} → IsStateInOrder s → Shape s new a → (u : ℕ) (l : Pending) → get s.pending u ≡ Some l
     → ((end : Result Outcome Why) × (progress_of a ≡ Ends u end))
     ⊎ ((m : Pending) × (get new.pending u ≡ Some m) × (m.x ≡ l.x))
-carried o (stays p n q) u l here = inr (l, rw p here, refl)
-carried {s} o (opens k asked place first empty fresh is more few p n f) u l here =
-    let w = o.lookups u l here in
-    inr (l, rw (p, get_insert_other s.pending s.next u (λ same. absurd (omega (arith, same, w.ticket, w.nonce))) (numbered s k)) here, refl)
-carried {s} o (sends t old k found x goes is more p n) u l here = elim (cases_eq u t) [
-  | inl same ↦ inr (numbered s k, rw (p, same) (get-insert_same s.pending t (numbered s k)), cc (x, found, here, same))
+carried o (shape.stays p n q) u l here = inr (l, rw p here, refl)
+carried {s} o (shape.sends t k from p n q) u l here = elim (cases_eq u t) [
+  | inl same ↦ inr (
+    numbered s k,
+    rw (p, same) (get-insert_same s.pending t (numbered s k)),
+    elim from [
+      | inl found ↦ cc (found.2, found.1, here, same)
+      | inr fresh ↦ let w = o.lookups u l here in absurd (omega (arith, same, fresh, w.ticket, w.nonce))
+    ],
+  )
   | inr other ↦ inr (l, rw (p, get_insert_other s.pending t u other (numbered s k)) here, refl)
 ]
-carried {s} o (drops t k e found p n f why) u l here = elim (cases_eq u t) [
+carried {s} o (shape.drops t k e found p n f) u l here = elim (cases_eq u t) [
   | inl same ↦ inl (e, rw same f)
   | inr other ↦ inr (l, rw (p, get_remove_other s.pending t u other) here, refl)
 ]
@@ -46,7 +52,7 @@ carried {s} o (drops t k e found p n f why) u l here = elim (cases_eq u t) [
 abbrev pub NoneEnds : Reply → List Owner → Type 0
 NoneEnds a owners = All (λ p. (end : Result Outcome Why) → progress_of a ≡ Ends p.ticket end → ⊥) owners
 
-wait_on : {s call new a : _} → IsStateInOrder s → Move s call new a → (owners : List Owner) → NoneEnds a owners
+wait_on : {s new a : _} → IsStateInOrder s → Shape s new a → (owners : List Owner) → NoneEnds a owners
     → All (λ p. IsSome (get s.pending p.ticket)) owners → All (λ p. IsSome (get new.pending p.ticket)) owners
 wait_on o m owners on there k d lt =
     let found = some_of _ (there k d lt) in
@@ -73,7 +79,7 @@ who_is_left me d a calls after goes P apart all = by (progress_of a) refl goes
         let left = of_left g.takes P apart all in
         rw (told_owners me end g.taken _ calls after g.told) (left.0, λ i e lt end2 f. left.1 i e lt (cc (is, f)), left.2)
 
-pub owners_go_on : {s call new a : _} → IsStateInOrder s → Move s call new a → (me : _) (d : Desk) (calls : _) (after : Desk) → AreOwners s d.owners
+pub owners_go_on : {s new a : _} → IsStateInOrder s → Shape s new a → (me : _) (d : Desk) (calls : _) (after : Desk) → AreOwners s d.owners
     → Proceeds me d (progress_of a) calls after → AreOwners new after.owners
 owners_go_on {s} {a = a} o m me d calls after owned goes =
     let left = who_is_left me d a calls after goes (λ p. IsSome (get s.pending p.ticket)) owned.apart owned.pending in
@@ -108,7 +114,7 @@ module _ (s : State) (o : IsStateInOrder s) {x new a : _} (step : Step s (Ask x)
   move = (moved_by_step s o (Ask x) new (ToAsk (Ok a)) step).move
 
   wait_still : (owners : List Owner) → AreOwners s owners → All (λ p. IsSome (get new.pending p.ticket)) owners
-  wait_still owners owned = wait_on o move owners (λ k p lt end. ask_ends_none (Ok a) _ end) owned.pending
+  wait_still owners owned = wait_on o (of_move move) owners (λ k p lt end. ask_ends_none (Ok a) _ end) owned.pending
 
   older : (t : ℕ) → IsSome (get s.pending t) → t ≡ s.next → ⊥
   older t some same =

@@ -85,7 +85,7 @@ module _ {unread read before after servers old me sockets ids turns ends new : _
       ]
 
   module _ (laws : StepsKeepSoundness) (time : TimeKeepsSoundness) (order : IsStateInOrder old) where
-    right : WhenFair servers old me sockets before after (λ r calls. IsRightAfter r me ids calls run.loop.last)
+    right : WhenFair servers old me sockets before after (λ r calls. IsRightAfter r me ids [] calls run.loop.last)
     right r compiled starts own elsewhere earlier calls e f fair =
         let l = run.loop in
         let g : Grounds r = record { laws = laws; time = time; accepted = starts.accepted } in
@@ -99,7 +99,7 @@ module _ {unread read before after servers old me sockets ids turns ends new : _
 
     pub replies : WhenFair servers old me sockets before after (λ r calls. RepliesAreOwed r me calls)
     replies r compiled starts own elsewhere earlier calls e f fair =
-        (itrs run.loop.last.desk.owners, (right r compiled starts own elsewhere earlier calls e f fair).owes)
+        (itrs run.loop.last.desk.owners ++ [], (right r compiled starts own elsewhere earlier calls e f fair).owes)
 
     pub stays_sound : WhenFair servers old me sockets before after (λ r calls. IsSound r new)
     stays_sound r compiled starts own elsewhere earlier calls e f fair =

@@ -17,7 +17,9 @@ use Rattle.ddt_resolver.specs.declared.itr_messages.ItrRequest.{ItrRequest}
 use Rattle.ddt_resolver.specs.declared.step.Progress.{Progress}
 use Rattle.ddt_resolver.specs.declared.step.Progress.TheVariants.{Stays, Sends, Ends}
 use Rattle.ddt_resolver.specs.declared.step.Reply.{Reply}
-use Rattle.ddt_resolver.specs.declared.step.Reply.TheVariants.{ToAsk}
+use Rattle.ddt_resolver.specs.declared.step.Reply.TheVariants.{ToAsk, ToTick}
+use Rattle.ddt_resolver.specs.declared.results.Ticked.{Ticked}
+use Rattle.ddt_resolver.specs.TickStep.{HastenStep, HastenWants}
 use Rattle.ddt_resolver.specs.Front.{reply_to_itr}
 use Rattle.ddt_resolver.specs.State.{State, moved, most_pending}
 use Rattle.ddt_resolver.specs.Step as resolver
@@ -146,3 +148,11 @@ pub data HearsOrTicks (me : Locator) (now : ℕ) (call : resolver.ResolverCall) 
       → Proceeds me w.desk (progress_of reply) calls new.desk → HearsOrTicks me now call w calls new
   fails : Wants (moved now w.state) call → new.state ≡ moved now w.state → new.desk ≡ w.desk → calls ≡ []
       → HearsOrTicks me now call w calls new
+
+-- The lookup whose last request has this nonce is hastened at a moment. `fails`: a request would be sent, and memory ran
+-- out; nothing changes but the time.
+pub data Hastens (me : Locator) (now nonce : ℕ) (w : Running) (calls : List Call) (new : Running) : Type 0 where
+  does : (ticked : Ticked) → HastenStep (moved now w.state) nonce new.state ticked
+      → Proceeds me w.desk (progress_of (ToTick ticked)) calls new.desk → Hastens me now nonce w calls new
+  fails : HastenWants (moved now w.state) nonce → new.state ≡ moved now w.state → new.desk ≡ w.desk → calls ≡ []
+      → Hastens me now nonce w calls new

@@ -8,6 +8,9 @@ use Rattle.ddt_resolver.specs.declared.itr_messages.ItrRequest.{ItrRequest}
 use Rattle.ddt_resolver.specs.declared.step.Progress.{Progress}
 use Rattle.ddt_resolver.specs.declared.step.Progress.TheVariants.{Stays, Sends, Ends}
 use Rattle.ddt_resolver.specs.declared.step.Reply.{Reply}
+use Rattle.ddt_resolver.specs.declared.step.Reply.TheVariants.{ToTick}
+use Rattle.ddt_resolver.specs.declared.results.Ticked.{Ticked}
+use Rattle.ddt_resolver.specs.TickStep.{HastenStep}
 use Rattle.ddt_resolver.specs.State.{State}
 use Rattle.ddt_resolver.specs.Step.{ResolverCall, Step, progress_of}
 use Rattle.ddt_loop.specs.declared.came.Ended.{Ended}
@@ -63,3 +66,16 @@ pub record EndsBy (call : ResolverCall) (s new : State) (owners after : List Own
 abbrev pub HasEndedBy : ResolverCall → State → State → List Owner → List Owner → Option Ended → Type 0
 HasEndedBy call s new owners after (Some e) = EndsBy call s new owners after e
 HasEndedBy call s new owners after None = waiting_itrs after ≡ waiting_itrs owners
+
+-- a lookup that is hastened ends so, and the ITR that waited for it does so no longer
+pub record EndsByHaste (nonce : ℕ) (s new : State) (owners after : List Owner) (e : Ended) : Type 0 where
+  pub ticked : Ticked
+  pub step : HastenStep s nonce new ticked
+  pub ends : progress_of (ToTick ticked) ≡ Ends e.ticket e.end
+  pub request : ItrRequest
+  pub takes : TakesOff e.ticket owners after (Some (Itr request))
+
+-- the lookup that an ITR waited for has ended, or the same ITRs wait as before
+abbrev pub HasEndedByHaste : ℕ → State → State → List Owner → List Owner → Option Ended → Type 0
+HasEndedByHaste nonce s new owners after (Some e) = EndsByHaste nonce s new owners after e
+HasEndedByHaste nonce s new owners after None = waiting_itrs after ≡ waiting_itrs owners

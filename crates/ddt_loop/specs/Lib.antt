@@ -4,5 +4,6 @@ pub mod Polls
 pub mod Turns
 pub mod Right
 pub mod Ends
+pub mod Sharing
 pub mod Coming
 pub mod Runs

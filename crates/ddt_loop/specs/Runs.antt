@@ -1,20 +1,55 @@
 -- What a resolver has done over any number of rounds, and what follows where the replies that it gets are fair.
-use Rattle.std.specs.Prelude.{ℕ, ◌≡◌, ◌≤◌, List, [], ◌∷◌, ◌++◌, Some, Ok}
+use Rattle.std.specs.Prelude.{ℕ, ◌≡◌, ◌≢◌, ◌≤◌, List, [], ◌∷◌, ◌++◌, true, Option, Some, None, Result, Ok}
+use Rattle.std.specs.FinMap.{get}
 use Rattle.ddt_path.specs.declared.locator.Locator.{Locator}
 use Rattle.ddt_register.specs.declared.register.Register.{Register}
 use Rattle.ddt_wires.specs.declared.call.Call.{Call}
-use Rattle.ddt_wires.specs.declared.call.Call.TheVariants.{Received}
+use Rattle.ddt_wires.specs.declared.call.Call.TheVariants.{Received, Tried}
+use Rattle.ddt_wires.specs.declared.call.NetFault.{NetFault}
+use Rattle.ddt_resolver.specs.declared.pending.Pending.{Pending}
 use Rattle.ddt_wires.specs.declared.call.Packet.{Packet}
 use Rattle.ddt_cache.specs.Moment.{last_moment}
 use Rattle.ddt_resolver.specs.Order.{IsStateInOrder}
-use Rattle.ddt_resolver.specs.State.{State}
-use Rattle.ddt_resolver.specs.Step.{Tick}
+use Rattle.ddt_ecm.specs.UdpHeader.{control_port}
+use Rattle.ddt_resolver.specs.Front.{IsItrRequest}
+use Rattle.ddt_resolver.specs.State.{State, moved, server, request_bytes}
+use Rattle.ddt_resolver.specs.Step.{Hear, Tick}
+use Rattle.ddt_resolver.specs.Within.{IsCut}
 use Rattle.ddt_sim.specs.Schedules.{StartsSound}
 use Rattle.ddt_sim.specs.Sound.{IsSound}
 use Rattle.ddt_loop.specs.Askers.{opening_desk}
-use Rattle.ddt_loop.specs.Acts.{Running, running, HearsOrTicks}
+use Rattle.ddt_loop.specs.declared.came.Ended.{Ended}
+use Rattle.ddt_loop.specs.Acts.{Running, running, HearsOrTicks, Hastens}
+use Rattle.ddt_loop.specs.Ends.{EndsBy, EndsByHaste}
+use Rattle.ddt_loop.specs.Sharing.{Sharer, MayShare, TellsSharers}
 use Rattle.ddt_loop.specs.Polls.{IsPacketTaken}
-use Rattle.ddt_loop.specs.Right.{ArePacketsFair, IsNoReply, RepliesAreOwed}
+use Rattle.ddt_loop.specs.Right.{ArePacketsFair, is_poll, RepliesAreOwed}
+
+-- what is heard of a datagram: all of it, or what it is cut to
+abbrev pub heard_of : List ℕ → Option (List ℕ) → List ℕ
+heard_of bytes None = bytes
+heard_of bytes (Some cut) = cut
+
+-- A packet is heard so. `other_port`, not from UDP port 4342: as it came. `from_server`: as it came too, but for a reply
+-- that reaches beyond its zone, which is cut to it.
+pub data IsHeardAs (s : State) (p : Packet) (bytes heard : List ℕ) : Type 0 where
+  other_port : p.port ≢ control_port → heard ≡ bytes → IsHeardAs s p bytes heard
+  from_server : (cut : Option (List ℕ)) → p.port ≡ control_port → IsCut s p.from bytes cut → heard ≡ heard_of bytes cut
+      → IsHeardAs s p bytes heard
+
+-- a lookup that an ITR waited for has ended so, or none is said to have
+abbrev pub MayEndBy : (Ended → Type 0) → Option Ended → Type 0
+MayEndBy ends None = Unit {0}
+MayEndBy ends (Some e) = ends e
+
+-- the last request of a lookup, tried once more
+abbrev pub request_tried : Locator → Pending → Result (Unit {0}) NetFault → Call
+request_tried me l answer = Tried me (server me l) control_port (request_bytes l.nonce l.x me) answer
+
+-- a packet from UDP port 4342, heard so, has ended the lookup of an ITR
+pub record EndsByReply (now : ℕ) (p : Packet) (heard : List ℕ) (w new : Running) (e : Ended) : Type 0 where
+  pub port : p.port ≡ control_port
+  pub ends : EndsBy (Hear p.from heard) (moved now w.state) new.state w.desk.owners new.desk.owners e
 
 -- a resolver that begins in order, sound for a register, with nothing pending and with this address
 pub record BeginsSound (r : Register) (me : Locator) (s : State) : Type 0 where
@@ -22,27 +57,52 @@ pub record BeginsSound (r : Register) (me : Locator) (s : State) : Type 0 where
   pub starts : StartsSound r s
   pub own : s.me ≡ me
 
--- What has been done so far, in any order. `took`: a packet came to the resolver's socket and was taken. `ticked`: it
--- ticked. `passed`: a call that concerns nobody who waits, as a poll that gives no packet or one that is dropped.
--- `renewed`: another resolver, that may begin, goes on, and nobody waits any more.
-pub data HasRun (may_begin : State → Type 0) (me : Locator) (start : Running) : List Call → Running → Type 0 where
-  begins : HasRun may_begin me start [] start
-  took : {calls : List Call} {w : Running} (now room : ℕ) (p : Packet) (bytes : List ℕ) (tries : List Call)
-      (new : Running) → HasRun may_begin me start calls w → now ≤ last_moment
-      → IsPacketTaken me now p bytes w tries new
-      → HasRun may_begin me start (calls ++ Received me room (Ok (Some p)) bytes ∷ tries) new
-  ticked : {calls : List Call} {w : Running} (now : ℕ) (tries : List Call) (new : Running)
-      → HasRun may_begin me start calls w → now ≤ last_moment → HearsOrTicks me now Tick w tries new
-      → HasRun may_begin me start (calls ++ tries) new
-  passed : {calls : List Call} {w : Running} (call : Call) → HasRun may_begin me start calls w → IsNoReply me call
-      → HasRun may_begin me start (calls ++ call ∷ []) w
-  renewed : {calls : List Call} {w : Running} (new : State) → HasRun may_begin me start calls w → may_begin new
-      → HasRun may_begin me start calls (running new (opening_desk []))
+-- What has been done so far, in any order, and who shares lookups. `took`: a packet came to the resolver's socket and was
+-- taken, a reply that reaches beyond its zone cut to that. `ticked`: it ticked. `hastened`: a lookup was hastened. Of
+-- each, those who share a lookup that has ended are told. `shared`: a request of an ITR came, and shares the lookup that
+-- is pending for its identifier. `waited`: time passed. `resent`: the last request of a pending lookup was sent again.
+-- `passed`: a poll gave no packet, or one that was dropped. `renewed`: another resolver, that may begin
+-- and gives no nonce again, goes on, and nobody waits any more.
+pub data HasRun (may_begin : State → Type 0) (me : Locator) (start : Running) : List Call → List Sharer → Running → Type 0
+  where
+    begins : HasRun may_begin me start [] [] start
+    took : {calls : List Call} {sharers : List Sharer} {w : Running} (now room : ℕ) (p : Packet)
+        (bytes heard : List ℕ) (tries : List Call) (ended : Option Ended) (tells : List Call) (left : List Sharer)
+        (new : Running) → HasRun may_begin me start calls sharers w → now ≤ last_moment
+        → IsHeardAs w.state p bytes heard → IsPacketTaken me now p heard w tries new
+        → MayEndBy (EndsByReply now p heard w new) ended → TellsSharers me sharers ended tells left
+        → HasRun may_begin me start (calls ++ Received me room (Ok (Some p)) bytes ∷ (tries ++ tells)) left new
+    ticked : {calls : List Call} {sharers : List Sharer} {w : Running} (now : ℕ) (tries : List Call)
+        (ended : Option Ended) (tells : List Call) (left : List Sharer) (new : Running)
+        → HasRun may_begin me start calls sharers w → now ≤ last_moment → HearsOrTicks me now Tick w tries new
+        → MayEndBy (EndsBy Tick (moved now w.state) new.state w.desk.owners new.desk.owners) ended
+        → TellsSharers me sharers ended tells left → HasRun may_begin me start (calls ++ (tries ++ tells)) left new
+    hastened : {calls : List Call} {sharers : List Sharer} {w : Running} (now nonce : ℕ) (tries : List Call)
+        (ended : Option Ended) (tells : List Call) (left : List Sharer) (new : Running)
+        → HasRun may_begin me start calls sharers w → now ≤ last_moment → Hastens me now nonce w tries new
+        → MayEndBy (EndsByHaste nonce (moved now w.state) new.state w.desk.owners new.desk.owners) ended
+        → TellsSharers me sharers ended tells left → HasRun may_begin me start (calls ++ (tries ++ tells)) left new
+    shared : {calls : List Call} {sharers : List Sharer} {w : Running} (room : ℕ) (p : Packet) (bytes : List ℕ)
+        (j : Sharer) → HasRun may_begin me start calls sharers w → IsItrRequest bytes j.request → MayShare w.state j
+        → HasRun may_begin me start (calls ++ Received me room (Ok (Some p)) bytes ∷ []) (sharers ++ j ∷ []) w
+    waited : {calls : List Call} {sharers : List Sharer} {w : Running} (now : ℕ)
+        → HasRun may_begin me start calls sharers w → now ≤ last_moment
+        → HasRun may_begin me start calls sharers (running (moved now w.state) w.desk)
+    resent : {calls : List Call} {sharers : List Sharer} {w : Running} (t : ℕ) (l : Pending)
+        (answer : Result (Unit {0}) NetFault) → HasRun may_begin me start calls sharers w
+        → get w.state.pending t ≡ Some l
+        → HasRun may_begin me start (calls ++ request_tried me l answer ∷ []) sharers w
+    passed : {calls : List Call} {sharers : List Sharer} {w : Running} (call : Call)
+        → HasRun may_begin me start calls sharers w → is_poll call ≡ true
+        → HasRun may_begin me start (calls ++ call ∷ []) sharers w
+    renewed : {calls : List Call} {sharers : List Sharer} {w : Running} (new : State)
+        → HasRun may_begin me start calls sharers w → may_begin new → w.state.next ≤ new.next
+        → HasRun may_begin me start calls [] (running new (opening_desk []))
 
 -- A resolver begins sound for a register, with its own address and with nobody who waits, and so does each that goes on
 -- in its place. Where the calls since then are fair, each negative Map-Reply is owed for what the register assigns, and
 -- the resolver is sound.
 abbrev pub FairRunsAreRight : Type 0
-FairRunsAreRight = (r : Register) (me : Locator) (start : State) (calls : List Call) (w : Running)
-    → BeginsSound r me start → HasRun (BeginsSound r me) me (running start (opening_desk [])) calls w
+FairRunsAreRight = (r : Register) (me : Locator) (start : State) (calls : List Call) (sharers : List Sharer) (w : Running)
+    → BeginsSound r me start → HasRun (BeginsSound r me) me (running start (opening_desk [])) calls sharers w
     → ArePacketsFair r me calls → RepliesAreOwed r me calls × IsSound r w.state

@@ -7,22 +7,25 @@ ghost use Rattle.ddt_resolver.specs.State.{moved};
 ghost use Rattle.ddt_resolver.specs.Step.{Tick};
 ghost use Rattle.ddt_loop.specs.declared.owner.Asker.TheVariants.{Itr};
 ghost use Rattle.ddt_loop.specs.Askers.{opening_desk, with_owner};
-ghost use Rattle.ddt_loop.specs.Acts.{running, AsksForItr, HearsOrTicks};
+ghost use Rattle.ddt_path.specs.Path.{xeid_path};
+ghost use Rattle.ddt_cache.specs.Found.{IsFound};
+ghost use Rattle.ddt_resolver.specs.AskStep.{beginning_at};
+ghost use Rattle.ddt_loop.specs.Acts.{running, AsksForItr, HearsOrTicks, Hastens};
 ghost use Rattle.ddt_wire.specs.declared.message_type.MessageType.TheVariants.{Encapsulated};
 ghost use Rattle.ddt_wire.specs.MessageType.{is_of};
 ghost use Rattle.ddt_loop.specs.Coming.{IsCame, came_to_end};
-ghost use Rattle.ddt_loop.specs.Ends.{HasEndedBy};
+ghost use Rattle.ddt_loop.specs.Ends.{HasEndedBy, HasEndedByHaste};
 ghost use Rattle.ddt_loop.specs.Polls.{IsPacketTaken};
 ghost use Rattle.ddt_loop.specs.Runs.{FairRunsAreRight};
 
 use crate::askers::Askers;
 use crate::asks::ask_for_itr;
 use crate::came::{Came, Ended};
-use crate::steps::{Here, hear, resolve, take};
+use crate::steps::{Here, hasten, hear, resolve, take};
 use ddt_cache::{Entry, Moment};
-use ddt_path::Locator;
-use ddt_resolver::{Input, ItrRequest, Resolver};
-use ddt_sim::a_step_keeps_a_resolver_sound;
+use ddt_path::{Locator, Xeid};
+use ddt_resolver::{Beginning, Input, ItrRequest, Resolver};
+use ddt_sim::{a_step_keeps_a_resolver_sound, a_step_keeps_starts_true, honest_replies_are_inside};
 use ddt_trie::PrefixMap;
 use ddt_wires::{Packet, Wires};
 use std::alloc::{AllocError, Global};
@@ -165,13 +168,44 @@ impl<M: PrefixMap<Entry>> RunningResolver<M> {
             Input::Tick,
         )
     }
+
+    /// Lets the pending lookup whose last request has this nonce go on or end at once, as by a tick that finds it due.
+    /// Answers the end of a lookup that an ITR waited for; the ITR is then told as by `take`. If out of memory, nothing
+    /// is done.
+    pub fn hasten<W: Wires>(
+        &mut self,
+        wires: &mut W,
+        me: Locator,
+        now: Moment,
+        nonce: u64,
+    ) -> Option<Ended>
+        ensures ended { HasEndedByHaste nonce (moved now self.old.state) self.new.state
+            self.old.desk.owners self.new.desk.owners result }
+        ensures hastens { (calls : List ACall) × RecordsCalls (W.calls wires.old) calls (W.calls wires.new)
+            × Hastens me now nonce self.old calls self.new }
+    {
+        let here = Here { me, moment: now };
+        hasten(wires, &mut self.resolver, &here, &mut self.askers, nonce)
+    }
+
+    /// What an ask for an identifier would begin with. Nothing changes but the time.
+    pub fn beginning(&mut self, now: Moment, x: Xeid) -> Beginning
+        ensures begins { (p : _) × (e : _) × IsFound (moved now self.old.state).known (xeid_path x) p e
+            × (result ≡ beginning_at p e) }
+        ensures time { self.new ≡ running (moved now self.old.state) self.old.desk }
+    {
+        self.resolver.beginning(now, x)
+    }
 }
 
-/// A law of packets that were taken or dropped, of ticks, and of other resolvers that go on in its place, in any order and
-/// number. Where packets from the servers that were asked tell the truth, each negative Map-Reply is for what the
-/// register assigns to an ITR's identifier, and each of its requests gets at most one. The resolver stays sound.
+/// A law of packets that were taken or dropped, of ticks, of lookups that are hastened or shared, and of other resolvers
+/// that go on in its place, in any order and number. Where packets from the servers that were asked tell the truth, each
+/// negative Map-Reply is for what the register assigns to an ITR's identifier, and each of its requests gets at most
+/// one. No reply is cut to its zone, and the resolver stays sound.
 pub fn fair_runs_are_right()
     ensures { FairRunsAreRight }
 {
     a_step_keeps_a_resolver_sound();
+    a_step_keeps_starts_true();
+    honest_replies_are_inside();
 }

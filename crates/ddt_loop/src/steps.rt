@@ -6,8 +6,8 @@ ghost use Rattle.ddt_wires.specs.Calls.{RecordsCalls};
 ghost use Rattle.ddt_resolver.specs.State.{moved};
 ghost use Rattle.ddt_resolver.specs.Step.{call_of};
 ghost use Rattle.ddt_loop.specs.Askers.{AreOwners};
-ghost use Rattle.ddt_loop.specs.Acts.{running, Proceeds, Settles, HearsOrTicks};
-ghost use Rattle.ddt_loop.specs.Ends.{IsToldEnd, IsEnd, HasEnded, HasEndedBy};
+ghost use Rattle.ddt_loop.specs.Acts.{running, Proceeds, Settles, HearsOrTicks, Hastens};
+ghost use Rattle.ddt_loop.specs.Ends.{IsToldEnd, IsEnd, HasEnded, HasEndedBy, HasEndedByHaste};
 ghost use Rattle.ddt_wire.specs.declared.message_type.MessageType.TheVariants.{Encapsulated};
 ghost use Rattle.ddt_wire.specs.MessageType.{is_of};
 ghost use Rattle.ddt_loop.specs.Coming.{IsCame, came_to_end};
@@ -21,7 +21,7 @@ use crate::owner::Asker;
 use ddt_cache::{Entry, Moment};
 use ddt_ecm::CONTROL_PORT;
 use ddt_path::{Locator, Outcome};
-use ddt_resolver::{Front, Input, ItrRequest, Progress, Resolver, Ticket, Why};
+use ddt_resolver::{Front, Input, ItrRequest, Progress, Reply, Resolver, Ticket, Why};
 use ddt_trie::PrefixMap;
 use ddt_wire::MessageType;
 use ddt_wires::{Packet, Wires};
@@ -114,6 +114,32 @@ pub(crate) fn resolve<W: Wires, M: PrefixMap<Entry>>(
     let _millis = here.moment.millis();
     match resolver.step(here.moment, input) {
         Ok(reply) => go_on(wires, here.me, askers, reply.progress()),
+        Err(_refused) => None,
+    }
+}
+
+/// The lookup whose last request has this nonce goes on or ends, whether its deadline has come or not. Where memory runs
+/// out nothing is done.
+pub(crate) fn hasten<W: Wires, M: PrefixMap<Entry>>(
+    wires: &mut W,
+    resolver: &mut Resolver<M>,
+    here: &Here,
+    askers: &mut Askers,
+    nonce: u64,
+) -> Option<Ended>
+    requires { AreOwners resolver.old askers.old.owners }
+    ensures ended { HasEndedByHaste nonce (moved here.now.moment resolver.old) resolver.new
+        askers.old.owners askers.new.owners result }
+    ensures hastens { (calls : List ACall) × RecordsCalls (W.calls wires.old) calls (W.calls wires.new)
+        × Hastens here.now.me here.now.moment nonce (running resolver.old askers.old) calls
+        (running resolver.new askers.new) }
+    ensures owners { AreOwners resolver.new askers.new.owners }
+{
+    resolver.in_order();
+    // Read for its bound: no moment is later than the last.
+    let _millis = here.moment.millis();
+    match resolver.hasten(here.moment, nonce) {
+        Ok(ticked) => go_on(wires, here.me, askers, Reply::ToTick(ticked).progress()),
         Err(_refused) => None,
     }
 }

@@ -86,8 +86,9 @@ impl<M: PrefixMap<Entry>> Resolver<M> {
         }
     }
 
-    /// The nonce of the next request; the last one is never sent.
-    pub(crate) fn next_nonce(&self) -> u64
+    /// The nonce of the next request; the last one is never sent. A resolver that goes on in the place of this one gives
+    /// no nonce again if it begins with this one.
+    pub fn next_nonce(&self) -> u64
         ensures { result ≡ self.now.next }
     {
         self.table.next_nonce()

@@ -5,6 +5,7 @@ use Rattle.ddt_resolver.specs.laws.Order.{order_moved}
 use Rattle.ddt_resolver.specs.laws.Shape.{moved_by_step}
 use Rattle.ddt_loop.specs.Acts.{does, fails}
 use Rattle.ddt_loop.proofs.EndLemmas.{ends_by}
+use Rattle.ddt_loop.proofs.ShapeLemmas.{of_move}
 use Rattle.ddt_loop.proofs.PendingLemmas.{moved_owners, owners_go_on}
 use Rattle.ddt_loop.proofs.steps.resolve.Goals as goal
 
@@ -16,7 +17,7 @@ pub returns-in-Ok-clause-owners : goal.returns-in-Ok-clause-owners
 returns-in-Ok-clause-owners g c =
     let w = c.go_on.ensures.goes in
     let order = order_moved c.args.resolver.now c.args.here.now.moment c.millis-millis.ensures.bound c.in_order.ensures in
-    owners_go_on order (moved_by_step _ order (call_of c.args.input) c.step.new.self c.in-Ok.reply c.in-Ok.ensures.step).move
+    owners_go_on order (of_move (moved_by_step _ order (call_of c.args.input) c.step.new.self c.in-Ok.reply c.in-Ok.ensures.step).move)
     c.args.here.now.me c.args.askers.now w.0 c.go_on.new.askers (moved_owners _ c.requires) (rw c.progress.ensures at w.2)
 
 pub returns-in-Err-clause-resolves : goal.returns-in-Err-clause-resolves

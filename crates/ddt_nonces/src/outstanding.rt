@@ -1,0 +1,181 @@
+//! The requests that went out and have no reply yet, with both nonces of each.
+
+ghost use Rattle.std.specs.Prelude.{◌≡◌, ◌≢◌, ◌<◌, [], false, All, length, position, OnOk, OnErr, IfSome};
+ghost use Rattle.ddt_nonces.specs.Outstanding.{IsOutstanding, Takes, noted, is_reply_to};
+
+use ddt_path::Locator;
+use std::alloc::{AllocError, Global};
+use std::marker::Model;
+
+/// No more requests are outstanding.
+pub const MOST_OUTSTANDING: usize = 1024;
+
+/// A request that has no reply yet. Clauses see where it went and its two nonces; no answer rests on its times.
+#[derive(Debug, Drop)]
+pub struct SentRequest {
+    /// The socket that it was sent from.
+    pub at: Locator,
+    /// The server that it was sent to.
+    pub to: Locator,
+    /// Its nonce on the wire.
+    pub wire: u64,
+    /// The nonce that its sender gave it.
+    pub plain: u64,
+    /// When it was sent, in milliseconds.
+    pub sent_at: u64,
+    /// The moment, in milliseconds, at which its server is overdue; None once that was reported.
+    pub timer: Option<u64>,
+}
+
+impl Model for SentRequest {
+    ghost use Rattle.ddt_nonces.specs.Outstanding.{Request};
+
+    ghost Value = { Request };
+
+    ghost view = { λ s. record { at = s.at; to = s.to; wire = s.wire; plain = s.plain } };
+}
+
+/// A request whose server is overdue.
+#[derive(Clone, Copy, Debug, PartialEq, Eq)]
+pub struct Overdue {
+    /// The nonce that its sender gave it.
+    pub nonce: u64,
+    /// The server that it was sent to.
+    pub to: Locator,
+}
+
+/// The requests that have no reply yet, in the order in which they went out; of too many the oldest are forgotten.
+#[derive(Debug, Drop)]
+pub struct Outstanding {
+    sent: Vec<SentRequest>,
+}
+
+impl Outstanding {
+    /// No request is outstanding.
+    pub fn new(alloc: Global) -> Outstanding
+        ensures { result.sent.items ≡ [] }
+    {
+        Outstanding {
+            sent: Vec::new(alloc),
+        }
+    }
+
+    /// How many requests are outstanding.
+    pub fn len(&self) -> usize
+        ensures { result ≡ length self.now.sent.items }
+    {
+        self.sent.len()
+    }
+
+    /// Whether a request with this nonce on the wire is outstanding.
+    pub fn has(&self, wire: u64) -> bool
+        ensures unused { result ≡ false → All (λ s. s.wire ≢ wire) self.now.sent.items }
+    {
+        self.sent.as_slice().iter().any(|sent| sent.wire == wire)
+    }
+
+    /// One more is outstanding. Fails only if out of memory, and then all stays as it was.
+    pub fn note(&mut self, sent: SentRequest) -> Result<(), AllocError>
+        ensures noted { OnOk result (self.new.sent.items ≡ noted self.old.sent.items sent) }
+        ensures unchanged { OnErr result (self.new.sent.items ≡ self.old.sent.items) }
+    {
+        self.sent.push(sent)?;
+        if self.sent.len() > MOST_OUTSTANDING {
+            let _oldest = self.sent.remove(0);
+        }
+        Ok(())
+    }
+
+    /// Takes off the request to which a reply at a socket, from this address, with this nonce on the wire, is.
+    pub fn take(&mut self, at: Locator, from: Locator, wire: u64) -> Option<SentRequest>
+        ensures { Takes at from wire self.old.sent.items self.new.sent.items result }
+    {
+        let place = place_of(self.sent.as_slice(), at, from, wire)?;
+        Some(self.sent.remove(place))
+    }
+
+    /// Forgets all requests.
+    pub fn forget_all(&mut self)
+        ensures { self.new.sent.items ≡ [] }
+    {
+        self.sent.clear();
+    }
+
+    /// Sets the timer of the newest request with this nonce of its sender, if one is outstanding, to a moment in
+    /// milliseconds.
+    pub fn set_timer(&mut self, plain: u64, at: u64)
+        ensures { self.new.sent.items ≡ self.old.sent.items }
+    {
+        if let Some(place) = newest_of(self.sent.as_slice(), plain) {
+            let sent = &mut self.sent[place];
+            sent.timer = Some(at);
+        }
+    }
+
+    /// The earliest timer, in milliseconds.
+    pub fn next_timer(&self) -> Option<u64> {
+        first_timer(self.sent.as_slice()).map(|first| first.1)
+    }
+
+    /// Of the requests whose timer has come at this moment, in milliseconds, one with the earliest timer, which it has
+    /// no longer. It stays outstanding.
+    pub fn take_overdue(&mut self, now: u64) -> Option<Overdue>
+        ensures outstanding { IfSome result (λ overdue. IsOutstanding overdue.nonce overdue.to self.old.sent.items) }
+        ensures same { self.new.sent.items ≡ self.old.sent.items }
+    {
+        let (place, timer) = first_timer(self.sent.as_slice())?;
+        if timer > now {
+            return None;
+        }
+        let sent = &mut self.sent[place];
+        sent.timer = None;
+        Some(Overdue {
+            nonce: sent.plain,
+            to: sent.to,
+        })
+    }
+}
+
+/// The place of the first request to which such a reply is.
+fn place_of(sent: &[SentRequest], at: Locator, from: Locator, wire: u64) -> Option<usize>
+    ensures { result ≡ position (λ s. is_reply_to at from wire s) sent.now }
+{
+    sent.iter()
+        .position(|s| s.wire == wire && s.at == at && s.to == from)
+}
+
+/// The place of the newest request with this nonce of its sender.
+fn newest_of(sent: &[SentRequest], plain: u64) -> Option<usize>
+    ensures { IfSome result (λ place. place < length sent.now) }
+{
+    let mut newest = None;
+    for (place, s) in sent.iter().enumerate() {
+        if s.plain == plain {
+            newest = Some(place);
+        }
+    }
+    newest
+}
+
+/// The place of a request with the earliest timer, and that timer.
+fn first_timer(sent: &[SentRequest]) -> Option<(usize, u64)>
+    ensures { IfSome result (λ first. first.0 < length sent.now) }
+{
+    let mut first = None;
+    for (place, s) in sent.iter().enumerate() {
+        if let Some(timer) = s.timer
+            && is_earlier(timer, first)
+        {
+            first = Some((place, timer));
+        }
+    }
+    first
+}
+
+/// Whether a timer is earlier than the earliest so far.
+fn is_earlier(timer: u64, first: Option<(usize, u64)>) -> bool {
+    match first {
+        Some((_place, earliest)) => timer < earliest,
+        None => true,
+    }
+}

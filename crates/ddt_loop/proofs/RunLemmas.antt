@@ -244,7 +244,7 @@ module _ {r : Register} (g : RunGrounds r) {me : Locator} where
 
   -- ---- a run
 
-  right_shared : {calls : _} {js : List Sharer} {w : Running} (room : ℕ) (p : _) (bytes : _) (j : Sharer) → IsItrRequest bytes j.request → MayShare w.state j
+  right_shared : {calls : _} {js : List Sharer} {w : Running} (room : ℕ) (p : _) (bytes : _) (j : Sharer) → IsItrRequest bytes j.request → MayShare w.desk j
       → RunsRight r me calls js w → RunsRight r me (calls ++ Received me room (Ok (Some p)) bytes ∷ []) (js ++ j ∷ []) w
   right_shared {calls} {js} {w} room p bytes j asks_it may i =
       let more = calls ++ Received me room (Ok (Some p)) bytes ∷ [] in
@@ -256,7 +256,7 @@ module _ {r : Register} (g : RunGrounds r) {me : Locator} where
           owes = rw (requests_push js j) (rw append_assoc at owed);
         };
         starts = i.starts;
-        share = All-push (Shares w.state) js j i.share (may_share j i.right.kept.order may);
+        share = All-push (Shares w.state) js j i.share (may_share w.desk.owners j i.right.kept.order i.right.kept.waits may);
       }
 
   right_passed : {calls : _} {js : List Sharer} {w : Running} (call : Call) → IsNoReply me call → RunsRight r me calls js w → RunsRight r me (calls ++ call ∷ []) js w

@@ -5,7 +5,7 @@ use Rattle.std.specs.Prelude.{All, map, not, ◌==◌, ◌≢◌}
 use Rattle.std.specs.List.{filter}
 use Rattle.std.specs.FinMap.{get}
 use Rattle.std.proofs.lemmas.Option.{same_Some}
-use Rattle.std.proofs.lemmas.List.Elements.{All-nil, All-cons, All-head, All-tail}
+use Rattle.std.proofs.lemmas.List.Elements.{All-nil, All-cons, All-head, All-tail, All-contains}
 use Rattle.ddt_path.specs.declared.record.Outcome.{Outcome}
 use Rattle.ddt_path.specs.Path.{xeid_path}
 use Rattle.ddt_register.specs.declared.register.Register.{Register}
@@ -18,23 +18,28 @@ use Rattle.ddt_resolver.specs.State.{State, numbered}
 use Rattle.ddt_resolver.specs.Order.{IsStateInOrder}
 use Rattle.ddt_resolver.specs.laws.NumberMap.{found_insert, found_remove}
 use Rattle.ddt_loop.specs.Ends.{IsToldEnd}
-use Rattle.ddt_loop.specs.Sharing.{Sharer, MayShare, sharing, not_sharing, AreToldEnd, nobody, one}
+use Rattle.ddt_loop.specs.declared.owner.Asker.TheVariants.{Itr}
+use Rattle.ddt_loop.specs.declared.owner.Owner.{Owner}
+use Rattle.ddt_loop.specs.Askers.{owner_of}
+use Rattle.ddt_loop.specs.Sharing.{Sharer, IsAskedBy, sharing, not_sharing, AreToldEnd, nobody, one}
 use Rattle.ddt_loop.specs.Right.{Owes, forgotten}
 use Rattle.ddt_loop.proofs.CallLemmas.{owes_told}
 use Rattle.ddt_loop.proofs.ShapeLemmas as shape
 use Rattle.ddt_loop.proofs.ShapeLemmas.{Shape, next_grows}
-use Rattle.ddt_loop.proofs.KeepLemmas.{EndsRight}
+use Rattle.ddt_loop.proofs.KeepLemmas.{EndsRight, WaitsFor}
 
 -- if the lookup that somebody shares is pending, it is for the identifier that was asked for
 pub record Shares (s : State) (j : Sharer) : Type 0 where
   pub given : j.ticket < s.next
   pub same : (l : Pending) → get s.pending j.ticket ≡ Some l → l.x ≡ j.request.xeid
 
-pub may_share : {s : State} (j : Sharer) → IsStateInOrder s → MayShare s j → Shares s j
-may_share {s} j o m = let w = o.lookups j.ticket m.0 m.1 in record {
-  given = omega (arith, w.ticket, w.nonce);
-  same = λ l here. ap (λ (k : Pending). k.x) (same_Some l m.0 (sym here ∙ m.1)) ∙ m.2;
-}
+pub may_share : {s : State} (owners : List Owner) (j : Sharer) → IsStateInOrder s → All (WaitsFor [] s) owners → IsAskedBy owners j.ticket j.request.xeid → Shares s j
+may_share {s} owners j o waits m =
+    let there = All-contains (WaitsFor [] s) owners (owner_of j.ticket (Itr m.0)) waits m.1 in
+    let w = o.lookups j.ticket there.0 there.1 in record {
+      given = omega (arith, w.ticket, w.nonce);
+      same = λ l here. ap (λ (k : Pending). k.x) (same_Some l there.0 (sym here ∙ there.1)) ∙ sym there.2 ∙ m.2;
+    }
 
 pub shares_on : {s new : State} {a : _} → Shape s new a → (j : Sharer) → Shares s j → Shares new j
 shares_on {s} {new} move j h = record { given = omega (arith, h.given, next_grows move); same = by move }

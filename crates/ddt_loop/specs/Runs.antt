@@ -83,7 +83,7 @@ pub data HasRun (may_begin : State → Type 0) (me : Locator) (start : Running) 
         → MayEndBy (EndsByHaste nonce (moved now w.state) new.state w.desk.owners new.desk.owners) ended
         → TellsSharers me sharers ended tells left → HasRun may_begin me start (calls ++ (tries ++ tells)) left new
     shared : {calls : List Call} {sharers : List Sharer} {w : Running} (room : ℕ) (p : Packet) (bytes : List ℕ)
-        (j : Sharer) → HasRun may_begin me start calls sharers w → IsItrRequest bytes j.request → MayShare w.state j
+        (j : Sharer) → HasRun may_begin me start calls sharers w → IsItrRequest bytes j.request → MayShare w.desk j
         → HasRun may_begin me start (calls ++ Received me room (Ok (Some p)) bytes ∷ []) (sharers ++ j ∷ []) w
     waited : {calls : List Call} {sharers : List Sharer} {w : Running} (now : ℕ)
         → HasRun may_begin me start calls sharers w → now ≤ last_moment

@@ -1,15 +1,16 @@
 -- ITRs that share the lookup of another's request for the same identifier (RFC 8111, section 8.1.1).
-use Rattle.std.specs.Prelude.{ℕ, ◌≡◌, ◌==◌, not, List, [], ◌∷◌, ◌++◌, map, Option, Some, None, Result}
+use Rattle.std.specs.Prelude.{ℕ, ◌≡◌, ◌==◌, not, List, [], ◌∷◌, ◌++◌, Contains, map, Option, Some, None, Result}
 use Rattle.std.specs.List.{filter}
-use Rattle.std.specs.FinMap.{get}
 use Rattle.ddt_path.specs.declared.locator.Locator.{Locator}
 use Rattle.ddt_path.specs.declared.record.Outcome.{Outcome}
 use Rattle.ddt_wires.specs.declared.call.Call.{Call}
 use Rattle.ddt_resolver.specs.declared.itr_messages.ItrRequest.{ItrRequest}
-use Rattle.ddt_resolver.specs.declared.pending.Pending.{Pending}
 use Rattle.ddt_resolver.specs.declared.results.Why.{Why}
-use Rattle.ddt_resolver.specs.State.{State}
+use Rattle.ddt_path.specs.declared.xeid.Xeid.{Xeid}
 use Rattle.ddt_loop.specs.declared.came.Ended.{Ended}
+use Rattle.ddt_loop.specs.declared.owner.Asker.TheVariants.{Itr}
+use Rattle.ddt_loop.specs.declared.owner.Owner.{Owner}
+use Rattle.ddt_loop.specs.Askers.{Desk, owner_of}
 use Rattle.ddt_loop.specs.Ends.{IsToldEnd}
 
 -- an ITR's request that waits for the lookup of a ticket, which another request has started
@@ -17,9 +18,13 @@ pub record Sharer : Type 0 where
   pub ticket : ℕ
   pub request : ItrRequest
 
--- a request may wait for the pending lookup of a ticket: it is for the same identifier
-abbrev pub MayShare : State → Sharer → Type 0
-MayShare s j = (l : Pending) × (get s.pending j.ticket ≡ Some l) × (l.x ≡ j.request.xeid)
+-- an ITR waits for the lookup of this ticket, and asked for this identifier
+abbrev pub IsAskedBy : List Owner → ℕ → Xeid → Type 0
+IsAskedBy owners t x = (q : ItrRequest) × Contains owners (owner_of t (Itr q)) × (q.xeid ≡ x)
+
+-- a request may share a lookup that an ITR waits for: it is for the same identifier
+abbrev pub MayShare : Desk → Sharer → Type 0
+MayShare d j = IsAskedBy d.owners j.ticket j.request.xeid
 
 -- the requests of those who share a lookup, in the order in which they came
 abbrev pub sharing : ℕ → List Sharer → List ItrRequest

@@ -1,6 +1,9 @@
 //! Who waits for which lookup, and what the identifiers' lookups have ended in so far.
 
-ghost use Rattle.std.specs.Prelude.{◌≡◌, ◌<◌, ◌==◌, ℕ, List, Some, length, position, IfOk};
+ghost use Rattle.std.specs.Prelude.{◌≡◌, ◌≢◌, ◌<◌, ◌==◌, ℕ, true, false, List, Some, length, position, IfOk, IfSome, IfNone};
+ghost use Rattle.ddt_resolver.specs.declared.itr_messages.ItrRequest.{ItrRequest as ARequest};
+ghost use Rattle.ddt_loop.specs.declared.owner.Asker.TheVariants.{Itr};
+ghost use Rattle.ddt_loop.specs.Sharing.{IsAskedBy};
 ghost use Rattle.ddt_wires.specs.declared.call.Call.{Call as ACall};
 ghost use Rattle.ddt_wires.specs.Calls.{RecordsCalls};
 ghost use Rattle.ddt_resolver.specs.State.{most_pending};
@@ -92,6 +95,19 @@ impl Askers {
         Some(owner.ticket)
     }
 
+    /// The ticket of the lookup that an ITR waits for which asked for this identifier; None where none does.
+    pub(crate) fn ticket_for(&self, x: Xeid) -> Option<u64>
+        ensures asked { IfSome result (λ t. IsAskedBy self.now.owners t x) }
+        ensures none { IfNone result ((t : ℕ) → IsAskedBy self.now.owners t x → ⊥) }
+    {
+        for owner in self.owners.as_slice() {
+            if asks_for(&owner.asker, x) {
+                return Some(owner.ticket);
+            }
+        }
+        None
+    }
+
     /// Tries to send an ITR the negative Map-Reply for an outcome, where it is to have one. It allocates nothing.
     pub(crate) fn reply_to_itr<W: Wires>(
         &mut self,
@@ -146,4 +162,15 @@ fn place_of(owners: &[Owner], ticket: u64) -> Option<usize>
     ensures { result ≡ position (λ o. o.ticket == ticket) owners.now }
 {
     owners.iter().position(|o| o.ticket == ticket)
+}
+
+/// Whether who waits is an ITR that asked for this identifier.
+fn asks_for(asker: &Asker, x: Xeid) -> bool
+    ensures yes { result ≡ true → (q : ARequest) × (asker.now ≡ Itr q) × (q.xeid ≡ x) }
+    ensures no { result ≡ false → (q : ARequest) → asker.now ≡ Itr q → q.xeid ≢ x }
+{
+    match asker {
+        Asker::Itr(request) => request.xeid == x,
+        Asker::Identifier(_place) => false,
+    }
 }

@@ -1,6 +1,7 @@
 //! A resolver that runs for ITRs: what comes to its own socket, and its ticks.
 
-ghost use Rattle.std.specs.Prelude.{◌≡◌, false, [], List, IfOk, IfSome, IfNone};
+ghost use Rattle.std.specs.Prelude.{◌≡◌, ℕ, false, [], List, IfOk, IfSome, IfNone};
+ghost use Rattle.ddt_loop.specs.Sharing.{IsAskedBy};
 ghost use Rattle.ddt_wires.specs.declared.call.Call.{Call as ACall};
 ghost use Rattle.ddt_wires.specs.Calls.{RecordsCalls};
 ghost use Rattle.ddt_resolver.specs.State.{moved};
@@ -186,6 +187,15 @@ impl<M: PrefixMap<Entry>> RunningResolver<M> {
     {
         let here = Here { me, moment: now };
         hasten(wires, &mut self.resolver, &here, &mut self.askers, nonce)
+    }
+
+    /// The number of the ticket of a pending lookup that an ITR waits for which asked for this identifier; None where no
+    /// ITR does. Another ITR that asks for it may share this lookup (RFC 8111, section 8.1.1).
+    pub fn ticket_for(&self, x: Xeid) -> Option<u64>
+        ensures asked { IfSome result (λ t. IsAskedBy self.now.desk.owners t x) }
+        ensures none { IfNone result ((t : ℕ) → IsAskedBy self.now.desk.owners t x → ⊥) }
+    {
+        self.askers.ticket_for(x)
     }
 
     /// What an ask for an identifier would begin with. Nothing changes but the time.

@@ -1,0 +1,11 @@
+use Rattle.std.proofs.Common.{◌≡◌, ◌<◌, ℕ, get_or}
+use Rattle.std.specs.Prelude.{◌≢◌}
+use Rattle.ddt_resolver.specs.declared.itr_messages.ItrRequest.{ItrRequest}
+use Rattle.ddt_loop.specs.declared.owner.Asker.TheVariants.{Itr}
+use Rattle.ddt_loop.specs.declared.owner.Owner.{Owner}
+use Rattle.ddt_loop.proofs.askers.Askers.ticket_for.Given as goal
+
+-- none of those who were looked at is an ITR that asked for it
+abbrev pub invariant-loop-owner : goal.invariant-loop-owner
+invariant-loop-owner l =
+    (k : ℕ) (d : Owner) (q : ItrRequest) → k < l.owner-index → (get_or l.owner-items k d).asker ≡ Itr q → q.xeid ≢ l.x

@@ -30,13 +30,13 @@ use Rattle.ddt_resolver.specs.laws.Order.{order_moved, order_hastened}
 use Rattle.ddt_resolver.specs.laws.Shape.{moved_by_step}
 use Rattle.ddt_loop.specs.declared.came.Ended.{Ended}
 use Rattle.ddt_loop.specs.Askers.{opening_desk}
-use Rattle.ddt_loop.specs.Acts.{Running, running, Asks, answered, refused, lacks_memory, HearsOrTicks, does as steps, fails as lacks, Hastens, does, fails}
+use Rattle.ddt_loop.specs.Acts.{Running, running, Asks, answered, refused, lacks_memory, HearsOrTicks, does as steps, fails as lacks, Hastens, does, fails, request_tried}
 use Rattle.ddt_loop.specs.Polls.{IsPacketTaken, asks, no_request, hears, other_port}
 use Rattle.ddt_loop.specs.Sharing.{Sharer, MayShare, TellsSharers, wait_on, told}
 use Rattle.ddt_loop.specs.Right.{ArePacketsFair, is_poll, IsNoReply, Owes, asked, forgotten}
 use Rattle.ddt_loop.specs.Runs as runs
 use Rattle.ddt_loop.specs.Ends.{EndsBy, EndsByHaste}
-use Rattle.ddt_loop.specs.Runs.{BeginsSound, IsHeardAs, MayEndBy, EndsByReply, HasRun, begins, took, ticked, hastened, shared, waited, request_tried, resent, passed, renewed, FairRunsAreRight}
+use Rattle.ddt_loop.specs.Runs.{BeginsSound, IsHeardAs, MayEndBy, EndsByReply, HasRun, begins, took, ticked, hastened, shared, waited, resent, passed, renewed, FairRunsAreRight}
 use Rattle.ddt_loop.proofs.CallLemmas.{fair_front, itrs}
 use Rattle.ddt_loop.proofs.KeepLemmas.{IsKept, Grounds, IsAct, EndsRight, right_end, ticked_right, kept_more, kept_moved, kept_on, owes_on}
 use Rattle.ddt_loop.proofs.ShapeLemmas.{Shape, stays, of_move, of_haste, was_pending}

@@ -2,6 +2,7 @@
 -- section 7.3).
 use Rattle.std.specs.Prelude.{ℕ, ◌≡◌, ◌<◌, List, [], ◌∷◌, ◌++◌, length, Option, Some, None, Result, Ok, Err, refl}
 use Rattle.std.specs.Coded.{Coded, code_by, coded×}
+use Rattle.std.specs.FinMap.{get}
 use Rattle.ddt_path.specs.declared.locator.Locator.{Locator}
 use Rattle.ddt_path.specs.declared.record.Outcome.{Outcome}
 use Rattle.ddt_path.specs.declared.xeid.Xeid.{Xeid}
@@ -21,7 +22,12 @@ use Rattle.ddt_resolver.specs.declared.step.Reply.TheVariants.{ToAsk, ToTick}
 use Rattle.ddt_resolver.specs.declared.results.Ticked.{Ticked}
 use Rattle.ddt_resolver.specs.TickStep.{HastenStep, HastenWants}
 use Rattle.ddt_resolver.specs.Front.{reply_to_itr}
-use Rattle.ddt_resolver.specs.State.{State, moved, most_pending}
+use Rattle.ddt_ecm.specs.UdpHeader.{control_port}
+use Rattle.ddt_wires.specs.declared.call.Call.TheVariants.{Tried}
+use Rattle.ddt_wires.specs.declared.call.NetFault.{NetFault}
+use Rattle.ddt_resolver.specs.declared.pending.Pending.{Pending}
+use Rattle.ddt_resolver.specs.Table.{IsUnknown}
+use Rattle.ddt_resolver.specs.State.{State, moved, most_pending, server, request_bytes}
 use Rattle.ddt_resolver.specs.Step as resolver
 use Rattle.ddt_resolver.specs.Step.{Ask, Step, Wants, progress_of}
 use Rattle.ddt_loop.specs.declared.owner.Asker.{Asker}
@@ -156,3 +162,15 @@ pub data Hastens (me : Locator) (now nonce : ℕ) (w : Running) (calls : List Ca
       → Proceeds me w.desk (progress_of (ToTick ticked)) calls new.desk → Hastens me now nonce w calls new
   fails : HastenWants (moved now w.state) nonce → new.state ≡ moved now w.state → new.desk ≡ w.desk → calls ≡ []
       → Hastens me now nonce w calls new
+
+-- the last request of a lookup, tried once more
+abbrev pub request_tried : Locator → Pending → Result (Unit {0}) NetFault → Call
+request_tried me l answer = Tried me (server me l) control_port (request_bytes l.nonce l.x me) answer
+
+-- The last request of the lookup that has this nonce is sent again. `unknown`: no pending lookup has the nonce. `none`: it
+-- is out of memory. `again`: the request is tried, with the same nonce.
+pub data Resends (me : Locator) (nonce : ℕ) (s : State) (calls : List Call) : Type 0 where
+  unknown : IsUnknown s.pending nonce → calls ≡ [] → Resends me nonce s calls
+  none : calls ≡ [] → Resends me nonce s calls
+  again : (t : ℕ) (l : Pending) (answer : Result (Unit {0}) NetFault) → get s.pending t ≡ Some l → l.nonce ≡ nonce
+      → calls ≡ request_tried me l answer ∷ [] → Resends me nonce s calls

@@ -4,7 +4,7 @@ use Rattle.std.specs.FinMap.{get}
 use Rattle.ddt_path.specs.declared.locator.Locator.{Locator}
 use Rattle.ddt_register.specs.declared.register.Register.{Register}
 use Rattle.ddt_wires.specs.declared.call.Call.{Call}
-use Rattle.ddt_wires.specs.declared.call.Call.TheVariants.{Received, Tried}
+use Rattle.ddt_wires.specs.declared.call.Call.TheVariants.{Received}
 use Rattle.ddt_wires.specs.declared.call.NetFault.{NetFault}
 use Rattle.ddt_resolver.specs.declared.pending.Pending.{Pending}
 use Rattle.ddt_wires.specs.declared.call.Packet.{Packet}
@@ -12,14 +12,14 @@ use Rattle.ddt_cache.specs.Moment.{last_moment}
 use Rattle.ddt_resolver.specs.Order.{IsStateInOrder}
 use Rattle.ddt_ecm.specs.UdpHeader.{control_port}
 use Rattle.ddt_resolver.specs.Front.{IsItrRequest}
-use Rattle.ddt_resolver.specs.State.{State, moved, server, request_bytes}
+use Rattle.ddt_resolver.specs.State.{State, moved}
 use Rattle.ddt_resolver.specs.Step.{Hear, Tick}
 use Rattle.ddt_resolver.specs.Within.{IsCut}
 use Rattle.ddt_sim.specs.Schedules.{StartsSound}
 use Rattle.ddt_sim.specs.Sound.{IsSound}
 use Rattle.ddt_loop.specs.Askers.{opening_desk}
 use Rattle.ddt_loop.specs.declared.came.Ended.{Ended}
-use Rattle.ddt_loop.specs.Acts.{Running, running, HearsOrTicks, Hastens}
+use Rattle.ddt_loop.specs.Acts.{Running, running, HearsOrTicks, Hastens, request_tried}
 use Rattle.ddt_loop.specs.Ends.{EndsBy, EndsByHaste}
 use Rattle.ddt_loop.specs.Sharing.{Sharer, MayShare, TellsSharers}
 use Rattle.ddt_loop.specs.Polls.{IsPacketTaken}
@@ -41,10 +41,6 @@ pub data IsHeardAs (s : State) (p : Packet) (bytes heard : List ℕ) : Type 0 wh
 abbrev pub MayEndBy : (Ended → Type 0) → Option Ended → Type 0
 MayEndBy ends None = Unit {0}
 MayEndBy ends (Some e) = ends e
-
--- the last request of a lookup, tried once more
-abbrev pub request_tried : Locator → Pending → Result (Unit {0}) NetFault → Call
-request_tried me l answer = Tried me (server me l) control_port (request_bytes l.nonce l.x me) answer
 
 -- a packet from UDP port 4342, heard so, has ended the lookup of an ITR
 pub record EndsByReply (now : ℕ) (p : Packet) (heard : List ℕ) (w new : Running) (e : Ended) : Type 0 where

@@ -11,21 +11,21 @@ ghost use Rattle.ddt_loop.specs.Askers.{opening_desk, with_owner};
 ghost use Rattle.ddt_path.specs.Path.{xeid_path};
 ghost use Rattle.ddt_cache.specs.Found.{IsFound};
 ghost use Rattle.ddt_resolver.specs.AskStep.{beginning_at};
-ghost use Rattle.ddt_loop.specs.Acts.{running, AsksForItr, HearsOrTicks, Hastens};
+ghost use Rattle.ddt_loop.specs.Acts.{running, AsksForItr, HearsOrTicks, Hastens, Resends};
 ghost use Rattle.ddt_wire.specs.declared.message_type.MessageType.TheVariants.{Encapsulated};
 ghost use Rattle.ddt_wire.specs.MessageType.{is_of};
 ghost use Rattle.ddt_loop.specs.Coming.{IsCame, came_to_end};
-ghost use Rattle.ddt_loop.specs.Ends.{HasEndedBy, HasEndedByHaste};
+ghost use Rattle.ddt_loop.specs.Ends.{HasEndedBy, HasEndedByHaste, IsToldEnd};
 ghost use Rattle.ddt_loop.specs.Polls.{IsPacketTaken};
 ghost use Rattle.ddt_loop.specs.Runs.{FairRunsAreRight};
 
 use crate::askers::Askers;
 use crate::asks::ask_for_itr;
 use crate::came::{Came, Ended};
-use crate::steps::{Here, hasten, hear, resolve, take};
+use crate::steps::{Here, hasten, hear, resend, resolve, take, tell_itr};
 use ddt_cache::{Entry, Moment};
-use ddt_path::{Locator, Xeid};
-use ddt_resolver::{Beginning, Input, ItrRequest, Resolver};
+use ddt_path::{Locator, Outcome, Xeid};
+use ddt_resolver::{Beginning, Input, ItrRequest, Resolver, Why};
 use ddt_sim::{a_step_keeps_a_resolver_sound, a_step_keeps_starts_true, honest_replies_are_inside};
 use ddt_trie::PrefixMap;
 use ddt_wires::{Packet, Wires};
@@ -187,6 +187,31 @@ impl<M: PrefixMap<Entry>> RunningResolver<M> {
     {
         let here = Here { me, moment: now };
         hasten(wires, &mut self.resolver, &here, &mut self.askers, nonce)
+    }
+
+    /// Sends the last request of the pending lookup that has this nonce again, as it was. Nothing where no pending lookup
+    /// has it, or if out of memory.
+    pub fn resend<W: Wires>(&self, wires: &mut W, me: Locator, nonce: u64)
+        ensures { (calls : List ACall) × RecordsCalls (W.calls wires.old) calls (W.calls wires.new)
+            × Resends me nonce self.now.state calls }
+    {
+        resend(wires, &self.resolver, me, nonce);
+    }
+
+    /// Tells an ITR the end of a lookup that it shared, as the first one is told by `take`: the negative Map-Reply for a
+    /// hole or a site that isn't registered, and nothing for another end. It takes no memory.
+    pub fn tell<W: Wires>(
+        &mut self,
+        wires: &mut W,
+        me: Locator,
+        request: &ItrRequest,
+        end: &Result<Outcome, Why>,
+    )
+        ensures same { self.new ≡ self.old }
+        ensures told { (calls : List ACall) × RecordsCalls (W.calls wires.old) calls (W.calls wires.new)
+            × IsToldEnd me end.now request.now calls }
+    {
+        tell_itr(wires, me, &mut self.askers, request, end);
     }
 
     /// The number of the ticket of a pending lookup that an ITR waits for which asked for this identifier; None where no

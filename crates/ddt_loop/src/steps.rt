@@ -1,12 +1,13 @@
 //! What comes to the resolver's own socket, and its ticks: each is a step that makes a lookup go on or end.
 
-ghost use Rattle.std.specs.Prelude.{◌≡◌, false, List};
+ghost use Rattle.std.specs.Prelude.{◌≡◌, ◌<◌, false, List, length, IfOk};
+ghost use Rattle.ddt_path.specs.declared.locator.Locator.{Locator as ALocator};
 ghost use Rattle.ddt_wires.specs.declared.call.Call.{Call as ACall};
 ghost use Rattle.ddt_wires.specs.Calls.{RecordsCalls};
-ghost use Rattle.ddt_resolver.specs.State.{moved};
+ghost use Rattle.ddt_resolver.specs.State.{moved, server, request_bytes};
 ghost use Rattle.ddt_resolver.specs.Step.{call_of};
 ghost use Rattle.ddt_loop.specs.Askers.{AreOwners};
-ghost use Rattle.ddt_loop.specs.Acts.{running, Proceeds, Settles, HearsOrTicks, Hastens};
+ghost use Rattle.ddt_loop.specs.Acts.{running, Proceeds, Settles, HearsOrTicks, Hastens, Resends};
 ghost use Rattle.ddt_loop.specs.Ends.{IsToldEnd, IsEnd, HasEnded, HasEndedBy, HasEndedByHaste};
 ghost use Rattle.ddt_wire.specs.declared.message_type.MessageType.TheVariants.{Encapsulated};
 ghost use Rattle.ddt_wire.specs.MessageType.{is_of};
@@ -19,12 +20,13 @@ use crate::came::{Came, Ended, ended_so, ends, waits};
 use crate::ends::end_of;
 use crate::owner::Asker;
 use ddt_cache::{Entry, Moment};
-use ddt_ecm::CONTROL_PORT;
+use ddt_ecm::{CONTROL_PORT, write_request};
 use ddt_path::{Locator, Outcome};
-use ddt_resolver::{Front, Input, ItrRequest, Progress, Reply, Resolver, Ticket, Why};
+use ddt_resolver::{Front, Input, ItrRequest, Pending, Progress, Reply, Resolver, Ticket, Why};
 use ddt_trie::PrefixMap;
 use ddt_wire::MessageType;
 use ddt_wires::{Packet, Wires};
+use std::alloc::{AllocError, Global};
 
 /// The resolver's own address, and the moment of what it does.
 #[derive(Clone, Copy, Debug)]
@@ -144,6 +146,44 @@ pub(crate) fn hasten<W: Wires, M: PrefixMap<Entry>>(
     }
 }
 
+/// Sends the last request of the lookup that has this nonce again, as it was. Nothing where no pending lookup has it, or
+/// if out of memory.
+pub(crate) fn resend<W: Wires, M: PrefixMap<Entry>>(
+    wires: &mut W,
+    resolver: &Resolver<M>,
+    me: Locator,
+    nonce: u64,
+)
+    ensures { (calls : List ACall) × RecordsCalls (W.calls wires.old) calls (W.calls wires.new)
+        × Resends me nonce resolver.now calls }
+{
+    resolver.in_order();
+    let Some((_ticket, lookup)) = resolver.lookup_with(nonce) else {
+        return;
+    };
+    let server = asked_server(&lookup);
+    let Ok(bytes) = last_request(resolver.alloc(), &lookup, me) else {
+        return;
+    };
+    let _sent = wires.send(me, server, CONTROL_PORT, &bytes);
+}
+
+/// The server that a lookup has asked last.
+fn asked_server(lookup: &Pending) -> Locator
+    requires { lookup.now.place < length lookup.now.servers }
+    ensures { (me : ALocator) → result ≡ server me lookup.now }
+{
+    lookup.servers.as_slice()[lookup.place]
+}
+
+/// The last request of a lookup. It fails only if out of memory.
+#[tactic(auto, unfolding(ddt_resolver::specs::State::request_bytes))]
+fn last_request(alloc: Global, lookup: &Pending, me: Locator) -> Result<Vec<u8>, AllocError>
+    ensures { IfOk result (λ bytes. bytes.items ≡ request_bytes lookup.now.nonce lookup.now.x me) }
+{
+    write_request(alloc, lookup.nonce, lookup.x, &[me], true)
+}
+
 /// A lookup goes on or ends.
 fn go_on<W: Wires>(
     wires: &mut W,
@@ -191,7 +231,7 @@ fn settle<W: Wires>(
 }
 
 /// An ITR whose lookup has ended is sent the negative Map-Reply, if there is one.
-fn tell_itr<W: Wires>(
+pub(crate) fn tell_itr<W: Wires>(
     wires: &mut W,
     me: Locator,
     askers: &mut Askers,

@@ -1,14 +1,14 @@
 -- The request that waits for a lookup is taken off the list.
-use Rattle.std.proofs.Common.{◌≡◌, ℕ, suc, ◌+◌, ◌<◌, Bool, true, false, List, [], ◌∷◌, ◌++◌, length, take, drop, get_or, Option, Some, None, refl, sym, ap, ◌∙◌, arith, add-one}
+use Rattle.std.proofs.Common.{◌≡◌, ℕ, suc, ◌+◌, ◌<◌, ◌≤◌, Bool, true, false, List, [], ◌∷◌, ◌++◌, length, take, drop, get_or, Option, Some, None, refl, sym, ap, ◌∙◌, subst, arith, add-one}
 use Rattle.std.specs.Prelude.{◌≢◌, ◌==◌, not, nat_lt, All, position}
 use Rattle.std.specs.List.{position_or_len, remove}
 use Rattle.std.proofs.lemmas.Option.{none-some}
 use Rattle.std.proofs.lemmas.Bool.{cond-true, cond-false, eqb-true, eq-eqb, lt-ltb, false≢true}
-use Rattle.std.proofs.lemmas.List.{take-append-drop, drop_more}
+use Rattle.std.proofs.lemmas.List.{take-append-drop, drop_more, length-take, get_or-take}
 use Rattle.std.proofs.lemmas.List.Elements.{All-nil, All-cons}
 use Rattle.std.proofs.lemmas.List.Quantifiers.{position-Some}
 use Rattle.ddt_daemon.specs.declared.itr_requests.Kept.{Kept}
-use Rattle.ddt_daemon.specs.Kept.{kept_of, TakesKept, nobody, somebody}
+use Rattle.ddt_daemon.specs.Kept.{TakesKept, nobody, somebody}
 
 abbrev pub has_ticket : ℕ → Kept → Bool
 has_ticket t o = o.ticket == t
@@ -38,15 +38,21 @@ place_in t n kept seen r found is number same given =
 pub nobody_at : (t : ℕ) (kept : List Kept) → position (has_ticket t) kept ≡ None → TakesKept t kept kept None
 nobody_at t kept none = nobody (none_before t kept (λ lt. none-some _ (sym none ∙ cond-true (nat_lt (position_or_len (has_ticket t) kept) (length kept)) (Some (position_or_len (has_ticket t) kept)) None (lt-ltb _ _ lt)))) refl refl
 
+before_first : (t : ℕ) (kept : List Kept) (i : ℕ) → position (has_ticket t) kept ≡ Some i → All (λ p. p.ticket ≢ t) (take i kept)
+before_first t kept i found k d lt same =
+    let at = position-Some (has_ticket t) kept i d found in
+    let short : length (take i kept) ≤ i = subst (λ n. n ≤ i) (sym (length-take i kept)) (omega arith) in
+    let below : k < i = omega (arith, lt, short) in
+    false≢true (sym (at.2 k below) ∙ eq-eqb _ t (ap (λ (o : Kept). o.ticket) (sym (get_or-take i kept k d below)) ∙ same))
+
 pub somebody_at : (t : ℕ) (kept : List Kept) (i : ℕ) (o : Kept) → position (has_ticket t) kept ≡ Some i
-    → o ≡ get_or kept i o → TakesKept t kept (remove kept i) (Some o.bytes)
+    → o ≡ get_or kept i o → TakesKept t kept (remove kept i) (Some o)
 somebody_at t kept i o found read =
     let at = position-Some (has_ticket t) kept i o found in
     let within : i < length kept = at.0 in
     let its : o.ticket ≡ t = eqb-true o.ticket t (ap (has_ticket t) read ∙ at.1) in
-    let is : o ≡ kept_of t o.request o.bytes = ap (λ n. kept_of n o.request o.bytes) its in
-    let tail : drop i kept ≡ kept_of t o.request o.bytes ∷ drop (suc i) kept =
-    drop_more kept i o within ∙ ap (λ p. p ∷ drop (i + 1) kept) (sym read ∙ is)
-    ∙ ap (λ n. kept_of t o.request o.bytes ∷ drop n kept) (add-one i) in
-    somebody (take i kept) (drop (suc i) kept) o.request o.bytes
+    let tail : drop i kept ≡ o ∷ drop (suc i) kept =
+    drop_more kept i o within ∙ ap (λ p. p ∷ drop (i + 1) kept) (sym read)
+    ∙ ap (λ n. o ∷ drop n kept) (add-one i) in
+    somebody (take i kept) (drop (suc i) kept) o (before_first t kept i found) its
     (sym (take-append-drop i kept) ∙ ap (λ rest. take i kept ++ rest) tail) refl refl

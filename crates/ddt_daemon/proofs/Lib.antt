@@ -1,2 +1,6 @@
 pub mod KeptLemmas
+pub mod PlaceLemmas
+pub mod CloseLemmas
+pub mod PlainLemmas
+pub mod HandleLemmas
 pub mod RunLemmas

@@ -8,7 +8,7 @@ use Rattle.ddt_wires.specs.declared.call.NetFault.{NetFault}
 use Rattle.ddt_resolver.specs.declared.results.Why.{Why}
 use Rattle.ddt_resolver.specs.declared.results.Why.TheVariants.{NoReply, Loop, NotAuthoritative, Exhausted}
 use Rattle.ddt_daemon.specs.declared.admission.Dropped.{Dropped}
-use Rattle.ddt_daemon.specs.declared.admission.Dropped.TheVariants.{Denied, TooLong, NoRequest, Repeated, Full, Memory}
+use Rattle.ddt_daemon.specs.declared.admission.Dropped.TheVariants.{Denied, TooLong, NoRequest, Repeated, Full, SourceFull, SetFull, Memory}
 use Rattle.ddt_daemon.specs.declared.counts.ServerCounts.{ServerCounts}
 use Rattle.ddt_daemon.specs.declared.counts.ResolverCounts.{ResolverCounts}
 use Rattle.ddt_daemon.specs.declared.counted.WireCounts.{WireCounts}
@@ -25,11 +25,15 @@ no_call = record { received = 0; unreceived = 0; sent = 0; unsent = 0 }
 abbrev pub nothing_counted : ResolverCounts
 nothing_counted = record {
   lookups = 0;
+  shared = 0;
+  cut = 0;
   denied = 0;
   too_long = 0;
   no_request = 0;
   repeated = 0;
   full = 0;
+  source_full = 0;
+  set_full = 0;
   memory = 0;
   registered = 0;
   not_registered = 0;
@@ -51,7 +55,21 @@ with_dropped c TooLong = record c { too_long = plus c.too_long 1 }
 with_dropped c NoRequest = record c { no_request = plus c.no_request 1 }
 with_dropped c Repeated = record c { repeated = plus c.repeated 1 }
 with_dropped c Full = record c { full = plus c.full 1 }
+with_dropped c SourceFull = record c { source_full = plus c.source_full 1 }
+with_dropped c SetFull = record c { set_full = plus c.set_full 1 }
 with_dropped c Memory = record c { memory = plus c.memory 1 }
+
+-- one more request of an ITR that has started a lookup
+abbrev pub with_lookup : ResolverCounts → ResolverCounts
+with_lookup c = record c { lookups = plus c.lookups 1 }
+
+-- one more that shares a lookup
+abbrev pub with_shared : ResolverCounts → ResolverCounts
+with_shared c = record c { shared = plus c.shared 1 }
+
+-- one more reply that was cut to its zone
+abbrev pub with_cut : ResolverCounts → ResolverCounts
+with_cut c = record c { cut = plus c.cut 1 }
 
 -- the end of an ITR's lookup
 abbrev pub with_ended : ResolverCounts → Result Outcome Why → ResolverCounts

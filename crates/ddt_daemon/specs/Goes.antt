@@ -1,42 +1,60 @@
--- What goes on of the requests that wait, and what is counted of lookups.
-use Rattle.std.specs.Prelude.{ℕ, ◌≡◌, List, [], ◌∷◌, ◌++◌, Option, Some, None}
+-- What becomes of the requests that wait for a lookup which has ended, and what is counted of lookups.
+use Rattle.std.specs.Prelude.{ℕ, ◌≡◌, ◌≢◌, Bool, true, false, List, [], ◌∷◌, ◌++◌, All, Option, Some, None, Result}
 use Rattle.ddt_path.specs.declared.locator.Locator.{Locator}
+use Rattle.ddt_path.specs.declared.record.Outcome.{Outcome}
 use Rattle.ddt_wires.specs.declared.call.Call.{Call}
-use Rattle.ddt_wires.specs.Turns.{AreTried}
-use Rattle.ddt_resolver.specs.Front.{IsItrRequest}
-use Rattle.ddt_resolver.specs.declared.itr_messages.ItrRequest.{ItrRequest}
-use Rattle.ddt_loop.specs.declared.came.Came.{Came}
-use Rattle.ddt_loop.specs.declared.came.Came.TheVariants.{Nothing, Waits, Ended}
+use Rattle.ddt_wires.specs.Turns.{Outgoing, AreTried}
+use Rattle.ddt_resolver.specs.declared.results.Why.{Why}
 use Rattle.ddt_loop.specs.declared.came.Ended.{Ended as End}
+use Rattle.ddt_loop.specs.Ends.{IsToldEnd}
+use Rattle.ddt_loop.specs.Sharing.{Sharer}
 use Rattle.ddt_onward.specs.Onward.{onward}
 use Rattle.ddt_daemon.specs.declared.counts.ResolverCounts.{ResolverCounts}
 use Rattle.ddt_daemon.specs.declared.itr_requests.Kept.{Kept}
 use Rattle.ddt_daemon.specs.Counted.{plus, with_ended}
-use Rattle.ddt_daemon.specs.Kept.{kept_of, TakesKept}
 
--- What becomes of the requests that wait, and what goes on, by what came of a packet of these bytes. `same`: nothing.
--- `waits`: its lookup has started, and the request is kept as it came. `ends`: a lookup has ended, and the request that
--- waited for it goes on to the server that ended it, where its site is registered.
-pub data Follows (me : Locator) (bytes : List ℕ) (old : List Kept) : Came → List Call → List Kept → Type 0 where
-  same : Follows me bytes old Nothing [] old
-  waits : (t len : ℕ) (q : ItrRequest) → IsItrRequest bytes q
-      → Follows me bytes old (Waits t len) [] (old ++ kept_of t q bytes ∷ [])
-  ends : (server : Locator) (e : End) (taken : Option (List ℕ)) (far : List Call) (new : List Kept)
-      → TakesKept e.ticket old new taken → AreTried me (onward server e.end taken) far
-      → Follows me bytes old (Ended server e) far new
+-- of the requests that wait, those that share a lookup, each with the lookup's ticket
+abbrev pub sharer_if : Bool → Kept → List Sharer
+sharer_if true k = record { ticket = k.ticket; request = k.request } ∷ []
+sharer_if false k = []
 
--- what waits for a lookup that has ended at a tick waits no longer
-abbrev pub FollowsTick : Option End → List Kept → List Kept → Type 0
-FollowsTick None old new = new ≡ old
-FollowsTick (Some e) old new = (taken : Option (List ℕ)) × TakesKept e.ticket old new taken
+abbrev pub sharers : List Kept → List Sharer
+sharers [] = []
+sharers (k ∷ kept) = sharer_if k.shares k ++ sharers kept
 
--- the counts once a packet came: what it was for the ITRs that wait
-abbrev pub with_came : ResolverCounts → Came → ResolverCounts
-with_came c Nothing = c
-with_came c (Waits t len) = record c { lookups = plus c.lookups 1 }
-with_came c (Ended server e) = with_ended c e.end
+-- an ITR that shares a lookup is told its end here; the one that has started it is told by the resolver
+abbrev pub IsSharerTold : Locator → Result Outcome Why → Bool → Kept → List Call → Type 0
+IsSharerTold me end true k calls = IsToldEnd me end k.request calls
+IsSharerTold me end false k calls = calls ≡ []
 
--- a tick that ends the lookup of an ITR is counted by the outcome, or by why the lookup gave up; others aren't counted
-abbrev pub with_ticked : ResolverCounts → Option End → ResolverCounts
-with_ticked c None = c
-with_ticked c (Some e) = with_ended c e.end
+-- a request goes on to the server whose datagram has ended its lookup as registered; at another end, or where no
+-- datagram did, nothing goes on
+abbrev pub goes_on : Option Locator → Result Outcome Why → List ℕ → List Outgoing
+goes_on None end bytes = []
+goes_on (Some server) end bytes = onward server end (Some bytes)
+
+-- The requests that wait for a lookup which has ended are closed, the first first: each is told, if it shares the lookup,
+-- and goes on, if its site is registered.
+pub data Closes (me : Locator) (by : Option Locator) (e : End) (old : List Kept) : List Call → List Call → List Kept → Type 0
+  where
+    starts : Closes me by e old [] [] old
+    one : {near far : List Call} {left : List Kept} (before after : List Kept) (k : Kept) (told on : List Call)
+        → Closes me by e old near far left → left ≡ before ++ k ∷ after → All (λ k. k.ticket ≢ e.ticket) before
+        → k.ticket ≡ e.ticket → IsSharerTold me e.end k.shares k told → AreTried me (goes_on by e.end k.bytes) on
+        → Closes me by e old (near ++ told) (far ++ on) (before ++ after)
+
+-- all that wait for it are closed, and none does any more
+pub record AreClosed (me : Locator) (by : Option Locator) (e : End) (old : List Kept) (near far : List Call)
+    (new : List Kept) : Type 0 where
+  pub closes : Closes me by e old near far new
+  pub nobody : All (λ k. k.ticket ≢ e.ticket) new
+
+-- where the lookup of an ITR has ended, all that wait for it are closed
+abbrev pub Follows : Locator → Option Locator → Option End → List Kept → List Call → List Call → List Kept → Type 0
+Follows me by None old near far new = (near ≡ []) × (far ≡ []) × (new ≡ old)
+Follows me by (Some e) old near far new = AreClosed me by e old near far new
+
+-- the end of a lookup is counted by the outcome, or by why it gave up
+abbrev pub with_end : ResolverCounts → Option End → ResolverCounts
+with_end c None = c
+with_end c (Some e) = with_ended c e.end

@@ -1,6 +1,8 @@
 -- The requests of ITRs that wait for lookups.
-use Rattle.std.specs.Prelude.{ℕ, ◌≡◌, ◌≢◌, ◌==◌, ◌&&◌, Bool, List, ◌∷◌, ◌++◌, All, Option, Some, None}
-use Rattle.std.specs.List.{list_any}
+use Rattle.std.specs.Prelude.{ℕ, ◌≡◌, ◌≢◌, ◌==◌, ◌&&◌, Bool, false, List, [], ◌∷◌, ◌++◌, All, Option, Some, None}
+use Rattle.std.specs.List.{list_any, count_by}
+use Rattle.std.specs.Cmp.Lexicographic.{pointwise}
+use Rattle.ddt_path.specs.declared.locator.Locator.{Locator}
 use Rattle.ddt_path.specs.declared.xeid.Xeid.{Xeid}
 use Rattle.ddt_path.specs.Locators.{is_same_locator}
 use Rattle.ddt_resolver.specs.declared.itr_messages.ItrRequest.{ItrRequest}
@@ -18,13 +20,22 @@ is_same_request p q = is_same_xeid p.xeid q.xeid && ((p.nonce == q.nonce) && (is
 abbrev pub waits_for : List Kept → ItrRequest → Bool
 waits_for kept q = list_any (λ k. is_same_request k.request q) kept
 
--- the request of an ITR that waits for the lookup of a ticket, with its bytes as they came: they go on to a
--- Map-Server if its site is registered
-abbrev pub kept_of : ℕ → ItrRequest → List ℕ → Kept
-kept_of t q bytes_ = record { ticket = t; request = q; bytes = bytes_ }
+-- how many requests that came from this source wait
+abbrev pub of_source : List Kept → Locator → ℕ
+of_source kept from = count_by (λ k. is_same_locator k.from from) kept
 
--- What waits for the lookup of a ticket waits no longer. `nobody`: nothing waits for it. `somebody`: this does.
-pub data TakesKept (t : ℕ) (old new : List Kept) (taken : Option (List ℕ)) : Type 0 where
+-- whether a lookup began at this referral set
+abbrev pub begins_at : Option (List Locator) → List Locator → Bool
+begins_at None servers = false
+begins_at (Some own) servers = pointwise is_same_locator own servers
+
+-- how many requests wait whose lookup began at this referral set
+abbrev pub of_set : List Kept → List Locator → ℕ
+of_set kept servers = count_by (λ k. begins_at k.begins servers) kept
+
+-- A request that waits for the lookup of a ticket waits no longer. `nobody`: none waits for it. `somebody`: the first
+-- that does.
+pub data TakesKept (t : ℕ) (old new : List Kept) (taken : Option Kept) : Type 0 where
   nobody : All (λ k. k.ticket ≢ t) old → new ≡ old → taken ≡ None → TakesKept t old new taken
-  somebody : (before after : List Kept) (q : ItrRequest) (bytes : List ℕ) → old ≡ before ++ kept_of t q bytes ∷ after
-      → new ≡ before ++ after → taken ≡ Some bytes → TakesKept t old new taken
+  somebody : (before after : List Kept) (k : Kept) → All (λ k. k.ticket ≢ t) before → k.ticket ≡ t
+      → old ≡ before ++ k ∷ after → new ≡ before ++ after → taken ≡ Some k → TakesKept t old new taken

@@ -1,26 +1,30 @@
 -- The rounds of a daemon: of a server at one of its sockets, and of a resolver between ITRs, servers and Map-Servers.
-use Rattle.std.specs.Prelude.{Bool, Result, is_some, ℕ, ◌≡◌, ◌⊎◌, List, [], ◌∷◌, ◌++◌, Option, Some, None, Ok, Err, true, false, ◌+◌}
+use Rattle.std.specs.Prelude.{Bool, Result, is_some, ℕ, ◌≡◌, ◌≢◌, ◌⊎◌, List, [], ◌∷◌, ◌++◌, Option, Some, None, Ok, Err, true, false, ◌+◌}
 use Rattle.ddt_path.specs.declared.locator.Locator.{Locator}
 use Rattle.ddt_wires.specs.declared.call.Call.{Call}
 use Rattle.ddt_wires.specs.declared.call.Call.TheVariants.{Received, Tried}
 use Rattle.ddt_wires.specs.declared.call.NetFault.{NetFault}
 use Rattle.ddt_wires.specs.declared.call.Packet.{Packet}
+use Rattle.ddt_resolver.specs.declared.itr_messages.ItrRequest.{ItrRequest}
 use Rattle.ddt_resolver.specs.State.{moved}
 use Rattle.ddt_resolver.specs.Step.{Tick}
-use Rattle.ddt_loop.specs.declared.came.Came.{Came}
 use Rattle.ddt_loop.specs.declared.came.Ended.{Ended as End}
-use Rattle.ddt_loop.specs.Acts.{Running, HearsOrTicks}
-use Rattle.ddt_loop.specs.Coming.{IsCame}
-use Rattle.ddt_loop.specs.Ends.{HasEndedBy}
+use Rattle.ddt_loop.specs.Acts.{Running, running, AsksForItr, HearsOrTicks, Hastens}
+use Rattle.ddt_loop.specs.Ends.{EndsBy, EndsByHaste}
+use Rattle.ddt_ecm.specs.UdpHeader.{control_port}
+use Rattle.ddt_resolver.specs.Within.{IsCut}
+use Rattle.ddt_loop.specs.Runs.{MayEndBy, EndsByReply}
+use Rattle.ddt_loop.specs.Sharing.{IsAskedBy}
 use Rattle.ddt_wire.specs.declared.message_type.MessageType.TheVariants.{Encapsulated}
 use Rattle.ddt_wire.specs.MessageType.{is_of}
 use Rattle.ddt_loop.specs.Polls.{polled, IsPacketTaken}
 use Rattle.ddt_daemon.specs.declared.itr_requests.Kept.{Kept}
+use Rattle.ddt_daemon.specs.declared.admission.Admitted.{Admitted}
 use Rattle.ddt_daemon.specs.declared.admission.Dropped.{Dropped}
 use Rattle.ddt_daemon.specs.declared.counts.ResolverCounts.{ResolverCounts}
 use Rattle.ddt_daemon.specs.Admitted.{IsAdmitted, IsDropped}
-use Rattle.ddt_daemon.specs.Counted.{with_dropped}
-use Rattle.ddt_daemon.specs.Goes.{Follows, FollowsTick, with_came, with_ticked}
+use Rattle.ddt_daemon.specs.Counted.{with_dropped, with_lookup, with_shared, with_cut}
+use Rattle.ddt_daemon.specs.Goes.{Follows, with_end}
 
 -- a resolver, the requests that wait for its lookups, and what it has counted
 pub record Resolving : Type 0 where
@@ -32,28 +36,80 @@ pub record Resolving : Type 0 where
 abbrev pub resolving : Running → List Kept → ResolverCounts → Resolving
 resolving w k c = record { running = w; kept = k; counts = c }
 
--- an Encapsulated Control Message is asked for; any other datagram is heard
-abbrev pub IsLetIn : List (List ℕ) → List Kept → Packet → List ℕ → Type 0
-IsLetIn allow kept p bytes = (is_of Encapsulated bytes ≡ false) ⊎ ((is_of Encapsulated bytes ≡ true) × IsAdmitted allow kept p.from bytes)
+-- time has passed, or hasn't: nothing else changes
+abbrev pub HasWaited : ℕ → Running → Running → Type 0
+HasWaited now w v = (v ≡ w) ⊎ (v ≡ running (moved now w.state) w.desk)
 
--- A packet that is let in is taken as a running resolver takes it, over the near wires; what goes on goes over the far
--- wires.
-pub record TakesIn (me : Locator) (now : ℕ) (p : Packet) (bytes : List ℕ) (w : Resolving) (near far : List Call)
+-- the resolver at the moment of a request
+abbrev pub at_moment : ℕ → Running → Running
+at_moment now w = running (moved now w.state) w.desk
+
+-- a request of an ITR that came from there waits, as the one that has started its lookup or as one that shares it
+pub record WaitsAs (shares : Bool) (from : Locator) (bytes : List ℕ) (q : ItrRequest) (k : Kept) : Type 0 where
+  pub shared : k.shares ≡ shares
+  pub request : k.request ≡ q
+  pub source : k.from ≡ from
+  pub bytes_are : k.bytes ≡ bytes
+
+-- what is kept of a request that is asked for: nothing where it is answered at once or refused, else the request
+pub data KeepsAsked (from : Locator) (bytes : List ℕ) (q : ItrRequest) (old : List Kept) (counts : ResolverCounts) :
+    List Kept → ResolverCounts → Type 0 where
+  at_once : KeepsAsked from bytes q old counts old counts
+  waits : (k : Kept) → WaitsAs false from bytes q k
+      → KeepsAsked from bytes q old counts (old ++ k ∷ []) (with_lookup counts)
+
+-- What becomes of a request that is admitted. `shares`: it waits for the lookup of a ticket. `asks`: it is asked for.
+pub data IsAsked (me : Locator) (now : ℕ) (a : Admitted) (w : Resolving) (near : List Call) (new : Resolving) : Type 0
+  where
+    shares : (t : ℕ) (k : Kept) → a.place.shares ≡ Some t → k.ticket ≡ t → WaitsAs true a.from a.bytes a.request k
+        → near ≡ [] → new ≡ resolving w.running (w.kept ++ k ∷ []) (with_shared w.counts)
+        → IsAsked me now a w near new
+    asks : AsksForItr me now a.request w.running near new.running
+        → KeepsAsked a.from a.bytes a.request w.kept w.counts new.kept new.counts → IsAsked me now a w near new
+
+-- What a datagram of these bytes from UDP port 4342 does, as it is heard.
+pub record HearsReply (me : Locator) (now : ℕ) (p : Packet) (heard : List ℕ) (w : Resolving) (near far : List Call)
     (new : Resolving) : Type 0 where
-  pub came : Came
-  pub taken : IsPacketTaken me now p bytes w.running near new.running
-  pub comes : IsCame now p.from bytes w.running new.running came
-  pub follows : Follows me bytes w.kept came far new.kept
-  pub counts : new.counts ≡ with_came w.counts came
+  pub tries : List Call
+  pub taken : IsPacketTaken me now p heard w.running tries new.running
+  pub ended : Option End
+  pub ends : MayEndBy (EndsByReply now p heard w.running new.running) ended
+  pub tells : List Call
+  pub follows : Follows me (Some p.from) ended w.kept tells far new.kept
+  pub calls_are : near ≡ tries ++ tells
+  pub counts : new.counts ≡ with_end w.counts ended
 
--- What is done with a packet. `dropped`: an Encapsulated Control Message is dropped, and counted by why. `taken`: it is
--- let in.
+-- What is done with a datagram that is no Encapsulated Control Message. `other_port`: it isn't from UDP port 4342, and
+-- dropped. `whole`: it is heard as it came. `cut`: it reaches beyond the zone of its server, and is heard as if it said
+-- the same of that zone alone. `lost`: there is no memory to cut it.
+pub data IsHeard (me : Locator) (now : ℕ) (p : Packet) (bytes : List ℕ) (w : Resolving) (near far : List Call)
+    (new : Resolving) : Type 0 where
+  other_port : p.port ≢ control_port → near ≡ [] → far ≡ [] → new ≡ w → IsHeard me now p bytes w near far new
+  whole : p.port ≡ control_port → IsCut w.running.state p.from bytes None → HearsReply me now p bytes w near far new
+      → IsHeard me now p bytes w near far new
+  cut : (heard : List ℕ) → p.port ≡ control_port → IsCut w.running.state p.from bytes (Some heard)
+      → HearsReply me now p heard (record w { counts = with_cut w.counts }) near far new
+      → IsHeard me now p bytes w near far new
+  lost : near ≡ [] → far ≡ [] → new ≡ w → IsHeard me now p bytes w near far new
+
+-- What is done with a packet. `dropped`: an Encapsulated Control Message is dropped, and counted by why. `shared`: it is
+-- a request, and shares the lookup that an ITR waits for. `asked`: it is a request, and asked for. `heard`: any other
+-- datagram.
 pub data IsHandled (allow : List (List ℕ)) (me : Locator) (now : ℕ) (p : Packet) (bytes : List ℕ) (w : Resolving)
     (near far : List Call) (new : Resolving) : Type 0 where
-  dropped : (why : Dropped) → is_of Encapsulated bytes ≡ true → IsDropped allow w.kept p.from bytes why → near ≡ []
-      → far ≡ [] → new ≡ record w { counts = with_dropped w.counts why }
+  dropped : (why : Dropped) (v : Running) → is_of Encapsulated bytes ≡ true
+      → IsDropped allow w.kept (at_moment now w.running) p.from bytes why → HasWaited now w.running v → near ≡ []
+      → far ≡ [] → new ≡ resolving v w.kept (with_dropped w.counts why) → IsHandled allow me now p bytes w near far new
+  shared : (q : ItrRequest) (k : Kept) → is_of Encapsulated bytes ≡ true
+      → IsAdmitted allow w.kept (at_moment now w.running) p.from bytes q → WaitsAs true p.from bytes q k
+      → IsAskedBy w.running.desk.owners k.ticket q.xeid → near ≡ [] → far ≡ []
+      → new ≡ resolving (at_moment now w.running) (w.kept ++ k ∷ []) (with_shared w.counts)
       → IsHandled allow me now p bytes w near far new
-  taken : IsLetIn allow w.kept p bytes → TakesIn me now p bytes w near far new
+  asked : (q : ItrRequest) → is_of Encapsulated bytes ≡ true
+      → IsAdmitted allow w.kept (at_moment now w.running) p.from bytes q
+      → AsksForItr me now q (at_moment now w.running) near new.running → far ≡ []
+      → KeepsAsked p.from bytes q w.kept w.counts new.kept new.counts → IsHandled allow me now p bytes w near far new
+  heard : is_of Encapsulated bytes ≡ false → IsHeard me now p bytes w near far new
       → IsHandled allow me now p bytes w near far new
 
 -- whether an answer of `receive` has a packet, or one was lost
@@ -77,16 +133,33 @@ pub data IsRound (allow : List (List ℕ)) (me : Locator) (now : ℕ) (w : Resol
       → IsHandled allow me now p bytes w tries far new → IsRound allow me now w near far new
 
 -- A tick: a lookup that is due goes on or ends, over the near wires. Nothing goes on over the far ones.
-pub record IsTick (me : Locator) (now : ℕ) (w : Resolving) (near : List Call) (new : Resolving) : Type 0 where
+pub record IsTick (me : Locator) (now : ℕ) (w : Resolving) (near far : List Call) (new : Resolving) : Type 0 where
+  pub tries : List Call
+  pub resolves : HearsOrTicks me now Tick w.running tries new.running
   pub ended : Option End
-  pub resolves : HearsOrTicks me now Tick w.running near new.running
-  pub ends : HasEndedBy Tick (moved now w.running.state) new.running.state w.running.desk.owners
-      new.running.desk.owners ended
-  pub follows : FollowsTick ended w.kept new.kept
-  pub counts : new.counts ≡ with_ticked w.counts ended
+  pub ends : MayEndBy (EndsBy Tick (moved now w.running.state) new.running.state w.running.desk.owners
+      new.running.desk.owners) ended
+  pub tells : List Call
+  pub follows : Follows me None ended w.kept tells far new.kept
+  pub calls_are : near ≡ tries ++ tells
+  pub counts : new.counts ≡ with_end w.counts ended
+
+-- The lookup whose last request has this nonce is hastened: it goes on or ends as by a tick.
+pub record IsHastened (me : Locator) (now nonce : ℕ) (w : Resolving) (near far : List Call) (new : Resolving) : Type 0
+  where
+    pub tries : List Call
+    pub hastens : Hastens me now nonce w.running tries new.running
+    pub ended : Option End
+    pub ends : MayEndBy (EndsByHaste nonce (moved now w.running.state) new.running.state w.running.desk.owners
+        new.running.desk.owners) ended
+    pub tells : List Call
+    pub follows : Follows me None ended w.kept tells far new.kept
+    pub calls_are : near ≡ tries ++ tells
+    pub counts : new.counts ≡ with_end w.counts ended
 
 -- so many ticks, one after the other
-pub data AreTicks (me : Locator) (now : ℕ) (w : Resolving) : ℕ → List Call → Resolving → Type 0 where
-  no_tick : AreTicks me now w 0 [] w
-  one_tick : {count : ℕ} {calls : List Call} {v : Resolving} (more : List Call) (new : Resolving)
-      → AreTicks me now w count calls v → IsTick me now v more new → AreTicks me now w (count + 1) (calls ++ more) new
+pub data AreTicks (me : Locator) (now : ℕ) (w : Resolving) : ℕ → List Call → List Call → Resolving → Type 0 where
+  no_tick : AreTicks me now w 0 [] [] w
+  one_tick : {count : ℕ} {near far : List Call} {v : Resolving} (more on : List Call) (new : Resolving)
+      → AreTicks me now w count near far v → IsTick me now v more on new
+      → AreTicks me now w (count + 1) (near ++ more) (far ++ on) new

@@ -10,32 +10,41 @@ use Rattle.ddt_resolver.specs.declared.itr_messages.ItrRequest.{ItrRequest}
 use Rattle.ddt_resolver.specs.Front.{IsItrRequest}
 use Rattle.ddt_resolver.specs.State.{State}
 use Rattle.ddt_loop.specs.Askers.{opening_desk}
-use Rattle.ddt_loop.specs.Acts.{running}
+use Rattle.ddt_loop.specs.Acts.{running, Resends}
 use Rattle.ddt_loop.specs.Runs.{BeginsSound, HasRun}
 use Rattle.ddt_onward.specs.Onward.{with_d}
 use Rattle.ddt_daemon.specs.declared.itr_requests.Kept.{Kept}
-use Rattle.ddt_daemon.specs.Rounds.{Resolving, resolving, IsRound, IsTick}
+use Rattle.ddt_daemon.specs.Goes.{sharers}
+use Rattle.ddt_daemon.specs.Rounds.{Resolving, resolving, IsRound, IsTick, IsHastened}
 
 -- What has been done so far, by the calls of the near wires and those of the far wires: rounds, each by the settings in
--- force, ticks, and renewals, in any order. `renewal`: another resolver, that may begin, goes on, and nothing waits.
+-- force, ticks, lookups that are hastened, requests that are sent again, and renewals, in any order. `renewal`: another
+-- resolver, that may begin and gives no nonce again, goes on, and nothing waits.
 pub data HasServed (may_begin : State → Type 0) (me : Locator) (start : Resolving) :
     List Call → List Call → Resolving → Type 0 where
   begins : HasServed may_begin me start [] [] start
   round : {calls onward : List Call} {w : Resolving} (allow : List (List ℕ)) (now : ℕ) (near far : List Call)
       (new : Resolving) → HasServed may_begin me start calls onward w → now ≤ last_moment
       → IsRound allow me now w near far new → HasServed may_begin me start (calls ++ near) (onward ++ far) new
-  tick : {calls onward : List Call} {w : Resolving} (now : ℕ) (near : List Call) (new : Resolving)
-      → HasServed may_begin me start calls onward w → now ≤ last_moment → IsTick me now w near new
-      → HasServed may_begin me start (calls ++ near) onward new
+  tick : {calls onward : List Call} {w : Resolving} (now : ℕ) (near far : List Call) (new : Resolving)
+      → HasServed may_begin me start calls onward w → now ≤ last_moment → IsTick me now w near far new
+      → HasServed may_begin me start (calls ++ near) (onward ++ far) new
+  hastening : {calls onward : List Call} {w : Resolving} (now nonce : ℕ) (near far : List Call) (new : Resolving)
+      → HasServed may_begin me start calls onward w → now ≤ last_moment → IsHastened me now nonce w near far new
+      → HasServed may_begin me start (calls ++ near) (onward ++ far) new
+  resending : {calls onward : List Call} {w : Resolving} (nonce : ℕ) (near : List Call)
+      → HasServed may_begin me start calls onward w → Resends me nonce w.running.state near
+      → HasServed may_begin me start (calls ++ near) onward w
   renewal : {calls onward : List Call} {w : Resolving} (new : State) → HasServed may_begin me start calls onward w
-      → may_begin new
+      → may_begin new → w.running.state.next ≤ new.next
       → HasServed may_begin me start calls onward (resolving (running new (opening_desk [])) [] w.counts)
 
 -- By its near wires it is a running resolver, so that what holds of those holds of it. The resolvers that go on begin
 -- sound for one register.
 abbrev pub RunsAsAResolver : Type 0
 RunsAsAResolver = (r : _) (me : Locator) (start : Resolving) (calls onward : List Call) (w : Resolving)
-    → HasServed (BeginsSound r me) me start calls onward w → HasRun (BeginsSound r me) me start.running calls w.running
+    → start.kept ≡ [] → HasServed (BeginsSound r me) me start calls onward w
+    → HasRun (BeginsSound r me) me start.running calls (sharers w.kept) w.running
 
 -- a try of an ITR's request, its bit D set, to a server
 pub record IsOnward (me : Locator) (call : Call) : Type 0 where

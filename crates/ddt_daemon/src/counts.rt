@@ -1,7 +1,7 @@
 //! What a daemon counts. A count that is full stays so.
 
 ghost use Rattle.std.specs.Prelude.{◌≡◌};
-ghost use Rattle.ddt_daemon.specs.Counted.{plus, with_served, with_dropped, with_ended};
+ghost use Rattle.ddt_daemon.specs.Counted.{plus, with_served, with_dropped, with_lookup, with_shared, with_cut, with_ended};
 
 use crate::admission::Dropped;
 use ddt_path::Outcome;
@@ -32,12 +32,18 @@ impl ServerCounts {
 pub struct ResolverCounts {
     /// Requests of ITRs whose lookup has started.
     pub lookups: u64,
+    /// Requests of ITRs that share the lookup of another one.
+    pub shared: u64,
+    /// Replies that reached beyond the zone by which their server was asked, and were cut to it.
+    pub cut: u64,
     /// Encapsulated Control Messages that were dropped, by why.
     pub denied: u64,
     pub too_long: u64,
     pub no_request: u64,
     pub repeated: u64,
     pub full: u64,
+    pub source_full: u64,
+    pub set_full: u64,
     pub memory: u64,
     /// Lookups of ITRs that have ended, by their outcome.
     pub registered: u64,
@@ -68,8 +74,31 @@ impl ResolverCounts {
             Dropped::NoRequest => self.no_request = one_more(self.no_request),
             Dropped::Repeated => self.repeated = one_more(self.repeated),
             Dropped::Full => self.full = one_more(self.full),
+            Dropped::SourceFull => self.source_full = one_more(self.source_full),
+            Dropped::SetFull => self.set_full = one_more(self.set_full),
             Dropped::Memory => self.memory = one_more(self.memory),
         }
+    }
+
+    /// Counts a request whose lookup has started.
+    pub(crate) fn start_one(&mut self)
+        ensures { self.new ≡ with_lookup self.old }
+    {
+        self.lookups = one_more(self.lookups);
+    }
+
+    /// Counts a request that shares a lookup.
+    pub(crate) fn share_one(&mut self)
+        ensures { self.new ≡ with_shared self.old }
+    {
+        self.shared = one_more(self.shared);
+    }
+
+    /// Counts a reply that is cut to its zone.
+    pub(crate) fn cut_one(&mut self)
+        ensures { self.new ≡ with_cut self.old }
+    {
+        self.cut = one_more(self.cut);
     }
 
     /// Counts the end of a lookup.

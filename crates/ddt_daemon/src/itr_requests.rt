@@ -2,9 +2,9 @@
 
 ghost use Rattle.std.specs.Prelude.{◌≡◌, ◌≤◌, ◌<◌, ◌++◌, [], ◌∷◌, ◌==◌, true, false, length, position, OnOk, vec_capacity};
 ghost use Rattle.ddt_resolver.specs.State.{most_pending};
-ghost use Rattle.ddt_daemon.specs.Kept.{TakesKept, is_same_request as is_same_request_of, waits_for};
+ghost use Rattle.ddt_daemon.specs.Kept.{TakesKept, is_same_request as is_same_request_of, waits_for, of_source, of_set, begins_at as begins_at_of};
 
-use ddt_path::Listed;
+use ddt_path::{Listed, Locator, LocatorSet};
 use ddt_resolver::{ItrRequest, MOST_PENDING};
 use std::alloc::{AllocError, Global};
 
@@ -14,6 +14,12 @@ pub struct Kept {
     /// The number of the lookup's ticket.
     pub ticket: u64,
     pub request: ItrRequest,
+    /// The address that it came from.
+    pub from: Locator,
+    /// The referral set at which its lookup began; None where it shares the lookup of another request.
+    pub begins: Option<LocatorSet>,
+    /// Whether it shares a lookup that another request has started.
+    pub shares: bool,
     /// The request's bytes, as they came.
     pub bytes: Listed<u8>,
 }
@@ -59,6 +65,22 @@ impl Waiting {
             .any(|kept| is_same_request(&kept.request, request))
     }
 
+    /// How many requests that came from this address wait.
+    pub fn of_source(&self, from: Locator) -> usize
+        ensures { result ≡ of_source self.now.kept.items from }
+    {
+        let kept = self.kept.as_slice().iter();
+        kept.filter(|kept| kept.from == from).count()
+    }
+
+    /// How many requests wait whose lookup began at this referral set.
+    pub fn of_set(&self, servers: &LocatorSet) -> usize
+        ensures { result ≡ of_set self.now.kept.items servers.now }
+    {
+        let kept = self.kept.as_slice().iter();
+        kept.filter(|kept| begins_at(&kept.begins, servers)).count()
+    }
+
     /// Makes room for one more. Fails only if out of memory.
     pub fn reserve(&mut self) -> Result<(), AllocError>
         ensures room { OnOk result (length self.new.kept.items < vec_capacity self.new.kept) }
@@ -76,12 +98,12 @@ impl Waiting {
         added.unwrap();
     }
 
-    /// The bytes of the request that waits for the lookup of a ticket, and waits no longer.
-    pub fn take(&mut self, ticket: u64) -> Option<Listed<u8>>
+    /// The first request that waits for the lookup of a ticket, and waits no longer.
+    pub fn take(&mut self, ticket: u64) -> Option<Kept>
         ensures { TakesKept ticket self.old.kept.items self.new.kept.items result }
     {
         let place = place_of(self.kept.as_slice(), ticket)?;
-        Some(self.kept.remove(place).bytes)
+        Some(self.kept.remove(place))
     }
 }
 
@@ -101,4 +123,14 @@ fn is_same_request(one: &ItrRequest, other: &ItrRequest) -> bool
         && one.nonce == other.nonce
         && one.to == other.to
         && one.port == other.port
+}
+
+/// Whether a lookup began at this referral set.
+fn begins_at(begins: &Option<LocatorSet>, servers: &LocatorSet) -> bool
+    ensures { result ≡ begins_at_of begins.now servers.now }
+{
+    match begins {
+        Some(own) => *own == *servers,
+        None => false,
+    }
 }

@@ -1,30 +1,32 @@
 //! The rounds of a Map-Resolver between ITRs, servers and Map-Servers.
 
-ghost use Rattle.ddt_resolver.specs.State.{most_pending};
+ghost use Rattle.ddt_resolver.specs.State.{most_pending, moved};
 ghost use Rattle.ddt_resolver.specs.Table.{IsNoneDue};
-ghost use Rattle.std.specs.Prelude.{◌≡◌, ◌⊎◌, ◌<◌, ℕ, [], false, List, length, IfOk, OnOk, OnErr, vec_capacity};
+ghost use Rattle.std.specs.Prelude.{◌≡◌, ◌⊎◌, ◌<◌, ◌≤◌, ◌++◌, ◌∷◌, ℕ, [], false, true, List, length, None, Some, IfOk, IfErr, IfSome, OnOk, OnErr, vec_capacity};
 ghost use Rattle.ddt_wires.specs.declared.call.Call.{Call as ACall};
 ghost use Rattle.ddt_wires.specs.Calls.{RecordsCalls};
-ghost use Rattle.ddt_wires.specs.Turns.{most_bytes};
-ghost use Rattle.ddt_path.specs.declared.locator.Locator.{Locator as ALocator};
+ghost use Rattle.ddt_wires.specs.Turns.{AreTried, most_bytes};
 ghost use Rattle.ddt_wire.specs.declared.message_type.MessageType.TheVariants.{Encapsulated};
 ghost use Rattle.ddt_wire.specs.MessageType.{is_of};
-ghost use Rattle.ddt_loop.specs.Acts.{running, AsksForItr};
-ghost use Rattle.ddt_loop.specs.Coming.{IsCame, came_to_wait};
+ghost use Rattle.ddt_loop.specs.Acts.{running, AsksForItr, Resends};
 ghost use Rattle.ddt_loop.specs.Askers.{opening_desk};
-ghost use Rattle.ddt_resolver.specs.Front.{IsItrRequest};
-ghost use Rattle.ddt_daemon.specs.Goes.{Follows, with_came};
+ghost use Rattle.ddt_ecm.specs.UdpHeader.{control_port};
+ghost use Rattle.ddt_daemon.specs.declared.itr_requests.Kept.{Kept as AKept};
+ghost use Rattle.ddt_loop.specs.Sharing.{IsAskedBy};
+ghost use Rattle.ddt_daemon.specs.Admitted.{IsAdmitted, IsDropped, IsPlaced, IsRefusedPlace};
+ghost use Rattle.ddt_daemon.specs.Goes.{AreClosed, IsSharerTold, goes_on};
 ghost use Rattle.ddt_daemon.specs.Counted.{nothing_counted};
-ghost use Rattle.ddt_daemon.specs.Rounds.{resolving, was_there, IsHandled, IsRound, IsTick, AreTicks, TakesIn};
+ghost use Rattle.ddt_daemon.specs.Rounds.{resolving, at_moment, was_there, HasWaited, IsHandled, IsRound, IsTick, IsHastened, AreTicks, IsAsked, IsHeard, HearsReply, KeepsAsked, WaitsAs};
 
-use crate::admission::{Admitted, admit};
-use crate::counts::{ResolverCounts, one_more};
+use crate::admission::{Admitted, Dropped, MOST_KEPT_BYTES, MOST_OF_SET, MOST_OF_SOURCE, Place};
+use crate::counts::ResolverCounts;
 use crate::itr_requests::{Kept, Waiting};
 use ddt_cache::{Entry, Moment};
-use ddt_loop::RunningResolver;
+use ddt_ecm::CONTROL_PORT;
+use ddt_loop::{Ended, RunningResolver};
 use ddt_onward::send_on;
-use ddt_path::Locator;
-use ddt_resolver::{MOST_PENDING, Resolver};
+use ddt_path::{Listed, Locator, Xeid};
+use ddt_resolver::{Beginning, Front, MOST_PENDING, Resolver};
 use ddt_settings::Settings;
 use ddt_trie::PrefixMap;
 use ddt_wire::MessageType;
@@ -39,6 +41,14 @@ pub struct MapResolver<M: PrefixMap<Entry>> {
     running: RunningResolver<M>,
     waiting: Waiting,
     counts: ResolverCounts,
+}
+
+/// How a lookup has ended, and by whose datagram.
+#[derive(Clone, Copy, Debug)]
+struct Closing {
+    me: Locator,
+    by: Option<Locator>,
+    ended: Ended,
 }
 
 impl<M: PrefixMap<Entry>> MapResolver<M> {
@@ -93,14 +103,17 @@ impl<M: PrefixMap<Entry>> MapResolver<M> {
         self.running.resolver()
     }
 
-    /// Polls the near wires once, and takes what came; whether something was there, or was lost. An Encapsulated Control
-    /// Message is asked for only where its source is allowed, it is a request of an ITR of at most 1,500 bytes, the same
-    /// doesn't wait already, fewer wait than lookups can be pending, and there is memory to keep it. Any other datagram is
-    /// heard where it comes from UDP port 4342. What is sent for it over the near wires is what `RunningResolver::take`
-    /// sends.
+    /// Polls the near wires once, and takes what came; whether something was there, or was lost.
     ///
-    /// The request of an ITR whose lookup ends as registered, by a datagram of a server, goes on to this server over the
-    /// far wires, once, with its bit D set. For another end nothing goes on.
+    /// An Encapsulated Control Message is asked for only where its source is allowed, it is a request of an ITR of at most
+    /// 1,500 bytes, and the same doesn't wait already. What the cache answers is answered at once, however many wait. Else
+    /// it shares the lookup that another ITR waits for, or starts one: fewer than 1,024 requests may wait, fewer than 128
+    /// from its address, and fewer than 256 whose lookups begin at the same referral set.
+    ///
+    /// Any other datagram is heard where it comes from UDP port 4342, a reply that reaches beyond the zone of its server
+    /// cut to that zone. Where it ends a lookup, each ITR that waits for it is told once: the negative Map-Reply for a
+    /// hole or a site that isn't registered. The request of each whose lookup ends as registered goes on to the server of
+    /// the datagram over the far wires, once, with its bit D set.
     pub fn receive<W: Wires, V: Wires>(
         &mut self,
         near: &mut W,
@@ -147,10 +160,8 @@ impl<M: PrefixMap<Entry>> MapResolver<M> {
             calls onward (resolving self.new.running self.new.waiting.kept.items self.new.counts) }
     {
         if MessageType::Encapsulated.is_of(bytes) {
-            match admit(self.alloc, settings, &mut self.waiting, packet.from, bytes) {
-                Ok(admitted) => {
-                    let _ticket = self.ask(near, me, now, admitted);
-                }
+            match self.admit(settings, now, packet.from, bytes) {
+                Ok(admitted) => self.ask(near, me, now, admitted),
                 Err(why) => self.counts.drop_one(why),
             }
         } else {
@@ -158,35 +169,162 @@ impl<M: PrefixMap<Entry>> MapResolver<M> {
         }
     }
 
-    /// Asks for a request. It is kept under the ticket of the lookup that starts for it, if one does.
-    fn ask<W: Wires>(
+    /// What an Encapsulated Control Message of these bytes asks, or why it is dropped. Where it is asked for, one more has
+    /// room to wait.
+    fn admit(
         &mut self,
-        near: &mut W,
-        me: Locator,
+        settings: &Settings,
         now: Moment,
-        admitted: Admitted,
-    ) -> Option<u64>
-        requires request { IsItrRequest admitted.bytes admitted.request }
+        from: Locator,
+        bytes: &[u8],
+    ) -> Result<Admitted, Dropped>
+        ensures admitted { IfOk result (λ a. IsAdmitted settings.now.allow self.old.waiting.kept.items
+            (at_moment now self.old.running) from bytes.now a.request) }
+        ensures bytes { IfOk result (λ a. a.bytes ≡ bytes.now) }
+        ensures from { IfOk result (λ a. a.from ≡ from) }
+        ensures shares { IfOk result (λ a. (t : ℕ) → a.place.shares ≡ Some t
+            → IsAskedBy self.old.running.desk.owners t a.request.xeid) }
+        ensures moved { OnOk result (self.new.running ≡ at_moment now self.old.running) }
+        ensures room { OnOk result (length self.new.waiting.kept.items < vec_capacity self.new.waiting.kept) }
+        ensures dropped { IfErr result (IsDropped settings.now.allow self.old.waiting.kept.items
+            (at_moment now self.old.running) from bytes.now) }
+        ensures waited { HasWaited now self.old.running self.new.running }
+        ensures same { self.new.waiting.kept.items ≡ self.old.waiting.kept.items }
+        ensures counts { self.new.counts ≡ self.old.counts }
+    {
+        if !settings.allows(from) {
+            return Err(Dropped::Denied);
+        }
+        if bytes.len() > MOST_KEPT_BYTES {
+            return Err(Dropped::TooLong);
+        }
+        let Some(request) = Front::itr_request(bytes) else {
+            return Err(Dropped::NoRequest);
+        };
+        if self.waiting.has(&request) {
+            return Err(Dropped::Repeated);
+        }
+        let place = match self.place(now, from, request.xeid) {
+            Ok(place) => place,
+            Err(why) => return Err(why),
+        };
+        match self.room_for(bytes) {
+            Ok(bytes) => Ok(Admitted {
+                request,
+                from,
+                place,
+                bytes,
+            }),
+            Err(_refused) => Err(Dropped::Memory),
+        }
+    }
+
+    /// What becomes of a request for an identifier from an address, or why it is dropped. The time goes on.
+    fn place(&mut self, now: Moment, from: Locator, x: Xeid) -> Result<Place, Dropped>
+        ensures moved { self.new.running ≡ at_moment now self.old.running }
+        ensures placed { IfOk result (λ place. IsPlaced self.old.waiting.kept.items (at_moment now self.old.running)
+            from x place.shares place.begins) }
+        ensures refused { IfErr result (IsRefusedPlace self.old.waiting.kept.items (at_moment now self.old.running)
+            from x) }
+        ensures same { self.new.waiting.kept.items ≡ self.old.waiting.kept.items }
+        ensures counts { self.new.counts ≡ self.old.counts }
+    {
+        let servers = match self.running.beginning(now, x) {
+            Beginning::Answer(_outcome) => {
+                return Ok(Place {
+                    shares: None,
+                    begins: None,
+                });
+            }
+            Beginning::Servers(servers) => servers,
+        };
+        if self.waiting.is_full() {
+            return Err(Dropped::Full);
+        }
+        if self.waiting.of_source(from) >= MOST_OF_SOURCE {
+            return Err(Dropped::SourceFull);
+        }
+        if let Some(ticket) = self.running.ticket_for(x) {
+            return Ok(Place {
+                shares: Some(ticket),
+                begins: None,
+            });
+        }
+        if self.waiting.of_set(&servers) >= MOST_OF_SET {
+            return Err(Dropped::SetFull);
+        }
+        Ok(Place {
+            shares: None,
+            begins: Some(servers),
+        })
+    }
+
+    /// A copy of a request's bytes, and room for one more that waits. Fails only if out of memory.
+    fn room_for(&mut self, bytes: &[u8]) -> Result<Listed<u8>, AllocError>
+        ensures bytes { IfOk result (λ copy. copy ≡ bytes.now) }
+        ensures room { OnOk result (length self.new.waiting.kept.items < vec_capacity self.new.waiting.kept) }
+        ensures same { self.new.waiting.kept.items ≡ self.old.waiting.kept.items }
+        ensures running { self.new.running ≡ self.old.running }
+        ensures counts { self.new.counts ≡ self.old.counts }
+    {
+        self.waiting.reserve()?;
+        let bytes = Vec::from_slice(self.alloc, bytes)?;
+        Ok(Listed::of(bytes))
+    }
+
+    /// Asks for a request, or has it share a lookup. It is kept where it waits.
+    fn ask<W: Wires>(&mut self, near: &mut W, me: Locator, now: Moment, admitted: Admitted)
+        requires room { length self.old.waiting.kept.items < vec_capacity self.old.waiting.kept }
+        ensures { (calls : List ACall) × RecordsCalls (W.calls near.old) calls (W.calls near.new)
+            × IsAsked me now admitted (resolving self.old.running self.old.waiting.kept.items self.old.counts) calls
+            (resolving self.new.running self.new.waiting.kept.items self.new.counts) }
+    {
+        match admitted.place.shares {
+            Some(ticket) => {
+                self.counts.share_one();
+                self.keep(ticket, true, admitted);
+            }
+            None => self.begin(near, me, now, admitted),
+        }
+    }
+
+    /// Asks for a request. It is kept under the ticket of the lookup that starts for it, if one does.
+    fn begin<W: Wires>(&mut self, near: &mut W, me: Locator, now: Moment, admitted: Admitted)
         requires room { length self.old.waiting.kept.items < vec_capacity self.old.waiting.kept }
         ensures asks { (calls : List ACall) × RecordsCalls (W.calls near.old) calls (W.calls near.new)
             × AsksForItr me now admitted.request self.old.running calls self.new.running }
-        ensures comes { (from : ALocator) → IsCame now from admitted.bytes self.old.running self.new.running
-            (came_to_wait result (length admitted.bytes)) }
-        ensures follows { Follows me admitted.bytes self.old.waiting.kept.items
-            (came_to_wait result (length admitted.bytes)) [] self.new.waiting.kept.items }
-        ensures counts { self.new.counts ≡ with_came self.old.counts (came_to_wait result (length admitted.bytes)) }
+        ensures keeps { KeepsAsked admitted.from admitted.bytes admitted.request self.old.waiting.kept.items
+            self.old.counts self.new.waiting.kept.items self.new.counts }
     {
-        let Admitted { request, bytes } = admitted;
-        let ticket = self.running.ask(near, me, now, request);
+        let ticket = self.running.ask(near, me, now, admitted.request);
         if let Some(ticket) = ticket {
-            self.counts.lookups = one_more(self.counts.lookups);
-            self.waiting.add(Kept {
-                ticket,
-                request,
-                bytes,
-            });
+            self.counts.start_one();
+            self.keep(ticket, false, admitted);
         }
-        ticket
+    }
+
+    /// A request waits for the lookup of a ticket.
+    fn keep(&mut self, ticket: u64, shares: bool, admitted: Admitted)
+        requires room { length self.old.waiting.kept.items < vec_capacity self.old.waiting.kept }
+        ensures kept { (k : AKept) × (self.new.waiting.kept.items ≡ self.old.waiting.kept.items ++ k ∷ [])
+            × (k.ticket ≡ ticket) × WaitsAs shares admitted.from admitted.bytes admitted.request k }
+        ensures running { self.new.running ≡ self.old.running }
+        ensures counts { self.new.counts ≡ self.old.counts }
+    {
+        let Admitted {
+            request,
+            from,
+            place,
+            bytes,
+        } = admitted;
+        self.waiting.add(Kept {
+            ticket,
+            request,
+            from,
+            begins: place.begins,
+            shares,
+            bytes,
+        });
     }
 
     /// Hears a packet of these bytes, which are no Encapsulated Control Message.
@@ -202,43 +340,144 @@ impl<M: PrefixMap<Entry>> MapResolver<M> {
         requires { is_of Encapsulated bytes.now ≡ false }
         ensures { (calls onward : List ACall) × RecordsCalls (W.calls near.old) calls (W.calls near.new)
             × RecordsCalls (V.calls far.old) onward (V.calls far.new)
-            × TakesIn me now packet bytes.now
+            × IsHeard me now packet bytes.now
             (resolving self.old.running self.old.waiting.kept.items self.old.counts)
             calls onward (resolving self.new.running self.new.waiting.kept.items self.new.counts) }
     {
-        let ended = self.running.hear(near, me, now, packet, bytes);
+        if packet.port != CONTROL_PORT {
+            return;
+        }
+        match self.running.resolver().cut_to_zone(packet.from, bytes) {
+            Ok(None) => self.hear_reply(near, far, me, now, packet, bytes),
+            Ok(Some(cut)) => {
+                self.counts.cut_one();
+                self.hear_reply(near, far, me, now, packet, cut.as_slice());
+            }
+            // A reply is lost.
+            Err(_refused) => {}
+        }
+    }
+
+    /// Hears a datagram of these bytes from UDP port 4342. Where it ends the lookup of an ITR, all that wait for it are
+    /// told, or their requests go on.
+    fn hear_reply<W: Wires, V: Wires>(
+        &mut self,
+        near: &mut W,
+        far: &mut V,
+        me: Locator,
+        now: Moment,
+        packet: Packet,
+        heard: &[u8],
+    )
+        requires plain { is_of Encapsulated heard.now ≡ false }
+        requires port { packet.port ≡ control_port }
+        ensures { (calls onward : List ACall) × RecordsCalls (W.calls near.old) calls (W.calls near.new)
+            × RecordsCalls (V.calls far.old) onward (V.calls far.new)
+            × HearsReply me now packet heard.now
+            (resolving self.old.running self.old.waiting.kept.items self.old.counts)
+            calls onward (resolving self.new.running self.new.waiting.kept.items self.new.counts) }
+    {
+        let ended = self.running.hear(near, me, now, packet, heard);
         if let Some(ended) = ended {
             self.counts.end_one(&ended.end);
-            let request = self.waiting.take(ended.ticket);
-            let _sent = send_on(far, me, packet.from, &ended.end, request);
+            let by = Some(packet.from);
+            self.close(near, far, &Closing { me, by, ended });
+        }
+    }
+
+    /// All that wait for a lookup which has ended are told, or their requests go on.
+    fn close<W: Wires, V: Wires>(&mut self, near: &mut W, far: &mut V, closing: &Closing)
+        ensures closed { (calls onward : List ACall) × RecordsCalls (W.calls near.old) calls (W.calls near.new)
+            × RecordsCalls (V.calls far.old) onward (V.calls far.new)
+            × AreClosed closing.now.me closing.now.by closing.now.ended self.old.waiting.kept.items calls onward
+            self.new.waiting.kept.items }
+        ensures running { self.new.running ≡ self.old.running }
+        ensures counts { self.new.counts ≡ self.old.counts }
+    {
+        while let Some(kept) = self.waiting.take(closing.ended.ticket) {
+            self.tell_sharer(near, closing, &kept);
+            send_kept(far, closing, kept.bytes);
+        }
+    }
+
+    /// Tells an ITR the end of its lookup, where it shares that of another; the other one is told already.
+    fn tell_sharer<W: Wires>(&mut self, near: &mut W, closing: &Closing, kept: &Kept)
+        ensures told { (calls : List ACall) × RecordsCalls (W.calls near.old) calls (W.calls near.new)
+            × IsSharerTold closing.now.me closing.now.ended.end kept.now.shares kept.now calls }
+        ensures running { self.new.running ≡ self.old.running }
+        ensures waiting { self.new.waiting.kept.items ≡ self.old.waiting.kept.items }
+        ensures counts { self.new.counts ≡ self.old.counts }
+    {
+        if kept.shares {
+            self.running
+                .tell(near, closing.me, &kept.request, &closing.ended.end);
         }
     }
 
     /// Ticks once: a lookup whose deadline has come goes on or ends. Nothing goes on over the far wires.
-    pub fn tick<W: Wires>(&mut self, near: &mut W, me: Locator, now: Moment)
-        ensures { (calls : List ACall) × RecordsCalls (W.calls near.old) calls (W.calls near.new)
-            × IsTick me now (resolving self.old.running self.old.waiting.kept.items self.old.counts) calls
+    pub fn tick<W: Wires, V: Wires>(&mut self, near: &mut W, far: &mut V, me: Locator, now: Moment)
+        ensures { (calls onward : List ACall) × RecordsCalls (W.calls near.old) calls (W.calls near.new)
+            × RecordsCalls (V.calls far.old) onward (V.calls far.new)
+            × IsTick me now (resolving self.old.running self.old.waiting.kept.items self.old.counts) calls onward
             (resolving self.new.running self.new.waiting.kept.items self.new.counts) }
     {
         let ended = self.running.tick(near, me, now);
         if let Some(ended) = ended {
             self.counts.end_one(&ended.end);
-            let _request = self.waiting.take(ended.ticket);
+            let by = None;
+            self.close(near, far, &Closing { me, by, ended });
         }
     }
 
+    /// Lets the pending lookup whose last request has this nonce go on or end at once, as by a tick that finds it due.
+    pub fn hasten<W: Wires, V: Wires>(
+        &mut self,
+        near: &mut W,
+        far: &mut V,
+        me: Locator,
+        now: Moment,
+        nonce: u64,
+    )
+        ensures { (calls onward : List ACall) × RecordsCalls (W.calls near.old) calls (W.calls near.new)
+            × RecordsCalls (V.calls far.old) onward (V.calls far.new)
+            × IsHastened me now nonce (resolving self.old.running self.old.waiting.kept.items self.old.counts) calls
+            onward (resolving self.new.running self.new.waiting.kept.items self.new.counts) }
+    {
+        let ended = self.running.hasten(near, me, now, nonce);
+        if let Some(ended) = ended {
+            self.counts.end_one(&ended.end);
+            let by = None;
+            self.close(near, far, &Closing { me, by, ended });
+        }
+    }
+
+    /// Sends the last request of the pending lookup that has this nonce again, as it was.
+    pub fn resend<W: Wires>(&self, near: &mut W, me: Locator, nonce: u64)
+        ensures { (calls : List ACall) × RecordsCalls (W.calls near.old) calls (W.calls near.new)
+            × Resends me nonce self.now.running.state calls }
+    {
+        self.running.resend(near, me, nonce);
+    }
+
     /// Ticks until no lookup is due, but not more often than lookups can be pending.
-    pub fn tick_due<W: Wires>(&mut self, near: &mut W, me: Locator, now: Moment)
-        ensures { (count : ℕ) × (calls : List ACall) × RecordsCalls (W.calls near.old) calls (W.calls near.new)
+    pub fn tick_due<W: Wires, V: Wires>(
+        &mut self,
+        near: &mut W,
+        far: &mut V,
+        me: Locator,
+        now: Moment,
+    )
+        ensures { (count : ℕ) × (calls onward : List ACall) × RecordsCalls (W.calls near.old) calls (W.calls near.new)
+            × RecordsCalls (V.calls far.old) onward (V.calls far.new)
             × AreTicks me now (resolving self.old.running self.old.waiting.kept.items self.old.counts) count calls
-            (resolving self.new.running self.new.waiting.kept.items self.new.counts)
+            onward (resolving self.new.running self.new.waiting.kept.items self.new.counts)
             × ((count ≡ most_pending) ⊎ IsNoneDue self.new.running.state.pending now) }
     {
         for _tick in 0..MOST_PENDING {
             if !self.is_due(now) {
                 return;
             }
-            self.tick(near, me, now);
+            self.tick(near, far, me, now);
         }
     }
 
@@ -250,5 +489,15 @@ impl<M: PrefixMap<Entry>> MapResolver<M> {
             Some(deadline) => deadline <= now.millis(),
             None => false,
         }
+    }
+}
+
+/// The request of an ITR goes on to the server whose datagram has ended its lookup, if one did, and as registered.
+fn send_kept<V: Wires>(far: &mut V, closing: &Closing, bytes: Listed<u8>)
+    ensures { (onward : List ACall) × RecordsCalls (V.calls far.old) onward (V.calls far.new)
+        × AreTried closing.now.me (goes_on closing.now.by closing.now.ended.end bytes) onward }
+{
+    if let Some(by) = closing.by {
+        let _sent = send_on(far, closing.me, by, &closing.ended.end, Some(bytes));
     }
 }

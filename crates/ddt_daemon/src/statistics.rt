@@ -114,11 +114,15 @@ impl fmt::Display for ResolverStatistics {
 impl fmt::Display for ResolverCounts {
     fn fmt<W: fmt::Write>(&self, f: &mut fmt::Formatter<W>) -> fmt::Result {
         write!(f, "num.lookups={}\n", self.lookups)?;
+        write!(f, "num.shared={}\n", self.shared)?;
+        write!(f, "num.cut={}\n", self.cut)?;
         write!(f, "num.dropped.denied={}\n", self.denied)?;
         write!(f, "num.dropped.toolong={}\n", self.too_long)?;
         write!(f, "num.dropped.norequest={}\n", self.no_request)?;
         write!(f, "num.dropped.repeated={}\n", self.repeated)?;
         write!(f, "num.dropped.full={}\n", self.full)?;
+        write!(f, "num.dropped.sourcefull={}\n", self.source_full)?;
+        write!(f, "num.dropped.setfull={}\n", self.set_full)?;
         write!(f, "num.dropped.memory={}\n", self.memory)?;
         write!(f, "num.ended.registered={}\n", self.registered)?;
         write!(f, "num.ended.notregistered={}\n", self.not_registered)?;

@@ -1,13 +1,15 @@
-use Rattle.std.proofs.Common.{refl, length}
-use Rattle.ddt_daemon.specs.Goes.{same, waits}
+use Rattle.std.proofs.Common.{[], refl}
+use Rattle.ddt_wires.specs.laws.Tell.{tells_none}
+use Rattle.ddt_daemon.specs.Rounds.{shares, asks}
 use Rattle.ddt_daemon.proofs.map_resolver.MapResolver.ask.Goals as goal
 
-pub returns-in-Some-clause-comes : goal.returns-in-Some-clause-comes
-returns-in-Some-clause-comes g c = λ from. (refl, (c.args.admitted.request, c.requires.request, c.in-Some.ensures.waits))
+pub returns-in-Some : goal.returns-in-Some
+returns-in-Some g c =
+    let k = c.keep.ensures.kept in (
+      [],
+      tells_none _,
+      shares c.in-Some.ticket k.0 c.in-Some.is k.2 k.3 refl (rw (c.keep.ensures.running, k.1, c.keep.ensures.counts, c.share_one.ensures) refl),
+    )
 
-pub returns-in-Some-clause-follows : goal.returns-in-Some-clause-follows
-returns-in-Some-clause-follows g c =
-    rw c.add.ensures (waits c.in-Some.ticket (length c.args.admitted.bytes) c.args.admitted.request c.requires.request)
-
-pub returns-in_default-clause-follows : goal.returns-in_default-clause-follows
-returns-in_default-clause-follows g c = rw c.in_default.is same
+pub returns-in-None : goal.returns-in-None
+returns-in-None g c = let w = c.begin.ensures.asks in (w.0, w.1, asks w.2 c.begin.ensures.keeps)

@@ -1,39 +1,27 @@
-use Rattle.std.proofs.Common.{[], refl}
-use Rattle.ddt_loop.specs.declared.came.Came.TheVariants.{Nothing, Ended}
+use Rattle.std.proofs.Common.{[], refl, sym, ◌∙◌}
 use Rattle.ddt_wires.specs.laws.Tell.{tells_none}
-use Rattle.ddt_daemon.specs.Goes.{same, ends}
+use Rattle.ddt_daemon.specs.Rounds.{other_port, whole, cut, lost}
+use Rattle.ddt_daemon.proofs.HandleLemmas.{plain_cut}
 use Rattle.ddt_daemon.proofs.map_resolver.MapResolver.hear.Goals as goal
 
-pub returns-in_default : goal.returns-in_default
-returns-in_default g c =
-    let w = c.hear-ended.ensures.taken in (
+pub returns-then-packet-ne-CONTROL_PORT : goal.returns-then-packet-ne-CONTROL_PORT
+returns-then-packet-ne-CONTROL_PORT g c = ([], [], tells_none _, tells_none _, other_port c.if-packet-ne-CONTROL_PORT.true refl refl refl)
+
+pub returns-in-Ok-None : goal.returns-in-Ok-None
+returns-in-Ok-None g c =
+    let w = c.hear_reply.ensures in
+    (w.0, w.1, w.2, w.3, whole c.if-packet-ne-CONTROL_PORT.false (rw (c.resolver.ensures, c.in-Ok-None.field-0-is) at c.in-Ok-None.ensures.cut) w.4)
+
+pub returns-in-Ok-Some : goal.returns-in-Ok-Some
+returns-in-Ok-Some g c =
+    let w = c.hear_reply-in-Ok-Some.ensures in (
       w.0,
-      [],
       w.1,
-      tells_none (g.V.Wires.calls c.args.far.now),
-      record {
-        came = Nothing;
-        taken = w.2;
-        comes = rw c.in_default.is at c.hear-ended.ensures.came;
-        follows = same;
-        counts = refl;
-      },
+      w.2,
+      w.3,
+      cut c.in-Ok-Some.cut c.if-packet-ne-CONTROL_PORT.false (rw (c.resolver.ensures, c.in-Ok-Some.field-0-is) at c.in-Ok-Some.ensures.cut)
+          (rw (c.cut_one.ensures, c.as_slice.ensures) at w.4),
     )
 
-pub returns-in-Some : goal.returns-in-Some
-returns-in-Some g c =
-    let w = c.hear-ended.ensures.taken in
-    let on = c.send_on-sent.ensures in (
-      w.0,
-      on.0,
-      w.1,
-      on.1,
-      record {
-        came = Ended c.args.packet.from c.in-Some.ended;
-        taken = w.2;
-        comes = rw c.in-Some.is at c.hear-ended.ensures.came;
-        follows = ends c.args.packet.from c.in-Some.ended c.take-request.result on.0 c.take-request.new.self.kept.items
-            c.take-request.ensures on.2;
-        counts = c.end_one.ensures;
-      },
-    )
+pub returns-in-Err : goal.returns-in-Err
+returns-in-Err g c = ([], [], tells_none _, tells_none _, lost refl refl refl)

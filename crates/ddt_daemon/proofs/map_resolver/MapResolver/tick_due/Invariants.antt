@@ -7,6 +7,7 @@ use Rattle.ddt_daemon.proofs.map_resolver.MapResolver.tick_due.Given as goal
 -- so many ticks so far
 abbrev pub invariant-loop-tick : goal.invariant-loop-tick
 invariant-loop-tick g l =
-    (calls : List Call) × RecordsCalls (g.W.Wires.calls l.fn.near) calls (g.W.Wires.calls l.near)
-    × AreTicks l.me l.now (resolving l.fn.self.running l.fn.self.waiting.kept.items l.fn.self.counts) l._tick calls
+    (near far : List Call) × RecordsCalls (g.W.Wires.calls l.fn.near) near (g.W.Wires.calls l.near)
+    × RecordsCalls (g.V.Wires.calls l.fn.far) far (g.V.Wires.calls l.far)
+    × AreTicks l.me l.now (resolving l.fn.self.running l.fn.self.waiting.kept.items l.fn.self.counts) l._tick near far
     (resolving l.self.running l.self.waiting.kept.items l.self.counts)

@@ -1,0 +1,31 @@
+-- What is done with a request that is admitted.
+use Rattle.std.proofs.Common.{◌≡◌, ℕ, true, false, List, [], ◌∷◌, ◌++◌, Some, None, refl, sym, ap, ◌∙◌}
+use Rattle.ddt_path.specs.declared.locator.Locator.{Locator}
+use Rattle.ddt_wires.specs.declared.call.Call.{Call}
+use Rattle.ddt_wires.specs.declared.call.Packet.{Packet}
+use Rattle.ddt_wire.specs.declared.message_type.MessageType.TheVariants.{Encapsulated}
+use Rattle.ddt_wire.specs.MessageType.{is_of}
+use Rattle.ddt_wire.specs.Referral.{written, message_of}
+use Rattle.ddt_resolver.specs.State.{State}
+use Rattle.ddt_resolver.specs.Within.{IsCut, whole, cut, cut_to}
+use Rattle.ddt_loop.specs.Sharing.{IsAskedBy}
+use Rattle.ddt_daemon.specs.declared.admission.Admitted.{Admitted}
+use Rattle.ddt_daemon.specs.Admitted.{IsAdmitted}
+use Rattle.ddt_daemon.proofs.PlainLemmas.{referral_is_plain}
+use Rattle.ddt_daemon.specs.Rounds as rounds
+use Rattle.ddt_daemon.specs.Rounds.{Resolving, resolving, at_moment, IsAsked, IsHandled, shared, asked}
+
+pub handled_asked : {allow : List (List ℕ)} {me : Locator} {now : ℕ} {p : Packet} {bytes : List ℕ} {w new : Resolving} {near : List Call} (a : Admitted)
+    → is_of Encapsulated bytes ≡ true → IsAdmitted allow w.kept (at_moment now w.running) p.from bytes a.request → a.bytes ≡ bytes → a.from ≡ p.from
+    → ((t : ℕ) → a.place.shares ≡ Some t → IsAskedBy w.running.desk.owners t a.request.xeid)
+    → IsAsked me now a (resolving (at_moment now w.running) w.kept w.counts) near new → IsHandled allow me now p bytes w near [] new
+handled_asked a sort admitted same_bytes same_source own (rounds.shares t k its same kept none is) =
+    shared a.request k sort admitted (rw (same_bytes, same_source) at kept) (rw same (own t its)) none refl is
+handled_asked a sort admitted same_bytes same_source own (rounds.asks asks keeps) =
+    asked a.request sort admitted asks refl (rw (same_bytes, same_source) at keeps)
+
+-- what a reply is cut to is a Map-Referral
+pub plain_cut : {s : State} {from : Locator} {bytes heard lent : List ℕ} → IsCut s from bytes (Some heard) → lent ≡ heard → is_of Encapsulated lent ≡ false
+plain_cut (whole none not) same = absurd (cc not)
+plain_cut {heard = heard} (cut l rec zone wide is spells) same =
+    let e : heard ≡ written l.nonce (cut_to zone rec) = cc is in rw (same, e) (referral_is_plain _ (message_of l.nonce (cut_to zone rec)) spells)

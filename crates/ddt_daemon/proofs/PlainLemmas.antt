@@ -1,0 +1,17 @@
+-- A Map-Referral is no Encapsulated Control Message, by its first four bits.
+use Rattle.std.proofs.Common.{◌≡◌, ◌≤◌, ℕ, ◌+◌, ◌*◌, ◌/◌, ◌^◌, ◌<◌, ◌==◌, true, false, List, [], ◌∷◌, ◌++◌, refl, sym, ap, ◌∙◌, arith}
+use Rattle.std.specs.Prelude.{◌≢◌}
+use Rattle.std.specs.Int.{w32, to_be_bytes}
+use Rattle.std.proofs.lemmas.Bool.{ne_eqb, true≢false}
+use Rattle.ddt_wire.specs.declared.message_type.MessageType.TheVariants.{Encapsulated}
+use Rattle.ddt_wire.specs.MessageType.{is_of}
+use Rattle.ddt_wire.specs.Referral.{Message, Spells}
+
+not_eight : (n : ℕ) → n ≡ 6 → (n == 8) ≡ false
+not_eight n is = rw is refl
+
+pub referral_is_plain : (bytes : List ℕ) (v : Message) → Spells bytes v → is_of Encapsulated bytes ≡ false
+referral_is_plain bytes v s = let fits = s.ignored.reserved_fits in rw s.whole (not_eight _ (omega (arith, fits)))
+
+pub no_referral : (bytes : List ℕ) (v : Message) → is_of Encapsulated bytes ≡ true → Spells bytes v → ⊥
+no_referral bytes v sort s = true≢false (sym sort ∙ referral_is_plain bytes v s)

@@ -78,6 +78,12 @@ pub struct ResolverStatistics {
     pub remembered: u64,
     /// Datagrams that came to a socket where their sort may not come in.
     pub strays: u64,
+    /// Requests of ITRs that were dropped since one of the resolver's own addresses is among their ITR-RLOCs.
+    pub own_address: u64,
+    /// Requests of ITRs that were dropped since they came back from another address.
+    pub looped: u64,
+    /// Servers that are silent.
+    pub silent: u64,
     /// Settings that were refused at a reload.
     pub refused: u64,
     /// Lines of the log that were lost.
@@ -106,6 +112,9 @@ impl fmt::Display for ResolverStatistics {
         write!(f, "now.waiting={}\n", self.waiting)?;
         write!(f, "now.cached={}\n", self.remembered)?;
         write!(f, "num.strays={}\n", self.strays)?;
+        write!(f, "num.dropped.ownaddress={}\n", self.own_address)?;
+        write!(f, "num.dropped.looped={}\n", self.looped)?;
+        write!(f, "now.silent={}\n", self.silent)?;
         write!(f, "num.reload.refused={}\n", self.refused)?;
         write!(f, "num.log.lost={}\n", self.unlogged)
     }

@@ -78,38 +78,45 @@ impl Server {
     }
 
     /// How long is waited for a reply to a first request, in milliseconds: SRTT + 4 * RTTVAR, from 200 to 2,000, and
-    /// 500 before its first reply; doubled for each request in a row that was overdue, to at most 2,000.
+    /// 500 before its first reply; twice as long after a request that was overdue, and four times after two or more in a
+    /// row, to at most 2,000.
     pub fn first_wait(&self) -> u64
         ensures least { 200 ≤ result }
         ensures most { result ≤ 2000 }
     {
-        let once = match self.round_trip {
+        let once = self.usual_wait();
+        let doubled = match self.unanswered {
+            0 => once,
+            1 => 2 * once,
+            _more => 4 * once,
+        };
+        doubled.min(MOST_WAIT)
+    }
+
+    /// How long is waited for it where it has replied to the last request, in milliseconds.
+    fn usual_wait(&self) -> u64
+        ensures least { 200 ≤ result }
+        ensures most { result ≤ 2000 }
+    {
+        match self.round_trip {
             Some(trip) => trip
                 .smoothed
                 .saturating_add(trip.variation.saturating_mul(4))
                 .clamp(LEAST_WAIT, MOST_WAIT),
             None => UNKNOWN_WAIT,
-        };
-        let doubled = match self.unanswered {
-            0 => once,
-            1 => 2 * once,
-            2 => 4 * once,
-            3 => 8 * once,
-            _more => MOST_WAIT,
-        };
-        doubled.min(MOST_WAIT)
+        }
     }
 
     /// Whether it is silent at a moment, in milliseconds: at least three requests in a row were overdue, and nothing
-    /// was heard from it for at least twice as long as is waited for it.
+    /// was heard from it for at least twice as long as is usually waited for it.
     pub fn is_silent(&self, now: u64) -> bool {
         self.unanswered >= FEWEST_UNANSWERED && self.is_unheard(now)
     }
 
-    /// Whether nothing was heard from it for at least twice as long as is waited for it.
+    /// Whether nothing was heard from it for at least twice as long as is usually waited for it.
     fn is_unheard(&self, now: u64) -> bool {
         match self.heard {
-            Some(heard) => now.saturating_sub(heard) >= 2 * self.first_wait(),
+            Some(heard) => now.saturating_sub(heard) >= 2 * self.usual_wait(),
             None => true,
         }
     }

@@ -5,18 +5,21 @@ use crate::end::End;
 use crate::loading::load_settings;
 use crate::log::{Log, Priority};
 use crate::poll::Poll;
+use crate::servers_known::{NearWires, Round, say_silence, silent};
 use crate::sockets::{FarWires, ResolverWires, Sockets};
 use crate::times::{Moments, rest, seconds};
 use crate::words::ResolveAsked;
 use ddt_cache::{Entry, Moment};
 use ddt_daemon::{ControlWord, Counted, MapResolver, ResolverStatistics, Times};
+use ddt_nonces::RandomNonces;
 use ddt_path::Locator;
 use ddt_resolver::Resolver;
 use ddt_settings::Settings;
 use ddt_trie::TrieMap;
 use ddt_wires::{MOST_BYTES, ip_of};
+use rand::make_rng;
+use rand_chacha::ChaCha20Rng;
 use std::alloc::AllocError;
-use std::random::RandomSource;
 
 /// How long it is waited at most for what may come, in milliseconds.
 const PATIENCE: u64 = 1000;
@@ -32,7 +35,7 @@ type Why = Result<String, AllocError>;
 struct Daemon {
     resolver: MapResolver<TrieMap<Entry>>,
     settings: Settings,
-    near: Counted<ResolverWires>,
+    near: NearWires,
     far: Counted<FarWires>,
     control: Control,
     poll: Poll,
@@ -69,25 +72,27 @@ fn bind_all(rt: &HostRuntime, addresses: &[Locator], sockets: &mut Sockets) -> R
     Ok(())
 }
 
-/// A nonce to begin with, of the lower half of all, so that they don't run out.
-fn seed(rt: &HostRuntime) -> Result<u64, Why> {
-    let mut bytes = [0u8; 8];
-    match rt.fill_bytes(&mut bytes) {
-        Ok(()) => Ok(u64::from_be_bytes(bytes) / 2),
+/// A generator of nonces that nobody can guess.
+fn nonces(rt: &HostRuntime) -> Result<ChaCha20Rng, Why> {
+    match make_rng::<ChaCha20Rng, _>(rt) {
+        Ok(generator) => Ok(generator),
         Err(error) => Err(format!(in rt.alloc(); "no random numbers: {error}")),
     }
 }
 
-/// A resolver that remembers nothing but the roots.
-fn resolver_of(rt: &HostRuntime, settings: &Settings) -> Result<Resolver<TrieMap<Entry>>, Why> {
+/// A resolver that remembers nothing but the roots, and whose first request has this nonce.
+fn resolver_of(
+    rt: &HostRuntime,
+    settings: &Settings,
+    nonce: u64,
+) -> Result<Resolver<TrieMap<Entry>>, Why> {
     let Some(me) = settings.listen.as_slice().first() else {
         return Err(format!(in rt.alloc(); "it listens nowhere"));
     };
     if settings.roots.as_slice().is_empty() {
         return Err(format!(in rt.alloc(); "it knows no root"));
     }
-    let seed = seed(rt)?;
-    Ok(Resolver::new(rt.alloc(), settings.roots, *me, seed))
+    Ok(Resolver::new(rt.alloc(), settings.roots, *me, nonce))
 }
 
 impl Daemon {
@@ -95,6 +100,7 @@ impl Daemon {
     fn start(rt: &HostRuntime, asked: &ResolveAsked<'_>) -> Result<Daemon, Why> {
         let settings = load_settings(rt, asked.settings)?;
         let mut near = ResolverWires::new(rt.alloc());
+        near.note_own(settings.listen.as_slice());
         let mut far = FarWires {
             sockets: Sockets::new(rt.alloc(), 0),
         };
@@ -108,14 +114,14 @@ impl Daemon {
         let Ok(moments) = Moments::new(rt) else {
             return Err(format!(in rt.alloc(); "the system tells no time"));
         };
-        let Ok(resolver) = MapResolver::new(rt.alloc(), resolver_of(rt, &settings)?) else {
+        let Ok(resolver) = MapResolver::new(rt.alloc(), resolver_of(rt, &settings, 1)?) else {
             return Err(Err(AllocError));
         };
         let now = seconds(rt);
         Ok(Daemon {
             resolver,
             settings,
-            near: Counted::new(near),
+            near: RandomNonces::new(rt.alloc(), Counted::new(near), nonces(rt)?, false),
             far: Counted::new(far),
             control,
             poll: Poll::new(rt.alloc()),
@@ -133,8 +139,9 @@ impl Daemon {
     fn run(&mut self, rt: &HostRuntime, asked: &ResolveAsked<'_>, log: &mut Log) {
         for _round in 0..u64::MAX {
             self.poll.clear();
-            self.near.wires.listening.add_to(&mut self.poll);
-            self.near.wires.asking.add_to(&mut self.poll);
+            let near = &self.near.wires().wires;
+            near.listening.add_to(&mut self.poll);
+            near.asking.add_to(&mut self.poll);
             self.far.wires.sockets.add_to(&mut self.poll);
             let first = self.poll.len();
             self.control.add_to(&mut self.poll, seconds(rt));
@@ -144,6 +151,7 @@ impl Daemon {
             }
             let now = self.moments.now(rt);
             self.resolve(now);
+            say_silence(rt, &mut self.near, log);
             if self.obey(rt, asked, first, log) {
                 return;
             }
@@ -153,11 +161,11 @@ impl Daemon {
     /// How long it is waited for what may come: until the next deadline.
     fn patience(&mut self, rt: &HostRuntime) -> i32 {
         let now = self.moments.now(rt).millis();
-        let millis = match self.resolver.resolver().next_deadline() {
-            Some(deadline) => deadline.saturating_sub(now).min(PATIENCE),
-            None => PATIENCE,
-        };
-        millis as i32
+        let deadline = self.resolver.resolver().next_deadline();
+        let due = deadline
+            .unwrap_or(u64::MAX)
+            .min(self.near.next_timer().unwrap_or(u64::MAX));
+        due.saturating_sub(now).min(PATIENCE) as i32
     }
 
     /// Takes a packet; whether something was there.
@@ -178,12 +186,23 @@ impl Daemon {
     /// Takes what came, and lets go on or end what is due.
     fn resolve(&mut self, now: Moment) {
         let me = self.resolver.resolver().me();
+        self.near.set_time(now.millis());
+        self.near.wires_mut().wires.filter.set_time(now.millis());
         for _packet in 0..MOST_PACKETS {
             if !self.receive(me, now) {
                 break;
             }
         }
-        self.resolver.tick_due(&mut self.near, me, now);
+        self.resolver
+            .tick_due(&mut self.near, &mut self.far, me, now);
+        Round {
+            resolver: &mut self.resolver,
+            near: &mut self.near,
+            far: &mut self.far,
+            me,
+            now,
+        }
+        .go_on();
         self.far.wires.drain(self.buffer.as_mut_slice());
     }
 
@@ -221,13 +240,17 @@ impl Daemon {
     }
 
     fn statistics(&self, rt: &HostRuntime, log: &Log) -> Why {
+        let near = &self.near.wires().wires;
         let statistics = ResolverStatistics {
             times: self.times,
             counts: self.resolver.counts(),
-            near: self.near.counts,
+            near: self.near.wires().counts,
             far: self.far.counts,
-            strays: self.near.wires.strays,
-            sockets: self.near.wires.listening.len() as u64,
+            strays: near.strays,
+            own_address: near.filter.own_address,
+            looped: near.filter.looped,
+            silent: silent(&self.near, self.resolver.resolver().time()),
+            sockets: near.listening.len() as u64,
             pending: self.resolver.resolver().pending() as u64,
             waiting: self.resolver.waiting() as u64,
             remembered: self.resolver.resolver().remembered() as u64,
@@ -251,11 +274,20 @@ impl Daemon {
         }
     }
 
+    /// The nonce that another resolver begins with, so that no nonce is given again.
+    fn next_nonce(&self) -> u64 {
+        self.resolver.resolver().next_nonce()
+    }
+
     fn renew(&mut self, rt: &HostRuntime) -> Result<(), Why> {
-        let resolver = resolver_of(rt, &self.settings)?;
-        self.resolver
-            .renew(resolver)
-            .map_err(|refused| Err(refused))
+        let resolver = resolver_of(rt, &self.settings, self.next_nonce())?;
+        match self.resolver.renew(resolver) {
+            Ok(()) => {
+                self.near.forget_all();
+                Ok(())
+            }
+            Err(refused) => Err(Err(refused)),
+        }
     }
 
     /// Takes up the file's settings, or goes on with the old ones and says why.
@@ -281,8 +313,10 @@ impl Daemon {
         let taken = self.take_up_settings(rt, settings);
         // The sockets are those of the settings that are in force from now on.
         let listen = self.settings.listen.as_slice();
-        self.near.wires.listening.keep(listen);
-        self.near.wires.asking.keep(listen);
+        let near = &mut self.near.wires_mut().wires;
+        near.listening.keep(listen);
+        near.asking.keep(listen);
+        near.note_own(listen);
         self.far.wires.sockets.keep(listen);
         taken
     }
@@ -290,16 +324,18 @@ impl Daemon {
     /// The cache is kept where the roots and the resolver's own address stay the same.
     fn take_up_settings(&mut self, rt: &HostRuntime, settings: Settings) -> Result<(), Why> {
         let listen = settings.listen.as_slice();
-        bind_all(rt, listen, &mut self.near.wires.listening)?;
-        bind_all(rt, listen, &mut self.near.wires.asking)?;
+        let near = &mut self.near.wires_mut().wires;
+        bind_all(rt, listen, &mut near.listening)?;
+        bind_all(rt, listen, &mut near.asking)?;
         bind_all(rt, listen, &mut self.far.wires.sockets)?;
         let is_same = settings.roots == self.settings.roots
             && settings.listen.as_slice().first() == self.settings.listen.as_slice().first();
         if !is_same {
-            let resolver = resolver_of(rt, &settings)?;
+            let resolver = resolver_of(rt, &settings, self.next_nonce())?;
             if let Err(refused) = self.resolver.renew(resolver) {
                 return Err(Err(refused));
             }
+            self.near.forget_all();
         }
         self.settings = settings;
         Ok(())

@@ -5,7 +5,7 @@ use ddt_cache::{Entry, Moment};
 use ddt_daemon::MapResolver;
 use ddt_ecm::CONTROL_PORT;
 use ddt_examples::bytes_of;
-use ddt_examples::messages::{HOLE_OF_EVERYTHING, ITR_REQUEST};
+use ddt_examples::messages::{HOLE_OF_EVERYTHING, ITR_REQUEST, ROOT_REFERS_TO_TEN};
 use ddt_path::{Listed, Locator, LocatorSet};
 use ddt_resolver::Resolver;
 use ddt_settings::{Settings, from_toml};
@@ -29,12 +29,35 @@ const ITR_PORT: u16 = 50000;
 const ACKNOWLEDGED: &str =
     "60000001 0000000000000001 000005a0 01 10 5000 0000 0001 0a020000 01 64 ff 00 0001 0001 7f000101";
 
-/// The worked request of the ITR, with another nonce.
-const ANOTHER_REQUEST: &str =
-    "80000000 45 00 003c 0000 0000 40 11 f172 7f00003c 0a020001 c350 10f6 0028 0000 10000001 1122334455667789 0001 0a050001 0001 7f00003c 00 20 0001 0a020001";
+/// Another ITR, and its request for the same identifier.
+const OTHER_ITR: Locator = Locator::V4(0x7f00_003d);
+
+const OTHER_REQUEST: &str =
+    "80000000 45 00 003c 0000 0000 40 11 f171 7f00003d 0a020001 c350 10f6 0028 0000 10000001 1122334455667789 0001 0a050001 0001 7f00003d 00 20 0001 0a020001";
+
+/// The worked request of the ITR, but for 10.3.0.1.
+const REQUEST_ELSEWHERE: &str =
+    "80000000 45 00 003c 0000 0000 40 11 f171 7f00003c 0a030001 c350 10f6 0028 0000 10000001 1122334455667789 0001 0a050001 0001 7f00003c 00 20 0001 0a030001";
+
+/// The DDT Map-Request to the root for the worked request, nonce 1.
+const FIRST_QUERY: &str =
+    "84000000 45 00 0038 0000 0000 40 11 f17d 7f000035 0a020001 10f6 10f6 0024 bb25 10000001 0000000000000001 0000 0001 7f000035 00 20 0001 0a020001";
+
+/// The negative Map-Replies to the two ITRs for all IPv4 addresses, and to the first one for 10.0.0.0/8.
+const TOLD: &str = "20000001 1122334455667788 0000000f 00 00 2000 0000 0001 00000000";
+
+const OTHER_TOLD: &str = "20000001 1122334455667789 0000000f 00 00 2000 0000 0001 00000000";
+
+const TOLD_OF_TEN: &str = "20000001 1122334455667788 0000000f 00 08 2000 0000 0001 0a000000";
+
+/// The server of 10.0.0.0/8, and its hole of everything, nonce 2.
+const TEN: Locator = Locator::V4(0x7f00_000a);
+
+const WIDE_HOLE: &str =
+    "60000001 0000000000000002 0000000f 00 00 9000 0000 4003 0000 02 00 0006 00000000 0000";
 
 const SETTINGS: &str =
-    "roots = [\"127.0.0.1\"]\nlisten = [\"127.0.0.53\"]\nallow = [\"127.0.0.60/32\"]";
+    "roots = [\"127.0.0.1\"]\nlisten = [\"127.0.0.53\"]\nallow = [\"127.0.0.60/31\"]";
 
 /// A Map-Resolver among wires in memory.
 #[derive(Drop)]
@@ -114,6 +137,21 @@ impl World {
     fn has_tried_far(&self, rt: &impl Abort, count: usize) {
         same(rt, &tries(self.far.told()), &count, &"tried far");
     }
+
+    /// This message was tried so often at the near wires, to this address.
+    fn has_told(
+        &self,
+        alloc: Global,
+        rt: &impl Abort,
+        to: Locator,
+        message: &str,
+        count: usize,
+    ) -> Result<(), Fail> {
+        let bytes = bytes_of(alloc, message)?;
+        let times = times(self.near.told(), to, bytes.as_slice());
+        same(rt, &times, &count, &message);
+        Ok(())
+    }
 }
 
 /// How many calls are tries.
@@ -129,9 +167,25 @@ fn is_try(call: &Call) -> bool {
     matches!(call, Call::Tried { .. })
 }
 
-/// Whether a call tried to send the worked request with its bit D set, and nothing else of it changed, to the server.
-fn is_onward(alloc: Global, call: Option<&Call>) -> Result<bool, Fail> {
-    let plain = bytes_of(alloc, ITR_REQUEST)?;
+/// How many calls tried to send these bytes to this address.
+fn times(calls: Option<&[Call]>, to: Locator, bytes: &[u8]) -> usize {
+    calls
+        .unwrap_or(&[])
+        .iter()
+        .filter(|call| sends(call, to, bytes))
+        .count()
+}
+
+fn sends(call: &Call, address: Locator, message: &[u8]) -> bool {
+    match call {
+        Call::Tried { to, bytes, .. } => *to == address && bytes.as_slice() == message,
+        Call::Received { .. } => false,
+    }
+}
+
+/// Whether a call tried to send a request with its bit D set, and nothing else of it changed, to the server.
+fn is_onward(alloc: Global, call: Option<&Call>, request: &str) -> Result<bool, Fail> {
+    let plain = bytes_of(alloc, request)?;
     match call {
         Some(
             Call::Tried {
@@ -159,7 +213,8 @@ fn goes_on_once(alloc: Global, rt: &impl Abort, world: &mut World) -> Result<(),
     world.waits(rt, 0);
     world.has_tried_far(rt, 1);
     let told = world.far.told().unwrap_or(&[]);
-    holds(rt, is_onward(alloc, told.first())?, &"onward");
+    let onward = is_onward(alloc, told.first(), ITR_REQUEST)?;
+    holds(rt, onward, &"onward");
     world.take(alloc, SERVER, CONTROL_PORT, ACKNOWLEDGED)?;
     world.has_tried_far(rt, 1);
     same(rt, &world.resolver.counts().registered, &1, &"registered");
@@ -215,15 +270,155 @@ fn a_repeat_waits_once(rt: HostRuntime) -> Result<(), Fail> {
     is_repeated(rt.alloc(), &rt, &mut world)
 }
 
+/// Two ITRs ask for the same identifier.
+fn share(alloc: Global, world: &mut World) -> Result<(), Fail> {
+    world.take(alloc, ITR, ITR_PORT, ITR_REQUEST)?;
+    world.take(alloc, OTHER_ITR, ITR_PORT, OTHER_REQUEST)
+}
+
+fn have_shared(rt: &impl Abort, world: &World) {
+    world.waits(rt, 2);
+    world.has_tried_near(rt, 1);
+    same(rt, &world.resolver.counts().lookups, &1, &"lookups");
+    same(rt, &world.resolver.counts().shared, &1, &"shared");
+}
+
+#[test]
+fn itrs_share_a_lookup(rt: HostRuntime) -> Result<(), Fail> {
+    let mut world = new_world(rt.alloc())?;
+    share(rt.alloc(), &mut world)?;
+    have_shared(&rt, &world);
+    Ok(())
+}
+
+fn both_are_told(alloc: Global, rt: &impl Abort, world: &mut World) -> Result<(), Fail> {
+    world.take(alloc, SERVER, CONTROL_PORT, HOLE_OF_EVERYTHING)?;
+    world.waits(rt, 0);
+    world.has_tried_near(rt, 3);
+    world.has_told(alloc, rt, ITR, TOLD, 1)?;
+    world.has_told(alloc, rt, OTHER_ITR, OTHER_TOLD, 1)
+}
+
+#[test]
+fn itrs_that_share_are_each_told_of_a_hole(rt: HostRuntime) -> Result<(), Fail> {
+    let mut world = new_world(rt.alloc())?;
+    share(rt.alloc(), &mut world)?;
+    both_are_told(rt.alloc(), &rt, &mut world)
+}
+
+fn both_go_on(alloc: Global, rt: &impl Abort, world: &mut World) -> Result<(), Fail> {
+    world.take(alloc, SERVER, CONTROL_PORT, ACKNOWLEDGED)?;
+    world.waits(rt, 0);
+    world.has_tried_near(rt, 1);
+    world.has_tried_far(rt, 2);
+    let told = world.far.told().unwrap_or(&[]);
+    let first = is_onward(alloc, told.first(), ITR_REQUEST)?;
+    let second = is_onward(alloc, told.get(1), OTHER_REQUEST)?;
+    holds(rt, first && second, &"both");
+    Ok(())
+}
+
+#[test]
+fn requests_that_share_go_on_each(rt: HostRuntime) -> Result<(), Fail> {
+    let mut world = new_world(rt.alloc())?;
+    share(rt.alloc(), &mut world)?;
+    both_go_on(rt.alloc(), &rt, &mut world)
+}
+
+fn is_answered(alloc: Global, rt: &impl Abort, world: &mut World) -> Result<(), Fail> {
+    world.take(alloc, OTHER_ITR, ITR_PORT, OTHER_REQUEST)?;
+    world.waits(rt, 0);
+    world.has_told(alloc, rt, OTHER_ITR, OTHER_TOLD, 1)?;
+    same(rt, &world.resolver.counts().lookups, &1, &"lookups");
+    same(rt, &world.resolver.counts().shared, &0, &"shared");
+    Ok(())
+}
+
+#[test]
+fn a_hole_that_is_remembered_answers_at_once(rt: HostRuntime) -> Result<(), Fail> {
+    let mut world = new_world(rt.alloc())?;
+    goes_back(rt.alloc(), &rt, &mut world)?;
+    is_answered(rt.alloc(), &rt, &mut world)
+}
+
+fn is_cut(alloc: Global, rt: &impl Abort, world: &mut World) -> Result<(), Fail> {
+    world.take(alloc, SERVER, CONTROL_PORT, ROOT_REFERS_TO_TEN)?;
+    same(rt, &world.resolver.counts().cut, &0, &"not cut");
+    world.take(alloc, TEN, CONTROL_PORT, WIDE_HOLE)?;
+    same(rt, &world.resolver.counts().cut, &1, &"cut");
+    world.has_told(alloc, rt, ITR, TOLD_OF_TEN, 1)
+}
+
+#[test]
+fn a_hole_beyond_a_zone_is_cut_to_it(rt: HostRuntime) -> Result<(), Fail> {
+    let mut world = new_world(rt.alloc())?;
+    world.take(rt.alloc(), ITR, ITR_PORT, ITR_REQUEST)?;
+    is_cut(rt.alloc(), &rt, &mut world)
+}
+
+/// Hastens the lookup whose last request has this nonce, if there is one.
+fn hasten(world: &mut World, nonce: u64) -> Result<(), Fail> {
+    let now = Moment::at(11).ok_or("no moment")?;
+    world
+        .resolver
+        .hasten(&mut world.near, &mut world.far, ME, now, nonce);
+    Ok(())
+}
+
+fn goes_on_at_once(rt: &impl Abort, world: &mut World) -> Result<(), Fail> {
+    hasten(world, 7)?;
+    world.has_tried_near(rt, 1);
+    hasten(world, 1)?;
+    world.has_tried_near(rt, 2);
+    world.waits(rt, 1);
+    Ok(())
+}
+
+fn has_ended(rt: &impl Abort, world: &World) {
+    world.waits(rt, 0);
+    world.has_tried_far(rt, 0);
+    same(rt, &world.resolver.counts().no_reply, &1, &"no reply");
+}
+
+#[test]
+fn a_lookup_that_is_hastened_goes_on_until_it_ends(rt: HostRuntime) -> Result<(), Fail> {
+    let mut world = new_world(rt.alloc())?;
+    world.take(rt.alloc(), ITR, ITR_PORT, ITR_REQUEST)?;
+    goes_on_at_once(&rt, &mut world)?;
+    for nonce in 2..100_u64 {
+        hasten(&mut world, nonce)?;
+    }
+    has_ended(&rt, &world);
+    Ok(())
+}
+
+fn is_sent_again(alloc: Global, rt: &impl Abort, world: &mut World) -> Result<(), Fail> {
+    world.resolver.resend(&mut world.near, ME, 7);
+    world.has_told(alloc, rt, SERVER, FIRST_QUERY, 1)?;
+    world.resolver.resend(&mut world.near, ME, 1);
+    world.has_told(alloc, rt, SERVER, FIRST_QUERY, 2)?;
+    world.has_tried_near(rt, 2);
+    Ok(())
+}
+
+#[test]
+fn a_request_is_sent_again_as_it_was(rt: HostRuntime) -> Result<(), Fail> {
+    let mut world = new_world(rt.alloc())?;
+    world.take(rt.alloc(), ITR, ITR_PORT, ITR_REQUEST)?;
+    is_sent_again(rt.alloc(), &rt, &mut world)
+}
+
 /// Two lookups, none of which has a reply.
 fn ask_twice(alloc: Global, world: &mut World) -> Result<(), Fail> {
     world.take(alloc, ITR, ITR_PORT, ITR_REQUEST)?;
-    world.take(alloc, ITR, ITR_PORT, ANOTHER_REQUEST)
+    world.take(alloc, ITR, ITR_PORT, REQUEST_ELSEWHERE)
 }
 
 /// A tick of all that is due, after which so many datagrams were tried.
 fn tries_due(rt: &impl Abort, world: &mut World, now: Moment, count: usize) {
-    world.resolver.tick_due(&mut world.near, ME, now);
+    world
+        .resolver
+        .tick_due(&mut world.near, &mut world.far, ME, now);
     world.has_tried_near(rt, count);
 }
 
@@ -231,7 +426,9 @@ fn are_tried_again(rt: &impl Abort, world: &mut World) -> Result<(), Fail> {
     let early = Moment::at(11).ok_or("no moment")?;
     tries_due(rt, world, early, 2);
     let due = world.due()?;
-    world.resolver.tick(&mut world.near, ME, due);
+    world
+        .resolver
+        .tick(&mut world.near, &mut world.far, ME, due);
     world.has_tried_near(rt, 3);
     tries_due(rt, world, due, 4);
     tries_due(rt, world, due, 4);
@@ -249,7 +446,9 @@ fn each_lookup_that_is_due_is_tried_again(rt: HostRuntime) -> Result<(), Fail> {
 fn go_on(world: &mut World) -> Result<(), Fail> {
     if world.resolver.waiting() > 0 {
         let due = world.due()?;
-        world.resolver.tick_due(&mut world.near, ME, due);
+        world
+            .resolver
+            .tick_due(&mut world.near, &mut world.far, ME, due);
     }
     Ok(())
 }

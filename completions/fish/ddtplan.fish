@@ -1,0 +1,101 @@
+# Completion of ddtplan(1) in fish.
+
+# Whether the command is this one; with a number, whether as many words are before this one that are neither options nor
+# their values, the command among them.
+function __ddtplan_at
+    set -l words (commandline -opc)
+    set -e words[1]
+    set -l plain
+    while set -q words[1]
+        switch $words[1]
+            case --off --rate --timeout --tries --under --depth
+                set -e words[1]
+            case -
+                set -a plain $words[1]
+            case '-*'
+            case '*'
+                set -a plain $words[1]
+        end
+        set -e words[1]
+    end
+    test "$plain[1]" = $argv[1]
+    and begin
+        not set -q argv[2]
+        or test (count $plain) = $argv[2]
+    end
+end
+
+complete -c ddtplan -f
+complete -c ddtplan -n __fish_use_subcommand -s h -l help -d 'Print help'
+complete -c ddtplan -n __fish_use_subcommand -s V -l version -d 'Print the version'
+complete -c ddtplan -n __fish_use_subcommand -a blocks -d 'List the blocks that a register assigns alike'
+complete -c ddtplan -n __fish_use_subcommand -a diff -d 'List the blocks whose assignment changes'
+complete -c ddtplan -n __fish_use_subcommand -a faults -d 'List every fault of a file, with its line'
+complete -c ddtplan -n __fish_use_subcommand -a warn -d 'List what a register has that is mostly a mistake'
+complete -c ddtplan -n __fish_use_subcommand -a compile -d 'Write all configurations and a manifest'
+complete -c ddtplan -n __fish_use_subcommand -a loopback -d 'Print the register with its servers on the loopback'
+complete -c ddtplan -n __fish_use_subcommand -a ask -d 'Compare what the servers say with the register'
+complete -c ddtplan -n __fish_use_subcommand -a tree -d 'Draw the tree of a register as SVG'
+complete -c ddtplan -n __fish_use_subcommand -a ladder -d 'Draw the messages of a lookup as SVG'
+complete -c ddtplan -n __fish_use_subcommand -a help -d 'Print the help of the program or of a command'
+
+complete -c ddtplan -n '__ddtplan_at blocks 1' -k -a '(__fish_complete_suffix .csv)'
+complete -c ddtplan -n '__ddtplan_at blocks' -l no-holes -d 'Leave out the holes'
+complete -c ddtplan -n '__ddtplan_at blocks' -l count -d 'Print only how many blocks each kind has'
+complete -c ddtplan -n '__ddtplan_at blocks' -l json -d 'Print a JSON object a line'
+complete -c ddtplan -n '__ddtplan_at blocks' -s h -l help -d 'Print help'
+
+complete -c ddtplan -n '__ddtplan_at diff 1' -k -a '(__fish_complete_suffix .csv)'
+complete -c ddtplan -n '__ddtplan_at diff 2' -k -a '(__fish_complete_suffix .csv)'
+complete -c ddtplan -n '__ddtplan_at diff' -l exact -d 'List where only the prefix of an outcome differs, too'
+complete -c ddtplan -n '__ddtplan_at diff' -l count -d 'Print only how many changed blocks each kind has'
+complete -c ddtplan -n '__ddtplan_at diff' -l json -d 'Print a JSON object a line'
+complete -c ddtplan -n '__ddtplan_at diff' -s h -l help -d 'Print help'
+
+complete -c ddtplan -n '__ddtplan_at faults 1' -k -a '(__fish_complete_suffix .csv)'
+complete -c ddtplan -n '__ddtplan_at faults' -s h -l help -d 'Print help'
+
+complete -c ddtplan -n '__ddtplan_at warn 1' -k -a '(__fish_complete_suffix .csv)'
+complete -c ddtplan -n '__ddtplan_at warn' -l off -x -a unreachable-locator -d 'Turn a kind of warning off'
+complete -c ddtplan -n '__ddtplan_at warn' -l off -x -a repeated-etr -d 'Turn a kind of warning off'
+complete -c ddtplan -n '__ddtplan_at warn' -l off -x -a etr-is-server -d 'Turn a kind of warning off'
+complete -c ddtplan -n '__ddtplan_at warn' -l off -x -a locator-inside-eids -d 'Turn a kind of warning off'
+complete -c ddtplan -n '__ddtplan_at warn' -l off -x -a group-without-zone -d 'Turn a kind of warning off'
+complete -c ddtplan -n '__ddtplan_at warn' -l off -x -a node-zone-without-child -d 'Turn a kind of warning off'
+complete -c ddtplan -n '__ddtplan_at warn' -l off -x -a zone-between -d 'Turn a kind of warning off'
+complete -c ddtplan -n '__ddtplan_at warn' -l off -x -a site-in-other-region -d 'Turn a kind of warning off'
+complete -c ddtplan -n '__ddtplan_at warn' -s h -l help -d 'Print help'
+
+complete -c ddtplan -n '__ddtplan_at compile 1' -k -a '(__fish_complete_suffix .csv)'
+complete -c ddtplan -n '__ddtplan_at compile 2' -a '(__fish_complete_directories)'
+complete -c ddtplan -n '__ddtplan_at compile' -l remove -d 'Remove the files of groups that are gone'
+complete -c ddtplan -n '__ddtplan_at compile' -s h -l help -d 'Print help'
+
+complete -c ddtplan -n '__ddtplan_at loopback 1' -k -a '(__fish_complete_suffix .csv)'
+complete -c ddtplan -n '__ddtplan_at loopback' -l table -d 'Print only which address became which'
+complete -c ddtplan -n '__ddtplan_at loopback' -s h -l help -d 'Print help'
+
+complete -c ddtplan -n '__ddtplan_at ask 1' -k -a '(__fish_complete_suffix .csv)'
+complete -c ddtplan -n '__ddtplan_at ask' -l rate -x -d 'Questions a second'
+complete -c ddtplan -n '__ddtplan_at ask' -l timeout -x -d 'Milliseconds for a reply'
+complete -c ddtplan -n '__ddtplan_at ask' -l tries -x -d 'Requests to a server that is silent'
+complete -c ddtplan -n '__ddtplan_at ask' -s h -l help -d 'Print help'
+
+complete -c ddtplan -n '__ddtplan_at tree 1' -k -a '(__fish_complete_suffix .csv)'
+complete -c ddtplan -n '__ddtplan_at tree' -l under -x -d 'Draw what is inside this prefix'
+complete -c ddtplan -n '__ddtplan_at tree' -l depth -x -d 'How many levels of zones are drawn'
+complete -c ddtplan -n '__ddtplan_at tree' -s h -l help -d 'Print help'
+
+complete -c ddtplan -n '__ddtplan_at ladder 1' -k -a '(__fish_complete_suffix .csv)'
+complete -c ddtplan -n '__ddtplan_at ladder' -s h -l help -d 'Print help'
+
+complete -c ddtplan -n '__ddtplan_at help' -a blocks -d 'List the blocks that a register assigns alike'
+complete -c ddtplan -n '__ddtplan_at help' -a diff -d 'List the blocks whose assignment changes'
+complete -c ddtplan -n '__ddtplan_at help' -a faults -d 'List every fault of a file, with its line'
+complete -c ddtplan -n '__ddtplan_at help' -a warn -d 'List what a register has that is mostly a mistake'
+complete -c ddtplan -n '__ddtplan_at help' -a compile -d 'Write all configurations and a manifest'
+complete -c ddtplan -n '__ddtplan_at help' -a loopback -d 'Print the register with its servers on the loopback'
+complete -c ddtplan -n '__ddtplan_at help' -a ask -d 'Compare what the servers say with the register'
+complete -c ddtplan -n '__ddtplan_at help' -a tree -d 'Draw the tree of a register as SVG'
+complete -c ddtplan -n '__ddtplan_at help' -a ladder -d 'Draw the messages of a lookup as SVG'
+complete -c ddtplan -n '__ddtplan_at help' -a help -d 'Print the help of the program or of a command'

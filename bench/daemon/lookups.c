@@ -1,6 +1,6 @@
 /* Loads a resolver on the loopback and judges each answer.
  *
- *     lookups lisp RESOLVER ITEMS SECONDS WINDOW ITR ETR [once]
+ *     lookups lisp RESOLVER ITEMS SECONDS WINDOW ITR ETR [once|again]
  *     lookups dns RESOLVER ITEMS SECONDS WINDOW ITR [once]
  *
  * lisp   an ITR at the address ITR asks a LISP Map-Resolver at UDP port 4342 for random identifiers of ITEMS. A line of
@@ -10,9 +10,12 @@
  *        instance that no item has, where WINDOW ends in a plus sign: all of it has to be a hole.
  * dns    queries at port 53 for the addresses of random names of ITEMS, a name a line
  * once   each item is asked for once, in order, and not at random
+ * again  a request without an answer is sent again each second, as it was, ten times at most (RFC 9301, section 5.3)
  *
- * At most WINDOW requests are outstanding. One without an answer for 8 seconds is lost. Each minute, and at the end, a
- * line says how many were asked, answered, lost and answered wrongly. The status is 1 if any was wrong, or none right. */
+ * At most WINDOW requests are outstanding. One without an answer for 8 seconds is lost; with `again`, one without an
+ * answer a second after it was sent for the last time. Each minute, and at the end, a line says how many were asked,
+ * answered, sent again, lost and answered wrongly, and what the slowest answer took. The status is 1 if any was wrong,
+ * if none was right, or, with `again`, if one is lost. */
 #define _GNU_SOURCE
 #include <arpa/inet.h>
 #include <netinet/in.h>
@@ -36,9 +39,11 @@ enum {
     AFI_LCAF = 16387,
     MAP_REPLY = 2,
     FIRST_FREE_INSTANCE = 1 << 20,
+    MOST_SENT_AGAIN = 10,
 };
 
-static const double PATIENCE = 8;
+/* Seconds: for an answer, for an answer with `again`, and between two looks at what waits. */
+static const double PATIENCE = 8, PATIENCE_AGAIN = 1, LOOK = 0.25;
 
 /* Set by SIGINT, which ends a run as its time does. */
 static volatile sig_atomic_t is_over;
@@ -63,21 +68,24 @@ struct asked {
     uint64_t nonce;
     uint32_t instance, address;
     const struct item *item;
-    double since;
+    double since, sent;
+    int again;
     bool waits;
 };
 
 struct counts {
-    uint64_t asked, answered[3], lost, wrong, strays;
+    uint64_t asked, answered[3], again, lost, wrong, strays;
+    double slowest;
 };
 
 struct run {
-    bool is_dns, is_once, has_free;
+    bool is_dns, is_once, is_again, has_free;
     int itr, etr, port;
     uint32_t itr_address;
     struct item *items;
     size_t count, next, window, waiting;
-    uint64_t nonce, oldest;
+    uint64_t nonce;
+    double looked;
     struct asked table[PLACES];
     struct counts counts;
 };
@@ -228,9 +236,16 @@ static bool choose(struct run *run, struct asked *asked)
     return true;
 }
 
-static bool ask(struct run *run)
+static void send_request(struct run *run, struct asked *asked)
 {
     uint8_t bytes[MOST_BYTES];
+    size_t length = run->is_dns ? put_query(bytes, asked) : put_request(bytes, run, asked);
+    (void)!send(run->itr, bytes, length, 0);
+    asked->sent = now();
+}
+
+static bool ask(struct run *run)
+{
     // Half of the places are free at least.
     while (run->table[run->nonce % PLACES].waits)
         run->nonce++;
@@ -238,12 +253,12 @@ static bool ask(struct run *run)
     if (!choose(run, asked))
         return false;
     asked->nonce = run->nonce++;
-    asked->since = now();
+    asked->again = 0;
     asked->waits = true;
     run->waiting++;
     run->counts.asked++;
-    size_t length = run->is_dns ? put_query(bytes, asked) : put_request(bytes, run, asked);
-    (void)!send(run->itr, bytes, length, 0);
+    send_request(run, asked);
+    asked->since = asked->sent;
     return true;
 }
 
@@ -255,6 +270,9 @@ static struct asked *answered(struct run *run, uint64_t nonce)
         run->counts.strays++;
         return NULL;
     }
+    double took = now() - asked->since;
+    if (took > run->counts.slowest)
+        run->counts.slowest = took;
     asked->waits = false;
     run->waiting--;
     return asked;
@@ -307,19 +325,26 @@ static void take_all(struct run *run, int socket, void (*take)(struct run *, con
         take(run, bytes, length);
 }
 
-/* Gives up what has waited for too long. */
+/* Sends again, or gives up, what has waited for too long. */
 static void lose(struct run *run)
 {
-    while (run->oldest < run->nonce) {
-        struct asked *asked = &run->table[run->oldest % PLACES];
-        if (asked->waits && asked->nonce == run->oldest) {
-            if (now() - asked->since < PATIENCE)
-                return;
+    double time = now();
+    if (time - run->looked < LOOK)
+        return;
+    run->looked = time;
+    for (size_t place = 0; place < PLACES; place++) {
+        struct asked *asked = &run->table[place];
+        if (!asked->waits || time - asked->sent < (run->is_again ? PATIENCE_AGAIN : PATIENCE))
+            continue;
+        if (run->is_again && asked->again < MOST_SENT_AGAIN) {
+            asked->again++;
+            run->counts.again++;
+            send_request(run, asked);
+        } else {
             asked->waits = false;
             run->waiting--;
             run->counts.lost++;
         }
-        run->oldest++;
     }
 }
 
@@ -331,9 +356,10 @@ static uint64_t all_answered(const struct counts *counts)
 static void report(const struct run *run, double took)
 {
     const struct counts *counts = &run->counts;
-    printf("%.0f s, %.0f answers/s: asked %lu, registered %lu, not registered %lu, holes %lu, lost %lu, wrong %lu, "
-           "strays %lu\n", took, (double)all_answered(counts) / took, counts->asked, counts->answered[REGISTERED],
-           counts->answered[NOT_REGISTERED], counts->answered[HOLE], counts->lost, counts->wrong, counts->strays);
+    printf("%.0f s, %.0f answers/s: asked %lu, registered %lu, not registered %lu, holes %lu, again %lu, lost %lu, "
+           "wrong %lu, strays %lu, slowest %.1f s\n", took, (double)all_answered(counts) / took, counts->asked,
+           counts->answered[REGISTERED], counts->answered[NOT_REGISTERED], counts->answered[HOLE], counts->again,
+           counts->lost, counts->wrong, counts->strays, counts->slowest);
     fflush(stdout);
 }
 
@@ -401,16 +427,17 @@ static bool read_items(struct run *run, const char *path)
 
 int main(int count, char **words)
 {
-    static struct run run = {.etr = -1, .nonce = 1, .oldest = 1};
+    static struct run run = {.etr = -1, .nonce = 1};
     struct sockaddr_in mine;
     socklen_t size = sizeof mine;
     run.is_dns = count > 1 && strcmp(words[1], "dns") == 0;
     int most = run.is_dns ? 8 : 9;
     if (count != most && count != most - 1) {
-        fprintf(stderr, "usage: lookups lisp|dns RESOLVER ITEMS SECONDS WINDOW ITR [ETR] [once]\n");
+        fprintf(stderr, "usage: lookups lisp|dns RESOLVER ITEMS SECONDS WINDOW ITR [ETR] [once|again]\n");
         return 2;
     }
-    run.is_once = count == most;
+    run.is_again = count == most && strcmp(words[most - 1], "again") == 0;
+    run.is_once = count == most && !run.is_again;
     run.window = strtoull(words[5], NULL, 10);
     run.has_free = strchr(words[5], '+') != NULL;
     run.itr = socket_at(words[6], 0, words[2], run.is_dns ? DNS_PORT : CONTROL_PORT);
@@ -425,5 +452,5 @@ int main(int count, char **words)
     run.port = ntohs(mine.sin_port);
     run.itr_address = ntohl(mine.sin_addr.s_addr);
     load(&run, atof(words[4]));
-    return run.counts.wrong || !all_answered(&run.counts);
+    return run.counts.wrong || !all_answered(&run.counts) || (run.is_again && run.counts.lost);
 }

@@ -1,9 +1,9 @@
 -- A reply takes its request off the list.
-use Rattle.std.proofs.Common.{◌≡◌, ℕ, suc, ◌+◌, ◌<◌, Bool, true, false, List, [], ◌∷◌, ◌++◌, length, take, drop, get_or, Option, Some, None, refl, sym, ap, ◌∙◌, arith, add-one}
-use Rattle.std.specs.Prelude.{not, nat_lt, All, position}
+use Rattle.std.proofs.Common.{◌≡◌, ℕ, suc, ◌+◌, ◌<◌, Bool, true, false, List, [], ◌∷◌, ◌++◌, length, take, drop, get_or, Option, Some, None, refl, sym, ap, ◌∙◌, subst, arith, add-one}
+use Rattle.std.specs.Prelude.{not, nat_lt, ◌↔◌, All, IfSome, OnSome, IsSome, position}
 use Rattle.std.specs.List.{position_or_len, remove}
 use Rattle.std.proofs.lemmas.Option.{none-some}
-use Rattle.std.proofs.lemmas.Bool.{cond-true, cond-false, lt-ltb}
+use Rattle.std.proofs.lemmas.Bool.{cond-true, cond-false, lt-ltb, false≢true}
 use Rattle.std.proofs.lemmas.List.{take-append-drop, drop_more}
 use Rattle.std.proofs.lemmas.List.Elements.{All-nil, All-cons}
 use Rattle.std.proofs.lemmas.List.Quantifiers.{position-Some}
@@ -28,9 +28,9 @@ module _ (test : Request → Bool) where
   none_before [] none = All-nil (fails test)
   none_before (s ∷ xs) none = none_more s xs none (none_before xs) (test s) refl
 
-  -- the place is looked for in the list that a slice lends
-  pub place_in : (xs seen : List Request) (r found : Option ℕ) → r ≡ position test seen → seen ≡ xs → r ≡ found → position test xs ≡ found
-  place_in xs seen r found is same given = ap (position test) (sym same) ∙ sym is ∙ given
+  place_within : (xs : List Request) (i : ℕ) → position test xs ≡ Some i → i < length xs
+  place_within [] i found = absurd (none-some _ found)
+  place_within (s ∷ xs) i found = (position-Some test (s ∷ xs) i s found).0
 
 pub unknown_at : (at from : Locator) (wire : ℕ) (xs : List Request) → position (is_reply_to at from wire) xs ≡ None → Takes at from wire xs xs None
 unknown_at at from wire xs none =
@@ -48,3 +48,11 @@ known_at at from wire xs i s found read =
     ∙ ap (λ n. s ∷ drop n xs) (add-one i) in
     known (take i xs) (drop (suc i) xs) s (ap test read ∙ here.1)
     (sym (take-append-drop i xs) ∙ ap (λ rest. take i xs ++ rest) tail) refl refl
+
+-- what is removed at the place of a reply's request
+pub taken_at : (at from : Locator) (wire : ℕ) (xs new : List Request) (i : ℕ) (taken : Option Request) → position (is_reply_to at from wire) xs ≡ Some i
+    → (n : ℕ) → n ≡ length xs → IsSome taken ↔ (i < n) → IfSome taken (λ s. s ≡ get_or xs i s) → OnSome taken (new ≡ remove xs i) → Takes at from wire xs new taken
+taken_at at from wire xs new i None found n len there value items =
+    absurd (false≢true (there.1 (rw len (place_within (is_reply_to at from wire) xs i found))))
+taken_at at from wire xs new i (Some s) found n len there value items =
+    subst (λ (left : List Request). Takes at from wire xs left (Some s)) (sym items) (known_at at from wire xs i s found value)

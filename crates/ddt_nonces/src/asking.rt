@@ -31,6 +31,8 @@ pub(crate) struct Asking<R: Rng + Drop> {
     pub now: u64,
     /// Whether servers that are silent are passed over.
     pub passes_over: bool,
+    /// How many Map-Referrals came that are the reply to no outstanding request.
+    pub unasked: u64,
 }
 
 impl<R: Rng + Drop> Asking<R> {
@@ -46,6 +48,7 @@ impl<R: Rng + Drop> Asking<R> {
             refused: Refused::new(alloc),
             now: 0,
             passes_over: true,
+            unasked: 0,
         }
     }
 
@@ -142,6 +145,7 @@ impl<R: Rng + Drop> Asking<R> {
             Err(_fault) => return Ok(Some(packet)),
         };
         if packet.port != CONTROL_PORT {
+            self.unasked = self.unasked.saturating_add(1);
             return Err(NetFault::Receive);
         }
         match self.outstanding.take(at, packet.from, wire) {
@@ -152,7 +156,10 @@ impl<R: Rng + Drop> Asking<R> {
                 put_nonce(&mut buffer[..packet.len], sent.plain);
                 Ok(Some(packet))
             }
-            None => Err(NetFault::Receive),
+            None => {
+                self.unasked = self.unasked.saturating_add(1);
+                Err(NetFault::Receive)
+            }
         }
     }
 

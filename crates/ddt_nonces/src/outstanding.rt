@@ -1,10 +1,12 @@
 //! The requests that went out and have no reply yet, with both nonces of each.
 
-ghost use Rattle.std.specs.Prelude.{◌≡◌, ◌≢◌, ◌<◌, [], false, All, length, position, OnOk, OnErr, IfSome};
+ghost use Rattle.std.specs.List.{list_any};
+ghost use Rattle.std.specs.Prelude.{◌≡◌, ◌≢◌, ◌==◌, ◌<◌, [], false, All, length, position, OnOk, OnErr, IfSome};
 ghost use Rattle.ddt_nonces.specs.Outstanding.{IsOutstanding, Takes, noted, is_reply_to};
 
 use ddt_path::Locator;
 use std::alloc::{AllocError, Global};
+use std::collections::VecDeque;
 use std::marker::Model;
 
 /// No more requests are outstanding.
@@ -47,7 +49,7 @@ pub struct Overdue {
 /// The requests that have no reply yet, in the order in which they went out; of too many the oldest are forgotten.
 #[derive(Debug, Drop)]
 pub struct Outstanding {
-    sent: Vec<SentRequest>,
+    sent: VecDeque<SentRequest>,
 }
 
 impl Outstanding {
@@ -56,7 +58,7 @@ impl Outstanding {
         ensures { result.sent.items ≡ [] }
     {
         Outstanding {
-            sent: Vec::new(alloc),
+            sent: VecDeque::new(alloc),
         }
     }
 
@@ -69,9 +71,10 @@ impl Outstanding {
 
     /// Whether a request with this nonce on the wire is outstanding.
     pub fn has(&self, wire: u64) -> bool
+        ensures exact { result ≡ list_any (λ s. s.wire == wire) self.now.sent.items }
         ensures unused { result ≡ false → All (λ s. s.wire ≢ wire) self.now.sent.items }
     {
-        self.sent.as_slice().iter().any(|sent| sent.wire == wire)
+        self.sent.iter().any(|sent| sent.wire == wire)
     }
 
     /// One more is outstanding. Fails only if out of memory, and then all stays as it was.
@@ -79,9 +82,9 @@ impl Outstanding {
         ensures noted { OnOk result (self.new.sent.items ≡ noted self.old.sent.items sent) }
         ensures unchanged { OnErr result (self.new.sent.items ≡ self.old.sent.items) }
     {
-        self.sent.push(sent)?;
+        self.sent.push_back(sent)?;
         if self.sent.len() > MOST_OUTSTANDING {
-            let _oldest = self.sent.remove(0);
+            let _oldest = self.sent.pop_front();
         }
         Ok(())
     }
@@ -90,8 +93,8 @@ impl Outstanding {
     pub fn take(&mut self, at: Locator, from: Locator, wire: u64) -> Option<SentRequest>
         ensures { Takes at from wire self.old.sent.items self.new.sent.items result }
     {
-        let place = place_of(self.sent.as_slice(), at, from, wire)?;
-        Some(self.sent.remove(place))
+        let place = place_of(&self.sent, at, from, wire)?;
+        self.sent.remove(place)
     }
 
     /// Forgets all requests.
@@ -106,7 +109,7 @@ impl Outstanding {
     pub fn set_timer(&mut self, plain: u64, at: u64)
         ensures { self.new.sent.items ≡ self.old.sent.items }
     {
-        if let Some(place) = newest_of(self.sent.as_slice(), plain) {
+        if let Some(place) = newest_of(&self.sent, plain) {
             let sent = &mut self.sent[place];
             sent.timer = Some(at);
         }
@@ -114,7 +117,7 @@ impl Outstanding {
 
     /// The earliest timer, in milliseconds.
     pub fn next_timer(&self) -> Option<u64> {
-        first_timer(self.sent.as_slice()).map(|first| first.1)
+        first_timer(&self.sent).map(|first| first.1)
     }
 
     /// Of the requests whose timer has come at this moment, in milliseconds, one with the earliest timer, which it has
@@ -123,7 +126,7 @@ impl Outstanding {
         ensures outstanding { IfSome result (λ overdue. IsOutstanding overdue.nonce overdue.to self.old.sent.items) }
         ensures same { self.new.sent.items ≡ self.old.sent.items }
     {
-        let (place, timer) = first_timer(self.sent.as_slice())?;
+        let (place, timer) = first_timer(&self.sent)?;
         if timer > now {
             return None;
         }
@@ -137,33 +140,39 @@ impl Outstanding {
 }
 
 /// The place of the first request to which such a reply is.
-fn place_of(sent: &[SentRequest], at: Locator, from: Locator, wire: u64) -> Option<usize>
-    ensures { result ≡ position (λ s. is_reply_to at from wire s) sent.now }
+fn place_of(
+    sent: &VecDeque<SentRequest>,
+    at: Locator,
+    from: Locator,
+    wire: u64,
+) -> Option<usize>
+    ensures { result ≡ position (λ s. is_reply_to at from wire s) sent.now.items }
 {
     sent.iter()
         .position(|s| s.wire == wire && s.at == at && s.to == from)
 }
 
 /// The place of the newest request with this nonce of its sender.
-fn newest_of(sent: &[SentRequest], plain: u64) -> Option<usize>
-    ensures { IfSome result (λ place. place < length sent.now) }
+fn newest_of(sent: &VecDeque<SentRequest>, plain: u64) -> Option<usize>
+    ensures { IfSome result (λ place. place < length sent.now.items) }
 {
-    let mut newest = None;
-    for (place, s) in sent.iter().enumerate() {
-        if s.plain == plain {
-            newest = Some(place);
+    let len = sent.len();
+    for newer in 0..len {
+        let place = len - 1 - newer;
+        if sent[place].plain == plain {
+            return Some(place);
         }
     }
-    newest
+    None
 }
 
 /// The place of a request with the earliest timer, and that timer.
-fn first_timer(sent: &[SentRequest]) -> Option<(usize, u64)>
-    ensures { IfSome result (λ first. first.0 < length sent.now) }
+fn first_timer(sent: &VecDeque<SentRequest>) -> Option<(usize, u64)>
+    ensures { IfSome result (λ first. first.0 < length sent.now.items) }
 {
     let mut first = None;
-    for (place, s) in sent.iter().enumerate() {
-        if let Some(timer) = s.timer
+    for place in 0..sent.len() {
+        if let Some(timer) = sent[place].timer
             && is_earlier(timer, first)
         {
             first = Some((place, timer));

@@ -82,6 +82,11 @@ impl<W: Wires + Drop, R: Rng + Drop> RandomNonces<W, R> {
         self.asking.outstanding.len()
     }
 
+    /// How many Map-Referrals came that are the reply to no outstanding request. They are lost.
+    pub fn unasked(&self) -> u64 {
+        self.asking.unasked
+    }
+
     /// What was told is a translation. The call does nothing.
     pub fn is_translation(&self)
         ensures { IsTranslation self.now }

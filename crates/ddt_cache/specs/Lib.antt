@@ -6,4 +6,5 @@ pub mod Found
 pub mod InOrder
 pub mod Lending
 pub mod Ends
+pub mod Inside
 pub mod laws

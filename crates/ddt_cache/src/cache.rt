@@ -8,10 +8,12 @@ ghost use Rattle.ddt_cache.specs.Live.{nothing_known, moved, forgotten};
 ghost use Rattle.ddt_cache.specs.Saved.{is_added, most_live_entries, saving, stored_in};
 ghost use Rattle.ddt_cache.specs.Found.{IsFound};
 ghost use Rattle.ddt_cache.specs.InOrder.{IsCacheInOrder};
+ghost use Rattle.ddt_cache.specs.Inside.{AreInside};
 
 use crate::dropped::{drop_ended, drop_entry};
 use crate::ends::Ends;
 use crate::entry::{Entry, Saved};
+use crate::inside::rows_inside;
 use crate::longest_live::{Held, drop_ended_over};
 use crate::moment::Moment;
 use crate::saved_records::save_among;
@@ -144,6 +146,15 @@ impl<M: PrefixMap<Entry>> Cache<M> {
         ensures least { map.len self.now.live ≤ result }
     {
         self.held.entries.len()
+    }
+
+    /// The live entries whose prefixes are `within` or inside it, in the order of their ends, each once; the root's is
+    /// not among them. Fails only if out of memory, also where memory ran out for the list of ends and such an entry may
+    /// still be there.
+    pub fn inside(&self, alloc: Global, within: Prefix) -> Result<Vec<(Prefix, Entry)>, AllocError>
+        ensures { IfOk result (λ rows. AreInside self.now within rows.items) }
+    {
+        rows_inside(alloc, &self.held.entries, &self.ends, self.time, within)
     }
 
     /// Of the live entries whose prefixes cover the identifier, that of the longest prefix, lent; where there is none,

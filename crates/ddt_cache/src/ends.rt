@@ -13,7 +13,7 @@ use std::collections::BTreeSet;
 /// The ends of the entries. Each is listed with its prefix, but where memory for the list ran out.
 #[derive(Drop)]
 pub(crate) struct Ends {
-    listed: BTreeSet<(u64, Prefix)>,
+    pub(crate) listed: BTreeSet<(u64, Prefix)>,
     /// An entry that isn't listed ends at this moment or later.
     first_unlisted: u64,
     /// It ends at this moment or earlier.
@@ -90,6 +90,13 @@ impl Ends {
         ensures { OnTrue result ((n : ℕ) → IsUnlisted self.now n → time < n) }
     {
         time < self.first_unlisted
+    }
+
+    /// Whether each entry that isn't listed has ended by a time.
+    pub(crate) fn unlisted_ended_by(&self, time: u64) -> bool
+        ensures { OnTrue result ((n : ℕ) → IsUnlisted self.now n → n ≤ time) }
+    {
+        self.last_unlisted <= time || self.last_unlisted < self.first_unlisted
     }
 
     /// Says that each entry that isn't listed ends after a time.

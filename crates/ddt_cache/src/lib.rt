@@ -7,6 +7,7 @@ mod cache;
 mod dropped;
 mod ends;
 mod entry;
+mod inside;
 mod laws;
 mod longest_live;
 mod moment;

@@ -71,6 +71,11 @@ pub live_at-is : (t : ℕ) (m : Entries) (q : List ℕ) (e : Entry) → get (liv
     → (get m q ≡ Some e) × (t < e.end)
 live_at-is t m q e is = if_live_is t (get m q) e (sym (get-live_at t m q) ∙ is)
 
+-- what is there and ends later is live
+pub live_at-got : (t : ℕ) (m : Entries) (q : List ℕ) (e : Entry) → get m q ≡ Some e → t < e.end
+    → get (live_at t m) q ≡ Some e
+live_at-got t m q e found lt = get-live_at t m q ∙ ap (if_live t) found ∙ if_live_some t e lt
+
 pub live_at-empty : (t : ℕ) → live_at t empty ≡ empty
 live_at-empty t = same _ _ (λ q. get-live_at t empty q ∙ ap (if_live t) (get-empty path_cmp q) ∙ sym (get-empty path_cmp q))
 
@@ -107,6 +112,14 @@ live_at-remove t m p = same _ _ (λ q.
 either : {A : Type 0} (b : Bool) (x y : A) → (b ≡ true → x ≡ y) → cond b x y ≡ y
 either true x y h = h refl
 either false x y h = refl
+
+-- what is there once a prefix is removed was there before
+pub remove_was_there : (m : Entries) (p q : List ℕ) (e : Entry) → get (remove m p) q ≡ Some e → get m q ≡ Some e
+remove_was_there m p q e found = by (tied q p) (sym (get-remove nat_list_cmp_total m p q) ∙ found)
+  where
+    by : (b : Bool) → cond b None (get m q) ≡ Some e → get m q ≡ Some e
+    by true is = absurd (none-some e is)
+    by false is = is
 
 -- to remove an entry that has ended changes nothing
 pub live_at-remove_ended : (t : ℕ) (m : Entries) (p : List ℕ) (e : Entry) → get m p ≡ Some e → e.end ≤ t

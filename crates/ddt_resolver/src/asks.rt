@@ -51,6 +51,16 @@ impl<M: PrefixMap<Entry>> Resolver<M> {
         }
     }
 
+    /// The longest match that is remembered for an identifier at `now`: its prefix, with what is remembered of it. The
+    /// root's, with the prefix that is everything, where there is none. Nothing changes but the time.
+    pub fn longest(&mut self, now: Moment, x: Xeid) -> (Prefix, Entry)
+        ensures found { IsFound (moved now self.old).known (xeid_path x) result.0 result.1 }
+        ensures time { self.new ≡ moved now self.old }
+    {
+        self.advance(now);
+        self.find(x)
+    }
+
     /// The longest match of an identifier at its time.
     fn find(&mut self, x: Xeid) -> (Prefix, Entry)
         ensures unchanged { self.new ≡ self.old }

@@ -30,22 +30,6 @@ pub struct ItrRequest {
     pub port: u16,
 }
 
-/// What a request asks, if its bit D is clear.
-fn asked(request: &Request<'_>) -> Option<ItrRequest>
-    ensures { result ≡ asked_by request.now }
-{
-    if request.ddt() {
-        return None;
-    }
-    let to = request.itr_rlocs().next()?;
-    Some(ItrRequest {
-        xeid: request.xeid(),
-        nonce: request.nonce(),
-        to,
-        port: request.port(),
-    })
-}
-
 /// The prefix of a negative Map-Reply for the identifier: the block itself, or, in place of a range of instances, all
 /// addresses of the identifier's instance and family.
 fn block_for(x: Xeid, prefix: Prefix) -> Prefix
@@ -74,6 +58,22 @@ fn negative_for(x: Xeid, outcome: &Outcome) -> Option<(u32, Prefix)>
 pub struct Front;
 
 impl Front {
+    /// What a request that was read asks, if its bit D is clear. None where the bit is set: a resolver asks then.
+    pub fn asked(request: &Request<'_>) -> Option<ItrRequest>
+        ensures { result ≡ asked_by request.now }
+    {
+        if request.ddt() {
+            return None;
+        }
+        let to = request.itr_rlocs().next()?;
+        Some(ItrRequest {
+            xeid: request.xeid(),
+            nonce: request.nonce(),
+            to,
+            port: request.port(),
+        })
+    }
+
     /// The request of an ITR that the bytes are: an Encapsulated Map-Request whose bit D is clear. None for anything
     /// else.
     pub fn itr_request(bytes: &[u8]) -> Option<ItrRequest>
@@ -85,7 +85,7 @@ impl Front {
         ensures there { (m : Message) → Spells bytes.now m → m.ddt ≡ false → IsSome result }
     {
         match read_request(bytes) {
-            Ok(request) => asked(&request),
+            Ok(request) => Front::asked(&request),
             Err(_fault) => None,
         }
     }

@@ -1,9 +1,10 @@
 //! The resolver: what it remembers, what is pending, and its calls (RFC 8111, section 7.3).
 
-ghost use Rattle.std.specs.Prelude.{◌≡◌, ◌<◌, ◌≤◌, ℕ, length, None, IfSome, IfNone};
+ghost use Rattle.std.specs.Prelude.{◌≡◌, ◌<◌, ◌≤◌, ℕ, length, None, IfOk, IfSome, IfNone};
 ghost use Rattle.std.specs.FinMap as map;
+ghost use Rattle.ddt_cache.specs.Inside.{AreInside};
 ghost use Rattle.ddt_cache.specs.Saved.{most_live_entries};
-ghost use Rattle.ddt_resolver.specs.State.{fresh, moved, dropped};
+ghost use Rattle.ddt_resolver.specs.State.{fresh, moved, dropped, forgotten};
 ghost use Rattle.ddt_resolver.specs.Order.{IsStateInOrder};
 ghost use Rattle.ddt_resolver.specs.Table.{IsLeastDeadline};
 
@@ -90,6 +91,14 @@ impl<M: PrefixMap<Entry>> Resolver<M> {
         self.cache.held()
     }
 
+    /// The referrals that it remembers of the prefix `within` and of those inside it, as `Cache::inside` answers them.
+    /// Fails only if out of memory, also where memory ran out earlier for the list of their ends.
+    pub fn inside(&self, within: Prefix) -> Result<Vec<(Prefix, Entry)>, AllocError>
+        ensures { IfOk result (λ rows. AreInside self.now.known within rows.items) }
+    {
+        self.cache.inside(self.alloc, within)
+    }
+
     /// How many lookups are pending.
     pub fn pending(&self) -> usize
         ensures { result ≡ map.len self.now.pending }
@@ -119,6 +128,15 @@ impl<M: PrefixMap<Entry>> Resolver<M> {
         ensures there { result ≡ map.contains_key self.old.pending ticket }
     {
         self.table.cancel(ticket.number())
+    }
+
+    /// Forgets what is remembered of a prefix, and says whether something was. Pending lookups stay as they are, and the
+    /// root's servers are never forgotten.
+    pub fn forget(&mut self, prefix: Prefix) -> bool
+        ensures forgotten { self.new ≡ forgotten self.old prefix }
+        ensures there { result ≡ map.contains_key self.old.known.live prefix }
+    {
+        self.cache.forget(prefix)
     }
 
     /// Moves the time to `now`, where that is later.

@@ -1,11 +1,11 @@
 -- Each step keeps what holds of a resolver at all times.
-use Rattle.std.proofs.Common.{◌≡◌, ℕ, ◌+◌, ◌<◌, ◌≤◌, Some, refl, sym, ap, ◌∙◌, subst, arith, inl, inr, nat_cmp}
+use Rattle.std.proofs.Common.{◌≡◌, ℕ, ◌+◌, ◌<◌, ◌≤◌, List, Some, refl, sym, ap, ◌∙◌, subst, arith, inl, inr, nat_cmp}
 use Rattle.std.specs.FinMap.{FinMap, get, insert, remove, len}
 use Rattle.ddt_cache.specs.Moment.{last_moment}
 use Rattle.ddt_cache.specs.InOrder.{IsCacheInOrder as IsKnownInOrder}
-use Rattle.ddt_cache.specs.laws.Order.{moved_in_order}
+use Rattle.ddt_cache.specs.laws.Order.{moved_in_order, forgotten_in_order}
 use Rattle.ddt_resolver.specs.declared.pending.Pending.{Pending}
-use Rattle.ddt_resolver.specs.State.{State, last_nonce, most_pending, numbered, moved, lodged, dropped, tried_again, at_next}
+use Rattle.ddt_resolver.specs.State.{State, last_nonce, most_pending, numbered, moved, lodged, dropped, forgotten, tried_again, at_next}
 use Rattle.ddt_resolver.specs.declared.results.Ticked.{Ticked}
 use Rattle.ddt_resolver.specs.declared.step.Reply.{Reply}
 use Rattle.ddt_resolver.specs.TickStep.{GoOn, again, next_place, answered, no_reply, used_up, HastenStep, unknown, hastened}
@@ -109,6 +109,10 @@ order_moved s now fits o = order_fewer s o (moved now s) (omega arith) refl (mov
 -- and so does the removal of a lookup
 pub order_dropped : (s : State) (t : ℕ) → IsStateInOrder s → IsStateInOrder (dropped s t)
 order_dropped s t o = order_fewer s o (dropped s t) (omega arith) refl o.known refl (len_removed nat_cmp_total s.pending t) (λ u l found. (found_remove s.pending t u l found).1)
+
+-- and so does a prefix that is forgotten
+pub order_forgotten : (s : State) (p : List ℕ) → IsStateInOrder s → IsStateInOrder (forgotten s p)
+order_forgotten s p o = order_fewer s o (forgotten s p) (omega arith) refl (forgotten_in_order s.known p o.known) refl (omega arith) (λ t l found. found)
 
 -- and so does a lookup that is hastened
 pub order_hastened : (s : State) (nonce : ℕ) (new : State) (ticked : Ticked) → IsStateInOrder s → HastenStep s nonce new ticked → IsStateInOrder new

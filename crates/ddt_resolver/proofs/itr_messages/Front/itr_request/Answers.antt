@@ -1,7 +1,7 @@
 use Rattle.std.proofs.Common.{◌≡◌, ◌∙◌, ap}
 use Rattle.std.specs.Prelude.{is_some}
 use Rattle.ddt_resolver.specs.Front.{asked_by}
-use Rattle.ddt_resolver.proofs.FrontLemmas.{asked_is, asked_in, asks_something}
+use Rattle.ddt_resolver.specs.laws.Front.{asked_is, asked_in, asks_something}
 use Rattle.ddt_resolver.proofs.itr_messages.Front.itr_request.Goals as goal
 
 pub returns-in-Ok-clause-found : goal.returns-in-Ok-clause-found

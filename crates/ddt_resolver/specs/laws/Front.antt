@@ -1,4 +1,4 @@
--- What a request asks, if its bit D is clear.
+-- What a request asks, if its bit D is clear: what is read of bytes asks just what they spell.
 use Rattle.std.proofs.Common.{◌≡◌, ◌+◌, ℕ, Bool, true, false, List, [], ◌∷◌, length, cond, Option, Some, None, refl, sym, ap, ◌∙◌, arith}
 use Rattle.std.specs.Prelude.{is_some, slice_get, IfSome}
 use Rattle.std.specs.Option.{option_map}

@@ -30,11 +30,11 @@ use Rattle.ddt_cache.specs.declared.entry.Entry.{Entry}
 use Rattle.ddt_cache.specs.Entry.{is_negative, entry_of}
 use Rattle.ddt_cache.specs.Found.{IsFound}
 use Rattle.ddt_cache.specs.Saved.{is_saved}
-use Rattle.ddt_cache.specs.laws.Live.{live_at-is}
+use Rattle.ddt_cache.specs.laws.Live.{live_at-is, remove_was_there}
 use Rattle.ddt_resolver.specs.declared.pending.Pending.{Pending}
 use Rattle.ddt_path.specs.Actions.{IsReferral}
 use Rattle.ddt_resolver.specs.Records.{IsBelow, outcome_at, outcome_of, negative_answer, start_at}
-use Rattle.ddt_resolver.specs.State.{State, moved, server, lodged, dropped, stored, opening, referred, passed_on, tried_again, at_next}
+use Rattle.ddt_resolver.specs.State.{State, moved, server, lodged, dropped, stored, forgotten, opening, referred, passed_on, tried_again, at_next}
 use Rattle.ddt_resolver.specs.AskStep.{AskStep, Start, cached, full, used_up, opened, answer_of}
 use Rattle.ddt_resolver.specs.Act as acts
 use Rattle.ddt_resolver.specs.Act.{Act, HearStep}
@@ -124,6 +124,10 @@ module _ (r : Register) (s : State) (i : IsSound r s) where
 
   pub sound_moved : (now : ℕ) → IsSound r (moved now s)
   sound_moved now = record { root = i.root; lookups = i.lookups; entries = λ p e found. i.entries p e (live_at-is (max s.known.time now) s.known.live p e found).0 }
+
+  -- what is left where a prefix is forgotten was remembered
+  pub sound_forgotten : (p : List ℕ) → IsSound r (forgotten s p)
+  sound_forgotten p = record { root = i.root; lookups = i.lookups; entries = λ q e found. i.entries q e (remove_was_there s.known.live p q e found) }
 
   -- a true record may be saved
   pub sound_stored : (rec : ReferralRecord) → IsTrueEntry r rec.prefix (entry_of s.known.time rec) → IsSound r (stored s rec)

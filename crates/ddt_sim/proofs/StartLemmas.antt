@@ -24,7 +24,7 @@ use Rattle.ddt_resolver.specs.TickStep.{GoOn}
 use Rattle.ddt_resolver.specs.Step as steps
 use Rattle.ddt_resolver.specs.laws.NumberMap.{found_insert, found_remove}
 use Rattle.ddt_sim.specs.Sound.{IsTrueEntry, delegates, registers, denies, IsSound}
-use Rattle.ddt_sim.specs.Inside.{IsTrueStart, zone, site, StartsAreTrue, NewStartsAreTrue, StepsKeepStarts, TimeKeepsStarts, HasteningKeepsStarts, CancellingKeepsStarts}
+use Rattle.ddt_sim.specs.Inside.{IsTrueStart, zone, site, StartsAreTrue, NewStartsAreTrue, StepsKeepStarts, TimeKeepsStarts, HasteningKeepsStarts, CancellingKeepsStarts, ForgettingKeepsStarts}
 
 abbrev IsStartOf : Register → Pending → Type 0
 IsStartOf r l = (p : List ℕ) → l.saved ≡ None → l.start ≡ Some p → IsTrueStart r l.servers p
@@ -103,6 +103,9 @@ time_keeps r s now starts = starts
 
 pub cancelling_keeps : CancellingKeepsStarts
 cancelling_keeps r s t starts = starts_dropped r s starts t
+
+pub forgetting_keeps : ForgettingKeepsStarts
+forgetting_keeps r s p starts = starts
 
 pub hastening_keeps : HasteningKeepsStarts
 hastening_keeps r s nonce new ticked starts (ticks.unknown none same is) = rw same starts

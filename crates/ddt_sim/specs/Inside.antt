@@ -17,7 +17,7 @@ use Rattle.ddt_resolver.specs.declared.pending.Pending.{Pending}
 use Rattle.ddt_resolver.specs.declared.results.Ticked.{Ticked}
 use Rattle.ddt_resolver.specs.Order.{IsStateInOrder}
 use Rattle.ddt_resolver.specs.Records.{outcome_of}
-use Rattle.ddt_resolver.specs.State.{State, fresh, moved, dropped}
+use Rattle.ddt_resolver.specs.State.{State, fresh, moved, dropped, forgotten}
 use Rattle.ddt_resolver.specs.declared.step.Reply.{Reply}
 use Rattle.ddt_resolver.specs.Step.{ResolverCall, Step}
 use Rattle.ddt_resolver.specs.TickStep.{HastenStep}
@@ -82,3 +82,7 @@ HasteningKeepsStarts =
 -- and the removal of a lookup
 abbrev pub CancellingKeepsStarts : Type 0
 CancellingKeepsStarts = (r : Register) (s : State) (t : ℕ) → StartsAreTrue r s → StartsAreTrue r (dropped s t)
+
+-- and what is forgotten of a prefix, whichever it is
+abbrev pub ForgettingKeepsStarts : Type 0
+ForgettingKeepsStarts = (r : Register) (s : State) (p : List ℕ) → StartsAreTrue r s → StartsAreTrue r (forgotten s p)

@@ -29,7 +29,7 @@ use Rattle.ddt_resolver.specs.declared.results.Ticked.TheVariants as ticked
 use Rattle.ddt_resolver.specs.declared.results.Why.{Why}
 use Rattle.ddt_resolver.specs.declared.results.Why.TheVariants.{NoReply, Exhausted}
 use Rattle.ddt_resolver.specs.Records.{outcome_at}
-use Rattle.ddt_resolver.specs.State.{State, fresh, moved, dropped}
+use Rattle.ddt_resolver.specs.State.{State, fresh, moved, dropped, forgotten}
 use Rattle.ddt_resolver.specs.Order.{IsStateInOrder}
 use Rattle.ddt_resolver.specs.declared.step.Reply.{Reply}
 use Rattle.ddt_resolver.specs.declared.step.Reply.TheVariants.{ToAsk, ToDatagram, ToTick}
@@ -140,6 +140,10 @@ TimeKeepsSoundness = (r : Register) (s : State) (now : ℕ) → IsSound r s → 
 -- and the removal of a lookup
 abbrev pub CancellingKeepsSoundness : Type 0
 CancellingKeepsSoundness = (r : Register) (s : State) (t : ℕ) → IsSound r s → IsSound r (dropped s t)
+
+-- and what is forgotten of a prefix, whichever it is: no more is remembered than before
+abbrev pub ForgettingKeepsSoundness : Type 0
+ForgettingKeepsSoundness = (r : Register) (s : State) (p : List ℕ) → IsSound r s → IsSound r (forgotten s p)
 
 -- a new resolver with the register's roots is sound
 abbrev pub NewResolversAreSound : Type 0

@@ -1,10 +1,10 @@
 //! Laws of a resolver over honest servers: each function here is a law of the definitions, and does nothing.
 
-ghost use Rattle.ddt_sim.specs.Sound.{NewResolversAreSound, StepsKeepSoundness, HasteningKeepsSoundness, TimeKeepsSoundness, CancellingKeepsSoundness};
+ghost use Rattle.ddt_sim.specs.Sound.{NewResolversAreSound, StepsKeepSoundness, HasteningKeepsSoundness, TimeKeepsSoundness, CancellingKeepsSoundness, ForgettingKeepsSoundness};
 ghost use Rattle.ddt_sim.specs.Reply.{RequestsAreUnderstood};
 ghost use Rattle.ddt_sim.specs.RunLaws.{LawsOfRuns};
 ghost use Rattle.ddt_sim.specs.Trail.{HonestTrailsAreShort};
-ghost use Rattle.ddt_sim.specs.Inside.{HonestRepliesAreInside, CutNegativesHold, NewStartsAreTrue, StepsKeepStarts, TimeKeepsStarts, HasteningKeepsStarts, CancellingKeepsStarts};
+ghost use Rattle.ddt_sim.specs.Inside.{HonestRepliesAreInside, CutNegativesHold, NewStartsAreTrue, StepsKeepStarts, TimeKeepsStarts, HasteningKeepsStarts, CancellingKeepsStarts, ForgettingKeepsStarts};
 ghost use Rattle.ddt_sim.specs.Passes.{PassesAreShort, PassesGoOn, HastePassesGoOn};
 
 use ddt_check::{
@@ -14,14 +14,15 @@ use ddt_check::{
 
 /// A new resolver with the root's locators of a register is sound for it. One that is sound for an accepted register
 /// stays sound: by each step whose datagram, if it has one, is what the register says there; where a lookup is hastened;
-/// as time passes; and where a lookup is cancelled. What a step answers is the assignment, and so is what a hastened
-/// lookup ends with. A lookup ends without an answer only for want of a reply or of nonces.
+/// as time passes; where a lookup is cancelled; and where a prefix is forgotten. What a step answers is the assignment, and
+/// so is what a hastened lookup ends with. A lookup ends without an answer only for want of a reply or of nonces.
 pub fn a_step_keeps_a_resolver_sound()
     ensures new { NewResolversAreSound }
     ensures steps { StepsKeepSoundness }
     ensures hastening { HasteningKeepsSoundness }
     ensures time { TimeKeepsSoundness }
     ensures cancelling { CancellingKeepsSoundness }
+    ensures forgetting { ForgettingKeepsSoundness }
 {
     each_identifier_has_a_zone();
     honest_servers_lead_to_the_assignment();
@@ -84,11 +85,12 @@ pub fn honest_replies_are_inside()
 }
 
 /// The remembered entry at which a pending lookup started is true in a new resolver, which has none. It stays so by each
-/// step of a sound one, where a lookup is hastened or cancelled, and as time passes.
+/// step of a sound one, where a lookup is hastened or cancelled, where a prefix is forgotten, and as time passes.
 pub fn a_step_keeps_starts_true()
     ensures new { NewStartsAreTrue }
     ensures steps { StepsKeepStarts }
     ensures time { TimeKeepsStarts }
     ensures hastening { HasteningKeepsStarts }
     ensures cancelling { CancellingKeepsStarts }
+    ensures forgetting { ForgettingKeepsStarts }
 {}

@@ -4,7 +4,7 @@ use Rattle.std.proofs.lemmas.Option.{none-some}
 use Rattle.ddt_trie.specs.PrefixMap.{path_cmp}
 use Rattle.ddt_register.specs.declared.register.Register.{Register}
 use Rattle.ddt_check.specs.Rules.{IsAccepted}
-use Rattle.ddt_sim.proofs.SoundLemmas.{KeepsLaws, sound_step, sound_hastened, sound_moved, sound_dropped}
+use Rattle.ddt_sim.proofs.SoundLemmas.{KeepsLaws, sound_step, sound_hastened, sound_moved, sound_dropped, sound_forgotten}
 use Rattle.ddt_sim.proofs.laws.a_step_keeps_a_resolver_sound.Goals as goal
 use Rattle.ddt_sim.proofs.laws.a_step_keeps_a_resolver_sound.Goals.{After-negatives_hold_of_all_that_they_cover}
 
@@ -36,6 +36,9 @@ returns-clause-time c = λ r s now sound. sound_moved r s sound now
 
 pub returns-clause-cancelling : goal.returns-clause-cancelling
 returns-clause-cancelling c = λ r s t sound. sound_dropped r s sound t
+
+pub returns-clause-forgetting : goal.returns-clause-forgetting
+returns-clause-forgetting c = λ r s p sound. sound_forgotten r s sound p
 
 pub returns-clause-new : goal.returns-clause-new
 returns-clause-new c = λ r me seed. record {

@@ -11,3 +11,4 @@ pub mod WholeLemmas
 pub mod EndLemmas
 pub mod SharerLemmas
 pub mod RunLemmas
+pub mod IgnoredLemmas

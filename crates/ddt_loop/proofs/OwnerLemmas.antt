@@ -11,6 +11,7 @@ use Rattle.std.proofs.lemmas.List.Elements.{All-nil, All-cons, All-head, All-tai
 use Rattle.std.proofs.lemmas.List.Quantifiers.{position-Some}
 use Rattle.std.proofs.lemmas.List.Sums.{fails_before_first}
 use Rattle.ddt_resolver.specs.laws.NumberMap.{at_insert, at_remove}
+use Rattle.ddt_loop.specs.declared.owner.Asker.TheVariants.{Identifier}
 use Rattle.ddt_loop.specs.declared.owner.Owner.{Owner}
 use Rattle.ddt_loop.specs.Askers.{owner_of, TakesOff, nobody, somebody, AreApart}
 
@@ -34,6 +35,9 @@ pub nobody_at : (t : ℕ) (owners : List Owner) → position (has_ticket t) owne
 nobody_at t owners none =
     let late : length owners ≤ position_or_len (has_ticket t) owners = grind arith in
     nobody (λ k d lt same. false≢true (sym (fails_before_first (has_ticket t) owners k d (omega arith)) ∙ eq-eqb _ t same)) refl refl
+
+pub place_within : (t : ℕ) (owners : List Owner) (i : ℕ) → position (has_ticket t) owners ≡ Some i → i < length owners
+place_within t owners i found = (position-Some (has_ticket t) owners i (owner_of 0 (Identifier 0)) found).0
 
 pub somebody_at : (t : ℕ) (owners : List Owner) (i : ℕ) (o : Owner) → position (has_ticket t) owners ≡ Some i
     → o ≡ get_or owners i o → TakesOff t owners (remove owners i) (Some o.asker)

@@ -1,23 +1,21 @@
 -- A resolver that runs for ITRs is right, where its calls are fair.
-use Rattle.std.proofs.Common.{◌≡◌, true, ℕ, ◌≤◌, List, [], ◌∷◌, ◌++◌, append-nil, append_assoc, Option, Some, None, Ok, refl, sym, ap, ◌∙◌, subst, inl, inr}
-use Rattle.std.specs.Prelude.{All, map}
+use Rattle.std.proofs.Common.{◌≡◌, true, ℕ, ◌≤◌, List, [], ◌∷◌, ◌++◌, append-nil, append_assoc, Option, Some, None, Ok, refl, inr}
+use Rattle.std.specs.Prelude.{All}
 use Rattle.std.specs.FinMap.{get}
 use Rattle.std.proofs.lemmas.List.Elements.{All-nil, All-push}
 use Rattle.ddt_path.specs.declared.locator.Locator.{Locator}
-use Rattle.ddt_path.specs.Path.{xeid_path}
 use Rattle.ddt_register.specs.declared.register.Register.{Register}
-use Rattle.ddt_check.specs.Says.{says}
 use Rattle.ddt_cache.specs.Moment.{last_moment}
 use Rattle.ddt_wires.specs.declared.call.Call.{Call}
 use Rattle.ddt_wires.specs.declared.call.Call.TheVariants.{Received, Tried}
 use Rattle.ddt_wires.specs.declared.call.Packet.{Packet}
 use Rattle.ddt_ecm.specs.UdpHeader.{control_port}
-use Rattle.ddt_sim.specs.Sound.{IsSound, IsFair as IsFairCall, IsFairDatagram, StepsKeepSoundness, HasteningKeepsSoundness, TimeKeepsSoundness}
-use Rattle.ddt_sim.specs.Inside.{StartsAreTrue, HonestRepliesAreInside, StepsKeepStarts, HasteningKeepsStarts}
-use Rattle.ddt_resolver.specs.declared.itr_messages.ItrRequest.{ItrRequest}
+use Rattle.ddt_sim.specs.Sound.{IsSound, IsFair as IsFairCall, IsFairDatagram, StepsKeepSoundness, HasteningKeepsSoundness, TimeKeepsSoundness, ForgettingKeepsSoundness}
+use Rattle.ddt_sim.specs.Inside.{StartsAreTrue, HonestRepliesAreInside, StepsKeepStarts, HasteningKeepsStarts, ForgettingKeepsStarts}
 use Rattle.ddt_resolver.specs.declared.pending.Pending.{Pending}
 use Rattle.ddt_resolver.specs.State.{State, moved, server}
-use Rattle.ddt_resolver.specs.Step.{Ask, Hear, Tick, Step}
+use Rattle.ddt_resolver.specs.State as state
+use Rattle.ddt_resolver.specs.Step.{Ask, Tick}
 use Rattle.ddt_resolver.specs.TickStep as haste
 use Rattle.ddt_resolver.specs.TickStep.{HastenStep}
 use Rattle.ddt_resolver.specs.declared.results.Ticked.TheVariants as ticked_as
@@ -25,8 +23,8 @@ use Rattle.ddt_resolver.specs.declared.step.Reply.{Reply}
 use Rattle.ddt_resolver.specs.declared.step.Reply.TheVariants.{ToTick}
 use Rattle.ddt_resolver.specs.Order.{IsStateInOrder}
 use Rattle.ddt_resolver.specs.Front.{IsItrRequest}
-use Rattle.ddt_resolver.specs.Within.{IsCut, whole, cut, IsWide}
-use Rattle.ddt_resolver.specs.laws.Order.{order_moved, order_hastened}
+use Rattle.ddt_resolver.specs.Within.{whole, cut, IsWide}
+use Rattle.ddt_resolver.specs.laws.Order.{order_moved, order_hastened, order_forgotten}
 use Rattle.ddt_resolver.specs.laws.Shape.{moved_by_step}
 use Rattle.ddt_loop.specs.declared.came.Ended.{Ended}
 use Rattle.ddt_loop.specs.Askers.{opening_desk}
@@ -36,9 +34,9 @@ use Rattle.ddt_loop.specs.Sharing.{Sharer, MayShare, TellsSharers, wait_on, told
 use Rattle.ddt_loop.specs.Right.{ArePacketsFair, is_poll, IsNoReply, Owes, asked, forgotten}
 use Rattle.ddt_loop.specs.Runs as runs
 use Rattle.ddt_loop.specs.Ends.{EndsBy, EndsByHaste}
-use Rattle.ddt_loop.specs.Runs.{BeginsSound, IsHeardAs, MayEndBy, EndsByReply, HasRun, begins, took, ticked, hastened, shared, waited, resent, passed, renewed, FairRunsAreRight}
+use Rattle.ddt_loop.specs.Runs.{BeginsSound, IsHeardAs, MayEndBy, EndsByReply, HasRun, begins, took, ticked, hastened, shared, waited, forgot, resent, passed, renewed, FairRunsAreRight}
 use Rattle.ddt_loop.proofs.CallLemmas.{fair_front, itrs}
-use Rattle.ddt_loop.proofs.KeepLemmas.{IsKept, Grounds, IsAct, EndsRight, right_end, ticked_right, kept_more, kept_moved, kept_on, owes_on}
+use Rattle.ddt_loop.proofs.KeepLemmas.{Grounds, IsAct, EndsRight, right_end, ticked_right, kept_more, kept_moved, kept_on, owes_on}
 use Rattle.ddt_loop.proofs.ShapeLemmas.{Shape, stays, of_move, of_haste, was_pending}
 use Rattle.ddt_loop.proofs.SharerLemmas.{Shares, may_share, all_share, all_left, requests, requests_push, right_for, told_all}
 use Rattle.ddt_loop.proofs.RightLemmas.{IsRightAfter, right_at_first, right_other, fair_datagram, right_resolves, right_taken}
@@ -50,6 +48,8 @@ pub record RunGrounds (r : Register) : Type 0 where
   pub inside : HonestRepliesAreInside
   pub starts : StepsKeepStarts
   pub hastened_starts : HasteningKeepsStarts
+  pub forgetting : ForgettingKeepsSoundness
+  pub forgotten_starts : ForgettingKeepsStarts
 
 -- what is kept over a run
 pub record RunsRight (r : Register) (me : Locator) (calls : List Call) (sharers : List Sharer) (w : Running) : Type 0 where
@@ -242,6 +242,25 @@ module _ {r : Register} (g : RunGrounds r) {me : Locator} where
       share = share_moved;
     }
 
+  right_forgot : {calls : _} {js : List Sharer} {w : Running} (p : List ℕ) → RunsRight r me calls js w → RunsRight r me calls js (running (state.forgotten w.state p) w.desk)
+  right_forgot {w = w} p i =
+      let k = i.right.kept in record {
+        right = record {
+          kept = record {
+            order = order_forgotten w.state p k.order;
+            sound = g.forgetting r w.state p k.sound;
+            own = k.own;
+            tried = k.tried;
+            owned = record { apart = k.owned.apart; pending = k.owned.pending };
+            waits = k.waits;
+            ends = k.ends;
+          };
+          owes = i.right.owes;
+        };
+        starts = g.forgotten_starts r w.state p i.starts;
+        share = λ n d lt. let h = i.share n d lt in record { given = h.given; same = h.same };
+      }
+
   -- ---- a run
 
   right_shared : {calls : _} {js : List Sharer} {w : Running} (room : ℕ) (p : _) (bytes : _) (j : Sharer) → IsItrRequest bytes j.request → MayShare w.desk j
@@ -290,20 +309,23 @@ module _ {r : Register} (g : RunGrounds r) {me : Locator} where
   right_run first (shared {calls = before} {sharers = js} {w = w} room p bytes j so_far asks_it may) fair =
       right_shared room p bytes j asks_it may (right_run first so_far (fair_front r me before _ fair))
   right_run first (waited now so_far le) fair = right_waited (right_run first so_far fair) now le
+  right_run first (forgot p so_far) fair = right_forgot p (right_run first so_far fair)
   right_run first (resent {calls = before} t l answer so_far here) fair =
       right_passed (request_tried me l answer) (inr (l.nonce, l.x, refl)) (right_run first so_far (fair_front r me before _ fair))
   right_run first (passed {calls = before} call so_far polls) fair =
       right_passed call (no_reply_polled me call polls) (right_run first so_far (fair_front r me before _ fair))
   right_run first (renewed new so_far b later) fair = right_renewed new b (right_run first so_far fair)
 
-pub fair_runs : StepsKeepSoundness → HasteningKeepsSoundness → TimeKeepsSoundness → HonestRepliesAreInside → StepsKeepStarts → HasteningKeepsStarts → FairRunsAreRight
-fair_runs laws hastening time inside starts hastened_starts r me start calls sharers w b run fair =
+pub fair_runs : StepsKeepSoundness → HasteningKeepsSoundness → TimeKeepsSoundness → HonestRepliesAreInside → StepsKeepStarts → HasteningKeepsStarts → ForgettingKeepsSoundness → ForgettingKeepsStarts → FairRunsAreRight
+fair_runs laws hastening time inside starts hastened_starts forgetting forgotten_starts r me start calls sharers w b run fair =
     let g : RunGrounds r = record {
       steps = record { laws = laws; time = time; accepted = b.starts.accepted };
       hastening = hastening;
       inside = inside;
       starts = starts;
       hastened_starts = hastened_starts;
+      forgetting = forgetting;
+      forgotten_starts = forgotten_starts;
     } in
     let is = right_run g (right_begin start b) run fair in
     ((itrs w.desk.owners ++ requests sharers, is.right.owes), is.right.kept.sound)

@@ -1,7 +1,6 @@
 -- What a step, or a lookup that is hastened, does to the pending lookups.
-use Rattle.std.proofs.Common.{◌≡◌, ◌⊎◌, ℕ, ◌+◌, ◌≤◌, Some, None, Result, Ok, Err, refl, sym, ap, ◌∙◌, inl, inr, arith}
+use Rattle.std.proofs.Common.{◌≡◌, ◌⊎◌, ℕ, ◌+◌, ◌≤◌, Some, Result, Ok, Err, refl, ap, inl, inr, arith}
 use Rattle.std.specs.FinMap.{get, insert, remove}
-use Rattle.std.proofs.lemmas.Option.{same_Some}
 use Rattle.ddt_path.specs.declared.record.Outcome.{Outcome}
 use Rattle.ddt_path.specs.declared.record.Outcome.TheVariants.{NotRegistered}
 use Rattle.ddt_resolver.specs.declared.pending.Pending.{Pending}
@@ -14,7 +13,6 @@ use Rattle.ddt_resolver.specs.declared.step.Progress.TheVariants.{Stays, Sends, 
 use Rattle.ddt_resolver.specs.State.{State, numbered, request, tried_again, at_next}
 use Rattle.ddt_resolver.specs.Step.{ResolverCall, progress_of}
 use Rattle.ddt_resolver.specs.TickStep.{GoOn, again, next_place, answered, no_reply, used_up, HastenStep, unknown, hastened}
-use Rattle.ddt_resolver.specs.Order.{IsStateInOrder}
 use Rattle.ddt_resolver.specs.laws.Shape as moves
 use Rattle.ddt_resolver.specs.laws.Shape.{Move, goes_sends}
 

@@ -6,4 +6,5 @@ pub mod Right
 pub mod Ends
 pub mod Sharing
 pub mod Coming
+pub mod Ignoring
 pub mod Runs

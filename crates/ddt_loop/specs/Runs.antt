@@ -12,7 +12,7 @@ use Rattle.ddt_cache.specs.Moment.{last_moment}
 use Rattle.ddt_resolver.specs.Order.{IsStateInOrder}
 use Rattle.ddt_ecm.specs.UdpHeader.{control_port}
 use Rattle.ddt_resolver.specs.Front.{IsItrRequest}
-use Rattle.ddt_resolver.specs.State.{State, moved}
+use Rattle.ddt_resolver.specs.State.{State, moved, forgotten}
 use Rattle.ddt_resolver.specs.Step.{Hear, Tick}
 use Rattle.ddt_resolver.specs.Within.{IsCut}
 use Rattle.ddt_sim.specs.Schedules.{StartsSound}
@@ -53,12 +53,12 @@ pub record BeginsSound (r : Register) (me : Locator) (s : State) : Type 0 where
   pub starts : StartsSound r s
   pub own : s.me ≡ me
 
--- What has been done so far, in any order, and who shares lookups. `took`: a packet came to the resolver's socket and was
--- taken, a reply that reaches beyond its zone cut to that. `ticked`: it ticked. `hastened`: a lookup was hastened. Of
--- each, those who share a lookup that has ended are told. `shared`: a request of an ITR came, and shares the lookup that
--- is pending for its identifier. `waited`: time passed. `resent`: the last request of a pending lookup was sent again.
--- `passed`: a poll gave no packet, or one that was dropped. `renewed`: another resolver, that may begin
--- and gives no nonce again, goes on, and nobody waits any more.
+-- What has been done so far, in any order, and who shares lookups. `took`: a packet came to the resolver's socket and
+-- was taken, a reply that reaches beyond its zone cut to that. `ticked`: it ticked. `hastened`: a lookup was hastened.
+-- Of each, those who share a lookup that has ended are told. `shared`: a request of an ITR came, and shares the lookup
+-- that is pending for its identifier. `waited`: time passed. `forgot`: what is remembered of a prefix was forgotten.
+-- `resent`: the last request of a pending lookup was sent again. `passed`: a poll gave no packet, or one that was
+-- dropped. `renewed`: another resolver, that may begin and gives no nonce again, goes on, and nobody waits any more.
 pub data HasRun (may_begin : State → Type 0) (me : Locator) (start : Running) : List Call → List Sharer → Running → Type 0
   where
     begins : HasRun may_begin me start [] [] start
@@ -84,6 +84,9 @@ pub data HasRun (may_begin : State → Type 0) (me : Locator) (start : Running) 
     waited : {calls : List Call} {sharers : List Sharer} {w : Running} (now : ℕ)
         → HasRun may_begin me start calls sharers w → now ≤ last_moment
         → HasRun may_begin me start calls sharers (running (moved now w.state) w.desk)
+    forgot : {calls : List Call} {sharers : List Sharer} {w : Running} (p : List ℕ)
+        → HasRun may_begin me start calls sharers w
+        → HasRun may_begin me start calls sharers (running (forgotten w.state p) w.desk)
     resent : {calls : List Call} {sharers : List Sharer} {w : Running} (t : ℕ) (l : Pending)
         (answer : Result (Unit {0}) NetFault) → HasRun may_begin me start calls sharers w
         → get w.state.pending t ≡ Some l

@@ -17,20 +17,23 @@ use ddt_path::{Locator, Outcome, Xeid};
 use ddt_resolver::{Front, ItrRequest, MOST_PENDING, MOST_REPLY_BYTES, Ticket};
 use ddt_wires::Wires;
 use std::alloc::{AllocError, Global};
+use std::collections::VecDeque;
 use std::marker::Model;
 
 /// All who wait for a lookup, and the ends of the identifiers' lookups, in the order of the identifiers. Contracts see
-/// both lists. The buffer of all replies to ITRs is kept with them, so that no reply wants memory.
+/// both lists. The first is a queue, so that one who leaves its middle moves only those on the shorter side. The buffer
+/// of all replies to ITRs is kept with them, so that no reply wants memory.
 #[derive(Drop)]
 pub(crate) struct Askers {
     alloc: Global,
-    owners: Vec<Owner>,
+    owners: VecDeque<Owner>,
     ends: Vec<LoopEnd>,
     reply: Vec<u8>,
 }
 
 impl Model for Askers {
     ghost use Rattle.std.specs.Prelude.{◌≤◌, vec_capacity};
+    ghost use Rattle.std.specs.VecDeque.{deque_capacity};
     ghost use Rattle.ddt_loop.specs.contracts.owner.Owner as owner;
     ghost use Rattle.ddt_loop.specs.contracts.ends.LoopEnd as loop_end;
     ghost use Rattle.ddt_loop.specs.Askers.{Desk, desk_code};
@@ -41,7 +44,7 @@ impl Model for Askers {
 
     ghost view = { λ a. record { owners = a.owners.items; ends = a.ends.items } };
 
-    ghost invariant = { λ a. (1024 ≤ vec_capacity a.owners) × (52 ≤ vec_capacity a.reply) };
+    ghost invariant = { λ a. (1024 ≤ deque_capacity a.owners) × (52 ≤ vec_capacity a.reply) };
 }
 
 impl Askers {
@@ -50,7 +53,7 @@ impl Askers {
     pub(crate) fn new(alloc: Global, ids: &[Xeid]) -> Result<Askers, AllocError>
         ensures { IfOk result (λ askers. askers ≡ opening_desk ids.now) }
     {
-        let owners = Vec::with_capacity(alloc, MOST_PENDING)?;
+        let owners = VecDeque::with_capacity(alloc, MOST_PENDING)?;
         let reply = Vec::with_capacity(alloc, MOST_REPLY_BYTES)?;
         match unresolved(alloc, ids) {
             Ok(ends) => Ok(Askers {
@@ -74,7 +77,7 @@ impl Askers {
         ensures { self.new ≡ with_owner self.old ticket asker }
     {
         let ticket = ticket.number();
-        let added: Result<_, _> = self.owners.push(Owner { ticket, asker });
+        let added: Result<_, _> = self.owners.push_back(Owner { ticket, asker });
         added.unwrap();
     }
 
@@ -83,15 +86,16 @@ impl Askers {
         ensures takes { TakesOff ticket self.old.owners self.new.owners result }
         ensures ends { self.new.ends ≡ self.old.ends }
     {
-        let place = place_of(self.owners.as_slice(), ticket.number())?;
-        Some(self.owners.remove(place).asker)
+        let place = place_of(&self.owners, ticket.number())?;
+        let owner = self.owners.remove(place)?;
+        Some(owner.asker)
     }
 
     /// The ticket of the last who came to wait; None where nobody waits.
     pub(crate) fn newest(&self) -> Option<u64>
         ensures { (d : Desk) (t : ℕ) (who : AnAsker) → self.now ≡ with_owner d t who → result ≡ Some t }
     {
-        let owner = self.owners.as_slice().last()?;
+        let owner = self.owners.back()?;
         Some(owner.ticket)
     }
 
@@ -100,12 +104,7 @@ impl Askers {
         ensures asked { IfSome result (λ t. IsAskedBy self.now.owners t x) }
         ensures none { IfNone result ((t : ℕ) → IsAskedBy self.now.owners t x → ⊥) }
     {
-        for owner in self.owners.as_slice() {
-            if asks_for(&owner.asker, x) {
-                return Some(owner.ticket);
-            }
-        }
-        None
+        ticket_of(&self.owners, x)
     }
 
     /// Tries to send an ITR the negative Map-Reply for an outcome, where it is to have one. It allocates nothing.
@@ -158,10 +157,24 @@ impl Askers {
 }
 
 /// The place of the first who waits for the lookup of a ticket.
-fn place_of(owners: &[Owner], ticket: u64) -> Option<usize>
-    ensures { result ≡ position (λ o. o.ticket == ticket) owners.now }
+fn place_of(owners: &VecDeque<Owner>, ticket: u64) -> Option<usize>
+    ensures { result ≡ position (λ o. o.ticket == ticket) owners.now.items }
 {
     owners.iter().position(|o| o.ticket == ticket)
+}
+
+/// The ticket of the first who waits as an ITR that asked for this identifier.
+fn ticket_of(owners: &VecDeque<Owner>, x: Xeid) -> Option<u64>
+    ensures asked { IfSome result (λ t. IsAskedBy owners.now.items t x) }
+    ensures none { IfNone result ((t : ℕ) → IsAskedBy owners.now.items t x → ⊥) }
+{
+    for place in 0..owners.len() {
+        let owner = &owners[place];
+        if asks_for(&owner.asker, x) {
+            return Some(owner.ticket);
+        }
+    }
+    None
 }
 
 /// Whether who waits is an ITR that asked for this identifier.

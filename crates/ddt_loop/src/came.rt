@@ -1,10 +1,12 @@
 //! What comes of a packet, or of a tick, for the ITRs that wait.
 
 ghost use Rattle.std.specs.Prelude.{◌≡◌};
+ghost use Rattle.ddt_resolver.specs.declared.step.Reply.TheVariants.{ToDatagram};
 ghost use Rattle.ddt_loop.specs.Coming.{came_to_wait, came_to_end};
+ghost use Rattle.ddt_loop.specs.Ignoring.{ignored_of};
 
 use ddt_path::{Locator, Outcome};
-use ddt_resolver::{Ticket, Why};
+use ddt_resolver::{Heard, Ignored, Reply, Ticket, Why};
 
 /// A lookup that an ITR waited for has ended.
 #[derive(Clone, Copy, Debug)]
@@ -13,6 +15,15 @@ pub struct Ended {
     pub ticket: u64,
     /// Its outcome, or why it has none.
     pub end: Result<Outcome, Why>,
+}
+
+/// What comes of a datagram that is heard.
+#[derive(Clone, Copy, Debug)]
+pub struct Hearing {
+    /// The end of the lookup that an ITR waited for, where it has ended one.
+    pub ended: Option<Ended>,
+    /// Why it is ignored; None where it isn't.
+    pub ignored: Option<Ignored>,
 }
 
 /// What comes of a packet for the ITRs that wait.
@@ -64,5 +75,27 @@ pub(crate) fn ended_so(ticket: Ticket, end: &Result<Outcome, Why>) -> Ended
     Ended {
         ticket: ticket.number(),
         end: *end,
+    }
+}
+
+/// Why a step has ignored the datagram; None where it hasn't, or where there was none.
+pub(crate) fn why_ignored(reply: &Reply) -> Option<Ignored>
+    ensures { result ≡ ignored_of reply.now }
+{
+    match reply {
+        Reply::ToAsk(_answer) => None,
+        Reply::ToDatagram(heard) => ignored_in(heard),
+        Reply::ToTick(_ticked) => None,
+    }
+}
+
+fn ignored_in(heard: &Heard) -> Option<Ignored>
+    ensures { result ≡ ignored_of (ToDatagram heard.now) }
+{
+    match heard {
+        Heard::Ignored(why) => Some(*why),
+        Heard::Followed(_ticket, _request) => None,
+        Heard::Answer(_ticket, _outcome) => None,
+        Heard::GaveUp(_ticket, _why) => None,
     }
 }

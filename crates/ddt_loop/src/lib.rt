@@ -17,7 +17,7 @@ mod running_resolver;
 mod steps;
 mod turns;
 
-pub use came::{Came, Ended};
+pub use came::{Came, Ended, Hearing};
 pub use clock::{Clock, StandingClock, SteppingClock, SystemClock};
 pub use ends::LoopEnd;
 pub use polls::Tree;

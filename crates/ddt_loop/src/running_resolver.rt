@@ -1,10 +1,12 @@
 //! A resolver that runs for ITRs: what comes to its own socket, and its ticks.
 
 ghost use Rattle.std.specs.Prelude.{◌≡◌, ℕ, false, [], List, IfOk, IfSome, IfNone};
+ghost use Rattle.std.specs.FinMap as map;
 ghost use Rattle.ddt_loop.specs.Sharing.{IsAskedBy};
 ghost use Rattle.ddt_wires.specs.declared.call.Call.{Call as ACall};
 ghost use Rattle.ddt_wires.specs.Calls.{RecordsCalls};
-ghost use Rattle.ddt_resolver.specs.State.{moved};
+ghost use Rattle.ddt_resolver.specs.State.{moved, forgotten};
+ghost use Rattle.ddt_resolver.specs.declared.results.Ignored.{Ignored as Reason};
 ghost use Rattle.ddt_resolver.specs.Step.{Tick};
 ghost use Rattle.ddt_loop.specs.declared.owner.Asker.TheVariants.{Itr};
 ghost use Rattle.ddt_loop.specs.Askers.{opening_desk, with_owner};
@@ -16,15 +18,16 @@ ghost use Rattle.ddt_wire.specs.declared.message_type.MessageType.TheVariants.{E
 ghost use Rattle.ddt_wire.specs.MessageType.{is_of};
 ghost use Rattle.ddt_loop.specs.Coming.{IsCame, came_to_end};
 ghost use Rattle.ddt_loop.specs.Ends.{HasEndedBy, HasEndedByHaste, IsToldEnd};
+ghost use Rattle.ddt_loop.specs.Ignoring.{IsIgnored};
 ghost use Rattle.ddt_loop.specs.Polls.{IsPacketTaken};
 ghost use Rattle.ddt_loop.specs.Runs.{FairRunsAreRight};
 
 use crate::askers::Askers;
 use crate::asks::ask_for_itr;
-use crate::came::{Came, Ended};
+use crate::came::{Came, Ended, Hearing};
 use crate::steps::{Here, hasten, hear, resend, resolve, take, tell_itr};
 use ddt_cache::{Entry, Moment};
-use ddt_path::{Locator, Outcome, Xeid};
+use ddt_path::{Locator, Outcome, Prefix, Xeid};
 use ddt_resolver::{Beginning, Input, ItrRequest, Resolver, Why};
 use ddt_sim::{a_step_keeps_a_resolver_sound, a_step_keeps_starts_true, honest_replies_are_inside};
 use ddt_trie::PrefixMap;
@@ -126,7 +129,8 @@ impl<M: PrefixMap<Entry>> RunningResolver<M> {
     }
 
     /// Hears a datagram that came to the resolver's socket and is no Encapsulated Control Message, as `take` does. Answers
-    /// the end of the lookup that an ITR waited for.
+    /// the end of the lookup that an ITR waited for, and why a datagram from UDP port 4342 is ignored: 1 Undecodable to
+    /// 6 NoServers. One that makes a lookup go on or end isn't ignored, nor is one that is lost for want of memory.
     pub fn hear<W: Wires>(
         &mut self,
         wires: &mut W,
@@ -134,11 +138,13 @@ impl<M: PrefixMap<Entry>> RunningResolver<M> {
         now: Moment,
         packet: Packet,
         bytes: &[u8],
-    ) -> Option<Ended>
+    ) -> Hearing
         requires { is_of Encapsulated bytes.now ≡ false }
-        ensures came { IsCame now packet.from bytes.now self.old self.new (came_to_end packet.from result) }
+        ensures came { IsCame now packet.from bytes.now self.old self.new (came_to_end packet.from result.ended) }
         ensures taken { (calls : List ACall) × RecordsCalls (W.calls wires.old) calls (W.calls wires.new)
             × IsPacketTaken me now packet bytes.now self.old calls self.new }
+        ensures ignored { IfSome result.ignored (IsIgnored now packet bytes.now self.old) }
+        ensures used { IfNone result.ignored ((why : Reason) → IsIgnored now packet bytes.now self.old why → ⊥) }
     {
         let here = Here { me, moment: now };
         hear(
@@ -161,13 +167,14 @@ impl<M: PrefixMap<Entry>> RunningResolver<M> {
             × HearsOrTicks me now Tick self.old calls self.new }
     {
         let here = Here { me, moment: now };
-        resolve(
+        let heard = resolve(
             wires,
             &mut self.resolver,
             &here,
             &mut self.askers,
             Input::Tick,
-        )
+        );
+        heard.ended
     }
 
     /// Lets the pending lookup whose last request has this nonce go on or end at once, as by a tick that finds it due.
@@ -231,12 +238,21 @@ impl<M: PrefixMap<Entry>> RunningResolver<M> {
     {
         self.resolver.beginning(now, x)
     }
+
+    /// Forgets what is remembered of a prefix, and says whether something was. Pending lookups and those who wait for
+    /// them stay.
+    pub fn forget(&mut self, prefix: Prefix) -> bool
+        ensures forgotten { self.new ≡ running (forgotten self.old.state prefix) self.old.desk }
+        ensures there { result ≡ map.contains_key self.old.state.known.live prefix }
+    {
+        self.resolver.forget(prefix)
+    }
 }
 
-/// A law of packets that were taken or dropped, of ticks, of lookups that are hastened or shared, and of other resolvers
-/// that go on in its place, in any order and number. Where packets from the servers that were asked tell the truth, each
-/// negative Map-Reply is for what the register assigns to an ITR's identifier, and each of its requests gets at most
-/// one. No reply is cut to its zone, and the resolver stays sound.
+/// A law of packets that were taken or dropped, of ticks, of lookups that are hastened or shared, of prefixes that are
+/// forgotten, and of other resolvers that go on in its place, in any order and number. Where packets from the servers
+/// that were asked tell the truth, each negative Map-Reply is for what the register assigns to an ITR's identifier, and
+/// each of its requests gets at most one. No reply is cut to its zone, and the resolver stays sound.
 pub fn fair_runs_are_right()
     ensures { FairRunsAreRight }
 {

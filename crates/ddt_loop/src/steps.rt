@@ -1,6 +1,6 @@
 //! What comes to the resolver's own socket, and its ticks: each is a step that makes a lookup go on or end.
 
-ghost use Rattle.std.specs.Prelude.{◌≡◌, ◌<◌, false, List, length, IfOk};
+ghost use Rattle.std.specs.Prelude.{◌≡◌, ◌<◌, false, List, length, IfOk, IfSome, IfNone};
 ghost use Rattle.ddt_path.specs.declared.locator.Locator.{Locator as ALocator};
 ghost use Rattle.ddt_wires.specs.declared.call.Call.{Call as ACall};
 ghost use Rattle.ddt_wires.specs.Calls.{RecordsCalls};
@@ -13,16 +13,20 @@ ghost use Rattle.ddt_wire.specs.declared.message_type.MessageType.TheVariants.{E
 ghost use Rattle.ddt_wire.specs.MessageType.{is_of};
 ghost use Rattle.ddt_loop.specs.Coming.{IsCame, came_to_end};
 ghost use Rattle.ddt_loop.specs.Polls.{IsPacketTaken};
+ghost use Rattle.ddt_resolver.specs.declared.results.Ignored.{Ignored as Reason};
+ghost use Rattle.ddt_loop.specs.Ignoring.{IsIgnored, SaysWhy};
 
 use crate::askers::Askers;
 use crate::asks::{ask_for_itr, try_to_send};
-use crate::came::{Came, Ended, ended_so, ends, waits};
+use crate::came::{Came, Ended, Hearing, ended_so, ends, waits, why_ignored};
 use crate::ends::end_of;
 use crate::owner::Asker;
 use ddt_cache::{Entry, Moment};
 use ddt_ecm::{CONTROL_PORT, write_request};
 use ddt_path::{Locator, Outcome};
-use ddt_resolver::{Front, Input, ItrRequest, Pending, Progress, Reply, Resolver, Ticket, Why};
+use ddt_resolver::{
+    Front, Input, ItrRequest, Pending, Progress, Reply, Resolver, Ticket, Why, usable_is_taken,
+};
 use ddt_trie::PrefixMap;
 use ddt_wire::MessageType;
 use ddt_wires::{Packet, Wires};
@@ -63,13 +67,13 @@ pub(crate) fn take<W: Wires, M: PrefixMap<Entry>>(
             None => Came::Nothing,
         }
     } else {
-        let ended = hear(wires, resolver, here, askers, packet, bytes);
-        ends(packet.from, ended)
+        let heard = hear(wires, resolver, here, askers, packet, bytes);
+        ends(packet.from, heard.ended)
     }
 }
 
 /// Takes a packet of these bytes, which are no Encapsulated Control Message: a datagram from UDP port 4342 is heard, and
-/// any other dropped. Answers the end of the lookup that an ITR waited for.
+/// any other dropped. Answers the end of the lookup that an ITR waited for, and why what is heard is ignored.
 pub(crate) fn hear<W: Wires, M: PrefixMap<Entry>>(
     wires: &mut W,
     resolver: &mut Resolver<M>,
@@ -77,46 +81,65 @@ pub(crate) fn hear<W: Wires, M: PrefixMap<Entry>>(
     askers: &mut Askers,
     packet: Packet,
     bytes: &[u8],
-) -> Option<Ended>
+) -> Hearing
     requires owners { AreOwners resolver.old askers.old.owners }
     requires plain { is_of Encapsulated bytes.now ≡ false }
     ensures came { IsCame here.now.moment packet.from bytes.now (running resolver.old askers.old)
-        (running resolver.new askers.new) (came_to_end packet.from result) }
+        (running resolver.new askers.new) (came_to_end packet.from result.ended) }
     ensures taken { (calls : List ACall) × RecordsCalls (W.calls wires.old) calls (W.calls wires.new)
         × IsPacketTaken here.now.me here.now.moment packet bytes.now (running resolver.old askers.old) calls
         (running resolver.new askers.new) }
+    ensures ignored { IfSome result.ignored (IsIgnored here.now.moment packet bytes.now
+        (running resolver.old askers.old)) }
+    ensures used { IfNone result.ignored ((why : Reason) → IsIgnored here.now.moment packet bytes.now
+        (running resolver.old askers.old) why → ⊥) }
     ensures owners { AreOwners resolver.new askers.new.owners }
 {
+    usable_is_taken();
+    resolver.in_order();
+    // Read for its bound: no moment is later than the last.
+    let _millis = here.moment.millis();
     if packet.port != CONTROL_PORT {
-        return None;
+        return Hearing {
+            ended: None,
+            ignored: None,
+        };
     }
     let input = Input::Datagram(packet.from, bytes);
     resolve(wires, resolver, here, askers, input)
 }
 
 /// The resolver does a step: a lookup goes on or ends, or all stay. Where memory runs out nothing is done: a datagram is
-/// lost, and a deadline that has come is due again at the next tick.
+/// lost, and a deadline that has come is due again at the next tick. A tick ignores nothing.
 pub(crate) fn resolve<W: Wires, M: PrefixMap<Entry>>(
     wires: &mut W,
     resolver: &mut Resolver<M>,
     here: &Here,
     askers: &mut Askers,
     input: Input<'_>,
-) -> Option<Ended>
+) -> Hearing
     requires { AreOwners resolver.old askers.old.owners }
     ensures ended { HasEndedBy (call_of input.entry) (moved here.now.moment resolver.old) resolver.new
-        askers.old.owners askers.new.owners result }
+        askers.old.owners askers.new.owners result.ended }
     ensures resolves { (calls : List ACall) × RecordsCalls (W.calls wires.old) calls (W.calls wires.new)
         × HearsOrTicks here.now.me here.now.moment (call_of input.entry) (running resolver.old askers.old) calls
         (running resolver.new askers.new) }
+    ensures ignored { SaysWhy (moved here.now.moment resolver.old) (call_of input.entry) resolver.new result.ignored }
     ensures owners { AreOwners resolver.new askers.new.owners }
 {
     resolver.in_order();
     // Read for its bound: no moment is later than the last.
     let _millis = here.moment.millis();
     match resolver.step(here.moment, input) {
-        Ok(reply) => go_on(wires, here.me, askers, reply.progress()),
-        Err(_refused) => None,
+        Ok(reply) => {
+            let ignored = why_ignored(&reply);
+            let ended = go_on(wires, here.me, askers, reply.progress());
+            Hearing { ended, ignored }
+        }
+        Err(_refused) => Hearing {
+            ended: None,
+            ignored: None,
+        },
     }
 }
 

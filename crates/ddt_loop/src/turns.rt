@@ -141,5 +141,5 @@ fn take_turn<W: Wires, N: PrefixMap<u32>, M: PrefixMap<Entry>>(
         me: tree.me,
         moment: turn.moment,
     };
-    let _ended = resolve(wires, resolver, &here, askers, Input::Tick);
+    let _heard = resolve(wires, resolver, &here, askers, Input::Tick);
 }

@@ -1,8 +1,7 @@
 use Rattle.std.proofs.Common.{[], ◌∷◌, refl}
 use Rattle.ddt_wires.specs.declared.call.Call.TheVariants.{Tried}
 use Rattle.ddt_ecm.specs.UdpHeader.{control_port}
-use Rattle.ddt_wires.specs.laws.Tell.{tells_none}
-use Rattle.ddt_loop.specs.Acts.{unknown, none, again}
+use Rattle.ddt_loop.specs.Acts.{again}
 use Rattle.ddt_loop.proofs.steps.resend.Goals as goal
 
 pub asked_server-server-requires : goal.asked_server-server-requires

@@ -3,8 +3,8 @@ use Rattle.std.proofs.lemmas.Option.{none-some}
 use Rattle.ddt_wires.specs.laws.Tell.{tells_none}
 use Rattle.ddt_loop.specs.Coming.{IsCame}
 use Rattle.ddt_loop.specs.Acts.{running}
-use Rattle.ddt_loop.proofs.EndLemmas.{waits_came, ends_came}
-use Rattle.ddt_loop.specs.Polls.{asks, no_request, hears}
+use Rattle.ddt_loop.proofs.EndLemmas.{waits_came}
+use Rattle.ddt_loop.specs.Polls.{asks, no_request}
 use Rattle.ddt_loop.proofs.steps.take.Goals as goal
 
 pub returns-in-Some-clause-taken : goal.returns-in-Some-clause-taken
@@ -31,5 +31,5 @@ returns-in-Some-clause-came g c =
 pub returns-else-is_of-clause-came : goal.returns-else-is_of-clause-came
 returns-else-is_of-clause-came g c =
     let w = running c.args.resolver.now c.args.askers.now in
-    let new = running c.hear-ended.new.resolver c.hear-ended.new.askers in
-    subst (IsCame c.args.here.now.moment c.args.packet.from c.args.bytes.now w new) (sym c.ends.ensures) c.hear-ended.ensures.came
+    let new = running c.hear-heard.new.resolver c.hear-heard.new.askers in
+    subst (IsCame c.args.here.now.moment c.args.packet.from c.args.bytes.now w new) (sym c.ends.ensures) c.hear-heard.ensures.came

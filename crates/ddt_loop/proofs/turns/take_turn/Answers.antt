@@ -6,7 +6,7 @@ use Rattle.ddt_loop.proofs.turns.take_turn.Goals as goal
 pub returns-clause-turn : goal.returns-clause-turn
 returns-clause-turn g c =
     let w = c.poll_in_turn.ensures.polls in
-    let t = c.resolve-ended.ensures.resolves in
+    let t = c.resolve-heard.ensures.resolves in
     let midway = running c.poll_in_turn.new.resolver c.poll_in_turn.new.askers in
     let moment = c.millis-millis.ensures.bound in (
       w.0 ++ t.0,

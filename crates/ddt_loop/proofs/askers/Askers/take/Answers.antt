@@ -1,14 +1,23 @@
-use Rattle.std.proofs.Common.{sym, ◌∙◌}
-use Rattle.ddt_loop.proofs.OwnerLemmas.{nobody_at, somebody_at}
+use Rattle.std.proofs.Common.{◌≡◌, ◌<◌, length, sym, ◌∙◌, arith}
+use Rattle.std.proofs.lemmas.Bool.{false≢true}
+use Rattle.ddt_loop.proofs.OwnerLemmas.{nobody_at, somebody_at, place_within}
 use Rattle.ddt_loop.proofs.askers.Askers.take.Goals as goal
 
 pub returns-clause-takes : goal.returns-clause-takes
 returns-clause-takes c =
-    let place = rw (c.number.ensures, c.as_slice.ensures.value) at c.place_of.ensures in
-    rw (← c.self.view_is, c.remove.ensures.items)
-    (somebody_at c.args.ticket c.self.inside.owners.items c.in_ok-place.place c.remove.result (sym place ∙ c.in_ok-place.was) c.remove.ensures.value)
+    let place = rw c.number.ensures at c.place_of.ensures in
+    rw (← c.self.view_is, c.in_ok-owner.ensures.items)
+    (somebody_at c.args.ticket c.self.inside.owners.items c.in_ok-place.place c.in_ok-owner.owner (sym place ∙ c.in_ok-place.was) c.in_ok-owner.ensures.value)
 
 pub returns-in_err-place-clause-takes : goal.returns-in_err-place-clause-takes
 returns-in_err-place-clause-takes c =
-    let place = rw (c.number.ensures, c.as_slice.ensures.value) at c.place_of.ensures in
+    let place = rw c.number.ensures at c.place_of.ensures in
     rw (← c.self.view_is, c.from_residual.ensures) (nobody_at c.args.ticket c.self.inside.owners.items (sym place ∙ c.in_err-place.was))
+
+pub returns-in_err-owner-clause-takes : goal.returns-in_err-owner-clause-takes
+returns-in_err-owner-clause-takes c =
+    let place = rw c.number.ensures at c.place_of.ensures in
+    let within = place_within c.args.ticket c.self.inside.owners.items c.in_ok-place.place (sym place ∙ c.in_ok-place.was) in
+    let len : c.self.inside.owners.len ≡ length c.self.inside.owners.items = search in
+    let there : c.in_ok-place.place < c.self.inside.owners.len = omega (arith, within, len) in
+    absurd (false≢true (c.in_err-owner.ensures.variant.1 there))

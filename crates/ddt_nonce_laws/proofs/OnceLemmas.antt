@@ -24,10 +24,10 @@ use Rattle.ddt_resolver.specs.declared.results.AskError.{AskError}
 use Rattle.ddt_resolver.specs.declared.results.Why.{Why}
 use Rattle.ddt_resolver.specs.declared.step.Reply.{Reply}
 use Rattle.ddt_resolver.specs.Order.{IsStateInOrder}
-use Rattle.ddt_resolver.specs.State.{State, moved, numbered, request, request_bytes}
+use Rattle.ddt_resolver.specs.State.{State, moved, forgotten, numbered, request, request_bytes}
 use Rattle.ddt_resolver.specs.Step.{progress_of}
 use Rattle.ddt_resolver.specs.laws.NumberMap.{found_insert, found_remove}
-use Rattle.ddt_resolver.specs.laws.Order.{order_moved}
+use Rattle.ddt_resolver.specs.laws.Order.{order_moved, order_forgotten}
 use Rattle.ddt_loop.specs.declared.came.Ended.{Ended}
 use Rattle.ddt_loop.specs.declared.owner.Asker.{Asker}
 use Rattle.ddt_loop.specs.declared.owner.Asker.TheVariants.{Identifier, Itr}
@@ -38,7 +38,7 @@ use Rattle.ddt_loop.specs.Ends.{IsToldEnd}
 use Rattle.ddt_loop.specs.Sharing.{AreToldEnd, nobody, one, Sharer, TellsSharers, wait_on, told}
 use Rattle.ddt_loop.specs.Polls.{IsPacketTaken, asks, no_request, hears, other_port}
 use Rattle.ddt_loop.specs.Right.{is_poll}
-use Rattle.ddt_loop.specs.Runs.{HasRun, begins, took, ticked, hastened, shared, waited, resent, passed, renewed, BeginsSound}
+use Rattle.ddt_loop.specs.Runs.{HasRun, begins, took, ticked, hastened, shared, waited, forgot, resent, passed, renewed, BeginsSound}
 use Rattle.ddt_nonce_laws.specs.Runs.{IsAskedOnce, RunsAskOnce}
 use Rattle.ddt_nonce_laws.proofs.RequestLemmas.{first_of_request, request_spells, one_request, asked_in}
 use Rattle.ddt_nonce_laws.proofs.ShapeLemmas.{Shape, stays, sends, drops, IsAct, of_step, of_haste}
@@ -345,6 +345,10 @@ with_tells me calls tries tells s h quiet =
 with_packet : (me : Locator) (calls more : List Call) (call : Call) (s : State) → HasAsked me ((calls ++ call ∷ []) ++ more) s → HasAsked me (calls ++ call ∷ more) s
 with_packet me calls more call s h = subst (λ (cs : List Call). HasAsked me cs s) (append_assoc calls (call ∷ []) more) h
 
+-- what is remembered of a prefix is forgotten
+asked_forgot : (me : Locator) (calls : List Call) (s : State) (p : List ℕ) → HasAsked me calls s → HasAsked me calls (forgotten s p)
+asked_forgot me calls s p h = asked_fewer me calls s (forgotten s p) h (order_forgotten s p h.order) h.own (omega arith) (λ t l here. here)
+
 -- another resolver goes on
 asked_anew : (me : Locator) (calls : List Call) (s new : State) → HasAsked me calls s → IsStateInOrder new → ((t : ℕ) → get new.pending t ≡ None) → new.me ≡ me → s.next ≤ new.next → HasAsked me calls new
 asked_anew me calls s new h order rest own grows = asked_fewer me calls s new h order own grows (λ t l here. absurd (cc (rest t, here)))
@@ -363,6 +367,7 @@ module _ (r : Register) (me : Locator) where
       with_tells me before tries tells new.state (asked_hastens me before w (asked_run first so_far) now le hastens) (quiet_sharers telling)
   asked_run first (shared {calls = before} {w = w} room p bytes j so_far asks_it may_share) = polled me before w.state (Received me room (Ok (Some p)) bytes) refl (asked_run first so_far)
   asked_run first (waited {calls = before} {w = w} now so_far le) = asked_moved me before w (asked_run first so_far) now le
+  asked_run first (forgot {calls = before} {w = w} p so_far) = asked_forgot me before w.state p (asked_run first so_far)
   asked_run first (resent {calls = before} {w = w} t l answer so_far here) = again before w.state t l answer (asked_run first so_far) here
   asked_run first (passed {calls = before} {w = w} call so_far polls) = polled me before w.state call polls (asked_run first so_far)
   asked_run first (renewed {calls = before} {w = w} new so_far b later) = asked_anew me before w.state new (asked_run first so_far) b.order b.starts.at_rest b.own later

@@ -148,9 +148,9 @@ impl<M: PrefixMap<Entry>> Cache<M> {
         self.held.entries.len()
     }
 
-    /// The live entries whose prefixes are `within` or inside it, in the order of their ends, each once; the root's is
-    /// not among them. Fails only if out of memory, also where memory ran out for the list of ends and such an entry may
-    /// still be there.
+    /// The live entries whose prefixes are `within` or inside it, in the order of their ends, each once. The root's is
+    /// not among them. Fails only if out of memory, also where memory ran out for the list of ends and an entry that it
+    /// lacks may still be live.
     pub fn inside(&self, alloc: Global, within: Prefix) -> Result<Vec<(Prefix, Entry)>, AllocError>
         ensures { IfOk result (λ rows. AreInside self.now within rows.items) }
     {

@@ -130,7 +130,7 @@ impl<M: PrefixMap<Entry>> Resolver<M> {
         self.table.cancel(ticket.number())
     }
 
-    /// Forgets what is remembered of a prefix, and says whether something was. Pending lookups stay as they are, and the
+    /// Forgets what is remembered of a prefix, and says whether something was. Pending lookups stay as they are. The
     /// root's servers are never forgotten.
     pub fn forget(&mut self, prefix: Prefix) -> bool
         ensures forgotten { self.new ≡ forgotten self.old prefix }

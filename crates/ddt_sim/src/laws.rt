@@ -13,9 +13,9 @@ use ddt_check::{
 };
 
 /// A new resolver with the root's locators of a register is sound for it. One that is sound for an accepted register
-/// stays sound: by each step whose datagram, if it has one, is what the register says there; where a lookup is hastened;
-/// as time passes; where a lookup is cancelled; and where a prefix is forgotten. What a step answers is the assignment, and
-/// so is what a hastened lookup ends with. A lookup ends without an answer only for want of a reply or of nonces.
+/// stays sound by each step whose datagram, if it has one, is what the register says there. So it does where a lookup is
+/// hastened or cancelled, where a prefix is forgotten, and as time passes. What a step answers is the assignment, and so
+/// is what a hastened lookup ends with. A lookup ends without an answer only for want of a reply or of nonces.
 pub fn a_step_keeps_a_resolver_sound()
     ensures new { NewResolversAreSound }
     ensures steps { StepsKeepSoundness }

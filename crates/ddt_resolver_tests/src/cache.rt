@@ -635,3 +635,48 @@ fn a_cache_on_a_trie_answers_as_a_plain_one(rt: HostRuntime) {
         random_calls::<TrieMap<Entry>>(rt.alloc(), &rt, seed);
     }
 }
+
+/// What is saved at moment 0, in this order: prefixes, and how many minutes they may be kept.
+const LISTED: &[(&str, u32)] = &[
+    ("[7]10.0.0.0/8", 30),
+    ("[7]10.1.0.0/16", 10),
+    ("[7]11.0.0.0/8", 5),
+    ("[7]10.1.2.0/24", 20),
+];
+
+/// Prefixes, and those that are listed inside each after 10 minutes.
+const INSIDE: &[(&str, &[&str])] = &[
+    ("[7]10.0.0.0/8", &["[7]10.1.2.0/24", "[7]10.0.0.0/8"]),
+    ("[7]10.1.0.0/16", &["[7]10.1.2.0/24"]),
+    ("[7]10.1.2.0/24", &["[7]10.1.2.0/24"]),
+    ("[7]11.0.0.0/8", &[]),
+];
+
+fn lists<M: PrefixMap<Entry>>(
+    alloc: Global,
+    rt: &impl Abort,
+    cache: &Cache<M>,
+    within: &str,
+    texts: &[&str],
+) {
+    let rows = cache
+        .inside(alloc, prefix(rt, within))
+        .expect(rt, "out of memory");
+    same(rt, &rows.len(), &texts.len(), &within);
+    for (row, text) in rows.as_slice().iter().zip(texts) {
+        same(rt, &row.0, &prefix(rt, text), &within);
+    }
+}
+
+#[test]
+fn the_entries_inside_a_prefix_are_listed_by_their_ends(rt: HostRuntime) {
+    let mut cache = rooted::<TrieMap<Entry>>(rt.alloc(), &rt);
+    for &(text, ttl) in LISTED {
+        let referral = record(Action::NodeReferral, prefix(&rt, text), ttl, set(&rt, TEN));
+        saves(&rt, &mut cache, 0, &referral);
+    }
+    cache.advance(at(&rt, 10 * MINUTE));
+    for &(within, texts) in INSIDE {
+        lists(rt.alloc(), &rt, &cache, within, texts);
+    }
+}

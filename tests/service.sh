@@ -6,7 +6,7 @@
 #
 # usage: tests/service.sh [CASE..]
 #
-# The cases are dead, loss, greedy, forged, wide, dissolved, storm and refused; without CASE all are run. DDT and DDTD
+# The cases are dead, loss, greedy, forged, wide, dissolved, storm, refused and seen; without CASE all are run. DDT and DDTD
 # name the programs, by default those of ./ddt and ./ddtd; KEEP a folder that is kept, with the logs and, in .measured,
 # the times of each load. It wants Linux with network namespaces, which others than root have by a user namespace, a
 # bridge between them, unshare, ip of iproute2, and Python 3.11. Where one is missing, a line says so and nothing is
@@ -14,7 +14,7 @@
 set -u -o pipefail
 cd -- "$(dirname -- "${BASH_SOURCE[0]}")/.." || exit 1
 
-all_cases=(dead loss greedy forged wide dissolved storm refused)
+all_cases=(dead loss greedy forged wide dissolved storm refused seen)
 for word in "$@"; do
     [[ " ${all_cases[*]} " = *" $word "* ]] || { echo "usage: tests/service.sh [${all_cases[*]}]" >&2; exit 2; }
 done
@@ -139,7 +139,7 @@ resolve() {
 }
 
 tell() {
-    ip netns exec "$prefix.$1" timeout 5 "$ddtd" tell "$folder/$1.sock" "$2"
+    ip netns exec "$prefix.$1" timeout 5 "$ddtd" tell "$folder/$1.sock" "${@:2}"
 }
 
 # counted NAME COUNT: the sum of what a daemon has counted by this name; a dot at its end stands for any ending
@@ -438,6 +438,76 @@ refused() {
     resolve '"2001:db8::3", "192.0.2.3"'
     load itr refused --tries 8 --median 100 "root:10:$folder/root"
     judge 'refused: the second locator is asked at once' refused root 'lost 0, wrong 0, median under 100 ms'
+}
+
+# remembered XEID: the prefix, the action and the servers of what the resolver remembers for an identifier
+remembered() {
+    tell resolver lookup "$1" | awk '{ $3 = ""; print }' | tr -s ' '
+}
+
+# What an operator sees of a resolver: what its settings risk, the servers that it knows, what it remembers, what it has
+# counted, and lookups that gave up. It forgets one region alone, and systemd is told of its states.
+seen() {
+    blocks 1 0 10 >"$folder/east"
+    blocks 2 0 10 >"$folder/west"
+    echo 10.3.0.5 >"$folder/silent"
+    python3 "$scripts/notified.py" "$folder/notify" >"$folder/notified" &
+    pids[notified]=$!
+    until [ -S "$folder/notify" ]; do sleep 0.05; done
+    NOTIFY_SOCKET=$folder/notify resolve '"192.0.2.3"' 192.0.2.3
+    expect 'seen: allow covers the root' 1 "$(grep -c 'allow covers a root: 192.0.2.3$' "$folder/resolver.log")"
+    load itr east "east:20:$folder/east"
+    load itr west "west:20:$folder/west"
+    expect 'seen: the servers' '192.0.2.3 192.0.2.4 192.0.2.5 192.0.2.7' \
+        "$(tell resolver servers | awk '$2 == "answers" { print $1 }' | sort | paste -sd ' ')"
+    expect 'seen: a site' '[0]10.1.0.0/28 MS-ACK 192.0.2.5 192.0.2.6' "$(remembered '[0]10.1.0.5')"
+    expect 'seen: what the cache has' "$(counted resolver now.cached)" "$(tell resolver cache | wc -l)"
+    expect 'seen: what it has of a region' "$(tell resolver cache '[0]10.1.0.0/16' | wc -l)" \
+        "$(tell resolver cache | grep -c '^\[0\]10\.1\.')"
+    see_counts
+    see_flush
+    see_give_up
+    tell resolver reload >/dev/null
+    tell resolver stop >/dev/null
+    sleep 0.5
+    expect 'seen: what systemd is told' 'READY=1 RELOADING=1 READY=1 STOPPING=1' "$(paste -sd ' ' "$folder/notified")"
+    end notified
+}
+
+# The counts in three forms, and what a server has answered, by action.
+see_counts() {
+    local lookups
+    lookups=$(counted resolver num.lookups)
+    expect 'seen: the counts as JSON' "$lookups" "$(tell resolver stats --format json |
+        python3 -c 'import json, sys; print(json.load(sys.stdin)["num.lookups"])')"
+    expect 'seen: the counts for Prometheus' "# TYPE ddtd_num_lookups counter ddtd_num_lookups $lookups" \
+        "$(tell resolver stats --format prometheus | grep ddtd_num_lookups | paste -sd ' ')"
+    expect 'seen: what a server has answered' "$(counted west num.replied)" "$(counted west num.answer.)"
+    expect 'seen: acknowledged' 'at least 5' "$(bounded least 5 "$(counted west num.answer.msack)")"
+}
+
+# One region is forgotten, and no other.
+see_flush() {
+    local held
+    held=$(tell resolver cache '[0]10.1.0.0/16' | wc -l)
+    expect 'seen: a region is forgotten' "flushed $held" "$(tell resolver flush '[0]10.1.0.0/16')"
+    expect 'seen: nothing is left of it' '[0]10.0.0.0/8 NODE-REFERRAL 192.0.2.4' "$(remembered '[0]10.1.0.5')"
+    expect 'seen: another is' '[0]10.2.0.0/28 MS-ACK 192.0.2.7' "$(remembered '[0]10.2.0.5')"
+    expect 'seen: no prefix' 'refused: 10.1 is no prefix' "$(tell resolver flush 10.1)"
+    expect 'seen: no identifier' 'refused: 10.1 is no identifier' "$(tell resolver lookup 10.1)"
+    expect 'seen: a server has no cache' 'refused: a server has no cache' "$(tell west cache)"
+}
+
+# A lookup that gives up is in the log with its zone and its servers.
+see_give_up() {
+    load itr silent --tries 1 --repeat 1 "silent:1:$folder/silent"
+    for _ in {1..100}; do
+        grep -q 'gave up' "$folder/resolver.log" && break
+        sleep 0.1
+    done
+    expect 'seen: a lookup that gave up' \
+        '<4>gave up on [0]10.3.0.5: no reply, zone [0]10.3.0.0/16 at 192.0.2.8 192.0.2.9' \
+        "$(grep 'gave up' "$folder/resolver.log")"
 }
 
 make_namespaces || { echo 'service.sh: no network namespaces here'; exit 1; }

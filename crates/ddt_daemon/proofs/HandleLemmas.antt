@@ -9,16 +9,17 @@ use Rattle.ddt_wire.specs.Referral.{written, message_of}
 use Rattle.ddt_resolver.specs.State.{State}
 use Rattle.ddt_resolver.specs.Within.{IsCut, whole, cut, cut_to}
 use Rattle.ddt_loop.specs.Sharing.{IsAskedBy}
+use Rattle.ddt_settings.specs.declared.settings.Settings.{Settings}
 use Rattle.ddt_daemon.specs.declared.admission.Admitted.{Admitted}
 use Rattle.ddt_daemon.specs.Admitted.{IsAdmitted}
 use Rattle.ddt_daemon.proofs.PlainLemmas.{referral_is_plain}
 use Rattle.ddt_daemon.specs.Rounds as rounds
 use Rattle.ddt_daemon.specs.Rounds.{Resolving, resolving, at_moment, IsAsked, IsHandled, shared, asked}
 
-pub handled_asked : {allow : List (List ℕ)} {me : Locator} {now : ℕ} {p : Packet} {bytes : List ℕ} {w new : Resolving} {near : List Call} (a : Admitted)
-    → is_of Encapsulated bytes ≡ true → IsAdmitted allow w.kept (at_moment now w.running) p.from bytes a.request → a.bytes ≡ bytes → a.from ≡ p.from
+pub handled_asked : {settings : Settings} {me : Locator} {now : ℕ} {p : Packet} {bytes : List ℕ} {w new : Resolving} {near : List Call} (a : Admitted)
+    → is_of Encapsulated bytes ≡ true → IsAdmitted settings w.kept (at_moment now w.running) p.from bytes a.request → a.bytes ≡ bytes → a.from ≡ p.from
     → ((t : ℕ) → a.place.shares ≡ Some t → IsAskedBy w.running.desk.owners t a.request.xeid)
-    → IsAsked me now a (resolving (at_moment now w.running) w.kept w.counts) near new → IsHandled allow me now p bytes w near [] new
+    → IsAsked me now a (resolving (at_moment now w.running) w.kept w.counts) near new → IsHandled settings me now p bytes w near [] new
 handled_asked a sort admitted same_bytes same_source own (rounds.shares t k its same kept none is) =
     shared a.request k sort admitted (rw (same_bytes, same_source) at kept) (rw same (own t its)) none refl is
 handled_asked a sort admitted same_bytes same_source own (rounds.asks asks keeps) =

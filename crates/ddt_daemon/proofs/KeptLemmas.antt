@@ -1,6 +1,6 @@
 -- The request that waits for a lookup is taken off the list.
 use Rattle.std.proofs.Common.{◌≡◌, ℕ, suc, ◌+◌, ◌<◌, ◌≤◌, Bool, true, false, List, [], ◌∷◌, ◌++◌, length, take, drop, get_or, Option, Some, None, refl, sym, ap, ◌∙◌, subst, arith, add-one}
-use Rattle.std.specs.Prelude.{◌≢◌, ◌==◌, not, nat_lt, All, position}
+use Rattle.std.specs.Prelude.{◌≢◌, ◌==◌, not, nat_lt, ◌↔◌, All, IfSome, OnSome, IsSome, position}
 use Rattle.std.specs.List.{position_or_len, remove}
 use Rattle.std.proofs.lemmas.Option.{none-some}
 use Rattle.std.proofs.lemmas.Bool.{cond-true, cond-false, eqb-true, eq-eqb, lt-ltb, false≢true}
@@ -29,12 +29,6 @@ none_before : (t : ℕ) (kept : List Kept) → (position_or_len (has_ticket t) k
 none_before t [] none = All-nil (λ p. p.ticket ≢ t)
 none_before t (o ∷ kept) none = none_more t o kept none (none_before t kept) (has_ticket t o) refl
 
--- the place is looked for in the list that a slice lends
-pub place_in : (t n : ℕ) (kept seen : List Kept) (r found : Option ℕ) → r ≡ position (has_ticket n) seen → n ≡ t → seen ≡ kept
-    → r ≡ found → position (has_ticket t) kept ≡ found
-place_in t n kept seen r found is number same given =
-    ap (λ m. position (has_ticket m) kept) (sym number) ∙ ap (position (has_ticket n)) (sym same) ∙ sym is ∙ given
-
 pub nobody_at : (t : ℕ) (kept : List Kept) → position (has_ticket t) kept ≡ None → TakesKept t kept kept None
 nobody_at t kept none = nobody (none_before t kept (λ lt. none-some _ (sym none ∙ cond-true (nat_lt (position_or_len (has_ticket t) kept) (length kept)) (Some (position_or_len (has_ticket t) kept)) None (lt-ltb _ _ lt)))) refl refl
 
@@ -56,3 +50,14 @@ somebody_at t kept i o found read =
     ∙ ap (λ n. o ∷ drop n kept) (add-one i) in
     somebody (take i kept) (drop (suc i) kept) o (before_first t kept i found) its
     (sym (take-append-drop i kept) ∙ ap (λ rest. take i kept ++ rest) tail) refl refl
+
+place_within : (t : ℕ) (kept : List Kept) (i : ℕ) → position (has_ticket t) kept ≡ Some i → i < length kept
+place_within t [] i found = absurd (none-some _ found)
+place_within t (o ∷ kept) i found = (position-Some (has_ticket t) (o ∷ kept) i o found).0
+
+-- what is removed at the place of the first that waits for the lookup
+pub taken_at : (t : ℕ) (kept new : List Kept) (i : ℕ) (taken : Option Kept) → position (has_ticket t) kept ≡ Some i → (n : ℕ) → n ≡ length kept
+    → IsSome taken ↔ (i < n) → IfSome taken (λ o. o ≡ get_or kept i o) → OnSome taken (new ≡ remove kept i) → TakesKept t kept new taken
+taken_at t kept new i None found n len there value items = absurd (false≢true (there.1 (rw len (place_within t kept i found))))
+taken_at t kept new i (Some o) found n len there value items =
+    subst (λ (left : List Kept). TakesKept t kept left (Some o)) (sym items) (somebody_at t kept i o found value)

@@ -1,4 +1,5 @@
 pub mod KeptLemmas
+pub mod AdmitLemmas
 pub mod PlaceLemmas
 pub mod CloseLemmas
 pub mod PlainLemmas

@@ -14,9 +14,10 @@ use Rattle.ddt_resolver.specs.declared.results.Beginning.TheVariants.{Servers}
 use Rattle.ddt_resolver.specs.AskStep.{answer_of, begins_with, beginning_at, IsUnanswered}
 use Rattle.ddt_resolver.specs.State.{State}
 use Rattle.ddt_loop.specs.Acts.{Running}
+use Rattle.ddt_settings.specs.declared.settings.Settings.{Settings}
 use Rattle.ddt_daemon.specs.declared.itr_requests.Kept.{Kept}
 use Rattle.ddt_daemon.specs.declared.admission.Dropped.{Dropped}
-use Rattle.ddt_daemon.specs.declared.admission.Dropped.TheVariants.{Denied, TooLong, NoRequest, Repeated, Full, SourceFull, SetFull, Memory}
+use Rattle.ddt_daemon.specs.declared.admission.Dropped.TheVariants.{Denied, TooLong, NoRequest, OwnAddress, Looped, Repeated, Full, SourceFull, SetFull, Memory}
 use Rattle.ddt_daemon.specs.Kept.{waits_for}
 use Rattle.ddt_daemon.specs.Admitted.{BeginsAt, HasPlace, answered, shares, begins, IsPlaced, IsRefusedPlace, IsAllowed, IsAdmitted, IsDropped}
 
@@ -37,17 +38,19 @@ placed kept w from q None None is = answered is
 placed kept w from q (Some t) servers is = shares t is.0 is.1
 placed kept w from q None (Some servers) is = begins servers is.0 is.1 is.2
 
-pub admitted_is : {allow : List (List ℕ)} (kept : List Kept) (w : Running) {from : Locator} {bytes : List ℕ} {q : ItrRequest} (t : Option ℕ) (servers : Option (List Locator))
-    → IsAllowed allow from bytes q → waits_for kept q ≡ false → IsPlaced kept w from q.xeid t servers → IsAdmitted allow kept w from bytes q
+pub admitted_is : {settings : Settings} (kept : List Kept) (w : Running) {from : Locator} {bytes : List ℕ} {q : ItrRequest} (t : Option ℕ) (servers : Option (List Locator))
+    → IsAllowed settings from bytes q → waits_for kept q ≡ false → IsPlaced kept w from q.xeid t servers → IsAdmitted settings kept w from bytes q
 admitted_is kept w {from} {q = q} t servers may unlike is = record { may = may; unlike = unlike; place = placed kept w from q t servers is }
 
-pub refused_is : {allow : List (List ℕ)} (kept : List Kept) (w : Running) {from : Locator} {bytes : List ℕ} {q : ItrRequest} (why : Dropped)
-    → IsAllowed allow from bytes q → waits_for kept q ≡ false → IsRefusedPlace kept w from q.xeid why → IsDropped allow kept w from bytes why
+pub refused_is : {settings : Settings} (kept : List Kept) (w : Running) {from : Locator} {bytes : List ℕ} {q : ItrRequest} (why : Dropped)
+    → IsAllowed settings from bytes q → waits_for kept q ≡ false → IsRefusedPlace kept w from q.xeid why → IsDropped settings kept w from bytes why
 refused_is kept w {q = q} Full may unlike is = (q, record { may = may; unlike = unlike; unanswered = is.0 }, is.1)
 refused_is kept w {q = q} SourceFull may unlike is = (q, record { may = may; unlike = unlike; unanswered = is.0 }, is.1)
 refused_is kept w {q = q} SetFull may unlike is = (q, record { may = may; unlike = unlike; unanswered = is.0 }, is.1)
 refused_is kept w Denied may unlike is = absurd is
 refused_is kept w TooLong may unlike is = absurd is
 refused_is kept w NoRequest may unlike is = absurd is
+refused_is kept w OwnAddress may unlike is = absurd is
+refused_is kept w Looped may unlike is = absurd is
 refused_is kept w Repeated may unlike is = absurd is
 refused_is kept w Memory may unlike is = absurd is

@@ -18,15 +18,16 @@ use Rattle.ddt_loop.specs.Acts.{Running, running, Resends, unknown, none, again}
 use Rattle.ddt_loop.specs.Polls.{polled, asks, other_port as from_elsewhere}
 use Rattle.ddt_loop.specs.Sharing.{Sharer, TellsSharers, wait_on}
 use Rattle.ddt_loop.specs.Runs as runs
-use Rattle.ddt_loop.specs.Runs.{BeginsSound, HasRun, took, ticked, hastened, shared, waited, resent, passed, renewed}
+use Rattle.ddt_loop.specs.Runs.{BeginsSound, HasRun, took, ticked, hastened, shared, waited, forgot, resent, passed, renewed}
 use Rattle.ddt_loop.specs.Runs.{begins as run_begins}
 use Rattle.ddt_wires.specs.declared.call.Packet.{Packet}
 use Rattle.ddt_onward.specs.Onward.{onward, to_server}
+use Rattle.ddt_settings.specs.declared.settings.Settings.{Settings}
 use Rattle.ddt_daemon.specs.declared.itr_requests.Kept.{Kept}
 use Rattle.ddt_daemon.specs.Goes.{sharers, sharer_if, goes_on, Closes, starts, one, Follows}
 use Rattle.ddt_daemon.specs.Rounds as rounds
 use Rattle.ddt_daemon.specs.Rounds.{Resolving, at_moment, HasWaited, WaitsAs, KeepsAsked, at_once, waits, HearsReply, IsHeard, IsHandled, IsRound, no_packet, failed, came}
-use Rattle.ddt_daemon.specs.Runs.{HasServed, begins, round, tick, hastening, resending, renewal, RunsAsAResolver, IsOnward, AreRequests, IsAny, OnlyRequestsGoOn}
+use Rattle.ddt_daemon.specs.Runs.{HasServed, begins, round, tick, hastening, resending, forgetting, waiting, renewal, RunsAsAResolver, IsOnward, AreRequests, IsAny, OnlyRequestsGoOn}
 use Rattle.ddt_resolver.specs.Within.{whole}
 use Rattle.ddt_ecm.specs.UdpHeader.{control_port}
 use Rattle.ddt_wire.specs.declared.message_type.MessageType.TheVariants.{Encapsulated}
@@ -76,24 +77,24 @@ module _ (may_begin : State → Type 0) (me : Locator) (start : Running) where
   heard_run now p bytes w new near far le run (rounds.cut heard port cuts h) =
       reply_run now p bytes heard (record w { counts = _ }) new near far le run (runs.from_server (Some heard) port cuts refl) h
 
-  handled_run : {calls : List Call} (allow : List (List ℕ)) (now : ℕ) (p : Packet) (bytes : List ℕ) (near far : List Call) (w new : Resolving) → Ran calls w
-      → now ≤ last_moment → IsHandled allow me now p bytes w near far new → Ran (calls ++ polled me (Ok (Some p)) bytes ∷ near) new
-  handled_run allow now p bytes near far w new run le (rounds.dropped why v sort is passes is_none nothing stays) =
+  handled_run : {calls : List Call} (settings : Settings) (now : ℕ) (p : Packet) (bytes : List ℕ) (near far : List Call) (w new : Resolving) → Ran calls w
+      → now ≤ last_moment → IsHandled settings me now p bytes w near far new → Ran (calls ++ polled me (Ok (Some p)) bytes ∷ near) new
+  handled_run settings now p bytes near far w new run le (rounds.dropped why v sort is passes is_none nothing stays) =
       rw (is_none, stays) (passed (polled me (Ok (Some p)) bytes) (waited_run now le passes run) refl)
-  handled_run allow now p bytes near far w new run le (rounds.shared q k sort admitted kept own is_none nothing stays) =
+  handled_run settings now p bytes near far w new run le (rounds.shared q k sort admitted kept own is_none nothing stays) =
       rw (is_none, stays, sharers_push w.kept k true kept.shared)
       (shared most_bytes p bytes (record { ticket = k.ticket; request = k.request }) (waited now run le)
       (rw kept.request admitted.may.asks) (rw kept.request own))
-  handled_run allow now p bytes near far w new run le (rounds.asked q sort admitted act nothing keeps) =
+  handled_run settings now p bytes near far w new run le (rounds.asked q sort admitted act nothing keeps) =
       rw (same_sharers p.from bytes q w.kept new.kept w.counts new.counts keeps)
       (rw append-nil at (took now most_bytes p bytes bytes near None [] (sharers w.kept) new.running (waited now run le) le (as_it_came (at_moment now w.running).state p bytes sort) (asks sort q admitted.may.asks act) tt wait_on))
-  handled_run allow now p bytes near far w new run le (rounds.heard sort is) = heard_run now p bytes w new near far le run is
+  handled_run settings now p bytes near far w new run le (rounds.heard sort is) = heard_run now p bytes w new near far le run is
 
-  round_run : {calls : List Call} (allow : List (List ℕ)) (now : ℕ) (near far : List Call) (w new : Resolving) → Ran calls w → now ≤ last_moment
-      → IsRound allow me now w near far new → Ran (calls ++ near) new
-  round_run allow now near far w new run le (no_packet is nothing stays) = rw (is, stays) (passed (polled me (Ok None) []) run refl)
-  round_run allow now near far w new run le (failed fault is nothing stays) = rw (is, stays) (passed (polled me (Err fault) []) run refl)
-  round_run allow now near far w new run le (came p bytes tries is handled) = rw is (handled_run allow now p bytes tries far w new run le handled)
+  round_run : {calls : List Call} (settings : Settings) (now : ℕ) (near far : List Call) (w new : Resolving) → Ran calls w → now ≤ last_moment
+      → IsRound settings me now w near far new → Ran (calls ++ near) new
+  round_run settings now near far w new run le (no_packet is nothing stays) = rw (is, stays) (passed (polled me (Ok None) []) run refl)
+  round_run settings now near far w new run le (failed fault is nothing stays) = rw (is, stays) (passed (polled me (Err fault) []) run refl)
+  round_run settings now near far w new run le (came p bytes tries is handled) = rw is (handled_run settings now p bytes tries far w new run le handled)
 
   resent_run : {calls : List Call} {js : List Sharer} {w : Running} (nonce : ℕ) (near : List Call) → HasRun may_begin me start calls js w → Resends me nonce w.state near
       → HasRun may_begin me start (calls ++ near) js w
@@ -104,8 +105,8 @@ module _ (may_begin : State → Type 0) (me : Locator) (start : Running) where
 runs_on : (may_begin : State → Type 0) (me : Locator) (start : Resolving) (calls onward : List Call) (w : Resolving) → start.kept ≡ [] → HasServed may_begin me start calls onward w
     → HasRun may_begin me start.running calls (sharers w.kept) w.running
 runs_on may_begin me start calls onward w fresh begins = rw (ap sharers fresh) run_begins
-runs_on may_begin me start calls onward w fresh (round {calls = before} {onward = far_before} {w = v} allow now near far new so_far le is) =
-    round_run may_begin me start.running allow now near far v w (runs_on may_begin me start before far_before v fresh so_far) le is
+runs_on may_begin me start calls onward w fresh (round {calls = before} {onward = far_before} {w = v} settings now near far new so_far le is) =
+    round_run may_begin me start.running settings now near far v w (runs_on may_begin me start before far_before v fresh so_far) le is
 runs_on may_begin me start calls onward w fresh (tick {calls = before} {onward = far_before} {w = v} now near far new so_far le is) =
     rw is.calls_are
     (ticked now is.tries is.ended is.tells (sharers new.kept) new.running (runs_on may_begin me start before far_before v fresh so_far) le is.resolves is.ends
@@ -116,6 +117,8 @@ runs_on may_begin me start calls onward w fresh (hastening {calls = before} {onw
     (tells_sharers me None is.ended v.kept is.tells far new.kept is.follows))
 runs_on may_begin me start calls onward w fresh (resending {calls = before} {w = v} nonce near so_far is) =
     resent_run may_begin me start.running nonce near (runs_on may_begin me start before onward v fresh so_far) is
+runs_on may_begin me start calls onward w fresh (forgetting {w = v} p so_far) = forgot p (runs_on may_begin me start calls onward v fresh so_far)
+runs_on may_begin me start calls onward w fresh (waiting {w = v} now so_far le) = waited now (runs_on may_begin me start calls onward v fresh so_far) le
 runs_on may_begin me start calls onward w fresh (renewal {w = v} new so_far may later) =
     renewed new (runs_on may_begin me start calls onward v fresh so_far) may later
 
@@ -187,28 +190,28 @@ heard_onward me now p bytes w new near far (rounds.lost is off same) all = rw (s
 heard_onward me now p bytes w new near far (rounds.whole port cuts h) all = followed me (Some p.from) h.ended w.kept h.tells far new.kept h.follows all
 heard_onward me now p bytes w new near far (rounds.cut heard port cuts h) all = followed me (Some p.from) h.ended w.kept h.tells far new.kept h.follows all
 
-handled_onward : (me : Locator) (allow : List (List ℕ)) (now : ℕ) (p : Packet) (bytes : List ℕ) (w new : Resolving) (near far : List Call) → IsHandled allow me now p bytes w near far new
+handled_onward : (me : Locator) (settings : Settings) (now : ℕ) (p : Packet) (bytes : List ℕ) (w new : Resolving) (near far : List Call) → IsHandled settings me now p bytes w near far new
     → AreRequests w.kept → AreRequests new.kept × All (IsOnward me) far
-handled_onward me allow now p bytes w new near far (rounds.dropped why v sort is passes is_none off stays) all = rw (off, stays) (all, All-nil (IsOnward me))
-handled_onward me allow now p bytes w new near far (rounds.shared q k sort admitted kept own is_none off stays) all =
+handled_onward me settings now p bytes w new near far (rounds.dropped why v sort is passes is_none off stays) all = rw (off, stays) (all, All-nil (IsOnward me))
+handled_onward me settings now p bytes w new near far (rounds.shared q k sort admitted kept own is_none off stays) all =
     rw (off, stays) (kept_more bytes q p.from true w.kept k admitted.may.asks kept all, All-nil (IsOnward me))
-handled_onward me allow now p bytes w new near far (rounds.asked q sort admitted act off keeps) all =
+handled_onward me settings now p bytes w new near far (rounds.asked q sort admitted act off keeps) all =
     rw off (kept_asked p.from bytes q w.kept new.kept w.counts new.counts admitted.may.asks keeps all, All-nil (IsOnward me))
-handled_onward me allow now p bytes w new near far (rounds.heard sort is) all = heard_onward me now p bytes w new near far is all
+handled_onward me settings now p bytes w new near far (rounds.heard sort is) all = heard_onward me now p bytes w new near far is all
 
-round_onward : (me : Locator) (allow : List (List ℕ)) (now : ℕ) (w new : Resolving) (near far : List Call) → IsRound allow me now w near far new → AreRequests w.kept
+round_onward : (me : Locator) (settings : Settings) (now : ℕ) (w new : Resolving) (near far : List Call) → IsRound settings me now w near far new → AreRequests w.kept
     → AreRequests new.kept × All (IsOnward me) far
-round_onward me allow now w new near far (no_packet is off stays) all = rw (off, stays) (all, All-nil (IsOnward me))
-round_onward me allow now w new near far (failed fault is off stays) all = rw (off, stays) (all, All-nil (IsOnward me))
-round_onward me allow now w new near far (came p bytes tries is handled) all = handled_onward me allow now p bytes w new tries far handled all
+round_onward me settings now w new near far (no_packet is off stays) all = rw (off, stays) (all, All-nil (IsOnward me))
+round_onward me settings now w new near far (failed fault is off stays) all = rw (off, stays) (all, All-nil (IsOnward me))
+round_onward me settings now w new near far (came p bytes tries is handled) all = handled_onward me settings now p bytes w new tries far handled all
 
 both : (may_begin : State → Type 0) (me : Locator) (start : Resolving) (calls onward : List Call) (w : Resolving) → AreRequests start.kept
     → HasServed may_begin me start calls onward w
     → AreRequests w.kept × All (IsOnward me) onward
 both may_begin me start calls onward w all begins = (all, All-nil (IsOnward me))
-both may_begin me start calls onward w all (round {calls = before} {onward = far_before} {w = v} allow now near far new so_far le is) =
+both may_begin me start calls onward w all (round {calls = before} {onward = far_before} {w = v} settings now near far new so_far le is) =
     let first = both may_begin me start before far_before v all so_far in
-    let more = round_onward me allow now v new near far is first.0 in
+    let more = round_onward me settings now v new near far is first.0 in
     (more.0, All-append (IsOnward me) far_before far first.1 more.1)
 both may_begin me start calls onward w all (tick {calls = before} {onward = far_before} {w = v} now near far new so_far le is) =
     let first = both may_begin me start before far_before v all so_far in
@@ -219,6 +222,8 @@ both may_begin me start calls onward w all (hastening {calls = before} {onward =
     let more = followed me None is.ended v.kept is.tells far new.kept is.follows first.0 in
     (more.0, All-append (IsOnward me) far_before far first.1 more.1)
 both may_begin me start calls onward w all (resending {calls = before} {w = v} nonce near so_far is) = both may_begin me start before onward v all so_far
+both may_begin me start calls onward w all (forgetting {w = v} p so_far) = both may_begin me start calls onward v all so_far
+both may_begin me start calls onward w all (waiting {w = v} now so_far le) = both may_begin me start calls onward v all so_far
 both may_begin me start calls onward w all (renewal {w = v} new so_far may later) =
     (All-nil IsKeptRequest, (both may_begin me start calls onward v all so_far).1)
 

@@ -1,10 +1,13 @@
 -- Which Encapsulated Control Messages a resolver asks for, and why it drops others.
-use Rattle.std.specs.Prelude.{ℕ, ◌≡◌, ◌≤◌, ◌<◌, true, false, List, length, Option, None, Some}
+use Rattle.std.specs.Prelude.{ℕ, ◌≡◌, ◌≤◌, ◌<◌, Bool, true, false, List, length, Option, None, Some}
+use Rattle.std.specs.List.{list_any}
 use Rattle.ddt_path.specs.declared.locator.Locator.{Locator}
 use Rattle.ddt_path.specs.declared.record.Outcome.{Outcome}
 use Rattle.ddt_path.specs.declared.xeid.Xeid.{Xeid}
 use Rattle.ddt_path.specs.Path.{xeid_path}
+use Rattle.ddt_path.specs.Locators.{is_same_locator}
 use Rattle.ddt_cache.specs.declared.entry.Entry.{Entry}
+use Rattle.ddt_ecm.specs.Request.{Message, Spells}
 use Rattle.ddt_cache.specs.Found.{IsFound}
 use Rattle.ddt_resolver.specs.declared.itr_messages.ItrRequest.{ItrRequest}
 use Rattle.ddt_resolver.specs.AskStep.{answer_of, IsUnanswered}
@@ -12,10 +15,11 @@ use Rattle.ddt_resolver.specs.Front.{IsItrRequest}
 use Rattle.ddt_resolver.specs.State.{State, most_pending}
 use Rattle.ddt_loop.specs.Acts.{Running}
 use Rattle.ddt_loop.specs.Sharing.{IsAskedBy}
+use Rattle.ddt_settings.specs.declared.settings.Settings.{Settings}
 use Rattle.ddt_settings.specs.Rlocs.{is_allowed}
 use Rattle.ddt_daemon.specs.declared.itr_requests.Kept.{Kept}
 use Rattle.ddt_daemon.specs.declared.admission.Dropped.{Dropped}
-use Rattle.ddt_daemon.specs.declared.admission.Dropped.TheVariants.{Denied, TooLong, NoRequest, Repeated, Full, SourceFull, SetFull, Memory}
+use Rattle.ddt_daemon.specs.declared.admission.Dropped.TheVariants.{Denied, TooLong, NoRequest, OwnAddress, Looped, Repeated, Full, SourceFull, SetFull, Memory}
 use Rattle.ddt_daemon.specs.Kept.{waits_for, of_source, of_set}
 
 -- no longer request is kept
@@ -67,41 +71,62 @@ IsRefusedPlace kept w from x SetFull =
     IsUnanswered w.state x × ((servers : List Locator) × BeginsAt w.state x servers × (most_of_set ≤ of_set kept servers))
 IsRefusedPlace kept w from x _ = ⊥
 
--- it may come from there, it is short enough to be kept, and it is the request of an ITR
-pub record IsAllowed (allow : List (List ℕ)) (from : Locator) (bytes : List ℕ) (q : ItrRequest) : Type 0 where
-  pub allowed : is_allowed allow from ≡ true
-  pub short : length bytes ≤ most_kept_bytes
+-- whether a locator is one of these addresses
+abbrev pub is_one : List Locator → Locator → Bool
+is_one own l = list_any (λ o. is_same_locator o l) own
+
+-- whether one of a request's ITR-RLOCs is
+abbrev pub names_one : List Locator → Message → Bool
+names_one own m = list_any (is_one own) m.rlocs
+
+-- a request names an address of the resolver itself, which would ask itself for what it answers
+abbrev pub NamesOwn : List Locator → List ℕ → Type 0
+NamesOwn own bytes = (m : Message) × Spells bytes m × (names_one own m ≡ true)
+
+-- it may come from there, and it is short enough to be kept
+abbrev pub MayCome : Settings → Locator → List ℕ → Type 0
+MayCome settings from bytes = (is_allowed settings.allow from ≡ true) × (length bytes ≤ most_kept_bytes)
+
+-- it may come from there, it is the request of an ITR, and names no address of the resolver itself
+pub record IsAllowed (settings : Settings) (from : Locator) (bytes : List ℕ) (q : ItrRequest) : Type 0 where
+  pub may_come : MayCome settings from bytes
   pub asks : IsItrRequest bytes q
+  pub elsewhere : NamesOwn settings.listen bytes → ⊥
 
 -- It is asked for: the request of an ITR that is allowed, which doesn't wait yet; and there is a place for it.
-pub record IsAdmitted (allow : List (List ℕ)) (kept : List Kept) (w : Running) (from : Locator) (bytes : List ℕ)
+pub record IsAdmitted (settings : Settings) (kept : List Kept) (w : Running) (from : Locator) (bytes : List ℕ)
     (q : ItrRequest) : Type 0 where
-  pub may : IsAllowed allow from bytes q
+  pub may : IsAllowed settings from bytes q
   pub unlike : waits_for kept q ≡ false
   pub place : HasPlace kept w from q
 
 -- it would wait: no answer is remembered
-pub record WouldWait (allow : List (List ℕ)) (kept : List Kept) (w : Running) (from : Locator) (bytes : List ℕ)
+pub record WouldWait (settings : Settings) (kept : List Kept) (w : Running) (from : Locator) (bytes : List ℕ)
     (q : ItrRequest) : Type 0 where
-  pub may : IsAllowed allow from bytes q
+  pub may : IsAllowed settings from bytes q
   pub unlike : waits_for kept q ≡ false
   pub unanswered : IsUnanswered w.state q.xeid
 
--- It is dropped, by the first of these reasons. Full, SourceFull, SetFull: no answer is remembered, and too many wait, of
--- all, of its source, or for the referral set at which its lookup would begin. Memory: there is a place for it, but no
--- memory to keep it in.
-abbrev pub IsDropped : List (List ℕ) → List Kept → Running → Locator → List ℕ → Dropped → Type 0
-IsDropped allow kept w from bytes Denied = is_allowed allow from ≡ false
-IsDropped allow kept w from bytes TooLong = (is_allowed allow from ≡ true) × (most_kept_bytes < length bytes)
-IsDropped allow kept w from bytes NoRequest =
-    (is_allowed allow from ≡ true) × (length bytes ≤ most_kept_bytes) × ((q : ItrRequest) → IsItrRequest bytes q → ⊥)
-IsDropped allow kept w from bytes Repeated =
-    (q : ItrRequest) × IsAllowed allow from bytes q × (waits_for kept q ≡ true)
-IsDropped allow kept w from bytes Full =
-    (q : ItrRequest) × WouldWait allow kept w from bytes q × (most_pending ≤ length kept)
-IsDropped allow kept w from bytes SourceFull =
-    (q : ItrRequest) × WouldWait allow kept w from bytes q × (most_of_source ≤ of_source kept from)
-IsDropped allow kept w from bytes SetFull =
-    (q : ItrRequest) × WouldWait allow kept w from bytes q
+-- It is dropped, by the first of these reasons. OwnAddress: it names an address of the resolver itself. Looped: it came
+-- back from where it was sent on to; no answer rests on what came before. Full, SourceFull, SetFull: no answer is
+-- remembered, and too many wait, of all, of its source, or for the referral set at which its lookup would begin. Memory:
+-- there is a place for it, but no memory to keep it in.
+abbrev pub IsDropped : Settings → List Kept → Running → Locator → List ℕ → Dropped → Type 0
+IsDropped settings kept w from bytes Denied = is_allowed settings.allow from ≡ false
+IsDropped settings kept w from bytes TooLong =
+    (is_allowed settings.allow from ≡ true) × (most_kept_bytes < length bytes)
+IsDropped settings kept w from bytes NoRequest =
+    MayCome settings from bytes × ((q : ItrRequest) → IsItrRequest bytes q → ⊥)
+IsDropped settings kept w from bytes OwnAddress =
+    MayCome settings from bytes × ((q : ItrRequest) × IsItrRequest bytes q) × NamesOwn settings.listen bytes
+IsDropped settings kept w from bytes Looped = (q : ItrRequest) × IsAllowed settings from bytes q
+IsDropped settings kept w from bytes Repeated =
+    (q : ItrRequest) × IsAllowed settings from bytes q × (waits_for kept q ≡ true)
+IsDropped settings kept w from bytes Full =
+    (q : ItrRequest) × WouldWait settings kept w from bytes q × (most_pending ≤ length kept)
+IsDropped settings kept w from bytes SourceFull =
+    (q : ItrRequest) × WouldWait settings kept w from bytes q × (most_of_source ≤ of_source kept from)
+IsDropped settings kept w from bytes SetFull =
+    (q : ItrRequest) × WouldWait settings kept w from bytes q
     × ((servers : List Locator) × BeginsAt w.state q.xeid servers × (most_of_set ≤ of_set kept servers))
-IsDropped allow kept w from bytes Memory = (q : ItrRequest) × IsAdmitted allow kept w from bytes q
+IsDropped settings kept w from bytes Memory = (q : ItrRequest) × IsAdmitted settings kept w from bytes q

@@ -5,10 +5,12 @@ use Rattle.ddt_path.specs.declared.record.Outcome.TheVariants.{Registered, NotRe
 use Rattle.ddt_wires.specs.declared.turns.Served.{Served}
 use Rattle.ddt_wires.specs.declared.call.Packet.{Packet}
 use Rattle.ddt_wires.specs.declared.call.NetFault.{NetFault}
+use Rattle.ddt_resolver.specs.declared.results.Ignored.{Ignored}
+use Rattle.ddt_resolver.specs.declared.results.Ignored.TheVariants as ignored
 use Rattle.ddt_resolver.specs.declared.results.Why.{Why}
 use Rattle.ddt_resolver.specs.declared.results.Why.TheVariants.{NoReply, Loop, NotAuthoritative, Exhausted}
 use Rattle.ddt_daemon.specs.declared.admission.Dropped.{Dropped}
-use Rattle.ddt_daemon.specs.declared.admission.Dropped.TheVariants.{Denied, TooLong, NoRequest, Repeated, Full, SourceFull, SetFull, Memory}
+use Rattle.ddt_daemon.specs.declared.admission.Dropped.TheVariants.{Denied, TooLong, NoRequest, OwnAddress, Looped, Repeated, Full, SourceFull, SetFull, Memory}
 use Rattle.ddt_daemon.specs.declared.counts.ServerCounts.{ServerCounts}
 use Rattle.ddt_daemon.specs.declared.counts.ResolverCounts.{ResolverCounts}
 use Rattle.ddt_daemon.specs.declared.counted.WireCounts.{WireCounts}
@@ -30,11 +32,19 @@ nothing_counted = record {
   denied = 0;
   too_long = 0;
   no_request = 0;
+  own_address = 0;
+  came_back = 0;
   repeated = 0;
   full = 0;
   source_full = 0;
   set_full = 0;
   memory = 0;
+  undecodable = 0;
+  unknown_nonce = 0;
+  wrong_source = 0;
+  late = 0;
+  not_covering = 0;
+  no_servers = 0;
   registered = 0;
   not_registered = 0;
   holes = 0;
@@ -53,6 +63,8 @@ abbrev pub with_dropped : ResolverCounts → Dropped → ResolverCounts
 with_dropped c Denied = record c { denied = plus c.denied 1 }
 with_dropped c TooLong = record c { too_long = plus c.too_long 1 }
 with_dropped c NoRequest = record c { no_request = plus c.no_request 1 }
+with_dropped c OwnAddress = record c { own_address = plus c.own_address 1 }
+with_dropped c Looped = record c { came_back = plus c.came_back 1 }
 with_dropped c Repeated = record c { repeated = plus c.repeated 1 }
 with_dropped c Full = record c { full = plus c.full 1 }
 with_dropped c SourceFull = record c { source_full = plus c.source_full 1 }
@@ -70,6 +82,20 @@ with_shared c = record c { shared = plus c.shared 1 }
 -- one more reply that was cut to its zone
 abbrev pub with_cut : ResolverCounts → ResolverCounts
 with_cut c = record c { cut = plus c.cut 1 }
+
+-- one more datagram that the resolver has ignored, counted by the reason
+abbrev pub with_ignored : ResolverCounts → Ignored → ResolverCounts
+with_ignored c ignored.Undecodable = record c { undecodable = plus c.undecodable 1 }
+with_ignored c ignored.UnknownNonce = record c { unknown_nonce = plus c.unknown_nonce 1 }
+with_ignored c ignored.WrongSource = record c { wrong_source = plus c.wrong_source 1 }
+with_ignored c ignored.Late = record c { late = plus c.late 1 }
+with_ignored c ignored.NotCovering = record c { not_covering = plus c.not_covering 1 }
+with_ignored c ignored.NoServers = record c { no_servers = plus c.no_servers 1 }
+
+-- a datagram that was heard: counted only if it is ignored
+abbrev pub with_why : ResolverCounts → Option Ignored → ResolverCounts
+with_why c None = c
+with_why c (Some why) = with_ignored c why
 
 -- the end of an ITR's lookup
 abbrev pub with_ended : ResolverCounts → Result Outcome Why → ResolverCounts

@@ -1,6 +1,8 @@
 pub mod Words
 pub mod Kept
+pub mod Recent
 pub mod Counted
+pub mod Answers
 pub mod Admitted
 pub mod Goes
 pub mod Rounds

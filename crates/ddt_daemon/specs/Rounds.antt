@@ -1,16 +1,18 @@
 -- The rounds of a daemon: of a server at one of its sockets, and of a resolver between ITRs, servers and Map-Servers.
-use Rattle.std.specs.Prelude.{Bool, Result, is_some, ℕ, ◌≡◌, ◌≢◌, ◌⊎◌, List, [], ◌∷◌, ◌++◌, Option, Some, None, Ok, Err, true, false, ◌+◌}
+use Rattle.std.specs.Prelude.{Bool, Result, IfSome, IfNone, is_some, ℕ, ◌≡◌, ◌≢◌, ◌⊎◌, List, [], ◌∷◌, ◌++◌, Option, Some, None, Ok, Err, true, false, ◌+◌}
 use Rattle.ddt_path.specs.declared.locator.Locator.{Locator}
 use Rattle.ddt_wires.specs.declared.call.Call.{Call}
 use Rattle.ddt_wires.specs.declared.call.Call.TheVariants.{Received, Tried}
 use Rattle.ddt_wires.specs.declared.call.NetFault.{NetFault}
 use Rattle.ddt_wires.specs.declared.call.Packet.{Packet}
 use Rattle.ddt_resolver.specs.declared.itr_messages.ItrRequest.{ItrRequest}
+use Rattle.ddt_resolver.specs.declared.results.Ignored.{Ignored}
 use Rattle.ddt_resolver.specs.State.{moved}
 use Rattle.ddt_resolver.specs.Step.{Tick}
 use Rattle.ddt_loop.specs.declared.came.Ended.{Ended as End}
 use Rattle.ddt_loop.specs.Acts.{Running, running, AsksForItr, HearsOrTicks, Hastens}
 use Rattle.ddt_loop.specs.Ends.{EndsBy, EndsByHaste}
+use Rattle.ddt_loop.specs.Ignoring.{IsIgnored}
 use Rattle.ddt_ecm.specs.UdpHeader.{control_port}
 use Rattle.ddt_resolver.specs.Within.{IsCut}
 use Rattle.ddt_loop.specs.Runs.{MayEndBy, EndsByReply}
@@ -18,12 +20,13 @@ use Rattle.ddt_loop.specs.Sharing.{IsAskedBy}
 use Rattle.ddt_wire.specs.declared.message_type.MessageType.TheVariants.{Encapsulated}
 use Rattle.ddt_wire.specs.MessageType.{is_of}
 use Rattle.ddt_loop.specs.Polls.{polled, IsPacketTaken}
+use Rattle.ddt_settings.specs.declared.settings.Settings.{Settings}
 use Rattle.ddt_daemon.specs.declared.itr_requests.Kept.{Kept}
 use Rattle.ddt_daemon.specs.declared.admission.Admitted.{Admitted}
 use Rattle.ddt_daemon.specs.declared.admission.Dropped.{Dropped}
 use Rattle.ddt_daemon.specs.declared.counts.ResolverCounts.{ResolverCounts}
 use Rattle.ddt_daemon.specs.Admitted.{IsAdmitted, IsDropped}
-use Rattle.ddt_daemon.specs.Counted.{with_dropped, with_lookup, with_shared, with_cut}
+use Rattle.ddt_daemon.specs.Counted.{with_dropped, with_lookup, with_shared, with_cut, with_why}
 use Rattle.ddt_daemon.specs.Goes.{Follows, with_end}
 
 -- a resolver, the requests that wait for its lookups, and what it has counted
@@ -67,7 +70,7 @@ pub data IsAsked (me : Locator) (now : ℕ) (a : Admitted) (w : Resolving) (near
     asks : AsksForItr me now a.request w.running near new.running
         → KeepsAsked a.from a.bytes a.request w.kept w.counts new.kept new.counts → IsAsked me now a w near new
 
--- What a datagram of these bytes from UDP port 4342 does, as it is heard.
+-- What a datagram of these bytes from UDP port 4342 does, as it is heard. One that the resolver ignores is counted by why.
 pub record HearsReply (me : Locator) (now : ℕ) (p : Packet) (heard : List ℕ) (w : Resolving) (near far : List Call)
     (new : Resolving) : Type 0 where
   pub tries : List Call
@@ -77,7 +80,10 @@ pub record HearsReply (me : Locator) (now : ℕ) (p : Packet) (heard : List ℕ)
   pub tells : List Call
   pub follows : Follows me (Some p.from) ended w.kept tells far new.kept
   pub calls_are : near ≡ tries ++ tells
-  pub counts : new.counts ≡ with_end w.counts ended
+  pub ignored : Option Ignored
+  pub is_ignored : IfSome ignored (IsIgnored now p heard w.running)
+  pub is_used : IfNone ignored ((why : Ignored) → IsIgnored now p heard w.running why → ⊥)
+  pub counts : new.counts ≡ with_end (with_why w.counts ignored) ended
 
 -- What is done with a datagram that is no Encapsulated Control Message. `other_port`: it isn't from UDP port 4342, and
 -- dropped. `whole`: it is heard as it came. `cut`: it reaches beyond the zone of its server, and is heard as if it said
@@ -95,22 +101,22 @@ pub data IsHeard (me : Locator) (now : ℕ) (p : Packet) (bytes : List ℕ) (w :
 -- What is done with a packet. `dropped`: an Encapsulated Control Message is dropped, and counted by why. `shared`: it is
 -- a request, and shares the lookup that an ITR waits for. `asked`: it is a request, and asked for. `heard`: any other
 -- datagram.
-pub data IsHandled (allow : List (List ℕ)) (me : Locator) (now : ℕ) (p : Packet) (bytes : List ℕ) (w : Resolving)
+pub data IsHandled (settings : Settings) (me : Locator) (now : ℕ) (p : Packet) (bytes : List ℕ) (w : Resolving)
     (near far : List Call) (new : Resolving) : Type 0 where
   dropped : (why : Dropped) (v : Running) → is_of Encapsulated bytes ≡ true
-      → IsDropped allow w.kept (at_moment now w.running) p.from bytes why → HasWaited now w.running v → near ≡ []
-      → far ≡ [] → new ≡ resolving v w.kept (with_dropped w.counts why) → IsHandled allow me now p bytes w near far new
+      → IsDropped settings w.kept (at_moment now w.running) p.from bytes why → HasWaited now w.running v → near ≡ []
+      → far ≡ [] → new ≡ resolving v w.kept (with_dropped w.counts why) → IsHandled settings me now p bytes w near far new
   shared : (q : ItrRequest) (k : Kept) → is_of Encapsulated bytes ≡ true
-      → IsAdmitted allow w.kept (at_moment now w.running) p.from bytes q → WaitsAs true p.from bytes q k
+      → IsAdmitted settings w.kept (at_moment now w.running) p.from bytes q → WaitsAs true p.from bytes q k
       → IsAskedBy w.running.desk.owners k.ticket q.xeid → near ≡ [] → far ≡ []
       → new ≡ resolving (at_moment now w.running) (w.kept ++ k ∷ []) (with_shared w.counts)
-      → IsHandled allow me now p bytes w near far new
+      → IsHandled settings me now p bytes w near far new
   asked : (q : ItrRequest) → is_of Encapsulated bytes ≡ true
-      → IsAdmitted allow w.kept (at_moment now w.running) p.from bytes q
+      → IsAdmitted settings w.kept (at_moment now w.running) p.from bytes q
       → AsksForItr me now q (at_moment now w.running) near new.running → far ≡ []
-      → KeepsAsked p.from bytes q w.kept w.counts new.kept new.counts → IsHandled allow me now p bytes w near far new
+      → KeepsAsked p.from bytes q w.kept w.counts new.kept new.counts → IsHandled settings me now p bytes w near far new
   heard : is_of Encapsulated bytes ≡ false → IsHeard me now p bytes w near far new
-      → IsHandled allow me now p bytes w near far new
+      → IsHandled settings me now p bytes w near far new
 
 -- whether an answer of `receive` has a packet, or one was lost
 abbrev pub gives_something : Result (Option Packet) NetFault → Bool
@@ -124,13 +130,13 @@ was_there (Received at room answer bytes ∷ calls) = gives_something answer
 was_there (Tried at to port bytes answer ∷ calls) = false
 
 -- A round: the near wires are polled once. No packet comes, `receive` fails, or a packet is handled.
-pub data IsRound (allow : List (List ℕ)) (me : Locator) (now : ℕ) (w : Resolving) (near far : List Call)
+pub data IsRound (settings : Settings) (me : Locator) (now : ℕ) (w : Resolving) (near far : List Call)
     (new : Resolving) : Type 0 where
-  no_packet : near ≡ polled me (Ok None) [] ∷ [] → far ≡ [] → new ≡ w → IsRound allow me now w near far new
+  no_packet : near ≡ polled me (Ok None) [] ∷ [] → far ≡ [] → new ≡ w → IsRound settings me now w near far new
   failed : (fault : NetFault) → near ≡ polled me (Err fault) [] ∷ [] → far ≡ [] → new ≡ w
-      → IsRound allow me now w near far new
+      → IsRound settings me now w near far new
   came : (p : Packet) (bytes : List ℕ) (tries : List Call) → near ≡ polled me (Ok (Some p)) bytes ∷ tries
-      → IsHandled allow me now p bytes w tries far new → IsRound allow me now w near far new
+      → IsHandled settings me now p bytes w tries far new → IsRound settings me now w near far new
 
 -- A tick: a lookup that is due goes on or ends, over the near wires. Nothing goes on over the far ones.
 pub record IsTick (me : Locator) (now : ℕ) (w : Resolving) (near far : List Call) (new : Resolving) : Type 0 where

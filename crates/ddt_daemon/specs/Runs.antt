@@ -8,24 +8,26 @@ use Rattle.ddt_cache.specs.Moment.{last_moment}
 use Rattle.ddt_ecm.specs.UdpHeader.{control_port}
 use Rattle.ddt_resolver.specs.declared.itr_messages.ItrRequest.{ItrRequest}
 use Rattle.ddt_resolver.specs.Front.{IsItrRequest}
-use Rattle.ddt_resolver.specs.State.{State}
+use Rattle.ddt_resolver.specs.State.{State, forgotten}
 use Rattle.ddt_loop.specs.Askers.{opening_desk}
 use Rattle.ddt_loop.specs.Acts.{running, Resends}
 use Rattle.ddt_loop.specs.Runs.{BeginsSound, HasRun}
 use Rattle.ddt_onward.specs.Onward.{with_d}
+use Rattle.ddt_settings.specs.declared.settings.Settings.{Settings}
 use Rattle.ddt_daemon.specs.declared.itr_requests.Kept.{Kept}
 use Rattle.ddt_daemon.specs.Goes.{sharers}
-use Rattle.ddt_daemon.specs.Rounds.{Resolving, resolving, IsRound, IsTick, IsHastened}
+use Rattle.ddt_daemon.specs.Rounds.{Resolving, resolving, at_moment, IsRound, IsTick, IsHastened}
 
 -- What has been done so far, by the calls of the near wires and those of the far wires: rounds, each by the settings in
--- force, ticks, lookups that are hastened, requests that are sent again, and renewals, in any order. `renewal`: another
--- resolver, that may begin and gives no nonce again, goes on, and nothing waits.
+-- force, ticks, lookups that are hastened, requests that are sent again, prefixes that are forgotten, time that passes,
+-- and renewals, in any order. `renewal`: another resolver, that may begin and gives no nonce again, goes on, and nothing
+-- waits.
 pub data HasServed (may_begin : State → Type 0) (me : Locator) (start : Resolving) :
     List Call → List Call → Resolving → Type 0 where
   begins : HasServed may_begin me start [] [] start
-  round : {calls onward : List Call} {w : Resolving} (allow : List (List ℕ)) (now : ℕ) (near far : List Call)
+  round : {calls onward : List Call} {w : Resolving} (settings : Settings) (now : ℕ) (near far : List Call)
       (new : Resolving) → HasServed may_begin me start calls onward w → now ≤ last_moment
-      → IsRound allow me now w near far new → HasServed may_begin me start (calls ++ near) (onward ++ far) new
+      → IsRound settings me now w near far new → HasServed may_begin me start (calls ++ near) (onward ++ far) new
   tick : {calls onward : List Call} {w : Resolving} (now : ℕ) (near far : List Call) (new : Resolving)
       → HasServed may_begin me start calls onward w → now ≤ last_moment → IsTick me now w near far new
       → HasServed may_begin me start (calls ++ near) (onward ++ far) new
@@ -35,6 +37,12 @@ pub data HasServed (may_begin : State → Type 0) (me : Locator) (start : Resolv
   resending : {calls onward : List Call} {w : Resolving} (nonce : ℕ) (near : List Call)
       → HasServed may_begin me start calls onward w → Resends me nonce w.running.state near
       → HasServed may_begin me start (calls ++ near) onward w
+  forgetting : {calls onward : List Call} {w : Resolving} (p : List ℕ) → HasServed may_begin me start calls onward w
+      → HasServed may_begin me start calls onward
+      (resolving (running (forgotten w.running.state p) w.running.desk) w.kept w.counts)
+  waiting : {calls onward : List Call} {w : Resolving} (now : ℕ) → HasServed may_begin me start calls onward w
+      → now ≤ last_moment
+      → HasServed may_begin me start calls onward (resolving (at_moment now w.running) w.kept w.counts)
   renewal : {calls onward : List Call} {w : Resolving} (new : State) → HasServed may_begin me start calls onward w
       → may_begin new → w.running.state.next ≤ new.next
       → HasServed may_begin me start calls onward (resolving (running new (opening_desk [])) [] w.counts)

@@ -11,11 +11,22 @@ pub enum ControlWord {
     Stats,
     /// To take up its configuration or its settings anew.
     Reload,
-    /// To forget what it remembers of referrals.
+    /// To forget what it remembers of referrals: of all, or of those inside a prefix.
     Flush,
+    /// To tell what is known of each server.
+    Servers,
+    /// To tell what it remembers of referrals: of all, or of those inside a prefix.
+    Cache,
+    /// To tell what is remembered for an identifier.
+    Lookup,
     /// To end.
     Stop,
 }
+
+/// The words, in the order of the variants.
+pub const WORDS: [&str; 7] = [
+    "stats", "reload", "flush", "servers", "cache", "lookup", "stop",
+];
 
 impl ControlWord {
     /// The word.
@@ -26,6 +37,9 @@ impl ControlWord {
             ControlWord::Stats => "stats",
             ControlWord::Reload => "reload",
             ControlWord::Flush => "flush",
+            ControlWord::Servers => "servers",
+            ControlWord::Cache => "cache",
+            ControlWord::Lookup => "lookup",
             ControlWord::Stop => "stop",
         }
     }
@@ -40,6 +54,12 @@ impl ControlWord {
             Some(ControlWord::Reload)
         } else if line == "flush" {
             Some(ControlWord::Flush)
+        } else if line == "servers" {
+            Some(ControlWord::Servers)
+        } else if line == "cache" {
+            Some(ControlWord::Cache)
+        } else if line == "lookup" {
+            Some(ControlWord::Lookup)
         } else if line == "stop" {
             Some(ControlWord::Stop)
         } else {

@@ -1,11 +1,11 @@
 //! What a daemon counts. A count that is full stays so.
 
 ghost use Rattle.std.specs.Prelude.{◌≡◌};
-ghost use Rattle.ddt_daemon.specs.Counted.{plus, with_served, with_dropped, with_lookup, with_shared, with_cut, with_ended};
+ghost use Rattle.ddt_daemon.specs.Counted.{plus, with_served, with_dropped, with_lookup, with_shared, with_cut, with_ignored, with_why, with_ended};
 
 use crate::admission::Dropped;
 use ddt_path::Outcome;
-use ddt_resolver::Why;
+use ddt_resolver::{Ignored, Why};
 use ddt_wires::Served;
 
 /// What a server has done.
@@ -40,11 +40,20 @@ pub struct ResolverCounts {
     pub denied: u64,
     pub too_long: u64,
     pub no_request: u64,
+    pub own_address: u64,
+    pub came_back: u64,
     pub repeated: u64,
     pub full: u64,
     pub source_full: u64,
     pub set_full: u64,
     pub memory: u64,
+    /// Datagrams from UDP port 4342 that were ignored, by why.
+    pub undecodable: u64,
+    pub unknown_nonce: u64,
+    pub wrong_source: u64,
+    pub late: u64,
+    pub not_covering: u64,
+    pub no_servers: u64,
     /// Lookups of ITRs that have ended, by their outcome.
     pub registered: u64,
     pub not_registered: u64,
@@ -72,6 +81,8 @@ impl ResolverCounts {
             Dropped::Denied => self.denied = one_more(self.denied),
             Dropped::TooLong => self.too_long = one_more(self.too_long),
             Dropped::NoRequest => self.no_request = one_more(self.no_request),
+            Dropped::OwnAddress => self.own_address = one_more(self.own_address),
+            Dropped::Looped => self.came_back = one_more(self.came_back),
             Dropped::Repeated => self.repeated = one_more(self.repeated),
             Dropped::Full => self.full = one_more(self.full),
             Dropped::SourceFull => self.source_full = one_more(self.source_full),
@@ -99,6 +110,29 @@ impl ResolverCounts {
         ensures { self.new ≡ with_cut self.old }
     {
         self.cut = one_more(self.cut);
+    }
+
+    /// Counts a datagram that was heard, if it is ignored.
+    pub(crate) fn hear_one(&mut self, ignored: Option<Ignored>)
+        ensures { self.new ≡ with_why self.old ignored }
+    {
+        if let Some(why) = ignored {
+            self.ignore_one(why);
+        }
+    }
+
+    /// Counts a datagram that is ignored.
+    fn ignore_one(&mut self, why: Ignored)
+        ensures { self.new ≡ with_ignored self.old why }
+    {
+        match why {
+            Ignored::Undecodable => self.undecodable = one_more(self.undecodable),
+            Ignored::UnknownNonce => self.unknown_nonce = one_more(self.unknown_nonce),
+            Ignored::WrongSource => self.wrong_source = one_more(self.wrong_source),
+            Ignored::Late => self.late = one_more(self.late),
+            Ignored::NotCovering => self.not_covering = one_more(self.not_covering),
+            Ignored::NoServers => self.no_servers = one_more(self.no_servers),
+        }
     }
 
     /// Counts the end of a lookup.

@@ -1,12 +1,16 @@
 //! The requests of ITRs whose lookups are pending.
 
-ghost use Rattle.std.specs.Prelude.{◌≡◌, ◌≤◌, ◌<◌, ◌++◌, [], ◌∷◌, ◌==◌, true, false, length, position, OnOk, vec_capacity};
+ghost use Rattle.std.specs.Prelude.{◌≡◌, ◌≤◌, ◌<◌, ◌++◌, [], ◌∷◌, ◌==◌, true, false, length, position, OnOk};
+ghost use Rattle.std.specs.VecDeque.{deque_capacity};
 ghost use Rattle.ddt_resolver.specs.State.{most_pending};
+ghost use Rattle.ddt_daemon.specs.Admitted.{most_of_source, most_of_set};
 ghost use Rattle.ddt_daemon.specs.Kept.{TakesKept, is_same_request as is_same_request_of, waits_for, of_source, of_set, begins_at as begins_at_of};
 
+use crate::admission::{MOST_OF_SET, MOST_OF_SOURCE};
 use ddt_path::{Listed, Locator, LocatorSet};
 use ddt_resolver::{ItrRequest, MOST_PENDING};
 use std::alloc::{AllocError, Global};
+use std::collections::VecDeque;
 
 /// A request of an ITR that waits for a lookup.
 #[derive(Debug, Drop)]
@@ -27,7 +31,7 @@ pub struct Kept {
 /// The requests of ITRs that wait, in the order in which they came.
 #[derive(Debug, Drop)]
 pub struct Waiting {
-    kept: Vec<Kept>,
+    kept: VecDeque<Kept>,
 }
 
 impl Waiting {
@@ -36,7 +40,7 @@ impl Waiting {
         ensures { result.kept.items ≡ [] }
     {
         Waiting {
-            kept: Vec::new(alloc),
+            kept: VecDeque::new(alloc),
         }
     }
 
@@ -55,35 +59,55 @@ impl Waiting {
         self.kept.len() >= MOST_PENDING
     }
 
-    /// Whether the same request waits: for the same identifier, with the same nonce, RLOC and port.
+    /// Whether the same request waits: with the same nonce, for the same identifier, with the same RLOC and port.
     pub fn has(&self, request: &ItrRequest) -> bool
         ensures { result ≡ waits_for self.now.kept.items request.now }
     {
         self.kept
-            .as_slice()
             .iter()
             .any(|kept| is_same_request(&kept.request, request))
     }
 
+    /// Whether so many requests that came from this address wait that no more may: 128.
+    pub fn is_full_of_source(&self, from: Locator) -> bool
+        ensures full { result ≡ true → most_of_source ≤ of_source self.now.kept.items from }
+        ensures room { result ≡ false → of_source self.now.kept.items from < most_of_source }
+    {
+        if self.kept.len() < MOST_OF_SOURCE {
+            return false;
+        }
+        self.of_source(from) >= MOST_OF_SOURCE
+    }
+
     /// How many requests that came from this address wait.
-    pub fn of_source(&self, from: Locator) -> usize
+    fn of_source(&self, from: Locator) -> usize
         ensures { result ≡ of_source self.now.kept.items from }
     {
-        let kept = self.kept.as_slice().iter();
-        kept.filter(|kept| kept.from == from).count()
+        self.kept.iter().filter(|kept| kept.from == from).count()
+    }
+
+    /// Whether so many requests wait whose lookup began at this referral set that no more may: 256.
+    pub fn is_full_of_set(&self, servers: &LocatorSet) -> bool
+        ensures full { result ≡ true → most_of_set ≤ of_set self.now.kept.items servers.now }
+        ensures room { result ≡ false → of_set self.now.kept.items servers.now < most_of_set }
+    {
+        if self.kept.len() < MOST_OF_SET {
+            return false;
+        }
+        self.of_set(servers) >= MOST_OF_SET
     }
 
     /// How many requests wait whose lookup began at this referral set.
-    pub fn of_set(&self, servers: &LocatorSet) -> usize
+    fn of_set(&self, servers: &LocatorSet) -> usize
         ensures { result ≡ of_set self.now.kept.items servers.now }
     {
-        let kept = self.kept.as_slice().iter();
+        let kept = self.kept.iter();
         kept.filter(|kept| begins_at(&kept.begins, servers)).count()
     }
 
     /// Makes room for one more. Fails only if out of memory.
     pub fn reserve(&mut self) -> Result<(), AllocError>
-        ensures room { OnOk result (length self.new.kept.items < vec_capacity self.new.kept) }
+        ensures room { OnOk result (length self.new.kept.items < deque_capacity self.new.kept) }
         ensures same { self.new.kept.items ≡ self.old.kept.items }
     {
         self.kept.reserve(1)
@@ -91,36 +115,35 @@ impl Waiting {
 
     /// One more waits. It allocates nothing: there is room.
     pub fn add(&mut self, kept: Kept)
-        requires { length self.old.kept.items < vec_capacity self.old.kept }
+        requires { length self.old.kept.items < deque_capacity self.old.kept }
         ensures { self.new.kept.items ≡ self.old.kept.items ++ kept ∷ [] }
     {
-        let added: Result<_, _> = self.kept.push(kept);
-        added.unwrap();
+        self.kept.push_back_reserved(kept);
     }
 
     /// The first request that waits for the lookup of a ticket, and waits no longer.
     pub fn take(&mut self, ticket: u64) -> Option<Kept>
         ensures { TakesKept ticket self.old.kept.items self.new.kept.items result }
     {
-        let place = place_of(self.kept.as_slice(), ticket)?;
-        Some(self.kept.remove(place))
+        let place = place_of(&self.kept, ticket)?;
+        self.kept.remove(place)
     }
 }
 
 /// The place of the first request that waits for the lookup of a ticket.
-fn place_of(kept: &[Kept], ticket: u64) -> Option<usize>
-    ensures { result ≡ position (λ k. k.ticket == ticket) kept.now }
+fn place_of(kept: &VecDeque<Kept>, ticket: u64) -> Option<usize>
+    ensures { result ≡ position (λ k. k.ticket == ticket) kept.now.items }
 {
     kept.iter().position(|k| k.ticket == ticket)
 }
 
-/// Whether two requests are for the same identifier, with the same nonce, RLOC and port.
-fn is_same_request(one: &ItrRequest, other: &ItrRequest) -> bool
+/// Whether two requests have the same nonce, and are for the same identifier, with the same RLOC and port.
+pub(crate) fn is_same_request(one: &ItrRequest, other: &ItrRequest) -> bool
     ensures { result ≡ is_same_request_of one.now other.now }
 {
-    one.xeid.iid == other.xeid.iid
+    one.nonce == other.nonce
+        && one.xeid.iid == other.xeid.iid
         && one.xeid.address == other.xeid.address
-        && one.nonce == other.nonce
         && one.to == other.to
         && one.port == other.port
 }

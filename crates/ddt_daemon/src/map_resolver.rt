@@ -1,8 +1,12 @@
 //! The rounds of a Map-Resolver between ITRs, servers and Map-Servers.
 
-ghost use Rattle.ddt_resolver.specs.State.{most_pending, moved};
+ghost use Rattle.std.specs.FinMap as map;
+ghost use Rattle.ddt_path.specs.Path.{xeid_path};
+ghost use Rattle.ddt_cache.specs.Found.{IsFound};
+ghost use Rattle.ddt_resolver.specs.State.{forgotten, most_pending, moved};
 ghost use Rattle.ddt_resolver.specs.Table.{IsNoneDue};
-ghost use Rattle.std.specs.Prelude.{◌≡◌, ◌⊎◌, ◌<◌, ◌≤◌, ◌++◌, ◌∷◌, ℕ, [], false, true, List, length, None, Some, IfOk, IfErr, IfSome, OnOk, OnErr, vec_capacity};
+ghost use Rattle.std.specs.Prelude.{◌≡◌, ◌⊎◌, ◌<◌, ◌≤◌, ◌++◌, ◌∷◌, ℕ, [], false, true, List, length, None, Some, IfOk, IfErr, IfSome, OnOk, OnErr};
+ghost use Rattle.std.specs.VecDeque.{deque_capacity};
 ghost use Rattle.ddt_wires.specs.declared.call.Call.{Call as ACall};
 ghost use Rattle.ddt_wires.specs.Calls.{RecordsCalls};
 ghost use Rattle.ddt_wires.specs.Turns.{AreTried, most_bytes};
@@ -18,15 +22,17 @@ ghost use Rattle.ddt_daemon.specs.Goes.{AreClosed, IsSharerTold, goes_on};
 ghost use Rattle.ddt_daemon.specs.Counted.{nothing_counted};
 ghost use Rattle.ddt_daemon.specs.Rounds.{resolving, at_moment, was_there, HasWaited, IsHandled, IsRound, IsTick, IsHastened, AreTicks, IsAsked, IsHeard, HearsReply, KeepsAsked, WaitsAs};
 
-use crate::admission::{Admitted, Dropped, MOST_KEPT_BYTES, MOST_OF_SET, MOST_OF_SOURCE, Place};
+use crate::admission::{Admitted, Dropped, Place, allowed_request};
 use crate::counts::ResolverCounts;
+use crate::gave_up::{GaveUp, GiveUps};
 use crate::itr_requests::{Kept, Waiting};
+use crate::recent_requests::{Recent, RecentRequests};
 use ddt_cache::{Entry, Moment};
 use ddt_ecm::CONTROL_PORT;
-use ddt_loop::{Ended, RunningResolver};
+use ddt_loop::{Ended, Hearing, RunningResolver};
 use ddt_onward::send_on;
-use ddt_path::{Listed, Locator, Xeid};
-use ddt_resolver::{Beginning, Front, MOST_PENDING, Resolver};
+use ddt_path::{Listed, Locator, Prefix, Xeid};
+use ddt_resolver::{Beginning, MOST_PENDING, Resolver};
 use ddt_settings::Settings;
 use ddt_trie::PrefixMap;
 use ddt_wire::MessageType;
@@ -41,6 +47,10 @@ pub struct MapResolver<M: PrefixMap<Entry>> {
     running: RunningResolver<M>,
     waiting: Waiting,
     counts: ResolverCounts,
+    /// The requests that came lately.
+    recent: RecentRequests,
+    /// The lookups that gave up and aren't in the log yet.
+    gave_up: GiveUps,
 }
 
 /// How a lookup has ended, and by whose datagram.
@@ -64,6 +74,8 @@ impl<M: PrefixMap<Entry>> MapResolver<M> {
             running,
             waiting: Waiting::new(alloc),
             counts: ResolverCounts::default(),
+            recent: RecentRequests::new(alloc),
+            gave_up: GiveUps::new(alloc),
         })
     }
 
@@ -96,6 +108,15 @@ impl<M: PrefixMap<Entry>> MapResolver<M> {
         self.waiting.len()
     }
 
+    /// A lookup of an ITR that gave up, which is taken off; None where none has since. Of many, some are only counted.
+    pub fn take_give_up(&mut self) -> Option<GaveUp>
+        ensures running { self.new.running ≡ self.old.running }
+        ensures waiting { self.new.waiting.kept.items ≡ self.old.waiting.kept.items }
+        ensures counts { self.new.counts ≡ self.old.counts }
+    {
+        self.gave_up.take()
+    }
+
     /// The resolver.
     pub fn resolver(&self) -> &Resolver<M>
         ensures { result.now ≡ self.now.running.state }
@@ -103,10 +124,31 @@ impl<M: PrefixMap<Entry>> MapResolver<M> {
         self.running.resolver()
     }
 
+    /// Forgets what is remembered of a prefix, and says whether something was. Lookups go on.
+    pub fn forget(&mut self, prefix: Prefix) -> bool
+        ensures running { self.new.running ≡ running (forgotten self.old.running.state prefix) self.old.running.desk }
+        ensures there { result ≡ map.contains_key self.old.running.state.known.live prefix }
+        ensures waiting { self.new.waiting.kept.items ≡ self.old.waiting.kept.items }
+        ensures counts { self.new.counts ≡ self.old.counts }
+    {
+        self.running.forget(prefix)
+    }
+
+    /// The longest match that is remembered for an identifier, or the root's servers. Nothing changes but the time.
+    pub fn longest(&mut self, now: Moment, x: Xeid) -> (Prefix, Entry)
+        ensures found { IsFound (moved now self.old.running.state).known (xeid_path x) result.0 result.1 }
+        ensures time { self.new.running ≡ at_moment now self.old.running }
+        ensures waiting { self.new.waiting.kept.items ≡ self.old.waiting.kept.items }
+        ensures counts { self.new.counts ≡ self.old.counts }
+    {
+        self.running.longest(now, x)
+    }
+
     /// Polls the near wires once, and takes what came; whether something was there, or was lost.
     ///
     /// An Encapsulated Control Message is asked for only where its source is allowed, it is a request of an ITR of at most
-    /// 1,500 bytes, and the same doesn't wait already. What the cache answers is answered at once, however many wait. Else
+    /// 1,500 bytes that names none of the resolver's addresses and doesn't come back from where it was sent on, and the
+    /// same doesn't wait already. What the cache answers is answered at once, however many wait. Else
     /// it shares the lookup that another ITR waits for, or starts one: fewer than 1,024 requests may wait, fewer than 128
     /// from its address, and fewer than 256 whose lookups begin at the same referral set.
     ///
@@ -126,7 +168,7 @@ impl<M: PrefixMap<Entry>> MapResolver<M> {
         requires { length buffer.old ≡ most_bytes }
         ensures round { (calls onward : List ACall) × RecordsCalls (W.calls near.old) calls (W.calls near.new)
             × RecordsCalls (V.calls far.old) onward (V.calls far.new) × (result ≡ was_there calls)
-            × IsRound settings.now.allow me now (resolving self.old.running self.old.waiting.kept.items self.old.counts)
+            × IsRound settings.now me now (resolving self.old.running self.old.waiting.kept.items self.old.counts)
             calls onward (resolving self.new.running self.new.waiting.kept.items self.new.counts) }
         ensures room { length buffer.new ≡ most_bytes }
     {
@@ -155,7 +197,7 @@ impl<M: PrefixMap<Entry>> MapResolver<M> {
     )
         ensures { (calls onward : List ACall) × RecordsCalls (W.calls near.old) calls (W.calls near.new)
             × RecordsCalls (V.calls far.old) onward (V.calls far.new)
-            × IsHandled settings.now.allow me now packet bytes.now
+            × IsHandled settings.now me now packet bytes.now
             (resolving self.old.running self.old.waiting.kept.items self.old.counts)
             calls onward (resolving self.new.running self.new.waiting.kept.items self.new.counts) }
     {
@@ -178,29 +220,28 @@ impl<M: PrefixMap<Entry>> MapResolver<M> {
         from: Locator,
         bytes: &[u8],
     ) -> Result<Admitted, Dropped>
-        ensures admitted { IfOk result (λ a. IsAdmitted settings.now.allow self.old.waiting.kept.items
+        ensures admitted { IfOk result (λ a. IsAdmitted settings.now self.old.waiting.kept.items
             (at_moment now self.old.running) from bytes.now a.request) }
         ensures bytes { IfOk result (λ a. a.bytes ≡ bytes.now) }
         ensures from { IfOk result (λ a. a.from ≡ from) }
         ensures shares { IfOk result (λ a. (t : ℕ) → a.place.shares ≡ Some t
             → IsAskedBy self.old.running.desk.owners t a.request.xeid) }
         ensures moved { OnOk result (self.new.running ≡ at_moment now self.old.running) }
-        ensures room { OnOk result (length self.new.waiting.kept.items < vec_capacity self.new.waiting.kept) }
-        ensures dropped { IfErr result (IsDropped settings.now.allow self.old.waiting.kept.items
+        ensures room { OnOk result (length self.new.waiting.kept.items < deque_capacity self.new.waiting.kept) }
+        ensures dropped { IfErr result (IsDropped settings.now self.old.waiting.kept.items
             (at_moment now self.old.running) from bytes.now) }
         ensures waited { HasWaited now self.old.running self.new.running }
         ensures same { self.new.waiting.kept.items ≡ self.old.waiting.kept.items }
         ensures counts { self.new.counts ≡ self.old.counts }
     {
-        if !settings.allows(from) {
-            return Err(Dropped::Denied);
-        }
-        if bytes.len() > MOST_KEPT_BYTES {
-            return Err(Dropped::TooLong);
-        }
-        let Some(request) = Front::itr_request(bytes) else {
-            return Err(Dropped::NoRequest);
+        let request = match allowed_request(settings, from, bytes) {
+            Ok(request) => request,
+            Err(why) => return Err(why),
         };
+        let at = now.millis();
+        if self.recent.takes_back(Recent { request, from, at }) {
+            return Err(Dropped::Looped);
+        }
         if self.waiting.has(&request) {
             return Err(Dropped::Repeated);
         }
@@ -241,7 +282,7 @@ impl<M: PrefixMap<Entry>> MapResolver<M> {
         if self.waiting.is_full() {
             return Err(Dropped::Full);
         }
-        if self.waiting.of_source(from) >= MOST_OF_SOURCE {
+        if self.waiting.is_full_of_source(from) {
             return Err(Dropped::SourceFull);
         }
         if let Some(ticket) = self.running.ticket_for(x) {
@@ -250,7 +291,7 @@ impl<M: PrefixMap<Entry>> MapResolver<M> {
                 begins: None,
             });
         }
-        if self.waiting.of_set(&servers) >= MOST_OF_SET {
+        if self.waiting.is_full_of_set(&servers) {
             return Err(Dropped::SetFull);
         }
         Ok(Place {
@@ -262,7 +303,7 @@ impl<M: PrefixMap<Entry>> MapResolver<M> {
     /// A copy of a request's bytes, and room for one more that waits. Fails only if out of memory.
     fn room_for(&mut self, bytes: &[u8]) -> Result<Listed<u8>, AllocError>
         ensures bytes { IfOk result (λ copy. copy ≡ bytes.now) }
-        ensures room { OnOk result (length self.new.waiting.kept.items < vec_capacity self.new.waiting.kept) }
+        ensures room { OnOk result (length self.new.waiting.kept.items < deque_capacity self.new.waiting.kept) }
         ensures same { self.new.waiting.kept.items ≡ self.old.waiting.kept.items }
         ensures running { self.new.running ≡ self.old.running }
         ensures counts { self.new.counts ≡ self.old.counts }
@@ -274,7 +315,7 @@ impl<M: PrefixMap<Entry>> MapResolver<M> {
 
     /// Asks for a request, or has it share a lookup. It is kept where it waits.
     fn ask<W: Wires>(&mut self, near: &mut W, me: Locator, now: Moment, admitted: Admitted)
-        requires room { length self.old.waiting.kept.items < vec_capacity self.old.waiting.kept }
+        requires room { length self.old.waiting.kept.items < deque_capacity self.old.waiting.kept }
         ensures { (calls : List ACall) × RecordsCalls (W.calls near.old) calls (W.calls near.new)
             × IsAsked me now admitted (resolving self.old.running self.old.waiting.kept.items self.old.counts) calls
             (resolving self.new.running self.new.waiting.kept.items self.new.counts) }
@@ -290,7 +331,7 @@ impl<M: PrefixMap<Entry>> MapResolver<M> {
 
     /// Asks for a request. It is kept under the ticket of the lookup that starts for it, if one does.
     fn begin<W: Wires>(&mut self, near: &mut W, me: Locator, now: Moment, admitted: Admitted)
-        requires room { length self.old.waiting.kept.items < vec_capacity self.old.waiting.kept }
+        requires room { length self.old.waiting.kept.items < deque_capacity self.old.waiting.kept }
         ensures asks { (calls : List ACall) × RecordsCalls (W.calls near.old) calls (W.calls near.new)
             × AsksForItr me now admitted.request self.old.running calls self.new.running }
         ensures keeps { KeepsAsked admitted.from admitted.bytes admitted.request self.old.waiting.kept.items
@@ -305,7 +346,7 @@ impl<M: PrefixMap<Entry>> MapResolver<M> {
 
     /// A request waits for the lookup of a ticket.
     fn keep(&mut self, ticket: u64, shares: bool, admitted: Admitted)
-        requires room { length self.old.waiting.kept.items < vec_capacity self.old.waiting.kept }
+        requires room { length self.old.waiting.kept.items < deque_capacity self.old.waiting.kept }
         ensures kept { (k : AKept) × (self.new.waiting.kept.items ≡ self.old.waiting.kept.items ++ k ∷ [])
             × (k.ticket ≡ ticket) × WaitsAs shares admitted.from admitted.bytes admitted.request k }
         ensures running { self.new.running ≡ self.old.running }
@@ -377,7 +418,8 @@ impl<M: PrefixMap<Entry>> MapResolver<M> {
             (resolving self.old.running self.old.waiting.kept.items self.old.counts)
             calls onward (resolving self.new.running self.new.waiting.kept.items self.new.counts) }
     {
-        let ended = self.running.hear(near, me, now, packet, heard);
+        let Hearing { ended, ignored } = self.running.hear(near, me, now, packet, heard);
+        self.counts.hear_one(ignored);
         if let Some(ended) = ended {
             self.counts.end_one(&ended.end);
             let by = Some(packet.from);
@@ -395,6 +437,7 @@ impl<M: PrefixMap<Entry>> MapResolver<M> {
         ensures counts { self.new.counts ≡ self.old.counts }
     {
         while let Some(kept) = self.waiting.take(closing.ended.ticket) {
+            self.gave_up.note(kept.request.xeid, &closing.ended.end);
             self.tell_sharer(near, closing, &kept);
             send_kept(far, closing, kept.bytes);
         }

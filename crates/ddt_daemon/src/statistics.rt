@@ -1,5 +1,6 @@
 //! What a daemon tells of its counts: lines `name=value`.
 
+use crate::answers::AnswerCounts;
 use crate::counted::WireCounts;
 use crate::counts::{ResolverCounts, ServerCounts};
 use std::fmt;
@@ -23,11 +24,30 @@ impl fmt::Display for Times {
     }
 }
 
+/// What each daemon tells.
+#[derive(Clone, Copy, Debug, Default, PartialEq, Eq)]
+pub struct DaemonStatistics {
+    pub times: Times,
+    /// Files that were refused at a reload.
+    pub refused: u64,
+    /// Lines of the log that were lost.
+    pub unlogged: u64,
+}
+
+impl DaemonStatistics {
+    /// Writes what was refused and lost.
+    fn write_losses<W: fmt::Write>(&self, f: &mut fmt::Formatter<W>) -> fmt::Result {
+        write!(f, "num.reload.refused={}\n", self.refused)?;
+        write!(f, "num.log.lost={}\n", self.unlogged)
+    }
+}
+
 /// What a server tells.
 #[derive(Clone, Copy, Debug, Default, PartialEq, Eq)]
 pub struct ServerStatistics {
-    pub times: Times,
+    pub daemon: DaemonStatistics,
     pub counts: ServerCounts,
+    pub answers: AnswerCounts,
     pub wires: WireCounts,
     /// Addresses at which it serves.
     pub sockets: u64,
@@ -37,34 +57,53 @@ pub struct ServerStatistics {
     pub children: u64,
     /// The sites of all its authorities.
     pub sites: u64,
-    /// Configurations that were refused at a reload.
-    pub refused: u64,
-    /// Lines of the log that were lost.
-    pub unlogged: u64,
+}
+
+impl ServerStatistics {
+    /// How many Encapsulated Control Messages came that are no request of a DDT client.
+    fn no_request(&self) -> u64 {
+        self.counts
+            .received
+            .saturating_sub(self.answers.not_encapsulated)
+            .saturating_sub(self.answers.referrals())
+    }
+}
+
+impl fmt::Display for AnswerCounts {
+    fn fmt<W: fmt::Write>(&self, f: &mut fmt::Formatter<W>) -> fmt::Result {
+        write!(f, "num.answer.nodereferral={}\n", self.node_referral)?;
+        write!(f, "num.answer.msreferral={}\n", self.ms_referral)?;
+        write!(f, "num.answer.msack={}\n", self.ms_ack)?;
+        write!(f, "num.answer.notregistered={}\n", self.not_registered)?;
+        write!(f, "num.answer.hole={}\n", self.hole)?;
+        write!(f, "num.answer.notauthoritative={}\n", self.not_authoritative)?;
+        write!(f, "num.ignored.notencapsulated={}\n", self.not_encapsulated)
+    }
 }
 
 impl fmt::Display for ServerStatistics {
     fn fmt<W: fmt::Write>(&self, f: &mut fmt::Formatter<W>) -> fmt::Result {
         let forwarded = self.wires.sent.saturating_sub(self.counts.replied);
-        write!(f, "{}", self.times)?;
+        write!(f, "{}", self.daemon.times)?;
         write!(f, "num.received={}\n", self.counts.received)?;
         write!(f, "num.replied={}\n", self.counts.replied)?;
         write!(f, "num.forwarded={forwarded}\n")?;
         write!(f, "num.unreceived={}\n", self.wires.unreceived)?;
         write!(f, "num.unsent={}\n", self.wires.unsent)?;
+        write!(f, "{}", self.answers)?;
+        write!(f, "num.ignored.norequest={}\n", self.no_request())?;
         write!(f, "now.sockets={}\n", self.sockets)?;
         write!(f, "now.authorities={}\n", self.authorities)?;
         write!(f, "now.children={}\n", self.children)?;
         write!(f, "now.sites={}\n", self.sites)?;
-        write!(f, "num.reload.refused={}\n", self.refused)?;
-        write!(f, "num.log.lost={}\n", self.unlogged)
+        self.daemon.write_losses(f)
     }
 }
 
 /// What a resolver tells.
 #[derive(Clone, Copy, Debug, Default, PartialEq, Eq)]
 pub struct ResolverStatistics {
-    pub times: Times,
+    pub daemon: DaemonStatistics,
     pub counts: ResolverCounts,
     pub near: WireCounts,
     pub far: WireCounts,
@@ -78,21 +117,15 @@ pub struct ResolverStatistics {
     pub remembered: u64,
     /// Datagrams that came to a socket where their sort may not come in.
     pub strays: u64,
-    /// Requests of ITRs that were dropped since one of the resolver's own addresses is among their ITR-RLOCs.
-    pub own_address: u64,
-    /// Requests of ITRs that were dropped since they came back from another address.
-    pub looped: u64,
+    /// Map-Referrals that are the reply to no outstanding request.
+    pub unasked: u64,
     /// Servers that are silent.
     pub silent: u64,
-    /// Settings that were refused at a reload.
-    pub refused: u64,
-    /// Lines of the log that were lost.
-    pub unlogged: u64,
 }
 
 impl fmt::Display for ResolverStatistics {
     fn fmt<W: fmt::Write>(&self, f: &mut fmt::Formatter<W>) -> fmt::Result {
-        write!(f, "{}", self.times)?;
+        write!(f, "{}", self.daemon.times)?;
         write!(f, "num.received={}\n", self.near.received)?;
         write!(f, "num.sent={}\n", self.near.sent)?;
         write!(f, "num.onward={}\n", self.far.sent)?;
@@ -112,11 +145,9 @@ impl fmt::Display for ResolverStatistics {
         write!(f, "now.waiting={}\n", self.waiting)?;
         write!(f, "now.cached={}\n", self.remembered)?;
         write!(f, "num.strays={}\n", self.strays)?;
-        write!(f, "num.dropped.ownaddress={}\n", self.own_address)?;
-        write!(f, "num.dropped.looped={}\n", self.looped)?;
+        write!(f, "num.ignored.unasked={}\n", self.unasked)?;
         write!(f, "now.silent={}\n", self.silent)?;
-        write!(f, "num.reload.refused={}\n", self.refused)?;
-        write!(f, "num.log.lost={}\n", self.unlogged)
+        self.daemon.write_losses(f)
     }
 }
 
@@ -128,11 +159,19 @@ impl fmt::Display for ResolverCounts {
         write!(f, "num.dropped.denied={}\n", self.denied)?;
         write!(f, "num.dropped.toolong={}\n", self.too_long)?;
         write!(f, "num.dropped.norequest={}\n", self.no_request)?;
+        write!(f, "num.dropped.ownaddress={}\n", self.own_address)?;
+        write!(f, "num.dropped.looped={}\n", self.came_back)?;
         write!(f, "num.dropped.repeated={}\n", self.repeated)?;
         write!(f, "num.dropped.full={}\n", self.full)?;
         write!(f, "num.dropped.sourcefull={}\n", self.source_full)?;
         write!(f, "num.dropped.setfull={}\n", self.set_full)?;
         write!(f, "num.dropped.memory={}\n", self.memory)?;
+        write!(f, "num.ignored.undecodable={}\n", self.undecodable)?;
+        write!(f, "num.ignored.unknownnonce={}\n", self.unknown_nonce)?;
+        write!(f, "num.ignored.wrongsource={}\n", self.wrong_source)?;
+        write!(f, "num.ignored.late={}\n", self.late)?;
+        write!(f, "num.ignored.notcovering={}\n", self.not_covering)?;
+        write!(f, "num.ignored.noservers={}\n", self.no_servers)?;
         write!(f, "num.ended.registered={}\n", self.registered)?;
         write!(f, "num.ended.notregistered={}\n", self.not_registered)?;
         write!(f, "num.ended.hole={}\n", self.holes)?;

@@ -6,7 +6,7 @@ use ddt_daemon::MapResolver;
 use ddt_ecm::CONTROL_PORT;
 use ddt_examples::bytes_of;
 use ddt_examples::messages::{HOLE_OF_EVERYTHING, ITR_REQUEST, ROOT_REFERS_TO_TEN};
-use ddt_path::{Listed, Locator, LocatorSet};
+use ddt_path::{Listed, Locator, LocatorSet, Prefix, Xeid};
 use ddt_resolver::Resolver;
 use ddt_settings::{Settings, from_toml};
 use ddt_trie::ListMap;
@@ -39,6 +39,10 @@ const OTHER_REQUEST: &str =
 const REQUEST_ELSEWHERE: &str =
     "80000000 45 00 003c 0000 0000 40 11 f171 7f00003c 0a030001 c350 10f6 0028 0000 10000001 1122334455667789 0001 0a050001 0001 7f00003c 00 20 0001 0a030001";
 
+/// The request of the other ITR, but with an ITR-RLOC that is the resolver's own address.
+const OWN_REQUEST: &str =
+    "80000000 45 00 003c 0000 0000 40 11 f171 7f00003d 0a020001 c350 10f6 0028 0000 10000001 1122334455667789 0001 0a050001 0001 7f000035 00 20 0001 0a020001";
+
 /// The DDT Map-Request to the root for the worked request, nonce 1.
 const FIRST_QUERY: &str =
     "84000000 45 00 0038 0000 0000 40 11 f17d 7f000035 0a020001 10f6 10f6 0024 bb25 10000001 0000000000000001 0000 0001 7f000035 00 20 0001 0a020001";
@@ -55,6 +59,12 @@ const TEN: Locator = Locator::V4(0x7f00_000a);
 
 const WIDE_HOLE: &str =
     "60000001 0000000000000002 0000000f 00 00 9000 0000 4003 0000 02 00 0006 00000000 0000";
+
+/// An identifier of the worked request.
+const IN_TEN: Xeid = Xeid {
+    iid: 0,
+    address: Locator::V4(0x0a02_0001),
+};
 
 const SETTINGS: &str =
     "roots = [\"127.0.0.1\"]\nlisten = [\"127.0.0.53\"]\nallow = [\"127.0.0.60/31\"]";
@@ -253,6 +263,50 @@ fn is_denied(alloc: Global, rt: &impl Abort, world: &mut World) -> Result<(), Fa
 fn who_is_not_allowed_is_not_asked_for(rt: HostRuntime) -> Result<(), Fail> {
     let mut world = new_world(rt.alloc())?;
     is_denied(rt.alloc(), &rt, &mut world)
+}
+
+/// A request that names the resolver itself, and one that comes back from another address, are dropped.
+fn go_round(alloc: Global, rt: &impl Abort, world: &mut World) -> Result<(), Fail> {
+    world.take(alloc, OTHER_ITR, ITR_PORT, OWN_REQUEST)?;
+    world.waits(rt, 0);
+    world.take(alloc, ITR, ITR_PORT, ITR_REQUEST)?;
+    world.take(alloc, OTHER_ITR, ITR_PORT, ITR_REQUEST)?;
+    world.waits(rt, 1);
+    let counts = world.resolver.counts();
+    same(rt, &counts.own_address, &1, &"own address");
+    same(rt, &counts.came_back, &1, &"came back");
+    same(rt, &counts.repeated, &0, &"repeated");
+    Ok(())
+}
+
+#[test]
+fn what_would_come_back_is_dropped(rt: HostRuntime) -> Result<(), Fail> {
+    let mut world = new_world(rt.alloc())?;
+    go_round(rt.alloc(), &rt, &mut world)
+}
+
+/// What is remembered of a prefix is told, found for an identifier, and forgotten once.
+fn is_forgotten(alloc: Global, rt: &impl Abort, world: &mut World) -> Result<(), Fail> {
+    world.take(alloc, ITR, ITR_PORT, ITR_REQUEST)?;
+    world.take(alloc, SERVER, CONTROL_PORT, ROOT_REFERS_TO_TEN)?;
+    let now = Moment::at(10).ok_or("no moment")?;
+    let everything = Prefix::cut(IN_TEN, 0);
+    let rows = world.resolver.resolver().inside(everything)?;
+    same(rt, &rows.len(), &1, &"rows");
+    let (prefix, entry) = world.resolver.longest(now, IN_TEN);
+    holds(rt, rows.as_slice().first().map(|row| row.0) == Some(prefix), &"the row");
+    holds(rt, entry.servers.as_slice().contains(&TEN), &"the servers");
+    holds(rt, world.resolver.forget(prefix), &"it was there");
+    holds(rt, !world.resolver.forget(prefix), &"it is not there");
+    same(rt, &world.resolver.longest(now, IN_TEN).0, &everything, &"the root");
+    world.waits(rt, 1);
+    Ok(())
+}
+
+#[test]
+fn what_is_remembered_of_a_prefix_is_forgotten(rt: HostRuntime) -> Result<(), Fail> {
+    let mut world = new_world(rt.alloc())?;
+    is_forgotten(rt.alloc(), &rt, &mut world)
 }
 
 fn is_repeated(alloc: Global, rt: &impl Abort, world: &mut World) -> Result<(), Fail> {

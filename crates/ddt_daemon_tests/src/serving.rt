@@ -2,7 +2,7 @@
 
 use crate::comparison::same;
 use ddt_config::from_toml;
-use ddt_daemon::serve_ready;
+use ddt_daemon::{AnswerCounts, CountedAnswers, serve_ready};
 use ddt_ecm::CONTROL_PORT;
 use ddt_examples::bytes_of;
 use ddt_examples::configurations::EAST;
@@ -51,11 +51,22 @@ fn busy(alloc: Global) -> Result<WiresInMemory, Fail> {
 /// How many messages each round may take, and how many it then receives and replies to.
 const ROUNDS: &[(u32, u32, u32)] = &[(0, 0, 0), (3, 3, 2), (3, 1, 1), (3, 0, 0)];
 
+/// How the messages are answered: each request by an MS-ACK, and the one that is no message not at all.
+const ANSWERED: AnswerCounts = AnswerCounts {
+    not_encapsulated: 1,
+    node_referral: 0,
+    ms_referral: 0,
+    ms_ack: 3,
+    not_registered: 0,
+    hole: 0,
+    not_authoritative: 0,
+};
+
 /// The server takes its rounds.
 fn serves(
     alloc: Global,
     rt: &impl Abort,
-    wires: &mut WiresInMemory,
+    wires: &mut CountedAnswers<WiresInMemory>,
     server: &Server<ListMap<u32>>,
 ) {
     let mut buffer = [0; MOST_BYTES];
@@ -68,8 +79,10 @@ fn serves(
 
 #[test]
 fn a_server_takes_what_is_there_and_no_more_than_it_may(rt: HostRuntime) -> Result<(), Fail> {
-    let mut wires = busy(rt.alloc())?;
+    let mut wires = CountedAnswers::new(busy(rt.alloc())?);
     let server = east(rt.alloc(), &rt)?;
     serves(rt.alloc(), &rt, &mut wires, &server);
+    same(&rt, &wires.answers, &ANSWERED, &"answers");
+    same(&rt, &wires.answers.referrals(), &3, &"referrals");
     Ok(())
 }

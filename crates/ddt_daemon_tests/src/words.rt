@@ -1,7 +1,7 @@
 //! The words that a daemon is told.
 
 use crate::comparison::same;
-use ddt_daemon::ControlWord;
+use ddt_daemon::{ControlWord, WORDS};
 use std::test::Fail;
 
 #[test]
@@ -10,9 +10,13 @@ fn a_word_is_read_as_it_is_written(rt: HostRuntime) -> Result<(), Fail> {
         ControlWord::Stats,
         ControlWord::Reload,
         ControlWord::Flush,
+        ControlWord::Servers,
+        ControlWord::Cache,
+        ControlWord::Lookup,
         ControlWord::Stop,
     ] {
         same(&rt, &ControlWord::of(word.text()), &Some(word), &word);
+        assert!(rt; WORDS.contains(&word.text()));
     }
     for other in ["", "stat", "stats ", "STOP", "stop\n"] {
         same(&rt, &ControlWord::of(other), &None, &other);

@@ -230,6 +230,14 @@ impl<M: PrefixMap<Entry>> RunningResolver<M> {
         self.askers.ticket_for(x)
     }
 
+    /// The longest match that is remembered for an identifier, or the root's servers. Nothing changes but the time.
+    pub fn longest(&mut self, now: Moment, x: Xeid) -> (Prefix, Entry)
+        ensures found { IsFound (moved now self.old.state).known (xeid_path x) result.0 result.1 }
+        ensures time { self.new ≡ running (moved now self.old.state) self.old.desk }
+    {
+        self.resolver.longest(now, x)
+    }
+
     /// What an ask for an identifier would begin with. Nothing changes but the time.
     pub fn beginning(&mut self, now: Moment, x: Xeid) -> Beginning
         ensures begins { (p : _) × (e : _) × IsFound (moved now self.old.state).known (xeid_path x) p e

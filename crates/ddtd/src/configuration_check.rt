@@ -6,11 +6,14 @@ use crate::loading::{
 };
 use crate::printable::printable;
 use crate::source::{MOST_CONFIGURATION, MOST_SETTINGS, Why, read, too_large, with_path};
+use crate::warnings::warnings_of;
+use ddt_settings::Settings;
 use std::alloc::{AllocError, Global};
 use toml::Table;
 
 /// Says whether the file is good: as settings where it has a key `roots` or `listen`, else as a configuration. Of a good
-/// configuration it says what it holds, and before it which keys nothing reads.
+/// configuration it says what it holds, and before it which keys nothing reads; of good settings, before it, which
+/// addresses may ask that mustn't.
 pub fn check(rt: &HostRuntime, path: &str) -> End {
     match lines_of(rt, path) {
         Ok(lines) => print(rt, &lines),
@@ -34,8 +37,7 @@ fn lines_in(alloc: Global, path: &str, bytes: &[u8]) -> Result<Vec<String>, Why>
         if bytes.len() as u64 > MOST_SETTINGS {
             return Err(too_large(alloc, MOST_SETTINGS));
         }
-        let _settings = settings_in(alloc, text, &table)?;
-        settings_lines(alloc, path)
+        settings_lines(alloc, path, &settings_in(alloc, text, &table)?)
     } else {
         configuration_lines(alloc, path, &configuration_in(alloc, text, table)?)
     };
@@ -50,8 +52,15 @@ fn are_settings(table: &Table) -> bool {
     table.get("roots").is_some() || table.get("listen").is_some()
 }
 
-fn settings_lines(alloc: Global, path: &str) -> Result<Vec<String>, AllocError> {
+fn settings_lines(
+    alloc: Global,
+    path: &str,
+    settings: &Settings,
+) -> Result<Vec<String>, AllocError> {
     let mut lines = Vec::new(alloc);
+    for warning in &warnings_of(alloc, settings)? {
+        lines.push(format!(in alloc; "{path}: {warning}")?)?;
+    }
     lines.push(format!(in alloc; "{path}: good")?)?;
     Ok(lines)
 }

@@ -9,11 +9,14 @@ use std::os::unix::fs::FileTypeExt;
 use std::os::unix::net::{UnixListener, UnixStream};
 use std::{fs, io, str};
 
+/// What is said on a line: a word, and what follows its first space.
+type Line<'a> = (&'a str, &'a str);
+
 /// How many may be there at once. Where one more comes, who has been there longest is let go.
 const MOST_CLIENTS: usize = 8;
 
-/// A line has at most so many bytes.
-const MOST_LINE: usize = 16;
+/// A line has at most so many bytes, its end among them.
+const MOST_LINE: usize = 160;
 
 /// Somebody who has come, and what was said so far.
 #[derive(Drop)]
@@ -59,12 +62,11 @@ impl Client {
         }
     }
 
-    /// The word of the line.
-    fn word(&self) -> Option<ControlWord> {
-        let end = self.line[..self.len.min(MOST_LINE)]
-            .iter()
-            .position(|b| *b == b'\n')?;
-        ControlWord::of(str::from_utf8(&self.line[..end]).ok()?)
+    /// The line, without its end; None where it is no text.
+    fn line(&self) -> Option<&str> {
+        let said = &self.line[..self.len.min(MOST_LINE)];
+        let end = said.iter().position(|b| *b == b'\n')?;
+        str::from_utf8(&self.line[..end.min(MOST_LINE)]).ok()
     }
 }
 
@@ -73,13 +75,32 @@ impl Client {
 pub struct Told {
     stream: UnixStream,
     pub word: Option<ControlWord>,
+    /// What follows the word: a prefix or an identifier, or nothing.
+    pub argument: String,
 }
 
-impl Told {
-    /// Gives the answer. One that there is no room or no memory for is lost.
-    pub fn answer(&mut self, text: Result<String, AllocError>) {
-        if let Ok(text) = text {
-            let _written = self.stream.write_all(text.as_bytes());
+/// What is left of an answer that there was no room for.
+#[derive(Drop)]
+struct Owed {
+    stream: UnixStream,
+    answer: String,
+    /// How many of its bytes were written.
+    written: usize,
+}
+
+impl Owed {
+    /// Writes as much as there is room for; whether something is left.
+    fn write(&mut self) -> bool {
+        let Some(rest) = self.answer.as_bytes().get(self.written..) else {
+            return false;
+        };
+        match self.stream.write(rest) {
+            Ok(0) => false,
+            Ok(count) => {
+                self.written = self.written.saturating_add(count);
+                self.written < self.answer.len()
+            }
+            Err(error) => error.kind() == ErrorKind::WouldBlock,
         }
     }
 }
@@ -87,10 +108,12 @@ impl Told {
 /// The control socket, or none.
 #[derive(Drop)]
 pub struct Control {
+    alloc: Global,
     listener: Option<UnixListener>,
     /// The socket's file.
     file: Option<FileIdentity>,
     clients: Vec<Client>,
+    owed: Vec<Owed>,
     /// The second in which the system last let nobody in.
     refused_in: Option<u64>,
 }
@@ -110,9 +133,11 @@ impl Control {
 
     fn listening(rt: &HostRuntime, path: Option<&str>) -> io::Result<Control> {
         let mut control = Control {
+            alloc: rt.alloc(),
             listener: None,
             file: None,
             clients: Vec::new(rt.alloc()),
+            owed: Vec::new(rt.alloc()),
             refused_in: None,
         };
         if let Some(path) = path {
@@ -135,12 +160,13 @@ impl Control {
         }
     }
 
-    /// Has all that may come there waited for: first those who are there, then who comes. In a second in which the
-    /// system lets nobody in, nobody who comes is waited for.
+    /// Has all that may come there waited for: those who are there, those who are owed the rest of an answer, and who
+    /// comes. In a second in which the system lets nobody in, nobody who comes is waited for.
     pub fn add_to(&self, poll: &mut Poll, second: u64) {
         for client in self.clients.as_slice() {
             poll.add(&client.stream);
         }
+        self.add_owed_to(poll);
         if let Some(listener) = &self.listener
             && self.refused_in != Some(second)
         {
@@ -148,18 +174,51 @@ impl Control {
         }
     }
 
-    /// Takes what came at the places from `first` on: the first who has said a line.
+    fn add_owed_to(&self, poll: &mut Poll) {
+        for owed in self.owed.as_slice() {
+            poll.add_writer(&owed.stream);
+        }
+    }
+
+    /// Takes what came at the places from `first` on: the first who has said a line. Goes on with the answers that are
+    /// owed.
     pub fn take(&mut self, poll: &Poll, first: usize, second: u64) -> Option<Told> {
         let clients = self.clients.len();
+        let comer = first
+            .saturating_add(clients)
+            .saturating_add(self.owed.len());
+        if !self.owed.is_empty() {
+            self.owed.retain_mut(|owed| owed.write());
+        }
         for place in 0..clients {
             if poll.is_ready(first.saturating_add(place)) {
                 return self.read(place);
             }
         }
-        if poll.is_ready(first.saturating_add(clients)) {
+        if poll.is_ready(comer) {
             self.accept(second);
         }
         None
+    }
+
+    /// Gives an answer, at once as far as there is room. One that there is no memory for is lost; where too many are
+    /// owed, the first is.
+    pub fn answer(&mut self, told: Told, answer: Result<String, AllocError>) {
+        let Ok(answer) = answer else {
+            return;
+        };
+        let mut owed = Owed {
+            stream: told.stream,
+            answer,
+            written: 0,
+        };
+        if !owed.write() {
+            return;
+        }
+        if self.owed.len() >= MOST_CLIENTS {
+            let _first = self.owed.remove(0);
+        }
+        let _owed = self.owed.push(owed);
     }
 
     /// Reads what the client at a place says.
@@ -175,11 +234,7 @@ impl Control {
             }
             Said::Line => {
                 let client = self.clients.remove(place);
-                let word = client.word();
-                Some(Told {
-                    stream: client.stream,
-                    word,
-                })
+                told_by(self.alloc, client)
             }
         }
     }
@@ -233,4 +288,21 @@ fn listen_again(rt: &HostRuntime, path: &str) -> io::Result<UnixListener> {
     }
     fs::remove_file(rt, path)?;
     UnixListener::bind(rt, path)
+}
+
+/// What a client has said on a line. One for whom there is no memory is let go.
+fn told_by(alloc: Global, client: Client) -> Option<Told> {
+    let (word, argument) = parts(client.line().unwrap_or(""));
+    let word = ControlWord::of(word);
+    let argument = String::from_str(alloc, argument).ok()?;
+    Some(Told {
+        stream: client.stream,
+        word,
+        argument,
+    })
+}
+
+/// A line's word, and what follows its first space.
+fn parts(line: &str) -> Line<'_> {
+    line.split_once(' ').unwrap_or((line, ""))
 }

@@ -1,9 +1,10 @@
-//! `ddtd tell SOCKET WORD`: tells a running daemon what to do.
+//! `ddtd tell SOCKET WORD [ARGUMENT]`: tells a running daemon what to do.
 
 use crate::end::End;
 use crate::log::{Log, Priority};
 use crate::printable::printable_lines;
-use ddt_daemon::ControlWord;
+use crate::statistics_form::{Form, formed};
+use crate::words::TellAsked;
 use std::io::{Read, Write};
 use std::os::unix::net::UnixStream;
 use std::time::Duration;
@@ -13,10 +14,11 @@ use std::{io, str};
 const PATIENCE: u64 = 60;
 
 /// Tells a daemon a word, and prints what it answers.
-pub fn tell(rt: &HostRuntime, socket: &str, word: ControlWord, log: &mut Log) -> End {
-    match ask(rt, socket, word) {
-        Ok(answer) => print_answer(rt, &answer),
+pub fn tell(rt: &HostRuntime, asked: &TellAsked<'_>, log: &mut Log) -> End {
+    match ask(rt, asked) {
+        Ok(answer) => print_answer(rt, &answer, asked.form),
         Err(error) => {
+            let socket = asked.socket;
             log.say(
                 rt,
                 Priority::Error,
@@ -28,29 +30,35 @@ pub fn tell(rt: &HostRuntime, socket: &str, word: ControlWord, log: &mut Log) ->
 }
 
 /// What the daemon answers.
-fn ask(rt: &HostRuntime, socket: &str, word: ControlWord) -> io::Result<Vec<u8>> {
-    let mut stream = UnixStream::connect(rt, socket)?;
+fn ask(rt: &HostRuntime, asked: &TellAsked<'_>) -> io::Result<Vec<u8>> {
+    let mut stream = UnixStream::connect(rt, asked.socket)?;
     stream.set_read_timeout(Some(Duration::from_secs(PATIENCE)))?;
-    stream.write_all(word.text().as_bytes())?;
+    stream.write_all(asked.word.text().as_bytes())?;
+    if let Some(argument) = asked.argument {
+        stream.write_all(b" ")?;
+        stream.write_all(argument.as_bytes())?;
+    }
     stream.write_all(b"\n")?;
     let mut answer = Vec::new(rt.alloc());
     stream.read_to_end(&mut answer)?;
     Ok(answer)
 }
 
-/// Prints an answer, its control characters escaped. One that begins with `refused` is a refusal, and so is none at all
-/// or one that is no text.
-fn print_answer(rt: &HostRuntime, answer: &[u8]) -> End {
+/// Prints an answer, its control characters escaped. One that begins with `refused` is a refusal, and so is one that is
+/// no text.
+fn print_answer(rt: &HostRuntime, answer: &[u8], form: Form) -> End {
     let Ok(text) = str::from_utf8(answer) else {
         return End::Refused;
     };
     let Ok(text) = printable_lines(rt.alloc(), text) else {
         return End::Refused;
     };
-    if rt.stdout().write_all(text.as_bytes()).is_err() || answer.is_empty() {
+    let is_refused = text.starts_with("refused");
+    let form = if is_refused { Form::Lines } else { form };
+    let Ok(text) = formed(rt.alloc(), &text, form) else {
         return End::Refused;
-    }
-    if answer.starts_with(b"refused") {
+    };
+    if is_refused || rt.stdout().write_all(text.as_bytes()).is_err() {
         End::Refused
     } else {
         End::Answered

@@ -7,24 +7,29 @@ mod configuration;
 mod configuration_check;
 mod control;
 mod control_client;
+mod daemon;
 mod end;
 mod file_identity;
+mod give_ups;
 mod late_addresses;
 mod loading;
 mod log;
 mod map_resolver;
+mod notify;
 mod poll;
 mod printable;
 mod receive_buffer;
 mod reply_addresses;
-mod request_filter;
 mod server;
 mod servers_known;
 mod sockets;
 mod source;
 mod standard_streams;
+mod statistics_form;
+mod tables;
 mod times;
 mod unknown_keys;
+mod warnings;
 mod watch;
 mod words;
 
@@ -64,7 +69,7 @@ fn run_words(rt: &HostRuntime, log: &mut Log) -> End {
         Ok(Asked::Check { config }) => configuration_check::check(rt, config),
         Ok(Asked::Serve(asked)) => server::serve(rt, &asked, log),
         Ok(Asked::Resolve(asked)) => map_resolver::resolve(rt, &asked, log),
-        Ok(Asked::Tell { socket, word }) => control_client::tell(rt, socket, word, log),
+        Ok(Asked::Tell(asked)) => control_client::tell(rt, &asked, log),
         // Help and the version are no mistakes, if they could be printed.
         Err(error) => match error.print(rt) {
             Ok(()) if !error.use_stderr() => End::Answered,

@@ -1,6 +1,6 @@
 //! What is waited for, all at once.
 
-use libc::net::{POLLIN, poll};
+use libc::net::{POLLIN, POLLOUT, poll};
 use libc::types::pollfd;
 use std::alloc::Global;
 use std::os::fd::AsRawFd;
@@ -29,11 +29,20 @@ impl Poll {
         self.asked.len()
     }
 
-    /// Waits for this one too. It is left out if out of memory.
+    /// Waits for what this one gives too. It is left out if out of memory.
     pub fn add<F: AsRawFd>(&mut self, source: &F) {
         let _added = self.asked.push(pollfd {
             fd: source.as_raw_fd(),
             events: POLLIN,
+            revents: 0,
+        });
+    }
+
+    /// Waits until this one takes something too. It is left out if out of memory.
+    pub fn add_writer<F: AsRawFd>(&mut self, sink: &F) {
+        let _added = self.asked.push(pollfd {
+            fd: sink.as_raw_fd(),
+            events: POLLOUT,
             revents: 0,
         });
     }

@@ -5,7 +5,6 @@ ghost use Rattle.std.specs.Prelude.{◌≤◌, length, IfOk, IfSome};
 use crate::poll::Poll;
 use crate::receive_buffer;
 use crate::reply_addresses::ReplyAddresses;
-use crate::request_filter::RequestFilter;
 use ddt_ecm::CONTROL_PORT;
 use ddt_path::Locator;
 use ddt_wire::MessageType;
@@ -218,10 +217,6 @@ pub struct ResolverWires {
     listens_first: bool,
     /// Where replies go whose own address can't be reached.
     reply_addresses: ReplyAddresses,
-    /// Which requests are let in.
-    pub filter: RequestFilter,
-    /// Its own addresses.
-    own: Vec<Locator>,
     /// How many datagrams were dropped since they weren't of the sort that may come in there.
     pub strays: u64,
 }
@@ -234,18 +229,8 @@ impl ResolverWires {
             asking: Sockets::new(alloc, 0),
             listens_first: false,
             reply_addresses: ReplyAddresses::new(alloc),
-            filter: RequestFilter::new(alloc),
-            own: Vec::new(alloc),
             strays: 0,
         }
-    }
-}
-
-impl ResolverWires {
-    /// Notes the resolver's own addresses. If out of memory, some are left out.
-    pub fn note_own(&mut self, addresses: &[Locator]) {
-        self.own.clear();
-        let _noted = self.own.extend_from_slice(addresses);
     }
 
     /// A datagram that is at one of the sockets where it listens, or where it asks.
@@ -263,13 +248,6 @@ impl ResolverWires {
                     self.strays = self.strays.saturating_add(1);
                     Err(NetFault::Receive)
                 }
-            Ok(Some(packet))
-                if listens
-                    && !self
-                        .filter
-                        .lets_in(packet.from, &buffer[..packet.len], self.own.as_slice()) => {
-                Err(NetFault::Receive)
-            }
             Ok(Some(packet)) if listens && !self.listening.has_both_families() => {
                 self.reply_addresses
                     .note(packet.from, &buffer[..packet.len]);

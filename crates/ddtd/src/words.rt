@@ -1,7 +1,8 @@
 //! What the program is asked, and the words that ask it.
 
+use crate::statistics_form::Form;
 use clap::{Arg, ArgAction, ArgMatches, Command, Error};
-use ddt_daemon::ControlWord;
+use ddt_daemon::{ControlWord, WORDS};
 use std::alloc::{AllocError, Global};
 
 /// What `serve` is asked.
@@ -26,17 +27,29 @@ pub struct ResolveAsked<'a> {
     pub control: Option<&'a str>,
 }
 
+/// What `tell` is asked.
+#[derive(Clone, Copy, Debug)]
+pub struct TellAsked<'a> {
+    /// The path of the daemon's control socket.
+    pub socket: &'a str,
+    pub word: ControlWord,
+    /// What follows the word.
+    pub argument: Option<&'a str>,
+    /// The form in which counts are printed.
+    pub form: Form,
+}
+
 /// A command, and what it is asked.
 #[derive(Debug, Drop)]
 pub enum Asked<'a> {
     Check { config: &'a str },
     Serve(ServeAsked<'a>),
     Resolve(ResolveAsked<'a>),
-    Tell { socket: &'a str, word: ControlWord },
+    Tell(TellAsked<'a>),
 }
 
-/// The words that a daemon is told.
-const WORDS: [&str; 4] = ["stats", "reload", "flush", "stop"];
+/// The forms of counts.
+const FORMS: [&str; 3] = ["lines", "json", "prometheus"];
 
 const HELP: &str = "ddtd(8) says what each command reads, logs and counts.";
 
@@ -45,6 +58,17 @@ const SERVE_HELP: &str = "Examples:
   ddtd serve node.toml 192.0.2.3 --control /run/ddtd/serve.sock
 
 Status: 0 if it was told to stop, 2 if it refuses.";
+
+const TELL_HELP: &str = "The words:
+  stats             print what it has counted
+  reload            take up its file anew
+  servers           print what is known of each server
+  cache [PREFIX]    print what is remembered of referrals, of all or inside a prefix
+  lookup XEID       print what is remembered for an identifier
+  flush [PREFIX]    forget what is remembered, of all or inside a prefix
+  stop              end
+
+Status: 0 if it did so, 2 if it refuses or doesn't answer.";
 
 const RESOLVE_HELP: &str = "The settings:
   roots = [\"192.0.2.3\", \"2001:db8::3\"]          the root's servers, 1 to 8
@@ -63,10 +87,7 @@ pub fn read_asked<'a>(alloc: Global, words: &'a [String]) -> Result<Asked<'a>, E
             settings: matches.get_str("settings").unwrap_or(""),
             control: matches.get_str("control"),
         })),
-        Some(("tell", matches)) => Ok(Asked::Tell {
-            socket: matches.get_str("socket").unwrap_or(""),
-            word: word_asked(&matches),
-        }),
+        Some(("tell", matches)) => Ok(Asked::Tell(tell_asked(&matches))),
         Some((_, matches)) => Ok(Asked::Check {
             config: matches.get_str("config").unwrap_or(""),
         }),
@@ -88,9 +109,14 @@ fn serve_asked<'a>(alloc: Global, matches: &ArgMatches<'a>) -> Result<ServeAsked
     })
 }
 
-fn word_asked(matches: &ArgMatches<'_>) -> ControlWord {
+fn tell_asked<'a>(matches: &ArgMatches<'a>) -> TellAsked<'a> {
     let word = matches.get_str("word").unwrap_or("");
-    ControlWord::of(word).unwrap_or(ControlWord::Stats)
+    TellAsked {
+        socket: matches.get_str("socket").unwrap_or(""),
+        word: ControlWord::of(word).unwrap_or(ControlWord::Stats),
+        argument: matches.get_str("argument"),
+        form: Form::of(matches.get_str("format").unwrap_or("")),
+    }
 }
 
 /// The program's command line.
@@ -141,6 +167,7 @@ fn resolve_command<'a>(alloc: Global) -> Result<Command<'a>, AllocError> {
 
 fn tell_command<'a>(alloc: Global) -> Result<Command<'a>, AllocError> {
     Command::new(alloc, "tell")
+        .after_help(TELL_HELP)
         .about("Tell a running daemon what to do, and print what it answers.")
         .arg(path(alloc, "socket").help("The daemon's control socket"))?
         .arg(
@@ -149,6 +176,19 @@ fn tell_command<'a>(alloc: Global) -> Result<Command<'a>, AllocError> {
                 .action(ArgAction::Set)
                 .value_parser(WORDS.as_slice())
                 .help("What it is to do"),
+        )?
+        .arg(
+            Arg::new(alloc, "argument")
+                .action(ArgAction::Set)
+                .help("A prefix or an identifier, where the word takes one"),
+        )?
+        .arg(
+            Arg::new(alloc, "format")
+                .long("format")
+                .value_name("FORM")
+                .action(ArgAction::Set)
+                .value_parser(FORMS.as_slice())
+                .help("Print counts in this form"),
         )
 }
 

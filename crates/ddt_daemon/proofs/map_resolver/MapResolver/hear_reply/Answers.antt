@@ -18,7 +18,10 @@ returns-in-Some g c =
         tells = k.0;
         follows = k.4;
         calls_are = refl;
-        counts = rw (c.close.ensures.counts, c.end_one.ensures) refl;
+        ignored = c.hear-ended.result.ignored;
+        is_ignored = c.hear-ended.ensures.ignored;
+        is_used = c.hear-ended.ensures.used;
+        counts = rw (c.close.ensures.counts, c.end_one.ensures, c.hear_one.ensures) refl;
       },
     )
 
@@ -37,6 +40,9 @@ returns-in_default g c =
         tells = [];
         follows = (refl, refl, refl);
         calls_are = sym (append-nil w.0);
-        counts = refl;
+        ignored = c.hear-ended.result.ignored;
+        is_ignored = c.hear-ended.ensures.ignored;
+        is_used = c.hear-ended.ensures.used;
+        counts = c.hear_one.ensures;
       },
     )

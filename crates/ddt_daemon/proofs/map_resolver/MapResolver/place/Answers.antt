@@ -8,18 +8,18 @@ returns-then-is_full-clause-refused g c = (
   c.is_full.ensures.full c.if-is_full.true,
 )
 
-pub returns-then-of_source-ge-MOST_OF_SOURCE-clause-refused : goal.returns-then-of_source-ge-MOST_OF_SOURCE-clause-refused
-returns-then-of_source-ge-MOST_OF_SOURCE-clause-refused g c = (
+pub returns-then-is_full_of_source-clause-refused : goal.returns-then-is_full_of_source-clause-refused
+returns-then-is_full_of_source-clause-refused g c = (
   unanswered (moved c.args.now c.args.self.now.running.state) c.args.x c.beginning.ensures.begins.0 c.beginning.ensures.begins.1 c.in-Servers.servers c.beginning.ensures.begins.2 (rw c.in-Servers.is at c.beginning.ensures.begins.3),
-  rw (← c.of_source.ensures) c.if-of_source-ge-MOST_OF_SOURCE.true,
+  c.is_full_of_source.ensures.full c.if-is_full_of_source.true,
 )
 
-pub returns-then-of_set-ge-MOST_OF_SET-clause-refused : goal.returns-then-of_set-ge-MOST_OF_SET-clause-refused
-returns-then-of_set-ge-MOST_OF_SET-clause-refused g c = (
+pub returns-then-is_full_of_set-clause-refused : goal.returns-then-is_full_of_set-clause-refused
+returns-then-is_full_of_set-clause-refused g c = (
   unanswered (moved c.args.now c.args.self.now.running.state) c.args.x c.beginning.ensures.begins.0 c.beginning.ensures.begins.1 c.in-Servers.servers c.beginning.ensures.begins.2 (rw c.in-Servers.is at c.beginning.ensures.begins.3),
   (
     c.in-Servers.servers,
     begins_at_its (moved c.args.now c.args.self.now.running.state) c.args.x c.beginning.ensures.begins.0 c.beginning.ensures.begins.1 c.in-Servers.servers c.beginning.ensures.begins.2 (rw c.in-Servers.is at c.beginning.ensures.begins.3),
-    rw (← c.of_set.ensures) c.if-of_set-ge-MOST_OF_SET.true,
+    c.is_full_of_set.ensures.full c.if-is_full_of_set.true,
   ),
 )

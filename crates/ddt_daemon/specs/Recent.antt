@@ -1,0 +1,15 @@
+-- Requests that came lately.
+use Rattle.std.specs.Prelude.{ℕ, ◌-◌, ◌==◌, ◌&&◌, Bool, not, nat_lt}
+use Rattle.ddt_path.specs.Locators.{is_same_locator}
+use Rattle.ddt_daemon.specs.declared.recent_requests.Recent.{Recent}
+use Rattle.ddt_daemon.specs.Kept.{is_same_request}
+
+-- for so many milliseconds a request is remembered
+abbrev pub memory : ℕ
+memory = 4000
+
+-- whether a request comes back: the same came before, less than 4,000 milliseconds ago, from another address
+abbrev pub comes_back : Recent → Recent → Bool
+comes_back before now =
+    (is_same_request before.request now.request && nat_lt (now.at - before.at) memory)
+    && not (is_same_locator before.from now.from)

@@ -10,7 +10,7 @@
  *        instance that no item has, where WINDOW ends in a plus sign: all of it has to be a hole.
  * dns    queries at port 53 for the addresses of random names of ITEMS, a name a line
  * once   each item is asked for once, in order, and not at random
- * again  a request without an answer is sent again each second, as it was, ten times at most (RFC 9301, section 5.3)
+ * again  a request without an answer is sent again each second, as it was, ten times at most
  *
  * At most WINDOW requests are outstanding. One without an answer for 8 seconds is lost; with `again`, one without an
  * answer a second after it was sent for the last time. Each minute, and at the end, a line says how many were asked,

@@ -14,7 +14,7 @@ use crate::dropped::{drop_ended, drop_entry};
 use crate::ends::Ends;
 use crate::entry::{Entry, Saved};
 use crate::inside::rows_inside;
-use crate::longest_live::{Held, drop_ended_over};
+use crate::longest_live::{Held, drop_ended_over, longest_live_over};
 use crate::moment::Moment;
 use crate::saved_records::save_among;
 use ddt_path::{Action, LocatorSet, Prefix, ReferralRecord, Xeid};
@@ -172,8 +172,12 @@ impl<M: PrefixMap<Entry>> Cache<M> {
         ensures moved { self.new ≡ moved now self.old }
         ensures found { IsFound self.new (xeid_path x) result.0 result.1 }
     {
-        let (length, entry) = self.longest_live(now, x);
-        (Prefix::cut(x, length), *entry)
+        self.advance(now);
+        let entries = &mut self.held.entries;
+        if let Some(found) = longest_live_over(entries, &mut self.ends, self.time, x) {
+            return found;
+        }
+        (Prefix::cut(x, 0), self.held.root)
     }
 
     /// The same as `find`, but of the prefix its length. The cache is moved when the entry is given back: `after`.

@@ -73,3 +73,39 @@ pub(crate) fn drop_ended_over<M: PrefixMap<Entry>>(
         drop_entry(entries, ends, prefix);
     }
 }
+
+/// Removes entries that have ended until the longest that covers the identifier is live, and answers a copy of that one;
+/// None where none covers it.
+pub(crate) fn longest_live_over<M: PrefixMap<Entry>>(
+    entries: &mut M,
+    ends: &mut Ends,
+    time: u64,
+    x: Xeid,
+) -> Option<(Prefix, Entry)>
+    requires noted { AreNoted ends.old (M.content entries.old) }
+    ensures noted { AreNoted ends.new (M.content entries.new) }
+    ensures live { live_at time (M.content entries.new) ≡ live_at time (M.content entries.old) }
+    ensures fewer { map.len (M.content entries.new) ≤ map.len (M.content entries.old) }
+    ensures longest { IfSome result (λ found. IsLongest (M.content entries.new) (xeid_path x) found.0 found.1) }
+    ensures unended { IfSome result (λ found. time < found.1.end) }
+    ensures none { IfNone result (IsCovered (M.content entries.new) (xeid_path x) → ⊥) }
+{
+    while let Some(found) = longest_over(entries, x) {
+        if time < found.1.end {
+            return Some(found);
+        }
+        drop_entry(entries, ends, found.0);
+    }
+    None
+}
+
+/// The longest prefix that covers the identifier, with a copy of its entry, whether it has ended or not.
+fn longest_over<M: PrefixMap<Entry>>(entries: &M, x: Xeid) -> Option<(Prefix, Entry)>
+    ensures longest { IfSome result (λ found. IsLongest (M.content entries.now) (xeid_path x) found.0 found.1) }
+    ensures none { IfNone result (IsCovered (M.content entries.now) (xeid_path x) → ⊥) }
+{
+    match entries.longest(x) {
+        Some((prefix, entry)) => Some((prefix, *entry)),
+        None => None,
+    }
+}

@@ -134,6 +134,9 @@ pub fn read_request(bytes: &[u8]) -> Result<Request<'_>, RequestFault>
     message(bytes)
 }
 
+/// The headers of an Encapsulated Control Message, over IPv6, have as many bytes.
+const MOST_HEADERS: usize = 52;
+
 /// The one spelling of an Encapsulated Map-Request for the identifier with this nonce, these ITR-RLOCs, 1 to 32 of
 /// them, and with the bit D or without. The inner packet has the identifier's family and goes to its address. Its
 /// source is the address of the first ITR-RLOC, or all zeros where the two families differ. Both of its ports are 4342.
@@ -153,7 +156,8 @@ pub fn write_request(
     ensures again { IfOk result (λ bytes. message_in bytes.items ≡ Ok (message_of nonce x rlocs.now ddt)) }
 {
     let message = map_request(alloc, nonce, x, rlocs)?;
-    let mut bytes = Vec::from_slice(alloc, &ecm_header(ddt))?;
+    let mut bytes = Vec::with_capacity(alloc, MOST_HEADERS + message.len())?;
+    bytes.extend_from_slice(&ecm_header(ddt))?;
     put_packet(&mut bytes, x.address, rlocs, message.as_slice())?;
     Ok(bytes)
 }

@@ -10,10 +10,10 @@ put_packet-requires c = subst (λ (m : List ℕ). length m ≤ 1000) (sym (c.as_
 
 pub returns-clause-spelled : goal.returns-clause-spelled
 returns-clause-spelled c =
-    let written = rw (c.in_ok-bytes.ensures.items, c.ecm_header.ensures, c.as_slice.ensures.value, c.in_ok-message.ensures.written) at c.in_ok-put_packet.ensures in
+    let written = rw (c.in_ok-extend_from_slice.ensures.items, c.in_ok-bytes.ensures.items, c.ecm_header.ensures, c.as_slice.ensures.value, c.in_ok-message.ensures.written) at c.in_ok-put_packet.ensures in
     subst (λ (text : List ℕ). Spells text (message_of c.args.nonce c.args.x c.args.rlocs.now c.args.ddt)) (sym written) (written_spells c.args.nonce c.args.x c.args.rlocs.now c.args.ddt c.in_ok-message.ensures.fits)
 
 pub returns-clause-again : goal.returns-clause-again
 returns-clause-again c =
-    let written = rw (c.in_ok-bytes.ensures.items, c.ecm_header.ensures, c.as_slice.ensures.value, c.in_ok-message.ensures.written) at c.in_ok-put_packet.ensures in
+    let written = rw (c.in_ok-extend_from_slice.ensures.items, c.in_ok-bytes.ensures.items, c.ecm_header.ensures, c.as_slice.ensures.value, c.in_ok-message.ensures.written) at c.in_ok-put_packet.ensures in
     subst (λ (text : List ℕ). message_in text ≡ Ok (message_of c.args.nonce c.args.x c.args.rlocs.now c.args.ddt)) (sym written) (written_is_read c.args.nonce c.args.x c.args.rlocs.now c.args.ddt c.in_ok-message.ensures.fits)

@@ -1,11 +1,12 @@
 //! The lookups of ITRs that gave up, for the log.
 
+use crate::itr_requests::Kept;
 use ddt_path::{Outcome, Xeid};
 use ddt_resolver::Why;
 use std::alloc::Global;
 use std::collections::VecDeque;
 
-/// No more are kept for the log. All are counted.
+/// No more are kept for the log. The others are counted.
 const MOST_KEPT: usize = 64;
 
 /// A lookup of an ITR that gave up.
@@ -21,6 +22,8 @@ pub struct GaveUp {
 #[derive(Debug, Drop)]
 pub(crate) struct GiveUps {
     kept: VecDeque<GaveUp>,
+    /// How many aren't kept.
+    missed: u64,
 }
 
 impl GiveUps {
@@ -28,17 +31,32 @@ impl GiveUps {
     pub(crate) fn new(alloc: Global) -> GiveUps {
         GiveUps {
             kept: VecDeque::new(alloc),
+            missed: 0,
         }
     }
 
-    /// Notes the lookup of an identifier, if it has ended without an outcome. Where 64 are kept, or if out of memory, it
-    /// isn't kept.
-    pub(crate) fn note(&mut self, xeid: Xeid, end: &Result<Outcome, Why>) {
+    /// Notes the lookup that a request has started, if it has ended without an outcome. Where 64 are kept, or if out of
+    /// memory, it is counted.
+    pub(crate) fn note(&mut self, request: &Kept, end: &Result<Outcome, Why>) {
         if let Err(why) = end
-            && self.kept.len() < MOST_KEPT
+            && !request.shares
         {
-            let _kept: Result<_, _> = self.kept.push_back(GaveUp { xeid, why: *why });
+            let xeid = request.request.xeid;
+            self.keep(GaveUp { xeid, why: *why });
         }
+    }
+
+    fn keep(&mut self, gave_up: GaveUp) {
+        if self.kept.len() >= MOST_KEPT || self.kept.push_back(gave_up).is_err() {
+            self.missed = self.missed.saturating_add(1);
+        }
+    }
+
+    /// How many weren't kept since this was asked last.
+    pub(crate) fn take_missed(&mut self) -> u64 {
+        let missed = self.missed;
+        self.missed = 0;
+        missed
     }
 
     /// Takes off the first.

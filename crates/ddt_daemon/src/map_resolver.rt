@@ -108,13 +108,23 @@ impl<M: PrefixMap<Entry>> MapResolver<M> {
         self.waiting.len()
     }
 
-    /// A lookup of an ITR that gave up, which is taken off; None where none has since. Of many, some are only counted.
+    /// A lookup of an ITR that gave up, which is taken off; None where none has since. Of more than 64 at once, the others
+    /// are counted: `take_missed_give_ups`.
     pub fn take_give_up(&mut self) -> Option<GaveUp>
         ensures running { self.new.running ≡ self.old.running }
         ensures waiting { self.new.waiting.kept.items ≡ self.old.waiting.kept.items }
         ensures counts { self.new.counts ≡ self.old.counts }
     {
         self.gave_up.take()
+    }
+
+    /// How many lookups gave up that `take_give_up` doesn't give, since this was asked last.
+    pub fn take_missed_give_ups(&mut self) -> u64
+        ensures running { self.new.running ≡ self.old.running }
+        ensures waiting { self.new.waiting.kept.items ≡ self.old.waiting.kept.items }
+        ensures counts { self.new.counts ≡ self.old.counts }
+    {
+        self.gave_up.take_missed()
     }
 
     /// The resolver.
@@ -437,7 +447,7 @@ impl<M: PrefixMap<Entry>> MapResolver<M> {
         ensures counts { self.new.counts ≡ self.old.counts }
     {
         while let Some(kept) = self.waiting.take(closing.ended.ticket) {
-            self.gave_up.note(kept.request.xeid, &closing.ended.end);
+            self.gave_up.note(&kept, &closing.ended.end);
             self.tell_sharer(near, closing, &kept);
             send_kept(far, closing, kept.bytes);
         }

@@ -461,9 +461,10 @@ seen() {
     expect 'seen: the servers' '192.0.2.3 192.0.2.4 192.0.2.5 192.0.2.7' \
         "$(tell resolver servers | awk '$2 == "answers" { print $1 }' | sort | paste -sd ' ')"
     expect 'seen: a site' '[0]10.1.0.0/28 MS-ACK 192.0.2.5 192.0.2.6' "$(remembered '[0]10.1.0.5')"
-    expect 'seen: what the cache has' "$(counted resolver now.cached)" "$(tell resolver cache | wc -l)"
-    expect 'seen: what it has of a region' "$(tell resolver cache '[0]10.1.0.0/16' | wc -l)" \
-        "$(tell resolver cache | grep -c '^\[0\]10\.1\.')"
+    expect 'seen: how many servers' servers=4 "$(tell resolver servers | tail -n 1)"
+    expect 'seen: what the cache has' "entries=$(counted resolver now.cached)" "$(tell resolver cache | tail -n 1)"
+    expect 'seen: what it has of a region' "entries=$(tell resolver cache | grep -c '^\[0\]10\.1\.')" \
+        "$(tell resolver cache '[0]10.1.0.0/16' | tail -n 1)"
     see_counts
     see_flush
     see_give_up
@@ -489,13 +490,15 @@ see_counts() {
 # One region is forgotten, and no other.
 see_flush() {
     local held
-    held=$(tell resolver cache '[0]10.1.0.0/16' | wc -l)
+    held=$(tell resolver cache '[0]10.1.0.0/16' | sed -n 's/^entries=//p')
     expect 'seen: a region is forgotten' "flushed $held" "$(tell resolver flush '[0]10.1.0.0/16')"
     expect 'seen: nothing is left of it' '[0]10.0.0.0/8 NODE-REFERRAL 192.0.2.4' "$(remembered '[0]10.1.0.5')"
     expect 'seen: another is' '[0]10.2.0.0/28 MS-ACK 192.0.2.7' "$(remembered '[0]10.2.0.5')"
     expect 'seen: no prefix' 'refused: 10.1 is no prefix' "$(tell resolver flush 10.1)"
     expect 'seen: no identifier' 'refused: 10.1 is no identifier' "$(tell resolver lookup 10.1)"
-    expect 'seen: a server has no cache' 'refused: a server has no cache' "$(tell west cache)"
+    expect 'seen: a server' 'refused: only a resolver knows servers and has a cache' "$(tell west servers)"
+    expect 'seen: a word that takes nothing' 'refused: the word takes nothing after it' "$(tell resolver stop now)"
+    expect 'seen: status of a refusal' 2 "$(tell resolver flush 10.1 >/dev/null; echo $?)"
 }
 
 # A lookup that gives up is in the log with its zone and its servers.

@@ -2,6 +2,7 @@
 
 use crate::file_identity::FileIdentity;
 use crate::poll::Poll;
+use crate::times::rest;
 use ddt_daemon::ControlWord;
 use std::alloc::{AllocError, Global};
 use std::io::{ErrorKind, Read, Write};
@@ -9,11 +10,11 @@ use std::os::unix::fs::FileTypeExt;
 use std::os::unix::net::{UnixListener, UnixStream};
 use std::{fs, io, str};
 
-/// What is said on a line: a word, and what follows its first space.
-type Line<'a> = (&'a str, &'a str);
-
 /// How many may be there at once. Where one more comes, who has been there longest is let go.
 const MOST_CLIENTS: usize = 8;
+
+/// So often it is tried to write what is left, 10 milliseconds apart, before the daemon ends.
+const MOST_TRIES: u32 = 100;
 
 /// A line has at most so many bytes, its end among them.
 const MOST_LINE: usize = 160;
@@ -201,6 +202,17 @@ impl Control {
         None
     }
 
+    /// Writes for a second at most what is left of the answers.
+    pub fn finish(&mut self, rt: &HostRuntime) {
+        for _try in 0..MOST_TRIES {
+            if self.owed.is_empty() {
+                return;
+            }
+            rest(rt);
+            self.owed.retain_mut(|owed| owed.write());
+        }
+    }
+
     /// Gives an answer, at once as far as there is room. One that there is no memory for is lost; where too many are
     /// owed, the first is.
     pub fn answer(&mut self, told: Told, answer: Result<String, AllocError>) {
@@ -290,9 +302,16 @@ fn listen_again(rt: &HostRuntime, path: &str) -> io::Result<UnixListener> {
     UnixListener::bind(rt, path)
 }
 
-/// What a client has said on a line. One for whom there is no memory is let go.
+/// What a client has said on a line: a word, and what follows its first space. One for whom there is no memory is let
+/// go.
 fn told_by(alloc: Global, client: Client) -> Option<Told> {
-    let (word, argument) = parts(client.line().unwrap_or(""));
+    let line = client.line().unwrap_or("");
+    let (word, argument) = match line.split_once(' ') {
+        // A space and nothing after it is no word.
+        Some((_word, "")) => ("", ""),
+        Some(parts) => parts,
+        None => (line, ""),
+    };
     let word = ControlWord::of(word);
     let argument = String::from_str(alloc, argument).ok()?;
     Some(Told {
@@ -300,9 +319,4 @@ fn told_by(alloc: Global, client: Client) -> Option<Told> {
         word,
         argument,
     })
-}
-
-/// A line's word, and what follows its first space.
-fn parts(line: &str) -> Line<'_> {
-    line.split_once(' ').unwrap_or((line, ""))
 }

@@ -27,6 +27,9 @@ pub trait Role: Drop {
     /// What is in force from now on, in words for the log.
     fn says(&self, rt: &HostRuntime) -> Why;
 
+    /// Does what is left to do once that is in the log, and says there what else there is to say.
+    fn settle(&mut self, rt: &HostRuntime, log: &mut Log);
+
     /// What its file is called.
     fn file(&self) -> &'static str;
 
@@ -60,6 +63,7 @@ pub fn run<R: Role>(
             notify(rt, State::Ready);
             daemon.run(rt, log);
             notify(rt, State::Stopping);
+            daemon.control.finish(rt);
             daemon.control.remove_file(rt, path);
             log.say(rt, Priority::Notice, format!(in rt.alloc(); "stopped"));
             End::Answered
@@ -126,6 +130,11 @@ impl<R: Role> Daemon<R> {
 
     fn answer(&mut self, rt: &HostRuntime, told: &Told, log: &mut Log) -> Why {
         match told.word {
+            Some(ControlWord::Stats | ControlWord::Reload | ControlWord::Stop)
+                if !told.argument.is_empty() =>
+            {
+                format!(in rt.alloc(); "refused: the word takes nothing after it\n")
+            }
             Some(ControlWord::Stats) => self.statistics(rt, log),
             Some(ControlWord::Reload) => self.reload(rt, log),
             Some(ControlWord::Stop) => format!(in rt.alloc(); "stopping\n"),
@@ -169,12 +178,13 @@ impl<R: Role> Daemon<R> {
     }
 
     /// Says in the log what is in force.
-    fn say(&self, rt: &HostRuntime, what: &str, log: &mut Log) {
+    fn say(&mut self, rt: &HostRuntime, what: &str, log: &mut Log) {
         let line = match self.role.says(rt) {
             Ok(text) => format!(in rt.alloc(); "{what}: {text}"),
             Err(refused) => Err(refused),
         };
         log.say(rt, Priority::Notice, line);
+        self.role.settle(rt, log);
     }
 }
 

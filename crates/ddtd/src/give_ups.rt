@@ -47,6 +47,7 @@ impl GiveUpLog {
         now: Moment,
         log: &mut Log,
     ) {
+        self.unsaid = self.unsaid.saturating_add(resolver.take_missed_give_ups());
         if now.millis().saturating_sub(self.begin) >= PERIOD {
             self.end_period(rt, now, log);
         }
@@ -74,7 +75,8 @@ impl GiveUpLog {
     }
 }
 
-/// The line of a lookup: its identifier, why it gave up, and the zone whose servers a new lookup would ask.
+/// The line of a lookup: its identifier, why it gave up, and the longest zone that is remembered for it, with its
+/// servers.
 fn line_of(
     rt: &HostRuntime,
     resolver: &mut MapResolver<TrieMap<Entry>>,

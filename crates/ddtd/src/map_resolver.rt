@@ -48,7 +48,7 @@ pub struct ResolverRole<'a> {
 
 /// Resolves for ITRs until it is told to stop.
 pub fn resolve(rt: &HostRuntime, asked: &ResolveAsked<'_>, log: &mut Log) -> End {
-    let role = ResolverRole::start(rt, asked.settings, log);
+    let role = ResolverRole::start(rt, asked.settings);
     run(rt, role, asked.control, log)
 }
 
@@ -98,7 +98,7 @@ fn warn(rt: &HostRuntime, path: &str, settings: &Settings, log: &mut Log) {
 
 impl<'a> ResolverRole<'a> {
     /// A resolver of the file's settings, at its sockets.
-    fn start(rt: &HostRuntime, path: &'a str, log: &mut Log) -> Result<ResolverRole<'a>, Why> {
+    fn start(rt: &HostRuntime, path: &'a str) -> Result<ResolverRole<'a>, Why> {
         let settings = load_settings(rt, path)?;
         let listen = settings.listen.as_slice();
         let mut near = ResolverWires::new(rt.alloc());
@@ -117,7 +117,6 @@ impl<'a> ResolverRole<'a> {
         let Ok(resolver) = MapResolver::new(rt.alloc(), resolver_of(rt, &settings, 1)?) else {
             return Err(Err(AllocError));
         };
-        warn(rt, path, &settings, log);
         Ok(ResolverRole {
             path,
             resolver,
@@ -170,7 +169,8 @@ impl<'a> ResolverRole<'a> {
     /// Forgets what it remembers of referrals: of all, with its pending lookups, or of those inside a prefix.
     fn flush(&mut self, rt: &HostRuntime, argument: &str, log: &mut Log) -> Why {
         if !argument.is_empty() {
-            return flush_inside(rt, &mut self.resolver, argument, log);
+            let now = self.moments.now(rt);
+            return flush_inside(rt, &mut self.resolver, argument, now, log);
         }
         let next = self.resolver.resolver().next_nonce();
         match self.renew(rt, next) {
@@ -245,7 +245,7 @@ impl<'a> Role for ResolverRole<'a> {
         false
     }
 
-    fn take_up(&mut self, rt: &HostRuntime, log: &mut Log) -> Result<(), Why> {
+    fn take_up(&mut self, rt: &HostRuntime, _log: &mut Log) -> Result<(), Why> {
         let settings = load_settings(rt, self.path)?;
         let taken = self.take_up_settings(rt, settings);
         // The sockets are those of the settings that are in force from now on.
@@ -254,9 +254,6 @@ impl<'a> Role for ResolverRole<'a> {
         near.listening.keep(listen);
         near.asking.keep(listen);
         self.far.wires.sockets.keep(listen);
-        if taken.is_ok() {
-            warn(rt, self.path, &self.settings, log);
-        }
         taken
     }
 
@@ -266,6 +263,10 @@ impl<'a> Role for ResolverRole<'a> {
             text.push_str(&format!(in rt.alloc(); " {}", ip_of(*at))?)?;
         }
         Ok(text)
+    }
+
+    fn settle(&mut self, rt: &HostRuntime, log: &mut Log) {
+        warn(rt, self.path, &self.settings, log);
     }
 
     fn file(&self) -> &'static str {
@@ -294,8 +295,12 @@ impl<'a> Role for ResolverRole<'a> {
         let now = self.moments.now(rt);
         match told.word {
             Some(ControlWord::Flush) => self.flush(rt, &told.argument, log),
-            Some(ControlWord::Servers) => servers_text(rt, &self.near, now),
-            Some(ControlWord::Cache) => cache_text(rt, self.resolver.resolver(), &told.argument),
+            Some(ControlWord::Servers) if told.argument.is_empty() => {
+                servers_text(rt, &self.near, now)
+            }
+            Some(ControlWord::Cache) => {
+                cache_text(rt, self.resolver.resolver(), &told.argument, now)
+            }
             Some(ControlWord::Lookup) => {
                 lookup_text(rt, &mut self.resolver, now, &told.argument)
             }

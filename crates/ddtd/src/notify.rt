@@ -2,7 +2,7 @@
 
 ghost use Rattle.std.specs.Prelude.{◌≤◌, IfSome};
 
-use libc::net::{AF_UNIX, MSG_NOSIGNAL, SOCK_CLOEXEC, SOCK_DGRAM, sendto, socket};
+use libc::net::{AF_UNIX, MSG_DONTWAIT, MSG_NOSIGNAL, SOCK_CLOEXEC, SOCK_DGRAM, sendto, socket};
 use os::FromRawFd;
 use std::env;
 use std::net::UdpSocket;
@@ -48,7 +48,7 @@ fn tell(name: &[u8], text: &[u8]) -> Option<()> {
     }
     // Closes it at the end.
     let _held = unsafe { UdpSocket::from_raw_fd(fd) };
-    let sent = unsafe { sendto(fd, text, MSG_NOSIGNAL, &address, len) };
+    let sent = unsafe { sendto(fd, text, MSG_NOSIGNAL | MSG_DONTWAIT, &address, len) };
     (sent == text.len() as isize).then_some(())
 }
 

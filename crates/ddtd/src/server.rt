@@ -170,7 +170,7 @@ impl<'a> ServerRole<'a> {
             outbox: Outbox::new(rt.alloc()),
             watch,
             late: LateAddresses::new(rt.alloc()),
-            second: 0,
+            second: seconds(rt),
             counts: ServerCounts::default(),
         })
     }
@@ -187,8 +187,11 @@ impl<'a> ServerRole<'a> {
             return false;
         }
         self.second = second;
+        if self.watch.has_changed(rt, self.asked.config) {
+            return true;
+        }
         self.bind_late(rt, log);
-        self.watch.has_changed(rt, self.asked.config)
+        false
     }
 
     /// Serves at each locator of the configuration that has become this machine's, unless it is told where to serve.
@@ -289,7 +292,6 @@ impl<'a> Role for ServerRole<'a> {
         self.wires.wires.wires.sockets.keep(places);
         if taken.is_ok() {
             self.late.clear();
-            self.second = 0;
         }
         taken
     }
@@ -304,6 +306,11 @@ impl<'a> Role for ServerRole<'a> {
         }
         text.push_str(&format!(in rt.alloc(); ", {}", self.summary)?)?;
         Ok(text)
+    }
+
+    /// Says which locators aren't served.
+    fn settle(&mut self, rt: &HostRuntime, log: &mut Log) {
+        self.bind_late(rt, log);
     }
 
     fn file(&self) -> &'static str {
@@ -326,6 +333,6 @@ impl<'a> Role for ServerRole<'a> {
     }
 
     fn answer(&mut self, rt: &HostRuntime, _told: &Told, _log: &mut Log) -> Why {
-        format!(in rt.alloc(); "refused: a server has no cache\n")
+        format!(in rt.alloc(); "refused: only a resolver knows servers and has a cache\n")
     }
 }

@@ -1,4 +1,4 @@
-//! The counts that a daemon tells, in other forms than lines.
+//! The counts of a daemon in other forms than lines.
 
 use serde_json::{Map, Value};
 use std::alloc::{AllocError, Global};

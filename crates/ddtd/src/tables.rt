@@ -1,4 +1,4 @@
-//! What a resolver tells of the servers that it knows, and of the referrals that it remembers.
+//! The servers that a resolver knows, and the referrals that it remembers, as lines.
 
 use crate::log::{Log, Priority};
 use crate::servers_known::NearWires;
@@ -16,11 +16,14 @@ use std::str;
 
 /// What is known of each server, a line each: its address, whether it answers, its smoothed round-trip time and how that
 /// varies, how long is waited for it, how many requests in a row were overdue, and how long ago it was heard and asked.
+/// The last line is how many servers there are.
 pub fn servers_text(rt: &HostRuntime, near: &NearWires, now: Moment) -> Why {
     let mut text = String::new(rt.alloc());
-    for server in near.servers().as_slice() {
+    let servers = near.servers().as_slice();
+    for server in servers {
         text.push_str(&server_line(rt.alloc(), server, now.millis())?)?;
     }
+    text.push_str(&format!(in rt.alloc(); "servers={}\n", servers.len())?)?;
     Ok(text)
 }
 
@@ -59,21 +62,35 @@ fn push_since(
     Ok(())
 }
 
-/// What is remembered of a prefix and those inside it, or of all, in the order in which it ends: a line each.
+/// What is remembered of a prefix and those inside it, or of all, in the order in which it ends: a line each. The last
+/// line is how many entries there are.
 pub fn cache_text(
     rt: &HostRuntime,
     resolver: &Resolver<TrieMap<Entry>>,
     argument: &str,
+    now: Moment,
 ) -> Why {
-    let within = match prefix_of(argument) {
-        Some(prefix) => prefix,
-        None => return format!(in rt.alloc(); "refused: {argument} is no prefix\n"),
+    let Some(within) = prefix_of(argument) else {
+        return format!(in rt.alloc(); "refused: {argument} is no prefix\n");
+    };
+    let Ok(entries) = resolver.inside(within) else {
+        return format!(in rt.alloc(); "refused: out of memory\n");
     };
     let mut text = Vec::new(rt.alloc());
-    for (prefix, entry) in &resolver.inside(within)? {
-        push_entry(&mut text, *prefix, entry, resolver.time())?;
+    let mut count = 0u64;
+    for (prefix, entry) in entries.as_slice() {
+        if is_live(entry, now) {
+            push_entry(&mut text, *prefix, entry, now)?;
+            count = count.saturating_add(1);
+        }
     }
+    text.extend_from_slice(format!(in rt.alloc(); "entries={count}\n")?.as_bytes())?;
     text_of(rt, &text)
+}
+
+/// Whether an entry hasn't ended.
+fn is_live(entry: &Entry, now: Moment) -> bool {
+    now.millis() < entry.end
 }
 
 /// What is remembered for an identifier: the longest match, or the root's servers.
@@ -97,14 +114,18 @@ pub fn flush_inside(
     rt: &HostRuntime,
     resolver: &mut MapResolver<TrieMap<Entry>>,
     argument: &str,
+    now: Moment,
     log: &mut Log,
 ) -> Why {
     let Some(within) = prefix_of(argument) else {
         return format!(in rt.alloc(); "refused: {argument} is no prefix\n");
     };
+    let Ok(entries) = resolver.resolver().inside(within) else {
+        return format!(in rt.alloc(); "refused: out of memory\n");
+    };
     let mut count = 0u64;
-    for (prefix, _entry) in &resolver.resolver().inside(within)? {
-        if resolver.forget(*prefix) {
+    for (prefix, entry) in entries.as_slice() {
+        if resolver.forget(*prefix) && is_live(entry, now) {
             count = count.saturating_add(1);
         }
     }

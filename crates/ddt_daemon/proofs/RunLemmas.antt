@@ -71,7 +71,7 @@ module _ (may_begin : State → Type 0) (me : Locator) (start : Running) where
   heard_run : {calls : List Call} (now : ℕ) (p : Packet) (bytes : List ℕ) (w new : Resolving) (near far : List Call) → now ≤ last_moment → Ran calls w
       → IsHeard me now p bytes w near far new → Ran (calls ++ polled me (Ok (Some p)) bytes ∷ near) new
   heard_run now p bytes w new near far le run (rounds.other_port port is off same) = rw (is, same) (passed (polled me (Ok (Some p)) bytes) run refl)
-  heard_run now p bytes w new near far le run (rounds.lost is off same) = rw (is, same) (passed (polled me (Ok (Some p)) bytes) run refl)
+  heard_run now p bytes w new near far le run (rounds.lost port wide is off same) = rw (is, same) (passed (polled me (Ok (Some p)) bytes) run refl)
   heard_run now p bytes w new near far le run (rounds.whole port cuts h) =
       reply_run now p bytes bytes w new near far le run (runs.from_server None port cuts refl) h
   heard_run now p bytes w new near far le run (rounds.cut heard port cuts h) =
@@ -186,7 +186,7 @@ kept_asked from bytes q old new c d asks_it (waits k w) all = kept_more bytes q 
 heard_onward : (me : Locator) (now : ℕ) (p : Packet) (bytes : List ℕ) (w new : Resolving) (near far : List Call) → IsHeard me now p bytes w near far new → AreRequests w.kept
     → AreRequests new.kept × All (IsOnward me) far
 heard_onward me now p bytes w new near far (rounds.other_port port is off same) all = rw (same, off) (all, All-nil (IsOnward me))
-heard_onward me now p bytes w new near far (rounds.lost is off same) all = rw (same, off) (all, All-nil (IsOnward me))
+heard_onward me now p bytes w new near far (rounds.lost port wide is off same) all = rw (same, off) (all, All-nil (IsOnward me))
 heard_onward me now p bytes w new near far (rounds.whole port cuts h) all = followed me (Some p.from) h.ended w.kept h.tells far new.kept h.follows all
 heard_onward me now p bytes w new near far (rounds.cut heard port cuts h) all = followed me (Some p.from) h.ended w.kept h.tells far new.kept h.follows all
 

@@ -7,14 +7,16 @@ use Rattle.ddt_wires.specs.declared.call.NetFault.{NetFault}
 use Rattle.ddt_wires.specs.declared.call.Packet.{Packet}
 use Rattle.ddt_resolver.specs.declared.itr_messages.ItrRequest.{ItrRequest}
 use Rattle.ddt_resolver.specs.declared.results.Ignored.{Ignored}
-use Rattle.ddt_resolver.specs.State.{moved}
 use Rattle.ddt_resolver.specs.Step.{Tick}
 use Rattle.ddt_loop.specs.declared.came.Ended.{Ended as End}
 use Rattle.ddt_loop.specs.Acts.{Running, running, AsksForItr, HearsOrTicks, Hastens}
 use Rattle.ddt_loop.specs.Ends.{EndsBy, EndsByHaste}
 use Rattle.ddt_loop.specs.Ignoring.{IsIgnored}
 use Rattle.ddt_ecm.specs.UdpHeader.{control_port}
-use Rattle.ddt_resolver.specs.Within.{IsCut}
+use Rattle.ddt_path.specs.declared.record.ReferralRecord.{ReferralRecord}
+use Rattle.ddt_resolver.specs.declared.pending.Pending.{Pending}
+use Rattle.ddt_resolver.specs.State.{State, moved}
+use Rattle.ddt_resolver.specs.Within.{IsCut, IsWide}
 use Rattle.ddt_loop.specs.Runs.{MayEndBy, EndsByReply}
 use Rattle.ddt_loop.specs.Sharing.{IsAskedBy}
 use Rattle.ddt_wire.specs.declared.message_type.MessageType.TheVariants.{Encapsulated}
@@ -85,9 +87,14 @@ pub record HearsReply (me : Locator) (now : ℕ) (p : Packet) (heard : List ℕ)
   pub is_used : IfNone ignored ((why : Ignored) → IsIgnored now p heard w.running why → ⊥)
   pub counts : new.counts ≡ with_end (with_why w.counts ignored) ended
 
+-- a datagram of this source is a reply that reaches beyond the zone of its server, so that it takes memory to cut it
+abbrev pub ReachesBeyond : State → Locator → List ℕ → Type 0
+ReachesBeyond s source bytes =
+    (l : Pending) × (rec : ReferralRecord) × (zone : List ℕ) × IsWide s source bytes l rec zone
+
 -- What is done with a datagram that is no Encapsulated Control Message. `other_port`: it isn't from UDP port 4342, and
 -- dropped. `whole`: it is heard as it came. `cut`: it reaches beyond the zone of its server, and is heard as if it said
--- the same of that zone alone. `lost`: there is no memory to cut it.
+-- the same of that zone alone. `lost`: it reaches beyond it too, and there is no memory to cut it.
 pub data IsHeard (me : Locator) (now : ℕ) (p : Packet) (bytes : List ℕ) (w : Resolving) (near far : List Call)
     (new : Resolving) : Type 0 where
   other_port : p.port ≢ control_port → near ≡ [] → far ≡ [] → new ≡ w → IsHeard me now p bytes w near far new
@@ -96,7 +103,8 @@ pub data IsHeard (me : Locator) (now : ℕ) (p : Packet) (bytes : List ℕ) (w :
   cut : (heard : List ℕ) → p.port ≡ control_port → IsCut w.running.state p.from bytes (Some heard)
       → HearsReply me now p heard (record w { counts = with_cut w.counts }) near far new
       → IsHeard me now p bytes w near far new
-  lost : near ≡ [] → far ≡ [] → new ≡ w → IsHeard me now p bytes w near far new
+  lost : p.port ≡ control_port → ReachesBeyond w.running.state p.from bytes → near ≡ [] → far ≡ [] → new ≡ w
+      → IsHeard me now p bytes w near far new
 
 -- What is done with a packet. `dropped`: an Encapsulated Control Message is dropped, and counted by why. `shared`: it is
 -- a request, and shares the lookup that an ITR waits for. `asked`: it is a request, and asked for. `heard`: any other

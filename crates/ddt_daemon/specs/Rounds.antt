@@ -9,6 +9,8 @@ use Rattle.ddt_resolver.specs.declared.itr_messages.ItrRequest.{ItrRequest}
 use Rattle.ddt_resolver.specs.declared.results.Ignored.{Ignored}
 use Rattle.ddt_resolver.specs.Step.{Tick}
 use Rattle.ddt_loop.specs.declared.came.Ended.{Ended as End}
+use Rattle.ddt_loop.specs.declared.owner.Asker.TheVariants.{Itr}
+use Rattle.ddt_loop.specs.Askers.{with_owner}
 use Rattle.ddt_loop.specs.Acts.{Running, running, AsksForItr, HearsOrTicks, Hastens}
 use Rattle.ddt_loop.specs.Ends.{EndsBy, EndsByHaste}
 use Rattle.ddt_loop.specs.Ignoring.{IsIgnored}
@@ -56,12 +58,13 @@ pub record WaitsAs (shares : Bool) (from : Locator) (bytes : List ℕ) (q : ItrR
   pub source : k.from ≡ from
   pub bytes_are : k.bytes ≡ bytes
 
--- what is kept of a request that is asked for: nothing where it is answered at once or refused, else the request
-pub data KeepsAsked (from : Locator) (bytes : List ℕ) (q : ItrRequest) (old : List Kept) (counts : ResolverCounts) :
-    List Kept → ResolverCounts → Type 0 where
-  at_once : KeepsAsked from bytes q old counts old counts
-  waits : (k : Kept) → WaitsAs false from bytes q k
-      → KeepsAsked from bytes q old counts (old ++ k ∷ []) (with_lookup counts)
+-- What is kept of a request that is asked for. `at_once`: nothing, where it is answered at once or refused, and nobody
+-- waits for it. `waits`: the request, where its ITR waits for the lookup that has started.
+pub data KeepsAsked (from : Locator) (bytes : List ℕ) (q : ItrRequest) (w new : Resolving) : Type 0 where
+  at_once : new.running.desk ≡ w.running.desk → new.kept ≡ w.kept → new.counts ≡ w.counts
+      → KeepsAsked from bytes q w new
+  waits : (k : Kept) → WaitsAs false from bytes q k → new.running.desk ≡ with_owner w.running.desk k.ticket (Itr q)
+      → new.kept ≡ w.kept ++ k ∷ [] → new.counts ≡ with_lookup w.counts → KeepsAsked from bytes q w new
 
 -- What becomes of a request that is admitted. `shares`: it waits for the lookup of a ticket. `asks`: it is asked for.
 pub data IsAsked (me : Locator) (now : ℕ) (a : Admitted) (w : Resolving) (near : List Call) (new : Resolving) : Type 0
@@ -70,7 +73,7 @@ pub data IsAsked (me : Locator) (now : ℕ) (a : Admitted) (w : Resolving) (near
         → near ≡ [] → new ≡ resolving w.running (w.kept ++ k ∷ []) (with_shared w.counts)
         → IsAsked me now a w near new
     asks : AsksForItr me now a.request w.running near new.running
-        → KeepsAsked a.from a.bytes a.request w.kept w.counts new.kept new.counts → IsAsked me now a w near new
+        → KeepsAsked a.from a.bytes a.request w new → IsAsked me now a w near new
 
 -- What a datagram of these bytes from UDP port 4342 does, as it is heard. One that the resolver ignores is counted by why.
 pub record HearsReply (me : Locator) (now : ℕ) (p : Packet) (heard : List ℕ) (w : Resolving) (near far : List Call)
@@ -122,7 +125,8 @@ pub data IsHandled (settings : Settings) (me : Locator) (now : ℕ) (p : Packet)
   asked : (q : ItrRequest) → is_of Encapsulated bytes ≡ true
       → IsAdmitted settings w.kept (at_moment now w.running) p.from bytes q
       → AsksForItr me now q (at_moment now w.running) near new.running → far ≡ []
-      → KeepsAsked p.from bytes q w.kept w.counts new.kept new.counts → IsHandled settings me now p bytes w near far new
+      → KeepsAsked p.from bytes q (resolving (at_moment now w.running) w.kept w.counts) new
+      → IsHandled settings me now p bytes w near far new
   heard : is_of Encapsulated bytes ≡ false → IsHeard me now p bytes w near far new
       → IsHandled settings me now p bytes w near far new
 

@@ -344,8 +344,9 @@ impl<M: PrefixMap<Entry>> MapResolver<M> {
         requires room { length self.old.waiting.kept.items < deque_capacity self.old.waiting.kept }
         ensures asks { (calls : List ACall) × RecordsCalls (W.calls near.old) calls (W.calls near.new)
             × AsksForItr me now admitted.request self.old.running calls self.new.running }
-        ensures keeps { KeepsAsked admitted.from admitted.bytes admitted.request self.old.waiting.kept.items
-            self.old.counts self.new.waiting.kept.items self.new.counts }
+        ensures keeps { KeepsAsked admitted.from admitted.bytes admitted.request
+            (resolving self.old.running self.old.waiting.kept.items self.old.counts)
+            (resolving self.new.running self.new.waiting.kept.items self.new.counts) }
     {
         let ticket = self.running.ask(near, me, now, admitted.request);
         if let Some(ticket) = ticket {

@@ -12,7 +12,7 @@ use Rattle.ddt_loop.specs.declared.came.Ended.{Ended as End}
 use Rattle.ddt_loop.specs.declared.owner.Asker.TheVariants.{Itr}
 use Rattle.ddt_loop.specs.Askers.{with_owner}
 use Rattle.ddt_loop.specs.Acts.{Running, running, AsksForItr, HearsOrTicks, Hastens}
-use Rattle.ddt_loop.specs.Ends.{EndsBy, EndsByHaste}
+use Rattle.ddt_loop.specs.Ends.{EndsBy, EndsByHaste, waiting_itrs}
 use Rattle.ddt_loop.specs.Ignoring.{IsIgnored}
 use Rattle.ddt_ecm.specs.UdpHeader.{control_port}
 use Rattle.ddt_path.specs.declared.record.ReferralRecord.{ReferralRecord}
@@ -75,6 +75,10 @@ pub data IsAsked (me : Locator) (now : ℕ) (a : Admitted) (w : Resolving) (near
     asks : AsksForItr me now a.request w.running near new.running
         → KeepsAsked a.from a.bytes a.request w new → IsAsked me now a w near new
 
+-- the same ITRs wait as before: the lookup of none has ended
+abbrev pub StillWait : Running → Running → Type 0
+StillWait w new = waiting_itrs new.desk.owners ≡ waiting_itrs w.desk.owners
+
 -- What a datagram of these bytes from UDP port 4342 does, as it is heard. One that the resolver ignores is counted by why.
 pub record HearsReply (me : Locator) (now : ℕ) (p : Packet) (heard : List ℕ) (w : Resolving) (near far : List Call)
     (new : Resolving) : Type 0 where
@@ -82,6 +86,7 @@ pub record HearsReply (me : Locator) (now : ℕ) (p : Packet) (heard : List ℕ)
   pub taken : IsPacketTaken me now p heard w.running tries new.running
   pub ended : Option End
   pub ends : MayEndBy (EndsByReply now p heard w.running new.running) ended
+  pub no_end : IfNone ended (StillWait w.running new.running)
   pub tells : List Call
   pub follows : Follows me (Some p.from) ended w.kept tells far new.kept
   pub calls_are : near ≡ tries ++ tells
@@ -157,6 +162,7 @@ pub record IsTick (me : Locator) (now : ℕ) (w : Resolving) (near far : List Ca
   pub ended : Option End
   pub ends : MayEndBy (EndsBy Tick (moved now w.running.state) new.running.state w.running.desk.owners
       new.running.desk.owners) ended
+  pub no_end : IfNone ended (StillWait w.running new.running)
   pub tells : List Call
   pub follows : Follows me None ended w.kept tells far new.kept
   pub calls_are : near ≡ tries ++ tells
@@ -170,6 +176,7 @@ pub record IsHastened (me : Locator) (now nonce : ℕ) (w : Resolving) (near far
     pub ended : Option End
     pub ends : MayEndBy (EndsByHaste nonce (moved now w.running.state) new.running.state w.running.desk.owners
         new.running.desk.owners) ended
+    pub no_end : IfNone ended (StillWait w.running new.running)
     pub tells : List Call
     pub follows : Follows me None ended w.kept tells far new.kept
     pub calls_are : near ≡ tries ++ tells

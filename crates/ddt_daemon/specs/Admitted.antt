@@ -63,7 +63,8 @@ pub data HasPlace (kept : List Kept) (w : Running) (from : Locator) (q : ItrRequ
 -- where a request's place is: its answer is remembered, or it shares a lookup, or one begins at a referral set
 abbrev pub IsPlaced : List Kept → Running → Locator → Xeid → Option ℕ → Option (List Locator) → Type 0
 IsPlaced kept w from x None None = IsAnswered w.state x
-IsPlaced kept w from x (Some t) set = IsAskedBy w.desk.owners t x × HasRoom kept from
+IsPlaced kept w from x (Some t) None = IsAskedBy w.desk.owners t x × HasRoom kept from
+IsPlaced kept w from x (Some t) (Some servers) = ⊥
 IsPlaced kept w from x None (Some servers) =
     IsUnasked w x × BeginsAt w.state x servers × HasRoom kept from × (of_set kept servers < most_of_set)
 

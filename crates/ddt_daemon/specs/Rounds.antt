@@ -20,7 +20,6 @@ use Rattle.ddt_resolver.specs.declared.pending.Pending.{Pending}
 use Rattle.ddt_resolver.specs.State.{State, moved}
 use Rattle.ddt_resolver.specs.Within.{IsCut, IsWide}
 use Rattle.ddt_loop.specs.Runs.{MayEndBy, EndsByReply}
-use Rattle.ddt_loop.specs.Sharing.{IsAskedBy}
 use Rattle.ddt_wire.specs.declared.message_type.MessageType.TheVariants.{Encapsulated}
 use Rattle.ddt_wire.specs.MessageType.{is_of}
 use Rattle.ddt_loop.specs.Polls.{polled, IsPacketTaken}
@@ -29,7 +28,7 @@ use Rattle.ddt_daemon.specs.declared.itr_requests.Kept.{Kept}
 use Rattle.ddt_daemon.specs.declared.admission.Admitted.{Admitted}
 use Rattle.ddt_daemon.specs.declared.admission.Dropped.{Dropped}
 use Rattle.ddt_daemon.specs.declared.counts.ResolverCounts.{ResolverCounts}
-use Rattle.ddt_daemon.specs.Admitted.{IsAdmitted, IsDropped}
+use Rattle.ddt_daemon.specs.Admitted.{IsAdmitted, IsDropped, IsPlaced}
 use Rattle.ddt_daemon.specs.Counted.{with_dropped, with_lookup, with_shared, with_cut, with_why}
 use Rattle.ddt_daemon.specs.Goes.{Follows, with_end}
 
@@ -51,29 +50,35 @@ HasWaited now w v = (v ≡ w) ⊎ (v ≡ running (moved now w.state) w.desk)
 abbrev pub at_moment : ℕ → Running → Running
 at_moment now w = running (moved now w.state) w.desk
 
--- a request of an ITR that came from there waits, as the one that has started its lookup or as one that shares it
-pub record WaitsAs (shares : Bool) (from : Locator) (bytes : List ℕ) (q : ItrRequest) (k : Kept) : Type 0 where
+-- A request of an ITR that came from there waits, as the one that has started its lookup or as one that shares it. Of
+-- the first the servers are kept at which the lookup begins, of the other none.
+pub record WaitsAs (shares : Bool) (servers : Option (List Locator)) (from : Locator) (bytes : List ℕ) (q : ItrRequest)
+    (k : Kept) : Type 0 where
   pub shared : k.shares ≡ shares
+  pub begins : k.begins ≡ servers
   pub request : k.request ≡ q
   pub source : k.from ≡ from
   pub bytes_are : k.bytes ≡ bytes
 
 -- What is kept of a request that is asked for. `at_once`: nothing, where it is answered at once or refused, and nobody
 -- waits for it. `waits`: the request, where its ITR waits for the lookup that has started.
-pub data KeepsAsked (from : Locator) (bytes : List ℕ) (q : ItrRequest) (w new : Resolving) : Type 0 where
+pub data KeepsAsked (servers : Option (List Locator)) (from : Locator) (bytes : List ℕ) (q : ItrRequest)
+    (w new : Resolving) : Type 0 where
   at_once : new.running.desk ≡ w.running.desk → new.kept ≡ w.kept → new.counts ≡ w.counts
-      → KeepsAsked from bytes q w new
-  waits : (k : Kept) → WaitsAs false from bytes q k → new.running.desk ≡ with_owner w.running.desk k.ticket (Itr q)
-      → new.kept ≡ w.kept ++ k ∷ [] → new.counts ≡ with_lookup w.counts → KeepsAsked from bytes q w new
+      → KeepsAsked servers from bytes q w new
+  waits : (k : Kept) → WaitsAs false servers from bytes q k
+      → new.running.desk ≡ with_owner w.running.desk k.ticket (Itr q)
+      → new.kept ≡ w.kept ++ k ∷ [] → new.counts ≡ with_lookup w.counts → KeepsAsked servers from bytes q w new
 
 -- What becomes of a request that is admitted. `shares`: it waits for the lookup of a ticket. `asks`: it is asked for.
 pub data IsAsked (me : Locator) (now : ℕ) (a : Admitted) (w : Resolving) (near : List Call) (new : Resolving) : Type 0
   where
-    shares : (t : ℕ) (k : Kept) → a.place.shares ≡ Some t → k.ticket ≡ t → WaitsAs true a.from a.bytes a.request k
-        → near ≡ [] → new ≡ resolving w.running (w.kept ++ k ∷ []) (with_shared w.counts)
+    shares : (t : ℕ) (k : Kept) → a.place.shares ≡ Some t → k.ticket ≡ t
+        → WaitsAs true a.place.begins a.from a.bytes a.request k → near ≡ []
+        → new ≡ resolving w.running (w.kept ++ k ∷ []) (with_shared w.counts)
         → IsAsked me now a w near new
-    asks : AsksForItr me now a.request w.running near new.running
-        → KeepsAsked a.from a.bytes a.request w new → IsAsked me now a w near new
+    asks : a.place.shares ≡ None → AsksForItr me now a.request w.running near new.running
+        → KeepsAsked a.place.begins a.from a.bytes a.request w new → IsAsked me now a w near new
 
 -- the same ITRs wait as before: the lookup of none has ended
 abbrev pub StillWait : Running → Running → Type 0
@@ -115,7 +120,8 @@ pub data IsHeard (me : Locator) (now : ℕ) (p : Packet) (bytes : List ℕ) (w :
       → IsHeard me now p bytes w near far new
 
 -- What is done with a packet. `dropped`: an Encapsulated Control Message is dropped, and counted by why. `shared`: it is
--- a request, and shares the lookup that an ITR waits for. `asked`: it is a request, and asked for. `heard`: any other
+-- a request, and shares the lookup that an ITR waits for. `asked`: it is a request, and asked for; where it waits, the
+-- servers are kept at which its lookup begins, so that it counts among those of its referral set. `heard`: any other
 -- datagram.
 pub data IsHandled (settings : Settings) (me : Locator) (now : ℕ) (p : Packet) (bytes : List ℕ) (w : Resolving)
     (near far : List Call) (new : Resolving) : Type 0 where
@@ -123,14 +129,15 @@ pub data IsHandled (settings : Settings) (me : Locator) (now : ℕ) (p : Packet)
       → IsDropped settings w.kept (at_moment now w.running) p.from bytes why → HasWaited now w.running v → near ≡ []
       → far ≡ [] → new ≡ resolving v w.kept (with_dropped w.counts why) → IsHandled settings me now p bytes w near far new
   shared : (q : ItrRequest) (k : Kept) → is_of Encapsulated bytes ≡ true
-      → IsAdmitted settings w.kept (at_moment now w.running) p.from bytes q → WaitsAs true p.from bytes q k
-      → IsAskedBy w.running.desk.owners k.ticket q.xeid → near ≡ [] → far ≡ []
+      → IsAdmitted settings w.kept (at_moment now w.running) p.from bytes q → WaitsAs true None p.from bytes q k
+      → IsPlaced w.kept (at_moment now w.running) p.from q.xeid (Some k.ticket) None → near ≡ [] → far ≡ []
       → new ≡ resolving (at_moment now w.running) (w.kept ++ k ∷ []) (with_shared w.counts)
       → IsHandled settings me now p bytes w near far new
-  asked : (q : ItrRequest) → is_of Encapsulated bytes ≡ true
+  asked : (q : ItrRequest) (servers : Option (List Locator)) → is_of Encapsulated bytes ≡ true
       → IsAdmitted settings w.kept (at_moment now w.running) p.from bytes q
+      → IsPlaced w.kept (at_moment now w.running) p.from q.xeid None servers
       → AsksForItr me now q (at_moment now w.running) near new.running → far ≡ []
-      → KeepsAsked p.from bytes q (resolving (at_moment now w.running) w.kept w.counts) new
+      → KeepsAsked servers p.from bytes q (resolving (at_moment now w.running) w.kept w.counts) new
       → IsHandled settings me now p bytes w near far new
   heard : is_of Encapsulated bytes ≡ false → IsHeard me now p bytes w near far new
       → IsHandled settings me now p bytes w near far new

@@ -35,7 +35,7 @@ begins_at_its s x p e servers found is = let b = begun (answer_of p e) e.servers
 
 placed : (kept : List Kept) (w : Running) (from : Locator) (q : ItrRequest) (t : Option ℕ) (servers : Option (List Locator)) → IsPlaced kept w from q.xeid t servers → HasPlace kept w from q
 placed kept w from q None None is = answered is
-placed kept w from q (Some t) None is = shares t is.0 is.1
+placed kept w from q (Some t) None is = shares t is.0 is.1 is.2
 placed kept w from q (Some t) (Some servers) is = absurd is
 placed kept w from q None (Some servers) is = begins servers is.0 is.1 is.2 is.3
 

@@ -84,7 +84,7 @@ module _ (may_begin : State → Type 0) (me : Locator) (start : Running) where
   handled_run settings now p bytes near far w new run le (rounds.shared q k sort admitted kept own is_none nothing stays) =
       rw (is_none, stays, sharers_push w.kept k true kept.shared)
       (shared most_bytes p bytes (record { ticket = k.ticket; request = k.request }) (waited now run le)
-      (rw kept.request admitted.may.asks) (rw kept.request own.0))
+      (rw kept.request admitted.may.asks) (rw kept.request own.1))
   handled_run settings now p bytes near far w new run le (rounds.asked q servers sort admitted placed act nothing keeps) =
       rw (same_sharers servers p.from bytes q (resolving (at_moment now w.running) w.kept w.counts) new keeps)
       (rw append-nil at (took now most_bytes p bytes bytes near None [] (sharers w.kept) new.running (waited now run le) le (as_it_came (at_moment now w.running).state p bytes sort) (asks sort q admitted.may.asks act) tt wait_on))

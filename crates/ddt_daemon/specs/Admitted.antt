@@ -52,18 +52,20 @@ pub record HasRoom (kept : List Kept) (from : Locator) : Type 0 where
   pub few : length kept < most_pending
   pub few_of_source : of_source kept from < most_of_source
 
--- What a request needs. `answered`: its answer is remembered, so that it doesn't wait. `shares`: an ITR waits for the
--- lookup of the same identifier. `begins`: none does, and a lookup begins at a referral set that few wait for.
+-- What a request needs. `answered`: its answer is remembered, so that it doesn't wait. `shares`: no answer is, and an ITR
+-- waits for the lookup of the same identifier. `begins`: none does, and a lookup begins at a referral set that few wait
+-- for.
 pub data HasPlace (kept : List Kept) (w : Running) (from : Locator) (q : ItrRequest) : Type 0 where
   answered : IsAnswered w.state q.xeid → HasPlace kept w from q
-  shares : (t : ℕ) → IsAskedBy w.desk.owners t q.xeid → HasRoom kept from → HasPlace kept w from q
+  shares : (t : ℕ) → IsUnanswered w.state q.xeid → IsAskedBy w.desk.owners t q.xeid → HasRoom kept from
+      → HasPlace kept w from q
   begins : (servers : List Locator) → IsUnasked w q.xeid → BeginsAt w.state q.xeid servers → HasRoom kept from
       → of_set kept servers < most_of_set → HasPlace kept w from q
 
 -- where a request's place is: its answer is remembered, or it shares a lookup, or one begins at a referral set
 abbrev pub IsPlaced : List Kept → Running → Locator → Xeid → Option ℕ → Option (List Locator) → Type 0
 IsPlaced kept w from x None None = IsAnswered w.state x
-IsPlaced kept w from x (Some t) None = IsAskedBy w.desk.owners t x × HasRoom kept from
+IsPlaced kept w from x (Some t) None = IsUnanswered w.state x × IsAskedBy w.desk.owners t x × HasRoom kept from
 IsPlaced kept w from x (Some t) (Some servers) = ⊥
 IsPlaced kept w from x None (Some servers) =
     IsUnasked w x × BeginsAt w.state x servers × HasRoom kept from × (of_set kept servers < most_of_set)

@@ -29,6 +29,13 @@ returns-then-is_full_of_set-clause-refused g c = (
   ),
 )
 
+pub returns-in-Some-clause-placed : goal.returns-in-Some-clause-placed
+returns-in-Some-clause-placed g c = (
+  unanswered (moved c.args.now c.args.self.now.running.state) c.args.x c.beginning.ensures.begins.0 c.beginning.ensures.begins.1 c.in-Servers.servers c.beginning.ensures.begins.2 (rw c.in-Servers.is at c.beginning.ensures.begins.3),
+  rw (c.in-Some.is, c.beginning.ensures.time) at c.ticket_for.ensures.asked,
+  record { few = c.is_full.ensures.room c.if-is_full.false; few_of_source = c.is_full_of_source.ensures.room c.if-is_full_of_source.false },
+)
+
 pub returns-clause-placed : goal.returns-clause-placed
 returns-clause-placed g c = (
   rw (is_none c.ticket_for.result c.in_default.not-Some, c.beginning.ensures.time) at c.ticket_for.ensures.none,

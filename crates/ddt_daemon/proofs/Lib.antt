@@ -4,4 +4,5 @@ pub mod PlaceLemmas
 pub mod CloseLemmas
 pub mod PlainLemmas
 pub mod HandleLemmas
+pub mod EndLemmas
 pub mod RunLemmas

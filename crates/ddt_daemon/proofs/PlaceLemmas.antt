@@ -35,8 +35,9 @@ begins_at_its s x p e servers found is = let b = begun (answer_of p e) e.servers
 
 placed : (kept : List Kept) (w : Running) (from : Locator) (q : ItrRequest) (t : Option ℕ) (servers : Option (List Locator)) → IsPlaced kept w from q.xeid t servers → HasPlace kept w from q
 placed kept w from q None None is = answered is
-placed kept w from q (Some t) servers is = shares t is.0 is.1
-placed kept w from q None (Some servers) is = begins servers is.0 is.1 is.2
+placed kept w from q (Some t) None is = shares t is.0 is.1 is.2
+placed kept w from q (Some t) (Some servers) is = absurd is
+placed kept w from q None (Some servers) is = begins servers is.0 is.1 is.2 is.3
 
 pub admitted_is : {settings : Settings} (kept : List Kept) (w : Running) {from : Locator} {bytes : List ℕ} {q : ItrRequest} (t : Option ℕ) (servers : Option (List Locator))
     → IsAllowed settings from bytes q → waits_for kept q ≡ false → IsPlaced kept w from q.xeid t servers → IsAdmitted settings kept w from bytes q

@@ -26,7 +26,7 @@ use Rattle.ddt_settings.specs.declared.settings.Settings.{Settings}
 use Rattle.ddt_daemon.specs.declared.itr_requests.Kept.{Kept}
 use Rattle.ddt_daemon.specs.Goes.{sharers, sharer_if, goes_on, Closes, starts, one, Follows}
 use Rattle.ddt_daemon.specs.Rounds as rounds
-use Rattle.ddt_daemon.specs.Rounds.{Resolving, at_moment, HasWaited, WaitsAs, KeepsAsked, at_once, waits, HearsReply, IsHeard, IsHandled, IsRound, no_packet, failed, came}
+use Rattle.ddt_daemon.specs.Rounds.{Resolving, resolving, at_moment, HasWaited, WaitsAs, KeepsAsked, at_once, waits, HearsReply, IsHeard, IsHandled, IsRound, no_packet, failed, came}
 use Rattle.ddt_daemon.specs.Runs.{HasServed, begins, round, tick, hastening, resending, forgetting, waiting, renewal, RunsAsAResolver, IsOnward, AreRequests, IsAny, OnlyRequestsGoOn}
 use Rattle.ddt_resolver.specs.Within.{whole}
 use Rattle.ddt_ecm.specs.UdpHeader.{control_port}
@@ -41,9 +41,9 @@ use Rattle.ddt_daemon.proofs.CloseLemmas.{sharers_append, tells_sharers}
 sharers_push : (kept : List Kept) (k : Kept) (b : _) → k.shares ≡ b → sharers (kept ++ k ∷ []) ≡ sharers kept ++ sharer_if b k
 sharers_push kept k b is = sharers_append kept (k ∷ []) ∙ ap (λ rest. sharers kept ++ rest) (append-nil (sharer_if k.shares k) ∙ ap (λ s. sharer_if s k) is)
 
-same_sharers : (from : Locator) (bytes : List ℕ) (q : ItrRequest) (old new : List Kept) (c d : _) → KeepsAsked from bytes q old c new d → sharers new ≡ sharers old
-same_sharers from bytes q old new c d at_once = refl
-same_sharers from bytes q old new c d (waits k w) = sharers_push old k false w.shared ∙ append-nil (sharers old)
+same_sharers : (servers : Option (List Locator)) (from : Locator) (bytes : List ℕ) (q : ItrRequest) (w new : Resolving) → KeepsAsked servers from bytes q w new → sharers new.kept ≡ sharers w.kept
+same_sharers servers from bytes q w new (at_once desk kept counts) = ap sharers kept
+same_sharers servers from bytes q w new (waits k s desk kept counts) = ap sharers kept ∙ (sharers_push w.kept k false s.shared ∙ append-nil (sharers w.kept))
 
 -- a request of an ITR is heard as it came: it spells no Map-Referral
 as_it_came : (s : State) (p : Packet) (bytes : List ℕ) → is_of Encapsulated bytes ≡ true → runs.IsHeardAs s p bytes bytes
@@ -71,7 +71,7 @@ module _ (may_begin : State → Type 0) (me : Locator) (start : Running) where
   heard_run : {calls : List Call} (now : ℕ) (p : Packet) (bytes : List ℕ) (w new : Resolving) (near far : List Call) → now ≤ last_moment → Ran calls w
       → IsHeard me now p bytes w near far new → Ran (calls ++ polled me (Ok (Some p)) bytes ∷ near) new
   heard_run now p bytes w new near far le run (rounds.other_port port is off same) = rw (is, same) (passed (polled me (Ok (Some p)) bytes) run refl)
-  heard_run now p bytes w new near far le run (rounds.lost is off same) = rw (is, same) (passed (polled me (Ok (Some p)) bytes) run refl)
+  heard_run now p bytes w new near far le run (rounds.lost port wide is off same) = rw (is, same) (passed (polled me (Ok (Some p)) bytes) run refl)
   heard_run now p bytes w new near far le run (rounds.whole port cuts h) =
       reply_run now p bytes bytes w new near far le run (runs.from_server None port cuts refl) h
   heard_run now p bytes w new near far le run (rounds.cut heard port cuts h) =
@@ -84,9 +84,9 @@ module _ (may_begin : State → Type 0) (me : Locator) (start : Running) where
   handled_run settings now p bytes near far w new run le (rounds.shared q k sort admitted kept own is_none nothing stays) =
       rw (is_none, stays, sharers_push w.kept k true kept.shared)
       (shared most_bytes p bytes (record { ticket = k.ticket; request = k.request }) (waited now run le)
-      (rw kept.request admitted.may.asks) (rw kept.request own))
-  handled_run settings now p bytes near far w new run le (rounds.asked q sort admitted act nothing keeps) =
-      rw (same_sharers p.from bytes q w.kept new.kept w.counts new.counts keeps)
+      (rw kept.request admitted.may.asks) (rw kept.request own.1))
+  handled_run settings now p bytes near far w new run le (rounds.asked q servers sort admitted placed act nothing keeps) =
+      rw (same_sharers servers p.from bytes q (resolving (at_moment now w.running) w.kept w.counts) new keeps)
       (rw append-nil at (took now most_bytes p bytes bytes near None [] (sharers w.kept) new.running (waited now run le) le (as_it_came (at_moment now w.running).state p bytes sort) (asks sort q admitted.may.asks act) tt wait_on))
   handled_run settings now p bytes near far w new run le (rounds.heard sort is) = heard_run now p bytes w new near far le run is
 
@@ -176,17 +176,17 @@ followed : (me : Locator) (by : Option Locator) (ended : Option End) (old : List
 followed me by None old near far new is all = rw (is.2, is.1) (all, All-nil (IsOnward me))
 followed me by (Some e) old near far new is all = closed_onward me by e old near far new is.closes all
 
-kept_more : (bytes : List ℕ) (q : ItrRequest) (from : Locator) (b : _) (kept : List Kept) (k : Kept) → IsItrRequest bytes q → WaitsAs b from bytes q k → AreRequests kept → AreRequests (kept ++ k ∷ [])
-kept_more bytes q from b kept k asks_it w all = All-push IsKeptRequest kept k all (rw (w.bytes_are, w.request) asks_it)
+kept_more : (bytes : List ℕ) (q : ItrRequest) (from : Locator) (b : _) (servers : Option (List Locator)) (kept : List Kept) (k : Kept) → IsItrRequest bytes q → WaitsAs b servers from bytes q k → AreRequests kept → AreRequests (kept ++ k ∷ [])
+kept_more bytes q from b servers kept k asks_it w all = All-push IsKeptRequest kept k all (rw (w.bytes_are, w.request) asks_it)
 
-kept_asked : (from : Locator) (bytes : List ℕ) (q : ItrRequest) (old new : List Kept) (c d : _) → IsItrRequest bytes q → KeepsAsked from bytes q old c new d → AreRequests old → AreRequests new
-kept_asked from bytes q old new c d asks_it at_once all = all
-kept_asked from bytes q old new c d asks_it (waits k w) all = kept_more bytes q from false old k asks_it w all
+kept_asked : (servers : Option (List Locator)) (from : Locator) (bytes : List ℕ) (q : ItrRequest) (w new : Resolving) → IsItrRequest bytes q → KeepsAsked servers from bytes q w new → AreRequests w.kept → AreRequests new.kept
+kept_asked servers from bytes q w new asks_it (at_once desk kept counts) all = rw kept all
+kept_asked servers from bytes q w new asks_it (waits k s desk kept counts) all = rw kept (kept_more bytes q from false servers w.kept k asks_it s all)
 
 heard_onward : (me : Locator) (now : ℕ) (p : Packet) (bytes : List ℕ) (w new : Resolving) (near far : List Call) → IsHeard me now p bytes w near far new → AreRequests w.kept
     → AreRequests new.kept × All (IsOnward me) far
 heard_onward me now p bytes w new near far (rounds.other_port port is off same) all = rw (same, off) (all, All-nil (IsOnward me))
-heard_onward me now p bytes w new near far (rounds.lost is off same) all = rw (same, off) (all, All-nil (IsOnward me))
+heard_onward me now p bytes w new near far (rounds.lost port wide is off same) all = rw (same, off) (all, All-nil (IsOnward me))
 heard_onward me now p bytes w new near far (rounds.whole port cuts h) all = followed me (Some p.from) h.ended w.kept h.tells far new.kept h.follows all
 heard_onward me now p bytes w new near far (rounds.cut heard port cuts h) all = followed me (Some p.from) h.ended w.kept h.tells far new.kept h.follows all
 
@@ -194,9 +194,9 @@ handled_onward : (me : Locator) (settings : Settings) (now : ℕ) (p : Packet) (
     → AreRequests w.kept → AreRequests new.kept × All (IsOnward me) far
 handled_onward me settings now p bytes w new near far (rounds.dropped why v sort is passes is_none off stays) all = rw (off, stays) (all, All-nil (IsOnward me))
 handled_onward me settings now p bytes w new near far (rounds.shared q k sort admitted kept own is_none off stays) all =
-    rw (off, stays) (kept_more bytes q p.from true w.kept k admitted.may.asks kept all, All-nil (IsOnward me))
-handled_onward me settings now p bytes w new near far (rounds.asked q sort admitted act off keeps) all =
-    rw off (kept_asked p.from bytes q w.kept new.kept w.counts new.counts admitted.may.asks keeps all, All-nil (IsOnward me))
+    rw (off, stays) (kept_more bytes q p.from true None w.kept k admitted.may.asks kept all, All-nil (IsOnward me))
+handled_onward me settings now p bytes w new near far (rounds.asked q servers sort admitted placed act off keeps) all =
+    rw off (kept_asked servers p.from bytes q (resolving (at_moment now w.running) w.kept w.counts) new admitted.may.asks keeps all, All-nil (IsOnward me))
 handled_onward me settings now p bytes w new near far (rounds.heard sort is) all = heard_onward me now p bytes w new near far is all
 
 round_onward : (me : Locator) (settings : Settings) (now : ℕ) (w new : Resolving) (near far : List Call) → IsRound settings me now w near far new → AreRequests w.kept

@@ -43,32 +43,48 @@ abbrev pub BeginsAt : State → Xeid → List Locator → Type 0
 BeginsAt s x servers =
     (p : List ℕ) × (e : Entry) × IsFound s.known (xeid_path x) p e × (answer_of p e ≡ None) × (servers ≡ e.servers)
 
+-- no ITR waits for a lookup of an identifier, so that none can be shared
+abbrev pub IsUnasked : Running → Xeid → Type 0
+IsUnasked w x = (t : ℕ) → IsAskedBy w.desk.owners t x → ⊥
+
 -- there is room for one more request that waits, also of this source
 pub record HasRoom (kept : List Kept) (from : Locator) : Type 0 where
   pub few : length kept < most_pending
   pub few_of_source : of_source kept from < most_of_source
 
--- What a request needs. `answered`: its answer is remembered, so that it doesn't wait. `shares`: an ITR waits for the
--- lookup of the same identifier. `begins`: a lookup begins at a referral set that few wait for.
+-- What a request needs. `answered`: its answer is remembered, so that it doesn't wait. `shares`: no answer is, and an ITR
+-- waits for the lookup of the same identifier. `begins`: none does, and a lookup begins at a referral set that few wait
+-- for.
 pub data HasPlace (kept : List Kept) (w : Running) (from : Locator) (q : ItrRequest) : Type 0 where
   answered : IsAnswered w.state q.xeid → HasPlace kept w from q
-  shares : (t : ℕ) → IsAskedBy w.desk.owners t q.xeid → HasRoom kept from → HasPlace kept w from q
-  begins : (servers : List Locator) → BeginsAt w.state q.xeid servers → HasRoom kept from
+  shares : (t : ℕ) → IsUnanswered w.state q.xeid → IsAskedBy w.desk.owners t q.xeid → HasRoom kept from
+      → HasPlace kept w from q
+  begins : (servers : List Locator) → IsUnasked w q.xeid → BeginsAt w.state q.xeid servers → HasRoom kept from
       → of_set kept servers < most_of_set → HasPlace kept w from q
 
 -- where a request's place is: its answer is remembered, or it shares a lookup, or one begins at a referral set
 abbrev pub IsPlaced : List Kept → Running → Locator → Xeid → Option ℕ → Option (List Locator) → Type 0
 IsPlaced kept w from x None None = IsAnswered w.state x
-IsPlaced kept w from x (Some t) set = IsAskedBy w.desk.owners t x × HasRoom kept from
+IsPlaced kept w from x (Some t) None = IsUnanswered w.state x × IsAskedBy w.desk.owners t x × HasRoom kept from
+IsPlaced kept w from x (Some t) (Some servers) = ⊥
 IsPlaced kept w from x None (Some servers) =
-    BeginsAt w.state x servers × HasRoom kept from × (of_set kept servers < most_of_set)
+    IsUnasked w x × BeginsAt w.state x servers × HasRoom kept from × (of_set kept servers < most_of_set)
+
+-- fewer requests wait than may, but as many of this source as may
+abbrev pub IsFullOfSource : List Kept → Locator → Type 0
+IsFullOfSource kept from = (length kept < most_pending) × (most_of_source ≤ of_source kept from)
+
+-- there is room but for the referral set at which a lookup of an identifier would begin, and no ITR waits for one
+abbrev pub IsFullOfSet : List Kept → Running → Locator → Xeid → Type 0
+IsFullOfSet kept w from x =
+    HasRoom kept from × IsUnasked w x
+    × ((servers : List Locator) × BeginsAt w.state x servers × (most_of_set ≤ of_set kept servers))
 
 -- why it has none
 abbrev pub IsRefusedPlace : List Kept → Running → Locator → Xeid → Dropped → Type 0
 IsRefusedPlace kept w from x Full = IsUnanswered w.state x × (most_pending ≤ length kept)
-IsRefusedPlace kept w from x SourceFull = IsUnanswered w.state x × (most_of_source ≤ of_source kept from)
-IsRefusedPlace kept w from x SetFull =
-    IsUnanswered w.state x × ((servers : List Locator) × BeginsAt w.state x servers × (most_of_set ≤ of_set kept servers))
+IsRefusedPlace kept w from x SourceFull = IsUnanswered w.state x × IsFullOfSource kept from
+IsRefusedPlace kept w from x SetFull = IsUnanswered w.state x × IsFullOfSet kept w from x
 IsRefusedPlace kept w from x _ = ⊥
 
 -- whether a locator is one of these addresses
@@ -125,8 +141,7 @@ IsDropped settings kept w from bytes Repeated =
 IsDropped settings kept w from bytes Full =
     (q : ItrRequest) × WouldWait settings kept w from bytes q × (most_pending ≤ length kept)
 IsDropped settings kept w from bytes SourceFull =
-    (q : ItrRequest) × WouldWait settings kept w from bytes q × (most_of_source ≤ of_source kept from)
+    (q : ItrRequest) × WouldWait settings kept w from bytes q × IsFullOfSource kept from
 IsDropped settings kept w from bytes SetFull =
-    (q : ItrRequest) × WouldWait settings kept w from bytes q
-    × ((servers : List Locator) × BeginsAt w.state q.xeid servers × (most_of_set ≤ of_set kept servers))
+    (q : ItrRequest) × WouldWait settings kept w from bytes q × IsFullOfSet kept w from q.xeid
 IsDropped settings kept w from bytes Memory = (q : ItrRequest) × IsAdmitted settings kept w from bytes q

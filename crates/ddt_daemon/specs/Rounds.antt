@@ -7,16 +7,19 @@ use Rattle.ddt_wires.specs.declared.call.NetFault.{NetFault}
 use Rattle.ddt_wires.specs.declared.call.Packet.{Packet}
 use Rattle.ddt_resolver.specs.declared.itr_messages.ItrRequest.{ItrRequest}
 use Rattle.ddt_resolver.specs.declared.results.Ignored.{Ignored}
-use Rattle.ddt_resolver.specs.State.{moved}
 use Rattle.ddt_resolver.specs.Step.{Tick}
 use Rattle.ddt_loop.specs.declared.came.Ended.{Ended as End}
+use Rattle.ddt_loop.specs.declared.owner.Asker.TheVariants.{Itr}
+use Rattle.ddt_loop.specs.Askers.{with_owner}
 use Rattle.ddt_loop.specs.Acts.{Running, running, AsksForItr, HearsOrTicks, Hastens}
-use Rattle.ddt_loop.specs.Ends.{EndsBy, EndsByHaste}
+use Rattle.ddt_loop.specs.Ends.{EndsBy, EndsByHaste, waiting_itrs}
 use Rattle.ddt_loop.specs.Ignoring.{IsIgnored}
 use Rattle.ddt_ecm.specs.UdpHeader.{control_port}
-use Rattle.ddt_resolver.specs.Within.{IsCut}
+use Rattle.ddt_path.specs.declared.record.ReferralRecord.{ReferralRecord}
+use Rattle.ddt_resolver.specs.declared.pending.Pending.{Pending}
+use Rattle.ddt_resolver.specs.State.{State, moved}
+use Rattle.ddt_resolver.specs.Within.{IsCut, IsWide}
 use Rattle.ddt_loop.specs.Runs.{MayEndBy, EndsByReply}
-use Rattle.ddt_loop.specs.Sharing.{IsAskedBy}
 use Rattle.ddt_wire.specs.declared.message_type.MessageType.TheVariants.{Encapsulated}
 use Rattle.ddt_wire.specs.MessageType.{is_of}
 use Rattle.ddt_loop.specs.Polls.{polled, IsPacketTaken}
@@ -25,7 +28,7 @@ use Rattle.ddt_daemon.specs.declared.itr_requests.Kept.{Kept}
 use Rattle.ddt_daemon.specs.declared.admission.Admitted.{Admitted}
 use Rattle.ddt_daemon.specs.declared.admission.Dropped.{Dropped}
 use Rattle.ddt_daemon.specs.declared.counts.ResolverCounts.{ResolverCounts}
-use Rattle.ddt_daemon.specs.Admitted.{IsAdmitted, IsDropped}
+use Rattle.ddt_daemon.specs.Admitted.{IsAdmitted, IsDropped, IsPlaced}
 use Rattle.ddt_daemon.specs.Counted.{with_dropped, with_lookup, with_shared, with_cut, with_why}
 use Rattle.ddt_daemon.specs.Goes.{Follows, with_end}
 
@@ -47,28 +50,39 @@ HasWaited now w v = (v ≡ w) ⊎ (v ≡ running (moved now w.state) w.desk)
 abbrev pub at_moment : ℕ → Running → Running
 at_moment now w = running (moved now w.state) w.desk
 
--- a request of an ITR that came from there waits, as the one that has started its lookup or as one that shares it
-pub record WaitsAs (shares : Bool) (from : Locator) (bytes : List ℕ) (q : ItrRequest) (k : Kept) : Type 0 where
+-- A request of an ITR that came from there waits, as the one that has started its lookup or as one that shares it. Of
+-- the first the servers are kept at which the lookup begins, of the other none.
+pub record WaitsAs (shares : Bool) (servers : Option (List Locator)) (from : Locator) (bytes : List ℕ) (q : ItrRequest)
+    (k : Kept) : Type 0 where
   pub shared : k.shares ≡ shares
+  pub begins : k.begins ≡ servers
   pub request : k.request ≡ q
   pub source : k.from ≡ from
   pub bytes_are : k.bytes ≡ bytes
 
--- what is kept of a request that is asked for: nothing where it is answered at once or refused, else the request
-pub data KeepsAsked (from : Locator) (bytes : List ℕ) (q : ItrRequest) (old : List Kept) (counts : ResolverCounts) :
-    List Kept → ResolverCounts → Type 0 where
-  at_once : KeepsAsked from bytes q old counts old counts
-  waits : (k : Kept) → WaitsAs false from bytes q k
-      → KeepsAsked from bytes q old counts (old ++ k ∷ []) (with_lookup counts)
+-- What is kept of a request that is asked for. `at_once`: nothing, where it is answered at once or refused, and nobody
+-- waits for it. `waits`: the request, where its ITR waits for the lookup that has started.
+pub data KeepsAsked (servers : Option (List Locator)) (from : Locator) (bytes : List ℕ) (q : ItrRequest)
+    (w new : Resolving) : Type 0 where
+  at_once : new.running.desk ≡ w.running.desk → new.kept ≡ w.kept → new.counts ≡ w.counts
+      → KeepsAsked servers from bytes q w new
+  waits : (k : Kept) → WaitsAs false servers from bytes q k
+      → new.running.desk ≡ with_owner w.running.desk k.ticket (Itr q)
+      → new.kept ≡ w.kept ++ k ∷ [] → new.counts ≡ with_lookup w.counts → KeepsAsked servers from bytes q w new
 
 -- What becomes of a request that is admitted. `shares`: it waits for the lookup of a ticket. `asks`: it is asked for.
 pub data IsAsked (me : Locator) (now : ℕ) (a : Admitted) (w : Resolving) (near : List Call) (new : Resolving) : Type 0
   where
-    shares : (t : ℕ) (k : Kept) → a.place.shares ≡ Some t → k.ticket ≡ t → WaitsAs true a.from a.bytes a.request k
-        → near ≡ [] → new ≡ resolving w.running (w.kept ++ k ∷ []) (with_shared w.counts)
+    shares : (t : ℕ) (k : Kept) → a.place.shares ≡ Some t → k.ticket ≡ t
+        → WaitsAs true a.place.begins a.from a.bytes a.request k → near ≡ []
+        → new ≡ resolving w.running (w.kept ++ k ∷ []) (with_shared w.counts)
         → IsAsked me now a w near new
-    asks : AsksForItr me now a.request w.running near new.running
-        → KeepsAsked a.from a.bytes a.request w.kept w.counts new.kept new.counts → IsAsked me now a w near new
+    asks : a.place.shares ≡ None → AsksForItr me now a.request w.running near new.running
+        → KeepsAsked a.place.begins a.from a.bytes a.request w new → IsAsked me now a w near new
+
+-- the same ITRs wait as before: the lookup of none has ended
+abbrev pub StillWait : Running → Running → Type 0
+StillWait w new = waiting_itrs new.desk.owners ≡ waiting_itrs w.desk.owners
 
 -- What a datagram of these bytes from UDP port 4342 does, as it is heard. One that the resolver ignores is counted by why.
 pub record HearsReply (me : Locator) (now : ℕ) (p : Packet) (heard : List ℕ) (w : Resolving) (near far : List Call)
@@ -77,6 +91,7 @@ pub record HearsReply (me : Locator) (now : ℕ) (p : Packet) (heard : List ℕ)
   pub taken : IsPacketTaken me now p heard w.running tries new.running
   pub ended : Option End
   pub ends : MayEndBy (EndsByReply now p heard w.running new.running) ended
+  pub no_end : IfNone ended (StillWait w.running new.running)
   pub tells : List Call
   pub follows : Follows me (Some p.from) ended w.kept tells far new.kept
   pub calls_are : near ≡ tries ++ tells
@@ -85,9 +100,14 @@ pub record HearsReply (me : Locator) (now : ℕ) (p : Packet) (heard : List ℕ)
   pub is_used : IfNone ignored ((why : Ignored) → IsIgnored now p heard w.running why → ⊥)
   pub counts : new.counts ≡ with_end (with_why w.counts ignored) ended
 
+-- a datagram of this source is a reply that reaches beyond the zone of its server, so that it takes memory to cut it
+abbrev pub ReachesBeyond : State → Locator → List ℕ → Type 0
+ReachesBeyond s source bytes =
+    (l : Pending) × (rec : ReferralRecord) × (zone : List ℕ) × IsWide s source bytes l rec zone
+
 -- What is done with a datagram that is no Encapsulated Control Message. `other_port`: it isn't from UDP port 4342, and
 -- dropped. `whole`: it is heard as it came. `cut`: it reaches beyond the zone of its server, and is heard as if it said
--- the same of that zone alone. `lost`: there is no memory to cut it.
+-- the same of that zone alone. `lost`: it reaches beyond it too, and there is no memory to cut it.
 pub data IsHeard (me : Locator) (now : ℕ) (p : Packet) (bytes : List ℕ) (w : Resolving) (near far : List Call)
     (new : Resolving) : Type 0 where
   other_port : p.port ≢ control_port → near ≡ [] → far ≡ [] → new ≡ w → IsHeard me now p bytes w near far new
@@ -96,10 +116,12 @@ pub data IsHeard (me : Locator) (now : ℕ) (p : Packet) (bytes : List ℕ) (w :
   cut : (heard : List ℕ) → p.port ≡ control_port → IsCut w.running.state p.from bytes (Some heard)
       → HearsReply me now p heard (record w { counts = with_cut w.counts }) near far new
       → IsHeard me now p bytes w near far new
-  lost : near ≡ [] → far ≡ [] → new ≡ w → IsHeard me now p bytes w near far new
+  lost : p.port ≡ control_port → ReachesBeyond w.running.state p.from bytes → near ≡ [] → far ≡ [] → new ≡ w
+      → IsHeard me now p bytes w near far new
 
 -- What is done with a packet. `dropped`: an Encapsulated Control Message is dropped, and counted by why. `shared`: it is
--- a request, and shares the lookup that an ITR waits for. `asked`: it is a request, and asked for. `heard`: any other
+-- a request, and shares the lookup that an ITR waits for. `asked`: it is a request, and asked for; where it waits, the
+-- servers are kept at which its lookup begins, so that it counts among those of its referral set. `heard`: any other
 -- datagram.
 pub data IsHandled (settings : Settings) (me : Locator) (now : ℕ) (p : Packet) (bytes : List ℕ) (w : Resolving)
     (near far : List Call) (new : Resolving) : Type 0 where
@@ -107,14 +129,16 @@ pub data IsHandled (settings : Settings) (me : Locator) (now : ℕ) (p : Packet)
       → IsDropped settings w.kept (at_moment now w.running) p.from bytes why → HasWaited now w.running v → near ≡ []
       → far ≡ [] → new ≡ resolving v w.kept (with_dropped w.counts why) → IsHandled settings me now p bytes w near far new
   shared : (q : ItrRequest) (k : Kept) → is_of Encapsulated bytes ≡ true
-      → IsAdmitted settings w.kept (at_moment now w.running) p.from bytes q → WaitsAs true p.from bytes q k
-      → IsAskedBy w.running.desk.owners k.ticket q.xeid → near ≡ [] → far ≡ []
+      → IsAdmitted settings w.kept (at_moment now w.running) p.from bytes q → WaitsAs true None p.from bytes q k
+      → IsPlaced w.kept (at_moment now w.running) p.from q.xeid (Some k.ticket) None → near ≡ [] → far ≡ []
       → new ≡ resolving (at_moment now w.running) (w.kept ++ k ∷ []) (with_shared w.counts)
       → IsHandled settings me now p bytes w near far new
-  asked : (q : ItrRequest) → is_of Encapsulated bytes ≡ true
+  asked : (q : ItrRequest) (servers : Option (List Locator)) → is_of Encapsulated bytes ≡ true
       → IsAdmitted settings w.kept (at_moment now w.running) p.from bytes q
+      → IsPlaced w.kept (at_moment now w.running) p.from q.xeid None servers
       → AsksForItr me now q (at_moment now w.running) near new.running → far ≡ []
-      → KeepsAsked p.from bytes q w.kept w.counts new.kept new.counts → IsHandled settings me now p bytes w near far new
+      → KeepsAsked servers p.from bytes q (resolving (at_moment now w.running) w.kept w.counts) new
+      → IsHandled settings me now p bytes w near far new
   heard : is_of Encapsulated bytes ≡ false → IsHeard me now p bytes w near far new
       → IsHandled settings me now p bytes w near far new
 
@@ -145,6 +169,7 @@ pub record IsTick (me : Locator) (now : ℕ) (w : Resolving) (near far : List Ca
   pub ended : Option End
   pub ends : MayEndBy (EndsBy Tick (moved now w.running.state) new.running.state w.running.desk.owners
       new.running.desk.owners) ended
+  pub no_end : IfNone ended (StillWait w.running new.running)
   pub tells : List Call
   pub follows : Follows me None ended w.kept tells far new.kept
   pub calls_are : near ≡ tries ++ tells
@@ -158,6 +183,7 @@ pub record IsHastened (me : Locator) (now nonce : ℕ) (w : Resolving) (near far
     pub ended : Option End
     pub ends : MayEndBy (EndsByHaste nonce (moved now w.running.state) new.running.state w.running.desk.owners
         new.running.desk.owners) ended
+    pub no_end : IfNone ended (StillWait w.running new.running)
     pub tells : List Call
     pub follows : Follows me None ended w.kept tells far new.kept
     pub calls_are : near ≡ tries ++ tells

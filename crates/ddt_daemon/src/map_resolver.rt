@@ -16,7 +16,6 @@ ghost use Rattle.ddt_loop.specs.Acts.{running, AsksForItr, Resends};
 ghost use Rattle.ddt_loop.specs.Askers.{opening_desk};
 ghost use Rattle.ddt_ecm.specs.UdpHeader.{control_port};
 ghost use Rattle.ddt_daemon.specs.declared.itr_requests.Kept.{Kept as AKept};
-ghost use Rattle.ddt_loop.specs.Sharing.{IsAskedBy};
 ghost use Rattle.ddt_daemon.specs.Admitted.{IsAdmitted, IsDropped, IsPlaced, IsRefusedPlace};
 ghost use Rattle.ddt_daemon.specs.Goes.{AreClosed, IsSharerTold, goes_on};
 ghost use Rattle.ddt_daemon.specs.Counted.{nothing_counted};
@@ -234,8 +233,8 @@ impl<M: PrefixMap<Entry>> MapResolver<M> {
             (at_moment now self.old.running) from bytes.now a.request) }
         ensures bytes { IfOk result (λ a. a.bytes ≡ bytes.now) }
         ensures from { IfOk result (λ a. a.from ≡ from) }
-        ensures shares { IfOk result (λ a. (t : ℕ) → a.place.shares ≡ Some t
-            → IsAskedBy self.old.running.desk.owners t a.request.xeid) }
+        ensures placed { IfOk result (λ a. IsPlaced self.old.waiting.kept.items (at_moment now self.old.running)
+            from a.request.xeid a.place.shares a.place.begins) }
         ensures moved { OnOk result (self.new.running ≡ at_moment now self.old.running) }
         ensures room { OnOk result (length self.new.waiting.kept.items < deque_capacity self.new.waiting.kept) }
         ensures dropped { IfErr result (IsDropped settings.now self.old.waiting.kept.items
@@ -344,8 +343,9 @@ impl<M: PrefixMap<Entry>> MapResolver<M> {
         requires room { length self.old.waiting.kept.items < deque_capacity self.old.waiting.kept }
         ensures asks { (calls : List ACall) × RecordsCalls (W.calls near.old) calls (W.calls near.new)
             × AsksForItr me now admitted.request self.old.running calls self.new.running }
-        ensures keeps { KeepsAsked admitted.from admitted.bytes admitted.request self.old.waiting.kept.items
-            self.old.counts self.new.waiting.kept.items self.new.counts }
+        ensures keeps { KeepsAsked admitted.place.begins admitted.from admitted.bytes admitted.request
+            (resolving self.old.running self.old.waiting.kept.items self.old.counts)
+            (resolving self.new.running self.new.waiting.kept.items self.new.counts) }
     {
         let ticket = self.running.ask(near, me, now, admitted.request);
         if let Some(ticket) = ticket {
@@ -358,7 +358,8 @@ impl<M: PrefixMap<Entry>> MapResolver<M> {
     fn keep(&mut self, ticket: u64, shares: bool, admitted: Admitted)
         requires room { length self.old.waiting.kept.items < deque_capacity self.old.waiting.kept }
         ensures kept { (k : AKept) × (self.new.waiting.kept.items ≡ self.old.waiting.kept.items ++ k ∷ [])
-            × (k.ticket ≡ ticket) × WaitsAs shares admitted.from admitted.bytes admitted.request k }
+            × (k.ticket ≡ ticket)
+            × WaitsAs shares admitted.place.begins admitted.from admitted.bytes admitted.request k }
         ensures running { self.new.running ≡ self.old.running }
         ensures counts { self.new.counts ≡ self.old.counts }
     {

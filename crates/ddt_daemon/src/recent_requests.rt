@@ -2,8 +2,8 @@
 //! given it back to the resolver, and would do so without end. No answer rests on it: a request may be dropped at any
 //! time.
 
-ghost use Rattle.std.specs.Prelude.{◌≡◌};
-ghost use Rattle.ddt_daemon.specs.Recent.{comes_back};
+ghost use Rattle.std.specs.Prelude.{◌≡◌, true};
+ghost use Rattle.ddt_daemon.specs.Recent.{comes_back, HasBefore};
 
 use crate::itr_requests::is_same_request;
 use ddt_path::Locator;
@@ -53,7 +53,9 @@ impl RecentRequests {
 
     /// Whether a request comes back from another address than it came from less than 4,000 milliseconds ago. If not, it
     /// is remembered.
-    pub(crate) fn takes_back(&mut self, came: Recent) -> bool {
+    pub(crate) fn takes_back(&mut self, came: Recent) -> bool
+        ensures back { result ≡ true → HasBefore self.old.places.items came }
+    {
         let place = (came.request.nonce % MOST_REQUESTS as u64) as usize;
         let before = self.places.as_slice().get(place).copied().flatten();
         if let Some(before) = before

@@ -76,7 +76,11 @@ impl fmt::Display for AnswerCounts {
         write!(f, "num.answer.msack={}\n", self.ms_ack)?;
         write!(f, "num.answer.notregistered={}\n", self.not_registered)?;
         write!(f, "num.answer.hole={}\n", self.hole)?;
-        write!(f, "num.answer.notauthoritative={}\n", self.not_authoritative)?;
+        write!(
+            f,
+            "num.answer.notauthoritative={}\n",
+            self.not_authoritative
+        )?;
         write!(f, "num.ignored.notencapsulated={}\n", self.not_encapsulated)
     }
 }

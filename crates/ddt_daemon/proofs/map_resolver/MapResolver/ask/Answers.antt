@@ -12,4 +12,4 @@ returns-in-Some g c =
     )
 
 pub returns-in-None : goal.returns-in-None
-returns-in-None g c = let w = c.begin.ensures.asks in (w.0, w.1, asks w.2 c.begin.ensures.keeps)
+returns-in-None g c = let w = c.begin.ensures.asks in (w.0, w.1, asks c.in-None.is w.2 c.begin.ensures.keeps)

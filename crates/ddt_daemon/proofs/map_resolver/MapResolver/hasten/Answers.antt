@@ -1,5 +1,6 @@
 use Rattle.std.proofs.Common.{[], ◌++◌, append-nil, Some, None, refl, sym}
 use Rattle.ddt_wires.specs.laws.Tell.{tells_both, tells_none}
+use Rattle.ddt_daemon.proofs.EndLemmas.{is_none}
 use Rattle.ddt_daemon.proofs.map_resolver.MapResolver.hasten.Goals as goal
 
 pub returns-in-Some : goal.returns-in-Some
@@ -15,6 +16,7 @@ returns-in-Some g c =
         hastens = rw c.close.ensures.running w.2;
         ended = Some c.in-Some.ended;
         ends = rw c.close.ensures.running (rw c.in-Some.is at c.hasten-ended.ensures.ended);
+        no_end = tt;
         tells = k.0;
         follows = k.4;
         calls_are = refl;
@@ -34,6 +36,7 @@ returns-in_default g c =
         hastens = w.2;
         ended = None;
         ends = tt;
+        no_end = rw (is_none c.hasten-ended.result c.in_default.not-Some) at c.hasten-ended.ensures.ended;
         tells = [];
         follows = (refl, refl, refl);
         calls_are = sym (append-nil w.0);

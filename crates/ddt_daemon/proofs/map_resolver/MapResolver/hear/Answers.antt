@@ -24,4 +24,10 @@ returns-in-Ok-Some g c =
     )
 
 pub returns-in-Err : goal.returns-in-Err
-returns-in-Err g c = ([], [], tells_none _, tells_none _, lost refl refl refl)
+returns-in-Err g c = (
+  [],
+  [],
+  tells_none _,
+  tells_none _,
+  lost c.if-packet-ne-CONTROL_PORT.false (rw c.resolver.ensures at c.in-Err.ensures.wanted) refl refl refl,
+)

@@ -1,5 +1,6 @@
 use Rattle.std.proofs.Common.{[], ◌++◌, append-nil, Some, None, refl, sym}
 use Rattle.ddt_wires.specs.laws.Tell.{tells_both, tells_none}
+use Rattle.ddt_daemon.proofs.EndLemmas.{is_none}
 use Rattle.ddt_daemon.proofs.map_resolver.MapResolver.hear_reply.Goals as goal
 
 pub returns-in-Some : goal.returns-in-Some
@@ -15,6 +16,7 @@ returns-in-Some g c =
         taken = rw c.close.ensures.running w.2;
         ended = Some c.in-Some.ended;
         ends = rw c.close.ensures.running (record { port = c.requires.port; ends = (rw c.in-Some.is at c.hear-ended.ensures.came).1 });
+        no_end = tt;
         tells = k.0;
         follows = k.4;
         calls_are = refl;
@@ -37,6 +39,7 @@ returns-in_default g c =
         taken = w.2;
         ended = None;
         ends = tt;
+        no_end = rw (is_none c.hear-ended.result.ended c.in_default.not-Some) at c.hear-ended.ensures.came;
         tells = [];
         follows = (refl, refl, refl);
         calls_are = sym (append-nil w.0);

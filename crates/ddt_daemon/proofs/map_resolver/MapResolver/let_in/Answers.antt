@@ -12,7 +12,7 @@ returns-in-Ok g c =
       w.1,
       tells_none _,
       handled_asked c.in-Ok.admitted (sym c.is_of.ensures ∙ c.if-is_of.true) c.in-Ok.ensures.admitted c.in-Ok.ensures.bytes c.in-Ok.ensures.from
-          c.in-Ok.ensures.shares (rw (c.in-Ok.ensures.moved, c.in-Ok.ensures.same, c.in-Ok.ensures.counts) at w.2),
+          c.in-Ok.ensures.placed (rw (c.in-Ok.ensures.moved, c.in-Ok.ensures.same, c.in-Ok.ensures.counts) at w.2),
     )
 
 pub returns-in-Err : goal.returns-in-Err

@@ -122,7 +122,7 @@ impl<R: Role> Daemon<R> {
         let Some(told) = self.control.take(&self.poll, first, seconds(rt)) else {
             return false;
         };
-        let is_stop = told.word == Some(ControlWord::Stop);
+        let is_stop = told.word == Some(ControlWord::Stop) && told.argument.is_empty();
         let answer = self.answer(rt, &told, log);
         self.control.answer(told, answer);
         is_stop

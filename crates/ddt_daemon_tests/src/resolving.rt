@@ -294,11 +294,20 @@ fn is_forgotten(alloc: Global, rt: &impl Abort, world: &mut World) -> Result<(),
     let rows = world.resolver.resolver().inside(everything)?;
     same(rt, &rows.len(), &1, &"rows");
     let (prefix, entry) = world.resolver.longest(now, IN_TEN);
-    holds(rt, rows.as_slice().first().map(|row| row.0) == Some(prefix), &"the row");
+    holds(
+        rt,
+        rows.as_slice().first().map(|row| row.0) == Some(prefix),
+        &"the row",
+    );
     holds(rt, entry.servers.as_slice().contains(&TEN), &"the servers");
     holds(rt, world.resolver.forget(prefix), &"it was there");
     holds(rt, !world.resolver.forget(prefix), &"it is not there");
-    same(rt, &world.resolver.longest(now, IN_TEN).0, &everything, &"the root");
+    same(
+        rt,
+        &world.resolver.longest(now, IN_TEN).0,
+        &everything,
+        &"the root",
+    );
     world.waits(rt, 1);
     Ok(())
 }

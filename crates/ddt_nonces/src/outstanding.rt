@@ -140,12 +140,7 @@ impl Outstanding {
 }
 
 /// The place of the first request to which such a reply is.
-fn place_of(
-    sent: &VecDeque<SentRequest>,
-    at: Locator,
-    from: Locator,
-    wire: u64,
-) -> Option<usize>
+fn place_of(sent: &VecDeque<SentRequest>, at: Locator, from: Locator, wire: u64) -> Option<usize>
     ensures { result ≡ position (λ s. is_reply_to at from wire s) sent.now.items }
 {
     sent.iter()

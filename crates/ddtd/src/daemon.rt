@@ -77,11 +77,7 @@ pub fn run<R: Role>(
 
 impl<R: Role> Daemon<R> {
     /// The role, at its control socket.
-    fn start(
-        rt: &HostRuntime,
-        role: Result<R, Why>,
-        path: Option<&str>,
-    ) -> Result<Daemon<R>, Why> {
+    fn start(rt: &HostRuntime, role: Result<R, Why>, path: Option<&str>) -> Result<Daemon<R>, Why> {
         let role = role?;
         let control = Control::open(rt, path)?;
         let now = seconds(rt);
@@ -131,8 +127,7 @@ impl<R: Role> Daemon<R> {
     fn answer(&mut self, rt: &HostRuntime, told: &Told, log: &mut Log) -> Why {
         match told.word {
             Some(ControlWord::Stats | ControlWord::Reload | ControlWord::Stop)
-                if !told.argument.is_empty() =>
-            {
+                if !told.argument.is_empty() => {
                 format!(in rt.alloc(); "refused: the word takes nothing after it\n")
             }
             Some(ControlWord::Stats) => self.statistics(rt, log),
@@ -190,5 +185,9 @@ impl<R: Role> Daemon<R> {
 
 /// The verb after the name of a file: settings are many.
 fn goes_on(file: &str) -> &'static str {
-    if file.ends_with('s') { "go on" } else { "goes on" }
+    if file.ends_with('s') {
+        "go on"
+    } else {
+        "goes on"
+    }
 }

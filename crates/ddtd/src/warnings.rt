@@ -20,7 +20,11 @@ impl fmt::Display for Warning {
     fn fmt<W: fmt::Write>(&self, f: &mut fmt::Formatter<W>) -> fmt::Result {
         match self {
             Warning::Root(at) => write!(f, "allow covers a root: {}", ip_of(*at)),
-            Warning::Own(at) => write!(f, "allow covers the resolver's own address: {}", ip_of(*at)),
+            Warning::Own(at) => write!(
+                f,
+                "allow covers the resolver's own address: {}",
+                ip_of(*at)
+            ),
         }
     }
 }

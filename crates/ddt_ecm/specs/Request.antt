@@ -41,6 +41,13 @@ written nonce x rlocs ddt = ecm_header ddt ++ packet x.address rlocs (written_ma
 
 -- ---- the first fault
 
+-- the inner source port and the message behind the inner headers, or the first fault of the headers
+unfoldable pub inner_in : List ℕ → Result (ℕ × List ℕ) RequestFault
+inner_in bytes = do
+  ip ← ecm_at bytes
+  udp ← ip_at ip
+  udp_at udp.0 udp.1
+
 -- The request, or the first fault. The ECM header is judged first, then the IP header, the UDP header and the
 -- Map-Request.
 unfoldable pub message_in : List ℕ → Result Message RequestFault

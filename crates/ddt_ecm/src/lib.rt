@@ -20,5 +20,5 @@ pub use ecm_header::DDT;
 pub use fault::RequestFault;
 pub use laws::request_laws;
 pub use map_request::Rlocs;
-pub use request::{Request, read_request, write_request};
+pub use request::{Request, read_inner, read_request, write_request};
 pub use udp_header::CONTROL_PORT;

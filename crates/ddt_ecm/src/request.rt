@@ -13,8 +13,9 @@
 //! +----------------------------------+
 //! ```
 
-ghost use Rattle.std.specs.Prelude.{◌≡◌, ◌≤◌, length, Ok, IfOk};
-ghost use Rattle.ddt_ecm.specs.Request.{Message, Spells, message_in, written};
+ghost use Rattle.std.specs.Prelude.{◌≡◌, ◌≤◌, length, Ok, IfOk, OnOk};
+ghost use Rattle.ddt_path.specs.Steps.{IsReadAs};
+ghost use Rattle.ddt_ecm.specs.Request.{Message, Spells, inner_in, message_in, written};
 ghost use Rattle.ddt_ecm.specs.laws.Statements.{message_of};
 
 use crate::ecm_header::{D_SHIFT, ecm_header, read_ecm};
@@ -79,6 +80,18 @@ impl<'a> Request<'a> {
     {
         self.rlocs.again()
     }
+}
+
+/// The inner source port, and the LISP message inside an Encapsulated Control Message (RFC 9301, section 5.8), whatever
+/// that message is. Refused, in this order, as 1 Short to 11 Port by `read_request`.
+#[tactic(auto, unfolding(crate::specs::Request::inner_in))]
+pub fn read_inner(bytes: &[u8]) -> Result<(u16, &[u8]), RequestFault>
+    ensures exact { IsReadAs (λ x. (x.0, x.1.now)) result (inner_in bytes.now) }
+    ensures first { OnOk result (1 ≤ length bytes.now) }
+{
+    let ip = read_ecm(bytes)?;
+    let (pseudo, udp) = read_ip(ip)?;
+    read_udp(pseudo, udp)
 }
 
 /// The request that the bytes are, or the first fault.

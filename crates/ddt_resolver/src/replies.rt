@@ -1,6 +1,7 @@
 //! Which datagrams are taken as a reply: six tests in order, which change nothing.
 
-ghost use Rattle.std.specs.Prelude.{◌≡◌, ◌<◌, ℕ, IsTrue, false, IfOk, IfErr, OnErr, length};
+ghost use Rattle.std.specs.Prelude.{◌≡◌, ◌≢◌, ◌<◌, ℕ, IsTrue, false, Some, IfOk, IfErr, OnErr, IfSome, IfNone, length};
+ghost use Rattle.std.specs.FinMap as map;
 ghost use Rattle.ddt_path.specs.declared.record.ReferralRecord.{ReferralRecord as RecordValue};
 ghost use Rattle.ddt_resolver.specs.declared.pending.Pending.{Pending as APending};
 ghost use Rattle.ddt_path.specs.Path.{xeid_path};
@@ -30,6 +31,18 @@ pub struct Taken {
 }
 
 impl<M: PrefixMap<Entry>> Resolver<M> {
+    /// The identifier of the pending lookup whose last request has this nonce; None where no pending lookup has it.
+    pub fn identifier_of(&self, nonce: u64) -> Option<Xeid>
+        ensures asked { IfSome result (λ x. (t : ℕ) × (l : APending) × (map.get self.now.pending t ≡ Some l)
+            × (l.nonce ≡ nonce) × (l.x ≡ x)) }
+        ensures none { IfNone result ((t : ℕ) (l : APending) → map.get self.now.pending t ≡ Some l → l.nonce ≢ nonce) }
+    {
+        match self.table.with_nonce(nonce) {
+            Some((_ticket, lookup)) => Some(lookup.x),
+            None => None,
+        }
+    }
+
     /// The lookup whose last request the bytes answer by its nonce. Refused as 1 Undecodable, then as 2 UnknownNonce.
     pub(crate) fn reply(&self, bytes: &[u8]) -> Result<Taken, Ignored>
         ensures found { IfOk result (λ r. IsReplyTo self.now bytes.now r.ticket r.lookup r.told) }

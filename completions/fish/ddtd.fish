@@ -8,7 +8,7 @@ function __ddtd_at
     set -l plain
     while set -q words[1]
         switch $words[1]
-            case --control --format
+            case --control --format --settings
                 set -e words[1]
             case '-*'
             case '*'
@@ -37,6 +37,7 @@ complete -c ddtd -n '__ddtd_at check' -s h -l help -d 'Print help'
 
 complete -c ddtd -n '__ddtd_at serve 1' -k -a '(__fish_complete_suffix .toml)'
 complete -c ddtd -n '__ddtd_at serve' -l control -r -F -d 'Listen at this Unix socket for what it is told'
+complete -c ddtd -n '__ddtd_at serve' -l settings -r -k -a '(__fish_complete_suffix .toml)' -d 'Answer the ITRs that this file allows'
 complete -c ddtd -n '__ddtd_at serve' -l watch -d 'Take the file up whenever it has changed'
 complete -c ddtd -n '__ddtd_at serve' -s h -l help -d 'Print help'
 

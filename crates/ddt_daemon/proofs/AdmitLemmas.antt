@@ -1,33 +1,125 @@
--- Which messages are requests that may be asked for, and which are dropped whatever waits.
-use Rattle.std.proofs.Common.{◌≡◌, ℕ, true, false, List, Option, Some, None, Result, Ok, Err, refl, sym, ap, ◌∙◌, subst}
-use Rattle.std.proofs.lemmas.Bool.{true≢false}
-use Rattle.ddt_path.specs.declared.locator.Locator.{Locator}
-use Rattle.ddt_ecm.specs.Request.{Message, Spells}
+-- What an ITR asks can be spelled in the core's grammar, in an IPv6 packet without a UDP checksum; and why a message isn't
+-- asked for.
+use Rattle.std.proofs.Common.{◌≡◌, ℕ, ◌+◌, ◌^◌, ◌<◌, Bool, true, false, List, [], ◌∷◌, ◌++◌, length, Option, Some, None, Result, Ok, Err, refl, subst, arith, inl}
+use Rattle.std.specs.Prelude.{not, if◌then◌else◌, slice_get}
+use Rattle.std.specs.Int.{w128, to_be_bytes}
+use Rattle.ddt_ecm.specs.EcmHeader.{ecm_fields}
+use Rattle.ddt_ecm.specs.IpHeader.{Version6}
+use Rattle.ddt_ecm.specs.Ipv6Header.{Ipv6Header, ipv6_fields, pseudo6}
+use Rattle.ddt_ecm.specs.UdpHeader.{udp_fields}
+use Rattle.ddt_ecm.specs.Request.{Spells}
+use Rattle.ddt_ecm.specs.laws.Statements.{IsRequest}
+use Rattle.ddt_ecm.specs.laws.Written.{written_spells}
 use Rattle.ddt_resolver.specs.declared.itr_messages.ItrRequest.{ItrRequest}
-use Rattle.ddt_resolver.specs.Front.{IsItrRequest, asked_by}
-use Rattle.ddt_resolver.specs.laws.Front.{asked_is, asked_in}
-use Rattle.ddt_daemon.specs.Admitted.{names_one, NamesOwn}
+use Rattle.ddt_path.specs.declared.locator.Locator.{Locator}
+use Rattle.ddt_foreign.specs.declared.fault.ForeignRequestFault.{ForeignRequestFault}
+use Rattle.ddt_foreign.specs.declared.fault.ForeignRequestFault.TheVariants as fault
+use Rattle.ddt_foreign.specs.Request.{Asked, request_in}
+use Rattle.ddt_loop.specs.Acts.{Running}
+use Rattle.ddt_settings.specs.declared.settings.Settings.{Settings}
+use Rattle.ddt_daemon.specs.declared.itr_requests.Kept.{Kept}
+use Rattle.ddt_daemon.specs.declared.admission.Dropped.{Dropped}
+use Rattle.ddt_daemon.specs.declared.admission.Dropped.TheVariants.{Denied, TooLong, NoRequest, UnrecognizedAfi, Probe, NoReply, OwnAddress, Repeated, Full, SourceFull, SetFull, Looped, Memory}
+use Rattle.ddt_daemon.specs.Requests.{IsSpellable, judged, names_one, itr_request}
+use Rattle.ddt_daemon.specs.Admitted.{MayCome, IsNotAsked, IsDropped}
 
--- bytes of which a message is read spell no other
-pub elsewhere : {E : Type 0} (bytes : List ℕ) (own : List Locator) (m : Message) (read : Result Message E)
-    → ((v : Message) → Spells bytes v → read ≡ Ok v) → read ≡ Ok m → names_one own m ≡ false → NamesOwn own bytes → ⊥
-elsewhere bytes own m read only is none names =
-    let same : m ≡ names.0 = cc (is, only names.0 names.1) in
-    true≢false (sym names.2 ∙ sym (ap (names_one own) same) ∙ none)
+no_header : Ipv6Header
+no_header = record {
+  class_and_label = 0;
+  hops = 0;
+  source = 0;
+  destination = 0;
+  class_and_label_fit = omega arith;
+  hops_fit = omega arith;
+  source_fits = omega arith;
+  destination_fits = omega arith;
+}
 
--- of a message that asks nothing, no request is spelled
-pub none_asked : {E : Type 0} (bytes : List ℕ) (m : Message) (read : Result Message E)
-    → ((v : Message) → Spells bytes v → read ≡ Ok v) → read ≡ Ok m → (asked : Option ItrRequest) → asked ≡ asked_by m
-    → ((q : ItrRequest) → asked ≡ Some q → ⊥) → (q : ItrRequest) → IsItrRequest bytes q → ⊥
-none_asked bytes m read only is asked its none q asks =
-    let same : m ≡ asks.message = cc (is, only asks.message asks.spells) in
-    none q (its ∙ ap asked_by same ∙ asked_is asks.message q asks.asks)
+pub spellable : (q : ItrRequest) → IsRequest q.nonce q.xeid (q.to ∷ []) → q.port < 2 ^ 16 → IsSpellable q
+spellable q fits port =
+    let written = written_spells q.nonce q.xeid (q.to ∷ []) false fits in
+    let udp = udp_fields q.port (8 + length written.request) 0 ++ written.request in
+    let few = written.spells_udp.len_fits in
+    let packet = ipv6_fields no_header (length udp) ++ udp in (
+      ecm_fields false 0 ++ packet,
+      record {
+        message = record { nonce = q.nonce; ddt = false; port = q.port; xeid = q.xeid; rlocs = q.to ∷ [] };
+        spells = record {
+          ignored = 0;
+          packet = packet;
+          pseudo = pseudo6 (to_be_bytes w128 no_header.source ++ to_be_bytes w128 no_header.destination) (length udp);
+          udp = udp;
+          request = written.request;
+          ignored_fits = omega arith;
+          spells_ip = Version6 (record { header = no_header; payload_fits = omega (arith, few); covered = refl; whole = refl });
+          spells_udp = record {
+            checksum = 0;
+            port_fits = port;
+            len_fits = few;
+            checksum_fits = omega arith;
+            right = inl refl;
+            whole = refl;
+          };
+          spells_request = written.spells_request;
+          whole = refl;
+        };
+        asks = record { plain = refl; identifier = refl; nonce = refl; first_rloc = refl; port = refl };
+      },
+    )
 
--- nor of bytes of which none can be read
-pub none_read : {E : Type 0} (bytes : List ℕ) (read : Result Message E)
-    → ((v : Message) → Spells bytes v → read ≡ Ok v) → ((v : Message) → read ≡ Ok v → ⊥) → (q : ItrRequest) → IsItrRequest bytes q → ⊥
-none_read bytes read only none q asks = none asks.message (only asks.message asks.spells)
+-- the reasons for which a message isn't asked for
+abbrev IsOfRequest : Dropped → Type 0
+IsOfRequest NoRequest = Unit {0}
+IsOfRequest UnrecognizedAfi = Unit {0}
+IsOfRequest Probe = Unit {0}
+IsOfRequest NoReply = Unit {0}
+IsOfRequest OwnAddress = Unit {0}
+IsOfRequest _ = ⊥
 
--- a message that asks something spells a request of an ITR
-pub asked_of : (bytes : List ℕ) (m : Message) (q : ItrRequest) → Spells bytes m → asked_by m ≡ Some q → IsItrRequest bytes q
-asked_of bytes m q spells is = asked_in bytes m (Some q) spells (sym is)
+of_this : (own why : Dropped) → IsOfRequest own → ◌≡◌ {A = Result ItrRequest Dropped} (Err own) (Err why) → IsOfRequest why
+of_this own why its is = let same : own ≡ why = cc is in subst IsOfRequest same its
+
+of_first : (v : Asked) (to : Option Locator) (why : Dropped) → itr_request v to ≡ Err why → IsOfRequest why
+of_first v (Some l) why is = absurd (cc is)
+of_first v None why is = of_this NoRequest why tt is
+
+of_bits : (v : Asked) (ddt probe reply own : Bool) (why : Dropped)
+    → (if ddt then Err NoRequest else if probe then Err Probe else if not reply then Err NoReply else if own then Err OwnAddress else itr_request v (slice_get v.rlocs 0)) ≡ Err why
+    → IsOfRequest why
+of_bits v true probe reply own why is = of_this NoRequest why tt is
+of_bits v false true reply own why is = of_this Probe why tt is
+of_bits v false false false own why is = of_this NoReply why tt is
+of_bits v false false true true why is = of_this OwnAddress why tt is
+of_bits v false false true false why is = of_first v (slice_get v.rlocs 0) why is
+
+of_request : (own : List Locator) (r : Result Asked ForeignRequestFault) (why : Dropped) → judged own r ≡ Err why → IsOfRequest why
+of_request own (Ok v) why is = of_bits v v.ddt v.probe v.reply (names_one own v.rlocs) why is
+of_request own (Err fault.UnrecognizedAfi) why is = of_this UnrecognizedAfi why tt is
+of_request own (Err (fault.Headers h)) why is = of_this NoRequest why tt is
+of_request own (Err fault.Short) why is = of_this NoRequest why tt is
+of_request own (Err fault.RequestType) why is = of_this NoRequest why tt is
+of_request own (Err fault.NoEid) why is = of_this NoRequest why tt is
+of_request own (Err fault.Lcaf) why is = of_this NoRequest why tt is
+of_request own (Err fault.MaskLength) why is = of_this NoRequest why tt is
+of_request own (Err fault.ManyInstances) why is = of_this NoRequest why tt is
+of_request own (Err fault.NoRloc) why is = of_this NoRequest why tt is
+
+by_why : (settings : Settings) (from : Locator) (bytes : List ℕ) (kept : List Kept) (w : Running) (why : Dropped) → IsOfRequest why → IsNotAsked settings from bytes why → IsDropped settings kept w from bytes why
+by_why settings from bytes kept w NoRequest its is = is
+by_why settings from bytes kept w UnrecognizedAfi its is = is
+by_why settings from bytes kept w Probe its is = is
+by_why settings from bytes kept w NoReply its is = is
+by_why settings from bytes kept w OwnAddress its is = is
+by_why settings from bytes kept w Denied its is = absurd its
+by_why settings from bytes kept w TooLong its is = absurd its
+by_why settings from bytes kept w Repeated its is = absurd its
+by_why settings from bytes kept w Full its is = absurd its
+by_why settings from bytes kept w SourceFull its is = absurd its
+by_why settings from bytes kept w SetFull its is = absurd its
+by_why settings from bytes kept w Looped its is = absurd its
+by_why settings from bytes kept w Memory its is = absurd its
+
+-- a message that may come is dropped for what it asks
+pub dropped_for : (settings : Settings) (from : Locator) (bytes : List ℕ) (kept : List Kept) (w : Running) (why : Dropped) → MayCome settings from bytes
+    → judged settings.listen (request_in bytes) ≡ Err why → IsDropped settings kept w from bytes why
+dropped_for settings from bytes kept w why may is = by_why settings from bytes kept w why (of_request settings.listen (request_in bytes) why is) (may, is)

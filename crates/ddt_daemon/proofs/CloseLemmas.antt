@@ -17,7 +17,7 @@ use Rattle.ddt_daemon.specs.Kept.{TakesKept, nobody, somebody}
 use Rattle.ddt_daemon.specs.Goes.{sharers, sharer_if, IsSharerTold, goes_on, Closes, starts, one, AreClosed, Follows}
 
 pub closed_one : {me : Locator} {by : Option Locator} {e : Ended} {old left new : List Kept} {near far : List Call} (k : Kept) (told on : List Call)
-    → Closes me by e old near far left → TakesKept e.ticket left new (Some k) → IsSharerTold me e.end k.shares k told → AreTried me (goes_on by e.end k.bytes) on
+    → Closes me by e old near far left → TakesKept e.ticket left new (Some k) → IsSharerTold me e.end k.begins k told → AreTried me (goes_on by e.end k.bytes) on
     → Closes me by e old (near ++ told) (far ++ on) new
 closed_one k told on so_far (nobody none is f) t o = absurd (cc f)
 closed_one k told on so_far (somebody before after j none its was is f) t o =
@@ -57,44 +57,44 @@ not_sharing_append t (j ∷ a) b = not_sharing_cons t j a b (j.ticket == t) refl
     not_sharing_cons t j a b true e ih = rw (e, ih)
     not_sharing_cons t j a b false e ih = rw (e, ih)
 
-other_sharing : (t : ℕ) (k : Kept) (b : Bool) → k.ticket ≢ t → sharing t (sharer_if b k) ≡ []
-other_sharing t k true apart = rw (ne_eqb k.ticket t apart)
-other_sharing t k false apart = refl
+other_sharing : (t : ℕ) (k : Kept) (b : Option (List Locator)) → k.ticket ≢ t → sharing t (sharer_if b k) ≡ []
+other_sharing t k None apart = rw (ne_eqb k.ticket t apart)
+other_sharing t k (Some servers) apart = refl
 
-other_not_sharing : (t : ℕ) (k : Kept) (b : Bool) → k.ticket ≢ t → not_sharing t (sharer_if b k) ≡ sharer_if b k
-other_not_sharing t k true apart = rw (ne_eqb k.ticket t apart)
-other_not_sharing t k false apart = refl
+other_not_sharing : (t : ℕ) (k : Kept) (b : Option (List Locator)) → k.ticket ≢ t → not_sharing t (sharer_if b k) ≡ sharer_if b k
+other_not_sharing t k None apart = rw (ne_eqb k.ticket t apart)
+other_not_sharing t k (Some servers) apart = refl
 
 -- where none waits for a lookup, none shares it
 pub none_sharing : (t : ℕ) (kept : List Kept) → All (λ k. k.ticket ≢ t) kept → sharing t (sharers kept) ≡ []
 none_sharing t [] none = refl
 none_sharing t (k ∷ kept) none =
-    sharing_append t (sharer_if k.shares k) (sharers kept)
-    ∙ ap (λ rest. sharing t (sharer_if k.shares k) ++ rest) (none_sharing t kept (All-tail (λ k. k.ticket ≢ t) k kept none))
-    ∙ append-nil (sharing t (sharer_if k.shares k)) ∙ other_sharing t k k.shares (All-head (λ k. k.ticket ≢ t) k kept none)
+    sharing_append t (sharer_if k.begins k) (sharers kept)
+    ∙ ap (λ rest. sharing t (sharer_if k.begins k) ++ rest) (none_sharing t kept (All-tail (λ k. k.ticket ≢ t) k kept none))
+    ∙ append-nil (sharing t (sharer_if k.begins k)) ∙ other_sharing t k k.begins (All-head (λ k. k.ticket ≢ t) k kept none)
 
 pub all_not_sharing : (t : ℕ) (kept : List Kept) → All (λ k. k.ticket ≢ t) kept → not_sharing t (sharers kept) ≡ sharers kept
 all_not_sharing t [] none = refl
 all_not_sharing t (k ∷ kept) none =
-    not_sharing_append t (sharer_if k.shares k) (sharers kept)
-    ∙ ap (λ rest. not_sharing t (sharer_if k.shares k) ++ rest) (all_not_sharing t kept (All-tail (λ k. k.ticket ≢ t) k kept none))
-    ∙ ap (λ first. first ++ sharers kept) (other_not_sharing t k k.shares (All-head (λ k. k.ticket ≢ t) k kept none))
+    not_sharing_append t (sharer_if k.begins k) (sharers kept)
+    ∙ ap (λ rest. not_sharing t (sharer_if k.begins k) ++ rest) (all_not_sharing t kept (All-tail (λ k. k.ticket ≢ t) k kept none))
+    ∙ ap (λ first. first ++ sharers kept) (other_not_sharing t k k.begins (All-head (λ k. k.ticket ≢ t) k kept none))
 
-own_not_sharing : (t : ℕ) (k : Kept) (b : Bool) → k.ticket ≡ t → not_sharing t (sharer_if b k) ≡ []
-own_not_sharing t k true same = rw (eq-eqb k.ticket t same)
-own_not_sharing t k false same = refl
+own_not_sharing : (t : ℕ) (k : Kept) (b : Option (List Locator)) → k.ticket ≡ t → not_sharing t (sharer_if b k) ≡ []
+own_not_sharing t k None same = rw (eq-eqb k.ticket t same)
+own_not_sharing t k (Some servers) same = refl
 
 -- one that is closed shares the lookup no more, and the others share on
 not_sharing_without : (t : ℕ) (before after : List Kept) (k : Kept) → k.ticket ≡ t → not_sharing t (sharers (before ++ k ∷ after)) ≡ not_sharing t (sharers (before ++ after))
 not_sharing_without t before after k same =
-    ap (not_sharing t) (sharers_append before (k ∷ after)) ∙ not_sharing_append t (sharers before) (sharer_if k.shares k ++ sharers after)
-    ∙ ap (λ rest. not_sharing t (sharers before) ++ rest) (not_sharing_append t (sharer_if k.shares k) (sharers after) ∙ ap (λ first. first ++ not_sharing t (sharers after)) (own_not_sharing t k k.shares same))
+    ap (not_sharing t) (sharers_append before (k ∷ after)) ∙ not_sharing_append t (sharers before) (sharer_if k.begins k ++ sharers after)
+    ∙ ap (λ rest. not_sharing t (sharers before) ++ rest) (not_sharing_append t (sharer_if k.begins k) (sharers after) ∙ ap (λ first. first ++ not_sharing t (sharers after)) (own_not_sharing t k k.begins same))
     ∙ sym (not_sharing_append t (sharers before) (sharers after)) ∙ sym (ap (not_sharing t) (sharers_append before after))
 
-told_first : {me : Locator} {e : Ended} (k : Kept) (b : Bool) (told others : List Call) (rest : List Sharer) → k.ticket ≡ e.ticket → IsSharerTold me e.end b k told
+told_first : {me : Locator} {e : Ended} (k : Kept) (b : Option (List Locator)) (told others : List Call) (rest : List Sharer) → k.ticket ≡ e.ticket → IsSharerTold me e.end b k told
     → AreToldEnd me e.end (sharing e.ticket rest) others → AreToldEnd me e.end (sharing e.ticket (sharer_if b k ++ rest)) (told ++ others)
-told_first {e = e} k true told others rest same t later = rw (eq-eqb k.ticket e.ticket same) (sharing_specs.one k.request (sharing e.ticket rest) told others t later)
-told_first k false told others rest same t later = rw t later
+told_first {e = e} k None told others rest same t later = rw (eq-eqb k.ticket e.ticket same) (sharing_specs.one k.request (sharing e.ticket rest) told others t later)
+told_first k (Some servers) told others rest same t later = rw t later
 
 front_sharing : (t : ℕ) (before after : List Kept) → All (λ k. k.ticket ≢ t) before → sharing t (sharers (before ++ after)) ≡ sharing t (sharers after)
 front_sharing t before after none =
@@ -108,8 +108,8 @@ told_in_all : {me : Locator} {by : Option Locator} {e : Ended} {old left : List 
 told_in_all starts others later = (later, refl)
 told_in_all {me} {e = e} (one {near = near} {left = left} before after k told on so_far was none its t o) others later =
     let after_k : AreToldEnd me e.end (sharing e.ticket (sharers after)) others = rw (front_sharing e.ticket before after none) at later in
-    let with_k = told_first k k.shares told others (sharers after) its t after_k in
-    let front : sharing e.ticket (sharers left) ≡ sharing e.ticket (sharer_if k.shares k ++ sharers after) = ap (λ l. sharing e.ticket (sharers l)) was ∙ front_sharing e.ticket before (k ∷ after) none in
+    let with_k = told_first k k.begins told others (sharers after) its t after_k in
+    let front : sharing e.ticket (sharers left) ≡ sharing e.ticket (sharer_if k.begins k ++ sharers after) = ap (λ l. sharing e.ticket (sharers l)) was ∙ front_sharing e.ticket before (k ∷ after) none in
     let first = told_in_all so_far (told ++ others) (subst (λ qs. AreToldEnd me e.end qs (told ++ others)) (sym front) with_k) in
     (rw append_assoc first.0, sym (not_sharing_without e.ticket before after k its) ∙ sym (ap (λ l. not_sharing e.ticket (sharers l)) was) ∙ first.1)
 

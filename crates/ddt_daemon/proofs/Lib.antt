@@ -5,4 +5,7 @@ pub mod CloseLemmas
 pub mod PlainLemmas
 pub mod HandleLemmas
 pub mod EndLemmas
+pub mod BitLemmas
+pub mod OnwardLemmas
+pub mod TurnLemmas
 pub mod RunLemmas

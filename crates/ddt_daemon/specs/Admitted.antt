@@ -1,17 +1,14 @@
 -- Which Encapsulated Control Messages a resolver asks for, and why it drops others.
-use Rattle.std.specs.Prelude.{ℕ, ◌≡◌, ◌≤◌, ◌<◌, Bool, true, false, List, length, Option, None, Some}
-use Rattle.std.specs.List.{list_any}
+use Rattle.std.specs.Prelude.{ℕ, ◌≡◌, ◌≤◌, ◌<◌, ◌⊎◌, IsTrue, Bool, true, false, List, length, Result, Ok, Err, Option, None, Some}
 use Rattle.ddt_path.specs.declared.locator.Locator.{Locator}
 use Rattle.ddt_path.specs.declared.record.Outcome.{Outcome}
 use Rattle.ddt_path.specs.declared.xeid.Xeid.{Xeid}
-use Rattle.ddt_path.specs.Path.{xeid_path}
-use Rattle.ddt_path.specs.Locators.{is_same_locator}
+use Rattle.ddt_path.specs.Path.{xeid_path, is_path}
 use Rattle.ddt_cache.specs.declared.entry.Entry.{Entry}
-use Rattle.ddt_ecm.specs.Request.{Message, Spells}
+use Rattle.ddt_foreign.specs.Request.{request_in}
 use Rattle.ddt_cache.specs.Found.{IsFound}
 use Rattle.ddt_resolver.specs.declared.itr_messages.ItrRequest.{ItrRequest}
 use Rattle.ddt_resolver.specs.AskStep.{answer_of, IsUnanswered}
-use Rattle.ddt_resolver.specs.Front.{IsItrRequest}
 use Rattle.ddt_resolver.specs.State.{State, most_pending}
 use Rattle.ddt_loop.specs.Acts.{Running}
 use Rattle.ddt_loop.specs.Sharing.{IsAskedBy}
@@ -19,8 +16,15 @@ use Rattle.ddt_settings.specs.declared.settings.Settings.{Settings}
 use Rattle.ddt_settings.specs.Rlocs.{is_allowed}
 use Rattle.ddt_daemon.specs.declared.itr_requests.Kept.{Kept}
 use Rattle.ddt_daemon.specs.declared.admission.Dropped.{Dropped}
-use Rattle.ddt_daemon.specs.declared.admission.Dropped.TheVariants.{Denied, TooLong, NoRequest, OwnAddress, Looped, Repeated, Full, SourceFull, SetFull, Memory}
+use Rattle.ddt_daemon.specs.declared.admission.Dropped.TheVariants.{Denied, TooLong, NoRequest, UnrecognizedAfi, Probe, NoReply, OwnAddress, Repeated, Full, SourceFull, SetFull, Looped, Memory}
+use Rattle.ddt_daemon.specs.declared.admission.Lookup.{Lookup}
+use Rattle.ddt_daemon.specs.declared.admission.Lookup.TheVariants.{Shared, Own}
+use Rattle.ddt_daemon.specs.declared.admission.Place.{Place}
+use Rattle.ddt_daemon.specs.declared.admission.Place.TheVariants.{Answered, Waits}
+use Rattle.ddt_daemon.specs.declared.admission.Admitted.{Admitted as Granted}
+use Rattle.ddt_daemon.specs.declared.admission.Admitted.TheVariants.{Answered as AnsweredNow, Waits as WaitsFor}
 use Rattle.ddt_daemon.specs.Kept.{waits_for, of_source, of_set}
+use Rattle.ddt_daemon.specs.Requests.{judged, IsSpellable}
 
 -- no longer request is kept
 abbrev pub most_kept_bytes : ℕ
@@ -34,9 +38,13 @@ most_of_source = 128
 abbrev pub most_of_set : ℕ
 most_of_set = 256
 
--- an answer to an identifier is remembered: a negative record
+-- this answer to an identifier is remembered: a negative record
+abbrev pub Answers : State → Xeid → Outcome → Type 0
+Answers s x o = (p : List ℕ) × (e : Entry) × IsFound s.known (xeid_path x) p e × (answer_of p e ≡ Some o)
+
+-- an answer to an identifier is remembered
 abbrev pub IsAnswered : State → Xeid → Type 0
-IsAnswered s x = (p : List ℕ) × (e : Entry) × (o : Outcome) × IsFound s.known (xeid_path x) p e × (answer_of p e ≡ Some o)
+IsAnswered s x = (o : Outcome) × Answers s x o
 
 -- a lookup of an identifier would begin at these servers
 abbrev pub BeginsAt : State → Xeid → List Locator → Type 0
@@ -62,13 +70,17 @@ pub data HasPlace (kept : List Kept) (w : Running) (from : Locator) (q : ItrRequ
   begins : (servers : List Locator) → IsUnasked w q.xeid → BeginsAt w.state q.xeid servers → HasRoom kept from
       → of_set kept servers < most_of_set → HasPlace kept w from q
 
--- where a request's place is: its answer is remembered, or it shares a lookup, or one begins at a referral set
-abbrev pub IsPlaced : List Kept → Running → Locator → Xeid → Option ℕ → Option (List Locator) → Type 0
-IsPlaced kept w from x None None = IsAnswered w.state x
-IsPlaced kept w from x (Some t) None = IsUnanswered w.state x × IsAskedBy w.desk.owners t x × HasRoom kept from
-IsPlaced kept w from x (Some t) (Some servers) = ⊥
-IsPlaced kept w from x None (Some servers) =
+-- the lookup that a request waits for is that of an ITR which waits for the same identifier, or one that begins at a
+-- referral set
+abbrev pub HasLookup : List Kept → Running → Locator → Xeid → Lookup → Type 0
+HasLookup kept w from x (Shared t) = IsUnanswered w.state x × IsAskedBy w.desk.owners t x × HasRoom kept from
+HasLookup kept w from x (Own servers) =
     IsUnasked w x × BeginsAt w.state x servers × HasRoom kept from × (of_set kept servers < most_of_set)
+
+-- where a request's place is: its answer is remembered, or it waits for a lookup
+abbrev pub IsPlaced : List Kept → Running → Locator → Xeid → Place → Type 0
+IsPlaced kept w from x (Answered o) = Answers w.state x o
+IsPlaced kept w from x (Waits lookup) = HasLookup kept w from x lookup
 
 -- fewer requests wait than may, but as many of this source as may
 abbrev pub IsFullOfSource : List Kept → Locator → Type 0
@@ -87,27 +99,25 @@ IsRefusedPlace kept w from x SourceFull = IsUnanswered w.state x × IsFullOfSour
 IsRefusedPlace kept w from x SetFull = IsUnanswered w.state x × IsFullOfSet kept w from x
 IsRefusedPlace kept w from x _ = ⊥
 
--- whether a locator is one of these addresses
-abbrev pub is_one : List Locator → Locator → Bool
-is_one own l = list_any (λ o. is_same_locator o l) own
-
--- whether one of a request's ITR-RLOCs is
-abbrev pub names_one : List Locator → Message → Bool
-names_one own m = list_any (is_one own) m.rlocs
-
--- a request names an address of the resolver itself, which would ask itself for what it answers
-abbrev pub NamesOwn : List Locator → List ℕ → Type 0
-NamesOwn own bytes = (m : Message) × Spells bytes m × (names_one own m ≡ true)
+-- why a request that has a place doesn't wait: it comes back from where it was sent on, or there is no memory
+abbrev pub IsRefusedWait : Dropped → Type 0
+IsRefusedWait why = (why ≡ Looped) ⊎ (why ≡ Memory)
 
 -- it may come from there, and it is short enough to be kept
 abbrev pub MayCome : Settings → Locator → List ℕ → Type 0
 MayCome settings from bytes = (is_allowed settings.allow from ≡ true) × (length bytes ≤ most_kept_bytes)
 
--- it may come from there, it is the request of an ITR, and names no address of the resolver itself
+-- it may come from there, and this is what it asks of the resolver for an ITR
 pub record IsAllowed (settings : Settings) (from : Locator) (bytes : List ℕ) (q : ItrRequest) : Type 0 where
   pub may_come : MayCome settings from bytes
-  pub asks : IsItrRequest bytes q
-  pub elsewhere : NamesOwn settings.listen bytes → ⊥
+  pub asks : judged settings.listen (request_in bytes) ≡ Ok q
+  pub identifier : IsTrue (is_path (xeid_path q.xeid))
+  pub spelled : IsSpellable q
+
+-- it may come from there, and the resolver doesn't ask for it for this reason
+abbrev pub IsNotAsked : Settings → Locator → List ℕ → Dropped → Type 0
+IsNotAsked settings from bytes why =
+    MayCome settings from bytes × (judged settings.listen (request_in bytes) ≡ Err why)
 
 -- It is asked for: the request of an ITR that is allowed, which doesn't wait yet; and there is a place for it.
 pub record IsAdmitted (settings : Settings) (kept : List Kept) (w : Running) (from : Locator) (bytes : List ℕ)
@@ -116,6 +126,19 @@ pub record IsAdmitted (settings : Settings) (kept : List Kept) (w : Running) (fr
   pub unlike : waits_for kept q ≡ false
   pub place : HasPlace kept w from q
 
+-- What is asked for, of a message from there. Its answer is remembered, or it waits for a lookup, as it came.
+abbrev pub IsGranted : Settings → List Kept → Running → Locator → List ℕ → Granted → Type 0
+IsGranted settings kept w from bytes (AnsweredNow a) =
+    IsAdmitted settings kept w from bytes a.request × Answers w.state a.request.xeid a.outcome
+IsGranted settings kept w from bytes (WaitsFor a) =
+    IsAdmitted settings kept w from bytes a.request × HasLookup kept w from a.request.xeid a.lookup
+    × (a.from ≡ from) × (a.bytes ≡ bytes)
+
+-- where so many requests wait, and so many have room, there is room for one more that waits
+abbrev pub HasRoomToWait : ℕ → ℕ → Granted → Type 0
+HasRoomToWait count room (AnsweredNow a) = Unit {0}
+HasRoomToWait count room (WaitsFor a) = count < room
+
 -- it would wait: no answer is remembered
 pub record WouldWait (settings : Settings) (kept : List Kept) (w : Running) (from : Locator) (bytes : List ℕ)
     (q : ItrRequest) : Type 0 where
@@ -123,19 +146,18 @@ pub record WouldWait (settings : Settings) (kept : List Kept) (w : Running) (fro
   pub unlike : waits_for kept q ≡ false
   pub unanswered : IsUnanswered w.state q.xeid
 
--- It is dropped, by the first of these reasons. OwnAddress: it names an address of the resolver itself. Looped: it came
--- back from where it was sent on to; no answer rests on what came before. Full, SourceFull, SetFull: no answer is
--- remembered, and too many wait, of all, of its source, or for the referral set at which its lookup would begin. Memory:
--- there is a place for it, but no memory to keep it in.
+-- It is dropped, by the first of these reasons. Full, SourceFull, SetFull: no answer is remembered, and too many wait, of
+-- all, of its source, or for the referral set at which its lookup would begin. Looped: there is a place for it, but it came back from where it was sent on to; no answer rests on what
+-- came before. Memory: there is a place for it, but no memory to keep it in.
 abbrev pub IsDropped : Settings → List Kept → Running → Locator → List ℕ → Dropped → Type 0
 IsDropped settings kept w from bytes Denied = is_allowed settings.allow from ≡ false
 IsDropped settings kept w from bytes TooLong =
     (is_allowed settings.allow from ≡ true) × (most_kept_bytes < length bytes)
-IsDropped settings kept w from bytes NoRequest =
-    MayCome settings from bytes × ((q : ItrRequest) → IsItrRequest bytes q → ⊥)
-IsDropped settings kept w from bytes OwnAddress =
-    MayCome settings from bytes × ((q : ItrRequest) × IsItrRequest bytes q) × NamesOwn settings.listen bytes
-IsDropped settings kept w from bytes Looped = (q : ItrRequest) × IsAllowed settings from bytes q
+IsDropped settings kept w from bytes NoRequest = IsNotAsked settings from bytes NoRequest
+IsDropped settings kept w from bytes UnrecognizedAfi = IsNotAsked settings from bytes UnrecognizedAfi
+IsDropped settings kept w from bytes Probe = IsNotAsked settings from bytes Probe
+IsDropped settings kept w from bytes NoReply = IsNotAsked settings from bytes NoReply
+IsDropped settings kept w from bytes OwnAddress = IsNotAsked settings from bytes OwnAddress
 IsDropped settings kept w from bytes Repeated =
     (q : ItrRequest) × IsAllowed settings from bytes q × (waits_for kept q ≡ true)
 IsDropped settings kept w from bytes Full =
@@ -144,4 +166,5 @@ IsDropped settings kept w from bytes SourceFull =
     (q : ItrRequest) × WouldWait settings kept w from bytes q × IsFullOfSource kept from
 IsDropped settings kept w from bytes SetFull =
     (q : ItrRequest) × WouldWait settings kept w from bytes q × IsFullOfSet kept w from q.xeid
+IsDropped settings kept w from bytes Looped = (q : ItrRequest) × IsAdmitted settings kept w from bytes q
 IsDropped settings kept w from bytes Memory = (q : ItrRequest) × IsAdmitted settings kept w from bytes q

@@ -1,16 +1,17 @@
 -- What is counted. A count that is full stays so.
-use Rattle.std.specs.Prelude.{ℕ, ◌+◌, ◌-◌, ◌^◌, min, Result, Ok, Err, Option, Some, None}
+use Rattle.std.specs.Prelude.{ℕ, ◌+◌, ◌-◌, ◌^◌, min, Bool, true, false, Result, Ok, Err, Option, Some, None}
 use Rattle.ddt_path.specs.declared.record.Outcome.{Outcome}
 use Rattle.ddt_path.specs.declared.record.Outcome.TheVariants.{Registered, NotRegistered, Hole}
-use Rattle.ddt_wires.specs.declared.turns.Served.{Served}
 use Rattle.ddt_wires.specs.declared.call.Packet.{Packet}
 use Rattle.ddt_wires.specs.declared.call.NetFault.{NetFault}
 use Rattle.ddt_resolver.specs.declared.results.Ignored.{Ignored}
 use Rattle.ddt_resolver.specs.declared.results.Ignored.TheVariants as ignored
 use Rattle.ddt_resolver.specs.declared.results.Why.{Why}
-use Rattle.ddt_resolver.specs.declared.results.Why.TheVariants.{NoReply, Loop, NotAuthoritative, Exhausted}
+use Rattle.ddt_resolver.specs.declared.results.Why.TheVariants as gave_up
 use Rattle.ddt_daemon.specs.declared.admission.Dropped.{Dropped}
-use Rattle.ddt_daemon.specs.declared.admission.Dropped.TheVariants.{Denied, TooLong, NoRequest, OwnAddress, Looped, Repeated, Full, SourceFull, SetFull, Memory}
+use Rattle.ddt_daemon.specs.declared.admission.Dropped.TheVariants.{Denied, TooLong, NoRequest, UnrecognizedAfi, Probe, NoReply, OwnAddress, Looped, Repeated, Full, SourceFull, SetFull, Memory}
+use Rattle.ddt_daemon.specs.declared.service.Service.{Service}
+use Rattle.ddt_daemon.specs.declared.service.Service.TheVariants as service
 use Rattle.ddt_daemon.specs.declared.counts.ServerCounts.{ServerCounts}
 use Rattle.ddt_daemon.specs.declared.counts.ResolverCounts.{ResolverCounts}
 use Rattle.ddt_daemon.specs.declared.counted.WireCounts.{WireCounts}
@@ -32,6 +33,9 @@ nothing_counted = record {
   denied = 0;
   too_long = 0;
   no_request = 0;
+  unrecognized_afi = 0;
+  probe = 0;
+  no_map_reply = 0;
   own_address = 0;
   came_back = 0;
   repeated = 0;
@@ -54,15 +58,28 @@ nothing_counted = record {
   exhausted = 0;
 }
 
--- a server's counts after what it has served: packets that came, and replies that were sent without a fault
-abbrev pub with_served : ServerCounts → Served → ServerCounts
-with_served c s = record { received = plus c.received s.received; replied = plus c.replied s.replied }
+-- one more datagram that a server was given, to which a reply was sent or not
+abbrev pub with_received_one : ServerCounts → Bool → ServerCounts
+with_received_one c true = record c { received = plus c.received 1; replied = plus c.replied 1 }
+with_received_one c false = record c { received = plus c.received 1 }
+
+-- counted by whom it asks for, or by why it was dropped
+abbrev pub with_service : ServerCounts → Service → ServerCounts
+with_service c service.NoRequest = record c { no_request = plus c.no_request 1 }
+with_service c service.UnrecognizedAfi = record c { unrecognized_afi = plus c.unrecognized_afi 1 }
+with_service c service.Probe = record c { probe = plus c.probe 1 }
+with_service c service.Denied = record c { denied = plus c.denied 1 }
+with_service c service.Client = record c { clients = plus c.clients 1 }
+with_service c service.Itr = record c { itrs = plus c.itrs 1 }
 
 -- one more Encapsulated Control Message that a resolver has dropped, counted by the reason
 abbrev pub with_dropped : ResolverCounts → Dropped → ResolverCounts
 with_dropped c Denied = record c { denied = plus c.denied 1 }
 with_dropped c TooLong = record c { too_long = plus c.too_long 1 }
 with_dropped c NoRequest = record c { no_request = plus c.no_request 1 }
+with_dropped c UnrecognizedAfi = record c { unrecognized_afi = plus c.unrecognized_afi 1 }
+with_dropped c Probe = record c { probe = plus c.probe 1 }
+with_dropped c NoReply = record c { no_map_reply = plus c.no_map_reply 1 }
 with_dropped c OwnAddress = record c { own_address = plus c.own_address 1 }
 with_dropped c Looped = record c { came_back = plus c.came_back 1 }
 with_dropped c Repeated = record c { repeated = plus c.repeated 1 }
@@ -102,10 +119,10 @@ abbrev pub with_ended : ResolverCounts → Result Outcome Why → ResolverCounts
 with_ended c (Ok (Registered p servers)) = record c { registered = plus c.registered 1 }
 with_ended c (Ok (NotRegistered p servers)) = record c { not_registered = plus c.not_registered 1 }
 with_ended c (Ok (Hole p)) = record c { holes = plus c.holes 1 }
-with_ended c (Err NoReply) = record c { no_reply = plus c.no_reply 1 }
-with_ended c (Err Loop) = record c { looped = plus c.looped 1 }
-with_ended c (Err NotAuthoritative) = record c { not_authoritative = plus c.not_authoritative 1 }
-with_ended c (Err Exhausted) = record c { exhausted = plus c.exhausted 1 }
+with_ended c (Err gave_up.NoReply) = record c { no_reply = plus c.no_reply 1 }
+with_ended c (Err gave_up.Loop) = record c { looped = plus c.looped 1 }
+with_ended c (Err gave_up.NotAuthoritative) = record c { not_authoritative = plus c.not_authoritative 1 }
+with_ended c (Err gave_up.Exhausted) = record c { exhausted = plus c.exhausted 1 }
 
 -- what a call of wires came to
 abbrev pub with_received : WireCounts → Result (Option Packet) NetFault → WireCounts

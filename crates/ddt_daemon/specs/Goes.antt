@@ -1,5 +1,5 @@
 -- What becomes of the requests that wait for a lookup which has ended, and what is counted of lookups.
-use Rattle.std.specs.Prelude.{ℕ, ◌≡◌, ◌≢◌, Bool, true, false, List, [], ◌∷◌, ◌++◌, All, Option, Some, None, Result}
+use Rattle.std.specs.Prelude.{ℕ, ◌≡◌, ◌≢◌, List, [], ◌∷◌, ◌++◌, All, Option, Some, None, Result}
 use Rattle.ddt_path.specs.declared.locator.Locator.{Locator}
 use Rattle.ddt_path.specs.declared.record.Outcome.{Outcome}
 use Rattle.ddt_wires.specs.declared.call.Call.{Call}
@@ -8,24 +8,24 @@ use Rattle.ddt_resolver.specs.declared.results.Why.{Why}
 use Rattle.ddt_loop.specs.declared.came.Ended.{Ended as End}
 use Rattle.ddt_loop.specs.Ends.{IsToldEnd}
 use Rattle.ddt_loop.specs.Sharing.{Sharer}
-use Rattle.ddt_onward.specs.Onward.{onward}
+use Rattle.ddt_daemon.specs.Onward.{onward}
 use Rattle.ddt_daemon.specs.declared.counts.ResolverCounts.{ResolverCounts}
 use Rattle.ddt_daemon.specs.declared.itr_requests.Kept.{Kept}
 use Rattle.ddt_daemon.specs.Counted.{plus, with_ended}
 
--- of the requests that wait, those that share a lookup, each with the lookup's ticket
-abbrev pub sharer_if : Bool → Kept → List Sharer
-sharer_if true k = record { ticket = k.ticket; request = k.request } ∷ []
-sharer_if false k = []
+-- of the requests that wait, those that share a lookup, each with the lookup's ticket: none has begun for them
+abbrev pub sharer_if : Option (List Locator) → Kept → List Sharer
+sharer_if None k = record { ticket = k.ticket; request = k.request } ∷ []
+sharer_if (Some servers) k = []
 
 abbrev pub sharers : List Kept → List Sharer
 sharers [] = []
-sharers (k ∷ kept) = sharer_if k.shares k ++ sharers kept
+sharers (k ∷ kept) = sharer_if k.begins k ++ sharers kept
 
 -- an ITR that shares a lookup is told its end here; the one that has started it is told by the resolver
-abbrev pub IsSharerTold : Locator → Result Outcome Why → Bool → Kept → List Call → Type 0
-IsSharerTold me end true k calls = IsToldEnd me end k.request calls
-IsSharerTold me end false k calls = calls ≡ []
+abbrev pub IsSharerTold : Locator → Result Outcome Why → Option (List Locator) → Kept → List Call → Type 0
+IsSharerTold me end None k calls = IsToldEnd me end k.request calls
+IsSharerTold me end (Some servers) k calls = calls ≡ []
 
 -- a request goes on to the server whose datagram has ended its lookup as registered; at another end, or where no
 -- datagram did, nothing goes on
@@ -40,7 +40,7 @@ pub data Closes (me : Locator) (by : Option Locator) (e : End) (old : List Kept)
     starts : Closes me by e old [] [] old
     one : {near far : List Call} {left : List Kept} (before after : List Kept) (k : Kept) (told on : List Call)
         → Closes me by e old near far left → left ≡ before ++ k ∷ after → All (λ k. k.ticket ≢ e.ticket) before
-        → k.ticket ≡ e.ticket → IsSharerTold me e.end k.shares k told → AreTried me (goes_on by e.end k.bytes) on
+        → k.ticket ≡ e.ticket → IsSharerTold me e.end k.begins k told → AreTried me (goes_on by e.end k.bytes) on
         → Closes me by e old (near ++ told) (far ++ on) (before ++ after)
 
 -- all that wait for it are closed, and none does any more

@@ -3,7 +3,11 @@ pub mod Kept
 pub mod Recent
 pub mod Counted
 pub mod Answers
+pub mod Requests
+pub mod ServerTurns
 pub mod Admitted
+pub mod Onward
 pub mod Goes
+pub mod Spelled
 pub mod Rounds
 pub mod Runs

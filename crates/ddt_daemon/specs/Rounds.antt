@@ -11,26 +11,29 @@ use Rattle.ddt_resolver.specs.Step.{Tick}
 use Rattle.ddt_loop.specs.declared.came.Ended.{Ended as End}
 use Rattle.ddt_loop.specs.declared.owner.Asker.TheVariants.{Itr}
 use Rattle.ddt_loop.specs.Askers.{with_owner}
-use Rattle.ddt_loop.specs.Acts.{Running, running, AsksForItr, HearsOrTicks, Hastens}
+use Rattle.ddt_loop.specs.Acts.{Running, running, AsksForItr, IsToldItr, HearsOrTicks, Hastens}
 use Rattle.ddt_loop.specs.Ends.{EndsBy, EndsByHaste, waiting_itrs}
 use Rattle.ddt_loop.specs.Ignoring.{IsIgnored}
 use Rattle.ddt_ecm.specs.UdpHeader.{control_port}
+use Rattle.ddt_path.specs.declared.record.Outcome.{Outcome}
 use Rattle.ddt_path.specs.declared.record.ReferralRecord.{ReferralRecord}
 use Rattle.ddt_resolver.specs.declared.pending.Pending.{Pending}
 use Rattle.ddt_resolver.specs.State.{State, moved}
 use Rattle.ddt_resolver.specs.Within.{IsCut, IsWide}
-use Rattle.ddt_loop.specs.Runs.{MayEndBy, EndsByReply}
+use Rattle.ddt_loop.specs.Runs.{heard_of, MayEndBy, EndsByReply}
 use Rattle.ddt_wire.specs.declared.message_type.MessageType.TheVariants.{Encapsulated}
 use Rattle.ddt_wire.specs.MessageType.{is_of}
 use Rattle.ddt_loop.specs.Polls.{polled, IsPacketTaken}
 use Rattle.ddt_settings.specs.declared.settings.Settings.{Settings}
 use Rattle.ddt_daemon.specs.declared.itr_requests.Kept.{Kept}
-use Rattle.ddt_daemon.specs.declared.admission.Admitted.{Admitted}
+use Rattle.ddt_daemon.specs.declared.admission.Lookup.TheVariants.{Shared, Own}
+use Rattle.ddt_daemon.specs.declared.admission.Waiter.{Waiter}
 use Rattle.ddt_daemon.specs.declared.admission.Dropped.{Dropped}
 use Rattle.ddt_daemon.specs.declared.counts.ResolverCounts.{ResolverCounts}
-use Rattle.ddt_daemon.specs.Admitted.{IsAdmitted, IsDropped, IsPlaced}
+use Rattle.ddt_daemon.specs.Admitted.{Answers, IsAdmitted, IsDropped, HasLookup}
 use Rattle.ddt_daemon.specs.Counted.{with_dropped, with_lookup, with_shared, with_cut, with_why}
 use Rattle.ddt_daemon.specs.Goes.{Follows, with_end}
+use Rattle.ddt_daemon.specs.Spelled.{IsAskedFor, IsSpelledAs}
 
 -- a resolver, the requests that wait for its lookups, and what it has counted
 pub record Resolving : Type 0 where
@@ -50,35 +53,32 @@ HasWaited now w v = (v ≡ w) ⊎ (v ≡ running (moved now w.state) w.desk)
 abbrev pub at_moment : ℕ → Running → Running
 at_moment now w = running (moved now w.state) w.desk
 
--- A request of an ITR that came from there waits, as the one that has started its lookup or as one that shares it. Of
--- the first the servers are kept at which the lookup begins, of the other none.
-pub record WaitsAs (shares : Bool) (servers : Option (List Locator)) (from : Locator) (bytes : List ℕ) (q : ItrRequest)
-    (k : Kept) : Type 0 where
-  pub shared : k.shares ≡ shares
-  pub begins : k.begins ≡ servers
+-- A request of an ITR that came from there waits, for a lookup that has begun at these servers, or for that of another.
+pub record WaitsAs (begins_ : Option (List Locator)) (from : Locator) (bytes : List ℕ) (q : ItrRequest) (k : Kept) : Type
+    0 where
+  pub begins : k.begins ≡ begins_
   pub request : k.request ≡ q
   pub source : k.from ≡ from
   pub bytes_are : k.bytes ≡ bytes
 
--- What is kept of a request that is asked for. `at_once`: nothing, where it is answered at once or refused, and nobody
--- waits for it. `waits`: the request, where its ITR waits for the lookup that has started.
-pub data KeepsAsked (servers : Option (List Locator)) (from : Locator) (bytes : List ℕ) (q : ItrRequest)
-    (w new : Resolving) : Type 0 where
+-- What is kept of a request whose lookup begins at these servers. `at_once`: nothing, where it is answered at once or
+-- refused, and nobody waits for it. `waits`: the request, where its ITR waits for the lookup that has started.
+pub data KeepsAsked (servers : List Locator) (from : Locator) (bytes : List ℕ) (q : ItrRequest) (w new : Resolving) : Type
+    0 where
   at_once : new.running.desk ≡ w.running.desk → new.kept ≡ w.kept → new.counts ≡ w.counts
       → KeepsAsked servers from bytes q w new
-  waits : (k : Kept) → WaitsAs false servers from bytes q k
+  waits : (k : Kept) → WaitsAs (Some servers) from bytes q k
       → new.running.desk ≡ with_owner w.running.desk k.ticket (Itr q)
       → new.kept ≡ w.kept ++ k ∷ [] → new.counts ≡ with_lookup w.counts → KeepsAsked servers from bytes q w new
 
--- What becomes of a request that is admitted. `shares`: it waits for the lookup of a ticket. `asks`: it is asked for.
-pub data IsAsked (me : Locator) (now : ℕ) (a : Admitted) (w : Resolving) (near : List Call) (new : Resolving) : Type 0
+-- What becomes of a request that waits. `shares`: it waits for the lookup of a ticket. `asks`: it is asked for.
+pub data IsAsked (me : Locator) (now : ℕ) (a : Waiter) (w : Resolving) (near : List Call) (new : Resolving) : Type 0
   where
-    shares : (t : ℕ) (k : Kept) → a.place.shares ≡ Some t → k.ticket ≡ t
-        → WaitsAs true a.place.begins a.from a.bytes a.request k → near ≡ []
-        → new ≡ resolving w.running (w.kept ++ k ∷ []) (with_shared w.counts)
+    shares : (t : ℕ) (k : Kept) → a.lookup ≡ Shared t → k.ticket ≡ t → WaitsAs None a.from a.bytes a.request k
+        → near ≡ [] → new ≡ resolving w.running (w.kept ++ k ∷ []) (with_shared w.counts)
         → IsAsked me now a w near new
-    asks : a.place.shares ≡ None → AsksForItr me now a.request w.running near new.running
-        → KeepsAsked a.place.begins a.from a.bytes a.request w new → IsAsked me now a w near new
+    asks : (servers : List Locator) → a.lookup ≡ Own servers → AsksForItr me now a.request w.running near new.running
+        → KeepsAsked servers a.from a.bytes a.request w new → IsAsked me now a w near new
 
 -- the same ITRs wait as before: the lookup of none has ended
 abbrev pub StillWait : Running → Running → Type 0
@@ -105,37 +105,51 @@ abbrev pub ReachesBeyond : State → Locator → List ℕ → Type 0
 ReachesBeyond s source bytes =
     (l : Pending) × (rec : ReferralRecord) × (zone : List ℕ) × IsWide s source bytes l rec zone
 
+-- What is done with a datagram in the one spelling. `whole`: it is heard as it is. `cut`: it reaches beyond the zone of
+-- its server, and is heard as if it said the same of that zone alone. `lost`: it reaches beyond it too, and there is no
+-- memory to cut it.
+pub data HearsSpelled (me : Locator) (now : ℕ) (p : Packet) (bytes : List ℕ) (w : Resolving) (near far : List Call)
+    (new : Resolving) : Type 0 where
+  whole : IsCut w.running.state p.from bytes None → HearsReply me now p bytes w near far new
+      → HearsSpelled me now p bytes w near far new
+  cut : (heard : List ℕ) → IsCut w.running.state p.from bytes (Some heard)
+      → HearsReply me now p heard (record w { counts = with_cut w.counts }) near far new
+      → HearsSpelled me now p bytes w near far new
+  lost : ReachesBeyond w.running.state p.from bytes → near ≡ [] → far ≡ [] → new ≡ w
+      → HearsSpelled me now p bytes w near far new
+
 -- What is done with a datagram that is no Encapsulated Control Message. `other_port`: it isn't from UDP port 4342, and
--- dropped. `whole`: it is heard as it came. `cut`: it reaches beyond the zone of its server, and is heard as if it said
--- the same of that zone alone. `lost`: it reaches beyond it too, and there is no memory to cut it.
+-- dropped. `spelled`: it is heard in the one spelling. `lost_whole`: its nonce asks for an identifier, and there is no
+-- memory to spell it.
 pub data IsHeard (me : Locator) (now : ℕ) (p : Packet) (bytes : List ℕ) (w : Resolving) (near far : List Call)
     (new : Resolving) : Type 0 where
   other_port : p.port ≢ control_port → near ≡ [] → far ≡ [] → new ≡ w → IsHeard me now p bytes w near far new
-  whole : p.port ≡ control_port → IsCut w.running.state p.from bytes None → HearsReply me now p bytes w near far new
-      → IsHeard me now p bytes w near far new
-  cut : (heard : List ℕ) → p.port ≡ control_port → IsCut w.running.state p.from bytes (Some heard)
-      → HearsReply me now p heard (record w { counts = with_cut w.counts }) near far new
-      → IsHeard me now p bytes w near far new
-  lost : p.port ≡ control_port → ReachesBeyond w.running.state p.from bytes → near ≡ [] → far ≡ [] → new ≡ w
-      → IsHeard me now p bytes w near far new
+  spelled : (plain : Option (List ℕ)) → p.port ≡ control_port → IsSpelledAs w.running.state bytes plain
+      → HearsSpelled me now p (heard_of bytes plain) w near far new → IsHeard me now p bytes w near far new
+  lost_whole : (t : ℕ) (l : Pending) → p.port ≡ control_port → IsAskedFor w.running.state bytes t l → near ≡ []
+      → far ≡ [] → new ≡ w → IsHeard me now p bytes w near far new
 
--- What is done with a packet. `dropped`: an Encapsulated Control Message is dropped, and counted by why. `shared`: it is
--- a request, and shares the lookup that an ITR waits for. `asked`: it is a request, and asked for; where it waits, the
--- servers are kept at which its lookup begins, so that it counts among those of its referral set. `heard`: any other
--- datagram.
+-- What is done with a packet. `dropped`: an Encapsulated Control Message is dropped, and counted by why. `answered`: it
+-- is a request whose answer is remembered, and the ITR is told. `shared`: it is a request, and shares the lookup that an
+-- ITR waits for. `asked`: it is a request, and asked for; where it waits, the servers are kept at which its lookup
+-- begins, so that it counts among those of its referral set. `heard`: any other datagram.
 pub data IsHandled (settings : Settings) (me : Locator) (now : ℕ) (p : Packet) (bytes : List ℕ) (w : Resolving)
     (near far : List Call) (new : Resolving) : Type 0 where
   dropped : (why : Dropped) (v : Running) → is_of Encapsulated bytes ≡ true
       → IsDropped settings w.kept (at_moment now w.running) p.from bytes why → HasWaited now w.running v → near ≡ []
       → far ≡ [] → new ≡ resolving v w.kept (with_dropped w.counts why) → IsHandled settings me now p bytes w near far new
+  answered : (q : ItrRequest) (o : Outcome) → is_of Encapsulated bytes ≡ true
+      → IsAdmitted settings w.kept (at_moment now w.running) p.from bytes q
+      → Answers (moved now w.running.state) q.xeid o → IsToldItr me o q near → far ≡ []
+      → new ≡ resolving (at_moment now w.running) w.kept w.counts → IsHandled settings me now p bytes w near far new
   shared : (q : ItrRequest) (k : Kept) → is_of Encapsulated bytes ≡ true
-      → IsAdmitted settings w.kept (at_moment now w.running) p.from bytes q → WaitsAs true None p.from bytes q k
-      → IsPlaced w.kept (at_moment now w.running) p.from q.xeid (Some k.ticket) None → near ≡ [] → far ≡ []
+      → IsAdmitted settings w.kept (at_moment now w.running) p.from bytes q → WaitsAs None p.from bytes q k
+      → HasLookup w.kept (at_moment now w.running) p.from q.xeid (Shared k.ticket) → near ≡ [] → far ≡ []
       → new ≡ resolving (at_moment now w.running) (w.kept ++ k ∷ []) (with_shared w.counts)
       → IsHandled settings me now p bytes w near far new
-  asked : (q : ItrRequest) (servers : Option (List Locator)) → is_of Encapsulated bytes ≡ true
+  asked : (q : ItrRequest) (servers : List Locator) → is_of Encapsulated bytes ≡ true
       → IsAdmitted settings w.kept (at_moment now w.running) p.from bytes q
-      → IsPlaced w.kept (at_moment now w.running) p.from q.xeid None servers
+      → HasLookup w.kept (at_moment now w.running) p.from q.xeid (Own servers)
       → AsksForItr me now q (at_moment now w.running) near new.running → far ≡ []
       → KeepsAsked servers p.from bytes q (resolving (at_moment now w.running) w.kept w.counts) new
       → IsHandled settings me now p bytes w near far new

@@ -1,8 +1,11 @@
 -- What a Map-Resolver has done over any number of rounds, and what follows.
-use Rattle.std.specs.Prelude.{ℕ, ◌≡◌, ◌≤◌, List, [], ◌++◌, All, Result}
+use Rattle.std.specs.Prelude.{ℕ, ◌≡◌, ◌≤◌, List, [], ◌∷◌, ◌++◌, All, Option, Some, Result, Ok}
 use Rattle.ddt_path.specs.declared.locator.Locator.{Locator}
+use Rattle.ddt_path.specs.declared.xeid.Xeid.{Xeid}
+use Rattle.ddt_foreign.specs.Plain.{Gives}
 use Rattle.ddt_wires.specs.declared.call.Call.{Call}
-use Rattle.ddt_wires.specs.declared.call.Call.TheVariants.{Tried}
+use Rattle.ddt_wires.specs.declared.call.Call.TheVariants.{Received, Tried}
+use Rattle.ddt_wires.specs.declared.call.Packet.{Packet}
 use Rattle.ddt_wires.specs.declared.call.NetFault.{NetFault}
 use Rattle.ddt_cache.specs.Moment.{last_moment}
 use Rattle.ddt_ecm.specs.UdpHeader.{control_port}
@@ -12,10 +15,11 @@ use Rattle.ddt_resolver.specs.State.{State, forgotten}
 use Rattle.ddt_loop.specs.Askers.{opening_desk}
 use Rattle.ddt_loop.specs.Acts.{running, Resends}
 use Rattle.ddt_loop.specs.Runs.{BeginsSound, HasRun}
-use Rattle.ddt_onward.specs.Onward.{with_d}
+use Rattle.ddt_daemon.specs.Onward.{with_d}
 use Rattle.ddt_settings.specs.declared.settings.Settings.{Settings}
 use Rattle.ddt_daemon.specs.declared.itr_requests.Kept.{Kept}
 use Rattle.ddt_daemon.specs.Goes.{sharers}
+use Rattle.ddt_daemon.specs.Requests.{AsksFor}
 use Rattle.ddt_daemon.specs.Rounds.{Resolving, resolving, at_moment, IsRound, IsTick, IsHastened}
 
 -- What has been done so far, by the calls of the near wires and those of the far wires: rounds, each by the settings in
@@ -47,12 +51,29 @@ pub data HasServed (may_begin : State → Type 0) (me : Locator) (start : Resolv
       → may_begin new → w.running.state.next ≤ new.next
       → HasServed may_begin me start calls onward (resolving (running new (opening_desk [])) [] w.counts)
 
--- By its near wires it is a running resolver, so that what holds of those holds of it. The resolvers that go on begin
--- sound for one register.
+-- A call of the near wires, and the same in the one spelling. `as_it_is`: it stays so. `request`: what came asks for
+-- an ITR, and a request of the core's grammar asks the same. `referral`: what came answers a request for an identifier,
+-- and is what is given for that.
+pub data IsSpelledCall : Call → Call → Type 0 where
+  as_it_is : (call : Call) → IsSpelledCall call call
+  request : (at : Locator) (room : ℕ) (p : Packet) (bytes plain : List ℕ) (q : ItrRequest) → AsksFor bytes q
+      → IsItrRequest plain q → IsSpelledCall (Received at room (Ok (Some p)) bytes) (Received at room (Ok (Some p)) plain)
+  referral : (at : Locator) (room : ℕ) (p : Packet) (bytes plain : List ℕ) (x : Xeid) → Gives x bytes plain
+      → IsSpelledCall (Received at room (Ok (Some p)) bytes) (Received at room (Ok (Some p)) plain)
+
+-- the same of each, in order
+pub data AreSpelled : List Call → List Call → Type 0 where
+  none : AreSpelled [] []
+  one : {calls plain : List Call} (call spelled : Call) → IsSpelledCall call spelled → AreSpelled calls plain
+      → AreSpelled (call ∷ calls) (spelled ∷ plain)
+
+-- By its near wires, in the one spelling, it is a running resolver, so that what holds of those holds of it. The
+-- resolvers that go on begin sound for one register.
 abbrev pub RunsAsAResolver : Type 0
 RunsAsAResolver = (r : _) (me : Locator) (start : Resolving) (calls onward : List Call) (w : Resolving)
     → start.kept ≡ [] → HasServed (BeginsSound r me) me start calls onward w
-    → HasRun (BeginsSound r me) me start.running calls (sharers w.kept) w.running
+    → (plain : List Call) × AreSpelled calls plain
+    × HasRun (BeginsSound r me) me start.running plain (sharers w.kept) w.running
 
 -- a try of an ITR's request, its bit D set, to a server
 pub record IsOnward (me : Locator) (call : Call) : Type 0 where
@@ -60,12 +81,12 @@ pub record IsOnward (me : Locator) (call : Call) : Type 0 where
   pub request : ItrRequest
   pub bytes : List ℕ
   pub answer : Result (Unit {0}) NetFault
-  pub asks : IsItrRequest bytes request
+  pub asks : AsksFor bytes request
   pub is : call ≡ Tried me to control_port (with_d bytes) answer
 
 -- the bytes of what waits are its request
 abbrev pub AreRequests : List Kept → Type 0
-AreRequests kept = All (λ k. IsItrRequest k.bytes k.request) kept
+AreRequests kept = All (λ k. AsksFor k.bytes k.request) kept
 
 -- any resolver may go on in the place of another
 abbrev pub IsAny : State → Type 0

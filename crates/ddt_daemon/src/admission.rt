@@ -1,14 +1,17 @@
 //! Which Encapsulated Control Messages a resolver asks for.
 
-ghost use Rattle.std.specs.Prelude.{◌≡◌, List, IfOk, IfErr};
+ghost use Rattle.std.specs.Prelude.{◌≡◌, ◌<◌, ◌∷◌, [], IsTrue, List, IfOk, IfErr};
+ghost use Rattle.ddt_path.specs.Path.{xeid_path, is_path};
+ghost use Rattle.ddt_ecm.specs.laws.Statements.{IsRequest};
 ghost use Rattle.ddt_loop.specs.Acts.{Running as ARunning};
 ghost use Rattle.ddt_daemon.specs.declared.itr_requests.Kept.{Kept as AKept};
-ghost use Rattle.std.specs.List.{list_any};
-ghost use Rattle.ddt_daemon.specs.Admitted.{IsAllowed, IsDropped, is_one as is_one_of, names_one as names_one_of};
+ghost use Rattle.ddt_foreign.specs.Request.{request_in};
+ghost use Rattle.ddt_daemon.specs.Admitted.{IsAllowed, IsDropped};
+ghost use Rattle.ddt_daemon.specs.Requests.{judged, is_one as is_one_of, names_one as names_one_of};
 
-use ddt_ecm::{Request, Rlocs, read_request};
-use ddt_path::{Listed, Locator, LocatorSet};
-use ddt_resolver::{Front, ItrRequest};
+use ddt_foreign::{ForeignRequestFault, ItrRlocs, read_foreign_request};
+use ddt_path::{Listed, Locator, LocatorSet, Outcome, Prefix};
+use ddt_resolver::ItrRequest;
 use ddt_settings::Settings;
 
 /// No longer request is kept.
@@ -29,10 +32,14 @@ pub enum Dropped {
     TooLong,
     /// It is no request of an ITR.
     NoRequest,
+    /// It has an AFI that RFC 9301, section 5, calls unrecognized.
+    UnrecognizedAfi,
+    /// It probes an RLOC (RFC 9301, section 5.2).
+    Probe,
+    /// It wants no Map-Reply (RFC 9301, section 5.2).
+    NoReply,
     /// One of its ITR-RLOCs is an address of the resolver itself.
     OwnAddress,
-    /// The same request came from another address less than 4,000 milliseconds ago: it was sent on, and came back.
-    Looped,
     /// The same request waits already.
     Repeated,
     /// No answer is remembered, and as many requests wait as lookups can be pending.
@@ -41,30 +48,59 @@ pub enum Dropped {
     SourceFull,
     /// No answer is remembered, and 256 requests wait whose lookups begin at the same referral set.
     SetFull,
+    /// The same request came from another address less than 4,000 milliseconds ago: it was sent on, and came back.
+    Looped,
     /// There is no memory to keep it in.
     Memory,
 }
 
-/// What becomes of a request of an ITR. Its answer is remembered where both are None.
+/// What becomes of a request of an ITR.
 #[derive(Clone, Copy, Debug)]
-pub(crate) struct Place {
-    /// The ticket of the lookup that it shares.
-    pub(crate) shares: Option<u64>,
-    /// The referral set at which its lookup begins.
-    pub(crate) begins: Option<LocatorSet>,
+pub(crate) enum Place {
+    /// This answer to it is remembered.
+    Answered(Outcome),
+    /// It waits for a lookup.
+    Waits(Lookup),
 }
 
-/// A request of an ITR that is asked for, with all that it takes to keep it.
+/// The lookup that a request waits for.
+#[derive(Clone, Copy, Debug)]
+pub(crate) enum Lookup {
+    /// That of this ticket, which another request has started.
+    Shared(u64),
+    /// Its own, which begins at this referral set.
+    Own(LocatorSet),
+}
+
+/// A request of an ITR that is asked for.
 #[derive(Debug, Drop)]
-pub(crate) struct Admitted {
+pub(crate) enum Admitted {
+    /// The answer to it is remembered.
+    Answered(Ready),
+    /// It waits for a lookup.
+    Waits(Waiter),
+}
+
+/// A request of an ITR, and the answer that is remembered.
+#[derive(Clone, Copy, Debug)]
+pub(crate) struct Ready {
     pub(crate) request: ItrRequest,
+    pub(crate) outcome: Outcome,
+}
+
+/// A request of an ITR that waits for a lookup, with all that it takes to keep it.
+#[derive(Debug, Drop)]
+pub(crate) struct Waiter {
+    pub(crate) request: ItrRequest,
+    /// The address that it came from.
     pub(crate) from: Locator,
-    pub(crate) place: Place,
+    pub(crate) lookup: Lookup,
     /// The request's bytes, as they came.
     pub(crate) bytes: Listed<u8>,
 }
 
-/// The request of an ITR that the bytes are, where it may be asked for; or why it is dropped, whatever waits.
+/// What the bytes ask for an ITR, in any spelling that is read, where it may be asked for; or why they are dropped,
+/// whatever waits.
 pub(crate) fn allowed_request(
     settings: &Settings,
     from: Locator,
@@ -80,27 +116,56 @@ pub(crate) fn allowed_request(
     if bytes.len() > MOST_KEPT_BYTES {
         return Err(Dropped::TooLong);
     }
-    let Ok(message) = read_request(bytes) else {
-        return Err(Dropped::NoRequest);
+    match judge(settings.listen.as_slice(), bytes) {
+        Ok(request) => {
+            fits(request);
+            Ok(request)
+        }
+        Err(why) => Err(why),
+    }
+}
+
+/// The numbers of a request are in the ranges of their types. The call does nothing.
+fn fits(request: ItrRequest)
+    ensures message { IsRequest request.nonce request.xeid (request.to ∷ []) }
+    ensures port { request.port < 65536 }
+    ensures identifier { IsTrue (is_path (xeid_path request.xeid)) }
+{
+    let _identifier = Prefix::host(request.xeid);
+}
+
+/// What the bytes ask of a resolver with these addresses, or why it doesn't ask for it.
+fn judge(own: &[Locator], bytes: &[u8]) -> Result<ItrRequest, Dropped>
+    ensures { result ≡ judged own.now (request_in bytes.now) }
+{
+    let request = match read_foreign_request(bytes) {
+        Ok(request) => request,
+        Err(ForeignRequestFault::UnrecognizedAfi) => return Err(Dropped::UnrecognizedAfi),
+        Err(_fault) => return Err(Dropped::NoRequest),
     };
-    let Some(request) = Front::asked(&message) else {
+    if request.ddt() {
         return Err(Dropped::NoRequest);
-    };
-    if names_one(&message, settings.listen.as_slice()) {
+    }
+    if request.is_probe() {
+        return Err(Dropped::Probe);
+    }
+    if !request.wants_reply() {
+        return Err(Dropped::NoReply);
+    }
+    if has_one(request.itr_rlocs(), own) {
         return Err(Dropped::OwnAddress);
     }
-    Ok(request)
+    Ok(ItrRequest {
+        xeid: request.xeid(),
+        nonce: request.nonce(),
+        to: request.first_rloc(),
+        port: request.port(),
+    })
 }
 
 /// Whether one of a request's ITR-RLOCs is one of these addresses.
-fn names_one(request: &Request<'_>, own: &[Locator]) -> bool
-    ensures { result ≡ names_one_of own.now request.now }
-{
-    has_one(request.itr_rlocs(), own)
-}
-
-fn has_one(rlocs: Rlocs<'_>, own: &[Locator]) -> bool
-    ensures { result ≡ list_any (is_one_of own.now) rlocs.entry }
+fn has_one(rlocs: ItrRlocs<'_>, own: &[Locator]) -> bool
+    ensures { result ≡ names_one_of own.now rlocs.entry }
 {
     for rloc in rlocs {
         if is_one(rloc, own) {
@@ -110,7 +175,7 @@ fn has_one(rlocs: Rlocs<'_>, own: &[Locator]) -> bool
     false
 }
 
-fn is_one(locator: Locator, own: &[Locator]) -> bool
+pub(crate) fn is_one(locator: Locator, own: &[Locator]) -> bool
     ensures { result ≡ is_one_of own.now locator }
 {
     own.iter().any(|address| *address == locator)

@@ -1,12 +1,12 @@
 //! What a daemon counts. A count that is full stays so.
 
 ghost use Rattle.std.specs.Prelude.{◌≡◌};
-ghost use Rattle.ddt_daemon.specs.Counted.{plus, with_served, with_dropped, with_lookup, with_shared, with_cut, with_ignored, with_why, with_ended};
+ghost use Rattle.ddt_daemon.specs.Counted.{plus, with_received_one as with_received, with_service, with_dropped, with_lookup, with_shared, with_cut, with_ignored, with_why, with_ended};
 
 use crate::admission::Dropped;
+use crate::service::{Done, Service};
 use ddt_path::Outcome;
 use ddt_resolver::{Ignored, Why};
-use ddt_wires::Served;
 
 /// What a server has done.
 #[derive(Clone, Copy, Debug, Default, PartialEq, Eq)]
@@ -15,15 +15,33 @@ pub struct ServerCounts {
     pub received: u64,
     /// Replies that were sent.
     pub replied: u64,
+    /// Requests of DDT clients, and those of ITRs that were served.
+    pub clients: u64,
+    pub itrs: u64,
+    /// Datagrams that were dropped, by why.
+    pub no_request: u64,
+    pub unrecognized_afi: u64,
+    pub probe: u64,
+    pub denied: u64,
 }
 
 impl ServerCounts {
-    /// Counts what was served.
-    pub fn add(&mut self, served: Served)
-        ensures { self.new ≡ with_served self.old served }
+    /// Counts a datagram that came, by what was done with it.
+    pub(crate) fn serve_one(&mut self, done: Done)
+        ensures { self.new ≡ with_service (with_received self.old done.replied) done.service }
     {
-        self.received = self.received.saturating_add(u64::from(served.received));
-        self.replied = self.replied.saturating_add(u64::from(served.replied));
+        self.received = one_more(self.received);
+        if done.replied {
+            self.replied = one_more(self.replied);
+        }
+        match done.service {
+            Service::NoRequest => self.no_request = one_more(self.no_request),
+            Service::UnrecognizedAfi => self.unrecognized_afi = one_more(self.unrecognized_afi),
+            Service::Probe => self.probe = one_more(self.probe),
+            Service::Denied => self.denied = one_more(self.denied),
+            Service::Client => self.clients = one_more(self.clients),
+            Service::Itr => self.itrs = one_more(self.itrs),
+        }
     }
 }
 
@@ -40,6 +58,9 @@ pub struct ResolverCounts {
     pub denied: u64,
     pub too_long: u64,
     pub no_request: u64,
+    pub unrecognized_afi: u64,
+    pub probe: u64,
+    pub no_map_reply: u64,
     pub own_address: u64,
     pub came_back: u64,
     pub repeated: u64,
@@ -81,6 +102,9 @@ impl ResolverCounts {
             Dropped::Denied => self.denied = one_more(self.denied),
             Dropped::TooLong => self.too_long = one_more(self.too_long),
             Dropped::NoRequest => self.no_request = one_more(self.no_request),
+            Dropped::UnrecognizedAfi => self.unrecognized_afi = one_more(self.unrecognized_afi),
+            Dropped::Probe => self.probe = one_more(self.probe),
+            Dropped::NoReply => self.no_map_reply = one_more(self.no_map_reply),
             Dropped::OwnAddress => self.own_address = one_more(self.own_address),
             Dropped::Looped => self.came_back = one_more(self.came_back),
             Dropped::Repeated => self.repeated = one_more(self.repeated),

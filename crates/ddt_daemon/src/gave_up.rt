@@ -1,13 +1,8 @@
-//! The lookups of ITRs that gave up, for the log.
+//! The lookups of ITRs that gave up, and the messages that were dropped for their AFI, for the log.
 
 use crate::itr_requests::Kept;
-use ddt_path::{Outcome, Xeid};
+use ddt_path::{Locator, Outcome, Xeid};
 use ddt_resolver::Why;
-use std::alloc::Global;
-use std::collections::VecDeque;
-
-/// No more are kept for the log. The others are counted.
-const MOST_KEPT: usize = 64;
 
 /// A lookup of an ITR that gave up.
 #[derive(Clone, Copy, Debug, PartialEq, Eq)]
@@ -18,49 +13,22 @@ pub struct GaveUp {
     pub why: Why,
 }
 
-/// Those that aren't in the log yet, in the order in which they ended.
-#[derive(Debug, Drop)]
-pub(crate) struct GiveUps {
-    kept: VecDeque<GaveUp>,
-    /// How many aren't kept.
-    missed: u64,
+/// The lookup that a request has started, if it has ended without an outcome.
+pub(crate) fn gave_up(request: &Kept, end: &Result<Outcome, Why>) -> Option<GaveUp> {
+    match end {
+        Err(why) if request.begins.is_some() => Some(GaveUp {
+            xeid: request.request.xeid,
+            why: *why,
+        }),
+        _ => None,
+    }
 }
 
-impl GiveUps {
-    /// None gave up.
-    pub(crate) fn new(alloc: Global) -> GiveUps {
-        GiveUps {
-            kept: VecDeque::new(alloc),
-            missed: 0,
-        }
-    }
-
-    /// Notes the lookup that a request has started, if it has ended without an outcome. Where 64 are kept, or if out of
-    /// memory, it is counted.
-    pub(crate) fn note(&mut self, request: &Kept, end: &Result<Outcome, Why>) {
-        if let Err(why) = end
-            && !request.shares
-        {
-            let xeid = request.request.xeid;
-            self.keep(GaveUp { xeid, why: *why });
-        }
-    }
-
-    fn keep(&mut self, gave_up: GaveUp) {
-        if self.kept.len() >= MOST_KEPT || self.kept.push_back(gave_up).is_err() {
-            self.missed = self.missed.saturating_add(1);
-        }
-    }
-
-    /// How many weren't kept since this was asked last.
-    pub(crate) fn take_missed(&mut self) -> u64 {
-        let missed = self.missed;
-        self.missed = 0;
-        missed
-    }
-
-    /// Takes off the first.
-    pub(crate) fn take(&mut self) -> Option<GaveUp> {
-        self.kept.pop_front()
-    }
+/// A message with an AFI that RFC 9301, section 5, calls unrecognized: it is dropped, and is to be in the log.
+#[derive(Clone, Copy, Debug, PartialEq, Eq)]
+pub enum Unrecognized {
+    /// The request of an ITR at this address.
+    Request(Locator),
+    /// The Map-Referral of a server at this address.
+    Referral(Locator),
 }

@@ -22,8 +22,6 @@ pub struct Kept {
     pub from: Locator,
     /// The referral set at which its lookup began; None where it shares the lookup of another request.
     pub begins: Option<LocatorSet>,
-    /// Whether it shares a lookup that another request has started.
-    pub shares: bool,
     /// The request's bytes, as they came.
     pub bytes: Listed<u8>,
 }

@@ -12,31 +12,39 @@ ghost use Rattle.ddt_wires.specs.Calls.{RecordsCalls};
 ghost use Rattle.ddt_wires.specs.Turns.{AreTried, most_bytes};
 ghost use Rattle.ddt_wire.specs.declared.message_type.MessageType.TheVariants.{Encapsulated};
 ghost use Rattle.ddt_wire.specs.MessageType.{is_of};
-ghost use Rattle.ddt_loop.specs.Acts.{running, AsksForItr, Resends};
+ghost use Rattle.ddt_loop.specs.Acts.{running, AsksForItr, IsToldItr, Resends};
 ghost use Rattle.ddt_loop.specs.Askers.{opening_desk};
 ghost use Rattle.ddt_ecm.specs.UdpHeader.{control_port};
 ghost use Rattle.ddt_daemon.specs.declared.itr_requests.Kept.{Kept as AKept};
-ghost use Rattle.ddt_daemon.specs.Admitted.{IsAdmitted, IsDropped, IsPlaced, IsRefusedPlace};
+ghost use Rattle.ddt_daemon.specs.Admitted.{HasRoomToWait, IsDropped, IsGranted, IsPlaced, IsRefusedPlace, IsRefusedWait};
 ghost use Rattle.ddt_daemon.specs.Goes.{AreClosed, IsSharerTold, goes_on};
-ghost use Rattle.ddt_daemon.specs.Counted.{nothing_counted};
-ghost use Rattle.ddt_daemon.specs.Rounds.{resolving, at_moment, was_there, HasWaited, IsHandled, IsRound, IsTick, IsHastened, AreTicks, IsAsked, IsHeard, HearsReply, KeepsAsked, WaitsAs};
+ghost use Rattle.ddt_daemon.specs.Counted.{nothing_counted, with_dropped};
+ghost use Rattle.ddt_daemon.specs.Spelled.{IsAskedFor, IsSpelledAs};
+ghost use Rattle.ddt_resolver.specs.declared.pending.Pending.{Pending as APending};
+ghost use Rattle.ddt_daemon.specs.Rounds.{resolving, at_moment, was_there, HasWaited, IsHandled, IsRound, IsTick, IsHastened, AreTicks, IsAsked, IsHeard, HearsReply, HearsSpelled, KeepsAsked, WaitsAs};
 
-use crate::admission::{Admitted, Dropped, Place, allowed_request};
+use crate::admission::{Admitted, Dropped, Lookup, Place, Ready, Waiter, allowed_request};
 use crate::counts::ResolverCounts;
-use crate::gave_up::{GaveUp, GiveUps};
+use crate::for_log::ForLog;
+use crate::gave_up::{GaveUp, Unrecognized, gave_up};
 use crate::itr_requests::{Kept, Waiting};
+use crate::onward::send_on;
 use crate::recent_requests::{Recent, RecentRequests};
+use byteorder::{BigEndian, ByteOrder};
 use ddt_cache::{Entry, Moment};
 use ddt_ecm::CONTROL_PORT;
+use ddt_foreign::{ForeignFault, plain_referral, read_foreign};
 use ddt_loop::{Ended, Hearing, RunningResolver};
-use ddt_onward::send_on;
-use ddt_path::{Listed, Locator, Prefix, Xeid};
-use ddt_resolver::{Beginning, MOST_PENDING, Resolver};
+use ddt_path::{Listed, Locator, LocatorSet, Prefix, Xeid};
+use ddt_resolver::{Beginning, ItrRequest, MOST_PENDING, Resolver};
 use ddt_settings::Settings;
 use ddt_trie::PrefixMap;
 use ddt_wire::MessageType;
 use ddt_wires::{Packet, Wires};
 use std::alloc::{AllocError, Global};
+
+/// How many bytes a Map-Referral has before its first record.
+const BEFORE_RECORDS: usize = 12;
 
 /// A Map-Resolver: a resolver, the requests of ITRs that wait for its lookups, and what it has done. Its near wires lead
 /// to ITRs and to the servers that it asks, its far wires to Map-Servers, which are sent the ITRs' own requests.
@@ -49,7 +57,9 @@ pub struct MapResolver<M: PrefixMap<Entry>> {
     /// The requests that came lately.
     recent: RecentRequests,
     /// The lookups that gave up and aren't in the log yet.
-    gave_up: GiveUps,
+    gave_up: ForLog<GaveUp>,
+    /// The messages that were dropped for their AFI and aren't in the log yet.
+    unrecognized: ForLog<Unrecognized>,
 }
 
 /// How a lookup has ended, and by whose datagram.
@@ -74,7 +84,8 @@ impl<M: PrefixMap<Entry>> MapResolver<M> {
             waiting: Waiting::new(alloc),
             counts: ResolverCounts::default(),
             recent: RecentRequests::new(alloc),
-            gave_up: GiveUps::new(alloc),
+            gave_up: ForLog::new(alloc),
+            unrecognized: ForLog::new(alloc),
         })
     }
 
@@ -124,6 +135,25 @@ impl<M: PrefixMap<Entry>> MapResolver<M> {
         ensures counts { self.new.counts ≡ self.old.counts }
     {
         self.gave_up.take_missed()
+    }
+
+    /// A message that was dropped for its AFI, which is taken off; None where none has been since. Of more than 64 at
+    /// once, the others are counted: `take_missed_unrecognized`.
+    pub fn take_unrecognized(&mut self) -> Option<Unrecognized>
+        ensures running { self.new.running ≡ self.old.running }
+        ensures waiting { self.new.waiting.kept.items ≡ self.old.waiting.kept.items }
+        ensures counts { self.new.counts ≡ self.old.counts }
+    {
+        self.unrecognized.take()
+    }
+
+    /// How many messages were dropped for their AFI that `take_unrecognized` doesn't give, since this was asked last.
+    pub fn take_missed_unrecognized(&mut self) -> u64
+        ensures running { self.new.running ≡ self.old.running }
+        ensures waiting { self.new.waiting.kept.items ≡ self.old.waiting.kept.items }
+        ensures counts { self.new.counts ≡ self.old.counts }
+    {
+        self.unrecognized.take_missed()
     }
 
     /// The resolver.
@@ -210,18 +240,43 @@ impl<M: PrefixMap<Entry>> MapResolver<M> {
             (resolving self.old.running self.old.waiting.kept.items self.old.counts)
             calls onward (resolving self.new.running self.new.waiting.kept.items self.new.counts) }
     {
-        if MessageType::Encapsulated.is_of(bytes) {
-            match self.admit(settings, now, packet.from, bytes) {
-                Ok(admitted) => self.ask(near, me, now, admitted),
-                Err(why) => self.counts.drop_one(why),
-            }
-        } else {
+        if !MessageType::Encapsulated.is_of(bytes) {
             self.hear(near, far, me, now, packet, bytes);
+            return;
+        }
+        match self.admit(settings, now, packet.from, bytes) {
+            Ok(Admitted::Answered(ready)) => self.tell_at_once(near, me, ready),
+            Ok(Admitted::Waits(waiter)) => self.ask(near, me, now, waiter),
+            Err(why) => self.drop_one(packet.from, why),
         }
     }
 
-    /// What an Encapsulated Control Message of these bytes asks, or why it is dropped. Where it is asked for, one more has
-    /// room to wait.
+    /// Tells an ITR the answer that is remembered.
+    fn tell_at_once<W: Wires>(&mut self, near: &mut W, me: Locator, ready: Ready)
+        ensures told { (calls : List ACall) × RecordsCalls (W.calls near.old) calls (W.calls near.new)
+            × IsToldItr me ready.outcome ready.request calls }
+        ensures running { self.new.running ≡ self.old.running }
+        ensures waiting { self.new.waiting.kept.items ≡ self.old.waiting.kept.items }
+        ensures counts { self.new.counts ≡ self.old.counts }
+    {
+        self.running
+            .tell(near, me, &ready.request, &Ok(ready.outcome));
+    }
+
+    /// Counts a message from an address that is dropped, and keeps it for the log where that is due.
+    fn drop_one(&mut self, from: Locator, why: Dropped)
+        ensures counts { self.new.counts ≡ with_dropped self.old.counts why }
+        ensures running { self.new.running ≡ self.old.running }
+        ensures waiting { self.new.waiting.kept.items ≡ self.old.waiting.kept.items }
+    {
+        self.counts.drop_one(why);
+        if why == Dropped::UnrecognizedAfi {
+            self.unrecognized.keep(Unrecognized::Request(from));
+        }
+    }
+
+    /// What an Encapsulated Control Message of these bytes asks, or why it is dropped. Where it waits, one more has room
+    /// to.
     fn admit(
         &mut self,
         settings: &Settings,
@@ -229,14 +284,11 @@ impl<M: PrefixMap<Entry>> MapResolver<M> {
         from: Locator,
         bytes: &[u8],
     ) -> Result<Admitted, Dropped>
-        ensures admitted { IfOk result (λ a. IsAdmitted settings.now self.old.waiting.kept.items
-            (at_moment now self.old.running) from bytes.now a.request) }
-        ensures bytes { IfOk result (λ a. a.bytes ≡ bytes.now) }
-        ensures from { IfOk result (λ a. a.from ≡ from) }
-        ensures placed { IfOk result (λ a. IsPlaced self.old.waiting.kept.items (at_moment now self.old.running)
-            from a.request.xeid a.place.shares a.place.begins) }
+        ensures admitted { IfOk result (IsGranted settings.now self.old.waiting.kept.items
+            (at_moment now self.old.running) from bytes.now) }
         ensures moved { OnOk result (self.new.running ≡ at_moment now self.old.running) }
-        ensures room { OnOk result (length self.new.waiting.kept.items < deque_capacity self.new.waiting.kept) }
+        ensures room { IfOk result (HasRoomToWait (length self.new.waiting.kept.items)
+            (deque_capacity self.new.waiting.kept)) }
         ensures dropped { IfErr result (IsDropped settings.now self.old.waiting.kept.items
             (at_moment now self.old.running) from bytes.now) }
         ensures waited { HasWaited now self.old.running self.new.running }
@@ -247,45 +299,35 @@ impl<M: PrefixMap<Entry>> MapResolver<M> {
             Ok(request) => request,
             Err(why) => return Err(why),
         };
-        let at = now.millis();
-        if self.recent.takes_back(Recent { request, from, at }) {
-            return Err(Dropped::Looped);
-        }
         if self.waiting.has(&request) {
             return Err(Dropped::Repeated);
         }
-        let place = match self.place(now, from, request.xeid) {
-            Ok(place) => place,
-            Err(why) => return Err(why),
-        };
-        match self.room_for(bytes) {
-            Ok(bytes) => Ok(Admitted {
-                request,
-                from,
-                place,
-                bytes,
-            }),
-            Err(_refused) => Err(Dropped::Memory),
+        match self.place(now, from, request.xeid) {
+            Ok(Place::Answered(outcome)) => Ok(Admitted::Answered(Ready { request, outcome })),
+            Ok(Place::Waits(lookup)) => match self.waiter(now, from, request, bytes) {
+                Ok(bytes) => Ok(Admitted::Waits(Waiter {
+                    request,
+                    from,
+                    lookup,
+                    bytes,
+                })),
+                Err(why) => Err(why),
+            },
+            Err(why) => Err(why),
         }
     }
 
     /// What becomes of a request for an identifier from an address, or why it is dropped. The time goes on.
     fn place(&mut self, now: Moment, from: Locator, x: Xeid) -> Result<Place, Dropped>
         ensures moved { self.new.running ≡ at_moment now self.old.running }
-        ensures placed { IfOk result (λ place. IsPlaced self.old.waiting.kept.items (at_moment now self.old.running)
-            from x place.shares place.begins) }
+        ensures placed { IfOk result (IsPlaced self.old.waiting.kept.items (at_moment now self.old.running) from x) }
         ensures refused { IfErr result (IsRefusedPlace self.old.waiting.kept.items (at_moment now self.old.running)
             from x) }
         ensures same { self.new.waiting.kept.items ≡ self.old.waiting.kept.items }
         ensures counts { self.new.counts ≡ self.old.counts }
     {
         let servers = match self.running.beginning(now, x) {
-            Beginning::Answer(_outcome) => {
-                return Ok(Place {
-                    shares: None,
-                    begins: None,
-                });
-            }
+            Beginning::Answer(outcome) => return Ok(Place::Answered(outcome)),
             Beginning::Servers(servers) => servers,
         };
         if self.waiting.is_full() {
@@ -295,18 +337,38 @@ impl<M: PrefixMap<Entry>> MapResolver<M> {
             return Err(Dropped::SourceFull);
         }
         if let Some(ticket) = self.running.ticket_for(x) {
-            return Ok(Place {
-                shares: Some(ticket),
-                begins: None,
-            });
+            return Ok(Place::Waits(Lookup::Shared(ticket)));
         }
         if self.waiting.is_full_of_set(&servers) {
             return Err(Dropped::SetFull);
         }
-        Ok(Place {
-            shares: None,
-            begins: Some(servers),
-        })
+        Ok(Place::Waits(Lookup::Own(servers)))
+    }
+
+    /// A copy of the bytes of a request that is to wait, and room for it; or why it is dropped: it comes back from where
+    /// it was sent on, or there is no memory.
+    fn waiter(
+        &mut self,
+        now: Moment,
+        from: Locator,
+        request: ItrRequest,
+        bytes: &[u8],
+    ) -> Result<Listed<u8>, Dropped>
+        ensures bytes { IfOk result (λ copy. copy ≡ bytes.now) }
+        ensures room { OnOk result (length self.new.waiting.kept.items < deque_capacity self.new.waiting.kept) }
+        ensures refused { IfErr result IsRefusedWait }
+        ensures same { self.new.waiting.kept.items ≡ self.old.waiting.kept.items }
+        ensures running { self.new.running ≡ self.old.running }
+        ensures counts { self.new.counts ≡ self.old.counts }
+    {
+        let at = now.millis();
+        if self.recent.takes_back(Recent { request, from, at }) {
+            return Err(Dropped::Looped);
+        }
+        match self.room_for(bytes) {
+            Ok(bytes) => Ok(bytes),
+            Err(_refused) => Err(Dropped::Memory),
+        }
     }
 
     /// A copy of a request's bytes, and room for one more that waits. Fails only if out of memory.
@@ -323,59 +385,59 @@ impl<M: PrefixMap<Entry>> MapResolver<M> {
     }
 
     /// Asks for a request, or has it share a lookup. It is kept where it waits.
-    fn ask<W: Wires>(&mut self, near: &mut W, me: Locator, now: Moment, admitted: Admitted)
+    fn ask<W: Wires>(&mut self, near: &mut W, me: Locator, now: Moment, waiter: Waiter)
         requires room { length self.old.waiting.kept.items < deque_capacity self.old.waiting.kept }
         ensures { (calls : List ACall) × RecordsCalls (W.calls near.old) calls (W.calls near.new)
-            × IsAsked me now admitted (resolving self.old.running self.old.waiting.kept.items self.old.counts) calls
+            × IsAsked me now waiter (resolving self.old.running self.old.waiting.kept.items self.old.counts) calls
             (resolving self.new.running self.new.waiting.kept.items self.new.counts) }
     {
-        match admitted.place.shares {
-            Some(ticket) => {
+        let lookup = waiter.lookup;
+        match lookup {
+            Lookup::Shared(ticket) => {
                 self.counts.share_one();
-                self.keep(ticket, true, admitted);
+                self.keep(ticket, None, waiter);
             }
-            None => self.begin(near, me, now, admitted),
+            Lookup::Own(servers) => self.begin(near, me, now, servers, waiter),
         }
     }
 
     /// Asks for a request. It is kept under the ticket of the lookup that starts for it, if one does.
-    fn begin<W: Wires>(&mut self, near: &mut W, me: Locator, now: Moment, admitted: Admitted)
+    fn begin<W: Wires>(
+        &mut self,
+        near: &mut W,
+        me: Locator,
+        now: Moment,
+        servers: LocatorSet,
+        waiter: Waiter,
+    )
         requires room { length self.old.waiting.kept.items < deque_capacity self.old.waiting.kept }
         ensures asks { (calls : List ACall) × RecordsCalls (W.calls near.old) calls (W.calls near.new)
-            × AsksForItr me now admitted.request self.old.running calls self.new.running }
-        ensures keeps { KeepsAsked admitted.place.begins admitted.from admitted.bytes admitted.request
+            × AsksForItr me now waiter.request self.old.running calls self.new.running }
+        ensures keeps { KeepsAsked servers waiter.from waiter.bytes waiter.request
             (resolving self.old.running self.old.waiting.kept.items self.old.counts)
             (resolving self.new.running self.new.waiting.kept.items self.new.counts) }
     {
-        let ticket = self.running.ask(near, me, now, admitted.request);
+        let ticket = self.running.ask(near, me, now, waiter.request);
         if let Some(ticket) = ticket {
             self.counts.start_one();
-            self.keep(ticket, false, admitted);
+            self.keep(ticket, Some(servers), waiter);
         }
     }
 
-    /// A request waits for the lookup of a ticket.
-    fn keep(&mut self, ticket: u64, shares: bool, admitted: Admitted)
+    /// A request waits for the lookup of a ticket, which it has started at these servers, or which it shares.
+    fn keep(&mut self, ticket: u64, begins: Option<LocatorSet>, waiter: Waiter)
         requires room { length self.old.waiting.kept.items < deque_capacity self.old.waiting.kept }
         ensures kept { (k : AKept) × (self.new.waiting.kept.items ≡ self.old.waiting.kept.items ++ k ∷ [])
-            × (k.ticket ≡ ticket)
-            × WaitsAs shares admitted.place.begins admitted.from admitted.bytes admitted.request k }
+            × (k.ticket ≡ ticket) × WaitsAs begins waiter.from waiter.bytes waiter.request k }
         ensures running { self.new.running ≡ self.old.running }
         ensures counts { self.new.counts ≡ self.old.counts }
     {
-        let Admitted {
-            request,
-            from,
-            place,
-            bytes,
-        } = admitted;
         self.waiting.add(Kept {
             ticket,
-            request,
-            from,
-            begins: place.begins,
-            shares,
-            bytes,
+            request: waiter.request,
+            from: waiter.from,
+            begins,
+            bytes: waiter.bytes,
         });
     }
 
@@ -399,6 +461,68 @@ impl<M: PrefixMap<Entry>> MapResolver<M> {
         if packet.port != CONTROL_PORT {
             return;
         }
+        match self.spelled(packet.from, bytes) {
+            Ok(None) => self.hear_spelled(near, far, me, now, packet, bytes),
+            Ok(Some(plain)) => self.hear_spelled(near, far, me, now, packet, plain.as_slice()),
+            // A reply is lost.
+            Err(_refused) => {}
+        }
+    }
+
+    /// What is heard in the place of a datagram from an address: None for the datagram as it came, or what it says of the
+    /// identifier that its nonce asks for, in the one spelling. Fails only if out of memory, for a datagram whose nonce
+    /// asks for one.
+    fn spelled(&mut self, from: Locator, bytes: &[u8]) -> Result<Option<Listed<u8>>, AllocError>
+        ensures spelled { IfOk result (IsSpelledAs self.old.running.state bytes.now) }
+        ensures wanted { OnErr result ((t : ℕ) × (l : APending) × IsAskedFor self.old.running.state bytes.now t l) }
+        ensures running { self.new.running ≡ self.old.running }
+        ensures waiting { self.new.waiting.kept.items ≡ self.old.waiting.kept.items }
+        ensures counts { self.new.counts ≡ self.old.counts }
+    {
+        if bytes.len() < BEFORE_RECORDS {
+            return Ok(None);
+        }
+        let (_first, from_nonce) = bytes.split_at(4);
+        let nonce = BigEndian::read_u64(from_nonce);
+        let Some(asked) = self.running.resolver().identifier_of(nonce) else {
+            return Ok(None);
+        };
+        let plain = plain_referral(self.alloc, bytes, asked)?;
+        if plain.is_none() {
+            self.note_unrecognized(from, bytes, asked);
+        }
+        Ok(plain)
+    }
+
+    /// Keeps a Map-Referral of which nothing is taken for the log, if it has an AFI that is unrecognized.
+    fn note_unrecognized(&mut self, from: Locator, bytes: &[u8], asked: Xeid)
+        ensures running { self.new.running ≡ self.old.running }
+        ensures waiting { self.new.waiting.kept.items ≡ self.old.waiting.kept.items }
+        ensures counts { self.new.counts ≡ self.old.counts }
+    {
+        if let Ok(Err(ForeignFault::UnrecognizedAfi)) = read_foreign(self.alloc, bytes, asked) {
+            self.unrecognized.keep(Unrecognized::Referral(from));
+        }
+    }
+
+    /// Hears a datagram of these bytes from UDP port 4342, cut to the zone of its server where it reaches beyond it.
+    fn hear_spelled<W: Wires, V: Wires>(
+        &mut self,
+        near: &mut W,
+        far: &mut V,
+        me: Locator,
+        now: Moment,
+        packet: Packet,
+        bytes: &[u8],
+    )
+        requires plain { is_of Encapsulated bytes.now ≡ false }
+        requires port { packet.port ≡ control_port }
+        ensures { (calls onward : List ACall) × RecordsCalls (W.calls near.old) calls (W.calls near.new)
+            × RecordsCalls (V.calls far.old) onward (V.calls far.new)
+            × HearsSpelled me now packet bytes.now
+            (resolving self.old.running self.old.waiting.kept.items self.old.counts)
+            calls onward (resolving self.new.running self.new.waiting.kept.items self.new.counts) }
+    {
         match self.running.resolver().cut_to_zone(packet.from, bytes) {
             Ok(None) => self.hear_reply(near, far, me, now, packet, bytes),
             Ok(Some(cut)) => {
@@ -448,21 +572,32 @@ impl<M: PrefixMap<Entry>> MapResolver<M> {
         ensures counts { self.new.counts ≡ self.old.counts }
     {
         while let Some(kept) = self.waiting.take(closing.ended.ticket) {
-            self.gave_up.note(&kept, &closing.ended.end);
+            self.note_give_up(closing, &kept);
             self.tell_sharer(near, closing, &kept);
             send_kept(far, closing, kept.bytes);
+        }
+    }
+
+    /// Keeps the lookup that a request has started for the log, if it gave up.
+    fn note_give_up(&mut self, closing: &Closing, kept: &Kept)
+        ensures running { self.new.running ≡ self.old.running }
+        ensures waiting { self.new.waiting.kept.items ≡ self.old.waiting.kept.items }
+        ensures counts { self.new.counts ≡ self.old.counts }
+    {
+        if let Some(one) = gave_up(kept, &closing.ended.end) {
+            self.gave_up.keep(one);
         }
     }
 
     /// Tells an ITR the end of its lookup, where it shares that of another; the other one is told already.
     fn tell_sharer<W: Wires>(&mut self, near: &mut W, closing: &Closing, kept: &Kept)
         ensures told { (calls : List ACall) × RecordsCalls (W.calls near.old) calls (W.calls near.new)
-            × IsSharerTold closing.now.me closing.now.ended.end kept.now.shares kept.now calls }
+            × IsSharerTold closing.now.me closing.now.ended.end kept.now.begins kept.now calls }
         ensures running { self.new.running ≡ self.old.running }
         ensures waiting { self.new.waiting.kept.items ≡ self.old.waiting.kept.items }
         ensures counts { self.new.counts ≡ self.old.counts }
     {
-        if kept.shares {
+        if kept.begins.is_none() {
             self.running
                 .tell(near, closing.me, &kept.request, &closing.ended.end);
         }

@@ -60,12 +60,11 @@ pub struct ServerStatistics {
 }
 
 impl ServerStatistics {
-    /// How many Encapsulated Control Messages came that are no request of a DDT client.
+    /// How many Encapsulated Control Messages came that are no request.
     fn no_request(&self) -> u64 {
         self.counts
-            .received
+            .no_request
             .saturating_sub(self.answers.not_encapsulated)
-            .saturating_sub(self.answers.referrals())
     }
 }
 
@@ -96,6 +95,15 @@ impl fmt::Display for ServerStatistics {
         write!(f, "num.unsent={}\n", self.wires.unsent)?;
         write!(f, "{}", self.answers)?;
         write!(f, "num.ignored.norequest={}\n", self.no_request())?;
+        write!(
+            f,
+            "num.ignored.unrecognizedafi={}\n",
+            self.counts.unrecognized_afi
+        )?;
+        write!(f, "num.ignored.probe={}\n", self.counts.probe)?;
+        write!(f, "num.ignored.denied={}\n", self.counts.denied)?;
+        write!(f, "num.clients={}\n", self.counts.clients)?;
+        write!(f, "num.itrs={}\n", self.counts.itrs)?;
         write!(f, "now.sockets={}\n", self.sockets)?;
         write!(f, "now.authorities={}\n", self.authorities)?;
         write!(f, "now.children={}\n", self.children)?;
@@ -163,6 +171,9 @@ impl fmt::Display for ResolverCounts {
         write!(f, "num.dropped.denied={}\n", self.denied)?;
         write!(f, "num.dropped.toolong={}\n", self.too_long)?;
         write!(f, "num.dropped.norequest={}\n", self.no_request)?;
+        write!(f, "num.dropped.unrecognizedafi={}\n", self.unrecognized_afi)?;
+        write!(f, "num.dropped.probe={}\n", self.probe)?;
+        write!(f, "num.dropped.noreply={}\n", self.no_map_reply)?;
         write!(f, "num.dropped.ownaddress={}\n", self.own_address)?;
         write!(f, "num.dropped.looped={}\n", self.came_back)?;
         write!(f, "num.dropped.repeated={}\n", self.repeated)?;

@@ -265,13 +265,14 @@ fn who_is_not_allowed_is_not_asked_for(rt: HostRuntime) -> Result<(), Fail> {
     is_denied(rt.alloc(), &rt, &mut world)
 }
 
-/// A request that names the resolver itself, and one that comes back from another address, are dropped.
+/// A request that names the resolver itself, and one that was sent on and comes back from another address, are dropped.
 fn go_round(alloc: Global, rt: &impl Abort, world: &mut World) -> Result<(), Fail> {
     world.take(alloc, OTHER_ITR, ITR_PORT, OWN_REQUEST)?;
     world.waits(rt, 0);
     world.take(alloc, ITR, ITR_PORT, ITR_REQUEST)?;
+    world.take(alloc, SERVER, CONTROL_PORT, ACKNOWLEDGED)?;
     world.take(alloc, OTHER_ITR, ITR_PORT, ITR_REQUEST)?;
-    world.waits(rt, 1);
+    world.waits(rt, 0);
     let counts = world.resolver.counts();
     same(rt, &counts.own_address, &1, &"own address");
     same(rt, &counts.came_back, &1, &"came back");

@@ -2,7 +2,7 @@
 
 use crate::comparison::same;
 use ddt_config::from_toml;
-use ddt_daemon::{AnswerCounts, CountedAnswers, serve_ready};
+use ddt_daemon::{AnswerCounts, CountedAnswers, Door, ServerCounts, ServerRecord, serve_ready};
 use ddt_ecm::CONTROL_PORT;
 use ddt_examples::bytes_of;
 use ddt_examples::configurations::EAST;
@@ -10,7 +10,8 @@ use ddt_examples::messages::DDT_REQUEST;
 use ddt_node::{Server, has_room_for};
 use ddt_path::{Listed, Locator};
 use ddt_trie::ListMap;
-use ddt_wires::{MOST_BYTES, Outbox, Served, Waiting, WiresInMemory};
+use ddt_settings::ServerSettings;
+use ddt_wires::{MOST_BYTES, Waiting, WiresInMemory};
 use std::alloc::Global;
 use std::process::Abort;
 use std::test::Fail;
@@ -49,7 +50,7 @@ fn busy(alloc: Global) -> Result<WiresInMemory, Fail> {
 }
 
 /// How many messages each round may take, and how many it then receives and replies to.
-const ROUNDS: &[(u32, u32, u32)] = &[(0, 0, 0), (3, 3, 2), (3, 1, 1), (3, 0, 0)];
+const ROUNDS: &[(u32, u32, u64)] = &[(0, 0, 0), (3, 3, 2), (3, 1, 1), (3, 0, 0)];
 
 /// How the messages are answered: each request by an MS-ACK, and the one that is no message not at all.
 const ANSWERED: AnswerCounts = AnswerCounts {
@@ -70,10 +71,17 @@ fn serves(
     server: &Server<ListMap<u32>>,
 ) {
     let mut buffer = [0; MOST_BYTES];
-    let mut outbox = Outbox::new(alloc);
+    let settings = ServerSettings::none(alloc);
+    let door = Door {
+        alloc,
+        at: SERVER,
+        settings: &settings,
+    };
     for &(most, received, replied) in ROUNDS {
-        let served = serve_ready(wires, server, SERVER, most, &mut buffer, &mut outbox);
-        same(rt, &served, &Served { received, replied }, &most);
+        let mut done = ServerRecord::new(alloc);
+        let taken = serve_ready(wires, server, &door, most, &mut buffer, &mut done);
+        let ServerCounts { replied: sent, .. } = done.counts;
+        same(rt, &(taken, sent), &(received, replied), &most);
     }
 }
 

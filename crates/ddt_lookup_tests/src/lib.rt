@@ -5,8 +5,6 @@
 #[cfg(test)]
 mod comparison;
 #[cfg(test)]
-mod onward;
-#[cfg(test)]
 mod refused;
 #[cfg(test)]
 mod sim;

@@ -12,7 +12,7 @@ ghost use Rattle.ddt_node.specs.Server.{first_etr};
 use crate::decision::{Decision, decision_in, longest};
 use crate::index::{Indexed, index};
 use ddt_config::ServerConfig;
-use ddt_path::{ReferralRecord, Xeid};
+use ddt_path::{Locator, ReferralRecord, Xeid};
 use ddt_trie::PrefixMap;
 use std::alloc::Global;
 use std::marker::Model;
@@ -69,6 +69,14 @@ impl<M: PrefixMap<u32>> Server<M> {
     {
         let decision = self.decision(x);
         decision.record(&self.config.locators, x).to_record()
+    }
+
+    /// The ETR that an acknowledged request for an identifier goes on to: the first of the site's that are registered.
+    /// None where `answer` isn't MS-ACK. It allocates nothing.
+    pub fn etr(&self, x: Xeid) -> Option<Locator>
+        ensures { result ≡ first_etr self.now (xeid_path x) }
+    {
+        self.decision(x).etr()
     }
 
     /// What decides the answer for an identifier.

@@ -15,6 +15,7 @@ use Rattle.ddt_settings.specs.declared.fault.Key.{Key}
 use Rattle.ddt_settings.specs.declared.fault.Key.TheVariants as key
 use Rattle.ddt_settings.specs.declared.fault.SettingsFault.{SettingsFault}
 use Rattle.ddt_settings.specs.declared.fault.SettingsFault.TheVariants.{Toml, Field, Value, Count, Wildcard, Twice}
+use Rattle.ddt_settings.specs.declared.server_settings.ServerSettings.{ServerSettings}
 use Rattle.ddt_settings.specs.declared.settings.Settings.{Settings}
 use Rattle.ddt_settings.specs.Rlocs.{block_in}
 
@@ -105,3 +106,7 @@ settings_in_document (Some ms) = settings_in ms
 -- the settings that a text stands for, or its first fault: Toml where the text is no TOML
 abbrev pub settings_in_text : List ℕ → Result Settings SettingsFault
 settings_in_text text = settings_in_document (parse_document text)
+
+-- the settings of a server that a table stands for, or the first fault: which ITRs may ask it
+abbrev pub server_settings_in : Members → Result ServerSettings SettingsFault
+server_settings_in ms = prefixes_in key.Allow ms >>= λ allow. Ok (record { allow = allow })

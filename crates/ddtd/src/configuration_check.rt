@@ -1,8 +1,9 @@
-//! `ddtd check FILE`: says whether a configuration, or the settings of a resolver, are good.
+//! `ddtd check FILE`: says whether a configuration, or the settings of a resolver or a server, are good.
 
 use crate::end::End;
 use crate::loading::{
-    Loaded, configuration_in, name_text, role_text, settings_in, table_of, text_of,
+    Loaded, configuration_in, name_text, role_text, server_settings_in, settings_in, table_of,
+    text_of,
 };
 use crate::printable::printable;
 use crate::source::{MOST_CONFIGURATION, MOST_SETTINGS, Why, read, too_large, with_path};
@@ -11,8 +12,7 @@ use ddt_settings::Settings;
 use std::alloc::{AllocError, Global};
 use toml::Table;
 
-/// Says whether the file is good: as settings where it has a key `roots` or `listen`, else as a configuration. Of a good
-/// configuration it says what it holds, and before it which keys nothing reads; of good settings, before it, which
+/// Says whether the file is good, as what its keys are of: settings, or a configuration. Of a good configuration it says what it holds, and before it which keys nothing reads; of good settings, before it, which
 /// addresses may ask that mustn't.
 pub fn check(rt: &HostRuntime, path: &str) -> End {
     match lines_of(rt, path) {
@@ -33,13 +33,19 @@ fn lines_of(rt: &HostRuntime, path: &str) -> Result<Vec<String>, Why> {
 fn lines_in(alloc: Global, path: &str, bytes: &[u8]) -> Result<Vec<String>, Why> {
     let text = text_of(alloc, bytes)?;
     let table = table_of(alloc, text)?;
-    let lines = if are_settings(&table) {
-        if bytes.len() as u64 > MOST_SETTINGS {
-            return Err(too_large(alloc, MOST_SETTINGS));
+    let sort = Sort::of(&table);
+    if sort != Sort::Configuration && bytes.len() as u64 > MOST_SETTINGS {
+        return Err(too_large(alloc, MOST_SETTINGS));
+    }
+    let lines = match sort {
+        Sort::Configuration => {
+            configuration_lines(alloc, path, &configuration_in(alloc, text, table)?)
         }
-        settings_lines(alloc, path, &settings_in(alloc, text, &table)?)
-    } else {
-        configuration_lines(alloc, path, &configuration_in(alloc, text, table)?)
+        Sort::Resolver => settings_lines(alloc, path, &settings_in(alloc, text, &table)?),
+        Sort::Server => {
+            server_settings_in(alloc, text, &table)?;
+            good_line(alloc, path)
+        }
     };
     match lines {
         Ok(lines) => Ok(lines),
@@ -47,9 +53,35 @@ fn lines_in(alloc: Global, path: &str, bytes: &[u8]) -> Result<Vec<String>, Why>
     }
 }
 
-/// Whether a table is meant for a resolver.
-fn are_settings(table: &Table) -> bool {
-    table.get("roots").is_some() || table.get("listen").is_some()
+/// What a file is meant for.
+#[derive(Clone, Copy, PartialEq, Eq)]
+enum Sort {
+    /// It configures a server.
+    Configuration,
+    /// It has the settings of a resolver.
+    Resolver,
+    /// It has the settings of a server.
+    Server,
+}
+
+impl Sort {
+    /// A resolver's settings have a key `roots` or `listen`, and a server's have `allow`, and neither `name` nor `kind`.
+    fn of(table: &Table) -> Sort {
+        let has = |key: &str| table.get(key).is_some();
+        if has("roots") || has("listen") {
+            Sort::Resolver
+        } else if has("allow") && !has("name") && !has("kind") {
+            Sort::Server
+        } else {
+            Sort::Configuration
+        }
+    }
+}
+
+fn good_line(alloc: Global, path: &str) -> Result<Vec<String>, AllocError> {
+    let mut lines = Vec::new(alloc);
+    lines.push(format!(in alloc; "{path}: good")?)?;
+    Ok(lines)
 }
 
 fn settings_lines(

@@ -1,5 +1,6 @@
 //! What the log says of lookups that gave up: which, why, and of which zone, at a bounded rate.
 
+use crate::bounded::Bounded;
 use crate::log::{Log, Priority};
 use crate::tables::push_locators;
 use ddt_cache::{Entry, Moment};
@@ -10,68 +11,30 @@ use ddt_trie::TrieMap;
 use std::alloc::AllocError;
 use std::str;
 
-/// So many lines are said in a period at most.
-const MOST_LINES: u32 = 5;
-
-/// How long a period is, in milliseconds.
-const PERIOD: u64 = 10_000;
-
 /// No more are looked at in a round.
 const MOST_LOOKUPS: u32 = 64;
 
-/// What was said in the period.
-#[derive(Clone, Copy, Debug)]
-pub struct GiveUpLog {
-    /// When the period began, in milliseconds.
-    begin: u64,
-    lines: u32,
-    /// How many gave up since of which nothing was said.
-    unsaid: u64,
-}
-
-impl GiveUpLog {
-    /// Nothing was said yet.
-    pub fn new() -> GiveUpLog {
-        GiveUpLog {
-            begin: 0,
-            lines: 0,
-            unsaid: 0,
-        }
+/// Says in the log which lookups gave up: at most five in ten seconds, and then how many more did.
+pub fn say_give_ups(
+    rt: &HostRuntime,
+    said: &mut Bounded,
+    resolver: &mut MapResolver<TrieMap<Entry>>,
+    now: Moment,
+    log: &mut Log,
+) {
+    said.miss(resolver.take_missed_give_ups());
+    if let Some(unsaid) = said.end_period(now.millis()) {
+        let line = format!(in rt.alloc(); "{unsaid} more lookups gave up");
+        log.say(rt, Priority::Warning, line);
     }
-
-    /// Says in the log which lookups gave up: at most five in ten seconds, and then how many more did.
-    pub fn say(
-        &mut self,
-        rt: &HostRuntime,
-        resolver: &mut MapResolver<TrieMap<Entry>>,
-        now: Moment,
-        log: &mut Log,
-    ) {
-        self.unsaid = self.unsaid.saturating_add(resolver.take_missed_give_ups());
-        if now.millis().saturating_sub(self.begin) >= PERIOD {
-            self.end_period(rt, now, log);
-        }
-        for _lookup in 0..MOST_LOOKUPS {
-            let Some(gave_up) = resolver.take_give_up() else {
-                return;
-            };
-            if self.lines >= MOST_LINES {
-                self.unsaid = self.unsaid.saturating_add(1);
-            } else {
-                self.lines = self.lines.saturating_add(1);
-                let line = line_of(rt, resolver, now, gave_up);
-                log.say(rt, Priority::Warning, line);
-            }
-        }
-    }
-
-    fn end_period(&mut self, rt: &HostRuntime, now: Moment, log: &mut Log) {
-        if self.unsaid > 0 {
-            let line = format!(in rt.alloc(); "{} more lookups gave up", self.unsaid);
+    for _lookup in 0..MOST_LOOKUPS {
+        let Some(gave_up) = resolver.take_give_up() else {
+            return;
+        };
+        if said.may_say() {
+            let line = line_of(rt, resolver, now, gave_up);
             log.say(rt, Priority::Warning, line);
         }
-        *self = GiveUpLog::new();
-        self.begin = now.millis();
     }
 }
 

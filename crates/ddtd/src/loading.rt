@@ -2,13 +2,15 @@
 
 use crate::configuration::{fault_text, seal_text, settings_text, toml_text};
 use crate::source::{MOST_CONFIGURATION, MOST_SETTINGS, Why, read, with_path};
-use crate::unknown_keys::{UnknownKey, unknown_in_configuration, unknown_in_settings};
+use crate::unknown_keys::{
+    UnknownKey, unknown_in_configuration, unknown_in_server_settings, unknown_in_settings,
+};
 use ddt_config::{ConfigFault, ServerConfig, from_table};
 use ddt_digest::{Seal, check_seal, seal_in};
 use ddt_node::has_room_for;
 use ddt_path::{Name, Role};
-use ddt_settings::Settings;
-use std::alloc::Global;
+use ddt_settings::{ServerSettings, Settings};
+use std::alloc::{AllocError, Global};
 use std::{fmt, str};
 use toml::Table;
 
@@ -88,6 +90,23 @@ pub fn load_settings(rt: &HostRuntime, path: &str) -> Result<Settings, Why> {
     }
 }
 
+/// The settings of a server in a file; without one, those that allow no ITR.
+pub fn load_server_settings(rt: &HostRuntime, path: Option<&str>) -> Result<ServerSettings, Why> {
+    let Some(path) = path else {
+        return Ok(ServerSettings::none(rt.alloc()));
+    };
+    let bytes = read(rt, path, MOST_SETTINGS)?;
+    match server_settings_of(rt.alloc(), &bytes) {
+        Ok(settings) => Ok(settings),
+        Err(why) => Err(with_path(rt, path, why)),
+    }
+}
+
+fn server_settings_of(alloc: Global, bytes: &[u8]) -> Result<ServerSettings, Why> {
+    let text = text_of(alloc, bytes)?;
+    server_settings_in(alloc, text, &table_of(alloc, text)?)
+}
+
 fn configuration_of(alloc: Global, bytes: &[u8]) -> Result<Loaded, Why> {
     let text = text_of(alloc, bytes)?;
     configuration_in(alloc, text, table_of(alloc, text)?)
@@ -150,15 +169,30 @@ pub fn configuration_in(alloc: Global, text: &str, table: Table) -> Result<Loade
 
 /// The settings of a text and its table, of which each key is one of settings.
 pub fn settings_in(alloc: Global, text: &str, table: &Table) -> Result<Settings, Why> {
-    let unknown = match unknown_in_settings(alloc, text, table) {
-        Ok(unknown) => unknown,
-        Err(refused) => return Err(Err(refused)),
-    };
-    if let Some(key) = unknown.as_slice().first() {
-        return Err(format!(in alloc; "8 Key: {key}"));
-    }
+    refuse_unknown(alloc, unknown_in_settings(alloc, text, table))?;
     match ddt_settings::from_table(alloc, table) {
         Ok(settings) => Ok(settings),
         Err(fault) => Err(settings_text(alloc, &fault)),
+    }
+}
+
+/// The settings of a server in a text and its table, of which each key is one of those.
+pub fn server_settings_in(alloc: Global, text: &str, table: &Table) -> Result<ServerSettings, Why> {
+    refuse_unknown(alloc, unknown_in_server_settings(alloc, text, table))?;
+    match ServerSettings::from_table(alloc, table) {
+        Ok(settings) => Ok(settings),
+        Err(fault) => Err(settings_text(alloc, &fault)),
+    }
+}
+
+/// Refuses settings for the first key that nothing reads.
+fn refuse_unknown(alloc: Global, unknown: Result<Vec<UnknownKey>, AllocError>) -> Result<(), Why> {
+    let unknown = match unknown {
+        Ok(unknown) => unknown,
+        Err(refused) => return Err(Err(refused)),
+    };
+    match unknown.as_slice().first() {
+        Some(key) => Err(format!(in alloc; "8 Key: {key}")),
+        None => Ok(()),
     }
 }

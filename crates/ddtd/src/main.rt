@@ -3,6 +3,7 @@
 //! Tests: tests/ddtd, tests/configurations and tests/namespaces.sh.
 #![tactic(auto)]
 
+mod bounded;
 mod configuration;
 mod configuration_check;
 mod control;
@@ -29,6 +30,7 @@ mod statistics_form;
 mod tables;
 mod times;
 mod unknown_keys;
+mod unrecognized;
 mod warnings;
 mod watch;
 mod words;

@@ -1,9 +1,10 @@
 //! `ddtd resolve SETTINGS`: a Map-Resolver that runs until it is stopped.
 
+use crate::bounded::Bounded;
 use crate::control::Told;
 use crate::daemon::{Role, run};
 use crate::end::End;
-use crate::give_ups::GiveUpLog;
+use crate::give_ups::say_give_ups;
 use crate::loading::load_settings;
 use crate::log::{Log, Priority};
 use crate::poll::Poll;
@@ -12,6 +13,7 @@ use crate::sockets::{FarWires, ResolverWires, Sockets};
 use crate::source::Why;
 use crate::tables::{cache_text, flush_inside, lookup_text, servers_text};
 use crate::times::Moments;
+use crate::unrecognized::{end_period, say_unrecognized};
 use crate::warnings::warnings_of;
 use crate::words::ResolveAsked;
 use ddt_cache::{Entry, Moment};
@@ -43,7 +45,8 @@ pub struct ResolverRole<'a> {
     far: Counted<FarWires>,
     buffer: Vec<u8>,
     moments: Moments,
-    give_ups: GiveUpLog,
+    give_ups: Bounded,
+    unrecognized: Bounded,
 }
 
 /// Resolves for ITRs until it is told to stop.
@@ -125,7 +128,8 @@ impl<'a> ResolverRole<'a> {
             far: Counted::new(far),
             buffer,
             moments,
-            give_ups: GiveUpLog::new(),
+            give_ups: Bounded::new(),
+            unrecognized: Bounded::new(),
         })
     }
 
@@ -164,6 +168,16 @@ impl<'a> ResolverRole<'a> {
         }
         .go_on();
         self.far.wires.drain(self.buffer.as_mut_slice());
+    }
+
+    /// Says in the log which messages were dropped for their AFI.
+    fn say_unrecognized(&mut self, rt: &HostRuntime, now: Moment, log: &mut Log) {
+        let said = &mut self.unrecognized;
+        said.miss(self.resolver.take_missed_unrecognized());
+        end_period(rt, said, now.millis(), log);
+        while let Some(one) = self.resolver.take_unrecognized() {
+            say_unrecognized(rt, said, one, log);
+        }
     }
 
     /// Forgets what it remembers of referrals: of all, with its pending lookups, or of those inside a prefix.
@@ -241,7 +255,8 @@ impl<'a> Role for ResolverRole<'a> {
         let now = self.moments.now(rt);
         self.resolve(now);
         say_silence(rt, &mut self.near, log);
-        self.give_ups.say(rt, &mut self.resolver, now, log);
+        say_give_ups(rt, &mut self.give_ups, &mut self.resolver, now, log);
+        self.say_unrecognized(rt, now, log);
         false
     }
 

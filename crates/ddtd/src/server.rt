@@ -1,30 +1,35 @@
 //! `ddtd serve CONFIG [ADDRESS..]`: a server that runs until it is stopped.
 
+use crate::bounded::Bounded;
 use crate::configuration::fault_text;
 use crate::control::Told;
 use crate::daemon::{Role, run};
 use crate::end::End;
 use crate::late_addresses::LateAddresses;
-use crate::loading::{Loaded, Summary, load_configuration, name_text, role_text};
+use crate::loading::{
+    Loaded, Summary, load_configuration, load_server_settings, name_text, role_text,
+};
 use crate::log::{Log, Priority};
 use crate::poll::Poll;
 use crate::sockets::{ServerWires, Sockets};
 use crate::source::{Why, with_path};
 use crate::times::seconds;
 use crate::unknown_keys::UnknownKey;
+use crate::unrecognized::{end_period, say_unrecognized};
 use crate::watch::Watch;
 use crate::words::ServeAsked;
 use ddt_config::ServerConfig;
 use ddt_daemon::{
-    Counted, CountedAnswers, DaemonStatistics, ServerCounts, ServerStatistics, serve_ready,
+    Counted, CountedAnswers, DaemonStatistics, Door, ServerRecord, ServerStatistics, serve_ready,
 };
 use ddt_ecm::CONTROL_PORT;
 use ddt_node::Server;
 use ddt_path::Locator;
+use ddt_settings::ServerSettings;
 use ddt_text::parse_locator;
 use ddt_trie::HashedMap;
-use ddt_wires::{MOST_BYTES, Outbox, ip_of};
-use std::alloc::AllocError;
+use ddt_wires::{MOST_BYTES, ip_of};
+use std::alloc::{AllocError, Global};
 use std::io;
 use std::io::ErrorKind;
 
@@ -43,12 +48,14 @@ pub struct ServerRole<'a> {
     summary: Summary,
     wires: CountedAnswers<Counted<ServerWires>>,
     buffer: Vec<u8>,
-    outbox: Outbox,
+    settings: ServerSettings,
+    /// What it has done.
+    done: ServerRecord,
+    unrecognized: Bounded,
     watch: Watch,
     late: LateAddresses,
     /// The second in which a socket was last tried at each locator.
     second: u64,
-    counts: ServerCounts,
 }
 
 /// Serves the configuration until it is told to stop.
@@ -144,6 +151,7 @@ impl<'a> ServerRole<'a> {
         log: &mut Log,
     ) -> Result<ServerRole<'a>, Why> {
         let watch = Watch::new(rt, asked.config, asked.is_watched);
+        let settings = load_server_settings(rt, asked.settings)?;
         let loaded = load_configuration(rt, asked.config)?;
         say_unknown(rt, asked.config, loaded.unknown.as_slice(), log);
         let addresses = addresses_in(rt, asked, &loaded.config)?;
@@ -167,11 +175,12 @@ impl<'a> ServerRole<'a> {
             summary,
             wires: CountedAnswers::new(Counted::new(ServerWires { sockets })),
             buffer,
-            outbox: Outbox::new(rt.alloc()),
+            settings,
+            done: ServerRecord::new(rt.alloc()),
+            unrecognized: Bounded::new(),
             watch,
             late: LateAddresses::new(rt.alloc()),
             second: seconds(rt),
-            counts: ServerCounts::default(),
         })
     }
 
@@ -203,20 +212,34 @@ impl<'a> ServerRole<'a> {
         }
     }
 
-    fn serve_at(&mut self, place: usize) {
+    fn serve_at(&mut self, alloc: Global, place: usize) {
         if self.buffer.len() != MOST_BYTES {
             return;
         }
         if let Some(at) = self.sockets().at(place) {
-            let served = serve_ready(
+            let door = Door {
+                alloc,
+                at,
+                settings: &self.settings,
+            };
+            serve_ready(
                 &mut self.wires,
                 &self.server,
-                at,
+                &door,
                 MOST_TURNS,
                 self.buffer.as_mut_slice(),
-                &mut self.outbox,
+                &mut self.done,
             );
-            self.counts.add(served);
+        }
+    }
+
+    /// Says in the log which requests were dropped for their AFI.
+    fn say_unrecognized(&mut self, rt: &HostRuntime, log: &mut Log) {
+        let said = &mut self.unrecognized;
+        said.miss(self.done.take_missed_unrecognized());
+        end_period(rt, said, self.second.saturating_mul(1000), log);
+        while let Some(one) = self.done.take_unrecognized() {
+            say_unrecognized(rt, said, one, log);
         }
     }
 
@@ -275,14 +298,16 @@ impl<'a> Role for ServerRole<'a> {
     fn round(&mut self, rt: &HostRuntime, poll: &Poll, log: &mut Log) -> bool {
         for place in 0..self.sockets().len() {
             if poll.is_ready(place) {
-                self.serve_at(place);
+                self.serve_at(rt.alloc(), place);
             }
         }
+        self.say_unrecognized(rt, log);
         self.look_around(rt, log)
     }
 
     fn take_up(&mut self, rt: &HostRuntime, log: &mut Log) -> Result<(), Why> {
         let loaded = load_configuration(rt, self.asked.config)?;
+        let settings = load_server_settings(rt, self.asked.settings)?;
         say_unknown(rt, self.asked.config, loaded.unknown.as_slice(), log);
         self.expect_group(rt, &loaded.config)?;
         let addresses = addresses_in(rt, self.asked, &loaded.config)?;
@@ -291,6 +316,7 @@ impl<'a> Role for ServerRole<'a> {
         let places = places_of(&addresses, self.server.config());
         self.wires.wires.wires.sockets.keep(places);
         if taken.is_ok() {
+            self.settings = settings;
             self.late.clear();
         }
         taken
@@ -321,7 +347,7 @@ impl<'a> Role for ServerRole<'a> {
         let holds = self.summary.seal.counts;
         let statistics = ServerStatistics {
             daemon,
-            counts: self.counts,
+            counts: self.done.counts,
             answers: self.wires.answers,
             wires: self.wires.wires.counts,
             sockets: self.sockets().len() as u64,

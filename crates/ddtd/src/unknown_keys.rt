@@ -31,6 +31,9 @@ const SITE: [&str; 2] = ["prefix", "etrs"];
 /// The keys of the settings of a resolver.
 const SETTINGS: [&str; 3] = ["roots", "listen", "allow"];
 
+/// The keys of the settings of a server.
+const SERVER_SETTINGS: [&str; 1] = ["allow"];
+
 /// A key that nothing reads.
 #[derive(Drop)]
 pub struct UnknownKey {
@@ -77,6 +80,17 @@ pub fn unknown_in_settings(
 ) -> Result<Vec<UnknownKey>, AllocError> {
     let mut paths = Vec::new(alloc);
     add_unknown(&mut paths, "", table, &SETTINGS)?;
+    with_lines(alloc, text, paths)
+}
+
+/// The first 16 keys of a server's settings that nothing reads, each once.
+pub fn unknown_in_server_settings(
+    alloc: Global,
+    text: &str,
+    table: &Table,
+) -> Result<Vec<UnknownKey>, AllocError> {
+    let mut paths = Vec::new(alloc);
+    add_unknown(&mut paths, "", table, &SERVER_SETTINGS)?;
     with_lines(alloc, text, paths)
 }
 

@@ -10,6 +10,8 @@ use std::alloc::{AllocError, Global};
 pub struct ServeAsked<'a> {
     /// The path of the configuration.
     pub config: &'a str,
+    /// The path of its settings.
+    pub settings: Option<&'a str>,
     /// Where it is to serve; none where it is to serve at all locators of the configuration that are this machine's.
     pub addresses: Vec<&'a str>,
     /// The path of the control socket.
@@ -57,6 +59,9 @@ const SERVE_HELP: &str = "Examples:
   ddtd serve node.toml                          at all locators of the file that are this machine's
   ddtd serve node.toml 192.0.2.3 --control /run/ddtd/serve.sock
 
+The settings of a Map-Server:
+  allow = [\"192.0.2.0/24\", \"2001:db8::/32\"]     which ITRs may ask it; by default none
+
 Status: 0 if it was told to stop, 2 if it refuses.";
 
 const TELL_HELP: &str = "The words:
@@ -103,6 +108,7 @@ fn serve_asked<'a>(alloc: Global, matches: &ArgMatches<'a>) -> Result<ServeAsked
     };
     Ok(ServeAsked {
         config: matches.get_str("config").unwrap_or(""),
+        settings: matches.get_str("settings"),
         addresses,
         control: matches.get_str("control"),
         is_watched: matches.get_flag("watch"),
@@ -134,7 +140,7 @@ fn command_line<'a>(alloc: Global) -> Result<Command<'a>, AllocError> {
 
 fn check_command<'a>(alloc: Global) -> Result<Command<'a>, AllocError> {
     Command::new(alloc, "check")
-        .about("Say whether a configuration, or the settings of a resolver, are good.")
+        .about("Say whether a configuration, or the settings of a resolver or a server, are good.")
         .arg(path(alloc, "config").help("The configuration or the settings, a TOML file"))
 }
 
@@ -147,6 +153,13 @@ fn serve_command<'a>(alloc: Global) -> Result<Command<'a>, AllocError> {
             Arg::new(alloc, "address")
                 .action(ArgAction::Append)
                 .help("Where it serves, each a locator of the configuration"),
+        )?
+        .arg(
+            Arg::new(alloc, "settings")
+                .long("settings")
+                .value_name("FILE")
+                .action(ArgAction::Set)
+                .help("Answer the ITRs that this TOML file allows"),
         )?
         .arg(control(alloc))?
         .arg(

@@ -1,6 +1,6 @@
 use Rattle.std.proofs.Common.{◌≡◌}
 use Rattle.std.specs.List.{list_any}
-use Rattle.ddt_daemon.specs.Admitted.{is_one}
+use Rattle.ddt_daemon.specs.Requests.{is_one}
 use Rattle.ddt_daemon.proofs.admission.has_one.Given as goal
 
 -- none of those before is one

@@ -1,6 +1,6 @@
-use Rattle.std.proofs.Common.{sym, ◌∙◌}
+use Rattle.std.proofs.Common.{refl, sym, ◌∙◌}
 use Rattle.ddt_daemon.specs.Rounds.{at_moment}
-use Rattle.ddt_daemon.proofs.PlaceLemmas.{admitted_is, refused_is}
+use Rattle.ddt_daemon.proofs.PlaceLemmas.{admitted_at_once, admitted_is, refused_is, refused_wait}
 use Rattle.ddt_daemon.proofs.map_resolver.MapResolver.admit.Goals as goal
 
 pub returns-in-Err-clause-dropped : goal.returns-in-Err-clause-dropped
@@ -12,14 +12,19 @@ returns-in-Err-place-clause-dropped g c =
     refused_is c.args.self.now.waiting.kept.items (at_moment c.args.now c.args.self.now.running) c.in-Err-place.why
     c.in-Ok.ensures.allowed (sym c.has.ensures ∙ c.if-has.false) c.in-Err-place.ensures.refused
 
-pub returns-in-Ok-room_for-clause-admitted : goal.returns-in-Ok-room_for-clause-admitted
-returns-in-Ok-room_for-clause-admitted g c =
-    admitted_is c.args.self.now.waiting.kept.items (at_moment c.args.now c.args.self.now.running) c.in-Ok-place.place.shares c.in-Ok-place.place.begins
-    c.in-Ok.ensures.allowed (sym c.has.ensures ∙ c.if-has.false) c.in-Ok-place.ensures.placed
+pub returns-in-Ok-waiter-clause-admitted : goal.returns-in-Ok-waiter-clause-admitted
+returns-in-Ok-waiter-clause-admitted g c =
+    let placed = rw c.in-Ok-Waits.field-0-is at c.in-Ok-Waits.ensures.placed in (
+      admitted_is c.args.self.now.waiting.kept.items (at_moment c.args.now c.args.self.now.running) c.in-Ok-Waits.lookup
+          c.in-Ok.ensures.allowed (sym c.has.ensures ∙ c.if-has.false) placed,
+      placed,
+      refl,
+      c.in-Ok-waiter.ensures.bytes,
+    )
 
-pub returns-in-Err-room_for-clause-dropped : goal.returns-in-Err-room_for-clause-dropped
-returns-in-Err-room_for-clause-dropped g c = (
-  c.in-Ok.request,
-  admitted_is c.args.self.now.waiting.kept.items (at_moment c.args.now c.args.self.now.running) c.in-Ok-place.place.shares c.in-Ok-place.place.begins
-      c.in-Ok.ensures.allowed (sym c.has.ensures ∙ c.if-has.false) c.in-Ok-place.ensures.placed,
-)
+pub returns-in-Err-waiter-clause-dropped : goal.returns-in-Err-waiter-clause-dropped
+returns-in-Err-waiter-clause-dropped g c =
+    let placed = rw c.in-Ok-Waits.field-0-is at c.in-Ok-Waits.ensures.placed in
+    refused_wait c.args.self.now.waiting.kept.items (at_moment c.args.now c.args.self.now.running) c.in-Err-waiter.why
+    (admitted_is c.args.self.now.waiting.kept.items (at_moment c.args.now c.args.self.now.running) c.in-Ok-Waits.lookup
+    c.in-Ok.ensures.allowed (sym c.has.ensures ∙ c.if-has.false) placed) c.in-Err-waiter.ensures.refused

@@ -18,10 +18,10 @@ loop-kept-preserved g c =
         i.1 ++ f.0,
         tells_both _ i.0 _ t.0 _ i.2 t.1,
         tells_both _ i.1 _ f.0 _ i.3 f.1,
-        rw c.tell_sharer.ensures.waiting (closed_one c.in-Some.kept t.0 f.0 i.4 (rw c.in-Some.is at c.take.ensures) t.2 f.2),
+        rw (c.tell_sharer.ensures.waiting, c.note_give_up.ensures.waiting) (closed_one c.in-Some.kept t.0 f.0 i.4 (rw c.in-Some.is at c.take.ensures) t.2 f.2),
       );
-      running = c.tell_sharer.ensures.running ∙ c.loop-kept.invariant.running;
-      counts = c.tell_sharer.ensures.counts ∙ c.loop-kept.invariant.counts;
+      running = c.tell_sharer.ensures.running ∙ c.note_give_up.ensures.running ∙ c.loop-kept.invariant.running;
+      counts = c.tell_sharer.ensures.counts ∙ c.note_give_up.ensures.counts ∙ c.loop-kept.invariant.counts;
     }
 
 pub returns-clause-closed : goal.returns-clause-closed

@@ -1,7 +1,6 @@
-use Rattle.std.proofs.Common.{[], refl, sym, ◌∙◌}
+use Rattle.std.proofs.Common.{[], refl, None, Some}
 use Rattle.ddt_wires.specs.laws.Tell.{tells_none}
-use Rattle.ddt_daemon.specs.Rounds.{other_port, whole, cut, lost}
-use Rattle.ddt_daemon.proofs.HandleLemmas.{plain_cut}
+use Rattle.ddt_daemon.specs.Rounds.{other_port, spelled, lost_whole}
 use Rattle.ddt_daemon.proofs.map_resolver.MapResolver.hear.Goals as goal
 
 pub returns-then-packet-ne-CONTROL_PORT : goal.returns-then-packet-ne-CONTROL_PORT
@@ -9,25 +8,33 @@ returns-then-packet-ne-CONTROL_PORT g c = ([], [], tells_none _, tells_none _, o
 
 pub returns-in-Ok-None : goal.returns-in-Ok-None
 returns-in-Ok-None g c =
-    let w = c.hear_reply.ensures in
-    (w.0, w.1, w.2, w.3, whole c.if-packet-ne-CONTROL_PORT.false (rw (c.resolver.ensures, c.in-Ok-None.field-0-is) at c.in-Ok-None.ensures.cut) w.4)
-
-pub returns-in-Ok-Some : goal.returns-in-Ok-Some
-returns-in-Ok-Some g c =
-    let w = c.hear_reply-in-Ok-Some.ensures in (
+    let w = c.hear_spelled.ensures in (
       w.0,
       w.1,
       w.2,
       w.3,
-      cut c.in-Ok-Some.cut c.if-packet-ne-CONTROL_PORT.false (rw (c.resolver.ensures, c.in-Ok-Some.field-0-is) at c.in-Ok-Some.ensures.cut)
-          (rw (c.cut_one.ensures, c.as_slice.ensures) at w.4),
+      spelled None c.if-packet-ne-CONTROL_PORT.false (rw c.in-Ok-None.field-0-is at c.in-Ok-None.ensures.spelled)
+          (rw (c.spelled.ensures.running, c.spelled.ensures.waiting, c.spelled.ensures.counts) at w.4),
+    )
+
+pub returns-in-Ok-Some : goal.returns-in-Ok-Some
+returns-in-Ok-Some g c =
+    let w = c.hear_spelled-in-Ok-Some.ensures in (
+      w.0,
+      w.1,
+      w.2,
+      w.3,
+      spelled (Some c.in-Ok-Some.plain) c.if-packet-ne-CONTROL_PORT.false (rw c.in-Ok-Some.field-0-is at c.in-Ok-Some.ensures.spelled)
+          (rw (c.spelled.ensures.running, c.spelled.ensures.waiting, c.spelled.ensures.counts, c.as_slice.ensures) at w.4),
     )
 
 pub returns-in-Err : goal.returns-in-Err
-returns-in-Err g c = (
-  [],
-  [],
-  tells_none _,
-  tells_none _,
-  lost c.if-packet-ne-CONTROL_PORT.false (rw c.resolver.ensures at c.in-Err.ensures.wanted) refl refl refl,
-)
+returns-in-Err g c =
+    let its = c.in-Err.ensures.wanted in (
+      [],
+      [],
+      tells_none _,
+      tells_none _,
+      lost_whole its.0 its.1 c.if-packet-ne-CONTROL_PORT.false its.2 refl refl
+          (rw (c.spelled.ensures.running, c.spelled.ensures.waiting, c.spelled.ensures.counts) refl),
+    )

@@ -1,6 +1,6 @@
 use Rattle.ddt_resolver.specs.State.{moved}
 use Rattle.ddt_daemon.proofs.EndLemmas.{is_none}
-use Rattle.ddt_daemon.proofs.PlaceLemmas.{unanswered, begins_at_its}
+use Rattle.ddt_daemon.proofs.PlaceLemmas.{answers_with, unanswered, begins_at_its}
 use Rattle.ddt_daemon.proofs.map_resolver.MapResolver.place.Goals as goal
 
 pub returns-then-is_full-clause-refused : goal.returns-then-is_full-clause-refused
@@ -43,3 +43,8 @@ returns-clause-placed g c = (
   record { few = c.is_full.ensures.room c.if-is_full.false; few_of_source = c.is_full_of_source.ensures.room c.if-is_full_of_source.false },
   c.is_full_of_set.ensures.room c.if-is_full_of_set.false,
 )
+
+pub returns-in-Answer-clause-placed : goal.returns-in-Answer-clause-placed
+returns-in-Answer-clause-placed g c =
+    answers_with (moved c.args.now c.args.self.now.running.state) c.args.x c.beginning.ensures.begins.0 c.beginning.ensures.begins.1 c.in-Answer.outcome
+    c.beginning.ensures.begins.2 (rw c.in-Answer.is at c.beginning.ensures.begins.3)

@@ -1,0 +1,9 @@
+pub mod SeveralLemmas
+pub mod FoldLemmas
+pub mod OrderLemmas
+pub mod AlikeLemmas
+pub mod AgainLemmas
+pub mod TakesLemmas
+pub mod KnownLemmas
+pub mod RequestLemmas
+pub mod FixedLemmas

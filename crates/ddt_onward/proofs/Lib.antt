@@ -1,2 +1,0 @@
-mod OnwardLemmas
-mod BitLemmas

@@ -1,8 +1,0 @@
-use Rattle.ddt_onward.proofs.OnwardLemmas.{still_request, goes_on}
-use Rattle.ddt_onward.proofs.an_itr_request_goes_on_as_it_came.Goals as goal
-
-pub returns-clause-request : goal.returns-clause-request
-returns-clause-request c = still_request
-
-pub returns-clause-goes_on : goal.returns-clause-goes_on
-returns-clause-goes_on c = goes_on

@@ -90,8 +90,8 @@ REFERRALS = (
     Referral("locator LCAF 11 (security key) alone", one([locator(security_key(MS))]), "reply", "8111 6.4"),
     Referral("plain locator, then LCAF 11", one([GOOD, locator(security_key(PEER))]), "reply", "8111 6.4"),
     Referral("LCAF 11, then plain locator", one([locator(security_key(PEER)), GOOD]), "reply", "8111 6.4"),
-    Referral("plain locator, then LCAF 4 (AS number)",
-             one([GOOD, locator(lcaf(4, struct.pack("!I", 65001) + plain(PEER)))]), "reply", "no rule (8060 4.3)"),
+    Referral("plain locator, then LCAF 3 (AS number)",
+             one([GOOD, locator(lcaf(3, struct.pack("!I", 65001) + plain(PEER)))]), "reply", "no rule (8060 4.2)"),
     Referral("plain locator, then AFI 17 (a name)", one([GOOD, locator(struct.pack("!H", 17) + b"node\0")]), "logged",
              "9301 5: unrecognized AFI"),
     Referral("SigCnt 1 and a signature section", one([GOOD], signatures=SIGNATURE, signed=1), "reply",
@@ -183,7 +183,7 @@ def dropped(name, says, want="nothing", **words):
 
 
 NAT = lcaf(7, struct.pack("!HH", 4342, 4342) + plain(ITR) + plain(MS) + plain(None) + plain(PEER))
-AS_NUMBER = lcaf(4, struct.pack("!I", 65001) + plain(ITR))
+AS_NUMBER = lcaf(3, struct.pack("!I", 65001) + plain(ITR))
 IDS = bytes(range(24))
 MAPPING = record(1440, 24, 0, plain("10.9.9.0"), [locator(ITR)])
 
@@ -199,7 +199,7 @@ REQUESTS = (
     good("32 ITR-RLOCs", "9301 5.2: IRC 31", rlocs=(ITR, *(f"198.51.100.{number}" for number in range(1, 32)))),
     good("ITR-RLOC LCAF 7 (NAT), then v4", "no rule (8060 4.4)", rlocs=(NAT, ITR)),
     good("ITR-RLOC v4, then LCAF 2 (instance)", "no rule (8060 4.1)", rlocs=(ITR, in_instance(7, plain(ITR)))),
-    good("ITR-RLOC v4, then LCAF 4 (AS number)", "no rule (8060 4.3)", rlocs=(ITR, AS_NUMBER)),
+    good("ITR-RLOC v4, then LCAF 3 (AS number)", "no rule (8060 4.2)", rlocs=(ITR, AS_NUMBER)),
     good("I bit with xTR-ID and Site-ID after the record", "9301 5.2: Rsvd ignored",
          words={"bits": (0x10, 0x20, 0), "behind": IDS}),
     good("N and I bits (subscribe)", "9301 5.2: Rsvd ignored", words={"bits": (0x10, 0x30, 0), "behind": IDS}),

@@ -23,12 +23,14 @@ not_run() {
     exit 0
 }
 
+# Debian has it in /usr/sbin, which the PATH of a user may lack.
+PATH=$PATH:/usr/sbin
 if [ -z "${WITHIN_NAMESPACES:-}" ]; then
     for tool in unshare ip python3; do
         command -v "$tool" >/dev/null || not_run "there is no $tool"
     done
     command -v oor >/dev/null || not_run 'it is not installed (Debian: openoverlayrouter)'
-    [ -c /dev/net/tun ] || not_run 'there is no /dev/net/tun'
+    [ -w /dev/net/tun ] || not_run 'this user may not open /dev/net/tun'
     apart=(unshare --net --mount)
     [ "$(id -u)" = 0 ] || apart+=(--user --map-root-user)
     # ip keeps the names of namespaces in /run. They go with the last process in here.

@@ -23,16 +23,18 @@ import fakes
 import variants
 from fakes import Client, told
 from lisp import ACTIONS, REFERRAL
-from variants import ITR, RESOLVER, ROOT
+from variants import ANOTHER, ITR, RESOLVER, ROOT
 
 DDT, DDTD = os.environ["DDT"], os.environ["DDTD"]
 WITH_SETTINGS = os.environ.get("SERVE_SETTINGS") != "no"
-# Kihyamut's own: a root, a Map-Server, a resolver over both; and one over the fake servers that is never flushed.
-SERVER, EAST, ASKED, LASTING, ANOTHER = (f"192.0.2.{number}" for number in (33, 35, 22, 23, 40))
-ADDRESSES = (1, 2, 3, 4, 5, 6, 8, 22, 23, 33, 35, 40, 97, 98, 99)
+# Kihyamut's own: a root, two Map-Servers, a resolver over them; and one over the fake servers that is never flushed.
+SERVERS = {"root": "192.0.2.33", "east": "192.0.2.35", "west": "192.0.2.36"}
+ASKED, LASTING = "192.0.2.22", "192.0.2.23"
+ADDRESSES = (1, 2, 3, 4, 5, 6, 8, 22, 23, 33, 35, 36, 40, 97, 98, 99)
 REGISTER = """kind,prefix,group,addresses
 group-node,,root,192.0.2.33
 group-ms,,east,192.0.2.35
+group-ms,,west,192.0.2.36
 node,*,root,
 ms,[0]10.1.0.0/16,east,
 ms,[7]10.1.0.0/16,east,
@@ -41,6 +43,9 @@ site,[0]10.1.2.0/24,,192.0.2.6
 site,[7]10.1.2.0/24,,192.0.2.6
 site,[0]2001:db8:a:1::/64,,192.0.2.6
 site,[0]10.1.4.0/24,,
+site,[0]10.1.6.0/24,,192.0.2.35
+ms,[0]10.3.0.0/16,west,
+site,[0]10.3.2.0/24,,192.0.2.6
 """
 COMMANDS = ("ip link set lo up",
             *(f"ip addr add 192.0.2.{number}/32 dev lo" for number in ADDRESSES),
@@ -73,12 +78,13 @@ class Daemons:
     def start_all(self):
         register, allow = self.folder / "register.csv", self.folder / "allow"
         register.write_text(REGISTER)
-        allow.write_text('allow = ["0.0.0.0/0", "::/0"]\n')
-        for group in ("root", "east"):
+        allow.write_text(f'allow = ["{ITR}/32"]\n')
+        for group in SERVERS:
             words = ["--settings", str(allow)] if group == "east" and WITH_SETTINGS else []
             said = subprocess.run([DDT, "compile", register, group], check=True, capture_output=True, text=True)
             self.start(group, "serve", said.stdout, *words)
-        for name, root, listen in (("resolver", ROOT, RESOLVER), ("asked", SERVER, ASKED), ("lasting", ROOT, LASTING)):
+        for name, root, listen in (("resolver", ROOT, RESOLVER), ("asked", SERVERS["root"], ASKED),
+                                   ("lasting", ROOT, LASTING)):
             self.start(name, "resolve", f'roots = ["{root}"]\nlisten = ["{listen}"]\nallow = ["{ITR}/32"]\n')
 
     def log(self, name):
@@ -92,6 +98,10 @@ class Daemons:
         """What counts lost messages and lookups."""
         lines = (line.split("=", 1) for line in self.tell(name, "stats").split() if "=" in line)
         return {count: int(number) for count, number in lines if re.match(r"num\.(dropped|gaveup|ignored)", count)}
+
+    def received(self, name):
+        """How many packets a server had."""
+        return int(re.search(r"num\.received=(\d+)", self.tell(name, "stats"))[1])
 
     def stop(self):
         for program in self.programs:
@@ -108,7 +118,7 @@ class Bench:
         self.words, self.verbose = [word.lower() for word in words], verbose
         self.good, self.faults, self.free, self.seen = 0, [], 0, set()
         self.daemons, self.tree = Daemons(folder), fakes.Tree()
-        self.itr, self.another = Client(ITR), Client(ANOTHER)
+        self.clients = {address: Client(address) for address in (ITR, ANOTHER)}
 
     def wants(self, name):
         return not self.words or any(word in name.lower() for word in self.words)
@@ -165,7 +175,7 @@ class Bench:
 
         def ask():
             nonce = random.getrandbits(64)
-            return self.itr.ask(fakes.request(eid, nonce), nonce, RESOLVER, patience)
+            return self.clients[ITR].ask(fakes.request(eid, nonce), nonce, RESOLVER, patience)
         said, took, came, names_afi = self.put(ask, one.want, "resolver")
         came += f", {took:.1f} s" if said else ""
         right = self.is_right(one.want, said, eid, took, names_afi)
@@ -178,7 +188,7 @@ class Bench:
         for turn in turns:
             eid, nonce = ipaddress.ip_address(f"10.{number}.{turn + 2}.3"), random.getrandbits(64)
             self.tree.answers[eid] = kept.make
-            self.itr.ask(fakes.request(eid, nonce), nonce, server, 3)
+            self.clients[ITR].ask(fakes.request(eid, nonce), nonce, server, 3)
         return self.tree.count(ROOT, f"10.{number}.0.0/16")
 
     def caching(self):
@@ -201,13 +211,12 @@ class Bench:
         for one in variants.REQUESTS:
             if one.server and self.wants(f"serve: {one.name}"):
                 # A hole is the root's to tell.
-                at = (SERVER, "root") if one.eid == variants.HOLE else (EAST, "east")
-                self.request(f"serve: {one.name}", one, one.server, self.another, at)
+                self.request(f"serve: {one.name}", one, one.server, "root" if one.eid == variants.HOLE else "east")
             if one.resolver and self.wants(f"resolve: {one.name}"):
-                self.request(f"resolve: {one.name}", one, one.resolver, self.itr, (ASKED, "asked"))
+                self.request(f"resolve: {one.name}", one, one.resolver, "asked")
 
-    def request(self, name, one, want, client, at):
-        server, daemon = at
+    def request(self, name, one, want, daemon):
+        client, server = self.clients[ITR if daemon == "asked" else ANOTHER], SERVERS.get(daemon, ASKED)
         nonces = []
 
         def ask():
@@ -232,14 +241,21 @@ class Bench:
             self.judge(name, told(said), WANTED["reply"], self.is_right("reply", said, eid, took, False), "9301 5.8")
 
     def direct(self):
-        print("\n== Map-Requests without bit D to a Map-Server (ddtd serve)")
-        for name, text, want, says in variants.DIRECT:
-            if self.wants(name):
-                prefix, nonce = ipaddress.ip_network(text), random.getrandbits(64)
-                eid = prefix.network_address
-                message = fakes.request(eid, nonce, length=prefix.prefixlen)
-                said, took = self.itr.ask(message, nonce, EAST, 2)
-                self.judge(name, told(said), WANTED[want], self.is_right(want, said, eid, took, False), says)
+        print("\n== Map-Requests without bit D to ddtd serve")
+        for one in variants.DIRECT:
+            if self.wants(one.name):
+                self.direct_one(one)
+
+    def direct_one(self, one):
+        prefix, nonce = ipaddress.ip_network(one.prefix), random.getrandbits(64)
+        eid, before = prefix.network_address, self.daemons.received(one.server)
+        message = fakes.request(eid, nonce, length=prefix.prefixlen)
+        said, took = self.clients[one.sender].ask(message, nonce, SERVERS[one.server], 2)
+        right, came = self.is_right(one.want, said, eid, took, False), told(said)
+        again = self.daemons.received(one.server) - before - 1
+        if one.want == "nothing" and (again or self.tree.is_forwarded([nonce])):
+            right, came = False, f"it went on, and came back {again} times"
+        self.judge(one.name, came, WANTED[one.want], right, one.says)
 
     def run(self):
         self.daemons.start_all()
@@ -253,7 +269,8 @@ class Bench:
         self.lasting(since)
         print("\nok: as the RFC asks; NOT: it isn't; -: no RFC has a rule. In parentheses: the counts that went up.")
         if not self.words:
-            self.faults += [f"expected.py has {name}, which isn't sent" for name in expected.VARIANTS.keys() - self.seen]
+            idle = expected.VARIANTS.keys() - self.seen
+            self.faults += [f"expected.py has {name}, which isn't sent" for name in idle]
         for fault in self.faults:
             print(f"NOT AS EXPECTED  {fault}")
         print(f"{self.good} variants as the RFCs ask, {self.free} without a rule, {len(self.faults)} not as expected")

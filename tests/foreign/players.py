@@ -42,8 +42,8 @@ class Players:
             if is_ready():
                 return
             time.sleep(0.1)
-        log = (self.folder / f"{host}.log").read_text()
-        raise RuntimeError(f"{self.full(host)}'s {title(host)} isn't ready: {log}")
+        last = (self.folder / f"{host}.log").read_text().splitlines()[-3:]
+        raise RuntimeError(f"{self.full(host)}'s {title(host)} isn't ready: {' '.join(last)}")
 
     def start_ddtd(self, host, command, text, *words):
         (self.folder / f"{host}.toml").write_text(text)

@@ -12,6 +12,8 @@ from lisp import in_instance, lcaf, locator, map_referral, plain, record, securi
 from reading import network
 
 ITR, RESOLVER, ROOT, SECOND, MS, ETR, PEER = (f"192.0.2.{number}" for number in (1, 2, 3, 4, 5, 6, 8))
+# A DDT client of Kihyamut's servers.
+ANOTHER = "192.0.2.40"
 # Servers that never answer.
 SILENT = ("192.0.2.97", "192.0.2.98", "192.0.2.99")
 # For IPv6's identifiers.
@@ -194,7 +196,7 @@ REQUESTS = (
     dropped("source EID MAC (AFI 16389)", "9301 5: unrecognized AFI", "logged", words={"source_eid": MAC}),
     dropped("source EID a name (AFI 17)", "9301 5: unrecognized AFI", "logged",
             words={"source_eid": struct.pack("!H", 17) + b"host\0"}),
-    good("ITR-RLOCs v4, v6, v4", "9301 5.2", rlocs=(ITR, ITR_V6, "192.0.2.40")),
+    good("ITR-RLOCs v4, v6, v4", "9301 5.2", rlocs=(ITR, ITR_V6, ANOTHER)),
     good("ITR-RLOCs v6, v4", "9301 5.2", rlocs=(ITR_V6, ITR)),
     good("32 ITR-RLOCs", "9301 5.2: IRC 31", rlocs=(ITR, *(f"198.51.100.{number}" for number in range(1, 32)))),
     good("ITR-RLOC LCAF 7 (NAT), then v4", "no rule (8060 4.4)", rlocs=(NAT, ITR)),
@@ -231,10 +233,24 @@ REQUESTS = (
     dropped("EID MAC (AFI 16389)", "9301 5: unrecognized AFI", "logged", raw=MAC, length=48),
 )
 
-# Without the bit D, straight at a Map-Server: (name, identifier, want, what says so).
+@dataclasses.dataclass(frozen=True)
+class Direct:
+    """A Map-Request without the bit D, straight at a server. By default the ITR asks a Map-Server that allows it to."""
+    name: str
+    prefix: str
+    want: str
+    says: str
+    server: str = "east"
+    sender: str = ITR
+
+
 DIRECT = (
-    ("D clear, registered", SITE, "reply", "9301 8.3: forwards to an ETR"),
-    ("D clear, not registered", "10.1.4.7", "negative", "9301 8.3: negative, 1 minute"),
-    ("D clear, no such site", "10.1.77.1", "negative", "9301 8.3: negative, 15 minutes"),
-    ("D clear, prefix /24 of the mapping", "10.1.2.0/24", "reply", "9301 8.3 and 6.1"),
+    Direct("D clear, registered", SITE, "reply", "9301 8.3: forwards to an ETR"),
+    Direct("D clear, prefix /24 of the mapping", "10.1.2.0/24", "reply", "9301 8.3 and 6.1"),
+    Direct("D clear, not registered", "10.1.4.7", "negative", "9301 8.3: negative, 1 minute"),
+    Direct("D clear, no such site", "10.1.77.1", "negative", "9301 8.3: negative, 15 minutes"),
+    Direct("D clear, its ETR is the Map-Server", "10.1.6.1", "nothing", "it would go round in a circle"),
+    Direct("D clear, from who isn't allowed", SITE, "nothing", "the settings", sender=ANOTHER),
+    Direct("D clear, to a Map-Server without settings", "10.3.2.3", "nothing", "no settings allow it", "west"),
+    Direct("D clear, to a DDT node", SITE, "nothing", "8111 7.1: it has DDT clients alone", "root"),
 )

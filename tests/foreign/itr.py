@@ -85,6 +85,8 @@ class Itr:
         """The cell for a Map-Reply of the ITR's nonce, from this host."""
         record = (said["records"] or [None])[0]
         wrong = fault(question, record)
+        if not wrong and self.players.full(host) == "Kihyamut":
+            wrong = fault_of_ours(question, record)
         if not wrong:
             return {"mark": "ok", "prefix": str(record["prefix"]), "action": record["action"], "ttl": record["ttl"],
                     "locators": [str(one) for one in record["locators"]]}
@@ -94,6 +96,14 @@ class Itr:
         if self.players.full(host) == "OOR":
             return {"mark": "oor", "why": f"OOR's {title(host)} sends {wrong}"}
         return reason or {"mark": "FAILS", "why": f"{wrong}, from {host}"}
+
+
+def fault_of_ours(question, record):
+    """What else is wrong with a negative Map-Reply of Kihyamut's, or None (RFC 8111, section 7.3.2; RFC 9301, 8.3)."""
+    minutes = 1 if question.column == "absent" else 15
+    if record["locators"] or (record["action"], record["ttl"]) == (1, minutes):
+        return None
+    return f"a negative Map-Reply with ACT {record['action']} and TTL {record['ttl']}, not 1 and {minutes}"
 
 
 def fault(question, record):

@@ -52,9 +52,9 @@ COMMANDS = ("ip link set lo up",
             *(f"ip addr add 2001:db8::{number}/128 dev lo nodad" for number in (1, 2, 5)))
 # How long an AFI may take to be logged, since log lines are bounded.
 SECONDS_TO_LOG = 11
-WANTED = {"reply": "the ETR's Map-Reply", "only": "the same, and no other asked",
-          "negative": "negative Map-Reply", "nothing": "nothing", "logged": "nothing, and the AFI logged",
-          "MS-ACK": "MS-ACK"}
+WANTED = {"reply": "the ETR's Map-Reply", "only": "the same, and no other asked", "nothing": "nothing",
+          "negative 1": "negative Map-Reply, 1 min", "negative 15": "negative Map-Reply, 15 min",
+          "logged": "nothing, and the AFI logged", "MS-ACK": "MS-ACK"}
 
 
 class Daemons:
@@ -144,8 +144,9 @@ class Bench:
             return bool(record) and said["kind"] == REFERRAL and record["action"] == ACTIONS.index("MS-ACK")
         if want in ("reply", "only"):
             return has_locators and took < 2
-        if want == "negative":
-            return bool(record) and not has_locators and record["prefix"] is not None and eid in record["prefix"]
+        if want.startswith("negative"):
+            covers = bool(record) and record["prefix"] is not None and eid in record["prefix"]
+            return covers and not has_locators and (record["action"], record["ttl"]) == (1, int(want.split()[1]))
         return said is None and (want == "nothing" or names_afi)
 
     def put(self, ask, want, daemon):

@@ -1,8 +1,8 @@
 """Messages that other implementations write: what each is to come to, and which section of an RFC says so.
 
 A want is one of: reply, the ETR's Map-Reply within 2 seconds; only, that, and no silent server is asked; negative, a
-negative Map-Reply; nothing; logged, nothing but a line of the log that names the AFI; MS-ACK; or how often the root is
-asked.
+negative Map-Reply with ACT 1 (Natively-Forward), of so many minutes; nothing; logged, nothing but a line of the log
+that names the AFI; MS-ACK; or how often the root is asked.
 """
 import dataclasses
 import ipaddress
@@ -116,10 +116,10 @@ REFERRALS = (
     Referral("the referral twice", twice, "reply", "8111 7.3.2"),
     Referral("MS-NOT-REGISTERED at one peer, MS-ACK at the other", absent_then_good, "reply", "8111 7.3.2"),
     Referral("MS-NOT-REGISTERED, TTL 15, incomplete (as OOR)", one([locator(MS, 0, 0, 0)], 15, 3, incomplete=1),
-             "negative", "8111 7.3.2"),
-    Referral("MS-NOT-REGISTERED without a locator", one([], 1, 3), "negative", "8111 6.4"),
-    Referral("DELEGATION-HOLE", one([], 15, 4), "negative", "8111 7.3.2"),
-    Referral("DELEGATION-HOLE of an instance range, IID mask-len 0", range_of_instances, "negative", "8060 4.1"),
+             "negative 1", "8111 7.3.2"),
+    Referral("MS-NOT-REGISTERED without a locator", one([], 1, 3), "negative 1", "8111 6.4"),
+    Referral("DELEGATION-HOLE", one([], 15, 4), "negative 15", "8111 7.3.2"),
+    Referral("DELEGATION-HOLE of an instance range, IID mask-len 0", range_of_instances, "negative 15", "8060 4.1"),
     Referral("another nonce", wrong_nonce, "nothing", "8111 7.3.3"),
     Referral("ACT 6, unassigned", one([GOOD], action=6), "nothing", "8111 6.4"),
     Referral("NOT-AUTHORITATIVE", one([], 0, 5, 32, incomplete=1), "nothing", "8111 7.3.2: discarded"),
@@ -247,8 +247,8 @@ class Direct:
 DIRECT = (
     Direct("D clear, registered", SITE, "reply", "9301 8.3: forwards to an ETR"),
     Direct("D clear, prefix /24 of the mapping", "10.1.2.0/24", "reply", "9301 8.3 and 6.1"),
-    Direct("D clear, not registered", "10.1.4.7", "negative", "9301 8.3: negative, 1 minute"),
-    Direct("D clear, no such site", "10.1.77.1", "negative", "9301 8.3: negative, 15 minutes"),
+    Direct("D clear, not registered", "10.1.4.7", "negative 1", "9301 8.3: 1 minute"),
+    Direct("D clear, no such site", "10.1.77.1", "negative 15", "9301 8.3: 15 minutes"),
     Direct("D clear, its ETR is the Map-Server", "10.1.6.1", "nothing", "it would go round in a circle"),
     Direct("D clear, from who isn't allowed", SITE, "nothing", "the settings", sender=ANOTHER),
     Direct("D clear, to a Map-Server without settings", "10.3.2.3", "nothing", "no settings allow it", "west"),

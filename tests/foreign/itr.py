@@ -6,6 +6,7 @@ import time
 import typing
 
 import apart
+import expected
 import lisp
 from reasons import Reasons, holds
 from players import title
@@ -52,7 +53,7 @@ class Itr:
     def ask(self, questions, patience):
         """Asks all at once, as often as it takes, and returns a cell for each column."""
         pending, cells, tried, start = {random.getrandbits(64): one for one in questions}, {}, 0, time.time()
-        while pending and time.time() < start + patience:
+        while pending and time.time() < start + min(patience, self.most_seconds(pending.values())):
             if time.time() >= start + 1.5 * tried:
                 tried += 1
                 self.send(self.request(*one) for one in pending.items())
@@ -63,6 +64,10 @@ class Itr:
         for question in pending.values():
             cells[question.column] = self.reasons.of(question, self.trail(question, start))
         return cells
+
+    def most_seconds(self, questions):
+        """How long these are waited for, since some are expected to get no reply."""
+        return 13 if any(expected.cell(self.players.row, one.column) is None for one in questions) else 5
 
     def trail(self, question, start):
         return self.net.trail(start, question.instance, question.eid)

@@ -12,7 +12,12 @@ import subprocess
 import sys
 import time
 
+import etr
+import itr
 import tree
+import xtrs
+from net import Net
+from players import Players
 from tree import is_oor
 
 DDTPLAN = os.environ["DDTPLAN"]
@@ -35,7 +40,6 @@ def asked(net, players):
 
 def run(net, players, found):
     """Fills in the cells."""
-    import etr, itr, xtrs
     net.make()
     players.start_servers()
     players.start_resolver()
@@ -53,7 +57,7 @@ def run(net, players, found):
     needs_ping = {"mark": "-", "why": "needs the ping"}
     found["smr-xtr"] = pair.renewed() if found["ping"]["mark"] == "ok" else needs_ping
     found.update(client.ask(itr.FOR_PREFIX, 10))
-    if players.who["resolver"] == "K":
+    if players.row in tree.WITH_DDTPLAN:
         found["asked"] = asked(net, players)
     players.keep_counts()
 
@@ -63,10 +67,9 @@ def main():
         print(*tree.ROWS)
         return
     row, prefix, folder = sys.argv[1:]
-    import net as nets, players as programs
     pathlib.Path(folder).mkdir(exist_ok=True)
-    net = nets.Net(prefix, folder)
-    players, found, start = programs.Players(net, row), {}, time.time()
+    net = Net(prefix, folder)
+    players, found, start = Players(net, row), {}, time.time()
     signal.signal(signal.SIGTERM, lambda *_: sys.exit(1))
     try:
         run(net, players, found)

@@ -23,7 +23,7 @@ class Players:
     """The programs by their hosts. `notes` says which of openoverlayrouter's ended by themselves."""
 
     def __init__(self, net, row):
-        self.net, self.folder = net, net.folder
+        self.net, self.folder, self.row = net, net.folder, row
         self.who = dict(zip(("resolver", "root", "node", "ms"), row)) | {"west": "O", "south": "O"}
         self.programs, self.texts, self.notes = {}, {}, []
 

@@ -9,7 +9,7 @@ import subprocess
 import sys
 
 import expected
-from tree import COLUMNS, ROWS, label
+from tree import COLUMNS, ROWS, WITH_DDTPLAN, label
 
 SHORT = {"K": "Kih", "O": "OOR", "P": "OOR/proxy", "-": "-"}
 LEGEND = """
@@ -24,15 +24,16 @@ def read_row(folder, row):
 
 
 def applies(row, column):
-    """Whether a row has this column: without a resolver there is no tree, and ddtplan is run once for each of those."""
+    """Whether a row has this column: without a resolver there are no root and no node."""
+    if column == "asked":
+        return row in WITH_DDTPLAN
     return row[0] != "-" or column not in ("hole-root", "hole-node")
 
 
 def mark_of(found, row, column):
-    if column not in found:
-        asks = column != "asked" or row[0] == "K"
-        return "not run" if applies(row, column) and asks else "-"
-    return found[column]["mark"]
+    if column in found:
+        return found[column]["mark"]
+    return "not run" if applies(row, column) else "-"
 
 
 def unexpected(row, column, mark, found):

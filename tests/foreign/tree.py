@@ -13,6 +13,8 @@ NAMES = {address: name for table in (V4, V6) for name, address in table.items()}
 COLUMNS = {"ipv4": "IPv4 site", "ipv6": "IPv6 site", "instance": "instance 7", "absent": "not registered",
            "hole-root": "hole of root", "hole-node": "hole of node", "hole-ms": "hole of MS", "smr": "SMR-invoked",
            "register": "xTR registers", "ping": "xTRs ping", "smr-xtr": "xTR after SMR", "asked": "ddtplan ask"}
+# Where ddtplan asks: 10 seconds, so only in a tree of each implementation.
+WITH_DDTPLAN = ("KKKK", "KOOO")
 ABSENT = ("absent", "hole-root", "hole-node", "hole-ms")
 
 REGISTER = """kind,prefix,group,addresses

@@ -1,0 +1,11 @@
+pub mod Several
+pub mod Sections
+pub mod Entry
+pub mod Order
+pub mod Record
+pub mod Plain
+pub mod Ordered
+pub mod Alike
+pub mod Grammar
+pub mod Request
+pub mod RequestLaws

@@ -1,8 +1,8 @@
 -- What holds of foreign Map-Requests: beside the core's reader, with another bit D, and of what is looked up.
-use Rattle.std.proofs.Common.{◌≡◌, ℕ, zero, suc, ◌+◌, ◌/◌, ◌%◌, ◌≤◌, ◌⊎◌, Bool, true, false, ltb, eqb, List, [], ◌∷◌, ◌++◌, length, take, drop, Option, Some, None, Result, Ok, Err, refl, sym, ap, subst, ◌∙◌, arith, inl, inr, add-one}
+use Rattle.std.proofs.Common.{◌≡◌, ℕ, zero, suc, ◌+◌, ◌/◌, ◌%◌, ◌≤◌, ◌⊎◌, Bool, true, false, ltb, eqb, List, [], ◌∷◌, ◌++◌, length, take, drop, Option, Some, None, Result, Ok, Err, refl, sym, ap, subst, ◌∙◌, arith, inl, inr, add-one, length-drop}
 use Rattle.std.specs.Prelude.{not, slice_index}
 use Rattle.std.proofs.lemmas.Bool.{ltb-false, le-ltb, eqb-true, not-false}
-use Rattle.std.proofs.lemmas.List.{drop-drop, drop-append_seam}
+use Rattle.std.proofs.lemmas.List.{drop-drop, drop_at}
 use Rattle.byteorder.specs.Endian.{big_number}
 use Rattle.ddt_path.specs.declared.form.Form.{Form}
 use Rattle.ddt_path.specs.declared.form.Form.TheVariants.{Range, Block}
@@ -12,8 +12,9 @@ use Rattle.ddt_path.specs.declared.locator.Locator.TheVariants.{V4}
 use Rattle.ddt_path.specs.declared.xeid.Xeid.{Xeid}
 use Rattle.ddt_path.specs.Covers.{covers}
 use Rattle.ddt_path.specs.FormOf.{form_of}
-use Rattle.ddt_path.specs.Path.{digits, family, address_width, address_digits, xeid_path, path, are_zero, is_prefix_path, prefix_of, IsForm}
+use Rattle.ddt_path.specs.Path.{digits, address_width, address_digits, address_path, xeid_path, path, are_zero, is_prefix_path, prefix_of, IsForm}
 use Rattle.ddt_path.specs.Steps.{◌>>=◌, in_words}
+use Rattle.ddt_path.specs.DigitLemmas.{length-digits}
 use Rattle.ddt_path.specs.laws.Cover.{front_covered}
 use Rattle.ddt_path.specs.laws.PathTest.{is_path-xeid_path, form_of_prefix, prefix_that_covers}
 use Rattle.ddt_path.specs.laws.Prefix.{length-block, inner_range, host_path}
@@ -39,6 +40,7 @@ use Rattle.ddt_foreign.specs.Several.{several_at}
 use Rattle.ddt_foreign.specs.Request.{content_at, after_source, rloc_at, rlocs_at, known, Asked, from_eid, first_of, prefix_at, count_at, asked_of, if_known, asked_in, request_in}
 use Rattle.ddt_foreign.specs.RequestLaws.{IsSame, RequestsStay, with_ddt, OnlyDdtChanges, IsFirst, FirstIsLookedUp, RlocsAreFew}
 use Rattle.ddt_foreign.proofs.AlikeLemmas.{IsPlainFamily, address_family}
+use Rattle.ddt_foreign.proofs.KnownLemmas.{several_length, known_few}
 
 -- ---- the source EID
 
@@ -137,19 +139,6 @@ some_read k bytes x v e =
 
 -- ---- how many are known
 
-several_length : (n : ℕ) (bytes : List ℕ) (x : List (Option Locator) × List ℕ) → several_at rloc_at n bytes ≡ Ok x → length x.0 ≡ n
-unfolding several_at
-several_length zero bytes x e = subst (λ (y : List (Option Locator) × List ℕ). length y.0 ≡ 0) (ok_is {E = ForeignRequestFault} ([], bytes) x e) refl
-several_length (suc n) bytes x e =
-    bind_parts (rloc_at bytes) _ x e λ first read₁ e₁.
-    bind_parts (several_at rloc_at n first.1) _ x e₁ λ others read₂ e₂.
-    subst (λ (y : List (Option Locator) × List ℕ). length y.0 ≡ suc n) (ok_is {E = ForeignRequestFault} (first.0 ∷ others.0, others.1) x e₂) (ap suc (several_length n first.1 others read₂))
-
-known_few : (os : List (Option Locator)) → length (known os) ≤ length os
-known_few [] = omega arith
-known_few (Some a ∷ others) = omega (arith, known_few others)
-known_few (None ∷ others) = omega (arith, known_few others)
-
 pub rlocs_few : (n : ℕ) (bytes : List ℕ) (x : List Locator × List ℕ) → rlocs_at n bytes ≡ Ok x → length x.0 ≤ n
 unfolding rlocs_at
 rlocs_few n bytes x e =
@@ -222,7 +211,7 @@ eid_is_prefix mask bytes x e =
 prefix_is_prefix : (bytes p : List ℕ) → prefix_at bytes ≡ Ok p → is_prefix_path p ≡ true
 unfolding prefix_at
 prefix_is_prefix bytes p e =
-    guard_parts (ltb (length bytes) 2) _ _ p e λ short e₁.
+    guard_parts (ltb (length bytes) 4) _ _ p e λ short e₁.
     let afi = big_number 2 (drop 2 bytes) in
     bind_parts (in_words (from_eid afi) (eid_at (slice_index bytes 1) (drop 2 bytes))) _ p e₁ λ x read e₂.
     let r = words_ok (from_eid afi) (eid_at (slice_index bytes 1) (drop 2 bytes)) x read in
@@ -235,7 +224,10 @@ block_first i a len p le tail e =
     let x : Xeid = record { iid = i; address = a } in
     let front : take (33 + len) (xeid_path x) ≡ p = take_block i a len ∙ e in
     let long : length p ≡ 33 + len = sym (ap length e) ∙ length-block i a len le in
-    let after : drop (33 + len) (xeid_path x) ≡ drop len (address_digits a) = refl in
+    let seam : drop 32 (xeid_path x) ≡ address_path a = drop_at (digits 32 i) (address_path a) 32 (length-digits 32 i) in
+    let sum : 33 + len ≡ 32 + suc len = omega arith in
+    let after : drop (33 + len) (xeid_path x) ≡ drop len (address_digits a) =
+    ap (λ (n : ℕ). drop n (xeid_path x)) sum ∙ sym (drop-drop (suc len) 32 (xeid_path x)) ∙ ap (drop (suc len)) seam in
     record {
       is_covered = subst (λ (t : List ℕ). covers t (xeid_path x) ≡ true) front (front_covered (33 + len) (xeid_path x));
       zero = ap (λ (n : ℕ). are_zero (drop n (xeid_path x))) long ∙ ap are_zero after ∙ tail;
@@ -274,7 +266,14 @@ host_first (Block i a len) x e =
       | inr p ↦ absurd cc
     ]
 
-prefix_read : (bytes : List ℕ) (p : List ℕ × ℕ) → ltb (length bytes) 2 ≡ false → eid_at (slice_index bytes 1) (drop 2 bytes) ≡ Ok p → prefix_at bytes ≡ Ok p.0
+-- an EID that is read has an AFI
+long_enough : (mask : ℕ) (bytes : List ℕ) (p : List ℕ × ℕ) → eid_at mask (drop 2 bytes) ≡ Ok p → ltb (length bytes) 4 ≡ false
+unfolding eid_at
+long_enough mask bytes p e =
+    guard_parts (ltb (length (drop 2 bytes)) 2) _ _ p e λ short e₁.
+    le-ltb _ _ (omega (arith, ltb-false _ _ short, length-drop 2 bytes))
+
+prefix_read : (bytes : List ℕ) (p : List ℕ × ℕ) → ltb (length bytes) 4 ≡ false → eid_at (slice_index bytes 1) (drop 2 bytes) ≡ Ok p → prefix_at bytes ≡ Ok p.0
 unfolding prefix_at
 prefix_read bytes p short e = rw (short, e) refl
 
@@ -294,7 +293,7 @@ xeid_alike bytes x e =
     let r = words_ok core.from_eid eid p read₁ in
     let made : IsHost bytes y = record {
       p = p.0;
-      read = prefix_read bytes p short r;
+      read = prefix_read bytes p (long_enough (slice_index bytes 1) bytes p r) r;
       first = host_first (form_of p.0) y read₂;
       same = prefix_host p.0 y (eid_is_prefix (slice_index bytes 1) (drop 2 bytes) p r) read₂;
     } in
@@ -303,7 +302,7 @@ xeid_alike bytes x e =
 -- ---- what the core reads
 
 count_read : (message : List ℕ) (n : ℕ) → head_at message ≡ Ok n → (count_at message ≡ Ok n) × (slice_index message 2 % 32 + 1 ≡ n)
-unfolding head_at, count_at
+unfolding head_at count_at
 count_read message n e =
     guard_parts (ltb (length message) 12) _ _ n e λ a e₁.
     guard_parts (not (eqb (slice_index message 0 / 16) 1)) _ _ n e₁ λ b e₂.

@@ -3,7 +3,7 @@
 //! Each is an AFI and what it says: an address; nothing, with AFI 0; or an LCAF, in which an address is known with type 2,
 //! after an Instance ID, and with type 11, after keys.
 
-ghost use Rattle.std.specs.Prelude.{◌≡◌, ◌≤◌, true, is_ok, [], ◌∷◌, Err, None, length, IfOk, IfErr, IfSome};
+ghost use Rattle.std.specs.Prelude.{◌≡◌, ◌≤◌, true, is_ok, [], ◌∷◌, Err, None, length, OnOk, IfOk, IfErr, IfSome};
 ghost use Rattle.std.specs.Iterator.{YieldsFirst, item_count};
 ghost use Rattle.ddt_path.specs.Steps.{IsReadAs};
 ghost use Rattle.ddt_foreign.specs.Several.{several_at, ComesAfter};
@@ -47,7 +47,8 @@ impl<'a> Model for ItrRlocs<'a> {
 /// What is in an LCAF, and the bytes after it.
 #[tactic(auto, unfolding(crate::specs::Request::content_at))]
 pub(crate) fn read_content(bytes: &[u8]) -> Result<(&[u8], &[u8]), ForeignRequestFault>
-    ensures { IsReadAs (λ x. (x.0.now, x.1.now)) result (content_at bytes.now) }
+    ensures exact { IsReadAs (λ x. (x.0.now, x.1.now)) result (content_at bytes.now) }
+    ensures len { OnOk result (8 ≤ length bytes.now) }
 {
     if bytes.len() < BEFORE_INNER {
         return Err(ForeignRequestFault::Short);
@@ -131,10 +132,12 @@ fn next_known(count: u8, bytes: &[u8]) -> Option<(Locator, u8, &[u8])>
     let mut rest = bytes;
     while left > 0 {
         match read_rloc(rest) {
-            Ok((Some(address), after)) => return Some((address, left - 1, after)),
-            Ok((None, after)) => {
+            Ok((rloc, after)) => {
                 left -= 1;
                 rest = after;
+                if let Some(address) = rloc {
+                    return Some((address, left, rest));
+                }
             }
             Err(_fault) => unreachable!(),
         }

@@ -56,7 +56,7 @@ pub struct ForeignRequest<'a> {
 }
 
 impl<'a> Model for ForeignRequest<'a> {
-    ghost use Rattle.std.specs.Prelude.{◌≤◌, ◌×◌, length};
+    ghost use Rattle.std.specs.Prelude.{◌≤◌, length};
     ghost use Rattle.ddt_foreign.specs.Request.{Asked};
 
     ghost Value = { Asked };
@@ -203,7 +203,7 @@ fn unreadable_family(from_eid: &[u8]) -> ForeignRequestFault
 fn read_prefix(bytes: &[u8]) -> Result<Prefix, ForeignRequestFault>
     ensures { result ≡ prefix_at bytes.now }
 {
-    if bytes.len() < 2 {
+    if bytes.len() < 4 {
         return Err(ForeignRequestFault::Short);
     }
     let (_mask, from_eid) = bytes.split_at(2);
@@ -299,5 +299,11 @@ pub fn plain_request(
         ≡ Ok (message_of request.now.nonce request.now.xeid request.now.rlocs ddt)) }
 {
     let rlocs = rlocs_of(alloc, request.itr_rlocs())?;
-    write_request(alloc, request.nonce, request.xeid, rlocs.as_slice(), ddt)
+    write_request(
+        alloc,
+        request.nonce(),
+        request.xeid(),
+        rlocs.as_slice(),
+        ddt,
+    )
 }

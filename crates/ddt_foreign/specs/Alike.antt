@@ -47,7 +47,8 @@ ReadsTheSame =
 abbrev pub RecordsStay : Type 0
 RecordsStay =
     (x : Xeid) (bytes : List ℕ) (v : Message) → message_in bytes ≡ Ok v → (s : SaysSame x bytes v)
-    → HaveOne s.taken.locators → v.incomplete ≡ false → capped v.action v.ttl ≡ v.ttl → plain_in x bytes ≡ Ok (message_record v)
+    → HaveOne s.taken.locators → v.incomplete ≡ false → capped v.action v.ttl ≡ v.ttl
+    → plain_in x bytes ≡ Ok (message_record v)
 
 -- a record says what a message says, but for the order of its locators and how long it is kept
 pub record IsSameBut (v : Message) (r : ReferralRecord) : Type 0 where

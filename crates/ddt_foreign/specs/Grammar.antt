@@ -154,8 +154,8 @@ OwnersAreRead =
     (count reserved algorithm r : ℕ) (keys : List ℕ) (a : Locator) → SpellsRun SpellsKey count keys → IsAddress a
     → inner_address security_key (keyed count reserved algorithm r keys a) ≡ Some a
 
--- what is given is the record that is taken: the action that its ACT names, its prefix, which covers the identifier, and
--- its bit I
+-- what is given is the record that is taken: the action that its ACT names, its prefix, which covers the identifier,
+-- and its bit I
 pub record IsOfTaken (x : Xeid) (bytes : List ℕ) (p : ReferralRecord) : Type 0 where
   pub taken : Foreign
   pub spelled : Takes (xeid_path x) bytes taken

@@ -116,7 +116,8 @@ from_eid afi = eid_words Short (family_fault afi) Lcaf MaskLength ManyInstances
 unfoldable pub prefix_at : List ℕ → Result (List ℕ) ForeignRequestFault
 prefix_at bytes =
     if nat_lt (length bytes) 4 then Err Short
-    else (in_words (from_eid (big_number 2 (drop 2 bytes))) (eid_at (slice_index bytes 1) (drop 2 bytes)) >>= λ p. Ok p.0)
+    else (in_words (from_eid (big_number 2 (drop 2 bytes))) (eid_at (slice_index bytes 1) (drop 2 bytes)) >>= λ p.
+    Ok p.0)
 
 -- the first address of a block; a range of instances is refused
 abbrev pub first_of : Form → Result Xeid ForeignRequestFault

@@ -1,7 +1,7 @@
 //! The ITR-RLOCs of a foreign Map-Request (RFC 9301, section 5.2), one after the other.
 //!
-//! Each is an AFI and what it says: an address; nothing, with AFI 0; or an LCAF, in which an address is known with type 2,
-//! after an Instance ID, and with type 11, after keys.
+//! Each is an AFI and what it says: an address; nothing, with AFI 0; or an LCAF, in which an address is known with type
+//! 2, after an Instance ID, and with type 11, after keys.
 
 ghost use Rattle.std.specs.Prelude.{◌≡◌, ◌≤◌, true, is_ok, [], ◌∷◌, Err, None, length, OnOk, IfOk, IfErr, IfSome};
 ghost use Rattle.std.specs.Iterator.{YieldsFirst, item_count};

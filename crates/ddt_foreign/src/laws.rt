@@ -23,10 +23,10 @@ pub fn locators_are_ordered()
     ensures { AreOrdered }
 {}
 
-/// Of records that are spelled the first that covers the identifier is taken, whatever follows it: with signature sections,
-/// and with locators in LCAFs. What is taken is spelled so, and nothing is taken exactly where nothing is
-/// spelled; what is given has its action, its prefix, its bit I and its locators. Of an LCAF of type 11 the address that
-/// owns the keys is read.
+/// Of records that are spelled the first that covers the identifier is taken, whatever follows it: with signature
+/// sections, and with locators in LCAFs. What is taken is spelled so, and nothing is taken exactly where nothing is
+/// spelled. What is given has its action, its prefix, its bit I and its locators. Of an LCAF of type 11 the address
+/// that owns the keys is read.
 pub fn what_is_spelled_is_taken()
     ensures taken { SpelledIsTaken }
     ensures spelled { TakenIsSpelled }
@@ -35,9 +35,10 @@ pub fn what_is_spelled_is_taken()
     ensures owners { OwnersAreRead }
 {}
 
-/// Of Map-Requests: what the core reads is read here too, with the same nonce, bit D, port, identifier and ITR-RLOCs, and
-/// with the prefix that is this identifier. Another bit D in the first byte changes nothing but the bit D of what is
-/// read. What is looked up is the first address of the EID-prefix. There are 1 to 32 ITR-RLOCs whose address is known.
+/// Of Map-Requests: what the core reads is read here too, with the same nonce, bit D, port, identifier and ITR-RLOCs,
+/// and with the prefix that is this identifier. Another bit D in the first byte changes nothing but the bit D of what
+/// is read. What is looked up is the first address of the EID-prefix. There are 1 to 32 ITR-RLOCs whose address is
+/// known.
 pub fn foreign_request_laws()
     ensures stay { RequestsStay }
     ensures ddt { OnlyDdtChanges }

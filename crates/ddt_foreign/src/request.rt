@@ -299,5 +299,11 @@ pub fn plain_request(
         ≡ Ok (message_of request.now.nonce request.now.xeid request.now.rlocs ddt)) }
 {
     let rlocs = rlocs_of(alloc, request.itr_rlocs())?;
-    write_request(alloc, request.nonce(), request.xeid(), rlocs.as_slice(), ddt)
+    write_request(
+        alloc,
+        request.nonce(),
+        request.xeid(),
+        rlocs.as_slice(),
+        ddt,
+    )
 }

@@ -1,44 +1,55 @@
-//! The blocks of OOR's configuration, and comments in place of those that it can't have. What appends fails only if out
-//! of memory.
+//! The blocks of OOR's configuration, and comments in place of those that are missing. What appends fails only if out of
+//! memory.
+
+ghost use Rattle.std.specs.Prelude.{◌≡◌, ◌++◌, OnOk, codes, decimal};
+ghost use Rattle.ddt_export.specs.Blocks.{authority_text, delegation_text, delegation_type as delegation_type_of, front_text, lisp_site_text, listed_locators, locators_text, missing_text, more_locators, referral_text, site_text, zone_text};
 
 use crate::eid_prefix::EidPrefix;
 use crate::nodes::Delegation;
 use crate::row::{Missing, Row};
 use ddt_config::{Child, SiteEntry};
-use ddt_path::{Locator, LocatorSet, Prefix, Role};
+use ddt_path::{Locator, Prefix, Role};
 use ddt_text::{write_locator, write_prefix};
 use std::alloc::AllocError;
 
-/// Appends that a prefix is left out, and why.
-fn push_missing(text: &mut Vec<u8>, prefix: Prefix, missing: Missing) -> Result<(), AllocError> {
+/// Appends a number.
+fn push_number(text: &mut Vec<u8>, number: u32) -> Result<(), AllocError>
+    ensures { OnOk result (text.new.items ≡ text.old.items ++ decimal number) }
+{
+    let digits = format!(in *text.allocator(); "{number}")?;
+    text.extend_from_slice(digits.as_bytes())
+}
+
+/// Appends that a prefix is missing, and why.
+fn push_missing(text: &mut Vec<u8>, prefix: Prefix, missing: Missing) -> Result<(), AllocError>
+    ensures { OnOk result (text.new.items ≡ text.old.items ++ missing_text prefix missing) }
+{
     text.extend_from_slice(b"\n# ")?;
     write_prefix(text, prefix)?;
-    let why = format!(in *text.allocator(); ": not written: {missing}\n")?;
-    text.extend_from_slice(why.as_bytes())
+    text.extend_from_slice(b": not written: ")?;
+    text.extend_from_slice(missing.reason().as_bytes())?;
+    text.extend_from_slice(b"\n")
 }
 
 /// Appends the front of a block: its name and its prefix.
-fn push_front(text: &mut Vec<u8>, name: &str, eid: EidPrefix) -> Result<(), AllocError> {
-    let (iid, len) = (eid.iid, eid.len);
-    let name = format!(in *text.allocator(); "\n{name} {{\n    eid-prefix = ")?;
+fn push_front(text: &mut Vec<u8>, name: &str, eid: EidPrefix) -> Result<(), AllocError>
+    ensures { OnOk result (text.new.items ≡ text.old.items ++ front_text name.now eid) }
+{
+    text.extend_from_slice(b"\n")?;
     text.extend_from_slice(name.as_bytes())?;
+    text.extend_from_slice(b" {\n    eid-prefix = ")?;
     write_locator(text, eid.address)?;
-    let rest = format!(in *text.allocator(); "/{len}\n    iid = {iid}\n")?;
-    text.extend_from_slice(rest.as_bytes())
+    text.extend_from_slice(b"/")?;
+    push_number(text, u32::from(eid.len))?;
+    text.extend_from_slice(b"\n    iid = ")?;
+    push_number(text, eid.iid)?;
+    text.extend_from_slice(b"\n")
 }
 
-/// Appends a list of locators at a key.
-fn push_locators(text: &mut Vec<u8>, key: &str, locators: &LocatorSet) -> Result<(), AllocError> {
-    let front = format!(in *text.allocator(); "    {key} = {{ ")?;
-    text.extend_from_slice(front.as_bytes())?;
-    if let [first, more @ ..] = locators.as_slice() {
-        write_locator(text, *first)?;
-        push_more(text, more)?;
-    }
-    text.extend_from_slice(b" }\n")
-}
-
-fn push_more(text: &mut Vec<u8>, locators: &[Locator]) -> Result<(), AllocError> {
+/// Appends further locators, each after a comma.
+fn push_more(text: &mut Vec<u8>, locators: &[Locator]) -> Result<(), AllocError>
+    ensures { OnOk result (text.new.items ≡ text.old.items ++ more_locators locators.now) }
+{
     for locator in locators {
         text.extend_from_slice(b", ")?;
         write_locator(text, *locator)?;
@@ -46,89 +57,127 @@ fn push_more(text: &mut Vec<u8>, locators: &[Locator]) -> Result<(), AllocError>
     Ok(())
 }
 
-/// Appends an authoritative prefix.
-pub(crate) fn push_authority(text: &mut Vec<u8>, eid: EidPrefix) -> Result<(), AllocError> {
+/// Appends locators with commas between them.
+fn push_listed(text: &mut Vec<u8>, locators: &[Locator]) -> Result<(), AllocError>
+    ensures { OnOk result (text.new.items ≡ text.old.items ++ listed_locators locators.now) }
+{
+    match locators {
+        [] => Ok(()),
+        [first, more @ ..] => {
+            write_locator(text, *first)?;
+            push_more(text, more)
+        }
+    }
+}
+
+/// Appends a list of locators at a key.
+fn push_locators(text: &mut Vec<u8>, key: &str, locators: &[Locator]) -> Result<(), AllocError>
+    ensures { OnOk result (text.new.items ≡ text.old.items ++ locators_text key.now locators.now) }
+{
+    text.extend_from_slice(b"    ")?;
+    text.extend_from_slice(key.as_bytes())?;
+    text.extend_from_slice(b" = { ")?;
+    push_listed(text, locators)?;
+    text.extend_from_slice(b" }\n")
+}
+
+/// Appends a prefix that a DDT node is in charge of.
+pub(crate) fn push_authority(text: &mut Vec<u8>, eid: EidPrefix) -> Result<(), AllocError>
+    ensures { OnOk result (text.new.items ≡ text.old.items ++ authority_text eid) }
+{
     push_front(text, "ddt-auth-site", eid)?;
     text.extend_from_slice(b"}\n")
 }
 
 /// Appends a zone.
-pub(crate) fn push_zone(text: &mut Vec<u8>, row: &Row<()>) -> Result<(), AllocError> {
+pub(crate) fn push_zone(text: &mut Vec<u8>, row: &Row<Prefix>) -> Result<(), AllocError>
+    ensures { OnOk result (text.new.items ≡ text.old.items ++ zone_text row.now) }
+{
     match row.written {
         Ok(eid) => push_authority(text, eid),
-        Err(missing) => push_missing(text, row.prefix, missing),
+        Err(missing) => push_missing(text, row.entry, missing),
     }
 }
 
-fn delegation_type(role: Role) -> &'static str {
+fn delegation_type(role: Role) -> &'static str
+    ensures { result.now ≡ delegation_type_of role }
+{
     match role {
         Role::Node => "CHILD_DDT_NODE",
         Role::Ms => "MAP_SERVER_DDT_NODE",
     }
 }
 
-/// Appends a delegation.
-pub(crate) fn push_delegation(text: &mut Vec<u8>, row: &Row<Delegation>) -> Result<(), AllocError> {
-    match row.written {
-        Ok(eid) => push_referral(text, eid, &row.entry.child),
-        Err(missing) => push_missing(text, row.prefix, missing),
-    }
-}
-
-fn push_referral(text: &mut Vec<u8>, eid: EidPrefix, child: &Child) -> Result<(), AllocError> {
-    let role = delegation_type(child.role);
+fn push_referral(text: &mut Vec<u8>, eid: EidPrefix, child: &Child) -> Result<(), AllocError>
+    ensures { OnOk result (text.new.items ≡ text.old.items ++ referral_text eid child.now) }
+{
     push_front(text, "ddt-deleg-site", eid)?;
-    let kind = format!(in *text.allocator(); "    delegation-type = {role}\n")?;
-    text.extend_from_slice(kind.as_bytes())?;
-    push_locators(text, "deleg-nodes", &child.locators)?;
+    text.extend_from_slice(b"    delegation-type = ")?;
+    text.extend_from_slice(delegation_type(child.role).as_bytes())?;
+    text.extend_from_slice(b"\n")?;
+    push_locators(text, "deleg-nodes", child.locators.as_slice())?;
     text.extend_from_slice(b"}\n")
 }
 
-/// Appends a site of Map-Servers that have these locators, and its static ETRs.
-pub(crate) fn push_site(
-    text: &mut Vec<u8>,
-    row: &Row<SiteEntry>,
-    peers: &LocatorSet,
-) -> Result<(), AllocError> {
+/// Appends a delegation.
+pub(crate) fn push_delegation(text: &mut Vec<u8>, row: &Row<Delegation>) -> Result<(), AllocError>
+    ensures { OnOk result (text.new.items ≡ text.old.items ++ delegation_text row.now) }
+{
     match row.written {
-        Ok(eid) => push_lisp_site(text, eid, peers)?,
-        Err(missing) => push_missing(text, row.prefix, missing)?,
-    }
-    // OOR takes the ETRs of a site inside another one, whose own block it drops.
-    match EidPrefix::of(row.prefix) {
-        Ok(eid) => push_etrs(text, eid, row.entry.etrs.as_slice()),
-        Err(_missing) => Ok(()),
+        Ok(eid) => push_referral(text, eid, &row.entry.child),
+        Err(missing) => push_missing(text, row.entry.child.prefix, missing),
     }
 }
 
-fn push_lisp_site(
-    text: &mut Vec<u8>,
-    eid: EidPrefix,
-    peers: &LocatorSet,
-) -> Result<(), AllocError> {
+fn push_lisp_site(text: &mut Vec<u8>, eid: EidPrefix, peers: &[Locator]) -> Result<(), AllocError>
+    ensures { OnOk result (text.new.items ≡ text.old.items ++ lisp_site_text peers.now eid) }
+{
     push_front(text, "lisp-site", eid)?;
-    text.extend_from_slice(b"    key-type = 1\n    key = FILL-IN\n")?;
-    text.extend_from_slice(b"    accept-more-specifics = false\n")?;
+    text.extend_from_slice(
+        b"    key-type = 1\n    key = FILL-IN\n    accept-more-specifics = false\n",
+    )?;
     push_locators(text, "ddt-ms-peers", peers)?;
     text.extend_from_slice(b"    ddt-ms-peers-complete = true\n}\n")
 }
 
-/// Appends the ETRs of a site, if it has some. OOR sends requests to the one of the lowest priority.
-fn push_etrs(text: &mut Vec<u8>, eid: EidPrefix, etrs: &[Locator]) -> Result<(), AllocError> {
-    if etrs.is_empty() {
-        return Ok(());
+/// Appends a site of Map-Servers that have these locators.
+pub(crate) fn push_site(
+    text: &mut Vec<u8>,
+    row: &Row<SiteEntry>,
+    peers: &[Locator],
+) -> Result<(), AllocError>
+    ensures { OnOk result (text.new.items ≡ text.old.items ++ site_text peers.now row.now) }
+{
+    match row.written {
+        Ok(eid) => push_lisp_site(text, eid, peers),
+        Err(missing) => push_missing(text, row.entry.prefix, missing),
     }
-    push_front(text, "ms-static-registered-site", eid)?;
-    for (place, etr) in etrs.iter().enumerate() {
-        push_etr(text, place, *etr)?;
-    }
-    text.extend_from_slice(b"}\n")
 }
 
-fn push_etr(text: &mut Vec<u8>, place: usize, etr: Locator) -> Result<(), AllocError> {
+/// Appends the ETRs of a site, if it has some. OOR sends requests to the one of the lowest priority. It takes also those of
+/// a site inside another one, whose own block it drops.
+pub(crate) fn push_etrs(text: &mut Vec<u8>, site: &SiteEntry) -> Result<(), AllocError> {
+    let etrs = site.etrs.as_slice();
+    match EidPrefix::of(site.prefix) {
+        Ok(eid) if !etrs.is_empty() => {
+            push_front(text, "ms-static-registered-site", eid)?;
+            push_each(text, etrs)?;
+            text.extend_from_slice(b"}\n")
+        }
+        _ => Ok(()),
+    }
+}
+
+fn push_each(text: &mut Vec<u8>, etrs: &[Locator]) -> Result<(), AllocError> {
+    for (place, etr) in etrs.iter().enumerate() {
+        push_etr(text, place.saturating_add(1), *etr)?;
+    }
+    Ok(())
+}
+
+fn push_etr(text: &mut Vec<u8>, priority: usize, etr: Locator) -> Result<(), AllocError> {
     text.extend_from_slice(b"    rloc-address {\n        address = ")?;
     write_locator(text, etr)?;
-    let priority = place.saturating_add(1);
     let rest = format!(in *text.allocator();
         "\n        priority = {priority}\n        weight = 100\n    }}\n"
     )?;

@@ -1,9 +1,12 @@
 //! What OOR has in place of prefixes.
 
+ghost use Rattle.std.specs.Prelude.{◌≡◌, IfOk};
+ghost use Rattle.ddt_export.specs.Rows.{IsNamedBy, block_path};
+
 use crate::row::Missing;
 use ddt_path::{Form, Locator, Prefix};
 
-/// The highest Instance ID of OOR, as of RFC 8060, section 4.1: it has 24 bits.
+/// The highest Instance ID that OOR takes: it has 24 bits (RFC 8060, section 4.1).
 const HIGHEST_IID: u32 = 0xff_ffff;
 
 /// A block of addresses in one instance.
@@ -17,12 +20,20 @@ pub(crate) struct EidPrefix {
 }
 
 impl EidPrefix {
-    /// The same block; refused where the prefix is a range of instances, or its Instance ID has more than 24 bits.
-    pub(crate) fn of(prefix: Prefix) -> Result<EidPrefix, Missing> {
+    /// The same block. Refused as Range where the prefix is a range of instances, and as InstanceId where its Instance ID
+    /// has more than 24 bits.
+    pub(crate) fn of(prefix: Prefix) -> Result<EidPrefix, Missing>
+        ensures { IsNamedBy prefix result }
+    {
         match prefix.form() {
             Form::Range { .. } => Err(Missing::Range),
-            Form::Block { iid, .. } if iid > HIGHEST_IID => Err(Missing::InstanceId),
-            Form::Block { iid, address, len } => Ok(EidPrefix { iid, address, len }),
+            Form::Block { iid, address, len } => {
+                if iid > HIGHEST_IID {
+                    Err(Missing::InstanceId)
+                } else {
+                    Ok(EidPrefix { iid, address, len })
+                }
+            }
         }
     }
 

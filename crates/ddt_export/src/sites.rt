@@ -1,65 +1,79 @@
-//! The sites of Map-Servers (RFC 8111, section 4).
+//! The zones and the sites of Map-Servers (RFC 8111, section 4).
 
-use crate::eid_prefix::EidPrefix;
-use crate::nodes::{is_covered, zones_of};
+ghost use Rattle.std.specs.Prelude.{◌≡◌, ◌++◌, IfOk, IsPermutation, OnOk, map};
+ghost use Rattle.std.specs.List.{All, flat_map};
+ghost use Rattle.ddt_export.specs.Rows.{IsNamedBy, sites_of as sites_of_authority};
+
+use crate::nodes::{apart, zones_of};
 use crate::row::{Missing, Row};
 use ddt_config::{Authority, Content, SiteEntry};
 use ddt_path::Prefix;
 use std::alloc::{AllocError, Global};
 
-/// The sites of all zones, in the order of their prefixes.
+/// The sites of all zones, in the order of their prefixes. Fails only if out of memory.
 pub(crate) fn site_rows(
     alloc: Global,
     authorities: &[Authority],
-) -> Result<Vec<Row<SiteEntry>>, AllocError> {
+) -> Result<Vec<Row<SiteEntry>>, AllocError>
+    ensures all { IfOk result (λ rows. IsPermutation (flat_map sites_of_authority authorities.now)
+        (map (λ r. r.entry) rows.items)) }
+    ensures named { IfOk result (λ rows. All (λ r. IsNamedBy r.entry.prefix r.written) rows.items) }
+{
     let mut sites = sites_of(alloc, authorities)?;
     sites.sort_unstable_by_key(|site| site.prefix);
-    let mut rows = Vec::with_capacity(alloc, sites.len())?;
+    judged_sites(alloc, &sites)
+}
+
+fn sites_of(alloc: Global, authorities: &[Authority]) -> Result<Vec<SiteEntry>, AllocError>
+    ensures { IfOk result (λ all. all.items ≡ flat_map sites_of_authority authorities.now) }
+{
+    let mut all = Vec::new(alloc);
+    for authority in authorities {
+        push_sites(&mut all, authority)?;
+    }
+    Ok(all)
+}
+
+fn push_sites(all: &mut Vec<SiteEntry>, authority: &Authority) -> Result<(), AllocError>
+    ensures { OnOk result (all.new.items ≡ all.old.items ++ sites_of_authority authority.now) }
+{
+    match &authority.content {
+        Content::Children(_children) => Ok(()),
+        Content::Sites(sites) => all.extend_from_slice(sites.as_slice()),
+    }
+}
+
+fn judged_sites(alloc: Global, sites: &[SiteEntry]) -> Result<Vec<Row<SiteEntry>>, AllocError>
+    ensures all { IfOk result (λ rows. map (λ r. r.entry) rows.items ≡ sites.now) }
+    ensures named { IfOk result (λ rows. All (λ r. IsNamedBy r.entry.prefix r.written) rows.items) }
+{
+    let mut rows = Vec::new(alloc);
     let mut outer = None;
     for site in sites {
-        let written = written_site(site.prefix, outer);
+        let written = apart(site.prefix, outer);
         if written.is_ok() {
             outer = Some(site.prefix);
         }
         rows.push(Row {
-            entry: site,
-            prefix: site.prefix,
+            entry: *site,
             written,
         })?;
     }
     Ok(rows)
 }
 
-fn sites_of(alloc: Global, authorities: &[Authority]) -> Result<Vec<SiteEntry>, AllocError> {
-    let mut all = Vec::new(alloc);
-    for authority in authorities {
-        if let Content::Sites(sites) = &authority.content {
-            all.extend_from_slice(sites.as_slice())?;
-        }
-    }
-    Ok(all)
-}
-
-/// How OOR has a site. `outer` is the last one in front of it that OOR has.
-fn written_site(prefix: Prefix, outer: Option<Prefix>) -> Result<EidPrefix, Missing> {
-    let written = EidPrefix::of(prefix)?;
-    if is_covered(outer, prefix) {
-        return Err(Missing::SiteInside);
-    }
-    Ok(written)
-}
-
-/// The zones of Map-Servers, none of which OOR has, in the order of the configuration.
-pub(crate) fn ms_zone_rows(
+/// The zones of Map-Servers, none of which OOR has, in the order of the configuration. Fails only if out of memory.
+pub(crate) fn missing_zone_rows(
     alloc: Global,
     authorities: &[Authority],
-) -> Result<Vec<Row<()>>, AllocError> {
-    let zones = zones_of(alloc, authorities)?;
-    let mut rows = Vec::with_capacity(alloc, zones.len())?;
-    for prefix in zones {
+) -> Result<Vec<Row<Prefix>>, AllocError>
+    ensures all { IfOk result (λ rows. map (λ r. r.entry) rows.items ≡ map (λ a. a.prefix) authorities.now) }
+    ensures named { IfOk result (λ rows. All (λ r. IsNamedBy r.entry r.written) rows.items) }
+{
+    let mut rows = Vec::new(alloc);
+    for authority in authorities {
         rows.push(Row {
-            entry: (),
-            prefix,
+            entry: authority.prefix,
             written: Err(Missing::MapServerZone),
         })?;
     }

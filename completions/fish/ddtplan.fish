@@ -76,7 +76,7 @@ complete -c ddtplan -n '__ddtplan_at loopback 1' -k -a '(__fish_complete_suffix 
 complete -c ddtplan -n '__ddtplan_at loopback' -l table -d 'Print only which address became which'
 complete -c ddtplan -n '__ddtplan_at loopback' -s h -l help -d 'Print help'
 
-complete -c ddtplan -n '__ddtplan_at export 1' -a oor -d openoverlayrouter
+complete -c ddtplan -n '__ddtplan_at export 1' -a oor -d 'openoverlayrouter 1.3.0'
 complete -c ddtplan -n '__ddtplan_at export 2' -k -a '(__fish_complete_suffix .csv)'
 complete -c ddtplan -n '__ddtplan_at export' -s h -l help -d 'Print help'
 

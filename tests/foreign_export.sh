@@ -92,7 +92,7 @@ sleep 3
 tail -n 1 asked.txt
 hole='it says (DELEGATION-HOLE|NOT-AUTHORITATIVE) .*, the register says DELEGATION-HOLE'
 absent='it says (MS-NOT-REGISTERED .*) ttl 15 (.*), the register says \1 ttl 1 \2$'
-if grep ' silent$' asked.txt || grep ' differs: ' asked.txt | grep -Ev "$hole" | grep -Ev "$absent"; then
+if grep '^\[.* silent$' asked.txt || grep ' differs: ' asked.txt | grep -Ev "$hole" | grep -Ev "$absent"; then
     echo 'openoverlayrouter answers otherwise than its export lets expect' >&2
     exit 1
 fi

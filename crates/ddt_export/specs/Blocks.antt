@@ -14,10 +14,21 @@ use Rattle.ddt_export.specs.declared.row.Missing.{Missing}
 use Rattle.ddt_export.specs.declared.row.Row.{Row}
 use Rattle.ddt_export.specs.Rows.{reason}
 
+-- the line in which a block begins
+unfoldable pub opening : List ℕ → List ℕ
+opening name = codes "\n" ++ name ++ codes " {\n"
+
+-- the line of its prefix
+unfoldable pub eid_line : EidPrefix → List ℕ
+eid_line e = codes "    eid-prefix = " ++ written_locator e.address ++ codes "/" ++ decimal e.len ++ codes "\n"
+
+-- the line of its Instance ID
+unfoldable pub iid_line : EidPrefix → List ℕ
+iid_line e = codes "    iid = " ++ decimal e.iid ++ codes "\n"
+
 -- the front of a block: its name, and the prefix that it is of
-abbrev pub front_text : List ℕ → EidPrefix → List ℕ
-front_text name e = codes "\n" ++ name ++ codes " {\n    eid-prefix = " ++ written_locator e.address ++ codes "/"
-    ++ decimal e.len ++ codes "\n    iid = " ++ decimal e.iid ++ codes "\n"
+unfoldable pub front_text : List ℕ → EidPrefix → List ℕ
+front_text name e = opening name ++ eid_line e ++ iid_line e
 
 -- further locators, each after a comma
 abbrev pub more_locators : List Locator → List ℕ
@@ -29,15 +40,15 @@ listed_locators [] = []
 listed_locators (l ∷ ls) = written_locator l ++ more_locators ls
 
 -- a list of locators at a key
-abbrev pub locators_text : List ℕ → List Locator → List ℕ
+unfoldable pub locators_text : List ℕ → List Locator → List ℕ
 locators_text key ls = codes "    " ++ key ++ codes " = { " ++ listed_locators ls ++ codes " }\n"
 
 -- the comment in place of what is missing
-abbrev pub missing_text : List ℕ → Missing → List ℕ
+unfoldable pub missing_text : List ℕ → Missing → List ℕ
 missing_text p why = codes "\n# " ++ written_prefix p ++ codes ": not written: " ++ reason why ++ codes "\n"
 
 -- a prefix that a DDT node is in charge of
-abbrev pub authority_text : EidPrefix → List ℕ
+unfoldable pub authority_text : EidPrefix → List ℕ
 authority_text e = front_text (codes "ddt-auth-site") e ++ codes "}\n"
 
 -- what the servers of a delegation are: DDT nodes or Map-Servers
@@ -45,13 +56,17 @@ abbrev pub delegation_type : Role → List ℕ
 delegation_type Node = codes "CHILD_DDT_NODE"
 delegation_type Ms = codes "MAP_SERVER_DDT_NODE"
 
+-- the line of what they are
+unfoldable pub type_line : Role → List ℕ
+type_line role = codes "    delegation-type = " ++ delegation_type role ++ codes "\n"
+
 -- a delegation, by NODE-REFERRAL or MS-REFERRAL
-abbrev pub referral_text : EidPrefix → Child → List ℕ
-referral_text e c = front_text (codes "ddt-deleg-site") e ++ codes "    delegation-type = " ++ delegation_type c.role
-    ++ codes "\n" ++ locators_text (codes "deleg-nodes") c.locators ++ codes "}\n"
+unfoldable pub referral_text : EidPrefix → Child → List ℕ
+referral_text e c = front_text (codes "ddt-deleg-site") e ++ type_line c.role
+    ++ locators_text (codes "deleg-nodes") c.locators ++ codes "}\n"
 
 -- A site of Map-Servers that have these locators. The register has no keys, so somebody has to fill them in.
-abbrev pub lisp_site_text : List Locator → EidPrefix → List ℕ
+unfoldable pub lisp_site_text : List Locator → EidPrefix → List ℕ
 lisp_site_text peers e = front_text (codes "lisp-site") e
     ++ codes "    key-type = 1\n    key = FILL-IN\n    accept-more-specifics = false\n"
     ++ locators_text (codes "ddt-ms-peers") peers ++ codes "    ddt-ms-peers-complete = true\n}\n"

@@ -1,8 +1,8 @@
 //! The blocks of OOR's configuration, and comments in place of those that are missing. What appends fails only if out of
 //! memory.
 
-ghost use Rattle.std.specs.Prelude.{◌≡◌, ◌++◌, OnOk, codes, decimal};
-ghost use Rattle.ddt_export.specs.Blocks.{authority_text, delegation_text, delegation_type as delegation_type_of, front_text, lisp_site_text, listed_locators, locators_text, missing_text, more_locators, referral_text, site_text, zone_text};
+ghost use Rattle.std.specs.Prelude.{◌≡◌, ◌++◌, OnOk, decimal};
+ghost use Rattle.ddt_export.specs.Blocks.{authority_text, delegation_text, delegation_type as delegation_type_of, eid_line, front_text, iid_line, lisp_site_text, listed_locators, locators_text, missing_text, more_locators, opening, referral_text, site_text, type_line, zone_text};
 
 use crate::eid_prefix::EidPrefix;
 use crate::nodes::Delegation;
@@ -21,6 +21,7 @@ fn push_number(text: &mut Vec<u8>, number: u32) -> Result<(), AllocError>
 }
 
 /// Appends that a prefix is missing, and why.
+#[tactic(auto, unfolding(crate::specs::Blocks::missing_text))]
 fn push_missing(text: &mut Vec<u8>, prefix: Prefix, missing: Missing) -> Result<(), AllocError>
     ensures { OnOk result (text.new.items ≡ text.old.items ++ missing_text prefix missing) }
 {
@@ -31,19 +32,46 @@ fn push_missing(text: &mut Vec<u8>, prefix: Prefix, missing: Missing) -> Result<
     text.extend_from_slice(b"\n")
 }
 
-/// Appends the front of a block: its name and its prefix.
-fn push_front(text: &mut Vec<u8>, name: &str, eid: EidPrefix) -> Result<(), AllocError>
-    ensures { OnOk result (text.new.items ≡ text.old.items ++ front_text name.now eid) }
+/// Appends the line in which a block begins.
+#[tactic(auto, unfolding(crate::specs::Blocks::opening))]
+fn push_opening(text: &mut Vec<u8>, name: &str) -> Result<(), AllocError>
+    ensures { OnOk result (text.new.items ≡ text.old.items ++ opening name.now) }
 {
     text.extend_from_slice(b"\n")?;
     text.extend_from_slice(name.as_bytes())?;
-    text.extend_from_slice(b" {\n    eid-prefix = ")?;
+    text.extend_from_slice(b" {\n")
+}
+
+/// Appends the line of a block's prefix.
+#[tactic(auto, unfolding(crate::specs::Blocks::eid_line))]
+fn push_eid_line(text: &mut Vec<u8>, eid: EidPrefix) -> Result<(), AllocError>
+    ensures { OnOk result (text.new.items ≡ text.old.items ++ eid_line eid) }
+{
+    text.extend_from_slice(b"    eid-prefix = ")?;
     write_locator(text, eid.address)?;
     text.extend_from_slice(b"/")?;
     push_number(text, u32::from(eid.len))?;
-    text.extend_from_slice(b"\n    iid = ")?;
+    text.extend_from_slice(b"\n")
+}
+
+/// Appends the line of a block's Instance ID.
+#[tactic(auto, unfolding(crate::specs::Blocks::iid_line))]
+fn push_iid_line(text: &mut Vec<u8>, eid: EidPrefix) -> Result<(), AllocError>
+    ensures { OnOk result (text.new.items ≡ text.old.items ++ iid_line eid) }
+{
+    text.extend_from_slice(b"    iid = ")?;
     push_number(text, eid.iid)?;
     text.extend_from_slice(b"\n")
+}
+
+/// Appends the front of a block: its name and its prefix.
+#[tactic(auto, unfolding(crate::specs::Blocks::front_text))]
+fn push_front(text: &mut Vec<u8>, name: &str, eid: EidPrefix) -> Result<(), AllocError>
+    ensures { OnOk result (text.new.items ≡ text.old.items ++ front_text name.now eid) }
+{
+    push_opening(text, name)?;
+    push_eid_line(text, eid)?;
+    push_iid_line(text, eid)
 }
 
 /// Appends further locators, each after a comma.
@@ -71,6 +99,7 @@ fn push_listed(text: &mut Vec<u8>, locators: &[Locator]) -> Result<(), AllocErro
 }
 
 /// Appends a list of locators at a key.
+#[tactic(auto, unfolding(crate::specs::Blocks::locators_text))]
 fn push_locators(text: &mut Vec<u8>, key: &str, locators: &[Locator]) -> Result<(), AllocError>
     ensures { OnOk result (text.new.items ≡ text.old.items ++ locators_text key.now locators.now) }
 {
@@ -82,6 +111,7 @@ fn push_locators(text: &mut Vec<u8>, key: &str, locators: &[Locator]) -> Result<
 }
 
 /// Appends a prefix that a DDT node is in charge of.
+#[tactic(auto, unfolding(crate::specs::Blocks::authority_text))]
 pub(crate) fn push_authority(text: &mut Vec<u8>, eid: EidPrefix) -> Result<(), AllocError>
     ensures { OnOk result (text.new.items ≡ text.old.items ++ authority_text eid) }
 {
@@ -108,13 +138,22 @@ fn delegation_type(role: Role) -> &'static str
     }
 }
 
+/// Appends the line of what the servers of a delegation are.
+#[tactic(auto, unfolding(crate::specs::Blocks::type_line))]
+fn push_type_line(text: &mut Vec<u8>, role: Role) -> Result<(), AllocError>
+    ensures { OnOk result (text.new.items ≡ text.old.items ++ type_line role) }
+{
+    text.extend_from_slice(b"    delegation-type = ")?;
+    text.extend_from_slice(delegation_type(role).as_bytes())?;
+    text.extend_from_slice(b"\n")
+}
+
+#[tactic(auto, unfolding(crate::specs::Blocks::referral_text))]
 fn push_referral(text: &mut Vec<u8>, eid: EidPrefix, child: &Child) -> Result<(), AllocError>
     ensures { OnOk result (text.new.items ≡ text.old.items ++ referral_text eid child.now) }
 {
     push_front(text, "ddt-deleg-site", eid)?;
-    text.extend_from_slice(b"    delegation-type = ")?;
-    text.extend_from_slice(delegation_type(child.role).as_bytes())?;
-    text.extend_from_slice(b"\n")?;
+    push_type_line(text, child.role)?;
     push_locators(text, "deleg-nodes", child.locators.as_slice())?;
     text.extend_from_slice(b"}\n")
 }
@@ -129,6 +168,7 @@ pub(crate) fn push_delegation(text: &mut Vec<u8>, row: &Row<Delegation>) -> Resu
     }
 }
 
+#[tactic(auto, unfolding(crate::specs::Blocks::lisp_site_text))]
 fn push_lisp_site(text: &mut Vec<u8>, eid: EidPrefix, peers: &[Locator]) -> Result<(), AllocError>
     ensures { OnOk result (text.new.items ≡ text.old.items ++ lisp_site_text peers.now eid) }
 {

@@ -25,6 +25,7 @@ const NODE: &[u8] =
 
 const MS: &[u8] = b"# - In a zone, outside its sites: NOT-AUTHORITATIVE for DELEGATION-HOLE.
 # - MS-NOT-REGISTERED is for 15 minutes, and not for 1.
+# - A record is for a whole site, also where another site is inside it.
 # - Once an ETR registers itself, the ETRs of the site that are written here are gone.
 ";
 

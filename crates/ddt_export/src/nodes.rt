@@ -85,9 +85,7 @@ fn judged(
     let mut outer = None;
     for delegation in delegations {
         let written = written_delegation(delegation.child, own, outer);
-        if written.is_ok() {
-            outer = Some(delegation.child.prefix);
-        }
+        outer = last_written(outer, delegation.child.prefix, written);
         rows.push(Row {
             entry: *delegation,
             written,
@@ -122,6 +120,18 @@ pub(crate) fn apart(prefix: Prefix, outer: Option<Prefix>) -> Result<EidPrefix, 
     match outer {
         Some(outer) if outer.covers(prefix) => Err(Missing::Inside),
         _ => EidPrefix::of(prefix),
+    }
+}
+
+/// The last prefix that OOR has, after one that it may have.
+pub(crate) fn last_written(
+    outer: Option<Prefix>,
+    prefix: Prefix,
+    written: Result<EidPrefix, Missing>,
+) -> Option<Prefix> {
+    match written {
+        Ok(_written) => Some(prefix),
+        Err(_missing) => outer,
     }
 }
 
@@ -181,9 +191,7 @@ fn judged_zones(
     let mut outer = None;
     for zone in zones {
         let written = written_zone(*zone, families, outer);
-        if written.is_ok() {
-            outer = Some(*zone);
-        }
+        outer = last_written(outer, *zone, written);
         rows.push(Row {
             entry: *zone,
             written,

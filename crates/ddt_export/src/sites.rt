@@ -4,7 +4,7 @@ ghost use Rattle.std.specs.Prelude.{◌≡◌, ◌++◌, IfOk, IsPermutation, On
 ghost use Rattle.std.specs.List.{All, flat_map};
 ghost use Rattle.ddt_export.specs.Rows.{IsNamedBy, sites_of as sites_of_authority};
 
-use crate::nodes::{apart, zones_of};
+use crate::nodes::{apart, last_written, zones_of};
 use crate::row::{Missing, Row};
 use ddt_config::{Authority, Content, SiteEntry};
 use ddt_path::Prefix;
@@ -51,9 +51,7 @@ fn judged_sites(alloc: Global, sites: &[SiteEntry]) -> Result<Vec<Row<SiteEntry>
     let mut outer = None;
     for site in sites {
         let written = apart(site.prefix, outer);
-        if written.is_ok() {
-            outer = Some(site.prefix);
-        }
+        outer = last_written(outer, site.prefix, written);
         rows.push(Row {
             entry: *site,
             written,

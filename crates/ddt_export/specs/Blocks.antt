@@ -30,6 +30,14 @@ iid_line e = codes "    iid = " ++ decimal e.iid ++ codes "\n"
 unfoldable pub front_text : List ℕ → EidPrefix → List ℕ
 front_text name e = opening name ++ eid_line e ++ iid_line e
 
+-- the line in which a block ends
+unfoldable pub closing : List ℕ
+closing = codes "}\n"
+
+-- the line of a key that has one word
+unfoldable pub word_line : List ℕ → List ℕ → List ℕ
+word_line key word = codes "    " ++ key ++ codes " = " ++ word ++ codes "\n"
+
 -- further locators, each after a comma
 abbrev pub more_locators : List Locator → List ℕ
 more_locators ls = flat_map (λ l. codes ", " ++ written_locator l) ls
@@ -49,21 +57,24 @@ missing_text p why = codes "\n# " ++ written_prefix p ++ codes ": not written: "
 
 -- a prefix that a DDT node is in charge of
 unfoldable pub authority_text : EidPrefix → List ℕ
-authority_text e = front_text (codes "ddt-auth-site") e ++ codes "}\n"
+authority_text e = front_text (codes "ddt-auth-site") e ++ closing
 
 -- what the servers of a delegation are: DDT nodes or Map-Servers
-abbrev pub delegation_type : Role → List ℕ
+unfoldable pub delegation_type : Role → List ℕ
 delegation_type Node = codes "CHILD_DDT_NODE"
 delegation_type Ms = codes "MAP_SERVER_DDT_NODE"
 
 -- the line of what they are
 unfoldable pub type_line : Role → List ℕ
-type_line role = codes "    delegation-type = " ++ delegation_type role ++ codes "\n"
+type_line role = word_line (codes "delegation-type") (delegation_type role)
+
+-- the line of their locators
+unfoldable pub nodes_line : List Locator → List ℕ
+nodes_line locators = locators_text (codes "deleg-nodes") locators
 
 -- a delegation, by NODE-REFERRAL or MS-REFERRAL
 unfoldable pub referral_text : EidPrefix → Child → List ℕ
-referral_text e c = front_text (codes "ddt-deleg-site") e ++ type_line c.role
-    ++ locators_text (codes "deleg-nodes") c.locators ++ codes "}\n"
+referral_text e c = front_text (codes "ddt-deleg-site") e ++ type_line c.role ++ nodes_line c.locators ++ closing
 
 -- A site of Map-Servers that have these locators. The register has no keys, so somebody has to fill them in.
 unfoldable pub lisp_site_text : List Locator → EidPrefix → List ℕ

@@ -2,13 +2,13 @@
 //! memory.
 
 ghost use Rattle.std.specs.Prelude.{◌≡◌, ◌++◌, OnOk, decimal};
-ghost use Rattle.ddt_export.specs.Blocks.{authority_text, delegation_text, delegation_type as delegation_type_of, eid_line, front_text, iid_line, lisp_site_text, listed_locators, locators_text, missing_text, more_locators, opening, referral_text, site_text, type_line, zone_text};
+ghost use Rattle.ddt_export.specs.Blocks.{authority_text, closing, delegation_text, delegation_type as delegation_type_of, eid_line, front_text, iid_line, lisp_site_text, listed_locators, locators_text, missing_text, more_locators, nodes_line, opening, referral_text, site_text, type_line, word_line, zone_text};
 
 use crate::eid_prefix::EidPrefix;
 use crate::nodes::Delegation;
 use crate::row::{Missing, Row};
 use ddt_config::{Child, SiteEntry};
-use ddt_path::{Locator, Prefix, Role};
+use ddt_path::{Locator, LocatorSet, Prefix, Role};
 use ddt_text::{write_locator, write_prefix};
 use std::alloc::AllocError;
 
@@ -74,6 +74,26 @@ fn push_front(text: &mut Vec<u8>, name: &str, eid: EidPrefix) -> Result<(), Allo
     push_iid_line(text, eid)
 }
 
+/// Appends the line in which a block ends.
+#[tactic(auto, unfolding(crate::specs::Blocks::closing))]
+fn push_closing(text: &mut Vec<u8>) -> Result<(), AllocError>
+    ensures { OnOk result (text.new.items ≡ text.old.items ++ closing) }
+{
+    text.extend_from_slice(b"}\n")
+}
+
+/// Appends the line of a key that has one word.
+#[tactic(auto, unfolding(crate::specs::Blocks::word_line))]
+fn push_word_line(text: &mut Vec<u8>, key: &str, word: &str) -> Result<(), AllocError>
+    ensures { OnOk result (text.new.items ≡ text.old.items ++ word_line key.now word.now) }
+{
+    text.extend_from_slice(b"    ")?;
+    text.extend_from_slice(key.as_bytes())?;
+    text.extend_from_slice(b" = ")?;
+    text.extend_from_slice(word.as_bytes())?;
+    text.extend_from_slice(b"\n")
+}
+
 /// Appends further locators, each after a comma.
 fn push_more(text: &mut Vec<u8>, locators: &[Locator]) -> Result<(), AllocError>
     ensures { OnOk result (text.new.items ≡ text.old.items ++ more_locators locators.now) }
@@ -116,7 +136,7 @@ pub(crate) fn push_authority(text: &mut Vec<u8>, eid: EidPrefix) -> Result<(), A
     ensures { OnOk result (text.new.items ≡ text.old.items ++ authority_text eid) }
 {
     push_front(text, "ddt-auth-site", eid)?;
-    text.extend_from_slice(b"}\n")
+    push_closing(text)
 }
 
 /// Appends a zone.
@@ -129,6 +149,7 @@ pub(crate) fn push_zone(text: &mut Vec<u8>, row: &Row<Prefix>) -> Result<(), All
     }
 }
 
+#[tactic(auto, unfolding(crate::specs::Blocks::delegation_type))]
 fn delegation_type(role: Role) -> &'static str
     ensures { result.now ≡ delegation_type_of role }
 {
@@ -143,9 +164,15 @@ fn delegation_type(role: Role) -> &'static str
 fn push_type_line(text: &mut Vec<u8>, role: Role) -> Result<(), AllocError>
     ensures { OnOk result (text.new.items ≡ text.old.items ++ type_line role) }
 {
-    text.extend_from_slice(b"    delegation-type = ")?;
-    text.extend_from_slice(delegation_type(role).as_bytes())?;
-    text.extend_from_slice(b"\n")
+    push_word_line(text, "delegation-type", delegation_type(role))
+}
+
+/// Appends the line of the locators of a delegation.
+#[tactic(auto, unfolding(crate::specs::Blocks::nodes_line))]
+fn push_nodes_line(text: &mut Vec<u8>, locators: &LocatorSet) -> Result<(), AllocError>
+    ensures { OnOk result (text.new.items ≡ text.old.items ++ nodes_line locators.now) }
+{
+    push_locators(text, "deleg-nodes", locators.as_slice())
 }
 
 #[tactic(auto, unfolding(crate::specs::Blocks::referral_text))]
@@ -154,8 +181,8 @@ fn push_referral(text: &mut Vec<u8>, eid: EidPrefix, child: &Child) -> Result<()
 {
     push_front(text, "ddt-deleg-site", eid)?;
     push_type_line(text, child.role)?;
-    push_locators(text, "deleg-nodes", child.locators.as_slice())?;
-    text.extend_from_slice(b"}\n")
+    push_nodes_line(text, &child.locators)?;
+    push_closing(text)
 }
 
 /// Appends a delegation.

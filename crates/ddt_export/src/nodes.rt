@@ -28,7 +28,7 @@ pub(crate) fn delegation_rows(
 {
     let mut delegations = delegations_of(alloc, config.authorities.as_slice())?;
     delegations.sort_unstable_by_key(|delegation| delegation.child.prefix);
-    judged(alloc, &delegations, config.locators)
+    judged(alloc, &delegations, &config.locators)
 }
 
 fn delegations_of(alloc: Global, authorities: &[Authority]) -> Result<Vec<Delegation>, AllocError>
@@ -76,7 +76,7 @@ fn push_children(
 fn judged(
     alloc: Global,
     delegations: &[Delegation],
-    own: LocatorSet,
+    own: &LocatorSet,
 ) -> Result<Vec<Row<Delegation>>, AllocError>
     ensures all { IfOk result (λ rows. map (λ r. r.entry) rows.items ≡ delegations.now) }
     ensures named { IfOk result (λ rows. All (λ r. IsNamedBy r.entry.child.prefix r.written) rows.items) }
@@ -84,8 +84,8 @@ fn judged(
     let mut rows = Vec::new(alloc);
     let mut outer = None;
     for delegation in delegations {
-        let written = written_delegation(delegation.child, own, outer);
-        outer = last_written(outer, delegation.child.prefix, written);
+        let written = written_delegation(&delegation.child, own, &outer);
+        outer = last_written(&outer, delegation.child.prefix, &written);
         rows.push(Row {
             entry: *delegation,
             written,
@@ -97,14 +97,14 @@ fn judged(
 /// How OOR has a delegation of a group with these locators. `outer` is the last one in front of it that OOR has: a
 /// prefix stands in front of all that it covers.
 fn written_delegation(
-    child: Child,
-    own: LocatorSet,
-    outer: Option<Prefix>,
+    child: &Child,
+    own: &LocatorSet,
+    outer: &Option<Prefix>,
 ) -> Result<EidPrefix, Missing>
-    ensures { IsNamedBy child.prefix result }
+    ensures { IsNamedBy child.now.prefix result }
 {
     // No two groups share a locator.
-    if child.locators == own {
+    if child.locators == *own {
         return Err(Missing::OwnZone);
     }
     match apart(child.prefix, outer) {
@@ -114,7 +114,7 @@ fn written_delegation(
 }
 
 /// How OOR has a prefix where `outer` is the last one in front of it that OOR has.
-pub(crate) fn apart(prefix: Prefix, outer: Option<Prefix>) -> Result<EidPrefix, Missing>
+pub(crate) fn apart(prefix: Prefix, outer: &Option<Prefix>) -> Result<EidPrefix, Missing>
     ensures { IsNamedBy prefix result }
 {
     match outer {
@@ -125,13 +125,14 @@ pub(crate) fn apart(prefix: Prefix, outer: Option<Prefix>) -> Result<EidPrefix, 
 
 /// The last prefix that OOR has, after one that it may have.
 pub(crate) fn last_written(
-    outer: Option<Prefix>,
+    outer: &Option<Prefix>,
     prefix: Prefix,
-    written: Result<EidPrefix, Missing>,
+    written: &Result<EidPrefix, Missing>,
 ) -> Option<Prefix> {
-    match written {
-        Ok(_written) => Some(prefix),
-        Err(_missing) => outer,
+    match (outer, written) {
+        (_, Ok(_written)) => Some(prefix),
+        (Some(outer), Err(_missing)) => Some(*outer),
+        (None, Err(_missing)) => None,
     }
 }
 
@@ -190,8 +191,8 @@ fn judged_zones(
     let mut rows = Vec::new(alloc);
     let mut outer = None;
     for zone in zones {
-        let written = written_zone(*zone, families, outer);
-        outer = last_written(outer, *zone, written);
+        let written = written_zone(*zone, families, &outer);
+        outer = last_written(&outer, *zone, &written);
         rows.push(Row {
             entry: *zone,
             written,
@@ -203,7 +204,7 @@ fn judged_zones(
 fn written_zone(
     prefix: Prefix,
     families: &[EidPrefix],
-    outer: Option<Prefix>,
+    outer: &Option<Prefix>,
 ) -> Result<EidPrefix, Missing>
     ensures { IsNamedBy prefix result }
 {

@@ -50,8 +50,8 @@ fn judged_sites(alloc: Global, sites: &[SiteEntry]) -> Result<Vec<Row<SiteEntry>
     let mut rows = Vec::new(alloc);
     let mut outer = None;
     for site in sites {
-        let written = apart(site.prefix, outer);
-        outer = last_written(outer, site.prefix, written);
+        let written = apart(site.prefix, &outer);
+        outer = last_written(&outer, site.prefix, &written);
         rows.push(Row {
             entry: *site,
             written,

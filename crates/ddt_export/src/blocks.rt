@@ -182,7 +182,8 @@ fn push_referral(text: &mut Vec<u8>, eid: EidPrefix, child: &Child) -> Result<()
     push_front(text, "ddt-deleg-site", eid)?;
     push_type_line(text, child.role)?;
     push_nodes_line(text, &child.locators)?;
-    push_closing(text)
+    push_closing(text)?;
+    Ok(())
 }
 
 /// Appends a delegation.

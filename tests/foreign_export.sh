@@ -1,13 +1,13 @@
 #!/usr/bin/env bash
 # Runs what `ddtplan export oor` prints: a root, a node and a Map-Server of openoverlayrouter over network namespaces,
-# IPv4 and IPv6. `ddtplan ask` then compares what each says with the register. What differs has to be what ddtplan(1) and
-# the heads of the files say of that program.
+# IPv4 and IPv6. `ddtplan ask` then compares what each says with the register. What differs has to be what the heads of
+# the files say of that program.
 #
 # usage: tests/foreign_export.sh
 #
 # DDTPLAN names the program, by default that of ./ddtplan; KEEP a folder that is kept, with the files and the logs. It
-# wants Linux with network namespaces, unshare, ip of iproute2, and oor of the Debian package openoverlayrouter. Where one
-# is missing, a line says so and nothing is run. The status is 1 if something isn't as it should be.
+# wants Linux with network namespaces, unshare, ip of iproute2, and oor of the Debian package openoverlayrouter. Where
+# one is missing, a line says so and nothing is run. The status is 1 if something isn't as it should be.
 set -u -o pipefail
 cd -- "$(dirname -- "${BASH_SOURCE[0]}")/.." || exit 1
 

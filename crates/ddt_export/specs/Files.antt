@@ -20,8 +20,8 @@ pub record AreRowsOf {A : Type 0} (prefix : A → List ℕ) (entries : List A) (
 abbrev pub is_whole : {A : Type 0} → List (Row A) → Bool
 is_whole rows = list_all (λ r. not (is_lost r.written)) rows
 
--- What a node's file holds after its head: its zones, the families of addresses in place of ranges of instances, and its
--- delegations.
+-- What a node's file holds after its head: its zones, the families of addresses in place of ranges of instances, and
+-- its delegations.
 abbrev pub IsNodeText : ServerConfig → List ℕ → Bool → Type 0
 IsNodeText c text whole = (zones : List (Row (List ℕ))) × (families : List EidPrefix)
     × (delegations : List (Row Delegation)) × AreRowsOf (λ p. p) (map (λ a. a.prefix) c.authorities) zones

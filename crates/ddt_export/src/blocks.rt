@@ -1,5 +1,5 @@
-//! The blocks of OOR's configuration, and comments in place of those that are missing. What appends fails only if out of
-//! memory.
+//! The blocks of OOR's configuration, and comments in place of those that are missing. What appends fails only if out
+//! of memory.
 
 ghost use Rattle.std.specs.Prelude.{◌≡◌, ◌++◌, OnOk, decimal};
 ghost use Rattle.ddt_export.specs.Blocks.{authority_text, closing, delegation_text, delegation_type as delegation_type_of, eid_line, front_text, iid_line, lisp_site_text, listed_locators, locators_text, missing_text, more_locators, nodes_line, opening, referral_text, site_text, type_line, word_line, zone_text};
@@ -222,8 +222,8 @@ pub(crate) fn push_site(
     }
 }
 
-/// Appends the ETRs of a site, if it has some. OOR sends requests to the one of the lowest priority. It takes also those of
-/// a site inside another one, whose own block it drops.
+/// Appends the ETRs of a site, if it has some. OOR sends requests to the one of the lowest priority. It takes also
+/// those of a site inside another one, whose own block it drops.
 pub(crate) fn push_etrs(text: &mut Vec<u8>, site: &SiteEntry) -> Result<(), AllocError> {
     let etrs = site.etrs.as_slice();
     match EidPrefix::of(site.prefix) {

@@ -20,8 +20,8 @@ pub(crate) struct EidPrefix {
 }
 
 impl EidPrefix {
-    /// The same block. Refused as Range where the prefix is a range of instances, and as InstanceId where its Instance ID
-    /// has more than 24 bits.
+    /// The same block. Refused as Range where the prefix is a range of instances, and as InstanceId where its Instance
+    /// ID has more than 24 bits.
     pub(crate) fn of(prefix: Prefix) -> Result<EidPrefix, Missing>
         ensures { IsNamedBy prefix result }
     {

@@ -1,7 +1,7 @@
-//! The configuration of a server group in the form of another implementation of LISP-DDT: openoverlayrouter 1.3.0 (OOR),
-//! in C, which has a DDT node and a Map-Server.
+//! The configuration of a server group in the form of another implementation of LISP-DDT: openoverlayrouter 1.3.0
+//! (OOR), which has a DDT node and a Map-Server.
 //!
-//! In reading order: `eid_prefix`, `row`, `nodes`, `sites`, `blocks`, `head`, `oor`.
+//! In reading order: `row`, `eid_prefix`, `nodes`, `sites`, `blocks`, `head`, `oor`.
 //! Tests: ddt_rollout_tests/export.
 #![tactic(auto)]
 

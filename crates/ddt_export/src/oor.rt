@@ -23,10 +23,11 @@ pub struct OorFile {
     pub is_complete: bool,
 }
 
-/// The configuration of a group's servers as a file of openoverlayrouter 1.3.0: of a DDT node (`operating-mode = DDT`) or
-/// a Map-Server (`operating-mode = MS`), with authoritative prefixes, delegations, sites and their static ETRs (RFC 8111,
-/// section 4). What the register doesn't have, the interface and the sites' keys, is `FILL-IN`. Each zone, each delegation
-/// and each site has a block or, where OOR can't have it, a comment with its prefix and why. Fails only if out of memory.
+/// The configuration of a group's servers as a file of openoverlayrouter 1.3.0: of a DDT node (`operating-mode = DDT`)
+/// or a Map-Server (`operating-mode = MS`), with authoritative prefixes, delegations, sites and their static ETRs (RFC
+/// 8111, section 4). What the register doesn't have, the interface and the sites' keys, is `FILL-IN`. Each zone, each
+/// delegation and each site has a block or, where OOR can't have it, a comment with its prefix and why. Fails only if
+/// out of memory.
 pub fn oor_text(alloc: Global, config: &ServerConfig) -> Result<OorFile, AllocError>
     ensures { IfOk result (λ file. IsFileOf config.now file.text.items file.is_complete) }
 {

@@ -4,4 +4,5 @@ use Rattle.ddt_export.specs.Blocks.{delegation_text}
 use Rattle.ddt_export.proofs.oor.push_delegations.Given as goal
 
 abbrev pub invariant-loop-delegation : goal.invariant-loop-delegation
-invariant-loop-delegation l = l.text.items ≡ l.fn.text.items ++ flat_map delegation_text (take l.delegation-index l.delegations)
+invariant-loop-delegation l =
+    l.text.items ≡ l.fn.text.items ++ flat_map delegation_text (take l.delegation-index l.delegations)

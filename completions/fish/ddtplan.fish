@@ -34,6 +34,7 @@ complete -c ddtplan -n __fish_use_subcommand -a faults -d 'List every fault of a
 complete -c ddtplan -n __fish_use_subcommand -a warn -d 'List what a register has that is mostly a mistake'
 complete -c ddtplan -n __fish_use_subcommand -a compile -d 'Write all configurations and a manifest'
 complete -c ddtplan -n __fish_use_subcommand -a loopback -d 'Print the register with its servers on the loopback'
+complete -c ddtplan -n __fish_use_subcommand -a export -d 'Print a configuration as another implementation reads it'
 complete -c ddtplan -n __fish_use_subcommand -a ask -d 'Compare what the servers say with the register'
 complete -c ddtplan -n __fish_use_subcommand -a tree -d 'Draw the tree of a register as SVG'
 complete -c ddtplan -n __fish_use_subcommand -a ladder -d 'Draw the messages of a lookup as SVG'
@@ -75,6 +76,10 @@ complete -c ddtplan -n '__ddtplan_at loopback 1' -k -a '(__fish_complete_suffix 
 complete -c ddtplan -n '__ddtplan_at loopback' -l table -d 'Print only which address became which'
 complete -c ddtplan -n '__ddtplan_at loopback' -s h -l help -d 'Print help'
 
+complete -c ddtplan -n '__ddtplan_at export 1' -a oor -d 'openoverlayrouter 1.3.0'
+complete -c ddtplan -n '__ddtplan_at export 2' -k -a '(__fish_complete_suffix .csv)'
+complete -c ddtplan -n '__ddtplan_at export' -s h -l help -d 'Print help'
+
 complete -c ddtplan -n '__ddtplan_at ask 1' -k -a '(__fish_complete_suffix .csv)'
 complete -c ddtplan -n '__ddtplan_at ask' -l rate -x -d 'Questions a second'
 complete -c ddtplan -n '__ddtplan_at ask' -l timeout -x -d 'Milliseconds for a reply'
@@ -95,6 +100,7 @@ complete -c ddtplan -n '__ddtplan_at help' -a faults -d 'List every fault of a f
 complete -c ddtplan -n '__ddtplan_at help' -a warn -d 'List what a register has that is mostly a mistake'
 complete -c ddtplan -n '__ddtplan_at help' -a compile -d 'Write all configurations and a manifest'
 complete -c ddtplan -n '__ddtplan_at help' -a loopback -d 'Print the register with its servers on the loopback'
+complete -c ddtplan -n '__ddtplan_at help' -a export -d 'Print a configuration as another implementation reads it'
 complete -c ddtplan -n '__ddtplan_at help' -a ask -d 'Compare what the servers say with the register'
 complete -c ddtplan -n '__ddtplan_at help' -a tree -d 'Draw the tree of a register as SVG'
 complete -c ddtplan -n '__ddtplan_at help' -a ladder -d 'Draw the messages of a lookup as SVG'

@@ -39,6 +39,16 @@ const LOOPBACK_HELP: &str = "Example:
 
 Status: 0, or 2 if it refuses.";
 
+const EXPORT_HELP: &str = "Example:
+  ddtplan export oor register.csv root > oor.conf
+
+In the file, replace each FILL-IN: the interface and the sites' keys.
+
+Status: 0, 1 if a delegation or a site can't be written, 2 if it refuses.";
+
+/// The implementations whose configurations `export` prints.
+const IMPLEMENTATIONS: [&str; 1] = ["oor"];
+
 const ASK_HELP: &str =
     "Each question has a line: the identifier, the server, and `agrees`, `differs` or `silent`.
 
@@ -69,6 +79,7 @@ pub(crate) fn command_line<'a>(alloc: Global) -> Result<Command<'a>, AllocError>
         .subcommand(warn_command(alloc)?)?
         .subcommand(compile_command(alloc)?)?
         .subcommand(loopback_command(alloc)?)?
+        .subcommand(export_command(alloc)?)?
         .subcommand(ask_command(alloc)?)?
         .subcommand(tree_command(alloc)?)?
         .subcommand(ladder_command(alloc)?)
@@ -140,6 +151,21 @@ fn loopback_command<'a>(alloc: Global) -> Result<Command<'a>, AllocError> {
         .about("Print the register with its servers at addresses of 127.0.0.0/8.")
         .arg(path(alloc, "register").help("The register, a CSV file"))?
         .arg(flag(alloc, "table").help("Print only which address became which"))
+}
+
+fn export_command<'a>(alloc: Global) -> Result<Command<'a>, AllocError> {
+    Command::new(alloc, "export")
+        .after_help(EXPORT_HELP)
+        .about("Print a group's configuration as another implementation reads it.")
+        .arg(
+            Arg::new(alloc, "implementation")
+                .required(true)
+                .action(ArgAction::Set)
+                .value_parser(IMPLEMENTATIONS.as_slice())
+                .help("The implementation; oor is openoverlayrouter 1.3.0"),
+        )?
+        .arg(path(alloc, "register").help("The register, a CSV file"))?
+        .arg(path(alloc, "group").help("The name of the group"))
 }
 
 fn ask_command<'a>(alloc: Global) -> Result<Command<'a>, AllocError> {

@@ -28,6 +28,6 @@ pub use listed_blocks::run_blocks;
 pub use refusal::PlanRefusal;
 pub use told_changes::run_diff;
 pub use words::{
-    AskAsked, Asked, BlocksAsked, CompileAsked, DiffAsked, Form, LadderAsked, LoopbackAsked,
-    TreeAsked, WarnAsked, read_asked,
+    AskAsked, Asked, BlocksAsked, CompileAsked, DiffAsked, ExportAsked, Form, LadderAsked,
+    LoopbackAsked, TreeAsked, WarnAsked, read_asked,
 };

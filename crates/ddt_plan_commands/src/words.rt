@@ -70,6 +70,15 @@ pub struct LoopbackAsked<'a> {
     pub as_table: bool,
 }
 
+/// What `export` is asked. The one implementation is openoverlayrouter.
+#[derive(Clone, Copy, Debug)]
+pub struct ExportAsked<'a> {
+    /// The path of the register.
+    pub register: &'a str,
+    /// The name of the group.
+    pub group: &'a str,
+}
+
 /// What `ask` is asked. A number is None where it isn't given.
 #[derive(Debug, Drop)]
 pub struct AskAsked<'a> {
@@ -114,6 +123,7 @@ pub enum Asked<'a> {
     Warn(WarnAsked<'a>),
     Compile(CompileAsked<'a>),
     Loopback(LoopbackAsked<'a>),
+    Export(ExportAsked<'a>),
     Ask(AskAsked<'a>),
     Tree(TreeAsked<'a>),
     Ladder(LadderAsked<'a>),
@@ -153,6 +163,7 @@ fn asked_of<'a>(
             register,
             as_table: matches.get_flag("table"),
         })),
+        "export" => Ok(Asked::Export(export_asked(register, matches))),
         "ask" => Ok(Asked::Ask(ask_asked(alloc, register, matches)?)),
         "tree" => Ok(Asked::Tree(TreeAsked {
             register,
@@ -188,6 +199,13 @@ fn diff_asked<'a>(matches: &ArgMatches<'a>) -> DiffAsked<'a> {
         },
         counted: matches.get_flag("count"),
         form: form_asked(matches),
+    }
+}
+
+fn export_asked<'a>(register: &'a str, matches: &ArgMatches<'a>) -> ExportAsked<'a> {
+    ExportAsked {
+        register,
+        group: matches.get_str("group").unwrap_or(""),
     }
 }
 

@@ -1,5 +1,5 @@
-//! The tests of what rolls a register out, a module for each crate: `asking` of ddt_asking, `folder` of ddt_folder,
-//! `loopback` of ddt_loopback, `plan_commands` of ddt_plan_commands.
+//! The tests of what rolls a register out, a module for each crate: `asking` of ddt_asking, `export` of ddt_export,
+//! `folder` of ddt_folder, `loopback` of ddt_loopback, `plan_commands` of ddt_plan_commands.
 //! `comparison` is what all assert by.
 #![tactic(auto)]
 
@@ -7,6 +7,8 @@
 mod asking;
 #[cfg(test)]
 mod comparison;
+#[cfg(test)]
+mod export;
 #[cfg(test)]
 mod folder;
 #[cfg(test)]

@@ -3,6 +3,7 @@
 //! Tests: tests/companion.
 #![tactic(auto)]
 
+mod export;
 mod faults;
 mod folder;
 mod inputs;
@@ -58,6 +59,7 @@ fn run(rt: &HostRuntime, asked: &Asked<'_>) -> End {
         Asked::Warn(asked) => warnings::warn(rt, asked),
         Asked::Compile(asked) => folder::compile(rt, asked),
         Asked::Loopback(asked) => loopback::loopback(rt, asked),
+        Asked::Export(asked) => export::export(rt, asked),
         Asked::Ask(asked) => questions::ask(rt, asked),
         Asked::Tree(asked) => pictures::tree(rt, asked),
         Asked::Ladder(asked) => pictures::ladder(rt, asked),

@@ -1,0 +1,26 @@
+//! `ddtplan export oor REGISTER GROUP`: a group's configuration as openoverlayrouter reads it.
+
+use crate::inputs::{Why, accepted_at, no_memory, print};
+use ddt_compile::compile_group;
+use ddt_export::oor_text;
+use ddt_path::Name;
+use ddt_plan_commands::{End, ExportAsked};
+
+/// Prints the configuration. Refused where the register has no such group.
+pub fn export(rt: &HostRuntime, asked: &ExportAsked<'_>) -> Result<End, Why> {
+    let accepted = accepted_at(rt, asked.register)?;
+    let Some(name) = Name::of(asked.group.as_bytes()) else {
+        return Err(format!(in rt.alloc(); "no such group"));
+    };
+    let found = compile_group(rt.alloc(), &accepted, name).map_err(no_memory)?;
+    let Some(config) = found else {
+        return Err(format!(in rt.alloc(); "no such group"));
+    };
+    let file = oor_text(rt.alloc(), &config).map_err(no_memory)?;
+    let end = if file.is_complete {
+        End::Answered
+    } else {
+        End::Different
+    };
+    Ok(print(rt, &file.text, end))
+}

@@ -1,7 +1,7 @@
 -- A foreign Map-Request inside an Encapsulated Control Message (RFC 9301, sections 5.2 and 5.8), as far as it says what
 -- is looked up and for whom: the EID-prefix of its first record, of which the first address is looked up, and the
 -- ITR-RLOCs whose address is known. What follows the first record, as more records or an xTR-ID, is ignored.
-use Rattle.std.specs.Prelude.{ℕ, ◌+◌, ◌/◌, ◌%◌, ◌==◌, Bool, nat_lt, not, if◌then◌else◌, List, [], ◌∷◌, length, take, drop, slice_index, Option, Some, None, Result, Ok, Err}
+use Rattle.std.specs.Prelude.{ℕ, ◌+◌, ◌/◌, ◌%◌, ◌==◌, ◌≡◌, Bool, nat_lt, not, if◌then◌else◌, List, [], ◌∷◌, length, take, drop, slice_index, slice_get, Option, Some, None, Result, Ok, Err}
 use Rattle.byteorder.specs.Endian.{big_number}
 use Rattle.ddt_path.specs.declared.form.Form.{Form}
 use Rattle.ddt_path.specs.declared.form.Form.TheVariants.{Range, Block}
@@ -12,6 +12,7 @@ use Rattle.ddt_path.specs.Steps.{◌>>=◌, in_words}
 use Rattle.ddt_wire.specs.declared.address.AddressFault.{AddressFault}
 use Rattle.ddt_wire.specs.declared.address.AddressFault.TheVariants as address_fault
 use Rattle.ddt_wire.specs.declared.eid.EidFault.{EidFault}
+use Rattle.ddt_wire.specs.declared.eid.EidFault.TheVariants as eid_fault
 use Rattle.ddt_wire.specs.Address.{no_address, lcaf, address_at}
 use Rattle.ddt_wire.specs.Eid.{eid_words, eid_at}
 use Rattle.ddt_wire.specs.MessageType.{map_request}

@@ -1,5 +1,5 @@
 -- Each Map-Referral that wires with random nonces give is the reply to a request that went out below.
-use Rattle.std.proofs.Common.{◌≡◌, ℕ, ◌^◌, ◌<◌, Bool, true, false, cond, List, [], ◌∷◌, ◌++◌, Some, Result, Ok, refl, sym, ap, subst, ◌∙◌, arith, append_assoc, append-nil, inl, inr, ◌⊎◌, Contains, ◌&&◌, ◌==◌}
+use Rattle.std.proofs.Common.{◌≡◌, ℕ, ◌^◌, ◌<◌, Bool, true, false, cond, List, [], ◌∷◌, ◌++◌, Some, Result, Ok, refl, sym, ap, subst, ◌∙◌, arith, append_assoc, append-nil, inl, inr, ◌⊎◌, Contains, ◌&&◌, ◌==◌, ◌≤◌, length, length-append, ◌/◌}
 use Rattle.std.specs.List.{remove}
 use Rattle.std.proofs.lemmas.Bool.{and_parts, eqb-true}
 use Rattle.std.proofs.lemmas.List.Elements.{Contains-append_left, Contains-append_right, Contains-append_cases, Contains-push, Contains-push_cases}
@@ -18,7 +18,7 @@ use Rattle.ddt_wires.specs.declared.call.Packet.{Packet}
 use Rattle.ddt_resolver.specs.State.{request_bytes}
 use Rattle.ddt_loop.specs.Right.{WasAsked}
 use Rattle.ddt_nonces.specs.Outstanding.{Request, is_reply_to}
-use Rattle.ddt_nonces.specs.Translation.{IsAsked, with_nonce, sent_to, IsTranslated, asks, unsent, passes, none, failed, gives, lifts, drops, Translates, begins, one, forgets}
+use Rattle.ddt_nonces.specs.Translation.{IsAsked, IsNumbered, with_nonce, sent_to, IsTranslated, asks, unsent, passes, none, failed, gives, lifts, drops, Translates, begins, one, forgets}
 use Rattle.ddt_nonce_laws.specs.Replies.{renamed, WasRequested, IsAwaited, LiftedRepliesWereAsked}
 
 -- ---- what is outstanding was asked, on both sides
@@ -80,8 +80,8 @@ noted_by all (passes at to port bytes answer not) s k = noted_more _ _ (all s k)
 noted_by all (none at room) s k = noted_more _ _ (all s k)
 noted_by all (failed at room fault) s k = noted_more _ _ (all s k)
 noted_by all (gives at room p bytes not) s k = noted_more _ _ (all s k)
-noted_by all (lifts at room p bytes v before after t spells port its was) s k = noted_more _ _ (all s (rw was (put_back before after t s k)))
-noted_by all (drops at room p bytes v spells strange) s k = noted_more _ _ (all s k)
+noted_by all (lifts at room p bytes n before after t numbered port its was) s k = noted_more _ _ (all s (rw was (put_back before after t s k)))
+noted_by all (drops at room p bytes n numbered strange) s k = noted_more _ _ (all s k)
 
 all_noted : {plain wire : List Call} {sent : List Request} → Translates plain wire sent → AreNoted plain wire sent
 all_noted begins s k = let some = k.1 in absurd (omega (arith, some))
@@ -161,6 +161,21 @@ renonced bytes v n lt s = record {
   whole = rw s.whole refl;
 }
 
+-- what spells a Map-Referral is of that type, and has its nonce
+pub numbered_by : (bytes : List ℕ) (v : Message) → Spells bytes v → IsNumbered bytes v.nonce
+numbered_by bytes v s = record { kind = rw s.whole (six _ (let fits = s.ignored.reserved_fits in omega (arith, fits))); nonce_fits = s.nonce_fits; long = rw (s.whole, length-append) (omega arith); whole = rw s.whole refl }
+  where
+    six : (n : ℕ) → n ≡ 6 → (n == 6) ≡ true
+    six n is = rw is refl
+
+-- the last nonce is what counts
+renonced_again : (n m : ℕ) (bytes : List ℕ) → 12 ≤ length bytes → with_nonce n (with_nonce m bytes) ≡ with_nonce n bytes
+renonced_again n m [] le = absurd (omega (arith, le))
+renonced_again n m (a ∷ []) le = absurd (omega (arith, le))
+renonced_again n m (a ∷ b ∷ []) le = absurd (omega (arith, le))
+renonced_again n m (a ∷ b ∷ c ∷ []) le = absurd (omega (arith, le))
+renonced_again n m (a ∷ b ∷ c ∷ d ∷ rest) le = refl
+
 -- ---- what the caller is given
 
 -- the parts of the test of a reply
@@ -204,30 +219,34 @@ module _ (wire earlier : List Call) (at : Locator) (room : ℕ) (p : Packet) (by
   awaited c calls before after old new translates whole (passes from to q b answer not) e = absurd (cc e)
   awaited c calls before after old new translates whole (none socket room_) e = absurd (cc e)
   awaited c calls before after old new translates whole (failed socket room_ fault) e = absurd (cc e)
-  awaited c calls before after old new translates whole (drops socket room_ q b u spells strange) e = absurd (cc e)
+  awaited c calls before after old new translates whole (drops socket room_ q b n numbered strange) e = absurd (cc e)
   awaited c calls before after old new translates whole (gives socket room_ q b not) e =
-      let same : bytes ≡ b = cc e in absurd (not v (subst (λ l. Spells l v) same spelled))
-  awaited c calls before after old new translates whole (lifts socket room_ q b u front back s spells port its was) e =
+      let same : bytes ≡ b = cc e in absurd (not v.nonce (numbered_by b v (subst (λ l. Spells l v) same spelled)))
+  awaited c calls before after old new translates whole (lifts socket room_ q b n front back s numbered port its was) e =
       let same : bytes ≡ with_nonce s.plain b = cc e in
       let here : socket ≡ at = cc e in
       let packet : q ≡ p = cc e in
-      let parts = reply_parts socket q.from u.nonce s its in
+      let parts = reply_parts socket q.from n s its in
       let noted = all_noted translates s (rw was (Contains-append_right front (s ∷ back) s (Contains-append_left (s ∷ []) back s (Contains-push [] s)))) in
       let fits : s.plain < 2 ^ 64 = rw noted.asked.its_nonce at noted.asked.spells.spells_request.nonce_fits in
-      let one_message : v ≡ renamed u s.plain =
-      messages_are_read.one (with_nonce s.plain b) v (renamed u s.plain) (subst (λ l. Spells l v) same spelled) (renonced b u s.plain fits spells) in
+      let given : Spells (with_nonce s.plain b) v = subst (λ l. Spells l v) same spelled in
+      let once_more : with_nonce s.plain (with_nonce s.plain b) ≡ with_nonce s.plain b = renonced_again s.plain s.plain b numbered.long in
+      let one_message : v ≡ renamed v s.plain =
+      messages_are_read.one (with_nonce s.plain b) v (renamed v s.plain) given
+      (subst (λ l. Spells l (renamed v s.plain)) once_more (renonced (with_nonce s.plain b) v s.plain fits given)) in
+      let came_as : with_nonce n (with_nonce s.plain b) ≡ b = renonced_again n s.plain b numbered.long ∙ sym numbered.whole in
       let at_it : s.at ≡ at = parts.at ∙ here in
       let to_it : s.to ≡ p.from = parts.to ∙ ap (λ (k : Packet). k.from) packet in
       record {
-        nonce = u.nonce;
+        nonce = n;
         x = noted.x;
         before = before;
         after = after;
         bytes = b;
         from_server = ap (λ (k : Packet). k.port) (sym packet) ∙ port;
         came = whole ∙ ap (λ (k : Call). before ++ k ∷ after) (cc (e, here, packet));
-        spells = subst (λ (m : Message). Spells b (renamed m u.nonce)) (sym one_message) spells;
-        went_out = went_out_to at p.from u.nonce noted.x s noted.answer before at_it to_it parts.wire noted.out;
+        spells = subst (λ l. Spells l (renamed v n)) came_as (renonced (with_nonce s.plain b) v n numbered.nonce_fits given);
+        went_out = went_out_to at p.from n noted.x s noted.answer before at_it to_it parts.wire noted.out;
         asked = requested_of at p.from v.nonce s earlier before noted at_it to_it (ap (λ (m : Message). m.nonce) (sym one_message));
       }
 

@@ -1,5 +1,5 @@
 -- Where each reply that the resolver tries is owed, so is each that is tried over the wires behind.
-use Rattle.std.proofs.Common.{◌≡◌, ℕ, ◌/◌, Bool, true, false, List, [], ◌∷◌, ◌++◌, Some, Result, Ok, refl, sym, ap, subst, ◌∙◌, arith, append-nil, inl, inr, ◌⊎◌}
+use Rattle.std.proofs.Common.{◌≡◌, ℕ, ◌/◌, Bool, true, false, List, [], ◌∷◌, ◌++◌, Some, Result, Ok, refl, sym, ap, subst, ◌∙◌, arith, append-nil, eqb-true, length, inl, inr, ◌⊎◌}
 use Rattle.std.specs.Prelude.{◌≢◌, slice_index}
 use Rattle.std.proofs.lemmas.Bool.{true≢false}
 use Rattle.ddt_path.specs.declared.locator.Locator.{Locator}
@@ -11,7 +11,6 @@ use Rattle.ddt_register.specs.declared.register.Register.{Register}
 use Rattle.ddt_check.specs.Assignment.{assignment}
 use Rattle.ddt_ecm.specs.Request.{written}
 use Rattle.ddt_ecm.specs.UdpHeader.{control_port}
-use Rattle.ddt_wire.specs.Referral.{Message, Spells}
 use Rattle.ddt_wires.specs.declared.call.Call.{Call}
 use Rattle.ddt_wires.specs.declared.call.Call.TheVariants.{Received, Tried}
 use Rattle.ddt_wires.specs.declared.call.NetFault.{NetFault}
@@ -22,19 +21,20 @@ use Rattle.ddt_resolver.specs.Front.{IsItrRequest, reply_to_itr}
 use Rattle.ddt_resolver.specs.State.{request_bytes}
 use Rattle.ddt_loop.specs.Right.{IsNoReply, Owes, begin, asked, told, forgotten, other}
 use Rattle.ddt_nonces.specs.Outstanding.{Request}
-use Rattle.ddt_nonces.specs.Translation.{with_nonce, IsTranslated, asks, unsent, passes, none, failed, gives, lifts, drops, Translates, begins, one, forgets}
+use Rattle.ddt_nonces.specs.Translation.{with_nonce, IsNumbered, IsTranslated, asks, unsent, passes, none, failed, gives, lifts, drops, Translates, begins, one, forgets}
 use Rattle.ddt_nonce_laws.specs.Runs.{TranslatedRepliesAreOwed}
 use Rattle.ddt_nonce_laws.proofs.LiftLemmas.{push_split}
 use Rattle.ddt_nonce_laws.proofs.RequestLemmas.{first_of_request}
 
 -- ---- a Map-Referral is no request
 
-first_of_referral : (bytes : List ℕ) (v : Message) (n : ℕ) → Spells bytes v → slice_index (with_nonce n bytes) 0 / 16 ≡ 6
-first_of_referral bytes v n s = let fits = s.ignored.reserved_fits in rw s.whole (omega (arith, fits))
+first_of_numbered : (bytes : List ℕ) (n m : ℕ) → IsNumbered bytes m → slice_index (with_nonce n bytes) 0 / 16 ≡ 6
+first_of_numbered [] n m is = let kind = is.long in absurd (omega (arith, kind))
+first_of_numbered (first ∷ rest) n m is = eqb-true (first / 16) 6 is.kind
 
-no_request : (bytes given : List ℕ) (v : Message) (n : ℕ) (q : ItrRequest) → Spells bytes v → given ≡ with_nonce n bytes → IsItrRequest given q → ⊥
-no_request bytes given v n q s is asks_it =
-    let six = first_of_referral bytes v n s in
+no_request : (bytes given : List ℕ) (n m : ℕ) (q : ItrRequest) → IsNumbered bytes m → given ≡ with_nonce n bytes → IsItrRequest given q → ⊥
+no_request bytes given n m q numbered is asks_it =
+    let six = first_of_numbered bytes n m numbered in
     let eight = first_of_request given asks_it.message asks_it.spells in
     let same : slice_index given 0 / 16 ≡ 6 = ap (λ l. slice_index l 0 / 16) is ∙ six in
     omega (arith, same, eight)
@@ -103,10 +103,10 @@ module _ (r : Register) (me : Locator) where
   by_asked before after room p bytes q it so c calls old new (passes at to k b answer not) e = absurd (cc e)
   by_asked before after room p bytes q it so c calls old new (none at room_) e = absurd (cc e)
   by_asked before after room p bytes q it so c calls old new (failed at room_ fault) e = absurd (cc e)
-  by_asked before after room p bytes q it so c calls old new (drops at room_ k b v spells strange) e = absurd (cc e)
+  by_asked before after room p bytes q it so c calls old new (drops at room_ k b n numbered strange) e = absurd (cc e)
   by_asked before after room p bytes q it so c calls old new (gives at room_ k b not) e = rw e (asked before after room p bytes q so it)
-  by_asked before after room p bytes q it so c calls old new (lifts at room_ k b v front back s spells port its was) e =
-      let same : bytes ≡ with_nonce s.plain b = cc e in absurd (no_request b bytes v s.plain q spells same it)
+  by_asked before after room p bytes q it so c calls old new (lifts at room_ k b n front back s numbered port its was) e =
+      let same : bytes ≡ with_nonce s.plain b = cc e in absurd (no_request b bytes s.plain n q numbered same it)
 
   by_told : {plain : List Call} (before after : List ItrRequest) (q : ItrRequest) (d : Outgoing) (answer : Result (Unit {0}) NetFault) → Owes r me plain (before ++ q ∷ after)
       → reply_to_itr (assignment r (xeid_path q.xeid)) q ≡ Some d
@@ -116,9 +116,9 @@ module _ (r : Register) (me : Locator) where
   by_told before after q d answer so reply c calls old new (passes at to k b answer_ not) e = rw e (told before after q d answer so reply)
   by_told before after q d answer so reply c calls old new (none at room_) e = absurd (cc e)
   by_told before after q d answer so reply c calls old new (failed at room_ fault) e = absurd (cc e)
-  by_told before after q d answer so reply c calls old new (drops at room_ k b v spells strange) e = absurd (cc e)
+  by_told before after q d answer so reply c calls old new (drops at room_ k b n numbered strange) e = absurd (cc e)
   by_told before after q d answer so reply c calls old new (gives at room_ k b not) e = absurd (cc e)
-  by_told before after q d answer so reply c calls old new (lifts at room_ k b v front back s spells port its was) e = absurd (cc e)
+  by_told before after q d answer so reply c calls old new (lifts at room_ k b n front back s numbered port its was) e = absurd (cc e)
 
   by_other : {plain : List Call} {owed : List ItrRequest} → Owes r me plain owed → (c : Call) (calls : List Call) (old new : List Request) → IsTranslated old c calls new → IsNoReply me c
       → Owes r me (plain ++ calls) owed
@@ -127,9 +127,9 @@ module _ (r : Register) (me : Locator) where
   by_other so c calls old new (passes at to k b answer not) quiet = other _ so quiet
   by_other so c calls old new (none at room) quiet = other _ so tt
   by_other so c calls old new (failed at room fault) quiet = other _ so tt
-  by_other so c calls old new (drops at room k b v spells strange) quiet = other _ so tt
+  by_other so c calls old new (drops at room k b n numbered strange) quiet = other _ so tt
   by_other so c calls old new (gives at room k b not) quiet = other _ so tt
-  by_other so c calls old new (lifts at room k b v front back s spells port its was) quiet = other _ so tt
+  by_other so c calls old new (lifts at room k b n front back s numbered port its was) quiet = other _ so tt
 
   owes_translated : {plain : List Call} {owed : List ItrRequest} → Owes r me plain owed → (wire : List Call) (sent : List Request) → Translates plain wire sent → Owes r me wire owed
   owes_translated begin wire sent v = rw (none_before v refl) begin

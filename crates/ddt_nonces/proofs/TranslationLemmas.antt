@@ -1,8 +1,8 @@
 -- What is told on both sides stays a translation.
-use Rattle.std.proofs.Common.{◌≡◌, ℕ, ◌≤◌, List, [], ◌∷◌, ◌++◌, length, take, drop, Option, Some, None, Ok, refl, sym, subst, ◌∙◌, arith, length-append, append-nil}
+use Rattle.std.proofs.Common.{◌≡◌, ℕ, ◌≤◌, List, [], ◌∷◌, ◌++◌, length, take, drop, Option, Some, None, Ok, refl, sym, ap, subst, ◌∙◌, arith, length-append, append-nil, append_assoc}
 use Rattle.std.specs.Prelude.{◌≢◌, IfSome, All, true, false}
 use Rattle.std.proofs.Common.{length-drop}
-use Rattle.std.proofs.lemmas.List.{take_at}
+use Rattle.std.proofs.lemmas.List.{take_at, take-append-drop}
 use Rattle.ddt_path.specs.declared.locator.Locator.{Locator}
 use Rattle.ddt_path.specs.declared.xeid.Xeid.{Xeid}
 use Rattle.rand_core.specs.Stream.{Stream, next_u64}
@@ -12,9 +12,14 @@ use Rattle.ddt_wires.specs.declared.call.Call.TheVariants.{Received}
 use Rattle.std.proofs.lemmas.Option.{none-some, same_Some}
 use Rattle.ddt_wires.specs.declared.call.Call.{Call}
 use Rattle.ddt_wires.specs.Calls.{RecordsCalls, received}
-use Rattle.ddt_wire.specs.Referral.{Message, Spells}
+use Rattle.std.specs.Int.{w64, to_be_bytes}
+use Rattle.byteorder.specs.Endian.{big_number}
+use Rattle.ddt_path.specs.Steps.{IsBytes}
+use Rattle.ddt_path.specs.laws.Byte.{IsBytes-drop, number_fits, number_stands}
+use Rattle.ddt_wire.specs.declared.message_type.MessageType.TheVariants.{MapReferral}
+use Rattle.ddt_wire.specs.MessageType.{is_of}
 use Rattle.ddt_nonces.specs.Outstanding.{Request, is_reply_to, noted, Takes, unknown, known}
-use Rattle.ddt_nonces.specs.Translation.{with_nonce, sent_to, IsPrepared, IsTranslated, lifts, Translates, begins, one, forgets, Translation, IsTranslation}
+use Rattle.ddt_nonces.specs.Translation.{with_nonce, sent_to, IsNumbered, IsPrepared, IsTranslated, lifts, Translates, begins, one, forgets, Translation, IsTranslation}
 
 abbrev pub translation : Option (List Call) → Option (List Call) → List Request → Translation
 translation t b s = record { told = t; below = b; sent = s }
@@ -37,9 +42,15 @@ translation_on (Some t) (Some b) sent call calls new was is (Some p) (Some w) r 
     subst (λ l. Translates l wire new) (sym r ∙ same_Some p plain e)
     (subst (λ l. Translates (t ++ call ∷ []) l new) (sym q ∙ same_Some w wire f) (one call calls new (was t b refl refl) is))
 
--- a Map-Referral has its nonce
-pub long : (bytes : List ℕ) (v : Message) → Spells bytes v → 12 ≤ length bytes
-long bytes v s = rw (s.whole, length-append) (omega arith)
+-- the nonce after the first four bytes
+pub numbered : (bytes : List ℕ) → IsBytes bytes → is_of MapReferral bytes ≡ true → 12 ≤ length bytes → IsNumbered bytes (big_number 8 (drop 4 bytes))
+numbered bytes fits kind long = record {
+  kind = kind;
+  nonce_fits = number_fits 8 (drop 4 bytes) (IsBytes-drop 4 bytes fits);
+  long = long;
+  whole = sym (take-append-drop 4 bytes) ∙ ap (λ rest. take 4 bytes ++ rest) (number_stands 4 8 bytes fits long).is
+      ∙ sym (append_assoc (take 4 bytes) (to_be_bytes w64 (big_number 8 (drop 4 bytes))) (drop 12 bytes));
+}
 
 -- the request that was taken off the list
 pub record IsTakenOff (at from : Locator) (nonce : ℕ) (old new : List Request) (s : Request) : Type 0 where
@@ -62,14 +73,14 @@ none_taken (unknown all same none) is = (all, same)
 none_taken (known before after t its was left e) is = absurd (none-some t (sym is ∙ e))
 
 -- the reply is given with its caller's nonce
-pub lifted : (at : Locator) (p : Packet) (buffer bytes : List ℕ) (v : Message) (old new : List Request) (s : Request) (nonce : ℕ) → p.len ≤ length buffer
-    → bytes ≡ with_nonce s.plain (take p.len buffer) → length bytes ≡ p.len → Spells (take p.len buffer) v → nonce ≡ v.nonce → p.port ≡ 4342
+pub lifted : (at : Locator) (p : Packet) (buffer bytes : List ℕ) (old new : List Request) (s : Request) (nonce : ℕ) → p.len ≤ length buffer
+    → bytes ≡ with_nonce s.plain (take p.len buffer) → length bytes ≡ p.len → IsNumbered (take p.len buffer) nonce → p.port ≡ 4342
     → IsTakenOff at p.from nonce old new s
     → IsTranslated old (received at (Ok (Some p)) (bytes ++ drop p.len buffer)) (Received at (length buffer) (Ok (Some p)) (take p.len buffer) ∷ []) new
-lifted at p buffer bytes v old new s nonce le is len spells same port off =
+lifted at p buffer bytes old new s nonce le is len numbered_ port off =
     let room : length (bytes ++ drop p.len buffer) ≡ length buffer = omega (arith, length-append bytes (drop p.len buffer), length-drop p.len buffer, len, le) in
     let front : take p.len (bytes ++ drop p.len buffer) ≡ with_nonce s.plain (take p.len buffer) = take_at bytes (drop p.len buffer) p.len len ∙ is in
-    rw (room, front, off.left) (lifts at (length buffer) p (take p.len buffer) v off.before off.after s spells port (rw same at off.its) off.was)
+    rw (room, front, off.left) (lifts at (length buffer) p (take p.len buffer) nonce off.before off.after s numbered_ port off.its off.was)
 
 -- where all requests are forgotten
 pub forgetting : (told below : Option (List Call)) (sent new : List Request) → IsTranslation (translation told below sent) → new ≡ []

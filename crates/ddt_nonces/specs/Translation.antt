@@ -1,10 +1,11 @@
 -- What wires with random nonces do with each call: what their caller sees, and what is called of the wires below.
-use Rattle.std.specs.Prelude.{ℕ, ◌≡◌, ◌≢◌, ◌⊎◌, true, false, List, [], ◌∷◌, ◌++◌, take, drop, All, Option, None, Some, Result, Ok, Err}
+use Rattle.std.specs.Prelude.{ℕ, ◌≡◌, ◌≢◌, ◌<◌, ◌≤◌, ◌^◌, ◌⊎◌, true, false, List, [], ◌∷◌, ◌++◌, length, take, drop, All, Option, None, Some, Result, Ok, Err}
 use Rattle.std.specs.Int.{w64, to_be_bytes}
 use Rattle.rand_core.specs.Stream.{Stream, next_u64}
 use Rattle.ddt_path.specs.declared.locator.Locator.{Locator}
 use Rattle.ddt_path.specs.declared.xeid.Xeid.{Xeid}
-use Rattle.ddt_wire.specs.Referral as referral
+use Rattle.ddt_wire.specs.declared.message_type.MessageType.TheVariants.{MapReferral}
+use Rattle.ddt_wire.specs.MessageType.{is_of}
 use Rattle.ddt_ecm.specs.Request as request
 use Rattle.ddt_ecm.specs.Request.{written}
 use Rattle.ddt_ecm.specs.UdpHeader.{control_port}
@@ -31,6 +32,13 @@ pub record IsAsked (bytes : List ℕ) (nonce : ℕ) (x : Xeid) : Type 0 where
 abbrev pub with_nonce : ℕ → List ℕ → List ℕ
 with_nonce nonce bytes = take 4 bytes ++ to_be_bytes w64 nonce ++ drop 12 bytes
 
+-- a message of the type of Map-Referrals, whatever else it says, has this nonce after its first four bytes
+pub record IsNumbered (bytes : List ℕ) (nonce : ℕ) : Type 0 where
+  pub kind : is_of MapReferral bytes ≡ true
+  pub nonce_fits : nonce < 2 ^ 64
+  pub long : 12 ≤ length bytes
+  pub whole : bytes ≡ with_nonce nonce bytes
+
 -- the reply is to no request that is outstanding: it comes from another port than 4342, or none was sent from this
 -- socket to where it comes from with its nonce
 abbrev pub IsStrange : Locator → List Request → Packet → ℕ → Type 0
@@ -39,9 +47,9 @@ IsStrange at old p nonce = (p.port ≢ control_port) ⊎ All (λ s. is_reply_to 
 -- One call, beside the calls of the wires below. `asks`: a request of a DDT client to UDP port 4342 goes out with a
 -- nonce that no outstanding request has, and with the socket's locator as its ITR-RLOC. `unsent`: it isn't sent, if
 -- out of memory, if the nonce is in use, or where its server is passed over. `passes`: any other datagram goes out as
--- it is. `none`, `failed`: nothing came. `gives`: what is no Map-Referral is given as it came. `lifts`: the reply to an
+-- it is. `none`, `failed`: nothing came. `gives`: what isn't of the type of Map-Referrals is given as it came. `lifts`: the reply to an
 -- outstanding request is given with its caller's nonce, and the request isn't outstanding any more. `drops`: any other
--- Map-Referral is lost (RFC 8111, section 5; RFC 9301, section 5.2).
+-- of that type is lost (RFC 8111, section 5; RFC 9301, section 5.2).
 pub data IsTranslated (old : List Request) : Call → List Call → List Request → Type 0 where
   asks : (at to : Locator) (bytes : List ℕ) (plain wire : ℕ) (x : Xeid) (answer : Result (Unit {0}) NetFault)
       → IsAsked bytes plain x → All (λ s. s.wire ≢ wire) old
@@ -56,16 +64,15 @@ pub data IsTranslated (old : List Request) : Call → List Call → List Request
       → IsTranslated old (Received at room (Ok None) []) (Received at room (Ok None) [] ∷ []) old
   failed : (at : Locator) (room : ℕ) (fault : NetFault)
       → IsTranslated old (Received at room (Err fault) []) (Received at room (Err fault) [] ∷ []) old
-  gives : (at : Locator) (room : ℕ) (p : Packet) (bytes : List ℕ)
-      → ((v : referral.Message) → referral.Spells bytes v → ⊥)
+  gives : (at : Locator) (room : ℕ) (p : Packet) (bytes : List ℕ) → ((nonce : ℕ) → IsNumbered bytes nonce → ⊥)
       → IsTranslated old (Received at room (Ok (Some p)) bytes) (Received at room (Ok (Some p)) bytes ∷ []) old
-  lifts : (at : Locator) (room : ℕ) (p : Packet) (bytes : List ℕ) (v : referral.Message) (before after : List Request)
-      (s : Request) → referral.Spells bytes v → p.port ≡ control_port → is_reply_to at p.from v.nonce s ≡ true
+  lifts : (at : Locator) (room : ℕ) (p : Packet) (bytes : List ℕ) (nonce : ℕ) (before after : List Request)
+      (s : Request) → IsNumbered bytes nonce → p.port ≡ control_port → is_reply_to at p.from nonce s ≡ true
       → old ≡ before ++ s ∷ after
       → IsTranslated old (Received at room (Ok (Some p)) (with_nonce s.plain bytes))
       (Received at room (Ok (Some p)) bytes ∷ []) (before ++ after)
-  drops : (at : Locator) (room : ℕ) (p : Packet) (bytes : List ℕ) (v : referral.Message) → referral.Spells bytes v
-      → IsStrange at old p v.nonce
+  drops : (at : Locator) (room : ℕ) (p : Packet) (bytes : List ℕ) (nonce : ℕ) → IsNumbered bytes nonce
+      → IsStrange at old p nonce
       → IsTranslated old (Received at room (Err Receive) []) (Received at room (Ok (Some p)) bytes ∷ []) old
 
 -- A request for x, from this socket to this address, is ready: its nonce is the one that the generator gives next,

@@ -6,17 +6,23 @@ ghost use Rattle.ddt_wires.specs.declared.call.Call.{Call as ACall};
 ghost use Rattle.ddt_wires.specs.declared.call.Call.TheVariants.{Received, Tried};
 ghost use Rattle.ddt_wires.specs.Calls.{RecordsCalls, received};
 ghost use Rattle.ddt_nonces.specs.Outstanding.{IsOutstanding};
-ghost use Rattle.ddt_nonces.specs.Translation.{IsAsked, IsDrawn, IsPrepared, IsTranslated, with_nonce};
+ghost use Rattle.ddt_nonces.specs.Translation.{IsAsked, IsDrawn, IsNumbered, IsPrepared, IsTranslated, with_nonce};
 
 use crate::outstanding::{Outstanding, Overdue, SentRequest};
 use crate::refused::Refused;
 use crate::servers::Servers;
+use byteorder::{BigEndian, ByteOrder};
 use ddt_ecm::{CONTROL_PORT, read_request, write_request};
 use ddt_path::{Locator, Xeid};
-use ddt_wire::read_referral;
+use ddt_wire::MessageType;
 use ddt_wires::{NetFault, Packet, Wires};
 use rand_core::Rng;
 use std::alloc::Global;
+
+/// How many bytes a Map-Referral has before its nonce, and up to its end.
+const BEFORE_NONCE: usize = 4;
+
+const NUMBERED: usize = 12;
 
 /// What is known of requests: those that are outstanding, those that were refused, and their servers.
 #[derive(Drop)]
@@ -140,9 +146,8 @@ impl<R: Rng + Drop> Asking<R> {
         ensures fits { IfOk result (λ answer. IfSome answer (λ p. p.len ≤ length buffer.new)) }
         ensures room { length buffer.new ≡ length buffer.old }
     {
-        let wire = match read_referral(&buffer[..packet.len]) {
-            Ok(referral) => referral.nonce(),
-            Err(_fault) => return Ok(Some(packet)),
+        let Some(wire) = nonce_in(&buffer[..packet.len]) else {
+            return Ok(Some(packet));
         };
         if packet.port != CONTROL_PORT {
             self.unasked = self.unasked.saturating_add(1);
@@ -209,6 +214,21 @@ fn asked_by_client(bytes: &[u8]) -> Option<(u64, Xeid)>
         }
         Err(_fault) => None,
     }
+}
+
+/// The nonce of a message of the type of Map-Referrals, in whatever spelling. None for any other, and where it is cut off.
+fn nonce_in(bytes: &[u8]) -> Option<u64>
+    ensures found { IfSome result (IsNumbered bytes.now) }
+    ensures none { IfNone result ((nonce : ℕ) → IsNumbered bytes.now nonce → ⊥) }
+{
+    if !MessageType::MapReferral.is_of(bytes) {
+        return None;
+    }
+    if bytes.len() < NUMBERED {
+        return None;
+    }
+    let (_head, from_nonce) = bytes.split_at(BEFORE_NONCE);
+    Some(BigEndian::read_u64(from_nonce))
 }
 
 /// Puts another nonce into a Map-Referral.

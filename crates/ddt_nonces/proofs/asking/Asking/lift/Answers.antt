@@ -4,24 +4,24 @@ use Rattle.ddt_nonces.specs.Translation.{gives, drops, with_nonce}
 use Rattle.ddt_nonces.proofs.TranslationLemmas.{taken_off, none_taken, lifted}
 use Rattle.ddt_nonces.proofs.asking.Asking.lift.Goals as goal
 
-pub returns-in-Err-clause-translated : goal.returns-in-Err-clause-translated
-returns-in-Err-clause-translated g c =
-    gives c.args.at (length c.args.buffer.now) c.args.packet (take c.args.packet.len c.args.buffer.now) (λ v s. let e = c.in-Err.ensures.only v s in absurd (cc e))
+pub returns-in_default-clause-translated : goal.returns-in_default-clause-translated
+returns-in_default-clause-translated g c =
+    gives c.args.at (length c.args.buffer.now) c.args.packet (take c.args.packet.len c.args.buffer.now) c.in_default.ensures.none
 
 pub returns-then-packet-ne-CONTROL_PORT-clause-translated : goal.returns-then-packet-ne-CONTROL_PORT-clause-translated
 returns-then-packet-ne-CONTROL_PORT-clause-translated g c =
-    drops c.args.at (length c.args.buffer.now) c.args.packet (take c.args.packet.len c.args.buffer.now) c.in-Ok.referral c.in-Ok.ensures.found
+    drops c.args.at (length c.args.buffer.now) c.args.packet (take c.args.packet.len c.args.buffer.now) c.in-Some.wire c.in-Some.ensures.found
     (inl c.if-packet-ne-CONTROL_PORT.true)
 
-pub returns-in-Some-clause-translated : goal.returns-in-Some-clause-translated
-returns-in-Some-clause-translated g c =
-    lifted c.args.at c.args.packet c.args.buffer.now c.put_nonce.new.bytes c.in-Ok.referral c.args.self.now.outstanding.sent.items c.take.new.self.sent.items
-    c.in-Some.sent c.nonce-wire.result c.requires
-    (subst (λ (s : Request). c.put_nonce.new.bytes ≡ with_nonce s.plain (take c.args.packet.len c.args.buffer.now)) c.sent.view_is c.put_nonce.ensures) (omega (arith, c.put_nonce.auto.bytes, length-take c.args.packet.len c.args.buffer.now, c.requires)) c.in-Ok.ensures.found c.nonce-wire.ensures
-    c.if-packet-ne-CONTROL_PORT.false (taken_off c.in-Some.sent c.take.ensures c.in-Some.is)
+pub returns-in-Some-take-clause-translated : goal.returns-in-Some-take-clause-translated
+returns-in-Some-take-clause-translated g c =
+    lifted c.args.at c.args.packet c.args.buffer.now c.put_nonce.new.bytes c.args.self.now.outstanding.sent.items c.take.new.self.sent.items
+    c.in-Some-take.sent c.in-Some.wire c.requires
+    (subst (λ (s : Request). c.put_nonce.new.bytes ≡ with_nonce s.plain (take c.args.packet.len c.args.buffer.now)) c.sent.view_is c.put_nonce.ensures) (omega (arith, c.put_nonce.auto.bytes, length-take c.args.packet.len c.args.buffer.now, c.requires)) c.in-Some.ensures.found
+    c.if-packet-ne-CONTROL_PORT.false (taken_off c.in-Some-take.sent c.take.ensures c.in-Some-take.is)
 
 pub returns-in-None-clause-translated : goal.returns-in-None-clause-translated
 returns-in-None-clause-translated g c =
     let n = none_taken c.take.ensures c.in-None.is in
-    rw n.1 (drops c.args.at (length c.args.buffer.now) c.args.packet (take c.args.packet.len c.args.buffer.now) c.in-Ok.referral c.in-Ok.ensures.found
-    (inr (rw c.nonce-wire.ensures at n.0)))
+    rw n.1 (drops c.args.at (length c.args.buffer.now) c.args.packet (take c.args.packet.len c.args.buffer.now) c.in-Some.wire c.in-Some.ensures.found
+    (inr n.0))

@@ -13,7 +13,7 @@ use crate::sockets::{FarWires, ResolverWires, Sockets};
 use crate::source::Why;
 use crate::tables::{cache_text, flush_inside, lookup_text, servers_text};
 use crate::times::Moments;
-use crate::unrecognized::{end_period, say_unrecognized};
+use crate::unrecognized::{MOST_MESSAGES, end_period, say_unrecognized};
 use crate::warnings::warnings_of;
 use crate::words::ResolveAsked;
 use ddt_cache::{Entry, Moment};
@@ -175,7 +175,10 @@ impl<'a> ResolverRole<'a> {
         let said = &mut self.unrecognized;
         said.miss(self.resolver.take_missed_unrecognized());
         end_period(rt, said, now.millis(), log);
-        while let Some(one) = self.resolver.take_unrecognized() {
+        for _message in 0..MOST_MESSAGES {
+            let Some(one) = self.resolver.take_unrecognized() else {
+                return;
+            };
             say_unrecognized(rt, said, one, log);
         }
     }

@@ -1,7 +1,7 @@
 //! Where a resolver that listens over one family replies to ITRs that name RLOCs of both: an answer goes to the first
 //! ITR-RLOC of a family that it has (RFC 9301, section 5.5).
 
-use ddt_ecm::read_request;
+use ddt_foreign::read_foreign_request;
 use ddt_path::Locator;
 use ddt_wire::read_negative_reply;
 use std::alloc::Global;
@@ -36,16 +36,14 @@ impl ReplyAddresses {
     /// Remembers a request of these bytes where its first ITR-RLOC isn't of the family of `from`, which alone the
     /// resolver has, and a later one is. If out of memory, it isn't remembered.
     pub fn note(&mut self, from: Locator, bytes: &[u8]) {
-        let Ok(request) = read_request(bytes) else {
+        let Ok(request) = read_foreign_request(bytes) else {
             return;
         };
-        let mut rlocs = request.itr_rlocs();
-        let Some(first) = rlocs.next() else {
-            return;
-        };
+        let first = request.first_rloc();
         if first.width() == from.width() {
             return;
         }
+        let mut rlocs = request.itr_rlocs();
         let Some(reachable) = rlocs.find(|rloc| rloc.width() == from.width()) else {
             return;
         };

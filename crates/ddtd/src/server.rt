@@ -15,7 +15,7 @@ use crate::sockets::{ServerWires, Sockets};
 use crate::source::{Why, with_path};
 use crate::times::seconds;
 use crate::unknown_keys::UnknownKey;
-use crate::unrecognized::{end_period, say_unrecognized};
+use crate::unrecognized::{MOST_MESSAGES, end_period, say_unrecognized};
 use crate::watch::Watch;
 use crate::words::ServeAsked;
 use ddt_config::ServerConfig;
@@ -238,7 +238,10 @@ impl<'a> ServerRole<'a> {
         let said = &mut self.unrecognized;
         said.miss(self.done.take_missed_unrecognized());
         end_period(rt, said, self.second.saturating_mul(1000), log);
-        while let Some(one) = self.done.take_unrecognized() {
+        for _message in 0..MOST_MESSAGES {
+            let Some(one) = self.done.take_unrecognized() else {
+                return;
+            };
             say_unrecognized(rt, said, one, log);
         }
     }

@@ -5,6 +5,9 @@ use crate::log::{Log, Priority};
 use ddt_daemon::Unrecognized;
 use ddt_wires::ip_of;
 
+/// No more are looked at in a round.
+pub const MOST_MESSAGES: u32 = 64;
+
 /// Says in the log that a message was dropped for its AFI, if it may.
 pub fn say_unrecognized(rt: &HostRuntime, said: &mut Bounded, one: Unrecognized, log: &mut Log) {
     if !said.may_say() {

@@ -109,7 +109,10 @@ fn sent(calls: &[Call], asked: &[u8]) -> Sent {
         [] => Sent::Nothing,
         [
             Call::Tried {
-                to, port, bytes, ..
+                to,
+                port,
+                bytes,
+                ..
             },
         ] => {
             let is_negative = bytes.as_slice().first().map(|byte| byte >> 4) == Some(2);

@@ -104,7 +104,7 @@ fn request(alloc: Global, xeid: &str, change: Change) -> Result<Vec<u8>, Fail> {
 }
 
 /// What was sent, by the calls after that of `receive`.
-fn sent(calls: &[Call], asked: &[u8]) -> Sent {
+fn sent_for(calls: &[Call], asked: &[u8]) -> Sent {
     match calls {
         [] => Sent::Nothing,
         [
@@ -152,7 +152,7 @@ fn serve(
     let mut done = ServerRecord::new(alloc);
     serve_ready(&mut wires, server, &door, 1, &mut buffer, &mut done);
     let calls = wires.told().ok_or("no record")?;
-    Ok(sent(calls.get(1..).unwrap_or(&[]), asked))
+    Ok(sent_for(calls.get(1..).unwrap_or(&[]), asked))
 }
 
 #[test]

@@ -72,3 +72,24 @@ pub const XTR_REPLY: &str =
 /// A Map-Resolver's negative Map-Reply for 10.1.4.0/24, which is not registered: ACT is 0, no action.
 pub const RESOLVER_NEGATIVE_REPLY: &str =
     "20000001 1c3461eb125413a4 0000000f 00 18 0000 0000 0001 0a010400";
+
+/// What an xTR at 192.0.2.11 sends its Map-Server each minute for its site 10.1.1.0/24, under the secret `password`: its
+/// Key ID is 0, it has no xTR-ID, nonces are random, and the code of Algorithm ID 1 has all 20 bytes.
+pub const XTR_NOTIFIED_REGISTER: &str =
+    "30000101 fffbdb7bced3d06b 00 01 0014 245bb8d6adbc0a902dbd17514d6a584b0f6ca79c 0000000a 01 18 1000 0000 0001 0a010100 01 64 ff 00 0005 0001 c000020b";
+
+/// A Map-Notify that it takes for that, after which it waits for a minute.
+pub const XTR_NOTIFY: &str =
+    "40000001 fffbdb7bced3d06b 00 01 0014 cfa1600f4040d6ef86b84a09c2f1472329ffda32 0000000a 01 18 1000 0000 0001 0a010100 01 64 ff 00 0005 0001 c000020b";
+
+/// The same for its site 2001:db8:a:1::/64.
+pub const XTR_IPV6_REGISTER: &str =
+    "30000101 dffbdb7bced9e9cd 00 01 0014 9987254ba312c4a14625d8876f242570ad74a8bb 0000000a 01 40 1000 0000 0002 20010db8000a00010000000000000000 01 64 ff 00 0005 0001 c000020b";
+
+/// The same where the site is in instance 7.
+pub const XTR_INSTANCE_REGISTER: &str =
+    "30000101 d7bbbf7bceb513c1 00 01 0014 f4ff0bbfcce19cc52526e9a3508b714a6e929d27 0000000a 01 18 1000 0000 4003 0000 02 20 000a 00000007 0001 0a010100 01 64 ff 00 0005 0001 c000020b";
+
+/// The same with a second locator, 2001:db8::11.
+pub const XTR_TWO_LOCATORS_REGISTER: &str =
+    "30000101 d7ffee6bdde6ef11 00 01 0014 14d4d73b4a97ff89ca9c56ebbadcbd2ef968c918 0000000a 02 18 1000 0000 0001 0a010100 01 64 ff 00 0005 0001 c000020b 01 32 ff 00 0005 0002 20010db8000000000000000000000011";

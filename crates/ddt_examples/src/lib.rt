@@ -1,7 +1,8 @@
 //! The worked registers, configurations and messages, each once, for the tests of all crates.
 //!
 //! `registers` and `rows` are CSV, `configurations` are TOML as `ddt compile` prints it, `messages` are hexadecimal,
-//! field by field, as are those of another implementation in `foreign`, and `replays` are scripts with their lines.
+//! field by field, as are those of another implementation in `foreign` and the registrations in `map_registers`.
+//! `replays` are scripts with their lines.
 //! `Dice` draw what tests try at random.
 //! Tests: ddt_format_tests/prefixes/examples.
 #![tactic(auto)]
@@ -14,6 +15,7 @@ ghost use Rattle.ddt_examples.specs.Digits.{digits_in};
 pub mod configurations;
 mod dice;
 pub mod foreign;
+pub mod map_registers;
 pub mod messages;
 pub mod registers;
 pub mod replays;

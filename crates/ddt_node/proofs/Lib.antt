@@ -1,4 +1,5 @@
 pub mod AnswerLemmas
+pub mod EtrLemmas
 pub mod BitLemmas
 pub mod PlaceLemmas
 pub mod ReplyLemmas

@@ -1,3 +1,4 @@
+pub mod Etrs
 pub mod Decisions
 pub mod Places
 pub mod ReferralSets

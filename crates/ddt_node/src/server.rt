@@ -7,15 +7,18 @@ ghost use Rattle.ddt_config.specs.Table.{outline};
 ghost use Rattle.ddt_config.specs.Answer.{answer as answer_of};
 ghost use Rattle.ddt_config.specs.Entries.{entry_count};
 ghost use Rattle.ddt_node.specs.Decisions.{etr_by, record_by};
+ghost use Rattle.ddt_node.specs.Etrs.{with_etrs};
 ghost use Rattle.ddt_node.specs.Server.{first_etr};
 
 use crate::decision::{Decision, decision_in, longest};
+use crate::etrs::authorities_with;
 use crate::index::{Indexed, index};
 use ddt_config::ServerConfig;
-use ddt_path::{Locator, ReferralRecord, Xeid};
+use ddt_path::{Listed, Locator, LocatorSet, Prefix, ReferralRecord, Xeid};
 use ddt_trie::PrefixMap;
 use std::alloc::Global;
 use std::marker::Model;
+use std::mem;
 
 /// A DDT node or a Map-Server with its configuration. Contracts see what the configuration holds.
 #[derive(Drop)]
@@ -94,5 +97,18 @@ impl<M: PrefixMap<u32>> Server<M> {
             ),
             None => Decision::Outside,
         }
+    }
+
+    /// Gives these ETRs to the site of this prefix; where there is no such site, nothing changes. The place of the site
+    /// is found in the maps, which stay as they are, since no prefix changes: one look for each authority. It allocates
+    /// nothing (RFC 9301, section 5.6).
+    pub fn set_etrs(&mut self, alloc: Global, prefix: Prefix, etrs: LocatorSet)
+        ensures { self.new ≡ with_etrs prefix etrs self.old }
+    {
+        let _few = etrs.as_slice();
+        let none = Listed::of(Vec::new(alloc));
+        let authorities = mem::replace(&mut self.config.authorities, none);
+        let contents = self.index.contents.as_slice();
+        self.config.authorities = authorities_with(alloc, authorities, contents, prefix, etrs);
     }
 }

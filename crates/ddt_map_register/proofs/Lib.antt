@@ -1,0 +1,3 @@
+pub mod AgainLemmas
+pub mod TakesLemmas
+pub mod NotifyLemmas

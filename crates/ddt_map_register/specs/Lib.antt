@@ -1,0 +1,5 @@
+pub mod RegisteredLocator
+pub mod RegisterRecord
+pub mod MapRegister
+pub mod Authentic
+pub mod MapNotify

@@ -4,3 +4,4 @@ pub mod Places
 pub mod ReferralSets
 pub mod Server
 pub mod Spelled
+pub mod laws

@@ -14,8 +14,9 @@ use ddt_path::Prefixed;
 use ddt_trie::{MOST_ENTRIES, PrefixMap};
 use std::alloc::{AllocError, Global};
 
-/// The place of each item, by its prefix.
-fn places<T: Prefixed, M: PrefixMap<u32>>(alloc: Global, items: &[T]) -> Result<M, AllocError>
+/// The place of each item, by its prefix; of two items of one prefix that of the first. There are to be fewer than
+/// 1,048,576. Fails only if out of memory; where there is no item, it wants none.
+pub fn places<T: Prefixed, M: PrefixMap<u32>>(alloc: Global, items: &[T]) -> Result<M, AllocError>
     requires { length items.now < most_entries }
     ensures places { IfOk result (λ m. M.content m ≡ places_of (map T.path items.now)) }
     ensures none { items.now ≡ [] → IsOk result }

@@ -17,5 +17,5 @@ mod server;
 pub use configuration::config_in;
 pub use datagram::{Buffered, Handled};
 pub use forward::Forward;
-pub use index::has_room_for;
+pub use index::{has_room_for, places};
 pub use server::Server;

@@ -186,6 +186,14 @@ impl Sockets {
 /// How many datagrams are dropped at once.
 const MOST_DRAINED: u32 = 64;
 
+/// So many datagrams a resolver takes in a row at most where it listens, if some are where it asks. They are few, so
+/// that the replies that have come are remembered before the next lookup begins, which then asks for less.
+const MOST_REQUESTS: u32 = 4;
+
+/// So many it takes in a row at most where it asks, if some are where it listens: for each request three replies, as of
+/// the root, a node and a Map-Server.
+const MOST_REPLIES: u32 = 3 * MOST_REQUESTS;
+
 /// The wires of a server: each socket stands for the locator that it is bound to. What a server at an IPv4 socket sends
 /// to an ETR over IPv6, or the other way round, goes out of the first socket of the other family.
 #[derive(Drop)]
@@ -213,8 +221,10 @@ pub struct ResolverWires {
     pub listening: Sockets,
     /// Where it asks servers.
     pub asking: Sockets,
-    /// Whether it is looked first at where it listens.
-    listens_first: bool,
+    /// Whether the next datagram is taken where it listens.
+    listens: bool,
+    /// How many are taken in a row there before it is the other side's turn.
+    left: u32,
     /// Where replies go whose own address can't be reached.
     reply_addresses: ReplyAddresses,
     /// How many datagrams were dropped since they weren't of the sort that may come in there.
@@ -227,16 +237,28 @@ impl ResolverWires {
         ResolverWires {
             listening: Sockets::new(alloc, CONTROL_PORT),
             asking: Sockets::new(alloc, 0),
-            listens_first: false,
+            listens: true,
+            left: MOST_REQUESTS,
             reply_addresses: ReplyAddresses::new(alloc),
             strays: 0,
         }
     }
 
-    /// A datagram that is at one of the sockets where it listens, or where it asks.
-    fn receive_at(&mut self, listens: bool, buffer: &mut [u8]) -> Result<Option<Packet>, NetFault>
+    /// It is the other side's turn.
+    fn turn(&mut self) {
+        self.listens = !self.listens;
+        self.left = if self.listens {
+            MOST_REQUESTS
+        } else {
+            MOST_REPLIES
+        };
+    }
+
+    /// A datagram that is at one of the sockets of the side whose turn it is.
+    fn receive_here(&mut self, buffer: &mut [u8]) -> Result<Option<Packet>, NetFault>
         ensures fits { IfOk result (λ answer. IfSome answer (λ packet. packet.len ≤ length buffer.new)) }
     {
+        let listens = self.listens;
         let answer = if listens {
             self.listening.receive_any(buffer)
         } else {
@@ -260,10 +282,15 @@ impl ResolverWires {
 
 impl Wires for ResolverWires {
     fn receive(&mut self, _at: Locator, buffer: &mut [u8]) -> Result<Option<Packet>, NetFault> {
-        self.listens_first = !self.listens_first;
-        let first = self.listens_first;
-        match self.receive_at(first, buffer) {
-            Ok(None) => self.receive_at(!first, buffer),
+        if self.left == 0 {
+            self.turn();
+        }
+        self.left = self.left.saturating_sub(1);
+        match self.receive_here(buffer) {
+            Ok(None) => {
+                self.turn();
+                self.receive_here(buffer)
+            }
             answer => answer,
         }
     }

@@ -1,5 +1,5 @@
--- Whether a Map-Register is authentic under a secret (RFC 9301, section 5.6). No proof says that a code can't be forged:
--- a message is authentic if it bears its own code.
+-- Whether a Map-Register is authentic under a secret (RFC 9301, section 5.6). No proof says that a code can't be
+-- forged: a message is authentic if it bears its own code.
 use Rattle.std.specs.Prelude.{ℕ, ◌≡◌, ◌==◌, ◌&&◌, ◌||◌, Bool, true, if◌then◌else◌, List, take}
 use Rattle.hmac.specs.Hmac.{hmac_sha256, hmac_sha1}
 use Rattle.ddt_map_register.specs.MapRegister.{Message}

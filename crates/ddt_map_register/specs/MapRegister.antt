@@ -117,7 +117,8 @@ head_at bytes =
 unfoldable pub id_at : Bool → List ℕ → Result (Option XtrId) MapRegisterFault
 id_at has bytes =
     if has then (if nat_lt (length bytes) 24 then Err Short
-    else if length bytes == 24 then Ok (Some (record { xtr = big_number 16 bytes; site = big_number 8 (drop 16 bytes) }))
+    else if length bytes == 24
+    then Ok (Some (record { xtr = big_number 16 bytes; site = big_number 8 (drop 16 bytes) }))
     else Err Trailing)
     else if length bytes == 0 then Ok None
     else Err Trailing

@@ -8,8 +8,8 @@
 //! |              nonce                |   4
 //! |                                   |   8
 //! +--------+--------+-----------------+
-//! | Key ID |algorith| length of the   |  12
-//! |        |  m ID  | auth'n data     |
+//! | Key ID |algo-   | length of the   |  12
+//! |        |rithm ID| auth. data      |
 //! +--------+--------+-----------------+
 //! |  authentication data, then the    |  16
 //! |  records of the Map-Register ..   |
@@ -60,8 +60,8 @@ fn put_code(
     }
 }
 
-/// The Map-Notify that acknowledges a Map-Register with this head and the bytes of these records, with a code of its own
-/// under the secret, by the same algorithm and of the same length. Fails only if out of memory.
+/// The Map-Notify that acknowledges a Map-Register with this head and the bytes of these records. It has a code of its
+/// own under the secret, by the same algorithm and of the same length. Fails only if out of memory.
 pub fn write_notify(
     alloc: Global,
     head: &RegisterHead,

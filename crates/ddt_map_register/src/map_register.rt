@@ -117,8 +117,9 @@ impl<'a> MapRegister<'a> {
         self.id
     }
 
-    /// The Map-Notify that acknowledges it, with all its records, authentic under the secret (RFC 9301, section 5.7). It
-    /// is never longer than the Map-Register. Fails only if out of memory. An authentic Map-Register has a known code.
+    /// The Map-Notify that acknowledges it, with all its records, authentic under the secret (RFC 9301, section 5.7).
+    /// It is never longer than the Map-Register. An authentic Map-Register meets the requirement. Fails only if out of
+    /// memory.
     pub fn notify(&self, alloc: Global, secret: &[u8]) -> Result<Vec<u8>, AllocError>
         requires { IsTrue (is_known self.now.head.algorithm self.now.head.code_len) }
         ensures { IfOk result (λ bytes. bytes.items ≡ notify_to secret.now self.now) }

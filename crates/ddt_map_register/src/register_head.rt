@@ -8,8 +8,8 @@
 //! |                   nonce                    |   4
 //! |                                            |   8
 //! +------------+--------+----------------------+
-//! |   Key ID   |algorith|    length of the     |  12
-//! |            |  m ID  | authentication data  |
+//! |   Key ID   |algo-   |    length of the     |  12
+//! |            |rithm ID| authentication data  |
 //! +------------+--------+----------------------+
 //! |  authentication data, then the records ..  |  16
 //! ```

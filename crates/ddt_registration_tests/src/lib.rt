@@ -1,0 +1,21 @@
+//! The tests of registrations: `codes` of hmac; of ddt_map_register what is read (`reading`), what is authentic
+//! (`authenticity`), Map-Notifies (`notifies`), and memory that is refused (`refused`). `vectors` are Map-Registers and
+//! their Map-Notifies, `worked` is what the others take, and `comparison` what they assert by.
+#![tactic(auto)]
+
+#[cfg(test)]
+mod authenticity;
+#[cfg(test)]
+mod codes;
+#[cfg(test)]
+mod comparison;
+#[cfg(test)]
+mod notifies;
+#[cfg(test)]
+mod reading;
+#[cfg(test)]
+mod refused;
+#[cfg(test)]
+mod vectors;
+#[cfg(test)]
+mod worked;

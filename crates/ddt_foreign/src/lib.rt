@@ -24,7 +24,7 @@ pub use laws::{
     foreign_request_laws, locators_are_ordered, what_is_given_stays, what_is_spelled_is_taken,
     what_the_core_reads_is_taken, what_the_core_reads_stays,
 };
-pub use order::Ranked;
+pub use order::{Ranked, put_ranked};
 pub use plain::{Plain, plain_referral, read_foreign};
 pub use record::ForeignRecord;
 pub use request::{ForeignRequest, plain_request, read_foreign_request};

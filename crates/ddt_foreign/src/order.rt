@@ -1,6 +1,7 @@
 //! Which of a record's locators are taken, and in which order (RFC 9301, section 5.4).
 
-ghost use Rattle.std.specs.Prelude.{◌≡◌, ◌≤◌, [], length, map, OnOk, IfOk};
+ghost use Rattle.std.specs.Prelude.{◌≡◌, ◌≤◌, ◌<◌, [], length, map, OnOk, IfOk, IsOk};
+ghost use Rattle.std.specs.Vec.{vec_len, vec_capacity};
 ghost use Rattle.ddt_foreign.specs.declared.order.Ranked.{Ranked as ARanked};
 ghost use Rattle.ddt_path.specs.Locators.{most_locators};
 ghost use Rattle.ddt_foreign.specs.Order.{has_usable as has_usable_of, place_of, placed, all_placed, servers_of};
@@ -44,9 +45,12 @@ fn place(priority: u8, ranked: &[Ranked]) -> usize
     at
 }
 
-/// Puts one more locator after those of its priority, and keeps the first eight.
-fn put(ranked: &mut Vec<Ranked>, one: Ranked) -> Result<(), AllocError>
-    ensures { OnOk result (ranked.new.items ≡ placed one ranked.old.items) }
+/// Puts one more locator after those of its priority, and keeps the first eight. Fails only if out of memory; with
+/// room for one more it doesn't fail.
+pub fn put_ranked(ranked: &mut Vec<Ranked>, one: Ranked) -> Result<(), AllocError>
+    ensures placed { OnOk result (ranked.new.items ≡ placed one ranked.old.items) }
+    ensures room { vec_len ranked.old < vec_capacity ranked.old → IsOk result }
+    ensures capacity { vec_capacity ranked.old ≤ vec_capacity ranked.new }
 {
     let at = place(one.priority, ranked.as_slice());
     ranked.insert(at, one)?;
@@ -69,7 +73,7 @@ fn ranked_of(alloc: Global, usable: bool, entries: Entries<'_>) -> Result<Vec<Ra
                     priority: entry.priority,
                     address,
                 };
-                put(&mut ranked, one)?;
+                put_ranked(&mut ranked, one)?;
             }
         }
     }

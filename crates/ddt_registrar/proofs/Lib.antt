@@ -1,0 +1,4 @@
+pub mod ListLemmas
+pub mod SiteLemmas
+pub mod JudgeLemmas
+pub mod TakingLemmas

@@ -1,0 +1,92 @@
+-- Which Map-Registers are taken (RFC 9301, section 5.6), and why others are not.
+use Rattle.std.specs.Prelude.{ℕ, Bool, true, false, ◌==◌, ◌&&◌, ◌||◌, not, nat_lt, nat_le, if◌then◌else◌, List, [], ◌∷◌, length, find, Option, Some, None, Result, Ok, Err}
+use Rattle.std.specs.List.{list_all, list_any}
+use Rattle.std.specs.Option.{unwrap_or}
+use Rattle.ddt_path.specs.Covers.{is_same_path}
+use Rattle.ddt_path.specs.Locators.{most_locators}
+use Rattle.ddt_path.specs.Steps.{◌>>=◌}
+use Rattle.ddt_map_register.specs.declared.register_head.RegisterHead.{RegisterHead}
+use Rattle.ddt_map_register.specs.Authentic.{is_known, code_of}
+use Rattle.ddt_map_register.specs.MapRegister.{Message}
+use Rattle.ddt_map_register.specs.RegisterRecord.{RegisterRecord}
+use Rattle.ddt_registrar.specs.declared.key.Replay.{Replay}
+use Rattle.ddt_registrar.specs.declared.key.Replay.TheVariants.{Increasing, Any}
+use Rattle.ddt_registrar.specs.declared.sender.Sender.{Sender}
+use Rattle.ddt_registrar.specs.declared.registration.LastNonce.{LastNonce}
+use Rattle.ddt_registrar.specs.declared.refusal.Refusal.{Refusal}
+use Rattle.ddt_registrar.specs.declared.refusal.Refusal.TheVariants.{NoRecord, NoSite, NoKey, WrongCode, Replayed, TooMany}
+use Rattle.ddt_registrar.specs.Registration.{etrs_in, is_of_same_xtr}
+use Rattle.ddt_registrar.specs.Sender.{is_same_sender}
+use Rattle.ddt_registrar.specs.State.{Key, Registration, Site}
+
+-- how many xTRs register for a site at most
+abbrev pub most_xtrs : ℕ
+most_xtrs = 8
+
+-- how many last nonces are known of a site at most
+abbrev pub most_nonces : ℕ
+most_nonces = 32
+
+-- the first key of the message's Key ID and Algorithm ID
+abbrev pub key_of : RegisterHead → List Key → Option Key
+key_of head = find (λ k. k.id == head.key_id && k.algorithm == head.algorithm)
+
+-- the message bears its code under the secret
+abbrev pub bears_code : List ℕ → Message → Bool
+bears_code secret m =
+    is_known m.head.algorithm m.head.code_len
+    && is_same_path (code_of m.head.algorithm m.head.code_len secret m.covered) m.code
+
+-- the nonce of a message, as it is remembered
+abbrev pub nonce_of : Message → LastNonce
+nonce_of m = record { key_id = m.head.key_id; xtr = m.id; nonce = m.head.nonce }
+
+-- it is above the last one of the same xTR under the same key
+abbrev pub is_above : LastNonce → LastNonce → Bool
+is_above new old = not (is_of_same_xtr old new) || nat_lt old.nonce new.nonce
+
+-- nonces have to increase under a key that says so
+abbrev pub is_fresh : Replay → LastNonce → List LastNonce → Bool
+is_fresh Increasing new nonces = list_all (is_above new) nonces
+is_fresh Any new nonces = true
+
+-- one of the items is the same, or there is room for one more
+abbrev pub has_place : {A : Type 0} → (A → Bool) → ℕ → List A → Bool
+has_place same most items = list_any same items || nat_lt (length items) most
+
+-- the record has eight ETRs at most, and its xTR is known or there is room for it
+abbrev pub has_room : Message → RegisterRecord → Sender → Site → Bool
+has_room m r x s =
+    nat_le (length (etrs_in r)) most_locators
+    && has_place (λ g. is_same_sender g.sender x) most_xtrs s.live
+    && has_place (λ n. is_of_same_xtr n (nonce_of m)) most_nonces s.nonces
+
+-- the key under which a record of a site may be registered, or why it may not
+abbrev pub judged_under : Message → RegisterRecord → Sender → Site → Option Key → Result Key Refusal
+judged_under m r x s None = Err NoKey
+judged_under m r x s (Some k) =
+    if not (bears_code k.secret m) then Err WrongCode
+    else if not (is_fresh k.replay (nonce_of m) s.nonces) then Err Replayed
+    else if not (has_room m r x s) then Err TooMany
+    else Ok k
+
+-- the site of a record
+abbrev pub site_of : RegisterRecord → List Site → Option Site
+site_of r = find (λ s. is_same_path s.prefix r.prefix)
+
+-- the same of a site that is to be found
+abbrev pub judged_at : Message → RegisterRecord → Sender → Option Site → Result Key Refusal
+judged_at m r x None = Err NoSite
+judged_at m r x (Some s) = judged_under m r x s (key_of m.head s.keys)
+
+-- the key of the first record, where each of these may be registered; or the first refusal
+abbrev pub judged_from : Message → Sender → List Site → List RegisterRecord → Option Key → Result Key Refusal
+judged_from m x sites [] None = Err NoRecord
+judged_from m x sites [] (Some first) = Ok first
+judged_from m x sites (r ∷ others) first =
+    judged_at m r x (site_of r sites) >>= λ key. judged_from m x sites others (Some (unwrap_or first key))
+
+-- The key under which a message is taken, that of its first record, or why it isn't: each of its records has to be one
+-- that may be registered.
+abbrev pub judged : Message → Sender → List Site → Result Key Refusal
+judged m x sites = judged_from m x sites m.records None

@@ -1,0 +1,7 @@
+pub mod Sender
+pub mod State
+pub mod Lists
+pub mod Registration
+pub mod Judging
+pub mod Taking
+pub mod laws

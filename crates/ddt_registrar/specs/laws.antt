@@ -1,0 +1,2 @@
+-- What follows from the definitions, for this crate and for those above.
+pub mod InForce

@@ -1,0 +1,101 @@
+//! What a Map-Register that has arrived changes of a site.
+
+ghost use Rattle.std.specs.Prelude.{◌≡◌, ◌==◌, if◌then◌else◌, not, filter, filter_map, IfOk, OnOk, OnErr};
+ghost use Rattle.ddt_registrar.specs.Registration.{etr_of as etr_of_locator, etrs_in, lifetime as lifetime_of};
+ghost use Rattle.ddt_registrar.specs.Sender.{is_same_sender};
+ghost use Rattle.ddt_registrar.specs.Taking.{end_of, site_after};
+
+use crate::judging::{etr_of, nonce_of};
+use crate::keyed_site::KeyedSite;
+use crate::lists::put;
+use crate::registration::Registration;
+use crate::sender::Sender;
+use ddt_foreign::Ranked;
+use ddt_map_register::{MapRegister, RegisterRecord};
+use std::alloc::{AllocError, Global};
+
+/// A minute, in milliseconds.
+const MINUTE: u64 = 60_000;
+/// How many minutes a registration lasts at most.
+const MOST_MINUTES: u32 = 1_440;
+/// How many minutes it lasts where the bit T is clear.
+const MINUTES: u64 = 3;
+
+/// A Map-Register that has arrived.
+#[derive(Clone, Copy, Debug)]
+pub struct Arrival<'m, 'd> {
+    pub message: &'m MapRegister<'d>,
+    pub sender: Sender,
+    /// The moment, in milliseconds.
+    pub moment: u64,
+}
+
+/// The ETRs of a record, in its order. Fails only if out of memory.
+fn etrs_of(alloc: Global, record: &RegisterRecord<'_>) -> Result<Vec<Ranked>, AllocError>
+    ensures { IfOk result (λ etrs. etrs.items ≡ etrs_in record.now) }
+{
+    let mut etrs = Vec::new(alloc);
+    let mut rest = record.locators();
+    while let Some(locator) = rest.next() {
+        if let Some(etr) = etr_of(&locator) {
+            etrs.push(etr)?;
+        }
+    }
+    Ok(etrs)
+}
+
+/// How long a record is registered, in milliseconds.
+fn lifetime(message: &MapRegister<'_>, record: &RegisterRecord<'_>) -> u64
+    ensures { result ≡ lifetime_of message.now record.now }
+{
+    if message.head().use_ttl {
+        record.ttl().min(MOST_MINUTES) as u64 * MINUTE
+    } else {
+        MINUTES * MINUTE
+    }
+}
+
+/// Takes away what an xTR has registered.
+fn withdraw(live: &mut Vec<Registration>, sender: Sender)
+    ensures { live.new.items ≡ filter (λ g. not (is_same_sender g.sender sender)) live.old.items }
+{
+    live.retain(|old| !old.sender.is_same(&sender));
+}
+
+impl<'m, 'd> Arrival<'m, 'd> {
+    /// The moment from which a record isn't registered any more.
+    fn deadline(&self, record: &RegisterRecord<'_>) -> u64
+        ensures { result ≡ end_of self.now.moment self.now.message.now record.now }
+    {
+        self.moment.saturating_add(lifetime(self.message, record))
+    }
+
+    /// Changes a site by a record: a TTL of 0 withdraws what its xTR has registered, any other registers its ETRs.
+    /// Where memory is refused, nothing changes.
+    pub fn change(
+        &self,
+        alloc: Global,
+        site: &mut KeyedSite,
+        record: &RegisterRecord<'_>,
+    ) -> Result<(), AllocError>
+        ensures changed { OnOk result (site.new
+            ≡ site_after self.now.moment self.now.message.now self.now.sender record.now site.old) }
+        ensures unchanged { OnErr result (site.new ≡ site.old) }
+    {
+        let registration = Registration {
+            sender: self.sender,
+            etrs: etrs_of(alloc, record)?,
+            deadline: self.deadline(record),
+        };
+        site.live.reserve(1)?;
+        site.nonces.reserve(1)?;
+        if record.ttl() == 0 {
+            withdraw(&mut site.live, self.sender);
+        } else {
+            put(&mut site.live, registration)?;
+        }
+        put(&mut site.nonces, nonce_of(self.message))?;
+        site.has_registered = true;
+        Ok(())
+    }
+}

@@ -1,0 +1,101 @@
+//! The ETRs of several registrations, by their priorities.
+
+ghost use Rattle.std.specs.Prelude.{◌≡◌, ◌≤◌, [], length, map, IfOk};
+ghost use Rattle.std.specs.List.{list_any};
+ghost use Rattle.ddt_path.specs.Locators.{is_same_locator, most_locators};
+ghost use Rattle.ddt_foreign.specs.declared.order.Ranked.{Ranked as ARanked};
+ghost use Rattle.ddt_registrar.specs.Registration.{joined, all_joined, ranked_in, registered_etrs};
+
+use crate::registration::Registration;
+use ddt_foreign::{Ranked, put_ranked};
+use ddt_path::{Locator, LocatorSet, MOST_LOCATORS};
+use std::alloc::{AllocError, Global};
+use std::marker::Model;
+
+/// ETRs by priority, each once, eight at most, with room for one more. Contracts see the list.
+#[derive(Drop)]
+pub struct Ranking {
+    ranked: Vec<Ranked>,
+}
+
+impl Model for Ranking {
+    ghost use Rattle.std.specs.Prelude.{List, length, ◌≤◌, ◌<◌};
+    ghost use Rattle.std.specs.Vec.{vec_capacity};
+    ghost use Rattle.ddt_path.specs.Locators.{most_locators};
+    ghost use Rattle.ddt_foreign.specs.declared.order.Ranked.{Ranked as ARanked};
+
+    ghost Value = { List ARanked };
+
+    ghost view = { λ r. r.ranked.items };
+
+    ghost invariant = { λ r. (length r.ranked.items ≤ most_locators) × (most_locators < vec_capacity r.ranked) };
+}
+
+impl Ranking {
+    /// Room for ETRs. Fails only if out of memory.
+    pub fn new(alloc: Global) -> Result<Ranking, AllocError>
+        ensures { IfOk result (λ ranking. ranking ≡ []) }
+    {
+        let ranked = Vec::with_capacity(alloc, MOST_LOCATORS + 1)?;
+        Ok(Ranking { ranked })
+    }
+
+    /// Whether an address is listed.
+    fn lists(&self, address: Locator) -> bool
+        ensures { result ≡ list_any (λ r. is_same_locator r.address address) self.now }
+    {
+        self.ranked.iter().any(|one| one.address == address)
+    }
+
+    /// One more ETR, by its priority, unless it is listed. It allocates nothing.
+    fn join(&mut self, one: Ranked)
+        ensures { self.new ≡ joined one self.old }
+    {
+        if !self.lists(one.address) {
+            match put_ranked(&mut self.ranked, one) {
+                Ok(()) => {}
+                Err(_refused) => unreachable!(),
+            }
+        }
+    }
+
+    /// Those of a registration more. It allocates nothing.
+    fn join_all(&mut self, etrs: &[Ranked])
+        ensures { self.new ≡ all_joined etrs.now self.old }
+    {
+        for one in etrs {
+            self.join(*one);
+        }
+    }
+
+    /// Those of all registrations. It allocates nothing.
+    fn fill(&mut self, live: &[Registration])
+        requires { self.old ≡ [] }
+        ensures { self.new ≡ ranked_in live.now [] }
+    {
+        for registration in live {
+            self.join_all(registration.etrs.as_slice());
+        }
+    }
+
+    /// Their addresses.
+    fn addresses(&self) -> LocatorSet
+        ensures { result ≡ map (λ r. r.address) self.now }
+    {
+        let mut addresses = [Locator::V4(0); MOST_LOCATORS];
+        for at in 0..self.ranked.len() {
+            addresses[at] = self.ranked[at].address;
+        }
+        LocatorSet::of_few(&addresses[..self.ranked.len()])
+    }
+
+    /// The ETRs that are registered: by priority, first come first in each, each once; eight at most. It allocates
+    /// nothing.
+    pub fn etrs(&mut self, live: &[Registration]) -> LocatorSet
+        ensures { result ≡ registered_etrs live.now }
+    {
+        self.ranked.clear();
+        self.fill(live);
+        self.addresses()
+    }
+}

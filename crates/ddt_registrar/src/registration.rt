@@ -1,0 +1,54 @@
+//! What an xTR has registered for a site, and the last nonce that it used.
+
+use crate::lists::Keyed;
+use crate::sender::{Sender, is_same_id};
+use ddt_foreign::Ranked;
+use ddt_map_register::XtrId;
+use std::marker::Model;
+
+/// The ETRs that an xTR has registered for a site.
+#[derive(Debug, Drop)]
+pub struct Registration {
+    pub sender: Sender,
+    /// Its ETRs with their priorities, as the message lists them; at most eight.
+    pub etrs: Vec<Ranked>,
+    /// The moment, in milliseconds, from which it is over.
+    pub deadline: u64,
+}
+
+impl Model for Registration {
+    ghost use Rattle.ddt_registrar.specs.State.{Registration as ARegistration};
+
+    ghost Value = { ARegistration };
+
+    ghost view = { λ r. record { sender = r.sender; etrs = r.etrs.items; deadline = r.deadline } };
+}
+
+impl Keyed for Registration {
+    ghost same = { is_same_registrant };
+
+    ghost use Rattle.ddt_registrar.specs.Registration.{is_same_registrant};
+
+    fn is_same(&self, other: &Self) -> bool {
+        self.sender.is_same(&other.sender)
+    }
+}
+
+/// The nonce of the last message that was taken from an xTR under a key. It outlives the registration.
+#[derive(Clone, Copy, Debug)]
+pub struct LastNonce {
+    pub key_id: u8,
+    /// The xTR-ID and Site-ID, if the message had them.
+    pub xtr: Option<XtrId>,
+    pub nonce: u64,
+}
+
+impl Keyed for LastNonce {
+    ghost same = { is_of_same_xtr };
+
+    ghost use Rattle.ddt_registrar.specs.Registration.{is_of_same_xtr};
+
+    fn is_same(&self, other: &Self) -> bool {
+        self.key_id == other.key_id && is_same_id(self.xtr, other.xtr)
+    }
+}

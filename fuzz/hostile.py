@@ -39,7 +39,7 @@ def sockets_of(pid: int) -> list[tuple[str, int]]:
 
 
 def messages(lot: random.Random) -> list[bytes]:
-    request = packets.encapsulated(lot.getrandbits(64), "10.1.2.3", lot.choice([0, 7]), ALLOWED, 4342)
+    request = packets.encapsulated(lot.getrandbits(64), "10.1.2.3", lot.choice([0, 7]), [ALLOWED], 4342)
     return [request, bytes([request[0] | 4]) + request[1:], REFERRAL, REPLY]
 
 

@@ -1,0 +1,5 @@
+mod CompileLemmas
+mod AcceptLemmas
+mod ForceLemmas
+mod JudgedLemmas
+mod StepLemmas

@@ -1,0 +1,14 @@
+//! What registrations leave of the theorem on registers: whatever is registered, a Map-Server answers by a
+//! configuration of an accepted register, in which only the ETRs of keyed sites differ. And what a Map-Register and the
+//! clock change of what is registered.
+//!
+//! In reading order: `laws`, `ranges`, `steps`.
+#![tactic(auto)]
+
+mod laws;
+mod ranges;
+mod steps;
+
+pub use laws::{etrs_are_compiled, other_etrs_are_accepted, some_register_is_in_force};
+pub use ranges::keyed_sites_are_in_range;
+pub use steps::{messages_are_guarded, messages_leave_the_rest, the_clock_ends_registrations};

@@ -34,5 +34,6 @@ pub use laws::{a_map_resolver_runs, an_itr_request_goes_on_as_it_came};
 pub use map_resolver::MapResolver;
 pub use onward::{send_on, with_d};
 pub use server_record::ServerRecord;
-pub use server_round::{Door, serve_ready};
+pub use server_round::{Door, serve_packet, serve_ready};
+pub use service::{Done, Service};
 pub use statistics::{DaemonStatistics, ResolverStatistics, ServerStatistics, Times};

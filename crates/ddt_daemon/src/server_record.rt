@@ -25,7 +25,7 @@ impl ServerRecord {
     }
 
     /// A datagram came from an address, and this was done with it.
-    pub(crate) fn serve_one(&mut self, from: Locator, done: Done) {
+    pub fn serve_one(&mut self, from: Locator, done: Done) {
         self.counts.serve_one(done);
         if done.service == Service::UnrecognizedAfi {
             self.unrecognized.keep(Unrecognized::Request(from));

@@ -87,8 +87,9 @@ fn serve_turn<W: Wires, M: PrefixMap<u32>>(
     }
 }
 
-/// Tries what the server sends for a packet of these bytes, or nothing if out of memory.
-fn serve_packet<W: Wires, M: PrefixMap<u32>>(
+/// Tries what the server sends for a packet of these bytes that came to the door, or nothing if out of memory; what was
+/// done with it.
+pub fn serve_packet<W: Wires, M: PrefixMap<u32>>(
     wires: &mut W,
     server: &Server<M>,
     door: &Door<'_>,

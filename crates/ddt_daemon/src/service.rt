@@ -11,7 +11,7 @@ use ddt_settings::ServerSettings;
 
 /// Whom a datagram asks for, or why it is dropped.
 #[derive(Clone, Copy, Debug, PartialEq, Eq)]
-pub(crate) enum Service {
+pub enum Service {
     /// Dropped: it is no request.
     NoRequest,
     /// Dropped: it has an AFI that RFC 9301, section 5, calls unrecognized.
@@ -28,10 +28,10 @@ pub(crate) enum Service {
 
 /// What was done with a datagram.
 #[derive(Clone, Copy, Debug, PartialEq, Eq)]
-pub(crate) struct Done {
-    pub(crate) service: Service,
+pub struct Done {
+    pub service: Service,
     /// Whether a reply was sent without a fault.
-    pub(crate) replied: bool,
+    pub replied: bool,
 }
 
 impl Done {

@@ -1,0 +1,65 @@
+//! What a Map-Server counts of Map-Registers. A count that is full stays so.
+
+ghost use Rattle.std.specs.Prelude.{◌≡◌};
+ghost use Rattle.ddt_map_server.specs.Counted.{plus_one, with_registered, with_refused};
+
+use crate::outcome::Registered;
+use ddt_registrar::Refusal;
+
+/// How many Map-Registers were taken, and how many were dropped for which reason.
+#[derive(Clone, Copy, Debug, Default, PartialEq, Eq)]
+pub struct RegisterCounts {
+    /// Those that were taken, and the Map-Notifies that were sent for them.
+    pub taken: u64,
+    pub notified: u64,
+    /// Those that were dropped, by why.
+    pub too_long: u64,
+    pub malformed: u64,
+    pub no_record: u64,
+    pub no_site: u64,
+    pub no_key: u64,
+    pub wrong_code: u64,
+    pub replayed: u64,
+    pub too_many: u64,
+    pub memory: u64,
+}
+
+/// One more.
+fn one_more(count: u64) -> u64
+    ensures { result ≡ plus_one count }
+{
+    count.saturating_add(1)
+}
+
+impl RegisterCounts {
+    /// Counts a Map-Register by what was done with it.
+    pub fn count(&mut self, registered: Registered)
+        ensures { self.new ≡ with_registered self.old registered }
+    {
+        match registered {
+            Registered::TooLong => self.too_long = one_more(self.too_long),
+            Registered::Malformed(_fault) => self.malformed = one_more(self.malformed),
+            Registered::Refused(refusal) => self.refuse(refusal),
+            Registered::Taken { notified } => {
+                self.taken = one_more(self.taken);
+                if notified {
+                    self.notified = one_more(self.notified);
+                }
+            }
+        }
+    }
+
+    fn refuse(&mut self, refusal: Refusal)
+        ensures { self.new ≡ with_refused self.old refusal }
+    {
+        match refusal {
+            Refusal::NoRecord => self.no_record = one_more(self.no_record),
+            Refusal::NoSite => self.no_site = one_more(self.no_site),
+            Refusal::NoKey => self.no_key = one_more(self.no_key),
+            Refusal::WrongCode => self.wrong_code = one_more(self.wrong_code),
+            Refusal::Replayed => self.replayed = one_more(self.replayed),
+            Refusal::TooMany => self.too_many = one_more(self.too_many),
+            Refusal::Memory => self.memory = one_more(self.memory),
+        }
+    }
+}

@@ -38,5 +38,6 @@ pub data Registers (now : ℕ) (at : Locator) (p : Packet) (bytes : List ℕ) (o
   refused : length bytes ≤ most_bytes → (m : Message) → message_in bytes ≡ Ok m → (refusal : Refusal)
       → IsRefused now m (sender_of m.id p.from) old new refusal → Registers now at p bytes old new [] (Refused refusal)
   taken : length bytes ≤ most_bytes → (m : Message) → message_in bytes ≡ Ok m → (notify : Option (List ℕ))
-      → IsTaken now m (sender_of m.id p.from) old new notify → (tries : List Call) → AreTried at (notify_to_sender p notify) tries
+      → IsTaken now m (sender_of m.id p.from) old new notify
+      → (tries : List Call) → AreTried at (notify_to_sender p notify) tries
       → Registers now at p bytes old new tries (Taken (first_went_out tries))

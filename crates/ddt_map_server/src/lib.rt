@@ -1,5 +1,5 @@
-//! What a Map-Server does with a Map-Register that has come: it is taken or dropped, counted, and acknowledged (RFC 9301,
-//! sections 5.6, 5.7 and 8.2).
+//! What a Map-Server does with a Map-Register that has come: it is taken or dropped, counted, and acknowledged (RFC
+//! 9301, sections 5.6, 5.7 and 8.2).
 //!
 //! In reading order: `outcome`, `register_counts`, `registering`.
 //! Tests: ddt_registration_tests/registering.

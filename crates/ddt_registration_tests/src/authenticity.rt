@@ -1,9 +1,7 @@
 //! Which Map-Registers are authentic, and that none is that was changed.
 
 use crate::comparison::{holds, same};
-use crate::vectors::*;
-use crate::worked::{REGISTERS, SECRET, many_records, message, read};
-use ddt_examples::foreign::XTR_REGISTER;
+use crate::worked::{FOREIGN, REGISTERS, SECRET, many_records, message, read};
 use ddt_examples::{Dice, changed};
 use ddt_map_register::read_register;
 use std::alloc::Global;
@@ -24,13 +22,15 @@ fn is_authentic_under_its_secret(rt: &impl Abort, bytes: &[u8]) {
     }
 }
 
-// By HMAC-SHA-256, and by HMAC-SHA-1 with 12 and with 20 bytes; the last by another implementation.
+// By HMAC-SHA-256, and by HMAC-SHA-1 with 12 and with 20 bytes; some by another implementation.
 #[test]
 fn a_register_is_authentic_under_its_secret(rt: HostRuntime) {
     for &fields in REGISTERS {
         is_authentic_under_its_secret(&rt, message(rt.alloc(), &rt, fields).as_slice());
     }
-    is_authentic_under_its_secret(&rt, message(rt.alloc(), &rt, XTR_REGISTER).as_slice());
+    for &fields in FOREIGN {
+        is_authentic_under_its_secret(&rt, message(rt.alloc(), &rt, fields).as_slice());
+    }
     is_authentic_under_its_secret(&rt, many_records(rt.alloc(), &rt).as_slice());
 }
 
@@ -49,7 +49,9 @@ fn a_register_with_a_changed_bit_is_never_authentic(rt: HostRuntime) {
     for &fields in REGISTERS {
         changes_are_seen(rt.alloc(), &rt, fields);
     }
-    changes_are_seen(rt.alloc(), &rt, XTR_REGISTER);
+    for &fields in FOREIGN {
+        changes_are_seen(rt.alloc(), &rt, fields);
+    }
 }
 
 /// Algorithm ID, length of the authentication data, and whether that is known.

@@ -1,6 +1,8 @@
 //! The tests of registrations: `codes` of hmac; of ddt_map_register what is read (`reading`), what is authentic
-//! (`authenticity`), Map-Notifies (`notifies`), and memory that is refused (`refused`). `vectors` are Map-Registers and
-//! their Map-Notifies, `worked` is what the others take, and `comparison` what they assert by.
+//! (`authenticity`), Map-Notifies (`notifies`), and memory that is refused (`refused`); of ddt_registrar `registrar`; and
+//! of ddt_map_server `registering`.
+//! `vectors` are Map-Registers and their Map-Notifies, `worked` is what the others take, and `comparison` what they
+//! assert by.
 #![tactic(auto)]
 
 #[cfg(test)]
@@ -15,6 +17,10 @@ mod notifies;
 mod reading;
 #[cfg(test)]
 mod refused;
+#[cfg(test)]
+mod registering;
+#[cfg(test)]
+mod registrar;
 #[cfg(test)]
 mod vectors;
 #[cfg(test)]

@@ -3,7 +3,11 @@
 use crate::comparison::{holds, same};
 use crate::vectors::*;
 use crate::worked::{SECRET, many_records, message, read, with_many_records};
-use ddt_examples::foreign::{MAP_SERVER_NOTIFIES, XTR_REGISTER};
+use ddt_examples::foreign::{MAP_SERVER_NOTIFIES, XTR_NOTIFIED_REGISTER, XTR_NOTIFY, XTR_REGISTER};
+use ddt_examples::map_registers::{
+    INSTANCE_NOTIFY, INSTANCE_REGISTER, IPV4_NOTIFY, IPV4_REGISTER, TWO_RECORDS_NOTIFY,
+    TWO_RECORDS_REGISTER, WITHDRAWAL, WITHDRAWAL_NOTIFY,
+};
 use ddt_map_register::write_notify;
 use std::alloc::Global;
 use std::process::Abort;
@@ -25,6 +29,9 @@ const NOTIFIES: &[(&str, &str)] = &[
     (TWO_RECORDS_REGISTER, TWO_RECORDS_NOTIFY),
     (CUT_CODE_REGISTER, CUT_CODE_NOTIFY),
     (NO_RECORD_REGISTER, NO_RECORD_NOTIFY),
+    (INSTANCE_REGISTER, INSTANCE_NOTIFY),
+    (WITHDRAWAL, WITHDRAWAL_NOTIFY),
+    (XTR_NOTIFIED_REGISTER, XTR_NOTIFY),
 ];
 
 #[test]

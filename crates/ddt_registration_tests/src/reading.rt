@@ -1,8 +1,9 @@
 //! What Map-Registers say, and each fault once.
 
 use crate::comparison::{holds, same};
-use crate::vectors::*;
+use crate::vectors::{CUT_CODE_REGISTER, NO_RECORD_REGISTER};
 use crate::worked::{REGISTERS, many_records, message, read};
+use ddt_examples::map_registers::{IPV4_REGISTER, TWO_RECORDS_REGISTER};
 use ddt_examples::{changed, front};
 use ddt_map_register::{
     MapRegisterFault, RegisterHead, RegisterRecord, RegisteredLocator, XtrId, read_register,

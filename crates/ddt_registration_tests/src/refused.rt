@@ -3,9 +3,11 @@
 //! `.ci/memory` runs each of these tests with each growth refused in turn.
 
 use crate::comparison::same;
-use crate::vectors::{IPV4_NOTIFY, IPV4_REGISTER, TWO_RECORDS_NOTIFY, TWO_RECORDS_REGISTER};
 use crate::worked::SECRET;
 use ddt_examples::bytes_of;
+use ddt_examples::map_registers::{
+    IPV4_NOTIFY, IPV4_REGISTER, TWO_RECORDS_NOTIFY, TWO_RECORDS_REGISTER,
+};
 use ddt_map_register::{MapRegister, read_register};
 use std::alloc::{AllocError, Global};
 use std::process::Abort;

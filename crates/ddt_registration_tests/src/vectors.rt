@@ -1,21 +1,5 @@
-//! Map-Registers and the Map-Notifies that acknowledge them, in hexadecimal, field by field, by an encoder in Python
-//! that shares nothing with the crates. The secret is `password`.
-
-/// Of one record, with xTR-ID and Site-ID, by HMAC-SHA-256.
-pub const IPV4_REGISTER: &str =
-    "32000101 0000000000000001 01 02 0010 9108597155110e08cc2a990509900e34 000005a0 01 18 1000 0000 0001 0a010200 01 64 ff 00 0005 0001 7f000201 0102030405060708090a0b0c0d0e0f10 0000000000000007";
-
-/// What acknowledges it: xTR-ID and Site-ID are left out.
-pub const IPV4_NOTIFY: &str =
-    "40000001 0000000000000001 01 02 0010 7a78dc84d1734dab2224609246c2d468 000005a0 01 18 1000 0000 0001 0a010200 01 64 ff 00 0005 0001 7f000201";
-
-/// Of two records, the first with an LCAF and an address, the second without a locator, by HMAC-SHA-1 with 20 bytes.
-pub const TWO_RECORDS_REGISTER: &str =
-    "30000002 dddaff6b47f158d8 07 01 0014 1d849f0cab164932318511d56a2e0800ea4b0202 000005a0 02 18 1000 0000 0001 0a010200 01 64 ff 00 0005 4003 0000 0b 00 0006 aabbccddeeff 02 32 ff 00 0001 0001 7f000202 0000003c 00 40 3000 0000 0002 20010db8000000000000000000000000";
-
-/// What acknowledges it.
-pub const TWO_RECORDS_NOTIFY: &str =
-    "40000002 dddaff6b47f158d8 07 01 0014 17b9e1ee820646466b5edc5f83344dce2ad7c702 000005a0 02 18 1000 0000 0001 0a010200 01 64 ff 00 0005 4003 0000 0b 00 0006 aabbccddeeff 02 32 ff 00 0001 0001 7f000202 0000003c 00 40 3000 0000 0002 20010db8000000000000000000000000";
+//! Map-Registers and the Map-Notifies that acknowledge them, beside those of ddt_examples: in hexadecimal, field by
+//! field, by an encoder in Python that shares nothing with the crates. The secret is `password`.
 
 /// Of one record, by HMAC-SHA-1 with 12 bytes.
 pub const CUT_CODE_REGISTER: &str =

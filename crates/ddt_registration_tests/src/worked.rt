@@ -1,10 +1,14 @@
 //! The secret, worked messages as bytes, and Map-Registers that are read.
 
-use crate::vectors::{
-    CUT_CODE_REGISTER, IPV4_REGISTER, MANY_RECORDS_REGISTER, NO_RECORD_REGISTER,
-    TWO_RECORDS_REGISTER,
-};
+use crate::vectors::{CUT_CODE_REGISTER, MANY_RECORDS_REGISTER, NO_RECORD_REGISTER};
 use ddt_examples::bytes_of;
+use ddt_examples::foreign::{
+    XTR_INSTANCE_REGISTER, XTR_IPV6_REGISTER, XTR_NOTIFIED_REGISTER, XTR_REGISTER,
+    XTR_TWO_LOCATORS_REGISTER,
+};
+use ddt_examples::map_registers::{
+    INSTANCE_REGISTER, IPV4_REGISTER, TWO_RECORDS_REGISTER, WITHDRAWAL,
+};
 use ddt_map_register::{MapRegister, read_register};
 use std::alloc::Global;
 use std::process::Abort;
@@ -16,6 +20,17 @@ pub const REGISTERS: &[&str] = &[
     TWO_RECORDS_REGISTER,
     CUT_CODE_REGISTER,
     NO_RECORD_REGISTER,
+    INSTANCE_REGISTER,
+    WITHDRAWAL,
+];
+
+/// Those of another implementation.
+pub const FOREIGN: &[&str] = &[
+    XTR_REGISTER,
+    XTR_NOTIFIED_REGISTER,
+    XTR_IPV6_REGISTER,
+    XTR_INSTANCE_REGISTER,
+    XTR_TWO_LOCATORS_REGISTER,
 ];
 
 /// The bytes of a worked message.

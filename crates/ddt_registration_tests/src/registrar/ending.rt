@@ -1,0 +1,94 @@
+//! Until when a site is registered (RFC 9301, section 5.6), and the ETRs of its configuration before and after.
+
+use crate::registrar::map_server::{CONFIGURED, EAST, MapServer};
+use crate::registrar::taking::{OTHER_SOURCE, SOURCE, is_taken, of_east};
+use crate::registrar::writing::{Said, SaidRecord};
+use std::alloc::Global;
+use std::process::Abort;
+
+/// Whether T is set, the TTL in minutes, and for how many milliseconds the site is registered.
+const LASTING: &[(bool, u32, u64)] = &[
+    (false, 1440, 180_000),
+    (false, 1, 180_000),
+    (false, u32::MAX, 180_000),
+    (true, 1, 60_000),
+    (true, 5, 300_000),
+    (true, 1440, 86_400_000),
+    (true, 1441, 86_400_000),
+    (true, u32::MAX, 86_400_000),
+];
+
+fn lasts(alloc: Global, rt: &impl Abort, case: (bool, u32, u64)) {
+    let (use_ttl, ttl, millis) = case;
+    let mut at = MapServer::new(alloc, rt, false);
+    at.wait(alloc, rt, 1_000_000);
+    let records = [SaidRecord {
+        ttl,
+        ..of_east(&[(1, 1, SOURCE)])
+    }];
+    let said = Said {
+        use_ttl,
+        ..Said::of(1, &records)
+    };
+    is_taken(alloc, rt, &mut at, said, SOURCE);
+    at.wait(alloc, rt, millis - 1);
+    at.has_etrs(rt, EAST, &[SOURCE]);
+    at.wait(alloc, rt, 1);
+    at.has_etrs(rt, EAST, &[]);
+}
+
+#[test]
+fn a_registration_lasts_for_three_minutes_or_for_its_ttl(rt: HostRuntime) {
+    for &case in LASTING {
+        lasts(rt.alloc(), &rt, case);
+    }
+}
+
+// A refresh makes it last for three minutes more, and those of two xTRs end each at their own time.
+#[test]
+fn each_registration_ends_at_its_own_time(rt: HostRuntime) {
+    let alloc = rt.alloc();
+    let mut at = MapServer::new(alloc, &rt, false);
+    let first = [of_east(&[(1, 1, SOURCE)])];
+    let second = [of_east(&[(2, 1, OTHER_SOURCE)])];
+    is_taken(alloc, &rt, &mut at, Said::of(1, &first), SOURCE);
+    at.wait(alloc, &rt, 60_000);
+    is_taken(alloc, &rt, &mut at, Said::of(2, &second), OTHER_SOURCE);
+    at.wait(alloc, &rt, 60_000);
+    is_taken(alloc, &rt, &mut at, Said::of(3, &first), SOURCE);
+    at.wait(alloc, &rt, 60_000);
+    at.has_etrs(&rt, EAST, &[SOURCE, OTHER_SOURCE]);
+    at.wait(alloc, &rt, 60_000);
+    at.has_etrs(&rt, EAST, &[SOURCE]);
+    at.wait(alloc, &rt, 60_000);
+    at.has_etrs(&rt, EAST, &[]);
+}
+
+/// What the site has after its registration is over or is withdrawn.
+fn ends(alloc: Global, rt: &impl Abort, falls_back: bool, withdrawn: bool) {
+    let mut at = MapServer::new(alloc, rt, falls_back);
+    at.has_etrs(rt, EAST, &[CONFIGURED]);
+    let records = [of_east(&[(1, 1, SOURCE)])];
+    is_taken(alloc, rt, &mut at, Said::of(1, &records), SOURCE);
+    at.has_etrs(rt, EAST, &[SOURCE]);
+    if withdrawn {
+        let gone = [SaidRecord {
+            ttl: 0,
+            ..of_east(&[])
+        }];
+        is_taken(alloc, rt, &mut at, Said::of(2, &gone), SOURCE);
+    } else {
+        at.wait(alloc, rt, 180_000);
+    }
+    let wanted = [CONFIGURED];
+    let wanted = if falls_back { wanted.as_slice() } else { &[] };
+    at.has_etrs(rt, EAST, wanted);
+}
+
+#[test]
+fn configured_etrs_come_back_only_where_the_site_falls_back(rt: HostRuntime) {
+    for &falls_back in &[false, true] {
+        ends(rt.alloc(), &rt, falls_back, false);
+        ends(rt.alloc(), &rt, falls_back, true);
+    }
+}

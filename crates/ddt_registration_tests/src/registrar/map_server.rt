@@ -1,0 +1,228 @@
+//! A Map-Server with seven sites whose ETRs register, each under the secret `password`.
+
+use crate::comparison::same;
+use crate::worked::{SECRET, read};
+use ddt_config::{Content, SiteEntry, from_toml};
+use ddt_map_register::{SHA1_96, SHA256_128};
+use ddt_node::Server;
+use ddt_path::{Action, Listed, Locator, LocatorSet, Prefix, Prefixed};
+use ddt_registrar::{Arrival, Key, KeyedSite, NotAdded, Refusal, Registrar, Replay, Sender};
+use ddt_text::parse_prefix;
+use ddt_trie::HashedMap;
+use std::alloc::{AllocError, Global};
+use std::process::Abort;
+
+/// The configuration: only the first site has an ETR, 127.0.2.9.
+const CONFIGURATION: &str = r#"kind = "ms"
+locators = ["127.0.1.1", "127.0.1.2"]
+name = "east"
+
+[[authority]]
+prefix = "[0]10.1.0.0/16"
+
+[[authority.site]]
+etrs = ["127.0.2.9"]
+prefix = "[0]10.1.2.0/24"
+
+[[authority.site]]
+etrs = []
+prefix = "[0]10.1.9.0/24"
+
+[[authority.site]]
+etrs = []
+prefix = "[0]10.1.1.0/24"
+
+[[authority]]
+prefix = "[0]2001:db8::/32"
+
+[[authority.site]]
+etrs = []
+prefix = "[0]2001:db8::/64"
+
+[[authority.site]]
+etrs = []
+prefix = "[0]2001:db8:a:1::/64"
+
+[[authority]]
+prefix = "[7]2001:db8::/32"
+
+[[authority.site]]
+etrs = []
+prefix = "[7]2001:db8:a::/48"
+
+[[authority]]
+prefix = "[7]10.1.0.0/16"
+
+[[authority.site]]
+etrs = []
+prefix = "[7]10.1.1.0/24"
+"#;
+
+/// The ETR that the configuration names.
+pub const CONFIGURED: Locator = Locator::V4(0x7f00_0209);
+
+/// The site of the worked Map-Registers, and one of another implementation's.
+pub const EAST: &str = "[0]10.1.2.0/24";
+
+pub const LAB: &str = "[0]10.1.9.0/24";
+
+/// The Key ID and the Algorithm ID of a key, and how its nonces are.
+type KeyRow = (u8, u8, Replay);
+
+/// Keys of nonces that increase, and the one of an implementation whose nonces are random.
+const EAST_KEYS: &[KeyRow] = &[
+    (1, SHA256_128, Replay::Increasing),
+    (7, SHA1_96, Replay::Increasing),
+    (8, SHA256_128, Replay::Any),
+];
+
+const OTHER_KEYS: &[KeyRow] = &[
+    (3, SHA1_96, Replay::Increasing),
+    (7, SHA1_96, Replay::Increasing),
+];
+
+const LAB_KEYS: &[KeyRow] = &[
+    (0, SHA1_96, Replay::Any),
+    (1, SHA256_128, Replay::Increasing),
+];
+
+/// Each site, the ETRs of its configuration, and its keys.
+const SITES: &[(&str, &[Locator], &[KeyRow])] = &[
+    (EAST, &[CONFIGURED], EAST_KEYS),
+    (LAB, &[], LAB_KEYS),
+    ("[0]10.1.1.0/24", &[], LAB_KEYS),
+    ("[0]2001:db8::/64", &[], OTHER_KEYS),
+    ("[0]2001:db8:a:1::/64", &[], LAB_KEYS),
+    ("[7]2001:db8:a::/48", &[], OTHER_KEYS),
+    ("[7]10.1.1.0/24", &[], LAB_KEYS),
+];
+
+/// The Map-Server, and the moment, in milliseconds.
+#[derive(Drop)]
+pub struct MapServer {
+    pub registrar: Registrar<HashedMap<u32>>,
+    pub server: Server<HashedMap<u32>>,
+    pub moment: u64,
+}
+
+fn key(alloc: Global, row: KeyRow) -> Result<Key, AllocError> {
+    let (id, algorithm, replay) = row;
+    let mut secret = Vec::new(alloc);
+    secret.extend_from_slice(SECRET)?;
+    Ok(Key {
+        id,
+        algorithm,
+        secret,
+        replay,
+    })
+}
+
+fn keys(alloc: Global, rows: &[KeyRow]) -> Result<Vec<Key>, AllocError> {
+    let mut keys = Vec::new(alloc);
+    for row in rows {
+        keys.push(key(alloc, *row)?)?;
+    }
+    Ok(keys)
+}
+
+pub fn prefix(rt: &impl Abort, text: &str) -> Prefix {
+    parse_prefix(text.as_bytes()).expect(rt, "no prefix")
+}
+
+/// A site for which nothing is registered yet.
+fn site(
+    alloc: Global,
+    rt: &impl Abort,
+    row: &(&str, &[Locator], &[KeyRow]),
+    falls_back: bool,
+) -> KeyedSite {
+    KeyedSite {
+        prefix: prefix(rt, row.0),
+        keys: keys(alloc, row.2).expect(rt, "out of memory"),
+        configured: LocatorSet::of(row.1).expect(rt, "too many locators"),
+        falls_back,
+        has_registered: false,
+        live: Vec::new(alloc),
+        nonces: Vec::new(alloc),
+    }
+}
+
+/// The ETRs of the site of a prefix, if it is one of these.
+fn etrs_among(sites: &[SiteEntry], prefix: Prefix) -> Option<LocatorSet> {
+    match sites.iter().find(|site| site.prefix == prefix) {
+        Some(site) => Some(site.etrs),
+        None => None,
+    }
+}
+
+impl MapServer {
+    /// The Map-Server at moment 0. Its sites fall back, or not.
+    pub fn new(alloc: Global, rt: &impl Abort, falls_back: bool) -> MapServer {
+        let config = from_toml(alloc, CONFIGURATION).expect(rt, "a configuration");
+        let server = Server::of_config(alloc, config).expect(rt, "a server");
+        let mut registrar = Registrar::new(alloc);
+        for row in SITES {
+            let added = registrar.add(site(alloc, rt, row, falls_back));
+            added.expect(rt, "a site");
+        }
+        MapServer {
+            registrar,
+            server,
+            moment: 0,
+        }
+    }
+
+    /// Adds its first site once more.
+    pub fn add_again(&mut self, alloc: Global, rt: &impl Abort) -> Result<(), NotAdded> {
+        self.registrar.add(site(alloc, rt, &SITES[0], true))
+    }
+
+    /// Takes a Map-Register that came from this address.
+    pub fn take(
+        &mut self,
+        alloc: Global,
+        rt: &impl Abort,
+        bytes: &[u8],
+        source: Locator,
+    ) -> Result<Option<Vec<u8>>, Refusal> {
+        let message = read(rt, bytes);
+        let arrival = Arrival {
+            message: &message,
+            sender: Sender::of(message.id(), source),
+            moment: self.moment,
+        };
+        self.registrar.take(alloc, &mut self.server, &arrival)
+    }
+
+    /// So many milliseconds pass, and what is over ends.
+    pub fn wait(&mut self, alloc: Global, rt: &impl Abort, millis: u64) {
+        self.moment = self.moment.saturating_add(millis);
+        let ended = self.registrar.end(alloc, &mut self.server, self.moment);
+        ended.expect(rt, "out of memory");
+    }
+
+    /// The ETRs by which the server answers for the site of a prefix.
+    pub fn etrs(&self, prefix: Prefix) -> LocatorSet {
+        let mut etrs = LocatorSet::none();
+        for authority in self.server.config().authorities.as_slice() {
+            if let Content::Sites(sites) = &authority.content {
+                etrs = etrs_among(sites.as_slice(), prefix).unwrap_or(etrs);
+            }
+        }
+        etrs
+    }
+
+    /// The server answers for a site by these ETRs: MS-ACK and the first of them, or MS-NOT-REGISTERED.
+    pub fn has_etrs(&self, rt: &impl Abort, text: &str, wanted: &[Locator]) {
+        let prefix = prefix(rt, text);
+        same(rt, &self.etrs(prefix).as_slice(), &wanted, &text);
+        let x = prefix.inner();
+        same(rt, &self.server.etr(x), &wanted.first().copied(), &text);
+        let action = if wanted.is_empty() {
+            Action::MsNotRegistered
+        } else {
+            Action::MsAck
+        };
+        same(rt, &self.server.answer(x).action, &action, &text);
+    }
+}

@@ -1,0 +1,263 @@
+//! Each refusal once: nothing changes, and there is no answer.
+
+use crate::comparison::{holds, same};
+use crate::registrar::map_server::{EAST, LAB, MapServer};
+use crate::registrar::taking::{EAST_BLOCK, LAB_BLOCK, OTHER_SOURCE, SOURCE, is_taken, of_east};
+use crate::registrar::writing::{Said, SaidLocator, SaidRecord, write};
+use crate::vectors::NO_RECORD_REGISTER;
+use crate::worked::message;
+use ddt_map_register::XtrId;
+use ddt_path::Locator;
+use ddt_registrar::{NotAdded, Refusal};
+use std::alloc::Global;
+use std::process::Abort;
+
+/// How many registrations and last nonces a site has.
+fn counts(at: &MapServer, site: usize) -> Option<(usize, usize, bool)> {
+    let site = at.registrar.sites().get(site)?;
+    Some((site.live.len(), site.nonces.len(), site.has_registered))
+}
+
+/// A Map-Register is refused, and nothing changes of the first two sites.
+fn is_refused(
+    alloc: Global,
+    rt: &impl Abort,
+    at: &mut MapServer,
+    said: Said<'_>,
+    refusal: Refusal,
+) {
+    let bytes = write(alloc, rt, &said);
+    let before = (counts(at, 0), counts(at, 1));
+    let refused = at.take(alloc, rt, bytes.as_slice(), SOURCE).err();
+    same(rt, &refused, &Some(refusal), &said);
+    same(rt, &(counts(at, 0), counts(at, 1)), &before, &said);
+}
+
+const FEW: &[SaidLocator] = &[(1, 1, SOURCE)];
+
+/// A record with one locator.
+fn of_block(block: (Locator, u8)) -> SaidRecord<'static> {
+    SaidRecord {
+        block,
+        ttl: 1440,
+        locators: FEW,
+    }
+}
+
+/// The prefixes of no site: inside one, and outside of it.
+const NO_SITES: &[(Locator, u8)] = &[
+    (Locator::V4(0x0a01_0200), 25),
+    (Locator::V4(0x0a01_0200), 23),
+    (Locator::V4(0x0a01_0300), 24),
+    (Locator::V6(0x2001_0db8_0000_0000_0000_0000_0000_0000), 65),
+];
+
+#[test]
+fn a_register_for_no_site_is_refused(rt: HostRuntime) {
+    let alloc = rt.alloc();
+    let mut at = MapServer::new(alloc, &rt, false);
+    for &block in NO_SITES {
+        let records = [of_block(block)];
+        let said = Said::of(1, &records);
+        is_refused(alloc, &rt, &mut at, said, Refusal::NoSite);
+    }
+    let bytes = message(alloc, &rt, NO_RECORD_REGISTER);
+    let refused = at.take(alloc, &rt, bytes.as_slice(), SOURCE).err();
+    same(&rt, &refused, &Some(Refusal::NoRecord), &"no record");
+}
+
+// A key of the neighbour's site is none of this one, and so is one of another algorithm.
+#[test]
+fn a_register_under_no_key_of_the_site_is_refused(rt: HostRuntime) {
+    let alloc = rt.alloc();
+    let mut at = MapServer::new(alloc, &rt, false);
+    let records = [of_block(LAB_BLOCK)];
+    for &key_id in &[0, 7, 8, 255] {
+        let said = Said {
+            key_id,
+            ..Said::of(1, &records)
+        };
+        is_refused(alloc, &rt, &mut at, said, Refusal::NoKey);
+    }
+    let said = Said {
+        secret: b"passwore",
+        ..Said::of(1, &records)
+    };
+    is_refused(alloc, &rt, &mut at, said, Refusal::WrongCode);
+    at.has_etrs(&rt, LAB, &[]);
+}
+
+// Its own nonce, one below it, and those of the same xTR from another address; but not under another key.
+#[test]
+fn a_replay_is_refused(rt: HostRuntime) {
+    let alloc = rt.alloc();
+    let mut at = MapServer::new(alloc, &rt, false);
+    let records = [of_block(EAST_BLOCK)];
+    is_taken(alloc, &rt, &mut at, Said::of(9, &records), OTHER_SOURCE);
+    // The last nonce outlives the registration.
+    at.wait(alloc, &rt, 200_000);
+    for &nonce in &[9, 8, 0] {
+        let said = Said::of(nonce, &records);
+        is_refused(alloc, &rt, &mut at, said, Refusal::Replayed);
+    }
+    at.has_etrs(&rt, EAST, &[]);
+    let said = Said {
+        key_id: 8,
+        ..Said::of(9, &records)
+    };
+    is_taken(alloc, &rt, &mut at, said, SOURCE);
+    is_taken(alloc, &rt, &mut at, said, SOURCE);
+    is_taken(alloc, &rt, &mut at, Said::of(u64::MAX, &records), SOURCE);
+    let said = Said::of(u64::MAX, &records);
+    is_refused(alloc, &rt, &mut at, said, Refusal::Replayed);
+}
+
+/// Nine locators, the last of which isn't to be used.
+const NINE: &[SaidLocator] = &[
+    (1, 1, Locator::V4(1)),
+    (1, 1, Locator::V4(2)),
+    (1, 1, Locator::V4(3)),
+    (1, 1, Locator::V4(4)),
+    (1, 1, Locator::V4(5)),
+    (1, 1, Locator::V4(6)),
+    (1, 1, Locator::V4(7)),
+    (1, 1, Locator::V4(8)),
+    (255, 1, Locator::V4(9)),
+];
+
+/// Nine that are.
+const TOO_MANY: &[SaidLocator] = &[
+    (1, 1, Locator::V4(1)),
+    (1, 1, Locator::V4(2)),
+    (1, 1, Locator::V4(3)),
+    (1, 1, Locator::V4(4)),
+    (1, 1, Locator::V4(5)),
+    (1, 1, Locator::V4(6)),
+    (1, 1, Locator::V4(7)),
+    (1, 1, Locator::V4(8)),
+    (2, 1, Locator::V4(9)),
+];
+
+#[test]
+fn nine_etrs_are_too_many(rt: HostRuntime) {
+    let alloc = rt.alloc();
+    let mut at = MapServer::new(alloc, &rt, false);
+    let records = [of_east(TOO_MANY)];
+    let said = Said::of(1, &records);
+    is_refused(alloc, &rt, &mut at, said, Refusal::TooMany);
+    let records = [of_east(NINE)];
+    is_taken(alloc, &rt, &mut at, Said::of(1, &records), SOURCE);
+    let etrs = at
+        .server
+        .etr(crate::registrar::map_server::prefix(&rt, EAST).inner());
+    same(&rt, &etrs, &Some(Locator::V4(1)), &"the first");
+}
+
+#[test]
+fn a_ninth_xtr_is_too_many(rt: HostRuntime) {
+    let alloc = rt.alloc();
+    let mut at = MapServer::new(alloc, &rt, false);
+    let records = [of_block(EAST_BLOCK)];
+    for xtr in 1..9 {
+        let said = Said::of(u64::from(xtr), &records);
+        is_taken(alloc, &rt, &mut at, said, Locator::V4(xtr));
+    }
+    let said = Said::of(9, &records);
+    is_refused(alloc, &rt, &mut at, said, Refusal::TooMany);
+    // One of the eight refreshes; another withdraws, and leaves room.
+    is_taken(alloc, &rt, &mut at, said, Locator::V4(8));
+    let gone = [SaidRecord {
+        ttl: 0,
+        ..of_east(&[])
+    }];
+    is_taken(alloc, &rt, &mut at, Said::of(10, &gone), Locator::V4(3));
+    is_taken(alloc, &rt, &mut at, Said::of(11, &records), SOURCE);
+}
+
+/// A withdrawal of an xTR with a name.
+fn withdrawal<'a>(xtr: u128, records: &'a [SaidRecord<'a>]) -> Said<'a> {
+    Said {
+        id: Some(XtrId { xtr, site: 7 }),
+        ..Said::of(1, records)
+    }
+}
+
+#[test]
+fn thirty_three_last_nonces_are_too_many(rt: HostRuntime) {
+    let alloc = rt.alloc();
+    let mut at = MapServer::new(alloc, &rt, false);
+    let gone = [SaidRecord {
+        ttl: 0,
+        ..of_east(&[])
+    }];
+    for xtr in 0..32u128 {
+        let said = withdrawal(xtr, &gone);
+        is_taken(alloc, &rt, &mut at, said, SOURCE);
+    }
+    same(&rt, &counts(&at, 0), &Some((0, 32, true)), &"nonces");
+    let said = withdrawal(32, &gone);
+    is_refused(alloc, &rt, &mut at, said, Refusal::TooMany);
+    let said = Said {
+        nonce: 2,
+        ..withdrawal(31, &gone)
+    };
+    is_taken(alloc, &rt, &mut at, said, SOURCE);
+}
+
+/// The second record of a message whose first is that of EAST under key 8, and why it is refused.
+const SECOND_RECORDS: &[((Locator, u8), Refusal)] = &[
+    ((Locator::V4(0x0a01_0300), 24), Refusal::NoSite),
+    (LAB_BLOCK, Refusal::NoKey),
+];
+
+#[test]
+fn a_message_with_one_wrong_record_changes_nothing(rt: HostRuntime) {
+    let alloc = rt.alloc();
+    let mut at = MapServer::new(alloc, &rt, false);
+    for &(block, refusal) in SECOND_RECORDS {
+        let records = [of_block(EAST_BLOCK), of_block(block)];
+        let said = Said {
+            key_id: 8,
+            ..Said::of(1, &records)
+        };
+        is_refused(alloc, &rt, &mut at, said, refusal);
+        let turned = [of_block(block), of_block(EAST_BLOCK)];
+        let said = Said {
+            records: &turned,
+            ..said
+        };
+        is_refused(alloc, &rt, &mut at, said, refusal);
+    }
+    let records = [of_block(EAST_BLOCK), of_block(LAB_BLOCK)];
+    is_taken(alloc, &rt, &mut at, Said::of(1, &records), SOURCE);
+    at.has_etrs(&rt, EAST, &[SOURCE]);
+    at.has_etrs(&rt, LAB, &[SOURCE]);
+}
+
+#[test]
+fn a_site_is_added_once(rt: HostRuntime) {
+    let mut at = MapServer::new(rt.alloc(), &rt, false);
+    let added = at.add_again(rt.alloc(), &rt).err();
+    same(&rt, &added, &Some(NotAdded::Twice), &"the first site");
+    same(&rt, &at.registrar.sites().len(), &7, &"all sites");
+}
+
+const REFUSALS: &[(Refusal, &str)] = &[
+    (Refusal::NoRecord, "1 NoRecord"),
+    (Refusal::NoSite, "2 NoSite"),
+    (Refusal::NoKey, "3 NoKey"),
+    (Refusal::WrongCode, "4 WrongCode"),
+    (Refusal::Replayed, "5 Replayed"),
+    (Refusal::TooMany, "6 TooMany"),
+    (Refusal::Memory, "7 Memory"),
+];
+
+#[test]
+fn refusals_are_printed(rt: HostRuntime) {
+    for &(refusal, written) in REFUSALS {
+        let text = format!(in rt.alloc(); "{refusal}").expect(&rt, "out of memory");
+        same(&rt, &text.as_str(), &written, &"the text");
+    }
+    let text = format!(in rt.alloc(); "{}", NotAdded::Twice).expect(&rt, "out of memory");
+    holds(&rt, text.as_str() == "1 Twice", &"the text");
+}

@@ -49,15 +49,17 @@ fn registered(
 /// The only datagram that was tried is this one, to the xTR's control port.
 fn is_tried(rt: &impl Abort, wires: &WiresInMemory, wanted: &[u8]) {
     match wires.told() {
-        Some([
-            Call::Tried {
-                at,
-                to,
-                port,
-                bytes,
-                ..
-            },
-        ]) => {
+        Some(
+            [
+                Call::Tried {
+                    at,
+                    to,
+                    port,
+                    bytes,
+                    ..
+                },
+            ],
+        ) => {
             same(rt, at, &AT, &"from");
             same(rt, to, &XTR, &"to");
             same(rt, port, &CONTROL_PORT, &"port");

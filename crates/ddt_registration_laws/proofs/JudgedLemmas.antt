@@ -70,24 +70,18 @@ one_step (Ok a) f b e = (a, refl, e)
 one_step (Err why) f b e = absurd cc
 
 module _ (m : Message) (x : Sender) (sites : List Site) where
-  each_may : (first : Option Key) (rs : List RegisterRecord) (key : Key) → judged_from m x sites first rs ≡ Ok key
+  each_may : (rs : List RegisterRecord) (first : Option Key) (key : Key) → judged_from m x sites rs first ≡ Ok key
       → (r : RegisterRecord) → IsIn r rs → MayRegister m x sites r
-  each_may first [] key e r among = absurd among
-  each_may None (q ∷ others) key e r among =
-      let step = one_step (judged_at m q x (site_of q sites)) (λ k. judged_from m x sites (Some (unwrap_or None k)) others) key e in
+  each_may [] first key e r among = absurd among
+  each_may (q ∷ others) first key e r among =
+      let step = one_step (judged_at m q x (site_of q sites)) (λ k. judged_from m x sites others (Some (unwrap_or first k))) key e in
       elim among [
         | inl is ↦ at_site m x sites r (site_of r sites) refl step.0 (ap (λ (p : RegisterRecord). judged_at m p x (site_of p sites)) is ∙ step.1)
-        | inr later ↦ each_may (Some (unwrap_or None step.0)) others key step.2 r later
-      ]
-  each_may (Some j) (q ∷ others) key e r among =
-      let step = one_step (judged_at m q x (site_of q sites)) (λ k. judged_from m x sites (Some (unwrap_or (Some j) k)) others) key e in
-      elim among [
-        | inl is ↦ at_site m x sites r (site_of r sites) refl step.0 (ap (λ (p : RegisterRecord). judged_at m p x (site_of p sites)) is ∙ step.1)
-        | inr later ↦ each_may (Some (unwrap_or (Some j) step.0)) others key step.2 r later
+        | inr later ↦ each_may others (Some (unwrap_or first step.0)) key step.2 r later
       ]
 
 pub taken_whole : MessagesAreTakenWhole
-taken_whole m x sites key e r among = each_may m x sites None m.records key e r (in_contained m.records r among)
+taken_whole m x sites key e r among = each_may m x sites m.records None key e r (in_contained m.records r among)
 
 pub unauthentic : UnauthenticIsRefused
 unauthentic m x sites r among none =

@@ -1,11 +1,12 @@
 //! The tests of ddt_registrar: Map-Registers that are taken (`taking`), until when (`ending`), and each refusal
-//! (`refusals`); and messages and moments in random order beside a `plain` registry (`beside`). `map_server` is the
-//! Map-Server that they are sent to, and `writing` what writes them.
+//! (`refusals`); messages and moments in random order beside a `plain` registry (`beside`); and memory that is refused
+//! (`refused`). `map_server` is the Map-Server that they are sent to, and `writing` what writes them.
 
 mod beside;
 mod ending;
 pub mod map_server;
 mod plain;
 mod refusals;
+mod refused;
 mod taking;
 mod writing;

@@ -86,8 +86,10 @@ const LAB_KEYS: &[KeyRow] = &[
     (1, SHA256_128, Replay::Increasing),
 ];
 
-/// Each site, the ETRs of its configuration, and its keys.
-const SITES: &[(&str, &[Locator], &[KeyRow])] = &[
+/// A site, the ETRs of its configuration, and its keys.
+type SiteRow = (&'static str, &'static [Locator], &'static [KeyRow]);
+
+const SITES: &[SiteRow] = &[
     (EAST, &[CONFIGURED], EAST_KEYS),
     (LAB, &[], LAB_KEYS),
     ("[0]10.1.1.0/24", &[], LAB_KEYS),
@@ -130,21 +132,17 @@ pub fn prefix(rt: &impl Abort, text: &str) -> Prefix {
 }
 
 /// A site for which nothing is registered yet.
-fn site(
-    alloc: Global,
-    rt: &impl Abort,
-    row: &(&str, &[Locator], &[KeyRow]),
-    falls_back: bool,
-) -> KeyedSite {
-    KeyedSite {
-        prefix: prefix(rt, row.0),
-        keys: keys(alloc, row.2).expect(rt, "out of memory"),
-        configured: LocatorSet::of(row.1).expect(rt, "too many locators"),
+fn site(alloc: Global, row: &SiteRow, falls_back: bool) -> Option<KeyedSite> {
+    let (text, configured, rows) = *row;
+    Some(KeyedSite {
+        prefix: parse_prefix(text.as_bytes()).ok()?,
+        keys: keys(alloc, rows).ok()?,
+        configured: LocatorSet::of(configured)?,
         falls_back,
         has_registered: false,
         live: Vec::new(alloc),
         nonces: Vec::new(alloc),
-    }
+    })
 }
 
 /// The ETRs of the site of a prefix, if it is one of these.
@@ -158,23 +156,28 @@ fn etrs_among(sites: &[SiteEntry], prefix: Prefix) -> Option<LocatorSet> {
 impl MapServer {
     /// The Map-Server at moment 0. Its sites fall back, or not.
     pub fn new(alloc: Global, rt: &impl Abort, falls_back: bool) -> MapServer {
-        let config = from_toml(alloc, CONFIGURATION).expect(rt, "a configuration");
-        let server = Server::of_config(alloc, config).expect(rt, "a server");
+        MapServer::build(alloc, falls_back).expect(rt, "no Map-Server")
+    }
+
+    /// The same; None where memory is refused.
+    pub fn build(alloc: Global, falls_back: bool) -> Option<MapServer> {
+        let config = from_toml(alloc, CONFIGURATION).ok()?;
+        let server = Server::of_config(alloc, config).ok()?;
         let mut registrar = Registrar::new(alloc);
         for row in SITES {
-            let added = registrar.add(site(alloc, rt, row, falls_back));
-            added.expect(rt, "a site");
+            registrar.add(site(alloc, row, falls_back)?).ok()?;
         }
-        MapServer {
+        Some(MapServer {
             registrar,
             server,
             moment: 0,
-        }
+        })
     }
 
     /// Adds its first site once more.
     pub fn add_again(&mut self, alloc: Global, rt: &impl Abort) -> Result<(), NotAdded> {
-        self.registrar.add(site(alloc, rt, &SITES[0], true))
+        let site = site(alloc, &SITES[0], true);
+        self.registrar.add(site.expect(rt, "no site"))
     }
 
     /// Takes a Map-Register that came from this address.
@@ -192,6 +195,12 @@ impl MapServer {
             moment: self.moment,
         };
         self.registrar.take(alloc, &mut self.server, &arrival)
+    }
+
+    /// How many registrations and last nonces a site has, and whether an xTR has registered.
+    pub fn counts(&self, site: usize) -> Option<(usize, usize, bool)> {
+        let site = self.registrar.sites().get(site)?;
+        Some((site.live.len(), site.nonces.len(), site.has_registered))
     }
 
     /// So many milliseconds pass, and what is over ends.
@@ -212,17 +221,22 @@ impl MapServer {
         etrs
     }
 
+    /// The ETR to which the server sends requests for a site on.
+    pub fn etr(&self, rt: &impl Abort, text: &str) -> Option<Locator> {
+        self.server.etr(prefix(rt, text).inner())
+    }
+
     /// The server answers for a site by these ETRs: MS-ACK and the first of them, or MS-NOT-REGISTERED.
     pub fn has_etrs(&self, rt: &impl Abort, text: &str, wanted: &[Locator]) {
         let prefix = prefix(rt, text);
         same(rt, &self.etrs(prefix).as_slice(), &wanted, &text);
-        let x = prefix.inner();
-        same(rt, &self.server.etr(x), &wanted.first().copied(), &text);
+        same(rt, &self.etr(rt, text), &wanted.first().copied(), &text);
         let action = if wanted.is_empty() {
             Action::MsNotRegistered
         } else {
             Action::MsAck
         };
-        same(rt, &self.server.answer(x).action, &action, &text);
+        let answer = self.server.answer(prefix.inner());
+        same(rt, &answer.action, &action, &text);
     }
 }

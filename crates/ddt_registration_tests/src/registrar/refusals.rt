@@ -12,12 +12,6 @@ use ddt_registrar::{NotAdded, Refusal};
 use std::alloc::Global;
 use std::process::Abort;
 
-/// How many registrations and last nonces a site has.
-fn counts(at: &MapServer, site: usize) -> Option<(usize, usize, bool)> {
-    let site = at.registrar.sites().get(site)?;
-    Some((site.live.len(), site.nonces.len(), site.has_registered))
-}
-
 /// A Map-Register is refused, and nothing changes of the first two sites.
 fn is_refused(
     alloc: Global,
@@ -27,10 +21,10 @@ fn is_refused(
     refusal: Refusal,
 ) {
     let bytes = write(alloc, rt, &said);
-    let before = (counts(at, 0), counts(at, 1));
+    let before = (at.counts(0), at.counts(1));
     let refused = at.take(alloc, rt, bytes.as_slice(), SOURCE).err();
     same(rt, &refused, &Some(refusal), &said);
-    same(rt, &(counts(at, 0), counts(at, 1)), &before, &said);
+    same(rt, &(at.counts(0), at.counts(1)), &before, &said);
 }
 
 const FEW: &[SaidLocator] = &[(1, 1, SOURCE)];
@@ -147,10 +141,8 @@ fn nine_etrs_are_too_many(rt: HostRuntime) {
     is_refused(alloc, &rt, &mut at, said, Refusal::TooMany);
     let records = [of_east(NINE)];
     is_taken(alloc, &rt, &mut at, Said::of(1, &records), SOURCE);
-    let etrs = at
-        .server
-        .etr(crate::registrar::map_server::prefix(&rt, EAST).inner());
-    same(&rt, &etrs, &Some(Locator::V4(1)), &"the first");
+    let etr = at.etr(&rt, EAST);
+    same(&rt, &etr, &Some(Locator::V4(1)), &"the first");
 }
 
 #[test]
@@ -194,7 +186,7 @@ fn thirty_three_last_nonces_are_too_many(rt: HostRuntime) {
         let said = withdrawal(xtr, &gone);
         is_taken(alloc, &rt, &mut at, said, SOURCE);
     }
-    same(&rt, &counts(&at, 0), &Some((0, 32, true)), &"nonces");
+    same(&rt, &at.counts(0), &Some((0, 32, true)), &"nonces");
     let said = withdrawal(32, &gone);
     is_refused(alloc, &rt, &mut at, said, Refusal::TooMany);
     let said = Said {

@@ -7,6 +7,7 @@ use ddt_ecm::CONTROL_PORT;
 use ddt_examples::map_registers::{
     IPV4_NOTIFY, IPV4_REGISTER, TWO_RECORDS_REGISTER, WITHDRAWAL, WITHDRAWAL_NOTIFY,
 };
+use ddt_examples::{changed, front};
 use ddt_map_register::MapRegisterFault;
 use ddt_map_server::{RegisterCounts, Registered, Visit, is_map_register, register};
 use ddt_path::Locator;
@@ -117,11 +118,11 @@ fn others_are_dropped(rt: HostRuntime) {
     let alloc = rt.alloc();
     let mut map_server = MapServer::new(alloc, &rt, false);
     let mut wires = WiresInMemory::new(alloc, 0);
-    let mut bytes = message(alloc, &rt, IPV4_REGISTER);
-    let short = registered(alloc, &mut wires, &mut map_server, &bytes[..15]);
+    let bytes = message(alloc, &rt, IPV4_REGISTER);
+    let short = registered(alloc, &mut wires, &mut map_server, front(&bytes, 15));
     let wanted = Registered::Malformed(MapRegisterFault::Short);
     same(&rt, &short, &wanted, &"short");
-    bytes[20] ^= 1;
+    let mut bytes = changed(bytes, &[(20, 0)]);
     let forged = registered(alloc, &mut wires, &mut map_server, &bytes);
     let wanted = Registered::Refused(Refusal::WrongCode);
     same(&rt, &forged, &wanted, &"forged");
@@ -130,7 +131,7 @@ fn others_are_dropped(rt: HostRuntime) {
     }
     let long = registered(alloc, &mut wires, &mut map_server, &bytes);
     same(&rt, &long, &Registered::TooLong, &"long");
-    let most = registered(alloc, &mut wires, &mut map_server, &bytes[..1_500]);
+    let most = registered(alloc, &mut wires, &mut map_server, front(&bytes, 1_500));
     let wanted = Registered::Malformed(MapRegisterFault::Trailing);
     same(&rt, &most, &wanted, &"most");
     assert!(rt; matches!(wires.told(), Some([])));

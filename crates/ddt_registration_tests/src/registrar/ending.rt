@@ -31,7 +31,7 @@ fn lasts(alloc: Global, rt: &impl Abort, case: (bool, u32, u64)) {
         ..Said::of(1, &records)
     };
     is_taken(alloc, rt, &mut at, said, SOURCE);
-    at.wait(alloc, rt, millis - 1);
+    at.wait(alloc, rt, millis.saturating_sub(1));
     at.has_etrs(rt, EAST, &[SOURCE]);
     at.wait(alloc, rt, 1);
     at.has_etrs(rt, EAST, &[]);

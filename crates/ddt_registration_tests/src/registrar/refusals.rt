@@ -182,8 +182,8 @@ fn thirty_three_last_nonces_are_too_many(rt: HostRuntime) {
         ttl: 0,
         ..of_east(&[])
     }];
-    for xtr in 0..32u128 {
-        let said = withdrawal(xtr, &gone);
+    for xtr in 0..32u64 {
+        let said = withdrawal(u128::from(xtr), &gone);
         is_taken(alloc, &rt, &mut at, said, SOURCE);
     }
     same(&rt, &at.counts(0), &Some((0, 32, true)), &"nonces");

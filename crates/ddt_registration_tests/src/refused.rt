@@ -13,8 +13,8 @@ use std::alloc::{AllocError, Global};
 use std::process::Abort;
 use std::test::Fail;
 
-/// The bytes of a worked message.
-fn message(alloc: Global, fields: &str) -> Result<Vec<u8>, Fail> {
+/// The bytes of a worked message, asked for once more where memory is refused.
+pub fn message(alloc: Global, fields: &str) -> Result<Vec<u8>, Fail> {
     match bytes_of(alloc, fields) {
         Ok(bytes) => Ok(bytes),
         Err(_refused) => Ok(bytes_of(alloc, fields)?),

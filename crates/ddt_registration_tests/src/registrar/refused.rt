@@ -4,9 +4,9 @@
 //! `.ci/memory` runs each of these tests with each growth refused in turn.
 
 use crate::comparison::{holds, same};
+use crate::refused::message;
 use crate::registrar::map_server::{EAST, MapServer};
 use crate::registrar::taking::SOURCE;
-use ddt_examples::bytes_of;
 use ddt_examples::map_registers::{IPV4_NOTIFY, IPV4_REGISTER};
 use ddt_registrar::Refusal;
 use std::alloc::Global;
@@ -39,8 +39,8 @@ fn takes(
 #[test]
 fn a_register_is_taken_or_changes_nothing(rt: HostRuntime) -> Result<(), Fail> {
     let alloc = rt.alloc();
-    let register = bytes_of(alloc, IPV4_REGISTER)?;
-    let wanted = bytes_of(alloc, IPV4_NOTIFY)?;
+    let register = message(alloc, IPV4_REGISTER)?;
+    let wanted = message(alloc, IPV4_NOTIFY)?;
     let mut at = map_server(alloc)?;
     let notify = takes(alloc, &rt, &mut at, register.as_slice())?.ok_or("no Map-Notify")?;
     same(
@@ -69,7 +69,7 @@ fn ends(alloc: Global, rt: &impl Abort, at: &mut MapServer, now: u64) -> Result<
 #[test]
 fn a_registration_ends_or_all_stays(rt: HostRuntime) -> Result<(), Fail> {
     let alloc = rt.alloc();
-    let register = bytes_of(alloc, IPV4_REGISTER)?;
+    let register = message(alloc, IPV4_REGISTER)?;
     let mut at = map_server(alloc)?;
     let notify = takes(alloc, &rt, &mut at, register.as_slice())?;
     holds(&rt, notify.is_some(), &"the Map-Notify");

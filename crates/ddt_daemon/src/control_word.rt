@@ -15,6 +15,8 @@ pub enum ControlWord {
     Flush,
     /// To tell what is known of each server.
     Servers,
+    /// To tell what is registered for each site that has a key.
+    Sites,
     /// To tell what it remembers of referrals: of all, or of those inside a prefix.
     Cache,
     /// To tell what is remembered for an identifier.
@@ -24,8 +26,8 @@ pub enum ControlWord {
 }
 
 /// The words, in the order of the variants.
-pub const WORDS: [&str; 7] = [
-    "stats", "reload", "flush", "servers", "cache", "lookup", "stop",
+pub const WORDS: [&str; 8] = [
+    "stats", "reload", "flush", "servers", "sites", "cache", "lookup", "stop",
 ];
 
 impl ControlWord {
@@ -38,6 +40,7 @@ impl ControlWord {
             ControlWord::Reload => "reload",
             ControlWord::Flush => "flush",
             ControlWord::Servers => "servers",
+            ControlWord::Sites => "sites",
             ControlWord::Cache => "cache",
             ControlWord::Lookup => "lookup",
             ControlWord::Stop => "stop",
@@ -56,6 +59,8 @@ impl ControlWord {
             Some(ControlWord::Flush)
         } else if line == "servers" {
             Some(ControlWord::Servers)
+        } else if line == "sites" {
+            Some(ControlWord::Sites)
         } else if line == "cache" {
             Some(ControlWord::Cache)
         } else if line == "lookup" {

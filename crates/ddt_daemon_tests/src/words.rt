@@ -11,6 +11,7 @@ fn a_word_is_read_as_it_is_written(rt: HostRuntime) -> Result<(), Fail> {
         ControlWord::Reload,
         ControlWord::Flush,
         ControlWord::Servers,
+        ControlWord::Sites,
         ControlWord::Cache,
         ControlWord::Lookup,
         ControlWord::Stop,

@@ -3,7 +3,7 @@
 //!
 //! In reading order: `fault`, `registered_locator`, `registered_locators`, `register_record`, `register_records`,
 //! `register_head`, `authentication`, `map_register`, `map_notify`, `laws`.
-//! Tests: ddt_registration_tests/map_registers.
+//! Tests: ddt_registration_tests/reading, authenticity, notifies and refused.
 #![tactic(auto)]
 
 mod authentication;

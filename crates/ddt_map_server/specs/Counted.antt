@@ -3,7 +3,7 @@ use Rattle.std.specs.Prelude.{ℕ, ◌+◌, ◌-◌, ◌^◌, min, true, false}
 use Rattle.ddt_registrar.specs.declared.refusal.Refusal.{Refusal}
 use Rattle.ddt_registrar.specs.declared.refusal.Refusal.TheVariants.{NoRecord, NoSite, NoKey, WrongCode, Replayed, TooMany, Memory}
 use Rattle.ddt_map_server.specs.declared.outcome.Registered.{Registered}
-use Rattle.ddt_map_server.specs.declared.outcome.Registered.TheVariants.{TooLong, Malformed, Refused, Taken}
+use Rattle.ddt_map_server.specs.declared.outcome.Registered.TheVariants.{Limited, TooLong, Malformed, Refused, Taken}
 use Rattle.ddt_map_server.specs.declared.register_counts.RegisterCounts.{RegisterCounts}
 
 -- one more; a count has 64 bits
@@ -22,6 +22,7 @@ with_refused c Memory = record c { memory = plus_one c.memory }
 
 -- one more, counted by what was done with it
 abbrev pub with_registered : RegisterCounts → Registered → RegisterCounts
+with_registered c Limited = record c { limited = plus_one c.limited }
 with_registered c TooLong = record c { too_long = plus_one c.too_long }
 with_registered c (Malformed fault) = record c { malformed = plus_one c.malformed }
 with_registered c (Refused refusal) = with_refused c refusal

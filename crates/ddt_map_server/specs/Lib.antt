@@ -1,2 +1,4 @@
 pub mod Registering
 pub mod Counted
+pub mod Rates
+pub mod Turns

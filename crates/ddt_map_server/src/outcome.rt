@@ -6,6 +6,8 @@ use ddt_registrar::Refusal;
 /// What was done with a datagram that begins as a Map-Register.
 #[derive(Clone, Copy, Debug, PartialEq, Eq)]
 pub enum Registered {
+    /// Dropped: its source has sent too many in this second.
+    Limited,
     /// Dropped: it has more than 1,500 bytes.
     TooLong,
     /// Dropped: it is no Map-Register.

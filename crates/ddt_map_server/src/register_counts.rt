@@ -5,6 +5,7 @@ ghost use Rattle.ddt_map_server.specs.Counted.{plus_one, with_registered, with_r
 
 use crate::outcome::Registered;
 use ddt_registrar::Refusal;
+use std::fmt;
 
 /// How many Map-Registers were taken, and how many were dropped for which reason.
 #[derive(Clone, Copy, Debug, Default, PartialEq, Eq)]
@@ -13,6 +14,7 @@ pub struct RegisterCounts {
     pub taken: u64,
     pub notified: u64,
     /// Those that were dropped, by why.
+    pub limited: u64,
     pub too_long: u64,
     pub malformed: u64,
     pub no_record: u64,
@@ -37,6 +39,7 @@ impl RegisterCounts {
         ensures { self.new ≡ with_registered self.old registered }
     {
         match registered {
+            Registered::Limited => self.limited = one_more(self.limited),
             Registered::TooLong => self.too_long = one_more(self.too_long),
             Registered::Malformed(_fault) => self.malformed = one_more(self.malformed),
             Registered::Refused(refusal) => self.refuse(refusal),
@@ -47,6 +50,25 @@ impl RegisterCounts {
                 }
             }
         }
+    }
+
+    /// How many Map-Registers have come.
+    pub fn received(&self) -> u64 {
+        let dropped = [
+            self.limited,
+            self.too_long,
+            self.malformed,
+            self.no_record,
+            self.no_site,
+            self.no_key,
+            self.wrong_code,
+            self.replayed,
+            self.too_many,
+            self.memory,
+        ];
+        dropped
+            .iter()
+            .fold(self.taken, |sum, count| sum.saturating_add(*count))
     }
 
     fn refuse(&mut self, refusal: Refusal)
@@ -61,5 +83,22 @@ impl RegisterCounts {
             Refusal::TooMany => self.too_many = one_more(self.too_many),
             Refusal::Memory => self.memory = one_more(self.memory),
         }
+    }
+}
+
+impl fmt::Display for RegisterCounts {
+    fn fmt<W: fmt::Write>(&self, f: &mut fmt::Formatter<W>) -> fmt::Result {
+        write!(f, "num.register.taken={}\n", self.taken)?;
+        write!(f, "num.register.notified={}\n", self.notified)?;
+        write!(f, "num.register.limited={}\n", self.limited)?;
+        write!(f, "num.register.toolong={}\n", self.too_long)?;
+        write!(f, "num.register.malformed={}\n", self.malformed)?;
+        write!(f, "num.register.norecord={}\n", self.no_record)?;
+        write!(f, "num.register.nosite={}\n", self.no_site)?;
+        write!(f, "num.register.nokey={}\n", self.no_key)?;
+        write!(f, "num.register.wrongcode={}\n", self.wrong_code)?;
+        write!(f, "num.register.replayed={}\n", self.replayed)?;
+        write!(f, "num.register.toomany={}\n", self.too_many)?;
+        write!(f, "num.register.memory={}\n", self.memory)
     }
 }

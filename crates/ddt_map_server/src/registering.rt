@@ -15,7 +15,7 @@ use ddt_ecm::CONTROL_PORT;
 use ddt_map_register::{MapRegister, read_register};
 use ddt_node::Server;
 use ddt_path::Locator;
-use ddt_registrar::{Arrival, Registrar, Sender};
+use ddt_registrar::{Arrival, Registrar};
 use ddt_trie::PrefixMap;
 use ddt_wires::{Packet, Wires};
 use std::alloc::Global;
@@ -84,7 +84,7 @@ fn take<W: Wires, M: PrefixMap<u32>>(
 {
     let arrival = Arrival {
         message,
-        sender: Sender::of(message.id(), visit.packet.from),
+        from: visit.packet.from,
         moment: visit.moment,
     };
     match registrar.take(visit.alloc, server, &arrival) {

@@ -1,5 +1,5 @@
 -- The key under which a message is taken is one under which it is authentic.
-use Rattle.std.proofs.Common.{◌≡◌, ℕ, Bool, true, false, List, [], ◌∷◌, Option, Some, None, refl, sym, ap, ◌∙◌}
+use Rattle.std.proofs.Common.{◌≡◌, Bool, true, false, List, [], ◌∷◌, Option, Some, None, refl, sym, ap, ◌∙◌}
 use Rattle.std.specs.Prelude.{not, is_ok, cond, Result, Ok, Err}
 use Rattle.std.specs.Option.{unwrap_or}
 use Rattle.std.proofs.lemmas.Bool.{false≢true}
@@ -29,7 +29,7 @@ module _ (m : Message) (x : Sender) where
 
   bears_under : (r : RegisterRecord) (s : Site) (o : Option Key) (k : Key) → judged_under m r x s o ≡ Ok k → Bears k
   bears_under r s None k is = absurd (not_ok NoKey k is)
-  bears_under r s (Some a) k is = go (bears_code a.secret m) refl (not (is_fresh a.replay (nonce_of m) s.nonces)) (not (has_room m r x s)) is
+  bears_under r s (Some a) k is = go (bears_code a.secret m) refl (not (is_fresh a.replay (nonce_of m) s.nonces)) (not (has_room a.replay m r x s)) is
     where
       go : (b : Bool) → bears_code a.secret m ≡ b → (stale full : Bool)
           → cond (not b) (Err WrongCode) (cond stale (Err Replayed) (cond full (Err TooMany) (Ok a))) ≡ Ok k → bears_code k.secret m ≡ true

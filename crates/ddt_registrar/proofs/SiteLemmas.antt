@@ -2,16 +2,17 @@
 use Rattle.std.proofs.Common.{◌≡◌, ℕ, zero, suc, ◌+◌, Bool, true, false, cond, List, [], ◌∷◌, ◌++◌, length, map, get_or, set, Option, Some, None, refl, sym, ap, subst, ◌∙◌, arith, inl, inr}
 use Rattle.std.specs.Prelude.{not, filter, find as find_item, slice_get}
 use Rattle.std.specs.List.{list_any}
-use Rattle.std.specs.FinMap.{FinMap, find, get, insert}
+use Rattle.std.specs.FinMap.{FinMap, find, get, insert, len}
 use Rattle.std.proofs.lemmas.Bool.{false≢true, not-true, not_from_false, and_parts, and_from, or_parts, or_from}
+use Rattle.std.proofs.lemmas.List.{length-map}
 use Rattle.std.proofs.lemmas.List.Folds.{list_any-append}
 use Rattle.std.proofs.lemmas.Option.{none-some, same_Some, get_or_from_slice_get}
 use Rattle.ddt_path.specs.Covers.{is_same_path}
 use Rattle.ddt_path.specs.laws.Cover.{same_path, path_itself}
 use Rattle.ddt_path.specs.laws.Member.{IsIn, iff_same, in_any, in_get}
 use Rattle.ddt_trie.specs.PrefixMap.{path_cmp}
-use Rattle.ddt_trie.specs.Entries.{map_of}
-use Rattle.ddt_trie.specs.laws.Entry.{tied, tied-true, tied_self, get-map_of, map_of_push}
+use Rattle.ddt_trie.specs.Entries.{have_own_keys, map_of}
+use Rattle.ddt_trie.specs.laws.Entry.{tied, tied-true, tied_self, get-map_of, len-map_of, map_of_push, more_distinct}
 use Rattle.ddt_config.specs.Table.{Outline}
 use Rattle.ddt_config.specs.Shaped.{have_own_prefixes}
 use Rattle.ddt_node.specs.Etrs.{with_etrs}
@@ -184,6 +185,24 @@ set_as_it_is [] k x at = absurd (none-some x at)
 set_as_it_is (y ∷ xs) zero x at = ap (λ z. z ∷ xs) (sym (same_Some y x at))
 set_as_it_is (y ∷ xs) (suc k) x at = ap (λ ys. y ∷ ys) (set_as_it_is xs k x at)
 
+-- ---- no other item of a prefix
+
+-- either of two paths is the other
+pub either_way : (p q : List ℕ) → is_same_path p q ≡ is_same_path q p
+either_way p q =
+    iff_same (is_same_path p q) (is_same_path q p)
+    (λ t. path_itself q p (sym (same_path p q t)))
+    (λ t. path_itself p q (sym (same_path q p t)))
+
+-- where no item has the prefix of this one, none is found
+pub none_of : {A : Type 0} (prefix : A → List ℕ) (p q : List ℕ) (xs : List A) → q ≡ p → list_any (λ (a : A). is_same_path p (prefix a)) xs ≡ false
+    → find_item (has_it prefix q) xs ≡ None
+none_of prefix p q [] is none = refl
+none_of {A = A} prefix p q (a ∷ xs) is none =
+    let parts = or_parts (is_same_path p (prefix a)) (list_any (λ (b : A). is_same_path p (prefix b)) xs) none in
+    let apart : is_same_path (prefix a) q ≡ false = ap (is_same_path (prefix a)) is ∙ either_way (prefix a) p ∙ parts.0 in
+    ap (λ (b : Bool). cond b (Some a) (find_item (has_it prefix q) xs)) apart ∙ none_of prefix p q xs is parts.1
+
 -- ---- one more site
 
 module _ {A : Type 0} (prefix : A → List ℕ) where
@@ -213,6 +232,28 @@ module _ {A : Type 0} (prefix : A → List ℕ) where
       let none : list_any same (xs ++ x ∷ []) ≡ false =
       list_any-append same xs (x ∷ []) ∙ or_from (list_any same xs) (list_any same (x ∷ [])) (not-true _ parts.0) (or_from (same x) false (others a (inl refl)) refl) in
       and_from (not (list_any same (xs ++ x ∷ []))) _ (not_from_false _ none) (own_more xs x parts.1 (λ b k. others b (inr k)))
+
+-- ---- how many sites
+
+numbered_long : (n : ℕ) (ps : List (List ℕ)) → length (numbered n ps) ≡ length ps
+numbered_long n [] = refl
+numbered_long n (p ∷ ps) = ap (λ (k : ℕ). suc k) (numbered_long (n + 1) ps)
+
+numbered_own : {A : Type 0} (prefix : A → List ℕ) (n : ℕ) (xs : List A) → have_own_prefixes prefix xs ≡ true → have_own_keys (numbered n (map prefix xs)) ≡ true
+numbered_own prefix n [] own = refl
+numbered_own {A = A} prefix n (a ∷ xs) own =
+    let parts = and_parts (not (list_any (λ (b : A). is_same_path (prefix a) (prefix b)) xs)) _ own in
+    let none = none_of prefix (prefix a) (prefix a) xs refl (not-true _ parts.0) in
+    more_distinct (prefix a, n) (numbered (n + 1) (map prefix xs)) (none_numbered prefix (prefix a) (n + 1) xs none)
+    (numbered_own prefix (n + 1) xs parts.1)
+
+-- the map has as many places as there are sites
+pub as_many : (m : FinMap path_cmp ℕ) (sites : List Site) → AreFound m sites → len m ≡ length sites
+as_many m sites found =
+    let prefixes = map (λ (s : Site). s.prefix) sites in
+    ap (λ (n : FinMap path_cmp ℕ). len n) found.of_sites
+    ∙ len-map_of (numbered 0 prefixes) (numbered_own (λ (s : Site). s.prefix) 0 sites found.own)
+    ∙ numbered_long 0 prefixes ∙ length-map sites (λ (s : Site). s.prefix)
 
 pub added_is_found : (m : FinMap path_cmp ℕ) (sites : List Site) → AreFound m sites → (s : Site) → find_item (λ (t : Site). is_same_path t.prefix s.prefix) sites ≡ None
     → AreFound (insert m s.prefix (length sites)) (sites ++ s ∷ [])

@@ -1,7 +1,7 @@
 -- Which Map-Registers are taken (RFC 9301, section 5.6), and why others are not.
 use Rattle.std.specs.Prelude.{ℕ, Bool, true, false, ◌==◌, ◌&&◌, ◌||◌, not, nat_lt, nat_le, if◌then◌else◌, List, [], ◌∷◌, length, find, Option, Some, None, Result, Ok, Err}
 use Rattle.std.specs.List.{list_all, list_any}
-use Rattle.std.specs.Option.{unwrap_or}
+use Rattle.std.specs.Option.{unwrap_or, option_map_or}
 use Rattle.ddt_path.specs.Covers.{is_same_path}
 use Rattle.ddt_path.specs.Locators.{most_locators}
 use Rattle.ddt_path.specs.Steps.{◌>>=◌}
@@ -17,7 +17,7 @@ use Rattle.ddt_registrar.specs.declared.refusal.Refusal.{Refusal}
 use Rattle.ddt_registrar.specs.declared.refusal.Refusal.TheVariants.{NoRecord, NoSite, NoKey, WrongCode, Replayed, TooMany}
 use Rattle.ddt_registrar.specs.Registration.{etrs_in, is_of_same_xtr}
 use Rattle.ddt_registrar.specs.Sender.{is_same_sender}
-use Rattle.ddt_registrar.specs.State.{Key, Registration, Site}
+use Rattle.ddt_registrar.specs.State.{Key, Site}
 
 -- how many xTRs register for a site at most
 abbrev pub most_xtrs : ℕ
@@ -27,9 +27,13 @@ most_xtrs = 8
 abbrev pub most_nonces : ℕ
 most_nonces = 32
 
--- the first key of the message's Key ID and Algorithm ID
+-- the first key of a Key ID and an Algorithm ID
+abbrev pub key_named : ℕ → ℕ → List Key → Option Key
+key_named id algorithm = find (λ k. k.id == id && k.algorithm == algorithm)
+
+-- the key that a message names
 abbrev pub key_of : RegisterHead → List Key → Option Key
-key_of head = find (λ k. k.id == head.key_id && k.algorithm == head.algorithm)
+key_of head = key_named head.key_id head.algorithm
 
 -- the message bears its code under the secret
 abbrev pub bears_code : List ℕ → Message → Bool
@@ -39,11 +43,25 @@ bears_code secret m =
 
 -- the nonce of a message, as it is remembered
 abbrev pub nonce_of : Message → LastNonce
-nonce_of m = record { key_id = m.head.key_id; xtr = m.id; nonce = m.head.nonce }
+nonce_of m = record {
+  key_id = m.head.key_id;
+  algorithm = m.head.algorithm;
+  xtr = m.id;
+  nonce = m.head.nonce;
+}
 
 -- it is above the last one of the same xTR under the same key
 abbrev pub is_above : LastNonce → LastNonce → Bool
 is_above new old = not (is_of_same_xtr old new) || nat_lt old.nonce new.nonce
+
+-- nonces have to increase
+abbrev pub is_increasing : Replay → Bool
+is_increasing Increasing = true
+is_increasing Any = false
+
+-- the nonce of a message is remembered: the key that it names is one whose nonces have to increase
+abbrev pub is_remembered : RegisterHead → List Key → Bool
+is_remembered head keys = option_map_or (λ k. is_increasing k.replay) (key_of head keys) false
 
 -- nonces have to increase under a key that says so
 abbrev pub is_fresh : Replay → LastNonce → List LastNonce → Bool
@@ -54,12 +72,17 @@ is_fresh Any new nonces = true
 abbrev pub has_place : {A : Type 0} → (A → Bool) → ℕ → List A → Bool
 has_place same most items = list_any same items || nat_lt (length items) most
 
+-- there is room for a nonce: under a key of any nonce none is remembered
+abbrev pub has_nonce_room : Replay → LastNonce → List LastNonce → Bool
+has_nonce_room Increasing new nonces = has_place (λ old. is_of_same_xtr old new) most_nonces nonces
+has_nonce_room Any new nonces = true
+
 -- the record has eight ETRs at most, and its xTR is known or there is room for it
-abbrev pub has_room : Message → RegisterRecord → Sender → Site → Bool
-has_room m r x s =
+abbrev pub has_room : Replay → Message → RegisterRecord → Sender → Site → Bool
+has_room replay m r x s =
     nat_le (length (etrs_in r)) most_locators
     && has_place (λ g. is_same_sender g.sender x) most_xtrs s.live
-    && has_place (λ n. is_of_same_xtr n (nonce_of m)) most_nonces s.nonces
+    && has_nonce_room replay (nonce_of m) s.nonces
 
 -- the key under which a record of a site may be registered, or why it may not
 abbrev pub judged_under : Message → RegisterRecord → Sender → Site → Option Key → Result Key Refusal
@@ -67,7 +90,7 @@ judged_under m r x s None = Err NoKey
 judged_under m r x s (Some k) =
     if not (bears_code k.secret m) then Err WrongCode
     else if not (is_fresh k.replay (nonce_of m) s.nonces) then Err Replayed
-    else if not (has_room m r x s) then Err TooMany
+    else if not (has_room k.replay m r x s) then Err TooMany
     else Ok k
 
 -- the site of a record

@@ -4,4 +4,5 @@ pub mod Lists
 pub mod Registration
 pub mod Judging
 pub mod Taking
+pub mod Carried
 pub mod laws

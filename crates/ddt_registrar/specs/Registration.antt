@@ -1,5 +1,5 @@
 -- What an xTR has registered for a site (RFC 9301, section 5.6). Moments are in milliseconds, TTLs in minutes.
-use Rattle.std.specs.Prelude.{ℕ, Bool, ◌==◌, ◌&&◌, ◌+◌, ◌*◌, not, min, nat_lt, if◌then◌else◌, List, [], ◌∷◌, map, filter_map, Option, None}
+use Rattle.std.specs.Prelude.{ℕ, Bool, ◌==◌, ◌&&◌, ◌*◌, not, min, nat_lt, if◌then◌else◌, List, [], ◌∷◌, map, filter_map, Option, None}
 use Rattle.std.specs.List.{list_any}
 use Rattle.std.specs.Option.{option_map}
 use Rattle.ddt_path.specs.declared.locator.Locator.{Locator}
@@ -20,7 +20,7 @@ is_same_registrant a b = is_same_sender a.sender b.sender
 
 -- both are of one xTR under one key
 abbrev pub is_of_same_xtr : LastNonce → LastNonce → Bool
-is_of_same_xtr a b = a.key_id == b.key_id && is_same_id a.xtr b.xtr
+is_of_same_xtr a b = a.key_id == b.key_id && a.algorithm == b.algorithm && is_same_id a.xtr b.xtr
 
 -- its deadline hasn't come
 abbrev pub is_in_force : ℕ → Registration → Bool

@@ -1,5 +1,5 @@
 -- How an xTR is known (RFC 9301, section 5.6).
-use Rattle.std.specs.Prelude.{ℕ, Bool, true, false, ◌==◌, ◌&&◌, Option, Some, None}
+use Rattle.std.specs.Prelude.{Bool, true, false, ◌==◌, ◌&&◌, Option, Some, None}
 use Rattle.ddt_path.specs.declared.locator.Locator.{Locator}
 use Rattle.ddt_path.specs.Locators.{is_same_locator}
 use Rattle.ddt_map_register.specs.declared.map_register.XtrId.{XtrId}

@@ -13,9 +13,11 @@ pub record Key : Type 0 where
   pub secret : List ℕ
   pub replay : Replay
 
--- the ETRs that an xTR has registered, until a deadline
+-- the ETRs that an xTR has registered under the key of a Key ID and an Algorithm ID, until a deadline
 pub record Registration : Type 0 where
   pub sender : Sender
+  pub key_id : ℕ
+  pub algorithm : ℕ
   pub etrs : List Ranked
   pub deadline : ℕ
 

@@ -1,8 +1,7 @@
 -- What a Map-Register that is taken changes (RFC 9301, section 5.6), and what the clock does.
-use Rattle.std.specs.Prelude.{ℕ, ◌+◌, ◌==◌, ◌≡◌, Bool, true, not, min, if◌then◌else◌, List, [], ◌∷◌, ◌++◌, map, filter, Option, Some, None, Result, Ok, Err}
+use Rattle.std.specs.Prelude.{ℕ, ◌+◌, ◌==◌, ◌≡◌, ◌||◌, true, not, min, if◌then◌else◌, List, [], ◌∷◌, ◌++◌, map, filter, Option, Some, None, Ok, Err}
 use Rattle.std.specs.FinMap.{FinMap}
 use Rattle.ddt_path.specs.declared.locator.Locator.{Locator}
-use Rattle.ddt_path.specs.Steps.{◌>>=◌}
 use Rattle.ddt_map_register.specs.MapRegister.{Message}
 use Rattle.ddt_map_register.specs.MapNotify.{notify_to}
 use Rattle.ddt_map_register.specs.RegisterRecord.{RegisterRecord}
@@ -16,7 +15,7 @@ use Rattle.ddt_registrar.specs.declared.sender.Sender.{Sender}
 use Rattle.ddt_registrar.specs.declared.registration.LastNonce.{LastNonce}
 use Rattle.ddt_registrar.specs.declared.refusal.Refusal.{Refusal}
 use Rattle.ddt_registrar.specs.declared.refusal.Refusal.TheVariants as refusal
-use Rattle.ddt_registrar.specs.Judging.{nonce_of, judged}
+use Rattle.ddt_registrar.specs.Judging.{nonce_of, is_remembered, judged}
 use Rattle.ddt_registrar.specs.Lists.{put_by}
 use Rattle.ddt_registrar.specs.Registration.{etrs_in, lifetime, is_same_registrant, is_of_same_xtr, is_in_force, registered_etrs}
 use Rattle.ddt_registrar.specs.Sender.{is_same_sender}
@@ -32,7 +31,13 @@ end_of now m r = min (now + lifetime m r) last_moment
 
 -- what a record registers at a moment
 abbrev pub registration_of : ℕ → Message → RegisterRecord → Sender → Registration
-registration_of now m r x = record { sender = x; etrs = etrs_in r; deadline = end_of now m r }
+registration_of now m r x = record {
+  sender = x;
+  key_id = m.head.key_id;
+  algorithm = m.head.algorithm;
+  etrs = etrs_in r;
+  deadline = end_of now m r;
+}
 
 -- the registrations of a site after a record: a TTL of 0 withdraws the xTR's, any other puts a new one in its place
 abbrev pub live_after : ℕ → Message → RegisterRecord → Sender → List Registration → List Registration
@@ -40,20 +45,21 @@ live_after now m r x live =
     if r.ttl == 0 then filter (λ g. not (is_same_sender g.sender x)) live
     else put_by (λ old. is_same_registrant old (registration_of now m r x)) (registration_of now m r x) live
 
--- the last nonces after a message
-abbrev pub nonces_after : Message → List LastNonce → List LastNonce
-nonces_after m = put_by (λ old. is_of_same_xtr old (nonce_of m)) (nonce_of m)
+-- the last nonces after a message: its own is known under a key whose nonces have to increase
+abbrev pub nonces_after : Message → List Key → List LastNonce → List LastNonce
+nonces_after m keys nonces =
+    if is_remembered m.head keys then put_by (λ old. is_of_same_xtr old (nonce_of m)) (nonce_of m) nonces else nonces
 
--- a site after a record
+-- a site after a record: a withdrawal, whose TTL is 0, registers nothing
 abbrev pub site_after : ℕ → Message → Sender → RegisterRecord → Site → Site
 site_after now m x r s = record {
   prefix = s.prefix;
   keys = s.keys;
   configured = s.configured;
   falls_back = s.falls_back;
-  has_registered = true;
+  has_registered = s.has_registered || not (r.ttl == 0);
   live = live_after now m r x s.live;
-  nonces = nonces_after m s.nonces;
+  nonces = nonces_after m s.keys s.nonces;
 }
 
 -- all sites after a record: that of its prefix has changed
@@ -75,6 +81,11 @@ pub record IsNotifyFor (m : Message) (x : Sender) (sites : List Site) (notify : 
   pub taken : judged m x sites ≡ Ok key
   pub is : notify ≡ notify_for m key
 
+-- a message isn't taken: it is refused for what it says, or it may be registered under a key but memory ran out
+pub data IsNotNotified (m : Message) (x : Sender) (sites : List Site) (e : Refusal) : Type 0 where
+  NotJudged : judged m x sites ≡ Err e → IsNotNotified m x sites e
+  NoMemory : (key : Key) → judged m x sites ≡ Ok key → e ≡ refusal.Memory → IsNotNotified m x sites e
+
 -- a message is taken, with this Map-Notify for it: each of its records has changed its site
 pub record IsTaken (now : ℕ) (m : Message) (x : Sender) (old new : List Site) (notify : Option (List ℕ)) : Type 0
   where
@@ -88,10 +99,12 @@ pub record IsInPart (now : ℕ) (m : Message) (x : Sender) (old new : List Site)
   pub are : m.records ≡ done ++ rest
   pub some : new ≡ after_all now m x done old
 
--- A message isn't taken. Either it is refused for what it says, and nothing has changed. Or memory ran out.
+-- A message isn't taken. Either it is refused for what it says, and nothing has changed. Or it may be registered under
+-- a key, but memory ran out.
 pub data IsRefused (now : ℕ) (m : Message) (x : Sender) (old new : List Site) (e : Refusal) : Type 0 where
   Judged : judged m x old ≡ Err e → new ≡ old → IsRefused now m x old new e
-  OutOfMemory : e ≡ refusal.Memory → IsInPart now m x old new → IsRefused now m x old new e
+  OutOfMemory : (key : Key) → judged m x old ≡ Ok key → e ≡ refusal.Memory → IsInPart now m x old new
+      → IsRefused now m x old new e
 
 -- a site at a moment: what is over is gone
 abbrev pub site_at : ℕ → Site → Site

@@ -2,16 +2,18 @@
 
 ghost use Rattle.std.specs.Prelude.{◌≡◌, ◌==◌, if◌then◌else◌, not, filter, filter_map, IfOk, OnOk, OnErr};
 ghost use Rattle.ddt_registrar.specs.Registration.{etr_of as etr_of_locator, etrs_in, lifetime as lifetime_of};
-ghost use Rattle.ddt_registrar.specs.Sender.{is_same_sender};
+ghost use Rattle.ddt_registrar.specs.Sender.{is_same_sender, sender_of};
 ghost use Rattle.ddt_registrar.specs.Taking.{end_of, site_after};
 
 use crate::judging::{etr_of, nonce_of};
+use crate::key::is_remembered;
 use crate::keyed_site::KeyedSite;
 use crate::lists::put;
 use crate::registration::Registration;
 use crate::sender::Sender;
 use ddt_foreign::Ranked;
 use ddt_map_register::{MapRegister, RegisterRecord};
+use ddt_path::Locator;
 use std::alloc::{AllocError, Global};
 
 /// A minute, in milliseconds.
@@ -25,7 +27,8 @@ const MINUTES: u64 = 3;
 #[derive(Clone, Copy, Debug)]
 pub struct Arrival<'m, 'd> {
     pub message: &'m MapRegister<'d>,
-    pub sender: Sender,
+    /// The address that it came from.
+    pub from: Locator,
     /// The moment, in milliseconds.
     pub moment: u64,
 }
@@ -63,6 +66,14 @@ fn withdraw(live: &mut Vec<Registration>, sender: Sender)
 }
 
 impl<'m, 'd> Arrival<'m, 'd> {
+    /// The xTR that sends it: the one that the message names, or else the one at the address that it came from (RFC
+    /// 9301, section 5.6).
+    pub fn sender(&self) -> Sender
+        ensures { result ≡ sender_of self.now.message.now.id self.now.from }
+    {
+        Sender::of(self.message.id(), self.from)
+    }
+
     /// The moment from which a record isn't registered any more.
     fn deadline(&self, record: &RegisterRecord<'_>) -> u64
         ensures { result ≡ end_of self.now.moment self.now.message.now record.now }
@@ -70,8 +81,8 @@ impl<'m, 'd> Arrival<'m, 'd> {
         self.moment.saturating_add(lifetime(self.message, record))
     }
 
-    /// Changes a site by a record: a TTL of 0 withdraws what its xTR has registered, any other registers its ETRs.
-    /// Where memory is refused, nothing changes.
+    /// Changes a site by a record: a TTL of 0 withdraws what its xTR has registered, any other registers its ETRs. The
+    /// nonce is remembered under a key whose nonces have to increase. Where memory is refused, nothing changes.
     pub fn change(
         &self,
         alloc: Global,
@@ -79,23 +90,29 @@ impl<'m, 'd> Arrival<'m, 'd> {
         record: &RegisterRecord<'_>,
     ) -> Result<(), AllocError>
         ensures changed { OnOk result (site.new
-            ≡ site_after self.now.moment self.now.message.now self.now.sender record.now site.old) }
+            ≡ site_after self.now.moment self.now.message.now (sender_of self.now.message.now.id self.now.from)
+            record.now site.old) }
         ensures unchanged { OnErr result (site.new ≡ site.old) }
     {
+        let head = self.message.head();
         let registration = Registration {
-            sender: self.sender,
+            sender: self.sender(),
+            key_id: head.key_id,
+            algorithm: head.algorithm,
             etrs: etrs_of(alloc, record)?,
             deadline: self.deadline(record),
         };
         site.live.reserve(1)?;
         site.nonces.reserve(1)?;
         if record.ttl() == 0 {
-            withdraw(&mut site.live, self.sender);
+            withdraw(&mut site.live, self.sender());
         } else {
             put(&mut site.live, registration)?;
+            site.has_registered = true;
         }
-        put(&mut site.nonces, nonce_of(self.message))?;
-        site.has_registered = true;
+        if is_remembered(site.keys.as_slice(), &head) {
+            put(&mut site.nonces, nonce_of(self.message))?;
+        }
         Ok(())
     }
 }

@@ -4,7 +4,7 @@ ghost use Rattle.std.specs.Prelude.{◌≡◌, nat_le, length, Some, find};
 ghost use Rattle.std.specs.List.{list_all, list_any};
 ghost use Rattle.ddt_path.specs.Locators.{most_locators};
 ghost use Rattle.ddt_path.specs.Steps.{IsReadAs};
-ghost use Rattle.ddt_registrar.specs.Judging.{bears_code, nonce_of as nonce_of_message, is_above, is_fresh as is_fresh_of, has_room as has_room_of, judged_at};
+ghost use Rattle.ddt_registrar.specs.Judging.{bears_code, nonce_of as nonce_of_message, is_above, is_fresh as is_fresh_of, has_nonce_room as has_nonce_room_of, has_room as has_room_of, judged_at};
 ghost use Rattle.ddt_registrar.specs.Registration.{etr_of as etr_of_locator, etrs_in, is_of_same_xtr};
 ghost use Rattle.ddt_registrar.specs.Sender.{is_same_sender};
 
@@ -72,6 +72,7 @@ pub(crate) fn nonce_of(message: &MapRegister<'_>) -> LastNonce
     let head = message.head();
     LastNonce {
         key_id: head.key_id,
+        algorithm: head.algorithm,
         xtr: message.id(),
         nonce: head.nonce,
     }
@@ -110,20 +111,30 @@ fn has_nonce(new: LastNonce, nonces: &[LastNonce]) -> bool
     nonces.iter().any(|old| old.is_same(&new))
 }
 
-/// Whether a record fits what is registered for its site.
+/// Whether there is room for a nonce under a key: only one that has to increase is remembered.
+fn has_nonce_room(replay: Replay, new: LastNonce, nonces: &[LastNonce]) -> bool
+    ensures { result ≡ has_nonce_room_of replay new nonces.now }
+{
+    match replay {
+        Replay::Increasing => has_nonce(new, nonces) || nonces.len() < MOST_NONCES,
+        Replay::Any => true,
+    }
+}
+
+/// Whether a record under a key fits what is registered for its site.
 fn has_room(
+    replay: Replay,
     message: &MapRegister<'_>,
     record: &RegisterRecord<'_>,
     sender: Sender,
     site: &KeyedSite,
 ) -> bool
-    ensures { result ≡ has_room_of message.now record.now sender site.now }
+    ensures { result ≡ has_room_of replay message.now record.now sender site.now }
 {
     let live = site.live.as_slice();
-    let nonces = site.nonces.as_slice();
     has_few_etrs(record)
         && (has_registered(sender, live) || live.len() < MOST_XTRS)
-        && (has_nonce(nonce_of(message), nonces) || nonces.len() < MOST_NONCES)
+        && has_nonce_room(replay, nonce_of(message), site.nonces.as_slice())
 }
 
 /// The key under which a record of a site may be registered, or why it may not.
@@ -144,7 +155,7 @@ pub(crate) fn judge<'k>(
     if !is_fresh(key.replay, nonce_of(message), site.nonces.as_slice()) {
         return Err(Refusal::Replayed);
     }
-    if !has_room(message, record, sender, site) {
+    if !has_room(key.replay, message, record, sender, site) {
         return Err(Refusal::TooMany);
     }
     Ok(key)

@@ -2,8 +2,11 @@
 
 ghost use Rattle.std.specs.Prelude.{◌≡◌};
 ghost use Rattle.std.specs.Option.{option_map};
-ghost use Rattle.ddt_registrar.specs.Judging.{key_of};
+ghost use Rattle.ddt_path.specs.Covers.{is_same_path};
+ghost use Rattle.ddt_registrar.specs.Carried.{is_same_replay, is_same_key, is_still_key, is_still_under as is_still_under_of, is_of_key as is_of_key_of};
+ghost use Rattle.ddt_registrar.specs.Judging.{is_increasing, is_remembered as is_remembered_under, key_named, key_of};
 
+use crate::registration::{LastNonce, Registration};
 use ddt_map_register::RegisterHead;
 use std::marker::Model;
 
@@ -35,9 +38,95 @@ impl Model for Key {
     ghost view = { λ k. record { id = k.id; algorithm = k.algorithm; secret = k.secret.items; replay = k.replay } };
 }
 
+impl Replay {
+    /// Whether nonces have to increase.
+    fn is_increasing(&self) -> bool
+        ensures { result ≡ is_increasing self.now }
+    {
+        match self {
+            Replay::Increasing => true,
+            Replay::Any => false,
+        }
+    }
+
+    /// Whether they are one rule.
+    fn is_same(&self, other: &Replay) -> bool
+        ensures { result ≡ is_same_replay self.now other.now }
+    {
+        match self {
+            Replay::Increasing => other.is_increasing(),
+            Replay::Any => !other.is_increasing(),
+        }
+    }
+}
+
+/// Whether they are one secret.
+fn is_same_secret(one: &[u8], other: &[u8]) -> bool
+    ensures { result ≡ is_same_path one.now other.now }
+{
+    one == other
+}
+
+impl Key {
+    /// Whether they are one key, of one secret.
+    fn is_same(&self, other: &Key) -> bool
+        ensures { result ≡ is_same_key self.now other.now }
+    {
+        self.id == other.id
+            && self.algorithm == other.algorithm
+            && self.replay.is_same(&other.replay)
+            && is_same_secret(self.secret.as_slice(), other.secret.as_slice())
+    }
+}
+
+/// The first key of a Key ID and an Algorithm ID.
+fn named(keys: &[Key], id: u8, algorithm: u8) -> Option<&Key>
+    ensures { option_map (λ k. k.now) result ≡ key_named id algorithm keys.now }
+{
+    keys.iter()
+        .find(|key| key.id == id && key.algorithm == algorithm)
+}
+
 /// The key that a message names: the first of its Key ID and its Algorithm ID.
 pub(crate) fn key_in<'k>(keys: &'k [Key], head: &RegisterHead) -> Option<&'k Key>
     ensures { option_map (λ k. k.now) result ≡ key_of head.now keys.now }
 {
-    keys.iter().find(|key| key.id == head.key_id && key.algorithm == head.algorithm)
+    named(keys, head.key_id, head.algorithm)
+}
+
+/// Whether the nonce of a message is remembered: the key that it names is one whose nonces have to increase.
+pub(crate) fn is_remembered(keys: &[Key], head: &RegisterHead) -> bool
+    ensures { result ≡ is_remembered_under head.now keys.now }
+{
+    match key_in(keys, head) {
+        Some(key) => key.replay.is_increasing(),
+        None => false,
+    }
+}
+
+/// Whether there is a key of the Key ID and the Algorithm ID of a nonce.
+pub(crate) fn is_of_key(keys: &[Key], nonce: &LastNonce) -> bool
+    ensures { result ≡ is_of_key_of keys.now nonce.now }
+{
+    named(keys, nonce.key_id, nonce.algorithm).is_some()
+}
+
+/// Whether a key is still the one of its Key ID and its Algorithm ID.
+fn is_still_among(key: &Key, keys: &[Key]) -> bool
+    ensures { result ≡ is_still_key keys.now key.now }
+{
+    match named(keys, key.id, key.algorithm) {
+        Some(same) => key.is_same(same),
+        None => false,
+    }
+}
+
+/// Whether a registration was made under a key of before that there still is: that of its Key ID and its Algorithm ID.
+pub(crate) fn is_still_under(before: &[Key], keys: &[Key], registration: &Registration) -> bool
+    ensures { result ≡ is_still_under_of before.now keys.now registration.now }
+{
+    match named(before, registration.key_id, registration.algorithm) {
+        Some(key) => is_still_among(key, keys),
+        None => false,
+    }
 }

@@ -2,10 +2,11 @@
 
 ghost use Rattle.std.specs.Prelude.{◌≡◌, filter, not};
 ghost use Rattle.std.specs.List.{list_any};
+ghost use Rattle.ddt_registrar.specs.Carried.{carried, is_of_key as is_of_key_of, is_still_under as is_still_under_of};
 ghost use Rattle.ddt_registrar.specs.Registration.{is_in_force};
 ghost use Rattle.ddt_registrar.specs.Taking.{etrs_in_force as etrs_in_force_of, site_at};
 
-use crate::key::Key;
+use crate::key::{Key, is_of_key, is_still_under};
 use crate::ranking::Ranking;
 use crate::registration::{LastNonce, Registration};
 use ddt_path::{LocatorSet, Prefix, Prefixed};
@@ -20,11 +21,11 @@ pub struct KeyedSite {
     pub configured: LocatorSet,
     /// Whether these are used again after the last registration is over.
     pub falls_back: bool,
-    /// Whether an xTR has registered.
+    /// Whether an xTR has registered: a withdrawal registers nothing.
     pub has_registered: bool,
     /// What is registered, once for each xTR, in the order in which they first registered.
     pub live: Vec<Registration>,
-    /// The last nonce of each xTR under each key.
+    /// The last nonce of each xTR under each key whose nonces have to increase.
     pub nonces: Vec<LastNonce>,
 }
 
@@ -59,10 +60,25 @@ fn end(live: &mut Vec<Registration>, now: u64)
     live.retain(|registration| now < registration.deadline);
 }
 
+/// Takes away what was registered under keys of before that were taken away or are others now.
+fn revoke(live: &mut Vec<Registration>, before: &[Key], keys: &[Key])
+    ensures { live.new.items ≡ filter (is_still_under_of before.now keys.now) live.old.items }
+{
+    live.retain(|registration| is_still_under(before, keys, registration));
+}
+
+/// Takes away the nonces of which there is no key any more.
+fn forget(nonces: &mut Vec<LastNonce>, keys: &[Key])
+    ensures { nonces.new.items ≡ filter (is_of_key_of keys.now) nonces.old.items }
+{
+    nonces.retain(|nonce| is_of_key(keys, nonce));
+}
+
 impl KeyedSite {
-    /// Its ETRs in force: those that are registered; or where there are none, those of its configuration until an xTR
-    /// has registered, and after that only where it falls back. It allocates nothing.
-    pub(crate) fn etrs_in_force(&self, ranking: &mut Ranking) -> LocatorSet
+    /// Its ETRs in force, eight at most: those that are registered, by priority; or where there are none, those of its
+    /// configuration until an xTR has registered, and after that only where it falls back. What `ranking` held before
+    /// doesn't count. It allocates nothing.
+    pub fn etrs_in_force(&self, ranking: &mut Ranking) -> LocatorSet
         ensures { result ≡ etrs_in_force_of self.now }
     {
         if !self.live.is_empty() {
@@ -88,5 +104,24 @@ impl KeyedSite {
         ensures { self.new ≡ site_at now self.old }
     {
         end(&mut self.live, now);
+    }
+
+    /// Takes over what was registered for the site before: whether an xTR has registered, the registrations under keys
+    /// that there still are, and the last nonces under keys that there are. It allocates nothing.
+    pub(crate) fn carry_over(&mut self, before: KeyedSite)
+        ensures { self.new ≡ carried before self.old }
+    {
+        let KeyedSite {
+            keys,
+            has_registered,
+            live,
+            nonces,
+            ..
+        } = before;
+        self.live = live;
+        revoke(&mut self.live, keys.as_slice(), self.keys.as_slice());
+        self.nonces = nonces;
+        forget(&mut self.nonces, self.keys.as_slice());
+        self.has_registered = has_registered;
     }
 }

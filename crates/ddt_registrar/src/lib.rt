@@ -20,6 +20,7 @@ mod sender;
 pub use arrival::Arrival;
 pub use key::{Key, Replay};
 pub use keyed_site::KeyedSite;
+pub use ranking::Ranking;
 pub use refusal::{NotAdded, Refusal};
 pub use registrar::Registrar;
 pub use registration::{LastNonce, Registration};

@@ -12,7 +12,8 @@ use ddt_path::{Locator, LocatorSet, MOST_LOCATORS};
 use std::alloc::{AllocError, Global};
 use std::marker::Model;
 
-/// ETRs by priority, each once, eight at most, with room for one more. Contracts see the list.
+/// What the ETRs of one site after the other are ranked in: ETRs by priority, each once, eight at most, with room for
+/// one more. Contracts see the list.
 #[derive(Drop)]
 pub struct Ranking {
     ranked: Vec<Ranked>,
@@ -32,7 +33,7 @@ impl Model for Ranking {
 }
 
 impl Ranking {
-    /// Room for ETRs. Fails only if out of memory.
+    /// Room for ETRs. Fails only if out of memory; whatever ranks in it allocates nothing.
     pub fn new(alloc: Global) -> Result<Ranking, AllocError>
         ensures { IfOk result (λ ranking. ranking ≡ []) }
     {

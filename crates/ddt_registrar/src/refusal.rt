@@ -20,7 +20,8 @@ pub enum Refusal {
     /// The nonce isn't above the last one of the same xTR under a key whose nonces have to increase.
     #[error("5 Replayed")]
     Replayed,
-    /// The record has more than 8 ETRs, or the site has 8 other xTRs, or the last nonces of 32 others.
+    /// The record has more than 8 ETRs, or the site has 8 other xTRs; or the nonces of the key have to increase, and
+    /// the site has the last nonces of 32 others.
     #[error("6 TooMany")]
     TooMany,
     /// Memory ran out.

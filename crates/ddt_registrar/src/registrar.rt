@@ -1,15 +1,18 @@
 //! All sites with keys, and what Map-Registers and the clock change of them.
 
-ghost use Rattle.std.specs.Prelude.{◌≡◌, ◌⊎◌, ◌<◌, ◌++◌, [], ◌∷◌, Some, Err, length, map, find, set, slice_get, IsSome, IsNone, IfOk, IfErr, OnOk, OnErr};
+ghost use Rattle.std.specs.Prelude.{◌≡◌, ◌↔◌, ◌<◌, ◌≤◌, ◌++◌, [], ◌∷◌, Some, Err, length, map, find, set, slice_get, IsSome, IsNone, IfOk, IfErr, OnOk, OnErr};
 ghost use Rattle.std.specs.Option.{option_map};
 ghost use Rattle.ddt_path.specs.Covers.{is_same_path};
 ghost use Rattle.ddt_path.specs.Steps.{IsReadAs};
+ghost use Rattle.ddt_trie.specs.PrefixMap.{most_entries};
 ghost use Rattle.ddt_config.specs.Table.{Outline};
+ghost use Rattle.ddt_node.specs.laws.Changed.{at_prefix};
+ghost use Rattle.ddt_registrar.specs.Carried.{carried, carried_from};
 ghost use Rattle.ddt_registrar.specs.Judging.{judged, judged_at, site_of};
+ghost use Rattle.ddt_registrar.specs.Sender.{sender_of};
 ghost use Rattle.ddt_registrar.specs.State.{Site};
-ghost use Rattle.ddt_registrar.specs.declared.refusal.NotAdded.TheVariants.{Twice};
-ghost use Rattle.ddt_registrar.specs.declared.refusal.Refusal.TheVariants.{Memory};
-ghost use Rattle.ddt_registrar.specs.Taking.{sites_after, after_all, IsNotifyFor, IsTaken, IsInPart, IsRefused, site_at, in_force};
+ghost use Rattle.ddt_registrar.specs.declared.refusal.NotAdded.TheVariants.{Twice, Full};
+ghost use Rattle.ddt_registrar.specs.Taking.{sites_after, after_all, IsNotifyFor, IsNotNotified, IsTaken, IsInPart, IsRefused, site_at, in_force};
 
 use crate::arrival::Arrival;
 use crate::judging::judge;
@@ -59,14 +62,15 @@ impl<M: PrefixMap<u32>> Registrar<M> {
     pub fn add(&mut self, site: KeyedSite) -> Result<(), NotAdded>
         ensures added { OnOk result (self.new ≡ self.old ++ site ∷ []) }
         ensures refused { OnErr result (self.new ≡ self.old) }
-        ensures twice { result ≡ Err Twice → IsSome (find (λ s. is_same_path s.prefix site.prefix) self.old) }
-        ensures once { OnOk result (IsNone (find (λ s. is_same_path s.prefix site.prefix) self.old)) }
+        ensures twice { result ≡ Err Twice ↔ IsSome (find (λ s. is_same_path s.prefix site.prefix) self.old) }
+        ensures full { result ≡ Err Full ↔ IsNone (find (λ s. is_same_path s.prefix site.prefix) self.old)
+            × (most_entries ≤ length self.old) }
     {
         match self.site(site.prefix) {
             Some(_same) => return Err(NotAdded::Twice),
             None => {}
         }
-        if self.sites.len() >= MOST_ENTRIES || self.places.len() >= MOST_ENTRIES {
+        if self.sites.len() >= MOST_ENTRIES {
             return Err(NotAdded::Full);
         }
         if self.sites.reserve(1).is_err() {
@@ -99,6 +103,38 @@ impl<M: PrefixMap<u32>> Registrar<M> {
         }
     }
 
+    /// Takes over what was registered for a site of its prefix before. It allocates nothing.
+    fn carry_one(&mut self, before: KeyedSite)
+        ensures { self.new ≡ map (at_prefix (λ s. s.prefix) before.prefix (carried before)) self.old }
+    {
+        match self.places.get(before.prefix) {
+            Some(place) => self.sites[*place as usize].carry_over(before),
+            None => {}
+        }
+    }
+
+    /// Takes over what was registered before its sites were read anew. A site that was there before has again: whether
+    /// an xTR has registered; the last nonces under the keys that there are; and the registrations under keys that are
+    /// still the same. Any other stays as it is. It allocates nothing. No server follows: `put_in_force` is to be
+    /// called then.
+    pub fn carry_over(&mut self, before: Registrar<M>)
+        ensures { self.new ≡ map (carried_from before) self.old }
+    {
+        for site in before.sites {
+            self.carry_one(site);
+        }
+    }
+
+    /// Has a server, which answers by some configuration, answer by the one in force: each site has its ETRs in force.
+    /// It allocates nothing.
+    pub fn put_in_force(&self, alloc: Global, ranking: &mut Ranking, server: &mut Server<M>)
+        ensures { server.new ≡ in_force self.now server.old }
+    {
+        for site in self.sites.as_slice() {
+            server.set_etrs(alloc, site.prefix, site.etrs_in_force(ranking));
+        }
+    }
+
     /// The key under which a record of a Map-Register may be registered, or why it may not.
     fn judge_one(
         &self,
@@ -106,17 +142,19 @@ impl<M: PrefixMap<u32>> Registrar<M> {
         record: &RegisterRecord<'_>,
     ) -> Result<&Key, Refusal>
         ensures { IsReadAs (λ k. k.now) result
-            (judged_at arrival.now.message.now record.now arrival.now.sender (site_of record.now self.now)) }
+            (judged_at arrival.now.message.now record.now (sender_of arrival.now.message.now.id arrival.now.from)
+            (site_of record.now self.now)) }
     {
         match self.site(record.prefix()) {
-            Some(site) => judge(arrival.message, record, arrival.sender, site),
+            Some(site) => judge(arrival.message, record, arrival.sender(), site),
             None => Err(Refusal::NoSite),
         }
     }
 
     /// The key under which a Map-Register is taken, that of its first record; or why it isn't.
     fn judge(&self, arrival: &Arrival<'_, '_>) -> Result<&Key, Refusal>
-        ensures { IsReadAs (λ k. k.now) result (judged arrival.now.message.now arrival.now.sender self.now) }
+        ensures { IsReadAs (λ k. k.now) result
+            (judged arrival.now.message.now (sender_of arrival.now.message.now.id arrival.now.from) self.now) }
     {
         let mut first = None;
         let mut rest = arrival.message.records();
@@ -129,10 +167,10 @@ impl<M: PrefixMap<u32>> Registrar<M> {
 
     /// The Map-Notify for a Map-Register that is taken, none where the bit M is clear; or why it isn't taken.
     fn notify(&self, alloc: Global, arrival: &Arrival<'_, '_>) -> Result<Option<Vec<u8>>, Refusal>
-        ensures told { IfOk result (λ notify. IsNotifyFor arrival.now.message.now arrival.now.sender self.now
-            (option_map (λ v. v.items) notify)) }
-        ensures refused { IfErr result (λ e. (e ≡ Memory)
-            ⊎ (judged arrival.now.message.now arrival.now.sender self.now ≡ Err e)) }
+        ensures told { IfOk result (λ notify. IsNotifyFor arrival.now.message.now
+            (sender_of arrival.now.message.now.id arrival.now.from) self.now (option_map (λ v. v.items) notify)) }
+        ensures refused { IfErr result (λ e. IsNotNotified arrival.now.message.now
+            (sender_of arrival.now.message.now.id arrival.now.from) self.now e) }
     {
         let key = self.judge(arrival)?;
         if arrival.message.head().want_notify {
@@ -155,7 +193,8 @@ impl<M: PrefixMap<u32>> Registrar<M> {
         record: &RegisterRecord<'_>,
     ) -> Result<(), AllocError>
         ensures changed { OnOk result (self.new
-            ≡ sites_after arrival.now.moment arrival.now.message.now arrival.now.sender record.now self.old) }
+            ≡ sites_after arrival.now.moment arrival.now.message.now
+            (sender_of arrival.now.message.now.id arrival.now.from) record.now self.old) }
         ensures unchanged { OnErr result (self.new ≡ self.old) }
         ensures follows { (c : Outline) → server.old ≡ in_force self.old c → server.new ≡ in_force self.new c }
     {
@@ -179,9 +218,9 @@ impl<M: PrefixMap<u32>> Registrar<M> {
         arrival: &Arrival<'_, '_>,
     ) -> Result<(), AllocError>
         ensures changed { OnOk result (self.new ≡ after_all arrival.now.moment arrival.now.message.now
-            arrival.now.sender arrival.now.message.now.records self.old) }
-        ensures some { OnErr result (IsInPart arrival.now.moment arrival.now.message.now arrival.now.sender
-            self.old self.new) }
+            (sender_of arrival.now.message.now.id arrival.now.from) arrival.now.message.now.records self.old) }
+        ensures some { OnErr result (IsInPart arrival.now.moment arrival.now.message.now
+            (sender_of arrival.now.message.now.id arrival.now.from) self.old self.new) }
         ensures follows { (c : Outline) → server.old ≡ in_force self.old c → server.new ≡ in_force self.new c }
     {
         let mut ranking = Ranking::new(alloc)?;
@@ -194,18 +233,20 @@ impl<M: PrefixMap<u32>> Registrar<M> {
 
     /// Takes a Map-Register, which has each of its records registered for its xTR, or withdrawn where its TTL is 0, and
     /// gives the Map-Notify for it, none where the bit M is clear. Refused, and then nothing changes, with the first
-    /// refusal of its records in their order; but where memory runs out, 7, the first of its records may have changed
-    /// their sites. The server follows in each case: where it answered by the configuration in force, it still does.
+    /// refusal of its records in their order; but where it may be registered and memory runs out, 7, the first of its
+    /// records may have changed their sites. The server follows in each case: where it answered by the configuration in
+    /// force, it still does.
     pub fn take(
         &mut self,
         alloc: Global,
         server: &mut Server<M>,
         arrival: &Arrival<'_, '_>,
     ) -> Result<Option<Vec<u8>>, Refusal>
-        ensures taken { IfOk result (λ notify. IsTaken arrival.now.moment arrival.now.message.now arrival.now.sender
-            self.old self.new (option_map (λ v. v.items) notify)) }
-        ensures refused { IfErr result (λ e. IsRefused arrival.now.moment arrival.now.message.now arrival.now.sender
-            self.old self.new e) }
+        ensures taken { IfOk result (λ notify. IsTaken arrival.now.moment arrival.now.message.now
+            (sender_of arrival.now.message.now.id arrival.now.from) self.old self.new
+            (option_map (λ v. v.items) notify)) }
+        ensures refused { IfErr result (λ e. IsRefused arrival.now.moment arrival.now.message.now
+            (sender_of arrival.now.message.now.id arrival.now.from) self.old self.new e) }
         ensures follows { (c : Outline) → server.old ≡ in_force self.old c → server.new ≡ in_force self.new c }
     {
         let notify = self.notify(alloc, arrival)?;

@@ -10,6 +10,9 @@ use std::marker::Model;
 #[derive(Debug, Drop)]
 pub struct Registration {
     pub sender: Sender,
+    /// The Key ID and the Algorithm ID of the key that its message named.
+    pub key_id: u8,
+    pub algorithm: u8,
     /// Its ETRs with their priorities, as the message lists them; at most eight.
     pub etrs: Vec<Ranked>,
     /// The moment, in milliseconds, from which it is over.
@@ -21,7 +24,13 @@ impl Model for Registration {
 
     ghost Value = { ARegistration };
 
-    ghost view = { λ r. record { sender = r.sender; etrs = r.etrs.items; deadline = r.deadline } };
+    ghost view = { λ r. record {
+      sender = r.sender;
+      key_id = r.key_id;
+      algorithm = r.algorithm;
+      etrs = r.etrs.items;
+      deadline = r.deadline;
+    } };
 }
 
 impl Keyed for Registration {
@@ -34,10 +43,13 @@ impl Keyed for Registration {
     }
 }
 
-/// The nonce of the last message that was taken from an xTR under a key. It outlives the registration.
+/// The nonce of the last message that was taken from an xTR under a key whose nonces have to increase. It outlives the
+/// registration.
 #[derive(Clone, Copy, Debug)]
 pub struct LastNonce {
+    /// The Key ID and the Algorithm ID of the key.
     pub key_id: u8,
+    pub algorithm: u8,
     /// The xTR-ID and Site-ID, if the message had them.
     pub xtr: Option<XtrId>,
     pub nonce: u64,
@@ -49,6 +61,8 @@ impl Keyed for LastNonce {
     ghost use Rattle.ddt_registrar.specs.Registration.{is_of_same_xtr};
 
     fn is_same(&self, other: &Self) -> bool {
-        self.key_id == other.key_id && is_same_id(self.xtr, other.xtr)
+        self.key_id == other.key_id
+            && self.algorithm == other.algorithm
+            && is_same_id(self.xtr, other.xtr)
     }
 }

@@ -45,7 +45,7 @@ module _ (m : Message) (x : Sender) (sites : List Site) (r : RegisterRecord) whe
       → MayRegister m x sites r
   with_key s is None named key e = absurd cc
   with_key s is (Some k) named key e =
-      let passed = all_passed (bears_code k.secret m) (is_fresh k.replay (nonce_of m) s.nonces) (has_room m r x s) k key e in
+      let passed = all_passed (bears_code k.secret m) (is_fresh k.replay (nonce_of m) s.nonces) (has_room k.replay m r x s) k key e in
       let ids = and_parts (k.id == m.head.key_id) (k.algorithm == m.head.algorithm)
       (found_passes (λ (j : Key). j.id == m.head.key_id && j.algorithm == m.head.algorithm) s.keys k named) in
       record {
@@ -53,6 +53,7 @@ module _ (m : Message) (x : Sender) (sites : List Site) (r : RegisterRecord) whe
         key = k;
         is_kept = contained sites s (found_in (λ (t : Site). is_same_path t.prefix r.prefix) sites s is);
         of_prefix = same_path s.prefix r.prefix (found_passes (λ (t : Site). is_same_path t.prefix r.prefix) sites s is);
+        named = named;
         of_site = contained s.keys k (found_in (λ (j : Key). j.id == m.head.key_id && j.algorithm == m.head.algorithm) s.keys k named);
         under = record { id = eqb-true k.id m.head.key_id ids.0; algorithm = eqb-true k.algorithm m.head.algorithm ids.1; authentic = passed.0 };
         fresh = passed.1;
@@ -112,7 +113,7 @@ not_above : (same : Bool) (a b : ℕ) → same ≡ true → (not same || nat_lt 
 not_above true a b is e le = let lt = ltb-true a b e in absurd (omega (arith, lt, le))
 not_above false a b is e le = false≢true is
 
-not_fresh : (replay : Replay) (new last : LastNonce) (nonces : List LastNonce) → replay ≡ Increasing → IsIn last nonces → is_of_same_xtr last new ≡ true
+pub not_fresh : (replay : Replay) (new last : LastNonce) (nonces : List LastNonce) → replay ≡ Increasing → IsIn last nonces → is_of_same_xtr last new ≡ true
     → new.nonce ≤ last.nonce → is_fresh replay new nonces ≡ true → ⊥
 not_fresh Increasing new last nonces is among same le e =
     not_above (is_of_same_xtr last new) last.nonce new.nonce same (holds_at (is_above new) nonces last e among) le

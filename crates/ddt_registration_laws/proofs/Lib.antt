@@ -3,3 +3,4 @@ mod AcceptLemmas
 mod ForceLemmas
 mod JudgedLemmas
 mod StepLemmas
+mod ReloadLemmas

@@ -1,8 +1,8 @@
 -- What a message that is taken changes of sites, and what the clock does.
-use Rattle.std.proofs.Common.{◌≡◌, ℕ, Bool, true, false, not, cond, List, [], ◌∷◌, ◌==◌, map, Option, Some, None, refl, sym, ap, subst, ◌∙◌, arith, inl, inr}
+use Rattle.std.proofs.Common.{◌≡◌, ℕ, Bool, true, false, not, cond, List, [], ◌∷◌, ◌==◌, ◌&&◌, map, Option, Some, None, refl, sym, ap, subst, ◌∙◌, arith, inl, inr}
 use Rattle.std.specs.Prelude.{Contains, slice_get}
 use Rattle.std.specs.List.{filter}
-use Rattle.std.specs.Option.{option_map}
+use Rattle.std.specs.Option.{option_map, option_map_or}
 use Rattle.std.proofs.lemmas.Bool.{false_from_ne_true, false≢true, cond-true, cond-false, ltb-true, lt-ltb, and_from, not_from_false}
 use Rattle.std.proofs.lemmas.Option.{slice_get-map}
 use Rattle.ddt_path.specs.Covers.{is_same_path}
@@ -16,7 +16,8 @@ use Rattle.ddt_map_register.specs.RegisterRecord.{RegisterRecord}
 use Rattle.ddt_node.specs.laws.Changed.{at_prefix, map_kept, no_two_kept}
 use Rattle.ddt_registrar.specs.declared.sender.Sender.{Sender}
 use Rattle.ddt_registrar.specs.declared.registration.LastNonce.{LastNonce}
-use Rattle.ddt_registrar.specs.Judging.{nonce_of}
+use Rattle.ddt_registrar.specs.declared.key.Replay.TheVariants.{Increasing}
+use Rattle.ddt_registrar.specs.Judging.{key_of, nonce_of, is_increasing, is_remembered}
 use Rattle.ddt_registrar.specs.Lists.{put_by}
 use Rattle.ddt_registrar.specs.Registration.{is_same_registrant, is_of_same_xtr, is_in_force}
 use Rattle.ddt_registrar.specs.Sender.{is_same_sender, is_same_id}
@@ -63,12 +64,29 @@ pub others_stay_registered : OthersStayRegistered
 others_stay_registered now m x r s g among other =
     contained (live_after now m r x s.live) g (live_case now m r x s.live g (r.ttl == 0) (in_contained s.live g among) other)
 
+-- where the nonces of the key that a message names have to increase, its nonce is remembered
+pub remembered : (m : Message) (keys : List Key) (k : Key) → key_of m.head keys ≡ Some k → k.replay ≡ Increasing → is_remembered m.head keys ≡ true
+remembered m keys k is increasing =
+    ap (λ (o : Option Key). option_map_or (λ (j : Key). is_increasing j.replay) o false) is ∙ ap is_increasing increasing
+
+module _ (m : Message) (nonces : List LastNonce) where
+  abbrev with_its_own : List LastNonce
+  with_its_own = put_by (λ old. is_of_same_xtr old (nonce_of m)) (nonce_of m) nonces
+
+  last_is_in : (remembers : Bool) → remembers ≡ true → IsIn (nonce_of m) (cond remembers with_its_own nonces)
+  last_is_in true is = put_is_in (λ old. is_of_same_xtr old (nonce_of m)) (nonce_of m) nonces
+  last_is_in false is = absurd (false≢true is)
+
+  other_is_in : (remembers : Bool) (n : LastNonce) → IsIn n nonces → is_of_same_xtr n (nonce_of m) ≡ false → IsIn n (cond remembers with_its_own nonces)
+  other_is_in true n among other = others_are_in (λ old. is_of_same_xtr old (nonce_of m)) (nonce_of m) nonces n among other
+  other_is_in false n among other = among
+
 pub none_forgotten : (now : ℕ) (m : Message) (x : Sender) (r : RegisterRecord) (s : Site) → NoNonceIsForgotten now m x r s
 none_forgotten now m x r s =
-    let same : LastNonce → Bool = λ old. is_of_same_xtr old (nonce_of m) in
+    let remembers = is_remembered m.head s.keys in
     record {
-      last = contained _ (nonce_of m) (put_is_in same (nonce_of m) s.nonces);
-      others = λ n among other. contained _ n (others_are_in same (nonce_of m) s.nonces n (in_contained s.nonces n among) other);
+      last = λ k is increasing. contained _ (nonce_of m) (last_is_in m s.nonces remembers (remembered m s.keys k is increasing));
+      others = λ n among other. contained _ n (other_is_in m s.nonces remembers n (in_contained s.nonces n among) other);
     }
 
 -- ---- the clock
@@ -138,7 +156,7 @@ only_its_own now m x sites key n s own e at none =
 -- ---- a message that comes again
 
 -- the site at a place has the keys of this one, and has seen the nonce of the message
-record HasSeen (m : Message) (sites : List Site) (n : ℕ) (s : Site) : Type 0 where
+pub record HasSeen (m : Message) (sites : List Site) (n : ℕ) (s : Site) : Type 0 where
   pub site : Site
   pub at : slice_get sites n ≡ Some site
   pub prefix : site.prefix ≡ s.prefix
@@ -147,15 +165,15 @@ record HasSeen (m : Message) (sites : List Site) (n : ℕ) (s : Site) : Type 0 w
 
 module _ (now : ℕ) (m : Message) (x : Sender) where
   seen_case : (r : RegisterRecord) (sites : List Site) (n : ℕ) (s : Site) (b : Bool) → is_same_path s.prefix r.prefix ≡ b → slice_get sites n ≡ Some s
-      → (b ≡ false → IsIn (nonce_of m) s.nonces) → HasSeen m (sites_after now m x r sites) n s
-  seen_case r sites n s true is at seen = record {
+      → is_remembered m.head s.keys ≡ true → (b ≡ false → IsIn (nonce_of m) s.nonces) → HasSeen m (sites_after now m x r sites) n s
+  seen_case r sites n s true is at remembers seen = record {
     site = site_after now m x r s;
     at = site_moved now m x r sites n s at ∙ ap (λ (t : Site). Some t) (cond-true (is_same_path s.prefix r.prefix) (site_after now m x r s) s is);
     prefix = refl;
     keys = refl;
-    seen = put_is_in (λ old. is_of_same_xtr old (nonce_of m)) (nonce_of m) s.nonces;
+    seen = last_is_in m s.nonces (is_remembered m.head s.keys) remembers;
   }
-  seen_case r sites n s false is at seen = record {
+  seen_case r sites n s false is at remembers seen = record {
     site = s;
     at = site_moved now m x r sites n s at ∙ ap (λ (t : Site). Some t) (cond-false (is_same_path s.prefix r.prefix) (site_after now m x r s) s is);
     prefix = refl;
@@ -166,35 +184,42 @@ module _ (now : ℕ) (m : Message) (x : Sender) where
   through : (sites : List Site) (n : ℕ) (s t : Site) → t.prefix ≡ s.prefix → t.keys ≡ s.keys → HasSeen m sites n t → HasSeen m sites n s
   through sites n s t p k h = record { site = h.site; at = h.at; prefix = h.prefix ∙ p; keys = h.keys ∙ k; seen = h.seen }
 
-  still_seen : (rs : List RegisterRecord) (sites : List Site) (n : ℕ) (s : Site) → slice_get sites n ≡ Some s → IsIn (nonce_of m) s.nonces
+  still_seen : (rs : List RegisterRecord) (sites : List Site) (n : ℕ) (s : Site) → slice_get sites n ≡ Some s → is_remembered m.head s.keys ≡ true → IsIn (nonce_of m) s.nonces
       → HasSeen m (after_all now m x rs sites) n s
-  still_seen [] sites n s at seen = record { site = s; at = at; prefix = refl; keys = refl; seen = seen }
-  still_seen (r ∷ others) sites n s at seen =
-      let h = seen_case r sites n s (is_same_path s.prefix r.prefix) refl at (λ b. seen) in
-      through _ n s h.site h.prefix h.keys (still_seen others (sites_after now m x r sites) n h.site h.at h.seen)
+  still_seen [] sites n s at remembers seen = record { site = s; at = at; prefix = refl; keys = refl; seen = seen }
+  still_seen (r ∷ others) sites n s at remembers seen =
+      let h = seen_case r sites n s (is_same_path s.prefix r.prefix) refl at remembers (λ b. seen) in
+      through _ n s h.site h.prefix h.keys
+      (still_seen others (sites_after now m x r sites) n h.site h.at (ap (is_remembered m.head) h.keys ∙ remembers) h.seen)
 
-  seen_after : (rs : List RegisterRecord) (sites : List Site) (n : ℕ) (s : Site) (q : RegisterRecord) → slice_get sites n ≡ Some s → IsIn q rs → s.prefix ≡ q.prefix
+  pub seen_after : (rs : List RegisterRecord) (sites : List Site) (n : ℕ) (s : Site) (q : RegisterRecord) → slice_get sites n ≡ Some s → is_remembered m.head s.keys ≡ true
+      → IsIn q rs → s.prefix ≡ q.prefix
       → HasSeen m (after_all now m x rs sites) n s
-  seen_after [] sites n s q at among of_q = absurd among
-  seen_after (r ∷ others) sites n s q at (inl is) of_q =
+  seen_after [] sites n s q at remembers among of_q = absurd among
+  seen_after (r ∷ others) sites n s q at remembers (inl is) of_q =
       let same : is_same_path s.prefix r.prefix ≡ true = path_itself s.prefix r.prefix (of_q ∙ ap (λ (p : RegisterRecord). p.prefix) is) in
-      let h = seen_case r sites n s true same at (λ b. absurd (false≢true (sym b))) in
-      through _ n s h.site h.prefix h.keys (still_seen others (sites_after now m x r sites) n h.site h.at h.seen)
-  seen_after (r ∷ others) sites n s q at (inr later) of_q =
+      let h = seen_case r sites n s true same at remembers (λ b. absurd (false≢true (sym b))) in
+      through _ n s h.site h.prefix h.keys
+      (still_seen others (sites_after now m x r sites) n h.site h.at (ap (is_remembered m.head) h.keys ∙ remembers) h.seen)
+  seen_after (r ∷ others) sites n s q at remembers (inr later) of_q =
       let t = moved now m x r s in
       let prefix : t.prefix ≡ s.prefix = view_case (λ (a : Site). a.prefix) now m x (λ p a. refl) r s (is_same_path s.prefix r.prefix) in
       let keys : t.keys ≡ s.keys = view_case (λ (a : Site). a.keys) now m x (λ p a. refl) r s (is_same_path s.prefix r.prefix) in
-      through _ n s t prefix keys (seen_after others (sites_after now m x r sites) n t q (site_moved now m x r sites n s at) later (prefix ∙ of_q))
+      through _ n s t prefix keys
+      (seen_after others (sites_after now m x r sites) n t q (site_moved now m x r sites n s at) (ap (is_remembered m.head) keys ∙ remembers) later
+      (prefix ∙ of_q))
 
 itself_case : (id : Option XtrId) → is_same_id id id ≡ true
 itself_case (Some a) = and_from (a.xtr == a.xtr) (a.site == a.site) (eqb_self a.xtr) (eqb_self a.site)
 itself_case None = refl
 
-nonce_itself : (n : LastNonce) → is_of_same_xtr n n ≡ true
-nonce_itself n = and_from (n.key_id == n.key_id) (is_same_id n.xtr n.xtr) (eqb_self n.key_id) (itself_case n.xtr)
+pub nonce_itself : (n : LastNonce) → is_of_same_xtr n n ≡ true
+nonce_itself n =
+    and_from (n.key_id == n.key_id && n.algorithm == n.algorithm) (is_same_id n.xtr n.xtr)
+    (and_from (n.key_id == n.key_id) (n.algorithm == n.algorithm) (eqb_self n.key_id) (eqb_self n.algorithm)) (itself_case n.xtr)
 
 -- no two prefixes of sites are one after a message either
-own_stay : (now : ℕ) (m : Message) (x : Sender) (rs : List RegisterRecord) (sites : List Site) → have_own_prefixes (λ (s : Site). s.prefix) sites ≡ true
+pub own_stay : (now : ℕ) (m : Message) (x : Sender) (rs : List RegisterRecord) (sites : List Site) → have_own_prefixes (λ (s : Site). s.prefix) sites ≡ true
     → have_own_prefixes (λ (s : Site). s.prefix) (after_all now m x rs sites) ≡ true
 own_stay now m x [] sites own = own
 own_stay now m x (r ∷ others) sites own =
@@ -208,7 +233,8 @@ pub not_twice : NoMessageIsTakenTwice
 not_twice now m x y sites key r own e among increasing =
     let may = taken_whole m x sites key e r among in
     let place = get_in sites may.site (in_contained sites may.site may.is_kept) in
-    let h = seen_after now m x m.records sites place.0 may.site r place.2 (in_contained m.records r among) may.of_prefix in
+    let remembers = remembered m may.site.keys may.key may.named (increasing may.site may.key may.is_kept may.of_prefix may.of_site may.under) in
+    let h = seen_after now m x m.records sites place.0 may.site r place.2 remembers (in_contained m.records r among) may.of_prefix in
     let later = after_all now m x m.records sites in
     replays m y later r h.site (nonce_of m) (own_stay now m x m.records sites own) among (contained later h.site (in_get later place.0 h.site h.at))
     (h.prefix ∙ may.of_prefix)

@@ -7,7 +7,8 @@ use Rattle.ddt_registrar.specs.declared.key.Replay.TheVariants.{Increasing}
 use Rattle.ddt_registrar.specs.declared.sender.Sender.{Sender}
 use Rattle.ddt_registrar.specs.declared.registration.LastNonce.{LastNonce}
 use Rattle.ddt_registrar.specs.declared.refusal.Refusal.{Refusal}
-use Rattle.ddt_registrar.specs.Judging.{bears_code, nonce_of, is_fresh, has_room, judged}
+use Rattle.ddt_registrar.specs.Carried.{is_still_key, carried, carried_from}
+use Rattle.ddt_registrar.specs.Judging.{key_named, key_of, bears_code, nonce_of, is_fresh, has_room, judged}
 use Rattle.ddt_registrar.specs.Registration.{is_of_same_xtr}
 use Rattle.ddt_registrar.specs.Sender.{is_same_sender}
 use Rattle.ddt_registrar.specs.State.{Key, Registration, Site}
@@ -23,16 +24,18 @@ pub record IsUnder (k : Key) (m : Message) : Type 0 where
   pub algorithm : k.algorithm ≡ m.head.algorithm
   pub authentic : bears_code k.secret m ≡ true
 
--- a record may be registered: its site has a key under which the message is authentic and no replay, and there is room
+-- a record may be registered: the key that the message names at its site is one under which it is authentic and no
+-- replay, and there is room
 pub record MayRegister (m : Message) (x : Sender) (sites : List Site) (r : RegisterRecord) : Type 0 where
   pub site : Site
   pub key : Key
   pub is_kept : Contains sites site
   pub of_prefix : site.prefix ≡ r.prefix
+  pub named : key_of m.head site.keys ≡ Some key
   pub of_site : Contains site.keys key
   pub under : IsUnder key m
   pub fresh : is_fresh key.replay (nonce_of m) site.nonces ≡ true
-  pub room : has_room m r x site ≡ true
+  pub room : has_room key.replay m r x site ≡ true
 
 -- ---- which messages are taken
 
@@ -79,9 +82,11 @@ abbrev pub OthersStayRegistered : Type 0
 OthersStayRegistered = (now : ℕ) (m : Message) (x : Sender) (r : RegisterRecord) (s : Site) (g : Registration)
     → Contains s.live g → is_same_sender g.sender x ≡ false → Contains (site_after now m x r s).live g
 
--- After a record, the nonce of the message is known, and those of other xTRs and keys still are.
+-- After a record, the nonce of the message is known where the nonces of the key that it names have to increase, and
+-- those of other xTRs and keys still are.
 pub record NoNonceIsForgotten (now : ℕ) (m : Message) (x : Sender) (r : RegisterRecord) (s : Site) : Type 0 where
-  pub last : Contains (site_after now m x r s).nonces (nonce_of m)
+  pub last : (k : Key) → key_of m.head s.keys ≡ Some k → k.replay ≡ Increasing
+      → Contains (site_after now m x r s).nonces (nonce_of m)
   pub others : (n : LastNonce) → Contains s.nonces n → is_of_same_xtr n (nonce_of m) ≡ false
       → Contains (site_after now m x r s).nonces n
 
@@ -96,3 +101,21 @@ pub record KeysStay (sites later : List Site) : Type 0 where
   pub keys : map (λ s. s.keys) later ≡ map (λ s. s.keys) sites
   pub configured : map (λ s. s.configured) later ≡ map (λ s. s.configured) sites
   pub fall_back : map (λ s. s.falls_back) later ≡ map (λ s. s.falls_back) sites
+
+-- ---- what is carried over
+
+-- A message that was taken is refused when it comes again after the sites were read anew, whoever sends it, where the
+-- nonces of the key that it names had to increase and have to.
+abbrev pub NoMessageIsTakenAfterReload : Type 0
+NoMessageIsTakenAfterReload = (now : ℕ) (m : Message) (x y : Sender) (before sites : List Site) (key : Key) (r : RegisterRecord)
+    → have_own_prefixes (λ s. s.prefix) before ≡ true → judged m x before ≡ Ok key → Contains m.records r
+    → ((s : Site) (k : Key) → Contains before s → s.prefix ≡ r.prefix → Contains s.keys k → IsUnder k m
+    → k.replay ≡ Increasing)
+    → ((s : Site) (k : Key) → Contains sites s → s.prefix ≡ r.prefix → Contains s.keys k → IsUnder k m
+    → k.replay ≡ Increasing)
+    → IsRefused m y (map (carried_from (after_all now m x m.records before)) sites)
+
+-- A registration of before goes on if and only if the key of before that its message named is still the same.
+abbrev pub RevokedKeysEnd : Type 0
+RevokedKeysEnd = (b s : Site) (g : Registration) (k : Key) → key_named g.key_id g.algorithm b.keys ≡ Some k
+    → Contains (carried b s).live g ↔ (Contains b.live g × (is_still_key s.keys k ≡ true))

@@ -11,4 +11,7 @@ mod steps;
 
 pub use laws::{etrs_are_compiled, other_etrs_are_accepted, some_register_is_in_force};
 pub use ranges::keyed_sites_are_in_range;
-pub use steps::{messages_are_guarded, messages_leave_the_rest, the_clock_ends_registrations};
+pub use steps::{
+    messages_are_guarded, messages_leave_the_rest, reloads_are_guarded,
+    the_clock_ends_registrations,
+};

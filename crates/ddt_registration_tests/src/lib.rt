@@ -12,6 +12,8 @@ mod codes;
 #[cfg(test)]
 mod comparison;
 #[cfg(test)]
+mod keys;
+#[cfg(test)]
 mod notifies;
 #[cfg(test)]
 mod reading;
@@ -21,6 +23,8 @@ mod refused;
 mod registering;
 #[cfg(test)]
 mod registrar;
+#[cfg(test)]
+mod turns;
 #[cfg(test)]
 mod vectors;
 #[cfg(test)]

@@ -95,7 +95,7 @@ fn a_lost_notify_changes_nothing(rt: HostRuntime) {
     map_server.has_etrs(&rt, EAST, &[XTR]);
 }
 
-/// A withdrawal is acknowledged too, and one without the bit M isn't.
+/// A withdrawal is acknowledged too, though it registers nothing; and one without the bit M isn't.
 #[test]
 fn a_withdrawal_is_acknowledged(rt: HostRuntime) {
     let alloc = rt.alloc();
@@ -105,7 +105,7 @@ fn a_withdrawal_is_acknowledged(rt: HostRuntime) {
     let done = registered(alloc, &mut wires, &mut map_server, &bytes);
     same(&rt, &done, &Registered::Taken { notified: true }, &"taken");
     is_tried(&rt, &wires, &message(alloc, &rt, WITHDRAWAL_NOTIFY));
-    map_server.has_etrs(&rt, EAST, &[]);
+    map_server.has_etrs(&rt, EAST, &[CONFIGURED]);
     let bytes = message(alloc, &rt, TWO_RECORDS_REGISTER);
     let done = registered(alloc, &mut wires, &mut map_server, &bytes);
     same(&rt, &done, &Registered::Taken { notified: false }, &"quiet");
@@ -163,6 +163,7 @@ fn each_is_counted(rt: HostRuntime) {
         Registered::Refused(Refusal::Memory),
         Registered::Taken { notified: true },
         Registered::Taken { notified: false },
+        Registered::Limited,
     ]
     .iter()
     .enumerate()
@@ -174,6 +175,7 @@ fn each_is_counted(rt: HostRuntime) {
     let wanted = RegisterCounts {
         taken: 21,
         notified: 10,
+        limited: 12,
         too_long: 1,
         malformed: 2,
         no_record: 3,
@@ -185,4 +187,5 @@ fn each_is_counted(rt: HostRuntime) {
         memory: 9,
     };
     assert!(rt; counts == wanted);
+    assert_eq!(rt; counts.received(), 78);
 }

@@ -126,7 +126,7 @@ impl<R: Role> Daemon<R> {
 
     fn answer(&mut self, rt: &HostRuntime, told: &Told, log: &mut Log) -> Why {
         match told.word {
-            Some(ControlWord::Stats | ControlWord::Reload | ControlWord::Stop)
+            Some(ControlWord::Stats | ControlWord::Reload | ControlWord::Sites | ControlWord::Stop)
                 if !told.argument.is_empty() => {
                 format!(in rt.alloc(); "refused: the word takes nothing after it\n")
             }

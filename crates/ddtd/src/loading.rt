@@ -186,7 +186,10 @@ pub fn server_settings_in(alloc: Global, text: &str, table: &Table) -> Result<Se
 }
 
 /// Refuses settings for the first key that nothing reads.
-fn refuse_unknown(alloc: Global, unknown: Result<Vec<UnknownKey>, AllocError>) -> Result<(), Why> {
+pub fn refuse_unknown(
+    alloc: Global,
+    unknown: Result<Vec<UnknownKey>, AllocError>,
+) -> Result<(), Why> {
     let unknown = match unknown {
         Ok(unknown) => unknown,
         Err(refused) => return Err(Err(refused)),

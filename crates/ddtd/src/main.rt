@@ -4,6 +4,7 @@
 #![tactic(auto)]
 
 mod bounded;
+mod clock;
 mod configuration;
 mod configuration_check;
 mod control;
@@ -20,9 +21,14 @@ mod notify;
 mod poll;
 mod printable;
 mod receive_buffer;
+mod registering;
+mod registration_file;
+mod registration_text;
 mod reply_addresses;
 mod server;
 mod servers_known;
+mod site_changes;
+mod site_keys;
 mod sockets;
 mod source;
 mod standard_streams;
@@ -68,7 +74,7 @@ fn run_words(rt: &HostRuntime, log: &mut Log) -> End {
         }
     };
     match read_asked(rt.alloc(), &words) {
-        Ok(Asked::Check { config }) => configuration_check::check(rt, config),
+        Ok(Asked::Check(asked)) => configuration_check::check(rt, &asked),
         Ok(Asked::Serve(asked)) => server::serve(rt, &asked, log),
         Ok(Asked::Resolve(asked)) => map_resolver::resolve(rt, &asked, log),
         Ok(Asked::Tell(asked)) => control_client::tell(rt, &asked, log),

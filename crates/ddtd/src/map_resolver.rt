@@ -322,6 +322,9 @@ impl<'a> Role for ResolverRole<'a> {
             Some(ControlWord::Lookup) => {
                 lookup_text(rt, &mut self.resolver, now, &told.argument)
             }
+            Some(ControlWord::Sites) => {
+                format!(in rt.alloc(); "refused: only a server has sites\n")
+            }
             _ => format!(in rt.alloc(); "refused: no such word\n"),
         }
     }

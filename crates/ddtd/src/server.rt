@@ -1,6 +1,7 @@
 //! `ddtd serve CONFIG [ADDRESS..]`: a server that runs until it is stopped.
 
 use crate::bounded::Bounded;
+use crate::clock::Clock;
 use crate::configuration::fault_text;
 use crate::control::Told;
 use crate::daemon::{Role, run};
@@ -11,20 +12,23 @@ use crate::loading::{
 };
 use crate::log::{Log, Priority};
 use crate::poll::Poll;
+use crate::registering::{Registering, registrar_of};
+use crate::registration_file::restore;
+use crate::site_keys::load_keyed_sites;
 use crate::sockets::{ServerWires, Sockets};
 use crate::source::{Why, with_path};
-use crate::times::seconds;
+use crate::times::Moments;
 use crate::unknown_keys::UnknownKey;
 use crate::unrecognized::{MOST_MESSAGES, end_period, say_unrecognized};
 use crate::watch::Watch;
 use crate::words::ServeAsked;
 use ddt_config::ServerConfig;
-use ddt_daemon::{
-    Counted, CountedAnswers, DaemonStatistics, Door, ServerRecord, ServerStatistics, serve_ready,
-};
+use ddt_daemon::{ControlWord, Counted, CountedAnswers, DaemonStatistics, Door, ServerStatistics};
 use ddt_ecm::CONTROL_PORT;
+use ddt_map_server::MapServer;
 use ddt_node::Server;
 use ddt_path::Locator;
+use ddt_registrar::Registrar;
 use ddt_settings::ServerSettings;
 use ddt_text::parse_locator;
 use ddt_trie::HashedMap;
@@ -43,14 +47,15 @@ const MOST_TURNS: u32 = 64;
 #[derive(Drop)]
 pub struct ServerRole<'a> {
     asked: &'a ServeAsked<'a>,
-    server: Server<HashedMap<u32>>,
+    /// The server, with what is registered; nothing ever is where no site has a key.
+    server: MapServer<HashedMap<u32>>,
     /// What the server's configuration holds.
     summary: Summary,
     wires: CountedAnswers<Counted<ServerWires>>,
     buffer: Vec<u8>,
     settings: ServerSettings,
-    /// What it has done.
-    done: ServerRecord,
+    registering: Registering<'a>,
+    moments: Moments,
     unrecognized: Bounded,
     watch: Watch,
     late: LateAddresses,
@@ -143,6 +148,38 @@ fn bind(rt: &HostRuntime, address: Locator, sockets: &mut Sockets) -> io::Result
     sockets.bind(rt, address)
 }
 
+/// A Map-Server of a configuration, with what was registered before.
+fn map_server_of(
+    rt: &HostRuntime,
+    asked: &ServeAsked<'_>,
+    config: ServerConfig,
+    clock: Clock,
+    log: &mut Log,
+) -> Result<MapServer<HashedMap<u32>>, Why> {
+    let mut sites = load_keyed_sites(rt, asked.keys, &config)?;
+    let unread = restore(rt, asked.registrations, sites.as_mut_slice(), clock)?;
+    if unread > 0 {
+        let path = asked.registrations.unwrap_or("");
+        let line = format!(in rt.alloc(); "{path}: {unread} lines are not of its form");
+        log.say(rt, Priority::Warning, line);
+    }
+    let registrar = registrar_of(rt.alloc(), sites)?;
+    let server = match Server::of_config(rt.alloc(), config) {
+        Ok(server) => server,
+        Err(fault) => {
+            let text = fault_text(rt.alloc(), "", fault);
+            return Err(with_path(rt, asked.config, text));
+        }
+    };
+    let Ok(mut server) = MapServer::new(rt.alloc(), server, registrar) else {
+        return Err(Err(AllocError));
+    };
+    match server.end(rt.alloc(), clock.moment) {
+        Ok(()) => Ok(server),
+        Err(refused) => Err(Err(refused)),
+    }
+}
+
 impl<'a> ServerRole<'a> {
     /// A server of the file's configuration, at its sockets.
     fn start(
@@ -154,18 +191,18 @@ impl<'a> ServerRole<'a> {
         let settings = load_server_settings(rt, asked.settings)?;
         let loaded = load_configuration(rt, asked.config)?;
         say_unknown(rt, asked.config, loaded.unknown.as_slice(), log);
+        let Ok(mut moments) = Moments::new(rt) else {
+            return Err(format!(in rt.alloc(); "the system tells no time"));
+        };
+        let clock = Clock::now(rt, &mut moments);
         let addresses = addresses_in(rt, asked, &loaded.config)?;
         let mut sockets = Sockets::new(rt.alloc(), CONTROL_PORT);
         let places = places_of(&addresses, &loaded.config);
         bind_all(rt, asked, places, &mut sockets)?;
         let summary = loaded.summary;
-        let server = match Server::of_config(rt.alloc(), loaded.config) {
-            Ok(server) => server,
-            Err(fault) => {
-                let text = fault_text(rt.alloc(), "", fault);
-                return Err(with_path(rt, asked.config, text));
-            }
-        };
+        let server = map_server_of(rt, asked, loaded.config, clock, log)?;
+        let sites = server.registrar().sites();
+        let registering = Registering::start(rt, asked, sites, clock)?;
         let Ok(buffer) = Vec::from_elem(rt.alloc(), 0u8, MOST_BYTES) else {
             return Err(Err(AllocError));
         };
@@ -176,11 +213,12 @@ impl<'a> ServerRole<'a> {
             wires: CountedAnswers::new(Counted::new(ServerWires { sockets })),
             buffer,
             settings,
-            done: ServerRecord::new(rt.alloc()),
+            registering,
+            moments,
             unrecognized: Bounded::new(),
             watch,
             late: LateAddresses::new(rt.alloc()),
-            second: seconds(rt),
+            second: clock.moment / 1000,
         })
     }
 
@@ -188,14 +226,16 @@ impl<'a> ServerRole<'a> {
         &self.wires.wires.wires.sockets
     }
 
-    /// Looks once a second at what may have changed: the addresses of this machine, and the file, where it is watched;
-    /// whether that has changed.
-    fn look_around(&mut self, rt: &HostRuntime, log: &mut Log) -> bool {
-        let second = seconds(rt);
+    /// Looks once a second at what may have changed: which registrations are over, the addresses of this machine, and
+    /// the file, where it is watched; whether that has changed.
+    fn look_around(&mut self, rt: &HostRuntime, clock: Clock, log: &mut Log) -> bool {
+        let second = clock.moment / 1000;
         if second == self.second {
             return false;
         }
         self.second = second;
+        self.registering
+            .end(rt, &mut self.server, clock.moment, log);
         if self.watch.has_changed(rt, self.asked.config) {
             return true;
         }
@@ -206,13 +246,13 @@ impl<'a> ServerRole<'a> {
     /// Serves at each locator of the configuration that has become this machine's, unless it is told where to serve.
     fn bind_late(&mut self, rt: &HostRuntime, log: &mut Log) {
         if self.asked.addresses.is_empty() {
-            let locators = self.server.config().locators.as_slice();
+            let locators = self.server.server().config().locators.as_slice();
             let sockets = &mut self.wires.wires.wires.sockets;
             self.late.bind(rt, locators, sockets, log);
         }
     }
 
-    fn serve_at(&mut self, alloc: Global, place: usize) {
+    fn serve_at(&mut self, alloc: Global, place: usize, moment: u64) {
         if self.buffer.len() != MOST_BYTES {
             return;
         }
@@ -222,13 +262,12 @@ impl<'a> ServerRole<'a> {
                 at,
                 settings: &self.settings,
             };
-            serve_ready(
+            self.server.serve_ready(
                 &mut self.wires,
-                &self.server,
                 &door,
+                moment,
                 MOST_TURNS,
                 self.buffer.as_mut_slice(),
-                &mut self.done,
             );
         }
     }
@@ -236,10 +275,10 @@ impl<'a> ServerRole<'a> {
     /// Says in the log which requests were dropped for their AFI.
     fn say_unrecognized(&mut self, rt: &HostRuntime, log: &mut Log) {
         let said = &mut self.unrecognized;
-        said.miss(self.done.take_missed_unrecognized());
+        said.miss(self.server.done.take_missed_unrecognized());
         end_period(rt, said, self.second.saturating_mul(1000), log);
         for _message in 0..MOST_MESSAGES {
-            let Some(one) = self.done.take_unrecognized() else {
+            let Some(one) = self.server.done.take_unrecognized() else {
                 return;
             };
             say_unrecognized(rt, said, one, log);
@@ -249,7 +288,7 @@ impl<'a> ServerRole<'a> {
     /// Refuses a configuration of another group, or of servers of another kind.
     fn expect_group(&self, rt: &HostRuntime, config: &ServerConfig) -> Result<(), Why> {
         let path = self.asked.config;
-        let own = self.server.config();
+        let own = self.server.server().config();
         if config.name != own.name {
             let (name, running) = (name_text(&config.name), name_text(&own.name));
             return Err(format!(in rt.alloc();
@@ -270,12 +309,13 @@ impl<'a> ServerRole<'a> {
         &mut self,
         rt: &HostRuntime,
         loaded: Loaded,
+        registrar: Registrar<HashedMap<u32>>,
         addresses: &[Locator],
     ) -> Result<(), Why> {
         let places = places_of(addresses, &loaded.config);
         bind_all(rt, self.asked, places, &mut self.wires.wires.wires.sockets)?;
         let summary = loaded.summary;
-        match self.server.take_up_config(rt.alloc(), loaded.config) {
+        match self.server.take_up(rt.alloc(), loaded.config, registrar) {
             Ok(()) => {
                 self.summary = summary;
                 Ok(())
@@ -299,13 +339,15 @@ impl<'a> Role for ServerRole<'a> {
 
     /// Serves at each socket at which something came.
     fn round(&mut self, rt: &HostRuntime, poll: &Poll, log: &mut Log) -> bool {
+        let clock = Clock::now(rt, &mut self.moments);
         for place in 0..self.sockets().len() {
             if poll.is_ready(place) {
-                self.serve_at(rt.alloc(), place);
+                self.serve_at(rt.alloc(), place, clock.moment);
             }
         }
+        self.registering.keep(rt, &mut self.server, clock, log);
         self.say_unrecognized(rt, log);
-        self.look_around(rt, log)
+        self.look_around(rt, clock, log)
     }
 
     fn take_up(&mut self, rt: &HostRuntime, log: &mut Log) -> Result<(), Why> {
@@ -314,19 +356,23 @@ impl<'a> Role for ServerRole<'a> {
         say_unknown(rt, self.asked.config, loaded.unknown.as_slice(), log);
         self.expect_group(rt, &loaded.config)?;
         let addresses = addresses_in(rt, self.asked, &loaded.config)?;
-        let taken = self.take_up_at(rt, loaded, &addresses);
+        let sites = load_keyed_sites(rt, self.asked.keys, &loaded.config)?;
+        let registrar = registrar_of(rt.alloc(), sites)?;
+        let taken = self.take_up_at(rt, loaded, registrar, &addresses);
         // The sockets are those of the configuration that is in force from now on.
-        let places = places_of(&addresses, self.server.config());
+        let places = places_of(&addresses, self.server.server().config());
         self.wires.wires.wires.sockets.keep(places);
         if taken.is_ok() {
             self.settings = settings;
             self.late.clear();
+            let sites = self.server.registrar().sites();
+            self.registering.renew(rt, sites, log);
         }
         taken
     }
 
     fn says(&self, rt: &HostRuntime) -> Why {
-        let name = name_text(&self.server.config().name);
+        let name = name_text(&self.server.server().config().name);
         let mut text = format!(in rt.alloc(); "{name}")?;
         for place in 0..self.sockets().len() {
             if let Some(at) = self.sockets().at(place) {
@@ -334,6 +380,8 @@ impl<'a> Role for ServerRole<'a> {
             }
         }
         text.push_str(&format!(in rt.alloc(); ", {}", self.summary)?)?;
+        let sites = self.server.registrar().sites();
+        text.push_str(&self.registering.says(rt.alloc(), sites)?)?;
         Ok(text)
     }
 
@@ -348,9 +396,9 @@ impl<'a> Role for ServerRole<'a> {
 
     fn statistics(&self, rt: &HostRuntime, daemon: DaemonStatistics) -> Why {
         let holds = self.summary.seal.counts;
-        let statistics = ServerStatistics {
+        let mut statistics = ServerStatistics {
             daemon,
-            counts: self.done.counts,
+            counts: self.server.done.counts,
             answers: self.wires.answers,
             wires: self.wires.wires.counts,
             sockets: self.sockets().len() as u64,
@@ -358,10 +406,19 @@ impl<'a> Role for ServerRole<'a> {
             children: u64::from(holds.children),
             sites: u64::from(holds.sites),
         };
-        format!(in rt.alloc(); "{statistics}")
+        self.registering
+            .set_apart(self.server.counts(), &mut statistics);
+        let mut text = format!(in rt.alloc(); "{statistics}")?;
+        text.push_str(&self.registering.statistics(rt.alloc(), &self.server)?)?;
+        Ok(text)
     }
 
-    fn answer(&mut self, rt: &HostRuntime, _told: &Told, _log: &mut Log) -> Why {
+    fn answer(&mut self, rt: &HostRuntime, told: &Told, _log: &mut Log) -> Why {
+        if told.word == Some(ControlWord::Sites) {
+            let moment = self.moments.now(rt).millis();
+            let sites = self.server.registrar().sites();
+            return self.registering.answer(rt.alloc(), sites, moment);
+        }
         format!(in rt.alloc(); "refused: only a resolver knows servers and has a cache\n")
     }
 }

@@ -3,6 +3,7 @@
 use std::alloc::{AllocError, Global};
 use std::fs::File;
 use std::io::Read;
+use std::os::unix::fs::PermissionsExt;
 use std::{fs, io};
 
 /// The most bytes of a configuration: 64 MiB.
@@ -11,8 +12,14 @@ pub const MOST_CONFIGURATION: u64 = 67_108_864;
 /// The most bytes of the settings of a resolver: 1 MiB.
 pub const MOST_SETTINGS: u64 = 1_048_576;
 
+/// The most bytes of a file of keys: 64 MiB.
+pub const MOST_KEYS: u64 = 67_108_864;
+
 /// Why there is nothing to run, in words; or no memory for them.
 pub type Why = Result<String, AllocError>;
+
+/// The bits of a file's mode by which others than its owner may do something with it.
+const OTHERS: u32 = 0o077;
 
 /// What is at a path.
 #[derive(Drop)]
@@ -32,6 +39,23 @@ pub fn read(rt: &HostRuntime, path: &str, most: u64) -> Result<Vec<u8>, Why> {
         Ok(Found::NoFile) => Err(format!(in rt.alloc(); "{path}: no regular file")),
         Ok(Found::TooLarge) => Err(with_path(rt, path, too_large(rt.alloc(), most))),
         Err(error) => Err(format!(in rt.alloc(); "{path}: {error}")),
+    }
+}
+
+/// The bytes of the regular file at a path, which only its owner may read or write.
+pub fn read_secret(rt: &HostRuntime, path: &str, most: u64) -> Result<Vec<u8>, Why> {
+    match refuse_shared(rt, path) {
+        Ok(()) => read(rt, path, most),
+        Err(why) => Err(with_path(rt, path, why)),
+    }
+}
+
+/// Refuses, without its path, a file that others than its owner may read or write.
+pub fn refuse_shared(rt: &HostRuntime, path: &str) -> Result<(), Why> {
+    match fs::metadata(rt, path) {
+        Ok(metadata) if metadata.permissions().mode() & OTHERS == 0 => Ok(()),
+        Ok(_) => Err(format!(in rt.alloc(); "others than its owner may read or write it")),
+        Err(error) => Err(format!(in rt.alloc(); "{error}")),
     }
 }
 

@@ -85,7 +85,7 @@ pub fn cache_text(
         }
     }
     text.extend_from_slice(format!(in rt.alloc(); "entries={count}\n")?.as_bytes())?;
-    text_of(rt, &text)
+    text_of(rt.alloc(), &text)
 }
 
 /// Whether an entry hasn't ended.
@@ -106,7 +106,7 @@ pub fn lookup_text(
     let (prefix, entry) = resolver.longest(now, x);
     let mut text = Vec::new(rt.alloc());
     push_entry(&mut text, prefix, &entry, now)?;
-    text_of(rt, &text)
+    text_of(rt.alloc(), &text)
 }
 
 /// Forgets what is remembered of a prefix and those inside it.
@@ -183,6 +183,7 @@ pub fn push_locators(text: &mut Vec<u8>, locators: &[Locator]) -> Result<(), All
     Ok(())
 }
 
-fn text_of(rt: &HostRuntime, bytes: &[u8]) -> Why {
-    String::from_str(rt.alloc(), str::from_utf8(bytes).unwrap_or(""))
+/// The text that bytes are.
+pub fn text_of(alloc: Global, bytes: &[u8]) -> Why {
+    String::from_str(alloc, str::from_utf8(bytes).unwrap_or(""))
 }

@@ -4,15 +4,24 @@ use ddt_cache::{LAST_MOMENT, Moment};
 use std::io;
 use std::time::{Duration, Instant, SystemTime};
 
+/// How long ago 1970 began; no time where the system doesn't tell.
+fn since_1970(rt: &HostRuntime) -> Duration {
+    match SystemTime::now(rt) {
+        Ok(now) => now
+            .duration_since(SystemTime::UNIX_EPOCH)
+            .unwrap_or(Duration::ZERO),
+        Err(_) => Duration::ZERO,
+    }
+}
+
 /// The seconds since 1970; 0 where the system doesn't tell.
 pub fn seconds(rt: &HostRuntime) -> u64 {
-    match SystemTime::now(rt) {
-        Ok(now) => match now.duration_since(SystemTime::UNIX_EPOCH) {
-            Ok(since) => since.as_secs(),
-            Err(_) => 0,
-        },
-        Err(_) => 0,
-    }
+    since_1970(rt).as_secs()
+}
+
+/// The milliseconds since 1970; 0 where the system doesn't tell.
+pub fn wall_millis(rt: &HostRuntime) -> u64 {
+    since_1970(rt).as_millis().min(u64::MAX as u128) as u64
 }
 
 /// The moments of a resolver: milliseconds since it started.

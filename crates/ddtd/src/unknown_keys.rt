@@ -34,6 +34,20 @@ const SETTINGS: [&str; 3] = ["roots", "listen", "allow"];
 /// The keys of the settings of a server.
 const SERVER_SETTINGS: [&str; 1] = ["allow"];
 
+/// The keys at the top of a file of keys, and those of each.
+const KEYS: [&str; 1] = ["key"];
+
+const SITE_KEY: [&str; 8] = [
+    "prefix",
+    "accept_more_specifics",
+    "id",
+    "algorithm",
+    "secret",
+    "secret_hex",
+    "replay",
+    "static_etrs",
+];
+
 /// A key that nothing reads.
 #[derive(Drop)]
 pub struct UnknownKey {
@@ -91,6 +105,18 @@ pub fn unknown_in_server_settings(
 ) -> Result<Vec<UnknownKey>, AllocError> {
     let mut paths = Vec::new(alloc);
     add_unknown(&mut paths, "", table, &SERVER_SETTINGS)?;
+    with_lines(alloc, text, paths)
+}
+
+/// The first 16 keys of a file of keys that nothing reads, each once.
+pub fn unknown_in_keys(
+    alloc: Global,
+    text: &str,
+    table: &Table,
+) -> Result<Vec<UnknownKey>, AllocError> {
+    let mut paths = Vec::new(alloc);
+    add_unknown(&mut paths, "", table, &KEYS)?;
+    add_of_each(&mut paths, "key.", tables_at(table, "key"), &SITE_KEY)?;
     with_lines(alloc, text, paths)
 }
 

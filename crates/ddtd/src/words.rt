@@ -5,6 +5,15 @@ use clap::{Arg, ArgAction, ArgMatches, Command, Error};
 use ddt_daemon::{ControlWord, WORDS};
 use std::alloc::{AllocError, Global};
 
+/// What `check` is asked.
+#[derive(Clone, Copy, Debug)]
+pub struct CheckAsked<'a> {
+    /// The path of the file.
+    pub file: &'a str,
+    /// The path of the keys that go with a configuration.
+    pub keys: Option<&'a str>,
+}
+
 /// What `serve` is asked.
 #[derive(Debug, Drop)]
 pub struct ServeAsked<'a> {
@@ -14,6 +23,10 @@ pub struct ServeAsked<'a> {
     pub settings: Option<&'a str>,
     /// Where it is to serve; none where it is to serve at all locators of the configuration that are this machine's.
     pub addresses: Vec<&'a str>,
+    /// The path of the keys under which ETRs register.
+    pub keys: Option<&'a str>,
+    /// The path of the file that keeps what is registered.
+    pub registrations: Option<&'a str>,
     /// The path of the control socket.
     pub control: Option<&'a str>,
     /// Whether the file is watched.
@@ -44,7 +57,7 @@ pub struct TellAsked<'a> {
 /// A command, and what it is asked.
 #[derive(Debug, Drop)]
 pub enum Asked<'a> {
-    Check { config: &'a str },
+    Check(CheckAsked<'a>),
     Serve(ServeAsked<'a>),
     Resolve(ResolveAsked<'a>),
     Tell(TellAsked<'a>),
@@ -62,12 +75,22 @@ const SERVE_HELP: &str = "Examples:
 The settings of a Map-Server:
   allow = [\"192.0.2.0/24\", \"2001:db8::/32\"]     which ITRs may ask it; by default none
 
+The keys of a Map-Server, which only its owner may read, a table [[key]] for each:
+  prefix = \"[0]10.1.9.0/24\"                    a site of the configuration
+  id = 1                                       the Key ID, 0 to 255
+  algorithm = \"sha256\"                         or \"sha1\"
+  secret = \"...\"                               or secret_hex
+  replay = \"increasing\"                        or \"any\", where nonces are random
+  static_etrs = \"until_registered\"             or \"fallback\"
+  accept_more_specifics = false                whether sites inside the prefix have it too
+
 Status: 0 if it was told to stop, 2 if it refuses.";
 
 const TELL_HELP: &str = "The words:
   stats             print what it has counted
   reload            take up its file anew
   servers           print what is known of each server
+  sites             print what is registered for each site that has a key
   cache [PREFIX]    print what is remembered of referrals, of all or inside a prefix
   lookup XEID       print what is remembered for an identifier
   flush [PREFIX]    forget what is remembered, of all or inside a prefix
@@ -93,11 +116,15 @@ pub fn read_asked<'a>(alloc: Global, words: &'a [String]) -> Result<Asked<'a>, E
             control: matches.get_str("control"),
         })),
         Some(("tell", matches)) => Ok(Asked::Tell(tell_asked(&matches))),
-        Some((_, matches)) => Ok(Asked::Check {
-            config: matches.get_str("config").unwrap_or(""),
-        }),
+        Some((_, matches)) => Ok(Asked::Check(CheckAsked {
+            file: matches.get_str("config").unwrap_or(""),
+            keys: matches.get_str("keys"),
+        })),
         // The command line requires one of its commands.
-        None => Ok(Asked::Check { config: "" }),
+        None => Ok(Asked::Check(CheckAsked {
+            file: "",
+            keys: None,
+        })),
     }
 }
 
@@ -110,6 +137,8 @@ fn serve_asked<'a>(alloc: Global, matches: &ArgMatches<'a>) -> Result<ServeAsked
         config: matches.get_str("config").unwrap_or(""),
         settings: matches.get_str("settings"),
         addresses,
+        keys: matches.get_str("keys"),
+        registrations: matches.get_str("registrations"),
         control: matches.get_str("control"),
         is_watched: matches.get_flag("watch"),
     })
@@ -140,8 +169,11 @@ fn command_line<'a>(alloc: Global) -> Result<Command<'a>, AllocError> {
 
 fn check_command<'a>(alloc: Global) -> Result<Command<'a>, AllocError> {
     Command::new(alloc, "check")
-        .about("Say whether a configuration, or the settings of a resolver or a server, are good.")
-        .arg(path(alloc, "config").help("The configuration or the settings, a TOML file"))
+        .about("Say whether a configuration, settings of a resolver or a server, or keys are good.")
+        .arg(path(alloc, "config").help(
+            "The configuration, the settings or the keys, a TOML file",
+        ))?
+        .arg(keys(alloc).help("The keys of sites of the configuration, a TOML file"))
 }
 
 fn serve_command<'a>(alloc: Global) -> Result<Command<'a>, AllocError> {
@@ -160,6 +192,15 @@ fn serve_command<'a>(alloc: Global) -> Result<Command<'a>, AllocError> {
                 .value_name("FILE")
                 .action(ArgAction::Set)
                 .help("Answer the ITRs that this TOML file allows"),
+        )?
+        .arg(keys(alloc).help("Let ETRs register under the keys of this TOML file"))?
+        .arg(
+            Arg::new(alloc, "registrations")
+                .long("registrations")
+                .value_name("FILE")
+                .action(ArgAction::Set)
+                .requires_arg("keys")?
+                .help("Keep in this file, over a restart, what is registered"),
         )?
         .arg(control(alloc))?
         .arg(
@@ -203,6 +244,14 @@ fn tell_command<'a>(alloc: Global) -> Result<Command<'a>, AllocError> {
                 .value_parser(FORMS.as_slice())
                 .help("Print counts in this form"),
         )
+}
+
+/// The path of the keys under which ETRs register.
+fn keys<'a>(alloc: Global) -> Arg<'a> {
+    Arg::new(alloc, "keys")
+        .long("keys")
+        .value_name("FILE")
+        .action(ArgAction::Set)
 }
 
 /// The path of the control socket.

@@ -25,7 +25,7 @@ each_alike f g h k e [] = refl
 each_alike {A = A} f g h k e (x ∷ xs) =
     ap (λ (y : A). y ∷ map f (map g xs)) (e x) ∙ ap (λ (ys : List A). h (k x) ∷ ys) (each_alike f g h k e xs)
 
-each_once : {A : Type 0} (f g h : A → A) → ((a : A) → f (g a) ≡ h a) → (xs : List A) → map f (map g xs) ≡ map h xs
+pub each_once : {A : Type 0} (f g h : A → A) → ((a : A) → f (g a) ≡ h a) → (xs : List A) → map f (map g xs) ≡ map h xs
 each_once f g h e [] = refl
 each_once {A = A} f g h e (x ∷ xs) =
     ap (λ (y : A). y ∷ map f (map g xs)) (e x) ∙ ap (λ (ys : List A). h x ∷ ys) (each_once f g h e xs)

@@ -9,7 +9,7 @@ use crate::registrar::taking::{EAST_BLOCK, LAB_BLOCK};
 use crate::registrar::writing::{Said, SaidLocator, SaidRecord, write};
 use crate::worked::SECRET;
 use ddt_examples::Dice;
-use ddt_map_register::XtrId;
+use ddt_map_register::{SHA256_128, XtrId};
 use ddt_path::Locator;
 use std::alloc::{AllocError, Global};
 use std::process::Abort;
@@ -120,6 +120,7 @@ fn bytes(alloc: Global, rt: &impl Abort, sent: &Sent) -> Vec<u8> {
     });
     let said = Said {
         key_id: sent.key_id,
+        algorithm: SHA256_128,
         nonce: sent.nonce,
         id,
         use_ttl: sent.use_ttl,

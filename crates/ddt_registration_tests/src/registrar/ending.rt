@@ -1,5 +1,6 @@
 //! Until when a site is registered (RFC 9301, section 5.6), and the ETRs of its configuration before and after.
 
+use crate::comparison::same;
 use crate::registrar::map_server::{CONFIGURED, EAST, MapServer};
 use crate::registrar::taking::{OTHER_SOURCE, SOURCE, is_taken, of_east};
 use crate::registrar::writing::{Said, SaidRecord};
@@ -61,6 +62,25 @@ fn each_registration_ends_at_its_own_time(rt: HostRuntime) {
     at.wait(alloc, &rt, 60_000);
     at.has_etrs(&rt, EAST, &[SOURCE]);
     at.wait(alloc, &rt, 60_000);
+    at.has_etrs(&rt, EAST, &[]);
+}
+
+// A withdrawal registers nothing, so the ETRs of the configuration stay; and a registration after it takes their place.
+#[test]
+fn a_withdrawal_that_comes_first_changes_nothing(rt: HostRuntime) {
+    let alloc = rt.alloc();
+    let mut at = MapServer::new(alloc, &rt, false);
+    let gone = [SaidRecord {
+        ttl: 0,
+        ..of_east(&[])
+    }];
+    is_taken(alloc, &rt, &mut at, Said::of(1, &gone), SOURCE);
+    same(&rt, &at.counts(0), &Some((0, 1, false)), &"none");
+    at.has_etrs(&rt, EAST, &[CONFIGURED]);
+    let records = [of_east(&[(1, 1, SOURCE)])];
+    is_taken(alloc, &rt, &mut at, Said::of(2, &records), SOURCE);
+    at.has_etrs(&rt, EAST, &[SOURCE]);
+    is_taken(alloc, &rt, &mut at, Said::of(3, &gone), SOURCE);
     at.has_etrs(&rt, EAST, &[]);
 }
 

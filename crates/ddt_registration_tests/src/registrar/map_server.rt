@@ -6,14 +6,14 @@ use ddt_config::{Content, SiteEntry, from_toml};
 use ddt_map_register::{SHA1_96, SHA256_128};
 use ddt_node::Server;
 use ddt_path::{Action, Listed, Locator, LocatorSet, Prefix, Prefixed};
-use ddt_registrar::{Arrival, Key, KeyedSite, NotAdded, Refusal, Registrar, Replay, Sender};
+use ddt_registrar::{Arrival, Key, KeyedSite, NotAdded, Ranking, Refusal, Registrar, Replay};
 use ddt_text::parse_prefix;
 use ddt_trie::HashedMap;
 use std::alloc::{AllocError, Global};
 use std::process::Abort;
 
 /// The configuration: only the first site has an ETR, 127.0.2.9.
-const CONFIGURATION: &str = r#"kind = "ms"
+pub const CONFIGURATION: &str = r#"kind = "ms"
 locators = ["127.0.1.1", "127.0.1.2"]
 name = "east"
 
@@ -67,14 +67,20 @@ pub const EAST: &str = "[0]10.1.2.0/24";
 pub const LAB: &str = "[0]10.1.9.0/24";
 
 /// The Key ID and the Algorithm ID of a key, and how its nonces are.
-type KeyRow = (u8, u8, Replay);
+pub type KeyRow = (u8, u8, Replay);
 
 /// Keys of nonces that increase, and the one of an implementation whose nonces are random.
-const EAST_KEYS: &[KeyRow] = &[
+pub const EAST_KEYS: &[KeyRow] = &[
     (1, SHA256_128, Replay::Increasing),
     (7, SHA1_96, Replay::Increasing),
     (8, SHA256_128, Replay::Any),
 ];
+
+/// The keys of EAST.
+pub const AS_BEFORE: Keys = Keys {
+    rows: EAST_KEYS,
+    secret: SECRET,
+};
 
 const OTHER_KEYS: &[KeyRow] = &[
     (3, SHA1_96, Replay::Increasing),
@@ -107,10 +113,17 @@ pub struct MapServer {
     pub moment: u64,
 }
 
-fn key(alloc: Global, row: KeyRow) -> Result<Key, AllocError> {
+/// Keys of one secret.
+#[derive(Clone, Copy, Debug)]
+pub struct Keys {
+    pub rows: &'static [KeyRow],
+    pub secret: &'static [u8],
+}
+
+fn key(alloc: Global, row: KeyRow, of_key: &[u8]) -> Result<Key, AllocError> {
     let (id, algorithm, replay) = row;
     let mut secret = Vec::new(alloc);
-    secret.extend_from_slice(SECRET)?;
+    secret.extend_from_slice(of_key)?;
     Ok(Key {
         id,
         algorithm,
@@ -119,10 +132,10 @@ fn key(alloc: Global, row: KeyRow) -> Result<Key, AllocError> {
     })
 }
 
-fn keys(alloc: Global, rows: &[KeyRow]) -> Result<Vec<Key>, AllocError> {
+fn keys_of(alloc: Global, all: Keys) -> Result<Vec<Key>, AllocError> {
     let mut keys = Vec::new(alloc);
-    for row in rows {
-        keys.push(key(alloc, *row)?)?;
+    for row in all.rows {
+        keys.push(key(alloc, *row, all.secret)?)?;
     }
     Ok(keys)
 }
@@ -131,12 +144,17 @@ pub fn prefix(rt: &impl Abort, text: &str) -> Prefix {
     parse_prefix(text.as_bytes()).expect(rt, "no prefix")
 }
 
-/// A site for which nothing is registered yet.
-fn site(alloc: Global, row: &SiteRow, falls_back: bool) -> Option<KeyedSite> {
+/// A site for which nothing is registered yet; that of EAST has these keys.
+fn site(alloc: Global, row: &SiteRow, falls_back: bool, of_east: Keys) -> Option<KeyedSite> {
     let (text, configured, rows) = *row;
+    let of_site = Keys {
+        rows,
+        secret: SECRET,
+    };
+    let of_site = if text == EAST { of_east } else { of_site };
     Some(KeyedSite {
         prefix: parse_prefix(text.as_bytes()).ok()?,
-        keys: keys(alloc, rows).ok()?,
+        keys: keys_of(alloc, of_site).ok()?,
         configured: LocatorSet::of(configured)?,
         falls_back,
         has_registered: false,
@@ -161,11 +179,16 @@ impl MapServer {
 
     /// The same; None where memory is refused.
     pub fn build(alloc: Global, falls_back: bool) -> Option<MapServer> {
+        MapServer::under(alloc, falls_back, AS_BEFORE)
+    }
+
+    /// The same, EAST with these keys.
+    pub fn under(alloc: Global, falls_back: bool, of_east: Keys) -> Option<MapServer> {
         let config = from_toml(alloc, CONFIGURATION).ok()?;
         let server = Server::of_config(alloc, config).ok()?;
         let mut registrar = Registrar::new(alloc);
         for row in SITES {
-            registrar.add(site(alloc, row, falls_back)?).ok()?;
+            registrar.add(site(alloc, row, falls_back, of_east)?).ok()?;
         }
         Some(MapServer {
             registrar,
@@ -174,9 +197,21 @@ impl MapServer {
         })
     }
 
+    /// The same at the same moment after its sites were read anew, EAST with these keys.
+    pub fn reloaded(self, alloc: Global, rt: &impl Abort, of_east: Keys) -> MapServer {
+        let mut fresh = MapServer::under(alloc, false, of_east).expect(rt, "no Map-Server");
+        fresh.moment = self.moment;
+        fresh.registrar.carry_over(self.registrar);
+        let mut ranking = Ranking::new(alloc).expect(rt, "out of memory");
+        fresh
+            .registrar
+            .put_in_force(alloc, &mut ranking, &mut fresh.server);
+        fresh
+    }
+
     /// Adds its first site once more.
     pub fn add_again(&mut self, alloc: Global, rt: &impl Abort) -> Result<(), NotAdded> {
-        let site = site(alloc, &SITES[0], true);
+        let site = site(alloc, &SITES[0], true, AS_BEFORE);
         self.registrar.add(site.expect(rt, "no site"))
     }
 
@@ -191,7 +226,7 @@ impl MapServer {
         let message = read(rt, bytes);
         let arrival = Arrival {
             message: &message,
-            sender: Sender::of(message.id(), source),
+            from: source,
             moment: self.moment,
         };
         self.registrar.take(alloc, &mut self.server, &arrival)

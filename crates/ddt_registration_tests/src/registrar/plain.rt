@@ -45,7 +45,7 @@ struct Row {
     deadline: u64,
 }
 
-/// The last nonce of the xTRs of a name under a key of a site.
+/// The last nonce of the xTRs of a name under a key of a site whose nonces have to increase.
 #[derive(Debug, Drop)]
 struct Nonce {
     site: usize,
@@ -157,13 +157,18 @@ impl Plain {
             Some(place) if place < self.rows.len() => self.rows[place] = row,
             _ => self.rows.push(row)?,
         }
-        self.registered.push(site)?;
+        if ttl > 0 {
+            self.registered.push(site)?;
+        }
         Ok(())
     }
 
-    /// The nonce of a message is the last of its xTR.
+    /// The nonce of a message is the last of its xTR, and forgotten where it may be any.
     fn remember(&mut self, sent: &Sent, site: usize) -> Result<(), AllocError> {
         let (key_id, name) = (sent.key_id, sent.name);
+        if key_id == ANY {
+            return Ok(());
+        }
         self.nonces.retain(|last| last.site != site || last.key_id != key_id || last.name != name);
         self.nonces.push(Nonce {
             site,

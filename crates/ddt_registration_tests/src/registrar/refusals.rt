@@ -1,14 +1,14 @@
 //! Each refusal once: nothing changes, and there is no answer.
 
 use crate::comparison::{holds, same};
-use crate::registrar::map_server::{EAST, LAB, MapServer};
+use crate::registrar::map_server::{EAST, Keys, LAB, MapServer};
 use crate::registrar::taking::{EAST_BLOCK, LAB_BLOCK, OTHER_SOURCE, SOURCE, is_taken, of_east};
 use crate::registrar::writing::{Said, SaidLocator, SaidRecord, write};
 use crate::vectors::NO_RECORD_REGISTER;
-use crate::worked::message;
-use ddt_map_register::XtrId;
+use crate::worked::{SECRET, message};
+use ddt_map_register::{SHA1_96, SHA256_128, XtrId};
 use ddt_path::Locator;
-use ddt_registrar::{NotAdded, Refusal};
+use ddt_registrar::{NotAdded, Refusal, Replay};
 use std::alloc::Global;
 use std::process::Abort;
 
@@ -106,6 +106,34 @@ fn a_replay_is_refused(rt: HostRuntime) {
     is_refused(alloc, &rt, &mut at, said, Refusal::Replayed);
 }
 
+/// Two keys of one Key ID.
+const OF_TWO_ALGORITHMS: Keys = Keys {
+    rows: &[
+        (1, SHA256_128, Replay::Increasing),
+        (1, SHA1_96, Replay::Increasing),
+    ],
+    secret: SECRET,
+};
+
+// A key is known by its Key ID and its Algorithm ID, and so are nonces.
+#[test]
+fn a_key_of_another_algorithm_has_nonces_of_its_own(rt: HostRuntime) {
+    let alloc = rt.alloc();
+    let at = MapServer::under(alloc, false, OF_TWO_ALGORITHMS);
+    let mut at = at.expect(&rt, "no Map-Server");
+    let records = [of_block(EAST_BLOCK)];
+    is_taken(alloc, &rt, &mut at, Said::of(9, &records), SOURCE);
+    let said = Said {
+        algorithm: SHA1_96,
+        ..Said::of(3, &records)
+    };
+    is_taken(alloc, &rt, &mut at, said, SOURCE);
+    is_refused(alloc, &rt, &mut at, said, Refusal::Replayed);
+    let said = Said::of(9, &records);
+    is_refused(alloc, &rt, &mut at, said, Refusal::Replayed);
+    same(&rt, &at.counts(0), &Some((1, 2, true)), &"two nonces");
+}
+
 /// Nine locators, the last of which isn't to be used.
 const NINE: &[SaidLocator] = &[
     (1, 1, Locator::V4(1)),
@@ -186,9 +214,13 @@ fn thirty_three_last_nonces_are_too_many(rt: HostRuntime) {
         let said = withdrawal(u128::from(xtr), &gone);
         is_taken(alloc, &rt, &mut at, said, SOURCE);
     }
-    same(&rt, &at.counts(0), &Some((0, 32, true)), &"nonces");
+    same(&rt, &at.counts(0), &Some((0, 32, false)), &"nonces");
     let said = withdrawal(32, &gone);
     is_refused(alloc, &rt, &mut at, said, Refusal::TooMany);
+    // None is remembered under the key of any nonce.
+    let said = Said { key_id: 8, ..said };
+    is_taken(alloc, &rt, &mut at, said, SOURCE);
+    same(&rt, &at.counts(0), &Some((0, 32, false)), &"any nonce");
     let said = Said {
         nonce: 2,
         ..withdrawal(31, &gone)

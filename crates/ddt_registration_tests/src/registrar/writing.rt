@@ -1,14 +1,31 @@
 //! Map-Registers as tests want them, field by field (RFC 9301, section 5.6).
 
+ghost use Rattle.std.specs.Prelude.{◌≤◌};
+
 use crate::worked::SECRET;
-use ddt_map_register::{SHA256_128, XtrId};
+use ddt_map_register::{SHA1_96, SHA256_128, XtrId};
 use ddt_path::Locator;
-use hmac::hmac_sha256;
+use hmac::{hmac_sha1, hmac_sha256};
 use std::alloc::{AllocError, Global};
 use std::process::Abort;
 
-/// The length of a code by Algorithm ID 2.
-const CODE_LEN: usize = 16;
+/// The lengths of codes by Algorithm ID 1 and 2.
+const SHA1_LEN: usize = 12;
+
+const SHA256_LEN: usize = 16;
+
+const ZEROS: [u8; SHA256_LEN] = [0; SHA256_LEN];
+
+/// The length of codes by an algorithm.
+fn code_len(algorithm: u8) -> usize
+    ensures { result ≤ 16 }
+{
+    if algorithm == SHA1_96 {
+        SHA1_LEN
+    } else {
+        SHA256_LEN
+    }
+}
 
 /// A locator: its priority, its flags, whose last bit says that it is reachable, and its address.
 pub type SaidLocator = (u8, u8, Locator);
@@ -23,10 +40,11 @@ pub struct SaidRecord<'a> {
     pub locators: &'a [SaidLocator],
 }
 
-/// A Map-Register whose code is by Algorithm ID 2.
+/// A Map-Register whose code is by Algorithm ID 1 or 2.
 #[derive(Clone, Copy, Debug)]
 pub struct Said<'a> {
     pub key_id: u8,
+    pub algorithm: u8,
     pub nonce: u64,
     pub id: Option<XtrId>,
     pub use_ttl: bool,
@@ -36,10 +54,12 @@ pub struct Said<'a> {
 }
 
 impl<'a> Said<'a> {
-    /// A Map-Register of these records under Key ID 1, with neither T nor M, from an xTR without a name.
+    /// A Map-Register of these records under Key ID 1 and Algorithm ID 2, with neither T nor M, from an xTR without a
+    /// name.
     pub fn of(nonce: u64, records: &'a [SaidRecord<'a>]) -> Said<'a> {
         Said {
             key_id: 1,
+            algorithm: SHA256_128,
             nonce,
             id: None,
             use_ttl: false,
@@ -91,7 +111,12 @@ fn front(alloc: Global, said: &Said<'_>) -> Result<Vec<u8>, AllocError> {
     let mut bytes = Vec::new(alloc);
     bytes.extend_from_slice(&[first, 0, third, count])?;
     bytes.extend_from_slice(&said.nonce.to_be_bytes())?;
-    bytes.extend_from_slice(&[said.key_id, SHA256_128, 0, CODE_LEN as u8])?;
+    bytes.extend_from_slice(&[
+        said.key_id,
+        said.algorithm,
+        0,
+        code_len(said.algorithm) as u8,
+    ])?;
     Ok(bytes)
 }
 
@@ -108,14 +133,25 @@ fn back(alloc: Global, said: &Said<'_>) -> Result<Vec<u8>, AllocError> {
     Ok(bytes)
 }
 
+/// The first bytes of the code of a message in two parts, with zeros in its place.
+fn code<'a>(said: &Said<'_>, before: &'a [u8], after: &'a [u8]) -> [u8; SHA256_LEN] {
+    let zeros: &'a [u8] = &ZEROS[..code_len(said.algorithm)];
+    let mut code = [0; SHA256_LEN];
+    if said.algorithm == SHA1_96 {
+        let whole = hmac_sha1(said.secret, &[before, zeros, after]);
+        code.copy_from_slice(&whole[..SHA256_LEN]);
+    } else {
+        let whole = hmac_sha256(said.secret, &[before, zeros, after]);
+        code.copy_from_slice(&whole[..SHA256_LEN]);
+    }
+    code
+}
+
 fn written(alloc: Global, said: &Said<'_>) -> Result<Vec<u8>, AllocError> {
     let mut bytes = front(alloc, said)?;
     let back = back(alloc, said)?;
-    let code = hmac_sha256(
-        said.secret,
-        &[bytes.as_slice(), &[0; CODE_LEN], back.as_slice()],
-    );
-    bytes.extend_from_slice(&code[..CODE_LEN])?;
+    let code = code(said, bytes.as_slice(), back.as_slice());
+    bytes.extend_from_slice(&code[..code_len(said.algorithm)])?;
     bytes.extend_from_slice(back.as_slice())?;
     Ok(bytes)
 }

@@ -1,6 +1,7 @@
 use Rattle.std.proofs.Common.{◌≡◌, ◌++◌, List, length}
 use Rattle.ddt_map_register.specs.RegisterRecord.{RegisterRecord}
 use Rattle.ddt_config.specs.Table.{Outline}
+use Rattle.ddt_registrar.specs.Sender.{sender_of}
 use Rattle.ddt_registrar.specs.Taking.{after_all, in_force}
 use Rattle.ddt_registrar.proofs.registrar.Registrar.change_all.Given as goal
 
@@ -8,7 +9,7 @@ use Rattle.ddt_registrar.proofs.registrar.Registrar.change_all.Given as goal
 abbrev pub invariant-loop-record : goal.invariant-loop-record
 invariant-loop-record g l =
     ((done : List RegisterRecord) × (l.arrival.message.now.records ≡ done ++ l.rest)
-    × (l.self ≡ after_all l.arrival.moment l.arrival.message.now l.arrival.sender done l.fn.self))
+    × (l.self ≡ after_all l.arrival.moment l.arrival.message.now (sender_of l.arrival.message.now.id l.arrival.from) done l.fn.self))
     × ((c : Outline) → l.fn.server ≡ in_force l.fn.self c → l.server ≡ in_force l.self c)
 
 abbrev pub decreases-loop-record : goal.decreases-loop-record

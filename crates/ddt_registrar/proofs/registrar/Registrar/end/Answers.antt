@@ -1,4 +1,4 @@
-use Rattle.std.proofs.Common.{◌≡◌, ◌+◌, ◌≤◌, List, length, sym, ap, subst, arith, inl, inr}
+use Rattle.std.proofs.Common.{◌+◌, ◌≤◌, List, length, sym, ap, subst, arith, inl, inr}
 use Rattle.std.proofs.lemmas.Option.{slice_get_cases}
 use Rattle.ddt_node.proofs.EtrLemmas.{IsMappedSoFar, one_mapped, all_mapped}
 use Rattle.ddt_registrar.specs.State.{Site}

@@ -1,15 +1,21 @@
-use Rattle.std.proofs.Common.{◌≡◌, ℕ, List, Bool, true, cond, Some, None, sym, ap, ◌∙◌}
+use Rattle.std.proofs.Common.{◌≡◌, ℕ, List, Bool, true, cond, Some, None, refl, sym, ap, ◌∙◌}
 use Rattle.std.proofs.lemmas.Bool.{and_parts}
 use Rattle.ddt_map_register.specs.declared.register_head.RegisterHead.{RegisterHead}
 use Rattle.ddt_map_register.specs.MapRegister.{Message}
 use Rattle.ddt_map_register.specs.MapNotify.{notify_to}
+use Rattle.ddt_registrar.specs.Sender.{sender_of}
 use Rattle.ddt_registrar.specs.State.{Key}
+use Rattle.ddt_registrar.specs.Taking.{NoMemory}
 use Rattle.ddt_registrar.proofs.JudgeLemmas.{judged_bears}
 use Rattle.ddt_registrar.proofs.registrar.Registrar.notify.Goals as goal
 
 pub notify-requires : goal.notify-requires
 notify-requires g c =
-    (and_parts _ _ (judged_bears c.args.arrival.now.message.now c.args.arrival.now.sender c.args.self.now c.in_ok-key.key.now c.in_ok-key.ensures)).0
+    let who = sender_of c.args.arrival.now.message.now.id c.args.arrival.now.from in
+    (and_parts _ _ (judged_bears c.args.arrival.now.message.now who c.args.self.now c.in_ok-key.key.now c.in_ok-key.ensures)).0
+
+pub returns-in-Err-clause-refused : goal.returns-in-Err-clause-refused
+returns-in-Err-clause-refused g c = NoMemory c.in_ok-key.key.now c.in_ok-key.ensures refl
 
 pub returns-in-Ok-clause-told : goal.returns-in-Ok-clause-told
 returns-in-Ok-clause-told g c =

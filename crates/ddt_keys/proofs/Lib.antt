@@ -1,0 +1,3 @@
+pub mod RingLemmas
+pub mod FillLemmas
+pub mod KeyedLemmas

@@ -1,0 +1,34 @@
+use Rattle.std.proofs.Common.{◌≡◌, ℕ, [], ◌∷◌, length, subst, arith, refl}
+use Rattle.std.specs.Prelude.{None, Ok, Err}
+use Rattle.ddt_wires.specs.declared.call.Call.TheVariants.{Received}
+use Rattle.ddt_wires.specs.Calls.{RecordsCalls}
+use Rattle.ddt_wires.specs.Turns.{most_bytes}
+use Rattle.ddt_daemon.specs.ServerTurns.{no_packet, failed}
+use Rattle.ddt_map_server.specs.Turns.{served}
+use Rattle.ddt_map_server.proofs.map_server.MapServer.turn.Goals as goal
+
+pub returns-in-Ok-None-clause-turn : goal.returns-in-Ok-None-clause-turn
+returns-in-Ok-None-clause-turn g c =
+    let room : length c.receive.new.buffer ≡ most_bytes = omega (arith, c.receive.auto.buffer, c.requires) in
+    let told = λ (n : ℕ). RecordsCalls (g.W.Wires.calls c.args.wires.now) (Received c.args.door.now.at n (Ok None) [] ∷ [])
+    (g.W.Wires.calls c.receive.new.self) in
+    λ c' f. (
+      f,
+      Received c.args.door.now.at most_bytes (Ok None) [] ∷ [],
+      subst told room (rw c.in-Ok-None.field-0-is at c.in-Ok-None.ensures.told),
+      served _ refl no_packet refl,
+      refl,
+    )
+
+pub returns-in-Err-clause-turn : goal.returns-in-Err-clause-turn
+returns-in-Err-clause-turn g c =
+    let room : length c.receive.new.buffer ≡ most_bytes = omega (arith, c.receive.auto.buffer, c.requires) in
+    let told = λ (n : ℕ). RecordsCalls (g.W.Wires.calls c.args.wires.now) (Received c.args.door.now.at n (Err c.in-Err._fault) [] ∷ [])
+    (g.W.Wires.calls c.receive.new.self) in
+    λ c' f. (
+      f,
+      Received c.args.door.now.at most_bytes (Err c.in-Err._fault) [] ∷ [],
+      subst told room c.in-Err.ensures.told,
+      served _ refl (failed c.in-Err._fault) refl,
+      refl,
+    )

@@ -1,0 +1,144 @@
+//! The ETRs of keyed sites, as the log and `sites` say them.
+
+use crate::log::{Log, Priority};
+use crate::registration_text::push_sender;
+use crate::source::Why;
+use crate::tables::{push_locators, text_of};
+use ddt_path::LocatorSet;
+use ddt_registrar::{KeyedSite, Ranking, Registration};
+use ddt_text::{write_locator, write_prefix};
+use std::alloc::{AllocError, Global};
+
+/// The log has the changes of so many sites in a second at most.
+const MOST_LINES: u32 = 100;
+
+/// The ETRs in force of each keyed site, as the log has them.
+#[derive(Drop)]
+pub struct LoggedSites {
+    etrs: Vec<LocatorSet>,
+}
+
+impl LoggedSites {
+    /// The log has those of these sites.
+    pub fn of(alloc: Global, sites: &[KeyedSite]) -> Result<LoggedSites, AllocError> {
+        let mut ranking = Ranking::new(alloc)?;
+        let mut etrs = Vec::with_capacity(alloc, sites.len())?;
+        for site in sites {
+            etrs.push(site.etrs_in_force(&mut ranking))?;
+        }
+        Ok(LoggedSites { etrs })
+    }
+
+    /// The log has those of no site.
+    pub fn none(alloc: Global) -> LoggedSites {
+        LoggedSites {
+            etrs: Vec::new(alloc),
+        }
+    }
+
+    /// Says of each site whose ETRs in force are others than the log has which these are; of more than 100 at once only
+    /// how many there are. If out of memory, it is said the next time.
+    pub fn say_changes(&mut self, rt: &HostRuntime, sites: &[KeyedSite], log: &mut Log) {
+        if self.etrs.len() != sites.len() {
+            if let Ok(fresh) = LoggedSites::of(rt.alloc(), sites) {
+                *self = fresh;
+            }
+            return;
+        }
+        let Ok(mut ranking) = Ranking::new(rt.alloc()) else {
+            return;
+        };
+        let mut changes = 0u32;
+        for (logged, site) in self.etrs.iter_mut().zip(sites) {
+            let etrs = site.etrs_in_force(&mut ranking);
+            if etrs != *logged {
+                *logged = etrs;
+                changes = changes.saturating_add(1);
+                if changes <= MOST_LINES {
+                    log.say(rt, Priority::Notice, line_of(rt.alloc(), site, etrs));
+                }
+            }
+        }
+        say_more(rt, changes.saturating_sub(MOST_LINES), log);
+    }
+}
+
+/// Says how many sites have changed of which nothing is said.
+fn say_more(rt: &HostRuntime, changes: u32, log: &mut Log) {
+    if changes > 0 {
+        let line = format!(in rt.alloc(); "the ETRs of {changes} more sites have changed");
+        log.say(rt, Priority::Notice, line);
+    }
+}
+
+/// A site with its ETRs in force.
+fn line_of(alloc: Global, site: &KeyedSite, etrs: LocatorSet) -> Why {
+    let mut text = Vec::new(alloc);
+    push_line(&mut text, site, etrs)?;
+    text_of(alloc, &text)
+}
+
+/// Its prefix, whether an xTR has registered it, and its ETRs in force.
+fn push_line(text: &mut Vec<u8>, site: &KeyedSite, etrs: LocatorSet) -> Result<(), AllocError> {
+    let state = if !site.live.is_empty() {
+        "registered"
+    } else if etrs.as_slice().is_empty() {
+        "not registered"
+    } else {
+        "configured"
+    };
+    write_prefix(text, site.prefix)?;
+    text.push(b' ')?;
+    text.extend_from_slice(state.as_bytes())?;
+    push_locators(text, etrs.as_slice())
+}
+
+/// Each keyed site, a line each: its prefix, `registered`, `configured` or `not registered`, and its ETRs in force. Each
+/// is followed by its registrations, a line each: from whom, how many seconds are left, and its ETRs with their
+/// priorities. The last line is how many keyed sites there are, and how many are registered.
+pub fn sites_text(alloc: Global, sites: &[KeyedSite], moment: u64) -> Why {
+    let mut text = Vec::new(alloc);
+    let mut ranking = Ranking::new(alloc)?;
+    let mut registered = 0u64;
+    for site in sites {
+        push_line(&mut text, site, site.etrs_in_force(&mut ranking))?;
+        text.push(b'\n')?;
+        push_registrations(&mut text, site.live.as_slice(), moment)?;
+        registered = registered.saturating_add(u64::from(!site.live.is_empty()));
+    }
+    let last = format!(in alloc; "sites={} registered={registered}\n", sites.len())?;
+    text.extend_from_slice(last.as_bytes())?;
+    text_of(alloc, &text)
+}
+
+fn push_registrations(
+    text: &mut Vec<u8>,
+    live: &[Registration],
+    moment: u64,
+) -> Result<(), AllocError> {
+    for registration in live {
+        text.extend_from_slice(b"  from ")?;
+        push_sender(text, registration.sender)?;
+        let left = registration.deadline.saturating_sub(moment) / 1000;
+        let word = format!(in *text.allocator(); " left={left}")?;
+        text.extend_from_slice(word.as_bytes())?;
+        push_etrs(text, registration)?;
+        text.push(b'\n')?;
+    }
+    Ok(())
+}
+
+fn push_etrs(text: &mut Vec<u8>, registration: &Registration) -> Result<(), AllocError> {
+    for etr in registration.etrs.as_slice() {
+        text.push(b' ')?;
+        write_locator(text, etr.address)?;
+        let word = format!(in *text.allocator(); "/{}", etr.priority)?;
+        text.extend_from_slice(word.as_bytes())?;
+    }
+    Ok(())
+}
+
+/// How many of these sites are registered.
+pub fn registered_count(sites: &[KeyedSite]) -> u64 {
+    sites.iter().filter(|site| !site.live.is_empty()).count() as u64
+}

@@ -1,0 +1,81 @@
+//! The keys under which the ETRs of sites register.
+
+use crate::loading::{name_text, refuse_unknown, table_of, text_of};
+use crate::source::{MOST_KEYS, Why, read_secret, with_path};
+use crate::tables::text_of as bytes_text;
+use crate::unknown_keys::unknown_in_keys;
+use ddt_config::ServerConfig;
+use ddt_keys::{KeysFault, SiteKey, keyed_sites, read_keys};
+use ddt_path::{Listed, Prefix};
+use ddt_registrar::KeyedSite;
+use ddt_text::write_prefix;
+use std::alloc::{AllocError, Global};
+use toml::Table;
+
+/// The sites of a configuration that have keys, by the file of keys; none where there is no file.
+pub fn load_keyed_sites(
+    rt: &HostRuntime,
+    path: Option<&str>,
+    config: &ServerConfig,
+) -> Result<Vec<KeyedSite>, Why> {
+    let Some(path) = path else {
+        return Ok(Vec::new(rt.alloc()));
+    };
+    let bytes = read_secret(rt, path, MOST_KEYS)?;
+    match sites_of(rt.alloc(), &bytes, config) {
+        Ok(sites) => Ok(sites),
+        Err(why) => Err(with_path(rt, path, why)),
+    }
+}
+
+fn sites_of(alloc: Global, bytes: &[u8], config: &ServerConfig) -> Result<Vec<KeyedSite>, Why> {
+    let text = text_of(alloc, bytes)?;
+    let keys = keys_in(alloc, text, &table_of(alloc, text)?)?;
+    match keyed_sites(alloc, config, keys.as_slice()) {
+        Ok(sites) => Ok(sites.into_vec()),
+        Err(fault) => Err(keys_text(alloc, fault)),
+    }
+}
+
+/// The keys of a text and its table, of which each key is one of a file of keys.
+pub fn keys_in(alloc: Global, text: &str, table: &Table) -> Result<Listed<SiteKey>, Why> {
+    refuse_unknown(alloc, unknown_in_keys(alloc, text, table))?;
+    match read_keys(alloc, table) {
+        Ok(keys) => Ok(keys),
+        Err(fault) => Err(keys_text(alloc, fault)),
+    }
+}
+
+/// What is wrong with keys, in words.
+fn keys_text(alloc: Global, fault: KeysFault) -> Result<String, AllocError> {
+    match fault {
+        KeysFault::Toml => format!(in alloc; "{fault}"),
+        KeysFault::Field(member) => {
+            let key = member.text();
+            format!(in alloc; "{fault}: {key} is missing, or its value is of another kind")
+        }
+        KeysFault::Value(member) => {
+            format!(in alloc; "{fault}: the value of {} isn't of its form", member.text())
+        }
+        KeysFault::Secrets => format!(in alloc; "{fault}: a key has secret and secret_hex"),
+        KeysFault::NoSite(prefix) => {
+            let prefix = prefix_text(alloc, prefix)?;
+            format!(in alloc; "{fault}: {prefix} is no site of the configuration")
+        }
+        KeysFault::Disagree(prefix) => {
+            let prefix = prefix_text(alloc, prefix)?;
+            format!(in alloc; "{fault}: keys of a site of {prefix} have two values of static_etrs")
+        }
+        KeysFault::Twice(prefix) => {
+            let prefix = prefix_text(alloc, prefix)?;
+            format!(in alloc; "{fault}: a site of {prefix} has an id and an algorithm twice")
+        }
+        KeysFault::Memory => format!(in alloc; "{fault}: out of memory"),
+    }
+}
+
+fn prefix_text(alloc: Global, prefix: Prefix) -> Result<String, AllocError> {
+    let mut text = Vec::new(alloc);
+    write_prefix(&mut text, prefix)?;
+    bytes_text(alloc, &text)
+}

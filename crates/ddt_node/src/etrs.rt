@@ -12,7 +12,7 @@ use ddt_trie::PrefixMap;
 use std::alloc::Global;
 use std::mem;
 
-/// Gives these ETRs to the site of this prefix in what an authority holds, whose places these are. It allocates nothing.
+/// Gives these ETRs to the site of this prefix in what an authority has, by its places. It allocates nothing.
 fn set_in_content<M: PrefixMap<u32>>(
     alloc: Global,
     content: &mut Content,

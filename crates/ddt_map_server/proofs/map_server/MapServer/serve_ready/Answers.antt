@@ -18,9 +18,9 @@ returns-then-not-turn-clause-serves g c = λ c' f.
 pub loop-turn-preserved : goal.loop-turn-preserved
 loop-turn-preserved g c = (
   λ c' f.
-    let before = c.loop-turn.invariant.0 c' f in
-    let w = c.turn.ensures.turn c' before.0 in
-    (w.0, turned_on w.1 before.1 w.2 w.3),
+      let before = c.loop-turn.invariant.0 c' f in
+      let w = c.turn.ensures.turn c' before.0 in
+      (w.0, turned_on w.1 before.1 w.2 w.3),
   omega (arith, c.turn.ensures.room),
   omega (arith, c.loop-turn.invariant.2),
 )

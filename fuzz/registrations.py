@@ -334,7 +334,7 @@ def plain_told(registrar: Registrar, now: float) -> list[tuple]:
     found = []
     for site in registrar.sites.values():
         etrs = site.in_force()
-        state = "registered" if site.live else "configured" if etrs else "not registered"
+        state = "not registered" if not etrs else "registered" if site.live else "configured"
         live = [(sender_text(one.sender), one.until - now, one.etrs) for one in site.live]
         found.append((site.prefix, state, etrs, live))
     return sorted(found, key=lambda site: site[0])

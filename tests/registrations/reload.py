@@ -123,6 +123,30 @@ def good_files(world, xtr):
     checks.same("a site without a key", False, register(xtr, FOUR, 1000))
 
 
+def nested(world):
+    """A site of two authorities, of which one is inside the other, has no registration of its own."""
+    text = (world.folder / "other.toml").read_text().split("\n[")[0]
+    site = '\n[[authority.site]]\nprefix = "[0]10.1.1.0/24"\netrs = []\n'
+    inner = "".join(f'\n[[authority]]\nprefix = "[0]10.1.0.0/{length}"\n{site}' for length in (16, 20))
+    seal = ("authorities", "children", "digest", "sites")
+    world.write("nested.toml", "\n".join(line for line in text.split("\n") if not line.startswith(seal)) + inner)
+    world.write_keys(STAYS)
+    wanted = "[0]10.1.1.0/24 is a site of two authorities, and has keys"
+    for words in (("check", "nested.toml"), ("serve", "nested.toml")):
+        says(world, "nested authorities", wanted, (*words, "--keys", "keys.toml"))
+
+
+def watched(world, xtr):
+    """Keys that change are taken up where the files are watched."""
+    world.end("ms")
+    world.write_keys(STAYS, CHANGES, FALLS, LEAVES)
+    world.start_server("--watch")
+    world.write_keys(STAYS, CHANGES)
+    wanted = "sites=2 registered=1"
+    world.checks.same("watched keys", wanted, until(wanted, lambda: world.sites().splitlines()[-1]))
+    world.checks.same("a site whose key is watched", True, register(xtr, TWO, 2000))
+
+
 def work(world, checks):
     world.write_keys(STAYS, CHANGES, FALLS, LEAVES)
     says(world, "good keys", "keys.toml: good", ("check", "keys.toml"), status=0)
@@ -137,6 +161,8 @@ def work(world, checks):
     bad_files(world, xtr)
     keys_come_and_go(world, xtr)
     good_files(world, xtr)
+    nested(world)
+    watched(world, xtr)
 
 
 run("reload", work)

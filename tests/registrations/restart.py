@@ -75,10 +75,13 @@ def cut(world, xtr):
     has_it = until(True, lambda: b"192.0.2.77" in world.kept.read_bytes()[-200:])
     world.checks.same("its lines are the file's last", True, has_it)
     world.end("ms", signal.SIGKILL)
+    # What somebody has put where the next file is written is not written through.
+    (world.folder / "registrations.new").symlink_to("elsewhere")
     text = world.kept.read_bytes()
     os.truncate(world.kept, len(text) - 2)
     world.start_server()
     world.checks.holds("the log says that a line was cut", "lines are not of its form" in world.log(), world.log())
+    world.checks.same("a link that was put there", False, (world.folder / "elsewhere").exists())
     is_as_before(world, xtr, "a cut last line")
     is_refused_again(world, xtr, 102, "a cut last line")
 

@@ -149,8 +149,8 @@ class World:
                 raise RuntimeError(f"{name} isn't ready: {log.read_text()}")
             time.sleep(0.02)
 
-    def start_server(self):
-        self.start("ms", "serve", "--keys", "keys.toml", "--registrations", "registrations")
+    def start_server(self, *words):
+        self.start("ms", "serve", "--keys", "keys.toml", "--registrations", "registrations", *words)
 
     def start_tree(self):
         self.start("root", "serve")

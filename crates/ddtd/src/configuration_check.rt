@@ -6,6 +6,7 @@ use crate::loading::{
     text_of,
 };
 use crate::printable::printable;
+use crate::registering::registrar_of;
 use crate::site_keys::{keys_in, load_keyed_sites};
 use crate::source::{
     MOST_CONFIGURATION, MOST_SETTINGS, Why, read, refuse_shared, too_large, with_path,
@@ -77,7 +78,8 @@ fn keyed_count(
     if asked.keys.is_none() {
         return Ok(None);
     }
-    Ok(Some(load_keyed_sites(rt, asked.keys, &loaded.config)?.len()))
+    let sites = load_keyed_sites(rt, asked.keys, &loaded.config)?;
+    Ok(Some(registrar_of(rt.alloc(), sites)?.sites().len()))
 }
 
 /// What a file is meant for.

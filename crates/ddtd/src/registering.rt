@@ -4,11 +4,13 @@ use crate::clock::Clock;
 use crate::log::Log;
 use crate::registration_file::RegistrationFile;
 use crate::site_changes::{LoggedSites, registered_count, sites_text};
+use crate::site_keys::prefix_text;
 use crate::source::Why;
 use crate::words::ServeAsked;
 use ddt_daemon::ServerStatistics;
 use ddt_map_server::{MapServer, RegisterCounts};
-use ddt_registrar::{KeyedSite, Registrar};
+use ddt_path::{Prefix, Prefixed};
+use ddt_registrar::{KeyedSite, NotAdded, Registrar};
 use ddt_trie::HashedMap;
 use std::alloc::{AllocError, Global};
 
@@ -21,18 +23,29 @@ pub struct Registering<'a> {
     logged: LoggedSites,
 }
 
-/// A registrar of these sites.
+/// A registrar of these sites. Refused, in words, by the first that it doesn't take.
 pub fn registrar_of(
     alloc: Global,
     sites: Vec<KeyedSite>,
 ) -> Result<Registrar<HashedMap<u32>>, Why> {
     let mut registrar = Registrar::new(alloc);
     for site in sites {
+        let prefix = site.prefix();
         if let Err(fault) = registrar.add(site) {
-            return Err(format!(in alloc; "the keys: {fault}"));
+            return Err(not_added_text(alloc, prefix, fault));
         }
     }
     Ok(registrar)
+}
+
+/// Why a registrar doesn't take a site, in words.
+fn not_added_text(alloc: Global, prefix: Prefix, fault: NotAdded) -> Result<String, AllocError> {
+    let prefix = prefix_text(alloc, prefix)?;
+    match fault {
+        NotAdded::Twice => format!(in alloc; "{prefix} is a site of two authorities, and has keys"),
+        NotAdded::Full => format!(in alloc; "{prefix} is one site with keys too many"),
+        NotAdded::Memory => format!(in alloc; "out of memory"),
+    }
 }
 
 impl<'a> Registering<'a> {

@@ -13,7 +13,7 @@ use ddt_registrar::{KeyedSite, Registrar};
 use ddt_trie::{HashedMap, MOST_ENTRIES, PrefixMap};
 use std::alloc::{AllocError, Global};
 use std::fs::{File, OpenOptions};
-use std::io::Write;
+use std::io::{ErrorKind, Write};
 use std::os::unix::fs::OpenOptionsExt;
 use std::{fs, io, str};
 
@@ -101,6 +101,17 @@ pub fn restore(
 fn is_cut(bytes: &[u8]) -> bool {
     HEADER.as_bytes().starts_with(bytes) && bytes.len() < HEADER.len()
         || bytes.iter().all(|byte| *byte == 0)
+}
+
+/// A file of its own at a path: what was there goes, and no link is followed.
+fn new_file(rt: &HostRuntime, path: &str) -> io::Result<File> {
+    match fs::remove_file(rt, path) {
+        Err(error) if error.kind() != ErrorKind::NotFound => return Err(error),
+        _ => {}
+    }
+    let mut options = OpenOptions::new();
+    options.write(true).create_new(true).mode(MODE);
+    options.open(rt, path)
 }
 
 /// The sites of which all lines are there.
@@ -337,10 +348,7 @@ impl<'a> RegistrationFile<'a> {
 
     /// Begins a file that is to take its place.
     fn begin(&mut self, rt: &HostRuntime, path: &str) -> io::Result<()> {
-        let name = format!(in rt.alloc(); "{path}.new")?;
-        let mut options = OpenOptions::new();
-        options.write(true).create(true).truncate(true).mode(MODE);
-        let mut file = options.open(rt, &name)?;
+        let mut file = new_file(rt, &format!(in rt.alloc(); "{path}.new")?)?;
         file.write_all(HEADER.as_bytes())?;
         self.successor = Some(Successor {
             file,

@@ -20,7 +20,7 @@ use crate::source::{Why, with_path};
 use crate::times::Moments;
 use crate::unknown_keys::UnknownKey;
 use crate::unrecognized::{MOST_MESSAGES, end_period, say_unrecognized};
-use crate::watch::Watch;
+use crate::watch::Watches;
 use crate::words::ServeAsked;
 use ddt_config::ServerConfig;
 use ddt_daemon::{ControlWord, Counted, CountedAnswers, DaemonStatistics, Door, ServerStatistics};
@@ -57,7 +57,7 @@ pub struct ServerRole<'a> {
     registering: Registering<'a>,
     moments: Moments,
     unrecognized: Bounded,
-    watch: Watch,
+    watches: Watches<'a>,
     late: LateAddresses,
     /// The second in which a socket was last tried at each locator.
     second: u64,
@@ -180,6 +180,18 @@ fn map_server_of(
     }
 }
 
+/// Watches over the files that a server is asked to watch.
+fn watches_of<'a>(rt: &HostRuntime, asked: &ServeAsked<'a>) -> Result<Watches<'a>, Why> {
+    let mut watches = Watches::new(rt.alloc());
+    if asked.is_watched {
+        let paths = [Some(asked.config), asked.keys, asked.settings];
+        for path in paths.into_iter().flatten() {
+            watches.add(rt, path).map_err(Err)?;
+        }
+    }
+    Ok(watches)
+}
+
 impl<'a> ServerRole<'a> {
     /// A server of the file's configuration, at its sockets.
     fn start(
@@ -187,7 +199,7 @@ impl<'a> ServerRole<'a> {
         asked: &'a ServeAsked<'a>,
         log: &mut Log,
     ) -> Result<ServerRole<'a>, Why> {
-        let watch = Watch::new(rt, asked.config, asked.is_watched);
+        let watches = watches_of(rt, asked)?;
         let settings = load_server_settings(rt, asked.settings)?;
         let loaded = load_configuration(rt, asked.config)?;
         say_unknown(rt, asked.config, loaded.unknown.as_slice(), log);
@@ -216,7 +228,7 @@ impl<'a> ServerRole<'a> {
             registering,
             moments,
             unrecognized: Bounded::new(),
-            watch,
+            watches,
             late: LateAddresses::new(rt.alloc()),
             second: clock.moment / 1000,
         })
@@ -227,7 +239,7 @@ impl<'a> ServerRole<'a> {
     }
 
     /// Looks once a second at what may have changed: which registrations are over, the addresses of this machine, and
-    /// the file, where it is watched; whether that has changed.
+    /// the files, where they are watched; whether one has changed.
     fn look_around(&mut self, rt: &HostRuntime, clock: Clock, log: &mut Log) -> bool {
         let second = clock.moment / 1000;
         if second == self.second {
@@ -236,7 +248,7 @@ impl<'a> ServerRole<'a> {
         self.second = second;
         self.registering
             .end(rt, &mut self.server, clock.moment, log);
-        if self.watch.has_changed(rt, self.asked.config) {
+        if self.watches.have_changed(rt) {
             return true;
         }
         self.bind_late(rt, log);

@@ -80,10 +80,10 @@ fn line_of(alloc: Global, site: &KeyedSite, etrs: LocatorSet) -> Why {
 
 /// Its prefix, whether an xTR has registered it, and its ETRs in force.
 fn push_line(text: &mut Vec<u8>, site: &KeyedSite, etrs: LocatorSet) -> Result<(), AllocError> {
-    let state = if !site.live.is_empty() {
-        "registered"
-    } else if etrs.as_slice().is_empty() {
+    let state = if etrs.as_slice().is_empty() {
         "not registered"
+    } else if is_registered(site) {
+        "registered"
     } else {
         "configured"
     };
@@ -104,7 +104,7 @@ pub fn sites_text(alloc: Global, sites: &[KeyedSite], moment: u64) -> Why {
         push_line(&mut text, site, site.etrs_in_force(&mut ranking))?;
         text.push(b'\n')?;
         push_registrations(&mut text, site.live.as_slice(), moment)?;
-        registered = registered.saturating_add(u64::from(!site.live.is_empty()));
+        registered = registered.saturating_add(u64::from(is_registered(site)));
     }
     let last = format!(in alloc; "sites={} registered={registered}\n", sites.len())?;
     text.extend_from_slice(last.as_bytes())?;
@@ -140,5 +140,10 @@ fn push_etrs(text: &mut Vec<u8>, registration: &Registration) -> Result<(), Allo
 
 /// How many of these sites are registered.
 pub fn registered_count(sites: &[KeyedSite]) -> u64 {
-    sites.iter().filter(|site| !site.live.is_empty()).count() as u64
+    sites.iter().filter(|site| is_registered(site)).count() as u64
+}
+
+/// Whether an xTR has registered an ETR for a site.
+fn is_registered(site: &KeyedSite) -> bool {
+    site.live.iter().any(|one| !one.etrs.is_empty())
 }

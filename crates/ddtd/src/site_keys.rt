@@ -74,7 +74,8 @@ fn keys_text(alloc: Global, fault: KeysFault) -> Result<String, AllocError> {
     }
 }
 
-fn prefix_text(alloc: Global, prefix: Prefix) -> Result<String, AllocError> {
+/// A prefix as people write it.
+pub fn prefix_text(alloc: Global, prefix: Prefix) -> Result<String, AllocError> {
     let mut text = Vec::new(alloc);
     write_prefix(&mut text, prefix)?;
     bytes_text(alloc, &text)

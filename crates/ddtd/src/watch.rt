@@ -1,6 +1,7 @@
-//! Looks at a file, to see whether it has changed.
+//! Looks at files, to see whether one has changed.
 
 use crate::file_identity::FileIdentity;
+use std::alloc::{AllocError, Global};
 use std::fs;
 use std::os::unix::fs::MetadataExt;
 use std::time::SystemTime;
@@ -16,39 +17,61 @@ struct Look {
     len: u64,
 }
 
-/// What was seen of a file.
+/// A file that is watched, and what was seen of it.
 #[derive(Clone, Copy)]
-pub struct Watch {
-    is_on: bool,
+struct Watch<'a> {
+    path: &'a str,
     /// What was seen when it was last taken up.
     taken: Option<Look>,
     /// What was seen last.
     last: Option<Look>,
 }
 
-impl Watch {
-    /// A watch over a file that is taken up now; one that is off sees nothing.
-    pub fn new(rt: &HostRuntime, path: &str, is_on: bool) -> Watch {
-        let look = look_at(rt, path);
-        Watch {
-            is_on,
-            taken: look,
-            last: look,
-        }
-    }
-
+impl Watch<'_> {
     /// Looks at the file. Whether it has changed: two looks see the same, which isn't what was taken up.
-    pub fn has_changed(&mut self, rt: &HostRuntime, path: &str) -> bool {
-        if !self.is_on {
-            return false;
-        }
-        let look = look_at(rt, path);
+    fn has_changed(&mut self, rt: &HostRuntime) -> bool {
+        let look = look_at(rt, self.path);
         let settled = look.is_some() && look == self.last && look != self.taken;
         self.last = look;
         if settled {
             self.taken = look;
         }
         settled
+    }
+}
+
+/// The files that are watched, all of which are taken up when one has changed.
+#[derive(Drop)]
+pub struct Watches<'a> {
+    files: Vec<Watch<'a>>,
+}
+
+impl<'a> Watches<'a> {
+    /// No file is watched.
+    pub fn new(alloc: Global) -> Watches<'a> {
+        Watches {
+            files: Vec::new(alloc),
+        }
+    }
+
+    /// Watches a file, which is taken up now.
+    pub fn add(&mut self, rt: &HostRuntime, path: &'a str) -> Result<(), AllocError> {
+        let look = look_at(rt, path);
+        self.files.push(Watch {
+            path,
+            taken: look,
+            last: look,
+        })?;
+        Ok(())
+    }
+
+    /// Looks at each file. Whether one has changed.
+    pub fn have_changed(&mut self, rt: &HostRuntime) -> bool {
+        let mut changed = false;
+        for file in &mut self.files {
+            changed |= file.has_changed(rt);
+        }
+        changed
     }
 }
 

@@ -207,7 +207,7 @@ fn serve_command<'a>(alloc: Global) -> Result<Command<'a>, AllocError> {
             Arg::new(alloc, "watch")
                 .long("watch")
                 .action(ArgAction::SetTrue)
-                .help("Take the file up whenever it has changed"),
+                .help("Take the files up whenever one has changed"),
         )
 }
 

@@ -1,6 +1,6 @@
 """What a reload does with what is registered, and which files of keys are refused: reload.py FOLDER"""
 from registers import map_register, mapping, sha256
-from world import FOUR, MS, ONE, SECOND, THREE, TWO, Xtr, listed_key, run
+from world import FOUR, MS, ONE, SECOND, THREE, TWO, Xtr, listed_key, run, until
 
 OLD, NEW, ADDED = sha256(1, "the first secret"), sha256(1, "another one"), sha256(2, "a second key")
 STAYS, CHANGES = listed_key("10.1.1.0/24", OLD), listed_key("10.1.2.0/24", OLD)

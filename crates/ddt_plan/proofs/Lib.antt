@@ -8,6 +8,7 @@ pub mod ReadOffLemmas
 pub mod SameLemmas
 pub mod OrderLemmas
 pub mod SideLemmas
+pub mod AgreeLemmas
 pub mod SliceLemmas
 pub mod SinkLemmas
 pub mod VersionLemmas

@@ -1,8 +1,8 @@
 -- What one register says at a prefix, carried down to its halves.
-use Rattle.std.proofs.Common.{◌≡◌, ◌⊎◌, ℕ, ◌<◌, Bool, true, false, cond, not, ◌==◌, List, [], ◌∷◌, ◌++◌, length, map, take, ◌-◌, find, IsPermutation, Option, Some, None, refl, sym, ap, subst, ◌∙◌, arith, inl, inr}
+use Rattle.std.proofs.Common.{◌≡◌, ◌⊎◌, ℕ, ◌<◌, Bool, true, false, not, ◌==◌, List, [], ◌∷◌, ◌++◌, length, map, take, ◌-◌, find, IsPermutation, Option, Some, None, refl, sym, ap, subst, ◌∙◌, arith, inl, inr}
 use Rattle.std.specs.List.{filter}
 use Rattle.std.specs.Option.{option_or}
-use Rattle.std.proofs.lemmas.Bool.{cases_lt, both_ways, eqb-true, eq-eqb, false_from_ne_true, not-true, not_from_false, cond-false, and_from}
+use Rattle.std.proofs.lemmas.Bool.{cases_lt, both_ways, eqb-true, eq-eqb, false_from_ne_true, not-true, not_from_false, and_from}
 use Rattle.std.proofs.lemmas.Option.{same_Some}
 use Rattle.std.proofs.lemmas.List.{map-append}
 use Rattle.std.proofs.lemmas.List.Elements.{filter-append}
@@ -36,7 +36,8 @@ use Rattle.ddt_plan.specs.declared.outcomes.Reading.{Reading}
 use Rattle.ddt_plan.specs.declared.change_list.Change.{Change}
 use Rattle.ddt_plan.specs.Changes.{block_at, change_at, changes_at, is_apart}
 use Rattle.ddt_plan.specs.declared.block_list.Block.{Block}
-use Rattle.ddt_plan.specs.Fast.{delegation_of, delegations_of, delegation_at, delegations_below, state_of, states_of, state_at, states_below, outcome_from, AreBelow, IsSettled, IsDivision, IsSide, AreSides, outcomes_settled, both_settled}
+use Rattle.ddt_plan.specs.Fast.{delegation_of, delegations_of, delegation_at, delegations_below, state_of, states_of, state_at, states_below, outcome_from, AreBelow, IsSettled, IsDivision, IsSide, outcomes_settled, both_settled}
+use Rattle.ddt_plan.specs.Differing.{AreSides}
 use Rattle.ddt_plan.proofs.AlikeLemmas.{in_first, in_second, best_match-alike, assigned_as_block}
 use Rattle.ddt_plan.proofs.HalfLemmas.{length-half}
 use Rattle.ddt_plan.proofs.ListingLemmas.{undivided_parts}
@@ -186,7 +187,7 @@ module _ (r : Register) where
   none_kept prefix q items e a k = false_from_ne_true (is_strictly_below (prefix a) q) (λ below.
       absurd (subst (IsIn a) e (filter_in (λ a. is_strictly_below (prefix a) q) items a k below)))
 
-  in_keys : (k : List ℕ) → IsIn k (keys_of r) → ((z : Delegation) × IsIn z (delegations_of r) × (k ≡ z.prefix)) ⊎ ((m : SiteState) × IsIn m (states_of r) × (k ≡ m.prefix))
+  pub in_keys : (k : List ℕ) → IsIn k (keys_of r) → ((z : Delegation) × IsIn z (delegations_of r) × (k ≡ z.prefix)) ⊎ ((m : SiteState) × IsIn m (states_of r) × (k ≡ m.prefix))
   in_keys k j = elim (either (map zone_prefix r.zones) (map site_prefix r.sites) k j) [
     | inl a ↦ let z = in_map zone_prefix r.zones k a in inl (delegation_of r z.0, map_in (delegation_of r) r.zones z.0 z.1, z.2)
     | inr b ↦ let s = in_map site_prefix r.sites k b in inr (state_of s.0, map_in state_of r.sites s.0 s.1, s.2)
@@ -204,7 +205,7 @@ module _ (r : Register) where
   ]))
 
   -- an undivided prefix has nothing strictly below it
-  not_below : (q : List ℕ) → is_undivided (keys_of r) q ≡ true → (k : List ℕ) → IsIn k (keys_of r) → is_strictly_below k q ≡ false
+  pub not_below : (q : List ℕ) → is_undivided (keys_of r) q ≡ true → (k : List ℕ) → IsIn k (keys_of r) → is_strictly_below k q ≡ false
   not_below q e k j = not-true (is_strictly_below k q) (holds_at (λ (k : List ℕ). not (is_strictly_below k q)) (keys_of r) k e j)
 
   pub nothing_below : (q : List ℕ) → is_undivided (keys_of r) q ≡ true → (delegations_below r q ≡ []) × (states_below r q ≡ [])
@@ -280,7 +281,7 @@ module _ (r : Register) (accepted : IsAccepted r) (upper : Bool) (whole h : List
       ∙ state_at_half r accepted upper whole kept above f g ∙ ap (state_at r) (sym e)
 
 module _ (r : Register) (upper : Bool) (whole h : List ℕ) (e : h ≡ half upper whole) where
-  narrower : (p : List ℕ) → is_strictly_below p h ≡ true → is_strictly_below p whole ≡ true
+  pub narrower : (p : List ℕ) → is_strictly_below p h ≡ true → is_strictly_below p whole ≡ true
   narrower p b = further r upper whole p (subst (λ (l : List ℕ). is_strictly_below p l ≡ true) e b)
 
   pub zones_go : (kept result : List Delegation) → AreBelow delegation_prefix (delegations_of r) whole kept

@@ -1,5 +1,5 @@
 -- Items in the order of their prefixes: where the one of a prefix stands, and where all that is strictly below it.
-use Rattle.std.proofs.Common.{◌≡◌, ℕ, zero, suc, ◌+◌, ◌<◌, ◌≤◌, Bool, true, false, cond, not, List, [], ◌∷◌, length, take, drop, get_or, find, IsPermutation, Option, Some, None, inl, inr, refl, sym, ap, subst, ◌∙◌, arith}
+use Rattle.std.proofs.Common.{◌≡◌, ℕ, zero, suc, ◌+◌, ◌<◌, ◌≤◌, Bool, true, false, cond, not, List, [], ◌∷◌, length, take, drop, get_or, find, IsPermutation, Some, None, inl, inr, refl, sym, ap, subst, ◌∙◌, arith}
 use Rattle.std.specs.Prelude.{◌&&◌}
 use Rattle.std.specs.List.{filter}
 use Rattle.std.specs.List.Sorted.{IsPartitionedBy, IsPartitionPoint}
@@ -73,7 +73,7 @@ module _ {A : Type 0} (prefix : A → List ℕ) where
   none_left items (a ∷ kept) q are e =
       absurd (let p = are.from a (inl refl) in subst (IsIn a) e (filter_in (below q) items a p.0 p.1))
 
-  kept_in_order : (xs : List A) → AreInOrder prefix xs → (q : List ℕ) → AreInOrder prefix (filter (below q) xs)
+  pub kept_in_order : (xs : List A) → AreInOrder prefix xs → (q : List ℕ) → AreInOrder prefix (filter (below q) xs)
   kept_in_order xs sorted q =
       IsSortedBy-filter (λ x y. is_lt (slice_cmp nat_cmp (prefix x) (prefix y))) (ranks_by nat_list_cmp_total prefix)
       (below q) xs sorted

@@ -1,6 +1,7 @@
 pub mod Sinks
 pub mod Blocks
 pub mod Fast
+pub mod Differing
 pub mod Changes
 pub mod Counts
 pub mod Laws

@@ -1,12 +1,13 @@
 //! What a register says of all identifiers, block by block, and what a change of the register changes (RFC 8111,
 //! section 7.3: what following referrals from the root has to end in).
 //!
-//! Nothing is kept: a walk down the digits hands each block or change to a sink as it finds it. Which groups of servers
-//! need another configuration is told by the configurations themselves: `ddt_compile` makes those of both registers,
-//! and the types of `ddt_config` are compared, whatever the order of rows.
+//! Nothing is kept of what is given: a walk down the digits hands each block or change to a sink as it finds it. A walk
+//! of changes ends where both registers have the same zones and sites; `differences` lists where they do not. Which
+//! groups of servers need another configuration is told by the configurations themselves: `ddt_compile` makes those of
+//! both registers, and the types of `ddt_config` are compared, whatever the order of rows.
 //!
-//! In reading order: `sink`, `block_list`, `change_list`, `outcomes`, `counts`; `walk`, `sides`, `halves`, `servers`
-//! below them; `groups`, with `versions` and `configs` below it; and `laws`.
+//! In reading order: `sink`, `block_list`, `change_list`, `outcomes`, `counts`; `walk`, `differences`, `sides`,
+//! `halves`, `servers` below them; `groups`, with `versions` and `configs` below it; and `laws`.
 //! Tests: ddt_register_tests/plan.
 #![tactic(auto)]
 
@@ -14,6 +15,7 @@ mod block_list;
 mod change_list;
 mod configs;
 mod counts;
+mod differences;
 mod groups;
 mod halves;
 mod laws;

@@ -13,3 +13,4 @@ pub mod SliceLemmas
 pub mod SinkLemmas
 pub mod VersionLemmas
 pub mod WalkLemmas
+pub mod TableLemmas

@@ -6,5 +6,7 @@ pub mod Changes
 pub mod Counts
 pub mod Laws
 pub mod Groups
+pub mod Items
+pub mod Tables
 pub mod Entries
 pub mod Versions

@@ -50,8 +50,8 @@ pub fn are_same<T: Item>(before: Option<T>, after: Option<T>) -> bool
     }
 }
 
-/// The prefixes of the zones and sites that one of two registers has and the other has not, or has with other servers or
-/// in another state, in order. A prefix may be there twice.
+/// The prefixes of the zones and sites that one of two registers has and the other has not, or has with other servers
+/// or in another state, in order. A prefix may be there twice.
 pub fn differences(
     alloc: Global,
     before: &Accepted,

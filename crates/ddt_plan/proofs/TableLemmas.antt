@@ -1,11 +1,11 @@
 -- What two registers have by their keys, as a loop puts it there, and the changes that are read off it.
-use Rattle.std.proofs.Common.{◌≡◌, ℕ, ◌+◌, ◌<◌, Bool, true, false, cond, List, [], ◌∷◌, ◌++◌, length, map, take, get_or, find, Option, Some, None, Less, refl, sym, ap, ap₂, subst, ◌∙◌}
-use Rattle.std.specs.Prelude.{unwrap_or}
+use Rattle.std.proofs.Common.{◌≡◌, ℕ, ◌+◌, ◌<◌, Bool, true, false, cond, List, [], ◌∷◌, ◌++◌, length, map, take, get_or, find, Option, Some, None, Less, refl, rules, sym, ap, ap₂, subst, ◌∙◌}
+use Rattle.std.specs.Prelude.{◌&&◌, unwrap_or}
 use Rattle.std.specs.List.{filter_map, cons_option, AllByRecursion}
 use Rattle.std.specs.List.Sorted.{IsStrictlySortedBy}
 use Rattle.std.specs.Option.{option_map, option_or}
 use Rattle.std.specs.Ordering.{nat_cmp}
-use Rattle.std.specs.Cmp.Lexicographic.{slice_cmp, texts_ties, nat_list_cmp_total}
+use Rattle.std.specs.Cmp.Lexicographic.{pointwise, slice_cmp, texts_ties, nat_list_cmp_total}
 use Rattle.std.specs.BTreeMap.{BTreeMap, get, Updates, IsOrdered, is_at}
 use Rattle.std.specs.Map.{keys_of}
 use Rattle.std.proofs.lemmas.Bool.{cond-true, cond-false, both_ways}
@@ -13,13 +13,17 @@ use Rattle.std.proofs.lemmas.Option.{same_Some, none-some}
 use Rattle.std.proofs.lemmas.Map.Entries.{place_from_lookup, btree_map_get_place}
 use Rattle.std.proofs.lemmas.List.{take_more}
 use Rattle.std.proofs.lemmas.List.Folds.{find-append}
+use Rattle.ddt_path.specs.contracts.locator_set.LocatorSetPartialEq.TheImpl as set_eq
+use Rattle.ddt_path.specs.declared.locator.Locator.{Locator}
 use Rattle.ddt_path.specs.Covers.{is_same_path}
+use Rattle.ddt_path.specs.Locators.{is_same_locator}
 use Rattle.ddt_path.specs.laws.Cover.{same_path}
 use Rattle.ddt_path.specs.laws.Member.{IsIn, in_get, get_in, in_contained, contained}
 use Rattle.ddt_plan.specs.declared.versions.Which.{Which}
 use Rattle.ddt_plan.specs.declared.versions.Which.TheVariants.{Earlier, Later}
 use Rattle.ddt_plan.specs.declared.tables.Pair.{Pair}
 use Rattle.ddt_plan.specs.declared.items.ItemChange.{ItemChange}
+use Rattle.ddt_plan.specs.Changes.{are_same_servers}
 use Rattle.ddt_plan.specs.Items.{is_same_if_any, AreTableChanges}
 use Rattle.ddt_plan.specs.Tables.{with_value, no_values, put_at, change_of, HasPutRows}
 use Rattle.ddt_plan.proofs.VersionLemmas.{from_kept, is_kept}
@@ -263,3 +267,16 @@ module _ {V : Type 0} (one other : V → V → Bool) (agree : (a b : V) → one 
       changes_agree f g changes (subst (AreTableChanges one f g) (sym is) (table_changes one late ordered f g
       (λ k. ap (λ (o : Option (Pair V)). (unwrap_or o no_values).before) (there k) ∙ both_before (f k) (g k))
       (λ k. ap (λ (o : Option (Pair V)). (unwrap_or o no_values).after) (there k) ∙ both_after (f k) (g k))))
+
+-- ---- locators
+
+pointwise_agrees : {A : Type 0} (f g : A → A → Bool) → ((x y : A) → f x y ≡ g x y)
+    → (xs ys : List A) → pointwise f xs ys ≡ pointwise g xs ys
+pointwise_agrees f g h [] [] = refl
+pointwise_agrees f g h [] (y ∷ ys) = refl
+pointwise_agrees f g h (x ∷ xs) [] = refl
+pointwise_agrees f g h (x ∷ xs) (y ∷ ys) = ap₂ (λ (a b : Bool). a && b) (h x y) (pointwise_agrees f g h xs ys)
+
+-- `==` of two sets of locators asks for the same locators in the same order
+pub sets_agree : (s t : List Locator) → set_eq.ghosts.eq s t ≡ are_same_servers s t
+sets_agree = pointwise_agrees _ is_same_locator (λ x y. search rules)

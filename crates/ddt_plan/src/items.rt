@@ -1,7 +1,8 @@
 //! The rows that differ between two registers: zones and sites by their prefixes, groups by their names.
 
 ghost use Rattle.std.specs.Prelude.{IfOk};
-ghost use Rattle.ddt_plan.specs.Items.{AreItemChanges, serving_group_at, etrs_at, group_servers_at};
+ghost use Rattle.ddt_plan.specs.Changes.{are_same_servers};
+ghost use Rattle.ddt_plan.specs.Items.{AreItemChanges, AreTableChanges, serving_group_at, etrs_at, group_servers_at, is_same_serving_group, are_same_group_servers};
 ghost use Rattle.ddt_plan.specs.Tables.{HasPutRows};
 
 use crate::tables::{Pair, changes_of, put};
@@ -64,17 +65,53 @@ pub fn item_changes(
 ) -> Result<ItemChanges, AllocError>
     ensures { IfOk result (λ changes. AreItemChanges before.now after.now changes) }
 {
-    let old_zones = put_zones(BTreeMap::new(alloc), Which::Earlier, before)?;
-    let zones = put_zones(old_zones, Which::Later, after)?;
-    let old_sites = put_sites(BTreeMap::new(alloc), Which::Earlier, before)?;
-    let sites = put_sites(old_sites, Which::Later, after)?;
-    let old_groups = put_groups(BTreeMap::new(alloc), Which::Earlier, before)?;
-    let groups = put_groups(old_groups, Which::Later, after)?;
     Ok(ItemChanges {
-        zones: changes_of(alloc, zones)?,
-        sites: changes_of(alloc, sites)?,
-        groups: changes_of(alloc, groups)?,
+        zones: changed_zones(alloc, before, after)?,
+        sites: changed_sites(alloc, before, after)?,
+        groups: changed_groups(alloc, before, after)?,
     })
+}
+
+/// The zones that differ.
+fn changed_zones(
+    alloc: Global,
+    before: &Accepted,
+    after: &Accepted,
+) -> Result<Vec<ItemChange<Prefix, ServingGroup>>, AllocError>
+    ensures { IfOk result (λ changes. AreTableChanges is_same_serving_group
+        (serving_group_at before.now) (serving_group_at after.now) changes.items) }
+{
+    let old = put_zones(BTreeMap::new(alloc), Which::Earlier, before)?;
+    let both = put_zones(old, Which::Later, after)?;
+    changes_of(alloc, both)
+}
+
+/// The sites that differ.
+fn changed_sites(
+    alloc: Global,
+    before: &Accepted,
+    after: &Accepted,
+) -> Result<Vec<ItemChange<Prefix, LocatorSet>>, AllocError>
+    ensures { IfOk result (λ changes. AreTableChanges are_same_servers
+        (etrs_at before.now) (etrs_at after.now) changes.items) }
+{
+    let old = put_sites(BTreeMap::new(alloc), Which::Earlier, before)?;
+    let both = put_sites(old, Which::Later, after)?;
+    changes_of(alloc, both)
+}
+
+/// The groups that differ.
+fn changed_groups(
+    alloc: Global,
+    before: &Accepted,
+    after: &Accepted,
+) -> Result<Vec<ItemChange<Name, GroupServers>>, AllocError>
+    ensures { IfOk result (λ changes. AreTableChanges are_same_group_servers
+        (group_servers_at before.now) (group_servers_at after.now) changes.items) }
+{
+    let old = put_groups(BTreeMap::new(alloc), Which::Earlier, before)?;
+    let both = put_groups(old, Which::Later, after)?;
+    changes_of(alloc, both)
 }
 
 /// Puts the group that serves each zone of a register under the zone's prefix.

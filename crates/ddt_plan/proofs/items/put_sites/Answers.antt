@@ -12,8 +12,8 @@ use Rattle.ddt_plan.specs.Tables.{put_at}
 use Rattle.ddt_plan.proofs.TableLemmas.{value_in, put_row}
 use Rattle.ddt_plan.proofs.items.put_sites.Goals as goal
 
-pub of_few-requires : goal.of_few-requires
-of_few-requires c =
+pub of_few-etrs-requires : goal.of_few-etrs-requires
+of_few-etrs-requires c =
     let r = c.args.accepted.now in
     let s = c.site-item.result in
     let same = c.as_slice-site-items.ensures ∙ ap (λ (r : Register). r.sites) c.register.ensures.register in
@@ -28,7 +28,7 @@ loop-site-preserved c =
     put_row (λ (s : Site). s.prefix) (λ (s : Site). s.etrs) c.args.which
     c.as_slice-site-items.result.now c.loop-site.site-index c.site-item.result c.loop-site-test.true c.site-item.is
     c.args.table c.loop-site.all c.put.new.table c.loop-site.invariant
-    c.of_few.result (c.of_few.ensures ∙ c.as_slice.ensures)
+    c.of_few-etrs.result (c.of_few-etrs.ensures ∙ c.as_slice.ensures)
     (c.in_ok-put.ensures).0 (c.in_ok-put.ensures).1 (c.in_ok-put.ensures).2
 
 pub returns : goal.returns

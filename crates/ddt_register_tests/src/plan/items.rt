@@ -429,8 +429,18 @@ fn plain_changes(alloc: Global, old: &Register, new: &Register) -> Result<ItemCh
 fn agrees(alloc: Global, rt: &impl Abort, old: &Accepted, new: &Accepted) -> Result<bool, Fail> {
     let wanted = plain_changes(alloc, old.register(), new.register())?;
     let got = item_changes(alloc, old, new)?;
-    same(rt, &got.zones.as_slice(), &wanted.zones.as_slice(), &"zones");
-    same(rt, &got.sites.as_slice(), &wanted.sites.as_slice(), &"sites");
+    same(
+        rt,
+        &got.zones.as_slice(),
+        &wanted.zones.as_slice(),
+        &"zones",
+    );
+    same(
+        rt,
+        &got.sites.as_slice(),
+        &wanted.sites.as_slice(),
+        &"sites",
+    );
     same(
         rt,
         &got.groups.as_slice(),

@@ -18,7 +18,7 @@ use Rattle.ddt_path.specs.laws.Front.{front_below, front_covers, one_front}
 use Rattle.ddt_path.specs.laws.Hole.{parts_from_fits}
 use Rattle.ddt_path.specs.laws.Filter.{filter_in}
 use Rattle.ddt_path.specs.laws.Matching.{best_is, best_none, best_there, best_member, best_unbeaten, best_found}
-use Rattle.ddt_path.specs.laws.Member.{IsIn, all_of, holds_at, in_map, map_in, some_passes, moved_in}
+use Rattle.ddt_path.specs.laws.Member.{IsIn, all_of, holds_at, iff_same, in_map, map_in, some_passes, moved_in}
 use Rattle.ddt_path.specs.laws.PathTest.{is_path-xeid_path, form_of_prefix, prefix_that_covers}
 use Rattle.ddt_register.specs.declared.register.Register.{Register}
 use Rattle.ddt_check.specs.Assignment.{assignment}
@@ -159,11 +159,6 @@ none_kept : {A : Type 0} (test : A → Bool) (xs : List A) → ((a : A) → IsIn
 none_kept test [] h = refl
 none_kept test (x ∷ xs) h = rw (h x (inl refl)) (none_kept test xs (λ a k. h a (inr k)))
 
-bool_agrees : (x y : Bool) → (x ≡ true → y ≡ true) → (y ≡ true → x ≡ true) → x ≡ y
-bool_agrees true y f g = sym (f refl)
-bool_agrees false true f g = g refl
-bool_agrees false false f g = refl
-
 -- ---- an identifier in a prefix
 
 identifier_in : (form : Form) → (x : List ℕ) × (is_path x ≡ true) × (covers (path form) x ≡ true)
@@ -228,7 +223,7 @@ module _ (r s : Register) (q : List ℕ) (to : Agree r s q) (back : Agree s r q)
   same_block : (x : List ℕ) → covers q x ≡ true → block_of (keys_of s) x ≡ block_of (keys_of r) x
   same_block x inside = find_agrees (is_undivided (keys_of s)) (is_undivided (keys_of r)) (parts_from 0 x) (λ f k.
       let over : covers f x ≡ true = front_among [] x f (subst (IsIn f) (parts_from_fits 0 x (omega arith)) k) in
-      bool_agrees (is_undivided (keys_of s) f) (is_undivided (keys_of r) f)
+      iff_same (is_undivided (keys_of s) f) (is_undivided (keys_of r) f)
       (undivided_goes s r q back to f x over inside) (undivided_goes r s q to back f x over inside))
 
   pub same_assigned : (x : List ℕ) → is_path x ≡ true → covers q x ≡ true → assignment r x ≡ assignment s x

@@ -14,3 +14,4 @@ pub mod SinkLemmas
 pub mod VersionLemmas
 pub mod WalkLemmas
 pub mod TableLemmas
+pub mod JumpLemmas

@@ -2,14 +2,14 @@
 //! section 7.3: what following referrals from the root has to end in).
 //!
 //! Nothing is kept of what is given: a walk down the digits hands each block or change to a sink as it finds it. A walk
-//! of changes ends where both registers have the same zones and sites; `differences` lists where they do not. Which
-//! groups of servers need another configuration is told by the configurations themselves: `ddt_compile` makes those of
-//! both registers, and the types of `ddt_config` are compared, whatever the order of rows. Which rows differ is read off
-//! maps of both registers by the rows' keys.
+//! of changes ends where both registers have the same zones and sites: `differences` lists where they do not, and `jump`
+//! spares the digits between. Which groups of servers need another configuration is told by the configurations
+//! themselves: `ddt_compile` makes those of both registers, and the types of `ddt_config` are compared, whatever the
+//! order of rows. Which rows differ is read off maps of both registers by the rows' keys.
 //!
-//! In reading order: `sink`, `block_list`, `change_list`, `outcomes`, `counts`; `walk`, `differences`, `sides`,
-//! `halves`, `servers` below them; `groups`, with `versions` and `configs` below it; `items`, with `tables`
-//! below it; and `laws`.
+//! In reading order: `sink`, `block_list`, `change_list`, `outcomes`, `counts`; `walk`, `jump`, `differences`, `sides`,
+//! `halves`, `servers` below them; `groups`, with `versions` and `configs` below it; `items`, with `tables` below it;
+//! and `laws`.
 //! Tests: ddt_register_tests/plan.
 #![tactic(auto)]
 
@@ -21,6 +21,7 @@ mod differences;
 mod groups;
 mod halves;
 mod items;
+mod jump;
 mod laws;
 mod outcomes;
 mod servers;

@@ -6,7 +6,7 @@ ghost use Rattle.std.specs.List.{filter};
 ghost use Rattle.std.specs.Option.{option_or};
 ghost use Rattle.ddt_path.specs.Covers.{covers, is_strictly_below, is_same_path};
 ghost use Rattle.ddt_plan.specs.Blocks.{keys_of, is_undivided, half as half_of};
-ghost use Rattle.ddt_plan.specs.Differing.{AreSides};
+ghost use Rattle.ddt_plan.specs.Differing.{AreSides, IsNext};
 ghost use Rattle.ddt_plan.specs.Fast.{AreInOrder, AreBelow, AreItemsOf, IsDivision, IsSide, delegations_of, delegation_at, states_of, state_at, outcome_from, outcome_in as outcome_in_of, outcome_of_site as outcome_of_site_of};
 
 use crate::halves::half;
@@ -181,8 +181,15 @@ fn side_below<'a>(
     requires division { IsDivision accepted.now whole division.now }
     ensures { IsSide accepted.now (half_of upper whole) result }
 {
+    side_inside(accepted, division, half(whole, upper))
+}
+
+/// What it says at a prefix strictly below, where no zone and no site is between the two.
+pub fn side_inside<'a>(accepted: &Accepted, division: &Division<'a>, at: Prefix) -> Side<'a>
+    requires { (q : List ℕ) × IsDivision accepted.now q division.now × IsNext accepted.now q at }
+    ensures { IsSide accepted.now at result }
+{
     let _register = accepted.register();
-    let at = half(whole, upper);
     let zone = item_at(division.zones, at, division.zone);
     let site = item_at(division.sites, at, division.site);
     let zones = items_below(division.zones, at);

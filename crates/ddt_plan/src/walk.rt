@@ -12,6 +12,7 @@ use crate::block_list::Block;
 use crate::change_list::Change;
 use crate::differences::are_same;
 use crate::halves::half;
+use crate::jump::jump;
 use crate::outcomes::{Reading, is_same_outcome};
 use crate::sides::{Side, Sides, sides_below, sides_of_both_below};
 use crate::sink::{PlanFault, Sink, give};
@@ -63,6 +64,9 @@ pub fn walk_both<S: Sink<Change>>(
         None => {
             if nothing_changes(before, after, whole, sides) {
                 return Ok(());
+            }
+            if let Some((inner, within)) = jump(before, after, whole, sides) {
+                return walk_both(reading, before, after, inner, &within, sink);
             }
             let lower = half(whole, false);
             let upper = half(whole, true);

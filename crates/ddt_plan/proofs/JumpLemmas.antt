@@ -1,5 +1,5 @@
 -- A prefix that covers all that is strictly below another: what is said there, and that nothing changes outside it.
-use Rattle.std.proofs.Common.{◌≡◌, ◌⊎◌, ℕ, zero, suc, ◌+◌, ◌-◌, ◌<◌, ◌≤◌, Bool, true, false, not, List, [], ◌∷◌, ◌++◌, length, Option, refl, sym, ap, subst, ◌∙◌, arith, inl, inr}
+use Rattle.std.proofs.Common.{◌≡◌, ℕ, zero, suc, ◌+◌, ◌-◌, ◌<◌, ◌≤◌, Bool, true, false, not, List, [], ◌∷◌, ◌++◌, length, Option, refl, sym, ap, subst, ◌∙◌, arith, inl, inr}
 use Rattle.std.proofs.lemmas.Bool.{cases_lt, both_ways, false_from_ne_true, not_from_false}
 use Rattle.std.proofs.lemmas.List.{append-nil}
 use Rattle.ddt_path.specs.Covers.{covers, is_strictly_below}
@@ -17,7 +17,7 @@ use Rattle.ddt_plan.specs.declared.sides.Delegation.{Delegation}
 use Rattle.ddt_plan.specs.declared.sides.Division.{Division}
 use Rattle.ddt_plan.specs.declared.sides.SiteState.{SiteState}
 use Rattle.ddt_plan.specs.Blocks.{keys_of, is_undivided, half, next_digit as digit_of, pieces}
-use Rattle.ddt_plan.specs.Changes.{change_at, changes_at, is_apart}
+use Rattle.ddt_plan.specs.Changes.{changes_at}
 use Rattle.ddt_plan.specs.Fast.{delegation_at, state_at, outcome_from, IsDivision}
 use Rattle.ddt_plan.specs.Differing.{IsNext}
 use Rattle.ddt_plan.proofs.AgreeLemmas.{some_inside}
@@ -28,7 +28,7 @@ use Rattle.ddt_plan.proofs.NegativeLemmas.{block_is}
 use Rattle.ddt_plan.proofs.PieceLemmas.{halves_apart, pieces_one, keys_go_on, two_parts}
 use Rattle.ddt_plan.proofs.ReadOffLemmas.{read_off}
 use Rattle.ddt_plan.proofs.SameLemmas.{same_outcome_itself}
-use Rattle.ddt_plan.proofs.SideLemmas.{delegation_prefix, state_prefix, in_keys, not_below, fronts_divided, same_around, both_undivided, first_divided, changes_split}
+use Rattle.ddt_plan.proofs.SideLemmas.{in_keys, not_below, fronts_divided, same_around, both_undivided, first_divided, changes_split}
 
 -- c covers all keys strictly below q
 abbrev pub CoversAll : Register → List ℕ → List ℕ → Type 0

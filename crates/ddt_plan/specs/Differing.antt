@@ -33,7 +33,8 @@ pub record AreSides (r s : Register) (q : List ℕ) (sides : Sides) : Type 0 whe
   pub after : IsSide s q sides.after
   pub differing : AreDifferences r s q sides.differing.now
 
--- h is strictly below q, no zone and no site of the register is between the two, and each shorter front of h is divided.
+-- h is strictly below q, no zone and no site of the register is between the two, and each shorter front of h is
+-- divided.
 pub record IsNext (r : Register) (q h : List ℕ) : Type 0 where
   pub below : is_strictly_below h q ≡ true
   pub near : (k : List ℕ) → IsIn k (keys_of r) → covers k h ≡ true → length q < length k → k ≡ h

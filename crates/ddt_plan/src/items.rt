@@ -54,8 +54,8 @@ pub struct ItemChanges {
 
 /// The zones, the sites and the groups that differ between two registers, each of them once. One differs if only one of
 /// the registers has its prefix or its name, or if both have it with another kind, another group, or other locators or
-/// ETRs. The order of rows is no difference; the order of locators or ETRs in a row is one. A zone whose group keeps its
-/// name and its kind does not differ, also where the group's locators do: then the group is in the list of groups.
+/// ETRs. The order of rows is no difference, but that of the locators or ETRs in a row is. A zone whose group keeps its
+/// name and its kind does not differ. Where that group's locators differ, the group is in the list of groups.
 ///
 /// Takes n log n steps for n rows. Fails only if out of memory.
 pub fn item_changes(

@@ -13,9 +13,9 @@ use crate::sides::{Division, Side, Sides, items_below, side_inside};
 use ddt_check::Accepted;
 use ddt_path::{Prefix, Prefixed};
 
-/// The longest prefix that covers all zones and sites strictly below a prefix in two registers, and what both say there.
-/// Nothing changes elsewhere in that prefix, so a walk that goes on there spares the digits between. None where it is the
-/// prefix itself, and where the two have another zone or another site around the prefix.
+/// The longest prefix that covers all zones and sites strictly below a prefix in two registers, and what both say
+/// there. Nothing changes elsewhere in that prefix, so a walk that goes on there spares the digits between. None where
+/// it is the prefix itself, and where the two have another zone or another site around the prefix.
 pub fn jump<'a>(
     before: &Accepted,
     after: &Accepted,

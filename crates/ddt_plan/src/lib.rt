@@ -2,8 +2,8 @@
 //! section 7.3: what following referrals from the root has to end in).
 //!
 //! Nothing is kept of what is given: a walk down the digits hands each block or change to a sink as it finds it. A walk
-//! of changes ends where both registers have the same zones and sites: `differences` lists where they do not, and `jump`
-//! spares the digits between. Which groups of servers need another configuration is told by the configurations
+//! of changes ends where both registers have the same zones and sites. `differences` lists where they do not, and
+//! `jump` spares the digits between. Which groups of servers need another configuration is told by the configurations
 //! themselves: `ddt_compile` makes those of both registers, and the types of `ddt_config` are compared, whatever the
 //! order of rows. Which rows differ is read off maps of both registers by the rows' keys.
 //!

@@ -1,7 +1,7 @@
-use Rattle.std.proofs.Common.{◌≡◌, ℕ, List, Option, Some, true, sym, subst, ◌∙◌, rules}
+use Rattle.std.proofs.Common.{◌≡◌, ℕ, List, Option, Some, true, subst, ◌∙◌, rules}
 use Rattle.std.proofs.lemmas.Option.{same_Some}
 use Rattle.ddt_path.specs.Covers.{is_strictly_below}
-use Rattle.ddt_plan.specs.Differing.{IsInner, is_within}
+use Rattle.ddt_plan.specs.Differing.{is_within}
 use Rattle.ddt_plan.proofs.jump.inner_of.Goals as goal
 
 pub cover_of-old_zones-requires : goal.cover_of-old_zones-requires

@@ -1,4 +1,4 @@
-use Rattle.std.proofs.Common.{◌≡◌, ◌∙◌, sym, rules}
+use Rattle.std.proofs.Common.{◌∙◌, sym, rules}
 use Rattle.ddt_path.specs.laws.Cover.{below_is}
 use Rattle.ddt_path.specs.laws.Front.{below_parts}
 use Rattle.ddt_plan.specs.Differing.{IsInner}

@@ -112,6 +112,11 @@ fn diff_command<'a>(alloc: Global) -> Result<Command<'a>, AllocError> {
         .arg(flag(alloc, "count").help(
             "Print only how many changed blocks there are of each kind",
         ))?
+        .arg(
+            flag(alloc, "summary")
+                .conflicts_with("count")?
+                .help("Print only the summary"),
+        )?
         .arg(flag(alloc, "json").help("Print a JSON object a line"))
 }
 

@@ -28,6 +28,17 @@ pub struct BlocksAsked<'a> {
     pub form: Form,
 }
 
+/// What `diff` writes.
+#[derive(Clone, Copy, Debug, PartialEq, Eq)]
+pub enum Told {
+    /// The summary, and all that differs.
+    Changes,
+    /// The summary alone.
+    Summary,
+    /// Only the numbers of changed blocks of each kind.
+    Counts,
+}
+
 /// What `diff` is asked.
 #[derive(Clone, Copy, Debug)]
 pub struct DiffAsked<'a> {
@@ -36,8 +47,7 @@ pub struct DiffAsked<'a> {
     /// The path of the register that is to come into force.
     pub after: &'a str,
     pub reading: Reading,
-    /// Whether only the numbers of each kind are asked for.
-    pub counted: bool,
+    pub told: Told,
     pub form: Form,
 }
 
@@ -197,8 +207,18 @@ fn diff_asked<'a>(matches: &ArgMatches<'a>) -> DiffAsked<'a> {
         } else {
             Reading::Service
         },
-        counted: matches.get_flag("count"),
+        told: told_asked(matches),
         form: form_asked(matches),
+    }
+}
+
+fn told_asked(matches: &ArgMatches<'_>) -> Told {
+    if matches.get_flag("count") {
+        Told::Counts
+    } else if matches.get_flag("summary") {
+        Told::Summary
+    } else {
+        Told::Changes
     }
 }
 

@@ -3,7 +3,7 @@
 use crate::comparison::same;
 use clap::error::ErrorKind;
 use ddt_plan::Reading;
-use ddt_plan_commands::{Asked, BlocksAsked, DiffAsked, Form, read_asked};
+use ddt_plan_commands::{Asked, BlocksAsked, DiffAsked, Form, Told, read_asked};
 use std::alloc::Global;
 use std::process::Abort;
 use std::test::Fail;
@@ -70,7 +70,7 @@ const CHANGES: &[(&[&str], DiffAsked<'static>)] = &[
             before: "a.csv",
             after: "b.csv",
             reading: Reading::Exact,
-            counted: false,
+            told: Told::Changes,
             form: Form::Text,
         },
     ),
@@ -80,8 +80,18 @@ const CHANGES: &[(&[&str], DiffAsked<'static>)] = &[
             before: "a.csv",
             after: "-",
             reading: Reading::Service,
-            counted: true,
+            told: Told::Counts,
             form: Form::Json,
+        },
+    ),
+    (
+        &["diff", "a.csv", "b.csv", "--summary"],
+        DiffAsked {
+            before: "a.csv",
+            after: "b.csv",
+            reading: Reading::Service,
+            told: Told::Summary,
+            form: Form::Text,
         },
     ),
 ];
@@ -90,7 +100,7 @@ fn is_diff(rt: &impl Abort, asked: &DiffAsked<'_>, wanted: &DiffAsked<'_>) {
     same(rt, &asked.before, &wanted.before, &"the earlier register");
     same(rt, &asked.after, &wanted.after, &"the later register");
     same(rt, &asked.reading, &wanted.reading, &"the reading");
-    same(rt, &asked.counted, &wanted.counted, &"the counts");
+    same(rt, &asked.told, &wanted.told, &"what is told");
     same(rt, &asked.form, &wanted.form, &"the form");
 }
 
@@ -117,6 +127,10 @@ const NOTHING: &[(&[&str], ErrorKind)] = &[
     (&["diff", "a.csv"], ErrorKind::MissingRequiredArgument),
     (&["blocks", "a.csv", "*", "b"], ErrorKind::UnknownArgument),
     (&["blocks", "a.csv", "--exact"], ErrorKind::UnknownArgument),
+    (
+        &["diff", "a.csv", "b.csv", "--count", "--summary"],
+        ErrorKind::ArgumentConflict,
+    ),
 ];
 
 #[test]

@@ -50,6 +50,7 @@ complete -c ddtplan -n '__ddtplan_at diff 1' -k -a '(__fish_complete_suffix .csv
 complete -c ddtplan -n '__ddtplan_at diff 2' -k -a '(__fish_complete_suffix .csv)'
 complete -c ddtplan -n '__ddtplan_at diff' -l exact -d 'List where only the prefix of an outcome differs, too'
 complete -c ddtplan -n '__ddtplan_at diff' -l count -d 'Print only how many changed blocks each kind has'
+complete -c ddtplan -n '__ddtplan_at diff' -l summary -d 'Print only the summary'
 complete -c ddtplan -n '__ddtplan_at diff' -l json -d 'Print a JSON object a line'
 complete -c ddtplan -n '__ddtplan_at diff' -s h -l help -d 'Print help'
 

@@ -1,0 +1,6 @@
+pub mod MatchLemmas
+pub mod AnswerLemmas
+pub mod SideLemmas
+pub mod WalkLemmas
+pub mod NameLemmas
+pub mod FirstLemmas

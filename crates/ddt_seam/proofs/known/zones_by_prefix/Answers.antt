@@ -11,7 +11,7 @@ use Rattle.ddt_seam.proofs.known.zones_by_prefix.Goals.{then-not-contains_key+in
 abbrev prefix : Zone → List ℕ
 prefix a = a.prefix
 
-abbrev value : Zone → _
+abbrev value : Zone → Zone
 value = λ (z : Zone). z
 
 pub loop-zone-preserved : goal.loop-zone-preserved

@@ -14,7 +14,7 @@ loop-change-preserved c = λ name.
     let d = c.change-item.result in
     c.in_ok-insert.ensures.updates.0 name
     ∙ inserted_now name d.name (contains (slice_cmp nat_cmp) c.loop-change.names name)
-    ∙ names_more (λ (y : GroupChange). is_same_name name y.name) c.loop-change.change-items c.loop-change.change-index d
+    ∙ names_more (λ (y : GroupChange). is_same_name name y.name) c.deref-change-items.result.now c.loop-change.change-index d
     c.loop-change-test.true
     c.change-item.is _ _ (c.loop-change.invariant name) refl
 
@@ -22,5 +22,5 @@ pub returns : goal.returns
 returns c = λ name.
     c.loop-change.invariant name
     ∙ ap (list_any (λ (y : GroupChange). is_same_name name y.name))
-    (take_all c.loop-change.change-index c.loop-change.change-items c.loop-change-test.false)
-    ∙ listed_is c.args.side.now c.args.joined.now c.loop-change.change-items ? name
+    (take_all c.loop-change.change-index c.deref-change-items.result.now c.loop-change-test.false ∙ c.deref-change-items.ensures.value)
+    ∙ listed_is c.args.side.now c.args.joined.now c.in_ok-changes.changes.items c.in_ok-changes.ensures name

@@ -18,6 +18,11 @@ const DIFF_HELP: &str = "Examples:
 
 Status: 0 if nothing changes, 1 if something does, 2 if it refuses.";
 
+const SEAM_HELP: &str = "Example:
+  ddtplan seam ours.csv theirs.csv --foreign ten   the servers of the group ten are run from theirs.csv
+
+Status: 0 if the seam is good, 1 if it isn't, 2 if it refuses.";
+
 const FAULTS_HELP: &str =
     "Each fault has a line: FILE:LINE: NUMBER NAME: reason. The last line says how many there are.
 
@@ -75,6 +80,7 @@ pub(crate) fn command_line<'a>(alloc: Global) -> Result<Command<'a>, AllocError>
         .subcommand_required(true)
         .subcommand(blocks_command(alloc)?)?
         .subcommand(diff_command(alloc)?)?
+        .subcommand(seam_command(alloc)?)?
         .subcommand(faults_command(alloc)?)?
         .subcommand(warn_command(alloc)?)?
         .subcommand(compile_command(alloc)?)?
@@ -118,6 +124,23 @@ fn diff_command<'a>(alloc: Global) -> Result<Command<'a>, AllocError> {
                 .help("Print only the summary"),
         )?
         .arg(flag(alloc, "json").help("Print a JSON object a line"))
+}
+
+fn seam_command<'a>(alloc: Global) -> Result<Command<'a>, AllocError> {
+    Command::new(alloc, "seam")
+        .after_help(SEAM_HELP)
+        .about(
+            "Say whether the servers of two registers, each run from its own, are those of one tree.",
+        )
+        .arg(path(alloc, "ours").help("Our register, a CSV file"))?
+        .arg(path(alloc, "theirs").help("The register of the other side, a CSV file"))?
+        .arg(
+            Arg::new(alloc, "foreign")
+                .long("foreign")
+                .value_name("GROUP")
+                .action(ArgAction::Append)
+                .help("A group whose servers the other side runs"),
+        )
 }
 
 fn faults_command<'a>(alloc: Global) -> Result<Command<'a>, AllocError> {

@@ -39,5 +39,5 @@ pub use refusal::PlanRefusal;
 pub use told_changes::run_diff;
 pub use words::{
     AskAsked, Asked, BlocksAsked, CompileAsked, DiffAsked, ExportAsked, Form, LadderAsked,
-    LoopbackAsked, Told, TreeAsked, WarnAsked, read_asked,
+    LoopbackAsked, Told, TreeAsked, WarnAsked, read_asked, SeamAsked,
 };

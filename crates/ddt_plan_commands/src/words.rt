@@ -123,11 +123,23 @@ pub struct LadderAsked<'a> {
     pub identifier: &'a str,
 }
 
+/// What `seam` is asked.
+#[derive(Debug, Drop)]
+pub struct SeamAsked<'a> {
+    /// The path of our register.
+    pub ours: &'a str,
+    /// The path of the register of the other side.
+    pub theirs: &'a str,
+    /// The names of the groups whose servers the other side runs.
+    pub foreign: Vec<&'a str>,
+}
+
 /// A command, and what it is asked.
 #[derive(Debug, Drop)]
 pub enum Asked<'a> {
     Blocks(BlocksAsked<'a>),
     Diff(DiffAsked<'a>),
+    Seam(SeamAsked<'a>),
     /// All faults of the file at a path.
     Faults(&'a str),
     Warn(WarnAsked<'a>),
@@ -160,6 +172,7 @@ fn asked_of<'a>(
     match command {
         "blocks" => Ok(Asked::Blocks(blocks_asked(register, matches))),
         "diff" => Ok(Asked::Diff(diff_asked(matches))),
+        "seam" => Ok(Asked::Seam(seam_asked(alloc, matches)?)),
         "warn" => Ok(Asked::Warn(WarnAsked {
             register,
             off: values_of(alloc, matches, "off")?,
@@ -220,6 +233,14 @@ fn told_asked(matches: &ArgMatches<'_>) -> Told {
     } else {
         Told::Changes
     }
+}
+
+fn seam_asked<'a>(alloc: Global, matches: &ArgMatches<'a>) -> Result<SeamAsked<'a>, AllocError> {
+    Ok(SeamAsked {
+        ours: matches.get_str("ours").unwrap_or("-"),
+        theirs: matches.get_str("theirs").unwrap_or("-"),
+        foreign: values_of(alloc, matches, "foreign")?,
+    })
 }
 
 fn export_asked<'a>(register: &'a str, matches: &ArgMatches<'a>) -> ExportAsked<'a> {

@@ -8,7 +8,7 @@ function __ddtplan_at
     set -l plain
     while set -q words[1]
         switch $words[1]
-            case --off --rate --timeout --tries --under --depth
+            case --off --foreign --rate --timeout --tries --under --depth
                 set -e words[1]
             case -
                 set -a plain $words[1]
@@ -30,6 +30,7 @@ complete -c ddtplan -n __fish_use_subcommand -s h -l help -d 'Print help'
 complete -c ddtplan -n __fish_use_subcommand -s V -l version -d 'Print the version'
 complete -c ddtplan -n __fish_use_subcommand -a blocks -d 'List the blocks that a register assigns alike'
 complete -c ddtplan -n __fish_use_subcommand -a diff -d 'List the blocks whose assignment changes'
+complete -c ddtplan -n __fish_use_subcommand -a seam -d 'Say whether two registers fit together'
 complete -c ddtplan -n __fish_use_subcommand -a faults -d 'List every fault of a file, with its line'
 complete -c ddtplan -n __fish_use_subcommand -a warn -d 'List what a register has that is mostly a mistake'
 complete -c ddtplan -n __fish_use_subcommand -a compile -d 'Write all configurations and a manifest'
@@ -53,6 +54,11 @@ complete -c ddtplan -n '__ddtplan_at diff' -l count -d 'Print only how many chan
 complete -c ddtplan -n '__ddtplan_at diff' -l summary -d 'Print only the summary'
 complete -c ddtplan -n '__ddtplan_at diff' -l json -d 'Print a JSON object a line'
 complete -c ddtplan -n '__ddtplan_at diff' -s h -l help -d 'Print help'
+
+complete -c ddtplan -n '__ddtplan_at seam 1' -k -a '(__fish_complete_suffix .csv)'
+complete -c ddtplan -n '__ddtplan_at seam 2' -k -a '(__fish_complete_suffix .csv)'
+complete -c ddtplan -n '__ddtplan_at seam' -l foreign -x -d 'A group whose servers the other side runs'
+complete -c ddtplan -n '__ddtplan_at seam' -s h -l help -d 'Print help'
 
 complete -c ddtplan -n '__ddtplan_at faults 1' -k -a '(__fish_complete_suffix .csv)'
 complete -c ddtplan -n '__ddtplan_at faults' -s h -l help -d 'Print help'

@@ -10,6 +10,7 @@ use Rattle.ddt_register.specs.declared.register.Register.{Register}
 use Rattle.ddt_check.specs.Zones.{is_same_role, group_named}
 use Rattle.ddt_path.specs.Names.{is_same_name}
 use Rattle.ddt_plan.specs.Changes.{are_same_servers}
+use Rattle.ddt_seam.specs.declared.known.Servers.{Servers}
 
 -- ---- what a row says, its number left out
 
@@ -41,9 +42,14 @@ lacks_zone r z = not (option_map_or (λ own. is_same_role own.kind z.kind && is_
 abbrev pub lacks_site : Register → Site → Bool
 lacks_site r s = not (option_map_or (λ own. are_same_servers own.etrs s.etrs) (site_at r s.prefix) false)
 
--- a group that the register has not, or has with other locators
+-- what a group has under its name
+abbrev pub servers_of : Group → Servers
+servers_of g = record { kind = g.kind; locators = g.locators }
+
+-- a group that the register has not, or has with another kind or other locators
 abbrev pub lacks_group : Register → Group → Bool
-lacks_group r g = not (option_map_or (λ own. are_same_servers own.locators g.locators) (group_named r g.name) false)
+lacks_group r g = not (option_map_or (λ own. is_same_role own.kind g.kind && are_same_servers own.locators g.locators)
+    (group_named r g.name) false)
 
 -- ---- the joined register
 

@@ -5,10 +5,11 @@ ghost use Rattle.std.specs.List.{filter};
 ghost use Rattle.ddt_path.specs.Matching.{AnswersAs};
 ghost use Rattle.ddt_seam.specs.Joined.{IsJoined, zone_text, site_text, group_text, lacks_zone as lacks_zone_of, lacks_site as lacks_site_of, lacks_group as lacks_group_of};
 
-use crate::known::{etrs_by_prefix, lacks_group, lacks_site, lacks_zone, zones_by_prefix};
+use crate::known::{
+    etrs_by_prefix, lacks_group, lacks_site, lacks_zone, servers_by_name, zones_by_prefix,
+};
 use crate::row::{Row, row_after};
 use ddt_check::Accepted;
-use ddt_compile::locators_by_name;
 use ddt_register::{Group, Register, Site, Zone};
 use std::alloc::{AllocError, Global};
 
@@ -69,7 +70,7 @@ fn joined_groups(
     ensures { IfOk result (λ rows. map group_text rows.items ≡ map group_text ours.now.groups
         ++ map group_text (filter (lacks_group_of ours.now) theirs.now.groups)) }
 {
-    let known = locators_by_name(alloc, ours)?;
+    let known = servers_by_name(alloc, ours)?;
     let groups = ours.register().groups.as_slice();
     let rows = appended(alloc, Vec::new(alloc), 0, groups, |_| true)?;
     let groups = theirs.register().groups.as_slice();

@@ -6,14 +6,21 @@ ghost use Rattle.std.specs.Ordering.{nat_cmp};
 ghost use Rattle.std.specs.Cmp.Lexicographic.{slice_cmp};
 ghost use Rattle.std.specs.BTreeMap.{get};
 ghost use Rattle.ddt_register.specs.declared.register.Register.{Register as ARegister};
-ghost use Rattle.ddt_compile.specs.Sorted.{HasLocatorsOf};
-ghost use Rattle.ddt_seam.specs.Joined.{zone_at, site_at, lacks_zone as lacks_zone_of, lacks_site as lacks_site_of, lacks_group as lacks_group_of};
+ghost use Rattle.ddt_check.specs.Zones.{group_named};
+ghost use Rattle.ddt_seam.specs.Joined.{zone_at, site_at, lacks_zone as lacks_zone_of, lacks_site as lacks_site_of, lacks_group as lacks_group_of, servers_of};
 
 use ddt_check::Accepted;
-use ddt_path::{LocatorSet, Name, Prefix};
+use ddt_path::{LocatorSet, Name, Prefix, Role};
 use ddt_register::{Group, Site, Zone};
 use std::alloc::{AllocError, Global};
 use std::collections::BTreeMap;
+
+/// The servers of a group.
+#[derive(Clone, Copy, Debug)]
+pub struct Servers {
+    pub kind: Role,
+    pub locators: LocatorSet,
+}
 
 /// The first zone of each prefix. Fails only if out of memory.
 pub fn zones_by_prefix(
@@ -48,6 +55,28 @@ pub fn etrs_by_prefix(
     Ok(known)
 }
 
+/// The servers of the first group of each name. Fails only if out of memory.
+pub fn servers_by_name(
+    alloc: Global,
+    accepted: &Accepted,
+) -> Result<BTreeMap<Name, Servers>, AllocError>
+    ensures { IfOk result (λ known. (name : List ℕ)
+        → get (slice_cmp nat_cmp) known name ≡ option_map servers_of (group_named accepted.now name)) }
+{
+    let mut known = BTreeMap::new(alloc);
+    for group in accepted.register().groups.as_slice() {
+        if !known.contains_key(&group.name) {
+            let locators = LocatorSet::of_few(group.locators.as_slice());
+            let servers = Servers {
+                kind: group.kind,
+                locators,
+            };
+            known.insert(group.name, servers)?;
+        }
+    }
+    Ok(known)
+}
+
 /// Whether a register lacks a zone, by its zones.
 pub fn lacks_zone(known: &BTreeMap<Prefix, Zone>, zone: &Zone) -> bool
     ensures { (r : ARegister) → ((p : List ℕ) → get (slice_cmp nat_cmp) known.now p ≡ zone_at r p)
@@ -71,12 +100,14 @@ pub fn lacks_site(known: &BTreeMap<Prefix, LocatorSet>, site: &Site) -> bool
     }
 }
 
-/// Whether a register lacks a group, by the locators of its groups.
-pub fn lacks_group(known: &BTreeMap<Name, LocatorSet>, group: &Group) -> bool
-    ensures { (r : ARegister) → HasLocatorsOf known.now r → result ≡ lacks_group_of r group.now }
+/// Whether a register lacks a group, by the servers of its groups.
+pub fn lacks_group(known: &BTreeMap<Name, Servers>, group: &Group) -> bool
+    ensures { (r : ARegister) → ((name : List ℕ)
+        → get (slice_cmp nat_cmp) known.now name ≡ option_map servers_of (group_named r name))
+        → result ≡ lacks_group_of r group.now }
 {
     match known.get(&group.name) {
-        Some(locators) => locators.as_slice() != group.locators.as_slice(),
+        Some(own) => own.kind != group.kind || own.locators.as_slice() != group.locators.as_slice(),
         None => true,
     }
 }

@@ -48,9 +48,9 @@ const POOL: [&[&str]; 8] = [
 fn drawn(alloc: Global, dice: &mut Dice) -> Result<String, AllocError> {
     let mut text = format!(in alloc; "{COLUMNS}{ROOT}")?;
     for rows in &POOL {
-        match dice.below(8) {
-            0 | 1 => {}
-            2 | 3 => text.push_str(rows.last().unwrap_or(&""))?,
+        match dice.below(16) {
+            0 => {}
+            1 => text.push_str(rows.last().unwrap_or(&""))?,
             _ => text.push_str(rows.first().unwrap_or(&""))?,
         }
     }

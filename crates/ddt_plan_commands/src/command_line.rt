@@ -24,18 +24,21 @@ const SEAM_HELP: &str = "Example:
 Status: 0 if the seam is good, 1 if it isn't, 2 if it refuses.";
 
 const FAULTS_HELP: &str =
-    "Each fault has a line: FILE:LINE: NUMBER NAME: reason. The last line says how many there are.
+    "Each fault has a line: FILE:LINE: NUMBER NAME: reason. The last line says how many there are. With --old, sites that
+lost their zone have one line, which names the zone.
 
 Status: 0 for none, 1 if there are faults, 2 if the file can't be read.";
 
 const WARN_HELP: &str = "Example:
   ddtplan warn --off node-zone-without-child register.csv
+  ddtplan warn --old old.csv --resolver 198.51.100.53 register.csv
 
 Status: 0 for none, 1 if it warns, 2 if it refuses.";
 
 const COMPILE_HELP: &str =
     "Each file is written beside the old one and renamed. Files that stay the same are left alone. Where the register is
-refused, nothing is touched. `sha256sum -c MANIFEST` checks the files.
+refused, nothing is touched, nor where more of its sites are gone than --max-lost allows. `sha256sum -c MANIFEST` checks
+the files.
 
 Status: 0, or 2 if it refuses.";
 
@@ -147,7 +150,8 @@ fn faults_command<'a>(alloc: Global) -> Result<Command<'a>, AllocError> {
     Command::new(alloc, "faults")
         .after_help(FAULTS_HELP)
         .about("List every fault of a register's file, with its line.")
-        .arg(path(alloc, "register").help("The file, as people and spreadsheets write it"))
+        .arg(path(alloc, "register").help("The file, as people and spreadsheets write it"))?
+        .arg(old(alloc))
 }
 
 fn warn_command<'a>(alloc: Global) -> Result<Command<'a>, AllocError> {
@@ -155,6 +159,14 @@ fn warn_command<'a>(alloc: Global) -> Result<Command<'a>, AllocError> {
         .after_help(WARN_HELP)
         .about("List what a register has that is mostly a mistake.")
         .arg(path(alloc, "register").help("The register, a CSV file"))?
+        .arg(old(alloc))?
+        .arg(
+            Arg::new(alloc, "resolver")
+                .long("resolver")
+                .value_name("ADDRESS")
+                .action(ArgAction::Append)
+                .help("A Map-Resolver's address, which no ETR may have"),
+        )?
         .arg(
             Arg::new(alloc, "off")
                 .long("off")
@@ -170,7 +182,15 @@ fn compile_command<'a>(alloc: Global) -> Result<Command<'a>, AllocError> {
         .about("Write the configuration of each group into a folder, with a manifest.")
         .arg(path(alloc, "register").help("The register, a CSV file"))?
         .arg(path(alloc, "folder").help("The folder"))?
-        .arg(flag(alloc, "remove").help("Remove the files of groups that are gone"))
+        .arg(flag(alloc, "remove").help("Remove the files of groups that are gone"))?
+        .arg(
+            Arg::new(alloc, "max-lost")
+                .long("max-lost")
+                .value_name("PERCENT")
+                .action(ArgAction::Set)
+                .value_parser(value_parser!(u32).range(0..101))
+                .help("Refuse where more of the sites in the folder's register are gone"),
+        )
 }
 
 fn loopback_command<'a>(alloc: Global) -> Result<Command<'a>, AllocError> {
@@ -243,6 +263,15 @@ fn number<'a>(alloc: Global, name: &'a str) -> Arg<'a> {
         .value_name("N")
         .action(ArgAction::Set)
         .value_parser(value_parser!(u32).range(1..))
+}
+
+/// The register that was in force before.
+fn old<'a>(alloc: Global) -> Arg<'a> {
+    Arg::new(alloc, "old")
+        .long("old")
+        .value_name("OLD")
+        .action(ArgAction::Set)
+        .help("The register that was in force before, a CSV file")
 }
 
 /// A path that must be given.

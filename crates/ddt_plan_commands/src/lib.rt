@@ -38,6 +38,6 @@ pub use listed_blocks::run_blocks;
 pub use refusal::PlanRefusal;
 pub use told_changes::run_diff;
 pub use words::{
-    AskAsked, Asked, BlocksAsked, CompileAsked, DiffAsked, ExportAsked, Form, LadderAsked,
-    LoopbackAsked, Told, TreeAsked, WarnAsked, read_asked, SeamAsked,
+    AskAsked, Asked, BlocksAsked, CompileAsked, DiffAsked, ExportAsked, FaultsAsked, Form,
+    LadderAsked, LoopbackAsked, SeamAsked, Told, TreeAsked, WarnAsked, read_asked,
 };

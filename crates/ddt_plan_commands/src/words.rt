@@ -51,11 +51,24 @@ pub struct DiffAsked<'a> {
     pub form: Form,
 }
 
+/// What `faults` is asked.
+#[derive(Clone, Copy, Debug)]
+pub struct FaultsAsked<'a> {
+    /// The path of the file.
+    pub register: &'a str,
+    /// The path of the register that was in force before, if it is given.
+    pub old: Option<&'a str>,
+}
+
 /// What `warn` is asked.
 #[derive(Debug, Drop)]
 pub struct WarnAsked<'a> {
     /// The path of the register.
     pub register: &'a str,
+    /// The path of the register that was in force before, if it is given.
+    pub old: Option<&'a str>,
+    /// The addresses of Map-Resolvers, as text.
+    pub resolvers: Vec<&'a str>,
     /// The kinds of warnings that are turned off, by their names.
     pub off: Vec<&'a str>,
 }
@@ -69,6 +82,8 @@ pub struct CompileAsked<'a> {
     pub folder: &'a str,
     /// Whether files of groups that are gone are removed.
     pub removes: bool,
+    /// How many percent of the sites in the folder's register may be gone, if that is bounded.
+    pub max_lost: Option<u32>,
 }
 
 /// What `loopback` is asked.
@@ -140,8 +155,8 @@ pub enum Asked<'a> {
     Blocks(BlocksAsked<'a>),
     Diff(DiffAsked<'a>),
     Seam(SeamAsked<'a>),
-    /// All faults of the file at a path.
-    Faults(&'a str),
+    /// All faults of a file.
+    Faults(FaultsAsked<'a>),
     Warn(WarnAsked<'a>),
     Compile(CompileAsked<'a>),
     Loopback(LoopbackAsked<'a>),
@@ -158,7 +173,10 @@ pub fn read_asked<'a>(alloc: Global, words: &'a [String]) -> Result<Asked<'a>, E
     match matches.remove_subcommand() {
         Some((command, matches)) => Ok(asked_of(alloc, command, &matches)?),
         // The command line requires one of its commands.
-        None => Ok(Asked::Faults("-")),
+        None => Ok(Asked::Faults(FaultsAsked {
+            register: "-",
+            old: None,
+        })),
     }
 }
 
@@ -175,12 +193,15 @@ fn asked_of<'a>(
         "seam" => Ok(Asked::Seam(seam_asked(alloc, matches)?)),
         "warn" => Ok(Asked::Warn(WarnAsked {
             register,
+            old: matches.get_str("old"),
+            resolvers: values_of(alloc, matches, "resolver")?,
             off: values_of(alloc, matches, "off")?,
         })),
         "compile" => Ok(Asked::Compile(CompileAsked {
             register,
             folder: matches.get_str("folder").unwrap_or(""),
             removes: matches.get_flag("remove"),
+            max_lost: matches.get_one("max-lost"),
         })),
         "loopback" => Ok(Asked::Loopback(LoopbackAsked {
             register,
@@ -197,7 +218,10 @@ fn asked_of<'a>(
             register,
             identifier: matches.get_str("identifier").unwrap_or(""),
         })),
-        _ => Ok(Asked::Faults(register)),
+        _ => Ok(Asked::Faults(FaultsAsked {
+            register,
+            old: matches.get_str("old"),
+        })),
     }
 }
 

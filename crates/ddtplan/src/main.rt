@@ -3,6 +3,7 @@
 //! Tests: tests/companion.
 #![tactic(auto)]
 
+mod cut;
 mod export;
 mod faults;
 mod folder;
@@ -60,7 +61,7 @@ fn run(rt: &HostRuntime, asked: &Asked<'_>) -> End {
         Asked::Blocks(asked) => return blocks(rt, asked),
         Asked::Diff(asked) => return diff(rt, asked),
         Asked::Seam(asked) => seam::seam(rt, asked),
-        Asked::Faults(path) => faults::faults(rt, path),
+        Asked::Faults(asked) => faults::faults(rt, asked),
         Asked::Warn(asked) => warnings::warn(rt, asked),
         Asked::Compile(asked) => folder::compile(rt, asked),
         Asked::Loopback(asked) => loopback::loopback(rt, asked),

@@ -8,7 +8,7 @@ function __ddtplan_at
     set -l plain
     while set -q words[1]
         switch $words[1]
-            case --off --foreign --rate --timeout --tries --under --depth
+            case --off --old --resolver --max-lost --foreign --rate --timeout --tries --under --depth
                 set -e words[1]
             case -
                 set -a plain $words[1]
@@ -61,22 +61,31 @@ complete -c ddtplan -n '__ddtplan_at seam' -l foreign -x -d 'A group whose serve
 complete -c ddtplan -n '__ddtplan_at seam' -s h -l help -d 'Print help'
 
 complete -c ddtplan -n '__ddtplan_at faults 1' -k -a '(__fish_complete_suffix .csv)'
+complete -c ddtplan -n '__ddtplan_at faults' -l old -r -k -a '(__fish_complete_suffix .csv)' -d 'The register before'
 complete -c ddtplan -n '__ddtplan_at faults' -s h -l help -d 'Print help'
 
 complete -c ddtplan -n '__ddtplan_at warn 1' -k -a '(__fish_complete_suffix .csv)'
+complete -c ddtplan -n '__ddtplan_at warn' -l old -r -k -a '(__fish_complete_suffix .csv)' -d 'The register before'
+complete -c ddtplan -n '__ddtplan_at warn' -l resolver -x -d 'An address of a Map-Resolver'
 complete -c ddtplan -n '__ddtplan_at warn' -l off -x -a unreachable-locator -d 'Turn a kind of warning off'
+complete -c ddtplan -n '__ddtplan_at warn' -l off -x -a unreachable-etr -d 'Turn a kind of warning off'
 complete -c ddtplan -n '__ddtplan_at warn' -l off -x -a repeated-etr -d 'Turn a kind of warning off'
 complete -c ddtplan -n '__ddtplan_at warn' -l off -x -a etr-is-server -d 'Turn a kind of warning off'
+complete -c ddtplan -n '__ddtplan_at warn' -l off -x -a etr-is-resolver -d 'Turn a kind of warning off'
+complete -c ddtplan -n '__ddtplan_at warn' -l off -x -a etr-inside-site -d 'Turn a kind of warning off'
 complete -c ddtplan -n '__ddtplan_at warn' -l off -x -a locator-inside-eids -d 'Turn a kind of warning off'
 complete -c ddtplan -n '__ddtplan_at warn' -l off -x -a group-without-zone -d 'Turn a kind of warning off'
 complete -c ddtplan -n '__ddtplan_at warn' -l off -x -a node-zone-without-child -d 'Turn a kind of warning off'
 complete -c ddtplan -n '__ddtplan_at warn' -l off -x -a zone-between -d 'Turn a kind of warning off'
+complete -c ddtplan -n '__ddtplan_at warn' -l off -x -a zone-of-strange-group -d 'Turn a kind of warning off'
 complete -c ddtplan -n '__ddtplan_at warn' -l off -x -a site-in-other-region -d 'Turn a kind of warning off'
+complete -c ddtplan -n '__ddtplan_at warn' -l off -x -a truncated-file -d 'Turn a kind of warning off'
 complete -c ddtplan -n '__ddtplan_at warn' -s h -l help -d 'Print help'
 
 complete -c ddtplan -n '__ddtplan_at compile 1' -k -a '(__fish_complete_suffix .csv)'
 complete -c ddtplan -n '__ddtplan_at compile 2' -a '(__fish_complete_directories)'
 complete -c ddtplan -n '__ddtplan_at compile' -l remove -d 'Remove the files of groups that are gone'
+complete -c ddtplan -n '__ddtplan_at compile' -l max-lost -x -d 'Refuse where more of the sites are gone'
 complete -c ddtplan -n '__ddtplan_at compile' -s h -l help -d 'Print help'
 
 complete -c ddtplan -n '__ddtplan_at loopback 1' -k -a '(__fish_complete_suffix .csv)'

@@ -57,8 +57,13 @@ Status: 0, 1 if a delegation or a site can't be written, 2 if it refuses.";
 /// The implementations whose configurations `export` prints.
 const IMPLEMENTATIONS: [&str; 1] = ["oor"];
 
-const ASK_HELP: &str =
-    "Each question has a line: the identifier, the server, and `agrees`, `differs` or `silent`.
+const ASK_HELP: &str = "Examples:
+  ddtplan ask --quiet --changed old.csv new.csv   what servers of new.csv have to say otherwise than by old.csv
+  ddtplan ask --sample 100 register.csv           one identifier of each of 100 blocks
+  ddtplan ask --resolver 10.0.0.53 --as-itr 10.0.0.7 register.csv
+
+Each question has a line: the identifier, the server, and `agrees`, `differs`, `silent` or `not judged`. A Map-Server
+forwards questions about registered sites to their ETRs.
 
 Status: 0 if all agree, 1 if not, 2 if it refuses.";
 
@@ -226,6 +231,16 @@ fn ask_command<'a>(alloc: Global) -> Result<Command<'a>, AllocError> {
                 "What is asked for; one identifier of each block, where none is given",
             ),
         )?
+        .arg(option(alloc, "changed", "OLD").help("Ask only what differs from this register"))?
+        .arg(number(alloc, "sample").help("Ask for so many blocks, drawn at random"))?
+        .arg(flag(alloc, "quiet").help("Leave out what agrees"))?
+        .arg(option(alloc, "resolver", "ADDRESS").help("Ask this Map-Resolver, as an ITR does"))?
+        .arg(option(alloc, "as-itr", "ADDRESS").help(
+            "The address of this machine to which the Map-Resolver replies",
+        ))?
+        .arg(option(alloc, "as-etr", "ADDRESS").help(
+            "The same, where the address is an ETR of the register",
+        ))?
         .arg(number(alloc, "rate").help("Questions a second; 100, where it isn't given"))?
         .arg(number(alloc, "timeout").help("Milliseconds for a reply; 2000, where it isn't given"))?
         .arg(number(alloc, "tries").help(
@@ -272,6 +287,14 @@ fn old<'a>(alloc: Global) -> Arg<'a> {
         .value_name("OLD")
         .action(ArgAction::Set)
         .help("The register that was in force before, a CSV file")
+}
+
+/// An option that has a word of this name.
+fn option<'a>(alloc: Global, name: &'a str, value: &'a str) -> Arg<'a> {
+    Arg::new(alloc, name)
+        .long(name)
+        .value_name(value)
+        .action(ArgAction::Set)
 }
 
 /// A path that must be given.

@@ -111,6 +111,18 @@ pub struct AskAsked<'a> {
     pub register: &'a str,
     /// The identifiers; none where one of each block is meant.
     pub identifiers: Vec<&'a str>,
+    /// The path of the register that was in force, where only what a change touches is asked.
+    pub before: Option<&'a str>,
+    /// How many blocks are drawn; None where all are asked.
+    pub sample: Option<u32>,
+    /// Whether what agrees is left out.
+    pub quiet: bool,
+    /// The address of the Map-Resolver that is asked in place of the servers.
+    pub resolver: Option<&'a str>,
+    /// The address of this machine to which the Map-Resolver replies.
+    pub as_itr: Option<&'a str>,
+    /// The same, where it is an ETR of the register too.
+    pub as_etr: Option<&'a str>,
     /// Questions a second.
     pub rate: Option<u32>,
     /// Milliseconds until a try is over.
@@ -282,6 +294,12 @@ fn ask_asked<'a>(
     Ok(AskAsked {
         register,
         identifiers: values_of(alloc, matches, "identifier")?,
+        before: matches.get_str("changed"),
+        sample: matches.get_one("sample"),
+        quiet: matches.get_flag("quiet"),
+        resolver: matches.get_str("resolver"),
+        as_itr: matches.get_str("as-itr"),
+        as_etr: matches.get_str("as-etr"),
         rate: matches.get_one("rate"),
         timeout: matches.get_one("timeout"),
         tries: matches.get_one("tries"),

@@ -116,6 +116,54 @@ fn diff_is_asked_for(rt: HostRuntime) -> Result<(), Fail> {
     Ok(())
 }
 
+#[test]
+fn servers_are_asked_for(rt: HostRuntime) -> Result<(), Fail> {
+    let words = process(
+        rt.alloc(),
+        &[
+            "ask",
+            "--quiet",
+            "--changed",
+            "a.csv",
+            "b.csv",
+            "--sample",
+            "9",
+        ],
+    )?;
+    let Ok(Asked::Ask(asked)) = read_asked(rt.alloc(), &words) else {
+        return Err("not ask".into());
+    };
+    same(&rt, &asked.before, &Some("a.csv"), &"the earlier register");
+    same(&rt, &asked.register, &"b.csv", &"the later register");
+    same(&rt, &asked.sample, &Some(9), &"the sample");
+    same(&rt, &asked.quiet, &true, &"quiet");
+    same(&rt, &asked.resolver, &None, &"the Map-Resolver");
+    Ok(())
+}
+
+#[test]
+fn a_map_resolver_is_asked_for(rt: HostRuntime) -> Result<(), Fail> {
+    let words = process(
+        rt.alloc(),
+        &[
+            "ask",
+            "--resolver",
+            "10.0.0.1",
+            "--as-etr",
+            "10.0.0.2",
+            "a.csv",
+        ],
+    )?;
+    let Ok(Asked::Ask(asked)) = read_asked(rt.alloc(), &words) else {
+        return Err("not ask".into());
+    };
+    same(&rt, &asked.resolver, &Some("10.0.0.1"), &"the Map-Resolver");
+    same(&rt, &asked.as_etr, &Some("10.0.0.2"), &"the ETR");
+    same(&rt, &asked.as_itr, &None, &"the ITR");
+    same(&rt, &asked.before, &None, &"the earlier register");
+    Ok(())
+}
+
 /// Words that ask for nothing, and why.
 const NOTHING: &[(&[&str], ErrorKind)] = &[
     (&[], ErrorKind::MissingSubcommand),
@@ -130,6 +178,10 @@ const NOTHING: &[(&[&str], ErrorKind)] = &[
     (
         &["diff", "a.csv", "b.csv", "--count", "--summary"],
         ErrorKind::ArgumentConflict,
+    ),
+    (
+        &["ask", "a.csv", "--sample", "0"],
+        ErrorKind::ValueValidation,
     ),
 ];
 

@@ -3,15 +3,18 @@
 //! Tests: tests/companion.
 #![tactic(auto)]
 
+mod bar;
 mod cut;
 mod export;
 mod faults;
 mod folder;
 mod inputs;
+mod inquiry;
 mod loopback;
 mod pictures;
 mod progress;
 mod questions;
+mod scope;
 mod seam;
 mod warnings;
 

@@ -97,6 +97,12 @@ complete -c ddtplan -n '__ddtplan_at export 2' -k -a '(__fish_complete_suffix .c
 complete -c ddtplan -n '__ddtplan_at export' -s h -l help -d 'Print help'
 
 complete -c ddtplan -n '__ddtplan_at ask 1' -k -a '(__fish_complete_suffix .csv)'
+complete -c ddtplan -n '__ddtplan_at ask' -l changed -x -k -a '(__fish_complete_suffix .csv)' -d 'Ask only what differs from a register'
+complete -c ddtplan -n '__ddtplan_at ask' -l sample -x -d 'How many blocks are drawn'
+complete -c ddtplan -n '__ddtplan_at ask' -l quiet -d 'Leave out what agrees'
+complete -c ddtplan -n '__ddtplan_at ask' -l resolver -x -d 'Ask this Map-Resolver'
+complete -c ddtplan -n '__ddtplan_at ask' -l as-itr -x -d 'The address to which it replies'
+complete -c ddtplan -n '__ddtplan_at ask' -l as-etr -x -d 'The same, of an ETR'
 complete -c ddtplan -n '__ddtplan_at ask' -l rate -x -d 'Questions a second'
 complete -c ddtplan -n '__ddtplan_at ask' -l timeout -x -d 'Milliseconds for a reply'
 complete -c ddtplan -n '__ddtplan_at ask' -l tries -x -d 'Requests to a server that is silent'

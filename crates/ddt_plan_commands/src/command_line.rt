@@ -42,6 +42,14 @@ the files.
 
 Status: 0, or 2 if it refuses.";
 
+const ROLLOUT_HELP: &str = "Example:
+  ddtplan rollout old.csv new.csv
+  ddtplan compile --from old.csv --step 1 new.csv folder
+
+Each step is taken once all servers have taken the one before.
+
+Status: 0, or 2 if it refuses.";
+
 const LOOPBACK_HELP: &str = "Example:
   ddtplan loopback register.csv > here.csv && ddt loop here.csv '[0]10.1.2.3'
 
@@ -92,6 +100,7 @@ pub(crate) fn command_line<'a>(alloc: Global) -> Result<Command<'a>, AllocError>
         .subcommand(faults_command(alloc)?)?
         .subcommand(warn_command(alloc)?)?
         .subcommand(compile_command(alloc)?)?
+        .subcommand(rollout_command(alloc)?)?
         .subcommand(loopback_command(alloc)?)?
         .subcommand(export_command(alloc)?)?
         .subcommand(ask_command(alloc)?)?
@@ -195,7 +204,33 @@ fn compile_command<'a>(alloc: Global) -> Result<Command<'a>, AllocError> {
                 .action(ArgAction::Set)
                 .value_parser(value_parser!(u32).range(0..101))
                 .help("Refuse where more of the sites in the folder's register are gone"),
+        )?
+        .arg(
+            Arg::new(alloc, "from")
+                .long("from")
+                .value_name("OLD")
+                .action(ArgAction::Set)
+                .requires_arg("step")?
+                .conflicts_with("remove")?
+                .help(
+                    "The register in force; write only the configurations of a step of `rollout`",
+                ),
+        )?
+        .arg(
+            number(alloc, "step")
+                .requires_arg("from")?
+                .help("The number of the step"),
         )
+}
+
+fn rollout_command<'a>(alloc: Global) -> Result<Command<'a>, AllocError> {
+    Command::new(alloc, "rollout")
+        .after_help(ROLLOUT_HELP)
+        .about(
+            "Print in which steps a change is rolled out, so that everybody is answered meanwhile.",
+        )
+        .arg(path(alloc, "old").help("The register that is in force, a CSV file"))?
+        .arg(path(alloc, "new").help("The register that is to come into force, a CSV file"))
 }
 
 fn loopback_command<'a>(alloc: Global) -> Result<Command<'a>, AllocError> {

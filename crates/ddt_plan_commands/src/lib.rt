@@ -39,5 +39,6 @@ pub use refusal::PlanRefusal;
 pub use told_changes::run_diff;
 pub use words::{
     AskAsked, Asked, BlocksAsked, CompileAsked, DiffAsked, ExportAsked, FaultsAsked, Form,
-    LadderAsked, LoopbackAsked, SeamAsked, Told, TreeAsked, WarnAsked, read_asked,
+    LadderAsked, LoopbackAsked, RolloutAsked, SeamAsked, StepAsked, Told, TreeAsked, WarnAsked,
+    read_asked,
 };

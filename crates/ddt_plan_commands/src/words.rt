@@ -84,6 +84,26 @@ pub struct CompileAsked<'a> {
     pub removes: bool,
     /// How many percent of the sites in the folder's register may be gone, if that is bounded.
     pub max_lost: Option<u32>,
+    /// The step of a rollout whose configurations are written, where not all of the register are.
+    pub step: Option<StepAsked<'a>>,
+}
+
+/// A step of a rollout.
+#[derive(Clone, Copy, Debug)]
+pub struct StepAsked<'a> {
+    /// The path of the register that is in force before the first step.
+    pub from: &'a str,
+    /// Its number, from 1 on.
+    pub number: u32,
+}
+
+/// What `rollout` is asked.
+#[derive(Clone, Copy, Debug)]
+pub struct RolloutAsked<'a> {
+    /// The path of the register that is in force.
+    pub before: &'a str,
+    /// The path of the register that is to come into force.
+    pub after: &'a str,
 }
 
 /// What `loopback` is asked.
@@ -171,6 +191,7 @@ pub enum Asked<'a> {
     Faults(FaultsAsked<'a>),
     Warn(WarnAsked<'a>),
     Compile(CompileAsked<'a>),
+    Rollout(RolloutAsked<'a>),
     Loopback(LoopbackAsked<'a>),
     Export(ExportAsked<'a>),
     Ask(AskAsked<'a>),
@@ -214,6 +235,11 @@ fn asked_of<'a>(
             folder: matches.get_str("folder").unwrap_or(""),
             removes: matches.get_flag("remove"),
             max_lost: matches.get_one("max-lost"),
+            step: step_asked(matches),
+        })),
+        "rollout" => Ok(Asked::Rollout(RolloutAsked {
+            before: matches.get_str("old").unwrap_or("-"),
+            after: matches.get_str("new").unwrap_or("-"),
         })),
         "loopback" => Ok(Asked::Loopback(LoopbackAsked {
             register,
@@ -277,6 +303,12 @@ fn seam_asked<'a>(alloc: Global, matches: &ArgMatches<'a>) -> Result<SeamAsked<'
         theirs: matches.get_str("theirs").unwrap_or("-"),
         foreign: values_of(alloc, matches, "foreign")?,
     })
+}
+
+fn step_asked<'a>(matches: &ArgMatches<'a>) -> Option<StepAsked<'a>> {
+    let from = matches.get_str("from")?;
+    let number = matches.get_one("step")?;
+    Some(StepAsked { from, number })
 }
 
 fn export_asked<'a>(register: &'a str, matches: &ArgMatches<'a>) -> ExportAsked<'a> {

@@ -1,6 +1,7 @@
 //! `ddtplan compile REGISTER FOLDER`: all configurations of a register in a folder.
 
 use crate::inputs::{Why, accepted_in, bytes_at, no_memory, print, say};
+use crate::rollout::compile_step;
 use ddt_check::Accepted;
 use ddt_folder::{FileName, Folder, Plan, PublishFault, lines_of, publish};
 use ddt_path::Name;
@@ -18,7 +19,7 @@ const NAMES: u32 = 8;
 
 /// A folder on a disk. Others may write there too, so nothing is known of what it holds.
 #[derive(Drop)]
-struct DiskFolder<'a> {
+pub struct DiskFolder<'a> {
     rt: &'a HostRuntime,
     path: &'a str,
     /// The folder itself, whose lock keeps other runs out. The system drops the lock when the process ends, however it
@@ -30,7 +31,7 @@ struct DiskFolder<'a> {
 
 impl<'a> DiskFolder<'a> {
     /// The folder at a path, locked for this run. Refused where there is none, and where another run has the lock.
-    fn open(rt: &'a HostRuntime, path: &'a str) -> Result<DiskFolder<'a>, Why> {
+    pub fn open(rt: &'a HostRuntime, path: &'a str) -> Result<DiskFolder<'a>, Why> {
         let is_folder = match fs::metadata(rt, path) {
             Ok(metadata) => metadata.is_dir(),
             Err(error) => return Err(format!(in rt.alloc(); "{path}: {error}")),
@@ -90,7 +91,7 @@ impl<'a> DiskFolder<'a> {
     }
 
     /// Forces the names of the files to the disk.
-    fn sync(&self) -> io::Result<()> {
+    pub fn sync(&self) -> io::Result<()> {
         self.locked.sync_all()
     }
 }
@@ -159,6 +160,9 @@ fn write_whole(mut file: File, bytes: &[u8]) -> io::Result<()> {
 
 /// Writes the files, and prints what was done.
 pub fn compile(rt: &HostRuntime, asked: &CompileAsked<'_>) -> Result<End, Why> {
+    if let Some(step) = &asked.step {
+        return compile_step(rt, asked, step);
+    }
     let mut folder = DiskFolder::open(rt, asked.folder)?;
     let bytes = bytes_at(rt, asked.register)?;
     let accepted = accepted_in(rt, asked.register, &bytes)?;

@@ -14,6 +14,7 @@ mod loopback;
 mod pictures;
 mod progress;
 mod questions;
+mod rollout;
 mod scope;
 mod seam;
 mod warnings;
@@ -67,6 +68,7 @@ fn run(rt: &HostRuntime, asked: &Asked<'_>) -> End {
         Asked::Faults(asked) => faults::faults(rt, asked),
         Asked::Warn(asked) => warnings::warn(rt, asked),
         Asked::Compile(asked) => folder::compile(rt, asked),
+        Asked::Rollout(asked) => rollout::rollout(rt, asked),
         Asked::Loopback(asked) => loopback::loopback(rt, asked),
         Asked::Export(asked) => export::export(rt, asked),
         Asked::Ask(asked) => questions::ask(rt, asked),

@@ -57,7 +57,8 @@ fn before_last(
 ) -> Result<Option<ServerConfig>, RolloutFault>
     ensures found { IfOk result (λ found. option_map outline found ≡ config_before_last stage kept.now
         (option_map outline earlier) (option_map outline later)) }
-    ensures good { IfOk result (λ _. refusal_before_last (option_map outline earlier) (option_map outline later) ≡ None) }
+    ensures good { IfOk result (λ _. refusal_before_last (option_map outline earlier) (option_map outline later)
+        ≡ None) }
     ensures refused { IfErr result (λ fault. fault ≢ RolloutFault.Memory
         → refusal_before_last (option_map outline earlier) (option_map outline later) ≡ Some fault) }
 {
@@ -123,8 +124,8 @@ fn coming(
     })
 }
 
-/// The configuration of a group that is in both registers. Refused where it has two roles, or more locators than a group
-/// has.
+/// The configuration of a group that is in both registers. Refused where it has two roles, or more locators than a
+/// group has.
 fn config_between(
     alloc: Global,
     stage: Stage,

@@ -14,7 +14,7 @@ use std::collections::BTreeMap;
 /// The configuration that each group's servers have at a stage, in the order of the groups' names. Those of a stage may
 /// be loaded in any order, once all servers have those of the stage before.
 ///
-/// Refused as 1 Role and 2 Locators, each with a group's name, unless it's the last stage; as 3 Memory if out of memory.
+/// Refused as 1 Role and 2 Locators, each with a group's name, but at the last stage; as 3 Memory if out of memory.
 pub fn configurations_at(
     alloc: Global,
     before: &Accepted,

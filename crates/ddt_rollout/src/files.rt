@@ -18,7 +18,7 @@ pub struct ConfigFile {
     pub bytes: Vec<u8>,
 }
 
-/// The file of each group's configuration at a stage, in the order of the groups' names, as `ddtplan compile` writes it.
+/// The file of each group's configuration at a stage, as `ddtplan compile` writes it, in the order of the groups' names.
 /// Refused as `configurations_at` is.
 pub fn files_at(
     alloc: Global,

@@ -1,6 +1,6 @@
-//! In which order servers load another register's configurations, so that nobody is left without an answer: a zone's new
-//! servers first, then the zones above it, and after the time that referrals are cached the servers that lose a zone
-//! (RFC 8111, sections 4 and 6).
+//! In which order servers load another register's configurations, so that nobody is left without an answer: a zone's
+//! new servers first, then the zones above it, and after the time that referrals are cached the servers that lose a
+//! zone (RFC 8111, sections 4 and 6).
 //!
 //! In reading order: `stage`, `fault`, `between`, `waits`, `configurations`, `files`, `steps`,
 //! `lines`.

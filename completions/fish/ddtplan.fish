@@ -8,7 +8,8 @@ function __ddtplan_at
     set -l plain
     while set -q words[1]
         switch $words[1]
-            case --off --old --resolver --max-lost --foreign --rate --timeout --tries --under --depth
+            case --off --old --resolver --max-lost --from --step --foreign --changed --sample --as-itr --as-etr --rate \
+                    --timeout --tries --under --depth
                 set -e words[1]
             case -
                 set -a plain $words[1]

@@ -1,5 +1,5 @@
 -- Questions asked so far.
-use Rattle.std.proofs.Common.{◌≡◌, ℕ, ◌+◌, ◌<◌, true, List, [], ◌∷◌, ◌++◌, length, get_or, take, drop, map, refl, sym, ap, subst, ◌∙◌}
+use Rattle.std.proofs.Common.{◌≡◌, ℕ, ◌+◌, ◌<◌, List, [], ◌∷◌, ◌++◌, length, get_or, take, drop, map, refl, sym, ap, subst, ◌∙◌}
 use Rattle.std.proofs.lemmas.List.{append_assoc, map_push, take_more, take-append-drop}
 use Rattle.std.specs.Result.{OnErr}
 use Rattle.std.specs.Prelude.{Option, Some, None, Result, Ok, Err}

@@ -1,7 +1,7 @@
 -- Identifiers of the prefixes that were given.
-use Rattle.std.proofs.Common.{◌≡◌, ℕ, List, [], ◌∷◌, ◌++◌, map, refl, sym, ap, subst, ◌∙◌}
+use Rattle.std.proofs.Common.{◌≡◌, ℕ, List, [], ◌∷◌, ◌++◌, map, sym, ap, subst, ◌∙◌}
 use Rattle.std.proofs.lemmas.List.{append_assoc, append-nil, map_push}
-use Rattle.std.specs.Prelude.{Result, Ok, Err, MatchResult, ⊤}
+use Rattle.std.specs.Prelude.{Result, MatchResult, ⊤}
 use Rattle.ddt_path.specs.declared.xeid.Xeid.{Xeid}
 use Rattle.ddt_path.specs.Path.{xeid_path}
 use Rattle.ddt_plan.specs.Sinks.{HasTaken}

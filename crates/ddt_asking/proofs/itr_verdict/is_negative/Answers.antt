@@ -1,5 +1,4 @@
-use Rattle.std.proofs.Common.{◌≡◌, subst, sym}
-use Rattle.std.specs.Prelude.{Ok}
+use Rattle.std.proofs.Common.{◌≡◌, subst}
 use Rattle.ddt_wire.specs.declared.negative_reply.NegativeReply.{NegativeReply}
 use Rattle.ddt_asking.specs.ItrVerdicts.{IsNegativeFor}
 use Rattle.ddt_asking.proofs.itr_verdict.is_negative.Goals as goal

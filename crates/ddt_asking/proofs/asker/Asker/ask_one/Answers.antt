@@ -1,4 +1,4 @@
-use Rattle.std.proofs.Common.{◌≡◌, ℕ, true, [], ◌∷◌, take}
+use Rattle.std.proofs.Common.{◌≡◌, ℕ, [], ◌∷◌, take}
 use Rattle.ddt_ecm.specs.Request.{written}
 use Rattle.std.specs.Option.{option_map}
 use Rattle.ddt_asking.specs.Asked.{sets_d}

@@ -38,7 +38,7 @@ returns-in_err-changes-clause-front g c =
       front_behind _ _ _ (written_heading lines.form v) (flat_map (written_change lines.form) all) (written_ending lines.form v)
           (subst (Appends _ _) (c.deref.ensures.value ∙ c.in_ok-heading.ensures) c.in_ok-print.ensures.whole)
           (given_front _ (λ s. g.W.Write.contents s.out) (written_change lines.form) (λ s. s.form ≡ lines.form) (change_writer g.W.Write.contents lines.form)
-          all c.print.new.lines c.changes.new.sink (Err c.in_err-changes.field-0.0) refl given.2),
+          all (record lines { out = c.print.new.out }) c.changes.new.sink (Err c.in_err-changes.field-0.0) refl given.2),
     )
 
 pub returns-in_err-ending-clause-front : goal.returns-in_err-ending-clause-front
@@ -56,7 +56,7 @@ returns-in_err-ending-clause-front g c =
       front_behind _ _ _ (written_heading lines.form v) (flat_map (written_change lines.form) all) (written_ending lines.form v)
           (subst (Appends _ _) (c.deref.ensures.value ∙ c.in_ok-heading.ensures) c.in_ok-print.ensures.whole)
           (whole_front _ _ _ (taken_text _ (λ s. g.W.Write.contents s.out) (written_change lines.form) (λ s. s.form ≡ lines.form) (change_writer g.W.Write.contents lines.form)
-          all c.print.new.lines c.changes.new.sink refl given.2)),
+          all (record lines { out = c.print.new.out }) c.changes.new.sink refl given.2)),
     )
 
 pub returns-in_err-print-2-clause-front : goal.returns-in_err-print-2-clause-front
@@ -75,7 +75,7 @@ returns-in_err-print-2-clause-front g c =
           (subst (Appends _ _) (c.deref.ensures.value ∙ c.in_ok-heading.ensures) c.in_ok-print.ensures.whole)
           (front_after _ _ _ (flat_map (written_change lines.form) all) (written_ending lines.form v)
           (taken_text _ (λ s. g.W.Write.contents s.out) (written_change lines.form) (λ s. s.form ≡ lines.form) (change_writer g.W.Write.contents lines.form)
-          all c.print.new.lines c.changes.new.sink refl given.2)
+          all (record lines { out = c.print.new.out }) c.changes.new.sink refl given.2)
           (subst (AppendsFront _ _) (c.deref-2.ensures.value ∙ c.in_ok-ending.ensures) c.print-2.ensures.front)),
     )
 
@@ -91,7 +91,7 @@ returns-clause-whole g c =
           (subst (Appends _ _) (c.deref.ensures.value ∙ c.in_ok-heading.ensures) c.in_ok-print.ensures.whole)
           (appends_both _ _ _ (flat_map (written_change lines.form) all) (written_ending lines.form v)
           (taken_text _ (λ s. g.W.Write.contents s.out) (written_change lines.form) (λ s. s.form ≡ lines.form) (change_writer g.W.Write.contents lines.form)
-          all c.print.new.lines c.changes.new.sink refl given.2)
+          all (record lines { out = c.print.new.out }) c.changes.new.sink refl given.2)
           (subst (Appends _ _) (c.deref-2.ensures.value ∙ c.in_ok-ending.ensures) c.in_ok-print-2.ensures.whole)),
     )
 

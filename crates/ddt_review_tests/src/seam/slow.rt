@@ -37,6 +37,18 @@ fn joined(
     theirs: &Register,
 ) -> Result<Option<Register>, AllocError> {
     let mut row = 0u32;
+    let groups = joined_groups(alloc, ours, theirs, &mut row)?;
+    let zones = joined_zones(alloc, ours, theirs, &mut row)?;
+    let sites = joined_sites(alloc, ours, theirs, &mut row)?;
+    Ok(Register::of(zones, sites, groups))
+}
+
+fn joined_groups(
+    alloc: Global,
+    ours: &Register,
+    theirs: &Register,
+    row: &mut u32,
+) -> Result<Vec<Group>, AllocError> {
     let mut groups: Vec<Group> = Vec::new(alloc);
     for group in ours
         .groups
@@ -45,16 +57,25 @@ fn joined(
         .chain(theirs.groups.as_slice().iter())
     {
         if !groups.iter().any(|known| is_same_group(known, group)) {
-            row = row.saturating_add(1);
+            *row = row.saturating_add(1);
             let locators = copied(alloc, group.locators.as_slice())?;
             groups.push(Group {
                 name: group.name,
                 kind: group.kind,
                 locators,
-                row,
+                row: *row,
             })?;
         }
     }
+    Ok(groups)
+}
+
+fn joined_zones(
+    alloc: Global,
+    ours: &Register,
+    theirs: &Register,
+    row: &mut u32,
+) -> Result<Vec<Zone>, AllocError> {
     let mut zones: Vec<Zone> = Vec::new(alloc);
     for zone in ours
         .zones
@@ -63,15 +84,24 @@ fn joined(
         .chain(theirs.zones.as_slice().iter())
     {
         if !zones.iter().any(|known| is_same_zone(known, zone)) {
-            row = row.saturating_add(1);
+            *row = row.saturating_add(1);
             zones.push(Zone {
                 prefix: zone.prefix,
                 kind: zone.kind,
                 group: zone.group,
-                row,
+                row: *row,
             })?;
         }
     }
+    Ok(zones)
+}
+
+fn joined_sites(
+    alloc: Global,
+    ours: &Register,
+    theirs: &Register,
+    row: &mut u32,
+) -> Result<Vec<Site>, AllocError> {
     let mut sites: Vec<Site> = Vec::new(alloc);
     for site in ours
         .sites
@@ -80,16 +110,16 @@ fn joined(
         .chain(theirs.sites.as_slice().iter())
     {
         if !sites.iter().any(|known| is_same_site(known, site)) {
-            row = row.saturating_add(1);
+            *row = row.saturating_add(1);
             let etrs = copied(alloc, site.etrs.as_slice())?;
             sites.push(Site {
                 prefix: site.prefix,
                 etrs,
-                row,
+                row: *row,
             })?;
         }
     }
-    Ok(Register::of(zones, sites, groups))
+    Ok(sites)
 }
 
 /// Whether a zone is directly below another prefix.

@@ -5,3 +5,5 @@ pub mod OrderLemmas
 pub mod FoundLemmas
 pub mod TellLemmas
 pub mod ServerLemmas
+pub mod DelegationLemmas
+pub mod LostLemmas

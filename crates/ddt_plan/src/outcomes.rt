@@ -57,8 +57,7 @@ fn is_same_service(a: &Outcome, b: &Outcome) -> bool
     }
 }
 
-/// Whether they are the same locators in the same order.
-pub fn are_same_servers(s: &LocatorSet, t: &LocatorSet) -> bool
+fn are_same_servers(s: &LocatorSet, t: &LocatorSet) -> bool
     ensures { result ≡ are_same_servers_of s.now t.now }
 {
     s.as_slice() == t.as_slice()

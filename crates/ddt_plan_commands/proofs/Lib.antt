@@ -3,5 +3,3 @@ pub mod SinkLemmas
 pub mod AnswerLemmas
 pub mod EndLemmas
 pub mod FloatLemmas
-pub mod EffectLemmas
-pub mod ZoneLemmas

@@ -18,35 +18,19 @@ const DIFF_HELP: &str = "Examples:
 
 Status: 0 if nothing changes, 1 if something does, 2 if it refuses.";
 
-const SEAM_HELP: &str = "Example:
-  ddtplan seam ours.csv theirs.csv --foreign ten   the servers of the group ten are run from theirs.csv
-
-Status: 0 if the seam is good, 1 if it isn't, 2 if it refuses.";
-
 const FAULTS_HELP: &str =
-    "Each fault has a line: FILE:LINE: NUMBER NAME: reason. The last line says how many there are. With --old, sites that
-lost their zone have one line, which names the zone.
+    "Each fault has a line: FILE:LINE: NUMBER NAME: reason. The last line says how many there are.
 
 Status: 0 for none, 1 if there are faults, 2 if the file can't be read.";
 
 const WARN_HELP: &str = "Example:
   ddtplan warn --off node-zone-without-child register.csv
-  ddtplan warn --old old.csv --resolver 198.51.100.53 register.csv
 
 Status: 0 for none, 1 if it warns, 2 if it refuses.";
 
 const COMPILE_HELP: &str =
     "Each file is written beside the old one and renamed. Files that stay the same are left alone. Where the register is
-refused, nothing is touched, nor where more of its sites are gone than --max-lost allows. `sha256sum -c MANIFEST` checks
-the files.
-
-Status: 0, or 2 if it refuses.";
-
-const ROLLOUT_HELP: &str = "Example:
-  ddtplan rollout old.csv new.csv
-  ddtplan compile --from old.csv --step 1 new.csv folder
-
-Each step is taken once all servers have taken the one before.
+refused, nothing is touched. `sha256sum -c MANIFEST` checks the files.
 
 Status: 0, or 2 if it refuses.";
 
@@ -65,13 +49,8 @@ Status: 0, 1 if a delegation or a site can't be written, 2 if it refuses.";
 /// The implementations whose configurations `export` prints.
 const IMPLEMENTATIONS: [&str; 1] = ["oor"];
 
-const ASK_HELP: &str = "Examples:
-  ddtplan ask --quiet --changed old.csv new.csv   what servers of new.csv have to say otherwise than by old.csv
-  ddtplan ask --sample 100 register.csv           one identifier of each of 100 blocks
-  ddtplan ask --resolver 10.0.0.53 --as-itr 10.0.0.7 register.csv
-
-Each question has a line: the identifier, the server, and `agrees`, `differs`, `silent` or `not judged`. A Map-Server
-forwards questions about registered sites to their ETRs.
+const ASK_HELP: &str =
+    "Each question has a line: the identifier, the server, and `agrees`, `differs` or `silent`.
 
 Status: 0 if all agree, 1 if not, 2 if it refuses.";
 
@@ -96,11 +75,9 @@ pub(crate) fn command_line<'a>(alloc: Global) -> Result<Command<'a>, AllocError>
         .subcommand_required(true)
         .subcommand(blocks_command(alloc)?)?
         .subcommand(diff_command(alloc)?)?
-        .subcommand(seam_command(alloc)?)?
         .subcommand(faults_command(alloc)?)?
         .subcommand(warn_command(alloc)?)?
         .subcommand(compile_command(alloc)?)?
-        .subcommand(rollout_command(alloc)?)?
         .subcommand(loopback_command(alloc)?)?
         .subcommand(export_command(alloc)?)?
         .subcommand(ask_command(alloc)?)?
@@ -135,37 +112,14 @@ fn diff_command<'a>(alloc: Global) -> Result<Command<'a>, AllocError> {
         .arg(flag(alloc, "count").help(
             "Print only how many changed blocks there are of each kind",
         ))?
-        .arg(
-            flag(alloc, "summary")
-                .conflicts_with("count")?
-                .help("Print only the summary"),
-        )?
         .arg(flag(alloc, "json").help("Print a JSON object a line"))
-}
-
-fn seam_command<'a>(alloc: Global) -> Result<Command<'a>, AllocError> {
-    Command::new(alloc, "seam")
-        .after_help(SEAM_HELP)
-        .about(
-            "Say whether the servers of two registers, each run from its own, are those of one tree.",
-        )
-        .arg(path(alloc, "ours").help("Our register, a CSV file"))?
-        .arg(path(alloc, "theirs").help("The register of the other side, a CSV file"))?
-        .arg(
-            Arg::new(alloc, "foreign")
-                .long("foreign")
-                .value_name("GROUP")
-                .action(ArgAction::Append)
-                .help("A group whose servers the other side runs"),
-        )
 }
 
 fn faults_command<'a>(alloc: Global) -> Result<Command<'a>, AllocError> {
     Command::new(alloc, "faults")
         .after_help(FAULTS_HELP)
         .about("List every fault of a register's file, with its line.")
-        .arg(path(alloc, "register").help("The file, as people and spreadsheets write it"))?
-        .arg(old(alloc))
+        .arg(path(alloc, "register").help("The file, as people and spreadsheets write it"))
 }
 
 fn warn_command<'a>(alloc: Global) -> Result<Command<'a>, AllocError> {
@@ -173,14 +127,6 @@ fn warn_command<'a>(alloc: Global) -> Result<Command<'a>, AllocError> {
         .after_help(WARN_HELP)
         .about("List what a register has that is mostly a mistake.")
         .arg(path(alloc, "register").help("The register, a CSV file"))?
-        .arg(old(alloc))?
-        .arg(
-            Arg::new(alloc, "resolver")
-                .long("resolver")
-                .value_name("ADDRESS")
-                .action(ArgAction::Append)
-                .help("A Map-Resolver's address, which no ETR may have"),
-        )?
         .arg(
             Arg::new(alloc, "off")
                 .long("off")
@@ -196,41 +142,7 @@ fn compile_command<'a>(alloc: Global) -> Result<Command<'a>, AllocError> {
         .about("Write the configuration of each group into a folder, with a manifest.")
         .arg(path(alloc, "register").help("The register, a CSV file"))?
         .arg(path(alloc, "folder").help("The folder"))?
-        .arg(flag(alloc, "remove").help("Remove the files of groups that are gone"))?
-        .arg(
-            Arg::new(alloc, "max-lost")
-                .long("max-lost")
-                .value_name("PERCENT")
-                .action(ArgAction::Set)
-                .value_parser(value_parser!(u32).range(0..101))
-                .help("Refuse where more of the sites in the folder's register are gone"),
-        )?
-        .arg(
-            Arg::new(alloc, "from")
-                .long("from")
-                .value_name("OLD")
-                .action(ArgAction::Set)
-                .requires_arg("step")?
-                .conflicts_with("remove")?
-                .help(
-                    "The register in force; write only the configurations of a step of `rollout`",
-                ),
-        )?
-        .arg(
-            number(alloc, "step")
-                .requires_arg("from")?
-                .help("The number of the step"),
-        )
-}
-
-fn rollout_command<'a>(alloc: Global) -> Result<Command<'a>, AllocError> {
-    Command::new(alloc, "rollout")
-        .after_help(ROLLOUT_HELP)
-        .about(
-            "Print in which steps a change is rolled out, so that everybody is answered meanwhile.",
-        )
-        .arg(path(alloc, "old").help("The register that is in force, a CSV file"))?
-        .arg(path(alloc, "new").help("The register that is to come into force, a CSV file"))
+        .arg(flag(alloc, "remove").help("Remove the files of groups that are gone"))
 }
 
 fn loopback_command<'a>(alloc: Global) -> Result<Command<'a>, AllocError> {
@@ -266,16 +178,6 @@ fn ask_command<'a>(alloc: Global) -> Result<Command<'a>, AllocError> {
                 "What is asked for; one identifier of each block, where none is given",
             ),
         )?
-        .arg(option(alloc, "changed", "OLD").help("Ask only what differs from this register"))?
-        .arg(number(alloc, "sample").help("Ask for so many blocks, drawn at random"))?
-        .arg(flag(alloc, "quiet").help("Leave out what agrees"))?
-        .arg(option(alloc, "resolver", "ADDRESS").help("Ask this Map-Resolver, as an ITR does"))?
-        .arg(option(alloc, "as-itr", "ADDRESS").help(
-            "The address of this machine to which the Map-Resolver replies",
-        ))?
-        .arg(option(alloc, "as-etr", "ADDRESS").help(
-            "The same, where the address is an ETR of the register",
-        ))?
         .arg(number(alloc, "rate").help("Questions a second; 100, where it isn't given"))?
         .arg(number(alloc, "timeout").help("Milliseconds for a reply; 2000, where it isn't given"))?
         .arg(number(alloc, "tries").help(
@@ -313,23 +215,6 @@ fn number<'a>(alloc: Global, name: &'a str) -> Arg<'a> {
         .value_name("N")
         .action(ArgAction::Set)
         .value_parser(value_parser!(u32).range(1..))
-}
-
-/// The register that was in force before.
-fn old<'a>(alloc: Global) -> Arg<'a> {
-    Arg::new(alloc, "old")
-        .long("old")
-        .value_name("OLD")
-        .action(ArgAction::Set)
-        .help("The register that was in force before, a CSV file")
-}
-
-/// An option that has a word of this name.
-fn option<'a>(alloc: Global, name: &'a str, value: &'a str) -> Arg<'a> {
-    Arg::new(alloc, name)
-        .long(name)
-        .value_name(value)
-        .action(ArgAction::Set)
 }
 
 /// A path that must be given.

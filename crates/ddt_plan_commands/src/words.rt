@@ -28,17 +28,6 @@ pub struct BlocksAsked<'a> {
     pub form: Form,
 }
 
-/// What `diff` writes.
-#[derive(Clone, Copy, Debug, PartialEq, Eq)]
-pub enum Told {
-    /// The summary, and all that differs.
-    Changes,
-    /// The summary alone.
-    Summary,
-    /// Only the numbers of changed blocks of each kind.
-    Counts,
-}
-
 /// What `diff` is asked.
 #[derive(Clone, Copy, Debug)]
 pub struct DiffAsked<'a> {
@@ -47,17 +36,9 @@ pub struct DiffAsked<'a> {
     /// The path of the register that is to come into force.
     pub after: &'a str,
     pub reading: Reading,
-    pub told: Told,
+    /// Whether only the numbers of each kind are asked for.
+    pub counted: bool,
     pub form: Form,
-}
-
-/// What `faults` is asked.
-#[derive(Clone, Copy, Debug)]
-pub struct FaultsAsked<'a> {
-    /// The path of the file.
-    pub register: &'a str,
-    /// The path of the register that was in force before, if it is given.
-    pub old: Option<&'a str>,
 }
 
 /// What `warn` is asked.
@@ -65,10 +46,6 @@ pub struct FaultsAsked<'a> {
 pub struct WarnAsked<'a> {
     /// The path of the register.
     pub register: &'a str,
-    /// The path of the register that was in force before, if it is given.
-    pub old: Option<&'a str>,
-    /// The addresses of Map-Resolvers, as text.
-    pub resolvers: Vec<&'a str>,
     /// The kinds of warnings that are turned off, by their names.
     pub off: Vec<&'a str>,
 }
@@ -82,28 +59,6 @@ pub struct CompileAsked<'a> {
     pub folder: &'a str,
     /// Whether files of groups that are gone are removed.
     pub removes: bool,
-    /// How many percent of the sites in the folder's register may be gone, if that is bounded.
-    pub max_lost: Option<u32>,
-    /// The step of a rollout whose configurations are written, where not all of the register are.
-    pub step: Option<StepAsked<'a>>,
-}
-
-/// A step of a rollout.
-#[derive(Clone, Copy, Debug)]
-pub struct StepAsked<'a> {
-    /// The path of the register that is in force before the first step.
-    pub from: &'a str,
-    /// Its number, from 1 on.
-    pub number: u32,
-}
-
-/// What `rollout` is asked.
-#[derive(Clone, Copy, Debug)]
-pub struct RolloutAsked<'a> {
-    /// The path of the register that is in force.
-    pub before: &'a str,
-    /// The path of the register that is to come into force.
-    pub after: &'a str,
 }
 
 /// What `loopback` is asked.
@@ -131,18 +86,6 @@ pub struct AskAsked<'a> {
     pub register: &'a str,
     /// The identifiers; none where one of each block is meant.
     pub identifiers: Vec<&'a str>,
-    /// The path of the register that was in force, where only what a change touches is asked.
-    pub before: Option<&'a str>,
-    /// How many blocks are drawn; None where all are asked.
-    pub sample: Option<u32>,
-    /// Whether what agrees is left out.
-    pub quiet: bool,
-    /// The address of the Map-Resolver that is asked in place of the servers.
-    pub resolver: Option<&'a str>,
-    /// The address of this machine to which the Map-Resolver replies.
-    pub as_itr: Option<&'a str>,
-    /// The same, where it is an ETR of the register too.
-    pub as_etr: Option<&'a str>,
     /// Questions a second.
     pub rate: Option<u32>,
     /// Milliseconds until a try is over.
@@ -170,28 +113,15 @@ pub struct LadderAsked<'a> {
     pub identifier: &'a str,
 }
 
-/// What `seam` is asked.
-#[derive(Debug, Drop)]
-pub struct SeamAsked<'a> {
-    /// The path of our register.
-    pub ours: &'a str,
-    /// The path of the register of the other side.
-    pub theirs: &'a str,
-    /// The names of the groups whose servers the other side runs.
-    pub foreign: Vec<&'a str>,
-}
-
 /// A command, and what it is asked.
 #[derive(Debug, Drop)]
 pub enum Asked<'a> {
     Blocks(BlocksAsked<'a>),
     Diff(DiffAsked<'a>),
-    Seam(SeamAsked<'a>),
-    /// All faults of a file.
-    Faults(FaultsAsked<'a>),
+    /// All faults of the file at a path.
+    Faults(&'a str),
     Warn(WarnAsked<'a>),
     Compile(CompileAsked<'a>),
-    Rollout(RolloutAsked<'a>),
     Loopback(LoopbackAsked<'a>),
     Export(ExportAsked<'a>),
     Ask(AskAsked<'a>),
@@ -206,10 +136,7 @@ pub fn read_asked<'a>(alloc: Global, words: &'a [String]) -> Result<Asked<'a>, E
     match matches.remove_subcommand() {
         Some((command, matches)) => Ok(asked_of(alloc, command, &matches)?),
         // The command line requires one of its commands.
-        None => Ok(Asked::Faults(FaultsAsked {
-            register: "-",
-            old: None,
-        })),
+        None => Ok(Asked::Faults("-")),
     }
 }
 
@@ -223,23 +150,14 @@ fn asked_of<'a>(
     match command {
         "blocks" => Ok(Asked::Blocks(blocks_asked(register, matches))),
         "diff" => Ok(Asked::Diff(diff_asked(matches))),
-        "seam" => Ok(Asked::Seam(seam_asked(alloc, matches)?)),
         "warn" => Ok(Asked::Warn(WarnAsked {
             register,
-            old: matches.get_str("old"),
-            resolvers: values_of(alloc, matches, "resolver")?,
             off: values_of(alloc, matches, "off")?,
         })),
         "compile" => Ok(Asked::Compile(CompileAsked {
             register,
             folder: matches.get_str("folder").unwrap_or(""),
             removes: matches.get_flag("remove"),
-            max_lost: matches.get_one("max-lost"),
-            step: step_asked(matches),
-        })),
-        "rollout" => Ok(Asked::Rollout(RolloutAsked {
-            before: matches.get_str("old").unwrap_or("-"),
-            after: matches.get_str("new").unwrap_or("-"),
         })),
         "loopback" => Ok(Asked::Loopback(LoopbackAsked {
             register,
@@ -256,10 +174,7 @@ fn asked_of<'a>(
             register,
             identifier: matches.get_str("identifier").unwrap_or(""),
         })),
-        _ => Ok(Asked::Faults(FaultsAsked {
-            register,
-            old: matches.get_str("old"),
-        })),
+        _ => Ok(Asked::Faults(register)),
     }
 }
 
@@ -282,33 +197,9 @@ fn diff_asked<'a>(matches: &ArgMatches<'a>) -> DiffAsked<'a> {
         } else {
             Reading::Service
         },
-        told: told_asked(matches),
+        counted: matches.get_flag("count"),
         form: form_asked(matches),
     }
-}
-
-fn told_asked(matches: &ArgMatches<'_>) -> Told {
-    if matches.get_flag("count") {
-        Told::Counts
-    } else if matches.get_flag("summary") {
-        Told::Summary
-    } else {
-        Told::Changes
-    }
-}
-
-fn seam_asked<'a>(alloc: Global, matches: &ArgMatches<'a>) -> Result<SeamAsked<'a>, AllocError> {
-    Ok(SeamAsked {
-        ours: matches.get_str("ours").unwrap_or("-"),
-        theirs: matches.get_str("theirs").unwrap_or("-"),
-        foreign: values_of(alloc, matches, "foreign")?,
-    })
-}
-
-fn step_asked<'a>(matches: &ArgMatches<'a>) -> Option<StepAsked<'a>> {
-    let from = matches.get_str("from")?;
-    let number = matches.get_one("step")?;
-    Some(StepAsked { from, number })
 }
 
 fn export_asked<'a>(register: &'a str, matches: &ArgMatches<'a>) -> ExportAsked<'a> {
@@ -326,12 +217,6 @@ fn ask_asked<'a>(
     Ok(AskAsked {
         register,
         identifiers: values_of(alloc, matches, "identifier")?,
-        before: matches.get_str("changed"),
-        sample: matches.get_one("sample"),
-        quiet: matches.get_flag("quiet"),
-        resolver: matches.get_str("resolver"),
-        as_itr: matches.get_str("as-itr"),
-        as_etr: matches.get_str("as-etr"),
         rate: matches.get_one("rate"),
         timeout: matches.get_one("timeout"),
         tries: matches.get_one("tries"),

@@ -1,5 +1,5 @@
 //! The tests of what reviews a register, a module for each crate: `faults` of ddt_faults, `pictures` of ddt_pictures,
-//! `seam` of ddt_seam, `sheets` of ddt_sheets, `warnings` of ddt_warnings.
+//! `sheets` of ddt_sheets, `warnings` of ddt_warnings.
 //! `comparison` is what all assert by.
 #![tactic(auto)]
 
@@ -9,8 +9,6 @@ mod comparison;
 mod faults;
 #[cfg(test)]
 mod pictures;
-#[cfg(test)]
-mod seam;
 #[cfg(test)]
 mod sheets;
 #[cfg(test)]

@@ -5,5 +5,3 @@ pub mod OrderLemmas
 pub mod FoundLemmas
 pub mod TellLemmas
 pub mod ServerLemmas
-pub mod DelegationLemmas
-pub mod LostLemmas

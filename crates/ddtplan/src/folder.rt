@@ -1,13 +1,9 @@
 //! `ddtplan compile REGISTER FOLDER`: all configurations of a register in a folder.
 
 use crate::inputs::{Why, accepted_in, bytes_at, no_memory, print, say};
-use crate::rollout::compile_step;
-use ddt_check::Accepted;
 use ddt_folder::{FileName, Folder, Plan, PublishFault, lines_of, publish};
 use ddt_path::Name;
 use ddt_plan_commands::{CompileAsked, End};
-use ddt_register::read_register;
-use ddt_warnings::LostSites;
 use std::alloc::{AllocError, Global};
 use std::fs::{File, TryLockError};
 use std::io::{ErrorKind, Write};
@@ -19,7 +15,7 @@ const NAMES: u32 = 8;
 
 /// A folder on a disk. Others may write there too, so nothing is known of what it holds.
 #[derive(Drop)]
-pub struct DiskFolder<'a> {
+struct DiskFolder<'a> {
     rt: &'a HostRuntime,
     path: &'a str,
     /// The folder itself, whose lock keeps other runs out. The system drops the lock when the process ends, however it
@@ -31,7 +27,7 @@ pub struct DiskFolder<'a> {
 
 impl<'a> DiskFolder<'a> {
     /// The folder at a path, locked for this run. Refused where there is none, and where another run has the lock.
-    pub fn open(rt: &'a HostRuntime, path: &'a str) -> Result<DiskFolder<'a>, Why> {
+    fn open(rt: &'a HostRuntime, path: &'a str) -> Result<DiskFolder<'a>, Why> {
         let is_folder = match fs::metadata(rt, path) {
             Ok(metadata) => metadata.is_dir(),
             Err(error) => return Err(format!(in rt.alloc(); "{path}: {error}")),
@@ -91,7 +87,7 @@ impl<'a> DiskFolder<'a> {
     }
 
     /// Forces the names of the files to the disk.
-    pub fn sync(&self) -> io::Result<()> {
+    fn sync(&self) -> io::Result<()> {
         self.locked.sync_all()
     }
 }
@@ -160,15 +156,9 @@ fn write_whole(mut file: File, bytes: &[u8]) -> io::Result<()> {
 
 /// Writes the files, and prints what was done.
 pub fn compile(rt: &HostRuntime, asked: &CompileAsked<'_>) -> Result<End, Why> {
-    if let Some(step) = &asked.step {
-        return compile_step(rt, asked, step);
-    }
     let mut folder = DiskFolder::open(rt, asked.folder)?;
     let bytes = bytes_at(rt, asked.register)?;
     let accepted = accepted_in(rt, asked.register, &bytes)?;
-    if let Some(percent) = asked.max_lost {
-        keep_sites(rt, asked, &mut folder, &accepted, percent)?;
-    }
     match publish(rt.alloc(), &accepted, &bytes, asked.removes, &mut folder) {
         Ok(plan) => match folder.sync() {
             Ok(()) => tell(rt, asked, &plan),
@@ -177,39 +167,6 @@ pub fn compile(rt: &HostRuntime, asked: &CompileAsked<'_>) -> Result<End, Why> {
         Err(PublishFault::Memory) => Err(format!(in rt.alloc(); "out of memory")),
         Err(PublishFault::Failed { name, fault }) => Err(failed(rt, asked.folder, name, fault)),
     }
-}
-
-/// Refuses a register that lacks more than so many percent of the sites that the folder's register has.
-fn keep_sites(
-    rt: &HostRuntime,
-    asked: &CompileAsked<'_>,
-    folder: &mut DiskFolder<'_>,
-    accepted: &Accepted,
-    percent: u32,
-) -> Result<(), Why> {
-    let alloc = rt.alloc();
-    let name = FileName::Register;
-    let bytes = match folder.read(alloc, name) {
-        Ok(Some(bytes)) => bytes,
-        Ok(None) => return Ok(()),
-        Err(fault) => return Err(failed(rt, asked.folder, name, fault)),
-    };
-    let (register, path) = (
-        asked.register,
-        shown_path(rt, asked.folder, name).map_err(no_memory)?,
-    );
-    let before = match read_register(alloc, bytes.as_slice()) {
-        Ok(before) => before,
-        Err(fault) => return Err(format!(in alloc; "{path}: unreadable {fault}")),
-    };
-    let lost = LostSites::of(alloc, &before, accepted.register()).map_err(no_memory)?;
-    if !lost.exceeds(percent) {
-        return Ok(());
-    }
-    let LostSites { gone, all } = lost;
-    Err(format!(in alloc;
-        "{register}: {gone} of the {all} sites of {path} are gone, more than {percent} percent"
-    ))
 }
 
 /// Prints what was done, and why a file was to be removed and wasn't.

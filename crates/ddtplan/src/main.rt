@@ -3,20 +3,14 @@
 //! Tests: tests/companion.
 #![tactic(auto)]
 
-mod bar;
-mod cut;
 mod export;
 mod faults;
 mod folder;
 mod inputs;
-mod inquiry;
 mod loopback;
 mod pictures;
 mod progress;
 mod questions;
-mod rollout;
-mod scope;
-mod seam;
 mod warnings;
 
 use ddt_plan_commands::{Asked, BlocksAsked, DiffAsked, End, read_asked, run_blocks, run_diff};
@@ -41,9 +35,6 @@ fn run_words(rt: &HostRuntime) -> End {
         Ok(Asked::Diff(asked)) if asked.before == "-" && asked.after == "-" => {
             refuse(rt, "only one register can be standard input")
         }
-        Ok(Asked::Seam(asked)) if asked.ours == "-" && asked.theirs == "-" => {
-            refuse(rt, "only one register can be standard input")
-        }
         Ok(asked) => run(rt, &asked),
         // Help and the version are no mistakes, if they could be printed.
         Err(error) => match error.print(rt) {
@@ -64,11 +55,9 @@ fn run(rt: &HostRuntime, asked: &Asked<'_>) -> End {
     let answered = match asked {
         Asked::Blocks(asked) => return blocks(rt, asked),
         Asked::Diff(asked) => return diff(rt, asked),
-        Asked::Seam(asked) => seam::seam(rt, asked),
-        Asked::Faults(asked) => faults::faults(rt, asked),
+        Asked::Faults(path) => faults::faults(rt, path),
         Asked::Warn(asked) => warnings::warn(rt, asked),
         Asked::Compile(asked) => folder::compile(rt, asked),
-        Asked::Rollout(asked) => rollout::rollout(rt, asked),
         Asked::Loopback(asked) => loopback::loopback(rt, asked),
         Asked::Export(asked) => export::export(rt, asked),
         Asked::Ask(asked) => questions::ask(rt, asked),

@@ -198,6 +198,14 @@ def write(path: pathlib.Path, rows: list[str]) -> str:
     return str(path)
 
 
+def changed_lines(lines: list[str]) -> list[str]:
+    """Of what `diff` writes the lines of the blocks: those between the empty lines. Where nothing differs there are none."""
+    if lines.count("") != 2:
+        return lines
+    first = lines.index("") + 1
+    return lines[first : lines.index("", first)]
+
+
 def small_case(seed: int) -> str | None:
     """What differs in the case of a seed."""
     rng = random.Random(seed)
@@ -213,7 +221,7 @@ def small_case(seed: int) -> str | None:
         cases = [
             (lines_of(DDTPLAN, "blocks", a), (0, listed(before, ""))),
             (lines_of(DDTPLAN, "blocks", a, text_of(inside)), (0, listed(before, inside))),
-            (changes[1][: changes[1].index("")] if "" in changes[1] else changes[1], wanted),
+            (changed_lines(changes[1]), wanted),
             (changes[0], 1 if changes[1] else 0),
         ]
     for got, should in cases:

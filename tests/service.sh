@@ -1,20 +1,20 @@
 #!/usr/bin/env bash
 # Shows how a Map-Resolver serves when things go wrong, over network namespaces of its own: a Map-Server that is dead,
-# lost datagrams, an ITR that asks for more than its share, a DDT node that lies, a zone that is gone, requests that
-# come back, and a locator that can't be reached. ITRs ask at a rate, and compare each answer with what the register
+# lost datagrams, an ITR that asks for more than its share, a DDT node that lies, a zone that is gone or moves, requests
+# that come back, and a locator that can't be reached. ITRs ask at a rate, and compare each answer with what the register
 # assigns.
 #
 # usage: tests/service.sh [CASE..]
 #
-# The cases are dead, loss, greedy, forged, wide, dissolved, storm, refused and seen; without CASE all are run. DDT and DDTD
-# name the programs, by default those of ./ddt and ./ddtd; KEEP a folder that is kept, with the logs and, in .measured,
+# The cases are dead, loss, greedy, forged, wide, dissolved, moved, storm, refused and seen; without CASE all are run.
+# DDT, DDTD and DDTPLAN name the programs, by default those of ./ddt, ./ddtd and ./ddtplan; KEEP a folder that is kept, with the logs and, in .measured,
 # the times of each load. It wants Linux with network namespaces, which others than root have by a user namespace, a
 # bridge between them, unshare, ip of iproute2, and Python 3.11. Where one is missing, a line says so and nothing is
 # run. The status is 1 if something isn't as it should be.
 set -u -o pipefail
 cd -- "$(dirname -- "${BASH_SOURCE[0]}")/.." || exit 1
 
-all_cases=(dead loss greedy forged wide dissolved storm refused seen)
+all_cases=(dead loss greedy forged wide dissolved moved storm refused seen)
 for word in "$@"; do
     [[ " ${all_cases[*]} " = *" $word "* ]] || { echo "usage: tests/service.sh [${all_cases[*]}]" >&2; exit 2; }
 done
@@ -36,12 +36,13 @@ if [ -z "${WITHIN_NAMESPACES:-}" ]; then
     "${apart[@]}" ip link add bridge type bridge 2>/dev/null || not_run 'there is no bridge here'
     DDT=$(realpath -- "${DDT:-$(release/program ddt)}") || exit 1
     DDTD=$(realpath -- "${DDTD:-$(release/program ddtd)}") || exit 1
-    export DDT DDTD WITHIN_NAMESPACES=yes
+    DDTPLAN=$(realpath -- "${DDTPLAN:-$(release/program ddtplan)}") || exit 1
+    export DDT DDTD DDTPLAN WITHIN_NAMESPACES=yes
     # shellcheck disable=SC2016
     exec "${apart[@]}" bash -c 'mount -t tmpfs tmpfs /run && exec "$0" "$@"' tests/service.sh "$@"
 fi
 
-ddt=$DDT ddtd=$DDTD
+ddt=$DDT ddtd=$DDTD ddtplan=$DDTPLAN
 scripts=$PWD/tests/service
 export PYTHONPATH=$PWD/tests/namespaces PYTHONDONTWRITEBYTECODE=yes
 # The addresses of the namespaces in 192.0.2.0/24. `late` stands before the root where its replies are to be late.
@@ -408,6 +409,46 @@ dissolved() {
     take_up "$register"
     load itr gone --tries 2 --repeat 1.5 --worst 3000 --part-of 10.0.0.0/9 "zone:10:$folder/gone"
     judge 'dissolved: when the zone is gone' gone zone 'lost 0, wrong 0, worst under 3000 ms'
+    take_up "$common"
+}
+
+# take_step NUMBER: takes a step of the rollout from `before.csv` to `after.csv`
+take_step() {
+    local group name
+    "$ddtplan" compile --from "$folder/before.csv" --step "$1" "$folder/after.csv" "$folder" >"$folder/step.said" || exit 1
+    while IFS=$'\t' read -r _ _ _ group; do
+        for name in "$group" "${group}1" "${group}2"; do
+            [ -z "${pids[$name]:-}" ] || expect "moved: $name takes step $1 up" reloaded "$(tell "$name" reload)"
+        done
+    done < <(grep "^step"$'\t'"$1"$'\t' "$folder/rollout.said")
+}
+
+# The region 10.2.0.0/16 moves from one group of Map-Servers to another by the steps of `ddtplan rollout`, while it is
+# asked for, each time for the first time or not: all is answered at once. The resolver forgets all in place of the wait.
+moved() {
+    local common=$register loader
+    cp -- "$register" "$folder/before.csv"
+    sed 's/^ms,\[0\]10\.2\.0\.0\/16,west,/ms,[0]10.2.0.0\/16,east,/' "$register" >"$folder/after.csv"
+    "$ddtplan" rollout "$folder/before.csv" "$folder/after.csv" >"$folder/rollout.said" || exit 1
+    expect 'moved: the steps' 'step 1 load east,step 2 load ten,wait 2 days 4 seconds,step 3 load west' \
+        "$(tr '\t\n' ' ,' <"$folder/rollout.said" | sed 's/,$//')"
+    { blocks 2 0 750; host=6 blocks 2 0 750; } >"$folder/moving"
+    resolve '"192.0.2.3"'
+    load itr moving --once --worst 900 "moving:150:$folder/moving" &
+    loader=$!
+    sleep 2
+    take_step 1
+    sleep 1.5
+    take_step 2
+    sleep 1.5
+    expect 'moved: the resolver forgets' flushed "$(tell resolver flush '*' | cut -d' ' -f1)"
+    take_step 3
+    wait "$loader"
+    judge 'moved: all is answered at the first try' moving moving 'lost 0, wrong 0, worst under 900 ms, none asked again'
+    end resolver
+    register=$common
+    compile "$common" east
+    expect 'moved: the other servers of the east' reloaded,reloaded "$(tell east1 reload),$(tell east2 reload)"
     take_up "$common"
 }
 

@@ -37,12 +37,11 @@ def block(line: str) -> Block:
 
 
 def listed(*words: str) -> list[Block]:
-    """The blocks that `ddtplan` lists first. A status of 1 is that of a difference."""
+    """The blocks that `ddtplan` lists. A status of 1 is that of a difference."""
     done = subprocess.run([DDTPLAN, *words], capture_output=True, text=True)
     if done.returncode > 1:
         sys.exit(done.stderr.strip())
-    lines = done.stdout.split("\n\n")[0].splitlines()
-    return [block(line) for line in lines if "\t" in line]
+    return [block(line) for line in done.stdout.splitlines() if line.startswith("[")]
 
 
 def words(x: float, y: float, text: str, more: str = "") -> str:

@@ -41,6 +41,7 @@ complete -c ddtd -n '__ddtd_at serve' -l control -r -F -d 'Listen at this Unix s
 complete -c ddtd -n '__ddtd_at serve' -l keys -r -k -a '(__fish_complete_suffix .toml)' -d 'Let ETRs register under the keys of this file'
 complete -c ddtd -n '__ddtd_at serve' -l registrations -r -F -d 'Keep in this file, over a restart, what is registered'
 complete -c ddtd -n '__ddtd_at serve' -l settings -r -k -a '(__fish_complete_suffix .toml)' -d 'Answer the ITRs that this file allows'
+complete -c ddtd -n '__ddtd_at serve' -l share -d 'Let other processes serve at the same addresses'
 complete -c ddtd -n '__ddtd_at serve' -l watch -d 'Take the files up whenever one has changed'
 complete -c ddtd -n '__ddtd_at serve' -s h -l help -d 'Print help'
 

@@ -1,5 +1,5 @@
 -- Questions asked so far.
-use Rattle.std.proofs.Common.{◌≡◌, ℕ, ◌+◌, ◌<◌, true, List, [], ◌∷◌, ◌++◌, length, get_or, take, drop, map, refl, sym, ap, subst, ◌∙◌}
+use Rattle.std.proofs.Common.{◌≡◌, ℕ, ◌+◌, ◌<◌, List, [], ◌∷◌, ◌++◌, length, get_or, take, drop, map, refl, sym, ap, subst, ◌∙◌}
 use Rattle.std.proofs.lemmas.List.{append_assoc, map_push, take_more, take-append-drop}
 use Rattle.std.specs.Result.{OnErr}
 use Rattle.std.specs.Prelude.{Option, Some, None, Result, Ok, Err}
@@ -14,37 +14,51 @@ use Rattle.ddt_wires.specs.declared.call.NetFault.{NetFault}
 use Rattle.ddt_wires.specs.declared.call.Packet.{Packet}
 use Rattle.ddt_wires.specs.Calls.{RecordsCalls, received}
 use Rattle.ddt_wires.specs.Turns.{most_bytes}
+use Rattle.ddt_asking.specs.declared.manner.Client.{Client}
+use Rattle.ddt_asking.specs.declared.manner.Client.TheVariants.{Ddt, Itr}
 use Rattle.ddt_asking.specs.declared.manner.Manner.{Manner}
 use Rattle.ddt_asking.specs.declared.question.Question.{Question}
 use Rattle.ddt_asking.specs.declared.verdict.Finding.{Finding}
 use Rattle.ddt_asking.specs.declared.verdict.Verdict.{Verdict}
+use Rattle.ddt_asking.specs.declared.verdict.Verdict.TheVariants.{Silent}
+use Rattle.ddt_path.specs.declared.record.ReferralRecord.{ReferralRecord}
+use Rattle.ddt_asking.specs.Verdicts.{silent}
+use Rattle.ddt_asking.specs.ItrVerdicts.{itr_silent}
 use Rattle.ddt_asking.specs.declared.wait.Wait.{Wait}
 use Rattle.ddt_asking.specs.Replies.{reply_of}
 use Rattle.ddt_asking.specs.Steps.{WireStep, step_of, HasDone}
-use Rattle.ddt_asking.specs.Verdicts.{IsVerdict}
 use Rattle.ddt_asking.specs.Waits.{IsWait, replied, over, used_up}
 use Rattle.ddt_asking.specs.Tries.{AreTries}
-use Rattle.ddt_asking.specs.Asked.{awaited_for, pause_of, IsAskedOfServer, IsPause, no_pause, pauses, HasAsked, none_yet, one_more, IsBegun, unsent, all_tried, HasStopped}
+use Rattle.ddt_asking.specs.Asked.{sets_d, request_of, IsVerdictFor, awaited_for, pause_of, IsAskedOfServer, IsPause, no_pause, pauses, HasAsked, none_yet, one_more, IsBegun, unsent, all_tried, HasStopped}
 use Rattle.ddt_asking.proofs.StepLemmas.{nothing_done, one_done, both_done}
 
 -- ---- one question
 
--- the request is that of a resolver
-is_requested : (nonce : ℕ) (x : Xeid) (me : Locator) (request : List ℕ) → request ≡ written nonce x (me ∷ []) true
-    → request ≡ request_bytes nonce x me
+-- the request is that of its client
+is_requested : (client : Client) (nonce : ℕ) (x : Xeid) (me : Locator) (request : List ℕ)
+    → request ≡ written nonce x (me ∷ []) (sets_d client) → request ≡ request_of client nonce x me
 unfolding request_bytes
-is_requested nonce x me request is = is
+is_requested Ddt nonce x me request is = is
+is_requested Itr nonce x me request is = is
 
 pub question_asked : (m : Manner) (x : Xeid) (nonce : ℕ) (request : List ℕ) (steps : List WireStep)
-    (its_reply : Option (List ℕ)) (q : Question) (found : Verdict) → request ≡ written nonce x (m.me ∷ []) true
-    → AreTries m request (awaited_for q nonce) steps its_reply → IsVerdict q.demanded nonce its_reply found
+    (its_reply : Option (List ℕ)) (q : Question) (found : Verdict)
+    → request ≡ written nonce x (m.me ∷ []) (sets_d m.client)
+    → AreTries m request (awaited_for m x q nonce) steps its_reply
+    → IsVerdictFor m.client x q.demanded nonce its_reply found
     → IsAskedOfServer m x nonce steps (record { question = q; verdict = found })
 question_asked m x nonce request steps its_reply q found is tried judged = record {
   reply = its_reply;
-  tries = subst (λ (bytes : List ℕ). AreTries m bytes (awaited_for q nonce) steps its_reply)
-      (is_requested nonce x m.me request is) tried;
+  tries = subst (λ (bytes : List ℕ). AreTries m bytes (awaited_for m x q nonce) steps its_reply)
+      (is_requested m.client nonce x m.me request is) tried;
   verdict = judged;
 }
+
+-- without a reply it is silent
+pub silent_for : (client : Client) (x : Xeid) (demanded : ReferralRecord) (nonce : ℕ)
+    → IsVerdictFor client x demanded nonce None Silent
+silent_for Ddt x demanded nonce = silent
+silent_for Itr x demanded nonce = itr_silent
 
 -- ---- a pause
 
@@ -133,15 +147,16 @@ none_begun told read m x nonce q = ([], nothing_done told read, unsent)
 pub begun_of : (m : Manner) (x : Xeid) (nonce : ℕ) (q : Question) (steps : List WireStep) (f : Finding)
     → f.question ≡ q → IsAskedOfServer m x nonce steps f → IsBegun m x nonce q steps
 begun_of m x nonce q steps f same is = all_tried steps is.reply
-    (subst (λ (p : Question). AreTries m (request_bytes nonce x m.me) (awaited_for p nonce) steps is.reply) same
+    (subst
+    (λ (p : Question). AreTries m (request_of m.client nonce x m.me) (awaited_for m x p nonce) steps is.reply) same
     is.tries)
 
 pub question_begun : (m : Manner) (x : Xeid) (nonce : ℕ) (request : List ℕ) (steps : List WireStep)
-    (its_reply : Option (List ℕ)) (q : Question) → request ≡ written nonce x (m.me ∷ []) true
-    → AreTries m request (awaited_for q nonce) steps its_reply → IsBegun m x nonce q steps
+    (its_reply : Option (List ℕ)) (q : Question) → request ≡ written nonce x (m.me ∷ []) (sets_d m.client)
+    → AreTries m request (awaited_for m x q nonce) steps its_reply → IsBegun m x nonce q steps
 question_begun m x nonce request steps its_reply q is are = all_tried steps its_reply
-    (subst (λ (bytes : List ℕ). AreTries m bytes (awaited_for q nonce) steps its_reply)
-    (is_requested nonce x m.me request is) are)
+    (subst (λ (bytes : List ℕ). AreTries m bytes (awaited_for m x q nonce) steps its_reply)
+    (is_requested m.client nonce x m.me request is) are)
 
 -- the questions from the next one on
 pub questions_from : (questions : List Question) (findings : List Finding) (i : ℕ) (q : Question)

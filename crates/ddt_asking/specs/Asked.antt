@@ -1,28 +1,51 @@
 -- Questions that were asked, by the steps, and what is found.
-use Rattle.std.specs.Prelude.{ℕ, ◌≡◌, ◌/◌, List, [], ◌∷◌, ◌++◌, map, Option, None}
+use Rattle.std.specs.Prelude.{ℕ, ◌≡◌, ◌/◌, Bool, true, false, List, [], ◌∷◌, ◌++◌, map, Option, None}
 use Rattle.rand_core.specs.Stream.{Stream, next_u64}
+use Rattle.ddt_path.specs.declared.record.ReferralRecord.{ReferralRecord}
 use Rattle.ddt_path.specs.declared.xeid.Xeid.{Xeid}
+use Rattle.ddt_path.specs.declared.locator.Locator.{Locator}
+use Rattle.ddt_ecm.specs.Request.{written}
 use Rattle.ddt_resolver.specs.State.{request_bytes}
+use Rattle.ddt_asking.specs.declared.manner.Client.{Client}
+use Rattle.ddt_asking.specs.declared.manner.Client.TheVariants.{Ddt, Itr}
 use Rattle.ddt_asking.specs.declared.manner.Manner.{Manner}
 use Rattle.ddt_asking.specs.declared.question.Question.{Question}
 use Rattle.ddt_asking.specs.declared.reply.Awaited.{Awaited}
 use Rattle.ddt_asking.specs.declared.verdict.Finding.{Finding}
+use Rattle.ddt_asking.specs.declared.verdict.Verdict.{Verdict}
 use Rattle.ddt_asking.specs.declared.wait.Wait.{Wait}
 use Rattle.ddt_asking.specs.Steps.{WireStep}
 use Rattle.ddt_asking.specs.Waits.{IsPoll, IsWait}
 use Rattle.ddt_asking.specs.Tries.{AreTries}
 use Rattle.ddt_asking.specs.Verdicts.{IsVerdict}
+use Rattle.ddt_asking.specs.ItrVerdicts.{IsItrVerdict}
 
--- the reply to a question under a nonce comes from its server and carries the nonce
-abbrev pub awaited_for : Question → ℕ → Awaited
-awaited_for q n = record { from = q.to; nonce = n }
+-- the bit D of a client's requests: a resolver sets it, and an ITR doesn't (RFC 8111, section 5)
+abbrev pub sets_d : Client → Bool
+sets_d Ddt = true
+sets_d Itr = false
 
--- A question about an identifier was asked under a nonce, by the request that a resolver would send, and this is what
--- its reply comes to.
+-- the request about an identifier under a nonce, as a resolver would send it, or as an ITR would; its one ITR-RLOC
+-- is the socket's locator
+abbrev pub request_of : Client → ℕ → Xeid → Locator → List ℕ
+request_of Ddt nonce x me = request_bytes nonce x me
+request_of Itr nonce x me = written nonce x (me ∷ []) false
+
+-- the reply to a question about an identifier under a nonce
+abbrev pub awaited_for : Manner → Xeid → Question → ℕ → Awaited
+awaited_for m x q n = record { client = m.client; from = q.to; nonce = n; xeid = x }
+
+-- what comes of a question by its reply, as what is demanded of a server, or as what an ITR has to get
+abbrev pub IsVerdictFor : Client → Xeid → ReferralRecord → ℕ → Option (List ℕ) → Verdict → Type 0
+IsVerdictFor Ddt x demanded nonce reply verdict = IsVerdict demanded nonce reply verdict
+IsVerdictFor Itr x demanded nonce reply verdict = IsItrVerdict x demanded nonce reply verdict
+
+-- A question about an identifier was asked under a nonce, by the request of its client, and this is what its reply
+-- comes to.
 pub record IsAskedOfServer (m : Manner) (x : Xeid) (nonce : ℕ) (steps : List WireStep) (f : Finding) : Type 0 where
   pub reply : Option (List ℕ)
-  pub tries : AreTries m (request_bytes nonce x m.me) (awaited_for f.question nonce) steps reply
-  pub verdict : IsVerdict f.question.demanded nonce reply f.verdict
+  pub tries : AreTries m (request_of m.client nonce x m.me) (awaited_for m x f.question nonce) steps reply
+  pub verdict : IsVerdictFor m.client x f.question.demanded nonce reply f.verdict
 
 -- how many milliseconds a question is followed by, at a rate of so many a second; none without a rate
 abbrev pub pause_of : ℕ → ℕ
@@ -51,7 +74,7 @@ pub data HasAsked (m : Manner) (x : Xeid) (s : Stream) : List WireStep → List 
 pub data IsBegun (m : Manner) (x : Xeid) (nonce : ℕ) (q : Question) : List WireStep → Type 0 where
   unsent : IsBegun m x nonce q []
   all_tried : (steps : List WireStep) (reply : Option (List ℕ))
-      → AreTries m (request_bytes nonce x m.me) (awaited_for q nonce) steps reply → IsBegun m x nonce q steps
+      → AreTries m (request_of m.client nonce x m.me) (awaited_for m x q nonce) steps reply → IsBegun m x nonce q steps
 
 -- Memory ran out at one of these questions: those before it were asked, and none after it.
 pub record HasStopped (m : Manner) (x : Xeid) (s : Stream) (questions : List Question) (steps : List WireStep)

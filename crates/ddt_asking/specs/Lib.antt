@@ -1,9 +1,16 @@
 pub mod Questions
+pub mod ItrQuestions
+pub mod Changed
+pub mod Identifiers
+pub mod Sampled
 pub mod Verdicts
 pub mod Replies
+pub mod ItrVerdicts
 pub mod Steps
 pub mod Waits
 pub mod Tries
 pub mod Asked
 pub mod Counted
+pub mod Planned
 pub mod Lines
+pub mod ItrLines

@@ -10,7 +10,7 @@ use Rattle.ddt_wire.specs.Referral.{Message, message_of, message_in}
 use Rattle.ddt_lines.specs.Lines.{spaced, whole_text}
 use Rattle.ddt_asking.specs.declared.verdict.Finding.{Finding}
 use Rattle.ddt_asking.specs.declared.verdict.Verdict.{Verdict}
-use Rattle.ddt_asking.specs.declared.verdict.Verdict.TheVariants.{Agrees, Differs, Silent}
+use Rattle.ddt_asking.specs.declared.verdict.Verdict.TheVariants.{Agrees, Differs, Silent, NotJudged}
 
 -- an action, a prefix and a TTL in minutes
 abbrev pub front_text : Action → List ℕ → ℕ → List ℕ
@@ -36,6 +36,7 @@ abbrev pub verdict_text : ReferralRecord → Verdict → List ℕ
 verdict_text demanded Agrees = codes " agrees"
 verdict_text demanded (Differs reply) = difference_text demanded reply
 verdict_text demanded Silent = codes " silent"
+verdict_text demanded NotJudged = codes " not judged"
 
 -- the identifier, the locator of the server that was asked, and what comes of it
 abbrev pub finding_text : Xeid → Finding → List ℕ

@@ -72,8 +72,9 @@ impl Asker {
         self.ask_each(wires, clock, nonces, x, &questions)
     }
 
-    /// Asks these questions about an identifier, one after the other, with a pause behind each.
-    fn ask_each<W: Wires, C: Clock, R: Rng>(
+    /// Asks these questions about an identifier, as `ask` asks those of a register, and answers what comes of each, in
+    /// their order. Fails only if out of memory: at one of them, after those before it were asked.
+    pub fn ask_each<W: Wires, C: Clock, R: Rng>(
         &self,
         wires: &mut W,
         clock: &mut C,
@@ -120,13 +121,16 @@ impl Asker {
             × IsBegun self.now.manner x nonce question steps) }
         ensures room { length buffer.new ≡ most_bytes }
     {
-        let request = write_request(self.alloc, nonce, x, &[self.manner.me], true)?;
+        let client = self.manner.client;
+        let request = write_request(self.alloc, nonce, x, &[self.manner.me], client.is_ddt())?;
         let awaited = Awaited {
+            client,
             from: question.to,
             nonce,
+            xeid: x,
         };
         let reply = try_each(wires, clock, buffer, &self.manner, &request, awaited);
-        let verdict = verdict_of(self.alloc, &question.demanded, nonce, buffer, reply)?;
+        let verdict = verdict_of(self.alloc, &question.demanded, awaited, buffer, reply)?;
         Ok(Finding { question, verdict })
     }
 

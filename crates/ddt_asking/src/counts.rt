@@ -2,7 +2,7 @@
 
 ghost use Rattle.std.specs.Prelude.{◌≡◌, ◌&&◌, ◌==◌, ◌++◌, decimal, IfOk, OnOk};
 ghost use Rattle.ddt_lines.specs.Lines.{ended};
-ghost use Rattle.ddt_asking.specs.Counted.{counted, counts_text};
+ghost use Rattle.ddt_asking.specs.Counted.{counted, counts_text, not_judged_text};
 
 use crate::verdict::Verdict;
 use std::alloc::{AllocError, Global};
@@ -13,6 +13,7 @@ pub struct FindingCounts {
     pub agree: u64,
     pub differ: u64,
     pub silent: u64,
+    pub not_judged: u64,
 }
 
 impl FindingCounts {
@@ -24,6 +25,7 @@ impl FindingCounts {
             Verdict::Agrees => self.agree = self.agree.saturating_add(1),
             Verdict::Differs(_reply) => self.differ = self.differ.saturating_add(1),
             Verdict::Silent => self.silent = self.silent.saturating_add(1),
+            Verdict::NotJudged => self.not_judged = self.not_judged.saturating_add(1),
         }
     }
 
@@ -34,7 +36,8 @@ impl FindingCounts {
         self.differ == 0 && self.silent == 0
     }
 
-    /// `N agree, M differ, K are silent`, and a line feed. Fails only if out of memory.
+    /// `N agree, M differ, K are silent`, then `, J are not judged` where there are any, and a line feed. Fails only if
+    /// out of memory.
     pub fn line(&self, alloc: Global) -> Result<Vec<u8>, AllocError>
         ensures { IfOk result (λ line. line.items ≡ ended (counts_text self.now)) }
     {
@@ -42,13 +45,25 @@ impl FindingCounts {
         push_count(&mut line, self.agree, " agree, ")?;
         push_count(&mut line, self.differ, " differ, ")?;
         push_count(&mut line, self.silent, " are silent")?;
+        push_not_judged(&mut line, self.not_judged)?;
         line.push(b'\n')?;
         Ok(line)
     }
 }
 
+/// Appends how many are not judged, if any are.
+fn push_not_judged(line: &mut Vec<u8>, count: u64) -> Result<(), AllocError>
+    ensures { OnOk result (line.new.items ≡ line.old.items ++ not_judged_text count) }
+{
+    if count == 0 {
+        return Ok(());
+    }
+    line.extend_from_slice(b", ")?;
+    push_count(line, count, " are not judged")
+}
+
 /// Appends a count and a text.
-fn push_count(line: &mut Vec<u8>, count: u64, text: &str) -> Result<(), AllocError>
+pub(crate) fn push_count(line: &mut Vec<u8>, count: u64, text: &str) -> Result<(), AllocError>
     ensures { OnOk result (line.new.items ≡ line.old.items ++ decimal count ++ text.now) }
 {
     let digits = format!(in *line.allocator(); "{count}")?;

@@ -12,9 +12,10 @@ use ddt_text::{write_locator, write_prefix, write_xeid};
 use ddt_wire::{Locators, Referral, read_referral};
 use std::alloc::{AllocError, Global};
 
-/// `XEID LOCATOR agrees`, `XEID LOCATOR silent`, or `XEID LOCATOR differs: it says RECORD, the register says RECORD`,
-/// and a line feed. A record is `ACTION PREFIX ttl MINUTES complete LOCATORS`, with `incomplete` where the bit is set;
-/// `no Map-Referral` stands for a reply that can't be read. Fails only if out of memory.
+/// `XEID LOCATOR agrees`, `XEID LOCATOR silent`, `XEID LOCATOR not judged`, or `XEID LOCATOR differs: it says RECORD,
+/// the register says RECORD`, and a line feed. A record is `ACTION PREFIX ttl MINUTES complete LOCATORS`, with
+/// `incomplete` where the bit is set; `no Map-Referral` stands for a reply that can't be read. Fails only if out of
+/// memory.
 pub fn finding_line(alloc: Global, x: Xeid, finding: &Finding) -> Result<Vec<u8>, AllocError>
     ensures { IfOk result (λ line. line.items ≡ ended (finding_text x finding.now)) }
 {
@@ -38,6 +39,7 @@ fn push_verdict(
         Verdict::Agrees => push_text(line, " agrees"),
         Verdict::Differs(reply) => push_difference(line, demanded, reply.as_slice()),
         Verdict::Silent => push_text(line, " silent"),
+        Verdict::NotJudged => push_text(line, " not judged"),
     }
 }
 
@@ -97,7 +99,7 @@ fn push_record(line: &mut Vec<u8>, said: &ReferralRecord) -> Result<(), AllocErr
 }
 
 /// Appends an action, a prefix and a TTL in minutes.
-fn push_front(
+pub(crate) fn push_front(
     line: &mut Vec<u8>,
     action: Action,
     prefix: Prefix,
@@ -123,7 +125,7 @@ fn whole(incomplete: bool) -> &'static str
 }
 
 /// Appends a blank and a locator.
-fn push_locator(line: &mut Vec<u8>, locator: Locator) -> Result<(), AllocError>
+pub(crate) fn push_locator(line: &mut Vec<u8>, locator: Locator) -> Result<(), AllocError>
     ensures { OnOk result (line.new.items ≡ line.old.items ++ codes " " ++ written_locator locator) }
 {
     line.push(b' ')?;
@@ -131,7 +133,7 @@ fn push_locator(line: &mut Vec<u8>, locator: Locator) -> Result<(), AllocError>
 }
 
 /// Appends a text.
-fn push_text(line: &mut Vec<u8>, text: &str) -> Result<(), AllocError>
+pub(crate) fn push_text(line: &mut Vec<u8>, text: &str) -> Result<(), AllocError>
     ensures { OnOk result (line.new.items ≡ line.old.items ++ text.now) }
 {
     line.extend_from_slice(text.as_bytes())

@@ -1,5 +1,6 @@
 //! Wires over UDP sockets that wait for a while.
 
+use ddt_ecm::CONTROL_PORT;
 use ddt_path::Locator;
 use ddt_wires::{NetFault, Packet, PolledWires, Wires};
 use std::alloc::Global;
@@ -9,16 +10,25 @@ use std::net::Net;
 /// How long `receive` waits for a datagram, in milliseconds.
 const WAIT: u16 = 10;
 
-/// Wires over one UDP socket for IPv4 and one for IPv6, at ports of the system's choice, which don't tell their calls.
+/// Wires over UDP sockets, which don't tell their calls: one for IPv4 and one for IPv6, at ports of the system's
+/// choice, or one at an address.
 ///
 /// What the system does is trusted, as of `PolledWires`. A call of `receive` waits for up to 10 milliseconds where no
-/// datagram is there, and gives none where the system refuses to wait. Only `bind` allocates.
+/// datagram is there, and gives none where the system refuses to wait. Only binding allocates.
 #[derive(Drop)]
 pub struct PatientWires {
     wires: PolledWires,
 }
 
 impl PatientWires {
+    /// Binds one socket to an address of this machine, for which it stands, and to UDP port 4342, as ITRs and ETRs do.
+    /// Refused as the system refuses it, or if out of memory.
+    pub fn bind_at<N: Net>(alloc: Global, net: &N, me: Locator) -> io::Result<PatientWires> {
+        let mut wires = PolledWires::new(alloc);
+        wires.bind(net, me, me, CONTROL_PORT)?;
+        Ok(PatientWires { wires })
+    }
+
     /// Binds the sockets, which both stand for the locator `me`. One family will do. Refused as the system refuses
     /// both, or if out of memory.
     pub fn bind<N: Net>(alloc: Global, net: &N, me: Locator) -> io::Result<PatientWires> {

@@ -2,25 +2,32 @@
 
 ghost use Rattle.std.specs.Prelude.{◌≡◌, ◌≤◌, length, take, IfOk, IfSome};
 ghost use Rattle.std.specs.Option.{option_map};
+ghost use Rattle.ddt_foreign.specs.Request.{request_in};
 ghost use Rattle.ddt_wires.specs.Calls.{packet_bytes};
-ghost use Rattle.ddt_asking.specs.Replies.{carries as carries_of, is_reply as is_reply_of, reply_in};
+ghost use Rattle.ddt_asking.specs.Replies.{begins_as as begins_as_of, is_of_server, is_reply as is_reply_of, is_forwarded as is_forwarded_of, is_own_request, reply_in};
 
+use crate::manner::Client;
 use byteorder::{BigEndian, ByteOrder};
 use ddt_ecm::CONTROL_PORT;
-use ddt_path::Locator;
-use ddt_wire::{MAP_REFERRAL, TYPE_SHIFT};
+use ddt_foreign::{ForeignRequest, read_foreign_request};
+use ddt_path::{Locator, Xeid};
+use ddt_wire::{MAP_REFERRAL, MAP_REPLY, TYPE_SHIFT};
 use ddt_wires::{NetFault, Packet};
 
-/// How many bytes of a Map-Referral come before the end of its nonce.
+/// How many bytes of a Map-Referral or Map-Reply come before the end of its nonce.
 const NONCE_END: usize = 12;
 
 /// The reply that a question waits for.
 #[derive(Clone, Copy, PartialEq, Eq)]
 pub(crate) struct Awaited {
+    /// What the question is asked as.
+    pub(crate) client: Client,
     /// The server that was asked.
     pub(crate) from: Locator,
     /// The nonce of the question.
     pub(crate) nonce: u64,
+    /// The identifier that is asked for.
+    pub(crate) xeid: Xeid,
 }
 
 /// How many bytes at the front of the buffer are the reply that is awaited; None where the answer of `receive` gives
@@ -46,19 +53,52 @@ pub(crate) fn reply_len(
     }
 }
 
-/// Whether a packet of these bytes is the reply that is awaited: it comes from the server, from UDP port 4342, and
-/// carries the nonce.
+/// Whether a packet of these bytes is the reply that is awaited. A server's is a Map-Referral with the nonce from its
+/// UDP port 4342. An ITR's is a Map-Reply with the nonce, or its own request, which a Map-Server forwards to an ETR;
+/// both may come from anywhere.
 fn is_reply(awaited: Awaited, packet: Packet, bytes: &[u8]) -> bool
     ensures { result ≡ is_reply_of awaited packet bytes.now }
 {
-    packet.from == awaited.from && packet.port == CONTROL_PORT && carries(awaited.nonce, bytes)
+    match awaited.client {
+        Client::Ddt => is_from_server(awaited, packet, bytes),
+        Client::Itr => {
+            begins_as(MAP_REPLY, awaited.nonce, bytes)
+                || is_forwarded(awaited.nonce, awaited.xeid, bytes)
+        }
+    }
 }
 
-/// Whether the bytes begin as a Map-Referral with this nonce, whatever follows.
-fn carries(nonce: u64, bytes: &[u8]) -> bool
-    ensures { result ≡ carries_of nonce bytes.now }
+fn is_from_server(awaited: Awaited, packet: Packet, bytes: &[u8]) -> bool
+    ensures { result ≡ is_of_server awaited packet bytes.now }
+{
+    packet.from == awaited.from
+        && packet.port == CONTROL_PORT
+        && begins_as(MAP_REFERRAL, awaited.nonce, bytes)
+}
+
+/// Whether the bytes begin as a message of this type with this nonce, whatever follows.
+fn begins_as(kind: u8, nonce: u64, bytes: &[u8]) -> bool
+    ensures { result ≡ begins_as_of kind nonce bytes.now }
 {
     bytes.len() >= NONCE_END
-        && bytes[0] >> TYPE_SHIFT == MAP_REFERRAL
+        && bytes[0] >> TYPE_SHIFT == kind
         && BigEndian::read_u64(&bytes[4..]) == nonce
+}
+
+/// Whether the bytes are an Encapsulated Map-Request for this identifier with this nonce, as any implementation writes
+/// it.
+pub(crate) fn is_forwarded(nonce: u64, xeid: Xeid, bytes: &[u8]) -> bool
+    ensures { result ≡ is_forwarded_of nonce xeid bytes.now }
+{
+    match read_foreign_request(bytes) {
+        Ok(request) => is_own(nonce, xeid, &request),
+        Err(_fault) => false,
+    }
+}
+
+fn is_own(nonce: u64, xeid: Xeid, request: &ForeignRequest<'_>) -> bool
+    ensures { result ≡ is_own_request nonce xeid request.now }
+{
+    let asked = request.xeid();
+    request.nonce() == nonce && asked.iid == xeid.iid && asked.address == xeid.address
 }

@@ -3,9 +3,13 @@
 ghost use Rattle.std.specs.Prelude.{◌≡◌, ◌≤◌, ◌↔◌, Some, length, take, IfOk, IfSome, IsTrue};
 ghost use Rattle.std.specs.Option.{option_map};
 ghost use Rattle.ddt_wire.specs.Referral.{Spells, message_of};
-ghost use Rattle.ddt_asking.specs.Verdicts.{IsVerdict};
+ghost use Rattle.ddt_asking.specs.Asked.{IsVerdictFor};
+ghost use Rattle.ddt_asking.specs.Verdicts.{IsVerdict, is_agreement};
 
+use crate::itr_verdict::judged_for_itr;
+use crate::manner::Client;
 use crate::question::Question;
+use crate::reply::Awaited;
 use ddt_path::{Listed, Locator, ReferralRecord};
 use ddt_wire::{Locators, Referral, read_referral};
 use std::alloc::{AllocError, Global};
@@ -19,6 +23,8 @@ pub enum Verdict {
     Differs(Listed<u8>),
     /// No reply came in time.
     Silent,
+    /// Nothing was asked, since what comes of it can't be seen from here.
+    NotJudged,
 }
 
 /// A question and what comes of it.
@@ -26,6 +32,15 @@ pub enum Verdict {
 pub struct Finding {
     pub question: Question,
     pub verdict: Verdict,
+}
+
+impl Finding {
+    /// Whether the reply says what the register demands.
+    pub fn agrees(&self) -> bool
+        ensures { result ≡ is_agreement self.now.verdict }
+    {
+        matches!(self.verdict, Verdict::Agrees)
+    }
 }
 
 /// What a reply of these bytes comes to, where the question had this nonce and this record is demanded. It agrees where
@@ -46,21 +61,37 @@ pub fn judged(
     Ok(Verdict::Differs(Listed::of(reply)))
 }
 
-/// What a question with this nonce and this record comes to, where so many bytes at the front of the buffer are its
-/// reply; silent where there is none. Fails only if out of memory.
+/// What a question with this record comes to, where so many bytes at the front of the buffer are the reply that it
+/// waits for; silent where there is none. Fails only if out of memory.
 pub(crate) fn verdict_of(
     alloc: Global,
     demanded: &ReferralRecord,
-    nonce: u64,
+    awaited: Awaited,
     buffer: &[u8],
     reply: Option<usize>,
 ) -> Result<Verdict, AllocError>
     requires { IfSome reply (λ len. len ≤ length buffer.now) }
-    ensures { IfOk result (IsVerdict demanded.now nonce (option_map (λ len. take len buffer.now) reply)) }
+    ensures { IfOk result (IsVerdictFor awaited.client awaited.xeid demanded.now awaited.nonce
+        (option_map (λ len. take len buffer.now) reply)) }
 {
     match reply {
-        Some(len) => judged(alloc, demanded, nonce, &buffer[..len]),
+        Some(len) => judged_by(alloc, demanded, awaited, &buffer[..len]),
         None => Ok(Verdict::Silent),
+    }
+}
+
+/// What a reply of these bytes comes to, by what the question was asked as.
+fn judged_by(
+    alloc: Global,
+    demanded: &ReferralRecord,
+    awaited: Awaited,
+    bytes: &[u8],
+) -> Result<Verdict, AllocError>
+    ensures { IfOk result (IsVerdictFor awaited.client awaited.xeid demanded.now awaited.nonce (Some bytes.now)) }
+{
+    match awaited.client {
+        Client::Ddt => judged(alloc, demanded, awaited.nonce, bytes),
+        Client::Itr => judged_for_itr(alloc, awaited.xeid, demanded, awaited.nonce, bytes),
     }
 }
 

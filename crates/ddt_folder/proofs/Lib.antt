@@ -5,5 +5,6 @@ pub mod OrderLemmas
 pub mod AlikeLemmas
 pub mod ListLemmas
 pub mod StepLemmas
+pub mod OurLemmas
 pub mod AfterLemmas
 pub mod PublishLemmas

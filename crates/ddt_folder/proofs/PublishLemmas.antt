@@ -4,7 +4,7 @@ use Rattle.std.specs.Prelude.{not, is_some, Contains, IsSomeAnd, IsTrue, MatchOp
 use Rattle.std.specs.Option.{option_map}
 use Rattle.std.specs.Ordering.{nat_cmp}
 use Rattle.std.specs.BTreeMap.{BTreeMap, get}
-use Rattle.std.specs.List.{flat_map, list_any}
+use Rattle.std.specs.List.{filter, flat_map, list_any}
 use Rattle.std.specs.Cmp.Lexicographic.{nat_list_eq_equiv, slice_cmp}
 use Rattle.std.proofs.lemmas.Bool.{and_parts, and_from, not-true, not_from_false, false_from_ne_true, true≢false}
 use Rattle.std.proofs.lemmas.Option.{same_Some}
@@ -17,7 +17,6 @@ use Rattle.ddt_path.specs.Names.{is_same_name}
 use Rattle.ddt_path.specs.laws.Cover.{same_path}
 use Rattle.ddt_path.specs.laws.Member.{IsIn, contained, in_contained, in_map, map_in, moved_in, none_of, fails_at, unfound}
 use Rattle.ddt_check.specs.Rules.{IsAccepted}
-use Rattle.ddt_check.specs.Zones.{group_named}
 use Rattle.ddt_check.specs.laws.Kept.{own_name}
 use Rattle.ddt_config.specs.declared.config.ServerConfig.{ServerConfig}
 use Rattle.ddt_config.specs.Shaped.{no_two}
@@ -33,7 +32,7 @@ use Rattle.ddt_folder.specs.Names.{is_same_file}
 use Rattle.ddt_folder.specs.Contents.{Contents}
 use Rattle.ddt_folder.specs.Steps.{after}
 use Rattle.ddt_folder.specs.Manifest.{digits_of, manifest_text, kept_line, IsListedIn, IsListedAs}
-use Rattle.ddt_folder.specs.Wanted.{register_file, IsOrderedConfigText, IsConfigFile, AreConfigFiles, AreGroupFiles, last_manifest, IsGone, is_as_listed, listed_of, gone_if, gone_for, altered_if, altered_for, AreGoneFiles, steps_for, removals, left_of, manifest_file}
+use Rattle.ddt_folder.specs.Wanted.{register_file, IsOrderedConfigText, IsConfigFile, AreConfigFiles, our_groups, our_group, AreGroupFiles, last_manifest, IsGone, is_as_listed, listed_of, gone_if, gone_for, altered_if, altered_for, AreGoneFiles, steps_for, removals, left_of, manifest_file}
 use Rattle.ddt_folder.specs.Plans.{IsPlan}
 use Rattle.ddt_folder.specs.Laws.{IsAltered, IsAsListed, IsRemovable, IsPublished, PlansPublish}
 use Rattle.ddt_folder.proofs.ManifestLemmas.{entry_of, found_at}
@@ -112,10 +111,40 @@ groups_apart (g ∷ gs) up own =
     (not_from_false (list_any (same g) gs) (none_of (same g) gs (λ h k. own g h (inl refl) (inr k) (up.0 h k))))
     (groups_apart gs up.1 (λ x y j k. own x y (inr j) (inr k)))
 
-module _ (r : Register) (accepted : IsAccepted r) (files : List NamedFile) (are : AreGroupFiles r files) where
-  outlines_apart : no_two (λ (o p : Outline). is_same_name o.name p.name) (map (group_config r) r.groups) ≡ true
-  outlines_apart = no_two-map (λ (o p : Outline). is_same_name o.name p.name) (group_config r) r.groups
-      ∙ groups_apart r.groups (groups_up r) (own_name r accepted)
+-- a filter keeps no two alike where there were none
+filter_in : {A : Type 0} (keeps : A → Bool) (xs : List A) (x : A) → IsIn x (filter keeps xs) → IsIn x xs
+filter_in keeps [] x k = absurd k
+filter_in keeps (y ∷ xs) x k = go (keeps y) (λ j. filter_in keeps xs x j) k
+  where
+    go : (b : Bool) → (IsIn x (filter keeps xs) → IsIn x xs) → IsIn x (cond b (y ∷ filter keeps xs) (filter keeps xs))
+        → IsIn x (y ∷ xs)
+    go true rest (inl e) = inl e
+    go true rest (inr j) = inr (rest j)
+    go false rest j = inr (rest j)
+
+filter_apart : {A : Type 0} (same : A → A → Bool) (keeps : A → Bool) (xs : List A) → no_two same xs ≡ true
+    → no_two same (filter keeps xs) ≡ true
+filter_apart same keeps [] e = refl
+filter_apart same keeps (x ∷ xs) e =
+    let p = and_parts (not (list_any (same x) xs)) (no_two same xs) e in
+    let rest = filter_apart same keeps xs p.1 in
+    let none = none_of (same x) (filter keeps xs)
+    (λ y k. fails_at (same x) xs y (not-true (list_any (same x) xs) p.0) (filter_in keeps xs y k)) in
+    go (keeps x) rest none
+  where
+    go : (b : Bool) → no_two same (filter keeps xs) ≡ true → list_any (same x) (filter keeps xs) ≡ false
+        → no_two same (cond b (x ∷ filter keeps xs) (filter keeps xs)) ≡ true
+    go true rest none = and_from (not (list_any (same x) (filter keeps xs))) (no_two same (filter keeps xs))
+        (not_from_false (list_any (same x) (filter keeps xs)) none) rest
+    go false rest none = rest
+
+module _ (foreign : List ℕ → Bool) (r : Register) (accepted : IsAccepted r) (files : List NamedFile)
+    (are : AreGroupFiles foreign r files) where
+  outlines_apart : no_two (λ (o p : Outline). is_same_name o.name p.name) (map (group_config r) (our_groups foreign r))
+      ≡ true
+  outlines_apart = no_two-map (λ (o p : Outline). is_same_name o.name p.name) (group_config r) (our_groups foreign r)
+      ∙ filter_apart (λ (g h : Group). is_same_name g.name h.name) (λ (g : Group). not (foreign g.name)) r.groups
+      (groups_apart r.groups (groups_up r) (own_name r accepted))
 
   configs_apart : no_two (λ (c d : ServerConfig). is_same_name c.name d.name) are.configs ≡ true
   configs_apart =
@@ -128,19 +157,19 @@ module _ (r : Register) (accepted : IsAccepted r) (files : List NamedFile) (are 
   group_files_apart = files_apart are.configs files are.texts configs_apart
 
   -- each of these files is named for a group
-  group_of : (f : NamedFile) → IsIn f files → (g : Group) × IsIn g r.groups × (f.name ≡ Config g.name)
+  group_of : (f : NamedFile) → IsIn f files → (g : Group) × IsIn g (our_groups foreign r) × (f.name ≡ Config g.name)
   group_of f k =
       let c = file_of are.configs files are.texts f k in
       let in_compiled = moved_in are.configs are.compiled (IsPermutation-sym are.compiled are.configs are.moved) c.0 c.1 in
       let o = subst (IsIn (outline c.0)) are.each (map_in outline are.compiled c.0 in_compiled) in
-      let g = in_map (group_config r) r.groups (outline c.0) o in
+      let g = in_map (group_config r) (our_groups foreign r) (outline c.0) o in
       (g.0, g.1, c.2.0 ∙ ap (λ (x : Outline). Config x.name) g.2)
 
   -- and each group has its file
-  file_for : (g : Group) → IsIn g r.groups
+  file_for : (g : Group) → IsIn g (our_groups foreign r)
       → (f : NamedFile) × IsIn f files × (f.name ≡ Config g.name) × IsOrderedConfigText (group_config r g) f.bytes
   file_for g k =
-      let o = subst (IsIn (group_config r g)) (sym are.each) (map_in (group_config r) r.groups g k) in
+      let o = subst (IsIn (group_config r g)) (sym are.each) (map_in (group_config r) (our_groups foreign r) g k) in
       let c = in_map outline are.compiled (group_config r g) o in
       let f = config_file_of are.configs files are.texts c.0 (moved_in are.compiled are.configs are.moved c.0 c.1) in (
         f.0,
@@ -156,21 +185,21 @@ none_there None e = refl
 none_there (Some x) e = absurd (true≢false e)
 
 -- a file of a group that is gone, as it was listed
-pub record IsOfGone (r : Register) (fs : FileName → Option (List ℕ)) (last : BTreeMap (List ℕ) (List ℕ)) (f : NamedFile)
-    : Type 0 where
+pub record IsOfGone (foreign : List ℕ → Bool) (r : Register) (fs : FileName → Option (List ℕ))
+    (last : BTreeMap (List ℕ) (List ℕ)) (f : NamedFile) : Type 0 where
   name : List ℕ
   is : f.name ≡ Config name
   listed : IsListedAs (last_manifest fs) name (digits_of f.bytes)
   found : get (slice_cmp nat_cmp) last name ≡ Some (digits_of f.bytes)
-  missing : group_named r name ≡ None
+  missing : our_group foreign r name ≡ None
   there : fs f.name ≡ Some f.bytes
 
 -- and what was listed of one that somebody altered
-pub record IsOfAltered (r : Register) (fs : FileName → Option (List ℕ)) (last : BTreeMap (List ℕ) (List ℕ))
-    (c : ListedConfig) : Type 0 where
+pub record IsOfAltered (foreign : List ℕ → Bool) (r : Register) (fs : FileName → Option (List ℕ))
+    (last : BTreeMap (List ℕ) (List ℕ)) (c : ListedConfig) : Type 0 where
   listed : IsListedAs (last_manifest fs) c.name c.digits
   found : get (slice_cmp nat_cmp) last c.name ≡ Some c.digits
-  missing : group_named r c.name ≡ None
+  missing : our_group foreign r c.name ≡ None
   bytes : List ℕ
   there : fs (Config c.name) ≡ Some bytes
   differ : digits_of bytes ≢ c.digits
@@ -228,8 +257,8 @@ gone_there false listed bytes found e h same =
     (subst (λ (b : Bool). IsIn file (cond b (file ∷ []) []))
     (sym ((bytes_eq-Decides (digits_of bytes) listed.digits).1 same)) (inl refl))
 
-module _ (r : Register) (fs : FileName → Option (List ℕ)) (gone : List NamedFile) (altered : List ListedConfig)
-    (are : AreGoneFiles r fs gone altered) where
+module _ (foreign : List ℕ → Bool) (r : Register) (fs : FileName → Option (List ℕ)) (gone : List NamedFile)
+    (altered : List ListedConfig) (are : AreGoneFiles foreign r fs gone altered) where
   abbrev IsFound : List ℕ → Option (List ℕ) → Type 0
   IsFound name found =
       MatchOption found (¬ (IsListedIn (last_manifest fs) name)) (IsListedAs (last_manifest fs) name)
@@ -239,30 +268,30 @@ module _ (r : Register) (fs : FileName → Option (List ℕ)) (gone : List Named
       → IsListedAs (last_manifest fs) name digits
   listed_as name digits e = subst (IsFound name) e (are.listed name)
 
-  of_gone : (f : NamedFile) → IsIn f gone → IsOfGone r fs are.last f
+  of_gone : (f : NamedFile) → IsIn f gone → IsOfGone foreign r fs are.last f
   of_gone f k =
-      let p = in_flat (gone_for r fs) are.last.entries f (subst (IsIn f) are.are k) in
+      let p = in_flat (gone_for foreign r fs) are.last.entries f (subst (IsIn f) are.are k) in
       let name = p.0.0 in
-      let q = gone_case (is_some (group_named r name)) (listed_of p.0) (fs (Config name)) f p.2 in
+      let q = gone_case (is_some (our_group foreign r name)) (listed_of p.0) (fs (Config name)) f p.2 in
       let found = found_at are.last are.in_order p.0 p.1 ∙ ap (λ (x : List ℕ). Some x) (sym q.3) in record {
         name = name;
         is = q.1;
         listed = listed_as name (digits_of f.bytes) found;
         found = found;
-        missing = none_there (group_named r name) q.0;
+        missing = none_there (our_group foreign r name) q.0;
         there = ap fs q.1 ∙ q.2;
       }
 
-  of_altered : (c : ListedConfig) → IsIn c altered → IsOfAltered r fs are.last c
+  of_altered : (c : ListedConfig) → IsIn c altered → IsOfAltered foreign r fs are.last c
   of_altered c k =
-      let p = in_flat (altered_for r fs) are.last.entries c (subst (IsIn c) are.are_altered k) in
+      let p = in_flat (altered_for foreign r fs) are.last.entries c (subst (IsIn c) are.are_altered k) in
       let name = p.0.0 in
-      let q = altered_case (is_some (group_named r name)) (listed_of p.0) (fs (Config name)) c p.2 in
+      let q = altered_case (is_some (our_group foreign r name)) (listed_of p.0) (fs (Config name)) c p.2 in
       let found = found_at are.last are.in_order p.0 p.1 in
-      subst (IsOfAltered r fs are.last) (sym q.1) (record {
+      subst (IsOfAltered foreign r fs are.last) (sym q.1) (record {
         listed = listed_as name p.0.1 found;
         found = found;
-        missing = none_there (group_named r name) q.0;
+        missing = none_there (our_group foreign r name) q.0;
         bytes = q.2.0;
         there = q.2.1;
         differ = q.2.2;
@@ -270,7 +299,7 @@ module _ (r : Register) (fs : FileName → Option (List ℕ)) (gone : List Named
 
   in_gone : (name bytes : List ℕ) → IsListedIn (last_manifest fs) name
       → ((digits : List ℕ) → IsListedAs (last_manifest fs) name digits → digits_of bytes ≡ digits)
-      → group_named r name ≡ None → fs (Config name) ≡ Some bytes
+      → our_group foreign r name ≡ None → fs (Config name) ≡ Some bytes
       → IsIn (record { name = Config name; bytes = bytes }) gone
   in_gone name bytes listed alike missing there = go (get (slice_cmp nat_cmp) are.last name) refl
     where
@@ -279,15 +308,15 @@ module _ (r : Register) (fs : FileName → Option (List ℕ)) (gone : List Named
       go None e = absurd (subst (IsFound name) e (are.listed name) listed)
       go (Some digits) e =
           subst (IsIn (record { name = Config name; bytes = bytes })) (sym are.are)
-          (flat_in (gone_for r fs) are.last.entries (name, digits) (record { name = Config name; bytes = bytes })
+          (flat_in (gone_for foreign r fs) are.last.entries (name, digits) (record { name = Config name; bytes = bytes })
           (entry_of are.last name digits e)
-          (gone_there (is_some (group_named r name)) (listed_of (name, digits)) bytes (fs (Config name))
+          (gone_there (is_some (our_group foreign r name)) (listed_of (name, digits)) bytes (fs (Config name))
           (ap is_some missing) there (alike digits (listed_as name digits e))))
 
 -- ---- the whole
 
-module _ (r : Register) (register : List ℕ) (removes : Bool) (s : Contents) (plan : Plan) (accepted : IsAccepted r)
-    (p : IsPlan r register removes s.files plan) where
+module _ (foreign : List ℕ → Bool) (r : Register) (register : List ℕ) (removes : Bool) (s : Contents) (plan : Plan)
+    (accepted : IsAccepted r) (p : IsPlan foreign r register removes s.files plan) where
   abbrev wanted : List NamedFile
   wanted = register_file register ∷ p.configs
 
@@ -326,55 +355,55 @@ module _ (r : Register) (register : List ℕ) (removes : Bool) (s : Contents) (p
 
   wanted_apart : Apart wanted
   wanted_apart = (
-    λ g k. ap (is_same_file OfRegister) (group_of r accepted p.configs p.are_configs g k).2,
-    group_files_apart r accepted p.configs p.are_configs,
+    λ g k. ap (is_same_file OfRegister) (group_of foreign r accepted p.configs p.are_configs g k).2,
+    group_files_apart foreign r accepted p.configs p.are_configs,
   )
 
-  gone_file : (f : NamedFile) → IsIn f p.gone → IsOfGone r s.files p.are_gone.last f
-  gone_file = of_gone r s.files p.gone p.altered p.are_gone
+  gone_file : (f : NamedFile) → IsIn f p.gone → IsOfGone foreign r s.files p.are_gone.last f
+  gone_file = of_gone foreign r s.files p.gone p.altered p.are_gone
 
-  -- a group of the register isn't gone
-  not_gone : (g : Group) → IsIn g r.groups → (f : NamedFile) → IsIn f p.gone → is_same_file f.name (Config g.name) ≡ false
+  -- a group of ours isn't gone
+  not_gone : (g : Group) → IsIn g (our_groups foreign r) → (f : NamedFile) → IsIn f p.gone → is_same_file f.name (Config g.name) ≡ false
   not_gone g j f k =
       let q = gone_file f k in
       ap (λ (m : FileName). is_same_file m (Config g.name)) q.is ∙ nat_list_eq_equiv.symm q.name g.name
-      ∙ unfound (λ (h : Group). is_same_name h.name q.name) r.groups g q.missing j
+      ∙ unfound (λ (h : Group). is_same_name h.name q.name) (our_groups foreign r) g q.missing j
 
-  -- and no file that is wanted is named for a group that the register lacks
-  not_wanted : (name : List ℕ) → group_named r name ≡ None → (f : NamedFile) → IsIn f wanted
+  -- and no file that is wanted is named for a group that isn't ours
+  not_wanted : (name : List ℕ) → our_group foreign r name ≡ None → (f : NamedFile) → IsIn f wanted
       → is_same_file f.name (Config name) ≡ false
   not_wanted name missing f (inl e) = ap (λ (g : NamedFile). is_same_file g.name (Config name)) e
   not_wanted name missing f (inr k) =
-      let g = group_of r accepted p.configs p.are_configs f k in
+      let g = group_of foreign r accepted p.configs p.are_configs f k in
       ap (λ (m : FileName). is_same_file m (Config name)) g.2
-      ∙ unfound (λ (h : Group). is_same_name h.name name) r.groups g.0 missing g.1
+      ∙ unfound (λ (h : Group). is_same_name h.name name) (our_groups foreign r) g.0 missing g.1
 
   source : (after plan.steps s).files OfRegister ≡ Some register
   source = kept OfRegister refl (λ f k. ap (λ (m : FileName). is_same_file m OfRegister) (gone_file f k).is)
       ∙ its_own s.files OfRegister wanted wanted_apart (register_file register) (inl refl) refl
 
-  of_group : (f : NamedFile) (g : Group) → IsIn f p.configs → IsIn g r.groups → f.name ≡ Config g.name
+  of_group : (f : NamedFile) (g : Group) → IsIn f p.configs → IsIn g (our_groups foreign r) → f.name ≡ Config g.name
       → (after plan.steps s).files (Config g.name) ≡ Some f.bytes
   of_group f g k j e = kept (Config g.name) refl (not_gone g j)
       ∙ its_own s.files (Config g.name) wanted wanted_apart f (inr k) e
 
-  configs_there : (g : Group) → Contains r.groups g
+  configs_there : (g : Group) → Contains (our_groups foreign r) g
       → IsSomeAnd ((after plan.steps s).files (Config g.name)) (IsOrderedConfigText (group_config r g))
   configs_there g k =
-      let j = in_contained r.groups g k in
-      let f = file_for r accepted p.configs p.are_configs g j in
+      let j = in_contained (our_groups foreign r) g k in
+      let f = file_for foreign r accepted p.configs p.are_configs g j in
       subst (λ (o : Option (List ℕ)). IsSomeAnd o (IsOrderedConfigText (group_config r g)))
       (sym (of_group f.0 g f.1 j f.2)) f.3
 
-  -- the name of a group that the register lacks
-  lacking : (name : List ℕ) → group_named r name ≡ None
+  -- the name of a group that isn't ours
+  lacking : (name : List ℕ) → our_group foreign r name ≡ None
       → (after plan.steps s).files (Config name) ≡ at_end (Config name) (removals removes p.gone) (s.files (Config name))
   lacking name missing =
       at_all (Config name) ∙ by_manifest (Config name) _ refl
       ∙ ap (at_end (Config name) (removals removes p.gone))
       (others_leave s.files (Config name) wanted (s.files (Config name)) (not_wanted name missing))
 
-  is_removed : (b : Bool) (name : List ℕ) → IsGone r s.files name → IsAsListed s.files name → (found : Option (List ℕ))
+  is_removed : (b : Bool) (name : List ℕ) → IsGone foreign r s.files name → IsAsListed s.files name → (found : Option (List ℕ))
       → s.files (Config name) ≡ found
       → at_end (Config name) (removals b p.gone) (s.files (Config name)) ≡ cond b None (s.files (Config name))
   is_removed false name h alike found e = refl
@@ -382,7 +411,7 @@ module _ (r : Register) (register : List ℕ) (removes : Bool) (s : Contents) (p
       ap (at_end (Config name) (removes_each p.gone)) e ∙ removed_none (Config name) p.gone
   is_removed true name h alike (Some bytes) e =
       removed_one (Config name) p.gone (s.files (Config name)) (record { name = Config name; bytes = bytes })
-      (in_gone r s.files p.gone p.altered p.are_gone name bytes h.0
+      (in_gone foreign r s.files p.gone p.altered p.are_gone name bytes h.0
       (λ digits l. same_Some (digits_of bytes) digits (sym (ap (option_map digits_of) e) ∙ alike digits l)) h.1 e) refl
 
   -- no removal is of another name
@@ -411,8 +440,8 @@ module _ (r : Register) (register : List ℕ) (removes : Bool) (s : Contents) (p
   other_kept false e name none = refl
 
   -- nor of what somebody altered
-  altered_file : (c : ListedConfig) → IsIn c p.altered → IsOfAltered r s.files p.are_gone.last c
-  altered_file = of_altered r s.files p.gone p.altered p.are_gone
+  altered_file : (c : ListedConfig) → IsIn c p.altered → IsOfAltered foreign r s.files p.are_gone.last c
+  altered_file = of_altered foreign r s.files p.gone p.altered p.are_gone
 
   not_altered : (c : ListedConfig) → IsIn c p.altered → (f : NamedFile) → IsIn f p.gone
       → is_same_file f.name (Config c.name) ≡ false
@@ -442,7 +471,7 @@ module _ (r : Register) (register : List ℕ) (removes : Bool) (s : Contents) (p
   wanted_unlike : (f : NamedFile) → IsIn f wanted → is_same_file f.name Manifest ≡ false
   wanted_unlike f (inl e) = ap (λ (g : NamedFile). is_same_file g.name Manifest) e
   wanted_unlike f (inr k) =
-      ap (λ (m : FileName). is_same_file m Manifest) (group_of r accepted p.configs p.are_configs f k).2
+      ap (λ (m : FileName). is_same_file m Manifest) (group_of foreign r accepted p.configs p.are_configs f k).2
 
   manifest_stands : (after plan.steps s).files Manifest
       ≡ Some (manifest_text on_lines ++ flat_map kept_line p.altered)
@@ -458,7 +487,7 @@ module _ (r : Register) (register : List ℕ) (removes : Bool) (s : Contents) (p
   wanted_there f (inl e) = ap (λ (g : NamedFile). (after plan.steps s).files g.name) e ∙ source
       ∙ ap (λ (g : NamedFile). Some g.bytes) (sym e)
   wanted_there f (inr k) =
-      let g = group_of r accepted p.configs p.are_configs f k in
+      let g = group_of foreign r accepted p.configs p.are_configs f k in
       ap (after plan.steps s).files g.2 ∙ of_group f g.0 k g.1 g.2
 
   left_there : (b : Bool) → removes ≡ b → (f : NamedFile) → IsIn f (left_of b p.gone)
@@ -476,17 +505,17 @@ module _ (r : Register) (register : List ℕ) (removes : Bool) (s : Contents) (p
     | inr j ↦ left_there removes refl f j
   ]
 
-  groups_listed : (g : Group) → Contains r.groups g
+  groups_listed : (g : Group) → Contains (our_groups foreign r) g
       → (bytes : List ℕ) × Contains on_lines (record { name = Config g.name; bytes = bytes })
   groups_listed g k =
-      let f = file_for r accepted p.configs p.are_configs g (in_contained r.groups g k) in (
+      let f = file_for foreign r accepted p.configs p.are_configs g (in_contained (our_groups foreign r) g k) in (
         f.0.bytes,
         subst (Contains on_lines)
             (ap (λ (n : FileName). let file : NamedFile = record { name = n; bytes = f.0.bytes } in file) f.2)
             (contained on_lines f.0 (in_front wanted (left_of removes p.gone) f.0 (inr f.1))),
       )
 
-  pub published : IsPublished r register removes s (after plan.steps s)
+  pub published : IsPublished foreign r register removes s (after plan.steps s)
   published = record {
     source = source;
     configs = configs_there;
@@ -503,4 +532,4 @@ module _ (r : Register) (register : List ℕ) (removes : Bool) (s : Contents) (p
   }
 
 pub plans_publish : PlansPublish
-plans_publish r register removes s plan accepted p = published r register removes s plan accepted p
+plans_publish foreign r register removes s plan accepted p = published foreign r register removes s plan accepted p

@@ -5,7 +5,6 @@ use Rattle.std.specs.Option.{option_map}
 use Rattle.ddt_register.specs.declared.group.Group.{Group}
 use Rattle.ddt_register.specs.declared.register.Register.{Register}
 use Rattle.ddt_check.specs.Rules.{IsAccepted}
-use Rattle.ddt_check.specs.Zones.{group_named}
 use Rattle.ddt_config.specs.Table.{Outline}
 use Rattle.ddt_compile.specs.GroupConfig.{group_config}
 use Rattle.ddt_compile.specs.laws.Statements.{IsShapedConfig}
@@ -20,7 +19,7 @@ use Rattle.ddt_folder.specs.Steps.{after}
 use Rattle.ddt_folder.specs.Manifest.{digits_of, manifest_text, kept_line, IsListedAs}
 use Rattle.ddt_folder.specs.Ordered.{ordered}
 use Rattle.ddt_folder.specs.Plans.{IsPlan}
-use Rattle.ddt_folder.specs.Wanted.{IsOrderedConfigText, IsGone, last_manifest}
+use Rattle.ddt_folder.specs.Wanted.{IsOrderedConfigText, our_groups, our_group, IsGone, last_manifest}
 
 -- alike configurations of one name are one in the order of prefixes
 abbrev pub OrderDoesNotMatter : Type 0
@@ -35,15 +34,15 @@ pub record IsAltered (manifest : List ℕ) (t : Contents) (c : ListedConfig) : T
   pub there : t.files (Config c.name) ≡ Some bytes
   pub differ : digits_of bytes ≢ c.digits
 
--- The folder has the files that the manifest lists, with these bytes, and lists the configuration of each group. What
+-- The folder has the files that the manifest lists, with these bytes, and lists the configuration of each of our groups. What
 -- the last manifest says of a configuration that somebody altered since, this one says too.
-pub record IsTrueManifest (r : Register) (s t : Contents) : Type 0 where
+pub record IsTrueManifest (foreign : List ℕ → Bool) (r : Register) (s t : Contents) : Type 0 where
   pub files : List NamedFile
   pub altered : List ListedConfig
   pub stands : t.files Manifest ≡ Some (manifest_text files ++ flat_map kept_line altered)
   pub there : (file : NamedFile) → Contains files file → t.files file.name ≡ Some file.bytes
   pub kept : (c : ListedConfig) → Contains altered c → IsAltered (last_manifest s.files) t c
-  pub groups : (g : Group) → Contains r.groups g → (bytes : List ℕ)
+  pub groups : (g : Group) → Contains (our_groups foreign r) g → (bytes : List ℕ)
       × Contains files (record { name = Config g.name; bytes = bytes })
 
 -- a manifest lists a configuration with the digits of its own bytes, and with no others
@@ -56,19 +55,21 @@ abbrev pub IsRemovable : (FileName → Option (List ℕ)) → List ℕ → Type 
 IsRemovable files name = (bytes : List ℕ) × (files (Config name) ≡ Some bytes)
     × IsListedAs (last_manifest files) name (digits_of bytes)
 
--- What a folder has of a register, where it had other files before.
-pub record IsPublished (r : Register) (register : List ℕ) (removes : Bool) (s t : Contents) : Type 0 where
+-- What a folder has of a register, where it had other files before, and where others run the groups of some names.
+pub record IsPublished (foreign : List ℕ → Bool) (r : Register) (register : List ℕ) (removes : Bool) (s t : Contents)
+    : Type 0 where
   pub source : t.files OfRegister ≡ Some register
-  pub configs : (g : Group) → Contains r.groups g
+  pub configs : (g : Group) → Contains (our_groups foreign r) g
       → IsSomeAnd (t.files (Config g.name)) (IsOrderedConfigText (group_config r g))
-  pub manifest : IsTrueManifest r s t
-  pub gone : (name : List ℕ) → IsGone r s.files name → IsAsListed s.files name
+  pub manifest : IsTrueManifest foreign r s t
+  pub gone : (name : List ℕ) → IsGone foreign r s.files name → IsAsListed s.files name
       → t.files (Config name) ≡ (if removes then None else s.files (Config name))
-  pub others : (name : List ℕ) → group_named r name ≡ None → ¬ (IsTrue removes × IsRemovable s.files name)
+  pub others : (name : List ℕ) → our_group foreign r name ≡ None → ¬ (IsTrue removes × IsRemovable s.files name)
       → t.files (Config name) ≡ s.files (Config name)
 
 -- a plan that is carried out publishes the register
 abbrev pub PlansPublish : Type 0
 PlansPublish =
-    (r : Register) (register : List ℕ) (removes : Bool) (s : Contents) (plan : Plan) → IsAccepted r
-    → IsPlan r register removes s.files plan → IsPublished r register removes s (after plan.steps s)
+    (foreign : List ℕ → Bool) (r : Register) (register : List ℕ) (removes : Bool) (s : Contents) (plan : Plan)
+    → IsAccepted r → IsPlan foreign r register removes s.files plan
+    → IsPublished foreign r register removes s (after plan.steps s)

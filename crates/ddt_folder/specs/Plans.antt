@@ -25,14 +25,14 @@ plan_of files removes wanted gone altered =
       altered = map (λ listed. Config listed.name) altered;
     }
 
--- the plan for a register over what stands in a folder
-pub record IsPlan (r : Register) (register : List ℕ) (removes : Bool) (files : FileName → Option (List ℕ))
-    (plan : Plan) : Type 0 where
+-- the plan for a register over what a folder has, where others run the groups of some names
+pub record IsPlan (foreign : List ℕ → Bool) (r : Register) (register : List ℕ) (removes : Bool)
+    (files : FileName → Option (List ℕ)) (plan : Plan) : Type 0 where
   pub configs : List NamedFile
-  pub are_configs : AreGroupFiles r configs
+  pub are_configs : AreGroupFiles foreign r configs
   pub gone : List NamedFile
   pub altered : List ListedConfig
-  pub are_gone : AreGoneFiles r files gone altered
+  pub are_gone : AreGoneFiles foreign r files gone altered
   pub is : plan ≡ plan_of files removes (register_file register ∷ configs) gone altered
 
 module _ {F E : Type 0} (holds : F → Contents → Type 0) where
@@ -44,11 +44,12 @@ module _ {F E : Type 0} (holds : F → Contents → Type 0) where
       (t : Contents) × holds folder t × HasStopped steps name s t
 
   -- The plan was carried out, or nothing was touched, or a step of the plan failed.
-  abbrev pub HasPublished : Register → List ℕ → Bool → Contents → Result Plan (PublishFault E) → F → Type 0
-  HasPublished r register removes s (Ok plan) folder =
-      IsPlan r register removes s.files plan × holds folder (after plan.steps s)
-  HasPublished r register removes s (Err Memory) folder = holds folder s
-  HasPublished r register removes s (Err (Failed name why)) folder =
+  abbrev pub HasPublished : (List ℕ → Bool) → Register → List ℕ → Bool → Contents
+      → Result Plan (PublishFault E) → F → Type 0
+  HasPublished foreign r register removes s (Ok plan) folder =
+      IsPlan foreign r register removes s.files plan × holds folder (after plan.steps s)
+  HasPublished foreign r register removes s (Err Memory) folder = holds folder s
+  HasPublished foreign r register removes s (Err (Failed name why)) folder =
       holds folder s
-      ⊎ ((plan : Plan) × IsPlan r register removes s.files plan
+      ⊎ ((plan : Plan) × IsPlan foreign r register removes s.files plan
       × ((t : Contents) × holds folder t × HasStopped plan.steps name s t))

@@ -1,12 +1,13 @@
 -- Which files a register asks for, and what is to be done with each by what stands in the folder.
-use Rattle.std.specs.Prelude.{◌≡◌, ℕ, Bool, true, false, if◌then◌else◌, List, [], ◌∷◌, ◌++◌, map, Option, None, Some, is_some, unwrap_or, IsPermutation, IsSorted}
-use Rattle.std.specs.List.{flat_map}
+use Rattle.std.specs.Prelude.{◌≡◌, ℕ, Bool, true, false, not, if◌then◌else◌, List, [], ◌∷◌, ◌++◌, map, Option, None, Some, is_some, unwrap_or, IsPermutation, IsSorted}
+use Rattle.std.specs.List.{filter, find, flat_map}
 use Rattle.std.specs.Str.{bytes_eq}
 use Rattle.std.specs.Ordering.{nat_cmp}
 use Rattle.std.specs.Cmp.Lexicographic.{slice_cmp}
 use Rattle.std.specs.BTreeMap.{BTreeMap, IsOrdered}
+use Rattle.ddt_path.specs.Names.{is_same_name}
+use Rattle.ddt_register.specs.declared.group.Group.{Group}
 use Rattle.ddt_register.specs.declared.register.Register.{Register}
-use Rattle.ddt_check.specs.Zones.{group_named}
 use Rattle.ddt_config.specs.declared.config.ServerConfig.{ServerConfig}
 use Rattle.ddt_config.specs.Table.{Outline, outline}
 use Rattle.ddt_compile.specs.GroupConfig.{group_config}
@@ -41,10 +42,18 @@ AreConfigFiles (c ∷ cs) (file ∷ files) = IsConfigFile c file × AreConfigFil
 AreConfigFiles [] (file ∷ files) = ⊥
 AreConfigFiles (c ∷ cs) [] = ⊥
 
--- the files of the configurations of all groups, in the order of the groups' names
-pub record AreGroupFiles (r : Register) (files : List NamedFile) : Type 0 where
+-- our groups: those whose servers nobody else runs
+abbrev pub our_groups : (List ℕ → Bool) → Register → List Group
+our_groups foreign r = filter (λ g. not (foreign g.name)) r.groups
+
+-- the one of them that has a name
+abbrev pub our_group : (List ℕ → Bool) → Register → List ℕ → Option Group
+our_group foreign r name = find (λ g. is_same_name g.name name) (our_groups foreign r)
+
+-- the files of the configurations of all our groups, in the order of the groups' names
+pub record AreGroupFiles (foreign : List ℕ → Bool) (r : Register) (files : List NamedFile) : Type 0 where
   pub compiled : List ServerConfig
-  pub each : map outline compiled ≡ map (group_config r) r.groups
+  pub each : map outline compiled ≡ map (group_config r) (our_groups foreign r)
   pub configs : List ServerConfig
   pub moved : IsPermutation compiled configs
   pub in_order : IsSorted (λ c d. slice_cmp nat_cmp c.name d.name) configs
@@ -56,15 +65,15 @@ pub record AreGroupFiles (r : Register) (files : List NamedFile) : Type 0 where
 abbrev pub last_manifest : (FileName → Option (List ℕ)) → List ℕ
 last_manifest files = unwrap_or (files Manifest) []
 
--- the last manifest lists the configuration of a group that the register lacks
-abbrev pub IsGone : Register → (FileName → Option (List ℕ)) → List ℕ → Type 0
-IsGone r files name = IsListedIn (last_manifest files) name × (group_named r name ≡ None)
+-- the last manifest lists the configuration of a group that isn't one of ours
+abbrev pub IsGone : (List ℕ → Bool) → Register → (FileName → Option (List ℕ)) → List ℕ → Type 0
+IsGone foreign r files name = IsListedIn (last_manifest files) name × (our_group foreign r name ≡ None)
 
 -- the bytes that were listed, by the digits of their SHA-256
 abbrev pub is_as_listed : ListedConfig → List ℕ → Bool
 is_as_listed listed bytes = bytes_eq (digits_of bytes) listed.digits
 
--- the configuration of a group, if the register lacks the group and the file is there as it was listed
+-- the configuration of a group, if the group isn't one of ours and the file is there as it was listed
 abbrev pub gone_if : Bool → ListedConfig → Option (List ℕ) → List NamedFile
 gone_if true listed found = []
 gone_if false listed None = []
@@ -82,21 +91,24 @@ abbrev pub listed_of : List ℕ × List ℕ → ListedConfig
 listed_of entry = record { name = entry.0; digits = entry.1 }
 
 -- the same, by what stands in the folder
-abbrev pub gone_for : Register → (FileName → Option (List ℕ)) → List ℕ × List ℕ → List NamedFile
-gone_for r files entry = gone_if (is_some (group_named r entry.0)) (listed_of entry) (files (Config entry.0))
+abbrev pub gone_for : (List ℕ → Bool) → Register → (FileName → Option (List ℕ)) → List ℕ × List ℕ → List NamedFile
+gone_for foreign r files entry =
+    gone_if (is_some (our_group foreign r entry.0)) (listed_of entry) (files (Config entry.0))
 
-abbrev pub altered_for : Register → (FileName → Option (List ℕ)) → List ℕ × List ℕ → List ListedConfig
-altered_for r files entry = altered_if (is_some (group_named r entry.0)) (listed_of entry) (files (Config entry.0))
+abbrev pub altered_for : (List ℕ → Bool) → Register → (FileName → Option (List ℕ)) → List ℕ × List ℕ
+    → List ListedConfig
+altered_for foreign r files entry =
+    altered_if (is_some (our_group foreign r entry.0)) (listed_of entry) (files (Config entry.0))
 
 -- The configurations of groups that are gone, in the order of the groups' names: those that are as the last manifest
 -- lists them, and those that somebody altered since.
-pub record AreGoneFiles (r : Register) (files : FileName → Option (List ℕ)) (gone : List NamedFile)
-    (altered : List ListedConfig) : Type 0 where
+pub record AreGoneFiles (foreign : List ℕ → Bool) (r : Register) (files : FileName → Option (List ℕ))
+    (gone : List NamedFile) (altered : List ListedConfig) : Type 0 where
   pub last : BTreeMap (List ℕ) (List ℕ)
   pub listed : AreConfigsIn (last_manifest files) last
   pub in_order : IsOrdered (slice_cmp nat_cmp) last
-  pub are : gone ≡ flat_map (gone_for r files) last.entries
-  pub are_altered : altered ≡ flat_map (altered_for r files) last.entries
+  pub are : gone ≡ flat_map (gone_for foreign r files) last.entries
+  pub are_altered : altered ≡ flat_map (altered_for foreign r files) last.entries
 
 -- ---- what is to be done
 

@@ -1,6 +1,9 @@
 //! The files that a register asks for.
 
 ghost use Rattle.std.specs.Prelude.{◌≡◌, ◌∷◌, List, IfOk};
+ghost use Rattle.std.specs.BTreeSet.{contains};
+ghost use Rattle.std.specs.Cmp.Lexicographic.{slice_cmp};
+ghost use Rattle.std.specs.Ordering.{nat_cmp};
 ghost use Rattle.ddt_folder.specs.declared.step.NamedFile.{NamedFile as AFile};
 ghost use Rattle.ddt_folder.specs.Wanted.{register_file, AreGroupFiles, IsConfigFile};
 
@@ -11,17 +14,20 @@ use ddt_check::Accepted;
 use ddt_compile::compile;
 use ddt_config::ServerConfig;
 use ddt_digest::to_sealed_toml;
-use ddt_path::Listed;
+use ddt_path::{Listed, Name};
 use std::alloc::{AllocError, Global};
+use std::collections::BTreeSet;
 
-/// The register itself, and the configuration of each group as TOML with its seal, in the order of the groups' names.
-/// Fails only if out of memory.
+/// The register itself, and the configuration of each group that isn't foreign as TOML with its seal, in the order of
+/// the groups' names. Fails only if out of memory.
 pub(crate) fn wanted_files(
     alloc: Global,
     accepted: &Accepted,
     register: &[u8],
+    foreign: &BTreeSet<Name>,
 ) -> Result<Vec<NamedFile>, AllocError>
-    ensures { IfOk result (λ files. (configs : List AFile) × AreGroupFiles accepted.now configs
+    ensures { IfOk result (λ files. (configs : List AFile)
+        × AreGroupFiles (λ name. contains (slice_cmp nat_cmp) foreign.now name) accepted.now configs
         × (files.items ≡ register_file register.now ∷ configs)) }
 {
     let mut files = Vec::new(alloc);
@@ -30,6 +36,7 @@ pub(crate) fn wanted_files(
         bytes: Listed::of(Vec::from_slice(alloc, register)?),
     })?;
     let mut configs = compile(alloc, accepted)?.into_vec();
+    configs.retain(|config| !foreign.contains(&config.name));
     configs.sort_unstable_by_key(|config| config.name);
     for config in configs {
         files.push(config_file(alloc, config)?)?;

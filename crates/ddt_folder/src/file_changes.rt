@@ -41,7 +41,7 @@ impl Draft {
 }
 
 /// The bytes of a file of a folder; None where there is none. Refused as Failed where the folder can't be read.
-pub(crate) fn read_file<F: Folder>(
+pub fn read_file<F: Folder>(
     alloc: Global,
     folder: &mut F,
     name: &FileName,

@@ -1,7 +1,8 @@
 //! The files of groups that are gone.
 
-ghost use Rattle.std.specs.Prelude.{◌≡◌, ◌++◌, [], false, Some, IfOk, OnOk, unwrap_or};
+ghost use Rattle.std.specs.Prelude.{◌≡◌, ◌&&◌, ◌++◌, not, [], false, Some, IfOk, OnOk, unwrap_or};
 ghost use Rattle.std.specs.BTreeMap.{get};
+ghost use Rattle.std.specs.BTreeSet.{contains};
 ghost use Rattle.std.specs.Cmp.Lexicographic.{slice_cmp};
 ghost use Rattle.std.specs.Option.{is_some, option_map};
 ghost use Rattle.std.specs.Ordering.{nat_cmp};
@@ -19,7 +20,7 @@ use ddt_check::Accepted;
 use ddt_compile::locators_by_name;
 use ddt_path::{Listed, LocatorSet, Name};
 use std::alloc::{AllocError, Global};
-use std::collections::BTreeMap;
+use std::collections::{BTreeMap, BTreeSet};
 
 /// The configurations of groups that are gone.
 #[derive(Drop)]
@@ -51,15 +52,17 @@ impl Gone {
     }
 }
 
-/// The configurations that the last manifest lists, that are still there, and whose groups the register lacks, in the
-/// order of their names. Refused as Memory, or as Failed where the folder can't be read.
+/// The configurations that the last manifest lists, that are still there, and whose groups the register lacks or are
+/// foreign, in the order of their names. Refused as Memory, or as Failed where the folder can't be read.
 pub(crate) fn gone_files<F: Folder>(
     alloc: Global,
     accepted: &Accepted,
+    foreign: &BTreeSet<Name>,
     folder: &mut F,
 ) -> Result<Gone, PublishFault<F::Fault>>
     ensures { (s : Contents) → F.holds folder.old s → F.holds folder.new s
-        × IfOk result (λ gone. AreGoneFiles accepted.now s.files gone.files.items gone.altered.items) }
+        × IfOk result (λ gone. AreGoneFiles (λ name. contains (slice_cmp nat_cmp) foreign.now name) accepted.now s.files
+        gone.files.items gone.altered.items) }
 {
     let manifest = read_file(alloc, folder, &FileName::Manifest)?;
     let listed = listed_last(alloc, manifest)?;
@@ -69,10 +72,19 @@ pub(crate) fn gone_files<F: Folder>(
         altered: Vec::new(alloc),
     };
     for (name, digits) in listed {
+        let is_ours = is_our_group(&groups, foreign, name);
         let listed = ListedConfig { name, digits };
-        add_gone(alloc, &groups, folder, &mut gone, listed)?;
+        add_gone(alloc, folder, &mut gone, is_ours, listed)?;
     }
     Ok(gone)
+}
+
+/// Whether a name is that of one of these groups, and isn't foreign.
+fn is_our_group(groups: &BTreeMap<Name, LocatorSet>, foreign: &BTreeSet<Name>, name: Name) -> bool
+    ensures { result ≡ (is_some (get (slice_cmp nat_cmp) groups.now name)
+        && not (contains (slice_cmp nat_cmp) foreign.now name)) }
+{
+    groups.contains_key(&name) && !foreign.contains(&name)
 }
 
 /// The configurations that the last manifest lists, where there is one.
@@ -88,21 +100,21 @@ fn listed_last(
     }
 }
 
-/// Adds a configuration that was listed, if its group is none of these and the file is there.
+/// Adds a configuration that was listed, if its group isn't one of ours and the file is there.
 fn add_gone<F: Folder>(
     alloc: Global,
-    groups: &BTreeMap<Name, LocatorSet>,
     folder: &mut F,
     gone: &mut Gone,
+    is_ours: bool,
     listed: ListedConfig,
 ) -> Result<(), PublishFault<F::Fault>>
     ensures { (s : Contents) → F.holds folder.old s → F.holds folder.new s
         × OnOk result ((gone.new.files.items ≡ gone.old.files.items
-        ++ gone_if (is_some (get (slice_cmp nat_cmp) groups.now listed.name)) listed (s.files (FileName.Config listed.name)))
+        ++ gone_if is_ours listed (s.files (FileName.Config listed.name)))
         × (gone.new.altered.items ≡ gone.old.altered.items
-        ++ altered_if (is_some (get (slice_cmp nat_cmp) groups.now listed.name)) listed (s.files (FileName.Config listed.name)))) }
+        ++ altered_if is_ours listed (s.files (FileName.Config listed.name)))) }
 {
-    if groups.contains_key(&listed.name) {
+    if is_ours {
         return Ok(());
     }
     if let Some(bytes) = read_file(alloc, folder, &FileName::Config(listed.name))? {

@@ -22,6 +22,7 @@ mod publication;
 mod step;
 
 pub use fault::PublishFault;
+pub use file_changes::read_file;
 pub use file_name::FileName;
 pub use folder::Folder;
 pub use laws::{a_plan_that_is_carried_out_publishes, the_order_of_rows_does_not_matter};

@@ -1,6 +1,9 @@
 //! The plan of what is to be done with a folder. Making it touches nothing.
 
 ghost use Rattle.std.specs.Prelude.{◌≡◌, ◌++◌, map, if◌then◌else◌, IfOk, OnOk};
+ghost use Rattle.std.specs.BTreeSet.{contains};
+ghost use Rattle.std.specs.Cmp.Lexicographic.{slice_cmp};
+ghost use Rattle.std.specs.Ordering.{nat_cmp};
 ghost use Rattle.ddt_folder.specs.Contents.{Contents};
 ghost use Rattle.ddt_folder.specs.Wanted.{left_of, manifest_file as manifest_file_of, removals};
 ghost use Rattle.ddt_folder.specs.Plans.{IsPlan};
@@ -14,8 +17,9 @@ use crate::gone::gone_files;
 use crate::manifest::{push_kept, push_lines};
 use crate::step::{ListedConfig, NamedFile, Step};
 use ddt_check::Accepted;
-use ddt_path::Listed;
+use ddt_path::{Listed, Name};
 use std::alloc::{AllocError, Global};
+use std::collections::BTreeSet;
 
 /// What is to be done with a folder, so that it has all configurations of a register.
 #[derive(Debug, Drop)]
@@ -30,11 +34,12 @@ pub struct Plan {
     pub altered: Listed<FileName>,
 }
 
-/// What is to be done with a folder, so that it has the register, the configuration of each of its groups, and a
-/// manifest of these. The configurations are written in the order of prefixes, so that the order of the register's rows
-/// doesn't matter. A file that has these bytes already is left alone.
+/// What is to be done with a folder, so that it has the register, the configuration of each of its groups that isn't
+/// foreign, and a manifest of these. `foreign` has the names of the groups whose servers others run. The configurations
+/// are written in the order of prefixes, so that the order of the register's rows doesn't matter. A file that has these
+/// bytes already is left alone.
 ///
-/// A configuration that the last manifest lists, of a group that the register lacks, is gone. It is removed if that is
+/// A configuration that the last manifest lists, of a group that the register lacks or that is foreign, is gone. It is removed if that is
 /// asked for; otherwise it is left, and the new manifest lists it too. One whose SHA-256 isn't the listed one was
 /// altered: it is left in any case, and the new manifest keeps its line. No other file is named. Nothing is touched.
 ///
@@ -43,14 +48,16 @@ pub fn plan_for<F: Folder>(
     alloc: Global,
     accepted: &Accepted,
     register: &[u8],
+    foreign: &BTreeSet<Name>,
     removes: bool,
     folder: &mut F,
 ) -> Result<Plan, PublishFault<F::Fault>>
     ensures { (s : Contents) → F.holds folder.old s → F.holds folder.new s
-        × IfOk result (IsPlan accepted.now register.now removes s.files) }
+        × IfOk result (IsPlan (λ name. contains (slice_cmp nat_cmp) foreign.now name) accepted.now register.now removes
+        s.files) }
 {
-    let wanted = wanted_files(alloc, accepted, register)?;
-    let gone = gone_files(alloc, accepted, folder)?;
+    let wanted = wanted_files(alloc, accepted, register, foreign)?;
+    let gone = gone_files(alloc, accepted, foreign, folder)?;
     let manifest = manifest_file(alloc, &wanted, left(removes, &gone.files), &gone.altered)?;
     let mut draft = Draft {
         steps: Vec::new(alloc),

@@ -1,6 +1,9 @@
 //! A plan is carried out, file by file.
 
 ghost use Rattle.std.specs.Prelude.{◌≡◌, MatchResult, OnOk};
+ghost use Rattle.std.specs.BTreeSet.{contains};
+ghost use Rattle.std.specs.Cmp.Lexicographic.{slice_cmp};
+ghost use Rattle.std.specs.Ordering.{nat_cmp};
 ghost use Rattle.ddt_check.specs.Rules.{IsAccepted};
 ghost use Rattle.ddt_folder.specs.Contents.{Contents, IsAsBefore};
 ghost use Rattle.ddt_folder.specs.Steps.{name_of, replaced, taken};
@@ -12,10 +15,12 @@ use crate::folder::Folder;
 use crate::plan::{Plan, plan_for};
 use crate::step::{NamedFile, Step};
 use ddt_check::Accepted;
+use ddt_path::Name;
 use std::alloc::Global;
+use std::collections::BTreeSet;
 
-/// Makes a folder have a register, the configuration of each of its groups, and a manifest of these, as `plan_for`
-/// plans it; and gives what was done.
+/// Makes a folder have a register, the configuration of each of its groups that isn't foreign, and a manifest of these,
+/// as `plan_for` plans it; and gives what was done.
 ///
 /// Refused as Memory if out of memory, and then nothing was touched; as Failed where the folder fails at a file. Then
 /// each file is the old one or the new one: a front of the plan was carried out. Done once more, the rest is.
@@ -23,15 +28,18 @@ pub fn publish<F: Folder>(
     alloc: Global,
     accepted: &Accepted,
     register: &[u8],
+    foreign: &BTreeSet<Name>,
     removes: bool,
     folder: &mut F,
 ) -> Result<Plan, PublishFault<F::Fault>>
     ensures exact { (s : Contents) → F.holds folder.old s
-        → HasPublished F.holds accepted.now register.now removes s result folder.new }
+        → HasPublished F.holds (λ name. contains (slice_cmp nat_cmp) foreign.now name) accepted.now register.now removes
+        s result folder.new }
     ensures published { (s : Contents) → F.holds folder.old s → IsAccepted accepted.now → OnOk result
-        ((t : Contents) × F.holds folder.new t × IsPublished accepted.now register.now removes s t) }
+        ((t : Contents) × F.holds folder.new t × IsPublished (λ name. contains (slice_cmp nat_cmp) foreign.now name)
+        accepted.now register.now removes s t) }
 {
-    let plan = plan_for(alloc, accepted, register, removes, folder)?;
+    let plan = plan_for(alloc, accepted, register, foreign, removes, folder)?;
     carry_out(folder, plan.steps.as_slice())?;
     Ok(plan)
 }

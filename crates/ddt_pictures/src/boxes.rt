@@ -1,11 +1,13 @@
 //! The boxes of a delegation tree: a box for the zones that one box delegates to one server group.
 
+use crate::differences::{Differences, ZoneDifference, ZoneDifferences};
+use crate::shown::shown_zones;
 use crate::strip::Strip;
 use ddt_check::Accepted;
-use ddt_path::{Name, Prefix, Role, longest_match};
+use ddt_path::{Locator, Name, Prefix, Role, Xeid, longest_match};
 use ddt_register::{Register, Site, Zone};
 use std::alloc::{AllocError, Global};
-use std::collections::BTreeMap;
+use std::collections::{BTreeMap, BTreeSet};
 
 /// How many zones, registered sites and other sites there are.
 #[derive(Clone, Copy, Debug, Default, PartialEq, Eq)]
@@ -31,6 +33,34 @@ impl Tally {
     }
 }
 
+/// How what a box has differs from another register.
+#[derive(Clone, Copy, Debug, Default, PartialEq, Eq)]
+pub(crate) struct Changes {
+    /// How many of its zones the other register lacks.
+    pub missing: usize,
+    /// How many another group serves there.
+    pub moved: usize,
+    /// The group that serves the last of those there.
+    pub other_group: Option<Name>,
+    /// Whether the group has other locators there.
+    pub has_other_locators: bool,
+    /// How many sites differ, of this register or of the other one.
+    pub sites: usize,
+}
+
+impl Changes {
+    fn add_zone(&mut self, difference: ZoneDifference) {
+        match difference {
+            ZoneDifference::Missing => self.missing = self.missing.saturating_add(1),
+            ZoneDifference::Moved(group) => {
+                self.moved = self.moved.saturating_add(1);
+                self.other_group = Some(group);
+            }
+            ZoneDifference::Locators => self.has_other_locators = true,
+        }
+    }
+}
+
 /// The zones that one box delegates to one server group.
 #[derive(Clone, Copy, Debug)]
 pub struct GroupBox {
@@ -48,6 +78,28 @@ pub struct GroupBox {
     pub deeper: Tally,
     /// What is delegated or registered in the first zone.
     pub(crate) strip: Strip,
+    /// How its zones and the sites in them differ.
+    pub(crate) changes: Changes,
+}
+
+/// Which zones have boxes, and what the boxes note.
+#[derive(Drop)]
+pub(crate) struct View {
+    /// How deep a box may stand.
+    pub most: usize,
+    /// The prefixes of the zones that have boxes; None where all have that aren't too deep.
+    pub shown: Option<BTreeSet<Prefix>>,
+    /// How its zones differ from another register.
+    pub differing: ZoneDifferences,
+}
+
+impl View {
+    fn shows(&self, zone: &Zone) -> bool {
+        match &self.shown {
+            Some(shown) => shown.contains(&zone.prefix),
+            None => true,
+        }
+    }
 }
 
 /// A zone that may cover what comes next.
@@ -62,30 +114,49 @@ struct OpenZone {
 
 /// A zone or a site.
 #[derive(Clone, Copy)]
-enum Item<'a> {
+pub(crate) enum Item<'a> {
     Zone(&'a Zone),
     Site(&'a Site),
+    /// The prefix of a site that differs from another register, or is only there.
+    OtherSite(&'a Prefix),
 }
 
 impl Item<'_> {
-    fn prefix(self) -> Prefix {
+    pub(crate) fn prefix(self) -> Prefix {
         match self {
             Item::Zone(zone) => zone.prefix,
             Item::Site(site) => site.prefix,
+            Item::OtherSite(prefix) => *prefix,
+        }
+    }
+
+    /// Whether it is a zone that differs, or says that a site does.
+    pub(crate) fn differs(self, differing: &ZoneDifferences) -> bool {
+        match self {
+            Item::Zone(zone) => differing.contains_key(&zone.prefix),
+            Item::Site(_) => false,
+            Item::OtherSite(_) => true,
+        }
+    }
+
+    /// Its prefix, if it is a zone.
+    pub(crate) fn zone(self) -> Option<Prefix> {
+        match self {
+            Item::Zone(zone) => Some(zone.prefix),
+            Item::Site(_) | Item::OtherSite(_) => None,
         }
     }
 
     /// Items in this order stand behind all that covers them: by prefix, and a zone before a site of its prefix.
     fn order(self) -> (Prefix, bool) {
-        (self.prefix(), matches!(self, Item::Site(_)))
+        (self.prefix(), !matches!(self, Item::Zone(_)))
     }
 }
 
 /// The boxes so far.
 #[derive(Drop)]
 struct Growing {
-    /// How deep a box may stand.
-    most: usize,
+    view: View,
     boxes: Vec<GroupBox>,
     /// The place of each box, by that of its parent and by its group.
     places: BTreeMap<(usize, Name), usize>,
@@ -95,9 +166,9 @@ struct Growing {
 
 impl Growing {
     /// Nothing but a first zone.
-    fn from(alloc: Global, zone: &Zone, most: usize) -> Result<Growing, AllocError> {
+    fn from(alloc: Global, zone: &Zone, view: View) -> Result<Growing, AllocError> {
         let mut growing = Growing {
-            most,
+            view,
             boxes: Vec::new(alloc),
             places: BTreeMap::new(alloc),
             open: Vec::new(alloc),
@@ -122,6 +193,7 @@ impl Growing {
             here: Tally::default(),
             deeper: Tally::default(),
             strip: Strip::of(zone.prefix),
+            changes: Changes::default(),
         })?;
         Ok(())
     }
@@ -132,6 +204,9 @@ impl Growing {
                 counting.deeper.add_zone();
             } else {
                 counting.here.add_zone();
+                if let Some(difference) = self.view.differing.get(&zone.prefix) {
+                    counting.changes.add_zone(*difference);
+                }
             }
         }
         self.open.push(OpenZone {
@@ -170,7 +245,7 @@ impl Growing {
         let Some(parent) = self.boxes.get(outer.place).copied() else {
             return Ok(None);
         };
-        if outer.is_deep || parent.depth >= self.most {
+        if outer.is_deep || parent.depth >= self.view.most || !self.view.shows(zone) {
             return Ok(None);
         }
         let key = (outer.place, zone.group);
@@ -202,6 +277,15 @@ impl Growing {
         }
     }
 
+    /// Notes in the box of a zone that a site in it differs.
+    fn add_other_site(&mut self, outer: &OpenZone) {
+        if let Some(noting) = self.boxes.get_mut(outer.place)
+            && !outer.is_deep
+        {
+            noting.changes.sites = noting.changes.sites.saturating_add(1);
+        }
+    }
+
     fn add(&mut self, item: Item<'_>) -> Result<(), AllocError> {
         let Some(outer) = self.innermost(item.prefix()) else {
             return Ok(());
@@ -212,20 +296,26 @@ impl Growing {
                 self.add_site(&outer, site);
                 Ok(())
             }
+            Item::OtherSite(_) => {
+                self.add_other_site(&outer);
+                Ok(())
+            }
         }
     }
 }
 
-/// The zones strictly below a zone and the sites in it that a prefix covers, in their order.
+/// The zones strictly below a zone and the sites in it that a prefix covers, in their order, and sites that differ.
 fn items_in<'a>(
     alloc: Global,
     register: &'a Register,
     first: &Zone,
     under: Prefix,
+    others: &'a [Prefix],
 ) -> Result<Vec<Item<'a>>, AllocError> {
     let mut items = Vec::new(alloc);
     push_zones(&mut items, register, first, under)?;
     push_sites(&mut items, register, under)?;
+    push_others(&mut items, others)?;
     items.sort_by_key(|item| item.order())?;
     Ok(items)
 }
@@ -257,6 +347,13 @@ fn push_sites<'a>(
     Ok(())
 }
 
+fn push_others<'a>(items: &mut Vec<Item<'a>>, others: &'a [Prefix]) -> Result<(), AllocError> {
+    for site in others {
+        items.push(Item::OtherSite(site))?;
+    }
+    Ok(())
+}
+
 /// The boxes of the part of the delegation tree under a prefix. The first is that of the longest zone that covers the
 /// prefix. Each zone below it stands in the box that its group has beside it, or, where that would be more than so deep
 /// below the first, is counted in the box above. Fails only if out of memory.
@@ -266,13 +363,70 @@ pub fn boxes_under(
     under: Prefix,
     most: usize,
 ) -> Result<Vec<GroupBox>, AllocError> {
+    let view = View {
+        most,
+        shown: None,
+        differing: ZoneDifferences::new(alloc),
+    };
     let register = accepted.register();
     let Some(first) = longest_match(register.zones.as_slice(), under) else {
         return Ok(Vec::new(alloc));
     };
-    let mut growing = Growing::from(alloc, first, most)?;
-    for item in items_in(alloc, register, first, under)? {
-        growing.add(item)?;
+    let items = items_in(alloc, register, first, under, &[])?;
+    boxes_of(alloc, first, &items, view)
+}
+
+/// The boxes of a zone and of the items below it.
+fn boxes_of(
+    alloc: Global,
+    first: &Zone,
+    items: &[Item<'_>],
+    view: View,
+) -> Result<Vec<GroupBox>, AllocError> {
+    let mut growing = Growing::from(alloc, first, view)?;
+    for item in items {
+        growing.add(*item)?;
     }
     Ok(growing.boxes)
+}
+
+/// The boxes of a whole tree in which differences are noted. Where the register has more than so many zones, only those
+/// have boxes that differ or have sites that do, and those above them, and no more than that many; the others are
+/// counted in the boxes above. Fails only if out of memory.
+pub(crate) fn boxes_with(
+    alloc: Global,
+    accepted: &Accepted,
+    differences: Differences,
+    most_zones: usize,
+) -> Result<Vec<GroupBox>, AllocError> {
+    let register = accepted.register();
+    let zones = register.zones.as_slice();
+    let Some(first) = longest_match(zones, everything()) else {
+        return Ok(Vec::new(alloc));
+    };
+    let Differences {
+        zones: differing,
+        sites,
+    } = differences;
+    let items = items_in(alloc, register, first, everything(), &sites)?;
+    let shown = if zones.len() > most_zones {
+        Some(shown_zones(alloc, &items, &differing, most_zones)?)
+    } else {
+        None
+    };
+    let view = View {
+        most: usize::MAX,
+        shown,
+        differing,
+    };
+    boxes_of(alloc, first, &items, view)
+}
+
+/// The prefix of everything.
+fn everything() -> Prefix {
+    let any = Xeid {
+        iid: 0,
+        address: Locator::V4(0),
+    };
+    Prefix::cut(any, 0)
 }

@@ -96,6 +96,21 @@ pub(crate) fn push_box(
     svg.extend_from_slice(colours.as_bytes())
 }
 
+/// Appends a thick frame around a rectangle.
+pub(crate) fn push_frame(
+    svg: &mut Vec<u8>,
+    at: Point,
+    size: Size,
+    colour: &str,
+) -> Result<(), AllocError> {
+    let (x, y, width, height) = (at.x, at.y, size.width, size.height);
+    let alloc = *svg.allocator();
+    let place = format!(in alloc; "<rect x='{x}' y='{y}' width='{width}' height='{height}'")?;
+    svg.extend_from_slice(place.as_bytes())?;
+    let rest = format!(in alloc; " fill='none' stroke='{colour}' stroke-width='4'/>\n")?;
+    svg.extend_from_slice(rest.as_bytes())
+}
+
 /// Appends a line from one place to another.
 pub(crate) fn push_line(
     svg: &mut Vec<u8>,

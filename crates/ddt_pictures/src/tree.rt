@@ -121,7 +121,7 @@ fn push_edge(
 }
 
 /// Appends the edges to all boxes but the first.
-fn push_edges(
+pub(crate) fn push_edges(
     svg: &mut Vec<u8>,
     cards: &[Card],
     tops: &[Point],
@@ -138,7 +138,7 @@ fn push_edges(
 }
 
 /// Appends all boxes.
-fn push_cards(
+pub(crate) fn push_cards(
     svg: &mut Vec<u8>,
     cards: &[Card],
     tops: &[Point],

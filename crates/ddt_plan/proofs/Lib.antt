@@ -8,7 +8,10 @@ pub mod ReadOffLemmas
 pub mod SameLemmas
 pub mod OrderLemmas
 pub mod SideLemmas
+pub mod AgreeLemmas
 pub mod SliceLemmas
 pub mod SinkLemmas
 pub mod VersionLemmas
 pub mod WalkLemmas
+pub mod TableLemmas
+pub mod JumpLemmas

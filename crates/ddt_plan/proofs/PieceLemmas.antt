@@ -50,7 +50,7 @@ ordered_both (p ∷ xs) ys a b h =
     ∙ and_from (list_all (stands_before p) xs) (list_all (stands_before p) ys) s.0 (all_of (stands_before p) ys (h p (inl refl))))
     (ordered_both xs ys s.1 b (λ r k. h r (inr k)))
 
-halves_apart : (q : List ℕ) → digit_of 32 false q < digit_of 32 true q
+pub halves_apart : (q : List ℕ) → digit_of 32 false q < digit_of 32 true q
 halves_apart q = elim (length q == 32) as (λ b. cond b (family_bit false) (bit false) < cond b (family_bit true) (bit true)) [ true ↦ omega arith | false ↦ omega arith ]
 
 -- ---- pieces

@@ -31,7 +31,7 @@ use Rattle.ddt_plan.specs.Fast.{delegation_of, delegation_at, state_of, state_at
 use Rattle.ddt_plan.proofs.AlikeLemmas.{zone_alike, site_alike}
 use Rattle.ddt_plan.proofs.NegativeLemmas.{negative_is_block}
 
-front_among : (f r p : List ℕ) → IsIn p (lengthened f r) → covers p (f ++ r) ≡ true
+pub front_among : (f r p : List ℕ) → IsIn p (lengthened f r) → covers p (f ++ r) ≡ true
 front_among f [] p (inl same) = ap (λ (l : List ℕ). covers l (f ++ [])) same ∙ covers-append f []
 front_among f [] p (inr later) = absurd later
 front_among f (d ∷ r) p (inl same) = ap (λ (l : List ℕ). covers l (f ++ d ∷ r)) same ∙ covers-append f (d ∷ r)

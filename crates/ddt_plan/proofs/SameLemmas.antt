@@ -3,6 +3,8 @@ use Rattle.std.proofs.Common.{◌≡◌, ℕ, true, List, [], ◌∷◌, refl, a
 use Rattle.std.specs.Prelude.{◌↔◌, IsTrue}
 use Rattle.std.proofs.lemmas.Bool.{and_parts, and_from, false≢true}
 use Rattle.ddt_path.specs.declared.locator.Locator.{Locator}
+use Rattle.ddt_path.specs.declared.record.Role.{Role}
+use Rattle.ddt_path.specs.declared.record.Role.TheVariants.{Node, Ms}
 use Rattle.ddt_path.specs.declared.record.Outcome.{Outcome}
 use Rattle.ddt_path.specs.declared.record.Outcome.TheVariants.{Registered, NotRegistered, Hole}
 use Rattle.ddt_path.specs.Covers.{is_same_path}
@@ -10,10 +12,13 @@ use Rattle.ddt_path.specs.Locators.{is_same_locator}
 use Rattle.ddt_path.specs.Records.{record_of}
 use Rattle.ddt_path.specs.laws.Cover.{same_path, path_itself}
 use Rattle.ddt_path.specs.laws.Locator.{same_locator, is_same_locator_self}
-use Rattle.ddt_plan.specs.declared.outcomes.Reading.TheVariants.{Exact}
+use Rattle.ddt_check.specs.Zones.{is_same_role}
+use Rattle.ddt_plan.specs.declared.sides.Delegation.{Delegation}
+use Rattle.ddt_plan.specs.declared.outcomes.Reading.{Reading}
+use Rattle.ddt_plan.specs.declared.outcomes.Reading.TheVariants.{Exact, Service}
 use Rattle.ddt_plan.specs.Changes.{are_same_servers, is_same_service, is_same_outcome}
 
-same_servers : (s t : List Locator) → are_same_servers s t ≡ true → s ≡ t
+pub same_servers : (s t : List Locator) → are_same_servers s t ≡ true → s ≡ t
 same_servers [] [] e = refl
 same_servers [] (l ∷ t) e = absurd (false≢true e)
 same_servers (k ∷ s) [] e = absurd (false≢true e)
@@ -21,7 +26,7 @@ same_servers (k ∷ s) (l ∷ t) e =
     let p = and_parts (is_same_locator k l) (are_same_servers s t) e in
     ap (λ (m : Locator). m ∷ s) (same_locator k l p.0) ∙ ap (λ (u : List Locator). l ∷ u) (same_servers s t p.1)
 
-servers_themselves : (s : List Locator) → are_same_servers s s ≡ true
+pub servers_themselves : (s : List Locator) → are_same_servers s s ≡ true
 servers_themselves [] = refl
 servers_themselves (k ∷ s) = and_from (is_same_locator k k) (are_same_servers s s) (is_same_locator_self k) (servers_themselves s)
 
@@ -52,3 +57,36 @@ itself o p e = subst (λ (w : Outcome). is_same_outcome Exact o w ≡ true) e
 
 pub exact_is_equal : (o p : Outcome) → IsTrue (is_same_outcome Exact o p) ↔ (o ≡ p)
 exact_is_equal o p = (exactly o p, itself o p)
+
+-- one value is one outcome by either reading
+pub same_outcome_itself : (reading : Reading) (o p : Outcome) → o ≡ p → is_same_outcome reading o p ≡ true
+same_outcome_itself Exact o p e = itself o p e
+same_outcome_itself Service o p e = subst (λ (w : Outcome). is_same_service o w ≡ true) e (outcome_itself o)
+
+-- ---- zones
+
+same_role : (a b : Role) → is_same_role a b ≡ true → a ≡ b
+same_role Node Node e = refl
+same_role Ms Ms e = refl
+same_role Node Ms e = absurd (false≢true e)
+same_role Ms Node e = absurd (false≢true e)
+
+role_itself : (a : Role) → is_same_role a a ≡ true
+role_itself Node = refl
+role_itself Ms = refl
+
+-- two zones whose prefixes, kinds and servers pass for the same are one
+pub same_delegation : (a b : Delegation) → is_same_path a.prefix b.prefix ≡ true → is_same_role a.role b.role ≡ true → are_same_servers a.servers b.servers ≡ true → a ≡ b
+same_delegation a b e f g =
+    let made : List ℕ → Role → List Locator → Delegation = λ p role servers. record { prefix = p; role = role; servers = servers } in
+    ap (λ (p : List ℕ). made p a.role a.servers) (same_path a.prefix b.prefix e)
+    ∙ ap (λ (role : Role). made b.prefix role a.servers) (same_role a.role b.role f)
+    ∙ ap (made b.prefix b.role) (same_servers a.servers b.servers g)
+
+pub delegation_itself : (a b : Delegation) → a ≡ b
+    → (is_same_path a.prefix b.prefix ≡ true) × (is_same_role a.role b.role ≡ true) × (are_same_servers a.servers b.servers ≡ true)
+delegation_itself a b e = (
+  path_itself a.prefix b.prefix (ap (λ (z : Delegation). z.prefix) e),
+  subst (λ (z : Delegation). is_same_role a.role z.role ≡ true) e (role_itself a.role),
+  subst (λ (z : Delegation). are_same_servers a.servers z.servers ≡ true) e (servers_themselves a.servers),
+)

@@ -1,8 +1,8 @@
 -- What one register says at a prefix, carried down to its halves.
-use Rattle.std.proofs.Common.{◌≡◌, ◌⊎◌, ℕ, ◌<◌, Bool, true, false, cond, not, ◌==◌, List, [], ◌∷◌, ◌++◌, length, map, take, ◌-◌, find, IsPermutation, Option, Some, None, refl, sym, ap, subst, ◌∙◌, arith, inl, inr}
+use Rattle.std.proofs.Common.{◌≡◌, ◌⊎◌, ℕ, ◌<◌, Bool, true, false, not, ◌==◌, List, [], ◌∷◌, ◌++◌, length, map, take, ◌-◌, find, IsPermutation, Option, Some, None, refl, sym, ap, subst, ◌∙◌, arith, inl, inr}
 use Rattle.std.specs.List.{filter}
 use Rattle.std.specs.Option.{option_or}
-use Rattle.std.proofs.lemmas.Bool.{cases_lt, both_ways, eqb-true, eq-eqb, false_from_ne_true, not-true, not_from_false, cond-false, and_from}
+use Rattle.std.proofs.lemmas.Bool.{cases_lt, both_ways, eqb-true, eq-eqb, false_from_ne_true, not-true, not_from_false, and_from}
 use Rattle.std.proofs.lemmas.Option.{same_Some}
 use Rattle.std.proofs.lemmas.List.{map-append}
 use Rattle.std.proofs.lemmas.List.Elements.{filter-append}
@@ -14,10 +14,10 @@ use Rattle.ddt_path.specs.declared.matches.Preference.TheVariants.{Longest}
 use Rattle.ddt_path.specs.Covers.{covers, is_same_path, is_strictly_below}
 use Rattle.ddt_path.specs.Matching.{longest_match}
 use Rattle.ddt_path.specs.Path.{xeid_path}
-use Rattle.ddt_path.specs.laws.Cover.{covers_self, covers_trans, covers-append, covered_same, length-covered, same_path, path_itself, below_wider, front_covered}
+use Rattle.ddt_path.specs.laws.Cover.{covers_self, covers_trans, covers-append, covered_same, length-covered, same_path, path_itself, below_is, below_wider, front_covered}
 use Rattle.ddt_path.specs.laws.Front.{front_below, front_covers, one_front}
 use Rattle.ddt_path.specs.laws.Matching.{best_is, best_none, best_there, best_member, best_unbeaten}
-use Rattle.ddt_path.specs.laws.Member.{IsIn, all_of, holds_at, in_map, map_in, some_passes, unfound, found_in, found_passes, moved_in}
+use Rattle.ddt_path.specs.laws.Member.{IsIn, all_of, holds_at, in_map, map_in, some_passes, unfound, found_in, found_none, found_passes, iff_same, moved_in}
 use Rattle.ddt_path.specs.laws.Filter.{filter_in}
 use Rattle.ddt_path.specs.laws.PathTest.{is_path-xeid_path}
 use Rattle.ddt_register.specs.declared.register.Register.{Register}
@@ -36,7 +36,8 @@ use Rattle.ddt_plan.specs.declared.outcomes.Reading.{Reading}
 use Rattle.ddt_plan.specs.declared.change_list.Change.{Change}
 use Rattle.ddt_plan.specs.Changes.{block_at, change_at, changes_at, is_apart}
 use Rattle.ddt_plan.specs.declared.block_list.Block.{Block}
-use Rattle.ddt_plan.specs.Fast.{delegation_of, delegations_of, delegation_at, delegations_below, state_of, states_of, state_at, states_below, outcome_from, AreBelow, IsSettled, IsDivision, IsSide, AreSides, outcomes_settled, both_settled}
+use Rattle.ddt_plan.specs.Fast.{delegation_of, delegations_of, delegation_at, delegations_below, state_of, states_of, state_at, states_below, outcome_from, AreBelow, IsSettled, IsDivision, IsSide, outcomes_settled, both_settled}
+use Rattle.ddt_plan.specs.Differing.{AreSides, IsNext}
 use Rattle.ddt_plan.proofs.AlikeLemmas.{in_first, in_second, best_match-alike, assigned_as_block}
 use Rattle.ddt_plan.proofs.HalfLemmas.{length-half}
 use Rattle.ddt_plan.proofs.ListingLemmas.{undivided_parts}
@@ -47,10 +48,12 @@ use Rattle.ddt_plan.proofs.SliceLemmas.{nothing_case, below_kept}
 
 -- ---- the best match of a half
 
-half_below : (upper : Bool) (q : List ℕ) → is_strictly_below (half upper q) q ≡ true
-half_below upper q =
+pub half_below : (upper : Bool) (whole h : List ℕ) → h ≡ half upper whole → is_strictly_below h whole ≡ true
+half_below upper q h e =
     let c = covers-append q (next_digit 32 upper q ∷ []) in
-    front_below q (half upper q) (half upper q) c (covers_self (half upper q)) (let n = length-half upper q in omega arith)
+    subst (λ (l : List ℕ). is_strictly_below l q ≡ true) (sym e)
+    (front_below q (half upper q) (half upper q) c (covers_self (half upper q))
+    (let n = length-half upper q in omega arith))
 
 module _ {A : Type 0} (prefix : A → List ℕ) (items : List A) (one : (a b : A) → IsIn a items → IsIn b items → prefix a ≡ prefix b → a ≡ b) where
   abbrev at : List ℕ → A → Bool
@@ -66,33 +69,6 @@ module _ {A : Type 0} (prefix : A → List ℕ) (items : List A) (one : (a b : A
         | inl shorter ↦ inr shorter
         | inr ge ↦ inl (one b a j k (one_front (prefix b) (prefix a) h d c (let le = length-covered (prefix b) h d in let n : length (prefix a) ≡ length h = ap (λ (l : List ℕ). length l) same in omega arith)))
       ])
-
-  -- where there is none, the half has the best match of the whole
-  not_here : (upper : Bool) (q : List ℕ) → find (at (half upper q)) items ≡ None → longest_match prefix items (half upper q) ≡ longest_match prefix items q
-  not_here upper q none =
-      let h = half upper q in
-      let c = covers-append q (next_digit 32 upper q ∷ []) in
-      best_match-alike Longest prefix items h q (λ a k. same_cover a k h c)
-    where
-      same_cover : (a : A) → IsIn a items → (h : List ℕ) → covers q (half upper q) ≡ true → covers (prefix a) (half upper q) ≡ covers (prefix a) q
-      same_cover a k h c = iff_cover (covers (prefix a) (half upper q)) (covers (prefix a) q)
-          (λ d. elim (cases_lt (length q) (length (prefix a))) [
-            | inl lt ↦
-                let n = length-half upper q in
-                let same : prefix a ≡ half upper q = covered_same (prefix a) (half upper q) d (omega (arith, lt, n)) in
-                absurd (both_ways (at (half upper q) a) (unfound (at (half upper q)) items a none k) (path_itself (prefix a) (half upper q) same))
-            | inr le ↦ front_covers (prefix a) q (half upper q) d c le
-          ])
-          (λ d. covers_trans (prefix a) q (half upper q) d c)
-        where
-          iff_cover : (x y : Bool) → (x ≡ true → y ≡ true) → (y ≡ true → x ≡ true) → x ≡ y
-          iff_cover true y f g = sym (f refl)
-          iff_cover false true f g = g refl
-          iff_cover false false f g = refl
-
-  half_case : (upper : Bool) (q : List ℕ) (found : Option A) → find (at (half upper q)) items ≡ found → longest_match prefix items (half upper q) ≡ option_or found (longest_match prefix items q)
-  half_case upper q None e = not_here upper q e
-  half_case upper q (Some a) e = found_here (half upper q) a e
 
   -- what is found among items that have all of a prefix is found among all
   same_found : (h : List ℕ) (kept : List A) → ((a : A) → IsIn a kept → IsIn a items)
@@ -110,18 +86,38 @@ module _ {A : Type 0} (prefix : A → List ℕ) (items : List A) (one : (a b : A
       (same_path (prefix a) h (found_passes (at h) kept a e)
       ∙ sym (same_path (prefix b) h (found_passes (at h) items b f))))
 
-  pub best_at_half : (upper : Bool) (q : List ℕ) (kept : List A) (above : Option A) → AreBelow prefix items q kept
-      → above ≡ longest_match prefix items q
-      → option_or (find (λ a. is_same_path (prefix a) (half upper q)) kept) above
-      ≡ longest_match prefix items (half upper q)
-  best_at_half upper q kept above are f =
-      let h = half upper q in
-      let found : find (at h) kept ≡ find (at h) items = same_found h kept (λ a k. (are.from a k).0)
-      (λ a k s. are.all a k (subst (λ (l : List ℕ). is_strictly_below l q ≡ true)
-      (sym (same_path (prefix a) h s)) (half_below upper q))) (find (at h) kept) (find (at h) items) refl refl in
-      ap (λ (o : Option A). option_or o above) found
-      ∙ ap (option_or (find (at h) items)) f
-      ∙ sym (half_case upper q (find (at h) items) refl)
+  -- a prefix strictly below q, with no item between the two
+  module _ (q h : List ℕ) (below : is_strictly_below h q ≡ true)
+      (near : (a : A) → IsIn a items → covers (prefix a) h ≡ true → length q < length (prefix a) → prefix a ≡ h) where
+    same_cover : find (at h) items ≡ None → (a : A) → IsIn a items → covers (prefix a) h ≡ covers (prefix a) q
+    same_cover none a k =
+        let c = (below_is h q below).0 in
+        iff_same (covers (prefix a) h) (covers (prefix a) q)
+        (λ d. elim (cases_lt (length q) (length (prefix a))) [
+          | inl lt ↦ absurd (both_ways (at h a) (unfound (at h) items a none k) (path_itself (prefix a) h (near a k d lt)))
+          | inr le ↦ front_covers (prefix a) q h d c le
+        ])
+        (λ d. covers_trans (prefix a) q h d c)
+
+    -- where no item has it, it has the best match of q
+    pub not_here : find (at h) items ≡ None → longest_match prefix items h ≡ longest_match prefix items q
+    not_here none = best_match-alike Longest prefix items h q (same_cover none)
+
+    found_case : (found : Option A) → find (at h) items ≡ found
+        → longest_match prefix items h ≡ option_or found (longest_match prefix items q)
+    found_case None e = not_here e
+    found_case (Some a) e = found_here h a e
+
+    pub best_at : (kept : List A) (above : Option A) → AreBelow prefix items q kept
+        → above ≡ longest_match prefix items q
+        → option_or (find (λ a. is_same_path (prefix a) h) kept) above ≡ longest_match prefix items h
+    best_at kept above are f =
+        let found : find (at h) kept ≡ find (at h) items = same_found h kept (λ a k. (are.from a k).0)
+        (λ a k s. are.all a k (subst (λ (l : List ℕ). is_strictly_below l q ≡ true)
+        (sym (same_path (prefix a) h s)) below)) (find (at h) kept) (find (at h) items) refl refl in
+        ap (λ (o : Option A). option_or o above) found
+        ∙ ap (option_or (find (at h) items)) f
+        ∙ sym (found_case (find (at h) items) refl)
 
   -- in another order the best match is the same
   moved_case : (xs : List A) → IsPermutation items xs → (q : List ℕ) (found : Option A)
@@ -166,27 +162,14 @@ module _ (r : Register) (accepted : IsAccepted r) where
       let e : s.0.prefix ≡ t.0.prefix = sym (ap state_prefix s.2) ∙ same ∙ ap state_prefix t.2 in
       s.2 ∙ ap state_of (one_site r accepted s.0 t.0 s.1 t.1 e) ∙ sym t.2
 
-  pub delegation_at_half : (upper : Bool) (q : List ℕ) (kept : List Delegation) (above : Option Delegation)
-      → AreBelow delegation_prefix (delegations_of r) q kept → above ≡ delegation_at r q
-      → option_or (find (λ z. is_same_path z.prefix (half upper q)) kept) above ≡ delegation_at r (half upper q)
-  delegation_at_half = best_at_half delegation_prefix (delegations_of r) one_delegation
-
-  pub state_at_half : (upper : Bool) (q : List ℕ) (kept : List SiteState) (above : Option SiteState)
-      → AreBelow state_prefix (states_of r) q kept → above ≡ state_at r q
-      → option_or (find (λ m. is_same_path m.prefix (half upper q)) kept) above ≡ state_at r (half upper q)
-  state_at_half = best_at_half state_prefix (states_of r) one_state
-
 module _ (r : Register) where
-  further : (upper : Bool) (q p : List ℕ) → is_strictly_below p (half upper q) ≡ true → is_strictly_below p q ≡ true
-  further upper q p below = below_wider p (half upper q) q (covers-append q (next_digit 32 upper q ∷ [])) below
-
   -- ---- which keys are strictly below
 
   none_kept : {A : Type 0} (prefix : A → List ℕ) (q : List ℕ) (items : List A) → filter (λ a. is_strictly_below (prefix a) q) items ≡ [] → (a : A) → IsIn a items → is_strictly_below (prefix a) q ≡ false
   none_kept prefix q items e a k = false_from_ne_true (is_strictly_below (prefix a) q) (λ below.
       absurd (subst (IsIn a) e (filter_in (λ a. is_strictly_below (prefix a) q) items a k below)))
 
-  in_keys : (k : List ℕ) → IsIn k (keys_of r) → ((z : Delegation) × IsIn z (delegations_of r) × (k ≡ z.prefix)) ⊎ ((m : SiteState) × IsIn m (states_of r) × (k ≡ m.prefix))
+  pub in_keys : (k : List ℕ) → IsIn k (keys_of r) → ((z : Delegation) × IsIn z (delegations_of r) × (k ≡ z.prefix)) ⊎ ((m : SiteState) × IsIn m (states_of r) × (k ≡ m.prefix))
   in_keys k j = elim (either (map zone_prefix r.zones) (map site_prefix r.sites) k j) [
     | inl a ↦ let z = in_map zone_prefix r.zones k a in inl (delegation_of r z.0, map_in (delegation_of r) r.zones z.0 z.1, z.2)
     | inr b ↦ let s = in_map site_prefix r.sites k b in inr (state_of s.0, map_in state_of r.sites s.0 s.1, s.2)
@@ -204,7 +187,7 @@ module _ (r : Register) where
   ]))
 
   -- an undivided prefix has nothing strictly below it
-  not_below : (q : List ℕ) → is_undivided (keys_of r) q ≡ true → (k : List ℕ) → IsIn k (keys_of r) → is_strictly_below k q ≡ false
+  pub not_below : (q : List ℕ) → is_undivided (keys_of r) q ≡ true → (k : List ℕ) → IsIn k (keys_of r) → is_strictly_below k q ≡ false
   not_below q e k j = not-true (is_strictly_below k q) (holds_at (λ (k : List ℕ). not (is_strictly_below k q)) (keys_of r) k e j)
 
   pub nothing_below : (q : List ℕ) → is_undivided (keys_of r) q ≡ true → (delegations_below r q ≡ []) × (states_below r q ≡ [])
@@ -262,43 +245,83 @@ empty_is (x ∷ xs) e = absurd (let n : length (x ∷ xs) ≡ 0 = eqb-true (leng
 pub is_empty : {A : Type 0} (xs : List A) → xs ≡ [] → (length xs == 0) ≡ true
 is_empty xs e = eq-eqb (length xs) 0 (ap (λ (ys : List _). length ys) e)
 
--- ---- as the code goes
+-- ---- a prefix strictly below q, with no key between the two
 
-module _ (r : Register) (accepted : IsAccepted r) (upper : Bool) (whole h : List ℕ) (e : h ≡ half upper whole) where
+module _ (r : Register) (accepted : IsAccepted r) (q h : List ℕ) (below : is_strictly_below h q ≡ true)
+    (near : (k : List ℕ) → IsIn k (keys_of r) → covers k h ≡ true → length q < length k → k ≡ h) where
+  zone_key : (z : Delegation) → IsIn z (delegations_of r) → IsIn z.prefix (keys_of r)
+  zone_key z k =
+      let s = in_map (delegation_of r) r.zones z k in
+      subst (λ (l : List ℕ). IsIn l (keys_of r)) (sym (ap delegation_prefix s.2))
+      (in_first (map zone_prefix r.zones) (map site_prefix r.sites) s.0.prefix (map_in zone_prefix r.zones s.0 s.1))
+
+  site_key : (m : SiteState) → IsIn m (states_of r) → IsIn m.prefix (keys_of r)
+  site_key m k =
+      let s = in_map state_of r.sites m k in
+      subst (λ (l : List ℕ). IsIn l (keys_of r)) (sym (ap state_prefix s.2))
+      (in_second (map zone_prefix r.zones) (map site_prefix r.sites) s.0.prefix (map_in site_prefix r.sites s.0 s.1))
+
+  zone_near : (z : Delegation) → IsIn z (delegations_of r) → covers z.prefix h ≡ true
+      → length q < length z.prefix → z.prefix ≡ h
+  zone_near z k = near z.prefix (zone_key z k)
+
+  site_near : (m : SiteState) → IsIn m (states_of r) → covers m.prefix h ≡ true
+      → length q < length m.prefix → m.prefix ≡ h
+  site_near m k = near m.prefix (site_key m k)
+
   pub zone_goes : (kept : List Delegation) (above result : Option Delegation)
-      → AreBelow delegation_prefix (delegations_of r) whole kept → above ≡ delegation_at r whole
+      → AreBelow delegation_prefix (delegations_of r) q kept → above ≡ delegation_at r q
       → result ≡ option_or (find (λ z. is_same_path z.prefix h) kept) above → result ≡ delegation_at r h
   zone_goes kept above result f g answer =
-      answer ∙ ap (λ (l : List ℕ). option_or (find (λ (z : Delegation). is_same_path z.prefix l) kept) above) e
-      ∙ delegation_at_half r accepted upper whole kept above f g ∙ ap (delegation_at r) (sym e)
+      answer ∙ best_at delegation_prefix (delegations_of r) (one_delegation r accepted) q h below zone_near kept above f g
 
   pub site_goes : (kept : List SiteState) (above result : Option SiteState)
-      → AreBelow state_prefix (states_of r) whole kept → above ≡ state_at r whole
+      → AreBelow state_prefix (states_of r) q kept → above ≡ state_at r q
       → result ≡ option_or (find (λ s. is_same_path s.prefix h) kept) above → result ≡ state_at r h
   site_goes kept above result f g answer =
-      answer ∙ ap (λ (l : List ℕ). option_or (find (λ (s : SiteState). is_same_path s.prefix l) kept) above) e
-      ∙ state_at_half r accepted upper whole kept above f g ∙ ap (state_at r) (sym e)
+      answer ∙ best_at state_prefix (states_of r) (one_state r accepted) q h below site_near kept above f g
 
-module _ (r : Register) (upper : Bool) (whole h : List ℕ) (e : h ≡ half upper whole) where
-  narrower : (p : List ℕ) → is_strictly_below p h ≡ true → is_strictly_below p whole ≡ true
-  narrower p b = further r upper whole p (subst (λ (l : List ℕ). is_strictly_below p l ≡ true) e b)
+  -- where no key has it, it has the zone and the site of q
+  pub same_around : ((k : List ℕ) → IsIn k (keys_of r) → k ≡ h → ⊥)
+      → (delegation_at r h ≡ delegation_at r q) × (state_at r h ≡ state_at r q)
+  same_around none = (
+    not_here delegation_prefix (delegations_of r) (one_delegation r accepted) q h below zone_near
+        (found_none (λ (z : Delegation). is_same_path z.prefix h) (delegations_of r) (λ z k.
+        false_from_ne_true (is_same_path z.prefix h) (λ e. none z.prefix (zone_key z k) (same_path z.prefix h e)))),
+    not_here state_prefix (states_of r) (one_state r accepted) q h below site_near
+        (found_none (λ (m : SiteState). is_same_path m.prefix h) (states_of r) (λ m k.
+        false_from_ne_true (is_same_path m.prefix h) (λ e. none m.prefix (site_key m k) (same_path m.prefix h e)))),
+  )
 
-  pub zones_go : (kept result : List Delegation) → AreBelow delegation_prefix (delegations_of r) whole kept
+module _ (r : Register) (q h : List ℕ) (below : is_strictly_below h q ≡ true) where
+  pub narrower : (p : List ℕ) → is_strictly_below p h ≡ true → is_strictly_below p q ≡ true
+  narrower p b = below_wider p h q (below_is h q below).0 b
+
+  pub zones_go : (kept result : List Delegation) → AreBelow delegation_prefix (delegations_of r) q kept
       → result ≡ filter (λ z. is_strictly_below z.prefix h) kept
       → AreBelow delegation_prefix (delegations_of r) h result
   zones_go kept result are answer =
       subst (AreBelow delegation_prefix (delegations_of r) h) (sym answer)
-      (below_kept delegation_prefix (delegations_of r) kept whole h are (λ z b. narrower z.prefix b))
+      (below_kept delegation_prefix (delegations_of r) kept q h are (λ z b. narrower z.prefix b))
 
-  pub sites_go : (kept result : List SiteState) → AreBelow state_prefix (states_of r) whole kept
+  pub sites_go : (kept result : List SiteState) → AreBelow state_prefix (states_of r) q kept
       → result ≡ filter (λ s. is_strictly_below s.prefix h) kept → AreBelow state_prefix (states_of r) h result
   sites_go kept result are answer =
       subst (AreBelow state_prefix (states_of r) h) (sym answer)
-      (below_kept state_prefix (states_of r) kept whole h are (λ s b. narrower s.prefix b))
+      (below_kept state_prefix (states_of r) kept q h are (λ s b. narrower s.prefix b))
 
-  pub fronts_go : is_undivided (keys_of r) whole ≡ false → (f : List ℕ) → covers f h ≡ true → length f < length h → is_undivided (keys_of r) f ≡ false
-  fronts_go divided f c lt =
-      fronts_divided r upper whole divided f (subst (λ (l : List ℕ). covers f l ≡ true) e c) (subst (λ (l : List ℕ). length f < length l) e lt)
+-- a half is next to the whole
+pub next_half : (r : Register) (upper : Bool) (whole h : List ℕ) → h ≡ half upper whole
+    → is_undivided (keys_of r) whole ≡ false → IsNext r whole h
+next_half r upper whole h e divided =
+    let n = length-half upper whole in
+    let m : length h ≡ length (half upper whole) = ap (λ (l : List ℕ). length l) e in
+    record {
+      below = half_below upper whole h e;
+      near = λ k j over lt. covered_same k h over (omega (arith, lt, n, m));
+      fronts = λ f over lt. fronts_divided r upper whole divided f (subst (λ (l : List ℕ). covers f l ≡ true) e over)
+          (subst (λ (l : List ℕ). length f < length l) e lt);
+    }
 
 -- what is settled of the whole is settled of each half
 pub settled_goes : (r : Register) (upper : Bool) (whole : List ℕ) (o : Outcome) → IsSettled r whole o → IsSettled r (half upper whole) o
@@ -328,10 +351,10 @@ one_block r q o is =
 
 -- ---- two registers
 
-both_undivided : (r s : Register) (q : List ℕ) → is_undivided (keys_of r) q ≡ true → is_undivided (keys_of s) q ≡ true → is_undivided (keys_of r ++ keys_of s) q ≡ true
+pub both_undivided : (r s : Register) (q : List ℕ) → is_undivided (keys_of r) q ≡ true → is_undivided (keys_of s) q ≡ true → is_undivided (keys_of r ++ keys_of s) q ≡ true
 both_undivided r s q e f = list_all-append _ (keys_of r) (keys_of s) ∙ and_from (is_undivided (keys_of r) q) (is_undivided (keys_of s) q) e f
 
-first_divided : (r s : Register) (q : List ℕ) → is_undivided (keys_of r) q ≡ false → is_undivided (keys_of r ++ keys_of s) q ≡ false
+pub first_divided : (r s : Register) (q : List ℕ) → is_undivided (keys_of r) q ≡ false → is_undivided (keys_of r ++ keys_of s) q ≡ false
 first_divided r s q e = false_from_ne_true (is_undivided (keys_of r ++ keys_of s) q) (λ f. both_ways (is_undivided (keys_of r) q) e (undivided_parts r s q f).0)
 
 second_divided : (r s : Register) (q : List ℕ) → is_undivided (keys_of s) q ≡ false → is_undivided (keys_of r ++ keys_of s) q ≡ false

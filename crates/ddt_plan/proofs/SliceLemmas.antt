@@ -1,5 +1,5 @@
 -- Items in the order of their prefixes: where the one of a prefix stands, and where all that is strictly below it.
-use Rattle.std.proofs.Common.{◌≡◌, ℕ, zero, suc, ◌+◌, ◌<◌, ◌≤◌, Bool, true, false, cond, not, List, [], ◌∷◌, length, take, drop, get_or, find, IsPermutation, Option, Some, None, inl, inr, refl, sym, ap, subst, ◌∙◌, arith}
+use Rattle.std.proofs.Common.{◌≡◌, ℕ, zero, suc, ◌+◌, ◌<◌, ◌≤◌, Bool, true, false, cond, not, List, [], ◌∷◌, length, take, drop, get_or, find, IsPermutation, Some, None, inl, inr, refl, sym, ap, subst, ◌∙◌, arith}
 use Rattle.std.specs.Prelude.{◌&&◌}
 use Rattle.std.specs.List.{filter}
 use Rattle.std.specs.List.Sorted.{IsPartitionedBy, IsPartitionPoint}
@@ -13,7 +13,7 @@ use Rattle.ddt_path.specs.Covers.{covers, is_same_path, is_strictly_below}
 use Rattle.ddt_path.specs.laws.Cover.{below_is, same_path-flips}
 use Rattle.ddt_path.specs.laws.Filter.{in_filter, filter_in, none_later}
 use Rattle.ddt_path.specs.laws.Member.{IsIn, contained, moved_in, found_none}
-use Rattle.ddt_path.specs.laws.PathOrder.{IsUpTo, covers-between, covers-back, le-is, le-from, up_to_trans, not_lt-from_not_le, not_below_itself, is_same_path-between, below_behind}
+use Rattle.ddt_path.specs.laws.PathOrder.{IsUpTo, covers-between, covers-back, covers-up_to, le-is, le-from, up_to_trans, not_lt-from_not_le, not_below_itself, is_same_path-between, below_behind}
 use Rattle.ddt_plan.specs.Fast.{AreInOrder, AreBelow}
 
 -- ---- lists
@@ -73,7 +73,7 @@ module _ {A : Type 0} (prefix : A → List ℕ) where
   none_left items (a ∷ kept) q are e =
       absurd (let p = are.from a (inl refl) in subst (IsIn a) e (filter_in (below q) items a p.0 p.1))
 
-  kept_in_order : (xs : List A) → AreInOrder prefix xs → (q : List ℕ) → AreInOrder prefix (filter (below q) xs)
+  pub kept_in_order : (xs : List A) → AreInOrder prefix xs → (q : List ℕ) → AreInOrder prefix (filter (below q) xs)
   kept_in_order xs sorted q =
       IsSortedBy-filter (λ x y. is_lt (slice_cmp nat_cmp (prefix x) (prefix y))) (ranks_by nat_list_cmp_total prefix)
       (below q) xs sorted
@@ -106,6 +106,25 @@ module _ {A : Type 0} (prefix : A → List ℕ) where
     far i j d le inside =
         sorted_far (λ x y. is_lt (slice_cmp nat_cmp (prefix x) (prefix y))) (ranks_by nat_list_cmp_total prefix) xs
         sorted i j d le inside
+
+    -- what covers the first item and the last one covers all
+    pub covers_all : (w v : A) (n : ℕ) → n < length xs → length xs ≤ n + 1 → w ≡ get_or xs 0 w → v ≡ get_or xs n v
+        → (p : List ℕ) → covers p (prefix w) ≡ true → covers p (prefix v) ≡ true
+        → (a : A) → IsIn a xs → covers p (prefix a) ≡ true
+    covers_all w v n inside end first last p low high a k =
+        let c = contained xs a k in
+        let within = c.1 in
+        let at_first : get_or xs 0 a ≡ w = get_or_default xs 0 a w (omega (arith, inside)) ∙ sym first in
+        let at_last : get_or xs n a ≡ v = get_or_default xs n a v inside ∙ sym last in
+        let up : IsUpTo (prefix w) (prefix a) =
+        subst (λ (y : A). IsUpTo (prefix y) (prefix a)) at_first
+        (subst (λ (y : A). IsUpTo (prefix (get_or xs 0 a)) (prefix y)) c.2 (far 0 c.0 a (omega arith) within)) in
+        let down : IsUpTo (prefix a) (prefix v) =
+        subst (λ (y : A). IsUpTo (prefix a) (prefix y)) at_last
+        (subst (λ (y : A). IsUpTo (prefix y) (prefix (get_or xs n a))) c.2
+        (far c.0 n a (omega (arith, within, end)) inside)) in
+        covers-between p (prefix a) (prefix v)
+        (up_to_trans p (prefix w) (prefix a) (covers-up_to p (prefix w) low) up) down high
 
     abbrev pub is_up_to : A → Bool
     is_up_to a = is_le (slice_cmp nat_cmp (prefix a) at)

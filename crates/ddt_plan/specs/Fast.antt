@@ -111,11 +111,6 @@ abbrev pub IsSide : Register → List ℕ → Side → Type 0
 IsSide r q (Settled outcome) = IsSettled r q outcome
 IsSide r q (Divided division) = IsDivision r q division
 
--- What two registers say at the same prefix: r, the earlier one, and s, the later one.
-pub record AreSides (r s : Register) (q : List ℕ) (sides : Sides) : Type 0 where
-  pub before : IsSide r q sides.before
-  pub after : IsSide s q sides.after
-
 -- The earlier outcome and the later one, where each register assigns the same to all of the prefix. There is none where
 -- either divides it, and then its two halves are looked at.
 abbrev pub outcomes_settled : Side → Side → Option (Outcome × Outcome)

@@ -1,9 +1,12 @@
 pub mod Sinks
 pub mod Blocks
 pub mod Fast
+pub mod Differing
 pub mod Changes
 pub mod Counts
 pub mod Laws
 pub mod Groups
+pub mod Items
+pub mod Tables
 pub mod Entries
 pub mod Versions

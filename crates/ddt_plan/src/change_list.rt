@@ -1,13 +1,15 @@
 //! What a change of a register changes.
 
-ghost use Rattle.std.specs.Prelude.{List, IfOk};
+ghost use Rattle.std.specs.Prelude.{List, ℕ, IfOk};
 ghost use Rattle.ddt_plan.specs.Changes.{AreChanges};
+ghost use Rattle.ddt_plan.specs.Differing.{AreDifferences};
 ghost use Rattle.ddt_plan.specs.Fast.{AreItemsOf};
 ghost use Rattle.ddt_plan.specs.Sinks.{HasGiven};
 ghost use Rattle.ddt_plan.specs.declared.change_list.Change.{Change as AChange};
 
+use crate::differences::differences;
 use crate::outcomes::Reading;
-use crate::sides::{Sides, SortedItems, side_at, sort_items};
+use crate::sides::{Sides, SortedItems, items_below, side_at, sort_items};
 use crate::sink::{PlanFault, Sink};
 use crate::walk::walk_both;
 use ddt_check::Accepted;
@@ -44,10 +46,11 @@ pub fn changes<S: Sink<Change>>(
         × HasGiven S.takes sink.old all result sink.new }
 {
     match sort_both(alloc, before, after) {
-        Ok((earlier, later)) => {
+        Ok((earlier, later, differing)) => {
             let sides = Sides {
                 before: side_at(before, &earlier, inside),
                 after: side_at(after, &later, inside),
+                differing: items_below(differing.as_slice(), inside),
             };
             walk_both(reading, before, after, inside, &sides, sink)
         }
@@ -55,15 +58,17 @@ pub fn changes<S: Sink<Change>>(
     }
 }
 
-/// The zones and the sites of two registers, in the order of their prefixes.
+/// The zones and the sites of two registers, in the order of their prefixes, and the prefixes at which they differ.
 fn sort_both(
     alloc: Global,
     before: &Accepted,
     after: &Accepted,
-) -> Result<(SortedItems, SortedItems), AllocError>
-    ensures { IfOk result (λ items. AreItemsOf before.now items.0 × AreItemsOf after.now items.1) }
+) -> Result<(SortedItems, SortedItems, Vec<Prefix>), AllocError>
+    ensures { IfOk result (λ items. AreItemsOf before.now items.0 × AreItemsOf after.now items.1
+        × ((q : List ℕ) → AreDifferences before.now after.now q items.2.items)) }
 {
     let earlier = sort_items(alloc, before)?;
     let later = sort_items(alloc, after)?;
-    Ok((earlier, later))
+    let differing = differences(alloc, before, after, &earlier, &later)?;
+    Ok((earlier, later, differing))
 }

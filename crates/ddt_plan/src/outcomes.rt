@@ -57,7 +57,8 @@ fn is_same_service(a: &Outcome, b: &Outcome) -> bool
     }
 }
 
-fn are_same_servers(s: &LocatorSet, t: &LocatorSet) -> bool
+/// Whether they are the same locators in the same order.
+pub fn are_same_servers(s: &LocatorSet, t: &LocatorSet) -> bool
     ensures { result ≡ are_same_servers_of s.now t.now }
 {
     s.as_slice() == t.as_slice()

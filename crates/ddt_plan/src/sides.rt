@@ -6,7 +6,8 @@ ghost use Rattle.std.specs.List.{filter};
 ghost use Rattle.std.specs.Option.{option_or};
 ghost use Rattle.ddt_path.specs.Covers.{covers, is_strictly_below, is_same_path};
 ghost use Rattle.ddt_plan.specs.Blocks.{keys_of, is_undivided, half as half_of};
-ghost use Rattle.ddt_plan.specs.Fast.{AreInOrder, AreBelow, AreItemsOf, IsDivision, IsSide, AreSides, delegations_of, delegation_at, states_of, state_at, outcome_from, outcome_in as outcome_in_of, outcome_of_site as outcome_of_site_of};
+ghost use Rattle.ddt_plan.specs.Differing.{AreSides, IsNext};
+ghost use Rattle.ddt_plan.specs.Fast.{AreInOrder, AreBelow, AreItemsOf, IsDivision, IsSide, delegations_of, delegation_at, states_of, state_at, outcome_from, outcome_in as outcome_in_of, outcome_of_site as outcome_of_site_of};
 
 use crate::halves::half;
 use crate::servers::servers_of;
@@ -64,6 +65,8 @@ pub struct Division<'a> {
 pub struct Sides<'a> {
     pub before: Side<'a>,
     pub after: Side<'a>,
+    /// The prefixes strictly below it at which they differ, in order.
+    pub differing: &'a [Prefix],
 }
 
 impl Prefixed for Delegation {
@@ -119,21 +122,26 @@ pub fn sides_of_both_below<'a>(
     before: &Accepted,
     after: &Accepted,
     whole: Prefix,
+    lower: Prefix,
+    upper: Prefix,
     sides: &Sides<'a>,
 ) -> (Sides<'a>, Sides<'a>)
-    requires { AreSides before.now after.now whole sides.now }
-    ensures { AreSides before.now after.now (half_of false whole) result.0
-        × AreSides before.now after.now (half_of true whole) result.1 }
+    requires sides { AreSides before.now after.now whole sides.now }
+    requires lower { lower ≡ half_of false whole }
+    requires upper { upper ≡ half_of true whole }
+    ensures { AreSides before.now after.now lower result.0 × AreSides before.now after.now upper result.1 }
 {
     let (old_low, old_high) = sides_at_halves(before, whole, &sides.before);
     let (new_low, new_high) = sides_at_halves(after, whole, &sides.after);
     let low = Sides {
         before: old_low,
         after: new_low,
+        differing: items_below(sides.differing, lower),
     };
     let high = Sides {
         before: old_high,
         after: new_high,
+        differing: items_below(sides.differing, upper),
     };
     (low, high)
 }
@@ -173,8 +181,15 @@ fn side_below<'a>(
     requires division { IsDivision accepted.now whole division.now }
     ensures { IsSide accepted.now (half_of upper whole) result }
 {
+    side_inside(accepted, division, half(whole, upper))
+}
+
+/// What it says at a prefix strictly below, where no zone and no site is between the two.
+pub fn side_inside<'a>(accepted: &Accepted, division: &Division<'a>, at: Prefix) -> Side<'a>
+    requires { (q : List ℕ) × IsDivision accepted.now q division.now × IsNext accepted.now q at }
+    ensures { IsSide accepted.now at result }
+{
     let _register = accepted.register();
-    let at = half(whole, upper);
     let zone = item_at(division.zones, at, division.zone);
     let site = item_at(division.sites, at, division.site);
     let zones = items_below(division.zones, at);
@@ -293,7 +308,8 @@ fn item_at<T: Prefixed + Copy>(items: &[T], at: Prefix, above: Option<T>) -> Opt
     }
 }
 
-fn item_of_prefix<T: Prefixed + Copy>(items: &[T], at: Prefix) -> Option<T>
+/// The item of exactly this prefix, if there is one, of items in the order of their prefixes.
+pub fn item_of_prefix<T: Prefixed + Copy>(items: &[T], at: Prefix) -> Option<T>
     requires { AreInOrder T.path items.now }
     ensures { result ≡ find (λ item. is_same_path (T.path item) at) items.now }
 {
@@ -310,7 +326,7 @@ fn item_of_prefix<T: Prefixed + Copy>(items: &[T], at: Prefix) -> Option<T>
 }
 
 /// The items strictly below a prefix: of those behind it in order, the ones that it covers come first.
-fn items_below<T: Prefixed>(items: &[T], at: Prefix) -> &[T]
+pub fn items_below<T: Prefixed>(items: &[T], at: Prefix) -> &[T]
     requires { AreInOrder T.path items.now }
     ensures { result.now ≡ filter (λ item. is_strictly_below (T.path item) at) items.now }
 {

@@ -1,15 +1,18 @@
 //! A walk down the digits, through what each register says at each prefix.
 
-ghost use Rattle.std.specs.Prelude.{◌≡◌, ◌-◌, ◌++◌, ◌∷◌, [], map, length};
+ghost use Rattle.std.specs.Prelude.{◌≡◌, ◌-◌, ◌++◌, ◌∷◌, [], map, length, IsTrue};
 ghost use Rattle.std.specs.List.{filter};
 ghost use Rattle.ddt_plan.specs.Blocks.{keys_of, pieces};
 ghost use Rattle.ddt_plan.specs.Changes.{block_at, changes_at, is_apart};
-ghost use Rattle.ddt_plan.specs.Fast.{IsSide, AreSides, both_settled as both_settled_of};
+ghost use Rattle.ddt_plan.specs.Differing.{AreSides};
+ghost use Rattle.ddt_plan.specs.Fast.{IsSide, both_settled as both_settled_of};
 ghost use Rattle.ddt_plan.specs.Sinks.{HasGiven};
 
 use crate::block_list::Block;
 use crate::change_list::Change;
+use crate::differences::are_same;
 use crate::halves::half;
+use crate::jump::jump;
 use crate::outcomes::{Reading, is_same_outcome};
 use crate::sides::{Side, Sides, sides_below, sides_of_both_below};
 use crate::sink::{PlanFault, Sink, give};
@@ -59,10 +62,34 @@ pub fn walk_both<S: Sink<Change>>(
     match both_settled(sides) {
         Some((earlier, later)) => give_if_apart(reading, whole, earlier, later, sink),
         None => {
-            let (low, high) = sides_of_both_below(before, after, whole, sides);
-            walk_both(reading, before, after, half(whole, false), &low, sink)?;
-            walk_both(reading, before, after, half(whole, true), &high, sink)
+            if nothing_changes(before, after, whole, sides) {
+                return Ok(());
+            }
+            if let Some((inner, within)) = jump(before, after, whole, sides) {
+                return walk_both(reading, before, after, inner, &within, sink);
+            }
+            let lower = half(whole, false);
+            let upper = half(whole, true);
+            let (low, high) = sides_of_both_below(before, after, whole, lower, upper, sides);
+            walk_both(reading, before, after, lower, &low, sink)?;
+            walk_both(reading, before, after, upper, &high, sink)
         }
+    }
+}
+
+/// Whether both registers have the same zones and sites strictly below a prefix, and the same zone and the same site
+/// around it. False where either has nothing below it.
+fn nothing_changes(before: &Accepted, after: &Accepted, whole: Prefix, sides: &Sides<'_>) -> bool
+    requires { AreSides before.now after.now whole sides.now }
+    ensures { IsTrue result → (reading : _) → changes_at reading before.now after.now
+        (pieces (161 - length whole) (keys_of before.now ++ keys_of after.now) whole) ≡ [] }
+{
+    let (_old, _new) = (before.register(), after.register());
+    match (&sides.before, &sides.after) {
+        (Side::Divided(old), Side::Divided(new)) => sides.differing.is_empty()
+            && are_same(old.zone, new.zone)
+            && are_same(old.site, new.site),
+        _ => false,
     }
 }
 

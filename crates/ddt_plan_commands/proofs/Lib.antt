@@ -3,3 +3,5 @@ pub mod SinkLemmas
 pub mod AnswerLemmas
 pub mod EndLemmas
 pub mod FloatLemmas
+pub mod EffectLemmas
+pub mod ZoneLemmas

@@ -1,6 +1,5 @@
 -- What blocks and changes come to where they are written, and where they are counted.
 use Rattle.std.proofs.lemmas.Bool.Decides.{nat_tests}
-use Rattle.std.specs.List.{list_any}
 use Rattle.ddt_path.specs.declared.record.Outcome.{Outcome}
 use Rattle.ddt_path.specs.declared.record.Outcome.TheVariants.{Registered, NotRegistered, Hole}
 use Rattle.ddt_plan.specs.declared.change_list.Change.{Change}
@@ -19,7 +18,7 @@ use Rattle.ddt_plan_commands.specs.declared.block_lines.LineFault.{LineFault}
 use Rattle.ddt_plan_commands.specs.declared.block_lines.BlockLines.{BlockLines}
 use Rattle.ddt_plan_commands.specs.Counted.{has_counted, with_blocks, with_changes}
 use Rattle.ddt_plan_commands.specs.Sinks.{TakesBlock, TakesChange}
-use Rattle.ddt_plan_commands.specs.Written.{has_some, listed_block, was_negative, written_change}
+use Rattle.ddt_plan_commands.specs.Written.{has_some, listed_block, written_change}
 use Rattle.ddt_plan_commands.proofs.WriterLemmas.{IsWriter}
 
 -- in this form, with holes or without
@@ -47,8 +46,8 @@ pub change_writer : {W : Type 0} (contents : W → Option (List ℕ)) (form : Fo
     → IsWriter (TakesChange contents) (λ s. contents s.out) (written_change form) (λ s. s.form ≡ form)
 change_writer contents form = record {
   stays = λ s item next so h. h.0 ∙ so;
-  whole = λ s item next so h. subst (λ (f : Form). Appends (contents s.out) (contents next.out) (written_change f item)) so h.2;
-  part = λ s item why next so h. subst (λ (f : Form). AppendsFront (contents s.out) (contents next.out) (written_change f item)) so h.2;
+  whole = λ s item next so h. subst (λ (f : Form). Appends (contents s.out) (contents next.out) (written_change f item)) so h.1;
+  part = λ s item why next so h. subst (λ (f : Form). AppendsFront (contents s.out) (contents next.out) (written_change f item)) so h.1;
 }
 
 or_false : (a : Bool) → a ≡ (a || false)
@@ -58,25 +57,6 @@ or_false false = refl
 or_true : (a : Bool) → true ≡ (a || true)
 or_true true = refl
 or_true false = refl
-
-or_both : (a b c : Bool) → ((a || b) || c) ≡ (a || (b || c))
-or_both true b c = refl
-or_both false b c = refl
-
--- where all changes were taken, it is noted whether there were any
-pub taken_some : {W : Type 0} (contents : W → Option (List ℕ)) (all : List Change) (before after : ChangeLines W) → HasTaken (TakesChange contents) before all after
-    → after.some ≡ (before.some || has_some all)
-taken_some contents [] before after h = ap (λ (s : ChangeLines _). s.some) h ∙ or_false before.some
-taken_some contents (c ∷ cs) before after h =
-    taken_some contents cs h.0 after h.2 ∙ ap (λ (b : Bool). b || has_some cs) h.1.1.0 ∙ or_true before.some
-
--- and whether one was negative before
-pub taken_negative : {W : Type 0} (contents : W → Option (List ℕ)) (all : List Change) (before after : ChangeLines W) → HasTaken (TakesChange contents) before all after
-    → after.negative ≡ (before.negative || list_any was_negative all)
-taken_negative contents [] before after h = ap (λ (s : ChangeLines _). s.negative) h ∙ or_false before.negative
-taken_negative contents (c ∷ cs) before after h =
-    taken_negative contents cs h.0 after h.2 ∙ ap (λ (b : Bool). b || list_any was_negative cs) h.1.1.1
-    ∙ or_both before.negative (was_negative c) (list_any was_negative cs)
 
 -- the same of changes
 pub taken_change_counts : (all : List Change) (n after : ChangeCounts) → HasTaken CountsChange n all after → after ≡ with_changes n all

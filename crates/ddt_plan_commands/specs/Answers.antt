@@ -15,8 +15,14 @@ use Rattle.ddt_commands.specs.Over.{OfItsRegister}
 use Rattle.ddt_plan_commands.specs.declared.words.Form.{Form}
 use Rattle.ddt_plan_commands.specs.declared.words.BlocksAsked.{BlocksAsked}
 use Rattle.ddt_plan_commands.specs.declared.words.DiffAsked.{DiffAsked}
+use Rattle.ddt_plan_commands.specs.declared.words.Told.{Told}
+use Rattle.ddt_plan_commands.specs.declared.words.Told.TheVariants.{Changes, Counts, Summary}
+use Rattle.ddt_plan_commands.specs.declared.review.Review.{Review}
+use Rattle.ddt_plan_commands.specs.Review.{IsReview, is_different}
+use Rattle.ddt_plan_commands.specs.Summary.{written_summary}
+use Rattle.ddt_plan_commands.specs.Ending.{written_changes}
 use Rattle.ddt_plan_commands.specs.Counted.{no_outcomes, with_blocks, no_changes, with_changes}
-use Rattle.ddt_plan_commands.specs.Written.{listed_block, written_counts, written_changes, written_change_counts}
+use Rattle.ddt_plan_commands.specs.Written.{listed_block, written_counts, written_change_counts}
 use Rattle.ddt_plan_commands.specs.Written.{differs as are_different}
 
 -- a line for each block of a register inside a prefix, or for each that is no hole
@@ -48,12 +54,17 @@ IsBlocksAnswer opens remaining asked text =
     × ((source : Option _) × opens asked.register.now source
     × OfItsRegister remaining source (λ r. IsBlocksText asked r inside text))
 
--- the changes from one register to another, and the groups that change
+-- the summary of what differs from one register to another
+abbrev pub IsSummaryText : Reading → Form → Register → Register → Bool → List ℕ → Type 0
+IsSummaryText reading form before after differs text =
+    (v : Review) × IsReview reading before after v × (differs ≡ is_different v) × (text ≡ written_summary form v)
+
+-- The summary, the changes from one register to another, the zones, sites and groups that differ, the groups whose
+-- configuration changes, and what caches may hold.
 abbrev pub IsChangesText : Reading → Form → Register → Register → Bool → List ℕ → Type 0
 IsChangesText reading form before after differs text =
-    (all : List Change) × AreChanges reading before after [] all
-    × ((groups : List GroupChange) × AreGroupChanges before after groups
-    × (differs ≡ are_different all groups) × (text ≡ written_changes form all groups))
+    (v : Review) × IsReview reading before after v × (differs ≡ is_different v)
+    × ((all : List Change) × AreChanges reading before after [] all × (text ≡ written_changes form v all))
 
 -- how many of them there are of each kind
 abbrev pub IsChangeCountsText : Reading → Form → Register → Register → Bool → List ℕ → Type 0
@@ -64,14 +75,15 @@ IsChangeCountsText reading form before after differs text =
     × (text ≡ written_change_counts form (with_changes no_changes all) (length groups)))
 
 -- what is asked of them, and whether anything differs
-abbrev pub IsTextOfChanges : Bool → Reading → Form → Register → Register → Bool → List ℕ → Type 0
-IsTextOfChanges true = IsChangeCountsText
-IsTextOfChanges false = IsChangesText
+abbrev pub IsTextOfChanges : Told → Reading → Form → Register → Register → Bool → List ℕ → Type 0
+IsTextOfChanges Counts = IsChangeCountsText
+IsTextOfChanges Summary = IsSummaryText
+IsTextOfChanges Changes = IsChangesText
 
--- The text that `diff` prints of two registers, and whether anything differs: counts under `--count`, otherwise the
--- changes and the groups.
+-- The text that `diff` prints of two registers, and whether anything differs: counts under `--count`, the summary under
+-- `--summary`, otherwise all that differs.
 abbrev pub IsDiffText : DiffAsked → Register → Register → Bool → List ℕ → Type 0
-IsDiffText asked = IsTextOfChanges asked.counted asked.reading asked.form
+IsDiffText asked = IsTextOfChanges asked.told asked.reading asked.form
 
 -- The answer of `diff`: the paths of both registers gave sources, and this is the text of the registers there.
 abbrev pub IsDiffAnswer : {F : Type 0} → (List ℕ → Option F → Type 0) → (F → Option (List ℕ)) → DiffAsked → Bool

@@ -1,8 +1,15 @@
 pub mod Lines
 pub mod Objects
+pub mod Items
+pub mod ItemObjects
 pub mod Counted
 pub mod Ends
 pub mod Written
+pub mod Effects
+pub mod Referrals
+pub mod Review
+pub mod Summary
+pub mod Ending
 pub mod Refusals
 pub mod Sinks
 pub mod Answers

@@ -1,5 +1,5 @@
 -- Why the commands refuse, and what they then say.
-use Rattle.std.specs.Prelude.{ℕ, Bool, ◌≡◌, ◌⊎◌, ⊤, true, List, ◌++◌, Option, None, Some, Result, Ok, Err, codes, IfSome}
+use Rattle.std.specs.Prelude.{ℕ, Bool, ◌≡◌, ◌⊎◌, ⊤, true, false, List, ◌++◌, Option, None, Some, Result, Ok, Err, codes, IfSome}
 use Rattle.std.specs.Option.{option_map}
 use Rattle.std.specs.Io.KnownBytes.{Appends}
 use Rattle.ddt_text.specs.declared.fault.TextFault.{TextFault}
@@ -19,6 +19,8 @@ use Rattle.ddt_plan_commands.specs.declared.block_lines.LineFault.{LineFault}
 use Rattle.ddt_plan_commands.specs.declared.block_lines.LineFault.TheVariants as line
 use Rattle.ddt_plan_commands.specs.declared.words.BlocksAsked.{BlocksAsked}
 use Rattle.ddt_plan_commands.specs.declared.words.DiffAsked.{DiffAsked}
+use Rattle.ddt_plan_commands.specs.declared.words.Told.{Told}
+use Rattle.ddt_plan_commands.specs.declared.words.Told.TheVariants.{Changes, Counts, Summary}
 use Rattle.ddt_plan_commands.specs.declared.refusal.PlanRefusal.{PlanRefusal}
 use Rattle.ddt_plan_commands.specs.declared.refusal.PlanRefusal.TheVariants.{BadPrefix, NoRegister, CountFull, OutOfMemory}
 use Rattle.ddt_plan_commands.specs.declared.stop.Stop.{Stop}
@@ -65,6 +67,12 @@ IsWhyNoBlocks opens remaining asked why =
     × (IsWhyUnopened remaining source asked.register.now why
     ⊎ OfItsRegister remaining source (λ r. IsWhyUnwritten asked.counted (Refused why))))
 
+-- the numbers of changes of each kind are asked for
+abbrev pub is_counted : Told → Bool
+is_counted Counts = true
+is_counted Summary = false
+is_counted Changes = false
+
 -- why `diff` refuses: one of its registers; or counts are full, or memory runs out, once both are read
 abbrev pub IsWhyNoDiff : {F : Type 0} → (List ℕ → Option F → Type 0) → (F → Option (List ℕ)) → DiffAsked → PlanRefusal
     → Type 0
@@ -73,7 +81,7 @@ IsWhyNoDiff opens remaining asked why =
     × (IsWhyUnopened remaining old asked.before.now why ⊎ OfItsRegister remaining old (λ before.
     (new : Option _) × opens asked.after.now new
     × (IsWhyUnopened remaining new asked.after.now why
-    ⊎ OfItsRegister remaining new (λ after. IsWhyUnwritten asked.counted (Refused why)))))
+    ⊎ OfItsRegister remaining new (λ after. IsWhyUnwritten (is_counted asked.told) (Refused why)))))
 
 -- the text where this path gives no accepted register: the path and why, or that memory ran out; None where a fault is
 -- shown, whose text is the fault's own

@@ -1,5 +1,5 @@
 -- What the sinks that write do with an item.
-use Rattle.std.specs.Prelude.{ℕ, Bool, true, ◌≡◌, ◌||◌, ⊤, List, Option, Result, Ok, Err}
+use Rattle.std.specs.Prelude.{ℕ, ◌≡◌, List, Option, Result, Ok, Err}
 use Rattle.std.specs.Io.KnownBytes.{Appends}
 use Rattle.ddt_lines.specs.Printing.{AppendsFront}
 use Rattle.ddt_plan.specs.declared.block_list.Block.{Block}
@@ -7,7 +7,7 @@ use Rattle.ddt_plan.specs.declared.change_list.Change.{Change}
 use Rattle.ddt_plan_commands.specs.declared.block_lines.LineFault.{LineFault}
 use Rattle.ddt_plan_commands.specs.declared.block_lines.BlockLines.{BlockLines}
 use Rattle.ddt_plan_commands.specs.declared.change_lines.ChangeLines.{ChangeLines}
-use Rattle.ddt_plan_commands.specs.Written.{listed_block, written_change, was_negative}
+use Rattle.ddt_plan_commands.specs.Written.{listed_block, written_change}
 
 -- a text is appended, or a front of it where that fails
 abbrev pub Prints : Result (Unit {0}) LineFault → Option (List ℕ) → Option (List ℕ) → List ℕ → Type 0
@@ -21,18 +21,8 @@ TakesBlock contents before block answer after =
     (after.form ≡ before.form) × (after.with_holes ≡ before.with_holes)
     × Prints answer (contents before.out) (contents after.out) (listed_block before.form before.with_holes block)
 
--- this is so where an item is taken
-abbrev pub IfTaken : Result (Unit {0}) LineFault → Type 0 → Type 0
-IfTaken (Ok all) so = so
-IfTaken (Err why) so = ⊤
-
--- that there are changes is noted, and whether one was negative before
-abbrev pub Notes : {W : Type 0} → ChangeLines W → Change → ChangeLines W → Type 0
-Notes before change after = (after.some ≡ true) × (after.negative ≡ (before.negative || was_negative change))
-
--- The line of a change is printed, in the form that is asked for, which stays. Where that succeeds the change is noted.
+-- The line of a change is printed, in the form that is asked for, which stays.
 abbrev pub TakesChange : {W : Type 0} → (W → Option (List ℕ)) → ChangeLines W → Change → Result (Unit {0}) LineFault
     → ChangeLines W → Type 0
 TakesChange contents before change answer after =
-    (after.form ≡ before.form) × IfTaken answer (Notes before change after)
-    × Prints answer (contents before.out) (contents after.out) (written_change before.form change)
+    (after.form ≡ before.form) × Prints answer (contents before.out) (contents after.out) (written_change before.form change)

@@ -1,6 +1,5 @@
 -- What the commands write of a block, of a change and of counts, in the form that is asked for.
-use Rattle.std.specs.Prelude.{ℕ, Bool, true, false, ◌&&◌, ◌||◌, not, if◌then◌else◌, List, [], ◌∷◌, ◌++◌, codes}
-use Rattle.std.specs.List.{flat_map, list_any}
+use Rattle.std.specs.Prelude.{ℕ, Bool, true, false, ◌&&◌, ◌||◌, not, if◌then◌else◌, List, [], ◌∷◌, codes}
 use Rattle.serde_json.specs.Written.{compact_text}
 use Rattle.ddt_path.specs.declared.record.Outcome.{Outcome}
 use Rattle.ddt_path.specs.declared.record.Outcome.TheVariants.{Registered, NotRegistered, Hole}
@@ -62,21 +61,10 @@ abbrev pub server_cache : Form → List ℕ
 server_cache Text = ended server_cache_text
 server_cache Json = ended (compact_text (cache_data (codes "servers") 86402))
 
--- For how long caches answer the old way: always the line for servers, and that for negative answers only where a
--- changed block had one before.
-abbrev pub written_caches : Form → Bool → List ℕ
-written_caches form negative = (if negative then negative_cache form else []) ++ server_cache form
-
 -- an empty line between the changes and what follows
 abbrev pub parting : Form → List ℕ
 parting Text = codes "\n"
 parting Json = []
-
--- What stands behind the changes, if anything differs: the groups, and for how long caches answer the old way.
-abbrev pub written_ending : Form → Bool → Bool → List GroupChange → List ℕ
-written_ending form false negative groups = []
-written_ending form true negative groups =
-    parting form ++ flat_map (written_group form) groups ++ written_caches form negative
 
 -- a hole, or a site that isn't registered
 abbrev pub is_negative : Outcome → Bool
@@ -94,11 +82,6 @@ abbrev pub has_some : {A : Type 0} → List A → Bool
 has_some [] = false
 has_some (x ∷ xs) = true
 
--- something differs
+-- something differs of the blocks, or of the configuration of a group
 abbrev pub differs : List Change → List GroupChange → Bool
 differs all groups = has_some all || has_some groups
-
--- the changes, and what stands behind them
-abbrev pub written_changes : Form → List Change → List GroupChange → List ℕ
-written_changes form all groups =
-    flat_map (written_change form) all ++ written_ending form (differs all groups) (list_any was_negative all) groups

@@ -64,7 +64,7 @@ fn block_line(alloc: Global, form: Form, block: &Block) -> Result<Vec<u8>, Alloc
     }
 }
 
-fn is_hole(outcome: &Outcome) -> bool
+pub(crate) fn is_hole(outcome: &Outcome) -> bool
     ensures { result ≡ is_hole_of outcome.now }
 {
     matches!(outcome, Outcome::Hole { .. })

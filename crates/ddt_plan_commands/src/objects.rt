@@ -146,7 +146,7 @@ fn counts_value(alloc: Global, counts: OutcomeCounts) -> Result<Value, AllocErro
     })
 }
 
-fn prefix_value(alloc: Global, prefix: Prefix) -> Result<Value, AllocError>
+pub(crate) fn prefix_value(alloc: Global, prefix: Prefix) -> Result<Value, AllocError>
     ensures { IfOk result (λ v. view v ≡ prefix_data prefix) }
 {
     let _form = prefix.form();
@@ -156,14 +156,14 @@ fn prefix_value(alloc: Global, prefix: Prefix) -> Result<Value, AllocError>
 }
 
 #[tactic(auto, using(ddt_text::specs::laws::Ascii::utf8_name))]
-fn name_value(alloc: Global, name: Name) -> Result<Value, AllocError>
+pub(crate) fn name_value(alloc: Global, name: Name) -> Result<Value, AllocError>
     ensures { IfOk result (λ v. view v ≡ string name) }
 {
     let text = Vec::from_slice(alloc, name.as_bytes())?;
     Ok(string_value(text))
 }
 
-fn server_values(alloc: Global, servers: &[Locator]) -> Result<Vec<Value>, AllocError>
+pub(crate) fn server_values(alloc: Global, servers: &[Locator]) -> Result<Vec<Value>, AllocError>
     ensures { IfOk result (λ values. items_view values.items ≡ server_items servers.now) }
 {
     let mut values = Vec::new(alloc);
@@ -193,7 +193,7 @@ fn string_value(text: Vec<u8>) -> Value
 }
 
 /// An object as a line.
-fn line_of(alloc: Global, object: &Value) -> Result<Vec<u8>, AllocError>
+pub(crate) fn line_of(alloc: Global, object: &Value) -> Result<Vec<u8>, AllocError>
     requires { has_float (view object.now) ≡ false }
     ensures { IfOk result (λ line. line.items ≡ ended (compact_text (view object.now))) }
 {

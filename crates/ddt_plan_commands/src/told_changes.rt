@@ -1,33 +1,35 @@
 //! `diff OLD NEW`: what a change of a register changes.
 
-ghost use Rattle.std.specs.Prelude.{◌≡◌, ◌⊎◌, ◌||◌, Bool, true, false, [], IfOk, IfErr};
+ghost use Rattle.std.specs.Prelude.{◌≡◌, ◌⊎◌, ◌||◌, Bool, true, false, IfOk, IfErr};
 ghost use Rattle.std.specs.Fn.{FnReturnsAt};
 ghost use Rattle.ddt_commands.specs.Running.{HasText};
 ghost use Rattle.ddt_plan_commands.specs.declared.end.End.TheVariants.{Refused as IsRefused};
 ghost use Rattle.ddt_plan_commands.specs.declared.stop.Stop.TheVariants.{Refused as StopsRefused};
-ghost use Rattle.ddt_plan_commands.specs.Answers.{HasFront, IsAnyDiff, IsChangeCountsText, IsChangesText, IsDiffAnswer, IsDiffText};
+ghost use Rattle.ddt_plan_commands.specs.Answers.{HasFront, IsAnyDiff, IsChangeCountsText, IsChangesText, IsDiffAnswer, IsDiffText, IsSummaryText};
 ghost use Rattle.ddt_plan_commands.specs.Counted.{has_counted as has_counted_of};
 ghost use Rattle.ddt_plan_commands.specs.Ends.{diff_end as diff_end_of};
-ghost use Rattle.ddt_plan_commands.specs.Refusals.{HasRefused, HasRefusedFront, IsWhyNoDiff, IsWhyUnwritten};
+ghost use Rattle.ddt_plan_commands.specs.Refusals.{HasRefused, HasRefusedFront, IsWhyNoDiff, IsWhyUnwritten, is_counted};
 ghost use Rattle.ddt_plan_commands.specs.Written.{has_some};
 
-use crate::after_changes::ending;
+use crate::after_changes::{ending, heading};
 use crate::change_lines::ChangeLines;
 use crate::counts::change_counts_lines;
 use crate::end::End;
 use crate::inputs::register_of;
+use crate::review::{compare, everything, is_different};
 use crate::stop::Stop;
-use crate::words::{DiffAsked, Form};
+use crate::summary::written_summary;
+use crate::words::{DiffAsked, Form, Told};
 use ddt_check::Accepted;
 use ddt_lines::print;
-use ddt_path::{Locator, Prefix, Xeid};
 use ddt_plan::{ChangeCounts, GroupChange, OutcomeCounts, Reading, changes, group_changes};
 use std::alloc::Global;
 use std::io::{Read, Write};
 
-/// Writes a line for each block whose assignment changes from one register to the other, in the order of their digits.
-/// Behind them stands which groups' configurations change, and for how long caches may answer the old way. Or it writes
-/// how many there are of each kind. `open_file` gives a file, or None where it can't be opened. The writer is given back.
+/// Writes a summary of what differs from one register to the other, and a line for each block whose assignment changes,
+/// in the order of their digits. Behind them stand the sites, zones and groups that differ, which groups' configurations
+/// change, and for how long caches may answer the old way. Or it writes the summary alone, or how many changes there are
+/// of each kind. `open_file` gives a file, or None where it can't be opened. The writer is given back.
 pub fn run_diff<F, O, W, E>(
     alloc: Global,
     asked: &DiffAsked<'_>,
@@ -57,8 +59,6 @@ where
     let mut lines = ChangeLines {
         alloc,
         form: asked.form,
-        some: false,
-        negative: false,
         out,
     };
     let answered = write_changes(alloc, asked, open_file, &mut lines);
@@ -93,8 +93,6 @@ where
     W: Write + Drop,
     requires opens { O.IsAlwaysCallable open_file }
     requires form { lines.old.form ≡ asked.now.form }
-    requires some { lines.old.some ≡ false }
-    requires negative { lines.old.negative ≡ false }
     ensures whole { IfOk result (λ differs.
         HasText (IsDiffAnswer (FnReturnsAt O.Fn open_file) F.remaining asked.now differs)
         (W.contents lines.old.out) (W.contents lines.new.out)) }
@@ -118,30 +116,44 @@ fn write_between<W: Write + Drop>(
     after: &Accepted,
     lines: &mut ChangeLines<W>,
 ) -> Result<bool, Stop<'static>>
-    requires form { lines.old.form ≡ asked.now.form }
-    requires some { lines.old.some ≡ false }
-    requires negative { lines.old.negative ≡ false }
+    requires { lines.old.form ≡ asked.now.form }
     ensures whole { IfOk result (λ differs. HasText (IsDiffText asked.now before.now after.now differs)
         (W.contents lines.old.out) (W.contents lines.new.out)) }
     ensures front { HasFront (λ text. (differs : Bool) × IsDiffText asked.now before.now after.now differs text)
         (W.contents lines.old.out) (W.contents lines.new.out) }
-    ensures refused { IfErr result (IsWhyUnwritten asked.now.counted) }
+    ensures refused { IfErr result (IsWhyUnwritten (is_counted asked.now.told)) }
 {
-    if asked.counted {
-        count_changes(
-            alloc,
-            asked.reading,
-            asked.form,
-            before,
-            after,
-            &mut lines.out,
-        )
-    } else {
-        list_changes(alloc, asked.reading, before, after, lines)
+    let (reading, form) = (asked.reading, asked.form);
+    match asked.told {
+        Told::Counts => count_changes(alloc, reading, form, before, after, &mut lines.out),
+        Told::Summary => summarize(alloc, reading, form, before, after, &mut lines.out),
+        Told::Changes => list_changes(alloc, reading, before, after, lines),
     }
 }
 
-/// Writes the line of each change, and what stands behind them.
+/// Writes the summary.
+fn summarize<W: Write>(
+    alloc: Global,
+    reading: Reading,
+    form: Form,
+    before: &Accepted,
+    after: &Accepted,
+    out: &mut W,
+) -> Result<bool, Stop<'static>>
+    ensures whole { IfOk result (λ differs.
+        HasText (IsSummaryText reading form before.now after.now differs)
+        (W.contents out.old) (W.contents out.new)) }
+    ensures front { HasFront (λ text. (differs : Bool)
+        × IsSummaryText reading form before.now after.now differs text)
+        (W.contents out.old) (W.contents out.new) }
+    ensures refused { IfErr result (IsWhyUnwritten false) }
+{
+    let found = compare(alloc, reading, before, after)?;
+    print(&written_summary(alloc, form, &found)?, out)?;
+    Ok(is_different(&found))
+}
+
+/// Writes the summary, the line of each change, and what stands behind them.
 fn list_changes<W: Write + Drop>(
     alloc: Global,
     reading: Reading,
@@ -149,8 +161,6 @@ fn list_changes<W: Write + Drop>(
     after: &Accepted,
     lines: &mut ChangeLines<W>,
 ) -> Result<bool, Stop<'static>>
-    requires some { lines.old.some ≡ false }
-    requires negative { lines.old.negative ≡ false }
     ensures whole { IfOk result (λ differs.
         HasText (IsChangesText reading lines.old.form before.now after.now differs)
         (W.contents lines.old.out) (W.contents lines.new.out)) }
@@ -159,13 +169,12 @@ fn list_changes<W: Write + Drop>(
         (W.contents lines.old.out) (W.contents lines.new.out) }
     ensures refused { IfErr result (IsWhyUnwritten false) }
 {
-    let groups = group_changes(alloc, before, after)?;
+    let found = compare(alloc, reading, before, after)?;
+    let form = lines.form;
+    print(&heading(alloc, form, &found)?, &mut lines.out)?;
     changes(alloc, reading, before, after, everything(), lines)?;
-    let groups = groups.as_slice();
-    let differs = is_different(lines.some, groups);
-    let ending = ending(alloc, lines.form, differs, lines.negative, groups)?;
-    print(&ending, &mut lines.out)?;
-    Ok(differs)
+    print(&ending(alloc, form, &found)?, &mut lines.out)?;
+    Ok(is_different(&found))
 }
 
 /// Writes how many changes there are of each kind.
@@ -193,11 +202,11 @@ fn count_changes<W: Write>(
         &change_counts_lines(alloc, form, counts, groups.len())?,
         out,
     )?;
-    Ok(is_different(has_counted(counts.before), groups))
+    Ok(are_different(has_counted(counts.before), groups))
 }
 
-/// Whether there are changes, or groups that change.
-fn is_different(some: bool, groups: &[GroupChange]) -> bool
+/// Whether there are changes, or groups whose configuration changes.
+fn are_different(some: bool, groups: &[GroupChange]) -> bool
     ensures { result ≡ (some || has_some groups.now) }
 {
     some || !groups.is_empty()
@@ -207,15 +216,4 @@ fn has_counted(counts: OutcomeCounts) -> bool
     ensures { result ≡ has_counted_of counts }
 {
     counts.holes > 0 || counts.registered > 0 || counts.not_registered > 0
-}
-
-/// The prefix of everything.
-fn everything() -> Prefix
-    ensures { result ≡ [] }
-{
-    let any = Xeid {
-        iid: 0,
-        address: Locator::V4(0),
-    };
-    Prefix::cut(any, 0)
 }

@@ -28,6 +28,17 @@ pub struct BlocksAsked<'a> {
     pub form: Form,
 }
 
+/// What `diff` writes.
+#[derive(Clone, Copy, Debug, PartialEq, Eq)]
+pub enum Told {
+    /// The summary, and all that differs.
+    Changes,
+    /// The summary alone.
+    Summary,
+    /// Only the numbers of changed blocks of each kind.
+    Counts,
+}
+
 /// What `diff` is asked.
 #[derive(Clone, Copy, Debug)]
 pub struct DiffAsked<'a> {
@@ -36,9 +47,17 @@ pub struct DiffAsked<'a> {
     /// The path of the register that is to come into force.
     pub after: &'a str,
     pub reading: Reading,
-    /// Whether only the numbers of each kind are asked for.
-    pub counted: bool,
+    pub told: Told,
     pub form: Form,
+}
+
+/// What `faults` is asked.
+#[derive(Clone, Copy, Debug)]
+pub struct FaultsAsked<'a> {
+    /// The path of the file.
+    pub register: &'a str,
+    /// The path of the register that was in force before, if it is given.
+    pub old: Option<&'a str>,
 }
 
 /// What `warn` is asked.
@@ -46,19 +65,60 @@ pub struct DiffAsked<'a> {
 pub struct WarnAsked<'a> {
     /// The path of the register.
     pub register: &'a str,
+    /// The path of the register that was in force before, if it is given.
+    pub old: Option<&'a str>,
+    /// The addresses of Map-Resolvers, as text.
+    pub resolvers: Vec<&'a str>,
     /// The kinds of warnings that are turned off, by their names.
     pub off: Vec<&'a str>,
+    /// The names of the groups whose servers others run.
+    pub foreign: Vec<&'a str>,
 }
 
 /// What `compile` is asked.
-#[derive(Clone, Copy, Debug)]
+#[derive(Debug, Drop)]
 pub struct CompileAsked<'a> {
     /// The path of the register.
     pub register: &'a str,
     /// The path of the folder.
     pub folder: &'a str,
+    /// The names of the groups whose servers others run, and whose configurations aren't written.
+    pub foreign: Vec<&'a str>,
     /// Whether files of groups that are gone are removed.
     pub removes: bool,
+    /// How many percent of the sites in the folder's register may be gone, if that is bounded.
+    pub max_lost: Option<u32>,
+    /// The step of a rollout whose configurations are written, where not all of the register are.
+    pub step: Option<StepAsked<'a>>,
+}
+
+/// A step of a rollout.
+#[derive(Clone, Copy, Debug)]
+pub struct StepAsked<'a> {
+    /// The path of the register that is in force before the first step.
+    pub from: &'a str,
+    /// Its number, from 1 on.
+    pub number: u32,
+}
+
+/// What `rollout` is asked.
+#[derive(Clone, Copy, Debug)]
+pub struct RolloutAsked<'a> {
+    /// The path of the register that is in force.
+    pub before: &'a str,
+    /// The path of the register that is to come into force.
+    pub after: &'a str,
+}
+
+/// What `report` is asked.
+#[derive(Clone, Copy, Debug)]
+pub struct ReportAsked<'a> {
+    /// The path of the register that is in force.
+    pub before: &'a str,
+    /// The path of the register that is to come into force.
+    pub after: &'a str,
+    /// The path of the page.
+    pub page: &'a str,
 }
 
 /// What `loopback` is asked.
@@ -86,6 +146,20 @@ pub struct AskAsked<'a> {
     pub register: &'a str,
     /// The identifiers; none where one of each block is meant.
     pub identifiers: Vec<&'a str>,
+    /// The path of the register that was in force, where only what a change touches is asked.
+    pub before: Option<&'a str>,
+    /// How many blocks are drawn; None where all are asked.
+    pub sample: Option<u32>,
+    /// Whether what agrees is left out.
+    pub quiet: bool,
+    /// The address of the Map-Resolver that is asked in place of the servers.
+    pub resolver: Option<&'a str>,
+    /// The address of this machine to which the Map-Resolver replies.
+    pub as_itr: Option<&'a str>,
+    /// The same, where it is an ETR of the register too.
+    pub as_etr: Option<&'a str>,
+    /// The names of the groups whose servers others run, and aren't asked.
+    pub foreign: Vec<&'a str>,
     /// Questions a second.
     pub rate: Option<u32>,
     /// Milliseconds until a try is over.
@@ -113,15 +187,37 @@ pub struct LadderAsked<'a> {
     pub identifier: &'a str,
 }
 
+/// The two registers of a seam.
+#[derive(Debug, Drop)]
+pub struct PairAsked<'a> {
+    /// The path of our register.
+    pub ours: &'a str,
+    /// The path of the register of the other side.
+    pub theirs: &'a str,
+    /// The names of the groups whose servers the other side runs.
+    pub foreign: Vec<&'a str>,
+}
+
+/// What `seam` is asked: of two registers, or of all that an index names.
+#[derive(Debug, Drop)]
+pub enum SeamAsked<'a> {
+    Pair(PairAsked<'a>),
+    /// The path of the index.
+    Index(&'a str),
+}
+
 /// A command, and what it is asked.
 #[derive(Debug, Drop)]
 pub enum Asked<'a> {
     Blocks(BlocksAsked<'a>),
     Diff(DiffAsked<'a>),
-    /// All faults of the file at a path.
-    Faults(&'a str),
+    Seam(SeamAsked<'a>),
+    /// All faults of a file.
+    Faults(FaultsAsked<'a>),
     Warn(WarnAsked<'a>),
     Compile(CompileAsked<'a>),
+    Rollout(RolloutAsked<'a>),
+    Report(ReportAsked<'a>),
     Loopback(LoopbackAsked<'a>),
     Export(ExportAsked<'a>),
     Ask(AskAsked<'a>),
@@ -136,7 +232,10 @@ pub fn read_asked<'a>(alloc: Global, words: &'a [String]) -> Result<Asked<'a>, E
     match matches.remove_subcommand() {
         Some((command, matches)) => Ok(asked_of(alloc, command, &matches)?),
         // The command line requires one of its commands.
-        None => Ok(Asked::Faults("-")),
+        None => Ok(Asked::Faults(FaultsAsked {
+            register: "-",
+            old: None,
+        })),
     }
 }
 
@@ -150,15 +249,14 @@ fn asked_of<'a>(
     match command {
         "blocks" => Ok(Asked::Blocks(blocks_asked(register, matches))),
         "diff" => Ok(Asked::Diff(diff_asked(matches))),
-        "warn" => Ok(Asked::Warn(WarnAsked {
-            register,
-            off: values_of(alloc, matches, "off")?,
+        "seam" => Ok(Asked::Seam(seam_asked(alloc, matches)?)),
+        "warn" => Ok(Asked::Warn(warn_asked(alloc, register, matches)?)),
+        "compile" => Ok(Asked::Compile(compile_asked(alloc, register, matches)?)),
+        "rollout" => Ok(Asked::Rollout(RolloutAsked {
+            before: matches.get_str("old").unwrap_or("-"),
+            after: matches.get_str("new").unwrap_or("-"),
         })),
-        "compile" => Ok(Asked::Compile(CompileAsked {
-            register,
-            folder: matches.get_str("folder").unwrap_or(""),
-            removes: matches.get_flag("remove"),
-        })),
+        "report" => Ok(Asked::Report(report_asked(matches))),
         "loopback" => Ok(Asked::Loopback(LoopbackAsked {
             register,
             as_table: matches.get_flag("table"),
@@ -174,7 +272,10 @@ fn asked_of<'a>(
             register,
             identifier: matches.get_str("identifier").unwrap_or(""),
         })),
-        _ => Ok(Asked::Faults(register)),
+        _ => Ok(Asked::Faults(FaultsAsked {
+            register,
+            old: matches.get_str("old"),
+        })),
     }
 }
 
@@ -197,8 +298,72 @@ fn diff_asked<'a>(matches: &ArgMatches<'a>) -> DiffAsked<'a> {
         } else {
             Reading::Service
         },
-        counted: matches.get_flag("count"),
+        told: told_asked(matches),
         form: form_asked(matches),
+    }
+}
+
+fn told_asked(matches: &ArgMatches<'_>) -> Told {
+    if matches.get_flag("count") {
+        Told::Counts
+    } else if matches.get_flag("summary") {
+        Told::Summary
+    } else {
+        Told::Changes
+    }
+}
+
+fn seam_asked<'a>(alloc: Global, matches: &ArgMatches<'a>) -> Result<SeamAsked<'a>, AllocError> {
+    if let Some(index) = matches.get_str("index") {
+        return Ok(SeamAsked::Index(index));
+    }
+    Ok(SeamAsked::Pair(PairAsked {
+        ours: matches.get_str("ours").unwrap_or("-"),
+        theirs: matches.get_str("theirs").unwrap_or("-"),
+        foreign: values_of(alloc, matches, "foreign")?,
+    }))
+}
+
+fn warn_asked<'a>(
+    alloc: Global,
+    register: &'a str,
+    matches: &ArgMatches<'a>,
+) -> Result<WarnAsked<'a>, AllocError> {
+    Ok(WarnAsked {
+        register,
+        old: matches.get_str("old"),
+        resolvers: values_of(alloc, matches, "resolver")?,
+        off: values_of(alloc, matches, "off")?,
+        foreign: values_of(alloc, matches, "foreign")?,
+    })
+}
+
+fn compile_asked<'a>(
+    alloc: Global,
+    register: &'a str,
+    matches: &ArgMatches<'a>,
+) -> Result<CompileAsked<'a>, AllocError> {
+    Ok(CompileAsked {
+        register,
+        folder: matches.get_str("folder").unwrap_or(""),
+        foreign: values_of(alloc, matches, "foreign")?,
+        removes: matches.get_flag("remove"),
+        max_lost: matches.get_one("max-lost"),
+        step: step_asked(matches),
+    })
+}
+
+fn step_asked<'a>(matches: &ArgMatches<'a>) -> Option<StepAsked<'a>> {
+    let from = matches.get_str("from")?;
+    let number = matches.get_one("step")?;
+    Some(StepAsked { from, number })
+}
+
+fn report_asked<'a>(matches: &ArgMatches<'a>) -> ReportAsked<'a> {
+    ReportAsked {
+        before: matches.get_str("old").unwrap_or("-"),
+        after: matches.get_str("new").unwrap_or("-"),
+        page: matches.get_str("page").unwrap_or(""),
     }
 }
 
@@ -217,6 +382,13 @@ fn ask_asked<'a>(
     Ok(AskAsked {
         register,
         identifiers: values_of(alloc, matches, "identifier")?,
+        before: matches.get_str("changed"),
+        sample: matches.get_one("sample"),
+        quiet: matches.get_flag("quiet"),
+        resolver: matches.get_str("resolver"),
+        as_itr: matches.get_str("as-itr"),
+        as_etr: matches.get_str("as-etr"),
+        foreign: values_of(alloc, matches, "foreign")?,
         rate: matches.get_one("rate"),
         timeout: matches.get_one("timeout"),
         tries: matches.get_one("tries"),

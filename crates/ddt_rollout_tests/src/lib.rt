@@ -1,5 +1,5 @@
 //! The tests of what rolls a register out, a module for each crate: `asking` of ddt_asking, `export` of ddt_export,
-//! `folder` of ddt_folder, `loopback` of ddt_loopback, `plan_commands` of ddt_plan_commands.
+//! `folder` of ddt_folder, `loopback` of ddt_loopback, `plan_commands` of ddt_plan_commands, `rollout` of ddt_rollout.
 //! `comparison` is what all assert by.
 #![tactic(auto)]
 
@@ -15,3 +15,5 @@ mod folder;
 mod loopback;
 #[cfg(test)]
 mod plan_commands;
+#[cfg(test)]
+mod rollout;

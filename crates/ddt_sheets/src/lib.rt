@@ -1,7 +1,7 @@
 //! A register's file as people and spreadsheets write it, and every fault of it.
 //!
 //! In reading order: `difference`, `notes`, `kind`, `unread`, `sheet` (what a file holds); `encodings`, `divider`,
-//! `line_count`, `columns`, `rows`, `reader` (how it is read); `broken_rule`, `fault_line`, `causes`, `field_reasons`,
+//! `line_count`, `open_quote`, `columns`, `rows`, `reader` (how it is read); `broken_rule`, `fault_line`, `causes`, `field_reasons`,
 //! `rule_reasons`, `printed`, `all_faults` (what is told of it), `fault_text`.
 //! Tests: ddt_review_tests/sheets.
 #![tactic(auto)]
@@ -19,6 +19,7 @@ mod field_reasons;
 mod kind;
 mod line_count;
 mod notes;
+mod open_quote;
 mod printed;
 mod reader;
 mod rows;

@@ -39,8 +39,20 @@ impl<'a> LineCount<'a> {
         self.line
     }
 
+    /// The place.
+    pub(crate) fn place(&self) -> usize {
+        self.place
+    }
+
+    /// How many lines follow the one of a later place, up to the end of the text.
+    pub(crate) fn lines_after(&self, place: usize) -> u64 {
+        let last = self.text.len().saturating_sub(1);
+        let ends = (place..last).filter(|at| ends_line(self.text, *at)).count();
+        ends as u64
+    }
+
     /// The line of a later place.
-    fn line_at(&self, place: usize) -> u64 {
+    pub(crate) fn line_at(&self, place: usize) -> u64 {
         let ends = (self.place..place)
             .filter(|at| ends_line(self.text, *at))
             .count();

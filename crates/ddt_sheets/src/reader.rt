@@ -11,9 +11,10 @@ use crate::divider::divider_of;
 use crate::encodings::{decode_utf16, ends_by_returns, utf16_of, with_line_feeds, without_mark};
 use crate::line_count::LineCount;
 use crate::notes::Notes;
+use crate::open_quote::{OpenQuote, open_quote};
 use crate::rows::Rows;
 use crate::sheet::Sheet;
-use crate::unread::{Unread, other_length, too_many, wrong_field};
+use crate::unread::{Unread, other_length, too_many, unclosed, wrong_field};
 use csv::{ByteRecord, ErrorKind, ReaderBuilder};
 use ddt_register::{MOST_ROWS, ReadFault, read_row};
 use std::alloc::{AllocError, Global};
@@ -36,6 +37,8 @@ enum Stage {
 struct SheetReader<'a> {
     alloc: Global,
     count: LineCount<'a>,
+    /// The quote that isn't closed, if there is one.
+    quote: Option<OpenQuote>,
     stage: Stage,
     notes: Notes,
     unread: Vec<Unread>,
@@ -69,10 +72,11 @@ fn fault_in(row: u32, column: Option<usize>) -> ReadFault {
 }
 
 impl<'a> SheetReader<'a> {
-    fn new(alloc: Global, text: &'a [u8], notes: Notes) -> SheetReader<'a> {
+    fn new(alloc: Global, text: &'a [u8], divider: u8, notes: Notes) -> SheetReader<'a> {
         SheetReader {
             alloc,
             count: LineCount::new(text),
+            quote: open_quote(text, divider),
             stage: Stage::Head,
             notes,
             unread: Vec::new(alloc),
@@ -86,6 +90,9 @@ impl<'a> SheetReader<'a> {
         ensures stopped { IfErr result (λ fault. stops fault ≡ true) }
     {
         self.go_to(&record)?;
+        if let Some(quote) = self.quote_here() {
+            return self.take_unclosed(&record, quote);
+        }
         if let Some(place) = padded_place(&record) {
             record.trim()?;
             let fault = self.blanks_fault(&record, place);
@@ -99,6 +106,28 @@ impl<'a> SheetReader<'a> {
             Stage::Rows(columns) => self.take_row(columns, &record),
             Stage::Full | Stage::Without => Ok(()),
         }
+    }
+
+    /// The quote that isn't closed, if it is in the next record and this is looked at.
+    fn quote_here(&self) -> Option<OpenQuote> {
+        let quote = self.quote?;
+        match self.stage {
+            Stage::Head | Stage::Rows(_) if quote.record == self.count.place() => Some(quote),
+            _ => None,
+        }
+    }
+
+    /// Reads the record in which a quote isn't closed, which is the last.
+    fn take_unclosed(&mut self, record: &ByteRecord, quote: OpenQuote) -> Result<(), ReadFault>
+        ensures stopped { IfErr result (λ fault. stops fault ≡ true) }
+    {
+        let (row, begin) = (self.next_row(), self.count.line());
+        let line = self.count.line_at(quote.place);
+        let lines = self.count.lines_after(quote.place);
+        self.stage = Stage::Full;
+        self.push_line(begin)?;
+        self.push_unread(unclosed(self.alloc, row, line, record, lines)?)?;
+        Ok(())
     }
 
     /// Counts the lines up to a record, and notes a comment before it.
@@ -264,7 +293,7 @@ fn read_lines(alloc: Global, text: &[u8], mut notes: Notes) -> Result<Sheet, Rea
         .comment(Some(b'#'))
         .from_reader(alloc, text)
         .into_byte_records();
-    let mut reader = SheetReader::new(alloc, text, notes);
+    let mut reader = SheetReader::new(alloc, text, divider, notes);
     for record in records {
         reader.take(record.map_err(|error| stopped_by(&error))?)?;
     }

@@ -50,6 +50,30 @@ pub(crate) fn too_many(
     Ok(record)
 }
 
+/// The record of a row in which a quote opens a field that isn't closed, with so many lines after it. Fails only if out
+/// of memory.
+pub(crate) fn unclosed(
+    alloc: Global,
+    row: u32,
+    line: u64,
+    fields: &ByteRecord,
+    lines: u64,
+) -> Result<Unread, AllocError> {
+    let reason = match lines {
+        0 => format!(in alloc; "a quote opens here and isn't closed")?,
+        1 => format!(in alloc;
+            "a quote opens here and isn't closed, so the line after it isn't read"
+        )?,
+        _ => format!(in alloc;
+            "a quote opens here and isn't closed, so the {lines} lines after it aren't read"
+        )?,
+    };
+    let mut record = unread_record(line, fields, ReadFault::Csv(row), reason);
+    // The lines that aren't read may define anything.
+    record.kind = None;
+    Ok(record)
+}
+
 /// A record of four fields that can't be read for this fault. Fails only if out of memory.
 pub(crate) fn wrong_field(
     alloc: Global,

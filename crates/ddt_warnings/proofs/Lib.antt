@@ -5,3 +5,6 @@ pub mod OrderLemmas
 pub mod FoundLemmas
 pub mod TellLemmas
 pub mod ServerLemmas
+pub mod DelegationLemmas
+pub mod LostLemmas
+pub mod MissingLemmas

@@ -43,14 +43,14 @@ inserted_now p q before =
     same_flips : (p q : List ℕ) → is_same_path p q ≡ is_same_path q p
     same_flips p q = iff_same (is_same_path p q) (is_same_path q p) (same_path-flips p q) (same_path-flips q p)
 
--- one more zone, whose mark says whether it passes
-pub marks_more : (test : Zone → Bool) (zones : List Zone) (i : ℕ) (x : Zone) → i < length zones → x ≡ get_or zones i x
-    → (before mark : Bool) → before ≡ list_any test (take i zones) → mark ≡ test x
-    → (before || mark) ≡ list_any test (take (i + 1) zones)
-marks_more test zones i x lt is before mark so_far now =
+-- one more item, whose mark says whether it passes
+pub marks_more : {A : Type 0} (test : A → Bool) (items : List A) (i : ℕ) (x : A) → i < length items → x ≡ get_or items i x
+    → (before mark : Bool) → before ≡ list_any test (take i items) → mark ≡ test x
+    → (before || mark) ≡ list_any test (take (i + 1) items)
+marks_more test items i x lt is before mark so_far now =
     ap (λ (b : Bool). b || mark) so_far
-    ∙ ap (λ (b : Bool). list_any test (take i zones) || b) (now ∙ ap test is)
-    ∙ sym (list_any_more test zones i x lt)
+    ∙ ap (λ (b : Bool). list_any test (take i items) || b) (now ∙ ap test is)
+    ∙ sym (list_any_more test items i x lt)
 
 module _ (r : Register) (accepted : IsAccepted r) (z x : Zone) (k : IsIn z r.zones) where
   is_above : Zone → Bool

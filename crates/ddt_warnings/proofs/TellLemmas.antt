@@ -9,6 +9,7 @@ use Rattle.ddt_warnings.specs.declared.kind.Kind.TheVariants as kinds
 use Rattle.ddt_warnings.specs.declared.warning.Finding.{Finding}
 use Rattle.ddt_warnings.specs.declared.warning.Warning.{Warning}
 use Rattle.ddt_warnings.specs.Names.{kind_number}
+use Rattle.ddt_path.specs.declared.locator.Locator.{Locator}
 use Rattle.ddt_register.specs.declared.zone.Zone.{Zone}
 use Rattle.ddt_register.specs.declared.site.Site.{Site}
 use Rattle.ddt_register.specs.declared.group.Group.{Group}
@@ -20,20 +21,25 @@ use Rattle.ddt_warnings.specs.Findings.{kind_of, is_same_kind, tells}
 -- ---- the kinds in their order
 
 abbrev pub all_kinds : List Kind
-all_kinds = kinds.UnreachableLocator ∷ kinds.RepeatedEtr ∷ kinds.EtrIsServer ∷ kinds.LocatorInsideEids
-    ∷ kinds.GroupWithoutZone ∷ kinds.NodeZoneWithoutChild ∷ kinds.ZoneBetween ∷ kinds.SiteInOtherRegion ∷ []
+all_kinds = kinds.UnreachableLocator ∷ kinds.UnreachableEtr ∷ kinds.RepeatedEtr ∷ kinds.EtrIsServer ∷ kinds.EtrIsResolver
+    ∷ kinds.EtrInsideSite ∷ kinds.LocatorInsideEids ∷ kinds.GroupWithoutZone ∷ kinds.NodeZoneWithoutChild
+    ∷ kinds.ZoneBetween ∷ kinds.ZoneOfStrangeGroup ∷ kinds.SiteInOtherRegion ∷ []
 
 pub kind_at : (kind : Kind) (i : ℕ) (d : Kind) → kind_number kind ≡ i → get_or all_kinds i d ≡ kind
 kind_at kinds.UnreachableLocator i d e = ap (λ (k : ℕ). get_or all_kinds k d) (sym e)
+kind_at kinds.UnreachableEtr i d e = ap (λ (k : ℕ). get_or all_kinds k d) (sym e)
 kind_at kinds.RepeatedEtr i d e = ap (λ (k : ℕ). get_or all_kinds k d) (sym e)
 kind_at kinds.EtrIsServer i d e = ap (λ (k : ℕ). get_or all_kinds k d) (sym e)
+kind_at kinds.EtrIsResolver i d e = ap (λ (k : ℕ). get_or all_kinds k d) (sym e)
+kind_at kinds.EtrInsideSite i d e = ap (λ (k : ℕ). get_or all_kinds k d) (sym e)
 kind_at kinds.LocatorInsideEids i d e = ap (λ (k : ℕ). get_or all_kinds k d) (sym e)
 kind_at kinds.GroupWithoutZone i d e = ap (λ (k : ℕ). get_or all_kinds k d) (sym e)
 kind_at kinds.NodeZoneWithoutChild i d e = ap (λ (k : ℕ). get_or all_kinds k d) (sym e)
 kind_at kinds.ZoneBetween i d e = ap (λ (k : ℕ). get_or all_kinds k d) (sym e)
+kind_at kinds.ZoneOfStrangeGroup i d e = ap (λ (k : ℕ). get_or all_kinds k d) (sym e)
 kind_at kinds.SiteInOtherRegion i d e = ap (λ (k : ℕ). get_or all_kinds k d) (sym e)
 
-pub number_at : (i : ℕ) (d : Kind) → i < 8 → kind_number (get_or all_kinds i d) ≡ i
+pub number_at : (i : ℕ) (d : Kind) → i < 12 → kind_number (get_or all_kinds i d) ≡ i
 number_at zero d lt = refl
 number_at (suc zero) d lt = refl
 number_at (suc (suc zero)) d lt = refl
@@ -42,16 +48,24 @@ number_at (suc (suc (suc (suc zero)))) d lt = refl
 number_at (suc (suc (suc (suc (suc zero))))) d lt = refl
 number_at (suc (suc (suc (suc (suc (suc zero)))))) d lt = refl
 number_at (suc (suc (suc (suc (suc (suc (suc zero))))))) d lt = refl
-number_at (suc (suc (suc (suc (suc (suc (suc (suc i)))))))) d lt = absurd (omega arith)
+number_at (suc (suc (suc (suc (suc (suc (suc (suc zero)))))))) d lt = refl
+number_at (suc (suc (suc (suc (suc (suc (suc (suc (suc zero))))))))) d lt = refl
+number_at (suc (suc (suc (suc (suc (suc (suc (suc (suc (suc zero)))))))))) d lt = refl
+number_at (suc (suc (suc (suc (suc (suc (suc (suc (suc (suc (suc zero))))))))))) d lt = refl
+number_at (suc (suc (suc (suc (suc (suc (suc (suc (suc (suc (suc (suc i)))))))))))) d lt = absurd (omega arith)
 
-pub below_all : (kind : Kind) → kind_number kind < 8
+pub below_all : (kind : Kind) → kind_number kind < 12
 below_all kinds.UnreachableLocator = omega arith
+below_all kinds.UnreachableEtr = omega arith
 below_all kinds.RepeatedEtr = omega arith
 below_all kinds.EtrIsServer = omega arith
+below_all kinds.EtrIsResolver = omega arith
+below_all kinds.EtrInsideSite = omega arith
 below_all kinds.LocatorInsideEids = omega arith
 below_all kinds.GroupWithoutZone = omega arith
 below_all kinds.NodeZoneWithoutChild = omega arith
 below_all kinds.ZoneBetween = omega arith
+below_all kinds.ZoneOfStrangeGroup = omega arith
 below_all kinds.SiteInOtherRegion = omega arith
 
 -- ---- one more warning
@@ -133,7 +147,7 @@ untold_kind before here has n i none =
 kind_here : (kind : Kind) (i : ℕ) (d : Kind) → i ≡ kind_number kind → get_or all_kinds i d ≡ kind
 kind_here kind i d e = kind_at kind i d (sym e)
 
-pub told_now : (has : Kind → Bool) (before here : Bool) (i : ℕ) (d : Kind) → i < 8 → (ws : List Warning) (w : Warning)
+pub told_now : (has : Kind → Bool) (before here : Bool) (i : ℕ) (d : Kind) → i < 12 → (ws : List Warning) (w : Warning)
     (kind : Kind) (row : ℕ) → tells ws kind row ≡ so_far before here (has kind) (kind_number kind) i
     → (w.row == row) ≡ here
     → (has (get_or all_kinds i d) ≡ true) × (kind_of w.finding ≡ get_or all_kinds i d)
@@ -146,7 +160,7 @@ told_now has before here i d lt ws w kind row so_far_is own found =
     ∙ ap (λ (m : ℕ). so_far before here (has kind) (kind_number kind) i || (here && (m == kind_number kind))) n
     ∙ told_kind before here (has kind) (kind_number kind) i (λ e. ap has (sym (kind_here kind i d e)) ∙ found.0)
 
-pub untold_now : (has : Kind → Bool) (before here : Bool) (i : ℕ) (d : Kind) → i < 8 → (kind : Kind)
+pub untold_now : (has : Kind → Bool) (before here : Bool) (i : ℕ) (d : Kind) → i < 12 → (kind : Kind)
     → has (get_or all_kinds i d) ≡ false
     → so_far before here (has kind) (kind_number kind) i ≡ so_far before here (has kind) (kind_number kind) (i + 1)
 untold_now has before here i d lt kind none =
@@ -157,18 +171,18 @@ told_none before here has n =
     sym (or_false before) ∙ ap (λ (b : Bool). before || b) (sym (and_false here))
     ∙ ap (λ (b : Bool). before || (here && (b && has))) (sym (le-ltb n 0 (omega arith)))
 
-pub told_all : (before here has : Bool) (kind : Kind) → so_far before here has (kind_number kind) 8 ≡ (before || (here && has))
+pub told_all : (before here has : Bool) (kind : Kind) → so_far before here has (kind_number kind) 12 ≡ (before || (here && has))
 told_all before here has kind =
-    ap (λ (b : Bool). before || (here && (b && has))) (lt-ltb (kind_number kind) 8 (below_all kind))
+    ap (λ (b : Bool). before || (here && (b && has))) (lt-ltb (kind_number kind) 12 (below_all kind))
 
 -- ---- the three lists
 
-pub warns_by_lists : (r q : Register) (groups : List Group) (sites : List Site) (zones : List Zone) → q ≡ r
+pub warns_by_lists : (r q : Register) (resolvers known : List Locator) (groups : List Group) (sites : List Site) (zones : List Zone) → q ≡ r → known ≡ resolvers
     → groups ≡ r.groups → sites ≡ r.sites → zones ≡ r.zones → (kind : Kind) (row : ℕ)
     → (item_at (λ (g : Group). g.row) (group_has q kind) groups row
-    || (item_at (λ (s : Site). s.row) (site_has q kind) sites row || item_at (λ (z : Zone). z.row) (zone_has q kind) zones row))
-    ≡ warns r kind row
-warns_by_lists r q groups sites zones same gs ss zs kind row = rw (same, gs, ss, zs) refl
+    || (item_at (λ (s : Site). s.row) (site_has q known kind) sites row || item_at (λ (z : Zone). z.row) (zone_has q kind) zones row))
+    ≡ warns r resolvers kind row
+warns_by_lists r q resolvers known groups sites zones same same_known gs ss zs kind row = rw (same, same_known, gs, ss, zs) refl
 
 pub three : (a b c : Bool) → (((false || a) || b) || c) ≡ (a || (b || c))
 three true b c = refl

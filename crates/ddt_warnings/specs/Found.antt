@@ -28,7 +28,7 @@ use Rattle.ddt_trie.specs.Trie.{trie_content}
 use Rattle.ddt_warnings.specs.declared.zone_tree.ZoneTree.{ZoneTree}
 use Rattle.ddt_warnings.specs.declared.kind.Kind.{Kind}
 use Rattle.ddt_warnings.specs.declared.warning.Finding.{Finding}
-use Rattle.ddt_warnings.specs.Warnings.{has_child, has_child_outside, zone_above, is_next}
+use Rattle.ddt_warnings.specs.Warnings.{has_child, has_child_outside, zone_above, is_next, is_usual, is_host, is_guest}
 use Rattle.ddt_warnings.specs.Findings.{kind_of}
 
 -- each item is kept at its prefix, and nothing else is
@@ -78,6 +78,26 @@ IsServerRow groups l row = MatchOption row (list_any (λ g. lists g.locators l) 
 -- each locator has such a row
 abbrev pub HasServers : List Group → BTreeMap (ℕ × ℕ) ℕ → Type 0
 HasServers groups rows = (l : Locator) → IsServerRow groups l (value_at address_cmp rows (address_of l))
+
+-- the addresses of a list of locators
+abbrev pub HasAddresses : List Locator → BTreeSet (ℕ × ℕ) → Type 0
+HasAddresses locators addresses = (l : Locator) → contains address_cmp addresses (address_of l) ≡ lists locators l
+
+-- the order of pairs of names
+abbrev pub pair_cmp : List ℕ × List ℕ → List ℕ × List ℕ → Ordering
+pair_cmp a b = ordering_then (slice_cmp nat_cmp a.0 b.0) (slice_cmp nat_cmp a.1 b.1)
+
+-- the pairs of groups of which one delegates more than one zone to the other
+abbrev pub HasUsual : Register → BTreeSet (List ℕ × List ℕ) → Type 0
+HasUsual r pairs = (pair : List ℕ × List ℕ) → contains pair_cmp pairs pair ≡ is_usual r pair
+
+-- the names of the groups that delegate to another more than once
+abbrev pub HasHosts : Register → BTreeSet (List ℕ) → Type 0
+HasHosts r names = (name : List ℕ) → contains (slice_cmp nat_cmp) names name ≡ is_host r name
+
+-- the names of those to which another delegates so
+abbrev pub HasGuests : Register → BTreeSet (List ℕ) → Type 0
+HasGuests r names = (name : List ℕ) → contains (slice_cmp nat_cmp) names name ≡ is_guest r name
 
 -- the names that zones name
 abbrev pub HasNames : List Zone → BTreeSet (List ℕ) → Type 0

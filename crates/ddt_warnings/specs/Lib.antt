@@ -5,3 +5,6 @@ pub mod Warnings
 pub mod Findings
 pub mod Found
 pub mod Index
+pub mod Lost
+pub mod Missing
+pub mod Cut

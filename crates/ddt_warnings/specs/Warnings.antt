@@ -1,14 +1,14 @@
 -- What an accepted register may have that is mostly a mistake: each kind is a test of a group, of a site or of a zone.
-use Rattle.std.specs.Prelude.{ℕ, Bool, false, ◌&&◌, ◌||◌, not, nat_lt, max, List, length, find, Option, None, Some}
+use Rattle.std.specs.Prelude.{ℕ, Bool, false, ◌&&◌, ◌||◌, not, nat_lt, max, List, drop, length, find, Option, None, Some}
 use Rattle.std.specs.List.{list_any, count_by}
-use Rattle.std.specs.Option.{option_map_or}
+use Rattle.std.specs.Option.{option_map, option_map_or}
 use Rattle.std.specs.Ordering.{nat_cmp, is_lt}
 use Rattle.std.specs.Cmp.Lexicographic.{slice_cmp}
 use Rattle.ddt_path.specs.declared.locator.Locator.{Locator}
 use Rattle.ddt_path.specs.Covers.{covers, shared_len}
 use Rattle.ddt_path.specs.Locators.{is_same_locator, lists}
 use Rattle.ddt_path.specs.Names.{is_same_name}
-use Rattle.ddt_path.specs.Path.{xeid_path}
+use Rattle.ddt_path.specs.Path.{xeid_path, address_path}
 use Rattle.ddt_register.specs.declared.zone.Zone.{Zone}
 use Rattle.ddt_register.specs.declared.site.Site.{Site}
 use Rattle.ddt_register.specs.declared.group.Group.{Group}
@@ -43,6 +43,11 @@ is_repeated ls l = nat_lt 1 (count_by (λ m. is_same_locator m l) ls)
 abbrev pub is_server : Register → Locator → Bool
 is_server r l = list_any (λ g. lists g.locators l) r.groups
 
+-- What a site's EID-prefix says of addresses, behind its Instance ID, covers the locator's, and not all of its family:
+-- a locator is of no instance.
+abbrev pub is_inside_site : Site → Locator → Bool
+is_inside_site s l = nat_lt 33 (length s.prefix) && covers (drop 32 s.prefix) (address_path l)
+
 -- ---- of zones
 
 -- the zone directly above a zone, which delegates it; the root has none
@@ -65,6 +70,48 @@ is_put_under r z p =
 -- a zone of DDT nodes that is put so under the zone directly above it
 abbrev pub is_zone_between : Register → Zone → Bool
 is_zone_between r z = not (is_ms z.kind) && option_map_or (is_put_under r z) (zone_above r z) false
+
+-- the name of the group above a zone, whose servers delegate it, and that of its own; none of the root
+abbrev pub delegation_of : Register → Zone → Option (List ℕ × List ℕ)
+delegation_of r z = option_map (λ p. (p.group, z.group)) (zone_above r z)
+
+-- both names are those of another pair
+abbrev pub is_same_pair : List ℕ × List ℕ → List ℕ × List ℕ → Bool
+is_same_pair a b = is_same_name a.0 b.0 && is_same_name a.1 b.1
+
+-- a zone is delegated by the one group to the other
+abbrev pub is_delegated : Register → List ℕ × List ℕ → Zone → Bool
+is_delegated r pair z = option_map_or (is_same_pair pair) (delegation_of r z) false
+
+-- more than one zone is
+abbrev pub is_usual : Register → List ℕ × List ℕ → Bool
+is_usual r pair = nat_lt 1 (count_by (is_delegated r pair) r.zones)
+
+-- the two groups are two, and more than one zone is delegated by the one to the other
+abbrev pub are_at_home : Register → List ℕ × List ℕ → Bool
+are_at_home r pair = not (is_same_name pair.0 pair.1) && is_usual r pair
+
+-- some other group delegates to the one of this name more than once
+abbrev pub is_guest : Register → List ℕ → Bool
+is_guest r name =
+    list_any (λ z. option_map_or (λ d. are_at_home r d && is_same_name name d.1) (delegation_of r z) false) r.zones
+
+-- the group of this name delegates to some other one more than once
+abbrev pub is_host : Register → List ℕ → Bool
+is_host r name =
+    list_any (λ z. option_map_or (λ d. are_at_home r d && is_same_name name d.0) (delegation_of r z) false) r.zones
+
+-- the one zone that a group delegates to another, where each has more than one such zone with a third
+abbrev pub is_stranger : Register → List ℕ × List ℕ → Bool
+is_stranger r pair = not (is_same_name pair.0 pair.1) && (not (is_usual r pair) && (is_host r pair.0 && is_guest r pair.1))
+
+-- a zone of a group that serves none of those beside it, which are delegated by the same group
+abbrev pub is_strange : Register → Zone → Bool
+is_strange r z = option_map_or (is_stranger r) (delegation_of r z) false
+
+-- such a zone, if the zone directly above isn't one
+abbrev pub is_of_strange_group : Register → Zone → Bool
+is_of_strange_group r z = is_strange r z && not (option_map_or (is_strange r) (zone_above r z) false)
 
 -- ---- of sites beside each other
 
@@ -111,19 +158,23 @@ group_has r kinds.GroupWithoutZone g = not (is_named r g)
 group_has r kind g = false
 
 -- what a site may have
-abbrev pub site_has : Register → Kind → Site → Bool
-site_has r kinds.RepeatedEtr s = list_any (is_repeated s.etrs) s.etrs
-site_has r kinds.EtrIsServer s = list_any (is_server r) s.etrs
-site_has r kinds.SiteInOtherRegion s = is_in_other_region r s
-site_has r kind s = false
+abbrev pub site_has : Register → List Locator → Kind → Site → Bool
+site_has r resolvers kinds.UnreachableEtr s = list_any (is_unreachable r) s.etrs
+site_has r resolvers kinds.RepeatedEtr s = list_any (is_repeated s.etrs) s.etrs
+site_has r resolvers kinds.EtrIsServer s = list_any (is_server r) s.etrs
+site_has r resolvers kinds.EtrIsResolver s = list_any (lists resolvers) s.etrs
+site_has r resolvers kinds.EtrInsideSite s = list_any (is_inside_site s) s.etrs
+site_has r resolvers kinds.SiteInOtherRegion s = is_in_other_region r s
+site_has r resolvers kind s = false
 
 -- what a zone may have
 abbrev pub zone_has : Register → Kind → Zone → Bool
 zone_has r kinds.NodeZoneWithoutChild z = not (is_ms z.kind) && not (has_child r z)
 zone_has r kinds.ZoneBetween z = is_zone_between r z
+zone_has r kinds.ZoneOfStrangeGroup z = is_of_strange_group r z
 zone_has r kind z = false
 
--- whether the row is warned of
-abbrev pub warns : Register → Kind → ℕ → Bool
-warns r kind row = group_at r row (group_has r kind)
-    || (site_at r row (site_has r kind) || zone_at r row (zone_has r kind))
+-- whether the row is warned of, where these are the addresses of Map-Resolvers
+abbrev pub warns : Register → List Locator → Kind → ℕ → Bool
+warns r resolvers kind row = group_at r row (group_has r kind)
+    || (site_at r row (site_has r resolvers kind) || zone_at r row (zone_has r kind))

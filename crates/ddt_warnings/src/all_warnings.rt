@@ -5,7 +5,7 @@ ghost use Rattle.std.specs.List.{Contains};
 ghost use Rattle.ddt_check.specs.Rules.{item_at};
 ghost use Rattle.ddt_warnings.specs.declared.kind.Kind.{Kind as AKind};
 ghost use Rattle.ddt_warnings.specs.Findings.{tells, in_told_order};
-ghost use Rattle.ddt_warnings.specs.Index.{IsIndex, register_of};
+ghost use Rattle.ddt_warnings.specs.Index.{IsIndex, register_of, resolvers_of};
 ghost use Rattle.ddt_warnings.specs.Warnings.{warns};
 
 use crate::index::Index;
@@ -13,16 +13,22 @@ use crate::kind::Kind;
 use crate::warned::Warned;
 use crate::warning::Warning;
 use ddt_check::Accepted;
+use ddt_path::Locator;
 use std::alloc::{AllocError, Global};
 
 /// What an accepted register has that is mostly a mistake: a warning for each row and kind, in the order of the rows,
-/// then of the kinds. Fails only if out of memory.
-pub fn warnings(alloc: Global, accepted: &Accepted) -> Result<Vec<Warning>, AllocError>
+/// then of the kinds. `resolvers` are the addresses of Map-Resolvers, as far as they are known: an ETR that is one of
+/// them is told. Fails only if out of memory.
+pub fn warnings(
+    alloc: Global,
+    accepted: &Accepted,
+    resolvers: &[Locator],
+) -> Result<Vec<Warning>, AllocError>
     ensures each { IfOk result (λ told. (kind : AKind) (row : ℕ)
-        → tells told.items kind row ≡ warns accepted.now kind row) }
+        → tells told.items kind row ≡ warns accepted.now resolvers.now kind row) }
     ensures order { IfOk result (λ told. IsSorted in_told_order told.items) }
 {
-    let index = Index::of(alloc, accepted)?;
+    let index = Index::of(alloc, accepted, resolvers)?;
     let register = accepted.register();
     let mut told = Vec::new(alloc);
     tell(&mut told, &index, register.groups.as_slice())?;
@@ -37,7 +43,8 @@ fn tell<T: Warned>(told: &mut Vec<Warning>, index: &Index, items: &[T]) -> Resul
     requires index { IsIndex index.now }
     requires items { items.now ≡ T.items_of (register_of index.now) }
     ensures { OnOk result ((kind : AKind) (row : ℕ) → tells told.new.items kind row
-        ≡ (tells told.old.items kind row || item_at T.row_of (T.has (register_of index.now) kind) items.now row)) }
+        ≡ (tells told.old.items kind row || item_at T.row_of (T.has (register_of index.now) (resolvers_of index.now) kind) items.now
+        row)) }
 {
     for item in items {
         tell_item(told, index, item)?;
@@ -50,7 +57,7 @@ fn tell_item<T: Warned>(told: &mut Vec<Warning>, index: &Index, item: &T) -> Res
     requires member { Contains (T.items_of (register_of index.now)) item.now }
     ensures { OnOk result ((kind : AKind) (row : ℕ) → tells told.new.items kind row
         ≡ (tells told.old.items kind row
-        || (T.row_of item.now == row && T.has (register_of index.now) kind item.now))) }
+        || (T.row_of item.now == row && T.has (register_of index.now) (resolvers_of index.now) kind item.now))) }
 {
     for kind in Kind::ALL {
         if let Some(finding) = item.find(index, kind) {

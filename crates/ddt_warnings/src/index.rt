@@ -1,15 +1,16 @@
 //! What is kept of a register while its items are looked at, so that each look takes one path or one search.
 
 ghost use Rattle.std.specs.Prelude.{◌≡◌, IfOk};
-ghost use Rattle.ddt_warnings.specs.Index.{IsIndex, register_of};
+ghost use Rattle.ddt_warnings.specs.Index.{IsIndex, register_of, resolvers_of};
 
 use crate::by_prefix::by_prefix;
 use crate::children::{Children, children_of};
+use crate::delegations::{Delegations, delegations_of};
 use crate::order::sites_in_order;
-use crate::servers::{Address, is_on_loopback, named_groups, servers};
+use crate::servers::{Address, addresses, is_on_loopback, named_groups, servers};
 use crate::zone_tree::ZoneTree;
 use ddt_check::Accepted;
-use ddt_path::Name;
+use ddt_path::{Locator, Name};
 use ddt_register::Site;
 use ddt_trie::TrieMap;
 use std::alloc::{AllocError, Global};
@@ -21,6 +22,7 @@ pub struct Index<'a> {
     pub tree: ZoneTree<'a>,
     /// Which zones have zones directly below them.
     pub children: Children,
+    pub delegations: Delegations,
     pub sites: TrieMap<&'a Site>,
     /// The sites in the order of their prefixes.
     pub order: Vec<&'a Site>,
@@ -30,25 +32,37 @@ pub struct Index<'a> {
     pub named: BTreeSet<Name>,
     /// Whether the register is wholly on the loopback.
     pub is_rig: bool,
+    /// The addresses of Map-Resolvers.
+    pub resolvers: &'a [Locator],
+    pub known: BTreeSet<Address>,
 }
 
 impl<'a> Index<'a> {
-    /// The index of an accepted register. Fails only if out of memory.
-    pub fn of(alloc: Global, accepted: &'a Accepted) -> Result<Index<'a>, AllocError>
+    /// The index of an accepted register, where Map-Resolvers have these addresses. Fails only if out of memory.
+    pub fn of(
+        alloc: Global,
+        accepted: &'a Accepted,
+        resolvers: &'a [Locator],
+    ) -> Result<Index<'a>, AllocError>
         ensures register { IfOk result (λ index. register_of index ≡ accepted.now) }
+        ensures resolvers { IfOk result (λ index. resolvers_of index ≡ resolvers.now) }
         ensures index { IfOk result (IsIndex) }
     {
         let register = accepted.register();
         let tree = ZoneTree::of(alloc, accepted)?;
         let children = children_of(alloc, &tree)?;
+        let delegations = delegations_of(alloc, &tree)?;
         Ok(Index {
             tree,
             children,
+            delegations,
             sites: by_prefix(alloc, register.sites.as_slice())?,
             order: sites_in_order(alloc, register.sites.as_slice())?,
             servers: servers(alloc, register.groups.as_slice())?,
             named: named_groups(alloc, register.zones.as_slice())?,
             is_rig: is_on_loopback(register.groups.as_slice()),
+            resolvers,
+            known: addresses(alloc, resolvers)?,
         })
     }
 }

@@ -12,10 +12,16 @@ pub enum Kind {
     /// A group's locator that can't be reached from elsewhere: unspecified, link-local, multicast or broadcast; a
     /// loopback one too, unless the register is wholly on the loopback.
     UnreachableLocator,
+    /// An ETR of a site that can't be reached from elsewhere, for the same reasons.
+    UnreachableEtr,
     /// An ETR stands twice in a site.
     RepeatedEtr,
     /// An ETR of a site is a locator of a group.
     EtrIsServer,
+    /// An ETR of a site is a known Map-Resolver's address.
+    EtrIsResolver,
+    /// An ETR's address is one of its own site, in whichever instance.
+    EtrInsideSite,
     /// A site covers a group's locator in instance 0.
     LocatorInsideEids,
     /// No zone names the group.
@@ -24,20 +30,27 @@ pub enum Kind {
     NodeZoneWithoutChild,
     /// A zone of DDT nodes stands between a zone and those directly below it, which share another group.
     ZoneBetween,
+    /// The servers above the zone delegate to its group nowhere else, but often to other groups; and its group often
+    /// has zones that other servers delegate.
+    ZoneOfStrangeGroup,
     /// The sites just before and just behind a site are near, and served by one group, the site itself by another.
     SiteInOtherRegion,
 }
 
 impl Kind {
     /// All kinds, in their order.
-    pub const ALL: [Kind; 8] = [
+    pub const ALL: [Kind; 12] = [
         Kind::UnreachableLocator,
+        Kind::UnreachableEtr,
         Kind::RepeatedEtr,
         Kind::EtrIsServer,
+        Kind::EtrIsResolver,
+        Kind::EtrInsideSite,
         Kind::LocatorInsideEids,
         Kind::GroupWithoutZone,
         Kind::NodeZoneWithoutChild,
         Kind::ZoneBetween,
+        Kind::ZoneOfStrangeGroup,
         Kind::SiteInOtherRegion,
     ];
 
@@ -47,12 +60,16 @@ impl Kind {
     {
         match name {
             "unreachable-locator" => Some(Kind::UnreachableLocator),
+            "unreachable-etr" => Some(Kind::UnreachableEtr),
             "repeated-etr" => Some(Kind::RepeatedEtr),
             "etr-is-server" => Some(Kind::EtrIsServer),
+            "etr-is-resolver" => Some(Kind::EtrIsResolver),
+            "etr-inside-site" => Some(Kind::EtrInsideSite),
             "locator-inside-eids" => Some(Kind::LocatorInsideEids),
             "group-without-zone" => Some(Kind::GroupWithoutZone),
             "node-zone-without-child" => Some(Kind::NodeZoneWithoutChild),
             "zone-between" => Some(Kind::ZoneBetween),
+            "zone-of-strange-group" => Some(Kind::ZoneOfStrangeGroup),
             "site-in-other-region" => Some(Kind::SiteInOtherRegion),
             _ => None,
         }
@@ -64,13 +81,17 @@ impl Kind {
     {
         match self {
             Kind::UnreachableLocator => 0,
-            Kind::RepeatedEtr => 1,
-            Kind::EtrIsServer => 2,
-            Kind::LocatorInsideEids => 3,
-            Kind::GroupWithoutZone => 4,
-            Kind::NodeZoneWithoutChild => 5,
-            Kind::ZoneBetween => 6,
-            Kind::SiteInOtherRegion => 7,
+            Kind::UnreachableEtr => 1,
+            Kind::RepeatedEtr => 2,
+            Kind::EtrIsServer => 3,
+            Kind::EtrIsResolver => 4,
+            Kind::EtrInsideSite => 5,
+            Kind::LocatorInsideEids => 6,
+            Kind::GroupWithoutZone => 7,
+            Kind::NodeZoneWithoutChild => 8,
+            Kind::ZoneBetween => 9,
+            Kind::ZoneOfStrangeGroup => 10,
+            Kind::SiteInOtherRegion => 11,
         }
     }
 
@@ -80,12 +101,16 @@ impl Kind {
     {
         match self {
             Kind::UnreachableLocator => "unreachable-locator",
+            Kind::UnreachableEtr => "unreachable-etr",
             Kind::RepeatedEtr => "repeated-etr",
             Kind::EtrIsServer => "etr-is-server",
+            Kind::EtrIsResolver => "etr-is-resolver",
+            Kind::EtrInsideSite => "etr-inside-site",
             Kind::LocatorInsideEids => "locator-inside-eids",
             Kind::GroupWithoutZone => "group-without-zone",
             Kind::NodeZoneWithoutChild => "node-zone-without-child",
             Kind::ZoneBetween => "zone-between",
+            Kind::ZoneOfStrangeGroup => "zone-of-strange-group",
             Kind::SiteInOtherRegion => "site-in-other-region",
         }
     }

@@ -20,7 +20,7 @@ use ddt_register::{Group, Site};
 impl Warned for Group {
     ghost items_of = { λ r. r.groups };
 
-    ghost has = { group_has };
+    ghost has = { λ r resolvers. group_has r };
 
     fn find(&self, index: &Index, kind: Kind) -> Option<Finding> {
         let locators = self.locators.as_slice();

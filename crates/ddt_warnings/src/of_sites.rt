@@ -1,20 +1,24 @@
 //! What a site may have that is mostly a mistake.
 
-ghost use Rattle.std.specs.Prelude.{◌≡◌, ◌&&◌};
+ghost use Rattle.std.specs.Prelude.{◌≡◌, ◌<◌, ◌&&◌, drop, length};
+ghost use Rattle.ddt_path.specs.Covers.{covers};
+ghost use Rattle.ddt_path.specs.Path.{address_path};
 ghost use Rattle.std.specs.List.{Contains, count_by};
-ghost use Rattle.ddt_path.specs.Locators.{is_same_locator};
+ghost use Rattle.ddt_path.specs.Locators.{is_same_locator, lists};
 ghost use Rattle.std.specs.Option.{option_copied};
 ghost use Rattle.ddt_warnings.specs.Found.{IsWarningFound};
-ghost use Rattle.ddt_warnings.specs.Index.{IsIndex, register_of};
-ghost use Rattle.ddt_warnings.specs.Warnings.{site_has, is_repeated as is_repeated_of, is_server, is_in_other_region, len_above as len_above_of, are_near as are_near_sites, is_odd as is_odd_site, have_one_group as have_one_group_of};
+ghost use Rattle.ddt_warnings.specs.Index.{IsIndex, register_of, resolvers_of};
+ghost use Rattle.ddt_warnings.specs.Reach.{is_unreachable};
+ghost use Rattle.ddt_warnings.specs.Warnings.{site_has, is_repeated as is_repeated_of, is_server, is_inside_site as is_inside_site_of, is_in_other_region, len_above as len_above_of, are_near as are_near_sites, is_odd as is_odd_site, have_one_group as have_one_group_of};
 
 use crate::index::Index;
 use crate::kind::Kind;
 use crate::order::neighbours;
+use crate::reach::{is_out_of_reach, reach_of};
 use crate::servers::address;
 use crate::warned::{Warned, first_found};
 use crate::warning::Finding;
-use ddt_path::Locator;
+use ddt_path::{Locator, Prefix, Xeid};
 use ddt_register::{Site, Zone};
 
 impl Warned for Site {
@@ -25,12 +29,24 @@ impl Warned for Site {
     fn find(&self, index: &Index, kind: Kind) -> Option<Finding> {
         let etrs = self.etrs.as_slice();
         match kind {
+            Kind::UnreachableEtr => first_found(etrs, |l| unreachable_etr(index, *l)),
             Kind::RepeatedEtr => first_found(etrs, |l| repeated_etr(self, *l)),
             Kind::EtrIsServer => first_found(etrs, |l| etr_is_server(index, *l)),
+            Kind::EtrIsResolver => first_found(etrs, |l| etr_is_resolver(index, *l)),
+            Kind::EtrInsideSite => first_found(etrs, |l| etr_inside_site(self, *l)),
             Kind::SiteInOtherRegion => in_other_region(index, self),
             _ => None,
         }
     }
+}
+
+/// Whether an ETR can't be reached from elsewhere.
+fn unreachable_etr(index: &Index, etr: Locator) -> Option<Finding>
+    requires { IsIndex index.now }
+    ensures { IsWarningFound (is_unreachable (register_of index.now) etr) Kind.UnreachableEtr result }
+{
+    let reach = reach_of(etr)?;
+    is_out_of_reach(index.is_rig, Some(reach)).then_some(Finding::UnreachableEtr { etr, reach })
 }
 
 /// An ETR that stands more than once in a site, of which there are at most 8.
@@ -60,6 +76,37 @@ fn etr_is_server(index: &Index, etr: Locator) -> Option<Finding>
 {
     let group = *index.servers.get(&address(etr))?;
     Some(Finding::EtrIsServer { etr, group })
+}
+
+/// Whether an ETR is a known Map-Resolver's address.
+fn etr_is_resolver(index: &Index, etr: Locator) -> Option<Finding>
+    requires { IsIndex index.now }
+    ensures { IsWarningFound (lists (resolvers_of index.now) etr) Kind.EtrIsResolver result }
+{
+    let is_known = index.known.contains(&address(etr));
+    is_known.then_some(Finding::EtrIsResolver { etr })
+}
+
+/// Whether an ETR's address is one of its own site.
+fn etr_inside_site(site: &Site, etr: Locator) -> Option<Finding>
+    ensures { IsWarningFound (is_inside_site_of site.now etr) Kind.EtrInsideSite result }
+{
+    is_inside_site(site, etr).then_some(Finding::EtrInsideSite { etr })
+}
+
+/// Whether a site's EID-prefix covers an address, in whichever instance, and not its whole family.
+fn is_inside_site(site: &Site, etr: Locator) -> bool
+    ensures { result ≡ is_inside_site_of site.now etr }
+{
+    site.prefix.len() > 33 && covers_address(site.prefix, etr)
+}
+
+/// Whether a prefix covers an address in its own instance.
+fn covers_address(prefix: Prefix, address: Locator) -> bool
+    ensures { 32 < length prefix → result ≡ covers (drop 32 prefix) (address_path address) }
+{
+    let iid = prefix.inner().iid;
+    prefix.covers_xeid(Xeid { iid, address })
 }
 
 /// Whether the sites just before and just behind are near, and served by one group, and the site by another.

@@ -1,12 +1,14 @@
 //! What a zone may have that is mostly a mistake.
 
-ghost use Rattle.std.specs.Prelude.{◌≡◌, ◌&&◌, not, Some};
+ghost use Rattle.std.specs.Prelude.{◌≡◌, ◌&&◌, not, false, Some};
+ghost use Rattle.std.specs.Option.{option_map_or};
 ghost use Rattle.std.specs.List.{Contains};
 ghost use Rattle.ddt_check.specs.Zones.{is_ms};
 ghost use Rattle.ddt_warnings.specs.Found.{IsWarningFound};
 ghost use Rattle.ddt_warnings.specs.Index.{IsIndex, register_of};
-ghost use Rattle.ddt_warnings.specs.Warnings.{zone_has, zone_above, is_zone_between, has_child as has_child_of, has_child_outside as has_child_outside_of, is_put_under as is_put_under_of};
+ghost use Rattle.ddt_warnings.specs.Warnings.{zone_has, zone_above, is_zone_between, has_child as has_child_of, has_child_outside as has_child_outside_of, is_put_under as is_put_under_of, is_strange as is_strange_of, is_of_strange_group as is_of_strange_group_of};
 
+use crate::delegations::delegation_of;
 use crate::index::Index;
 use crate::kind::Kind;
 use crate::warned::Warned;
@@ -17,7 +19,7 @@ use ddt_register::Zone;
 impl Warned for Zone {
     ghost items_of = { λ r. r.zones };
 
-    ghost has = { zone_has };
+    ghost has = { λ r resolvers. zone_has r };
 
     fn find(&self, index: &Index, kind: Kind) -> Option<Finding> {
         match kind {
@@ -25,6 +27,9 @@ impl Warned for Zone {
                 is_childless(index, self).then_some(Finding::NodeZoneWithoutChild)
             }
             Kind::ZoneBetween => zone_between(index, self),
+            Kind::ZoneOfStrangeGroup => {
+                is_of_strange_group(index, self).then_some(Finding::ZoneOfStrangeGroup)
+            }
             _ => None,
         }
     }
@@ -84,4 +89,34 @@ fn zone_between(index: &Index, zone: &Zone) -> Option<Finding>
     let above = index.tree.zone_above(zone)?;
     let is_between = is_of_nodes(zone) && is_put_under(index, zone, above);
     is_between.then_some(Finding::ZoneBetween { above: above.row })
+}
+
+/// Whether a zone's group serves none of those that the same group delegates, where each delegates or is delegated more
+/// than one zone by another; and the zone directly above isn't such a one.
+fn is_of_strange_group(index: &Index, zone: &Zone) -> bool
+    requires { IsIndex index.now }
+    ensures { result ≡ is_of_strange_group_of (register_of index.now) zone.now }
+{
+    is_strange(index, zone) && !is_strange_above(index, zone)
+}
+
+fn is_strange(index: &Index, zone: &Zone) -> bool
+    requires { IsIndex index.now }
+    ensures { result ≡ is_strange_of (register_of index.now) zone.now }
+{
+    match delegation_of(&index.tree, zone) {
+        Some(delegation) => index.delegations.is_stranger(&delegation),
+        None => false,
+    }
+}
+
+fn is_strange_above(index: &Index, zone: &Zone) -> bool
+    requires { IsIndex index.now }
+    ensures { result
+        ≡ option_map_or (is_strange_of (register_of index.now)) (zone_above (register_of index.now) zone.now) false }
+{
+    match index.tree.zone_above(zone) {
+        Some(above) => is_strange(index, above),
+        None => false,
+    }
 }

@@ -5,7 +5,7 @@ ghost use Rattle.std.specs.List.{list_all};
 ghost use Rattle.std.specs.BTreeMap.{get};
 ghost use Rattle.ddt_path.specs.declared.locator.Locator.{Locator as ALocator};
 ghost use Rattle.ddt_path.specs.Locators.{lists};
-ghost use Rattle.ddt_warnings.specs.Found.{HasServers, HasNames, address_of, address_cmp};
+ghost use Rattle.ddt_warnings.specs.Found.{HasServers, HasNames, HasAddresses, address_of, address_cmp};
 ghost use Rattle.ddt_warnings.specs.Reach.{is_loopback as is_loopback_of, reach_of as reach_of_locator};
 
 use crate::reach::{is_loopback, reach_of};
@@ -58,6 +58,17 @@ pub fn named_groups(alloc: Global, zones: &[Zone]) -> Result<BTreeSet<Name>, All
         names.insert(zone.group)?;
     }
     Ok(names)
+}
+
+/// The addresses of some locators. Fails only if out of memory.
+pub fn addresses(alloc: Global, locators: &[Locator]) -> Result<BTreeSet<Address>, AllocError>
+    ensures { IfOk result (HasAddresses locators.now) }
+{
+    let mut addresses = BTreeSet::new(alloc);
+    for locator in locators {
+        addresses.insert(address(*locator))?;
+    }
+    Ok(addresses)
 }
 
 /// Whether each locator of each group is a loopback one.

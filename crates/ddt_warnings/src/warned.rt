@@ -6,7 +6,7 @@ ghost use Rattle.ddt_path.specs.declared.locator.Locator.{Locator as ALocator};
 ghost use Rattle.ddt_register.specs.declared.register.Register.{Register as ARegister};
 ghost use Rattle.ddt_warnings.specs.declared.kind.Kind.{Kind as AKind};
 ghost use Rattle.ddt_warnings.specs.Found.{IsWarningFound, FindsAs};
-ghost use Rattle.ddt_warnings.specs.Index.{IsIndex, register_of};
+ghost use Rattle.ddt_warnings.specs.Index.{IsIndex, register_of, resolvers_of};
 
 use crate::index::Index;
 use crate::kind::Kind;
@@ -19,14 +19,14 @@ pub trait Warned: Item {
     /// All of them in a register.
     ghost items_of: { ARegister → List Self };
 
-    /// Whether one has something of a kind.
-    ghost has: { ARegister → AKind → Self → Bool };
+    /// Whether one has something of a kind, where Map-Resolvers have these addresses.
+    ghost has: { ARegister → List ALocator → AKind → Self → Bool };
 
     /// What it has of a kind, if anything.
     fn find(&self, index: &Index, kind: Kind) -> Option<Finding>
         requires index { IsIndex index.now }
         requires member { Contains (items_of (register_of index.now)) self.now }
-        ensures { IsWarningFound (has (register_of index.now) kind self.now) kind result };
+        ensures { IsWarningFound (has (register_of index.now) (resolvers_of index.now) kind self.now) kind result };
 }
 
 /// What is found first of the locators of a list.

@@ -14,16 +14,23 @@ use std::net::{Ipv4Addr, Ipv6Addr};
 pub enum Finding {
     /// The first locator of the group that can't be reached, and why.
     UnreachableLocator { locator: Locator, reach: Reach },
+    /// The first ETR of the site that can't be reached, and why.
+    UnreachableEtr { etr: Locator, reach: Reach },
     /// The first ETR of the site that stands in it again.
     RepeatedEtr { etr: Locator },
     /// The first ETR of the site that is a server's, and the row of the server's group.
     EtrIsServer { etr: Locator, group: u32 },
+    /// The first ETR of the site that is a known Map-Resolver's.
+    EtrIsResolver { etr: Locator },
+    /// The first ETR of the site whose address is one of the site.
+    EtrInsideSite { etr: Locator },
     /// The first locator of the group that a site covers, and the row of the longest such site.
     LocatorInsideEids { locator: Locator, site: u32 },
     GroupWithoutZone,
     NodeZoneWithoutChild,
     /// The row of the zone directly above.
     ZoneBetween { above: u32 },
+    ZoneOfStrangeGroup,
     /// The rows of the sites just before and just behind.
     SiteInOtherRegion { before: u32, behind: u32 },
 }
@@ -43,12 +50,16 @@ impl Finding {
     {
         match self {
             Finding::UnreachableLocator { .. } => Kind::UnreachableLocator,
+            Finding::UnreachableEtr { .. } => Kind::UnreachableEtr,
             Finding::RepeatedEtr { .. } => Kind::RepeatedEtr,
             Finding::EtrIsServer { .. } => Kind::EtrIsServer,
+            Finding::EtrIsResolver { .. } => Kind::EtrIsResolver,
+            Finding::EtrInsideSite { .. } => Kind::EtrInsideSite,
             Finding::LocatorInsideEids { .. } => Kind::LocatorInsideEids,
             Finding::GroupWithoutZone => Kind::GroupWithoutZone,
             Finding::NodeZoneWithoutChild => Kind::NodeZoneWithoutChild,
             Finding::ZoneBetween { .. } => Kind::ZoneBetween,
+            Finding::ZoneOfStrangeGroup => Kind::ZoneOfStrangeGroup,
             Finding::SiteInOtherRegion { .. } => Kind::SiteInOtherRegion,
         }
     }
@@ -101,9 +112,18 @@ impl fmt::Display for Finding {
             Finding::UnreachableLocator { locator, reach } => {
                 write!(f, "the locator {} is {reach}", Shown(*locator))
             }
+            Finding::UnreachableEtr { etr, reach } => {
+                write!(f, "the ETR {} is {reach}", Shown(*etr))
+            }
             Finding::RepeatedEtr { etr } => write!(f, "the ETR {} stands twice", Shown(*etr)),
             Finding::EtrIsServer { etr, .. } => {
                 write!(f, "the ETR {} is a locator of a group", Shown(*etr))
+            }
+            Finding::EtrIsResolver { etr } => {
+                write!(f, "the ETR {} is a Map-Resolver's address", Shown(*etr))
+            }
+            Finding::EtrInsideSite { etr } => {
+                write!(f, "the ETR {} is inside its own site", Shown(*etr))
             }
             Finding::LocatorInsideEids { locator, .. } => {
                 write!(f, "the locator {} is inside a site", Shown(*locator))
@@ -112,6 +132,9 @@ impl fmt::Display for Finding {
             Finding::NodeZoneWithoutChild => f.write_str("no zone is below this one of DDT nodes"),
             Finding::ZoneBetween { .. } => {
                 f.write_str("the zones above and below share a group that isn't its own")
+            }
+            Finding::ZoneOfStrangeGroup => {
+                f.write_str("the servers above delegate to its group nowhere else, but others do")
             }
             Finding::SiteInOtherRegion { .. } => {
                 f.write_str("the sites just before and behind share a group that isn't its own")

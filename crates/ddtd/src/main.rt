@@ -27,6 +27,7 @@ mod registration_text;
 mod reply_addresses;
 mod server;
 mod servers_known;
+mod shared_socket;
 mod site_changes;
 mod site_keys;
 mod sockets;

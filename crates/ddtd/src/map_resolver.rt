@@ -43,6 +43,8 @@ pub struct ResolverRole<'a> {
     settings: Settings,
     near: NearWires,
     far: Counted<FarWires>,
+    /// Whether something may be where the ITRs' own requests go out.
+    is_far_ready: bool,
     buffer: Vec<u8>,
     moments: Moments,
     give_ups: Bounded,
@@ -126,6 +128,7 @@ impl<'a> ResolverRole<'a> {
             settings,
             near: RandomNonces::new(rt.alloc(), Counted::new(near), nonces(rt)?, false),
             far: Counted::new(far),
+            is_far_ready: false,
             buffer,
             moments,
             give_ups: Bounded::new(),
@@ -167,7 +170,19 @@ impl<'a> ResolverRole<'a> {
             now,
         }
         .go_on();
-        self.far.wires.drain(self.buffer.as_mut_slice());
+        if self.is_far_ready {
+            self.far.wires.drain(self.buffer.as_mut_slice());
+        }
+    }
+
+    /// Notes at which sockets something may be; they are waited for in the order of `add_to`.
+    fn note_ready(&mut self, poll: &Poll) {
+        let near = &mut self.near.wires_mut().wires;
+        let asking = near.listening.len();
+        let far = asking.saturating_add(near.asking.len());
+        let end = far.saturating_add(self.far.wires.sockets.len());
+        near.note_ready(poll.may_be_ready(0..asking), poll.may_be_ready(asking..far));
+        self.is_far_ready = poll.may_be_ready(far..end);
     }
 
     /// Says in the log which messages were dropped for their AFI.
@@ -254,8 +269,9 @@ impl<'a> Role for ResolverRole<'a> {
         due.saturating_sub(now).min(PATIENCE) as i32
     }
 
-    fn round(&mut self, rt: &HostRuntime, _poll: &Poll, log: &mut Log) -> bool {
+    fn round(&mut self, rt: &HostRuntime, poll: &Poll, log: &mut Log) -> bool {
         let now = self.moments.now(rt);
+        self.note_ready(poll);
         self.resolve(now);
         say_silence(rt, &mut self.near, log);
         say_give_ups(rt, &mut self.give_ups, &mut self.resolver, now, log);

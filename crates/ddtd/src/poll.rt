@@ -3,12 +3,15 @@
 use libc::net::{POLLIN, POLLOUT, poll};
 use libc::types::pollfd;
 use std::alloc::Global;
+use std::ops::Range;
 use std::os::fd::AsRawFd;
 
 /// The descriptors that are waited for, each known by its place.
 #[derive(Drop)]
 pub struct Poll {
     asked: Vec<pollfd>,
+    /// Whether the system failed to say what is there.
+    has_failed: bool,
 }
 
 impl Poll {
@@ -16,6 +19,7 @@ impl Poll {
     pub fn new(alloc: Global) -> Poll {
         Poll {
             asked: Vec::new(alloc),
+            has_failed: false,
         }
     }
 
@@ -49,7 +53,8 @@ impl Poll {
 
     /// Waits until something is there, at most so many milliseconds; whether the system did so.
     pub fn wait(&mut self, millis: i32) -> bool {
-        poll(self.asked.as_mut_slice(), millis) >= 0
+        self.has_failed = poll(self.asked.as_mut_slice(), millis) < 0;
+        !self.has_failed
     }
 
     /// Whether something is at a place.
@@ -58,5 +63,10 @@ impl Poll {
             Some(asked) => asked.revents != 0,
             None => false,
         }
+    }
+
+    /// Whether something may be at one of these places: where the system failed to say so, at each.
+    pub fn may_be_ready(&self, mut places: Range<usize>) -> bool {
+        self.has_failed || places.any(|place| self.is_ready(place))
     }
 }

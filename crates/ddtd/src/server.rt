@@ -208,7 +208,7 @@ impl<'a> ServerRole<'a> {
         };
         let clock = Clock::now(rt, &mut moments);
         let addresses = addresses_in(rt, asked, &loaded.config)?;
-        let mut sockets = Sockets::new(rt.alloc(), CONTROL_PORT);
+        let mut sockets = Sockets::new(rt.alloc(), CONTROL_PORT).shared(asked.is_shared);
         let places = places_of(&addresses, &loaded.config);
         bind_all(rt, asked, places, &mut sockets)?;
         let summary = loaded.summary;

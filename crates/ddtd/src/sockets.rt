@@ -5,6 +5,7 @@ ghost use Rattle.std.specs.Prelude.{◌≤◌, length, IfOk, IfSome};
 use crate::poll::Poll;
 use crate::receive_buffer;
 use crate::reply_addresses::ReplyAddresses;
+use crate::shared_socket::bind_shared;
 use ddt_ecm::CONTROL_PORT;
 use ddt_path::Locator;
 use ddt_wire::MessageType;
@@ -22,8 +23,12 @@ struct Bound {
 }
 
 impl Bound {
-    fn bind<N: Net>(net: &N, at: Locator, port: u16) -> io::Result<Bound> {
-        let socket = UdpSocket::bind(net, SocketAddr::new(ip_of(at), port))?;
+    fn bind<N: Net>(net: &N, at: Locator, port: u16, is_shared: bool) -> io::Result<Bound> {
+        let socket = if is_shared {
+            bind_shared(net, at, port)?
+        } else {
+            UdpSocket::bind(net, SocketAddr::new(ip_of(at), port))?
+        };
         socket.set_nonblocking(true)?;
         receive_buffer::enlarge(&socket);
         Ok(Bound { at, socket })
@@ -57,6 +62,8 @@ impl Bound {
 pub struct Sockets {
     bound: Vec<Bound>,
     port: u16,
+    /// Whether other processes may bind sockets to the same addresses.
+    is_shared: bool,
     /// The place that was looked at last.
     last: usize,
 }
@@ -67,14 +74,22 @@ impl Sockets {
         Sockets {
             bound: Vec::new(alloc),
             port,
+            is_shared: false,
             last: 0,
         }
+    }
+
+    /// The same, where other processes may bind sockets to the same addresses if this is so.
+    pub fn shared(mut self, is_shared: bool) -> Sockets {
+        self.is_shared = is_shared;
+        self
     }
 
     /// Binds a socket to an address, if it has none. Refused as the system refuses it, or if out of memory.
     pub fn bind<N: Net>(&mut self, net: &N, at: Locator) -> io::Result<()> {
         if self.socket_at(at).is_none() {
-            self.bound.push(Bound::bind(net, at, self.port)?)?;
+            let bound = Bound::bind(net, at, self.port, self.is_shared)?;
+            self.bound.push(bound)?;
         }
         Ok(())
     }
@@ -225,6 +240,10 @@ pub struct ResolverWires {
     listens: bool,
     /// How many are taken in a row there before it is the other side's turn.
     left: u32,
+    /// Whether something may be where it listens.
+    is_listening_ready: bool,
+    /// Whether something may be where it asks.
+    is_asking_ready: bool,
     /// Where replies go whose own address can't be reached.
     reply_addresses: ReplyAddresses,
     /// How many datagrams were dropped since they weren't of the sort that may come in there.
@@ -239,8 +258,50 @@ impl ResolverWires {
             asking: Sockets::new(alloc, 0),
             listens: true,
             left: MOST_REQUESTS,
+            is_listening_ready: false,
+            is_asking_ready: false,
             reply_addresses: ReplyAddresses::new(alloc),
             strays: 0,
+        }
+    }
+
+    /// Notes on which sides something may be. A side with nothing isn't looked at until the next note.
+    pub fn note_ready(&mut self, is_listening_ready: bool, is_asking_ready: bool) {
+        self.is_listening_ready = is_listening_ready;
+        self.is_asking_ready = is_asking_ready;
+    }
+
+    /// A datagram that is at one of the sockets of a side.
+    fn receive_on(&mut self, listens: bool, buffer: &mut [u8]) -> Result<Option<Packet>, NetFault>
+        ensures fits { IfOk result (λ answer. IfSome answer (λ packet. packet.len ≤ length buffer.new)) }
+    {
+        if !self.is_ready(listens) {
+            return Ok(None);
+        }
+        let answer = if listens {
+            self.listening.receive_any(buffer)
+        } else {
+            self.asking.receive_any(buffer)
+        };
+        if let Ok(None) = answer {
+            self.note_empty(listens);
+        }
+        answer
+    }
+
+    fn is_ready(&self, listens: bool) -> bool {
+        if listens {
+            self.is_listening_ready
+        } else {
+            self.is_asking_ready
+        }
+    }
+
+    fn note_empty(&mut self, listens: bool) {
+        if listens {
+            self.is_listening_ready = false;
+        } else {
+            self.is_asking_ready = false;
         }
     }
 
@@ -259,12 +320,7 @@ impl ResolverWires {
         ensures fits { IfOk result (λ answer. IfSome answer (λ packet. packet.len ≤ length buffer.new)) }
     {
         let listens = self.listens;
-        let answer = if listens {
-            self.listening.receive_any(buffer)
-        } else {
-            self.asking.receive_any(buffer)
-        };
-        match answer {
+        match self.receive_on(listens, buffer) {
             Ok(Some(packet)) if MessageType::Encapsulated.is_of(&buffer[..packet.len]) != listens =>
                 {
                     self.strays = self.strays.saturating_add(1);

@@ -78,8 +78,8 @@ fn find(rt: &HostRuntime, path: &str, most: u64) -> io::Result<Found> {
     if metadata.len() > most {
         return Ok(Found::TooLarge);
     }
-    let mut bytes = Vec::new(rt.alloc());
     // The file may have grown since.
+    let mut bytes = Vec::with_capacity(rt.alloc(), (metadata.len() as usize).saturating_add(1))?;
     let mut file = File::open(rt, path)?.take(most.saturating_add(1));
     file.read_to_end(&mut bytes)?;
     if bytes.len() as u64 > most {

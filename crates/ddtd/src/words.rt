@@ -31,6 +31,8 @@ pub struct ServeAsked<'a> {
     pub control: Option<&'a str>,
     /// Whether the file is watched.
     pub is_watched: bool,
+    /// Whether other processes may serve at the same addresses.
+    pub is_shared: bool,
 }
 
 /// What `resolve` is asked.
@@ -71,6 +73,7 @@ const HELP: &str = "ddtd(8) says what each command reads, logs and counts.";
 const SERVE_HELP: &str = "Examples:
   ddtd serve node.toml                          at all locators of the file that are this machine's
   ddtd serve node.toml 192.0.2.3 --control /run/ddtd/serve.sock
+  ddtd serve node.toml --share                  beside other processes that share its addresses
 
 The settings of a Map-Server:
   allow = [\"192.0.2.0/24\", \"2001:db8::/32\"]     which ITRs may ask it; by default none
@@ -141,6 +144,7 @@ fn serve_asked<'a>(alloc: Global, matches: &ArgMatches<'a>) -> Result<ServeAsked
         registrations: matches.get_str("registrations"),
         control: matches.get_str("control"),
         is_watched: matches.get_flag("watch"),
+        is_shared: matches.get_flag("share"),
     })
 }
 
@@ -208,6 +212,13 @@ fn serve_command<'a>(alloc: Global) -> Result<Command<'a>, AllocError> {
                 .long("watch")
                 .action(ArgAction::SetTrue)
                 .help("Take the files up whenever one has changed"),
+        )?
+        .arg(
+            Arg::new(alloc, "share")
+                .long("share")
+                .action(ArgAction::SetTrue)
+                .conflicts_with("keys")?
+                .help("Let other processes serve at the same addresses"),
         )
 }
 

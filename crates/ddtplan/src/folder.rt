@@ -1,9 +1,14 @@
 //! `ddtplan compile REGISTER FOLDER`: all configurations of a register in a folder.
 
+use crate::foreign::foreign_groups;
 use crate::inputs::{Why, accepted_in, bytes_at, no_memory, print, say};
+use crate::rollout::compile_step;
+use ddt_check::Accepted;
 use ddt_folder::{FileName, Folder, Plan, PublishFault, lines_of, publish};
 use ddt_path::Name;
 use ddt_plan_commands::{CompileAsked, End};
+use ddt_register::read_register;
+use ddt_warnings::LostSites;
 use std::alloc::{AllocError, Global};
 use std::fs::{File, TryLockError};
 use std::io::{ErrorKind, Write};
@@ -11,11 +16,11 @@ use std::random::RandomSource;
 use std::{fs, io};
 
 /// How many names are tried for a new file where each is taken.
-const NAMES: u32 = 8;
+pub const NAMES: u32 = 8;
 
 /// A folder on a disk. Others may write there too, so nothing is known of what it holds.
 #[derive(Drop)]
-struct DiskFolder<'a> {
+pub struct DiskFolder<'a> {
     rt: &'a HostRuntime,
     path: &'a str,
     /// The folder itself, whose lock keeps other runs out. The system drops the lock when the process ends, however it
@@ -27,7 +32,7 @@ struct DiskFolder<'a> {
 
 impl<'a> DiskFolder<'a> {
     /// The folder at a path, locked for this run. Refused where there is none, and where another run has the lock.
-    fn open(rt: &'a HostRuntime, path: &'a str) -> Result<DiskFolder<'a>, Why> {
+    pub fn open(rt: &'a HostRuntime, path: &'a str) -> Result<DiskFolder<'a>, Why> {
         let is_folder = match fs::metadata(rt, path) {
             Ok(metadata) => metadata.is_dir(),
             Err(error) => return Err(format!(in rt.alloc(); "{path}: {error}")),
@@ -87,7 +92,7 @@ impl<'a> DiskFolder<'a> {
     }
 
     /// Forces the names of the files to the disk.
-    fn sync(&self) -> io::Result<()> {
+    pub fn sync(&self) -> io::Result<()> {
         self.locked.sync_all()
     }
 }
@@ -141,7 +146,7 @@ impl Folder for DiskFolder<'_> {
 }
 
 /// A name that nobody can foresee, of decimal digits.
-fn random_mark(rt: &HostRuntime) -> io::Result<Name> {
+pub fn random_mark(rt: &HostRuntime) -> io::Result<Name> {
     let mut bytes = [0u8; 8];
     rt.fill_bytes(&mut bytes)?;
     let digits = format!(in rt.alloc(); "{}", u64::from_le_bytes(bytes))?;
@@ -149,17 +154,32 @@ fn random_mark(rt: &HostRuntime) -> io::Result<Name> {
 }
 
 /// Writes all bytes, and forces them to the disk.
-fn write_whole(mut file: File, bytes: &[u8]) -> io::Result<()> {
+pub fn write_whole(mut file: File, bytes: &[u8]) -> io::Result<()> {
     file.write_all(bytes)?;
     file.sync_all()
 }
 
 /// Writes the files, and prints what was done.
 pub fn compile(rt: &HostRuntime, asked: &CompileAsked<'_>) -> Result<End, Why> {
+    if let Some(step) = &asked.step {
+        return compile_step(rt, asked, step);
+    }
     let mut folder = DiskFolder::open(rt, asked.folder)?;
     let bytes = bytes_at(rt, asked.register)?;
     let accepted = accepted_in(rt, asked.register, &bytes)?;
-    match publish(rt.alloc(), &accepted, &bytes, asked.removes, &mut folder) {
+    if let Some(percent) = asked.max_lost {
+        keep_sites(rt, asked, &mut folder, &accepted, percent)?;
+    }
+    let foreign = foreign_groups(rt, &[&accepted], asked.foreign.as_slice())?;
+    let published = publish(
+        rt.alloc(),
+        &accepted,
+        &bytes,
+        &foreign,
+        asked.removes,
+        &mut folder,
+    );
+    match published {
         Ok(plan) => match folder.sync() {
             Ok(()) => tell(rt, asked, &plan),
             Err(error) => Err(format!(in rt.alloc(); "{}: {error}", asked.folder)),
@@ -167,6 +187,39 @@ pub fn compile(rt: &HostRuntime, asked: &CompileAsked<'_>) -> Result<End, Why> {
         Err(PublishFault::Memory) => Err(format!(in rt.alloc(); "out of memory")),
         Err(PublishFault::Failed { name, fault }) => Err(failed(rt, asked.folder, name, fault)),
     }
+}
+
+/// Refuses a register that lacks more than so many percent of the sites that the folder's register has.
+fn keep_sites(
+    rt: &HostRuntime,
+    asked: &CompileAsked<'_>,
+    folder: &mut DiskFolder<'_>,
+    accepted: &Accepted,
+    percent: u32,
+) -> Result<(), Why> {
+    let alloc = rt.alloc();
+    let name = FileName::Register;
+    let bytes = match folder.read(alloc, name) {
+        Ok(Some(bytes)) => bytes,
+        Ok(None) => return Ok(()),
+        Err(fault) => return Err(failed(rt, asked.folder, name, fault)),
+    };
+    let (register, path) = (
+        asked.register,
+        shown_path(rt, asked.folder, name).map_err(no_memory)?,
+    );
+    let before = match read_register(alloc, bytes.as_slice()) {
+        Ok(before) => before,
+        Err(fault) => return Err(format!(in alloc; "{path}: unreadable {fault}")),
+    };
+    let lost = LostSites::of(alloc, &before, accepted.register()).map_err(no_memory)?;
+    if !lost.exceeds(percent) {
+        return Ok(());
+    }
+    let LostSites { gone, all } = lost;
+    Err(format!(in alloc;
+        "{register}: {gone} of the {all} sites of {path} are gone, more than {percent} percent"
+    ))
 }
 
 /// Prints what was done, and why a file was to be removed and wasn't.
@@ -188,7 +241,7 @@ fn tell(rt: &HostRuntime, asked: &CompileAsked<'_>, plan: &Plan) -> Result<End, 
 }
 
 /// Where the folder failed, and why.
-fn failed(rt: &HostRuntime, folder: &str, name: FileName, fault: io::Error) -> Why {
+pub fn failed(rt: &HostRuntime, folder: &str, name: FileName, fault: io::Error) -> Why {
     let path = shown_path(rt, folder, name)?;
     format!(in rt.alloc(); "{path}: {fault}")
 }

@@ -3,17 +3,30 @@
 //! Tests: tests/companion.
 #![tactic(auto)]
 
+mod bar;
+mod cut;
 mod export;
 mod faults;
 mod folder;
+mod foreign;
 mod inputs;
+mod inquiry;
 mod loopback;
+mod organisations;
 mod pictures;
 mod progress;
 mod questions;
+mod report;
+mod rollout;
+mod scope;
+mod seam;
+mod touched;
+mod tree_index;
 mod warnings;
 
-use ddt_plan_commands::{Asked, BlocksAsked, DiffAsked, End, read_asked, run_blocks, run_diff};
+use ddt_plan_commands::{
+    Asked, BlocksAsked, DiffAsked, End, SeamAsked, read_asked, run_blocks, run_diff,
+};
 use inputs::{Why, say, say_why, source_at};
 use progress::Progress;
 use std::io::{BufWriter, ErrorKind, IsTerminal, Stdout};
@@ -32,16 +45,44 @@ fn run_words(rt: &HostRuntime) -> End {
         Err(_) => return refuse(rt, "a word is no text"),
     };
     match read_asked(rt.alloc(), &words) {
-        Ok(Asked::Diff(asked)) if asked.before == "-" && asked.after == "-" => {
-            refuse(rt, "only one register can be standard input")
-        }
-        Ok(asked) => run(rt, &asked),
+        Ok(asked) => run_asked(rt, &asked),
         // Help and the version are no mistakes, if they could be printed.
         Err(error) => match error.print(rt) {
             Ok(()) if !error.use_stderr() => End::Answered,
             _ => End::Refused,
         },
     }
+}
+
+/// Runs what was asked. Refused where two registers are to be read from standard input.
+fn run_asked(rt: &HostRuntime, asked: &Asked<'_>) -> End {
+    if reads_input_twice(asked) {
+        return refuse(rt, "only one register can be standard input");
+    }
+    run(rt, asked)
+}
+
+/// Whether both registers of a command are standard input.
+fn reads_input_twice(asked: &Asked<'_>) -> bool {
+    match asked {
+        Asked::Diff(asked) => are_input(asked.before, asked.after),
+        Asked::Report(asked) => are_input(asked.before, asked.after),
+        Asked::Rollout(asked) => are_input(asked.before, asked.after),
+        Asked::Seam(SeamAsked::Pair(asked)) => are_input(asked.ours, asked.theirs),
+        Asked::Faults(asked) => are_input(asked.register, asked.old.unwrap_or("")),
+        Asked::Warn(asked) => are_input(asked.register, asked.old.unwrap_or("")),
+        Asked::Ask(asked) => are_input(asked.register, asked.before.unwrap_or("")),
+        Asked::Compile(asked) => match &asked.step {
+            Some(step) => are_input(asked.register, step.from),
+            None => false,
+        },
+        _ => false,
+    }
+}
+
+/// Whether both paths are that of standard input.
+fn are_input(one: &str, other: &str) -> bool {
+    one == "-" && other == "-"
 }
 
 /// Says why there is no answer.
@@ -55,9 +96,12 @@ fn run(rt: &HostRuntime, asked: &Asked<'_>) -> End {
     let answered = match asked {
         Asked::Blocks(asked) => return blocks(rt, asked),
         Asked::Diff(asked) => return diff(rt, asked),
-        Asked::Faults(path) => faults::faults(rt, path),
+        Asked::Seam(asked) => seam::seam(rt, asked),
+        Asked::Faults(asked) => faults::faults(rt, asked),
         Asked::Warn(asked) => warnings::warn(rt, asked),
         Asked::Compile(asked) => folder::compile(rt, asked),
+        Asked::Rollout(asked) => rollout::rollout(rt, asked),
+        Asked::Report(asked) => report::report(rt, asked),
         Asked::Loopback(asked) => loopback::loopback(rt, asked),
         Asked::Export(asked) => export::export(rt, asked),
         Asked::Ask(asked) => questions::ask(rt, asked),

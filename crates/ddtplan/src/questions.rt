@@ -1,18 +1,14 @@
 //! `ddtplan ask REGISTER [XEID..]`: what real servers say, beside what the register demands.
 
-ghost use Rattle.std.specs.Prelude.{⊤};
-
-use crate::inputs::{Why, accepted_at, no_memory, prefix_in, print, xeid_in};
-use ddt_asking::{Asker, FindingCounts, Manner, PatientWires, finding_line};
-use ddt_check::Accepted;
-use ddt_loop::SystemClock;
-use ddt_path::{Locator, Prefix, Xeid};
-use ddt_plan::{Block, Sink, blocks};
+use crate::bar::Bar;
+use crate::inputs::{Why, no_memory, print, xeid_in};
+use crate::inquiry::{Inquiry, drawing};
+use crate::scope::Scope;
+use ddt_asking::{Client, Finding, FindingCounts, Manner, finding_line, itr_finding_line, sampled};
+use ddt_path::{Locator, Xeid};
 use ddt_plan_commands::{AskAsked, End};
-use rand_core::SeedableRng;
-use rand_pcg::Pcg32;
 use std::alloc::{AllocError, Global};
-use std::random::RandomSource;
+use std::io::Write;
 
 /// Questions a second, milliseconds for a reply, and tries, where nothing is said of them.
 const RATE: u32 = 100;
@@ -21,26 +17,39 @@ const TIMEOUT: u32 = 2000;
 
 const TRIES: u32 = 2;
 
-/// The address that each request names as its sender's; servers don't look at it.
+/// The address that each request to a server names as its sender's; servers don't look at it.
 const ME: Locator = Locator::V4(0x7f00_0035);
 
-/// Asks servers, and prints a line for each question and how many agree, differ and are silent.
+/// Asks servers or a Map-Resolver, and prints a line for each question and how many agree, differ and are silent. It
+/// says first how many questions there are.
 pub fn ask(rt: &HostRuntime, asked: &AskAsked<'_>) -> Result<End, Why> {
-    let identifiers = identifiers_in(rt, asked.identifiers.as_slice())?;
-    let accepted = accepted_at(rt, asked.register)?;
-    let identifiers = if identifiers.is_empty() {
-        let all = prefix_in(rt, "*")?;
-        one_of_each_block(rt.alloc(), &accepted, all).map_err(no_memory)?
-    } else {
-        identifiers
-    };
-    let mut inquiry = Inquiry::new(rt, asked)?;
-    for xeid in identifiers {
-        if let Some(end) = inquiry.ask(rt, &accepted, xeid)? {
-            return Ok(end);
-        }
+    if let Some(why) = refusal_of(asked) {
+        return Err(format!(in rt.alloc(); "{why}"));
     }
-    inquiry.finish(rt)
+    let named = identifiers_in(rt, asked.identifiers.as_slice())?;
+    let scope = Scope::read(rt, asked)?;
+    let identifiers = if named.is_empty() {
+        drawn(rt, asked, scope.identifiers().map_err(no_memory)?)?
+    } else {
+        named
+    };
+    ask_about(rt, asked, &scope, &identifiers)
+}
+
+/// Why these words ask nothing, if they do.
+fn refusal_of(asked: &AskAsked<'_>) -> Option<&'static str> {
+    let draws = asked.before.is_some() || asked.sample.is_some();
+    if draws && !asked.identifiers.is_empty() {
+        return Some("where identifiers are given, neither --changed nor --sample is");
+    }
+    let is_itr = asked.as_itr.is_some() || asked.as_etr.is_some();
+    if is_itr && asked.resolver.is_none() {
+        return Some("--as-itr and --as-etr want --resolver");
+    }
+    if asked.as_itr.is_some() && asked.as_etr.is_some() {
+        return Some("of --as-itr and --as-etr only one is given");
+    }
+    None
 }
 
 /// The identifiers that the words spell.
@@ -53,108 +62,124 @@ fn identifiers_in(rt: &HostRuntime, words: &[&str]) -> Result<Vec<Xeid>, Why> {
     Ok(identifiers)
 }
 
-/// An identifier of each block, in their order.
-#[derive(Drop)]
-struct Firsts {
-    found: Vec<Xeid>,
-}
-
-impl Sink<Block> for Firsts {
-    type Refusal = AllocError;
-
-    ghost takes = { λ before block answer after. ⊤ };
-
-    fn give(&mut self, block: Block) -> Result<(), AllocError> {
-        self.found.push(block.prefix.inner())?;
-        Ok(())
-    }
-}
-
-/// An identifier of each block inside a prefix that the register assigns alike.
-fn one_of_each_block(
-    alloc: Global,
-    accepted: &Accepted,
-    inside: Prefix,
-) -> Result<Vec<Xeid>, AllocError> {
-    let mut firsts = Firsts {
-        found: Vec::new(alloc),
+/// As many of these identifiers as are asked for, drawn at random; all, where nothing is said.
+fn drawn(rt: &HostRuntime, asked: &AskAsked<'_>, identifiers: Vec<Xeid>) -> Result<Vec<Xeid>, Why> {
+    let Some(amount) = asked.sample else {
+        return Ok(identifiers);
     };
-    match blocks(alloc, accepted, inside, &mut firsts) {
-        Ok(()) => Ok(firsts.found),
-        Err(_fault) => Err(AllocError),
+    let mut numbers = drawing(rt)?;
+    sampled(rt.alloc(), &mut numbers, &identifiers, amount as usize).map_err(no_memory)
+}
+
+/// Asks about these identifiers.
+fn ask_about(
+    rt: &HostRuntime,
+    asked: &AskAsked<'_>,
+    scope: &Scope,
+    identifiers: &[Xeid],
+) -> Result<End, Why> {
+    let manner = manner_of(asked, scope);
+    let mut inquiry = Inquiry::new(rt, manner)?;
+    let counts = scope.counts(identifiers).map_err(no_memory)?;
+    let line = counts.line(rt.alloc(), &manner).map_err(no_memory)?;
+    let _ = rt.stderr().write_all(&line);
+    let mut asking = Asking {
+        quiet: asked.quiet,
+        bar: Bar::new(rt, counts.questions),
+        counts: FindingCounts::default(),
+    };
+    for xeid in identifiers {
+        if let Some(end) = asking.ask(rt, &mut inquiry, scope, *xeid)? {
+            return Ok(end);
+        }
+    }
+    asking.finish(rt)
+}
+
+/// How questions are asked.
+fn manner_of(asked: &AskAsked<'_>, scope: &Scope) -> Manner {
+    let (client, me) = match scope.as_itr {
+        Some(itr) => (Client::Itr, itr.me),
+        None => (Client::Ddt, ME),
+    };
+    Manner {
+        client,
+        me,
+        rate: asked.rate.unwrap_or(RATE),
+        millis: u64::from(asked.timeout.unwrap_or(TIMEOUT)),
+        tries: asked.tries.unwrap_or(TRIES),
     }
 }
 
-/// What questions are asked with, and what came of them.
+/// What came of the questions so far, and how far they are.
 #[derive(Drop)]
-struct Inquiry<'a> {
-    asker: Asker,
-    wires: PatientWires,
-    clock: SystemClock<&'a HostRuntime>,
-    nonces: Pcg32,
+struct Asking {
+    quiet: bool,
+    bar: Bar,
     counts: FindingCounts,
 }
 
-impl<'a> Inquiry<'a> {
-    /// Sockets at ports of the system's choice, and nonces that nobody can foresee.
-    fn new(rt: &'a HostRuntime, asked: &AskAsked<'_>) -> Result<Inquiry<'a>, Why> {
-        let manner = Manner {
-            me: ME,
-            rate: asked.rate.unwrap_or(RATE),
-            millis: u64::from(asked.timeout.unwrap_or(TIMEOUT)),
-            tries: asked.tries.unwrap_or(TRIES),
-        };
-        let wires = match PatientWires::bind(rt.alloc(), rt, ME) {
-            Ok(wires) => wires,
-            Err(error) => return Err(format!(in rt.alloc(); "no socket: {error}")),
-        };
-        let Ok(clock) = SystemClock::new(rt) else {
-            return Err(format!(in rt.alloc(); "the system tells no time"));
-        };
-        let mut seed = [0u8; 16];
-        if let Err(error) = rt.fill_bytes(&mut seed) {
-            return Err(format!(in rt.alloc(); "no random numbers: {error}"));
-        }
-        Ok(Inquiry {
-            asker: Asker::new(rt.alloc(), manner),
-            wires,
-            clock,
-            nonces: Pcg32::from_seed(seed),
-            counts: FindingCounts::default(),
-        })
-    }
-
+impl Asking {
     /// Asks all questions about an identifier and prints what came of each; an end, where it couldn't be printed.
     fn ask(
         &mut self,
         rt: &HostRuntime,
-        accepted: &Accepted,
+        inquiry: &mut Inquiry<'_>,
+        scope: &Scope,
         xeid: Xeid,
     ) -> Result<Option<End>, Why> {
-        let findings = self
-            .asker
-            .ask(
-                &mut self.wires,
-                &mut self.clock,
-                &mut self.nonces,
-                accepted,
-                xeid,
-            )
+        let questions = scope.questions(xeid).map_err(no_memory)?;
+        let mut findings = inquiry.ask(xeid, &questions).map_err(no_memory)?;
+        if let Some(finding) = scope.unseen(xeid) {
+            findings.push(finding).map_err(|_| Err(AllocError))?;
+        }
+        let is_itr = scope.as_itr.is_some();
+        let text = self
+            .note(rt.alloc(), xeid, &findings, is_itr)
             .map_err(no_memory)?;
-        let mut text = Vec::new(rt.alloc());
-        for finding in findings.as_slice() {
-            let line = finding_line(rt.alloc(), xeid, finding).map_err(no_memory)?;
-            text.extend_from_slice(line.as_slice()).map_err(no_memory)?;
+        Ok(self.print(rt, &text, questions.len()))
+    }
+
+    /// Counts what came of the questions about an identifier, and answers the lines that are printed of it.
+    fn note(
+        &mut self,
+        alloc: Global,
+        xeid: Xeid,
+        findings: &[Finding],
+        is_itr: bool,
+    ) -> Result<Vec<u8>, AllocError> {
+        let mut text = Vec::new(alloc);
+        for finding in findings {
             self.counts.count(&finding.verdict);
+            if self.quiet && finding.agrees() {
+                continue;
+            }
+            let line = if is_itr {
+                itr_finding_line(alloc, xeid, finding)?
+            } else {
+                finding_line(alloc, xeid, finding)?
+            };
+            text.extend_from_slice(line.as_slice())?;
         }
-        match print(rt, &text, End::Answered) {
-            End::Answered => Ok(None),
-            end => Ok(Some(end)),
+        Ok(text)
+    }
+
+    /// Prints what came of so many questions, and moves the bar on; an end, where it couldn't be printed.
+    fn print(&mut self, rt: &HostRuntime, text: &[u8], questions: usize) -> Option<End> {
+        if !text.is_empty() {
+            self.bar.clear();
+            let end = print(rt, text, End::Answered);
+            if end != End::Answered {
+                return Some(end);
+            }
         }
+        self.bar.add(rt, questions as u64);
+        None
     }
 
     /// Prints how many agree, differ and are silent.
-    fn finish(&self, rt: &HostRuntime) -> Result<End, Why> {
+    fn finish(&mut self, rt: &HostRuntime) -> Result<End, Why> {
+        self.bar.clear();
         let line = self.counts.line(rt.alloc()).map_err(no_memory)?;
         let end = if self.counts.all_agree() {
             End::Answered

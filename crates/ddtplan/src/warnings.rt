@@ -1,21 +1,36 @@
 //! `ddtplan warn REGISTER`: what an accepted register has that is mostly a mistake.
 
+use crate::cut::{Old, told_cut};
+use crate::foreign::{foreign_groups, foreign_zones};
 use crate::inputs::{Why, accepted_in, bytes_at, no_memory, print};
 use ddt_check::Rule;
+use ddt_path::Locator;
 use ddt_plan_commands::{End, WarnAsked};
 use ddt_sheets::{BrokenRule, FaultLine, told_faults};
+use ddt_text::parse_locator;
 use ddt_warnings::{Kind, Warning, warnings};
 use std::alloc::{AllocError, Global};
+
+/// The kind of warnings that is of the whole file, beside those of rows.
+const TRUNCATED: &str = "truncated-file";
 
 /// Prints a line for each warning of a kind that isn't turned off.
 pub fn warn(rt: &HostRuntime, asked: &WarnAsked<'_>) -> Result<End, Why> {
     let off = kinds_off(rt, asked.off.as_slice())?;
+    let resolvers = locators_in(rt, asked.resolvers.as_slice())?;
     let bytes = bytes_at(rt, asked.register)?;
     let accepted = accepted_in(rt, asked.register, &bytes)?;
-    let mut told = warnings(rt.alloc(), &accepted).map_err(no_memory)?;
+    let mut told = warnings(rt.alloc(), &accepted, &resolvers).map_err(no_memory)?;
     told.retain(|warning| !off.as_slice().contains(&warning.finding.kind()));
+    let foreign = foreign_groups(rt, &[&accepted], asked.foreign.as_slice())?;
+    let zones = foreign_zones(rt.alloc(), &accepted, &foreign).map_err(no_memory)?;
+    told.retain(|warning| !is_of_neighbours(warning.finding.kind())
+        || !zones.contains(&warning.row));
     let places = places_of(rt.alloc(), &bytes, &told).map_err(no_memory)?;
-    let text = text_of(rt.alloc(), asked.register, &told, &places).map_err(no_memory)?;
+    let mut text = text_of(rt.alloc(), asked.register, &told, &places).map_err(no_memory)?;
+    if !asked.off.as_slice().contains(&TRUNCATED) {
+        push_cut(rt, asked, &bytes, &mut text)?;
+    }
     let end = if text.is_empty() {
         End::Answered
     } else {
@@ -24,12 +39,60 @@ pub fn warn(rt: &HostRuntime, asked: &WarnAsked<'_>) -> Result<End, Why> {
     Ok(print(rt, &text, end))
 }
 
+/// Whether the warnings of a kind say how a zone differs from those around it, as one that others serve may.
+fn is_of_neighbours(kind: Kind) -> bool {
+    matches!(
+        kind,
+        Kind::NodeZoneWithoutChild | Kind::ZoneBetween | Kind::ZoneOfStrangeGroup
+    )
+}
+
+/// Appends the line of a file that seems to be cut off.
+fn push_cut(
+    rt: &HostRuntime,
+    asked: &WarnAsked<'_>,
+    bytes: &[u8],
+    text: &mut Vec<u8>,
+) -> Result<(), Why> {
+    let told = match asked.old {
+        None => told_cut(rt.alloc(), None, bytes),
+        Some(path) => {
+            let before = bytes_at(rt, path)?;
+            let old = Old {
+                path,
+                bytes: &before,
+            };
+            told_cut(rt.alloc(), Some(old), bytes)
+        }
+    };
+    let Some((line, reason)) = told.map_err(no_memory)? else {
+        return Ok(());
+    };
+    let path = asked.register;
+    let told = format!(in rt.alloc(); "{path}:{line}: {TRUNCATED}: {reason}\n");
+    text.extend_from_slice(told.map_err(no_memory)?.as_bytes())
+        .map_err(no_memory)
+}
+
+/// The locators that words spell.
+fn locators_in(rt: &HostRuntime, words: &[&str]) -> Result<Vec<Locator>, Why> {
+    let mut locators = Vec::new(rt.alloc());
+    for word in words {
+        match parse_locator(word.as_bytes()) {
+            Ok(locator) => locators.push(locator).map_err(|_| Err(AllocError))?,
+            Err(fault) => return Err(format!(in rt.alloc(); "bad address {fault}")),
+        }
+    }
+    Ok(locators)
+}
+
 /// The kinds of these names.
 fn kinds_off(rt: &HostRuntime, names: &[&str]) -> Result<Vec<Kind>, Why> {
     let mut kinds = Vec::new(rt.alloc());
     for name in names {
         match Kind::of(name) {
             Some(kind) => kinds.push(kind).map_err(|_| Err(AllocError))?,
+            None if *name == TRUNCATED => {}
             None => return Err(format!(in rt.alloc(); "no kind of warnings is named {name}")),
         }
     }

@@ -6,7 +6,10 @@ use crate::comparison::{holds, same};
 use ddt_check::{Accepted, check};
 use ddt_examples::registers::{CAMPUS, CAMPUS_GROWN, NESTED_SITES};
 use ddt_path::{Locator, Prefix, Xeid};
-use ddt_plan::{Block, Change, GroupChange, PlanFault, Reading, blocks, changes, group_changes};
+use ddt_plan::{
+    Block, Change, GroupChange, ItemChanges, PlanFault, Reading, blocks, changes, group_changes,
+    item_changes,
+};
 use ddt_register::{ReadFault, Register, read_register};
 use std::alloc::{AllocError, Global};
 use std::process::Abort;
@@ -144,5 +147,23 @@ fn groups_are_told_after_a_refusal(rt: HostRuntime) -> Result<(), Fail> {
     same(&rt, &names.next(), &Some(b"far".as_slice()), &"the names");
     same(&rt, &names.next(), &Some(b"ten".as_slice()), &"the names");
     same(&rt, &names.next(), &None, &"the names");
+    Ok(())
+}
+
+/// What differs, asked once more where memory is refused.
+fn all_items(alloc: Global, old: &Accepted, new: &Accepted) -> Result<ItemChanges, Fail> {
+    match item_changes(alloc, old, new) {
+        Ok(changes) => Ok(changes),
+        Err(_refused) => Ok(item_changes(alloc, old, new)?),
+    }
+}
+
+#[test]
+fn items_are_listed_after_a_refusal(rt: HostRuntime) -> Result<(), Fail> {
+    let old = accepted(&rt, rt.alloc(), CAMPUS_GROWN)?;
+    let new = accepted(&rt, rt.alloc(), NESTED_SITES)?;
+    let all = all_items(rt.alloc(), &old, &new)?;
+    let counts = (all.zones.len(), all.sites.len(), all.groups.len());
+    same(&rt, &counts, &(1, 2, 1), &"what differs");
     Ok(())
 }

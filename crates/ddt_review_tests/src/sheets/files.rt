@@ -52,6 +52,18 @@ r.csv:6: 4 Prefix: 'x' doesn't begin with an Instance ID in brackets, as [0]
 2 faults\n",
     ),
     (
+        "kind,prefix,group,addresses\ngroup-node,,root,127.0.0.1\nnode,*,\"root,\nnode,x,root,\nms,y,root,\n",
+        "r.csv:3: 1 Csv: a quote opens here and isn't closed, so the 2 lines after it aren't read\n1 fault\n",
+    ),
+    (
+        "kind,prefix,group,addresses\ngroup-node,,root,\"127.0.0.1\nnode,*,root,\n",
+        "r.csv:2: 1 Csv: a quote opens here and isn't closed, so the line after it isn't read\n1 fault\n",
+    ),
+    (
+        "kind,prefix,group,addresses\ngroup-node,,root,127.0.0.1\n\nnode,\"*\",root,\"\"\"\n",
+        "r.csv:4: 1 Csv: a quote opens here and isn't closed\n1 fault\n",
+    ),
+    (
         "\n# the \"campus\"\nkind,prefix,group,addresses\ngroup-node,,root,127.0.0.1\n# zones, \"\n\nnode,*,ROOT,\n",
         "r.csv:2: 1 Csv: a line that begins with # is no row
 r.csv:7: 5 Name: 'ROOT' is no name of a group: 1 to 63 lower-case letters, digits and hyphens

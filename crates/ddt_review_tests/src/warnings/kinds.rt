@@ -21,7 +21,7 @@ site,[0]10.3.2.0/24,,198.51.100.2
 ";
 
 /// Rows behind those of the region, and the warnings that they give.
-const CASES: [(&str, &str); 32] = [
+const CASES: [(&str, &str); 50] = [
     ("", ""),
     (
         "group-ms,,idle,192.0.2.9\n",
@@ -98,6 +98,53 @@ const CASES: [(&str, &str); 32] = [
         "10 etr-is-server the ETR 192.0.2.2 is a locator of a group: 2\n",
     ),
     ("site,[0]10.3.3.0/24,,::c000:202\n", ""),
+    // ETRs that can't be reached, a Map-Resolver's, and those of the site itself.
+    (
+        "site,[0]10.3.3.0/24,,198.51.100.3 0.0.0.0\n",
+        "10 unreachable-etr the ETR 0.0.0.0 is unspecified\n",
+    ),
+    (
+        "site,[0]10.3.3.0/24,,::\n",
+        "10 unreachable-etr the ETR :: is unspecified\n",
+    ),
+    (
+        "site,[0]10.3.3.0/24,,127.0.0.1\n",
+        "10 unreachable-etr the ETR 127.0.0.1 is loopback\n",
+    ),
+    (
+        "site,[0]10.3.3.0/24,,224.0.0.1\n",
+        "10 unreachable-etr the ETR 224.0.0.1 is multicast\n",
+    ),
+    (
+        "site,[0]10.3.3.0/24,,fe80::1\n",
+        "10 unreachable-etr the ETR fe80::1 is link-local\n",
+    ),
+    (
+        "site,[0]10.3.3.0/24,,169.254.9.9\n",
+        "10 unreachable-etr the ETR 169.254.9.9 is link-local\n",
+    ),
+    (
+        "site,[0]10.3.3.0/24,,255.255.255.255\n",
+        "10 unreachable-etr the ETR 255.255.255.255 is broadcast\n",
+    ),
+    (
+        "site,[0]10.3.3.0/24,,198.51.100.53\n",
+        "10 etr-is-resolver the ETR 198.51.100.53 is a Map-Resolver's address\n",
+    ),
+    ("site,[0]10.3.3.0/24,,198.51.100.54\n", ""),
+    (
+        "site,[0]10.3.3.0/24,,10.3.3.0\n",
+        "10 etr-inside-site the ETR 10.3.3.0 is inside its own site\n",
+    ),
+    ("site,[0]10.3.3.0/24,,10.3.4.0\n", ""),
+    (
+        "ms,[7]::/0,east,\nsite,[7]2001:db8::/32,,2001:db8:ffff::1\n",
+        "11 etr-inside-site the ETR 2001:db8:ffff::1 is inside its own site\n",
+    ),
+    (
+        "ms,[7]0.0.0.0/0,east,\nms,[7]::/0,east,\nsite,[7]0.0.0.0/0,,10.3.3.0\nsite,[7]::/0,,2001:db8::1\n",
+        "",
+    ),
     // Locators of groups inside sites of instance 0.
     (
         "group-ms,,west,192.0.2.9 10.3.2.255\nms,[1]::/0,west,\n",
@@ -128,6 +175,69 @@ node,[0]10.128.0.0/9,west,
 node,[0]10.192.0.0/10,ten,
 ms,[0]10.192.0.0/11,east,
 ms,[0]10.128.0.0/10,east,
+",
+        "",
+    ),
+    // Two regions, each with zones of its own group: a zone of the other's group; then with a second one beside it.
+    (
+        "group-node,,far,192.0.2.5
+group-ms,,west,192.0.2.6
+node,[0]11.0.0.0/8,far,
+ms,[0]11.1.0.0/16,west,
+ms,[0]11.2.0.0/16,west,
+ms,[0]11.3.0.0/16,east,
+",
+        "15 zone-of-strange-group the servers above delegate to its group nowhere else, but others do\n",
+    ),
+    (
+        "group-node,,far,192.0.2.5
+group-ms,,west,192.0.2.6
+node,[0]11.0.0.0/8,far,
+ms,[0]11.1.0.0/16,west,
+ms,[0]11.2.0.0/16,west,
+ms,[0]11.3.0.0/16,east,
+ms,[0]11.4.0.0/16,east,
+",
+        "",
+    ),
+    // Two zones whose groups were swapped.
+    (
+        "group-node,,far,192.0.2.5
+group-ms,,west,192.0.2.6
+node,[0]11.0.0.0/8,far,
+ms,[0]11.1.0.0/16,west,
+ms,[0]11.2.0.0/16,west,
+ms,[0]11.3.0.0/16,east,
+ms,[0]10.5.0.0/16,west,
+",
+        "15 zone-of-strange-group the servers above delegate to its group nowhere else, but others do
+16 zone-of-strange-group the servers above delegate to its group nowhere else, but others do
+",
+    ),
+    // A zone of DDT nodes of the other region's group.
+    (
+        "group-node,,far,192.0.2.5
+group-node,,near,192.0.2.7
+group-ms,,west,192.0.2.6
+node,[0]11.0.0.0/8,far,
+node,[0]11.1.0.0/16,near,
+node,[0]11.2.0.0/16,near,
+node,[0]10.4.0.0/16,near,
+ms,[0]11.1.1.0/24,west,
+ms,[0]11.2.1.0/24,west,
+ms,[0]10.4.1.0/24,east,
+",
+        "16 zone-of-strange-group the servers above delegate to its group nowhere else, but others do\n",
+    ),
+    // A region whose group has one zone, with more below it of its own.
+    (
+        "group-node,,far,192.0.2.5
+group-ms,,west,192.0.2.6
+node,[0]11.0.0.0/8,far,
+node,[0]11.1.0.0/16,far,
+node,[0]11.2.0.0/16,far,
+ms,[0]11.1.1.0/24,west,
+ms,[0]11.2.1.0/24,west,
 ",
         "",
     ),

@@ -41,9 +41,9 @@ fn a_refused_list_is_told_by_the_next_call(rt: HostRuntime) -> Result<(), Fail> 
         Err(_refused) => text_of(rt.alloc())?,
     };
     let register = accepted(&rt, rt.alloc(), text.as_str())?;
-    let told = match warnings(rt.alloc(), &register) {
+    let told = match warnings(rt.alloc(), &register, &[]) {
         Ok(told) => told,
-        Err(_refused) => warnings(rt.alloc(), &register)?,
+        Err(_refused) => warnings(rt.alloc(), &register, &[])?,
     };
     let idle = Warning {
         row: 9,

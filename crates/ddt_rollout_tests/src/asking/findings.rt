@@ -2,7 +2,7 @@
 
 use crate::asking::servers::{Way, World};
 use crate::comparison::{holds, same};
-use ddt_asking::{Asker, Finding, FindingCounts, Manner, finding_line};
+use ddt_asking::{Asker, Client, Finding, FindingCounts, Manner, finding_line};
 use ddt_cache::Moment;
 use ddt_check::{Accepted, check};
 use ddt_examples::registers::{CAMPUS, CAMPUS_GROWN, SHARED_GROUP};
@@ -203,7 +203,7 @@ const CASES: &[Case] = &[
 ];
 
 /// The register of a text, accepted.
-fn accepted(alloc: Global, text: &str) -> Result<Accepted, Fail> {
+pub fn accepted(alloc: Global, text: &str) -> Result<Accepted, Fail> {
     let Ok(register) = read_register(alloc, text.as_bytes()) else {
         return Err("no register".into());
     };
@@ -214,7 +214,7 @@ fn accepted(alloc: Global, text: &str) -> Result<Accepted, Fail> {
 }
 
 /// A clock that stands at 0 and goes on by a millisecond at each reading.
-fn clock() -> Result<SteppingClock, Fail> {
+pub fn clock() -> Result<SteppingClock, Fail> {
     match Moment::at(0) {
         Some(next) => Ok(SteppingClock { next, step: 1 }),
         None => Err("no moment".into()),
@@ -222,8 +222,9 @@ fn clock() -> Result<SteppingClock, Fail> {
 }
 
 /// Two tries of 5 milliseconds each, at a rate.
-fn manner(rate: u32) -> Manner {
+pub fn manner(rate: u32) -> Manner {
     Manner {
+        client: Client::Ddt,
         me: ME,
         rate,
         millis: 5,

@@ -6,6 +6,7 @@ use crate::folder::registers::{accepted, config, published};
 use ddt_examples::registers::{CAMPUS, CAMPUS_GROWN};
 use ddt_folder::{FileName, FolderInMemory, MemoryFault, PublishFault, publish};
 use std::alloc::Global;
+use std::collections::BTreeSet;
 use std::process::Abort;
 use std::test::Fail;
 
@@ -62,6 +63,7 @@ fn each_file_is_old_or_new_where_a_call_fails(rt: HostRuntime) -> Result<(), Fai
             alloc,
             &register,
             CAMPUS_GROWN.as_bytes(),
+            &BTreeSet::new(alloc),
             false,
             &mut folder,
         );

@@ -1,7 +1,7 @@
 //! What is published of worked registers.
 
 use crate::comparison::same;
-use crate::folder::registers::{config, has, publishes};
+use crate::folder::registers::{config, has, publishes, publishes_but};
 use crate::folder::sealed::{EAST, ROOT, TEN};
 use ddt_examples::registers::{CAMPUS, CAMPUS_GROWN};
 use ddt_folder::{FileName, FolderInMemory};
@@ -94,6 +94,26 @@ fn a_group_that_is_gone_is_told_until_its_file_is_removed(rt: HostRuntime) -> Re
     has(&rt, &folder, config(&rt, "far"), None);
     has(&rt, &folder, FileName::Manifest, Some(MANIFEST));
     publishes(rt.alloc(), &rt, CAMPUS, true, &mut folder, "same 5\n");
+    Ok(())
+}
+
+#[test]
+fn a_group_that_others_run_has_no_file(rt: HostRuntime) -> Result<(), Fail> {
+    let mut folder = FolderInMemory::new(rt.alloc());
+    let three = "new register.csv\nnew east.toml\nnew root.toml\nnew MANIFEST\nsame 0\n";
+    publishes_but(rt.alloc(), &rt, "ten", false, &mut folder, three);
+    has(&rt, &folder, config(&rt, "ten"), None);
+    has(&rt, &folder, config(&rt, "root"), Some(ROOT));
+    let all = "new ten.toml\nchanged MANIFEST\nsame 3\n";
+    publishes(rt.alloc(), &rt, CAMPUS, false, &mut folder, all);
+    has(&rt, &folder, FileName::Manifest, Some(MANIFEST));
+    let left = "same 4\ngone ten.toml\n";
+    publishes_but(rt.alloc(), &rt, "ten", false, &mut folder, left);
+    has(&rt, &folder, config(&rt, "ten"), Some(TEN));
+    let removed = "removed ten.toml\nchanged MANIFEST\nsame 3\n";
+    publishes_but(rt.alloc(), &rt, "ten", true, &mut folder, removed);
+    has(&rt, &folder, config(&rt, "ten"), None);
+    has(&rt, &folder, config(&rt, "root"), Some(ROOT));
     Ok(())
 }
 

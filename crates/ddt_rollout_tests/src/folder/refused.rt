@@ -10,6 +10,7 @@ use ddt_examples::registers::CAMPUS;
 use ddt_folder::{FileName, FolderInMemory, MemoryFault, Plan, PublishFault, publish};
 use ddt_register::read_register;
 use std::alloc::Global;
+use std::collections::BTreeSet;
 use std::process::Abort;
 use std::test::Fail;
 
@@ -50,9 +51,12 @@ fn publishes(
     register: &Accepted,
     folder: &mut FolderInMemory,
 ) -> Result<(), Fail> {
-    let end = publish(alloc, register, CAMPUS.as_bytes(), false, folder);
+    let nobody = BTreeSet::new(alloc);
+    let end = publish(alloc, register, CAMPUS.as_bytes(), &nobody, false, folder);
     is_told(rt, &end, folder);
-    if end.is_err() && publish(alloc, register, CAMPUS.as_bytes(), false, folder).is_err() {
+    if end.is_err()
+        && publish(alloc, register, CAMPUS.as_bytes(), &nobody, false, folder).is_err()
+    {
         return Err("refused twice".into());
     }
     has(rt, folder, FileName::Register, Some(CAMPUS));

@@ -2,10 +2,12 @@
 
 use crate::comparison::same;
 use ddt_check::{Accepted, check};
+use ddt_examples::registers::CAMPUS;
 use ddt_folder::{FileName, FolderInMemory, Plan, lines_of, publish};
 use ddt_path::Name;
 use ddt_register::read_register;
 use std::alloc::Global;
+use std::collections::BTreeSet;
 use std::process::Abort;
 
 /// The accepted register of a text.
@@ -27,11 +29,42 @@ pub fn published(
     removes: bool,
     folder: &mut FolderInMemory,
 ) -> Plan {
+    published_but(alloc, rt, text, &[], removes, folder)
+}
+
+/// The plan that published a register's text, where others run the groups of some names.
+fn published_but(
+    alloc: Global,
+    rt: &impl Abort,
+    text: &str,
+    foreign: &[&str],
+    removes: bool,
+    folder: &mut FolderInMemory,
+) -> Plan {
     let register = accepted(alloc, rt, text);
-    match publish(alloc, &register, text.as_bytes(), removes, folder) {
+    let mut names = BTreeSet::new(alloc);
+    for name in foreign {
+        let name = Name::of(name.as_bytes()).expect(rt, "no name");
+        names.insert(name).expect(rt, "out of memory");
+    }
+    match publish(alloc, &register, text.as_bytes(), &names, removes, folder) {
         Ok(plan) => plan,
         Err(_fault) => None.expect(rt, "not published"),
     }
+}
+
+/// Publishes the campus where others run a group, whose plan has these lines.
+pub fn publishes_but(
+    alloc: Global,
+    rt: &impl Abort,
+    foreign: &str,
+    removes: bool,
+    folder: &mut FolderInMemory,
+    lines: &str,
+) {
+    let plan = published_but(alloc, rt, CAMPUS, &[foreign], removes, folder);
+    let told = lines_of(alloc, &plan).expect(rt, "out of memory");
+    same(rt, &told.as_slice(), &lines.as_bytes(), &"the plan");
 }
 
 /// Publishes a register's text, whose plan has these lines.

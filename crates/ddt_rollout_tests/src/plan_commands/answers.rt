@@ -1,11 +1,11 @@
 //! What the commands write of worked registers, and why they refuse.
 
 use crate::comparison::same;
-use crate::plan_commands::files::{Written, blocks_written, diff_written, of_campus, to};
+use crate::plan_commands::files::{GROWN, Written, blocks_written, diff_written, of_campus, to};
 use ddt_plan::Reading;
 use ddt_plan::Reading::{Exact, Service};
 use ddt_plan_commands::Form::{Json, Text};
-use ddt_plan_commands::{BlocksAsked, End, Form};
+use ddt_plan_commands::{BlocksAsked, End, Form, Told};
 use std::alloc::Global;
 use std::process::Abort;
 
@@ -87,24 +87,46 @@ fn blocks_of_the_campus_as_objects(rt: HostRuntime) {
 }
 
 /// What `diff` writes of the campus and a later register, by a reading, counted or listed, and how it ends.
-type Changes = (&'static str, Reading, bool, End, &'static str);
+type Changes = (&'static str, Reading, Told, End, &'static str);
 
 fn writes_changes(rt: &impl Abort, alloc: Global, form: Form, cases: &[Changes]) {
-    for &(after, reading, counted, end, out) in cases {
-        let written = diff_written(alloc, &to(after, reading, counted, form));
+    for &(after, reading, told, end, out) in cases {
+        let written = diff_written(alloc, &to(after, reading, told, form));
         compare(rt, &written, end, out, "");
     }
 }
+
+const RENUMBERED: &str = "summary\tbecome holes\tblocks 0\tIPv4 addresses 0\tIPv6 addresses 0
+summary\tlose registration\tblocks 0\tIPv4 addresses 0\tIPv6 addresses 0
+summary\tchange servers\tblocks 0\tIPv4 addresses 0\tIPv6 addresses 0
+summary\tsites\tlost 0\tgained 0\tchanged 1
+summary\tzones\tlost 0\tgained 0\tchanged 0
+summary\tgroups to reload\t1
+
+
+site\t[0]10.1.2.0/24\tetrs\t127.0.2.1\t127.0.2.7
+group\teast\tchanged
+";
 
 const CHANGES: &[Changes] = &[
     (
         "moved.csv",
         Service,
-        false,
+        Told::Changes,
         End::Different,
-        "[0]10.1.2.0/24\tregistered [0]10.1.2.0/24 127.0.1.1 127.0.1.2\thole [0]10.1.0.0/22
+        "summary\tbecome holes\tblocks 1\tIPv4 addresses 256\tIPv6 addresses 0
+summary\tlose registration\tblocks 0\tIPv4 addresses 0\tIPv6 addresses 0
+summary\tchange servers\tblocks 1\tIPv4 addresses 256\tIPv6 addresses 0
+summary\tsites\tlost 1\tgained 0\tchanged 1
+summary\tzones\tlost 0\tgained 0\tchanged 0
+summary\tgroups to reload\t2
+
+[0]10.1.2.0/24\tregistered [0]10.1.2.0/24 127.0.1.1 127.0.1.2\thole [0]10.1.0.0/22
 [0]10.1.4.0/24\tnot-registered [0]10.1.4.0/24 127.0.1.1 127.0.1.2\tregistered [0]10.1.4.0/24 127.0.1.3
 
+site\t[0]10.1.2.0/24\tremoved\t127.0.2.1\t-
+site\t[0]10.1.4.0/24\tetrs\t-\t127.0.2.9
+group\teast\tlocators\t127.0.1.1 127.0.1.2\t127.0.1.3
 group\teast\tchanged
 group\tten\tchanged
 caches\tnegative answers\t15 minutes 2 seconds
@@ -112,21 +134,37 @@ caches\tservers\t1 day 2 seconds
 ",
     ),
     // A zone of nodes in a hole is no change to a user, but two groups have other configurations.
+    ("grown.csv", Service, Told::Changes, End::Different, GROWN),
+    // One ETR is another: no block and no cache has anything to do with it.
     (
-        "grown.csv",
+        "renumbered.csv",
         Service,
-        false,
+        Told::Changes,
         End::Different,
-        "\ngroup\tfar\tadded\ngroup\tten\tchanged\ncaches\tservers\t1 day 2 seconds\n",
+        RENUMBERED,
+    ),
+    (
+        "renumbered.csv",
+        Service,
+        Told::Summary,
+        End::Different,
+        "summary\tbecome holes\tblocks 0\tIPv4 addresses 0\tIPv6 addresses 0
+summary\tlose registration\tblocks 0\tIPv4 addresses 0\tIPv6 addresses 0
+summary\tchange servers\tblocks 0\tIPv4 addresses 0\tIPv6 addresses 0
+summary\tsites\tlost 0\tgained 0\tchanged 1
+summary\tzones\tlost 0\tgained 0\tchanged 0
+summary\tgroups to reload\t1
+",
     ),
     (
         "moved.csv",
         Service,
-        true,
+        Told::Counts,
         End::Different,
         "registered\t1\t1\nnot-registered\t1\t0\nhole\t0\t1\ngroup\t2\n",
     ),
-    ("campus.csv", Exact, false, End::Answered, ""),
+    ("campus.csv", Exact, Told::Changes, End::Answered, ""),
+    ("campus.csv", Exact, Told::Summary, End::Answered, ""),
 ];
 
 #[test]
@@ -138,17 +176,19 @@ const CHANGES_AS_OBJECTS: &[Changes] = &[
     (
         "grown.csv",
         Service,
-        false,
+        Told::Changes,
         End::Different,
-        "{\"configuration\":\"added\",\"group\":\"far\"}
+        "{\"summary\":{\"become-holes\":{\"blocks\":\"0\",\"ipv4\":\"0\",\"ipv6\":\"0\"},\"change-servers\":{\"blocks\":\"0\",\"ipv4\":\"0\",\"ipv6\":\"0\"},\"groups-to-reload\":2,\"lose-registration\":{\"blocks\":\"0\",\"ipv4\":\"0\",\"ipv6\":\"0\"},\"sites\":{\"changed\":0,\"gained\":0,\"lost\":0},\"zones\":{\"changed\":0,\"gained\":1,\"lost\":0}}}
+{\"after\":{\"group\":\"far\",\"kind\":\"node\"},\"before\":null,\"zone\":\"[0]10.2.0.0/16\"}
+{\"after\":{\"kind\":\"node\",\"locators\":[\"127.0.0.9\"]},\"before\":null,\"group\":\"far\"}
+{\"configuration\":\"added\",\"group\":\"far\"}
 {\"configuration\":\"changed\",\"group\":\"ten\"}
-{\"caches\":\"servers\",\"seconds\":86402}
 ",
     ),
     (
         "campus.csv",
         Service,
-        true,
+        Told::Counts,
         End::Answered,
         "{\"after\":{\"hole\":0,\"not-registered\":0,\"registered\":0},\"before\":{\"hole\":0,\"not-registered\":0,\"registered\":0},\"groups\":0}\n",
     ),
@@ -186,7 +226,7 @@ fn refusals_name_the_file(rt: HostRuntime) {
         let written = blocks_written(alloc, &asked);
         compare(&rt, &written, End::Refused, "", line);
     }
-    let written = diff_written(alloc, &to("columns.csv", Service, false, Text));
+    let written = diff_written(alloc, &to("columns.csv", Service, Told::Changes, Text));
     compare(
         &rt,
         &written,

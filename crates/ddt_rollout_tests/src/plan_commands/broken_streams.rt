@@ -4,7 +4,7 @@ use crate::comparison::{holds, same};
 use crate::plan_commands::files::{blocks_written, diff_written, file_at, of_campus, to};
 use ddt_plan::Reading::Service;
 use ddt_plan_commands::Form::Text;
-use ddt_plan_commands::{End, run_blocks, run_diff};
+use ddt_plan_commands::{End, Told, run_blocks, run_diff};
 use std::io;
 use std::io::{ErrorKind, Write};
 
@@ -57,7 +57,7 @@ fn a_narrow_writer_has_a_front(rt: HostRuntime) {
 #[test]
 fn a_narrow_writer_has_a_front_of_the_changes(rt: HostRuntime) {
     let alloc = rt.alloc();
-    let asked = to("moved.csv", Service, false, Text);
+    let asked = to("moved.csv", Service, Told::Changes, Text);
     let whole = diff_written(alloc, &asked).out;
     for room in 0..whole.len() {
         let out = Narrow {

@@ -3,10 +3,10 @@
 //! `.ci/memory` runs each of these tests with each growth refused in turn.
 
 use crate::comparison::{holds, same};
-use crate::plan_commands::files::{Written, blocks_written, diff_written, of_campus, to};
+use crate::plan_commands::files::{GROWN, Written, blocks_written, diff_written, of_campus, to};
 use ddt_plan::Reading::Service;
-use ddt_plan_commands::End;
 use ddt_plan_commands::Form::Text;
+use ddt_plan_commands::{End, Told};
 use std::process::Abort;
 
 /// Whether it ended so with all of the answer, or as out of memory with a front of it.
@@ -40,12 +40,10 @@ fn blocks_are_written_up_to_the_refusal(rt: HostRuntime) {
     }
 }
 
-const GROWN: &str = "\ngroup\tfar\tadded\ngroup\tten\tchanged\ncaches\tservers\t1 day 2 seconds\n";
-
 #[test]
 fn changes_are_written_up_to_the_refusal(rt: HostRuntime) {
     let alloc = rt.alloc();
-    let asked = to("grown.csv", Service, false, Text);
+    let asked = to("grown.csv", Service, Told::Changes, Text);
     let first = diff_written(alloc, &asked);
     if !is_whole_or_front(&rt, &first, End::Different, GROWN) {
         let next = diff_written(alloc, &asked);

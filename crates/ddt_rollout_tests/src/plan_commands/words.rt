@@ -3,7 +3,7 @@
 use crate::comparison::same;
 use clap::error::ErrorKind;
 use ddt_plan::Reading;
-use ddt_plan_commands::{Asked, BlocksAsked, DiffAsked, Form, read_asked};
+use ddt_plan_commands::{Asked, BlocksAsked, DiffAsked, Form, SeamAsked, Told, read_asked};
 use std::alloc::Global;
 use std::process::Abort;
 use std::test::Fail;
@@ -70,7 +70,7 @@ const CHANGES: &[(&[&str], DiffAsked<'static>)] = &[
             before: "a.csv",
             after: "b.csv",
             reading: Reading::Exact,
-            counted: false,
+            told: Told::Changes,
             form: Form::Text,
         },
     ),
@@ -80,8 +80,18 @@ const CHANGES: &[(&[&str], DiffAsked<'static>)] = &[
             before: "a.csv",
             after: "-",
             reading: Reading::Service,
-            counted: true,
+            told: Told::Counts,
             form: Form::Json,
+        },
+    ),
+    (
+        &["diff", "a.csv", "b.csv", "--summary"],
+        DiffAsked {
+            before: "a.csv",
+            after: "b.csv",
+            reading: Reading::Service,
+            told: Told::Summary,
+            form: Form::Text,
         },
     ),
 ];
@@ -90,7 +100,7 @@ fn is_diff(rt: &impl Abort, asked: &DiffAsked<'_>, wanted: &DiffAsked<'_>) {
     same(rt, &asked.before, &wanted.before, &"the earlier register");
     same(rt, &asked.after, &wanted.after, &"the later register");
     same(rt, &asked.reading, &wanted.reading, &"the reading");
-    same(rt, &asked.counted, &wanted.counted, &"the counts");
+    same(rt, &asked.told, &wanted.told, &"what is told");
     same(rt, &asked.form, &wanted.form, &"the form");
 }
 
@@ -106,6 +116,76 @@ fn diff_is_asked_for(rt: HostRuntime) -> Result<(), Fail> {
     Ok(())
 }
 
+#[test]
+fn servers_are_asked_for(rt: HostRuntime) -> Result<(), Fail> {
+    let words = process(
+        rt.alloc(),
+        &[
+            "ask",
+            "--quiet",
+            "--changed",
+            "a.csv",
+            "b.csv",
+            "--sample",
+            "9",
+        ],
+    )?;
+    let Ok(Asked::Ask(asked)) = read_asked(rt.alloc(), &words) else {
+        return Err("not ask".into());
+    };
+    same(&rt, &asked.before, &Some("a.csv"), &"the earlier register");
+    same(&rt, &asked.register, &"b.csv", &"the later register");
+    same(&rt, &asked.sample, &Some(9), &"the sample");
+    same(&rt, &asked.quiet, &true, &"quiet");
+    same(&rt, &asked.resolver, &None, &"the Map-Resolver");
+    Ok(())
+}
+
+#[test]
+fn a_map_resolver_is_asked_for(rt: HostRuntime) -> Result<(), Fail> {
+    let words = process(
+        rt.alloc(),
+        &[
+            "ask",
+            "--resolver",
+            "10.0.0.1",
+            "--as-etr",
+            "10.0.0.2",
+            "a.csv",
+        ],
+    )?;
+    let Ok(Asked::Ask(asked)) = read_asked(rt.alloc(), &words) else {
+        return Err("not ask".into());
+    };
+    same(&rt, &asked.resolver, &Some("10.0.0.1"), &"the Map-Resolver");
+    same(&rt, &asked.as_etr, &Some("10.0.0.2"), &"the ETR");
+    same(&rt, &asked.as_itr, &None, &"the ITR");
+    same(&rt, &asked.before, &None, &"the earlier register");
+    Ok(())
+}
+
+#[test]
+fn seams_are_asked_for(rt: HostRuntime) -> Result<(), Fail> {
+    let words = process(rt.alloc(), &["seam", "a.csv", "b.csv", "--foreign", "ten"])?;
+    let Ok(Asked::Seam(SeamAsked::Pair(asked))) = read_asked(rt.alloc(), &words) else {
+        return Err("no seam of two registers".into());
+    };
+    same(&rt, &asked.ours, &"a.csv", &"our register");
+    same(&rt, &asked.theirs, &"b.csv", &"their register");
+    same(
+        &rt,
+        &asked.foreign.as_slice(),
+        &["ten"].as_slice(),
+        &"their groups",
+    );
+    let words = process(rt.alloc(), &["seam", "--index", "tree.csv"])?;
+    let Ok(Asked::Seam(SeamAsked::Index(path))) = read_asked(rt.alloc(), &words) else {
+        return Err("no seams of an index".into());
+    };
+    same(&rt, &path, &"tree.csv", &"the index");
+    Ok(())
+}
+
 /// Words that ask for nothing, and why.
 const NOTHING: &[(&[&str], ErrorKind)] = &[
     (&[], ErrorKind::MissingSubcommand),
@@ -115,8 +195,21 @@ const NOTHING: &[(&[&str], ErrorKind)] = &[
     (&["list"], ErrorKind::InvalidSubcommand),
     (&["blocks"], ErrorKind::MissingRequiredArgument),
     (&["diff", "a.csv"], ErrorKind::MissingRequiredArgument),
+    (&["seam", "a.csv"], ErrorKind::MissingRequiredArgument),
+    (
+        &["seam", "--index", "tree.csv", "a.csv"],
+        ErrorKind::ArgumentConflict,
+    ),
     (&["blocks", "a.csv", "*", "b"], ErrorKind::UnknownArgument),
     (&["blocks", "a.csv", "--exact"], ErrorKind::UnknownArgument),
+    (
+        &["diff", "a.csv", "b.csv", "--count", "--summary"],
+        ErrorKind::ArgumentConflict,
+    ),
+    (
+        &["ask", "a.csv", "--sample", "0"],
+        ErrorKind::ValueValidation,
+    ),
 ];
 
 #[test]

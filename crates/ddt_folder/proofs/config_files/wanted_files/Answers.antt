@@ -1,12 +1,19 @@
-use Rattle.std.proofs.Common.{◌≡◌, [], ◌∷◌, ◌++◌, List, sym, ap, subst, ◌∙◌, rules}
+use Rattle.std.proofs.Common.{◌≡◌, ℕ, [], ◌∷◌, ◌++◌, List, map, sym, ap, subst, ◌∙◌, rules}
+use Rattle.std.specs.Prelude.{not}
+use Rattle.std.specs.BTreeSet.{contains}
+use Rattle.std.specs.Cmp.Lexicographic.{slice_cmp}
+use Rattle.std.specs.Ordering.{nat_cmp}
+use Rattle.std.proofs.lemmas.Fn.{filter_same}
 use Rattle.std.proofs.lemmas.List.{map-id}
 use Rattle.std.proofs.lemmas.List.Sorted.{answers_always}
 use Rattle.std.proofs.lemmas.Iterator.Adapters.{YieldsList-from_vec}
 use Rattle.std.proofs.lemmas.Iterator.Consumers.{YieldsList-end}
 use Rattle.ddt_config.specs.declared.config.ServerConfig.{ServerConfig}
+use Rattle.ddt_config.specs.Table.{outline}
 use Rattle.ddt_folder.specs.declared.step.NamedFile.{NamedFile}
 use Rattle.ddt_folder.specs.Wanted.{AreConfigFiles}
 use Rattle.ddt_folder.proofs.ListLemmas.{files_last}
+use Rattle.ddt_folder.proofs.OurLemmas.{our_configs}
 use Rattle.ddt_folder.proofs.config_files.wanted_files.Goals as goal
 
 pub loop-config-preserved : goal.loop-config-preserved
@@ -21,6 +28,9 @@ loop-config-preserved c =
 pub returns : goal.returns
 returns c =
     let items = c.sort_unstable_by_key.new.self.items in
+    let ours = λ (name : List ℕ). contains (slice_cmp nat_cmp) c.args.foreign.now name in
+    let keeps = λ (config : ServerConfig). not (ours config.name) in
+    let kept = filter_same _ keeps _ (λ e b f k. search rules) _ _ c.retain.ensures.filtered in
     let all = YieldsList-end (YieldsList-from_vec {s = c.into_iter-config-iterator.result} items (search rules) (search rules))
     c.loop-config.yielded c.loop-config.config-iterator c.loop-config.yielded_by c.next.result c.next.new.self c.in-None.is
     c.next.ensures.steps in
@@ -28,8 +38,9 @@ returns c =
     let at = c.loop-config.invariant in (
       at.0,
       record {
-        compiled = c.into_vec-configs.result.items;
-        each = search (rules, c.in_ok-compile.ensures.each, c.into_vec-configs.ensures);
+        compiled = c.retain.new.self.items;
+        each = ap (map outline) kept ∙ our_configs ours c.args.accepted.now c.into_vec-configs.result.items
+            (search (rules, c.in_ok-compile.ensures.each, c.into_vec-configs.ensures));
         configs = items;
         moved = c.sort_unstable_by_key.ensures.permutation;
         in_order = c.sort_unstable_by_key.ensures.sorted (λ (config : _). config.name)

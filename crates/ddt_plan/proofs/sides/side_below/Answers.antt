@@ -1,49 +1,17 @@
 use Rattle.ddt_plan.specs.Blocks.{keys_of}
 use Rattle.ddt_plan.proofs.ListingLemmas.{keys_are_paths}
 use Rattle.ddt_plan.proofs.PieceLemmas.{keys_go_on}
-use Rattle.ddt_plan.proofs.SideLemmas.{zone_goes, site_goes, zones_go, sites_go, fronts_go}
+use Rattle.ddt_plan.proofs.SideLemmas.{next_half}
 use Rattle.ddt_plan.proofs.sides.side_below.Goals as goal
 
-pub half-at-requires : goal.half-at-requires
-half-at-requires c =
+pub half-requires : goal.half-requires
+half-requires c =
     let r = c.args.accepted.now in
     (keys_go_on (keys_of r) (keys_are_paths r) c.args.whole c.requires.division.divided).0 c.args.upper
 
-pub item_at-zone-requires : goal.item_at-zone-requires
-item_at-zone-requires c = c.requires.division.zones.in_order
-
-pub item_at-site-requires : goal.item_at-site-requires
-item_at-site-requires c = c.requires.division.sites.in_order
-
-pub items_below-zones-requires : goal.items_below-zones-requires
-items_below-zones-requires c = c.requires.division.zones.in_order
-
-pub items_below-sites-requires : goal.items_below-sites-requires
-items_below-sites-requires c = c.requires.division.sites.in_order
-
-pub settle-requires-clause-zone : goal.settle-requires-clause-zone
-settle-requires-clause-zone c =
-    zone_goes c.args.accepted.now c.register-register.ensures.accepted c.args.upper c.args.whole c.half-at.result
-    c.half-at.ensures c.args.division.now.zones.now c.args.division.now.zone c.item_at-zone.result
-    c.requires.division.zones c.requires.division.zone c.item_at-zone.ensures
-
-pub settle-requires-clause-site : goal.settle-requires-clause-site
-settle-requires-clause-site c =
-    site_goes c.args.accepted.now c.register-register.ensures.accepted c.args.upper c.args.whole c.half-at.result
-    c.half-at.ensures c.args.division.now.sites.now c.args.division.now.site c.item_at-site.result
-    c.requires.division.sites c.requires.division.site c.item_at-site.ensures
-
-pub settle-requires-clause-zones : goal.settle-requires-clause-zones
-settle-requires-clause-zones c =
-    zones_go c.args.accepted.now c.args.upper c.args.whole c.half-at.result c.half-at.ensures
-    c.args.division.now.zones.now c.items_below-zones.result.now c.requires.division.zones c.items_below-zones.ensures
-
-pub settle-requires-clause-sites : goal.settle-requires-clause-sites
-settle-requires-clause-sites c =
-    sites_go c.args.accepted.now c.args.upper c.args.whole c.half-at.result c.half-at.ensures
-    c.args.division.now.sites.now c.items_below-sites.result.now c.requires.division.sites c.items_below-sites.ensures
-
-pub settle-requires-clause-fronts : goal.settle-requires-clause-fronts
-settle-requires-clause-fronts c =
-    fronts_go c.args.accepted.now c.args.upper c.args.whole c.half-at.result c.half-at.ensures
-    c.requires.division.divided
+pub side_inside-requires : goal.side_inside-requires
+side_inside-requires c = (
+  c.args.whole,
+  c.requires.division,
+  next_half c.args.accepted.now c.args.upper c.args.whole c.half.result c.half.ensures c.requires.division.divided,
+)

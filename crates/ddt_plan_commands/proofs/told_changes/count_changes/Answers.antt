@@ -51,7 +51,7 @@ returns-clause-whole g c =
         (
           slice.result.now,
           subst (AreGroupChanges c.args.before.now c.args.after.now) (sym slice.ensures.value) c.in_ok-groups.ensures,
-          c.is_different.ensures ∙ (ap (λ (b : Bool). b || has_some slice.result.now) c.has_counted.ensures ∙ counted.differs_so),
+          c.are_different.ensures ∙ (ap (λ (b : Bool). b || has_some slice.result.now) c.has_counted.ensures ∙ counted.differs_so),
           c.deref.ensures.value ∙ (c.in_ok-change_counts_lines.ensures ∙ counted.text),
         ),
       ),
@@ -61,4 +61,4 @@ returns-clause-whole g c =
 pub returns-clause-front : goal.returns-clause-front
 returns-clause-front g c =
     let whole = returns-clause-whole g c in
-    text_front _ _ _ (whole.0, (c.is_different.result, whole.1), whole.2)
+    text_front _ _ _ (whole.0, (c.are_different.result, whole.1), whole.2)

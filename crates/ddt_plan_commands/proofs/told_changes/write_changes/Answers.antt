@@ -5,7 +5,7 @@ use Rattle.std.specs.Fn.{FnReturnsAt}
 use Rattle.ddt_plan_commands.specs.Answers.{IsDiffText}
 use Rattle.ddt_plan_commands.specs.declared.refusal.PlanRefusal.{PlanRefusal}
 use Rattle.ddt_plan_commands.specs.declared.stop.Stop.TheVariants.{Refused}
-use Rattle.ddt_plan_commands.specs.Refusals.{IsWhyUnopened, IsWhyUnwritten}
+use Rattle.ddt_plan_commands.specs.Refusals.{IsWhyUnopened, IsWhyUnwritten, is_counted}
 use Rattle.ddt_plan_commands.proofs.AnswerLemmas.{diff_answer}
 use Rattle.ddt_plan_commands.proofs.WriterLemmas.{front_kept, front_wider, text_front, text_kept, text_wider}
 use Rattle.ddt_plan_commands.proofs.told_changes.write_changes.Goals as goal
@@ -105,7 +105,7 @@ returns-in_err-after-clause-refused g c =
 
 pub returns-in_err-differs-clause-refused : goal.returns-in_err-differs-clause-refused
 returns-in_err-differs-clause-refused g c =
-    let unwritten : IfErr c.from_residual-in_err-differs.result (IsWhyUnwritten c.args.asked.now.counted) = search (rules, c.in_err-differs.ensures.refused) in
+    let unwritten : IfErr c.from_residual-in_err-differs.result (IsWhyUnwritten (is_counted c.args.asked.now.told)) = search (rules, c.in_err-differs.ensures.refused) in
     IfErr-weaker c.from_residual-in_err-differs.result _ _ (λ stop h why e. (
       c.open_file.result,
       record { shown = c.args.asked.now.before; shows = refl; says = record { met = c.open_file.ensures } },
@@ -124,7 +124,7 @@ returns-in_err-differs-clause-refused g c =
                 c.in_ok-after.after,
                 c.in_ok-after.ensures.accepted,
                 c.in_ok-after.ensures.spelled,
-                subst (IsWhyUnwritten c.args.asked.now.counted) e h,
+                subst (IsWhyUnwritten (is_counted c.args.asked.now.told)) e h,
               ),
             ),
           ),

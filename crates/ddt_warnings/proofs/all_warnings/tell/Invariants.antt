@@ -2,10 +2,10 @@ use Rattle.std.proofs.Common.{◌≡◌, ℕ, ◌||◌, take}
 use Rattle.ddt_check.specs.Rules.{item_at}
 use Rattle.ddt_warnings.specs.declared.kind.Kind.{Kind}
 use Rattle.ddt_warnings.specs.Findings.{tells}
-use Rattle.ddt_warnings.specs.Index.{register_of}
+use Rattle.ddt_warnings.specs.Index.{register_of, resolvers_of}
 use Rattle.ddt_warnings.proofs.all_warnings.tell.Given as goal
 
 abbrev pub invariant-loop-item : goal.invariant-loop-item
 invariant-loop-item g l = (kind : Kind) (row : ℕ) → tells l.told.items kind row
     ≡ (tells l.initial.told.items kind row
-    || item_at g.T.Item.row_of (g.T.Warned.has (register_of l.index) kind) (take l.item-index l.items) row)
+    || item_at g.T.Item.row_of (g.T.Warned.has (register_of l.index) (resolvers_of l.index) kind) (take l.item-index l.items) row)

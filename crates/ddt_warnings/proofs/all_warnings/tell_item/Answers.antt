@@ -3,7 +3,7 @@ use Rattle.ddt_warnings.specs.declared.kind.Kind.{Kind}
 use Rattle.ddt_warnings.specs.declared.warning.Warning.{Warning}
 use Rattle.ddt_warnings.specs.Names.{kind_number}
 use Rattle.ddt_warnings.specs.Findings.{tells}
-use Rattle.ddt_warnings.specs.Index.{register_of}
+use Rattle.ddt_warnings.specs.Index.{register_of, resolvers_of}
 use Rattle.ddt_warnings.proofs.TellLemmas.{told_none, told_now, untold_now, told_all, so_far}
 use Rattle.ddt_warnings.proofs.all_warnings.tell_item.Goals as goal
 use Rattle.ddt_warnings.proofs.all_warnings.tell_item.Goals.{in-Some+in_ok-push, in_default}
@@ -14,7 +14,7 @@ loop-kind-init g c = λ kind row. told_none _ _ _ (kind_number kind)
 pub loop-kind-preserved : goal.loop-kind-preserved
 loop-kind-preserved g c = λ kind row.
     let i = c.loop-kind.kind-index in
-    let has = λ (k : Kind). g.T.Warned.has (register_of c.args.index.now) k c.args.item.now in
+    let has = λ (k : Kind). g.T.Warned.has (register_of c.args.index.now) (resolvers_of c.args.index.now) k c.args.item.now in
     let here : Bool = g.T.Item.row_of c.args.item.now == row in
     let before : Bool = tells c.args.told.now.items kind row in
     elim c.match-find.branch [
@@ -34,5 +34,5 @@ returns g c = λ kind row.
     let i = c.loop-kind.kind-index in
     let most = c.loop-kind.auto.kind-index-end in
     let least = c.loop-kind-test.false in
-    let n : i ≡ 8 = omega arith in
+    let n : i ≡ 12 = omega arith in
     c.loop-kind.invariant kind row ∙ ap (so_far _ _ _ (kind_number kind)) n ∙ told_all _ _ _ kind

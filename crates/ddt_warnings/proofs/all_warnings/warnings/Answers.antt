@@ -9,7 +9,7 @@ use Rattle.ddt_check.specs.Rules.{item_at}
 use Rattle.ddt_warnings.specs.declared.warning.Warning.{Warning}
 use Rattle.ddt_warnings.specs.Names.{kind_number}
 use Rattle.ddt_warnings.specs.Findings.{kind_of, is_same_kind, tells}
-use Rattle.ddt_warnings.specs.Index.{register_of}
+use Rattle.ddt_warnings.specs.Index.{register_of, resolvers_of}
 use Rattle.ddt_warnings.specs.Warnings.{group_has, site_has, zone_has}
 use Rattle.ddt_warnings.proofs.TellLemmas.{three, warns_by_lists}
 use Rattle.ddt_warnings.proofs.all_warnings.warnings.Goals as goal
@@ -18,9 +18,10 @@ pub returns-clause-each : goal.returns-clause-each
 returns-clause-each c = λ kind row.
     let r = c.args.accepted.now in
     let q = register_of c.in_ok-index.index in
+    let known = resolvers_of c.in_ok-index.index in
     let test = λ (w : Warning). w.row == row && is_same_kind (kind_of w.finding) kind in
     let gs : Bool = item_at (λ (g : Group). g.row) (group_has q kind) c.as_slice.result.now row in
-    let ss : Bool = item_at (λ (s : Site). s.row) (site_has q kind) c.as_slice-2.result.now row in
+    let ss : Bool = item_at (λ (s : Site). s.row) (site_has q known kind) c.as_slice-2.result.now row in
     let zs : Bool = item_at (λ (z : Zone). z.row) (zone_has q kind) c.as_slice-3.result.now row in
     let same = c.register-register.ensures.register in
     sym (list_any-IsPermutation test _ _ c.sort_unstable_by_key.ensures.permutation)
@@ -29,7 +30,7 @@ returns-clause-each c = λ kind row.
     ∙ ap (λ (b : Bool). b || ss) (c.in_ok-tell.ensures kind row
     ∙ ap (λ (ws : List Warning). tells ws kind row || gs) c.new-told.ensures.items))
     ∙ three gs ss zs
-    ∙ warns_by_lists r q c.as_slice.result.now c.as_slice-2.result.now c.as_slice-3.result.now c.in_ok-index.ensures.register
+    ∙ warns_by_lists r q c.args.resolvers.now known c.as_slice.result.now c.as_slice-2.result.now c.as_slice-3.result.now c.in_ok-index.ensures.register c.in_ok-index.ensures.resolvers
     (c.as_slice.ensures ∙ ap (λ (s : Register). s.groups) same) (c.as_slice-2.ensures ∙ ap (λ (s : Register). s.sites) same)
     (c.as_slice-3.ensures ∙ ap (λ (s : Register). s.zones) same) kind row
 

@@ -4,14 +4,14 @@ use Rattle.ddt_path.specs.declared.locator.Locator.{Locator}
 use Rattle.ddt_warnings.specs.declared.kind.Kind.{Kind}
 use Rattle.ddt_warnings.specs.declared.kind.Kind.TheVariants.{RepeatedEtr}
 use Rattle.ddt_warnings.specs.Found.{IsWarningFound}
-use Rattle.ddt_warnings.specs.Index.{register_of}
+use Rattle.ddt_warnings.specs.Index.{register_of, resolvers_of}
 use Rattle.ddt_warnings.specs.Warnings.{is_repeated, site_has}
 use Rattle.ddt_warnings.proofs.of_sites.SiteWarned.find.Goals as goal
 
 pub returns-in-RepeatedEtr : goal.returns-in-RepeatedEtr
 returns-in-RepeatedEtr c =
     let s = c.args.self.now in
-    subst (λ (k : Kind). IsWarningFound (site_has (register_of c.args.index.now) k s) k c.first_found.result) (sym c.in-RepeatedEtr.is)
-    (subst (λ (ls : List Locator). IsWarningFound (list_any (is_repeated s.etrs) ls) RepeatedEtr c.first_found.result)
+    subst (λ (k : Kind). IsWarningFound (site_has (register_of c.args.index.now) (resolvers_of c.args.index.now) k s) k c.first_found-in-RepeatedEtr.result) (sym c.in-RepeatedEtr.is)
+    (subst (λ (ls : List Locator). IsWarningFound (list_any (is_repeated s.etrs) ls) RepeatedEtr c.first_found-in-RepeatedEtr.result)
     c.as_slice-etrs.ensures
-    (c.first_found.ensures (is_repeated s.etrs) RepeatedEtr (λ l found h. search rules)))
+    (c.first_found-in-RepeatedEtr.ensures (is_repeated s.etrs) RepeatedEtr (λ l found h. search rules)))

@@ -1,0 +1,12 @@
+mod ZoneLemmas
+mod GroupLemmas
+mod CrossLemmas
+mod FollowLemmas
+mod PrefixLemmas
+mod ToldLemmas
+mod RunnerLemmas
+mod SeamLemmas
+mod FaultLemmas
+mod PairLemmas
+mod ChargeLemmas
+mod TreeLemmas

@@ -1,0 +1,4 @@
+use Rattle.ddt_organisations.proofs.delegations.Delegations.have_inside.Goals as goal
+
+pub returns : goal.returns
+returns c = c.has_above.ensures c.args.self.now.zones.items c.requires

@@ -1,0 +1,48 @@
+//! Laws of the registers of many organisations, over the definitions alone: the contracts of functions that do nothing.
+
+ghost use Rattle.ddt_organisations.specs.Laws.{WalksEndInCharge, SomeoneIsInCharge, TreesHandOn};
+
+use ddt_check::{
+    each_identifier_has_a_zone, each_zone_has_servers, honest_servers_lead_to_the_assignment,
+};
+use ddt_compile::a_compiled_configuration_answers_honestly;
+use ddt_seam::{good_seams_are_run, sides_answer_as_joined};
+
+/// Where all seams of a tree of organisations are good, referrals that are followed from the root, over the servers of
+/// all of them, end in what the register in charge of the identifier assigns (RFC 8111, section 7.3). No register has
+/// the rows of all, so there may be more of them than one register has.
+pub fn walks_end_in_charge()
+    ensures { WalksEndInCharge }
+{
+    a_compiled_configuration_answers_honestly();
+    sides_answer_as_joined();
+    good_seams_are_run();
+    each_identifier_has_a_zone();
+    each_zone_has_servers();
+    honest_servers_lead_to_the_assignment();
+}
+
+/// In such a tree each identifier has a register in charge of it.
+pub fn someone_is_in_charge()
+    ensures { SomeoneIsInCharge }
+{
+    a_compiled_configuration_answers_honestly();
+    sides_answer_as_joined();
+    good_seams_are_run();
+    each_identifier_has_a_zone();
+    each_zone_has_servers();
+    honest_servers_lead_to_the_assignment();
+}
+
+/// In such a tree who doesn't run the longest zone that it has for an identifier hands it on to one that has a longer
+/// one of its own.
+pub(crate) fn trees_hand_on()
+    ensures { TreesHandOn }
+{
+    a_compiled_configuration_answers_honestly();
+    sides_answer_as_joined();
+    good_seams_are_run();
+    each_identifier_has_a_zone();
+    each_zone_has_servers();
+    honest_servers_lead_to_the_assignment();
+}

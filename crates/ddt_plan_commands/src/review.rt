@@ -1,0 +1,73 @@
+//! What differs between two registers, apart from the lines of the blocks.
+
+ghost use Rattle.std.specs.Prelude.{◌≡◌, ◌||◌, [], IfOk, IfErr, false};
+ghost use Rattle.ddt_plan_commands.specs.Refusals.{IsWhyUnwritten};
+ghost use Rattle.ddt_plan_commands.specs.Review.{IsReview, has_items as has_items_of, is_different as is_different_of};
+
+use crate::effects::Effects;
+use crate::referrals::has_outdated;
+use crate::stop::Stop;
+use ddt_check::Accepted;
+use ddt_path::{Locator, Prefix, Xeid};
+use ddt_plan::{GroupChange, ItemChanges, Reading, changes, group_changes, item_changes};
+use std::alloc::Global;
+
+/// What differs.
+#[derive(Debug, Drop)]
+pub struct Review {
+    /// What the changes of the blocks do.
+    pub effects: Effects,
+    /// The groups whose configuration changes.
+    pub groups: Vec<GroupChange>,
+    /// The zones, sites and groups that differ.
+    pub items: ItemChanges,
+    /// Whether a referral that caches may hold is out of date.
+    pub outdated: bool,
+}
+
+/// Finds what differs from one register to another.
+pub(crate) fn compare(
+    alloc: Global,
+    reading: Reading,
+    before: &Accepted,
+    after: &Accepted,
+) -> Result<Review, Stop<'static>>
+    ensures found { IfOk result (IsReview reading before.now after.now) }
+    ensures refused { IfErr result (IsWhyUnwritten false) }
+{
+    let groups = group_changes(alloc, before, after)?;
+    let items = item_changes(alloc, before, after)?;
+    let outdated = has_outdated(alloc, before, after)?;
+    let mut effects = Effects::default();
+    changes(alloc, reading, before, after, everything(), &mut effects)?;
+    Ok(Review {
+        effects,
+        groups,
+        items,
+        outdated,
+    })
+}
+
+/// Whether anything differs.
+pub(crate) fn is_different(found: &Review) -> bool
+    ensures { result ≡ is_different_of found.now }
+{
+    found.effects.some || !found.groups.is_empty() || has_items(&found.items)
+}
+
+fn has_items(items: &ItemChanges) -> bool
+    ensures { result ≡ has_items_of items.now }
+{
+    !items.zones.is_empty() || !items.sites.is_empty() || !items.groups.is_empty()
+}
+
+/// The prefix of everything.
+pub(crate) fn everything() -> Prefix
+    ensures { result ≡ [] }
+{
+    let any = Xeid {
+        iid: 0,
+        address: Locator::V4(0),
+    };
+    Prefix::cut(any, 0)
+}

@@ -1,0 +1,7 @@
+pub mod Head
+pub mod Html
+pub mod Markup
+pub mod Page
+pub mod Sections
+pub mod Tables
+pub mod laws

@@ -1,0 +1,58 @@
+//! Registers that meet, and what is told of them.
+
+use crate::comparison::same;
+use ddt_check::{Accepted, check};
+use ddt_path::Name;
+use ddt_register::{ReadFault, Register, read_register};
+use ddt_seam::{Told, seam_lines};
+use std::alloc::{AllocError, Global};
+use std::collections::BTreeSet;
+use std::process::Abort;
+use std::test::Fail;
+
+/// The register of a text, read once more where memory is refused, of which it tells no other fault.
+fn register(rt: &impl Abort, alloc: Global, text: &str) -> Result<Register, Fail> {
+    match read_register(alloc, text.as_bytes()) {
+        Ok(register) => Ok(register),
+        Err(fault) => {
+            same(rt, &fault, &ReadFault::Memory, &"the fault");
+            Ok(read_register(alloc, text.as_bytes())?)
+        },
+    }
+}
+
+/// The same, accepted.
+pub fn accepted(rt: &impl Abort, alloc: Global, text: &str) -> Result<Accepted, Fail> {
+    match check(register(rt, alloc, text)?) {
+        Ok(accepted) => Ok(accepted),
+        Err(_refused) => Err("not accepted".into()),
+    }
+}
+
+/// The names of groups; what is none is left out.
+pub fn names(alloc: Global, words: &[&str]) -> Result<BTreeSet<Name>, AllocError> {
+    let mut names = BTreeSet::new(alloc);
+    for word in words {
+        if let Some(name) = Name::of(word.as_bytes()) {
+            names.insert(name)?;
+        }
+    }
+    Ok(names)
+}
+
+/// What is told of two registers, some groups being foreign to the first.
+pub fn told_of(
+    rt: &impl Abort,
+    alloc: Global,
+    foreign: &[&str],
+    ours: &str,
+    theirs: &str,
+) -> Result<Told, Fail> {
+    let foreign = names(alloc, foreign)?;
+    let ours = accepted(rt, alloc, ours)?;
+    let theirs = accepted(rt, alloc, theirs)?;
+    match seam_lines(alloc, &foreign, &ours, &theirs)? {
+        Some(told) => Ok(told),
+        None => Err("too many rows".into()),
+    }
+}

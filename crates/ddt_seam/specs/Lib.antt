@@ -1,0 +1,5 @@
+pub mod Joined
+pub mod Seam
+pub mod Walk
+pub mod Laws
+pub mod Verdict

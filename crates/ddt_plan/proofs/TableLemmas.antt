@@ -121,6 +121,23 @@ both_after None (Some w) = refl
 both_after (Some v) None = refl
 both_after (Some v) (Some w) = refl
 
+pub both_values : {V : Type 0} (f g : List ℕ → Option V) (empty early late : BTreeMap (List ℕ) (Pair V))
+    → ((k : List ℕ) → get (slice_cmp nat_cmp) empty k ≡ None)
+    → HasPutRows Earlier f empty early → HasPutRows Later g early late
+    → (k : List ℕ) → unwrap_or (get (slice_cmp nat_cmp) late k) no_values ≡ record { before = f k; after = g k }
+both_values f g empty early late none p q k =
+    let there : get (slice_cmp nat_cmp) late k ≡ put_at Later (put_at Earlier None (f k)) (g k) =
+    q k ∙ ap (λ (o : Option (Pair _)). put_at Later o (g k))
+    (p k ∙ ap (λ (o : Option (Pair _)). put_at Earlier o (f k)) (none k)) in
+    ap (λ (o : Option (Pair _)). unwrap_or o no_values) there ∙ both (f k) (g k)
+  where
+    both : {V : Type 0} (o p : Option V)
+        → unwrap_or (put_at Later (put_at Earlier None o) p) no_values ≡ record { before = o; after = p }
+    both None None = refl
+    both None (Some w) = refl
+    both (Some v) None = refl
+    both (Some v) (Some w) = refl
+
 -- ---- the changes
 
 module _ {V : Type 0} (same : V → V → Bool) where

@@ -8,7 +8,9 @@ use Rattle.ddt_plan.specs.declared.versions.Which.{Which}
 use Rattle.ddt_plan.specs.declared.versions.Which.TheVariants.{Earlier, Later}
 use Rattle.ddt_plan.specs.declared.tables.Pair.{Pair}
 use Rattle.ddt_plan.specs.declared.items.ItemChange.{ItemChange}
-use Rattle.ddt_plan.specs.Items.{is_same_if_any}
+use Rattle.ddt_register.specs.declared.register.Register.{Register}
+use Rattle.ddt_plan.specs.declared.items.ServingGroup.{ServingGroup}
+use Rattle.ddt_plan.specs.Items.{is_same_if_any, serving_group_at}
 
 -- a value beside what is there, of which the first of a register stays
 abbrev pub with_value : {V : Type 0} → Which → Pair V → V → Pair V
@@ -34,3 +36,8 @@ put_at which known (Some v) = Some (with_value which (unwrap_or known no_values)
 abbrev pub HasPutRows : {V : Type 0} → Which → (List ℕ → Option V) → BTreeMap (List ℕ) (Pair V) → BTreeMap (List ℕ) (Pair V) → Type 0
 HasPutRows which at before after =
     (k : List ℕ) → get (slice_cmp nat_cmp) after k ≡ put_at which (get (slice_cmp nat_cmp) before k) (at k)
+
+-- Under an EID-prefix is the group that serves its zone in each register; none where a register has no such zone.
+abbrev pub AreServingGroups : Register → Register → BTreeMap (List ℕ) (Pair ServingGroup) → Type 0
+AreServingGroups before after groups = (p : List ℕ) → unwrap_or (get (slice_cmp nat_cmp) groups p) no_values
+    ≡ record { before = serving_group_at before p; after = serving_group_at after p }

@@ -3,7 +3,7 @@
 ghost use Rattle.std.specs.Prelude.{IfOk};
 ghost use Rattle.ddt_plan.specs.Changes.{are_same_servers};
 ghost use Rattle.ddt_plan.specs.Items.{AreItemChanges, AreTableChanges, serving_group_at, etrs_at, group_servers_at, is_same_serving_group, are_same_group_servers};
-ghost use Rattle.ddt_plan.specs.Tables.{HasPutRows};
+ghost use Rattle.ddt_plan.specs.Tables.{AreServingGroups, HasPutRows};
 
 use crate::tables::{Pair, changes_of, put};
 use crate::versions::Which;
@@ -70,6 +70,19 @@ pub fn item_changes(
         sites: changed_sites(alloc, before, after)?,
         groups: changed_groups(alloc, before, after)?,
     })
+}
+
+/// The group that serves each zone in two registers, by the zone's EID-prefix. A prefix that neither register has as a
+/// zone is no key. Fails only if out of memory.
+pub fn serving_groups(
+    alloc: Global,
+    before: &Accepted,
+    after: &Accepted,
+) -> Result<BTreeMap<Prefix, Pair<ServingGroup>>, AllocError>
+    ensures { IfOk result (λ groups. AreServingGroups before.now after.now groups) }
+{
+    let old = put_zones(BTreeMap::new(alloc), Which::Earlier, before)?;
+    put_zones(old, Which::Later, after)
 }
 
 /// The zones that differ.

@@ -35,7 +35,11 @@ pub use block_list::{Block, blocks};
 pub use change_list::{Change, changes};
 pub use counts::{ChangeCounts, CountFull, OutcomeCounts};
 pub use groups::{GroupChange, GroupChangeKind, group_changes};
-pub use items::{GroupServers, ItemChange, ItemChanges, ServingGroup, item_changes};
+pub use items::{
+    GroupServers, ItemChange, ItemChanges, ServingGroup, item_changes, serving_groups,
+};
 pub use laws::{a_block_is_assigned_alike, a_negative_is_its_block, exactly_the_same_is_equal};
 pub use outcomes::{Reading, is_same_outcome};
 pub use sink::{PlanFault, Sink};
+pub use tables::Pair;
+pub use versions::{Versions, versions_by_name};

@@ -15,7 +15,9 @@ use std::collections::BTreeMap;
 /// What an earlier register and a later one have under a key.
 #[derive(Clone, Copy)]
 pub struct Pair<V> {
+    /// None where the earlier register has nothing there.
     pub before: Option<V>,
+    /// None where the later register has nothing there.
     pub after: Option<V>,
 }
 

@@ -28,7 +28,8 @@ pub enum Which {
     Later,
 }
 
-/// The configurations of each group of two registers, by its name.
+/// The configurations of each group of two registers, by its name: those of `ddt_compile`. A name of no group is no key.
+/// Fails only if out of memory.
 pub fn versions_by_name(
     alloc: Global,
     before: &Accepted,

@@ -1,2 +1,5 @@
 pub mod ShapeLemmas
 pub mod ZoneLemmas
+pub mod WaitLemmas
+pub mod ConfigurationLemmas
+pub mod FileLemmas

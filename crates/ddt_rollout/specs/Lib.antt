@@ -1,1 +1,4 @@
 pub mod Between
+pub mod Waits
+pub mod Configurations
+pub mod Files

@@ -1,13 +1,26 @@
 //! The configurations of all groups at a stage.
 
-use crate::between::config_at;
+ghost use Rattle.std.specs.Prelude.{◌≡◌, ◌≢◌, ◌++◌, [], ℕ, List, Some, None, map, IfOk, IfErr, OnOk};
+ghost use Rattle.std.specs.List.{cons_option, filter_map};
+ghost use Rattle.std.specs.Option.{option_map};
+ghost use Rattle.std.specs.Ordering.{nat_cmp};
+ghost use Rattle.std.specs.Cmp.Lexicographic.{slice_cmp};
+ghost use Rattle.std.specs.BTreeMap.{IsOrdered};
+ghost use Rattle.ddt_path.specs.laws.Member.{IsIn};
+ghost use Rattle.ddt_config.specs.Table.{outline};
+ghost use Rattle.ddt_plan.specs.declared.versions.Versions.{Versions as GroupVersions};
+ghost use Rattle.ddt_plan.specs.Versions.{earlier as earlier_of, later as later_of};
+ghost use Rattle.ddt_rollout.specs.Between.{config_at as config_at_of, refusal_at};
+ghost use Rattle.ddt_rollout.specs.Configurations.{AreConfigurationsAt, config_in, refusal_in, refusal_of};
+
+use crate::between::{Waits, config_at};
 use crate::fault::RolloutFault;
 use crate::stage::Stage;
 use crate::waits::waits_of;
 use ddt_check::Accepted;
-use ddt_compile::compile;
 use ddt_config::ServerConfig;
 use ddt_path::Name;
+use ddt_plan::{Versions, versions_by_name};
 use std::alloc::{AllocError, Global};
 use std::collections::BTreeMap;
 
@@ -20,30 +33,70 @@ pub fn configurations_at(
     before: &Accepted,
     after: &Accepted,
     stage: Stage,
-) -> Result<Vec<ServerConfig>, RolloutFault> {
+) -> Result<Vec<ServerConfig>, RolloutFault>
+    ensures found { IfOk result (λ configs. AreConfigurationsAt before.now after.now stage (map outline configs.items)) }
+    ensures good { IfOk result (λ _. (name : List ℕ) → refusal_of before.now after.now stage name ≡ None) }
+    ensures refused { IfErr result (λ fault. fault ≢ RolloutFault.Memory
+        → (name : List ℕ) × (refusal_of before.now after.now stage name ≡ Some fault)) }
+{
     let kept = waits_of(alloc, before, after)?;
-    let mut later = by_name(alloc, after)?;
+    let versions = versions_by_name(alloc, before, after)?;
+    configurations_of(alloc, stage, &kept, versions)
+}
+
+/// The configurations at a stage, by those of both registers.
+fn configurations_of(
+    alloc: Global,
+    stage: Stage,
+    kept: &Waits,
+    versions: BTreeMap<Name, Versions>,
+) -> Result<Vec<ServerConfig>, RolloutFault>
+    ensures made { IfOk result (λ configs. map outline configs.items
+        ≡ filter_map (config_in stage kept.now) versions.entries × IsOrdered (slice_cmp nat_cmp) versions) }
+    ensures good { IfOk result (λ _. IsOrdered (slice_cmp nat_cmp) versions
+        × ((e : List ℕ × GroupVersions) → IsIn e versions.entries → refusal_in stage e ≡ None)) }
+    ensures refused { IfErr result (λ fault. fault ≢ RolloutFault.Memory → IsOrdered (slice_cmp nat_cmp) versions
+        × ((e : List ℕ × GroupVersions) × IsIn e versions.entries × (refusal_in stage e ≡ Some fault))) }
+{
     let mut configs = Vec::new(alloc);
-    for (name, earlier) in by_name(alloc, before)? {
-        let now = later.remove(&name);
-        if let Some(config) = config_at(alloc, stage, &kept, Some(earlier), now)? {
-            configs.push(config)?;
-        }
+    for (_name, of_group) in versions {
+        let config = config_of(alloc, stage, kept, of_group)?;
+        push_if(&mut configs, config)?;
     }
-    for (_name, new) in later {
-        if let Some(config) = config_at(alloc, stage, &kept, None, Some(new))? {
-            configs.push(config)?;
-        }
-    }
-    configs.sort_unstable_by_key(|config| config.name);
     Ok(configs)
 }
 
-/// The configuration of each group of a register, by its name.
-fn by_name(alloc: Global, accepted: &Accepted) -> Result<BTreeMap<Name, ServerConfig>, AllocError> {
-    let mut configs = BTreeMap::new(alloc);
-    for config in compile(alloc, accepted)?.into_vec() {
-        configs.insert(config.name, config)?;
+/// Appends a configuration, if there is one. Fails only if out of memory.
+fn push_if(configs: &mut Vec<ServerConfig>, config: Option<ServerConfig>) -> Result<(), AllocError>
+    ensures { OnOk result (configs.new.items ≡ configs.old.items ++ cons_option config []) }
+{
+    match config {
+        Some(config) => {
+            configs.push(config)?;
+            Ok(())
+        }
+        None => Ok(()),
     }
-    Ok(configs)
+}
+
+/// The configuration of a group at a stage; None where it has none there.
+fn config_of(
+    alloc: Global,
+    stage: Stage,
+    kept: &Waits,
+    versions: Versions,
+) -> Result<Option<ServerConfig>, RolloutFault>
+    ensures found { IfOk result (λ found. option_map outline found
+        ≡ config_at_of stage kept.now (earlier_of (Some versions)) (later_of (Some versions))) }
+    ensures good { IfOk result (λ _. refusal_at stage (earlier_of (Some versions)) (later_of (Some versions)) ≡ None) }
+    ensures refused { IfErr result (λ fault. fault ≢ RolloutFault.Memory
+        → refusal_at stage (earlier_of (Some versions)) (later_of (Some versions)) ≡ Some fault) }
+{
+    match versions {
+        Versions::Before(earlier) => config_at(alloc, stage, kept, Some(earlier), None),
+        Versions::After(later) => config_at(alloc, stage, kept, None, Some(later)),
+        Versions::Both(earlier, later) => {
+            config_at(alloc, stage, kept, Some(earlier), Some(later))
+        }
+    }
 }

@@ -1,5 +1,9 @@
 //! The files of configurations at a stage.
 
+ghost use Rattle.std.specs.Prelude.{◌≡◌, ◌≢◌, ℕ, List, Some, None, IfOk, IfErr};
+ghost use Rattle.ddt_rollout.specs.Configurations.{refusal_of};
+ghost use Rattle.ddt_rollout.specs.Files.{AreFilesAt, AreFilesOf, IsFileOf};
+
 use crate::configurations::configurations_at;
 use crate::fault::RolloutFault;
 use crate::stage::Stage;
@@ -25,7 +29,12 @@ pub fn files_at(
     before: &Accepted,
     after: &Accepted,
     stage: Stage,
-) -> Result<Vec<ConfigFile>, RolloutFault> {
+) -> Result<Vec<ConfigFile>, RolloutFault>
+    ensures found { IfOk result (λ files. AreFilesAt before.now after.now stage files.items) }
+    ensures good { IfOk result (λ _. (name : List ℕ) → refusal_of before.now after.now stage name ≡ None) }
+    ensures refused { IfErr result (λ fault. fault ≢ RolloutFault.Memory
+        → (name : List ℕ) × (refusal_of before.now after.now stage name ≡ Some fault)) }
+{
     let configs = configurations_at(alloc, before, after, stage)?;
     Ok(files_of(alloc, configs)?)
 }
@@ -34,15 +43,25 @@ pub fn files_at(
 pub(crate) fn files_of(
     alloc: Global,
     configs: Vec<ServerConfig>,
-) -> Result<Vec<ConfigFile>, AllocError> {
-    let mut files = Vec::with_capacity(alloc, configs.len())?;
+) -> Result<Vec<ConfigFile>, AllocError>
+    ensures { IfOk result (λ files. AreFilesOf configs.items files.items) }
+{
+    let mut files = Vec::new(alloc);
     for config in configs {
-        let group = config.name;
-        let text = to_sealed_toml(alloc, &in_order(alloc, config)?)?;
-        files.push(ConfigFile {
-            group,
-            bytes: text.into_bytes(),
-        })?;
+        files.push(file_of(alloc, config)?)?;
     }
     Ok(files)
+}
+
+/// The file of a configuration.
+fn file_of(alloc: Global, config: ServerConfig) -> Result<ConfigFile, AllocError>
+    ensures { IfOk result (λ file. IsFileOf config file) }
+{
+    let group = config.name;
+    let ordered = in_order(alloc, config)?;
+    let text = to_sealed_toml(alloc, &ordered)?;
+    Ok(ConfigFile {
+        group,
+        bytes: text.into_bytes(),
+    })
 }

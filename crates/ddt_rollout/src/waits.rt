@@ -1,57 +1,99 @@
 //! For how many waits servers keep the zones that they lose.
 
+ghost use Rattle.std.specs.Prelude.{◌≡◌, ◌≤◌, ℕ, List, IfOk, OnOk, length, is_some};
+ghost use Rattle.std.specs.List.{filter};
+ghost use Rattle.std.specs.Ordering.{nat_cmp};
+ghost use Rattle.std.specs.Cmp.Lexicographic.{slice_cmp};
+ghost use Rattle.std.specs.BTreeMap.{get};
+ghost use Rattle.ddt_path.specs.Covers.{is_same_path};
+ghost use Rattle.ddt_rollout.specs.Waits.{AreWaits, fronts, lost_in, lost_kind, put_if, waits_at as waits_at_of};
+
 use crate::between::Waits;
 use ddt_check::Accepted;
 use ddt_path::{Prefix, Role};
-use ddt_register::Zone;
+use ddt_plan::{Pair, ServingGroup, serving_groups};
 use std::alloc::{AllocError, Global};
-use std::collections::{BTreeMap, BTreeSet};
+use std::collections::BTreeMap;
+
+/// The group that serves each zone in two registers, by the zone's prefix.
+type ServingGroups = BTreeMap<Prefix, Pair<ServingGroup>>;
 
 /// For how many waits of 1,440 minutes and 2 seconds each zone is kept that its group loses, by its prefix. The first
 /// one is for the referrals that were given before its parent was changed. A zone that is lost inside one that is lost
 /// has one more, since until then the outer one's servers refer to it; and a zone of Map-Servers has one for the
-/// MS-ACKs that they give, which are cached as long (RFC 8111, section 6.4.1).
+/// MS-ACKs that they give, which are cached as long (RFC 8111, section 6.4.1). Fails only if out of memory.
 pub(crate) fn waits_of(
     alloc: Global,
     before: &Accepted,
     after: &Accepted,
-) -> Result<Waits, AllocError> {
-    let lost = lost_zones(alloc, before, after)?;
-    let mut prefixes = BTreeSet::new(alloc);
-    for zone in &lost {
-        prefixes.insert(zone.prefix)?;
-    }
+) -> Result<Waits, AllocError>
+    ensures { IfOk result (λ kept. AreWaits before.now after.now kept) }
+{
+    let groups = serving_groups(alloc, before, after)?;
     let mut waits = BTreeMap::new(alloc);
-    for zone in &lost {
-        let acknowledged = u32::from(zone.kind == Role::Ms);
-        let count = count_around(&prefixes, zone.prefix).saturating_add(acknowledged);
-        waits.insert(zone.prefix, count)?;
+    for zone in before.register().zones.as_slice() {
+        put_waits(&mut waits, &groups, zone.prefix)?;
     }
     Ok(waits)
 }
 
-/// The zones of the earlier register that their group hasn't in the later one.
-fn lost_zones(alloc: Global, before: &Accepted, after: &Accepted) -> Result<Vec<Zone>, AllocError> {
-    let mut groups = BTreeMap::new(alloc);
-    for zone in after.register().zones.as_slice() {
-        groups.insert(zone.prefix, zone.group)?;
-    }
-    let mut lost = Vec::new(alloc);
-    for zone in before.register().zones.as_slice() {
-        if groups.get(&zone.prefix) != Some(&zone.group) {
-            lost.push(*zone)?;
+/// Puts the waits of the zone of a prefix under it, where its group loses it. Fails only if out of memory.
+fn put_waits(waits: &mut Waits, groups: &ServingGroups, prefix: Prefix) -> Result<(), AllocError>
+    ensures { OnOk result ((p : List ℕ) → get (slice_cmp nat_cmp) waits.new p
+        ≡ put_if (waits_at_of (lost_in groups.now) prefix) (is_same_path prefix p) (get (slice_cmp nat_cmp) waits.old p)) }
+{
+    match waits_at(groups, prefix) {
+        Some(count) => {
+            waits.insert(prefix, count)?;
+            Ok(())
         }
+        None => Ok(()),
     }
-    Ok(lost)
 }
 
-/// How many of these prefixes cover one.
-fn count_around(prefixes: &BTreeSet<Prefix>, prefix: Prefix) -> u32 {
+/// For how many waits the zone of a prefix is kept; None where no group loses it.
+fn waits_at(groups: &ServingGroups, prefix: Prefix) -> Option<u32>
+    ensures { result ≡ waits_at_of (lost_in groups.now) prefix }
+{
+    let kind = lost_zone(groups, prefix)?;
+    Some(count_around(groups, prefix) + u32::from(kind == Role::Ms))
+}
+
+/// How many zones that their groups lose cover a prefix.
+fn count_around(groups: &ServingGroups, prefix: Prefix) -> u32
+    ensures count { result ≡ length (filter (λ q. is_some (lost_in groups.now q)) (fronts prefix)) }
+    ensures bound { result ≤ 162 }
+{
     let mut count = 0u32;
-    for len in 0..=prefix.len() {
-        if prefixes.contains(&prefix.front(len)) {
-            count = count.saturating_add(1);
-        }
+    for len in 0..prefix.len() + 1 {
+        count += u32::from(lost_zone(groups, prefix.front(len)).is_some());
     }
     count
+}
+
+/// The kind of the zone of a prefix that its group loses; None where no group loses it.
+fn lost_zone(groups: &ServingGroups, prefix: Prefix) -> Option<Role>
+    ensures { result ≡ lost_in groups.now prefix }
+{
+    match groups.get(&prefix) {
+        Some(serving) => kind_of_lost(serving.before, serving.after),
+        None => None,
+    }
+}
+
+/// The kind of a zone that its group loses, by what serves it in both registers.
+fn kind_of_lost(earlier: Option<ServingGroup>, later: Option<ServingGroup>) -> Option<Role>
+    ensures { result ≡ lost_kind earlier later }
+{
+    let earlier = earlier?;
+    match later {
+        Some(later) => {
+            if later.group == earlier.group {
+                None
+            } else {
+                Some(earlier.kind)
+            }
+        }
+        None => Some(earlier.kind),
+    }
 }

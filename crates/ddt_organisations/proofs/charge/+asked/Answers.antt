@@ -1,4 +1,4 @@
-use Rattle.std.proofs.Common.{◌<◌, sym, ap, ◌∙◌, arith}
+use Rattle.std.proofs.Common.{◌<◌, sym, ap, ◌∙◌, arith, rules}
 use Rattle.std.specs.Option.{option_copied}
 use Rattle.ddt_organisations.specs.Found.{IsNumber}
 use Rattle.ddt_organisations.proofs.SeamLemmas.{got}
@@ -48,9 +48,10 @@ returns-clause-found t c =
     let o = c.in_ok-organisation.organisation.now in
     let is : IsNumber all c.args.number o =
     sym (got all c.args.number c.get.result c.get.ensures.lookup) ∙ ap option_copied c.in_ok-organisation.was in
-    handed_on all c.args.x c.args.number o is c.in_ok-zone.zone (sym c.zone_of.ensures ∙ c.in_ok-zone.was)
+    let handed = handed_on all c.args.x c.args.number o is c.in_ok-zone.zone (sym c.zone_of.ensures ∙ c.in_ok-zone.was)
     c.in_ok-runner.field-0 (sym c.runs.ensures ∙ c.if-runs.false) c.in_ok-runner.ensures.found c.asked.result
-    c.asked.ensures.found
+    c.asked.ensures.found in
+    search rules
 
 pub returns-clause-none : goal.returns-clause-none
 returns-clause-none t c =

@@ -1,4 +1,4 @@
-use Rattle.std.proofs.Common.{ℕ, ap, ◌∙◌}
+use Rattle.std.proofs.Common.{ℕ, ap, ◌∙◌, rules}
 use Rattle.std.specs.Prelude.{◌==◌}
 use Rattle.std.specs.List.{list_any}
 use Rattle.std.specs.Ordering.{nat_cmp}
@@ -10,12 +10,13 @@ use Rattle.ddt_organisations.proofs.FaultLemmas.{do_meet, more_of_one, told_of_o
 use Rattle.ddt_organisations.proofs.faults.push_faults.Goals as goal
 
 pub push_seams-requires : goal.push_seams-requires
-push_seams-requires c =
+push_seams-requires c = λ other found.
     let numbers = list_at (slice_cmp nat_cmp) c.args.runners.now in
-    do_meet c.args.all.now c.args.number c.args.organisation.now c.requires.number numbers c.requires.runners
+    let meet = do_meet c.args.all.now c.args.number c.args.organisation.now c.requires.number numbers c.requires.runners
     c.in_ok-delegations.delegations c.in_ok-delegations.ensures (contains nat_cmp c.in_ok-others.others)
     (λ m. c.in_ok-others.ensures m
-    ∙ ap (list_any (λ (z : Zone). list_any (λ (k : ℕ). k == m) (numbers z.group))) c.deref.ensures.value)
+    ∙ ap (list_any (λ (z : Zone). list_any (λ (k : ℕ). k == m) (numbers z.group))) c.deref.ensures.value) other found in
+    search rules
 
 pub returns : goal.returns
 returns c =

@@ -1,4 +1,4 @@
-use Rattle.std.proofs.Common.{◌≡◌, ℕ, List, ◌++◌, length, map, append-nil, sym, ap, ◌∙◌}
+use Rattle.std.proofs.Common.{◌≡◌, ℕ, List, ◌++◌, length, map, append-nil, sym, ap, ◌∙◌, rules}
 use Rattle.std.specs.Prelude.{◌==◌}
 use Rattle.std.specs.List.{filter}
 use Rattle.std.specs.Ordering.{nat_cmp}
@@ -28,7 +28,7 @@ loop-zone-preserved c =
       | then-is_empty+in_ok-push w ↦
           told_more test items i z c.loop-zone-test.true c.zone-item.is (nobody_at c.args.number) first
           c.if-is_empty.faults.items old c.loop-zone.invariant (sym is ∙ w.if-is_empty.true)
-          (ap (λ v. v.items) w.faults-is ∙ w.in_ok-push.ensures.items)
+          (let pushed = ap (λ v. v.items) w.faults-is ∙ w.in_ok-push.ensures.items in search rules)
       | else-is_empty w ↦
           ap (λ v. v.items) w.faults-is
           ∙ untold_more test items i z c.loop-zone-test.true c.zone-item.is (nobody_at c.args.number) first old

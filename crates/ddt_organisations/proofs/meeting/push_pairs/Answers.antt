@@ -1,4 +1,4 @@
-use Rattle.std.proofs.Common.{ℕ, List, ◌++◌, map, append-nil, sym, ap, ◌∙◌}
+use Rattle.std.proofs.Common.{ℕ, List, ◌++◌, map, append-nil, sym, ap, ◌∙◌, rules}
 use Rattle.std.specs.Map.Iter.{deref}
 use Rattle.std.proofs.lemmas.Map.Iter.{rest_more, rest_all}
 use Rattle.ddt_organisations.specs.Faults.{pair_with}
@@ -14,7 +14,7 @@ loop-other-preserved c =
     pair_more c.args.number c.in-Some.other.now _ c.loop-other.pairs.items c.push.new.self.items
     c.loop-other.other-iterator c.next.new.self
     (rest_more deref c.loop-other.other-iterator c.next.new.self c.next.result c.in-Some.other c.in-Some.is c.next.ensures.steps)
-    c.loop-other.invariant c.in_ok-push.ensures.items
+    c.loop-other.invariant (search rules)
 
 pub returns : goal.returns
 returns c =

@@ -1,4 +1,4 @@
-use Rattle.std.proofs.Common.{refl, ◌∙◌}
+use Rattle.std.proofs.Common.{refl, ◌∙◌, rules}
 use Rattle.std.specs.Ordering.{nat_cmp}
 use Rattle.std.specs.Cmp.Lexicographic.{slice_cmp}
 use Rattle.std.specs.BTreeSet.{contains}
@@ -22,7 +22,7 @@ loop-name-preserved c =
     (list_at (slice_cmp nat_cmp) c.args.runners.now) c.loop-name.name-iterator c.next.new.self old new
     c.loop-name.invariant c.in-Some.name.now
     (rest_more deref c.loop-name.name-iterator c.next.new.self c.next.result c.in-Some.name c.in-Some.is c.next.ensures.steps)
-    c.in_ok-add.ensures.here c.in_ok-add.ensures.elsewhere
+    (search rules) c.in_ok-add.ensures.elsewhere
 
 pub returns : goal.returns
 returns c =

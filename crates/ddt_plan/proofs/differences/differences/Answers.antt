@@ -1,4 +1,4 @@
-use Rattle.std.proofs.Common.{List, ℕ, subst}
+use Rattle.std.proofs.Common.{List, ℕ, subst, rules}
 use Rattle.ddt_path.specs.laws.Member.{IsIn, moved_in}
 use Rattle.ddt_plan.specs.Fast.{delegations_of, states_of}
 use Rattle.ddt_plan.specs.Differing.{AreMarkedAll}
@@ -27,7 +27,7 @@ returns c q =
           (subst (λ ys. AreMarkedAll delegation_prefix c.as_slice-old_zones.result.now ys c.in_ok-zones_gone.zones_gone.items) c.as_slice-new_zones.ensures.value (c.in_ok-zones_gone.ensures).1)) q;
       zones_new = marked_moved delegation_prefix (delegations_of s) new_zones (delegations_of r) old_zones c.in_ok-zones.zones.items made of_new.zones of_old.zones second
           (subst (λ xs. AreMarkedAll delegation_prefix xs old_zones c.in_ok-zones.zones.items) c.as_slice-new_zones.ensures.value
-          (subst (λ ys. AreMarkedAll delegation_prefix c.as_slice-new_zones.result.now ys c.in_ok-zones.zones.items) c.as_slice-old_zones.ensures.value (c.in_ok-zones.ensures).1)) q;
+          (subst (λ ys. AreMarkedAll delegation_prefix c.as_slice-new_zones.result.now ys c.in_ok-zones.zones.items) c.as_slice-old_zones.ensures.value (let marked = (c.in_ok-zones.ensures).1 in search rules))) q;
       sites_gone = marked_moved state_prefix (states_of r) old_sites (states_of s) new_sites c.in_ok-sites_gone.sites_gone.items made of_old.sites of_new.sites third
           (subst (λ xs. AreMarkedAll state_prefix xs new_sites c.in_ok-sites_gone.sites_gone.items) c.as_slice-old_sites.ensures.value
           (subst (λ ys. AreMarkedAll state_prefix c.as_slice-old_sites.result.now ys c.in_ok-sites_gone.sites_gone.items) c.as_slice-new_sites.ensures.value (c.in_ok-sites_gone.ensures).1)) q;

@@ -10,5 +10,5 @@ returns c =
     IfOk-weaker c.changes_of.result _ _
     (λ changes e. changes_of_both _ are_same_servers sets_agree
     (etrs_at c.args.before.now) (etrs_at c.args.after.now) c.new.result c.in_ok-old.old c.in_ok-both.both
-    (λ k. search rules) c.in_ok-old.ensures c.in_ok-both.ensures e.1 changes.items e.0)
+    (λ k. search rules) c.in_ok-old.ensures (search rules) e.1 changes.items e.0)
     c.changes_of.ensures

@@ -14,7 +14,7 @@ pub cover_of-new_zones-requires : goal.cover_of-new_zones-requires
 cover_of-new_zones-requires c = c.requires.new.1.zones.in_order
 
 pub cover_of-requires : goal.cover_of-requires
-cover_of-requires c = c.requires.new.1.sites.in_order
+cover_of-requires c = let ordered = c.requires.new.1.sites.in_order in search rules
 
 pub returns-then-are_same-2 : goal.returns-then-are_same-2
 returns-then-are_same-2 c = λ inner e.

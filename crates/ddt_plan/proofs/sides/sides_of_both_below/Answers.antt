@@ -1,4 +1,4 @@
-use Rattle.std.proofs.Common.{true, false, sym, subst}
+use Rattle.std.proofs.Common.{true, false, sym, subst, rules}
 use Rattle.ddt_plan.specs.Fast.{IsSide}
 use Rattle.ddt_plan.proofs.SideLemmas.{half_below, narrower}
 use Rattle.ddt_plan.proofs.AgreeLemmas.{narrowed}
@@ -14,7 +14,7 @@ returns c =
       record {
         before = subst (λ l. IsSide r l c.sides_at_halves-old_low.result.0) (sym c.requires.lower) c.sides_at_halves-old_low.ensures.0;
         after = subst (λ l. IsSide s l c.sides_at_halves-new_low.result.0) (sym c.requires.lower) c.sides_at_halves-new_low.ensures.0;
-        differing = narrowed r s q c.args.lower marked c.items_below.result.now (narrower r q c.args.lower (half_below false q c.args.lower c.requires.lower)) is c.items_below.ensures;
+        differing = narrowed r s q c.args.lower marked c.items_below.result.now (narrower r q c.args.lower (half_below false q c.args.lower c.requires.lower)) is (search rules);
       },
       record {
         before = subst (λ l. IsSide r l c.sides_at_halves-old_low.result.1) (sym c.requires.upper) c.sides_at_halves-old_low.ensures.1;

@@ -1,4 +1,4 @@
-use Rattle.std.proofs.Common.{◌≡◌, [], sym, ◌∙◌}
+use Rattle.std.proofs.Common.{◌≡◌, [], sym, ◌∙◌, rules}
 use Rattle.std.proofs.lemmas.Bool.{both_ways}
 use Rattle.ddt_plan.specs.Fast.{delegations_of, states_of}
 use Rattle.ddt_plan.proofs.SideLemmas.{is_divided, empty_is, delegation_prefix, state_prefix}
@@ -19,7 +19,8 @@ returns-then-are_same c = λ same reading.
       | then-is_empty w ↦
           let none : marked ≡ [] = empty_is marked (sym c.is_empty.ensures ∙ w.if-is_empty.true) in
           let zone = w.are_same.ensures.0 (sym w.value-is ∙ c.if-are_same.true) in
-          let site = c.are_same-then-are_same.ensures.0 same in
+          let said = c.are_same-then-are_same.ensures.0 same in
+          let site : c.in-Divided-Divided.old.site ≡ c.in-Divided-Divided.new.site = search rules in
           let to : Agree r s q = record {
             accepted = c.register-old.ensures.accepted;
             zones = unmarked delegation_prefix (delegations_of r) (delegations_of s) q marked is.zones_gone none;

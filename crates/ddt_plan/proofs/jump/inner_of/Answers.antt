@@ -33,5 +33,5 @@ returns-then-are_same-2 c = λ inner e.
       old_zones = λ z k. at_last z.prefix (fourth.1 z.prefix (third.1 z.prefix (second.1 z.prefix (first.0 z k))));
       old_sites = λ m k. at_last m.prefix (fourth.1 m.prefix (third.1 m.prefix (second.0 m k)));
       new_zones = λ z k. at_last z.prefix (fourth.1 z.prefix (third.0 z k));
-      new_sites = λ m k. at_last m.prefix (fourth.0 m k);
+      new_sites = λ m k. at_last m.prefix (search (rules, fourth.0));
     }

@@ -4,10 +4,11 @@ use Rattle.std.specs.List.{filter_map, cons_option, AllByRecursion}
 use Rattle.std.specs.List.Sorted.{IsStrictlySortedBy}
 use Rattle.std.specs.Option.{option_map}
 use Rattle.std.specs.Ordering.{nat_cmp}
-use Rattle.std.specs.Cmp.Lexicographic.{slice_cmp, texts_ties, nat_list_cmp_total}
+use Rattle.std.specs.Cmp.Lexicographic.{slice_cmp, nat_list_cmp_total}
 use Rattle.std.specs.BTreeMap.{BTreeMap, get, IsOrdered, is_at}
 use Rattle.std.specs.Map.{keys_of}
 use Rattle.std.proofs.lemmas.Option.{same_Some, none-some}
+use Rattle.std.proofs.lemmas.List.{map-append}
 use Rattle.std.proofs.lemmas.List.Elements.{filter_map-append}
 use Rattle.std.proofs.lemmas.Map.Entries.{place_from_lookup, btree_map_get_place}
 use Rattle.ddt_path.specs.Names.{is_same_name}
@@ -33,20 +34,21 @@ use Rattle.ddt_rollout.specs.Configurations.{AreConfigurationsAt, config_in, ref
 named_found : (r : Register) (name : List ℕ) (gs : List Group) (o : Outline)
     → option_map (group_config r) (find (λ (g : Group). is_same_name g.name name) gs) ≡ Some o → o.name ≡ name
 named_found r name [] o e = absurd (none-some o e)
-named_found r name (g ∷ gs) o e = go (is_same_name g.name name) refl e
+named_found r name (g ∷ gs) o e = go (is_same_name g.name name) refl (named_found r name gs o) e
   where
     go : (b : Bool) → is_same_name g.name name ≡ b
+        → (option_map (group_config r) (find (λ (h : Group). is_same_name h.name name) gs) ≡ Some o → o.name ≡ name)
         → option_map (group_config r) (cond b (Some g) (find (λ (g : Group). is_same_name g.name name) gs)) ≡ Some o
         → o.name ≡ name
-    go true is e = ap (λ (c : Outline). c.name) (sym (same_Some (group_config r g) o e)) ∙ same_path g.name name is
-    go false is e = named_found r name gs o e
+    go true is rest e = ap (λ (c : Outline). c.name) (sym (same_Some (group_config r g) o e)) ∙ same_path g.name name is
+    go false is rest e = rest e
 
 -- a register gives a name a configuration of that name
 pub named_so : (r : Register) (name : List ℕ) (o : Outline) → config_named r name ≡ Some o → o.name ≡ name
 named_so r name o e = named_found r name r.groups o e
 
 -- what a group has at a stage has its name, where both of its configurations have it
-HasName : List ℕ → Option Outline → Type 0
+abbrev HasName : List ℕ → Option Outline → Type 0
 HasName name o = (c : Outline) → o ≡ Some c → c.name ≡ name
 
 name_before_last : (stage : Stage) (kept : Waits) (name : List ℕ) (o p : Option Outline) → HasName name o
@@ -113,42 +115,42 @@ module _ (r s : Register) (stage : Stage) (kept : Waits) (m : BTreeMap (List ℕ
       let p = place_from_lookup (is_at (slice_cmp nat_cmp c.name)) m.entries v e in
       is_kept (config_in stage kept) m.entries (p.1, v) c (in_get m.entries p.0 (p.1, v) p.2) is
 
-  names : List Outline → List (List ℕ)
+  abbrev names : List Outline → List (List ℕ)
   names configs = map (λ (c : Outline). c.name) configs
 
   kept_names : (P : List ℕ → Type 0) (es : List (List ℕ × Versions))
       → ((e : List ℕ × Versions) → IsIn e es → IsIn e m.entries)
       → AllByRecursion P (keys_of es) → AllByRecursion P (names (filter_map (config_in stage kept) es))
   kept_names P [] all h = tt
-  kept_names P (e ∷ es) all h = go (config_in stage kept e) refl
+  kept_names P (e ∷ es) all h = go (config_in stage kept e) refl (kept_names P es (λ x k. all x (inr k)) h.1)
     where
       go : (o : Option Outline) → config_in stage kept e ≡ o
+          → AllByRecursion P (names (filter_map (config_in stage kept) es))
           → AllByRecursion P (names (cons_option o (filter_map (config_in stage kept) es)))
-      go None is = kept_names P es (λ x k. all x (inr k)) h.1
-      go (Some c) is = (
-        subst P (sym (name_of e (all e (inl refl)) c is)) h.0,
-        kept_names P es (λ x k. all x (inr k)) h.1,
-      )
+      go None is rest = rest
+      go (Some c) is rest = (subst P (sym (name_of e (all e (inl refl)) c is)) h.0, rest)
+
+  sorted_case : (e : List ℕ × Versions) → IsIn e m.entries → (o : Option Outline) (cs : List Outline)
+      → config_in stage kept e ≡ o → AllByRecursion (λ (n : List ℕ). slice_cmp nat_cmp e.0 n ≡ Less) (names cs)
+      → IsStrictlySortedBy (slice_cmp nat_cmp) (names cs)
+      → IsStrictlySortedBy (slice_cmp nat_cmp) (names (cons_option o cs))
+  unfolding IsStrictlySortedBy
+  sorted_case e k None cs is below sorted = sorted
+  sorted_case e k (Some c) cs is below sorted = (
+    subst (λ (name : List ℕ). AllByRecursion (λ (n : List ℕ). slice_cmp nat_cmp name n ≡ Less) (names cs))
+        (sym (name_of e k c is)) below,
+    sorted,
+  )
 
   sorted_names : (es : List (List ℕ × Versions)) → ((e : List ℕ × Versions) → IsIn e es → IsIn e m.entries)
       → IsStrictlySortedBy (slice_cmp nat_cmp) (keys_of es)
       → IsStrictlySortedBy (slice_cmp nat_cmp) (names (filter_map (config_in stage kept) es))
   unfolding IsStrictlySortedBy
   sorted_names [] all h = tt
-  sorted_names (e ∷ es) all h = go (config_in stage kept e) refl
-    where
-      rest : IsStrictlySortedBy (slice_cmp nat_cmp) (names (filter_map (config_in stage kept) es))
-      rest = sorted_names es (λ x k. all x (inr k)) h.1
-
-      go : (o : Option Outline) → config_in stage kept e ≡ o
-          → IsStrictlySortedBy (slice_cmp nat_cmp) (names (cons_option o (filter_map (config_in stage kept) es)))
-      go None is = rest
-      go (Some c) is = (
-        subst (λ (name : List ℕ). AllByRecursion (λ (n : List ℕ). slice_cmp nat_cmp name n ≡ Less)
-            (names (filter_map (config_in stage kept) es))) (sym (name_of e (all e (inl refl)) c is))
-            (kept_names (λ (n : List ℕ). slice_cmp nat_cmp e.0 n ≡ Less) es (λ x k. all x (inr k)) h.0),
-        rest,
-      )
+  sorted_names (e ∷ es) all h =
+      sorted_case e (all e (inl refl)) (config_in stage kept e) (filter_map (config_in stage kept) es) refl
+      (kept_names (λ (n : List ℕ). slice_cmp nat_cmp e.0 n ≡ Less) es (λ x k. all x (inr k)) h.0)
+      (sorted_names es (λ x k. all x (inr k)) h.1)
 
   pub configurations_are : AreWaits r s kept
       → AreConfigurationsAt r s stage (filter_map (config_in stage kept) m.entries)

@@ -1,12 +1,12 @@
 -- The waits of lost zones, as a loop puts them by the zones' prefixes, and how many fronts of a prefix are lost.
-use Rattle.std.proofs.Common.{◌≡◌, ℕ, suc, ◌+◌, ◌<◌, ◌≤◌, Bool, true, false, cond, ◌||◌, List, [], ◌∷◌, ◌++◌, length, take, get_or, find, Option, Some, None, refl, sym, ap, ap₂, subst, ◌∙◌, arith}
+use Rattle.std.proofs.Common.{◌≡◌, ℕ, zero, suc, ◌+◌, ◌<◌, Bool, true, false, cond, ◌||◌, List, [], ◌∷◌, ◌++◌, length, map, take, get_or, find, Option, Some, None, refl, sym, ap, ap₂, ◌∙◌, arith}
 use Rattle.std.specs.Prelude.{unwrap_or, is_some, if◌then◌else◌}
 use Rattle.std.specs.List.{filter, list_any}
 use Rattle.std.specs.Option.{option_map}
 use Rattle.std.specs.Ordering.{nat_cmp}
 use Rattle.std.specs.Cmp.Lexicographic.{slice_cmp}
 use Rattle.std.specs.BTreeMap.{BTreeMap, get}
-use Rattle.std.proofs.lemmas.Bool.{cond-true, cond-false}
+use Rattle.std.proofs.lemmas.List.{take_more, length-map}
 use Rattle.std.proofs.lemmas.List.Folds.{list_any_more}
 use Rattle.ddt_path.specs.declared.record.Role.{Role}
 use Rattle.ddt_path.specs.Covers.{is_same_path}
@@ -19,7 +19,7 @@ use Rattle.ddt_plan.specs.Items.{serving_group_at}
 use Rattle.ddt_plan.specs.Tables.{AreServingGroups, no_values}
 use Rattle.ddt_check.specs.Zones.{is_ms}
 use Rattle.ddt_rollout.specs.Between.{Waits}
-use Rattle.ddt_rollout.specs.Waits.{lost_kind, lost_at, lost_of, lost_in, fronts, fronts_below, count_of, waits_at, put_if, AreWaits}
+use Rattle.ddt_rollout.specs.Waits.{lost_kind, lost_at, lost_of, lost_in, fronts, count_of, waits_at, put_if, AreWaits}
 
 -- ---- how many are lost
 
@@ -27,15 +27,57 @@ pub one_more : (test : List ℕ → Bool) (xs : List (List ℕ)) (x : List ℕ)
     → length (filter test (xs ++ x ∷ [])) ≡ length (filter test xs) + (if test x then 1 else 0)
 one_more test [] x = last (test x)
   where
-    last : (b : Bool) → length (cond b (x ∷ []) []) ≡ (if b then 1 else 0)
+    last : (b : Bool) → length (cond b (x ∷ []) []) ≡ 0 + (if b then 1 else 0)
     last true = refl
     last false = refl
-one_more test (y ∷ ys) x = next (test y)
+one_more test (y ∷ ys) x = next (test y) (one_more test ys x)
   where
-    next : (b : Bool) → length (cond b (y ∷ filter test (ys ++ x ∷ [])) (filter test (ys ++ x ∷ [])))
+    next : (b : Bool) → length (filter test (ys ++ x ∷ [])) ≡ length (filter test ys) + (if test x then 1 else 0)
+        → length (cond b (y ∷ filter test (ys ++ x ∷ [])) (filter test (ys ++ x ∷ [])))
         ≡ length (cond b (y ∷ filter test ys) (filter test ys)) + (if test x then 1 else 0)
-    next true = ap (λ (n : ℕ). suc n) (one_more test ys x)
-    next false = one_more test ys x
+    next true rest = omega (arith, rest)
+    next false rest = rest
+
+length_fronts : (p : List ℕ) → length (fronts p) ≡ length p + 1
+length_fronts [] = refl
+length_fronts (d ∷ ds) =
+    let same = length-map (fronts ds) (λ (q : List ℕ). d ∷ q) in
+    omega (arith, same, length_fronts ds)
+
+mapped_at : (d : ℕ) (qs : List (List ℕ)) (i : ℕ) (x : List ℕ) → i < length qs → (q : List ℕ) → q ≡ get_or qs i q
+    → d ∷ q ≡ get_or (map (λ (r : List ℕ). d ∷ r) qs) i x
+mapped_at d [] i x lt q is = absurd (omega arith)
+mapped_at d (r ∷ rs) zero x lt q is = ap (λ (s : List ℕ). d ∷ s) is
+mapped_at d (r ∷ rs) (suc i) x lt q is = mapped_at d rs i x (omega arith) q is
+
+front_at : (p : List ℕ) (i : ℕ) → i < length (fronts p) → (x : List ℕ) → take i p ≡ get_or (fronts p) i x
+front_at [] zero lt x = refl
+front_at [] (suc i) lt x = absurd (omega arith)
+front_at (d ∷ ds) zero lt x = refl
+front_at (d ∷ ds) (suc i) lt x =
+    let same = length-map (fronts ds) (λ (q : List ℕ). d ∷ q) in
+    let within : i < length (fronts ds) = omega (arith, same) in
+    mapped_at d (fronts ds) i x within (take i ds) (front_at ds i within (take i ds))
+
+pub front_more : (test : List ℕ → Bool) (p : List ℕ) (i : ℕ) → i < length p + 1
+    → length (filter test (take (i + 1) (fronts p)))
+    ≡ length (filter test (take i (fronts p))) + (if test (take i p) then 1 else 0)
+front_more test p i lt =
+    let within : i < length (fronts p) = omega (arith, length_fronts p) in
+    ap (λ (qs : List (List ℕ)). length (filter test qs))
+    (take_more (fronts p) i (take i p) within
+    ∙ ap (λ (q : List ℕ). take i (fronts p) ++ q ∷ []) (sym (front_at p i within (take i p))))
+    ∙ one_more test (take i (fronts p)) (take i p)
+
+take_length : (qs : List (List ℕ)) → take (length qs) qs ≡ qs
+take_length [] = refl
+take_length (q ∷ qs) = ap (λ (rest : List (List ℕ)). q ∷ rest) (take_length qs)
+
+pub all_fronts : (test : List ℕ → Bool) (p : List ℕ) (i : ℕ) → i ≡ length p + 1
+    → length (filter test (take i (fronts p))) ≡ length (filter test (fronts p))
+all_fronts test p i e =
+    ap (λ (qs : List (List ℕ)). length (filter test qs))
+    (ap (λ (n : ℕ). take n (fronts p)) (e ∙ sym (length_fronts p)) ∙ take_length (fronts p))
 
 -- ---- the waits by what is kept, and by the registers
 
@@ -99,11 +141,12 @@ kept_more lost zones i z lt is p old before =
 
 not_found : (test : Zone → Bool) (zones : List Zone) → list_any test zones ≡ false → find test zones ≡ None
 not_found test [] e = refl
-not_found test (z ∷ zs) e = go (test z) e
+not_found test (z ∷ zs) e = go (test z) (not_found test zs) e
   where
-    go : (b : Bool) → (b || list_any test zs) ≡ false → cond b (Some z) (find test zs) ≡ None
-    go true e = absurd cc
-    go false e = not_found test zs e
+    go : (b : Bool) → (list_any test zs ≡ false → find test zs ≡ None) → (b || list_any test zs) ≡ false
+        → cond b (Some z) (find test zs) ≡ None
+    go true rest e = absurd cc
+    go false rest e = rest e
 
 pub are_waits : (r s : Register) (groups : BTreeMap (List ℕ) (Pair ServingGroup)) → AreServingGroups r s groups
     → (kept : Waits) → ((p : List ℕ) → get (slice_cmp nat_cmp) kept p ≡ kept_at (lost_in groups) r.zones p)

@@ -1,6 +1,6 @@
 -- For how many waits of 1,440 minutes and 2 seconds a zone is kept that its group loses: for as long as a referral may
 -- be cached that leads there (RFC 8111, section 6.4.1).
-use Rattle.std.specs.Prelude.{◌≡◌, ℕ, zero, suc, ◌+◌, Bool, cond, if◌then◌else◌, List, [], ◌∷◌, ◌++◌, take, length, Option, None, Some, is_some}
+use Rattle.std.specs.Prelude.{◌≡◌, ℕ, ◌+◌, Bool, cond, if◌then◌else◌, List, [], ◌∷◌, map, length, Option, None, Some, is_some}
 use Rattle.std.specs.List.{filter}
 use Rattle.std.specs.Option.{option_map}
 use Rattle.std.specs.Ordering.{nat_cmp}
@@ -34,14 +34,10 @@ lost_of (Some serving) = lost_kind serving.before serving.after
 abbrev pub lost_in : BTreeMap (List ℕ) (Pair ServingGroup) → List ℕ → Option Role
 lost_in groups p = lost_of (get (slice_cmp nat_cmp) groups p)
 
--- the fronts of a path that have fewer than so many digits
-abbrev pub fronts_below : ℕ → List ℕ → List (List ℕ)
-fronts_below zero p = []
-fronts_below (suc n) p = fronts_below n p ++ take n p ∷ []
-
--- the prefixes that cover one, itself too
+-- the prefixes that cover one, itself too: its fronts
 abbrev pub fronts : List ℕ → List (List ℕ)
-fronts p = fronts_below (length p + 1) p
+fronts [] = [] ∷ []
+fronts (d ∷ ds) = [] ∷ map (λ q. d ∷ q) (fronts ds)
 
 -- One wait for the zone, since referrals of before lead to it; one for each lost zone around it, whose servers refer to
 -- it meanwhile; and one for a zone of Map-Servers, since what they answer is cached as long.

@@ -1,6 +1,5 @@
-use Rattle.std.proofs.Common.{◌≡◌, List, map, sym, subst}
+use Rattle.std.proofs.Common.{sym, subst}
 use Rattle.std.proofs.lemmas.Result.{IfOk-weaker, IfErr-weaker}
-use Rattle.ddt_config.specs.Table.{Outline, outline}
 use Rattle.ddt_rollout.specs.Configurations.{AreConfigurationsAt}
 use Rattle.ddt_rollout.proofs.ConfigurationLemmas.{configurations_are, none_refused, refused_by}
 use Rattle.ddt_rollout.proofs.configurations.configurations_at.Goals as goal

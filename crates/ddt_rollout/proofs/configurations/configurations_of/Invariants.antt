@@ -6,6 +6,6 @@ use Rattle.ddt_plan.specs.declared.versions.Versions.{Versions}
 use Rattle.ddt_rollout.specs.Configurations.{config_in, refusal_in}
 use Rattle.ddt_rollout.proofs.configurations.configurations_of.Given as goal
 
-abbrev pub invariant-loop-of_group : goal.invariant-loop-of_group
-invariant-loop-of_group l = (map outline l.configs.items ≡ filter_map (config_in l.stage l.kept) l.yielded)
+abbrev pub invariant-loop-name : goal.invariant-loop-name
+invariant-loop-name l = (map outline l.configs.items ≡ filter_map (config_in l.stage l.kept) l.yielded)
     × ((e : List ℕ × Versions) → IsIn e l.yielded → refusal_in l.stage e ≡ None)

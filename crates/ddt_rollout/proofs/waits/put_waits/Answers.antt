@@ -1,4 +1,4 @@
-use Rattle.std.proofs.Common.{◌≡◌, ℕ, List, Bool, Option, Some, cond, sym, ap, ◌∙◌}
+use Rattle.std.proofs.Common.{ℕ, Bool, Option, Some, cond, sym, ap, ◌∙◌}
 use Rattle.std.specs.Ordering.{nat_cmp}
 use Rattle.std.specs.Cmp.Lexicographic.{slice_cmp, texts_ties}
 use Rattle.std.specs.BTreeMap.{get}
@@ -6,9 +6,9 @@ use Rattle.ddt_path.specs.Covers.{is_same_path}
 use Rattle.ddt_rollout.specs.Waits.{put_if}
 use Rattle.ddt_rollout.proofs.waits.put_waits.Goals as goal
 
-pub returns-in-Some : goal.returns-in-Some
-returns-in-Some c = λ p.
-    c.in_ok-insert.ensures.updates.0 p
+pub returns-in_ok-insert-in-Some : goal.returns-in_ok-insert-in-Some
+returns-in_ok-insert-in-Some c = λ p.
+    c.in_ok-insert-in-Some.ensures.updates.0 p
     ∙ ap (λ (b : Bool). cond b (Some c.in-Some.count) (get (slice_cmp nat_cmp) c.args.waits.now p))
     (sym (texts_ties c.args.prefix p))
     ∙ ap (λ (o : Option ℕ). put_if o (is_same_path c.args.prefix p) (get (slice_cmp nat_cmp) c.args.waits.now p))

@@ -2,7 +2,7 @@
 //! (specs/Grammar.antt), else the first fault from left to right (specs/FirstFault.antt). A writer appends the one text
 //! that is written (specs/Written.antt), which spells the value, so that it is read again. Parsers allocate nothing.
 //!
-//! In reading order: `fault`, `number`, `parts`, `locator_text`, `xeid_text`, `prefix_text`.
+//! In reading order: `fault`, `number`, `parts`, `quad`, `locator_text`, `xeid_text`, `prefix_text`.
 //! Tests: ddt_format_tests/prefixes/text.
 #![tactic(auto)]
 
@@ -11,6 +11,7 @@ mod locator_text;
 mod number;
 mod parts;
 mod prefix_text;
+mod quad;
 mod xeid_text;
 
 pub use fault::TextFault;

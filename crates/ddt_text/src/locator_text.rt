@@ -9,15 +9,19 @@ ghost use Rattle.ddt_text.specs.Written.{written_locator};
 ghost use Rattle.ddt_path.specs.Reader.{AreRead, IsAny};
 
 use crate::fault::TextFault;
+use crate::quad::read_quad;
 use ddt_path::Locator;
 use std::alloc::AllocError;
 use std::fmt;
 use std::net::{Ipv4Addr, Ipv6Addr};
 
-/// The address that the text spells, if it does.
+/// The address that the text spells, if it does. Most texts are IPv4 addresses, which are read in one pass.
 pub(crate) fn read_address(text: &[u8]) -> Option<Locator>
     ensures { result ≡ address_in text.now }
 {
+    if let Some(address) = read_quad(text) {
+        return Some(Locator::V4(address.to_bits()));
+    }
     if text.contains(&b'.') {
         let address = Ipv4Addr::parse_ascii(text).ok()?;
         Some(Locator::V4(address.to_bits()))

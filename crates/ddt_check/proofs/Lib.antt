@@ -9,5 +9,6 @@ pub mod EntryKinds
 pub mod EntryLemmas
 pub mod ColumnLemmas
 pub mod MarkLemmas
+pub mod FingerprintLemmas
 pub mod WrongLemmas
 pub mod RuleLemmas

@@ -9,6 +9,7 @@ ghost use Rattle.ddt_check.specs.Rules.{IsLeastRow, item_at};
 use ddt_register::Item;
 
 pub mod duplicates;
+pub mod fingerprints;
 pub mod locators;
 pub mod sites;
 pub mod zones;

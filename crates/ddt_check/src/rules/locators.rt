@@ -1,5 +1,6 @@
 //! The rule on the locators of groups. Their first locators are sorted, then their second ones, and so on, as small
-//! cells in a frame; in each such column a locator is found by halving.
+//! cells in a frame; in each such column a locator is found by halving. That is done only where the fingerprints of the
+//! locators don't tell them apart, as in each register that breaks the rule.
 
 ghost use Rattle.std.specs.Prelude.{◌≡◌, ◌<◌, ◌≤◌, ℕ, true, nat_lt, IsPermutation, map, drop, length};
 ghost use Rattle.std.specs.List.{list_any};
@@ -13,9 +14,11 @@ ghost use Rattle.ddt_check.specs.Columns.{cell_of, cell_key, slot_of, AreMarked}
 ghost use Rattle.ddt_check.specs.Columns.{first_in as first_of, meets_at, meets_in, is_met, is_wrong_alone as is_wrong_of};
 
 use crate::fault::Rule;
+use crate::rules::fingerprints::are_told_apart;
 use crate::rules::{least_row, lower_of};
 use ddt_path::{Locator, MOST_LOCATORS, are_distinct};
 use ddt_register::Group;
+use std::alloc::Global;
 
 /// A locator as its family and its number.
 fn locator_pair(l: Locator) -> (u8, u128)
@@ -258,6 +261,7 @@ fn wrong_by_cells(cells: &mut [Cell], marks: &mut [bool], groups: &[Group]) -> O
 }
 
 /// The same of few groups, by a frame of few cells.
+#[inline(never)]
 fn wrong_of_few(groups: &[Group]) -> Option<u32>
     requires { length groups.now ≤ 4096 }
     ensures { (r : ARegister) → r.groups ≡ groups.now → IsLeastRow (broken r Rule.Locators) result }
@@ -277,14 +281,27 @@ fn wrong_of_many(groups: &[Group]) -> Option<u32>
     wrong_by_cells(&mut cells[..groups.len()], &mut marks, groups)
 }
 
-/// The least row of a group with no locator, more than 8, or one that isn't new.
-pub fn wrong_locators(groups: &[Group]) -> Option<u32>
-    requires { rise 0 (group_rows groups.now) ≡ true }
+/// The same, by a frame of cells for as many groups as there are.
+fn wrong_by_columns(groups: &[Group]) -> Option<u32>
+    requires { length groups.now ≤ 65535 }
     ensures { (r : ARegister) → r.groups ≡ groups.now → IsLeastRow (broken r Rule.Locators) result }
 {
     if groups.len() <= 4_096 {
         wrong_of_few(groups)
     } else {
         wrong_of_many(groups)
+    }
+}
+
+/// The least row of a group with no locator, more than 8, or one that isn't new. Where the fingerprints tell all
+/// locators apart, no two groups share one, and no column is looked at.
+pub fn wrong_locators(alloc: Global, groups: &[Group]) -> Option<u32>
+    requires { rise 0 (group_rows groups.now) ≡ true }
+    ensures { (r : ARegister) → r.groups ≡ groups.now → IsLeastRow (broken r Rule.Locators) result }
+{
+    if are_told_apart(alloc, groups) {
+        wrong_alone(groups)
+    } else {
+        wrong_by_columns(groups)
     }
 }

@@ -10,5 +10,6 @@ pub mod EntryLemmas
 pub mod ColumnLemmas
 pub mod MarkLemmas
 pub mod FingerprintLemmas
+pub mod FrontLemmas
 pub mod WrongLemmas
 pub mod RuleLemmas

@@ -1,7 +1,9 @@
 //! The rules that a zone may break. A root is looked for in the order of rows; the other rules see zones that are
 //! sorted by their prefixes, then by their rows.
 
-ghost use Rattle.std.specs.Prelude.{◌≡◌, ◌==◌, ◌&&◌, ◌||◌, not, nat_lt, is_some, false, IsTrue, IsPermutation, map};
+ghost use Rattle.std.specs.Prelude.{◌≡◌, ◌<◌, ◌≤◌, ◌==◌, ◌&&◌, ◌||◌, not, nat_lt, is_some, true, false};
+ghost use Rattle.std.specs.Prelude.{IsTrue, IsPermutation, map, length, if◌then◌else◌};
+ghost use Rattle.std.specs.List.Sorted.{IsPartitionPoint};
 ghost use Rattle.std.specs.Ordering.{nat_cmp, is_lt};
 ghost use Rattle.std.specs.Cmp.Lexicographic.{slice_cmp};
 ghost use Rattle.ddt_path.specs.Names.{is_name};
@@ -143,6 +145,44 @@ fn is_before(entry: &Entry<Group>, sought: &Sought) -> bool
     is_before_by_front(entry, sought)
 }
 
+/// A number where it counts, else 0. The processor chooses without a branch.
+fn counted(counts: bool, number: usize) -> usize
+    ensures { result ≡ (if counts then number else 0) }
+{
+    if counts { number } else { 0 }
+}
+
+/// How many entries have a lower number, found by halving. No step branches on what it finds.
+fn lower_fronts(groups: &[Entry<Group>], front: u64) -> usize
+    requires { AreGroupsInOrder (map (λ e. e.item.now) groups.now) }
+    ensures bound { result ≤ length groups.now }
+    ensures parted { IsPartitionPoint (λ e. e.front < front) (λ e. front ≤ e.front) groups.now result }
+{
+    let mut base = 0;
+    let mut size = groups.len();
+    while size > 0 {
+        let half = size - size / 2;
+        let middle = base + half - 1;
+        let step = counted(groups[middle].front < front, half);
+        base += step;
+        size /= 2;
+    }
+    base
+}
+
+/// The place of the first group that doesn't stand before a name. The names are looked at only where a number ties.
+fn place_of(groups: &[Entry<Group>], sought: &Sought) -> usize
+    requires { AreGroupsInOrder (map (λ e. e.item.now) groups.now) }
+    ensures { IsPartitionPoint (λ g. is_lt (slice_cmp nat_cmp g.name sought.now.name) ≡ true)
+        (λ g. is_lt (slice_cmp nat_cmp g.name sought.now.name) ≡ false) (map (λ e. e.item.now) groups.now) result }
+{
+    let at = lower_fronts(groups, sought.front);
+    if at < groups.len() && is_before(&groups[at], sought) {
+        return groups.partition_point(|entry| is_before(entry, sought));
+    }
+    at
+}
+
 /// The first group row of a name.
 fn group_named<'a>(groups: &[Entry<'a, Group>], name: Name) -> Option<&'a Group>
     requires { AreGroupsInOrder (map (λ e. e.item.now) groups.now) }
@@ -150,7 +190,7 @@ fn group_named<'a>(groups: &[Entry<'a, Group>], name: Name) -> Option<&'a Group>
         → option_copied result ≡ group_of_name r name }
 {
     let sought = Sought::of(name);
-    let at = groups.partition_point(|entry| is_before(entry, &sought));
+    let at = place_of(groups, &sought);
     if at < groups.len() {
         let group = groups[at].item;
         if group.name == name {

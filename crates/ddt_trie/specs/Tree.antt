@@ -2,7 +2,9 @@
 -- by what is left of it below a node, and each node by its depth: how many digits stand above it.
 use Rattle.std.specs.Prelude.{ℕ, ◌≡◌, ◌+◌, ◌<◌, ◌≤◌, IsTrue, Bool, true, false, ◌==◌, ◌&&◌, ◌||◌, if◌then◌else◌}
 use Rattle.std.specs.Prelude.{List, [], ◌∷◌, ◌++◌, length, take, drop, Option, None, Some, is_some}
+use Rattle.std.specs.Global.{Box}
 use Rattle.std.specs.FinMap.{FinMap, contains_key}
+use Rattle.ddt_trie.specs.declared.tree.Entry.{Entry}
 use Rattle.ddt_trie.specs.declared.tree.Tree.{Tree}
 use Rattle.ddt_trie.specs.declared.tree.Tree.TheVariants.{Empty, Leaf, Fork'}
 use Rattle.ddt_trie.specs.declared.tree.Turn.{Turn}
@@ -20,15 +22,20 @@ low at = if at == 32 then 4 else 0
 abbrev pub high : ℕ → ℕ
 high at = if at == 32 then 6 else 1
 
+-- the value in an entry
+abbrev pub value_in : {V : Type 0} → Option (Box (Entry V)) → Option V
+value_in None = None
+value_in (Some b) = Some b.value.value
+
 -- the value of a path
 abbrev pub lookup : {V : Type 0} → ℕ → Tree V → List ℕ → Option V
 lookup at Empty q = None
 lookup at (Leaf b) q = if is_same_path q (drop at b.value.prefix) then Some b.value.value else None
-lookup at (Fork' p value zero one) [] = value
-lookup at (Fork' p value zero one) (d ∷ q) =
+lookup at (Fork' p entry zero one) [] = value_in entry
+lookup at (Fork' p entry zero one) (d ∷ q) =
     if d == low at then lookup (at + 1) zero q else if d == high at then lookup (at + 1) one q else None
 
--- the entry of a node itself
+-- the entry of a node itself, by its value
 abbrev pub here : {V : Type 0} → Option V → List (List ℕ × V)
 here None = []
 here (Some v) = ([], v) ∷ []
@@ -42,14 +49,14 @@ under d (e ∷ es) = (d ∷ e.0, e.1) ∷ under d es
 abbrev pub entries : {V : Type 0} → ℕ → Tree V → List (List ℕ × V)
 entries at Empty = []
 entries at (Leaf b) = (drop at b.value.prefix, b.value.value) ∷ []
-entries at (Fork' p value zero one) =
-    here value ++ (under (low at) (entries (at + 1) zero) ++ under (high at) (entries (at + 1) one))
+entries at (Fork' p entry zero one) =
+    here (value_in entry) ++ (under (low at) (entries (at + 1) zero) ++ under (high at) (entries (at + 1) one))
 
 -- the map of the entries
 abbrev pub content_of : {V : Type 0} → Tree V → FinMap path_cmp V
 content_of t = map_of (entries 0 t)
 
--- one where there is a value
+-- one where there is an entry
 abbrev pub one_if : {V : Type 0} → Option V → ℕ
 one_if None = 0
 one_if (Some v) = 1
@@ -58,38 +65,38 @@ one_if (Some v) = 1
 abbrev pub count : {V : Type 0} → Tree V → ℕ
 count Empty = 0
 count (Leaf b) = 1
-count (Fork' p value zero one) = one_if value + (count zero + count one)
+count (Fork' p entry zero one) = one_if entry + (count zero + count one)
 
 -- whether there is a leaf or a node
 abbrev pub is_filled : {V : Type 0} → Tree V → Bool
 is_filled Empty = false
 is_filled (Leaf b) = true
-is_filled (Fork' p value zero one) = true
+is_filled (Fork' p entry zero one) = true
 
 -- whether there is a leaf
 abbrev pub is_leaf : {V : Type 0} → Tree V → Bool
 is_leaf Empty = false
 is_leaf (Leaf b) = true
-is_leaf (Fork' p value zero one) = false
+is_leaf (Fork' p entry zero one) = false
 
--- whether there is a leaf, or a node that has a value or a child
+-- whether there is a leaf, or a node that has an entry of its own or a child
 abbrev pub is_held : {V : Type 0} → Tree V → Bool
 is_held Empty = false
 is_held (Leaf b) = true
-is_held (Fork' p value zero one) = is_some value || (is_filled zero || is_filled one)
+is_held (Fork' p entry zero one) = is_some entry || (is_filled zero || is_filled one)
 
--- whether each node has a value or a child, and so at least one entry
+-- whether each node has an entry of its own or a child, and so at least one entry
 abbrev pub is_pruned : {V : Type 0} → Tree V → Bool
 is_pruned Empty = true
 is_pruned (Leaf b) = true
-is_pruned (Fork' p value zero one) =
-    (is_some value || (is_filled zero || is_filled one)) && (is_pruned zero && is_pruned one)
+is_pruned (Fork' p entry zero one) =
+    (is_some entry || (is_filled zero || is_filled one)) && (is_pruned zero && is_pruned one)
 
 -- whether each node below the first one has
 abbrev pub is_pruned_below : {V : Type 0} → Tree V → Bool
 is_pruned_below Empty = true
 is_pruned_below (Leaf b) = true
-is_pruned_below (Fork' p value zero one) = is_pruned zero && is_pruned one
+is_pruned_below (Fork' p entry zero one) = is_pruned zero && is_pruned one
 
 -- the way one level further, to the left or to the right
 abbrev pub onward : (ℕ → ℕ) → List ℕ → List ℕ
@@ -99,7 +106,7 @@ onward digit way = way ++ (digit (length way) ∷ [])
 abbrev pub is_rooted : {V : Type 0} → List ℕ → Tree V → Bool
 is_rooted way Empty = true
 is_rooted way (Leaf b) = covers way b.value.prefix
-is_rooted way (Fork' p value zero one) =
+is_rooted way (Fork' p entry zero one) =
     is_rooted (onward low way) zero && is_rooted (onward high way) one
 
 -- the path goes on with this digit behind its first ones

@@ -1,6 +1,7 @@
 //! A binary tree of prefixes, with one level for each digit: 32 of the Instance ID, one of the address family, and up
-//! to 128 of the address. A prefix that is alone below a node is a leaf there, however much longer it is. Each call but
-//! `retain` goes down one path and no deeper, 162 nodes at most.
+//! to 128 of the address. A prefix that is alone below a node is a leaf there, however much longer it is. Values stand
+//! apart from the nodes, so that a node without one is small. Each call but `retain` goes down one path and no deeper,
+//! 162 nodes at most.
 
 ghost use Rattle.std.specs.Prelude.{true, false, not, None, Some, ◌≡◌, ◌≤◌, ◌+◌, length, take, drop, IsTrue, IsSome};
 ghost use Rattle.std.specs.Prelude.{IfOk, IfErr, IfSome, IfNone, ◌&&◌, ◌||◌, nat_le, nat_lt, is_some};
@@ -9,7 +10,7 @@ ghost use Rattle.std.specs.Fn.{FnReturnsAt};
 ghost use Rattle.ddt_path.specs.Path.{xeid_path};
 ghost use Rattle.ddt_path.specs.Covers.{covers};
 ghost use Rattle.ddt_trie.specs.Tree.{lookup, count, one_if, is_filled, is_held, is_leaf, is_pruned, is_pruned_below};
-ghost use Rattle.ddt_trie.specs.Tree.{is_rooted, IsRootedAs, IsPathTurn, IsSet, HasKept};
+ghost use Rattle.ddt_trie.specs.Tree.{value_in, is_rooted, IsRootedAs, IsPathTurn, IsSet, HasKept};
 ghost use Rattle.ddt_trie.specs.Tree.{HasSameEntries, HasSameEntriesAt};
 ghost use Rattle.ddt_trie.specs.Tree.{IsUncovered, IsLongestBelow, IsMet, IsGapBelow};
 ghost use Rattle.ddt_trie.specs.PrefixMap.{IsKept};
@@ -28,7 +29,7 @@ pub enum Tree<V> {
     Fork(Box<Node<V>>),
 }
 
-/// A prefix that is alone among those that begin with the digits above it, and its value.
+/// A prefix and its value. As a leaf it is alone among those that begin with the digits above it.
 #[derive(Drop)]
 pub struct Entry<V> {
     prefix: Prefix,
@@ -39,8 +40,8 @@ pub struct Entry<V> {
 #[derive(Drop)]
 #[cycle(tree)]
 pub struct Node<V> {
-    /// The value of the prefix that ends here.
-    value: Option<V>,
+    /// The entry of the prefix that ends here.
+    entry: Option<Box<Entry<V>>>,
     /// The prefixes whose next digit is 0, or whose family is IPv4.
     zero: Tree<V>,
     /// The prefixes whose next digit is 1, or whose family is IPv6.
@@ -89,7 +90,7 @@ fn turn_of(x: Xeid, len: u8, at: u8) -> Turn
     }
 }
 
-/// A node with this leaf below it, or with its value where its prefix ends there. The leaf's prefix and the other one
+/// A node with this leaf below it, or as its own entry where its prefix ends there. The leaf's prefix and the other one
 /// share their first `at` digits. Where memory runs out, the leaf comes back.
 #[tactic(auto, using(crate::proofs::WayLemmas::over_leaf_rules))]
 fn node_over<V: Drop>(
@@ -110,7 +111,7 @@ fn node_over<V: Drop>(
     let mut node = match Box::new(
         alloc,
         Node {
-            value: None,
+            entry: None,
             zero: Tree::Empty,
             one: Tree::Empty,
         },
@@ -119,19 +120,97 @@ fn node_over<V: Drop>(
         Err(_refused) => return Err(leaf),
     };
     match turn_at(leaf.prefix, at) {
-        Turn::End => node.value = Some(Box::into_inner(leaf).value),
+        Turn::End => node.entry = Some(leaf),
         Turn::Zero => node.zero = Tree::Leaf(leaf),
         Turn::One => node.one = Tree::Leaf(leaf),
     }
     Ok(Tree::Fork(node))
 }
 
+/// An entry of this prefix with the value that `value` holds, which is then None. Where memory runs out, it answers
+/// None, and `value` stays as it is.
+fn entry_of<V: Drop>(alloc: Global, prefix: Prefix, value: &mut Option<V>) -> Option<Box<Entry<V>>>
+    requires given { IsTrue (is_some value.old) }
+    ensures key { IfSome result (λ entry. entry.value.prefix ≡ prefix) }
+    ensures set { IfSome result (λ entry. Some entry.value.value ≡ value.old) }
+    ensures taken { IfSome result (λ entry. value.new ≡ None) }
+    ensures back { IfNone result (value.new ≡ value.old) }
+{
+    let given = value.take()?;
+    match Box::new(
+        alloc,
+        Entry {
+            prefix,
+            value: given,
+        },
+    ) {
+        Ok(entry) => Some(entry),
+        Err(refused) => {
+            *value = Some(refused.value.value);
+            None
+        }
+    }
+}
+
+/// Sets the value of a node's own entry to what `value` holds, which then holds the one before. Only a new entry takes
+/// memory; where it runs out, it answers false, and both stay as they are.
+fn set_entry<V: Drop>(
+    entry: &mut Option<Box<Entry<V>>>,
+    alloc: Global,
+    prefix: Prefix,
+    value: &mut Option<V>,
+) -> bool
+    requires given { IsTrue (is_some value.old) }
+    ensures before { IsTrue result → value.new ≡ value_in entry.old }
+    ensures set { IsTrue result → value_in entry.new ≡ value.old }
+    ensures still { IsTrue (is_some entry.old) → IsTrue (is_some entry.new) }
+    ensures filled { IsTrue result → IsTrue (is_some entry.new) }
+    ensures back { result ≡ false → value.new ≡ value.old }
+    ensures unchanged { result ≡ false → entry.new ≡ entry.old }
+    ensures replaced { IsSome (value_in entry.old) → result ≡ true }
+{
+    match entry {
+        Some(held) => {
+            if let Some(given) = value {
+                mem::swap(&mut held.value, given);
+            }
+            true
+        }
+        None => match entry_of(alloc, prefix, value) {
+            Some(new) => {
+                *entry = Some(new);
+                true
+            }
+            None => false,
+        },
+    }
+}
+
+/// Takes an entry away, and answers its value.
+fn take_value<V: Drop>(entry: &mut Option<Box<Entry<V>>>) -> Option<V>
+    ensures value { result ≡ value_in entry.old }
+    ensures none { entry.new ≡ None }
+{
+    let taken = entry.take()?;
+    Some(Box::into_inner(taken).value)
+}
+
 impl<V: Drop> Node<V> {
+    /// The value of its prefix.
+    fn value(&self) -> Option<&V>
+        ensures { option_copied result ≡ value_in self.now.entry }
+    {
+        match &self.entry {
+            Some(entry) => Some(&entry.value),
+            None => None,
+        }
+    }
+
     /// Whether its prefix, of `at` digits, has a value and at least `least` digits.
     fn counts(&self, at: u8, least: u8) -> bool
-        ensures { result ≡ (nat_le least at && is_some self.now.value) }
+        ensures { result ≡ (nat_le least at && is_some self.now.entry) }
     {
-        least <= at && self.value.is_some()
+        least <= at && self.entry.is_some()
     }
 
     /// Whether its prefix, of `at` digits, has fewer than `least`, and no prefix goes on behind it.
@@ -160,7 +239,7 @@ impl<V: Drop> Tree<V> {
             Tree::Empty => None,
             Tree::Leaf(leaf) => (leaf.prefix == prefix).then_some(&leaf.value),
             Tree::Fork(node) => match turn_at(prefix, at) {
-                Turn::End => node.value.as_ref(),
+                Turn::End => node.value(),
                 Turn::Zero => node.zero.get(prefix, at + 1),
                 Turn::One => node.one.get(prefix, at + 1),
             },
@@ -198,10 +277,7 @@ impl<V: Drop> Tree<V> {
                 true
             }
             Tree::Fork(node) => match turn_at(*prefix, at) {
-                Turn::End => {
-                    mem::swap(&mut node.value, value);
-                    true
-                }
+                Turn::End => set_entry(&mut node.entry, alloc, *prefix, value),
                 Turn::Zero => node.zero.insert(alloc, prefix, at + 1, value),
                 Turn::One => node.one.insert(alloc, prefix, at + 1, value),
             },
@@ -221,7 +297,7 @@ impl<V: Drop> Tree<V> {
         }
     }
 
-    /// Puts a node in the place of a leaf of another prefix, and that leaf below it, or its value into the node where
+    /// Puts a node in the place of a leaf of another prefix, and that leaf below it, or as the node's own entry where
     /// its prefix ends. Where memory runs out, it answers false, and the tree stays as it is.
     fn part_from(&mut self, alloc: Global, prefix: &Prefix, at: u8) -> bool
         requires within { at ≤ length prefix.now }
@@ -266,28 +342,14 @@ impl<V: Drop> Tree<V> {
         ensures back { result ≡ false → value.new ≡ value.old }
         ensures unchanged { result ≡ false → self.new ≡ self.old }
     {
-        let Some(given) = value.take() else {
+        let Some(leaf) = entry_of(alloc, prefix, value) else {
             return false;
         };
-        match Box::new(
-            alloc,
-            Entry {
-                prefix,
-                value: given,
-            },
-        ) {
-            Ok(leaf) => {
-                *self = Tree::Leaf(leaf);
-                true
-            }
-            Err(refused) => {
-                *value = Some(refused.value.value);
-                false
-            }
-        }
+        *self = Tree::Leaf(leaf);
+        true
     }
 
-    /// Whether it has no node, or one with neither a value nor a child.
+    /// Whether it has no node, or one with neither an entry nor a child.
     fn is_vacant(&self) -> bool
         ensures { result ≡ not (is_held self.now) }
     {
@@ -295,12 +357,12 @@ impl<V: Drop> Tree<V> {
             Tree::Empty => true,
             Tree::Leaf(_) => false,
             Tree::Fork(node) => {
-                node.value.is_none() && node.zero.is_empty() && node.one.is_empty()
+                node.entry.is_none() && node.zero.is_empty() && node.one.is_empty()
             }
         }
     }
 
-    /// Cuts a node that has neither a value nor a child.
+    /// Cuts a node that has neither an entry nor a child.
     fn prune(&mut self)
         requires { IsTrue (is_pruned_below self.old) }
         ensures same { HasSameEntries self.old self.new }
@@ -328,7 +390,7 @@ impl<V: Drop> Tree<V> {
             Tree::Empty => None,
             Tree::Leaf(_) => self.remove_leaf(prefix, at),
             Tree::Fork(node) => match turn_at(prefix, at) {
-                Turn::End => node.value.take(),
+                Turn::End => take_value(&mut node.entry),
                 Turn::Zero => node.zero.remove(prefix, at + 1),
                 Turn::One => node.one.remove(prefix, at + 1),
             },
@@ -373,7 +435,7 @@ impl<V: Drop> Tree<V> {
             Tree::Fork(node) => {
                 let left = node.zero.retain(keep, len);
                 let left = node.one.retain(keep, left);
-                retain_value(&mut node.value, keep, left)
+                retain_entry(&mut node.entry, keep, left)
             }
         };
         self.prune();
@@ -415,8 +477,8 @@ impl<V: Drop> Tree<V> {
         let mut depth = at;
         let mut best = None;
         while let Tree::Fork(node) = tree {
-            if let Some(value) = &node.value {
-                best = Some((depth, value));
+            if let Some(entry) = &node.entry {
+                best = Some((depth, &entry.value));
             }
             match turn_of(x, len, depth) {
                 Turn::End => return best,
@@ -474,20 +536,24 @@ impl<V: Drop> Tree<V> {
     }
 }
 
-/// Drops a value for which `keep` answers false, and answers how many are left of `len`.
-fn retain_value<V: Drop, F: Fn(&V) -> bool>(value: &mut Option<V>, keep: &F, len: usize) -> usize
+/// Drops an entry for whose value `keep` answers false, and answers how many are left of `len`.
+fn retain_entry<V: Drop, F: Fn(&V) -> bool>(
+    entry: &mut Option<Box<Entry<V>>>,
+    keep: &F,
+    len: usize,
+) -> usize
     requires callable { F.IsAlwaysCallable keep.now }
-    requires counted { one_if value.old ≤ len }
-    ensures kept { IsKept (FnReturnsAt F.Fn keep.now) value.old value.new }
-    ensures counted { result + one_if value.old ≡ len + one_if value.new }
+    requires counted { one_if entry.old ≤ len }
+    ensures kept { IsKept (FnReturnsAt F.Fn keep.now) (value_in entry.old) (value_in entry.new) }
+    ensures counted { result + one_if entry.old ≡ len + one_if entry.new }
 {
-    let is_kept = match value {
-        Some(kept) => keep(kept),
+    let is_kept = match &*entry {
+        Some(kept) => keep(&kept.value),
         None => return len,
     };
     if is_kept {
         return len;
     }
-    *value = None;
+    *entry = None;
     len - 1
 }

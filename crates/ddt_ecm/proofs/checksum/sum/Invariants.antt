@@ -1,9 +1,12 @@
-use Rattle.std.proofs.Common.{◌≡◌, length}
-use Rattle.ddt_ecm.specs.Checksum.{ones_sum}
+use Rattle.std.proofs.Common.{◌≡◌, ◌≤◌, ◌+◌, ◌*◌, length}
+use Rattle.ddt_ecm.specs.laws.Sum.{words}
 use Rattle.ddt_ecm.proofs.checksum.sum.Given as goal
 
 abbrev pub invariant-loop-rest : goal.invariant-loop-rest
-invariant-loop-rest l = ones_sum l.sum l.rest ≡ ones_sum l.fn.start l.fn.bytes
+invariant-loop-rest l = record {
+  so_far : l.sum + words l.rest ≡ l.fn.start + words l.fn.bytes;
+  small : 2 * l.sum + 65535 * length l.rest ≤ 2 * 65535 + 65535 * length l.fn.bytes;
+}
 
 abbrev pub decreases-loop-rest : goal.decreases-loop-rest
 decreases-loop-rest l = length l.rest

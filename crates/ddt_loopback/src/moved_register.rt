@@ -9,7 +9,7 @@ ghost use Rattle.ddt_loopback.specs.Moved.{AreOneForOne, kept_of, locators_in};
 use crate::address::server_addresses;
 use ddt_check::Accepted;
 use ddt_path::Listed;
-use ddt_register::{Group, Register, Site};
+use ddt_register::{Etrs, Group, Register, Site};
 use std::alloc::{AllocError, Global};
 
 /// The register with each locator of a server group replaced by an address of 127.0.0.0/8: 127.0.0.1 and on, in the
@@ -47,7 +47,7 @@ fn copied_sites(alloc: Global, sites: &[Site]) -> Result<Vec<Site>, AllocError>
     for site in sites {
         copied.push(Site {
             prefix: site.prefix,
-            etrs: Listed::of(Vec::from_slice(alloc, site.etrs.as_slice())?),
+            etrs: Etrs::of(Vec::from_slice(alloc, site.etrs.as_slice())?),
             row: site.row,
         })?;
     }

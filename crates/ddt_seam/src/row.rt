@@ -4,7 +4,7 @@ ghost use Rattle.std.specs.Prelude.{◌≡◌, ◌<◌, ◌+◌, IfOk};
 ghost use Rattle.ddt_seam.specs.Joined.{zone_text, site_text, group_text};
 
 use ddt_path::Listed;
-use ddt_register::{Group, Item, Site, Zone};
+use ddt_register::{Etrs, Group, Item, Site, Zone};
 use std::alloc::{AllocError, Global};
 
 /// An item that can stand in another row.
@@ -32,7 +32,7 @@ impl Row for Site {
     fn in_row(&self, alloc: Global, row: u32) -> Result<Site, AllocError> {
         Ok(Site {
             prefix: self.prefix,
-            etrs: Listed::of(Vec::from_slice(alloc, self.etrs.as_slice())?),
+            etrs: Etrs::of(Vec::from_slice(alloc, self.etrs.as_slice())?),
             row,
         })
     }
